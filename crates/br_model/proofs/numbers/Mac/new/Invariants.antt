@@ -1,0 +1,6 @@
+use Rattle.std.proofs.Common.{◌≡◌, ◌<◌, ◌^◌, take}
+use Rattle.br_model.specs.Numbers.{number}
+use Rattle.br_model.proofs.numbers.Mac.new.Given as goal
+
+abbrev pub invariant-loop-byte : goal.invariant-loop-byte
+invariant-loop-byte l = (l.number ≡ number (take l.byte-index l.fn.b)) × (l.number < 256 ^ l.byte-index)

@@ -1,0 +1,139 @@
+//! What is accepted: the changes of the bridge's table.
+ghost use Rattle.std.specs.Prelude.{◌≡◌, ◌<◌, ◌↔◌, IsSome, IfSome};
+ghost use Rattle.br_model.specs.Change.{deferred};
+
+use crate::group::Group;
+use crate::numbers::{Mac, Port, Vid};
+use std::marker::Model;
+
+/// How an address entry came to be. Local entries are the host's own addresses; extern ones were learned by a chip.
+#[derive(Clone, Copy, PartialEq, Eq, Debug)]
+pub enum Kind {
+    Local,
+    Static,
+    Learned,
+    Extern,
+}
+
+/// The flags of a port, a bit each from the lowest on: learning, flood, mcast_flood, bcast_flood, isolated, fastleave.
+#[derive(Clone, Copy, PartialEq, Eq, Debug)]
+pub struct Flags {
+    bits: u8,
+}
+
+impl Model for Flags {
+    ghost use Rattle.std.specs.Prelude.{ℕ, ◌<◌};
+
+    ghost Value = { ℕ };
+
+    ghost view = { λ f. f.bits };
+
+    ghost invariant = { λ f. f.bits < 64 };
+
+    ghost inverse = { λ n. record { bits = n } };
+}
+
+impl Flags {
+    /// Learning, flood, mcast_flood and bcast_flood: those of a port that comes up.
+    pub const DEFAULT: Flags = Flags { bits: 15 };
+
+    /// `None` exactly above 63.
+    pub fn new(bits: u8) -> Option<Flags>
+        ensures found { IsSome result ↔ (bits < 64) }
+        ensures value { IfSome result (λ f. f ≡ bits) }
+    {
+        if bits < 64 {
+            Some(Flags { bits })
+        } else {
+            None
+        }
+    }
+
+    pub fn bits(self) -> u8
+        ensures value { result ≡ self }
+        ensures below { self < 64 }
+    {
+        self.bits
+    }
+}
+
+/// One change of the table. Each touches its own part of it.
+#[derive(Clone, Copy, Debug)]
+pub enum Change {
+    PortUp(Port),
+    PortDown(Port),
+    SetFlags(Port, Flags),
+    /// The state is one of Linux's numbers: disabled 0, listening 1, learning 2, forwarding 3, blocking 4.
+    SetState(Port, u8),
+    VlanAdd {
+        port: Port,
+        vid: Vid,
+        untagged: bool,
+        pvid: bool,
+    },
+    VlanDel {
+        port: Port,
+        vid: Vid,
+    },
+    GroupJoin {
+        port: Port,
+        vid: Vid,
+        group: Group,
+    },
+    GroupPart {
+        port: Port,
+        vid: Vid,
+        group: Group,
+    },
+    Router {
+        port: Port,
+        on: bool,
+    },
+    /// Whether a querier of this IP version is known.
+    Querier {
+        six: bool,
+        on: bool,
+    },
+    Snoop(bool),
+    Stp(bool),
+    AddrPut {
+        vid: Vid,
+        mac: Mac,
+        port: Port,
+        kind: Kind,
+    },
+    AddrDel {
+        vid: Vid,
+        mac: Mac,
+    },
+}
+
+impl Change {
+    /// Whether it reaches a chip through the queue, and not in the step that accepts it.
+    pub fn is_deferred(&self) -> bool
+        ensures { result ≡ deferred self.now }
+    {
+        match self {
+            Change::PortUp(_)
+            | Change::PortDown(_)
+            | Change::SetFlags(..)
+            | Change::SetState(..)
+            | Change::VlanAdd { .. }
+            | Change::VlanDel { .. }
+            | Change::GroupJoin { .. }
+            | Change::GroupPart { .. }
+            | Change::Router { .. }
+            | Change::Querier { .. }
+            | Change::Snoop(_)
+            | Change::Stp(_) => false,
+            Change::AddrPut { .. } | Change::AddrDel { .. } => true,
+        }
+    }
+}
+
+/// A deferred change on its way to a chip. Tickets count from 0 in the order of acceptance.
+#[derive(Clone, Copy, Debug)]
+pub struct Update {
+    pub ticket: u32,
+    pub change: Change,
+}

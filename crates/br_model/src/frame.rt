@@ -1,0 +1,45 @@
+//! What a frame's first bytes say.
+use crate::group::Group;
+use crate::numbers::Mac;
+
+/// An 802.1Q tag: a priority of 3 bits, the drop eligible indicator, and a VLAN identifier of 12 bits.
+#[derive(Clone, Copy, PartialEq, Eq, Debug)]
+pub struct Tag {
+    pub pcp: u8,
+    pub dei: bool,
+    pub vid: u16,
+}
+
+/// The header of a frame. `kind` is its type field, behind the tag where there is one; `body` is where the payload begins.
+#[derive(Clone, Copy, Debug)]
+pub struct Head {
+    pub dst: Mac,
+    pub src: Mac,
+    pub tag: Option<Tag>,
+    pub kind: u16,
+    pub body: usize,
+}
+
+/// Why bytes are no frame: below 14 bytes, above 9,022 bytes, or below 18 bytes with a tag.
+#[derive(Clone, Copy, PartialEq, Eq, Debug)]
+pub enum FrameFault {
+    Short,
+    Long,
+    TagShort,
+}
+
+/// What a frame says to IGMP and MLD snooping.
+#[derive(Clone, Copy, Debug)]
+pub enum McastMsg {
+    /// No IP multicast packet.
+    Plain,
+    /// A packet to this group.
+    Payload(Group),
+    /// `counted` for a general query from an address that isn't zero.
+    Query { six: bool, counted: bool },
+    Report(Group),
+    Leave(Group),
+    /// `count` records, from byte `first` of the frame on.
+    Records { six: bool, first: usize, count: u16 },
+    Unrecognized,
+}

@@ -1,0 +1,184 @@
+//! Numbers that their types keep in range: ports, domains, VLANs and addresses.
+ghost use Rattle.std.specs.Prelude.{◌≡◌, ◌==◌, ◌≤◌, ◌<◌, ◌*◌, ◌^◌, ◌↔◌, IsSome, IfSome};
+ghost use Rattle.br_model.specs.Numbers.{number, is_multicast};
+
+use std::marker::Model;
+
+/// A port of the bridge, from 0 to 63. Port 0 is the host.
+#[derive(Clone, Copy, PartialEq, Eq, PartialOrd, Ord, Debug)]
+pub struct Port {
+    number: u8,
+}
+
+impl Model for Port {
+    ghost use Rattle.std.specs.Prelude.{ℕ, ◌<◌};
+
+    ghost Value = { ℕ };
+
+    ghost view = { λ p. p.number };
+
+    ghost invariant = { λ p. p.number < 64 };
+
+    ghost inverse = { λ n. record { number = n } };
+}
+
+impl Port {
+    pub const HOST: Port = Port { number: 0 };
+
+    /// How many ports there can be.
+    pub const COUNT: u8 = 64;
+
+    /// `None` exactly above 63.
+    pub fn new(number: u8) -> Option<Port>
+        ensures found { IsSome result ↔ (number < 64) }
+        ensures value { IfSome result (λ p. p ≡ number) }
+    {
+        if number < Port::COUNT {
+            Some(Port { number })
+        } else {
+            None
+        }
+    }
+
+    pub fn number(self) -> u8
+        ensures value { result ≡ self }
+        ensures below { self < 64 }
+    {
+        self.number
+    }
+
+    pub fn is_host(self) -> bool
+        ensures { result ≡ (self == 0) }
+    {
+        self.number == 0
+    }
+}
+
+/// The domain of a port: 0 is software, 1 the chip.
+#[derive(Clone, Copy, PartialEq, Eq, PartialOrd, Ord, Debug)]
+pub struct Dom {
+    number: u8,
+}
+
+impl Model for Dom {
+    ghost use Rattle.std.specs.Prelude.{ℕ, ◌≤◌};
+
+    ghost Value = { ℕ };
+
+    ghost view = { λ d. d.number };
+
+    ghost invariant = { λ d. d.number ≤ 1 };
+
+    ghost inverse = { λ n. record { number = n } };
+}
+
+impl Dom {
+    pub const SOFTWARE: Dom = Dom { number: 0 };
+
+    /// `None` exactly above 1.
+    pub fn new(number: u8) -> Option<Dom>
+        ensures found { IsSome result ↔ (number ≤ 1) }
+        ensures value { IfSome result (λ d. d ≡ number) }
+    {
+        if number <= 1 {
+            Some(Dom { number })
+        } else {
+            None
+        }
+    }
+
+    pub fn number(self) -> u8
+        ensures value { result ≡ self }
+        ensures below { self ≤ 1 }
+    {
+        self.number
+    }
+}
+
+/// A VLAN, from 1 to 4094.
+#[derive(Clone, Copy, PartialEq, Eq, PartialOrd, Ord, Debug)]
+pub struct Vid {
+    number: u16,
+}
+
+impl Model for Vid {
+    ghost use Rattle.std.specs.Prelude.{ℕ, ◌<◌, ◌≤◌};
+
+    ghost Value = { ℕ };
+
+    ghost view = { λ v. v.number };
+
+    ghost invariant = { λ v. (1 ≤ v.number) × (v.number ≤ 4094) };
+
+    ghost inverse = { λ n. record { number = n } };
+}
+
+impl Vid {
+    /// The VLAN that a port is a member of when it comes up.
+    pub const DEFAULT: Vid = Vid { number: 1 };
+
+    /// `None` exactly outside 1 to 4094.
+    pub fn new(number: u16) -> Option<Vid>
+        ensures found { IsSome result ↔ ((1 ≤ number) × (number ≤ 4094)) }
+        ensures value { IfSome result (λ v. v ≡ number) }
+    {
+        if number >= 1 && number <= 4094 {
+            Some(Vid { number })
+        } else {
+            None
+        }
+    }
+
+    pub fn number(self) -> u16
+        ensures value { result ≡ self }
+        ensures low { 1 ≤ self }
+        ensures high { self ≤ 4094 }
+    {
+        self.number
+    }
+}
+
+/// A MAC address, seen as the number that its six bytes spell, the first byte highest.
+#[derive(Clone, Copy, PartialEq, Eq, PartialOrd, Ord, Debug)]
+pub struct Mac {
+    number: u64,
+}
+
+impl Model for Mac {
+    ghost use Rattle.std.specs.Prelude.{ℕ, ◌<◌, ◌^◌};
+
+    ghost Value = { ℕ };
+
+    ghost view = { λ m. m.number };
+
+    ghost invariant = { λ m. m.number < 2 ^ 48 };
+
+    ghost inverse = { λ n. record { number = n } };
+}
+
+impl Mac {
+    /// Of the bytes in the order of the wire.
+    pub fn new(b: [u8; 6]) -> Mac
+        ensures { result ≡ number b }
+    {
+        let mut number = 0u64;
+        for byte in b {
+            number = 256 * number + u64::from(byte);
+        }
+        Mac { number }
+    }
+
+    pub fn number(self) -> u64
+        ensures value { result ≡ self }
+        ensures below { self < 2 ^ 48 }
+    {
+        self.number
+    }
+
+    /// Whether it names a group: the lowest bit of the first byte.
+    pub fn is_multicast(self) -> bool
+        ensures { result ≡ is_multicast self }
+    {
+        self.number >> 40 & 1 == 1
+    }
+}

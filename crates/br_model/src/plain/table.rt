@@ -1,0 +1,475 @@
+//! The table of a list of changes.
+ghost use Rattle.std.specs.Prelude.{◌≡◌, ◌==◌, ◌/◌, ◌%◌, ◌^◌, ◌<◌, ◌∷◌, ◌&&◌, ◌++◌, [], if◌then◌else◌, OnOk, IfOk, is_some};
+ghost use Rattle.br_model.specs.Admission.{is_up, is_forwarding, valid, vlan_of, admit};
+ghost use Rattle.br_model.specs.Eligible.{member, untagged, may};
+ghost use Rattle.br_model.specs.Domains.{host};
+ghost use Rattle.br_model.specs.Leave.{tag_at, takers};
+ghost use Rattle.br_model.specs.Maps.{get, has, pair_cmp};
+ghost use Rattle.std.specs.Ordering.{nat_cmp};
+ghost use Rattle.br_model.specs.Table.{Table as TableOf, start, apply as after_change, table as table_of, ip_version};
+ghost use Rattle.br_model.specs.Targets.{has_flag, with_flag, to_tree, knows_querier, members_of, to_routers, to_members, snooped_targets, unicast_targets, targets};
+
+use crate::NoMemory;
+use crate::change::{Change, Flags, Kind};
+use crate::frame::{Head, McastMsg};
+use crate::group::Group;
+use crate::numbers::{Mac, Port, Vid};
+use crate::plain::maps::{find, has_member, join, part, put, take};
+use std::alloc::Global;
+use std::collections::{BTreeMap, BTreeSet};
+use std::marker::Model;
+
+/// What a list of changes comes to. After want of memory it isn't used again.
+#[derive(Drop)]
+pub struct Table {
+    up: BTreeSet<Port>,
+    flags: BTreeMap<Port, Flags>,
+    state: BTreeMap<Port, u8>,
+    vlans: BTreeMap<(Vid, Port), bool>,
+    pvid: BTreeMap<Port, Vid>,
+    groups: BTreeSet<(Vid, Group, Port)>,
+    routers: BTreeSet<Port>,
+    queriers: BTreeSet<u8>,
+    snoop: bool,
+    stp: bool,
+    addr: BTreeMap<(Vid, Mac), (Port, Kind)>,
+}
+
+impl Model for Table {
+    ghost use Rattle.br_model.specs.Table.{Table as TableOf};
+
+    ghost Value = { TableOf };
+
+    ghost view = { λ t. record {
+      up = t.up.keys;
+      flags = t.flags.entries;
+      state = t.state.entries;
+      vlans = t.vlans.entries;
+      pvid = t.pvid.entries;
+      groups = t.groups.keys;
+      routers = t.routers.keys;
+      queriers = t.queriers.keys;
+      snoop = t.snoop;
+      stp = t.stp;
+      addr = t.addr.entries;
+    } };
+}
+
+impl Table {
+    /// No port is up, the host is an untagged member of VLAN 1, snooping is on, the spanning tree is off.
+    pub fn start(alloc: Global) -> Result<Table, NoMemory>
+        ensures { IfOk result (λ t. t ≡ start) }
+    {
+        let mut vlans = BTreeMap::new(alloc);
+        put(&mut vlans, (Vid::DEFAULT, Port::HOST), true)?;
+        Ok(Table {
+            up: BTreeSet::new(alloc),
+            flags: BTreeMap::new(alloc),
+            state: BTreeMap::new(alloc),
+            vlans,
+            pvid: BTreeMap::new(alloc),
+            groups: BTreeSet::new(alloc),
+            routers: BTreeSet::new(alloc),
+            queriers: BTreeSet::new(alloc),
+            snoop: true,
+            stp: false,
+            addr: BTreeMap::new(alloc),
+        })
+    }
+
+    fn port_up(&mut self, port: Port) -> Result<(), NoMemory>
+        ensures { OnOk result (self.new ≡ after_change self.old (Change.PortUp port)) }
+    {
+        join(&mut self.up, port)?;
+        put(&mut self.flags, port, Flags::DEFAULT)?;
+        put(&mut self.state, port, 0)
+    }
+
+    fn port_down(&mut self, port: Port)
+        ensures { self.new ≡ after_change self.old (Change.PortDown port) }
+    {
+        part(&mut self.up, &port);
+        take(&mut self.flags, &port);
+        take(&mut self.state, &port);
+    }
+
+    fn add_vlan(&mut self, port: Port, vid: Vid, untagged: bool, pvid: bool) -> Result<(), NoMemory>
+        ensures { OnOk result (self.new ≡ after_change self.old (Change.VlanAdd port vid untagged pvid)) }
+    {
+        put(&mut self.vlans, (vid, port), untagged)?;
+        if pvid {
+            put(&mut self.pvid, port, vid)?;
+        }
+        Ok(())
+    }
+
+    fn delete_vlan(&mut self, port: Port, vid: Vid)
+        ensures { self.new ≡ after_change self.old (Change.VlanDel port vid) }
+    {
+        take(&mut self.vlans, &(vid, port));
+        if find(&self.pvid, &port) == Some(vid) {
+            take(&mut self.pvid, &port);
+        }
+    }
+
+    fn set_router(&mut self, port: Port, on: bool) -> Result<(), NoMemory>
+        ensures { OnOk result (self.new ≡ after_change self.old (Change.Router port on)) }
+    {
+        if on {
+            join(&mut self.routers, port)?;
+        } else {
+            part(&mut self.routers, &port);
+        }
+        Ok(())
+    }
+
+    fn set_querier(&mut self, six: bool, on: bool) -> Result<(), NoMemory>
+        ensures { OnOk result (self.new ≡ after_change self.old (Change.Querier six on)) }
+    {
+        let version = version_of(six);
+        if on {
+            join(&mut self.queriers, version)?;
+        } else {
+            part(&mut self.queriers, &version);
+        }
+        Ok(())
+    }
+
+    /// What the table is after one more change.
+    pub fn apply(&mut self, change: &Change) -> Result<(), NoMemory>
+        ensures { OnOk result (self.new ≡ after_change self.old change.now) }
+    {
+        match *change {
+            Change::PortUp(port) => self.port_up(port)?,
+            Change::PortDown(port) => self.port_down(port),
+            Change::SetFlags(port, flags) => put(&mut self.flags, port, flags)?,
+            Change::SetState(port, state) => put(&mut self.state, port, state)?,
+            Change::VlanAdd {
+                port,
+                vid,
+                untagged,
+                pvid,
+            } => self.add_vlan(port, vid, untagged, pvid)?,
+            Change::VlanDel { port, vid } => self.delete_vlan(port, vid),
+            Change::GroupJoin { port, vid, group } => join(&mut self.groups, (vid, group, port))?,
+            Change::GroupPart { port, vid, group } => part(&mut self.groups, &(vid, group, port)),
+            Change::Router { port, on } => self.set_router(port, on)?,
+            Change::Querier { six, on } => self.set_querier(six, on)?,
+            Change::Snoop(on) => self.snoop = on,
+            Change::Stp(on) => self.stp = on,
+            Change::AddrPut {
+                vid,
+                mac,
+                port,
+                kind,
+            } => put(&mut self.addr, (vid, mac), (port, kind))?,
+            Change::AddrDel { vid, mac } => take(&mut self.addr, &(vid, mac)),
+        }
+        Ok(())
+    }
+
+    pub fn is_up(&self, port: Port) -> bool
+        ensures { result ≡ is_up self.now port }
+    {
+        has_member(&self.up, &port)
+    }
+
+    fn is_forwarding(&self, port: Port) -> bool
+        ensures { result ≡ is_forwarding self.now port }
+    {
+        self.is_up(port) && find(&self.state, &port) == Some(FORWARDING)
+    }
+
+    fn has_flag(&self, port: Port, flag: u8) -> bool
+        requires { flag < 8 }
+        ensures { result ≡ has_flag self.now port flag }
+    {
+        match find(&self.flags, &port) {
+            Some(flags) => is_set(flags.bits(), flag),
+            None => false,
+        }
+    }
+
+    pub fn is_member(&self, port: Port, vid: Vid) -> bool
+        ensures { result ≡ member self.now port vid }
+    {
+        find(&self.vlans, &(vid, port)).is_some()
+    }
+
+    /// Whether the VLAN's frames leave the port without a tag.
+    pub fn is_untagged(&self, port: Port, vid: Vid) -> bool
+        ensures { result ≡ untagged self.now port vid }
+    {
+        find(&self.vlans, &(vid, port)).unwrap_or(false)
+    }
+
+    /// The tag with which the VLAN's frames leave the port.
+    pub fn tag_at(&self, port: Port, vid: Vid) -> Option<Vid>
+        ensures { result ≡ tag_at self.now port vid }
+    {
+        if self.is_untagged(port, vid) {
+            None
+        } else {
+            Some(vid)
+        }
+    }
+
+    pub fn has_entry(&self, vid: Vid, mac: Mac) -> bool
+        ensures { result ≡ is_some (get pair_cmp self.now.addr (vid, mac)) }
+    {
+        find(&self.addr, &(vid, mac)).is_some()
+    }
+
+    /// The VLAN in which the port admits the frame.
+    pub fn admit(&self, port: Port, head: &Head) -> Option<Vid>
+        ensures { result ≡ admit self.now port head.now }
+    {
+        if self.is_forwarding(port) && is_valid(head) {
+            self.vlan_of(port, head)
+        } else {
+            None
+        }
+    }
+
+    fn vlan_of(&self, port: Port, head: &Head) -> Option<Vid>
+        ensures { result ≡ vlan_of self.now port head.now }
+    {
+        match head.tag {
+            None => find(&self.pvid, &port),
+            Some(_) => None,
+        }
+    }
+
+    /// Whether the frame is for the spanning tree.
+    pub fn is_for_tree(&self, port: Port, head: &Head) -> bool
+        ensures { result ≡ to_tree self.now port head.now }
+    {
+        head.dst.number() == TREE_ADDRESS && self.stp && self.is_up(port) && is_valid(head)
+    }
+
+    /// Whether port q may take a frame of the VLAN that came by port p.
+    fn may_take(&self, p: Port, q: Port, vid: Vid) -> bool
+        ensures { result ≡ may self.now p q vid }
+    {
+        if q.is_host() {
+            self.is_member(q, vid)
+        } else {
+            q != p
+                && self.is_forwarding(q)
+                && self.is_member(q, vid)
+                && !(self.has_flag(p, ISOLATED) && self.has_flag(q, ISOLATED))
+        }
+    }
+
+    fn with_flag(&self, alloc: Global, flag: u8) -> Result<Vec<Port>, NoMemory>
+        requires { flag < 8 }
+        ensures { IfOk result (λ v. v.items ≡ with_flag self.now flag) }
+    {
+        self.up
+            .iter()
+            .filter(|port| self.has_flag(**port, flag))
+            .copied()
+            .collect(alloc)
+    }
+
+    /// The host, and the ports with this flag.
+    fn host_and(&self, alloc: Global, flag: u8) -> Result<Vec<Port>, NoMemory>
+        requires { flag < 8 }
+        ensures { IfOk result (λ v. v.items ≡ host ∷ with_flag self.now flag) }
+    {
+        let mut ports = self.with_flag(alloc, flag)?;
+        ports.insert(0, Port::HOST)?;
+        Ok(ports)
+    }
+
+    fn routers(&self, alloc: Global) -> Result<Vec<Port>, NoMemory>
+        ensures { IfOk result (λ v. v.items ≡ self.now.routers) }
+    {
+        self.routers.iter().copied().collect(alloc)
+    }
+
+    fn knows_querier(&self, six: bool) -> bool
+        ensures { result ≡ knows_querier self.now six }
+    {
+        has_member(&self.queriers, &version_of(six))
+    }
+
+    fn members_of(&self, alloc: Global, vid: Vid, group: Group) -> Result<Vec<Port>, NoMemory>
+        ensures { IfOk result (λ v. v.items ≡ members_of self.now vid group) }
+    {
+        self.groups
+            .iter()
+            .filter(|m| m.0 == vid && m.1.cmp(&group).is_eq())
+            .map(|m| m.2)
+            .collect(alloc)
+    }
+
+    fn to_routers(&self, alloc: Global, six: bool) -> Result<Vec<Port>, NoMemory>
+        ensures { IfOk result (λ v. v.items ≡ to_routers self.now six) }
+    {
+        if self.knows_querier(six) {
+            self.routers(alloc)
+        } else {
+            self.host_and(alloc, MCAST_FLOOD)
+        }
+    }
+
+    fn to_members(&self, alloc: Global, vid: Vid, group: Group) -> Result<Vec<Port>, NoMemory>
+        ensures { IfOk result (λ v. v.items ≡ to_members self.now vid group) }
+    {
+        if group.is_link_local() || !self.knows_querier(group.is_six()) {
+            return self.host_and(alloc, MCAST_FLOOD);
+        }
+        let mut ports = self.members_of(alloc, vid, group)?;
+        ports.extend_from_slice(&self.routers(alloc)?)?;
+        Ok(ports)
+    }
+
+    fn snooped_targets(
+        &self,
+        alloc: Global,
+        vid: Vid,
+        msg: &McastMsg,
+    ) -> Result<Vec<Port>, NoMemory>
+        ensures { IfOk result (λ v. v.items ≡ snooped_targets self.now vid msg.now) }
+    {
+        match *msg {
+            McastMsg::Plain | McastMsg::Query { .. } | McastMsg::Unrecognized => {
+                self.host_and(alloc, MCAST_FLOOD)
+            }
+            McastMsg::Payload(group) => self.to_members(alloc, vid, group),
+            McastMsg::Report(group) | McastMsg::Leave(group) => {
+                self.to_routers(alloc, group.is_six())
+            }
+            McastMsg::Records { six, .. } => self.to_routers(alloc, six),
+        }
+    }
+
+    fn unicast_targets(&self, alloc: Global, vid: Vid, mac: Mac) -> Result<Vec<Port>, NoMemory>
+        ensures { IfOk result (λ v. v.items ≡ unicast_targets self.now (get pair_cmp self.now.addr (vid, mac))) }
+    {
+        match find(&self.addr, &(vid, mac)) {
+            None => self.with_flag(alloc, FLOOD),
+            Some(entry) => Ok(vec![in alloc; entry.0]?),
+        }
+    }
+
+    /// Where an admitted frame of the VLAN is to go.
+    fn targets(
+        &self,
+        alloc: Global,
+        vid: Vid,
+        head: &Head,
+        msg: &McastMsg,
+    ) -> Result<Vec<Port>, NoMemory>
+        ensures { IfOk result (λ v. v.items ≡ targets self.now vid head.now msg.now) }
+    {
+        let address = head.dst.number();
+        if (address == TREE_ADDRESS && self.stp) || address == PAUSE_ADDRESS {
+            Ok(Vec::new(alloc))
+        } else if PAUSE_ADDRESS < address && address <= LAST_RESERVED {
+            Ok(vec![in alloc; Port::HOST]?)
+        } else if address == BROADCAST {
+            self.host_and(alloc, BCAST_FLOOD)
+        } else if !head.dst.is_multicast() {
+            self.unicast_targets(alloc, vid, head.dst)
+        } else if self.snoop {
+            self.snooped_targets(alloc, vid, msg)
+        } else {
+            self.host_and(alloc, MCAST_FLOOD)
+        }
+    }
+
+    /// The ports that take a frame of the VLAN that came by this port, ascending.
+    pub fn takers(
+        &self,
+        alloc: Global,
+        port: Port,
+        vid: Vid,
+        head: &Head,
+        msg: &McastMsg,
+    ) -> Result<Vec<Port>, NoMemory>
+        ensures { IfOk result (λ v. v.items ≡ takers self.now port vid head.now msg.now) }
+    {
+        let targets = self.targets(alloc, vid, head, msg)?;
+        let mut takers = Vec::new(alloc);
+        for number in 0..Port::COUNT {
+            self.add_taker(&mut takers, &targets, port, number, vid)?;
+        }
+        Ok(takers)
+    }
+
+    /// Adds the port of this number, where it is among the targets and may take the frame.
+    fn add_taker(
+        &self,
+        takers: &mut Vec<Port>,
+        targets: &[Port],
+        p: Port,
+        number: u8,
+        vid: Vid,
+    ) -> Result<(), NoMemory>
+        requires { number < 64 }
+        ensures { OnOk result (takers.new.items ≡ takers.old.items
+            ++ (if has nat_cmp targets.now number && may self.now p number vid then number ∷ [] else [])) }
+    {
+        if let Some(q) = Port::new(number)
+            && targets.contains(&q)
+            && self.may_take(p, q, vid)
+        {
+            takers.push(q)?;
+        }
+        Ok(())
+    }
+
+    /// The table of these changes.
+    pub fn of(alloc: Global, changes: &[Change]) -> Result<Table, NoMemory>
+        ensures { IfOk result (λ t. t ≡ table_of changes.now) }
+    {
+        let mut table = Table::start(alloc)?;
+        for change in changes {
+            table.apply(change)?;
+        }
+        Ok(table)
+    }
+}
+
+/// Linux's number of the state.
+pub const FORWARDING: u8 = 3;
+
+// The places of the flags.
+const FLOOD: u8 = 1;
+
+const MCAST_FLOOD: u8 = 2;
+
+const BCAST_FLOOD: u8 = 3;
+
+const ISOLATED: u8 = 4;
+
+// Addresses that IEEE 802.1D reserves, and the broadcast address.
+const TREE_ADDRESS: u64 = 0x0180_C200_0000;
+
+const PAUSE_ADDRESS: u64 = 0x0180_C200_0001;
+
+const LAST_RESERVED: u64 = 0x0180_C200_000F;
+
+const BROADCAST: u64 = 0xFFFF_FFFF_FFFF;
+
+fn is_set(bits: u8, place: u8) -> bool
+    requires { place < 8 }
+    ensures { result ≡ (bits / 2 ^ place % 2 == 1) }
+{
+    bits >> place & 1 == 1
+}
+
+/// Whether the source is one station's address.
+fn is_valid(head: &Head) -> bool
+    ensures { result ≡ valid head.now }
+{
+    !head.src.is_multicast() && head.src.number() != 0
+}
+
+fn version_of(six: bool) -> u8
+    ensures { result ≡ ip_version six }
+{
+    if six { 6 } else { 4 }
+}
