@@ -1,0 +1,185 @@
+//! Texts and faults by table, and pieces over the borders of a chunk.
+use crate::lines::{Got, LineFault, LineReader};
+use crate::sinks::{MemSink, StdSink, put};
+use crate::sources::{MemSource, Source, StdSource};
+use std::alloc::Global;
+use std::process::Abort;
+use std::test::Fail;
+
+/// What a reader gives until the end or a fault: a bar follows a whole line, a dot the last one.
+fn told<S: Source>(alloc: Global, limit: u32, source: &mut S) -> Result<String, Fail> {
+    let mut reader = LineReader::make(alloc, limit);
+    let mut told = String::new(alloc);
+    for _ in 0..16 {
+        match reader.next(alloc, source) {
+            Ok(Some(line)) => {
+                told.push_str(std::str::from_utf8(line.bytes.as_slice())?)?;
+                told.push(if line.whole { '|' } else { '.' })?;
+            }
+            Ok(None) => {
+                told.push_str("end")?;
+                return Ok(told);
+            }
+            Err(fault) => {
+                told.push_str(format!(in alloc; "{fault}")?.as_str())?;
+                return Ok(told);
+            }
+        }
+    }
+    Ok(told)
+}
+
+fn source_of(alloc: Global, text: &[u8], fails: &[u32]) -> Result<MemSource, Fail> {
+    let bytes = Vec::from_slice(alloc, text)?;
+    let fails = Vec::from_slice(alloc, fails)?;
+    Ok(MemSource::make(bytes, fails))
+}
+
+#[test]
+fn lines_of_a_text(rt: HostRuntime) -> Result<(), Fail> {
+    let alloc = rt.alloc();
+    let table = [
+        ("", "end"),
+        ("a\nbc\n", "a|bc|end"),
+        ("a\nbc", "a|bc.end"),
+        ("\n\nc", "||c.end"),
+    ];
+    for (text, want) in table {
+        let mut source = source_of(alloc, text.as_bytes(), &[])?;
+        let got = told(alloc, 64, &mut source)?;
+        assert_eq!(rt; got.as_str(), want);
+        let got = told(alloc, 64, &mut StdSource::make(text.as_bytes()))?;
+        assert_eq!(rt; got.as_str(), want);
+    }
+    Ok(())
+}
+
+#[test]
+fn reads_that_fail(rt: HostRuntime) -> Result<(), Fail> {
+    let alloc = rt.alloc();
+    let table = [
+        (1, "read fault"),
+        (2, "a|read fault"),
+        (3, "a|b.read fault"),
+        (4, "a|b.end"),
+    ];
+    for (call, want) in table {
+        let mut source = source_of(alloc, b"a\nb", &[call])?;
+        let got = told(alloc, 64, &mut source)?;
+        assert_eq!(rt; got.as_str(), want);
+    }
+    Ok(())
+}
+
+#[test]
+fn longest_line(rt: HostRuntime) -> Result<(), Fail> {
+    let alloc = rt.alloc();
+    for len in [20_000, 20_001] {
+        let mut text = vec![in alloc; b'a'; len]?;
+        text.push(b'\n')?;
+        let mut source = MemSource::make(text, Vec::new(alloc));
+        let mut reader = LineReader::make(alloc, 1 << 28);
+        match reader.next(alloc, &mut source) {
+            Ok(Some(line)) => {
+                assert_eq!(rt; line.bytes.len(), 20_000);
+                assert!(rt; line.whole && len == 20_000);
+            }
+            Ok(None) => assert!(rt; false),
+            Err(fault) => {
+                assert_eq!(rt; fault, LineFault::LineTooLong);
+                assert_eq!(rt; len, 20_001);
+            }
+        }
+    }
+    Ok(())
+}
+
+#[test]
+fn reader_limit(rt: HostRuntime) -> Result<(), Fail> {
+    let alloc = rt.alloc();
+    let text = vec![in alloc; b'a'; 65]?;
+    let mut source = MemSource::make(text, Vec::new(alloc));
+    let mut reader = LineReader::make(alloc, 64);
+    for _ in 0..2 {
+        let fault = reader.next(alloc, &mut source).err();
+        assert_eq!(rt; fault, Some(LineFault::TooLong));
+    }
+    let fault = reader.take(alloc, &mut source, 1).err();
+    assert_eq!(rt; fault, Some(LineFault::TooLong));
+    Ok(())
+}
+
+/// A piece of so many bytes, each the letter `a`.
+fn check_piece(rt: &impl Abort, got: &Got, len: usize, whole: bool) {
+    assert_eq!(rt; got.bytes.len(), len);
+    assert_eq!(rt; got.whole, whole);
+    assert!(rt; got.bytes.as_slice().iter().all(|b| *b == b'a'));
+}
+
+#[test]
+fn pieces_over_chunks(rt: HostRuntime) -> Result<(), Fail> {
+    let alloc = rt.alloc();
+    let text = vec![in alloc; b'a'; 9_000]?;
+    let mut source = MemSource::make(text, Vec::new(alloc));
+    let mut reader = LineReader::make(alloc, 1 << 28);
+    let table = [
+        (4_095, 4_095, true),
+        (3, 3, true),
+        (0, 0, true),
+        (4_096, 4_096, true),
+        (1_000, 806, false),
+        (1, 0, false),
+        (0, 0, true),
+    ];
+    for (asked, len, whole) in table {
+        let got = reader.take(alloc, &mut source, asked)?;
+        check_piece(&rt, &got, len, whole);
+    }
+    Ok(())
+}
+
+#[test]
+fn pieces_between_lines(rt: HostRuntime) -> Result<(), Fail> {
+    let alloc = rt.alloc();
+    let mut source = source_of(alloc, b"ab\ncd\nef", &[])?;
+    let mut reader = LineReader::make(alloc, 8);
+    let piece = reader.take(alloc, &mut source, 1)?;
+    assert_eq!(rt; piece.bytes.as_slice(), b"a".as_slice());
+    let line = reader.next(alloc, &mut source)?.ok_or("a line")?;
+    assert_eq!(rt; line.bytes.as_slice(), b"b".as_slice());
+    let piece = reader.take(alloc, &mut source, 4)?;
+    assert_eq!(rt; piece.bytes.as_slice(), b"cd\ne".as_slice());
+    let fault = reader.take(alloc, &mut source, 2).err();
+    assert_eq!(rt; fault, Some(LineFault::TooLong));
+    Ok(())
+}
+
+#[test]
+fn writes_that_fail(rt: HostRuntime) -> Result<(), Fail> {
+    let alloc = rt.alloc();
+    let table = [
+        (1, 8, "cd"),
+        (2, 8, "ab"),
+        (3, 8, "abcd"),
+        (3, 3, "abc"),
+        (3, 0, ""),
+    ];
+    for (call, room, want) in table {
+        let fails = Vec::from_slice(alloc, &[call])?;
+        let mut sink = MemSink::make(alloc, room, fails)?;
+        let first = put(&mut sink, b"ab");
+        let second = put(&mut sink, b"cd");
+        assert_eq!(rt; sink.bytes(), want.as_bytes());
+        assert_eq!(rt; first.is_ok(), want.starts_with("ab"));
+        assert_eq!(rt; second.is_ok(), want.ends_with("cd"));
+    }
+    Ok(())
+}
+
+#[test]
+fn writes_to_a_writer(rt: HostRuntime) -> Result<(), Fail> {
+    let mut out = Vec::new(rt.alloc());
+    put(&mut StdSink::make(&mut out), b"ab")?;
+    assert_eq!(rt; out.as_slice(), b"ab".as_slice());
+    Ok(())
+}
