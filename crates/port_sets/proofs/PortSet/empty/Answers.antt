@@ -1,0 +1,5 @@
+use Rattle.port_sets.proofs.Words.{no_members, zeros}
+use Rattle.port_sets.proofs.PortSet.empty.Goals as goal
+
+pub returns : goal.returns
+returns g c = no_members g.row.W _ (λ j low. zeros g.row.W j)

@@ -1,0 +1,209 @@
+//! Sets of small numbers, such as the ports of a bridge.
+#![tactic(auto)]
+
+ghost use Rattle.std.specs.Prelude.{◌≡◌, ℕ, ◌+◌, ◌*◌, ◌<◌, ◌≤◌, ◌==◌, ◌||◌, ◌&&◌, ◌↔◌, List, [], false, not, length, IsTrue, slice_get, nat_eq};
+ghost use Rattle.std.specs.List.{All};
+ghost use Rattle.std.specs.List.Sorted.{IsStrictlyIncreasing};
+ghost use Rattle.std.specs.Cmp.{partial_equiv_from_equiv};
+ghost use Rattle.std.specs.Cmp.Lexicographic.{pointwise, nat_list_eq_equiv};
+ghost use Rattle.std.specs.Iterator.{YieldsFirst, item_count};
+ghost use Rattle.port_sets.specs.Numbers.{numbers_below, has_number, IsSetBelow};
+
+use std::marker::Model;
+
+/// A set of numbers below 64 `W`, with `W` at most 4, so that each is a `u8`.
+///
+/// Contracts see the ascending list of the members.
+#[derive(Clone, Copy, Debug)]
+pub struct PortSet<const W: usize> {
+    words: [u64; W],
+}
+
+/// A set of the ports of a bridge, whose numbers are below 64.
+pub type Ports = PortSet<1>;
+
+impl<const W: usize> Model for PortSet<W> {
+    ghost use Rattle.std.specs.Prelude.{List, ℕ};
+    ghost use Rattle.port_sets.specs.Words.{members, words_with, AreWords};
+    ghost use Rattle.port_sets.specs.WordsOfMembers.{words_with-members};
+
+    ghost Value = { List ℕ };
+
+    ghost view = { λ s. members W s.words };
+
+    ghost invariant = { λ s. AreWords W s.words };
+
+    ghost inverse = { λ numbers. record { words = words_with W numbers } };
+
+    ghost inverse_ok = { λ s h i. record { words = words_with-members W s.words h i } };
+}
+
+impl<const W: usize> PartialEq for PortSet<W> {
+    ghost eq = { pointwise nat_eq };
+
+    ghost laws = { partial_equiv_from_equiv nat_list_eq_equiv };
+
+    fn eq(&self, other: &Self) -> bool {
+        self.words == other.words
+    }
+}
+
+impl<const W: usize> Eq for PortSet<W> {
+    ghost laws = { nat_list_eq_equiv };
+}
+
+impl<const W: usize> PortSet<W> {
+    /// The set of no number.
+    pub fn empty() -> PortSet<W>
+        requires { W ≤ 4 }
+        ensures { result ≡ [] }
+    {
+        PortSet { words: [0; W] }
+    }
+
+    /// Whether `n` is a member.
+    pub fn has(&self, n: u8) -> bool
+        ensures value { result ≡ has_number self.now n }
+        ensures above { 64 * W ≤ n → result ≡ false }
+    {
+        let place = n as usize / 64;
+        place < W && (self.words[place] >> (n % 64)) & 1 == 1
+    }
+
+    /// The members and `n`.
+    pub fn with(self, n: u8) -> PortSet<W>
+        requires { n < 64 * W }
+        ensures { result ≡ numbers_below (64 * W) (λ m. (m == n) || has_number self.entry m) }
+    {
+        let mut words = self.words;
+        words[n as usize / 64] |= 1 << (n % 64);
+        PortSet { words }
+    }
+
+    /// The members other than `n`, whatever `n` is.
+    pub fn without(self, n: u8) -> PortSet<W>
+        ensures { result ≡ numbers_below (64 * W) (λ m. has_number self.entry m && not (m == n)) }
+    {
+        let mut words = self.words;
+        let place = n as usize / 64;
+        if place < W {
+            words[place] &= !(1 << (n % 64));
+        }
+        PortSet { words }
+    }
+
+    /// The members of both sets.
+    pub fn and(self, other: PortSet<W>) -> PortSet<W>
+        ensures { result ≡ numbers_below (64 * W) (λ m. has_number self.entry m && has_number other.entry m) }
+    {
+        let mut words = self.words;
+        for i in 0..W {
+            words[i] &= other.words[i];
+        }
+        PortSet { words }
+    }
+
+    /// The members of either set.
+    pub fn or(self, other: PortSet<W>) -> PortSet<W>
+        ensures { result ≡ numbers_below (64 * W) (λ m. has_number self.entry m || has_number other.entry m) }
+    {
+        let mut words = self.words;
+        for i in 0..W {
+            words[i] |= other.words[i];
+        }
+        PortSet { words }
+    }
+
+    /// The members that `other` lacks.
+    pub fn minus(self, other: PortSet<W>) -> PortSet<W>
+        ensures { result ≡ numbers_below (64 * W) (λ m. has_number self.entry m && not (has_number other.entry m)) }
+    {
+        let mut words = self.words;
+        for i in 0..W {
+            words[i] &= !other.words[i];
+        }
+        PortSet { words }
+    }
+
+    /// Whether there is no member.
+    pub fn is_empty(&self) -> bool
+        ensures { IsTrue result ↔ (self.now ≡ []) }
+    {
+        self.first().is_none()
+    }
+
+    /// The least member.
+    pub fn first(&self) -> Option<u8>
+        ensures value { result ≡ slice_get self.now 0 }
+        ensures ordered { IsSetBelow (64 * W) self.now }
+    {
+        for i in 0..W {
+            let word = self.words[i];
+            if word != 0 {
+                return Some((64 * i as u32 + word.trailing_zeros()) as u8);
+            }
+        }
+        None
+    }
+
+    /// The members, ascending.
+    pub fn iter(&self) -> Members<W>
+        ensures members { result ≡ self.now }
+        ensures ordered { IsSetBelow (64 * W) self.now }
+        ensures below { All (λ n. n < 64 * W) result }
+        ensures few { length result ≤ 64 * W }
+    {
+        self.members_ascend();
+        Members { left: *self }
+    }
+
+    /// A law, whose body does nothing: the members ascend, each once, and are below 64 `W`.
+    pub fn members_ascend(&self)
+        ensures ordered { IsSetBelow (64 * W) self.now }
+        ensures ascending { IsStrictlyIncreasing self.now }
+        ensures below { All (λ n. n < 64 * W) self.now }
+        ensures few { length self.now ≤ 64 * W }
+    {
+        let _words = &self.words;
+    }
+
+    /// A law, whose body does nothing: sets with the same members are equal.
+    pub fn same_members(&self, other: &PortSet<W>)
+        requires { (n : ℕ) → n < 64 * W → has_number self.now n ≡ has_number other.now n }
+        ensures { self.now ≡ other.now }
+    {
+        self.members_ascend();
+        other.members_ascend();
+    }
+}
+
+/// The members of a set that are left to yield, ascending.
+#[derive(Drop)]
+pub struct Members<const W: usize> {
+    left: PortSet<W>,
+}
+
+impl<const W: usize> Model for Members<W> {
+    ghost use Rattle.std.specs.Prelude.{List, ℕ};
+
+    ghost Value = { List ℕ };
+
+    ghost view = { λ s. s.left };
+}
+
+impl<const W: usize> Iterator for Members<W> {
+    type Item = u8;
+
+    ghost next_gives = { YieldsFirst (λ s. s) };
+
+    ghost remaining = { item_count (λ s. s) };
+
+    fn next(&mut self) -> Option<u8> {
+        let n = self.left.first()?;
+        self.left = self.left.without(n);
+        Some(n)
+    }
+}
+
+#[cfg(test)]
+mod tests;
