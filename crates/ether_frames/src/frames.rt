@@ -1,0 +1,225 @@
+//! Reading the header of a frame, and writing a frame with another tag.
+ghost use Rattle.std.specs.Prelude.{◌≡◌, ◌≤◌, ◌<◌, ◌+◌, IfOk, length, take};
+ghost use Rattle.br_model.specs.Frames.{frame, dressed, tag_of, tag_bits};
+ghost use Rattle.br_model.specs.Heads.{IsHead, TagFits};
+ghost use Rattle.br_model.specs.Numbers.{number};
+
+use crate::NoMemory;
+use br_model::bytes::Bytes;
+use br_model::frame::{FrameFault, Head, Tag};
+use br_model::numbers::{Mac, Vid};
+use byteorder::{BigEndian, ByteOrder};
+use std::alloc::Global;
+
+/// Where the type field begins, or a tag in its place.
+const TYPE_AT: usize = 12;
+
+/// The bytes of a header without a tag.
+const PLAIN_HEADER: usize = 14;
+
+/// The bytes of a header with a tag.
+const TAGGED_HEADER: usize = 18;
+
+/// The longest frame, in bytes.
+const LONGEST: usize = 9022;
+
+/// The type of an 802.1Q tag.
+const TAG_TYPE: u16 = 0x8100;
+
+/// Reads the header: destination 6 bytes, source 6, type 2, numbers with the highest byte first (IEEE 802.3 clause
+/// 3.2). Behind a type of 0x8100 stand 2 bytes of tag and then the type (IEEE 802.1Q-2018 section 9.6): priority in
+/// the 3 highest bits, drop eligible in the next, VLAN identifier in the 12 lowest.
+///
+/// The faults are told in the order of `FrameFault`. The VLAN identifier may be 0 or 4095.
+pub fn parse(b: &[u8]) -> Result<Head, FrameFault>
+    ensures value { result ≡ frame b.now }
+    ensures head { IfOk result (IsHead (length b.now)) }
+{
+    if b.len() < PLAIN_HEADER {
+        return Err(FrameFault::Short);
+    }
+    if b.len() > LONGEST {
+        return Err(FrameFault::Long);
+    }
+    let dst = address(b);
+    let src = address(&b[6..]);
+    let kind = BigEndian::read_u16(&b[TYPE_AT..]);
+    if kind != TAG_TYPE {
+        return Ok(Head {
+            dst,
+            src,
+            tag: None,
+            kind,
+            body: PLAIN_HEADER,
+        });
+    }
+    if b.len() < TAGGED_HEADER {
+        return Err(FrameFault::TagShort);
+    }
+    Ok(Head {
+        dst,
+        src,
+        tag: Some(tag_of(BigEndian::read_u16(&b[14..]))),
+        kind: BigEndian::read_u16(&b[16..]),
+        body: TAGGED_HEADER,
+    })
+}
+
+// The address in the first six bytes.
+fn address(b: &[u8]) -> Mac
+    requires { 6 ≤ length b.now }
+    ensures { result ≡ number (take 6 b.now) }
+{
+    let mut bytes = [0; 6];
+    bytes.copy_from_slice(&b[..6]);
+    Mac::new(bytes)
+}
+
+// The fields of a tag's two bytes.
+fn tag_of(tci: u16) -> Tag
+    ensures value { result ≡ tag_of tci }
+    ensures fits { TagFits (Some result) }
+{
+    Tag {
+        pcp: (tci >> 13) as u8,
+        dei: tci >> 12 & 1 == 1,
+        vid: tci & 0x0FFF,
+    }
+}
+
+/// The bytes of the frame with the tag of this VLAN, or without a tag: destination, source, the tag where there is
+/// one, and all from the type on. `h` is the header that `parse` reads from `b`. The tag, 0x8100 and 2 bytes
+/// (IEEE 802.1Q-2018 section 9.6), keeps the priority and the drop eligible bit that came, and has zeros there where
+/// no tag came.
+pub fn dress(alloc: Global, b: &[u8], h: &Head, tag: Option<Vid>) -> Result<Bytes, NoMemory>
+    requires { frame b.now ≡ Ok h.now }
+    ensures { IfOk result (λ out. out ≡ dressed b.now h.now tag) }
+{
+    let mut out = Vec::with_capacity(alloc, b.len() + 4)?;
+    out.extend_from_slice(&b[..TYPE_AT])?;
+    if let Some(vid) = tag {
+        let mut bytes = [0; 4];
+        BigEndian::write_u16(&mut bytes, TAG_TYPE);
+        BigEndian::write_u16(&mut bytes[2..], tag_bits(h.tag) + vid.number());
+        out.extend_from_slice(&bytes)?;
+    }
+    out.extend_from_slice(&b[h.body - 2..])?;
+    Ok(Bytes::of(out))
+}
+
+// The priority and drop eligible bits of a tag's two bytes, zeros where there is no tag.
+fn tag_bits(tag: Option<Tag>) -> u16
+    requires { TagFits tag }
+    ensures value { result ≡ tag_bits tag }
+    ensures fits { result ≤ 0xF000 }
+{
+    match tag {
+        Some(tag) => (u16::from(tag.pcp) << 13) + (u16::from(tag.dei) << 12),
+        None => 0,
+    }
+}
+
+#[cfg(test)]
+mod tests {
+    use super::*;
+    use std::test::Fail;
+
+    const UNTAGGED: [u8; 16] = [
+        0x02, 0x00, 0x00, 0x00, 0x00, 0x0b, 0x02, 0x00, 0x00, 0x00, 0x00, 0x0a, 0x88, 0xb5, 0x01,
+        0x02,
+    ];
+
+    const PRIORITY_TAGGED: [u8; 20] = [
+        0x02, 0x00, 0x00, 0x00, 0x00, 0x0b, 0x02, 0x00, 0x00, 0x00, 0x00, 0x0a, 0x81, 0x00, 0xa0,
+        0x00, 0x88, 0xb5, 0x01, 0x02,
+    ];
+
+    // Priority 5, drop eligible, VLAN 0x123, and a second tag.
+    const TAGGED_TWICE: [u8; 22] = [
+        0x01, 0x00, 0x5e, 0x01, 0x02, 0x03, 0x02, 0x1a, 0x2b, 0x3c, 0x4d, 0x5e, 0x81, 0x00, 0xb1,
+        0x23, 0x81, 0x00, 0x00, 0x07, 0x08, 0x00,
+    ];
+
+    #[test]
+    fn tells_faults_by_length(rt: HostRuntime) -> Result<(), Fail> {
+        let plain = [
+            (0, Err(FrameFault::Short)),
+            (13, Err(FrameFault::Short)),
+            (14, Ok(14)),
+            (9022, Ok(14)),
+            (9023, Err(FrameFault::Long)),
+        ];
+        for (size, want) in plain {
+            let bytes = vec![in rt.alloc(); 0; size]?;
+            assert_eq!(rt; parse(&bytes).map(|head| head.body), want, "{size} bytes");
+        }
+        let tagged = [
+            (&PRIORITY_TAGGED[..14], Err(FrameFault::TagShort)),
+            (&PRIORITY_TAGGED[..17], Err(FrameFault::TagShort)),
+            (&PRIORITY_TAGGED[..18], Ok(18)),
+        ];
+        for (bytes, want) in tagged {
+            assert_eq!(rt;
+                parse(bytes).map(|head| head.body),
+                want,
+                "{} bytes with a tag",
+                bytes.len()
+            );
+        }
+        Ok(())
+    }
+
+    #[test]
+    fn reads_headers(rt: HostRuntime) -> Result<(), Fail> {
+        let none = parse(&UNTAGGED)?;
+        assert_eq!(rt; none.dst.number(), 0x0200_0000_000b);
+        assert_eq!(rt; none.src.number(), 0x0200_0000_000a);
+        assert_eq!(rt; none.tag, None);
+        assert_eq!(rt; (none.kind, none.body), (0x88b5, 14));
+        let twice = parse(&TAGGED_TWICE)?;
+        assert_eq!(rt; twice.dst.number(), 0x0100_5e01_0203);
+        assert_eq!(rt; twice.src.number(), 0x021a_2b3c_4d5e);
+        let tag = Tag {
+            pcp: 5,
+            dei: true,
+            vid: 0x123,
+        };
+        assert_eq!(rt; twice.tag, Some(tag));
+        assert_eq!(rt; (twice.kind, twice.body), (0x8100, 18));
+        Ok(())
+    }
+
+    #[test]
+    fn dresses_frames(rt: HostRuntime) -> Result<(), Fail> {
+        let cases: [(&[u8], Option<u16>, &[u8]); 6] = [
+            (&UNTAGGED, None, &UNTAGGED),
+            (&PRIORITY_TAGGED, None, &UNTAGGED),
+            (
+                &PRIORITY_TAGGED,
+                Some(10),
+                b"\x02\x00\x00\x00\x00\x0b\x02\x00\x00\x00\x00\x0a\x81\x00\xa0\x0a\x88\xb5\x01\x02",
+            ),
+            (
+                &UNTAGGED,
+                Some(4094),
+                b"\x02\x00\x00\x00\x00\x0b\x02\x00\x00\x00\x00\x0a\x81\x00\x0f\xfe\x88\xb5\x01\x02",
+            ),
+            (
+                &TAGGED_TWICE,
+                Some(10),
+                b"\x01\x00\x5e\x01\x02\x03\x02\x1a\x2b\x3c\x4d\x5e\x81\x00\xb0\x0a\x81\x00\x00\x07\x08\x00",
+            ),
+            (
+                &TAGGED_TWICE,
+                None,
+                b"\x01\x00\x5e\x01\x02\x03\x02\x1a\x2b\x3c\x4d\x5e\x81\x00\x00\x07\x08\x00",
+            ),
+        ];
+        for (bytes, vlan, want) in cases {
+            let head = parse(bytes)?;
+            let out = dress(rt.alloc(), bytes, &head, vlan.and_then(Vid::new))?;
+            assert_eq!(rt; out.as_slice(), want);
+        }
+        Ok(())
+    }
+}
