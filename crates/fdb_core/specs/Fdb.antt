@@ -1,0 +1,33 @@
+-- What a forwarding database holds, and which of its entries a question names.
+-- Source: IEEE 802.1D-1998 section 7.9 (the filtering database, ageing), the kernel's net/bridge (kinds of entries).
+use Rattle.std.specs.Prelude.{ℕ, ◌+◌, ◌==◌, nat_le, Bool, true, false, ◌&&◌, List, map}
+use Rattle.std.specs.List.{filter}
+use Rattle.br_model.specs.declared.change.Kind.{Kind}
+use Rattle.br_model.specs.declared.change.Kind.TheVariants.{Local, Static, Learned, Extern}
+use Rattle.fdb_core.specs.declared.entries.Entry.{Entry}
+
+-- the entries, ascending by VLAN and address, and how many there is room for
+pub record Table : Type 0 where
+  pub entries : List ((ℕ × ℕ) × Entry)
+  pub room : ℕ
+
+-- the keys of the entries that pass, ascending
+abbrev pub keys_where : (Entry → Bool) → List ((ℕ × ℕ) × Entry) → List (ℕ × ℕ)
+keys_where passes entries = map (λ e. e.0) (filter (λ e. passes e.1) entries)
+
+abbrev pub is_at_port : ℕ → Entry → Bool
+is_at_port port entry = entry.port == port
+
+abbrev pub is_learned : Kind → Bool
+is_learned Local = false
+is_learned Static = false
+is_learned Learned = true
+is_learned Extern = false
+
+-- learned, and not seen for the time `hold`
+abbrev pub is_expired : ℕ → ℕ → Entry → Bool
+is_expired now hold entry = is_learned entry.kind && nat_le (entry.updated + hold) now
+
+-- the entries without their moments, as the bridge's table has them
+abbrev pub addresses : List ((ℕ × ℕ) × Entry) → List ((ℕ × ℕ) × (ℕ × Kind))
+addresses entries = map (λ e. (e.0, (e.1.port, e.1.kind))) entries

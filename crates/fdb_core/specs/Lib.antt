@@ -1,0 +1,3 @@
+pub mod Fdb
+pub mod Places
+pub mod Slots

@@ -1,0 +1,38 @@
+//! What stands at an address.
+ghost use Rattle.std.specs.Prelude.{◌≡◌};
+ghost use Rattle.fdb_core.specs.Fdb.{is_at_port, is_expired};
+
+use br_model::change::Kind;
+use br_model::numbers::{Mac, Port, Vid};
+
+/// An address of a VLAN. Keys are compared by the VLAN and then by the address.
+pub type Key = (Vid, Mac);
+
+/// Where an address is, how it came to be there, and the moment of that in milliseconds.
+#[derive(Clone, Copy, PartialEq, Eq, Debug)]
+pub struct Entry {
+    pub port: Port,
+    pub kind: Kind,
+    pub updated: u64,
+}
+
+impl Entry {
+    pub fn is_at(&self, port: Port) -> bool
+        ensures { result ≡ is_at_port port self.now }
+    {
+        self.port == port
+    }
+
+    /// Whether it is a learned entry whose time is over at the moment `now`.
+    pub fn has_expired(&self, now: u64, hold: u64) -> bool
+        ensures { result ≡ is_expired now hold self.now }
+    {
+        match self.kind {
+            Kind::Learned => match self.updated.checked_add(hold) {
+                Some(end) => end <= now,
+                None => false,
+            },
+            Kind::Local | Kind::Static | Kind::Extern => false,
+        }
+    }
+}

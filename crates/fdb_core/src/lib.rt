@@ -1,0 +1,21 @@
+//! The forwarding database: a finite map from a VLAN and an address to a port, a kind and a moment.
+//!
+//! It takes its memory at its making, so that no entry is lost later for want of memory. `plain` has a program beside it,
+//! as plain as the definition, with the same contracts.
+#![tactic(auto)]
+
+pub mod entries;
+pub mod key_list;
+pub mod plain;
+mod slots;
+pub mod table;
+
+pub use entries::{Entry, Key};
+pub use key_list::Keys;
+pub use table::Fdb;
+
+/// There was no memory.
+pub type NoMemory = std::alloc::AllocError;
+
+#[cfg(test)]
+mod tests;
