@@ -1,0 +1,4 @@
+pub mod Among
+pub mod Kept
+pub mod Session
+pub mod Outcome
