@@ -1,10 +1,9 @@
 -- Digits: decimal numbers, hexadecimal bytes and addresses as words spell them.
 -- Source: this profile; addresses are spelled as IEEE 802-2014 section 8.1 and iproute2 do, with colons.
-use Rattle.std.specs.Prelude.{ℕ, ◌+◌, ◌-◌, ◌*◌, ◌/◌, ◌%◌, ◌==◌, nat_lt, nat_le, Bool, false, not, ◌&&◌, ◌||◌, if◌then◌else◌, List, [], ◌∷◌, ◌++◌, length}
-use Rattle.std.specs.List.{flat_map, fold, list_all, slice_split}
+use Rattle.std.specs.Prelude.{ℕ, ◌+◌, ◌-◌, ◌*◌, ◌/◌, ◌%◌, ◌==◌, nat_lt, nat_le, Bool, false, not, ◌&&◌, ◌||◌, if◌then◌else◌, List, [], ◌∷◌, length}
+use Rattle.std.specs.List.{flat_map, fold, list_all}
 use Rattle.std.specs.declared.option.Option.{Option}
 use Rattle.std.specs.declared.option.Option.TheVariants.{None, Some}
-use Rattle.std.specs.Option.{option_and_then}
 use Rattle.br_model.specs.Numbers.{number, is_multicast}
 
 -- decimal numbers
@@ -62,13 +61,6 @@ bytes_from_hex (c ∷ d ∷ cs) = in_front (byte_of (nibble c) (nibble d)) (byte
 
 -- addresses
 
--- six pairs of digits, taken together
-abbrev pub six_pairs : List (List ℕ) → Option (List ℕ)
-six_pairs parts = if length parts == 6 && list_all (λ w. length w == 2) parts then bytes_from_hex (fold (λ a b. a ++ b) [] parts) else None
-
 -- an address of one station: no group, and not all zeros
 abbrev pub station : List ℕ → Option ℕ
 station bytes = let address = number bytes in if is_multicast address || address == 0 then None else Some address
-
-abbrev pub mac_from : List ℕ → Option ℕ
-mac_from word = option_and_then station (six_pairs (slice_split (λ c. c == 58) word))

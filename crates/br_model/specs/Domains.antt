@@ -15,6 +15,10 @@ Domains = List (ℕ × ℕ)
 abbrev pub host : ℕ
 host = 0
 
+-- the domain of software ports
+abbrev pub software : ℕ
+software = 0
+
 abbrev pub domain_of : Domains → ℕ → Option ℕ
 domain_of domains port = get nat_cmp domains port
 

@@ -27,13 +27,23 @@ tag_of tci = record { pcp = tci / 8192; dei = tci / 4096 % 2 == 1; vid = tci % 4
 abbrev pub head_of : List ℕ → Option Tag → ℕ → Head
 head_of bytes tag body = record { dst = number_at bytes 0 6; src = number_at bytes 6 6; tag = tag; kind = number_at bytes (body - 2) 2; body = body }
 
+-- the bytes of the shortest and the longest frame, and of the shortest with a tag
+abbrev pub shortest_frame : ℕ
+shortest_frame = 14
+
+abbrev pub longest_frame : ℕ
+longest_frame = 9022
+
+abbrev pub shortest_tagged : ℕ
+shortest_tagged = 18
+
 -- what the bytes say as a frame, or why they are none
 abbrev pub frame : List ℕ → Result Head FrameFault
 frame bytes =
-    if nat_lt (length bytes) 14 then Err Short else
-    if nat_lt 9022 (length bytes) then Err Long else
+    if nat_lt (length bytes) shortest_frame then Err Short else
+    if nat_lt longest_frame (length bytes) then Err Long else
     if number_at bytes 12 2 == tag_type then (
-    if nat_lt (length bytes) 18 then Err TagShort else Ok (head_of bytes (Some (tag_of (number_at bytes 14 2))) 18)
+    if nat_lt (length bytes) shortest_tagged then Err TagShort else Ok (head_of bytes (Some (tag_of (number_at bytes 14 2))) 18)
     ) else
     Ok (head_of bytes None 14)
 

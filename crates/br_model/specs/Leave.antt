@@ -19,8 +19,8 @@ unfoldable pub all_ports : List ℕ
 all_ports = range_with_len 0 64
 
 -- the targets that may take the frame, ascending
-unfoldable pub takers : Table → ℕ → ℕ → Head → McastMsg → List ℕ
-takers t port vid head msg = filter (λ q. has nat_cmp (targets t vid head msg) q && may t port q vid) all_ports
+unfoldable pub egress_ports : Table → ℕ → ℕ → Head → McastMsg → List ℕ
+egress_ports t port vid head msg = filter (λ q. has nat_cmp (targets t vid head msg) q && may t port q vid) all_ports
 
 -- the tag with which the VLAN's frames leave the port
 abbrev pub tag_at : Table → ℕ → ℕ → Option ℕ
@@ -28,7 +28,7 @@ tag_at t port vid = if untagged t port vid then None else Some vid
 
 abbrev pub leave_in : Table → ℕ → Option ℕ → List ℕ → Head → List (ℕ × List ℕ)
 leave_in t port None bytes head = []
-leave_in t port (Some vid) bytes head = map (λ q. (q, dressed bytes head (tag_at t q vid))) (takers t port vid head (message bytes head))
+leave_in t port (Some vid) bytes head = map (λ q. (q, dressed bytes head (tag_at t q vid))) (egress_ports t port vid head (message bytes head))
 
 -- each port that the frame leaves, ascending, with its bytes there
 unfoldable pub leave : Table → ℕ → List ℕ → Head → List (ℕ × List ℕ)

@@ -1,33 +1,65 @@
--- How a replay may end, by the bytes that its source had left and by those that its sink took. A source or a sink may
--- tell its bytes or not; of one that doesn't, nothing is said.
+-- How a replay may end, by what it saw of its source and did to its sink. A source or a sink may tell its bytes or not. Of a
+-- sink that doesn't, nothing is said; of a source that doesn't, that the output is that of some input.
 -- Source: this profile.
-use Rattle.std.specs.Prelude.{◌≡◌, ℕ, ◌≤◌, List, ◌++◌, length, take, IfSome}
+use Rattle.std.specs.Prelude.{◌≡◌, ℕ, ◌≤◌, false, List, ◌++◌, length, take, IfSome}
 use Rattle.std.specs.declared.option.Option.{Option}
 use Rattle.std.specs.Io.KnownBytes.{Appends, Consumes}
-use Rattle.br_model.specs.Runs.{run, body_of, told}
-use Rattle.br_model.specs.Scenario.{Ending, Going, Bad, first, scan, scenario}
+use Rattle.br_model.specs.declared.scenario.LineWhy.{LineWhy}
+use Rattle.br_model.specs.Limits.{most_bytes}
+use Rattle.br_model.specs.Runs.{body, told}
+use Rattle.br_model.specs.Scenario.{Ending, Going, Bad, opened, reads, scenario}
 
--- The scenario that was left ends so, and the sink took just what is told of it.
-abbrev pub Tells : Option (List ℕ) → Option (List ℕ) → Option (List ℕ) → Ending → Type 0
-Tells left before now ending = IfSome left (λ bytes. ((scenario bytes).ending ≡ ending) × Appends before now (told bytes))
+-- what a call saw and did
+pub record Call : Type 0 where
+  -- the bytes that the source had left when the call began, and has left now
+  pub left_before : Option (List ℕ)
+  pub left_now : Option (List ℕ)
+  -- the bytes that the sink had taken when the call began, and has taken now
+  pub taken_before : Option (List ℕ)
+  pub taken_now : Option (List ℕ)
+
+-- the source gave just these bytes in the call
+abbrev pub Read : Call → List ℕ → Type 0
+Read call bytes = Consumes call.left_before call.left_now bytes
+
+-- the sink took just these bytes in the call
+abbrev pub Wrote : Call → List ℕ → Type 0
+Wrote call bytes = Appends call.taken_before call.taken_now bytes
+
+-- The scenario ends so, and the output is exactly what is told of it.
+pub record Tells (call : Call) (ending : Ending) : Type 0 where
+  -- the bytes that were read
+  pub input : List ℕ
+  pub read : Read call input
+  pub ends : (scenario input).ending ≡ ending
+  pub wrote : Wrote call (told input)
+  -- and so it would be with all that the source had left
+  pub whole : IfSome call.left_before (λ bytes. ((scenario bytes).ending ≡ ending) × (told bytes ≡ told input))
 
 -- the same of a scenario with a bad line
-abbrev pub TellsBad : Option (List ℕ) → Option (List ℕ) → Option (List ℕ) → Type 0
-TellsBad left before now = (n : ℕ) × Tells left before now (Bad n)
+abbrev pub TellsBad : Call → Type 0
+TellsBad call = (n : ℕ) × (why : LineWhy) × Tells call (Bad n why)
 
--- So many bytes were left, and the first of them hold neither a whole `end` line nor a bad line.
+-- The bytes hold neither a whole `end` line nor a bad line other than one that only lacks its end.
+abbrev pub GoesOn : List ℕ → Type 0
+GoesOn bytes = (reads (opened false) bytes).ending ≡ Going
+
+-- At least so many bytes were left, and the first of them hold neither a whole `end` line nor a bad line.
 abbrev pub HoldsNoEnd : ℕ → List ℕ → Type 0
-HoldsNoEnd limit bytes = (limit ≤ length bytes) × ((scan first (take limit bytes)).ending ≡ Going)
+HoldsNoEnd limit bytes = (limit ≤ length bytes) × GoesOn (take limit bytes)
 
-abbrev pub IsTooLong : ℕ → Option (List ℕ) → Type 0
-IsTooLong limit left = IfSome left (HoldsNoEnd limit)
+abbrev pub IsNotTooLong : Call → Type 0
+IsNotTooLong call = IfSome call.left_before (λ bytes. ¬ HoldsNoEnd most_bytes bytes)
 
-abbrev pub IsNotTooLong : ℕ → Option (List ℕ) → Type 0
-IsNotTooLong limit left = IfSome left (λ bytes. ¬ HoldsNoEnd limit bytes)
+-- The run stops on its way: the output is the body of the bytes that were read, which neither end the scenario nor hold a bad
+-- line, and then this last line.
+pub record Stops (call : Call) (last : List ℕ) : Type 0 where
+  pub input : List ℕ
+  pub read : Read call input
+  pub going : GoesOn input
+  pub wrote : Wrote call (body input ++ last)
 
--- A run that stops on its way wrote the lines of a front of what was left, whole, and then this last line.
-pub record Stops (left before now : Option (List ℕ)) (last : List ℕ) : Type 0 where
-  pub front : List ℕ
-  pub rest : Option (List ℕ)
-  pub reads : Consumes left rest front
-  pub wrote : Appends before now (body_of (run (scan first front).steps) ++ last)
+-- The same where as many bytes were read as may be.
+pub record StopsFull (call : Call) (last : List ℕ) : Type 0 where
+  pub stops : Stops call last
+  pub full : length stops.input ≡ most_bytes

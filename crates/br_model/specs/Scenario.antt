@@ -1,86 +1,142 @@
--- A scenario: its lines are read one after another up to its end, or to its first bad line.
+-- A scenario: its text is cut at line feeds, and its lines are read one after another, up to its end or its first bad line.
 -- Source: this profile.
-use Rattle.std.specs.Prelude.{ℕ, ◌+◌, ◌==◌, if◌then◌else◌, List, [], ◌∷◌, ◌++◌, length}
+use Rattle.std.specs.Prelude.{ℕ, ◌+◌, ◌==◌, nat_lt, Bool, false, if◌then◌else◌, List, [], ◌∷◌, ◌++◌, length, codes}
 use Rattle.std.specs.List.{fold}
+use Rattle.std.specs.declared.result.Result.{Result}
+use Rattle.std.specs.declared.result.Result.TheVariants.{Ok, Err}
+use Rattle.br_model.specs.declared.scenario.LineWhy.{LineWhy}
+use Rattle.br_model.specs.declared.scenario.LineWhy.TheVariants.{Long, Unended, Place}
+use Rattle.br_model.specs.declared.scenario.Place.TheVariants.{Header, Declarations, Steps}
+use Rattle.br_model.specs.declared.scenario.Said.{Said}
+use Rattle.br_model.specs.declared.scenario.Said.TheVariants.{Blank, Opens, Declares, Does, Ends}
 use Rattle.br_model.specs.declared.steps.Step.{Step}
-use Rattle.br_model.specs.declared.scenario.Item.{Item}
-use Rattle.br_model.specs.declared.scenario.Item.TheVariants.{Blank, Opens, Declares, Does, Ends, Wrong}
-use Rattle.br_model.specs.declared.scenario.Place.{Place}
-use Rattle.br_model.specs.declared.scenario.Place.TheVariants.{Opening, Declarations, Steps}
-use Rattle.br_model.specs.Forms.{Roster, line_item}
+use Rattle.std.specs.Str.{bytes_eq}
+use Rattle.br_model.specs.CommandForms.{step}
+use Rattle.br_model.specs.LineForms.{line_says}
+use Rattle.br_model.specs.Roster.{Roster, first_roster}
+use Rattle.br_model.specs.Words.{Word, words}
 
--- how a scenario ends: it goes on, by its line `end`, or by the bad line of this number
+-- cutting at line feeds
+
+-- the lines that have their line feed, without it, and what stands after the last of them
+pub record Cut : Type 0 where
+  pub lines : List (List ℕ)
+  pub rest : List ℕ
+
+-- a byte in front of the first line, or of the rest where there is no line
+abbrev pub in_front : ℕ → List (List ℕ) → List ℕ → Cut
+in_front byte [] rest = record { lines = []; rest = byte ∷ rest }
+in_front byte (line ∷ lines) rest = record { lines = (byte ∷ line) ∷ lines; rest = rest }
+
+abbrev pub cut_byte : ℕ → Cut → Cut
+cut_byte byte c = if byte == 10 then record { lines = [] ∷ c.lines; rest = c.rest } else in_front byte c.lines c.rest
+
+unfoldable pub cut : List ℕ → Cut
+cut [] = record { lines = []; rest = [] }
+cut (byte ∷ bytes) = cut_byte byte (cut bytes)
+
+-- reading lines
+
+-- how a scenario ends: it goes on, by its line `end`, or by the bad line of this number, for this cause
 pub data Ending : Type 0 where
   Going : Ending
   Ended : Ending
-  Bad : ℕ → Ending
+  Bad : ℕ → LineWhy → Ending
 
-pub record Scan : Type 0 where
-  -- the number of the line at hand, from 1, and its bytes so far
-  pub line : ℕ
-  pub bytes : List ℕ
-  pub place : Place
+-- what the lines so far have said
+pub record Scenario : Type 0 where
+  -- how many lines were read
+  pub lines : ℕ
   pub roster : Roster
-  -- the steps of the lines before it
   pub steps : List Step
   pub ending : Ending
 
-abbrev pub first : Scan
-first = record { line = 1; bytes = []; place = Opening; roster = []; steps = []; ending = Going }
+abbrev pub opened : Bool → Scenario
+opened check = record { lines = 0; roster = first_roster check; steps = []; ending = Going }
 
 -- the bytes of the longest line, without its line feed
-abbrev pub longest : ℕ
-longest = 20000
+abbrev pub longest_line : ℕ
+longest_line = 20000
 
-abbrev pub next_line : Scan → Scan
-next_line s = record s { line = s.line + 1; bytes = [] }
+-- the next line is bad
+abbrev pub bad : Scenario → LineWhy → Scenario
+bad s why = record s { ending = Bad (s.lines + 1) why }
 
-abbrev pub bad : Scan → Scan
-bad s = record s { ending = Bad s.line }
+-- the steps of a line
+abbrev pub steps_of : Said → List Step
+steps_of Blank = []
+steps_of Opens = []
+steps_of (Declares port name dom) = []
+steps_of (Does step) = step ∷ []
+steps_of Ends = []
 
--- after a whole line that is this item
-abbrev pub takes : Scan → Item → Scan
-takes s Blank = next_line s
-takes s Opens = next_line (record s { place = Declarations })
-takes s (Declares n name) = next_line (record s { roster = s.roster ++ (n, name) ∷ [] })
-takes s (Does step) = next_line (record s { place = Steps; steps = s.steps ++ step ∷ [] })
-takes s Ends = record s { ending = Ended }
-takes s Wrong = bad s
+-- what a line declares, and the place that it leads to
+abbrev pub declared : Roster → Said → Roster
+declared roster Blank = roster
+declared roster Opens = record roster { place = Header }
+declared roster (Declares port name dom) = record roster { place = Declarations; ports = roster.ports ++ record { name = name; port = port; dom = dom } ∷ [] }
+declared roster (Does step) = record roster { place = Steps }
+declared roster Ends = roster
 
--- what the bytes of the line at hand are as a line
-abbrev pub item_at : Scan → Item
-item_at s = line_item s.place s.roster s.bytes
+-- whether a line is the last one
+abbrev pub ending_of : Said → Ending
+ending_of Blank = Going
+ending_of Opens = Going
+ending_of (Declares port name dom) = Going
+ending_of (Does step) = Going
+ending_of Ends = Ended
 
--- One more byte: a line feed ends the line, and a line may not become too long.
-abbrev pub reads_byte : Ending → Scan → ℕ → Scan
-reads_byte Going s byte =
-    if byte == 10 then takes s (item_at s) else
-    if length s.bytes == longest then bad s else
-    record s { bytes = s.bytes ++ byte ∷ [] }
-reads_byte Ended s byte = s
-reads_byte (Bad n) s byte = s
+abbrev pub takes_said : Scenario → Result Said LineWhy → Scenario
+takes_said s (Err why) = bad s why
+takes_said s (Ok said) = record { lines = s.lines + 1; roster = declared s.roster said; steps = s.steps ++ steps_of said; ending = ending_of said }
 
-abbrev pub reads : Scan → ℕ → Scan
-reads s byte = reads_byte s.ending s byte
+abbrev pub takes_at : Ending → Scenario → List ℕ → Scenario
+takes_at Going s line = if nat_lt longest_line (length line) then bad s Long else takes_said s (line_says s.roster line)
+takes_at Ended s line = s
+takes_at (Bad n why) s line = s
 
--- after these bytes
-unfoldable pub scan : Scan → List ℕ → Scan
-scan s bytes = fold reads s bytes
+-- after one line more
+abbrev pub takes : Scenario → List ℕ → Scenario
+takes s line = takes_at s.ending s line
 
--- where the bytes end: a last line `end` may lack its line feed, any other one is bad
-abbrev pub closes : Ending → Scan → Item → Scan
-closes Going s Blank = bad s
-closes Going s Opens = bad s
-closes Going s (Declares n name) = bad s
-closes Going s (Does step) = bad s
-closes Going s Ends = record s { ending = Ended }
-closes Going s Wrong = bad s
-closes Ended s item = s
-closes (Bad n) s item = s
+-- where the text ends
 
-abbrev pub closed : Scan → Scan
-closed s = closes s.ending s (item_at s)
+-- A line that may not come to its end is too long already.
+abbrev pub begins_at : Ending → Scenario → List ℕ → Scenario
+begins_at Going s rest = if nat_lt longest_line (length rest) then bad s Long else s
+begins_at Ended s rest = s
+begins_at (Bad n why) s rest = s
+
+abbrev pub begins : Scenario → List ℕ → Scenario
+begins s rest = begins_at s.ending s rest
+
+-- after the lines of these bytes, more of which may come
+unfoldable pub reads : Scenario → List ℕ → Scenario
+reads s bytes = begins (fold takes s (cut bytes).lines) (cut bytes).rest
+
+-- the one word `end`
+abbrev pub is_end : List Word → Bool
+is_end [] = false
+is_end (w ∷ []) = bytes_eq w (codes "end")
+is_end (w ∷ x ∷ ws) = false
+
+-- `end` in its place
+abbrev pub ends : Scenario → Scenario
+ends s = if step s.roster.place then record s { lines = s.lines + 1; ending = Ended } else bad s Place
+
+-- The last line `end` may lack its line feed; any other line that lacks it is bad.
+abbrev pub closes_at : Ending → Scenario → List ℕ → Scenario
+closes_at Going s rest = if is_end (words rest) then ends s else bad s Unended
+closes_at Ended s rest = s
+closes_at (Bad n why) s rest = s
+
+abbrev pub closes : Scenario → List ℕ → Scenario
+closes s rest = closes_at s.ending s rest
 
 -- what the whole bytes say
-abbrev pub scenario : List ℕ → Scan
-scenario bytes = closed (scan first bytes)
+unfoldable pub scenario_by : Bool → List ℕ → Scenario
+scenario_by check bytes = closes (reads (opened check) bytes) (cut bytes).rest
+
+-- for every command but `check`
+abbrev pub scenario : List ℕ → Scenario
+scenario bytes = scenario_by false bytes

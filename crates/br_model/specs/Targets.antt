@@ -1,6 +1,7 @@
 -- Where an admitted frame is to go, before it is asked which of these ports may take it.
 -- Source: IEEE 802.1D-1998 sections 7.7 and 7.12.6 (entries, reserved addresses), RFC 4541 section 2.1 (snooping), the kernel's
--- net/bridge (flood flags per port, group_fwd_mask 0).
+-- br_handle_frame and should_deliver (flood flags per port, group_fwd_mask 0). That the addresses 02 to 0F go to the host, and
+-- only of admitted frames, is this profile's.
 use Rattle.std.specs.Prelude.{ℕ, ◌/◌, ◌%◌, ◌^◌, ◌==◌, nat_lt, nat_le, Bool, not, ◌&&◌, ◌||◌, if◌then◌else◌, List, [], ◌∷◌, ◌++◌, map}
 use Rattle.std.specs.List.{filter}
 use Rattle.std.specs.declared.option.Option.{Option}
@@ -8,11 +9,12 @@ use Rattle.std.specs.declared.option.Option.TheVariants.{None, Some}
 use Rattle.std.specs.Option.{unwrap_or}
 use Rattle.std.specs.Ordering.{nat_cmp, is_eq}
 use Rattle.br_model.specs.declared.change.Kind.{Kind}
+use Rattle.br_model.specs.declared.change.Kind.TheVariants.{Local, Static, Learned, Extern}
 use Rattle.br_model.specs.declared.frame.Head.{Head}
 use Rattle.br_model.specs.declared.frame.McastMsg.{McastMsg}
 use Rattle.br_model.specs.declared.frame.McastMsg.TheVariants.{Plain, Payload, Query, Report, Leave, Records, Unrecognized}
 use Rattle.br_model.specs.declared.group.Group.{Group}
-use Rattle.br_model.specs.Admission.{is_up, valid}
+use Rattle.br_model.specs.Admission.{is_up, has_valid_source}
 use Rattle.br_model.specs.Domains.{host}
 use Rattle.br_model.specs.Groups.{is_six, is_link_local, group_cmp}
 use Rattle.br_model.specs.Maps.{pair_cmp, get, has}
@@ -36,8 +38,8 @@ abbrev pub has_flag : Table → ℕ → ℕ → Bool
 has_flag t port flag = unwrap_or (get nat_cmp t.flags port) 0 / 2 ^ flag % 2 == 1
 
 -- 01-80-C2-00-00-00
-abbrev pub tree_address : ℕ
-tree_address = 0x0180C2000000
+abbrev pub bridge_group_address : ℕ
+bridge_group_address = 0x0180C2000000
 
 -- 01-80-C2-00-00-01
 abbrev pub pause_address : ℕ
@@ -49,7 +51,7 @@ is_for_the_host address = nat_lt pause_address address && nat_le address 0x0180C
 
 -- whether the frame is for the spanning tree
 abbrev pub to_tree : Table → ℕ → Head → Bool
-to_tree t port head = head.dst == tree_address && (t.stp && (is_up t port && valid head))
+to_tree t port head = head.dst == bridge_group_address && (t.stp && (is_up t port && has_valid_source head))
 
 -- the ports that are up and have the flag
 abbrev pub with_flag : Table → ℕ → List ℕ
@@ -58,10 +60,17 @@ with_flag t flag = filter (λ port. has_flag t port flag) t.up
 abbrev pub multicast_flood : Table → List ℕ
 multicast_flood t = host ∷ with_flag t mcast_flood
 
+-- where an entry sends: the host for a local one
+abbrev pub port_of : ℕ × Kind → ℕ
+port_of (port, Local) = host
+port_of (port, Static) = port
+port_of (port, Learned) = port
+port_of (port, Extern) = port
+
 -- by the entry of the destination, or by flooding
 abbrev pub unicast_targets : Table → Option (ℕ × Kind) → List ℕ
 unicast_targets t None = with_flag t flood
-unicast_targets t (Some entry) = entry.0 ∷ []
+unicast_targets t (Some entry) = port_of entry ∷ []
 
 abbrev pub knows_querier : Table → Bool → Bool
 knows_querier t six = has nat_cmp t.queriers (ip_version six)
@@ -89,7 +98,7 @@ snooped_targets t vid (Records six first count) = to_routers t six
 
 abbrev pub targets : Table → ℕ → Head → McastMsg → List ℕ
 targets t vid head msg =
-    if head.dst == tree_address && t.stp then [] else
+    if head.dst == bridge_group_address && t.stp then [] else
     if head.dst == pause_address then [] else
     if is_for_the_host head.dst then host ∷ [] else
     if head.dst == broadcast then host ∷ with_flag t bcast_flood else

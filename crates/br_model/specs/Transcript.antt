@@ -4,23 +4,26 @@ use Rattle.std.specs.Prelude.{ℕ, List, [], ◌∷◌, ◌++◌, codes}
 use Rattle.std.specs.List.{flat_map}
 use Rattle.std.specs.Fmt.{decimal}
 use Rattle.br_model.specs.declared.frame.FrameFault.{FrameFault}
-use Rattle.br_model.specs.declared.frame.FrameFault.TheVariants.{Short, Long, TagShort}
-use Rattle.br_model.specs.declared.lines.Line.{Line}
-use Rattle.br_model.specs.declared.lines.Line.TheVariants.{Unread, Soft, Tx, Done, Refused, End}
+use Rattle.br_model.specs.declared.frame.FrameFault.TheVariants as faults
+use Rattle.br_model.specs.declared.scenario.LineWhy.{LineWhy}
+use Rattle.br_model.specs.declared.scenario.LineWhy.TheVariants.{Long, Unended, Word, Place, Number, Port, Address, Hex, Capture, NoMemory}
+use Rattle.br_model.specs.declared.transcript.Line.{Line}
+use Rattle.br_model.specs.declared.transcript.Line.TheVariants.{Unread, Soft, Tx, Done, Refused, End}
 use Rattle.br_model.specs.declared.steps.Refusal.{Refusal}
-use Rattle.br_model.specs.declared.steps.Refusal.TheVariants.{PortIsUp, PortNotUp, NotMember, Exists, NothingWaiting}
+use Rattle.br_model.specs.declared.steps.Refusal.TheVariants.{PortIsUp, PortNotUp, NotMember, Exists, HistoryFull, NothingWaiting}
 use Rattle.br_model.specs.Digits.{hex_of}
 
 abbrev pub fault_word : FrameFault → List ℕ
-fault_word Short = codes "short"
-fault_word Long = codes "long"
-fault_word TagShort = codes "tagshort"
+fault_word faults.Short = codes "short"
+fault_word faults.Long = codes "long"
+fault_word faults.TagShort = codes "tagshort"
 
 abbrev pub refusal_number : Refusal → ℕ
 refusal_number PortIsUp = 1
 refusal_number PortNotUp = 2
 refusal_number NotMember = 3
 refusal_number Exists = 4
+refusal_number HistoryFull = 8
 refusal_number NothingWaiting = 10
 
 -- one line, with its line feed
@@ -37,6 +40,19 @@ line_text (End steps changes pending waiting) =
 abbrev pub text : List Line → List ℕ
 text lines = flat_map line_text lines
 
+-- the cause of a bad line. Want of memory is none.
+abbrev pub why_text : LineWhy → List ℕ
+why_text Long = codes "long"
+why_text Unended = codes "unended"
+why_text Word = codes "word"
+why_text Place = codes "place"
+why_text Number = codes "number"
+why_text Port = codes "port"
+why_text Address = codes "address"
+why_text Hex = codes "hex"
+why_text (Capture offset) = codes "capture " ++ decimal offset
+why_text NoMemory = codes "memory"
+
 -- the last line where this line of the scenario is bad
-abbrev pub bad_text : ℕ → List ℕ
-bad_text n = codes "bad " ++ (decimal n ++ (codes " word" ++ 10 ∷ []))
+abbrev pub bad_text : ℕ → LineWhy → List ℕ
+bad_text n why = codes "bad " ++ (decimal n ++ (32 ∷ (why_text why ++ 10 ∷ [])))

@@ -15,6 +15,12 @@ pub enum Kind {
     Extern,
 }
 
+/// The state of a port that is down, or just came up (Linux's BR_STATE_DISABLED).
+pub const DISABLED: u8 = 0;
+
+/// The state of a port that forwards frames (Linux's BR_STATE_FORWARDING).
+pub const FORWARDING: u8 = 3;
+
 /// The flags of a port, a bit each from the lowest on: learning, flood, mcast_flood, bcast_flood, isolated, fastleave.
 #[derive(Clone, Copy, PartialEq, Eq, Debug)]
 pub struct Flags {
@@ -36,6 +42,19 @@ impl Model for Flags {
 impl Flags {
     /// Learning, flood, mcast_flood and bcast_flood: those of a port that comes up.
     pub const DEFAULT: Flags = Flags { bits: 15 };
+
+    // The places of the flags, from the lowest bit on.
+    pub const LEARNING: u8 = 0;
+
+    pub const FLOOD: u8 = 1;
+
+    pub const MCAST_FLOOD: u8 = 2;
+
+    pub const BCAST_FLOOD: u8 = 3;
+
+    pub const ISOLATED: u8 = 4;
+
+    pub const FASTLEAVE: u8 = 5;
 
     /// `None` exactly above 63.
     pub fn new(bits: u8) -> Option<Flags>

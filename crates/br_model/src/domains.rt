@@ -1,7 +1,9 @@
 //! The domains of the declared ports.
-ghost use Rattle.std.specs.Prelude.{◌≡◌, ◌≢◌, [], ◌∷◌};
+ghost use Rattle.std.specs.Prelude.{◌≡◌, ◌≢◌, ◌==◌, ◌<◌, ℕ, false, [], ◌∷◌, if◌then◌else◌, get_or, slice_index, None, Some};
+ghost use Rattle.std.specs.Int.{bit_at};
 ghost use Rattle.std.specs.Ordering.{nat_cmp};
-ghost use Rattle.br_model.specs.Domains.{domain_of, host};
+ghost use Rattle.br_model.specs.Domains.{domain_of, entries_from, host};
+ghost use Rattle.br_model.specs.DomainPorts.{IsWordOf};
 ghost use Rattle.br_model.specs.Maps.{put};
 
 use crate::numbers::{Dom, Port};
@@ -9,18 +11,23 @@ use std::marker::Model;
 
 /// The domain of each declared port, seen as the list of pairs of a port and its domain, ascending by port.
 /// The host is always there, in the software's domain.
-#[derive(Drop, Debug)]
+#[derive(Drop)]
 pub struct Domains {
     by_port: [Option<Dom>; 64],
+    // A word for each domain, with a bit for each of its ports.
+    words: [u64; 2],
 }
 
 impl Model for Domains {
-    ghost use Rattle.std.specs.Prelude.{ℕ, List};
+    ghost use Rattle.std.specs.Prelude.{◌≡◌, ℕ, ◌<◌, List, Some, None, get_or, slice_index};
     ghost use Rattle.br_model.specs.Domains.{entries_from};
+    ghost use Rattle.br_model.specs.DomainPorts.{IsWordOf};
 
     ghost Value = { List (ℕ × ℕ) };
 
     ghost view = { λ d. entries_from 0 d.by_port };
+
+    ghost invariant = { λ d. (get_or d.by_port 0 None ≡ Some 0) × ((domain : ℕ) → domain < 2 → IsWordOf (entries_from 0 d.by_port) domain (slice_index d.words domain)) };
 }
 
 impl Domains {
@@ -28,22 +35,61 @@ impl Domains {
     pub fn make() -> Domains
         ensures { result ≡ (host, 0) ∷ [] }
     {
-        let mut by_port = [None; 64];
-        by_port[0] = Some(Dom::SOFTWARE);
-        Domains { by_port }
+        let mut words = [0; 2];
+        put_bit(&mut words, Port::HOST, Dom::SOFTWARE);
+        Domains {
+            by_port: host_alone(),
+            words,
+        }
     }
 
     pub fn set(&mut self, p: Port, d: Dom)
         requires { p ≢ host }
         ensures { self.new ≡ put nat_cmp self.old p d }
     {
+        put_bit(&mut self.words, p, d);
         self.by_port[usize::from(p.number())] = Some(d);
     }
 
     /// `None` exactly where the port isn't declared.
     pub fn of(&self, p: Port) -> Option<Dom>
-        ensures { result ≡ domain_of self.now p }
+        ensures value { result ≡ domain_of self.now p }
+        ensures host { p ≡ host → result ≡ Some 0 }
     {
         self.by_port[usize::from(p.number())]
+    }
+
+    /// The ports of the domain: bit n of the word stands for port n.
+    pub fn ports_of(&self, d: Dom) -> u64
+        ensures { IsWordOf self.now d result }
+    {
+        self.words[usize::from(d.number())]
+    }
+}
+
+fn host_alone() -> [Option<Dom>; 64]
+    ensures domains { entries_from 0 result ≡ (host, 0) ∷ [] }
+    ensures host { get_or result 0 None ≡ Some 0 }
+{
+    let mut by_port = [None; 64];
+    by_port[0] = Some(Dom::SOFTWARE);
+    by_port
+}
+
+/// Sets the port's bit in the domain's word, and in no other one.
+fn put_bit(words: &mut [u64; 2], p: Port, d: Dom)
+    ensures { (domain port : ℕ) → domain < 2 → port < 64
+        → (bit_at (slice_index words.new domain) port == 1) ≡ (if port == p then d == domain else bit_at (slice_index words.old domain) port == 1) }
+{
+    clear_bit(words, p);
+    words[usize::from(d.number())] |= 1 << p.number();
+}
+
+fn clear_bit(words: &mut [u64; 2], p: Port)
+    ensures { (domain port : ℕ) → domain < 2 → port < 64
+        → (bit_at (slice_index words.new domain) port == 1) ≡ (if port == p then false else bit_at (slice_index words.old domain) port == 1) }
+{
+    for domain in 0..2 {
+        words[domain] &= !(1 << p.number());
     }
 }

@@ -29,7 +29,7 @@ pub enum FrameFault {
 }
 
 /// What a frame says to IGMP and MLD snooping.
-#[derive(Clone, Copy, Debug)]
+#[derive(Clone, Copy, PartialEq, Eq, Debug)]
 pub enum McastMsg {
     /// No IP multicast packet.
     Plain,
@@ -42,4 +42,13 @@ pub enum McastMsg {
     /// `count` records, from byte `first` of the frame on.
     Records { six: bool, first: usize, count: u16 },
     Unrecognized,
+}
+
+/// What one record of a report says of a group.
+#[derive(Clone, Copy, PartialEq, Eq, Debug)]
+pub enum Act {
+    Join(Group),
+    Part(Group),
+    /// It changes nothing.
+    Nothing,
 }

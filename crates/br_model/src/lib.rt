@@ -1,19 +1,26 @@
 //! The plain types of the bridge, and in `specs/` every definition that contracts cite.
 //!
-//! `plain` has a program beside the definitions, as plain as they are: its contracts are the definitions themselves.
+//! `plain` has a table as plain as the definitions, whose contracts are the definitions themselves.
 #![tactic(auto)]
 
+pub mod bpdu;
 pub mod bytes;
 pub mod change;
+pub mod cut_laws;
 pub mod domains;
 pub mod frame;
 pub mod group;
 pub mod laws;
-pub mod lines;
+pub mod message_laws;
+pub mod name;
 pub mod numbers;
 pub mod plain;
 pub mod scenario;
 pub mod steps;
+pub mod transcript;
+pub mod tree;
+pub mod tree_laws;
+pub mod written_laws;
 
 /// There was no memory. It is the one answer that may come at any call that allocates.
 pub type NoMemory = std::alloc::AllocError;

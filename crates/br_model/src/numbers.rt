@@ -157,6 +157,23 @@ impl Model for Mac {
 }
 
 impl Mac {
+    /// 01-80-C2-00-00-00, the bridge group address (IEEE 802.1D-1998 table 7-9), as a number.
+    pub const BRIDGE_GROUP_ADDRESS: u64 = 0x0180_C200_0000;
+
+    /// 01-80-C2-00-00-01, the address of PAUSE frames (IEEE 802.3 annex 31B), as a number.
+    pub const PAUSE_ADDRESS: u64 = 0x0180_C200_0001;
+
+    /// 01-80-C2-00-00-0F, the last reserved address (IEEE 802.1D-1998 table 7-9), as a number.
+    pub const LAST_RESERVED_ADDRESS: u64 = 0x0180_C200_000F;
+
+    /// FF-FF-FF-FF-FF-FF, as a number.
+    pub const BROADCAST_ADDRESS: u64 = 0xFFFF_FFFF_FFFF;
+
+    /// 02:00:00:00:00:01, the bridge's own address where a scenario names none.
+    pub const FIRST_OWN: Mac = Mac {
+        number: 0x0200_0000_0001,
+    };
+
     /// Of the bytes in the order of the wire.
     pub fn new(b: [u8; 6]) -> Mac
         ensures { result ≡ number b }
@@ -166,6 +183,18 @@ impl Mac {
             number = 256 * number + u64::from(byte);
         }
         Mac { number }
+    }
+
+    /// `None` exactly from 2^48 on.
+    pub fn from_number(number: u64) -> Option<Mac>
+        ensures found { IsSome result ↔ (number < 2 ^ 48) }
+        ensures value { IfSome result (λ m. m ≡ number) }
+    {
+        if number < 1 << 48 {
+            Some(Mac { number })
+        } else {
+            None
+        }
     }
 
     pub fn number(self) -> u64

@@ -1,6 +1,6 @@
 //! What the lines of a scenario are.
-use crate::bytes::Bytes;
-use crate::numbers::Port;
+use crate::name::Name;
+use crate::numbers::{Dom, Port};
 use crate::steps::Step;
 
 /// How far a scenario has come.
@@ -8,24 +8,65 @@ use crate::steps::Step;
 pub enum Place {
     /// Before its first line.
     Opening,
+    /// Directly after it.
+    Header,
     /// Among the declarations of ports.
     Declarations,
-    /// Behind the first step.
+    /// After the first step.
     Steps,
 }
 
-/// What a line is.
-#[derive(Drop, Debug)]
+/// Why a line is bad, by the first test that it fails, in this order: its length, its line feed, its words, its place, and
+/// then its operands from left to right. The text of a transcript has these words in lower case, `capture` with its offset, and
+/// never want of memory.
+#[derive(Clone, Copy, PartialEq, Eq, Debug)]
+pub enum LineWhy {
+    /// It has more than 20,000 bytes without a line feed, whether one follows or not.
+    Long,
+    /// The input ends in this line or before it, and it isn't `end`.
+    Unended,
+    /// The words are of no form.
+    Word,
+    /// The form doesn't stand in its place.
+    Place,
+    /// A number isn't decimal, or isn't in its range.
+    Number,
+    /// A name isn't of its form; a port isn't declared, or is declared already; or `host` stands where it may not.
+    Port,
+    /// An address isn't of its form, or isn't one station's: it is multicast or all zeros.
+    Address,
+    /// Digits of bytes aren't of their form.
+    Hex,
+    /// The bytes of a capture are broken at this offset.
+    Capture(u32),
+    /// There was no memory to read it. This is no cause of a bad line.
+    NoMemory,
+}
+
+/// What the words of a line say.
+#[derive(Drop)]
+pub enum Said {
+    /// Nothing: the line has no words, or is a comment.
+    Blank,
+    /// The first line.
+    Opens,
+    /// The declaration of a port.
+    Declares { port: Port, name: Name, dom: Dom },
+    Does(Step),
+    /// The last line.
+    Ends,
+}
+
+/// What a line is, once its declarations are kept.
+#[derive(Drop)]
 pub enum Item {
     /// Without words, or a comment.
     Blank,
     /// The first line.
-    Opens,
-    /// The declaration of a port, with its name.
-    Declares(Port, Bytes),
-    Does(Step),
+    Scenario,
+    /// The declaration of this port.
+    Declared(Port),
+    Step(Step),
     /// The last line.
-    Ends,
-    /// A bad line.
-    Wrong,
+    End,
 }

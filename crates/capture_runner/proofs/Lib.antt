@@ -1,7 +1,6 @@
-pub mod Addresses
-pub mod Follow
-pub mod HexWords
-pub mod OtherForms
-pub mod Playing
-pub mod Rosters
-pub mod Sending
+pub mod Following
+pub mod Growing
+pub mod Outcomes
+pub mod SentFrames
+pub mod Steps
+pub mod Telling

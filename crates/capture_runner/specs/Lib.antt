@@ -1,4 +1,8 @@
-pub mod Among
+pub mod Advancing
+pub mod Answers
+pub mod Halting
 pub mod Kept
-pub mod Session
 pub mod Outcome
+pub mod Playing
+pub mod Sent
+pub mod Session

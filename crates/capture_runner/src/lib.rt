@@ -1,18 +1,15 @@
-//! Scenarios are read line by line, run against the bridge, and told as transcripts.
+//! A scenario is read line by line, run against the bridge, and told as a transcript.
 #![tactic(auto)]
 
-mod digits;
-mod reading;
+mod bridge;
+mod commands;
+mod frame;
+mod published;
 mod replay;
-mod roster;
-#[cfg(test)]
-mod runs;
+mod runner;
+mod sending;
 mod session;
-#[cfg(test)]
-mod tests;
-mod text;
-mod words;
 mod world;
 
 pub use br_model::NoMemory;
-pub use replay::{Status, run};
+pub use runner::{Status, end_without_memory, run};

@@ -1,169 +1,142 @@
 //! A run of a scenario, line by line.
-ghost use Rattle.std.specs.Prelude.{◌≡◌, ℕ, ◌+◌, ◌-◌, ◌<◌, ◌≤◌, ◌^◌, List, [], None, IfOk, OnOk, OnErr, IsErrOf};
-ghost use Rattle.std.specs.Io.KnownBytes.{Appends};
-ghost use Rattle.run_io.specs.Causes.{Rose};
-ghost use Rattle.br_model.specs.Transcript.{text as text_of};
-ghost use Rattle.br_model.specs.World.{empty_world};
-ghost use Rattle.capture_runner.specs.declared.session.Stop.TheVariants.{NoMemory as no_memory, WriteFault as write_fault};
+ghost use Rattle.std.specs.Prelude.{◌≡◌, ℕ, ◌+◌, ◌-◌, ◌<◌, ◌≤◌, ◌^◌, ◌++◌, length, false, IfOk, OnOk, OnErr, string_bytes};
+ghost use Rattle.br_model.specs.Scenario.{Scenario, opened, longest_line, closes};
+ghost use Rattle.capture_runner.specs.Session.{Follows, Takes, Does, ending_of, end_line_of, last_line};
+ghost use Rattle.transcript_text.specs.Extends.{Extends};
 
 use crate::NoMemory;
-use crate::roster::Roster;
-use crate::text::write_line;
 use crate::world::{Stepped, World};
-use br_model::lines::Line;
-use br_model::scenario::{Item, Place};
+use br_model::numbers::Mac;
+use br_model::scenario::{Item, LineWhy, Place};
 use br_model::steps::Step;
-use run_io::sinks::{Sink, WriteFault, put};
+use br_model::transcript::Line;
+use bridge_command::Roster;
+use scenario_text::{read_line, says_end};
 use std::alloc::{AllocError, Global};
+use transcript_text::{Writer, append_bad};
 
-/// How a scenario ends: by its line `end`, or by the bad line of that number.
-#[derive(Clone, Copy, Debug, PartialEq, Eq)]
-pub enum Last {
+/// How a scenario ends: by its line `end`, or by the bad line of that number, for that cause.
+#[derive(Clone, Copy, PartialEq, Eq)]
+pub(crate) enum Last {
     Ended,
-    Bad(u32),
+    Bad(u32, LineWhy),
 }
 
-/// Why a run stopped before its scenario ended.
-#[derive(Clone, Copy, Debug, PartialEq, Eq)]
-pub enum Stop {
-    ReadFault,
-    WriteFault,
-    NoMemory,
-    TooLong,
-}
-
-impl From<AllocError> for Stop {
-    ghost from_gives = { λ _ e. e ≡ no_memory };
-
-    fn from(_: AllocError) -> Stop {
-        Stop::NoMemory
-    }
-}
-
-impl From<WriteFault> for Stop {
-    ghost from_gives = { λ _ e. e ≡ write_fault };
-
-    fn from(_: WriteFault) -> Stop {
-        Stop::WriteFault
-    }
-}
-
-/// Writes the lines, one after another.
-pub(crate) fn write_lines<K: Sink>(alloc: Global, sink: &mut K, lines: &[Line]) -> Result<(), Stop>
-    ensures written { OnOk result (Appends (K.taken sink.old) (K.taken sink.new) (text_of lines.now)) }
-    ensures later { K.faults sink.old ≤ K.faults sink.new }
-    ensures write { IsErrOf result Stop.WriteFault → Rose (K.faults sink.old) (K.faults sink.new) }
-    ensures read { IsErrOf result Stop.ReadFault → ⊥ }
-    ensures too_long { IsErrOf result Stop.TooLong → ⊥ }
-{
-    let mut text = String::new(alloc);
-    for line in lines {
-        write_line(line, &mut text)?;
-    }
-    put(sink, text.as_bytes())?;
-    Ok(())
-}
-
-/// Where the next line stands, what was declared before it, and the world there.
+/// What the lines so far have said, how many they are, and the world after their steps, which is made at the first one.
 #[derive(Drop)]
 pub(crate) struct Session {
-    pub(crate) number: u32,
-    pub(crate) place: Place,
-    pub(crate) roster: Roster,
-    pub(crate) world: World,
+    lines: u32,
+    roster: Roster,
+    world: Option<World>,
+    writer: Writer,
 }
 
 impl Session {
-    ghost use Rattle.capture_runner.specs.Session.{after, last_after, lines_after};
-
     pub(crate) fn new(alloc: Global) -> Result<Session, NoMemory>
-        ensures number { IfOk result (λ x. x.number ≡ 1) }
-        ensures place { IfOk result (λ x. x.place ≡ Place.Opening) }
-        ensures roster { IfOk result (λ x. x.roster ≡ []) }
-        ensures world { IfOk result (λ x. x.world ≡ empty_world) }
+        ensures follows { IfOk result (Follows (opened false)) }
+        ensures lines { IfOk result (λ x. x.lines ≡ 0) }
     {
         Ok(Session {
-            number: 1,
-            place: Place::Opening,
-            roster: Roster::new(alloc),
-            world: World::empty(alloc)?,
+            lines: 0,
+            roster: Roster::make(alloc, false)?,
+            world: None,
+            writer: Writer::new(alloc),
         })
     }
 
-    /// The session after a whole line, whose lines it writes, and how the scenario ends with it, if so.
-    pub(crate) fn take<K: Sink>(
-        self,
+    /// Reads a whole line, without its line feed, does its step, and writes the step's lines after the text. The answer is
+    /// how the scenario ends with it, if so. After want of memory the session isn't used again.
+    pub(crate) fn take(
+        &mut self,
         alloc: Global,
-        item: Item,
-        sink: &mut K,
-    ) -> Result<Taken, Stop>
-        requires few { self.world.steps < self.number }
-        requires number { self.number < 2 ^ 28 }
-        ensures session { IfOk result (λ t. t.session ≡ after self item) }
-        ensures last { IfOk result (λ t. t.last ≡ last_after self item) }
-        ensures written { OnOk result (Appends (K.taken sink.old) (K.taken sink.new) (text_of (lines_after self item))) }
-        ensures few { IfOk result (λ t. t.session.world.steps < t.session.number) }
-        ensures later { K.faults sink.old ≤ K.faults sink.new }
-        ensures write { IsErrOf result Stop.WriteFault → Rose (K.faults sink.old) (K.faults sink.new) }
-        ensures read { IsErrOf result Stop.ReadFault → ⊥ }
-        ensures too_long { IsErrOf result Stop.TooLong → ⊥ }
+        line: &[u8],
+        text: &mut String,
+    ) -> Result<Option<Last>, NoMemory>
+        requires short { length line.now ≤ longest_line }
+        requires few { self.old.lines < 2 ^ 32 - 1 }
+        ensures takes { IfOk result (Takes self.old line.now (string_bytes text.old) self.new (string_bytes text.new)) }
+        ensures lines { OnOk result (self.new.lines ≤ self.old.lines + 1) }
+        ensures err { OnErr result (Extends (string_bytes text.old) (string_bytes text.new)) }
     {
-        let mut session = self;
-        let mut last = None;
-        match item {
-            Item::Blank => session.number += 1,
-            Item::Opens => {
-                session.number += 1;
-                session.place = Place::Declarations;
-            }
-            Item::Declares(port, name) => {
-                session.roster.declare(port, name)?;
-                session.number += 1;
-            }
-            Item::Does(step) => return session.done(alloc, step, sink),
-            Item::Ends => last = Some(Last::Ended),
-            Item::Wrong => last = Some(Last::Bad(session.number)),
-        }
-        Ok(Taken { session, last })
-    }
-
-    /// The session after a step, whose lines it writes.
-    fn done<K: Sink>(self, alloc: Global, step: Step, sink: &mut K) -> Result<Taken, Stop>
-        requires few { self.world.steps < self.number }
-        requires number { self.number < 2 ^ 28 }
-        ensures session { IfOk result (λ t. t.session ≡ after self (Item.Does step)) }
-        ensures last { IfOk result (λ t. t.last ≡ None) }
-        ensures written { OnOk result (Appends (K.taken sink.old) (K.taken sink.new) (text_of (lines_after self (Item.Does step)))) }
-        ensures few { IfOk result (λ t. t.session.world.steps < t.session.number) }
-        ensures later { K.faults sink.old ≤ K.faults sink.new }
-        ensures write { IsErrOf result Stop.WriteFault → Rose (K.faults sink.old) (K.faults sink.new) }
-        ensures read { IsErrOf result Stop.ReadFault → ⊥ }
-        ensures too_long { IsErrOf result Stop.TooLong → ⊥ }
-    {
-        let Session {
-            number,
-            roster,
-            world,
-            ..
-        } = self;
-        let Stepped { world, lines } = world.step(alloc, step)?;
-        write_lines(alloc, sink, lines.as_slice())?;
-        let session = Session {
-            number: number + 1,
-            place: Place::Steps,
-            roster,
-            world,
+        let item = match read_line(alloc, line, &mut self.roster) {
+            Ok(item) => item,
+            Err(LineWhy::NoMemory) => return Err(AllocError),
+            Err(why) => return Ok(Some(Last::Bad(self.lines + 1, why))),
         };
-        Ok(Taken {
-            session,
-            last: None,
-        })
+        self.lines += 1;
+        match item {
+            Item::Blank => Ok(None),
+            Item::Scenario => Ok(None),
+            Item::Declared(_) => Ok(None),
+            Item::Step(step) => {
+                self.step(alloc, step, text)?;
+                Ok(None)
+            }
+            Item::End => Ok(Some(Last::Ended)),
+        }
     }
-}
 
-/// A session after a line, and how the scenario ends with that line, if so.
-#[derive(Drop)]
-pub(crate) struct Taken {
-    pub(crate) session: Session,
-    pub(crate) last: Option<Last>,
+    /// Does a step, in the world that is there or in a new one.
+    fn step(&mut self, alloc: Global, step: Step, text: &mut String) -> Result<(), NoMemory>
+        ensures does { OnOk result (Does self.old step (string_bytes text.old) self.new (string_bytes text.new)) }
+        ensures err { OnErr result (Extends (string_bytes text.old) (string_bytes text.new)) }
+    {
+        let world = match self.world.take() {
+            Some(world) => world,
+            None => World::make(alloc, self.roster.domains(), Mac::FIRST_OWN)?,
+        };
+        let Stepped { world, lines } = world.step(alloc, step)?;
+        self.world = Some(world);
+        self.writer.append_lines(lines.as_slice(), text)
+    }
+
+    /// How the scenario ends where its bytes end in this line.
+    pub(crate) fn close(&self, rest: &[u8]) -> Last
+        requires few { self.now.lines < 2 ^ 32 - 1 }
+        ensures { (s : Scenario) → Follows s self.now → (closes s rest.now).ending ≡ ending_of result }
+    {
+        if !says_end(rest) {
+            return self.bad(LineWhy::Unended);
+        }
+        match self.roster.stands(Place::Steps) {
+            Ok(()) => Last::Ended,
+            Err(_) => self.bad(LineWhy::Place),
+        }
+    }
+
+    /// The next line is bad.
+    pub(crate) fn bad(&self, why: LineWhy) -> Last
+        requires few { self.now.lines < 2 ^ 32 - 1 }
+        ensures { result ≡ Last.Bad (self.now.lines + 1) why }
+    {
+        Last::Bad(self.lines + 1, why)
+    }
+
+    fn end_line(&self) -> Line
+        ensures { result ≡ end_line_of self.now.world }
+    {
+        match &self.world {
+            Some(world) => world.end_line(),
+            None => Line::End {
+                steps: 0,
+                changes: 0,
+                pending: 0,
+                waiting: 0,
+            },
+        }
+    }
+
+    /// Writes the last line after the text.
+    pub(crate) fn end(&mut self, last: Last, text: &mut String) -> Result<(), NoMemory>
+        ensures ok { OnOk result (string_bytes text.new ≡ string_bytes text.old ++ last_line last self.old.world) }
+        ensures err { OnErr result (Extends (string_bytes text.old) (string_bytes text.new)) }
+    {
+        match last {
+            Last::Ended => {
+                let line = self.end_line();
+                self.writer.append(&line, text)
+            }
+            Last::Bad(number, why) => append_bad(number, why, text),
+        }
+    }
 }

@@ -1,304 +1,229 @@
 //! The world of a run, over tables that are kept beside the history.
-ghost use Rattle.std.specs.Prelude.{◌≡◌, ◌+◌, ◌≤◌, ◌<◌, ◌^◌, ◌++◌, [], ◌∷◌, take, length, map, IfOk, OnOk};
-ghost use Rattle.br_model.specs.Change.{deferred};
+ghost use Rattle.std.specs.Prelude.{◌≡◌, ◌+◌, [], ◌∷◌, IfOk};
+ghost use Rattle.br_model.specs.Entering.{enters};
 ghost use Rattle.br_model.specs.Runs.{end_line};
-ghost use Rattle.br_model.specs.Table.{table as table_of};
-ghost use Rattle.std.specs.List.{filter};
-ghost use Rattle.br_model.specs.World.{empty_world, world_step, refused, received, accepted, served};
-ghost use Rattle.br_model.specs.Frames.{frame as frame_of};
-ghost use Rattle.capture_runner.specs.Kept.{line_at, sent_by};
-ghost use Rattle.br_model.specs.declared.steps.Step.TheVariants as steps;
+ghost use Rattle.br_model.specs.Serving.{posts, serves};
+ghost use Rattle.br_model.specs.Steps.{world_step, publishes};
+ghost use Rattle.br_model.specs.World.{first_world, done, answered, reacts, after_lines};
+ghost use Rattle.capture_runner.specs.Answers.{line_of};
 
 use crate::NoMemory;
+use crate::bridge::{Bridge, Reacted};
+use crate::frame::Frame;
+use crate::published::Published;
+use crate::sending::send;
 use br_model::bytes::Bytes;
-use br_model::change::Change;
-use br_model::frame::{Head, McastMsg};
-use br_model::lines::{Line, Lines};
-use br_model::numbers::{Port, Vid};
-use br_model::plain::table::Table;
-use br_model::plain::world::command;
-use br_model::steps::{Command, Refusal, Step, Waiting};
-use ether_frames::{dress, parse};
-use std::alloc::Global;
+use br_model::domains::Domains;
+use br_model::numbers::{Mac, Port};
+use br_model::steps::{Event, Refusal, Step, Waiting};
+use br_model::transcript::{Line, Lines};
+use ether_frames::parse;
+use std::alloc::{AllocError, Global};
 use std::collections::VecDeque;
 use std::marker::Model;
 
-/// The accepted changes, the frames that wait and what is counted; and two tables, that of all changes and that of
-/// the published ones.
+/// The control plane, what is published of it, the frames that wait, and what is counted.
 #[derive(Drop)]
 pub(crate) struct World {
-    history: Vec<Change>,
-    table: Table,
-    published: u32,
-    published_table: Table,
-    pending: u32,
-    waiting: VecDeque<Waiting>,
+    bridge: Bridge,
+    published: Published,
+    waiting: VecDeque<Frame>,
     next: u32,
     steps: u32,
 }
 
 impl Model for World {
-    ghost use Rattle.std.specs.Prelude.{length};
+    ghost use Rattle.std.specs.Prelude.{◌≡◌, ◌<◌, ◌≤◌, ◌^◌, length, take};
+    ghost use Rattle.br_model.specs.Table.{table as table_of};
     ghost use Rattle.br_model.specs.World.{World as WorldOf};
-    ghost use Rattle.capture_runner.specs.Kept.{Kept};
 
     ghost Value = { WorldOf };
 
-    ghost view = { λ w. record { history = w.history.items; published = w.published; waiting = w.waiting.items; next = w.next; steps = w.steps } };
+    ghost view = { λ w. record {
+      setup = w.bridge.setup;
+      history = w.bridge.history;
+      control = w.bridge.control;
+      published = w.published.count;
+      waiting = w.waiting.items;
+      next = w.next;
+      steps = w.steps;
+    } };
 
-    ghost invariant = { λ w. Kept w.history.items w.table w.published_table w.published w.pending (length w.waiting.items) w.next w.steps };
+    ghost invariant = { λ w. (w.published.count ≤ length w.bridge.history) × (w.published.table ≡ table_of (take w.published.count w.bridge.history)) × (length w.waiting.items < w.next) × (w.next < 2 ^ 32) };
 }
 
-/// The next world, and the lines of the step to it.
+/// A world after a step, and the step's lines.
 #[derive(Drop)]
 pub(crate) struct Stepped {
     pub(crate) world: World,
     pub(crate) lines: Lines,
 }
 
-/// Adds these changes to the history and to its table, and counts the deferred ones.
-fn append(
-    history: &mut Vec<Change>,
-    table: &mut Table,
-    pending: &mut u32,
-    changes: &[Change],
-) -> Result<(), NoMemory>
-    requires table { table.old ≡ table_of history.old.items }
-    requires counted { pending.old ≡ length (filter deferred history.old.items) }
-    requires room { length history.old.items + length changes.now < 2 ^ 32 }
-    ensures history { OnOk result (history.new.items ≡ history.old.items ++ changes.now) }
-    ensures table { OnOk result (table.new ≡ table_of history.new.items) }
-    ensures counted { OnOk result (pending.new ≡ length (filter deferred history.new.items)) }
+/// The next number, where its type has one.
+fn next(number: u32) -> Result<u32, NoMemory>
+    ensures { IfOk result (λ n. n ≡ number + 1) }
 {
-    for change in changes {
-        table.apply(change)?;
-        history.push(*change)?;
-        if change.is_deferred() {
-            *pending += 1;
-        }
-    }
-    Ok(())
+    number.checked_add(1).ok_or(AllocError)
 }
 
-/// Brings the published table up to the whole history.
-fn publish(table: &mut Table, published: usize, history: &[Change]) -> Result<(), NoMemory>
-    requires table { table.old ≡ table_of (take published history.now) }
-    requires within { published ≤ length history.now }
-    ensures { OnOk result (table.new ≡ table_of history.now) }
+/// The last line of an event.
+fn last_line(step: u32, answer: Result<u32, Refusal>) -> Line
+    ensures { result ≡ line_of step answer }
 {
-    for i in published..history.len() {
-        table.apply(&history[i])?;
+    match answer {
+        Ok(changes) => Line::Done { step, changes },
+        Err(refusal) => Line::Refused { step, refusal },
     }
-    Ok(())
-}
-
-/// Adds a line for each of these ports, which take the frame.
-fn send_to(
-    alloc: Global,
-    table: &Table,
-    frame: &Waiting,
-    head: &Head,
-    vid: Vid,
-    takers: &[Port],
-    lines: &mut Lines,
-) -> Result<(), NoMemory>
-    requires { frame_of frame.now.bytes ≡ Ok head.now }
-    ensures { OnOk result (lines.new ≡ lines.old ++ map (line_at table.now frame.now head.now vid) takers.now) }
-{
-    for taker in takers {
-        let tag = table.tag_at(*taker, vid);
-        let bytes = dress(alloc, frame.bytes.as_slice(), head, tag)?;
-        lines.push(Line::Tx {
-            id: frame.id,
-            port: *taker,
-            bytes,
-        })?;
-    }
-    Ok(())
-}
-
-/// Adds the lines of a frame that is sent by this table.
-fn send(alloc: Global, table: &Table, frame: &Waiting, lines: &mut Lines) -> Result<(), NoMemory>
-    ensures { OnOk result (lines.new ≡ lines.old ++ sent_by table.now frame.now) }
-{
-    let Ok(head) = parse(frame.bytes.as_slice()) else {
-        return Ok(());
-    };
-    if table.is_for_tree(frame.port, &head) {
-        return Ok(());
-    }
-    let Some(vid) = table.admit(frame.port, &head) else {
-        return Ok(());
-    };
-    let takers = table.takers(alloc, frame.port, vid, &head, &McastMsg::Plain)?;
-    send_to(alloc, table, frame, &head, vid, &takers, lines)
 }
 
 impl World {
-    pub(crate) fn empty(alloc: Global) -> Result<World, NoMemory>
-        ensures { IfOk result (λ w. w ≡ empty_world) }
+    pub(crate) fn make(alloc: Global, domains: Domains, own: Mac) -> Result<World, NoMemory>
+        ensures { IfOk result (λ w. w ≡ first_world (record { domains = domains; own = own })) }
     {
         Ok(World {
-            history: Vec::new(alloc),
-            table: Table::start(alloc)?,
-            published: 0,
-            published_table: Table::start(alloc)?,
-            pending: 0,
+            bridge: Bridge::make(alloc, domains, own)?,
+            published: Published::make(alloc)?,
             waiting: VecDeque::new(alloc),
             next: 1,
             steps: 0,
         })
     }
 
-    fn refused(self, alloc: Global, refusal: Refusal) -> Result<Stepped, NoMemory>
-        requires { self.steps < 2 ^ 28 }
-        ensures { IfOk result (λ s. (s.world, s.lines) ≡ refused self refusal) }
+    /// The world with one line more.
+    fn telling(self, alloc: Global, line: Line) -> Result<Stepped, NoMemory>
+        ensures { IfOk result (λ s. (s.world ≡ self) × (s.lines ≡ line ∷ [])) }
     {
-        let mut world = self;
         let mut lines = Lines::new(alloc);
-        let step = world.steps + 1;
-        lines.push(Line::Refused { step, refusal })?;
-        world.steps = step;
-        Ok(Stepped { world, lines })
+        lines.push(line)?;
+        Ok(Stepped { world: self, lines })
     }
 
-    fn received(self, alloc: Global, port: Port, bytes: Bytes) -> Result<Stepped, NoMemory>
-        requires { self.steps < 2 ^ 28 }
-        ensures { IfOk result (λ s. (s.world, s.lines) ≡ received self port bytes (frame_of bytes)) }
+    /// A frame enters at a port, and waits.
+    fn enter(self, alloc: Global, port: Port, bytes: Bytes) -> Result<Stepped, NoMemory>
+        ensures { IfOk result (λ s. (s.world, s.lines) ≡ enters self port bytes) }
     {
         let mut world = self;
-        let mut lines = Lines::new(alloc);
         let id = world.next;
+        world.next = next(id)?;
         match parse(bytes.as_slice()) {
-            Err(why) => lines.push(Line::Unread { id, why })?,
-            Ok(_) => world.waiting.push_back(Waiting { id, port, bytes })?,
+            Err(why) => world.telling(alloc, Line::Unread { id, why }),
+            Ok(head) => {
+                let frame = Frame::of(Waiting {
+                    id,
+                    port,
+                    bytes,
+                    head,
+                });
+                world.waiting.push_back(frame)?;
+                let lines = Lines::new(alloc);
+                Ok(Stepped { world, lines })
+            }
         }
-        world.next += 1;
-        world.steps += 1;
-        Ok(Stepped { world, lines })
     }
 
-    fn accepted(self, alloc: Global, changes: &[Change]) -> Result<Stepped, NoMemory>
-        requires steps { self.steps < 2 ^ 28 }
-        requires few { length changes.now ≤ 3 }
-        ensures { IfOk result (λ s. (s.world, s.lines) ≡ accepted self (Ok changes.now)) }
+    /// An event that was counted is refused, or its changes are accepted; its last line goes after these lines.
+    fn answer(self, alloc: Global, event: &Event, lines: Lines) -> Result<Stepped, NoMemory>
+        ensures { IfOk result (λ s. (s.world, s.lines) ≡ after_lines lines (answered self (reacts self event.now))) }
     {
         let World {
-            mut history,
-            mut table,
+            bridge,
             published,
-            published_table,
-            mut pending,
             waiting,
             next,
             steps,
         } = self;
-        append(&mut history, &mut table, &mut pending, changes)?;
-        let mut lines = Lines::new(alloc);
-        lines.push(Line::Done {
-            step: steps + 1,
-            changes: changes.len() as u32,
-        })?;
+        let Reacted { bridge, answer } = bridge.react(alloc, event)?;
+        let mut lines = lines;
+        lines.push(last_line(steps, answer))?;
         let world = World {
-            history,
-            table,
+            bridge,
             published,
-            published_table,
-            pending,
             waiting,
             next,
-            steps: steps + 1,
+            steps,
         };
         Ok(Stepped { world, lines })
     }
 
-    fn commanded(self, alloc: Global, asked: &Command) -> Result<Stepped, NoMemory>
-        requires { self.steps < 2 ^ 28 }
-        ensures { IfOk result (λ s. (s.world, s.lines) ≡ world_step self (steps.Cmd asked.now)) }
+    /// The frame is decided by the published tables and sent, and then it is reacted to.
+    fn post(self, alloc: Global, frame: Frame) -> Result<Stepped, NoMemory>
+        ensures { IfOk result (λ s. (s.world, s.lines) ≡ posts self frame self.published) }
     {
-        match command(alloc, &self.table, asked)? {
-            Err(refusal) => self.refused(alloc, refusal),
-            Ok(changes) => self.accepted(alloc, changes.as_slice()),
-        }
-    }
-
-    fn served(self, alloc: Global) -> Result<Stepped, NoMemory>
-        requires { self.steps < 2 ^ 28 }
-        ensures { IfOk result (λ s. (s.world, s.lines) ≡ world_step self steps.Serve) }
-    {
-        let mut world = self;
-        let Some(frame) = world.waiting.pop_front() else {
-            return world.refused(alloc, Refusal::NothingWaiting);
-        };
         let mut lines = Lines::new(alloc);
         lines.push(Line::Soft {
-            id: frame.id,
-            point: world.published,
+            id: frame.id(),
+            point: self.published.count,
         })?;
-        send(alloc, &world.published_table, &frame, &mut lines)?;
-        world.steps += 1;
-        lines.push(Line::Done {
-            step: world.steps,
-            changes: 0,
-        })?;
-        Ok(Stepped { world, lines })
+        send(alloc, &self.published.table, &frame, &mut lines)?;
+        let Waiting { port, bytes, .. } = frame.into_waiting();
+        self.answer(alloc, &Event::Sight { port, bytes }, lines)
     }
 
-    fn published(self, alloc: Global) -> Result<Stepped, NoMemory>
-        requires { self.steps < 2 ^ 28 }
-        ensures { IfOk result (λ s. (s.world, s.lines) ≡ world_step self steps.Publish) }
+    /// The oldest frame is posted.
+    fn serve(self, alloc: Global) -> Result<Stepped, NoMemory>
+        ensures { IfOk result (λ s. (s.world, s.lines) ≡ serves self self.waiting) }
+    {
+        let mut world = self;
+        match world.waiting.pop_front() {
+            Some(frame) => world.post(alloc, frame),
+            None => {
+                let step = world.steps;
+                let refusal = Refusal::NothingWaiting;
+                world.telling(alloc, Line::Refused { step, refusal })
+            }
+        }
+    }
+
+    /// The published tables become those of the whole history.
+    fn publish(self, alloc: Global) -> Result<Stepped, NoMemory>
+        ensures { IfOk result (λ s. (s.world, s.lines) ≡ done (publishes self)) }
     {
         let World {
-            history,
-            table,
+            bridge,
             published,
-            mut published_table,
-            pending,
             waiting,
             next,
             steps,
         } = self;
-        publish(&mut published_table, published as usize, &history)?;
-        let mut lines = Lines::new(alloc);
-        lines.push(Line::Done {
-            step: steps + 1,
-            changes: 0,
-        })?;
+        let published = published.brought_up(bridge.history())?;
         let world = World {
-            published: history.len() as u32,
-            history,
-            table,
-            published_table,
-            pending,
+            bridge,
+            published,
             waiting,
             next,
-            steps: steps + 1,
+            steps,
         };
-        Ok(Stepped { world, lines })
+        world.telling(
+            alloc,
+            Line::Done {
+                step: steps,
+                changes: 0,
+            },
+        )
     }
 
-    /// The next world and the lines of the step to it.
+    /// The world after a step, and the step's lines.
     pub(crate) fn step(self, alloc: Global, step: Step) -> Result<Stepped, NoMemory>
-        requires { self.steps < 2 ^ 28 }
         ensures { IfOk result (λ s. (s.world, s.lines) ≡ world_step self step) }
     {
+        let mut world = self;
+        world.steps = next(world.steps)?;
         match step {
-            Step::Rx { port, bytes } => self.received(alloc, port, bytes),
-            Step::Cmd(asked) => self.commanded(alloc, &asked),
-            Step::Serve => self.served(alloc),
-            Step::Publish => self.published(alloc),
+            Step::Rx { port, bytes } => world.enter(alloc, port, bytes),
+            Step::Cmd(command) => world.answer(alloc, &Event::Cmd(command), Lines::new(alloc)),
+            Step::Serve => world.serve(alloc),
+            Step::Publish => world.publish(alloc),
         }
     }
 
     /// The last line of a run that ends here.
     pub(crate) fn end_line(&self) -> Line
-        requires { self.now.steps < 2 ^ 28 }
         ensures { result ≡ end_line self.now }
     {
         Line::End {
             steps: self.steps,
-            changes: self.history.len() as u32,
-            pending: self.pending,
+            changes: self.bridge.history().len() as u32,
+            pending: self.bridge.pending(),
             waiting: self.waiting.len() as u32,
         }
     }

@@ -12,10 +12,10 @@ use byteorder::{BigEndian, ByteOrder};
 use std::alloc::Global;
 
 /// Where the type field begins, or a tag in its place.
-const TYPE_AT: usize = 12;
+pub(crate) const TYPE_AT: usize = 12;
 
 /// The bytes of a header without a tag.
-const PLAIN_HEADER: usize = 14;
+pub(crate) const PLAIN_HEADER: usize = 14;
 
 /// The bytes of a header with a tag.
 const TAGGED_HEADER: usize = 18;
@@ -66,7 +66,7 @@ pub fn parse(b: &[u8]) -> Result<Head, FrameFault>
 }
 
 // The address in the first six bytes.
-fn address(b: &[u8]) -> Mac
+pub(crate) fn address(b: &[u8]) -> Mac
     requires { 6 ≤ length b.now }
     ensures { result ≡ number (take 6 b.now) }
 {

@@ -5,7 +5,9 @@
 //! 9.6). A second tag is payload.
 #![tactic(auto)]
 
+mod bpdus;
 mod frames;
 
+pub use crate::bpdus::{bpdu_read, bpdu_write};
 pub use crate::frames::{dress, parse};
 pub use br_model::NoMemory;

@@ -7,7 +7,7 @@ use Rattle.br_model.specs.declared.change.Kind.{Kind}
 use Rattle.br_model.specs.Maps.{pair_cmp, get, put, without}
 use Rattle.fdb_core.specs.declared.entries.Entry.{Entry}
 use Rattle.fdb_core.specs.Fdb.{addresses}
-use Rattle.fdb_core.proofs.SameKey.{Key}
+use Rattle.fdb_core.proofs.ByAddress.{Key}
 
 pub get-addresses : (es : List (Key × Entry)) (k : Key) → get pair_cmp (addresses es) k ≡ option_map (λ x. (x.port, x.kind)) (get pair_cmp es k)
 get-addresses [] k = refl

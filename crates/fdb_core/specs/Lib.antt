@@ -1,3 +1,2 @@
 pub mod Fdb
-pub mod Places
-pub mod Slots
+pub mod Packing

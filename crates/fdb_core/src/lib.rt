@@ -1,13 +1,11 @@
 //! The forwarding database: a finite map from a VLAN and an address to a port, a kind and a moment.
 //!
-//! It takes its memory at its making, so that no entry is lost later for want of memory. `plain` has a program beside it,
-//! as plain as the definition, with the same contracts.
+//! It takes its memory at its making, so that no entry is lost later for want of memory.
 #![tactic(auto)]
 
 pub mod entries;
 pub mod key_list;
-pub mod plain;
-mod slots;
+mod packing;
 pub mod table;
 
 pub use entries::{Entry, Key};

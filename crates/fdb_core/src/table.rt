@@ -6,30 +6,62 @@ ghost use Rattle.fdb_core.specs.Fdb.{keys_where, is_at_port, is_expired};
 use crate::NoMemory;
 use crate::entries::Entry;
 use crate::key_list::Keys;
-use crate::slots::{self, Slot};
+use crate::packing::{pack, unpack_all};
+use br_model::change::Kind;
 use br_model::numbers::{Mac, Port, Vid};
-use std::alloc::{AllocError, Global};
+use open_addressing::map::{Map, Test};
+use std::alloc::Global;
 use std::marker::Model;
 
-/// The entries by VLAN and address, in slots with open addressing.
+/// The entries by VLAN and address, in cells with open addressing.
 #[derive(Drop, Debug)]
 pub struct Fdb {
-    slots: Vec<Slot>,
-    homes: usize,
-    used: usize,
-    room: usize,
+    entries: Map<Entry>,
 }
 
 impl Model for Fdb {
     ghost use Rattle.fdb_core.specs.Fdb.{Table};
+    ghost use Rattle.fdb_core.specs.Packing.{by_address, AreKeys};
 
     ghost Value = { Table };
 
-    ghost use Rattle.fdb_core.specs.Slots.{entries_of, IsSound};
+    ghost view = { λ f. record { entries = by_address f.entries.entries; room = f.entries.room } };
 
-    ghost view = { λ f. record { entries = entries_of f.slots.items; room = f.room } };
+    ghost invariant = { λ f. AreKeys f.entries.entries };
+}
 
-    ghost invariant = { λ f. IsSound f.homes f.used f.room f.slots.items };
+/// What stands in cells before they are used.
+const BLANK: Entry = Entry {
+    port: Port::HOST,
+    kind: Kind::Local,
+    updated: 0,
+};
+
+#[derive(Drop)]
+struct AtPort {
+    port: Port,
+}
+
+impl Test<Entry> for AtPort {
+    ghost passes = { λ t. is_at_port t.port };
+
+    fn passes(&self, entry: &Entry) -> bool {
+        entry.is_at(self.port)
+    }
+}
+
+#[derive(Drop)]
+struct Expired {
+    now: u64,
+    hold: u64,
+}
+
+impl Test<Entry> for Expired {
+    ghost passes = { λ t. is_expired t.now t.hold };
+
+    fn passes(&self, entry: &Entry) -> bool {
+        entry.has_expired(self.now, self.hold)
+    }
 }
 
 impl Fdb {
@@ -37,15 +69,8 @@ impl Fdb {
     pub fn make(alloc: Global, cap: usize) -> Result<Fdb, NoMemory>
         ensures { IfOk result (λ f. f ≡ record { entries = []; room = cap }) }
     {
-        let homes = cap.saturating_mul(2).min(u32::MAX as usize);
-        let count = homes.checked_add(cap).ok_or(AllocError)?;
-        let slots = slots::make(alloc, count)?;
-        Ok(Fdb {
-            slots,
-            homes,
-            used: 0,
-            room: cap,
-        })
+        let entries = Map::make(alloc, cap, BLANK)?;
+        Ok(Fdb { entries })
     }
 
     pub fn len(&self) -> usize
@@ -53,26 +78,26 @@ impl Fdb {
         ensures within { result ≤ self.now.room }
         ensures ascending { IsTrue (is_ascending pair_cmp self.now.entries) }
     {
-        self.used
+        self.entries.len()
     }
 
     pub fn is_empty(&self) -> bool
         ensures { IsTrue result ↔ (length self.now.entries ≡ 0) }
     {
-        self.used == 0
+        self.len() == 0
     }
 
     /// Whether there is no room for an entry at a new address.
     pub fn is_full(&self) -> bool
         ensures { IsTrue result ↔ (self.now.room ≤ length self.now.entries) }
     {
-        self.used >= self.room
+        self.entries.is_full()
     }
 
     pub fn find(&self, vid: Vid, mac: Mac) -> Option<Entry>
         ensures { result ≡ get pair_cmp self.now.entries (vid, mac) }
     {
-        slots::find(&self.slots, self.homes, vid, mac)
+        self.entries.get(pack(vid, mac))
     }
 
     /// Puts an entry at the address, in place of the one that is there.
@@ -80,9 +105,7 @@ impl Fdb {
         requires { get pair_cmp self.old.entries (vid, mac) ≡ None → length self.old.entries < self.old.room }
         ensures { self.new ≡ record self.old { entries = put pair_cmp self.old.entries (vid, mac) entry } }
     {
-        if slots::put(&mut self.slots, self.homes, vid, mac, entry) {
-            self.used += 1;
-        }
+        self.entries.insert(pack(vid, mac), entry);
     }
 
     /// Takes the entry at the address out.
@@ -90,18 +113,15 @@ impl Fdb {
         ensures entry { result ≡ get pair_cmp self.old.entries (vid, mac) }
         ensures rest { self.new ≡ record self.old { entries = without pair_cmp self.old.entries (vid, mac) } }
     {
-        let taken = slots::take(&mut self.slots, self.homes, vid, mac);
-        if taken.is_some() {
-            self.used -= 1;
-        }
-        taken
+        self.entries.take(pack(vid, mac))
     }
 
     /// The keys of the entries at the port.
     pub fn entries_of_port(&self, alloc: Global, port: Port) -> Result<Keys, NoMemory>
         ensures { IfOk result (λ keys. keys ≡ keys_where (is_at_port port) self.now.entries) }
     {
-        let keys = slots::keys_at_port(alloc, &self.slots, self.homes, port)?;
+        let numbers = self.entries.keys_where(alloc, &AtPort { port })?;
+        let keys = unpack_all(alloc, &numbers)?;
         Ok(Keys::of(keys))
     }
 
@@ -109,7 +129,8 @@ impl Fdb {
     pub fn expired(&self, alloc: Global, now: u64, hold: u64) -> Result<Keys, NoMemory>
         ensures { IfOk result (λ keys. keys ≡ keys_where (is_expired now hold) self.now.entries) }
     {
-        let keys = slots::keys_expired(alloc, &self.slots, self.homes, now, hold)?;
+        let numbers = self.entries.keys_where(alloc, &Expired { now, hold })?;
+        let keys = unpack_all(alloc, &numbers)?;
         Ok(Keys::of(keys))
     }
 }

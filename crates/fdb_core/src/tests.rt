@@ -1,4 +1,3 @@
-use crate::plain::PlainFdb;
 use crate::{Entry, Fdb};
 use br_model::change::Kind;
 use br_model::numbers::{Mac, Port, Vid};
@@ -10,71 +9,39 @@ fn mac(number: u16) -> Mac {
     Mac::new([2, 0, 0, 0, high, low])
 }
 
-/// The next number of a row that looks like chance.
-fn next(state: u64) -> u64 {
-    state
-        .wrapping_mul(6364136223846793005)
-        .wrapping_add(1442695040888963407)
-}
-
-fn kind_of(number: u64) -> Kind {
-    match number % 4 {
-        0 => Kind::Local,
-        1 => Kind::Static,
-        2 => Kind::Learned,
-        _ => Kind::Extern,
-    }
-}
-
-fn put_both(fdb: &mut Fdb, plain: &mut PlainFdb, vid: Vid, mac: Mac, entry: &Entry) {
-    if fdb.find(vid, mac).is_some() || !fdb.is_full() {
-        fdb.put(vid, mac, *entry);
-    }
-    if plain.find(vid, mac).is_some() || !plain.is_full() {
-        plain.put(vid, mac, *entry);
-    }
-}
-
+/// A key is the VLAN and the address; a put over an entry takes its place, and a take leaves the others.
 #[test]
-fn both_answer_alike(rt: HostRuntime) -> Result<(), Fail> {
-    let mut fdb = Fdb::make(rt.alloc(), 40)?;
-    let mut plain = PlainFdb::make(rt.alloc(), 40)?;
-    let vids = [Vid::new(1).ok_or("vid")?, Vid::new(4094).ok_or("vid")?];
-    let ports = [Port::HOST, Port::new(63).ok_or("port")?];
-    let mut state = 1;
-    let mut was_full = false;
-    for moment in 0..3000u64 {
-        state = next(state);
-        let number = state >> 33;
-        let vid = vids[(number % 2) as usize];
-        let mac = mac((number / 2 % 64) as u16);
-        let port = ports[(number / 128 % 2) as usize];
-        if number / 256 % 3 == 0 {
-            assert_eq!(rt; fdb.take(vid, mac), plain.take(vid, mac));
-        } else {
-            let entry = Entry {
-                port,
-                kind: kind_of(number / 1024),
-                updated: moment,
-            };
-            put_both(&mut fdb, &mut plain, vid, mac, &entry);
-        }
-        assert_eq!(rt; fdb.find(vid, mac), plain.find(vid, mac));
-        assert_eq!(rt; fdb.len(), plain.len());
-        was_full = was_full || fdb.is_full();
-        if moment % 50 == 0 {
-            let alloc = rt.alloc();
-            assert_eq!(rt;
-                fdb.entries_of_port(alloc, port)?.as_slice(),
-                plain.entries_of_port(alloc, port)?.as_slice()
-            );
-            assert_eq!(rt;
-                fdb.expired(alloc, moment, 100)?.as_slice(),
-                plain.expired(alloc, moment, 100)?.as_slice()
-            );
-        }
-    }
-    assert!(rt; was_full);
+fn entries_by_vlan_and_address(rt: HostRuntime) -> Result<(), Fail> {
+    let mut fdb = Fdb::make(rt.alloc(), 2)?;
+    let low = Vid::new(1).ok_or("vid")?;
+    let high = Vid::new(4094).ok_or("vid")?;
+    let five = mac(5);
+    let six = mac(6);
+    let old = Entry {
+        port: Port::HOST,
+        kind: Kind::Local,
+        updated: 7,
+    };
+    let new = Entry {
+        port: Port::new(63).ok_or("port")?,
+        kind: Kind::Extern,
+        updated: u64::MAX,
+    };
+    assert!(rt; !fdb.is_full());
+    fdb.put(low, five, old);
+    assert!(rt; !fdb.is_full());
+    fdb.put(high, five, old);
+    assert!(rt; fdb.is_full());
+    assert!(rt; fdb.find(low, five).is_some());
+    fdb.put(low, five, new);
+    assert_eq!(rt; fdb.find(low, five), Some(new));
+    assert_eq!(rt; fdb.find(high, five), Some(old));
+    assert_eq!(rt; fdb.find(high, six), None);
+    assert_eq!(rt; fdb.take(high, six), None);
+    assert_eq!(rt; fdb.take(high, five), Some(old));
+    assert_eq!(rt; fdb.find(high, five), None);
+    assert_eq!(rt; fdb.find(low, five), Some(new));
+    assert_eq!(rt; fdb.len(), 1);
     Ok(())
 }
 

@@ -7,7 +7,7 @@ use Rattle.std.proofs.lemmas.Nat.Bits.{bit_at-lt, bit_at-zero, bit_at_and, bit_a
 use Rattle.std.proofs.Math.Bool.{and-true}
 use Rattle.std.proofs.lemmas.Bool.Decides.{nat_tests, eqb_tells, same_from_decides, Decides-like, Decides-eqb}
 use Rattle.std.proofs.lemmas.Slice.Eq.{slice_eq-Decides}
-use Rattle.std.proofs.lemmas.List.{get_or_default}
+use Rattle.std.proofs.lemmas.List.{get_or_default, get_or_past}
 use Rattle.std.proofs.lemmas.Nat.{and_le_l, or_lt}
 use Rattle.std.proofs.lemmas.List.Elements.{All-set}
 use Rattle.std.proofs.lemmas.Bool.{eq-eqb, ne_eqb, cases_lt}
@@ -169,23 +169,34 @@ first-members w words i within zero_below some fits =
     ] in
     first-numbers_below (is_set words) (64 * w) n (omega arith) set_at none
 
--- words after a write
-pub AreWords-set : (w : ℕ) (words : List ℕ) (i v : ℕ) → AreWords w words → v < 2 ^ 64 → AreWords w (set words i v)
-AreWords-set w words i v h fits = (length-set words i v ∙ h.0, h.1, All-set (λ x. x < 2 ^ 64) words i v fits h.2)
+-- words after a write to one of the first four
+pub AreWords-set : (w : ℕ) (words : List ℕ) (i v : ℕ) → AreWords w words → i < 4 → v < 2 ^ 64 → AreWords w (set words i v)
+AreWords-set w words i v h low fits = (
+  length-set words i v ∙ h.0,
+  λ j high. get_or-set_other words i j v 0 (λ same. absurd (omega arith)) ∙ h.1 j high,
+  All-set (λ x. x < 2 ^ 64) words i v fits h.2,
+)
 
 -- a word of words fits
 pub word_fits : (w : ℕ) (words : List ℕ) (j : ℕ) → AreWords w words → j < w → get_or words j 0 < 2 ^ 64
 word_fits w words j h low = h.2 j 0 (omega (arith, h.0))
 
-made : (w : ℕ) (words : List ℕ) → length words ≡ w → w ≤ 4 → ((j : ℕ) → j < w → get_or words j 0 < 2 ^ 64) → AreWords w words
-made w words sized few h = (sized, few, λ k d low. rw (get_or_default words k d 0 low) (h k (omega arith)))
+-- of words that were made one by one, those from the fourth on as 0
+made : (w : ℕ) (words : List ℕ) → length words ≡ w → ((j : ℕ) → j < w → get_or words j 0 < 2 ^ 64) → ((j : ℕ) → j < w → 4 ≤ j → get_or words j 0 ≡ 0) → AreWords w words
+made w words sized h high = (sized, λ i from. elim (cases_lt i w) [ inl low ↦ high i low from | inr past ↦ get_or_past words i 0 (omega arith) ], λ k d low. rw (get_or_default words k d 0 low) (h k (omega arith)))
 
 -- words that were combined one by one
 pub AreWords-and : (w : ℕ) (xs zs : List ℕ) (f : ℕ → ℕ) → AreWords w xs → length zs ≡ w → ((j : ℕ) → j < w → get_or zs j 0 ≡ bit_and (get_or xs j 0) (f j)) → AreWords w zs
-AreWords-and w xs zs f h sized done = made w zs sized h.1 (λ j low. omega (arith, done j low, and_le_l (get_or xs j 0) (f j), word_fits w xs j h low))
+AreWords-and w xs zs f h sized done =
+    made w zs sized
+    (λ j low. omega (arith, done j low, and_le_l (get_or xs j 0) (f j), word_fits w xs j h low))
+    (λ j low high. omega (arith, done j low, and_le_l (get_or xs j 0) (f j), h.1 j high))
 
 pub AreWords-or : (w : ℕ) (xs ys zs : List ℕ) → AreWords w xs → AreWords w ys → length zs ≡ w → ((j : ℕ) → j < w → get_or zs j 0 ≡ bit_or (get_or xs j 0) (get_or ys j 0)) → AreWords w zs
-AreWords-or w xs ys zs hx hy sized done = made w zs sized hx.1 (λ j low. rw (done j low) (or_lt 64 _ _ (word_fits w xs j hx low) (word_fits w ys j hy low)))
+AreWords-or w xs ys zs hx hy sized done =
+    made w zs sized
+    (λ j low. rw (done j low) (or_lt 64 _ _ (word_fits w xs j hx low) (word_fits w ys j hy low)))
+    (λ j low high. done j low ∙ ap₂ bit_or (hx.1 j high) (hy.1 j high))
 
 -- words are equal where their members are
 pub pointwise-members : (w : ℕ) (xs ys : List ℕ) → AreWords w xs → AreWords w ys → pointwise nat_eq xs ys ≡ pointwise nat_eq (members w xs) (members w ys)

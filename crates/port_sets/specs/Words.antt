@@ -23,4 +23,4 @@ words_with w numbers = map (λ i. number_with (λ k. has_number numbers (i * 64 
 
 -- w words of 64 bits, whose members fit 8 bits
 abbrev pub AreWords : ℕ → List ℕ → Type 0
-AreWords w words = (length words ≡ w) × (w ≤ 4) × All (λ x. x < 2 ^ 64) words
+AreWords w words = (length words ≡ w) × ((i : ℕ) → 4 ≤ i → slice_index words i ≡ 0) × All (λ x. x < 2 ^ 64) words

@@ -6,12 +6,14 @@ ghost use Rattle.std.specs.List.{All};
 ghost use Rattle.std.specs.List.Sorted.{IsStrictlyIncreasing};
 ghost use Rattle.std.specs.Cmp.{partial_equiv_from_equiv};
 ghost use Rattle.std.specs.Cmp.Lexicographic.{pointwise, nat_list_eq_equiv};
+ghost use Rattle.std.specs.Int.{bit_at};
 ghost use Rattle.std.specs.Iterator.{YieldsFirst, item_count};
 ghost use Rattle.port_sets.specs.Numbers.{numbers_below, has_number, IsSetBelow};
+ghost use Rattle.port_sets.specs.Words.{members};
 
 use std::marker::Model;
 
-/// A set of numbers below 64 `W`, with `W` at most 4, so that each is a `u8`.
+/// A set of numbers below 64 `W`, each of which is a `u8`: words after the fourth stay 0.
 ///
 /// Contracts see the ascending list of the members.
 #[derive(Clone, Copy, Debug)]
@@ -55,10 +57,25 @@ impl<const W: usize> Eq for PortSet<W> {
 impl<const W: usize> PortSet<W> {
     /// The set of no number.
     pub fn empty() -> PortSet<W>
-        requires { W ≤ 4 }
         ensures { result ≡ [] }
     {
         PortSet { words: [0; W] }
+    }
+
+    /// The set whose members are the set bits of the words, the lowest bit of the first word first.
+    pub fn from_words(words: [u64; W]) -> PortSet<W>
+        requires { W ≤ 4 }
+        ensures { result ≡ members W words.entry }
+    {
+        PortSet { words }
+    }
+
+    /// The words whose set bits are the members, the lowest bit of the first word first.
+    pub fn words(&self) -> [u64; W]
+        ensures members { members W result ≡ self.now }
+        ensures len { length result ≡ W }
+    {
+        self.words
     }
 
     /// Whether `n` is a member.
@@ -174,6 +191,15 @@ impl<const W: usize> PortSet<W> {
     {
         self.members_ascend();
         other.members_ascend();
+    }
+}
+
+impl PortSet<1> {
+    /// The set whose members are the bits of the word: bit `n` stands for `n`.
+    pub fn from_word(word: u64) -> PortSet<1>
+        ensures { result ≡ numbers_below 64 (λ n. bit_at word n == 1) }
+    {
+        PortSet { words: [word] }
     }
 }
 

@@ -16,7 +16,7 @@ fn assert_members<const W: usize>(rt: &impl Abort, set: PortSet<W>, expected: &[
 /// What is the same for every number of words.
 fn assert_low_sets<const W: usize>(rt: &impl Abort)
     requires some { 1 ≤ W }
-    requires few { W ≤ 4 }
+    requires few { W ≤ 5 }
 {
     let empty = PortSet::<W>::empty();
     let left = empty.with(63).with(0).with(5);
@@ -33,9 +33,10 @@ fn assert_low_sets<const W: usize>(rt: &impl Abort)
 }
 
 #[test]
-fn sets_of_one_and_of_four_words(rt: HostRuntime) {
+fn sets_of_one_of_four_and_of_five_words(rt: HostRuntime) {
     assert_low_sets::<1>(&rt);
     assert_low_sets::<4>(&rt);
+    assert_low_sets::<5>(&rt);
 }
 
 #[test]

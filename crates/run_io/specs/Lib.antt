@@ -1,3 +1,6 @@
+pub mod Buffered
 pub mod Causes
+pub mod Finding
 pub mod Memory
 pub mod Reading
+pub mod Writing

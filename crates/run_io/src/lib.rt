@@ -1,8 +1,8 @@
 //! Sources of bytes, sinks for bytes, and the lines and pieces of a source.
 #![tactic(auto)]
 
-pub mod bytes;
 pub mod lines;
+pub mod output;
 pub mod sinks;
 pub mod sources;
 #[cfg(test)]

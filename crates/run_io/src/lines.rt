@@ -1,29 +1,39 @@
 //! Lines and pieces, cut out of the bytes of a source as they come.
-ghost use Rattle.std.specs.Prelude.{◌≡◌, ℕ, ◌+◌, ◌-◌, ◌^◌, ◌<◌, ◌≤◌, List, [], ◌∷◌, ◌++◌, None, Some, take, drop, length, slice_index, IfOk, IfErr, IfSome, IfNone, IsSome, OnOk, OnErr, MatchOption, true, false};
+ghost use Rattle.std.specs.Prelude.{◌≡◌, ◌+◌, ◌-◌, ◌<◌, ◌≤◌, [], None, Some, take, drop, length, vec_len, slice_range, IfOk, IfErr, IfSome, IfNone, IsSome, OnOk, OnErr, MatchOption, true, false};
+ghost use Rattle.std.specs.Borrow.{sem};
+ghost use Rattle.std.specs.Io.BufRead.{Rests};
 ghost use Rattle.std.specs.Io.KnownBytes.{Consumes, Keeps, IsAtEnd};
-ghost use Rattle.run_io.specs.Reading.{Reading, max_line, line_end, room, HasNoFeed, GivesLine, GivesBytes, GivesEnd, KeepsAll, HoldsLongLine, HoldsAllOfLimit, HoldsTooFew, HeldCause, FillCause, FaultCause, PieceCause};
+ghost use Rattle.run_io.specs.Causes.{HasCause};
+ghost use Rattle.run_io.specs.Finding.{IsFirstFeed, FillCause, LineStands, FindsLine, FindsPiece, WantsMore, least_room};
+ghost use Rattle.run_io.specs.Reading.{Reads, Calls, IsEnd, ReadsLine, ReadsPiece, LineCause, PieceCause, holds_next, HoldsLongLine};
+ghost use Rattle.run_io.specs.contracts.lines.LineReader.{the_row};
 
 use crate::NoMemory;
-use crate::bytes::Bytes;
 use crate::sources::{Failed, Source};
+use memchr::memchr;
 use std::alloc::{AllocError, Global};
 use std::marker::Model;
 use thiserror::Error;
 
-/// How many bytes are asked of a source at a time.
-const CHUNK: usize = 4096;
+/// How many bytes a reader has room for, at least.
+const ROOM: usize = 65_536;
 
 /// The longest line, without its line feed.
 pub const MAX_LINE: usize = 20_000;
 
+/// Why there is no next line or piece.
 #[derive(Clone, Copy, Debug, PartialEq, Eq, Error)]
 pub enum LineFault {
+    /// A read failed.
     #[error("read fault")]
     ReadFault,
+    /// More than `MAX_LINE` bytes came without a line feed.
     #[error("a line is longer than {MAX_LINE} bytes")]
     LineTooLong,
+    /// As many bytes were taken as may be, and what is held of them is no whole line or piece.
     #[error("too long")]
     TooLong,
+    /// An allocation was refused.
     #[error("no memory")]
     NoMemory,
 }
@@ -39,54 +49,149 @@ impl From<AllocError> for LineFault {
 }
 
 /// A line without its line feed, and whether it had one. Or a piece, and whether it is as long as it
-/// was asked for.
+/// was asked for. The bytes stand in the reader's buffer.
 #[derive(Drop, Debug)]
-pub struct Got {
-    pub bytes: Bytes,
+pub struct Got<'a> {
+    pub bytes: &'a [u8],
     pub whole: bool,
 }
 
 /// Reads lines and pieces, up to a limit of bytes. After a fault it gives the same fault.
+///
+/// `buffer[start..end]` was taken from the source and not handed out, and `line` is the length of
+/// its first line.
 #[derive(Drop, Debug)]
 pub struct LineReader {
     buffer: Vec<u8>,
     start: usize,
+    end: usize,
+    line: Option<usize>,
     taken: u32,
     limit: u32,
     fault: Option<LineFault>,
 }
 
 impl Model for LineReader {
-    ghost use Rattle.std.specs.Prelude.{◌≤◌, drop, length};
+    ghost use Rattle.std.specs.Prelude.{slice_range};
     ghost use Rattle.run_io.specs.Reading.{Reading};
 
     ghost Value = { Reading };
 
-    ghost view = { λ r. record { held = drop r.start r.buffer.items; taken = r.taken; limit = r.limit; fault = r.fault } };
+    ghost use Rattle.run_io.specs.Buffered.{IsSound};
 
-    ghost invariant = { λ r. (r.start ≤ length r.buffer.items) × (r.taken ≤ r.limit) };
+    ghost view = { λ r. record { held = slice_range r.buffer.items r.start r.end; taken = r.taken; limit = r.limit; fault = r.fault } };
+
+    ghost invariant = { IsSound };
 }
 
-/// Where the first line feed is, of bytes whose first `searched` have none.
-fn feed_at(bytes: &[u8], searched: usize) -> Option<usize>
-    requires within { searched ≤ length bytes.now }
-    requires searched { HasNoFeed (take searched bytes.now) }
-    ensures within { IfSome result (λ i. i < length bytes.now) }
-    ensures feed { IfSome result (λ i. slice_index bytes.now i ≡ 10) }
-    ensures found { IfSome result (λ i. bytes.now ≡ take i bytes.now ++ 10 ∷ drop (i + 1) bytes.now) }
-    ensures front { IfSome result (λ i. HasNoFeed (take i bytes.now)) }
-    ensures none { IfNone result (HasNoFeed bytes.now) }
+/// Where a line or a piece stands in what is held: how long it is, and up to where it is let go of.
+#[derive(Clone, Copy, Debug)]
+struct Span {
+    len: usize,
+    past: usize,
+    whole: bool,
+}
+
+/// More than `MAX_LINE` bytes are held without a line feed.
+#[derive(Clone, Copy, Debug)]
+struct LongLine;
+
+/// Where the first line feed is.
+fn first_feed(bytes: &[u8]) -> Option<usize>
+    ensures { IsFirstFeed bytes.now result }
 {
-    for i in searched..bytes.len() {
-        if bytes[i] == b'\n' {
-            return Some(i);
-        }
+    memchr(b'\n', bytes)
+}
+
+/// The length of the first line once the first `past` bytes are gone. It was `line`. No byte is
+/// searched again.
+fn line_after(held: &[u8], line: Option<usize>, past: usize) -> Option<usize>
+    requires past { past ≤ length held.now }
+    requires line { IsFirstFeed held.now line }
+    ensures { IsFirstFeed (drop past held.now) result }
+{
+    match line {
+        None => None,
+        Some(len) if past <= len => Some(len - past),
+        Some(_) => first_feed(&held[past..]),
     }
-    None
+}
+
+/// The length of the first line once more bytes came after the first `held`, whose was `line`.
+fn line_before(bytes: &[u8], line: Option<usize>, held: usize) -> Option<usize>
+    requires held { held ≤ length bytes.now }
+    requires line { IsFirstFeed (take held bytes.now) line }
+    ensures { IsFirstFeed bytes.now result }
+{
+    match line {
+        Some(len) => Some(len),
+        None => match first_feed(&bytes[held..]) {
+            Some(at) => Some(held + at),
+            None => None,
+        },
+    }
+}
+
+/// Moves `buffer[start..end]` to the front.
+fn move_to_front(buffer: &mut Vec<u8>, start: usize, end: usize)
+    requires ordered { start ≤ end }
+    requires within { end ≤ vec_len buffer.old }
+    ensures len { vec_len buffer.new ≡ vec_len buffer.old }
+    ensures moved { take (end - start) buffer.new.items ≡ slice_range buffer.old.items start end }
+{
+    if start > 0 {
+        buffer.copy_within(start..end, 0);
+    }
+}
+
+fn zeroes(alloc: Global, len: usize) -> Result<Vec<u8>, NoMemory>
+    ensures { IfOk result (λ bytes. vec_len bytes ≡ len) }
+{
+    vec![in alloc; 0u8; len]
+}
+
+/// Takes room for the first bytes, and more where all of it is used.
+fn make_room(alloc: Global, buffer: &mut Vec<u8>, used: usize) -> Result<(), NoMemory>
+    requires within { used ≤ vec_len buffer.old }
+    ensures kept { take used buffer.new.items ≡ take used buffer.old.items }
+    ensures room { OnOk result (used < vec_len buffer.new) }
+    ensures least { OnOk result (vec_len buffer.old ≡ 0 → least_room ≤ vec_len buffer.new) }
+    ensures longer { vec_len buffer.old ≤ vec_len buffer.new }
+    ensures unchanged { OnErr result (buffer.new.items ≡ buffer.old.items) }
+    ensures err { OnErr result (used ≡ vec_len buffer.old) }
+{
+    if buffer.is_empty() {
+        *buffer = zeroes(alloc, ROOM)?;
+    } else if used == buffer.len() {
+        buffer.resize(2 * used, 0)?;
+    }
+    Ok(())
+}
+
+/// Reads after the bytes that are used, at most `most` of them, and says how many came.
+fn read_after<S: Source>(
+    src: &mut S,
+    buffer: &mut Vec<u8>,
+    used: usize,
+    most: usize,
+) -> Result<usize, Failed>
+    requires used { used < vec_len buffer.old }
+    requires most { 0 < most }
+    ensures len { vec_len buffer.new ≡ vec_len buffer.old }
+    ensures kept { take used buffer.new.items ≡ take used buffer.old.items }
+    ensures within { IfOk result (λ n. used + n ≤ length buffer.new.items) }
+    ensures most { IfOk result (λ n. n ≤ most) }
+    ensures given { IfOk result (λ n. Consumes (S.left src.old) (S.left src.new) (take n (drop used buffer.new.items))) }
+    ensures end { IfOk result (λ n. n ≡ 0 → IsAtEnd (S.left src.new)) }
+    ensures failed { OnErr result (Keeps (S.left src.old) (S.left src.new)) }
+    ensures cause { HasCause (S.faults src.old) (S.faults src.new) result }
+{
+    let asked = most.min(buffer.len() - used);
+    src.read(&mut buffer[used..used + asked])
 }
 
 impl LineReader {
-    /// Takes no memory.
+    /// Takes no memory. The first read takes it.
     pub fn make(alloc: Global, limit: u32) -> LineReader
         ensures held { result.held ≡ [] }
         ensures taken { result.taken ≡ 0 }
@@ -96,182 +201,111 @@ impl LineReader {
         LineReader {
             buffer: Vec::new(alloc),
             start: 0,
+            end: 0,
+            line: None,
             taken: 0,
             limit,
             fault: None,
         }
     }
 
-    fn held(&self) -> &[u8]
-        ensures value { result.now ≡ self.now.held }
-        ensures within { self.now.taken ≤ self.now.limit }
+    /// Whether the next `next` answers without a read: a whole line is held, or a fault was given,
+    /// or comes of what is held.
+    pub fn holds_line(&self) -> bool
+        ensures { result ≡ holds_next self.now }
     {
-        &self.buffer[self.start..]
-    }
-
-    /// Drops what was handed out from the buffer. What is held moves only where something was.
-    fn compact(&mut self)
-        ensures { self.new ≡ self.old }
-    {
-        if self.start == 0 {
-            return;
-        }
-        let len = self.buffer.len() - self.start;
-        self.buffer.copy_within(self.start.., 0);
-        self.buffer.truncate(len);
-        self.start = 0;
+        self.fault.is_some()
+            || self.line.is_some()
+            || self.end - self.start > MAX_LINE
+            || self.taken == self.limit
     }
 
     /// Takes more bytes from the source, and says how many.
-    fn fill<S: Source>(&mut self, src: &mut S) -> Result<usize, LineFault>
-        ensures gives { IfOk result (λ n. (bytes : List ℕ) × (length bytes ≡ n) × Consumes (S.left src.old) (S.left src.new) bytes
-            × (self.new ≡ record self.old { held = self.old.held ++ bytes; taken = self.old.taken + n })) }
-        ensures end { IfOk result (λ n. n ≡ 0 → IsAtEnd (S.left src.new)) }
-        ensures room { OnOk result (self.old.taken < self.old.limit) }
-        ensures within { self.new.taken ≤ self.new.limit }
-        ensures kept { OnErr result ((self.new ≡ self.old) × Keeps (S.left src.old) (S.left src.new)) }
+    fn fill<S: Source>(&mut self, alloc: Global, src: &mut S) -> Result<usize, LineFault>
+        ensures reads { Reads self.old self.new (S.left src.old) (S.left src.new) [] }
+        ensures count { IfOk result (λ n. self.new.taken ≡ self.old.taken + n) }
+        ensures end { IfOk result (λ n. n ≡ 0 → IsAtEnd (S.left src.new) × (self.new ≡ self.old)) }
+        ensures ok { OnOk result (self.old.taken < self.old.limit) }
+        ensures kept { OnErr result (self.new ≡ self.old) }
         ensures cause { IfErr result (λ f. FillCause f self.old (S.faults src.old) (S.faults src.new)) }
+        ensures fault { self.new.fault ≡ self.old.fault }
+        ensures within { self.new.taken ≤ self.new.limit }
+        ensures full { self.old.taken ≡ self.old.limit → src.new ≡ src.old }
         ensures later { S.faults src.old ≤ S.faults src.new }
     {
-        self.compact();
-        let room = (self.limit - self.taken) as usize;
-        if room == 0 {
+        let most = (self.limit - self.taken) as usize;
+        if most == 0 {
             return Err(LineFault::TooLong);
         }
-        let asked = room.min(CHUNK);
-        self.buffer.reserve(asked)?;
-        let mut chunk = [0u8; CHUNK];
-        let Ok(count) = src.read(&mut chunk[..asked]) else {
+        move_to_front(&mut self.buffer, self.start, self.end);
+        self.end -= self.start;
+        self.start = 0;
+        make_room(alloc, &mut self.buffer, self.end)?;
+        let Ok(count) = read_after(src, &mut self.buffer, self.end, most) else {
             return Err(LineFault::ReadFault);
         };
-        match self.buffer.extend_from_slice(&chunk[..count]) {
-            Ok(()) => {}
-            Err(_) => unreachable!(),
-        }
+        let held = self.end;
+        self.end += count;
         self.taken += count as u32;
+        self.line = line_before(&self.buffer[..self.end], self.line, held);
         Ok(count)
     }
 
-    /// Hands out the first `len` bytes that are held, and lets go of the first `past`.
-    fn cut(&mut self, alloc: Global, len: usize, past: usize) -> Result<Bytes, NoMemory>
-        requires len { len ≤ past }
-        requires past { past ≤ length self.old.held }
-        ensures bytes { IfOk result (λ bytes. bytes ≡ take len self.old.held) }
-        ensures held { OnOk result (self.new ≡ record self.old { held = drop past self.old.held }) }
-        ensures err { OnErr result (self.new ≡ self.old) }
+    /// How many bytes are held.
+    fn held_len(&self) -> usize
+        ensures len { result ≡ length self.now.held }
+        ensures within { self.now.taken ≤ self.now.limit }
     {
-        let bytes = Vec::from_slice(alloc, &self.held()[..len])?;
-        self.start += past;
-        Ok(Bytes::of(bytes))
+        self.end - self.start
     }
 
-    /// The first line that is held, where there is a whole one. The first `searched` bytes have no line feed.
-    fn held_line(&mut self, alloc: Global, searched: usize) -> Result<Option<Got>, LineFault>
-        requires within { searched ≤ length self.old.held }
-        requires searched { HasNoFeed (take searched self.old.held) }
-        ensures some { IfOk result (λ o. IfSome o (λ got. (self.old.held ≡ got.bytes ++ 10 ∷ self.new.held) × HasNoFeed got.bytes
-            × (length got.bytes ≤ max_line) × (got.whole ≡ true))) }
-        ensures none { IfOk result (λ o. IfNone o ((self.new ≡ self.old) × HasNoFeed self.old.held × (length self.old.held ≤ max_line))) }
-        ensures others { self.new ≡ record self.old { held = self.new.held } }
-        ensures unchanged { OnErr result (self.new ≡ self.old) }
-        ensures cause { IfErr result (λ f. HeldCause f self.old) }
-        ensures long { IfErr result (λ f. HoldsLongLine self.old → f ≡ LineFault.LineTooLong) }
-        ensures all { IfErr result (λ f. HoldsAllOfLimit self.old → f ≡ LineFault.TooLong) }
-        ensures within { self.new.taken ≤ self.new.limit }
+    /// The first line, where a whole one is held.
+    fn held_line(&self) -> Result<Option<Span>, LongLine>
+        ensures line { IfOk result (λ o. MatchOption o (WantsMore self.now) (LineStands self.now true)) }
+        ensures long { OnErr result (HoldsLongLine self.now) }
+        ensures within { self.now.taken ≤ self.now.limit }
     {
-        let held = self.held();
-        match feed_at(held, searched) {
-            Some(len) => {
-                if len > MAX_LINE {
-                    return Err(LineFault::LineTooLong);
-                }
-                let bytes = self.cut(alloc, len, len + 1)?;
-                Ok(Some(Got { bytes, whole: true }))
-            }
-            None => {
-                if held.len() > MAX_LINE {
-                    return Err(LineFault::LineTooLong);
-                }
-                Ok(None)
-            }
+        match self.line {
+            Some(len) if len <= MAX_LINE => Ok(Some(Span {
+                len,
+                past: len + 1,
+                whole: true,
+            })),
+            None if self.held_len() <= MAX_LINE => Ok(None),
+            _ => Err(LongLine),
         }
     }
 
-    /// Hands out all that is held.
-    fn rest(&mut self, alloc: Global) -> Result<Got, NoMemory>
-        ensures got { IfOk result (λ got. (got.bytes ≡ self.old.held) × (got.whole ≡ false)) }
-        ensures ok { OnOk result (self.new ≡ record self.old { held = [] }) }
-        ensures unchanged { OnErr result (self.new ≡ self.old) }
+    /// All that is held.
+    fn rest(&self) -> Span
+        ensures len { result.len ≡ length self.now.held }
+        ensures past { result.past ≡ length self.now.held }
+        ensures whole { result.whole ≡ false }
+        ensures within { self.now.taken ≤ self.now.limit }
     {
-        let len = self.held().len();
-        let bytes = self.cut(alloc, len, len)?;
-        Ok(Got {
-            bytes,
+        let len = self.held_len();
+        Span {
+            len,
+            past: len,
             whole: false,
-        })
-    }
-
-    /// The last line, which has no line feed, or nothing.
-    fn last_line(&mut self, alloc: Global) -> Result<Option<Got>, NoMemory>
-        ensures some { IfOk result (λ o. IfSome o (λ got. (got.bytes ≡ self.old.held) × (0 < length self.old.held) × (got.whole ≡ false))) }
-        ensures none { IfOk result (λ o. IfNone o (self.old.held ≡ [])) }
-        ensures ok { OnOk result (self.new ≡ record self.old { held = [] }) }
-        ensures unchanged { OnErr result (self.new ≡ self.old) }
-    {
-        if self.held().is_empty() {
-            return Ok(None);
-        }
-        Ok(Some(self.rest(alloc)?))
-    }
-
-    fn next_line<S: Source>(&mut self, alloc: Global, src: &mut S) -> Result<Option<Got>, LineFault>
-        ensures line { IfOk result (λ o. MatchOption o (GivesEnd self.old self.new (S.left src.old) (S.left src.new))
-            (λ got. GivesLine self.old self.new (S.left src.old) (S.left src.new) got.bytes got.whole)) }
-        ensures kept { OnErr result (KeepsAll self.old self.new (S.left src.old) (S.left src.new)) }
-        ensures cause { IfErr result (λ f. FaultCause f self.new (S.faults src.old) (S.faults src.new)) }
-        ensures long { IfErr result (λ f. HoldsLongLine self.new → f ≡ LineFault.LineTooLong) }
-        ensures all { IfErr result (λ f. HoldsAllOfLimit self.new → f ≡ LineFault.TooLong) }
-        ensures ended { IfOk result (λ o. MatchOption o (self.new.taken < self.new.limit) (λ got. got.whole ≡ false → self.new.taken < self.new.limit)) }
-        ensures limit { self.new.limit ≡ self.old.limit }
-        ensures fault { self.new.fault ≡ self.old.fault }
-        ensures within { self.new.taken ≤ self.new.limit }
-        ensures later { S.faults src.old ≤ S.faults src.new }
-    {
-        let mut searched = 0;
-        loop {
-            if let Some(got) = self.held_line(alloc, searched)? {
-                return Ok(Some(got));
-            }
-            searched = self.held().len();
-            if self.fill(src)? == 0 {
-                return Ok(self.last_line(alloc)?);
-            }
         }
     }
 
-    fn next_bytes<S: Source>(
-        &mut self,
-        alloc: Global,
-        src: &mut S,
-        n: usize,
-    ) -> Result<Got, LineFault>
-        ensures given { IfOk result (λ got. GivesBytes self.old self.new (S.left src.old) (S.left src.new) n got.bytes got.whole) }
-        ensures kept { OnErr result (KeepsAll self.old self.new (S.left src.old) (S.left src.new)) }
-        ensures cause { IfErr result (λ f. PieceCause f n self.new (S.faults src.old) (S.faults src.new)) }
-        ensures all { IfErr result (λ f. HoldsTooFew n self.new → f ≡ LineFault.TooLong) }
-        ensures ended { IfOk result (λ got. got.whole ≡ false → self.new.taken < self.new.limit) }
-        ensures limit { self.new.limit ≡ self.old.limit }
-        ensures fault { self.new.fault ≡ self.old.fault }
-        ensures within { self.new.taken ≤ self.new.limit }
-        ensures later { S.faults src.old ≤ S.faults src.new }
+    /// Hands out the bytes of a span, and lets go of what is past.
+    fn hand_out<'a>(&'a mut self, span: Span) -> Got<'a>
+        requires len { span.len ≤ span.past }
+        requires past { span.past ≤ length self.old.held }
+        ensures bytes { result.bytes.now ≡ take span.len self.old.held }
+        ensures whole { result.whole ≡ span.whole }
+        ensures* rests { sem 𝓛 (Rests the_row self.entry (λ new. new ≡ record self.old { held = drop span.past self.old.held })) }
     {
-        while self.held().len() < n {
-            if self.fill(src)? == 0 {
-                return Ok(self.rest(alloc)?);
-            }
+        let start = self.start;
+        self.line = line_after(&self.buffer[start..self.end], self.line, span.past);
+        self.start += span.past;
+        Got {
+            bytes: &self.buffer[start..start + span.len],
+            whole: span.whole,
         }
-        let bytes = self.cut(alloc, n, n)?;
-        Ok(Got { bytes, whole: true })
     }
 
     /// Gives a fault from now on.
@@ -283,56 +317,147 @@ impl LineReader {
         fault
     }
 
-    /// The next line. `None` is the end.
-    pub fn next<S: Source>(&mut self, alloc: Global, src: &mut S) -> Result<Option<Got>, LineFault>
-        ensures again { IfSome self.old.fault (λ f. result ≡ Err f) }
-        ensures still { IsSome self.old.fault → (self.new ≡ self.old) × (src.new ≡ src.old) }
-        ensures line { self.old.fault ≡ None → IfOk result (λ o. MatchOption o (GivesEnd self.old self.new (S.left src.old) (S.left src.new))
-            (λ got. GivesLine self.old self.new (S.left src.old) (S.left src.new) got.bytes got.whole)) }
-        ensures kept { self.old.fault ≡ None → OnErr result (KeepsAll self.old self.new (S.left src.old) (S.left src.new)) }
-        ensures cause { self.old.fault ≡ None → IfErr result (λ f. FaultCause f self.new (S.faults src.old) (S.faults src.new)) }
-        // A fault of what is held comes wherever it may.
-        ensures long { self.old.fault ≡ None → IfErr result (λ f. HoldsLongLine self.new → f ≡ LineFault.LineTooLong) }
-        ensures all { self.old.fault ≡ None → IfErr result (λ f. HoldsAllOfLimit self.new → f ≡ LineFault.TooLong) }
-        // The end is seen only before the limit.
-        ensures ended { IfOk result (λ o. MatchOption o (self.new.taken < self.new.limit) (λ got. got.whole ≡ false → self.new.taken < self.new.limit)) }
-        ensures ok { OnOk result (self.new.fault ≡ None) }
-        ensures fault { IfErr result (λ f. self.new.fault ≡ Some f) }
-        ensures limit { self.new.limit ≡ self.old.limit }
+    /// Reads until a whole line is held, and gives it. At the end what is left is the last line.
+    fn find_line<S: Source>(
+        &mut self,
+        alloc: Global,
+        src: &mut S,
+    ) -> Result<Option<Span>, LineFault>
+        requires { self.old.fault ≡ None }
+        ensures reads { Reads self.old self.new (S.left src.old) (S.left src.new) [] }
+        ensures line { IfOk result (λ o. MatchOption o (IsEnd self.new (S.left src.new)) (λ span. FindsLine self.new (S.left src.new) span)) }
+        ensures cause { IfErr result (λ f. LineCause f self.new (S.faults src.old) (S.faults src.new)) }
+        ensures fault { self.new.fault ≡ self.old.fault }
         ensures within { self.new.taken ≤ self.new.limit }
+        ensures unread { holds_next self.old ≡ true → src.new ≡ src.old }
+        ensures later { S.faults src.old ≤ S.faults src.new }
+    {
+        loop {
+            let Ok(held) = self.held_line() else {
+                return Err(LineFault::LineTooLong);
+            };
+            if let Some(span) = held {
+                return Ok(Some(span));
+            }
+            if self.fill(alloc, src)? == 0 {
+                let rest = self.rest();
+                return Ok(if rest.len == 0 { None } else { Some(rest) });
+            }
+        }
+    }
+
+    /// Reads until `n` bytes are held, and gives them. At the end it gives what is left.
+    fn find_piece<S: Source>(
+        &mut self,
+        alloc: Global,
+        src: &mut S,
+        n: usize,
+    ) -> Result<Span, LineFault>
+        ensures reads { Reads self.old self.new (S.left src.old) (S.left src.new) [] }
+        ensures piece { IfOk result (FindsPiece self.new (S.left src.new) n) }
+        ensures cause { IfErr result (λ f. PieceCause f n self.new (S.faults src.old) (S.faults src.new)) }
+        ensures fault { self.new.fault ≡ self.old.fault }
+        ensures within { self.new.taken ≤ self.new.limit }
+        ensures later { S.faults src.old ≤ S.faults src.new }
+    {
+        while self.held_len() < n {
+            if self.fill(alloc, src)? == 0 {
+                return Ok(self.rest());
+            }
+        }
+        Ok(Span {
+            len: n,
+            past: n,
+            whole: true,
+        })
+    }
+
+    /// The same as `find_line`, and after a fault this fault.
+    fn seek_line<S: Source>(
+        &mut self,
+        alloc: Global,
+        src: &mut S,
+    ) -> Result<Option<Span>, LineFault>
+        ensures calls { Calls self.old self.new (S.left src.old) (S.left src.new) [] result }
+        ensures line { IfOk result (λ o. MatchOption o (IsEnd self.new (S.left src.new)) (λ span. FindsLine self.new (S.left src.new) span)) }
+        ensures cause { self.old.fault ≡ None → IfErr result (λ f. LineCause f self.new (S.faults src.old) (S.faults src.new)) }
+        ensures again { IfSome self.old.fault (λ f. result ≡ Err f) }
+        ensures unread { holds_next self.old ≡ true → src.new ≡ src.old }
         ensures later { S.faults src.old ≤ S.faults src.new }
     {
         if let Some(fault) = self.fault {
             return Err(fault);
         }
-        match self.next_line(alloc, src) {
-            Ok(line) => Ok(line),
+        match self.find_line(alloc, src) {
+            Ok(span) => Ok(span),
             Err(fault) => Err(self.fail(fault)),
         }
     }
 
-    /// The next `n` bytes, or all that is left where these are fewer. A line feed is a byte like any other.
-    pub fn take<S: Source>(&mut self, alloc: Global, src: &mut S, n: u32) -> Result<Got, LineFault>
-        ensures again { IfSome self.old.fault (λ f. result ≡ Err f) }
-        ensures still { IsSome self.old.fault → (self.new ≡ self.old) × (src.new ≡ src.old) }
-        ensures given { self.old.fault ≡ None → IfOk result (λ got. GivesBytes self.old self.new (S.left src.old) (S.left src.new) n got.bytes got.whole) }
-        ensures kept { self.old.fault ≡ None → OnErr result (KeepsAll self.old self.new (S.left src.old) (S.left src.new)) }
+    /// The same as `find_piece`, and after a fault this fault.
+    fn seek_piece<S: Source>(
+        &mut self,
+        alloc: Global,
+        src: &mut S,
+        n: usize,
+    ) -> Result<Span, LineFault>
+        ensures calls { Calls self.old self.new (S.left src.old) (S.left src.new) [] result }
+        ensures piece { IfOk result (FindsPiece self.new (S.left src.new) n) }
         ensures cause { self.old.fault ≡ None → IfErr result (λ f. PieceCause f n self.new (S.faults src.old) (S.faults src.new)) }
-        ensures all { self.old.fault ≡ None → IfErr result (λ f. HoldsTooFew n self.new → f ≡ LineFault.TooLong) }
-        // The end is seen only before the limit.
-        ensures ended { IfOk result (λ got. got.whole ≡ false → self.new.taken < self.new.limit) }
-        ensures ok { OnOk result (self.new.fault ≡ None) }
-        ensures fault { IfErr result (λ f. self.new.fault ≡ Some f) }
-        ensures limit { self.new.limit ≡ self.old.limit }
-        ensures within { self.new.taken ≤ self.new.limit }
+        ensures again { IfSome self.old.fault (λ f. result ≡ Err f) }
+        ensures still { IsSome self.old.fault → src.new ≡ src.old }
         ensures later { S.faults src.old ≤ S.faults src.new }
     {
         if let Some(fault) = self.fault {
             return Err(fault);
         }
-        match self.next_bytes(alloc, src, n as usize) {
-            Ok(piece) => Ok(piece),
+        match self.find_piece(alloc, src, n) {
+            Ok(span) => Ok(span),
             Err(fault) => Err(self.fail(fault)),
+        }
+    }
+
+    /// The next line. `None` is the end.
+    ///
+    /// # Errors
+    ///
+    /// Each `LineFault`, and the same one from then on.
+    pub fn next<'a, S: Source>(
+        &'a mut self,
+        alloc: Global,
+        src: &mut S,
+    ) -> Result<Option<Got<'a>>, LineFault>
+        ensures again { IfSome self.old.fault (λ f. result ≡ Err f) }
+        ensures unread { holds_next self.old ≡ true → src.new ≡ src.old }
+        ensures later { S.faults src.old ≤ S.faults src.new }
+        ensures* reads { sem 𝓛 (Rests the_row self.entry (λ new. ReadsLine self.old new (S.left src.old) (S.left src.new) (S.faults src.old) (S.faults src.new) result)) }
+    {
+        match self.seek_line(alloc, src) {
+            Ok(Some(span)) => Ok(Some(self.hand_out(span))),
+            Ok(None) => Ok(None),
+            Err(fault) => Err(fault),
+        }
+    }
+
+    /// The next `n` bytes, or all that is left where these are fewer. A line feed is a byte like any other.
+    ///
+    /// # Errors
+    ///
+    /// Each `LineFault` but `LineTooLong`, and the same one from then on.
+    pub fn take<'a, S: Source>(
+        &'a mut self,
+        alloc: Global,
+        src: &mut S,
+        n: u32,
+    ) -> Result<Got<'a>, LineFault>
+        ensures again { IfSome self.old.fault (λ f. result ≡ Err f) }
+        ensures still { IsSome self.old.fault → src.new ≡ src.old }
+        ensures later { S.faults src.old ≤ S.faults src.new }
+        ensures* reads { sem 𝓛 (Rests the_row self.entry (λ new. ReadsPiece self.old new (S.left src.old) (S.left src.new) (S.faults src.old) (S.faults src.new) n result)) }
+    {
+        match self.seek_piece(alloc, src, n as usize) {
+            Ok(span) => Ok(self.hand_out(span)),
+            Err(fault) => Err(fault),
         }
     }
 }

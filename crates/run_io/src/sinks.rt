@@ -18,6 +18,8 @@ use thiserror::Error;
 #[error("write fault")]
 pub struct WriteFault;
 
+/// What takes bytes: a writer, or memory. Contracts see the bytes that it took, where it tells them
+/// (`MemSink` and a `Vec` do, a pipe or a file doesn't), and how many writes failed.
 pub trait Sink {
     /// The bytes that were taken, where the sink tells them.
     ghost taken: { Self → Option (List ℕ) };
@@ -25,7 +27,12 @@ pub trait Sink {
     /// How many writes have failed. It never falls.
     ghost faults: { Self → ℕ };
 
-    /// Takes bytes from the front of the piece. To take none of a piece that has some is a fault.
+    /// Takes a prefix of the piece, and says how many bytes. To take none of a piece that has some is
+    /// a fault, which is counted, but not an error.
+    ///
+    /// # Errors
+    ///
+    /// `Failed` where the write failed. It took nothing then.
     fn write(&mut self, from: &[u8]) -> Result<usize, Failed>
         ensures bound { WritesAtMost result from.now }
         ensures bytes { WriteAppends (taken self.old) (taken self.new) result from.now }
@@ -33,10 +40,14 @@ pub trait Sink {
         ensures zero { ZeroHasCause (faults self.old) (faults self.new) result from.now };
 }
 
-/// Writes the whole piece. After a fault a front of it was taken.
+/// Writes the whole piece, in as many writes as it needs. After a fault a prefix of it was taken.
+///
+/// # Errors
+///
+/// `WriteFault` where a write failed or took nothing.
 pub fn put<K: Sink>(sink: &mut K, from: &[u8]) -> Result<(), WriteFault>
     ensures all { OnOk result (Appends (K.taken sink.old) (K.taken sink.new) from.now) }
-    ensures front { OnErr result ((n : ℕ) × Appends (K.taken sink.old) (K.taken sink.new) (take n from.now)) }
+    ensures prefix { OnErr result ((n : ℕ) × Appends (K.taken sink.old) (K.taken sink.new) (take n from.now)) }
     ensures cause { HasCause (K.faults sink.old) (K.faults sink.new) result }
 {
     let mut at = 0;

@@ -15,6 +15,8 @@ use thiserror::Error;
 #[error("the transfer failed")]
 pub struct Failed;
 
+/// Where bytes come from: a reader, or memory. Contracts see the bytes that it has left, where it
+/// tells them (`MemSource` and a slice do, a pipe or a file doesn't), and how many reads failed.
 pub trait Source {
     /// The bytes that are left, where the source tells them.
     ghost left: { Self → Option (List ℕ) };
@@ -22,7 +24,12 @@ pub trait Source {
     /// How many reads have failed. It never falls.
     ghost faults: { Self → ℕ };
 
-    /// Takes bytes from the front of what is left. 0 for a buffer that isn't empty is the end.
+    /// Takes the next bytes of what is left, and says how many. 0 for a buffer that isn't empty is the
+    /// end.
+    ///
+    /// # Errors
+    ///
+    /// `Failed` where the read failed. It took nothing then.
     fn read(&mut self, into: &mut [u8]) -> Result<usize, Failed>
         ensures bound { ReadsAtMost result into.new }
         ensures bytes { ReadConsumes (left self.old) (left self.new) result into.new }

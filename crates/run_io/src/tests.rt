@@ -1,19 +1,24 @@
-//! Texts and faults by table, and pieces over the borders of a chunk.
+//! Texts and faults by table, and pieces over the borders of the buffer.
 use crate::lines::{Got, LineFault, LineReader};
+use crate::output::Output;
 use crate::sinks::{MemSink, StdSink, put};
 use crate::sources::{MemSource, Source, StdSource};
 use std::alloc::Global;
 use std::process::Abort;
 use std::test::Fail;
 
-/// What a reader gives until the end or a fault: a bar follows a whole line, a dot the last one.
+/// What a reader gives until the end or a fault: a bar follows a whole line, a dot the last one, and
+/// a plus stands before what needed no read.
 fn told<S: Source>(alloc: Global, limit: u32, source: &mut S) -> Result<String, Fail> {
     let mut reader = LineReader::make(alloc, limit);
     let mut told = String::new(alloc);
     for _ in 0..16 {
+        if reader.holds_line() {
+            told.push('+')?;
+        }
         match reader.next(alloc, source) {
             Ok(Some(line)) => {
-                told.push_str(std::str::from_utf8(line.bytes.as_slice())?)?;
+                told.push_str(std::str::from_utf8(line.bytes)?)?;
                 told.push(if line.whole { '|' } else { '.' })?;
             }
             Ok(None) => {
@@ -39,16 +44,19 @@ fn source_of(alloc: Global, text: &[u8], fails: &[u32]) -> Result<MemSource, Fai
 fn lines_of_a_text(rt: HostRuntime) -> Result<(), Fail> {
     let alloc = rt.alloc();
     let table = [
-        ("", "end"),
-        ("a\nbc\n", "a|bc|end"),
-        ("a\nbc", "a|bc.end"),
-        ("\n\nc", "||c.end"),
+        ("", 64, "end"),
+        ("a\nbc\n", 64, "a|+bc|end"),
+        ("a\nbc", 64, "a|bc.end"),
+        ("\n\nc", 64, "|+|c.end"),
+        ("\n\nc", 3, "|+|+too long"),
+        ("\n\nc", 2, "|+|+too long"),
+        ("", 0, "+too long"),
     ];
-    for (text, want) in table {
+    for (text, limit, want) in table {
         let mut source = source_of(alloc, text.as_bytes(), &[])?;
-        let got = told(alloc, 64, &mut source)?;
+        let got = told(alloc, limit, &mut source)?;
         assert_eq!(rt; got.as_str(), want);
-        let got = told(alloc, 64, &mut StdSource::make(text.as_bytes()))?;
+        let got = told(alloc, limit, &mut StdSource::make(text.as_bytes()))?;
         assert_eq!(rt; got.as_str(), want);
     }
     Ok(())
@@ -94,6 +102,24 @@ fn longest_line(rt: HostRuntime) -> Result<(), Fail> {
     Ok(())
 }
 
+/// Lines of 9,999 letters, so that the buffer ends within one.
+#[test]
+fn lines_over_the_buffer(rt: HostRuntime) -> Result<(), Fail> {
+    let alloc = rt.alloc();
+    let mut text = vec![in alloc; b'a'; 150_000]?;
+    for byte in text.iter_mut().skip(9_999).step_by(10_000) {
+        *byte = b'\n';
+    }
+    let mut source = MemSource::make(text, Vec::new(alloc));
+    let mut reader = LineReader::make(alloc, 1 << 28);
+    for _ in 0..15 {
+        let line = reader.next(alloc, &mut source)?.ok_or("a line")?;
+        check_piece(&rt, &line, 9_999, true);
+    }
+    assert!(rt; reader.next(alloc, &mut source)?.is_none());
+    Ok(())
+}
+
 #[test]
 fn reader_limit(rt: HostRuntime) -> Result<(), Fail> {
     let alloc = rt.alloc();
@@ -113,21 +139,21 @@ fn reader_limit(rt: HostRuntime) -> Result<(), Fail> {
 fn check_piece(rt: &impl Abort, got: &Got, len: usize, whole: bool) {
     assert_eq!(rt; got.bytes.len(), len);
     assert_eq!(rt; got.whole, whole);
-    assert!(rt; got.bytes.as_slice().iter().all(|b| *b == b'a'));
+    assert!(rt; got.bytes.iter().all(|b| *b == b'a'));
 }
 
 #[test]
-fn pieces_over_chunks(rt: HostRuntime) -> Result<(), Fail> {
+fn pieces_over_the_buffer(rt: HostRuntime) -> Result<(), Fail> {
     let alloc = rt.alloc();
-    let text = vec![in alloc; b'a'; 9_000]?;
+    let text = vec![in alloc; b'a'; 150_000]?;
     let mut source = MemSource::make(text, Vec::new(alloc));
     let mut reader = LineReader::make(alloc, 1 << 28);
     let table = [
-        (4_095, 4_095, true),
+        (65_535, 65_535, true),
         (3, 3, true),
         (0, 0, true),
-        (4_096, 4_096, true),
-        (1_000, 806, false),
+        (70_000, 70_000, true),
+        (20_000, 14_462, false),
         (1, 0, false),
         (0, 0, true),
     ];
@@ -144,11 +170,11 @@ fn pieces_between_lines(rt: HostRuntime) -> Result<(), Fail> {
     let mut source = source_of(alloc, b"ab\ncd\nef", &[])?;
     let mut reader = LineReader::make(alloc, 8);
     let piece = reader.take(alloc, &mut source, 1)?;
-    assert_eq!(rt; piece.bytes.as_slice(), b"a".as_slice());
+    assert_eq!(rt; piece.bytes, b"a".as_slice());
     let line = reader.next(alloc, &mut source)?.ok_or("a line")?;
-    assert_eq!(rt; line.bytes.as_slice(), b"b".as_slice());
+    assert_eq!(rt; line.bytes, b"b".as_slice());
     let piece = reader.take(alloc, &mut source, 4)?;
-    assert_eq!(rt; piece.bytes.as_slice(), b"cd\ne".as_slice());
+    assert_eq!(rt; piece.bytes, b"cd\ne".as_slice());
     let fault = reader.take(alloc, &mut source, 2).err();
     assert_eq!(rt; fault, Some(LineFault::TooLong));
     Ok(())
@@ -181,5 +207,26 @@ fn writes_to_a_writer(rt: HostRuntime) -> Result<(), Fail> {
     let mut out = Vec::new(rt.alloc());
     put(&mut StdSink::make(&mut out), b"ab")?;
     assert_eq!(rt; out.as_slice(), b"ab".as_slice());
+    Ok(())
+}
+
+#[test]
+fn output_in_one_piece(rt: HostRuntime) -> Result<(), Fail> {
+    let alloc = rt.alloc();
+    let mut sink = MemSink::make(alloc, 100_000, Vec::from_slice(alloc, &[2])?)?;
+    let mut output = Output::make(alloc)?;
+    output.text.push_str("a\n")?;
+    write!(output.text, "{}\n", 7)?;
+    output.flush(&mut sink)?;
+    assert_eq!(rt; sink.bytes(), b"a\n7\n".as_slice());
+    for _ in 0..65_535 {
+        output.text.push('a')?;
+    }
+    assert!(rt; !output.is_full());
+    output.text.push('a')?;
+    assert!(rt; output.is_full());
+    assert!(rt; output.flush(&mut sink).is_err());
+    output.flush(&mut sink)?;
+    assert_eq!(rt; sink.bytes().len(), 65_540);
     Ok(())
 }

@@ -1,16 +1,16 @@
 //! The table of a list of changes.
 ghost use Rattle.std.specs.Prelude.{◌≡◌, ◌==◌, ◌/◌, ◌%◌, ◌^◌, ◌<◌, ◌∷◌, ◌&&◌, ◌++◌, [], if◌then◌else◌, OnOk, IfOk, is_some};
-ghost use Rattle.br_model.specs.Admission.{is_up, is_forwarding, valid, vlan_of, admit};
+ghost use Rattle.br_model.specs.Admission.{is_up, is_forwarding, has_valid_source, vlan_of, admit};
 ghost use Rattle.br_model.specs.Eligible.{member, untagged, may};
 ghost use Rattle.br_model.specs.Domains.{host};
-ghost use Rattle.br_model.specs.Leave.{tag_at, takers};
+ghost use Rattle.br_model.specs.Leave.{tag_at, egress_ports};
 ghost use Rattle.br_model.specs.Maps.{get, has, pair_cmp};
 ghost use Rattle.std.specs.Ordering.{nat_cmp};
-ghost use Rattle.br_model.specs.Table.{Table as TableOf, start, apply as after_change, table as table_of, ip_version};
+ghost use Rattle.br_model.specs.Table.{Table as TableOf, start, apply as after_change, ip_version};
 ghost use Rattle.br_model.specs.Targets.{has_flag, with_flag, to_tree, knows_querier, members_of, to_routers, to_members, snooped_targets, unicast_targets, targets};
 
 use crate::NoMemory;
-use crate::change::{Change, Flags, Kind};
+use crate::change::{Change, DISABLED, FORWARDING, Flags, Kind};
 use crate::frame::{Head, McastMsg};
 use crate::group::Group;
 use crate::numbers::{Mac, Port, Vid};
@@ -82,7 +82,7 @@ impl Table {
     {
         join(&mut self.up, port)?;
         put(&mut self.flags, port, Flags::DEFAULT)?;
-        put(&mut self.state, port, 0)
+        put(&mut self.state, port, DISABLED)
     }
 
     fn port_down(&mut self, port: Port)
@@ -244,7 +244,10 @@ impl Table {
     pub fn is_for_tree(&self, port: Port, head: &Head) -> bool
         ensures { result ≡ to_tree self.now port head.now }
     {
-        head.dst.number() == TREE_ADDRESS && self.stp && self.is_up(port) && is_valid(head)
+        head.dst.number() == Mac::BRIDGE_GROUP_ADDRESS
+            && self.stp
+            && self.is_up(port)
+            && is_valid(head)
     }
 
     /// Whether port q may take a frame of the VLAN that came by port p.
@@ -257,7 +260,7 @@ impl Table {
             q != p
                 && self.is_forwarding(q)
                 && self.is_member(q, vid)
-                && !(self.has_flag(p, ISOLATED) && self.has_flag(q, ISOLATED))
+                && !(self.has_flag(p, Flags::ISOLATED) && self.has_flag(q, Flags::ISOLATED))
         }
     }
 
@@ -310,7 +313,7 @@ impl Table {
         if self.knows_querier(six) {
             self.routers(alloc)
         } else {
-            self.host_and(alloc, MCAST_FLOOD)
+            self.host_and(alloc, Flags::MCAST_FLOOD)
         }
     }
 
@@ -318,7 +321,7 @@ impl Table {
         ensures { IfOk result (λ v. v.items ≡ to_members self.now vid group) }
     {
         if group.is_link_local() || !self.knows_querier(group.is_six()) {
-            return self.host_and(alloc, MCAST_FLOOD);
+            return self.host_and(alloc, Flags::MCAST_FLOOD);
         }
         let mut ports = self.members_of(alloc, vid, group)?;
         ports.extend_from_slice(&self.routers(alloc)?)?;
@@ -335,7 +338,7 @@ impl Table {
     {
         match *msg {
             McastMsg::Plain | McastMsg::Query { .. } | McastMsg::Unrecognized => {
-                self.host_and(alloc, MCAST_FLOOD)
+                self.host_and(alloc, Flags::MCAST_FLOOD)
             }
             McastMsg::Payload(group) => self.to_members(alloc, vid, group),
             McastMsg::Report(group) | McastMsg::Leave(group) => {
@@ -349,8 +352,9 @@ impl Table {
         ensures { IfOk result (λ v. v.items ≡ unicast_targets self.now (get pair_cmp self.now.addr (vid, mac))) }
     {
         match find(&self.addr, &(vid, mac)) {
-            None => self.with_flag(alloc, FLOOD),
-            Some(entry) => Ok(vec![in alloc; entry.0]?),
+            None => self.with_flag(alloc, Flags::FLOOD),
+            Some((_, Kind::Local)) => Ok(vec![in alloc; Port::HOST]?),
+            Some((port, Kind::Static | Kind::Learned | Kind::Extern)) => Ok(vec![in alloc; port]?),
         }
     }
 
@@ -365,23 +369,23 @@ impl Table {
         ensures { IfOk result (λ v. v.items ≡ targets self.now vid head.now msg.now) }
     {
         let address = head.dst.number();
-        if (address == TREE_ADDRESS && self.stp) || address == PAUSE_ADDRESS {
+        if (address == Mac::BRIDGE_GROUP_ADDRESS && self.stp) || address == Mac::PAUSE_ADDRESS {
             Ok(Vec::new(alloc))
-        } else if PAUSE_ADDRESS < address && address <= LAST_RESERVED {
+        } else if Mac::PAUSE_ADDRESS < address && address <= Mac::LAST_RESERVED_ADDRESS {
             Ok(vec![in alloc; Port::HOST]?)
-        } else if address == BROADCAST {
-            self.host_and(alloc, BCAST_FLOOD)
+        } else if address == Mac::BROADCAST_ADDRESS {
+            self.host_and(alloc, Flags::BCAST_FLOOD)
         } else if !head.dst.is_multicast() {
             self.unicast_targets(alloc, vid, head.dst)
         } else if self.snoop {
             self.snooped_targets(alloc, vid, msg)
         } else {
-            self.host_and(alloc, MCAST_FLOOD)
+            self.host_and(alloc, Flags::MCAST_FLOOD)
         }
     }
 
     /// The ports that take a frame of the VLAN that came by this port, ascending.
-    pub fn takers(
+    pub fn egress_ports(
         &self,
         alloc: Global,
         port: Port,
@@ -389,70 +393,38 @@ impl Table {
         head: &Head,
         msg: &McastMsg,
     ) -> Result<Vec<Port>, NoMemory>
-        ensures { IfOk result (λ v. v.items ≡ takers self.now port vid head.now msg.now) }
+        ensures { IfOk result (λ v. v.items ≡ egress_ports self.now port vid head.now msg.now) }
     {
         let targets = self.targets(alloc, vid, head, msg)?;
-        let mut takers = Vec::new(alloc);
+        let mut egress_ports = Vec::new(alloc);
         for number in 0..Port::COUNT {
-            self.add_taker(&mut takers, &targets, port, number, vid)?;
+            self.add_egress_port(&mut egress_ports, &targets, port, number, vid)?;
         }
-        Ok(takers)
+        Ok(egress_ports)
     }
 
     /// Adds the port of this number, where it is among the targets and may take the frame.
-    fn add_taker(
+    fn add_egress_port(
         &self,
-        takers: &mut Vec<Port>,
+        egress_ports: &mut Vec<Port>,
         targets: &[Port],
         p: Port,
         number: u8,
         vid: Vid,
     ) -> Result<(), NoMemory>
         requires { number < 64 }
-        ensures { OnOk result (takers.new.items ≡ takers.old.items
+        ensures { OnOk result (egress_ports.new.items ≡ egress_ports.old.items
             ++ (if has nat_cmp targets.now number && may self.now p number vid then number ∷ [] else [])) }
     {
         if let Some(q) = Port::new(number)
             && targets.contains(&q)
             && self.may_take(p, q, vid)
         {
-            takers.push(q)?;
+            egress_ports.push(q)?;
         }
         Ok(())
     }
-
-    /// The table of these changes.
-    pub fn of(alloc: Global, changes: &[Change]) -> Result<Table, NoMemory>
-        ensures { IfOk result (λ t. t ≡ table_of changes.now) }
-    {
-        let mut table = Table::start(alloc)?;
-        for change in changes {
-            table.apply(change)?;
-        }
-        Ok(table)
-    }
 }
-
-/// Linux's number of the state.
-pub const FORWARDING: u8 = 3;
-
-// The places of the flags.
-const FLOOD: u8 = 1;
-
-const MCAST_FLOOD: u8 = 2;
-
-const BCAST_FLOOD: u8 = 3;
-
-const ISOLATED: u8 = 4;
-
-// Addresses that IEEE 802.1D reserves, and the broadcast address.
-const TREE_ADDRESS: u64 = 0x0180_C200_0000;
-
-const PAUSE_ADDRESS: u64 = 0x0180_C200_0001;
-
-const LAST_RESERVED: u64 = 0x0180_C200_000F;
-
-const BROADCAST: u64 = 0xFFFF_FFFF_FFFF;
 
 fn is_set(bits: u8, place: u8) -> bool
     requires { place < 8 }
@@ -463,7 +435,7 @@ fn is_set(bits: u8, place: u8) -> bool
 
 /// Whether the source is one station's address.
 fn is_valid(head: &Head) -> bool
-    ensures { result ≡ valid head.now }
+    ensures { result ≡ has_valid_source head.now }
 {
     !head.src.is_multicast() && head.src.number() != 0
 }

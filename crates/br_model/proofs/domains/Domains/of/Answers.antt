@@ -6,8 +6,8 @@ use Rattle.br_model.specs.Maps.{get}
 use Rattle.br_model.proofs.DomainLaws.{get-entries}
 use Rattle.br_model.proofs.domains.Domains.of.Goals as goal
 
-pub returns : goal.returns
-returns c =
+pub returns-clause-value : goal.returns-clause-value
+returns-clause-value c =
     let port : 0 + c.from.result ≡ c.args.p = omega (arith, c.from.ensures, c.number.ensures.value) in
     let here : c.from.result < length c.self.inside.by_port = omega (arith, c.number.ensures.below, c.from.ensures, c.number.ensures.value) in
     get_or_default c.self.inside.by_port c.from.result c.index-self-from.result None here

@@ -1,23 +1,35 @@
-use Rattle.std.proofs.Common.{◌≡◌, ℕ, ◌+◌, cond, List, sym, ◌∙◌, subst, ap, arith}
-use Rattle.fdb_core.specs.declared.slots.Slot.{Slot}
-use Rattle.fdb_core.specs.Slots.{IsSound}
-use Rattle.fdb_core.proofs.Soundness.{sound-put, handed_back}
+use Rattle.std.proofs.Common.{◌≡◌, List, None, length, ap, sym, subst, ◌∙◌, arith}
+use Rattle.std.specs.Ordering.{nat_cmp}
+use Rattle.std.specs.FinMap.Entries as entries
+use Rattle.br_model.specs.Maps.{pair_cmp, get, put}
+use Rattle.open_addressing.specs.Finite as numbers
+use Rattle.fdb_core.specs.declared.entries.Entry.{Entry}
+use Rattle.fdb_core.specs.Fdb.{Table}
+use Rattle.fdb_core.specs.Packing.{by_address, AreKeys}
+use Rattle.fdb_core.proofs.ByAddress.{Key, get-by_address, put-by_address, length-by_address, keys-put}
 use Rattle.fdb_core.proofs.table.Fdb.put.Goals as goal
+
+pub insert-requires-clause-room : goal.insert-requires-clause-room
+insert-requires-clause-room c none =
+    let k : Key = (c.args.vid, c.args.mac) in
+    let es = c.self.inside.entries.entries in
+    let absent : get pair_cmp c.args.self.now.entries k ≡ None =
+    sym (ap (λ (t : Table). get pair_cmp t.entries k) c.self.view_is) ∙ get-by_address k c.pack.ensures.below es ∙ ap (λ q. entries.find nat_cmp q es) (sym c.pack.ensures.value) ∙ none in
+    let long : length es ≡ length c.args.self.now.entries = sym (length-by_address es) ∙ ap (λ (t : Table). length t.entries) c.self.view_is in
+    let room : c.self.inside.entries.room ≡ c.args.self.now.room = ap (λ (t : Table). t.room) c.self.view_is in
+    let h = c.requires absent in
+    omega arith
 
 pub invariant_of-self : goal.invariant_of-self
 invariant_of-self c =
-    let new = c.put.new.slots in
-    let f = c.self.inside in
-    let one : cond {A = ℕ} c.put.result 1 0 ≡ 1 = ap (λ b. cond {A = ℕ} b 1 0) c.if-put.true in
-    subst (λ (xs : List Slot). IsSound f.homes (f.used + 1) f.room xs) (sym (handed_back f.slots.len new f.slots.items (c.put.ensures.length ∙ c.deref_mut.ensures.len)))
-    (sound-put f.homes f.used (f.used + 1) f.room f.slots.items c.deref_mut.result.now new (c.args.vid, c.args.mac) c.args.entry c.put.result c.self.invariant c.deref_mut.ensures.value (rw (← c.self.view_is) at c.requires)
-    c.put.ensures.new_key c.put.ensures.entries c.put.ensures.count c.put.ensures.length c.put.ensures.reached (omega arith))
+    subst AreKeys (sym (ap (λ (t : numbers.Table Entry). t.entries) c.insert.ensures)) (keys-put c.pack.result c.args.entry c.self.inside.entries.entries c.pack.ensures.is_key c.self.invariant)
 
-pub invariant_of-self-else-put : goal.invariant_of-self-else-put
-invariant_of-self-else-put c =
-    let new = c.put.new.slots in
-    let f = c.self.inside in
-    let none : cond {A = ℕ} c.put.result 1 0 ≡ 0 = ap (λ b. cond {A = ℕ} b 1 0) c.if-put.false in
-    subst (λ (xs : List Slot). IsSound f.homes f.used f.room xs) (sym (handed_back f.slots.len new f.slots.items (c.put.ensures.length ∙ c.deref_mut.ensures.len)))
-    (sound-put f.homes f.used f.used f.room f.slots.items c.deref_mut.result.now new (c.args.vid, c.args.mac) c.args.entry c.put.result c.self.invariant c.deref_mut.ensures.value (rw (← c.self.view_is) at c.requires)
-    c.put.ensures.new_key c.put.ensures.entries c.put.ensures.count c.put.ensures.length c.put.ensures.reached (omega arith))
+pub returns : goal.returns
+returns c =
+    let k : Key = (c.args.vid, c.args.mac) in
+    let m = c.self.inside.entries in
+    let view : numbers.Table Entry → Table = λ t. record { entries = by_address t.entries; room = t.room } in
+    let made : List (Key × Entry) → Table = λ es. record { entries = es; room = m.room } in
+    let puts : Table → Table = λ t. record { entries = put pair_cmp t.entries k c.args.entry; room = t.room } in
+    ap view c.insert.ensures ∙ ap (λ q. made (by_address (entries.put nat_cmp q c.args.entry m.entries))) c.pack.ensures.value
+    ∙ ap made (sym (put-by_address k c.pack.ensures.below c.args.entry m.entries)) ∙ ap puts c.self.view_is

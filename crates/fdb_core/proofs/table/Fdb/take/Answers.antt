@@ -1,25 +1,31 @@
-use Rattle.std.proofs.Common.{◌≡◌, ℕ, ◌-◌, cond, is_some, count_by, List, sym, ◌∙◌, subst, ap, arith}
-use Rattle.fdb_core.specs.declared.slots.Slot.{Slot}
-use Rattle.fdb_core.specs.Slots.{IsSound, is_used}
-use Rattle.fdb_core.proofs.Soundness.{sound-take, handed_back}
+use Rattle.std.proofs.Common.{ℕ, List, not, ap, sym, subst, ◌∙◌}
+use Rattle.std.specs.Ordering.{nat_cmp, eq_by_cmp}
+use Rattle.std.specs.FinMap.Entries as entries
+use Rattle.br_model.specs.Maps.{pair_cmp, get, without}
+use Rattle.open_addressing.specs.Finite as numbers
+use Rattle.fdb_core.specs.declared.entries.Entry.{Entry}
+use Rattle.fdb_core.specs.Fdb.{Table}
+use Rattle.fdb_core.specs.Packing.{by_address, AreKeys}
+use Rattle.fdb_core.proofs.ByAddress.{Key, get-by_address, without-by_address, keys-filter}
 use Rattle.fdb_core.proofs.table.Fdb.take.Goals as goal
 
 pub invariant_of-self : goal.invariant_of-self
 invariant_of-self c =
-    let new = c.take-taken.new.slots in
-    let f = c.self.inside in
-    let one : cond {A = ℕ} (is_some c.take-taken.result) 1 0 ≡ 1 = ap (λ b. cond {A = ℕ} b 1 0) (sym c.is_some.ensures ∙ c.if-is_some.true) in
-    let counted : count_by is_used c.deref_mut.result.now ≡ f.used = ap (count_by is_used) c.deref_mut.ensures.value ∙ c.self.invariant.counted in
-    let counts = c.take-taken.ensures.count in
-    subst (λ (xs : List Slot). IsSound f.homes (f.used - 1) f.room xs) (sym (handed_back f.slots.len new f.slots.items (c.take-taken.ensures.length ∙ c.deref_mut.ensures.len)))
-    (sound-take f.homes f.used (f.used - 1) f.room f.slots.items c.deref_mut.result.now new (c.args.vid, c.args.mac) c.take-taken.result c.self.invariant c.deref_mut.ensures.value
-    c.take-taken.ensures.entry c.take-taken.ensures.entries c.take-taken.ensures.count c.take-taken.ensures.length c.take-taken.ensures.reached (omega arith))
+    subst AreKeys (sym (ap (λ (t : numbers.Table Entry). t.entries) c.take.ensures.rest))
+    (keys-filter (λ (e : ℕ × Entry). not (eq_by_cmp nat_cmp c.pack.result e.0)) c.self.inside.entries.entries c.self.invariant)
 
-pub invariant_of-self-else-is_some : goal.invariant_of-self-else-is_some
-invariant_of-self-else-is_some c =
-    let new = c.take-taken.new.slots in
-    let f = c.self.inside in
-    let none : cond {A = ℕ} (is_some c.take-taken.result) 1 0 ≡ 0 = ap (λ b. cond {A = ℕ} b 1 0) (sym c.is_some.ensures ∙ c.if-is_some.false) in
-    subst (λ (xs : List Slot). IsSound f.homes f.used f.room xs) (sym (handed_back f.slots.len new f.slots.items (c.take-taken.ensures.length ∙ c.deref_mut.ensures.len)))
-    (sound-take f.homes f.used f.used f.room f.slots.items c.deref_mut.result.now new (c.args.vid, c.args.mac) c.take-taken.result c.self.invariant c.deref_mut.ensures.value
-    c.take-taken.ensures.entry c.take-taken.ensures.entries c.take-taken.ensures.count c.take-taken.ensures.length c.take-taken.ensures.reached (omega arith))
+pub returns-clause-entry : goal.returns-clause-entry
+returns-clause-entry c =
+    let es = c.self.inside.entries.entries in
+    c.take.ensures.value ∙ ap (λ q. entries.find nat_cmp q es) c.pack.ensures.value ∙ sym (get-by_address (c.args.vid, c.args.mac) c.pack.ensures.below es)
+    ∙ ap (λ (t : Table). get pair_cmp t.entries (c.args.vid, c.args.mac)) c.self.view_is
+
+pub returns-clause-rest : goal.returns-clause-rest
+returns-clause-rest c =
+    let k : Key = (c.args.vid, c.args.mac) in
+    let m = c.self.inside.entries in
+    let view : numbers.Table Entry → Table = λ t. record { entries = by_address t.entries; room = t.room } in
+    let made : List (Key × Entry) → Table = λ es. record { entries = es; room = m.room } in
+    let takes : Table → Table = λ t. record { entries = without pair_cmp t.entries k; room = t.room } in
+    ap view c.take.ensures.rest ∙ ap (λ q. made (by_address (entries.where_key nat_cmp (λ x. not (eq_by_cmp nat_cmp q x)) m.entries))) c.pack.ensures.value
+    ∙ ap made (sym (without-by_address k c.pack.ensures.below m.entries)) ∙ ap takes c.self.view_is

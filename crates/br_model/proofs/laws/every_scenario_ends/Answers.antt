@@ -1,0 +1,5 @@
+use Rattle.br_model.proofs.Endings.{every_ends}
+use Rattle.br_model.proofs.laws.every_scenario_ends.Goals as goal
+
+pub returns : goal.returns
+returns c = every_ends

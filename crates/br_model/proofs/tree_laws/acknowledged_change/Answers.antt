@@ -1,0 +1,5 @@
+use Rattle.br_model.proofs.TreeRuns.{acknowledged_change}
+use Rattle.br_model.proofs.tree_laws.acknowledged_change.Goals as goal
+
+pub returns : goal.returns
+returns c = acknowledged_change

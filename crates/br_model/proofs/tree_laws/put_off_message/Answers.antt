@@ -1,0 +1,5 @@
+use Rattle.br_model.proofs.TreeRuns.{put_off_message}
+use Rattle.br_model.proofs.tree_laws.put_off_message.Goals as goal
+
+pub returns : goal.returns
+returns c = put_off_message

@@ -1,0 +1,5 @@
+use Rattle.br_model.proofs.WrittenAddresses.{mac_read}
+use Rattle.br_model.proofs.written_laws.address_is_read.Goals as goal
+
+pub returns : goal.returns
+returns c = mac_read

@@ -1,0 +1,5 @@
+use Rattle.br_model.proofs.WrittenNumbers.{decimal_read}
+use Rattle.br_model.proofs.written_laws.decimal_is_read.Goals as goal
+
+pub returns : goal.returns
+returns c = decimal_read

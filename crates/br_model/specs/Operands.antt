@@ -1,0 +1,125 @@
+-- The operands of a line: what each kind is called in a form, and how it is read: its value, or its cause.
+-- Source: this profile; addresses are spelled as IEEE 802-2014 section 8.1 and iproute2 do.
+use Rattle.std.specs.Prelude.{ℕ, ◌==◌, nat_le, Bool, true, not, ◌&&◌, if◌then◌else◌, List, [], ◌∷◌, length, codes, slice_index_or}
+use Rattle.std.specs.declared.option.Option.{Option}
+use Rattle.std.specs.declared.option.Option.TheVariants.{None, Some}
+use Rattle.std.specs.declared.result.Result.{Result}
+use Rattle.std.specs.declared.result.Result.TheVariants.{Ok, Err}
+use Rattle.std.specs.Option.{is_some}
+use Rattle.br_model.specs.declared.scenario.LineWhy.{LineWhy}
+use Rattle.br_model.specs.declared.scenario.LineWhy.TheVariants as why
+use Rattle.br_model.specs.Digits.{decimal_from, bytes_from_hex, station}
+use Rattle.br_model.specs.Roster.{Entry, has_number, port_named, is_name}
+use Rattle.br_model.specs.Words.{Word}
+
+pub data Operand : Type 0 where
+  -- a decimal number from the first to the second
+  Number : ℕ → ℕ → Operand
+  -- the number of a port that isn't declared yet, and its name
+  NewPort : Operand
+  NewName : Operand
+  -- a declared port, by its number and by its name
+  PortNumber : Operand
+  PortName : Operand
+  -- an address of one station
+  Station : Operand
+  -- bytes, at least one
+  Hex : Operand
+
+-- what the operands are called in a form
+abbrev pub operands : List (Word × Operand)
+operands =
+    (codes "NUMBER", NewPort) ∷
+    (codes "NEWNAME", NewName) ∷
+    (codes "PORT", PortNumber) ∷
+    (codes "NAME", PortName) ∷
+    (codes "MAC", Station) ∷
+    (codes "HEX", Hex) ∷
+    (codes "VID", Number 1 4094) ∷
+    []
+
+-- what an operand gives: a number, a name or bytes
+abbrev pub Value : Operand → Type 0
+Value (Number low high) = ℕ
+Value NewPort = ℕ
+Value NewName = Word
+Value PortNumber = ℕ
+Value PortName = ℕ
+Value Station = ℕ
+Value Hex = List ℕ
+
+abbrev pub number_in : ℕ → ℕ → Option ℕ → Result ℕ LineWhy
+number_in low high None = Err why.Number
+number_in low high (Some n) = if nat_le low n && nat_le n high then Ok n else Err why.Number
+
+unfoldable pub number : ℕ → ℕ → Word → Result ℕ LineWhy
+number low high word = number_in low high (decimal_from word)
+
+-- the value if it stands there, else the fault
+abbrev pub found : {A : Type 0} → LineWhy → Option A → Result A LineWhy
+found fault None = Err fault
+found fault (Some x) = Ok x
+
+abbrev pub unless : {A : Type 0} → LineWhy → (A → Bool) → Result A LineWhy → Result A LineWhy
+unless fault test (Err e) = Err e
+unless fault test (Ok x) = if test x then Err fault else Ok x
+
+unfoldable pub new_port : List Entry → Word → Result ℕ LineWhy
+new_port ports word = unless why.Port (λ n. has_number ports n) (number 1 63 word)
+
+unfoldable pub new_name : List Entry → Word → Result Word LineWhy
+new_name ports word = if is_name word && not (is_some (port_named ports word)) then Ok word else Err why.Port
+
+-- a number that isn't a declared port's is no port, however large
+unfoldable pub port_number : List Entry → Word → Result ℕ LineWhy
+port_number ports word = unless why.Port (λ n. not (nat_le n 63 && has_number ports n)) (found why.Number (decimal_from word))
+
+unfoldable pub port_name : List Entry → Word → Result ℕ LineWhy
+port_name ports word = found why.Port (port_named ports word)
+
+abbrev pub at : Word → ℕ → ℕ
+at word i = slice_index_or word i 0
+
+abbrev pub has_colons : Word → Bool
+has_colons w = at w 2 == 58 && (at w 5 == 58 && (at w 8 == 58 && (at w 11 == 58 && at w 14 == 58)))
+
+abbrev pub twelve : Word → List ℕ
+twelve w = at w 0 ∷ at w 1 ∷ at w 3 ∷ at w 4 ∷ at w 6 ∷ at w 7 ∷ at w 9 ∷ at w 10 ∷ at w 12 ∷ at w 13 ∷ at w 15 ∷ at w 16 ∷ []
+
+abbrev pub station_of : Option (List ℕ) → Result ℕ LineWhy
+station_of None = Err why.Address
+station_of (Some bytes) = found why.Address (station bytes)
+
+-- six pairs of digits joined by colons, of one station
+unfoldable pub mac : Word → Result ℕ LineWhy
+mac w = if length w == 17 && has_colons w then station_of (bytes_from_hex (twelve w)) else Err why.Address
+
+abbrev pub some_bytes : List ℕ → Result (List ℕ) LineWhy
+some_bytes [] = Err why.Hex
+some_bytes (b ∷ bytes) = Ok (b ∷ bytes)
+
+abbrev pub bytes_of : Option (List ℕ) → Result (List ℕ) LineWhy
+bytes_of None = Err why.Hex
+bytes_of (Some bytes) = some_bytes bytes
+
+unfoldable pub hex : Word → Result (List ℕ) LineWhy
+hex w = bytes_of (bytes_from_hex w)
+
+abbrev pub read : List Entry → (o : Operand) → Word → Result (Value o) LineWhy
+read ports (Number low high) word = number low high word
+read ports NewPort word = new_port ports word
+read ports NewName word = new_name ports word
+read ports PortNumber word = port_number ports word
+read ports PortName word = port_name ports word
+read ports Station word = mac word
+read ports Hex word = hex word
+
+-- Whether the word can stand there at all. Of the words of a form itself only some can; any word can be an operand, if a bad one.
+abbrev pub can_stand : Operand → Word → Bool
+can_stand (Number low high) word = true
+can_stand NewPort word = true
+can_stand NewName word = true
+can_stand PortNumber word = true
+can_stand PortName word = true
+can_stand Station word = true
+can_stand Hex word = true

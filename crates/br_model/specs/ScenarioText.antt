@@ -1,0 +1,57 @@
+-- Steps as lines of a scenario.
+-- Source: this profile; addresses are spelled as IEEE 802-2014 section 8.1 and iproute2 do, with colons.
+use Rattle.std.specs.Prelude.{ℕ, ◌+◌, ◌/◌, ◌%◌, ◌^◌, ◌==◌, if◌then◌else◌, List, [], ◌∷◌, ◌++◌, take, codes}
+use Rattle.std.specs.Fmt.{decimal}
+use Rattle.br_model.specs.declared.change.Kind.{Kind}
+use Rattle.br_model.specs.declared.change.Kind.TheVariants.{Local, Static, Learned, Extern}
+use Rattle.br_model.specs.declared.steps.Command.{Command}
+use Rattle.br_model.specs.declared.steps.Command.TheVariants as commands
+use Rattle.br_model.specs.declared.steps.Step.{Step}
+use Rattle.br_model.specs.declared.steps.Step.TheVariants.{Rx, Cmd, Serve, Publish}
+use Rattle.br_model.specs.Digits.{hex_of}
+use Rattle.br_model.specs.Frames.{longest_frame}
+use Rattle.br_model.specs.Roster.{Entry}
+use Rattle.br_model.specs.Words.{Word}
+
+-- the name of a declared port
+abbrev pub name_of : List Entry → ℕ → Word
+name_of [] port = []
+name_of (e ∷ ports) port = if e.port == port then e.name else name_of ports port
+
+-- the byte of an address that stands so many bits above its lowest
+abbrev pub byte_at : ℕ → ℕ → ℕ
+byte_at mac bits = mac / 2 ^ bits % 256
+
+-- six pairs of digits, joined by colons
+abbrev pub mac_text : ℕ → Word
+mac_text mac =
+    hex_of (byte_at mac 40 ∷ []) ++ (58 ∷ hex_of (byte_at mac 32 ∷ []) ++ (58 ∷ hex_of (byte_at mac 24 ∷ []) ++ (58 ∷
+    hex_of (byte_at mac 16 ∷ []) ++ (58 ∷ hex_of (byte_at mac 8 ∷ []) ++ (58 ∷ hex_of (byte_at mac 0 ∷ []))))))
+
+abbrev pub kind_word : Kind → Word
+kind_word Local = codes "local"
+kind_word Static = codes "static"
+kind_word Learned = codes "learned"
+kind_word Extern = codes "extern"
+
+-- the words after `cmd`
+abbrev pub command_text : List Entry → Command → List ℕ
+command_text ports (commands.PortUp port) = codes "port up " ++ name_of ports port
+command_text ports (commands.FdbAdd vid mac port kind) =
+    codes "fdb add " ++ (mac_text mac ++ (codes " dev " ++ (name_of ports port ++ (codes " vlan " ++ (decimal vid ++ (32 ∷ kind_word kind))))))
+
+-- The bytes by which a frame is written: of one that is too long, enough to tell; a byte of one that has none.
+abbrev pub shown : List ℕ → List ℕ
+shown [] = 0 ∷ []
+shown (byte ∷ bytes) = take (longest_frame + 1) (byte ∷ bytes)
+
+-- a step's line, without its line feed
+abbrev pub step_words : List Entry → Step → List ℕ
+step_words ports (Rx port bytes) = codes "rx " ++ (decimal port ++ (32 ∷ hex_of (shown bytes)))
+step_words ports (Cmd command) = codes "cmd " ++ command_text ports command
+step_words ports Serve = codes "serve"
+step_words ports Publish = codes "publish"
+
+-- and with it
+abbrev pub step_text : List Entry → Step → List ℕ
+step_text ports step = step_words ports step ++ 10 ∷ []

@@ -1,0 +1,46 @@
+//! The lines of a transcript.
+use crate::bytes::Bytes;
+use crate::frame::FrameFault;
+use crate::numbers::Port;
+use crate::steps::Refusal;
+use lists::Items;
+
+/// One line of a transcript.
+#[derive(Drop)]
+pub enum Line {
+    /// The bytes are no frame.
+    Unread {
+        id: u32,
+        why: FrameFault,
+    },
+    /// Software decided the frame by the first `point` changes.
+    Soft {
+        id: u32,
+        point: u32,
+    },
+    /// The frame left a port.
+    Tx {
+        id: u32,
+        port: Port,
+        bytes: Bytes,
+    },
+    /// The step was done, with so many changes.
+    Done {
+        step: u32,
+        changes: u32,
+    },
+    Refused {
+        step: u32,
+        refusal: Refusal,
+    },
+    /// So many steps and changes in all, deferred changes that no chip applied, and frames that wait.
+    End {
+        steps: u32,
+        changes: u32,
+        pending: u32,
+        waiting: u32,
+    },
+}
+
+/// Lines in the order in which they are written.
+pub type Lines = Items<Line>;

@@ -1,0 +1,43 @@
+//! What is written is read back. A law is a function that does nothing: its contract says it.
+ghost use Rattle.std.specs.Prelude.{◌≡◌, ◌==◌, ◌||◌, ℕ, ◌<◌, ◌^◌, decimal, List, true, false, nat_lt};
+ghost use Rattle.std.specs.List.{list_all};
+ghost use Rattle.br_model.specs.declared.scenario.Said.TheVariants.{Does};
+ghost use Rattle.br_model.specs.declared.steps.Step.{Step};
+ghost use Rattle.br_model.specs.CommandForms.{step};
+ghost use Rattle.br_model.specs.Frames.{frame};
+ghost use Rattle.br_model.specs.LineForms.{line_says};
+ghost use Rattle.br_model.specs.Roster.{Roster};
+ghost use Rattle.br_model.specs.WrittenSteps.{has_line, given, is_whole};
+ghost use Rattle.br_model.specs.Numbers.{is_multicast};
+ghost use Rattle.br_model.specs.Operands.{mac};
+ghost use Rattle.br_model.specs.ScenarioText.{mac_text, shown, step_words};
+ghost use Rattle.br_model.specs.Declarations.{are_declared};
+ghost use Rattle.br_model.specs.Digits.{decimal_from, hex_of, bytes_from_hex};
+
+/// A number is read back from its digits.
+pub fn decimal_is_read()
+    ensures { (n : ℕ) → n < 2 ^ 64 → decimal_from (decimal n) ≡ Some n }
+{}
+
+/// Bytes are read back from their digits.
+pub fn hex_is_read()
+    ensures { (bytes : List ℕ) → list_all (λ byte. nat_lt byte 256) bytes ≡ true → bytes_from_hex (hex_of bytes) ≡ Some bytes }
+{}
+
+/// An address of one station is read back.
+pub fn address_is_read()
+    ensures { (m : ℕ) → m < 2 ^ 48 → (is_multicast m || m == 0) ≡ false → mac (mac_text m) ≡ Ok m }
+{}
+
+/// The line of a step is read back to the step. Of a frame that is too long, or has no byte, it keeps what tells so.
+pub fn step_is_read()
+    ensures any { (r : Roster) (s : Step) → step r.place ≡ true → are_declared r.ports ≡ true → has_line r.ports s ≡ true
+        → line_says r (step_words r.ports s) ≡ Ok (Does (given s)) }
+    ensures whole { (r : Roster) (s : Step) → step r.place ≡ true → are_declared r.ports ≡ true → has_line r.ports s ≡ true → is_whole s ≡ true
+        → line_says r (step_words r.ports s) ≡ Ok (Does s) }
+{}
+
+/// What is kept of a frame is refused as the frame is.
+pub fn frame_is_shown()
+    ensures { (bytes : List ℕ) → frame (shown bytes) ≡ frame bytes }
+{}

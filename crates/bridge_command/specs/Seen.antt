@@ -1,0 +1,49 @@
+-- What the code of texts sees of words and of declared ports.
+use Rattle.std.specs.Prelude.{◌≡◌, ◌⊎◌, slice_get, ℕ, Bool, true, false, ◌==◌, List, [], slice_index_or, string_bytes, String}
+use Rattle.std.specs.Borrow.{Bor}
+use Rattle.std.specs.Option.{option_map_or}
+use Rattle.std.specs.declared.alloc.Global.{Global}
+use Rattle.std.specs.declared.result.Result.{Result}
+use Rattle.std.specs.declared.result.Result.TheVariants.{Ok, Err}
+use Rattle.br_model.specs.declared.scenario.LineWhy.{LineWhy}
+use Rattle.br_model.specs.declared.scenario.LineWhy.TheVariants as why
+use Rattle.br_model.specs.declared.scenario.Place.{Place}
+use Rattle.br_model.specs.declared.scenario.Place.TheVariants.{Opening, Header, Declarations, Steps}
+use Rattle.br_model.specs.CommandForms.{step}
+use Rattle.br_model.specs.LineForms.{opening, declaration}
+use Rattle.br_model.specs.Roster.{Entry}
+use Rattle.br_model.specs.Words.{Word}
+
+-- the word of that index; a slice pattern reads its words with this default
+abbrev pub word : List (Bor Word) → ℕ → Word
+word ws i = (slice_index_or ws i (record { ref_ptr = (0, 0); now = [] })).now
+
+-- an entry of the map of names
+abbrev pub entry : String Global × (ℕ × ℕ) → Entry
+entry e = record { name = string_bytes e.0; port = e.1.0; dom = e.1.1 }
+
+-- whether a form stands in its place
+abbrev pub in_place : Bool → Result (Unit {0}) LineWhy
+in_place true = Ok tt
+in_place false = Err why.Place
+
+-- directly after the first line
+abbrev pub header : Place → Bool
+header Opening = false
+header Header = true
+header Declarations = false
+header Steps = false
+
+-- whether a form stands that may come first where a scenario has reached the first place
+abbrev pub stands_at : Place → Place → Bool
+stands_at Opening now = opening now
+stands_at Header now = header now
+stands_at Declarations now = declaration now
+stands_at Steps now = step now
+
+-- the answer, or that there was no memory
+abbrev pub OrNoMemory : {A : Type 0} → Result A LineWhy → Result A LineWhy → Type 0
+OrNoMemory result answer = (result ≡ Err why.NoMemory) ⊎ (result ≡ answer)
+
+abbrev pub is_port_at : List Entry → ℕ → ℕ → Bool
+is_port_at ports i n = option_map_or (λ e. e.port == n) (slice_get ports i) false

@@ -1,0 +1,137 @@
+//! Operands, as words spell them.
+ghost use Rattle.std.specs.Prelude.{◌≡◌, length, ◌-◌, ◌^◌, ◌<◌, ◌≤◌, min, IfOk};
+ghost use Rattle.std.specs.List.{list_all};
+ghost use Rattle.std.specs.Option.{option_map};
+ghost use Rattle.br_model.specs.declared.scenario.LineWhy.TheVariants.{Address};
+ghost use Rattle.br_model.specs.Digits.{decimal_from, station as station_of, bytes_from_hex};
+ghost use Rattle.br_model.specs.Operands.{number as number_of, mac as mac_of, has_colons as has_colons_at, twelve, found};
+ghost use Rattle.br_model.specs.Roster.{is_name as is_a_name, is_name_byte as is_a_name_byte};
+
+use br_model::numbers::{Mac, Vid};
+use br_model::scenario::LineWhy;
+use hex::FromHex;
+
+/// The number that the word spells, where `u64::MAX` stands for all larger ones.
+pub(crate) fn decimal(word: &str) -> Option<u64>
+    ensures { result ≡ option_map (λ n. min n (2 ^ 64 - 1)) (decimal_from word.now) }
+{
+    let digits = word.as_bytes();
+    if digits.is_empty() || (digits.len() > 1 && digits[0] == b'0') {
+        return None;
+    }
+    let mut number = 0u64;
+    for digit in digits {
+        if !digit.is_ascii_digit() {
+            return None;
+        }
+        number = number
+            .saturating_mul(10)
+            .saturating_add(u64::from(*digit - b'0'));
+    }
+    Some(number)
+}
+
+/// A number from `low` to `high`.
+#[tactic(auto, unfolding(br_model::specs::Operands::number))]
+pub(crate) fn number(word: &str, low: u64, high: u64) -> Result<u64, LineWhy>
+    requires { high < 2 ^ 64 - 1 }
+    ensures value { result ≡ number_of low high word.now }
+    ensures least { IfOk result (λ n. low ≤ n) }
+    ensures most { IfOk result (λ n. n ≤ high) }
+{
+    match decimal(word) {
+        Some(number) if number >= low && number <= high => Ok(number),
+        _ => Err(LineWhy::Number),
+    }
+}
+
+pub(crate) fn vlan(word: &str) -> Result<Vid, LineWhy>
+    ensures { result ≡ number_of 1 4094 word.now }
+{
+    let number = number(word, 1, 4094)?;
+    match Vid::new(number as u16) {
+        Some(vid) => Ok(vid),
+        None => Err(LineWhy::Number),
+    }
+}
+
+/// The bytes of the longest name.
+const LONGEST_NAME: usize = 15;
+
+fn is_name_byte(byte: u8) -> bool
+    ensures { result ≡ is_a_name_byte byte }
+{
+    byte.is_ascii_alphanumeric() || byte == b'.' || byte == b'-' || byte == b'_'
+}
+
+fn has_name_bytes(word: &[u8]) -> bool
+    ensures { result ≡ list_all is_a_name_byte word.now }
+{
+    word.iter().all(|byte| is_name_byte(*byte))
+}
+
+/// Whether a port can have the name.
+pub(crate) fn is_name(word: &str) -> bool
+    ensures { result ≡ is_a_name word.now }
+{
+    !word.is_empty()
+        && word.len() <= LONGEST_NAME
+        && has_name_bytes(word.as_bytes())
+        && word != "host"
+}
+
+/// The address, unless it names a group or is all zeros.
+fn station(bytes: [u8; 6]) -> Result<Mac, LineWhy>
+    ensures { result ≡ found Address (station_of bytes) }
+{
+    let address = Mac::new(bytes);
+    if address.is_multicast() || address.number() == 0 {
+        Err(LineWhy::Address)
+    } else {
+        Ok(address)
+    }
+}
+
+fn has_colons(text: &[u8]) -> bool
+    requires { length text.now ≡ 17 }
+    ensures { result ≡ has_colons_at text.now }
+{
+    text[2] == b':' && text[5] == b':' && text[8] == b':' && text[11] == b':' && text[14] == b':'
+}
+
+/// The digits of an address, without its colons.
+fn digits_of(text: &[u8]) -> [u8; 12]
+    requires { length text.now ≡ 17 }
+    ensures { result ≡ twelve text.now }
+{
+    [
+        text[0], text[1], text[3], text[4], text[6], text[7], text[9], text[10], text[12],
+        text[13], text[15], text[16],
+    ]
+}
+
+fn six_bytes(digits: &[u8]) -> Option<[u8; 6]>
+    requires { length digits.now ≡ 12 }
+    ensures { result ≡ bytes_from_hex digits.now }
+{
+    match <[u8; 6]>::from_hex(digits) {
+        Ok(bytes) => Some(bytes),
+        Err(_) => None,
+    }
+}
+
+/// The address of one station.
+#[tactic(auto, unfolding(br_model::specs::Operands::mac))]
+pub(crate) fn mac(word: &str) -> Result<Mac, LineWhy>
+    ensures { result ≡ mac_of word.now }
+{
+    let text = word.as_bytes();
+    if text.len() != 17 || !has_colons(text) {
+        return Err(LineWhy::Address);
+    }
+    let digits = digits_of(text);
+    match six_bytes(digits.as_slice()) {
+        Some(bytes) => station(bytes),
+        None => Err(LineWhy::Address),
+    }
+}

@@ -1,0 +1,260 @@
+//! The declared ports, and the place that a scenario has reached.
+ghost use Rattle.std.specs.Prelude.{◌≡◌, ◌≢◌, ◌==◌, length, OnOk, OnErr, IfOk, IfSome, slice_get, true, false, not, ◌&&◌, Some, Ok};
+ghost use Rattle.std.specs.Option.{option_map, is_some};
+ghost use Rattle.br_model.specs.declared.scenario.Said.TheVariants.{Declares};
+ghost use Rattle.br_model.specs.Domains.{host};
+ghost use Rattle.br_model.specs.Operands.{port_name, new_port as new_port_of, new_name as new_name_of, port_number as port_number_of};
+ghost use Rattle.br_model.specs.Roster.{first_roster, domains_of, has_number, port_named, is_name as is_a_name};
+ghost use Rattle.br_model.specs.Scenario.{declared};
+ghost use Rattle.br_model.specs.ScenarioText.{name_of};
+ghost use Rattle.br_model.specs.Declarations.{fits_beside, are_declared};
+ghost use Rattle.bridge_command.specs.Seen.{in_place, stands_at, is_port_at, OrNoMemory};
+
+use crate::operands::{decimal, is_name, number};
+use br_model::NoMemory;
+use br_model::domains::Domains;
+use br_model::name::Name;
+use br_model::numbers::{Dom, Port};
+use br_model::scenario::{LineWhy, Place};
+use indexmap::IndexMap;
+use std::alloc::Global;
+use std::marker::Model;
+
+/// The place that a scenario has reached, whether its command is `check`, and its declared ports, seen as their list in the
+/// order of their lines. Each has a number from 1 to 63 and a name of its own.
+#[derive(Drop)]
+pub struct Roster {
+    place: Place,
+    check: bool,
+    ports: IndexMap<String, (Port, Dom)>,
+    /// The domains of the same ports.
+    domains: Domains,
+}
+
+impl Model for Roster {
+    ghost use Rattle.std.specs.Prelude.{◌≡◌, true, map};
+    ghost use Rattle.br_model.specs.Roster.{Roster as Ports, domains_of};
+    ghost use Rattle.br_model.specs.Declarations.{are_declared};
+    ghost use Rattle.bridge_command.specs.Seen.{entry};
+
+    ghost Value = { Ports };
+
+    ghost view = { λ r. record { place = r.place; check = r.check; ports = map entry r.ports.entries } };
+
+    ghost invariant = { λ r. (are_declared (map entry r.ports.entries) ≡ true) × (r.domains ≡ domains_of (map entry r.ports.entries)) };
+}
+
+impl Roster {
+    /// Before the first line.
+    pub fn make(alloc: Global, check: bool) -> Result<Roster, NoMemory>
+        ensures { result ≡ Ok (first_roster check) }
+    {
+        Ok(Roster {
+            place: Place::Opening,
+            check,
+            ports: IndexMap::new(alloc),
+            domains: Domains::make(),
+        })
+    }
+
+    pub fn place(&self) -> Place
+        ensures { result ≡ self.now.place }
+    {
+        self.place
+    }
+
+    /// Whether the command is `check`.
+    pub fn is_check(&self) -> bool
+        ensures { result ≡ self.now.check }
+    {
+        self.check
+    }
+
+    /// How many ports are declared.
+    pub fn len(&self) -> usize
+        ensures value { result ≡ length self.now.ports }
+        ensures declared { are_declared self.now.ports ≡ true }
+    {
+        self.ports.len()
+    }
+
+    pub fn is_empty(&self) -> bool
+        ensures { result ≡ (length self.now.ports == 0) }
+    {
+        self.ports.is_empty()
+    }
+
+    /// The port that was declared in that place, counting from 0.
+    pub fn port(&self, i: usize) -> Option<Port>
+        ensures value { result ≡ option_map (λ e. e.port) (slice_get self.now.ports i) }
+        ensures declared { are_declared self.now.ports ≡ true }
+    {
+        match self.ports.get_index(i) {
+            Some((_, (port, _))) => Some(*port),
+            None => None,
+        }
+    }
+
+    /// The domain of each declared port, and of the host.
+    pub fn domains(&self) -> Domains
+        ensures value { result ≡ domains_of self.now.ports }
+        ensures declared { are_declared self.now.ports ≡ true }
+    {
+        let mut domains = Domains::make();
+        for i in 0..self.len() {
+            let Some((port, dom)) = self.entry(i) else {
+                continue;
+            };
+            domains.set(port, dom);
+        }
+        domains
+    }
+
+    /// The port that was declared in that place, and its domain.
+    fn entry(&self, i: usize) -> Option<(Port, Dom)>
+        ensures { result ≡ option_map (λ e. (e.port, e.dom)) (slice_get self.now.ports i) }
+    {
+        match self.ports.get_index(i) {
+            Some((_, (port, dom))) => Some((*port, *dom)),
+            None => None,
+        }
+    }
+
+    /// The name with which the port was declared.
+    pub fn name(&self, p: Port) -> Option<&str>
+        ensures found { is_some result ≡ has_number self.now.ports p }
+        ensures value { IfSome result (λ name. name.now ≡ name_of self.now.ports p) }
+        ensures declared { are_declared self.now.ports ≡ true }
+    {
+        for i in 0..self.len() {
+            if self.is_at(i, p) {
+                return self.name_at(i);
+            }
+        }
+        None
+    }
+
+    /// Whether the port was declared in that place.
+    fn is_at(&self, i: usize, p: Port) -> bool
+        ensures { result ≡ is_port_at self.now.ports i p }
+    {
+        match self.ports.get_index(i) {
+            Some((_, (port, _))) => *port == p,
+            None => false,
+        }
+    }
+
+    fn name_at(&self, i: usize) -> Option<&str>
+        ensures found { is_some result ≡ is_some (slice_get self.now.ports i) }
+        ensures value { IfSome result (λ name. Some name.now ≡ option_map (λ e. e.name) (slice_get self.now.ports i)) }
+    {
+        match self.ports.get_index(i) {
+            Some((name, _)) => Some(name.as_str()),
+            None => None,
+        }
+    }
+
+    /// Whether a form stands that may come first where a scenario has reached this place.
+    pub fn stands(&self, place: Place) -> Result<(), LineWhy>
+        ensures { result ≡ in_place (stands_at place self.now.place) }
+    {
+        let stands = match place {
+            Place::Opening => self.place == Place::Opening,
+            Place::Header => self.place == Place::Header,
+            Place::Declarations => self.place == Place::Header || self.place == Place::Declarations,
+            Place::Steps => self.place != Place::Opening,
+        };
+        if stands { Ok(()) } else { Err(LineWhy::Place) }
+    }
+
+    /// The port that the word names.
+    #[tactic(auto, unfolding(br_model::specs::Operands::port_name))]
+    pub(crate) fn named(&self, word: &str) -> Result<Port, LineWhy>
+        ensures { result ≡ port_name self.now.ports word.now }
+    {
+        match self.ports.get(word) {
+            Some((port, _)) => Ok(*port),
+            None => Err(LineWhy::Port),
+        }
+    }
+
+    fn is_declared(&self, p: Port) -> bool
+        ensures { result ≡ has_number self.now.ports p }
+    {
+        !p.is_host() && self.domains.of(p).is_some()
+    }
+
+    /// The declared port whose number the word spells.
+    #[tactic(auto, unfolding(br_model::specs::Operands::port_number))]
+    pub fn numbered(&self, word: &str) -> Result<Port, LineWhy>
+        ensures { result ≡ port_number_of self.now.ports word.now }
+    {
+        let Some(number) = decimal(word) else {
+            return Err(LineWhy::Number);
+        };
+        if number > 63 {
+            return Err(LineWhy::Port);
+        }
+        match Port::new(number as u8) {
+            Some(port) if self.is_declared(port) => Ok(port),
+            _ => Err(LineWhy::Port),
+        }
+    }
+
+    /// The number of a port that isn't declared yet.
+    #[tactic(auto, unfolding(br_model::specs::Operands::new_port))]
+    pub fn new_port(&self, word: &str) -> Result<Port, LineWhy>
+        ensures value { result ≡ new_port_of self.now.ports word.now }
+        ensures fits { IfOk result (λ p. (p ≢ host) × (has_number self.now.ports p ≡ false)) }
+    {
+        let number = number(word, 1, 63)?;
+        match Port::new(number as u8) {
+            Some(port) if !self.is_declared(port) => Ok(port),
+            _ => Err(LineWhy::Port),
+        }
+    }
+
+    /// The name of a port that isn't declared yet.
+    #[tactic(auto, unfolding(br_model::specs::Operands::new_name))]
+    pub fn new_name(&self, alloc: Global, word: &str) -> Result<Name, LineWhy>
+        ensures value { OrNoMemory result (new_name_of self.now.ports word.now) }
+        ensures fits { IfOk result (λ name. (is_a_name name && not (is_some (port_named self.now.ports name))) ≡ true) }
+    {
+        if !is_name(word) || self.is_taken(word) {
+            return Err(LineWhy::Port);
+        }
+        match String::from_str(alloc, word) {
+            Ok(text) => Ok(Name::of(text)),
+            Err(_) => Err(LineWhy::NoMemory),
+        }
+    }
+
+    #[tactic(auto, unfolding(br_model::specs::Operands::port_name))]
+    fn is_taken(&self, word: &str) -> bool
+        ensures { result ≡ is_some (port_named self.now.ports word.now) }
+    {
+        match self.named(word) {
+            Ok(_) => true,
+            Err(_) => false,
+        }
+    }
+
+    /// The scenario reaches this place.
+    pub fn reach(&mut self, place: Place)
+        ensures { self.new ≡ record self.old { place = place } }
+    {
+        self.place = place;
+    }
+
+    /// The port is declared, and the scenario is among its declarations.
+    pub fn declare(&mut self, port: Port, name: Name, dom: Dom) -> Result<(), NoMemory>
+        requires { fits_beside self.old.ports (record { name = name; port = port; dom = dom }) ≡ true }
+        ensures ok { OnOk result (self.new ≡ declared self.old (Declares port name dom)) }
+        ensures err { OnErr result (self.new ≡ self.old) }
+    {
+        self.ports.insert(name.into_text(), (port, dom))?;
+        self.domains.set(port, dom);
+        self.place = Place::Declarations;
+        Ok(())
+    }
+}

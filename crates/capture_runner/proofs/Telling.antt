@@ -1,0 +1,115 @@
+-- The text of a run, from its first line to its last.
+use Rattle.std.proofs.Common.{◌≡◌, ℕ, ◌≤◌, false, List, [], ◌∷◌, ◌++◌, length, None, Some, Option, Err, refl, sym, ◌∙◌, ap, subst, arith, codes, append_assoc, length-append}
+use Rattle.std.specs.Io.KnownBytes.{Appends, Consumes}
+use Rattle.std.proofs.KnownBytes.{Appends-trans}
+use Rattle.std.proofs.lemmas.List.{append-nil}
+use Rattle.run_io.specs.Reading.{Reading}
+use Rattle.br_model.specs.Limits.{most_bytes}
+use Rattle.br_model.specs.Runs.{run, run_of, body_of, body, told, last_text, end_line, setup_of}
+use Rattle.br_model.specs.Scenario.{Scenario, Ending, opened, scenario}
+use Rattle.br_model.specs.Transcript.{line_text}
+use Rattle.br_model.specs.WholeLines.{lines_text}
+use Rattle.br_model.specs.World.{World, Stepped}
+use Rattle.br_model.proofs.Running.{run_none}
+use Rattle.capture_runner.specs.declared.replay.Halt.TheVariants.{Stopped}
+use Rattle.capture_runner.specs.declared.replay.Stop.{Stop}
+use Rattle.capture_runner.specs.declared.replay.Stop.TheVariants.{ReadFault, NoMemory, TooLong}
+use Rattle.capture_runner.specs.declared.session.Last.{Last}
+use Rattle.capture_runner.specs.declared.session.Last.TheVariants as lasts
+use Rattle.capture_runner.specs.declared.session.Session.{Session}
+use Rattle.capture_runner.specs.Advancing.{Advanced}
+use Rattle.capture_runner.specs.Halting.{Moves, Written, Told, Plays}
+use Rattle.capture_runner.specs.Playing.{Playing, Played}
+use Rattle.capture_runner.specs.Session.{Follows, IsWorld, ending_of, end_line_of, last_line}
+use Rattle.capture_runner.proofs.Following.{no_steps}
+
+nothing_read : (left : Option (List ℕ)) (held : List ℕ) → held ≡ [] → Consumes left left held
+nothing_read None held h = tt
+nothing_read (Some xs) held h = ap (λ (b : List ℕ). b ++ xs) (sym h)
+
+nothing_wrote : (taken : Option (List ℕ)) → Appends taken taken []
+nothing_wrote None = tt
+nothing_wrote (Some xs) = sym (append-nil xs)
+
+-- the run at its start
+pub started : (left : Option (List ℕ)) (reader : Reading) (session : Session) (text : List ℕ) → reader.held ≡ [] → reader.taken ≡ 0 → reader.limit ≡ most_bytes → reader.fault ≡ None
+    → Follows (opened false) session → session.lines ≡ 0 → text ≡ codes "transcript 1" ++ 10 ∷ [] → Playing left most_bytes reader left session text
+started left reader session text held none top fault follows lines told = record {
+  lines = [];
+  feedless = refl;
+  input = reader.held;
+  read = nothing_read left reader.held held;
+  parts = refl;
+  follows = follows;
+  told = told ∙ sym (no_steps (opened false) refl);
+  counts = omega (arith, none, ap length held);
+  numbers = omega (arith, lines);
+  within = omega (arith, none);
+  limited = top;
+  sound = fault;
+}
+
+pub started_written : (taken : Option (List ℕ)) (text : List ℕ) → Written taken taken text text
+started_written taken text = record { gone = []; wrote = nothing_wrote taken; together = refl }
+
+-- what is held goes to the sink
+pub moved : (before mid after : Option (List ℕ)) (old new all : List ℕ) → Written before mid old all → Moves mid after old new → Written before after new all
+moved before mid after old new all w m = record {
+  gone = w.gone ++ m.moved;
+  wrote = Appends-trans _ _ _ _ _ w.wrote m.wrote;
+  together = w.together ∙ ap (λ (b : List ℕ). w.gone ++ b) m.held ∙ sym (append_assoc w.gone m.moved new);
+}
+
+-- and more is held
+pub grown : (before after : Option (List ℕ)) (old new : List ℕ) (all : List ℕ) (w : Written before after old all) → Written before after new (w.gone ++ new)
+grown before after old new all w = record { gone = w.gone; wrote = w.wrote; together = refl }
+
+-- the last line
+
+last_world : (s : Scenario) (w : Option World) → IsWorld s w → end_line_of w ≡ end_line (run_of s).0
+last_world s None h = sym (ap (λ (x : Stepped). end_line x.0) (ap (run (setup_of s.roster)) h ∙ run_none (setup_of s.roster)))
+last_world s (Some w) h = ap end_line h.0
+
+last_is : (s : Scenario) (w : Option World) (last : Last) → IsWorld s w → last_line last w ≡ last_text (ending_of last) (run_of s).0
+last_is s w lasts.Ended h = ap line_text (last_world s w h)
+last_is s w (lasts.Bad n why) h = refl
+
+told_by : (input text : List ℕ) (w : Option World) (last : Last) → (scenario input).ending ≡ ending_of last → IsWorld (scenario input) w → text ≡ body input → text ++ last_line last w ≡ told input
+unfolding told body
+told_by input text w last ends world body_is =
+    ap (λ (b : List ℕ). b ++ last_line last w) body_is
+    ∙ ap (λ (b : List ℕ). body_of (run_of (scenario input)) ++ b) (last_is (scenario input) w last world ∙ ap (λ (d : Ending). last_text d (run_of (scenario input)).0) (sym ends))
+
+pub finished : (left now : Option (List ℕ)) (x : Session) (text : List ℕ) (last : Last) → Played left most_bytes now x text last → Told left now (text ++ last_line last x.world) last
+finished left now x text last p = record {
+  input = p.input;
+  read = p.read;
+  ends = p.ends;
+  tells = told_by p.input text x.world last p.ends p.world p.told;
+  whole = p.whole;
+  within = p.within;
+}
+
+-- a line takes a byte at least
+pub few_lines : (left now : Option (List ℕ)) (reader : Reading) (x : Session) (text : List ℕ) → Playing left most_bytes reader now x text → x.lines ≤ most_bytes
+few_lines left now reader x text p = omega (arith, p.numbers, ap length p.parts, length-append (lines_text p.lines) reader.held, p.counts, p.within)
+
+-- a line was read, with its text held
+
+pub split_all : (before after : Option (List ℕ)) (text all : List ℕ) (w : Written before after text all) (left now : Option (List ℕ)) (reader : Reading) (session : Session)
+    → Playing left most_bytes reader now session all → Playing left most_bytes reader now session (w.gone ++ text)
+split_all before after text all w left now reader session p = subst (λ (b : List ℕ). Playing left most_bytes reader now session b) w.together p
+
+pub play_ends : (left now before after : Option (List ℕ)) (x : Session) (held all text text' : List ℕ) (w : Written before after held all) (last : Last)
+    → Played left most_bytes now x (w.gone ++ text) last → text' ≡ text ++ last_line last x.world → (whole : List ℕ) × Written before after text' whole × Told left now whole last
+play_ends left now before after x held all text text' w last p e = (
+  w.gone ++ text',
+  record { gone = w.gone; wrote = w.wrote; together = refl },
+  subst (λ (b : List ℕ). Told left now b last) (append_assoc w.gone text (last_line last x.world) ∙ ap (λ (b : List ℕ). w.gone ++ b) (sym e)) (finished left now x (w.gone ++ text) last p),
+)
+
+pub play_stops : (left now before after : Option (List ℕ)) (reader : Reading) (x : Session) (held all text : List ℕ) (w : Written before after held all) (stop : Stop)
+    → Advanced left most_bytes reader now x (w.gone ++ text) (Err stop) → Plays left now before after text (Err (Stopped stop))
+play_stops left now before after reader x held all text w ReadFault a = (w.gone ++ text, record { gone = w.gone; wrote = w.wrote; together = refl }, a)
+play_stops left now before after reader x held all text w TooLong a = (w.gone ++ text, record { gone = w.gone; wrote = w.wrote; together = refl }, a)
+play_stops left now before after reader x held all text w NoMemory a = tt

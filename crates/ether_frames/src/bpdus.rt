@@ -1,0 +1,223 @@
+//! Reading and writing the frames that carry spanning tree messages (BPDUs).
+ghost use Rattle.std.specs.Prelude.{◌≡◌, ◌<◌, ◌≤◌, [], ◌∷◌, ◌++◌, IfOk, length};
+ghost use Rattle.std.specs.declared.option.Option.TheVariants.{Some};
+ghost use Rattle.br_model.specs.Bpdus.{bpdu, written, carries_bpdu, config_at, llc_and_protocol, padded};
+ghost use Rattle.br_model.specs.Targets.{bridge_group_address};
+ghost use Rattle.std.specs.Int.{bytes_high_first};
+
+use crate::NoMemory;
+use crate::frames::{PLAIN_HEADER, TYPE_AT, address};
+use br_model::bpdu::BpduMsg;
+use br_model::bytes::Bytes;
+use br_model::numbers::Mac;
+use byteorder::{BigEndian, ByteOrder};
+use std::alloc::Global;
+
+/// The service access points and the control field of the spanning tree (IEEE 802.2), and its protocol identifier.
+const LLC_AND_PROTOCOL: [u8; 5] = [0x42, 0x42, 0x03, 0x00, 0x00];
+
+/// The bytes of a configuration message, LLC included.
+const CONFIG_LENGTH: u16 = 38;
+
+/// The bytes of a notification, LLC included.
+const TCN_LENGTH: u16 = 7;
+
+/// The largest length; above it the field is a type.
+const LARGEST_LENGTH: u16 = 1500;
+
+/// Where the version of a message stands, and its type.
+const VERSION_AT: usize = 19;
+
+const MESSAGE_TYPE_AT: usize = 20;
+
+/// The type of a configuration message.
+const CONFIG_TYPE: u8 = 0x00;
+
+/// The type of a notification.
+const TCN_TYPE: u8 = 0x80;
+
+/// The least length of a frame, without its check sequence.
+const LEAST_LENGTH: usize = 60;
+
+/// Reads a spanning tree message: an untagged frame to 01-80-C2-00-00-00 whose type field is the length of what
+/// follows, then 42 42 03, protocol 2 bytes, version 1, type 1 (IEEE 802.1D-1998 section 9.3). Any version is taken.
+/// A configuration message goes on with flags 1, root 8, cost 4, bridge 8, port 2, age 2, max age 2, hello time 2
+/// and forward delay 2, the highest byte first. What follows is padding.
+pub fn bpdu_read(b: &[u8]) -> Option<BpduMsg>
+    ensures { result ≡ bpdu b.now }
+{
+    if !carries_bpdu(b) {
+        return None;
+    }
+    let length = BigEndian::read_u16(&b[TYPE_AT..]);
+    match b[MESSAGE_TYPE_AT] {
+        TCN_TYPE => Some(BpduMsg::Tcn),
+        CONFIG_TYPE if length >= CONFIG_LENGTH => Some(config_at(b)),
+        _ => None,
+    }
+}
+
+// Whether the frame is for the spanning tree, untagged, as long as its length says, and of the protocol.
+fn carries_bpdu(b: &[u8]) -> bool
+    ensures value { result ≡ carries_bpdu b.now }
+{
+    if b.len() < PLAIN_HEADER + usize::from(TCN_LENGTH) {
+        return false;
+    }
+    let length = BigEndian::read_u16(&b[TYPE_AT..]);
+    address(b).number() == Mac::BRIDGE_GROUP_ADDRESS
+        && TCN_LENGTH <= length
+        && length <= LARGEST_LENGTH
+        && PLAIN_HEADER + usize::from(length) <= b.len()
+        && &b[PLAIN_HEADER..VERSION_AT] == LLC_AND_PROTOCOL.as_slice()
+}
+
+// The fields of a configuration message.
+fn config_at(b: &[u8]) -> BpduMsg
+    requires { 52 ≤ length b.now }
+    ensures { result ≡ config_at b.now }
+{
+    BpduMsg::Config {
+        flags: b[21],
+        root: BigEndian::read_u64(&b[22..]),
+        cost: BigEndian::read_u32(&b[30..]),
+        bridge: BigEndian::read_u64(&b[34..]),
+        port: BigEndian::read_u16(&b[42..]),
+        age: BigEndian::read_u16(&b[44..]),
+        max: BigEndian::read_u16(&b[46..]),
+        hello: BigEndian::read_u16(&b[48..]),
+        delay: BigEndian::read_u16(&b[50..]),
+    }
+}
+
+/// The frame that carries the message, in the form that `bpdu_read` takes: version 0, `own` as its source, and zeros up
+/// to 60 bytes.
+pub fn bpdu_write(alloc: Global, own: Mac, m: &BpduMsg) -> Result<Bytes, NoMemory>
+    ensures value { IfOk result (λ out. out ≡ written own m.now) }
+    ensures read_back { IfOk result (λ out. bpdu out ≡ Some m.now) }
+{
+    let frame = match *m {
+        BpduMsg::Config {
+            flags,
+            root,
+            cost,
+            bridge,
+            port,
+            age,
+            max,
+            hello,
+            delay,
+        } => {
+            let mut frame = frame_from(own, CONFIG_LENGTH, CONFIG_TYPE);
+            frame[21] = flags;
+            BigEndian::write_u64(&mut frame[22..], root);
+            BigEndian::write_u32(&mut frame[30..], cost);
+            BigEndian::write_u64(&mut frame[34..], bridge);
+            BigEndian::write_u16(&mut frame[42..], port);
+            BigEndian::write_u16(&mut frame[44..], age);
+            BigEndian::write_u16(&mut frame[46..], max);
+            BigEndian::write_u16(&mut frame[48..], hello);
+            BigEndian::write_u16(&mut frame[50..], delay);
+            frame
+        }
+        BpduMsg::Tcn => frame_from(own, TCN_LENGTH, TCN_TYPE),
+    };
+    Bytes::copy_of(alloc, &frame)
+}
+
+// A frame of this type, with zeros behind the type.
+fn frame_from(own: Mac, length: u16, kind: u8) -> [u8; LEAST_LENGTH]
+    ensures { result ≡ padded (bytes_high_first 6 bridge_group_address ++ (bytes_high_first 6 own ++ (bytes_high_first 2 length ++ (llc_and_protocol ++ 0 ∷ kind ∷ [])))) }
+{
+    let mut frame = [0; LEAST_LENGTH];
+    BigEndian::write_u48(&mut frame, Mac::BRIDGE_GROUP_ADDRESS);
+    BigEndian::write_u48(&mut frame[6..], own.number());
+    BigEndian::write_u16(&mut frame[TYPE_AT..], length);
+    frame[PLAIN_HEADER..VERSION_AT].copy_from_slice(&LLC_AND_PROTOCOL);
+    frame[MESSAGE_TYPE_AT] = kind;
+    frame
+}
+
+#[cfg(test)]
+mod tests {
+    use super::*;
+    use std::test::Fail;
+
+    // Of the root 8000.020000000000, from its port 2, and without padding.
+    const OF_ROOT: [u8; 52] =
+        *b"\x01\x80\xc2\x00\x00\x00\x02\x00\x00\x00\x00\x00\x00\x26\x42\x42\x03\x00\x00\x00\x00\x81\x80\x00\x02\x00\x00\x00\x00\x00\x00\x00\x00\x0a\x80\x00\x02\x00\x00\x00\x00\x01\x80\x02\x01\x00\x14\x00\x02\x00\x0f\x00";
+
+    const NOTIFICATION: [u8; 21] =
+        *b"\x01\x80\xc2\x00\x00\x00\x02\x00\x00\x00\x00\x00\x00\x07\x42\x42\x03\x00\x00\x00\x80";
+
+    fn of_root() -> BpduMsg {
+        BpduMsg::Config {
+            flags: 0x81,
+            root: 0x8000_0200_0000_0000,
+            cost: 10,
+            bridge: 0x8000_0200_0000_0001,
+            port: 0x8002,
+            age: 256,
+            max: 5120,
+            hello: 512,
+            delay: 3840,
+        }
+    }
+
+    // The frame with another byte at this place.
+    fn with_byte<const N: usize>(frame: [u8; N], place: usize, byte: u8) -> [u8; N]
+        requires { place < N }
+    {
+        let mut other = frame;
+        other[place] = byte;
+        other
+    }
+
+    #[test]
+    fn reads_messages(rt: HostRuntime) {
+        assert_eq!(rt; bpdu_read(&OF_ROOT), Some(of_root()));
+        assert_eq!(rt; bpdu_read(&NOTIFICATION), Some(BpduMsg::Tcn));
+        let of_version_2 = with_byte(OF_ROOT, 19, 2);
+        assert_eq!(rt; bpdu_read(&of_version_2), Some(of_root()));
+    }
+
+    #[test]
+    fn reads_nothing_else(rt: HostRuntime) {
+        let others = [
+            ("another address", with_byte(OF_ROOT, 5, 1)),
+            ("a length below a message's", with_byte(OF_ROOT, 13, 37)),
+            ("a length beyond the frame", with_byte(OF_ROOT, 13, 39)),
+            ("a type field", with_byte(OF_ROOT, 12, 0x08)),
+            ("another access point", with_byte(OF_ROOT, 14, 0xaa)),
+            ("another control field", with_byte(OF_ROOT, 16, 0x13)),
+            ("another protocol", with_byte(OF_ROOT, 18, 1)),
+            ("another type", with_byte(OF_ROOT, 20, 2)),
+        ];
+        for (what, frame) in others {
+            assert_eq!(rt; bpdu_read(&frame), None, "{what}");
+        }
+        assert_eq!(rt; bpdu_read(&OF_ROOT[..51]), None);
+        assert_eq!(rt; bpdu_read(&NOTIFICATION[..20]), None);
+        assert_eq!(rt; bpdu_read(&with_byte(NOTIFICATION, 13, 6)), None);
+        assert_eq!(rt; bpdu_read(&[]), None);
+    }
+
+    #[test]
+    fn writes_messages(rt: HostRuntime) -> Result<(), Fail> {
+        let own = Mac::new([2, 0, 0, 0, 0, 0]);
+        let config = bpdu_write(rt.alloc(), own, &of_root())?;
+        assert_eq!(rt; config.len(), 60);
+        assert!(rt; config.as_slice().starts_with(&OF_ROOT));
+        let notification = bpdu_write(rt.alloc(), own, &BpduMsg::Tcn)?;
+        assert_eq!(rt; notification.len(), 60);
+        assert!(rt; notification.as_slice().starts_with(&NOTIFICATION));
+        assert!(rt;
+            notification
+                .as_slice()
+                .iter()
+                .skip(21)
+                .all(|byte| *byte == 0)
+        );
+        Ok(())
+    }
+}

@@ -1,0 +1,15 @@
+use Rattle.std.proofs.Common.{◌≡◌, IsTrue, sym, subst}
+use Rattle.fdb_core.specs.Packing.{packed, is_key}
+use Rattle.fdb_core.proofs.ByAddress.{key-packed}
+use Rattle.fdb_core.proofs.packing.pack.Goals as goal
+
+pub returns-clause-value : goal.returns-clause-value
+unfolding packed
+returns-clause-value c =
+    let v : c.from.result ≡ c.args.vid = cc in
+    let m : c.number-2.result ≡ c.args.mac = cc in
+    cc
+
+pub returns-clause-is_key : goal.returns-clause-is_key
+returns-clause-is_key c =
+    subst (λ n. IsTrue (is_key n)) (sym (returns-clause-value c)) (key-packed (c.args.vid, c.args.mac) c.number-2.ensures.below c.number.ensures.low c.number.ensures.high)

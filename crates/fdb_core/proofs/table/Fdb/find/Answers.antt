@@ -1,0 +1,13 @@
+use Rattle.std.proofs.Common.{ap, sym, ◌∙◌}
+use Rattle.std.specs.Ordering.{nat_cmp}
+use Rattle.std.specs.FinMap.Entries as entries
+use Rattle.br_model.specs.Maps.{pair_cmp, get}
+use Rattle.fdb_core.specs.Fdb.{Table}
+use Rattle.fdb_core.proofs.ByAddress.{get-by_address}
+use Rattle.fdb_core.proofs.table.Fdb.find.Goals as goal
+
+pub returns : goal.returns
+returns c =
+    let es = c.self.inside.entries.entries in
+    c.get.ensures ∙ ap (λ q. entries.find nat_cmp q es) c.pack.ensures.value ∙ sym (get-by_address (c.args.vid, c.args.mac) c.pack.ensures.below es)
+    ∙ ap (λ (t : Table). get pair_cmp t.entries (c.args.vid, c.args.mac)) c.self.view_is

@@ -1,0 +1,104 @@
+//! Lists of anything, which contracts see as the list of what they hold.
+#![tactic(auto)]
+
+ghost use Rattle.std.specs.Prelude.{◌≡◌, ◌==◌, [], ◌∷◌, ◌++◌, IfOk, OnOk, OnErr, length};
+
+use std::alloc::{AllocError, Global};
+use std::marker::Model;
+
+/// A list that owns its items, in the order in which they were pushed.
+#[derive(Drop, Debug)]
+pub struct Items<T> {
+    items: Vec<T>,
+}
+
+impl<T> Model for Items<T> {
+    ghost use Rattle.std.specs.Prelude.{List};
+    ghost use Rattle.std.specs.Coded.{coded_list};
+
+    ghost Value = { List T };
+
+    ghost coded = { coded_list T.code };
+
+    ghost view = { λ l. l.items.items };
+}
+
+impl<T> Items<T> {
+    /// Allocates nothing.
+    pub fn new(alloc: Global) -> Items<T>
+        ensures { result ≡ [] }
+    {
+        Items {
+            items: Vec::new(alloc),
+        }
+    }
+
+    pub fn of(items: Vec<T>) -> Items<T>
+        ensures { result ≡ items.items }
+    {
+        Items { items }
+    }
+
+    pub fn copy_of(alloc: Global, items: &[T]) -> Result<Items<T>, AllocError>
+    where
+        T: Copy,
+        ensures { IfOk result (λ l. l ≡ items.now) }
+    {
+        Ok(Items {
+            items: Vec::from_slice(alloc, items)?,
+        })
+    }
+
+    pub fn push(&mut self, item: T) -> Result<(), AllocError>
+    where
+        T: Drop,
+        ensures ok { OnOk result (self.new ≡ self.old ++ item ∷ []) }
+        ensures err { OnErr result (self.new ≡ self.old) }
+    {
+        self.items.push(item)?;
+        Ok(())
+    }
+
+    pub fn as_slice(&self) -> &[T]
+        ensures { result.now ≡ self.now }
+    {
+        self.items.as_slice()
+    }
+
+    pub fn len(&self) -> usize
+        ensures { result ≡ length self.now }
+    {
+        self.items.len()
+    }
+
+    pub fn is_empty(&self) -> bool
+        ensures { result ≡ (length self.now == 0) }
+    {
+        self.items.is_empty()
+    }
+}
+
+#[cfg(test)]
+mod tests {
+    use super::*;
+
+    #[test]
+    fn lists_keep_what_they_are_given(rt: HostRuntime) -> Result<(), AllocError> {
+        let alloc = rt.alloc();
+        let mut bytes = Items::<u8>::copy_of(alloc, &[3, 1])?;
+        bytes.push(2)?;
+        assert!(rt;
+            bytes.as_slice() == [3, 1, 2].as_slice() && bytes.len() == 3 && !bytes.is_empty()
+        );
+        let mut lists = Items::<Items<u8>>::new(alloc);
+        assert!(rt; lists.is_empty());
+        lists.push(bytes)?;
+        lists.push(Items::of(vec![in alloc; 7u8]?))?;
+        assert!(rt;
+            lists.len() == 2
+                && lists.as_slice()[0].len() == 3
+                && lists.as_slice()[1].as_slice() == [7].as_slice()
+        );
+        Ok(())
+    }
+}

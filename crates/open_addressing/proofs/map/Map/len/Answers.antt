@@ -1,0 +1,15 @@
+use Rattle.std.proofs.Common.{length, sym, ap, ◌∙◌}
+use Rattle.open_addressing.specs.Zipped.{cells_of}
+use Rattle.open_addressing.specs.Finite.{Table}
+use Rattle.open_addressing.proofs.Entries.{length-entries_of, sorted-entries_of, true_of}
+use Rattle.open_addressing.proofs.map.Map.len.Goals as goal
+
+pub returns-clause-value : goal.returns-clause-value
+returns-clause-value g c =
+    let m = c.self.inside in
+    sym (length-entries_of (cells_of m.columns.keys.items m.columns.values.items) c.self.invariant.apart ∙ c.self.invariant.counted) ∙ ap (λ (t : Table g.row.V.Denot). length t.entries) c.self.view_is
+
+pub returns-clause-ascending : goal.returns-clause-ascending
+returns-clause-ascending g c =
+    let m = c.self.inside in
+    rw (← c.self.view_is) (true_of _ (sorted-entries_of (cells_of m.columns.keys.items m.columns.values.items)))

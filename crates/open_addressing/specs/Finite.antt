@@ -1,0 +1,53 @@
+-- A finite map from keys, which are not 0, to values, in cells.
+use Rattle.std.specs.Prelude.{◌≡◌, ℕ, zero, suc, ◌^◌, ◌<◌, ◌≤◌, Bool, cond, List, [], ◌∷◌, map, count_by}
+use Rattle.std.specs.List.{filter}
+use Rattle.std.specs.Ordering.{nat_cmp}
+use Rattle.std.specs.FinMap.Entries.{put}
+use Rattle.std.specs.declared.option.Option.{Option}
+use Rattle.std.specs.declared.option.Option.TheVariants.{None, Some}
+use Rattle.open_addressing.specs.Circle.{IsTable}
+use Rattle.open_addressing.specs.Zipped.{key_of, value_of}
+use Rattle.open_addressing.specs.Lookups.{cell_at, IsApart, is_used}
+
+-- the entries, ascending by their keys, and how many there is room for
+pub record Table (V : Type 0) : Type 0 where
+  pub entries : List (ℕ × V)
+  pub room : ℕ
+
+abbrev pub with_cell : {V : Type 0} → ℕ → V → List (ℕ × V) → List (ℕ × V)
+with_cell zero v es = es
+with_cell (suc k) v es = put nat_cmp (suc k) v es
+
+-- the entries that cells hold, ascending by their keys
+abbrev pub entries_of : {V : Type 0} → List (Option (ℕ × V)) → List (ℕ × V)
+entries_of [] = []
+entries_of (None ∷ cs) = entries_of cs
+entries_of (Some e ∷ cs) = with_cell e.0 e.1 (entries_of cs)
+
+-- the keys whose values pass, ascending
+abbrev pub keys_where : {V : Type 0} → (V → Bool) → List (ℕ × V) → List ℕ
+keys_where p es = map (λ e. e.0) (filter (λ e. p e.1) es)
+
+-- the key of a cell, if its value passes
+abbrev pub key_with : {V : Type 0} → (V → Bool) → ℕ → V → Option ℕ
+key_with p zero v = None
+key_with p (suc k) v = cond (p v) (Some (suc k)) None
+
+abbrev pub key_if : {V : Type 0} → (V → Bool) → Option (ℕ × V) → Option ℕ
+key_if p None = None
+key_if p (Some e) = key_with p e.0 e.1
+
+abbrev pub in_cell : {V : Type 0} → Option (Option (ℕ × V)) → Option V
+in_cell None = None
+in_cell (Some c) = value_of c
+
+-- the value in the first cell with a key
+abbrev pub value_at : {V : Type 0} → List (Option (ℕ × V)) → ℕ → Option V
+value_at cells q = in_cell (cell_at key_of cells q)
+
+pub record IsSound {V : Type 0} (bits used room : ℕ) (cells : List (Option (ℕ × V))) : Type 0 where
+  pub table : IsTable bits key_of None cells
+  pub apart : IsApart key_of cells
+  pub counted : count_by (is_used key_of) cells ≡ used
+  pub within : used ≤ room
+  pub spare : room < 2 ^ bits

@@ -1,0 +1,5 @@
+pub mod Circle
+pub mod Zipped
+pub mod Finite
+pub mod Lookups
+pub mod Keyed

@@ -1,0 +1,107 @@
+//! Keys in an array of their own, and values beside them.
+ghost use Rattle.std.specs.Prelude.{◌≡◌, ◌≢◌, ℕ, ◌<◌, IfOk, List, Option, None, Some, length, replicate, filter_map, slice_index_or, slice_set, refl};
+ghost use Rattle.open_addressing.specs.Zipped.{key_of, value_of, cell_of, cells_of};
+ghost use Rattle.open_addressing.specs.Finite.{key_if};
+
+use crate::Cells;
+use crate::map::Test;
+use std::alloc::{AllocError, Global};
+
+/// A column of keys, 0 where there is none, and a column of values.
+#[derive(Drop, Debug)]
+pub struct Columns<V> {
+    keys: Vec<u64>,
+    values: Vec<V>,
+}
+
+impl<V: Copy> Cells for Columns<V> {
+    ghost Cell = { Option (ℕ × V) };
+
+    ghost empty = { None };
+
+    ghost key = { key_of };
+
+    ghost cells = { λ s. cells_of s.keys.items s.values.items };
+
+    fn key_at(&self, i: usize) -> u64 {
+        self.keys[i]
+    }
+
+    fn move_cell(&mut self, from: usize, to: usize) {
+        let key = self.keys[from];
+        self.keys[from] = 0;
+        self.keys[to] = key;
+        self.values[to] = self.values[from];
+    }
+
+    fn clear(&mut self, i: usize) {
+        self.keys[i] = 0;
+    }
+
+    ghost no_key = { refl };
+}
+
+impl<V: Copy> Columns<V> {
+    /// Columns of empty cells.
+    pub fn make(alloc: Global, count: usize, blank: V) -> Result<Columns<V>, AllocError>
+        ensures { IfOk result (λ s. cells_of s.keys.items s.values.items ≡ replicate count None) }
+    {
+        let keys = vec![in alloc; 0; count]?;
+        let values = vec![in alloc; blank; count]?;
+        Ok(Columns { keys, values })
+    }
+
+    /// The value in a cell that holds a key.
+    pub fn value(&self, i: usize) -> V
+        requires within { i < length (cells_of self.now.keys.items self.now.values.items) }
+        requires used { key_of (slice_index_or (cells_of self.now.keys.items self.now.values.items) i None) ≢ 0 }
+        ensures { value_of (slice_index_or (cells_of self.now.keys.items self.now.values.items) i None) ≡ Some result }
+    {
+        self.values[i]
+    }
+
+    /// Writes a key and its value into a cell.
+    pub fn put(&mut self, i: usize, key: u64, value: V)
+        requires { i < length (cells_of self.old.keys.items self.old.values.items) }
+        ensures { cells_of self.new.keys.items self.new.values.items ≡ slice_set (cells_of self.old.keys.items self.old.values.items) i (cell_of key value) }
+    {
+        self.keys[i] = key;
+        self.values[i] = value;
+    }
+
+    /// How many cells there are.
+    fn count(&self) -> usize
+        ensures { result ≡ length (cells_of self.now.keys.items self.now.values.items) }
+    {
+        self.keys.len().min(self.values.len())
+    }
+
+    /// The key in a cell, if its value passes the test.
+    fn key_if<T: Test<V>>(&self, i: usize, test: &T) -> Option<u64>
+        requires { i < length (cells_of self.now.keys.items self.now.values.items) }
+        ensures { result ≡ key_if (T.passes test.now) (slice_index_or (cells_of self.now.keys.items self.now.values.items) i None) }
+    {
+        let key = self.keys[i];
+        if key == 0 {
+            return None;
+        }
+        if test.passes(&self.values[i]) {
+            Some(key)
+        } else {
+            None
+        }
+    }
+
+    /// The keys whose values pass the test, in the order of their cells.
+    pub fn keys_where<T: Test<V>>(&self, alloc: Global, test: &T) -> Result<Vec<u64>, AllocError>
+        ensures { IfOk result (λ v. v.items ≡ filter_map (key_if (T.passes test.now)) (cells_of self.now.keys.items self.now.values.items)) }
+    {
+        let mut keys = Vec::new(alloc);
+        for i in 0..self.count() {
+            if let Some(key) = self.key_if(i, test) {
+                keys.push(key)?;
+            }
+        }
+        Ok(keys)
+    }
+}

@@ -1,0 +1,142 @@
+//! A finite map from keys to values, over columns.
+ghost use Rattle.std.specs.Prelude.{◌≡◌, ◌≢◌, ℕ, ◌^◌, ◌<◌, ◌≤◌, ◌↔◌, Bool, not, [], IfOk, IfSome, IsTrue, None, length, IsPermutation, IsSorted};
+ghost use Rattle.std.specs.Ordering.{nat_cmp, eq_by_cmp};
+ghost use Rattle.std.specs.FinMap.Entries.{find, put, where_key, is_sorted};
+ghost use Rattle.open_addressing.specs.Finite.{keys_where};
+
+use crate::columns::Columns;
+use crate::{find as find_cell, remove, search};
+use std::alloc::{AllocError, Global};
+use std::marker::Model;
+
+/// A test of values.
+pub trait Test<V> {
+    ghost passes: { Self → V → Bool };
+
+    fn passes(&self, value: &V) -> bool
+        ensures { result ≡ passes self.now value.now };
+}
+
+/// Values by keys that aren't 0, with room taken at its making.
+///
+/// Contracts see the list of the entries, ascending by their keys.
+#[derive(Drop, Debug)]
+pub struct Map<V> {
+    columns: Columns<V>,
+    bits: u32,
+    used: usize,
+    room: usize,
+}
+
+impl<V> Model for Map<V> {
+    ghost use Rattle.open_addressing.specs.Finite.{Table, IsSound, entries_of};
+    ghost use Rattle.open_addressing.specs.Zipped.{cells_of};
+
+    ghost Value = { Table V };
+
+    ghost view = { λ m. record { entries = entries_of (cells_of m.columns.keys.items m.columns.values.items); room = m.room } };
+
+    ghost invariant = { λ m. IsSound m.bits m.used m.room (cells_of m.columns.keys.items m.columns.values.items) };
+}
+
+/// The power of two of cells for so many keys: more than three times as many cells, and at most six times as many and two.
+fn bits_for(room: usize) -> Option<u32>
+    ensures some { IfSome result (λ bits. 0 < bits) }
+    ensures few { IfSome result (λ bits. bits < 64) }
+    ensures spare { IfSome result (λ bits. room < 2 ^ bits) }
+{
+    let wanted = room.checked_mul(3)?.checked_add(1)?;
+    let bits = wanted.ilog2() + 1;
+    if bits < 64 { Some(bits) } else { None }
+}
+
+/// Sorts keys.
+fn sort(keys: &mut Vec<u64>)
+    ensures permutation { IsPermutation keys.old.items keys.new.items }
+    ensures sorted { IsSorted nat_cmp keys.new.items }
+{
+    keys.sort_unstable();
+}
+
+impl<V: Copy> Map<V> {
+    /// An empty map with room for so many keys. The value `blank` is never read.
+    pub fn make(alloc: Global, room: usize, blank: V) -> Result<Map<V>, AllocError>
+        ensures { IfOk result (λ m. m ≡ record { entries = []; room = room }) }
+    {
+        let bits = bits_for(room).ok_or(AllocError)?;
+        let columns = Columns::make(alloc, 1 << bits, blank)?;
+        Ok(Map {
+            columns,
+            bits,
+            used: 0,
+            room,
+        })
+    }
+
+    pub fn len(&self) -> usize
+        ensures value { result ≡ length self.now.entries }
+        ensures within { result ≤ self.now.room }
+        ensures ascending { IsTrue (is_sorted nat_cmp self.now.entries) }
+    {
+        self.used
+    }
+
+    pub fn is_empty(&self) -> bool
+        ensures { IsTrue result ↔ (length self.now.entries ≡ 0) }
+    {
+        self.len() == 0
+    }
+
+    /// Whether there is no room for a new key.
+    pub fn is_full(&self) -> bool
+        ensures { IsTrue result ↔ (self.now.room ≤ length self.now.entries) }
+    {
+        self.len() >= self.room
+    }
+
+    /// The value at the key.
+    pub fn get(&self, key: u64) -> Option<V>
+        requires { key ≢ 0 }
+        ensures { result ≡ find nat_cmp key self.now.entries }
+    {
+        let i = find_cell(&self.columns, self.bits, key)?;
+        Some(self.columns.value(i))
+    }
+
+    /// Puts a value at the key, in place of the one that is there.
+    pub fn insert(&mut self, key: u64, value: V)
+        requires key { key ≢ 0 }
+        requires room { find nat_cmp key self.old.entries ≡ None → length self.old.entries < self.old.room }
+        ensures { self.new ≡ record self.old { entries = put nat_cmp key value self.old.entries } }
+    {
+        match search(&self.columns, self.bits, key) {
+            Ok(i) => self.columns.put(i, key, value),
+            Err(i) => {
+                self.columns.put(i, key, value);
+                self.used += 1;
+            }
+        }
+    }
+
+    /// Takes the value at the key out.
+    pub fn take(&mut self, key: u64) -> Option<V>
+        requires { key ≢ 0 }
+        ensures value { result ≡ find nat_cmp key self.old.entries }
+        ensures rest { self.new ≡ record self.old { entries = where_key nat_cmp (λ q. not (eq_by_cmp nat_cmp key q)) self.old.entries } }
+    {
+        let i = find_cell(&self.columns, self.bits, key)?;
+        let value = self.columns.value(i);
+        remove(&mut self.columns, self.bits, i);
+        self.used -= 1;
+        Some(value)
+    }
+
+    /// The keys whose values pass the test, ascending.
+    pub fn keys_where<T: Test<V>>(&self, alloc: Global, test: &T) -> Result<Vec<u64>, AllocError>
+        ensures { IfOk result (λ v. v.items ≡ keys_where (T.passes test.now) self.now.entries) }
+    {
+        let mut keys = self.columns.keys_where(alloc, test)?;
+        sort(&mut keys);
+        Ok(keys)
+    }
+}

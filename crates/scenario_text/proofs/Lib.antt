@@ -1,0 +1,4 @@
+pub mod Bounded
+pub mod Joins
+pub mod Pairs
+pub mod Splits

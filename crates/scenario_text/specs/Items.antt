@@ -1,0 +1,43 @@
+-- What a line gives once it is read.
+-- Source: this profile.
+use Rattle.std.specs.Prelude.{◌≡◌, ℕ, Bool, true, ◌&&◌, List}
+use Rattle.std.specs.declared.result.Result.TheVariants.{Ok}
+use Rattle.br_model.specs.declared.scenario.Item.{Item}
+use Rattle.br_model.specs.declared.scenario.Item.TheVariants as items
+use Rattle.br_model.specs.declared.scenario.Place.{Place}
+use Rattle.br_model.specs.declared.scenario.Said.{Said}
+use Rattle.br_model.specs.declared.scenario.Said.TheVariants.{Blank, Opens, Declares, Does, Ends}
+use Rattle.br_model.specs.LineForms.{line_says, opening, declaration}
+use Rattle.br_model.specs.Roster.{Roster}
+use Rattle.br_model.specs.Scenario.{declared}
+use Rattle.br_model.specs.Declarations.{fits_beside}
+
+abbrev pub item_of : Said → Item
+item_of Blank = items.Blank
+item_of Opens = items.Scenario
+item_of (Declares port name dom) = items.Declared port
+item_of (Does step) = items.Step step
+item_of Ends = items.End
+
+-- A line was read: what it says gave the item, and took the roster on.
+pub record Reads (before after : Roster) (line : List ℕ) (item : Item) : Type 0 where
+  pub said : Said
+  pub says : line_says before line ≡ Ok said
+  pub gives : item ≡ item_of said
+  pub takes : after ≡ declared before said
+
+-- whether the first line, and the declaration of a port, may stand there: another item, whatever the place
+abbrev pub comes_in_place : Place → Item → Bool
+comes_in_place place items.Blank = true
+comes_in_place place items.Scenario = opening place
+comes_in_place place (items.Declared port) = declaration place
+comes_in_place place (items.Step step) = true
+comes_in_place place items.End = true
+
+-- the same of what a line says; and the port fits beside the declared ones
+abbrev pub fits_roster : Roster → Said → Bool
+fits_roster roster Blank = true
+fits_roster roster Opens = opening roster.place
+fits_roster roster (Declares port name dom) = declaration roster.place && fits_beside roster.ports (record { name = name; port = port; dom = dom })
+fits_roster roster (Does step) = true
+fits_roster roster Ends = true

@@ -1,0 +1,86 @@
+//! Lines, by their first word.
+ghost use Rattle.std.specs.Prelude.{◌≡◌, ◌<◌, length, true, IfOk};
+ghost use Rattle.br_model.specs.Forms.{line};
+ghost use Rattle.br_model.specs.LineForms.{declarations, steps, words_say};
+ghost use Rattle.bridge_command.specs.Seen.{word, OrNoMemory};
+ghost use Rattle.scenario_text.specs.Items.{fits_roster};
+
+use crate::digits::hex_bytes;
+use br_model::numbers::Dom;
+use br_model::scenario::{LineWhy, Place, Said};
+use br_model::steps::Step;
+use bridge_command::{Roster, read_command};
+use std::alloc::Global;
+
+/// The first line, and the declarations.
+#[tactic(auto, using(br_model::proofs::Words::words))]
+fn declaration_line(alloc: Global, words: &[&str], r: &Roster) -> Result<Said, LineWhy>
+    ensures value { OrNoMemory result (line declarations r.now (length words.now) (word words.now)) }
+    ensures fits { IfOk result (λ said. fits_roster r.now said ≡ true) }
+{
+    match *words {
+        ["scenario", "1"] => {
+            r.stands(Place::Opening)?;
+            Ok(Said::Opens)
+        }
+        ["port", number, name, "soft"] => {
+            r.stands(Place::Declarations)?;
+            let port = r.new_port(number)?;
+            let name = r.new_name(alloc, name)?;
+            Ok(Said::Declares {
+                port,
+                name,
+                dom: Dom::SOFTWARE,
+            })
+        }
+        _ => Err(LineWhy::Word),
+    }
+}
+
+/// The steps but for commands, and the last line.
+#[tactic(auto, using(br_model::proofs::Words::words))]
+fn step_line(alloc: Global, words: &[&str], r: &Roster) -> Result<Said, LineWhy>
+    ensures value { OrNoMemory result (line steps r.now (length words.now) (word words.now)) }
+    ensures fits { IfOk result (λ said. fits_roster r.now said ≡ true) }
+{
+    match *words {
+        ["rx", port, digits] => {
+            r.stands(Place::Steps)?;
+            let port = r.numbered(port)?;
+            let bytes = hex_bytes(alloc, digits)?;
+            Ok(Said::Does(Step::Rx { port, bytes }))
+        }
+        ["serve"] => {
+            r.stands(Place::Steps)?;
+            Ok(Said::Does(Step::Serve))
+        }
+        ["publish"] => {
+            r.stands(Place::Steps)?;
+            Ok(Said::Does(Step::Publish))
+        }
+        ["end"] => {
+            r.stands(Place::Steps)?;
+            Ok(Said::Ends)
+        }
+        _ => Err(LineWhy::Word),
+    }
+}
+
+/// What the words of a line say; no words say nothing.
+#[tactic(auto, using(br_model::proofs::Words::words))]
+pub(crate) fn read_words(alloc: Global, words: &[&str], r: &Roster) -> Result<Said, LineWhy>
+    requires { 0 < length words.now }
+    ensures value { OrNoMemory result (words_say r.now (length words.now) (word words.now)) }
+    ensures fits { IfOk result (λ said. fits_roster r.now said ≡ true) }
+{
+    match *words {
+        ["scenario", ..] => declaration_line(alloc, words, r),
+        ["port", ..] => declaration_line(alloc, words, r),
+        ["rx", ..] => step_line(alloc, words, r),
+        ["cmd", ref command @ ..] => Ok(Said::Does(Step::Cmd(read_command(command, r)?))),
+        ["serve", ..] => step_line(alloc, words, r),
+        ["publish", ..] => step_line(alloc, words, r),
+        ["end", ..] => step_line(alloc, words, r),
+        _ => Err(LineWhy::Word),
+    }
+}

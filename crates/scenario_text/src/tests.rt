@@ -1,0 +1,3 @@
+//! Lines with their items or causes, and steps with their lines.
+mod reads;
+mod writes;

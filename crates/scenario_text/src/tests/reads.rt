@@ -1,0 +1,203 @@
+//! Lines, with their item or cause.
+use crate::{read_line, says_end};
+use br_model::scenario::{Item, LineWhy};
+use br_model::steps::{Command, Step};
+use bridge_command::Roster;
+use std::alloc::Global;
+use std::process::Abort;
+use std::test::Fail;
+
+/// What a line gives, without what it holds.
+#[derive(Clone, Copy, PartialEq, Eq, Debug)]
+enum Gives {
+    Blank,
+    Scenario,
+    Declared(u8),
+    /// The port, and how many bytes.
+    Rx(u8, usize),
+    PortUp(u8),
+    /// The VLAN, the address and the port.
+    FdbAdd(u16, u64, u8),
+    Serve,
+    Publish,
+    End,
+}
+
+fn given(item: &Item) -> Gives {
+    match item {
+        Item::Blank => Gives::Blank,
+        Item::Scenario => Gives::Scenario,
+        Item::Declared(port) => Gives::Declared(port.number()),
+        Item::Step(Step::Rx { port, bytes }) => Gives::Rx(port.number(), bytes.len()),
+        Item::Step(Step::Cmd(Command::PortUp(port))) => Gives::PortUp(port.number()),
+        Item::Step(Step::Cmd(Command::FdbAdd { vid, mac, port, .. })) => {
+            Gives::FdbAdd(vid.number(), mac.number(), port.number())
+        }
+        Item::Step(Step::Serve) => Gives::Serve,
+        Item::Step(Step::Publish) => Gives::Publish,
+        Item::End => Gives::End,
+    }
+}
+
+fn reads(
+    rt: &impl Abort,
+    alloc: Global,
+    r: &mut Roster,
+    line: &[u8],
+    expected: Result<Gives, LineWhy>,
+) {
+    let found = match read_line(alloc, line, r) {
+        Ok(item) => Ok(given(&item)),
+        Err(why) => Err(why),
+    };
+    assert_eq!(rt; found, expected);
+}
+
+/// One line after another, to the same roster.
+#[test]
+fn lines_in_order(rt: HostRuntime) -> Result<(), Fail> {
+    let alloc = rt.alloc();
+    let mut r = Roster::make(alloc, false)?;
+    let lines: [(&[u8], Result<Gives, LineWhy>); 44] = [
+        (b"", Ok(Gives::Blank)),
+        (b"   ", Ok(Gives::Blank)),
+        (b"# a comment", Ok(Gives::Blank)),
+        (b" #x", Err(LineWhy::Word)),
+        (b"scenario 2", Err(LineWhy::Word)),
+        (b"scenario", Err(LineWhy::Word)),
+        (b"Scenario 1", Err(LineWhy::Word)),
+        (b"scenario\t1", Err(LineWhy::Word)),
+        (b"scenario 1\r", Err(LineWhy::Word)),
+        (b"port 0 a soft", Err(LineWhy::Place)),
+        (b"end", Err(LineWhy::Place)),
+        (b"serve", Err(LineWhy::Place)),
+        (b"cmd port up nobody", Err(LineWhy::Place)),
+        (b"  scenario   1 ", Ok(Gives::Scenario)),
+        (b"scenario 1", Err(LineWhy::Place)),
+        (b"# between", Ok(Gives::Blank)),
+        (b"port 0 a soft", Err(LineWhy::Number)),
+        (b"port 64 a soft", Err(LineWhy::Number)),
+        (b"port 01 a soft", Err(LineWhy::Number)),
+        (b"port +1 a soft", Err(LineWhy::Number)),
+        (b"port 18446744073709551617 a soft", Err(LineWhy::Number)),
+        (b"port 1 host soft", Err(LineWhy::Port)),
+        (b"port 1 abcdefghijklmnop soft", Err(LineWhy::Port)),
+        (b"port 1 a/b soft", Err(LineWhy::Port)),
+        (b"port 1 a\x80 soft", Err(LineWhy::Port)),
+        (b"port 1 a chip 1", Err(LineWhy::Word)),
+        (b"port 1 eth0 soft", Ok(Gives::Declared(1))),
+        (b"port 1 eth1 soft", Err(LineWhy::Port)),
+        (b"port 2 eth0 soft", Err(LineWhy::Port)),
+        (b"port 63 A-Z.a_z.0-9.xyz soft", Ok(Gives::Declared(63))),
+        (b"rx 1 00 00", Err(LineWhy::Word)),
+        (b"rx x 0g", Err(LineWhy::Number)),
+        (b"rx 9 0g", Err(LineWhy::Port)),
+        (b"rx 0 00", Err(LineWhy::Port)),
+        (b"rx 64 00", Err(LineWhy::Port)),
+        (b"rx 300 00", Err(LineWhy::Port)),
+        (b"rx 18446744073709551617 00", Err(LineWhy::Port)),
+        (b"rx 01 00", Err(LineWhy::Number)),
+        (b"rx 1 0g", Err(LineWhy::Hex)),
+        (b"rx 1 000", Err(LineWhy::Hex)),
+        (b"rx 1 0\xc3\xa9", Err(LineWhy::Hex)),
+        (b"rx 63 00fFaA", Ok(Gives::Rx(63, 3))),
+        (b"port 2 eth2 soft", Err(LineWhy::Place)),
+        (b"bogus", Err(LineWhy::Word)),
+    ];
+    for (line, expected) in lines {
+        reads(&rt, alloc, &mut r, line, expected);
+    }
+    Ok(())
+}
+
+/// Steps, after the declaration of port 3, `p3`.
+#[test]
+fn steps_and_commands(rt: HostRuntime) -> Result<(), Fail> {
+    let alloc = rt.alloc();
+    let mut r = Roster::make(alloc, false)?;
+    reads(&rt, alloc, &mut r, b"scenario 1", Ok(Gives::Scenario));
+    reads(
+        &rt,
+        alloc,
+        &mut r,
+        b"port 3 p3 soft",
+        Ok(Gives::Declared(3)),
+    );
+    let lines: [(&[u8], Result<Gives, LineWhy>); 22] = [
+        (b"cmd", Err(LineWhy::Word)),
+        (b"cmd port", Err(LineWhy::Word)),
+        (b"cmd port up", Err(LineWhy::Word)),
+        (b"cmd port up p3 p3", Err(LineWhy::Word)),
+        (b"cmd port up p4", Err(LineWhy::Port)),
+        (b"cmd port up host", Err(LineWhy::Port)),
+        (b"cmd port up p3", Ok(Gives::PortUp(3))),
+        (
+            b"cmd fdb add 02:00:00:00:00:01 dev p3 vlan 4094 static",
+            Ok(Gives::FdbAdd(4094, 0x0200_0000_0001, 3)),
+        ),
+        (
+            b"cmd fdb add AA:bb:CC:dd:EE:ff dev p3 vlan 1 static",
+            Ok(Gives::FdbAdd(1, 0xaabb_ccdd_eeff, 3)),
+        ),
+        (
+            b"cmd fdb add 03:00:00:00:00:01 dev host vlan x static",
+            Err(LineWhy::Address),
+        ),
+        (
+            b"cmd fdb add 00:00:00:00:00:00 dev p3 vlan 1 static",
+            Err(LineWhy::Address),
+        ),
+        (
+            b"cmd fdb add 02-00-00-00-00-01 dev p3 vlan 1 static",
+            Err(LineWhy::Address),
+        ),
+        (
+            b"cmd fdb add 02:00:00:00:00:0g dev p3 vlan 1 static",
+            Err(LineWhy::Address),
+        ),
+        (
+            b"cmd fdb add 02:00:00:00:00:01 dev host vlan x static",
+            Err(LineWhy::Port),
+        ),
+        (
+            b"cmd fdb add 02:00:00:00:00:01 dev p3 vlan 4095 static",
+            Err(LineWhy::Number),
+        ),
+        (
+            b"cmd fdb add 02:00:00:00:00:01 dev p3 vlan 0 static",
+            Err(LineWhy::Number),
+        ),
+        (
+            b"cmd fdb add 02:00:00:00:00:01 dev p3 vlan 1 extern",
+            Err(LineWhy::Word),
+        ),
+        (b"serve", Ok(Gives::Serve)),
+        (b" publish ", Ok(Gives::Publish)),
+        (b"serve 1", Err(LineWhy::Word)),
+        (b"a b c d e f g h i j k l m n o p q", Err(LineWhy::Word)),
+        (b"end", Ok(Gives::End)),
+    ];
+    for (line, expected) in lines {
+        reads(&rt, alloc, &mut r, line, expected);
+    }
+    assert_eq!(rt;
+        r.name(r.port(0).expect(&rt, "a port is declared")),
+        Some("p3")
+    );
+    Ok(())
+}
+
+#[test]
+fn ends(rt: HostRuntime) {
+    let lines: [(&[u8], bool); 6] = [
+        (b"end", true),
+        (b"  end ", true),
+        (b"", false),
+        (b"end end", false),
+        (b"End", false),
+        (b"#end", false),
+    ];
+    for (line, expected) in lines {
+        assert_eq!(rt; says_end(line), expected);
+    }
+}

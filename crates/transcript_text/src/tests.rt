@@ -1,0 +1,94 @@
+//! Lines with their texts.
+use crate::{Writer, append_bad, write};
+use br_model::bytes::Bytes;
+use br_model::frame::FrameFault;
+use br_model::numbers::Port;
+use br_model::scenario::LineWhy;
+use br_model::steps::Refusal;
+use br_model::transcript::Line;
+use std::alloc::Global;
+use std::process::Abort;
+use std::test::Fail;
+
+fn sent(alloc: Global, id: u32, port: u8, bytes: &[u8]) -> Result<Line, Fail> {
+    Ok(Line::Tx {
+        id,
+        port: Port::new(port).ok_or("port")?,
+        bytes: Bytes::copy_of(alloc, bytes)?,
+    })
+}
+
+#[test]
+fn lines_and_their_texts(rt: HostRuntime) -> Result<(), Fail> {
+    let alloc = rt.alloc();
+    let mut lines = Vec::new(alloc);
+    lines.push(Line::Done {
+        step: 1,
+        changes: 3,
+    })?;
+    lines.push(Line::Refused {
+        step: 2,
+        refusal: Refusal::NothingWaiting,
+    })?;
+    lines.push(Line::Refused {
+        step: 3,
+        refusal: Refusal::HistoryFull,
+    })?;
+    lines.push(Line::Unread {
+        id: 1,
+        why: FrameFault::TagShort,
+    })?;
+    lines.push(Line::Soft { id: 7, point: 0 })?;
+    lines.push(sent(alloc, 7, 1, &[0x02, 0xAB, 0x0F])?)?;
+    lines.push(sent(alloc, 7, 2, &[0x02, 0xAB, 0x0F, 0x81])?)?;
+    lines.push(sent(alloc, 7, 63, &[0x02, 0xAB, 0x0F])?)?;
+    lines.push(Line::End {
+        steps: 4294967295,
+        changes: 10,
+        pending: 0,
+        waiting: 2,
+    })?;
+    let table = [
+        "ok 1 3\n",
+        "refused 2 10\n",
+        "refused 3 8\n",
+        "unread 1 tagshort\n",
+        "soft 7 at 0\n",
+        "tx 7 1 02ab0f\n",
+        "tx 7 2 02ab0f81\n",
+        "tx 7 63 02ab0f\n",
+        "end 4294967295 10 0 2\n",
+    ];
+    let mut all = String::new(alloc);
+    for (line, want) in lines.iter().zip(table) {
+        let bytes = write(alloc, line)?;
+        assert_eq!(rt; bytes.as_slice(), want.as_bytes());
+        all.push_str(want)?;
+    }
+    let mut text = String::new(alloc);
+    Writer::new(alloc).append_lines(lines.as_slice(), &mut text)?;
+    assert_eq!(rt; text.as_str(), all.as_str());
+    Ok(())
+}
+
+#[test]
+fn causes_of_bad_lines(rt: HostRuntime) -> Result<(), Fail> {
+    let alloc = rt.alloc();
+    let table = [
+        (LineWhy::Long, "bad 1 long\n"),
+        (LineWhy::Unended, "bad 1 unended\n"),
+        (LineWhy::Word, "bad 1 word\n"),
+        (LineWhy::Place, "bad 1 place\n"),
+        (LineWhy::Number, "bad 1 number\n"),
+        (LineWhy::Port, "bad 1 port\n"),
+        (LineWhy::Address, "bad 1 address\n"),
+        (LineWhy::Hex, "bad 1 hex\n"),
+        (LineWhy::Capture(28), "bad 1 capture 28\n"),
+    ];
+    for (why, want) in table {
+        let mut text = String::from_str(alloc, "ok 1 0\n")?;
+        append_bad(1, why, &mut text)?;
+        assert_eq!(rt; &text.as_str()[7..], want);
+    }
+    Ok(())
+}

@@ -1,0 +1,164 @@
+//! Lines of a transcript.
+ghost use Rattle.std.specs.Prelude.{◌≡◌, ◌++◌, [], ◌∷◌, IfOk, OnOk, OnErr};
+ghost use Rattle.std.specs.String.{string_bytes};
+ghost use Rattle.br_model.specs.Transcript.{line_text, text, fault_word, refusal_number};
+ghost use Rattle.transcript_text.specs.Extends.{Extends};
+
+use crate::frames::LastFrames;
+use crate::numbers::{append_field, append_number};
+use br_model::NoMemory;
+use br_model::bytes::Bytes;
+use br_model::frame::FrameFault;
+use br_model::numbers::Port;
+use br_model::steps::Refusal;
+use br_model::transcript::Line;
+use std::alloc::Global;
+
+/// Writes lines, and remembers the digits of the last frames.
+#[derive(Drop)]
+pub struct Writer {
+    frames: LastFrames,
+}
+
+impl Writer {
+    /// Allocates nothing.
+    pub fn new(alloc: Global) -> Writer {
+        Writer {
+            frames: LastFrames::new(alloc),
+        }
+    }
+
+    /// Writes the line with its line feed behind the text. After want of memory a part of it may stand there.
+    pub fn append(&mut self, line: &Line, to: &mut String) -> Result<(), NoMemory>
+        ensures ok { OnOk result (string_bytes to.new ≡ string_bytes to.old ++ line_text line.now) }
+        ensures err { OnErr result (Extends (string_bytes to.old) (string_bytes to.new)) }
+    {
+        match line {
+            Line::Unread { id, why } => append_unread(*id, *why, to),
+            Line::Soft { id, point } => append_soft(*id, *point, to),
+            Line::Tx { id, port, bytes } => self.append_tx(*id, *port, bytes, to),
+            Line::Done { step, changes } => append_done(*step, *changes, to),
+            Line::Refused { step, refusal } => append_refused(*step, *refusal, to),
+            Line::End {
+                steps,
+                changes,
+                pending,
+                waiting,
+            } => append_end(*steps, *changes, *pending, *waiting, to),
+        }
+    }
+
+    /// Writes the lines one after another behind the text. After want of memory a part of them may stand there.
+    pub fn append_lines(&mut self, lines: &[Line], to: &mut String) -> Result<(), NoMemory>
+        ensures ok { OnOk result (string_bytes to.new ≡ string_bytes to.old ++ text lines.now) }
+        ensures err { OnErr result (Extends (string_bytes to.old) (string_bytes to.new)) }
+    {
+        for line in lines {
+            self.append(line, to)?;
+        }
+        Ok(())
+    }
+
+    fn append_tx(
+        &mut self,
+        id: u32,
+        port: Port,
+        bytes: &Bytes,
+        to: &mut String,
+    ) -> Result<(), NoMemory>
+        ensures ok { OnOk result (string_bytes to.new ≡ string_bytes to.old ++ line_text (Line.Tx id port bytes.now)) }
+        ensures err { OnErr result (Extends (string_bytes to.old) (string_bytes to.new)) }
+    {
+        to.push_str("tx ")?;
+        append_field(id, ' ', to)?;
+        append_field(u32::from(port.number()), ' ', to)?;
+        self.frames.append(bytes.as_slice(), to)?;
+        to.push('\n')
+    }
+}
+
+fn fault(why: FrameFault) -> &'static str
+    ensures { result.now ≡ fault_word why ++ 10 ∷ [] }
+{
+    match why {
+        FrameFault::Short => "short\n",
+        FrameFault::Long => "long\n",
+        FrameFault::TagShort => "tagshort\n",
+    }
+}
+
+fn append_unread(id: u32, why: FrameFault, to: &mut String) -> Result<(), NoMemory>
+    ensures ok { OnOk result (string_bytes to.new ≡ string_bytes to.old ++ line_text (Line.Unread id why)) }
+    ensures err { OnErr result (Extends (string_bytes to.old) (string_bytes to.new)) }
+{
+    to.push_str("unread ")?;
+    append_field(id, ' ', to)?;
+    to.push_str(fault(why))
+}
+
+fn append_soft(id: u32, point: u32, to: &mut String) -> Result<(), NoMemory>
+    ensures ok { OnOk result (string_bytes to.new ≡ string_bytes to.old ++ line_text (Line.Soft id point)) }
+    ensures err { OnErr result (Extends (string_bytes to.old) (string_bytes to.new)) }
+{
+    to.push_str("soft ")?;
+    append_number(id, to)?;
+    to.push_str(" at ")?;
+    append_field(point, '\n', to)
+}
+
+fn append_done(step: u32, changes: u32, to: &mut String) -> Result<(), NoMemory>
+    ensures ok { OnOk result (string_bytes to.new ≡ string_bytes to.old ++ line_text (Line.Done step changes)) }
+    ensures err { OnErr result (Extends (string_bytes to.old) (string_bytes to.new)) }
+{
+    to.push_str("ok ")?;
+    append_field(step, ' ', to)?;
+    append_field(changes, '\n', to)
+}
+
+fn number_of(refusal: Refusal) -> u32
+    ensures { result ≡ refusal_number refusal }
+{
+    match refusal {
+        Refusal::PortIsUp => 1,
+        Refusal::PortNotUp => 2,
+        Refusal::NotMember => 3,
+        Refusal::Exists => 4,
+        Refusal::HistoryFull => 8,
+        Refusal::NothingWaiting => 10,
+    }
+}
+
+fn append_refused(step: u32, refusal: Refusal, to: &mut String) -> Result<(), NoMemory>
+    ensures ok { OnOk result (string_bytes to.new ≡ string_bytes to.old ++ line_text (Line.Refused step refusal)) }
+    ensures err { OnErr result (Extends (string_bytes to.old) (string_bytes to.new)) }
+{
+    to.push_str("refused ")?;
+    append_field(step, ' ', to)?;
+    append_field(number_of(refusal), '\n', to)
+}
+
+fn append_end(
+    steps: u32,
+    changes: u32,
+    pending: u32,
+    waiting: u32,
+    to: &mut String,
+) -> Result<(), NoMemory>
+    ensures ok { OnOk result (string_bytes to.new ≡ string_bytes to.old ++ line_text (Line.End steps changes pending waiting)) }
+    ensures err { OnErr result (Extends (string_bytes to.old) (string_bytes to.new)) }
+{
+    to.push_str("end ")?;
+    append_field(steps, ' ', to)?;
+    append_field(changes, ' ', to)?;
+    append_field(pending, ' ', to)?;
+    append_field(waiting, '\n', to)
+}
+
+/// The line with its line feed.
+pub fn write(alloc: Global, l: &Line) -> Result<Bytes, NoMemory>
+    ensures { IfOk result (λ bytes. bytes ≡ line_text l.now) }
+{
+    let mut text = String::new(alloc);
+    Writer::new(alloc).append(l, &mut text)?;
+    Ok(Bytes::of(text.into_bytes()))
+}

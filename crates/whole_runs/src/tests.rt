@@ -1,0 +1,87 @@
+//! Runs over memory: what they answer, and what they write.
+mod faults;
+mod limits;
+mod rows;
+
+use capture_runner::{Status, run};
+use run_io::sinks::MemSink;
+use run_io::sources::MemSource;
+use std::alloc::Global;
+use std::process::Abort;
+use std::test::Fail;
+
+/// What a run answered, and what its sink took.
+#[derive(Drop)]
+struct Outcome {
+    status: Status,
+    wrote: Vec<u8>,
+}
+
+/// Runs these words, where the reads and writes of these numbers fail.
+fn ran(
+    alloc: Global,
+    words: &[&str],
+    input: &[u8],
+    read_fails: &[u32],
+    write_fails: &[u32],
+) -> Result<Outcome, Fail> {
+    let mut owned = Vec::new(alloc);
+    for word in words {
+        owned.push(String::from_str(alloc, *word)?)?;
+    }
+    let mut source = MemSource::make(
+        Vec::from_slice(alloc, input)?,
+        Vec::from_slice(alloc, read_fails)?,
+    );
+    let mut sink = MemSink::make(alloc, 100_000, Vec::from_slice(alloc, write_fails)?)?;
+    let status = run(alloc, &owned, &mut source, &mut sink);
+    let wrote = Vec::from_slice(alloc, sink.bytes())?;
+    Ok(Outcome { status, wrote })
+}
+
+/// Runs a scenario. `told` is what its transcript has after the line `transcript 1`.
+fn is_told(
+    rt: &impl Abort,
+    alloc: Global,
+    input: &[u8],
+    status: Status,
+    told: &str,
+) -> Result<(), Fail> {
+    let outcome = ran(alloc, &["replay"], input, &[], &[])?;
+    assert_eq!(rt; outcome.status, status, "at {told}");
+    let (head, rest) = outcome.wrote.split_at(outcome.wrote.len().min(13));
+    assert_eq!(rt; head, b"transcript 1\n".as_slice(), "at {told}");
+    assert_eq!(rt; rest, told.as_bytes(), "at {told}");
+    Ok(())
+}
+
+/// A scenario, and what its transcript has after the line `transcript 1`.
+#[derive(Drop)]
+struct Row {
+    input: String,
+    told: String,
+}
+
+/// Each line of the text is a line of the scenario, and after `=>` stand the lines that it writes, with `;` between them.
+/// A scenario's last line has a line feed where the text's has one.
+fn read_row(alloc: Global, text: &str) -> Result<Row, Fail> {
+    let mut input = String::new(alloc);
+    let mut told = String::new(alloc);
+    for whole in text.split_inclusive('\n') {
+        let (line, feed) = match whole.strip_suffix("\n") {
+            Some(line) => (line, "\n"),
+            None => (whole, ""),
+        };
+        let Some((said, answers)) = line.split_once(" => ") else {
+            input.push_str(whole)?;
+            continue;
+        };
+        input.push_str(said)?;
+        input.push_str(feed)?;
+        for answer in answers.split("; ") {
+            told.push_str(answer)?;
+            told.push('\n')?;
+        }
+    }
+    Ok(Row { input, told })
+}

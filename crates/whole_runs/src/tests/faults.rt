@@ -1,0 +1,112 @@
+//! Faults of reading and writing, other words, and the numbers of the answers.
+use super::rows::{FIRST_FRAME, row_is_told};
+use super::{ran, read_row};
+use capture_runner::{Status, end_without_memory};
+use run_io::sinks::MemSink;
+use std::test::Fail;
+
+#[test]
+fn bad_lines_and_faults(rt: HostRuntime) -> Result<(), Fail> {
+    let alloc = rt.alloc();
+    let unended = "scenario 1
+port 1 p1 soft
+cmd port up p1 => ok 1 3
+rx 1 0200 => bad 4 unended";
+    row_is_told(&rt, alloc, unended, Status::BadLine)?;
+    let ended = "scenario 1
+port 1 p1 soft
+cmd port up p1 => ok 1 3
+rx 1 0200 => unread 1 short
+end => end 2 3 0 0
+";
+    row_is_told(&rt, alloc, ended, Status::Ok)?;
+    let usage = ran(alloc, &[], b"", &[], &[])?;
+    assert_eq!(rt; usage.status, Status::Usage);
+    assert_eq!(rt; usage.wrote.as_slice(), b"usage\n".as_slice());
+    let first = read_row(alloc, FIRST_FRAME)?;
+    let input = first.input.as_bytes();
+    let read = ran(alloc, &["replay"], input, &[1], &[])?;
+    assert_eq!(rt; read.status, Status::ReadFault);
+    assert_eq!(rt;
+        read.wrote.as_slice(),
+        b"transcript 1\nread fault\n".as_slice()
+    );
+    let write = ran(alloc, &["replay"], input, &[], &[1])?;
+    assert_eq!(rt; write.status, Status::WriteFault);
+    assert!(rt; write.wrote.is_empty());
+    Ok(())
+}
+
+/// The first read takes two whole lines and a part of the third. The second one finds the end, or fails.
+#[test]
+fn second_read_fails(rt: HostRuntime) -> Result<(), Fail> {
+    let input = b"scenario 1\nport 1 p1 soft\ncmd port up p1\nen";
+    let rows = [
+        (2, Status::ReadFault, "transcript 1\nok 1 3\nread fault\n"),
+        (3, Status::BadLine, "transcript 1\nok 1 3\nbad 4 unended\n"),
+    ];
+    for (call, status, wrote) in rows {
+        let outcome = ran(rt.alloc(), &["replay"], input, &[call], &[])?;
+        assert_eq!(rt; outcome.status, status, "at {call}");
+        assert_eq!(rt; outcome.wrote.as_slice(), wrote.as_bytes(), "at {call}");
+    }
+    Ok(())
+}
+
+/// The first write is before the first read, and the second one before the second read, or of the end.
+#[test]
+fn second_write_fails(rt: HostRuntime) -> Result<(), Fail> {
+    let ended = b"scenario 1\nport 1 p1 soft\ncmd port up p1\nend\n".as_slice();
+    let unended = b"scenario 1\nport 1 p1 soft\ncmd port up p1\n".as_slice();
+    let rows = [
+        (ended, 2, Status::WriteFault, "transcript 1\n"),
+        (ended, 3, Status::Ok, "transcript 1\nok 1 3\nend 1 3 0 0\n"),
+        (unended, 2, Status::WriteFault, "transcript 1\n"),
+        (unended, 3, Status::WriteFault, "transcript 1\nok 1 3\n"),
+    ];
+    for (input, call, status, wrote) in rows {
+        let outcome = ran(rt.alloc(), &["replay"], input, &[], &[call])?;
+        assert_eq!(rt; outcome.status, status, "at {call}");
+        assert_eq!(rt; outcome.wrote.as_slice(), wrote.as_bytes(), "at {call}");
+    }
+    Ok(())
+}
+
+#[test]
+fn other_words_are_usage(rt: HostRuntime) -> Result<(), Fail> {
+    let commands: [&[&str]; 4] = [&["Replay"], &["replay", "now"], &["replay "], &[""]];
+    for words in commands {
+        let outcome = ran(rt.alloc(), words, b"scenario 1\nend\n", &[], &[])?;
+        assert_eq!(rt; outcome.status, Status::Usage);
+        assert_eq!(rt; outcome.wrote.as_slice(), b"usage\n".as_slice());
+    }
+    let outcome = ran(rt.alloc(), &["now"], b"", &[], &[1])?;
+    assert_eq!(rt; outcome.status, Status::WriteFault);
+    Ok(())
+}
+
+#[test]
+fn no_memory_for_the_words(rt: HostRuntime) -> Result<(), Fail> {
+    let alloc = rt.alloc();
+    let mut sink = MemSink::make(alloc, 10, Vec::from_slice(alloc, &[2])?)?;
+    assert_eq!(rt; end_without_memory(&mut sink), Status::NoMemory);
+    assert_eq!(rt; sink.bytes(), b"no memory\n".as_slice());
+    assert_eq!(rt; end_without_memory(&mut sink), Status::WriteFault);
+    Ok(())
+}
+
+#[test]
+fn numbers_of_statuses(rt: HostRuntime) {
+    let rows = [
+        (Status::Ok, 0),
+        (Status::Usage, 2),
+        (Status::BadLine, 3),
+        (Status::ReadFault, 4),
+        (Status::WriteFault, 5),
+        (Status::NoMemory, 6),
+        (Status::TooLong, 7),
+    ];
+    for (status, number) in rows {
+        assert_eq!(rt; status.code(), number);
+    }
+}

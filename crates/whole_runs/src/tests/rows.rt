@@ -1,0 +1,184 @@
+//! Worked rows, and the causes of bad lines.
+use super::{is_told, read_row};
+use capture_runner::Status;
+use std::alloc::Global;
+use std::process::Abort;
+use std::test::Fail;
+
+/// A frame to a known station.
+pub(super) const FIRST_FRAME: &str = "scenario 1
+port 1 p1 soft
+port 2 p2 soft
+cmd port up p1 => ok 1 3
+cmd port up p2 => ok 2 3
+cmd fdb add 02:00:00:00:00:0a dev p1 vlan 1 static => ok 3 1
+cmd fdb add 02:00:00:00:00:0b dev p2 vlan 1 static => ok 4 1
+publish => ok 5 0
+rx 1 02000000000b02000000000a88b50102
+serve => soft 1 at 8; tx 1 2 02000000000b02000000000a88b50102; ok 7 0
+end => end 7 8 2 0
+";
+
+pub(super) fn row_is_told(
+    rt: &impl Abort,
+    alloc: Global,
+    text: &str,
+    status: Status,
+) -> Result<(), Fail> {
+    let worked = read_row(alloc, text)?;
+    is_told(
+        rt,
+        alloc,
+        worked.input.as_bytes(),
+        status,
+        worked.told.as_str(),
+    )
+}
+
+#[test]
+fn first_frame(rt: HostRuntime) -> Result<(), Fail> {
+    row_is_told(&rt, rt.alloc(), FIRST_FRAME, Status::Ok)
+}
+
+/// What stands after the line `end` isn't looked at, and this line may lack its line feed.
+#[test]
+fn empty_scenario(rt: HostRuntime) -> Result<(), Fail> {
+    let rows = [
+        "scenario 1\nend => end 0 0 0 0\n",
+        "scenario 1\nend => end 0 0 0 0",
+        "# first\n\n  scenario  1 \n   end   => end 0 0 0 0",
+        "scenario 1\nend => end 0 0 0 0\nbogus\n",
+    ];
+    for text in rows {
+        row_is_told(&rt, rt.alloc(), text, Status::Ok)?;
+    }
+    Ok(())
+}
+
+#[test]
+fn first_refusals(rt: HostRuntime) -> Result<(), Fail> {
+    let text = "scenario 1
+port 1 p1 soft
+cmd port up p1 => ok 1 3
+cmd port up p1 => refused 2 1
+cmd fdb add 02:00:00:00:00:0a dev p1 vlan 7 static => refused 3 3
+serve => refused 4 10
+turn 1 => bad 7 word
+";
+    row_is_told(&rt, rt.alloc(), text, Status::BadLine)
+}
+
+/// A bad third line after the declaration of port 1, and its cause.
+#[test]
+fn causes_of_bad_lines(rt: HostRuntime) -> Result<(), Fail> {
+    let alloc = rt.alloc();
+    let rows = [
+        ("", "unended"),
+        ("serve", "unended"),
+        ("# a comment", "unended"),
+        ("  ", "unended"),
+        ("bogus", "unended"),
+        ("bogus\n", "word"),
+        ("Serve\n", "word"),
+        ("serve\r\n", "word"),
+        ("serve now\n", "word"),
+        (" # a space first\n", "word"),
+        ("cmd\n", "word"),
+        ("rx 1\n", "word"),
+        ("scenario 3\n", "word"),
+        ("scenario 1 1\n", "word"),
+        ("scenario 1\n", "place"),
+        ("port 0 p2 soft\n", "number"),
+        ("port 64 p2 soft\n", "number"),
+        ("port 02 host soft\n", "number"),
+        ("port 1 p2 soft\n", "port"),
+        ("port 2 p1 soft\n", "port"),
+        ("port 2 host soft\n", "port"),
+        ("port 2 sixteen-letters. soft\n", "port"),
+        ("cmd port up p2\n", "port"),
+        ("cmd port up host\n", "port"),
+        (
+            "cmd fdb add 03:00:00:00:00:0a dev p2 vlan 0 static\n",
+            "address",
+        ),
+        (
+            "cmd fdb add 00:00:00:00:00:00 dev p1 vlan 1 static\n",
+            "address",
+        ),
+        (
+            "cmd fdb add 02:00:00:00:0a dev p1 vlan 1 static\n",
+            "address",
+        ),
+        (
+            "cmd fdb add 02:00:00:00:00:0a dev p2 vlan 0 static\n",
+            "port",
+        ),
+        (
+            "cmd fdb add 02:00:00:00:00:0a dev p1 vlan 0 static\n",
+            "number",
+        ),
+        (
+            "cmd fdb add 02:00:00:00:00:0a dev p1 vlan 4095 static\n",
+            "number",
+        ),
+        ("rx one 0g\n", "number"),
+        ("rx 2 0g\n", "port"),
+        ("rx 300 00\n", "port"),
+        ("rx 1 0g\n", "hex"),
+        ("rx 1 000\n", "hex"),
+    ];
+    for (rest, why) in rows {
+        let input = format!(in alloc; "scenario 1\nport 1 p1 soft\n{rest}")?;
+        let told = format!(in alloc; "bad 3 {why}\n")?;
+        is_told(&rt, alloc, input.as_bytes(), Status::BadLine, told.as_str())?;
+    }
+    Ok(())
+}
+
+/// Skipped lines count, and each line has its place.
+#[test]
+fn numbers_and_places_of_bad_lines(rt: HostRuntime) -> Result<(), Fail> {
+    let rows = [
+        ("", "bad 1 unended\n"),
+        ("end", "bad 1 place\n"),
+        ("port 0 host soft\n", "bad 1 place\n"),
+        ("scenario 1\n", "bad 2 unended\n"),
+        (
+            "scenario 1\n\n  \n# a comment\nport 1 p1 soft\nport 2 p1 soft\n",
+            "bad 6 port\n",
+        ),
+        (
+            "scenario 1\nserve\nport 0 host soft\n",
+            "refused 1 10\nbad 3 place\n",
+        ),
+    ];
+    for (input, told) in rows {
+        is_told(&rt, rt.alloc(), input.as_bytes(), Status::BadLine, told)?;
+    }
+    Ok(())
+}
+
+/// 01-80-C2-00-00-02 and 0F go to the host alone, 01 nowhere; 10, and 00 while the spanning tree is off, are ordinary
+/// multicasts.
+#[test]
+fn reserved_addresses(rt: HostRuntime) -> Result<(), Fail> {
+    let text = "scenario 1
+port 1 p1 soft
+port 2 p2 soft
+cmd port up p1 => ok 1 3
+cmd port up p2 => ok 2 3
+publish => ok 3 0
+rx 1 0180c200000202000000000a88b50102
+serve => soft 1 at 6; tx 1 0 0180c200000202000000000a88b50102; ok 5 0
+rx 1 0180c200000f02000000000a88b50102
+serve => soft 2 at 6; tx 2 0 0180c200000f02000000000a88b50102; ok 7 0
+rx 1 0180c200001002000000000a88b50102
+serve => soft 3 at 6; tx 3 0 0180c200001002000000000a88b50102; tx 3 2 0180c200001002000000000a88b50102; ok 9 0
+rx 1 0180c200000102000000000a88b50102
+serve => soft 4 at 6; ok 11 0
+rx 1 0180c200000002000000000a88b50102
+serve => soft 5 at 6; tx 5 0 0180c200000002000000000a88b50102; tx 5 2 0180c200000002000000000a88b50102; ok 13 0
+end => end 13 6 0 0
+";
+    row_is_told(&rt, rt.alloc(), text, Status::Ok)
+}
