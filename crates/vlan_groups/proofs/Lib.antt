@@ -1,0 +1,3 @@
+pub mod Memberships
+pub mod Pvids
+pub mod RowLaws

@@ -1,0 +1,37 @@
+-- PVIDs that are kept in a list with a place for each port.
+use Rattle.std.proofs.Common.{◌≡◌, ℕ, zero, suc, ◌+◌, ◌<◌, true, false, not, cond, List, [], ◌∷◌, set, Option, None, Some, refl, sym, ap, ◌∙◌, arith}
+use Rattle.std.specs.Cmp.{unsigned_tied}
+use Rattle.std.specs.Ordering.{nat_cmp, eq_by_cmp}
+use Rattle.std.proofs.lemmas.Bool.{eq-eqb, ne_eqb}
+use Rattle.br_model.specs.Domains.{entries_from}
+use Rattle.br_model.specs.Maps.{without}
+
+apart : (q n : ℕ) → (q ≡ n → ⊥) → eq_by_cmp nat_cmp q n ≡ false
+apart q n h = unsigned_tied q n ∙ ne_eqb q n h
+
+same : (q n : ℕ) → q ≡ n → eq_by_cmp nat_cmp q n ≡ true
+same q n h = unsigned_tied q n ∙ eq-eqb q n h
+
+keeps_all : (n q : ℕ) (places : List (Option ℕ)) → q < n → without nat_cmp (entries_from n places) q ≡ entries_from n places
+keeps_all n q [] h = refl
+keeps_all n q (None ∷ places) h = keeps_all (n + 1) q places (omega arith)
+keeps_all n q (Some d ∷ places) h =
+    ap (λ b. cond (not b) ((n, d) ∷ without nat_cmp (entries_from (n + 1) places) q) (without nat_cmp (entries_from (n + 1) places) q)) (apart q n (λ e. omega arith))
+    ∙ ap (λ (es : List (ℕ × ℕ)). (n, d) ∷ es) (keeps_all (n + 1) q places (omega arith))
+
+-- no entry at the k-th place
+pub entries-clear : (n k : ℕ) (places : List (Option ℕ)) → entries_from n (set places k None) ≡ without nat_cmp (entries_from n places) (n + k)
+entries-clear n k [] = refl
+entries-clear n zero (None ∷ places) = sym (keeps_all (n + 1) (n + 0) places (omega arith))
+entries-clear n zero (Some d ∷ places) =
+    sym (ap (λ b. cond (not b) ((n, d) ∷ without nat_cmp (entries_from (n + 1) places) (n + 0)) (without nat_cmp (entries_from (n + 1) places) (n + 0))) (same (n + 0) n (omega arith))
+    ∙ keeps_all (n + 1) (n + 0) places (omega arith))
+entries-clear n (suc k) (None ∷ places) =
+    let e : n + suc k ≡ (n + 1) + k = omega arith in
+    entries-clear (n + 1) k places ∙ ap (λ q. without nat_cmp (entries_from (n + 1) places) q) (sym e)
+entries-clear n (suc k) (Some d ∷ places) =
+    let e : n + suc k ≡ (n + 1) + k = omega arith in
+    let rest : entries_from (n + 1) (set places k None) ≡ without nat_cmp (entries_from (n + 1) places) (n + suc k) =
+    entries-clear (n + 1) k places ∙ ap (λ q. without nat_cmp (entries_from (n + 1) places) q) (sym e) in
+    ap (λ (es : List (ℕ × ℕ)). (n, d) ∷ es) rest
+    ∙ sym (ap (λ b. cond (not b) ((n, d) ∷ without nat_cmp (entries_from (n + 1) places) (n + suc k)) (without nat_cmp (entries_from (n + 1) places) (n + suc k))) (apart (n + suc k) n (λ x. omega arith)))

@@ -1,0 +1,196 @@
+//! The table of memberships and PVIDs.
+ghost use Rattle.std.specs.Prelude.{◌≡◌, ◌↔◌, ◌+◌, ◌<◌, not, IfOk, IsErr, IsTrue, OnErr, OnOk, [], length};
+ghost use Rattle.std.specs.Ordering.{nat_cmp};
+ghost use Rattle.br_model.specs.Domains.{entries_from};
+ghost use Rattle.br_model.specs.Maps.{get, put};
+ghost use Rattle.br_model.specs.Table.{start, without_pvid};
+ghost use Rattle.br_model.specs.declared.change.Change.TheVariants as Change;
+ghost use Rattle.vlan_groups.specs.Vlans.{parts, after, is_member, is_untagged, vids_of};
+ghost use Rattle.vlan_groups.specs.Rows.{ports_where, memberships_from};
+
+use crate::NoMemory;
+use crate::row::Row;
+use crate::vid_list::Vids;
+use br_model::numbers::{Port, Vid};
+use port_sets::Ports;
+use std::alloc::Global;
+use std::marker::Model;
+use thiserror::Error;
+
+/// The port is a member of the VLAN already.
+#[derive(Clone, Copy, PartialEq, Eq, Debug, Error)]
+#[error("the port is a member of the VLAN already")]
+pub struct Exists;
+
+/// The port isn't a member of the VLAN.
+#[derive(Clone, Copy, PartialEq, Eq, Debug, Error)]
+#[error("the port isn't a member of the VLAN")]
+pub struct Absent;
+
+const VLANS: usize = 4094;
+
+/// The members of each VLAN, and the VLAN of each port's untagged frames.
+#[derive(Drop, Debug)]
+pub struct VlanTable {
+    // The row of VLAN v at place v - 1.
+    rows: Vec<Row>,
+    pvids: [Option<Vid>; 64],
+}
+
+impl Model for VlanTable {
+    ghost use Rattle.std.specs.Prelude.{◌≡◌, length};
+    ghost use Rattle.br_model.specs.Domains.{entries_from};
+    ghost use Rattle.vlan_groups.specs.Vlans.{Vlans};
+    ghost use Rattle.vlan_groups.specs.Rows.{memberships_from};
+
+    ghost Value = { Vlans };
+
+    ghost view = { λ t. record { vlans = memberships_from 1 t.rows.items; pvid = entries_from 0 t.pvids } };
+
+    ghost invariant = { λ t. length t.rows.items ≡ 4094 };
+}
+
+impl VlanTable {
+    /// As a bridge has them at its making: the host is an untagged member of VLAN 1, and no port has a PVID.
+    pub fn make(alloc: Global) -> Result<VlanTable, NoMemory>
+        ensures { IfOk result (λ t. t ≡ parts start) }
+    {
+        let mut rows = empty_rows(alloc)?;
+        let place = place_of(Vid::DEFAULT);
+        rows[place] = rows[place].with(Port::HOST, true);
+        Ok(VlanTable {
+            rows,
+            pvids: no_pvids(),
+        })
+    }
+
+    /// Makes the port a member of the VLAN. With `pvid` the VLAN is that of the port's untagged frames from then on.
+    pub fn add(&mut self, p: Port, v: Vid, untagged: bool, pvid: bool) -> Result<(), Exists>
+        ensures ok { OnOk result (self.new ≡ after self.old (Change.VlanAdd p v untagged pvid)) }
+        ensures exists { IsErr result ↔ IsTrue (is_member self.old p v) }
+        ensures unchanged { OnErr result (self.new ≡ self.old) }
+    {
+        let place = place_of(v);
+        if self.rows[place].has(p) {
+            return Err(Exists);
+        }
+        self.rows[place] = self.rows[place].with(p, untagged);
+        if pvid {
+            set_pvid(&mut self.pvids, p, v);
+        }
+        Ok(())
+    }
+
+    /// Ends the port's membership. Where the VLAN was that of the port's untagged frames, they have none.
+    pub fn del(&mut self, p: Port, v: Vid) -> Result<(), Absent>
+        ensures ok { OnOk result (self.new ≡ after self.old (Change.VlanDel p v)) }
+        ensures absent { IsErr result ↔ IsTrue (not (is_member self.old p v)) }
+        ensures unchanged { OnErr result (self.new ≡ self.old) }
+    {
+        let place = place_of(v);
+        if !self.rows[place].has(p) {
+            return Err(Absent);
+        }
+        self.rows[place] = self.rows[place].without(p);
+        unset_pvid(&mut self.pvids, p, v);
+        Ok(())
+    }
+
+    /// The VLAN of the port's untagged frames.
+    pub fn pvid(&self, p: Port) -> Option<Vid>
+        ensures { result ≡ get nat_cmp self.now.pvid p }
+    {
+        pvid_of(&self.pvids, p)
+    }
+
+    pub fn member(&self, p: Port, v: Vid) -> bool
+        ensures { result ≡ is_member self.now p v }
+    {
+        self.rows[place_of(v)].has(p)
+    }
+
+    /// Whether the port is a member that the VLAN's frames leave without a tag.
+    pub fn untagged(&self, p: Port, v: Vid) -> bool
+        ensures { result ≡ is_untagged self.now p v }
+    {
+        self.rows[place_of(v)].is_untagged(p)
+    }
+
+    /// The members of the VLAN.
+    pub fn ports_of(&self, v: Vid) -> Ports
+        ensures { result ≡ ports_where (λ p. is_member self.now p v) }
+    {
+        self.rows[place_of(v)].members()
+    }
+
+    /// The members that the VLAN's frames leave without a tag.
+    pub fn untagged_of(&self, v: Vid) -> Ports
+        ensures { result ≡ ports_where (λ p. is_untagged self.now p v) }
+    {
+        self.rows[place_of(v)].untagged()
+    }
+
+    /// The VLANs of which the port is a member, ascending. It looks at each VLAN.
+    pub fn vids_of(&self, alloc: Global, p: Port) -> Result<Vids, NoMemory>
+        ensures { IfOk result (λ vids. vids ≡ vids_of self.now.vlans p) }
+    {
+        let mut vids = Vec::new(alloc);
+        for place in 0..VLANS {
+            if self.rows[place].has(p) {
+                vids.push(vid_at(place))?;
+            }
+        }
+        Ok(Vids::of(vids))
+    }
+}
+
+fn empty_rows(alloc: Global) -> Result<Vec<Row>, NoMemory>
+    ensures none { IfOk result (λ rows. memberships_from 1 rows.items ≡ []) }
+    ensures each { IfOk result (λ rows. length rows.items ≡ 4094) }
+{
+    vec![in alloc; Row::empty(); VLANS]
+}
+
+fn no_pvids() -> [Option<Vid>; 64]
+    ensures { entries_from 0 result ≡ [] }
+{
+    [None; 64]
+}
+
+fn pvid_of(pvids: &[Option<Vid>; 64], p: Port) -> Option<Vid>
+    ensures { result ≡ get nat_cmp (entries_from 0 pvids.now) p }
+{
+    pvids[usize::from(p.number())]
+}
+
+fn set_pvid(pvids: &mut [Option<Vid>; 64], p: Port, v: Vid)
+    ensures { entries_from 0 pvids.new ≡ put nat_cmp (entries_from 0 pvids.old) p v }
+{
+    pvids[usize::from(p.number())] = Some(v);
+}
+
+/// Leaves the port without a PVID where the VLAN was that.
+fn unset_pvid(pvids: &mut [Option<Vid>; 64], p: Port, v: Vid)
+    ensures { entries_from 0 pvids.new ≡ without_pvid (entries_from 0 pvids.old) p v }
+{
+    if pvid_of(pvids, p) == Some(v) {
+        pvids[usize::from(p.number())] = None;
+    }
+}
+
+fn place_of(v: Vid) -> usize
+    ensures place { result + 1 ≡ v }
+    ensures within { result < 4094 }
+{
+    usize::from(v.number()) - 1
+}
+
+fn vid_at(place: usize) -> Vid
+    requires { place < 4094 }
+    ensures { result ≡ place + 1 }
+{
+    match Vid::new(place as u16 + 1) {
+        Some(vid) => vid,
+        None => unreachable!(),
+    }
+}
