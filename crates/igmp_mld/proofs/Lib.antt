@@ -1,0 +1,5 @@
+pub mod BigEndian
+pub mod Fits
+pub mod FrameTypes
+pub mod Progress
+pub mod Sums

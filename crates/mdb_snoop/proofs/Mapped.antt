@@ -1,0 +1,323 @@
+-- A finite map from ports, as the ascending list of the ports and a function.
+use Rattle.std.proofs.Common.{◌≡◌, ℕ, zero, suc, ◌+◌, ◌<◌, ◌≤◌, Bool, true, false, not, ◌&&◌, cond, T, Option, Some, None, List, [], ◌∷◌, length, map, set, refl, sym, ap, ◌∙◌, subst, arith}
+use Rattle.std.specs.Prelude.{◌==◌, ◌||◌, ◌≢◌, nat_le, nat_lt, is_some, slice_get, slice_index}
+use Rattle.std.proofs.lemmas.Bool.Decides.{nat_tests}
+use Rattle.std.specs.Cmp.{nat_cmp_total, nat_cmp_is, tied_itself, unsigned_ties}
+use Rattle.std.specs.FinMap.Entries.{same_entries, is_sorted, below_all, is_sorted-put, is_sorted-where_key, find-put, find-where_key}
+use Rattle.std.specs.List.{filter, range_with_len}
+use Rattle.std.specs.FinMap.{nat_cmp-IsAntisymmetric}
+use Rattle.std.specs.Ordering.{nat_cmp, is_lt, is_eq, eq_by_cmp, ordering_reverse}
+use Rattle.std.specs.declared.cmp.Ordering.{Ordering}
+use Rattle.std.specs.declared.cmp.Ordering.TheVariants.{Less, Equal, Greater}
+use Rattle.std.proofs.lemmas.Bool.{eqb-true, eq-eqb, lt-ltb}
+use Rattle.std.proofs.lemmas.List.{get_or-set_same, get_or-set_other}
+use Rattle.std.proofs.Math.Bool.{and-false, and-true}
+use Rattle.port_sets.specs.Numbers.{numbers_below, has_number, IsSetBelow}
+use Rattle.port_sets.specs.WordsOfMembers.{has-filter, has-below}
+use Rattle.br_model.specs.Maps.{get, put, without}
+use Rattle.mdb_snoop.specs.Database.{keys, due, due_members, has_ended}
+use Rattle.mdb_snoop.specs.Places.{has_some}
+
+abbrev pub mapped : {X : Type 0} → (ℕ → X) → List ℕ → List (ℕ × X)
+mapped f ports = map (λ p. (p, f p)) ports
+
+tied : (q p : ℕ) (b : Bool) → (q == p) ≡ b → eq_by_cmp nat_cmp q p ≡ b
+tied q p b e = sym (unsigned_ties q p) ∙ e
+
+turned : (r : Ordering) → is_eq (ordering_reverse r) ≡ is_eq r
+turned Less = refl
+turned Equal = refl
+turned Greater = refl
+
+pub tied_back : (q p : ℕ) (b : Bool) → (q == p) ≡ b → eq_by_cmp nat_cmp p q ≡ b
+tied_back q p b e = ap is_eq (nat_cmp_total.antisymm p q) ∙ turned (nat_cmp q p) ∙ tied q p b e
+
+both : (a b : Bool) → T a → T b → T (a && b)
+both true b p q = q
+both false b p q = p
+
+pub get-mapped : {X : Type 0} (f : ℕ → X) (ports : List ℕ) (q : ℕ) → get nat_cmp (mapped f ports) q ≡ cond (has_number ports q) (Some (f q)) None
+get-mapped f [] q = refl
+get-mapped f (m ∷ ports) q = by (get-mapped f ports q) (q == m) refl
+  where
+    by : get nat_cmp (mapped f ports) q ≡ cond (has_number ports q) (Some (f q)) None → (b : Bool) → (q == m) ≡ b → cond (eq_by_cmp nat_cmp q m) (Some (f m)) (get nat_cmp (mapped f ports) q) ≡ cond ((q == m) || has_number ports q) (Some (f q)) None
+    by ih true e = rw (tied q m true e, e) (ap (λ x. Some (f x)) (sym (eqb-true q m e)))
+    by ih false e = rw (tied q m false e, e) ih
+
+below-mapped : {X : Type 0} (f : ℕ → X) (t : ℕ → Bool) (x a n : ℕ) → x < a → T (below_all nat_cmp x (mapped f (filter t (range_with_len a n))))
+below-mapped f t x a zero less = tt
+below-mapped f t x a (suc n) less = by (below-mapped f t x (a + 1) n (omega (arith, less))) (t a)
+  where
+    by : T (below_all nat_cmp x (mapped f (filter t (range_with_len (a + 1) n)))) → (b : Bool) → T (below_all nat_cmp x (mapped f (cond b (a ∷ filter t (range_with_len (a + 1) n)) (filter t (range_with_len (a + 1) n)))))
+    by rest true = both _ _ (subst (λ r. T (is_lt r)) (nat_cmp_is x a Less less) tt) rest
+    by rest false = rest
+
+sorted-range : {X : Type 0} (f : ℕ → X) (t : ℕ → Bool) (a n : ℕ) → T (is_sorted nat_cmp (mapped f (filter t (range_with_len a n))))
+sorted-range f t a zero = tt
+sorted-range f t a (suc n) = by (sorted-range f t (a + 1) n) (t a)
+  where
+    by : T (is_sorted nat_cmp (mapped f (filter t (range_with_len (a + 1) n)))) → (b : Bool) → T (is_sorted nat_cmp (mapped f (cond b (a ∷ filter t (range_with_len (a + 1) n)) (filter t (range_with_len (a + 1) n)))))
+    by rest true = both _ _ (below-mapped f t a (a + 1) n (omega arith)) rest
+    by rest false = rest
+
+-- a set has no number but those below its bound
+within : (ports : List ℕ) (q : ℕ) → IsSetBelow 64 ports → has_number ports q ≡ (has_number ports q && has_number (range_with_len 0 64) q)
+unfolding numbers_below
+within ports q set = ap (λ l. has_number l q) set ∙ has-filter (has_number ports) q (range_with_len 0 64)
+
+with-has : (ports : List ℕ) (p q : ℕ) → (q == p) ≡ false → IsSetBelow 64 ports → has_number (numbers_below 64 (λ m. (m == p) || has_number ports m)) q ≡ has_number ports q
+unfolding numbers_below
+with-has ports p q apart set =
+    has-filter (λ m. (m == p) || has_number ports m) q (range_with_len 0 64)
+    ∙ ap (λ b. (b || has_number ports q) && has_number (range_with_len 0 64) q) apart
+    ∙ sym (within ports q set)
+
+without-has : (ports : List ℕ) (p q : ℕ) (b : Bool) → (q == p) ≡ b → IsSetBelow 64 ports
+    → has_number (numbers_below 64 (λ m. has_number ports m && not (m == p))) q ≡ (not b && has_number ports q)
+unfolding numbers_below
+without-has ports p q b is set =
+    has-filter (λ m. has_number ports m && not (m == p)) q (range_with_len 0 64)
+    ∙ ap (λ c. (has_number ports q && not c) && has_number (range_with_len 0 64) q) is
+    ∙ by b
+  where
+    by : (c : Bool) → ((has_number ports q && not c) && has_number (range_with_len 0 64) q) ≡ (not c && has_number ports q)
+    by true = ap (λ x. x && has_number (range_with_len 0 64) q) (and-false (has_number ports q))
+    by false = ap (λ x. x && has_number (range_with_len 0 64) q) (and-true (has_number ports q)) ∙ sym (within ports q set)
+
+sorted-set : {X : Type 0} (f : ℕ → X) (t : ℕ → Bool) → T (is_sorted nat_cmp (mapped f (numbers_below 64 t)))
+unfolding numbers_below
+sorted-set f t = sorted-range f t 0 64
+
+pub sorted-mapped : {X : Type 0} (f : ℕ → X) (ports : List ℕ) → IsSetBelow 64 ports → T (is_sorted nat_cmp (mapped f ports))
+sorted-mapped f ports set = subst (λ l. T (is_sorted nat_cmp (mapped f l))) (sym set) (sorted-set f (has_number ports))
+
+-- one more port, or another value at a port
+pub mapped-put : {X : Type 0} (f g : ℕ → X) (ports : List ℕ) (p : ℕ) (x : X) → IsSetBelow 64 ports → p < 64 → g p ≡ x → ((q : ℕ) → (q == p) ≡ false → g q ≡ f q)
+    → mapped g (numbers_below 64 (λ m. (m == p) || has_number ports m)) ≡ put nat_cmp (mapped f ports) p x
+mapped-put {X} f g ports p x set low at others =
+    same_entries nat_cmp nat_cmp_total nat_cmp-IsAntisymmetric (mapped g wide) (put nat_cmp (mapped f ports) p x) (sorted-set g _) (is_sorted-put nat_cmp nat_cmp_total p x (mapped f ports) (sorted-mapped f ports set))
+    (λ q. get-mapped g wide q ∙ by q (q == p) refl ∙ sym (find-put nat_cmp nat_cmp_total q p x (mapped f ports) ∙ ap (cond (eq_by_cmp nat_cmp q p) (Some x)) (get-mapped f ports q)))
+  where
+    wide : List ℕ
+    wide = numbers_below 64 (λ m. (m == p) || has_number ports m)
+
+    by : (q : ℕ) (b : Bool) → (q == p) ≡ b → cond (has_number wide q) (Some (g q)) None ≡ cond (eq_by_cmp nat_cmp q p) (Some x) (cond (has_number ports q) (Some (f q)) None)
+    by q true e =
+        let is : q ≡ p = eqb-true q p e in
+        let has : has_number wide q ≡ true = has-below (λ m. (m == p) || has_number ports m) 64 q (subst (λ n. n < 64) (sym is) low) ∙ ap (λ b. b || has_number ports q) e in
+        rw (has, tied q p true e) (ap Some (ap g is ∙ at))
+    by q false e = rw (with-has ports p q e set, tied q p false e, others q e) refl
+
+-- one port less
+pub mapped-without : {X : Type 0} (f g : ℕ → X) (ports : List ℕ) (p : ℕ) → IsSetBelow 64 ports → ((q : ℕ) → (q == p) ≡ false → g q ≡ f q)
+    → mapped g (numbers_below 64 (λ m. has_number ports m && not (m == p))) ≡ without nat_cmp (mapped f ports) p
+mapped-without {X} f g ports p set others =
+    same_entries nat_cmp nat_cmp_total nat_cmp-IsAntisymmetric (mapped g left) (without nat_cmp (mapped f ports) p) (sorted-set g _) (is_sorted-where_key nat_cmp apart (mapped f ports) (sorted-mapped f ports set))
+    (λ q. get-mapped g left q ∙ by q (q == p) refl ∙ sym (find-where_key nat_cmp apart q (alike q) (mapped f ports) ∙ ap (λ o. cond (apart q) o None) (get-mapped f ports q)))
+  where
+    apart : ℕ → Bool
+    apart q = not (eq_by_cmp nat_cmp p q)
+
+    alike : (q x : ℕ) → nat_cmp q x ≡ Equal → apart x ≡ apart q
+    alike q x e = ap apart (sym (nat_cmp-IsAntisymmetric q x e))
+
+    left : List ℕ
+    left = numbers_below 64 (λ m. has_number ports m && not (m == p))
+
+    by : (q : ℕ) (b : Bool) → (q == p) ≡ b → cond (has_number left q) (Some (g q)) None ≡ cond (apart q) (cond (has_number ports q) (Some (f q)) None) None
+    by q true e = rw (without-has ports p q true e set, tied_back q p true e) refl
+    by q false e = rw (without-has ports p q false e set, tied_back q p false e, others q e) refl
+
+-- the ports themselves
+pub keys-mapped : {X : Type 0} (f : ℕ → X) (ports : List ℕ) → ports ≡ keys (mapped f ports)
+keys-mapped f [] = refl
+keys-mapped f (p ∷ ports) = ap (λ l. p ∷ l) (keys-mapped f ports)
+
+-- those that pass
+pub keys-filter_mapped : {X : Type 0} (f : ℕ → X) (t : X → Bool) (ports : List ℕ) → filter (λ p. t (f p)) ports ≡ keys (filter (λ x. t x.1) (mapped f ports))
+keys-filter_mapped f t [] = refl
+keys-filter_mapped f t (p ∷ ports) = by (keys-filter_mapped f t ports) (t (f p))
+  where
+    by : filter (λ q. t (f q)) ports ≡ keys (filter (λ x. t x.1) (mapped f ports)) → (b : Bool) → cond b (p ∷ filter (λ q. t (f q)) ports) (filter (λ q. t (f q)) ports) ≡ keys (cond b ((p, f p) ∷ filter (λ x. t x.1) (mapped f ports)) (filter (λ x. t x.1) (mapped f ports)))
+    by ih true = ap (λ l. p ∷ l) ih
+    by ih false = ih
+
+filter-both : (s t : ℕ → Bool) (xs : List ℕ) → filter (λ m. s m && t m) xs ≡ filter t (filter s xs)
+filter-both s t [] = refl
+filter-both s t (x ∷ xs) = by (filter-both s t xs) (s x)
+  where
+    by : filter (λ m. s m && t m) xs ≡ filter t (filter s xs) → (a : Bool) → cond (a && t x) (x ∷ filter (λ m. s m && t m) xs) (filter (λ m. s m && t m) xs) ≡ filter t (cond a (x ∷ filter s xs) (filter s xs))
+    by ih true = ap (λ l. cond (t x) (x ∷ l) l) ih
+    by ih false = ih
+
+-- the members that pass, as a set
+pub set-filter : (t : ℕ → Bool) (ports : List ℕ) → IsSetBelow 64 ports → numbers_below 64 (λ m. has_number ports m && t m) ≡ filter t ports
+unfolding numbers_below
+set-filter t ports set = filter-both (has_number ports) t (range_with_len 0 64) ∙ ap (filter t) (sym set)
+
+-- what stands at a port, of a map that is seen so
+
+pub get-there : {X : Type 0} (f : ℕ → X) (ports : List ℕ) (q : ℕ) (m : List (ℕ × X)) → mapped f ports ≡ m → has_number ports q ≡ true → get nat_cmp m q ≡ Some (f q)
+get-there f ports q m view there = ap (λ l. get nat_cmp l q) (sym view) ∙ get-mapped f ports q ∙ ap (λ b. cond b (Some (f q)) None) there
+
+pub get-not : {X : Type 0} (f : ℕ → X) (ports : List ℕ) (q : ℕ) (m : List (ℕ × X)) → mapped f ports ≡ m → has_number ports q ≡ false → get nat_cmp m q ≡ None
+get-not f ports q m view there = ap (λ l. get nat_cmp l q) (sym view) ∙ get-mapped f ports q ∙ ap (λ b. cond b (Some (f q)) None) there
+
+pub is_some-mapped : {X : Type 0} (f : ℕ → X) (ports : List ℕ) (q : ℕ) (m : List (ℕ × X)) → mapped f ports ≡ m → has_number ports q ≡ is_some (get nat_cmp m q)
+is_some-mapped f ports q m view = by (has_number ports q) ∙ sym (ap (λ l. is_some (get nat_cmp l q)) (sym view) ∙ ap is_some (get-mapped f ports q))
+  where
+    by : (b : Bool) → b ≡ is_some (cond b (Some (f q)) None)
+    by true = refl
+    by false = refl
+
+-- a set that is built number by number
+
+pub same_set : (s t : ℕ → Bool) → ((m : ℕ) → m < 64 → s m ≡ t m) → numbers_below 64 s ≡ numbers_below 64 t
+unfolding numbers_below
+same_set s t h = go 0 64 (omega arith)
+  where
+    go : (a n : ℕ) → a + n ≤ 64 → filter s (range_with_len a n) ≡ filter t (range_with_len a n)
+    go a zero within = refl
+    go a (suc n) within = ap (λ b. cond b (a ∷ filter s (range_with_len (a + 1) n)) (filter s (range_with_len (a + 1) n))) (h a (omega (arith, within))) ∙ ap (λ l. cond (t a) (a ∷ l) l) (go (a + 1) n (omega (arith, within)))
+
+nat_lt-suc : (m i : ℕ) (b : Bool) → (m == i) ≡ b → nat_lt m (i + 1) ≡ (b || nat_lt m i)
+nat_lt-suc m i b e = grind (arith, nat_tests, e)
+
+-- the numbers so far, with the next one or without it
+pub next-in : (t : ℕ → Bool) (i : ℕ) (due : List ℕ) → i < 64 → due ≡ numbers_below 64 (λ m. nat_lt m i && t m) → t i ≡ true
+    → numbers_below 64 (λ m. (m == i) || has_number due m) ≡ numbers_below 64 (λ m. nat_lt m (i + 1) && t m)
+next-in t i due low is at = same_set _ _ (λ m within. ap (λ l. (m == i) || has_number l m) is ∙ ap (λ b. (m == i) || b) (has-below (λ k. nat_lt k i && t k) 64 m within) ∙ by m (m == i) refl)
+  where
+    by : (m : ℕ) (b : Bool) → (m == i) ≡ b → ((m == i) || (nat_lt m i && t m)) ≡ (nat_lt m (i + 1) && t m)
+    by m true e = rw (nat_lt-suc m i true e, e) (sym (ap t (eqb-true m i e) ∙ at))
+    by m false e = rw (nat_lt-suc m i false e, e) refl
+
+pub next-out : (t : ℕ → Bool) (i : ℕ) (due : List ℕ) → due ≡ numbers_below 64 (λ m. nat_lt m i && t m) → t i ≡ false → due ≡ numbers_below 64 (λ m. nat_lt m (i + 1) && t m)
+next-out t i due is at = is ∙ same_set _ _ (λ m within. by m (m == i) refl)
+  where
+    by : (m : ℕ) (b : Bool) → (m == i) ≡ b → (nat_lt m i && t m) ≡ (nat_lt m (i + 1) && t m)
+    by m true e = rw (nat_lt-suc m i true e, ap t (eqb-true m i e) ∙ at) (and-false (nat_lt m i))
+    by m false e = rw (nat_lt-suc m i false e) refl
+
+no_numbers : [] ≡ numbers_below 64 (λ m. false)
+unfolding numbers_below
+no_numbers = refl
+
+nothing_below : (m : ℕ) → nat_lt m 0 ≡ false
+nothing_below m = grind (arith, nat_tests)
+
+pub none-before : (t : ℕ → Bool) → [] ≡ numbers_below 64 (λ m. nat_lt m 0 && t m)
+none-before t = no_numbers ∙ same_set (λ m. false) (λ m. nat_lt m 0 && t m) (λ m within. ap (λ b. b && t m) (sym (nothing_below m)))
+
+-- the numbers so far, with the next one where it passes
+pub next-if : (t : ℕ → Bool) (i : ℕ) (due new : List ℕ) → i < 64 → due ≡ numbers_below 64 (λ m. nat_lt m i && t m)
+    → new ≡ cond (t i) (numbers_below 64 (λ m. (m == i) || has_number due m)) due → new ≡ numbers_below 64 (λ m. nat_lt m (i + 1) && t m)
+next-if t i due new low is then_is = then_is ∙ by (t i) refl
+  where
+    by : (b : Bool) → t i ≡ b → cond b (numbers_below 64 (λ m. (m == i) || has_number due m)) due ≡ numbers_below 64 (λ m. nat_lt m (i + 1) && t m)
+    by true at = next-in t i due low is at
+    by false at = next-out t i due is at
+
+pub all-below : (t : ℕ → Bool) → numbers_below 64 (λ m. nat_lt m 64 && t m) ≡ numbers_below 64 t
+all-below t = same_set _ _ (λ m within. ap (λ b. b && t m) (lt-ltb m 64 within))
+
+pub due-is : (f : ℕ → ℕ) (now : ℕ) (ports : List ℕ) (m : List (ℕ × ℕ)) → IsSetBelow 64 ports → mapped f ports ≡ m → numbers_below 64 (λ p. has_number ports p && nat_le (f p) now) ≡ due now m
+due-is f now ports m set view = set-filter (λ p. nat_le (f p) now) ports set ∙ keys-filter_mapped f (λ x. nat_le x now) ports ∙ ap (λ l. due now l) view
+
+unequal : (q p : ℕ) → (q == p) ≡ false → q ≢ p
+unequal q p e = λ same. absurd (cc (sym e ∙ eq-eqb q p same))
+
+-- one place of the moments is written
+pub write-put : (moments written ports : List ℕ) (p x : ℕ) → IsSetBelow 64 ports → p < 64 → length moments ≡ 64 → written ≡ set moments p x
+    → mapped (slice_index written) (numbers_below 64 (λ m. (m == p) || has_number ports m)) ≡ put nat_cmp (mapped (slice_index moments) ports) p x
+write-put moments written ports p x ascending low size is =
+    mapped-put (slice_index moments) (slice_index written) ports p x ascending low
+    (ap (λ l. slice_index l p) is ∙ get_or-set_same moments p x 0 (subst (λ n. p < n) (sym size) low))
+    (λ q e. ap (λ l. slice_index l q) is ∙ get_or-set_other moments p q x 0 (unequal q p e))
+
+-- ends of members
+
+pub put-some : (ends left : List (ℕ × ℕ)) (ports : List ℕ) (p x : ℕ) → IsSetBelow 64 ports → p < 64 → left ≡ put nat_cmp ends p x
+    → mapped (get nat_cmp left) (numbers_below 64 (λ m. (m == p) || has_number ports m)) ≡ put nat_cmp (mapped (get nat_cmp ends) ports) p (Some x)
+put-some ends left ports p x ascending low is =
+    mapped-put (get nat_cmp ends) (get nat_cmp left) ports p (Some x) ascending low
+    (at p ∙ ap (λ r. cond (is_eq r) (Some x) (get nat_cmp ends p)) (tied_itself nat_cmp_total p))
+    (λ q e. at q ∙ ap (λ b. cond b (Some x) (get nat_cmp ends q)) (tied q p false e))
+  where
+    at : (q : ℕ) → get nat_cmp left q ≡ cond (eq_by_cmp nat_cmp q p) (Some x) (get nat_cmp ends q)
+    at q = ap (λ l. get nat_cmp l q) is ∙ find-put nat_cmp nat_cmp_total q p x ends
+
+left-at : (ends left : List (ℕ × ℕ)) (p q : ℕ) → left ≡ without nat_cmp ends p → get nat_cmp left q ≡ cond (not (eq_by_cmp nat_cmp p q)) (get nat_cmp ends q) None
+left-at ends left p q is =
+    ap (λ l. get nat_cmp l q) is
+    ∙ find-where_key nat_cmp (λ x. not (eq_by_cmp nat_cmp p x)) q (λ x e. ap (λ y. not (eq_by_cmp nat_cmp p y)) (sym (nat_cmp-IsAntisymmetric q x e))) ends
+
+pub put-none : (ends left : List (ℕ × ℕ)) (ports : List ℕ) (p : ℕ) → IsSetBelow 64 ports → p < 64 → left ≡ without nat_cmp ends p
+    → mapped (get nat_cmp left) (numbers_below 64 (λ m. (m == p) || has_number ports m)) ≡ put nat_cmp (mapped (get nat_cmp ends) ports) p None
+put-none ends left ports p ascending low is =
+    mapped-put (get nat_cmp ends) (get nat_cmp left) ports p None ascending low
+    (left-at ends left p p is ∙ ap (λ r. cond (not (is_eq r)) (get nat_cmp ends p) None) (tied_itself nat_cmp_total p))
+    (λ q e. left-at ends left p q is ∙ ap (λ b. cond (not b) (get nat_cmp ends q) None) (tied_back q p false e))
+
+pub part-none : (ends left : List (ℕ × ℕ)) (ports : List ℕ) (p : ℕ) → IsSetBelow 64 ports → left ≡ without nat_cmp ends p
+    → mapped (get nat_cmp left) (numbers_below 64 (λ m. has_number ports m && not (m == p))) ≡ without nat_cmp (mapped (get nat_cmp ends) ports) p
+part-none ends left ports p ascending is =
+    mapped-without (get nat_cmp ends) (get nat_cmp left) ports p ascending
+    (λ q e. left-at ends left p q is ∙ ap (λ b. cond (not b) (get nat_cmp ends q) None) (tied_back q p false e))
+
+-- which ports are due
+
+has_when : (f : ℕ → ℕ) (now : ℕ) (ports : List ℕ) (q : ℕ) → IsSetBelow 64 ports
+    → has_number (numbers_below 64 (λ p. has_number ports p && nat_le (f p) now)) q ≡ (has_number ports q && nat_le (f q) now)
+unfolding numbers_below
+has_when f now ports q ascending =
+    has-filter (λ p. has_number ports p && nat_le (f p) now) q (range_with_len 0 64)
+    ∙ swap (has_number ports q) (nat_le (f q) now) (has_number (range_with_len 0 64) q)
+    ∙ ap (λ b. b && nat_le (f q) now) (sym (within ports q ascending))
+  where
+    swap : (a b r : Bool) → ((a && b) && r) ≡ ((a && r) && b)
+    swap true true r = sym (and-true r)
+    swap true false r = sym (and-false r)
+    swap false b r = refl
+
+pub due-has : (f : ℕ → ℕ) (now : ℕ) (ports : List ℕ) (m : List (ℕ × ℕ)) (due : List ℕ) → IsSetBelow 64 ports → mapped f ports ≡ m → due ≡ numbers_below 64 (λ p. has_number ports p && nat_le (f p) now)
+    → (q : ℕ) → has_number due q ≡ has_ended now (get nat_cmp m q)
+due-has f now ports m due ascending view is q =
+    ap (λ l. has_number l q) is
+    ∙ has_when f now ports q ascending
+    ∙ by (has_number ports q)
+    ∙ sym (ap (λ l. has_ended now (get nat_cmp l q)) (sym view) ∙ ap (has_ended now) (get-mapped f ports q))
+  where
+    by : (b : Bool) → (b && nat_le (f q) now) ≡ has_ended now (cond b (Some (f q)) None)
+    by true = refl
+    by false = refl
+
+same-filter : (s t : ℕ → Bool) → ((m : ℕ) → s m ≡ t m) → (xs : List ℕ) → filter s xs ≡ filter t xs
+same-filter s t h [] = refl
+same-filter s t h (x ∷ xs) = ap (λ b. cond b (x ∷ filter s xs) (filter s xs)) (h x) ∙ ap (λ l. cond (t x) (x ∷ l) l) (same-filter s t h xs)
+
+-- the members that are due
+pub both-due : (now : ℕ) (ends : List (ℕ × ℕ)) (ports over : List ℕ) (m : List (ℕ × Option ℕ)) → IsSetBelow 64 ports → mapped (get nat_cmp ends) ports ≡ m → ((q : ℕ) → has_number over q ≡ has_ended now (get nat_cmp ends q))
+    → numbers_below 64 (λ p. has_number ports p && has_number over p) ≡ due_members now m
+both-due now ends ports over m ascending view is =
+    set-filter (has_number over) ports ascending
+    ∙ same-filter (has_number over) (λ q. has_ended now (get nat_cmp ends q)) is ports
+    ∙ keys-filter_mapped (get nat_cmp ends) (has_ended now) ports
+    ∙ ap (due_members now) view
+
+first-some : (l : List ℕ) → is_some (slice_get l 0) ≡ has_some l
+first-some [] = refl
+first-some (x ∷ l) = refl
+
+some-mapped : {X : Type 0} (f : ℕ → X) (l : List ℕ) → has_some l ≡ has_some (mapped f l)
+some-mapped f [] = refl
+some-mapped f (x ∷ l) = refl
+
+-- whether another one is left
+pub other-left : {X : Type 0} (f : ℕ → X) (ports : List ℕ) (p : ℕ) (m : List (ℕ × X)) → IsSetBelow 64 ports → mapped f ports ≡ m
+    → is_some (slice_get (numbers_below 64 (λ q. has_number ports q && not (q == p))) 0) ≡ has_some (without nat_cmp m p)
+other-left f ports p m ascending view =
+    first-some _
+    ∙ some-mapped f _
+    ∙ ap has_some (mapped-without f f ports p ascending (λ q e. refl))
+    ∙ ap (λ l. has_some (without nat_cmp l p)) view

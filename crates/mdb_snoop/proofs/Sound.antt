@@ -1,0 +1,127 @@
+-- What sections keep, when one of them changes, comes or goes.
+use Rattle.std.proofs.Common.{◌≡◌, ℕ, suc, ◌+◌, ◌<◌, ◌≤◌, Bool, true, false, not, cond, ◌&&◌, T, Option, Some, None, List, [], ◌∷◌, ◌++◌, length, take, drop, refl, sym, ap, ◌∙◌, arith, length-append, subst}
+use Rattle.std.specs.Bool.{passes}
+use Rattle.std.specs.List.{list_all}
+use Rattle.std.specs.Ordering.{nat_cmp, is_eq, eq_by_cmp}
+use Rattle.std.specs.declared.cmp.Ordering.{Ordering}
+use Rattle.std.specs.declared.cmp.Ordering.TheVariants.{Less, Equal, Greater}
+use Rattle.std.specs.Cmp.{tied_itself, first_so, second_so, nat_cmp_total}
+use Rattle.std.specs.FinMap.Entries.{by_order, is_sorted-put, is_sorted-where_key}
+use Rattle.std.proofs.lemmas.List.{take-append-drop}
+use Rattle.std.proofs.lemmas.List.Folds.{list_all-append}
+use Rattle.br_model.specs.GroupPairs.{GroupPair, group_pair_cmp, max_pairs}
+use Rattle.br_model.specs.Maps.{get, put, without, is_ascending}
+use Rattle.mdb_snoop.specs.Database.{joined_until, ending_soon, ended_sooner, end_joined}
+use Rattle.mdb_snoop.specs.Places.{Sections, has_some, is_fit, IsSound, IsAt, IsGap}
+use Rattle.mdb_snoop.proofs.Cuts.{put_front, put_above, without_front, without_above}
+use Rattle.mdb_snoop.proofs.Flat.{with_at, with_before, without_at}
+use Rattle.mdb_snoop.proofs.Orders.{pair_total}
+
+holds : (b : Bool) → T b → b ≡ true
+holds true h = refl
+holds false h = absurd h
+
+so : (a b : Bool) → a ≡ true → b ≡ true → (a && b) ≡ true
+so true b p q = q
+so false b p q = absurd (cc (p))
+
+-- members
+
+ascending-put : (ms : List (ℕ × Option ℕ)) (p : ℕ) (x : Option ℕ) → is_ascending nat_cmp ms ≡ true → is_ascending nat_cmp (put nat_cmp ms p x) ≡ true
+ascending-put ms p x h = holds _ (is_sorted-put nat_cmp nat_cmp_total p x ms (passes _ h))
+
+some-put : (ms : List (ℕ × Option ℕ)) (p : ℕ) (x : Option ℕ) → has_some (put nat_cmp ms p x) ≡ true
+some-put [] p x = refl
+some-put (e ∷ ms) p x = by (nat_cmp p e.0)
+  where
+    by : (r : Ordering) → has_some (by_order r ((p, x) ∷ e ∷ ms) ((e.0, x) ∷ ms) (e ∷ put nat_cmp ms p x)) ≡ true
+    by Less = refl
+    by Equal = refl
+    by Greater = refl
+
+fit-put : (ms : List (ℕ × Option ℕ)) (p : ℕ) (x : Option ℕ) → is_fit ms ≡ true → is_fit (put nat_cmp ms p x) ≡ true
+fit-put ms p x h = so _ _ (some-put ms p x) (ascending-put ms p x (second_so _ _ h))
+
+pub fit-joined : (ms : List (ℕ × Option ℕ)) (p : ℕ) (end : Option ℕ) → is_fit ms ≡ true → is_fit (joined_until nat_cmp ms p end) ≡ true
+fit-joined ms p end h = fit-put ms p (end_joined (get nat_cmp ms p) end) h
+
+pub fit-soon : (ms : List (ℕ × Option ℕ)) (p end : ℕ) → is_fit ms ≡ true → is_fit (ending_soon nat_cmp ms p end) ≡ true
+fit-soon ms p end h = by (get nat_cmp ms p)
+  where
+    by : (o : Option (Option ℕ)) → is_fit (ended_sooner nat_cmp ms p end o) ≡ true
+    by None = h
+    by (Some None) = h
+    by (Some (Some old)) = fit-put ms p _ h
+
+pub fit-without : (ms : List (ℕ × Option ℕ)) (p : ℕ) → is_fit ms ≡ true → has_some (without nat_cmp ms p) ≡ true → is_fit (without nat_cmp ms p) ≡ true
+fit-without ms p h some = so _ _ some (holds _ (is_sorted-where_key nat_cmp (λ q. not (eq_by_cmp nat_cmp p q)) ms (passes _ (second_so _ _ h))))
+
+-- sections
+
+fits-append : (xs ys : Sections) → list_all (λ s. is_fit s.1) xs ≡ true → list_all (λ s. is_fit s.1) ys ≡ true → list_all (λ s. is_fit s.1) (xs ++ ys) ≡ true
+fits-append xs ys h k = list_all-append (λ s. is_fit s.1) xs ys ∙ so _ _ h k
+
+fits-parts : (xs ys : Sections) → list_all (λ s. is_fit s.1) (xs ++ ys) ≡ true → (list_all (λ s. is_fit s.1) xs ≡ true) × (list_all (λ s. is_fit s.1) ys ≡ true)
+fits-parts xs ys h =
+    let both = sym (list_all-append (λ s. is_fit s.1) xs ys) ∙ h in
+    (first_so _ _ both, second_so _ _ both)
+
+one_more : (n m : ℕ) → n + suc m ≡ suc (n + m)
+one_more n m = omega arith
+
+module _ (ss : Sections) (k : GroupPair) (i : ℕ) (sound : IsSound ss) where
+  module _ (at : IsAt ss k i) where
+    parts : (list_all (λ s. is_fit s.1) (take i ss) ≡ true) × (list_all (λ s. is_fit s.1) ((k, at.members) ∷ drop (i + 1) ss) ≡ true)
+    parts = fits-parts (take i ss) ((k, at.members) ∷ drop (i + 1) ss) (ap (list_all (λ s. is_fit s.1)) (sym at.splits) ∙ sound.fit)
+
+    -- the members at the key
+    pub fit-at : is_fit at.members ≡ true
+    fit-at = first_so _ _ parts.1
+
+    put_is : (ns : List (ℕ × Option ℕ)) → put group_pair_cmp ss k ns ≡ with_at ss k i ns
+    put_is ns =
+        ap (λ l. put group_pair_cmp l k ns) at.splits
+        ∙ put_front group_pair_cmp k ns (take i ss) ((k, at.members) ∷ drop (i + 1) ss) at.before
+        ∙ ap (λ r. take i ss ++ by_order r ((k, ns) ∷ (k, at.members) ∷ drop (i + 1) ss) ((k, ns) ∷ drop (i + 1) ss) ((k, at.members) ∷ put group_pair_cmp (drop (i + 1) ss) k ns)) (tied_itself pair_total k)
+
+    without_is : without group_pair_cmp ss k ≡ without_at ss i
+    without_is =
+        ap (λ l. without group_pair_cmp l k) at.splits
+        ∙ without_front group_pair_cmp k (take i ss) ((k, at.members) ∷ drop (i + 1) ss) at.before
+        ∙ ap (λ r. take i ss ++ cond (not (is_eq r)) ((k, at.members) ∷ without group_pair_cmp (drop (i + 1) ss) k) (without group_pair_cmp (drop (i + 1) ss) k)) (tied_itself pair_total k)
+        ∙ ap (λ l. take i ss ++ l) (without_above group_pair_cmp k (drop (i + 1) ss) at.after)
+
+    pub sound-with : (ns : List (ℕ × Option ℕ)) → is_fit ns ≡ true → IsSound (with_at ss k i ns)
+    sound-with ns h = record {
+      ascending = ap (is_ascending group_pair_cmp) (sym (put_is ns)) ∙ holds _ (is_sorted-put group_pair_cmp pair_total k ns ss (passes _ sound.ascending));
+      fit = fits-append (take i ss) ((k, ns) ∷ drop (i + 1) ss) parts.0 (so _ _ h (second_so _ _ parts.1));
+      few = subst (λ n. n ≤ max_pairs) (ap length at.splits ∙ length-append (take i ss) ((k, at.members) ∷ drop (i + 1) ss) ∙ sym (length-append (take i ss) ((k, ns) ∷ drop (i + 1) ss))) sound.few;
+    }
+
+    pub sound-without : IsSound (without_at ss i)
+    sound-without = record {
+      ascending = ap (is_ascending group_pair_cmp) (sym without_is) ∙ holds _ (is_sorted-where_key group_pair_cmp (λ q. not (eq_by_cmp group_pair_cmp k q)) ss (passes _ sound.ascending));
+      fit = fits-append (take i ss) (drop (i + 1) ss) parts.0 (second_so _ _ parts.1);
+      few =
+          let whole : length ss ≡ suc (length (take i ss) + length (drop (i + 1) ss)) = ap length at.splits ∙ length-append (take i ss) ((k, at.members) ∷ drop (i + 1) ss) ∙ one_more (length (take i ss)) (length (drop (i + 1) ss)) in
+          omega (arith, whole, length-append (take i ss) (drop (i + 1) ss), sound.few);
+    }
+
+  module _ (gap : IsGap ss k i) where
+    put_gap_is : (ns : List (ℕ × Option ℕ)) → put group_pair_cmp ss k ns ≡ with_before ss k i ns
+    put_gap_is ns =
+        ap (λ l. put group_pair_cmp l k ns) (sym (take-append-drop i ss))
+        ∙ put_front group_pair_cmp k ns (take i ss) (drop i ss) gap.before
+        ∙ ap (λ l. take i ss ++ l) (put_above group_pair_cmp k ns (drop i ss) gap.after)
+
+    pub sound-before : (ns : List (ℕ × Option ℕ)) → is_fit ns ≡ true → length ss < max_pairs → IsSound (with_before ss k i ns)
+    sound-before ns h room = record {
+      ascending = ap (is_ascending group_pair_cmp) (sym (put_gap_is ns)) ∙ holds _ (is_sorted-put group_pair_cmp pair_total k ns ss (passes _ sound.ascending));
+      fit =
+          let cut = fits-parts (take i ss) (drop i ss) (ap (list_all (λ s. is_fit s.1)) (take-append-drop i ss) ∙ sound.fit) in
+          fits-append (take i ss) ((k, ns) ∷ drop i ss) cut.0 (so _ _ h cut.1);
+      few =
+          let whole : length ss ≡ length (take i ss) + length (drop i ss) = ap length (sym (take-append-drop i ss)) ∙ length-append (take i ss) (drop i ss) in
+          let more : length (with_before ss k i ns) ≡ suc (length (take i ss) + length (drop i ss)) = length-append (take i ss) ((k, ns) ∷ drop i ss) ∙ one_more (length (take i ss)) (length (drop i ss)) in
+          omega (arith, whole, more, room);
+    }

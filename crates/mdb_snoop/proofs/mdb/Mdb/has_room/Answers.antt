@@ -1,0 +1,11 @@
+use Rattle.std.proofs.Common.{◌∙◌, ap}
+use Rattle.br_model.specs.GroupPairs.{has_room}
+use Rattle.mdb_snoop.specs.Database.{keys, memberships}
+use Rattle.mdb_snoop.specs.Places.{flat}
+use Rattle.mdb_snoop.proofs.mdb.Mdb.has_room.Goals as goal
+
+pub returns : goal.returns
+returns c =
+    c.has_room.ensures
+    ∙ ap (λ l. has_room (keys (flat l)) c.args.v c.args.g) c.deref.ensures.value
+    ∙ ap (λ d. has_room (memberships d) c.args.v c.args.g) c.self.view_is

@@ -1,0 +1,10 @@
+use Rattle.std.proofs.Common.{◌∙◌, ap}
+use Rattle.mdb_snoop.specs.Database.{keys, memberships, ports_in}
+use Rattle.mdb_snoop.specs.Places.{flat}
+use Rattle.mdb_snoop.proofs.mdb.Mdb.members.Goals as goal
+
+pub returns : goal.returns
+returns c =
+    c.ports.ensures
+    ∙ ap (λ l. ports_in (keys (flat l)) c.args.v c.args.g) c.deref.ensures.value
+    ∙ ap (λ d. ports_in (memberships d) c.args.v c.args.g) c.self.view_is

@@ -1,0 +1,15 @@
+use Rattle.std.proofs.Common.{◌∙◌, ap, is_some}
+use Rattle.std.specs.Ordering.{nat_cmp}
+use Rattle.std.specs.List.{filter}
+use Rattle.br_model.specs.Maps.{get}
+use Rattle.mdb_snoop.specs.Database.{keys, memberships, pairs_of_port}
+use Rattle.mdb_snoop.proofs.Questions.{pairs-flat}
+use Rattle.mdb_snoop.proofs.mdb.Mdb.of_port.Goals as goal
+
+pub returns : goal.returns
+returns c =
+    c.of.ensures
+    ∙ c.in_ok-pairs.ensures
+    ∙ ap (λ l. keys (filter (λ s. is_some (get nat_cmp s.1 c.args.p)) l)) c.deref.ensures.value
+    ∙ pairs-flat c.args.p c.self.inside.sections.items c.self.invariant.0.fit
+    ∙ ap (λ d. pairs_of_port (memberships d) c.args.p) c.self.view_is

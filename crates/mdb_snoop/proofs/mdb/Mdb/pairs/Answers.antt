@@ -1,0 +1,12 @@
+use Rattle.std.proofs.Common.{◌∙◌, ap, length}
+use Rattle.br_model.specs.GroupPairs.{group_pairs}
+use Rattle.mdb_snoop.specs.Database.{memberships}
+use Rattle.mdb_snoop.proofs.Questions.{pairs-count}
+use Rattle.mdb_snoop.proofs.mdb.Mdb.pairs.Goals as goal
+
+pub returns : goal.returns
+returns c =
+    c.count.ensures
+    ∙ ap length c.deref.ensures.value
+    ∙ pairs-count c.self.inside.sections.items c.self.invariant.0
+    ∙ ap (λ d. length (group_pairs (memberships d))) c.self.view_is

@@ -1,0 +1,17 @@
+use Rattle.std.proofs.Common.{◌∙◌, ap}
+use Rattle.std.specs.FinMap.Entries.{is_some-find}
+use Rattle.br_model.specs.Groups.{membership_cmp}
+use Rattle.br_model.specs.Maps.{has, without}
+use Rattle.mdb_snoop.specs.Database.{memberships}
+use Rattle.mdb_snoop.specs.Places.{flat}
+use Rattle.mdb_snoop.proofs.Views.{with_groups}
+use Rattle.mdb_snoop.proofs.mdb.Mdb.part.Goals as goal
+
+pub returns-clause-there : goal.returns-clause-there
+returns-clause-there c =
+    c.part.ensures.there
+    ∙ is_some-find membership_cmp (c.args.v, c.args.g, c.args.p) (flat c.self.inside.sections.items)
+    ∙ ap (λ d. has membership_cmp (memberships d) (c.args.v, c.args.g, c.args.p)) c.self.view_is
+
+pub returns-clause-groups : goal.returns-clause-groups
+returns-clause-groups c = with_groups _ _ (λ l. without membership_cmp l (c.args.v, c.args.g, c.args.p)) _ c.part.ensures.members c.self.view_is

@@ -1,0 +1,21 @@
+use Rattle.std.proofs.Common.{◌∙◌, true, false, sym, ap}
+use Rattle.std.specs.Ordering.{nat_cmp}
+use Rattle.br_model.specs.Maps.{has}
+use Rattle.br_model.specs.Table.{ip_version}
+use Rattle.mdb_snoop.specs.Database.{keys}
+use Rattle.mdb_snoop.proofs.Views.{known-four, known-six}
+use Rattle.mdb_snoop.proofs.mdb.Mdb.querier.Goals as goal
+
+pub returns-then-six : goal.returns-then-six
+returns-then-six c =
+    c.is_some.ensures
+    ∙ known-six c.self.inside.four c.self.inside.six
+    ∙ ap (λ d. has nat_cmp (keys d.queriers) (ip_version true)) c.self.view_is
+    ∙ ap (λ b. has nat_cmp (keys c.args.self.now.queriers) (ip_version b)) (sym c.if-six.true)
+
+pub returns-else-six : goal.returns-else-six
+returns-else-six c =
+    c.is_some-else-six.ensures
+    ∙ known-four c.self.inside.four c.self.inside.six
+    ∙ ap (λ d. has nat_cmp (keys d.queriers) (ip_version false)) c.self.view_is
+    ∙ ap (λ b. has nat_cmp (keys c.args.self.now.queriers) (ip_version b)) (sym c.if-six.false)

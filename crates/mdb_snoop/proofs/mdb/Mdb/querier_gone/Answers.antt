@@ -1,0 +1,19 @@
+use Rattle.std.proofs.Common.{◌∙◌, sym, ap}
+use Rattle.std.specs.Ordering.{nat_cmp}
+use Rattle.br_model.specs.Maps.{without}
+use Rattle.br_model.specs.Table.{ip_version}
+use Rattle.mdb_snoop.specs.Places.{queriers_of}
+use Rattle.mdb_snoop.proofs.Views.{with_queriers, gone-four, gone-six}
+use Rattle.mdb_snoop.proofs.mdb.Mdb.querier_gone.Goals as goal
+
+pub returns-then-six-clause-queriers : goal.returns-then-six-clause-queriers
+returns-then-six-clause-queriers c =
+    with_queriers _ _ (λ l. without nat_cmp l (ip_version c.args.six)) _
+    (gone-six c.self.inside.four c.self.inside.six ∙ ap (λ b. without nat_cmp (queriers_of c.self.inside.four c.self.inside.six) (ip_version b)) (sym c.if-six.true))
+    c.self.view_is
+
+pub returns-else-six-clause-queriers : goal.returns-else-six-clause-queriers
+returns-else-six-clause-queriers c =
+    with_queriers _ _ (λ l. without nat_cmp l (ip_version c.args.six)) _
+    (gone-four c.self.inside.four c.self.inside.six ∙ ap (λ b. without nat_cmp (queriers_of c.self.inside.four c.self.inside.six) (ip_version b)) (sym c.if-six.false))
+    c.self.view_is

@@ -1,0 +1,17 @@
+use Rattle.std.proofs.Common.{◌∙◌, ap, is_some}
+use Rattle.std.specs.Ordering.{nat_cmp}
+use Rattle.std.specs.FinMap.Entries.{is_some-find}
+use Rattle.br_model.specs.Maps.{has, without}
+use Rattle.mdb_snoop.specs.Database.{keys}
+use Rattle.mdb_snoop.proofs.Views.{with_routers}
+use Rattle.mdb_snoop.proofs.mdb.Mdb.router_gone.Goals as goal
+
+pub returns-clause-there : goal.returns-clause-there
+returns-clause-there c =
+    c.is_some-there.ensures
+    ∙ ap is_some c.get.ensures
+    ∙ is_some-find nat_cmp c.args.p c.self.inside.routers
+    ∙ ap (λ d. has nat_cmp (keys d.routers) c.args.p) c.self.view_is
+
+pub returns-clause-routers : goal.returns-clause-routers
+returns-clause-routers c = with_routers _ _ (λ l. without nat_cmp l c.args.p) _ c.clear.ensures c.self.view_is

@@ -1,0 +1,19 @@
+use Rattle.std.proofs.Common.{◌∙◌, ap, is_some, not}
+use Rattle.std.specs.Ordering.{nat_cmp}
+use Rattle.std.specs.FinMap.Entries.{is_some-find}
+use Rattle.br_model.specs.Maps.{has, put}
+use Rattle.mdb_snoop.specs.Database.{keys}
+use Rattle.mdb_snoop.proofs.Views.{with_routers}
+use Rattle.mdb_snoop.proofs.mdb.Mdb.router_seen.Goals as goal
+
+pub returns-clause-seen : goal.returns-clause-seen
+returns-clause-seen c =
+    ap not (
+    c.is_some-there.ensures
+    ∙ ap is_some c.get.ensures
+    ∙ is_some-find nat_cmp c.args.p c.self.inside.routers
+    ∙ ap (λ d. has nat_cmp (keys d.routers) c.args.p) c.self.view_is
+    )
+
+pub returns-clause-routers : goal.returns-clause-routers
+returns-clause-routers c = with_routers _ _ (λ l. put nat_cmp l c.args.p c.args.end) _ c.set.ensures c.self.view_is

@@ -1,0 +1,6 @@
+use Rattle.std.proofs.Common.{◌∙◌, ap}
+use Rattle.mdb_snoop.specs.Database.{keys}
+use Rattle.mdb_snoop.proofs.mdb.Mdb.routers.Goals as goal
+
+pub returns : goal.returns
+returns c = c.ports.ensures ∙ ap (λ d. keys d.routers) c.self.view_is

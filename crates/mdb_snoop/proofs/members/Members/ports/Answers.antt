@@ -1,0 +1,9 @@
+use Rattle.std.proofs.Common.{ap, ◌∙◌}
+use Rattle.std.specs.Ordering.{nat_cmp}
+use Rattle.br_model.specs.Maps.{get}
+use Rattle.mdb_snoop.specs.Database.{keys}
+use Rattle.mdb_snoop.proofs.Mapped.{keys-mapped}
+use Rattle.mdb_snoop.proofs.members.Members.ports.Goals as goal
+
+pub returns : goal.returns
+returns c = keys-mapped (get nat_cmp c.self.inside.ends) c.self.inside.ports ∙ ap keys c.self.view_is

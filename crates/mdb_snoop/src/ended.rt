@@ -1,0 +1,74 @@
+//! Lists of memberships, and what ends at a moment.
+ghost use Rattle.std.specs.Prelude.{◌≡◌, ◌↔◌, IsTrue, length};
+
+use br_model::group::Group;
+use br_model::numbers::{Port, Vid};
+use port_sets::Ports;
+use std::marker::Model;
+
+/// Groups in VLANs, ascending by VLAN and group, version 4 first.
+#[derive(Drop, Debug)]
+pub struct Pairs {
+    pairs: Vec<(Vid, Group)>,
+}
+
+impl Model for Pairs {
+    ghost use Rattle.std.specs.Prelude.{List};
+    ghost use Rattle.br_model.specs.GroupPairs.{GroupPair};
+
+    ghost Value = { List GroupPair };
+
+    ghost view = { λ p. p.pairs.items };
+}
+
+impl Pairs {
+    pub(crate) fn of(pairs: Vec<(Vid, Group)>) -> Pairs
+        ensures { result ≡ pairs.items }
+    {
+        Pairs { pairs }
+    }
+
+    pub fn as_slice(&self) -> &[(Vid, Group)]
+        ensures { result.now ≡ self.now }
+    {
+        self.pairs.as_slice()
+    }
+}
+
+/// Memberships, ascending by VLAN, group and port.
+#[derive(Drop, Debug)]
+pub struct Ends {
+    members: Vec<(Vid, Group, Port)>,
+}
+
+impl Model for Ends {
+    ghost use Rattle.std.specs.Prelude.{List};
+    ghost use Rattle.br_model.specs.Groups.{Membership};
+
+    ghost Value = { List Membership };
+
+    ghost view = { λ e. e.members.items };
+}
+
+impl Ends {
+    pub(crate) fn of(members: Vec<(Vid, Group, Port)>) -> Ends
+        ensures { result ≡ members.items }
+    {
+        Ends { members }
+    }
+
+    pub fn as_slice(&self) -> &[(Vid, Group, Port)]
+        ensures { result.now ≡ self.now }
+    {
+        self.members.as_slice()
+    }
+}
+
+/// What ends at a moment or before it: memberships, router ports, and the queriers of IP versions 4 and 6.
+#[derive(Drop, Debug)]
+pub struct Ended {
+    pub groups: Ends,
+    pub routers: Ports,
+    pub four: bool,
+    pub six: bool,
+}

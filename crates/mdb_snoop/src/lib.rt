@@ -1,0 +1,17 @@
+//! What snooping learned: the members of groups, the router ports and the queriers, each with the moment at which it ends.
+//!
+//! It takes its memory at its making, for 1,024 pairs of VLAN and group with up to 64 members each.
+#![tactic(auto)]
+
+pub mod ended;
+mod mdb;
+mod members;
+mod moments;
+mod sections;
+
+pub use crate::ended::{Ended, Ends, Pairs};
+pub use crate::mdb::Mdb;
+pub use br_model::NoMemory;
+
+#[cfg(test)]
+mod tests;

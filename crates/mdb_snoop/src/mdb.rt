@@ -1,0 +1,206 @@
+//! The multicast database.
+ghost use Rattle.std.specs.Prelude.{◌≡◌, IsTrue, IfOk, false, true, length, not};
+ghost use Rattle.std.specs.Ordering.{nat_cmp};
+ghost use Rattle.br_model.specs.GroupPairs.{group_pairs, has_room};
+ghost use Rattle.br_model.specs.Groups.{membership_cmp};
+ghost use Rattle.br_model.specs.Maps.{get, has, put, without};
+ghost use Rattle.br_model.specs.Table.{ip_version};
+ghost use Rattle.mdb_snoop.specs.Database.{due, due_members, empty, ending_soon, has_ended, is_dynamic, joined_until, keys, memberships, pairs_of_port, ports_in};
+
+use crate::ended::{Ended, Ends, Pairs};
+use crate::moments::Moments;
+use crate::sections::{MOST_PAIRS, Section};
+use crate::{NoMemory, sections};
+use br_model::group::Group;
+use br_model::numbers::{Port, Vid};
+use port_sets::Ports;
+use std::alloc::Global;
+use std::marker::Model;
+
+/// Members of groups, router ports and queriers, with their ends in milliseconds.
+#[derive(Drop, Debug)]
+pub struct Mdb {
+    sections: Vec<Section>,
+    routers: Moments,
+    four: Option<u64>,
+    six: Option<u64>,
+}
+
+impl Model for Mdb {
+    ghost use Rattle.std.specs.Prelude.{◌≤◌, vec_capacity};
+    ghost use Rattle.br_model.specs.GroupPairs.{max_pairs};
+    ghost use Rattle.mdb_snoop.specs.Database.{Database};
+    ghost use Rattle.mdb_snoop.specs.Places.{IsSound, flat, queriers_of};
+
+    ghost Value = { Database };
+
+    ghost view = { λ m. record { groups = flat m.sections.items; routers = m.routers; queriers = queriers_of m.four m.six } };
+
+    ghost invariant = { λ m. IsSound m.sections.items × (max_pairs ≤ vec_capacity m.sections) };
+}
+
+impl Mdb {
+    /// Takes the memory for all that it can hold.
+    pub fn make(alloc: Global) -> Result<Mdb, NoMemory>
+        ensures { IfOk result (λ m. m ≡ empty) }
+    {
+        Ok(Mdb {
+            sections: Vec::with_capacity(alloc, MOST_PAIRS)?,
+            routers: Moments::empty(),
+            four: None,
+            six: None,
+        })
+    }
+
+    /// Whether a member of the group in the VLAN can be joined: there is one already, or the pair would be no 1,025th.
+    pub fn has_room(&self, v: Vid, g: Group) -> bool
+        ensures { result ≡ has_room (memberships self.now) v g }
+    {
+        sections::has_room(&self.sections, &(v, g))
+    }
+
+    /// Joins the port until `end`, or without end, as a command does it. A membership that is there gets this end, but
+    /// one without end keeps none.
+    pub fn join(&mut self, v: Vid, g: Group, p: Port, end: Option<u64>)
+        requires { IsTrue (has_room (memberships self.old) v g) }
+        ensures { self.new ≡ record self.old { groups = joined_until membership_cmp self.old.groups (v, g, p) end } }
+    {
+        sections::join(&mut self.sections, (v, g), p, end);
+    }
+
+    /// Takes the membership out, with or without end, and says whether it was there.
+    pub fn part(&mut self, v: Vid, g: Group, p: Port) -> bool
+        ensures there { result ≡ has membership_cmp (memberships self.old) (v, g, p) }
+        ensures groups { self.new ≡ record self.old { groups = without membership_cmp self.old.groups (v, g, p) } }
+    {
+        sections::part(&mut self.sections, &(v, g), p)
+    }
+
+    /// Lets a membership that ends do so at `end`, where that is sooner.
+    pub fn leave_soon(&mut self, v: Vid, g: Group, p: Port, end: u64)
+        ensures { self.new ≡ record self.old { groups = ending_soon membership_cmp self.old.groups (v, g, p) end } }
+    {
+        sections::leave_soon(&mut self.sections, &(v, g), p, end);
+    }
+
+    /// Whether a membership that ends is there.
+    pub fn dynamic(&self, v: Vid, g: Group, p: Port) -> bool
+        ensures { result ≡ is_dynamic (get membership_cmp self.now.groups (v, g, p)) }
+    {
+        sections::is_dynamic(&self.sections, &(v, g), p)
+    }
+
+    /// Lets the router at the port end at `end`, and says whether there was none.
+    pub fn router_seen(&mut self, p: Port, end: u64) -> bool
+        ensures seen { result ≡ not (has nat_cmp (keys self.old.routers) p) }
+        ensures routers { self.new ≡ record self.old { routers = put nat_cmp self.old.routers p end } }
+    {
+        let there = self.routers.get(p).is_some();
+        self.routers.set(p, end);
+        !there
+    }
+
+    /// Says whether there was one.
+    pub fn router_gone(&mut self, p: Port) -> bool
+        ensures there { result ≡ has nat_cmp (keys self.old.routers) p }
+        ensures routers { self.new ≡ record self.old { routers = without nat_cmp self.old.routers p } }
+    {
+        let there = self.routers.get(p).is_some();
+        self.routers.clear(p);
+        there
+    }
+
+    /// Lets the querier of IP version 4 or 6 end at `end`, and says whether there was none.
+    pub fn querier_seen(&mut self, six: bool, end: u64) -> bool
+        ensures seen { result ≡ not (has nat_cmp (keys self.old.queriers) (ip_version six)) }
+        ensures queriers { self.new ≡ record self.old { queriers = put nat_cmp self.old.queriers (ip_version six) end } }
+    {
+        let is_new = !self.querier(six);
+        if six {
+            self.six = Some(end);
+        } else {
+            self.four = Some(end);
+        }
+        is_new
+    }
+
+    /// Says whether there was one.
+    pub fn querier_gone(&mut self, six: bool) -> bool
+        ensures there { result ≡ has nat_cmp (keys self.old.queriers) (ip_version six) }
+        ensures queriers { self.new ≡ record self.old { queriers = without nat_cmp self.old.queriers (ip_version six) } }
+    {
+        let there = self.querier(six);
+        if six {
+            self.six = None;
+        } else {
+            self.four = None;
+        }
+        there
+    }
+
+    /// The groups in VLANs of which the port is a member.
+    pub fn of_port(&self, alloc: Global, p: Port) -> Result<Pairs, NoMemory>
+        ensures { IfOk result (λ pairs. pairs ≡ pairs_of_port (memberships self.now) p) }
+    {
+        let pairs = sections::of_port(alloc, &self.sections, p)?;
+        Ok(Pairs::of(pairs))
+    }
+
+    /// What ends at `now` or before. Nothing is removed.
+    pub fn expire(&self, alloc: Global, now: u64) -> Result<Ended, NoMemory>
+        ensures groups { IfOk result (λ e. e.groups ≡ due_members now self.now.groups) }
+        ensures routers { IfOk result (λ e. e.routers ≡ due now self.now.routers) }
+        ensures four { IfOk result (λ e. e.four ≡ has nat_cmp (due now self.now.queriers) (ip_version false)) }
+        ensures six { IfOk result (λ e. e.six ≡ has nat_cmp (due now self.now.queriers) (ip_version true)) }
+    {
+        let groups = Ends::of(sections::expired(alloc, &self.sections, now)?);
+        Ok(Ended {
+            groups,
+            routers: self.routers.due(now),
+            four: has_ended(self.four, now),
+            six: has_ended(self.six, now),
+        })
+    }
+
+    /// The ports that are members of the group in the VLAN.
+    pub fn members(&self, v: Vid, g: Group) -> Ports
+        ensures { result ≡ ports_in (memberships self.now) v g }
+    {
+        sections::ports(&self.sections, &(v, g))
+    }
+
+    /// The ports behind which a multicast router is.
+    pub fn routers(&self) -> Ports
+        ensures { result ≡ keys self.now.routers }
+    {
+        self.routers.ports()
+    }
+
+    /// Whether a querier of IP version 4 or 6 is known.
+    pub fn querier(&self, six: bool) -> bool
+        ensures { result ≡ has nat_cmp (keys self.now.queriers) (ip_version six) }
+    {
+        if six {
+            self.six.is_some()
+        } else {
+            self.four.is_some()
+        }
+    }
+
+    /// How many pairs of VLAN and group have members.
+    pub fn pairs(&self) -> usize
+        ensures { result ≡ length (group_pairs (memberships self.now)) }
+    {
+        sections::count(&self.sections)
+    }
+}
+
+/// Whether there is an end, at `now` or before.
+fn has_ended(end: Option<u64>, now: u64) -> bool
+    ensures { result ≡ has_ended now end }
+{
+    match end {
+        Some(end) => end <= now,
+        None => false,
+    }
+}

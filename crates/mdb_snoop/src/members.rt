@@ -1,0 +1,134 @@
+//! The members of a group in a VLAN.
+ghost use Rattle.std.specs.Prelude.{◌≡◌, [], ◌∷◌, is_some};
+ghost use Rattle.std.specs.Ordering.{nat_cmp};
+ghost use Rattle.br_model.specs.Maps.{get, put, without};
+ghost use Rattle.mdb_snoop.specs.Database.{due_members, end_joined, end_of, ending_soon, is_dynamic, joined_until, keys};
+ghost use Rattle.mdb_snoop.specs.Places.{has_some};
+
+use crate::moments::Moments;
+use br_model::numbers::Port;
+use port_sets::Ports;
+use std::marker::Model;
+
+/// The ports, and the ends of those that end.
+#[derive(Drop, Debug)]
+pub struct Members {
+    ports: Ports,
+    ends: Moments,
+}
+
+impl Model for Members {
+    ghost use Rattle.std.specs.Prelude.{ℕ, Option, List, map};
+    ghost use Rattle.std.specs.Ordering.{nat_cmp};
+    ghost use Rattle.br_model.specs.Maps.{get};
+
+    ghost Value = { List (ℕ × Option ℕ) };
+
+    ghost view = { λ m. map (λ port. (port, get nat_cmp m.ends port)) m.ports };
+}
+
+impl Members {
+    /// One member.
+    pub fn of(port: Port, end: Option<u64>) -> Members
+        ensures { result ≡ (port, end) ∷ [] }
+    {
+        let mut members = Members {
+            ports: Ports::empty(),
+            ends: Moments::empty(),
+        };
+        members.join(port, end);
+        members
+    }
+
+    /// A member without end stays without end.
+    pub fn join(&mut self, port: Port, end: Option<u64>)
+        ensures { self.new ≡ joined_until nat_cmp self.old port end }
+    {
+        let until = self.end_joined(port, end);
+        self.put(port, until);
+    }
+
+    fn end_joined(&self, port: Port, end: Option<u64>) -> Option<u64>
+        ensures { result ≡ end_joined (get nat_cmp self.now port) end }
+    {
+        if self.has(port) && !self.is_dynamic(port) {
+            None
+        } else {
+            end
+        }
+    }
+
+    fn put(&mut self, port: Port, end: Option<u64>)
+        ensures { self.new ≡ put nat_cmp self.old port end }
+    {
+        self.ports.members_ascend();
+        self.ports = self.ports.with(port.number());
+        match end {
+            Some(end) => self.ends.set(port, end),
+            None => self.ends.clear(port),
+        }
+    }
+
+    pub fn part(&mut self, port: Port)
+        ensures { self.new ≡ without nat_cmp self.old port }
+    {
+        self.ports.members_ascend();
+        self.ports = self.ports.without(port.number());
+        self.ends.clear(port);
+    }
+
+    /// The end of a member that ends becomes the smaller one.
+    pub fn leave_soon(&mut self, port: Port, end: u64)
+        ensures { self.new ≡ ending_soon nat_cmp self.old port end }
+    {
+        if let Some(old) = self.end(port) {
+            self.put(port, Some(old.min(end)));
+        }
+    }
+
+    // The end of a member that has one.
+    fn end(&self, port: Port) -> Option<u64>
+        ensures { result ≡ end_of (get nat_cmp self.now port) }
+    {
+        if self.ports.has(port.number()) {
+            self.ends.get(port)
+        } else {
+            None
+        }
+    }
+
+    pub fn has(&self, port: Port) -> bool
+        ensures { result ≡ is_some (get nat_cmp self.now port) }
+    {
+        self.ports.has(port.number())
+    }
+
+    /// Whether it is a member that ends.
+    pub fn is_dynamic(&self, port: Port) -> bool
+        ensures { result ≡ is_dynamic (get nat_cmp self.now port) }
+    {
+        self.end(port).is_some()
+    }
+
+    pub fn ports(&self) -> Ports
+        ensures { result ≡ keys self.now }
+    {
+        self.ports
+    }
+
+    /// The members that end at `now` or before.
+    pub fn due(&self, now: u64) -> Ports
+        ensures { result ≡ due_members now self.now }
+    {
+        self.ports.members_ascend();
+        self.ports.and(self.ends.due(now))
+    }
+
+    /// Whether there is a member but the port.
+    pub fn has_other(&self, port: Port) -> bool
+        ensures { result ≡ has_some (without nat_cmp self.now port) }
+    {
+        self.ports.members_ascend();
+        self.ports.without(port.number()).first().is_some()
+    }
+}

@@ -1,0 +1,102 @@
+//! Ports with a moment each.
+ghost use Rattle.std.specs.Prelude.{◌≡◌, ◌<◌, ◌==◌, ◌&&◌, ◌||◌, ℕ, [], cond, nat_le, slice_index, slice_set};
+ghost use Rattle.std.specs.Ordering.{nat_cmp};
+ghost use Rattle.br_model.specs.Maps.{get, put, without};
+ghost use Rattle.mdb_snoop.specs.Database.{due, has_ended, keys};
+ghost use Rattle.port_sets.specs.Numbers.{has_number, numbers_below};
+
+use br_model::numbers::Port;
+use port_sets::Ports;
+use std::marker::Model;
+
+/// The number of places for ports.
+const PORTS: usize = 64;
+
+/// A finite map from ports to moments in milliseconds.
+#[derive(Drop, Debug)]
+pub struct Moments {
+    ports: Ports,
+    moments: [u64; PORTS],
+}
+
+impl Model for Moments {
+    ghost use Rattle.std.specs.Prelude.{ℕ, List, map, slice_index};
+
+    ghost Value = { List (ℕ × ℕ) };
+
+    ghost view = { λ m. map (λ port. (port, slice_index m.moments port)) m.ports };
+}
+
+impl Moments {
+    pub fn empty() -> Moments
+        ensures { result ≡ [] }
+    {
+        Moments {
+            ports: Ports::empty(),
+            moments: [0; PORTS],
+        }
+    }
+
+    pub fn get(&self, port: Port) -> Option<u64>
+        ensures { result ≡ get nat_cmp self.now port }
+    {
+        if self.ports.has(port.number()) {
+            Some(self.moments[usize::from(port.number())])
+        } else {
+            None
+        }
+    }
+
+    /// Puts the moment at the port.
+    pub fn set(&mut self, port: Port, moment: u64)
+        ensures { self.new ≡ put nat_cmp self.old port moment }
+    {
+        self.ports.members_ascend();
+        self.ports = self.ports.with(port.number());
+        write(&mut self.moments, port, moment);
+    }
+
+    pub fn clear(&mut self, port: Port)
+        ensures { self.new ≡ without nat_cmp self.old port }
+    {
+        self.ports.members_ascend();
+        self.ports = self.ports.without(port.number());
+    }
+
+    pub fn ports(&self) -> Ports
+        ensures { result ≡ keys self.now }
+    {
+        self.ports
+    }
+
+    /// The ports whose moment is `now` or before.
+    pub fn due(&self, now: u64) -> Ports
+        ensures value { result ≡ due now self.now }
+        ensures members { (n : ℕ) → has_number result n ≡ has_ended now (get nat_cmp self.now n) }
+    {
+        self.ports.members_ascend();
+        let mut due = Ports::empty();
+        for port in 0..Port::COUNT {
+            due = with_due(due, port, self.ports, &self.moments, now);
+        }
+        due
+    }
+}
+
+/// The set, and the number where it is a port whose moment is `now` or before.
+fn with_due(due: Ports, number: u8, ports: Ports, moments: &[u64; PORTS], now: u64) -> Ports
+    requires { number < 64 }
+    ensures { result ≡ cond (has_number ports number && nat_le (slice_index moments.now number) now) (numbers_below 64 (λ m. (m == number) || has_number due m)) due }
+{
+    if ports.has(number) && moments[usize::from(number)] <= now {
+        due.with(number)
+    } else {
+        due
+    }
+}
+
+fn write(moments: &mut [u64; PORTS], port: Port, moment: u64)
+    ensures { moments.new ≡ slice_set moments.old port moment }
+{
+    moments[usize::from(port.number())] = moment;
+}

@@ -1,0 +1,144 @@
+use crate::Mdb;
+use br_model::group::Group;
+use br_model::numbers::{Port, Vid};
+use port_sets::Ports;
+use std::test::Fail;
+
+/// 239.1.2.3 and, as a group of version 6, the same number.
+const FOUR: Group = Group::V4(0xef01_0203);
+
+const SIX: Group = Group::V6(0xef01_0203);
+
+fn port(number: u8) -> Result<Port, Fail> {
+    Ok(Port::new(number).ok_or("port")?)
+}
+
+fn vid(number: u16) -> Result<Vid, Fail> {
+    Ok(Vid::new(number).ok_or("vid")?)
+}
+
+/// Joins where there is room.
+fn join(mdb: &mut Mdb, v: Vid, g: Group, p: Port, end: Option<u64>) -> bool {
+    let has_room = mdb.has_room(v, g);
+    if has_room {
+        mdb.join(v, g, p, end);
+    }
+    has_room
+}
+
+/// A report holds to its end, a leave makes the end the smaller one, and a command's membership has none.
+#[test]
+fn ends_of_memberships(rt: HostRuntime) -> Result<(), Fail> {
+    let alloc = rt.alloc();
+    let mut mdb = Mdb::make(alloc)?;
+    let (one, two, v) = (port(1)?, port(2)?, vid(10)?);
+    assert!(rt; join(&mut mdb, v, FOUR, one, Some(260_000)));
+    assert!(rt; join(&mut mdb, v, FOUR, two, None));
+    assert!(rt;
+        mdb.dynamic(v, FOUR, one) && !mdb.dynamic(v, FOUR, two) && !mdb.dynamic(v, SIX, one)
+    );
+    assert!(rt; mdb.expire(alloc, 259_999)?.groups.as_slice().is_empty());
+    assert_eq!(rt;
+        mdb.expire(alloc, 260_000)?.groups.as_slice(),
+        [(v, FOUR, one)].as_slice()
+    );
+    mdb.leave_soon(v, FOUR, one, 300_000);
+    mdb.leave_soon(v, FOUR, two, 1);
+    mdb.leave_soon(v, SIX, two, 1);
+    assert!(rt; mdb.expire(alloc, 259_999)?.groups.as_slice().is_empty());
+    mdb.leave_soon(v, FOUR, one, 2_000);
+    assert_eq!(rt;
+        mdb.expire(alloc, 2_000)?.groups.as_slice(),
+        [(v, FOUR, one)].as_slice()
+    );
+    assert!(rt; join(&mut mdb, v, FOUR, one, Some(260_001)));
+    assert!(rt; join(&mut mdb, v, FOUR, two, Some(5)));
+    assert!(rt; mdb.expire(alloc, 260_000)?.groups.as_slice().is_empty());
+    assert!(rt; !mdb.dynamic(v, FOUR, two));
+    assert!(rt; mdb.part(v, FOUR, two) && !mdb.part(v, FOUR, two));
+    assert_eq!(rt; mdb.members(v, FOUR), Ports::empty().with(1));
+    assert!(rt; mdb.part(v, FOUR, one));
+    assert_eq!(rt; mdb.pairs(), 0);
+    Ok(())
+}
+
+/// Version 4 comes before version 6, and a VLAN before its groups.
+#[test]
+fn lists_ascend(rt: HostRuntime) -> Result<(), Fail> {
+    let alloc = rt.alloc();
+    let mut mdb = Mdb::make(alloc)?;
+    let (host, last) = (Port::HOST, port(63)?);
+    let (low, high) = (vid(1)?, vid(4094)?);
+    for (v, g, p) in [
+        (high, FOUR, last),
+        (low, SIX, last),
+        (low, SIX, host),
+        (low, FOUR, last),
+    ] {
+        assert!(rt; join(&mut mdb, v, g, p, Some(7)));
+    }
+    assert_eq!(rt;
+        mdb.expire(alloc, 7)?.groups.as_slice(),
+        [
+            (low, FOUR, last),
+            (low, SIX, host),
+            (low, SIX, last),
+            (high, FOUR, last)
+        ]
+        .as_slice()
+    );
+    assert_eq!(rt;
+        mdb.of_port(alloc, last)?.as_slice(),
+        [(low, FOUR), (low, SIX), (high, FOUR)].as_slice()
+    );
+    assert_eq!(rt;
+        mdb.of_port(alloc, host)?.as_slice(),
+        [(low, SIX)].as_slice()
+    );
+    assert_eq!(rt; mdb.pairs(), 3);
+    assert_eq!(rt; mdb.members(low, SIX), Ports::empty().with(0).with(63));
+    assert!(rt; mdb.members(high, SIX).is_empty());
+    Ok(())
+}
+
+#[test]
+fn routers_and_queriers(rt: HostRuntime) -> Result<(), Fail> {
+    let alloc = rt.alloc();
+    let mut mdb = Mdb::make(alloc)?;
+    let (one, two) = (port(1)?, port(2)?);
+    assert!(rt; mdb.router_seen(one, 10) && mdb.router_seen(two, 20) && !mdb.router_seen(one, 30));
+    assert!(rt; mdb.querier_seen(true, 15) && !mdb.querier_seen(true, 25));
+    assert!(rt; mdb.querier(true) && !mdb.querier(false));
+    assert_eq!(rt; mdb.routers(), Ports::empty().with(1).with(2));
+    let ended = mdb.expire(alloc, 24)?;
+    assert_eq!(rt; ended.routers, Ports::empty().with(2));
+    assert!(rt; !ended.four && !ended.six);
+    assert!(rt; mdb.expire(alloc, 25)?.six);
+    assert!(rt; mdb.router_gone(two) && !mdb.router_gone(two));
+    assert!(rt; mdb.querier_gone(true) && !mdb.querier_gone(true) && !mdb.querier_gone(false));
+    assert_eq!(rt; mdb.routers(), Ports::empty().with(1));
+    Ok(())
+}
+
+/// There is room for 1,024 pairs of 63 members each, and for no more pairs.
+#[test]
+fn room_for_pairs(rt: HostRuntime) -> Result<(), Fail> {
+    let mut mdb = Mdb::make(rt.alloc())?;
+    let v = vid(1)?;
+    for number in 1..64 {
+        let p = port(number)?;
+        for group in 0..1024 {
+            assert!(rt; join(&mut mdb, v, Group::V4(0xefff_0000 - group), p, Some(9)));
+        }
+    }
+    assert_eq!(rt; mdb.pairs(), 1024);
+    assert!(rt; !join(&mut mdb, v, FOUR, Port::HOST, Some(9)));
+    assert!(rt; join(&mut mdb, v, Group::V4(0xefff_0000), Port::HOST, None));
+    assert_eq!(rt;
+        mdb.expire(rt.alloc(), 9)?.groups.as_slice().len(),
+        1024 * 63
+    );
+    assert!(rt; mdb.part(v, Group::V4(0xefff_0000), Port::HOST));
+    assert_eq!(rt; mdb.pairs(), 1024);
+    Ok(())
+}
