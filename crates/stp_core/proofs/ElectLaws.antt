@@ -1,0 +1,64 @@
+-- The election, one place after another.
+-- Ports that are kept in a list with a place for each, taken one after another.
+use Rattle.std.proofs.Common.{◌≡◌, ℕ, zero, suc, ◌+◌, ◌<◌, List, [], ◌∷◌, ◌++◌, length, take, get_or, Option, None, Some, Bool, true, false, cond, subst, append-nil, refl, ap, ◌∙◌, arith}
+use Rattle.std.specs.List.{fold, filter_map, cons_option}
+use Rattle.std.specs.Option.{ForSome, option_map_or, option_and_then}
+use Rattle.std.specs.Ordering.{ord_min, is_lt}
+use Rattle.std.proofs.lemmas.List.Elements.{filter_map-append}
+use Rattle.br_model.specs.declared.tree.Candidate.{Candidate}
+use Rattle.br_model.specs.declared.tree.TreePort.{TreePort}
+use Rattle.br_model.specs.TreeVectors.{candidate_cmp, candidate, least}
+use Rattle.stp_core.specs.Places.{entries_at}
+
+module _ {X : Type 0} where
+  abbrev pub entry_at : ℕ → Option X → List (ℕ × X)
+  entry_at n None = []
+  entry_at n (Some x) = (n, x) ∷ []
+
+  pub entries-more : (n i : ℕ) (ps : List (Option X)) → i < length ps → entries_at n (take (suc i) ps) ≡ entries_at n (take i ps) ++ entry_at (n + i) (get_or ps i None)
+  entries-more n i [] h = absurd (omega arith)
+  entries-more n zero (None ∷ ps) h = refl
+  entries-more n zero (Some x ∷ ps) h = let e : n ≡ n + 0 = omega arith in ap (λ (m : ℕ). (m, x) ∷ []) e
+  entries-more n (suc i) (None ∷ ps) h =
+      let e : (n + 1) + i ≡ n + suc i = omega arith in
+      entries-more (n + 1) i ps (omega arith) ∙ ap (λ m. entries_at (n + 1) (take i ps) ++ entry_at m (get_or ps i None)) e
+  entries-more n (suc i) (Some x ∷ ps) h =
+      let e : (n + 1) + i ≡ n + suc i = omega arith in
+      ap (λ (es : List (ℕ × X)). (n, x) ∷ es) (entries-more (n + 1) i ps (omega arith) ∙ ap (λ m. entries_at (n + 1) (take i ps) ++ entry_at m (get_or ps i None)) e)
+
+abbrev pub added : Option Candidate → Option Candidate → Option Candidate
+added m None = m
+added m (Some c) = Some (option_map_or (λ b. ord_min candidate_cmp b c) m c)
+
+fold-push : (a c : Candidate) (cs : List Candidate) → fold (ord_min candidate_cmp) a (cs ++ c ∷ []) ≡ ord_min candidate_cmp (fold (ord_min candidate_cmp) a cs) c
+fold-push a c [] = refl
+fold-push a c (x ∷ xs) = fold-push (ord_min candidate_cmp a x) c xs
+
+least-push : (cs : List Candidate) (m : Option Candidate) → least (cs ++ cons_option m []) ≡ added (least cs) m
+least-push [] None = refl
+least-push [] (Some c) = refl
+least-push (x ∷ xs) None = ap (λ (l : List Candidate). least (x ∷ l)) (append-nil xs)
+least-push (x ∷ xs) (Some c) = ap Some (fold-push x c xs)
+
+offers : (id n : ℕ) (o : Option TreePort) → filter_map (candidate id) (entry_at n o) ≡ cons_option (option_and_then (λ x. candidate id (n, x)) o) []
+offers id n None = refl
+offers id n (Some x) = refl
+
+pub least-more : (id i : ℕ) (ps : List (Option TreePort)) → i < length ps
+    → least (filter_map (candidate id) (entries_at 0 (take (i + 1) ps)))
+    ≡ added (least (filter_map (candidate id) (entries_at 0 (take i ps)))) (option_and_then (λ x. candidate id (i, x)) (get_or ps i None))
+least-more id i ps h =
+    let e : 0 + i ≡ i = omega arith in
+    ap (λ n. least (filter_map (candidate id) (entries_at 0 (take n ps)))) (let f : i + 1 ≡ suc i = omega arith in f)
+    ∙ ap (λ (es : List (ℕ × TreePort)). least (filter_map (candidate id) es)) (entries-more 0 i ps h ∙ ap (λ n. entries_at 0 (take i ps) ++ entry_at n (get_or ps i None)) e)
+    ∙ ap least (filter_map-append (candidate id) (entries_at 0 (take i ps)) (entry_at i (get_or ps i None)) ∙ ap (λ (l : List Candidate). filter_map (candidate id) (entries_at 0 (take i ps)) ++ l) (offers id i (get_or ps i None)))
+    ∙ least-push (filter_map (candidate id) (entries_at 0 (take i ps))) (option_and_then (λ x. candidate id (i, x)) (get_or ps i None))
+
+-- the lesser of two candidates is at one of their ports
+pub below-added : (m : Option Candidate) (c : Candidate) → ForSome m (λ b. b.port < 64) → c.port < 64 → ForSome (added m (Some c)) (λ b. b.port < 64)
+below-added None c before here x e = let same : c ≡ x = cc in subst (λ (y : Candidate). y.port < 64) same here
+below-added (Some b) c before here x e = either (is_lt (candidate_cmp c b)) x e
+  where
+    either : (t : Bool) (x : Candidate) → Some (cond t c b) ≡ Some x → x.port < 64
+    either true x e = let same : c ≡ x = cc in subst (λ (y : Candidate). y.port < 64) same here
+    either false x e = let same : b ≡ x = cc in subst (λ (y : Candidate). y.port < 64) same (before b refl)

@@ -1,0 +1,5 @@
+pub mod ElectLaws
+pub mod PlaceLaws
+pub mod Reading
+pub mod Settlements
+pub mod Unions

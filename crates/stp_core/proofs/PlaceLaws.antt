@@ -1,0 +1,285 @@
+-- Ports that are kept in a list with a place for each: what a change at places does to the entries.
+use Rattle.std.proofs.Common.{◌≡◌, ℕ, zero, suc, ◌+◌, ◌<◌, ◌≤◌, ◌==◌, nat_lt, ◌&&◌, ◌||◌, ◌⊎◌, inl, inr, Bool, true, false, cond, not, List, [], ◌∷◌, ◌++◌, length, map, set, get_or, Option, None, Some, refl, sym, ap, ap₂, ◌∙◌, arith}
+use Rattle.std.specs.List.{filter, list_any, range_with_len}
+use Rattle.std.specs.Prelude.{IsTrue, ◌↔◌}
+use Rattle.std.specs.Option.{option_map, option_map_or}
+use Rattle.std.specs.declared.cmp.Ordering.TheVariants.{Less, Equal, Greater}
+use Rattle.std.specs.Ordering.{nat_cmp, is_eq}
+use Rattle.std.specs.FinMap.Entries.{by_order}
+use Rattle.std.proofs.lemmas.Bool.Decides.{nat_tests}
+use Rattle.std.proofs.lemmas.List.{get_or-set_same, get_or-set_other, length-set}
+use Rattle.std.proofs.lemmas.Bool.{cases_eq, cases_lt, eq-eqb, ne_eqb, lt-ltb, le-ltb, and_right, or_parts, cases_Bool, false≢true}
+use Rattle.br_model.specs.declared.tree.TreePort.{TreePort}
+use Rattle.br_model.specs.Maps.{get, put, without}
+use Rattle.br_model.specs.Tree.{each, numbers}
+use Rattle.port_sets.specs.Numbers.{numbers_below, has_number, IsSetBelow}
+use Rattle.port_sets.proofs.Numbers.{has-above, has-below, numbers_below-filter}
+use Rattle.stp_core.specs.Places.{entries_at}
+
+-- how a port compares with those before and after it
+
+same : (p : ℕ) → nat_cmp p p ≡ Equal
+same p = grind (arith, nat_tests)
+
+below : (p n : ℕ) → p < n → nat_cmp p n ≡ Less
+below p n h = grind (arith, nat_tests)
+
+above : (p n : ℕ) → n < p → nat_cmp p n ≡ Greater
+above p n h = grind (arith, nat_tests)
+
+module _ {X : Type 0} where
+  abbrev pub entry_at : ℕ → Option X → List (ℕ × X)
+  entry_at n None = []
+  entry_at n (Some x) = (n, x) ∷ []
+
+  entries-cons : (n : ℕ) (o : Option X) (os : List (Option X)) → entries_at n (o ∷ os) ≡ entry_at n o ++ entries_at (n + 1) os
+  entries-cons n None os = refl
+  entries-cons n (Some x) os = refl
+
+  -- what stands at a port
+
+  get-before : (p n : ℕ) (os : List (Option X)) → p < n → get nat_cmp (entries_at n os) p ≡ None
+  get-before p n [] h = refl
+  get-before p n (None ∷ os) h = get-before p (n + 1) os (omega arith)
+  get-before p n (Some x ∷ os) h = ap (λ r. cond (is_eq r) (Some x) (get nat_cmp (entries_at (n + 1) os) p)) (below p n h) ∙ get-before p (n + 1) os (omega arith)
+
+  pub get-entries : (p n i : ℕ) (os : List (Option X)) → p ≡ n + i → get nat_cmp (entries_at n os) p ≡ get_or os i None
+  get-entries p n i [] h = refl
+  get-entries p n zero (None ∷ os) h = get-before p (n + 1) os (omega arith)
+  get-entries p n zero (Some x ∷ os) h =
+      let e : p ≡ n = omega arith in
+      ap (λ r. cond (is_eq r) (Some x) (get nat_cmp (entries_at (n + 1) os) p)) (ap (λ m. nat_cmp p m) (sym e) ∙ same p)
+  get-entries p n (suc i) (None ∷ os) h = get-entries p (n + 1) i os (omega arith)
+  get-entries p n (suc i) (Some x ∷ os) h =
+      ap (λ r. cond (is_eq r) (Some x) (get nat_cmp (entries_at (n + 1) os) p)) (above p n (omega arith)) ∙ get-entries p (n + 1) i os (omega arith)
+
+  -- a port that comes up
+
+  put-before : (p n : ℕ) (x : X) (os : List (Option X)) → p < n → put nat_cmp (entries_at n os) p x ≡ (p, x) ∷ entries_at n os
+  put-before p n x [] h = refl
+  put-before p n x (None ∷ os) h = put-before p (n + 1) x os (omega arith)
+  put-before p n x (Some y ∷ os) h =
+      ap (λ r. by_order r ((p, x) ∷ (n, y) ∷ entries_at (n + 1) os) ((n, x) ∷ entries_at (n + 1) os) ((n, y) ∷ put nat_cmp (entries_at (n + 1) os) p x)) (below p n h)
+
+  pub put-entries : (p n i : ℕ) (x : X) (os : List (Option X)) → p ≡ n + i → i < length os → put nat_cmp (entries_at n os) p x ≡ entries_at n (set os i (Some x))
+  put-entries p n i x [] h low = absurd (omega arith)
+  put-entries p n zero x (None ∷ os) h low =
+      let e : p ≡ n = omega arith in
+      put-before p (n + 1) x os (omega arith) ∙ ap (λ (m : ℕ). (m, x) ∷ entries_at (n + 1) os) e
+  put-entries p n zero x (Some y ∷ os) h low =
+      let e : p ≡ n = omega arith in
+      ap (λ r. by_order r ((p, x) ∷ (n, y) ∷ entries_at (n + 1) os) ((n, x) ∷ entries_at (n + 1) os) ((n, y) ∷ put nat_cmp (entries_at (n + 1) os) p x)) (ap (λ m. nat_cmp p m) (sym e) ∙ same p)
+  put-entries p n (suc i) x (None ∷ os) h low = put-entries p (n + 1) i x os (omega arith) (omega arith)
+  put-entries p n (suc i) x (Some y ∷ os) h low =
+      ap (λ r. by_order r ((p, x) ∷ (n, y) ∷ entries_at (n + 1) os) ((n, x) ∷ entries_at (n + 1) os) ((n, y) ∷ put nat_cmp (entries_at (n + 1) os) p x)) (above p n (omega arith))
+      ∙ ap (λ (es : List (ℕ × X)). (n, y) ∷ es) (put-entries p (n + 1) i x os (omega arith) (omega arith))
+
+  -- a port that goes down
+
+  without-before : (p n : ℕ) (os : List (Option X)) → p < n → without nat_cmp (entries_at n os) p ≡ entries_at n os
+  without-before p n [] h = refl
+  without-before p n (None ∷ os) h = without-before p (n + 1) os (omega arith)
+  without-before p n (Some y ∷ os) h =
+      ap (λ r. cond (not (is_eq r)) ((n, y) ∷ without nat_cmp (entries_at (n + 1) os) p) (without nat_cmp (entries_at (n + 1) os) p)) (below p n h)
+      ∙ ap (λ (es : List (ℕ × X)). (n, y) ∷ es) (without-before p (n + 1) os (omega arith))
+
+  pub without-entries : (p n i : ℕ) (os : List (Option X)) → p ≡ n + i → without nat_cmp (entries_at n os) p ≡ entries_at n (set os i None)
+  without-entries p n i [] h = refl
+  without-entries p n zero (None ∷ os) h = without-before p (n + 1) os (omega arith)
+  without-entries p n zero (Some y ∷ os) h =
+      let e : p ≡ n = omega arith in
+      ap (λ r. cond (not (is_eq r)) ((n, y) ∷ without nat_cmp (entries_at (n + 1) os) p) (without nat_cmp (entries_at (n + 1) os) p)) (ap (λ m. nat_cmp p m) (sym e) ∙ same p)
+      ∙ without-before p (n + 1) os (omega arith)
+  without-entries p n (suc i) (None ∷ os) h = without-entries p (n + 1) i os (omega arith)
+  without-entries p n (suc i) (Some y ∷ os) h =
+      ap (λ r. cond (not (is_eq r)) ((n, y) ∷ without nat_cmp (entries_at (n + 1) os) p) (without nat_cmp (entries_at (n + 1) os) p)) (above p n (omega arith))
+      ∙ ap (λ (es : List (ℕ × X)). (n, y) ∷ es) (without-entries p (n + 1) i os (omega arith))
+
+  -- the ports that pass a test, by their numbers
+  pub numbers-filter : (t : ℕ × X → Bool) (q : ℕ → Bool) (n : ℕ) (os : List (Option X))
+      → ((k m : ℕ) → m ≡ n + k → k < length os → q m ≡ option_map_or (λ x. t (m, x)) (get_or os k None) false)
+      → map (λ e. e.0) (filter t (entries_at n os)) ≡ filter q (range_with_len n (length os))
+  numbers-filter t q n [] h = refl
+  numbers-filter t q n (None ∷ os) h =
+      numbers-filter t q (n + 1) os (λ k m e low. h (suc k) m (omega arith) (omega arith))
+      ∙ ap (λ b. cond b (n ∷ filter q (range_with_len (n + 1) (length os))) (filter q (range_with_len (n + 1) (length os)))) (sym (h 0 n (omega arith) (omega arith)))
+  numbers-filter t q n (Some x ∷ os) h =
+      let rest = numbers-filter t q (n + 1) os (λ k m e low. h (suc k) m (omega arith) (omega arith)) in
+      chosen (t (n, x)) (filter t (entries_at (n + 1) os))
+      ∙ ap (λ (ms : List ℕ). cond (t (n, x)) (n ∷ ms) ms) rest
+      ∙ ap (λ b. cond b (n ∷ filter q (range_with_len (n + 1) (length os))) (filter q (range_with_len (n + 1) (length os)))) (sym (h 0 n (omega arith) (omega arith)))
+    where
+      chosen : (b : Bool) (es : List (ℕ × X)) → map (λ e. e.0) (cond b ((n, x) ∷ es) es) ≡ cond b (n ∷ map (λ e. e.0) es) (map (λ e. e.0) es)
+      chosen true es = refl
+      chosen false es = refl
+
+-- a change at each port that is up
+pub entries-each : (f : ℕ × TreePort → TreePort) (n : ℕ) (old new : List (Option TreePort)) → length new ≡ length old
+    → ((k m : ℕ) → m ≡ n + k → k < length old → get_or new k None ≡ option_map (λ x. f (m, x)) (get_or old k None))
+    → entries_at n new ≡ each f (entries_at n old)
+entries-each f n [] [] same h = refl
+entries-each f n [] (o ∷ os) same h = absurd (omega arith)
+entries-each f n (o ∷ os) [] same h = absurd (omega arith)
+entries-each f n (o ∷ os) (w ∷ ws) same h =
+    entries-cons n w ws
+    ∙ ap₂ (λ (a b : List (ℕ × TreePort)). a ++ b) (ap (entry_at n) (h 0 n (omega arith) (omega arith)))
+    (entries-each f (n + 1) os ws (omega arith) (λ k m e low. h (suc k) m (omega arith) (omega arith)))
+    ∙ by o
+  where
+    by : (o : Option TreePort) → entry_at n (option_map (λ x. f (n, x)) o) ++ each f (entries_at (n + 1) os) ≡ each f (entries_at n (o ∷ os))
+    by None = refl
+    by (Some x) = refl
+
+unchanged : (o : Option TreePort) → option_map (λ x. x) o ≡ o
+unchanged None = refl
+unchanged (Some x) = refl
+
+later : (k i : ℕ) → (k ≡ i → ⊥) → nat_lt k i ≡ nat_lt k (i + 1)
+later k i apart = grind (arith, nat_tests)
+
+-- a change at one port
+pub entries-at_port : (g : ℕ × TreePort → TreePort) (p : ℕ) (os : List (Option TreePort))
+    → entries_at 0 (set os p (option_map (λ x. g (p, x)) (get_or os p None))) ≡ each (λ e. cond (e.0 == p) (g e) e.1) (entries_at 0 os)
+entries-at_port g p os =
+    entries-each (λ e. cond (e.0 == p) (g e) e.1) 0 os (set os p (option_map (λ x. g (p, x)) (get_or os p None)))
+    (length-set os p (option_map (λ x. g (p, x)) (get_or os p None)))
+    (λ k m e low. by k m (omega arith) low (cases_eq k p))
+  where
+    by : (k m : ℕ) → m ≡ k → k < length os → (k ≡ p) ⊎ (k ≡ p → ⊥)
+        → get_or (set os p (option_map (λ x. g (p, x)) (get_or os p None))) k None ≡ option_map (λ x. cond (m == p) (g (m, x)) x) (get_or os k None)
+    by k m e low (inl here) =
+        ap (λ j. get_or (set os p (option_map (λ x. g (p, x)) (get_or os p None))) j None) here
+        ∙ get_or-set_same os p (option_map (λ x. g (p, x)) (get_or os p None)) None (omega arith)
+        ∙ sym (ap (λ j. option_map (λ x. g (j, x)) (get_or os p None)) (e ∙ here))
+        ∙ sym (ap₂ (λ b j. option_map (λ x. cond b (g (m, x)) x) (get_or os j None)) (eq-eqb m p (e ∙ here)) here)
+    by k m e low (inr apart) =
+        get_or-set_other os p k (option_map (λ x. g (p, x)) (get_or os p None)) None apart
+        ∙ sym (ap (λ b. option_map (λ x. cond b (g (m, x)) x) (get_or os k None)) (ne_eqb m p (λ same. apart (sym e ∙ same))) ∙ unchanged (get_or os k None))
+
+-- A pass over the places: those below i are changed.
+
+module _ (f : ℕ × TreePort → TreePort) (old : List (Option TreePort)) where
+  abbrev pub Passed : List (Option TreePort) → ℕ → Type 0
+  Passed ps i = (k : ℕ) → get_or ps k None ≡ cond (nat_lt k i) (option_map (λ x. f (k, x)) (get_or old k None)) (get_or old k None)
+
+  pub passed-none : Passed old 0
+  passed-none k = sym (ap (λ b. cond b (option_map (λ x. f (k, x)) (get_or old k None)) (get_or old k None)) (le-ltb k 0 (omega arith)))
+
+  -- one place more
+  pub passed-more : (ps new : List (Option TreePort)) (i : ℕ) → i < length ps → Passed ps i
+      → new ≡ set ps i (option_map (λ x. f (i, x)) (get_or ps i None))
+      → Passed new (i + 1)
+  passed-more ps new i low before is k = ap (λ l. get_or l k None) is ∙ by (cases_eq k i)
+    where
+      by : (k ≡ i) ⊎ (k ≡ i → ⊥) → get_or (set ps i (option_map (λ x. f (i, x)) (get_or ps i None))) k None
+          ≡ cond (nat_lt k (i + 1)) (option_map (λ x. f (k, x)) (get_or old k None)) (get_or old k None)
+      by (inl here) =
+          let this : get_or ps i None ≡ get_or old i None = before i ∙ ap (λ b. cond b (option_map (λ x. f (i, x)) (get_or old i None)) (get_or old i None)) (le-ltb i i (omega arith)) in
+          ap (λ j. get_or (set ps i (option_map (λ x. f (i, x)) (get_or ps i None))) j None) here
+          ∙ get_or-set_same ps i (option_map (λ x. f (i, x)) (get_or ps i None)) None low
+          ∙ ap (λ o. option_map (λ x. f (i, x)) o) this
+          ∙ sym (ap (λ j. option_map (λ x. f (j, x)) (get_or old j None)) here)
+          ∙ sym (ap (λ b. cond b (option_map (λ x. f (k, x)) (get_or old k None)) (get_or old k None)) (lt-ltb k (i + 1) (omega arith)))
+      by (inr apart) =
+          get_or-set_other ps i k (option_map (λ x. f (i, x)) (get_or ps i None)) None apart
+          ∙ before k
+          ∙ ap (λ b. cond b (option_map (λ x. f (k, x)) (get_or old k None)) (get_or old k None)) (later k i apart)
+
+  -- all places
+  pub passed-all : (ps : List (Option TreePort)) → length ps ≡ length old → (n : ℕ) → length old ≤ n → Passed ps n → entries_at 0 ps ≡ each f (entries_at 0 old)
+  passed-all ps size n high all =
+      entries-each f 0 old ps size
+      (λ k m e low. all k
+      ∙ ap (λ b. cond b (option_map (λ x. f (k, x)) (get_or old k None)) (get_or old k None)) (lt-ltb k n (omega arith))
+      ∙ ap (λ j. option_map (λ x. f (j, x)) (get_or old k None)) (let g : k ≡ m = omega arith in g))
+
+-- A pass that collects: the members are the ports below i that pass.
+
+module _ (t : ℕ × TreePort → Bool) (ps : List (Option TreePort)) where
+  abbrev pub passes_at : ℕ → Bool
+  passes_at k = option_map_or (λ x. t (k, x)) (get_or ps k None) false
+
+  abbrev pub Found : List ℕ → ℕ → Type 0
+  Found s i = (k : ℕ) → has_number s k ≡ (nat_lt k i && passes_at k)
+
+  pub found-none : (s : List ℕ) → s ≡ [] → Found s 0
+  found-none s none k = ap (λ (l : List ℕ). has_number l k) none ∙ sym (ap (λ b. b && passes_at k) (le-ltb k 0 (omega arith)))
+
+  pub found-other : (s : List ℕ) (i : ℕ) → Found s i → passes_at i ≡ false → Found s (i + 1)
+  found-other s i before fails k = before k ∙ by (cases_eq k i)
+    where
+      by : (k ≡ i) ⊎ (k ≡ i → ⊥) → (nat_lt k i && passes_at k) ≡ (nat_lt k (i + 1) && passes_at k)
+      by (inl here) =
+          let none : passes_at k ≡ false = ap passes_at here ∙ fails in
+          and_right (nat_lt k i) (passes_at k) none ∙ sym (and_right (nat_lt k (i + 1)) (passes_at k) none)
+      by (inr apart) = ap (λ b. b && passes_at k) (later k i apart)
+
+  pub found-more : (s new : List ℕ) (i : ℕ) → i < 64 → Found s i → passes_at i ≡ true
+      → new ≡ numbers_below 64 (λ m. (m == i) || has_number s m)
+      → Found new (i + 1)
+  found-more s new i low before passes is k = ap (λ (l : List ℕ). has_number l k) is ∙ by (cases_lt k 64) (cases_eq k i)
+    where
+      by : (k < 64) ⊎ (64 ≤ k) → (k ≡ i) ⊎ (k ≡ i → ⊥)
+          → has_number (numbers_below 64 (λ m. (m == i) || has_number s m)) k ≡ (nat_lt k (i + 1) && passes_at k)
+      by (inr high) there =
+          has-above (λ m. (m == i) || has_number s m) 64 k high ∙ sym (ap (λ b. b && passes_at k) (le-ltb k (i + 1) (omega arith)))
+      by (inl below) (inl here) =
+          has-below (λ m. (m == i) || has_number s m) 64 k below
+          ∙ ap (λ b. b || has_number s k) (eq-eqb k i here)
+          ∙ sym (ap₂ (λ a b. a && b) (lt-ltb k (i + 1) (omega arith)) (ap passes_at here ∙ passes))
+      by (inl below) (inr apart) =
+          has-below (λ m. (m == i) || has_number s m) 64 k below
+          ∙ ap (λ b. b || has_number s k) (ne_eqb k i apart)
+          ∙ before k
+          ∙ ap (λ b. b && passes_at k) (later k i apart)
+
+  pub found-all : (s : List ℕ) (n : ℕ) → length ps ≡ 64 → 64 ≤ n → IsSetBelow 64 s → Found s n → s ≡ numbers (filter t (entries_at 0 ps))
+  found-all s n size high set all =
+      set
+      ∙ numbers_below-filter (has_number s) 64
+      ∙ ap (λ m. filter (has_number s) (range_with_len 0 m)) (sym size)
+      ∙ sym (numbers-filter t (has_number s) 0 ps (λ k m e low. at k m (omega arith) (omega arith)))
+    where
+      at : (k m : ℕ) → k ≡ m → m < n → has_number s m ≡ option_map_or (λ x. t (m, x)) (get_or ps k None) false
+      at k m e low =
+          all m ∙ ap (λ b. b && passes_at m) (lt-ltb m n low) ∙ ap (λ j. option_map_or (λ x. t (m, x)) (get_or ps j None) false) (sym e)
+
+-- whether some port passes
+
+any-false : (t : ℕ × TreePort → Bool) (es : List (ℕ × TreePort)) → list_any t es ≡ false → numbers (filter t es) ≡ []
+any-false t [] h = refl
+any-false t (e ∷ es) h =
+    let parts = or_parts (t e) (list_any t es) h in
+    ap (λ b. numbers (cond b (e ∷ filter t es) (filter t es))) parts.0 ∙ any-false t es parts.1
+
+none-any : (t : ℕ × TreePort → Bool) (es : List (ℕ × TreePort)) → numbers (filter t es) ≡ [] → list_any t es ≡ false
+none-any t [] h = refl
+none-any t (e ∷ es) h = by (λ none. none-any t es none) (t e) refl h
+  where
+    by : (numbers (filter t es) ≡ [] → list_any t es ≡ false) → (b : Bool) → t e ≡ b
+        → numbers (cond b (e ∷ filter t es) (filter t es)) ≡ [] → (t e || list_any t es) ≡ false
+    by rest true is h = absurd (cc)
+    by rest false is h = ap (λ b. b || list_any t es) is ∙ rest h
+
+pub any-by : (t : ℕ × TreePort → Bool) (es : List (ℕ × TreePort)) (b : Bool) → (IsTrue b ↔ (numbers (filter t es) ≡ [])) → not b ≡ list_any t es
+any-by t es true h = sym (none-any t es (h.0 refl))
+any-by t es false h = by (cases_Bool (list_any t es))
+  where
+    by : (list_any t es ≡ true) ⊎ (list_any t es ≡ false) → true ≡ list_any t es
+    by (inl some) = sym some
+    by (inr none) = absurd (false≢true (h.1 (any-false t es none)))
+
+-- a filter of the ports by number
+pub numbers-kept : (t : ℕ × TreePort → Bool) (q : ℕ → Bool) (n : ℕ) (os : List (Option TreePort))
+    → ((k m : ℕ) (x : TreePort) → m ≡ n + k → get_or os k None ≡ Some x → t (m, x) ≡ q m)
+    → numbers (filter t (entries_at n os)) ≡ filter q (numbers (entries_at n os))
+numbers-kept t q n [] h = refl
+numbers-kept t q n (None ∷ os) h = numbers-kept t q (n + 1) os (λ k m x e is. h (suc k) m x (omega arith) is)
+numbers-kept t q n (Some x ∷ os) h =
+    ap (λ b. numbers (cond b ((n, x) ∷ filter t (entries_at (n + 1) os)) (filter t (entries_at (n + 1) os)))) (h 0 n x (omega arith) refl)
+    ∙ chosen (q n) (filter t (entries_at (n + 1) os))
+    ∙ ap (λ (ms : List ℕ). cond (q n) (n ∷ ms) ms) (numbers-kept t q (n + 1) os (λ k m y e is. h (suc k) m y (omega arith) is))
+  where
+    chosen : (b : Bool) (es : List (ℕ × TreePort)) → numbers (cond b ((n, x) ∷ es) es) ≡ cond b (n ∷ numbers es) (numbers es)
+    chosen true es = refl
+    chosen false es = refl

@@ -1,0 +1,118 @@
+-- Sets of ports are joined as the definitions join them.
+use Rattle.std.proofs.Common.{◌≡◌, ℕ, zero, suc, ◌+◌, ◌<◌, ◌≤◌, ◌==◌, ◌||◌, ◌⊎◌, inl, inr, Bool, true, false, cond, List, [], ◌∷◌, refl, sym, ap, ap₂, ◌∙◌, arith}
+use Rattle.std.specs.List.{filter, range_with_len}
+use Rattle.std.specs.declared.cmp.Ordering.TheVariants.{Less, Equal, Greater}
+use Rattle.std.specs.Ordering.{nat_cmp, eq_by_cmp, match_ordering}
+use Rattle.std.proofs.lemmas.Bool.{cases_eq, cases_lt, cases_Bool, eq-eqb, ne_eqb, or_parts, false≢true}
+use Rattle.std.proofs.lemmas.Bool.Decides.{nat_tests}
+use Rattle.br_model.specs.Maps.{has, joined}
+use Rattle.br_model.specs.TreeSending.{union}
+use Rattle.port_sets.specs.Numbers.{numbers_below, has_number, IsSetBelow}
+use Rattle.port_sets.proofs.Numbers.{has-above, same_below, numbers_below-filter, none_below}
+
+eq_is : (k m : ℕ) → eq_by_cmp nat_cmp k m ≡ (k == m)
+eq_is k m = grind (arith, nat_tests)
+
+pub has_number_is : (s : List ℕ) (k : ℕ) → has_number s k ≡ has nat_cmp s k
+has_number_is [] k = refl
+has_number_is (x ∷ s) k = ap₂ (λ a b. a || b) (sym (eq_is k x)) (has_number_is s k)
+
+same : (p : ℕ) → nat_cmp p p ≡ Equal
+same p = grind (arith, nat_tests)
+
+below : (p n : ℕ) → p < n → nat_cmp p n ≡ Less
+below p n h = grind (arith, nat_tests)
+
+above : (p n : ℕ) → n < p → nat_cmp p n ≡ Greater
+above p n h = grind (arith, nat_tests)
+
+insert-before : (p : ℕ → Bool) (k a n : ℕ) → k < a → joined nat_cmp (filter p (range_with_len a n)) k ≡ k ∷ filter p (range_with_len a n)
+insert-before p k a zero h = refl
+insert-before p k a (suc n) h = by (p a) (insert-before p k (a + 1) n (omega arith))
+  where
+    by : (b : Bool) → joined nat_cmp (filter p (range_with_len (a + 1) n)) k ≡ k ∷ filter p (range_with_len (a + 1) n)
+        → joined nat_cmp (cond b (a ∷ filter p (range_with_len (a + 1) n)) (filter p (range_with_len (a + 1) n))) k
+        ≡ k ∷ cond b (a ∷ filter p (range_with_len (a + 1) n)) (filter p (range_with_len (a + 1) n))
+    by true e =
+        let xs : List ℕ = filter p (range_with_len (a + 1) n) in
+        ap (λ r. match_ordering r (k ∷ a ∷ xs) (a ∷ xs) (a ∷ joined nat_cmp xs k)) (below k a h)
+    by false e = e
+
+others : (p : ℕ → Bool) (k a n : ℕ) → k < a → filter (λ m. (m == k) || p m) (range_with_len a n) ≡ filter p (range_with_len a n)
+others p k a zero h = refl
+others p k a (suc n) h =
+    ap (λ b. cond (b || p a) (a ∷ filter (λ m. (m == k) || p m) (range_with_len (a + 1) n)) (filter (λ m. (m == k) || p m) (range_with_len (a + 1) n))) (ne_eqb a k (omega arith))
+    ∙ ap (λ (xs : List ℕ). cond (p a) (a ∷ xs) xs) (others p k (a + 1) n (omega arith))
+
+insert-range : (p : ℕ → Bool) (k a n : ℕ) → a ≤ k → k < a + n → joined nat_cmp (filter p (range_with_len a n)) k ≡ filter (λ m. (m == k) || p m) (range_with_len a n)
+insert-range p k a zero low high = absurd (omega arith)
+insert-range p k a (suc n) low high = by (λ apart. insert-range p k (a + 1) n (omega arith) (omega arith)) (cases_eq a k) (cases_Bool (p a))
+  where
+    by : ((a ≡ k → ⊥) → joined nat_cmp (filter p (range_with_len (a + 1) n)) k ≡ filter (λ m. (m == k) || p m) (range_with_len (a + 1) n))
+        → (a ≡ k) ⊎ (a ≡ k → ⊥) → (p a ≡ true) ⊎ (p a ≡ false)
+        → joined nat_cmp (cond (p a) (a ∷ filter p (range_with_len (a + 1) n)) (filter p (range_with_len (a + 1) n))) k
+        ≡ cond ((a == k) || p a) (a ∷ filter (λ m. (m == k) || p m) (range_with_len (a + 1) n)) (filter (λ m. (m == k) || p m) (range_with_len (a + 1) n))
+    by rest (inl here) (inl passes) =
+        let xs : List ℕ = filter p (range_with_len (a + 1) n) in
+        let r : nat_cmp k a ≡ Equal = ap (nat_cmp k) here ∙ same k in
+        ap (λ b. joined nat_cmp (cond b (a ∷ xs) xs) k) passes
+        ∙ ap (λ r. match_ordering r (k ∷ a ∷ xs) (a ∷ xs) (a ∷ joined nat_cmp xs k)) r
+        ∙ ap (λ (ys : List ℕ). a ∷ ys) (sym (others p k (a + 1) n (omega arith)))
+        ∙ sym (ap (λ b. cond (b || p a) (a ∷ filter (λ m. (m == k) || p m) (range_with_len (a + 1) n)) (filter (λ m. (m == k) || p m) (range_with_len (a + 1) n))) (eq-eqb a k here))
+    by rest (inl here) (inr fails) =
+        let xs : List ℕ = filter p (range_with_len (a + 1) n) in
+        ap (λ b. joined nat_cmp (cond b (a ∷ xs) xs) k) fails
+        ∙ insert-before p k (a + 1) n (omega arith)
+        ∙ ap₂ (λ (m : ℕ) (ys : List ℕ). m ∷ ys) (sym here) (sym (others p k (a + 1) n (omega arith)))
+        ∙ sym (ap (λ b. cond (b || p a) (a ∷ filter (λ m. (m == k) || p m) (range_with_len (a + 1) n)) (filter (λ m. (m == k) || p m) (range_with_len (a + 1) n))) (eq-eqb a k here))
+    by rest (inr apart) (inl passes) =
+        let xs : List ℕ = filter p (range_with_len (a + 1) n) in
+        ap (λ b. joined nat_cmp (cond b (a ∷ xs) xs) k) passes
+        ∙ ap (λ r. match_ordering r (k ∷ a ∷ xs) (a ∷ xs) (a ∷ joined nat_cmp xs k)) (above k a (omega arith))
+        ∙ ap (λ (ys : List ℕ). a ∷ ys) (rest apart)
+        ∙ sym (ap₂ (λ b c. cond (b || c) (a ∷ filter (λ m. (m == k) || p m) (range_with_len (a + 1) n)) (filter (λ m. (m == k) || p m) (range_with_len (a + 1) n))) (ne_eqb a k apart) passes)
+    by rest (inr apart) (inr fails) =
+        let xs : List ℕ = filter p (range_with_len (a + 1) n) in
+        ap (λ b. joined nat_cmp (cond b (a ∷ xs) xs) k) fails
+        ∙ rest apart
+        ∙ sym (ap₂ (λ b c. cond (b || c) (a ∷ filter (λ m. (m == k) || p m) (range_with_len (a + 1) n)) (filter (λ m. (m == k) || p m) (range_with_len (a + 1) n))) (ne_eqb a k apart) fails)
+
+insert-set : (p : ℕ → Bool) (k : ℕ) → k < 64 → joined nat_cmp (numbers_below 64 p) k ≡ numbers_below 64 (λ m. (m == k) || p m)
+insert-set p k low =
+    ap (λ s. joined nat_cmp s k) (numbers_below-filter p 64) ∙ insert-range p k 0 64 (omega arith) (omega arith) ∙ sym (numbers_below-filter (λ m. (m == k) || p m) 64)
+
+exchange : (a b c : Bool) → (b || (a || c)) ≡ ((a || b) || c)
+exchange true true c = refl
+exchange true false c = refl
+exchange false b c = refl
+
+or_none : (b : Bool) → b ≡ (b || false)
+or_none true = refl
+or_none false = refl
+
+union-from : (p : ℕ → Bool) (q : List ℕ) → ((m : ℕ) → 64 ≤ m → has_number q m ≡ false)
+    → union (numbers_below 64 p) q ≡ numbers_below 64 (λ m. p m || has_number q m)
+union-from p [] high = same_below p (λ m. p m || false) 64 (λ m low. or_none (p m))
+union-from p (k ∷ q) high = by (cases_lt k 64)
+    (union-from (λ m. (m == k) || p m) q (λ m big. let parts = or_parts (m == k) (has_number q m) (high m big) in parts.1))
+  where
+    by : (k < 64) ⊎ (64 ≤ k)
+        → union (numbers_below 64 (λ m. (m == k) || p m)) q ≡ numbers_below 64 (λ m. ((m == k) || p m) || has_number q m)
+        → union (numbers_below 64 p) (k ∷ q) ≡ numbers_below 64 (λ m. p m || has_number (k ∷ q) m)
+    by (inr big) rest = absurd (false≢true (sym (high k big) ∙ ap (λ b. b || has_number q k) (eq-eqb k k refl)))
+    by (inl low) rest =
+        ap (λ s. union s q) (insert-set p k low)
+        ∙ rest
+        ∙ same_below (λ m. ((m == k) || p m) || has_number q m) (λ m. p m || has_number (k ∷ q) m) 64 (λ m below. sym (exchange (m == k) (p m) (has_number q m)))
+
+-- the members of both
+pub union-is : (s q : List ℕ) → IsSetBelow 64 s → IsSetBelow 64 q → numbers_below 64 (λ m. has_number s m || has_number q m) ≡ union s q
+union-is s q hs hq =
+    sym (union-from (has_number s) q (λ m high. ap (λ l. has_number l m) hq ∙ has-above (has_number q) 64 m high)) ∙ ap (λ l. union l q) (sym hs)
+
+-- the set of one
+pub alone : (p : ℕ) (none : List ℕ) → none ≡ [] → p < 64 → numbers_below 64 (λ m. (m == p) || has_number none m) ≡ p ∷ []
+alone p none empty low =
+    ap (λ l. numbers_below 64 (λ m. (m == p) || has_number l m)) empty
+    ∙ sym (insert-set (λ m. false) p low)
+    ∙ ap (λ s. joined nat_cmp s p) (none_below (λ m. false) 64 (λ m low. refl))

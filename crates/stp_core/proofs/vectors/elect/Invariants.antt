@@ -1,0 +1,12 @@
+use Rattle.std.proofs.Common.{◌≡◌, ◌<◌, take}
+use Rattle.std.specs.List.{filter_map}
+use Rattle.std.specs.Option.{ForSome}
+use Rattle.br_model.specs.TreeVectors.{candidate, least}
+use Rattle.stp_core.specs.Places.{entries_at}
+use Rattle.stp_core.proofs.vectors.elect.Given as goal
+
+abbrev pub invariant-loop-p : goal.invariant-loop-p
+invariant-loop-p l = record {
+  best : l.best ≡ least (filter_map (candidate l.id) (entries_at 0 (take l.p l.places)));
+  below : ForSome l.best (λ c. c.port < 64);
+}

@@ -1,0 +1,20 @@
+//! The spanning tree of a bridge (IEEE 802.1D-1998 clauses 8 and 9).
+//!
+//! `Tree` keeps what the definitions of `br_model` keep, in an array with a place for each port. Each of their rules is a
+//! small function here, and an event is a composition of them.
+#![tactic(auto)]
+
+mod events;
+mod messages;
+mod places;
+mod rules;
+mod sending;
+mod steps;
+mod timers;
+mod tree;
+mod vectors;
+
+pub use crate::tree::{Tree, TreeOut};
+
+#[cfg(test)]
+mod tests;
