@@ -1,0 +1,101 @@
+//! The ring of reports, and the hits.
+ghost use Rattle.std.specs.Prelude.{◌≡◌, ◌++◌, ◌∷◌, ◌&&◌, [], not, nat_lt, length, drop, if◌then◌else◌, slice_get, IfOk, OnOk, OnErr};
+ghost use Rattle.br_model.specs.Maps.{has, joined, pair_cmp};
+ghost use Rattle.learn_report.specs.Reports.{is_waiting};
+
+use crate::NoMemory;
+use br_model::numbers::{Mac, Port, Vid};
+use std::alloc::Global;
+use std::collections::{HashSet, VecDeque};
+use std::marker::Model;
+
+/// A source address, its VLAN, and the port by which it came.
+pub type Report = (Vid, Mac, Port);
+
+/// How many reports can wait.
+pub const RING: usize = 256;
+
+/// The reports that wait, and the addresses that were hit since the hits were last cleared.
+#[derive(Drop)]
+pub struct Reports {
+    // The oldest first. It has its room from the beginning.
+    ring: VecDeque<Report>,
+    // The numbers of a VLAN and an address each.
+    hits: HashSet<(u16, u64)>,
+}
+
+impl Model for Reports {
+    ghost use Rattle.std.specs.Prelude.{◌≤◌};
+    ghost use Rattle.std.specs.VecDeque.{deque_capacity};
+    ghost use Rattle.learn_report.specs.Reports.{Reported};
+    ghost use Rattle.learn_report.specs.Hits.{ascending};
+
+    ghost Value = { Reported };
+
+    ghost view = { λ r. record { reports = r.ring.items; hits = ascending r.hits.keys } };
+
+    ghost invariant = { λ r. 256 ≤ deque_capacity r.ring };
+}
+
+impl Reports {
+    pub fn make(alloc: Global) -> Result<Reports, NoMemory>
+        ensures { IfOk result (λ r. r ≡ record { reports = []; hits = [] }) }
+    {
+        let ring = VecDeque::with_capacity(alloc, RING)?;
+        Ok(Reports {
+            ring,
+            hits: HashSet::new(alloc),
+        })
+    }
+
+    /// Keeps a report. `false` exactly where the ring is full or an equal report waits.
+    pub fn offer(&mut self, v: Vid, m: Mac, p: Port) -> bool
+        ensures value { result ≡ (nat_lt (length self.old.reports) 256 && not (is_waiting self.old.reports (v, m, p))) }
+        ensures kept { self.new ≡ record self.old { reports = if result then self.old.reports ++ (v, m, p) ∷ [] else self.old.reports } }
+    {
+        let report = (v, m, p);
+        if self.ring.len() >= RING || self.ring.contains(&report) {
+            return false;
+        }
+        self.ring.push_back_reserved(report);
+        true
+    }
+
+    /// The oldest report, which leaves.
+    pub fn next(&mut self) -> Option<Report>
+        ensures oldest { result ≡ slice_get self.old.reports 0 }
+        ensures rest { self.new ≡ record self.old { reports = drop 1 self.old.reports } }
+    {
+        self.ring.pop_front()
+    }
+
+    /// The oldest report, which stays.
+    pub fn first(&self) -> Option<Report>
+        ensures { result ≡ slice_get self.now.reports 0 }
+    {
+        self.ring.front().copied()
+    }
+
+    /// Sets the hit of the address.
+    pub fn hit(&mut self, v: Vid, m: Mac) -> Result<(), NoMemory>
+        ensures ok { OnOk result (self.new ≡ record self.old { hits = joined pair_cmp self.old.hits (v, m) }) }
+        ensures err { OnErr result (self.new ≡ self.old) }
+    {
+        self.hits.insert((v.number(), m.number()))?;
+        Ok(())
+    }
+
+    /// Whether the hit of the address is set.
+    pub fn has(&self, v: Vid, m: Mac) -> bool
+        ensures { result ≡ has pair_cmp self.now.hits (v, m) }
+    {
+        self.hits.contains(&(v.number(), m.number()))
+    }
+
+    /// Clears the hits. The reports stay.
+    pub fn clear(&mut self)
+        ensures { self.new ≡ record self.old { hits = [] } }
+    {
+        self.hits.clear();
+    }
+}

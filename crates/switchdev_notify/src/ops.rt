@@ -1,0 +1,46 @@
+//! Drivers that are told.
+ghost use Rattle.std.specs.Prelude.{◌≡◌};
+ghost use Rattle.br_model.specs.Domains.{Domains};
+ghost use Rattle.br_model.specs.Table.{Table, apply};
+ghost use Rattle.br_model.specs.declared.change.Change.{Change};
+ghost use Rattle.switchdev_notify.specs.Notices.{change_added, change_removed, change_of_attribute, after, Takes};
+
+use crate::notice::{Attribute, Notice, Object};
+
+/// A switch driver: in the kernel, what answers a port's switchdev notifications.
+pub trait SwitchOps {
+    /// Whether the driver has a chip with these domains do what the table says.
+    ghost means: { Domains → Self → Table → Type 0 };
+
+    /// Whether the driver takes the change as it stands, such as whether its chip has room for it.
+    ghost takes: { Self → Change → Type 0 };
+
+    /// Answers `SWITCHDEV_PORT_OBJ_ADD`.
+    fn obj_add(&mut self, o: &Object)
+        requires { takes self.old (change_added o.now) }
+        ensures { (d : Domains) (t : Table) → means d self.old t → means d self.new (apply t (change_added o.now)) };
+
+    /// Answers `SWITCHDEV_PORT_OBJ_DEL`.
+    fn obj_del(&mut self, o: &Object)
+        requires { takes self.old (change_removed o.now) }
+        ensures { (d : Domains) (t : Table) → means d self.old t → means d self.new (apply t (change_removed o.now)) };
+
+    /// Answers `SWITCHDEV_PORT_ATTR_SET`.
+    fn attr_set(&mut self, a: &Attribute)
+        requires { takes self.old (change_of_attribute a.now) }
+        ensures { (d : Domains) (t : Table) → means d self.old t → means d self.new (apply t (change_of_attribute a.now)) };
+}
+
+/// Tells a driver of a change. An address is left to the queue, and the driver isn't called.
+pub fn deliver<D: SwitchOps>(d: &mut D, n: &Notice)
+    requires { Takes (D.takes d.old) n.now }
+    ensures told { (domains : Domains) (t : Table) → D.means domains d.old t → D.means domains d.new (after t n.now) }
+    ensures address { n.now ≡ Notice.Address → d.new ≡ d.old }
+{
+    match n {
+        Notice::ObjAdd(object) => d.obj_add(object),
+        Notice::ObjDel(object) => d.obj_del(object),
+        Notice::Attr(attribute) => d.attr_set(attribute),
+        Notice::Address => {}
+    }
+}
