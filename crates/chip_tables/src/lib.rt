@@ -1,0 +1,14 @@
+//! The tables of a switch chip, as banks of packed rows that can be read and written one by one.
+#![tactic(auto)]
+
+pub mod rows;
+pub mod tables;
+
+pub use rows::{AddressRow, Control, FanRow, Flood, PortRow, VlanRow};
+pub use tables::Tables;
+
+/// Want of memory.
+pub type NoMemory = std::alloc::AllocError;
+
+#[cfg(test)]
+mod tests;

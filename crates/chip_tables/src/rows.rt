@@ -1,0 +1,304 @@
+//! The rows, and how they are packed.
+ghost use Rattle.std.specs.Prelude.{◌≡◌, ◌≢◌, ◌==◌, ◌<◌, ◌^◌, nat_lt};
+ghost use Rattle.chip_tables.specs.Rows.{members_of, vlan_of, fan_of, pvid_from, port_of, is_on, port_from, kind_of, address_of, control_of, key_of, packed};
+
+use br_model::change::{Flags, Kind};
+use br_model::numbers::{Mac, Port, Vid};
+use chip_regs::{Field, Row};
+use port_sets::Ports;
+
+/// The members of a VLAN, foreign ports and the host among them.
+#[derive(Clone, Copy, Debug)]
+pub struct VlanRow {
+    pub members: Ports,
+    pub untagged: Ports,
+}
+
+/// Where a flood, or a frame to a group, goes: the chip's own ports, and whether an eligible target elsewhere exists for an
+/// isolated and for a plain ingress port.
+#[derive(Clone, Copy, Debug)]
+pub struct FanRow {
+    pub ports: Ports,
+    pub isolated: bool,
+    pub plain: bool,
+}
+
+/// The floods of a VLAN.
+#[derive(Clone, Copy, PartialEq, Eq, Debug)]
+pub enum Flood {
+    Unicast,
+    Mcast,
+    Bcast,
+}
+
+/// What the chip knows of a port, also of one that isn't its own. The state is one of Linux's numbers, from 0 to 4.
+#[derive(Clone, Copy, Debug)]
+pub struct PortRow {
+    pub up: bool,
+    pub state: u8,
+    pub flags: Flags,
+    pub pvid: Option<Vid>,
+    pub own: bool,
+}
+
+/// Where an address is. It is pinned where it is local or static.
+#[derive(Clone, Copy, PartialEq, Eq, Debug)]
+pub struct AddressRow {
+    pub port: Port,
+    pub kind: Kind,
+    pub pinned: bool,
+}
+
+/// Whether snooping and the spanning tree are on, and whether a querier of version 4 and one of version 6 is known.
+#[derive(Clone, Copy, PartialEq, Eq, Debug)]
+pub struct Control {
+    pub snooping: bool,
+    pub tree: bool,
+    pub four: bool,
+    pub six: bool,
+}
+
+/// A field by the place of its first bit and how many bits it has.
+macro_rules! bits {
+    ($at:literal, $width:literal) => {
+        Field {
+            at: $at,
+            width: $width,
+        }
+    };
+}
+
+/// The number of the bits, or whether the bit is set, or with one more argument the row with that number there.
+macro_rules! get {
+    ($row:expr, $at:literal) => {
+        $row.get(bits!($at, 1)) == 1
+    };
+    ($row:expr, $at:literal, $width:literal) => {
+        $row.get(bits!($at, $width))
+    };
+}
+
+fn ports_of(word: u64) -> Ports
+    ensures { result ≡ members_of word }
+{
+    Ports::from_words([word])
+}
+
+fn word_of(ports: &Ports) -> u64
+    ensures { members_of result ≡ ports.now }
+{
+    ports.words()[0]
+}
+
+/// A bit as a number.
+fn bit(on: bool) -> u64
+    ensures value { (result == 1) ≡ on }
+    ensures small { result < 2 }
+{
+    if on { 1 } else { 0 }
+}
+
+pub fn vlan_row(row: &Row<16>) -> VlanRow
+    ensures { result ≡ vlan_of row.now }
+{
+    VlanRow {
+        members: ports_of(get!(row, 0, 64)),
+        untagged: ports_of(get!(row, 64, 64)),
+    }
+}
+
+pub fn pack_vlan(r: &VlanRow) -> Row<16>
+    ensures { vlan_of result ≡ r.now }
+{
+    let mut row = Row::zero();
+    row.set(bits!(0, 64), word_of(&r.members));
+    row.set(bits!(64, 64), word_of(&r.untagged));
+    row
+}
+
+pub fn fan_row(row: &Row<9>) -> FanRow
+    ensures { result ≡ fan_of row.now }
+{
+    FanRow {
+        ports: ports_of(get!(row, 0, 64)),
+        isolated: get!(row, 64),
+        plain: get!(row, 65),
+    }
+}
+
+pub fn pack_fan(r: &FanRow) -> Row<9>
+    ensures { fan_of result ≡ r.now }
+{
+    let mut row = Row::zero();
+    row.set(bits!(0, 64), word_of(&r.ports));
+    row.set(bits!(64, 1), bit(r.isolated));
+    row.set(bits!(65, 1), bit(r.plain));
+    row
+}
+
+pub fn port_row(row: &Row<3>) -> PortRow
+    ensures { result ≡ port_of row.now }
+{
+    PortRow {
+        up: get!(row, 0),
+        state: get!(row, 1, 3) as u8,
+        flags: flags_of(get!(row, 4, 6)),
+        pvid: pvid_of(get!(row, 10), get!(row, 11, 12)),
+        own: get!(row, 23),
+    }
+}
+
+fn flags_of(bits: u64) -> Flags
+    requires { bits < 64 }
+    ensures { result ≡ bits }
+{
+    match Flags::new(bits as u8) {
+        Some(flags) => flags,
+        None => unreachable!(),
+    }
+}
+
+fn pvid_of(has: bool, number: u64) -> Option<Vid>
+    requires { number < 4096 }
+    ensures { result ≡ pvid_from has number }
+{
+    if has { Vid::new(number as u16) } else { None }
+}
+
+/// The number of a VLAN, 0 for none.
+fn number_of_pvid(pvid: &Option<Vid>) -> u64
+    ensures value { pvid_from (nat_lt 0 result) result ≡ pvid.now }
+    ensures below { result < 4096 }
+{
+    match pvid {
+        Some(vid) => u64::from(vid.number()),
+        None => 0,
+    }
+}
+
+pub fn pack_port(r: &PortRow) -> Row<3>
+    requires { r.now.state < 8 }
+    ensures { port_of result ≡ r.now }
+{
+    let mut row = Row::zero();
+    row.set(bits!(0, 1), bit(r.up));
+    row.set(bits!(1, 3), u64::from(r.state));
+    row.set(bits!(4, 6), u64::from(r.flags.bits()));
+    let pvid = number_of_pvid(&r.pvid);
+    row.set(bits!(10, 1), bit(pvid > 0));
+    row.set(bits!(11, 12), pvid);
+    row.set(bits!(23, 1), bit(r.own));
+    row
+}
+
+pub fn control_row(row: &Row<1>) -> Control
+    ensures { result ≡ control_of row.now }
+{
+    Control {
+        snooping: get!(row, 0),
+        tree: get!(row, 1),
+        four: get!(row, 2),
+        six: get!(row, 3),
+    }
+}
+
+pub fn pack_control(r: Control) -> Row<1>
+    ensures { control_of result ≡ r }
+{
+    let mut row = Row::zero();
+    row.set(bits!(0, 1), bit(r.snooping));
+    row.set(bits!(1, 1), bit(r.tree));
+    row.set(bits!(2, 1), bit(r.four));
+    row.set(bits!(3, 1), bit(r.six));
+    row
+}
+
+/// Whether a trap row is on.
+pub fn is_on(row: &Row<1>) -> bool
+    ensures { result ≡ is_on row.now 0 }
+{
+    get!(row, 0)
+}
+
+pub fn pack_trap(on: bool) -> Row<1>
+    ensures { is_on result 0 ≡ on }
+{
+    let mut row = Row::zero();
+    row.set(bits!(0, 1), bit(on));
+    row
+}
+
+/// The VLAN and the address of an address row as one number, 0 where the row isn't used.
+pub fn key_in(row: &Row<9>) -> u64
+    ensures { result ≡ key_of row.now }
+{
+    get!(row, 0, 60)
+}
+
+/// The number of a VLAN and an address, as an address row has it.
+pub fn pack_key(v: Vid, m: Mac) -> u64
+    ensures value { result ≡ packed v m }
+    ensures some { result ≢ 0 }
+    ensures below { result < 2 ^ 60 }
+    ensures vid { v < 4096 }
+    ensures mac { m < 2 ^ 48 }
+{
+    u64::from(v.number()) + 4096 * m.number()
+}
+
+pub fn address_row(row: &Row<9>) -> AddressRow
+    ensures { result ≡ address_of row.now }
+{
+    AddressRow {
+        port: port_from(get!(row, 60, 8)),
+        kind: kind_of(get!(row, 68, 2)),
+        pinned: get!(row, 70),
+    }
+}
+
+fn port_from(number: u64) -> Port
+    requires { number < 256 }
+    ensures { result ≡ port_from number }
+{
+    match Port::new(number as u8) {
+        Some(port) => port,
+        None => Port::HOST,
+    }
+}
+
+fn kind_of(number: u64) -> Kind
+    ensures { result ≡ kind_of number }
+{
+    match number {
+        0 => Kind::Local,
+        1 => Kind::Static,
+        2 => Kind::Learned,
+        _ => Kind::Extern,
+    }
+}
+
+fn number_of(kind: Kind) -> u64
+    ensures value { kind_of result ≡ kind }
+    ensures below { result < 4 }
+{
+    match kind {
+        Kind::Local => 0,
+        Kind::Static => 1,
+        Kind::Learned => 2,
+        Kind::Extern => 3,
+    }
+}
+
+pub fn pack_address(key: u64, r: &AddressRow) -> Row<9>
+    requires { key < 2 ^ 60 }
+    ensures key { key_of result ≡ key }
+    ensures row { address_of result ≡ r.now }
+{
+    let mut row = Row::zero();
+    row.set(bits!(0, 60), key);
+    row.set(bits!(60, 8), u64::from(r.port.number()));
+    row.set(bits!(68, 2), number_of(r.kind));
+    row.set(bits!(70, 1), bit(r.pinned));
+    row.set(bits!(71, 1), 1);
+    row
+}
