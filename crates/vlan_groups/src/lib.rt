@@ -10,3 +10,6 @@ pub use vid_list::Vids;
 
 /// There was no memory.
 pub type NoMemory = std::alloc::AllocError;
+
+#[cfg(test)]
+mod tests;
