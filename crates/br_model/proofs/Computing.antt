@@ -1,13 +1,13 @@
 -- One name to unfold where a proof computes with the definitions.
 use Rattle.std.specs.Fmt.{digits}
-use Rattle.br_model.specs.Leave.{all_ports, egress_ports, leave}
+use Rattle.br_model.specs.Leave.{all_ports, egress_ports, ports_out, leave}
 use Rattle.br_model.specs.LineForms.{line_says}
-use Rattle.br_model.specs.Operands.{number, new_port, new_name, port_number, port_name, mac, hex}
+use Rattle.br_model.specs.Operands.{number, new_port, new_name, port_number, port_name, device, mac, hex, flag}
 use Rattle.br_model.specs.Reaction.{react}
 use Rattle.br_model.specs.Runs.{told, run}
 use Rattle.br_model.specs.Scenario.{cut, reads, scenario_by}
 
 -- `unfolding computing` lets `refl` compute a whole run
 unfoldable pub computing : Unit {0}
-unfolding digits all_ports egress_ports leave line_says number new_port new_name port_number port_name mac hex react told run cut reads scenario_by
+unfolding digits all_ports egress_ports ports_out leave line_says number new_port new_name port_number port_name device mac hex flag react told run cut reads scenario_by
 computing = tt

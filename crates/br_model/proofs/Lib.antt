@@ -7,6 +7,7 @@ pub mod DomainLaws
 pub mod Endings
 pub mod DomainWords
 pub mod FrameFacts
+pub mod KeySets
 pub mod Least
 pub mod MapLaws
 pub mod MessageRows

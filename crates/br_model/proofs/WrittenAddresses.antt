@@ -11,7 +11,7 @@ use Rattle.br_model.specs.Operands.{mac, station_of, found}
 use Rattle.br_model.specs.ScenarioText.{byte_at, mac_text}
 use Rattle.br_model.specs.Words.{Word}
 use Rattle.br_model.proofs.WrittenNumbers.{hex_read, pair_letters}
-use Rattle.br_model.proofs.WrittenWords.{letters, both}
+use Rattle.br_model.proofs.WrittenWords.{letters, is_proper, both}
 
 -- bytes as pairs of digits, joined by colons
 abbrev pub last_two : ℕ → ℕ → Word
@@ -92,7 +92,7 @@ mac_read m h one =
     ∙ ap (λ (n : ℕ). found Address (if is_multicast n || n == 0 then None else Some n)) (spelled m h)
     ∙ ap (λ (b : Bool). found Address (if b then None else Some m)) one
 
-pub mac_letters : (m : ℕ) → letters (mac_text m) ≡ true
-mac_letters m =
+pub mac_proper : (m : ℕ) → is_proper (mac_text m) ≡ true
+mac_proper m =
     pairs_letters (byte_at m 40) (byte_at m 32) (byte_at m 24) (byte_at m 16) (byte_at m 8) (byte_at m 0)
     (byte_below m 40) (byte_below m 32) (byte_below m 24) (byte_below m 16) (byte_below m 8) (byte_below m 0)

@@ -1,146 +1,90 @@
 -- The line that a step is written as is read back to the step.
-use Rattle.std.proofs.Common.{◌≡◌, ℕ, zero, suc, ◌+◌, ◌^◌, ◌<◌, ◌≤◌, ◌==◌, nat_lt, nat_le, Bool, true, false, ◌&&◌, ◌||◌, if◌then◌else◌, List, [], ◌∷◌, ◌++◌, length, take, length-take, inl, inr, refl, sym, ◌∙◌, ap, arith}
+use Rattle.std.proofs.Common.{◌≡◌, ℕ, zero, suc, ◌+◌, ◌^◌, ◌<◌, ◌≤◌, ◌==◌, nat_lt, nat_le, Bool, true, false, ◌&&◌, ◌||◌, if◌then◌else◌, List, [], ◌∷◌, ◌++◌, length, take, length-take, inl, inr, refl, sym, ◌∙◌, ap, subst, arith, Option, slice_index_or, append-nil}
 use Rattle.std.specs.Prelude.{codes}
 use Rattle.std.specs.Cmp.{first_so, second_so}
 use Rattle.std.specs.Fmt.{decimal}
 use Rattle.std.specs.List.{list_all}
-use Rattle.std.proofs.lemmas.Bool.{cases_lt, not-true}
+use Rattle.std.specs.Str.{bytes_eq}
+use Rattle.std.proofs.lemmas.Bool.{cases_lt, eqb-true, not-true}
 use Rattle.std.specs.declared.result.Result.{Result}
 use Rattle.std.specs.declared.result.Result.TheVariants.{Ok, Err}
+use Rattle.br_model.specs.declared.change.Kind.{Kind}
 use Rattle.br_model.specs.declared.change.Kind.TheVariants.{Local, Static, Learned, Extern}
 use Rattle.br_model.specs.declared.frame.FrameFault.TheVariants as faults
 use Rattle.br_model.specs.declared.scenario.LineWhy.{LineWhy}
 use Rattle.br_model.specs.declared.scenario.LineWhy.TheVariants as why
 use Rattle.br_model.specs.declared.scenario.Said.{Said}
-use Rattle.br_model.specs.declared.scenario.Said.TheVariants.{Does}
+use Rattle.br_model.specs.declared.scenario.Said.TheVariants.{Blank, Does}
 use Rattle.br_model.specs.declared.steps.Command.{Command}
 use Rattle.br_model.specs.declared.steps.Command.TheVariants as commands
 use Rattle.br_model.specs.declared.steps.Step.{Step}
-use Rattle.br_model.specs.declared.steps.Step.TheVariants.{Rx, Cmd, Serve, Publish}
+use Rattle.br_model.specs.declared.steps.Step.TheVariants.{Rx, Cmd, Now, Serve, Publish}
 use Rattle.br_model.specs.CommandForms.{step}
 use Rattle.br_model.specs.Declarations.{are_declared}
 use Rattle.br_model.specs.Digits.{hex_of}
-use Rattle.br_model.specs.Forms.{after}
+use Rattle.br_model.specs.Domains.{host}
+use Rattle.br_model.specs.FlagWords.{flags, name_of_flag}
+use Rattle.br_model.specs.Forms.{Row, after, said}
 use Rattle.br_model.specs.Frames.{longest_frame, shortest_frame, frame}
 use Rattle.br_model.specs.LineForms.{line_says, all_say, commanded}
-use Rattle.br_model.specs.Numbers.{is_multicast}
-use Rattle.br_model.specs.Operands.{number, port_number, port_name, mac, hex, bytes_of}
-use Rattle.br_model.specs.Roster.{Roster, has_number}
-use Rattle.br_model.specs.ScenarioText.{name_of, mac_text, command_text, shown, step_words}
-use Rattle.br_model.specs.Words.{Word, is_word, words}
-use Rattle.br_model.specs.WrittenSteps.{is_byte, command_has_line, has_line, given, is_station, is_whole}
-use Rattle.br_model.proofs.WrittenAddresses.{mac_read, mac_letters}
-use Rattle.br_model.proofs.WrittenNames.{port_small, port_number_read, port_name_read, name_word, name_of_letters, number_read}
-use Rattle.br_model.proofs.WrittenNumbers.{decimal_word, decimal_letters, hex_read, hex_letters, hex_word}
-use Rattle.br_model.proofs.WrittenWords.{letters, both, words_more, words_last}
+use Rattle.br_model.specs.Operands.{number, port_name, mac, hex, flag, bytes_of, most_seconds, last_moment}
+use Rattle.br_model.specs.Roster.{Roster, has_number, host_name}
+use Rattle.br_model.specs.ScenarioText.{name_of, mac_text, command_text, device_text, kind_word, switch_word, shown, step_words}
+use Rattle.br_model.specs.Words.{Word, is_word, is_comment, words}
+use Rattle.br_model.specs.WrittenSteps.{is_byte, is_flag, is_vid, is_device, kind_has_line, command_has_line, has_line, given, is_station, is_whole}
+use Rattle.br_model.proofs.WrittenAddresses.{mac_read, mac_proper}
+use Rattle.br_model.proofs.WrittenNames.{port_small, port_number_read, port_name_read, name_proper, not_host, device_read, device_proper, number_read}
+use Rattle.br_model.proofs.WrittenNumbers.{decimal_proper, hex_read, hex_proper}
+use Rattle.br_model.proofs.WrittenWords.{is_proper, joined, both, words_joined}
 
--- frames
+-- A line whose words are of the form of a step says what its operands give.
+says : {A : Type 0} (r : Roster) (ws : List Word) (made : Result A LineWhy → Result Said LineWhy) {x : Result A LineWhy} {a : A} → x ≡ Ok a
+    → step r.place ≡ true → list_all is_proper ws ≡ true → is_comment (joined ws) ≡ false
+    → all_say r ws ≡ made (if step r.place then x else Err why.Place)
+    → line_says r (joined ws) ≡ made (Ok a)
+unfolding line_says
+says {A} r ws made {x = x} gives place proper line form =
+    ap (λ (b : Bool). if b then Ok Blank else all_say r (words (joined ws))) line
+    ∙ ap (all_say r) (words_joined ws proper)
+    ∙ form
+    ∙ ap (λ (b : Bool). made (if b then x else Err why.Place)) place
+    ∙ ap made gives
 
-rx_words : (n bytes : Word) → is_word n ≡ true → letters n ≡ true → is_word bytes ≡ true → letters bytes ≡ true
-    → words (codes "rx " ++ (n ++ (32 ∷ bytes))) ≡ codes "rx" ∷ n ∷ bytes ∷ []
-rx_words n bytes some l more m =
-    words_more (codes "rx") (n ++ (32 ∷ bytes)) refl refl
-    ∙ ap (λ (ws : List Word). codes "rx" ∷ ws) (words_more n bytes some l ∙ ap (λ (ws : List Word). n ∷ ws) (words_last bytes more m))
+-- one, two and three operands are read
 
-rx_says : (r : Roster) (n bytes : Word) → step r.place ≡ true
-    → all_say r (codes "rx" ∷ n ∷ bytes ∷ []) ≡ after (port_number r.ports n) (λ port. after (hex bytes) (λ b. Ok (Does (Rx port b))))
-rx_says r n bytes place =
-    ap (λ (b : Bool). if b then after (port_number r.ports n) (λ port. after (hex bytes) (λ b. Ok (Does (Rx port b)))) else Err why.Place) place
+one : {A B : Type 0} {x : Result A LineWhy} {a : A} (make : A → B) → x ≡ Ok a → after x (λ p. Ok (make p)) ≡ Ok (make a)
+one {A} make h = ap (λ (x : Result A LineWhy). after x (λ p. Ok (make p))) h
+
+two : {A B C : Type 0} {x : Result A LineWhy} {y : Result B LineWhy} {a : A} {b : B} (make : A → B → C) → x ≡ Ok a → y ≡ Ok b
+    → after x (λ p. after y (λ q. Ok (make p q))) ≡ Ok (make a b)
+two {A} {B} {y = y} {a = a} make h i = ap (λ (x : Result A LineWhy). after x (λ p. after y (λ q. Ok (make p q)))) h ∙ one (make a) i
+
+three : {A B C D : Type 0} {x : Result A LineWhy} {y : Result B LineWhy} {z : Result C LineWhy} {a : A} {b : B} {c : C} (make : A → B → C → D)
+    → x ≡ Ok a → y ≡ Ok b → z ≡ Ok c → after x (λ p. after y (λ q. after z (λ s. Ok (make p q s)))) ≡ Ok (make a b c)
+three {A} {y = y} {z = z} {a = a} make h i j =
+    ap (λ (x : Result A LineWhy). after x (λ p. after y (λ q. after z (λ s. Ok (make p q s))))) h ∙ two (make a) i j
+
+-- numbers
+
+below : (high n : ℕ) → high < 2 ^ 64 → nat_le n high ≡ true → n < 2 ^ 64
+below high n small h = let most : n ≤ high = grind arith in omega arith
+
+vid_read : (vid : ℕ) → is_vid vid ≡ true → number 1 4094 (decimal vid) ≡ Ok vid
+vid_read vid h = number_read 1 4094 vid (below 4094 vid (omega arith) (second_so _ _ h)) (first_so _ _ h) (second_so _ _ h)
+
+vid_proper : (vid : ℕ) → is_vid vid ≡ true → is_proper (decimal vid) ≡ true
+vid_proper vid h = decimal_proper vid (below 4094 vid (omega arith) (second_so _ _ h))
+
+station_read : (address : ℕ) → is_station address ≡ true → mac (mac_text address) ≡ Ok address
+station_read address h = mac_read address (small (2 ^ 48) address (first_so _ _ h)) (not-true _ (second_so _ _ h))
+  where
+    small : (m n : ℕ) → nat_lt n m ≡ true → n < m
+    small m n h = grind arith
 
 hex_is : (bytes : List ℕ) → is_word bytes ≡ true → list_all is_byte bytes ≡ true → hex (hex_of bytes) ≡ Ok bytes
 unfolding hex
 hex_is [] some h = absurd (cc)
 hex_is (b ∷ bytes) some h = ap bytes_of (hex_read (b ∷ bytes) h)
-
-pub rx_read : (r : Roster) (port : ℕ) (bytes : List ℕ) → step r.place ≡ true → are_declared r.ports ≡ true → has_number r.ports port ≡ true
-    → is_word bytes ≡ true → list_all is_byte bytes ≡ true
-    → line_says r (codes "rx " ++ (decimal port ++ (32 ∷ hex_of bytes))) ≡ Ok (Does (Rx port bytes))
-unfolding line_says
-rx_read r port bytes place all h some are =
-    let small = port_small r.ports port all h in
-    ap (all_say r) (rx_words (decimal port) (hex_of bytes) (decimal_word port small) (decimal_letters port small) (hex_word bytes some) (hex_letters bytes are))
-    ∙ rx_says r (decimal port) (hex_of bytes) place
-    ∙ ap (λ (x : Result ℕ LineWhy). after x (λ p. after (hex (hex_of bytes)) (λ b. Ok (Does (Rx p b))))) (port_number_read r.ports port all h)
-    ∙ ap (λ (x : Result (List ℕ) LineWhy). after x (λ b. Ok (Does (Rx port b)))) (hex_is bytes some are)
-
--- commands
-
-up_words : (name : Word) → is_word name ≡ true → letters name ≡ true → words (codes "cmd " ++ (codes "port up " ++ name)) ≡ codes "cmd" ∷ codes "port" ∷ codes "up" ∷ name ∷ []
-up_words name some l =
-    words_more (codes "cmd") (codes "port up " ++ name) refl refl
-    ∙ ap (λ (ws : List Word). codes "cmd" ∷ ws) (words_more (codes "port") (codes "up " ++ name) refl refl)
-    ∙ ap (λ (ws : List Word). codes "cmd" ∷ codes "port" ∷ ws) (words_more (codes "up") name refl refl)
-    ∙ ap (λ (ws : List Word). codes "cmd" ∷ codes "port" ∷ codes "up" ∷ ws) (words_last name some l)
-
-up_says : (r : Roster) (name : Word) → step r.place ≡ true
-    → all_say r (codes "cmd" ∷ codes "port" ∷ codes "up" ∷ name ∷ []) ≡ commanded (after (port_name r.ports name) (λ port. Ok (commands.PortUp port)))
-up_says r name place =
-    ap (λ (b : Bool). commanded (if b then after (port_name r.ports name) (λ port. Ok (commands.PortUp port)) else Err why.Place)) place
-
-pub up_read : (r : Roster) (port : ℕ) → step r.place ≡ true → are_declared r.ports ≡ true → has_number r.ports port ≡ true
-    → line_says r (codes "cmd " ++ (codes "port up " ++ name_of r.ports port)) ≡ Ok (Does (Cmd (commands.PortUp port)))
-unfolding line_says
-up_read r port place all h =
-    ap (all_say r) (up_words (name_of r.ports port) (name_word r.ports port all h) (name_of_letters r.ports port all h))
-    ∙ up_says r (name_of r.ports port) place
-    ∙ ap (λ (x : Result ℕ LineWhy). commanded (after x (λ p. Ok (commands.PortUp p)))) (port_name_read r.ports port all h)
-
--- the words after `fdb add`
-add_words : (address name vlan : Word) → is_word address ≡ true → letters address ≡ true → is_word name ≡ true → letters name ≡ true → is_word vlan ≡ true → letters vlan ≡ true
-    → words (address ++ (codes " dev " ++ (name ++ (codes " vlan " ++ (vlan ++ (32 ∷ codes "static"))))))
-    ≡ address ∷ codes "dev" ∷ name ∷ codes "vlan" ∷ vlan ∷ codes "static" ∷ []
-add_words address name vlan a b c d e f =
-    words_more address (codes "dev " ++ (name ++ (codes " vlan " ++ (vlan ++ (32 ∷ codes "static"))))) a b
-    ∙ ap (λ (ws : List Word). address ∷ ws) (words_more (codes "dev") (name ++ (codes " vlan " ++ (vlan ++ (32 ∷ codes "static")))) refl refl)
-    ∙ ap (λ (ws : List Word). address ∷ codes "dev" ∷ ws) (words_more name (codes "vlan " ++ (vlan ++ (32 ∷ codes "static"))) c d)
-    ∙ ap (λ (ws : List Word). address ∷ codes "dev" ∷ name ∷ ws) (words_more (codes "vlan") (vlan ++ (32 ∷ codes "static")) refl refl)
-    ∙ ap (λ (ws : List Word). address ∷ codes "dev" ∷ name ∷ codes "vlan" ∷ ws) (words_more vlan (codes "static") e f)
-
-all_words : (rest : List ℕ) (ws : List Word) → words rest ≡ ws → words (codes "cmd " ++ (codes "fdb add " ++ rest)) ≡ codes "cmd" ∷ codes "fdb" ∷ codes "add" ∷ ws
-all_words rest ws h =
-    words_more (codes "cmd") (codes "fdb add " ++ rest) refl refl
-    ∙ ap (λ (vs : List Word). codes "cmd" ∷ vs) (words_more (codes "fdb") (codes "add " ++ rest) refl refl)
-    ∙ ap (λ (vs : List Word). codes "cmd" ∷ codes "fdb" ∷ vs) (words_more (codes "add") rest refl refl)
-    ∙ ap (λ (vs : List Word). codes "cmd" ∷ codes "fdb" ∷ codes "add" ∷ vs) h
-
-abbrev add_of : Result ℕ LineWhy → Result ℕ LineWhy → Result ℕ LineWhy → Result Said LineWhy
-add_of address port vid = commanded (after address (λ a. after port (λ p. after vid (λ v. Ok (commands.FdbAdd v a p Static)))))
-
-add_says : (r : Roster) (address name vlan : Word) → step r.place ≡ true
-    → all_say r (codes "cmd" ∷ codes "fdb" ∷ codes "add" ∷ address ∷ codes "dev" ∷ name ∷ codes "vlan" ∷ vlan ∷ codes "static" ∷ [])
-    ≡ add_of (mac address) (port_name r.ports name) (number 1 4094 vlan)
-add_says r address name vlan place =
-    ap (λ (b : Bool). commanded (if b then after (mac address) (λ a. after (port_name r.ports name) (λ p. after (number 1 4094 vlan) (λ v. Ok (commands.FdbAdd v a p Static)))) else Err why.Place)) place
-
-pub add_read : (r : Roster) (vid address port : ℕ) → step r.place ≡ true → are_declared r.ports ≡ true
-    → nat_le 1 vid ≡ true → nat_le vid 4094 ≡ true → address < 2 ^ 48 → (is_multicast address || address == 0) ≡ false → has_number r.ports port ≡ true
-    → line_says r (codes "cmd " ++ (codes "fdb add " ++ (mac_text address ++ (codes " dev " ++ (name_of r.ports port ++ (codes " vlan " ++ (decimal vid ++ (32 ∷ codes "static"))))))))
-    ≡ Ok (Does (Cmd (commands.FdbAdd vid address port Static)))
-unfolding line_says
-add_read r vid address port place all low high a b h =
-    let small : vid < 2 ^ 64 = small_vid vid high in
-    let name = name_of r.ports port in
-    ap (all_say r) (all_words (mac_text address ++ (codes " dev " ++ (name ++ (codes " vlan " ++ (decimal vid ++ (32 ∷ codes "static")))))) _ (add_words (mac_text address) name (decimal vid)
-    refl (mac_letters address) (name_word r.ports port all h) (name_of_letters r.ports port all h) (decimal_word vid small) (decimal_letters vid small)))
-    ∙ add_says r (mac_text address) name (decimal vid) place
-    ∙ ap (λ (x : Result ℕ LineWhy). add_of x (port_name r.ports name) (number 1 4094 (decimal vid))) (mac_read address a b)
-    ∙ ap (λ (x : Result ℕ LineWhy). add_of (Ok address) x (number 1 4094 (decimal vid))) (port_name_read r.ports port all h)
-    ∙ ap (λ (x : Result ℕ LineWhy). add_of (Ok address) (Ok port) x) (number_read 1 4094 vid small low high)
-  where
-    small_vid : (vid : ℕ) → nat_le vid 4094 ≡ true → vid < 2 ^ 64
-    small_vid vid h = let below : vid ≤ 4094 = grind arith in omega arith
-
--- steps without operands
-
-pub serve_read : (r : Roster) → step r.place ≡ true → line_says r (codes "serve") ≡ Ok (Does Serve)
-unfolding line_says
-serve_read r place = ap (λ (b : Bool). if b then Ok (Does Serve) else Err why.Place) place
-
-pub publish_read : (r : Roster) → step r.place ≡ true → line_says r (codes "publish") ≡ Ok (Does Publish)
-unfolding line_says
-publish_read r place = ap (λ (b : Bool). if b then Ok (Does Publish) else Err why.Place) place
-
--- all steps
 
 shown_some : (bytes : List ℕ) → is_word (shown bytes) ≡ true
 shown_some [] = refl
@@ -155,39 +99,194 @@ shown_bytes : (bytes : List ℕ) → list_all is_byte bytes ≡ true → list_al
 shown_bytes [] h = refl
 shown_bytes (b ∷ bytes) h = take_all (longest_frame + 1) (b ∷ bytes) h
 
-never : (a b c d : Bool) → (a && (b && (c && (d && false)))) ≡ true → ⊥
-never true true true true h = absurd (cc)
-never true true true false h = absurd (cc)
-never true true false d h = absurd (cc)
-never true false c d h = absurd (cc)
-never false b c d h = absurd (cc)
+-- The forms: each names its words, and what its operands give.
 
-no_line : (r : Roster) (vid address port : ℕ) → (nat_le 1 vid && (nat_le vid 4094 && (is_station address && (has_number r.ports port && false)))) ≡ true → ⊥
-no_line r vid address port h = never (nat_le 1 vid) (nat_le vid 4094) (is_station address) (has_number r.ports port) h
+rx_read : (r : Roster) (port : ℕ) (bytes : List ℕ) → step r.place ≡ true → are_declared r.ports ≡ true → has_number r.ports port ≡ true
+    → is_word bytes ≡ true → list_all is_byte bytes ≡ true → line_says r (codes "rx " ++ (decimal port ++ (32 ∷ hex_of bytes))) ≡ Ok (Does (Rx port bytes))
+rx_read r port bytes place all h some are =
+    let small = port_small r.ports port all h in
+    says r (codes "rx" ∷ decimal port ∷ hex_of bytes ∷ []) (λ x. x)
+    (two (λ p b. Does (Rx p b)) (port_number_read r.ports port all h) (hex_is bytes some are))
+    place (both _ _ (decimal_proper port small) (both _ _ (hex_proper bytes some are) refl)) refl refl
 
-command_read : (r : Roster) (command : Command) → step r.place ≡ true → are_declared r.ports ≡ true → command_has_line r.ports command ≡ true
-    → line_says r (codes "cmd " ++ command_text r.ports command) ≡ Ok (Does (Cmd command))
-command_read r (commands.PortUp port) place declared h = up_read r port place declared h
-command_read r (commands.FdbAdd vid address port Static) place declared h =
-    let high = second_so _ _ h in
-    let address_is = second_so _ _ high in
-    let station = first_so _ _ address_is in
-    add_read r vid address port place declared (first_so _ _ h) (first_so _ _ high)
-    (small (2 ^ 48) address (first_so _ _ station)) (not-true _ (second_so _ _ station)) (first_so _ _ (second_so _ _ address_is))
+now_read : (r : Roster) (moment : ℕ) → step r.place ≡ true → nat_le moment last_moment ≡ true → line_says r (codes "now " ++ decimal moment) ≡ Ok (Does (Now moment))
+now_read r moment place h =
+    let small = below last_moment moment (omega arith) h in
+    says r (codes "now" ∷ decimal moment ∷ []) (λ x. x)
+    (one (λ m. Does (Now m)) (number_read 0 last_moment moment small (least moment) h))
+    place (both _ _ (decimal_proper moment small) refl) refl refl
   where
-    small : (m n : ℕ) → nat_lt n m ≡ true → n < m
-    small m n h = grind arith
-command_read r (commands.FdbAdd vid address port Local) place declared h = absurd (no_line r vid address port h)
-command_read r (commands.FdbAdd vid address port Learned) place declared h = absurd (no_line r vid address port h)
-command_read r (commands.FdbAdd vid address port Extern) place declared h = absurd (no_line r vid address port h)
+    least : (n : ℕ) → nat_le 0 n ≡ true
+    least n = grind arith
+
+serve_read : (r : Roster) → step r.place ≡ true → line_says r (codes "serve") ≡ Ok (Does Serve)
+serve_read r place = says r (codes "serve" ∷ []) (λ x. x) {x = Ok (Does Serve)} refl place refl refl refl
+
+publish_read : (r : Roster) → step r.place ≡ true → line_says r (codes "publish") ≡ Ok (Does Publish)
+publish_read r place = says r (codes "publish" ∷ []) (λ x. x) {x = Ok (Does Publish)} refl place refl refl refl
+
+-- commands
+
+-- the command's line is read back
+abbrev Reads : Roster → Command → Type 0
+Reads r c = line_says r (codes "cmd " ++ command_text r.ports c) ≡ Ok (Does (Cmd c))
+
+up_read : (r : Roster) (port : ℕ) → step r.place ≡ true → are_declared r.ports ≡ true → has_number r.ports port ≡ true → Reads r (commands.PortUp port)
+up_read r port place all h =
+    says r (codes "cmd" ∷ codes "port" ∷ codes "up" ∷ name_of r.ports port ∷ []) commanded
+    (one (λ p. commands.PortUp p) (port_name_read r.ports port all h))
+    place (both _ _ (name_proper r.ports port all h) refl) refl refl
+
+down_read : (r : Roster) (port : ℕ) → step r.place ≡ true → are_declared r.ports ≡ true → has_number r.ports port ≡ true → Reads r (commands.PortDown port)
+down_read r port place all h =
+    says r (codes "cmd" ∷ codes "port" ∷ codes "down" ∷ name_of r.ports port ∷ []) commanded
+    (one (λ p. commands.PortDown p) (port_name_read r.ports port all h))
+    place (both _ _ (name_proper r.ports port all h) refl) refl refl
+
+-- what is said of each flag that has a name
+by_flag : (P : ℕ → Type 0) → P 1 → P 2 → P 4 → P 8 → P 16 → P 32 → (f : ℕ) → is_flag f ≡ true → P f
+by_flag P a b c d e g f h =
+    here 1 a _ (here 2 b _ (here 4 c _ (here 8 d _ (here 16 e _ (here 32 g false (λ none. absurd (cc))))))) h
+  where
+    here : (n : ℕ) → P n → (more : Bool) → (more ≡ true → P f) → (n == f || more) ≡ true → P f
+    here n this more later h = by (n == f) refl h
+      where
+        by : (b : Bool) → (n == f) ≡ b → (b || more) ≡ true → P f
+        by true is h = subst P (eqb-true _ _ is) this
+        by false is h = later h
+
+linked : (r : Roster) (port f : ℕ) (on : Bool) → step r.place ≡ true → are_declared r.ports ≡ true → has_number r.ports port ≡ true
+    → list_all is_proper (name_of_flag flags f ∷ switch_word on ∷ []) ≡ true → flag (name_of_flag flags f) ≡ Ok f
+    → all_say r (codes "cmd" ∷ codes "link" ∷ name_of r.ports port ∷ name_of_flag flags f ∷ switch_word on ∷ [])
+    ≡ commanded (if step r.place then after (port_name r.ports (name_of r.ports port)) (λ p. after (flag (name_of_flag flags f)) (λ g. Ok (commands.Link p g on))) else Err why.Place)
+    → Reads r (commands.Link port f on)
+linked r port f on place all h proper gives form =
+    says r (codes "cmd" ∷ codes "link" ∷ name_of r.ports port ∷ name_of_flag flags f ∷ switch_word on ∷ []) commanded
+    (two (λ p g. commands.Link p g on) (port_name_read r.ports port all h) gives)
+    place (both _ _ (name_proper r.ports port all h) proper) refl form
+
+link_read : (r : Roster) (port f : ℕ) (on : Bool) → step r.place ≡ true → are_declared r.ports ≡ true → has_number r.ports port ≡ true → is_flag f ≡ true
+    → Reads r (commands.Link port f on)
+unfolding flag
+link_read r port f true place all h named =
+    let to = λ (f : ℕ). linked r port f true place all h in
+    by_flag (λ f. Reads r (commands.Link port f true))
+    (to 1 refl refl refl) (to 2 refl refl refl) (to 4 refl refl refl) (to 8 refl refl refl) (to 16 refl refl refl) (to 32 refl refl refl) f named
+link_read r port f false place all h named =
+    let to = λ (f : ℕ). linked r port f false place all h in
+    by_flag (λ f. Reads r (commands.Link port f false))
+    (to 1 refl refl refl) (to 2 refl refl refl) (to 4 refl refl refl) (to 8 refl refl refl) (to 16 refl refl refl) (to 32 refl refl refl) f named
+
+vlan_add_read : (r : Roster) (port vid : ℕ) (untagged pvid : Bool) → step r.place ≡ true → are_declared r.ports ≡ true → is_vid vid ≡ true → is_device r.ports port ≡ true
+    → Reads r (commands.VlanAdd port vid untagged pvid)
+vlan_add_read r port vid false false place all v h =
+    ap (λ (w : List ℕ). line_says r (codes "cmd vlan add vid " ++ (decimal vid ++ (codes " dev " ++ w)))) (append-nil (device_text r.ports port))
+    ∙ says r (codes "cmd" ∷ codes "vlan" ∷ codes "add" ∷ codes "vid" ∷ decimal vid ∷ codes "dev" ∷ device_text r.ports port ∷ []) commanded
+    (two (λ v p. commands.VlanAdd p v false false) (vid_read vid v) (device_read r.ports port all h))
+    place (both _ _ (vid_proper vid v) (both _ _ (device_proper r.ports port all h) refl)) refl refl
+vlan_add_read r port vid false true place all v h =
+    says r (codes "cmd" ∷ codes "vlan" ∷ codes "add" ∷ codes "vid" ∷ decimal vid ∷ codes "dev" ∷ device_text r.ports port ∷ codes "pvid" ∷ []) commanded
+    (two (λ v p. commands.VlanAdd p v false true) (vid_read vid v) (device_read r.ports port all h))
+    place (both _ _ (vid_proper vid v) (both _ _ (device_proper r.ports port all h) refl)) refl refl
+vlan_add_read r port vid true false place all v h =
+    says r (codes "cmd" ∷ codes "vlan" ∷ codes "add" ∷ codes "vid" ∷ decimal vid ∷ codes "dev" ∷ device_text r.ports port ∷ codes "untagged" ∷ []) commanded
+    (two (λ v p. commands.VlanAdd p v true false) (vid_read vid v) (device_read r.ports port all h))
+    place (both _ _ (vid_proper vid v) (both _ _ (device_proper r.ports port all h) refl)) refl refl
+vlan_add_read r port vid true true place all v h =
+    says r (codes "cmd" ∷ codes "vlan" ∷ codes "add" ∷ codes "vid" ∷ decimal vid ∷ codes "dev" ∷ device_text r.ports port ∷ codes "pvid" ∷ codes "untagged" ∷ []) commanded
+    (two (λ v p. commands.VlanAdd p v true true) (vid_read vid v) (device_read r.ports port all h))
+    place (both _ _ (vid_proper vid v) (both _ _ (device_proper r.ports port all h) refl)) refl refl
+
+vlan_del_read : (r : Roster) (port vid : ℕ) → step r.place ≡ true → are_declared r.ports ≡ true → is_vid vid ≡ true → is_device r.ports port ≡ true
+    → Reads r (commands.VlanDel port vid)
+vlan_del_read r port vid place all v h =
+    says r (codes "cmd" ∷ codes "vlan" ∷ codes "del" ∷ codes "vid" ∷ decimal vid ∷ codes "dev" ∷ device_text r.ports port ∷ []) commanded
+    (two (λ v p. commands.VlanDel p v) (vid_read vid v) (device_read r.ports port all h))
+    place (both _ _ (vid_proper vid v) (both _ _ (device_proper r.ports port all h) refl)) refl refl
+
+-- entries
+
+-- a row before that fits only by one word, and not by a later one, isn't the line's
+past : (b : Bool) (row other : Option (Row Command)) → (if b && false then row else other) ≡ other
+past true row other = refl
+past false row other = refl
+
+local_read : (r : Roster) (vid address port : ℕ) → step r.place ≡ true → is_vid vid ≡ true → is_station address ≡ true → (port == host) ≡ true
+    → Reads r (commands.FdbAdd vid address port Local)
+local_read r vid address port place v a is = subst (λ (p : ℕ). Reads r (commands.FdbAdd vid address p Local)) (sym (eqb-true _ _ is)) at_host
+  where
+    at_host : Reads r (commands.FdbAdd vid address host Local)
+    at_host =
+        says r (codes "cmd" ∷ codes "fdb" ∷ codes "add" ∷ mac_text address ∷ codes "dev" ∷ host_name ∷ codes "vlan" ∷ decimal vid ∷ codes "local" ∷ []) commanded
+        (two (λ a v. commands.FdbAdd v a host Local) (station_read address a) (vid_read vid v))
+        place (both _ _ (mac_proper address) (both _ _ (vid_proper vid v) refl)) refl refl
+
+abbrev entry_words : Word → Word → Word → Kind → List Word
+entry_words address name vlan kind = codes "cmd" ∷ codes "fdb" ∷ codes "add" ∷ address ∷ codes "dev" ∷ name ∷ codes "vlan" ∷ vlan ∷ kind_word kind ∷ []
+
+-- the entry of a port, where its line's form is known
+entry_read : (r : Roster) (vid address port : ℕ) (kind : Kind) → step r.place ≡ true → are_declared r.ports ≡ true → is_vid vid ≡ true → is_station address ≡ true
+    → has_number r.ports port ≡ true → is_proper (kind_word kind) ≡ true
+    → ((a n v : Word) → all_say r (entry_words a n v kind)
+    ≡ commanded (if step r.place then after (mac a) (λ x. after (port_name r.ports n) (λ p. after (number 1 4094 v) (λ u. Ok (commands.FdbAdd u x p kind)))) else Err why.Place))
+    → Reads r (commands.FdbAdd vid address port kind)
+entry_read r vid address port kind place all v a h k form =
+    ap (λ (b : Bool). line_says r (codes "cmd fdb add " ++ (mac_text address ++ (codes " dev " ++ ((if b then host_name else name_of r.ports port) ++ (codes " vlan " ++ (decimal vid ++ (32 ∷ kind_word kind))))))))
+    (not_host r.ports port all h)
+    ∙ says r (entry_words (mac_text address) (name_of r.ports port) (decimal vid) kind) commanded
+    (three (λ a p v. commands.FdbAdd v a p kind) (station_read address a) (port_name_read r.ports port all h) (vid_read vid v))
+    place (both _ _ (mac_proper address) (both _ _ (name_proper r.ports port all h) (both _ _ (vid_proper vid v) (both _ _ k refl)))) refl (form _ _ _)
+
+static_words : (r : Roster) (a n v : Word) → all_say r (entry_words a n v Static)
+    ≡ commanded (if step r.place then after (mac a) (λ x. after (port_name r.ports n) (λ p. after (number 1 4094 v) (λ u. Ok (commands.FdbAdd u x p Static)))) else Err why.Place)
+static_words r a n v = ap (λ (o : Option (Row Command)). commanded (said r o (λ i. slice_index_or (entry_words a n v Static) (i + 1) []))) (past (bytes_eq n host_name) _ _)
+
+extern_words : (r : Roster) (a n v : Word) → all_say r (entry_words a n v Extern)
+    ≡ commanded (if step r.place then after (mac a) (λ x. after (port_name r.ports n) (λ p. after (number 1 4094 v) (λ u. Ok (commands.FdbAdd u x p Extern)))) else Err why.Place)
+extern_words r a n v = ap (λ (o : Option (Row Command)). commanded (said r o (λ i. slice_index_or (entry_words a n v Extern) (i + 1) []))) (past (bytes_eq n host_name) _ _)
+
+fdb_del_read : (r : Roster) (vid address : ℕ) → step r.place ≡ true → is_vid vid ≡ true → is_station address ≡ true → Reads r (commands.FdbDel vid address)
+fdb_del_read r vid address place v a =
+    says r (codes "cmd" ∷ codes "fdb" ∷ codes "del" ∷ mac_text address ∷ codes "vlan" ∷ decimal vid ∷ []) commanded
+    (two (λ a v. commands.FdbDel v a) (station_read address a) (vid_read vid v))
+    place (both _ _ (mac_proper address) (both _ _ (vid_proper vid v) refl)) refl refl
+
+ageing_read : (r : Roster) (seconds : ℕ) → step r.place ≡ true → nat_le 1 seconds ≡ true → nat_le seconds most_seconds ≡ true → Reads r (commands.Ageing seconds)
+ageing_read r seconds place low high =
+    let small = below most_seconds seconds (omega arith) high in
+    says r (codes "cmd" ∷ codes "ageing" ∷ decimal seconds ∷ []) commanded
+    (one (λ s. commands.Ageing s) (number_read 1 most_seconds seconds small low high))
+    place (both _ _ (decimal_proper seconds small) refl) refl refl
+
+-- all steps
+
+entries_read : (r : Roster) (vid address port : ℕ) (kind : Kind) → step r.place ≡ true → are_declared r.ports ≡ true → is_vid vid ≡ true → is_station address ≡ true
+    → kind_has_line r.ports port kind ≡ true → Reads r (commands.FdbAdd vid address port kind)
+entries_read r vid address port Local place all v a h = local_read r vid address port place v a h
+entries_read r vid address port Static place all v a h = entry_read r vid address port Static place all v a h refl (static_words r)
+entries_read r vid address port Extern place all v a h = entry_read r vid address port Extern place all v a h refl (extern_words r)
+entries_read r vid address port Learned place all v a h = absurd (cc)
+
+command_read : (r : Roster) (command : Command) → step r.place ≡ true → are_declared r.ports ≡ true → command_has_line r.ports command ≡ true → Reads r command
+command_read r (commands.PortUp port) place all h = up_read r port place all h
+command_read r (commands.PortDown port) place all h = down_read r port place all h
+command_read r (commands.Link port f on) place all h = link_read r port f on place all (first_so _ _ h) (second_so _ _ h)
+command_read r (commands.VlanAdd port vid untagged pvid) place all h = vlan_add_read r port vid untagged pvid place all (first_so _ _ h) (second_so _ _ h)
+command_read r (commands.VlanDel port vid) place all h = vlan_del_read r port vid place all (first_so _ _ h) (second_so _ _ h)
+command_read r (commands.FdbAdd vid address port kind) place all h =
+    let more = second_so (is_vid vid) _ h in
+    entries_read r vid address port kind place all (first_so _ _ h) (first_so (is_station address) _ more) (second_so (is_station address) _ more)
+command_read r (commands.FdbDel vid address) place all h = fdb_del_read r vid address place (first_so _ _ h) (second_so _ _ h)
+command_read r (commands.Ageing seconds) place all h = ageing_read r seconds place (first_so _ _ h) (second_so _ _ h)
 
 pub step_read : (r : Roster) (s : Step) → step r.place ≡ true → are_declared r.ports ≡ true → has_line r.ports s ≡ true
     → line_says r (step_words r.ports s) ≡ Ok (Does (given s))
-step_read r (Rx port bytes) place declared h =
-    rx_read r port (shown bytes) place declared (first_so _ _ h) (shown_some bytes) (shown_bytes bytes (second_so _ _ h))
-step_read r (Cmd command) place declared h = command_read r command place declared h
-step_read r Serve place declared h = serve_read r place
-step_read r Publish place declared h = publish_read r place
+step_read r (Rx port bytes) place all h =
+    rx_read r port (shown bytes) place all (first_so _ _ h) (shown_some bytes) (shown_bytes bytes (second_so _ _ h))
+step_read r (Cmd command) place all h = command_read r command place all h
+step_read r (Now moment) place all h = now_read r moment place h
+step_read r Serve place all h = serve_read r place
+step_read r Publish place all h = publish_read r place
 
 -- frames that a line shows whole, and those that it doesn't
 
@@ -210,6 +309,7 @@ given_whole (Rx port bytes) h = ap (λ (b : List ℕ). Rx port b) (shown_whole b
     few : (n m : ℕ) → nat_le n m ≡ true → n ≤ m
     few n m h = grind arith
 given_whole (Cmd command) h = refl
+given_whole (Now moment) h = refl
 given_whole Serve h = refl
 given_whole Publish h = refl
 

@@ -1,5 +1,5 @@
 -- Declared ports are read back from their numbers and their names.
-use Rattle.std.proofs.Common.{◌≡◌, ℕ, ◌^◌, ◌<◌, ◌≤◌, ◌==◌, nat_lt, nat_le, Bool, true, false, not, ◌&&◌, ◌||◌, if◌then◌else◌, List, [], ◌∷◌, length, refl, sym, ◌∙◌, ap, arith}
+use Rattle.std.proofs.Common.{◌≡◌, ℕ, ◌^◌, ◌<◌, ◌≤◌, ◌==◌, nat_lt, nat_le, Bool, true, false, not, ◌&&◌, ◌||◌, if◌then◌else◌, List, [], ◌∷◌, length, refl, sym, ◌∙◌, ap, subst, arith}
 use Rattle.std.specs.Cmp.{first_so, second_so}
 use Rattle.std.specs.Fmt.{decimal}
 use Rattle.std.specs.List.{list_all}
@@ -11,14 +11,16 @@ use Rattle.std.specs.Str.{bytes_eq}
 use Rattle.std.proofs.lemmas.Bool.{eqb-true, not-true}
 use Rattle.std.proofs.lemmas.Slice.Eq.{bytes_eq-Decides}
 use Rattle.br_model.specs.declared.scenario.LineWhy.TheVariants as why
-use Rattle.br_model.specs.Operands.{number, number_in, port_number, port_name, found, unless}
-use Rattle.br_model.specs.Roster.{Entry, has_number, port_named, is_name, is_name_byte, longest_name}
-use Rattle.br_model.specs.ScenarioText.{name_of}
+use Rattle.br_model.specs.Domains.{host}
+use Rattle.br_model.specs.Operands.{number, number_in, port_number, port_name, device, found, unless}
+use Rattle.br_model.specs.Roster.{Entry, has_number, port_named, is_name, is_name_byte, host_name, longest_name}
+use Rattle.br_model.specs.ScenarioText.{name_of, device_text}
 use Rattle.br_model.specs.Words.{Word, is_word}
+use Rattle.br_model.specs.WrittenSteps.{is_device}
 use Rattle.br_model.specs.Declarations.{are_declared, fits_beside}
 use Rattle.br_model.proofs.Words.{equal}
 use Rattle.br_model.proofs.WrittenNumbers.{decimal_read}
-use Rattle.br_model.proofs.WrittenWords.{is_letter, letters, both}
+use Rattle.br_model.proofs.WrittenWords.{is_letter, letters, is_proper, both}
 
 -- numbers in a range
 
@@ -40,6 +42,7 @@ among P e ports port here there h = by (e.port == port) refl
 
 -- what is known of a first entry
 record Fits (e : Entry) (ports : List Entry) : Type 0 where
+  low : nat_le 1 e.port ≡ true
   high : nat_le e.port 63 ≡ true
   named : is_name e.name ≡ true
   alone : is_some (port_named ports e.name) ≡ false
@@ -52,6 +55,7 @@ fits e ports h =
     let from_name = second_so (nat_le e.port 63) (is_name e.name && (not (has_number ports e.port) && not (is_some (port_named ports e.name)))) from_high in
     let news = second_so (is_name e.name) (not (has_number ports e.port) && not (is_some (port_named ports e.name))) from_name in
     record {
+      low = first_so (nat_le 1 e.port) _ all;
       high = first_so (nat_le e.port 63) _ from_high;
       named = first_so (is_name e.name) _ from_name;
       alone = not-true _ (second_so (not (has_number ports e.port)) _ news);
@@ -64,6 +68,13 @@ at_most (e ∷ ports) port all h =
     among (nat_le port 63 ≡ true) e ports port
     (λ same. ap (λ (n : ℕ). nat_le n 63) (sym same) ∙ (fits e ports all).high)
     (at_most ports port (fits e ports all).rest) h
+
+at_least : (ports : List Entry) (port : ℕ) → are_declared ports ≡ true → has_number ports port ≡ true → nat_le 1 port ≡ true
+at_least [] port all h = absurd (cc)
+at_least (e ∷ ports) port all h =
+    among (nat_le 1 port ≡ true) e ports port
+    (λ same. ap (λ (n : ℕ). nat_le 1 n) (sym same) ∙ (fits e ports all).low)
+    (at_least ports port (fits e ports all).rest) h
 
 small_port : (port : ℕ) → nat_le port 63 ≡ true → port < 2 ^ 64
 small_port port h =
@@ -171,11 +182,48 @@ some_word : (w : Word) → nat_lt 0 (length w) ≡ true → is_word w ≡ true
 some_word [] h = h
 some_word (c ∷ w) h = refl
 
-pub name_word : (ports : List Entry) (port : ℕ) → are_declared ports ≡ true → has_number ports port ≡ true → is_word (name_of ports port) ≡ true
+name_word : (ports : List Entry) (port : ℕ) → are_declared ports ≡ true → has_number ports port ≡ true → is_word (name_of ports port) ≡ true
 name_word ports port all h = some_word _ (first_so _ _ (named_by ports port all h))
 
-pub name_of_letters : (ports : List Entry) (port : ℕ) → are_declared ports ≡ true → has_number ports port ≡ true → letters (name_of ports port) ≡ true
+name_of_letters : (ports : List Entry) (port : ℕ) → are_declared ports ≡ true → has_number ports port ≡ true → letters (name_of ports port) ≡ true
 name_of_letters ports port all h = by (name_of ports port) (named_by ports port all h)
   where
     by : (w : Word) → is_name w ≡ true → letters w ≡ true
     by w is = name_letters w (first_so _ _ (second_so (nat_le (length w) longest_name) _ (second_so (nat_lt 0 (length w)) _ is)))
+
+pub name_proper : (ports : List Entry) (port : ℕ) → are_declared ports ≡ true → has_number ports port ≡ true → is_proper (name_of ports port) ≡ true
+name_proper ports port all h = both _ _ (name_word ports port all h) (name_of_letters ports port all h)
+
+-- devices
+
+-- the host's number is no declared port's
+pub not_host : (ports : List Entry) (port : ℕ) → are_declared ports ≡ true → has_number ports port ≡ true → (port == host) ≡ false
+not_host ports port all h = above port (at_least ports port all h)
+  where
+    above : (port : ℕ) → nat_le 1 port ≡ true → (port == 0) ≡ false
+    above port h = grind arith
+
+-- nor is its name
+name_not_host : (w : Word) → is_name w ≡ true → bytes_eq w host_name ≡ false
+name_not_host w h = not-true _ (second_so (list_all is_name_byte w) _ (second_so (nat_le (length w) longest_name) _ (second_so (nat_lt 0 (length w)) _ h)))
+
+-- what is said of the host, and of each declared port by its name
+by_device : (P : ℕ → Word → Type 0) (ports : List Entry) (port : ℕ) → is_device ports port ≡ true
+    → P host host_name → (has_number ports port ≡ true → P port (name_of ports port)) → P port (device_text ports port)
+by_device P ports port h at_host at_port = by (port == host) refl h
+  where
+    by : (b : Bool) → (port == host) ≡ b → (b || has_number ports port) ≡ true → P port (if b then host_name else name_of ports port)
+    by true is h = subst (λ (n : ℕ). P n host_name) (sym (eqb-true _ _ is)) at_host
+    by false is h = at_port h
+
+pub device_read : (ports : List Entry) (port : ℕ) → are_declared ports ≡ true → is_device ports port ≡ true → device ports (device_text ports port) ≡ Ok port
+unfolding device
+device_read ports port all h =
+    by_device (λ p w. device ports w ≡ Ok p) ports port h refl
+    (λ there.
+    ap (λ (b : Bool). if b then Ok host else port_name ports (name_of ports port)) (name_not_host (name_of ports port) (named_by ports port all there))
+    ∙ port_name_read ports port all there)
+
+pub device_proper : (ports : List Entry) (port : ℕ) → are_declared ports ≡ true → is_device ports port ≡ true → is_proper (device_text ports port) ≡ true
+device_proper ports port all h =
+    by_device (λ p w. is_proper w ≡ true) ports port h refl (λ there. name_proper ports port all there)

@@ -10,7 +10,7 @@ use Rattle.std.proofs.lemmas.List.Sums.{fold-append}
 use Rattle.std.proofs.lemmas.List.Folds.{list_all-append}
 use Rattle.br_model.specs.Digits.{is_digit, digits_value, begins_with_zero, decimal_from, hex_digit, hex_of, nibble, byte_of, in_front, bytes_from_hex}
 use Rattle.br_model.specs.Words.{is_word}
-use Rattle.br_model.proofs.WrittenWords.{is_letter, letters, both}
+use Rattle.br_model.proofs.WrittenWords.{is_letter, letters, is_proper, both}
 
 -- decimal numbers
 
@@ -63,7 +63,7 @@ more n ds h m =
 numeral : (n : ℕ) → n < 2 ^ 64 → Numeral n (decimal n)
 numeral n h = decimal_by_steps Numeral one more n h
 
-pub decimal_word : (n : ℕ) → n < 2 ^ 64 → is_word (decimal n) ≡ true
+decimal_word : (n : ℕ) → n < 2 ^ 64 → is_word (decimal n) ≡ true
 decimal_word n h = (numeral n h).some
 
 digit_letter : (c : ℕ) → is_digit c ≡ true → is_letter c ≡ true
@@ -73,8 +73,11 @@ digit_letters : (w : List ℕ) → list_all is_digit w ≡ true → letters w �
 digit_letters [] h = refl
 digit_letters (c ∷ w) h = both _ _ (digit_letter c (first_so _ _ h)) (digit_letters w (second_so _ _ h))
 
-pub decimal_letters : (n : ℕ) → n < 2 ^ 64 → letters (decimal n) ≡ true
+decimal_letters : (n : ℕ) → n < 2 ^ 64 → letters (decimal n) ≡ true
 decimal_letters n h = digit_letters (decimal n) (numeral n h).digits
+
+pub decimal_proper : (n : ℕ) → n < 2 ^ 64 → is_proper (decimal n) ≡ true
+decimal_proper n h = both _ _ (decimal_word n h) (decimal_letters n h)
 
 pub decimal_read : (n : ℕ) → n < 2 ^ 64 → decimal_from (decimal n) ≡ Some n
 decimal_read n h =
@@ -130,7 +133,7 @@ pair_letters b rest h l =
     let low : b % 16 < 16 = omega arith in
     both _ _ (hex_digit_letter (b / 16) high) (both _ _ (hex_digit_letter (b % 16) low) l)
 
-pub hex_letters : (bytes : List ℕ) → list_all (λ b. nat_lt b 256) bytes ≡ true → letters (hex_of bytes) ≡ true
+hex_letters : (bytes : List ℕ) → list_all (λ b. nat_lt b 256) bytes ≡ true → letters (hex_of bytes) ≡ true
 hex_letters [] h = refl
 hex_letters (b ∷ bytes) h =
     let fits : b < 256 = small b (first_so _ _ h) in
@@ -139,6 +142,9 @@ hex_letters (b ∷ bytes) h =
     small : (b : ℕ) → nat_lt b 256 ≡ true → b < 256
     small b h = grind arith
 
-pub hex_word : (bytes : List ℕ) → is_word bytes ≡ true → is_word (hex_of bytes) ≡ true
+hex_word : (bytes : List ℕ) → is_word bytes ≡ true → is_word (hex_of bytes) ≡ true
 hex_word [] h = h
 hex_word (b ∷ bytes) h = refl
+
+pub hex_proper : (bytes : List ℕ) → is_word bytes ≡ true → list_all (λ b. nat_lt b 256) bytes ≡ true → is_proper (hex_of bytes) ≡ true
+hex_proper bytes some h = both _ _ (hex_word bytes some) (hex_letters bytes h)

@@ -54,3 +54,23 @@ words_last w some h =
     ap (λ (parts : List Word). map readable (filter is_word parts)) (split_last w h)
     ∙ ap (λ (b : Bool). map readable (cond b (w ∷ []) [])) some
     ∙ ap (λ (v : Word). v ∷ []) (reads_as w h)
+
+-- words joined by spaces
+
+abbrev pub is_proper : Word → Bool
+is_proper w = is_word w && letters w
+
+abbrev pub joined : List Word → List ℕ
+joined [] = []
+joined (w ∷ []) = w
+joined (w ∷ v ∷ ws) = w ++ 32 ∷ joined (v ∷ ws)
+
+pub words_joined : (ws : List Word) → list_all is_proper ws ≡ true → words (joined ws) ≡ ws
+words_joined [] h = refl
+words_joined (w ∷ []) h =
+    let proper : is_proper w ≡ true = first_so _ _ h in
+    words_last w (first_so (is_word w) (letters w) proper) (second_so (is_word w) (letters w) proper)
+words_joined (w ∷ v ∷ ws) h =
+    let proper : is_proper w ≡ true = first_so (is_proper w) (list_all is_proper (v ∷ ws)) h in
+    words_more w (joined (v ∷ ws)) (first_so (is_word w) (letters w) proper) (second_so (is_word w) (letters w) proper)
+    ∙ ap (λ (us : List Word). w ∷ us) (words_joined (v ∷ ws) (second_so (is_proper w) (list_all is_proper (v ∷ ws)) h))

@@ -1,5 +1,5 @@
 -- Digits: decimal numbers, hexadecimal bytes and addresses as words spell them.
--- Source: this profile; addresses are spelled as IEEE 802-2014 section 8.1 and iproute2 do, with colons.
+-- Source: this profile; addresses are spelled as iproute2 spells them, with colons.
 use Rattle.std.specs.Prelude.{ℕ, ◌+◌, ◌-◌, ◌*◌, ◌/◌, ◌%◌, ◌==◌, nat_lt, nat_le, Bool, false, not, ◌&&◌, ◌||◌, if◌then◌else◌, List, [], ◌∷◌, length}
 use Rattle.std.specs.List.{flat_map, fold, list_all}
 use Rattle.std.specs.declared.option.Option.{Option}

@@ -22,14 +22,22 @@ all_ports = range_with_len 0 64
 unfoldable pub egress_ports : Table → ℕ → ℕ → Head → McastMsg → List ℕ
 egress_ports t port vid head msg = filter (λ q. has nat_cmp (targets t vid head msg) q && may t port q vid) all_ports
 
+abbrev pub ports_in : Table → ℕ → Option ℕ → Head → McastMsg → List ℕ
+ports_in t port None head msg = []
+ports_in t port (Some vid) head msg = egress_ports t port vid head msg
+
+-- the ports that the frame leaves, ascending
+unfoldable pub ports_out : Table → ℕ → Head → McastMsg → List ℕ
+ports_out t port head msg = if to_tree t port head then [] else ports_in t port (admit t port head) head msg
+
 -- the tag with which the VLAN's frames leave the port
 abbrev pub tag_at : Table → ℕ → ℕ → Option ℕ
 tag_at t port vid = if untagged t port vid then None else Some vid
 
-abbrev pub leave_in : Table → ℕ → Option ℕ → List ℕ → Head → List (ℕ × List ℕ)
-leave_in t port None bytes head = []
-leave_in t port (Some vid) bytes head = map (λ q. (q, dressed bytes head (tag_at t q vid))) (egress_ports t port vid head (message bytes head))
+abbrev pub dressed_in : Table → Option ℕ → List ℕ → List ℕ → Head → List (ℕ × List ℕ)
+dressed_in t None ports bytes head = []
+dressed_in t (Some vid) ports bytes head = map (λ q. (q, dressed bytes head (tag_at t q vid))) ports
 
 -- each port that the frame leaves, ascending, with its bytes there
 unfoldable pub leave : Table → ℕ → List ℕ → Head → List (ℕ × List ℕ)
-leave t port bytes head = if to_tree t port head then [] else leave_in t port (admit t port head) bytes head
+leave t port bytes head = dressed_in t (admit t port head) (ports_out t port head (message bytes head)) bytes head

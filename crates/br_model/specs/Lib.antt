@@ -3,12 +3,12 @@ pub mod Digits
 pub mod Maps
 pub mod Domains
 pub mod Setup
-pub mod Limits
 pub mod DomainPorts
 pub mod Change
 pub mod Groups
 pub mod GroupPairs
 pub mod Table
+pub mod Limits
 pub mod Cut
 pub mod Applying
 pub mod Frames
@@ -20,6 +20,7 @@ pub mod MldHeaders
 pub mod Records
 pub mod McastMessages
 pub mod Bpdus
+pub mod Captures
 pub mod Tree
 pub mod TreeVectors
 pub mod TreeTimers
@@ -32,7 +33,12 @@ pub mod Admission
 pub mod Targets
 pub mod Eligible
 pub mod Leave
+pub mod Class
+pub mod Shares
 pub mod Control
+pub mod Learning
+pub mod Ageing
+pub mod Course
 pub mod Commands
 pub mod Reaction
 pub mod World
@@ -42,6 +48,7 @@ pub mod Steps
 pub mod Words
 pub mod Roster
 pub mod Declarations
+pub mod FlagWords
 pub mod Operands
 pub mod Forms
 pub mod CommandForms
@@ -54,5 +61,7 @@ pub mod Runs
 pub mod Outcomes
 pub mod WholeLines
 pub mod WorkedRows
+pub mod WorkedVlans
+pub mod WorkedAddresses
 pub mod Readings
 pub mod WorkedFrames

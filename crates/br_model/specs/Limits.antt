@@ -1,11 +1,48 @@
 -- What a bridge and a run hold at most.
 -- Source: this profile.
-use Rattle.std.specs.Prelude.{ℕ}
+use Rattle.std.specs.Prelude.{ℕ, nat_lt, Bool, true, ◌&&◌, ◌||◌, List, [], ◌∷◌, length}
+use Rattle.std.specs.Option.{is_some}
+use Rattle.br_model.specs.declared.change.Change.{Change}
+use Rattle.br_model.specs.declared.change.Change.TheVariants.{PortUp, PortDown, SetFlags, SetState, VlanAdd, VlanDel, GroupJoin, GroupPart, Router, Querier, Snoop, Stp, AddrPut, AddrDel}
+use Rattle.br_model.specs.GroupPairs.{has_room}
+use Rattle.br_model.specs.Maps.{pair_cmp, get}
+use Rattle.br_model.specs.Table.{Table, apply}
 
--- bytes that are read of an input
+-- bytes that are read of an input: 2^28
 abbrev pub most_bytes : ℕ
-most_bytes = 65536
+most_bytes = 268435456
 
 -- changes of a run
 abbrev pub most_changes : ℕ
 most_changes = 1048576
+
+-- frames that wait
+abbrev pub most_waiting : ℕ
+most_waiting = 4096
+
+-- address entries
+abbrev pub most_addresses : ℕ
+most_addresses = 16384
+
+-- Whether the table holds its limits after the change: an address that is there may move, and a group that is there may have
+-- more members; a new one wants room.
+abbrev pub fits : Table → Change → Bool
+fits t (PortUp port) = true
+fits t (PortDown port) = true
+fits t (SetFlags port flags) = true
+fits t (SetState port state) = true
+fits t (VlanAdd port vid untagged pvid) = true
+fits t (VlanDel port vid) = true
+fits t (GroupJoin port vid group) = has_room t.groups vid group
+fits t (GroupPart port vid group) = true
+fits t (Router port on) = true
+fits t (Querier six on) = true
+fits t (Snoop on) = true
+fits t (Stp on) = true
+fits t (AddrPut vid mac port kind) = is_some (get pair_cmp t.addr (vid, mac)) || nat_lt (length t.addr) most_addresses
+fits t (AddrDel vid mac) = true
+
+-- whether each of the changes fits the table that it finds, which those before it have made
+abbrev pub all_fit : Table → List Change → Bool
+all_fit t [] = true
+all_fit t (c ∷ later) = fits t c && all_fit (apply t c) later

@@ -10,7 +10,7 @@ use Rattle.br_model.specs.declared.scenario.Place.TheVariants.{Opening, Header, 
 use Rattle.br_model.specs.declared.scenario.Said.{Said}
 use Rattle.br_model.specs.declared.scenario.Said.TheVariants.{Blank, Opens, Declares, Does, Ends}
 use Rattle.br_model.specs.declared.steps.Command.{Command}
-use Rattle.br_model.specs.declared.steps.Step.TheVariants.{Rx, Cmd, Serve, Publish}
+use Rattle.br_model.specs.declared.steps.Step.TheVariants.{Rx, Cmd, Now, Serve, Publish}
 use Rattle.br_model.specs.CommandForms.{commands, step}
 use Rattle.br_model.specs.Domains.{software}
 use Rattle.br_model.specs.Forms.{Row, row, line}
@@ -40,6 +40,7 @@ declarations =
 abbrev pub steps : List (Row Said)
 steps =
     row (codes "rx PORT HEX") step (λ port bytes. Does (Rx port bytes)) ∷
+    row (codes "now MS") step (λ moment. Does (Now moment)) ∷
     row (codes "serve") step (Does Serve) ∷
     row (codes "publish") step (Does Publish) ∷
     row (codes "end") step Ends ∷

@@ -1,5 +1,5 @@
 -- The operands of a line: what each kind is called in a form, and how it is read: its value, or its cause.
--- Source: this profile; addresses are spelled as IEEE 802-2014 section 8.1 and iproute2 do.
+-- Source: this profile; addresses are spelled as iproute2 spells them, with colons.
 use Rattle.std.specs.Prelude.{ℕ, ◌==◌, nat_le, Bool, true, not, ◌&&◌, if◌then◌else◌, List, [], ◌∷◌, length, codes, slice_index_or}
 use Rattle.std.specs.declared.option.Option.{Option}
 use Rattle.std.specs.declared.option.Option.TheVariants.{None, Some}
@@ -8,8 +8,11 @@ use Rattle.std.specs.declared.result.Result.TheVariants.{Ok, Err}
 use Rattle.std.specs.Option.{is_some}
 use Rattle.br_model.specs.declared.scenario.LineWhy.{LineWhy}
 use Rattle.br_model.specs.declared.scenario.LineWhy.TheVariants as why
+use Rattle.std.specs.Str.{bytes_eq}
 use Rattle.br_model.specs.Digits.{decimal_from, bytes_from_hex, station}
-use Rattle.br_model.specs.Roster.{Entry, has_number, port_named, is_name}
+use Rattle.br_model.specs.Domains.{host}
+use Rattle.br_model.specs.FlagWords.{flags, flag_named}
+use Rattle.br_model.specs.Roster.{Entry, has_number, port_named, is_name, host_name}
 use Rattle.br_model.specs.Words.{Word}
 
 pub data Operand : Type 0 where
@@ -18,13 +21,24 @@ pub data Operand : Type 0 where
   -- the number of a port that isn't declared yet, and its name
   NewPort : Operand
   NewName : Operand
-  -- a declared port, by its number and by its name
+  -- a declared port, by its number and by its name, and one that may be `host`
   PortNumber : Operand
   PortName : Operand
+  Device : Operand
   -- an address of one station
   Station : Operand
   -- bytes, at least one
   Hex : Operand
+  -- the name of a port's flag
+  Flag : Operand
+
+-- seconds of ageing
+abbrev pub most_seconds : ℕ
+most_seconds = 1000000
+
+-- the last moment, in milliseconds: 2^53 - 1
+abbrev pub last_moment : ℕ
+last_moment = 9007199254740991
 
 -- what the operands are called in a form
 abbrev pub operands : List (Word × Operand)
@@ -33,9 +47,13 @@ operands =
     (codes "NEWNAME", NewName) ∷
     (codes "PORT", PortNumber) ∷
     (codes "NAME", PortName) ∷
+    (codes "DEV", Device) ∷
     (codes "MAC", Station) ∷
     (codes "HEX", Hex) ∷
+    (codes "FLAG", Flag) ∷
     (codes "VID", Number 1 4094) ∷
+    (codes "SECONDS", Number 1 most_seconds) ∷
+    (codes "MS", Number 0 last_moment) ∷
     []
 
 -- what an operand gives: a number, a name or bytes
@@ -45,8 +63,10 @@ Value NewPort = ℕ
 Value NewName = Word
 Value PortNumber = ℕ
 Value PortName = ℕ
+Value Device = ℕ
 Value Station = ℕ
 Value Hex = List ℕ
+Value Flag = ℕ
 
 abbrev pub number_in : ℕ → ℕ → Option ℕ → Result ℕ LineWhy
 number_in low high None = Err why.Number
@@ -77,6 +97,9 @@ port_number ports word = unless why.Port (λ n. not (nat_le n 63 && has_number p
 unfoldable pub port_name : List Entry → Word → Result ℕ LineWhy
 port_name ports word = found why.Port (port_named ports word)
 
+unfoldable pub device : List Entry → Word → Result ℕ LineWhy
+device ports word = if bytes_eq word host_name then Ok host else port_name ports word
+
 abbrev pub at : Word → ℕ → ℕ
 at word i = slice_index_or word i 0
 
@@ -105,21 +128,29 @@ bytes_of (Some bytes) = some_bytes bytes
 unfoldable pub hex : Word → Result (List ℕ) LineWhy
 hex w = bytes_of (bytes_from_hex w)
 
+unfoldable pub flag : Word → Result ℕ LineWhy
+flag word = found why.Word (flag_named flags word)
+
 abbrev pub read : List Entry → (o : Operand) → Word → Result (Value o) LineWhy
 read ports (Number low high) word = number low high word
 read ports NewPort word = new_port ports word
 read ports NewName word = new_name ports word
 read ports PortNumber word = port_number ports word
 read ports PortName word = port_name ports word
+read ports Device word = device ports word
 read ports Station word = mac word
 read ports Hex word = hex word
+read ports Flag word = flag word
 
--- Whether the word can stand there at all. Of the words of a form itself only some can; any word can be an operand, if a bad one.
+-- Whether the word can stand there at all. Only a flag's name is a word of the form; any word can stand for another operand, if a
+-- bad one.
 abbrev pub can_stand : Operand → Word → Bool
 can_stand (Number low high) word = true
 can_stand NewPort word = true
 can_stand NewName word = true
 can_stand PortNumber word = true
 can_stand PortName word = true
+can_stand Device word = true
 can_stand Station word = true
 can_stand Hex word = true
+can_stand Flag word = is_some (flag_named flags word)

@@ -38,13 +38,16 @@ abbrev pub is_name_byte : ℕ → Bool
 is_name_byte c =
     (nat_le 65 c && nat_le c 90) || ((nat_le 97 c && nat_le c 122) || ((nat_le 48 c && nat_le c 57) || (c == 46 || (c == 45 || c == 95))))
 
+abbrev pub host_name : Word
+host_name = codes "host"
+
 -- the bytes of the longest name
 abbrev pub longest_name : ℕ
 longest_name = 15
 
 -- 1 to 15 such bytes; `host` is taken
 abbrev pub is_name : Word → Bool
-is_name word = nat_lt 0 (length word) && (nat_le (length word) longest_name && (list_all is_name_byte word && not (bytes_eq word (codes "host"))))
+is_name word = nat_lt 0 (length word) && (nat_le (length word) longest_name && (list_all is_name_byte word && not (bytes_eq word host_name)))
 
 -- the domain of each declared port, and the software's of the host
 abbrev pub domains_of : List Entry → Domains

@@ -1,16 +1,18 @@
 -- Steps as lines of a scenario.
--- Source: this profile; addresses are spelled as IEEE 802-2014 section 8.1 and iproute2 do, with colons.
-use Rattle.std.specs.Prelude.{ℕ, ◌+◌, ◌/◌, ◌%◌, ◌^◌, ◌==◌, if◌then◌else◌, List, [], ◌∷◌, ◌++◌, take, codes}
+-- Source: this profile; addresses are spelled as iproute2 spells them, with colons.
+use Rattle.std.specs.Prelude.{ℕ, ◌+◌, ◌/◌, ◌%◌, ◌^◌, ◌==◌, Bool, if◌then◌else◌, List, [], ◌∷◌, ◌++◌, take, codes}
 use Rattle.std.specs.Fmt.{decimal}
 use Rattle.br_model.specs.declared.change.Kind.{Kind}
 use Rattle.br_model.specs.declared.change.Kind.TheVariants.{Local, Static, Learned, Extern}
 use Rattle.br_model.specs.declared.steps.Command.{Command}
 use Rattle.br_model.specs.declared.steps.Command.TheVariants as commands
 use Rattle.br_model.specs.declared.steps.Step.{Step}
-use Rattle.br_model.specs.declared.steps.Step.TheVariants.{Rx, Cmd, Serve, Publish}
+use Rattle.br_model.specs.declared.steps.Step.TheVariants.{Rx, Cmd, Now, Serve, Publish}
 use Rattle.br_model.specs.Digits.{hex_of}
+use Rattle.br_model.specs.Domains.{host}
+use Rattle.br_model.specs.FlagWords.{flags, name_of_flag}
 use Rattle.br_model.specs.Frames.{longest_frame}
-use Rattle.br_model.specs.Roster.{Entry}
+use Rattle.br_model.specs.Roster.{Entry, host_name}
 use Rattle.br_model.specs.Words.{Word}
 
 -- the name of a declared port
@@ -34,11 +36,31 @@ kind_word Static = codes "static"
 kind_word Learned = codes "learned"
 kind_word Extern = codes "extern"
 
+-- the name of a declared port, or of the host
+abbrev pub device_text : List Entry → ℕ → Word
+device_text ports port = if port == host then host_name else name_of ports port
+
+abbrev pub switch_word : Bool → Word
+switch_word on = if on then codes "on" else codes "off"
+
+-- the word with a space before it, where it is to stand
+abbrev pub further : Bool → Word → Word
+further stands word = if stands then 32 ∷ word else []
+
 -- the words after `cmd`
 abbrev pub command_text : List Entry → Command → List ℕ
 command_text ports (commands.PortUp port) = codes "port up " ++ name_of ports port
+command_text ports (commands.PortDown port) = codes "port down " ++ name_of ports port
+command_text ports (commands.Link port flag on) =
+    codes "link " ++ (name_of ports port ++ (32 ∷ (name_of_flag flags flag ++ (32 ∷ switch_word on))))
+command_text ports (commands.VlanAdd port vid untagged pvid) =
+    codes "vlan add vid " ++ (decimal vid ++ (codes " dev " ++ (device_text ports port
+    ++ (further pvid (codes "pvid") ++ further untagged (codes "untagged")))))
+command_text ports (commands.VlanDel port vid) = codes "vlan del vid " ++ (decimal vid ++ (codes " dev " ++ device_text ports port))
 command_text ports (commands.FdbAdd vid mac port kind) =
-    codes "fdb add " ++ (mac_text mac ++ (codes " dev " ++ (name_of ports port ++ (codes " vlan " ++ (decimal vid ++ (32 ∷ kind_word kind))))))
+    codes "fdb add " ++ (mac_text mac ++ (codes " dev " ++ (device_text ports port ++ (codes " vlan " ++ (decimal vid ++ (32 ∷ kind_word kind))))))
+command_text ports (commands.FdbDel vid mac) = codes "fdb del " ++ (mac_text mac ++ (codes " vlan " ++ decimal vid))
+command_text ports (commands.Ageing seconds) = codes "ageing " ++ decimal seconds
 
 -- The bytes by which a frame is written: of one that is too long, enough to tell; a byte of one that has none.
 abbrev pub shown : List ℕ → List ℕ
@@ -49,6 +71,7 @@ shown (byte ∷ bytes) = take (longest_frame + 1) (byte ∷ bytes)
 abbrev pub step_words : List Entry → Step → List ℕ
 step_words ports (Rx port bytes) = codes "rx " ++ (decimal port ++ (32 ∷ hex_of (shown bytes)))
 step_words ports (Cmd command) = codes "cmd " ++ command_text ports command
+step_words ports (Now moment) = codes "now " ++ decimal moment
 step_words ports Serve = codes "serve"
 step_words ports Publish = codes "publish"
 

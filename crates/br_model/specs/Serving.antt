@@ -1,5 +1,5 @@
 -- Software decides a frame by a published point, sends it, and reacts.
--- Source: this profile.
+-- Source: this profile (the kernel learns before it decides).
 use Rattle.std.specs.Prelude.{ℕ, List, [], ◌∷◌}
 use Rattle.br_model.specs.declared.steps.Event.TheVariants.{Sight}
 use Rattle.br_model.specs.declared.steps.Refusal.TheVariants.{NothingWaiting}
@@ -13,7 +13,7 @@ use Rattle.br_model.specs.World.{World, Stepped, table_at, sent, refused, answer
 abbrev pub posts : World → Waiting → ℕ → Stepped
 posts w f point = after_lines
     (Soft f.id point ∷ sent f.id (leave (table_at w point) f.port f.bytes f.head))
-    (answered w (reacts w (Sight f.port f.bytes)))
+    (answered w (reacts w (Sight f.port f.bytes f.head)))
 
 -- The oldest frame is decided by what is published.
 abbrev pub serves : World → List Waiting → Stepped

@@ -3,7 +3,7 @@
 use Rattle.std.specs.Prelude.{◌+◌, length}
 use Rattle.br_model.specs.declared.steps.Event.TheVariants as events
 use Rattle.br_model.specs.declared.steps.Step.{Step}
-use Rattle.br_model.specs.declared.steps.Step.TheVariants.{Rx, Cmd, Serve, Publish}
+use Rattle.br_model.specs.declared.steps.Step.TheVariants.{Rx, Cmd, Now, Serve, Publish}
 use Rattle.br_model.specs.Entering.{enters}
 use Rattle.br_model.specs.Serving.{serves}
 use Rattle.br_model.specs.World.{World, Stepped, done, answered, reacts}
@@ -16,6 +16,7 @@ publishes w = record w { published = length w.history }
 abbrev pub does : World → Step → Stepped
 does w (Rx port bytes) = enters w port bytes
 does w (Cmd c) = answered w (reacts w (events.Cmd c))
+does w (Now moment) = answered w (reacts w (events.Moment moment))
 does w Serve = serves w w.waiting
 does w Publish = done (publishes w)
 

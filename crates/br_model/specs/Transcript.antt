@@ -8,9 +8,9 @@ use Rattle.br_model.specs.declared.frame.FrameFault.TheVariants as faults
 use Rattle.br_model.specs.declared.scenario.LineWhy.{LineWhy}
 use Rattle.br_model.specs.declared.scenario.LineWhy.TheVariants.{Long, Unended, Word, Place, Number, Port, Address, Hex, Capture, NoMemory}
 use Rattle.br_model.specs.declared.transcript.Line.{Line}
-use Rattle.br_model.specs.declared.transcript.Line.TheVariants.{Unread, Soft, Tx, Done, Refused, End}
+use Rattle.br_model.specs.declared.transcript.Line.TheVariants.{Unread, Soft, Tx, Overrun, Done, Refused, End}
 use Rattle.br_model.specs.declared.steps.Refusal.{Refusal}
-use Rattle.br_model.specs.declared.steps.Refusal.TheVariants.{PortIsUp, PortNotUp, NotMember, Exists, HistoryFull, NothingWaiting}
+use Rattle.br_model.specs.declared.steps.Refusal.TheVariants.{PortIsUp, PortNotUp, NotMember, Exists, Absent, FdbFull, HistoryFull, Backward, NothingWaiting}
 use Rattle.br_model.specs.Digits.{hex_of}
 
 abbrev pub fault_word : FrameFault → List ℕ
@@ -23,7 +23,10 @@ refusal_number PortIsUp = 1
 refusal_number PortNotUp = 2
 refusal_number NotMember = 3
 refusal_number Exists = 4
+refusal_number Absent = 5
+refusal_number FdbFull = 6
 refusal_number HistoryFull = 8
+refusal_number Backward = 9
 refusal_number NothingWaiting = 10
 
 -- one line, with its line feed
@@ -31,6 +34,7 @@ abbrev pub line_text : Line → List ℕ
 line_text (Unread id why) = codes "unread " ++ (decimal id ++ (32 ∷ (fault_word why ++ 10 ∷ [])))
 line_text (Soft id point) = codes "soft " ++ (decimal id ++ (codes " at " ++ (decimal point ++ 10 ∷ [])))
 line_text (Tx id port bytes) = codes "tx " ++ (decimal id ++ (32 ∷ (decimal port ++ (32 ∷ (hex_of bytes ++ 10 ∷ [])))))
+line_text (Overrun id) = codes "overrun " ++ (decimal id ++ 10 ∷ [])
 line_text (Done step changes) = codes "ok " ++ (decimal step ++ (32 ∷ (decimal changes ++ 10 ∷ [])))
 line_text (Refused step why) = codes "refused " ++ (decimal step ++ (32 ∷ (decimal (refusal_number why) ++ 10 ∷ [])))
 line_text (End steps changes pending waiting) =

@@ -61,3 +61,25 @@ empty_scenario_text = codes "scenario 1" ++ 10 ∷ codes "end"
 
 abbrev pub empty_scenario_told : List ℕ
 empty_scenario_told = lines_text (codes "transcript 1" ∷ codes "end 0 0 0 0" ∷ [])
+
+-- three ports that are up, and published: how other runs begin
+abbrev pub three_up : List (List ℕ)
+three_up =
+    codes "scenario 1" ∷
+    codes "port 1 p1 soft" ∷
+    codes "port 2 p2 soft" ∷
+    codes "port 3 p3 soft" ∷
+    codes "cmd port up p1" ∷
+    codes "cmd port up p2" ∷
+    codes "cmd port up p3" ∷
+    codes "publish" ∷
+    []
+
+abbrev pub three_are_up : List (List ℕ)
+three_are_up =
+    codes "transcript 1" ∷
+    codes "ok 1 3" ∷
+    codes "ok 2 3" ∷
+    codes "ok 3 3" ∷
+    codes "ok 4 0" ∷
+    []

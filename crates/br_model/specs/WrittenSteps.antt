@@ -1,15 +1,18 @@
 -- The steps that a line of a scenario can give, and the step that it gives.
 -- Source: this profile; a VLAN is from 1 to 4094 (IEEE 802.1Q-2018 section 9.6), an address of one station has an even first byte (IEEE 802.3 clause 3.2.3).
 use Rattle.std.specs.Prelude.{ℕ, ◌^◌, ◌==◌, nat_lt, nat_le, Bool, true, false, not, ◌&&◌, ◌||◌, List, length}
-use Rattle.std.specs.List.{list_all}
+use Rattle.std.specs.List.{list_all, list_any}
 use Rattle.br_model.specs.declared.change.Kind.{Kind}
 use Rattle.br_model.specs.declared.change.Kind.TheVariants.{Local, Static, Learned, Extern}
 use Rattle.br_model.specs.declared.steps.Command.{Command}
 use Rattle.br_model.specs.declared.steps.Command.TheVariants as commands
 use Rattle.br_model.specs.declared.steps.Step.{Step}
-use Rattle.br_model.specs.declared.steps.Step.TheVariants.{Rx, Cmd, Serve, Publish}
+use Rattle.br_model.specs.declared.steps.Step.TheVariants.{Rx, Cmd, Now, Serve, Publish}
+use Rattle.br_model.specs.Domains.{host}
+use Rattle.br_model.specs.FlagWords.{flags}
 use Rattle.br_model.specs.Frames.{longest_frame}
 use Rattle.br_model.specs.Numbers.{is_multicast}
+use Rattle.br_model.specs.Operands.{most_seconds, last_moment}
 use Rattle.br_model.specs.Roster.{Entry, has_number}
 use Rattle.br_model.specs.ScenarioText.{shown}
 
@@ -22,20 +25,39 @@ is_byte b = nat_lt b 256
 abbrev pub is_station : ℕ → Bool
 is_station mac = nat_lt mac (2 ^ 48) && not (is_multicast mac || mac == 0)
 
-abbrev pub is_static : Kind → Bool
-is_static Local = false
-is_static Static = true
-is_static Learned = false
-is_static Extern = false
+abbrev pub is_vid : ℕ → Bool
+is_vid vid = nat_le 1 vid && nat_le vid 4094
+
+-- a declared port, or the host
+abbrev pub is_device : List Entry → ℕ → Bool
+is_device ports port = port == host || has_number ports port
+
+-- the bit of a flag that has a name
+abbrev pub is_flag : ℕ → Bool
+is_flag flag = list_any (λ f. f.1 == flag) flags
+
+-- whether `fdb add` can make an entry of this kind at the port: local ones are the host's, learned ones no command's
+abbrev pub kind_has_line : List Entry → ℕ → Kind → Bool
+kind_has_line ports port Local = port == host
+kind_has_line ports port Static = has_number ports port
+kind_has_line ports port Learned = false
+kind_has_line ports port Extern = has_number ports port
 
 abbrev pub command_has_line : List Entry → Command → Bool
 command_has_line ports (commands.PortUp port) = has_number ports port
-command_has_line ports (commands.FdbAdd vid mac port kind) = nat_le 1 vid && (nat_le vid 4094 && (is_station mac && (has_number ports port && is_static kind)))
+command_has_line ports (commands.PortDown port) = has_number ports port
+command_has_line ports (commands.Link port flag on) = has_number ports port && is_flag flag
+command_has_line ports (commands.VlanAdd port vid untagged pvid) = is_vid vid && is_device ports port
+command_has_line ports (commands.VlanDel port vid) = is_vid vid && is_device ports port
+command_has_line ports (commands.FdbAdd vid mac port kind) = is_vid vid && (is_station mac && kind_has_line ports port kind)
+command_has_line ports (commands.FdbDel vid mac) = is_vid vid && is_station mac
+command_has_line ports (commands.Ageing seconds) = nat_le 1 seconds && nat_le seconds most_seconds
 
 -- A frame may be of any length.
 abbrev pub has_line : List Entry → Step → Bool
 has_line ports (Rx port bytes) = has_number ports port && list_all is_byte bytes
 has_line ports (Cmd command) = command_has_line ports command
+has_line ports (Now moment) = nat_le moment last_moment
 has_line ports Serve = true
 has_line ports Publish = true
 
@@ -43,6 +65,7 @@ has_line ports Publish = true
 abbrev pub given : Step → Step
 given (Rx port bytes) = Rx port (shown bytes)
 given (Cmd command) = Cmd command
+given (Now moment) = Now moment
 given Serve = Serve
 given Publish = Publish
 
@@ -50,6 +73,7 @@ given Publish = Publish
 abbrev pub is_whole : Step → Bool
 is_whole (Rx port bytes) = nat_lt 0 (length bytes) && nat_le (length bytes) longest_frame
 is_whole (Cmd command) = true
+is_whole (Now moment) = true
 is_whole Serve = true
 is_whole Publish = true
 
@@ -57,10 +81,17 @@ is_whole Publish = true
 
 abbrev pub command_names_declared : List Entry → Command → Bool
 command_names_declared ports (commands.PortUp port) = has_number ports port
-command_names_declared ports (commands.FdbAdd vid mac port kind) = has_number ports port
+command_names_declared ports (commands.PortDown port) = has_number ports port
+command_names_declared ports (commands.Link port flag on) = has_number ports port
+command_names_declared ports (commands.VlanAdd port vid untagged pvid) = is_device ports port
+command_names_declared ports (commands.VlanDel port vid) = is_device ports port
+command_names_declared ports (commands.FdbAdd vid mac port kind) = is_device ports port
+command_names_declared ports (commands.FdbDel vid mac) = true
+command_names_declared ports (commands.Ageing seconds) = true
 
 abbrev pub names_declared : List Entry → Step → Bool
 names_declared ports (Rx port bytes) = has_number ports port
 names_declared ports (Cmd command) = command_names_declared ports command
+names_declared ports (Now moment) = true
 names_declared ports Serve = true
 names_declared ports Publish = true

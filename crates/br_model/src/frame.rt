@@ -20,6 +20,19 @@ pub struct Head {
     pub body: usize,
 }
 
+/// What a chip does with a frame that enters on one of its ports.
+#[derive(Clone, Copy, PartialEq, Eq, Debug)]
+pub enum Class {
+    /// It goes nowhere.
+    Drop,
+    /// It goes to the processor alone.
+    Trap,
+    /// It leaves the ports of the chip that it is for, if any, and goes to the processor too.
+    Copy,
+    /// It leaves ports of the chip alone.
+    Forward,
+}
+
 /// Why bytes are no frame: below 14 bytes, above 9,022 bytes, or below 18 bytes with a tag.
 #[derive(Clone, Copy, PartialEq, Eq, Debug)]
 pub enum FrameFault {

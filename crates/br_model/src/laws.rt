@@ -5,6 +5,8 @@ ghost use Rattle.br_model.specs.Runs.{told};
 ghost use Rattle.br_model.specs.Scenario.{Going, cut, scenario};
 ghost use Rattle.br_model.specs.WholeLines.{is_line, lines_text};
 ghost use Rattle.br_model.specs.WorkedRows.{first_frame_text, first_frame_told, first_refusals_text, first_refusals_told, empty_scenario_text, empty_scenario_told};
+ghost use Rattle.br_model.specs.WorkedVlans.{priority_tag_text, priority_tag_told, edges_of_the_vlan_range_text, edges_of_the_vlan_range_told, isolated_ports_text, isolated_ports_told};
+ghost use Rattle.br_model.specs.WorkedAddresses.{address_moves_text, address_moves_told, local_address_text, local_address_told, published_point_text, published_point_told, destination_on_its_ingress_port_text, destination_on_its_ingress_port_told, ageing_text, ageing_told};
 
 /// Lines are cut out of their text just as they are, and what stands after them is cut as if it stood alone.
 pub fn cut_lines()
@@ -37,4 +39,44 @@ pub fn first_refusals()
 /// No step, and a last line without its line feed.
 pub fn empty_scenario()
     ensures { told empty_scenario_text ≡ empty_scenario_told }
+{}
+
+/// A tag with VID 0 gives a priority alone, which the tag that leaves keeps.
+pub fn priority_tag()
+    ensures { told priority_tag_text ≡ priority_tag_told }
+{}
+
+/// The last VLAN is one, VID 4095 is none, and without a PVID an untagged frame has none.
+pub fn edges_of_the_vlan_range()
+    ensures { told edges_of_the_vlan_range_text ≡ edges_of_the_vlan_range_told }
+{}
+
+/// An isolated port reaches no other isolated one.
+pub fn isolated_ports()
+    ensures { told isolated_ports_text ≡ isolated_ports_told }
+{}
+
+/// A station that is seen behind another port has moved there.
+pub fn address_moves()
+    ensures { told address_moves_text ≡ address_moves_told }
+{}
+
+/// A frame to a local address goes to the host.
+pub fn local_address()
+    ensures { told local_address_text ≡ local_address_told }
+{}
+
+/// Software decides by what is published, not by what was accepted since.
+pub fn published_point()
+    ensures { told published_point_text ≡ published_point_told }
+{}
+
+/// A frame to a station behind its own port leaves nowhere.
+pub fn destination_on_its_ingress_port()
+    ensures { told destination_on_its_ingress_port_text ≡ destination_on_its_ingress_port_told }
+{}
+
+/// Learned entries get old, others stay; a moment that goes back is refused.
+pub fn ageing()
+    ensures { told ageing_text ≡ ageing_told }
 {}

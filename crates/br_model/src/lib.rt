@@ -5,6 +5,7 @@
 
 pub mod bpdu;
 pub mod bytes;
+pub mod capture;
 pub mod change;
 pub mod cut_laws;
 pub mod domains;

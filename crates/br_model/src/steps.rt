@@ -1,6 +1,6 @@
 //! The steps of the world, the commands and events among them, and the refusals.
 use crate::bytes::Bytes;
-use crate::change::Kind;
+use crate::change::{Flags, Kind};
 use crate::frame::Head;
 use crate::numbers::{Mac, Port, Vid};
 
@@ -8,20 +8,49 @@ use crate::numbers::{Mac, Port, Vid};
 #[derive(Clone, Copy)]
 pub enum Command {
     PortUp(Port),
+    PortDown(Port),
+    /// Sets one flag of the port, or clears it.
+    Link {
+        port: Port,
+        flag: Flags,
+        on: bool,
+    },
+    VlanAdd {
+        port: Port,
+        vid: Vid,
+        untagged: bool,
+        pvid: bool,
+    },
+    VlanDel {
+        port: Port,
+        vid: Vid,
+    },
     FdbAdd {
         vid: Vid,
         mac: Mac,
         port: Port,
         kind: Kind,
     },
+    FdbDel {
+        vid: Vid,
+        mac: Mac,
+    },
+    /// How long learned entries stay that no frame renews, in seconds.
+    Ageing(u32),
 }
 
 /// What a bridge reacts to.
 #[derive(Drop)]
 pub enum Event {
     Cmd(Command),
-    /// A frame that came by this port was sent.
-    Sight { port: Port, bytes: Bytes },
+    /// The moment comes, in milliseconds from the start.
+    Moment(u64),
+    /// A frame that came by this port was sent; `head` is the header of `bytes`.
+    Sight {
+        port: Port,
+        bytes: Bytes,
+        head: Head,
+    },
 }
 
 /// A step of the world.
@@ -30,6 +59,8 @@ pub enum Step {
     /// A frame enters at a port.
     Rx { port: Port, bytes: Bytes },
     Cmd(Command),
+    /// The moment comes, in milliseconds from the start.
+    Now(u64),
     /// The oldest frame that waits is decided and sent.
     Serve,
     /// The tables that frames are decided by become those of all accepted changes.
@@ -54,10 +85,16 @@ pub enum Refusal {
     PortNotUp,
     /// 3: the port isn't a member of the VLAN.
     NotMember,
-    /// 4: the entry is there.
+    /// 4: the membership or the entry is there.
     Exists,
+    /// 5: it isn't there.
+    Absent,
+    /// 6: a command would make the 16,385th address entry.
+    FdbFull,
     /// 8: the history would pass 1,048,576 changes.
     HistoryFull,
+    /// 9: the moment is before the last one.
+    Backward,
     /// 10: no frame waits.
     NothingWaiting,
 }

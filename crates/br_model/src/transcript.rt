@@ -24,6 +24,10 @@ pub enum Line {
         port: Port,
         bytes: Bytes,
     },
+    /// So many frames wait that this one doesn't.
+    Overrun {
+        id: u32,
+    },
     /// The step was done, with so many changes.
     Done {
         step: u32,

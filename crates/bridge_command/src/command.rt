@@ -4,9 +4,10 @@ ghost use Rattle.br_model.specs.CommandForms.{commands};
 ghost use Rattle.br_model.specs.Forms.{line};
 ghost use Rattle.bridge_command.specs.Seen.{word};
 
-use crate::addresses::fdb_command;
-use crate::ports::port_command;
+use crate::addresses::{ageing_command, fdb_add, fdb_del};
+use crate::ports::{link_command, port_command};
 use crate::roster::Roster;
+use crate::vlans::{vlan_add, vlan_del};
 use br_model::scenario::LineWhy;
 use br_model::steps::Command;
 
@@ -17,7 +18,12 @@ pub fn read_command(words: &[&str], r: &Roster) -> Result<Command, LineWhy>
 {
     match *words {
         ["port", ..] => port_command(words, r),
-        ["fdb", ..] => fdb_command(words, r),
+        ["link", ..] => link_command(words, r),
+        ["vlan", "add", ..] => vlan_add(words, r),
+        ["vlan", "del", ..] => vlan_del(words, r),
+        ["fdb", "add", ..] => fdb_add(words, r),
+        ["fdb", "del", ..] => fdb_del(words, r),
+        ["ageing", ..] => ageing_command(words, r),
         _ => Err(LineWhy::Word),
     }
 }

@@ -3,12 +3,15 @@
 
 mod addresses;
 mod command;
+mod flags;
 mod operands;
 mod ports;
 mod roster;
 #[cfg(test)]
 mod tests;
+mod vlans;
 
 pub use br_model::NoMemory;
 pub use command::read_command;
+pub use operands::milliseconds;
 pub use roster::Roster;

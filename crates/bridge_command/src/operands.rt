@@ -4,7 +4,7 @@ ghost use Rattle.std.specs.List.{list_all};
 ghost use Rattle.std.specs.Option.{option_map};
 ghost use Rattle.br_model.specs.declared.scenario.LineWhy.TheVariants.{Address};
 ghost use Rattle.br_model.specs.Digits.{decimal_from, station as station_of, bytes_from_hex};
-ghost use Rattle.br_model.specs.Operands.{number as number_of, mac as mac_of, has_colons as has_colons_at, twelve, found};
+ghost use Rattle.br_model.specs.Operands.{number as number_of, mac as mac_of, has_colons as has_colons_at, twelve, found, most_seconds, last_moment};
 ghost use Rattle.br_model.specs.Roster.{is_name as is_a_name, is_name_byte as is_a_name_byte};
 
 use br_model::numbers::{Mac, Vid};
@@ -53,6 +53,25 @@ pub(crate) fn vlan(word: &str) -> Result<Vid, LineWhy>
         Some(vid) => Ok(vid),
         None => Err(LineWhy::Number),
     }
+}
+
+/// The most seconds of ageing.
+const MOST_SECONDS: u64 = 1_000_000;
+
+pub(crate) fn seconds(word: &str) -> Result<u32, LineWhy>
+    ensures { result ≡ number_of 1 most_seconds word.now }
+{
+    Ok(number(word, 1, MOST_SECONDS)? as u32)
+}
+
+/// The last moment, in milliseconds: 2^53 - 1.
+const LAST_MOMENT: u64 = 9_007_199_254_740_991;
+
+/// A moment, in milliseconds.
+pub fn milliseconds(word: &str) -> Result<u64, LineWhy>
+    ensures { result ≡ number_of 0 last_moment word.now }
+{
+    number(word, 0, LAST_MOMENT)
 }
 
 /// The bytes of the longest name.

@@ -1,10 +1,12 @@
-//! The commands of ports: `port`.
+//! The commands of ports and of their flags: `port` and `link`.
 ghost use Rattle.std.specs.Prelude.{◌≡◌, length};
-ghost use Rattle.br_model.specs.CommandForms.{ports};
+ghost use Rattle.br_model.specs.CommandForms.{ports, links};
 ghost use Rattle.br_model.specs.Forms.{line};
-ghost use Rattle.bridge_command.specs.Seen.{word};
+ghost use Rattle.bridge_command.specs.Seen.{word, switched};
 
+use crate::flags::flag;
 use crate::roster::Roster;
+use br_model::change::Flags;
 use br_model::scenario::{LineWhy, Place};
 use br_model::steps::Command;
 
@@ -17,6 +19,33 @@ pub(crate) fn port_command(words: &[&str], r: &Roster) -> Result<Command, LineWh
             r.stands(Place::Steps)?;
             Ok(Command::PortUp(r.named(name)?))
         }
+        ["port", "down", name] => {
+            r.stands(Place::Steps)?;
+            Ok(Command::PortDown(r.named(name)?))
+        }
+        _ => Err(LineWhy::Word),
+    }
+}
+
+/// `link` of a flag, if its name is one.
+fn switched(name: &str, flag: Option<Flags>, on: bool, r: &Roster) -> Result<Command, LineWhy>
+    ensures { result ≡ switched r.now name.now flag on }
+{
+    let Some(flag) = flag else {
+        return Err(LineWhy::Word);
+    };
+    r.stands(Place::Steps)?;
+    let port = r.named(name)?;
+    Ok(Command::Link { port, flag, on })
+}
+
+#[tactic(auto, using(br_model::proofs::Words::words))]
+pub(crate) fn link_command(words: &[&str], r: &Roster) -> Result<Command, LineWhy>
+    ensures { result ≡ line links r.now (length words.now) (word words.now) }
+{
+    match *words {
+        ["link", name, word, "on"] => switched(name, flag(word), true, r),
+        ["link", name, word, "off"] => switched(name, flag(word), false, r),
         _ => Err(LineWhy::Word),
     }
 }

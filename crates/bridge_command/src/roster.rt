@@ -3,7 +3,7 @@ ghost use Rattle.std.specs.Prelude.{◌≡◌, ◌≢◌, ◌==◌, length, OnOk
 ghost use Rattle.std.specs.Option.{option_map, is_some};
 ghost use Rattle.br_model.specs.declared.scenario.Said.TheVariants.{Declares};
 ghost use Rattle.br_model.specs.Domains.{host};
-ghost use Rattle.br_model.specs.Operands.{port_name, new_port as new_port_of, new_name as new_name_of, port_number as port_number_of};
+ghost use Rattle.br_model.specs.Operands.{port_name, device as device_of, new_port as new_port_of, new_name as new_name_of, port_number as port_number_of};
 ghost use Rattle.br_model.specs.Roster.{first_roster, domains_of, has_number, port_named, is_name as is_a_name};
 ghost use Rattle.br_model.specs.Scenario.{declared};
 ghost use Rattle.br_model.specs.ScenarioText.{name_of};
@@ -175,6 +175,18 @@ impl Roster {
         match self.ports.get(word) {
             Some((port, _)) => Ok(*port),
             None => Err(LineWhy::Port),
+        }
+    }
+
+    /// The port that the word names, or the host.
+    #[tactic(auto, unfolding(br_model::specs::Operands::device))]
+    pub(crate) fn device(&self, word: &str) -> Result<Port, LineWhy>
+        ensures { result ≡ device_of self.now.ports word.now }
+    {
+        if word == "host" {
+            Ok(Port::HOST)
+        } else {
+            self.named(word)
         }
     }
 

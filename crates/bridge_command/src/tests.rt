@@ -1,25 +1,57 @@
 //! Commands, with what they say or their cause.
-use crate::{Roster, read_command};
+use crate::{Roster, milliseconds, read_command};
+use br_model::change::Kind;
 use br_model::numbers::{Dom, Port};
 use br_model::scenario::{LineWhy, Place};
 use br_model::steps::Command;
 use std::alloc::Global;
 use std::test::Fail;
 
-/// What a command says: the port of `port up`, or the VLAN, the address and the port of `fdb add`.
+/// What a command says: numbers, as they stand in it.
 #[derive(Clone, Copy, PartialEq, Eq, Debug)]
 enum Says {
     PortUp(u8),
-    FdbAdd(u16, u64, u8),
+    PortDown(u8),
+    /// The port, the flag's bit, and whether it is set.
+    Link(u8, u8, bool),
+    /// The port, the VLAN, `untagged` and `pvid`.
+    VlanAdd(u8, u16, bool, bool),
+    VlanDel(u8, u16),
+    /// The VLAN, the address, the port and the kind.
+    FdbAdd(u16, u64, u8, Kind),
+    FdbDel(u16, u64),
+    Ageing(u32),
 }
 
-fn said(words: &[&str], r: &Roster) -> Result<Says, LineWhy> {
-    let command = read_command(words, r)?;
-    Ok(match &command {
-        Command::PortUp(port) => Says::PortUp(port.number()),
-        Command::FdbAdd { vid, mac, port, .. } => {
-            Says::FdbAdd(vid.number(), mac.number(), port.number())
+fn said(line: &str, r: &Roster) -> Result<Says, LineWhy> {
+    let mut words = [""; 10];
+    let mut count = 0;
+    for word in line.split(' ') {
+        if count < 10 {
+            words[count] = word;
+            count += 1;
         }
+    }
+    let command = read_command(&words[..count.min(words.len())], r)?;
+    Ok(match command {
+        Command::PortUp(port) => Says::PortUp(port.number()),
+        Command::PortDown(port) => Says::PortDown(port.number()),
+        Command::Link { port, flag, on } => Says::Link(port.number(), flag.bits(), on),
+        Command::VlanAdd {
+            port,
+            vid,
+            untagged,
+            pvid,
+        } => Says::VlanAdd(port.number(), vid.number(), untagged, pvid),
+        Command::VlanDel { port, vid } => Says::VlanDel(port.number(), vid.number()),
+        Command::FdbAdd {
+            vid,
+            mac,
+            port,
+            kind,
+        } => Says::FdbAdd(vid.number(), mac.number(), port.number(), kind),
+        Command::FdbDel { vid, mac } => Says::FdbDel(vid.number(), mac.number()),
+        Command::Ageing(seconds) => Says::Ageing(seconds),
     })
 }
 
@@ -71,62 +103,100 @@ fn declarations(rt: HostRuntime) -> Result<(), Fail> {
 fn commands(rt: HostRuntime) -> Result<(), Fail> {
     let alloc = rt.alloc();
     let mut r = Roster::make(alloc, false)?;
-    assert_eq!(rt; said(&["port", "up", "x"], &r), Err(LineWhy::Place));
+    assert_eq!(rt; said("port up x", &r), Err(LineWhy::Place));
+    assert_eq!(rt; said("link x y on", &r), Err(LineWhy::Word));
+    assert_eq!(rt; said("ageing 0", &r), Err(LineWhy::Place));
     assert_eq!(rt; declare(alloc, &mut r, "3", "p3"), Ok(()));
     r.reach(Place::Steps);
-    let address = "02:00:00:00:00:01";
-    let rows: [(&[&str], Result<Says, LineWhy>); 12] = [
-        (&[], Err(LineWhy::Word)),
-        (&["port", "up"], Err(LineWhy::Word)),
-        (&["port", "up", "p3"], Ok(Says::PortUp(3))),
-        (&["port", "up", "P3"], Err(LineWhy::Port)),
-        (&["port", "up", "host"], Err(LineWhy::Port)),
-        (&["port", "UP", "p3"], Err(LineWhy::Word)),
+    let station = 0x0200_0000_0001;
+    let rows = [
+        ("", Err(LineWhy::Word)),
+        ("port up", Err(LineWhy::Word)),
+        ("port up p3", Ok(Says::PortUp(3))),
+        ("port up P3", Err(LineWhy::Port)),
+        ("port up host", Err(LineWhy::Port)),
+        ("port UP p3", Err(LineWhy::Word)),
+        ("port down p3", Ok(Says::PortDown(3))),
+        ("link p3 learning on", Ok(Says::Link(3, 1, true))),
+        ("link p3 flood off", Ok(Says::Link(3, 2, false))),
+        ("link p3 mcast_flood on", Ok(Says::Link(3, 4, true))),
+        ("link p3 bcast_flood off", Ok(Says::Link(3, 8, false))),
+        ("link p3 isolated on", Ok(Says::Link(3, 16, true))),
+        ("link p3 fastleave off", Ok(Says::Link(3, 32, false))),
+        ("link nobody hairpin on", Err(LineWhy::Word)),
+        ("link p3 learning", Err(LineWhy::Word)),
+        ("link p3 learning ON", Err(LineWhy::Word)),
+        ("link host isolated on", Err(LineWhy::Port)),
         (
-            &["fdb", "add", address, "dev", "p3", "vlan", "4094", "static"],
-            Ok(Says::FdbAdd(4094, 0x0200_0000_0001, 3)),
+            "vlan add vid 10 dev p3",
+            Ok(Says::VlanAdd(3, 10, false, false)),
         ),
         (
-            &[
-                "fdb",
-                "add",
-                "03:00:00:00:00:01",
-                "dev",
-                "x",
-                "vlan",
-                "x",
-                "static",
-            ],
-            Err(LineWhy::Address),
+            "vlan add vid 10 dev host pvid",
+            Ok(Says::VlanAdd(0, 10, false, true)),
         ),
         (
-            &[
-                "fdb",
-                "add",
-                "00:00:00:00:00:00",
-                "dev",
-                "p3",
-                "vlan",
-                "1",
-                "static",
-            ],
-            Err(LineWhy::Address),
+            "vlan add vid 4094 dev p3 untagged",
+            Ok(Says::VlanAdd(3, 4094, true, false)),
         ),
         (
-            &["fdb", "add", address, "dev", "host", "vlan", "x", "static"],
+            "vlan add vid 1 dev p3 pvid untagged",
+            Ok(Says::VlanAdd(3, 1, true, true)),
+        ),
+        ("vlan add vid 1 dev p3 untagged pvid", Err(LineWhy::Word)),
+        ("vlan add vid 0 dev nobody", Err(LineWhy::Number)),
+        ("vlan add vid 1 dev nobody", Err(LineWhy::Port)),
+        ("vlan del vid 10 dev host", Ok(Says::VlanDel(0, 10))),
+        ("vlan del vid 10 dev p3 pvid", Err(LineWhy::Word)),
+        (
+            "fdb add 02:00:00:00:00:01 dev host vlan 7 local",
+            Ok(Says::FdbAdd(7, station, 0, Kind::Local)),
+        ),
+        (
+            "fdb add 02:00:00:00:00:01 dev p3 vlan 4094 static",
+            Ok(Says::FdbAdd(4094, station, 3, Kind::Static)),
+        ),
+        (
+            "fdb add 02:00:00:00:00:01 dev p3 vlan 7 extern",
+            Ok(Says::FdbAdd(7, station, 3, Kind::Extern)),
+        ),
+        (
+            "fdb add 02:00:00:00:00:01 dev p3 vlan 7 learned",
+            Err(LineWhy::Word),
+        ),
+        (
+            "fdb add 02:00:00:00:00:01 dev p3 vlan 7 local",
+            Err(LineWhy::Word),
+        ),
+        (
+            "fdb add 02:00:00:00:00:01 dev host vlan x static",
             Err(LineWhy::Port),
         ),
         (
-            &["fdb", "add", address, "dev", "p3", "vlan", "4095", "static"],
+            "fdb add 03:00:00:00:00:01 dev x vlan x static",
+            Err(LineWhy::Address),
+        ),
+        (
+            "fdb add 00:00:00:00:00:00 dev p3 vlan 1 static",
+            Err(LineWhy::Address),
+        ),
+        (
+            "fdb add 02:00:00:00:00:01 dev p3 vlan 4095 static",
             Err(LineWhy::Number),
         ),
         (
-            &["fdb", "add", address, "dev", "p3", "vlan", "1", "extern"],
-            Err(LineWhy::Word),
+            "fdb del 02:00:00:00:00:01 vlan 7",
+            Ok(Says::FdbDel(7, station)),
         ),
+        ("ageing 1", Ok(Says::Ageing(1))),
+        ("ageing 1000000", Ok(Says::Ageing(1_000_000))),
+        ("ageing 0", Err(LineWhy::Number)),
+        ("ageing 1000001", Err(LineWhy::Number)),
     ];
-    for (words, expected) in rows {
-        assert_eq!(rt; said(words, &r), expected);
+    for (line, expected) in rows {
+        assert_eq!(rt; said(line, &r), expected);
     }
+    assert_eq!(rt; milliseconds("9007199254740991"), Ok(9_007_199_254_740_991));
+    assert_eq!(rt; milliseconds("9007199254740992"), Err(LineWhy::Number));
     Ok(())
 }

@@ -1,5 +1,4 @@
 pub mod Following
-pub mod Growing
 pub mod Outcomes
 pub mod SentFrames
 pub mod Steps

@@ -60,7 +60,8 @@ impl Frame {
     }
 
     pub(crate) fn into_waiting(self) -> Waiting
-        ensures { result ≡ self }
+        ensures value { result ≡ self }
+        ensures frame { frame_of result.bytes ≡ Ok result.head }
     {
         self.waiting
     }

@@ -1,8 +1,6 @@
 //! A scenario is read line by line, run against the bridge, and told as a transcript.
 #![tactic(auto)]
 
-mod bridge;
-mod commands;
 mod frame;
 mod published;
 mod replay;

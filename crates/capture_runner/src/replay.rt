@@ -15,7 +15,7 @@ use run_io::sources::Source;
 use std::alloc::{AllocError, Global};
 
 /// How many bytes are taken at most.
-const LIMIT: u32 = 65_536;
+const LIMIT: u32 = 1 << 28;
 
 /// Why a run stopped before its scenario ended.
 #[derive(Clone, Copy, PartialEq, Eq)]

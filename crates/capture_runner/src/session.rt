@@ -1,15 +1,16 @@
 //! A run of a scenario, line by line.
-ghost use Rattle.std.specs.Prelude.{◌≡◌, ℕ, ◌+◌, ◌-◌, ◌<◌, ◌≤◌, ◌^◌, ◌++◌, length, false, IfOk, OnOk, OnErr, string_bytes};
+ghost use Rattle.std.specs.Prelude.{◌≡◌, ℕ, ◌+◌, ◌-◌, ◌<◌, ◌≤◌, ◌^◌, ◌++◌, length, false, None, Some, IfOk, OnOk, OnErr, string_bytes};
 ghost use Rattle.br_model.specs.Scenario.{Scenario, opened, longest_line, closes};
-ghost use Rattle.capture_runner.specs.Session.{Follows, Takes, Does, ending_of, end_line_of, last_line};
+ghost use Rattle.br_model.specs.Steps.{world_step};
+ghost use Rattle.capture_runner.specs.Session.{Follows, Takes, Does, ending_of, world_of, end_line_of, last_line};
 ghost use Rattle.transcript_text.specs.Extends.{Extends};
 
 use crate::NoMemory;
-use crate::world::{Stepped, World};
+use crate::world::World;
 use br_model::numbers::Mac;
 use br_model::scenario::{Item, LineWhy, Place};
 use br_model::steps::Step;
-use br_model::transcript::Line;
+use br_model::transcript::{Line, Lines};
 use bridge_command::Roster;
 use scenario_text::{read_line, says_end};
 use std::alloc::{AllocError, Global};
@@ -76,17 +77,38 @@ impl Session {
         }
     }
 
-    /// Does a step, in the world that is there or in a new one.
+    /// Does the first step, in a new world. The answer is its lines. A world is large, so its making has a function of its own:
+    /// each call pays for the room of its locals.
+    fn begin(&mut self, alloc: Global, step: Step) -> Result<Lines, NoMemory>
+        requires first { self.old.world ≡ None }
+        ensures lines { OnOk result (self.new.lines ≡ self.old.lines) }
+        ensures roster { OnOk result (self.new.roster ≡ self.old.roster) }
+        ensures world { IfOk result (λ lines. (self.new.world ≡ Some (world_step (world_of self.old.roster None) step).0) × (lines ≡ (world_step (world_of self.old.roster None) step).1)) }
+    {
+        let mut world = World::make(alloc, self.roster.domains(), Mac::FIRST_OWN)?;
+        let lines = world.step(alloc, step)?;
+        self.world = Some(world);
+        Ok(lines)
+    }
+
+    /// Does a step in the world that is there, or in a new one. The answer is its lines.
+    fn go_on(&mut self, alloc: Global, step: Step) -> Result<Lines, NoMemory>
+        ensures lines { OnOk result (self.new.lines ≡ self.old.lines) }
+        ensures roster { OnOk result (self.new.roster ≡ self.old.roster) }
+        ensures world { IfOk result (λ lines. (self.new.world ≡ Some (world_step (world_of self.old.roster self.old.world) step).0) × (lines ≡ (world_step (world_of self.old.roster self.old.world) step).1)) }
+    {
+        match &mut self.world {
+            Some(world) => world.step(alloc, step),
+            None => self.begin(alloc, step),
+        }
+    }
+
+    /// Does a step, and writes its lines.
     fn step(&mut self, alloc: Global, step: Step, text: &mut String) -> Result<(), NoMemory>
         ensures does { OnOk result (Does self.old step (string_bytes text.old) self.new (string_bytes text.new)) }
         ensures err { OnErr result (Extends (string_bytes text.old) (string_bytes text.new)) }
     {
-        let world = match self.world.take() {
-            Some(world) => world,
-            None => World::make(alloc, self.roster.domains(), Mac::FIRST_OWN)?,
-        };
-        let Stepped { world, lines } = world.step(alloc, step)?;
-        self.world = Some(world);
+        let lines = self.go_on(alloc, step)?;
         self.writer.append_lines(lines.as_slice(), text)
     }
 

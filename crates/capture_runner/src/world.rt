@@ -1,14 +1,13 @@
-//! The world of a run, over tables that are kept beside the history.
-ghost use Rattle.std.specs.Prelude.{◌≡◌, ◌+◌, [], ◌∷◌, IfOk};
-ghost use Rattle.br_model.specs.Entering.{enters};
+//! The world of a run: the control plane, the tables that software decides by, and the frames that wait.
+ghost use Rattle.std.specs.Prelude.{◌≡◌, ◌+◌, [], ◌∷◌, IfOk, OnOk};
+ghost use Rattle.br_model.specs.Entering.{enters, waits};
 ghost use Rattle.br_model.specs.Runs.{end_line};
 ghost use Rattle.br_model.specs.Serving.{posts, serves};
 ghost use Rattle.br_model.specs.Steps.{world_step, publishes};
+ghost use Rattle.bridge_core.specs.Answers.{IsSeen};
 ghost use Rattle.br_model.specs.World.{first_world, done, answered, reacts, after_lines};
-ghost use Rattle.capture_runner.specs.Answers.{line_of};
 
 use crate::NoMemory;
-use crate::bridge::{Bridge, Reacted};
 use crate::frame::Frame;
 use crate::published::Published;
 use crate::sending::send;
@@ -17,10 +16,14 @@ use br_model::domains::Domains;
 use br_model::numbers::{Mac, Port};
 use br_model::steps::{Event, Refusal, Step, Waiting};
 use br_model::transcript::{Line, Lines};
+use bridge_core::{Bridge, EventFault};
 use ether_frames::parse;
 use std::alloc::{AllocError, Global};
 use std::collections::VecDeque;
 use std::marker::Model;
+
+/// How many frames wait at most.
+const MOST_WAITING: usize = 4096;
 
 /// The control plane, what is published of it, the frames that wait, and what is counted.
 #[derive(Drop)]
@@ -34,6 +37,7 @@ pub(crate) struct World {
 
 impl Model for World {
     ghost use Rattle.std.specs.Prelude.{◌≡◌, ◌<◌, ◌≤◌, ◌^◌, length, take};
+    ghost use Rattle.br_model.specs.Limits.{most_waiting};
     ghost use Rattle.br_model.specs.Table.{table as table_of};
     ghost use Rattle.br_model.specs.World.{World as WorldOf};
 
@@ -49,14 +53,7 @@ impl Model for World {
       steps = w.steps;
     } };
 
-    ghost invariant = { λ w. (w.published.count ≤ length w.bridge.history) × (w.published.table ≡ table_of (take w.published.count w.bridge.history)) × (length w.waiting.items < w.next) × (w.next < 2 ^ 32) };
-}
-
-/// A world after a step, and the step's lines.
-#[derive(Drop)]
-pub(crate) struct Stepped {
-    pub(crate) world: World,
-    pub(crate) lines: Lines,
+    ghost invariant = { λ w. (w.published.count ≤ length w.bridge.history) × (w.published.tables ≡ table_of (take w.published.count w.bridge.history)) × (length w.waiting.items ≤ most_waiting) };
 }
 
 /// The next number, where its type has one.
@@ -66,16 +63,15 @@ fn next(number: u32) -> Result<u32, NoMemory>
     number.checked_add(1).ok_or(AllocError)
 }
 
-/// The last line of an event.
-fn last_line(step: u32, answer: Result<u32, Refusal>) -> Line
-    ensures { result ≡ line_of step answer }
+fn one_line(alloc: Global, line: Line) -> Result<Lines, NoMemory>
+    ensures { IfOk result (λ lines. lines ≡ line ∷ []) }
 {
-    match answer {
-        Ok(changes) => Line::Done { step, changes },
-        Err(refusal) => Line::Refused { step, refusal },
-    }
+    let mut lines = Lines::new(alloc);
+    lines.push(line)?;
+    Ok(lines)
 }
 
+// Each of these answers the lines of its step. After want of memory a world isn't used again.
 impl World {
     pub(crate) fn make(alloc: Global, domains: Domains, own: Mac) -> Result<World, NoMemory>
         ensures { IfOk result (λ w. w ≡ first_world (record { domains = domains; own = own })) }
@@ -89,130 +85,117 @@ impl World {
         })
     }
 
-    /// The world with one line more.
-    fn telling(self, alloc: Global, line: Line) -> Result<Stepped, NoMemory>
-        ensures { IfOk result (λ s. (s.world ≡ self) × (s.lines ≡ line ∷ [])) }
+    /// A frame enters at a port.
+    fn enter(&mut self, alloc: Global, port: Port, bytes: Bytes) -> Result<Lines, NoMemory>
+        ensures { IfOk result (λ lines. (self.new, lines) ≡ enters self.old port bytes) }
     {
-        let mut lines = Lines::new(alloc);
-        lines.push(line)?;
-        Ok(Stepped { world: self, lines })
-    }
-
-    /// A frame enters at a port, and waits.
-    fn enter(self, alloc: Global, port: Port, bytes: Bytes) -> Result<Stepped, NoMemory>
-        ensures { IfOk result (λ s. (s.world, s.lines) ≡ enters self port bytes) }
-    {
-        let mut world = self;
-        let id = world.next;
-        world.next = next(id)?;
+        let id = self.next;
+        self.next = next(id)?;
         match parse(bytes.as_slice()) {
-            Err(why) => world.telling(alloc, Line::Unread { id, why }),
-            Ok(head) => {
-                let frame = Frame::of(Waiting {
+            Err(why) => one_line(alloc, Line::Unread { id, why }),
+            Ok(head) => self.wait(
+                alloc,
+                Frame::of(Waiting {
                     id,
                     port,
                     bytes,
                     head,
-                });
-                world.waiting.push_back(frame)?;
-                let lines = Lines::new(alloc);
-                Ok(Stepped { world, lines })
-            }
+                }),
+            ),
         }
     }
 
-    /// An event that was counted is refused, or its changes are accepted; its last line goes after these lines.
-    fn answer(self, alloc: Global, event: &Event, lines: Lines) -> Result<Stepped, NoMemory>
-        ensures { IfOk result (λ s. (s.world, s.lines) ≡ after_lines lines (answered self (reacts self event.now))) }
+    /// The frame waits, unless too many do.
+    fn wait(&mut self, alloc: Global, frame: Frame) -> Result<Lines, NoMemory>
+        ensures { IfOk result (λ lines. (self.new, lines) ≡ waits self.old frame) }
     {
-        let World {
-            bridge,
-            published,
-            waiting,
-            next,
-            steps,
-        } = self;
-        let Reacted { bridge, answer } = bridge.react(alloc, event)?;
-        let mut lines = lines;
-        lines.push(last_line(steps, answer))?;
-        let world = World {
-            bridge,
-            published,
-            waiting,
-            next,
-            steps,
+        if self.waiting.len() >= MOST_WAITING {
+            return one_line(alloc, Line::Overrun { id: frame.id() });
+        }
+        self.waiting.push_back(frame)?;
+        Ok(Lines::new(alloc))
+    }
+
+    /// An event that was counted is refused, or its changes are accepted; its last line goes after these lines.
+    fn answer(&mut self, alloc: Global, event: &Event, lines: Lines) -> Result<Lines, NoMemory>
+        requires { IsSeen event.now }
+        ensures { IfOk result (λ out. (self.new, out) ≡ after_lines lines (answered self.old (reacts self.old event.now))) }
+    {
+        let step = self.steps;
+        let last = match self.bridge.react(alloc, event) {
+            Ok(reaction) => Line::Done {
+                step,
+                changes: (self.bridge.history().len() - reaction.from) as u32,
+            },
+            Err(EventFault::Refused(refusal)) => Line::Refused { step, refusal },
+            Err(EventFault::NoMemory) => return Err(AllocError),
         };
-        Ok(Stepped { world, lines })
+        let mut lines = lines;
+        lines.push(last)?;
+        Ok(lines)
     }
 
     /// The frame is decided by the published tables and sent, and then it is reacted to.
-    fn post(self, alloc: Global, frame: Frame) -> Result<Stepped, NoMemory>
-        ensures { IfOk result (λ s. (s.world, s.lines) ≡ posts self frame self.published) }
+    fn post(&mut self, alloc: Global, frame: Frame) -> Result<Lines, NoMemory>
+        ensures { IfOk result (λ lines. (self.new, lines) ≡ posts self.old frame self.old.published) }
     {
         let mut lines = Lines::new(alloc);
         lines.push(Line::Soft {
             id: frame.id(),
             point: self.published.count,
         })?;
-        send(alloc, &self.published.table, &frame, &mut lines)?;
-        let Waiting { port, bytes, .. } = frame.into_waiting();
-        self.answer(alloc, &Event::Sight { port, bytes }, lines)
+        let domains = self.bridge.domains();
+        send(alloc, &self.published.tables, domains, &frame, &mut lines)?;
+        let Waiting {
+            port,
+            bytes,
+            head,
+            ..
+        } = frame.into_waiting();
+        self.answer(alloc, &Event::Sight { port, bytes, head }, lines)
     }
 
     /// The oldest frame is posted.
-    fn serve(self, alloc: Global) -> Result<Stepped, NoMemory>
-        ensures { IfOk result (λ s. (s.world, s.lines) ≡ serves self self.waiting) }
+    fn serve(&mut self, alloc: Global) -> Result<Lines, NoMemory>
+        ensures { IfOk result (λ lines. (self.new, lines) ≡ serves self.old self.old.waiting) }
     {
-        let mut world = self;
-        match world.waiting.pop_front() {
-            Some(frame) => world.post(alloc, frame),
-            None => {
-                let step = world.steps;
-                let refusal = Refusal::NothingWaiting;
-                world.telling(alloc, Line::Refused { step, refusal })
-            }
+        match self.waiting.pop_front() {
+            Some(frame) => self.post(alloc, frame),
+            None => one_line(
+                alloc,
+                Line::Refused {
+                    step: self.steps,
+                    refusal: Refusal::NothingWaiting,
+                },
+            ),
         }
     }
 
     /// The published tables become those of the whole history.
-    fn publish(self, alloc: Global) -> Result<Stepped, NoMemory>
-        ensures { IfOk result (λ s. (s.world, s.lines) ≡ done (publishes self)) }
+    fn publish(&mut self, alloc: Global) -> Result<Lines, NoMemory>
+        ensures { IfOk result (λ lines. (self.new, lines) ≡ done (publishes self.old)) }
     {
-        let World {
-            bridge,
-            published,
-            waiting,
-            next,
-            steps,
-        } = self;
-        let published = published.brought_up(bridge.history())?;
-        let world = World {
-            bridge,
-            published,
-            waiting,
-            next,
-            steps,
-        };
-        world.telling(
+        self.published.catch_up(self.bridge.history());
+        one_line(
             alloc,
             Line::Done {
-                step: steps,
+                step: self.steps,
                 changes: 0,
             },
         )
     }
 
-    /// The world after a step, and the step's lines.
-    pub(crate) fn step(self, alloc: Global, step: Step) -> Result<Stepped, NoMemory>
-        ensures { IfOk result (λ s. (s.world, s.lines) ≡ world_step self step) }
+    /// Does a step.
+    pub(crate) fn step(&mut self, alloc: Global, step: Step) -> Result<Lines, NoMemory>
+        ensures { IfOk result (λ lines. (self.new, lines) ≡ world_step self.old step) }
     {
-        let mut world = self;
-        world.steps = next(world.steps)?;
+        self.steps = next(self.steps)?;
         match step {
-            Step::Rx { port, bytes } => world.enter(alloc, port, bytes),
-            Step::Cmd(command) => world.answer(alloc, &Event::Cmd(command), Lines::new(alloc)),
-            Step::Serve => world.serve(alloc),
-            Step::Publish => world.publish(alloc),
+            Step::Rx { port, bytes } => self.enter(alloc, port, bytes),
+            Step::Cmd(command) => self.answer(alloc, &Event::Cmd(command), Lines::new(alloc)),
+            Step::Now(moment) => self.answer(alloc, &Event::Moment(moment), Lines::new(alloc)),
+            Step::Serve => self.serve(alloc),
+            Step::Publish => self.publish(alloc),
         }
     }
 

@@ -1,2 +1,3 @@
 pub mod ByAddress
 pub mod Addresses
+pub mod Oldest

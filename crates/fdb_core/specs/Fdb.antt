@@ -1,7 +1,10 @@
 -- What a forwarding database holds, and which of its entries a question names.
 -- Source: IEEE 802.1D-1998 section 7.9 (the filtering database, ageing), the kernel's net/bridge (kinds of entries).
-use Rattle.std.specs.Prelude.{ℕ, ◌+◌, ◌==◌, nat_le, Bool, true, false, ◌&&◌, List, map}
-use Rattle.std.specs.List.{filter}
+use Rattle.std.specs.Prelude.{ℕ, ◌+◌, ◌==◌, nat_le, Bool, true, false, not, ◌&&◌, ◌||◌, if◌then◌else◌, List, map}
+use Rattle.std.specs.List.{filter, list_all}
+use Rattle.std.specs.declared.option.Option.{Option}
+use Rattle.std.specs.declared.option.Option.TheVariants.{None, Some}
+use Rattle.open_addressing.specs.Least.{least}
 use Rattle.br_model.specs.declared.change.Kind.{Kind}
 use Rattle.br_model.specs.declared.change.Kind.TheVariants.{Local, Static, Learned, Extern}
 use Rattle.fdb_core.specs.declared.entries.Entry.{Entry}
@@ -28,6 +31,29 @@ is_learned Extern = false
 abbrev pub is_expired : ℕ → ℕ → Entry → Bool
 is_expired now hold entry = is_learned entry.kind && nat_le (entry.updated + hold) now
 
+abbrev pub place : Entry → ℕ × Kind
+place entry = (entry.port, entry.kind)
+
 -- the entries without their moments, as the bridge's table has them
 abbrev pub addresses : List ((ℕ × ℕ) × Entry) → List ((ℕ × ℕ) × (ℕ × Kind))
-addresses entries = map (λ e. (e.0, (e.1.port, e.1.kind))) entries
+addresses entries = map (λ e. (e.0, place e.1)) entries
+
+-- the moments without their entries
+abbrev pub moments : List ((ℕ × ℕ) × Entry) → List ((ℕ × ℕ) × ℕ)
+moments entries = map (λ e. (e.0, e.1.updated)) entries
+
+-- the moment of a learned entry
+abbrev pub learned_moment : Entry → Option ℕ
+learned_moment entry = if is_learned entry.kind then Some entry.updated else None
+
+-- the least moment of the learned entries
+abbrev pub oldest : List ((ℕ × ℕ) × Entry) → Option ℕ
+oldest entries = least learned_moment entries
+
+-- no earlier than this, if it was learned
+abbrev pub is_from : ℕ → Entry → Bool
+is_from moment entry = not (is_learned entry.kind) || nat_le moment entry.updated
+
+-- whether no learned entry is earlier than this
+abbrev pub all_from : ℕ → List ((ℕ × ℕ) × Entry) → Bool
+all_from moment entries = list_all (λ e. is_from moment e.1) entries

@@ -1,6 +1,6 @@
 //! What stands at an address.
 ghost use Rattle.std.specs.Prelude.{◌≡◌};
-ghost use Rattle.fdb_core.specs.Fdb.{is_at_port, is_expired};
+ghost use Rattle.fdb_core.specs.Fdb.{is_at_port, is_expired, learned_moment};
 
 use br_model::change::Kind;
 use br_model::numbers::{Mac, Port, Vid};
@@ -33,6 +33,16 @@ impl Entry {
                 None => false,
             },
             Kind::Local | Kind::Static | Kind::Extern => false,
+        }
+    }
+
+    /// The moment of a learned entry.
+    pub fn learned_moment(&self) -> Option<u64>
+        ensures { result ≡ learned_moment self.now }
+    {
+        match self.kind {
+            Kind::Learned => Some(self.updated),
+            Kind::Extern | Kind::Static | Kind::Local => None,
         }
     }
 }

@@ -1,7 +1,7 @@
 //! The forwarding database.
-ghost use Rattle.std.specs.Prelude.{◌≡◌, ℕ, ◌+◌, ◌<◌, ◌≤◌, ◌↔◌, [], None, IfOk, IsTrue, length};
+ghost use Rattle.std.specs.Prelude.{◌≡◌, ℕ, ◌+◌, ◌<◌, ◌≤◌, ◌↔◌, [], None, Some, IfOk, IsTrue, length, option_map};
 ghost use Rattle.br_model.specs.Maps.{pair_cmp, get, put, without, is_ascending};
-ghost use Rattle.fdb_core.specs.Fdb.{keys_where, is_at_port, is_expired};
+ghost use Rattle.fdb_core.specs.Fdb.{addresses, moments, place, keys_where, is_at_port, is_expired, learned_moment, oldest, all_from};
 
 use crate::NoMemory;
 use crate::entries::Entry;
@@ -9,7 +9,7 @@ use crate::key_list::Keys;
 use crate::packing::{pack, unpack_all};
 use br_model::change::Kind;
 use br_model::numbers::{Mac, Port, Vid};
-use open_addressing::map::{Map, Test};
+use open_addressing::map::{Map, Measure, Test};
 use std::alloc::Global;
 use std::marker::Model;
 
@@ -64,6 +64,17 @@ impl Test<Entry> for Expired {
     }
 }
 
+#[derive(Drop)]
+struct LearnedMoment;
+
+impl Measure<Entry> for LearnedMoment {
+    ghost number = { λ _ entry. learned_moment entry };
+
+    fn of(&self, entry: &Entry) -> Option<u64> {
+        entry.learned_moment()
+    }
+}
+
 impl Fdb {
     /// Makes a database with room for `cap` entries.
     pub fn make(alloc: Global, cap: usize) -> Result<Fdb, NoMemory>
@@ -95,7 +106,8 @@ impl Fdb {
     }
 
     pub fn find(&self, vid: Vid, mac: Mac) -> Option<Entry>
-        ensures { result ≡ get pair_cmp self.now.entries (vid, mac) }
+        ensures entry { result ≡ get pair_cmp self.now.entries (vid, mac) }
+        ensures address { get pair_cmp (addresses self.now.entries) (vid, mac) ≡ option_map place result }
     {
         self.entries.get(pack(vid, mac))
     }
@@ -103,7 +115,9 @@ impl Fdb {
     /// Puts an entry at the address, in place of the one that is there.
     pub fn put(&mut self, vid: Vid, mac: Mac, entry: Entry)
         requires { get pair_cmp self.old.entries (vid, mac) ≡ None → length self.old.entries < self.old.room }
-        ensures { self.new ≡ record self.old { entries = put pair_cmp self.old.entries (vid, mac) entry } }
+        ensures entries { self.new ≡ record self.old { entries = put pair_cmp self.old.entries (vid, mac) entry } }
+        ensures addresses { addresses self.new.entries ≡ put pair_cmp (addresses self.old.entries) (vid, mac) (place entry) }
+        ensures moments { moments self.new.entries ≡ put pair_cmp (moments self.old.entries) (vid, mac) entry.updated }
     {
         self.entries.insert(pack(vid, mac), entry);
     }
@@ -112,6 +126,8 @@ impl Fdb {
     pub fn take(&mut self, vid: Vid, mac: Mac) -> Option<Entry>
         ensures entry { result ≡ get pair_cmp self.old.entries (vid, mac) }
         ensures rest { self.new ≡ record self.old { entries = without pair_cmp self.old.entries (vid, mac) } }
+        ensures addresses { addresses self.new.entries ≡ without pair_cmp (addresses self.old.entries) (vid, mac) }
+        ensures moments { moments self.new.entries ≡ without pair_cmp (moments self.old.entries) (vid, mac) }
     {
         self.entries.take(pack(vid, mac))
     }
@@ -132,5 +148,13 @@ impl Fdb {
         let numbers = self.entries.keys_where(alloc, &Expired { now, hold })?;
         let keys = unpack_all(alloc, &numbers)?;
         Ok(Keys::of(keys))
+    }
+
+    /// The least moment of a learned entry. It looks at each cell.
+    pub fn oldest(&self) -> Option<u64>
+        ensures value { result ≡ oldest self.now.entries }
+        ensures first { (moment : ℕ) → ((m : ℕ) → result ≡ Some m → moment ≤ m) → IsTrue (all_from moment self.now.entries) }
+    {
+        self.entries.least(&LearnedMoment)
     }
 }

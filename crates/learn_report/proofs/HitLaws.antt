@@ -1,14 +1,13 @@
 -- Sets of pairs in ascending order are told by their members.
 use Rattle.std.proofs.Common.{◌≡◌, ℕ, Bool, true, false, ◌&&◌, ◌||◌, cond, T, List, [], ◌∷◌, map, Option, None, Some, is_some, refl, sym, ap, ap₂, ◌∙◌, inl, inr}
-use Rattle.std.specs.declared.cmp.Ordering.{Ordering}
-use Rattle.std.specs.declared.cmp.Ordering.TheVariants.{Less, Equal, Greater}
 use Rattle.std.specs.Prelude.{◌==◌}
 use Rattle.std.proofs.lemmas.Bool.{eq-eqb, ne_eqb}
 use Rattle.std.proofs.lemmas.Bool.Decides.{eqb_tells}
 use Rattle.std.specs.List.{list_any}
-use Rattle.std.specs.Ordering.{eq_by_cmp, match_ordering}
-use Rattle.std.specs.FinMap.Entries.{by_order, is_sorted, is_some-find, is_sorted-put, find-put, same_entries}
+use Rattle.std.specs.Ordering.{eq_by_cmp}
+use Rattle.std.specs.FinMap.Entries.{is_sorted, is_some-find, is_sorted-put, find-put, same_entries}
 use Rattle.br_model.specs.Maps.{pair_cmp, get, put, has, joined}
+use Rattle.br_model.proofs.KeySets.{keys-put}
 use Rattle.br_model.proofs.PairKeys.{Key, pair_total, same_cmp, eq-pair}
 use Rattle.learn_report.specs.Hits.{ascending}
 
@@ -23,24 +22,13 @@ entries : List Key → List (Key × Unit {0})
 entries [] = []
 entries (k ∷ ks) = put pair_cmp (entries ks) k tt
 
-keys : List (Key × Unit {0}) → List Key
+abbrev keys : List (Key × Unit {0}) → List Key
 keys es = map (λ e. e.0) es
 
-keys-put : (es : List (Key × Unit {0})) (k : Key) → keys (put pair_cmp es k tt) ≡ joined pair_cmp (keys es) k
-unfolding keys
-keys-put [] k = refl
-keys-put (e ∷ es) k = by (pair_cmp k e.0) ∙ ap (λ (rest : List Key). match_ordering (pair_cmp k e.0) (k ∷ e.0 ∷ keys es) (e.0 ∷ keys es) (e.0 ∷ rest)) (keys-put es k)
-  where
-    by : (r : Ordering) → map (λ (x : Key × Unit {0}). x.0) (by_order r ((k, tt) ∷ e ∷ es) ((e.0, tt) ∷ es) (e ∷ put pair_cmp es k tt))
-        ≡ match_ordering r (k ∷ e.0 ∷ keys es) (e.0 ∷ keys es) (e.0 ∷ keys (put pair_cmp es k tt))
-    by Less = refl
-    by Equal = refl
-    by Greater = refl
-
 ascending-entries : (ks : List Key) → ascending ks ≡ keys (entries ks)
-unfolding keys entries
+unfolding entries
 ascending-entries [] = refl
-ascending-entries (k ∷ ks) = ap (λ (s : List Key). joined pair_cmp s k) (ascending-entries ks) ∙ sym (keys-put (entries ks) k)
+ascending-entries (k ∷ ks) = ap (λ (s : List Key). joined pair_cmp s k) (ascending-entries ks) ∙ sym (keys-put pair_cmp (entries ks) k tt)
 
 sorted-entries : (ks : List Key) → T (is_sorted pair_cmp (entries ks))
 unfolding entries
@@ -61,7 +49,6 @@ get-entries q (k ∷ ks) =
 
 -- a pair is in the set where it is among the pairs
 pub has-ascending : (q : Key) (ks : List Key) → has pair_cmp (ascending ks) q ≡ list_any (eq_by_cmp pair_cmp q) ks
-unfolding keys
 has-ascending q ks =
     ap (λ (s : List Key). list_any (eq_by_cmp pair_cmp q) s) (ascending-entries ks)
     ∙ sym (is_some-find pair_cmp q (entries ks))

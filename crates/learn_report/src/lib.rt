@@ -7,3 +7,6 @@ pub use reports::{RING, Report, Reports};
 
 /// There was no memory.
 pub type NoMemory = std::alloc::AllocError;
+
+#[cfg(test)]
+mod tests;

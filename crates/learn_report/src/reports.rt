@@ -92,7 +92,7 @@ impl Reports {
         self.hits.contains(&(v.number(), m.number()))
     }
 
-    /// Clears the hits. The reports stay.
+    /// Clears the hits. The reports stay, and so does the room for hits.
     pub fn clear(&mut self)
         ensures { self.new ≡ record self.old { hits = [] } }
     {

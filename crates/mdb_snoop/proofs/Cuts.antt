@@ -59,6 +59,11 @@ module _ {K V : Type 0} (R : K → K → Ordering) where
   above_from k m goes (x ∷ rest) h =
       ap (λ r. is_lt r && all_above R k rest) (goes x.0 (is_Less _ (first_so _ _ h))) ∙ above_from k m goes rest (second_so _ _ h)
 
+  -- k is below each key, as the definitions of the order say it
+  pub below_first : (k : K) (es : List (K × V)) → all_above R k es ≡ true → below_all R k es ≡ true
+  below_first k [] h = refl
+  below_first k (e ∷ es) h = ap (λ b. b && below_all R k es) (first_so _ _ h) ∙ below_first k es (second_so _ _ h)
+
   -- what an entry below or above does to a call at k
   pub put_front : (k : K) (v : V) (front rest : List (K × V)) → all_below R k front ≡ true → put R (front ++ rest) k v ≡ front ++ put R rest k v
   put_front k v [] rest h = refl

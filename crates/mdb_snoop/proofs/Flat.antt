@@ -1,18 +1,19 @@
 -- All members, one section behind another: what is done to a section is done to the whole.
 use Rattle.std.proofs.Common.{◌≡◌, ℕ, ◌+◌, Bool, true, false, not, cond, ◌&&◌, Option, Some, None, List, [], ◌∷◌, ◌++◌, take, drop, refl, sym, ap, ◌∙◌}
+use Rattle.std.specs.List.{list_all}
 use Rattle.std.specs.Ordering.{nat_cmp, ordering_then, is_lt, is_gt, is_eq, eq_by_cmp}
 use Rattle.std.specs.declared.cmp.Ordering.{Ordering}
 use Rattle.std.specs.declared.cmp.Ordering.TheVariants.{Less, Equal, Greater}
 use Rattle.std.specs.Cmp.{tied_itself, first_so, second_so}
-use Rattle.std.specs.FinMap.Entries.{by_order}
+use Rattle.std.specs.FinMap.Entries.{by_order, below_all}
 use Rattle.std.proofs.lemmas.List.{take-append-drop, append_assoc}
 use Rattle.std.proofs.lemmas.List.Folds.{list_all-append}
 use Rattle.br_model.specs.GroupPairs.{GroupPair, group_pair_cmp}
 use Rattle.br_model.specs.Groups.{Membership, membership_cmp}
-use Rattle.br_model.specs.Maps.{get, put, without}
+use Rattle.br_model.specs.Maps.{get, put, without, is_ascending}
 use Rattle.mdb_snoop.specs.Database.{joined_until, ending_soon, ended_sooner, end_joined}
-use Rattle.mdb_snoop.specs.Places.{Sections, section, flat, all_below, all_above, IsAt, IsGap}
-use Rattle.mdb_snoop.proofs.Cuts.{is_Less, is_Greater, get_front, get_above, put_front, put_above, without_front, without_above}
+use Rattle.mdb_snoop.specs.Places.{Sections, section, flat, all_below, all_above, is_fit, IsAt, IsGap}
+use Rattle.mdb_snoop.proofs.Cuts.{is_Less, is_Greater, below_first, get_front, get_above, put_front, put_above, without_front, without_above}
 use Rattle.mdb_snoop.proofs.Orders.{pair_total, by_pair}
 
 abbrev pub at_port : GroupPair → ℕ → Membership
@@ -91,6 +92,33 @@ flat_above k p (s ∷ ss) h =
     list_all-append (λ e. is_lt (membership_cmp (at_port k p) e.0)) (section s.0 s.1) (flat ss)
     ∙ ap (λ b. b && all_above membership_cmp (at_port k p) (flat ss)) (section_above k s.0 p s.1 (is_Less _ (first_so _ _ h)))
     ∙ flat_above k p ss (second_so _ _ h)
+
+below_section : (k : GroupPair) (p : ℕ) (ms : List (ℕ × Option ℕ)) (rest : List (Membership × Option ℕ)) → below_all nat_cmp p ms ≡ true
+    → below_all membership_cmp (at_port k p) rest ≡ true → below_all membership_cmp (at_port k p) (section k ms ++ rest) ≡ true
+below_section k p [] rest h low = low
+below_section k p (e ∷ ms) rest h low =
+    ap (λ r. is_lt r && below_all membership_cmp (at_port k p) (section k ms ++ rest)) (same k p e.0)
+    ∙ ap (λ b. b && below_all membership_cmp (at_port k p) (section k ms ++ rest)) (first_so _ _ h)
+    ∙ below_section k p ms rest (second_so _ _ h) low
+
+section-ascends : (k : GroupPair) (ms : List (ℕ × Option ℕ)) (rest : List (Membership × Option ℕ)) → is_ascending nat_cmp ms ≡ true
+    → ((p : ℕ) → below_all membership_cmp (at_port k p) rest ≡ true) → is_ascending membership_cmp rest ≡ true → is_ascending membership_cmp (section k ms ++ rest) ≡ true
+section-ascends k [] rest h low up = up
+section-ascends k (e ∷ ms) rest h low up =
+    ap (λ b. b && is_ascending membership_cmp (section k ms ++ rest)) (below_section k e.0 ms rest (first_so _ _ h) (low e.0))
+    ∙ section-ascends k ms rest (second_so _ _ h) low up
+
+above_first : (k : GroupPair) (ss : Sections) → below_all group_pair_cmp k ss ≡ true → all_above group_pair_cmp k ss ≡ true
+above_first k [] h = refl
+above_first k (s ∷ ss) h = ap (λ b. b && all_above group_pair_cmp k ss) (first_so _ _ h) ∙ above_first k ss (second_so _ _ h)
+
+-- the whole ascends
+pub flat-ascends : (ss : Sections) → is_ascending group_pair_cmp ss ≡ true → list_all (λ s. is_fit s.1) ss ≡ true → is_ascending membership_cmp (flat ss) ≡ true
+flat-ascends [] h fit = refl
+flat-ascends (s ∷ ss) h fit =
+    section-ascends s.0 s.1 (flat ss) (second_so _ _ (first_so _ _ fit))
+    (λ p. below_first membership_cmp (at_port s.0 p) (flat ss) (flat_above s.0 p ss (above_first s.0 ss (first_so _ _ h))))
+    (flat-ascends ss (second_so _ _ h) (second_so _ _ fit))
 
 -- the sections with these members at the place i
 abbrev pub with_at : Sections → GroupPair → ℕ → List (ℕ × Option ℕ) → Sections

@@ -14,7 +14,7 @@ use Rattle.std.proofs.lemmas.List.{get_or-set_same, get_or-set_other}
 use Rattle.std.proofs.Math.Bool.{and-false, and-true}
 use Rattle.port_sets.specs.Numbers.{numbers_below, has_number, IsSetBelow}
 use Rattle.port_sets.specs.WordsOfMembers.{has-filter, has-below}
-use Rattle.br_model.specs.Maps.{get, put, without}
+use Rattle.br_model.specs.Maps.{get, put, without, is_ascending}
 use Rattle.mdb_snoop.specs.Database.{keys, due, due_members, has_ended}
 use Rattle.mdb_snoop.specs.Places.{has_some}
 
@@ -90,6 +90,13 @@ sorted-set f t = sorted-range f t 0 64
 
 pub sorted-mapped : {X : Type 0} (f : ℕ → X) (ports : List ℕ) → IsSetBelow 64 ports → T (is_sorted nat_cmp (mapped f ports))
 sorted-mapped f ports set = subst (λ l. T (is_sorted nat_cmp (mapped f l))) (sym set) (sorted-set f (has_number ports))
+
+pub holds : (b : Bool) → T b → b ≡ true
+holds true h = refl
+holds false h = absurd h
+
+pub mapped-ascends : {X : Type 0} (f : ℕ → X) (ports : List ℕ) → IsSetBelow 64 ports → is_ascending nat_cmp (mapped f ports) ≡ true
+mapped-ascends f ports set = holds _ (sorted-mapped f ports set)
 
 -- one more port, or another value at a port
 pub mapped-put : {X : Type 0} (f g : ℕ → X) (ports : List ℕ) (p : ℕ) (x : X) → IsSetBelow 64 ports → p < 64 → g p ≡ x → ((q : ℕ) → (q == p) ≡ false → g q ≡ f q)

@@ -40,6 +40,9 @@ group_total = record { antisymm = reversed; trans = rising; congr = alike }
 pub pair_total : IsTotalOrder group_pair_cmp
 pair_total = then_total (on_total (λ k. k.0) nat_cmp_total) (on_total (λ k. k.1) group_total)
 
+pub membership_total : IsTotalOrder membership_cmp
+membership_total = then_total (on_total (λ m. m.0) nat_cmp_total) (then_total (on_total (λ m. m.1) group_total) (on_total (λ m. m.2) nat_cmp_total))
+
 equal_groups : (x y : Group) → group_cmp x y ≡ Equal → x ≡ y
 equal_groups (V4 m) (V4 n) e = ap V4 (nat_cmp-IsAntisymmetric m n e)
 equal_groups (V4 m) (V6 n) e = absurd (cc (e))

@@ -1,6 +1,7 @@
 -- What sections keep, when one of them changes, comes or goes.
-use Rattle.std.proofs.Common.{◌≡◌, ℕ, suc, ◌+◌, ◌<◌, ◌≤◌, Bool, true, false, not, cond, ◌&&◌, T, Option, Some, None, List, [], ◌∷◌, ◌++◌, length, take, drop, refl, sym, ap, ◌∙◌, arith, length-append, subst}
+use Rattle.std.proofs.Common.{◌≡◌, ℕ, suc, ◌+◌, ◌<◌, ◌≤◌, Bool, true, false, not, cond, ◌&&◌, Option, Some, None, List, [], ◌∷◌, ◌++◌, length, take, drop, refl, sym, ap, ◌∙◌, arith, length-append, subst}
 use Rattle.std.specs.Bool.{passes}
+use Rattle.std.specs.Prelude.{is_some, min}
 use Rattle.std.specs.List.{list_all}
 use Rattle.std.specs.Ordering.{nat_cmp, is_eq, eq_by_cmp}
 use Rattle.std.specs.declared.cmp.Ordering.{Ordering}
@@ -10,16 +11,15 @@ use Rattle.std.specs.FinMap.Entries.{by_order, is_sorted-put, is_sorted-where_ke
 use Rattle.std.proofs.lemmas.List.{take-append-drop}
 use Rattle.std.proofs.lemmas.List.Folds.{list_all-append}
 use Rattle.br_model.specs.GroupPairs.{GroupPair, group_pair_cmp, max_pairs}
+use Rattle.br_model.specs.Groups.{Membership, membership_cmp}
 use Rattle.br_model.specs.Maps.{get, put, without, is_ascending}
-use Rattle.mdb_snoop.specs.Database.{joined_until, ending_soon, ended_sooner, end_joined}
-use Rattle.mdb_snoop.specs.Places.{Sections, has_some, is_fit, IsSound, IsAt, IsGap}
+use Rattle.br_model.proofs.KeySets.{keys-put_there}
+use Rattle.mdb_snoop.specs.Database.{keys, joined_until, ending_soon, ended_sooner, end_joined}
+use Rattle.mdb_snoop.specs.Places.{Sections, flat, queriers_of, has_some, is_fit, IsSound, IsAt, IsGap}
 use Rattle.mdb_snoop.proofs.Cuts.{put_front, put_above, without_front, without_above}
-use Rattle.mdb_snoop.proofs.Flat.{with_at, with_before, without_at}
-use Rattle.mdb_snoop.proofs.Orders.{pair_total}
-
-holds : (b : Bool) → T b → b ≡ true
-holds true h = refl
-holds false h = absurd h
+use Rattle.mdb_snoop.proofs.Flat.{with_at, with_before, without_at, flat-ascends}
+use Rattle.mdb_snoop.proofs.Mapped.{holds}
+use Rattle.mdb_snoop.proofs.Orders.{pair_total, membership_total}
 
 so : (a b : Bool) → a ≡ true → b ≡ true → (a && b) ≡ true
 so true b p q = q
@@ -125,3 +125,23 @@ module _ (ss : Sections) (k : GroupPair) (i : ℕ) (sound : IsSound ss) where
           let more : length (with_before ss k i ns) ≡ suc (length (take i ss) + length (drop i ss)) = length-append (take i ss) ((k, ns) ∷ drop i ss) ∙ one_more (length (take i ss)) (length (drop i ss)) in
           omega (arith, whole, more, room);
     }
+
+-- the whole
+
+pub groups-ascend : (ss : Sections) → IsSound ss → is_ascending membership_cmp (flat ss) ≡ true
+groups-ascend ss sound = flat-ascends ss sound.ascending sound.fit
+
+-- a sooner end takes no membership out
+pub soon-keys : (m : List (Membership × Option ℕ)) (k : Membership) (end : ℕ) → is_ascending membership_cmp m ≡ true → keys (ending_soon membership_cmp m k end) ≡ keys m
+soon-keys m k end h = by (get membership_cmp m k) refl
+  where
+    by : (o : Option (Option ℕ)) → get membership_cmp m k ≡ o → keys (ended_sooner membership_cmp m k end o) ≡ keys m
+    by None is = refl
+    by (Some None) is = refl
+    by (Some (Some old)) is = keys-put_there membership_cmp membership_total m k (Some (min old end)) h (ap is_some is)
+
+pub queriers-ascend : (four six : Option ℕ) → is_ascending nat_cmp (queriers_of four six) ≡ true
+queriers-ascend None None = refl
+queriers-ascend None (Some m) = refl
+queriers-ascend (Some n) None = refl
+queriers-ascend (Some n) (Some m) = refl

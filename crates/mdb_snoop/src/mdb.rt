@@ -1,10 +1,12 @@
 //! The multicast database.
-ghost use Rattle.std.specs.Prelude.{◌≡◌, IsTrue, IfOk, false, true, length, not};
+ghost use Rattle.std.specs.Prelude.{◌≡◌, ◌≤◌, IsTrue, IfOk, false, true, length, not};
+ghost use Rattle.std.specs.List.Sorted.{IsStrictlySortedBy};
 ghost use Rattle.std.specs.Ordering.{nat_cmp};
-ghost use Rattle.br_model.specs.GroupPairs.{group_pairs, has_room};
+ghost use Rattle.br_model.specs.GroupPairs.{group_pairs, has_room, max_pairs};
 ghost use Rattle.br_model.specs.Groups.{membership_cmp};
-ghost use Rattle.br_model.specs.Maps.{get, has, put, without};
-ghost use Rattle.br_model.specs.Table.{ip_version};
+ghost use Rattle.br_model.specs.Maps.{get, has, put, without, joined, parted, is_ascending};
+ghost use Rattle.br_model.specs.Table.{Table, ip_version, switched};
+ghost use Rattle.br_model.specs.Targets.{members_of, knows_querier};
 ghost use Rattle.mdb_snoop.specs.Database.{due, due_members, empty, ending_soon, has_ended, is_dynamic, joined_until, keys, memberships, pairs_of_port, ports_in};
 
 use crate::ended::{Ended, Ends, Pairs};
@@ -63,7 +65,8 @@ impl Mdb {
     /// one without end keeps none.
     pub fn join(&mut self, v: Vid, g: Group, p: Port, end: Option<u64>)
         requires { IsTrue (has_room (memberships self.old) v g) }
-        ensures { self.new ≡ record self.old { groups = joined_until membership_cmp self.old.groups (v, g, p) end } }
+        ensures groups { self.new ≡ record self.old { groups = joined_until membership_cmp self.old.groups (v, g, p) end } }
+        ensures memberships { memberships self.new ≡ joined membership_cmp (memberships self.old) (v, g, p) }
     {
         sections::join(&mut self.sections, (v, g), p, end);
     }
@@ -72,13 +75,15 @@ impl Mdb {
     pub fn part(&mut self, v: Vid, g: Group, p: Port) -> bool
         ensures there { result ≡ has membership_cmp (memberships self.old) (v, g, p) }
         ensures groups { self.new ≡ record self.old { groups = without membership_cmp self.old.groups (v, g, p) } }
+        ensures memberships { memberships self.new ≡ parted membership_cmp (memberships self.old) (v, g, p) }
     {
         sections::part(&mut self.sections, &(v, g), p)
     }
 
     /// Lets a membership that ends do so at `end`, where that is sooner.
     pub fn leave_soon(&mut self, v: Vid, g: Group, p: Port, end: u64)
-        ensures { self.new ≡ record self.old { groups = ending_soon membership_cmp self.old.groups (v, g, p) end } }
+        ensures groups { self.new ≡ record self.old { groups = ending_soon membership_cmp self.old.groups (v, g, p) end } }
+        ensures memberships { memberships self.new ≡ memberships self.old }
     {
         sections::leave_soon(&mut self.sections, &(v, g), p, end);
     }
@@ -94,6 +99,7 @@ impl Mdb {
     pub fn router_seen(&mut self, p: Port, end: u64) -> bool
         ensures seen { result ≡ not (has nat_cmp (keys self.old.routers) p) }
         ensures routers { self.new ≡ record self.old { routers = put nat_cmp self.old.routers p end } }
+        ensures ports { keys self.new.routers ≡ switched true (keys self.old.routers) p }
     {
         let there = self.routers.get(p).is_some();
         self.routers.set(p, end);
@@ -104,6 +110,7 @@ impl Mdb {
     pub fn router_gone(&mut self, p: Port) -> bool
         ensures there { result ≡ has nat_cmp (keys self.old.routers) p }
         ensures routers { self.new ≡ record self.old { routers = without nat_cmp self.old.routers p } }
+        ensures ports { keys self.new.routers ≡ switched false (keys self.old.routers) p }
     {
         let there = self.routers.get(p).is_some();
         self.routers.clear(p);
@@ -114,6 +121,7 @@ impl Mdb {
     pub fn querier_seen(&mut self, six: bool, end: u64) -> bool
         ensures seen { result ≡ not (has nat_cmp (keys self.old.queriers) (ip_version six)) }
         ensures queriers { self.new ≡ record self.old { queriers = put nat_cmp self.old.queriers (ip_version six) end } }
+        ensures versions { keys self.new.queriers ≡ switched true (keys self.old.queriers) (ip_version six) }
     {
         let is_new = !self.querier(six);
         if six {
@@ -128,6 +136,7 @@ impl Mdb {
     pub fn querier_gone(&mut self, six: bool) -> bool
         ensures there { result ≡ has nat_cmp (keys self.old.queriers) (ip_version six) }
         ensures queriers { self.new ≡ record self.old { queriers = without nat_cmp self.old.queriers (ip_version six) } }
+        ensures versions { keys self.new.queriers ≡ switched false (keys self.old.queriers) (ip_version six) }
     {
         let there = self.querier(six);
         if six {
@@ -164,7 +173,8 @@ impl Mdb {
 
     /// The ports that are members of the group in the VLAN.
     pub fn members(&self, v: Vid, g: Group) -> Ports
-        ensures { result ≡ ports_in (memberships self.now) v g }
+        ensures value { result ≡ ports_in (memberships self.now) v g }
+        ensures table { (t : Table) → t.groups ≡ memberships self.now → result ≡ members_of t v g }
     {
         sections::ports(&self.sections, &(v, g))
     }
@@ -178,13 +188,28 @@ impl Mdb {
 
     /// Whether a querier of IP version 4 or 6 is known.
     pub fn querier(&self, six: bool) -> bool
-        ensures { result ≡ has nat_cmp (keys self.now.queriers) (ip_version six) }
+        ensures value { result ≡ has nat_cmp (keys self.now.queriers) (ip_version six) }
+        ensures table { (t : Table) → t.queriers ≡ keys self.now.queriers → result ≡ knows_querier t six }
     {
         if six {
             self.six.is_some()
         } else {
             self.four.is_some()
         }
+    }
+
+    /// A law, whose body does nothing: groups, router ports and queriers ascend, with their ends and without them, and there
+    /// is no 1,025th pair of VLAN and group.
+    pub fn parts_ascend(&self)
+        ensures groups { is_ascending membership_cmp self.now.groups ≡ true }
+        ensures routers { is_ascending nat_cmp self.now.routers ≡ true }
+        ensures queriers { is_ascending nat_cmp self.now.queriers ≡ true }
+        ensures memberships { IsStrictlySortedBy membership_cmp (memberships self.now) }
+        ensures ports { IsStrictlySortedBy nat_cmp (keys self.now.routers) }
+        ensures versions { IsStrictlySortedBy nat_cmp (keys self.now.queriers) }
+        ensures few { length (group_pairs (memberships self.now)) ≤ max_pairs }
+    {
+        self.routers.ports_ascend();
     }
 
     /// How many pairs of VLAN and group have members.

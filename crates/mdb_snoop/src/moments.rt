@@ -1,7 +1,7 @@
 //! Ports with a moment each.
-ghost use Rattle.std.specs.Prelude.{◌≡◌, ◌<◌, ◌==◌, ◌&&◌, ◌||◌, ℕ, [], cond, nat_le, slice_index, slice_set};
+ghost use Rattle.std.specs.Prelude.{◌≡◌, ◌<◌, ◌==◌, ◌&&◌, ◌||◌, ℕ, [], cond, nat_le, slice_index, slice_set, true};
 ghost use Rattle.std.specs.Ordering.{nat_cmp};
-ghost use Rattle.br_model.specs.Maps.{get, put, without};
+ghost use Rattle.br_model.specs.Maps.{get, put, without, is_ascending};
 ghost use Rattle.mdb_snoop.specs.Database.{due, has_ended, keys};
 ghost use Rattle.port_sets.specs.Numbers.{has_number, numbers_below};
 
@@ -67,6 +67,13 @@ impl Moments {
         ensures { result ≡ keys self.now }
     {
         self.ports
+    }
+
+    /// A law, whose body does nothing: the ports ascend.
+    pub fn ports_ascend(&self)
+        ensures { is_ascending nat_cmp self.now ≡ true }
+    {
+        self.ports.members_ascend();
     }
 
     /// The ports whose moment is `now` or before.

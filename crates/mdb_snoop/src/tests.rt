@@ -1,7 +1,15 @@
+ghost use Rattle.std.specs.Prelude.{◌≡◌, IsTrue};
+ghost use Rattle.br_model.specs.GroupPairs.{has_room};
+ghost use Rattle.br_model.specs.Table.{Table, apply};
+ghost use Rattle.br_model.specs.declared.change.Change.TheVariants.{GroupJoin, Router, Querier};
+ghost use Rattle.mdb_snoop.specs.Database.{keys, memberships};
+
 use crate::Mdb;
+use crate::sections::{MOST_PAIRS, Section};
 use br_model::group::Group;
 use br_model::numbers::{Port, Vid};
 use port_sets::Ports;
+use std::mem::size_of;
 use std::test::Fail;
 
 /// 239.1.2.3 and, as a group of version 6, the same number.
@@ -24,6 +32,60 @@ fn join(mdb: &mut Mdb, v: Vid, g: Group, p: Port, end: Option<u64>) -> bool {
         mdb.join(v, g, p, end);
     }
     has_room
+}
+
+/// Tables that keep no ends keep their groups here too: a member joins without end.
+fn group_join(mdb: &mut Mdb, v: Vid, g: Group, p: Port)
+    requires { IsTrue (has_room (memberships mdb.old) v g) }
+    ensures { (t : Table) → t.groups ≡ memberships mdb.old → (apply t (GroupJoin p v g)).groups ≡ memberships mdb.new }
+{
+    mdb.join(v, g, p, None);
+}
+
+/// And so do their router ports, with an end that they never ask for.
+fn router(mdb: &mut Mdb, p: Port, on: bool)
+    ensures { (t : Table) → t.routers ≡ keys mdb.old.routers → (apply t (Router p on)).routers ≡ keys mdb.new.routers }
+{
+    if on {
+        mdb.router_seen(p, u64::MAX);
+    } else {
+        mdb.router_gone(p);
+    }
+}
+
+/// And their queriers.
+fn querier(mdb: &mut Mdb, six: bool, on: bool)
+    ensures { (t : Table) → t.queriers ≡ keys mdb.old.queriers → (apply t (Querier six on)).queriers ≡ keys mdb.new.queriers }
+{
+    if on {
+        mdb.querier_seen(six, u64::MAX);
+    } else {
+        mdb.querier_gone(six);
+    }
+}
+
+#[test]
+fn tables_without_ends(rt: HostRuntime) -> Result<(), Fail> {
+    let alloc = rt.alloc();
+    let mut mdb = Mdb::make(alloc)?;
+    let (one, two, v) = (port(1)?, port(2)?, vid(10)?);
+    for p in [one, two] {
+        assert!(rt; mdb.has_room(v, FOUR));
+        group_join(&mut mdb, v, FOUR, p);
+        router(&mut mdb, p, true);
+    }
+    querier(&mut mdb, true, true);
+    router(&mut mdb, one, false);
+    assert!(rt;
+        mdb.expire(alloc, u64::MAX - 1)?
+            .groups
+            .as_slice()
+            .is_empty()
+    );
+    assert_eq!(rt; mdb.members(v, FOUR), Ports::empty().with(1).with(2));
+    assert_eq!(rt; mdb.routers(), Ports::empty().with(2));
+    assert!(rt; mdb.querier(true) && !mdb.querier(false));
+    Ok(())
 }
 
 /// A report holds to its end, a leave makes the end the smaller one, and a command's membership has none.
@@ -141,4 +203,11 @@ fn room_for_pairs(rt: HostRuntime) -> Result<(), Fail> {
     assert!(rt; mdb.part(v, Group::V4(0xefff_0000), Port::HOST));
     assert_eq!(rt; mdb.pairs(), 1024);
     Ok(())
+}
+
+/// All that there can be takes less than 2 MB.
+#[test]
+fn sections_are_small(rt: HostRuntime) {
+    assert_eq!(rt; size_of::<Section>(), 576);
+    assert!(rt; size_of::<Section>() * MOST_PAIRS < 2_000_000);
 }

@@ -2,6 +2,7 @@ pub mod Circle
 pub mod Zipped
 pub mod Finite
 pub mod Keyed
+pub mod Least
 pub mod Entries
 pub mod Ascending
 pub mod Lookups

@@ -3,3 +3,4 @@ pub mod Zipped
 pub mod Finite
 pub mod Lookups
 pub mod Keyed
+pub mod Least

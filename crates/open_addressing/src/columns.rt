@@ -2,9 +2,10 @@
 ghost use Rattle.std.specs.Prelude.{◌≡◌, ◌≢◌, ℕ, ◌<◌, IfOk, List, Option, None, Some, length, replicate, filter_map, slice_index_or, slice_set, refl};
 ghost use Rattle.open_addressing.specs.Zipped.{key_of, value_of, cell_of, cells_of};
 ghost use Rattle.open_addressing.specs.Finite.{key_if};
+ghost use Rattle.open_addressing.specs.Least.{smaller, number_if, least_in};
 
 use crate::Cells;
-use crate::map::Test;
+use crate::map::{Measure, Test};
 use std::alloc::{AllocError, Global};
 
 /// A column of keys, 0 where there is none, and a column of values.
@@ -103,5 +104,39 @@ impl<V: Copy> Columns<V> {
             }
         }
         Ok(keys)
+    }
+
+    /// What the value in a cell that holds a key measures.
+    fn number_if<M: Measure<V>>(&self, i: usize, measure: &M) -> Option<u64>
+        requires { i < length (cells_of self.now.keys.items self.now.values.items) }
+        ensures { result ≡ number_if (M.number measure.now) (slice_index_or (cells_of self.now.keys.items self.now.values.items) i None) }
+    {
+        let key = self.keys[i];
+        if key == 0 {
+            return None;
+        }
+        measure.of(&self.values[i])
+    }
+
+    /// The least number that a value in the cells measures.
+    pub fn least<M: Measure<V>>(&self, measure: &M) -> Option<u64>
+        ensures { result ≡ least_in (M.number measure.now) (cells_of self.now.keys.items self.now.values.items) }
+    {
+        let mut least = None;
+        for i in 0..self.count() {
+            least = smaller(least, self.number_if(i, measure));
+        }
+        least
+    }
+}
+
+/// The smaller of two numbers, where there are any.
+fn smaller(a: Option<u64>, b: Option<u64>) -> Option<u64>
+    ensures { result ≡ smaller a b }
+{
+    match (a, b) {
+        (None, b) => b,
+        (a, None) => a,
+        (Some(a), Some(b)) => Some(a.min(b)),
     }
 }

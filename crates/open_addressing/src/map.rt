@@ -1,8 +1,9 @@
 //! A finite map from keys to values, over columns.
-ghost use Rattle.std.specs.Prelude.{◌≡◌, ◌≢◌, ℕ, ◌^◌, ◌<◌, ◌≤◌, ◌↔◌, Bool, not, [], IfOk, IfSome, IsTrue, None, length, IsPermutation, IsSorted};
+ghost use Rattle.std.specs.Prelude.{◌≡◌, ◌≢◌, ℕ, ◌^◌, ◌<◌, ◌≤◌, ◌↔◌, Bool, not, [], Option, IfOk, IfSome, IsTrue, None, length, IsPermutation, IsSorted};
 ghost use Rattle.std.specs.Ordering.{nat_cmp, eq_by_cmp};
 ghost use Rattle.std.specs.FinMap.Entries.{find, put, where_key, is_sorted};
 ghost use Rattle.open_addressing.specs.Finite.{keys_where};
+ghost use Rattle.open_addressing.specs.Least.{least};
 
 use crate::columns::Columns;
 use crate::{find as find_cell, remove, search};
@@ -15,6 +16,14 @@ pub trait Test<V> {
 
     fn passes(&self, value: &V) -> bool
         ensures { result ≡ passes self.now value.now };
+}
+
+/// A number of each value, or none.
+pub trait Measure<V> {
+    ghost number: { Self → V → Option ℕ };
+
+    fn of(&self, value: &V) -> Option<u64>
+        ensures { result ≡ number self.now value.now };
 }
 
 /// Values by keys that aren't 0, with room taken at its making.
@@ -138,5 +147,12 @@ impl<V: Copy> Map<V> {
         let mut keys = self.columns.keys_where(alloc, test)?;
         sort(&mut keys);
         Ok(keys)
+    }
+
+    /// The least number that a value measures. It looks at each cell.
+    pub fn least<M: Measure<V>>(&self, measure: &M) -> Option<u64>
+        ensures { result ≡ least (M.number measure.now) self.now.entries }
+    {
+        self.columns.least(measure)
     }
 }

@@ -14,7 +14,7 @@ use Rattle.port_sets.specs.Numbers.{numbers_below, has_number, IsSetBelow}
 pub use Rattle.port_sets.specs.WordsOfMembers.{has-filter, has-below}
 
 -- tests that agree from a on keep the same numbers
-same_from : (p q : ℕ → Bool) (a n : ℕ) → ((m : ℕ) → a ≤ m → m < a + n → p m ≡ q m) → filter p (range_with_len a n) ≡ filter q (range_with_len a n)
+pub same_from : (p q : ℕ → Bool) (a n : ℕ) → ((m : ℕ) → a ≤ m → m < a + n → p m ≡ q m) → filter p (range_with_len a n) ≡ filter q (range_with_len a n)
 same_from p q a zero h = refl
 same_from p q a (suc n) h =
     let rest : filter p (range_with_len (a + 1) n) ≡ filter q (range_with_len (a + 1) n) = same_from p q (a + 1) n (λ m low high. h m (omega arith) (omega arith)) in

@@ -1,4 +1,5 @@
 pub mod Bounded
+pub mod Commands
 pub mod Joins
 pub mod Pairs
 pub mod Splits

@@ -1,7 +1,8 @@
 //! Lines, by their first word.
 ghost use Rattle.std.specs.Prelude.{◌≡◌, ◌<◌, length, true, IfOk};
+ghost use Rattle.br_model.specs.CommandForms.{commands};
 ghost use Rattle.br_model.specs.Forms.{line};
-ghost use Rattle.br_model.specs.LineForms.{declarations, steps, words_say};
+ghost use Rattle.br_model.specs.LineForms.{declarations, steps, commanded, words_say};
 ghost use Rattle.bridge_command.specs.Seen.{word, OrNoMemory};
 ghost use Rattle.scenario_text.specs.Items.{fits_roster};
 
@@ -9,7 +10,7 @@ use crate::digits::hex_bytes;
 use br_model::numbers::Dom;
 use br_model::scenario::{LineWhy, Place, Said};
 use br_model::steps::Step;
-use bridge_command::{Roster, read_command};
+use bridge_command::{Roster, milliseconds, read_command};
 use std::alloc::Global;
 
 /// The first line, and the declarations.
@@ -50,6 +51,10 @@ fn step_line(alloc: Global, words: &[&str], r: &Roster) -> Result<Said, LineWhy>
             let bytes = hex_bytes(alloc, digits)?;
             Ok(Said::Does(Step::Rx { port, bytes }))
         }
+        ["now", moment] => {
+            r.stands(Place::Steps)?;
+            Ok(Said::Does(Step::Now(milliseconds(moment)?)))
+        }
         ["serve"] => {
             r.stands(Place::Steps)?;
             Ok(Said::Does(Step::Serve))
@@ -66,6 +71,17 @@ fn step_line(alloc: Global, words: &[&str], r: &Roster) -> Result<Said, LineWhy>
     }
 }
 
+/// The step of the command that the words behind `cmd` say.
+fn command_step(command: &[&str], r: &Roster) -> Result<Said, LineWhy>
+    ensures value { result ≡ commanded (line commands r.now (length command.now) (word command.now)) }
+    ensures fits { IfOk result (λ said. fits_roster r.now said ≡ true) }
+{
+    match read_command(command, r) {
+        Ok(command) => Ok(Said::Does(Step::Cmd(command))),
+        Err(why) => Err(why),
+    }
+}
+
 /// What the words of a line say; no words say nothing.
 #[tactic(auto, using(br_model::proofs::Words::words))]
 pub(crate) fn read_words(alloc: Global, words: &[&str], r: &Roster) -> Result<Said, LineWhy>
@@ -77,7 +93,8 @@ pub(crate) fn read_words(alloc: Global, words: &[&str], r: &Roster) -> Result<Sa
         ["scenario", ..] => declaration_line(alloc, words, r),
         ["port", ..] => declaration_line(alloc, words, r),
         ["rx", ..] => step_line(alloc, words, r),
-        ["cmd", ref command @ ..] => Ok(Said::Does(Step::Cmd(read_command(command, r)?))),
+        ["now", ..] => step_line(alloc, words, r),
+        ["cmd", ref command @ ..] => command_step(command, r),
         ["serve", ..] => step_line(alloc, words, r),
         ["publish", ..] => step_line(alloc, words, r),
         ["end", ..] => step_line(alloc, words, r),

@@ -2,14 +2,15 @@
 ghost use Rattle.std.specs.Prelude.{◌≡◌, ◌++◌, ◌+◌, ◌<◌, [], ◌∷◌, true, IfOk, OnOk, codes, decimal};
 ghost use Rattle.std.specs.String.{string_bytes};
 ghost use Rattle.br_model.specs.Digits.{hex_digit, hex_of};
+ghost use Rattle.br_model.specs.FlagWords.{flags, name_of_flag};
 ghost use Rattle.br_model.specs.Frames.{longest_frame};
 ghost use Rattle.br_model.specs.Roster.{has_number};
-ghost use Rattle.br_model.specs.ScenarioText.{byte_at, mac_text, kind_word as word_of_kind, command_text, name_of, shown as shown_of, step_text, step_words};
-ghost use Rattle.br_model.specs.WrittenSteps.{command_names_declared, names_declared};
+ghost use Rattle.br_model.specs.ScenarioText.{byte_at, mac_text, kind_word as word_of_kind, command_text, device_text, further, name_of, switch_word as word_of_switch, shown as shown_of, step_text, step_words};
+ghost use Rattle.br_model.specs.WrittenSteps.{is_device, command_names_declared, names_declared};
 
 use br_model::NoMemory;
 use br_model::bytes::Bytes;
-use br_model::change::Kind;
+use br_model::change::{Flags, Kind};
 use br_model::numbers::{Mac, Port, Vid};
 use br_model::steps::{Command, Step};
 use bridge_command::Roster;
@@ -100,11 +101,99 @@ fn name(roster: &Roster, port: Port) -> &str
     }
 }
 
-fn append_rest(name: &str, vid: Vid, kind: Kind, to: &mut String) -> Result<(), NoMemory>
-    ensures { OnOk result (string_bytes to.new ≡ string_bytes to.old ++ (codes " dev " ++ (name.now ++ (codes " vlan " ++ (decimal vid ++ (32 ∷ word_of_kind kind)))))) }
+fn device(roster: &Roster, port: Port) -> &str
+    requires { is_device roster.now.ports port ≡ true }
+    ensures { result.now ≡ device_text roster.now.ports port }
 {
+    if port.is_host() {
+        "host"
+    } else {
+        name(roster, port)
+    }
+}
+
+/// The name of the flag.
+fn flag_name(flag: Flags) -> &'static str
+    ensures { result.now ≡ name_of_flag flags flag }
+{
+    match flag.bits() {
+        1 => "learning",
+        2 => "flood",
+        4 => "mcast_flood",
+        8 => "bcast_flood",
+        16 => "isolated",
+        32 => "fastleave",
+        _ => "",
+    }
+}
+
+fn switch_word(on: bool) -> &'static str
+    ensures { result.now ≡ word_of_switch on }
+{
+    if on { "on" } else { "off" }
+}
+
+fn append_link(port: &str, flag: Flags, on: bool, to: &mut String) -> Result<(), NoMemory>
+    ensures { OnOk result (string_bytes to.new ≡ string_bytes to.old ++ (codes "link " ++ (port.now ++ (32 ∷ (name_of_flag flags flag ++ (32 ∷ word_of_switch on)))))) }
+{
+    let (flag, on) = (flag_name(flag), switch_word(on));
+    write!(to, "link {port} {flag} {on}")
+}
+
+/// The words behind the device of `vlan add`.
+fn marks(untagged: bool, pvid: bool) -> &'static str
+    ensures { result.now ≡ further pvid (codes "pvid") ++ further untagged (codes "untagged") }
+{
+    match (pvid, untagged) {
+        (false, false) => "",
+        (true, false) => " pvid",
+        (false, true) => " untagged",
+        (true, true) => " pvid untagged",
+    }
+}
+
+fn append_vlan_add(
+    device: &str,
+    vid: Vid,
+    untagged: bool,
+    pvid: bool,
+    to: &mut String,
+) -> Result<(), NoMemory>
+    ensures { OnOk result (string_bytes to.new ≡ string_bytes to.old ++ (codes "vlan add vid " ++ (decimal vid ++ (codes " dev " ++ (device.now ++ (further pvid (codes "pvid") ++ further untagged (codes "untagged"))))))) }
+{
+    let (vid, marks) = (vid.number(), marks(untagged, pvid));
+    write!(to, "vlan add vid {vid} dev {device}{marks}")
+}
+
+fn append_vlan_del(device: &str, vid: Vid, to: &mut String) -> Result<(), NoMemory>
+    ensures { OnOk result (string_bytes to.new ≡ string_bytes to.old ++ (codes "vlan del vid " ++ (decimal vid ++ (codes " dev " ++ device.now)))) }
+{
+    let vid = vid.number();
+    write!(to, "vlan del vid {vid} dev {device}")
+}
+
+fn append_fdb_add(
+    mac: Mac,
+    device: &str,
+    vid: Vid,
+    kind: Kind,
+    to: &mut String,
+) -> Result<(), NoMemory>
+    ensures { OnOk result (string_bytes to.new ≡ string_bytes to.old ++ (codes "fdb add " ++ (mac_text mac ++ (codes " dev " ++ (device.now ++ (codes " vlan " ++ (decimal vid ++ (32 ∷ word_of_kind kind)))))))) }
+{
+    to.push_str("fdb add ")?;
+    append_mac(mac, to)?;
     let (vid, kind) = (vid.number(), kind_word(kind));
-    write!(to, " dev {name} vlan {vid} {kind}")
+    write!(to, " dev {device} vlan {vid} {kind}")
+}
+
+fn append_fdb_del(mac: Mac, vid: Vid, to: &mut String) -> Result<(), NoMemory>
+    ensures { OnOk result (string_bytes to.new ≡ string_bytes to.old ++ (codes "fdb del " ++ (mac_text mac ++ (codes " vlan " ++ decimal vid)))) }
+{
+    to.push_str("fdb del ")?;
+    append_mac(mac, to)?;
+    let vid = vid.number();
+    write!(to, " vlan {vid}")
 }
 
 fn append_command(command: Command, roster: &Roster, to: &mut String) -> Result<(), NoMemory>
@@ -113,19 +202,29 @@ fn append_command(command: Command, roster: &Roster, to: &mut String) -> Result<
 {
     match command {
         Command::PortUp(port) => {
-            to.push_str("port up ")?;
-            to.push_str(name(roster, port))
+            let port = name(roster, port);
+            write!(to, "port up {port}")
         }
+        Command::PortDown(port) => {
+            let port = name(roster, port);
+            write!(to, "port down {port}")
+        }
+        Command::Link { port, flag, on } => append_link(name(roster, port), flag, on, to),
+        Command::VlanAdd {
+            port,
+            vid,
+            untagged,
+            pvid,
+        } => append_vlan_add(device(roster, port), vid, untagged, pvid, to),
+        Command::VlanDel { port, vid } => append_vlan_del(device(roster, port), vid, to),
         Command::FdbAdd {
             vid,
             mac,
             port,
             kind,
-        } => {
-            to.push_str("fdb add ")?;
-            append_mac(mac, to)?;
-            append_rest(name(roster, port), vid, kind, to)
-        }
+        } => append_fdb_add(mac, device(roster, port), vid, kind, to),
+        Command::FdbDel { vid, mac } => append_fdb_del(mac, vid, to),
+        Command::Ageing(seconds) => write!(to, "ageing {seconds}"),
     }
 }
 
@@ -150,6 +249,7 @@ pub fn write_line(alloc: Global, s: &Step, r: &Roster) -> Result<Bytes, NoMemory
             line.push_str("cmd ")?;
             append_command(*command, r, &mut line)?;
         }
+        Step::Now(moment) => write!(line, "now {moment}")?,
         Step::Serve => line.push_str("serve")?,
         Step::Publish => line.push_str("publish")?,
     }

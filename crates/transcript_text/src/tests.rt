@@ -26,14 +26,20 @@ fn lines_and_their_texts(rt: HostRuntime) -> Result<(), Fail> {
         step: 1,
         changes: 3,
     })?;
-    lines.push(Line::Refused {
-        step: 2,
-        refusal: Refusal::NothingWaiting,
-    })?;
-    lines.push(Line::Refused {
-        step: 3,
-        refusal: Refusal::HistoryFull,
-    })?;
+    for (step, refusal) in [
+        (2, Refusal::PortIsUp),
+        (3, Refusal::PortNotUp),
+        (4, Refusal::NotMember),
+        (5, Refusal::Exists),
+        (6, Refusal::Absent),
+        (7, Refusal::FdbFull),
+        (8, Refusal::HistoryFull),
+        (9, Refusal::Backward),
+        (10, Refusal::NothingWaiting),
+    ] {
+        lines.push(Line::Refused { step, refusal })?;
+    }
+    lines.push(Line::Overrun { id: 4097 })?;
     lines.push(Line::Unread {
         id: 1,
         why: FrameFault::TagShort,
@@ -50,8 +56,16 @@ fn lines_and_their_texts(rt: HostRuntime) -> Result<(), Fail> {
     })?;
     let table = [
         "ok 1 3\n",
-        "refused 2 10\n",
-        "refused 3 8\n",
+        "refused 2 1\n",
+        "refused 3 2\n",
+        "refused 4 3\n",
+        "refused 5 4\n",
+        "refused 6 5\n",
+        "refused 7 6\n",
+        "refused 8 8\n",
+        "refused 9 9\n",
+        "refused 10 10\n",
+        "overrun 4097\n",
         "unread 1 tagshort\n",
         "soft 7 at 0\n",
         "tx 7 1 02ab0f\n",

@@ -37,6 +37,7 @@ impl Writer {
             Line::Unread { id, why } => append_unread(*id, *why, to),
             Line::Soft { id, point } => append_soft(*id, *point, to),
             Line::Tx { id, port, bytes } => self.append_tx(*id, *port, bytes, to),
+            Line::Overrun { id } => append_overrun(*id, to),
             Line::Done { step, changes } => append_done(*step, *changes, to),
             Line::Refused { step, refusal } => append_refused(*step, *refusal, to),
             Line::End {
@@ -106,6 +107,14 @@ fn append_soft(id: u32, point: u32, to: &mut String) -> Result<(), NoMemory>
     append_field(point, '\n', to)
 }
 
+fn append_overrun(id: u32, to: &mut String) -> Result<(), NoMemory>
+    ensures ok { OnOk result (string_bytes to.new ≡ string_bytes to.old ++ line_text (Line.Overrun id)) }
+    ensures err { OnErr result (Extends (string_bytes to.old) (string_bytes to.new)) }
+{
+    to.push_str("overrun ")?;
+    append_field(id, '\n', to)
+}
+
 fn append_done(step: u32, changes: u32, to: &mut String) -> Result<(), NoMemory>
     ensures ok { OnOk result (string_bytes to.new ≡ string_bytes to.old ++ line_text (Line.Done step changes)) }
     ensures err { OnErr result (Extends (string_bytes to.old) (string_bytes to.new)) }
@@ -123,7 +132,10 @@ fn number_of(refusal: Refusal) -> u32
         Refusal::PortNotUp => 2,
         Refusal::NotMember => 3,
         Refusal::Exists => 4,
+        Refusal::Absent => 5,
+        Refusal::FdbFull => 6,
         Refusal::HistoryFull => 8,
+        Refusal::Backward => 9,
         Refusal::NothingWaiting => 10,
     }
 }

@@ -70,15 +70,22 @@ impl VlanTable {
         ensures exists { IsErr result ↔ IsTrue (is_member self.old p v) }
         ensures unchanged { OnErr result (self.new ≡ self.old) }
     {
-        let place = place_of(v);
-        if self.rows[place].has(p) {
+        if self.member(p, v) {
             return Err(Exists);
         }
+        self.put(p, v, untagged, pvid);
+        Ok(())
+    }
+
+    /// As `add`, but in place of a membership that is there.
+    pub fn put(&mut self, p: Port, v: Vid, untagged: bool, pvid: bool)
+        ensures { self.new ≡ after self.old (Change.VlanAdd p v untagged pvid) }
+    {
+        let place = place_of(v);
         self.rows[place] = self.rows[place].with(p, untagged);
         if pvid {
             set_pvid(&mut self.pvids, p, v);
         }
-        Ok(())
     }
 
     /// Ends the port's membership. Where the VLAN was that of the port's untagged frames, they have none.
@@ -87,13 +94,20 @@ impl VlanTable {
         ensures absent { IsErr result ↔ IsTrue (not (is_member self.old p v)) }
         ensures unchanged { OnErr result (self.new ≡ self.old) }
     {
-        let place = place_of(v);
-        if !self.rows[place].has(p) {
+        if !self.member(p, v) {
             return Err(Absent);
         }
+        self.remove(p, v);
+        Ok(())
+    }
+
+    /// As `del`, but also where there is no membership: the port's untagged frames have the VLAN no longer.
+    pub fn remove(&mut self, p: Port, v: Vid)
+        ensures { self.new ≡ after self.old (Change.VlanDel p v) }
+    {
+        let place = place_of(v);
         self.rows[place] = self.rows[place].without(p);
         unset_pvid(&mut self.pvids, p, v);
-        Ok(())
     }
 
     /// The VLAN of the port's untagged frames.

@@ -10,6 +10,9 @@ use std::alloc::Global;
 use std::process::Abort;
 use std::test::Fail;
 
+/// The room of a sink.
+const ROOM: u32 = 1 << 25;
+
 /// What a run answered, and what its sink took.
 #[derive(Drop)]
 struct Outcome {
@@ -33,7 +36,7 @@ fn ran(
         Vec::from_slice(alloc, input)?,
         Vec::from_slice(alloc, read_fails)?,
     );
-    let mut sink = MemSink::make(alloc, 100_000, Vec::from_slice(alloc, write_fails)?)?;
+    let mut sink = MemSink::make(alloc, ROOM, Vec::from_slice(alloc, write_fails)?)?;
     let status = run(alloc, &owned, &mut source, &mut sink);
     let wrote = Vec::from_slice(alloc, sink.bytes())?;
     Ok(Outcome { status, wrote })
@@ -52,6 +55,22 @@ fn is_told(
     let (head, rest) = outcome.wrote.split_at(outcome.wrote.len().min(13));
     assert_eq!(rt; head, b"transcript 1\n".as_slice(), "at {told}");
     assert_eq!(rt; rest, told.as_bytes(), "at {told}");
+    Ok(())
+}
+
+/// Runs a scenario whose transcript ends in this.
+fn ends_in(
+    rt: &impl Abort,
+    alloc: Global,
+    input: &[u8],
+    status: Status,
+    told: &str,
+) -> Result<(), Fail> {
+    let outcome = ran(alloc, &["replay"], input, &[], &[])?;
+    assert_eq!(rt; outcome.status, status, "at {told}");
+    let wrote = outcome.wrote.as_slice();
+    let (_, end) = wrote.split_at(wrote.len() - told.len().min(wrote.len()));
+    assert_eq!(rt; end, told.as_bytes());
     Ok(())
 }
 

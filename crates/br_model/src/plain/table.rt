@@ -1,17 +1,20 @@
 //! The table of a list of changes.
-ghost use Rattle.std.specs.Prelude.{◌≡◌, ◌==◌, ◌/◌, ◌%◌, ◌^◌, ◌<◌, ◌∷◌, ◌&&◌, ◌++◌, [], if◌then◌else◌, OnOk, IfOk, is_some};
-ghost use Rattle.br_model.specs.Admission.{is_up, is_forwarding, has_valid_source, vlan_of, admit};
-ghost use Rattle.br_model.specs.Eligible.{member, untagged, may};
-ghost use Rattle.br_model.specs.Domains.{host};
-ghost use Rattle.br_model.specs.Leave.{tag_at, egress_ports};
+ghost use Rattle.std.specs.Prelude.{◌≡◌, ◌==◌, ◌/◌, ◌%◌, ◌^◌, ◌<◌, ◌∷◌, ◌&&◌, ◌++◌, [], if◌then◌else◌, OnOk, IfOk, Some, is_some};
+ghost use Rattle.br_model.specs.Admission.{is_up, is_forwarding, has_valid_source, member, vlan_of_tag, vlan_of, admit};
+ghost use Rattle.std.specs.List.{list_any};
+ghost use Rattle.br_model.specs.Class.{is_snooped, crosses, is_trapped, class_by, class};
+ghost use Rattle.br_model.specs.Eligible.{untagged, may};
+ghost use Rattle.br_model.specs.Domains.{host, foreign};
+ghost use Rattle.br_model.specs.Leave.{tag_at, egress_ports, ports_out};
 ghost use Rattle.br_model.specs.Maps.{get, has, pair_cmp};
 ghost use Rattle.std.specs.Ordering.{nat_cmp};
 ghost use Rattle.br_model.specs.Table.{Table as TableOf, start, apply as after_change, ip_version};
-ghost use Rattle.br_model.specs.Targets.{has_flag, with_flag, to_tree, knows_querier, members_of, to_routers, to_members, snooped_targets, unicast_targets, targets};
+ghost use Rattle.br_model.specs.Targets.{has_flag, is_for_the_host, with_flag, to_tree, knows_querier, members_of, to_routers, to_members, snooped_targets, unicast_targets, targets};
 
 use crate::NoMemory;
 use crate::change::{Change, DISABLED, FORWARDING, Flags, Kind};
-use crate::frame::{Head, McastMsg};
+use crate::domains::Domains;
+use crate::frame::{Class, Head, McastMsg, Tag};
 use crate::group::Group;
 use crate::numbers::{Mac, Port, Vid};
 use crate::plain::maps::{find, has_member, join, part, put, take};
@@ -236,7 +239,19 @@ impl Table {
     {
         match head.tag {
             None => find(&self.pvid, &port),
-            Some(_) => None,
+            Some(tag) => self.vlan_of_tag(port, tag),
+        }
+    }
+
+    fn vlan_of_tag(&self, port: Port, tag: Tag) -> Option<Vid>
+        ensures { result ≡ vlan_of_tag self.now port (Some tag) }
+    {
+        if tag.vid == 0 {
+            return find(&self.pvid, &port);
+        }
+        match Vid::new(tag.vid) {
+            Some(vid) if self.is_member(port, vid) => Some(vid),
+            Some(_) | None => None,
         }
     }
 
@@ -371,7 +386,7 @@ impl Table {
         let address = head.dst.number();
         if (address == Mac::BRIDGE_GROUP_ADDRESS && self.stp) || address == Mac::PAUSE_ADDRESS {
             Ok(Vec::new(alloc))
-        } else if Mac::PAUSE_ADDRESS < address && address <= Mac::LAST_RESERVED_ADDRESS {
+        } else if is_for_the_host(head) {
             Ok(vec![in alloc; Port::HOST]?)
         } else if address == Mac::BROADCAST_ADDRESS {
             self.host_and(alloc, Flags::BCAST_FLOOD)
@@ -401,6 +416,74 @@ impl Table {
             self.add_egress_port(&mut egress_ports, &targets, port, number, vid)?;
         }
         Ok(egress_ports)
+    }
+
+    /// The ports that the frame leaves, ascending.
+    #[tactic(auto, unfolding(crate::specs::Leave::ports_out))]
+    pub fn ports_out(
+        &self,
+        alloc: Global,
+        port: Port,
+        head: &Head,
+        msg: &McastMsg,
+    ) -> Result<Vec<Port>, NoMemory>
+        ensures { IfOk result (λ v. v.items ≡ ports_out self.now port head.now msg.now) }
+    {
+        if self.is_for_tree(port, head) {
+            return Ok(Vec::new(alloc));
+        }
+        match self.admit(port, head) {
+            None => Ok(Vec::new(alloc)),
+            Some(vid) => self.egress_ports(alloc, port, vid, head, msg),
+        }
+    }
+
+    /// Whether the frame is for the station behind a port of another domain, and that port may take it.
+    fn crosses(&self, domains: &Domains, port: Port, vid: Vid, head: &Head) -> bool
+        ensures { result ≡ crosses domains.now self.now port vid head.now }
+    {
+        if head.dst.is_multicast() {
+            return false;
+        }
+        let other = match find(&self.addr, &(vid, head.dst)) {
+            None => return false,
+            Some((_, Kind::Local)) => Port::HOST,
+            Some((other, Kind::Static | Kind::Learned | Kind::Extern)) => other,
+        };
+        is_foreign(domains, port, other) && self.may_take(port, other, vid)
+    }
+
+    /// Whether the frame goes to the processor alone.
+    fn is_trapped(&self, domains: &Domains, port: Port, head: &Head, msg: &McastMsg) -> bool
+        ensures { result ≡ is_trapped domains.now self.now port head.now msg.now }
+    {
+        if self.is_for_tree(port, head) {
+            return true;
+        }
+        let Some(vid) = self.admit(port, head) else {
+            return false;
+        };
+        (self.snoop && is_snooped(msg))
+            || (is_for_the_host(head) && self.may_take(port, Port::HOST, vid))
+            || self.crosses(domains, port, vid, head)
+    }
+
+    /// What a chip does with the frame.
+    pub fn class(
+        &self,
+        alloc: Global,
+        domains: &Domains,
+        port: Port,
+        head: &Head,
+        msg: &McastMsg,
+    ) -> Result<Class, NoMemory>
+        ensures { IfOk result (λ c. c ≡ class domains.now self.now port head.now msg.now) }
+    {
+        if self.is_trapped(domains, port, head, msg) {
+            return Ok(Class::Trap);
+        }
+        let ports = self.ports_out(alloc, port, head, msg)?;
+        Ok(class_by(domains, port, &ports))
     }
 
     /// Adds the port of this number, where it is among the targets and may take the frame.
@@ -438,6 +521,54 @@ fn is_valid(head: &Head) -> bool
     ensures { result ≡ has_valid_source head.now }
 {
     !head.src.is_multicast() && head.src.number() != 0
+}
+
+/// Whether the destination is one of 01-80-C2-00-00-02 to 0F.
+fn is_for_the_host(head: &Head) -> bool
+    ensures { result ≡ is_for_the_host head.now.dst }
+{
+    let address = head.dst.number();
+    Mac::PAUSE_ADDRESS < address && address <= Mac::LAST_RESERVED_ADDRESS
+}
+
+fn is_foreign(domains: &Domains, p: Port, q: Port) -> bool
+    ensures { result ≡ foreign domains.now p q }
+{
+    domains.of(p) != domains.of(q)
+}
+
+/// Whether one of the ports is in another domain than this port.
+fn has_foreign(domains: &Domains, port: Port, ports: &[Port]) -> bool
+    ensures { result ≡ list_any (λ q. foreign domains.now port q) ports.now }
+{
+    ports.iter().any(|q| is_foreign(domains, port, *q))
+}
+
+/// The class of a frame that leaves one bridge by these ports, and isn't trapped.
+fn class_by(domains: &Domains, port: Port, ports: &[Port]) -> Class
+    ensures { result ≡ class_by domains.now port ports.now }
+{
+    if ports.is_empty() {
+        Class::Drop
+    } else if has_foreign(domains, port, ports) {
+        Class::Copy
+    } else {
+        Class::Forward
+    }
+}
+
+/// Whether snooping wants to see the message.
+fn is_snooped(msg: &McastMsg) -> bool
+    ensures { result ≡ is_snooped msg.now }
+{
+    match msg {
+        McastMsg::Plain | McastMsg::Payload(_) => false,
+        McastMsg::Query { .. }
+        | McastMsg::Report(_)
+        | McastMsg::Leave(_)
+        | McastMsg::Records { .. }
+        | McastMsg::Unrecognized => true,
+    }
 }
 
 fn version_of(six: bool) -> u8

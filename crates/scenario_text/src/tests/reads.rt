@@ -16,8 +16,9 @@ enum Gives {
     /// The port, and how many bytes.
     Rx(u8, usize),
     PortUp(u8),
-    /// The VLAN, the address and the port.
-    FdbAdd(u16, u64, u8),
+    Now(u64),
+    /// Another command than `port up`.
+    Command,
     Serve,
     Publish,
     End,
@@ -30,9 +31,8 @@ fn given(item: &Item) -> Gives {
         Item::Declared(port) => Gives::Declared(port.number()),
         Item::Step(Step::Rx { port, bytes }) => Gives::Rx(port.number(), bytes.len()),
         Item::Step(Step::Cmd(Command::PortUp(port))) => Gives::PortUp(port.number()),
-        Item::Step(Step::Cmd(Command::FdbAdd { vid, mac, port, .. })) => {
-            Gives::FdbAdd(vid.number(), mac.number(), port.number())
-        }
+        Item::Step(Step::Cmd(_)) => Gives::Command,
+        Item::Step(Step::Now(moment)) => Gives::Now(*moment),
         Item::Step(Step::Serve) => Gives::Serve,
         Item::Step(Step::Publish) => Gives::Publish,
         Item::End => Gives::End,
@@ -123,29 +123,25 @@ fn steps_and_commands(rt: HostRuntime) -> Result<(), Fail> {
         b"port 3 p3 soft",
         Ok(Gives::Declared(3)),
     );
-    let lines: [(&[u8], Result<Gives, LineWhy>); 22] = [
+    let lines: [(&[u8], Result<Gives, LineWhy>); 24] = [
         (b"cmd", Err(LineWhy::Word)),
         (b"cmd port", Err(LineWhy::Word)),
-        (b"cmd port up", Err(LineWhy::Word)),
         (b"cmd port up p3 p3", Err(LineWhy::Word)),
-        (b"cmd port up p4", Err(LineWhy::Port)),
         (b"cmd port up host", Err(LineWhy::Port)),
         (b"cmd port up p3", Ok(Gives::PortUp(3))),
+        (b"cmd link p3 isolated on", Ok(Gives::Command)),
+        (b"cmd link p3 hairpin on", Err(LineWhy::Word)),
         (
-            b"cmd fdb add 02:00:00:00:00:01 dev p3 vlan 4094 static",
-            Ok(Gives::FdbAdd(4094, 0x0200_0000_0001, 3)),
+            b"cmd  vlan add vid 4094 dev host  pvid untagged ",
+            Ok(Gives::Command),
+        ),
+        (
+            b"cmd vlan add vid 1 dev p3 untagged pvid",
+            Err(LineWhy::Word),
         ),
         (
             b"cmd fdb add AA:bb:CC:dd:EE:ff dev p3 vlan 1 static",
-            Ok(Gives::FdbAdd(1, 0xaabb_ccdd_eeff, 3)),
-        ),
-        (
-            b"cmd fdb add 03:00:00:00:00:01 dev host vlan x static",
-            Err(LineWhy::Address),
-        ),
-        (
-            b"cmd fdb add 00:00:00:00:00:00 dev p3 vlan 1 static",
-            Err(LineWhy::Address),
+            Ok(Gives::Command),
         ),
         (
             b"cmd fdb add 02-00-00-00-00-01 dev p3 vlan 1 static",
@@ -156,21 +152,18 @@ fn steps_and_commands(rt: HostRuntime) -> Result<(), Fail> {
             Err(LineWhy::Address),
         ),
         (
-            b"cmd fdb add 02:00:00:00:00:01 dev host vlan x static",
-            Err(LineWhy::Port),
-        ),
-        (
-            b"cmd fdb add 02:00:00:00:00:01 dev p3 vlan 4095 static",
-            Err(LineWhy::Number),
-        ),
-        (
             b"cmd fdb add 02:00:00:00:00:01 dev p3 vlan 0 static",
             Err(LineWhy::Number),
         ),
+        (b"cmd ageing 300", Ok(Gives::Command)),
+        (b"now 0", Ok(Gives::Now(0))),
         (
-            b"cmd fdb add 02:00:00:00:00:01 dev p3 vlan 1 extern",
-            Err(LineWhy::Word),
+            b"now 9007199254740991",
+            Ok(Gives::Now(9_007_199_254_740_991)),
         ),
+        (b"now 9007199254740992", Err(LineWhy::Number)),
+        (b"now", Err(LineWhy::Word)),
+        (b"now 1 ms", Err(LineWhy::Word)),
         (b"serve", Ok(Gives::Serve)),
         (b" publish ", Ok(Gives::Publish)),
         (b"serve 1", Err(LineWhy::Word)),

@@ -4,7 +4,7 @@ ghost use Rattle.br_model.specs.WrittenSteps.{names_declared};
 
 use crate::write_line;
 use br_model::bytes::Bytes;
-use br_model::change::Kind;
+use br_model::change::{Flags, Kind};
 use br_model::name::Name;
 use br_model::numbers::{Dom, Mac, Port, Vid};
 use br_model::steps::{Command, Step};
@@ -19,15 +19,38 @@ fn are_declared(step: &Step, roster: &Roster) -> bool
     match step {
         Step::Rx { port, bytes: _ } => roster.name(*port).is_some(),
         Step::Cmd(command) => match *command {
-            Command::PortUp(port) => roster.name(port).is_some(),
+            Command::PortUp(port) | Command::PortDown(port) => roster.name(port).is_some(),
+            Command::Link {
+                port,
+                flag: _,
+                on: _,
+            } => roster.name(port).is_some(),
+            Command::VlanAdd {
+                port,
+                vid: _,
+                untagged: _,
+                pvid: _,
+            } => port.is_host() || roster.name(port).is_some(),
+            Command::VlanDel { port, vid: _ } => port.is_host() || roster.name(port).is_some(),
             Command::FdbAdd {
                 vid: _,
                 mac: _,
                 port,
                 kind: _,
-            } => roster.name(port).is_some(),
+            } => port.is_host() || roster.name(port).is_some(),
+            Command::FdbDel { .. } | Command::Ageing(_) => true,
         },
+        Step::Now(_) => true,
         Step::Serve | Step::Publish => true,
+    }
+}
+
+fn added(port: Port, vid: Vid, untagged: bool, pvid: bool) -> Command {
+    Command::VlanAdd {
+        port,
+        vid,
+        untagged,
+        pvid,
     }
 }
 
@@ -54,20 +77,75 @@ fn steps_and_their_lines(rt: HostRuntime) -> Result<(), Fail> {
         port,
         bytes: Bytes::new(alloc),
     })?;
-    steps.push(Step::Cmd(Command::PortUp(port)))?;
-    steps.push(Step::Cmd(Command::FdbAdd {
-        vid: Vid::new(4094).ok_or("a VLAN")?,
-        mac: Mac::new([0x02, 0, 0, 0, 0, 0xAB]),
-        port,
-        kind: Kind::Static,
-    }))?;
+    let vid = Vid::new(4094).ok_or("a VLAN")?;
+    let mac = Mac::new([0x02, 0, 0, 0, 0, 0xAB]);
+    let flag = Flags::new(4).ok_or("a flag")?;
+    let commands = [
+        Command::PortUp(port),
+        Command::PortDown(port),
+        Command::Link {
+            port,
+            flag,
+            on: true,
+        },
+        Command::Link {
+            port,
+            flag,
+            on: false,
+        },
+        added(port, vid, false, false),
+        added(Port::HOST, vid, false, true),
+        added(port, vid, true, false),
+        added(port, vid, true, true),
+        Command::VlanDel {
+            port: Port::HOST,
+            vid,
+        },
+        Command::FdbAdd {
+            vid,
+            mac,
+            port: Port::HOST,
+            kind: Kind::Local,
+        },
+        Command::FdbAdd {
+            vid,
+            mac,
+            port,
+            kind: Kind::Static,
+        },
+        Command::FdbAdd {
+            vid,
+            mac,
+            port,
+            kind: Kind::Extern,
+        },
+        Command::FdbDel { vid, mac },
+        Command::Ageing(1_000_000),
+    ];
+    for command in commands {
+        steps.push(Step::Cmd(command))?;
+    }
+    steps.push(Step::Now(9_007_199_254_740_991))?;
     steps.push(Step::Serve)?;
     steps.push(Step::Publish)?;
     let lines = [
         "rx 63 ffffffffffff02000000000a88b50102\n",
         "rx 63 00\n",
         "cmd port up p-1\n",
+        "cmd port down p-1\n",
+        "cmd link p-1 mcast_flood on\n",
+        "cmd link p-1 mcast_flood off\n",
+        "cmd vlan add vid 4094 dev p-1\n",
+        "cmd vlan add vid 4094 dev host pvid\n",
+        "cmd vlan add vid 4094 dev p-1 untagged\n",
+        "cmd vlan add vid 4094 dev p-1 pvid untagged\n",
+        "cmd vlan del vid 4094 dev host\n",
+        "cmd fdb add 02:00:00:00:00:ab dev host vlan 4094 local\n",
         "cmd fdb add 02:00:00:00:00:ab dev p-1 vlan 4094 static\n",
+        "cmd fdb add 02:00:00:00:00:ab dev p-1 vlan 4094 extern\n",
+        "cmd fdb del 02:00:00:00:00:ab vlan 4094\n",
+        "cmd ageing 1000000\n",
+        "now 9007199254740991\n",
         "serve\n",
         "publish\n",
     ];

@@ -1,5 +1,5 @@
-//! The longest line, and the longest input.
-use super::is_told;
+//! The longest line and the longest input; the most addresses, waiting frames and changes.
+use super::{ends_in, is_told};
 use capture_runner::Status;
 use std::test::Fail;
 
@@ -22,24 +22,76 @@ fn longest_line(rt: HostRuntime) -> Result<(), Fail> {
     Ok(())
 }
 
-/// At most 65,536 bytes are taken. Nobody knows then whether the input ends.
+/// At most 2^28 bytes are taken. Nobody knows then whether the input ends.
 #[test]
 fn longest_input(rt: HostRuntime) -> Result<(), Fail> {
     let alloc = rt.alloc();
+    let most = 1 << 28;
     let rows = [
-        (65_536, "end\n", Status::Ok, "end 0 0 0 0\n"),
-        (65_537, "end\n", Status::TooLong, "too long\n"),
-        (65_535, "end", Status::Ok, "end 0 0 0 0\n"),
-        (65_536, "end", Status::TooLong, "too long\n"),
-        (65_536, "bogus\n", Status::BadLine, "bad 65521 word\n"),
-        (65_536, "bogus", Status::TooLong, "too long\n"),
+        (most, "end\n", Status::Ok, "end 0 0 0 0\n"),
+        (most, "end", Status::TooLong, "too long\n"),
+        (most + 1, "end\n", Status::TooLong, "too long\n"),
     ];
+    let mut comment = vec![in alloc; b'#'; 16_383]?;
+    comment.push(b'\n')?;
     for (count, last, status, told) in rows {
         let mut input = Vec::from_slice(alloc, b"scenario 1\n")?;
+        for _ in 0..most / 16_384 - 1 {
+            input.extend_from_slice(&comment)?;
+        }
         input.resize(count - last.len().min(count), b'\n')?;
         input.extend_from_slice(last.as_bytes())?;
         assert_eq!(rt; input.len(), count);
         is_told(&rt, alloc, &input, status, told)?;
     }
     Ok(())
+}
+
+const ONE_UP: &str = "scenario 1\nport 1 p1 soft\ncmd port up p1\n";
+
+/// The 16,385th address is refused, an address that is there still moves, and room that was freed is used.
+#[test]
+fn address_limit(rt: HostRuntime) -> Result<(), Fail> {
+    let alloc = rt.alloc();
+    let mut input = String::from_str(alloc, ONE_UP)?;
+    for number in 0..16_385u32 {
+        let [low, high, ..] = number.to_le_bytes();
+        let line = format!(in alloc;
+            "cmd fdb add 02:00:00:01:{high:02x}:{low:02x} dev p1 vlan 1 static\n"
+        )?;
+        input.push_str(line.as_str())?;
+    }
+    input.push_str("cmd fdb del 02:00:00:01:00:00 vlan 1\n")?;
+    input.push_str("cmd fdb add 02:00:00:01:40:00 dev p1 vlan 1 static\nend\n")?;
+    let told = "ok 16385 1\nrefused 16386 6\nok 16387 1\nok 16388 1\nend 16388 16389 16386 0\n";
+    ends_in(&rt, alloc, input.as_bytes(), Status::Ok, told)
+}
+
+/// The 4,097th frame that would wait doesn't; once one is served, the next one does.
+#[test]
+fn overrun(rt: HostRuntime) -> Result<(), Fail> {
+    let alloc = rt.alloc();
+    let mut input = String::from_str(alloc, ONE_UP)?;
+    for _ in 0..4097 {
+        input.push_str("rx 1 02000000000b02000000000a88b50102\n")?;
+    }
+    input.push_str("serve\nrx 1 02000000000b02000000000a88b50102\nend\n")?;
+    let told = "ok 1 3\noverrun 4097\nsoft 1 at 0\nok 4099 1\nend 4100 4 1 4096\n";
+    ends_in(&rt, alloc, input.as_bytes(), Status::Ok, told)
+}
+
+/// With 1,048,576 changes an event that makes one is refused, but a frame is sent all the same.
+#[test]
+fn full_history(rt: HostRuntime) -> Result<(), Fail> {
+    let alloc = rt.alloc();
+    let mut input = String::from_str(alloc, ONE_UP)?;
+    input.push_str("cmd link p1 flood off\n")?;
+    for _ in 0..524_286 {
+        input.push_str("cmd link p1 flood on\ncmd link p1 flood off\n")?;
+    }
+    input.push_str("cmd link p1 flood off\ncmd link p1 flood on\n")?;
+    input.push_str("rx 1 02000000000b02000000000a88b50102\nserve\nnow 5\nend\n")?;
+    let told =
+        "ok 1048574 1\nok 1048575 0\nrefused 1048576 8\nsoft 1 at 0\nrefused 1048578 8\nok 1048579 0\nend 1048579 1048576 0 0\n";
+    ends_in(&rt, alloc, input.as_bytes(), Status::Ok, told)
 }

@@ -1,30 +1,29 @@
-use Rattle.std.proofs.Common.{◌≡◌, List, ◌++◌, true, false, None, Some, sym, ap, ◌∙◌}
+use Rattle.std.proofs.Common.{◌≡◌, ℕ, List, ◌++◌, map, Option, OnOk, sym, ap, subst, ◌∙◌}
+use Rattle.std.specs.List.{filter}
 use Rattle.std.proofs.lemmas.List.{append-nil}
 use Rattle.br_model.specs.declared.transcript.Line.{Line}
-use Rattle.br_model.specs.Admission.{admit}
-use Rattle.br_model.specs.Targets.{to_tree}
-use Rattle.capture_runner.proofs.SentFrames.{sent-tree, sent-none, sent-some}
+use Rattle.br_model.specs.Eligible.{untagged}
+use Rattle.br_model.specs.Leave.{leave}
+use Rattle.br_model.specs.World.{sent}
+use Rattle.forward_rules.specs.Verdicts.{untagged_among}
+use Rattle.capture_runner.specs.Sent.{line_at}
+use Rattle.capture_runner.proofs.SentFrames.{sent-none, sent-some}
 use Rattle.capture_runner.proofs.sending.send.Goals as goal
 
-pub returns-then-is_for_tree : goal.returns-then-is_for_tree
-returns-then-is_for_tree c =
-    let asked = rw (c.port-port.ensures, c.head-head.ensures.value) at c.is_for_tree.ensures in
-    let tree : to_tree c.args.table.now c.args.frame.now.port c.args.frame.now.head ≡ true = sym asked ∙ c.if-is_for_tree.true in
-    sym (ap (λ (xs : List Line). c.args.lines.now ++ xs) (sent-tree c.args.table.now c.args.frame.now tree) ∙ append-nil c.args.lines.now)
+pub returns-in-Some : goal.returns-in-Some
+returns-in-Some c =
+    let t = c.args.tables.now in
+    let f = c.args.frame.now in
+    let vid = c.in-Some.vid in
+    let verdict = c.decide-verdict.result in
+    let decided = rw (c.port.ensures, c.head.ensures.value) at c.decide-verdict.ensures in
+    let bare : verdict.untagged ≡ filter (λ q. untagged t q vid) verdict.ports = decided.untagged ∙ ap (λ (o : Option ℕ). untagged_among t o verdict.ports) c.in-Some.is in
+    let lines : map (line_at verdict.untagged f vid) verdict.ports ≡ sent f.id (leave t f.port f.bytes f.head) =
+    ap (λ (s : List ℕ). map (line_at s f vid) verdict.ports) bare
+    ∙ sym (sent-some t f vid verdict.ports (sym c.in-Some.is ∙ decided.vid) decided.ports) in
+    subst (λ (ls : List Line). OnOk c.send_to.result (c.send_to.new.lines ≡ c.args.lines.now ++ ls)) lines c.send_to.ensures
 
-pub returns-in_default : goal.returns-in_default
-returns-in_default c =
-    let asked = rw (c.port-port.ensures, c.head-head.ensures.value) at c.is_for_tree.ensures in
-    let admits = rw (c.port-port.ensures, c.head-head.ensures.value) at c.admit.ensures in
-    let tree : to_tree c.args.table.now c.args.frame.now.port c.args.frame.now.head ≡ false = sym asked ∙ c.if-is_for_tree.false in
-    let vlan : admit c.args.table.now c.args.frame.now.port c.args.frame.now.head ≡ None = sym admits ∙ c.in_default.is in
-    sym (ap (λ (xs : List Line). c.args.lines.now ++ xs) (sent-none c.args.table.now c.args.frame.now tree vlan) ∙ append-nil c.args.lines.now)
-
-pub returns : goal.returns
-returns c =
-    let asked = rw (c.port-port.ensures, c.head-head.ensures.value) at c.is_for_tree.ensures in
-    let admits = rw (c.port-port.ensures, c.head-head.ensures.value) at c.admit.ensures in
-    let tree : to_tree c.args.table.now c.args.frame.now.port c.args.frame.now.head ≡ false = sym asked ∙ c.if-is_for_tree.false in
-    let vlan : admit c.args.table.now c.args.frame.now.port c.args.frame.now.head ≡ Some c.in-Some.vid = sym admits ∙ c.in-Some.is in
-    let sends = rw (c.deref.ensures.value, c.in_ok-ports.ensures, c.port-port.ensures, c.head-head.ensures.value) at c.send_to.ensures in
-    rw (sent-some c.args.table.now c.args.frame.now c.in-Some.vid tree vlan) sends
+pub returns-in-None : goal.returns-in-None
+returns-in-None c =
+    let decided = rw (c.port.ensures, c.head.ensures.value) at c.decide-verdict.ensures in
+    sym (ap (λ (ls : List Line). c.args.lines.now ++ ls) (sent-none c.args.tables.now c.args.frame.now (sym c.in-None.is ∙ decided.vid)) ∙ append-nil c.args.lines.now)

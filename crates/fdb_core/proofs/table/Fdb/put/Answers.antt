@@ -4,9 +4,10 @@ use Rattle.std.specs.FinMap.Entries as entries
 use Rattle.br_model.specs.Maps.{pair_cmp, get, put}
 use Rattle.open_addressing.specs.Finite as numbers
 use Rattle.fdb_core.specs.declared.entries.Entry.{Entry}
-use Rattle.fdb_core.specs.Fdb.{Table}
+use Rattle.fdb_core.specs.Fdb.{Table, place}
 use Rattle.fdb_core.specs.Packing.{by_address, AreKeys}
 use Rattle.fdb_core.proofs.ByAddress.{Key, get-by_address, put-by_address, length-by_address, keys-put}
+use Rattle.fdb_core.proofs.Addresses.{told, told-put}
 use Rattle.fdb_core.proofs.table.Fdb.put.Goals as goal
 
 pub insert-requires-clause-room : goal.insert-requires-clause-room
@@ -24,8 +25,8 @@ pub invariant_of-self : goal.invariant_of-self
 invariant_of-self c =
     subst AreKeys (sym (ap (λ (t : numbers.Table Entry). t.entries) c.insert.ensures)) (keys-put c.pack.result c.args.entry c.self.inside.entries.entries c.pack.ensures.is_key c.self.invariant)
 
-pub returns : goal.returns
-returns c =
+pub returns-clause-entries : goal.returns-clause-entries
+returns-clause-entries c =
     let k : Key = (c.args.vid, c.args.mac) in
     let m = c.self.inside.entries in
     let view : numbers.Table Entry → Table = λ t. record { entries = by_address t.entries; room = t.room } in
@@ -33,3 +34,11 @@ returns c =
     let puts : Table → Table = λ t. record { entries = put pair_cmp t.entries k c.args.entry; room = t.room } in
     ap view c.insert.ensures ∙ ap (λ q. made (by_address (entries.put nat_cmp q c.args.entry m.entries))) c.pack.ensures.value
     ∙ ap made (sym (put-by_address k c.pack.ensures.below c.args.entry m.entries)) ∙ ap puts c.self.view_is
+
+pub returns-clause-addresses : goal.returns-clause-addresses
+returns-clause-addresses c =
+    ap (λ (t : Table). told place t.entries) (returns-clause-entries c) ∙ told-put place c.args.self.now.entries (c.args.vid, c.args.mac) c.args.entry
+
+pub returns-clause-moments : goal.returns-clause-moments
+returns-clause-moments c =
+    ap (λ (t : Table). told (λ e. e.updated) t.entries) (returns-clause-entries c) ∙ told-put (λ e. e.updated) c.args.self.now.entries (c.args.vid, c.args.mac) c.args.entry

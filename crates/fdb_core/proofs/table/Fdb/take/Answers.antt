@@ -4,9 +4,10 @@ use Rattle.std.specs.FinMap.Entries as entries
 use Rattle.br_model.specs.Maps.{pair_cmp, get, without}
 use Rattle.open_addressing.specs.Finite as numbers
 use Rattle.fdb_core.specs.declared.entries.Entry.{Entry}
-use Rattle.fdb_core.specs.Fdb.{Table}
+use Rattle.fdb_core.specs.Fdb.{Table, place}
 use Rattle.fdb_core.specs.Packing.{by_address, AreKeys}
 use Rattle.fdb_core.proofs.ByAddress.{Key, get-by_address, without-by_address, keys-filter}
+use Rattle.fdb_core.proofs.Addresses.{told, told-without}
 use Rattle.fdb_core.proofs.table.Fdb.take.Goals as goal
 
 pub invariant_of-self : goal.invariant_of-self
@@ -29,3 +30,11 @@ returns-clause-rest c =
     let takes : Table → Table = λ t. record { entries = without pair_cmp t.entries k; room = t.room } in
     ap view c.take.ensures.rest ∙ ap (λ q. made (by_address (entries.where_key nat_cmp (λ x. not (eq_by_cmp nat_cmp q x)) m.entries))) c.pack.ensures.value
     ∙ ap made (sym (without-by_address k c.pack.ensures.below m.entries)) ∙ ap takes c.self.view_is
+
+pub returns-clause-addresses : goal.returns-clause-addresses
+returns-clause-addresses c =
+    ap (λ (t : Table). told place t.entries) (returns-clause-rest c) ∙ told-without place c.args.self.now.entries (c.args.vid, c.args.mac)
+
+pub returns-clause-moments : goal.returns-clause-moments
+returns-clause-moments c =
+    ap (λ (t : Table). told (λ e. e.updated) t.entries) (returns-clause-rest c) ∙ told-without (λ e. e.updated) c.args.self.now.entries (c.args.vid, c.args.mac)

@@ -5,6 +5,7 @@ use Rattle.br_model.specs.Maps.{has, without}
 use Rattle.mdb_snoop.specs.Database.{memberships}
 use Rattle.mdb_snoop.specs.Places.{flat}
 use Rattle.mdb_snoop.proofs.Views.{with_groups}
+use Rattle.br_model.proofs.KeySets.{keys-without}
 use Rattle.mdb_snoop.proofs.mdb.Mdb.part.Goals as goal
 
 pub returns-clause-there : goal.returns-clause-there
@@ -15,3 +16,7 @@ returns-clause-there c =
 
 pub returns-clause-groups : goal.returns-clause-groups
 returns-clause-groups c = with_groups _ _ (λ l. without membership_cmp l (c.args.v, c.args.g, c.args.p)) _ c.part.ensures.members c.self.view_is
+
+pub returns-clause-memberships : goal.returns-clause-memberships
+returns-clause-memberships c =
+    ap memberships (returns-clause-groups c) ∙ keys-without membership_cmp c.args.self.now.groups (c.args.v, c.args.g, c.args.p)

@@ -4,6 +4,7 @@ use Rattle.std.specs.FinMap.Entries.{is_some-find}
 use Rattle.br_model.specs.Maps.{has, without}
 use Rattle.mdb_snoop.specs.Database.{keys}
 use Rattle.mdb_snoop.proofs.Views.{with_routers}
+use Rattle.br_model.proofs.KeySets.{keys-without}
 use Rattle.mdb_snoop.proofs.mdb.Mdb.router_gone.Goals as goal
 
 pub returns-clause-there : goal.returns-clause-there
@@ -15,3 +16,6 @@ returns-clause-there c =
 
 pub returns-clause-routers : goal.returns-clause-routers
 returns-clause-routers c = with_routers _ _ (λ l. without nat_cmp l c.args.p) _ c.clear.ensures c.self.view_is
+
+pub returns-clause-ports : goal.returns-clause-ports
+returns-clause-ports c = ap (λ d. keys d.routers) (returns-clause-routers c) ∙ keys-without nat_cmp c.args.self.now.routers c.args.p

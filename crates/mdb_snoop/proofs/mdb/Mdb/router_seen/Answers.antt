@@ -4,6 +4,7 @@ use Rattle.std.specs.FinMap.Entries.{is_some-find}
 use Rattle.br_model.specs.Maps.{has, put}
 use Rattle.mdb_snoop.specs.Database.{keys}
 use Rattle.mdb_snoop.proofs.Views.{with_routers}
+use Rattle.br_model.proofs.KeySets.{keys-put}
 use Rattle.mdb_snoop.proofs.mdb.Mdb.router_seen.Goals as goal
 
 pub returns-clause-seen : goal.returns-clause-seen
@@ -17,3 +18,6 @@ returns-clause-seen c =
 
 pub returns-clause-routers : goal.returns-clause-routers
 returns-clause-routers c = with_routers _ _ (λ l. put nat_cmp l c.args.p c.args.end) _ c.set.ensures c.self.view_is
+
+pub returns-clause-ports : goal.returns-clause-ports
+returns-clause-ports c = ap (λ d. keys d.routers) (returns-clause-routers c) ∙ keys-put nat_cmp c.args.self.now.routers c.args.p c.args.end

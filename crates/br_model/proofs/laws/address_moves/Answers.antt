@@ -1,0 +1,5 @@
+use Rattle.br_model.proofs.Rows.{address_moves}
+use Rattle.br_model.proofs.laws.address_moves.Goals as goal
+
+pub returns : goal.returns
+returns c = address_moves

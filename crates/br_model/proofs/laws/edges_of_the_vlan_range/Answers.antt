@@ -1,0 +1,5 @@
+use Rattle.br_model.proofs.Rows.{edges_of_the_vlan_range}
+use Rattle.br_model.proofs.laws.edges_of_the_vlan_range.Goals as goal
+
+pub returns : goal.returns
+returns c = edges_of_the_vlan_range

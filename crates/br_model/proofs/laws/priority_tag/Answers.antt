@@ -1,0 +1,5 @@
+use Rattle.br_model.proofs.Rows.{priority_tag}
+use Rattle.br_model.proofs.laws.priority_tag.Goals as goal
+
+pub returns : goal.returns
+returns c = priority_tag

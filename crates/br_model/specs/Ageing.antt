@@ -1,0 +1,35 @@
+-- Which addresses are forgotten: learned ones when they get old.
+-- Source: IEEE 802.1D-1998 section 7.9.2 (ageing), the kernel's br_fdb_cleanup.
+use Rattle.std.specs.Prelude.{ℕ, ◌+◌, nat_le, Bool, true, false, ◌&&◌, List, map}
+use Rattle.std.specs.List.{filter}
+use Rattle.std.specs.Option.{option_map_or}
+use Rattle.br_model.specs.declared.change.Change.{Change}
+use Rattle.br_model.specs.declared.change.Change.TheVariants.{AddrDel}
+use Rattle.br_model.specs.declared.change.Kind.{Kind}
+use Rattle.br_model.specs.declared.change.Kind.TheVariants.{Local, Static, Learned, Extern}
+use Rattle.br_model.specs.Control.{Control}
+use Rattle.br_model.specs.Learning.{Address}
+use Rattle.br_model.specs.Maps.{pair_cmp, get}
+use Rattle.br_model.specs.Table.{Table}
+
+-- whether entries of this kind expire
+abbrev pub expires : Kind → Bool
+expires Local = false
+expires Static = false
+expires Learned = true
+expires Extern = false
+
+-- how long a learned entry stays that no frame renews, in milliseconds
+abbrev pub hold : Control → ℕ
+hold c = c.ageing
+
+-- whether the time of the entry is over
+abbrev pub is_old : Control → Address → Bool
+is_old c key = option_map_or (λ updated. nat_le (updated + hold c) c.now) (get pair_cmp c.updated key) false
+
+-- the entries that expire at the last moment, ascending
+abbrev pub expired : Table → Control → List Address
+expired t c = map (λ e. e.0) (filter (λ e. expires e.1.1 && is_old c e.0) t.addr)
+
+abbrev pub forgets : List Address → List Change
+forgets keys = map (λ k. AddrDel k.0 k.1) keys

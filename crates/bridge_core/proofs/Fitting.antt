@@ -1,0 +1,89 @@
+-- Changes that all fit are all made.
+use Rattle.std.proofs.Common.{◌≡◌, ℕ, zero, suc, ◌<◌, Bool, true, false, cond, ◌&&◌, List, [], ◌∷◌, ◌++◌, length, get_or, take, map, refl, sym, ap, ◌∙◌, arith, append_assoc}
+use Rattle.std.proofs.lemmas.List.{append-nil}
+use Rattle.std.specs.List.{fold, list_all}
+use Rattle.std.specs.Cmp.{first_so, second_so}
+use Rattle.br_model.specs.declared.change.Change.{Change}
+use Rattle.br_model.specs.declared.change.Change.TheVariants.{PortUp, PortDown, SetFlags, SetState, VlanAdd, VlanDel, GroupJoin, GroupPart, Router, Querier, Snoop, Stp, AddrPut, AddrDel}
+use Rattle.br_model.specs.Control.{keeps_up}
+use Rattle.br_model.specs.Course.{Course, makes, makes_all}
+use Rattle.br_model.specs.Limits.{fits, all_fit}
+use Rattle.br_model.specs.Table.{Table, apply}
+
+both : (a b : Bool) → a ≡ true → b ≡ true → (a && b) ≡ true
+both a b p q = λ i. p i && q i
+
+-- the course after changes that fit
+abbrev pub after : Course → List Change → Course
+after r cs = record { table = fold apply r.table cs; control = fold keeps_up r.control cs; changes = r.changes ++ cs }
+
+made : (r : Course) (c : Change) (cs : List Change) → fits r.table c ≡ true → after (makes r c) cs ≡ after r (c ∷ cs)
+made r c cs h =
+    ap (λ b. after (cond b (record { table = apply r.table c; control = keeps_up r.control c; changes = r.changes ++ c ∷ [] }) r) cs) h
+    ∙ ap (λ (l : List Change). record { table = fold apply (apply r.table c) cs; control = fold keeps_up (keeps_up r.control c) cs; changes = l }) (append_assoc r.changes (c ∷ []) cs)
+
+pub made_all : (r : Course) (cs : List Change) → all_fit r.table cs ≡ true → makes_all r cs ≡ after r cs
+made_all r [] h = ap (λ (l : List Change). record { table = r.table; control = r.control; changes = l }) (sym (append-nil r.changes))
+made_all r (c ∷ cs) h =
+    let here = first_so (fits r.table c) (all_fit (apply r.table c) cs) h in
+    let later = second_so (fits r.table c) (all_fit (apply r.table c) cs) h in
+    made_all (makes r c) cs (ap (λ b. all_fit (cond b (record { table = apply r.table c; control = keeps_up r.control c; changes = r.changes ++ c ∷ [] }) r).table cs) here ∙ later)
+    ∙ made r c cs here
+
+-- changes that fit behind others that do
+pub fit_behind : (t : Table) (cs ds : List Change) → all_fit t cs ≡ true → all_fit (fold apply t cs) ds ≡ true → all_fit t (cs ++ ds) ≡ true
+fit_behind t [] ds h k = k
+fit_behind t (c ∷ cs) ds h k =
+    both (fits t c) (all_fit (apply t c) (cs ++ ds)) (first_so (fits t c) (all_fit (apply t c) cs) h)
+    (fit_behind (apply t c) cs ds (second_so (fits t c) (all_fit (apply t c) cs) h) k)
+
+-- one of the changes fits the table that it finds
+pub fits_at : (t : Table) (cs : List Change) (i : ℕ) (d : Change) → all_fit t cs ≡ true → i < length cs → fits (fold apply t (take i cs)) (get_or cs i d) ≡ true
+fits_at t [] i d h less = absurd (omega arith)
+fits_at t (c ∷ cs) zero d h less = first_so (fits t c) (all_fit (apply t c) cs) h
+fits_at t (c ∷ cs) (suc i) d h less = fits_at (apply t c) cs i d (second_so (fits t c) (all_fit (apply t c) cs) h) (omega arith)
+
+-- changes that fit every table
+abbrev pub always_fits : Change → Bool
+always_fits (PortUp port) = true
+always_fits (PortDown port) = true
+always_fits (SetFlags port flags) = true
+always_fits (SetState port state) = true
+always_fits (VlanAdd port vid untagged pvid) = true
+always_fits (VlanDel port vid) = true
+always_fits (GroupJoin port vid group) = false
+always_fits (GroupPart port vid group) = true
+always_fits (Router port on) = true
+always_fits (Querier six on) = true
+always_fits (Snoop on) = true
+always_fits (Stp on) = true
+always_fits (AddrPut vid mac port kind) = false
+always_fits (AddrDel vid mac) = true
+
+fits_any : (t : Table) (c : Change) → always_fits c ≡ true → fits t c ≡ true
+fits_any t (PortUp port) h = refl
+fits_any t (PortDown port) h = refl
+fits_any t (SetFlags port flags) h = refl
+fits_any t (SetState port state) h = refl
+fits_any t (VlanAdd port vid untagged pvid) h = refl
+fits_any t (VlanDel port vid) h = refl
+fits_any t (GroupJoin port vid group) h = absurd (cc)
+fits_any t (GroupPart port vid group) h = refl
+fits_any t (Router port on) h = refl
+fits_any t (Querier six on) h = refl
+fits_any t (Snoop on) h = refl
+fits_any t (Stp on) h = refl
+fits_any t (AddrPut vid mac port kind) h = absurd (cc)
+fits_any t (AddrDel vid mac) h = refl
+
+pub all_fit_any : (t : Table) (cs : List Change) → list_all always_fits cs ≡ true → all_fit t cs ≡ true
+all_fit_any t [] h = refl
+all_fit_any t (c ∷ cs) h = both _ _ (fits_any t c (first_so _ _ h)) (all_fit_any (apply t c) cs (second_so _ _ h))
+
+pub always-append : (xs ys : List Change) → list_all always_fits xs ≡ true → list_all always_fits ys ≡ true → list_all always_fits (xs ++ ys) ≡ true
+always-append [] ys h k = k
+always-append (x ∷ xs) ys h k = both _ _ (first_so _ _ h) (always-append xs ys (second_so _ _ h) k)
+
+pub always-map : {X : Type 0} (f : X → Change) (xs : List X) → ((x : X) → always_fits (f x) ≡ true) → list_all always_fits (map f xs) ≡ true
+always-map f [] h = refl
+always-map f (x ∷ xs) h = both _ _ (h x) (always-map f xs h)

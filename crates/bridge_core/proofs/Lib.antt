@@ -1,0 +1,4 @@
+pub mod Drops
+pub mod Fitting
+pub mod Moments
+pub mod Reactions

@@ -1,0 +1,6 @@
+pub mod Entries
+pub mod Standing
+pub mod Kept
+pub mod Answers
+pub mod Lessons
+pub mod Dropping

@@ -1,0 +1,63 @@
+//! What a command is answered: its first refusal that holds, or its changes in order. A file a family of commands.
+ghost use Rattle.br_model.specs.Commands.{command as answer, sets as what_is_set};
+ghost use Rattle.bridge_core.specs.Answers.{Answers};
+ghost use Rattle.bridge_core.specs.Standing.{table_of, control_of, clocked};
+ghost use Rattle.std.specs.Prelude.{◌≡◌};
+
+mod addresses;
+mod drops;
+mod ports;
+mod vlans;
+
+use crate::faults::EventFault;
+use crate::state::{Clock, State};
+use addresses::{fdb_add, fdb_del};
+use br_model::change::Change;
+use br_model::steps::Command;
+use ports::{link, port_down, port_up};
+use std::alloc::Global;
+use vlans::{vlan_add, vlan_del};
+
+pub fn command(alloc: Global, state: &State, command: &Command) -> Result<Vec<Change>, EventFault>
+    ensures { Answers result (answer (table_of state.now) command.now) }
+{
+    match *command {
+        Command::PortUp(port) => port_up(alloc, state, port),
+        Command::PortDown(port) => port_down(alloc, state, port),
+        Command::Link { port, flag, on } => link(alloc, state, port, flag, on),
+        Command::VlanAdd {
+            port,
+            vid,
+            untagged,
+            pvid,
+        } => vlan_add(alloc, state, port, vid, untagged, pvid),
+        Command::VlanDel { port, vid } => vlan_del(alloc, state, port, vid),
+        Command::FdbAdd {
+            vid,
+            mac,
+            port,
+            kind,
+        } => fdb_add(alloc, state, vid, mac, port, kind),
+        Command::FdbDel { vid, mac } => fdb_del(alloc, state, vid, mac),
+        Command::Ageing(_) => Ok(Vec::new(alloc)),
+    }
+}
+
+/// The clock once the command is accepted.
+pub fn sets(state: &State, command: &Command) -> Clock
+    ensures { clocked result (control_of state.now) ≡ what_is_set (control_of state.now) command.now }
+{
+    match *command {
+        Command::PortUp(_)
+        | Command::PortDown(_)
+        | Command::Link { .. }
+        | Command::VlanAdd { .. }
+        | Command::VlanDel { .. }
+        | Command::FdbAdd { .. }
+        | Command::FdbDel { .. } => state.clock,
+        Command::Ageing(seconds) => Clock {
+            now: state.clock.now,
+            ageing: 1000 * u64::from(seconds),
+        },
+    }
+}

@@ -1,0 +1,164 @@
+-- The parts of a decision, over a table of ports and addresses.
+use Rattle.std.proofs.Common.{◌≡◌, ℕ, ◌/◌, ◌%◌, ◌^◌, ◌<◌, ◌≤◌, Bool, true, false, not, ◌&&◌, ◌||◌, cond, List, [], ◌∷◌, length, map, Option, None, Some, is_some, option_map, refl, sym, ap, ap₂, subst, ◌∙◌, arith, inl, inr}
+use Rattle.std.specs.Prelude.{◌==◌, nat_lt, IfSome}
+use Rattle.std.specs.List.{filter, list_any}
+use Rattle.std.specs.Option.{option_map_or}
+use Rattle.std.specs.Ordering.{nat_cmp}
+use Rattle.std.specs.Cmp.{first_so, second_so}
+use Rattle.std.proofs.lemmas.Bool.{cases_Bool, ne_eqb}
+use borrow.Author.Tests.{ltb-true, leb-true}
+use Rattle.std.proofs.lemmas.List.{length-map}
+use Rattle.br_model.specs.Admission.{admit}
+use Rattle.br_model.specs.Class.{class, class_by, is_snooped, is_trapped, is_trapped_in, reaches_host, crosses}
+use Rattle.br_model.specs.Domains.{Domains, host, foreign}
+use Rattle.br_model.specs.Eligible.{may, untagged}
+use Rattle.br_model.specs.Leave.{all_ports, egress_ports, ports_in, ports_out}
+use Rattle.br_model.specs.Limits.{most_addresses}
+use Rattle.br_model.specs.Maps.{pair_cmp, get, has}
+use Rattle.br_model.specs.Numbers.{is_multicast, broadcast}
+use Rattle.br_model.specs.Table.{Table, with_addresses}
+use Rattle.br_model.specs.Targets.{bridge_group_address, pause_address, port_of, targets, to_tree, is_for_the_host, with_flag, flood}
+use Rattle.br_model.specs.declared.change.Kind.{Kind}
+use Rattle.br_model.specs.declared.frame.Class.{Class}
+use Rattle.br_model.specs.declared.frame.Class.TheVariants.{Drop, Trap}
+use Rattle.br_model.specs.declared.frame.Head.{Head}
+use Rattle.br_model.specs.declared.frame.McastMsg.{McastMsg}
+use Rattle.fdb_core.specs.declared.entries.Entry.{Entry}
+use Rattle.fdb_core.specs.Fdb.{addresses, place}
+use Rattle.fdb_core.proofs.Addresses.{get-told}
+use Rattle.port_sets.specs.Numbers.{numbers_below, has_number}
+use Rattle.port_sets.proofs.Numbers.{same_below, filter-set, IsSetBelow-numbers_below}
+use Rattle.vlan_groups.specs.Rows.{ports_where}
+use Rattle.forward_rules.specs.PortSets.{set_of}
+use Rattle.forward_rules.specs.Verdicts.{known_port, untagged_among}
+use Rattle.forward_rules.proofs.SetLaws.{member-of}
+
+abbrev Entries : Type 0
+Entries = List ((ℕ × ℕ) × Entry)
+
+-- room for a new entry
+pub room-left : (es : Entries) (k : ℕ × ℕ) (room : ℕ) → room ≡ most_addresses → (is_some (get pair_cmp (addresses es) k) || nat_lt (length (addresses es)) most_addresses) ≡ true
+    → get pair_cmp es k ≡ None → length es < room
+room-left es k room limit fits none =
+    let found : get pair_cmp (addresses es) k ≡ None = get-told place es k ∙ ap (option_map (λ (x : Entry). (x.port, x.kind))) none in
+    let room_is : nat_lt (length (addresses es)) most_addresses ≡ true = sym (ap (λ (o : Option (ℕ × Kind)). is_some o || nat_lt (length (addresses es)) most_addresses) found) ∙ fits in
+    let few : length (addresses es) < most_addresses = ltb-true (length (addresses es)) most_addresses room_is in
+    omega (arith, few, limit, length-map {B = (ℕ × ℕ) × (ℕ × Kind)} es (λ (e : (ℕ × ℕ) × Entry). (e.0, (e.1.port, e.1.kind))))
+
+-- whether there is room at the address
+pub room-is : (es : Entries) (k : ℕ × ℕ) → (is_some (get pair_cmp es k) || nat_lt (length es) most_addresses) ≡ (is_some (get pair_cmp (addresses es) k) || nat_lt (length (addresses es)) most_addresses)
+room-is es k =
+    ap₂ (λ b n. b || nat_lt n most_addresses)
+    (mapped (get pair_cmp es k) ∙ sym (ap (λ (o : Option (ℕ × Kind)). is_some o) (get-told place es k)))
+    (sym (length-map {B = (ℕ × ℕ) × (ℕ × Kind)} es (λ (e : (ℕ × ℕ) × Entry). (e.0, (e.1.port, e.1.kind)))))
+  where
+    mapped : (o : Option Entry) → is_some o ≡ is_some {T = ℕ × Kind} (option_map (λ (x : Entry). (x.port, x.kind)) o)
+    mapped None = refl
+    mapped (Some x) = refl
+
+-- ---- the port of a known station
+
+pub known-none : (ports : Table) (es : Entries) (vid address : ℕ) → is_multicast address ≡ false → get pair_cmp es (vid, address) ≡ None → known_port (with_addresses ports (addresses es)) vid address ≡ None
+known-none ports es vid address station none =
+    ap₂ (λ b (o : Option (ℕ × Kind)). cond b None (option_map port_of o)) station (get-told place es (vid, address) ∙ ap (option_map (λ (x : Entry). (x.port, x.kind))) none)
+
+pub known-some : (ports : Table) (es : Entries) (vid address : ℕ) (e : Entry) → is_multicast address ≡ false → get pair_cmp es (vid, address) ≡ Some e → known_port (with_addresses ports (addresses es)) vid address ≡ Some (port_of (e.port, e.kind))
+known-some ports es vid address e station some =
+    ap₂ (λ b (o : Option (ℕ × Kind)). cond b None (option_map port_of o)) station (get-told place es (vid, address) ∙ ap (option_map (λ (x : Entry). (x.port, x.kind))) some)
+
+pub unknown-none : (t : Table) (vid address : ℕ) → is_multicast address ≡ false → known_port t vid address ≡ None → get pair_cmp t.addr (vid, address) ≡ None
+unknown-none t vid address station none =
+    by (get pair_cmp t.addr (vid, address)) (sym (ap (λ b. cond b None (option_map port_of (get pair_cmp t.addr (vid, address)))) station) ∙ none)
+  where
+    by : (o : Option (ℕ × Kind)) → option_map port_of o ≡ None → o ≡ None
+    by None h = refl
+    by (Some e) h = absurd (cc)
+
+-- ---- where frames are to go
+
+other : (a n : ℕ) → is_multicast a ≡ false → is_multicast n ≡ true → (a == n) ≡ false
+other a n station group = ne_eqb a n (λ e. absurd (cc (ap is_multicast e)))
+
+not-reserved : (a : ℕ) → is_multicast a ≡ false → is_for_the_host a ≡ false
+not-reserved a station = elim (cases_Bool (is_for_the_host a)) [
+  | inl e ↦
+      let low : pause_address < a = ltb-true pause_address a (first_so _ _ e) in
+      let high : a ≤ 0x0180C200000F = leb-true a 0x0180C200000F (second_so _ _ e) in
+      let one : a / 2 ^ 40 ≡ 1 = omega (arith, low, high) in
+      absurd (cc (sym station ∙ ap (λ n. n % 2 == 1) one))
+  | inr e ↦ e
+]
+
+pub nobody-targets : (t : Table) (vid : ℕ) (head : Head) (msg : McastMsg) → (((head.dst == bridge_group_address) && t.stp) || (head.dst == pause_address)) ≡ true → targets t vid head msg ≡ []
+nobody-targets t vid head msg h = by _ ((head.dst == bridge_group_address) && t.stp) (head.dst == pause_address) h
+  where
+    by : (rest : List ℕ) (a b : Bool) → (a || b) ≡ true → cond a [] (cond b [] rest) ≡ []
+    by rest true b e = refl
+    by rest false true e = refl
+    by rest false false e = absurd (cc)
+
+-- the entries mean nothing to a group address
+pub group-targets : (t : Table) (es : List ((ℕ × ℕ) × (ℕ × Kind))) (vid : ℕ) (head : Head) (msg : McastMsg) → is_multicast head.dst ≡ true → targets t vid head msg ≡ targets (with_addresses t es) vid head msg
+group-targets t es vid head msg group = rw group refl
+
+pub unknown-targets : (t : Table) (vid : ℕ) (head : Head) (msg : McastMsg) → is_multicast head.dst ≡ false → get pair_cmp t.addr (vid, head.dst) ≡ None → targets t vid head msg ≡ with_flag t flood
+unknown-targets t vid head msg station none =
+    simp (other head.dst bridge_group_address station refl, other head.dst pause_address station refl, not-reserved head.dst station, other head.dst broadcast station refl, station, none)
+
+-- ---- the class
+
+pub crosses-is : (d : Domains) (t : Table) (p vid : ℕ) (head : Head) (msg : McastMsg) (known : Option ℕ) (eligible : List ℕ) → IfSome known (λ q. q < 64)
+    → known ≡ known_port t vid head.dst → eligible ≡ ports_where (λ q. may t p q vid)
+    → option_map_or (λ q. foreign d p q && has_number eligible q) known false ≡ crosses d t p vid head
+crosses-is d t p vid head msg known eligible below is e =
+    ap (λ o. option_map_or (λ q. foreign d p q && has_number eligible q) o false) is
+    ∙ by (is_multicast head.dst) (get pair_cmp t.addr (vid, head.dst)) (subst (λ o. IfSome o (λ q. q < 64)) is below)
+  where
+    by : (group : Bool) (o : Option (ℕ × Kind)) → IfSome (cond group None (option_map port_of o)) (λ q. q < 64)
+        → option_map_or (λ q. foreign d p q && has_number eligible q) (cond group None (option_map port_of o)) false
+        ≡ (not group && option_map_or (λ x. foreign d p (port_of x) && may t p (port_of x) vid) o false)
+    by true o low = refl
+    by false None low = refl
+    by false (Some x) low = ap (λ b. foreign d p (port_of x) && b) (member-of (λ q. may t p q vid) eligible (port_of x) e low)
+
+pub or-assoc : (a b c : Bool) → ((a || b) || c) ≡ (a || (b || c))
+or-assoc true b c = refl
+or-assoc false b c = refl
+
+pub class-is : (d : Domains) (t : Table) (p vid : ℕ) (head : Head) (msg : McastMsg) (trapped : Bool) (ports : List ℕ) (cls : Class) → to_tree t p head ≡ false → admit t p head ≡ Some vid
+    → trapped ≡ is_trapped_in d t p (Some vid) head msg → ports ≡ ports_out t p head msg → cls ≡ cond trapped Trap (class_by d p ports) → cls ≡ class d t p head msg
+class-is d t p vid head msg trapped ports cls other admitted is out made =
+    made
+    ∙ ap₂ (λ b (qs : List ℕ). cond b Trap (class_by d p qs)) (is ∙ sym (ap₂ (λ b o. b || is_trapped_in d t p o head msg) other admitted)) out
+
+-- ---- the ports
+
+pub ports-are : (t : Table) (p vid : ℕ) (head : Head) (msg : McastMsg) (goal eligible ports : List ℕ) → to_tree t p head ≡ false → admit t p head ≡ Some vid
+    → goal ≡ set_of (targets t vid head msg) → eligible ≡ ports_where (λ q. may t p q vid) → ports ≡ ports_where (λ q. has_number goal q && has_number eligible q)
+    → ports ≡ ports_out t p head msg
+unfolding numbers_below ports_out egress_ports all_ports
+ports-are t p vid head msg goal eligible ports other admitted g e made =
+    made
+    ∙ same_below _ _ 64 (λ q low. ap₂ ◌&&◌ (member-of (has nat_cmp (targets t vid head msg)) goal q g low) (member-of (λ m. may t p m vid) eligible q e low))
+    ∙ sym (ap₂ (λ b o. cond b [] (ports_in t p o head msg)) other admitted)
+
+pub untagged-are : (t : Table) (vid : ℕ) (f : ℕ → Bool) (ports plain both : List ℕ) → ports ≡ ports_where f → plain ≡ ports_where (λ q. untagged t q vid)
+    → both ≡ ports_where (λ q. has_number ports q && has_number plain q) → both ≡ untagged_among t (Some vid) ports
+untagged-are t vid f ports plain both p u made =
+    made
+    ∙ same_below _ _ 64 (λ q low. ap (λ b. has_number ports q && b) (member-of (λ m. untagged t m vid) plain q u low))
+    ∙ sym (filter-set 64 ports (λ q. untagged t q vid) (p ∙ IsSetBelow-numbers_below f 64 ∙ ap (λ (ns : List ℕ). numbers_below 64 (has_number ns)) (sym p)))
+
+-- a frame for the tree, or one that isn't admitted
+pub tree-out : (t : Table) (p : ℕ) (head : Head) (msg : McastMsg) → to_tree t p head ≡ true → [] ≡ ports_out t p head msg
+unfolding ports_out
+tree-out t p head msg tree = sym (ap (λ b. cond b [] (ports_in t p (admit t p head) head msg)) tree)
+
+pub none-out : (t : Table) (p : ℕ) (head : Head) (msg : McastMsg) → to_tree t p head ≡ false → admit t p head ≡ None → [] ≡ ports_out t p head msg
+unfolding ports_out
+none-out t p head msg other none = sym (ap₂ (λ b o. cond b [] (ports_in t p o head msg)) other none)
+
+pub none-class : (d : Domains) (t : Table) (p : ℕ) (head : Head) (msg : McastMsg) → to_tree t p head ≡ false → admit t p head ≡ None → Drop ≡ class d t p head msg
+none-class d t p head msg other none =
+    ap (λ (qs : List ℕ). class_by d p qs) (none-out t p head msg other none)
+    ∙ sym (ap₂ (λ b o. cond (b || is_trapped_in d t p o head msg) Trap (class_by d p (ports_out t p head msg))) other none)

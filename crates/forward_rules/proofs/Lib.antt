@@ -1,0 +1,5 @@
+pub mod Deciding
+pub mod ForeignPorts
+pub mod Places
+pub mod PortParts
+pub mod SetLaws

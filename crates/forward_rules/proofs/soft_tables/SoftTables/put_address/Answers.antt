@@ -1,0 +1,17 @@
+use Rattle.std.proofs.Common.{ap, sym, subst, ◌∙◌}
+use Rattle.br_model.specs.Table.{Table, apply, with_addresses}
+use Rattle.br_model.specs.Limits.{fits}
+use Rattle.br_model.specs.declared.change.Change.TheVariants.{AddrPut}
+use Rattle.forward_rules.specs.contracts.soft_tables.SoftTables.{the_view}
+use Rattle.forward_rules.proofs.Deciding.{room-left}
+use Rattle.forward_rules.proofs.soft_tables.SoftTables.put_address.Goals as goal
+
+pub put-requires : goal.put-requires
+put-requires c =
+    room-left c.self.inside.fdb.entries (c.args.vid, c.args.mac) c.self.inside.fdb.room c.self.invariant
+    (ap (λ (t : Table). fits t (AddrPut c.args.vid c.args.mac c.args.port c.args.kind)) c.self.view_is ∙ c.requires)
+
+pub returns : goal.returns
+returns c =
+    ap (with_addresses c.self.inside.ports) c.put.ensures.addresses
+    ∙ ap (λ (t : Table). apply t (AddrPut c.args.vid c.args.mac c.args.port c.args.kind)) c.self.view_is

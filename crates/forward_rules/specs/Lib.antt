@@ -1,0 +1,2 @@
+pub mod PortSets
+pub mod Verdicts

@@ -1,0 +1,19 @@
+//! The software tables of a bridge: what a list of changes comes to, and what it decides of a frame.
+//!
+//! A decision looks up one address, and asks the rest of words with a bit for each port. Memory is taken at the making alone.
+#![tactic(auto)]
+
+mod flag_table;
+mod foreign;
+mod frames;
+mod place;
+pub mod port_tables;
+pub mod soft_tables;
+mod state_table;
+
+pub use br_model::NoMemory;
+pub use port_tables::PortTables;
+pub use soft_tables::{SoftTables, Verdict};
+
+#[cfg(test)]
+mod tests;

@@ -1,0 +1,17 @@
+//! Sets of ports in which one port is placed.
+ghost use Rattle.std.specs.Prelude.{◌≡◌};
+ghost use Rattle.forward_rules.specs.PortSets.{placed};
+
+use br_model::numbers::Port;
+use port_sets::Ports;
+
+/// The set with the port or without it.
+pub fn placed(set: Ports, port: Port, on: bool) -> Ports
+    ensures { result ≡ placed set port on }
+{
+    if on {
+        set.with(port.number())
+    } else {
+        set.without(port.number())
+    }
+}

@@ -1,0 +1,265 @@
+//! The whole table, and what it decides of a frame.
+ghost use Rattle.std.specs.Prelude.{◌≡◌, ◌<◌, nat_lt, ◌&&◌, ◌||◌, [], false, length, IfOk, IfSome, IsTrue, Some};
+ghost use Rattle.std.specs.Option.{is_some, option_map_or};
+ghost use Rattle.br_model.specs.Admission.{admit};
+ghost use Rattle.br_model.specs.Class.{class};
+ghost use Rattle.br_model.specs.Domains.{foreign, host};
+ghost use Rattle.br_model.specs.Leave.{ports_out};
+ghost use Rattle.br_model.specs.Limits.{fits, most_addresses};
+ghost use Rattle.br_model.specs.Maps.{pair_cmp, get};
+ghost use Rattle.br_model.specs.Table.{start, apply};
+ghost use Rattle.br_model.specs.Targets.{is_for_the_host, port_of, targets, to_tree};
+ghost use Rattle.port_sets.specs.Numbers.{has_number};
+ghost use Rattle.forward_rules.specs.PortSets.{set_of};
+ghost use Rattle.forward_rules.specs.Verdicts.{known_port, untagged_among};
+ghost use Rattle.br_model.specs.declared.change.Change.TheVariants as Change;
+
+use crate::NoMemory;
+use crate::foreign::{class_by, is_foreign};
+use crate::frames::is_for_the_host;
+use crate::port_tables::PortTables;
+use br_model::change::{Change, Kind};
+use br_model::domains::Domains;
+use br_model::frame::{Class, Head, McastMsg};
+use br_model::numbers::{Mac, Port, Vid};
+use fdb_core::{Entry, Fdb};
+use port_sets::Ports;
+use std::alloc::Global;
+use std::marker::Model;
+
+/// What a table decides of a frame.
+#[derive(Clone, Copy, PartialEq, Eq, Debug)]
+pub struct Verdict {
+    /// What a chip does with it.
+    pub class: Class,
+    /// The VLAN in which it was admitted.
+    pub vid: Option<Vid>,
+    /// The ports that it leaves, of one bridge.
+    pub ports: Ports,
+    /// Those of them that it leaves without a tag.
+    pub untagged: Ports,
+}
+
+/// The table that a list of changes comes to.
+#[derive(Drop, Debug)]
+pub struct SoftTables {
+    ports: PortTables,
+    // Entries have no moments here.
+    fdb: Fdb,
+}
+
+impl Model for SoftTables {
+    ghost use Rattle.std.specs.Prelude.{◌≡◌};
+    ghost use Rattle.br_model.specs.Limits.{most_addresses};
+    ghost use Rattle.br_model.specs.Table.{Table, with_addresses};
+    ghost use Rattle.fdb_core.specs.Fdb.{addresses};
+
+    ghost Value = { Table };
+
+    ghost view = { λ t. with_addresses t.ports (addresses t.fdb.entries) };
+
+    ghost invariant = { λ t. t.fdb.room ≡ most_addresses };
+}
+
+/// How many addresses there may be.
+const MOST_ADDRESSES: usize = 16384;
+
+/// The moment of all entries.
+const NO_MOMENT: u64 = 0;
+
+impl SoftTables {
+    /// Takes the memory for all that the table can hold.
+    pub fn make(alloc: Global) -> Result<SoftTables, NoMemory>
+        ensures { IfOk result (λ t. t ≡ start) }
+    {
+        Ok(SoftTables {
+            ports: PortTables::make(alloc)?,
+            fdb: Fdb::make(alloc, MOST_ADDRESSES)?,
+        })
+    }
+
+    /// Whether the table holds its limits after the change.
+    pub fn fits(&self, c: &Change) -> bool
+        ensures { result ≡ fits self.now c.now }
+    {
+        match *c {
+            Change::GroupJoin { vid, group, .. } => self.ports.has_room(vid, group),
+            Change::AddrPut { vid, mac, .. } => self.has_room_at(vid, mac),
+            Change::PortUp(_)
+            | Change::PortDown(_)
+            | Change::SetFlags(..)
+            | Change::SetState(..)
+            | Change::VlanAdd { .. }
+            | Change::VlanDel { .. }
+            | Change::GroupPart { .. }
+            | Change::Router { .. }
+            | Change::Querier { .. }
+            | Change::Snoop(_)
+            | Change::Stp(_)
+            | Change::AddrDel { .. } => true,
+        }
+    }
+
+    fn has_room_at(&self, vid: Vid, mac: Mac) -> bool
+        ensures { result ≡ (is_some (get pair_cmp self.now.addr (vid, mac)) || nat_lt (length self.now.addr) most_addresses) }
+    {
+        self.fdb.find(vid, mac).is_some() || self.fdb.len() < MOST_ADDRESSES
+    }
+
+    /// What the table is after one more change.
+    pub fn apply(&mut self, c: &Change)
+        requires { IsTrue (fits self.old c.now) }
+        ensures { self.new ≡ apply self.old c.now }
+    {
+        match *c {
+            Change::AddrPut {
+                vid,
+                mac,
+                port,
+                kind,
+            } => self.put_address(vid, mac, port, kind),
+            Change::AddrDel { vid, mac } => {
+                self.fdb.take(vid, mac);
+            }
+            Change::PortUp(_)
+            | Change::PortDown(_)
+            | Change::SetFlags(..)
+            | Change::SetState(..)
+            | Change::VlanAdd { .. }
+            | Change::VlanDel { .. }
+            | Change::GroupJoin { .. }
+            | Change::GroupPart { .. }
+            | Change::Router { .. }
+            | Change::Querier { .. }
+            | Change::Snoop(_)
+            | Change::Stp(_) => self.ports.apply(c),
+        }
+    }
+
+    fn put_address(&mut self, vid: Vid, mac: Mac, port: Port, kind: Kind)
+        requires { IsTrue (fits self.old (Change.AddrPut vid mac port kind)) }
+        ensures { self.new ≡ apply self.old (Change.AddrPut vid mac port kind) }
+    {
+        let entry = Entry {
+            port,
+            kind,
+            updated: NO_MOMENT,
+        };
+        self.fdb.put(vid, mac, entry);
+    }
+
+    /// The VLAN in which the port admits the frame.
+    pub fn admit(&self, p: Port, h: &Head) -> Option<Vid>
+        ensures { result ≡ admit self.now p h.now }
+    {
+        self.ports.admit(p, h)
+    }
+
+    /// What a chip does with the frame, and where it goes. The message is the one that the frame says to snooping.
+    pub fn decide(&self, p: Port, h: &Head, m: &McastMsg, d: &Domains) -> Verdict
+        ensures class { result.class ≡ class d.now self.now p h.now m.now }
+        ensures vid { result.vid ≡ admit self.now p h.now }
+        ensures ports { result.ports ≡ ports_out self.now p h.now m.now }
+        ensures untagged { result.untagged ≡ untagged_among self.now result.vid result.ports }
+    {
+        let vid = self.ports.admit(p, h);
+        if self.ports.is_for_tree(p, h) {
+            return nowhere(Class::Trap, vid);
+        }
+        match vid {
+            None => nowhere(Class::Drop, None),
+            Some(vid) => self.decide_in(p, vid, h, m, d),
+        }
+    }
+
+    fn decide_in(&self, p: Port, vid: Vid, h: &Head, m: &McastMsg, d: &Domains) -> Verdict
+        requires other { to_tree self.now p h.now ≡ false }
+        requires admitted { admit self.now p h.now ≡ Some vid }
+        ensures class { result.class ≡ class d.now self.now p h.now m.now }
+        ensures vid { result.vid ≡ Some vid }
+        ensures ports { result.ports ≡ ports_out self.now p h.now m.now }
+        ensures untagged { result.untagged ≡ untagged_among self.now result.vid result.ports }
+    {
+        let known = self.known_port(vid, h.dst);
+        let eligible = self.ports.eligible(p, vid);
+        let ports = self.targets(vid, h, m, &known).and(eligible);
+        let is_trapped = self.ports.snoops(m)
+            || reaches_host(h, &eligible)
+            || crosses(d, p, known, &eligible);
+        let class = if is_trapped {
+            Class::Trap
+        } else {
+            class_by(d, p, ports)
+        };
+        Verdict {
+            class,
+            vid: Some(vid),
+            ports,
+            untagged: ports.and(self.ports.untagged_of(vid)),
+        }
+    }
+
+    /// The port behind which a known station is.
+    fn known_port(&self, vid: Vid, address: Mac) -> Option<Port>
+        ensures { result ≡ known_port self.now vid address }
+    {
+        if address.is_multicast() {
+            return None;
+        }
+        let entry = self.fdb.find(vid, address)?;
+        Some(port_of(&entry))
+    }
+
+    /// Where an admitted frame of the VLAN is to go.
+    fn targets(&self, vid: Vid, h: &Head, m: &McastMsg, known: &Option<Port>) -> Ports
+        requires { known.now ≡ known_port self.now vid h.now.dst }
+        ensures { result ≡ set_of (targets self.now vid h.now m.now) }
+    {
+        if h.dst.is_multicast() {
+            return self.ports.group_targets(vid, h, m);
+        }
+        match *known {
+            Some(port) => Ports::empty().with(port.number()),
+            None => self.ports.flood(),
+        }
+    }
+}
+
+/// Where an entry sends: the host for a local one.
+fn port_of(entry: &Entry) -> Port
+    ensures { result ≡ port_of (entry.now.port, entry.now.kind) }
+{
+    match entry.kind {
+        Kind::Local => Port::HOST,
+        Kind::Static | Kind::Learned | Kind::Extern => entry.port,
+    }
+}
+
+fn nowhere(class: Class, vid: Option<Vid>) -> Verdict
+    ensures { result ≡ record { class = class; vid = vid; ports = []; untagged = [] } }
+{
+    Verdict {
+        class,
+        vid,
+        ports: Ports::empty(),
+        untagged: Ports::empty(),
+    }
+}
+
+/// Whether the frame is for the host by its reserved destination, and the host may take it.
+fn reaches_host(head: &Head, eligible: &Ports) -> bool
+    ensures { result ≡ (is_for_the_host head.now.dst && has_number eligible.now host) }
+{
+    is_for_the_host(head) && eligible.has(Port::HOST.number())
+}
+
+/// Whether the frame is for a known station behind a port of another domain, and that port may take it.
+fn crosses(domains: &Domains, port: Port, known: Option<Port>, eligible: &Ports) -> bool
+    ensures value { result ≡ option_map_or (λ q. foreign domains.now port q && has_number eligible.now q) known false }
+    ensures below { IfSome known (λ q. q < 64) }
+{
+    match known {
+        Some(other) => is_foreign(domains, port, other) && eligible.has(other.number()),
+        None => false,
+    }
+}

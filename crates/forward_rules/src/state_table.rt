@@ -1,0 +1,92 @@
+//! The states of ports.
+ghost use Rattle.std.specs.Prelude.{◌≡◌, ℕ, [], Some, None};
+ghost use Rattle.std.specs.Ordering.{nat_cmp};
+ghost use Rattle.br_model.specs.Admission.{learning, forwarding};
+ghost use Rattle.br_model.specs.Domains.{entries_from};
+ghost use Rattle.br_model.specs.Maps.{get, put, without};
+ghost use Rattle.forward_rules.specs.PortSets.{in_state};
+
+use crate::place::placed;
+use br_model::change::FORWARDING;
+use br_model::numbers::Port;
+use port_sets::Ports;
+use std::marker::Model;
+
+/// The state of a port that learns and doesn't forward yet (Linux's BR_STATE_LEARNING).
+const LEARNING: u8 = 2;
+
+/// The state of each port that has one, seen as the list of pairs of a port and its state, ascending by port.
+#[derive(Drop, Debug)]
+pub struct StateTable {
+    by_port: [Option<u8>; 64],
+    // The ports in the states that decisions ask for.
+    learning: Ports,
+    forwarding: Ports,
+}
+
+impl Model for StateTable {
+    ghost use Rattle.std.specs.Prelude.{ℕ, List};
+    ghost use Rattle.br_model.specs.Domains.{entries_from};
+    ghost use Rattle.forward_rules.specs.PortSets.{AreInState};
+
+    ghost Value = { List (ℕ × ℕ) };
+
+    ghost view = { λ s. entries_from 0 s.by_port };
+
+    ghost invariant = { λ s. AreInState (entries_from 0 s.by_port) s.learning s.forwarding };
+}
+
+impl StateTable {
+    /// No port has a state.
+    pub fn empty() -> StateTable
+        ensures { result ≡ [] }
+    {
+        StateTable {
+            by_port: [None; 64],
+            learning: Ports::empty(),
+            forwarding: Ports::empty(),
+        }
+    }
+
+    pub fn of(&self, port: Port) -> Option<u8>
+        ensures { result ≡ get nat_cmp self.now port }
+    {
+        self.by_port[usize::from(port.number())]
+    }
+
+    pub fn set(&mut self, port: Port, state: u8)
+        ensures { self.new ≡ put nat_cmp self.old port state }
+    {
+        self.place(port, Some(state));
+    }
+
+    /// Leaves the port without a state.
+    pub fn clear(&mut self, port: Port)
+        ensures { self.new ≡ without nat_cmp self.old port }
+    {
+        self.place(port, None);
+    }
+
+    fn place(&mut self, port: Port, state: Option<u8>)
+        ensures some { (n : ℕ) → state ≡ Some n → self.new ≡ put nat_cmp self.old port n }
+        ensures none { state ≡ None → self.new ≡ without nat_cmp self.old port }
+    {
+        self.by_port[usize::from(port.number())] = state;
+        self.learning = placed(self.learning, port, state == Some(LEARNING));
+        self.forwarding = placed(self.forwarding, port, state == Some(FORWARDING));
+    }
+
+    /// The ports in the state `learning`.
+    pub fn learning(&self) -> Ports
+        ensures { result ≡ in_state self.now learning }
+    {
+        self.learning
+    }
+
+    /// The ports in the state `forwarding`.
+    pub fn forwarding(&self) -> Ports
+        ensures { result ≡ in_state self.now forwarding }
+    {
+        self.forwarding
+    }
+}
