@@ -1,6 +1,5 @@
 -- The election, one place after another.
--- Ports that are kept in a list with a place for each, taken one after another.
-use Rattle.std.proofs.Common.{◌≡◌, ℕ, zero, suc, ◌+◌, ◌<◌, List, [], ◌∷◌, ◌++◌, length, take, get_or, Option, None, Some, Bool, true, false, cond, subst, append-nil, refl, ap, ◌∙◌, arith}
+use Rattle.std.proofs.Common.{◌≡◌, ℕ, suc, ◌+◌, ◌<◌, List, [], ◌∷◌, ◌++◌, length, take, get_or, Option, None, Some, Bool, true, false, cond, subst, append-nil, refl, ap, ◌∙◌, arith}
 use Rattle.std.specs.List.{fold, filter_map, cons_option}
 use Rattle.std.specs.Option.{ForSome, option_map_or, option_and_then}
 use Rattle.std.specs.Ordering.{ord_min, is_lt}
@@ -9,22 +8,7 @@ use Rattle.br_model.specs.declared.tree.Candidate.{Candidate}
 use Rattle.br_model.specs.declared.tree.TreePort.{TreePort}
 use Rattle.br_model.specs.TreeVectors.{candidate_cmp, candidate, least}
 use Rattle.stp_core.specs.Places.{entries_at}
-
-module _ {X : Type 0} where
-  abbrev pub entry_at : ℕ → Option X → List (ℕ × X)
-  entry_at n None = []
-  entry_at n (Some x) = (n, x) ∷ []
-
-  pub entries-more : (n i : ℕ) (ps : List (Option X)) → i < length ps → entries_at n (take (suc i) ps) ≡ entries_at n (take i ps) ++ entry_at (n + i) (get_or ps i None)
-  entries-more n i [] h = absurd (omega arith)
-  entries-more n zero (None ∷ ps) h = refl
-  entries-more n zero (Some x ∷ ps) h = let e : n ≡ n + 0 = omega arith in ap (λ (m : ℕ). (m, x) ∷ []) e
-  entries-more n (suc i) (None ∷ ps) h =
-      let e : (n + 1) + i ≡ n + suc i = omega arith in
-      entries-more (n + 1) i ps (omega arith) ∙ ap (λ m. entries_at (n + 1) (take i ps) ++ entry_at m (get_or ps i None)) e
-  entries-more n (suc i) (Some x ∷ ps) h =
-      let e : (n + 1) + i ≡ n + suc i = omega arith in
-      ap (λ (es : List (ℕ × X)). (n, x) ∷ es) (entries-more (n + 1) i ps (omega arith) ∙ ap (λ m. entries_at (n + 1) (take i ps) ++ entry_at m (get_or ps i None)) e)
+use Rattle.stp_core.proofs.PlaceLaws.{entry_at, entries-more}
 
 abbrev pub added : Option Candidate → Option Candidate → Option Candidate
 added m None = m

@@ -1,5 +1,5 @@
 -- Ports that are kept in a list with a place for each: what a change at places does to the entries.
-use Rattle.std.proofs.Common.{◌≡◌, ℕ, zero, suc, ◌+◌, ◌<◌, ◌≤◌, ◌==◌, nat_lt, ◌&&◌, ◌||◌, ◌⊎◌, inl, inr, Bool, true, false, cond, not, List, [], ◌∷◌, ◌++◌, length, map, set, get_or, Option, None, Some, refl, sym, ap, ap₂, ◌∙◌, arith}
+use Rattle.std.proofs.Common.{◌≡◌, ℕ, zero, suc, ◌+◌, ◌<◌, ◌≤◌, ◌==◌, nat_lt, ◌&&◌, ◌||◌, ◌⊎◌, inl, inr, Bool, true, false, cond, not, List, [], ◌∷◌, ◌++◌, length, map, set, take, get_or, Option, None, Some, refl, sym, ap, ap₂, ◌∙◌, arith}
 use Rattle.std.specs.List.{filter, list_any, range_with_len}
 use Rattle.std.specs.Prelude.{IsTrue, ◌↔◌}
 use Rattle.std.specs.Option.{option_map, option_map_or}
@@ -7,13 +7,14 @@ use Rattle.std.specs.declared.cmp.Ordering.TheVariants.{Less, Equal, Greater}
 use Rattle.std.specs.Ordering.{nat_cmp, is_eq}
 use Rattle.std.specs.FinMap.Entries.{by_order}
 use Rattle.std.proofs.lemmas.Bool.Decides.{nat_tests}
+use Rattle.std.proofs.lemmas.List.Folds.{list_any-append}
 use Rattle.std.proofs.lemmas.List.{get_or-set_same, get_or-set_other, length-set}
-use Rattle.std.proofs.lemmas.Bool.{cases_eq, cases_lt, eq-eqb, ne_eqb, lt-ltb, le-ltb, and_right, or_parts, cases_Bool, false≢true}
+use Rattle.std.proofs.lemmas.Bool.{cases_eq, eq-eqb, ne_eqb, lt-ltb, le-ltb, and_right, or_parts, cases_Bool, false≢true}
 use Rattle.br_model.specs.declared.tree.TreePort.{TreePort}
 use Rattle.br_model.specs.Maps.{get, put, without}
 use Rattle.br_model.specs.Tree.{each, numbers}
 use Rattle.port_sets.specs.Numbers.{numbers_below, has_number, IsSetBelow}
-use Rattle.port_sets.proofs.Numbers.{has-above, has-below, numbers_below-filter}
+use Rattle.port_sets.specs.WordsOfMembers.{has-below}
 use Rattle.stp_core.specs.Places.{entries_at}
 
 -- how a port compares with those before and after it
@@ -35,6 +36,18 @@ module _ {X : Type 0} where
   entries-cons : (n : ℕ) (o : Option X) (os : List (Option X)) → entries_at n (o ∷ os) ≡ entry_at n o ++ entries_at (n + 1) os
   entries-cons n None os = refl
   entries-cons n (Some x) os = refl
+
+  -- the entries of one place more
+  pub entries-more : (n i : ℕ) (ps : List (Option X)) → i < length ps → entries_at n (take (suc i) ps) ≡ entries_at n (take i ps) ++ entry_at (n + i) (get_or ps i None)
+  entries-more n i [] h = absurd (omega arith)
+  entries-more n zero (None ∷ ps) h = refl
+  entries-more n zero (Some x ∷ ps) h = let e : n ≡ n + 0 = omega arith in ap (λ (m : ℕ). (m, x) ∷ []) e
+  entries-more n (suc i) (None ∷ ps) h =
+      let e : (n + 1) + i ≡ n + suc i = omega arith in
+      entries-more (n + 1) i ps (omega arith) ∙ ap (λ m. entries_at (n + 1) (take i ps) ++ entry_at m (get_or ps i None)) e
+  entries-more n (suc i) (Some x ∷ ps) h =
+      let e : (n + 1) + i ≡ n + suc i = omega arith in
+      ap (λ (es : List (ℕ × X)). (n, x) ∷ es) (entries-more (n + 1) i ps (omega arith) ∙ ap (λ m. entries_at (n + 1) (take i ps) ++ entry_at m (get_or ps i None)) e)
 
   -- what stands at a port
 
@@ -200,13 +213,13 @@ module _ (t : ℕ × TreePort → Bool) (ps : List (Option TreePort)) where
   passes_at k = option_map_or (λ x. t (k, x)) (get_or ps k None) false
 
   abbrev pub Found : List ℕ → ℕ → Type 0
-  Found s i = (k : ℕ) → has_number s k ≡ (nat_lt k i && passes_at k)
+  Found s i = (k : ℕ) → k < 64 → has_number s k ≡ (nat_lt k i && passes_at k)
 
   pub found-none : (s : List ℕ) → s ≡ [] → Found s 0
-  found-none s none k = ap (λ (l : List ℕ). has_number l k) none ∙ sym (ap (λ b. b && passes_at k) (le-ltb k 0 (omega arith)))
+  found-none s none k below = ap (λ (l : List ℕ). has_number l k) none ∙ sym (ap (λ b. b && passes_at k) (le-ltb k 0 (omega arith)))
 
   pub found-other : (s : List ℕ) (i : ℕ) → Found s i → passes_at i ≡ false → Found s (i + 1)
-  found-other s i before fails k = before k ∙ by (cases_eq k i)
+  found-other s i before fails k below = before k below ∙ by (cases_eq k i)
     where
       by : (k ≡ i) ⊎ (k ≡ i → ⊥) → (nat_lt k i && passes_at k) ≡ (nat_lt k (i + 1) && passes_at k)
       by (inl here) =
@@ -214,37 +227,50 @@ module _ (t : ℕ × TreePort → Bool) (ps : List (Option TreePort)) where
           and_right (nat_lt k i) (passes_at k) none ∙ sym (and_right (nat_lt k (i + 1)) (passes_at k) none)
       by (inr apart) = ap (λ b. b && passes_at k) (later k i apart)
 
-  pub found-more : (s new : List ℕ) (i : ℕ) → i < 64 → Found s i → passes_at i ≡ true
+  pub found-more : (s new : List ℕ) (i : ℕ) → Found s i → passes_at i ≡ true
       → new ≡ numbers_below 64 (λ m. (m == i) || has_number s m)
       → Found new (i + 1)
-  found-more s new i low before passes is k = ap (λ (l : List ℕ). has_number l k) is ∙ by (cases_lt k 64) (cases_eq k i)
+  found-more s new i before passes is k below =
+      ap (λ (l : List ℕ). has_number l k) is ∙ has-below (λ m. (m == i) || has_number s m) 64 k below ∙ by (cases_eq k i)
     where
-      by : (k < 64) ⊎ (64 ≤ k) → (k ≡ i) ⊎ (k ≡ i → ⊥)
-          → has_number (numbers_below 64 (λ m. (m == i) || has_number s m)) k ≡ (nat_lt k (i + 1) && passes_at k)
-      by (inr high) there =
-          has-above (λ m. (m == i) || has_number s m) 64 k high ∙ sym (ap (λ b. b && passes_at k) (le-ltb k (i + 1) (omega arith)))
-      by (inl below) (inl here) =
-          has-below (λ m. (m == i) || has_number s m) 64 k below
-          ∙ ap (λ b. b || has_number s k) (eq-eqb k i here)
+      by : (k ≡ i) ⊎ (k ≡ i → ⊥) → ((k == i) || has_number s k) ≡ (nat_lt k (i + 1) && passes_at k)
+      by (inl here) =
+          ap (λ b. b || has_number s k) (eq-eqb k i here)
           ∙ sym (ap₂ (λ a b. a && b) (lt-ltb k (i + 1) (omega arith)) (ap passes_at here ∙ passes))
-      by (inl below) (inr apart) =
-          has-below (λ m. (m == i) || has_number s m) 64 k below
-          ∙ ap (λ b. b || has_number s k) (ne_eqb k i apart)
-          ∙ before k
-          ∙ ap (λ b. b && passes_at k) (later k i apart)
+      by (inr apart) =
+          ap (λ b. b || has_number s k) (ne_eqb k i apart) ∙ before k below ∙ ap (λ b. b && passes_at k) (later k i apart)
 
   pub found-all : (s : List ℕ) (n : ℕ) → length ps ≡ 64 → 64 ≤ n → IsSetBelow 64 s → Found s n → s ≡ numbers (filter t (entries_at 0 ps))
+  unfolding numbers_below
   found-all s n size high set all =
       set
-      ∙ numbers_below-filter (has_number s) 64
       ∙ ap (λ m. filter (has_number s) (range_with_len 0 m)) (sym size)
       ∙ sym (numbers-filter t (has_number s) 0 ps (λ k m e low. at k m (omega arith) (omega arith)))
     where
-      at : (k m : ℕ) → k ≡ m → m < n → has_number s m ≡ option_map_or (λ x. t (m, x)) (get_or ps k None) false
+      at : (k m : ℕ) → k ≡ m → m < 64 → has_number s m ≡ option_map_or (λ x. t (m, x)) (get_or ps k None) false
       at k m e low =
-          all m ∙ ap (λ b. b && passes_at m) (lt-ltb m n low) ∙ ap (λ j. option_map_or (λ x. t (m, x)) (get_or ps j None) false) (sym e)
+          all m low ∙ ap (λ b. b && passes_at m) (lt-ltb m n (omega arith)) ∙ ap (λ j. option_map_or (λ x. t (m, x)) (get_or ps j None) false) (sym e)
 
 -- whether some port passes
+
+any_at : (t : ℕ × TreePort → Bool) (n : ℕ) (o : Option TreePort) → list_any t (entry_at n o) ≡ option_map_or (λ x. t (n, x)) o false
+any_at t n None = refl
+any_at t n (Some x) = or_none (t (n, x))
+  where
+    or_none : (b : Bool) → (b || false) ≡ b
+    or_none true = refl
+    or_none false = refl
+
+-- with the ports of one place more
+pub any-more : (t : ℕ × TreePort → Bool) (i : ℕ) (ps : List (Option TreePort)) → i < length ps
+    → list_any t (entries_at 0 (take (i + 1) ps))
+    ≡ (list_any t (entries_at 0 (take i ps)) || option_map_or (λ x. t (i, x)) (get_or ps i None) false)
+any-more t i ps h =
+    let e : 0 + i ≡ i = omega arith in
+    ap (λ n. list_any t (entries_at 0 (take n ps))) (let f : i + 1 ≡ suc i = omega arith in f)
+    ∙ ap (list_any t) (entries-more 0 i ps h ∙ ap (λ n. entries_at 0 (take i ps) ++ entry_at n (get_or ps i None)) e)
+    ∙ list_any-append t (entries_at 0 (take i ps)) (entry_at i (get_or ps i None))
+    ∙ ap (λ b. list_any t (entries_at 0 (take i ps)) || b) (any_at t i (get_or ps i None))
 
 any-false : (t : ℕ × TreePort → Bool) (es : List (ℕ × TreePort)) → list_any t es ≡ false → numbers (filter t es) ≡ []
 any-false t [] h = refl

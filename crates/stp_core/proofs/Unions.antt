@@ -1,14 +1,14 @@
 -- Sets of ports are joined as the definitions join them.
 use Rattle.std.proofs.Common.{◌≡◌, ℕ, zero, suc, ◌+◌, ◌<◌, ◌≤◌, ◌==◌, ◌||◌, ◌⊎◌, inl, inr, Bool, true, false, cond, List, [], ◌∷◌, refl, sym, ap, ap₂, ◌∙◌, arith}
-use Rattle.std.specs.List.{filter, range_with_len}
+use Rattle.std.specs.List.{All, filter, range_with_len}
+use Rattle.std.proofs.lemmas.List.Elements.{All-head, All-tail}
 use Rattle.std.specs.declared.cmp.Ordering.TheVariants.{Less, Equal, Greater}
 use Rattle.std.specs.Ordering.{nat_cmp, eq_by_cmp, match_ordering}
-use Rattle.std.proofs.lemmas.Bool.{cases_eq, cases_lt, cases_Bool, eq-eqb, ne_eqb, or_parts, false≢true}
+use Rattle.std.proofs.lemmas.Bool.{cases_eq, cases_Bool, eq-eqb, ne_eqb}
 use Rattle.std.proofs.lemmas.Bool.Decides.{nat_tests}
 use Rattle.br_model.specs.Maps.{has, joined}
 use Rattle.br_model.specs.TreeSending.{union}
 use Rattle.port_sets.specs.Numbers.{numbers_below, has_number, IsSetBelow}
-use Rattle.port_sets.proofs.Numbers.{has-above, same_below, numbers_below-filter, none_below}
 
 eq_is : (k m : ℕ) → eq_by_cmp nat_cmp k m ≡ (k == m)
 eq_is k m = grind (arith, nat_tests)
@@ -78,10 +78,10 @@ insert-range p k a (suc n) low high = by (λ apart. insert-range p k (a + 1) n (
         ∙ sym (ap₂ (λ b c. cond (b || c) (a ∷ filter (λ m. (m == k) || p m) (range_with_len (a + 1) n)) (filter (λ m. (m == k) || p m) (range_with_len (a + 1) n))) (ne_eqb a k apart) fails)
 
 insert-set : (p : ℕ → Bool) (k : ℕ) → k < 64 → joined nat_cmp (numbers_below 64 p) k ≡ numbers_below 64 (λ m. (m == k) || p m)
-insert-set p k low =
-    ap (λ s. joined nat_cmp s k) (numbers_below-filter p 64) ∙ insert-range p k 0 64 (omega arith) (omega arith) ∙ sym (numbers_below-filter (λ m. (m == k) || p m) 64)
+unfolding numbers_below
+insert-set p k low = insert-range p k 0 64 (omega arith) (omega arith)
 
-exchange : (a b c : Bool) → (b || (a || c)) ≡ ((a || b) || c)
+exchange : (a b c : Bool) → ((a || b) || c) ≡ (b || (a || c))
 exchange true true c = refl
 exchange true false c = refl
 exchange false b c = refl
@@ -90,29 +90,19 @@ or_none : (b : Bool) → b ≡ (b || false)
 or_none true = refl
 or_none false = refl
 
-union-from : (p : ℕ → Bool) (q : List ℕ) → ((m : ℕ) → 64 ≤ m → has_number q m ≡ false)
-    → union (numbers_below 64 p) q ≡ numbers_below 64 (λ m. p m || has_number q m)
-union-from p [] high = same_below p (λ m. p m || false) 64 (λ m low. or_none (p m))
-union-from p (k ∷ q) high = by (cases_lt k 64)
-    (union-from (λ m. (m == k) || p m) q (λ m big. let parts = or_parts (m == k) (has_number q m) (high m big) in parts.1))
-  where
-    by : (k < 64) ⊎ (64 ≤ k)
-        → union (numbers_below 64 (λ m. (m == k) || p m)) q ≡ numbers_below 64 (λ m. ((m == k) || p m) || has_number q m)
-        → union (numbers_below 64 p) (k ∷ q) ≡ numbers_below 64 (λ m. p m || has_number (k ∷ q) m)
-    by (inr big) rest = absurd (false≢true (sym (high k big) ∙ ap (λ b. b || has_number q k) (eq-eqb k k refl)))
-    by (inl low) rest =
-        ap (λ s. union s q) (insert-set p k low)
-        ∙ rest
-        ∙ same_below (λ m. ((m == k) || p m) || has_number q m) (λ m. p m || has_number (k ∷ q) m) 64 (λ m below. sym (exchange (m == k) (p m) (has_number q m)))
+union-from : (p : ℕ → Bool) (q : List ℕ) → All (λ n. n < 64) q → union (numbers_below 64 p) q ≡ numbers_below 64 (λ m. p m || has_number q m)
+union-from p [] below = λ i. numbers_below 64 (λ m. or_none (p m) i)
+union-from p (k ∷ q) below =
+    ap (λ s. union s q) (insert-set p k (All-head (λ n. n < 64) k q below))
+    ∙ union-from (λ m. (m == k) || p m) q (All-tail (λ n. n < 64) k q below)
+    ∙ (λ i. numbers_below 64 (λ m. exchange (m == k) (p m) (has_number q m) i))
 
 -- the members of both
-pub union-is : (s q : List ℕ) → IsSetBelow 64 s → IsSetBelow 64 q → numbers_below 64 (λ m. has_number s m || has_number q m) ≡ union s q
-union-is s q hs hq =
-    sym (union-from (has_number s) q (λ m high. ap (λ l. has_number l m) hq ∙ has-above (has_number q) 64 m high)) ∙ ap (λ l. union l q) (sym hs)
+pub union-is : (s q : List ℕ) → IsSetBelow 64 s → All (λ n. n < 64) q → numbers_below 64 (λ m. has_number s m || has_number q m) ≡ union s q
+union-is s q set below = sym (union-from (has_number s) q below) ∙ ap (λ l. union l q) (sym set)
 
 -- the set of one
 pub alone : (p : ℕ) (none : List ℕ) → none ≡ [] → p < 64 → numbers_below 64 (λ m. (m == p) || has_number none m) ≡ p ∷ []
+unfolding numbers_below
 alone p none empty low =
-    ap (λ l. numbers_below 64 (λ m. (m == p) || has_number l m)) empty
-    ∙ sym (insert-set (λ m. false) p low)
-    ∙ ap (λ s. joined nat_cmp s p) (none_below (λ m. false) 64 (λ m low. refl))
+    ap (λ l. numbers_below 64 (λ m. (m == p) || has_number l m)) empty ∙ sym (insert-set (λ m. false) p low)

@@ -1,18 +1,19 @@
 //! The events of the tree, as the control plane tells them.
-ghost use Rattle.std.specs.Prelude.{◌≡◌, ◌<◌, ◌≤◌, ◌^◌, [], ◌∷◌, Some, None, true, IsSome, if◌then◌else◌};
+ghost use Rattle.std.specs.Prelude.{◌≡◌, ◌/◌, ◌%◌, ◌==◌, ◌<◌, ◌≤◌, ◌^◌, [], ◌∷◌, Some, None, true, IsSome, if◌then◌else◌};
 ghost use Rattle.br_model.specs.Tree.{fresh, bpdu_of};
-ghost use Rattle.br_model.specs.TreeStep.{Switch, Up, Down, Message, Moment, Cost, Priority, tree_step, switched, settled, with_kept, passed_on, cost_set, config_received, tcn_received, received_at, received, message};
+ghost use Rattle.br_model.specs.TreeStep.{switched, port_up, port_down, settled, with_kept, passed_on, cost_set, priority_set, config_received, tcn_received, received_at, received, message};
 ghost use Rattle.br_model.specs.TreeStates.{blocking};
 ghost use Rattle.br_model.specs.Admission.{forwarding};
 ghost use Rattle.stp_core.specs.Acting.{acted};
 ghost use Rattle.stp_core.specs.Places.{entries_at};
-ghost use Rattle.stp_core.specs.Settling.{out_of, moved_from, follows_by, ranked};
+ghost use Rattle.stp_core.specs.Settling.{moved_from, follows_by, ranked};
 
 use crate::messages::Sent;
+use crate::parameters::Parameters;
 use crate::places::{Places, change_at, put_port, take_port};
 use crate::rules::{BLOCKING, Costing, FORWARDING, Keeping, Owing, Ranking};
 use crate::steps::{Before, nothing_sent};
-use crate::tree::{Tree, TreeOut};
+use crate::tree::TreeOut;
 use crate::vectors::{is_designated, is_root_port, keeps};
 use br_model::bpdu::BpduMsg;
 use br_model::numbers::Port;
@@ -50,8 +51,16 @@ fn fresh_port(state: u8, now: u64) -> TreePort
     }
 }
 
-impl Tree {
-    fn out(&self, before: &Places, sent: Sent) -> TreeOut
+// Whether bit 7 says that a topology change is acknowledged.
+fn acknowledges(m: &ConfigMsg) -> bool
+    ensures { result ≡ (m.now.flags / 128 % 2 == 1) }
+{
+    m.flags >> 7 & 1 == 1
+}
+
+impl Parameters {
+    /// What is answered.
+    pub(crate) fn out(&self, before: &Places, sent: Sent) -> TreeOut
         ensures { result ≡ record { moved = moved_from (entries_at 0 before.now) self.now; config = sent.config; tcn = sent.tcn } }
     {
         TreeOut {
@@ -73,7 +82,7 @@ impl Tree {
         }
     }
 
-    fn turn(&mut self, on: bool, now: u64) -> Sent
+    pub(crate) fn turn(&mut self, on: bool, now: u64) -> Sent
         requires { now < 2 ^ 53 }
         ensures { acted self.new result ≡ switched self.old now on }
     {
@@ -96,7 +105,7 @@ impl Tree {
     {
         if is_root_port(&self.root(), p) {
             self.generate(now, sent);
-            if m.flags >> 7 & 1 == 1 {
+            if acknowledges(m) {
                 self.notified = None;
             }
         }
@@ -187,7 +196,7 @@ impl Tree {
         }
     }
 
-    fn receive(&mut self, p: u8, m: &BpduMsg, now: u64) -> Sent
+    pub(crate) fn receive(&mut self, p: u8, m: &BpduMsg, now: u64) -> Sent
         requires early { now < 2 ^ 53 }
         requires port { p < 64 }
         ensures { acted self.new result ≡ received self.old now p m.now }
@@ -199,7 +208,30 @@ impl Tree {
     }
 
     #[tactic(auto, using(crate::proofs::Settlements::follows_is))]
-    fn set_cost_at(&mut self, p: u8, n: u16, now: u64) -> Sent
+    pub(crate) fn bring_up(&mut self, p: u8, now: u64) -> Sent
+        requires early { now < 2 ^ 53 }
+        requires port { p < 64 }
+        ensures { acted self.new result ≡ port_up self.old now p }
+    {
+        let before = self.before();
+        let state = first_state(self.on);
+        put_port(&mut self.places, p, fresh_port(state, now));
+        self.follow(before, now)
+    }
+
+    #[tactic(auto, using(crate::proofs::Settlements::follows_is))]
+    pub(crate) fn take_down(&mut self, p: u8, now: u64) -> Sent
+        requires early { now < 2 ^ 53 }
+        requires port { p < 64 }
+        ensures { acted self.new result ≡ port_down self.old now p }
+    {
+        let before = self.before();
+        take_port(&mut self.places, p);
+        self.follow(before, now)
+    }
+
+    #[tactic(auto, using(crate::proofs::Settlements::follows_is))]
+    pub(crate) fn set_cost_at(&mut self, p: u8, n: u16, now: u64) -> Sent
         requires early { now < 2 ^ 53 }
         requires port { p < 64 }
         ensures { acted self.new result ≡ cost_set self.old now p n }
@@ -222,125 +254,15 @@ impl Tree {
         }
     }
 
-    /// The spanning tree is switched on or off (IEEE 802.1D-1998 section 8.8.1). `now` is the moment in milliseconds, here
-    /// and below.
-    #[tactic(auto, unfolding(br_model::specs::TreeStep::tree_step))]
-    pub fn switch(&mut self, on: bool, now: u64) -> TreeOut
-        requires { now < 2 ^ 53 }
-        ensures tree { self.new ≡ (tree_step self.old now (Switch on)).tree }
-        ensures out { result ≡ out_of self.old (tree_step self.old now (Switch on)) }
-    {
-        let before = self.places;
-        let sent = self.turn(on, now);
-        self.out(&before, sent)
-    }
-
-    /// A port comes up (section 8.8.2).
-    #[tactic(auto, using(crate::proofs::Settlements::follows_is), unfolding(br_model::specs::TreeStep::tree_step))]
-    pub fn port_up(&mut self, p: Port, now: u64) -> TreeOut
-        requires { now < 2 ^ 53 }
-        ensures tree { self.new ≡ (tree_step self.old now (Up p)).tree }
-        ensures out { result ≡ out_of self.old (tree_step self.old now (Up p)) }
-    {
-        let places = self.places;
-        let before = self.before();
-        let state = first_state(self.on);
-        put_port(&mut self.places, p.number(), fresh_port(state, now));
-        let sent = self.follow(before, now);
-        self.out(&places, sent)
-    }
-
-    /// A port goes down (section 8.8.3).
-    #[tactic(auto, using(crate::proofs::Settlements::follows_is), unfolding(br_model::specs::TreeStep::tree_step))]
-    pub fn port_down(&mut self, p: Port, now: u64) -> TreeOut
-        requires { now < 2 ^ 53 }
-        ensures tree { self.new ≡ (tree_step self.old now (Down p)).tree }
-        ensures out { result ≡ out_of self.old (tree_step self.old now (Down p)) }
-    {
-        let places = self.places;
-        let before = self.before();
-        take_port(&mut self.places, p.number());
-        let sent = self.follow(before, now);
-        self.out(&places, sent)
-    }
-
-    /// A message comes at a port, in whatever state it is (sections 8.7.1 and 8.7.2). At a port that isn't up it does
-    /// nothing. A tree that is off is to be told of none: it would answer like one that is on.
-    #[tactic(auto, unfolding(br_model::specs::TreeStep::tree_step))]
-    pub fn bpdu(&mut self, p: Port, m: &BpduMsg, now: u64) -> TreeOut
-        requires { now < 2 ^ 53 }
-        ensures tree { self.new ≡ (tree_step self.old now (Message p m.now)).tree }
-        ensures out { result ≡ out_of self.old (tree_step self.old now (Message p m.now)) }
-    {
-        let before = self.places;
-        let sent = self.receive(p.number(), m, now);
-        self.out(&before, sent)
-    }
-
-    /// The moment is told: what is due happens, each timer at most once.
-    #[tactic(auto, using(crate::proofs::Reading::moved_none), unfolding(br_model::specs::TreeStep::tree_step))]
-    pub fn tick(&mut self, now: u64) -> TreeOut
-        requires { now < 2 ^ 53 }
-        ensures tree { self.new ≡ (tree_step self.old now Moment).tree }
-        ensures out { result ≡ out_of self.old (tree_step self.old now Moment) }
-    {
-        if self.on {
-            return self.tick_on(now);
-        }
-        TreeOut {
-            moved: Ports::empty(),
-            config: Ports::empty(),
-            tcn: None,
-        }
-    }
-
-    #[tactic(auto, unfolding(br_model::specs::TreeStep::tree_step))]
-    fn tick_on(&mut self, now: u64) -> TreeOut
-        requires { now < 2 ^ 53 }
-        ensures tree { self.new ≡ (tree_step self.old now Moment).tree }
-        ensures out { result ≡ out_of self.old (tree_step self.old now Moment) }
-    {
-        let before = self.places;
-        let sent = self.pass_moment(now);
-        self.out(&before, sent)
-    }
-
-    /// The cost of a port's path is set (section 8.8.6).
-    #[tactic(auto, unfolding(br_model::specs::TreeStep::tree_step))]
-    pub fn set_cost(&mut self, p: Port, n: u16, now: u64) -> TreeOut
-        requires { now < 2 ^ 53 }
-        ensures tree { self.new ≡ (tree_step self.old now (Cost p n)).tree }
-        ensures out { result ≡ out_of self.old (tree_step self.old now (Cost p n)) }
-    {
-        let before = self.places;
-        let sent = self.set_cost_at(p.number(), n, now);
-        self.out(&before, sent)
-    }
-
-    /// The priority of a port, or with none that of the bridge, is set (sections 8.8.5 and 8.8.4).
-    #[tactic(auto, using(crate::proofs::Settlements::ranked_is), unfolding(br_model::specs::TreeStep::tree_step))]
-    pub fn set_priority(&mut self, p: Option<Port>, n: u16, now: u64) -> TreeOut
+    #[tactic(auto, using(crate::proofs::Settlements::ranked_is))]
+    pub(crate) fn set_priority_at(&mut self, p: Option<Port>, n: u16, now: u64) -> Sent
         requires early { now < 2 ^ 53 }
         requires small { IsSome p → n ≤ 255 }
-        ensures tree { self.new ≡ (tree_step self.old now (Priority p n)).tree }
-        ensures out { result ≡ out_of self.old (tree_step self.old now (Priority p n)) }
+        ensures { acted self.new result ≡ priority_set self.old now p n }
     {
-        let places = self.places;
         let before = self.before();
         self.rank(p, n);
-        let sent = self.follow(before, now);
-        self.out(&places, sent)
-    }
-
-    /// The configuration message that went out last on the port, since the tree was switched on.
-    pub fn message(&self, p: Port) -> BpduMsg
-        requires { IsSome (message self.now p) }
-        ensures { message self.now p ≡ Some result }
-    {
-        match self.last_message(p) {
-            Some(m) => m,
-            None => unreachable!(),
-        }
+        self.follow(before, now)
     }
 
     pub(crate) fn last_message(&self, p: Port) -> Option<BpduMsg>

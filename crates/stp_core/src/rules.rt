@@ -10,9 +10,9 @@ ghost use Rattle.br_model.specs.Table.{disabled};
 ghost use Rattle.stp_core.specs.Places.{entries_at};
 ghost use Rattle.stp_core.specs.Settling.{moved_from};
 
+use crate::parameters::Parameters;
 use crate::places::{Places, Rule, Test, any_port, change_each, ports_where};
 use crate::timers::{has_passed, is_aged_out, is_held};
-use crate::tree::Tree;
 use crate::vectors::{Election, is_designated, is_root_port};
 use br_model::tree::{Stamped, TreePort};
 use port_sets::Ports;
@@ -20,16 +20,16 @@ use port_sets::Ports;
 // The states of ports, by Linux's numbers.
 const DISABLED: u8 = 0;
 
-const LISTENING: u8 = 1;
+pub(crate) const LISTENING: u8 = 1;
 
-const LEARNING: u8 = 2;
+pub(crate) const LEARNING: u8 = 2;
 
 pub(crate) const FORWARDING: u8 = 3;
 
 pub(crate) const BLOCKING: u8 = 4;
 
 // Whether the port is the root port or designated.
-fn is_active(election: &Election, p: u8, x: &TreePort) -> bool
+pub(crate) fn is_active(election: &Election, p: u8, x: &TreePort) -> bool
     ensures { result ≡ (is_port_of election.now.root p || is_designated_by election.now.id election.now.root (p, x.now)) }
 {
     is_root_port(&election.root, p) || is_designated(election.id, &election.root, p, x)
@@ -292,7 +292,7 @@ impl Test for Moved<'_> {
     }
 }
 
-impl Tree {
+impl Parameters {
     /// Restarts every port, with the tree on.
     pub(crate) fn start(&mut self, now: u64)
         ensures { self.new ≡ on_at now self.old }

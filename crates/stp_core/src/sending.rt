@@ -5,17 +5,17 @@ ghost use Rattle.br_model.specs.TreeSending.{transmit, generate, sends_put_off, 
 ghost use Rattle.stp_core.specs.Acting.{acted, voice_of};
 
 use crate::messages::{GoingOut, Sent, Transmitting, Voice};
+use crate::parameters::Parameters;
 use crate::places::{change_each, ports_where};
 use crate::rules::PutOff;
 use crate::timers::age_at;
-use crate::tree::Tree;
 use br_model::numbers::Port;
 use port_sets::Ports;
 
 /// How long the root tells a topology change, in milliseconds: its max age and its forward delay together.
 const CHANGE_TIME: u64 = 35_000;
 
-impl Tree {
+impl Parameters {
     fn voice(&self, now: u64) -> Voice
         requires { now < 2 ^ 53 }
         ensures { result ≡ voice_of self.now now }

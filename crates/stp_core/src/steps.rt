@@ -3,20 +3,20 @@ ghost use Rattle.std.specs.Prelude.{◌≡◌, ◌<◌, ◌≤◌, ◌^◌, ◌&
 ghost use Rattle.std.specs.Option.{is_some};
 ghost use Rattle.br_model.specs.Tree.{Tree as TreeValue};
 ghost use Rattle.br_model.specs.TreeVectors.{is_root};
-ghost use Rattle.br_model.specs.TreeTimers.{change_ends};
+ghost use Rattle.br_model.specs.TreeTimers.{is_hello_due, change_ends};
 ghost use Rattle.br_model.specs.TreeStep.{states_due, tcn_due, hello_due, moment};
 ghost use Rattle.stp_core.specs.Acting.{acted};
 ghost use Rattle.stp_core.specs.Settling.{hands_over_by, detects_by, settled_by};
 
 use crate::messages::Sent;
+use crate::parameters::Parameters;
 use crate::timers::has_passed;
-use crate::tree::Tree;
 use port_sets::Ports;
 
 /// Between two hellos of the root, and two notifications, in milliseconds.
-const HELLO_TIME: u64 = 2000;
+pub(crate) const HELLO_TIME: u64 = 2000;
 
-const TCN_TIME: u64 = 2000;
+pub(crate) const TCN_TIME: u64 = 2000;
 
 /// What is remembered of the tree before an event.
 #[derive(Clone, Copy)]
@@ -35,7 +35,7 @@ pub(crate) fn nothing_sent() -> Sent
     }
 }
 
-impl Tree {
+impl Parameters {
     pub(crate) fn before(&self) -> Before
         ensures { result ≡ record { is_root = is_root self.now; is_changing = is_some self.now.change_end } }
     {
@@ -118,12 +118,18 @@ impl Tree {
         }
     }
 
+    fn is_hello_due(&self, now: u64) -> bool
+        ensures { result ≡ (is_root self.now && is_hello_due now self.now) }
+    {
+        self.is_root() && has_passed(self.hello, HELLO_TIME, now)
+    }
+
     // The root sends its hello.
     fn send_hello(&mut self, now: u64, sent: &mut Sent)
         requires { now < 2 ^ 53 }
         ensures { acted self.new sent.new ≡ hello_due now (acted self.old sent.old) }
     {
-        if self.is_root() && has_passed(self.hello, HELLO_TIME, now) {
+        if self.is_hello_due(now) {
             self.hello = now;
             self.generate(now, sent);
         }

@@ -25,6 +25,7 @@ enum Event {
     Now,
     Cost(u8, u16),
     Priority(u16),
+    PortPriority(u8, u8),
 }
 
 // The moment, the event, and the ports that move, that send a configuration message, and the one that notifies.
@@ -65,6 +66,7 @@ fn apply(rt: &impl Abort, tree: &mut Tree, now: u64, event: Event) -> TreeOut
         Event::Now => tree.tick(now),
         Event::Cost(p, n) => tree.set_cost(port(rt, p), n, now),
         Event::Priority(n) => tree.set_priority(None, n, now),
+        Event::PortPriority(p, n) => tree.set_priority(Some(port(rt, p)), u16::from(n), now),
     }
 }
 
@@ -85,6 +87,9 @@ fn assert_rows(rt: &impl Abort, tree: &mut Tree, rows: &[Row]) {
         assert_ports(rt, out.moved, moved, at);
         assert_ports(rt, out.config, config, at);
         assert_eq!(rt; out.tcn.map(|p| p.number()), *tcn, "row {at}");
+        if let Event::Now = event {
+            assert!(rt; now < tree.due, "row {at}");
+        }
         at = at.wrapping_add(1);
     }
 }
@@ -117,33 +122,151 @@ fn ports_of_one_root(rt: HostRuntime) {
     assert_eq!(rt; tree.last_message(port(&rt, 2)), Some(says(1, 1, 0, 1, 2)));
 }
 
-#[test]
-fn ties(rt: HostRuntime) {
-    // What both ports are told, the second one better: by cost, by bridge, by the sender's port.
-    let told = [
-        (Event::Says(1, 0, 20, 2, 1), Event::Says(2, 0, 10, 3, 2)),
-        (Event::Says(1, 0, 10, 3, 1), Event::Says(2, 0, 10, 2, 2)),
-        (Event::Says(1, 0, 10, 2, 2), Event::Says(2, 0, 10, 2, 1)),
-    ];
-    for (first, second) in told {
-        let mut tree = tree_of_two_ports(&rt);
-        apply(&rt, &mut tree, 0, first);
-        apply(&rt, &mut tree, 0, second);
-        assert_eq!(rt; tree.state(port(&rt, 1)), 4, "after {second:?}");
-        assert_eq!(rt; tree.state(port(&rt, 2)), 1, "after {second:?}");
+// What a port of a bridge in a network comes to.
+#[derive(Clone, Copy, Debug)]
+enum Role {
+    Root,
+    /// It says that the root is this bridge at this cost.
+    Designated(u8, u32),
+    Blocked,
+}
+
+// A bridge, its port and the cost of that port's path, what the port hears of the bridge that speaks on its LAN (root, cost,
+// bridge, port), and what it comes to.
+type PortRow = (u8, u8, u16, Option<(u8, u32, u8, u8)>, Role);
+
+// The bridge of these rows, once it has heard what its ports hear.
+fn bridge_of(rt: &impl Abort, own: u8, rows: &[PortRow]) -> Tree {
+    let mut tree = Tree::make(Mac::new([2, 0, 0, 0, 0, own]));
+    for (bridge, p, cost, _, _) in rows {
+        if *bridge == own {
+            tree.port_up(port(rt, *p), 0);
+            tree.set_cost(port(rt, *p), *cost, 0);
+        }
     }
-    // The same is told to both ports: the own port decides, by its number and then by its priority.
-    let mut tree = tree_of_two_ports(&rt);
-    apply(&rt, &mut tree, 0, Event::Says(2, 0, 10, 2, 1));
-    apply(&rt, &mut tree, 0, Event::Says(1, 0, 10, 2, 1));
-    assert_eq!(rt;
-        (tree.state(port(&rt, 1)), tree.state(port(&rt, 2))),
-        (1, 4)
+    tree.switch(true, 0);
+    for (bridge, p, _, heard, _) in rows {
+        if let (true, Some((root, cost, sender, sent_by))) = (*bridge == own, *heard) {
+            apply(
+                rt,
+                &mut tree,
+                0,
+                Event::Says(*p, root, cost, sender, sent_by),
+            );
+        }
+    }
+    tree.tick(1000);
+    tree
+}
+
+fn said(rt: &impl Abort, tree: &Tree, p: u8) -> Option<(u64, u32, u64, u16)> {
+    let p = port(rt, p);
+    tree.last_message(p)?;
+    match tree.message(p) {
+        BpduMsg::Config {
+            root,
+            cost,
+            bridge,
+            port,
+            ..
+        } => Some((root, cost, bridge, port)),
+        BpduMsg::Tcn => None,
+    }
+}
+
+fn assert_role(rt: &impl Abort, tree: &Tree, own: u8, p: u8, role: Role) {
+    let state = tree.state(port(rt, p));
+    match role {
+        Role::Root => assert_eq!(rt; state, 1, "bridge {own}, port {p}"),
+        Role::Designated(root, cost) => {
+            assert_eq!(rt; state, 1, "bridge {own}, port {p}");
+            let wanted = (
+                BRIDGE + u64::from(root),
+                cost,
+                BRIDGE + u64::from(own),
+                PORT + u16::from(p),
+            );
+            assert_eq!(rt; said(rt, tree, p), Some(wanted));
+        }
+        Role::Blocked => assert_eq!(rt; state, 4, "bridge {own}, port {p}"),
+    }
+}
+
+fn assert_network(rt: &impl Abort, rows: &[PortRow]) {
+    for (own, p, _, _, role) in rows {
+        let tree = bridge_of(rt, *own, rows);
+        assert_role(rt, &tree, *own, *p, *role);
+    }
+}
+
+#[test]
+fn ties_at_the_third_bridge(rt: HostRuntime) {
+    // The root decides, the cost, the bridge, its port; and then the own port, where both are on one LAN.
+    let networks: [[PortRow; 2]; 5] = [
+        [
+            (3, 1, 100, Some((2, 0, 2, 1)), Role::Designated(1, 110)),
+            (3, 2, 100, Some((1, 10, 4, 1)), Role::Root),
+        ],
+        [
+            (3, 1, 100, Some((1, 10, 2, 1)), Role::Blocked),
+            (3, 2, 89, Some((1, 20, 2, 2)), Role::Root),
+        ],
+        [
+            (3, 1, 100, Some((1, 10, 4, 1)), Role::Blocked),
+            (3, 2, 90, Some((1, 20, 2, 1)), Role::Root),
+        ],
+        [
+            (3, 1, 100, Some((1, 10, 2, 2)), Role::Blocked),
+            (3, 2, 100, Some((1, 10, 2, 1)), Role::Root),
+        ],
+        [
+            (3, 1, 100, Some((1, 10, 2, 1)), Role::Root),
+            (3, 2, 100, Some((1, 10, 2, 1)), Role::Blocked),
+        ],
+    ];
+    for rows in &networks {
+        assert_network(&rt, rows);
+    }
+}
+
+#[test]
+fn three_bridges(rt: HostRuntime) {
+    // Each bridge is on a first LAN; bridges 1 and 2 are on a second one; bridge 2 is on a third one, and bridge 3 twice.
+    assert_network(
+        &rt,
+        &[
+            (1, 1, 100, Some((1, 100, 3, 1)), Role::Designated(1, 0)),
+            (1, 2, 100, None, Role::Designated(1, 0)),
+            (2, 1, 100, Some((1, 0, 1, 1)), Role::Root),
+            (2, 2, 100, Some((1, 0, 1, 2)), Role::Blocked),
+            (2, 3, 100, Some((1, 100, 3, 2)), Role::Designated(1, 100)),
+            (3, 1, 100, Some((1, 0, 1, 1)), Role::Root),
+            (3, 2, 100, Some((1, 100, 2, 3)), Role::Blocked),
+            (3, 3, 100, Some((1, 100, 2, 3)), Role::Blocked),
+        ],
     );
-    tree.set_priority(Some(port(&rt, 2)), 64, 0);
-    assert_eq!(rt;
-        (tree.state(port(&rt, 1)), tree.state(port(&rt, 2))),
-        (4, 1)
+}
+
+#[test]
+fn active_topology_of_five_bridges(rt: HostRuntime) {
+    // Of the LANs, A has bridges 1 and 2; B 1, 3 and 4; C 2, 3 and 5; D and E both 4 and 5. The near path of bridge 3 makes
+    // it the designated bridge of C.
+    assert_network(
+        &rt,
+        &[
+            (1, 1, 100, None, Role::Designated(1, 0)),
+            (1, 2, 100, None, Role::Designated(1, 0)),
+            (2, 1, 100, Some((1, 0, 1, 1)), Role::Root),
+            (2, 2, 100, Some((1, 19, 3, 2)), Role::Blocked),
+            (3, 1, 19, Some((1, 0, 1, 2)), Role::Root),
+            (3, 2, 100, Some((1, 100, 2, 2)), Role::Designated(1, 19)),
+            (4, 1, 100, Some((1, 0, 1, 2)), Role::Root),
+            (4, 2, 100, Some((1, 119, 5, 2)), Role::Designated(1, 100)),
+            (4, 3, 100, None, Role::Designated(1, 100)),
+            (5, 1, 100, Some((1, 19, 3, 2)), Role::Root),
+            (5, 2, 100, Some((1, 100, 4, 2)), Role::Blocked),
+            (5, 3, 100, Some((1, 100, 4, 3)), Role::Blocked),
+        ],
     );
 }
 
@@ -191,6 +314,18 @@ fn own_message_returns(rt: HostRuntime) {
         (2000, Event::Says(2, 0, 50, 1, 1), &[2], &[], None),
         (20_000, Event::Now, &[1], &[1], None),
         (22_000, Event::Now, &[2], &[1, 2], None),
+    ];
+    assert_rows(&rt, &mut tree, &rows);
+}
+
+#[test]
+fn ports_of_one_lan(rt: HostRuntime) {
+    let mut tree = tree_of_two_ports(&rt);
+    // Both ports hear the same: the lower number wins, and then the lower priority.
+    let rows: [Row; 3] = [
+        (0, Event::Says(2, 0, 10, 2, 1), &[], &[], None),
+        (0, Event::Says(1, 0, 10, 2, 1), &[2], &[], None),
+        (0, Event::PortPriority(2, 64), &[1, 2], &[], None),
     ];
     assert_rows(&rt, &mut tree, &rows);
 }

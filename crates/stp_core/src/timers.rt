@@ -6,7 +6,7 @@ ghost use Rattle.br_model.specs.TreeSending.{age_at};
 use br_model::tree::{Stamped, Times, TreePort};
 
 /// Less than this, in milliseconds, lies between two configuration messages of a port.
-const HOLD_TIME: u64 = 1000;
+pub(crate) const HOLD_TIME: u64 = 1000;
 
 /// Whether so many milliseconds have passed since the start.
 pub(crate) fn has_passed(start: u64, span: u64, now: u64) -> bool

@@ -1,40 +1,33 @@
-//! The state of the spanning tree, and what can be read of it.
-ghost use Rattle.std.specs.Prelude.{◌≡◌, ◌<◌};
-ghost use Rattle.std.specs.Option.{ForSome};
-ghost use Rattle.br_model.specs.Tree.{first_tree, bridge_id, port_at, state_at};
-ghost use Rattle.br_model.specs.TreeVectors.{root_of, root_kept, is_root};
-ghost use Rattle.br_model.specs.TreeTimers.{times, forward_delay, is_changing, hold};
+//! The spanning tree, as the control plane tells it events and reads it.
+ghost use Rattle.std.specs.Prelude.{◌≡◌, ◌<◌, ◌≤◌, ◌^◌, Some, IsSome};
+ghost use Rattle.br_model.specs.Tree.{first_tree, state_at};
+ghost use Rattle.br_model.specs.TreeTimers.{hold};
+ghost use Rattle.br_model.specs.TreeStep.{Switch, Up, Down, Message, Moment, Cost, Priority, tree_step, message};
+ghost use Rattle.stp_core.specs.Settling.{out_of};
 
-use crate::places::Places;
-use crate::timers::{milliseconds, times_of};
-use crate::vectors::{Election, elect};
+use crate::parameters::Parameters;
+use br_model::bpdu::BpduMsg;
 use br_model::numbers::{Mac, Port};
-use br_model::tree::{Root, Stamped, Times, TreePort};
 use port_sets::Ports;
 use std::marker::Model;
 
 /// The spanning tree.
 #[derive(Drop)]
 pub struct Tree {
-    pub(crate) own: Mac,
-    pub(crate) priority: u16,
-    pub(crate) on: bool,
-    pub(crate) places: Places,
-    /// The end of this bridge's own topology change, while it is the root.
-    pub(crate) change_end: Option<u64>,
-    /// When the last notification went out, while it isn't acknowledged.
-    pub(crate) notified: Option<u64>,
-    /// From when on the next hello is counted.
-    pub(crate) hello: u64,
+    parameters: Parameters,
+    /// The first moment at which something is due.
+    pub(crate) due: u64,
 }
 
 impl Model for Tree {
     ghost use Rattle.br_model.specs.Tree as tree;
-    ghost use Rattle.stp_core.specs.Places.{entries_at};
+    ghost use Rattle.stp_core.specs.Due.{IsFirst, is_any_due};
 
     ghost Value = { tree.Tree };
 
-    ghost view = { λ t. record { own = t.own; priority = t.priority; on = t.on; ports = entries_at 0 t.places; change_end = t.change_end; notified = t.notified; hello = t.hello } };
+    ghost view = { λ t. t.parameters };
+
+    ghost invariant = { λ t. IsFirst t.due (is_any_due t.parameters) };
 }
 
 /// What an event does besides changing the tree.
@@ -53,103 +46,148 @@ impl Tree {
     pub fn make(own: Mac) -> Tree
         ensures { result ≡ first_tree own }
     {
-        Tree {
-            own,
-            priority: 32768,
-            on: false,
-            places: [None; 64],
-            change_end: None,
-            notified: None,
-            hello: 0,
+        let parameters = Parameters::first(own);
+        let due = parameters.due();
+        Tree { parameters, due }
+    }
+
+    /// The spanning tree is switched on or off (IEEE 802.1D-1998 section 8.8.1). `now` is the moment in milliseconds, here
+    /// and below.
+    #[tactic(auto, unfolding(br_model::specs::TreeStep::tree_step))]
+    pub fn switch(&mut self, on: bool, now: u64) -> TreeOut
+        requires { now < 2 ^ 53 }
+        ensures tree { self.new ≡ (tree_step self.old now (Switch on)).tree }
+        ensures out { result ≡ out_of self.old (tree_step self.old now (Switch on)) }
+    {
+        let before = self.parameters.places();
+        let sent = self.parameters.turn(on, now);
+        self.due = self.parameters.due();
+        self.parameters.out(&before, sent)
+    }
+
+    /// A port comes up (section 8.8.2).
+    #[tactic(auto, unfolding(br_model::specs::TreeStep::tree_step))]
+    pub fn port_up(&mut self, p: Port, now: u64) -> TreeOut
+        requires { now < 2 ^ 53 }
+        ensures tree { self.new ≡ (tree_step self.old now (Up p)).tree }
+        ensures out { result ≡ out_of self.old (tree_step self.old now (Up p)) }
+    {
+        let before = self.parameters.places();
+        let sent = self.parameters.bring_up(p.number(), now);
+        self.due = self.parameters.due();
+        self.parameters.out(&before, sent)
+    }
+
+    /// A port goes down (section 8.8.3).
+    #[tactic(auto, unfolding(br_model::specs::TreeStep::tree_step))]
+    pub fn port_down(&mut self, p: Port, now: u64) -> TreeOut
+        requires { now < 2 ^ 53 }
+        ensures tree { self.new ≡ (tree_step self.old now (Down p)).tree }
+        ensures out { result ≡ out_of self.old (tree_step self.old now (Down p)) }
+    {
+        let before = self.parameters.places();
+        let sent = self.parameters.take_down(p.number(), now);
+        self.due = self.parameters.due();
+        self.parameters.out(&before, sent)
+    }
+
+    /// A message comes at a port, in whatever state it is (sections 8.7.1 and 8.7.2). At a port that isn't up it does
+    /// nothing. A tree that is off is to be told of none: it would answer like one that is on.
+    #[tactic(auto, unfolding(br_model::specs::TreeStep::tree_step))]
+    pub fn bpdu(&mut self, p: Port, m: &BpduMsg, now: u64) -> TreeOut
+        requires { now < 2 ^ 53 }
+        ensures tree { self.new ≡ (tree_step self.old now (Message p m.now)).tree }
+        ensures out { result ≡ out_of self.old (tree_step self.old now (Message p m.now)) }
+    {
+        let before = self.parameters.places();
+        let sent = self.parameters.receive(p.number(), m, now);
+        self.due = self.parameters.due();
+        self.parameters.out(&before, sent)
+    }
+
+    /// The moment is told: what is due happens, each timer at most once. Where nothing is due it costs a comparison.
+    pub fn tick(&mut self, now: u64) -> TreeOut
+        requires { now < 2 ^ 53 }
+        ensures tree { self.new ≡ (tree_step self.old now Moment).tree }
+        ensures out { result ≡ out_of self.old (tree_step self.old now Moment) }
+    {
+        if now < self.due {
+            return TreeOut {
+                moved: Ports::empty(),
+                config: Ports::empty(),
+                tcn: None,
+            };
         }
+        self.pass(now)
     }
 
-    /// The identifier of the bridge: its priority, then its address.
-    pub(crate) fn bridge_id(&self) -> u64
-        ensures { result ≡ bridge_id self.now }
+    #[tactic(auto, unfolding(br_model::specs::TreeStep::tree_step))]
+    fn pass(&mut self, now: u64) -> TreeOut
+        requires { now < 2 ^ 53 }
+        ensures tree { self.new ≡ (tree_step self.old now Moment).tree }
+        ensures out { result ≡ out_of self.old (tree_step self.old now Moment) }
     {
-        (u64::from(self.priority) << 48) + self.own.number()
+        let before = self.parameters.places();
+        let sent = self.parameters.pass_moment(now);
+        self.due = self.parameters.due();
+        self.parameters.out(&before, sent)
     }
 
-    #[tactic(auto, unfolding(br_model::specs::TreeVectors::root_of))]
-    pub(crate) fn root(&self) -> Root
-        ensures value { result ≡ root_of self.now }
-        ensures below { ForSome result.port (λ p. p < 64) }
+    /// The cost of a port's path is set (section 8.8.6).
+    #[tactic(auto, unfolding(br_model::specs::TreeStep::tree_step))]
+    pub fn set_cost(&mut self, p: Port, n: u16, now: u64) -> TreeOut
+        requires { now < 2 ^ 53 }
+        ensures tree { self.new ≡ (tree_step self.old now (Cost p n)).tree }
+        ensures out { result ≡ out_of self.old (tree_step self.old now (Cost p n)) }
     {
-        elect(self.bridge_id(), &self.places)
+        let before = self.parameters.places();
+        let sent = self.parameters.set_cost_at(p.number(), n, now);
+        self.due = self.parameters.due();
+        self.parameters.out(&before, sent)
     }
 
-    pub(crate) fn election(&self) -> Election
-        ensures { result ≡ record { id = bridge_id self.now; root = root_of self.now } }
+    /// The priority of a port, or with none that of the bridge, is set (sections 8.8.5 and 8.8.4).
+    #[tactic(auto, unfolding(br_model::specs::TreeStep::tree_step))]
+    pub fn set_priority(&mut self, p: Option<Port>, n: u16, now: u64) -> TreeOut
+        requires early { now < 2 ^ 53 }
+        requires small { IsSome p → n ≤ 255 }
+        ensures tree { self.new ≡ (tree_step self.old now (Priority p n)).tree }
+        ensures out { result ≡ out_of self.old (tree_step self.old now (Priority p n)) }
     {
-        Election {
-            id: self.bridge_id(),
-            root: self.root(),
-        }
-    }
-
-    pub(crate) fn is_root(&self) -> bool
-        ensures { result ≡ is_root self.now }
-    {
-        self.root().port.is_none()
-    }
-
-    #[tactic(auto, using(crate::proofs::Reading::get_at))]
-    pub(crate) fn port(&self, p: u8) -> Option<TreePort>
-        requires { p < 64 }
-        ensures { result ≡ port_at self.now p }
-    {
-        self.places[usize::from(p)]
-    }
-
-    /// What the root port has kept.
-    pub(crate) fn root_kept(&self) -> Option<Stamped>
-        ensures { result ≡ root_kept self.now }
-    {
-        let p = self.root().port?;
-        let x = self.port(p)?;
-        x.kept
-    }
-
-    pub(crate) fn times(&self) -> Times
-        ensures { result ≡ times self.now }
-    {
-        times_of(self.root_kept())
-    }
-
-    pub(crate) fn forward_delay(&self) -> u64
-        ensures { result ≡ forward_delay self.now }
-    {
-        milliseconds(self.times().delay)
-    }
-
-    pub(crate) fn is_changing(&self) -> bool
-        ensures { result ≡ is_changing self.now }
-    {
-        match self.root_kept() {
-            None => self.change_end.is_some(),
-            Some(k) => k.message.flags & 1 == 1,
-        }
+        let before = self.parameters.places();
+        let sent = self.parameters.set_priority_at(p, n, now);
+        self.due = self.parameters.due();
+        self.parameters.out(&before, sent)
     }
 
     /// The state of the port, by Linux's number.
     pub fn state(&self, p: Port) -> u8
         ensures { result ≡ state_at self.now p }
     {
-        match self.port(p.number()) {
-            Some(x) => x.state,
-            None => 0,
-        }
+        self.parameters.state(p)
     }
 
     /// While a topology change is on, the time in milliseconds after which learned addresses age.
     pub fn hold(&self) -> Option<u64>
         ensures { result ≡ hold self.now }
     {
-        if self.on && self.is_changing() {
-            Some(self.forward_delay())
-        } else {
-            None
+        self.parameters.hold()
+    }
+
+    /// The configuration message that went out last on the port, since the tree was switched on.
+    pub fn message(&self, p: Port) -> BpduMsg
+        requires { IsSome (message self.now p) }
+        ensures { message self.now p ≡ Some result }
+    {
+        match self.last_message(p) {
+            Some(m) => m,
+            None => unreachable!(),
         }
+    }
+
+    pub(crate) fn last_message(&self, p: Port) -> Option<BpduMsg>
+        ensures { result ≡ message self.now p }
+    {
+        self.parameters.last_message(p)
     }
 }

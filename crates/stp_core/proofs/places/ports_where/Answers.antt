@@ -18,13 +18,13 @@ loop-p-preserved g c =
     elim c.match-places-from.branch [
       | in-Some+then-passes w ↦
           let passes : passes_at t ps p ≡ true = ap (λ (o : Option TreePort). option_map_or (λ x. t (p, x)) o false) (here ∙ w.in-Some.is) ∙ sym w.passes.ensures ∙ w.if-passes.true in
-          found-more t ps c.loop-p.ports c.match-places-from.ports p c.loop-p-test.true c.loop-p.invariant passes (w.ports-is ∙ w.with-ports.ensures)
+          found-more t ps c.loop-p.ports c.match-places-from.ports p c.loop-p.invariant passes (w.ports-is ∙ w.with-ports.ensures)
       | in-Some+else-passes w ↦
           let fails : passes_at t ps p ≡ false = ap (λ (o : Option TreePort). option_map_or (λ x. t (p, x)) o false) (here ∙ w.in-Some.is) ∙ sym w.passes.ensures ∙ w.if-passes.false in
-          λ k. ap (λ l. has_number l k) w.ports-is ∙ found-other t ps c.loop-p.ports p c.loop-p.invariant fails k
+          λ k below. ap (λ l. has_number l k) w.ports-is ∙ found-other t ps c.loop-p.ports p c.loop-p.invariant fails k below
       | in_default w ↦
           let fails : passes_at t ps p ≡ false = ap (λ (o : Option TreePort). option_map_or (λ x. t (p, x)) o false) (here ∙ w.in_default.is) in
-          λ k. ap (λ l. has_number l k) w.ports-is ∙ found-other t ps c.loop-p.ports p c.loop-p.invariant fails k
+          λ k below. ap (λ l. has_number l k) w.ports-is ∙ found-other t ps c.loop-p.ports p c.loop-p.invariant fails k below
     ]
 
 pub returns : goal.returns

@@ -2,7 +2,7 @@ use Rattle.std.proofs.Common.{◌∙◌, ap}
 use Rattle.stp_core.specs.Places.{entries_at}
 use Rattle.stp_core.specs.Settling.{moved_from}
 use Rattle.stp_core.proofs.Reading.{moved_is}
-use Rattle.stp_core.proofs.tree.Tree.moved_from.Goals as goal
+use Rattle.stp_core.proofs.parameters.Parameters.moved_from.Goals as goal
 
 pub returns : goal.returns
 returns c =
