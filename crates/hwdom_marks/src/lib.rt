@@ -38,3 +38,6 @@ fn ports_of(d: &Domains, dom: Dom) -> Ports
 {
     Ports::from_word(d.ports_of(dom))
 }
+
+#[cfg(test)]
+mod tests;

@@ -1,7 +1,7 @@
 -- What is told of a change, and the change that a notice tells.
 -- Source: the kernel's include/net/switchdev.h, Documentation/networking/switchdev.rst. That ports going up and down, queriers
 -- and the spanning tree are told by notices is this profile's.
-use Rattle.std.specs.Prelude.{Bool, false}
+use Rattle.std.specs.Prelude.{false}
 use Rattle.std.specs.declared.option.Option.{Option}
 use Rattle.std.specs.declared.option.Option.TheVariants.{None, Some}
 use Rattle.br_model.specs.declared.change.Change.{Change}

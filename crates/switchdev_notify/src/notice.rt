@@ -18,7 +18,8 @@ pub enum Object {
         untagged: bool,
         pvid: bool,
     },
-    /// `SWITCHDEV_OBJ_ID_PORT_MDB`, and for the host's memberships `SWITCHDEV_OBJ_ID_HOST_MDB`.
+    /// `SWITCHDEV_OBJ_ID_PORT_MDB`, and for the host's memberships `SWITCHDEV_OBJ_ID_HOST_MDB`. The kernel tells the group by
+    /// its MAC address.
     Group {
         port: Port,
         vid: Vid,
@@ -50,13 +51,14 @@ pub enum Attribute {
 /// What is told of one change.
 #[derive(Clone, Copy, Debug)]
 pub enum Notice {
-    /// `SWITCHDEV_PORT_OBJ_ADD`.
+    /// `SWITCHDEV_PORT_OBJ_ADD`, which `switchdev_port_obj_add` sends.
     ObjAdd(Object),
-    /// `SWITCHDEV_PORT_OBJ_DEL`.
+    /// `SWITCHDEV_PORT_OBJ_DEL`, which `switchdev_port_obj_del` sends.
     ObjDel(Object),
-    /// `SWITCHDEV_PORT_ATTR_SET`.
+    /// `SWITCHDEV_PORT_ATTR_SET`, which `switchdev_port_attr_set` sends.
     Attr(Attribute),
-    /// `SWITCHDEV_FDB_ADD_TO_DEVICE` or `SWITCHDEV_FDB_DEL_TO_DEVICE`, which leave the entry to a queue.
+    /// `SWITCHDEV_FDB_ADD_TO_DEVICE` or `SWITCHDEV_FDB_DEL_TO_DEVICE`, which `br_switchdev_fdb_notify` sends. They leave the
+    /// entry to a queue.
     Address,
 }
 

@@ -1,13 +1,17 @@
 //! Drivers that are told.
-ghost use Rattle.std.specs.Prelude.{◌≡◌};
+ghost use Rattle.std.specs.Prelude.{◌≡◌, List, [], ◌∷◌, ◌++◌};
+ghost use Rattle.br_model.specs.Cut.{synchronous_of};
 ghost use Rattle.br_model.specs.Domains.{Domains};
-ghost use Rattle.br_model.specs.Table.{Table, apply};
+ghost use Rattle.br_model.specs.Table.{Table, apply, table};
 ghost use Rattle.br_model.specs.declared.change.Change.{Change};
-ghost use Rattle.switchdev_notify.specs.Notices.{change_added, change_removed, change_of_attribute, after, Takes};
+ghost use Rattle.switchdev_notify.specs.Notices.{notice, change_added, change_removed, change_of_attribute, after, Takes};
 
 use crate::notice::{Attribute, Notice, Object};
 
-/// A switch driver: in the kernel, what answers a port's switchdev notifications.
+/// A switch driver. The kernel's drivers answer a port's notifications by the functions that they pass to
+/// `switchdev_handle_port_obj_add`, `switchdev_handle_port_obj_del` and `switchdev_handle_port_attr_set`.
+///
+/// These may refuse. Here a driver says beforehand what it `takes`.
 pub trait SwitchOps {
     /// Whether the driver has a chip with these domains do what the table says.
     ghost means: { Domains → Self → Table → Type 0 };
@@ -31,10 +35,13 @@ pub trait SwitchOps {
         ensures { (d : Domains) (t : Table) → means d self.old t → means d self.new (apply t (change_of_attribute a.now)) };
 }
 
-/// Tells a driver of a change. An address is left to the queue, and the driver isn't called.
+/// Tells a driver of a change, as `switchdev_port_obj_add`, `switchdev_port_obj_del` and `switchdev_port_attr_set` do. An
+/// address is left to the queue, and the driver isn't called.
 pub fn deliver<D: SwitchOps>(d: &mut D, n: &Notice)
     requires { Takes (D.takes d.old) n.now }
     ensures told { (domains : Domains) (t : Table) → D.means domains d.old t → D.means domains d.new (after t n.now) }
+    ensures list { (domains : Domains) (list : List Change) (c : Change) → n.now ≡ notice c
+        → D.means domains d.old (table list) → D.means domains d.new (table (list ++ synchronous_of (c ∷ []))) }
     ensures address { n.now ≡ Notice.Address → d.new ≡ d.old }
 {
     match n {

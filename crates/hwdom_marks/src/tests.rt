@@ -1,0 +1,46 @@
+use crate::{Mark, remaining};
+use br_model::domains::Domains;
+use br_model::numbers::{Dom, Port};
+use port_sets::Ports;
+use std::test::Fail;
+
+/// The host and port 3 are software's, ports 1 and 2 the chip's, port 63 too, and port 4 isn't declared.
+fn declared() -> Result<Domains, Fail> {
+    let mut domains = Domains::make();
+    for (number, domain) in [(1, 1), (2, 1), (3, 0), (63, 1)] {
+        let port = Port::new(number).ok_or("port")?;
+        let dom = Dom::new(domain).ok_or("domain")?;
+        if !port.is_host() {
+            domains.set(port, dom);
+        }
+    }
+    Ok(domains)
+}
+
+/// Bit n stands for port n.
+#[test]
+fn software_leaves_out_the_domain_of_the_mark(rt: HostRuntime) -> Result<(), Fail> {
+    let domains = declared()?;
+    let chip = Some(Mark {
+        dom: Dom::new(1).ok_or("domain")?,
+    });
+    let software = Some(Mark { dom: Dom::SOFTWARE });
+    let last = 1 << 63;
+    let rows = [
+        (0b11111, None, 0b11111),
+        (0b11111, chip, 0b11001),
+        (0b11111, software, 0b10110),
+        (0b00110, chip, 0),
+        (0b11000, chip, 0b11000),
+        (last | 0b01100, chip, 0b01000),
+        (last | 0b01100, software, last | 0b00100),
+        (0, chip, 0),
+    ];
+    for (ports, mark, left) in rows {
+        assert_eq!(rt;
+            remaining(Ports::from_word(ports), mark, &domains),
+            Ports::from_word(left)
+        );
+    }
+    Ok(())
+}
