@@ -1,5 +1,6 @@
 pub mod ApplyingLaws
 pub mod BpduFacts
+pub mod ChipRows
 pub mod Computing
 pub mod Cuts
 pub mod Cutting
@@ -12,6 +13,13 @@ pub mod Least
 pub mod MapLaws
 pub mod MessageRows
 pub mod PairKeys
+pub mod PlaneApplied
+pub mod PlaneFates
+pub mod PlaneHistory
+pub mod PlaneOnce
+pub mod PlaneKept
+pub mod PlaneLists
+pub mod PlaneShares
 pub mod Ranges
 pub mod Reading
 pub mod RecordsFit

@@ -1,5 +1,6 @@
--- Which addresses are forgotten: learned ones when they get old.
--- Source: IEEE 802.1D-1998 section 7.9.2 (ageing), the kernel's br_fdb_cleanup.
+-- Which addresses are forgotten: learned ones when they get old, a chip's when the chip sees them no more.
+-- Source: IEEE 802.1D-1998 section 7.9.2 (ageing), the kernel's br_fdb_cleanup, and its switchdev.rst and
+-- br_fdb_external_learn_del (a chip ages its own entries).
 use Rattle.std.specs.Prelude.{ℕ, ◌+◌, nat_le, Bool, true, false, ◌&&◌, List, map}
 use Rattle.std.specs.List.{filter}
 use Rattle.std.specs.Option.{option_map_or}
@@ -8,7 +9,7 @@ use Rattle.br_model.specs.declared.change.Change.TheVariants.{AddrDel}
 use Rattle.br_model.specs.declared.change.Kind.{Kind}
 use Rattle.br_model.specs.declared.change.Kind.TheVariants.{Local, Static, Learned, Extern}
 use Rattle.br_model.specs.Control.{Control}
-use Rattle.br_model.specs.Learning.{Address}
+use Rattle.br_model.specs.Learning.{Address, Triple, address_of, is_extern_at}
 use Rattle.br_model.specs.Maps.{pair_cmp, get}
 use Rattle.br_model.specs.Table.{Table}
 
@@ -33,3 +34,8 @@ expired t c = map (λ e. e.0) (filter (λ e. expires e.1.1 && is_old c e.0) t.ad
 
 abbrev pub forgets : List Address → List Change
 forgets keys = map (λ k. AddrDel k.0 k.1) keys
+
+-- those of the stations that the bridge still has from a chip, at that port. A station that is named twice is there twice; a chip
+-- names none twice.
+abbrev pub forgotten : Table → List Triple → List Address
+forgotten t triples = map address_of (filter (λ x. is_extern_at t (address_of x) x.2) triples)

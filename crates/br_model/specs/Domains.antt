@@ -19,6 +19,10 @@ host = 0
 abbrev pub software : ℕ
 software = 0
 
+-- the domain of the switch chip's ports
+abbrev pub chip : ℕ
+chip = 1
+
 abbrev pub domain_of : Domains → ℕ → Option ℕ
 domain_of domains port = get nat_cmp domains port
 

@@ -1,6 +1,7 @@
 -- What a frame teaches: behind which port its source is.
 -- Source: IEEE 802.1D-1998 section 7.8 (the learning process), the kernel's br_fdb_update and the bridge's option
--- no_linklocal_learn (reserved destinations teach nothing). That a static entry never moves is this profile's.
+-- no_linklocal_learn (reserved destinations teach nothing), its switchdev.rst and br_fdb_external_learn_add (entries that a chip
+-- learned). That a static entry never moves, and that a report is taken or not, is this profile's.
 use Rattle.std.specs.Prelude.{ℕ, ◌==◌, Bool, true, false, not, ◌&&◌, ◌||◌, if◌then◌else◌, List, [], ◌∷◌}
 use Rattle.std.specs.declared.option.Option.{Option}
 use Rattle.std.specs.declared.option.Option.TheVariants.{None, Some}
@@ -22,6 +23,13 @@ learning_flag = 0
 -- a VLAN and an address: the key of an address entry
 abbrev pub Address : Type 0
 Address = ℕ × ℕ
+
+-- the same, with a port
+abbrev pub Triple : Type 0
+Triple = ℕ × ℕ × ℕ
+
+abbrev pub address_of : Triple → Address
+address_of x = (x.0, x.1)
 
 -- whether frames to the destination teach nothing
 abbrev pub is_reserved : Table → Head → Bool
@@ -48,6 +56,18 @@ is_dynamic Static = false
 is_dynamic Learned = true
 is_dynamic Extern = true
 
+abbrev pub is_learned : Kind → Bool
+is_learned Local = false
+is_learned Static = false
+is_learned Learned = true
+is_learned Extern = false
+
+abbrev pub is_extern : Kind → Bool
+is_extern Local = false
+is_extern Static = false
+is_extern Learned = false
+is_extern Extern = true
+
 -- whether the address is new at the port: it has no entry, or one at another port that may move
 abbrev pub is_news : Table → Address → ℕ → Bool
 is_news t key port = option_map_or (λ e. is_dynamic e.1 && not (e.0 == port)) (get pair_cmp t.addr key) true
@@ -59,3 +79,19 @@ is_renewed t key port = option_map_or (λ e. is_dynamic e.1 && e.0 == port) (get
 -- the change that a frame of software makes
 abbrev pub taught : Table → Address → ℕ → List Change
 taught t key port = if is_news t key port then AddrPut key.0 key.1 port Learned ∷ [] else []
+
+-- whether the address has an entry of this port that software learned
+abbrev pub is_learned_at : Table → Address → ℕ → Bool
+is_learned_at t key port = option_map_or (λ e. is_learned e.1 && e.0 == port) (get pair_cmp t.addr key) false
+
+-- whether the address has an entry of this port that a chip learned
+abbrev pub is_extern_at : Table → Address → ℕ → Bool
+is_extern_at t key port = option_map_or (λ e. is_extern e.1 && e.0 == port) (get pair_cmp t.addr key) false
+
+-- The change that a chip's report makes, where the port may still teach it: the chip's entry takes the place of one that software
+-- learned.
+abbrev pub told : Table → Address → ℕ → List Change
+told t key port =
+    if may_teach t port key.0 && (is_news t key port || is_learned_at t key port)
+    then AddrPut key.0 key.1 port Extern ∷ []
+    else []

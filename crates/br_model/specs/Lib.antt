@@ -45,6 +45,8 @@ pub mod World
 pub mod Entering
 pub mod Serving
 pub mod Steps
+pub mod Chip
+pub mod Plane
 pub mod Words
 pub mod Roster
 pub mod Declarations
@@ -63,5 +65,6 @@ pub mod WholeLines
 pub mod WorkedRows
 pub mod WorkedVlans
 pub mod WorkedAddresses
+pub mod WorkedChip
 pub mod Readings
 pub mod WorkedFrames

@@ -16,9 +16,13 @@ most_bytes = 268435456
 abbrev pub most_changes : ℕ
 most_changes = 1048576
 
--- frames that wait
+-- frames that wait or are held
 abbrev pub most_waiting : ℕ
 most_waiting = 4096
+
+-- reports of a chip that wait
+abbrev pub most_reports : ℕ
+most_reports = 256
 
 -- address entries
 abbrev pub most_addresses : ℕ

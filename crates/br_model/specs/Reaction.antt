@@ -10,16 +10,16 @@ use Rattle.br_model.specs.declared.change.Change.{Change}
 use Rattle.br_model.specs.declared.frame.Head.{Head}
 use Rattle.br_model.specs.declared.steps.Command.{Command}
 use Rattle.br_model.specs.declared.steps.Event.{Event}
-use Rattle.br_model.specs.declared.steps.Event.TheVariants.{Cmd, Moment, Sight}
+use Rattle.br_model.specs.declared.steps.Event.TheVariants.{Cmd, Moment, Sight, Told, Forget}
 use Rattle.br_model.specs.declared.steps.Refusal.{Refusal}
 use Rattle.br_model.specs.declared.steps.Refusal.TheVariants.{HistoryFull, Backward}
-use Rattle.br_model.specs.Ageing.{expired, forgets}
+use Rattle.br_model.specs.Ageing.{expired, forgets, forgotten}
 use Rattle.br_model.specs.Commands.{command, sets}
 use Rattle.br_model.specs.Control.{Control, renewed}
 use Rattle.br_model.specs.Course.{Course, from, makes_all}
 use Rattle.br_model.specs.DomainPorts.{is_in_domain}
 use Rattle.br_model.specs.Domains.{software}
-use Rattle.br_model.specs.Learning.{Address, is_renewed, teach, taught}
+use Rattle.br_model.specs.Learning.{Address, is_renewed, teach, taught, told}
 use Rattle.br_model.specs.Limits.{most_changes}
 use Rattle.br_model.specs.Setup.{Setup}
 use Rattle.br_model.specs.Table.{table}
@@ -59,6 +59,8 @@ abbrev pub happens : Setup → Course → Event → Result Course Refusal
 happens setup r (Cmd c) = commanded r c (command r.table c)
 happens setup r (Moment now) = passes_to now r
 happens setup r (Sight port bytes head) = Ok (sees setup port head r)
+happens setup r (Told vid mac port) = Ok (makes_all r (told r.table (vid, mac) port))
+happens setup r (Forget triples) = Ok (makes_all r (forgets (forgotten r.table triples)))
 
 pub record Reaction : Type 0 where
   -- in order

@@ -51,6 +51,16 @@ impl Domains {
         self.by_port[usize::from(p.number())] = Some(d);
     }
 
+    /// The same ports in the same domains.
+    pub fn again(&self) -> Domains
+        ensures { result ≡ self.now }
+    {
+        Domains {
+            by_port: copy_of(&self.by_port),
+            words: self.words,
+        }
+    }
+
     /// `None` exactly where the port isn't declared.
     pub fn of(&self, p: Port) -> Option<Dom>
         ensures value { result ≡ domain_of self.now p }
@@ -65,6 +75,16 @@ impl Domains {
     {
         self.words[usize::from(d.number())]
     }
+}
+
+fn copy_of(places: &[Option<Dom>; 64]) -> [Option<Dom>; 64]
+    ensures { result ≡ places.now }
+{
+    let mut copy = [None; 64];
+    for i in 0..64 {
+        copy[i] = places[i];
+    }
+    copy
 }
 
 fn host_alone() -> [Option<Dom>; 64]

@@ -16,6 +16,7 @@ pub mod message_laws;
 pub mod name;
 pub mod numbers;
 pub mod plain;
+pub mod plane_laws;
 pub mod scenario;
 pub mod steps;
 pub mod transcript;

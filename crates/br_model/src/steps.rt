@@ -3,6 +3,7 @@ use crate::bytes::Bytes;
 use crate::change::{Flags, Kind};
 use crate::frame::Head;
 use crate::numbers::{Mac, Port, Vid};
+use lists::Items;
 
 /// A command, as a line of a scenario gives it.
 #[derive(Clone, Copy)]
@@ -51,7 +52,18 @@ pub enum Event {
         bytes: Bytes,
         head: Head,
     },
+    /// A chip reported that it saw this station behind this port.
+    Told {
+        vid: Vid,
+        mac: Mac,
+        port: Port,
+    },
+    /// A chip no longer sees these stations behind these ports.
+    Forget(Triples),
 }
+
+/// Stations and the ports behind which a chip had them, by VLAN and address.
+pub type Triples = Items<(Vid, Mac, Port)>;
 
 /// A step of the world.
 #[derive(Drop)]
@@ -97,4 +109,12 @@ pub enum Refusal {
     Backward,
     /// 10: no frame waits.
     NothingWaiting,
+    /// 11: the chip has applied every deferred change.
+    NothingPending,
+    /// 12: the chip has reported nothing.
+    NothingReported,
+    /// 14: no frame with that id is held.
+    NothingToPost,
+    /// 15: the count wasn't published since the frame was held.
+    NoSuchPoint,
 }

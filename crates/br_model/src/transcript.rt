@@ -1,6 +1,6 @@
 //! The lines of a transcript.
 use crate::bytes::Bytes;
-use crate::frame::FrameFault;
+use crate::frame::{Class, FrameFault};
 use crate::numbers::Port;
 use crate::steps::Refusal;
 use lists::Items;
@@ -8,6 +8,13 @@ use lists::Items;
 /// One line of a transcript.
 #[derive(Drop)]
 pub enum Line {
+    /// The chip decided the frame, with so many changes accepted, and so many deferred ones of them applied.
+    Chip {
+        id: u32,
+        changes: u32,
+        applied: u32,
+        class: Class,
+    },
     /// The bytes are no frame.
     Unread {
         id: u32,
@@ -18,9 +25,19 @@ pub enum Line {
         id: u32,
         point: u32,
     },
+    /// The frame is held, to be decided by no fewer changes than `floor`.
+    Held {
+        id: u32,
+        floor: u32,
+    },
     /// The frame left a port.
     Tx {
         id: u32,
+        port: Port,
+        bytes: Bytes,
+    },
+    /// A frame of the bridge itself left a port.
+    Ctl {
         port: Port,
         bytes: Bytes,
     },

@@ -20,7 +20,7 @@ use Rattle.br_model.proofs.PairKeys.{pair_total, same_cmp}
 use Rattle.fdb_core.specs.declared.entries.Entry.{Entry}
 use Rattle.fdb_core.specs.Fdb.{addresses, moments, place, keys_where, is_at_port, is_expired, is_learned, is_from, all_from}
 use Rattle.fdb_core.proofs.Addresses.{get-told}
-use Rattle.bridge_core.specs.Entries.{keys_at, old_keys}
+use Rattle.bridge_core.specs.Entries.{keys_at, old_keys, entries_of}
 
 abbrev Entries : Type 0
 Entries = List (Address × Entry)
@@ -149,8 +149,18 @@ old-as now hold ms (e ∷ es) h =
     by true ih = ap (λ (ks : List Address). e.0 ∷ ks) ih
     by false ih = ih
 
-pub old_as : (now hold : ℕ) (es : Entries) → is_ascending pair_cmp es ≡ true → keys_where (is_expired now hold) es ≡ old_keys now hold (record { addr = addresses es; updated = moments es })
-old_as now hold es up = old-as now hold (moments es) es (has-moments es up)
+pub old_as : (now hold b : ℕ) (es : Entries) → is_ascending pair_cmp es ≡ true → keys_where (is_expired now hold) es ≡ old_keys now hold (record { addr = addresses es; updated = moments es; oldest = b })
+old_as now hold b es up = old-as now hold (moments es) es (has-moments es up)
+
+-- the entries are told by their two lists
+
+told : (ms : List (Address × ℕ)) (es : Entries) → Has ms es
+    → map (λ e. (e.0, record { port = e.1.0; kind = e.1.1; updated = unwrap_or (get pair_cmp ms e.0) 0 })) (addresses es) ≡ es
+told ms [] h = refl
+told ms (e ∷ es) h = λ i. (e.0, record { port = e.1.port; kind = e.1.kind; updated = unwrap_or (h.0 i) 0 }) ∷ told ms es h.1 i
+
+pub entries_told : (b : ℕ) (es : Entries) → is_ascending pair_cmp es ≡ true → entries_of (record { addr = addresses es; updated = moments es; oldest = b }) ≡ es
+entries_told b es up = told (moments es) es (has-moments es up)
 
 -- the place of an entry that is there is put again
 

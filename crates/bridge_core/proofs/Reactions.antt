@@ -11,17 +11,17 @@ use Rattle.br_model.specs.declared.change.Kind.{Kind}
 use Rattle.br_model.specs.declared.change.Kind.TheVariants.{Learned}
 use Rattle.br_model.specs.declared.steps.Command.{Command}
 use Rattle.br_model.specs.declared.steps.Command.TheVariants.{PortUp, PortDown, Link, VlanAdd, VlanDel, FdbAdd, FdbDel, Ageing}
-use Rattle.br_model.specs.declared.steps.Event.TheVariants.{Cmd, Moment}
+use Rattle.br_model.specs.declared.steps.Event.TheVariants.{Cmd, Moment, Forget}
 use Rattle.br_model.specs.declared.steps.Refusal.{Refusal}
 use Rattle.br_model.specs.declared.steps.Refusal.TheVariants as refusals
-use Rattle.br_model.specs.Ageing.{forgets}
+use Rattle.br_model.specs.Ageing.{forgets, forgotten}
 use Rattle.br_model.specs.Commands.{command, sets}
 use Rattle.br_model.specs.Commands.Ports.{goes_down, drops_addresses, drops_groups, drops_vlans, flags_of, flags_with}
 use Rattle.br_model.specs.Commands.Vlans.{leaves_vlan}
 use Rattle.br_model.specs.Control.{Control, keeps_up, renewed}
 use Rattle.br_model.specs.Course.{from, makes_all}
 use Rattle.br_model.specs.Groups.{Membership}
-use Rattle.br_model.specs.Learning.{Address, is_news, is_renewed, is_dynamic, taught}
+use Rattle.br_model.specs.Learning.{Address, Triple, is_news, is_renewed, is_dynamic, taught}
 use Rattle.br_model.specs.Limits.{fits, all_fit}
 use Rattle.br_model.specs.Maps.{pair_cmp, get, has}
 use Rattle.br_model.specs.Reaction.{ages, in_room, learns, commanded, react}
@@ -122,6 +122,13 @@ passes s h c now e = ap (λ b. in_room h (if b then Err refusals.Backward else O
 -- the deletions of a moment fit
 pub fit_forgets : (t : Table) (keys : List Address) → all_fit t (forgets keys) ≡ true
 fit_forgets t keys = all_fit_any t (forgets keys) (always-map (λ (k : Address). changes.AddrDel k.0 k.1) keys (λ k. refl))
+
+-- the stations that a chip no longer sees
+pub forgets_them : (s : Setup) (h : List Change) (c c' : Control) (stations : List Triple) (cs : List Change) → c' ≡ c → cs ≡ forgets (forgotten (table h) stations)
+    → in_room h (Ok (course h c' cs)) ≡ react s h c (Forget stations)
+unfolding react
+forgets_them s h c c' stations cs same e =
+    (λ i. in_room h (Ok (course h (same i) (e i)))) ∙ ap (λ r. in_room h (Ok r)) (sym (makes_course h c (forgets (forgotten (table h) stations)) (fit_forgets (table h) (forgotten (table h) stations))))
 
 -- what an address behind a port comes to
 

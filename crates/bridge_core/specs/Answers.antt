@@ -6,7 +6,7 @@ use Rattle.std.specs.declared.result.Result.{Result}
 use Rattle.std.specs.declared.result.Result.TheVariants.{Ok, Err}
 use Rattle.br_model.specs.declared.change.Change.{Change}
 use Rattle.br_model.specs.declared.steps.Event.{Event}
-use Rattle.br_model.specs.declared.steps.Event.TheVariants.{Cmd, Moment, Sight}
+use Rattle.br_model.specs.declared.steps.Event.TheVariants.{Cmd, Moment, Sight, Told, Forget}
 use Rattle.br_model.specs.declared.steps.Refusal.{Refusal}
 use Rattle.br_model.specs.Control.{Control, keeps_up}
 use Rattle.br_model.specs.Course.{Course}
@@ -22,6 +22,8 @@ abbrev pub IsSeen : Event → Type 0
 IsSeen (Cmd c) = Unit {0}
 IsSeen (Moment now) = Unit {0}
 IsSeen (Sight port bytes head) = frame bytes ≡ Ok head
+IsSeen (Told vid mac port) = Unit {0}
+IsSeen (Forget stations) = Unit {0}
 
 -- a command's answer
 abbrev pub Answers : Result (Vec Change Global) EventFault → Result (List Change) Refusal → Type 0

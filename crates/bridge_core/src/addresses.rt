@@ -1,9 +1,10 @@
 //! The addresses of a bridge's table, with their moments.
-ghost use Rattle.std.specs.Prelude.{◌≡◌, ◌||◌, not, nat_lt, Bool, false, IfOk, IsSome, IsTrue, [], length, is_some, map};
+ghost use Rattle.std.specs.Prelude.{◌≡◌, ◌||◌, not, nat_lt, Bool, false, min, IfOk, IsSome, IsTrue, [], length, is_some, map, option_map};
 ghost use Rattle.std.specs.List.{filter};
 ghost use Rattle.br_model.specs.Limits.{most_addresses};
 ghost use Rattle.br_model.specs.Maps.{pair_cmp, get, put, without};
-ghost use Rattle.bridge_core.specs.Entries.{keys_at, old_keys};
+ghost use Rattle.fdb_core.specs.Fdb.{place};
+ghost use Rattle.bridge_core.specs.Entries.{keys_at, old_keys, is_due, exact_bound, last_moment};
 
 use br_model::NoMemory;
 use br_model::change::Kind;
@@ -29,7 +30,7 @@ impl Model for Addresses {
 
     ghost Value = { Entries };
 
-    ghost view = { λ a. record { addr = addresses a.fdb.entries; updated = moments a.fdb.entries } };
+    ghost view = { λ a. record { addr = addresses a.fdb.entries; updated = moments a.fdb.entries; oldest = a.oldest } };
 
     ghost invariant = { λ a. IsKept a.fdb a.oldest };
 }
@@ -37,7 +38,7 @@ impl Model for Addresses {
 impl Addresses {
     /// Takes the memory for all that there can be.
     pub fn make(alloc: Global) -> Result<Addresses, NoMemory>
-        ensures { IfOk result (λ a. a ≡ record { addr = []; updated = [] }) }
+        ensures { IfOk result (λ a. a ≡ record { addr = []; updated = []; oldest = last_moment }) }
     {
         Ok(Addresses {
             fdb: Fdb::make(alloc, MOST_ADDRESSES)?,
@@ -54,6 +55,14 @@ impl Addresses {
         }
     }
 
+    /// The entry at the address with its moment.
+    pub fn entry(&self, vid: Vid, mac: Mac) -> Option<Entry>
+        ensures place { option_map place result ≡ get pair_cmp self.now.addr (vid, mac) }
+        ensures moment { option_map (λ e. e.updated) result ≡ get pair_cmp self.now.updated (vid, mac) }
+    {
+        self.fdb.find(vid, mac)
+    }
+
     /// Whether there is no room for a new address.
     pub fn is_full(&self) -> bool
         ensures { result ≡ not (nat_lt (length self.now.addr) most_addresses) }
@@ -64,7 +73,7 @@ impl Addresses {
     /// Puts an entry at the address at the moment `now`, in place of the one that is there.
     pub fn put(&mut self, vid: Vid, mac: Mac, port: Port, kind: Kind, now: u64)
         requires { IsTrue (is_some (get pair_cmp self.old.addr (vid, mac)) || nat_lt (length self.old.addr) most_addresses) }
-        ensures { self.new ≡ record { addr = put pair_cmp self.old.addr (vid, mac) (port, kind); updated = put pair_cmp self.old.updated (vid, mac) now } }
+        ensures { self.new ≡ record { addr = put pair_cmp self.old.addr (vid, mac) (port, kind); updated = put pair_cmp self.old.updated (vid, mac) now; oldest = min self.old.oldest now } }
     {
         self.oldest = self.oldest.min(now);
         let entry = Entry {
@@ -77,7 +86,7 @@ impl Addresses {
 
     /// Forgets the entry at the address.
     pub fn take(&mut self, vid: Vid, mac: Mac)
-        ensures { self.new ≡ record { addr = without pair_cmp self.old.addr (vid, mac); updated = without pair_cmp self.old.updated (vid, mac) } }
+        ensures { self.new ≡ record { addr = without pair_cmp self.old.addr (vid, mac); updated = without pair_cmp self.old.updated (vid, mac); oldest = self.old.oldest } }
     {
         self.fdb.take(vid, mac);
     }
@@ -85,7 +94,7 @@ impl Addresses {
     /// Gives the entry at the address the moment `now`.
     pub fn renew(&mut self, vid: Vid, mac: Mac, now: u64)
         requires { IsSome (get pair_cmp self.old.addr (vid, mac)) }
-        ensures { self.new ≡ record self.old { updated = put pair_cmp self.old.updated (vid, mac) now } }
+        ensures { self.new ≡ record self.old { updated = put pair_cmp self.old.updated (vid, mac) now; oldest = min self.old.oldest now } }
     {
         self.oldest = self.oldest.min(now);
         match self.fdb.find(vid, mac) {
@@ -111,7 +120,8 @@ impl Addresses {
 
     /// Whether a learned entry may be over at `now`, where it stays for `hold`. It looks at none.
     pub fn may_expire(&self, now: u64, hold: u64) -> bool
-        ensures { result ≡ false → old_keys now hold self.now ≡ [] }
+        ensures exact { result ≡ is_due now hold self.now }
+        ensures none { result ≡ false → old_keys now hold self.now ≡ [] }
     {
         match self.oldest.checked_add(hold) {
             Some(end) => end <= now,
@@ -128,7 +138,7 @@ impl Addresses {
 
     /// Finds the first moment anew, so that `may_expire` is exact. It looks at each entry.
     pub fn settle(&mut self)
-        ensures { self.new ≡ self.old }
+        ensures { self.new ≡ record self.old { oldest = exact_bound self.old } }
     {
         self.oldest = self.fdb.oldest().unwrap_or(u64::MAX);
     }

@@ -1,20 +1,22 @@
 //! The control plane: the accepted changes, and the reaction to an event.
-ghost use Rattle.std.specs.Prelude.{◌≡◌, ℕ, ◌<◌, ◌≤◌, ◌++◌, [], length, take, get_or, Some, Ok, Err, IfOk, IsTrue};
+ghost use Rattle.std.specs.Prelude.{◌≡◌, ℕ, ◌<◌, ◌≤◌, ◌++◌, [], length, take, get_or, option_map, Some, Ok, Err, IfOk, IsTrue};
 ghost use Rattle.std.specs.List.{filter};
 ghost use Rattle.br_model.specs.Change.{deferred};
 ghost use Rattle.br_model.specs.Control.{first_control};
 ghost use Rattle.br_model.specs.Course.{from};
 ghost use Rattle.br_model.specs.Limits.{most_changes, fits, all_fit};
+ghost use Rattle.br_model.specs.Maps.{pair_cmp, get};
+ghost use Rattle.fdb_core.specs.Fdb.{place};
 ghost use Rattle.br_model.specs.Reaction.{ages, in_room, learns, react as reaction};
 ghost use Rattle.br_model.specs.Table.{table, start};
 ghost use Rattle.br_model.specs.declared.steps.Event.TheVariants as Event;
 ghost use Rattle.bridge_core.specs.Answers.{IsSeen, Reacts, course};
 ghost use Rattle.bridge_core.specs.Standing.{clocked};
 
-use crate::ageing::forgets;
+use crate::ageing::{forgets, forgets_reported};
 use crate::commands::{command, sets};
 use crate::faults::EventFault;
-use crate::learning::{Lesson, lesson_of, teach};
+use crate::learning::{Lesson, is_taken, lesson_of, teach};
 use crate::state::{Clock, State};
 use br_model::NoMemory;
 use br_model::bytes::Bytes;
@@ -22,8 +24,9 @@ use br_model::change::{Change, Kind};
 use br_model::domains::Domains;
 use br_model::frame::Head;
 use br_model::numbers::{Dom, Mac, Port, Vid};
-use br_model::steps::{Command, Event, Refusal};
+use br_model::steps::{Command, Event, Refusal, Triples};
 use br_model::transcript::Lines;
+use fdb_core::Entry;
 use std::alloc::Global;
 use std::marker::Model;
 
@@ -184,6 +187,34 @@ impl Bridge {
         }
     }
 
+    /// Takes a chip's report that the address is behind the port, or not.
+    #[tactic(auto, unfolding(br_model::specs::Reaction::react))]
+    fn be_told(&mut self, vid: Vid, mac: Mac, port: Port) -> Result<(), EventFault>
+        ensures { Reacts self.old self.new result (reaction self.old.setup self.old.history self.old.control (Event.Told vid mac port)) }
+    {
+        let clock = self.state.clock;
+        if !is_taken(&self.state, vid, mac, port) {
+            return self.accept(clock, &[]);
+        }
+        let put = Change::AddrPut {
+            vid,
+            mac,
+            port,
+            kind: Kind::Extern,
+        };
+        self.accept(clock, &[put])
+    }
+
+    /// Forgets the stations that a chip no longer sees.
+    #[tactic(auto, unfolding(br_model::specs::Reaction::react))]
+    fn forget(&mut self, alloc: Global, stations: &Triples) -> Result<(), EventFault>
+        ensures { Reacts self.old self.new result (reaction self.old.setup self.old.history self.old.control (Event.Forget stations.now)) }
+    {
+        let changes = forgets_reported(alloc, &self.state, stations.as_slice())?;
+        let clock = self.state.clock;
+        self.accept(clock, &changes)
+    }
+
     /// Reacts to the event. A refusal and want of memory leave the bridge as it was.
     pub fn react(&mut self, alloc: Global, event: &Event) -> Result<Reaction, EventFault>
         requires { IsSeen event.now }
@@ -195,6 +226,8 @@ impl Bridge {
             Event::Cmd(asked) => self.obey(alloc, asked)?,
             Event::Moment(now) => self.pass_to(alloc, *now)?,
             Event::Sight { port, bytes, head } => self.see(*port, bytes, head)?,
+            Event::Told { vid, mac, port } => self.be_told(*vid, *mac, *port)?,
+            Event::Forget(stations) => self.forget(alloc, stations)?,
         }
         Ok(Reaction {
             from,
@@ -207,6 +240,14 @@ impl Bridge {
         ensures { result.now ≡ self.now.setup.domains }
     {
         &self.domains
+    }
+
+    /// The entry at the address in the table of all changes, with the moment when it was put there or renewed last.
+    pub fn find(&self, vid: Vid, mac: Mac) -> Option<Entry>
+        ensures place { option_map place result ≡ get pair_cmp (table self.now.history).addr (vid, mac) }
+        ensures moment { option_map (λ e. e.updated) result ≡ get pair_cmp self.now.control.updated (vid, mac) }
+    {
+        self.state.addresses.entry(vid, mac)
     }
 
     /// The accepted changes in order. Each of them fits the table that it finds.

@@ -2,7 +2,7 @@
 ghost use Rattle.std.specs.Prelude.{◌≡◌, ◌==◌};
 ghost use Rattle.br_model.specs.Admission.{has_valid_source};
 ghost use Rattle.br_model.specs.Learning.{teach, is_reserved};
-ghost use Rattle.bridge_core.specs.Lessons.{lesson_of};
+ghost use Rattle.bridge_core.specs.Lessons.{lesson_of, is_taken};
 ghost use Rattle.bridge_core.specs.Standing.{table_of};
 
 use crate::state::State;
@@ -62,5 +62,20 @@ pub fn lesson_of(state: &State, vid: Vid, mac: Mac, port: Port) -> Lesson
         Some((_, Kind::Local | Kind::Static)) => Lesson::Known,
         Some((other, Kind::Learned | Kind::Extern)) if other == port => Lesson::Renewed,
         Some((_, Kind::Learned | Kind::Extern)) => Lesson::News,
+    }
+}
+
+/// Whether a chip's report that the address is behind the port is taken.
+pub fn is_taken(state: &State, vid: Vid, mac: Mac, port: Port) -> bool
+    ensures { result ≡ is_taken (table_of state.now) (vid, mac) port }
+{
+    if !state.ports.may_teach(port, vid) {
+        return false;
+    }
+    match state.addresses.find(vid, mac) {
+        None => !state.addresses.is_full(),
+        Some((_, Kind::Local | Kind::Static)) => false,
+        Some((_, Kind::Learned)) => true,
+        Some((other, Kind::Extern)) => other != port,
     }
 }

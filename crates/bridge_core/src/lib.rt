@@ -14,6 +14,7 @@ mod state;
 pub use br_model::NoMemory;
 pub use bridge::{Bridge, Reaction};
 pub use faults::EventFault;
+pub use fdb_core::Entry;
 
 #[cfg(test)]
 mod tests;

@@ -1,14 +1,14 @@
 //! Lines of a transcript.
 ghost use Rattle.std.specs.Prelude.{◌≡◌, ◌++◌, [], ◌∷◌, IfOk, OnOk, OnErr};
 ghost use Rattle.std.specs.String.{string_bytes};
-ghost use Rattle.br_model.specs.Transcript.{line_text, text, fault_word, refusal_number};
+ghost use Rattle.br_model.specs.Transcript.{line_text, text, fault_word, class_word, refusal_number};
 ghost use Rattle.transcript_text.specs.Extends.{Extends};
 
 use crate::frames::LastFrames;
 use crate::numbers::{append_field, append_number};
 use br_model::NoMemory;
 use br_model::bytes::Bytes;
-use br_model::frame::FrameFault;
+use br_model::frame::{Class, FrameFault};
 use br_model::numbers::Port;
 use br_model::steps::Refusal;
 use br_model::transcript::Line;
@@ -34,9 +34,17 @@ impl Writer {
         ensures err { OnErr result (Extends (string_bytes to.old) (string_bytes to.new)) }
     {
         match line {
+            Line::Chip {
+                id,
+                changes,
+                applied,
+                class,
+            } => append_chip(*id, *changes, *applied, *class, to),
             Line::Unread { id, why } => append_unread(*id, *why, to),
             Line::Soft { id, point } => append_soft(*id, *point, to),
+            Line::Held { id, floor } => append_held(*id, *floor, to),
             Line::Tx { id, port, bytes } => self.append_tx(*id, *port, bytes, to),
+            Line::Ctl { port, bytes } => self.append_ctl(*port, bytes, to),
             Line::Overrun { id } => append_overrun(*id, to),
             Line::Done { step, changes } => append_done(*step, *changes, to),
             Line::Refused { step, refusal } => append_refused(*step, *refusal, to),
@@ -76,6 +84,45 @@ impl Writer {
         self.frames.append(bytes.as_slice(), to)?;
         to.push('\n')
     }
+
+    fn append_ctl(&mut self, port: Port, bytes: &Bytes, to: &mut String) -> Result<(), NoMemory>
+        ensures ok { OnOk result (string_bytes to.new ≡ string_bytes to.old ++ line_text (Line.Ctl port bytes.now)) }
+        ensures err { OnErr result (Extends (string_bytes to.old) (string_bytes to.new)) }
+    {
+        to.push_str("ctl ")?;
+        append_field(u32::from(port.number()), ' ', to)?;
+        self.frames.append(bytes.as_slice(), to)?;
+        to.push('\n')
+    }
+}
+
+fn class_text(class: Class) -> &'static str
+    ensures { result.now ≡ class_word class ++ 10 ∷ [] }
+{
+    match class {
+        Class::Drop => "drop\n",
+        Class::Trap => "trap\n",
+        Class::Copy => "copy\n",
+        Class::Forward => "forward\n",
+    }
+}
+
+fn append_chip(
+    id: u32,
+    changes: u32,
+    applied: u32,
+    class: Class,
+    to: &mut String,
+) -> Result<(), NoMemory>
+    ensures ok { OnOk result (string_bytes to.new ≡ string_bytes to.old ++ line_text (Line.Chip id changes applied class)) }
+    ensures err { OnErr result (Extends (string_bytes to.old) (string_bytes to.new)) }
+{
+    to.push_str("chip ")?;
+    append_number(id, to)?;
+    to.push_str(" at ")?;
+    append_field(changes, ' ', to)?;
+    append_field(applied, ' ', to)?;
+    to.push_str(class_text(class))
 }
 
 fn fault(why: FrameFault) -> &'static str
@@ -105,6 +152,15 @@ fn append_soft(id: u32, point: u32, to: &mut String) -> Result<(), NoMemory>
     append_number(id, to)?;
     to.push_str(" at ")?;
     append_field(point, '\n', to)
+}
+
+fn append_held(id: u32, floor: u32, to: &mut String) -> Result<(), NoMemory>
+    ensures ok { OnOk result (string_bytes to.new ≡ string_bytes to.old ++ line_text (Line.Held id floor)) }
+    ensures err { OnErr result (Extends (string_bytes to.old) (string_bytes to.new)) }
+{
+    to.push_str("held ")?;
+    append_field(id, ' ', to)?;
+    append_field(floor, '\n', to)
 }
 
 fn append_overrun(id: u32, to: &mut String) -> Result<(), NoMemory>
@@ -137,6 +193,10 @@ fn number_of(refusal: Refusal) -> u32
         Refusal::HistoryFull => 8,
         Refusal::Backward => 9,
         Refusal::NothingWaiting => 10,
+        Refusal::NothingPending => 11,
+        Refusal::NothingReported => 12,
+        Refusal::NothingToPost => 14,
+        Refusal::NoSuchPoint => 15,
     }
 }
 

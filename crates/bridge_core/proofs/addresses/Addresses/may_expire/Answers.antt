@@ -4,16 +4,16 @@ use Rattle.bridge_core.specs.Entries.{Entries, old_keys}
 use Rattle.bridge_core.proofs.Moments.{none_old, old_as}
 use Rattle.bridge_core.proofs.addresses.Addresses.may_expire.Goals as goal
 
-pub returns-in-Some : goal.returns-in-Some
-returns-in-Some c = λ no.
+pub returns-in-Some-clause-none : goal.returns-in-Some-clause-none
+returns-in-Some-clause-none c = λ no.
     let es = c.self.inside.fdb.entries in
     let h : c.args.now < c.self.inside.oldest + c.args.hold = grind (arith, nat_tests, c.in-Some.ensures) in
-    sym (old_as c.args.now c.args.hold es c.self.invariant.ascending ∙ ap (λ (s : Entries). old_keys c.args.now c.args.hold s) c.self.view_is)
+    sym (old_as c.args.now c.args.hold c.self.inside.oldest es c.self.invariant.ascending ∙ ap (λ (s : Entries). old_keys c.args.now c.args.hold s) c.self.view_is)
     ∙ none_old c.self.inside.oldest c.args.now c.args.hold es h c.self.invariant.bounded
 
-pub returns-in-None : goal.returns-in-None
-returns-in-None c = λ no.
+pub returns-in-None-clause-none : goal.returns-in-None-clause-none
+returns-in-None-clause-none c = λ no.
     let es = c.self.inside.fdb.entries in
     let h : c.args.now < c.self.inside.oldest + c.args.hold = omega (arith, c.in-None.ensures) in
-    sym (old_as c.args.now c.args.hold es c.self.invariant.ascending ∙ ap (λ (s : Entries). old_keys c.args.now c.args.hold s) c.self.view_is)
+    sym (old_as c.args.now c.args.hold c.self.inside.oldest es c.self.invariant.ascending ∙ ap (λ (s : Entries). old_keys c.args.now c.args.hold s) c.self.view_is)
     ∙ none_old c.self.inside.oldest c.args.now c.args.hold es h c.self.invariant.bounded

@@ -1,4 +1,4 @@
-use Rattle.std.proofs.Common.{ap, option_map, ◌∙◌, refl}
+use Rattle.std.proofs.Common.{ap, min, option_map, ◌∙◌, refl}
 use Rattle.fdb_core.specs.Fdb.{Table, place}
 use Rattle.br_model.specs.Learning.{Address}
 use Rattle.br_model.specs.Maps.{pair_cmp, put}
@@ -22,4 +22,5 @@ returns c =
     let there = c.find.ensures.address ∙ ap (option_map place) c.in-Some.is in
     let addr = c.put.ensures.addresses ∙ place-stays es k (record { port = c.in-Some.entry.port; kind = c.in-Some.entry.kind; updated = c.args.now }) c.self.invariant.ascending there ∙ ap (λ (s : Entries). s.addr) c.self.view_is in
     let updated = c.put.ensures.moments ∙ ap (λ (s : Entries). put pair_cmp s.updated k c.args.now) c.self.view_is in
-    λ i. record { addr = addr i; updated = updated i }
+    let oldest = c.min-self-inside.ensures ∙ ap (λ (s : Entries). min s.oldest c.args.now) c.self.view_is in
+    λ i. record { addr = addr i; updated = updated i; oldest = oldest i }

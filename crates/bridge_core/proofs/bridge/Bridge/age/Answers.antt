@@ -27,7 +27,7 @@ returns c =
     let updated = ap (λ (b : Controlled). b.control.updated) c.self.view_is in
     let gone : List Address = expired (table old.history) (clocked c.args.clock old.control) in
     let made : c.deref.result.now ≡ forgets gone =
-    c.deref.ensures.value ∙ c.in_ok-changes.ensures ∙ ap forgets (c.as_slice.ensures ∙ c.in_ok-keys.ensures ∙ (λ i. old_keys c.args.clock.now c.args.clock.ageing (record { addr = addr i; updated = updated i }))) in
+    c.deref.ensures.value ∙ c.in_ok-changes.ensures ∙ ap forgets (c.as_slice.ensures ∙ c.in_ok-keys.ensures ∙ (λ i. old_keys c.args.clock.now c.args.clock.ageing (record { addr = addr i; updated = updated i; oldest = s.addresses.oldest }))) in
     let answer =
     ap (λ (cs : List Change). in_room old.history (Ok (course old.history (clocked c.args.clock old.control) cs))) made
     ∙ ap (λ r. in_room old.history (Ok r)) (sym (makes_course old.history (clocked c.args.clock old.control) (forgets gone) (fit_forgets (table old.history) gone))) in

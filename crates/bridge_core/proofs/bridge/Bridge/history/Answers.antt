@@ -1,5 +1,4 @@
-use Rattle.std.proofs.Common.{true, ◌≡◌, List, ap, sym, ◌∙◌}
-use Rattle.br_model.specs.declared.change.Change.{Change}
+use Rattle.std.proofs.Common.{true, ◌≡◌, ap, sym, ◌∙◌}
 use Rattle.br_model.specs.Limits.{all_fit}
 use Rattle.br_model.specs.Table.{start}
 use Rattle.bridge_core.specs.Kept.{Controlled}

@@ -1,0 +1,381 @@
+-- Each step keeps what holds of the world.
+use Rattle.std.proofs.Common.{◌≡◌, ℕ, ◌+◌, ◌<◌, ◌≤◌, true, false, not, ◌&&◌, cond, List, [], ◌∷◌, ◌++◌, map, length, Option, None, Some, refl, sym, ap, ◌∙◌, arith, subst, append_assoc, length-append}
+use Rattle.std.proofs.lemmas.Bool.{eqb-true, eqb-false, eq-eqb, ne_eqb, ltb-true, and_parts, or_parts, or_from, not-false}
+use Rattle.std.proofs.lemmas.Cmp.{nat_eq_equiv}
+use Rattle.std.proofs.lemmas.List.Elements.{All-nil, All-push, All-same, All-filter, All-weaker, recursion_from_All}
+use Rattle.std.proofs.lemmas.List.Sums.{length-filter, count_by-le-length}
+use Rattle.std.proofs.lemmas.List.{map-append}
+use Rattle.std.proofs.lemmas.Map.Keys.{IsDistinct-push}
+use Rattle.std.proofs.lemmas.Option.{slice_get_within}
+use Rattle.std.specs.Prelude.{◌==◌, ◌||◌, nat_lt}
+use Rattle.std.specs.Cmp.{IsEquivalence}
+use Rattle.std.specs.List.{All, AllByRecursion, IsDistinct, filter, list_any}
+use Rattle.std.specs.List.Sorted.{IsStrictlySortedBy}
+use Rattle.std.specs.Option.{option_eq, option_map_or}
+use Rattle.std.specs.Ordering.{nat_cmp}
+use Rattle.std.specs.declared.result.Result.{Result}
+use Rattle.std.specs.declared.result.Result.TheVariants.{Ok, Err}
+use Rattle.br_model.specs.declared.change.Change.{Change}
+use Rattle.br_model.specs.declared.change.Change.TheVariants.{AddrPut}
+use Rattle.br_model.specs.declared.frame.Class.{Class}
+use Rattle.br_model.specs.declared.frame.Class.TheVariants.{Drop, Trap, Copy, Forward}
+use Rattle.br_model.specs.declared.frame.FrameFault.{FrameFault}
+use Rattle.br_model.specs.declared.frame.Head.{Head}
+use Rattle.br_model.specs.declared.steps.Event.{Event}
+use Rattle.br_model.specs.declared.steps.Event.TheVariants as events
+use Rattle.br_model.specs.declared.steps.Refusal.{Refusal}
+use Rattle.br_model.specs.declared.steps.Refusal.TheVariants.{NoSuchPoint}
+use Rattle.br_model.specs.declared.transcript.Line.TheVariants.{Overrun}
+use Rattle.br_model.specs.Chip.{Chip, same_triple, offered, offers, hit, hit_by, hits_entry, notes, report, hit_of}
+use Rattle.br_model.specs.Cut.{deferred_of, deferred_at}
+use Rattle.br_model.specs.DomainPorts.{is_in_domain}
+use Rattle.br_model.specs.Domains.{Domains, domain_of, chip}
+use Rattle.br_model.specs.Frames.{frame}
+use Rattle.br_model.specs.Learning.{Address, Triple}
+use Rattle.br_model.specs.Limits.{most_reports, most_waiting}
+use Rattle.br_model.specs.Maps.{pair_cmp, has}
+use Rattle.br_model.specs.Reaction.{Reaction}
+use Rattle.br_model.specs.Setup.{Setup}
+use Rattle.br_model.specs.Shares.{mark_of}
+use Rattle.br_model.specs.Table.{Table}
+use Rattle.br_model.specs.Plane.ChipSteps.{turns, reports, swept}
+use Rattle.br_model.specs.Plane.Entering.{waits, goes_on, enters_chip, enters_as, class_of}
+use Rattle.br_model.specs.Plane.Invariants.{frames_of, has_own_mark, IsFrame, FramesStand, ReportsStand, IsWorld}
+use Rattle.br_model.specs.Plane.Serving.{posts, serves, holds, held_with, lets_go, is_point, posts_held, posts_at}
+use Rattle.br_model.specs.Plane.Steps.{Step, Rx, Cmd, Now, Serve, Hold, Post, Turn, Report, Sweep, Publish, publishes, does, world_step}
+use Rattle.br_model.specs.Plane.World.{World, Waiting, Holding, first_world, table_of_chip, Stepped, accepts, answered, reacts, refused}
+use Rattle.br_model.proofs.ApplyingLaws.{deferred_count-append}
+use Rattle.br_model.proofs.PairKeys.{pair_total}
+use Rattle.br_model.proofs.PlaneHistory.{Accepts, react-accepts}
+use Rattle.br_model.proofs.PlaneLists.{Part, all-part, map-part, distinct-part, part-middle, part-filter, ascend-insert, ascend-push, last-push, first-push, has-push, last-has}
+
+pub first-world : (setup : Setup) → IsWorld (first_world setup)
+unfolding IsStrictlySortedBy IsDistinct
+first-world setup = record {
+  history = record { applied = omega arith; fits = refl; few = omega arith };
+  counts = record { ascend = (tt, tt); first = refl; last = refl; within = omega arith };
+  frames = record { frames = All-nil (IsFrame setup.domains 1); ids = tt; floors = All-nil (λ (h : Holding). has nat_cmp (0 ∷ []) h.floor ≡ true); few = omega arith };
+  reports = record { ids = tt; few = omega arith };
+  hits = tt;
+}
+
+-- What is accepted.
+
+accepted-world : (w : World) (r : Reaction) → IsWorld w → Accepts w.history (Ok r) → IsWorld (accepts w r)
+accepted-world w r k fit = record {
+  history = record { applied = omega (arith, k.history.applied, deferred_count-append w.history r.changes); fits = fit.0; few = fit.1 };
+  counts = record { ascend = k.counts.ascend; first = k.counts.first; last = k.counts.last; within = omega (arith, k.counts.within, length-append w.history r.changes) };
+  frames = k.frames;
+  reports = k.reports;
+  hits = k.hits;
+}
+
+answered-by : (before after : World) (answer : Result Reaction Refusal) → IsWorld before → IsWorld after → Accepts after.history answer → IsWorld (answered before after answer).0
+answered-by before after (Err why) k l fit = k
+answered-by before after (Ok r) k l fit = accepted-world after r l fit
+
+-- after an event of the first world, which has the second one's history, domains and control state
+answered-world : (before after : World) (e : Event) → IsWorld before → IsWorld after → after.history ≡ before.history → IsWorld (answered before after (reacts before e)).0
+answered-world before after e k l same =
+    answered-by before after (reacts before e) k l
+    (subst (λ h. Accepts h (reacts before e)) (sym same) (react-accepts before.history before.setup before.control e k.history.fits))
+
+-- What the chip keeps.
+
+abbrev pub ChipKeeps : Chip → Chip → Type 0
+ChipKeeps c d = (d.count ≡ c.count) × (ReportsStand c.reports → ReportsStand d.reports) × (IsStrictlySortedBy pair_cmp c.hits → IsStrictlySortedBy pair_cmp d.hits)
+
+same-parts : (x y : Triple) → same_triple x y ≡ true → (x.0 ≡ y.0) × (x.1 ≡ y.1) × (x.2 ≡ y.2)
+same-parts x y h =
+    let a = and_parts (x.0 == y.0) (x.1 == y.1 && x.2 == y.2) h in
+    let b = and_parts (x.1 == y.1) (x.2 == y.2) a.1 in
+    (eqb-true x.0 y.0 a.0, eqb-true x.1 y.1 b.0, eqb-true x.2 y.2 b.1)
+
+same_triple-equivalence : IsEquivalence same_triple
+same_triple-equivalence = record {
+  refl = λ x i. nat_eq_equiv.refl x.0 i && (nat_eq_equiv.refl x.1 i && nat_eq_equiv.refl x.2 i);
+  symm = λ x y i. nat_eq_equiv.symm x.0 y.0 i && (nat_eq_equiv.symm x.1 y.1 i && nat_eq_equiv.symm x.2 y.2 i);
+  congr = λ x y z h. let e = same-parts x y h in λ i. e.0 i == z.0 && (e.1 i == z.1 && e.2 i == z.2);
+}
+
+offered-keeps : (c : Chip) (x : Triple) → ChipKeeps c (offered c x)
+offered-keeps c x =
+    (elim (list_any (same_triple x) c.reports || not (nat_lt (length c.reports) most_reports)) as
+    (λ b. (list_any (same_triple x) c.reports || not (nat_lt (length c.reports) most_reports)) ≡ b → ChipKeeps c (cond b c (record c { reports = c.reports ++ x ∷ [] }))) [
+      | true ↦ λ e. (refl, λ h. h, λ h. h)
+      | false ↦ λ e.
+          let parts = or_parts (list_any (same_triple x) c.reports) (not (nat_lt (length c.reports) most_reports)) e in
+          let less = ltb-true (length c.reports) most_reports (not-false _ parts.1) in (
+            refl,
+            λ h. record { ids = IsDistinct-push same_triple-equivalence c.reports x h.ids parts.0; few = omega (arith, less, length-append c.reports (x ∷ [])) },
+            λ h. h,
+          )
+    ]) refl
+
+offers-keeps : (port : ℕ) (o : Option Address) (c : Chip) → ChipKeeps c (offers port o c)
+offers-keeps port None c = (refl, λ h. h, λ h. h)
+offers-keeps port (Some key) c = offered-keeps c (key.0, key.1, port)
+
+hit-keeps : (c : Chip) (key : Address) → ChipKeeps c (hit c key)
+hit-keeps c key = (refl, λ h. h, λ h. ascend-insert pair_cmp pair_total key c.hits h)
+
+hits_entry-keeps : (o : Option Address) (c : Chip) → ChipKeeps c (hits_entry o c)
+hits_entry-keeps None c = (refl, λ h. h, λ h. h)
+hits_entry-keeps (Some key) c = hit-keeps c key
+
+pub hit_by-keeps : (c : Chip) (d : Change) → ChipKeeps c (hit_by c d)
+hit_by-keeps c (AddrPut vid mac port kind) = hit-keeps c (vid, mac)
+hit_by-keeps c d = (refl, λ h. h, λ h. h)
+
+pub notes-keeps : (t : Table) (port : ℕ) (head : Head) (c : Chip) → ChipKeeps c (notes t port head c)
+notes-keeps t port head c =
+    let a = offers-keeps port (report t port head) c in
+    let b = hits_entry-keeps (hit_of t port head) (offers port (report t port head) c) in
+    (b.0 ∙ a.0, λ h. b.1 (a.1 h), λ h. b.2 (a.2 h))
+
+chip-world : (w : World) (c : Chip) → ChipKeeps w.chip c → IsWorld w → IsWorld (record w { chip = c })
+chip-world w c keeps k = record {
+  history = record { applied = omega (arith, keeps.0, k.history.applied); fits = k.history.fits; few = k.history.few };
+  counts = k.counts;
+  frames = k.frames;
+  reports = keeps.1 k.reports;
+  hits = keeps.2 k.hits;
+}
+
+-- Frames that wait or are held.
+
+module _ {domains : Domains} {counts : List ℕ} {held : List Holding} {waiting : List Waiting} {next : ℕ} (k : FramesStand domains counts held waiting next) where
+  none-same : (id : ℕ) (fs : List Waiting) → AllByRecursion (λ f. f.id < id) fs → list_any (λ y. id == y) (map (λ f. f.id) fs) ≡ false
+  none-same id [] h = refl
+  none-same id (f ∷ fs) h = or_from _ _ (ne_eqb id f.id (λ e. omega (arith, h.0, e))) (none-same id fs h.1)
+
+  frames-push : (f : Waiting) → IsFrame domains next f → All (λ g. g.id < f.id) (frames_of held waiting) → length waiting + length held < most_waiting
+      → FramesStand domains counts held (waiting ++ f ∷ []) next
+  frames-push f is fresh room =
+      let pushed : frames_of held (waiting ++ f ∷ []) ≡ frames_of held waiting ++ f ∷ [] = sym (append_assoc (map (λ (h : Holding). h.waiting) held) waiting (f ∷ [])) in
+      record {
+        frames = All-same (IsFrame domains next) _ _ pushed (All-push (IsFrame domains next) (frames_of held waiting) f k.frames is);
+        ids = subst (λ l. IsDistinct (◌==◌) l) (sym (ap (map (λ (g : Waiting). g.id)) pushed ∙ map-append _ (frames_of held waiting) (f ∷ [])))
+            (IsDistinct-push nat_eq_equiv (map (λ (g : Waiting). g.id) (frames_of held waiting)) f.id k.ids (none-same f.id (frames_of held waiting) (recursion_from_All _ _ fresh)));
+        floors = k.floors;
+        few = omega (arith, room, length-append waiting (f ∷ []));
+      }
+
+  frames-part : (held' : List Holding) (waiting' : List Waiting) → Part (frames_of held' waiting') (frames_of held waiting) → All (λ h. has nat_cmp counts h.floor ≡ true) held'
+      → length waiting' + length held' ≤ length waiting + length held → FramesStand domains counts held' waiting' next
+  frames-part held' waiting' part floors few = record {
+    frames = all-part (IsFrame domains next) _ _ part k.frames;
+    ids = distinct-part (◌==◌) (map-part (λ (f : Waiting). f.id) part) k.ids;
+    floors = floors;
+    few = omega (arith, few, k.few);
+  }
+
+  frames-next : FramesStand domains counts held waiting (next + 1)
+  frames-next = record {
+    frames = All-weaker (IsFrame domains next) (IsFrame domains (next + 1)) (λ f is. record { id = omega (arith, is.id); head = is.head; mark = is.mark }) _ k.frames;
+    ids = k.ids;
+    floors = k.floors;
+    few = k.few;
+  }
+
+  frames-published : (n : ℕ) → FramesStand domains (counts ++ n ∷ []) held waiting next
+  frames-published n = record {
+    frames = k.frames;
+    ids = k.ids;
+    floors = All-weaker (λ (h : Holding). has nat_cmp counts h.floor ≡ true) (λ (h : Holding). has nat_cmp (counts ++ n ∷ []) h.floor ≡ true) (λ h is. has-push h.floor n counts is) held k.floors;
+    few = k.few;
+  }
+
+frames-hold : {domains : Domains} {counts : List ℕ} {held : List Holding} {f : Waiting} {later : List Waiting} {next : ℕ} (floor : ℕ) → FramesStand domains counts held (f ∷ later) next
+    → has nat_cmp counts floor ≡ true → FramesStand domains counts (held ++ record { waiting = f; floor = floor } ∷ []) later next
+frames-hold {domains} {counts} {held} {f} {later} {next} floor k point =
+    let moved = held-moves held (record { waiting = f; floor = floor }) later in
+    record {
+      frames = All-same (IsFrame domains next) _ _ moved k.frames;
+      ids = subst (λ l. IsDistinct (◌==◌) (map (λ (g : Waiting). g.id) l)) (sym moved) k.ids;
+      floors = All-push (λ (h : Holding). has nat_cmp counts h.floor ≡ true) held _ k.floors point;
+      few = omega (arith, k.few, length-append held (record { waiting = f; floor = floor } ∷ []));
+    }
+  where
+    held-moves : (hs : List Holding) (h : Holding) (fs : List Waiting) → frames_of (hs ++ h ∷ []) fs ≡ frames_of hs (h.waiting ∷ fs)
+    held-moves [] h fs = refl
+    held-moves (g ∷ hs) h fs = ap (λ l. g.waiting ∷ l) (held-moves hs h fs)
+
+-- A frame enters.
+
+waits-world : (w : World) (f : Waiting) → IsWorld w → IsFrame w.setup.domains w.next f → All (λ g. g.id < f.id) (frames_of w.held w.waiting) → IsWorld (waits w f).0
+waits-world w f k is fresh =
+    (elim (nat_lt (length w.waiting + length w.held) most_waiting) as (λ b. nat_lt (length w.waiting + length w.held) most_waiting ≡ b
+    → IsWorld (cond {A = Stepped} b (record w { waiting = w.waiting ++ f ∷ [] }, []) (w, Overrun f.id ∷ [])).0) [
+      | true ↦ λ e. record {
+        history = k.history;
+        counts = k.counts;
+        frames = frames-push k.frames f is fresh (ltb-true _ _ e);
+        reports = k.reports;
+        hits = k.hits;
+      }
+      | false ↦ λ e. k
+    ]) refl
+
+goes_on-world : (c : Class) (w : World) (f : Waiting) → IsWorld w → IsFrame w.setup.domains w.next f → All (λ g. g.id < f.id) (frames_of w.held w.waiting) → IsWorld (goes_on c w f).0
+goes_on-world Drop w f k is fresh = k
+goes_on-world Trap w f k is fresh = waits-world w f k is fresh
+goes_on-world Copy w f k is fresh = waits-world w f k is fresh
+goes_on-world Forward w f k is fresh = k
+
+own-mark : (o : Option ℕ) → option_eq (λ x y. x == y) o (Some chip) ≡ true → option_map_or (λ mark. mark == chip && option_eq (λ x y. x == y) o (Some mark)) o true ≡ true
+own-mark None h = absurd (cc)
+own-mark (Some d) h = λ i. h i && eq-eqb d d refl i
+
+class-mark : (c : Class) (domains : Domains) (f : Waiting) → is_in_domain domains chip f.port ≡ true → has_own_mark domains (record f { mark = mark_of c domains f.port }) ≡ true
+class-mark Drop domains f on = refl
+class-mark Trap domains f on = refl
+class-mark Copy domains f on = own-mark (domain_of domains f.port) on
+class-mark Forward domains f on = refl
+
+enters-world : (w : World) (id port : ℕ) (bytes : List ℕ) (r : Result Head FrameFault) → frame bytes ≡ r → IsWorld w → id < w.next → All (λ g. g.id < id) (frames_of w.held w.waiting)
+    → IsWorld (enters_as w id port bytes r).0
+enters-world w id port bytes (Err why) e k less fresh = k
+enters-world w id port bytes (Ok head) e k less fresh =
+    let f : Waiting = record { id = id; port = port; bytes = bytes; head = head; mark = None } in
+    (elim (is_in_domain w.setup.domains chip port) as (λ b. is_in_domain w.setup.domains chip port ≡ b → IsWorld (cond {A = Stepped} b (enters_chip w (table_of_chip w) (class_of w f) f) (waits w f)).0) [
+      | true ↦ λ on.
+          let c = notes (table_of_chip w) port head w.chip in
+          goes_on-world (class_of w f) (record w { chip = c }) (record f { mark = mark_of (class_of w f) w.setup.domains port })
+          (chip-world w c (notes-keeps (table_of_chip w) port head w.chip) k)
+          (record { id = less; head = e; mark = class-mark (class_of w f) w.setup.domains f on })
+          fresh
+      | false ↦ λ off. waits-world w f k (record { id = less; head = e; mark = refl }) fresh
+    ]) refl
+
+-- A frame is sent, or held.
+
+posts-world : (w : World) (f : Waiting) (point : ℕ) → IsWorld w → IsWorld (posts w f point).0
+posts-world w f point k = answered-world w w (events.Sight f.port f.bytes f.head) k k refl
+
+serves-world : (w : World) (fs : List Waiting) → w.waiting ≡ fs → IsWorld w → IsWorld (serves w fs).0
+serves-world w [] e k = k
+serves-world w (f ∷ later) e k = posts-world (record w { waiting = later }) f w.published (record {
+  history = k.history;
+  counts = k.counts;
+  frames =
+      let frames = subst (λ l. FramesStand w.setup.domains w.counts w.held l w.next) e k.frames in
+      frames-part frames w.held later (part-middle (map (λ (h : Holding). h.waiting) w.held) f later) frames.floors (omega arith);
+  reports = k.reports;
+  hits = k.hits;
+})
+
+holds-world : (w : World) (fs : List Waiting) → w.waiting ≡ fs → IsWorld w → IsWorld (holds w fs).0
+holds-world w [] e k = k
+holds-world w (f ∷ later) e k = record {
+  history = k.history;
+  counts = k.counts;
+  frames = frames-hold w.published (subst (λ l. FramesStand w.setup.domains w.counts w.held l w.next) e k.frames) (last-has w.published w.counts k.counts.last);
+  reports = k.reports;
+  hits = k.hits;
+}
+
+lets_go-world : (w : World) (id : ℕ) → IsWorld w → IsWorld (lets_go w id)
+lets_go-world w id k = record {
+  history = k.history;
+  counts = k.counts;
+  frames =
+      frames-part k.frames (filter (λ h. not (h.waiting.id == id)) w.held) w.waiting (part-filter (λ (h : Holding). h.waiting) (λ h. not (h.waiting.id == id)) w.held w.waiting)
+      (All-filter (λ (h : Holding). not (h.waiting.id == id)) (λ (h : Holding). has nat_cmp w.counts h.floor ≡ true) w.held k.frames.floors)
+      (omega (arith, length-filter (λ (h : Holding). not (h.waiting.id == id)) w.held, count_by-le-length (λ (h : Holding). not (h.waiting.id == id)) w.held));
+  reports = k.reports;
+  hits = k.hits;
+}
+
+posts_held-world : (w : World) (h : Holding) (point : Option ℕ) → IsWorld w → IsWorld (posts_held w h point).0
+posts_held-world w h None k = posts-world (lets_go w h.waiting.id) h.waiting h.floor (lets_go-world w h.waiting.id k)
+posts_held-world w h (Some point) k =
+    elim (is_point w h point) as (λ b. IsWorld (cond {A = Stepped} b (posts (lets_go w h.waiting.id) h.waiting point) (refused w NoSuchPoint)).0) [
+      | true ↦ posts-world (lets_go w h.waiting.id) h.waiting point (lets_go-world w h.waiting.id k)
+      | false ↦ k
+    ]
+
+posts_at-world : (w : World) (o : Option Holding) (point : Option ℕ) → IsWorld w → IsWorld (posts_at w o point).0
+posts_at-world w None point k = k
+posts_at-world w (Some h) point k = posts_held-world w h point k
+
+-- The chip's driver.
+
+turns-world : (w : World) (o : Option Change) → deferred_at w.history w.chip.count ≡ o → IsWorld w → IsWorld (turns w o).0
+turns-world w None e k = k
+turns-world w (Some d) e k =
+    let keeps = hit_by-keeps (record w.chip { count = w.chip.count + 1 }) d in
+    record {
+      history = record { applied = omega (arith, keeps.0, slice_get_within (deferred_of w.history) w.chip.count d e); fits = k.history.fits; few = k.history.few };
+      counts = k.counts;
+      frames = k.frames;
+      reports = keeps.1 k.reports;
+      hits = keeps.2 k.hits;
+    }
+
+fewer-reports : (x : Triple) (later : List Triple) → ReportsStand (x ∷ later) → ReportsStand later
+unfolding IsDistinct
+fewer-reports x later k = record { ids = k.ids.1; few = omega (arith, k.few) }
+
+reports-world : (w : World) (rs : List Triple) → w.chip.reports ≡ rs → IsWorld w → IsWorld (reports w rs).0
+reports-world w [] e k = k
+reports-world w (x ∷ later) e k =
+    answered-world w (record w { chip = record w.chip { reports = later } }) (events.Told x.0 x.1 x.2) k
+    (record { history = k.history; counts = k.counts; frames = k.frames; reports = fewer-reports x later (subst ReportsStand e k.reports); hits = k.hits })
+    refl
+
+swept-world : (w : World) → IsWorld w → IsWorld (record w { chip = record w.chip { hits = [] } })
+unfolding IsStrictlySortedBy
+swept-world w k = record { history = k.history; counts = k.counts; frames = k.frames; reports = k.reports; hits = tt }
+
+publishes-world : (w : World) → IsWorld w → IsWorld (publishes w (length w.history))
+publishes-world w k =
+    let n = length w.history in
+    (elim (n == w.published) as (λ b. (n == w.published) ≡ b → IsWorld (record w { published = n; counts = cond b w.counts (w.counts ++ n ∷ []) })) [
+      | true ↦ λ e. record {
+        history = k.history;
+        counts = record { ascend = k.counts.ascend; first = k.counts.first; last = k.counts.last ∙ ap (λ m. Some m) (sym (eqb-true n w.published e)); within = omega arith };
+        frames = k.frames;
+        reports = k.reports;
+        hits = k.hits;
+      }
+      | false ↦ λ e.
+          let less : w.published < n = omega (arith, k.counts.within, eqb-false n w.published e) in
+          record {
+            history = k.history;
+            counts = record {
+              ascend = ascend-push n w.published w.counts less k.counts.ascend k.counts.last;
+              first = first-push 0 n w.counts k.counts.first;
+              last = last-push None n w.counts;
+              within = omega arith;
+            };
+            frames = frames-published k.frames n;
+            reports = k.reports;
+            hits = k.hits;
+          }
+    ]) refl
+
+-- Each step.
+
+pub counted-world : (w : World) → IsWorld w → IsWorld (record w { steps = w.steps + 1 })
+counted-world w k = record { history = k.history; counts = k.counts; frames = k.frames; reports = k.reports; hits = k.hits }
+
+numbered-world : (w : World) → IsWorld w → IsWorld (record w { next = w.next + 1 })
+numbered-world w k = record { history = k.history; counts = k.counts; frames = frames-next k.frames; reports = k.reports; hits = k.hits }
+
+does-world : (w : World) (step : Step) → IsWorld w → IsWorld (does w step).0
+does-world w (Rx port bytes) k =
+    enters-world (record w { next = w.next + 1 }) w.next port bytes (frame bytes) refl (numbered-world w k) (omega arith)
+    (All-weaker (IsFrame w.setup.domains w.next) (λ (f : Waiting). f.id < w.next) (λ f is. is.id) (frames_of w.held w.waiting) k.frames.frames)
+does-world w (Cmd c) k = answered-world w w (events.Cmd c) k k refl
+does-world w (Now moment) k = answered-world w w (events.Moment moment) k k refl
+does-world w Serve k = serves-world w w.waiting refl k
+does-world w Hold k = holds-world w w.waiting refl k
+does-world w (Post id point) k = posts_at-world w (held_with w id) point k
+does-world w Turn k = turns-world w (deferred_at w.history w.chip.count) refl k
+does-world w Report k = reports-world w w.chip.reports refl k
+does-world w Sweep k = answered-world w (record w { chip = record w.chip { hits = [] } }) (swept w) k (swept-world w k) refl
+does-world w Publish k = publishes-world w k
+
+pub step-world : (w : World) (step : Step) → IsWorld w → IsWorld (world_step w step).0
+step-world w step k = does-world (record w { steps = w.steps + 1 }) step (counted-world w k)

@@ -1,0 +1,5 @@
+use Rattle.br_model.proofs.ChipRows.{bits_follow_a_foreign_port}
+use Rattle.br_model.proofs.laws.bits_follow_a_foreign_port.Goals as goal
+
+pub returns : goal.returns
+returns c = bits_follow_a_foreign_port

@@ -1,0 +1,5 @@
+use Rattle.br_model.proofs.ChipRows.{hold}
+use Rattle.br_model.proofs.laws.hold.Goals as goal
+
+pub returns : goal.returns
+returns c = hold

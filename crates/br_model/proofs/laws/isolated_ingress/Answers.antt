@@ -1,0 +1,5 @@
+use Rattle.br_model.proofs.ChipRows.{isolated_ingress}
+use Rattle.br_model.proofs.laws.isolated_ingress.Goals as goal
+
+pub returns : goal.returns
+returns c = isolated_ingress

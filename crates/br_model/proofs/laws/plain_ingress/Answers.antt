@@ -1,0 +1,5 @@
+use Rattle.br_model.proofs.ChipRows.{plain_ingress}
+use Rattle.br_model.proofs.laws.plain_ingress.Goals as goal
+
+pub returns : goal.returns
+returns c = plain_ingress

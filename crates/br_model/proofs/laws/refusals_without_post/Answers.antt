@@ -1,0 +1,5 @@
+use Rattle.br_model.proofs.ChipRows.{refusals_without_post}
+use Rattle.br_model.proofs.laws.refusals_without_post.Goals as goal
+
+pub returns : goal.returns
+returns c = refusals_without_post

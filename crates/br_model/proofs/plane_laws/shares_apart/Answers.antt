@@ -1,0 +1,5 @@
+use Rattle.br_model.proofs.PlaneShares.{apart}
+use Rattle.br_model.proofs.plane_laws.shares_apart.Goals as goal
+
+pub returns : goal.returns
+returns c = apart

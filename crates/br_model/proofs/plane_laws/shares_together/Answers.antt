@@ -1,0 +1,5 @@
+use Rattle.br_model.proofs.PlaneShares.{together}
+use Rattle.br_model.proofs.plane_laws.shares_together.Goals as goal
+
+pub returns : goal.returns
+returns c = together

@@ -1,0 +1,49 @@
+-- The step of the world, by cases.
+-- Source: this profile.
+use Rattle.std.specs.Prelude.{ℕ, ◌+◌, ◌==◌, if◌then◌else◌, List, [], ◌∷◌, ◌++◌, length}
+use Rattle.std.specs.declared.option.Option.{Option}
+use Rattle.br_model.specs.declared.steps.Command.{Command}
+use Rattle.br_model.specs.declared.steps.Event.TheVariants as events
+use Rattle.br_model.specs.Cut.{deferred_at}
+use Rattle.br_model.specs.Plane.ChipSteps.{turns, reports, sweeps}
+use Rattle.br_model.specs.Plane.Entering.{enters}
+use Rattle.br_model.specs.Plane.Serving.{serves, holds, held_with, posts_at}
+use Rattle.br_model.specs.Plane.World.{World, Stepped, done, answered, reacts}
+
+pub data Step : Type 0 where
+  -- a frame enters at a port
+  Rx : ℕ → List ℕ → Step
+  Cmd : Command → Step
+  -- the moment comes, in milliseconds from the start
+  Now : ℕ → Step
+  -- the oldest frame that waits is decided and sent; or it is held, and then decided and sent by its id, at its floor or at a point
+  Serve : Step
+  Hold : Step
+  Post : ℕ → Option ℕ → Step
+  -- the chip applies a deferred change, tells a report, forgets what it no longer sees
+  Turn : Step
+  Report : Step
+  Sweep : Step
+  -- software decides by all accepted changes from now on
+  Publish : Step
+
+-- a count is published once, however often it is
+abbrev pub publishes : World → ℕ → World
+publishes w n = record w { published = n; counts = if n == w.published then w.counts else w.counts ++ n ∷ [] }
+
+-- what the step does in a world that has counted it
+abbrev pub does : World → Step → Stepped
+does w (Rx port bytes) = enters w port bytes
+does w (Cmd c) = answered w w (reacts w (events.Cmd c))
+does w (Now moment) = answered w w (reacts w (events.Moment moment))
+does w Serve = serves w w.waiting
+does w Hold = holds w w.waiting
+does w (Post id point) = posts_at w (held_with w id) point
+does w Turn = turns w (deferred_at w.history w.chip.count)
+does w Report = reports w w.chip.reports
+does w Sweep = sweeps w
+does w Publish = done (publishes w (length w.history))
+
+-- Each step is counted, a refused one too.
+abbrev pub world_step : World → Step → Stepped
+world_step w step = does (record w { steps = w.steps + 1 }) step

@@ -1,0 +1,47 @@
+-- Which lines can be read, and their words.
+use Rattle.std.specs.Prelude.{ℕ, ◌^◌, nat_lt, Bool, false, ◌&&◌, List, [], ◌∷◌, codes}
+use Rattle.std.specs.Fmt.{decimal}
+use Rattle.std.specs.List.{list_all}
+use Rattle.br_model.specs.declared.transcript.Line.{Line}
+use Rattle.br_model.specs.declared.transcript.Line.TheVariants.{Chip, Unread, Soft, Held, Tx, Ctl, Overrun, Done, Refused, End}
+use Rattle.br_model.specs.Digits.{hex_of}
+use Rattle.br_model.specs.Transcript.{fault_word, class_word, refusal_number}
+use Rattle.br_model.specs.Words.{Word}
+use Rattle.br_model.specs.WrittenSteps.{is_byte}
+
+abbrev pub is_number : ℕ → Bool
+is_number n = nat_lt n (2 ^ 32)
+
+abbrev pub is_port : ℕ → Bool
+is_port n = nat_lt n 64
+
+-- at least one byte
+abbrev pub is_frame : List ℕ → Bool
+is_frame [] = false
+is_frame (b ∷ bytes) = list_all is_byte (b ∷ bytes)
+
+-- Numbers are below 2^32, ports below 64, and a frame has bytes.
+abbrev pub is_line : Line → Bool
+is_line (Chip id changes applied class) = is_number id && (is_number changes && is_number applied)
+is_line (Unread id why) = is_number id
+is_line (Soft id point) = is_number id && is_number point
+is_line (Held id floor) = is_number id && is_number floor
+is_line (Tx id port bytes) = is_number id && (is_port port && is_frame bytes)
+is_line (Ctl port bytes) = is_port port && is_frame bytes
+is_line (Overrun id) = is_number id
+is_line (Done step changes) = is_number step && is_number changes
+is_line (Refused step why) = is_number step
+is_line (End steps changes pending waiting) = is_number steps && (is_number changes && (is_number pending && is_number waiting))
+
+-- what stands between a line's spaces
+abbrev pub line_words : Line → List Word
+line_words (Chip id changes applied class) = codes "chip" ∷ decimal id ∷ codes "at" ∷ decimal changes ∷ decimal applied ∷ class_word class ∷ []
+line_words (Unread id why) = codes "unread" ∷ decimal id ∷ fault_word why ∷ []
+line_words (Soft id point) = codes "soft" ∷ decimal id ∷ codes "at" ∷ decimal point ∷ []
+line_words (Held id floor) = codes "held" ∷ decimal id ∷ decimal floor ∷ []
+line_words (Tx id port bytes) = codes "tx" ∷ decimal id ∷ decimal port ∷ hex_of bytes ∷ []
+line_words (Ctl port bytes) = codes "ctl" ∷ decimal port ∷ hex_of bytes ∷ []
+line_words (Overrun id) = codes "overrun" ∷ decimal id ∷ []
+line_words (Done step changes) = codes "ok" ∷ decimal step ∷ decimal changes ∷ []
+line_words (Refused step why) = codes "refused" ∷ decimal step ∷ decimal (refusal_number why) ∷ []
+line_words (End steps changes pending waiting) = codes "end" ∷ decimal steps ∷ decimal changes ∷ decimal pending ∷ decimal waiting ∷ []
