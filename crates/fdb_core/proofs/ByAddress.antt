@@ -1,4 +1,4 @@
--- Numbers of keys are in the order of the keys, so that the entries by number follow those by VLAN and address.
+-- What keys' numbers are, and the keys of entries that pass.
 use Rattle.std.proofs.Common.{◌≡◌, ℕ, zero, suc, ◌+◌, ◌*◌, ◌/◌, ◌%◌, ◌^◌, ◌<◌, ◌≤◌, Bool, true, false, T, not, cond, ◌&&◌, IsTrue, Some, List, [], ◌∷◌, length, get_or, map, filter, nat_le, refl, sym, ap, subst, ◌∙◌, ⊎_elim, arith}
 use Rattle.std.specs.List.{list_all}
 use Rattle.std.specs.Ordering.{is_eq, is_lt, eq_by_cmp, nat_cmp, ordering_then}
@@ -9,110 +9,19 @@ use Rattle.std.proofs.lemmas.Nat.{div-mul-add, mod-mul-add}
 use Rattle.std.proofs.Math.Nat.{mul-le-mul_right, mod-lt, div-add-mod}
 use Rattle.std.specs.FinMap.Entries as entries
 use Rattle.std.specs.FinMap.Entries.{by_order}
-use Rattle.br_model.specs.Maps.{pair_cmp, get, put, without, is_ascending}
 use Rattle.fdb_core.specs.declared.entries.Entry.{Entry}
-use Rattle.fdb_core.specs.Packing.{packed, unpacked, is_key, AreKeys, by_address}
+use Rattle.open_addressing.specs.Pairs.{packed, unpacked}
+use Rattle.fdb_core.specs.Packing.{is_key, AreKeys, by_address}
 use Rattle.open_addressing.specs.Finite.{keys_where as numbers_where}
 use Rattle.fdb_core.specs.Fdb.{keys_where}
+use Rattle.open_addressing.proofs.Pairs.{unpacked-packed}
 
 abbrev pub Key : Type 0
 Key = ℕ × ℕ
 
--- numbers of two digits are in the order of the first and then the second
-digits_order : (w v m a b : ℕ) → m < w → b < w → ordering_then (nat_cmp v a) (nat_cmp m b) ≡ nat_cmp (v * w + m) (a * w + b)
-digits_order w v m a b mw bw =
-    ⊎_elim
-    (λ (h : v < a).
-    let up : suc v * w ≤ a * w = mul-le-mul_right w h in
-    let first : suc v * w ≡ v * w + w = omega arith in
-    ap (λ r. ordering_then r (nat_cmp m b)) (sym (nat_cmp_is v a Less h)) ∙ nat_cmp_is (v * w + m) (a * w + b) Less (omega arith))
-    (λ (h : a ≤ v).
-    ⊎_elim
-    (λ (same : v ≡ a).
-    let left : nat_cmp v a ≡ Equal = sym (nat_cmp_is v a Equal same) in
-    ap (λ r. ordering_then r (nat_cmp m b)) left
-    ∙ ⊎_elim
-    (λ (l : m < b). sym (nat_cmp_is m b Less l) ∙ nat_cmp_is (v * w + m) (a * w + b) Less (let e : v * w ≡ a * w = ap (λ x. x * w) same in omega arith))
-    (λ (l : b ≤ m).
-    ⊎_elim
-    (λ (e : m ≡ b). sym (nat_cmp_is m b Equal e) ∙ nat_cmp_is (v * w + m) (a * w + b) Equal (λ i. same i * w + e i))
-    (λ (n : m ≡ b → ⊥). sym (nat_cmp_is m b Greater (omega arith)) ∙ nat_cmp_is (v * w + m) (a * w + b) Greater (let e : v * w ≡ a * w = ap (λ x. x * w) same in omega arith))
-    (cases_eq m b))
-    (cases_lt m b))
-    (λ (n : v ≡ a → ⊥).
-    let above : a < v = omega arith in
-    let up : suc a * w ≤ v * w = mul-le-mul_right w above in
-    let first : suc a * w ≡ a * w + w = omega arith in
-    ap (λ r. ordering_then r (nat_cmp m b)) (sym (nat_cmp_is v a Greater above)) ∙ nat_cmp_is (v * w + m) (a * w + b) Greater (omega arith))
-    (cases_eq v a))
-    (cases_lt v a)
-
-whole : (w q : ℕ) → (q / w) * w + q % w ≡ q
-whole w q = let e = div-add-mod q w in omega arith
-
-pub cmp_unpacked : (k : Key) (q : ℕ) → k.1 < 2 ^ 48 → pair_cmp k (unpacked q) ≡ nat_cmp (packed k) q
-unfolding packed unpacked
-cmp_unpacked k q fits =
-    let w : ℕ = 2 ^ 48 in
-    digits_order w k.0 k.1 (q / w) (q % w) fits (mod-lt q (omega arith)) ∙ ap (nat_cmp (k.0 * w + k.1)) (whole w q)
-
-low-lt : (q : ℕ) → (unpacked q).1 < 2 ^ 48
-unfolding unpacked
-low-lt q = mod-lt q (omega arith)
-
-packed-unpacked : (q : ℕ) → packed (unpacked q) ≡ q
-unfolding packed unpacked
-packed-unpacked q = whole (2 ^ 48) q
-
-pub unpacked-packed : (k : Key) → k.1 < 2 ^ 48 → unpacked (packed k) ≡ k
-unfolding packed unpacked
-unpacked-packed k fits = λ i. (div-mul-add k.0 (2 ^ 48) k.1 fits i, mod-mul-add k.0 (2 ^ 48) k.1 fits i)
-
-cmp_both : (p q : ℕ) → pair_cmp (unpacked p) (unpacked q) ≡ nat_cmp p q
-cmp_both p q = cmp_unpacked (unpacked p) q (low-lt p) ∙ ap (λ n. nat_cmp n q) (packed-unpacked p)
-
 true_of : (b : Bool) → T b → b ≡ true
 true_of true h = refl
 true_of false h = absurd h
-
-module _ (k : Key) (fits : k.1 < 2 ^ 48) where
-  pub get-by_address : (es : List (ℕ × Entry)) → get pair_cmp (by_address es) k ≡ entries.find nat_cmp (packed k) es
-  get-by_address [] = refl
-  get-by_address (e ∷ es) = λ i. cond (is_eq (cmp_unpacked k e.0 fits i)) (Some e.1) (get-by_address es i)
-
-  pub put-by_address : (x : Entry) (es : List (ℕ × Entry)) → put pair_cmp (by_address es) k x ≡ by_address (entries.put nat_cmp (packed k) x es)
-  put-by_address x [] = ap (λ (q : Key). (q, x) ∷ []) (sym (unpacked-packed k fits))
-  put-by_address x (e ∷ es) =
-      ap (λ r. by_order r ((k, x) ∷ by_address (e ∷ es)) ((unpacked e.0, x) ∷ by_address es) ((unpacked e.0, e.1) ∷ put pair_cmp (by_address es) k x)) (cmp_unpacked k e.0 fits)
-      ∙ elim (nat_cmp (packed k) e.0) as (λ r. by_order r ((k, x) ∷ by_address (e ∷ es)) ((unpacked e.0, x) ∷ by_address es) ((unpacked e.0, e.1) ∷ put pair_cmp (by_address es) k x)
-      ≡ by_address (by_order r ((packed k, x) ∷ e ∷ es) ((e.0, x) ∷ es) (e ∷ entries.put nat_cmp (packed k) x es))) [
-        | Less ↦ ap (λ (q : Key). (q, x) ∷ by_address (e ∷ es)) (sym (unpacked-packed k fits))
-        | Equal ↦ refl
-        | Greater ↦ ap (λ (f : List (Key × Entry)). (unpacked e.0, e.1) ∷ f) (put-by_address x es)
-      ]
-
-  pub without-by_address : (es : List (ℕ × Entry)) → without pair_cmp (by_address es) k ≡ by_address (entries.where_key nat_cmp (λ q. not (eq_by_cmp nat_cmp (packed k) q)) es)
-  without-by_address [] = refl
-  without-by_address (e ∷ es) =
-      let rest : List (Key × Entry) = without pair_cmp (by_address es) k in
-      let left : List (ℕ × Entry) = entries.where_key nat_cmp (λ q. not (eq_by_cmp nat_cmp (packed k) q)) es in
-      ap (λ r. cond (not (is_eq r)) ((unpacked e.0, e.1) ∷ rest) rest) (cmp_unpacked k e.0 fits)
-      ∙ elim (is_eq (nat_cmp (packed k) e.0)) as (λ b. cond (not b) ((unpacked e.0, e.1) ∷ rest) rest ≡ by_address (cond (not b) (e ∷ left) left)) [
-        | true ↦ without-by_address es
-        | false ↦ ap (λ (f : List (Key × Entry)). (unpacked e.0, e.1) ∷ f) (without-by_address es)
-      ]
-
-below-by_address : (x : ℕ) (es : List (ℕ × Entry)) → entries.below_all pair_cmp (unpacked x) (by_address es) ≡ entries.below_all nat_cmp x es
-below-by_address x [] = refl
-below-by_address x (e ∷ es) = λ i. is_lt (cmp_both x e.0 i) && below-by_address x es i
-
-pub ascending-by_address : (es : List (ℕ × Entry)) → is_ascending pair_cmp (by_address es) ≡ entries.is_sorted nat_cmp es
-ascending-by_address [] = refl
-ascending-by_address (e ∷ es) = λ i. below-by_address e.0 es i && ascending-by_address es i
-
-pub length-by_address : (es : List (ℕ × Entry)) → length (by_address es) ≡ length es
-length-by_address [] = refl
-length-by_address (e ∷ es) = ap suc (length-by_address es)
 
 -- numbers that are keys stay so
 both_true : (a b : Bool) → a ≡ true → b ≡ true → (a && b) ≡ true

@@ -1,13 +1,8 @@
--- Keys as single numbers: the VLAN above the 48 bits of the address.
+-- Which numbers are those of a VLAN and an address, and the entries by VLAN and address.
 use Rattle.std.specs.Prelude.{ℕ, ◌+◌, ◌*◌, ◌/◌, ◌%◌, ◌^◌, nat_le, Bool, ◌&&◌, List, map, IsTrue}
 use Rattle.std.specs.List.{list_all}
+use Rattle.open_addressing.specs.Pairs.{unpacked, by_pair}
 use Rattle.fdb_core.specs.declared.entries.Entry.{Entry}
-
-unfoldable pub packed : ℕ × ℕ → ℕ
-packed k = k.0 * 2 ^ 48 + k.1
-
-unfoldable pub unpacked : ℕ → ℕ × ℕ
-unpacked n = (n / 2 ^ 48, n % 2 ^ 48)
 
 -- whether a number has a VLAN, which are from 1 to 4094
 abbrev pub is_key : ℕ → Bool
@@ -18,4 +13,4 @@ AreKeys es = IsTrue (list_all (λ e. is_key e.0) es)
 
 -- the entries by VLAN and address
 abbrev pub by_address : List (ℕ × Entry) → List ((ℕ × ℕ) × Entry)
-by_address es = map (λ e. (unpacked e.0, e.1)) es
+by_address es = by_pair es

@@ -1,7 +1,8 @@
 //! Keys as single numbers of 60 bits, in the order of the keys: the VLAN above the 48 bits of the address.
 ghost use Rattle.std.specs.Prelude.{◌≡◌, ◌≢◌, ◌/◌, ◌^◌, ◌<◌, ◌≤◌, IfOk, IsTrue, map};
 ghost use Rattle.std.specs.List.{list_all};
-ghost use Rattle.fdb_core.specs.Packing.{packed, unpacked, is_key};
+ghost use Rattle.open_addressing.specs.Pairs.{packed, unpacked};
+ghost use Rattle.fdb_core.specs.Packing.{is_key};
 
 use crate::NoMemory;
 use crate::entries::Key;
@@ -22,7 +23,7 @@ pub fn pack(vid: Vid, mac: Mac) -> u64
 }
 
 /// The key of a number.
-#[tactic(auto, unfolding(crate::specs::Packing::unpacked))]
+#[tactic(auto, unfolding(open_addressing::specs::Pairs::unpacked))]
 fn unpack(number: u64) -> Key
     requires low { 1 ≤ number / 2 ^ 48 }
     requires high { number / 2 ^ 48 ≤ 4094 }

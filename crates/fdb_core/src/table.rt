@@ -9,14 +9,14 @@ use crate::key_list::Keys;
 use crate::packing::{pack, unpack_all};
 use br_model::change::Kind;
 use br_model::numbers::{Mac, Port, Vid};
-use open_addressing::map::{Map, Measure, Test};
+use open_addressing::map::{Columned, Measure, Test};
 use std::alloc::Global;
 use std::marker::Model;
 
 /// The entries by VLAN and address, in cells with open addressing.
 #[derive(Drop, Debug)]
 pub struct Fdb {
-    entries: Map<Entry>,
+    entries: Columned<Entry>,
 }
 
 impl Model for Fdb {
@@ -80,7 +80,7 @@ impl Fdb {
     pub fn make(alloc: Global, cap: usize) -> Result<Fdb, NoMemory>
         ensures { IfOk result (λ f. f ≡ record { entries = []; room = cap }) }
     {
-        let entries = Map::make(alloc, cap, BLANK)?;
+        let entries = Columned::make(alloc, cap, BLANK)?;
         Ok(Fdb { entries })
     }
 
@@ -109,7 +109,7 @@ impl Fdb {
         ensures entry { result ≡ get pair_cmp self.now.entries (vid, mac) }
         ensures address { get pair_cmp (addresses self.now.entries) (vid, mac) ≡ option_map place result }
     {
-        self.entries.get(pack(vid, mac))
+        self.entries.get(&pack(vid, mac))
     }
 
     /// Puts an entry at the address, in place of the one that is there.
@@ -119,7 +119,7 @@ impl Fdb {
         ensures addresses { addresses self.new.entries ≡ put pair_cmp (addresses self.old.entries) (vid, mac) (place entry) }
         ensures moments { moments self.new.entries ≡ put pair_cmp (moments self.old.entries) (vid, mac) entry.updated }
     {
-        self.entries.insert(pack(vid, mac), entry);
+        self.entries.insert(&pack(vid, mac), entry);
     }
 
     /// Takes the entry at the address out.
@@ -129,7 +129,7 @@ impl Fdb {
         ensures addresses { addresses self.new.entries ≡ without pair_cmp (addresses self.old.entries) (vid, mac) }
         ensures moments { moments self.new.entries ≡ without pair_cmp (moments self.old.entries) (vid, mac) }
     {
-        self.entries.take(pack(vid, mac))
+        self.entries.take(&pack(vid, mac))
     }
 
     /// The keys of the entries at the port.

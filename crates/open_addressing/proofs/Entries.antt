@@ -49,7 +49,7 @@ module _ {V : Type 0} where
   find-entries_of (None ∷ cs) q some = find-entries_of cs q some ∙ sym (value-empty q cs some)
   find-entries_of (Some e ∷ cs) q some = find-with q e.0 e.1 cs some (find-entries_of cs q some) ∙ sym (value-first q e.0 e.1 cs)
 
-  find-zero : (cs : List (Option (ℕ × V))) → find nat_cmp 0 (entries_of cs) ≡ None
+  pub find-zero : (cs : List (Option (ℕ × V))) → find nat_cmp 0 (entries_of cs) ≡ None
   find-zero [] = refl
   find-zero (None ∷ cs) = find-zero cs
   find-zero (Some e ∷ cs) =

@@ -101,16 +101,16 @@ module _ {V : Type 0} where
       (λ yes. ap (λ b. in_cell (cond b None (find (has key_of q) cells))) yes ∙ sym (ap (λ b. cond b None (value_at cells q)) yes))
       (λ no. ap (λ b. in_cell (cond b None (find (has key_of q) cells))) no ∙ sym (ap (λ b. cond b None (value_at cells q)) no))
 
-  module _ (bits used room : ℕ) (cells : List (Option (ℕ × V))) (sound : IsSound bits used room cells) where
+  module _ (hash : ℕ → ℕ) (bits used room : ℕ) (cells : List (Option (ℕ × V))) (sound : IsSound hash bits used room cells) where
     -- a value is written over that of its key
     pub sound-over : (i : ℕ) (c : Option (ℕ × V)) → i < length cells → key_of c ≢ 0 → key_in key_of None cells i ≡ key_of c
-        → IsSound bits used room (set cells i c) × ((q : ℕ) → q ≢ 0 → value_at (set cells i c) q ≡ cond (eqb (key_of c) q) (value_of c) (value_at cells q))
+        → IsSound hash bits used room (set cells i c) × ((q : ℕ) → q ≢ 0 → value_at (set cells i c) q ≡ cond (eqb (key_of c) q) (value_of c) (value_at cells q))
     sound-over i c h some same =
         let apart' = apart-write cells i c sound.apart h (inl same) in
         let all = count-set (is_used key_of) cells i c None h in
         let both : cond {A = ℕ} (is_used key_of (get_or cells i None)) 1 0 ≡ cond {A = ℕ} (is_used key_of c) 1 0 = ap (λ k. cond {A = ℕ} (not (eqb k 0)) 1 0) same in (
           record {
-            table = table-over key_of None refl bits cells sound.table i c h same;
+            table = table-over hash key_of None refl bits cells sound.table i c h same;
             apart = apart';
             counted = omega (arith, sound.counted);
             within = sound.within;
@@ -121,8 +121,8 @@ module _ {V : Type 0} where
 
     -- a new key is put into an empty cell
     pub sound-new : (i : ℕ) (c : Option (ℕ × V)) → i < length cells → key_of c ≢ 0 → key_in key_of None cells i ≡ 0 → ((x : ℕ) → x < length cells → key_in key_of None cells x ≢ key_of c)
-        → used < room → IsTable bits key_of None (set cells i c)
-        → IsSound bits (used + 1) room (set cells i c) × ((q : ℕ) → q ≢ 0 → value_at (set cells i c) q ≡ cond (eqb (key_of c) q) (value_of c) (value_at cells q))
+        → used < room → IsTable hash bits key_of None (set cells i c)
+        → IsSound hash bits (used + 1) room (set cells i c) × ((q : ℕ) → q ≢ 0 → value_at (set cells i c) q ≡ cond (eqb (key_of c) q) (value_of c) (value_at cells q))
     sound-new i c h some empty none roomy table =
         let apart' = apart-write cells i c sound.apart h (inr none) in
         let all = count-set (is_used key_of) cells i c None h in
@@ -139,8 +139,8 @@ module _ {V : Type 0} where
         )
 
     -- a key is taken out
-    pub sound-out : (i used' : ℕ) (new : List (Option (ℕ × V))) → i < length cells → key_in key_of None cells i ≢ 0 → IsPermutation (set cells i None) new → used' ≡ used - 1 → IsTable bits key_of None new
-        → IsSound bits used' room new × ((q : ℕ) → q ≢ 0 → value_at new q ≡ cond (eqb (key_in key_of None cells i) q) None (value_at cells q))
+    pub sound-out : (i used' : ℕ) (new : List (Option (ℕ × V))) → i < length cells → key_in key_of None cells i ≢ 0 → IsPermutation (set cells i None) new → used' ≡ used - 1 → IsTable hash bits key_of None new
+        → IsSound hash bits used' room new × ((q : ℕ) → q ≢ 0 → value_at new q ≡ cond (eqb (key_in key_of None cells i) q) None (value_at cells q))
     sound-out i used' new h some same less table =
         let some_one = count-pos (is_used key_of) cells i None h (is_some_key (key_in key_of None cells i) some) in
         let mid = set cells i None in
@@ -164,31 +164,32 @@ module _ {V : Type 0} where
         omega (arith, sound.counted)
 
     -- some cell is empty
-    pub sound-room : (x : ℕ) × (x < length cells) × (key_in key_of None cells x ≡ 0)
-    sound-room =
+    pub sound-room : used < room → (x : ℕ) × (x < length cells) × (key_in key_of None cells x ≡ 0)
+    sound-room roomy =
         let r = some_fails (is_used key_of) cells None (omega (arith, sound.counted, sound.within, sound.spare, sound.table.sized)) in
         (r.0, r.1, not_used (key_in key_of None cells r.0) r.2)
 
-    pub stop-within : (p : ℕ) → (length cells ≤ p → (x : ℕ) → x < length cells → key_in key_of None cells x ≢ 0) → p < length cells
-    stop-within p full =
-        ⊎_elim (λ (h : p < length cells). h) (λ (h : length cells ≤ p). absurd (full h sound-room.0 sound-room.1 sound-room.2)) (cases_lt p (length cells))
+    pub stop-within : used < room → (p : ℕ) → (length cells ≤ p → (x : ℕ) → x < length cells → key_in key_of None cells x ≢ 0) → p < length cells
+    stop-within roomy p full =
+        let free = sound-room roomy in
+        ⊎_elim (λ (h : p < length cells). h) (λ (h : length cells ≤ p). absurd (full h free.0 free.1 free.2)) (cases_lt p (length cells))
 
     pub put-over : (i k : ℕ) (v : V) (new : List (Option (ℕ × V))) → i < length cells → k ≢ 0 → key_in key_of None cells i ≡ k → new ≡ set cells i (cell_of k v)
-        → IsSound bits used room new × ((q : ℕ) → q ≢ 0 → value_at new q ≡ cond (eqb k q) (Some v) (value_at cells q))
+        → IsSound hash bits used room new × ((q : ℕ) → q ≢ 0 → value_at new q ≡ cond (eqb k q) (Some v) (value_at cells q))
     put-over i k v new h some same is =
         let key = key_of-cell k v in
         let r = sound-over i (cell_of k v) h (λ e. some (sym key ∙ e)) (same ∙ sym key) in (
-          subst (IsSound bits used room) (sym is) r.0,
+          subst (IsSound hash bits used room) (sym is) r.0,
           λ q qs. ap (λ (cs : List (Option (ℕ × V))). value_at cs q) is ∙ r.1 q qs ∙ (λ t. cond (eqb (key t) q) (value_of-cell k v some t) (value_at cells q)),
         )
 
     pub put-new : (i k : ℕ) (v : V) (new : List (Option (ℕ × V))) → i < length cells → k ≢ 0 → key_in key_of None cells i ≡ 0 → ((x : ℕ) → x < length cells → key_in key_of None cells x ≢ k)
-        → used < room → ((c : Option (ℕ × V)) → key_of c ≡ k → IsTable bits key_of None (set cells i c)) → new ≡ set cells i (cell_of k v)
-        → IsSound bits (used + 1) room new × ((q : ℕ) → q ≢ 0 → value_at new q ≡ cond (eqb k q) (Some v) (value_at cells q))
+        → used < room → ((c : Option (ℕ × V)) → key_of c ≡ k → IsTable hash bits key_of None (set cells i c)) → new ≡ set cells i (cell_of k v)
+        → IsSound hash bits (used + 1) room new × ((q : ℕ) → q ≢ 0 → value_at new q ≡ cond (eqb k q) (Some v) (value_at cells q))
     put-new i k v new h some empty none roomy table is =
         let key = key_of-cell k v in
         let r = sound-new i (cell_of k v) h (λ e. some (sym key ∙ e)) empty (λ x xn e. none x xn (e ∙ key)) roomy (table (cell_of k v) key) in (
-          subst (IsSound bits (used + 1) room) (sym is) r.0,
+          subst (IsSound hash bits (used + 1) room) (sym is) r.0,
           λ q qs. ap (λ (cs : List (Option (ℕ × V))). value_at cs q) is ∙ r.1 q qs ∙ (λ t. cond (eqb (key t) q) (value_of-cell k v some t) (value_at cells q)),
         )
 

@@ -1,9 +1,10 @@
 pub mod Circle
 pub mod Zipped
 pub mod Finite
-pub mod Keyed
 pub mod Least
 pub mod Entries
 pub mod Ascending
 pub mod Lookups
 pub mod Tables
+pub mod Pairs
+pub mod Roomy

@@ -9,10 +9,11 @@ use Rattle.open_addressing.specs.Circle.{IsTable}
 use Rattle.open_addressing.specs.Zipped.{key_of, value_of}
 use Rattle.open_addressing.specs.Lookups.{cell_at, IsApart, is_used}
 
--- the entries, ascending by their keys, and how many there is room for
+-- the entries, ascending by their keys, how many there is room for, and the cells in which they stand
 pub record Table (V : Type 0) : Type 0 where
   pub entries : List (ℕ × V)
   pub room : ℕ
+  pub cells : List (Option (ℕ × V))
 
 abbrev pub with_cell : {V : Type 0} → ℕ → V → List (ℕ × V) → List (ℕ × V)
 with_cell zero v es = es
@@ -45,9 +46,9 @@ in_cell (Some c) = value_of c
 abbrev pub value_at : {V : Type 0} → List (Option (ℕ × V)) → ℕ → Option V
 value_at cells q = in_cell (cell_at key_of cells q)
 
-pub record IsSound {V : Type 0} (bits used room : ℕ) (cells : List (Option (ℕ × V))) : Type 0 where
-  pub table : IsTable bits key_of None cells
+pub record IsSound {V : Type 0} (hash : ℕ → ℕ) (bits used room : ℕ) (cells : List (Option (ℕ × V))) : Type 0 where
+  pub table : IsTable hash bits key_of None cells
   pub apart : IsApart key_of cells
   pub counted : count_by (is_used key_of) cells ≡ used
   pub within : used ≤ room
-  pub spare : room < 2 ^ bits
+  pub spare : room ≤ 2 ^ bits

@@ -2,5 +2,6 @@ pub mod Circle
 pub mod Zipped
 pub mod Finite
 pub mod Lookups
-pub mod Keyed
 pub mod Least
+pub mod Pairs
+pub mod Hashes

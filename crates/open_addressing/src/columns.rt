@@ -1,11 +1,13 @@
 //! Keys in an array of their own, and values beside them.
 ghost use Rattle.std.specs.Prelude.{◌≡◌, ◌≢◌, ℕ, ◌<◌, IfOk, List, Option, None, Some, length, replicate, filter_map, slice_index_or, slice_set, refl};
 ghost use Rattle.open_addressing.specs.Zipped.{key_of, value_of, cell_of, cells_of};
+ghost use Rattle.open_addressing.specs.Circle.{mix};
 ghost use Rattle.open_addressing.specs.Finite.{key_if};
+ghost use Rattle.open_addressing.specs.Hashes.{mix-lt};
 ghost use Rattle.open_addressing.specs.Least.{smaller, number_if, least_in};
 
-use crate::Cells;
 use crate::map::{Measure, Test};
+use crate::{Cells, mixed};
 use std::alloc::{AllocError, Global};
 
 /// A column of keys, 0 where there is none, and a column of values.
@@ -15,17 +17,36 @@ pub struct Columns<V> {
     values: Vec<V>,
 }
 
-impl<V: Copy> Cells for Columns<V> {
-    ghost Cell = { Option (ℕ × V) };
+impl<V: Copy> Cells<u64, V> for Columns<V> {
+    ghost number = { λ k. k };
 
-    ghost empty = { None };
-
-    ghost key = { key_of };
+    ghost hash = { mix };
 
     ghost cells = { λ s. cells_of s.keys.items s.values.items };
 
-    fn key_at(&self, i: usize) -> u64 {
-        self.keys[i]
+    fn is_free(&self, i: usize) -> bool {
+        self.keys[i] == 0
+    }
+
+    fn holds(&self, i: usize, key: &u64) -> bool {
+        self.keys[i] == *key
+    }
+
+    fn hash(key: &u64) -> u64 {
+        mixed(*key)
+    }
+
+    fn hash_at(&self, i: usize) -> u64 {
+        mixed(self.keys[i])
+    }
+
+    fn value(&self, i: usize) -> V {
+        self.values[i]
+    }
+
+    fn put(&mut self, i: usize, key: &u64, value: V) {
+        self.keys[i] = *key;
+        self.values[i] = value;
     }
 
     fn move_cell(&mut self, from: usize, to: usize) {
@@ -39,7 +60,7 @@ impl<V: Copy> Cells for Columns<V> {
         self.keys[i] = 0;
     }
 
-    ghost no_key = { refl };
+    ghost hashes = { mix-lt };
 }
 
 impl<V: Copy> Columns<V> {
@@ -50,24 +71,6 @@ impl<V: Copy> Columns<V> {
         let keys = vec![in alloc; 0; count]?;
         let values = vec![in alloc; blank; count]?;
         Ok(Columns { keys, values })
-    }
-
-    /// The value in a cell that holds a key.
-    pub fn value(&self, i: usize) -> V
-        requires within { i < length (cells_of self.now.keys.items self.now.values.items) }
-        requires used { key_of (slice_index_or (cells_of self.now.keys.items self.now.values.items) i None) ≢ 0 }
-        ensures { value_of (slice_index_or (cells_of self.now.keys.items self.now.values.items) i None) ≡ Some result }
-    {
-        self.values[i]
-    }
-
-    /// Writes a key and its value into a cell.
-    pub fn put(&mut self, i: usize, key: u64, value: V)
-        requires { i < length (cells_of self.old.keys.items self.old.values.items) }
-        ensures { cells_of self.new.keys.items self.new.values.items ≡ slice_set (cells_of self.old.keys.items self.old.values.items) i (cell_of key value) }
-    {
-        self.keys[i] = key;
-        self.values[i] = value;
     }
 
     /// How many cells there are.

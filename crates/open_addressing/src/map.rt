@@ -1,14 +1,16 @@
 //! A finite map from keys to values, over columns.
-ghost use Rattle.std.specs.Prelude.{◌≡◌, ◌≢◌, ℕ, ◌^◌, ◌<◌, ◌≤◌, ◌↔◌, Bool, not, [], Option, IfOk, IfSome, IsTrue, None, length, IsPermutation, IsSorted};
+ghost use Rattle.std.specs.Prelude.{◌≡◌, ◌≢◌, ℕ, ◌^◌, ◌<◌, ◌≤◌, ◌↔◌, Bool, not, [], Option, IfOk, IfSome, IsTrue, None, length, IsPermutation, IsSorted, replicate};
 ghost use Rattle.std.specs.Ordering.{nat_cmp, eq_by_cmp};
 ghost use Rattle.std.specs.FinMap.Entries.{find, put, where_key, is_sorted};
-ghost use Rattle.open_addressing.specs.Finite.{keys_where};
+ghost use Rattle.open_addressing.specs.Finite.{keys_where, entries_of};
+ghost use Rattle.open_addressing.specs.Lookups.{IsApart};
+ghost use Rattle.open_addressing.specs.Zipped.{key_of};
 ghost use Rattle.open_addressing.specs.Least.{least};
 
 use crate::columns::Columns;
-use crate::{find as find_cell, remove, search};
+use crate::{Cells, find as find_cell, remove, search};
 use std::alloc::{AllocError, Global};
-use std::marker::Model;
+use std::marker::{Model, PhantomData};
 
 /// A test of values.
 pub trait Test<V> {
@@ -26,26 +28,26 @@ pub trait Measure<V> {
         ensures { result ≡ number self.now value.now };
 }
 
-/// Values by keys that aren't 0, with room taken at its making.
+/// Values by keys, with room from its making.
 ///
-/// Contracts see the list of the entries, ascending by their keys.
+/// Contracts see the list of the entries, ascending by the numbers of their keys.
 #[derive(Drop, Debug)]
-pub struct Map<V> {
-    columns: Columns<V>,
+pub struct Map<K, V, C: Cells<K, V>> {
+    cells: C,
     bits: u32,
     used: usize,
     room: usize,
+    of: PhantomData<(K, V)>,
 }
 
-impl<V> Model for Map<V> {
+impl<K, V, C: Cells<K, V>> Model for Map<K, V, C> {
     ghost use Rattle.open_addressing.specs.Finite.{Table, IsSound, entries_of};
-    ghost use Rattle.open_addressing.specs.Zipped.{cells_of};
 
     ghost Value = { Table V };
 
-    ghost view = { λ m. record { entries = entries_of (cells_of m.columns.keys.items m.columns.values.items); room = m.room } };
+    ghost view = { λ m. record { entries = entries_of (C.cells m.cells); room = m.room; cells = C.cells m.cells } };
 
-    ghost invariant = { λ m. IsSound m.bits m.used m.room (cells_of m.columns.keys.items m.columns.values.items) };
+    ghost invariant = { λ m. IsSound C.hash m.bits m.used m.room (C.cells m.cells) };
 }
 
 /// The power of two of cells for so many keys: more than three times as many cells, and at most six times as many and two.
@@ -67,19 +69,25 @@ fn sort(keys: &mut Vec<u64>)
     keys.sort_unstable();
 }
 
-impl<V: Copy> Map<V> {
-    /// An empty map with room for so many keys. The value `blank` is never read.
-    pub fn make(alloc: Global, room: usize, blank: V) -> Result<Map<V>, AllocError>
-        ensures { IfOk result (λ m. m ≡ record { entries = []; room = room }) }
+/// Values by numbers, in columns.
+pub type Columned<V> = Map<u64, V, Columns<V>>;
+
+impl<K, V, C: Cells<K, V>> Map<K, V, C> {
+    /// The map of cells that hold nothing, a power of two of them, with room for so many keys.
+    pub fn of(cells: C, bits: u32, room: usize) -> Map<K, V, C>
+        requires some { 0 < bits }
+        requires few { bits < 64 }
+        requires room { room ≤ 2 ^ bits }
+        requires empty { C.cells cells ≡ replicate (2 ^ bits) None }
+        ensures { result ≡ record { entries = []; room = room; cells = C.cells cells } }
     {
-        let bits = bits_for(room).ok_or(AllocError)?;
-        let columns = Columns::make(alloc, 1 << bits, blank)?;
-        Ok(Map {
-            columns,
+        Map {
+            cells,
             bits,
             used: 0,
             room,
-        })
+            of: PhantomData,
+        }
     }
 
     pub fn len(&self) -> usize
@@ -103,48 +111,68 @@ impl<V: Copy> Map<V> {
         self.len() >= self.room
     }
 
-    /// The value at the key.
-    pub fn get(&self, key: u64) -> Option<V>
-        requires { key ≢ 0 }
-        ensures { result ≡ find nat_cmp key self.now.entries }
+    /// The cells, in which no key stands twice.
+    pub fn cells(&self) -> &C
+        ensures cells { C.cells result.now ≡ self.now.cells }
+        ensures entries { entries_of self.now.cells ≡ self.now.entries }
+        ensures apart { IsApart key_of self.now.cells }
     {
-        let i = find_cell(&self.columns, self.bits, key)?;
-        Some(self.columns.value(i))
+        &self.cells
+    }
+
+    /// The value at the key.
+    pub fn get(&self, key: &K) -> Option<V>
+        requires { C.number key.now ≢ 0 }
+        ensures { result ≡ find nat_cmp (C.number key.now) self.now.entries }
+    {
+        let i = find_cell(&self.cells, self.bits, key)?;
+        Some(self.cells.value(i))
     }
 
     /// Puts a value at the key, in place of the one that is there.
-    pub fn insert(&mut self, key: u64, value: V)
-        requires key { key ≢ 0 }
-        requires room { find nat_cmp key self.old.entries ≡ None → length self.old.entries < self.old.room }
-        ensures { self.new ≡ record self.old { entries = put nat_cmp key value self.old.entries } }
+    pub fn insert(&mut self, key: &K, value: V)
+        requires key { C.number key.now ≢ 0 }
+        requires room { find nat_cmp (C.number key.now) self.old.entries ≡ None → length self.old.entries < self.old.room }
+        ensures { self.new ≡ record self.old { entries = put nat_cmp (C.number key.now) value self.old.entries; cells = self.new.cells } }
     {
-        match search(&self.columns, self.bits, key) {
-            Ok(i) => self.columns.put(i, key, value),
+        match search(&self.cells, self.bits, key) {
+            Ok(i) => self.cells.put(i, key, value),
             Err(i) => {
-                self.columns.put(i, key, value);
+                self.cells.put(i, key, value);
                 self.used += 1;
             }
         }
     }
 
     /// Takes the value at the key out.
-    pub fn take(&mut self, key: u64) -> Option<V>
-        requires { key ≢ 0 }
-        ensures value { result ≡ find nat_cmp key self.old.entries }
-        ensures rest { self.new ≡ record self.old { entries = where_key nat_cmp (λ q. not (eq_by_cmp nat_cmp key q)) self.old.entries } }
+    pub fn take(&mut self, key: &K) -> Option<V>
+        requires { C.number key.now ≢ 0 }
+        ensures value { result ≡ find nat_cmp (C.number key.now) self.old.entries }
+        ensures rest { self.new ≡ record self.old { entries = where_key nat_cmp (λ q. not (eq_by_cmp nat_cmp (C.number key.now) q)) self.old.entries; cells = self.new.cells } }
     {
-        let i = find_cell(&self.columns, self.bits, key)?;
-        let value = self.columns.value(i);
-        remove(&mut self.columns, self.bits, i);
+        let i = find_cell(&self.cells, self.bits, key)?;
+        let value = self.cells.value(i);
+        remove(&mut self.cells, self.bits, i);
         self.used -= 1;
         Some(value)
+    }
+}
+
+impl<V: Copy> Map<u64, V, Columns<V>> {
+    /// An empty map with room for so many keys. The value `blank` is never read.
+    pub fn make(alloc: Global, room: usize, blank: V) -> Result<Map<u64, V, Columns<V>>, AllocError>
+        ensures { IfOk result (λ m. m ≡ record m { entries = []; room = room }) }
+    {
+        let bits = bits_for(room).ok_or(AllocError)?;
+        let columns = Columns::make(alloc, 1 << bits, blank)?;
+        Ok(Map::of(columns, bits, room))
     }
 
     /// The keys whose values pass the test, ascending.
     pub fn keys_where<T: Test<V>>(&self, alloc: Global, test: &T) -> Result<Vec<u64>, AllocError>
         ensures { IfOk result (λ v. v.items ≡ keys_where (T.passes test.now) self.now.entries) }
     {
-        let mut keys = self.columns.keys_where(alloc, test)?;
+        let mut keys = self.cells.keys_where(alloc, test)?;
         sort(&mut keys);
         Ok(keys)
     }
@@ -153,6 +181,6 @@ impl<V: Copy> Map<V> {
     pub fn least<M: Measure<V>>(&self, measure: &M) -> Option<u64>
         ensures { result ≡ least (M.number measure.now) self.now.entries }
     {
-        self.columns.least(measure)
+        self.cells.least(measure)
     }
 }

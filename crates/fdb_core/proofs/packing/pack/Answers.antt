@@ -1,5 +1,6 @@
 use Rattle.std.proofs.Common.{◌≡◌, IsTrue, sym, subst}
-use Rattle.fdb_core.specs.Packing.{packed, is_key}
+use Rattle.open_addressing.specs.Pairs.{packed}
+use Rattle.fdb_core.specs.Packing.{is_key}
 use Rattle.fdb_core.proofs.ByAddress.{key-packed}
 use Rattle.fdb_core.proofs.packing.pack.Goals as goal
 

@@ -1,5 +1,5 @@
 use Rattle.std.proofs.Common.{◌≡◌, map, take}
-use Rattle.fdb_core.specs.Packing.{unpacked}
+use Rattle.open_addressing.specs.Pairs.{unpacked}
 use Rattle.fdb_core.proofs.packing.unpack_all.Given as goal
 
 abbrev pub invariant-loop-number : goal.invariant-loop-number

@@ -1,7 +1,8 @@
 use Rattle.std.proofs.Common.{ℕ, List, IsTrue, map, ap, sym, subst, ◌∙◌}
 use Rattle.std.specs.List.{list_all}
 use Rattle.fdb_core.specs.Fdb.{Table, keys_where, is_at_port}
-use Rattle.fdb_core.specs.Packing.{unpacked, is_key}
+use Rattle.open_addressing.specs.Pairs.{unpacked}
+use Rattle.fdb_core.specs.Packing.{is_key}
 use Rattle.fdb_core.proofs.ByAddress.{keys-where, keys_where-by_address}
 use Rattle.fdb_core.proofs.table.Fdb.entries_of_port.Goals as goal
 

@@ -6,7 +6,8 @@ use Rattle.open_addressing.specs.Finite as numbers
 use Rattle.fdb_core.specs.declared.entries.Entry.{Entry}
 use Rattle.fdb_core.specs.Fdb.{Table, place}
 use Rattle.fdb_core.specs.Packing.{by_address, AreKeys}
-use Rattle.fdb_core.proofs.ByAddress.{Key, get-by_address, put-by_address, length-by_address, keys-put}
+use Rattle.open_addressing.proofs.Pairs.{get-by_pair, put-by_pair, length-by_pair}
+use Rattle.fdb_core.proofs.ByAddress.{Key, keys-put}
 use Rattle.fdb_core.proofs.Addresses.{told, told-put}
 use Rattle.fdb_core.proofs.table.Fdb.put.Goals as goal
 
@@ -15,8 +16,8 @@ insert-requires-clause-room c none =
     let k : Key = (c.args.vid, c.args.mac) in
     let es = c.self.inside.entries.entries in
     let absent : get pair_cmp c.args.self.now.entries k ≡ None =
-    sym (ap (λ (t : Table). get pair_cmp t.entries k) c.self.view_is) ∙ get-by_address k c.pack.ensures.below es ∙ ap (λ q. entries.find nat_cmp q es) (sym c.pack.ensures.value) ∙ none in
-    let long : length es ≡ length c.args.self.now.entries = sym (length-by_address es) ∙ ap (λ (t : Table). length t.entries) c.self.view_is in
+    sym (ap (λ (t : Table). get pair_cmp t.entries k) c.self.view_is) ∙ get-by_pair k c.pack.ensures.below es ∙ ap (λ q. entries.find nat_cmp q es) (sym c.pack.ensures.value) ∙ none in
+    let long : length es ≡ length c.args.self.now.entries = sym (length-by_pair es) ∙ ap (λ (t : Table). length t.entries) c.self.view_is in
     let room : c.self.inside.entries.room ≡ c.args.self.now.room = ap (λ (t : Table). t.room) c.self.view_is in
     let h = c.requires absent in
     omega arith
@@ -33,7 +34,7 @@ returns-clause-entries c =
     let made : List (Key × Entry) → Table = λ es. record { entries = es; room = m.room } in
     let puts : Table → Table = λ t. record { entries = put pair_cmp t.entries k c.args.entry; room = t.room } in
     ap view c.insert.ensures ∙ ap (λ q. made (by_address (entries.put nat_cmp q c.args.entry m.entries))) c.pack.ensures.value
-    ∙ ap made (sym (put-by_address k c.pack.ensures.below c.args.entry m.entries)) ∙ ap puts c.self.view_is
+    ∙ ap made (sym (put-by_pair k c.pack.ensures.below c.args.entry m.entries)) ∙ ap puts c.self.view_is
 
 pub returns-clause-addresses : goal.returns-clause-addresses
 returns-clause-addresses c =

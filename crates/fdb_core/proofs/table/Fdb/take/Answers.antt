@@ -6,7 +6,8 @@ use Rattle.open_addressing.specs.Finite as numbers
 use Rattle.fdb_core.specs.declared.entries.Entry.{Entry}
 use Rattle.fdb_core.specs.Fdb.{Table, place}
 use Rattle.fdb_core.specs.Packing.{by_address, AreKeys}
-use Rattle.fdb_core.proofs.ByAddress.{Key, get-by_address, without-by_address, keys-filter}
+use Rattle.open_addressing.proofs.Pairs.{get-by_pair, without-by_pair}
+use Rattle.fdb_core.proofs.ByAddress.{Key, keys-filter}
 use Rattle.fdb_core.proofs.Addresses.{told, told-without}
 use Rattle.fdb_core.proofs.table.Fdb.take.Goals as goal
 
@@ -18,7 +19,7 @@ invariant_of-self c =
 pub returns-clause-entry : goal.returns-clause-entry
 returns-clause-entry c =
     let es = c.self.inside.entries.entries in
-    c.take.ensures.value ∙ ap (λ q. entries.find nat_cmp q es) c.pack.ensures.value ∙ sym (get-by_address (c.args.vid, c.args.mac) c.pack.ensures.below es)
+    c.take.ensures.value ∙ ap (λ q. entries.find nat_cmp q es) c.pack.ensures.value ∙ sym (get-by_pair (c.args.vid, c.args.mac) c.pack.ensures.below es)
     ∙ ap (λ (t : Table). get pair_cmp t.entries (c.args.vid, c.args.mac)) c.self.view_is
 
 pub returns-clause-rest : goal.returns-clause-rest
@@ -29,7 +30,7 @@ returns-clause-rest c =
     let made : List (Key × Entry) → Table = λ es. record { entries = es; room = m.room } in
     let takes : Table → Table = λ t. record { entries = without pair_cmp t.entries k; room = t.room } in
     ap view c.take.ensures.rest ∙ ap (λ q. made (by_address (entries.where_key nat_cmp (λ x. not (eq_by_cmp nat_cmp q x)) m.entries))) c.pack.ensures.value
-    ∙ ap made (sym (without-by_address k c.pack.ensures.below m.entries)) ∙ ap takes c.self.view_is
+    ∙ ap made (sym (without-by_pair k c.pack.ensures.below m.entries)) ∙ ap takes c.self.view_is
 
 pub returns-clause-addresses : goal.returns-clause-addresses
 returns-clause-addresses c =

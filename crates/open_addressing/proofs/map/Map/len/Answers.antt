@@ -1,5 +1,4 @@
 use Rattle.std.proofs.Common.{length, sym, ap, ◌∙◌}
-use Rattle.open_addressing.specs.Zipped.{cells_of}
 use Rattle.open_addressing.specs.Finite.{Table}
 use Rattle.open_addressing.proofs.Entries.{length-entries_of, sorted-entries_of, true_of}
 use Rattle.open_addressing.proofs.map.Map.len.Goals as goal
@@ -7,9 +6,9 @@ use Rattle.open_addressing.proofs.map.Map.len.Goals as goal
 pub returns-clause-value : goal.returns-clause-value
 returns-clause-value g c =
     let m = c.self.inside in
-    sym (length-entries_of (cells_of m.columns.keys.items m.columns.values.items) c.self.invariant.apart ∙ c.self.invariant.counted) ∙ ap (λ (t : Table g.row.V.Denot). length t.entries) c.self.view_is
+    sym (length-entries_of (g.C.Cells.cells m.cells) c.self.invariant.apart ∙ c.self.invariant.counted) ∙ ap (λ (t : Table g.row.V.Denot). length t.entries) c.self.view_is
 
 pub returns-clause-ascending : goal.returns-clause-ascending
 returns-clause-ascending g c =
     let m = c.self.inside in
-    rw (← c.self.view_is) (true_of _ (sorted-entries_of (cells_of m.columns.keys.items m.columns.values.items)))
+    rw (← c.self.view_is) (true_of _ (sorted-entries_of (g.C.Cells.cells m.cells)))

@@ -3,10 +3,10 @@ use Rattle.open_addressing.specs.Zipped.{cells_of}
 use Rattle.open_addressing.specs.Finite.{Table}
 use Rattle.open_addressing.specs.Least.{least}
 use Rattle.open_addressing.proofs.Least.{least-cells}
-use Rattle.open_addressing.proofs.map.Map.least.Goals as goal
+use Rattle.open_addressing.proofs.map.«Map+u64+V+Columns+V».least.Goals as goal
 
 pub returns : goal.returns
 returns g c =
     let m = c.self.inside in
     let f = g.M.Measure.number c.args.measure.now in
-    c.least.ensures ∙ least-cells f (cells_of m.columns.keys.items m.columns.values.items) c.self.invariant.apart ∙ ap (λ (t : Table g.row.V.Denot). least f t.entries) c.self.view_is
+    c.least.ensures ∙ least-cells f (cells_of m.cells.keys.items m.cells.values.items) c.self.invariant.apart ∙ ap (λ (t : Table g.row.V.Denot). least f t.entries) c.self.view_is
