@@ -1,2 +1,6 @@
 pub mod Packing
 pub mod Banks
+pub mod AddressRows
+pub mod Placed
+pub mod Renamed
+pub mod GroupRows

@@ -1,7 +1,6 @@
 -- Rows read as they were packed, field after field.
-use Rattle.std.proofs.Common.{◌≡◌, ℕ, ◌+◌, ◌^◌, ◌<◌, ◌≤◌, Bool, cond, lt-ltb, refl, sym, ap, ◌∙◌, Option, List, arith, nat_lt}
+use Rattle.std.proofs.Common.{◌≡◌, ℕ, ◌+◌, ◌^◌, ◌<◌, ◌≤◌, Bool, cond, lt-ltb, ap, ◌∙◌, arith, nat_lt}
 use Rattle.std.specs.Prelude.{◌==◌}
-use Rattle.br_model.specs.declared.change.Kind.{Kind}
 use Rattle.chip_regs.specs.Rows.{field, with_field}
 use Rattle.chip_regs.proofs.Fields.{field-same, field-before}
 use Rattle.chip_tables.specs.declared.rows.VlanRow.{VlanRow}
@@ -11,11 +10,11 @@ use Rattle.chip_tables.specs.declared.rows.AddressRow.{AddressRow}
 use Rattle.chip_tables.specs.declared.rows.Control.{Control}
 use Rattle.chip_tables.specs.Rows.{members_of, vlan_of, fan_of, pvid_from, port_of, is_on, port_from, kind_of, address_of, control_of, key_of}
 
-wrote : (r r' at w n : ℕ) → r' ≡ with_field r at w n → n < 2 ^ w → field r' at w ≡ n
+pub wrote : (r r' at w n : ℕ) → r' ≡ with_field r at w n → n < 2 ^ w → field r' at w ≡ n
 wrote r r' at w n is small = ap (λ x. field x at w) is ∙ field-same r at w n small
 
 -- a write behind it
-keep : (r r' at w n a v x : ℕ) → r' ≡ with_field r at w n → a + v ≤ at → field r a v ≡ x → field r' a v ≡ x
+pub keep : (r r' at w n a v x : ℕ) → r' ≡ with_field r at w n → a + v ≤ at → field r a v ≡ x → field r' a v ≡ x
 keep r r' at w n a v x is before e = ap (λ y. field y a v) is ∙ field-before r at w n a v before ∙ e
 
 on : (r at n : ℕ) (b : Bool) → field r at 1 ≡ n → (n == 1) ≡ b → is_on r at ≡ b

@@ -1,5 +1,5 @@
 -- A row that is all 0 has no key.
-use Rattle.std.proofs.Common.{◌≡◌, ℕ, ◌%◌, ◌/◌, ◌^◌, ap, ◌∙◌}
+use Rattle.std.proofs.Common.{◌≡◌, ℕ, ◌%◌, ◌^◌, ap, ◌∙◌}
 use Rattle.std.proofs.Math.Nat.{zero-div, zero-mod}
 use Rattle.chip_regs.specs.Rows.{field}
 use Rattle.chip_tables.specs.Rows.{key_of}

@@ -1,3 +1,7 @@
 pub mod Rows
+pub mod AddressCells
+pub mod GroupCells
+pub mod GroupHash
 pub mod Blank
 pub mod Writing
+pub mod Stands

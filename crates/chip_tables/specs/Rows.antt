@@ -1,13 +1,16 @@
 -- What the chip's tables hold: for each bank the list of its rows, as numbers, and how their fields are read.
 -- Source: the layout is this program's own; what the rows tell is what the kernel tells a switchdev driver (switchdev.rst).
-use Rattle.std.specs.Prelude.{◌≡◌, ℕ, zero, suc, ◌+◌, ◌*◌, ◌^◌, ◌==◌, ◌<◌, ◌≤◌, ◌&&◌, nat_lt, nat_le, Bool, true, false, cond, if◌then◌else◌, List, [], ◌∷◌, slice_index}
+use Rattle.std.specs.Prelude.{◌≡◌, ℕ, zero, suc, ◌+◌, ◌*◌, ◌^◌, ◌==◌, ◌<◌, ◌&&◌, nat_lt, nat_le, Bool, true, false, cond, if◌then◌else◌, List, [], ◌∷◌, length, slice_index, slice_get, is_some}
+use Rattle.std.specs.declared.cmp.Ordering.{Ordering}
+use Rattle.br_model.specs.declared.group.Group.{Group}
 use Rattle.std.specs.declared.option.Option.{Option}
 use Rattle.std.specs.declared.option.Option.TheVariants.{None, Some}
 use Rattle.br_model.specs.declared.change.Kind.{Kind}
 use Rattle.br_model.specs.declared.change.Kind.TheVariants.{Local, Static, Learned, Extern}
 use Rattle.port_sets.specs.Words.{members}
 use Rattle.chip_regs.specs.Rows.{field}
-use Rattle.open_addressing.specs.Lookups.{cell_at}
+use Rattle.br_model.specs.Maps.{pair_cmp, get, put, without}
+use Rattle.br_model.specs.GroupPairs.{GroupPair, group_pair_cmp}
 use Rattle.chip_tables.specs.declared.rows.VlanRow.{VlanRow}
 use Rattle.chip_tables.specs.declared.rows.FanRow.{FanRow}
 use Rattle.chip_tables.specs.declared.rows.PortRow.{PortRow}
@@ -75,6 +78,12 @@ pub record Rows : Type 0 where
   -- 16 addresses of the link-local block, IGMP, and ICMPv6 types 130, 131, 132 and 143
   pub traps : List ℕ
   pub control : List ℕ
+  -- the used address rows by VLAN and address, ascending
+  pub addresses : List ((ℕ × ℕ) × AddressRow)
+  -- the VLAN and the address of each of the 32,768 address rows, None where the row isn't used
+  pub places : List (Option (ℕ × ℕ))
+  -- the used group rows by VLAN and group, ascending
+  pub groups : List (GroupPair × FanRow)
 
 -- ---- readers
 
@@ -101,12 +110,11 @@ trap_at rows i = is_on (slice_index rows.traps i) 0
 abbrev pub control_in : Rows → Control
 control_in rows = control_of (slice_index rows.control 0)
 
-abbrev pub address_in : Option ℕ → Option AddressRow
-address_in None = None
-address_in (Some row) = Some (address_of row)
+abbrev pub address_at : Rows → ℕ → ℕ → Option AddressRow
+address_at rows vid mac = get pair_cmp rows.addresses (vid, mac)
 
-abbrev pub address_at : List ℕ → ℕ → ℕ → Option AddressRow
-address_at rows vid mac = address_in (cell_at key_of rows (packed vid mac))
+abbrev pub group_at : Rows → ℕ → Group → Option FanRow
+group_at rows vid group = get group_pair_cmp rows.groups (vid, group)
 
 -- ---- writers: the row reads as written, and every other row of the bank stays
 
@@ -135,3 +143,33 @@ WritesPort old new port row = (p : ℕ) → port_at new p ≡ (if p == port then
 
 abbrev pub WritesTrap : Rows → Rows → ℕ → Bool → Type 0
 WritesTrap old new i on = (j : ℕ) → trap_at new j ≡ (if j == i then on else trap_at old j)
+
+-- ---- rows that are named by a key
+
+-- the rows with this one at the key, or with none there
+abbrev pub set_at : {K X : Type 0} → (K → K → Ordering) → List (K × X) → K → Option X → List (K × X)
+set_at R rows k None = without R rows k
+set_at R rows k (Some row) = put R rows k row
+
+abbrev pub addresses_with : Rows → ℕ → ℕ → Option AddressRow → List ((ℕ × ℕ) × AddressRow)
+addresses_with rows vid mac row = set_at pair_cmp rows.addresses (vid, mac) row
+
+abbrev pub groups_with : Rows → ℕ → Group → Option FanRow → List (GroupPair × FanRow)
+groups_with rows vid group row = set_at group_pair_cmp rows.groups (vid, group) row
+
+abbrev pub address_rows : ℕ
+address_rows = 32768
+
+-- how many of them may be used
+abbrev pub max_addresses : ℕ
+max_addresses = 16384
+
+abbrev pub max_groups : ℕ
+max_groups = 1024
+
+-- The key of an address row that is used stands at exactly one place, and the key at a place is that of a used row.
+pub record IsPlaced (rows : Rows) : Type 0 where
+  pub sized : length rows.places ≡ address_rows
+  pub used : (i : ℕ) (k : ℕ × ℕ) → slice_get rows.places i ≡ Some (Some k) → is_some (address_at rows k.0 k.1) ≡ true
+  pub placed : (vid mac : ℕ) → mac < 2 ^ 48 → is_some (address_at rows vid mac) ≡ true → (i : ℕ) × (slice_get rows.places i ≡ Some (Some (vid, mac)))
+  pub once : (i j : ℕ) (k : ℕ × ℕ) → slice_get rows.places i ≡ Some (Some k) → slice_get rows.places j ≡ Some (Some k) → i ≡ j

@@ -1,5 +1,5 @@
 -- A bank of which one row is written.
-use Rattle.std.specs.Prelude.{◌≡◌, ℕ, ◌==◌, if◌then◌else◌, List, slice_index, replicate}
+use Rattle.std.specs.Prelude.{◌≡◌, ℕ, ◌==◌, if◌then◌else◌, List, [], slice_index, replicate}
 use Rattle.chip_tables.specs.declared.rows.FanRow.{FanRow}
 use Rattle.chip_tables.specs.Rows.{Rows, fan_of}
 
@@ -16,3 +16,5 @@ pub record IsBlank (rows : Rows) : Type 0 where
   pub ports : rows.ports ≡ replicate 64 0
   pub traps : rows.traps ≡ replicate 21 0
   pub control : rows.control ≡ replicate 1 0
+  pub addresses : rows.addresses ≡ []
+  pub groups : rows.groups ≡ []

@@ -1,6 +1,8 @@
 //! The tables of a switch chip, as banks of packed rows that can be read and written one by one.
 #![tactic(auto)]
 
+mod addresses;
+mod groups;
 pub mod rows;
 pub mod tables;
 

@@ -1,5 +1,5 @@
 //! The rows, and how they are packed.
-ghost use Rattle.std.specs.Prelude.{◌≡◌, ◌≢◌, ◌==◌, ◌<◌, ◌^◌, nat_lt};
+ghost use Rattle.std.specs.Prelude.{◌≡◌, ◌≢◌, ◌==◌, ◌<◌, ◌≤◌, ◌^◌, nat_lt};
 ghost use Rattle.chip_tables.specs.Rows.{members_of, vlan_of, fan_of, pvid_from, port_of, is_on, port_from, kind_of, address_of, control_of, key_of, packed};
 
 use br_model::change::{Flags, Kind};
@@ -230,7 +230,8 @@ pub fn pack_trap(on: bool) -> Row<1>
 
 /// The VLAN and the address of an address row as one number, 0 where the row isn't used.
 pub fn key_in(row: &Row<9>) -> u64
-    ensures { result ≡ key_of row.now }
+    ensures value { result ≡ key_of row.now }
+    ensures below { result < 2 ^ 60 }
 {
     get!(row, 0, 60)
 }
@@ -240,7 +241,7 @@ pub fn pack_key(v: Vid, m: Mac) -> u64
     ensures value { result ≡ packed v m }
     ensures some { result ≢ 0 }
     ensures below { result < 2 ^ 60 }
-    ensures vid { v < 4096 }
+    ensures vid { (1 ≤ v) × (v ≤ 4094) }
     ensures mac { m < 2 ^ 48 }
 {
     u64::from(v.number()) + 4096 * m.number()

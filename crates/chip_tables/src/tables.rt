@@ -1,14 +1,17 @@
 //! The tables.
-ghost use Rattle.std.specs.Prelude.{◌≡◌, ◌<◌, ◌≤◌, IfOk};
-ghost use Rattle.chip_tables.specs.Rows.{vlan_at, flood_at, router_at, port_at, trap_at, control_in, WritesVlan, WritesFlood, WritesRouter, WritesPort, WritesTrap};
+ghost use Rattle.std.specs.Prelude.{◌≡◌, ◌<◌, ◌≤◌, IfOk, Some, length, slice_get};
+ghost use Rattle.chip_tables.specs.Rows.{vlan_at, flood_at, router_at, port_at, trap_at, control_in, address_at, addresses_with, max_addresses, address_rows, group_at, groups_with, max_groups, IsPlaced, WritesVlan, WritesFlood, WritesRouter, WritesPort, WritesTrap};
 ghost use Rattle.chip_tables.specs.Writing.{WritesFan, IsBlank};
 
 use crate::NoMemory;
+use crate::addresses::{self, Addresses, key};
+use crate::groups::{self, Groups, group_key};
 use crate::rows::{
-    Control, FanRow, Flood, PortRow, VlanRow, control_row, fan_row, is_on, pack_control, pack_fan,
-    pack_port, pack_trap, pack_vlan, port_row, vlan_row,
+    AddressRow, Control, FanRow, Flood, PortRow, VlanRow, control_row, fan_row, is_on,
+    pack_control, pack_fan, pack_port, pack_trap, pack_vlan, port_row, vlan_row,
 };
-use br_model::numbers::{Port, Vid};
+use br_model::group::Group;
+use br_model::numbers::{Mac, Port, Vid};
 use chip_regs::Bank;
 use std::alloc::Global;
 use std::marker::Model;
@@ -24,14 +27,22 @@ pub struct Tables {
     ports: Bank<64, 3>,
     traps: Bank<21, 1>,
     control: Bank<1, 1>,
+    addresses: Addresses,
+    groups: Groups,
 }
 
 impl Model for Tables {
+    ghost use Rattle.std.specs.Prelude.{◌≡◌, []};
+    ghost use Rattle.open_addressing.specs.Pairs.{by_pair};
     ghost use Rattle.chip_tables.specs.Rows.{Rows};
+    ghost use Rattle.chip_tables.specs.AddressCells.{places_of};
+    ghost use Rattle.chip_tables.specs.GroupCells.{by_group};
 
     ghost Value = { Rows };
 
-    ghost view = { λ t. record { vlans = t.vlans; unicast = t.unicast; mcast = t.mcast; bcast = t.bcast; routers = t.routers; ports = t.ports; traps = t.traps; control = t.control } };
+    ghost view = { λ t. record { vlans = t.vlans; unicast = t.unicast; mcast = t.mcast; bcast = t.bcast; routers = t.routers; ports = t.ports; traps = t.traps; control = t.control; addresses = by_pair t.addresses.entries; places = places_of t.addresses.cells; groups = by_group t.groups.entries } };
+
+    ghost invariant = { λ t. (t.addresses.room ≡ 16384) × (t.groups.room ≡ 1024) };
 }
 
 /// Writes the row of a VLAN.
@@ -55,6 +66,8 @@ impl Tables {
             ports: Bank::make(alloc)?,
             traps: Bank::make(alloc)?,
             control: Bank::make(alloc)?,
+            addresses: addresses::make(alloc)?,
+            groups: groups::make(alloc)?,
         })
     }
 
@@ -148,5 +161,56 @@ impl Tables {
         ensures rest { self.new ≡ record self.old { control = self.new.control } }
     {
         self.control.put(0, pack_control(c));
+    }
+
+    /// `None` exactly where no used row has that key.
+    pub fn address(&self, v: Vid, m: Mac) -> Option<AddressRow>
+        ensures { result ≡ address_at self.now v m }
+    {
+        self.addresses.get(&key(v, m))
+    }
+
+    /// `None` frees the row. At most 16,384 rows may be used afterwards.
+    pub fn set_address(&mut self, v: Vid, m: Mac, r: Option<AddressRow>)
+        requires { length (addresses_with self.old v m r) ≤ max_addresses }
+        ensures row { self.new.addresses ≡ addresses_with self.old v m r }
+        ensures rest { self.new ≡ record self.old { addresses = self.new.addresses; places = self.new.places } }
+    {
+        match r {
+            Some(row) => self.addresses.insert(&key(v, m), row),
+            None => {
+                let _ = self.addresses.take(&key(v, m));
+            }
+        }
+    }
+
+    /// The key of an address row, below 32,768. `None` exactly where it isn't used.
+    pub fn address_at(&self, i: usize) -> Option<(Vid, Mac)>
+        requires { i < address_rows }
+        ensures place { slice_get self.now.places i ≡ Some result }
+        ensures placed { IsPlaced self.now }
+    {
+        self.addresses.cells().key(i)
+    }
+
+    /// `None` exactly where no used row has that key.
+    pub fn group(&self, v: Vid, g: Group) -> Option<FanRow>
+        ensures { result ≡ group_at self.now v g }
+    {
+        self.groups.get(&group_key(v, g))
+    }
+
+    /// `None` frees the row. At most 1,024 rows may be used afterwards.
+    pub fn set_group(&mut self, v: Vid, g: Group, r: Option<FanRow>)
+        requires { length (groups_with self.old v g r) ≤ max_groups }
+        ensures row { self.new.groups ≡ groups_with self.old v g r }
+        ensures rest { self.new ≡ record self.old { groups = self.new.groups } }
+    {
+        match r {
+            Some(row) => self.groups.insert(&group_key(v, g), row),
+            None => {
+                let _ = self.groups.take(&group_key(v, g));
+            }
+        }
     }
 }

@@ -1,5 +1,5 @@
 //! The multicast database.
-ghost use Rattle.std.specs.Prelude.{◌≡◌, ◌≤◌, IsTrue, IfOk, false, true, length, not};
+ghost use Rattle.std.specs.Prelude.{◌≡◌, ◌≤◌, IsTrue, IfOk, false, true, length, not, slice_get};
 ghost use Rattle.std.specs.List.Sorted.{IsStrictlySortedBy};
 ghost use Rattle.std.specs.Ordering.{nat_cmp};
 ghost use Rattle.br_model.specs.GroupPairs.{group_pairs, has_room, max_pairs};
@@ -210,6 +210,13 @@ impl Mdb {
         ensures few { length (group_pairs (memberships self.now)) ≤ max_pairs }
     {
         self.routers.ports_ascend();
+    }
+
+    /// The pair of VLAN and group at a place in their order, if there are so many.
+    pub fn pair(&self, place: usize) -> Option<(Vid, Group)>
+        ensures { result ≡ slice_get (group_pairs (memberships self.now)) place }
+    {
+        sections::key_at(&self.sections, place)
     }
 
     /// How many pairs of VLAN and group have members.

@@ -1,5 +1,5 @@
 //! Members by VLAN and group: a list in the order of these keys, which is searched by halves.
-ghost use Rattle.std.specs.Prelude.{◌≡◌, ℕ, ◌+◌, ◌++◌, ◌∷◌, ◌<◌, ◌≤◌, None, Some, true, [], IfOk, IfErr, cond, length, map, vec_capacity, slice_set, slice_index_or, is_some};
+ghost use Rattle.std.specs.Prelude.{◌≡◌, ℕ, ◌+◌, ◌++◌, ◌∷◌, ◌<◌, ◌≤◌, None, Some, true, [], IfOk, IfErr, cond, length, map, vec_capacity, slice_get, slice_set, slice_index_or, is_some};
 ghost use Rattle.std.specs.List.{filter, insert};
 ghost use Rattle.std.specs.Ordering.{nat_cmp};
 ghost use Rattle.br_model.specs.GroupPairs.{group_pair_cmp, has_room, max_pairs};
@@ -74,6 +74,16 @@ pub fn count(sections: &[Section]) -> usize
     ensures { result ≡ length sections.now }
 {
     sections.len()
+}
+
+/// The key at a place, if there are so many.
+pub fn key_at(sections: &[Section], place: usize) -> Option<Key>
+    ensures { result ≡ slice_get (keys sections.now) place }
+{
+    match sections.get(place) {
+        Some(section) => Some(section.0),
+        None => None,
+    }
 }
 
 /// The ports that are members at the key.

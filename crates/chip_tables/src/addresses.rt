@@ -1,0 +1,147 @@
+//! The address rows as the cells of a map.
+ghost use Rattle.std.specs.Prelude.{◌≡◌, ◌≢◌, ◌<◌, ◌^◌, IfOk, None, Some, [], length, replicate, slice_get};
+ghost use Rattle.std.specs.List.{All};
+ghost use Rattle.open_addressing.specs.Circle.{mix};
+ghost use Rattle.open_addressing.specs.Hashes.{mix-lt};
+ghost use Rattle.open_addressing.specs.Pairs.{packed};
+ghost use Rattle.chip_tables.specs.Rows.{key_of};
+ghost use Rattle.chip_tables.specs.AddressCells.{ordered, address_cells, places_of, IsKept};
+
+use crate::NoMemory;
+use crate::rows::{AddressRow, address_row, key_in, pack_address, pack_key};
+use br_model::numbers::{Mac, Vid};
+use chip_regs::{Bank, Row};
+use open_addressing::map::Map;
+use open_addressing::{Cells, mixed};
+use std::alloc::Global;
+
+/// An address of a VLAN.
+pub type Key = (Vid, Mac);
+
+/// The used address rows by their keys.
+pub type Addresses = Map<Key, AddressRow, AddressCells>;
+
+/// There are 2 to this power of address rows.
+const BITS: u32 = 15;
+
+/// How many address rows may be used.
+const ROOM: usize = 16384;
+
+/// How far apart the numbers of one address in two VLANs that follow one another are.
+const VLAN_STEP: u64 = 1 << 48;
+
+/// A row is used where its key isn't 0.
+#[derive(Drop)]
+pub struct AddressCells {
+    bank: Bank<32768, 9>,
+    ghost sized: { length bank ≡ 32768 },
+    ghost kept: { All IsKept bank },
+}
+
+/// The key of a VLAN and an address.
+pub fn key(v: Vid, m: Mac) -> Key
+    ensures value { result ≡ (v, m) }
+    ensures some { packed (v, m) ≢ 0 }
+    ensures below { m < 2 ^ 48 }
+{
+    let _ = number_of(&(v, m));
+    (v, m)
+}
+
+/// The number of a key, in the order of VLAN and address.
+fn number_of(key: &Key) -> u64
+    ensures value { result ≡ packed key.now }
+    ensures some { result ≢ 0 }
+    ensures below { key.now.1 < 2 ^ 48 }
+{
+    u64::from(key.0.number()) * VLAN_STEP + key.1.number()
+}
+
+/// That of the key in a row.
+fn number_in(row: &Row<9>) -> u64
+    ensures { result ≡ ordered (key_of row.now) }
+{
+    let key = key_in(row);
+    key % 4096 * VLAN_STEP + key / 4096
+}
+
+impl Cells<Key, AddressRow> for AddressCells {
+    ghost number = { packed };
+
+    ghost hash = { mix };
+
+    ghost cells = { λ s. address_cells s.bank };
+
+    fn is_free(&self, i: usize) -> bool {
+        number_in(&self.bank.row(i)) == 0
+    }
+
+    fn holds(&self, i: usize, key: &Key) -> bool {
+        number_in(&self.bank.row(i)) == number_of(key)
+    }
+
+    fn hash(key: &Key) -> u64 {
+        mixed(number_of(key))
+    }
+
+    fn hash_at(&self, i: usize) -> u64 {
+        mixed(number_in(&self.bank.row(i)))
+    }
+
+    fn value(&self, i: usize) -> AddressRow {
+        address_row(&self.bank.row(i))
+    }
+
+    fn put(&mut self, i: usize, key: &Key, value: AddressRow) {
+        self.bank
+            .put(i, pack_address(pack_key(key.0, key.1), &value));
+    }
+
+    fn move_cell(&mut self, from: usize, to: usize) {
+        let row = self.bank.row(from);
+        self.bank.put(from, Row::zero());
+        self.bank.put(to, row);
+    }
+
+    fn clear(&mut self, i: usize) {
+        self.bank.put(i, Row::zero());
+    }
+
+    ghost hashes = { mix-lt };
+}
+
+impl AddressCells {
+    /// No row is used.
+    fn make(alloc: Global) -> Result<AddressCells, NoMemory>
+        ensures { IfOk result (λ s. address_cells s.bank ≡ replicate (2 ^ 15) None) }
+    {
+        let bank = Bank::make(alloc)?;
+        Ok(AddressCells { bank })
+    }
+
+    /// The key in a row.
+    pub fn key(&self, i: usize) -> Option<Key>
+        requires { i < 32768 }
+        ensures { slice_get (places_of (address_cells self.now.bank)) i ≡ Some result }
+    {
+        let key = key_in(&self.bank.row(i));
+        if key == 0 {
+            return None;
+        }
+        let Some(vid) = Vid::new((key % 4096) as u16) else {
+            unreachable!()
+        };
+        let Some(mac) = Mac::from_number(key / 4096) else {
+            unreachable!()
+        };
+        Some((vid, mac))
+    }
+}
+
+/// No row is used.
+pub fn make(alloc: Global) -> Result<Addresses, NoMemory>
+    ensures { IfOk result (λ m. m ≡ record m { entries = []; room = 16384 }) }
+{
+    let cells = AddressCells::make(alloc)?;
+    Ok(Map::of(cells, BITS, ROOM))
+}
