@@ -1,0 +1,10 @@
+pub mod Truth
+pub mod Tags
+pub mod Sets
+pub mod Reading
+pub mod Leading
+pub mod Members
+pub mod Keys
+pub mod Leaving
+pub mod Passing
+pub mod Sightings

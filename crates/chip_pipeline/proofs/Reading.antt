@@ -1,0 +1,66 @@
+-- What rows that stand for a table tell of it.
+use Rattle.std.proofs.Common.{◌≡◌, ℕ, ◌/◌, ◌%◌, ◌^◌, ◌<◌, Bool, true, false, not, ◌&&◌, Option, None, Some, List, refl, sym, ap, ◌∙◌, arith}
+use Rattle.std.specs.Prelude.{◌==◌}
+use Rattle.std.specs.Option.{option_eq, unwrap_or}
+use Rattle.std.specs.Ordering.{nat_cmp}
+use Rattle.std.proofs.lemmas.Bool.{eqb-true, ne_eqb}
+use Rattle.std.proofs.lemmas.Bool.Decides.{nat_tests}
+use Rattle.port_sets.specs.Numbers.{has_number}
+use Rattle.br_model.specs.Admission.{learning, forwarding, is_up, is_in_state, is_forwarding, member}
+use Rattle.br_model.specs.Domains.{Domains, chip, domain_of, foreign, host, software}
+use Rattle.br_model.specs.Eligible.{untagged}
+use Rattle.br_model.specs.Maps.{get}
+use Rattle.br_model.specs.Table.{Table}
+use Rattle.br_model.specs.Targets.{has_flag}
+use Rattle.chip_tables.specs.declared.rows.PortRow.{PortRow}
+use Rattle.chip_tables.specs.declared.rows.VlanRow.{VlanRow}
+use Rattle.chip_tables.specs.Rows.{Rows, vlan_at, port_at}
+use Rattle.chip_tables.specs.Stands.{IsVid, Stands, is_own, port_count}
+use Rattle.chip_pipeline.specs.PortRows.{row_has_flag, row_is_in}
+use Rattle.chip_pipeline.specs.Passed.{AtChip}
+use Rattle.chip_pipeline.proofs.Sets.{member-of}
+
+contradicts : {A : Type 0} (b : Bool) → b ≡ true → b ≡ false → A
+contradicts b is isnt = (let e : true ≡ false = sym is ∙ isnt in cc)
+
+forwarding-is : (o : Option ℕ) → (unwrap_or o 0 == forwarding) ≡ option_eq (λ x y. x == y) o (Some forwarding)
+forwarding-is None = refl
+forwarding-is (Some n) = refl
+
+learning-is : (o : Option ℕ) → (unwrap_or o 0 == learning) ≡ option_eq (λ x y. x == y) o (Some learning)
+learning-is None = refl
+learning-is (Some n) = refl
+
+module _ (d : Domains) (t : Table) (rows : Rows) (stands : Stands d rows t) where
+  pub forwards-is : (q : ℕ) → q < port_count → row_is_in (port_at rows q) forwarding ≡ is_forwarding t q
+  forwards-is q low = ap (λ r. row_is_in r forwarding) (stands.ports q low) ∙ ap (λ b. is_up t q && b) (forwarding-is (get nat_cmp t.state q))
+
+  pub learns-is : (q : ℕ) → q < port_count → row_is_in (port_at rows q) learning ≡ is_in_state t q learning
+  learns-is q low = ap (λ r. row_is_in r learning) (stands.ports q low) ∙ ap (λ b. is_up t q && b) (learning-is (get nat_cmp t.state q))
+
+  pub flag-is : (q flag : ℕ) → q < port_count → row_has_flag (port_at rows q) flag ≡ has_flag t q flag
+  flag-is q flag low = ap (λ r. row_has_flag r flag) (stands.ports q low)
+
+  pub member-is : (vid q : ℕ) → IsVid vid → q < port_count → has_number (vlan_at rows vid).members q ≡ member t q vid
+  member-is vid q range low = member-of (λ p. member t p vid) (vlan_at rows vid).members q (ap (λ (r : VlanRow). r.members) (stands.vlans vid range)) low
+
+  pub untagged-is : (vid q : ℕ) → IsVid vid → q < port_count → has_number (vlan_at rows vid).untagged q ≡ untagged t q vid
+  untagged-is vid q range low = member-of (λ p. untagged t p vid) (vlan_at rows vid).untagged q (ap (λ (r : VlanRow). r.untagged) (stands.vlans vid range)) low
+
+swapped : (m n : ℕ) → (m == n) ≡ (n == m)
+swapped m n = grind (arith, nat_tests)
+
+-- of a port of the chip the foreign ones are those elsewhere
+pub foreign-is : (d : Domains) (p q : ℕ) → is_own d p ≡ true → foreign d p q ≡ not (is_own d q)
+foreign-is d p q own = ap not (alike (domain_of d p) (domain_of d q) own)
+  where
+    alike : (o r : Option ℕ) → option_eq (λ x y. x == y) o (Some chip) ≡ true → option_eq (λ x y. x == y) o r ≡ option_eq (λ x y. x == y) r (Some chip)
+    alike None r h = contradicts false h refl
+    alike (Some n) None h = refl
+    alike (Some n) (Some m) h = ap (λ k. k == m) (eqb-true n chip h) ∙ swapped chip m
+
+pub host-elsewhere : (d : Domains) → domain_of d host ≡ Some software → is_own d host ≡ false
+host-elsewhere d is = ap (λ o. option_eq (λ x y. x == y) o (Some chip)) is
+
+pub not-host : (d : Domains) (q : ℕ) → domain_of d host ≡ Some software → is_own d q ≡ true → (q == host) ≡ false
+not-host d q is own = ne_eqb q host (λ same. contradicts (is_own d q) own (ap (is_own d) same ∙ host-elsewhere d is))

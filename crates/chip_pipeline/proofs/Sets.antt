@@ -1,0 +1,81 @@
+-- Sets of ports, told by tests.
+use Rattle.std.proofs.Common.{◌≡◌, ℕ, zero, suc, ◌+◌, ◌<◌, ◌≤◌, Bool, true, false, not, ◌&&◌, ◌||◌, cond, List, [], ◌∷◌, length, refl, sym, ap, ap₂, ◌∙◌, arith}
+use Rattle.std.specs.Prelude.{◌==◌}
+use Rattle.std.specs.List.{list_any, filter, range_with_len}
+use Rattle.std.specs.Ordering.{nat_cmp}
+use Rattle.std.specs.Cmp.{unsigned_tied}
+use Rattle.std.proofs.lemmas.Bool.{ne_eqb}
+use Rattle.port_sets.specs.Numbers.{numbers_below, has_number}
+use Rattle.port_sets.proofs.Numbers.{has-below, same_below, filter-numbers_below}
+use Rattle.br_model.specs.Maps.{has}
+use Rattle.chip_tables.specs.declared.rows.FanRow.{FanRow}
+use Rattle.chip_tables.specs.declared.rows.VlanRow.{VlanRow}
+use Rattle.chip_tables.specs.Rows.{Rows, port_at}
+use Rattle.chip_tables.specs.Stands.{port_count, ports_where, some_port}
+use Rattle.chip_pipeline.specs.PortRows.{row_lets, row_takes}
+
+-- a list as a set of numbers has what the list has
+pub has-is : (xs : List ℕ) (n : ℕ) → has nat_cmp xs n ≡ has_number xs n
+has-is [] n = refl
+has-is (x ∷ xs) n = ap₂ ◌||◌ (unsigned_tied n x) (has-is xs n)
+
+-- what a set has, told by its test
+pub member-of : (f : ℕ → Bool) (set : List ℕ) (q : ℕ) → set ≡ ports_where f → q < port_count → has_number set q ≡ f q
+member-of f set q e low = ap (λ (ns : List ℕ). has_number ns q) e ∙ has-below f port_count q low
+
+any_from : (p q : ℕ → Bool) (a n : ℕ) → ((m : ℕ) → a ≤ m → m < a + n → p m ≡ q m) → list_any p (range_with_len a n) ≡ list_any q (range_with_len a n)
+any_from p q a zero h = refl
+any_from p q a (suc n) h = ap₂ (λ b c. b || c) (h a (omega arith) (omega arith)) (any_from p q (a + 1) n (λ m low high. h m (omega arith) (omega arith)))
+
+pub same_some : (p q : ℕ → Bool) → ((m : ℕ) → m < port_count → p m ≡ q m) → some_port p ≡ some_port q
+unfolding some_port
+same_some p q h = any_from p q 0 port_count (λ m low high. h m (omega arith))
+
+-- ---- lists of ports
+
+pub nowhere_filter : (p : ℕ → Bool) (xs : List ℕ) → (length (filter p xs) == 0) ≡ not (list_any p xs)
+nowhere_filter p [] = refl
+nowhere_filter p (x ∷ xs) = step (p x) (nowhere_filter p xs)
+  where
+    step : (b : Bool) → (length (filter p xs) == 0) ≡ not (list_any p xs) → (length (cond b (x ∷ filter p xs) (filter p xs)) == 0) ≡ not (b || list_any p xs)
+    step true h = ne_eqb (length (x ∷ filter p xs)) 0 (omega arith)
+    step false h = h
+
+pub any_filter : (p g : ℕ → Bool) (xs : List ℕ) → list_any g (filter p xs) ≡ list_any (λ x. p x && g x) xs
+any_filter p g [] = refl
+any_filter p g (x ∷ xs) = step (p x) (any_filter p g xs)
+  where
+    step : (b : Bool) → list_any g (filter p xs) ≡ list_any (λ y. p y && g y) xs → list_any g (cond b (x ∷ filter p xs) (filter p xs)) ≡ ((b && g x) || list_any (λ y. p y && g y) xs)
+    step true h = ap (λ c. g x || c) h
+    step false h = h
+
+pub any_split : (own p : ℕ → Bool) (xs : List ℕ) → list_any p xs ≡ (list_any (λ x. own x && p x) xs || list_any (λ x. not (own x) && p x) xs)
+any_split own p [] = refl
+any_split own p (x ∷ xs) = ap (λ c. p x || c) (any_split own p xs) ∙ step (own x) (p x) _ _
+  where
+    step : (o y a b : Bool) → (y || (a || b)) ≡ (((o && y) || a) || ((not o && y) || b))
+    step true true a b = refl
+    step true false a b = refl
+    step false true true b = refl
+    step false true false b = refl
+    step false false a b = refl
+
+-- ---- the ports that a walk over candidates keeps
+
+pub reached-are : (rows : Rows) (port n : ℕ) (alone : Bool) (vlan : VlanRow) (fan : FanRow) (both others ports : List ℕ) → n ≡ port
+    → both ≡ ports_where (λ m. has_number fan.ports m && has_number vlan.members m)
+    → others ≡ ports_where (λ m. has_number both m && not (m == n))
+    → ports ≡ filter (λ q. row_lets alone (port_at rows q)) others
+    → ports ≡ ports_where (λ q. has_number fan.ports q && row_takes port alone vlan q (port_at rows q))
+reached-are rows port n alone vlan fan both others ports is b o e =
+    e
+    ∙ ap (filter (λ q. row_lets alone (port_at rows q))) o
+    ∙ filter-numbers_below (λ m. has_number both m && not (m == n)) (λ q. row_lets alone (port_at rows q)) port_count
+    ∙ same_below _ _ port_count (λ q low.
+    ap₂ (λ x m. (x && not (q == m)) && row_lets alone (port_at rows q)) (member-of _ both q b low) is
+    ∙ turn (has_number fan.ports q) (has_number vlan.members q) (not (q == port)) (row_lets alone (port_at rows q)))
+  where
+    turn : (f m o l : Bool) → (((f && m) && o) && l) ≡ (f && (m && (o && l)))
+    turn true true o l = refl
+    turn true false o l = refl
+    turn false m o l = refl

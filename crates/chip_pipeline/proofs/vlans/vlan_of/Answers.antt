@@ -1,0 +1,6 @@
+use Rattle.std.proofs.Common.{sym, ap, ◌∙◌}
+use Rattle.br_model.specs.Admission.{vlan_of_tag}
+use Rattle.chip_pipeline.proofs.vlans.vlan_of.Goals as goal
+
+pub returns-in-Some-clause-vid : goal.returns-in-Some-clause-vid
+returns-in-Some-clause-vid c d t stands = c.vlan_of_tag.ensures.vid d t stands ∙ ap (vlan_of_tag t c.args.port) (sym c.in-Some.is)

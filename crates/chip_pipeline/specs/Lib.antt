@@ -1,0 +1,4 @@
+pub mod PortRows
+pub mod Passed
+pub mod Ways
+pub mod Outs

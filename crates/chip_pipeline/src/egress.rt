@@ -1,0 +1,166 @@
+//! The way out: which of its ports the chip sends by, and whether the processor is to have the frame too, or alone.
+ghost use Rattle.std.specs.Prelude.{◌≡◌, ◌<◌, ◌&&◌, [], false, if◌then◌else◌};
+ghost use Rattle.br_model.specs.Domains.{Domains};
+ghost use Rattle.br_model.specs.Eligible.{may};
+ghost use Rattle.br_model.specs.Table.{Table};
+ghost use Rattle.br_model.specs.Targets.{targets};
+ghost use Rattle.br_model.specs.declared.frame.Class.TheVariants.{Drop, Copy, Forward};
+ghost use Rattle.br_model.specs.declared.frame.Head.{Head};
+ghost use Rattle.br_model.specs.declared.frame.McastMsg.{McastMsg};
+ghost use Rattle.port_sets.specs.Numbers.{has_number};
+ghost use Rattle.chip_tables.specs.Rows.{vlan_at, port_at};
+ghost use Rattle.chip_tables.specs.Stands.{IsVid, Stands, ports_where};
+ghost use Rattle.chip_pipeline.specs.Outs.{IsOut};
+ghost use Rattle.chip_pipeline.specs.Passed.{AtChip};
+ghost use Rattle.chip_pipeline.specs.PortRows.{row_lets, row_takes};
+ghost use Rattle.chip_pipeline.specs.Ways.{IsWay, Leads, LeadsTo, leaves_chip};
+
+use crate::lookup::Way;
+use crate::ports::{forwards, is_isolated};
+use crate::vlans::Vlan;
+use br_model::frame::Class;
+use br_model::numbers::Port;
+use chip_tables::{FanRow, PortRow, Tables, VlanRow};
+use port_sets::Ports;
+
+/// The ports of the row that may take a frame of the VLAN that came by the port, isolated or not. It reads the row of each that
+/// is a member, since no other row tells which ports forward.
+pub fn reached(tables: &Tables, port: Port, alone: bool, vlan: &VlanRow, fan: &FanRow) -> Ports
+    ensures { result ≡ ports_where (λ q. has_number fan.now.ports q && row_takes port alone vlan.now q (port_at tables.now q)) }
+{
+    let others = fan.ports.and(vlan.members).without(port.number());
+    let mut ports = Ports::empty();
+    for number in others.iter() {
+        if lets_number(tables, alone, number) {
+            ports = ports.with(number);
+        }
+    }
+    ports
+}
+
+fn lets_number(tables: &Tables, alone: bool, number: u8) -> bool
+    requires { number < 64 }
+    ensures { result ≡ row_lets alone (port_at tables.now number) }
+{
+    match Port::new(number) {
+        Some(port) => lets(alone, &tables.port(port)),
+        None => false,
+    }
+}
+
+/// Whether a port with this row forwards, and isn't isolated from the ingress port.
+fn lets(alone: bool, row: &PortRow) -> bool
+    ensures { result ≡ row_lets alone row.now }
+{
+    forwards(row) && !(alone && is_isolated(row))
+}
+
+/// What the chip does with an admitted frame that snooping doesn't catch.
+#[derive(Clone, Copy, Debug)]
+pub struct Out {
+    pub class: Class,
+    pub ports: Ports,
+}
+
+/// What the chip does with a frame of the VLAN that is to go this way.
+pub fn send(tables: &Tables, port: Port, row: &PortRow, vlan: &Vlan, way: &Way) -> Out
+    requires row { row.now ≡ port_at tables.now port }
+    requires vlan { vlan.now.row ≡ vlan_at tables.now vlan.now.vid }
+    requires range { IsVid vlan.now.vid }
+    ensures { (d : Domains) (t : Table) (head : Head) (msg : McastMsg) → AtChip d tables.now t port → IsWay d t port vlan.now.vid head msg way.now → IsOut d t port vlan.now.vid head msg result }
+{
+    match *way {
+        Way::Nowhere => nothing(Class::Drop),
+        Way::One(goal) => send_to(tables, port, row, vlan, goal),
+        Way::Many(fan) => send_by(tables, port, row, vlan, &fan),
+    }
+}
+
+/// To one port: by it where it is the chip's own, by the processor where it is elsewhere.
+fn send_to(tables: &Tables, port: Port, row: &PortRow, vlan: &Vlan, goal: Port) -> Out
+    requires row { row.now ≡ port_at tables.now port }
+    requires vlan { vlan.now.row ≡ vlan_at tables.now vlan.now.vid }
+    requires range { IsVid vlan.now.vid }
+    ensures { (d : Domains) (t : Table) (head : Head) (msg : McastMsg) → AtChip d tables.now t port → LeadsTo d t port vlan.now.vid head goal (targets t vlan.now.vid head msg) → IsOut d t port vlan.now.vid head msg result }
+{
+    let other = tables.port(goal);
+    if !may_take(tables, port, row, vlan, goal, &other) {
+        return nothing(Class::Drop);
+    }
+    if other.own {
+        Out {
+            class: Class::Forward,
+            ports: Ports::empty().with(goal.number()),
+        }
+    } else {
+        nothing(Class::Trap)
+    }
+}
+
+/// By no port.
+fn nothing(class: Class) -> Out
+    ensures { result ≡ record { class = class; ports = [] } }
+{
+    Out {
+        class,
+        ports: Ports::empty(),
+    }
+}
+
+/// Whether a port may take a frame of the VLAN that came by the other.
+fn may_take(
+    tables: &Tables,
+    port: Port,
+    row: &PortRow,
+    vlan: &Vlan,
+    goal: Port,
+    other: &PortRow,
+) -> bool
+    requires row { row.now ≡ port_at tables.now port }
+    requires vlan { vlan.now.row ≡ vlan_at tables.now vlan.now.vid }
+    requires range { IsVid vlan.now.vid }
+    requires other { other.now ≡ port_at tables.now goal }
+    ensures { (d : Domains) (t : Table) → Stands d tables.now t → result ≡ may t port goal vlan.now.vid }
+{
+    let _number = port.number();
+    if !vlan.row.members.has(goal.number()) {
+        return false;
+    }
+    if goal.is_host() {
+        return true;
+    }
+    if goal == port {
+        return false;
+    }
+    lets(is_isolated(row), other)
+}
+
+/// To the ports of a row, and by the processor too where its bit tells of a port elsewhere.
+fn send_by(tables: &Tables, port: Port, row: &PortRow, vlan: &Vlan, fan: &FanRow) -> Out
+    requires row { row.now ≡ port_at tables.now port }
+    requires vlan { vlan.now.row ≡ vlan_at tables.now vlan.now.vid }
+    requires range { IsVid vlan.now.vid }
+    ensures { (d : Domains) (t : Table) (head : Head) (msg : McastMsg) → AtChip d tables.now t port → Leads d t port vlan.now.vid fan.now (targets t vlan.now.vid head msg) → leaves_chip d t port vlan.now.vid head ≡ false
+        → IsOut d t port vlan.now.vid head msg result }
+{
+    let alone = is_isolated(row);
+    let ports = reached(tables, port, alone, &vlan.row, fan);
+    let elsewhere = if alone { fan.isolated } else { fan.plain };
+    let _number = port.number();
+    Out {
+        class: class_by(elsewhere, ports.is_empty()),
+        ports,
+    }
+}
+
+fn class_by(elsewhere: bool, nowhere: bool) -> Class
+    ensures { result ≡ (if elsewhere then Copy else if nowhere then Drop else Forward) }
+{
+    if elsewhere {
+        Class::Copy
+    } else if nowhere {
+        Class::Drop
+    } else {
+        Class::Forward
+    }
+}

@@ -1,0 +1,115 @@
+//! The pass of a frame through all stages.
+ghost use Rattle.std.specs.Prelude.{◌≡◌, ◌&&◌, [], false, if◌then◌else◌, IfSome, Some, None};
+ghost use Rattle.std.specs.Option.{option_map};
+ghost use Rattle.br_model.specs.Admission.{admit, has_valid_source, is_forwarding, vlan_of};
+ghost use Rattle.br_model.specs.Chip.{report, hit_of};
+ghost use Rattle.br_model.specs.Class.{class};
+ghost use Rattle.br_model.specs.Domains.{Domains};
+ghost use Rattle.br_model.specs.Table.{Table};
+ghost use Rattle.br_model.specs.Targets.{to_tree};
+ghost use Rattle.chip_tables.specs.Rows.{vlan_at, port_at};
+ghost use Rattle.chip_tables.specs.Stands.{IsVid, Stands};
+ghost use Rattle.chip_pipeline.specs.Passed.{AtChip, IsSent, chip_ports, untagged_among};
+ghost use Rattle.chip_pipeline.specs.declared.vlans.Vlan.{Vlan};
+
+use crate::answer::{Pass, Sent};
+use crate::egress::send;
+use crate::frames::has_valid_source;
+use crate::lookup::lookup;
+use crate::ports::forwards;
+use crate::sources::sight;
+use crate::traps::{catches, is_for_tree};
+use crate::vlans::{Vlan, vlan_of};
+use br_model::frame::{Class, Head, McastMsg};
+use br_model::numbers::{Port, Vid};
+use chip_tables::{PortRow, Tables};
+use port_sets::Ports;
+
+/// What the chip does with a frame that enters at one of its ports, by its tables alone. The message is the one that the frame
+/// says to snooping.
+pub fn pass(t: &Tables, p: Port, h: &Head, m: &McastMsg) -> Pass
+    ensures class { (d : Domains) (table : Table) → AtChip d t.now table p → result.class ≡ class d table p h.now m.now }
+    ensures vid { (d : Domains) (table : Table) → AtChip d t.now table p → result.vid ≡ admit table p h.now }
+    ensures ports { (d : Domains) (table : Table) → AtChip d t.now table p → result.ports ≡ chip_ports d table p h.now m.now }
+    ensures untagged { (d : Domains) (table : Table) → AtChip d t.now table p → result.untagged ≡ untagged_among table result.vid result.ports }
+    ensures report { (d : Domains) (table : Table) → AtChip d t.now table p → result.report ≡ report table p h.now }
+    ensures hit { (d : Domains) (table : Table) → AtChip d t.now table p → result.hit ≡ hit_of table p h.now }
+{
+    let row = t.port(p);
+    let vlan = vlan_of(t, p, &row, h);
+    let sighting = sight(t, p, &row, &vlan, h);
+    let sent = forward(t, p, &row, &vlan, h, m);
+    Pass::of(sent, sighting)
+}
+
+/// Of a frame in this VLAN, if it is in one.
+fn forward(t: &Tables, p: Port, row: &PortRow, vlan: &Option<Vlan>, h: &Head, m: &McastMsg) -> Sent
+    requires row { row.now ≡ port_at t.now p }
+    requires vlan { IfSome vlan.now (λ (v : Vlan). (v.row ≡ vlan_at t.now v.vid) × IsVid v.vid) }
+    ensures { (d : Domains) (table : Table) → AtChip d t.now table p → option_map (λ (v : Vlan). v.vid) vlan.now ≡ vlan_of table p h.now → IsSent d table p h.now m.now result }
+{
+    let admitted = admitted(t, p, row, vlan, h);
+    if is_for_tree(t, p, row, h) {
+        return nowhere(Class::Trap, vid_of(&admitted));
+    }
+    match admitted {
+        Some(vlan) => forward_in(t, p, row, &vlan, h, m),
+        None => nowhere(Class::Drop, None),
+    }
+}
+
+/// The VLAN, where the port admits the frame.
+fn admitted(t: &Tables, p: Port, row: &PortRow, vlan: &Option<Vlan>, h: &Head) -> Option<Vlan>
+    requires row { row.now ≡ port_at t.now p }
+    ensures same { IfSome result (λ v. vlan.now ≡ Some v) }
+    ensures vid { (d : Domains) (table : Table) → Stands d t.now table → option_map (λ (v : Vlan). v.vid) result ≡ (if is_forwarding table p && has_valid_source h.now then option_map (λ (v : Vlan). v.vid) vlan.now else None) }
+{
+    let _number = p.number();
+    if forwards(row) && has_valid_source(h) {
+        *vlan
+    } else {
+        None
+    }
+}
+
+fn vid_of(vlan: &Option<Vlan>) -> Option<Vid>
+    ensures { result ≡ option_map (λ (v : Vlan). v.vid) vlan.now }
+{
+    match vlan {
+        Some(vlan) => Some(vlan.vid),
+        None => None,
+    }
+}
+
+/// Of a frame that is for no port of the chip.
+fn nowhere(class: Class, vid: Option<Vid>) -> Sent
+    ensures { result ≡ record { class = class; vid = vid; ports = []; untagged = [] } }
+{
+    Sent {
+        class,
+        vid,
+        ports: Ports::empty(),
+        untagged: Ports::empty(),
+    }
+}
+
+/// Of an admitted frame that isn't for the spanning tree.
+fn forward_in(t: &Tables, p: Port, row: &PortRow, vlan: &Vlan, h: &Head, m: &McastMsg) -> Sent
+    requires row { row.now ≡ port_at t.now p }
+    requires vlan { vlan.now.row ≡ vlan_at t.now vlan.now.vid }
+    requires range { IsVid vlan.now.vid }
+    ensures { (d : Domains) (table : Table) → AtChip d t.now table p → to_tree table p h.now ≡ false → Some vlan.now.vid ≡ admit table p h.now → IsSent d table p h.now m.now result }
+{
+    if catches(t, m) {
+        return nowhere(Class::Trap, Some(vlan.vid));
+    }
+    let way = lookup(t, vlan.vid, h, m);
+    let out = send(t, p, row, vlan, &way);
+    out.ports.members_ascend();
+    Sent {
+        class: out.class,
+        vid: Some(vlan.vid),
+        ports: out.ports,
+        untagged: out.ports.and(vlan.row.untagged),
+    }
+}

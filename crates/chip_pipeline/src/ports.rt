@@ -1,0 +1,45 @@
+//! What the row of a port tells.
+ghost use Rattle.std.specs.Prelude.{◌≡◌, ◌<◌};
+ghost use Rattle.br_model.specs.Admission.{learning, forwarding};
+ghost use Rattle.br_model.specs.Learning.{learning_flag};
+ghost use Rattle.br_model.specs.Targets.{isolated};
+ghost use Rattle.chip_pipeline.specs.PortRows.{row_has_flag, row_is_in};
+
+use br_model::change::{FORWARDING, Flags};
+use chip_tables::PortRow;
+
+/// The state of a port that learns and doesn't forward yet (Linux's BR_STATE_LEARNING).
+const LEARNING: u8 = 2;
+
+/// Whether the port is up and forwards.
+pub fn forwards(row: &PortRow) -> bool
+    ensures { result ≡ row_is_in row.now forwarding }
+{
+    row.up && row.state == FORWARDING
+}
+
+/// Whether the port is up and its state is `learning`.
+pub fn is_learning(row: &PortRow) -> bool
+    ensures { result ≡ row_is_in row.now learning }
+{
+    row.up && row.state == LEARNING
+}
+
+fn has_flag(row: &PortRow, flag: u8) -> bool
+    requires { flag < 8 }
+    ensures { result ≡ row_has_flag row.now flag }
+{
+    row.flags.bits() >> flag & 1 == 1
+}
+
+pub fn is_isolated(row: &PortRow) -> bool
+    ensures { result ≡ row_has_flag row.now isolated }
+{
+    has_flag(row, Flags::ISOLATED)
+}
+
+pub fn learns(row: &PortRow) -> bool
+    ensures { result ≡ row_has_flag row.now learning_flag }
+{
+    has_flag(row, Flags::LEARNING)
+}
