@@ -1,0 +1,11 @@
+pub mod Sets
+pub mod Steps
+pub mod FanRows
+pub mod Refreshing
+pub mod Keeping
+pub mod TableLaws
+pub mod Places
+pub mod Starting
+pub mod GroupRows
+pub mod GroupLoop
+pub mod Standing

@@ -1,0 +1,15 @@
+-- The VLANs of each port, 64 of them a set: set i of a port has VLAN 64 i + n where it has the number n.
+use Rattle.std.specs.Prelude.{◌≡◌, ℕ, ◌+◌, ◌*◌, ◌/◌, ◌%◌, ◌<◌, ◌==◌, Bool, ◌&&◌, if◌then◌else◌, List, [], slice_index_or}
+use Rattle.port_sets.specs.Numbers.{has_number}
+
+-- set i of the port
+abbrev pub block_at : List (List ℕ) → ℕ → ℕ → List ℕ
+block_at blocks port i = slice_index_or blocks (64 * port + i) []
+
+-- whether the port is in the VLAN
+abbrev pub has_vlan : List (List ℕ) → ℕ → ℕ → Bool
+has_vlan blocks port vid = has_number (block_at blocks port (vid / 64)) (vid % 64)
+
+-- one VLAN of the port is switched
+abbrev pub Switches : List (List ℕ) → List (List ℕ) → ℕ → ℕ → Bool → Type 0
+Switches old new port vid on = (q v : ℕ) → v < 4096 → has_vlan new q v ≡ (if (q == port) && (v == vid) then on else has_vlan old q v)

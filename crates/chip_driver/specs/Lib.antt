@@ -1,0 +1,6 @@
+pub mod Joined
+pub mod Shadows
+pub mod Settled
+pub mod Making
+pub mod GroupRows
+pub mod Drives

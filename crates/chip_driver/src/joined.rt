@@ -1,0 +1,70 @@
+//! The VLANs of each port.
+ghost use Rattle.std.specs.Prelude.{◌≡◌, ◌<◌, IfOk, [], replicate};
+ghost use Rattle.chip_driver.specs.Joined.{block_at, has_vlan, Switches};
+
+use crate::shadow::switched;
+use br_model::numbers::{Port, Vid};
+use chip_tables::NoMemory;
+use port_sets::Ports;
+use std::alloc::Global;
+use std::marker::Model;
+
+/// The VLANs of each port, as sets of numbers: 64 sets a port, and set i has the number n for VLAN 64 i + n.
+#[derive(Drop)]
+pub struct Joined {
+    blocks: Vec<Ports>,
+}
+
+impl Model for Joined {
+    ghost use Rattle.std.specs.Prelude.{◌≡◌, List, ℕ, length};
+
+    ghost Value = { List (List ℕ) };
+
+    ghost view = { λ j. j.blocks.items };
+
+    ghost invariant = { λ j. length j.blocks.items ≡ 4096 };
+}
+
+/// As many empty sets as all ports have.
+fn no_blocks(alloc: Global) -> Result<Vec<Ports>, NoMemory>
+    ensures { IfOk result (λ v. v.items ≡ replicate 4096 []) }
+{
+    let none = Ports::empty();
+    vec![in alloc; none; 4096]
+}
+
+impl Joined {
+    /// No port is in a VLAN.
+    pub fn make(alloc: Global) -> Result<Joined, NoMemory>
+        ensures { IfOk result (λ j. j ≡ replicate 4096 []) }
+    {
+        let blocks = no_blocks(alloc)?;
+        Ok(Joined { blocks })
+    }
+
+    /// Set i of the port.
+    pub fn block(&self, p: Port, i: u8) -> Ports
+        requires { i < 64 }
+        ensures { result ≡ block_at self.now p i }
+    {
+        self.blocks[64 * usize::from(p.number()) + usize::from(i)]
+    }
+
+    /// Whether the port is in the VLAN.
+    pub fn has(&self, p: Port, v: Vid) -> bool
+        ensures { result ≡ has_vlan self.now p v }
+    {
+        let vid = v.number();
+        self.block(p, (vid / 64) as u8).has((vid % 64) as u8)
+    }
+
+    /// Puts the port into the VLAN or out of it.
+    pub fn switch(&mut self, p: Port, v: Vid, on: bool)
+        ensures vlan { Switches self.old self.new p v on }
+        ensures below { v < 4096 }
+    {
+        let vid = v.number();
+        let place = 64 * usize::from(p.number()) + usize::from(vid / 64);
+        self.blocks[place] = switched(self.blocks[place], (vid % 64) as u8, on);
+    }
+}

@@ -1,0 +1,52 @@
+//! The rows before any change.
+ghost use Rattle.std.specs.Prelude.{◌≡◌, false};
+ghost use Rattle.br_model.specs.Domains.{host};
+ghost use Rattle.chip_tables.specs.Stands.{is_own};
+ghost use Rattle.chip_driver.specs.Making.{idle, MarksOwn};
+
+use br_model::change::{DISABLED, Flags};
+use br_model::domains::Domains;
+use br_model::numbers::Port;
+use chip_tables::{PortRow, Tables};
+use port_sets::Ports;
+
+/// The flags of a port that is down.
+pub fn no_flags() -> Flags
+    ensures { result ≡ 0 }
+{
+    match Flags::new(0) {
+        Some(flags) => flags,
+        None => unreachable!(),
+    }
+}
+
+/// The row of a port that never came up.
+fn idle(own: bool) -> PortRow
+    ensures { result ≡ idle own }
+{
+    PortRow {
+        up: false,
+        state: DISABLED,
+        flags: no_flags(),
+        pvid: None,
+        own,
+    }
+}
+
+/// Writes the row of each port.
+pub fn mark_own(tables: &mut Tables, own: &Ports)
+    ensures { MarksOwn own.now 64 tables.old tables.new }
+{
+    for n in 0..64 {
+        if let Some(p) = Port::new(n) {
+            tables.set_port(p, idle(own.has(n)));
+        }
+    }
+}
+
+/// A law, whose body does nothing: the host isn't on the chip.
+pub fn host_is_elsewhere(d: &Domains)
+    ensures { is_own d.now host ≡ false }
+{
+    let _domain = d.of(Port::HOST);
+}

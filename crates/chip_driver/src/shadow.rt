@@ -1,0 +1,85 @@
+//! What the driver keeps of the ports beside the chip's rows.
+ghost use Rattle.std.specs.Prelude.{◌≡◌, ◌<◌, []};
+ghost use Rattle.chip_driver.specs.Shadows.{switched, row_forwards, row_has_flag, row_floods};
+ghost use Rattle.chip_driver.specs.Settled.{Notes};
+
+use br_model::change::{FORWARDING, Flags};
+use br_model::numbers::Port;
+use chip_tables::PortRow;
+use port_sets::Ports;
+
+/// The ports of which each is so: on the chip, forwarding, up with a flag of flooding, isolated, and before a multicast router.
+#[derive(Clone, Copy, Debug)]
+pub struct Shadow {
+    pub own: Ports,
+    pub forwarding: Ports,
+    pub flood: Ports,
+    pub mcast_flood: Ports,
+    pub bcast_flood: Ports,
+    pub isolated: Ports,
+    pub routers: Ports,
+}
+
+/// The set with the number, which is below 64, or without it.
+pub fn switched(set: Ports, n: u8, on: bool) -> Ports
+    requires { n < 64 }
+    ensures { result ≡ switched set n on }
+{
+    if on { set.with(n) } else { set.without(n) }
+}
+
+/// Whether the port forwards.
+fn forwards(row: &PortRow) -> bool
+    ensures { result ≡ row_forwards row.now }
+{
+    row.up && row.state == FORWARDING
+}
+
+/// Whether the port has the flag at this place.
+fn has_flag(row: &PortRow, flag: u8) -> bool
+    requires { flag < 6 }
+    ensures { result ≡ row_has_flag row.now flag }
+{
+    row.flags.bits() >> flag & 1 == 1
+}
+
+/// Whether the port is up and has the flag at this place.
+fn floods(row: &PortRow, flag: u8) -> bool
+    requires { flag < 6 }
+    ensures { result ≡ row_floods row.now flag }
+{
+    row.up && has_flag(row, flag)
+}
+
+impl Shadow {
+    /// Before any change.
+    pub fn start(own: Ports) -> Shadow
+        ensures { result ≡ record { own = own; forwarding = []; flood = []; mcast_flood = []; bcast_flood = []; isolated = []; routers = [] } }
+    {
+        Shadow {
+            own,
+            forwarding: Ports::empty(),
+            flood: Ports::empty(),
+            mcast_flood: Ports::empty(),
+            bcast_flood: Ports::empty(),
+            isolated: Ports::empty(),
+            routers: Ports::empty(),
+        }
+    }
+
+    /// The same with what the row of a port says.
+    pub fn with_row(&self, p: Port, row: &PortRow) -> Shadow
+        ensures { Notes p row.now self.now result }
+    {
+        let n = p.number();
+        Shadow {
+            own: self.own,
+            forwarding: switched(self.forwarding, n, forwards(row)),
+            flood: switched(self.flood, n, floods(row, Flags::FLOOD)),
+            mcast_flood: switched(self.mcast_flood, n, floods(row, Flags::MCAST_FLOOD)),
+            bcast_flood: switched(self.bcast_flood, n, floods(row, Flags::BCAST_FLOOD)),
+            isolated: switched(self.isolated, n, has_flag(row, Flags::ISOLATED)),
+            routers: self.routers,
+        }
+    }
+}
