@@ -1,0 +1,4 @@
+pub mod Objects
+pub mod Adding
+pub mod Keeping
+pub mod Within

@@ -1,0 +1,11 @@
+use Rattle.std.proofs.Common.{◌≡◌, List, [], ◌∷◌, ◌++◌, true, refl, sym, subst, arith}
+use Rattle.br_model.specs.declared.change.Change.{Change}
+use Rattle.br_model.specs.declared.change.Change.TheVariants.{PortUp, SetState, VlanAdd}
+use Rattle.table_publish.specs.Board.{AreWithin}
+use Rattle.table_publish.proofs.Within.{within_of}
+use Rattle.table_publish.proofs.tests.append_port.Goals as goal
+
+pub append-requires : goal.append-requires
+append-requires c =
+    let changes : List Change = PortUp c.args.port ∷ SetState c.args.port 3 ∷ VlanAdd c.args.port 1 true true ∷ [] in
+    subst (λ (l : List Change). AreWithin (l ++ changes)) (sym c.requires) (within_of changes (omega arith) refl)
