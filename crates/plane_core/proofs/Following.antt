@@ -1,0 +1,117 @@
+-- A driver that follows a history: what it is asked to take is taken, and its rows stand for the cut after each change and each turn.
+use Rattle.std.proofs.Common.{◌≡◌, ℕ, ◌+◌, ◌<◌, ◌≤◌, true, false, List, [], ◌∷◌, ◌++◌, length, take, drop, get_or, Option, None, Some, option_map, slice_get, refl, sym, ap, ◌∙◌, arith, subst}
+use Rattle.std.proofs.lemmas.List.{take_more, take-append-drop, length-map}
+use Rattle.std.proofs.lemmas.List.Sums.{length-filter, count_by-le-length}
+use Rattle.std.specs.Prelude.{IsTrue, if◌then◌else◌}
+use Rattle.br_model.specs.declared.change.Change.{Change}
+use Rattle.br_model.specs.declared.change.Change.TheVariants.{PortUp, PortDown, SetFlags, SetState, VlanAdd, VlanDel, GroupJoin, GroupPart, Router, Querier, Snoop, Stp, AddrPut, AddrDel}
+use Rattle.br_model.specs.Change.{deferred, updates}
+use Rattle.br_model.specs.Chip.{applies}
+use Rattle.br_model.specs.Cut.{cut, deferred_at, deferred_count, under_ticket}
+use Rattle.br_model.specs.Domains.{Domains}
+use Rattle.br_model.specs.GroupPairs.{has_room}
+use Rattle.br_model.specs.Groups.{Membership}
+use Rattle.br_model.specs.Limits.{fits, most_addresses}
+use Rattle.br_model.specs.Maps.{pair_cmp, put, without}
+use Rattle.br_model.specs.Table.{Table, apply, table}
+use Rattle.br_model.proofs.ApplyingLaws.{deferred_count-append}
+use Rattle.br_model.proofs.Cuts.{cut-one, cut-turn, table-cut, addr-within, deferred_at-deferred, updates-at}
+use Rattle.chip_tables.specs.declared.rows.AddressRow.{AddressRow}
+use Rattle.chip_tables.specs.Rows.{max_addresses}
+use Rattle.chip_tables.specs.Stands.{address_wanted}
+use Rattle.chip_driver.specs.Drives.{Driven, Drives, IsTaken}
+use Rattle.chip_driver.proofs.GroupRows.{mapped-put, mapped-without}
+use Rattle.plane_core.specs.Chips.{ChipState, HasState, IsHistory, Turns}
+use Rattle.plane_core.proofs.Rooms.{few-front}
+
+-- what fits the table of a history fits a driver that stands for a cut of it
+pub taken_now : (domains : Domains) (driver : Driven) (H : List Change) (k : ℕ) (c : Change) → Drives domains driver (table (cut H k)) → IsTrue (fits (table H) c) → HasState c → deferred c ≡ false → IsTaken driver c
+taken_now domains driver H k (PortUp port) stands fit state now = tt
+taken_now domains driver H k (PortDown port) stands fit state now = tt
+taken_now domains driver H k (SetFlags port flags) stands fit state now = tt
+taken_now domains driver H k (SetState port number) stands fit state now = state
+taken_now domains driver H k (VlanAdd port vid untagged pvid) stands fit state now = tt
+taken_now domains driver H k (VlanDel port vid) stands fit state now = tt
+taken_now domains driver H k (GroupJoin port vid group) stands fit state now =
+    subst (λ (ms : List Membership). IsTrue (has_room ms vid group)) (sym (stands.groups ∙ ap (λ (t : Table). t.groups) (table-cut H k))) fit
+taken_now domains driver H k (GroupPart port vid group) stands fit state now = tt
+taken_now domains driver H k (Router port on) stands fit state now = tt
+taken_now domains driver H k (Querier six on) stands fit state now = tt
+taken_now domains driver H k (Snoop on) stands fit state now = tt
+taken_now domains driver H k (Stp on) stands fit state now = tt
+taken_now domains driver H k (AddrPut vid mac port kind) stands fit state now = absurd (cc)
+taken_now domains driver H k (AddrDel vid mac) stands fit state now = absurd (cc)
+
+-- The driver has room for the next deferred change, since the table that it makes is that of a cut.
+room_next : (H : List Change) (k : ℕ) (d : Change) → IsHistory H → deferred_at H k ≡ Some d → length (apply (table (cut H k)) d).addr ≤ most_addresses
+room_next H k d is at = subst (λ (t : Table). length t.addr ≤ most_addresses) (cut-turn H k d at) (addr-within most_addresses H (k + 1) (few-front H is))
+
+late : {A : Type 0} (H : List Change) (k : ℕ) (c : Change) → deferred_at H k ≡ Some c → deferred c ≡ false → A
+late H k c at now = absurd (let e : true ≡ false = sym (deferred_at-deferred H k c at).0 ∙ now in cc)
+
+pub taken_next : (domains : Domains) (driver : Driven) (H : List Change) (k : ℕ) (d : Change) → Drives domains driver (table (cut H k)) → IsHistory H → deferred_at H k ≡ Some d → IsTaken driver d
+taken_next domains driver H k (PortUp port) stands is at = tt
+taken_next domains driver H k (PortDown port) stands is at = tt
+taken_next domains driver H k (SetFlags port flags) stands is at = tt
+taken_next domains driver H k (SetState port number) stands is at = late H k (SetState port number) at refl
+taken_next domains driver H k (VlanAdd port vid untagged pvid) stands is at = tt
+taken_next domains driver H k (VlanDel port vid) stands is at = tt
+taken_next domains driver H k (GroupJoin port vid group) stands is at = late H k (GroupJoin port vid group) at refl
+taken_next domains driver H k (GroupPart port vid group) stands is at = tt
+taken_next domains driver H k (Router port on) stands is at = tt
+taken_next domains driver H k (Querier six on) stands is at = tt
+taken_next domains driver H k (Snoop on) stands is at = tt
+taken_next domains driver H k (Stp on) stands is at = tt
+taken_next domains driver H k (AddrPut vid mac port kind) stands is at =
+    let addr = (table (cut H k)).addr in
+    let same : length (put pair_cmp driver.rows.addresses (vid, mac) (address_wanted (port, kind))) ≡ length (put pair_cmp addr (vid, mac) (port, kind)) =
+    ap (λ (rows : List ((ℕ × ℕ) × AddressRow)). length (put pair_cmp rows (vid, mac) (address_wanted (port, kind)))) stands.rows.addresses
+    ∙ ap length (sym (mapped-put pair_cmp address_wanted addr (vid, mac) (port, kind)))
+    ∙ length-map (put pair_cmp addr (vid, mac) (port, kind)) _ in
+    let room : length (put pair_cmp addr (vid, mac) (port, kind)) ≤ max_addresses = room_next H k (AddrPut vid mac port kind) is at in
+    subst (λ n. n ≤ max_addresses) (sym same) room
+taken_next domains driver H k (AddrDel vid mac) stands is at =
+    let addr = (table (cut H k)).addr in
+    let same : length (without pair_cmp driver.rows.addresses (vid, mac)) ≡ length (without pair_cmp addr (vid, mac)) =
+    ap (λ (rows : List ((ℕ × ℕ) × AddressRow)). length (without pair_cmp rows (vid, mac))) stands.rows.addresses
+    ∙ ap length (sym (mapped-without pair_cmp address_wanted addr (vid, mac)))
+    ∙ length-map (without pair_cmp addr (vid, mac)) _ in
+    let room : length (without pair_cmp addr (vid, mac)) ≤ max_addresses = room_next H k (AddrDel vid mac) is at in
+    subst (λ n. n ≤ max_addresses) (sym same) room
+
+-- one change of the history more
+
+abbrev next_front : List Change → ℕ → Change → List Change
+next_front H i d = take i H ++ get_or H i d ∷ []
+
+pub more_deferred : (H : List Change) (i : ℕ) (d : Change) (k : ℕ) → i < length H → k ≤ deferred_count (take i H) → k ≤ deferred_count (take (i + 1) H)
+more_deferred H i d k less n =
+    subst (λ (cs : List Change). k ≤ deferred_count cs) (sym (take_more H i d less)) (omega (arith, n, deferred_count-append (take i H) (get_or H i d ∷ [])))
+
+pub table_more : (H : List Change) (i : ℕ) (d : Change) (k : ℕ) → i < length H → k ≤ deferred_count (take i H)
+    → table (cut (take (i + 1) H) k) ≡ (if deferred (get_or H i d) then table (cut (take i H) k) else apply (table (cut (take i H) k)) (get_or H i d))
+table_more H i d k less n = ap (λ cs. table (cut cs k)) (take_more H i d less) ∙ cut-one (take i H) (get_or H i d) k n
+
+-- the change with a ticket
+
+pub no_update : (H : List Change) (k : ℕ) → slice_get (updates H) k ≡ None → deferred_at H k ≡ None
+no_update H k none = by (deferred_at H k) (sym (updates-at H k) ∙ none)
+  where
+    by : (o : Option Change) → option_map (under_ticket k) o ≡ None → o ≡ None
+    by None e = refl
+    by (Some c) e = absurd (cc)
+
+-- a turn
+
+pub still_applied : (H : List Change) (from k : ℕ) → k ≤ deferred_count (take from H) → k ≤ deferred_count H
+still_applied H from k n =
+    subst (λ (cs : List Change). k ≤ deferred_count cs) (take-append-drop from H) (omega (arith, n, deferred_count-append (take from H) (drop from H)))
+
+pub count_below : (H : List Change) (k : ℕ) (d : Change) → IsHistory H → deferred_at H k ≡ Some d → k < 1048576
+count_below H k d is at = omega (arith, is.few, (deferred_at-deferred H k d at).1, length-filter deferred H, count_by-le-length deferred H)
+
+pub turned : (H : List Change) (old new : ChipState) (d : Change) → deferred_at H old.chip.count ≡ Some d → new.chip ≡ applies old.chip d → Turns old new (deferred_at H old.chip.count) true
+turned H old new d at is = subst (λ (o : Option Change). Turns old new o true) (sym at) (refl, is)
+
+pub stayed : (H : List Change) (old new : ChipState) → deferred_at H old.chip.count ≡ None → new ≡ old → Turns old new (deferred_at H old.chip.count) false
+stayed H old new at is = subst (λ (o : Option Change). Turns old new o false) (sym at) (refl, is)

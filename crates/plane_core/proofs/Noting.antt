@@ -1,0 +1,45 @@
+-- What frames leave in a chip, as its reports and hits are kept.
+use Rattle.std.proofs.Common.{◌≡◌, ℕ, ◌==◌, nat_lt, Bool, true, false, not, cond, ◌&&◌, ◌||◌, List, [], ◌∷◌, ◌++◌, length, Option, None, Some, refl, sym, ap, ap₂, ◌∙◌, arith}
+use Rattle.std.proofs.lemmas.Bool.Decides.{nat_tests}
+use Rattle.std.specs.List.{list_any}
+use Rattle.br_model.specs.Chip.{Chip, same_triple, offered, offers, hits_entry}
+use Rattle.br_model.specs.Learning.{Address, Triple}
+use Rattle.br_model.specs.Limits.{most_reports}
+use Rattle.learn_report.specs.Reports.{Reported, is_waiting}
+use Rattle.plane_core.specs.Chips.{chip_of}
+
+swapped : (a b : ℕ) → (a == b) ≡ (b == a)
+swapped a b = grind (arith, nat_tests)
+
+same_test : (x y : Triple) → same_triple x y ≡ ((y.0 == x.0) && ((y.1 == x.1) && (y.2 == x.2)))
+same_test x y = ap₂ ◌&&◌ (swapped x.0 y.0) (ap₂ ◌&&◌ (swapped x.1 y.1) (swapped x.2 y.2))
+
+same_waiting : (reports : List Triple) (x : Triple) → list_any (same_triple x) reports ≡ is_waiting reports x
+same_waiting [] x = refl
+same_waiting (y ∷ ys) x = ap₂ ◌||◌ (same_test x y) (same_waiting ys x)
+
+-- an offer that is kept, or not
+pub offered_as : (n : ℕ) (r : Reported) (x : Triple) (kept : Bool) → kept ≡ (nat_lt (length r.reports) most_reports && not (is_waiting r.reports x))
+    → chip_of n (record r { reports = cond kept (r.reports ++ x ∷ []) r.reports }) ≡ offered (chip_of n r) x
+offered_as n r x kept is =
+    ap (λ b. chip_of n (record r { reports = cond b (r.reports ++ x ∷ []) r.reports })) is
+    ∙ by (nat_lt (length r.reports) most_reports) (is_waiting r.reports x)
+    ∙ ap (λ b. cond (b || not (nat_lt (length r.reports) most_reports)) (chip_of n r) (record (chip_of n r) { reports = r.reports ++ x ∷ [] })) (sym (same_waiting r.reports x))
+  where
+    by : (room waits : Bool) → chip_of n (record r { reports = cond (room && not waits) (r.reports ++ x ∷ []) r.reports }) ≡ cond (waits || not room) (chip_of n r) (record (chip_of n r) { reports = r.reports ++ x ∷ [] })
+    by true true = refl
+    by true false = refl
+    by false true = refl
+    by false false = refl
+
+-- a hit and an offer may come in either order
+pub either_order : (c : Chip) (port : ℕ) (station entry : Option Address) → offers port station (hits_entry entry c) ≡ hits_entry entry (offers port station c)
+either_order c port None entry = refl
+either_order c port (Some key) None = refl
+either_order c port (Some key) (Some e) =
+    by (list_any (same_triple (key.0, key.1, port)) c.reports || not (nat_lt (length c.reports) most_reports))
+  where
+    by : (b : Bool) → cond b (hits_entry (Some e) c) (record (hits_entry (Some e) c) { reports = c.reports ++ (key.0, key.1, port) ∷ [] })
+        ≡ hits_entry (Some e) (cond b c (record c { reports = c.reports ++ (key.0, key.1, port) ∷ [] }))
+    by true = refl
+    by false = refl

@@ -1,0 +1,12 @@
+use Rattle.std.proofs.Common.{ap, ◌∙◌}
+use Rattle.br_model.specs.Chip.{Chip, offers, hits_entry}
+use Rattle.plane_core.specs.Chips.{ChipState, chip_of}
+use Rattle.plane_core.proofs.Noting.{either_order}
+use Rattle.plane_core.proofs.chip.Chip.note.Goals as goal
+
+pub returns-clause-ok : goal.returns-clause-ok
+returns-clause-ok c =
+    let k = c.self.inside.count in
+    ap (λ (x : Chip). record { driver = c.self.inside.driver; places = c.self.inside.updates; chip = x })
+    (c.offer.ensures k ∙ ap (offers c.args.port c.args.station) (c.in_ok-hit.ensures.ok k) ∙ either_order (chip_of k c.self.inside.reports) c.args.port c.args.station c.args.entry)
+    ∙ ap (λ (s : ChipState). record s { chip = hits_entry c.args.entry (offers c.args.port c.args.station s.chip) }) c.self.view_is

@@ -1,0 +1,10 @@
+use Rattle.std.proofs.Common.{sym, ap, ◌∙◌}
+use Rattle.br_model.specs.Chip.{offers}
+use Rattle.plane_core.specs.Chips.{chip_of}
+use Rattle.plane_core.proofs.chip.offer.Goals as goal
+
+pub returns-in-Some : goal.returns-in-Some
+returns-in-Some c n = c.offer_report.ensures n ∙ ap (λ o. offers c.args.port o (chip_of n c.args.reports.now)) (sym c.in-Some.is)
+
+pub returns-in-None : goal.returns-in-None
+returns-in-None c n = ap (λ o. offers c.args.port o (chip_of n c.args.reports.now)) (sym c.in-None.is)

@@ -1,0 +1,21 @@
+use Rattle.std.proofs.Common.{◌≡◌, ◌<◌, ◌≤◌, ◌++◌, ◌∷◌, [], length, take, cond, ap, sym, ◌∙◌, arith, List, ℕ}
+use Rattle.std.proofs.lemmas.List.{length-take-le}
+use Rattle.br_model.specs.Change.{deferred}
+use Rattle.br_model.specs.Limits.{most_changes}
+use Rattle.plane_core.specs.Places.{places}
+use Rattle.plane_core.proofs.Placing.{more, few}
+use Rattle.plane_core.proofs.updates.Updates.follow.Goals as goal
+
+pub note-requires : goal.note-requires
+note-requires c =
+    let at = c.loop-place.place in
+    let h = c.args.history.now in
+    let noted : length c.loop-place.self ≤ length (take at h) = rw c.loop-place.invariant (few (take at h)) in
+    let long : length (take at h) ≡ at = length-take-le at h (omega (arith, c.loop-place-test.true)) in
+    omega (arith, c.requires.few, c.loop-place-test.true)
+
+pub loop-place-preserved : goal.loop-place-preserved
+loop-place-preserved c = c.note.ensures
+    ∙ ap (λ ps. cond (deferred c.index-history-place.result) (ps ++ c.loop-place.place ∷ []) ps) c.loop-place.invariant
+    ∙ (ap (λ d. cond (deferred d) (places (take c.loop-place.place c.args.history.now) ++ c.loop-place.place ∷ []) (places (take c.loop-place.place c.args.history.now))) c.index-history-place.is
+    ∙ sym (more c.args.history.now c.loop-place.place c.index-history-place.result c.loop-place-test.true))

@@ -1,0 +1,66 @@
+-- A chip that follows a history: its driver, the places of the deferred changes, and what the definitions keep of it.
+use Rattle.std.specs.Prelude.{◌≡◌, ℕ, ◌<◌, ◌≤◌, Bool, true, false, IsTrue, List, length, take, get_or}
+use Rattle.std.specs.declared.option.Option.{Option}
+use Rattle.std.specs.declared.option.Option.TheVariants.{None, Some}
+use Rattle.br_model.specs.declared.change.Change.{Change}
+use Rattle.br_model.specs.declared.change.Change.TheVariants.{PortUp, PortDown, SetFlags, SetState, VlanAdd, VlanDel, GroupJoin, GroupPart, Router, Querier, Snoop, Stp, AddrPut, AddrDel}
+use Rattle.br_model.specs.Chip.{Chip, applies, chip_table}
+use Rattle.br_model.specs.Cut.{cut, deferred_count}
+use Rattle.br_model.specs.Domains.{Domains}
+use Rattle.br_model.specs.Limits.{fits, most_changes}
+use Rattle.br_model.specs.Table.{table}
+use Rattle.chip_driver.specs.Drives.{Driven, Drives}
+use Rattle.learn_report.specs.Reports.{Reported}
+use Rattle.plane_core.specs.Places.{places}
+
+-- what contracts see of a chip
+pub record ChipState : Type 0 where
+  pub driver : Driven
+  pub places : List ℕ
+  pub chip : Chip
+
+-- so many deferred changes are applied, and this was reported and hit
+abbrev pub chip_of : ℕ → Reported → Chip
+chip_of count r = record { count = count; reports = r.reports; hits = r.hits }
+
+-- Its rows stand for the table by which it decides, and it knows where the deferred changes of the history are, of which it has
+-- applied no more than there are.
+pub record IsChip (domains : Domains) (history : List Change) (c : ChipState) : Type 0 where
+  pub rows : Drives domains c.driver (chip_table history c.chip)
+  pub updates : c.places ≡ places history
+  pub applied : c.chip.count ≤ deferred_count history
+
+-- The driver's rows stand for a cut of the history.
+pub record IsCut (history : List Change) (driver : Driven) : Type 0 where
+  pub domains : Domains
+  pub count : ℕ
+  pub applied : count ≤ deferred_count history
+  pub rows : Drives domains driver (table (cut history count))
+
+-- a state that it sets is one of Linux's
+abbrev pub HasState : Change → Type 0
+HasState (PortUp port) = Unit {0}
+HasState (PortDown port) = Unit {0}
+HasState (SetFlags port flags) = Unit {0}
+HasState (SetState port state) = state ≤ 4
+HasState (VlanAdd port vid untagged pvid) = Unit {0}
+HasState (VlanDel port vid) = Unit {0}
+HasState (GroupJoin port vid group) = Unit {0}
+HasState (GroupPart port vid group) = Unit {0}
+HasState (Router port on) = Unit {0}
+HasState (Querier six on) = Unit {0}
+HasState (Snoop on) = Unit {0}
+HasState (Stp on) = Unit {0}
+HasState (AddrPut vid mac port kind) = Unit {0}
+HasState (AddrDel vid mac) = Unit {0}
+
+-- What is asked of a history: each change fits the table that it finds, and they aren't too many.
+pub record IsHistory (history : List Change) : Type 0 where
+  pub fit : (i : ℕ) (d : Change) → i < length history → IsTrue (fits (table (take i history)) (get_or history i d))
+  pub states : (i : ℕ) (d : Change) → i < length history → HasState (get_or history i d)
+  pub few : length history ≤ most_changes
+
+-- What a turn does: it applies the change that is pending, where one is, and says whether it did.
+abbrev pub Turns : ChipState → ChipState → Option Change → Bool → Type 0
+Turns old new None more = (more ≡ false) × (new ≡ old)
+Turns old new (Some d) more = (more ≡ true) × (new.chip ≡ applies old.chip d)

@@ -1,0 +1,5 @@
+pub mod Queued
+pub mod Places
+pub mod Sent
+pub mod Agreement
+pub mod Chips

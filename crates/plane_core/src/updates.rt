@@ -1,0 +1,93 @@
+//! The deferred changes of a history by their tickets.
+ghost use Rattle.std.specs.Prelude.{◌≡◌, ◌++◌, ◌∷◌, ◌<◌, ◌≤◌, [], length, take, IfOk, slice_get, ◌==◌, if◌then◌else◌};
+ghost use Rattle.br_model.specs.Change.{deferred, updates};
+ghost use Rattle.br_model.specs.Cut.{deferred_count};
+ghost use Rattle.br_model.specs.Limits.{most_changes};
+ghost use Rattle.plane_core.specs.Places.{places};
+
+use crate::NoMemory;
+use br_model::change::{Change, Update};
+use std::alloc::Global;
+use std::marker::Model;
+
+/// How many changes a history holds at most.
+pub const MOST_CHANGES: usize = 1_048_576;
+
+/// Where the deferred changes stand in a history, so that none of them need be sought.
+#[derive(Drop)]
+pub struct Updates {
+    // It has its room from the beginning.
+    places: Vec<u32>,
+}
+
+impl Model for Updates {
+    ghost use Rattle.std.specs.Prelude.{◌≡◌, ◌≤◌, ℕ, List};
+    ghost use Rattle.std.specs.Vec.{vec_capacity};
+
+    ghost Value = { List ℕ };
+
+    ghost view = { λ u. u.places.items };
+
+    ghost invariant = { λ u. 1048576 ≤ vec_capacity u.places };
+}
+
+impl Updates {
+    /// Those of a history without changes. It takes the room for all that there can be.
+    pub fn make(alloc: Global) -> Result<Updates, NoMemory>
+        ensures { IfOk result (λ u. u ≡ places []) }
+    {
+        Ok(Updates {
+            places: Vec::with_capacity(alloc, MOST_CHANGES)?,
+        })
+    }
+
+    /// How many there are.
+    pub fn len(&self) -> usize
+        ensures { result ≡ length self.now }
+    {
+        self.places.len()
+    }
+
+    pub fn is_empty(&self) -> bool
+        ensures { result ≡ (length self.now == 0) }
+    {
+        self.places.is_empty()
+    }
+
+    /// Notes the change that stands at this place, behind those that are noted.
+    fn note(&mut self, change: &Change, place: u32)
+        requires { length self.old < most_changes }
+        ensures { self.new ≡ (if deferred change.now then self.old ++ place ∷ [] else self.old) }
+    {
+        if change.is_deferred() {
+            match self.places.push(place) {
+                Ok(()) => {}
+                Err(_) => unreachable!(),
+            }
+        }
+    }
+
+    /// Notes the changes that a history got behind its first `from` ones.
+    pub fn follow(&mut self, history: &[Change], from: usize)
+        requires from { from ≤ length history.now }
+        requires few { length history.now ≤ most_changes }
+        requires noted { self.old ≡ places (take from history.now) }
+        ensures { self.new ≡ places history.now }
+    {
+        for place in from..history.len() {
+            self.note(&history[place], place as u32);
+        }
+    }
+
+    /// The deferred change of the history with this ticket.
+    pub fn get(&self, history: &[Change], ticket: u32) -> Option<Update>
+        requires { self.now ≡ places history.now }
+        ensures { result ≡ slice_get (updates history.now) ticket }
+    {
+        let place = *self.places.get(ticket as usize)?;
+        Some(Update {
+            ticket,
+            change: history[place as usize],
+        })
+    }
+}
