@@ -1,15 +1,21 @@
 //! Boards by their names in proofs.
 use std::marker::Brand;
 
-/// Which board it is, and which ports are in which domain there. Each call of a program picks it. A name does nothing.
+/// Which board it is, which ports are in which domain there, and the address of the bridge whose plane stands over it. Each call
+/// of a program picks it. A name does nothing.
 pub trait Name {
+    ghost use Rattle.std.specs.Prelude.{ℕ};
     ghost use Rattle.table_publish.specs.Object.{Whose};
 
     ghost board: { Whose };
+
+    ghost own: { ℕ };
 }
 
 impl Name for Brand {
     ghost use Rattle.std.specs.Prelude.{[]};
 
     ghost board = { record { book = record { number = 0; log_name = 0; cells_name = 0 }; domains = [] } };
+
+    ghost own = { 0 };
 }
