@@ -27,6 +27,7 @@ pub mod Rows
 pub mod Running
 pub mod TreeRoots
 pub mod TreeRuns
+pub mod Within
 pub mod Words
 pub mod WrittenAddresses
 pub mod WrittenLines

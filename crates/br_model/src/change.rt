@@ -21,6 +21,9 @@ pub const DISABLED: u8 = 0;
 /// The state of a port that forwards frames (Linux's BR_STATE_FORWARDING).
 pub const FORWARDING: u8 = 3;
 
+/// The last of the states: of a port that passes no frames on (Linux's BR_STATE_BLOCKING).
+pub const BLOCKING: u8 = 4;
+
 /// The flags of a port, a bit each from the lowest on: learning, flood, mcast_flood, bcast_flood, isolated, fastleave.
 #[derive(Clone, Copy, PartialEq, Eq, Debug)]
 pub struct Flags {

@@ -1,6 +1,7 @@
 -- Changes that all fit are all made.
 use Rattle.std.proofs.Common.{◌≡◌, ℕ, zero, suc, ◌<◌, Bool, true, false, cond, ◌&&◌, List, [], ◌∷◌, ◌++◌, length, get_or, take, map, refl, sym, ap, ◌∙◌, arith, append_assoc}
 use Rattle.std.proofs.lemmas.List.{append-nil}
+use Rattle.std.specs.Prelude.{nat_le}
 use Rattle.std.specs.List.{fold, list_all}
 use Rattle.std.specs.Cmp.{first_so, second_so}
 use Rattle.br_model.specs.declared.change.Change.{Change}
@@ -37,18 +38,12 @@ fit_behind t (c ∷ cs) ds h k =
     both (fits t c) (all_fit (apply t c) (cs ++ ds)) (first_so (fits t c) (all_fit (apply t c) cs) h)
     (fit_behind (apply t c) cs ds (second_so (fits t c) (all_fit (apply t c) cs) h) k)
 
--- one of the changes fits the table that it finds
-pub fits_at : (t : Table) (cs : List Change) (i : ℕ) (d : Change) → all_fit t cs ≡ true → i < length cs → fits (fold apply t (take i cs)) (get_or cs i d) ≡ true
-fits_at t [] i d h less = absurd (omega arith)
-fits_at t (c ∷ cs) zero d h less = first_so (fits t c) (all_fit (apply t c) cs) h
-fits_at t (c ∷ cs) (suc i) d h less = fits_at (apply t c) cs i d (second_so (fits t c) (all_fit (apply t c) cs) h) (omega arith)
-
 -- changes that fit every table
 abbrev pub always_fits : Change → Bool
 always_fits (PortUp port) = true
 always_fits (PortDown port) = true
 always_fits (SetFlags port flags) = true
-always_fits (SetState port state) = true
+always_fits (SetState port state) = nat_le state 4
 always_fits (VlanAdd port vid untagged pvid) = true
 always_fits (VlanDel port vid) = true
 always_fits (GroupJoin port vid group) = false
@@ -64,7 +59,7 @@ fits_any : (t : Table) (c : Change) → always_fits c ≡ true → fits t c ≡ 
 fits_any t (PortUp port) h = refl
 fits_any t (PortDown port) h = refl
 fits_any t (SetFlags port flags) h = refl
-fits_any t (SetState port state) h = refl
+fits_any t (SetState port state) h = h
 fits_any t (VlanAdd port vid untagged pvid) h = refl
 fits_any t (VlanDel port vid) h = refl
 fits_any t (GroupJoin port vid group) h = absurd (cc)

@@ -4,7 +4,7 @@ ghost use Rattle.std.specs.List.{filter};
 ghost use Rattle.br_model.specs.Change.{deferred};
 ghost use Rattle.br_model.specs.Control.{first_control};
 ghost use Rattle.br_model.specs.Course.{from};
-ghost use Rattle.br_model.specs.Limits.{most_changes, fits, all_fit};
+ghost use Rattle.br_model.specs.Limits.{all_fit, AreWithin};
 ghost use Rattle.br_model.specs.Maps.{pair_cmp, get};
 ghost use Rattle.fdb_core.specs.Fdb.{place};
 ghost use Rattle.br_model.specs.Reaction.{ages, in_room, learns, react as reaction};
@@ -250,11 +250,10 @@ impl Bridge {
         self.state.addresses.entry(vid, mac)
     }
 
-    /// The accepted changes in order. Each of them fits the table that it finds.
+    /// The accepted changes in order.
     pub fn history(&self) -> &[Change]
         ensures value { result.now ≡ self.now.history }
-        ensures few { length self.now.history ≤ most_changes }
-        ensures fit { (i : ℕ) (d : Change) → i < length self.now.history → IsTrue (fits (table (take i self.now.history)) (get_or self.now.history i d)) }
+        ensures within { AreWithin self.now.history }
     {
         self.history.as_slice()
     }

@@ -1,8 +1,7 @@
 //! The tables that software decides by.
-ghost use Rattle.std.specs.Prelude.{◌≡◌, ℕ, ◌<◌, ◌≤◌, take, length, get_or, IfOk, IsTrue};
-ghost use Rattle.br_model.specs.Limits.{fits, most_changes};
+ghost use Rattle.std.specs.Prelude.{◌≡◌, ◌≤◌, take, length, IfOk};
+ghost use Rattle.br_model.specs.Limits.{AreWithin};
 ghost use Rattle.br_model.specs.Table.{table as table_of, start};
-ghost use Rattle.br_model.specs.declared.change.Change.{Change};
 
 use crate::NoMemory;
 use br_model::change::Change;
@@ -28,9 +27,8 @@ impl Published {
 
     /// The whole history is published, of which the first changes were.
     pub(crate) fn catch_up(&mut self, history: &[Change])
-        requires few { length history.now ≤ most_changes }
-        requires fit { (i : ℕ) (d : Change) → i < length history.now → IsTrue (fits (table_of (take i history.now)) (get_or history.now i d)) }
-        requires within { self.old.count ≤ length history.now }
+        requires within { AreWithin history.now }
+        requires from { self.old.count ≤ length history.now }
         requires tables { self.old.tables ≡ table_of (take self.old.count history.now) }
         ensures count { self.new.count ≡ length history.now }
         ensures tables { self.new.tables ≡ table_of history.now }

@@ -85,10 +85,10 @@ impl SoftTables {
         match *c {
             Change::GroupJoin { vid, group, .. } => self.ports.has_room(vid, group),
             Change::AddrPut { vid, mac, .. } => self.has_room_at(vid, mac),
+            Change::SetState(_, state) => state <= BLOCKING,
             Change::PortUp(_)
             | Change::PortDown(_)
             | Change::SetFlags(..)
-            | Change::SetState(..)
             | Change::VlanAdd { .. }
             | Change::VlanDel { .. }
             | Change::GroupPart { .. }

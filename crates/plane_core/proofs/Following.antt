@@ -1,5 +1,6 @@
 -- A driver that follows a history: what it is asked to take is taken, and its rows stand for the cut after each change and each turn.
 use Rattle.std.proofs.Common.{◌≡◌, ℕ, ◌+◌, ◌<◌, ◌≤◌, true, false, List, [], ◌∷◌, ◌++◌, length, take, drop, get_or, Option, None, Some, option_map, slice_get, refl, sym, ap, ◌∙◌, arith, subst}
+use Rattle.std.proofs.lemmas.Bool.{leb-true}
 use Rattle.std.proofs.lemmas.List.{take_more, take-append-drop, length-map}
 use Rattle.std.proofs.lemmas.List.Sums.{length-filter, count_by-le-length}
 use Rattle.std.specs.Prelude.{IsTrue, if◌then◌else◌}
@@ -11,7 +12,7 @@ use Rattle.br_model.specs.Cut.{cut, deferred_at, deferred_count, under_ticket}
 use Rattle.br_model.specs.Domains.{Domains}
 use Rattle.br_model.specs.GroupPairs.{has_room}
 use Rattle.br_model.specs.Groups.{Membership}
-use Rattle.br_model.specs.Limits.{fits, most_addresses}
+use Rattle.br_model.specs.Limits.{fits, most_addresses, AreWithin}
 use Rattle.br_model.specs.Maps.{pair_cmp, put, without}
 use Rattle.br_model.specs.Table.{Table, apply, table}
 use Rattle.br_model.proofs.ApplyingLaws.{deferred_count-append}
@@ -21,35 +22,35 @@ use Rattle.chip_tables.specs.Rows.{max_addresses}
 use Rattle.chip_tables.specs.Stands.{address_wanted}
 use Rattle.chip_driver.specs.Drives.{Driven, Drives, IsTaken}
 use Rattle.chip_driver.proofs.GroupRows.{mapped-put, mapped-without}
-use Rattle.plane_core.specs.Chips.{ChipState, HasState, IsHistory, Turns}
+use Rattle.plane_core.specs.Chips.{ChipState, Turns}
 use Rattle.plane_core.proofs.Rooms.{few-front}
 
 -- what fits the table of a history fits a driver that stands for a cut of it
-pub taken_now : (domains : Domains) (driver : Driven) (H : List Change) (k : ℕ) (c : Change) → Drives domains driver (table (cut H k)) → IsTrue (fits (table H) c) → HasState c → deferred c ≡ false → IsTaken driver c
-taken_now domains driver H k (PortUp port) stands fit state now = tt
-taken_now domains driver H k (PortDown port) stands fit state now = tt
-taken_now domains driver H k (SetFlags port flags) stands fit state now = tt
-taken_now domains driver H k (SetState port number) stands fit state now = state
-taken_now domains driver H k (VlanAdd port vid untagged pvid) stands fit state now = tt
-taken_now domains driver H k (VlanDel port vid) stands fit state now = tt
-taken_now domains driver H k (GroupJoin port vid group) stands fit state now =
+pub taken_now : (domains : Domains) (driver : Driven) (H : List Change) (k : ℕ) (c : Change) → Drives domains driver (table (cut H k)) → IsTrue (fits (table H) c) → deferred c ≡ false → IsTaken driver c
+taken_now domains driver H k (PortUp port) stands fit now = tt
+taken_now domains driver H k (PortDown port) stands fit now = tt
+taken_now domains driver H k (SetFlags port flags) stands fit now = tt
+taken_now domains driver H k (SetState port number) stands fit now = leb-true number 4 fit
+taken_now domains driver H k (VlanAdd port vid untagged pvid) stands fit now = tt
+taken_now domains driver H k (VlanDel port vid) stands fit now = tt
+taken_now domains driver H k (GroupJoin port vid group) stands fit now =
     subst (λ (ms : List Membership). IsTrue (has_room ms vid group)) (sym (stands.groups ∙ ap (λ (t : Table). t.groups) (table-cut H k))) fit
-taken_now domains driver H k (GroupPart port vid group) stands fit state now = tt
-taken_now domains driver H k (Router port on) stands fit state now = tt
-taken_now domains driver H k (Querier six on) stands fit state now = tt
-taken_now domains driver H k (Snoop on) stands fit state now = tt
-taken_now domains driver H k (Stp on) stands fit state now = tt
-taken_now domains driver H k (AddrPut vid mac port kind) stands fit state now = absurd (cc)
-taken_now domains driver H k (AddrDel vid mac) stands fit state now = absurd (cc)
+taken_now domains driver H k (GroupPart port vid group) stands fit now = tt
+taken_now domains driver H k (Router port on) stands fit now = tt
+taken_now domains driver H k (Querier six on) stands fit now = tt
+taken_now domains driver H k (Snoop on) stands fit now = tt
+taken_now domains driver H k (Stp on) stands fit now = tt
+taken_now domains driver H k (AddrPut vid mac port kind) stands fit now = absurd (cc)
+taken_now domains driver H k (AddrDel vid mac) stands fit now = absurd (cc)
 
 -- The driver has room for the next deferred change, since the table that it makes is that of a cut.
-room_next : (H : List Change) (k : ℕ) (d : Change) → IsHistory H → deferred_at H k ≡ Some d → length (apply (table (cut H k)) d).addr ≤ most_addresses
+room_next : (H : List Change) (k : ℕ) (d : Change) → AreWithin H → deferred_at H k ≡ Some d → length (apply (table (cut H k)) d).addr ≤ most_addresses
 room_next H k d is at = subst (λ (t : Table). length t.addr ≤ most_addresses) (cut-turn H k d at) (addr-within most_addresses H (k + 1) (few-front H is))
 
 late : {A : Type 0} (H : List Change) (k : ℕ) (c : Change) → deferred_at H k ≡ Some c → deferred c ≡ false → A
 late H k c at now = absurd (let e : true ≡ false = sym (deferred_at-deferred H k c at).0 ∙ now in cc)
 
-pub taken_next : (domains : Domains) (driver : Driven) (H : List Change) (k : ℕ) (d : Change) → Drives domains driver (table (cut H k)) → IsHistory H → deferred_at H k ≡ Some d → IsTaken driver d
+pub taken_next : (domains : Domains) (driver : Driven) (H : List Change) (k : ℕ) (d : Change) → Drives domains driver (table (cut H k)) → AreWithin H → deferred_at H k ≡ Some d → IsTaken driver d
 taken_next domains driver H k (PortUp port) stands is at = tt
 taken_next domains driver H k (PortDown port) stands is at = tt
 taken_next domains driver H k (SetFlags port flags) stands is at = tt
@@ -107,7 +108,7 @@ pub still_applied : (H : List Change) (from k : ℕ) → k ≤ deferred_count (t
 still_applied H from k n =
     subst (λ (cs : List Change). k ≤ deferred_count cs) (take-append-drop from H) (omega (arith, n, deferred_count-append (take from H) (drop from H)))
 
-pub count_below : (H : List Change) (k : ℕ) (d : Change) → IsHistory H → deferred_at H k ≡ Some d → k < 1048576
+pub count_below : (H : List Change) (k : ℕ) (d : Change) → AreWithin H → deferred_at H k ≡ Some d → k < 1048576
 count_below H k d is at = omega (arith, is.few, (deferred_at-deferred H k d at).1, length-filter deferred H, count_by-le-length deferred H)
 
 pub turned : (H : List Change) (old new : ChipState) (d : Change) → deferred_at H old.chip.count ≡ Some d → new.chip ≡ applies old.chip d → Turns old new (deferred_at H old.chip.count) true

@@ -9,11 +9,10 @@ use Rattle.std.specs.Ordering.{eq_by_cmp}
 use Rattle.br_model.specs.declared.change.Change.{Change}
 use Rattle.br_model.specs.declared.change.Change.TheVariants.{AddrPut, AddrDel, Snoop}
 use Rattle.br_model.specs.declared.change.Kind.{Kind}
-use Rattle.br_model.specs.Limits.{fits, most_addresses}
+use Rattle.br_model.specs.Limits.{fits, most_addresses, AreWithin}
 use Rattle.br_model.specs.Maps.{pair_cmp, get, put, without, is_ascending}
 use Rattle.br_model.specs.Table.{Table, start, apply, table}
 use Rattle.br_model.proofs.PairKeys.{pair_total}
-use Rattle.plane_core.specs.Chips.{IsHistory}
 
 abbrev Entries : Type 0
 Entries = List ((ℕ × ℕ) × (ℕ × Kind))
@@ -54,7 +53,7 @@ room-apply t (AddrDel v a) room fit = record {
 }
 room-apply t c room fit = room
 
-room-front : (H : List Change) → IsHistory H → (n : ℕ) → HasRoom (table (take n H)).addr
+room-front : (H : List Change) → AreWithin H → (n : ℕ) → HasRoom (table (take n H)).addr
 room-front H is zero = record { ascend = refl; few = omega arith }
 room-front H is (suc n) =
     ⊎_elim
@@ -66,5 +65,5 @@ room-front H is (suc n) =
     subst (λ (cs : List Change). HasRoom (table cs).addr) (take_all n H h ∙ sym (take_all (suc n) H (omega (arith, h)))) (room-front H is n))
     (cases_lt n (length H))
 
-pub few-front : (H : List Change) → IsHistory H → (n : ℕ) → length (table (take n H)).addr ≤ most_addresses
+pub few-front : (H : List Change) → AreWithin H → (n : ℕ) → length (table (take n H)).addr ≤ most_addresses
 few-front H is n = (room-front H is n).few

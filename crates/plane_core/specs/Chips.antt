@@ -37,29 +37,6 @@ pub record IsCut (history : List Change) (driver : Driven) : Type 0 where
   pub applied : count ≤ deferred_count history
   pub rows : Drives domains driver (table (cut history count))
 
--- a state that it sets is one of Linux's
-abbrev pub HasState : Change → Type 0
-HasState (PortUp port) = Unit {0}
-HasState (PortDown port) = Unit {0}
-HasState (SetFlags port flags) = Unit {0}
-HasState (SetState port state) = state ≤ 4
-HasState (VlanAdd port vid untagged pvid) = Unit {0}
-HasState (VlanDel port vid) = Unit {0}
-HasState (GroupJoin port vid group) = Unit {0}
-HasState (GroupPart port vid group) = Unit {0}
-HasState (Router port on) = Unit {0}
-HasState (Querier six on) = Unit {0}
-HasState (Snoop on) = Unit {0}
-HasState (Stp on) = Unit {0}
-HasState (AddrPut vid mac port kind) = Unit {0}
-HasState (AddrDel vid mac) = Unit {0}
-
--- What is asked of a history: each change fits the table that it finds, and they aren't too many.
-pub record IsHistory (history : List Change) : Type 0 where
-  pub fit : (i : ℕ) (d : Change) → i < length history → IsTrue (fits (table (take i history)) (get_or history i d))
-  pub states : (i : ℕ) (d : Change) → i < length history → HasState (get_or history i d)
-  pub few : length history ≤ most_changes
-
 -- What a turn does: it applies the change that is pending, where one is, and says whether it did.
 abbrev pub Turns : ChipState → ChipState → Option Change → Bool → Type 0
 Turns old new None more = (more ≡ false) × (new ≡ old)

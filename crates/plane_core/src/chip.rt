@@ -4,10 +4,11 @@ ghost use Rattle.br_model.specs.Change.{deferred, updates};
 ghost use Rattle.br_model.specs.Chip.{Chip as ChipValue, first_chip, hit_by, offered, offers, hits_entry};
 ghost use Rattle.br_model.specs.Cut.{cut, deferred_at, deferred_count};
 ghost use Rattle.br_model.specs.Domains.{Domains as DomainsValue, chip};
+ghost use Rattle.br_model.specs.Limits.{AreWithin};
 ghost use Rattle.br_model.specs.Table.{Table, apply, table};
 ghost use Rattle.chip_driver.specs.Drives.{Drives, IsTaken};
 ghost use Rattle.plane_core.specs.Places.{places};
-ghost use Rattle.plane_core.specs.Chips.{chip_of, IsChip, IsCut, IsHistory, Turns};
+ghost use Rattle.plane_core.specs.Chips.{chip_of, IsChip, IsCut, Turns};
 
 use crate::NoMemory;
 use crate::updates::Updates;
@@ -60,7 +61,7 @@ fn tell(driver: &mut Driver, change: &Change)
 /// Tells the driver of the synchronous changes that a history got behind its first `from` ones.
 fn tell_from(driver: &mut Driver, history: &[Change], from: usize)
     requires from { from ≤ length history.now }
-    requires history { IsHistory history.now }
+    requires history { AreWithin history.now }
     requires stands { IsCut (take from history.now) driver.old }
     ensures { (domains : DomainsValue) (k : ℕ) → k ≤ deferred_count (take from history.now) → Drives domains driver.old (table (cut (take from history.now) k)) → Drives domains driver.new (table (cut history.now k)) }
 {
@@ -151,7 +152,7 @@ impl Chip {
     /// the deferred ones wait.
     pub fn follow(&mut self, history: &[Change], from: usize)
         requires from { from ≤ length history.now }
-        requires history { IsHistory history.now }
+        requires history { AreWithin history.now }
         requires stands { (domains : DomainsValue) × IsChip domains (take from history.now) self.old }
         ensures stands { (domains : DomainsValue) → IsChip domains (take from history.now) self.old → IsChip domains history.now self.new }
         ensures chip { self.new.chip ≡ self.old.chip }
@@ -170,7 +171,7 @@ impl Chip {
 
     /// Applies the next deferred change, and sets the hit of the entry that it puts. `false` exactly where none is pending.
     pub fn turn(&mut self, history: &[Change]) -> Result<bool, NoMemory>
-        requires history { IsHistory history.now }
+        requires history { AreWithin history.now }
         requires stands { (domains : DomainsValue) × IsChip domains history.now self.old }
         ensures stands { (domains : DomainsValue) → IsChip domains history.now self.old → IsChip domains history.now self.new }
         ensures ok { IfOk result (λ more. Turns self.old self.new (deferred_at history.now self.old.chip.count) more) }

@@ -1,4 +1,3 @@
 pub mod Objects
 pub mod Adding
 pub mod Keeping
-pub mod Within

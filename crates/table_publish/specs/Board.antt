@@ -7,7 +7,6 @@ use Rattle.br_model.specs.Admission.{admit}
 use Rattle.br_model.specs.Class.{class}
 use Rattle.br_model.specs.Domains.{Domains}
 use Rattle.br_model.specs.Leave.{ports_out}
-use Rattle.br_model.specs.Limits.{fits, most_changes}
 use Rattle.br_model.specs.Table.{Table, table}
 use Rattle.forward_rules.specs.declared.soft_tables.Verdict.{Verdict}
 use Rattle.forward_rules.specs.Verdicts.{untagged_among}
@@ -41,11 +40,6 @@ newcomer b = record { board = b; object = first_object; misses = 0 }
 -- a count rose, or stands at its last value
 abbrev pub Rises : ℕ → ℕ → Type 0
 Rises old new = (old < new) ⊎ ((old ≡ 18446744073709551615) × (new ≡ old))
-
--- each change fits the table of those before it, and there are not more than a history has
-pub record AreWithin (changes : List Change) : Type 0 where
-  pub few : length changes ≤ most_changes
-  pub fit : (i : ℕ) (d : Change) → i < length changes → IsTrue (fits (table (take i changes)) (get_or changes i d))
 
 -- the verdict is what this table decides of a frame at the port
 pub record Decides (domains : Domains) (t : Table) (port : ℕ) (head : Head) (msg : McastMsg) (verdict : Verdict) : Type 0 where

@@ -18,7 +18,7 @@ tell-requires c now =
     let d = c.index-history-place.result in
     subst (IsTaken c.loop-place.driver) (sym c.index-history-place.is)
     (taken_now stands.domains c.loop-place.driver (take c.loop-place.place c.args.history.now) stands.count _ here.1
-    (c.requires.history.fit c.loop-place.place d c.loop-place-test.true) (c.requires.history.states c.loop-place.place d c.loop-place-test.true) (ap deferred (sym c.index-history-place.is) ∙ now))
+    (c.requires.history.fit c.loop-place.place d c.loop-place-test.true) (ap deferred (sym c.index-history-place.is) ∙ now))
 
 pub loop-place-preserved : goal.loop-place-preserved
 loop-place-preserved c domains k n before =

@@ -1,8 +1,8 @@
 use Rattle.std.proofs.Common.{◌≡◌, List, [], ◌∷◌, ◌++◌, true, refl, sym, subst, arith}
 use Rattle.br_model.specs.declared.change.Change.{Change}
 use Rattle.br_model.specs.declared.change.Change.TheVariants.{PortUp, SetState, VlanAdd}
-use Rattle.table_publish.specs.Board.{AreWithin}
-use Rattle.table_publish.proofs.Within.{within_of}
+use Rattle.br_model.specs.Limits.{AreWithin}
+use Rattle.br_model.proofs.Within.{within_of}
 use Rattle.table_publish.proofs.tests.append_port.Goals as goal
 
 pub append-requires : goal.append-requires

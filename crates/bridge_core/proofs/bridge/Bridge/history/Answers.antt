@@ -1,11 +1,10 @@
-use Rattle.std.proofs.Common.{true, ◌≡◌, ap, sym, ◌∙◌}
-use Rattle.br_model.specs.Limits.{all_fit}
+use Rattle.std.proofs.Common.{true, ◌≡◌, ◌≤◌, length, ap, sym, ◌∙◌, subst}
+use Rattle.br_model.specs.Limits.{all_fit, most_changes, AreWithin}
 use Rattle.br_model.specs.Table.{start}
+use Rattle.br_model.proofs.Within.{within_of}
 use Rattle.bridge_core.specs.Kept.{Controlled}
-use Rattle.bridge_core.proofs.Fitting.{fits_at}
 use Rattle.bridge_core.proofs.bridge.Bridge.history.Goals as goal
 
-pub returns-clause-fit : goal.returns-clause-fit
-returns-clause-fit c =
-    let kept : all_fit start c.args.self.now.history ≡ true = ap (λ (b : Controlled). all_fit start b.history) (sym c.self.view_is) ∙ c.self.invariant.3 in
-    λ i d less. fits_at start c.args.self.now.history i d kept less
+pub returns-clause-within : goal.returns-clause-within
+returns-clause-within c =
+    subst (λ (b : Controlled). AreWithin b.history) c.self.view_is (within_of c.self.inside.history.items c.self.invariant.2 c.self.invariant.3)

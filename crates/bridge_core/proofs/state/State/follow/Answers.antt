@@ -3,7 +3,7 @@ use Rattle.br_model.specs.declared.change.Change.{Change}
 use Rattle.br_model.specs.Limits.{fits}
 use Rattle.br_model.specs.Table.{Table, apply}
 use Rattle.bridge_core.specs.Standing.{table_of}
-use Rattle.bridge_core.proofs.Fitting.{fits_at}
+use Rattle.br_model.proofs.Within.{fits_at}
 use Rattle.bridge_core.proofs.state.State.follow.Goals as goal
 
 pub apply-requires : goal.apply-requires
