@@ -1,4 +1,8 @@
 //! What a frame's first bytes say.
+ghost use Rattle.std.specs.Prelude.{◌≡◌};
+ghost use Rattle.br_model.specs.Admission.{has_valid_source};
+ghost use Rattle.br_model.specs.Class.{is_snooped};
+
 use crate::group::Group;
 use crate::numbers::Mac;
 
@@ -18,6 +22,15 @@ pub struct Head {
     pub tag: Option<Tag>,
     pub kind: u16,
     pub body: usize,
+}
+
+impl Head {
+    /// Whether the source is one station's address.
+    pub fn has_valid_source(&self) -> bool
+        ensures { result ≡ has_valid_source self.now }
+    {
+        !self.src.is_multicast() && self.src.number() != 0
+    }
 }
 
 /// What a chip does with a frame that enters on one of its ports.
@@ -55,6 +68,22 @@ pub enum McastMsg {
     /// `count` records, from byte `first` of the frame on.
     Records { six: bool, first: usize, count: u16 },
     Unrecognized,
+}
+
+impl McastMsg {
+    /// Whether snooping wants to see it.
+    pub fn is_snooped(&self) -> bool
+        ensures { result ≡ is_snooped self.now }
+    {
+        match self {
+            McastMsg::Plain | McastMsg::Payload(_) => false,
+            McastMsg::Query { .. }
+            | McastMsg::Report(_)
+            | McastMsg::Leave(_)
+            | McastMsg::Records { .. }
+            | McastMsg::Unrecognized => true,
+        }
+    }
 }
 
 /// What one record of a report says of a group.

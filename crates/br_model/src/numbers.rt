@@ -1,6 +1,7 @@
 //! Numbers that their types keep in range: ports, domains, VLANs and addresses.
 ghost use Rattle.std.specs.Prelude.{◌≡◌, ◌==◌, ◌≤◌, ◌<◌, ◌*◌, ◌^◌, ◌↔◌, IsSome, IfSome};
 ghost use Rattle.br_model.specs.Numbers.{number, is_multicast};
+ghost use Rattle.br_model.specs.Targets.{is_for_the_host};
 
 use std::marker::Model;
 
@@ -209,5 +210,12 @@ impl Mac {
         ensures { result ≡ is_multicast self }
     {
         self.number >> 40 & 1 == 1
+    }
+
+    /// Whether it is one of 01-80-C2-00-00-02 to 0F.
+    pub fn is_for_the_host(self) -> bool
+        ensures { result ≡ is_for_the_host self }
+    {
+        Mac::PAUSE_ADDRESS < self.number && self.number <= Mac::LAST_RESERVED_ADDRESS
     }
 }

@@ -1,6 +1,5 @@
 //! What a frame teaches: behind which port its source is.
 ghost use Rattle.std.specs.Prelude.{◌≡◌, ◌==◌};
-ghost use Rattle.br_model.specs.Admission.{has_valid_source};
 ghost use Rattle.br_model.specs.Learning.{teach, is_reserved};
 ghost use Rattle.bridge_core.specs.Lessons.{lesson_of, is_taken};
 ghost use Rattle.bridge_core.specs.Standing.{table_of};
@@ -28,22 +27,15 @@ fn is_reserved(state: &State, head: &Head) -> bool
 {
     let address = head.dst.number();
     address == Mac::PAUSE_ADDRESS
-        || (Mac::PAUSE_ADDRESS < address && address <= Mac::LAST_RESERVED_ADDRESS)
+        || head.dst.is_for_the_host()
         || (address == Mac::BRIDGE_GROUP_ADDRESS && state.ports.stp())
-}
-
-/// Whether the source is one station's address.
-fn has_valid_source(head: &Head) -> bool
-    ensures { result ≡ has_valid_source head.now }
-{
-    !head.src.is_multicast() && head.src.number() != 0
 }
 
 /// What the frame teaches at the port, where it teaches.
 pub fn teach(state: &State, port: Port, head: &Head) -> Option<Key>
     ensures { result ≡ teach (table_of state.now) port head.now }
 {
-    if is_reserved(state, head) || !has_valid_source(head) {
+    if is_reserved(state, head) || !head.has_valid_source() {
         return None;
     }
     match state.ports.vlan_of(port, head) {

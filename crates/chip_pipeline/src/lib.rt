@@ -6,7 +6,6 @@
 mod answer;
 mod egress;
 mod entries;
-mod frames;
 mod lookup;
 mod pipeline;
 mod ports;

@@ -14,7 +14,6 @@ ghost use Rattle.chip_pipeline.specs.declared.vlans.Vlan.{Vlan};
 
 use crate::answer::{Pass, Sent};
 use crate::egress::send;
-use crate::frames::has_valid_source;
 use crate::lookup::lookup;
 use crate::ports::forwards;
 use crate::sources::sight;
@@ -65,7 +64,7 @@ fn admitted(t: &Tables, p: Port, row: &PortRow, vlan: &Option<Vlan>, h: &Head) -
     ensures vid { (d : Domains) (table : Table) → Stands d t.now table → option_map (λ (v : Vlan). v.vid) result ≡ (if is_forwarding table p && has_valid_source h.now then option_map (λ (v : Vlan). v.vid) vlan.now else None) }
 {
     let _number = p.number();
-    if forwards(row) && has_valid_source(h) {
+    if forwards(row) && h.has_valid_source() {
         *vlan
     } else {
         None

@@ -13,7 +13,6 @@ ghost use Rattle.chip_pipeline.specs.Ways.{entry_wanted};
 ghost use Rattle.chip_pipeline.specs.declared.vlans.Vlan.{Vlan};
 
 use crate::entries::address_row;
-use crate::frames::has_valid_source;
 use crate::ports::{forwards, is_learning, learns};
 use crate::traps::is_reserved;
 use crate::vlans::Vlan;
@@ -41,7 +40,7 @@ pub fn sight(
     ensures report { (d : Domains) (t : Table) → Stands d tables.now t → option_map (λ (v : Vlan). v.vid) vlan.now ≡ vlan_of t port head.now → result.report ≡ report t port head.now }
     ensures hit { (d : Domains) (t : Table) → Stands d tables.now t → option_map (λ (v : Vlan). v.vid) vlan.now ≡ vlan_of t port head.now → result.hit ≡ hit_of t port head.now }
 {
-    if !has_valid_source(head) {
+    if !head.has_valid_source() {
         return unseen();
     }
     match vlan {

@@ -9,7 +9,6 @@ ghost use Rattle.br_model.specs.Targets.{bridge_group_address, pause_address, is
 ghost use Rattle.chip_tables.specs.Rows.{port_at};
 ghost use Rattle.chip_tables.specs.Stands.{Stands};
 
-use crate::frames::{has_valid_source, is_for_the_host};
 use br_model::frame::{Head, McastMsg};
 use br_model::numbers::{Mac, Port};
 use chip_tables::{PortRow, Tables};
@@ -49,7 +48,7 @@ pub fn is_for_tree(tables: &Tables, port: Port, row: &PortRow, head: &Head) -> b
 fn speaks(row: &PortRow, head: &Head) -> bool
     ensures { result ≡ (row.now.up && has_valid_source head.now) }
 {
-    row.up && has_valid_source(head)
+    row.up && head.has_valid_source()
 }
 
 /// Whether frames to the destination teach nothing.
@@ -63,7 +62,7 @@ pub fn is_reserved(tables: &Tables, head: &Head) -> bool
 fn is_always_reserved(head: &Head) -> bool
     ensures { result ≡ (head.now.dst == pause_address || is_for_the_host head.now.dst) }
 {
-    head.dst.number() == Mac::PAUSE_ADDRESS || is_for_the_host(head)
+    head.dst.number() == Mac::PAUSE_ADDRESS || head.dst.is_for_the_host()
 }
 
 /// Whether the destination is one of 01-80-C2-00-00-02 to 0F, all of which are trapped.
@@ -81,7 +80,7 @@ fn host_row(head: &Head) -> Option<usize>
     ensures some { is_some result ≡ is_for_the_host head.now.dst }
     ensures range { IfSome result (λ i. (2 ≤ i) × (i < 16)) }
 {
-    if is_for_the_host(head) {
+    if head.dst.is_for_the_host() {
         Some((head.dst.number() & 15) as usize)
     } else {
         None

@@ -5,7 +5,6 @@
 
 mod flag_table;
 mod foreign;
-mod frames;
 mod place;
 pub mod port_tables;
 pub mod soft_tables;

@@ -21,7 +21,6 @@ ghost use Rattle.forward_rules.specs.Verdicts.{ports_after};
 
 use crate::NoMemory;
 use crate::flag_table::FlagTable;
-use crate::frames::{has_valid_source, is_for_the_host, is_snooped};
 use crate::place::placed;
 use crate::state_table::StateTable;
 use br_model::change::{Change, DISABLED, Flags};
@@ -267,7 +266,7 @@ impl PortTables {
     pub fn admit(&self, port: Port, head: &Head) -> Option<Vid>
         ensures { result ≡ admit self.now port head.now }
     {
-        if self.is_forwarding(port) && has_valid_source(head) {
+        if self.is_forwarding(port) && head.has_valid_source() {
             self.vlan_of(port, head)
         } else {
             None
@@ -293,7 +292,7 @@ impl PortTables {
         head.dst.number() == Mac::BRIDGE_GROUP_ADDRESS
             && self.stp
             && self.up.has(port.number())
-            && has_valid_source(head)
+            && head.has_valid_source()
     }
 
     /// The members that the VLAN's frames leave without a tag.
@@ -396,7 +395,7 @@ impl PortTables {
     {
         if self.is_for_nobody(head) {
             Ports::empty()
-        } else if is_for_the_host(head) {
+        } else if head.dst.is_for_the_host() {
             Ports::empty().with(Port::HOST.number())
         } else if head.dst.number() == Mac::BROADCAST_ADDRESS {
             self.broadcast_flood()
@@ -411,6 +410,6 @@ impl PortTables {
     pub fn snoops(&self, msg: &McastMsg) -> bool
         ensures { result ≡ (self.now.snoop && is_snooped msg.now) }
     {
-        self.snoop && is_snooped(msg)
+        self.snoop && msg.is_snooped()
     }
 }

@@ -16,9 +16,8 @@ ghost use Rattle.br_model.specs.declared.change.Change.TheVariants as Change;
 
 use crate::NoMemory;
 use crate::foreign::{class_by, is_foreign};
-use crate::frames::is_for_the_host;
 use crate::port_tables::PortTables;
-use br_model::change::{Change, Kind};
+use br_model::change::{BLOCKING, Change, Kind};
 use br_model::domains::Domains;
 use br_model::frame::{Class, Head, McastMsg};
 use br_model::numbers::{Mac, Port, Vid};
@@ -250,7 +249,7 @@ fn nowhere(class: Class, vid: Option<Vid>) -> Verdict
 fn reaches_host(head: &Head, eligible: &Ports) -> bool
     ensures { result ≡ (is_for_the_host head.now.dst && has_number eligible.now host) }
 {
-    is_for_the_host(head) && eligible.has(Port::HOST.number())
+    head.dst.is_for_the_host() && eligible.has(Port::HOST.number())
 }
 
 /// Whether the frame is for a known station behind a port of another domain, and that port may take it.

@@ -227,7 +227,7 @@ impl Table {
     pub fn admit(&self, port: Port, head: &Head) -> Option<Vid>
         ensures { result ≡ admit self.now port head.now }
     {
-        if self.is_forwarding(port) && is_valid(head) {
+        if self.is_forwarding(port) && head.has_valid_source() {
             self.vlan_of(port, head)
         } else {
             None
@@ -262,7 +262,7 @@ impl Table {
         head.dst.number() == Mac::BRIDGE_GROUP_ADDRESS
             && self.stp
             && self.is_up(port)
-            && is_valid(head)
+            && head.has_valid_source()
     }
 
     /// Whether port q may take a frame of the VLAN that came by port p.
@@ -386,7 +386,7 @@ impl Table {
         let address = head.dst.number();
         if (address == Mac::BRIDGE_GROUP_ADDRESS && self.stp) || address == Mac::PAUSE_ADDRESS {
             Ok(Vec::new(alloc))
-        } else if is_for_the_host(head) {
+        } else if head.dst.is_for_the_host() {
             Ok(vec![in alloc; Port::HOST]?)
         } else if address == Mac::BROADCAST_ADDRESS {
             self.host_and(alloc, Flags::BCAST_FLOOD)
@@ -463,8 +463,8 @@ impl Table {
         let Some(vid) = self.admit(port, head) else {
             return false;
         };
-        (self.snoop && is_snooped(msg))
-            || (is_for_the_host(head) && self.may_take(port, Port::HOST, vid))
+        (self.snoop && msg.is_snooped())
+            || (head.dst.is_for_the_host() && self.may_take(port, Port::HOST, vid))
             || self.crosses(domains, port, vid, head)
     }
 
@@ -516,21 +516,6 @@ fn is_set(bits: u8, place: u8) -> bool
     bits >> place & 1 == 1
 }
 
-/// Whether the source is one station's address.
-fn is_valid(head: &Head) -> bool
-    ensures { result ≡ has_valid_source head.now }
-{
-    !head.src.is_multicast() && head.src.number() != 0
-}
-
-/// Whether the destination is one of 01-80-C2-00-00-02 to 0F.
-fn is_for_the_host(head: &Head) -> bool
-    ensures { result ≡ is_for_the_host head.now.dst }
-{
-    let address = head.dst.number();
-    Mac::PAUSE_ADDRESS < address && address <= Mac::LAST_RESERVED_ADDRESS
-}
-
 fn is_foreign(domains: &Domains, p: Port, q: Port) -> bool
     ensures { result ≡ foreign domains.now p q }
 {
@@ -554,20 +539,6 @@ fn class_by(domains: &Domains, port: Port, ports: &[Port]) -> Class
         Class::Copy
     } else {
         Class::Forward
-    }
-}
-
-/// Whether snooping wants to see the message.
-fn is_snooped(msg: &McastMsg) -> bool
-    ensures { result ≡ is_snooped msg.now }
-{
-    match msg {
-        McastMsg::Plain | McastMsg::Payload(_) => false,
-        McastMsg::Query { .. }
-        | McastMsg::Report(_)
-        | McastMsg::Leave(_)
-        | McastMsg::Records { .. }
-        | McastMsg::Unrecognized => true,
     }
 }
 
