@@ -13,6 +13,7 @@ pub mod Least
 pub mod MapLaws
 pub mod MessageRows
 pub mod PairKeys
+pub mod PlaneAgreement
 pub mod PlaneApplied
 pub mod PlaneFates
 pub mod PlaneHistory

@@ -57,7 +57,7 @@ sent-other id i [] e = refl
 sent-other id i (x ∷ out) e = ap (λ b. cond b ((x.0, x.1) ∷ []) [] ++ sent_of id (sent i out)) e ∙ sent-other id i out e
 
 -- what the lines of a sent frame, and then others that send nothing, say of this id
-sent_of-sent : (id i : ℕ) (out : Sent) (end : List Line) → sent_of id end ≡ [] → sent_of id (sent i out ++ end) ≡ cond (i == id) out []
+pub sent_of-sent : (id i : ℕ) (out : Sent) (end : List Line) → sent_of id end ≡ [] → sent_of id (sent i out ++ end) ≡ cond (i == id) out []
 sent_of-sent id i out end h =
     sent_of-append id (sent i out) end ∙ ap (λ l. sent_of id (sent i out) ++ l) h ∙ append-nil (sent_of id (sent i out))
     ∙ (elim (i == id) as (λ b. (i == id) ≡ b → sent_of id (sent i out) ≡ cond b out []) [ true ↦ λ e. sent-same id i out e | false ↦ λ e. sent-other id i out e ]) refl
@@ -145,7 +145,7 @@ held-one : (h : Holding) (b : Bool) → map hold_entry (cond b (h ∷ []) []) �
 held-one h true = refl
 held-one h false = refl
 
-found-push : (id : ℕ) (held : List Holding) (waiting : List Waiting) (f : Waiting) → found id held (waiting ++ f ∷ []) ≡ found id held waiting ++ cond (f.id == id) ((f, None) ∷ []) []
+pub found-push : (id : ℕ) (held : List Holding) (waiting : List Waiting) (f : Waiting) → found id held (waiting ++ f ∷ []) ≡ found id held waiting ++ cond (f.id == id) ((f, None) ∷ []) []
 found-push id held waiting f =
     ap (λ (l : List Waiting). held_found id held ++ map wait_entry l) (filter-append (λ (g : Waiting). g.id == id) waiting (f ∷ []))
     ∙ ap (λ (l : Found). held_found id held ++ l) (map-append wait_entry (filter (λ g. g.id == id) waiting) (cond (f.id == id) (f ∷ []) [])
@@ -215,12 +215,12 @@ answers id before after answer a = quiet id before _ _ (answered-alike before af
 -- A frame enters.
 
 -- it is among those that wait, or isn't, and nothing is sent
-record Joins (id : ℕ) (u : World) (f : Waiting) (y : Stepped) : Type 0 where
-  setup : y.0.setup ≡ u.setup
-  next : y.0.next ≡ u.next
-  published : y.0.published ≡ u.published
-  silent : sent_of id y.1 ≡ []
-  found : (found id y.0.held y.0.waiting ≡ found id u.held u.waiting) ⊎ (found id y.0.held y.0.waiting ≡ found id u.held u.waiting ++ cond (f.id == id) ((f, None) ∷ []) [])
+pub record Joins (id : ℕ) (u : World) (f : Waiting) (y : Stepped) : Type 0 where
+  pub setup : y.0.setup ≡ u.setup
+  pub next : y.0.next ≡ u.next
+  pub published : y.0.published ≡ u.published
+  pub silent : sent_of id y.1 ≡ []
+  pub found : (found id y.0.held y.0.waiting ≡ found id u.held u.waiting) ⊎ (found id y.0.held y.0.waiting ≡ found id u.held u.waiting ++ cond (f.id == id) ((f, None) ∷ []) [])
 
 waits-joins : (id : ℕ) (u : World) (f : Waiting) → Joins id u f (waits u f)
 waits-joins id u f =
@@ -229,7 +229,7 @@ waits-joins id u f =
       | false ↦ record { setup = refl; next = refl; published = refl; silent = refl; found = inl refl }
     ]
 
-goes_on-joins : (c : Class) (id : ℕ) (u : World) (f : Waiting) → Joins id u f (goes_on c u f)
+pub goes_on-joins : (c : Class) (id : ℕ) (u : World) (f : Waiting) → Joins id u f (goes_on c u f)
 goes_on-joins Drop id u f = record { setup = refl; next = refl; published = refl; silent = refl; found = inl refl }
 goes_on-joins Trap id u f = waits-joins id u f
 goes_on-joins Copy id u f = waits-joins id u f

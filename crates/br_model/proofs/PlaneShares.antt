@@ -120,7 +120,7 @@ module _ (domains : Domains) (port : ℕ) (declared : is_some (domain_of domains
       ∙ order-parts (λ x. is_marked domains (domain_of domains port) x.0) out h
 
 -- a test that all pass keeps all
-all-kept : (xs : Sent) → filter (λ x. true) xs ≡ xs
+pub all-kept : (xs : Sent) → filter (λ x. true) xs ≡ xs
 all-kept [] = refl
 all-kept (x ∷ xs) = ap (λ l. x ∷ l) (all-kept xs)
 

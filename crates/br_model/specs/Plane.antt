@@ -9,3 +9,4 @@ pub mod Sending
 pub mod Invariants
 pub mod Applied
 pub mod OnceOnly
+pub mod Agreement

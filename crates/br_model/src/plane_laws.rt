@@ -1,14 +1,16 @@
 //! Laws about the world of a bridge with a chip. A law is a function that does nothing: its contract says it.
-ghost use Rattle.std.specs.Prelude.{◌≡◌, ◌≤◌, ℕ, true, List, take, is_some};
+ghost use Rattle.std.specs.Prelude.{◌≡◌, ◌≤◌, ℕ, true, List, ◌∷◌, ◌++◌, take, is_some, Ok};
 ghost use Rattle.br_model.specs.declared.frame.Head.{Head};
 ghost use Rattle.br_model.specs.Domains.{Domains, domain_of};
+ghost use Rattle.br_model.specs.Frames.{frame};
 ghost use Rattle.br_model.specs.Leave.{leave};
 ghost use Rattle.br_model.specs.Cut.{deferred_of, synchronous_of};
+ghost use Rattle.br_model.specs.Plane.Agreement.{IsSettled, IsUndisturbed};
 ghost use Rattle.br_model.specs.Plane.Applied.{applied};
 ghost use Rattle.br_model.specs.Plane.Runs.{run};
 ghost use Rattle.br_model.specs.Plane.Invariants.{IsWorld};
 ghost use Rattle.br_model.specs.Plane.OnceOnly.{LinesStand};
-ghost use Rattle.br_model.specs.Plane.Steps.{Step, world_step};
+ghost use Rattle.br_model.specs.Plane.Steps.{Step, Rx, world_step};
 ghost use Rattle.br_model.specs.Plane.World.{World, first_world, table_of_chip};
 ghost use Rattle.br_model.specs.Setup.{Setup};
 ghost use Rattle.br_model.specs.Plane.Sending.{times, sent_of, in_port_order, both_shares};
@@ -49,4 +51,13 @@ pub fn once_only()
 /// What the lines of a run say of frames that wait or are held, and of those that are sent.
 pub fn lines_stand()
     ensures { (setup : Setup) (steps : List Step) → LinesStand (run setup steps).0 (run setup steps).1 }
+{}
+
+/// A frame that enters a settled bridge by a port of the chip, and is sent before another change is accepted, leaves as by one
+/// bridge.
+pub fn agreement()
+    ensures { (setup : Setup) (before after : List Step) (port : ℕ) (bytes : List ℕ) (head : Head)
+        → frame bytes ≡ Ok head → IsSettled (run setup before).0 → IsUndisturbed setup before port bytes after
+        → in_port_order (sent_of (run setup before).0.next (run setup (before ++ Rx port bytes ∷ after)).1)
+        ≡ leave (table (run setup before).0.history) port bytes head }
 {}

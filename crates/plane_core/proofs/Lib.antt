@@ -3,8 +3,6 @@ pub mod Held
 pub mod Keeping
 pub mod Leaving
 pub mod Placing
-pub mod Fates
-pub mod Agreeing
 pub mod Rooms
 pub mod Following
 pub mod Noting

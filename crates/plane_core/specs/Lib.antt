@@ -1,5 +1,4 @@
 pub mod Queued
 pub mod Places
 pub mod Sent
-pub mod Agreement
 pub mod Chips

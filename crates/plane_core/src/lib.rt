@@ -4,7 +4,6 @@
 pub mod chip;
 pub mod frame;
 pub mod frames;
-pub mod laws;
 mod sending;
 pub mod updates;
 

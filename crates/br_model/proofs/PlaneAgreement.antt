@@ -25,7 +25,7 @@ use Rattle.br_model.specs.Messages.{message}
 use Rattle.br_model.specs.Setup.{Setup}
 use Rattle.br_model.specs.Shares.{chip_out, mark_of, soft_out}
 use Rattle.br_model.specs.Table.{Table, table}
-use Rattle.plane_core.specs.Agreement.{is_there, is_overrun, IsSettled, IsUndisturbed}
+use Rattle.br_model.specs.Plane.Agreement.{is_there, is_overrun, IsSettled, IsUndisturbed}
 use Rattle.br_model.specs.Plane.Entering.{waits, goes_on, enters_chip, enters_as, class_of}
 use Rattle.br_model.specs.Plane.Invariants.{frames_of, IsWorld}
 use Rattle.br_model.specs.Plane.Runs.{run, then_step}
@@ -34,12 +34,11 @@ use Rattle.br_model.specs.Plane.Steps.{Step, Rx, world_step}
 use Rattle.br_model.specs.Plane.World.{World, Waiting, Holding, Stepped, first_world, table_at, table_of_chip, sent}
 use Rattle.br_model.proofs.Cuts.{cut-all}
 use Rattle.br_model.proofs.PlaneApplied.{run-world}
-use Rattle.plane_core.proofs.Fates.{sent_of-sent, found-push, goes_on-joins, all-kept}
-use Rattle.br_model.proofs.PlaneFates.{sent_of-append, Found, hold_entry, wait_entry, waiting_found, found, found-free, found-taken, declared, Fate, idle, entered, taken, gone, IsDecidedAt, step-effect}
+use Rattle.br_model.proofs.PlaneFates.{sent_of-append, sent_of-sent, found-push, goes_on-joins, Found, hold_entry, wait_entry, waiting_found, found, found-free, found-taken, declared, Fate, idle, entered, taken, gone, IsDecidedAt, step-effect}
 use Rattle.br_model.proofs.PlaneKept.{first-world, step-world}
 use Rattle.br_model.proofs.PlaneLists.{up-to-last, has-up-to}
 use Rattle.br_model.proofs.PlaneOnce.{run-lines}
-use Rattle.br_model.proofs.PlaneShares.{ascends-leave, order-stays, together}
+use Rattle.br_model.proofs.PlaneShares.{all-kept, ascends-leave, order-stays, together}
 
 -- Whether a frame is there.
 

@@ -1,0 +1,5 @@
+use Rattle.br_model.proofs.PlaneAgreement.{agreement}
+use Rattle.br_model.proofs.plane_laws.agreement.Goals as goal
+
+pub returns : goal.returns
+returns c = agreement
