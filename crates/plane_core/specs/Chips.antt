@@ -1,13 +1,11 @@
 -- A chip that follows a history: its driver, the places of the deferred changes, and what the definitions keep of it.
-use Rattle.std.specs.Prelude.{◌≡◌, ℕ, ◌<◌, ◌≤◌, Bool, true, false, IsTrue, List, length, take, get_or}
+use Rattle.std.specs.Prelude.{◌≡◌, ℕ, ◌≤◌, Bool, true, false, List}
 use Rattle.std.specs.declared.option.Option.{Option}
 use Rattle.std.specs.declared.option.Option.TheVariants.{None, Some}
 use Rattle.br_model.specs.declared.change.Change.{Change}
-use Rattle.br_model.specs.declared.change.Change.TheVariants.{PortUp, PortDown, SetFlags, SetState, VlanAdd, VlanDel, GroupJoin, GroupPart, Router, Querier, Snoop, Stp, AddrPut, AddrDel}
 use Rattle.br_model.specs.Chip.{Chip, applies, chip_table}
 use Rattle.br_model.specs.Cut.{cut, deferred_count}
 use Rattle.br_model.specs.Domains.{Domains}
-use Rattle.br_model.specs.Limits.{fits, most_changes}
 use Rattle.br_model.specs.Table.{table}
 use Rattle.chip_driver.specs.Drives.{Driven, Drives}
 use Rattle.learn_report.specs.Reports.{Reported}
