@@ -4,3 +4,4 @@ pub mod AddressRows
 pub mod Placed
 pub mod Renamed
 pub mod GroupRows
+pub mod AddressKeys

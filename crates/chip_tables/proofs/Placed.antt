@@ -8,6 +8,7 @@ use Rattle.std.specs.FinMap.Entries.{by_order}
 use Rattle.std.proofs.lemmas.Bool.{cases_eq, eqb-true, eq-eqb, ne_eqb}
 use Rattle.std.proofs.lemmas.List.{get_or_default, get_or-set_other, length-set, length-map}
 use Rattle.br_model.specs.Maps.{pair_cmp, get}
+use Rattle.br_model.proofs.PairKeys.{same_cmp}
 use Rattle.open_addressing.specs.Finite.{entries_of, in_cell, value_at}
 use Rattle.open_addressing.specs.Lookups.{has, IsApart}
 use Rattle.open_addressing.specs.Pairs.{unpacked, packed as pair, by_pair}
@@ -83,6 +84,16 @@ found-at cs q is =
           (f.0.0, f.0.1, ap key_of at ∙ eqb-true (key_of c) q f.1)
     ] refl is
 
+-- an address that is found has 48 bits
+found-fits : (k : ℕ × ℕ) (es : List (ℕ × AddressRow)) → is_some (get pair_cmp (by_pair es) k) ≡ true → k.1 < 2 ^ 48
+found-fits k [] is = absurd (cc)
+found-fits k (e ∷ es) is =
+    elim (pair_cmp k (unpacked e.0)) as (λ r. pair_cmp k (unpacked e.0) ≡ r → is_some (cond (is_eq r) (Some e.1) (get pair_cmp (by_pair es) k)) ≡ true → k.1 < 2 ^ 48) [
+      | Less ↦ λ o h. found-fits k es h
+      | Equal ↦ λ o h. subst (λ (q : ℕ × ℕ). q.1 < 2 ^ 48) (sym (same_cmp k (unpacked e.0) o)) (low-lt e.0)
+      | Greater ↦ λ o h. found-fits k es h
+    ] refl is
+
 pub is_placed : (rows : List ℕ) (es : List (ℕ × AddressRow)) → length rows ≡ address_rows → entries_of (address_cells rows) ≡ es → IsApart key_of (address_cells rows)
     → (t : Rows) → t.addresses ≡ by_pair es → t.places ≡ places_of (address_cells rows) → IsPlaced t
 is_placed rows es long listed apart t addresses places =
@@ -97,11 +108,13 @@ is_placed rows es long listed apart t addresses places =
           ap is_some (ap (λ (xs : List ((ℕ × ℕ) × AddressRow)). get pair_cmp xs k) addresses ∙ get-by_pair k fits es ∙ ap (λ n. entries.find nat_cmp n es) number
           ∙ ap (entries.find nat_cmp q) (sym listed) ∙ find-entries_of cs q p.1 ∙ value-found cs apart q i p.1 p.0 refl)
           ∙ is_some-found (get_or cs i None) p.1);
-      placed = λ v m fits is.
+      placed = λ v m is.
           (let k : ℕ × ℕ = (v, m) in
           let q : ℕ = pair k in
+          let there : is_some (get pair_cmp (by_pair es) k) ≡ true = ap (λ (xs : List ((ℕ × ℕ) × AddressRow)). is_some (get pair_cmp xs k)) (sym addresses) ∙ is in
+          let fits : m < 2 ^ 48 = found-fits k es there in
           let at : is_some (entries.find nat_cmp q (entries_of cs)) ≡ true =
-          ap is_some (ap (entries.find nat_cmp q) listed ∙ sym (get-by_pair k fits es) ∙ ap (λ (xs : List ((ℕ × ℕ) × AddressRow)). get pair_cmp xs k) (sym addresses)) ∙ is in
+          ap is_some (ap (entries.find nat_cmp q) listed ∙ sym (get-by_pair k fits es)) ∙ there in
           let some : q ≢ 0 = λ none. not_none (entries.find nat_cmp q (entries_of cs)) (ap (λ n. entries.find nat_cmp n (entries_of cs)) none ∙ find-zero cs) at in
           let f = found-at cs q (ap is_some (sym (find-entries_of cs q some)) ∙ at) in (
             f.0,

@@ -1,6 +1,6 @@
 -- What the chip's tables hold: for each bank the list of its rows, as numbers, and how their fields are read.
 -- Source: the layout is this program's own; what the rows tell is what the kernel tells a switchdev driver (switchdev.rst).
-use Rattle.std.specs.Prelude.{◌≡◌, ℕ, zero, suc, ◌+◌, ◌*◌, ◌^◌, ◌==◌, ◌<◌, ◌&&◌, nat_lt, nat_le, Bool, true, false, cond, if◌then◌else◌, List, [], ◌∷◌, length, slice_index, slice_get, is_some}
+use Rattle.std.specs.Prelude.{◌≡◌, ℕ, zero, suc, ◌+◌, ◌*◌, ◌==◌, ◌&&◌, nat_lt, nat_le, Bool, true, false, cond, if◌then◌else◌, List, [], ◌∷◌, length, slice_index, slice_get, is_some}
 use Rattle.std.specs.declared.cmp.Ordering.{Ordering}
 use Rattle.br_model.specs.declared.group.Group.{Group}
 use Rattle.std.specs.declared.option.Option.{Option}
@@ -171,5 +171,5 @@ max_groups = 1024
 pub record IsPlaced (rows : Rows) : Type 0 where
   pub sized : length rows.places ≡ address_rows
   pub used : (i : ℕ) (k : ℕ × ℕ) → slice_get rows.places i ≡ Some (Some k) → is_some (address_at rows k.0 k.1) ≡ true
-  pub placed : (vid mac : ℕ) → mac < 2 ^ 48 → is_some (address_at rows vid mac) ≡ true → (i : ℕ) × (slice_get rows.places i ≡ Some (Some (vid, mac)))
+  pub placed : (vid mac : ℕ) → is_some (address_at rows vid mac) ≡ true → (i : ℕ) × (slice_get rows.places i ≡ Some (Some (vid, mac)))
   pub once : (i j : ℕ) (k : ℕ × ℕ) → slice_get rows.places i ≡ Some (Some k) → slice_get rows.places j ≡ Some (Some k) → i ≡ j

@@ -1,5 +1,5 @@
 //! The address rows as the cells of a map.
-ghost use Rattle.std.specs.Prelude.{◌≡◌, ◌≢◌, ◌<◌, ◌^◌, IfOk, None, Some, [], length, replicate, slice_get};
+ghost use Rattle.std.specs.Prelude.{◌≡◌, ◌≢◌, ◌<◌, ◌^◌, IfOk, None, Some, [], filter_map, length, replicate, slice_get};
 ghost use Rattle.std.specs.List.{All};
 ghost use Rattle.open_addressing.specs.Circle.{mix};
 ghost use Rattle.open_addressing.specs.Hashes.{mix-lt};
@@ -135,6 +135,19 @@ impl AddressCells {
             unreachable!()
         };
         Some((vid, mac))
+    }
+
+    /// The keys in the rows that are used, in the order of the rows.
+    pub fn keys(&self, alloc: Global) -> Result<Vec<Key>, NoMemory>
+        ensures { IfOk result (λ keys. keys.items ≡ filter_map (λ place. place) (places_of (address_cells self.now.bank))) }
+    {
+        let mut keys = Vec::new(alloc);
+        for i in 0..32768 {
+            if let Some(key) = self.key(i) {
+                keys.push(key)?;
+            }
+        }
+        Ok(keys)
     }
 }
 

@@ -1,5 +1,7 @@
 //! The tables.
-ghost use Rattle.std.specs.Prelude.{◌≡◌, ◌<◌, ◌≤◌, IfOk, Some, length, slice_get};
+ghost use Rattle.std.specs.Prelude.{◌≡◌, ◌<◌, ◌≤◌, IfOk, Some, length, map, slice_get};
+ghost use Rattle.std.specs.List.Sorted.{IsStrictlySortedBy};
+ghost use Rattle.br_model.specs.Maps.{pair_cmp};
 ghost use Rattle.chip_tables.specs.Rows.{vlan_at, flood_at, router_at, port_at, trap_at, control_in, address_at, addresses_with, max_addresses, address_rows, group_at, groups_with, max_groups, IsPlaced, WritesVlan, WritesFlood, WritesRouter, WritesPort, WritesTrap};
 ghost use Rattle.chip_tables.specs.Writing.{WritesFan, IsBlank};
 
@@ -191,6 +193,16 @@ impl Tables {
         ensures placed { IsPlaced self.now }
     {
         self.addresses.cells().key(i)
+    }
+
+    /// The keys of the used address rows, ascending by VLAN and address.
+    pub fn address_keys(&self, alloc: Global) -> Result<Vec<(Vid, Mac)>, NoMemory>
+        ensures keys { IfOk result (λ keys. keys.items ≡ map (λ e. e.0) self.now.addresses) }
+        ensures ascending { IfOk result (λ keys. IsStrictlySortedBy pair_cmp keys.items) }
+    {
+        let mut keys = self.addresses.cells().keys(alloc)?;
+        keys.sort_unstable();
+        Ok(keys)
     }
 
     /// `None` exactly where no used row has that key.
