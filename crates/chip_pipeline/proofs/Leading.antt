@@ -1,7 +1,6 @@
 -- Where rows lead: the targets of frames to one station, to the host, and to many.
-use Rattle.std.proofs.Common.{◌≡◌, ℕ, ◌/◌, ◌%◌, ◌^◌, ◌<◌, ◌≤◌, Bool, true, false, not, ◌&&◌, ◌||◌, cond, Option, None, Some, option_map, List, [], ◌∷◌, ◌++◌, refl, sym, ap, ap₂, ◌∙◌, arith, inl, inr}
-use Rattle.std.specs.Prelude.{◌==◌, nat_lt}
-use Rattle.std.specs.List.{filter}
+use Rattle.std.proofs.Common.{◌≡◌, ℕ, ◌/◌, ◌%◌, ◌^◌, ◌<◌, ◌≤◌, Bool, true, false, not, ◌&&◌, ◌||◌, cond, Option, None, Some, option_map, List, [], ◌∷◌, refl, sym, ap, ap₂, ◌∙◌, arith, inl, inr}
+use Rattle.std.specs.Prelude.{◌==◌}
 use Rattle.std.specs.Option.{option_map_or}
 use Rattle.std.specs.Ordering.{nat_cmp, eq_by_cmp, is_eq}
 use Rattle.std.specs.declared.cmp.Ordering.{Ordering}
@@ -12,7 +11,6 @@ use borrow.Author.Tests.{ltb-true, leb-true}
 use Rattle.std.proofs.lemmas.Map.Lookups.{exact_unsigned}
 use Rattle.std.proofs.lemmas.Map.Views.{any-filter_same}
 use Rattle.br_model.specs.Admission.{is_up, is_forwarding, member}
-use Rattle.br_model.specs.Class.{crosses, reaches_host}
 use Rattle.br_model.specs.Domains.{Domains, foreign, host}
 use Rattle.br_model.specs.Eligible.{may}
 use Rattle.br_model.specs.Maps.{pair_cmp, get, has}
@@ -27,11 +25,11 @@ use Rattle.chip_tables.specs.declared.rows.FanRow.{FanRow}
 use Rattle.chip_tables.specs.declared.rows.Flood.{Flood}
 use Rattle.chip_tables.specs.declared.rows.Flood.TheVariants.{Unicast, Mcast, Bcast}
 use Rattle.chip_tables.specs.Rows.{Rows, flood_at}
-use Rattle.chip_tables.specs.Stands.{IsVid, Stands, fan_wanted, is_flooded, port_count}
+use Rattle.chip_tables.specs.Stands.{IsVid, Stands, is_flooded, port_count}
 use Rattle.chip_pipeline.specs.declared.lookup.Way.{Way}
 use Rattle.chip_pipeline.specs.declared.lookup.Way.TheVariants.{Nowhere, One, Many}
 use Rattle.chip_pipeline.specs.Passed.{AtChip}
-use Rattle.chip_pipeline.specs.Ways.{IsMany, IsWay, Leads, LeadsTo, entry_wanted, leaves_chip, row_of_entry}
+use Rattle.chip_pipeline.specs.Ways.{IsMany, IsWay, Leads, entry_wanted, leaves_chip, row_of_entry}
 use Rattle.chip_pipeline.proofs.Reading.{foreign-is, host-elsewhere}
 
 -- ---- truth values

@@ -1,16 +1,16 @@
 -- What leaves, and of which class it is, by the ways that rows lead.
-use Rattle.std.proofs.Common.{◌≡◌, ◌≢◌, ℕ, zero, suc, ◌+◌, ◌<◌, Bool, true, false, not, ◌&&◌, ◌||◌, cond, IsTrue, ◌↔◌, List, [], ◌∷◌, length, refl, sym, ap, ap₂, subst, ◌∙◌, arith, inl, inr}
+use Rattle.std.proofs.Common.{◌≡◌, ℕ, ◌<◌, Bool, true, false, not, ◌&&◌, ◌||◌, cond, IsTrue, ◌↔◌, List, [], ◌∷◌, refl, sym, ap, ap₂, subst, ◌∙◌, inl, inr}
 use Rattle.std.specs.Prelude.{◌==◌}
 use Rattle.std.specs.List.{filter, list_any, range_with_len}
 use Rattle.std.specs.Ordering.{nat_cmp}
 use Rattle.std.specs.Cmp.{unsigned_tied}
-use Rattle.std.proofs.lemmas.Bool.{cases_Bool, eq-eqb, eqb-true, ne_eqb}
+use Rattle.std.proofs.lemmas.Bool.{eq-eqb, ne_eqb}
 use Rattle.std.proofs.lemmas.Bool.Decides.{eqb_tells}
 use Rattle.port_sets.specs.Numbers.{numbers_below, has_number}
-use Rattle.port_sets.proofs.Numbers.{has-below, has-filter, filter-numbers_below, none_below, same_below}
+use Rattle.port_sets.proofs.Numbers.{has-below, has-filter, filter-numbers_below, same_below}
 use Rattle.br_model.specs.Admission.{is_forwarding, member}
 use Rattle.br_model.specs.Class.{class_by}
-use Rattle.br_model.specs.Domains.{Domains, domain_of, foreign, host}
+use Rattle.br_model.specs.Domains.{Domains, foreign, host}
 use Rattle.br_model.specs.Eligible.{may}
 use Rattle.br_model.specs.Leave.{all_ports, egress_ports}
 use Rattle.br_model.specs.Maps.{has}
@@ -21,13 +21,12 @@ use Rattle.br_model.specs.declared.frame.Class.TheVariants.{Drop, Trap, Copy, Fo
 use Rattle.br_model.specs.declared.frame.Head.{Head}
 use Rattle.br_model.specs.declared.frame.McastMsg.{McastMsg}
 use Rattle.chip_tables.specs.declared.rows.FanRow.{FanRow}
-use Rattle.chip_tables.specs.declared.rows.VlanRow.{VlanRow}
 use Rattle.chip_tables.specs.Rows.{Rows, port_at, vlan_at}
-use Rattle.chip_tables.specs.Stands.{IsVid, Stands, fan_wanted, is_free, is_open, is_own, port_count, ports_where, some_port}
+use Rattle.chip_tables.specs.Stands.{IsVid, is_free, is_open, is_own, port_count, ports_where, some_port}
 use Rattle.chip_pipeline.specs.declared.egress.Out.{Out}
 use Rattle.chip_pipeline.specs.Outs.{IsOut}
 use Rattle.chip_pipeline.specs.Passed.{AtChip, chip_ports_by}
-use Rattle.chip_pipeline.specs.PortRows.{row_lets, row_takes}
+use Rattle.chip_pipeline.specs.PortRows.{row_takes}
 use Rattle.chip_pipeline.specs.Ways.{Leads, LeadsTo, leaves_chip}
 use Rattle.chip_pipeline.proofs.Reading.{flag-is, foreign-is, forwards-is, member-is, not-host}
 use Rattle.chip_pipeline.proofs.Sets.{any_filter, any_split, member-of, nowhere_filter, same_some}

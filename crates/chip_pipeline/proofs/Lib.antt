@@ -8,3 +8,4 @@ pub mod Keys
 pub mod Leaving
 pub mod Passing
 pub mod Sightings
+pub mod Room

@@ -1,9 +1,8 @@
 -- What a pass comes to, by what its stages say.
-use Rattle.std.proofs.Common.{◌≡◌, ℕ, ◌<◌, Bool, true, false, not, ◌&&◌, ◌||◌, cond, Option, None, Some, List, [], refl, sym, ap, ap₂, ◌∙◌}
-use Rattle.std.specs.List.{filter}
+use Rattle.std.proofs.Common.{◌≡◌, ℕ, true, false, ◌&&◌, ◌||◌, cond, Option, None, Some, List, [], refl, sym, ap, ap₂, ◌∙◌}
 use Rattle.port_sets.specs.Numbers.{IsSetBelow, has_number}
 use Rattle.port_sets.proofs.Numbers.{filter-set, same_below}
-use Rattle.br_model.specs.Admission.{admit, has_valid_source, is_forwarding, vlan_of}
+use Rattle.br_model.specs.Admission.{admit}
 use Rattle.br_model.specs.Class.{class, class_by, crosses, is_snooped, is_trapped_in, reaches_host}
 use Rattle.br_model.specs.Domains.{Domains}
 use Rattle.br_model.specs.Eligible.{untagged}
@@ -11,7 +10,7 @@ use Rattle.br_model.specs.Leave.{egress_ports, ports_in, ports_out}
 use Rattle.br_model.specs.Table.{Table}
 use Rattle.br_model.specs.Targets.{to_tree}
 use Rattle.br_model.specs.declared.frame.Class.{Class}
-use Rattle.br_model.specs.declared.frame.Class.TheVariants.{Drop, Trap, Copy, Forward}
+use Rattle.br_model.specs.declared.frame.Class.TheVariants.{Drop, Trap}
 use Rattle.br_model.specs.declared.frame.Head.{Head}
 use Rattle.br_model.specs.declared.frame.McastMsg.{McastMsg}
 use Rattle.chip_tables.specs.Rows.{Rows, vlan_at}
@@ -19,7 +18,7 @@ use Rattle.chip_tables.specs.Stands.{IsVid, Stands, port_count, ports_where}
 use Rattle.chip_pipeline.specs.declared.answer.Sent.{Sent}
 use Rattle.chip_pipeline.specs.declared.egress.Out.{Out}
 use Rattle.chip_pipeline.specs.Outs.{IsOut}
-use Rattle.chip_pipeline.specs.Passed.{IsSent, chip_ports, chip_ports_by, untagged_among}
+use Rattle.chip_pipeline.specs.Passed.{IsSent, chip_ports_by, untagged_among}
 use Rattle.chip_pipeline.specs.Ways.{leaves_chip}
 use Rattle.chip_pipeline.proofs.Reading.{untagged-is}
 

@@ -1,5 +1,5 @@
 -- What rows that stand for a table tell of it.
-use Rattle.std.proofs.Common.{◌≡◌, ℕ, ◌/◌, ◌%◌, ◌^◌, ◌<◌, Bool, true, false, not, ◌&&◌, Option, None, Some, List, refl, sym, ap, ◌∙◌, arith}
+use Rattle.std.proofs.Common.{◌≡◌, ℕ, ◌<◌, Bool, true, false, not, ◌&&◌, Option, None, Some, refl, sym, ap, ◌∙◌, arith}
 use Rattle.std.specs.Prelude.{◌==◌}
 use Rattle.std.specs.Option.{option_eq, unwrap_or}
 use Rattle.std.specs.Ordering.{nat_cmp}
@@ -12,12 +12,10 @@ use Rattle.br_model.specs.Eligible.{untagged}
 use Rattle.br_model.specs.Maps.{get}
 use Rattle.br_model.specs.Table.{Table}
 use Rattle.br_model.specs.Targets.{has_flag}
-use Rattle.chip_tables.specs.declared.rows.PortRow.{PortRow}
 use Rattle.chip_tables.specs.declared.rows.VlanRow.{VlanRow}
 use Rattle.chip_tables.specs.Rows.{Rows, vlan_at, port_at}
 use Rattle.chip_tables.specs.Stands.{IsVid, Stands, is_own, port_count}
 use Rattle.chip_pipeline.specs.PortRows.{row_has_flag, row_is_in}
-use Rattle.chip_pipeline.specs.Passed.{AtChip}
 use Rattle.chip_pipeline.proofs.Sets.{member-of}
 
 contradicts : {A : Type 0} (b : Bool) → b ≡ true → b ≡ false → A

@@ -1,8 +1,8 @@
 -- What is made of a source.
-use Rattle.std.proofs.Common.{◌≡◌, ℕ, Bool, true, false, not, ◌&&◌, cond, Option, None, Some, refl, sym, ap, ap₂, ◌∙◌}
+use Rattle.std.proofs.Common.{◌≡◌, ℕ, Bool, true, false, not, ◌&&◌, cond, None, Some, refl, sym, ap, ap₂, ◌∙◌}
 use Rattle.br_model.specs.Admission.{has_valid_source, vlan_of}
-use Rattle.br_model.specs.Chip.{hit_in, hit_of, is_at, report, report_of}
-use Rattle.br_model.specs.Learning.{Address, is_news, is_reserved, may_teach, teach_in}
+use Rattle.br_model.specs.Chip.{hit_in, hit_of, report, report_of}
+use Rattle.br_model.specs.Learning.{is_news, is_reserved, may_teach, teach_in}
 use Rattle.br_model.specs.Table.{Table}
 use Rattle.br_model.specs.declared.frame.Head.{Head}
 

@@ -1,5 +1,5 @@
 -- Tests of which one decides.
-use Rattle.std.proofs.Common.{◌≡◌, Bool, true, false, not, ◌&&◌, ◌||◌, refl, sym, ◌∙◌}
+use Rattle.std.proofs.Common.{◌≡◌, Bool, true, false, not, ◌&&◌, ◌||◌, refl, sym}
 
 pub both : (a s x b : Bool) → b ≡ (a && s) → b ≡ true → x ≡ (a && (s && x))
 both true true x b e is = refl

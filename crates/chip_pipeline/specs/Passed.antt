@@ -10,6 +10,7 @@ use Rattle.br_model.specs.declared.frame.Class.TheVariants.{Drop, Trap, Copy, Fo
 use Rattle.br_model.specs.declared.frame.Head.{Head}
 use Rattle.br_model.specs.declared.frame.McastMsg.{McastMsg}
 use Rattle.br_model.specs.Admission.{admit}
+use Rattle.br_model.specs.Chip.{report, hit_of}
 use Rattle.br_model.specs.Class.{class}
 use Rattle.br_model.specs.Domains.{Domains, domain_of, foreign, host, software}
 use Rattle.br_model.specs.Eligible.{untagged}
@@ -56,3 +57,12 @@ pub record IsSent (domains : Domains) (t : Table) (port : ℕ) (head : Head) (ms
   pub vid : sent.vid ≡ admit t port head
   pub ports : sent.ports ≡ chip_ports domains t port head msg
   pub untagged : sent.untagged ≡ untagged_among t sent.vid sent.ports
+
+-- What the chip decides of a frame is what the table says.
+pub record IsPass (domains : Domains) (t : Table) (port : ℕ) (head : Head) (msg : McastMsg) (pass : Passed) : Type 0 where
+  pub class : pass.class ≡ class domains t port head msg
+  pub vid : pass.vid ≡ admit t port head
+  pub ports : pass.ports ≡ chip_ports domains t port head msg
+  pub untagged : pass.untagged ≡ untagged_among t pass.vid pass.ports
+  pub report : pass.report ≡ report t port head
+  pub hit : pass.hit ≡ hit_of t port head

@@ -15,3 +15,6 @@ mod vlans;
 
 pub use answer::Pass;
 pub use pipeline::pass;
+
+#[cfg(test)]
+mod tests;

@@ -2,14 +2,12 @@
 ghost use Rattle.std.specs.Prelude.{◌≡◌, ◌&&◌, [], false, if◌then◌else◌, IfSome, Some, None};
 ghost use Rattle.std.specs.Option.{option_map};
 ghost use Rattle.br_model.specs.Admission.{admit, has_valid_source, is_forwarding, vlan_of};
-ghost use Rattle.br_model.specs.Chip.{report, hit_of};
-ghost use Rattle.br_model.specs.Class.{class};
 ghost use Rattle.br_model.specs.Domains.{Domains};
 ghost use Rattle.br_model.specs.Table.{Table};
 ghost use Rattle.br_model.specs.Targets.{to_tree};
 ghost use Rattle.chip_tables.specs.Rows.{vlan_at, port_at};
 ghost use Rattle.chip_tables.specs.Stands.{IsVid, Stands};
-ghost use Rattle.chip_pipeline.specs.Passed.{AtChip, IsSent, chip_ports, untagged_among};
+ghost use Rattle.chip_pipeline.specs.Passed.{AtChip, IsPass, IsSent};
 ghost use Rattle.chip_pipeline.specs.declared.vlans.Vlan.{Vlan};
 
 use crate::answer::{Pass, Sent};
@@ -27,12 +25,7 @@ use port_sets::Ports;
 /// What the chip does with a frame that enters at one of its ports, by its tables alone. The message is the one that the frame
 /// says to snooping.
 pub fn pass(t: &Tables, p: Port, h: &Head, m: &McastMsg) -> Pass
-    ensures class { (d : Domains) (table : Table) → AtChip d t.now table p → result.class ≡ class d table p h.now m.now }
-    ensures vid { (d : Domains) (table : Table) → AtChip d t.now table p → result.vid ≡ admit table p h.now }
-    ensures ports { (d : Domains) (table : Table) → AtChip d t.now table p → result.ports ≡ chip_ports d table p h.now m.now }
-    ensures untagged { (d : Domains) (table : Table) → AtChip d t.now table p → result.untagged ≡ untagged_among table result.vid result.ports }
-    ensures report { (d : Domains) (table : Table) → AtChip d t.now table p → result.report ≡ report table p h.now }
-    ensures hit { (d : Domains) (table : Table) → AtChip d t.now table p → result.hit ≡ hit_of table p h.now }
+    ensures { (d : Domains) (table : Table) → AtChip d t.now table p → IsPass d table p h.now m.now result }
 {
     let row = t.port(p);
     let vlan = vlan_of(t, p, &row, h);

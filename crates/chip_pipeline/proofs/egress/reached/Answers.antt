@@ -1,4 +1,4 @@
-use Rattle.std.proofs.Common.{ℕ, Bool, sym, ◌∙◌}
+use Rattle.std.proofs.Common.{sym, ◌∙◌}
 use Rattle.chip_tables.specs.Rows.{port_at}
 use Rattle.port_sets.proofs.Building.{among_all, among_none, among_skip, among_with, yielded_members}
 use Rattle.chip_pipeline.specs.PortRows.{row_lets}

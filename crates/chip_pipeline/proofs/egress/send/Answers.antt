@@ -1,6 +1,5 @@
-use Rattle.std.proofs.Common.{◌≡◌, sym, ap, subst, ◌∙◌}
+use Rattle.std.proofs.Common.{subst}
 use Rattle.chip_pipeline.specs.declared.lookup.Way.TheVariants.{Nowhere, Many}
-use Rattle.chip_pipeline.specs.declared.lookup.Way.{Way}
 use Rattle.chip_pipeline.specs.Ways.{IsWay}
 use Rattle.chip_pipeline.proofs.Leaving.{nowhere-out}
 use Rattle.chip_pipeline.proofs.egress.send.Goals as goal

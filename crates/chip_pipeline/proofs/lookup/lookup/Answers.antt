@@ -1,5 +1,5 @@
-use Rattle.std.proofs.Common.{◌≡◌, true, false, not, List, ℕ, sym, ap, ◌∙◌}
-use Rattle.std.specs.Prelude.{◌==◌, ◌∷◌}
+use Rattle.std.proofs.Common.{◌≡◌, true, sym, ◌∙◌}
+use Rattle.std.specs.Prelude.{◌∷◌}
 use Rattle.std.proofs.lemmas.Bool.{eq-eqb, ne_eqb}
 use Rattle.br_model.specs.Domains.{host}
 use Rattle.br_model.specs.Numbers.{broadcast, is_multicast}

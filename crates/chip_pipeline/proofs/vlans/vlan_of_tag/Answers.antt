@@ -1,10 +1,8 @@
-use Rattle.std.proofs.Common.{◌≡◌, ℕ, Bool, cond, None, Option, Some, sym, ap, ◌∙◌}
+use Rattle.std.proofs.Common.{◌≡◌, ℕ, cond, None, Some, sym, ap, ◌∙◌}
 use Rattle.br_model.specs.Admission.{member}
-use Rattle.br_model.specs.Table.{Table}
 use Rattle.port_sets.specs.Numbers.{has_number}
 use Rattle.chip_tables.specs.declared.rows.VlanRow.{VlanRow}
 use Rattle.chip_tables.specs.Rows.{vlan_at}
-use Rattle.chip_tables.specs.Stands.{Stands}
 use Rattle.chip_pipeline.proofs.Reading.{member-is}
 use Rattle.chip_pipeline.proofs.Tags.{tagged}
 use Rattle.chip_pipeline.proofs.vlans.vlan_of_tag.Goals as goal
