@@ -4,6 +4,7 @@ ghost use Rattle.std.specs.List.{filter};
 ghost use Rattle.br_model.specs.Change.{deferred};
 ghost use Rattle.br_model.specs.Control.{first_control};
 ghost use Rattle.br_model.specs.Course.{from};
+ghost use Rattle.br_model.specs.Frames.{frame};
 ghost use Rattle.br_model.specs.Limits.{all_fit, AreWithin};
 ghost use Rattle.br_model.specs.Maps.{pair_cmp, get};
 ghost use Rattle.fdb_core.specs.Fdb.{place};
@@ -19,7 +20,6 @@ use crate::faults::EventFault;
 use crate::learning::{Lesson, is_taken, lesson_of, teach};
 use crate::state::{Clock, State};
 use br_model::NoMemory;
-use br_model::bytes::Bytes;
 use br_model::change::{Change, Kind};
 use br_model::domains::Domains;
 use br_model::frame::Head;
@@ -171,7 +171,7 @@ impl Bridge {
     }
 
     #[tactic(auto, unfolding(br_model::specs::Reaction::react))]
-    fn see(&mut self, port: Port, bytes: &Bytes, head: &Head) -> Result<(), EventFault>
+    fn be_shown(&mut self, port: Port, bytes: &[u8], head: &Head) -> Result<(), EventFault>
         ensures { Reacts self.old self.new result (reaction self.old.setup self.old.history self.old.control (Event.Sight port bytes.now head.now)) }
     {
         if self.domains.of(port) != Some(Dom::SOFTWARE) {
@@ -225,10 +225,30 @@ impl Bridge {
         match event {
             Event::Cmd(asked) => self.obey(alloc, asked)?,
             Event::Moment(now) => self.pass_to(alloc, *now)?,
-            Event::Sight { port, bytes, head } => self.see(*port, bytes, head)?,
+            Event::Sight { port, bytes, head } => self.be_shown(*port, bytes.as_slice(), head)?,
             Event::Told { vid, mac, port } => self.be_told(*vid, *mac, *port)?,
             Event::Forget(stations) => self.forget(alloc, stations)?,
         }
+        Ok(Reaction {
+            from,
+            ctl: Lines::new(alloc),
+        })
+    }
+
+    /// Reacts to a frame that was sent, as to the event `Sight`, without a copy of its bytes.
+    pub fn see(
+        &mut self,
+        alloc: Global,
+        port: Port,
+        bytes: &[u8],
+        head: &Head,
+    ) -> Result<Reaction, EventFault>
+        requires { frame bytes.now ≡ Ok head.now }
+        ensures reacts { Reacts self.old self.new result (reaction self.old.setup self.old.history self.old.control (Event.Sight port bytes.now head.now)) }
+        ensures told { IfOk result (λ r. (r.from ≡ length self.old.history) × (r.ctl ≡ [])) }
+    {
+        let from = self.history.len();
+        self.be_shown(port, bytes, head)?;
         Ok(Reaction {
             from,
             ctl: Lines::new(alloc),

@@ -190,6 +190,13 @@ impl Board {
         Ok(self.published as u32)
     }
 
+    /// How many changes are published.
+    pub fn published(&self) -> u32
+        ensures { result ≡ length self.now.object.changes }
+    {
+        self.published as u32
+    }
+
     /// Tells a seat of this board what is published. From then on it knows no less. It takes no memory.
     pub fn tell(&mut self, s: &mut Seat)
         requires { s.old.board ≡ self.old.board }
