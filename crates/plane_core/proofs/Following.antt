@@ -6,6 +6,7 @@ use Rattle.std.proofs.lemmas.List.Sums.{length-filter, count_by-le-length}
 use Rattle.std.specs.Prelude.{IsTrue, if◌then◌else◌}
 use Rattle.br_model.specs.declared.change.Change.{Change}
 use Rattle.br_model.specs.declared.change.Change.TheVariants.{PortUp, PortDown, SetFlags, SetState, VlanAdd, VlanDel, GroupJoin, GroupPart, Router, Querier, Snoop, Stp, AddrPut, AddrDel}
+use Rattle.br_model.specs.declared.change.Update.{Update}
 use Rattle.br_model.specs.Change.{deferred, updates}
 use Rattle.br_model.specs.Chip.{applies}
 use Rattle.br_model.specs.Cut.{cut, deferred_at, deferred_count, under_ticket}
@@ -16,7 +17,7 @@ use Rattle.br_model.specs.Limits.{fits, most_addresses, AreWithin}
 use Rattle.br_model.specs.Maps.{pair_cmp, put, without}
 use Rattle.br_model.specs.Table.{Table, apply, table}
 use Rattle.br_model.proofs.ApplyingLaws.{deferred_count-append}
-use Rattle.br_model.proofs.Cuts.{cut-one, cut-turn, table-cut, addr-within, deferred_at-deferred, updates-at}
+use Rattle.br_model.proofs.Cuts.{cut-one, cut-turn, table-cut, addr-within, deferred_at-deferred, updates-at, updates-named}
 use Rattle.chip_tables.specs.declared.rows.AddressRow.{AddressRow}
 use Rattle.chip_tables.specs.Rows.{max_addresses}
 use Rattle.chip_tables.specs.Stands.{address_wanted}
@@ -101,6 +102,13 @@ no_update H k none = by (deferred_at H k) (sym (updates-at H k) ∙ none)
     by : (o : Option Change) → option_map (under_ticket k) o ≡ None → o ≡ None
     by None e = refl
     by (Some c) e = absurd (cc)
+
+-- the ticket of the next change that a chip applies, and none where none is pending
+pub ticket_there : (H : List Change) (k : ℕ) (u : Update) → slice_get (updates H) k ≡ Some u → Some k ≡ option_map (λ d. k) (deferred_at H k)
+ticket_there H k u found = sym (ap (option_map (λ d. k)) (updates-named H k u found).1)
+
+pub ticket_none : (H : List Change) (k : ℕ) → slice_get (updates H) k ≡ None → None ≡ option_map (λ d. k) (deferred_at H k)
+ticket_none H k none = sym (ap (option_map (λ d. k)) (no_update H k none))
 
 -- a turn
 

@@ -1,12 +1,11 @@
 -- What keeps the order of ids.
-use Rattle.std.proofs.Common.{◌≡◌, ◌≢◌, ℕ, ◌+◌, ◌<◌, ◌≤◌, ◌==◌, nat_lt, Bool, true, false, not, cond, ◌&&◌, List, [], ◌∷◌, ◌++◌, length, map, drop, Option, None, Some, refl, sym, ap, ◌∙◌, arith}
-use Rattle.std.specs.List.{list_all, filter, find}
-use Rattle.std.specs.Cmp.{first_so, second_so}
+use Rattle.std.proofs.Common.{◌≡◌, ℕ, ◌+◌, ◌<◌, ◌≤◌, Bool, List, [], ◌∷◌, ◌++◌, length, drop, sym, ap, ◌∙◌, arith}
+use Rattle.std.specs.List.{filter}
 use Rattle.std.proofs.lemmas.List.{append_assoc, map-append, length-append}
 use Rattle.br_model.specs.Limits.{most_waiting}
 use Rattle.br_model.specs.Plane.World.{Waiting, Holding}
 use Rattle.plane_core.specs.Queued.{Queued, IsQueued, ascends, holds_oldest, waiting_ids, held_ids}
-use Rattle.plane_core.proofs.Held.{ascends_filter, fewer}
+use Rattle.plane_core.proofs.HeldRows.{ascends_filter, fewer}
 use Rattle.plane_core.proofs.Ordered.{ascends_later, ascends_more, ascends_without}
 
 pub passes : (q : Queued) → IsQueued q → IsQueued (record q { next = q.next + 1 })

@@ -1,27 +1,31 @@
--- What software sends of a frame, by a verdict.
-use Rattle.std.proofs.Common.{◌≡◌, ℕ, Bool, ◌&&◌, ◌||◌, true, false, not, cond, List, [], ◌∷◌, ◌++◌, refl, sym, ap, ap₂, ◌∙◌, map, Option, None, Some}
+-- The lines of a frame that leaves, by a verdict of software or a pass of the chip.
+use Rattle.std.proofs.Common.{◌≡◌, ℕ, Bool, ◌&&◌, ◌||◌, true, false, not, cond, List, [], ◌∷◌, refl, sym, ap, ap₂, ◌∙◌, map, Option, None, Some}
 use Rattle.std.specs.List.{filter}
 use Rattle.std.specs.Prelude.{◌==◌, if◌then◌else◌}
 use Rattle.std.proofs.lemmas.Bool.{eq-eqb, eqb-true}
-use Rattle.std.proofs.lemmas.List.{append-nil}
 use Rattle.std.proofs.lemmas.Map.Views.{any-filter_same}
 use Rattle.std.proofs.lemmas.Simd.{map-map}
+use Rattle.br_model.specs.declared.frame.Class.{Class}
+use Rattle.br_model.specs.declared.frame.Class.TheVariants.{Drop, Trap, Copy, Forward}
+use Rattle.br_model.specs.declared.frame.Head.{Head}
 use Rattle.br_model.specs.declared.frame.McastMsg.TheVariants.{Plain}
 use Rattle.br_model.specs.declared.transcript.Line.{Line}
 use Rattle.br_model.specs.declared.transcript.Line.TheVariants.{Tx}
 use Rattle.br_model.specs.Admission.{admit}
+use Rattle.br_model.specs.Class.{class}
 use Rattle.br_model.specs.DomainPorts.{is_marked}
-use Rattle.br_model.specs.Domains.{Domains}
+use Rattle.br_model.specs.Domains.{Domains, foreign}
 use Rattle.br_model.specs.Eligible.{untagged}
 use Rattle.br_model.specs.Frames.{dressed}
 use Rattle.br_model.specs.Leave.{leave, ports_out, dressed_in, tag_at}
-use Rattle.br_model.specs.Plane.World.{Waiting, sent}
-use Rattle.br_model.specs.Shares.{soft_out, remaining}
+use Rattle.br_model.specs.Plane.World.{sent}
+use Rattle.br_model.specs.Shares.{chip_out, chip_out_by, soft_out, remaining}
 use Rattle.br_model.specs.Table.{Table}
+use Rattle.chip_pipeline.specs.Passed.{Passed, IsPass, chip_ports_by, untagged_among as untagged_at_chip}
 use Rattle.forward_rules.specs.declared.soft_tables.Verdict.{Verdict}
 use Rattle.forward_rules.specs.Verdicts.{untagged_among}
 use Rattle.port_sets.specs.Numbers.{has_number}
-use Rattle.plane_core.specs.Sent.{line_at}
+use Rattle.plane_core.specs.Sent.{line_at, lines_in}
 use Rattle.table_publish.specs.Board.{Decides}
 
 -- a number that is in a list is in its filter where it passes
@@ -56,13 +60,13 @@ in_whole p q (x ∷ xs) = elim (p x) as (λ b. has_number (cond b (x ∷ filter 
     either false c h f = f h
 
 -- lines of the same ports with the same tags
-same_lines : (t : Table) (f : Waiting) (vid : ℕ) (set xs : List ℕ) → ((q : ℕ) → has_number xs q ≡ true → has_number set q ≡ untagged t q vid)
-    → map (λ q. Tx f.id q (dressed f.bytes f.head (tag_at t q vid))) xs ≡ map (line_at set f vid) xs
-same_lines t f vid set [] h = refl
-same_lines t f vid set (x ∷ xs) h =
+same_lines : (t : Table) (id : ℕ) (bytes : List ℕ) (head : Head) (vid : ℕ) (set xs : List ℕ) → ((q : ℕ) → has_number xs q ≡ true → has_number set q ≡ untagged t q vid)
+    → map (λ q. Tx id q (dressed bytes head (tag_at t q vid))) xs ≡ map (line_at set id bytes head vid) xs
+same_lines t id bytes head vid set [] h = refl
+same_lines t id bytes head vid set (x ∷ xs) h =
     ap₂ (λ (l : Line) (ls : List Line). l ∷ ls)
-    (ap (λ b. Tx f.id x (dressed f.bytes f.head (if b then None else Some vid))) (sym (h x (head_in x xs))))
-    (same_lines t f vid set xs (λ q within. h q (tail_in q x xs within)))
+    (ap (λ b. Tx id x (dressed bytes head (if b then None else Some vid))) (sym (h x (head_in x xs))))
+    (same_lines t id bytes head vid set xs (λ q within. h q (tail_in q x xs within)))
 
 -- those that pass, with what leaves there
 passed : (p : ℕ → Bool) (g : ℕ → List ℕ) (xs : List ℕ) → filter (λ (x : ℕ × List ℕ). p x.0) (map (λ q. (q, g q)) xs) ≡ map (λ q. (q, g q)) (filter p xs)
@@ -73,20 +77,52 @@ passed p g (x ∷ xs) = elim (p x) as (λ b. cond b ((x, g x) ∷ filter (λ (y 
       | false ↦ passed p g xs
     ]
 
-module _ (domains : Domains) (t : Table) (f : Waiting) (v : Verdict) (decided : Decides domains t f.port f.head Plain v) where
-  left : leave t f.port f.bytes f.head ≡ dressed_in t v.vid v.ports f.bytes f.head
+module _ (t : Table) (id : ℕ) (bytes : List ℕ) (head : Head) where
+  -- the lines of the ports that pass, where the set is that of the untagged ones among these
+  sent_lines : (o : Option ℕ) (p : ℕ → Bool) (whole set : List ℕ)
+      → ((vid q : ℕ) → Some vid ≡ o → has_number (filter p whole) q ≡ true → has_number set q ≡ untagged t q vid)
+      → lines_in id bytes head o (filter p whole) set ≡ sent id (filter (λ x. p x.0) (dressed_in t o whole bytes head))
+  sent_lines None p whole set h = refl
+  sent_lines (Some vid) p whole set h =
+      sym (ap (λ (out : List (ℕ × List ℕ)). sent id out) (passed p (λ q. dressed bytes head (tag_at t q vid)) whole)
+      ∙ map-map (λ (x : ℕ × List ℕ). Tx id x.0 x.1) (λ q. (q, dressed bytes head (tag_at t q vid))) (filter p whole)
+      ∙ same_lines t id bytes head vid set (filter p whole) (λ q within. h vid q refl within))
+
+  -- among all ports of the frame
+  soft_lines : (o : Option ℕ) (p : ℕ → Bool) (whole : List ℕ)
+      → lines_in id bytes head o (filter p whole) (untagged_among t o whole) ≡ sent id (filter (λ x. p x.0) (dressed_in t o whole bytes head))
+  soft_lines o p whole = sent_lines o p whole (untagged_among t o whole) (λ vid q some within.
+      ap (λ (v : Option ℕ). has_number (untagged_among t v whole) q) (sym some) ∙ has_passed (λ k. untagged t k vid) q whole (in_whole p q whole within))
+
+  -- among the ports of the chip's share
+  share_lines : (o : Option ℕ) (p : ℕ → Bool) (whole : List ℕ)
+      → lines_in id bytes head o (filter p whole) (untagged_at_chip t o (filter p whole)) ≡ sent id (filter (λ x. p x.0) (dressed_in t o whole bytes head))
+  share_lines o p whole = sent_lines o p whole (untagged_at_chip t o (filter p whole)) (λ vid q some within.
+      ap (λ (v : Option ℕ). has_number (untagged_at_chip t v (filter p whole)) q) (sym some) ∙ has_passed (λ k. untagged t k vid) q (filter p whole) within)
+
+  no_lines : (o : Option ℕ) (set : List ℕ) → lines_in id bytes head o [] set ≡ []
+  no_lines None set = refl
+  no_lines (Some vid) set = refl
+
+  chip_lines : (domains : Domains) (port : ℕ) (c : Class) (o : Option ℕ) (whole : List ℕ)
+      → lines_in id bytes head o (chip_ports_by c domains port whole) (untagged_at_chip t o (chip_ports_by c domains port whole)) ≡ sent id (chip_out_by c domains port (dressed_in t o whole bytes head))
+  chip_lines domains port Drop o whole = no_lines o (untagged_at_chip t o [])
+  chip_lines domains port Trap o whole = no_lines o (untagged_at_chip t o [])
+  chip_lines domains port Copy o whole = share_lines o (λ q. not (foreign domains port q)) whole
+  chip_lines domains port Forward o whole = share_lines o (λ q. not (foreign domains port q)) whole
+
+module _ (domains : Domains) (t : Table) (port id : ℕ) (bytes : List ℕ) (head : Head) where
+  pub sent_by : (v : Verdict) (mark : Option ℕ) (ports : List ℕ) → Decides domains t port head Plain v → ports ≡ filter (λ q. not (is_marked domains mark q)) v.ports
+      → lines_in id bytes head v.vid ports v.untagged ≡ sent id (soft_out domains t port bytes head mark)
   unfolding leave
-  left = ap₂ (λ (o : Option ℕ) (ports : List ℕ). dressed_in t o ports f.bytes f.head) (sym decided.vid) (sym decided.ports)
+  sent_by v mark ports d is =
+      ap₂ (λ ps set. lines_in id bytes head v.vid ps set) is d.untagged
+      ∙ soft_lines t id bytes head v.vid (λ q. not (is_marked domains mark q)) v.ports
+      ∙ ap₂ (λ (o : Option ℕ) ps. sent id (remaining domains mark (dressed_in t o ps bytes head))) d.vid d.ports
 
-  pub sent-none : None ≡ v.vid → sent f.id (soft_out domains t f.port f.bytes f.head f.mark) ≡ []
-  sent-none none = ap (λ (out : List (ℕ × List ℕ)). sent f.id (remaining domains f.mark out)) (left ∙ ap (λ (o : Option ℕ). dressed_in t o v.ports f.bytes f.head) (sym none))
-
-  pub sent-some : (vid : ℕ) → Some vid ≡ v.vid
-      → sent f.id (soft_out domains t f.port f.bytes f.head f.mark) ≡ map (line_at v.untagged f vid) (filter (λ q. not (is_marked domains f.mark q)) v.ports)
-  sent-some vid some =
-      ap (λ (out : List (ℕ × List ℕ)). sent f.id (remaining domains f.mark out)) (left ∙ ap (λ (o : Option ℕ). dressed_in t o v.ports f.bytes f.head) (sym some))
-      ∙ ap (λ (out : List (ℕ × List ℕ)). sent f.id out) (passed (λ q. not (is_marked domains f.mark q)) (λ q. dressed f.bytes f.head (tag_at t q vid)) v.ports)
-      ∙ map-map (λ (x : ℕ × List ℕ). Tx f.id x.0 x.1) (λ q. (q, dressed f.bytes f.head (tag_at t q vid))) (filter (λ q. not (is_marked domains f.mark q)) v.ports)
-      ∙ same_lines t f vid v.untagged (filter (λ q. not (is_marked domains f.mark q)) v.ports)
-      (λ q within. ap (λ (set : List ℕ). has_number set q) (decided.untagged ∙ ap (λ (o : Option ℕ). untagged_among t o v.ports) (sym some))
-      ∙ has_passed (λ k. untagged t k vid) q v.ports (in_whole (λ k. not (is_marked domains f.mark k)) q v.ports within))
+  pub passed_by : (p : Passed) → IsPass domains t port head Plain p → lines_in id bytes head p.vid p.ports p.untagged ≡ sent id (chip_out domains t port bytes head)
+  unfolding leave
+  passed_by p is =
+      ap (λ set. lines_in id bytes head p.vid p.ports set) is.untagged
+      ∙ ap₂ (λ (o : Option ℕ) ps. lines_in id bytes head o ps (untagged_at_chip t o ps)) is.vid is.ports
+      ∙ chip_lines t id bytes head domains port (class domains t port head Plain) (admit t port head) (ports_out t port head Plain)

@@ -1,8 +1,13 @@
 pub mod Ordered
-pub mod Held
+pub mod HeldRows
 pub mod Keeping
 pub mod Leaving
 pub mod Placing
 pub mod Rooms
 pub mod Following
 pub mod Noting
+pub mod Sweeping
+pub mod Reacting
+pub mod Stepping
+pub mod Calling
+pub mod Entering

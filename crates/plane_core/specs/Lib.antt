@@ -1,4 +1,10 @@
 pub mod Queued
+pub mod Arrivals
 pub mod Places
 pub mod Sent
 pub mod Chips
+pub mod Sides
+pub mod Shown
+pub mod Planes
+pub mod Sweep
+pub mod Seats

@@ -1,7 +1,7 @@
 //! A chip that follows the history of a bridge.
 ghost use Rattle.std.specs.Prelude.{◌≡◌, ◌≤◌, ℕ, [], IfOk, OnOk, OnErr, false, length, take, drop, slice_get, if◌then◌else◌};
 ghost use Rattle.br_model.specs.Change.{deferred, updates};
-ghost use Rattle.br_model.specs.Chip.{Chip as ChipValue, first_chip, hit_by, offered, offers, hits_entry};
+ghost use Rattle.br_model.specs.Chip.{Chip as ChipValue, first_chip, hit_by, offered, offers, hits_entry, unhit};
 ghost use Rattle.br_model.specs.Cut.{cut, deferred_at, deferred_count};
 ghost use Rattle.br_model.specs.Domains.{Domains as DomainsValue, chip};
 ghost use Rattle.br_model.specs.Limits.{AreWithin};
@@ -10,11 +10,12 @@ ghost use Rattle.chip_driver.specs.Drives.{Drives, IsTaken};
 ghost use Rattle.plane_core.specs.Places.{places};
 ghost use Rattle.plane_core.specs.Chips.{chip_of, IsChip, IsCut, Turns};
 
-use crate::NoMemory;
 use crate::updates::Updates;
+use crate::{NoMemory, sweep};
 use br_model::change::{Change, Update};
 use br_model::domains::Domains;
 use br_model::numbers::{Dom, Mac, Port, Vid};
+use br_model::steps::Triples;
 use chip_driver::Driver;
 use chip_tables::Tables;
 use learn_report::{Report, Reports};
@@ -41,7 +42,7 @@ impl Model for Chip {
 }
 
 /// The domain of the chip.
-fn dom() -> Dom
+pub(crate) fn dom() -> Dom
     ensures { result ≡ chip }
 {
     match Dom::new(1) {
@@ -213,6 +214,13 @@ impl Chip {
         ensures { self.new ≡ record self.old { chip = record self.old.chip { reports = drop 1 self.old.chip.reports } } }
     {
         let _oldest = self.reports.next();
+    }
+
+    /// The stations that it learned at its own ports and that no frame hit, ascending by VLAN and address.
+    pub fn unhit(&self, alloc: Global) -> Result<Triples, NoMemory>
+        ensures { IfOk result (λ stations. (domains : DomainsValue) (t : Table) → Drives domains self.now.driver t → stations ≡ unhit domains t self.now.chip) }
+    {
+        sweep::unhit(alloc, self.driver.tables(), &self.reports)
     }
 
     /// No entry is hit.

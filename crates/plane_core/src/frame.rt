@@ -1,8 +1,10 @@
 //! Frames that wait for software, or that it holds.
-ghost use Rattle.std.specs.Prelude.{◌≡◌, Ok};
+ghost use Rattle.std.specs.Prelude.{◌≡◌, ◌↔◌, IsTrue, Ok};
 ghost use Rattle.br_model.specs.Frames.{frame as frame_of};
 ghost use Rattle.hwdom_marks.specs.Marks.{domain_marked};
+ghost use Rattle.plane_core.specs.Shown.{shown_by, shown_of};
 
+use crate::held::Held;
 use br_model::bytes::Bytes;
 use br_model::frame::Head;
 use br_model::numbers::Port;
@@ -111,6 +113,18 @@ impl Holding {
         ensures { result ≡ self.now.floor }
     {
         self.floor
+    }
+
+    /// Whether it is what the caller has of it.
+    pub fn is_shown_by(&self, held: &Held) -> bool
+        ensures { IsTrue result ↔ (shown_by held.now ≡ shown_of self.now) }
+    {
+        let frame = &self.frame;
+        frame.id() == held.id
+            && frame.port() == held.port
+            && frame.bytes() == held.bytes.as_slice()
+            && frame.mark() == held.mark
+            && self.floor == held.floor
     }
 
     pub fn into_frame(self) -> Frame

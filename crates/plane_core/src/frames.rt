@@ -1,18 +1,50 @@
 //! The frames on their way to software.
-ghost use Rattle.std.specs.Prelude.{◌≡◌, ◌==◌, ◌+◌, ◌<◌, ◌^◌, ◌++◌, ◌∷◌, [], not, nat_lt, length, drop, slice_get, Option, Some, None, IfOk, OnOk, OnErr};
+ghost use Rattle.std.specs.Prelude.{◌≡◌, ◌==◌, ◌+◌, ◌<◌, ◌^◌, ◌++◌, ◌∷◌, [], not, nat_lt, length, drop, slice_get, Option, Some, None, Ok, IfOk, OnOk, OnErr};
 ghost use Rattle.std.specs.List.{filter, find};
 ghost use Rattle.std.specs.Option.{option_copied};
 ghost use Rattle.br_model.specs.Limits.{most_waiting};
+ghost use Rattle.br_model.specs.Frames.{frame as frame_of};
+ghost use Rattle.hwdom_marks.specs.Marks.{domain_marked};
 ghost use Rattle.plane_core.specs.Queued.{Queued, holds_oldest};
+ghost use Rattle.plane_core.specs.Arrivals.{arrival, arrival_lines, settled, IsArrival};
 
 use crate::NoMemory;
 use crate::frame::{Frame, Holding};
+use br_model::bytes::Bytes;
+use br_model::frame::Head;
+use br_model::numbers::Port;
+use br_model::transcript::Line;
+use hwdom_marks::Mark;
 use std::alloc::{AllocError, Global};
 use std::collections::{BTreeMap, VecDeque};
 use std::marker::Model;
 
 /// How many frames wait or are held at most.
 pub const MOST_WAITING: usize = 4096;
+
+/// What becomes of a frame that enters.
+#[derive(Drop)]
+pub(crate) enum Arrival {
+    /// It doesn't go on to software.
+    PassesBy,
+    Waits(Frame),
+    /// It would wait, but as many wait or are held as may.
+    Overruns,
+}
+
+impl Arrival {
+    /// Adds the line that says of the frame with this id that it doesn't wait for want of room, if so.
+    pub(crate) fn tell(&self, id: u32, lines: &mut Vec<Line>) -> Result<(), NoMemory>
+        ensures { OnOk result (lines.new.items ≡ lines.old.items ++ arrival_lines id self.now) }
+    {
+        match self {
+            Arrival::Overruns => lines.push(Line::Overrun { id })?,
+            Arrival::PassesBy => {}
+            Arrival::Waits(_) => {}
+        }
+        Ok(())
+    }
+}
 
 /// The frames that wait, those that software holds, and the id of the next frame.
 #[derive(Drop)]
@@ -76,22 +108,34 @@ impl Frames {
         self.waiting.len() + self.held.len() >= MOST_WAITING
     }
 
-    /// The next id is taken by a frame that doesn't wait.
-    pub fn pass_by(&mut self)
-        requires { self.old.next + 1 < 2 ^ 32 }
-        ensures { self.new ≡ record self.old { next = self.old.next + 1 } }
+    /// A frame that goes on to software, with the next id and a copy of its bytes.
+    pub(crate) fn arrive(
+        &self,
+        alloc: Global,
+        port: Port,
+        bytes: &[u8],
+        head: &Head,
+        mark: Option<Mark>,
+    ) -> Result<Arrival, NoMemory>
+        requires { frame_of bytes.now ≡ Ok head.now }
+        ensures { IfOk result (λ a. a ≡ arrival self.now (record { id = self.now.next; port = port; bytes = bytes.now; head = head.now; mark = domain_marked mark })) }
     {
-        self.next += 1;
+        if self.is_full() {
+            return Ok(Arrival::Overruns);
+        }
+        let bytes = Bytes::copy_of(alloc, bytes)?;
+        Ok(Arrival::Waits(Frame::of(self.next, port, bytes, *head, mark)))
     }
 
-    /// The frame with the next id waits.
-    pub fn wait(&mut self, frame: Frame)
-        requires id { frame.id ≡ self.old.next }
+    /// The next id is taken by a frame that arrived.
+    pub(crate) fn settle(&mut self, arrival: Arrival)
         requires last { self.old.next + 1 < 2 ^ 32 }
-        requires room { length self.old.waiting + length self.old.held < most_waiting }
-        ensures { self.new ≡ record self.old { waiting = self.old.waiting ++ frame ∷ []; next = self.old.next + 1 } }
+        requires room { IsArrival self.old arrival }
+        ensures { self.new ≡ settled self.old arrival }
     {
-        self.waiting.push_back_reserved(frame);
+        if let Arrival::Waits(frame) = arrival {
+            self.waiting.push_back_reserved(frame);
+        }
         self.next += 1;
     }
 

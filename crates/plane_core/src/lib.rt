@@ -1,16 +1,20 @@
-//! The core of a bridge with a switch chip: what waits for software, and what it holds.
+//! The core of a bridge with a switch chip: the kernel's side and the chip together, one step of the world a call.
 #![tactic(auto)]
 
-pub mod chip;
-pub mod frame;
-pub mod frames;
+mod chip;
+mod faults;
+mod frame;
+mod frames;
+mod held;
+pub mod plane;
 mod sending;
-pub mod updates;
+mod sides;
+mod sweep;
+mod updates;
 
-pub use chip::Chip;
-pub use frame::{Frame, Holding};
-pub use frames::Frames;
-pub use updates::Updates;
+pub use faults::{PostFault, TurnFault};
+pub use held::Held;
+pub use plane::{Entered, Plane};
 
 /// Want of memory.
 pub type NoMemory = std::alloc::AllocError;

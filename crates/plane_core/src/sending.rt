@@ -1,82 +1,106 @@
-//! The lines of a frame that software sends.
-ghost use Rattle.std.specs.Prelude.{◌≡◌, ◌<◌, ◌++◌, map, IfOk, OnOk};
+//! The lines of a frame that the chip or software sends.
+ghost use Rattle.std.specs.Prelude.{◌≡◌, ℕ, ◌<◌, ◌++◌, List, map, IfOk, OnOk, Ok};
+ghost use Rattle.br_model.specs.Domains.{Domains as DomainsValue};
+ghost use Rattle.br_model.specs.Frames.{frame as frame_of};
 ghost use Rattle.br_model.specs.Plane.World.{sent};
-ghost use Rattle.br_model.specs.Shares.{soft_out};
+ghost use Rattle.br_model.specs.Shares.{chip_out, soft_out};
 ghost use Rattle.br_model.specs.Table.{Table};
+ghost use Rattle.br_model.specs.declared.frame.Head.{Head as HeadValue};
 ghost use Rattle.br_model.specs.declared.frame.McastMsg.TheVariants.{Plain};
-ghost use Rattle.plane_core.specs.Sent.{line_at};
+ghost use Rattle.chip_pipeline.specs.Passed.{IsPass};
+ghost use Rattle.hwdom_marks.specs.Marks.{domain_marked};
+ghost use Rattle.plane_core.specs.Sent.{line_at, lines_of};
 ghost use Rattle.table_publish.specs.Board.{Decides};
 
 use crate::NoMemory;
-use crate::frame::Frame;
 use br_model::domains::Domains;
+use br_model::frame::Head;
 use br_model::numbers::{Port, Vid};
-use br_model::transcript::{Line, Lines};
+use br_model::transcript::Line;
+use chip_pipeline::Pass;
 use ether_frames::dress;
 use forward_rules::Verdict;
-use hwdom_marks::remaining;
+use hwdom_marks::{Mark, remaining};
 use port_sets::Ports;
 use std::alloc::Global;
+
+/// By which ports a frame leaves: those of its VLAN, and those of them that it leaves without a tag.
+#[derive(Clone, Copy, Debug)]
+pub(crate) struct Egress {
+    pub(crate) vid: Option<Vid>,
+    pub(crate) ports: Ports,
+    pub(crate) untagged: Ports,
+}
+
+impl Egress {
+    /// That of the frame at the chip.
+    pub(crate) fn of_pass(pass: &Pass) -> Egress
+        ensures { (domains : DomainsValue) (t : Table) (port : ℕ) (head : HeadValue) → IsPass domains t port head Plain pass.now
+            → (id : ℕ) (bytes : List ℕ) → lines_of id bytes head result ≡ sent id (chip_out domains t port bytes head) }
+    {
+        Egress {
+            vid: pass.vid(),
+            ports: pass.ports(),
+            untagged: pass.untagged(),
+        }
+    }
+
+    /// That of the frame in software, which leaves out the domain that the frame is marked with.
+    pub(crate) fn of_verdict(verdict: &Verdict, mark: Option<Mark>, domains: &Domains) -> Egress
+        ensures { (t : Table) (port : ℕ) (head : HeadValue) → Decides domains.now t port head Plain verdict.now
+            → (id : ℕ) (bytes : List ℕ) → lines_of id bytes head result ≡ sent id (soft_out domains.now t port bytes head (domain_marked mark)) }
+    {
+        Egress {
+            vid: verdict.vid,
+            ports: remaining(verdict.ports, mark, domains),
+            untagged: verdict.untagged,
+        }
+    }
+}
 
 /// The line of the port of this number, which the frame leaves, with the VLAN's tag unless it is among the untagged ones.
 fn line_at(
     alloc: Global,
-    frame: &Frame,
+    id: u32,
+    bytes: &[u8],
+    head: &Head,
     vid: Vid,
     untagged: Ports,
     number: u8,
 ) -> Result<Line, NoMemory>
-    requires { number < 64 }
-    ensures { IfOk result (λ line. line ≡ line_at untagged frame.now vid number) }
+    requires number { number < 64 }
+    requires frame { frame_of bytes.now ≡ Ok head.now }
+    ensures { IfOk result (λ line. line ≡ line_at untagged id bytes.now head.now vid number) }
 {
     let tag = if untagged.has(number) {
         None
     } else {
         Some(vid)
     };
-    let bytes = dress(alloc, frame.bytes(), frame.head(), tag)?;
+    let bytes = dress(alloc, bytes, head, tag)?;
     match Port::new(number) {
-        Some(port) => Ok(Line::Tx {
-            id: frame.id(),
-            port,
-            bytes,
-        }),
+        Some(port) => Ok(Line::Tx { id, port, bytes }),
         None => unreachable!(),
     }
 }
 
-/// Adds a line for each of these ports, which the frame leaves.
-pub(crate) fn send_to(
-    alloc: Global,
-    frame: &Frame,
-    vid: Vid,
-    ports: Ports,
-    untagged: Ports,
-    lines: &mut Lines,
-) -> Result<(), NoMemory>
-    ensures { OnOk result (lines.new ≡ lines.old ++ map (line_at untagged frame.now vid) ports) }
-{
-    for number in ports.iter() {
-        lines.push(line_at(alloc, frame, vid, untagged, number)?)?;
-    }
-    Ok(())
-}
-
-/// Adds the lines of the ports to which software sends the frame by this verdict: without those of the domain that it is marked
-/// with.
+/// Adds a line for each port by which the frame leaves.
 pub(crate) fn send(
     alloc: Global,
-    frame: &Frame,
-    verdict: &Verdict,
-    domains: &Domains,
-    lines: &mut Lines,
+    id: u32,
+    bytes: &[u8],
+    head: &Head,
+    out: &Egress,
+    lines: &mut Vec<Line>,
 ) -> Result<(), NoMemory>
-    ensures { OnOk result ((t : Table) → Decides domains.now t frame.now.port frame.now.head Plain verdict.now
-        → lines.new ≡ lines.old ++ sent frame.now.id (soft_out domains.now t frame.now.port frame.now.bytes frame.now.head frame.now.mark)) }
+    requires { frame_of bytes.now ≡ Ok head.now }
+    ensures { OnOk result (lines.new.items ≡ lines.old.items ++ lines_of id bytes.now head.now out.now) }
 {
-    let ports = remaining(verdict.ports, frame.mark(), domains);
-    match verdict.vid {
-        Some(vid) => send_to(alloc, frame, vid, ports, verdict.untagged, lines),
-        None => Ok(()),
+    let Some(vid) = out.vid else {
+        return Ok(());
+    };
+    for number in out.ports.iter() {
+        lines.push(line_at(alloc, id, bytes, head, vid, out.untagged, number)?)?;
     }
+    Ok(())
 }

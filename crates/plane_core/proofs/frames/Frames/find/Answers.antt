@@ -1,10 +1,10 @@
-use Rattle.std.proofs.Common.{◌≡◌, ◌==◌, refl, sym, ap, ◌∙◌}
+use Rattle.std.proofs.Common.{◌==◌, ap, ◌∙◌}
 use Rattle.std.specs.List.{find}
 use Rattle.std.specs.Ordering.{nat_cmp}
 use Rattle.std.specs.Map.{lookup}
 use Rattle.std.specs.BTreeMap.{is_at}
 use Rattle.plane_core.specs.Queued.{held_in}
-use Rattle.plane_core.proofs.Held.{found}
+use Rattle.plane_core.proofs.HeldRows.{found}
 use Rattle.plane_core.proofs.frames.Frames.find.Goals as goal
 
 pub returns : goal.returns

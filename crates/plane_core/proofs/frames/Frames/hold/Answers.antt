@@ -1,9 +1,9 @@
-use Rattle.std.proofs.Common.{◌≡◌, ◌++◌, ◌∷◌, [], refl, sym, ap, ◌∙◌, List, ℕ}
+use Rattle.std.proofs.Common.{◌≡◌, ◌++◌, ◌∷◌, [], refl, sym, ap, ◌∙◌, List}
 use Rattle.std.specs.Ordering.{nat_cmp}
 use Rattle.std.specs.BTreeMap.{insert_entry}
-use Rattle.br_model.specs.Plane.World.{Waiting, Holding}
+use Rattle.br_model.specs.Plane.World.{Holding}
 use Rattle.plane_core.specs.Queued.{Queued, IsQueued, holds_oldest, held_in, under_ids, waiting_ids}
-use Rattle.plane_core.proofs.Held.{appended, held_under}
+use Rattle.plane_core.proofs.HeldRows.{appended, held_under}
 use Rattle.plane_core.proofs.Keeping.{holds}
 use Rattle.plane_core.proofs.frames.Frames.hold.Goals as goal
 

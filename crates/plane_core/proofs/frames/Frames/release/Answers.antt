@@ -5,7 +5,7 @@ use Rattle.std.specs.Map.{lookup, remove_entry}
 use Rattle.std.specs.BTreeMap.{is_at}
 use Rattle.br_model.specs.Plane.World.{Waiting, Holding}
 use Rattle.plane_core.specs.Queued.{Queued, held_in, under_ids, waiting_ids}
-use Rattle.plane_core.proofs.Held.{found, held_under, remaining}
+use Rattle.plane_core.proofs.HeldRows.{found, held_under, remaining}
 use Rattle.plane_core.proofs.Keeping.{releases}
 use Rattle.plane_core.proofs.frames.Frames.release.Goals as goal
 

@@ -1,4 +1,3 @@
-use Rattle.std.proofs.Common.{rules, ◌≡◌, ◌+◌, ◌<◌, ◌++◌, ◌∷◌, [], refl, sym, ap, ◌∙◌, ℕ}
 use Rattle.plane_core.proofs.Keeping.{serves}
 use Rattle.plane_core.proofs.frames.Frames.serve.Goals as goal
 

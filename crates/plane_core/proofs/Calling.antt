@@ -1,0 +1,157 @@
+-- What a call of a plane comes to, by what its sides and its frames come to.
+use Rattle.std.proofs.Common.{◌≡◌, ℕ, ◌+◌, ◌==◌, ◌≤◌, nat_le, Bool, true, false, cond, ◌&&◌, not, List, [], ◌∷◌, length, take, drop, slice_get, Option, None, Some, refl, sym, ap, ◌∙◌, subst, arith}
+use Rattle.std.proofs.lemmas.Bool.{eqb-true}
+use Rattle.std.specs.List.{filter, find}
+use Rattle.std.specs.Ordering.{nat_cmp}
+use Rattle.br_model.specs.declared.change.Change.{Change}
+use Rattle.br_model.specs.declared.steps.Event.{Event}
+use Rattle.br_model.specs.declared.steps.Event.TheVariants as events
+use Rattle.br_model.specs.declared.steps.Refusal.TheVariants.{NothingPending, NoSuchPoint}
+use Rattle.br_model.specs.declared.transcript.Line.{Line}
+use Rattle.br_model.specs.declared.transcript.Line.TheVariants as lines
+use Rattle.br_model.specs.Chip.{applies}
+use Rattle.br_model.specs.Cut.{deferred_at}
+use Rattle.br_model.specs.Maps.{has}
+use Rattle.br_model.specs.Plane.ChipSteps.{turns}
+use Rattle.br_model.specs.Plane.Invariants.{IsWorld}
+use Rattle.br_model.specs.Plane.Serving.{posts, serves, holds, held_with, lets_go, is_point, posts_at}
+use Rattle.br_model.specs.Plane.Steps.{Step, Cmd, Now, Serve, Hold, Post, Turn, Publish, publishes, does, world_step}
+use Rattle.br_model.specs.Plane.World.{World, Waiting, Holding, Stepped, answered, reacts, refused, done}
+use Rattle.br_model.specs.Setup.{Setup}
+use Rattle.br_model.specs.Table.{table}
+use Rattle.br_model.specs.declared.frame.McastMsg.TheVariants.{Plain}
+use Rattle.table_publish.specs.Board.{Decides}
+use Rattle.table_publish.specs.Object.{Whose}
+use Rattle.table_publish.specs.declared.seat.Seen.{Seen}
+use Rattle.plane_core.specs.Shown.{shown_by, shown_of}
+use Rattle.plane_core.specs.declared.held.Held.{Held}
+use Rattle.br_model.proofs.PlaneKept.{first-world, step-world}
+use Rattle.plane_core.specs.Planes.{PlaneState, Steps, IsDecision, IsNamed}
+use Rattle.plane_core.specs.Queued.{Queued, holds_oldest}
+use Rattle.plane_core.specs.Sides.{SidesState, Comes, SideTurns, first_sides, world_of}
+use Rattle.plane_core.proofs.Stepping.{stepped}
+
+-- after a step that comes to these sides and frames
+pub stands_after : (s t : SidesState) (q r : Queued) (n m : ℕ) (step : Step) (lines : List Line) → m ≡ n + 1 → does (world_of s q m) step ≡ (world_of t r m, lines)
+    → IsWorld (world_of s q n) → IsWorld (world_of t r m)
+stands_after s t q r n m step lines e h k =
+    stepped (world_of s q n) (world_of t r m) step lines (subst (λ i. does (world_of s q i) step ≡ (world_of t r m, lines)) e h) k
+
+pub stands_first : (setup : Setup) (board : Whose) (s : SidesState) (q : Queued) → s ≡ first_sides setup board → q ≡ record { waiting = []; held = []; next = 1 } → IsWorld (world_of s q 0)
+stands_first setup board s q e f =
+    subst (λ (x : SidesState). IsWorld (world_of x q 0)) (sym e) (subst (λ (x : Queued). IsWorld (world_of (first_sides setup board) x 0)) (sym f) (first-world setup))
+
+pub stands_accepted : (e : Event) → IsNamed e → (s t : SidesState) (q : Queued) (n m : ℕ) (lines : List Line) → m ≡ n + 1
+    → Comes (λ w. answered w w (reacts w e)) s m t lines → IsWorld (world_of s q n) → IsWorld (world_of t q m)
+stands_accepted (events.Cmd c) is s t q n m lines e h k = stands_after s t q q n m (Cmd c) lines e (h q) k
+stands_accepted (events.Moment now) is s t q n m lines e h k = stands_after s t q q n m (Now now) lines e (h q) k
+stands_accepted (events.Sight port bytes head) is s t q n m lines e h k = elim is [ ]
+stands_accepted (events.Told vid mac port) is s t q n m lines e h k = elim is [ ]
+stands_accepted (events.Forget stations) is s t q n m lines e h k = elim is [ ]
+
+-- The oldest frame is served, or held.
+
+serves_front : (s t : SidesState) (waiting : List Waiting) (held : List Holding) (next : ℕ) (f : Waiting) (m : ℕ) (lines : List Line) → Some f ≡ slice_get waiting 0
+    → Comes (λ w. posts w f w.published) s m t lines
+    → serves (world_of s (record { waiting = waiting; held = held; next = next }) m) waiting ≡ (world_of t (record { waiting = drop 1 waiting; held = held; next = next }) m, lines)
+serves_front s t [] held next f m lines e h = absurd (cc)
+serves_front s t (g ∷ later) held next f m lines e h =
+    let same : g ≡ f = cc in
+    ap (λ x. posts (world_of s (record { waiting = later; held = held; next = next }) m) x (length s.published.changes)) same ∙ h (record { waiting = later; held = held; next = next })
+
+pub serves_oldest : (s t : SidesState) (q : Queued) (f : Waiting) (m : ℕ) (lines : List Line) → Some f ≡ slice_get q.waiting 0 → Comes (λ w. posts w f w.published) s m t lines
+    → does (world_of s q m) Serve ≡ (world_of t (record q { waiting = drop 1 q.waiting }) m, lines)
+serves_oldest s t q f m lines e h = serves_front s t q.waiting q.held q.next f m lines e h
+
+pub stands_served : (s t : SidesState) (q r : Queued) (n m : ℕ) (f : Waiting) (lines : List Line) → m ≡ n + 1 → Some f ≡ slice_get q.waiting 0 → Comes (λ w. posts w f w.published) s m t lines
+    → r ≡ record q { waiting = drop 1 q.waiting } → IsWorld (world_of s q n) → IsWorld (world_of t r m)
+stands_served s t q r n m f lines e oldest comes left k =
+    subst (λ (x : Queued). IsWorld (world_of t x m)) (sym left)
+    (stands_after s t q (record q { waiting = drop 1 q.waiting }) n m Serve lines e (serves_oldest s t q f m lines oldest comes) k)
+
+holds_front : (s : SidesState) (q : Queued) (waiting : List Waiting) (m : ℕ) → (holds (world_of s q m) waiting).0 ≡ world_of s (holds_oldest q (length s.published.changes) waiting) m
+holds_front s q [] m = refl
+holds_front s q (f ∷ later) m = refl
+
+pub holds_as : (s : SidesState) (q : Queued) (m : ℕ) → (does (world_of s q m) Hold).0 ≡ world_of s (holds_oldest q (length s.published.changes) q.waiting) m
+holds_as s q m = holds_front s q q.waiting m
+
+pub stands_held : (s : SidesState) (q r : Queued) (n m floor : ℕ) → m ≡ n + 1 → floor ≡ length s.published.changes → r ≡ holds_oldest q floor q.waiting → IsWorld (world_of s q n)
+    → IsWorld (world_of s r m)
+stands_held s q r n m floor e f g k =
+    let to : (world_step (world_of s q n) Hold).0 ≡ world_of s r m =
+    holds_as s q (n + 1) ∙ ap (λ i. world_of s (holds_oldest q i q.waiting) (n + 1)) (sym f) ∙ ap (λ x. world_of s x (n + 1)) (sym g) ∙ ap (world_of s r) (sym e) in
+    subst IsWorld to (step-world (world_of s q n) Hold k)
+
+-- A held frame is sent.
+
+found_id : (id : ℕ) (hs : List Holding) (x : Holding) → find (λ h. h.waiting.id == id) hs ≡ Some x → (x.waiting.id == id) ≡ true
+found_id id [] x e = absurd (cc)
+found_id id (h ∷ hs) x e =
+    (elim (h.waiting.id == id) as (λ b. (h.waiting.id == id) ≡ b → cond b (Some h) (find (λ g. g.waiting.id == id) hs) ≡ Some x → (x.waiting.id == id) ≡ true) [
+      | true ↦ λ is e. let same : h ≡ x = cc in subst (λ (y : Holding). (y.waiting.id == id) ≡ true) same is
+      | false ↦ λ no e. found_id id hs x e
+    ]) refl e
+
+le_test : (a b : ℕ) → a ≤ b → nat_le a b ≡ true
+le_test a b h = grind arith
+
+-- so many changes were published, at the floor or later
+points : (w : World) (x : Holding) (point : ℕ) → has nat_cmp w.counts point ≡ true → x.floor ≤ point → is_point w x point ≡ true
+points w x point known late = ap (λ b. b && nat_le x.floor point) known ∙ le_test x.floor point late
+
+pub posts_found : (s t : SidesState) (q : Queued) (id point : ℕ) (x : Holding) (m : ℕ) (lines : List Line) → find (λ h. h.waiting.id == id) q.held ≡ Some x
+    → has nat_cmp s.published.counts point ≡ true → x.floor ≤ point → Comes (λ w. posts w x.waiting point) s m t lines
+    → does (world_of s q m) (Post id (Some point)) ≡ (world_of t (record q { held = filter (λ h. not (h.waiting.id == id)) q.held }) m, lines)
+posts_found s t q id point x m lines e known late h =
+    let w = world_of s q m in
+    ap (λ o. posts_at w o (Some point)) e
+    ∙ ap (λ b. cond {A = Stepped} b (posts (lets_go w x.waiting.id) x.waiting point) (refused w NoSuchPoint)) (points w x point known late)
+    ∙ ap (λ i. posts (lets_go w i) x.waiting point) (eqb-true x.waiting.id id (found_id id q.held x e))
+    ∙ h (record q { held = filter (λ g. not (g.waiting.id == id)) q.held })
+
+-- a frame that is found is the one that is held
+pub held_there : (old : PlaneState) (s : SidesState) (q : Queued) (n id : ℕ) (x : Holding) → record { world = world_of s q n; board = s.board } ≡ old → Some x ≡ find (λ h. h.waiting.id == id) q.held
+    → held_with old.world id ≡ Some x
+held_there old s q n id x was found = ap (λ (o : PlaneState). held_with o.world id) (sym was) ∙ sym found
+
+-- what is asked of a decision, in the plane's sides
+pub decided : (old : PlaneState) (s : SidesState) (q : Queued) (n : ℕ) (x : Holding) (f : Waiting) (seen : Seen) → record { world = world_of s q n; board = s.board } ≡ old → f ≡ x.waiting
+    → IsDecision old.world x seen → Decides s.setup.domains (table (take seen.point s.history)) f.port f.head Plain seen.verdict
+decided old s q n x f seen was same is =
+    let by : IsDecision (world_of s q n) x seen = subst (λ (o : PlaneState). IsDecision o.world x seen) (sym was) is in
+    subst (λ (g : Waiting). Decides s.setup.domains (table (take seen.point s.history)) g.port g.head Plain seen.verdict) (sym same) by.verdict
+
+pub stands_posted : (old : PlaneState) (s t : SidesState) (q r : Queued) (n m : ℕ) (h : Held) (x : Holding) (f : Waiting) (seen : Seen) (lines : List Line)
+    → record { world = world_of s q n; board = s.board } ≡ old → m ≡ n + 1 → find (λ g. g.waiting.id == h.id) q.held ≡ Some x → shown_by h ≡ shown_of x → f ≡ x.waiting
+    → h.floor ≤ seen.point → IsDecision old.world x seen → Comes (λ w. posts w f seen.point) s m t lines
+    → r ≡ record q { held = filter (λ g. not (g.waiting.id == h.id)) q.held } → IsWorld (world_of s q n) → IsWorld (world_of t r m)
+stands_posted old s t q r n m h x f seen lines was e found shown same floor is comes left k =
+    let by : IsDecision (world_of s q n) x seen = subst (λ (o : PlaneState). IsDecision o.world x seen) (sym was) is in
+    let floors : h.floor ≡ x.floor = ap (λ v. v.floor) shown in
+    let sends : Comes (λ w. posts w x.waiting seen.point) s m t lines = subst (λ (g : Waiting). Comes (λ w. posts w g seen.point) s m t lines) same comes in
+    subst (λ (y : Queued). IsWorld (world_of t y m)) (sym left)
+    (stands_after s t q (record q { held = filter (λ g. not (g.waiting.id == h.id)) q.held }) n m (Post h.id (Some seen.point)) lines e
+    (posts_found s t q h.id seen.point x m lines found by.point (omega arith) sends) k)
+
+-- The chip turns; all is published.
+
+pub stands_turned : (s t : SidesState) (q : Queued) (n m : ℕ) (o : Option Change) (more : Bool) → m ≡ n + 1 → deferred_at s.history s.chip.count ≡ o → SideTurns s t o more
+    → IsWorld (world_of s q n) → IsWorld (world_of t q m)
+stands_turned s t q n m None more e at h k =
+    subst (λ (x : SidesState). IsWorld (world_of x q m)) (sym h.1) (stands_after s s q q n m Turn (lines.Refused m NothingPending ∷ []) e (ap (turns (world_of s q m)) at) k)
+stands_turned s t q n m (Some d) more e at h k =
+    let now : SidesState = record s { chip = applies s.chip d } in
+    subst (λ (x : SidesState). IsWorld (world_of x q m)) (sym h.1) (stands_after s now q q n m Turn (lines.Done m 0 ∷ []) e (ap (turns (world_of s q m)) at) k)
+
+pub publishes_all : (s t : SidesState) (q : Queued) (m : ℕ) → publishes (world_of s q m) (length s.history) ≡ world_of t q m → does (world_of s q m) Publish ≡ (world_of t q m, lines.Done m 0 ∷ [])
+publishes_all s t q m h = ap (λ (w : World). done w) h
+
+-- what a contract says of such a step
+pub steps_so : (old : PlaneState) (s t : SidesState) (q r : Queued) (n m : ℕ) (step : Step) (told lines : List Line) → record { world = world_of s q n; board = s.board } ≡ old → m ≡ n + 1
+    → does (world_of s q m) step ≡ (world_of t r m, lines) → told ≡ lines → t.board ≡ s.board → Steps old (record { world = world_of t r m; board = t.board }) step told
+steps_so old s t q r n m step told lines was e h same board =
+    subst (λ (o : PlaneState). Steps o (record { world = world_of t r m; board = t.board }) step told) was (record {
+      world = subst (λ i. does (world_of s q i) step ≡ (world_of t r m, lines)) e h ∙ ap (λ ls. (world_of t r m, ls)) (sym same);
+      board = board;
+    })

@@ -1,0 +1,15 @@
+use Rattle.std.proofs.Common.{◌+◌, sym, ap, ◌∙◌}
+use Rattle.br_model.specs.DomainPorts.{is_in_domain}
+use Rattle.br_model.specs.Domains.{chip}
+use Rattle.br_model.specs.Plane.Steps.{Rx}
+use Rattle.plane_core.specs.Arrivals.{settled}
+use Rattle.plane_core.specs.Planes.{PlaneState}
+use Rattle.plane_core.proofs.Entering.{enters_software}
+use Rattle.plane_core.proofs.Stepping.{stepped}
+use Rattle.plane_core.proofs.plane.Plane.enter_software.Goals as goal
+
+pub invariant_of-self : goal.invariant_of-self
+invariant_of-self c =
+    rw (c.settle.ensures ∙ ap (settled c.self.inside.frames) c.in_ok-arrival.ensures, c.requires.step ∙ sym (ap (λ (p : PlaneState). p.world.steps + 1) c.self.view_is))
+    (stepped _ _ (Rx c.args.p c.args.b.now) _ (enters_software c.self.inside.sides c.self.inside.frames c.self.inside.steps c.args.p c.args.b.now c.args.head.now c.requires.frame
+    (ap (λ (p : PlaneState). is_in_domain p.world.setup.domains chip c.args.p) c.self.view_is ∙ c.requires.off_chip)) c.self.invariant)

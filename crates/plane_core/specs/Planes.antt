@@ -1,0 +1,130 @@
+-- What contracts see of a plane: its world, and the board over which it stands.
+use Rattle.std.specs.Prelude.{◌≡◌, ◌≢◌, ℕ, ◌==◌, true, false, List, [], ◌∷◌, IfSome, take, MatchBool, ◌≤◌, ◌<◌}
+use Rattle.std.specs.Ordering.{nat_cmp}
+use Rattle.br_model.specs.Maps.{has}
+use Rattle.std.specs.Option.{is_some, option_map}
+use Rattle.std.specs.declared.option.Option.{Option}
+use Rattle.std.specs.declared.option.Option.TheVariants.{None, Some}
+use Rattle.std.specs.declared.result.Result.{Result}
+use Rattle.std.specs.declared.result.Result.TheVariants.{Ok, Err}
+use Rattle.br_model.specs.declared.change.Update.{Update}
+use Rattle.br_model.specs.declared.frame.FrameFault.{FrameFault}
+use Rattle.br_model.specs.declared.frame.Head.{Head}
+use Rattle.br_model.specs.declared.frame.McastMsg.TheVariants.{Plain}
+use Rattle.br_model.specs.declared.steps.Event.{Event}
+use Rattle.br_model.specs.declared.steps.Event.TheVariants as events
+use Rattle.br_model.specs.declared.transcript.Line.{Line}
+use Rattle.br_model.specs.Cut.{deferred_at}
+use Rattle.br_model.specs.DomainPorts.{is_in_domain}
+use Rattle.br_model.specs.Domains.{chip}
+use Rattle.br_model.specs.Plane.Invariants.{IsWorld}
+use Rattle.br_model.specs.Plane.Serving.{held_with}
+use Rattle.br_model.specs.Plane.Steps.{Step, Cmd, Now, Post, Turn, world_step}
+use Rattle.br_model.specs.Plane.World.{World, Waiting, Holding, table_at, table_of_chip}
+use Rattle.chip_pipeline.specs.Passed.{Passed, IsPass}
+use Rattle.table_publish.specs.Board.{Decides}
+use Rattle.table_publish.specs.Object.{Object, Whose}
+use Rattle.table_publish.specs.declared.seat.Seen.{Seen}
+use Rattle.br_model.specs.declared.frame.Class.{Class}
+use Rattle.br_model.specs.declared.frame.Class.TheVariants.{Drop, Trap, Copy, Forward}
+use Rattle.plane_core.specs.declared.frames.Arrival.{Arrival}
+use Rattle.plane_core.specs.declared.frames.Arrival.TheVariants.{PassesBy}
+use Rattle.plane_core.specs.Arrivals.{arrival}
+use Rattle.plane_core.specs.declared.held.Held.{Held}
+use Rattle.plane_core.specs.Shown.{shown_by, shown_of}
+use Rattle.plane_core.specs.declared.faults.PostFault.{PostFault}
+use Rattle.plane_core.specs.declared.faults.PostFault.TheVariants as posts
+use Rattle.plane_core.specs.declared.faults.TurnFault.{TurnFault}
+use Rattle.plane_core.specs.declared.faults.TurnFault.TheVariants as turns
+
+pub record PlaneState : Type 0 where
+  pub world : World
+  pub board : Whose
+
+-- A step of the world, over the same board, with these lines.
+pub record Steps (old new : PlaneState) (step : Step) (lines : List Line) : Type 0 where
+  pub world : world_step old.world step ≡ (new.world, lines)
+  pub board : new.board ≡ old.board
+
+-- what is published there
+abbrev pub published_in : World → Object
+published_in w = record { changes = take w.published w.history; counts = w.counts }
+
+-- Commands and moments are what a scenario names.
+abbrev pub IsNamed : Event → Type 0
+IsNamed (events.Cmd c) = Unit {0}
+IsNamed (events.Moment now) = Unit {0}
+IsNamed (events.Sight port bytes head) = ⊥
+IsNamed (events.Told vid mac port) = ⊥
+IsNamed (events.Forget stations) = ⊥
+
+abbrev pub Accepts : PlaneState → PlaneState → Event → List Line → Type 0
+Accepts old new (events.Cmd c) lines = Steps old new (Cmd c) lines
+Accepts old new (events.Moment now) lines = Steps old new (Now now) lines
+Accepts old new (events.Sight port bytes head) lines = ⊥
+Accepts old new (events.Told vid mac port) lines = ⊥
+Accepts old new (events.Forget stations) lines = ⊥
+
+-- a frame that goes on to software
+abbrev pub arrival_in : World → Waiting → Arrival
+arrival_in w f = arrival (record { waiting = w.waiting; held = w.held; next = w.next }) f
+
+-- The pass by which a frame at the port of these bytes was decided: none where the port isn't the chip's or the bytes are no
+-- frame.
+abbrev pub IsDecidedBy : World → ℕ → Result Head FrameFault → Option Passed → Type 0
+IsDecidedBy w port (Err why) pass = pass ≡ None
+IsDecidedBy w port (Ok head) pass =
+    MatchBool (is_in_domain w.setup.domains chip port)
+    ((p : Passed) × (pass ≡ Some p) × IsPass w.setup.domains (table_of_chip w) port head Plain p)
+    (pass ≡ None)
+
+-- what becomes of a frame at the port that the chip has put into this class
+abbrev pub arrival_by : Class → World → ℕ → List ℕ → Head → Arrival
+arrival_by Drop w port bytes head = PassesBy
+arrival_by Trap w port bytes head = arrival_in w (record { id = w.next; port = port; bytes = bytes; head = head; mark = None })
+arrival_by Copy w port bytes head = arrival_in w (record { id = w.next; port = port; bytes = bytes; head = head; mark = Some chip })
+arrival_by Forward w port bytes head = PassesBy
+
+-- A turn.
+
+abbrev pub ticket_of : Option Update → Option ℕ
+ticket_of None = None
+ticket_of (Some u) = Some u.ticket
+
+-- whether a deferred change waits for the chip
+abbrev pub IsPending : World → Type 0
+IsPending w = is_some (deferred_at w.history w.chip.count) ≡ true
+
+abbrev pub Turned : PlaneState → PlaneState → Option Update → Result (List Line) TurnFault → Type 0
+Turned old new update (Ok lines) = Steps old new Turn lines × (IsPending old.world → ticket_of update ≡ Some old.world.chip.count)
+Turned old new update (Err turns.NoMemory) = new ≡ old
+Turned old new update (Err (turns.OutOfTurn expected got)) =
+    (new ≡ old) × IsPending old.world × (ticket_of update ≢ Some old.world.chip.count) × (expected ≡ old.world.chip.count) × (got ≡ ticket_of update)
+
+-- A post.
+
+-- the frame with this id is held, and is what the caller has
+pub record IsCopy (w : World) (h : Held) (x : Holding) : Type 0 where
+  pub held : held_with w h.id ≡ Some x
+  pub same : shown_by h ≡ shown_of x
+
+-- What is asked of a decision of a held frame: its point was published, and it is that of the point's table.
+pub record IsDecision (w : World) (x : Holding) (seen : Seen) : Type 0 where
+  pub point : has nat_cmp w.counts seen.point ≡ true
+  pub verdict : Decides w.setup.domains (table_at w seen.point) x.waiting.port x.waiting.head Plain seen.verdict
+
+-- what was held is handed back, and all is as before
+pub record IsBack (old new : PlaneState) (h given : Held) : Type 0 where
+  pub same : new ≡ old
+  pub back : given ≡ h
+
+-- The first of the tests that answers: another frame is held under the id; its point isn't published yet.
+abbrev pub Posted : PlaneState → PlaneState → Held → Seen → Result (List Line) PostFault → Type 0
+Posted old new h seen (Ok lines) =
+    Steps old new (Post h.id (Some seen.point)) lines × IfSome (held_with old.world h.id) (λ x. (shown_by h ≡ shown_of x) × (seen.point ≤ old.world.published))
+Posted old new h seen (Err (posts.NoMemory back)) = IsBack old new h back
+Posted old new h seen (Err (posts.Stranger back)) =
+    IsBack old new h back × ((x : Holding) × (held_with old.world h.id ≡ Some x) × (shown_by h ≢ shown_of x))
+Posted old new h seen (Err (posts.Ahead back point published)) =
+    IsBack old new h back × ((x : Holding) × IsCopy old.world h x) × (old.world.published < seen.point) × (point ≡ seen.point) × (published ≡ old.world.published)
+Posted old new h seen (Err (posts.Unpublished lines)) = ⊥

@@ -1,0 +1,93 @@
+-- A bridge with the two copies of its table that follow it: the chip's, and the published one.
+use Rattle.std.specs.Prelude.{◌≡◌, ℕ, Bool, true, false, List, [], ◌++◌, length, IsErr}
+use Rattle.std.specs.declared.alloc.AllocError.{AllocError}
+use Rattle.std.specs.declared.option.Option.{Option}
+use Rattle.std.specs.declared.option.Option.TheVariants.{None, Some}
+use Rattle.std.specs.declared.result.Result.{Result}
+use Rattle.std.specs.declared.result.Result.TheVariants.{Ok, Err}
+use Rattle.br_model.specs.declared.change.Change.{Change}
+use Rattle.br_model.specs.declared.steps.Refusal.{Refusal}
+use Rattle.br_model.specs.declared.transcript.Line.{Line}
+use Rattle.br_model.specs.declared.transcript.Line.TheVariants as lines
+use Rattle.br_model.specs.Chip.{Chip, applies, chip_table, first_chip}
+use Rattle.br_model.specs.Control.{Control, first_control}
+use Rattle.br_model.specs.Plane.World.{World, Stepped}
+use Rattle.br_model.specs.Reaction.{Reaction}
+use Rattle.br_model.specs.Setup.{Setup}
+use Rattle.br_model.specs.Table.{Table, table}
+use Rattle.bridge_core.specs.declared.faults.EventFault.{EventFault}
+use Rattle.bridge_core.specs.declared.faults.EventFault.TheVariants.{Refused, NoMemory}
+use Rattle.bridge_core.specs.Kept.{Controlled}
+use Rattle.table_publish.specs.Board.{Shelf, all_of}
+use Rattle.table_publish.specs.Object.{Object, Whose, first_object}
+use Rattle.plane_core.specs.Chips.{ChipState, IsChip}
+use Rattle.plane_core.specs.Queued.{Queued}
+
+pub record SidesState : Type 0 where
+  pub setup : Setup
+  pub history : List Change
+  pub control : Control
+  pub chip : Chip
+  -- what is published, and over which board
+  pub published : Object
+  pub board : Whose
+
+abbrev pub first_sides : Setup → Whose → SidesState
+first_sides setup board = record {
+  setup = setup;
+  history = [];
+  control = first_control;
+  chip = first_chip;
+  published = first_object;
+  board = board;
+}
+
+-- The chip follows the bridge's history, and the board has it, published or not.
+pub record AreSides (bridge : Controlled) (chip : ChipState) (board : Shelf) : Type 0 where
+  pub follows : IsChip bridge.setup.domains bridge.history chip
+  pub whole : all_of board ≡ bridge.history
+  pub domains : board.board.domains ≡ bridge.setup.domains
+
+-- the world with these frames and so many steps
+abbrev pub world_of : SidesState → Queued → ℕ → World
+world_of s q steps = record {
+  setup = s.setup;
+  history = s.history;
+  control = s.control;
+  chip = s.chip;
+  published = length s.published.changes;
+  counts = s.published.counts;
+  waiting = q.waiting;
+  held = q.held;
+  next = q.next;
+  steps = steps;
+}
+
+-- the table by which the chip decides, and that by which software does
+abbrev pub chip_side : SidesState → Table
+chip_side s = chip_table s.history s.chip
+
+abbrev pub soft_side : SidesState → Table
+soft_side s = table s.published.changes
+
+-- The changes of the reaction were made, and are so many; or nothing changed.
+abbrev pub Reacted : SidesState → SidesState → Result ℕ EventFault → Result Reaction Refusal → Type 0
+Reacted old new (Ok changes) answer =
+    (r : Reaction) × (answer ≡ Ok r) × (changes ≡ length r.changes) × (new ≡ record old { history = old.history ++ r.changes; control = r.control })
+Reacted old new (Err (Refused why)) answer = (answer ≡ Err why) × (new ≡ old)
+Reacted old new (Err NoMemory) answer = new ≡ old
+
+-- the last line of a step in which an event came to so many changes, or was refused
+abbrev pub Lasts : ℕ → Result ℕ EventFault → Result Line AllocError → Type 0
+Lasts step (Ok changes) last = last ≡ Ok (lines.Done step changes)
+Lasts step (Err (Refused why)) last = last ≡ Ok (lines.Refused step why)
+Lasts step (Err NoMemory) last = IsErr last
+
+-- The chip applied the change that was pending, where one was.
+abbrev pub SideTurns : SidesState → SidesState → Option Change → Bool → Type 0
+SideTurns old new None more = (more ≡ false) × (new ≡ old)
+SideTurns old new (Some d) more = (more ≡ true) × (new ≡ record old { chip = applies old.chip d })
+
+-- Whichever frames there are, what is done in a world that has counted this step comes to these sides and these lines.
+abbrev pub Comes : (World → Stepped) → SidesState → ℕ → SidesState → List Line → Type 0
+Comes does old step new lines = (q : Queued) → does (world_of old q step) ≡ (world_of new q step, lines)

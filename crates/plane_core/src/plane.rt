@@ -1,0 +1,486 @@
+//! The kernel's side of a bridge and its chip together: each call is one step of the world.
+ghost use Rattle.std.specs.Prelude.{◌≡◌, ◌+◌, ◌<◌, ◌≤◌, ◌^◌, [], ◌∷◌, length, slice_get, true, false, None, Ok, IfOk, IfSome, IsSome, OnErr};
+ghost use Rattle.std.specs.Option.{option_map};
+ghost use Rattle.br_model.specs.declared.frame.McastMsg.TheVariants.{Plain};
+ghost use Rattle.br_model.specs.declared.transcript.Line.TheVariants as line;
+ghost use Rattle.br_model.specs.DomainPorts.{is_in_domain};
+ghost use Rattle.chip_pipeline.specs.Passed.{IsPass};
+ghost use Rattle.table_publish.specs.declared.seat.Seen.{Seen as SeenValue};
+ghost use Rattle.br_model.specs.Change.{updates};
+ghost use Rattle.br_model.specs.Domains.{chip};
+ghost use Rattle.br_model.specs.Frames.{frame as frame_of};
+ghost use Rattle.br_model.specs.Plane.Invariants.{IsWorld};
+ghost use Rattle.br_model.specs.Plane.Runs.{pending};
+ghost use Rattle.br_model.specs.Plane.Serving.{held_with};
+ghost use Rattle.br_model.specs.Plane.Steps.{Rx, Serve, Hold, Publish, Report, Sweep, world_step};
+ghost use Rattle.br_model.specs.Plane.World.{Holding as HoldingOf, first_world, table_of_chip};
+ghost use Rattle.table_publish.specs.Object.{Begins, IsPublished, first_object};
+ghost use Rattle.plane_core.specs.Planes.{Accepts, IsCopy, IsDecidedBy, IsDecision, IsNamed, Posted, Steps, Turned, arrival_by, published_in, ticket_of};
+ghost use Rattle.plane_core.specs.Seats.{IsTold, Looks};
+ghost use Rattle.plane_core.specs.Shown.{opened, shown_by};
+
+use crate::NoMemory;
+use crate::chip::dom;
+use crate::faults::{PostFault, TurnFault};
+use crate::frames::{Arrival, Frames};
+use crate::held::Held;
+use crate::sending::{Egress, send};
+use crate::sides::{Sides, with_last};
+use br_model::change::{Change, Update};
+use br_model::domains::Domains;
+use br_model::frame::{Class, Head};
+use br_model::numbers::{Dom, Mac, Port};
+use br_model::steps::{Event, Refusal};
+use br_model::transcript::{Line, Lines};
+use chip_pipeline::Pass;
+use ether_frames::parse;
+use hwdom_marks::Mark;
+use std::alloc::{AllocError, Global};
+use std::marker::Model;
+use table_publish::{Board, Seat, Seen};
+
+/// A bridge with its chip and its published tables, the frames on their way to software, and how many steps there were. Each step is
+/// counted, a refused one too; where a call answers a fault, there was no step, and the plane is as before.
+#[derive(Drop)]
+pub struct Plane {
+    sides: Sides,
+    frames: Frames,
+    steps: u32,
+}
+
+impl Model for Plane {
+    ghost use Rattle.br_model.specs.Plane.Invariants.{IsWorld};
+    ghost use Rattle.plane_core.specs.Planes.{PlaneState};
+    ghost use Rattle.plane_core.specs.Sides.{world_of};
+
+    ghost Value = { PlaneState };
+
+    ghost view = { λ p. record { world = world_of p.sides p.frames p.steps; board = p.sides.board } };
+
+    ghost invariant = { λ p. IsWorld (world_of p.sides p.frames p.steps) };
+}
+
+/// What a frame's entry comes to: the lines of the step, and the chip's answer, where it decided the frame.
+#[derive(Drop)]
+pub struct Entered {
+    pub lines: Lines,
+    pub pass: Option<Pass>,
+}
+
+/// The number after this one. Past the last one there is no memory for it.
+fn next(number: u32) -> Result<u32, NoMemory>
+    ensures { IfOk result (λ n. n ≡ number + 1) }
+{
+    number.checked_add(1).ok_or(AllocError)
+}
+
+fn one_line(alloc: Global, line: Line) -> Result<Lines, NoMemory>
+    ensures { IfOk result (λ lines. lines ≡ line ∷ []) }
+{
+    let mut lines = Lines::new(alloc);
+    lines.push(line)?;
+    Ok(lines)
+}
+
+fn refused(alloc: Global, step: u32, refusal: Refusal) -> Result<Lines, NoMemory>
+    ensures { IfOk result (λ lines. lines ≡ line.Refused step refusal ∷ []) }
+{
+    one_line(alloc, Line::Refused { step, refusal })
+}
+
+fn ticket_of(update: &Option<Update>) -> Option<u32>
+    ensures { result ≡ ticket_of update.now }
+{
+    match update {
+        Some(update) => Some(update.ticket),
+        None => None,
+    }
+}
+
+impl Plane {
+    /// A plane over this board, in which nothing has happened. It takes all its room but that of the history, of hits and of frames.
+    pub fn make(alloc: Global, d: Domains, own: Mac, b: Board) -> Result<Plane, NoMemory>
+        requires domains { b.board.domains ≡ d }
+        requires object { b.object ≡ first_object }
+        requires pending { b.pending ≡ [] }
+        ensures { IfOk result (λ p. p ≡ record { world = first_world (record { domains = d; own = own }); board = b.board }) }
+    {
+        Ok(Plane {
+            sides: Sides::make(alloc, d, own, b)?,
+            frames: Frames::make(alloc)?,
+            steps: 0,
+        })
+    }
+
+    /// A frame of these bytes enters at the port. At a port of the chip the chip decides it, by its rows alone.
+    pub fn enter(&mut self, alloc: Global, p: Port, b: &[u8]) -> Result<Entered, NoMemory>
+        ensures step { IfOk result (λ e. Steps self.old self.new (Rx p b.now) e.lines) }
+        ensures pass { IfOk result (λ e. IsDecidedBy self.old.world p (frame_of b.now) e.pass) }
+        ensures err { OnErr result (self.new ≡ self.old) }
+    {
+        let step = next(self.steps)?;
+        let id = self.frames.next_id();
+        next(id)?;
+        match parse(b) {
+            Err(why) => {
+                let lines = one_line(alloc, Line::Unread { id, why })?;
+                self.frames.settle(Arrival::PassesBy);
+                self.steps = step;
+                Ok(Entered { lines, pass: None })
+            }
+            Ok(head) if self.sides.is_on_chip(p) => self.enter_chip(alloc, step, p, b, &head),
+            Ok(head) => self.enter_software(alloc, step, p, b, &head),
+        }
+    }
+
+    /// A frame enters at a port of software.
+    fn enter_software(
+        &mut self,
+        alloc: Global,
+        step: u32,
+        p: Port,
+        b: &[u8],
+        head: &Head,
+    ) -> Result<Entered, NoMemory>
+        requires step { step ≡ self.old.world.steps + 1 }
+        requires last { self.old.world.next + 1 < 2 ^ 32 }
+        requires frame { frame_of b.now ≡ Ok head.now }
+        requires off_chip { is_in_domain self.old.world.setup.domains chip p ≡ false }
+        ensures step { IfOk result (λ e. Steps self.old self.new (Rx p b.now) e.lines) }
+        ensures pass { IfOk result (λ e. e.pass ≡ None) }
+        ensures err { OnErr result (self.new ≡ self.old) }
+    {
+        let id = self.frames.next_id();
+        let arrival = self.frames.arrive(alloc, p, b, head, None)?;
+        let mut lines = Vec::new(alloc);
+        arrival.tell(id, &mut lines)?;
+        self.frames.settle(arrival);
+        self.steps = step;
+        Ok(Entered {
+            lines: Lines::of(lines),
+            pass: None,
+        })
+    }
+
+    /// What becomes of a frame that the chip has decided so.
+    fn arrival(
+        &self,
+        alloc: Global,
+        class: Class,
+        p: Port,
+        b: &[u8],
+        head: &Head,
+    ) -> Result<Arrival, NoMemory>
+        requires frame { frame_of b.now ≡ Ok head.now }
+        requires on_chip { is_in_domain self.now.world.setup.domains chip p ≡ true }
+        ensures { IfOk result (λ a. a ≡ arrival_by class self.now.world p b.now head.now) }
+    {
+        match class {
+            Class::Drop => Ok(Arrival::PassesBy),
+            Class::Trap => self.frames.arrive(alloc, p, b, head, None),
+            Class::Copy => self
+                .frames
+                .arrive(alloc, p, b, head, Some(Mark { dom: dom() })),
+            Class::Forward => Ok(Arrival::PassesBy),
+        }
+    }
+
+    /// A frame enters at a port of the chip.
+    fn enter_chip(
+        &mut self,
+        alloc: Global,
+        step: u32,
+        p: Port,
+        b: &[u8],
+        head: &Head,
+    ) -> Result<Entered, NoMemory>
+        requires step { step ≡ self.old.world.steps + 1 }
+        requires last { self.old.world.next + 1 < 2 ^ 32 }
+        requires frame { frame_of b.now ≡ Ok head.now }
+        requires on_chip { is_in_domain self.old.world.setup.domains chip p ≡ true }
+        ensures step { IfOk result (λ e. Steps self.old self.new (Rx p b.now) e.lines) }
+        ensures pass { IfOk result (λ e. IfSome e.pass (IsPass self.old.world.setup.domains (table_of_chip self.old.world) p head.now Plain)) }
+        ensures some { IfOk result (λ e. IsSome e.pass) }
+        ensures err { OnErr result (self.new ≡ self.old) }
+    {
+        let id = self.frames.next_id();
+        let pass = self.sides.pass(p, head);
+        let arrival = self.arrival(alloc, pass.class(), p, b, head)?;
+        let mut lines = Vec::new(alloc);
+        lines.push(self.chip_line(id, pass.class()))?;
+        let out = Egress::of_pass(&pass);
+        send(alloc, id, b, head, &out, &mut lines)?;
+        arrival.tell(id, &mut lines)?;
+        self.sides.note(p, &pass)?;
+        self.frames.settle(arrival);
+        self.steps = step;
+        Ok(Entered {
+            lines: Lines::of(lines),
+            pass: Some(pass),
+        })
+    }
+
+    fn chip_line(&self, id: u32, class: Class) -> Line
+        ensures { result ≡ line.Chip id (length self.now.world.history) self.now.world.chip.count class }
+    {
+        Line::Chip {
+            id,
+            changes: self.sides.history().len() as u32,
+            applied: self.sides.applied(),
+            class,
+        }
+    }
+
+    /// An event that a scenario names, a command or a moment.
+    pub fn accept(&mut self, alloc: Global, e: &Event) -> Result<Lines, NoMemory>
+        requires { IsNamed e.now }
+        ensures ok { IfOk result (λ lines. Accepts self.old self.new e.now lines) }
+        ensures err { OnErr result (self.new ≡ self.old) }
+    {
+        let step = next(self.steps)?;
+        let lines = Vec::with_capacity(alloc, 1)?;
+        let last = self.sides.answer(alloc, step, e)?;
+        self.steps = step;
+        Ok(with_last(lines, last))
+    }
+
+    /// The chip applies the next deferred change of the history, which the update names by its ticket.
+    pub fn turn(&mut self, alloc: Global, d: Dom, u: Option<Update>) -> Result<Lines, TurnFault>
+        requires { d ≡ chip }
+        ensures { Turned self.old self.new u result }
+    {
+        let step = next(self.steps)?;
+        let Some(expected) = self.sides.next_ticket() else {
+            let lines = refused(alloc, step, Refusal::NothingPending)?;
+            self.steps = step;
+            return Ok(lines);
+        };
+        let got = ticket_of(&u);
+        if got != Some(expected) {
+            return Err(TurnFault::OutOfTurn { expected, got });
+        }
+        let lines = one_line(alloc, Line::Done { step, changes: 0 })?;
+        self.sides.turn()?;
+        self.steps = step;
+        Ok(lines)
+    }
+
+    /// The oldest frame that waits is held, with what is published now as its floor, and the answer is a copy of it. `None` exactly
+    /// where none waits, which is a refused step.
+    pub fn open_frame(&mut self, alloc: Global) -> Result<Option<Held>, NoMemory>
+        ensures step { IfOk result (λ held. (world_step self.old.world Hold).0 ≡ self.new.world) }
+        ensures board { self.new.board ≡ self.old.board }
+        ensures held { IfOk result (λ held. option_map shown_by held ≡ opened self.old.world.published self.old.world.waiting) }
+        ensures err { OnErr result (self.new ≡ self.old) }
+    {
+        let step = next(self.steps)?;
+        let floor = self.sides.published();
+        let held = match self.frames.oldest() {
+            Some(frame) => Some(Held::of(alloc, frame, floor)?),
+            None => None,
+        };
+        self.frames.hold(floor)?;
+        self.steps = step;
+        Ok(held)
+    }
+
+    /// A held frame is sent by this decision of it. The step is refused where no frame with its id is held.
+    pub fn post(&mut self, alloc: Global, h: Held, s: Seen) -> Result<Lines, PostFault>
+        requires floor { h.floor ≤ s.point }
+        requires decision { (x : HoldingOf) → IsCopy self.old.world h x → s.point ≤ self.old.world.published → IsDecision self.old.world x s }
+        ensures { Posted self.old self.new h s result }
+    {
+        let Ok(step) = next(self.steps) else {
+            return Err(PostFault::NoMemory(h));
+        };
+        let Some(holding) = self.frames.find(h.id) else {
+            return self.post_none(alloc, step, h);
+        };
+        if !holding.is_shown_by(&h) {
+            return Err(PostFault::Stranger(h));
+        }
+        let published = self.sides.published();
+        if s.point > published {
+            return Err(PostFault::Ahead {
+                held: h,
+                seen: s.point,
+                published,
+            });
+        }
+        match self
+            .sides
+            .post(alloc, step, holding.frame(), &s.verdict, s.point)
+        {
+            Ok(lines) => {
+                let _holding = self.frames.release(h.id);
+                self.steps = step;
+                Ok(lines)
+            }
+            Err(_) => Err(PostFault::NoMemory(h)),
+        }
+    }
+
+    /// No frame with this id is held.
+    fn post_none(&mut self, alloc: Global, step: u32, h: Held) -> Result<Lines, PostFault>
+        requires step { step ≡ self.old.world.steps + 1 }
+        requires none { held_with self.old.world h.id ≡ None }
+        ensures { (s : SeenValue) → Posted self.old self.new h s result }
+    {
+        match refused(alloc, step, Refusal::NothingToPost) {
+            Ok(lines) => {
+                self.steps = step;
+                Ok(lines)
+            }
+            Err(_) => Err(PostFault::NoMemory(h)),
+        }
+    }
+
+    /// The oldest frame that waits is sent by what is published, of which the seat was told.
+    fn serve_told(&mut self, alloc: Global, s: &mut Seat) -> Result<Lines, NoMemory>
+        requires board { s.old.board ≡ self.old.board }
+        requires told { Begins s.old.object (published_in self.old.world) }
+        requires published { IsPublished s.old.object }
+        ensures ok { IfOk result (λ lines. Steps self.old self.new Serve lines) }
+        ensures err { OnErr result (self.new ≡ self.old) }
+        ensures seat { Looks s.old s.new }
+    {
+        let step = next(self.steps)?;
+        let Some(frame) = self.frames.oldest() else {
+            let lines = refused(alloc, step, Refusal::NothingWaiting)?;
+            self.steps = step;
+            return Ok(lines);
+        };
+        let lines = self.sides.serve(alloc, step, s, frame)?;
+        let _frame = self.frames.serve();
+        self.steps = step;
+        Ok(lines)
+    }
+
+    /// The oldest frame that waits is sent by what is published. The seat is told of that first, whatever the answer.
+    pub fn serve(&mut self, alloc: Global, s: &mut Seat) -> Result<Lines, NoMemory>
+        requires { s.old.board ≡ self.old.board }
+        ensures ok { IfOk result (λ lines. Steps self.old self.new Serve lines) }
+        ensures err { OnErr result (self.new ≡ self.old) }
+        ensures seat { IsTold s.old s.new (published_in self.old.world) }
+    {
+        self.tell(s);
+        self.serve_told(alloc, s)
+    }
+
+    /// All accepted changes are published.
+    pub fn publish(&mut self, alloc: Global) -> Result<Lines, NoMemory>
+        ensures ok { IfOk result (λ lines. Steps self.old self.new Publish lines) }
+        ensures err { OnErr result (self.new ≡ self.old) }
+    {
+        let step = next(self.steps)?;
+        let lines = one_line(alloc, Line::Done { step, changes: 0 })?;
+        self.sides.publish(alloc)?;
+        self.steps = step;
+        Ok(lines)
+    }
+
+    /// The bridge is told the chip's oldest report.
+    pub fn report(&mut self, alloc: Global, d: Dom) -> Result<Lines, NoMemory>
+        requires { d ≡ chip }
+        ensures ok { IfOk result (λ lines. Steps self.old self.new Report lines) }
+        ensures err { OnErr result (self.new ≡ self.old) }
+    {
+        let step = next(self.steps)?;
+        let lines = Vec::with_capacity(alloc, 1)?;
+        let last = self.sides.report(alloc, step)?;
+        self.steps = step;
+        Ok(with_last(lines, last))
+    }
+
+    /// The bridge forgets the stations that the chip no longer sees.
+    pub fn sweep(&mut self, alloc: Global, d: Dom) -> Result<Lines, NoMemory>
+        requires { d ≡ chip }
+        ensures ok { IfOk result (λ lines. Steps self.old self.new Sweep lines) }
+        ensures err { OnErr result (self.new ≡ self.old) }
+    {
+        let step = next(self.steps)?;
+        let lines = Vec::with_capacity(alloc, 1)?;
+        let last = self.sides.sweep(alloc, step)?;
+        self.steps = step;
+        Ok(with_last(lines, last))
+    }
+
+    /// Tells a seat what is published. It is no step.
+    pub fn tell(&mut self, s: &mut Seat)
+        requires { s.old.board ≡ self.old.board }
+        ensures same { self.new ≡ self.old }
+        ensures board { s.new.board ≡ s.old.board }
+        ensures told { Begins s.new.object (published_in self.old.world) }
+        ensures kept { Begins s.new.object s.old.object }
+        ensures misses { s.new.misses ≡ s.old.misses }
+        ensures published { IsPublished s.new.object }
+    {
+        self.sides.tell(s);
+    }
+
+    /// The accepted changes, in order.
+    pub fn history(&self) -> &[Change]
+        ensures { result.now ≡ self.now.world.history }
+    {
+        self.sides.history()
+    }
+
+    /// How many deferred changes the chip has applied.
+    pub fn applied(&self, d: Dom) -> u32
+        requires { d ≡ chip }
+        ensures { result ≡ self.now.world.chip.count }
+    {
+        self.sides.applied()
+    }
+
+    /// How many changes are published.
+    pub fn published(&self) -> u32
+        ensures { result ≡ self.now.world.published }
+    {
+        self.sides.published()
+    }
+
+    /// How many deferred changes the chip hasn't applied.
+    pub fn pending(&self, d: Dom) -> u32
+        requires { d ≡ chip }
+        ensures { result ≡ pending self.now.world }
+    {
+        self.sides.pending()
+    }
+
+    /// How many frames wait.
+    pub fn waiting(&self) -> usize
+        ensures { result ≡ length self.now.world.waiting }
+    {
+        self.frames.waiting()
+    }
+
+    /// How many frames are held.
+    pub fn held(&self) -> usize
+        ensures { result ≡ length self.now.world.held }
+    {
+        self.frames.held()
+    }
+
+    /// How many steps there were.
+    pub fn steps(&self) -> u32
+        ensures { result ≡ self.now.world.steps }
+    {
+        self.steps
+    }
+
+    /// The deferred change of the history with this ticket, found at once.
+    pub fn update(&self, ticket: u32) -> Option<Update>
+        ensures { result ≡ slice_get (updates self.now.world.history) ticket }
+    {
+        self.sides.update(ticket)
+    }
+
+    /// What holds of every plane: the law does nothing.
+    pub fn stands(&self)
+        ensures world { IsWorld self.now.world }
+        ensures domains { self.now.board.domains ≡ self.now.world.setup.domains }
+    {
+        self.sides.stands();
+    }
+}

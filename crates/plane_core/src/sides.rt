@@ -1,0 +1,397 @@
+//! A bridge with the two copies of its table that follow it: the chip's rows, and the published tables.
+ghost use Rattle.std.specs.Prelude.{◌≡◌, ℕ, ◌-◌, ◌<◌, ◌≤◌, ◌++◌, ◌∷◌, [], length, take, drop, slice_get, vec_capacity, IfOk, OnOk, OnErr, true};
+ghost use Rattle.std.specs.Option.{option_map};
+ghost use Rattle.br_model.specs.Change.{updates};
+ghost use Rattle.br_model.specs.Chip.{hits_entry, offers};
+ghost use Rattle.br_model.specs.Cut.{deferred_at, deferred_count};
+ghost use Rattle.br_model.specs.DomainPorts.{is_in_domain};
+ghost use Rattle.br_model.specs.Domains.{Domains as DomainsValue, chip};
+ghost use Rattle.br_model.specs.Plane.ChipSteps.{reports, sweeps};
+ghost use Rattle.br_model.specs.Plane.Serving.{posts};
+ghost use Rattle.br_model.specs.Plane.Steps.{publishes};
+ghost use Rattle.br_model.specs.Plane.World.{answered, reacts};
+ghost use Rattle.br_model.specs.Reaction.{react as reaction};
+ghost use Rattle.br_model.specs.Table.{table};
+ghost use Rattle.br_model.specs.declared.frame.McastMsg.TheVariants.{Plain};
+ghost use Rattle.br_model.specs.declared.steps.Event.TheVariants as Event;
+ghost use Rattle.bridge_core.specs.Answers.{IsSeen};
+ghost use Rattle.chip_pipeline.specs.Passed.{IsPass};
+ghost use Rattle.br_model.specs.Limits.{AreWithin};
+ghost use Rattle.table_publish.specs.Board.{Decides, all_of};
+ghost use Rattle.table_publish.specs.Object.{Begins, IsPublished, first_object};
+ghost use Rattle.plane_core.specs.Chips.{IsChip};
+ghost use Rattle.plane_core.specs.Queued.{Queued};
+ghost use Rattle.plane_core.specs.Seats.{Looks};
+ghost use Rattle.plane_core.specs.Sides.{Comes, Lasts, Reacted, SideTurns, world_of, chip_side, first_sides, soft_side};
+
+use crate::NoMemory;
+use crate::chip::{Chip, dom};
+use crate::frame::Frame;
+use crate::sending::{Egress, send};
+use br_model::change::{Change, Update};
+use br_model::domains::Domains;
+use br_model::frame::{Head, McastMsg};
+use br_model::numbers::{Mac, Port};
+use br_model::steps::{Event, Refusal};
+use br_model::transcript::{Line, Lines};
+use bridge_core::{Bridge, EventFault};
+use chip_pipeline::{Pass, pass};
+use forward_rules::{SoftTables, Verdict};
+use std::alloc::{AllocError, Global};
+use std::marker::Model;
+use table_publish::{Board, Seat};
+
+/// The control plane, the chip and the board, with one history: the chip has applied a part of its deferred changes, the board
+/// has published a front of it.
+#[derive(Drop)]
+pub(crate) struct Sides {
+    bridge: Bridge,
+    chip: Chip,
+    board: Board,
+}
+
+impl Model for Sides {
+    ghost use Rattle.plane_core.specs.Sides.{SidesState, AreSides};
+
+    ghost Value = { SidesState };
+
+    ghost view = { λ s. record { setup = s.bridge.setup; history = s.bridge.history; control = s.bridge.control; chip = s.chip.chip; published = s.board.object; board = s.board.board } };
+
+    ghost invariant = { λ s. AreSides s.bridge s.chip s.board };
+}
+
+/// The chip and the board follow the changes that the history got behind its first `from` ones. The answer is how many they are.
+fn follow(bridge: &Bridge, chip: &mut Chip, board: &mut Board, from: usize) -> u32
+    requires from { from ≤ length bridge.now.history }
+    requires stands { (domains : DomainsValue) × IsChip domains (take from bridge.now.history) chip.old }
+    requires board { all_of board.old ≡ take from bridge.now.history }
+    ensures stands { (domains : DomainsValue) → IsChip domains (take from bridge.now.history) chip.old → IsChip domains bridge.now.history chip.new }
+    ensures chip { chip.new.chip ≡ chip.old.chip }
+    ensures board { board.new ≡ record board.old { pending = board.old.pending ++ drop from bridge.now.history } }
+    ensures count { result ≡ length (drop from bridge.now.history) }
+{
+    let history = bridge.history();
+    chip.follow(history, from);
+    board.append(&history[from..]);
+    (history.len() - from) as u32
+}
+
+/// The last line of a step in which an event came to so many changes, or to a refusal.
+fn last_line(step: u32, outcome: Result<u32, EventFault>) -> Result<Line, NoMemory>
+    ensures { Lasts step outcome result }
+{
+    match outcome {
+        Ok(changes) => Ok(Line::Done { step, changes }),
+        Err(EventFault::Refused(refusal)) => Ok(Line::Refused { step, refusal }),
+        Err(EventFault::NoMemory) => Err(AllocError),
+    }
+}
+
+/// The decision of a frame by these changes.
+fn decide_anew(
+    alloc: Global,
+    domains: &Domains,
+    changes: &[Change],
+    frame: &Frame,
+) -> Result<Verdict, NoMemory>
+    requires { AreWithin changes.now }
+    ensures { IfOk result (Decides domains.now (table changes.now) frame.now.port frame.now.head Plain) }
+{
+    let mut tables = SoftTables::make(alloc)?;
+    for i in 0..changes.len() {
+        tables.apply(&changes[i]);
+    }
+    Ok(tables.decide(frame.port(), frame.head(), &McastMsg::Plain, domains))
+}
+
+/// Lines with another one behind them, for which there is room.
+pub(crate) fn with_last(mut lines: Vec<Line>, last: Line) -> Lines
+    requires { length lines.items < vec_capacity lines }
+    ensures { result ≡ lines.items ++ last ∷ [] }
+{
+    match lines.push(last) {
+        Ok(()) => {}
+        Err(_) => unreachable!(),
+    }
+    Lines::of(lines)
+}
+
+impl Sides {
+    /// Those of a bridge in which nothing has happened.
+    pub(crate) fn make(
+        alloc: Global,
+        domains: Domains,
+        own: Mac,
+        board: Board,
+    ) -> Result<Sides, NoMemory>
+        requires domains { board.board.domains ≡ domains }
+        requires object { board.object ≡ first_object }
+        requires pending { board.pending ≡ [] }
+        ensures { IfOk result (λ s. s ≡ first_sides (record { domains = domains; own = own }) board.board) }
+    {
+        let chip = Chip::make(alloc, &domains)?;
+        Ok(Sides {
+            bridge: Bridge::make(alloc, domains, own)?,
+            chip,
+            board,
+        })
+    }
+
+    /// The bridge reacts to an event. The answer is how many changes it made.
+    fn react(&mut self, alloc: Global, event: &Event) -> Result<u32, EventFault>
+        requires { IsSeen event.now }
+        ensures { Reacted self.old self.new result (reaction self.old.setup self.old.history self.old.control event.now) }
+    {
+        let made = self.bridge.react(alloc, event)?;
+        Ok(follow(&self.bridge, &mut self.chip, &mut self.board, made.from))
+    }
+
+    /// The bridge sees a frame that software sent. The answer is how many changes it made.
+    fn see(&mut self, alloc: Global, frame: &Frame) -> Result<u32, EventFault>
+        ensures { Reacted self.old self.new result (reaction self.old.setup self.old.history self.old.control (Event.Sight frame.now.port frame.now.bytes frame.now.head)) }
+    {
+        let made = self
+            .bridge
+            .see(alloc, frame.port(), frame.bytes(), frame.head())?;
+        Ok(follow(&self.bridge, &mut self.chip, &mut self.board, made.from))
+    }
+
+    /// The event of a step, with the step's last line. After want of memory all is as before, here and in what follows.
+    pub(crate) fn answer(
+        &mut self,
+        alloc: Global,
+        step: u32,
+        event: &Event,
+    ) -> Result<Line, NoMemory>
+        requires { IsSeen event.now }
+        ensures ok { IfOk result (λ last. Comes (λ w. answered w w (reacts w event.now)) self.old step self.new (last ∷ [])) }
+        ensures err { OnErr result (self.new ≡ self.old) }
+        ensures over { self.new.board ≡ self.old.board }
+    {
+        let outcome = self.react(alloc, event);
+        last_line(step, outcome)
+    }
+
+    /// The decision of a frame by what is published, by a seat that was told of it. Where the seat has no reading of just that, it is
+    /// made anew.
+    fn decide(&self, alloc: Global, seat: &mut Seat, frame: &Frame) -> Result<Verdict, NoMemory>
+        requires board { seat.old.board ≡ self.now.board }
+        requires told { Begins seat.old.object (record { changes = take (length self.now.published.changes) self.now.history; counts = self.now.published.counts }) }
+        ensures seat { Looks seat.old seat.new }
+        ensures verdict { IfOk result (Decides self.now.setup.domains (soft_side self.now) frame.now.port frame.now.head Plain) }
+    {
+        let published = self.board.published();
+        match seat.lookup(frame.port(), frame.head(), &McastMsg::Plain) {
+            Some(seen) if seen.point == published => Ok(seen.verdict),
+            _ => decide_anew(
+                alloc,
+                self.bridge.domains(),
+                &self.bridge.history()[..published as usize],
+                frame,
+            ),
+        }
+    }
+
+    /// Sends a frame by a decision of the table at this point, and lets the bridge see it. The answer is the lines of the step.
+    pub(crate) fn post(
+        &mut self,
+        alloc: Global,
+        step: u32,
+        frame: &Frame,
+        verdict: &Verdict,
+        point: u32,
+    ) -> Result<Lines, NoMemory>
+        requires { Decides self.old.setup.domains (table (take point self.old.history)) frame.now.port frame.now.head Plain verdict.now }
+        ensures ok { IfOk result (λ lines. Comes (λ w. posts w frame.now point) self.old step self.new lines) }
+        ensures err { OnErr result (self.new ≡ self.old) }
+        ensures over { self.new.board ≡ self.old.board }
+    {
+        let mut lines = Vec::new(alloc);
+        lines.push(Line::Soft {
+            id: frame.id(),
+            point,
+        })?;
+        let egress = Egress::of_verdict(verdict, frame.mark(), self.bridge.domains());
+        send(
+            alloc,
+            frame.id(),
+            frame.bytes(),
+            frame.head(),
+            &egress,
+            &mut lines,
+        )?;
+        lines.reserve(1)?;
+        let outcome = self.see(alloc, frame);
+        Ok(with_last(lines, last_line(step, outcome)?))
+    }
+
+    /// Sends a frame by what is published, of which the seat was told, and lets the bridge see it.
+    pub(crate) fn serve(
+        &mut self,
+        alloc: Global,
+        step: u32,
+        seat: &mut Seat,
+        frame: &Frame,
+    ) -> Result<Lines, NoMemory>
+        requires board { seat.old.board ≡ self.old.board }
+        requires told { Begins seat.old.object (record { changes = take (length self.old.published.changes) self.old.history; counts = self.old.published.counts }) }
+        ensures ok { IfOk result (λ lines. Comes (λ w. posts w frame.now w.published) self.old step self.new lines) }
+        ensures err { OnErr result (self.new ≡ self.old) }
+        ensures over { self.new.board ≡ self.old.board }
+        ensures seat { Looks seat.old seat.new }
+    {
+        let point = self.board.published();
+        match self.decide(alloc, seat, frame) {
+            Ok(verdict) => self.post(alloc, step, frame, &verdict, point),
+            Err(_) => Err(AllocError),
+        }
+    }
+
+    /// What the chip does with a frame at one of its ports.
+    pub(crate) fn pass(&self, port: Port, head: &Head) -> Pass
+        requires { is_in_domain self.now.setup.domains chip port ≡ true }
+        ensures { IsPass self.now.setup.domains (chip_side self.now) port head.now Plain result }
+    {
+        let _host = self.bridge.domains().of(Port::HOST);
+        pass(self.chip.tables(), port, head, &McastMsg::Plain)
+    }
+
+    /// Whether the port is one of the chip's.
+    pub(crate) fn is_on_chip(&self, port: Port) -> bool
+        ensures { result ≡ is_in_domain self.now.setup.domains chip port }
+    {
+        self.bridge.domains().of(port) == Some(dom())
+    }
+
+    /// Notes in the chip what a frame at the port leaves there.
+    pub(crate) fn note(&mut self, port: Port, pass: &Pass) -> Result<(), NoMemory>
+        ensures ok { OnOk result (self.new ≡ record self.old { chip = hits_entry pass.now.hit (offers port pass.now.report self.old.chip) }) }
+        ensures err { OnErr result (self.new ≡ self.old) }
+    {
+        self.chip.note(port, pass.report(), pass.hit())
+    }
+
+    /// The chip applies the next deferred change. `false` exactly where none is pending.
+    pub(crate) fn turn(&mut self) -> Result<bool, NoMemory>
+        ensures ok { IfOk result (λ more. SideTurns self.old self.new (deferred_at self.old.history self.old.chip.count) more) }
+        ensures err { OnErr result (self.new ≡ self.old) }
+    {
+        self.chip.turn(self.bridge.history())
+    }
+
+    /// The bridge is told the chip's oldest report, which leaves unless that is refused.
+    pub(crate) fn report(&mut self, alloc: Global, step: u32) -> Result<Line, NoMemory>
+        ensures ok { IfOk result (λ last. Comes (λ w. reports w w.chip.reports) self.old step self.new (last ∷ [])) }
+        ensures err { OnErr result (self.new ≡ self.old) }
+        ensures over { self.new.board ≡ self.old.board }
+    {
+        let Some((vid, mac, port)) = self.chip.first_report() else {
+            return Ok(Line::Refused {
+                step,
+                refusal: Refusal::NothingReported,
+            });
+        };
+        let outcome = self.react(alloc, &Event::Told { vid, mac, port });
+        if outcome.is_ok() {
+            self.chip.drop_report();
+        }
+        last_line(step, outcome)
+    }
+
+    /// The bridge forgets what the chip no longer sees, and no entry is hit, unless that is refused.
+    pub(crate) fn sweep(&mut self, alloc: Global, step: u32) -> Result<Line, NoMemory>
+        ensures ok { IfOk result (λ last. Comes sweeps self.old step self.new (last ∷ [])) }
+        ensures err { OnErr result (self.new ≡ self.old) }
+        ensures over { self.new.board ≡ self.old.board }
+    {
+        let unhit = self.chip.unhit(alloc)?;
+        let outcome = self.react(alloc, &Event::Forget(unhit));
+        if outcome.is_ok() {
+            self.chip.clear_hits();
+        }
+        last_line(step, outcome)
+    }
+
+    /// All changes are published.
+    pub(crate) fn publish(&mut self, alloc: Global) -> Result<(), NoMemory>
+        ensures ok { OnOk result ((q : Queued) (step : ℕ) → publishes (world_of self.old q step) (length self.old.history) ≡ world_of self.new q step) }
+        ensures err { OnErr result (self.new ≡ self.old) }
+        ensures over { self.new.board ≡ self.old.board }
+    {
+        self.board.publish(alloc)?;
+        Ok(())
+    }
+
+    /// The declared ports with their domains.
+    pub(crate) fn domains(&self) -> &Domains
+        ensures { result.now ≡ self.now.setup.domains }
+    {
+        self.bridge.domains()
+    }
+
+    /// The accepted changes.
+    pub(crate) fn history(&self) -> &[Change]
+        ensures { result.now ≡ self.now.history }
+    {
+        self.bridge.history()
+    }
+
+    /// How many deferred changes the chip has applied.
+    pub(crate) fn applied(&self) -> u32
+        ensures { result ≡ self.now.chip.count }
+    {
+        self.chip.count()
+    }
+
+    /// How many deferred changes it hasn't applied.
+    pub(crate) fn pending(&self) -> u32
+        ensures { result ≡ deferred_count self.now.history - self.now.chip.count }
+    {
+        self.bridge.pending() - self.chip.count()
+    }
+
+    /// How many changes are published.
+    pub(crate) fn published(&self) -> u32
+        ensures { result ≡ length self.now.published.changes }
+    {
+        self.board.published()
+    }
+
+    /// The ticket of the next deferred change that the chip applies, if one is pending.
+    pub(crate) fn next_ticket(&self) -> Option<u32>
+        ensures { result ≡ option_map (λ d. self.now.chip.count) (deferred_at self.now.history self.now.chip.count) }
+    {
+        let count = self.chip.count();
+        match self.chip.update(self.bridge.history(), count) {
+            Some(_) => Some(count),
+            None => None,
+        }
+    }
+
+    /// The deferred change with this ticket.
+    pub(crate) fn update(&self, ticket: u32) -> Option<Update>
+        ensures { result ≡ slice_get (updates self.now.history) ticket }
+    {
+        self.chip.update(self.bridge.history(), ticket)
+    }
+
+    /// Tells a seat of the board what is published.
+    pub(crate) fn tell(&mut self, seat: &mut Seat)
+        requires { seat.old.board ≡ self.old.board }
+        ensures same { self.new ≡ self.old }
+        ensures board { seat.new.board ≡ seat.old.board }
+        ensures told { Begins seat.new.object (record { changes = take (length self.old.published.changes) self.old.history; counts = self.old.published.counts }) }
+        ensures kept { Begins seat.new.object seat.old.object }
+        ensures misses { seat.new.misses ≡ seat.old.misses }
+        ensures published { IsPublished seat.new.object }
+    {
+        self.board.tell(seat);
+    }
+
+    /// The board has the domains of the bridge: the law does nothing.
+    pub(crate) fn stands(&self)
+        ensures { self.now.board.domains ≡ self.now.setup.domains }
+    {
+        let _bridge = &self.bridge;
+    }
+}
