@@ -3,8 +3,9 @@ use Rattle.std.specs.Fmt.{digits}
 use Rattle.br_model.specs.Leave.{all_ports, egress_ports, ports_out, leave}
 use Rattle.br_model.specs.LineForms.{line_says}
 use Rattle.br_model.specs.Operands.{number, new_port, new_name, port_number, port_name, device, mac, hex, flag}
+use Rattle.br_model.specs.Plane.Runs.{run}
 use Rattle.br_model.specs.Reaction.{react}
-use Rattle.br_model.specs.Runs.{told, run}
+use Rattle.br_model.specs.Runs.{told}
 use Rattle.br_model.specs.Scenario.{cut, reads, scenario_by}
 
 -- `unfolding computing` lets `refl` compute a whole run

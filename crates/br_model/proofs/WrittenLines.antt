@@ -18,7 +18,7 @@ use Rattle.br_model.specs.declared.scenario.Said.TheVariants.{Blank, Does}
 use Rattle.br_model.specs.declared.steps.Command.{Command}
 use Rattle.br_model.specs.declared.steps.Command.TheVariants as commands
 use Rattle.br_model.specs.declared.steps.Step.{Step}
-use Rattle.br_model.specs.declared.steps.Step.TheVariants.{Rx, Cmd, Now, Serve, Publish}
+use Rattle.br_model.specs.declared.steps.Step.TheVariants.{Rx, Cmd, Now, Serve, Turn, Report, Sweep, Publish}
 use Rattle.br_model.specs.CommandForms.{step}
 use Rattle.br_model.specs.Declarations.{are_declared}
 use Rattle.br_model.specs.Digits.{hex_of}
@@ -121,6 +121,15 @@ now_read r moment place h =
 
 serve_read : (r : Roster) → step r.place ≡ true → line_says r (codes "serve") ≡ Ok (Does Serve)
 serve_read r place = says r (codes "serve" ∷ []) (λ x. x) {x = Ok (Does Serve)} refl place refl refl refl
+
+turn_read : (r : Roster) → step r.place ≡ true → line_says r (codes "turn 1") ≡ Ok (Does Turn)
+turn_read r place = says r (codes "turn" ∷ codes "1" ∷ []) (λ x. x) {x = Ok (Does Turn)} refl place refl refl refl
+
+report_read : (r : Roster) → step r.place ≡ true → line_says r (codes "report 1") ≡ Ok (Does Report)
+report_read r place = says r (codes "report" ∷ codes "1" ∷ []) (λ x. x) {x = Ok (Does Report)} refl place refl refl refl
+
+sweep_read : (r : Roster) → step r.place ≡ true → line_says r (codes "sweep 1") ≡ Ok (Does Sweep)
+sweep_read r place = says r (codes "sweep" ∷ codes "1" ∷ []) (λ x. x) {x = Ok (Does Sweep)} refl place refl refl refl
 
 publish_read : (r : Roster) → step r.place ≡ true → line_says r (codes "publish") ≡ Ok (Does Publish)
 publish_read r place = says r (codes "publish" ∷ []) (λ x. x) {x = Ok (Does Publish)} refl place refl refl refl
@@ -286,6 +295,9 @@ step_read r (Rx port bytes) place all h =
 step_read r (Cmd command) place all h = command_read r command place all h
 step_read r (Now moment) place all h = now_read r moment place h
 step_read r Serve place all h = serve_read r place
+step_read r Turn place all h = turn_read r place
+step_read r Report place all h = report_read r place
+step_read r Sweep place all h = sweep_read r place
 step_read r Publish place all h = publish_read r place
 
 -- frames that a line shows whole, and those that it doesn't
@@ -311,6 +323,9 @@ given_whole (Rx port bytes) h = ap (λ (b : List ℕ). Rx port b) (shown_whole b
 given_whole (Cmd command) h = refl
 given_whole (Now moment) h = refl
 given_whole Serve h = refl
+given_whole Turn h = refl
+given_whole Report h = refl
+given_whole Sweep h = refl
 given_whole Publish h = refl
 
 too_long : (bytes : List ℕ) → longest_frame < length bytes → frame bytes ≡ Err faults.Long

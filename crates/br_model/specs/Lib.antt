@@ -41,10 +41,6 @@ pub mod Ageing
 pub mod Course
 pub mod Commands
 pub mod Reaction
-pub mod World
-pub mod Entering
-pub mod Serving
-pub mod Steps
 pub mod Chip
 pub mod Plane
 pub mod Words
@@ -66,5 +62,6 @@ pub mod WorkedRows
 pub mod WorkedVlans
 pub mod WorkedAddresses
 pub mod WorkedChip
+pub mod WorkedHold
 pub mod Readings
 pub mod WorkedFrames

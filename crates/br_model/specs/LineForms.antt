@@ -10,9 +10,9 @@ use Rattle.br_model.specs.declared.scenario.Place.TheVariants.{Opening, Header, 
 use Rattle.br_model.specs.declared.scenario.Said.{Said}
 use Rattle.br_model.specs.declared.scenario.Said.TheVariants.{Blank, Opens, Declares, Does, Ends}
 use Rattle.br_model.specs.declared.steps.Command.{Command}
-use Rattle.br_model.specs.declared.steps.Step.TheVariants.{Rx, Cmd, Now, Serve, Publish}
+use Rattle.br_model.specs.declared.steps.Step.TheVariants.{Rx, Cmd, Now, Serve, Turn, Report, Sweep, Publish}
 use Rattle.br_model.specs.CommandForms.{commands, step}
-use Rattle.br_model.specs.Domains.{software}
+use Rattle.br_model.specs.Domains.{software, chip}
 use Rattle.br_model.specs.Forms.{Row, row, line}
 use Rattle.br_model.specs.Roster.{Roster}
 use Rattle.br_model.specs.Words.{Word, words, is_comment}
@@ -35,6 +35,7 @@ abbrev pub declarations : List (Row Said)
 declarations =
     row (codes "scenario 1") opening Opens ∷
     row (codes "port NUMBER NEWNAME soft") declaration (λ port name. Declares port name software) ∷
+    row (codes "port NUMBER NEWNAME chip 1") declaration (λ port name. Declares port name chip) ∷
     []
 
 abbrev pub steps : List (Row Said)
@@ -42,6 +43,9 @@ steps =
     row (codes "rx PORT HEX") step (λ port bytes. Does (Rx port bytes)) ∷
     row (codes "now MS") step (λ moment. Does (Now moment)) ∷
     row (codes "serve") step (Does Serve) ∷
+    row (codes "turn 1") step (Does Turn) ∷
+    row (codes "report 1") step (Does Report) ∷
+    row (codes "sweep 1") step (Does Sweep) ∷
     row (codes "publish") step (Does Publish) ∷
     row (codes "end") step Ends ∷
     []

@@ -1,10 +1,11 @@
--- The whole core: a bridge with a switch chip. The program runs bridges of software ports as yet, by `World` and `Steps`.
+-- The whole core: a bridge with a switch chip, whose ports may all be of software.
 pub mod World
 pub mod Entering
 pub mod Serving
 pub mod ChipSteps
 pub mod Steps
 pub mod Runs
+pub mod Naming
 pub mod Sending
 pub mod Invariants
 pub mod Applied

@@ -7,7 +7,7 @@ use Rattle.br_model.specs.declared.change.Kind.TheVariants.{Local, Static, Learn
 use Rattle.br_model.specs.declared.steps.Command.{Command}
 use Rattle.br_model.specs.declared.steps.Command.TheVariants as commands
 use Rattle.br_model.specs.declared.steps.Step.{Step}
-use Rattle.br_model.specs.declared.steps.Step.TheVariants.{Rx, Cmd, Now, Serve, Publish}
+use Rattle.br_model.specs.declared.steps.Step.TheVariants.{Rx, Cmd, Now, Serve, Turn, Report, Sweep, Publish}
 use Rattle.br_model.specs.Digits.{hex_of}
 use Rattle.br_model.specs.Domains.{host}
 use Rattle.br_model.specs.FlagWords.{flags, name_of_flag}
@@ -73,6 +73,9 @@ step_words ports (Rx port bytes) = codes "rx " ++ (decimal port ++ (32 ∷ hex_o
 step_words ports (Cmd command) = codes "cmd " ++ command_text ports command
 step_words ports (Now moment) = codes "now " ++ decimal moment
 step_words ports Serve = codes "serve"
+step_words ports Turn = codes "turn 1"
+step_words ports Report = codes "report 1"
+step_words ports Sweep = codes "sweep 1"
 step_words ports Publish = codes "publish"
 
 -- and with it

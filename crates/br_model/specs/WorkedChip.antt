@@ -1,74 +1,30 @@
--- Worked runs of a bridge with a chip: steps, and the lines that they write.
--- Source: this profile; the lines were worked out by hand.
-use Rattle.std.specs.Prelude.{ℕ, true, false, List, [], ◌∷◌, ◌++◌, codes}
-use Rattle.std.specs.declared.option.Option.TheVariants.{None}
-use Rattle.std.specs.Option.{unwrap_or}
-use Rattle.br_model.specs.declared.change.Kind.TheVariants.{Static, Extern}
-use Rattle.br_model.specs.declared.steps.Command.TheVariants.{PortUp, PortDown, Link, FdbAdd, FdbDel}
-use Rattle.br_model.specs.Digits.{bytes_from_hex}
-use Rattle.br_model.specs.Plane.Runs.{run, end_line}
-use Rattle.br_model.specs.Plane.Steps.{Step, Rx, Cmd, Serve, Hold, Post, Turn, Report, Sweep, Publish}
-use Rattle.br_model.specs.Plane.World.{Stepped}
-use Rattle.br_model.specs.Setup.{Setup, first_own}
-use Rattle.br_model.specs.Transcript.{text, line_text}
+-- Worked runs of a bridge with a chip: the text of each scenario, and what is told of it.
+-- Source: this profile; the transcripts were worked out by hand.
+use Rattle.std.specs.Prelude.{ℕ, List, [], ◌∷◌, ◌++◌, codes}
 use Rattle.br_model.specs.WholeLines.{lines_text}
+use Rattle.br_model.specs.WorkedRows.{three_up, three_are_up}
 
--- the text of a run, with its last line
-abbrev pub told_of : Stepped → List ℕ
-told_of x = text x.1 ++ line_text (end_line x.0)
-
--- what is told of these steps
-abbrev pub chip_told : Setup → List Step → List ℕ
-chip_told setup steps = told_of (run setup steps)
-
--- two ports of the chip beside one of software, and three ports of software
-abbrev pub chip_ports : Setup
-chip_ports = record { domains = (0, 0) ∷ (1, 1) ∷ (2, 1) ∷ (3, 0) ∷ []; own = first_own }
-
-abbrev pub soft_ports : Setup
-soft_ports = record { domains = (0, 0) ∷ (1, 0) ∷ (2, 0) ∷ (3, 0) ∷ []; own = first_own }
-
--- the stations of the frames
-abbrev pub station_a : ℕ
-station_a = 0x02000000000A
-
-abbrev pub station_b : ℕ
-station_b = 0x02000000000B
-
--- the flags that the links name
-abbrev pub flood : ℕ
-flood = 2
-
-abbrev pub isolated : ℕ
-isolated = 16
-
-abbrev pub hex : List ℕ → List ℕ
-hex digits = unwrap_or (bytes_from_hex digits) []
-
--- from a to b, from b to a, from a third station to b
-abbrev pub a_to_b : List ℕ
-a_to_b = hex (codes "02000000000b02000000000a88b50102")
-
-abbrev pub b_to_a : List ℕ
-b_to_a = hex (codes "02000000000a02000000000b88b50102")
-
-abbrev pub c_to_b : List ℕ
-c_to_b = hex (codes "02000000000b02000000000c88b50102")
-
--- All three ports come up, and that is published: how each run begins.
-abbrev pub three_up : List Step
-three_up = Cmd (PortUp 1) ∷ Cmd (PortUp 2) ∷ Cmd (PortUp 3) ∷ Publish ∷ []
-
-abbrev pub three_are_up : List (List ℕ)
-three_are_up = codes "ok 1 3" ∷ codes "ok 2 3" ∷ codes "ok 3 3" ∷ codes "ok 4 0" ∷ []
+-- Two ports of the chip beside one of software come up, and that is published: how each run begins.
+abbrev pub chip_up : List (List ℕ)
+chip_up =
+    codes "scenario 1" ∷
+    codes "port 1 c1 chip 1" ∷
+    codes "port 2 c2 chip 1" ∷
+    codes "port 3 f3 soft" ∷
+    codes "cmd port up c1" ∷
+    codes "cmd port up c2" ∷
+    codes "cmd port up f3" ∷
+    codes "publish" ∷
+    []
 
 -- The chip and software share a frame to an unknown station; then the chip reports where its source is.
-abbrev pub unknown_unicast_split_steps : List Step
-unknown_unicast_split_steps = three_up ++
-    Rx 1 a_to_b ∷
-    Serve ∷
-    Report ∷
-    []
+abbrev pub unknown_unicast_split_text : List ℕ
+unknown_unicast_split_text = lines_text (chip_up ++
+    codes "rx 1 02000000000b02000000000a88b50102" ∷
+    codes "serve" ∷
+    codes "report 1" ∷
+    codes "end" ∷
+    [])
 
 abbrev pub unknown_unicast_split_told : List ℕ
 unknown_unicast_split_told = lines_text (three_are_up ++
@@ -82,15 +38,16 @@ unknown_unicast_split_told = lines_text (three_are_up ++
     [])
 
 -- Software decides by what is published, the chip by what it has applied.
-abbrev pub two_points_differ_steps : List Step
-two_points_differ_steps = three_up ++
-    Cmd (FdbAdd 1 station_b 2 Static) ∷
-    Publish ∷
-    Rx 1 a_to_b ∷
-    Serve ∷
-    Turn ∷
-    Rx 1 a_to_b ∷
-    []
+abbrev pub two_points_differ_text : List ℕ
+two_points_differ_text = lines_text (chip_up ++
+    codes "cmd fdb add 02:00:00:00:00:0b dev c2 vlan 1 static" ∷
+    codes "publish" ∷
+    codes "rx 1 02000000000b02000000000a88b50102" ∷
+    codes "serve" ∷
+    codes "turn 1" ∷
+    codes "rx 1 02000000000b02000000000a88b50102" ∷
+    codes "end" ∷
+    [])
 
 abbrev pub two_points_differ_told : List ℕ
 two_points_differ_told = lines_text (three_are_up ++
@@ -107,19 +64,20 @@ two_points_differ_told = lines_text (three_are_up ++
     [])
 
 -- A station is seen behind a foreign port. Until a turn the chip sends its frames where it was, and then it traps them.
-abbrev pub moved_to_a_foreign_port_steps : List Step
-moved_to_a_foreign_port_steps = three_up ++
-    Cmd (FdbAdd 1 station_b 2 Extern) ∷
-    Turn ∷
-    Publish ∷
-    Rx 3 b_to_a ∷
-    Serve ∷
-    Publish ∷
-    Rx 1 a_to_b ∷
-    Turn ∷
-    Rx 1 a_to_b ∷
-    Serve ∷
-    []
+abbrev pub moved_to_a_foreign_port_text : List ℕ
+moved_to_a_foreign_port_text = lines_text (chip_up ++
+    codes "cmd fdb add 02:00:00:00:00:0b dev c2 vlan 1 extern" ∷
+    codes "turn 1" ∷
+    codes "publish" ∷
+    codes "rx 3 02000000000a02000000000b88b50102" ∷
+    codes "serve" ∷
+    codes "publish" ∷
+    codes "rx 1 02000000000b02000000000a88b50102" ∷
+    codes "turn 1" ∷
+    codes "rx 1 02000000000b02000000000a88b50102" ∷
+    codes "serve" ∷
+    codes "end" ∷
+    [])
 
 abbrev pub moved_to_a_foreign_port_told : List ℕ
 moved_to_a_foreign_port_told = lines_text (three_are_up ++
@@ -142,17 +100,18 @@ moved_to_a_foreign_port_told = lines_text (three_are_up ++
     [])
 
 -- A station is reported behind a port of the chip. Until a turn the chip traps its frames.
-abbrev pub moved_to_a_chip_port_steps : List Step
-moved_to_a_chip_port_steps = three_up ++
-    Cmd (FdbAdd 1 station_b 3 Extern) ∷
-    Turn ∷
-    Rx 2 b_to_a ∷
-    Report ∷
-    Publish ∷
-    Rx 1 a_to_b ∷
-    Serve ∷
-    Serve ∷
-    []
+abbrev pub moved_to_a_chip_port_text : List ℕ
+moved_to_a_chip_port_text = lines_text (chip_up ++
+    codes "cmd fdb add 02:00:00:00:00:0b dev f3 vlan 1 extern" ∷
+    codes "turn 1" ∷
+    codes "rx 2 02000000000a02000000000b88b50102" ∷
+    codes "report 1" ∷
+    codes "publish" ∷
+    codes "rx 1 02000000000b02000000000a88b50102" ∷
+    codes "serve" ∷
+    codes "serve" ∷
+    codes "end" ∷
+    [])
 
 abbrev pub moved_to_a_chip_port_told : List ℕ
 moved_to_a_chip_port_told = lines_text (three_are_up ++
@@ -173,16 +132,17 @@ moved_to_a_chip_port_told = lines_text (three_are_up ++
     [])
 
 -- A port goes down and comes up, and the chip has not applied yet that its station is gone.
-abbrev pub port_down_and_up_steps : List Step
-port_down_and_up_steps = three_up ++
-    Cmd (FdbAdd 1 station_b 2 Static) ∷
-    Turn ∷
-    Cmd (PortDown 2) ∷
-    Cmd (PortUp 2) ∷
-    Rx 1 a_to_b ∷
-    Turn ∷
-    Rx 1 a_to_b ∷
-    []
+abbrev pub port_down_and_up_text : List ℕ
+port_down_and_up_text = lines_text (chip_up ++
+    codes "cmd fdb add 02:00:00:00:00:0b dev c2 vlan 1 static" ∷
+    codes "turn 1" ∷
+    codes "cmd port down c2" ∷
+    codes "cmd port up c2" ∷
+    codes "rx 1 02000000000b02000000000a88b50102" ∷
+    codes "turn 1" ∷
+    codes "rx 1 02000000000b02000000000a88b50102" ∷
+    codes "end" ∷
+    [])
 
 abbrev pub port_down_and_up_told : List ℕ
 port_down_and_up_told = lines_text (three_are_up ++
@@ -199,12 +159,13 @@ port_down_and_up_told = lines_text (three_are_up ++
     [])
 
 -- The one foreign port is isolated, and so is the port by which the frame enters: software has no share.
-abbrev pub isolated_ingress_steps : List Step
-isolated_ingress_steps = three_up ++
-    Cmd (Link 1 isolated true) ∷
-    Cmd (Link 3 isolated true) ∷
-    Rx 1 a_to_b ∷
-    []
+abbrev pub isolated_ingress_text : List ℕ
+isolated_ingress_text = lines_text (chip_up ++
+    codes "cmd link c1 isolated on" ∷
+    codes "cmd link f3 isolated on" ∷
+    codes "rx 1 02000000000b02000000000a88b50102" ∷
+    codes "end" ∷
+    [])
 
 abbrev pub isolated_ingress_told : List ℕ
 isolated_ingress_told = lines_text (three_are_up ++
@@ -216,13 +177,14 @@ isolated_ingress_told = lines_text (three_are_up ++
     [])
 
 -- The same links, and a frame by the other port of the chip.
-abbrev pub plain_ingress_steps : List Step
-plain_ingress_steps = three_up ++
-    Cmd (Link 1 isolated true) ∷
-    Cmd (Link 3 isolated true) ∷
-    Rx 2 c_to_b ∷
-    Serve ∷
-    []
+abbrev pub plain_ingress_text : List ℕ
+plain_ingress_text = lines_text (chip_up ++
+    codes "cmd link c1 isolated on" ∷
+    codes "cmd link f3 isolated on" ∷
+    codes "rx 2 02000000000b02000000000c88b50102" ∷
+    codes "serve" ∷
+    codes "end" ∷
+    [])
 
 abbrev pub plain_ingress_told : List ℕ
 plain_ingress_told = lines_text (three_are_up ++
@@ -237,14 +199,15 @@ plain_ingress_told = lines_text (three_are_up ++
     [])
 
 -- A foreign port goes down and comes up, and with it the share of software, without a turn.
-abbrev pub bits_follow_a_foreign_port_steps : List Step
-bits_follow_a_foreign_port_steps = three_up ++
-    Rx 1 a_to_b ∷
-    Cmd (PortDown 3) ∷
-    Rx 1 a_to_b ∷
-    Cmd (PortUp 3) ∷
-    Rx 1 a_to_b ∷
-    []
+abbrev pub bits_follow_a_foreign_port_text : List ℕ
+bits_follow_a_foreign_port_text = lines_text (chip_up ++
+    codes "rx 1 02000000000b02000000000a88b50102" ∷
+    codes "cmd port down f3" ∷
+    codes "rx 1 02000000000b02000000000a88b50102" ∷
+    codes "cmd port up f3" ∷
+    codes "rx 1 02000000000b02000000000a88b50102" ∷
+    codes "end" ∷
+    [])
 
 abbrev pub bits_follow_a_foreign_port_told : List ℕ
 bits_follow_a_foreign_port_told = lines_text (three_are_up ++
@@ -261,15 +224,16 @@ bits_follow_a_foreign_port_told = lines_text (three_are_up ++
 
 -- The turn that puts an entry hits it, which saves it once. What is forgotten is forgotten once, though the chip still has it
 -- until a turn.
-abbrev pub sweep_steps : List Step
-sweep_steps = three_up ++
-    Cmd (FdbAdd 1 station_b 2 Extern) ∷
-    Turn ∷
-    Sweep ∷
-    Sweep ∷
-    Sweep ∷
-    Turn ∷
-    []
+abbrev pub sweep_text : List ℕ
+sweep_text = lines_text (chip_up ++
+    codes "cmd fdb add 02:00:00:00:00:0b dev c2 vlan 1 extern" ∷
+    codes "turn 1" ∷
+    codes "sweep 1" ∷
+    codes "sweep 1" ∷
+    codes "sweep 1" ∷
+    codes "turn 1" ∷
+    codes "end" ∷
+    [])
 
 abbrev pub sweep_told : List ℕ
 sweep_told = lines_text (three_are_up ++
@@ -283,15 +247,16 @@ sweep_told = lines_text (three_are_up ++
     [])
 
 -- A frame of the station saves it once more.
-abbrev pub hit_by_a_frame_steps : List Step
-hit_by_a_frame_steps = three_up ++
-    Cmd (FdbAdd 1 station_b 2 Extern) ∷
-    Turn ∷
-    Sweep ∷
-    Rx 2 b_to_a ∷
-    Sweep ∷
-    Sweep ∷
-    []
+abbrev pub hit_by_a_frame_text : List ℕ
+hit_by_a_frame_text = lines_text (chip_up ++
+    codes "cmd fdb add 02:00:00:00:00:0b dev c2 vlan 1 extern" ∷
+    codes "turn 1" ∷
+    codes "sweep 1" ∷
+    codes "rx 2 02000000000a02000000000b88b50102" ∷
+    codes "sweep 1" ∷
+    codes "sweep 1" ∷
+    codes "end" ∷
+    [])
 
 abbrev pub hit_by_a_frame_told : List ℕ
 hit_by_a_frame_told = lines_text (three_are_up ++
@@ -306,20 +271,21 @@ hit_by_a_frame_told = lines_text (three_are_up ++
     [])
 
 -- Commands and steps that are refused count as steps, and change nothing else.
-abbrev pub refusals_without_post_steps : List Step
-refusals_without_post_steps = three_up ++
-    Cmd (PortUp 1) ∷
-    Cmd (FdbAdd 7 station_b 2 Static) ∷
-    Cmd (FdbAdd 1 station_b 2 Static) ∷
-    Cmd (FdbAdd 1 station_b 3 Static) ∷
-    Cmd (FdbDel 1 station_a) ∷
-    Turn ∷
-    Turn ∷
-    Serve ∷
-    Report ∷
-    Cmd (PortDown 3) ∷
-    Cmd (Link 3 flood false) ∷
-    []
+abbrev pub refusals_without_post_text : List ℕ
+refusals_without_post_text = lines_text (three_up ++
+    codes "cmd port up p1" ∷
+    codes "cmd fdb add 02:00:00:00:00:0b dev p2 vlan 7 static" ∷
+    codes "cmd fdb add 02:00:00:00:00:0b dev p2 vlan 1 static" ∷
+    codes "cmd fdb add 02:00:00:00:00:0b dev p3 vlan 1 static" ∷
+    codes "cmd fdb del 02:00:00:00:00:0a vlan 1" ∷
+    codes "turn 1" ∷
+    codes "turn 1" ∷
+    codes "serve" ∷
+    codes "report 1" ∷
+    codes "cmd port down p3" ∷
+    codes "cmd link p3 flood off" ∷
+    codes "end" ∷
+    [])
 
 abbrev pub refusals_without_post_told : List ℕ
 refusals_without_post_told = lines_text (three_are_up ++
@@ -335,28 +301,4 @@ refusals_without_post_told = lines_text (three_are_up ++
     codes "ok 14 2" ∷
     codes "refused 15 2" ∷
     codes "end 15 12 0 0" ∷
-    [])
-
--- A frame that is held is decided by what was published when it was taken, and is sent once.
-abbrev pub hold_steps : List Step
-hold_steps = three_up ++
-    Rx 1 a_to_b ∷
-    Hold ∷
-    Cmd (FdbAdd 1 station_b 2 Static) ∷
-    Publish ∷
-    Post 1 None ∷
-    Post 1 None ∷
-    []
-
-abbrev pub hold_told : List ℕ
-hold_told = lines_text (three_are_up ++
-    codes "held 1 9" ∷
-    codes "ok 7 1" ∷
-    codes "ok 8 0" ∷
-    codes "soft 1 at 9" ∷
-    codes "tx 1 2 02000000000b02000000000a88b50102" ∷
-    codes "tx 1 3 02000000000b02000000000a88b50102" ∷
-    codes "ok 9 1" ∷
-    codes "refused 10 14" ∷
-    codes "end 10 11 2 0" ∷
     [])

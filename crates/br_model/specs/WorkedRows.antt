@@ -33,7 +33,7 @@ first_frame_told = lines_text (
     codes "end 7 8 2 0" ∷
     [])
 
--- refusals, and a word that no form has
+-- refusals, and no last line
 abbrev pub first_refusals_text : List ℕ
 first_refusals_text = lines_text (
     codes "scenario 1" ∷
@@ -52,7 +52,8 @@ first_refusals_told = lines_text (
     codes "refused 2 1" ∷
     codes "refused 3 3" ∷
     codes "refused 4 10" ∷
-    codes "bad 7 word" ∷
+    codes "refused 5 11" ∷
+    codes "bad 8 unended" ∷
     [])
 
 -- no step, and a last line without its line feed

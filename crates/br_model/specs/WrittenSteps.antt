@@ -7,7 +7,7 @@ use Rattle.br_model.specs.declared.change.Kind.TheVariants.{Local, Static, Learn
 use Rattle.br_model.specs.declared.steps.Command.{Command}
 use Rattle.br_model.specs.declared.steps.Command.TheVariants as commands
 use Rattle.br_model.specs.declared.steps.Step.{Step}
-use Rattle.br_model.specs.declared.steps.Step.TheVariants.{Rx, Cmd, Now, Serve, Publish}
+use Rattle.br_model.specs.declared.steps.Step.TheVariants.{Rx, Cmd, Now, Serve, Turn, Report, Sweep, Publish}
 use Rattle.br_model.specs.Domains.{host}
 use Rattle.br_model.specs.FlagWords.{flags}
 use Rattle.br_model.specs.Frames.{longest_frame}
@@ -59,6 +59,9 @@ has_line ports (Rx port bytes) = has_number ports port && list_all is_byte bytes
 has_line ports (Cmd command) = command_has_line ports command
 has_line ports (Now moment) = nat_le moment last_moment
 has_line ports Serve = true
+has_line ports Turn = true
+has_line ports Report = true
+has_line ports Sweep = true
 has_line ports Publish = true
 
 -- the step that the line gives
@@ -67,6 +70,9 @@ given (Rx port bytes) = Rx port (shown bytes)
 given (Cmd command) = Cmd command
 given (Now moment) = Now moment
 given Serve = Serve
+given Turn = Turn
+given Report = Report
+given Sweep = Sweep
 given Publish = Publish
 
 -- from one byte to the longest frame
@@ -75,6 +81,9 @@ is_whole (Rx port bytes) = nat_lt 0 (length bytes) && nat_le (length bytes) long
 is_whole (Cmd command) = true
 is_whole (Now moment) = true
 is_whole Serve = true
+is_whole Turn = true
+is_whole Report = true
+is_whole Sweep = true
 is_whole Publish = true
 
 -- whether the ports that the step names are declared
@@ -94,4 +103,7 @@ names_declared ports (Rx port bytes) = has_number ports port
 names_declared ports (Cmd command) = command_names_declared ports command
 names_declared ports (Now moment) = true
 names_declared ports Serve = true
+names_declared ports Turn = true
+names_declared ports Report = true
+names_declared ports Sweep = true
 names_declared ports Publish = true

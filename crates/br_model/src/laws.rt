@@ -7,7 +7,8 @@ ghost use Rattle.br_model.specs.WholeLines.{is_line, lines_text};
 ghost use Rattle.br_model.specs.WorkedRows.{first_frame_text, first_frame_told, first_refusals_text, first_refusals_told, empty_scenario_text, empty_scenario_told};
 ghost use Rattle.br_model.specs.WorkedVlans.{priority_tag_text, priority_tag_told, edges_of_the_vlan_range_text, edges_of_the_vlan_range_told, isolated_ports_text, isolated_ports_told};
 ghost use Rattle.br_model.specs.WorkedAddresses.{address_moves_text, address_moves_told, local_address_text, local_address_told, published_point_text, published_point_told, destination_on_its_ingress_port_text, destination_on_its_ingress_port_told, ageing_text, ageing_told};
-ghost use Rattle.br_model.specs.WorkedChip.{chip_told, chip_ports, soft_ports, unknown_unicast_split_steps, unknown_unicast_split_told, two_points_differ_steps, two_points_differ_told, moved_to_a_foreign_port_steps, moved_to_a_foreign_port_told, moved_to_a_chip_port_steps, moved_to_a_chip_port_told, port_down_and_up_steps, port_down_and_up_told, isolated_ingress_steps, isolated_ingress_told, plain_ingress_steps, plain_ingress_told, bits_follow_a_foreign_port_steps, bits_follow_a_foreign_port_told, sweep_steps, sweep_told, hit_by_a_frame_steps, hit_by_a_frame_told, refusals_without_post_steps, refusals_without_post_told, hold_steps, hold_told};
+ghost use Rattle.br_model.specs.WorkedChip.{unknown_unicast_split_text, unknown_unicast_split_told, two_points_differ_text, two_points_differ_told, moved_to_a_foreign_port_text, moved_to_a_foreign_port_told, moved_to_a_chip_port_text, moved_to_a_chip_port_told, port_down_and_up_text, port_down_and_up_told, isolated_ingress_text, isolated_ingress_told, plain_ingress_text, plain_ingress_told, bits_follow_a_foreign_port_text, bits_follow_a_foreign_port_told, sweep_text, sweep_told, hit_by_a_frame_text, hit_by_a_frame_told, refusals_without_post_text, refusals_without_post_told};
+ghost use Rattle.br_model.specs.WorkedHold.{hold_told, hold_lines};
 
 /// Lines are cut out of their text just as they are, and what stands after them is cut as if it stood alone.
 pub fn cut_lines()
@@ -32,7 +33,7 @@ pub fn first_frame()
     ensures { told first_frame_text ≡ first_frame_told }
 {}
 
-/// Commands and a serve are refused, and a word that no form has ends the run.
+/// Commands, a serve and a turn are refused, and the scenario has no last line.
 pub fn first_refusals()
     ensures { told first_refusals_text ≡ first_refusals_told }
 {}
@@ -84,60 +85,60 @@ pub fn ageing()
 
 /// The chip and software share a frame to an unknown station.
 pub fn unknown_unicast_split()
-    ensures { chip_told chip_ports unknown_unicast_split_steps ≡ unknown_unicast_split_told }
+    ensures { told unknown_unicast_split_text ≡ unknown_unicast_split_told }
 {}
 
 /// Software decides by what is published, the chip by what it has applied.
 pub fn two_points_differ()
-    ensures { chip_told chip_ports two_points_differ_steps ≡ two_points_differ_told }
+    ensures { told two_points_differ_text ≡ two_points_differ_told }
 {}
 
 /// A station has moved to a foreign port, and the chip learns of it by a turn.
 pub fn moved_to_a_foreign_port()
-    ensures { chip_told chip_ports moved_to_a_foreign_port_steps ≡ moved_to_a_foreign_port_told }
+    ensures { told moved_to_a_foreign_port_text ≡ moved_to_a_foreign_port_told }
 {}
 
 /// A station has moved to a port of the chip, and the chip applies it by a turn.
 pub fn moved_to_a_chip_port()
-    ensures { chip_told chip_ports moved_to_a_chip_port_steps ≡ moved_to_a_chip_port_told }
+    ensures { told moved_to_a_chip_port_text ≡ moved_to_a_chip_port_told }
 {}
 
 /// A port goes down and comes up while the deletion of its station waits.
 pub fn port_down_and_up()
-    ensures { chip_told chip_ports port_down_and_up_steps ≡ port_down_and_up_told }
+    ensures { told port_down_and_up_text ≡ port_down_and_up_told }
 {}
 
 /// A frame by an isolated port goes to no isolated one elsewhere.
 pub fn isolated_ingress()
-    ensures { chip_told chip_ports isolated_ingress_steps ≡ isolated_ingress_told }
+    ensures { told isolated_ingress_text ≡ isolated_ingress_told }
 {}
 
 /// A frame by a port that is not isolated goes to an isolated one elsewhere.
 pub fn plain_ingress()
-    ensures { chip_told chip_ports plain_ingress_steps ≡ plain_ingress_told }
+    ensures { told plain_ingress_text ≡ plain_ingress_told }
 {}
 
 /// Whether software has a share follows a foreign port at once.
 pub fn bits_follow_a_foreign_port()
-    ensures { chip_told chip_ports bits_follow_a_foreign_port_steps ≡ bits_follow_a_foreign_port_told }
+    ensures { told bits_follow_a_foreign_port_text ≡ bits_follow_a_foreign_port_told }
 {}
 
 /// A station that no frame hits is forgotten, but the turn that put it has hit it once.
 pub fn sweep()
-    ensures { chip_told chip_ports sweep_steps ≡ sweep_told }
+    ensures { told sweep_text ≡ sweep_told }
 {}
 
 /// A frame of a station saves its entry once.
 pub fn hit_by_a_frame()
-    ensures { chip_told chip_ports hit_by_a_frame_steps ≡ hit_by_a_frame_told }
+    ensures { told hit_by_a_frame_text ≡ hit_by_a_frame_told }
 {}
 
 /// Commands and steps that have nothing to do are refused.
 pub fn refusals_without_post()
-    ensures { chip_told soft_ports refusals_without_post_steps ≡ refusals_without_post_told }
+    ensures { told refusals_without_post_text ≡ refusals_without_post_told }
 {}
 
 /// A frame that is held is decided by what was published then.
 pub fn hold()
-    ensures { chip_told soft_ports hold_steps ≡ hold_told }
+    ensures { hold_told ≡ hold_lines }
 {}

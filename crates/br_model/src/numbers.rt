@@ -76,6 +76,8 @@ impl Model for Dom {
 impl Dom {
     pub const SOFTWARE: Dom = Dom { number: 0 };
 
+    pub const CHIP: Dom = Dom { number: 1 };
+
     /// `None` exactly above 1.
     pub fn new(number: u8) -> Option<Dom>
         ensures found { IsSome result ↔ (number ≤ 1) }

@@ -75,17 +75,14 @@ pub enum Step {
     Now(u64),
     /// The oldest frame that waits is decided and sent.
     Serve,
+    /// The chip applies the next deferred change.
+    Turn,
+    /// The bridge is told the chip's oldest report.
+    Report,
+    /// The bridge forgets the stations that the chip no longer sees.
+    Sweep,
     /// The tables that frames are decided by become those of all accepted changes.
     Publish,
-}
-
-/// A frame that waits for software to decide it. Ids count from 1 in the order of entry; `head` is the header of `bytes`.
-#[derive(Drop)]
-pub struct Waiting {
-    pub id: u32,
-    pub port: Port,
-    pub bytes: Bytes,
-    pub head: Head,
 }
 
 /// Why a step was refused. The text of a transcript has their numbers.

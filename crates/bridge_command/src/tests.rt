@@ -55,10 +55,16 @@ fn said(line: &str, r: &Roster) -> Result<Says, LineWhy> {
     })
 }
 
-fn declare(alloc: Global, r: &mut Roster, number: &str, name: &str) -> Result<(), LineWhy> {
+fn declare(
+    alloc: Global,
+    r: &mut Roster,
+    number: &str,
+    name: &str,
+    dom: Dom,
+) -> Result<(), LineWhy> {
     let port = r.new_port(number)?;
     let name = r.new_name(alloc, name)?;
-    match r.declare(port, name, Dom::SOFTWARE) {
+    match r.declare(port, name, dom) {
         Ok(()) => Ok(()),
         Err(_) => Err(LineWhy::NoMemory),
     }
@@ -81,7 +87,10 @@ fn declarations(rt: HostRuntime) -> Result<(), Fail> {
         ("02", "x", Err(LineWhy::Number)),
     ];
     for (number, name, expected) in lines {
-        assert_eq!(rt; declare(alloc, &mut r, number, name), expected);
+        assert_eq!(rt;
+            declare(alloc, &mut r, number, name, Dom::SOFTWARE),
+            expected
+        );
     }
     assert_eq!(rt; r.len(), 2);
     assert!(rt; !r.is_empty());
@@ -94,6 +103,10 @@ fn declarations(rt: HostRuntime) -> Result<(), Fail> {
     assert_eq!(rt; r.name(Port::HOST), None);
     assert_eq!(rt; r.domains().of(last), Some(Dom::SOFTWARE));
     assert_eq!(rt; r.domains().of(Port::HOST), Some(Dom::SOFTWARE));
+    assert_eq!(rt; declare(alloc, &mut r, "5", "c5", Dom::CHIP), Ok(()));
+    let port = r.port(2).expect(&rt, "a third port is declared");
+    assert_eq!(rt; r.domains().of(port), Some(Dom::CHIP));
+    assert_eq!(rt; r.domains().of(last), Some(Dom::SOFTWARE));
     assert_eq!(rt; r.numbered("63"), Ok(last));
     assert_eq!(rt; r.numbered("2"), Err(LineWhy::Port));
     Ok(())
@@ -106,7 +119,7 @@ fn commands(rt: HostRuntime) -> Result<(), Fail> {
     assert_eq!(rt; said("port up x", &r), Err(LineWhy::Place));
     assert_eq!(rt; said("link x y on", &r), Err(LineWhy::Word));
     assert_eq!(rt; said("ageing 0", &r), Err(LineWhy::Place));
-    assert_eq!(rt; declare(alloc, &mut r, "3", "p3"), Ok(()));
+    assert_eq!(rt; declare(alloc, &mut r, "3", "p3", Dom::SOFTWARE), Ok(()));
     r.reach(Place::Steps);
     let station = 0x0200_0000_0001;
     let rows = [

@@ -1,5 +1,5 @@
 -- A session goes on with a line.
-use Rattle.std.proofs.Common.{◌≡◌, ℕ, ◌+◌, ◌≤◌, true, false, if◌then◌else◌, List, [], ◌∷◌, ◌++◌, length, arith, None, Some, Option, Result, Ok, Err, refl, sym, ◌∙◌, ap, subst, codes, nat_lt}
+use Rattle.std.proofs.Common.{◌≡◌, ℕ, ◌+◌, ◌≤◌, true, false, if◌then◌else◌, List, [], ◌∷◌, ◌++◌, length, arith, None, Some, Option, Result, Ok, Err, refl, sym, ◌∙◌, ap, subst, map, codes, nat_lt}
 use Rattle.std.proofs.lemmas.List.{append-nil}
 use Rattle.br_model.specs.declared.scenario.Item.TheVariants as items
 use Rattle.br_model.specs.declared.scenario.LineWhy.{LineWhy}
@@ -8,14 +8,16 @@ use Rattle.br_model.specs.declared.scenario.Said.{Said}
 use Rattle.br_model.specs.declared.scenario.Said.TheVariants.{Blank, Opens, Declares, Does, Ends}
 use Rattle.br_model.specs.declared.steps.Step.{Step}
 use Rattle.br_model.specs.LineForms.{line_says, declaration, opening}
+use Rattle.br_model.specs.Plane.Naming.{named}
+use Rattle.br_model.specs.Plane.Runs.{run, then_step}
+use Rattle.br_model.specs.Plane.Steps.{world_step}
+use Rattle.br_model.specs.Plane.World.{World, Stepped, first_world}
 use Rattle.br_model.specs.Roster.{Roster, Entry, domains_of}
-use Rattle.br_model.specs.Runs.{run, run_of, setup_of, body_of, then_step}
+use Rattle.br_model.specs.Runs.{run_of, setup_of, body_of}
 use Rattle.br_model.specs.Scenario.{Scenario, Ending, Going, Bad, takes, takes_at, takes_said, declared, steps_of, ending_of as said_ending, longest_line, bad}
-use Rattle.br_model.specs.Setup.{first_own}
-use Rattle.br_model.specs.Steps.{world_step}
+use Rattle.br_model.specs.Setup.{Setup, first_own}
 use Rattle.br_model.specs.Transcript.{text}
-use Rattle.br_model.specs.World.{World, Stepped, first_world}
-use Rattle.br_model.proofs.Running.{run_push, run_none, text-append}
+use Rattle.br_model.proofs.Running.{run_said, run_none, text-append}
 use Rattle.capture_runner.specs.declared.session.Last.TheVariants as lasts
 use Rattle.capture_runner.specs.declared.session.Session.{Session}
 use Rattle.capture_runner.specs.Session as session
@@ -32,12 +34,16 @@ taken s line r going short says =
     ∙ ap (λ b. if b then bad s why.Long else takes_said s (line_says s.roster line)) (not_long (length line) short)
     ∙ ap (takes_said s) says
 
+-- the run of these lines' steps
+abbrev ran : Setup → List Step → Stepped
+ran setup steps = run setup (map named steps)
+
 -- lines without a step
 
 -- the same run, where no step and no port came
 pub same_run : (s t : Scenario) → t.roster.ports ≡ s.roster.ports → t.steps ≡ s.steps → run_of t ≡ run_of s
 same_run s t p e =
-    ap (λ (ports : List Entry). run (record { domains = domains_of ports; own = first_own }) t.steps) p ∙ ap (run (setup_of s.roster)) e
+    ap (λ (ports : List Entry). ran (record { domains = domains_of ports; own = first_own }) t.steps) p ∙ ap (ran (setup_of s.roster)) e
 
 -- the place of a scenario that has steps, after what a line says there
 pub past : (r : Roster) (said : Said) → declaration r.place ≡ false → opening r.place ≡ false → comes_in_place r.place (item_of said) ≡ true
@@ -61,7 +67,7 @@ unmade s t (Some w) h e d = let e : true ≡ false = sym d ∙ h.1 in absurd (cc
 
 -- a run without steps writes nothing, whatever the ports
 pub no_steps : (s : Scenario) → s.steps ≡ [] → body_of (run_of s) ≡ codes "transcript 1" ++ 10 ∷ []
-no_steps s e = ap (λ (steps : List Step). body_of (run (setup_of s.roster) steps)) e ∙ ap body_of (run_none (setup_of s.roster))
+no_steps s e = ap (λ (steps : List Step). body_of (ran (setup_of s.roster) steps)) e ∙ ap body_of (run_none (setup_of s.roster))
 
 pub unmade_body : (s t : Scenario) (w : Option World) → IsWorld s w → t.steps ≡ s.steps → declaration s.roster.place ≡ true → body_of (run_of t) ≡ body_of (run_of s)
 unmade_body s t None h e d = no_steps t (e ∙ h) ∙ sym (no_steps s h)
@@ -71,28 +77,28 @@ unmade_body s t (Some w) h e d = let e : true ≡ false = sym d ∙ h.1 in absur
 
 -- the world before it
 world_before : (s : Scenario) (w : Option World) → IsWorld s w → world_of s.roster w ≡ (run_of s).0
-world_before s None h = sym (ap (λ (x : Stepped). x.0) (ap (run (setup_of s.roster)) h ∙ run_none (setup_of s.roster)))
+world_before s None h = sym (ap (λ (x : Stepped). x.0) (ap (ran (setup_of s.roster)) h ∙ run_none (setup_of s.roster)))
 world_before s (Some w) h = h.0
 
 pub world_after : (s t : Scenario) (w : Option World) (step : Step) → IsWorld s w → t.steps ≡ s.steps ++ step ∷ [] → t.roster ≡ declared s.roster (Does step)
-    → IsWorld t (Some (world_step (world_of s.roster w) step).0)
+    → IsWorld t (Some (world_step (world_of s.roster w) (named step)).0)
 world_after s t w step h e p = (
-  ap (λ (v : World). (world_step v step).0) (world_before s w h)
-      ∙ sym (ap (λ (x : Stepped). x.0) (ran s t step e p)),
+  ap (λ (v : World). (world_step v (named step)).0) (world_before s w h)
+      ∙ sym (ap (λ (x : Stepped). x.0) (goes_on s t step e p)),
   ap (λ (r : Roster). declaration r.place) p,
   ap (λ (r : Roster). opening r.place) p,
 )
   where
-    ran : (s t : Scenario) (step : Step) → t.steps ≡ s.steps ++ step ∷ [] → t.roster ≡ declared s.roster (Does step) → run_of t ≡ then_step (run_of s) step
-    ran s t step e p =
-        ap (λ (r : Roster). run (setup_of r) t.steps) p ∙ ap (run (setup_of s.roster)) e ∙ run_push (setup_of s.roster) s.steps step
+    goes_on : (s t : Scenario) (step : Step) → t.steps ≡ s.steps ++ step ∷ [] → t.roster ≡ declared s.roster (Does step) → run_of t ≡ then_step (run_of s) (named step)
+    goes_on s t step e p =
+        ap (λ (r : Roster). ran (setup_of r) t.steps) p ∙ ap (ran (setup_of s.roster)) e ∙ run_said (setup_of s.roster) s.steps step
 
 pub body_after : (s t : Scenario) (w : Option World) (step : Step) → IsWorld s w → t.steps ≡ s.steps ++ step ∷ [] → t.roster ≡ declared s.roster (Does step)
-    → body_of (run_of t) ≡ body_of (run_of s) ++ text (world_step (world_of s.roster w) step).1
+    → body_of (run_of t) ≡ body_of (run_of s) ++ text (world_step (world_of s.roster w) (named step)).1
 body_after s t w step h e p =
-    ap body_of (ap (λ (r : Roster). run (setup_of r) t.steps) p ∙ ap (run (setup_of s.roster)) e ∙ run_push (setup_of s.roster) s.steps step)
-    ∙ ap (λ (x : List ℕ). codes "transcript 1" ++ 10 ∷ x) (text-append (run_of s).1 (world_step (run_of s).0 step).1)
-    ∙ ap (λ (v : World). body_of (run_of s) ++ text (world_step v step).1) (sym (world_before s w h))
+    ap body_of (ap (λ (r : Roster). ran (setup_of r) t.steps) p ∙ ap (ran (setup_of s.roster)) e ∙ run_said (setup_of s.roster) s.steps step)
+    ∙ ap (λ (x : List ℕ). codes "transcript 1" ++ 10 ∷ x) (text-append (run_of s).1 (world_step (run_of s).0 (named step)).1)
+    ∙ ap (λ (v : World). body_of (run_of s) ++ text (world_step v (named step)).1) (sym (world_before s w h))
 
 -- what a session takes
 
@@ -209,15 +215,15 @@ stepped s line x y r before after step f short says moved does =
     let roster : r ≡ t.roster = moved ∙ ap (λ (q : Roster). declared q (Does step)) f.stands.roster in
     let same : world_of r x.world ≡ world_of s.roster x.world = ports_only x.world r (ap (λ (q : Roster). q.ports) roster) in
     let world : IsWorld t y.world =
-    subst (λ (w : Option World). IsWorld t w) (sym (does.world ∙ ap (λ (v : World). Some (world_step v step).0) same)) (world_after s t x.world step f.stands.world refl refl) in record {
+    subst (λ (w : Option World). IsWorld t w) (sym (does.world ∙ ap (λ (v : World). Some (world_step v (named step)).0) same)) (world_after s t x.world step f.stands.world refl refl) in record {
       world = subst (λ (u : Scenario). IsWorld u y.world) (sym e) world;
       goes = λ _. subst (λ (u : Scenario). Follows u y) (sym e) (record {
         stands = record { lines = does.lines ∙ ap (λ n. n + 1) f.stands.lines; roster = does.roster ∙ roster; world = world };
         going = refl;
       });
       ends = ap (λ (u : Scenario). u.ending) e;
-      added = text (world_step (world_of s.roster x.world) step).1;
-      text = does.text ∙ ap (λ (v : World). before ++ text (world_step v step).1) same;
+      added = text (world_step (world_of s.roster x.world) (named step)).1;
+      text = does.text ∙ ap (λ (v : World). before ++ text (world_step v (named step)).1) same;
       body = ap (λ (u : Scenario). body_of (run_of u)) e ∙ body_after s t x.world step f.stands.world refl refl;
     }
   where

@@ -2,5 +2,4 @@ pub mod Advancing
 pub mod Halting
 pub mod Outcome
 pub mod Playing
-pub mod Sent
 pub mod Session

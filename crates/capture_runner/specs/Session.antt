@@ -6,12 +6,14 @@ use Rattle.br_model.specs.declared.steps.Step.{Step}
 use Rattle.br_model.specs.declared.transcript.Line.{Line}
 use Rattle.br_model.specs.declared.transcript.Line.TheVariants.{End}
 use Rattle.br_model.specs.LineForms.{declaration, opening}
+use Rattle.br_model.specs.Plane.Naming.{named}
+use Rattle.br_model.specs.Plane.Runs.{end_line}
+use Rattle.br_model.specs.Plane.Steps.{world_step}
+use Rattle.br_model.specs.Plane.World.{World, first_world}
 use Rattle.br_model.specs.Roster.{Roster}
-use Rattle.br_model.specs.Runs.{run_of, body_of, end_line, setup_of}
+use Rattle.br_model.specs.Runs.{run_of, body_of, setup_of}
 use Rattle.br_model.specs.Scenario.{Scenario, Ending, Going, Ended, Bad, takes}
-use Rattle.br_model.specs.Steps.{world_step}
 use Rattle.br_model.specs.Transcript.{text, line_text, bad_text}
-use Rattle.br_model.specs.World.{World, first_world}
 use Rattle.capture_runner.specs.declared.session.Last.{Last}
 use Rattle.capture_runner.specs.declared.session.Last.TheVariants as lasts
 use Rattle.capture_runner.specs.declared.session.Session.{Session}
@@ -62,8 +64,8 @@ world_of roster (Some w) = w
 pub record Does (old : Session) (step : Step) (before : List ℕ) (new : Session) (after : List ℕ) : Type 0 where
   pub lines : new.lines ≡ old.lines
   pub roster : new.roster ≡ old.roster
-  pub world : new.world ≡ Some (world_step (world_of old.roster old.world) step).0
-  pub text : after ≡ before ++ text (world_step (world_of old.roster old.world) step).1
+  pub world : new.world ≡ Some (world_step (world_of old.roster old.world) (named step)).0
+  pub text : after ≡ before ++ text (world_step (world_of old.roster old.world) (named step)).1
 
 abbrev pub end_line_of : Option World → Line
 end_line_of None = End 0 0 0 0

@@ -1,11 +1,8 @@
 //! A scenario is read line by line, run against the bridge, and told as a transcript.
 #![tactic(auto)]
 
-mod frame;
-mod published;
 mod replay;
 mod runner;
-mod sending;
 mod session;
 mod world;
 

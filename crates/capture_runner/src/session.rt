@@ -1,7 +1,8 @@
 //! A run of a scenario, line by line.
 ghost use Rattle.std.specs.Prelude.{◌≡◌, ℕ, ◌+◌, ◌-◌, ◌<◌, ◌≤◌, ◌^◌, ◌++◌, length, false, None, Some, IfOk, OnOk, OnErr, string_bytes};
+ghost use Rattle.br_model.specs.Plane.Naming.{named};
+ghost use Rattle.br_model.specs.Plane.Steps.{world_step};
 ghost use Rattle.br_model.specs.Scenario.{Scenario, opened, longest_line, closes};
-ghost use Rattle.br_model.specs.Steps.{world_step};
 ghost use Rattle.capture_runner.specs.Session.{Follows, Takes, Does, ending_of, world_of, end_line_of, last_line};
 ghost use Rattle.transcript_text.specs.Extends.{Extends};
 
@@ -83,7 +84,7 @@ impl Session {
         requires first { self.old.world ≡ None }
         ensures lines { OnOk result (self.new.lines ≡ self.old.lines) }
         ensures roster { OnOk result (self.new.roster ≡ self.old.roster) }
-        ensures world { IfOk result (λ lines. (self.new.world ≡ Some (world_step (world_of self.old.roster None) step).0) × (lines ≡ (world_step (world_of self.old.roster None) step).1)) }
+        ensures world { IfOk result (λ lines. (self.new.world ≡ Some (world_step (world_of self.old.roster None) (named step)).0) × (lines ≡ (world_step (world_of self.old.roster None) (named step)).1)) }
     {
         let mut world = World::make(alloc, self.roster.domains(), Mac::FIRST_OWN)?;
         let lines = world.step(alloc, step)?;
@@ -95,7 +96,7 @@ impl Session {
     fn go_on(&mut self, alloc: Global, step: Step) -> Result<Lines, NoMemory>
         ensures lines { OnOk result (self.new.lines ≡ self.old.lines) }
         ensures roster { OnOk result (self.new.roster ≡ self.old.roster) }
-        ensures world { IfOk result (λ lines. (self.new.world ≡ Some (world_step (world_of self.old.roster self.old.world) step).0) × (lines ≡ (world_step (world_of self.old.roster self.old.world) step).1)) }
+        ensures world { IfOk result (λ lines. (self.new.world ≡ Some (world_step (world_of self.old.roster self.old.world) (named step)).0) × (lines ≡ (world_step (world_of self.old.roster self.old.world) (named step)).1)) }
     {
         match &mut self.world {
             Some(world) => world.step(alloc, step),

@@ -1,4 +1,4 @@
--- The words behind `cmd`.
+-- A command's line, and others.
 use Rattle.std.proofs.Common.{◌≡◌, ℕ, ◌+◌, ◌-◌, Bool, if◌then◌else◌, List, [], ◌∷◌, length, take, drop, sym, ◌∙◌, ap, add-one, Bor, arith}
 use Rattle.std.specs.Prelude.{codes}
 use Rattle.std.proofs.lemmas.List.{take_all}
@@ -8,7 +8,7 @@ use Rattle.br_model.specs.Forms.{line}
 use Rattle.br_model.specs.LineForms.{commanded, lines, words_say}
 use Rattle.br_model.specs.Roster.{Roster}
 use Rattle.br_model.specs.Words.{Word}
-use Rattle.br_model.proofs.Words.{equal}
+use Rattle.br_model.proofs.Words.{equal, other}
 use Rattle.bridge_command.specs.Seen.{word}
 
 one_on : (w : Bor Word) (ws : List (Bor Word)) → (λ i. word (w ∷ ws) (i + 1)) ≡ word ws
@@ -24,3 +24,7 @@ after_cmd r (w ∷ ws) first =
     ∙ ap (λ (f : ℕ → Word). commanded (line commands r (length (w ∷ ws) - 1) f)) (one_on w ws)
     ∙ ap (λ (n : ℕ). commanded (line commands r n (word ws))) fewer
     ∙ ap (λ (vs : List (Bor Word)). commanded (line commands r (length vs) (word vs))) (sym rest)
+
+pub without_cmd : (r : Roster) (ws : List (Bor Word)) → (word ws 0 ≡ codes "cmd" → ⊥) → words_say r (length ws) (word ws) ≡ line lines r (length ws) (word ws)
+without_cmd r ws first =
+    ap (λ (b : Bool). if b then commanded (line commands r (length ws - 1) (λ i. word ws (i + 1))) else line lines r (length ws) (word ws)) (other _ _ first)

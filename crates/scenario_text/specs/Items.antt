@@ -1,16 +1,22 @@
 -- What a line gives once it is read.
 -- Source: this profile.
-use Rattle.std.specs.Prelude.{◌≡◌, ℕ, Bool, true, ◌&&◌, List}
-use Rattle.std.specs.declared.result.Result.TheVariants.{Ok}
+use Rattle.std.specs.Prelude.{◌≡◌, ℕ, Bool, true, ◌&&◌, if◌then◌else◌, List}
+use Rattle.std.specs.declared.result.Result.{Result}
+use Rattle.std.specs.declared.result.Result.TheVariants.{Ok, Err}
 use Rattle.br_model.specs.declared.scenario.Item.{Item}
 use Rattle.br_model.specs.declared.scenario.Item.TheVariants as items
+use Rattle.br_model.specs.declared.scenario.LineWhy.{LineWhy}
+use Rattle.br_model.specs.declared.scenario.LineWhy.TheVariants as why
 use Rattle.br_model.specs.declared.scenario.Place.{Place}
 use Rattle.br_model.specs.declared.scenario.Said.{Said}
 use Rattle.br_model.specs.declared.scenario.Said.TheVariants.{Blank, Opens, Declares, Does, Ends}
+use Rattle.br_model.specs.Forms.{after}
 use Rattle.br_model.specs.LineForms.{line_says, opening, declaration}
+use Rattle.br_model.specs.Operands.{new_port, new_name}
 use Rattle.br_model.specs.Roster.{Roster}
 use Rattle.br_model.specs.Scenario.{declared}
 use Rattle.br_model.specs.Declarations.{fits_beside}
+use Rattle.br_model.specs.Words.{Word}
 
 abbrev pub item_of : Said → Item
 item_of Blank = items.Blank
@@ -18,6 +24,13 @@ item_of Opens = items.Scenario
 item_of (Declares port name dom) = items.Declared port
 item_of (Does step) = items.Step step
 item_of Ends = items.End
+
+-- what the declaration of a port says, by its number, its name and its domain
+abbrev pub declares : Roster → Word → Word → ℕ → Result Said LineWhy
+declares r number name dom =
+    if declaration r.place
+    then after (new_port r.ports number) (λ port. after (new_name r.ports name) (λ given. Ok (Declares port given dom)))
+    else Err why.Place
 
 -- A line was read: what it says gave the item, and took the roster on.
 pub record Reads (before after : Roster) (line : List ℕ) (item : Item) : Type 0 where

@@ -2,9 +2,9 @@
 ghost use Rattle.std.specs.Prelude.{◌≡◌, ◌<◌, length, true, IfOk};
 ghost use Rattle.br_model.specs.CommandForms.{commands};
 ghost use Rattle.br_model.specs.Forms.{line};
-ghost use Rattle.br_model.specs.LineForms.{declarations, steps, commanded, words_say};
+ghost use Rattle.br_model.specs.LineForms.{declarations, steps, lines, commanded, words_say};
 ghost use Rattle.bridge_command.specs.Seen.{word, OrNoMemory};
-ghost use Rattle.scenario_text.specs.Items.{fits_roster};
+ghost use Rattle.scenario_text.specs.Items.{declares, fits_roster};
 
 use crate::digits::hex_bytes;
 use br_model::numbers::Dom;
@@ -12,6 +12,17 @@ use br_model::scenario::{LineWhy, Place, Said};
 use br_model::steps::Step;
 use bridge_command::{Roster, milliseconds, read_command};
 use std::alloc::Global;
+
+/// The declaration of a port of this domain.
+fn declared(alloc: Global, number: &str, name: &str, dom: Dom, r: &Roster) -> Result<Said, LineWhy>
+    ensures value { OrNoMemory result (declares r.now number.now name.now dom) }
+    ensures fits { IfOk result (λ said. fits_roster r.now said ≡ true) }
+{
+    r.stands(Place::Declarations)?;
+    let port = r.new_port(number)?;
+    let name = r.new_name(alloc, name)?;
+    Ok(Said::Declares { port, name, dom })
+}
 
 /// The first line, and the declarations.
 #[tactic(auto, using(br_model::proofs::Words::words))]
@@ -24,16 +35,8 @@ fn declaration_line(alloc: Global, words: &[&str], r: &Roster) -> Result<Said, L
             r.stands(Place::Opening)?;
             Ok(Said::Opens)
         }
-        ["port", number, name, "soft"] => {
-            r.stands(Place::Declarations)?;
-            let port = r.new_port(number)?;
-            let name = r.new_name(alloc, name)?;
-            Ok(Said::Declares {
-                port,
-                name,
-                dom: Dom::SOFTWARE,
-            })
-        }
+        ["port", number, name, "soft"] => declared(alloc, number, name, Dom::SOFTWARE, r),
+        ["port", number, name, "chip", "1"] => declared(alloc, number, name, Dom::CHIP, r),
         _ => Err(LineWhy::Word),
     }
 }
@@ -59,6 +62,18 @@ fn step_line(alloc: Global, words: &[&str], r: &Roster) -> Result<Said, LineWhy>
             r.stands(Place::Steps)?;
             Ok(Said::Does(Step::Serve))
         }
+        ["turn", "1"] => {
+            r.stands(Place::Steps)?;
+            Ok(Said::Does(Step::Turn))
+        }
+        ["report", "1"] => {
+            r.stands(Place::Steps)?;
+            Ok(Said::Does(Step::Report))
+        }
+        ["sweep", "1"] => {
+            r.stands(Place::Steps)?;
+            Ok(Said::Does(Step::Sweep))
+        }
         ["publish"] => {
             r.stands(Place::Steps)?;
             Ok(Said::Does(Step::Publish))
@@ -68,6 +83,19 @@ fn step_line(alloc: Global, words: &[&str], r: &Roster) -> Result<Said, LineWhy>
             Ok(Said::Ends)
         }
         _ => Err(LineWhy::Word),
+    }
+}
+
+/// Any line but a command.
+#[tactic(auto, using(br_model::proofs::Words::words))]
+fn other_line(alloc: Global, words: &[&str], r: &Roster) -> Result<Said, LineWhy>
+    ensures value { OrNoMemory result (line lines r.now (length words.now) (word words.now)) }
+    ensures fits { IfOk result (λ said. fits_roster r.now said ≡ true) }
+{
+    match *words {
+        ["scenario", ..] => declaration_line(alloc, words, r),
+        ["port", ..] => declaration_line(alloc, words, r),
+        _ => step_line(alloc, words, r),
     }
 }
 
@@ -90,14 +118,7 @@ pub(crate) fn read_words(alloc: Global, words: &[&str], r: &Roster) -> Result<Sa
     ensures fits { IfOk result (λ said. fits_roster r.now said ≡ true) }
 {
     match *words {
-        ["scenario", ..] => declaration_line(alloc, words, r),
-        ["port", ..] => declaration_line(alloc, words, r),
-        ["rx", ..] => step_line(alloc, words, r),
-        ["now", ..] => step_line(alloc, words, r),
         ["cmd", ref command @ ..] => command_step(command, r),
-        ["serve", ..] => step_line(alloc, words, r),
-        ["publish", ..] => step_line(alloc, words, r),
-        ["end", ..] => step_line(alloc, words, r),
-        _ => Err(LineWhy::Word),
+        _ => other_line(alloc, words, r),
     }
 }

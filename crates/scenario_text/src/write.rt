@@ -251,6 +251,9 @@ pub fn write_line(alloc: Global, s: &Step, r: &Roster) -> Result<Bytes, NoMemory
         }
         Step::Now(moment) => write!(line, "now {moment}")?,
         Step::Serve => line.push_str("serve")?,
+        Step::Turn => line.push_str("turn 1")?,
+        Step::Report => line.push_str("report 1")?,
+        Step::Sweep => line.push_str("sweep 1")?,
         Step::Publish => line.push_str("publish")?,
     }
     line.push('\n')?;

@@ -20,9 +20,127 @@ enum Gives {
     /// Another command than `port up`.
     Command,
     Serve,
+    Turn,
+    Report,
+    Sweep,
     Publish,
     End,
 }
+
+/// Read by one roster, one after another.
+const LINES: &[(&[u8], Result<Gives, LineWhy>)] = &[
+    (b"", Ok(Gives::Blank)),
+    (b"   ", Ok(Gives::Blank)),
+    (b"# a comment", Ok(Gives::Blank)),
+    (b" #x", Err(LineWhy::Word)),
+    (b"scenario 2", Err(LineWhy::Word)),
+    (b"scenario", Err(LineWhy::Word)),
+    (b"Scenario 1", Err(LineWhy::Word)),
+    (b"scenario\t1", Err(LineWhy::Word)),
+    (b"scenario 1\r", Err(LineWhy::Word)),
+    (b"port 0 a soft", Err(LineWhy::Place)),
+    (b"end", Err(LineWhy::Place)),
+    (b"serve", Err(LineWhy::Place)),
+    (b"cmd port up nobody", Err(LineWhy::Place)),
+    (b"  scenario   1 ", Ok(Gives::Scenario)),
+    (b"scenario 1", Err(LineWhy::Place)),
+    (b"# between", Ok(Gives::Blank)),
+    (b"port 0 a soft", Err(LineWhy::Number)),
+    (b"port 64 a soft", Err(LineWhy::Number)),
+    (b"port 01 a soft", Err(LineWhy::Number)),
+    (b"port +1 a soft", Err(LineWhy::Number)),
+    (b"port 18446744073709551617 a soft", Err(LineWhy::Number)),
+    (b"port 1 host soft", Err(LineWhy::Port)),
+    (b"port 1 abcdefghijklmnop soft", Err(LineWhy::Port)),
+    (b"port 1 a/b soft", Err(LineWhy::Port)),
+    (b"port 1 a\x80 soft", Err(LineWhy::Port)),
+    (b"port 1 a chip", Err(LineWhy::Word)),
+    (b"port 1 a chip 2", Err(LineWhy::Word)),
+    (b"port 1 eth0 soft", Ok(Gives::Declared(1))),
+    (b"port 1 eth1 soft", Err(LineWhy::Port)),
+    (b"port 2 eth0 soft", Err(LineWhy::Port)),
+    (b"port 2 eth0 chip 1", Err(LineWhy::Port)),
+    (b"port 62 c62 chip 1", Ok(Gives::Declared(62))),
+    (b"port 63 A-Z.a_z.0-9.xyz soft", Ok(Gives::Declared(63))),
+    (b"rx 1 00 00", Err(LineWhy::Word)),
+    (b"rx x 0g", Err(LineWhy::Number)),
+    (b"rx 9 0g", Err(LineWhy::Port)),
+    (b"rx 0 00", Err(LineWhy::Port)),
+    (b"rx 64 00", Err(LineWhy::Port)),
+    (b"rx 300 00", Err(LineWhy::Port)),
+    (b"rx 18446744073709551617 00", Err(LineWhy::Port)),
+    (b"rx 01 00", Err(LineWhy::Number)),
+    (b"rx 1 0g", Err(LineWhy::Hex)),
+    (b"rx 1 000", Err(LineWhy::Hex)),
+    (b"rx 1 0\xc3\xa9", Err(LineWhy::Hex)),
+    (b"rx 63 00fFaA", Ok(Gives::Rx(63, 3))),
+    (b"port 2 eth2 soft", Err(LineWhy::Place)),
+    (b"bogus", Err(LineWhy::Word)),
+];
+
+/// The same, after the declaration of port 3, `p3`.
+const STEPS: &[(&[u8], Result<Gives, LineWhy>)] = &[
+    (b"cmd", Err(LineWhy::Word)),
+    (b"cmd port", Err(LineWhy::Word)),
+    (b"cmd port up p3 p3", Err(LineWhy::Word)),
+    (b"cmd port up host", Err(LineWhy::Port)),
+    (b"cmd port up p3", Ok(Gives::PortUp(3))),
+    (b"cmd link p3 isolated on", Ok(Gives::Command)),
+    (b"cmd link p3 hairpin on", Err(LineWhy::Word)),
+    (
+        b"cmd  vlan add vid 4094 dev host  pvid untagged ",
+        Ok(Gives::Command),
+    ),
+    (
+        b"cmd vlan add vid 1 dev p3 untagged pvid",
+        Err(LineWhy::Word),
+    ),
+    (
+        b"cmd fdb add AA:bb:CC:dd:EE:ff dev p3 vlan 1 static",
+        Ok(Gives::Command),
+    ),
+    (
+        b"cmd fdb add 02-00-00-00-00-01 dev p3 vlan 1 static",
+        Err(LineWhy::Address),
+    ),
+    (
+        b"cmd fdb add 02:00:00:00:00:0g dev p3 vlan 1 static",
+        Err(LineWhy::Address),
+    ),
+    (
+        b"cmd fdb add 02:00:00:00:00:01 dev p3 vlan 0 static",
+        Err(LineWhy::Number),
+    ),
+    (b"cmd ageing 300", Ok(Gives::Command)),
+    (b"now 0", Ok(Gives::Now(0))),
+    (
+        b"now 9007199254740991",
+        Ok(Gives::Now(9_007_199_254_740_991)),
+    ),
+    (b"now 9007199254740992", Err(LineWhy::Number)),
+    (b"now", Err(LineWhy::Word)),
+    (b"now 1 ms", Err(LineWhy::Word)),
+    (b"serve", Ok(Gives::Serve)),
+    (b" publish ", Ok(Gives::Publish)),
+    (b"serve 1", Err(LineWhy::Word)),
+    (b"turn 1", Ok(Gives::Turn)),
+    (b"report 1", Ok(Gives::Report)),
+    (b"sweep 1", Ok(Gives::Sweep)),
+    (b"turn", Err(LineWhy::Word)),
+    (b"report 2", Err(LineWhy::Word)),
+    (b"sweep 01", Err(LineWhy::Word)),
+    (b"a b c d e f g h i j k l m n o p q", Err(LineWhy::Word)),
+    (b"end", Ok(Gives::End)),
+];
+
+const ENDS: &[(&[u8], bool)] = &[
+    (b"end", true),
+    (b"  end ", true),
+    (b"", false),
+    (b"end end", false),
+    (b"End", false),
+    (b"#end", false),
+];
 
 fn given(item: &Item) -> Gives {
     match item {
@@ -34,6 +152,9 @@ fn given(item: &Item) -> Gives {
         Item::Step(Step::Cmd(_)) => Gives::Command,
         Item::Step(Step::Now(moment)) => Gives::Now(*moment),
         Item::Step(Step::Serve) => Gives::Serve,
+        Item::Step(Step::Turn) => Gives::Turn,
+        Item::Step(Step::Report) => Gives::Report,
+        Item::Step(Step::Sweep) => Gives::Sweep,
         Item::Step(Step::Publish) => Gives::Publish,
         Item::End => Gives::End,
     }
@@ -58,54 +179,8 @@ fn reads(
 fn lines_in_order(rt: HostRuntime) -> Result<(), Fail> {
     let alloc = rt.alloc();
     let mut r = Roster::make(alloc, false)?;
-    let lines: [(&[u8], Result<Gives, LineWhy>); 44] = [
-        (b"", Ok(Gives::Blank)),
-        (b"   ", Ok(Gives::Blank)),
-        (b"# a comment", Ok(Gives::Blank)),
-        (b" #x", Err(LineWhy::Word)),
-        (b"scenario 2", Err(LineWhy::Word)),
-        (b"scenario", Err(LineWhy::Word)),
-        (b"Scenario 1", Err(LineWhy::Word)),
-        (b"scenario\t1", Err(LineWhy::Word)),
-        (b"scenario 1\r", Err(LineWhy::Word)),
-        (b"port 0 a soft", Err(LineWhy::Place)),
-        (b"end", Err(LineWhy::Place)),
-        (b"serve", Err(LineWhy::Place)),
-        (b"cmd port up nobody", Err(LineWhy::Place)),
-        (b"  scenario   1 ", Ok(Gives::Scenario)),
-        (b"scenario 1", Err(LineWhy::Place)),
-        (b"# between", Ok(Gives::Blank)),
-        (b"port 0 a soft", Err(LineWhy::Number)),
-        (b"port 64 a soft", Err(LineWhy::Number)),
-        (b"port 01 a soft", Err(LineWhy::Number)),
-        (b"port +1 a soft", Err(LineWhy::Number)),
-        (b"port 18446744073709551617 a soft", Err(LineWhy::Number)),
-        (b"port 1 host soft", Err(LineWhy::Port)),
-        (b"port 1 abcdefghijklmnop soft", Err(LineWhy::Port)),
-        (b"port 1 a/b soft", Err(LineWhy::Port)),
-        (b"port 1 a\x80 soft", Err(LineWhy::Port)),
-        (b"port 1 a chip 1", Err(LineWhy::Word)),
-        (b"port 1 eth0 soft", Ok(Gives::Declared(1))),
-        (b"port 1 eth1 soft", Err(LineWhy::Port)),
-        (b"port 2 eth0 soft", Err(LineWhy::Port)),
-        (b"port 63 A-Z.a_z.0-9.xyz soft", Ok(Gives::Declared(63))),
-        (b"rx 1 00 00", Err(LineWhy::Word)),
-        (b"rx x 0g", Err(LineWhy::Number)),
-        (b"rx 9 0g", Err(LineWhy::Port)),
-        (b"rx 0 00", Err(LineWhy::Port)),
-        (b"rx 64 00", Err(LineWhy::Port)),
-        (b"rx 300 00", Err(LineWhy::Port)),
-        (b"rx 18446744073709551617 00", Err(LineWhy::Port)),
-        (b"rx 01 00", Err(LineWhy::Number)),
-        (b"rx 1 0g", Err(LineWhy::Hex)),
-        (b"rx 1 000", Err(LineWhy::Hex)),
-        (b"rx 1 0\xc3\xa9", Err(LineWhy::Hex)),
-        (b"rx 63 00fFaA", Ok(Gives::Rx(63, 3))),
-        (b"port 2 eth2 soft", Err(LineWhy::Place)),
-        (b"bogus", Err(LineWhy::Word)),
-    ];
-    for (line, expected) in lines {
-        reads(&rt, alloc, &mut r, line, expected);
+    for (line, expected) in LINES {
+        reads(&rt, alloc, &mut r, line, *expected);
     }
     Ok(())
 }
@@ -123,55 +198,8 @@ fn steps_and_commands(rt: HostRuntime) -> Result<(), Fail> {
         b"port 3 p3 soft",
         Ok(Gives::Declared(3)),
     );
-    let lines: [(&[u8], Result<Gives, LineWhy>); 24] = [
-        (b"cmd", Err(LineWhy::Word)),
-        (b"cmd port", Err(LineWhy::Word)),
-        (b"cmd port up p3 p3", Err(LineWhy::Word)),
-        (b"cmd port up host", Err(LineWhy::Port)),
-        (b"cmd port up p3", Ok(Gives::PortUp(3))),
-        (b"cmd link p3 isolated on", Ok(Gives::Command)),
-        (b"cmd link p3 hairpin on", Err(LineWhy::Word)),
-        (
-            b"cmd  vlan add vid 4094 dev host  pvid untagged ",
-            Ok(Gives::Command),
-        ),
-        (
-            b"cmd vlan add vid 1 dev p3 untagged pvid",
-            Err(LineWhy::Word),
-        ),
-        (
-            b"cmd fdb add AA:bb:CC:dd:EE:ff dev p3 vlan 1 static",
-            Ok(Gives::Command),
-        ),
-        (
-            b"cmd fdb add 02-00-00-00-00-01 dev p3 vlan 1 static",
-            Err(LineWhy::Address),
-        ),
-        (
-            b"cmd fdb add 02:00:00:00:00:0g dev p3 vlan 1 static",
-            Err(LineWhy::Address),
-        ),
-        (
-            b"cmd fdb add 02:00:00:00:00:01 dev p3 vlan 0 static",
-            Err(LineWhy::Number),
-        ),
-        (b"cmd ageing 300", Ok(Gives::Command)),
-        (b"now 0", Ok(Gives::Now(0))),
-        (
-            b"now 9007199254740991",
-            Ok(Gives::Now(9_007_199_254_740_991)),
-        ),
-        (b"now 9007199254740992", Err(LineWhy::Number)),
-        (b"now", Err(LineWhy::Word)),
-        (b"now 1 ms", Err(LineWhy::Word)),
-        (b"serve", Ok(Gives::Serve)),
-        (b" publish ", Ok(Gives::Publish)),
-        (b"serve 1", Err(LineWhy::Word)),
-        (b"a b c d e f g h i j k l m n o p q", Err(LineWhy::Word)),
-        (b"end", Ok(Gives::End)),
-    ];
-    for (line, expected) in lines {
-        reads(&rt, alloc, &mut r, line, expected);
+    for (line, expected) in STEPS {
+        reads(&rt, alloc, &mut r, line, *expected);
     }
     assert_eq!(rt;
         r.name(r.port(0).expect(&rt, "a port is declared")),
@@ -182,15 +210,7 @@ fn steps_and_commands(rt: HostRuntime) -> Result<(), Fail> {
 
 #[test]
 fn ends(rt: HostRuntime) {
-    let lines: [(&[u8], bool); 6] = [
-        (b"end", true),
-        (b"  end ", true),
-        (b"", false),
-        (b"end end", false),
-        (b"End", false),
-        (b"#end", false),
-    ];
-    for (line, expected) in lines {
-        assert_eq!(rt; says_end(line), expected);
+    for (line, expected) in ENDS {
+        assert_eq!(rt; says_end(line), *expected);
     }
 }

@@ -2,15 +2,46 @@
 ghost use Rattle.std.specs.Prelude.{◌≡◌};
 ghost use Rattle.br_model.specs.WrittenSteps.{names_declared};
 
-use crate::write_line;
+use crate::{read_line, write_line};
 use br_model::bytes::Bytes;
-use br_model::change::{Flags, Kind};
-use br_model::name::Name;
-use br_model::numbers::{Dom, Mac, Port, Vid};
+use br_model::scenario::Item;
 use br_model::steps::{Command, Step};
 use bridge_command::Roster;
-use std::process::Abort;
+use std::alloc::Global;
 use std::test::Fail;
+
+const DECLARATIONS: [&str; 2] = ["scenario 1", "port 63 p-1 soft"];
+
+/// Each step is written as it was read.
+const STEPS: &str = "\
+rx 63 ffffffffffff02000000000a88b50102
+cmd port up p-1
+cmd port down p-1
+cmd link p-1 mcast_flood on
+cmd link p-1 mcast_flood off
+cmd vlan add vid 4094 dev p-1
+cmd vlan add vid 4094 dev host pvid
+cmd vlan add vid 4094 dev p-1 untagged
+cmd vlan add vid 4094 dev p-1 pvid untagged
+cmd vlan del vid 4094 dev host
+cmd fdb add 02:00:00:00:00:ab dev host vlan 4094 local
+cmd fdb add 02:00:00:00:00:ab dev p-1 vlan 4094 static
+cmd fdb add 02:00:00:00:00:ab dev p-1 vlan 4094 extern
+cmd fdb del 02:00:00:00:00:ab vlan 4094
+cmd ageing 1000000
+now 9007199254740991
+serve
+turn 1
+report 1
+sweep 1
+publish
+";
+
+/// The bytes of frames, with their lines.
+const FRAMES: &[(&[u8], &str)] = &[
+    (&[], "rx 63 00\n"),
+    (&[0xFF, 0x02, 0x00, 0x0A, 0xB5], "rx 63 ff02000ab5\n"),
+];
 
 /// Whether the ports that the step names are declared.
 fn are_declared(step: &Step, roster: &Roster) -> bool
@@ -19,140 +50,66 @@ fn are_declared(step: &Step, roster: &Roster) -> bool
     match step {
         Step::Rx { port, bytes: _ } => roster.name(*port).is_some(),
         Step::Cmd(command) => match *command {
-            Command::PortUp(port) | Command::PortDown(port) => roster.name(port).is_some(),
-            Command::Link {
-                port,
-                flag: _,
-                on: _,
-            } => roster.name(port).is_some(),
-            Command::VlanAdd {
-                port,
-                vid: _,
-                untagged: _,
-                pvid: _,
-            } => port.is_host() || roster.name(port).is_some(),
-            Command::VlanDel { port, vid: _ } => port.is_host() || roster.name(port).is_some(),
-            Command::FdbAdd {
-                vid: _,
-                mac: _,
-                port,
-                kind: _,
-            } => port.is_host() || roster.name(port).is_some(),
+            Command::PortUp(port) | Command::PortDown(port) | Command::Link { port, .. } => {
+                roster.name(port).is_some()
+            }
+            Command::VlanAdd { port, .. }
+            | Command::VlanDel { port, .. }
+            | Command::FdbAdd { port, .. } => port.is_host() || roster.name(port).is_some(),
             Command::FdbDel { .. } | Command::Ageing(_) => true,
         },
         Step::Now(_) => true,
-        Step::Serve | Step::Publish => true,
+        Step::Serve | Step::Turn | Step::Report | Step::Sweep | Step::Publish => true,
     }
 }
 
-fn added(port: Port, vid: Vid, untagged: bool, pvid: bool) -> Command {
-    Command::VlanAdd {
-        port,
-        vid,
-        untagged,
-        pvid,
+/// Whether the step is written so; the ports that it names are declared.
+fn is_written(alloc: Global, step: &Step, roster: &Roster, line: &str) -> bool {
+    are_declared(step, roster)
+        && match write_line(alloc, step, roster) {
+            Ok(written) => written.as_slice() == line.as_bytes(),
+            Err(_) => false,
+        }
+}
+
+/// Whether the step that the line says is written as the line.
+fn is_written_back(alloc: Global, line: &str, roster: &mut Roster) -> bool {
+    let read = line.strip_suffix('\n').unwrap_or(line);
+    match read_line(alloc, read.as_bytes(), roster) {
+        Ok(Item::Step(step)) => is_written(alloc, &step, roster, line),
+        _ => false,
     }
+}
+
+/// A roster with the port `p-1`, whose number is 63.
+fn roster(alloc: Global) -> Result<Roster, Fail> {
+    let mut roster = Roster::make(alloc, false)?;
+    for line in DECLARATIONS {
+        if read_line(alloc, line.as_bytes(), &mut roster).is_err() {
+            return Err(Fail::new(line));
+        }
+    }
+    Ok(roster)
 }
 
 #[test]
-fn steps_and_their_lines(rt: HostRuntime) -> Result<(), Fail> {
+fn steps_as_they_were_read(rt: HostRuntime) -> Result<(), Fail> {
     let alloc = rt.alloc();
-    let mut roster = Roster::make(alloc, false)?;
-    let name = roster
-        .new_name(alloc, "p-1")
-        .ok()
-        .ok_or("the name of a port")?;
-    let port = roster.new_port("63").ok().ok_or("the number of a port")?;
-    roster.declare(port, name, Dom::SOFTWARE)?;
-    let frame = [
-        0xFF, 0xFF, 0xFF, 0xFF, 0xFF, 0xFF, 0x02, 0x00, 0x00, 0x00, 0x00, 0x0A, 0x88, 0xB5, 0x01,
-        0x02,
-    ];
-    let mut steps = Vec::new(alloc);
-    steps.push(Step::Rx {
-        port,
-        bytes: Bytes::copy_of(alloc, &frame)?,
-    })?;
-    steps.push(Step::Rx {
-        port,
-        bytes: Bytes::new(alloc),
-    })?;
-    let vid = Vid::new(4094).ok_or("a VLAN")?;
-    let mac = Mac::new([0x02, 0, 0, 0, 0, 0xAB]);
-    let flag = Flags::new(4).ok_or("a flag")?;
-    let commands = [
-        Command::PortUp(port),
-        Command::PortDown(port),
-        Command::Link {
-            port,
-            flag,
-            on: true,
-        },
-        Command::Link {
-            port,
-            flag,
-            on: false,
-        },
-        added(port, vid, false, false),
-        added(Port::HOST, vid, false, true),
-        added(port, vid, true, false),
-        added(port, vid, true, true),
-        Command::VlanDel {
-            port: Port::HOST,
-            vid,
-        },
-        Command::FdbAdd {
-            vid,
-            mac,
-            port: Port::HOST,
-            kind: Kind::Local,
-        },
-        Command::FdbAdd {
-            vid,
-            mac,
-            port,
-            kind: Kind::Static,
-        },
-        Command::FdbAdd {
-            vid,
-            mac,
-            port,
-            kind: Kind::Extern,
-        },
-        Command::FdbDel { vid, mac },
-        Command::Ageing(1_000_000),
-    ];
-    for command in commands {
-        steps.push(Step::Cmd(command))?;
+    let mut roster = roster(alloc)?;
+    for line in STEPS.split_inclusive('\n') {
+        assert!(rt; is_written_back(alloc, line, &mut roster), "{line}");
     }
-    steps.push(Step::Now(9_007_199_254_740_991))?;
-    steps.push(Step::Serve)?;
-    steps.push(Step::Publish)?;
-    let lines = [
-        "rx 63 ffffffffffff02000000000a88b50102\n",
-        "rx 63 00\n",
-        "cmd port up p-1\n",
-        "cmd port down p-1\n",
-        "cmd link p-1 mcast_flood on\n",
-        "cmd link p-1 mcast_flood off\n",
-        "cmd vlan add vid 4094 dev p-1\n",
-        "cmd vlan add vid 4094 dev host pvid\n",
-        "cmd vlan add vid 4094 dev p-1 untagged\n",
-        "cmd vlan add vid 4094 dev p-1 pvid untagged\n",
-        "cmd vlan del vid 4094 dev host\n",
-        "cmd fdb add 02:00:00:00:00:ab dev host vlan 4094 local\n",
-        "cmd fdb add 02:00:00:00:00:ab dev p-1 vlan 4094 static\n",
-        "cmd fdb add 02:00:00:00:00:ab dev p-1 vlan 4094 extern\n",
-        "cmd fdb del 02:00:00:00:00:ab vlan 4094\n",
-        "cmd ageing 1000000\n",
-        "now 9007199254740991\n",
-        "serve\n",
-        "publish\n",
-    ];
-    for (step, want) in steps.iter().zip(lines) {
-        assert!(rt; are_declared(step, &roster));
-        let line = write_line(alloc, step, &roster)?;
-        assert_eq!(rt; line.as_slice(), want.as_bytes());
+    Ok(())
+}
+
+#[test]
+fn frames_by_hand(rt: HostRuntime) -> Result<(), Fail> {
+    let alloc = rt.alloc();
+    let roster = roster(alloc)?;
+    let port = roster.port(0).ok_or("a port")?;
+    for (bytes, line) in FRAMES {
+        let bytes = Bytes::copy_of(alloc, bytes)?;
+        assert!(rt; is_written(alloc, &Step::Rx { port, bytes }, &roster, line));
     }
     Ok(())
 }

@@ -1,5 +1,6 @@
 //! The longest line and the longest input; the most addresses, waiting frames and changes.
-use super::{ends_in, is_told};
+use super::rows::CHIP_START;
+use super::{ends_in, is_told, read_row};
 use capture_runner::Status;
 use std::test::Fail;
 
@@ -77,6 +78,20 @@ fn overrun(rt: HostRuntime) -> Result<(), Fail> {
     }
     input.push_str("serve\nrx 1 02000000000b02000000000a88b50102\nend\n")?;
     let told = "ok 1 3\noverrun 4097\nsoft 1 at 0\nok 4099 1\nend 4100 4 1 4096\n";
+    ends_in(&rt, alloc, input.as_bytes(), Status::Ok, told)
+}
+
+/// At a port of the chip such a frame has still left by the chip's share.
+#[test]
+fn overrun_at_a_chip_port(rt: HostRuntime) -> Result<(), Fail> {
+    let alloc = rt.alloc();
+    let mut input = read_row(alloc, CHIP_START)?.input;
+    for _ in 0..4097 {
+        input.push_str("rx 1 02000000000b02000000000a88b50102\n")?;
+    }
+    input.push_str("end\n")?;
+    let told =
+        "chip 4097 at 9 0 copy\ntx 4097 2 02000000000b02000000000a88b50102\noverrun 4097\nend 4101 9 0 4096\n";
     ends_in(&rt, alloc, input.as_bytes(), Status::Ok, told)
 }
 

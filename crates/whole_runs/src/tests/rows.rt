@@ -63,9 +63,176 @@ cmd port up p1 => ok 1 3
 cmd port up p1 => refused 2 1
 cmd fdb add 02:00:00:00:00:0a dev p1 vlan 7 static => refused 3 3
 serve => refused 4 10
-turn 1 => bad 7 word
-";
+turn 1 => refused 5 11
+serve => bad 8 unended";
     row_is_told(&rt, rt.alloc(), text, Status::BadLine)
+}
+
+/// The refusals but those of limits and moments.
+#[test]
+fn refusals(rt: HostRuntime) -> Result<(), Fail> {
+    let text = "scenario 1
+port 1 p1 soft
+port 2 p2 soft
+port 3 p3 soft
+cmd port up p1 => ok 1 3
+cmd port up p2 => ok 2 3
+cmd port up p3 => ok 3 3
+publish => ok 4 0
+cmd port up p1 => refused 5 1
+cmd fdb add 02:00:00:00:00:0b dev p2 vlan 7 static => refused 6 3
+cmd fdb add 02:00:00:00:00:0b dev p2 vlan 1 static => ok 7 1
+cmd fdb add 02:00:00:00:00:0b dev p3 vlan 1 static => refused 8 4
+cmd fdb del 02:00:00:00:00:0a vlan 1 => refused 9 5
+turn 1 => ok 10 0
+turn 1 => refused 11 11
+serve => refused 12 10
+report 1 => refused 13 12
+cmd port down p3 => ok 14 2
+cmd link p3 flood off => refused 15 2
+end => end 15 12 0 0
+";
+    row_is_told(&rt, rt.alloc(), text, Status::Ok)
+}
+
+/// Ports 1 and 2 of the chip and port 3 of software come up, and that is published.
+pub(super) const CHIP_START: &str = "scenario 1
+port 1 c1 chip 1
+port 2 c2 chip 1
+port 3 f3 soft
+cmd port up c1 => ok 1 3
+cmd port up c2 => ok 2 3
+cmd port up f3 => ok 3 3
+publish => ok 4 0
+";
+
+/// What follows on that in each run. An empty line stands between two runs.
+const CHIP_RUNS: &str =
+    "# Chip and software share a frame to an unknown station, and the chip reports its source.
+rx 1 02000000000b02000000000a88b50102 => chip 1 at 9 0 copy; tx 1 2 02000000000b02000000000a88b50102
+serve => soft 1 at 9; tx 1 3 02000000000b02000000000a88b50102; ok 6 0
+report 1 => ok 7 1
+end => end 7 10 1 0
+
+# Software decides by what is published while the chip hasn't applied it.
+cmd fdb add 02:00:00:00:00:0b dev c2 vlan 1 static => ok 5 1
+publish => ok 6 0
+rx 1 02000000000b02000000000a88b50102 => chip 1 at 10 0 copy; tx 1 2 02000000000b02000000000a88b50102
+serve => soft 1 at 10; ok 8 0
+turn 1 => ok 9 0
+rx 1 02000000000b02000000000a88b50102 => chip 2 at 10 1 forward; tx 2 2 02000000000b02000000000a88b50102
+end => end 10 10 0 0
+
+# A station moves to a port of software. Until the turn the chip forwards to the port that it left.
+cmd fdb add 02:00:00:00:00:0b dev c2 vlan 1 extern => ok 5 1
+turn 1 => ok 6 0
+publish => ok 7 0
+rx 3 02000000000a02000000000b88b50102
+serve => soft 1 at 10; tx 1 1 02000000000a02000000000b88b50102; tx 1 2 02000000000a02000000000b88b50102; ok 9 1
+publish => ok 10 0
+rx 1 02000000000b02000000000a88b50102 => chip 2 at 11 1 forward; tx 2 2 02000000000b02000000000a88b50102
+turn 1 => ok 12 0
+rx 1 02000000000b02000000000a88b50102 => chip 3 at 11 2 trap
+serve => soft 3 at 11; tx 3 3 02000000000b02000000000a88b50102; ok 14 0
+end => end 14 11 0 0
+
+# A station moves to a port of the chip. Until the turn the chip traps what is for it.
+cmd fdb add 02:00:00:00:00:0b dev f3 vlan 1 extern => ok 5 1
+turn 1 => ok 6 0
+rx 2 02000000000a02000000000b88b50102 => chip 1 at 10 1 copy; tx 1 1 02000000000a02000000000b88b50102
+report 1 => ok 8 1
+publish => ok 9 0
+rx 1 02000000000b02000000000a88b50102 => chip 2 at 11 1 trap
+serve => soft 1 at 11; tx 1 3 02000000000a02000000000b88b50102; ok 11 0
+serve => soft 2 at 11; tx 2 2 02000000000b02000000000a88b50102; ok 12 0
+end => end 12 11 1 0
+
+# A port comes up again while the deletion of its address is pending.
+cmd fdb add 02:00:00:00:00:0b dev c2 vlan 1 static => ok 5 1
+turn 1 => ok 6 0
+cmd port down c2 => ok 7 3
+cmd port up c2 => ok 8 3
+rx 1 02000000000b02000000000a88b50102 => chip 1 at 16 1 forward; tx 1 2 02000000000b02000000000a88b50102
+turn 1 => ok 10 0
+rx 1 02000000000b02000000000a88b50102 => chip 2 at 16 2 copy; tx 2 2 02000000000b02000000000a88b50102
+end => end 11 16 0 1
+
+# From an isolated port nothing goes to an isolated port of software,
+cmd link c1 isolated on => ok 5 1
+cmd link f3 isolated on => ok 6 1
+rx 1 02000000000b02000000000a88b50102 => chip 1 at 11 0 forward; tx 1 2 02000000000b02000000000a88b50102
+end => end 7 11 0 0
+
+# and from a plain one it does.
+cmd link c1 isolated on => ok 5 1
+cmd link f3 isolated on => ok 6 1
+rx 2 02000000000b02000000000c88b50102 => chip 1 at 11 0 copy; tx 1 1 02000000000b02000000000c88b50102
+serve => soft 1 at 9; tx 1 3 02000000000b02000000000c88b50102; ok 8 0
+end => end 8 11 0 0
+
+# A flood goes to the processor as long as a port of software is up.
+rx 1 02000000000b02000000000a88b50102 => chip 1 at 9 0 copy; tx 1 2 02000000000b02000000000a88b50102
+cmd port down f3 => ok 6 2
+rx 1 02000000000b02000000000a88b50102 => chip 2 at 11 0 forward; tx 2 2 02000000000b02000000000a88b50102
+cmd port up f3 => ok 8 3
+rx 1 02000000000b02000000000a88b50102 => chip 3 at 14 0 copy; tx 3 2 02000000000b02000000000a88b50102
+end => end 9 14 0 2
+
+# An entry that nothing hits lives through one sweep,
+cmd fdb add 02:00:00:00:00:0b dev c2 vlan 1 extern => ok 5 1
+turn 1 => ok 6 0
+sweep 1 => ok 7 0
+sweep 1 => ok 8 1
+sweep 1 => ok 9 0
+turn 1 => ok 10 0
+end => end 10 11 0 0
+
+# and through one more where its station speaks in between.
+cmd fdb add 02:00:00:00:00:0b dev c2 vlan 1 extern => ok 5 1
+turn 1 => ok 6 0
+sweep 1 => ok 7 0
+rx 2 02000000000a02000000000b88b50102 => chip 1 at 10 1 copy; tx 1 1 02000000000a02000000000b88b50102
+sweep 1 => ok 9 0
+sweep 1 => ok 10 1
+end => end 10 11 1 1";
+
+#[test]
+fn runs_with_a_chip(rt: HostRuntime) -> Result<(), Fail> {
+    let alloc = rt.alloc();
+    for run in CHIP_RUNS.split("\n\n") {
+        let text = format!(in alloc; "{CHIP_START}{run}")?;
+        row_is_told(&rt, alloc, text.as_str(), Status::Ok)?;
+    }
+    Ok(())
+}
+
+/// The example of an entry that the chip keeps too long.
+#[test]
+fn stale_entry(rt: HostRuntime) -> Result<(), Fail> {
+    let text = "scenario 1
+port 1 p1 chip 1
+port 2 p2 chip 1
+port 3 p3 soft
+cmd port up p1 => ok 1 3
+cmd port up p2 => ok 2 3
+cmd port up p3 => ok 3 3
+publish => ok 4 0
+rx 2 02000000000a02000000000b88b50102 => chip 1 at 9 0 copy; tx 1 1 02000000000a02000000000b88b50102
+serve => soft 1 at 9; tx 1 3 02000000000a02000000000b88b50102; ok 6 0
+report 1 => ok 7 1
+turn 1 => ok 8 0
+publish => ok 9 0
+rx 1 02000000000b02000000000a88b50102 => chip 2 at 10 1 forward; tx 2 2 02000000000b02000000000a88b50102
+rx 3 02000000000a02000000000b88b50102
+serve => soft 3 at 10; tx 3 1 02000000000a02000000000b88b50102; tx 3 2 02000000000a02000000000b88b50102; ok 12 1
+publish => ok 13 0
+rx 1 02000000000b02000000000a88b50102 => chip 4 at 11 1 forward; tx 4 2 02000000000b02000000000a88b50102
+turn 1 => ok 15 0
+rx 1 02000000000b02000000000a88b50102 => chip 5 at 11 2 trap
+serve => soft 5 at 11; tx 5 3 02000000000b02000000000a88b50102; ok 17 0
+end => end 17 11 0 0
+";
+    row_is_told(&rt, rt.alloc(), text, Status::Ok)
 }
 
 /// A bad third line after the declaration of port 1, and its cause.
@@ -85,6 +252,8 @@ fn causes_of_bad_lines(rt: HostRuntime) -> Result<(), Fail> {
         (" # a space first\n", "word"),
         ("cmd\n", "word"),
         ("rx 1\n", "word"),
+        ("turn 2\n", "word"),
+        ("port 2 p2 chip\n", "word"),
         ("scenario 3\n", "word"),
         ("scenario 1 1\n", "word"),
         ("scenario 1\n", "place"),
