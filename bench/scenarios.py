@@ -56,6 +56,35 @@ def learned():
             yield "publish"
 
 
+def mixed():
+    """100,000 frames among eight stations behind four ports of the chip and two of software, with reports, turns, publications and
+    moments."""
+    yield "scenario 1"
+    for i in range(1, 5):
+        yield f"port {i} g{i} chip 1"
+    for i in (5, 6):
+        yield f"port {i} g{i} soft"
+    for i in range(1, 7):
+        yield f"cmd port up g{i}"
+    yield "publish"
+    x = 7
+    for i in range(1, 100001):
+        x = (x * 6364136223846793005 + 1442695040888963407) % 2**64
+        n = x >> 33
+        d, source = n // 48 % 9, n // 6 % 8
+        destination = "ffffffffffff" if d == 8 else f"02000000001{d}"
+        yield f"rx {n % 6 + 1} {destination}02000000001{source}88b50000"
+        yield "serve"
+        if i % 3 == 0:
+            yield "report 1"
+        if i % 5 == 0:
+            yield "turn 1"
+        if i % 7 == 0:
+            yield "publish"
+        if i % 64 == 0:
+            yield f"now {1000 * i}"
+
+
 def known():
     """16,384 stations behind one port, each of which has spoken. Nothing is published, so no frame leaves."""
     yield "scenario 1"
@@ -92,7 +121,7 @@ def moments():
         yield f"now {moment}"
 
 
-SCENARIOS = {f.__name__: f for f in (large, blank, frames, links, learned, known, sights, no_sights, moments)}
+SCENARIOS = {f.__name__: f for f in (large, blank, frames, links, learned, mixed, known, sights, no_sights, moments)}
 
 for line in SCENARIOS[sys.argv[1]]():
     print(line)
