@@ -7,8 +7,18 @@ use Rattle.br_model.specs.Plane.Runs.{run}
 use Rattle.br_model.specs.Reaction.{react}
 use Rattle.br_model.specs.Runs.{told}
 use Rattle.br_model.specs.Scenario.{cut, reads, scenario_by}
+use Rattle.br_model.specs.TreeSending.{transmit, drops_put_off}
+use Rattle.br_model.specs.TreeStates.{states_follow, states_move}
+use Rattle.br_model.specs.TreeStep.{settled, tree_step}
+use Rattle.br_model.specs.TreeTimers.{forgets}
+use Rattle.br_model.specs.TreeVectors.{root_of, roles}
 
 -- `unfolding computing` lets `refl` compute a whole run
 unfoldable pub computing : Unit {0}
-unfolding digits all_ports egress_ports ports_out leave line_says number new_port new_name port_number port_name device mac hex flag react told run cut reads scenario_by
+unfolding digits all_ports egress_ports ports_out leave line_says number new_port new_name port_number port_name device mac hex flag react told run cut reads scenario_by tree_step
 computing = tt
+
+-- and this one a run in which the spanning tree is on
+unfoldable pub computing_tree : Unit {0}
+unfolding computing root_of roles forgets states_follow states_move transmit drops_put_off settled
+computing_tree = tt

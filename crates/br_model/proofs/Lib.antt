@@ -1,3 +1,4 @@
+pub mod AddressRoom
 pub mod ApplyingLaws
 pub mod BpduFacts
 pub mod ChipRows
@@ -26,8 +27,10 @@ pub mod Reading
 pub mod RecordsFit
 pub mod Rows
 pub mod Running
+pub mod TreeKept
 pub mod TreeRoots
 pub mod TreeRuns
+pub mod WholeTreeRuns
 pub mod Within
 pub mod Words
 pub mod WrittenAddresses

@@ -19,7 +19,8 @@ use Rattle.br_model.specs.declared.frame.Head.{Head}
 use Rattle.br_model.specs.declared.steps.Event.TheVariants as events
 use Rattle.br_model.specs.declared.steps.Refusal.{Refusal}
 use Rattle.br_model.specs.declared.steps.Refusal.TheVariants.{NoSuchPoint}
-use Rattle.br_model.specs.declared.transcript.Line.TheVariants.{Overrun}
+use Rattle.br_model.specs.declared.bpdu.BpduMsg.{BpduMsg}
+use Rattle.br_model.specs.declared.transcript.Line.TheVariants.{Overrun, Done}
 use Rattle.br_model.specs.Chip.{notes}
 use Rattle.br_model.specs.Cut.{deferred_at}
 use Rattle.br_model.specs.DomainPorts.{is_in_domain, is_marked}
@@ -41,7 +42,7 @@ use Rattle.br_model.specs.Plane.Serving.{posts, serves, holds, held_with, lets_g
 use Rattle.br_model.specs.Plane.Steps.{Step, Rx, Cmd, Now, Serve, Hold, Post, Turn, Report, Sweep, Publish, does, world_step}
 use Rattle.br_model.specs.Plane.Invariants.{frames_of, IsFrame, IsWorld}
 use Rattle.br_model.specs.Plane.Sending.{Sent, sent_by, sent_of, times}
-use Rattle.br_model.specs.Plane.World.{World, Waiting, Holding, Stepped, table_at, table_of_chip, sent, answered, reacts, refused}
+use Rattle.br_model.specs.Plane.World.{World, Waiting, Holding, Stepped, table_at, table_of_chip, sent, control_lines, answered, reacts, refused}
 
 -- The lines of a frame that is sent.
 
@@ -205,9 +206,14 @@ answered-alike : (before after : World) (answer : Result Reaction Refusal) → A
 answered-alike before after (Err why) a = alike before
 answered-alike before after (Ok r) a = record { setup = a.setup; next = a.next; published = a.published; held = a.held; waiting = a.waiting }
 
+-- the bridge's own frames are none that entered
+sent_of-control : (id own : ℕ) (messages : List (ℕ × BpduMsg)) (told : List Line) → sent_of id (control_lines own messages ++ told) ≡ sent_of id told
+sent_of-control id own [] told = refl
+sent_of-control id own (m ∷ messages) told = sent_of-control id own messages told
+
 answered-silent : (id : ℕ) (before after : World) (answer : Result Reaction Refusal) → sent_of id (answered before after answer).1 ≡ []
 answered-silent id before after (Err why) = refl
-answered-silent id before after (Ok r) = refl
+answered-silent id before after (Ok r) = sent_of-control id after.setup.own r.messages (Done after.steps (length r.changes) ∷ [])
 
 answers : (id : ℕ) (before after : World) (answer : Result Reaction Refusal) → Alike before after → Effect id before (answered before after answer).0 (answered before after answer).1
 answers id before after answer a = quiet id before _ _ (answered-alike before after answer a) (answered-silent id before after answer)

@@ -14,17 +14,22 @@ use Rattle.br_model.specs.declared.steps.Event.{Event}
 use Rattle.br_model.specs.declared.steps.Event.TheVariants.{Cmd, Moment, Sight, Told, Forget}
 use Rattle.br_model.specs.declared.steps.Refusal.{Refusal}
 use Rattle.br_model.specs.declared.steps.Refusal.TheVariants.{HistoryFull, Backward}
+use Rattle.br_model.specs.declared.tree.TreeEvent.{TreeEvent}
+use Rattle.br_model.specs.declared.tree.TreeEvent.TheVariants as tree_events
 use Rattle.br_model.specs.Ageing.{expired, forgets, forgotten}
 use Rattle.br_model.specs.Commands.{command, sets}
+use Rattle.br_model.specs.Commands.SpanningTree.{tells}
 use Rattle.br_model.specs.Control.{Control, keeps_up, renewed}
 use Rattle.br_model.specs.Course.{Course, from, makes, makes_all}
 use Rattle.br_model.specs.DomainPorts.{is_in_domain}
 use Rattle.br_model.specs.Domains.{software}
-use Rattle.br_model.specs.Learning.{Address, is_renewed, teach, taught, told}
+use Rattle.br_model.specs.Learning.{Address, is_renewed, teach, taught, told as reported}
 use Rattle.br_model.specs.Limits.{fits, all_fit, most_changes}
-use Rattle.br_model.specs.Reaction.{Reaction, has_room, in_room, react, happens, commanded, passes_to, at_moment, ages, sees, learns, renews}
+use Rattle.br_model.specs.Reaction.{Reaction, has_room, in_room, react, happens, commanded, passes_to, at_moment, ages, sees, learns_of, learns, renews}
 use Rattle.br_model.specs.Setup.{Setup}
 use Rattle.br_model.specs.Table.{Table, start, apply, table}
+use Rattle.br_model.specs.TreeReaction.{told, heard, states}
+use Rattle.br_model.specs.TreeStep.{tree_step, sent}
 
 pub fit-append : (t : Table) (cs ds : List Change) → all_fit t (cs ++ ds) ≡ (all_fit t cs && all_fit (fold apply t cs) ds)
 fit-append t [] ds = refl
@@ -41,7 +46,7 @@ OnCourse h r = (r.table ≡ table (h ++ r.changes)) × (all_fit start (h ++ r.ch
 module _ (h : List Change) where
   makes-on : (r : Course) (c : Change) → OnCourse h r → OnCourse h (makes r c)
   makes-on r c on =
-      (elim (fits r.table c) as (λ b. fits r.table c ≡ b → OnCourse h (cond b (record { table = apply r.table c; control = keeps_up r.control c; changes = r.changes ++ c ∷ [] }) r)) [
+      (elim (fits r.table c) as (λ b. fits r.table c ≡ b → OnCourse h (cond b (record { table = apply r.table c; control = keeps_up r.control c; changes = r.changes ++ c ∷ []; messages = r.messages }) r)) [
         | true ↦ λ fit. (
           ap (λ t. apply t c) on.0 ∙ sym (fold_push apply start (h ++ r.changes) c) ∙ ap table (append_assoc h r.changes (c ∷ [])),
           ap (all_fit start) (sym (append_assoc h r.changes (c ∷ [])))
@@ -55,17 +60,27 @@ module _ (h : List Change) where
   makes_all-on r [] on = on
   makes_all-on r (c ∷ cs) on = makes_all-on (makes r c) cs (makes-on r c on)
 
+  told-on : (r : Course) (o : Option TreeEvent) → OnCourse h r → OnCourse h (told o r)
+  told-on r None on = on
+  told-on r (Some event) on =
+      let a = tree_step r.control.tree r.control.now event in
+      makes_all-on (record r { control = record r.control { tree = a.tree }; messages = r.messages ++ sent a }) (states r.control.tree a.tree) on
+
   abbrev EndsOn : Result Course Refusal → Type 0
   EndsOn (Err why) = Unit {0}
   EndsOn (Ok r) = OnCourse h r
 
   commanded-on : (r : Course) (c : Command) (answer : Result (List Change) Refusal) → OnCourse h r → EndsOn (commanded r c answer)
   commanded-on r c (Err why) on = tt
-  commanded-on r c (Ok changes) on = makes_all-on (record r { control = sets r.control c }) changes on
+  commanded-on r c (Ok changes) on =
+      told-on (makes_all (record r { control = sets r.control c }) changes) (tells r.table c) (makes_all-on (record r { control = sets r.control c }) changes on)
 
   passes-on : (r : Course) (now : ℕ) → OnCourse h r → EndsOn (passes_to now r)
   passes-on r now on =
-      elim (nat_lt now r.control.now) as (λ b. EndsOn (cond b (Err Backward) (Ok (ages (at_moment now r))))) [ true ↦ tt | false ↦ makes_all-on (at_moment now r) (forgets (expired r.table (at_moment now r).control)) on ]
+      elim (nat_lt now r.control.now) as (λ b. EndsOn (cond b (Err Backward) (Ok (told (Some tree_events.Moment) (ages (at_moment now r)))))) [
+        | true ↦ tt
+        | false ↦ told-on (ages (at_moment now r)) (Some tree_events.Moment) (makes_all-on (at_moment now r) (forgets (expired r.table (at_moment now r).control)) on)
+      ]
 
   learns-on : (r : Course) (port : ℕ) (o : Option Address) → OnCourse h r → OnCourse h (learns port o r)
   learns-on r port None on = on
@@ -73,15 +88,19 @@ module _ (h : List Change) where
       makes_all-on (renews key port r) (taught r.table key port)
       (elim (is_renewed r.table key port) as (λ b. OnCourse h (cond b (record r { control = renewed r.control key }) r)) [ true ↦ on | false ↦ on ])
 
-  sees-on : (setup : Setup) (r : Course) (port : ℕ) (head : Head) → OnCourse h r → OnCourse h (sees setup port head r)
-  sees-on setup r port head on =
+  learns_of-on : (setup : Setup) (r : Course) (port : ℕ) (head : Head) → OnCourse h r → OnCourse h (learns_of setup port head r)
+  learns_of-on setup r port head on =
       elim (is_in_domain setup.domains software port) as (λ b. OnCourse h (cond b (learns port (teach r.table port head) r) r)) [ true ↦ learns-on r port (teach r.table port head) on | false ↦ on ]
+
+  sees-on : (setup : Setup) (r : Course) (port : ℕ) (bytes : List ℕ) (head : Head) → OnCourse h r → OnCourse h (sees setup port bytes head r)
+  sees-on setup r port bytes head on =
+      told-on (learns_of setup port head r) (heard r.table port bytes head) (learns_of-on setup r port head on)
 
   happens-on : (setup : Setup) (r : Course) (e : Event) → OnCourse h r → EndsOn (happens setup r e)
   happens-on setup r (Cmd c) on = commanded-on r c (command r.table c) on
   happens-on setup r (Moment now) on = passes-on r now on
-  happens-on setup r (Sight port bytes head) on = sees-on setup r port head on
-  happens-on setup r (Told vid mac port) on = makes_all-on r (told r.table (vid, mac) port) on
+  happens-on setup r (Sight port bytes head) on = sees-on setup r port bytes head on
+  happens-on setup r (Told vid mac port) on = makes_all-on r (reported r.table (vid, mac) port) on
   happens-on setup r (Forget triples) on = makes_all-on r (forgets (forgotten r.table triples)) on
 
   -- what is accepted fits, and the history stays within its limit
@@ -92,7 +111,7 @@ module _ (h : List Change) where
   in_room-accepts : (answer : Result Course Refusal) → EndsOn answer → Accepts (in_room h answer)
   in_room-accepts (Err why) on = tt
   in_room-accepts (Ok r) on =
-      (elim (has_room h r.changes) as (λ b. has_room h r.changes ≡ b → Accepts (cond b (Ok (record { changes = r.changes; control = r.control })) (Err HistoryFull))) [
+      (elim (has_room h r.changes) as (λ b. has_room h r.changes ≡ b → Accepts (cond b (Ok (record { changes = r.changes; control = r.control; messages = r.messages })) (Err HistoryFull))) [
         | true ↦ λ e. (on.1, omega (arith, leb-true _ _ e, length-append h r.changes))
         | false ↦ λ e. tt
       ]) refl

@@ -27,7 +27,7 @@ use Rattle.br_model.specs.FlagWords.{flags, name_of_flag}
 use Rattle.br_model.specs.Forms.{Row, after, said}
 use Rattle.br_model.specs.Frames.{longest_frame, shortest_frame, frame}
 use Rattle.br_model.specs.LineForms.{line_says, all_say, commanded}
-use Rattle.br_model.specs.Operands.{number, port_name, mac, hex, flag, bytes_of, most_seconds, last_moment}
+use Rattle.br_model.specs.Operands.{number, port_name, mac, hex, flag, bytes_of, most_cost, most_port_priority, most_priority, most_seconds, last_moment}
 use Rattle.br_model.specs.Roster.{Roster, has_number, host_name}
 use Rattle.br_model.specs.ScenarioText.{name_of, mac_text, command_text, device_text, kind_word, switch_word, shown, step_words}
 use Rattle.br_model.specs.Words.{Word, is_word, is_comment, words}
@@ -109,15 +109,15 @@ rx_read r port bytes place all h some are =
     (two (λ p b. Does (Rx p b)) (port_number_read r.ports port all h) (hex_is bytes some are))
     place (both _ _ (decimal_proper port small) (both _ _ (hex_proper bytes some are) refl)) refl refl
 
+least : (n : ℕ) → nat_le 0 n ≡ true
+least n = grind arith
+
 now_read : (r : Roster) (moment : ℕ) → step r.place ≡ true → nat_le moment last_moment ≡ true → line_says r (codes "now " ++ decimal moment) ≡ Ok (Does (Now moment))
 now_read r moment place h =
     let small = below last_moment moment (omega arith) h in
     says r (codes "now" ∷ decimal moment ∷ []) (λ x. x)
     (one (λ m. Does (Now m)) (number_read 0 last_moment moment small (least moment) h))
     place (both _ _ (decimal_proper moment small) refl) refl refl
-  where
-    least : (n : ℕ) → nat_le 0 n ≡ true
-    least n = grind arith
 
 serve_read : (r : Roster) → step r.place ≡ true → line_says r (codes "serve") ≡ Ok (Does Serve)
 serve_read r place = says r (codes "serve" ∷ []) (λ x. x) {x = Ok (Does Serve)} refl place refl refl refl
@@ -267,6 +267,35 @@ ageing_read r seconds place low high =
     (one (λ s. commands.Ageing s) (number_read 1 most_seconds seconds small low high))
     place (both _ _ (decimal_proper seconds small) refl) refl refl
 
+-- the spanning tree
+
+cost_read : (r : Roster) (port n : ℕ) → step r.place ≡ true → are_declared r.ports ≡ true → has_number r.ports port ≡ true → nat_le 1 n ≡ true → nat_le n most_cost ≡ true
+    → Reads r (commands.Cost port n)
+cost_read r port n place all h low high =
+    let small = below most_cost n (omega arith) high in
+    says r (codes "cmd" ∷ codes "link" ∷ name_of r.ports port ∷ codes "cost" ∷ decimal n ∷ []) commanded
+    (two (λ p n. commands.Cost p n) (port_name_read r.ports port all h) (number_read 1 most_cost n small low high))
+    place (both _ _ (name_proper r.ports port all h) (both _ _ (decimal_proper n small) refl)) refl refl
+
+port_priority_read : (r : Roster) (port n : ℕ) → step r.place ≡ true → are_declared r.ports ≡ true → has_number r.ports port ≡ true → nat_le n most_port_priority ≡ true
+    → Reads r (commands.PortPriority port n)
+port_priority_read r port n place all h high =
+    let small = below most_port_priority n (omega arith) high in
+    says r (codes "cmd" ∷ codes "link" ∷ name_of r.ports port ∷ codes "priority" ∷ decimal n ∷ []) commanded
+    (two (λ p n. commands.PortPriority p n) (port_name_read r.ports port all h) (number_read 0 most_port_priority n small (least n) high))
+    place (both _ _ (name_proper r.ports port all h) (both _ _ (decimal_proper n small) refl)) refl refl
+
+stp_read : (r : Roster) (on : Bool) → step r.place ≡ true → Reads r (commands.Stp on)
+stp_read r true place = says r (codes "cmd" ∷ codes "stp" ∷ codes "on" ∷ []) commanded {x = Ok (commands.Stp true)} refl place refl refl refl
+stp_read r false place = says r (codes "cmd" ∷ codes "stp" ∷ codes "off" ∷ []) commanded {x = Ok (commands.Stp false)} refl place refl refl refl
+
+priority_read : (r : Roster) (n : ℕ) → step r.place ≡ true → nat_le n most_priority ≡ true → Reads r (commands.Priority n)
+priority_read r n place high =
+    let small = below most_priority n (omega arith) high in
+    says r (codes "cmd" ∷ codes "stp" ∷ codes "priority" ∷ decimal n ∷ []) commanded
+    (one (λ n. commands.Priority n) (number_read 0 most_priority n small (least n) high))
+    place (both _ _ (decimal_proper n small) refl) refl refl
+
 -- all steps
 
 entries_read : (r : Roster) (vid address port : ℕ) (kind : Kind) → step r.place ≡ true → are_declared r.ports ≡ true → is_vid vid ≡ true → is_station address ≡ true
@@ -280,12 +309,18 @@ command_read : (r : Roster) (command : Command) → step r.place ≡ true → ar
 command_read r (commands.PortUp port) place all h = up_read r port place all h
 command_read r (commands.PortDown port) place all h = down_read r port place all h
 command_read r (commands.Link port f on) place all h = link_read r port f on place all (first_so _ _ h) (second_so _ _ h)
+command_read r (commands.Cost port n) place all h =
+    let range = second_so (has_number r.ports port) _ h in
+    cost_read r port n place all (first_so _ _ h) (first_so (nat_le 1 n) _ range) (second_so (nat_le 1 n) _ range)
+command_read r (commands.PortPriority port n) place all h = port_priority_read r port n place all (first_so _ _ h) (second_so _ _ h)
 command_read r (commands.VlanAdd port vid untagged pvid) place all h = vlan_add_read r port vid untagged pvid place all (first_so _ _ h) (second_so _ _ h)
 command_read r (commands.VlanDel port vid) place all h = vlan_del_read r port vid place all (first_so _ _ h) (second_so _ _ h)
 command_read r (commands.FdbAdd vid address port kind) place all h =
     let more = second_so (is_vid vid) _ h in
     entries_read r vid address port kind place all (first_so _ _ h) (first_so (is_station address) _ more) (second_so (is_station address) _ more)
 command_read r (commands.FdbDel vid address) place all h = fdb_del_read r vid address place (first_so _ _ h) (second_so _ _ h)
+command_read r (commands.Stp on) place all h = stp_read r on place
+command_read r (commands.Priority n) place all h = priority_read r n place h
 command_read r (commands.Ageing seconds) place all h = ageing_read r seconds place (first_so _ _ h) (second_so _ _ h)
 
 pub step_read : (r : Roster) (s : Step) → step r.place ≡ true → are_declared r.ports ≡ true → has_line r.ports s ≡ true

@@ -3,7 +3,7 @@
 -- br_fdb_external_learn_del (a chip ages its own entries).
 use Rattle.std.specs.Prelude.{ℕ, ◌+◌, nat_le, Bool, true, false, ◌&&◌, List, map}
 use Rattle.std.specs.List.{filter}
-use Rattle.std.specs.Option.{option_map_or}
+use Rattle.std.specs.Option.{option_map_or, unwrap_or}
 use Rattle.br_model.specs.declared.change.Change.{Change}
 use Rattle.br_model.specs.declared.change.Change.TheVariants.{AddrDel}
 use Rattle.br_model.specs.declared.change.Kind.{Kind}
@@ -12,6 +12,7 @@ use Rattle.br_model.specs.Control.{Control}
 use Rattle.br_model.specs.Learning.{Address, Triple, address_of, is_extern_at}
 use Rattle.br_model.specs.Maps.{pair_cmp, get}
 use Rattle.br_model.specs.Table.{Table}
+use Rattle.br_model.specs.TreeTimers.{hold}
 
 -- whether entries of this kind expire
 abbrev pub expires : Kind → Bool
@@ -20,17 +21,18 @@ expires Static = false
 expires Learned = true
 expires Extern = false
 
--- how long a learned entry stays that no frame renews, in milliseconds
-abbrev pub hold : Control → ℕ
-hold c = c.ageing
+-- How long a learned entry stays that no frame renews, in milliseconds: the ageing time; while a topology change is on, the
+-- forward delay in use (IEEE 802.1D-1998 section 8.3.5).
+abbrev pub stay : Control → ℕ
+stay c = unwrap_or (hold c.tree) c.ageing
 
--- whether the time of the entry is over
-abbrev pub is_old : Control → Address → Bool
-is_old c key = option_map_or (λ updated. nat_le (updated + hold c) c.now) (get pair_cmp c.updated key) false
+-- whether the time of the entry is over at the moment, where entries stay so long
+abbrev pub is_old : ℕ → ℕ → List (Address × ℕ) → Address → Bool
+is_old now stay updated key = option_map_or (λ moment. nat_le (moment + stay) now) (get pair_cmp updated key) false
 
 -- the entries that expire at the last moment, ascending
 abbrev pub expired : Table → Control → List Address
-expired t c = map (λ e. e.0) (filter (λ e. expires e.1.1 && is_old c e.0) t.addr)
+expired t c = map (λ e. e.0) (filter (λ e. expires e.1.1 && is_old c.now (stay c) c.updated e.0) t.addr)
 
 abbrev pub forgets : List Address → List Change
 forgets keys = map (λ k. AddrDel k.0 k.1) keys

@@ -5,7 +5,7 @@ use Rattle.br_model.specs.declared.change.Kind.TheVariants.{Local, Static, Exter
 use Rattle.br_model.specs.declared.scenario.Place.{Place}
 use Rattle.br_model.specs.declared.scenario.Place.TheVariants.{Opening, Header, Declarations, Steps}
 use Rattle.br_model.specs.declared.steps.Command.{Command}
-use Rattle.br_model.specs.declared.steps.Command.TheVariants.{PortUp, PortDown, Link, VlanAdd, VlanDel, FdbAdd, FdbDel, Ageing}
+use Rattle.br_model.specs.declared.steps.Command.TheVariants.{PortUp, PortDown, Link, Cost, PortPriority, VlanAdd, VlanDel, FdbAdd, FdbDel, Stp, Priority, Ageing}
 use Rattle.br_model.specs.Domains.{host}
 use Rattle.br_model.specs.Forms.{Row, row, Makes, tokens, operands_from}
 
@@ -29,6 +29,8 @@ abbrev pub links : List (Row Command)
 links =
     cmd (codes "link NAME FLAG on") (λ port flag. Link port flag true) ∷
     cmd (codes "link NAME FLAG off") (λ port flag. Link port flag false) ∷
+    cmd (codes "link NAME cost COST") (λ port n. Cost port n) ∷
+    cmd (codes "link NAME priority PORTPRIORITY") (λ port n. PortPriority port n) ∷
     []
 
 abbrev pub vlans : List (Row Command)
@@ -48,10 +50,17 @@ fdbs =
     cmd (codes "fdb del MAC vlan VID") (λ mac vid. FdbDel vid mac) ∷
     []
 
+abbrev pub trees : List (Row Command)
+trees =
+    cmd (codes "stp on") (Stp true) ∷
+    cmd (codes "stp off") (Stp false) ∷
+    cmd (codes "stp priority PRIORITY") (λ n. Priority n) ∷
+    []
+
 abbrev pub ageings : List (Row Command)
 ageings =
     cmd (codes "ageing SECONDS") (λ seconds. Ageing seconds) ∷
     []
 
 abbrev pub commands : List (Row Command)
-commands = ports ++ (links ++ (vlans ++ (fdbs ++ ageings)))
+commands = ports ++ (links ++ (vlans ++ (fdbs ++ (trees ++ ageings))))

@@ -1,9 +1,10 @@
--- What a bridge keeps beside its table: moments, and the ageing time.
+-- What a bridge keeps beside its table: moments, the ageing time, and the spanning tree.
 -- Source: the kernel's net/bridge (net_bridge_fdb_entry.updated, ageing_time), IEEE 802.1D-1998 section 7.9.2.
 use Rattle.std.specs.Prelude.{ℕ, ◌*◌, List, []}
 use Rattle.br_model.specs.declared.change.Change.{Change}
 use Rattle.br_model.specs.declared.change.Change.TheVariants.{PortUp, PortDown, SetFlags, SetState, VlanAdd, VlanDel, GroupJoin, GroupPart, Router, Querier, Snoop, Stp, AddrPut, AddrDel}
 use Rattle.br_model.specs.Maps.{pair_cmp, put, without}
+use Rattle.br_model.specs.Tree.{Tree, first_tree}
 
 -- in milliseconds
 pub record Control : Type 0 where
@@ -13,12 +14,14 @@ pub record Control : Type 0 where
   pub ageing : ℕ
   -- at the VLAN and address of each entry: when it was put there, or renewed last
   pub updated : List ((ℕ × ℕ) × ℕ)
+  pub tree : Tree
 
 abbrev pub milliseconds : ℕ → ℕ
 milliseconds seconds = 1000 * seconds
 
-abbrev pub first_control : Control
-first_control = record { now = 0; ageing = milliseconds 300; updated = [] }
+-- of the bridge of this address
+abbrev pub first_control : ℕ → Control
+first_control own = record { now = 0; ageing = milliseconds 300; updated = []; tree = first_tree own }
 
 -- the moment of the entry is now
 abbrev pub renewed : Control → ℕ × ℕ → Control

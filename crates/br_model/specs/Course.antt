@@ -1,7 +1,8 @@
 -- A reaction on its way: the table and the control state as they are by now, and what was done so far.
 -- Source: this profile.
-use Rattle.std.specs.Prelude.{if◌then◌else◌, List, [], ◌∷◌, ◌++◌}
+use Rattle.std.specs.Prelude.{ℕ, if◌then◌else◌, List, [], ◌∷◌, ◌++◌}
 use Rattle.std.specs.List.{fold}
+use Rattle.br_model.specs.declared.bpdu.BpduMsg.{BpduMsg}
 use Rattle.br_model.specs.declared.change.Change.{Change}
 use Rattle.br_model.specs.Control.{Control, keeps_up}
 use Rattle.br_model.specs.Limits.{fits}
@@ -13,10 +14,12 @@ pub record Course : Type 0 where
   pub control : Control
   -- in order
   pub changes : List Change
+  -- the spanning tree's messages that go out, each by its port, in order
+  pub messages : List (ℕ × BpduMsg)
 
 -- before anything is done
 abbrev pub from : Table → Control → Course
-from t c = record { table = t; control = c; changes = [] }
+from t c = record { table = t; control = c; changes = []; messages = [] }
 
 -- one change more; one that would pass a limit of the table is left out
 abbrev pub makes : Course → Change → Course

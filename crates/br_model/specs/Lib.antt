@@ -40,6 +40,7 @@ pub mod Learning
 pub mod Ageing
 pub mod Course
 pub mod Commands
+pub mod TreeReaction
 pub mod Reaction
 pub mod Chip
 pub mod Plane
@@ -63,5 +64,6 @@ pub mod WorkedVlans
 pub mod WorkedAddresses
 pub mod WorkedChip
 pub mod WorkedHold
+pub mod WorkedTree
 pub mod Readings
 pub mod WorkedFrames

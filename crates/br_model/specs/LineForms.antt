@@ -8,7 +8,7 @@ use Rattle.br_model.specs.declared.scenario.LineWhy.{LineWhy}
 use Rattle.br_model.specs.declared.scenario.Place.{Place}
 use Rattle.br_model.specs.declared.scenario.Place.TheVariants.{Opening, Header, Declarations, Steps}
 use Rattle.br_model.specs.declared.scenario.Said.{Said}
-use Rattle.br_model.specs.declared.scenario.Said.TheVariants.{Blank, Opens, Declares, Does, Ends}
+use Rattle.br_model.specs.declared.scenario.Said.TheVariants.{Blank, Opens, Bridge, Declares, Does, Ends}
 use Rattle.br_model.specs.declared.steps.Command.{Command}
 use Rattle.br_model.specs.declared.steps.Step.TheVariants.{Rx, Cmd, Now, Serve, Turn, Report, Sweep, Publish}
 use Rattle.br_model.specs.CommandForms.{commands, step}
@@ -24,6 +24,13 @@ opening Header = false
 opening Declarations = false
 opening Steps = false
 
+-- directly after it
+abbrev pub header : Place → Bool
+header Opening = false
+header Header = true
+header Declarations = false
+header Steps = false
+
 -- after it, and before the first step
 abbrev pub declaration : Place → Bool
 declaration Opening = false
@@ -34,6 +41,7 @@ declaration Steps = false
 abbrev pub declarations : List (Row Said)
 declarations =
     row (codes "scenario 1") opening Opens ∷
+    row (codes "bridge MAC") header (λ mac. Bridge mac) ∷
     row (codes "port NUMBER NEWNAME soft") declaration (λ port name. Declares port name software) ∷
     row (codes "port NUMBER NEWNAME chip 1") declaration (λ port name. Declares port name chip) ∷
     []

@@ -32,6 +32,16 @@ pub data Operand : Type 0 where
   -- the name of a port's flag
   Flag : Operand
 
+-- the cost of a port's path, and priorities (IEEE 802.1D-1998 section 8.10.2)
+abbrev pub most_cost : ℕ
+most_cost = 65535
+
+abbrev pub most_port_priority : ℕ
+most_port_priority = 255
+
+abbrev pub most_priority : ℕ
+most_priority = 65535
+
 -- seconds of ageing
 abbrev pub most_seconds : ℕ
 most_seconds = 1000000
@@ -52,6 +62,9 @@ operands =
     (codes "HEX", Hex) ∷
     (codes "FLAG", Flag) ∷
     (codes "VID", Number 1 4094) ∷
+    (codes "COST", Number 1 most_cost) ∷
+    (codes "PORTPRIORITY", Number 0 most_port_priority) ∷
+    (codes "PRIORITY", Number 0 most_priority) ∷
     (codes "SECONDS", Number 1 most_seconds) ∷
     (codes "MS", Number 0 last_moment) ∷
     []

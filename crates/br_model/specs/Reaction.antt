@@ -6,6 +6,7 @@ use Rattle.std.specs.declared.option.Option.{Option}
 use Rattle.std.specs.declared.option.Option.TheVariants.{None, Some}
 use Rattle.std.specs.declared.result.Result.{Result}
 use Rattle.std.specs.declared.result.Result.TheVariants.{Ok, Err}
+use Rattle.br_model.specs.declared.bpdu.BpduMsg.{BpduMsg}
 use Rattle.br_model.specs.declared.change.Change.{Change}
 use Rattle.br_model.specs.declared.frame.Head.{Head}
 use Rattle.br_model.specs.declared.steps.Command.{Command}
@@ -13,21 +14,24 @@ use Rattle.br_model.specs.declared.steps.Event.{Event}
 use Rattle.br_model.specs.declared.steps.Event.TheVariants.{Cmd, Moment, Sight, Told, Forget}
 use Rattle.br_model.specs.declared.steps.Refusal.{Refusal}
 use Rattle.br_model.specs.declared.steps.Refusal.TheVariants.{HistoryFull, Backward}
+use Rattle.br_model.specs.declared.tree.TreeEvent.TheVariants as tree_events
 use Rattle.br_model.specs.Ageing.{expired, forgets, forgotten}
 use Rattle.br_model.specs.Commands.{command, sets}
+use Rattle.br_model.specs.Commands.SpanningTree.{tells}
 use Rattle.br_model.specs.Control.{Control, renewed}
 use Rattle.br_model.specs.Course.{Course, from, makes_all}
 use Rattle.br_model.specs.DomainPorts.{is_in_domain}
 use Rattle.br_model.specs.Domains.{software}
-use Rattle.br_model.specs.Learning.{Address, is_renewed, teach, taught, told}
+use Rattle.br_model.specs.Learning.{Address, is_renewed, teach, taught, told as reported}
 use Rattle.br_model.specs.Limits.{most_changes}
 use Rattle.br_model.specs.Setup.{Setup}
 use Rattle.br_model.specs.Table.{table}
+use Rattle.br_model.specs.TreeReaction.{told, heard}
 
--- A command is refused, or its changes are made.
+-- A command is refused, or its changes are made; then the spanning tree acts, where the command tells it something.
 abbrev pub commanded : Course → Command → Result (List Change) Refusal → Result Course Refusal
 commanded r c (Err why) = Err why
-commanded r c (Ok changes) = Ok (makes_all (record r { control = sets r.control c }) changes)
+commanded r c (Ok changes) = Ok (told (tells r.table c) (makes_all (record r { control = sets r.control c }) changes))
 
 -- the moment comes
 abbrev pub at_moment : ℕ → Course → Course
@@ -37,9 +41,9 @@ at_moment now r = record r { control = record r.control { now = now } }
 abbrev pub ages : Course → Course
 ages r = makes_all r (forgets (expired r.table r.control))
 
--- A moment may stay, but not go back. What is old by then is forgotten.
+-- A moment may stay, but not go back. What is old by then is forgotten, and then the spanning tree does what is due.
 abbrev pub passes_to : ℕ → Course → Result Course Refusal
-passes_to now r = if nat_lt now r.control.now then Err Backward else Ok (ages (at_moment now r))
+passes_to now r = if nat_lt now r.control.now then Err Backward else Ok (told (Some tree_events.Moment) (ages (at_moment now r)))
 
 -- the entry of the address is renewed at its port
 abbrev pub renews : Address → ℕ → Course → Course
@@ -50,22 +54,28 @@ abbrev pub learns : ℕ → Option Address → Course → Course
 learns port None r = r
 learns port (Some key) r = makes_all (renews key port r) (taught r.table key port)
 
--- A frame is seen that software sent. One that came by a chip's port teaches by the chip's report alone.
-abbrev pub sees : Setup → ℕ → Head → Course → Course
-sees setup port head r = if is_in_domain setup.domains software port then learns port (teach r.table port head) r else r
+-- A frame that came by a chip's port teaches by the chip's report alone.
+abbrev pub learns_of : Setup → ℕ → Head → Course → Course
+learns_of setup port head r = if is_in_domain setup.domains software port then learns port (teach r.table port head) r else r
+
+-- A frame is seen that software sent. It teaches its source; then the spanning tree reads it, if it is a message for it.
+abbrev pub sees : Setup → ℕ → List ℕ → Head → Course → Course
+sees setup port bytes head r = told (heard r.table port bytes head) (learns_of setup port head r)
 
 -- what the event does
 abbrev pub happens : Setup → Course → Event → Result Course Refusal
 happens setup r (Cmd c) = commanded r c (command r.table c)
 happens setup r (Moment now) = passes_to now r
-happens setup r (Sight port bytes head) = Ok (sees setup port head r)
-happens setup r (Told vid mac port) = Ok (makes_all r (told r.table (vid, mac) port))
+happens setup r (Sight port bytes head) = Ok (sees setup port bytes head r)
+happens setup r (Told vid mac port) = Ok (makes_all r (reported r.table (vid, mac) port))
 happens setup r (Forget triples) = Ok (makes_all r (forgets (forgotten r.table triples)))
 
 pub record Reaction : Type 0 where
   -- in order
   pub changes : List Change
   pub control : Control
+  -- the spanning tree's messages that go out, each by its port, in order
+  pub messages : List (ℕ × BpduMsg)
 
 -- whether the history has room for so many changes
 abbrev pub has_room : List Change → List Change → Bool
@@ -74,7 +84,7 @@ has_room history changes = nat_le (length history + length changes) most_changes
 -- The last refusal of every event: the history would have too many changes.
 abbrev pub in_room : List Change → Result Course Refusal → Result Reaction Refusal
 in_room history (Err why) = Err why
-in_room history (Ok r) = if has_room history r.changes then Ok (record { changes = r.changes; control = r.control }) else Err HistoryFull
+in_room history (Ok r) = if has_room history r.changes then Ok (record { changes = r.changes; control = r.control; messages = r.messages }) else Err HistoryFull
 
 -- what the bridge with this history and this control state answers
 unfoldable pub react : Setup → List Change → Control → Event → Result Reaction Refusal

@@ -1,4 +1,5 @@
--- What a scenario has said before a line: its declared ports, in the order of their lines, and the place that it has reached.
+-- What a scenario has said before a line: the bridge's address, its declared ports, in the order of their lines, and the place
+-- that it has reached.
 -- Source: this profile.
 use Rattle.std.specs.Prelude.{ℕ, ◌==◌, nat_lt, nat_le, Bool, not, ◌&&◌, ◌||◌, if◌then◌else◌, List, [], ◌∷◌, length, codes}
 use Rattle.std.specs.List.{fold, list_any, list_all}
@@ -10,6 +11,7 @@ use Rattle.br_model.specs.declared.scenario.Place.{Place}
 use Rattle.br_model.specs.declared.scenario.Place.TheVariants.{Opening}
 use Rattle.br_model.specs.Domains.{Domains, host, software}
 use Rattle.br_model.specs.Maps.{put}
+use Rattle.br_model.specs.Setup.{first_own}
 use Rattle.br_model.specs.Words.{Word}
 
 pub record Entry : Type 0 where
@@ -21,10 +23,12 @@ pub record Roster : Type 0 where
   pub place : Place
   -- whether the command is `check`
   pub check : Bool
+  -- the bridge's own address
+  pub own : ℕ
   pub ports : List Entry
 
 abbrev pub first_roster : Bool → Roster
-first_roster check = record { place = Opening; check = check; ports = [] }
+first_roster check = record { place = Opening; check = check; own = first_own; ports = [] }
 
 abbrev pub has_number : List Entry → ℕ → Bool
 has_number ports n = list_any (λ e. e.port == n) ports

@@ -6,11 +6,11 @@ use Rattle.br_model.specs.Plane.Runs.{run, end_line}
 use Rattle.br_model.specs.Plane.World.{World, Stepped}
 use Rattle.br_model.specs.Roster.{Roster, domains_of}
 use Rattle.br_model.specs.Scenario.{Scenario, Ending, Going, Ended, Bad, scenario}
-use Rattle.br_model.specs.Setup.{Setup, first_own}
+use Rattle.br_model.specs.Setup.{Setup}
 use Rattle.br_model.specs.Transcript.{text, line_text, bad_text}
 
 abbrev pub setup_of : Roster → Setup
-setup_of roster = record { domains = domains_of roster.ports; own = first_own }
+setup_of roster = record { domains = domains_of roster.ports; own = roster.own }
 
 -- the run of what a scenario has said
 abbrev pub run_of : Scenario → Stepped

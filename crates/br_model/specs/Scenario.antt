@@ -8,7 +8,7 @@ use Rattle.br_model.specs.declared.scenario.LineWhy.{LineWhy}
 use Rattle.br_model.specs.declared.scenario.LineWhy.TheVariants.{Long, Unended, Place}
 use Rattle.br_model.specs.declared.scenario.Place.TheVariants.{Header, Declarations, Steps}
 use Rattle.br_model.specs.declared.scenario.Said.{Said}
-use Rattle.br_model.specs.declared.scenario.Said.TheVariants.{Blank, Opens, Declares, Does, Ends}
+use Rattle.br_model.specs.declared.scenario.Said.TheVariants.{Blank, Opens, Bridge, Declares, Does, Ends}
 use Rattle.br_model.specs.declared.steps.Step.{Step}
 use Rattle.std.specs.Str.{bytes_eq}
 use Rattle.br_model.specs.CommandForms.{step}
@@ -66,6 +66,7 @@ bad s why = record s { ending = Bad (s.lines + 1) why }
 abbrev pub steps_of : Said → List Step
 steps_of Blank = []
 steps_of Opens = []
+steps_of (Bridge mac) = []
 steps_of (Declares port name dom) = []
 steps_of (Does step) = step ∷ []
 steps_of Ends = []
@@ -74,6 +75,7 @@ steps_of Ends = []
 abbrev pub declared : Roster → Said → Roster
 declared roster Blank = roster
 declared roster Opens = record roster { place = Header }
+declared roster (Bridge mac) = record roster { place = Declarations; own = mac }
 declared roster (Declares port name dom) = record roster { place = Declarations; ports = roster.ports ++ record { name = name; port = port; dom = dom } ∷ [] }
 declared roster (Does step) = record roster { place = Steps }
 declared roster Ends = roster
@@ -82,6 +84,7 @@ declared roster Ends = roster
 abbrev pub ending_of : Said → Ending
 ending_of Blank = Going
 ending_of Opens = Going
+ending_of (Bridge mac) = Going
 ending_of (Declares port name dom) = Going
 ending_of (Does step) = Going
 ending_of Ends = Ended

@@ -53,6 +53,8 @@ command_text ports (commands.PortUp port) = codes "port up " ++ name_of ports po
 command_text ports (commands.PortDown port) = codes "port down " ++ name_of ports port
 command_text ports (commands.Link port flag on) =
     codes "link " ++ (name_of ports port ++ (32 ∷ (name_of_flag flags flag ++ (32 ∷ switch_word on))))
+command_text ports (commands.Cost port n) = codes "link " ++ (name_of ports port ++ (codes " cost " ++ decimal n))
+command_text ports (commands.PortPriority port n) = codes "link " ++ (name_of ports port ++ (codes " priority " ++ decimal n))
 command_text ports (commands.VlanAdd port vid untagged pvid) =
     codes "vlan add vid " ++ (decimal vid ++ (codes " dev " ++ (device_text ports port
     ++ (further pvid (codes "pvid") ++ further untagged (codes "untagged")))))
@@ -60,6 +62,8 @@ command_text ports (commands.VlanDel port vid) = codes "vlan del vid " ++ (decim
 command_text ports (commands.FdbAdd vid mac port kind) =
     codes "fdb add " ++ (mac_text mac ++ (codes " dev " ++ (device_text ports port ++ (codes " vlan " ++ (decimal vid ++ (32 ∷ kind_word kind))))))
 command_text ports (commands.FdbDel vid mac) = codes "fdb del " ++ (mac_text mac ++ (codes " vlan " ++ decimal vid))
+command_text ports (commands.Stp on) = codes "stp " ++ switch_word on
+command_text ports (commands.Priority n) = codes "stp priority " ++ decimal n
 command_text ports (commands.Ageing seconds) = codes "ageing " ++ decimal seconds
 
 -- The bytes by which a frame is written: of one that is too long, enough to tell; a byte of one that has none.

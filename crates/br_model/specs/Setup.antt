@@ -7,6 +7,6 @@ pub record Setup : Type 0 where
   pub domains : Domains
   pub own : ℕ
 
--- 02:00:00:00:00:01
+-- 02:00:00:00:00:01, where a scenario says nothing else
 abbrev pub first_own : ℕ
 first_own = 0x020000000001

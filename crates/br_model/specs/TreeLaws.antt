@@ -1,6 +1,6 @@
 -- Laws of the spanning tree, in words of their own.
-use Rattle.std.specs.Prelude.{ℕ, ◌≡◌, ◌≢◌, ◌<◌, ◌^◌, ⊤, List, []}
-use Rattle.std.specs.List.{All, Contains}
+use Rattle.std.specs.Prelude.{ℕ, ◌≡◌, ◌≢◌, ◌<◌, ◌^◌, nat_le, ⊤, Bool, List, [], IsSome}
+use Rattle.std.specs.List.{All, Contains, list_all}
 use Rattle.std.specs.declared.cmp.Ordering.TheVariants.{Less}
 use Rattle.std.specs.declared.option.Option.{Option}
 use Rattle.std.specs.declared.option.Option.TheVariants.{None, Some}
@@ -10,6 +10,8 @@ use Rattle.br_model.specs.Tree.{Tree}
 use Rattle.br_model.specs.declared.tree.Candidate.{Candidate}
 use Rattle.br_model.specs.declared.tree.Root.{Root}
 use Rattle.br_model.specs.TreeVectors.{candidate_cmp, candidates, root_of, roles}
+use Rattle.br_model.specs.TreeStates.{blocking}
+use Rattle.br_model.specs.TreeStep.{message}
 
 -- no candidate is lower
 abbrev pub IsLeast : List Candidate → Candidate → Type 0
@@ -28,6 +30,14 @@ HasLeastRoot t = IsElected (candidates t) (root_of t) (root_of t).port
 -- Roles that are taken move nothing: what designated ports forget leaves the root and each role as they were.
 abbrev pub RolesStand : Tree → Type 0
 RolesStand t = (root_of (roles t) ≡ root_of t) × (roles (roles t) ≡ roles t)
+
+-- whether each port that is up is in a state that Linux numbers, 0 to 4
+abbrev pub knows_states : Tree → Bool
+knows_states t = list_all (λ e. nat_le e.1.state blocking) t.ports
+
+-- a message went out on each of these ports, and `message` tells the last one
+abbrev pub HaveSent : Tree → List ℕ → Type 0
+HaveSent t ps = All (λ p. IsSome (message t p)) ps
 
 -- whether each field fits the bytes that it has in a frame
 abbrev pub Fits : BpduMsg → Type 0

@@ -11,7 +11,9 @@ use Rattle.br_model.specs.Bpdus.{bpdu, written}
 use Rattle.br_model.specs.Digits.{bytes_from_hex, hex_of}
 use Rattle.br_model.specs.Tree.{Tree, first_tree}
 use Rattle.br_model.specs.TreeSending.{Acted}
-use Rattle.br_model.specs.TreeStep.{TreeEvent, Switch, Up, Message, Moment, Cost, Priority, tree_step, moved, sent}
+use Rattle.br_model.specs.TreeStep.{tree_step, moved, sent}
+use Rattle.br_model.specs.declared.tree.TreeEvent.{TreeEvent}
+use Rattle.br_model.specs.declared.tree.TreeEvent.TheVariants.{Switch, Up, Message, Moment, Cost, Priority}
 
 -- the ports that an event moves, and the messages that go out
 abbrev pub Answer : Type 0
@@ -217,7 +219,7 @@ managed_events =
     ++ (0, Message 1 (of_root 0 0 1))
     ∷ (0, Message 2 (aged 0 0 0 10 3 1))
     ∷ (3000, Cost 1 200)
-    ∷ (4000, Priority None 4096)
+    ∷ (4000, Priority 4096)
     ∷ (6000, Message 1 (of_root 0 0 1))
     ∷ []
 

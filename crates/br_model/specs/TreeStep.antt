@@ -13,6 +13,8 @@ use Rattle.br_model.specs.declared.bpdu.BpduMsg.TheVariants.{Config, Tcn}
 use Rattle.br_model.specs.Admission.{forwarding}
 use Rattle.br_model.specs.Maps.{put, without}
 use Rattle.br_model.specs.declared.tree.ConfigMsg.{ConfigMsg}
+use Rattle.br_model.specs.declared.tree.TreeEvent.{TreeEvent}
+use Rattle.br_model.specs.declared.tree.TreeEvent.TheVariants.{Switch, Up, Down, Message, Moment, Cost, PortPriority, Priority}
 use Rattle.br_model.specs.declared.tree.TreePort.{TreePort}
 use Rattle.br_model.specs.Tree.{Tree, fresh, bpdu_of, numbers, port_at, state_at, each, at_port}
 use Rattle.br_model.specs.TreeVectors.{root_of, is_root, is_root_port, is_designated, roles, keeps}
@@ -83,13 +85,15 @@ port_up t now p = follows t now (record t { ports = put nat_cmp t.ports p (fresh
 abbrev pub port_down : Tree → ℕ → ℕ → Acted
 port_down t now p = follows t now (record t { ports = without nat_cmp t.ports p })
 
--- the cost of a port's path, the priority of a port, or of the bridge, is set (8.8.6, 8.8.5, 8.8.4)
+-- the cost of a port's path, the priority of a port, or that of the bridge is set (8.8.6, 8.8.5, 8.8.4)
 abbrev pub cost_set : Tree → ℕ → ℕ → ℕ → Acted
 cost_set t now p n = follows t now (record t { ports = at_port p (λ x. record x { cost = n }) t.ports })
 
-abbrev pub priority_set : Tree → ℕ → Option ℕ → ℕ → Acted
-priority_set t now None n = follows t now (record t { priority = n })
-priority_set t now (Some p) n = follows t now (record t { ports = at_port p (λ x. record x { priority = n }) t.ports })
+abbrev pub port_priority_set : Tree → ℕ → ℕ → ℕ → Acted
+port_priority_set t now p n = follows t now (record t { ports = at_port p (λ x. record x { priority = n }) t.ports })
+
+abbrev pub priority_set : Tree → ℕ → ℕ → Acted
+priority_set t now n = follows t now (record t { priority = n })
 
 -- Received messages
 
@@ -159,20 +163,6 @@ moment t now =
 
 -- All events
 
-pub data TreeEvent : Type 0 where
-  -- the spanning tree is switched on or off
-  Switch : Bool → TreeEvent
-  -- the port comes up, goes down
-  Up : ℕ → TreeEvent
-  Down : ℕ → TreeEvent
-  -- the message comes at the port
-  Message : ℕ → BpduMsg → TreeEvent
-  -- the moment is told
-  Moment : TreeEvent
-  -- the port's cost; the priority of the port, or with none of the bridge
-  Cost : ℕ → ℕ → TreeEvent
-  Priority : Option ℕ → ℕ → TreeEvent
-
 -- the tree after the event at the moment, and what goes out
 unfoldable pub tree_step : Tree → ℕ → TreeEvent → Acted
 tree_step t now (Switch on) = switched t now on
@@ -181,7 +171,8 @@ tree_step t now (Down p) = port_down t now p
 tree_step t now (Message p m) = received t now p m
 tree_step t now Moment = moment t now
 tree_step t now (Cost p n) = cost_set t now p n
-tree_step t now (Priority p n) = priority_set t now p n
+tree_step t now (PortPriority p n) = port_priority_set t now p n
+tree_step t now (Priority n) = priority_set t now n
 
 -- the ports, up after the event, whose state it changed
 abbrev pub moved : Tree → Tree → List ℕ

@@ -12,7 +12,7 @@ use Rattle.br_model.specs.Domains.{host}
 use Rattle.br_model.specs.FlagWords.{flags}
 use Rattle.br_model.specs.Frames.{longest_frame}
 use Rattle.br_model.specs.Numbers.{is_multicast}
-use Rattle.br_model.specs.Operands.{most_seconds, last_moment}
+use Rattle.br_model.specs.Operands.{most_cost, most_port_priority, most_priority, most_seconds, last_moment}
 use Rattle.br_model.specs.Roster.{Entry, has_number}
 use Rattle.br_model.specs.ScenarioText.{shown}
 
@@ -47,10 +47,14 @@ abbrev pub command_has_line : List Entry → Command → Bool
 command_has_line ports (commands.PortUp port) = has_number ports port
 command_has_line ports (commands.PortDown port) = has_number ports port
 command_has_line ports (commands.Link port flag on) = has_number ports port && is_flag flag
+command_has_line ports (commands.Cost port n) = has_number ports port && (nat_le 1 n && nat_le n most_cost)
+command_has_line ports (commands.PortPriority port n) = has_number ports port && nat_le n most_port_priority
 command_has_line ports (commands.VlanAdd port vid untagged pvid) = is_vid vid && is_device ports port
 command_has_line ports (commands.VlanDel port vid) = is_vid vid && is_device ports port
 command_has_line ports (commands.FdbAdd vid mac port kind) = is_vid vid && (is_station mac && kind_has_line ports port kind)
 command_has_line ports (commands.FdbDel vid mac) = is_vid vid && is_station mac
+command_has_line ports (commands.Stp on) = true
+command_has_line ports (commands.Priority n) = nat_le n most_priority
 command_has_line ports (commands.Ageing seconds) = nat_le 1 seconds && nat_le seconds most_seconds
 
 -- A frame may be of any length.
@@ -92,10 +96,14 @@ abbrev pub command_names_declared : List Entry → Command → Bool
 command_names_declared ports (commands.PortUp port) = has_number ports port
 command_names_declared ports (commands.PortDown port) = has_number ports port
 command_names_declared ports (commands.Link port flag on) = has_number ports port
+command_names_declared ports (commands.Cost port n) = has_number ports port
+command_names_declared ports (commands.PortPriority port n) = has_number ports port
 command_names_declared ports (commands.VlanAdd port vid untagged pvid) = is_device ports port
 command_names_declared ports (commands.VlanDel port vid) = is_device ports port
 command_names_declared ports (commands.FdbAdd vid mac port kind) = is_device ports port
 command_names_declared ports (commands.FdbDel vid mac) = true
+command_names_declared ports (commands.Stp on) = true
+command_names_declared ports (commands.Priority n) = true
 command_names_declared ports (commands.Ageing seconds) = true
 
 abbrev pub names_declared : List Entry → Step → Bool

@@ -9,6 +9,7 @@ ghost use Rattle.br_model.specs.WorkedVlans.{priority_tag_text, priority_tag_tol
 ghost use Rattle.br_model.specs.WorkedAddresses.{address_moves_text, address_moves_told, local_address_text, local_address_told, published_point_text, published_point_told, destination_on_its_ingress_port_text, destination_on_its_ingress_port_told, ageing_text, ageing_told};
 ghost use Rattle.br_model.specs.WorkedChip.{unknown_unicast_split_text, unknown_unicast_split_told, two_points_differ_text, two_points_differ_told, moved_to_a_foreign_port_text, moved_to_a_foreign_port_told, moved_to_a_chip_port_text, moved_to_a_chip_port_told, port_down_and_up_text, port_down_and_up_told, isolated_ingress_text, isolated_ingress_told, plain_ingress_text, plain_ingress_told, bits_follow_a_foreign_port_text, bits_follow_a_foreign_port_told, sweep_text, sweep_told, hit_by_a_frame_text, hit_by_a_frame_told, refusals_without_post_text, refusals_without_post_told};
 ghost use Rattle.br_model.specs.WorkedHold.{hold_told, hold_lines};
+ghost use Rattle.br_model.specs.WorkedTree.{bpdu_at_a_chip_port_text, bpdu_at_a_chip_port_told, tie_and_lost_root_text, tie_and_lost_root_told};
 
 /// Lines are cut out of their text just as they are, and what stands after them is cut as if it stood alone.
 pub fn cut_lines()
@@ -141,4 +142,14 @@ pub fn refusals_without_post()
 /// A frame that is held is decided by what was published then.
 pub fn hold()
     ensures { hold_told ≡ hold_lines }
+{}
+
+/// A message of the spanning tree is trapped at a port of the chip, and read when software posts it.
+pub fn bpdu_at_a_chip_port()
+    ensures { told bpdu_at_a_chip_port_text ≡ bpdu_at_a_chip_port_told }
+{}
+
+/// Of two ports towards one root the lesser one by the other bridge's port is taken; and a root that is heard no more is lost.
+pub fn tie_and_lost_root()
+    ensures { told tie_and_lost_root_text ≡ tie_and_lost_root_told }
 {}

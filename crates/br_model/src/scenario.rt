@@ -1,6 +1,6 @@
 //! What the lines of a scenario are.
 use crate::name::Name;
-use crate::numbers::{Dom, Port};
+use crate::numbers::{Dom, Mac, Port};
 use crate::steps::Step;
 
 /// How far a scenario has come.
@@ -50,6 +50,8 @@ pub enum Said {
     Blank,
     /// The first line.
     Opens,
+    /// The bridge's own address.
+    Bridge(Mac),
     /// The declaration of a port.
     Declares { port: Port, name: Name, dom: Dom },
     Does(Step),
@@ -64,6 +66,8 @@ pub enum Item {
     Blank,
     /// The first line.
     Scenario,
+    /// The bridge's own address.
+    Bridge(Mac),
     /// The declaration of this port.
     Declared(Port),
     Step(Step),

@@ -16,6 +16,16 @@ pub enum Command {
         flag: Flags,
         on: bool,
     },
+    /// The cost of the path by the port, for the spanning tree.
+    Cost {
+        port: Port,
+        n: u16,
+    },
+    /// The port's priority in the spanning tree.
+    PortPriority {
+        port: Port,
+        n: u8,
+    },
     VlanAdd {
         port: Port,
         vid: Vid,
@@ -36,6 +46,10 @@ pub enum Command {
         vid: Vid,
         mac: Mac,
     },
+    /// Switches the spanning tree on or off.
+    Stp(bool),
+    /// The bridge's priority in the spanning tree.
+    Priority(u16),
     /// How long learned entries stay that no frame renews, in seconds.
     Ageing(u32),
 }

@@ -1,11 +1,13 @@
 //! Laws about the definitions of the spanning tree, and worked runs of it. A law is a function that does nothing: its
 //! contract says it.
-ghost use Rattle.std.specs.Prelude.{◌≡◌, ℕ};
+ghost use Rattle.std.specs.Prelude.{◌≡◌, ◌≤◌, ℕ, true};
 ghost use Rattle.std.specs.declared.option.Option.TheVariants.{Some};
 ghost use Rattle.br_model.specs.Bpdus.{bpdu, written};
 ghost use Rattle.br_model.specs.declared.bpdu.BpduMsg.{BpduMsg};
-ghost use Rattle.br_model.specs.Tree.{Tree};
-ghost use Rattle.br_model.specs.TreeLaws.{Fits, HasLeastRoot, RolesStand};
+ghost use Rattle.br_model.specs.declared.tree.TreeEvent.{TreeEvent};
+ghost use Rattle.br_model.specs.Tree.{Tree, first_tree, state_at};
+ghost use Rattle.br_model.specs.TreeStep.{tree_step};
+ghost use Rattle.br_model.specs.TreeLaws.{Fits, HasLeastRoot, RolesStand, knows_states, HaveSent};
 ghost use Rattle.br_model.specs.TreeRows.{answers, own, tie_events, tie_answers, chip_port_events, chip_port_answers, acknowledged_events, acknowledged_answers, put_off_events, put_off_answers, aged_out_events, aged_out_answers, own_message_events, own_message_answers, managed_events, managed_answers, frames_said, frames_expected, frames_written, frames_digits};
 
 /// The root port offers the least of all candidates.
@@ -16,6 +18,23 @@ pub fn least_root()
 /// Roles that are taken stand: what is forgotten by them changes neither the root nor a role.
 pub fn roles_stand()
     ensures { (t : Tree) → RolesStand t }
+{}
+
+/// The states of ports stay among those that Linux numbers.
+pub fn known_states()
+    ensures first { (own : ℕ) → knows_states (first_tree own) ≡ true }
+    ensures kept { (t : Tree) (now : ℕ) (event : TreeEvent) → knows_states t ≡ true → knows_states (tree_step t now event).tree ≡ true }
+    ensures read { (t : Tree) (p : ℕ) → knows_states t ≡ true → state_at t p ≤ 4 }
+{}
+
+/// Where a configuration message goes out, it can be read afterwards.
+pub fn messages_went_out()
+    ensures { (t : Tree) (now : ℕ) (event : TreeEvent) → HaveSent (tree_step t now event).tree (tree_step t now event).config }
+{}
+
+/// No event changes the address of the bridge.
+pub fn own_stays()
+    ensures { (t : Tree) (now : ℕ) (event : TreeEvent) → (tree_step t now event).tree.own ≡ t.own }
 {}
 
 /// Two bridges, tied by root, cost and bridge; then the root is lost.

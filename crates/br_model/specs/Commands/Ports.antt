@@ -11,7 +11,7 @@ use Rattle.br_model.specs.declared.change.Change.{Change}
 use Rattle.br_model.specs.declared.change.Change.TheVariants as changes
 use Rattle.br_model.specs.declared.steps.Refusal.{Refusal}
 use Rattle.br_model.specs.declared.steps.Refusal.TheVariants.{PortIsUp, PortNotUp}
-use Rattle.br_model.specs.Admission.{is_up, forwarding}
+use Rattle.br_model.specs.Admission.{is_up}
 use Rattle.br_model.specs.Domains.{host}
 use Rattle.br_model.specs.Maps.{get, has}
 use Rattle.br_model.specs.Table.{Table, all_flags, default_vlan}
@@ -20,9 +20,9 @@ use Rattle.br_model.specs.Table.{Table, all_flags, default_vlan}
 abbrev pub is_down : Table → ℕ → Bool
 is_down t port = not (port == host) && not (is_up t port)
 
--- up, in VLAN 1 without a tag, and forwarding
+-- up, and in VLAN 1 without a tag; its state is the spanning tree's
 abbrev pub comes_up : ℕ → List Change
-comes_up port = changes.PortUp port ∷ changes.VlanAdd port default_vlan true true ∷ changes.SetState port forwarding ∷ []
+comes_up port = changes.PortUp port ∷ changes.VlanAdd port default_vlan true true ∷ []
 
 abbrev pub port_up : Table → ℕ → Result (List Change) Refusal
 port_up t port =

@@ -4,12 +4,14 @@ use Rattle.std.specs.Prelude.{ℕ, List, [], ◌∷◌, ◌++◌, map, length, t
 use Rattle.std.specs.declared.option.Option.{Option}
 use Rattle.std.specs.declared.result.Result.{Result}
 use Rattle.std.specs.declared.result.Result.TheVariants.{Ok, Err}
+use Rattle.br_model.specs.declared.bpdu.BpduMsg.{BpduMsg}
 use Rattle.br_model.specs.declared.change.Change.{Change}
 use Rattle.br_model.specs.declared.frame.Head.{Head}
 use Rattle.br_model.specs.declared.steps.Event.{Event}
 use Rattle.br_model.specs.declared.steps.Refusal.{Refusal}
 use Rattle.br_model.specs.declared.transcript.Line.{Line}
-use Rattle.br_model.specs.declared.transcript.Line.TheVariants.{Tx, Done, Refused}
+use Rattle.br_model.specs.declared.transcript.Line.TheVariants.{Tx, Ctl, Done, Refused}
+use Rattle.br_model.specs.Bpdus.{written}
 use Rattle.br_model.specs.Chip.{Chip, first_chip, chip_table}
 use Rattle.br_model.specs.Control.{Control, first_control}
 use Rattle.br_model.specs.Reaction.{Reaction, react}
@@ -51,7 +53,7 @@ abbrev pub first_world : Setup → World
 first_world setup = record {
   setup = setup;
   history = [];
-  control = first_control;
+  control = first_control setup.own;
   chip = first_chip;
   published = 0;
   counts = 0 ∷ [];
@@ -89,10 +91,17 @@ done w = (w, Done w.steps 0 ∷ [])
 abbrev pub accepts : World → Reaction → World
 accepts w r = record w { history = w.history ++ r.changes; control = r.control }
 
+-- the line of the frame that carries a message of the spanning tree by a port, from the bridge of this address
+abbrev pub control_line : ℕ → ℕ × BpduMsg → Line
+control_line own x = Ctl x.0 (written own x.1)
+
+abbrev pub control_lines : ℕ → List (ℕ × BpduMsg) → List Line
+control_lines own messages = map (control_line own) messages
+
 -- An event is refused in one world, or its changes are accepted in another.
 abbrev pub answered : World → World → Result Reaction Refusal → Stepped
 answered before after (Err why) = refused before why
-answered before after (Ok r) = (accepts after r, Done after.steps (length r.changes) ∷ [])
+answered before after (Ok r) = (accepts after r, control_lines after.setup.own r.messages ++ Done after.steps (length r.changes) ∷ [])
 
 -- how the bridge reacts in this world
 abbrev pub reacts : World → Event → Result Reaction Refusal

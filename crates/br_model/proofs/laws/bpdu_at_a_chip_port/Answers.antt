@@ -1,0 +1,5 @@
+use Rattle.br_model.proofs.WholeTreeRuns.{bpdu_at_a_chip_port}
+use Rattle.br_model.proofs.laws.bpdu_at_a_chip_port.Goals as goal
+
+pub returns : goal.returns
+returns c = bpdu_at_a_chip_port

@@ -1,0 +1,5 @@
+use Rattle.br_model.proofs.TreeKept.{messages-sent}
+use Rattle.br_model.proofs.tree_laws.messages_went_out.Goals as goal
+
+pub returns : goal.returns
+returns c = messages-sent

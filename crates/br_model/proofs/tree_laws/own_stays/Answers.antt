@@ -1,0 +1,5 @@
+use Rattle.br_model.proofs.TreeKept.{own-kept}
+use Rattle.br_model.proofs.tree_laws.own_stays.Goals as goal
+
+pub returns : goal.returns
+returns c = own-kept
