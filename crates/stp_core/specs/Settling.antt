@@ -8,6 +8,8 @@ use Rattle.std.specs.Option.{option_map_or}
 use Rattle.std.specs.Ordering.{nat_cmp}
 use Rattle.br_model.specs.Maps.{get}
 use Rattle.br_model.specs.Table.{disabled}
+use Rattle.br_model.specs.declared.tree.TreeEvent.{TreeEvent}
+use Rattle.br_model.specs.declared.tree.TreeEvent.TheVariants.{PortPriority, Priority}
 use Rattle.br_model.specs.declared.tree.TreePort.{TreePort}
 use Rattle.br_model.specs.Tree.{Tree, state_at, numbers, at_port}
 use Rattle.br_model.specs.TreeVectors.{is_root, roles}
@@ -44,6 +46,11 @@ follows_by b now t = if t.on then settled_by false b now t else quiet t
 abbrev pub ranked : Tree → Option ℕ → ℕ → Tree
 ranked t None n = record t { priority = n }
 ranked t (Some p) n = record t { ports = at_port p (λ x. record x { priority = n }) t.ports }
+
+-- that event
+abbrev pub ranking : Option ℕ → ℕ → TreeEvent
+ranking None n = Priority n
+ranking (Some p) n = PortPriority p n
 
 -- the state of a port among these
 abbrev pub state_in : List (ℕ × TreePort) → ℕ → ℕ

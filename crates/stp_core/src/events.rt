@@ -1,12 +1,13 @@
 //! The events of the tree, as the control plane tells them.
 ghost use Rattle.std.specs.Prelude.{◌≡◌, ◌/◌, ◌%◌, ◌==◌, ◌<◌, ◌≤◌, ◌^◌, [], ◌∷◌, Some, None, true, IsSome, if◌then◌else◌};
 ghost use Rattle.br_model.specs.Tree.{fresh, bpdu_of};
-ghost use Rattle.br_model.specs.TreeStep.{switched, port_up, port_down, settled, with_kept, passed_on, cost_set, priority_set, config_received, tcn_received, received_at, received, message};
+ghost use Rattle.br_model.specs.declared.tree.TreeEvent.TheVariants.{Switch, Up, Down, Message, Cost};
+ghost use Rattle.br_model.specs.TreeStep.{settled, with_kept, passed_on, config_received, tcn_received, received_at, tree_step, message};
 ghost use Rattle.br_model.specs.TreeStates.{blocking};
 ghost use Rattle.br_model.specs.Admission.{forwarding};
 ghost use Rattle.stp_core.specs.Acting.{acted};
 ghost use Rattle.stp_core.specs.Places.{entries_at};
-ghost use Rattle.stp_core.specs.Settling.{moved_from, follows_by, ranked};
+ghost use Rattle.stp_core.specs.Settling.{moved_from, follows_by, ranked, ranking};
 
 use crate::messages::Sent;
 use crate::parameters::Parameters;
@@ -82,9 +83,10 @@ impl Parameters {
         }
     }
 
+    #[tactic(auto, unfolding(br_model::specs::TreeStep::tree_step))]
     pub(crate) fn turn(&mut self, on: bool, now: u64) -> Sent
         requires { now < 2 ^ 53 }
-        ensures { acted self.new result ≡ switched self.old now on }
+        ensures { acted self.new result ≡ tree_step self.old now (Switch on) }
     {
         let mut sent = nothing_sent();
         if on {
@@ -196,10 +198,11 @@ impl Parameters {
         }
     }
 
+    #[tactic(auto, unfolding(br_model::specs::TreeStep::tree_step))]
     pub(crate) fn receive(&mut self, p: u8, m: &BpduMsg, now: u64) -> Sent
         requires early { now < 2 ^ 53 }
         requires port { p < 64 }
-        ensures { acted self.new result ≡ received self.old now p m.now }
+        ensures { acted self.new result ≡ tree_step self.old now (Message p m.now) }
     {
         match self.port(p) {
             Some(x) => self.receive_at(p, &x, m, now),
@@ -207,11 +210,11 @@ impl Parameters {
         }
     }
 
-    #[tactic(auto, using(crate::proofs::Settlements::follows_is))]
+    #[tactic(auto, using(crate::proofs::Settlements::follows_is), unfolding(br_model::specs::TreeStep::tree_step))]
     pub(crate) fn bring_up(&mut self, p: u8, now: u64) -> Sent
         requires early { now < 2 ^ 53 }
         requires port { p < 64 }
-        ensures { acted self.new result ≡ port_up self.old now p }
+        ensures { acted self.new result ≡ tree_step self.old now (Up p) }
     {
         let before = self.before();
         let state = first_state(self.on);
@@ -219,22 +222,22 @@ impl Parameters {
         self.follow(before, now)
     }
 
-    #[tactic(auto, using(crate::proofs::Settlements::follows_is))]
+    #[tactic(auto, using(crate::proofs::Settlements::follows_is), unfolding(br_model::specs::TreeStep::tree_step))]
     pub(crate) fn take_down(&mut self, p: u8, now: u64) -> Sent
         requires early { now < 2 ^ 53 }
         requires port { p < 64 }
-        ensures { acted self.new result ≡ port_down self.old now p }
+        ensures { acted self.new result ≡ tree_step self.old now (Down p) }
     {
         let before = self.before();
         take_port(&mut self.places, p);
         self.follow(before, now)
     }
 
-    #[tactic(auto, using(crate::proofs::Settlements::follows_is))]
+    #[tactic(auto, using(crate::proofs::Settlements::follows_is), unfolding(br_model::specs::TreeStep::tree_step))]
     pub(crate) fn set_cost_at(&mut self, p: u8, n: u16, now: u64) -> Sent
         requires early { now < 2 ^ 53 }
         requires port { p < 64 }
-        ensures { acted self.new result ≡ cost_set self.old now p n }
+        ensures { acted self.new result ≡ tree_step self.old now (Cost p n) }
     {
         let before = self.before();
         change_at(&Costing { cost: n }, p, &mut self.places);
@@ -258,7 +261,7 @@ impl Parameters {
     pub(crate) fn set_priority_at(&mut self, p: Option<Port>, n: u16, now: u64) -> Sent
         requires early { now < 2 ^ 53 }
         requires small { IsSome p → n ≤ 255 }
-        ensures { acted self.new result ≡ priority_set self.old now p n }
+        ensures { acted self.new result ≡ tree_step self.old now (ranking p n) }
     {
         let before = self.before();
         self.rank(p, n);

@@ -52,6 +52,20 @@ impl Parameters {
         }
     }
 
+    pub(crate) fn copy(&self) -> Parameters
+        ensures { result ≡ self.now }
+    {
+        Parameters {
+            own: self.own,
+            priority: self.priority,
+            on: self.on,
+            places: self.places,
+            change_end: self.change_end,
+            notified: self.notified,
+            hello: self.hello,
+        }
+    }
+
     /// What is kept of the ports.
     pub(crate) fn places(&self) -> Places
         ensures { entries_at 0 result ≡ self.now.ports }

@@ -3,6 +3,7 @@ ghost use Rattle.std.specs.Prelude.{◌<◌, ◌^◌};
 use crate::{Tree, TreeOut};
 use br_model::bpdu::BpduMsg;
 use br_model::numbers::{Mac, Port};
+use br_model::tree::TreeEvent;
 use port_sets::Ports;
 use std::process::Abort;
 use std::test::Fail;
@@ -49,25 +50,29 @@ fn port(rt: &impl Abort, number: u8) -> Port {
     Port::new(number).expect(rt, "a port")
 }
 
+fn event_of(rt: &impl Abort, event: Event) -> TreeEvent {
+    match event {
+        Event::On(on) => TreeEvent::Switch(on),
+        Event::Up(p) => TreeEvent::Up(port(rt, p)),
+        Event::Down(p) => TreeEvent::Down(port(rt, p)),
+        Event::Says(p, root, cost, sender, sent_by) => {
+            TreeEvent::Message(port(rt, p), says(0, root, cost, sender, sent_by))
+        }
+        Event::SaysRoot(p, flags, root, sent_by) => {
+            TreeEvent::Message(port(rt, p), says(flags, root, 0, root, sent_by))
+        }
+        Event::Notifies(p) => TreeEvent::Message(port(rt, p), BpduMsg::Tcn),
+        Event::Now => TreeEvent::Moment,
+        Event::Cost(p, n) => TreeEvent::Cost(port(rt, p), n),
+        Event::Priority(n) => TreeEvent::Priority(n),
+        Event::PortPriority(p, n) => TreeEvent::PortPriority(port(rt, p), n),
+    }
+}
+
 fn apply(rt: &impl Abort, tree: &mut Tree, now: u64, event: Event) -> TreeOut
     requires { now < 2 ^ 53 }
 {
-    match event {
-        Event::On(on) => tree.switch(on, now),
-        Event::Up(p) => tree.port_up(port(rt, p), now),
-        Event::Down(p) => tree.port_down(port(rt, p), now),
-        Event::Says(p, root, cost, sender, sent_by) => {
-            tree.bpdu(port(rt, p), &says(0, root, cost, sender, sent_by), now)
-        }
-        Event::SaysRoot(p, flags, root, sent_by) => {
-            tree.bpdu(port(rt, p), &says(flags, root, 0, root, sent_by), now)
-        }
-        Event::Notifies(p) => tree.bpdu(port(rt, p), &BpduMsg::Tcn, now),
-        Event::Now => tree.tick(now),
-        Event::Cost(p, n) => tree.set_cost(port(rt, p), n, now),
-        Event::Priority(n) => tree.set_priority(None, n, now),
-        Event::PortPriority(p, n) => tree.set_priority(Some(port(rt, p)), u16::from(n), now),
-    }
+    tree.act(&event_of(rt, event), now)
 }
 
 fn assert_ports(rt: &impl Abort, ports: Ports, wanted: &[u8], at: usize) {
@@ -88,7 +93,7 @@ fn assert_rows(rt: &impl Abort, tree: &mut Tree, rows: &[Row]) {
         assert_ports(rt, out.config, config, at);
         assert_eq!(rt; out.tcn.map(|p| p.number()), *tcn, "row {at}");
         if let Event::Now = event {
-            assert!(rt; now < tree.due, "row {at}");
+            assert!(rt; tree.is_idle(now), "row {at}");
         }
         at = at.wrapping_add(1);
     }
@@ -118,6 +123,8 @@ fn ports_of_one_root(rt: HostRuntime) {
         (15_000, Event::Now, &[2], &[], None),
         (20_000, Event::Now, &[1], &[1, 2], None),
     ];
+    let mut copy = tree.copy();
+    assert_rows(&rt, &mut copy, &rows);
     assert_rows(&rt, &mut tree, &rows);
     assert_eq!(rt; tree.last_message(port(&rt, 2)), Some(says(1, 1, 0, 1, 2)));
 }

@@ -1,13 +1,18 @@
 //! The spanning tree, as the control plane tells it events and reads it.
-ghost use Rattle.std.specs.Prelude.{◌≡◌, ◌<◌, ◌≤◌, ◌^◌, Some, IsSome};
+ghost use Rattle.std.specs.Prelude.{◌≡◌, ◌<◌, ◌≤◌, ◌^◌, true, Some, IsSome, IsTrue};
 ghost use Rattle.br_model.specs.Tree.{first_tree, state_at};
 ghost use Rattle.br_model.specs.TreeTimers.{hold};
-ghost use Rattle.br_model.specs.TreeStep.{Switch, Up, Down, Message, Moment, Cost, Priority, tree_step, message};
-ghost use Rattle.stp_core.specs.Settling.{out_of};
+ghost use Rattle.br_model.specs.TreeSending.{quiet};
+ghost use Rattle.br_model.specs.declared.tree.TreeEvent.TheVariants.{Switch, Up, Down, Message, Moment, Cost};
+ghost use Rattle.br_model.specs.TreeStep.{tree_step, message};
+ghost use Rattle.br_model.specs.TreeLaws.{HaveSent, knows_states};
+ghost use Rattle.stp_core.specs.Settling.{ranking, out_of};
 
 use crate::parameters::Parameters;
 use br_model::bpdu::BpduMsg;
 use br_model::numbers::{Mac, Port};
+use br_model::tree::TreeEvent;
+use br_model::tree_laws::{known_states, messages_went_out};
 use port_sets::Ports;
 use std::marker::Model;
 
@@ -16,18 +21,20 @@ use std::marker::Model;
 pub struct Tree {
     parameters: Parameters,
     /// The first moment at which something is due.
-    pub(crate) due: u64,
+    due: u64,
 }
 
 impl Model for Tree {
+    ghost use Rattle.std.specs.Prelude.{◌≡◌, true};
     ghost use Rattle.br_model.specs.Tree as tree;
+    ghost use Rattle.br_model.specs.TreeLaws.{knows_states};
     ghost use Rattle.stp_core.specs.Due.{IsFirst, is_any_due};
 
     ghost Value = { tree.Tree };
 
     ghost view = { λ t. t.parameters };
 
-    ghost invariant = { λ t. IsFirst t.due (is_any_due t.parameters) };
+    ghost invariant = { λ t. record { due : IsFirst t.due (is_any_due t.parameters); known : knows_states t.parameters ≡ true } };
 }
 
 /// What an event does besides changing the tree.
@@ -51,14 +58,47 @@ impl Tree {
         Tree { parameters, due }
     }
 
+    /// Another tree that keeps the same.
+    pub fn copy(&self) -> Tree
+        ensures { result ≡ self.now }
+    {
+        Tree {
+            parameters: self.parameters.copy(),
+            due: self.due,
+        }
+    }
+
+    /// The event happens at this moment, in milliseconds: that of the calls from `switch` to `set_priority` that it names.
+    pub fn act(&mut self, event: &TreeEvent, now: u64) -> TreeOut
+        requires { now < 2 ^ 53 }
+        ensures tree { self.new ≡ (tree_step self.old now event.now).tree }
+        ensures out { result ≡ out_of self.old (tree_step self.old now event.now) }
+        ensures spoken { HaveSent self.new result.config }
+        ensures known { knows_states self.new ≡ true }
+    {
+        self.states_are_known();
+        known_states();
+        messages_went_out();
+        match event {
+            TreeEvent::Switch(on) => self.switch(*on, now),
+            TreeEvent::Up(p) => self.port_up(*p, now),
+            TreeEvent::Down(p) => self.port_down(*p, now),
+            TreeEvent::Message(p, m) => self.bpdu(*p, m, now),
+            TreeEvent::Moment => self.tick(now),
+            TreeEvent::Cost(p, n) => self.set_cost(*p, *n, now),
+            TreeEvent::PortPriority(p, n) => self.set_priority(Some(*p), u16::from(*n), now),
+            TreeEvent::Priority(n) => self.set_priority(None, *n, now),
+        }
+    }
+
     /// The spanning tree is switched on or off (IEEE 802.1D-1998 section 8.8.1). `now` is the moment in milliseconds, here
     /// and below.
-    #[tactic(auto, unfolding(br_model::specs::TreeStep::tree_step))]
     pub fn switch(&mut self, on: bool, now: u64) -> TreeOut
         requires { now < 2 ^ 53 }
         ensures tree { self.new ≡ (tree_step self.old now (Switch on)).tree }
         ensures out { result ≡ out_of self.old (tree_step self.old now (Switch on)) }
     {
+        known_states();
         let before = self.parameters.places();
         let sent = self.parameters.turn(on, now);
         self.due = self.parameters.due();
@@ -66,12 +106,12 @@ impl Tree {
     }
 
     /// A port comes up (section 8.8.2).
-    #[tactic(auto, unfolding(br_model::specs::TreeStep::tree_step))]
     pub fn port_up(&mut self, p: Port, now: u64) -> TreeOut
         requires { now < 2 ^ 53 }
         ensures tree { self.new ≡ (tree_step self.old now (Up p)).tree }
         ensures out { result ≡ out_of self.old (tree_step self.old now (Up p)) }
     {
+        known_states();
         let before = self.parameters.places();
         let sent = self.parameters.bring_up(p.number(), now);
         self.due = self.parameters.due();
@@ -79,12 +119,12 @@ impl Tree {
     }
 
     /// A port goes down (section 8.8.3).
-    #[tactic(auto, unfolding(br_model::specs::TreeStep::tree_step))]
     pub fn port_down(&mut self, p: Port, now: u64) -> TreeOut
         requires { now < 2 ^ 53 }
         ensures tree { self.new ≡ (tree_step self.old now (Down p)).tree }
         ensures out { result ≡ out_of self.old (tree_step self.old now (Down p)) }
     {
+        known_states();
         let before = self.parameters.places();
         let sent = self.parameters.take_down(p.number(), now);
         self.due = self.parameters.due();
@@ -93,16 +133,23 @@ impl Tree {
 
     /// A message comes at a port, in whatever state it is (sections 8.7.1 and 8.7.2). At a port that isn't up it does
     /// nothing. A tree that is off is to be told of none: it would answer like one that is on.
-    #[tactic(auto, unfolding(br_model::specs::TreeStep::tree_step))]
     pub fn bpdu(&mut self, p: Port, m: &BpduMsg, now: u64) -> TreeOut
         requires { now < 2 ^ 53 }
         ensures tree { self.new ≡ (tree_step self.old now (Message p m.now)).tree }
         ensures out { result ≡ out_of self.old (tree_step self.old now (Message p m.now)) }
     {
+        known_states();
         let before = self.parameters.places();
         let sent = self.parameters.receive(p.number(), m, now);
         self.due = self.parameters.due();
         self.parameters.out(&before, sent)
+    }
+
+    /// Whether nothing is due: then the moment, if it is told, changes nothing, and nothing goes out.
+    pub fn is_idle(&self, now: u64) -> bool
+        ensures { IsTrue result → tree_step self.now now Moment ≡ quiet self.now }
+    {
+        now < self.due
     }
 
     /// The moment is told: what is due happens, each timer at most once. Where nothing is due it costs a comparison.
@@ -111,7 +158,7 @@ impl Tree {
         ensures tree { self.new ≡ (tree_step self.old now Moment).tree }
         ensures out { result ≡ out_of self.old (tree_step self.old now Moment) }
     {
-        if now < self.due {
+        if self.is_idle(now) {
             return TreeOut {
                 moved: Ports::empty(),
                 config: Ports::empty(),
@@ -121,12 +168,12 @@ impl Tree {
         self.pass(now)
     }
 
-    #[tactic(auto, unfolding(br_model::specs::TreeStep::tree_step))]
     fn pass(&mut self, now: u64) -> TreeOut
         requires { now < 2 ^ 53 }
         ensures tree { self.new ≡ (tree_step self.old now Moment).tree }
         ensures out { result ≡ out_of self.old (tree_step self.old now Moment) }
     {
+        known_states();
         let before = self.parameters.places();
         let sent = self.parameters.pass_moment(now);
         self.due = self.parameters.due();
@@ -134,12 +181,12 @@ impl Tree {
     }
 
     /// The cost of a port's path is set (section 8.8.6).
-    #[tactic(auto, unfolding(br_model::specs::TreeStep::tree_step))]
     pub fn set_cost(&mut self, p: Port, n: u16, now: u64) -> TreeOut
         requires { now < 2 ^ 53 }
         ensures tree { self.new ≡ (tree_step self.old now (Cost p n)).tree }
         ensures out { result ≡ out_of self.old (tree_step self.old now (Cost p n)) }
     {
+        known_states();
         let before = self.parameters.places();
         let sent = self.parameters.set_cost_at(p.number(), n, now);
         self.due = self.parameters.due();
@@ -147,13 +194,13 @@ impl Tree {
     }
 
     /// The priority of a port, or with none that of the bridge, is set (sections 8.8.5 and 8.8.4).
-    #[tactic(auto, unfolding(br_model::specs::TreeStep::tree_step))]
     pub fn set_priority(&mut self, p: Option<Port>, n: u16, now: u64) -> TreeOut
         requires early { now < 2 ^ 53 }
         requires small { IsSome p → n ≤ 255 }
-        ensures tree { self.new ≡ (tree_step self.old now (Priority p n)).tree }
-        ensures out { result ≡ out_of self.old (tree_step self.old now (Priority p n)) }
+        ensures tree { self.new ≡ (tree_step self.old now (ranking p n)).tree }
+        ensures out { result ≡ out_of self.old (tree_step self.old now (ranking p n)) }
     {
+        known_states();
         let before = self.parameters.places();
         let sent = self.parameters.set_priority_at(p, n, now);
         self.due = self.parameters.due();
@@ -162,9 +209,18 @@ impl Tree {
 
     /// The state of the port, by Linux's number.
     pub fn state(&self, p: Port) -> u8
-        ensures { result ≡ state_at self.now p }
+        ensures value { result ≡ state_at self.now p }
+        ensures below { result ≤ 4 }
     {
+        known_states();
         self.parameters.state(p)
+    }
+
+    /// A law, whose body does nothing: each port is in a state that Linux numbers.
+    pub fn states_are_known(&self)
+        ensures { knows_states self.now ≡ true }
+    {
+        let _parameters = &self.parameters;
     }
 
     /// While a topology change is on, the time in milliseconds after which learned addresses age.
@@ -185,7 +241,8 @@ impl Tree {
         }
     }
 
-    pub(crate) fn last_message(&self, p: Port) -> Option<BpduMsg>
+    /// The same, where one went out.
+    pub fn last_message(&self, p: Port) -> Option<BpduMsg>
         ensures { result ≡ message self.now p }
     {
         self.parameters.last_message(p)
