@@ -150,7 +150,7 @@ impl Fdb {
         Ok(Keys::of(keys))
     }
 
-    /// The least moment of a learned entry. It looks at each cell.
+    /// The least moment of a learned entry. It looks at each entry.
     pub fn oldest(&self) -> Option<u64>
         ensures value { result ≡ oldest self.now.entries }
         ensures first { (moment : ℕ) → ((m : ℕ) → result ≡ Some m → moment ≤ m) → IsTrue (all_from moment self.now.entries) }

@@ -1,15 +1,16 @@
 -- The least number of cells is that of their entries, whatever their order.
-use Rattle.std.proofs.Common.{◌≡◌, ◌≢◌, ℕ, zero, suc, ◌+◌, ◌<◌, min, cond, Option, None, Some, List, [], ◌∷◌, length, get_or, take, refl, sym, ap, ◌∙◌, arith}
+use Rattle.std.proofs.Common.{◌≡◌, ◌≢◌, ℕ, zero, suc, ◌+◌, ◌<◌, ◌≤◌, cond, Option, None, Some, List, [], ◌∷◌, length, get_or, take, refl, sym, ap, ◌∙◌, arith}
+use Rattle.std.proofs.Math.Seq.{take-length}
 use Rattle.std.proofs.lemmas.List.{get_or_default}
 use Rattle.std.specs.Ordering.{is_eq, nat_cmp}
 use Rattle.std.specs.declared.cmp.Ordering.TheVariants.{Less, Equal, Greater}
 use Rattle.std.specs.FinMap.Entries.{find, put, by_order}
-use Rattle.open_addressing.specs.Zipped.{key_of, cell_of, cells_of}
+use Rattle.open_addressing.specs.Zipped.{key_of, cell_of, cells_of, AreFree}
 use Rattle.open_addressing.specs.Lookups.{IsApart}
 use Rattle.open_addressing.specs.Finite.{entries_of}
 use Rattle.open_addressing.specs.Least.{smaller, least, number_with, number_if, least_in}
 use Rattle.open_addressing.proofs.Entries.{apart-tail, alone}
-use Rattle.open_addressing.proofs.Zipped.{within-keys, cell_is, key_is}
+use Rattle.open_addressing.proofs.Zipped.{within-keys, cell_is, key_is, past_free}
 
 smaller-none : (a : Option ℕ) → smaller a None ≡ a
 smaller-none None = refl
@@ -29,12 +30,24 @@ smaller-swap (Some a) (Some b) (Some c) = ap Some (omega arith)
 
 module _ {V : Type 0} (f : V → Option ℕ) where
   -- one cell more
-  pub least_in-next : (cs : List (Option (ℕ × V))) (i : ℕ) → i < length cs → least_in f (take (i + 1) cs) ≡ smaller (least_in f (take i cs)) (number_if f (get_or cs i None))
+  least_in-next : (cs : List (Option (ℕ × V))) (i : ℕ) → i < length cs → least_in f (take (i + 1) cs) ≡ smaller (least_in f (take i cs)) (number_if f (get_or cs i None))
   least_in-next [] i h = absurd (omega arith)
   least_in-next (c ∷ cs) zero h = smaller-none (number_if f c)
   least_in-next (c ∷ cs) (suc i) h =
       ap (λ n. least_in f (take n (c ∷ cs))) (let e : suc i + 1 ≡ suc (i + 1) = omega arith in e)
       ∙ ap (smaller (number_if f c)) (least_in-next cs i (omega arith)) ∙ smaller-assoc (number_if f c) (least_in f (take i cs)) (number_if f (get_or cs i None))
+
+  -- the least up to the next cell that may hold a key, and with it
+  pub least_in-past : (cs : List (Option (ℕ × V))) (start i : ℕ) → start ≤ i → i < length cs → AreFree cs start i
+      → least_in f (take (i + 1) cs) ≡ smaller (least_in f (take start cs)) (number_if f (get_or cs i None))
+  least_in-past cs start i h within free =
+      least_in-next cs i within
+      ∙ ap (λ n. smaller n (number_if f (get_or cs i None))) (past_free (least_in f) (λ c n. smaller (number_if f c) n) (λ c cs. refl) (λ n. refl) cs start i h free)
+
+  -- and where none is left
+  pub least_in-end : (cs : List (Option (ℕ × V))) (start : ℕ) → start ≤ length cs → AreFree cs start (length cs) → least_in f (take start cs) ≡ least_in f cs
+  least_in-end cs start h free =
+      sym (past_free (least_in f) (λ c n. smaller (number_if f c) n) (λ c cs. refl) (λ n. refl) cs start (length cs) h free) ∙ ap (least_in f) (take-length cs)
 
   least-put : (k : ℕ) (v : V) (es : List (ℕ × V)) → find nat_cmp k es ≡ None → least f (put nat_cmp k v es) ≡ smaller (f v) (least f es)
   least-put k v [] none = refl

@@ -8,3 +8,4 @@ pub mod Lookups
 pub mod Tables
 pub mod Pairs
 pub mod Roomy
+pub mod MarkedCells

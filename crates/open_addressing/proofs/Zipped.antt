@@ -1,13 +1,17 @@
 -- Columns as cells.
-use Rattle.std.proofs.Common.{◌≡◌, ◌≢◌, ℕ, zero, suc, ◌<◌, Bool, true, false, cond, min, Option, None, Some, List, [], ◌∷◌, ◌++◌, ◌+◌, take, filter_map, length, replicate, get_or, set, refl, sym, ap, ◌∙◌, arith}
+use Rattle.std.proofs.Common.{◌≡◌, ◌≢◌, ℕ, zero, suc, ◌<◌, ◌≤◌, Bool, true, false, cond, min, Option, None, Some, List, [], ◌∷◌, ◌++◌, ◌+◌, take, filter_map, length, replicate, get_or, set, refl, sym, ap, subst, ◌∙◌, arith}
 use Rattle.std.specs.List.{cons_option}
-use Rattle.std.proofs.Math.Seq.{take-suc}
+use Rattle.std.proofs.Math.Seq.{take-suc, take-length}
 use Rattle.std.proofs.lemmas.List.{get_or_default}
 use Rattle.std.proofs.lemmas.List.Elements.{filter_map-append}
-use Rattle.open_addressing.specs.Zipped.{cell_of, cells_of, key_of, value_of}
+use Rattle.open_addressing.specs.Zipped.{cell_of, cells_of, key_of, value_of, AreFree}
 use Rattle.open_addressing.specs.Finite.{key_with, key_if}
 
 module _ {V : Type 0} where
+  -- of the same cells
+  pub within-same : {cs ds : List (Option (ℕ × V))} {i : ℕ} → cs ≡ ds → i < length ds → i < length cs
+  within-same {i = i} same h = subst (λ (cs : List (Option (ℕ × V))). i < length cs) (sym same) h
+
   pub within-keys : (ks : List ℕ) (vs : List V) (i : ℕ) → i < length (cells_of ks vs) → i < length ks
   within-keys [] vs i h = absurd (omega arith)
   within-keys (k ∷ ks) [] i h = absurd (omega arith)
@@ -25,6 +29,12 @@ module _ {V : Type 0} where
   cell_is (k ∷ ks) [] i d h = absurd (omega arith)
   cell_is (k ∷ ks) (v ∷ vs) zero d h = refl
   cell_is (k ∷ ks) (v ∷ vs) (suc i) d h = cell_is ks vs i d (omega arith)
+
+  pub cell_free : (ks : List ℕ) (vs : List V) (i : ℕ) → get_or ks i 0 ≡ 0 → get_or (cells_of ks vs) i None ≡ None
+  cell_free [] vs i none = refl
+  cell_free (k ∷ ks) [] i none = refl
+  cell_free (k ∷ ks) (v ∷ vs) zero none = ap (λ k. cell_of k v) none
+  cell_free (k ∷ ks) (v ∷ vs) (suc i) none = cell_free ks vs i none
 
   pub key_is : (ks : List ℕ) (vs : List V) (i : ℕ) → i < length (cells_of ks vs) → key_of (get_or (cells_of ks vs) i None) ≡ get_or ks i 0
   key_is [] vs i h = absurd (omega arith)
@@ -119,3 +129,31 @@ pub filter_map-next : {X Y : Type 0} (h : X → Option Y) (xs : List X) (i : ℕ
 filter_map-next h xs i d within =
     let next : i + 1 ≡ suc i = omega arith in
     ap (λ n. filter_map h (take n xs)) next ∙ ap (filter_map h) (take-suc xs i d within) ∙ filter_map-append h (take i xs) (get_or xs i d ∷ [])
+
+-- what goes over cells, and passes by those that hold none, passes by a stretch of them
+module _ {V R : Type 0} (over : List (Option (ℕ × V)) → R) (step : Option (ℕ × V) → R → R)
+    (steps : (c : Option (ℕ × V)) (cs : List (Option (ℕ × V))) → over (c ∷ cs) ≡ step c (over cs)) (by : (r : R) → step None r ≡ r) where
+  pub past_free : (cs : List (Option (ℕ × V))) (start end : ℕ) → start ≤ end → AreFree cs start end → over (take end cs) ≡ over (take start cs)
+  past_free [] zero zero h free = refl
+  past_free [] zero (suc end) h free = refl
+  past_free [] (suc start) zero h free = refl
+  past_free [] (suc start) (suc end) h free = refl
+  past_free (c ∷ cs) zero zero h free = refl
+  past_free (c ∷ cs) zero (suc end) h free =
+      steps c (take end cs) ∙ ap (λ (c : Option (ℕ × V)). step c (over (take end cs))) (free 0 (omega arith) (omega arith)) ∙ by (over (take end cs))
+      ∙ past_free cs 0 end (omega arith) (λ j from to. free (suc j) (omega arith) (omega arith))
+  past_free (c ∷ cs) (suc start) zero h free = absurd (omega arith)
+  past_free (c ∷ cs) (suc start) (suc end) h free =
+      steps c (take end cs) ∙ ap (step c) (past_free cs start end (omega arith) (λ j from to. free (suc j) (omega arith) (omega arith))) ∙ sym (steps c (take start cs))
+
+-- the keys up to the next cell that may hold one, and with it
+pub keys-next : {V : Type 0} (p : V → Bool) (cs : List (Option (ℕ × V))) (start i : ℕ) → start ≤ i → i < length cs → AreFree cs start i
+    → filter_map (key_if p) (take (i + 1) cs) ≡ filter_map (key_if p) (take start cs) ++ cons_option (key_if p (get_or cs i None)) []
+keys-next p cs start i h within free =
+    filter_map-next (key_if p) cs i None within
+    ∙ ap (λ ks. ks ++ cons_option (key_if p (get_or cs i None)) []) (past_free (filter_map (key_if p)) (λ c ks. cons_option (key_if p c) ks) (λ c cs. refl) (λ ks. refl) cs start i h free)
+
+-- and where none is left
+pub keys-end : {V : Type 0} (p : V → Bool) (cs : List (Option (ℕ × V))) (start : ℕ) → start ≤ length cs → AreFree cs start (length cs) → filter_map (key_if p) (take start cs) ≡ filter_map (key_if p) cs
+keys-end p cs start h free =
+    sym (past_free (filter_map (key_if p)) (λ c ks. cons_option (key_if p c) ks) (λ c cs. refl) (λ ks. refl) cs start (length cs) h free) ∙ ap (filter_map (key_if p)) (take-length cs)

@@ -5,3 +5,4 @@ pub mod Lookups
 pub mod Least
 pub mod Pairs
 pub mod Hashes
+pub mod MarkedCells

@@ -1,20 +1,37 @@
 //! Keys in an array of their own, and values beside them.
-ghost use Rattle.std.specs.Prelude.{◌≡◌, ◌≢◌, ℕ, ◌<◌, IfOk, List, Option, None, Some, length, replicate, filter_map, slice_index_or, slice_set, refl};
-ghost use Rattle.open_addressing.specs.Zipped.{key_of, value_of, cell_of, cells_of};
+ghost use Rattle.std.specs.Prelude.{◌≡◌, ◌≢◌, ℕ, ◌+◌, ◌^◌, ◌<◌, ◌≤◌, IfOk, IfSome, List, Option, None, Some, length, replicate, filter_map, slice_index_or, slice_set, refl};
+ghost use Rattle.open_addressing.specs.Zipped.{key_of, value_of, cell_of, AreFree};
 ghost use Rattle.open_addressing.specs.Circle.{mix};
 ghost use Rattle.open_addressing.specs.Finite.{key_if};
 ghost use Rattle.open_addressing.specs.Hashes.{mix-lt};
 ghost use Rattle.open_addressing.specs.Least.{smaller, number_if, least_in};
 
 use crate::map::{Measure, Test};
+use crate::marks::Marks;
 use crate::{Cells, mixed};
 use std::alloc::{AllocError, Global};
+use std::marker::Model;
 
-/// A column of keys, 0 where there is none, and a column of values.
+/// A column of keys, 0 where there is none, and a column of values. Each cell with a key has a mark.
+///
+/// Contracts see the cells.
 #[derive(Drop, Debug)]
 pub struct Columns<V> {
     keys: Vec<u64>,
     values: Vec<V>,
+    marks: Marks,
+}
+
+impl<V> Model for Columns<V> {
+    ghost use Rattle.std.specs.Prelude.{ℕ, List, Option};
+    ghost use Rattle.open_addressing.specs.Zipped.{cells_of};
+    ghost use Rattle.open_addressing.specs.MarkedCells.{AreMarked};
+
+    ghost Value = { List (Option (ℕ × V)) };
+
+    ghost view = { λ s. cells_of s.keys.items s.values.items };
+
+    ghost invariant = { λ s. AreMarked s.keys.items s.marks.words.items };
 }
 
 impl<V: Copy> Cells<u64, V> for Columns<V> {
@@ -22,7 +39,7 @@ impl<V: Copy> Cells<u64, V> for Columns<V> {
 
     ghost hash = { mix };
 
-    ghost cells = { λ s. cells_of s.keys.items s.values.items };
+    ghost cells = { λ s. s };
 
     fn is_free(&self, i: usize) -> bool {
         self.keys[i] == 0
@@ -47,6 +64,7 @@ impl<V: Copy> Cells<u64, V> for Columns<V> {
     fn put(&mut self, i: usize, key: &u64, value: V) {
         self.keys[i] = *key;
         self.values[i] = value;
+        self.marks.set(i);
     }
 
     fn move_cell(&mut self, from: usize, to: usize) {
@@ -54,10 +72,13 @@ impl<V: Copy> Cells<u64, V> for Columns<V> {
         self.keys[from] = 0;
         self.keys[to] = key;
         self.values[to] = self.values[from];
+        self.marks.unset(from);
+        self.marks.set(to);
     }
 
     fn clear(&mut self, i: usize) {
         self.keys[i] = 0;
+        self.marks.unset(i);
     }
 
     ghost hashes = { mix-lt };
@@ -66,24 +87,41 @@ impl<V: Copy> Cells<u64, V> for Columns<V> {
 impl<V: Copy> Columns<V> {
     /// Columns of empty cells.
     pub fn make(alloc: Global, count: usize, blank: V) -> Result<Columns<V>, AllocError>
-        ensures { IfOk result (λ s. cells_of s.keys.items s.values.items ≡ replicate count None) }
+        ensures { IfOk result (λ s. s ≡ replicate count None) }
     {
         let keys = vec![in alloc; 0; count]?;
         let values = vec![in alloc; blank; count]?;
-        Ok(Columns { keys, values })
+        let marks = Marks::make(alloc, count)?;
+        Ok(Columns {
+            keys,
+            values,
+            marks,
+        })
     }
 
     /// How many cells there are.
     fn count(&self) -> usize
-        ensures { result ≡ length (cells_of self.now.keys.items self.now.values.items) }
+        ensures { result ≡ length self.now }
     {
         self.keys.len().min(self.values.len())
     }
 
+    /// The first cell from this one on that may hold a key.
+    fn next(&self, from: usize) -> Option<usize>
+        ensures from { IfSome result (λ i. from ≤ i) }
+        ensures within { IfSome result (λ i. i < length self.now) }
+        ensures few { IfSome result (λ i. i + 1 < 2 ^ 64) }
+        ensures some { IfSome result (AreFree self.now from) }
+        ensures none { result ≡ None → AreFree self.now from (length self.now) }
+    {
+        let i = self.marks.next(from)?;
+        if i < self.count() { Some(i) } else { None }
+    }
+
     /// The key in a cell, if its value passes the test.
     fn key_if<T: Test<V>>(&self, i: usize, test: &T) -> Option<u64>
-        requires { i < length (cells_of self.now.keys.items self.now.values.items) }
-        ensures { result ≡ key_if (T.passes test.now) (slice_index_or (cells_of self.now.keys.items self.now.values.items) i None) }
+        requires { i < length self.now }
+        ensures { result ≡ key_if (T.passes test.now) (slice_index_or self.now i None) }
     {
         let key = self.keys[i];
         if key == 0 {
@@ -98,21 +136,23 @@ impl<V: Copy> Columns<V> {
 
     /// The keys whose values pass the test, in the order of their cells.
     pub fn keys_where<T: Test<V>>(&self, alloc: Global, test: &T) -> Result<Vec<u64>, AllocError>
-        ensures { IfOk result (λ v. v.items ≡ filter_map (key_if (T.passes test.now)) (cells_of self.now.keys.items self.now.values.items)) }
+        ensures { IfOk result (λ v. v.items ≡ filter_map (key_if (T.passes test.now)) self.now) }
     {
         let mut keys = Vec::new(alloc);
-        for i in 0..self.count() {
+        let mut from = 0;
+        while let Some(i) = self.next(from) {
             if let Some(key) = self.key_if(i, test) {
                 keys.push(key)?;
             }
+            from = i + 1;
         }
         Ok(keys)
     }
 
     /// What the value in a cell that holds a key measures.
     fn number_if<M: Measure<V>>(&self, i: usize, measure: &M) -> Option<u64>
-        requires { i < length (cells_of self.now.keys.items self.now.values.items) }
-        ensures { result ≡ number_if (M.number measure.now) (slice_index_or (cells_of self.now.keys.items self.now.values.items) i None) }
+        requires { i < length self.now }
+        ensures { result ≡ number_if (M.number measure.now) (slice_index_or self.now i None) }
     {
         let key = self.keys[i];
         if key == 0 {
@@ -123,11 +163,13 @@ impl<V: Copy> Columns<V> {
 
     /// The least number that a value in the cells measures.
     pub fn least<M: Measure<V>>(&self, measure: &M) -> Option<u64>
-        ensures { result ≡ least_in (M.number measure.now) (cells_of self.now.keys.items self.now.values.items) }
+        ensures { result ≡ least_in (M.number measure.now) self.now }
     {
         let mut least = None;
-        for i in 0..self.count() {
+        let mut from = 0;
+        while let Some(i) = self.next(from) {
             least = smaller(least, self.number_if(i, measure));
+            from = i + 1;
         }
         least
     }

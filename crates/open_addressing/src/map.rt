@@ -168,7 +168,7 @@ impl<V: Copy> Map<u64, V, Columns<V>> {
         Ok(Map::of(columns, bits, room))
     }
 
-    /// The keys whose values pass the test, ascending.
+    /// The keys whose values pass the test, ascending. It passes empty cells by, 64 at a time.
     pub fn keys_where<T: Test<V>>(&self, alloc: Global, test: &T) -> Result<Vec<u64>, AllocError>
         ensures { IfOk result (λ v. v.items ≡ keys_where (T.passes test.now) self.now.entries) }
     {
@@ -177,7 +177,7 @@ impl<V: Copy> Map<u64, V, Columns<V>> {
         Ok(keys)
     }
 
-    /// The least number that a value measures. It looks at each cell.
+    /// The least number that a value measures. It passes empty cells by, 64 at a time.
     pub fn least<M: Measure<V>>(&self, measure: &M) -> Option<u64>
         ensures { result ≡ least (M.number measure.now) self.now.entries }
     {

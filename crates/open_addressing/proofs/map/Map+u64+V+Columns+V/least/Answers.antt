@@ -1,5 +1,4 @@
 use Rattle.std.proofs.Common.{ap, ◌∙◌}
-use Rattle.open_addressing.specs.Zipped.{cells_of}
 use Rattle.open_addressing.specs.Finite.{Table}
 use Rattle.open_addressing.specs.Least.{least}
 use Rattle.open_addressing.proofs.Least.{least-cells}
@@ -9,4 +8,4 @@ pub returns : goal.returns
 returns g c =
     let m = c.self.inside in
     let f = g.M.Measure.number c.args.measure.now in
-    c.least.ensures ∙ least-cells f (cells_of m.cells.keys.items m.cells.values.items) c.self.invariant.apart ∙ ap (λ (t : Table g.row.V.Denot). least f t.entries) c.self.view_is
+    c.least.ensures ∙ least-cells f m.cells c.self.invariant.apart ∙ ap (λ (t : Table g.row.V.Denot). least f t.entries) c.self.view_is
