@@ -1,4 +1,4 @@
--- The two forms of `link`: both want the name of a flag.
+-- The forms of `link`: the first two want the name of a flag, which `cost` and `priority` aren't.
 use Rattle.std.proofs.Common.{◌≡◌, ℕ, Bool, true, false, ◌&&◌, if◌then◌else◌, Option, None, Some, is_some, refl, ◌∙◌, ap}
 use Rattle.std.specs.Prelude.{codes}
 use Rattle.std.specs.Str.{bytes_eq}
@@ -12,28 +12,24 @@ use Rattle.br_model.specs.Forms.{Row, line, said, after}
 use Rattle.br_model.specs.Operands.{flag, found, port_name}
 use Rattle.br_model.specs.Roster.{Roster}
 use Rattle.br_model.specs.Words.{Word}
-use Rattle.br_model.proofs.Words.{equal}
+use Rattle.br_model.proofs.Words.{equal, other}
 use Rattle.bridge_command.specs.Seen.{placed, switched}
 
--- of two rows that both want `named`, the one whose last word it is
+-- of two rows that both want `named`, the one whose last word it is; the others' words aren't there
 
-first : (r : Roster) (word : ℕ → Word) (x y : Row Command) (link named on off : Bool) → link ≡ true → on ≡ true → off ≡ false
-    → said r (if link && (named && (on && true)) then Some x else if link && (named && (off && true)) then Some y else None) word
+first : (r : Roster) (word : ℕ → Word) (x y z w : Row Command) (link named on off cost priority : Bool) → link ≡ true → on ≡ true → off ≡ false → cost ≡ false → priority ≡ false
+    → said r (if link && (named && (on && true)) then Some x else if link && (named && (off && true)) then Some y else
+    if link && (cost && true) then Some z else if link && (priority && true) then Some w else None) word
     ≡ (if named then said r (Some x) word else Err why.Word)
-first r word x y false named on off h i j = absurd (cc)
-first r word x y true named false off h i j = absurd (cc)
-first r word x y true named true true h i j = absurd (cc)
-first r word x y true true true false h i j = refl
-first r word x y true false true false h i j = refl
+first r word x y z w link true on off cost priority h i j k l = rw (h, i) refl
+first r word x y z w link false on off cost priority h i j k l = rw (h, k, l) refl
 
-second : (r : Roster) (word : ℕ → Word) (x y : Row Command) (link named on off : Bool) → link ≡ true → on ≡ false → off ≡ true
-    → said r (if link && (named && (on && true)) then Some x else if link && (named && (off && true)) then Some y else None) word
+second : (r : Roster) (word : ℕ → Word) (x y z w : Row Command) (link named on off cost priority : Bool) → link ≡ true → on ≡ false → off ≡ true → cost ≡ false → priority ≡ false
+    → said r (if link && (named && (on && true)) then Some x else if link && (named && (off && true)) then Some y else
+    if link && (cost && true) then Some z else if link && (priority && true) then Some w else None) word
     ≡ (if named then said r (Some y) word else Err why.Word)
-second r word x y false named on off h i j = absurd (cc)
-second r word x y true named true off h i j = absurd (cc)
-second r word x y true named false false h i j = absurd (cc)
-second r word x y true true false true h i j = refl
-second r word x y true false false true h i j = refl
+second r word x y z w link true on off cost priority h i j k l = rw (h, i, j) refl
+second r word x y z w link false on off cost priority h i j k l = rw (h, k, l) refl
 
 -- the flag is there where its name is one
 there : (r : Roster) (name : Word) (f : Option ℕ) (on : Bool)
@@ -41,18 +37,18 @@ there : (r : Roster) (name : Word) (f : Option ℕ) (on : Bool)
 there r name None on = refl
 there r name (Some f) on = refl
 
-pub on_row : (r : Roster) (n : ℕ) (word : ℕ → Word) → n ≡ 4 → word 0 ≡ codes "link" → word 3 ≡ codes "on"
+pub on_row : (r : Roster) (n : ℕ) (word : ℕ → Word) → n ≡ 4 → word 0 ≡ codes "link" → word 3 ≡ codes "on" → (word 2 ≡ codes "cost" → ⊥) → (word 2 ≡ codes "priority" → ⊥)
     → line links r n word ≡ switched r (word 1) (flag_named flags (word 2)) true
 unfolding flag
-on_row r n word four link on =
+on_row r n word four link on cost priority =
     ap (λ (m : ℕ). line links r m word) four
-    ∙ first r word _ _ _ (is_some (flag_named flags (word 2))) _ _ (equal _ _ link) (equal _ _ on) (ap (λ (w : Word). bytes_eq w (codes "off")) on)
+    ∙ first r word _ _ _ _ _ (is_some (flag_named flags (word 2))) _ _ _ _ (equal _ _ link) (equal _ _ on) (ap (λ (w : Word). bytes_eq w (codes "off")) on) (other _ _ cost) (other _ _ priority)
     ∙ there r (word 1) (flag_named flags (word 2)) true
 
-pub off_row : (r : Roster) (n : ℕ) (word : ℕ → Word) → n ≡ 4 → word 0 ≡ codes "link" → word 3 ≡ codes "off"
+pub off_row : (r : Roster) (n : ℕ) (word : ℕ → Word) → n ≡ 4 → word 0 ≡ codes "link" → word 3 ≡ codes "off" → (word 2 ≡ codes "cost" → ⊥) → (word 2 ≡ codes "priority" → ⊥)
     → line links r n word ≡ switched r (word 1) (flag_named flags (word 2)) false
 unfolding flag
-off_row r n word four link off =
+off_row r n word four link off cost priority =
     ap (λ (m : ℕ). line links r m word) four
-    ∙ second r word _ _ _ (is_some (flag_named flags (word 2))) _ _ (equal _ _ link) (ap (λ (w : Word). bytes_eq w (codes "on")) off) (equal _ _ off)
+    ∙ second r word _ _ _ _ _ (is_some (flag_named flags (word 2))) _ _ _ _ (equal _ _ link) (ap (λ (w : Word). bytes_eq w (codes "on")) off) (equal _ _ off) (other _ _ cost) (other _ _ priority)
     ∙ there r (word 1) (flag_named flags (word 2)) false

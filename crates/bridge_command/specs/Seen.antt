@@ -15,7 +15,7 @@ use Rattle.br_model.specs.declared.steps.Command.{Command}
 use Rattle.br_model.specs.declared.steps.Command.TheVariants.{Link}
 use Rattle.br_model.specs.CommandForms.{step, vlans, fdbs}
 use Rattle.br_model.specs.Forms.{Row, after}
-use Rattle.br_model.specs.LineForms.{opening, declaration}
+use Rattle.br_model.specs.LineForms.{opening, header, declaration}
 use Rattle.br_model.specs.Operands.{port_name}
 use Rattle.br_model.specs.Roster.{Entry, Roster}
 use Rattle.br_model.specs.Words.{Word}
@@ -32,13 +32,6 @@ entry e = record { name = string_bytes e.0; port = e.1.0; dom = e.1.1 }
 abbrev pub in_place : Bool → Result (Unit {0}) LineWhy
 in_place true = Ok tt
 in_place false = Err why.Place
-
--- directly after the first line
-abbrev pub header : Place → Bool
-header Opening = false
-header Header = true
-header Declarations = false
-header Steps = false
 
 -- whether a form stands that may come first where a scenario has reached the first place
 abbrev pub stands_at : Place → Place → Bool

@@ -7,6 +7,7 @@ ghost use Rattle.bridge_command.specs.Seen.{word};
 use crate::addresses::{ageing_command, fdb_add, fdb_del};
 use crate::ports::{link_command, port_command};
 use crate::roster::Roster;
+use crate::tree::stp_command;
 use crate::vlans::{vlan_add, vlan_del};
 use br_model::scenario::LineWhy;
 use br_model::steps::Command;
@@ -23,6 +24,7 @@ pub fn read_command(words: &[&str], r: &Roster) -> Result<Command, LineWhy>
         ["vlan", "del", ..] => vlan_del(words, r),
         ["fdb", "add", ..] => fdb_add(words, r),
         ["fdb", "del", ..] => fdb_del(words, r),
+        ["stp", ..] => stp_command(words, r),
         ["ageing", ..] => ageing_command(words, r),
         _ => Err(LineWhy::Word),
     }

@@ -9,9 +9,10 @@ mod ports;
 mod roster;
 #[cfg(test)]
 mod tests;
+mod tree;
 mod vlans;
 
 pub use br_model::NoMemory;
 pub use command::read_command;
-pub use operands::milliseconds;
+pub use operands::{mac, milliseconds};
 pub use roster::Roster;

@@ -1,10 +1,10 @@
 //! Operands, as words spell them.
-ghost use Rattle.std.specs.Prelude.{◌≡◌, length, ◌-◌, ◌^◌, ◌<◌, ◌≤◌, min, IfOk};
+ghost use Rattle.std.specs.Prelude.{◌≡◌, length, ◌-◌, ◌^◌, ◌<◌, ◌≤◌, nat_le, true, min, IfOk};
 ghost use Rattle.std.specs.List.{list_all};
 ghost use Rattle.std.specs.Option.{option_map};
 ghost use Rattle.br_model.specs.declared.scenario.LineWhy.TheVariants.{Address};
 ghost use Rattle.br_model.specs.Digits.{decimal_from, station as station_of, bytes_from_hex};
-ghost use Rattle.br_model.specs.Operands.{number as number_of, mac as mac_of, has_colons as has_colons_at, twelve, found, most_seconds, last_moment};
+ghost use Rattle.br_model.specs.Operands.{number as number_of, mac as mac_of, has_colons as has_colons_at, twelve, found, most_cost, most_port_priority, most_priority, most_seconds, last_moment};
 ghost use Rattle.br_model.specs.Roster.{is_name as is_a_name, is_name_byte as is_a_name_byte};
 
 use br_model::numbers::{Mac, Vid};
@@ -55,6 +55,33 @@ pub(crate) fn vlan(word: &str) -> Result<Vid, LineWhy>
     }
 }
 
+/// The highest cost of a port's path (IEEE 802.1D-1998 section 8.10.2).
+const MOST_COST: u64 = 65_535;
+
+pub(crate) fn cost(word: &str) -> Result<u16, LineWhy>
+    ensures { result ≡ number_of 1 most_cost word.now }
+{
+    Ok(number(word, 1, MOST_COST)? as u16)
+}
+
+/// The highest priority of a port.
+const MOST_PORT_PRIORITY: u64 = 255;
+
+pub(crate) fn port_priority(word: &str) -> Result<u8, LineWhy>
+    ensures { result ≡ number_of 0 most_port_priority word.now }
+{
+    Ok(number(word, 0, MOST_PORT_PRIORITY)? as u8)
+}
+
+/// The highest priority of a bridge.
+const MOST_PRIORITY: u64 = 65_535;
+
+pub(crate) fn priority(word: &str) -> Result<u16, LineWhy>
+    ensures { result ≡ number_of 0 most_priority word.now }
+{
+    Ok(number(word, 0, MOST_PRIORITY)? as u16)
+}
+
 /// The most seconds of ageing.
 const MOST_SECONDS: u64 = 1_000_000;
 
@@ -69,7 +96,8 @@ const LAST_MOMENT: u64 = 9_007_199_254_740_991;
 
 /// A moment, in milliseconds.
 pub fn milliseconds(word: &str) -> Result<u64, LineWhy>
-    ensures { result ≡ number_of 0 last_moment word.now }
+    ensures value { result ≡ number_of 0 last_moment word.now }
+    ensures most { IfOk result (λ n. nat_le n last_moment ≡ true) }
 {
     number(word, 0, LAST_MOMENT)
 }
@@ -141,7 +169,7 @@ fn six_bytes(digits: &[u8]) -> Option<[u8; 6]>
 
 /// The address of one station.
 #[tactic(auto, unfolding(br_model::specs::Operands::mac))]
-pub(crate) fn mac(word: &str) -> Result<Mac, LineWhy>
+pub fn mac(word: &str) -> Result<Mac, LineWhy>
     ensures { result ≡ mac_of word.now }
 {
     let text = word.as_bytes();

@@ -1,10 +1,11 @@
-//! The commands of ports and of their flags: `port` and `link`.
+//! The commands of ports, of their flags, and of their places in the spanning tree: `port` and `link`.
 ghost use Rattle.std.specs.Prelude.{◌≡◌, length};
 ghost use Rattle.br_model.specs.CommandForms.{ports, links};
 ghost use Rattle.br_model.specs.Forms.{line};
 ghost use Rattle.bridge_command.specs.Seen.{word, switched};
 
 use crate::flags::flag;
+use crate::operands::{cost, port_priority};
 use crate::roster::Roster;
 use br_model::change::Flags;
 use br_model::scenario::{LineWhy, Place};
@@ -44,6 +45,18 @@ pub(crate) fn link_command(words: &[&str], r: &Roster) -> Result<Command, LineWh
     ensures { result ≡ line links r.now (length words.now) (word words.now) }
 {
     match *words {
+        ["link", name, "cost", number] => {
+            r.stands(Place::Steps)?;
+            let port = r.named(name)?;
+            let n = cost(number)?;
+            Ok(Command::Cost { port, n })
+        }
+        ["link", name, "priority", number] => {
+            r.stands(Place::Steps)?;
+            let port = r.named(name)?;
+            let n = port_priority(number)?;
+            Ok(Command::PortPriority { port, n })
+        }
         ["link", name, word, "on"] => switched(name, flag(word), true, r),
         ["link", name, word, "off"] => switched(name, flag(word), false, r),
         _ => Err(LineWhy::Word),

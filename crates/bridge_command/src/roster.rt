@@ -1,7 +1,7 @@
-//! The declared ports, and the place that a scenario has reached.
+//! The bridge's own address, the declared ports, and the place that a scenario has reached.
 ghost use Rattle.std.specs.Prelude.{◌≡◌, ◌≢◌, ◌==◌, length, OnOk, OnErr, IfOk, IfSome, slice_get, true, false, not, ◌&&◌, Some, Ok};
 ghost use Rattle.std.specs.Option.{option_map, is_some};
-ghost use Rattle.br_model.specs.declared.scenario.Said.TheVariants.{Declares};
+ghost use Rattle.br_model.specs.declared.scenario.Said.TheVariants.{Bridge, Declares};
 ghost use Rattle.br_model.specs.Domains.{host};
 ghost use Rattle.br_model.specs.Operands.{port_name, device as device_of, new_port as new_port_of, new_name as new_name_of, port_number as port_number_of};
 ghost use Rattle.br_model.specs.Roster.{first_roster, domains_of, has_number, port_named, is_name as is_a_name};
@@ -14,18 +14,19 @@ use crate::operands::{decimal, is_name, number};
 use br_model::NoMemory;
 use br_model::domains::Domains;
 use br_model::name::Name;
-use br_model::numbers::{Dom, Port};
+use br_model::numbers::{Dom, Mac, Port};
 use br_model::scenario::{LineWhy, Place};
 use indexmap::IndexMap;
 use std::alloc::Global;
 use std::marker::Model;
 
-/// The place that a scenario has reached, whether its command is `check`, and its declared ports, seen as their list in the
-/// order of their lines. Each has a number from 1 to 63 and a name of its own.
+/// The place that a scenario has reached, whether its command is `check`, the bridge's own address, and the declared ports, seen
+/// as their list in the order of their lines. Each has a number from 1 to 63 and a name of its own.
 #[derive(Drop)]
 pub struct Roster {
     place: Place,
     check: bool,
+    own: Mac,
     ports: IndexMap<String, (Port, Dom)>,
     /// The domains of the same ports.
     domains: Domains,
@@ -39,7 +40,7 @@ impl Model for Roster {
 
     ghost Value = { Ports };
 
-    ghost view = { λ r. record { place = r.place; check = r.check; ports = map entry r.ports.entries } };
+    ghost view = { λ r. record { place = r.place; check = r.check; own = r.own; ports = map entry r.ports.entries } };
 
     ghost invariant = { λ r. (are_declared (map entry r.ports.entries) ≡ true) × (r.domains ≡ domains_of (map entry r.ports.entries)) };
 }
@@ -52,6 +53,7 @@ impl Roster {
         Ok(Roster {
             place: Place::Opening,
             check,
+            own: Mac::FIRST_OWN,
             ports: IndexMap::new(alloc),
             domains: Domains::make(),
         })
@@ -68,6 +70,13 @@ impl Roster {
         ensures { result ≡ self.now.check }
     {
         self.check
+    }
+
+    /// The bridge's own address.
+    pub fn own(&self) -> Mac
+        ensures { result ≡ self.now.own }
+    {
+        self.own
     }
 
     /// How many ports are declared.
@@ -256,6 +265,14 @@ impl Roster {
         ensures { self.new ≡ record self.old { place = place } }
     {
         self.place = place;
+    }
+
+    /// The bridge has this address, and the scenario is among its declarations.
+    pub fn set_own(&mut self, own: Mac)
+        ensures { self.new ≡ declared self.old (Bridge own) }
+    {
+        self.own = own;
+        self.place = Place::Declarations;
     }
 
     /// The port is declared, and the scenario is among its declarations.

@@ -14,12 +14,17 @@ enum Says {
     PortDown(u8),
     /// The port, the flag's bit, and whether it is set.
     Link(u8, u8, bool),
+    /// The port, and its cost or its priority.
+    Cost(u8, u16),
+    PortPriority(u8, u8),
     /// The port, the VLAN, `untagged` and `pvid`.
     VlanAdd(u8, u16, bool, bool),
     VlanDel(u8, u16),
     /// The VLAN, the address, the port and the kind.
     FdbAdd(u16, u64, u8, Kind),
     FdbDel(u16, u64),
+    Stp(bool),
+    Priority(u16),
     Ageing(u32),
 }
 
@@ -37,6 +42,8 @@ fn said(line: &str, r: &Roster) -> Result<Says, LineWhy> {
         Command::PortUp(port) => Says::PortUp(port.number()),
         Command::PortDown(port) => Says::PortDown(port.number()),
         Command::Link { port, flag, on } => Says::Link(port.number(), flag.bits(), on),
+        Command::Cost { port, n } => Says::Cost(port.number(), n),
+        Command::PortPriority { port, n } => Says::PortPriority(port.number(), n),
         Command::VlanAdd {
             port,
             vid,
@@ -51,6 +58,8 @@ fn said(line: &str, r: &Roster) -> Result<Says, LineWhy> {
             kind,
         } => Says::FdbAdd(vid.number(), mac.number(), port.number(), kind),
         Command::FdbDel { vid, mac } => Says::FdbDel(vid.number(), mac.number()),
+        Command::Stp(on) => Says::Stp(on),
+        Command::Priority(n) => Says::Priority(n),
         Command::Ageing(seconds) => Says::Ageing(seconds),
     })
 }
@@ -140,6 +149,16 @@ fn commands(rt: HostRuntime) -> Result<(), Fail> {
         ("link p3 learning", Err(LineWhy::Word)),
         ("link p3 learning ON", Err(LineWhy::Word)),
         ("link host isolated on", Err(LineWhy::Port)),
+        ("link p3 cost 1", Ok(Says::Cost(3, 1))),
+        ("link p3 cost 65535", Ok(Says::Cost(3, 65535))),
+        ("link p3 cost 0", Err(LineWhy::Number)),
+        ("link p3 cost 65536", Err(LineWhy::Number)),
+        ("link p3 cost on", Err(LineWhy::Number)),
+        ("link nobody cost 0", Err(LineWhy::Port)),
+        ("link p3 priority 0", Ok(Says::PortPriority(3, 0))),
+        ("link p3 priority 255", Ok(Says::PortPriority(3, 255))),
+        ("link p3 priority 256", Err(LineWhy::Number)),
+        ("link p3 priority", Err(LineWhy::Word)),
         (
             "vlan add vid 10 dev p3",
             Ok(Says::VlanAdd(3, 10, false, false)),
@@ -201,6 +220,12 @@ fn commands(rt: HostRuntime) -> Result<(), Fail> {
             "fdb del 02:00:00:00:00:01 vlan 7",
             Ok(Says::FdbDel(7, station)),
         ),
+        ("stp", Err(LineWhy::Word)),
+        ("stp on", Ok(Says::Stp(true))),
+        ("stp off", Ok(Says::Stp(false))),
+        ("stp 1", Err(LineWhy::Word)),
+        ("stp priority 65535", Ok(Says::Priority(65535))),
+        ("stp priority 65536", Err(LineWhy::Number)),
         ("ageing 1", Ok(Says::Ageing(1))),
         ("ageing 1000000", Ok(Says::Ageing(1_000_000))),
         ("ageing 0", Err(LineWhy::Number)),

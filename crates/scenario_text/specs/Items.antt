@@ -1,6 +1,6 @@
 -- What a line gives once it is read.
 -- Source: this profile.
-use Rattle.std.specs.Prelude.{◌≡◌, ℕ, Bool, true, ◌&&◌, if◌then◌else◌, List}
+use Rattle.std.specs.Prelude.{◌≡◌, ℕ, nat_le, Bool, true, ◌&&◌, if◌then◌else◌, List}
 use Rattle.std.specs.declared.result.Result.{Result}
 use Rattle.std.specs.declared.result.Result.TheVariants.{Ok, Err}
 use Rattle.br_model.specs.declared.scenario.Item.{Item}
@@ -9,10 +9,12 @@ use Rattle.br_model.specs.declared.scenario.LineWhy.{LineWhy}
 use Rattle.br_model.specs.declared.scenario.LineWhy.TheVariants as why
 use Rattle.br_model.specs.declared.scenario.Place.{Place}
 use Rattle.br_model.specs.declared.scenario.Said.{Said}
-use Rattle.br_model.specs.declared.scenario.Said.TheVariants.{Blank, Opens, Declares, Does, Ends}
+use Rattle.br_model.specs.declared.scenario.Said.TheVariants.{Blank, Opens, Bridge, Declares, Does, Ends}
+use Rattle.br_model.specs.declared.steps.Step.{Step}
+use Rattle.br_model.specs.declared.steps.Step.TheVariants.{Rx, Cmd, Now, Serve, Turn, Report, Sweep, Publish}
 use Rattle.br_model.specs.Forms.{after}
-use Rattle.br_model.specs.LineForms.{line_says, opening, declaration}
-use Rattle.br_model.specs.Operands.{new_port, new_name}
+use Rattle.br_model.specs.LineForms.{line_says, opening, header, declaration}
+use Rattle.br_model.specs.Operands.{new_port, new_name, last_moment}
 use Rattle.br_model.specs.Roster.{Roster}
 use Rattle.br_model.specs.Scenario.{declared}
 use Rattle.br_model.specs.Declarations.{fits_beside}
@@ -21,6 +23,7 @@ use Rattle.br_model.specs.Words.{Word}
 abbrev pub item_of : Said → Item
 item_of Blank = items.Blank
 item_of Opens = items.Scenario
+item_of (Bridge mac) = items.Bridge mac
 item_of (Declares port name dom) = items.Declared port
 item_of (Does step) = items.Step step
 item_of Ends = items.End
@@ -39,18 +42,39 @@ pub record Reads (before after : Roster) (line : List ℕ) (item : Item) : Type 
   pub gives : item ≡ item_of said
   pub takes : after ≡ declared before said
 
--- whether the first line, and the declaration of a port, may stand there: another item, whatever the place
+-- whether the first line, the bridge's address, and the declaration of a port may stand there: another item, whatever the place
 abbrev pub comes_in_place : Place → Item → Bool
 comes_in_place place items.Blank = true
 comes_in_place place items.Scenario = opening place
+comes_in_place place (items.Bridge mac) = header place
 comes_in_place place (items.Declared port) = declaration place
 comes_in_place place (items.Step step) = true
 comes_in_place place items.End = true
+
+-- whether the moment of a step is one that a line can say
+abbrev pub in_time : Step → Bool
+in_time (Rx port bytes) = true
+in_time (Cmd command) = true
+in_time (Now moment) = nat_le moment last_moment
+in_time Serve = true
+in_time Turn = true
+in_time Report = true
+in_time Sweep = true
+in_time Publish = true
+
+abbrev pub is_in_time : Item → Bool
+is_in_time items.Blank = true
+is_in_time items.Scenario = true
+is_in_time (items.Bridge mac) = true
+is_in_time (items.Declared port) = true
+is_in_time (items.Step step) = in_time step
+is_in_time items.End = true
 
 -- the same of what a line says; and the port fits beside the declared ones
 abbrev pub fits_roster : Roster → Said → Bool
 fits_roster roster Blank = true
 fits_roster roster Opens = opening roster.place
+fits_roster roster (Bridge mac) = header roster.place
 fits_roster roster (Declares port name dom) = declaration roster.place && fits_beside roster.ports (record { name = name; port = port; dom = dom })
-fits_roster roster (Does step) = true
+fits_roster roster (Does step) = in_time step
 fits_roster roster Ends = true

@@ -10,7 +10,7 @@ use crate::digits::hex_bytes;
 use br_model::numbers::Dom;
 use br_model::scenario::{LineWhy, Place, Said};
 use br_model::steps::Step;
-use bridge_command::{Roster, milliseconds, read_command};
+use bridge_command::{Roster, mac, milliseconds, read_command};
 use std::alloc::Global;
 
 /// The declaration of a port of this domain.
@@ -34,6 +34,10 @@ fn declaration_line(alloc: Global, words: &[&str], r: &Roster) -> Result<Said, L
         ["scenario", "1"] => {
             r.stands(Place::Opening)?;
             Ok(Said::Opens)
+        }
+        ["bridge", address] => {
+            r.stands(Place::Header)?;
+            Ok(Said::Bridge(mac(address)?))
         }
         ["port", number, name, "soft"] => declared(alloc, number, name, Dom::SOFTWARE, r),
         ["port", number, name, "chip", "1"] => declared(alloc, number, name, Dom::CHIP, r),
@@ -94,6 +98,7 @@ fn other_line(alloc: Global, words: &[&str], r: &Roster) -> Result<Said, LineWhy
 {
     match *words {
         ["scenario", ..] => declaration_line(alloc, words, r),
+        ["bridge", ..] => declaration_line(alloc, words, r),
         ["port", ..] => declaration_line(alloc, words, r),
         _ => step_line(alloc, words, r),
     }

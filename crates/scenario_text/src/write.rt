@@ -140,6 +140,25 @@ fn append_link(port: &str, flag: Flags, on: bool, to: &mut String) -> Result<(),
     write!(to, "link {port} {flag} {on}")
 }
 
+fn append_cost(port: &str, n: u16, to: &mut String) -> Result<(), NoMemory>
+    ensures { OnOk result (string_bytes to.new ≡ string_bytes to.old ++ (codes "link " ++ (port.now ++ (codes " cost " ++ decimal n)))) }
+{
+    write!(to, "link {port} cost {n}")
+}
+
+fn append_port_priority(port: &str, n: u8, to: &mut String) -> Result<(), NoMemory>
+    ensures { OnOk result (string_bytes to.new ≡ string_bytes to.old ++ (codes "link " ++ (port.now ++ (codes " priority " ++ decimal n)))) }
+{
+    write!(to, "link {port} priority {n}")
+}
+
+fn append_stp(on: bool, to: &mut String) -> Result<(), NoMemory>
+    ensures { OnOk result (string_bytes to.new ≡ string_bytes to.old ++ (codes "stp " ++ word_of_switch on)) }
+{
+    let on = switch_word(on);
+    write!(to, "stp {on}")
+}
+
 /// The words behind the device of `vlan add`.
 fn marks(untagged: bool, pvid: bool) -> &'static str
     ensures { result.now ≡ further pvid (codes "pvid") ++ further untagged (codes "untagged") }
@@ -210,6 +229,8 @@ fn append_command(command: Command, roster: &Roster, to: &mut String) -> Result<
             write!(to, "port down {port}")
         }
         Command::Link { port, flag, on } => append_link(name(roster, port), flag, on, to),
+        Command::Cost { port, n } => append_cost(name(roster, port), n, to),
+        Command::PortPriority { port, n } => append_port_priority(name(roster, port), n, to),
         Command::VlanAdd {
             port,
             vid,
@@ -224,6 +245,8 @@ fn append_command(command: Command, roster: &Roster, to: &mut String) -> Result<
             kind,
         } => append_fdb_add(mac, device(roster, port), vid, kind, to),
         Command::FdbDel { vid, mac } => append_fdb_del(mac, vid, to),
+        Command::Stp(on) => append_stp(on, to),
+        Command::Priority(n) => write!(to, "stp priority {n}"),
         Command::Ageing(seconds) => write!(to, "ageing {seconds}"),
     }
 }

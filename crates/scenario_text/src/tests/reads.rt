@@ -12,6 +12,7 @@ use std::test::Fail;
 enum Gives {
     Blank,
     Scenario,
+    Bridge(u64),
     Declared(u8),
     /// The port, and how many bytes.
     Rx(u8, usize),
@@ -38,6 +39,7 @@ const LINES: &[(&[u8], Result<Gives, LineWhy>)] = &[
     (b"Scenario 1", Err(LineWhy::Word)),
     (b"scenario\t1", Err(LineWhy::Word)),
     (b"scenario 1\r", Err(LineWhy::Word)),
+    (b"bridge 02:00:00:00:00:ab", Err(LineWhy::Place)),
     (b"port 0 a soft", Err(LineWhy::Place)),
     (b"end", Err(LineWhy::Place)),
     (b"serve", Err(LineWhy::Place)),
@@ -45,6 +47,14 @@ const LINES: &[(&[u8], Result<Gives, LineWhy>)] = &[
     (b"  scenario   1 ", Ok(Gives::Scenario)),
     (b"scenario 1", Err(LineWhy::Place)),
     (b"# between", Ok(Gives::Blank)),
+    (b"bridge", Err(LineWhy::Word)),
+    (b"bridge 03:00:00:00:00:ab", Err(LineWhy::Address)),
+    (b"bridge 00:00:00:00:00:00", Err(LineWhy::Address)),
+    (
+        b"bridge 02:00:00:00:00:aB",
+        Ok(Gives::Bridge(0x0200_0000_00AB)),
+    ),
+    (b"bridge 02:00:00:00:00:ac", Err(LineWhy::Place)),
     (b"port 0 a soft", Err(LineWhy::Number)),
     (b"port 64 a soft", Err(LineWhy::Number)),
     (b"port 01 a soft", Err(LineWhy::Number)),
@@ -57,6 +67,7 @@ const LINES: &[(&[u8], Result<Gives, LineWhy>)] = &[
     (b"port 1 a chip", Err(LineWhy::Word)),
     (b"port 1 a chip 2", Err(LineWhy::Word)),
     (b"port 1 eth0 soft", Ok(Gives::Declared(1))),
+    (b"bridge 02:00:00:00:00:ac", Err(LineWhy::Place)),
     (b"port 1 eth1 soft", Err(LineWhy::Port)),
     (b"port 2 eth0 soft", Err(LineWhy::Port)),
     (b"port 2 eth0 chip 1", Err(LineWhy::Port)),
@@ -111,6 +122,13 @@ const STEPS: &[(&[u8], Result<Gives, LineWhy>)] = &[
         b"cmd fdb add 02:00:00:00:00:01 dev p3 vlan 0 static",
         Err(LineWhy::Number),
     ),
+    (b"bridge 02:00:00:00:00:ab", Err(LineWhy::Place)),
+    (b"cmd link p3 cost 19", Ok(Gives::Command)),
+    (b"cmd link p3 priority 256", Err(LineWhy::Number)),
+    (b"cmd link p4 cost 19", Err(LineWhy::Port)),
+    (b"cmd stp on", Ok(Gives::Command)),
+    (b"cmd stp", Err(LineWhy::Word)),
+    (b"cmd stp priority 65536", Err(LineWhy::Number)),
     (b"cmd ageing 300", Ok(Gives::Command)),
     (b"now 0", Ok(Gives::Now(0))),
     (
@@ -146,6 +164,7 @@ fn given(item: &Item) -> Gives {
     match item {
         Item::Blank => Gives::Blank,
         Item::Scenario => Gives::Scenario,
+        Item::Bridge(own) => Gives::Bridge(own.number()),
         Item::Declared(port) => Gives::Declared(port.number()),
         Item::Step(Step::Rx { port, bytes }) => Gives::Rx(port.number(), bytes.len()),
         Item::Step(Step::Cmd(Command::PortUp(port))) => Gives::PortUp(port.number()),
@@ -179,9 +198,11 @@ fn reads(
 fn lines_in_order(rt: HostRuntime) -> Result<(), Fail> {
     let alloc = rt.alloc();
     let mut r = Roster::make(alloc, false)?;
+    assert_eq!(rt; r.own().number(), 0x0200_0000_0001);
     for (line, expected) in LINES {
         reads(&rt, alloc, &mut r, line, *expected);
     }
+    assert_eq!(rt; r.own().number(), 0x0200_0000_00AB);
     Ok(())
 }
 

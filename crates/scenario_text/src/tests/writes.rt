@@ -19,6 +19,8 @@ cmd port up p-1
 cmd port down p-1
 cmd link p-1 mcast_flood on
 cmd link p-1 mcast_flood off
+cmd link p-1 cost 65535
+cmd link p-1 priority 255
 cmd vlan add vid 4094 dev p-1
 cmd vlan add vid 4094 dev host pvid
 cmd vlan add vid 4094 dev p-1 untagged
@@ -28,6 +30,9 @@ cmd fdb add 02:00:00:00:00:ab dev host vlan 4094 local
 cmd fdb add 02:00:00:00:00:ab dev p-1 vlan 4094 static
 cmd fdb add 02:00:00:00:00:ab dev p-1 vlan 4094 extern
 cmd fdb del 02:00:00:00:00:ab vlan 4094
+cmd stp on
+cmd stp off
+cmd stp priority 65535
 cmd ageing 1000000
 now 9007199254740991
 serve
@@ -50,13 +55,16 @@ fn are_declared(step: &Step, roster: &Roster) -> bool
     match step {
         Step::Rx { port, bytes: _ } => roster.name(*port).is_some(),
         Step::Cmd(command) => match *command {
-            Command::PortUp(port) | Command::PortDown(port) | Command::Link { port, .. } => {
-                roster.name(port).is_some()
-            }
+            Command::PortUp(port)
+            | Command::PortDown(port)
+            | Command::Link { port, .. }
+            | Command::Cost { port, .. }
+            | Command::PortPriority { port, .. } => roster.name(port).is_some(),
             Command::VlanAdd { port, .. }
             | Command::VlanDel { port, .. }
             | Command::FdbAdd { port, .. } => port.is_host() || roster.name(port).is_some(),
             Command::FdbDel { .. } | Command::Ageing(_) => true,
+            Command::Stp(_) | Command::Priority(_) => true,
         },
         Step::Now(_) => true,
         Step::Serve | Step::Turn | Step::Report | Step::Sweep | Step::Publish => true,

@@ -26,9 +26,11 @@ pub returns-clause-ok : goal.returns-clause-ok
 returns-clause-ok c =
     let before : map entry c.self.inside.ports.entries ≡ c.args.self.now.ports = ap (λ (r : Roster). r.ports) c.self.view_is in
     let check = ap (λ (r : Roster). r.check) c.self.view_is in
+    let own = ap (λ (r : Roster). r.own) c.self.view_is in
     λ i. record {
       place = Declarations;
       check = check i;
+      own = own i;
       ports = declared_last c.self.inside.ports.entries c.insert.new.self.entries c.args.self.now.ports c.into_text.result c.args.name c.args.port c.args.dom
           before c.requires c.into_text.ensures c.in_ok-insert.ensures.entries i;
     }
