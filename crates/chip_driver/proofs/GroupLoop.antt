@@ -1,25 +1,24 @@
 -- Group rows are made anew, one after another.
-use Rattle.std.proofs.Common.{◌≡◌, ℕ, ◌+◌, ◌<◌, ◌≤◌, Bool, true, false, not, ◌&&◌, ◌||◌, cond, IsTrue, ◌↔◌, Option, None, Some, List, [], ◌∷◌, length, take, refl, sym, ap, ap₂, subst, ◌∙◌, arith}
-use Rattle.std.specs.Prelude.{◌==◌, is_some, slice_get}
-use Rattle.std.specs.Ordering.{nat_cmp, eq_by_cmp, is_eq}
+use Rattle.std.proofs.Common.{◌≡◌, ℕ, ◌+◌, ◌≤◌, Bool, true, false, not, ◌&&◌, ◌||◌, cond, IsTrue, ◌↔◌, Option, None, Some, List, [], length, take, refl, sym, ap, ap₂, subst, ◌∙◌}
+use Rattle.std.specs.Prelude.{is_some, slice_get}
+use Rattle.std.specs.Ordering.{eq_by_cmp, is_eq}
 use Rattle.std.specs.declared.cmp.Ordering.{Ordering}
 use Rattle.std.specs.declared.cmp.Ordering.TheVariants.{Less, Equal, Greater}
 use Rattle.port_sets.specs.Numbers.{has_number}
 use Rattle.br_model.specs.declared.group.Group.{Group}
 use Rattle.br_model.specs.GroupPairs.{GroupPair, group_pair_cmp, group_pairs, max_pairs}
 use Rattle.br_model.specs.Groups.{Membership, membership_cmp}
-use Rattle.br_model.specs.Maps.{get, put, without, joined, parted, is_ascending}
+use Rattle.br_model.specs.Maps.{get, put, joined, parted, is_ascending}
 use Rattle.mdb_snoop.specs.Database.{ports_in}
 use Rattle.mdb_snoop.proofs.Orders.{equal_pairs}
 use Rattle.chip_tables.specs.declared.rows.FanRow.{FanRow}
-use Rattle.chip_tables.specs.declared.rows.VlanRow.{VlanRow}
 use Rattle.chip_tables.specs.Rows.{Rows, vlan_at, groups_with}
-use Rattle.chip_tables.specs.Stands.{port_count, IsVid}
+use Rattle.chip_tables.specs.Stands.{IsVid}
 use Rattle.chip_driver.specs.declared.shadow.Shadow.{Shadow}
 use Rattle.chip_driver.specs.GroupRows.{has_pair, group_fan, AreUsed, GroupsFollow, RefreshesGroups}
 use Rattle.chip_driver.specs.Shadows.{fan_to}
 use Rattle.chip_driver.proofs.FanRows.{same_fans}
-use Rattle.chip_driver.proofs.GroupRows.{count_is, find-written, ascending-written, find-freed, ascending-freed, among, among-pairs, among-next, among-past, among-all, among-one, same_pair, pair-joined, pair-parted, pair-less, pair-ports, ports-joined, ports-parted}
+use Rattle.chip_driver.proofs.GroupRows.{count_is, find-written, ascending-written, find-freed, ascending-freed, among, among-pairs, among-next, among-past, among-all, among-one, same_pair, pair-joined, pair-parted, pair-ports, ports-joined, ports-parted}
 
 equal_of : (k j : GroupPair) (r : Ordering) → group_pair_cmp k j ≡ r → is_eq r ≡ true → k ≡ j
 equal_of k j Less is e = absurd (cc)

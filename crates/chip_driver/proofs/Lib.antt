@@ -9,3 +9,5 @@ pub mod Starting
 pub mod GroupRows
 pub mod GroupLoop
 pub mod Standing
+pub mod Seen
+pub mod Taking

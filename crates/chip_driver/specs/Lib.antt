@@ -4,3 +4,4 @@ pub mod Settled
 pub mod Making
 pub mod GroupRows
 pub mod Drives
+pub mod UsedSets

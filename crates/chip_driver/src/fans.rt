@@ -65,17 +65,24 @@ fn refresh_vlan(tables: &mut Tables, shadow: &Shadow, v: Vid)
     tables.set_router(v, router_row(shadow, members));
 }
 
+/// Makes the rows of the VLAN 64 i + n anew, if there is one.
+fn refresh_number(tables: &mut Tables, shadow: &Shadow, i: u8, n: u8)
+    requires block { i < 64 }
+    requires number { n < 64 }
+    ensures { Refreshes (λ w. (w / 64 == i) && (w % 64 == n)) shadow.now tables.old tables.new }
+{
+    if let Some(v) = Vid::new(64 * u16::from(i) + u16::from(n)) {
+        refresh_vlan(tables, shadow, v);
+    }
+}
+
 /// Makes the rows of some VLANs anew: of the VLAN 64 i + n for each number n of the set.
 fn refresh_block(tables: &mut Tables, shadow: &Shadow, vids: Ports, i: u8)
     requires { i < 64 }
     ensures { Refreshes (λ w. (w / 64 == i) && has_number vids (w % 64)) shadow.now tables.old tables.new }
 {
-    for n in 0..64 {
-        if vids.has(n) {
-            if let Some(v) = Vid::new(64 * u16::from(i) + u16::from(n)) {
-                refresh_vlan(tables, shadow, v);
-            }
-        }
+    for n in vids.iter() {
+        refresh_number(tables, shadow, i, n);
     }
 }
 
@@ -83,11 +90,8 @@ fn refresh_block(tables: &mut Tables, shadow: &Shadow, vids: Ports, i: u8)
 pub fn refresh(tables: &mut Tables, shadow: &Shadow, joined: &Joined, p: Port)
     ensures { Refreshes (has_vlan joined.now p) shadow.now tables.old tables.new }
 {
-    for i in 0..64 {
-        let vids = joined.block(p, i);
-        if !vids.is_empty() {
-            refresh_block(tables, shadow, vids, i);
-        }
+    for i in joined.used(p).iter() {
+        refresh_block(tables, shadow, joined.block(p, i), i);
     }
 }
 

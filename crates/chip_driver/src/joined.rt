@@ -1,5 +1,6 @@
 //! The VLANs of each port.
-ghost use Rattle.std.specs.Prelude.{◌≡◌, ◌<◌, IfOk, [], replicate};
+ghost use Rattle.std.specs.Prelude.{◌≡◌, ◌<◌, ℕ, false, IfOk, [], replicate};
+ghost use Rattle.port_sets.specs.Numbers.{has_number};
 ghost use Rattle.chip_driver.specs.Joined.{block_at, has_vlan, Switches};
 
 use crate::shadow::switched;
@@ -13,24 +14,27 @@ use std::marker::Model;
 #[derive(Drop)]
 pub struct Joined {
     blocks: Vec<Ports>,
+    // Of each port the numbers of its sets that aren't empty.
+    used: Vec<Ports>,
 }
 
 impl Model for Joined {
-    ghost use Rattle.std.specs.Prelude.{◌≡◌, List, ℕ, length};
+    ghost use Rattle.std.specs.Prelude.{List, ℕ};
+    ghost use Rattle.chip_driver.specs.UsedSets.{AreUsed};
 
     ghost Value = { List (List ℕ) };
 
     ghost view = { λ j. j.blocks.items };
 
-    ghost invariant = { λ j. length j.blocks.items ≡ 4096 };
+    ghost invariant = { λ j. AreUsed j.blocks.items j.used.items };
 }
 
-/// As many empty sets as all ports have.
-fn no_blocks(alloc: Global) -> Result<Vec<Ports>, NoMemory>
-    ensures { IfOk result (λ v. v.items ≡ replicate 4096 []) }
+/// So many empty sets.
+fn no_sets(alloc: Global, count: usize) -> Result<Vec<Ports>, NoMemory>
+    ensures { IfOk result (λ v. v.items ≡ replicate count []) }
 {
     let none = Ports::empty();
-    vec![in alloc; none; 4096]
+    vec![in alloc; none; count]
 }
 
 impl Joined {
@@ -38,8 +42,9 @@ impl Joined {
     pub fn make(alloc: Global) -> Result<Joined, NoMemory>
         ensures { IfOk result (λ j. j ≡ replicate 4096 []) }
     {
-        let blocks = no_blocks(alloc)?;
-        Ok(Joined { blocks })
+        let blocks = no_sets(alloc, 4096)?;
+        let used = no_sets(alloc, 64)?;
+        Ok(Joined { blocks, used })
     }
 
     /// Set i of the port.
@@ -48,6 +53,13 @@ impl Joined {
         ensures { result ≡ block_at self.now p i }
     {
         self.blocks[64 * usize::from(p.number()) + usize::from(i)]
+    }
+
+    /// The numbers of the port's sets that aren't empty.
+    pub fn used(&self, p: Port) -> Ports
+        ensures { (i : ℕ) → i < 64 → has_number result i ≡ false → block_at self.now p i ≡ [] }
+    {
+        self.used[usize::from(p.number())]
     }
 
     /// Whether the port is in the VLAN.
@@ -64,7 +76,10 @@ impl Joined {
         ensures below { v < 4096 }
     {
         let vid = v.number();
-        let place = 64 * usize::from(p.number()) + usize::from(vid / 64);
-        self.blocks[place] = switched(self.blocks[place], (vid % 64) as u8, on);
+        let port = usize::from(p.number());
+        let place = 64 * port + usize::from(vid / 64);
+        let block = switched(self.blocks[place], (vid % 64) as u8, on);
+        self.blocks[place] = block;
+        self.used[port] = switched(self.used[port], (vid / 64) as u8, !block.is_empty());
     }
 }

@@ -1,6 +1,6 @@
 use Rattle.chip_driver.specs.Settled.{Refreshes}
-use Rattle.chip_driver.proofs.Steps.{in_block}
+use Rattle.chip_driver.proofs.Seen.{in_block}
 use Rattle.chip_driver.proofs.fans.refresh_block.Given as goal
 
 abbrev pub invariant-loop-n : goal.invariant-loop-n
-invariant-loop-n l = Refreshes (in_block l.vids l.i l.n) l.shadow l.initial.tables l.tables
+invariant-loop-n l = Refreshes (in_block l.i l.yielded) l.shadow l.initial.tables l.tables

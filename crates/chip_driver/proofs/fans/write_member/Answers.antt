@@ -1,10 +1,8 @@
-use Rattle.std.proofs.Common.{◌≡◌, ◌==◌, false, cond, sym, ap, ap₂, ◌∙◌}
+use Rattle.std.proofs.Common.{◌==◌, ap, ap₂, ◌∙◌}
 use Rattle.chip_tables.specs.declared.rows.VlanRow.{VlanRow}
 use Rattle.chip_driver.specs.Shadows.{switched}
-use Rattle.chip_tables.specs.Rows.{Rows, vlan_at}
-use Rattle.mdb_snoop.specs.Database.{memberships, ports_in}
-use Rattle.port_sets.specs.Numbers.{has_number}
-use Rattle.chip_driver.specs.Shadows.{fan_to, switched_row}
+use Rattle.chip_tables.specs.Rows.{Rows}
+use Rattle.mdb_snoop.specs.Database.{memberships}
 use Rattle.chip_driver.proofs.GroupLoop.{used_of, groups_anew}
 use Rattle.chip_driver.proofs.Keeping.{settled_member, settled_groups, vlan_kept}
 use Rattle.chip_driver.proofs.fans.write_member.Goals as goal

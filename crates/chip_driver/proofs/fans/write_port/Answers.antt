@@ -1,5 +1,4 @@
-use Rattle.std.proofs.Common.{◌≡◌, List, sym, ap, ◌∙◌}
-use Rattle.br_model.specs.GroupPairs.{GroupPair}
+use Rattle.std.proofs.Common.{ap, ◌∙◌}
 use Rattle.mdb_snoop.specs.Database.{memberships}
 use Rattle.chip_tables.specs.Rows.{Rows, vlan_at}
 use Rattle.chip_driver.specs.Joined.{has_vlan}

@@ -1,10 +1,4 @@
-use Rattle.std.proofs.Common.{◌≡◌, Some, None, true, false, ◌||◌, cond, sym, ap, ap₂, subst, ◌∙◌, arith}
-use Rattle.std.specs.Ordering.{eq_by_cmp}
-use Rattle.br_model.specs.GroupPairs.{group_pair_cmp}
-use Rattle.br_model.specs.Groups.{Membership, membership_cmp}
-use Rattle.br_model.specs.Maps.{joined}
 use Rattle.mdb_snoop.specs.Database.{memberships}
-use Rattle.std.specs.Prelude.{List}
 use Rattle.chip_driver.proofs.GroupLoop.{joined_follow, joined_room}
 use Rattle.chip_driver.proofs.groups.join.Goals as goal
 

@@ -1,8 +1,6 @@
-use Rattle.std.proofs.Common.{◌≡◌, Option, Some, None, true, false, cond, not, is_some, IsTrue, sym, ap, ap₂, refl, ◌∙◌, ◌↔◌, [], subst}
-use Rattle.br_model.specs.Groups.{Membership}
+use Rattle.std.proofs.Common.{◌≡◌, Some, None, cond, IsTrue, sym, ap, ◌∙◌, ◌↔◌, [], subst}
 use Rattle.mdb_snoop.specs.Database.{memberships, ports_in}
-use Rattle.chip_tables.specs.declared.rows.FanRow.{FanRow}
-use Rattle.chip_driver.specs.GroupRows.{has_pair, group_fan}
+use Rattle.chip_driver.specs.GroupRows.{group_fan}
 use Rattle.chip_driver.proofs.GroupLoop.{parted_follow, parted_room, row_or_none, some_row}
 use Rattle.chip_driver.proofs.groups.part.Goals as goal
 use Rattle.chip_driver.proofs.groups.part.Goals.{then-is_empty, else-is_empty}

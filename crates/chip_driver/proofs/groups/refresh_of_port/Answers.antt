@@ -1,8 +1,7 @@
-use Rattle.std.proofs.Common.{◌≡◌, ◌==◌, Some, sym, ap, ap₂, subst, ◌∙◌, arith, slice_get}
-use Rattle.br_model.specs.GroupPairs.{group_pairs}
+use Rattle.std.proofs.Common.{◌≡◌, sym, ◌∙◌, arith}
 use Rattle.mdb_snoop.specs.Database.{memberships}
 use Rattle.chip_driver.specs.Joined.{has_vlan}
-use Rattle.chip_driver.proofs.GroupLoop.{SoFar, all_so_far, room_so_far, next_written, next_kept, next_past}
+use Rattle.chip_driver.proofs.GroupLoop.{all_so_far, room_so_far, next_written, next_kept, next_past}
 use Rattle.chip_driver.proofs.groups.refresh_of_port.Goals as goal
 use Rattle.chip_driver.proofs.groups.refresh_of_port.Goals.{in-Some+then-has, in-Some+else-has, in_default}
 

@@ -1,4 +1,3 @@
-use Rattle.std.specs.Prelude.{◌==◌}
 use Rattle.mdb_snoop.specs.Database.{memberships}
 use Rattle.chip_driver.specs.Joined.{has_vlan}
 use Rattle.chip_driver.proofs.GroupLoop.{SoFar}

@@ -1,6 +1,5 @@
 use Rattle.std.specs.Prelude.{◌==◌}
 use Rattle.mdb_snoop.specs.Database.{memberships}
-use Rattle.chip_driver.specs.Joined.{has_vlan}
 use Rattle.chip_driver.proofs.GroupLoop.{SoFar}
 use Rattle.chip_driver.proofs.groups.refresh_of_vlan.Given as goal
 

@@ -1,4 +1,4 @@
-use Rattle.std.proofs.Common.{◌≡◌, List, ℕ, map, sym, refl, subst, ap, ◌∙◌}
+use Rattle.std.proofs.Common.{List, ℕ, sym, subst, ap, ◌∙◌}
 use Rattle.br_model.specs.Maps.{pair_cmp, without}
 use Rattle.mdb_snoop.specs.Database.{memberships}
 use Rattle.chip_tables.specs.declared.rows.AddressRow.{AddressRow}

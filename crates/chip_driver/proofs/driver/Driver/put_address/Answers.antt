@@ -1,4 +1,4 @@
-use Rattle.std.proofs.Common.{◌≡◌, List, ℕ, Some, map, sym, refl, subst, ap, ◌∙◌}
+use Rattle.std.proofs.Common.{List, ℕ, Some, sym, subst, ap, ◌∙◌}
 use Rattle.br_model.specs.Maps.{pair_cmp, put}
 use Rattle.mdb_snoop.specs.Database.{memberships}
 use Rattle.chip_tables.specs.declared.rows.AddressRow.{AddressRow}

@@ -1,0 +1,111 @@
+-- The VLANs of the sets and numbers that loops have seen.
+use Rattle.std.proofs.Common.{◌≡◌, ◌≢◌, ℕ, ◌+◌, ◌*◌, ◌/◌, ◌%◌, ◌<◌, Bool, true, false, ◌&&◌, ◌||◌, not, cond, ⊎_elim, List, [], ◌∷◌, ◌++◌, length, get_or, set, replicate, get_or-set_same, get_or-set_other, length-set, IsTrue, ◌↔◌, refl, sym, ap, ◌∙◌, arith}
+use Rattle.std.specs.Prelude.{◌==◌}
+use Rattle.std.proofs.lemmas.Bool.Decides.{eqb_tells}
+use Rattle.std.proofs.lemmas.List.{length-replicate, get_or-replicate}
+use Rattle.std.proofs.lemmas.List.Folds.{list_any-append}
+use Rattle.port_sets.specs.Numbers.{has_number}
+use Rattle.chip_driver.specs.Joined.{block_at, has_vlan}
+use Rattle.chip_driver.specs.Shadows.{switched}
+use Rattle.chip_driver.specs.UsedSets.{AreUsed}
+use Rattle.chip_driver.proofs.Sets.{has-where}
+
+-- those of set i with the numbers seen
+abbrev pub in_block : ℕ → List ℕ → ℕ → Bool
+in_block i seen w = (w / 64 == i) && has_number seen (w % 64)
+
+-- those of a port in the sets seen
+abbrev pub in_blocks : List (List ℕ) → ℕ → List ℕ → ℕ → Bool
+in_blocks blocks p seen w = has_number seen (w / 64) && has_vlan blocks p w
+
+nothing : (b : Bool) → (b && false) ≡ false
+nothing true = refl
+nothing false = refl
+
+pub none_in_block : (i w : ℕ) → in_block i [] w ≡ false
+none_in_block i w = nothing (w / 64 == i)
+
+one_more : (e h q : Bool) → (e && (h || (q || false))) ≡ ((e && q) || (e && h))
+one_more false h q = refl
+one_more true true true = refl
+one_more true true false = refl
+one_more true false true = refl
+one_more true false false = refl
+
+pub next_in_block : (i n : ℕ) (seen : List ℕ) (w : ℕ) → in_block i (seen ++ n ∷ []) w ≡ (((w / 64 == i) && (w % 64 == n)) || in_block i seen w)
+next_in_block i n seen w = ap (λ b. (w / 64 == i) && b) (list_any-append (λ k. w % 64 == k) seen (n ∷ [])) ∙ one_more (w / 64 == i) (has_number seen (w % 64)) (w % 64 == n)
+
+pub next_in_blocks : (blocks : List (List ℕ)) (p i : ℕ) (seen : List ℕ) (w : ℕ)
+    → in_blocks blocks p (seen ++ i ∷ []) w ≡ (((w / 64 == i) && has_number (block_at blocks p i) (w % 64)) || in_blocks blocks p seen w)
+next_in_blocks blocks p i seen w =
+    ap (λ b. b && has_vlan blocks p w) (list_any-append (λ k. w / 64 == k) seen (i ∷ []))
+    ∙ ⊎_elim
+    (λ (here : ((w / 64 == i) ≡ true) × (w / 64 ≡ i)).
+    more (has_number seen (w / 64)) (w / 64 == i) (has_vlan blocks p w)
+    ∙ ap (λ k. ((w / 64 == i) && has_number (block_at blocks p k) (w % 64)) || in_blocks blocks p seen w) here.1)
+    (λ (other : ((w / 64 == i) ≡ false) × (w / 64 ≢ i)).
+    more (has_number seen (w / 64)) (w / 64 == i) (has_vlan blocks p w)
+    ∙ ap (λ b. (b && has_vlan blocks p w) || in_blocks blocks p seen w) other.0
+    ∙ ap (λ b. (b && has_number (block_at blocks p i) (w % 64)) || in_blocks blocks p seen w) (sym other.0))
+    (eqb_tells (w / 64) i)
+  where
+    more : (h q x : Bool) → ((h || (q || false)) && x) ≡ ((q && x) || (h && x))
+    more true true true = refl
+    more true true false = refl
+    more true false true = refl
+    more true false false = refl
+    more false true true = refl
+    more false true false = refl
+    more false false x = refl
+
+-- the sets seen were all but empty ones
+pub all_in_blocks : (blocks : List (List ℕ)) (p : ℕ) (used : List ℕ) → ((i : ℕ) → i < 64 → has_number used i ≡ false → block_at blocks p i ≡ [])
+    → (w : ℕ) → w < 4096 → has_vlan blocks p w ≡ in_blocks blocks p used w
+all_in_blocks blocks p used others w low = by (has_number used (w / 64)) (λ none. ap (λ (b : List ℕ). has_number b (w % 64)) (others (w / 64) (omega arith) none))
+  where
+    by : (b : Bool) → (b ≡ false → has_vlan blocks p w ≡ false) → has_vlan blocks p w ≡ (b && has_vlan blocks p w)
+    by true h = refl
+    by false h = h refl
+
+-- no set, and no VLAN
+pub none_used : (blocks used : List (List ℕ)) → blocks ≡ replicate 4096 [] → used ≡ replicate 64 [] → AreUsed blocks used
+none_used blocks used no_blocks none = record {
+  sized = ap (λ (bs : List (List ℕ)). length bs) no_blocks ∙ length-replicate {A = List ℕ} 4096 [];
+  ports = ap (λ (us : List (List ℕ)). length us) none ∙ length-replicate {A = List ℕ} 64 [];
+  others = λ port i p_low i_low _. ap (λ (bs : List (List ℕ)). block_at bs port i) no_blocks ∙ get_or-replicate 4096 (64 * port + i) [] [] (omega arith);
+}
+
+-- one set of a port is written
+pub set_used : (blocks used : List (List ℕ)) (p i : ℕ) (block now : List ℕ) (empty : Bool) → AreUsed blocks used → p < 64 → i < 64
+    → now ≡ switched (get_or used p []) i (not empty) → IsTrue empty ↔ (block ≡ []) → AreUsed (set blocks (64 * p + i) block) (set used p now)
+set_used blocks used p i block now empty old p_low i_low now_is tells = record {
+  sized = length-set blocks (64 * p + i) block ∙ old.sized;
+  ports = length-set used p now ∙ old.ports;
+  others = λ q j q_low j_low none.
+      ⊎_elim
+      (λ (here : ((q == p) ≡ true) × (q ≡ p)).
+      of_port q j q_low j_low here.1 (sym (has-where now _ now_is j j_low) ∙ ap (λ (us : List ℕ). has_number us j) (sym (get_or-set_same used p now [] (omega (arith, old.ports)))) ∙ ap (λ n. has_number (get_or (set used p now) n []) j) (sym here.1) ∙ none))
+      (λ (other : ((q == p) ≡ false) × (q ≢ p)).
+      get_or-set_other blocks (64 * p + i) (64 * q + j) block [] (λ e. other.1 (omega arith))
+      ∙ old.others q j q_low j_low (ap (λ (us : List ℕ). has_number us j) (sym (get_or-set_other used p q now [] other.1)) ∙ none))
+      (eqb_tells q p);
+}
+  where
+    of_set : (q j : ℕ) → q < 64 → j < 64 → q ≡ p → (b : Bool) → b ≡ empty → cond (j == i) (not b) (has_number (get_or used p []) j) ≡ false → block_at (set blocks (64 * p + i) block) q j ≡ []
+    of_set q j q_low j_low same b b_is none =
+        ⊎_elim
+        (λ (here : ((j == i) ≡ true) × (j ≡ i)).
+        ap (λ k. get_or (set blocks (64 * p + i) block) k []) (let e : 64 * q + j ≡ 64 * p + i = omega (arith, same, here.1) in e)
+        ∙ get_or-set_same blocks (64 * p + i) block [] (omega (arith, old.sized))
+        ∙ tells.0 (emptied b (ap (λ c. cond c (not b) (has_number (get_or used p []) j)) (sym here.0) ∙ none) b_is))
+        (λ (other : ((j == i) ≡ false) × (j ≢ i)).
+        get_or-set_other blocks (64 * p + i) (64 * q + j) block [] (λ e. other.1 (omega (arith, same)))
+        ∙ old.others q j q_low j_low (ap (λ n. has_number (get_or used n []) j) same ∙ ap (λ c. cond c (not b) (has_number (get_or used p []) j)) (sym other.0) ∙ none))
+        (eqb_tells j i)
+      where
+        emptied : (b : Bool) → not b ≡ false → b ≡ empty → IsTrue empty
+        emptied true h e = sym e
+        emptied false h e = absurd (cc)
+
+    of_port : (q j : ℕ) → q < 64 → j < 64 → q ≡ p → cond (j == i) (not empty) (has_number (get_or used p []) j) ≡ false → block_at (set blocks (64 * p + i) block) q j ≡ []
+    of_port q j q_low j_low same none = of_set q j q_low j_low same empty refl none

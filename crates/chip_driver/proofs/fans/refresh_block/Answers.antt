@@ -1,0 +1,12 @@
+use Rattle.std.proofs.Common.{◌/◌, ◌%◌, ◌&&◌, [], ◌∷◌, ◌++◌}
+use Rattle.std.specs.Prelude.{◌==◌}
+use Rattle.chip_driver.proofs.Refreshing.{refreshed_both}
+use Rattle.chip_driver.proofs.Seen.{in_block, next_in_block}
+use Rattle.chip_driver.proofs.fans.refresh_block.Goals as goal
+
+pub loop-n-preserved : goal.loop-n-preserved
+loop-n-preserved c =
+    let i = c.args.i in
+    let n = c.in-Some.n in
+    let seen = c.loop-n.yielded in
+    refreshed_both c.args.shadow.now (in_block i seen) (λ w. (w / 64 == i) && (w % 64 == n)) (in_block i (seen ++ n ∷ [])) _ _ _ c.loop-n.invariant c.refresh_number.ensures (λ w in_range. next_in_block i n seen w)
