@@ -16,19 +16,19 @@ both a b p q = λ i. p i && q i
 
 -- the course after changes that fit
 abbrev pub after : Course → List Change → Course
-after r cs = record { table = fold apply r.table cs; control = fold keeps_up r.control cs; changes = r.changes ++ cs }
+after r cs = record { table = fold apply r.table cs; control = fold keeps_up r.control cs; changes = r.changes ++ cs; messages = r.messages }
 
 made : (r : Course) (c : Change) (cs : List Change) → fits r.table c ≡ true → after (makes r c) cs ≡ after r (c ∷ cs)
 made r c cs h =
-    ap (λ b. after (cond b (record { table = apply r.table c; control = keeps_up r.control c; changes = r.changes ++ c ∷ [] }) r) cs) h
-    ∙ ap (λ (l : List Change). record { table = fold apply (apply r.table c) cs; control = fold keeps_up (keeps_up r.control c) cs; changes = l }) (append_assoc r.changes (c ∷ []) cs)
+    ap (λ b. after (cond b (record { table = apply r.table c; control = keeps_up r.control c; changes = r.changes ++ c ∷ []; messages = r.messages }) r) cs) h
+    ∙ ap (λ (l : List Change). record { table = fold apply (apply r.table c) cs; control = fold keeps_up (keeps_up r.control c) cs; changes = l; messages = r.messages }) (append_assoc r.changes (c ∷ []) cs)
 
 pub made_all : (r : Course) (cs : List Change) → all_fit r.table cs ≡ true → makes_all r cs ≡ after r cs
-made_all r [] h = ap (λ (l : List Change). record { table = r.table; control = r.control; changes = l }) (sym (append-nil r.changes))
+made_all r [] h = ap (λ (l : List Change). record r { changes = l }) (sym (append-nil r.changes))
 made_all r (c ∷ cs) h =
     let here = first_so (fits r.table c) (all_fit (apply r.table c) cs) h in
     let later = second_so (fits r.table c) (all_fit (apply r.table c) cs) h in
-    made_all (makes r c) cs (ap (λ b. all_fit (cond b (record { table = apply r.table c; control = keeps_up r.control c; changes = r.changes ++ c ∷ [] }) r).table cs) here ∙ later)
+    made_all (makes r c) cs (ap (λ b. all_fit (cond b (record { table = apply r.table c; control = keeps_up r.control c; changes = r.changes ++ c ∷ []; messages = r.messages }) r).table cs) here ∙ later)
     ∙ made r c cs here
 
 -- changes that fit behind others that do

@@ -1,4 +1,5 @@
 pub mod Drops
 pub mod Fitting
 pub mod Moments
+pub mod Accepting
 pub mod Reactions

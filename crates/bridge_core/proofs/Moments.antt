@@ -128,14 +128,14 @@ learned_expires Learned = refl
 learned_expires Extern = refl
 
 old-as : (now hold : ℕ) (ms : List (Address × ℕ)) (es : Entries) → Has ms es
-    → keys_where (is_expired now hold) es ≡ map (λ e. e.0) (filter (λ e. expires e.1.1 && is_old (record { now = now; ageing = hold; updated = ms }) e.0) (addresses es))
+    → keys_where (is_expired now hold) es ≡ map (λ e. e.0) (filter (λ e. expires e.1.1 && is_old now hold ms e.0) (addresses es))
 old-as now hold ms [] h = refl
 old-as now hold ms (e ∷ es) h =
     by (is_expired now hold e.1) (old-as now hold ms es h.1)
     ∙ ap (λ b. map (λ (f : Address × (ℕ × Kind)). f.0) (cond b ((e.0, place e.1) ∷ rest) rest)) same
   where
     old : Address × (ℕ × Kind) → Bool
-    old f = expires f.1.1 && is_old (record { now = now; ageing = hold; updated = ms }) f.0
+    old f = expires f.1.1 && is_old now hold ms f.0
 
     rest : List (Address × (ℕ × Kind))
     rest = filter old (addresses es)

@@ -1,44 +1,57 @@
 -- What events come to, once their changes are known to fit.
-use Rattle.std.proofs.Common.{◌≡◌, ℕ, Bool, true, false, not, ◌&&◌, if◌then◌else◌, nat_lt, ◌==◌, is_some, List, [], ◌∷◌, ◌++◌, Option, Some, None, refl, sym, ap, subst, ◌∙◌}
-use Rattle.std.specs.List.{filter, list_all}
+use Rattle.std.proofs.Common.{arith, ◌≡◌, ℕ, ◌<◌, ◌^◌, Bool, true, false, not, ◌&&◌, ◌||◌, if◌then◌else◌, ◌==◌, is_some, List, [], ◌∷◌, ◌++◌, map, fold, Option, Some, None, option_map, refl, sym, ap, subst, ◌∙◌}
+use Rattle.std.specs.Prelude.{IfSome, IsSome}
+use Rattle.std.specs.List.{filter, filter_map, flat_map, cons_option, list_all}
 use Rattle.std.specs.Option.{option_map_or}
 use Rattle.std.specs.Ordering.{nat_cmp}
+use Rattle.std.proofs.lemmas.List.{append-nil}
 use Rattle.std.specs.declared.result.Result.{Result}
 use Rattle.std.specs.declared.result.Result.TheVariants.{Ok, Err}
+use Rattle.br_model.specs.declared.bpdu.BpduMsg.{BpduMsg}
 use Rattle.br_model.specs.declared.change.Change.{Change}
 use Rattle.br_model.specs.declared.change.Change.TheVariants as changes
 use Rattle.br_model.specs.declared.change.Kind.{Kind}
-use Rattle.br_model.specs.declared.change.Kind.TheVariants.{Learned}
+use Rattle.br_model.specs.declared.change.Kind.TheVariants.{Learned, Extern}
+use Rattle.br_model.specs.declared.frame.Head.{Head}
 use Rattle.br_model.specs.declared.steps.Command.{Command}
-use Rattle.br_model.specs.declared.steps.Command.TheVariants.{PortUp, PortDown, Link, VlanAdd, VlanDel, FdbAdd, FdbDel, Ageing}
-use Rattle.br_model.specs.declared.steps.Event.TheVariants.{Cmd, Moment, Forget}
+use Rattle.br_model.specs.declared.steps.Command.TheVariants.{PortUp, PortDown, Link, Cost, PortPriority, VlanAdd, VlanDel, FdbAdd, FdbDel, Stp, Priority, Ageing}
 use Rattle.br_model.specs.declared.steps.Refusal.{Refusal}
 use Rattle.br_model.specs.declared.steps.Refusal.TheVariants as refusals
-use Rattle.br_model.specs.Ageing.{forgets, forgotten}
+use Rattle.br_model.specs.declared.transcript.Line.{Line}
+use Rattle.br_model.specs.declared.tree.TreeEvent.{TreeEvent}
+use Rattle.br_model.specs.declared.tree.TreeEvent.TheVariants.{Message, Moment}
+use Rattle.br_model.specs.Admission.{is_up, vlan_of, has_valid_source}
+use Rattle.br_model.specs.Ageing.{forgets}
+use Rattle.br_model.specs.Bpdus.{bpdu}
 use Rattle.br_model.specs.Commands.{command, sets}
 use Rattle.br_model.specs.Commands.Ports.{goes_down, drops_addresses, drops_groups, drops_vlans, flags_of, flags_with}
+use Rattle.br_model.specs.Commands.SpanningTree.{is_switched}
 use Rattle.br_model.specs.Commands.Vlans.{leaves_vlan}
 use Rattle.br_model.specs.Control.{Control, keeps_up, renewed}
-use Rattle.br_model.specs.Course.{from, makes_all}
+use Rattle.br_model.specs.Course.{Course, from, makes_all}
 use Rattle.br_model.specs.Groups.{Membership}
-use Rattle.br_model.specs.Learning.{Address, Triple, is_news, is_renewed, is_dynamic, taught}
+use Rattle.br_model.specs.Learning.{Address, is_news, is_renewed, is_dynamic, is_learned_at, may_teach, taught, teach, teach_in, told as reported}
 use Rattle.br_model.specs.Limits.{fits, all_fit}
 use Rattle.br_model.specs.Maps.{pair_cmp, get, has}
-use Rattle.br_model.specs.Reaction.{ages, in_room, learns, commanded, react}
-use Rattle.br_model.specs.Setup.{Setup}
-use Rattle.br_model.specs.Table.{Table, table, apply}
+use Rattle.br_model.specs.Plane.World.{control_line, control_lines}
+use Rattle.br_model.specs.Reaction.{learns}
+use Rattle.br_model.specs.Table.{Table, apply}
+use Rattle.br_model.specs.Targets.{bridge_group_address, is_for_the_host, pause_address}
+use Rattle.br_model.specs.Tree.{Tree, numbers, state_at}
+use Rattle.br_model.specs.TreeReaction.{follows, heard, told as tells_it}
+use Rattle.br_model.specs.TreeSending.{quiet}
+use Rattle.br_model.specs.TreeStep.{tree_step, message}
 use Rattle.bridge_core.specs.declared.learning.Lesson.{Lesson}
 use Rattle.bridge_core.specs.declared.learning.Lesson.TheVariants.{Known, Renewed, News}
-use Rattle.bridge_core.specs.Answers.{course}
-use Rattle.bridge_core.specs.Lessons.{lesson_of}
-use Rattle.bridge_core.proofs.Fitting.{made_all, all_fit_any, always_fits, always-append, always-map}
+use Rattle.bridge_core.specs.declared.plan.Plan.{Plan}
+use Rattle.bridge_core.specs.Following.{state_change, config_lines, line_of}
+use Rattle.bridge_core.specs.Lessons.{lesson_of, is_taken}
+use Rattle.bridge_core.specs.Plans.{Plans, renewed_at}
+use Rattle.bridge_core.specs.Standing.{clocked}
+use Rattle.bridge_core.proofs.Fitting.{all_fit_any, always_fits, always-append, always-map}
 
 both : (a b : Bool) → a ≡ true → b ≡ true → (a && b) ≡ true
 both a b p q = λ i. p i && q i
-
--- changes that fit, from where the bridge stands
-pub makes_course : (h : List Change) (c : Control) (cs : List Change) → all_fit (table h) cs ≡ true → makes_all (from (table h) c) cs ≡ course h c cs
-makes_course h c cs fit = made_all (from (table h) c) cs fit
 
 -- the changes of a command fit
 
@@ -94,6 +107,8 @@ fit_command t (Link port flag on) cs e = fit_along t _ cs (flags (flags_of t por
     flags : (b : Bool) → all_fit t (if b then [] else changes.SetFlags port (flags_with on (flags_of t port) flag) ∷ []) ≡ true
     flags true = refl
     flags false = refl
+fit_command t (Cost port n) cs e = fit_along t _ cs refl (tested _ refusals.PortNotUp _ cs e).1
+fit_command t (PortPriority port n) cs e = fit_along t _ cs refl (tested _ refusals.PortNotUp _ cs e).1
 fit_command t (VlanAdd port vid untagged pvid) cs e = fit_along t _ cs refl (tested _ refusals.Exists _ cs (tested _ refusals.PortNotUp _ cs e).1).1
 fit_command t (VlanDel port vid) cs e = fit_along t _ cs (all_fit_any t (leaves_vlan t port vid) (drops_vlan t port vid)) (tested _ refusals.Absent _ cs (tested _ refusals.PortNotUp _ cs e).1).1
 fit_command t (FdbAdd vid mac port kind) cs e =
@@ -104,31 +119,62 @@ fit_command t (FdbAdd vid mac port kind) cs e =
     turned true e = refl
     turned false e = absurd (cc)
 fit_command t (FdbDel vid mac) cs e = fit_along t _ cs refl (tested _ refusals.Absent _ cs e).1
+fit_command t (Stp on) cs e = fit_along t _ cs (switched (is_switched t on)) e
+  where
+    switched : (b : Bool) → all_fit t (if b then [] else changes.Stp on ∷ []) ≡ true
+    switched true = refl
+    switched false = refl
+fit_command t (Priority n) cs e = fit_along t [] cs refl e
 fit_command t (Ageing seconds) cs e = fit_along t [] cs refl e
-
-pub obeys : (s : Setup) (h : List Change) (c c' : Control) (asked : Command) (cs ds : List Change) → command (table h) asked ≡ Ok cs → c' ≡ sets c asked → ds ≡ cs
-    → in_room h (Ok (course h c' ds)) ≡ react s h c (Cmd asked)
-unfolding react
-obeys s h c c' asked cs ds answer set same =
-    (λ i. in_room h (Ok (course h (set i) (same i))))
-    ∙ ap (λ r. in_room h (Ok r)) (sym (makes_course h (sets c asked) cs (fit_command (table h) asked cs answer)))
-    ∙ ap (λ a. in_room h (commanded (from (table h) c) asked a)) (sym answer)
-
--- a moment that doesn't go back
-pub passes : (s : Setup) (h : List Change) (c : Control) (now : ℕ) → nat_lt now c.now ≡ false → in_room h (Ok (ages (from (table h) (record c { now = now })))) ≡ react s h c (Moment now)
-unfolding react
-passes s h c now e = ap (λ b. in_room h (if b then Err refusals.Backward else Ok (ages (from (table h) (record c { now = now }))))) (sym e)
 
 -- the deletions of a moment fit
 pub fit_forgets : (t : Table) (keys : List Address) → all_fit t (forgets keys) ≡ true
 fit_forgets t keys = all_fit_any t (forgets keys) (always-map (λ (k : Address). changes.AddrDel k.0 k.1) keys (λ k. refl))
 
--- the stations that a chip no longer sees
-pub forgets_them : (s : Setup) (h : List Change) (c c' : Control) (stations : List Triple) (cs : List Change) → c' ≡ c → cs ≡ forgets (forgotten (table h) stations)
-    → in_room h (Ok (course h c' cs)) ≡ react s h c (Forget stations)
-unfolding react
-forgets_them s h c c' stations cs same e =
-    (λ i. in_room h (Ok (course h (same i) (e i)))) ∙ ap (λ r. in_room h (Ok r)) (sym (makes_course h c (forgets (forgotten (table h) stations)) (fit_forgets (table h) (forgotten (table h) stations))))
+-- A plan that changes the table alone.
+pub makes : (t : Table) (c : Control) (p : Plan) (r : Course) (cs : List Change) → p.clock.now < 2 ^ 53 → clocked p.clock c ≡ c → p.renewed ≡ None → p.changes.items ≡ cs → p.told ≡ None
+    → all_fit t cs ≡ true → makes_all (from t c) cs ≡ r → Plans t c (Ok p) (Ok r)
+makes t c p r cs early clock renewed is told fit comes = (
+  ap (λ (x : Course). yes x) (sym comes) ∙ sym (λ i. yes (tells_it (told i) (makes_all (record { table = t; control = renewed_at (clock i) (renewed i); changes = []; messages = [] }) (is i)))),
+  record {
+    early = early;
+    there = subst (λ (o : Option Address). IfSome o (λ key. IsSome (get pair_cmp t.addr key))) (sym renewed) tt;
+    fits = ap (all_fit t) is ∙ fit;
+  },
+)
+  where
+    yes : Course → Result Course Refusal
+    yes x = Ok x
+
+-- a change that is offered where the test holds is made where it fits too
+offered : (t : Table) (c : Control) (d : Change) (test : Bool) → (test && fits t d) ≡ true → makes_all (from t c) (d ∷ []) ≡ makes_all (from t c) (if test then d ∷ [] else [])
+offered t c d true e = refl
+offered t c d false e = absurd (cc)
+
+offered-fits : (t : Table) (d : Change) (test : Bool) → (test && fits t d) ≡ true → all_fit t (d ∷ []) ≡ true
+offered-fits t d true e = both _ _ e refl
+offered-fits t d false e = absurd (cc)
+
+declined : (t : Table) (c : Control) (d : Change) (test : Bool) → (test && fits t d) ≡ false → from t c ≡ makes_all (from t c) (if test then d ∷ [] else [])
+declined t c d true e = sym (ap (λ b. if b then record (from t c) { table = apply t d; control = keeps_up c d; changes = d ∷ [] } else from t c) e)
+declined t c d false e = refl
+
+-- a report that is taken, and one that isn't
+
+abbrev pub report_of : Address → ℕ → Change
+report_of key port = changes.AddrPut key.0 key.1 port Extern
+
+abbrev is_offered : Table → Address → ℕ → Bool
+is_offered t key port = may_teach t port key.0 && (is_news t key port || is_learned_at t key port)
+
+pub fits_report : (t : Table) (key : Address) (port : ℕ) → is_taken t key port ≡ true → all_fit t (report_of key port ∷ []) ≡ true
+fits_report t key port e = offered-fits t (report_of key port) (is_offered t key port) e
+
+pub report_taken : (t : Table) (c : Control) (key : Address) (port : ℕ) → is_taken t key port ≡ true → makes_all (from t c) (report_of key port ∷ []) ≡ makes_all (from t c) (reported t key port)
+report_taken t c key port e = offered t c (report_of key port) (is_offered t key port) e
+
+pub report_left : (t : Table) (c : Control) (key : Address) (port : ℕ) → is_taken t key port ≡ false → from t c ≡ makes_all (from t c) (reported t key port)
+report_left t c key port e = declined t c (report_of key port) (is_offered t key port) e
 
 -- what an address behind a port comes to
 
@@ -146,38 +192,26 @@ by_tests true news = refl
 by_tests false true = (refl, refl)
 by_tests false false = (refl, refl)
 
-tests_of : (t : Table) (key : Address) (port : ℕ) (l : Lesson) → l ≡ lesson_of t key port → Tests (is_renewed t key port) (is_news t key port && fits t (put_of key port)) l
-tests_of t key port l e = subst (λ (x : Lesson). Tests (is_renewed t key port) (is_news t key port && fits t (put_of key port)) x) (sym e) (by_tests (is_renewed t key port) (is_news t key port && fits t (put_of key port)))
+module _ (t : Table) (c : Control) (key : Address) (port : ℕ) where
+  tests_of : (l : Lesson) → l ≡ lesson_of t key port → Tests (is_renewed t key port) (is_news t key port && fits t (put_of key port)) l
+  tests_of l e = subst (λ (x : Lesson). Tests (is_renewed t key port) (is_news t key port && fits t (put_of key port)) x) (sym e) (by_tests (is_renewed t key port) (is_news t key port && fits t (put_of key port)))
 
-module _ (h : List Change) (c : Control) (key : Address) (port : ℕ) where
   -- where nothing is renewed
-  unrenewed : is_renewed (table h) key port ≡ false → learns port (Some key) (from (table h) c) ≡ makes_all (from (table h) c) (taught (table h) key port)
-  unrenewed e = ap (λ b. makes_all (if b then record (from (table h) c) { control = renewed c key } else from (table h) c) (taught (table h) key port)) e
+  unrenewed : is_renewed t key port ≡ false → learns port (Some key) (from t c) ≡ makes_all (from t c) (taught t key port)
+  unrenewed e = ap (λ b. makes_all (if b then record (from t c) { control = renewed c key } else from t c) (taught t key port)) e
 
-  known : (news room : Bool) → (news && room) ≡ false → is_news (table h) key port ≡ news → fits (table h) (put_of key port) ≡ room → makes_all (from (table h) c) (taught (table h) key port) ≡ course h c []
-  known true room none n r =
-      ap (λ b. makes_all (from (table h) c) (if b then put_of key port ∷ [] else [])) n
-      ∙ ap (λ b. if b then record { table = apply (table h) (put_of key port); control = keeps_up c (put_of key port); changes = put_of key port ∷ [] } else from (table h) c) (r ∙ none)
-  known false room none n r = ap (λ b. makes_all (from (table h) c) (if b then put_of key port ∷ [] else [])) n
-
-  pub learns_known : Known ≡ lesson_of (table h) key port → learns port (Some key) (from (table h) c) ≡ course h c []
+  pub learns_known : Known ≡ lesson_of t key port → from t c ≡ learns port (Some key) (from t c)
   learns_known e =
-      let t = tests_of (table h) key port Known e in
-      unrenewed t.0 ∙ known (is_news (table h) key port) (fits (table h) (put_of key port)) t.1 refl refl
+      let is = tests_of Known e in
+      declined t c (put_of key port) (is_news t key port) is.1 ∙ sym (unrenewed is.0)
 
-  news_too : (news room : Bool) → (news && room) ≡ true → (news ≡ true) × (room ≡ true)
-  news_too true room e = (refl, e)
-  news_too false room e = absurd (cc)
+  pub fits_news : News ≡ lesson_of t key port → all_fit t (put_of key port ∷ []) ≡ true
+  fits_news e = offered-fits t (put_of key port) (is_news t key port) (tests_of News e).1
 
-  pub fits_news : News ≡ lesson_of (table h) key port → all_fit (table h) (put_of key port ∷ []) ≡ true
-  fits_news e = both _ _ (news_too _ _ (tests_of (table h) key port News e).1).1 refl
-
-  pub learns_news : News ≡ lesson_of (table h) key port → learns port (Some key) (from (table h) c) ≡ course h c (put_of key port ∷ [])
+  pub learns_news : News ≡ lesson_of t key port → makes_all (from t c) (put_of key port ∷ []) ≡ learns port (Some key) (from t c)
   learns_news e =
-      let t = tests_of (table h) key port News e in
-      unrenewed t.0
-      ∙ ap (λ b. makes_all (from (table h) c) (if b then put_of key port ∷ [] else [])) (news_too _ _ t.1).0
-      ∙ makes_course h c (put_of key port ∷ []) (fits_news e)
+      let is = tests_of News e in
+      offered t c (put_of key port) (is_news t key port) is.1 ∙ sym (unrenewed is.0)
 
   -- what is renewed is no news
   no_news : (o : Option (ℕ × Kind)) → option_map_or (λ e. is_dynamic e.1 && e.0 == port) o false ≡ true → option_map_or (λ e. is_dynamic e.1 && not (e.0 == port)) o true ≡ false
@@ -189,16 +223,117 @@ module _ (h : List Change) (c : Control) (key : Address) (port : ℕ) where
       by true false e = absurd (cc)
       by false s e = absurd (cc)
 
-  pub learns_renewed : Renewed ≡ lesson_of (table h) key port → learns port (Some key) (from (table h) c) ≡ record { table = table h; control = renewed c key; changes = [] }
+  pub learns_renewed : Renewed ≡ lesson_of t key port → learns port (Some key) (from t c) ≡ record (from t c) { control = renewed c key }
   learns_renewed e =
-      let t = tests_of (table h) key port Renewed e in
-      ap (λ b. makes_all (if b then record (from (table h) c) { control = renewed c key } else from (table h) c) (taught (table h) key port)) t
-      ∙ ap (λ b. makes_all (record (from (table h) c) { control = renewed c key }) (if b then put_of key port ∷ [] else [])) (no_news (get pair_cmp (table h).addr key) t)
+      let is = tests_of Renewed e in
+      ap (λ b. makes_all (if b then record (from t c) { control = renewed c key } else from t c) (taught t key port)) is
+      ∙ ap (λ b. makes_all (record (from t c) { control = renewed c key }) (if b then put_of key port ∷ [] else [])) (no_news (get pair_cmp t.addr key) is)
 
   -- what is renewed is there
-  pub is_there : Renewed ≡ lesson_of (table h) key port → is_some (get pair_cmp (table h).addr key) ≡ true
-  is_there e = by (get pair_cmp (table h).addr key) (tests_of (table h) key port Renewed e)
+  pub is_there : Renewed ≡ lesson_of t key port → is_some (get pair_cmp t.addr key) ≡ true
+  is_there e = by (get pair_cmp t.addr key) (tests_of Renewed e)
     where
       by : (o : Option (ℕ × Kind)) → option_map_or (λ e. is_dynamic e.1 && e.0 == port) o false ≡ true → is_some o ≡ true
       by None e = absurd (cc)
       by (Some x) e = refl
+
+-- the spanning tree
+
+-- a frame that it reads teaches nothing
+pub heard_alone : (t : Table) (port : ℕ) (bytes : List ℕ) (head : Head) (event : TreeEvent) → heard t port bytes head ≡ Some event → teach t port head ≡ None
+heard_alone t port bytes head event e =
+    by (head.dst == bridge_group_address) (t.stp) (is_up t port && has_valid_source head) e
+  where
+    by : (at on may : Bool) → (if at && (on && may) then option_map (λ m. Message port m) (bpdu bytes) else None) ≡ Some event
+        → (if not (head.dst == pause_address || (is_for_the_host head.dst || (at && on))) && has_valid_source head then teach_in t port (vlan_of t port head) head.src else None) ≡ None
+    by false on may h = absurd (cc)
+    by true false may h = absurd (cc)
+    by true true false h = absurd (cc)
+    by true true true h = reserved (head.dst == pause_address) (is_for_the_host head.dst)
+      where
+        reserved : (p q : Bool) → (if not (p || (q || true)) && has_valid_source head then teach_in t port (vlan_of t port head) head.src else None) ≡ None
+        reserved true q = refl
+        reserved false true = refl
+        reserved false false = refl
+
+itself : (n : ℕ) → (n == n) ≡ true
+itself n = grind arith
+
+-- no port has another state than itself
+unmoved : (t : Tree) (ps : List ℕ) → filter (λ p. not (state_at t p == state_at t p)) ps ≡ []
+unmoved t [] = refl
+unmoved t (p ∷ ps) = ap (λ b. if not b then p ∷ filter (λ q. not (state_at t q == state_at t q)) ps else filter (λ q. not (state_at t q == state_at t q)) ps) (itself (state_at t p)) ∙ unmoved t ps
+
+-- where nothing is due, nothing comes of telling the moment
+pub told_idle : (r : Course) → tree_step r.control.tree r.control.now Moment ≡ quiet r.control.tree → r ≡ tells_it (Some Moment) r
+told_idle r idle =
+    sym (
+    ap (follows r) idle
+    ∙ (λ i. makes_all (record r { messages = append-nil r.messages i }) (map (state_change r.control.tree) (unmoved r.control.tree (numbers r.control.tree.ports) i)))
+    )
+
+-- neither the moment nor the spanning tree changes with the table
+same : (c : Control) (cs : List Change) → ((fold keeps_up c cs).now ≡ c.now) × ((fold keeps_up c cs).tree ≡ c.tree)
+same c [] = (refl, refl)
+same c (d ∷ ds) =
+    let later = same (keeps_up c d) ds in
+    let here = one c d in
+    (later.0 ∙ here.0, later.1 ∙ here.1)
+  where
+    one : (c : Control) (d : Change) → ((keeps_up c d).now ≡ c.now) × ((keeps_up c d).tree ≡ c.tree)
+    one c (changes.PortUp port) = (refl, refl)
+    one c (changes.PortDown port) = (refl, refl)
+    one c (changes.SetFlags port flags) = (refl, refl)
+    one c (changes.SetState port state) = (refl, refl)
+    one c (changes.VlanAdd port vid untagged pvid) = (refl, refl)
+    one c (changes.VlanDel port vid) = (refl, refl)
+    one c (changes.GroupJoin port vid group) = (refl, refl)
+    one c (changes.GroupPart port vid group) = (refl, refl)
+    one c (changes.Router port on) = (refl, refl)
+    one c (changes.Querier six on) = (refl, refl)
+    one c (changes.Snoop on) = (refl, refl)
+    one c (changes.Stp on) = (refl, refl)
+    one c (changes.AddrPut vid mac port kind) = (refl, refl)
+    one c (changes.AddrDel vid mac) = (refl, refl)
+
+pub same_clock : (c : Control) (cs : List Change) → (fold keeps_up c cs).now ≡ c.now
+same_clock c cs = (same c cs).0
+
+pub same_tree : (c : Control) (cs : List Change) → (fold keeps_up c cs).tree ≡ c.tree
+same_tree c cs = (same c cs).1
+
+-- no command sets the moment
+pub sets_no_clock : (c : Control) (asked : Command) → (sets c asked).now ≡ c.now
+sets_no_clock c (PortUp port) = refl
+sets_no_clock c (PortDown port) = refl
+sets_no_clock c (Link port flag on) = refl
+sets_no_clock c (Cost port n) = refl
+sets_no_clock c (PortPriority port n) = refl
+sets_no_clock c (VlanAdd port vid untagged pvid) = refl
+sets_no_clock c (VlanDel port vid) = refl
+sets_no_clock c (FdbAdd vid mac port kind) = refl
+sets_no_clock c (FdbDel vid mac) = refl
+sets_no_clock c (Stp on) = refl
+sets_no_clock c (Priority n) = refl
+sets_no_clock c (Ageing seconds) = refl
+
+-- the lines of the messages that went out on these ports
+pub frames_of : (own : ℕ) (t : Tree) (ports : List ℕ)
+    → flat_map (config_lines own t) ports ≡ control_lines own (filter_map (λ p. option_map (λ m. (p, m)) (message t p)) ports)
+frames_of own t [] = refl
+frames_of own t (p ∷ ports) = by (message t p) (frames_of own t ports)
+  where
+    by : (o : Option BpduMsg) → flat_map (config_lines own t) ports ≡ control_lines own (filter_map (λ p. option_map (λ m. (p, m)) (message t p)) ports)
+        → line_of own p o ++ flat_map (config_lines own t) ports
+        ≡ control_lines own (cons_option (option_map (λ m. (p, m)) o) (filter_map (λ p. option_map (λ m. (p, m)) (message t p)) ports))
+    by None ih = ih
+    by (Some m) ih = ap (λ (l : List Line). control_line own (p, m) ∷ l) ih
+
+-- to renew an entry changes neither the moment nor the spanning tree
+pub renewed_clock : (c : Control) (o : Option Address) → (renewed_at c o).now ≡ c.now
+renewed_clock c None = refl
+renewed_clock c (Some key) = refl
+
+pub renewed_tree : (c : Control) (o : Option Address) → (renewed_at c o).tree ≡ c.tree
+renewed_tree c None = refl
+renewed_tree c (Some key) = refl

@@ -24,8 +24,7 @@ keys_at port addr = map (λ e. e.0) (filter (λ e. e.1.0 == port) addr)
 
 -- the learned addresses that are old at the moment `now`, where they stay for `hold`
 abbrev pub old_keys : ℕ → ℕ → Entries → List Address
-old_keys now hold s =
-    map (λ e. e.0) (filter (λ e. expires e.1.1 && is_old (record { now = now; ageing = hold; updated = s.updated }) e.0) s.addr)
+old_keys now hold s = map (λ e. e.0) (filter (λ e. expires e.1.1 && is_old now hold s.updated e.0) s.addr)
 
 -- whether the bound is over by then: none of the entries is old before
 abbrev pub is_due : ℕ → ℕ → Entries → Bool

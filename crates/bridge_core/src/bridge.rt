@@ -1,5 +1,5 @@
 //! The control plane: the accepted changes, and the reaction to an event.
-ghost use Rattle.std.specs.Prelude.{◌≡◌, [], length, option_map, Some, Ok, Err, IfOk, IsTrue};
+ghost use Rattle.std.specs.Prelude.{◌≡◌, ◌<◌, ◌^◌, [], length, option_map, true, Some, Ok, IfOk, IfSome, IsSome, IsTrue, vec_len, vec_capacity};
 ghost use Rattle.std.specs.List.{filter};
 ghost use Rattle.br_model.specs.Change.{deferred};
 ghost use Rattle.br_model.specs.Control.{first_control};
@@ -8,25 +8,29 @@ ghost use Rattle.br_model.specs.Frames.{frame};
 ghost use Rattle.br_model.specs.Limits.{all_fit, AreWithin};
 ghost use Rattle.br_model.specs.Maps.{pair_cmp, get};
 ghost use Rattle.fdb_core.specs.Fdb.{place};
-ghost use Rattle.br_model.specs.Reaction.{ages, in_room, learns, react as reaction};
+ghost use Rattle.br_model.specs.Reaction.{happens, in_room, react as reaction};
 ghost use Rattle.br_model.specs.Table.{table, start};
 ghost use Rattle.br_model.specs.declared.steps.Event.TheVariants as Event;
-ghost use Rattle.bridge_core.specs.Answers.{IsSeen, Reacts, course};
+ghost use Rattle.bridge_core.specs.Answers.{IsEvent, Makes, Reacts, ctl_of};
+ghost use Rattle.bridge_core.specs.Plans.{IsSound, Plans, planned, renewed_at};
 ghost use Rattle.bridge_core.specs.Standing.{clocked};
 
-use crate::ageing::{forgets, forgets_reported};
-use crate::commands::{command, sets};
+use crate::ageing::{loses, passes_to};
+use crate::commands::obey;
 use crate::faults::EventFault;
-use crate::learning::{Lesson, is_taken, lesson_of, teach};
+use crate::learning::{is_told, sees};
+use crate::plan::Plan;
+use crate::spanning_tree::{add_frames, add_states};
 use crate::state::{Clock, State};
 use br_model::NoMemory;
-use br_model::change::{Change, Kind};
+use br_model::change::Change;
 use br_model::domains::Domains;
 use br_model::frame::Head;
-use br_model::numbers::{Dom, Mac, Port, Vid};
-use br_model::steps::{Command, Event, Refusal, Triples};
-use br_model::transcript::Lines;
-use fdb_core::Entry;
+use br_model::numbers::{Mac, Port, Vid};
+use br_model::steps::{Event, Refusal};
+use br_model::transcript::{Line, Lines};
+use br_model::tree::TreeEvent;
+use fdb_core::{Entry, Key};
 use std::alloc::Global;
 use std::marker::Model;
 
@@ -55,7 +59,7 @@ impl Model for Bridge {
 
     ghost Value = { Controlled };
 
-    ghost use Rattle.std.specs.Prelude.{◌≡◌, ◌≤◌, IsTrue, length};
+    ghost use Rattle.std.specs.Prelude.{◌≡◌, ◌≤◌, ◌<◌, ◌^◌, IsTrue, length};
     ghost use Rattle.std.specs.List.{filter};
     ghost use Rattle.br_model.specs.Change.{deferred};
     ghost use Rattle.br_model.specs.Course.{from};
@@ -65,7 +69,7 @@ impl Model for Bridge {
 
     ghost view = { λ b. record { setup = record { domains = b.domains; own = b.own }; history = b.history.items; control = control_of b.state } };
 
-    ghost invariant = { λ b. (table_of b.state ≡ table b.history.items) × (b.pending ≡ length (filter deferred b.history.items)) × (length b.history.items ≤ most_changes) × IsTrue (all_fit start b.history.items) };
+    ghost invariant = { λ b. (table_of b.state ≡ table b.history.items) × (b.pending ≡ length (filter deferred b.history.items)) × (length b.history.items ≤ most_changes) × IsTrue (all_fit start b.history.items) × (b.state.clock.now < 2 ^ 53) };
 }
 
 /// How many of the changes are deferred.
@@ -79,179 +83,168 @@ impl Bridge {
     /// A bridge with this address and the ports of these domains, in which nothing has happened. It takes the memory
     /// for its tables, but not for the changes to come.
     pub fn make(alloc: Global, domains: Domains, own: Mac) -> Result<Bridge, NoMemory>
-        ensures { IfOk result (λ b. b ≡ record { setup = record { domains = domains; own = own }; history = []; control = first_control }) }
+        ensures { IfOk result (λ b. b ≡ record { setup = record { domains = domains; own = own }; history = []; control = first_control own }) }
     {
         Ok(Bridge {
             domains,
             own,
             history: Vec::new(alloc),
-            state: State::make(alloc)?,
+            state: State::make(alloc, own)?,
             pending: 0,
         })
     }
 
-    /// Makes the changes at this moment, or refuses them where they are too many.
-    fn accept(&mut self, clock: Clock, changes: &[Change]) -> Result<(), EventFault>
-        requires { IsTrue (all_fit (table self.old.history) changes.now) }
-        ensures { Reacts self.old self.new result (in_room self.old.history (Ok (course self.old.history (clocked clock self.old.control) changes.now))) }
+    /// What the sight of a frame comes to.
+    fn plan_sight(
+        &self,
+        alloc: Global,
+        port: Port,
+        bytes: &[u8],
+        head: &Head,
+    ) -> Result<Plan, EventFault>
+        ensures { Plans (table self.now.history) self.now.control result (happens self.now.setup (from (table self.now.history) self.now.control) (Event.Sight port bytes.now head.now)) }
+    {
+        sees(alloc, &self.domains, &self.state, port, bytes, head)
+    }
+
+    /// What the event comes to.
+    fn plan(&self, alloc: Global, event: &Event) -> Result<Plan, EventFault>
+        requires { IsEvent event.now }
+        ensures { Plans (table self.now.history) self.now.control result (happens self.now.setup (from (table self.now.history) self.now.control) event.now) }
+    {
+        match event {
+            Event::Cmd(asked) => obey(alloc, &self.state, asked),
+            Event::Moment(now) => passes_to(alloc, &self.state, *now),
+            Event::Sight { port, bytes, head } => {
+                self.plan_sight(alloc, *port, bytes.as_slice(), head)
+            }
+            Event::Told { vid, mac, port } => is_told(alloc, &self.state, *vid, *mac, *port),
+            Event::Forget(stations) => loses(alloc, &self.state, stations),
+        }
+    }
+
+    /// Sets the clock, renews the entry and makes the changes, or refuses them where they are too many.
+    fn make_changes(
+        &mut self,
+        clock: Clock,
+        renewed: Option<Key>,
+        changes: &[Change],
+    ) -> Result<(), EventFault>
+        requires early { clock.now < 2 ^ 53 }
+        requires there { IfSome renewed (λ key. IsSome (get pair_cmp (table self.old.history).addr key)) }
+        requires fits { all_fit (table self.old.history) changes.now ≡ true }
+        ensures { Makes self.old self.new (renewed_at (clocked clock self.old.control) renewed) changes.now result }
     {
         if changes.len() > MOST_CHANGES - self.history.len() {
             return Err(EventFault::Refused(Refusal::HistoryFull));
         }
         self.history.extend_from_slice(changes)?;
         self.pending += count_deferred(changes) as u32;
-        self.state.clock = clock;
+        self.state.prepare(clock, renewed);
         self.state.follow(changes);
         Ok(())
     }
 
-    #[tactic(auto, unfolding(br_model::specs::Reaction::react))]
-    fn obey(&mut self, alloc: Global, asked: &Command) -> Result<(), EventFault>
-        ensures { Reacts self.old self.new result (reaction self.old.setup self.old.history self.old.control (Event.Cmd asked.now)) }
+    /// Carries out a plan in which the spanning tree is told this.
+    fn accept_told(
+        &mut self,
+        alloc: Global,
+        plan: Plan,
+        event: &TreeEvent,
+        lines: &mut Vec<Line>,
+    ) -> Result<(), EventFault>
+        requires sound { IsSound (table self.old.history) plan }
+        requires told { plan.told ≡ Some event.now }
+        requires room { vec_len lines.old < vec_capacity lines.old }
+        ensures reacts { Reacts self.old self.new lines.old.items lines.new.items result (in_room self.old.history (Ok (planned (table self.old.history) self.old.control plan))) }
+        ensures room { vec_len lines.new < vec_capacity lines.new }
     {
-        let changes = command(alloc, &self.state, asked)?;
-        let clock = sets(&self.state, asked);
-        self.accept(clock, &changes)
-    }
-
-    /// Forgets what is old by then.
-    #[tactic(auto, unfolding(br_model::specs::Reaction::react))]
-    fn pass_to(&mut self, alloc: Global, now: u64) -> Result<(), EventFault>
-        ensures { Reacts self.old self.new result (reaction self.old.setup self.old.history self.old.control (Event.Moment now)) }
-    {
-        let last = self.state.clock;
-        if now < last.now {
-            return Err(EventFault::Refused(Refusal::Backward));
+        let mut tree = self.state.tree.copy();
+        let out = tree.act(event, plan.clock.now);
+        let mut changes = plan.changes;
+        add_states(&mut changes, &tree, out.moved)?;
+        let count = lines.len();
+        add_frames(alloc, self.own, &tree, &out, lines)?;
+        let answer = self.make_changes(plan.clock, plan.renewed, &changes);
+        if answer.is_err() {
+            lines.truncate(count);
+            return answer;
         }
-        let clock = Clock {
-            now,
-            ageing: last.ageing,
-        };
-        if !self.state.addresses.may_expire(now, last.ageing) {
-            return self.accept(clock, &[]);
-        }
-        self.age(alloc, clock)
-    }
-
-    /// Forgets what is old at the clock's moment.
-    fn age(&mut self, alloc: Global, clock: Clock) -> Result<(), EventFault>
-        ensures { Reacts self.old self.new result (in_room self.old.history (Ok (ages (from (table self.old.history) (clocked clock self.old.control))))) }
-    {
-        let keys = self
-            .state
-            .addresses
-            .expired(alloc, clock.now, clock.ageing)?;
-        let changes = forgets(alloc, keys.as_slice())?;
-        let answer = self.accept(clock, &changes);
-        self.state.addresses.settle();
+        self.state.tree = tree;
         answer
     }
 
-    /// Learns that the address is behind the port.
-    fn learn(&mut self, port: Port, vid: Vid, mac: Mac) -> Result<(), EventFault>
-        ensures { Reacts self.old self.new result (in_room self.old.history (Ok (learns port (Some (vid, mac)) (from (table self.old.history) self.old.control)))) }
+    /// Carries out a plan.
+    fn accept(&mut self, alloc: Global, plan: Plan, lines: &mut Vec<Line>) -> Result<(), EventFault>
+        requires sound { IsSound (table self.old.history) plan }
+        requires room { vec_len lines.old < vec_capacity lines.old }
+        ensures reacts { Reacts self.old self.new lines.old.items lines.new.items result (in_room self.old.history (Ok (planned (table self.old.history) self.old.control plan))) }
+        ensures room { vec_len lines.new < vec_capacity lines.new }
     {
-        let clock = self.state.clock;
-        match lesson_of(&self.state, vid, mac, port) {
-            Lesson::Known => self.accept(clock, &[]),
-            Lesson::Renewed => {
-                self.state.addresses.renew(vid, mac, clock.now);
-                Ok(())
-            }
-            Lesson::News => {
-                let put = Change::AddrPut {
-                    vid,
-                    mac,
-                    port,
-                    kind: Kind::Learned,
-                };
-                self.accept(clock, &[put])
-            }
+        let told = plan.told;
+        match told {
+            Some(event) => self.accept_told(alloc, plan, &event, lines),
+            None => self.make_changes(plan.clock, plan.renewed, &plan.changes),
         }
     }
 
+    /// Reacts to the event, and adds the lines of the control frames that leave, with room for another line behind them. The
+    /// answer is the place of the first new change in the history. A refusal and want of memory leave the bridge as it was.
     #[tactic(auto, unfolding(br_model::specs::Reaction::react))]
-    fn be_shown(&mut self, port: Port, bytes: &[u8], head: &Head) -> Result<(), EventFault>
-        ensures { Reacts self.old self.new result (reaction self.old.setup self.old.history self.old.control (Event.Sight port bytes.now head.now)) }
+    pub fn answer(
+        &mut self,
+        alloc: Global,
+        event: &Event,
+        lines: &mut Vec<Line>,
+    ) -> Result<usize, EventFault>
+        requires event { IsEvent event.now }
+        requires room { vec_len lines.old < vec_capacity lines.old }
+        ensures reacts { Reacts self.old self.new lines.old.items lines.new.items result (reaction self.old.setup self.old.history self.old.control event.now) }
+        ensures from { IfOk result (λ from. from ≡ length self.old.history) }
+        ensures room { vec_len lines.new < vec_capacity lines.new }
     {
-        if self.domains.of(port) != Some(Dom::SOFTWARE) {
-            let clock = self.state.clock;
-            return self.accept(clock, &[]);
-        }
-        match teach(&self.state, port, head) {
-            None => {
-                let clock = self.state.clock;
-                self.accept(clock, &[])
-            }
-            Some((vid, mac)) => self.learn(port, vid, mac),
-        }
-    }
-
-    /// Takes a chip's report that the address is behind the port, or not.
-    #[tactic(auto, unfolding(br_model::specs::Reaction::react))]
-    fn be_told(&mut self, vid: Vid, mac: Mac, port: Port) -> Result<(), EventFault>
-        ensures { Reacts self.old self.new result (reaction self.old.setup self.old.history self.old.control (Event.Told vid mac port)) }
-    {
-        let clock = self.state.clock;
-        if !is_taken(&self.state, vid, mac, port) {
-            return self.accept(clock, &[]);
-        }
-        let put = Change::AddrPut {
-            vid,
-            mac,
-            port,
-            kind: Kind::Extern,
-        };
-        self.accept(clock, &[put])
-    }
-
-    /// Forgets the stations that a chip no longer sees.
-    #[tactic(auto, unfolding(br_model::specs::Reaction::react))]
-    fn forget(&mut self, alloc: Global, stations: &Triples) -> Result<(), EventFault>
-        ensures { Reacts self.old self.new result (reaction self.old.setup self.old.history self.old.control (Event.Forget stations.now)) }
-    {
-        let changes = forgets_reported(alloc, &self.state, stations.as_slice())?;
-        let clock = self.state.clock;
-        self.accept(clock, &changes)
-    }
-
-    /// Reacts to the event. A refusal and want of memory leave the bridge as it was.
-    pub fn react(&mut self, alloc: Global, event: &Event) -> Result<Reaction, EventFault>
-        requires { IsSeen event.now }
-        ensures reacts { Reacts self.old self.new result (reaction self.old.setup self.old.history self.old.control event.now) }
-        ensures told { IfOk result (λ r. (r.from ≡ length self.old.history) × (r.ctl ≡ [])) }
-    {
+        let plan = self.plan(alloc, event)?;
         let from = self.history.len();
-        match event {
-            Event::Cmd(asked) => self.obey(alloc, asked)?,
-            Event::Moment(now) => self.pass_to(alloc, *now)?,
-            Event::Sight { port, bytes, head } => self.be_shown(*port, bytes.as_slice(), head)?,
-            Event::Told { vid, mac, port } => self.be_told(*vid, *mac, *port)?,
-            Event::Forget(stations) => self.forget(alloc, stations)?,
+        self.accept(alloc, plan, lines)?;
+        if let Event::Moment(_) = event {
+            self.state.settle();
         }
-        Ok(Reaction {
-            from,
-            ctl: Lines::new(alloc),
-        })
+        Ok(from)
     }
 
     /// Reacts to a frame that was sent, as to the event `Sight`, without a copy of its bytes.
+    #[tactic(auto, unfolding(br_model::specs::Reaction::react))]
     pub fn see(
         &mut self,
         alloc: Global,
         port: Port,
         bytes: &[u8],
         head: &Head,
-    ) -> Result<Reaction, EventFault>
-        requires { frame bytes.now ≡ Ok head.now }
-        ensures reacts { Reacts self.old self.new result (reaction self.old.setup self.old.history self.old.control (Event.Sight port bytes.now head.now)) }
-        ensures told { IfOk result (λ r. (r.from ≡ length self.old.history) × (r.ctl ≡ [])) }
+        lines: &mut Vec<Line>,
+    ) -> Result<usize, EventFault>
+        requires frame { frame bytes.now ≡ Ok head.now }
+        requires room { vec_len lines.old < vec_capacity lines.old }
+        ensures reacts { Reacts self.old self.new lines.old.items lines.new.items result (reaction self.old.setup self.old.history self.old.control (Event.Sight port bytes.now head.now)) }
+        ensures from { IfOk result (λ from. from ≡ length self.old.history) }
+        ensures room { vec_len lines.new < vec_capacity lines.new }
     {
+        let plan = self.plan_sight(alloc, port, bytes, head)?;
         let from = self.history.len();
-        self.be_shown(port, bytes, head)?;
+        self.accept(alloc, plan, lines)?;
+        Ok(from)
+    }
+
+    /// Reacts to the event. A refusal and want of memory leave the bridge as it was.
+    pub fn react(&mut self, alloc: Global, event: &Event) -> Result<Reaction, EventFault>
+        requires { IsEvent event.now }
+        ensures reacts { Reacts self.old self.new [] (ctl_of result) result (reaction self.old.setup self.old.history self.old.control event.now) }
+        ensures from { IfOk result (λ r. r.from ≡ length self.old.history) }
+    {
+        let mut lines = Vec::with_capacity(alloc, 1)?;
+        let from = self.answer(alloc, event, &mut lines)?;
         Ok(Reaction {
             from,
-            ctl: Lines::new(alloc),
+            ctl: Lines::of(lines),
         })
     }
 

@@ -1,24 +1,44 @@
 //! What a command is answered: its first refusal that holds, or its changes in order. A file a family of commands.
 ghost use Rattle.br_model.specs.Commands.{command as answer, sets as what_is_set};
+ghost use Rattle.br_model.specs.Course.{from};
+ghost use Rattle.br_model.specs.Reaction.{commanded};
 ghost use Rattle.bridge_core.specs.Answers.{Answers};
+ghost use Rattle.bridge_core.specs.Plans.{Plans};
 ghost use Rattle.bridge_core.specs.Standing.{table_of, control_of, clocked};
-ghost use Rattle.std.specs.Prelude.{◌≡◌};
+ghost use Rattle.std.specs.Prelude.{◌≡◌, ◌<◌, ◌^◌};
 
 mod addresses;
 mod drops;
 mod ports;
+mod spanning_tree;
 mod vlans;
 
 use crate::faults::EventFault;
+use crate::plan::Plan;
+use crate::spanning_tree::tells;
 use crate::state::{Clock, State};
 use addresses::{fdb_add, fdb_del};
 use br_model::change::Change;
 use br_model::steps::Command;
 use ports::{link, port_down, port_up};
+use spanning_tree::{rank, stp};
 use std::alloc::Global;
 use vlans::{vlan_add, vlan_del};
 
-pub fn command(alloc: Global, state: &State, command: &Command) -> Result<Vec<Change>, EventFault>
+/// What the command comes to.
+pub fn obey(alloc: Global, state: &State, asked: &Command) -> Result<Plan, EventFault>
+    requires { state.now.clock.now < 2 ^ 53 }
+    ensures { Plans (table_of state.now) (control_of state.now) result (commanded (from (table_of state.now) (control_of state.now)) asked.now (answer (table_of state.now) asked.now)) }
+{
+    Ok(Plan {
+        clock: sets(state, asked),
+        renewed: None,
+        changes: command(alloc, state, asked)?,
+        told: tells(state, asked),
+    })
+}
+
+fn command(alloc: Global, state: &State, command: &Command) -> Result<Vec<Change>, EventFault>
     ensures { Answers result (answer (table_of state.now) command.now) }
 {
     match *command {
@@ -39,22 +59,28 @@ pub fn command(alloc: Global, state: &State, command: &Command) -> Result<Vec<Ch
             kind,
         } => fdb_add(alloc, state, vid, mac, port, kind),
         Command::FdbDel { vid, mac } => fdb_del(alloc, state, vid, mac),
-        Command::Ageing(_) => Ok(Vec::new(alloc)),
+        Command::Cost { port, .. } | Command::PortPriority { port, .. } => rank(alloc, state, port),
+        Command::Stp(on) => stp(alloc, state, on),
+        Command::Priority(_) | Command::Ageing(_) => Ok(Vec::new(alloc)),
     }
 }
 
 /// The clock once the command is accepted.
-pub fn sets(state: &State, command: &Command) -> Clock
+fn sets(state: &State, command: &Command) -> Clock
     ensures { clocked result (control_of state.now) ≡ what_is_set (control_of state.now) command.now }
 {
     match *command {
         Command::PortUp(_)
         | Command::PortDown(_)
         | Command::Link { .. }
+        | Command::Cost { .. }
+        | Command::PortPriority { .. }
         | Command::VlanAdd { .. }
         | Command::VlanDel { .. }
         | Command::FdbAdd { .. }
-        | Command::FdbDel { .. } => state.clock,
+        | Command::FdbDel { .. }
+        | Command::Stp(_)
+        | Command::Priority(_) => state.clock,
         Command::Ageing(seconds) => Clock {
             now: state.clock.now,
             ageing: 1000 * u64::from(seconds),

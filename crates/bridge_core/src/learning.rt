@@ -1,14 +1,24 @@
 //! What a frame teaches: behind which port its source is.
-ghost use Rattle.std.specs.Prelude.{◌≡◌, ◌==◌};
-ghost use Rattle.br_model.specs.Learning.{teach, is_reserved};
+ghost use Rattle.std.specs.Prelude.{◌≡◌, ◌==◌, ◌<◌, ◌^◌, ℕ, None, Some, Ok, IfOk, [], ◌∷◌};
+ghost use Rattle.br_model.specs.declared.change.Change.TheVariants.{AddrPut};
+ghost use Rattle.br_model.specs.Course.{from, makes_all};
+ghost use Rattle.br_model.specs.Learning.{teach, is_reserved, told};
+ghost use Rattle.br_model.specs.Reaction.{learns, sees};
 ghost use Rattle.bridge_core.specs.Lessons.{lesson_of, is_taken};
-ghost use Rattle.bridge_core.specs.Standing.{table_of};
+ghost use Rattle.bridge_core.specs.Plans.{Plans};
+ghost use Rattle.bridge_core.specs.Standing.{table_of, control_of};
 
+use crate::faults::EventFault;
+use crate::plan::Plan;
+use crate::spanning_tree::heard;
 use crate::state::State;
-use br_model::change::Kind;
+use br_model::NoMemory;
+use br_model::change::{Change, Kind};
+use br_model::domains::Domains;
 use br_model::frame::Head;
-use br_model::numbers::{Mac, Port, Vid};
+use br_model::numbers::{Dom, Mac, Port, Vid};
 use fdb_core::Key;
+use std::alloc::Global;
 
 /// What an address behind a port comes to.
 #[derive(Clone, Copy, PartialEq, Eq, Debug)]
@@ -32,7 +42,7 @@ fn is_reserved(state: &State, head: &Head) -> bool
 }
 
 /// What the frame teaches at the port, where it teaches.
-pub fn teach(state: &State, port: Port, head: &Head) -> Option<Key>
+fn teach(state: &State, port: Port, head: &Head) -> Option<Key>
     ensures { result ≡ teach (table_of state.now) port head.now }
 {
     if is_reserved(state, head) || !head.has_valid_source() {
@@ -45,7 +55,7 @@ pub fn teach(state: &State, port: Port, head: &Head) -> Option<Key>
 }
 
 /// What the address behind the port comes to.
-pub fn lesson_of(state: &State, vid: Vid, mac: Mac, port: Port) -> Lesson
+fn lesson_of(state: &State, vid: Vid, mac: Mac, port: Port) -> Lesson
     ensures { result ≡ lesson_of (table_of state.now) (vid, mac) port }
 {
     match state.addresses.find(vid, mac) {
@@ -58,7 +68,7 @@ pub fn lesson_of(state: &State, vid: Vid, mac: Mac, port: Port) -> Lesson
 }
 
 /// Whether a chip's report that the address is behind the port is taken.
-pub fn is_taken(state: &State, vid: Vid, mac: Mac, port: Port) -> bool
+fn is_taken(state: &State, vid: Vid, mac: Mac, port: Port) -> bool
     ensures { result ≡ is_taken (table_of state.now) (vid, mac) port }
 {
     if !state.ports.may_teach(port, vid) {
@@ -70,4 +80,96 @@ pub fn is_taken(state: &State, vid: Vid, mac: Mac, port: Port) -> bool
         Some((_, Kind::Learned)) => true,
         Some((other, Kind::Extern)) => other != port,
     }
+}
+
+/// An entry of this kind is put at the address.
+fn puts(
+    alloc: Global,
+    state: &State,
+    vid: Vid,
+    mac: Mac,
+    port: Port,
+    kind: Kind,
+) -> Result<Plan, NoMemory>
+    ensures clock { IfOk result (λ plan. plan.clock ≡ state.now.clock) }
+    ensures renewed { IfOk result (λ plan. plan.renewed ≡ None) }
+    ensures changes { IfOk result (λ plan. plan.changes.items ≡ AddrPut vid mac port kind ∷ []) }
+    ensures told { IfOk result (λ plan. plan.told ≡ None) }
+{
+    let put = Change::AddrPut {
+        vid,
+        mac,
+        port,
+        kind,
+    };
+    Ok(Plan {
+        clock: state.clock,
+        renewed: None,
+        changes: Vec::from_slice(alloc, &[put])?,
+        told: None,
+    })
+}
+
+/// What it comes to that the address is seen behind the port.
+fn learns(alloc: Global, state: &State, port: Port, vid: Vid, mac: Mac) -> Result<Plan, EventFault>
+    requires { state.now.clock.now < 2 ^ 53 }
+    ensures { Plans (table_of state.now) (control_of state.now) result (Ok (learns port (Some (vid, mac)) (from (table_of state.now) (control_of state.now)))) }
+{
+    match lesson_of(state, vid, mac, port) {
+        Lesson::Known => Ok(Plan::nothing(alloc, state.clock)),
+        Lesson::Renewed => Ok(Plan {
+            clock: state.clock,
+            renewed: Some((vid, mac)),
+            changes: Vec::new(alloc),
+            told: None,
+        }),
+        Lesson::News => Ok(puts(alloc, state, vid, mac, port, Kind::Learned)?),
+    }
+}
+
+/// What the sight of a frame comes to that software sent. A message for the spanning tree teaches nothing.
+pub fn sees(
+    alloc: Global,
+    domains: &Domains,
+    state: &State,
+    port: Port,
+    bytes: &[u8],
+    head: &Head,
+) -> Result<Plan, EventFault>
+    requires { state.now.clock.now < 2 ^ 53 }
+    ensures { (own : ℕ) → Plans (table_of state.now) (control_of state.now) result (Ok (sees (record { domains = domains.now; own = own }) port bytes.now head.now (from (table_of state.now) (control_of state.now)))) }
+{
+    let told = heard(state, port, bytes, head);
+    if told.is_some() {
+        return Ok(Plan {
+            clock: state.clock,
+            renewed: None,
+            changes: Vec::new(alloc),
+            told,
+        });
+    }
+    if domains.of(port) != Some(Dom::SOFTWARE) {
+        return Ok(Plan::nothing(alloc, state.clock));
+    }
+    match teach(state, port, head) {
+        Some((vid, mac)) => learns(alloc, state, port, vid, mac),
+        None => Ok(Plan::nothing(alloc, state.clock)),
+    }
+}
+
+/// What a chip's report comes to that the address is behind the port.
+pub fn is_told(
+    alloc: Global,
+    state: &State,
+    vid: Vid,
+    mac: Mac,
+    port: Port,
+) -> Result<Plan, EventFault>
+    requires { state.now.clock.now < 2 ^ 53 }
+    ensures { Plans (table_of state.now) (control_of state.now) result (Ok (makes_all (from (table_of state.now) (control_of state.now)) (told (table_of state.now) (vid, mac) port))) }
+{
+    if is_taken(state, vid, mac, port) {
+        return Ok(puts(alloc, state, vid, mac, port, Kind::Extern)?);
+    }
+    Ok(Plan::nothing(alloc, state.clock))
 }

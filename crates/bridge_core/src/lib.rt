@@ -9,6 +9,8 @@ pub mod bridge;
 mod commands;
 mod faults;
 mod learning;
+mod plan;
+mod spanning_tree;
 mod state;
 
 pub use br_model::NoMemory;

@@ -1,16 +1,22 @@
-//! Where a bridge stands: its table, and its moments.
-ghost use Rattle.std.specs.Prelude.{◌≡◌, IfOk, IsTrue};
+//! Where a bridge stands: its table, its moments, and its spanning tree.
+ghost use Rattle.std.specs.Prelude.{◌≡◌, IfOk, IfSome, IsSome, IsTrue};
 ghost use Rattle.std.specs.List.{fold};
+ghost use Rattle.br_model.specs.Ageing.{stay};
 ghost use Rattle.br_model.specs.Control.{first_control, keeps_up};
 ghost use Rattle.br_model.specs.Limits.{fits, all_fit};
 ghost use Rattle.br_model.specs.Table.{start, apply};
-ghost use Rattle.bridge_core.specs.Standing.{table_of, control_of};
+ghost use Rattle.br_model.specs.Maps.{pair_cmp, get};
+ghost use Rattle.bridge_core.specs.Plans.{renewed_at};
+ghost use Rattle.bridge_core.specs.Standing.{table_of, control_of, clocked};
 
 use crate::addresses::Addresses;
 use br_model::NoMemory;
 use br_model::change::Change;
+use br_model::numbers::Mac;
+use fdb_core::Key;
 use forward_rules::PortTables;
 use std::alloc::Global;
+use stp_core::Tree;
 
 /// The last moment, and how long learned entries stay, in milliseconds.
 #[derive(Clone, Copy, Debug)]
@@ -22,18 +28,20 @@ pub struct Clock {
 /// 300 s.
 const FIRST_AGEING: u64 = 300_000;
 
-/// The table in two parts, and the moments.
-#[derive(Drop, Debug)]
+/// The table in two parts, the moments, and the spanning tree.
+#[derive(Drop)]
 pub struct State {
     pub ports: PortTables,
     pub addresses: Addresses,
     pub clock: Clock,
+    pub tree: Tree,
 }
 
 impl State {
-    pub fn make(alloc: Global) -> Result<State, NoMemory>
+    /// Of the bridge of this address.
+    pub fn make(alloc: Global, own: Mac) -> Result<State, NoMemory>
         ensures table { IfOk result (λ s. table_of s ≡ start) }
-        ensures control { IfOk result (λ s. control_of s ≡ first_control) }
+        ensures control { IfOk result (λ s. control_of s ≡ first_control own) }
     {
         Ok(State {
             ports: PortTables::make(alloc)?,
@@ -42,7 +50,37 @@ impl State {
                 now: 0,
                 ageing: FIRST_AGEING,
             },
+            tree: Tree::make(own),
         })
+    }
+
+    /// How long a learned entry stays that no frame renews, in milliseconds.
+    pub fn stay(&self) -> u64
+        ensures { result ≡ stay (control_of self.now) }
+    {
+        self.tree.hold().unwrap_or(self.clock.ageing)
+    }
+
+    /// Sets the clock, and gives the entry its moment.
+    pub fn prepare(&mut self, clock: Clock, renewed: Option<Key>)
+        requires { IfSome renewed (λ key. IsSome (get pair_cmp (table_of self.old).addr key)) }
+        ensures table { table_of self.new ≡ table_of self.old }
+        ensures control { control_of self.new ≡ renewed_at (clocked clock (control_of self.old)) renewed }
+    {
+        self.clock = clock;
+        if let Some((vid, mac)) = renewed {
+            self.addresses.renew(vid, mac, clock.now);
+        }
+    }
+
+    /// Where a learned entry may be over by now, finds the first moment anew.
+    pub fn settle(&mut self)
+        ensures table { table_of self.new ≡ table_of self.old }
+        ensures control { control_of self.new ≡ control_of self.old }
+    {
+        if self.addresses.may_expire(self.clock.now, self.stay()) {
+            self.addresses.settle();
+        }
     }
 
     fn apply(&mut self, change: &Change)

@@ -1,6 +1,6 @@
 //! Worked runs as tables, limits, and random events beside a plain list of stations.
 ghost use Rattle.std.specs.Prelude.{IfOk};
-ghost use Rattle.bridge_core.specs.Answers.{IsSeen};
+ghost use Rattle.bridge_core.specs.Answers.{IsEvent};
 
 use crate::{Bridge, EventFault};
 use br_model::bytes::Bytes;
@@ -24,7 +24,7 @@ enum Happening {
     Added(u8, u8, u16, Kind),
     Deleted(u8),
     Aged(u32),
-    Waited(u64),
+    Waited(u32),
     Seen(u8, u8),
 }
 
@@ -76,7 +76,7 @@ fn added(mac: Mac, number: u8, vlan: u16, kind: Kind) -> Result<Command, Fail> {
 
 /// A frame of 16 bytes to the station 11 that came by the port.
 fn sight(alloc: Global, from: u8, number: u8) -> Result<Event, Fail>
-    ensures { IfOk result IsSeen }
+    ensures { IfOk result IsEvent }
 {
     let bytes = [2, 0, 0, 0, 0, 11, 2, 0, 0, 0, 0, from, 0x88, 0xb5, 1, 2];
     match parse(&bytes) {
@@ -90,7 +90,7 @@ fn sight(alloc: Global, from: u8, number: u8) -> Result<Event, Fail>
 }
 
 fn event(alloc: Global, happening: Happening) -> Result<Event, Fail>
-    ensures { IfOk result IsSeen }
+    ensures { IfOk result IsEvent }
 {
     match happening {
         Happening::Up(at) => Ok(Event::Cmd(Command::PortUp(port(at)?))),
@@ -106,14 +106,14 @@ fn event(alloc: Global, happening: Happening) -> Result<Event, Fail>
             mac: mac_of(mac),
         })),
         Happening::Aged(seconds) => Ok(Event::Cmd(Command::Ageing(seconds))),
-        Happening::Waited(now) => Ok(Event::Moment(now)),
+        Happening::Waited(now) => Ok(Event::Moment(u64::from(now))),
         Happening::Seen(mac, at) => sight(alloc, mac, at),
     }
 }
 
 /// How many changes the event makes, or its refusal.
 fn answer(alloc: Global, bridge: &mut Bridge, event: &Event) -> Result<Result<usize, Refusal>, Fail>
-    requires { IsSeen event.now }
+    requires { IsEvent event.now }
 {
     match bridge.react(alloc, event) {
         Ok(reaction) => Ok(Ok(bridge.history().len().saturating_sub(reaction.from))),
@@ -277,15 +277,15 @@ fn no_more_than_1048576_changes(rt: HostRuntime) -> Result<(), Fail> {
 struct Station {
     port: u8,
     kind: Kind,
-    updated: u64,
+    updated: u32,
 }
 
 /// The stations that are known in VLAN 1, the last moment, and how long learned ones stay.
 #[derive(Drop)]
 struct Plain {
     stations: [Option<Station>; 32],
-    now: u64,
-    hold: u64,
+    now: u32,
+    hold: u32,
 }
 
 impl Plain {
@@ -336,7 +336,7 @@ impl Plain {
         Ok(1)
     }
 
-    fn wait(&mut self, now: u64) -> Result<usize, Refusal> {
+    fn wait(&mut self, now: u32) -> Result<usize, Refusal> {
         if now < self.now {
             return Err(Refusal::Backward);
         }
@@ -376,11 +376,11 @@ fn happens(plain: &mut Plain, number: u64) -> Step {
         }
         32..=63 => (Happening::Deleted(mac), plain.delete(mac)),
         64..=67 => {
-            let now = plain.now.saturating_add(u64::from(more)).saturating_sub(16);
+            let now = plain.now.saturating_add(u32::from(more)).saturating_sub(16);
             (Happening::Waited(now), plain.wait(now))
         }
         68..=71 => {
-            plain.hold = 1000 * u64::from(more % 3);
+            plain.hold = 1000 * u32::from(more % 3);
             (Happening::Aged(u32::from(more % 3)), Ok(0))
         }
         _ => (Happening::Seen(mac, at), plain.see(mac, at)),

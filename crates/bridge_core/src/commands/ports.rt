@@ -8,7 +8,7 @@ use crate::commands::drops::{drop_addresses, drop_groups, drop_router, drop_vlan
 use crate::faults::EventFault;
 use crate::state::State;
 use br_model::NoMemory;
-use br_model::change::{Change, FORWARDING, Flags};
+use br_model::change::{Change, Flags};
 use br_model::numbers::{Port, Vid};
 use br_model::steps::Refusal;
 use std::alloc::Global;
@@ -20,7 +20,7 @@ pub fn is_down(state: &State, port: Port) -> bool
     !port.is_host() && !state.ports.is_up(port)
 }
 
-/// The port comes up: a member of VLAN 1, untagged, its PVID; forwarding.
+/// The port comes up: a member of VLAN 1, untagged, its PVID. Its state is the spanning tree's.
 pub fn port_up(alloc: Global, state: &State, port: Port) -> Result<Vec<Change>, EventFault>
     ensures { Answers result (port_up (table_of state.now) port) }
 {
@@ -35,7 +35,6 @@ pub fn port_up(alloc: Global, state: &State, port: Port) -> Result<Vec<Change>, 
             untagged: true,
             pvid: true,
         },
-        Change::SetState(port, FORWARDING),
     ];
     Ok(Vec::from_slice(alloc, &changes)?)
 }

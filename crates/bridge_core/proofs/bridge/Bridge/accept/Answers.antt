@@ -1,68 +1,12 @@
-use Rattle.std.proofs.Common.{◌≡◌, true, if◌then◌else◌, List, ◌++◌, length, sym, ap, ◌∙◌, arith, length-append}
-use Rattle.std.specs.List.{fold, filter}
-use Rattle.std.specs.declared.result.Result.{Result}
-use Rattle.std.specs.declared.result.Result.TheVariants.{Ok, Err}
-use Rattle.std.proofs.lemmas.Bool.{le-leb}
-use Rattle.std.proofs.lemmas.List.Elements.{filter-append}
-use Rattle.std.proofs.lemmas.List.Sums.{length-filter, count_by-le-length, fold-append}
+use Rattle.std.proofs.Common.{List, refl, subst}
 use Rattle.br_model.specs.declared.change.Change.{Change}
-use Rattle.br_model.specs.declared.steps.Refusal.{Refusal}
-use Rattle.br_model.specs.declared.steps.Refusal.TheVariants.{HistoryFull}
-use Rattle.br_model.specs.Change.{deferred}
-use Rattle.br_model.specs.Control.{Control, keeps_up}
-use Rattle.br_model.specs.Limits.{all_fit}
-use Rattle.br_model.specs.Reaction.{Reaction, has_room}
-use Rattle.br_model.specs.Table.{Table, table, start, apply}
-use Rattle.bridge_core.specs.Kept.{Controlled}
-use Rattle.bridge_core.specs.Standing.{clocked}
-use Rattle.bridge_core.proofs.Fitting.{fit_behind}
+use Rattle.bridge_core.specs.Answers.{Makes}
+use Rattle.bridge_core.specs.Plans.{prepared}
+use Rattle.bridge_core.proofs.Accepting.{quiet_reacts}
 use Rattle.bridge_core.proofs.bridge.Bridge.accept.Goals as goal
 
-pub overflow_cast-self : goal.overflow_cast-self
-overflow_cast-self c =
-    omega (arith, c.count_deferred.ensures, c.if-changes-len.false, c.self.invariant.2, c.len.ensures, length-filter deferred c.args.changes.now, count_by-le-length deferred c.args.changes.now)
-
-pub overflow_add-self : goal.overflow_add-self
-overflow_add-self c =
-    omega (
-      arith,
-      c.count_deferred.ensures,
-      c.if-changes-len.false,
-      c.self.invariant.1,
-      c.self.invariant.2,
-      c.len.ensures,
-      length-filter deferred c.args.changes.now,
-      count_by-le-length deferred c.args.changes.now,
-      length-filter deferred c.self.inside.history.items,
-      count_by-le-length deferred c.self.inside.history.items,
-    )
-
-pub returns : goal.returns
-returns c =
-    let h = ap (λ (b : Controlled). b.history) c.self.view_is in
-    let made : Control = fold keeps_up (clocked c.args.clock c.args.self.now.control) c.args.changes.now in
-    let room : has_room c.args.self.now.history c.args.changes.now ≡ true =
-    le-leb _ _ (let long = ap (λ (l : List Change). length l) h in omega (arith, c.if-changes-len.false, c.self.invariant.2, c.len.ensures)) in
-    let yes : Result Reaction Refusal = Ok (record { changes = c.args.changes.now; control = made }) in (
-      record { changes = c.args.changes.now; control = made },
-      ap (λ b. if b then yes else Err HistoryFull) room,
-      λ i. record {
-        setup = ap (λ (b : Controlled). b.setup) c.self.view_is i;
-        history = (c.in_ok-extend_from_slice.ensures.items ∙ ap (λ (l : List Change). l ++ c.args.changes.now) h) i;
-        control = (c.follow.ensures.control ∙ ap (λ (b : Controlled). fold keeps_up (clocked c.args.clock b.control) c.args.changes.now) c.self.view_is) i;
-      },
-    )
-
-pub invariant_of-self-2 : goal.invariant_of-self-2
-invariant_of-self-2 c =
-    let kept = c.self.invariant in
-    let old = c.self.inside.history.items in
-    let new = c.args.changes.now in
-    let grows = c.in_ok-extend_from_slice.ensures.items in
-    let h = ap (λ (b : Controlled). b.history) c.self.view_is in
-    let fit : all_fit (table old) new ≡ true = ap (λ (l : List Change). all_fit (table l) new) h ∙ c.requires in (
-      c.follow.ensures.table ∙ ap (λ (t : Table). fold apply t new) kept.0 ∙ sym (ap table grows ∙ fold-append apply start old new),
-      omega (arith, c.count_deferred.ensures, kept.1, ap (λ (l : List Change). length (filter deferred l)) grows, ap length (filter-append deferred old new), length-append (filter deferred old) (filter deferred new)),
-      omega (arith, c.if-changes-len.false, kept.2, c.len.ensures, ap length grows, length-append old new),
-      ap (all_fit start) grows ∙ fit_behind start old new kept.3 fit,
-    )
+pub returns-in-None-clause-reacts : goal.returns-in-None-clause-reacts
+returns-in-None-clause-reacts c =
+    quiet_reacts c.args.self.now c.args.plan c.requires.sound _ _ _ c.make_changes.result c.in-None.is
+    (subst (λ (l : List Change). Makes c.args.self.now c.make_changes.new.self (prepared c.args.self.now.control c.args.plan) l c.make_changes.result) c.deref.ensures.value c.make_changes.ensures)
+    refl

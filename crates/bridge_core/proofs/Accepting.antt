@@ -1,0 +1,150 @@
+-- What a plan comes to, once it is known to fit.
+use Rattle.std.proofs.Common.{◌≡◌, ℕ, Bool, true, false, if◌then◌else◌, List, [], ◌∷◌, ◌++◌, map, fold, None, Some, is_err, refl, sym, ap, ◌∙◌}
+use Rattle.std.proofs.lemmas.Bool.{le-leb}
+use Rattle.std.proofs.lemmas.List.{append-nil}
+use Rattle.std.proofs.lemmas.List.Sums.{fold-append}
+use Rattle.std.specs.declared.result.Result.{Result}
+use Rattle.std.specs.declared.result.Result.TheVariants.{Ok, Err}
+use Rattle.br_model.specs.declared.change.Change.{Change}
+use Rattle.br_model.specs.declared.steps.Refusal.{Refusal}
+use Rattle.br_model.specs.declared.steps.Refusal.TheVariants.{HistoryFull}
+use Rattle.br_model.specs.declared.transcript.Line.{Line}
+use Rattle.br_model.specs.declared.tree.TreeEvent.{TreeEvent}
+use Rattle.br_model.specs.Control.{Control, keeps_up}
+use Rattle.br_model.specs.Course.{Course, makes_all}
+use Rattle.br_model.specs.Limits.{all_fit}
+use Rattle.br_model.specs.Plane.World.{control_lines}
+use Rattle.br_model.specs.Reaction.{Reaction, has_room, in_room}
+use Rattle.br_model.specs.Table.{Table, table, apply}
+use Rattle.br_model.specs.Tree.{Tree, state_at}
+use Rattle.br_model.specs.TreeLaws.{knows_states}
+use Rattle.br_model.specs.TreeReaction.{states, told}
+use Rattle.br_model.specs.TreeSending.{Acted}
+use Rattle.br_model.specs.TreeStep.{tree_step, moved, sent}
+use Rattle.br_model.proofs.TreeKept.{known-at}
+use Rattle.bridge_core.specs.declared.faults.EventFault.{EventFault}
+use Rattle.bridge_core.specs.declared.faults.EventFault.TheVariants.{Refused, NoMemory}
+use Rattle.bridge_core.specs.declared.plan.Plan.{Plan}
+use Rattle.bridge_core.specs.Answers.{Makes, Reacts}
+use Rattle.bridge_core.specs.Following.{state_change}
+use Rattle.bridge_core.specs.Kept.{Controlled}
+use Rattle.bridge_core.specs.Plans.{IsSound, planned, prepared}
+use Rattle.bridge_core.specs.Standing.{clocked}
+use Rattle.bridge_core.proofs.Fitting.{made_all, all_fit_any, always-map, fit_behind}
+use Rattle.bridge_core.proofs.Reactions.{same_clock, same_tree, renewed_clock, renewed_tree}
+
+-- the states of a tree fit any table
+pub states_fit : (t : Table) (tree : Tree) (ports : List ℕ) → knows_states tree ≡ true → all_fit t (map (state_change tree) ports) ≡ true
+states_fit t tree ports known =
+    all_fit_any t (map (state_change tree) ports) (always-map (state_change tree) ports (λ p. le-leb (state_at tree p) 4 (known-at tree p known)))
+
+-- and leave the control state
+still : (c : Control) (tree : Tree) (ports : List ℕ) → fold keeps_up c (map (state_change tree) ports) ≡ c
+still c tree [] = refl
+still c tree (p ∷ ports) = still c tree ports
+
+module _ (t : Table) (c : Control) (p : Plan) (sound : IsSound t p) where
+  abbrev pub base : Course
+  base = record { table = t; control = prepared c p; changes = []; messages = [] }
+
+  -- a plan of which the spanning tree is told nothing
+  pub untold : p.told ≡ None → planned t c p
+      ≡ record { table = fold apply t p.changes.items; control = fold keeps_up (prepared c p) p.changes.items; changes = p.changes.items; messages = [] }
+  untold is = (λ i. told (is i) (made_all base p.changes.items sound.fits i))
+
+  module _ (event : TreeEvent) where
+    abbrev pub acts : Acted
+    acts = tree_step c.tree p.clock.now event
+
+    abbrev pub all_changes : List Change
+    all_changes = p.changes.items ++ states c.tree acts.tree
+
+    pub all_changes_fit : knows_states acts.tree ≡ true → all_fit t all_changes ≡ true
+    all_changes_fit known =
+        fit_behind t p.changes.items (states c.tree acts.tree) sound.fits (states_fit (fold apply t p.changes.items) acts.tree (moved c.tree acts.tree) known)
+
+    -- a plan of which it is told this
+    pub told_so : p.told ≡ Some event → knows_states acts.tree ≡ true → planned t c p
+        ≡ record { table = fold apply t all_changes; control = record (fold keeps_up (prepared c p) all_changes) { tree = acts.tree }; changes = all_changes; messages = sent acts }
+    told_so is known =
+        let cs = p.changes.items in
+        let ss = states c.tree acts.tree in
+        let mid : Course = record { table = fold apply t cs; control = fold keeps_up (prepared c p) cs; changes = cs; messages = [] } in
+        let tree : mid.control.tree ≡ c.tree = same_tree (prepared c p) cs ∙ renewed_tree (clocked p.clock c) p.renewed in
+        let now : mid.control.now ≡ p.clock.now = same_clock (prepared c p) cs ∙ renewed_clock (clocked p.clock c) p.renewed in
+        let next : Course = record mid { control = record mid.control { tree = acts.tree }; messages = sent acts } in
+        (λ i. told (is i) (made_all base cs sound.fits i))
+        ∙ (λ i. makes_all (record mid {
+          control = record mid.control { tree = (tree_step (tree i) (now i) event).tree };
+          messages = sent (tree_step (tree i) (now i) event);
+        }) (states (tree i) (tree_step (tree i) (now i) event).tree))
+        ∙ made_all next ss (states_fit next.table acts.tree (moved c.tree acts.tree) known)
+        ∙ (λ i. record {
+          table = sym (fold-append apply t cs ss) i;
+          control = (
+              still next.control acts.tree (moved c.tree acts.tree)
+              ∙ ap (λ (x : Control). record x { tree = acts.tree }) (sym (fold-append keeps_up (prepared c p) cs ss ∙ still mid.control acts.tree (moved c.tree acts.tree)))
+              ) i;
+          changes = all_changes;
+          messages = sent acts;
+        })
+
+-- what becomes of a bridge that makes the changes of a plan
+
+module _ (old : Controlled) (p : Plan) (sound : IsSound (table old.history) p) (before after : List Line) where
+  -- the answer of a course, by whether there is room for its changes
+  abbrev answered : Course → Bool → Result Reaction Refusal
+  answered x room = if room then Ok (record { changes = x.changes; control = x.control; messages = x.messages }) else Err HistoryFull
+
+  -- the plan's course is this one, and there is this answer to whether there is room
+  answer_of : (planned_as x : Course) (room : Bool) → planned_as ≡ x → has_room old.history x.changes ≡ room → in_room old.history (Ok planned_as) ≡ answered x room
+  answer_of planned_as x room is e = ap (λ (x : Course). in_room old.history (Ok x)) is ∙ ap (answered x) e
+
+  pub quiet_reacts : (new : Controlled) (r : Result (Unit {0}) EventFault) → p.told ≡ None → Makes old new (prepared old.control p) p.changes.items r → after ≡ before
+      → Reacts old new before after r (in_room old.history (Ok (planned (table old.history) old.control p)))
+  quiet_reacts new (Ok done) quiet makes says = (
+    record { changes = p.changes.items; control = fold keeps_up (prepared old.control p) p.changes.items; messages = [] },
+    answer_of _ _ true (untold (table old.history) old.control p sound quiet) makes.0,
+    makes.1,
+    says ∙ sym (append-nil before),
+  )
+  quiet_reacts new (Err (Refused why)) quiet makes says = (
+    answer_of _ _ false (untold (table old.history) old.control p sound quiet) makes.0 ∙ sym (ap refuses makes.1),
+    makes.2,
+    says,
+  )
+    where
+      refuses : Refusal → Result Reaction Refusal
+      refuses why = Err why
+  quiet_reacts new (Err NoMemory) quiet makes says = makes
+
+  module _ (event : TreeEvent) (is : p.told ≡ Some event) (known : knows_states (acts (table old.history) old.control p sound event).tree ≡ true) where
+    abbrev pub whole : List Change
+    whole = all_changes (table old.history) old.control p sound event
+
+    abbrev pub acted : Acted
+    acted = acts (table old.history) old.control p sound event
+
+    pub told_reacts : (mid new : Controlled) (r : Result (Unit {0}) EventFault) → is_err r ≡ false → Makes old mid (prepared old.control p) whole r
+        → new ≡ record mid { control = record mid.control { tree = acted.tree } } → after ≡ before ++ control_lines old.setup.own (sent acted)
+        → Reacts old new before after r (in_room old.history (Ok (planned (table old.history) old.control p)))
+    told_reacts mid new (Ok done) e makes goes says = (
+      record { changes = whole; control = record (fold keeps_up (prepared old.control p) whole) { tree = acted.tree }; messages = sent acted },
+      answer_of _ _ true (told_so (table old.history) old.control p sound event is known) makes.0,
+      goes ∙ ap (λ (m : Controlled). record m { control = record m.control { tree = acted.tree } }) makes.1,
+      says,
+    )
+    told_reacts mid new (Err why) e makes goes says = absurd (cc)
+
+    pub told_refused : (new : Controlled) (r : Result (Unit {0}) EventFault) → is_err r ≡ true → Makes old new (prepared old.control p) whole r → after ≡ before
+        → Reacts old new before after r (in_room old.history (Ok (planned (table old.history) old.control p)))
+    told_refused new (Ok done) e makes says = absurd (cc)
+    told_refused new (Err (Refused why)) e makes says = (
+      answer_of _ _ false (told_so (table old.history) old.control p sound event is known) makes.0 ∙ sym (ap refuses makes.1),
+      makes.2,
+      says,
+    )
+      where
+        refuses : Refusal → Result Reaction Refusal
+        refuses why = Err why
+    told_refused new (Err NoMemory) e makes says = makes

@@ -1,0 +1,77 @@
+use Rattle.std.proofs.Common.{◌≡◌, ◌<◌, ◌^◌, ℕ, true, subst, List, ◌++◌, length, sym, ap, ◌∙◌, arith, length-append}
+use Rattle.std.specs.Prelude.{IfSome, IsSome}
+use Rattle.std.specs.List.{fold, filter}
+use Rattle.std.proofs.lemmas.Bool.{le-leb}
+use Rattle.std.proofs.lemmas.List.Elements.{filter-append}
+use Rattle.std.proofs.lemmas.List.Sums.{length-filter, count_by-le-length, fold-append}
+use Rattle.br_model.specs.declared.change.Change.{Change}
+use Rattle.br_model.specs.Change.{deferred}
+use Rattle.br_model.specs.Control.{Control, keeps_up}
+use Rattle.br_model.specs.Limits.{all_fit}
+use Rattle.br_model.specs.Table.{Table, table, start, apply}
+use Rattle.bridge_core.specs.Kept.{Controlled}
+use Rattle.br_model.specs.Maps.{pair_cmp, get}
+use Rattle.bridge_core.specs.Plans.{renewed_at}
+use Rattle.bridge_core.specs.Standing.{clocked}
+use Rattle.bridge_core.proofs.Fitting.{fit_behind}
+use Rattle.bridge_core.proofs.Reactions.{same_clock, renewed_clock}
+use Rattle.bridge_core.proofs.bridge.Bridge.make_changes.Goals as goal
+
+pub overflow_cast-self : goal.overflow_cast-self
+overflow_cast-self c =
+    omega (arith, c.count_deferred.ensures, c.if-changes-len.false, c.self.invariant.2, c.len.ensures, length-filter deferred c.args.changes.now, count_by-le-length deferred c.args.changes.now)
+
+pub overflow_add-self : goal.overflow_add-self
+overflow_add-self c =
+    omega (
+      arith,
+      c.count_deferred.ensures,
+      c.if-changes-len.false,
+      c.self.invariant.1,
+      c.self.invariant.2,
+      c.len.ensures,
+      length-filter deferred c.args.changes.now,
+      count_by-le-length deferred c.args.changes.now,
+      length-filter deferred c.self.inside.history.items,
+      count_by-le-length deferred c.self.inside.history.items,
+    )
+
+pub prepare-requires : goal.prepare-requires
+prepare-requires c =
+    subst (λ (t : Table). IfSome c.args.renewed (λ key. IsSome (get pair_cmp t.addr key)))
+    (sym (c.self.invariant.0 ∙ ap (λ (b : Controlled). table b.history) c.self.view_is))
+    c.requires.there
+
+pub follow-requires : goal.follow-requires
+follow-requires c =
+    ap (λ (t : Table). all_fit t c.args.changes.now) (c.prepare.ensures.table ∙ c.self.invariant.0 ∙ ap (λ (b : Controlled). table b.history) c.self.view_is)
+    ∙ c.requires.fits
+
+pub returns : goal.returns
+returns c =
+    let h = ap (λ (b : Controlled). b.history) c.self.view_is in (
+      le-leb _ _ (let long = ap (λ (l : List Change). length l) h in omega (arith, c.if-changes-len.false, c.self.invariant.2, c.len.ensures)),
+      λ i. record {
+        setup = ap (λ (b : Controlled). b.setup) c.self.view_is i;
+        history = (c.in_ok-extend_from_slice.ensures.items ∙ ap (λ (l : List Change). l ++ c.args.changes.now) h) i;
+        control = (
+            c.follow.ensures.control
+            ∙ ap (λ (x : Control). fold keeps_up x c.args.changes.now) (c.prepare.ensures.control ∙ ap (λ (b : Controlled). renewed_at (clocked c.args.clock b.control) c.args.renewed) c.self.view_is)
+            ) i;
+      },
+    )
+
+pub invariant_of-self-2 : goal.invariant_of-self-2
+invariant_of-self-2 c =
+    let kept = c.self.invariant in
+    let old = c.self.inside.history.items in
+    let new = c.args.changes.now in
+    let grows = c.in_ok-extend_from_slice.ensures.items in
+    let h = ap (λ (b : Controlled). b.history) c.self.view_is in
+    let fit : all_fit (table old) new ≡ true = ap (λ (l : List Change). all_fit (table l) new) h ∙ c.requires.fits in (
+      c.follow.ensures.table ∙ ap (λ (t : Table). fold apply t new) (c.prepare.ensures.table ∙ kept.0) ∙ sym (ap table grows ∙ fold-append apply start old new),
+      omega (arith, c.count_deferred.ensures, kept.1, ap (λ (l : List Change). length (filter deferred l)) grows, ap length (filter-append deferred old new), length-append (filter deferred old) (filter deferred new)),
+      omega (arith, c.if-changes-len.false, kept.2, c.len.ensures, ap length grows, length-append old new),
+      ap (all_fit start) grows ∙ fit_behind start old new kept.3 fit,
+      subst (λ (n : ℕ). n < 2 ^ 53) (sym (ap (λ (x : Control). x.now) c.follow.ensures.control ∙ same_clock _ new ∙ ap (λ (x : Control). x.now) c.prepare.ensures.control ∙ renewed_clock _ c.args.renewed)) c.requires.early,
+    )

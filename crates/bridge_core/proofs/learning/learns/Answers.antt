@@ -1,0 +1,47 @@
+use Rattle.std.proofs.Common.{◌<◌, ◌^◌, [], ◌∷◌, Ok, refl, ap, sym, subst, ◌∙◌}
+use Rattle.std.specs.Prelude.{Ok}
+use Rattle.std.specs.declared.result.Result.{Result}
+use Rattle.br_model.specs.declared.steps.Refusal.{Refusal}
+use Rattle.br_model.specs.Control.{renewed}
+use Rattle.br_model.specs.Course.{Course, makes_all}
+use Rattle.br_model.specs.Limits.{all_fit}
+use Rattle.br_model.specs.Learning.{Address}
+use Rattle.bridge_core.specs.declared.state.Clock.{Clock}
+use Rattle.bridge_core.specs.Standing.{table_of, control_of, clocked}
+use Rattle.bridge_core.proofs.Reactions.{makes, learns_known, learns_renewed, learns_news, fits_news, is_there, put_of}
+use Rattle.bridge_core.proofs.learning.learns.Goals as goal
+
+pub returns-in-Known : goal.returns-in-Known
+returns-in-Known c =
+    let t = table_of c.args.state.now in
+    let control = control_of c.args.state.now in
+    let key : Address = (c.args.vid, c.args.mac) in
+    let is = c.nothing.ensures in
+    makes t control c.nothing.result _ [] (subst (λ (x : Clock). x.now < 2 ^ 53) (sym is.clock) c.requires) (ap (λ (x : Clock). clocked x control) is.clock) is.renewed is.changes is.told refl
+    (learns_known t control key c.args.port c.in-Known.ensures)
+
+pub returns-in-Renewed : goal.returns-in-Renewed
+returns-in-Renewed c =
+    let t = table_of c.args.state.now in
+    let control = control_of c.args.state.now in
+    let key : Address = (c.args.vid, c.args.mac) in (
+      ap (λ (x : Course). yes x) (learns_renewed t control key c.args.port c.in-Renewed.ensures) ∙ sym (λ i. yes (makes_all (record { table = t; control = renewed control key; changes = []; messages = [] }) (c.new.ensures.items i))),
+      record {
+        early = c.requires;
+        there = is_there t control key c.args.port c.in-Renewed.ensures;
+        fits = ap (all_fit t) c.new.ensures.items;
+      },
+    )
+  where
+    yes : Course → Result Course Refusal
+    yes x = Ok x
+
+pub returns-in_ok-puts-in-News : goal.returns-in_ok-puts-in-News
+returns-in_ok-puts-in-News c =
+    let t = table_of c.args.state.now in
+    let control = control_of c.args.state.now in
+    let key : Address = (c.args.vid, c.args.mac) in
+    let is = c.in_ok-puts-in-News.ensures in
+    makes t control c.in_ok-puts-in-News.field-0 _ (put_of key c.args.port ∷ []) (subst (λ (x : Clock). x.now < 2 ^ 53) (sym is.clock) c.requires) (ap (λ (x : Clock). clocked x control) is.clock) is.renewed is.changes is.told
+    (fits_news t control key c.args.port c.in-News.ensures)
+    (learns_news t control key c.args.port c.in-News.ensures)

@@ -1,0 +1,6 @@
+use Rattle.std.proofs.Common.{◌≡◌, ◌++◌, map}
+use Rattle.bridge_core.specs.Following.{state_change}
+use Rattle.bridge_core.proofs.spanning_tree.add_states.Given as goal
+
+abbrev pub invariant-loop-number : goal.invariant-loop-number
+invariant-loop-number l = l.changes.items ≡ l.fn.changes.items ++ map (state_change l.tree) l.yielded

@@ -1,0 +1,27 @@
+-- What follows from the spanning tree: states as changes, messages as lines.
+use Rattle.std.specs.Prelude.{ℕ, List, [], ◌∷◌}
+use Rattle.std.specs.declared.option.Option.{Option}
+use Rattle.std.specs.declared.option.Option.TheVariants.{None, Some}
+use Rattle.br_model.specs.declared.bpdu.BpduMsg.{BpduMsg}
+use Rattle.br_model.specs.declared.change.Change.{Change}
+use Rattle.br_model.specs.declared.change.Change.TheVariants.{SetState}
+use Rattle.br_model.specs.declared.transcript.Line.{Line}
+use Rattle.br_model.specs.Plane.World.{control_line}
+use Rattle.br_model.specs.Tree.{Tree, state_at}
+use Rattle.br_model.specs.TreeSending.{Acted}
+use Rattle.br_model.specs.TreeStep.{message}
+use Rattle.stp_core.specs.declared.tree.TreeOut.{TreeOut}
+
+abbrev pub state_change : Tree → ℕ → Change
+state_change t port = SetState port (state_at t port)
+
+-- the line of the message that went out last on the port, where one did
+abbrev pub line_of : ℕ → ℕ → Option BpduMsg → List Line
+line_of own port None = []
+line_of own port (Some m) = control_line own (port, m) ∷ []
+
+abbrev pub config_lines : ℕ → Tree → ℕ → List Line
+config_lines own t port = line_of own port (message t port)
+
+abbrev pub acted_by : Tree → TreeOut → Acted
+acted_by t out = record { tree = t; config = out.config; tcn = out.tcn }

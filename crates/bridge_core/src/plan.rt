@@ -1,0 +1,38 @@
+//! What an event comes to, before any of it is done.
+ghost use Rattle.std.specs.Prelude.{◌≡◌, None, []};
+
+use crate::state::Clock;
+use br_model::change::Change;
+use br_model::tree::TreeEvent;
+use fdb_core::Key;
+use std::alloc::Global;
+
+/// What is to be done, in this order.
+#[derive(Drop)]
+pub struct Plan {
+    /// The clock is set.
+    pub clock: Clock,
+    /// The entry at this address gets the clock's moment.
+    pub renewed: Option<Key>,
+    /// These changes are made.
+    pub changes: Vec<Change>,
+    /// The spanning tree is told this.
+    pub told: Option<TreeEvent>,
+}
+
+impl Plan {
+    /// Nothing is done.
+    pub fn nothing(alloc: Global, clock: Clock) -> Plan
+        ensures clock { result.clock ≡ clock }
+        ensures renewed { result.renewed ≡ None }
+        ensures changes { result.changes.items ≡ [] }
+        ensures told { result.told ≡ None }
+    {
+        Plan {
+            clock,
+            renewed: None,
+            changes: Vec::new(alloc),
+            told: None,
+        }
+    }
+}
