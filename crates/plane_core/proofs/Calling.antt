@@ -100,7 +100,7 @@ le_test a b h = grind arith
 points : (w : World) (x : Holding) (point : ℕ) → has nat_cmp w.counts point ≡ true → x.floor ≤ point → is_point w x point ≡ true
 points w x point known late = ap (λ b. b && nat_le x.floor point) known ∙ le_test x.floor point late
 
-pub posts_found : (s t : SidesState) (q : Queued) (id point : ℕ) (x : Holding) (m : ℕ) (lines : List Line) → find (λ h. h.waiting.id == id) q.held ≡ Some x
+posts_found : (s t : SidesState) (q : Queued) (id point : ℕ) (x : Holding) (m : ℕ) (lines : List Line) → find (λ h. h.waiting.id == id) q.held ≡ Some x
     → has nat_cmp s.published.counts point ≡ true → x.floor ≤ point → Comes (λ w. posts w x.waiting point) s m t lines
     → does (world_of s q m) (Post id (Some point)) ≡ (world_of t (record q { held = filter (λ h. not (h.waiting.id == id)) q.held }) m, lines)
 posts_found s t q id point x m lines e known late h =
@@ -122,17 +122,15 @@ decided old s q n x f seen was same is =
     let by : IsDecision (world_of s q n) x seen = subst (λ (o : PlaneState). IsDecision o.world x seen) (sym was) is in
     subst (λ (g : Waiting). Decides s.setup.domains (table (take seen.point s.history)) g.port g.head Plain seen.verdict) (sym same) by.verdict
 
-pub stands_posted : (old : PlaneState) (s t : SidesState) (q r : Queued) (n m : ℕ) (h : Held) (x : Holding) (f : Waiting) (seen : Seen) (lines : List Line)
-    → record { world = world_of s q n; board = s.board } ≡ old → m ≡ n + 1 → find (λ g. g.waiting.id == h.id) q.held ≡ Some x → shown_by h ≡ shown_of x → f ≡ x.waiting
-    → h.floor ≤ seen.point → IsDecision old.world x seen → Comes (λ w. posts w f seen.point) s m t lines
-    → r ≡ record q { held = filter (λ g. not (g.waiting.id == h.id)) q.held } → IsWorld (world_of s q n) → IsWorld (world_of t r m)
-stands_posted old s t q r n m h x f seen lines was e found shown same floor is comes left k =
+pub posts_one : (old : PlaneState) (s t : SidesState) (q r : Queued) (n m : ℕ) (h : Held) (x : Holding) (f : Waiting) (seen : Seen) (lines : List Line)
+    → record { world = world_of s q n; board = s.board } ≡ old → find (λ g. g.waiting.id == h.id) q.held ≡ Some x → shown_by h ≡ shown_of x → f ≡ x.waiting
+    → h.floor ≤ seen.point → IsDecision old.world x seen → Comes (λ w. posts w f seen.point) s m t lines → r ≡ record q { held = filter (λ g. not (g.waiting.id == h.id)) q.held }
+    → does (world_of s q m) (Post h.id (Some seen.point)) ≡ (world_of t r m, lines)
+posts_one old s t q r n m h x f seen lines was found shown same floor is comes left =
     let by : IsDecision (world_of s q n) x seen = subst (λ (o : PlaneState). IsDecision o.world x seen) (sym was) is in
     let floors : h.floor ≡ x.floor = ap (λ v. v.floor) shown in
     let sends : Comes (λ w. posts w x.waiting seen.point) s m t lines = subst (λ (g : Waiting). Comes (λ w. posts w g seen.point) s m t lines) same comes in
-    subst (λ (y : Queued). IsWorld (world_of t y m)) (sym left)
-    (stands_after s t q (record q { held = filter (λ g. not (g.waiting.id == h.id)) q.held }) n m (Post h.id (Some seen.point)) lines e
-    (posts_found s t q h.id seen.point x m lines found by.point (omega arith) sends) k)
+    posts_found s t q h.id seen.point x m lines found by.point (omega arith) sends ∙ ap (λ (y : Queued). (world_of t y m, lines)) (sym left)
 
 -- The chip turns; all is published.
 

@@ -22,9 +22,9 @@ use Rattle.chip_tables.specs.declared.rows.AddressRow.{AddressRow}
 use Rattle.chip_tables.specs.Rows.{max_addresses}
 use Rattle.chip_tables.specs.Stands.{address_wanted}
 use Rattle.chip_driver.specs.Drives.{Driven, Drives, IsTaken}
-use Rattle.chip_driver.proofs.GroupRows.{mapped-put, mapped-without}
+use Rattle.chip_driver.proofs.Taking.{taken}
 use Rattle.plane_core.specs.Chips.{ChipState, Turns}
-use Rattle.plane_core.proofs.Rooms.{few-front}
+use Rattle.br_model.proofs.AddressRoom.{few-front}
 
 -- what fits the table of a history fits a driver that stands for a cut of it
 pub taken_now : (domains : Domains) (driver : Driven) (H : List Change) (k : ℕ) (c : Change) → Drives domains driver (table (cut H k)) → IsTrue (fits (table H) c) → deferred c ≡ false → IsTaken driver c
@@ -48,38 +48,9 @@ taken_now domains driver H k (AddrDel vid mac) stands fit now = absurd (cc)
 room_next : (H : List Change) (k : ℕ) (d : Change) → AreWithin H → deferred_at H k ≡ Some d → length (apply (table (cut H k)) d).addr ≤ most_addresses
 room_next H k d is at = subst (λ (t : Table). length t.addr ≤ most_addresses) (cut-turn H k d at) (addr-within most_addresses H (k + 1) (few-front H is))
 
-late : {A : Type 0} (H : List Change) (k : ℕ) (c : Change) → deferred_at H k ≡ Some c → deferred c ≡ false → A
-late H k c at now = absurd (let e : true ≡ false = sym (deferred_at-deferred H k c at).0 ∙ now in cc)
-
 pub taken_next : (domains : Domains) (driver : Driven) (H : List Change) (k : ℕ) (d : Change) → Drives domains driver (table (cut H k)) → AreWithin H → deferred_at H k ≡ Some d → IsTaken driver d
-taken_next domains driver H k (PortUp port) stands is at = tt
-taken_next domains driver H k (PortDown port) stands is at = tt
-taken_next domains driver H k (SetFlags port flags) stands is at = tt
-taken_next domains driver H k (SetState port number) stands is at = late H k (SetState port number) at refl
-taken_next domains driver H k (VlanAdd port vid untagged pvid) stands is at = tt
-taken_next domains driver H k (VlanDel port vid) stands is at = tt
-taken_next domains driver H k (GroupJoin port vid group) stands is at = late H k (GroupJoin port vid group) at refl
-taken_next domains driver H k (GroupPart port vid group) stands is at = tt
-taken_next domains driver H k (Router port on) stands is at = tt
-taken_next domains driver H k (Querier six on) stands is at = tt
-taken_next domains driver H k (Snoop on) stands is at = tt
-taken_next domains driver H k (Stp on) stands is at = tt
-taken_next domains driver H k (AddrPut vid mac port kind) stands is at =
-    let addr = (table (cut H k)).addr in
-    let same : length (put pair_cmp driver.rows.addresses (vid, mac) (address_wanted (port, kind))) ≡ length (put pair_cmp addr (vid, mac) (port, kind)) =
-    ap (λ (rows : List ((ℕ × ℕ) × AddressRow)). length (put pair_cmp rows (vid, mac) (address_wanted (port, kind)))) stands.rows.addresses
-    ∙ ap length (sym (mapped-put pair_cmp address_wanted addr (vid, mac) (port, kind)))
-    ∙ length-map (put pair_cmp addr (vid, mac) (port, kind)) _ in
-    let room : length (put pair_cmp addr (vid, mac) (port, kind)) ≤ max_addresses = room_next H k (AddrPut vid mac port kind) is at in
-    subst (λ n. n ≤ max_addresses) (sym same) room
-taken_next domains driver H k (AddrDel vid mac) stands is at =
-    let addr = (table (cut H k)).addr in
-    let same : length (without pair_cmp driver.rows.addresses (vid, mac)) ≡ length (without pair_cmp addr (vid, mac)) =
-    ap (λ (rows : List ((ℕ × ℕ) × AddressRow)). length (without pair_cmp rows (vid, mac))) stands.rows.addresses
-    ∙ ap length (sym (mapped-without pair_cmp address_wanted addr (vid, mac)))
-    ∙ length-map (without pair_cmp addr (vid, mac)) _ in
-    let room : length (without pair_cmp addr (vid, mac)) ≤ max_addresses = room_next H k (AddrDel vid mac) is at in
-    subst (λ n. n ≤ max_addresses) (sym same) room
+taken_next domains driver H k d stands is at =
+    taken domains driver (table (cut H k)) d stands (λ now. absurd (let e : true ≡ false = sym (deferred_at-deferred H k d at).0 ∙ now in cc)) (room_next H k d is at)
 
 -- one change of the history more
 

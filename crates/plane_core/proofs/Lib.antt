@@ -3,7 +3,6 @@ pub mod HeldRows
 pub mod Keeping
 pub mod Leaving
 pub mod Placing
-pub mod Rooms
 pub mod Following
 pub mod Noting
 pub mod Sweeping

@@ -1,15 +1,26 @@
 -- What becomes of a bridge's sides when it reacts.
-use Rattle.std.proofs.Common.{◌≡◌, ℕ, List, ◌++◌, length, take, drop, sym, ap, subst, ◌∙◌, append_assoc}
+use Rattle.std.proofs.Common.{◌≡◌, ℕ, List, [], ◌∷◌, ◌++◌, length, take, drop, slice_get, Some, Result, Ok, Err, sym, ap, ap₂, subst, ◌∙◌, append_assoc}
 use Rattle.std.proofs.lemmas.List.{take-append-drop}
 use Rattle.std.proofs.Math.Seq.{take-append_seam}
+use Rattle.std.specs.declared.alloc.AllocError.{AllocError}
 use Rattle.br_model.specs.declared.change.Change.{Change}
+use Rattle.br_model.specs.declared.steps.Refusal.{Refusal}
+use Rattle.br_model.specs.declared.transcript.Line.{Line}
+use Rattle.br_model.specs.declared.transcript.Line.TheVariants as lines
+use Rattle.br_model.specs.Chip.{Chip}
+use Rattle.br_model.specs.Control.{first_control}
 use Rattle.br_model.specs.Domains.{Domains}
+use Rattle.br_model.specs.Plane.World.{accepts, after_lines, answered, control_lines}
 use Rattle.br_model.specs.Reaction.{Reaction}
 use Rattle.br_model.specs.Setup.{Setup}
+use Rattle.bridge_core.specs.declared.faults.EventFault.{EventFault}
+use Rattle.bridge_core.specs.declared.faults.EventFault.TheVariants.{Refused, NoMemory}
 use Rattle.bridge_core.specs.Kept.{Controlled}
 use Rattle.table_publish.specs.Board.{Shelf, all_of}
+use Rattle.table_publish.specs.Object.{first_object}
 use Rattle.plane_core.specs.Chips.{ChipState, IsChip}
-use Rattle.plane_core.specs.Sides.{AreSides}
+use Rattle.plane_core.specs.Queued.{Queued}
+use Rattle.plane_core.specs.Sides.{SidesState, AreSides, Comes, Lasts, Reacted, world_of}
 
 -- the bridge with these changes behind its history
 abbrev pub reacted : Controlled → Reaction → Controlled
@@ -40,3 +51,45 @@ sides_after old new chip chip_new board board_new r from are is at follows appen
           ∙ take-append-drop from new.history;
       domains = ap (λ (b : Shelf). b.board.domains) appended ∙ are.domains ∙ ap (λ (s : Setup). s.domains) (sym setup);
     }
+
+-- what a reaction comes to for the world, behind these lines
+comes : (s t : SidesState) (kept : Chip) (before after : List Line) (step : ℕ) (outcome : Result ℕ EventFault) (last : Line) (answer : Result Reaction Refusal)
+    → Reacted s t kept before after outcome answer → Lasts step outcome (Ok last) → (q : Queued)
+    → after_lines before (answered (world_of s q step) (record (world_of s q step) { chip = kept }) answer) ≡ (world_of t q step, after ++ last ∷ [])
+comes s t kept before after step (Ok changes) last answer did ends q =
+    let r = did.0 in
+    let w = world_of s q step in
+    let sends = control_lines s.setup.own r.messages in
+    let done : last ≡ lines.Done step (length r.changes) = cc in
+    ap (λ (a : Result Reaction Refusal). after_lines before (answered w (record w { chip = kept }) a)) did.1
+    ∙ ap (λ (ls : List Line). (accepts (record w { chip = kept }) r, ls)) (sym (append_assoc before sends (lines.Done step (length r.changes) ∷ [])))
+    ∙ sym (ap₂ (λ (x : SidesState) (ls : List Line). (world_of x q step, ls)) did.3 (ap₂ (λ (ls : List Line) (l : Line). ls ++ l ∷ []) did.4 done))
+comes s t kept before after step (Err (Refused why)) last answer did ends q =
+    let w = world_of s q step in
+    let refusal : last ≡ lines.Refused step why = cc in
+    ap (λ (a : Result Reaction Refusal). after_lines before (answered w (record w { chip = kept }) a)) did.0
+    ∙ sym (ap₂ (λ (x : SidesState) (ls : List Line). (world_of x q step, ls)) did.1 (ap₂ (λ (ls : List Line) (l : Line). ls ++ l ∷ []) did.2 refusal))
+comes s t kept before after step (Err NoMemory) last answer did ends q = absurd cc
+
+-- a step that a reaction ends
+pub ended : (s t : SidesState) (kept : Chip) (first before after told : List Line) (step : ℕ) (outcome : Result ℕ EventFault) (end : Result Line AllocError) (last : Line)
+    (answer : Result Reaction Refusal) → before ≡ first → Reacted s t kept before after outcome answer → Lasts step outcome end → end ≡ Ok last → told ≡ after ++ last ∷ []
+    → Comes (λ w. after_lines first (answered w (record w { chip = kept }) answer)) s step t told
+ended s t kept first before after told step outcome end last answer is did ends at all q =
+    ap (λ (ls : List Line). after_lines ls (answered (world_of s q step) (record (world_of s q step) { chip = kept }) answer)) (sym is)
+    ∙ comes s t kept before after step outcome last answer did (subst (λ (e : Result Line AllocError). Lasts step outcome e) at ends) q
+    ∙ ap (λ (ls : List Line). (world_of t q step, ls)) (sym all)
+
+-- what is first in a list stands before the rest
+pub first_of_all : {A : Type 0} (xs : List A) (x : A) → Some x ≡ slice_get xs 0 → xs ≡ x ∷ drop 1 xs
+first_of_all [] x e = absurd cc
+first_of_all (y ∷ ys) x e = let same : y ≡ x = cc in ap (λ z. z ∷ ys) same
+
+-- a bridge in which nothing has happened, with a chip and a board of which that is so
+pub sides_first : (b : Controlled) (chip : ChipState) (board : Shelf) (setup : Setup) → b ≡ record { setup = setup; history = []; control = first_control setup.own }
+    → IsChip setup.domains [] chip → board.object ≡ first_object → board.pending ≡ [] → board.board.domains ≡ setup.domains → AreSides b chip board
+sides_first b chip board setup is follows object pending domains = record {
+  follows = subst (λ (x : Controlled). IsChip x.setup.domains x.history chip) (sym is) follows;
+  whole = (λ i. (object i).changes ++ pending i) ∙ sym (ap (λ (x : Controlled). x.history) is);
+  domains = domains ∙ sym (ap (λ (x : Controlled). x.setup.domains) is);
+}

@@ -1,8 +1,8 @@
 -- What contracts see of a plane: its world, and the board over which it stands.
-use Rattle.std.specs.Prelude.{◌≡◌, ◌≢◌, ℕ, ◌==◌, true, false, List, [], ◌∷◌, IfSome, take, MatchBool, ◌≤◌, ◌<◌}
+use Rattle.std.specs.Prelude.{◌≡◌, ◌≢◌, ℕ, true, List, IfSome, take, MatchBool, ◌≤◌, ◌<◌, ◌^◌}
 use Rattle.std.specs.Ordering.{nat_cmp}
 use Rattle.br_model.specs.Maps.{has}
-use Rattle.std.specs.Option.{is_some, option_map}
+use Rattle.std.specs.Option.{is_some}
 use Rattle.std.specs.declared.option.Option.{Option}
 use Rattle.std.specs.declared.option.Option.TheVariants.{None, Some}
 use Rattle.std.specs.declared.result.Result.{Result}
@@ -17,7 +17,6 @@ use Rattle.br_model.specs.declared.transcript.Line.{Line}
 use Rattle.br_model.specs.Cut.{deferred_at}
 use Rattle.br_model.specs.DomainPorts.{is_in_domain}
 use Rattle.br_model.specs.Domains.{chip}
-use Rattle.br_model.specs.Plane.Invariants.{IsWorld}
 use Rattle.br_model.specs.Plane.Serving.{held_with}
 use Rattle.br_model.specs.Plane.Steps.{Step, Cmd, Now, Post, Turn, world_step}
 use Rattle.br_model.specs.Plane.World.{World, Waiting, Holding, table_at, table_of_chip}
@@ -50,10 +49,10 @@ pub record Steps (old new : PlaneState) (step : Step) (lines : List Line) : Type
 abbrev pub published_in : World → Object
 published_in w = record { changes = take w.published w.history; counts = w.counts }
 
--- Commands and moments are what a scenario names.
+-- Commands, and moments before 2^53, are what a scenario names.
 abbrev pub IsNamed : Event → Type 0
 IsNamed (events.Cmd c) = Unit {0}
-IsNamed (events.Moment now) = Unit {0}
+IsNamed (events.Moment now) = now < 2 ^ 53
 IsNamed (events.Sight port bytes head) = ⊥
 IsNamed (events.Told vid mac port) = ⊥
 IsNamed (events.Forget stations) = ⊥

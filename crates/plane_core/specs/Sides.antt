@@ -11,7 +11,7 @@ use Rattle.br_model.specs.declared.transcript.Line.{Line}
 use Rattle.br_model.specs.declared.transcript.Line.TheVariants as lines
 use Rattle.br_model.specs.Chip.{Chip, applies, chip_table, first_chip}
 use Rattle.br_model.specs.Control.{Control, first_control}
-use Rattle.br_model.specs.Plane.World.{World, Stepped}
+use Rattle.br_model.specs.Plane.World.{World, Stepped, control_lines}
 use Rattle.br_model.specs.Reaction.{Reaction}
 use Rattle.br_model.specs.Setup.{Setup}
 use Rattle.br_model.specs.Table.{Table, table}
@@ -36,7 +36,7 @@ abbrev pub first_sides : Setup → Whose → SidesState
 first_sides setup board = record {
   setup = setup;
   history = [];
-  control = first_control;
+  control = first_control setup.own;
   chip = first_chip;
   published = first_object;
   board = board;
@@ -70,12 +70,14 @@ chip_side s = chip_table s.history s.chip
 abbrev pub soft_side : SidesState → Table
 soft_side s = table s.published.changes
 
--- The changes of the reaction were made, and are so many; or nothing changed.
-abbrev pub Reacted : SidesState → SidesState → Result ℕ EventFault → Result Reaction Refusal → Type 0
-Reacted old new (Ok changes) answer =
-    (r : Reaction) × (answer ≡ Ok r) × (changes ≡ length r.changes) × (new ≡ record old { history = old.history ++ r.changes; control = r.control })
-Reacted old new (Err (Refused why)) answer = (answer ≡ Err why) × (new ≡ old)
-Reacted old new (Err NoMemory) answer = new ≡ old
+-- The changes of the reaction were made, and are so many, the chip keeps this, and the lines of the messages were added; or
+-- nothing changed. After want of memory the lines are any.
+abbrev pub Reacted : SidesState → SidesState → Chip → List Line → List Line → Result ℕ EventFault → Result Reaction Refusal → Type 0
+Reacted old new kept before after (Ok changes) answer =
+    (r : Reaction) × (answer ≡ Ok r) × (changes ≡ length r.changes) × (new ≡ record old { history = old.history ++ r.changes; control = r.control; chip = kept })
+    × (after ≡ before ++ control_lines old.setup.own r.messages)
+Reacted old new kept before after (Err (Refused why)) answer = (answer ≡ Err why) × (new ≡ old) × (after ≡ before)
+Reacted old new kept before after (Err NoMemory) answer = new ≡ old
 
 -- the last line of a step in which an event came to so many changes, or was refused
 abbrev pub Lasts : ℕ → Result ℕ EventFault → Result Line AllocError → Type 0

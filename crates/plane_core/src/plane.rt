@@ -25,7 +25,7 @@ use crate::faults::{PostFault, TurnFault};
 use crate::frames::{Arrival, Frames};
 use crate::held::Held;
 use crate::sending::{Egress, send};
-use crate::sides::{Sides, with_last};
+use crate::sides::Sides;
 use br_model::change::{Change, Update};
 use br_model::domains::Domains;
 use br_model::frame::{Class, Head};
@@ -231,17 +231,16 @@ impl Plane {
         }
     }
 
-    /// An event that a scenario names, a command or a moment.
+    /// An event that a scenario names, a command or a moment before 2^53.
     pub fn accept(&mut self, alloc: Global, e: &Event) -> Result<Lines, NoMemory>
         requires { IsNamed e.now }
         ensures ok { IfOk result (λ lines. Accepts self.old self.new e.now lines) }
         ensures err { OnErr result (self.new ≡ self.old) }
     {
         let step = next(self.steps)?;
-        let lines = Vec::with_capacity(alloc, 1)?;
-        let last = self.sides.answer(alloc, step, e)?;
+        let lines = self.sides.answer(alloc, step, e)?;
         self.steps = step;
-        Ok(with_last(lines, last))
+        Ok(lines)
     }
 
     /// The chip applies the next deferred change of the history, which the update names by its ticket.
@@ -386,10 +385,9 @@ impl Plane {
         ensures err { OnErr result (self.new ≡ self.old) }
     {
         let step = next(self.steps)?;
-        let lines = Vec::with_capacity(alloc, 1)?;
-        let last = self.sides.report(alloc, step)?;
+        let lines = self.sides.report(alloc, step)?;
         self.steps = step;
-        Ok(with_last(lines, last))
+        Ok(lines)
     }
 
     /// The bridge forgets the stations that the chip no longer sees.
@@ -399,10 +397,9 @@ impl Plane {
         ensures err { OnErr result (self.new ≡ self.old) }
     {
         let step = next(self.steps)?;
-        let lines = Vec::with_capacity(alloc, 1)?;
-        let last = self.sides.sweep(alloc, step)?;
+        let lines = self.sides.sweep(alloc, step)?;
         self.steps = step;
-        Ok(with_last(lines, last))
+        Ok(lines)
     }
 
     /// Tells a seat what is published. It is no step.

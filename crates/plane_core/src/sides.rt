@@ -1,5 +1,5 @@
 //! A bridge with the two copies of its table that follow it: the chip's rows, and the published tables.
-ghost use Rattle.std.specs.Prelude.{◌≡◌, ℕ, ◌-◌, ◌<◌, ◌≤◌, ◌++◌, ◌∷◌, [], length, take, drop, slice_get, vec_capacity, IfOk, OnOk, OnErr, true};
+ghost use Rattle.std.specs.Prelude.{◌≡◌, ℕ, ◌-◌, ◌<◌, ◌≤◌, ◌++◌, ◌∷◌, [], length, take, drop, slice_get, vec_len, vec_capacity, IfOk, OnOk, OnErr, true};
 ghost use Rattle.std.specs.Option.{option_map};
 ghost use Rattle.br_model.specs.Change.{updates};
 ghost use Rattle.br_model.specs.Chip.{hits_entry, offers};
@@ -9,12 +9,14 @@ ghost use Rattle.br_model.specs.Domains.{Domains as DomainsValue, chip};
 ghost use Rattle.br_model.specs.Plane.ChipSteps.{reports, sweeps};
 ghost use Rattle.br_model.specs.Plane.Serving.{posts};
 ghost use Rattle.br_model.specs.Plane.Steps.{publishes};
-ghost use Rattle.br_model.specs.Plane.World.{answered, reacts};
+ghost use Rattle.br_model.specs.Plane.World.{answered, reacts, sent};
 ghost use Rattle.br_model.specs.Reaction.{react as reaction};
+ghost use Rattle.br_model.specs.Shares.{soft_out};
 ghost use Rattle.br_model.specs.Table.{table};
 ghost use Rattle.br_model.specs.declared.frame.McastMsg.TheVariants.{Plain};
 ghost use Rattle.br_model.specs.declared.steps.Event.TheVariants as Event;
-ghost use Rattle.bridge_core.specs.Answers.{IsSeen};
+ghost use Rattle.br_model.specs.declared.transcript.Line.TheVariants as line;
+ghost use Rattle.bridge_core.specs.Answers.{IsEvent};
 ghost use Rattle.chip_pipeline.specs.Passed.{IsPass};
 ghost use Rattle.br_model.specs.Limits.{AreWithin};
 ghost use Rattle.table_publish.specs.Board.{Decides, all_of};
@@ -105,14 +107,11 @@ fn decide_anew(
 }
 
 /// Lines with another one behind them, for which there is room.
-pub(crate) fn with_last(mut lines: Vec<Line>, last: Line) -> Lines
-    requires { length lines.items < vec_capacity lines }
+fn with_last(mut lines: Vec<Line>, last: Line) -> Lines
+    requires { vec_len lines < vec_capacity lines }
     ensures { result ≡ lines.items ++ last ∷ [] }
 {
-    match lines.push(last) {
-        Ok(()) => {}
-        Err(_) => unreachable!(),
-    }
+    lines.push_reserved(last);
     Lines::of(lines)
 }
 
@@ -137,39 +136,89 @@ impl Sides {
         })
     }
 
-    /// The bridge reacts to an event. The answer is how many changes it made.
-    fn react(&mut self, alloc: Global, event: &Event) -> Result<u32, EventFault>
-        requires { IsSeen event.now }
-        ensures { Reacted self.old self.new result (reaction self.old.setup self.old.history self.old.control event.now) }
+    /// The bridge reacts to an event, and the lines of the control frames that leave are added, with room for another line behind
+    /// them. The answer is how many changes it made.
+    fn react(
+        &mut self,
+        alloc: Global,
+        event: &Event,
+        lines: &mut Vec<Line>,
+    ) -> Result<u32, EventFault>
+        requires event { IsEvent event.now }
+        requires room { vec_len lines.old < vec_capacity lines.old }
+        ensures reacted { Reacted self.old self.new self.old.chip lines.old.items lines.new.items result (reaction self.old.setup self.old.history self.old.control event.now) }
+        ensures room { vec_len lines.new < vec_capacity lines.new }
     {
-        let made = self.bridge.react(alloc, event)?;
-        Ok(follow(&self.bridge, &mut self.chip, &mut self.board, made.from))
+        let from = self.bridge.answer(alloc, event, lines)?;
+        Ok(follow(&self.bridge, &mut self.chip, &mut self.board, from))
     }
 
-    /// The bridge sees a frame that software sent. The answer is how many changes it made.
-    fn see(&mut self, alloc: Global, frame: &Frame) -> Result<u32, EventFault>
-        ensures { Reacted self.old self.new result (reaction self.old.setup self.old.history self.old.control (Event.Sight frame.now.port frame.now.bytes frame.now.head)) }
+    /// The bridge sees a frame that software sent, as it reacts to an event.
+    fn see(
+        &mut self,
+        alloc: Global,
+        frame: &Frame,
+        lines: &mut Vec<Line>,
+    ) -> Result<u32, EventFault>
+        requires { vec_len lines.old < vec_capacity lines.old }
+        ensures reacted { Reacted self.old self.new self.old.chip lines.old.items lines.new.items result (reaction self.old.setup self.old.history self.old.control (Event.Sight frame.now.port frame.now.bytes frame.now.head)) }
+        ensures room { vec_len lines.new < vec_capacity lines.new }
     {
-        let made = self
+        let from = self
             .bridge
-            .see(alloc, frame.port(), frame.bytes(), frame.head())?;
-        Ok(follow(&self.bridge, &mut self.chip, &mut self.board, made.from))
+            .see(alloc, frame.port(), frame.bytes(), frame.head(), lines)?;
+        Ok(follow(&self.bridge, &mut self.chip, &mut self.board, from))
     }
 
-    /// The event of a step, with the step's last line. After want of memory all is as before, here and in what follows.
+    /// The bridge reacts to the chip's oldest report, which leaves unless that is refused.
+    fn react_to_report(
+        &mut self,
+        alloc: Global,
+        event: &Event,
+        lines: &mut Vec<Line>,
+    ) -> Result<u32, EventFault>
+        requires event { IsEvent event.now }
+        requires room { vec_len lines.old < vec_capacity lines.old }
+        ensures reacted { Reacted self.old self.new (record self.old.chip { reports = drop 1 self.old.chip.reports }) lines.old.items lines.new.items result (reaction self.old.setup self.old.history self.old.control event.now) }
+        ensures room { vec_len lines.new < vec_capacity lines.new }
+    {
+        let changes = self.react(alloc, event, lines)?;
+        self.chip.drop_report();
+        Ok(changes)
+    }
+
+    /// The bridge reacts to a sweep, and no entry is hit, unless that is refused.
+    fn react_to_sweep(
+        &mut self,
+        alloc: Global,
+        event: &Event,
+        lines: &mut Vec<Line>,
+    ) -> Result<u32, EventFault>
+        requires event { IsEvent event.now }
+        requires room { vec_len lines.old < vec_capacity lines.old }
+        ensures reacted { Reacted self.old self.new (record self.old.chip { hits = [] }) lines.old.items lines.new.items result (reaction self.old.setup self.old.history self.old.control event.now) }
+        ensures room { vec_len lines.new < vec_capacity lines.new }
+    {
+        let changes = self.react(alloc, event, lines)?;
+        self.chip.clear_hits();
+        Ok(changes)
+    }
+
+    /// The event of a step. The answer is the lines of the step. After want of memory all is as before, here and in what follows.
     pub(crate) fn answer(
         &mut self,
         alloc: Global,
         step: u32,
         event: &Event,
-    ) -> Result<Line, NoMemory>
-        requires { IsSeen event.now }
-        ensures ok { IfOk result (λ last. Comes (λ w. answered w w (reacts w event.now)) self.old step self.new (last ∷ [])) }
+    ) -> Result<Lines, NoMemory>
+        requires { IsEvent event.now }
+        ensures ok { IfOk result (λ lines. Comes (λ w. answered w w (reacts w event.now)) self.old step self.new lines) }
         ensures err { OnErr result (self.new ≡ self.old) }
         ensures over { self.new.board ≡ self.old.board }
     {
-        let outcome = self.react(alloc, event);
-        last_line(step, outcome)
+        let mut lines = Vec::with_capacity(alloc, 1)?;
+        let outcome = self.react(alloc, event, &mut lines);
+        Ok(with_last(lines, last_line(step, outcome)?))
     }
 
     /// The decision of a frame by what is published, by a seat that was told of it. Where the seat has no reading of just that, it is
@@ -192,6 +241,28 @@ impl Sides {
         }
     }
 
+    /// The lines of a frame that is sent by a decision of the table at this point, with room for another line behind them.
+    fn soft_lines(
+        &self,
+        alloc: Global,
+        frame: &Frame,
+        verdict: &Verdict,
+        point: u32,
+    ) -> Result<Vec<Line>, NoMemory>
+        requires { Decides self.now.setup.domains (table (take point self.now.history)) frame.now.port frame.now.head Plain verdict.now }
+        ensures lines { IfOk result (λ lines. lines.items ≡ line.Soft frame.now.id point
+            ∷ sent frame.now.id (soft_out self.now.setup.domains (table (take point self.now.history)) frame.now.port frame.now.bytes frame.now.head frame.now.mark)) }
+        ensures room { IfOk result (λ lines. vec_len lines < vec_capacity lines) }
+    {
+        let mut lines = Vec::new(alloc);
+        let id = frame.id();
+        lines.push(Line::Soft { id, point })?;
+        let out = Egress::of_verdict(verdict, frame.mark(), self.bridge.domains());
+        send(alloc, id, frame.bytes(), frame.head(), &out, &mut lines)?;
+        lines.reserve(1)?;
+        Ok(lines)
+    }
+
     /// Sends a frame by a decision of the table at this point, and lets the bridge see it. The answer is the lines of the step.
     pub(crate) fn post(
         &mut self,
@@ -206,22 +277,8 @@ impl Sides {
         ensures err { OnErr result (self.new ≡ self.old) }
         ensures over { self.new.board ≡ self.old.board }
     {
-        let mut lines = Vec::new(alloc);
-        lines.push(Line::Soft {
-            id: frame.id(),
-            point,
-        })?;
-        let egress = Egress::of_verdict(verdict, frame.mark(), self.bridge.domains());
-        send(
-            alloc,
-            frame.id(),
-            frame.bytes(),
-            frame.head(),
-            &egress,
-            &mut lines,
-        )?;
-        lines.reserve(1)?;
-        let outcome = self.see(alloc, frame);
+        let mut lines = self.soft_lines(alloc, frame, verdict, point)?;
+        let outcome = self.see(alloc, frame, &mut lines);
         Ok(with_last(lines, last_line(step, outcome)?))
     }
 
@@ -280,36 +337,31 @@ impl Sides {
     }
 
     /// The bridge is told the chip's oldest report, which leaves unless that is refused.
-    pub(crate) fn report(&mut self, alloc: Global, step: u32) -> Result<Line, NoMemory>
-        ensures ok { IfOk result (λ last. Comes (λ w. reports w w.chip.reports) self.old step self.new (last ∷ [])) }
+    pub(crate) fn report(&mut self, alloc: Global, step: u32) -> Result<Lines, NoMemory>
+        ensures ok { IfOk result (λ lines. Comes (λ w. reports w w.chip.reports) self.old step self.new lines) }
         ensures err { OnErr result (self.new ≡ self.old) }
         ensures over { self.new.board ≡ self.old.board }
     {
+        let mut lines = Vec::with_capacity(alloc, 1)?;
         let Some((vid, mac, port)) = self.chip.first_report() else {
-            return Ok(Line::Refused {
-                step,
-                refusal: Refusal::NothingReported,
-            });
+            let refusal = Refusal::NothingReported;
+            return Ok(with_last(lines, Line::Refused { step, refusal }));
         };
-        let outcome = self.react(alloc, &Event::Told { vid, mac, port });
-        if outcome.is_ok() {
-            self.chip.drop_report();
-        }
-        last_line(step, outcome)
+        let event = Event::Told { vid, mac, port };
+        let outcome = self.react_to_report(alloc, &event, &mut lines);
+        Ok(with_last(lines, last_line(step, outcome)?))
     }
 
     /// The bridge forgets what the chip no longer sees, and no entry is hit, unless that is refused.
-    pub(crate) fn sweep(&mut self, alloc: Global, step: u32) -> Result<Line, NoMemory>
-        ensures ok { IfOk result (λ last. Comes sweeps self.old step self.new (last ∷ [])) }
+    pub(crate) fn sweep(&mut self, alloc: Global, step: u32) -> Result<Lines, NoMemory>
+        ensures ok { IfOk result (λ lines. Comes sweeps self.old step self.new lines) }
         ensures err { OnErr result (self.new ≡ self.old) }
         ensures over { self.new.board ≡ self.old.board }
     {
-        let unhit = self.chip.unhit(alloc)?;
-        let outcome = self.react(alloc, &Event::Forget(unhit));
-        if outcome.is_ok() {
-            self.chip.clear_hits();
-        }
-        last_line(step, outcome)
+        let mut lines = Vec::with_capacity(alloc, 1)?;
+        let event = Event::Forget(self.chip.unhit(alloc)?);
+        let outcome = self.react_to_sweep(alloc, &event, &mut lines);
+        Ok(with_last(lines, last_line(step, outcome)?))
     }
 
     /// All changes are published.

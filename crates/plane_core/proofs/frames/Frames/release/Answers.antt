@@ -1,10 +1,10 @@
-use Rattle.std.proofs.Common.{◌≡◌, ◌==◌, not, refl, sym, ap, ◌∙◌, List, ℕ}
+use Rattle.std.proofs.Common.{◌≡◌, ◌==◌, not, refl, ap, ◌∙◌, List, ℕ}
 use Rattle.std.specs.List.{find, filter}
 use Rattle.std.specs.Ordering.{nat_cmp}
 use Rattle.std.specs.Map.{lookup, remove_entry}
 use Rattle.std.specs.BTreeMap.{is_at}
-use Rattle.br_model.specs.Plane.World.{Waiting, Holding}
-use Rattle.plane_core.specs.Queued.{Queued, held_in, under_ids, waiting_ids}
+use Rattle.br_model.specs.Plane.World.{Holding}
+use Rattle.plane_core.specs.Queued.{Queued, held_in, under_ids}
 use Rattle.plane_core.proofs.HeldRows.{found, held_under, remaining}
 use Rattle.plane_core.proofs.Keeping.{releases}
 use Rattle.plane_core.proofs.frames.Frames.release.Goals as goal

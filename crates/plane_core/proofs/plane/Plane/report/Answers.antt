@@ -5,4 +5,4 @@ use Rattle.plane_core.proofs.plane.Plane.report.Goals as goal
 pub invariant_of-self-2 : goal.invariant_of-self-2
 invariant_of-self-2 c =
     let q = c.self.inside.frames in
-    stands_after c.self.inside.sides c.report.new.self q q c.self.inside.steps c.in_ok-step.step Report _ c.in_ok-step.ensures (c.in_ok-last.ensures.ok q) c.self.invariant
+    stands_after c.self.inside.sides c.report.new.self q q c.self.inside.steps c.in_ok-step.step Report _ c.in_ok-step.ensures (c.in_ok-lines.ensures.ok q) c.self.invariant
