@@ -5,17 +5,19 @@ use Rattle.br_model.specs.declared.scenario.Item.TheVariants as items
 use Rattle.br_model.specs.declared.scenario.LineWhy.{LineWhy}
 use Rattle.br_model.specs.declared.scenario.LineWhy.TheVariants as why
 use Rattle.br_model.specs.declared.scenario.Said.{Said}
-use Rattle.br_model.specs.declared.scenario.Said.TheVariants.{Blank, Opens, Declares, Does, Ends}
+use Rattle.br_model.specs.declared.scenario.Said.TheVariants.{Blank, Opens, Bridge, Declares, Does, Ends}
 use Rattle.br_model.specs.declared.steps.Step.{Step}
-use Rattle.br_model.specs.LineForms.{line_says, declaration, opening}
+use Rattle.br_model.specs.declared.scenario.Place.{Place}
+use Rattle.br_model.specs.declared.scenario.Place.TheVariants as places
+use Rattle.br_model.specs.LineForms.{line_says, header, declaration, opening}
 use Rattle.br_model.specs.Plane.Naming.{named}
 use Rattle.br_model.specs.Plane.Runs.{run, then_step}
 use Rattle.br_model.specs.Plane.Steps.{world_step}
 use Rattle.br_model.specs.Plane.World.{World, Stepped, first_world}
-use Rattle.br_model.specs.Roster.{Roster, Entry, domains_of}
+use Rattle.br_model.specs.Roster.{Roster}
 use Rattle.br_model.specs.Runs.{run_of, setup_of, body_of}
 use Rattle.br_model.specs.Scenario.{Scenario, Ending, Going, Bad, takes, takes_at, takes_said, declared, steps_of, ending_of as said_ending, longest_line, bad}
-use Rattle.br_model.specs.Setup.{Setup, first_own}
+use Rattle.br_model.specs.Setup.{Setup}
 use Rattle.br_model.specs.Transcript.{text}
 use Rattle.br_model.proofs.Running.{run_said, run_none, text-append}
 use Rattle.capture_runner.specs.declared.session.Last.TheVariants as lasts
@@ -40,32 +42,39 @@ ran setup steps = run setup (map named steps)
 
 -- lines without a step
 
--- the same run, where no step and no port came
-pub same_run : (s t : Scenario) → t.roster.ports ≡ s.roster.ports → t.steps ≡ s.steps → run_of t ≡ run_of s
-same_run s t p e =
-    ap (λ (ports : List Entry). ran (record { domains = domains_of ports; own = first_own }) t.steps) p ∙ ap (ran (setup_of s.roster)) e
+-- the same run, where no step and nothing of the setup came
+pub same_run : (s t : Scenario) → setup_of t.roster ≡ setup_of s.roster → t.steps ≡ s.steps → run_of t ≡ run_of s
+same_run s t p e = ap (λ (x : Setup). ran x t.steps) p ∙ ap (ran (setup_of s.roster)) e
+
+-- directly after the first line
+begins : (place : Place) → header place ≡ true → declaration place ≡ true
+begins places.Opening h = absurd (cc)
+begins places.Header h = refl
+begins places.Declarations h = absurd (cc)
+begins places.Steps h = absurd (cc)
 
 -- the place of a scenario that has steps, after what a line says there
 pub past : (r : Roster) (said : Said) → declaration r.place ≡ false → opening r.place ≡ false → comes_in_place r.place (item_of said) ≡ true
     → (declaration (declared r said).place ≡ false) × (opening (declared r said).place ≡ false)
 past r Blank d o h = (d, o)
 past r Opens d o h = let e : true ≡ false = sym h ∙ o in absurd (cc)
+past r (Bridge mac) d o h = let e : true ≡ false = sym (begins r.place h) ∙ d in absurd (cc)
 past r (Declares port name dom) d o h = let e : true ≡ false = sym h ∙ d in absurd (cc)
 past r (Does step) d o h = (refl, refl)
 past r Ends d o h = (d, o)
 
--- the world of a scenario that goes on without a step and without a port
-pub quiet : (s t : Scenario) (w : Option World) → IsWorld s w → t.steps ≡ s.steps → t.roster.ports ≡ s.roster.ports
+-- the world of a scenario that goes on without a step, and with the same setup
+pub quiet : (s t : Scenario) (w : Option World) → IsWorld s w → t.steps ≡ s.steps → setup_of t.roster ≡ setup_of s.roster
     → (declaration s.roster.place ≡ false → opening s.roster.place ≡ false → (declaration t.roster.place ≡ false) × (opening t.roster.place ≡ false)) → IsWorld t w
 quiet s t None h e p later = e ∙ h
 quiet s t (Some w) h e p later = let place = later h.1 h.2 in (h.0 ∙ sym (ap (λ (x : Stepped). x.0) (same_run s t p e)), place.0, place.1)
 
--- where a port is declared, there is no world yet
+-- where something is declared, there is no world yet
 pub unmade : (s t : Scenario) (w : Option World) → IsWorld s w → t.steps ≡ s.steps → declaration s.roster.place ≡ true → IsWorld t w
 unmade s t None h e d = e ∙ h
 unmade s t (Some w) h e d = let e : true ≡ false = sym d ∙ h.1 in absurd (cc)
 
--- a run without steps writes nothing, whatever the ports
+-- a run without steps writes nothing, whatever the setup
 pub no_steps : (s : Scenario) → s.steps ≡ [] → body_of (run_of s) ≡ codes "transcript 1" ++ 10 ∷ []
 no_steps s e = ap (λ (steps : List Step). body_of (ran (setup_of s.roster) steps)) e ∙ ap body_of (run_none (setup_of s.roster))
 
@@ -135,6 +144,7 @@ quietly s line x r before said f short says moved place none going =
     stays : (said : Said) → comes_in_place s.roster.place (item_of said) ≡ true → (after said).steps ≡ s.steps → IsWorld (after said) x.world
     stays Blank h e = quiet s (after Blank) x.world f.stands.world e refl (λ d o. past s.roster Blank d o h)
     stays Opens h e = quiet s (after Opens) x.world f.stands.world e refl (λ d o. past s.roster Opens d o h)
+    stays (Bridge mac) h e = unmade s (after (Bridge mac)) x.world f.stands.world e (begins s.roster.place h)
     stays (Declares port name dom) h e = unmade s (after (Declares port name dom)) x.world f.stands.world e h
     stays (Does step) h e = quiet s (after (Does step)) x.world f.stands.world e refl (λ d o. past s.roster (Does step) d o h)
     stays Ends h e = quiet s (after Ends) x.world f.stands.world e refl (λ d o. past s.roster Ends d o h)
@@ -142,6 +152,7 @@ quietly s line x r before said f short says moved place none going =
     same_body : (said : Said) → comes_in_place s.roster.place (item_of said) ≡ true → (after said).steps ≡ s.steps → body_of (run_of (after said)) ≡ body_of (run_of s)
     same_body Blank h e = ap body_of (same_run s (after Blank) refl e)
     same_body Opens h e = ap body_of (same_run s (after Opens) refl e)
+    same_body (Bridge mac) h e = unmade_body s (after (Bridge mac)) x.world f.stands.world e (begins s.roster.place h)
     same_body (Declares port name dom) h e = unmade_body s (after (Declares port name dom)) x.world f.stands.world e h
     same_body (Does step) h e = ap body_of (same_run s (after (Does step)) refl e)
     same_body Ends h e = ap body_of (same_run s (after Ends) refl e)
@@ -151,6 +162,7 @@ quietly s line x r before said f short says moved place none going =
 pub calm_blank : (said : Said) → items.Blank ≡ item_of said → (steps_of said ≡ []) × (said_ending said ≡ Going)
 calm_blank Blank e = (refl, refl)
 calm_blank Opens e = (refl, refl)
+calm_blank (Bridge mac) e = (refl, refl)
 calm_blank (Declares port name dom) e = (refl, refl)
 calm_blank (Does step) e = absurd (cc)
 calm_blank Ends e = absurd (cc)
@@ -158,13 +170,23 @@ calm_blank Ends e = absurd (cc)
 pub calm_opening : (said : Said) → items.Scenario ≡ item_of said → (steps_of said ≡ []) × (said_ending said ≡ Going)
 calm_opening Blank e = (refl, refl)
 calm_opening Opens e = (refl, refl)
+calm_opening (Bridge mac) e = (refl, refl)
 calm_opening (Declares port name dom) e = (refl, refl)
 calm_opening (Does step) e = absurd (cc)
 calm_opening Ends e = absurd (cc)
 
+pub calm_bridge : (said : Said) (mac : ℕ) → items.Bridge mac ≡ item_of said → (steps_of said ≡ []) × (said_ending said ≡ Going)
+calm_bridge Blank m e = (refl, refl)
+calm_bridge Opens m e = (refl, refl)
+calm_bridge (Bridge mac) m e = (refl, refl)
+calm_bridge (Declares port name dom) m e = (refl, refl)
+calm_bridge (Does step) m e = absurd (cc)
+calm_bridge Ends m e = absurd (cc)
+
 pub calm_declaration : (said : Said) (port : ℕ) → items.Declared port ≡ item_of said → (steps_of said ≡ []) × (said_ending said ≡ Going)
 calm_declaration Blank p e = (refl, refl)
 calm_declaration Opens p e = (refl, refl)
+calm_declaration (Bridge mac) p e = (refl, refl)
 calm_declaration (Declares port name dom) p e = (refl, refl)
 calm_declaration (Does step) p e = absurd (cc)
 calm_declaration Ends p e = absurd (cc)
@@ -173,6 +195,7 @@ calm_declaration Ends p e = absurd (cc)
 pub step_said : (said : Said) (step : Step) → items.Step step ≡ item_of said → said ≡ Does step
 step_said Blank step e = absurd (cc)
 step_said Opens step e = absurd (cc)
+step_said (Bridge mac) step e = absurd (cc)
 step_said (Declares port name dom) step e = absurd (cc)
 step_said (Does s) step e = cc
 step_said Ends step e = absurd (cc)
@@ -213,7 +236,7 @@ stepped s line x y r before after step f short says moved does =
     let t : Scenario = takes_said s (Ok (Does step)) in
     let e : takes s line ≡ t = open_world s line x (Does step) f short says in
     let roster : r ≡ t.roster = moved ∙ ap (λ (q : Roster). declared q (Does step)) f.stands.roster in
-    let same : world_of r x.world ≡ world_of s.roster x.world = ports_only x.world r (ap (λ (q : Roster). q.ports) roster) in
+    let same : world_of r x.world ≡ world_of s.roster x.world = setup_only x.world r (ap setup_of roster) in
     let world : IsWorld t y.world =
     subst (λ (w : Option World). IsWorld t w) (sym (does.world ∙ ap (λ (v : World). Some (world_step v (named step)).0) same)) (world_after s t x.world step f.stands.world refl refl) in record {
       world = subst (λ (u : Scenario). IsWorld u y.world) (sym e) world;
@@ -227,6 +250,6 @@ stepped s line x y r before after step f short says moved does =
       body = ap (λ (u : Scenario). body_of (run_of u)) e ∙ body_after s t x.world step f.stands.world refl refl;
     }
   where
-    ports_only : (w : Option World) (r : Roster) → r.ports ≡ s.roster.ports → world_of r w ≡ world_of s.roster w
-    ports_only None r p = ap (λ (ports : List Entry). first_world (record { domains = domains_of ports; own = first_own })) p
-    ports_only (Some w) r p = refl
+    setup_only : (w : Option World) (r : Roster) → setup_of r ≡ setup_of s.roster → world_of r w ≡ world_of s.roster w
+    setup_only None r p = ap first_world p
+    setup_only (Some w) r p = refl

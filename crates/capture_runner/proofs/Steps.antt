@@ -13,7 +13,7 @@ use Rattle.br_model.specs.declared.scenario.LineWhy.TheVariants.{Long}
 use Rattle.br_model.specs.LineForms.{declaration, opening}
 use Rattle.br_model.specs.Roster.{Roster}
 use Rattle.br_model.specs.Outcomes.{HoldsNoEnd}
-use Rattle.br_model.specs.Runs.{run_of, body_of, body}
+use Rattle.br_model.specs.Runs.{run_of, setup_of, body_of, body}
 use Rattle.br_model.specs.Scenario.{Scenario, Going, Bad, opened, takes as takes_line, closes, bad, reads, scenario, longest_line}
 use Rattle.br_model.specs.WholeLines.{is_line, lines_text}
 use Rattle.br_model.proofs.Endings.{has_ended}
@@ -194,7 +194,7 @@ closed left now now' limit r r' x text rest last p m at feedless short closes_so
     let t : Scenario = closes s rest in
     let keeps = closes_keeps s rest in
     let e : scenario (p.input ++ m.given) ≡ t = ap scenario parts ∙ scenario_rest p.lines rest p.feedless feedless short p.follows.going in
-    let ports = ap (λ (q : Roster). q.ports) keeps.0 in
+    let setup = ap setup_of keeps.0 in
     let place : declaration s.roster.place ≡ false → opening s.roster.place ≡ false → (declaration t.roster.place ≡ false) × (opening t.roster.place ≡ false) =
     λ d o. (ap (λ (q : Roster). declaration q.place) keeps.0 ∙ d, ap (λ (q : Roster). opening q.place) keeps.0 ∙ o) in
     let read = input_more left now now' r r' x limit text rest p m in
@@ -202,8 +202,8 @@ closed left now now' limit r r' x text rest last p m at feedless short closes_so
       input = p.input ++ m.given;
       read = read;
       ends = ap (λ (u : Scenario). u.ending) e ∙ closes_so s p.follows;
-      world = subst (λ (u : Scenario). IsWorld u x.world) (sym e) (quiet s t x.world p.follows.stands.world keeps.1 ports place);
-      told = p.told ∙ ap body_of (sym (same_run s t ports keeps.1)) ∙ sym (body_by (p.input ++ m.given) t e);
+      world = subst (λ (u : Scenario). IsWorld u x.world) (sym e) (quiet s t x.world p.follows.stands.world keeps.1 setup place);
+      told = p.told ∙ ap body_of (sym (same_run s t setup keeps.1)) ∙ sym (body_by (p.input ++ m.given) t e);
       whole = all_of left now' (p.input ++ m.given) read at.none_left;
       within = below left now' limit (p.input ++ m.given) read at.none_left few;
     }
@@ -226,7 +226,7 @@ body_held : (lines : List (List ℕ)) (held input : List ℕ) → list_all is_li
 body_held lines held input h e feedless short parts =
     let keeps = closes_keeps (said lines) held in
     body_by input (closes (said lines) held) (ap scenario parts ∙ scenario_rest lines held h feedless short e)
-    ∙ ap body_of (same_run (said lines) (closes (said lines) held) (ap (λ (q : Roster). q.ports) keeps.0) keeps.1)
+    ∙ ap body_of (same_run (said lines) (closes (said lines) held) (ap setup_of keeps.0) keeps.1)
 
 -- what the source gave neither ends the scenario nor holds a bad line
 waits : (left now now' : Option (List ℕ)) (limit : ℕ) (r r' : Reading) (x : Session) (text : List ℕ) (p : Playing left limit r now x text) (m : Reads r r' now now' []) → HasNoFeed r'.held → length r'.held ≤ max_line

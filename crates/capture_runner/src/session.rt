@@ -1,14 +1,14 @@
 //! A run of a scenario, line by line.
-ghost use Rattle.std.specs.Prelude.{◌≡◌, ℕ, ◌+◌, ◌-◌, ◌<◌, ◌≤◌, ◌^◌, ◌++◌, length, false, None, Some, IfOk, OnOk, OnErr, string_bytes};
+ghost use Rattle.std.specs.Prelude.{◌≡◌, ℕ, ◌+◌, ◌-◌, ◌<◌, ◌≤◌, ◌^◌, ◌++◌, length, true, false, None, Some, IfOk, OnOk, OnErr, string_bytes};
 ghost use Rattle.br_model.specs.Plane.Naming.{named};
 ghost use Rattle.br_model.specs.Plane.Steps.{world_step};
 ghost use Rattle.br_model.specs.Scenario.{Scenario, opened, longest_line, closes};
 ghost use Rattle.capture_runner.specs.Session.{Follows, Takes, Does, ending_of, world_of, end_line_of, last_line};
+ghost use Rattle.scenario_text.specs.Items.{in_time};
 ghost use Rattle.transcript_text.specs.Extends.{Extends};
 
 use crate::NoMemory;
 use crate::world::World;
-use br_model::numbers::Mac;
 use br_model::scenario::{Item, LineWhy, Place};
 use br_model::steps::Step;
 use br_model::transcript::{Line, Lines};
@@ -69,6 +69,7 @@ impl Session {
         match item {
             Item::Blank => Ok(None),
             Item::Scenario => Ok(None),
+            Item::Bridge(_) => Ok(None),
             Item::Declared(_) => Ok(None),
             Item::Step(step) => {
                 self.step(alloc, step, text)?;
@@ -82,11 +83,12 @@ impl Session {
     /// each call pays for the room of its locals.
     fn begin(&mut self, alloc: Global, step: Step) -> Result<Lines, NoMemory>
         requires first { self.old.world ≡ None }
+        requires moment { in_time step ≡ true }
         ensures lines { OnOk result (self.new.lines ≡ self.old.lines) }
         ensures roster { OnOk result (self.new.roster ≡ self.old.roster) }
         ensures world { IfOk result (λ lines. (self.new.world ≡ Some (world_step (world_of self.old.roster None) (named step)).0) × (lines ≡ (world_step (world_of self.old.roster None) (named step)).1)) }
     {
-        let mut world = World::make(alloc, self.roster.domains(), Mac::FIRST_OWN)?;
+        let mut world = World::make(alloc, self.roster.domains(), self.roster.own())?;
         let lines = world.step(alloc, step)?;
         self.world = Some(world);
         Ok(lines)
@@ -94,6 +96,7 @@ impl Session {
 
     /// Does a step in the world that is there, or in a new one. The answer is its lines.
     fn go_on(&mut self, alloc: Global, step: Step) -> Result<Lines, NoMemory>
+        requires { in_time step ≡ true }
         ensures lines { OnOk result (self.new.lines ≡ self.old.lines) }
         ensures roster { OnOk result (self.new.roster ≡ self.old.roster) }
         ensures world { IfOk result (λ lines. (self.new.world ≡ Some (world_step (world_of self.old.roster self.old.world) (named step)).0) × (lines ≡ (world_step (world_of self.old.roster self.old.world) (named step)).1)) }
@@ -106,6 +109,7 @@ impl Session {
 
     /// Does a step, and writes its lines.
     fn step(&mut self, alloc: Global, step: Step, text: &mut String) -> Result<(), NoMemory>
+        requires { in_time step ≡ true }
         ensures does { OnOk result (Does self.old step (string_bytes text.old) self.new (string_bytes text.new)) }
         ensures err { OnErr result (Extends (string_bytes text.old) (string_bytes text.new)) }
     {

@@ -1,10 +1,11 @@
 //! The world of a run: a bridge with its chip, and the seat by which its software looks up.
-ghost use Rattle.std.specs.Prelude.{◌≡◌, IfOk, OnErr};
+ghost use Rattle.std.specs.Prelude.{◌≡◌, true, IfOk, OnErr};
 ghost use Rattle.br_model.specs.Plane.Naming.{named};
 ghost use Rattle.br_model.specs.Plane.Runs.{end_line};
 ghost use Rattle.br_model.specs.Plane.Steps.{Turn, world_step};
 ghost use Rattle.br_model.specs.Plane.World.{first_world};
 ghost use Rattle.plane_core.specs.Planes.{Steps as IsStep};
+ghost use Rattle.scenario_text.specs.Items.{in_time};
 
 use crate::NoMemory;
 use br_model::domains::Domains;
@@ -65,6 +66,7 @@ impl World {
 
     /// Does a step.
     pub(crate) fn step(&mut self, alloc: Global, step: Step) -> Result<Lines, NoMemory>
+        requires { in_time step ≡ true }
         ensures { IfOk result (λ lines. (self.new, lines) ≡ world_step self.old (named step)) }
     {
         match step {

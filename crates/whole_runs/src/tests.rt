@@ -2,6 +2,7 @@
 mod faults;
 mod limits;
 mod rows;
+mod trees;
 
 use capture_runner::{Status, run};
 use run_io::sinks::MemSink;

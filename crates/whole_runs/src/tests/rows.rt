@@ -265,6 +265,11 @@ fn causes_of_bad_lines(rt: HostRuntime) -> Result<(), Fail> {
         ("port 2 host soft\n", "port"),
         ("port 2 sixteen-letters. soft\n", "port"),
         ("cmd port up p2\n", "port"),
+        ("bridge 02:00:00:00:00:02\n", "place"),
+        ("cmd stp\n", "word"),
+        ("cmd link p1 cost 0\n", "number"),
+        ("cmd link p1 priority 256\n", "number"),
+        ("cmd stp priority 65536\n", "number"),
         ("cmd port up host\n", "port"),
         (
             "cmd fdb add 03:00:00:00:00:0a dev p2 vlan 0 static\n",
@@ -312,6 +317,11 @@ fn numbers_and_places_of_bad_lines(rt: HostRuntime) -> Result<(), Fail> {
         ("end", "bad 1 place\n"),
         ("port 0 host soft\n", "bad 1 place\n"),
         ("scenario 1\n", "bad 2 unended\n"),
+        ("scenario 1\nbridge 01:00:5e:00:00:01\n", "bad 2 address\n"),
+        (
+            "scenario 1\nbridge 02:00:00:00:00:02\n\nbridge 02:00:00:00:00:02\n",
+            "bad 4 place\n",
+        ),
         (
             "scenario 1\n\n  \n# a comment\nport 1 p1 soft\nport 2 p1 soft\n",
             "bad 6 port\n",

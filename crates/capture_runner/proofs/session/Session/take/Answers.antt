@@ -1,6 +1,6 @@
 use Rattle.std.proofs.Common.{Ok, ap, sym, ◌∙◌, arith}
 use Rattle.br_model.specs.Scenario.{declared}
-use Rattle.capture_runner.proofs.Following.{quietly, stepped, calm_blank, calm_opening, calm_declaration, step_said}
+use Rattle.capture_runner.proofs.Following.{quietly, stepped, calm_blank, calm_opening, calm_bridge, calm_declaration, step_said}
 use Rattle.capture_runner.proofs.session.Session.take.Goals as goal
 
 pub returns-in-Blank : goal.returns-in-Blank
@@ -18,6 +18,16 @@ returns-in-Scenario c =
     let read = c.in-Ok.ensures.read in
     let place = rw read.gives at c.in-Ok.ensures.early in
     let calm = calm_opening read.said (sym c.in-Scenario.is ∙ read.gives) in record {
+      takes = λ s f. quietly s _ c.args.self.now _ _ read.said f c.requires.short read.says read.takes place calm.0 calm.1;
+      lines = omega arith;
+      err = tt;
+    }
+
+pub returns-in-Bridge : goal.returns-in-Bridge
+returns-in-Bridge c =
+    let read = c.in-Ok.ensures.read in
+    let place = rw read.gives at c.in-Ok.ensures.early in
+    let calm = calm_bridge read.said _ (sym c.in-Bridge.is ∙ read.gives) in record {
       takes = λ s f. quietly s _ c.args.self.now _ _ read.said f c.requires.short read.says read.takes place calm.0 calm.1;
       lines = omega arith;
       err = tt;
