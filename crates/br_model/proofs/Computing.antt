@@ -2,11 +2,13 @@
 use Rattle.std.specs.Fmt.{digits}
 use Rattle.br_model.specs.Leave.{all_ports, egress_ports, ports_out, leave}
 use Rattle.br_model.specs.LineForms.{line_says}
-use Rattle.br_model.specs.Operands.{number, new_port, new_name, port_number, port_name, device, mac, hex, flag}
+use Rattle.br_model.specs.Messages.{message}
+use Rattle.br_model.specs.Operands.{number, new_port, new_name, port_number, port_name, device, mac, group, hex, flag}
 use Rattle.br_model.specs.Plane.Runs.{run}
 use Rattle.br_model.specs.Reaction.{react}
 use Rattle.br_model.specs.Runs.{told}
-use Rattle.br_model.specs.Scenario.{cut, reads, scenario_by}
+use Rattle.br_model.specs.Captures.{cut, read as read_blocks}
+use Rattle.br_model.specs.Scenario.{front, read, scenario_by}
 use Rattle.br_model.specs.TreeSending.{transmit, drops_put_off}
 use Rattle.br_model.specs.TreeStates.{states_follow, states_move}
 use Rattle.br_model.specs.TreeStep.{settled, tree_step}
@@ -15,10 +17,15 @@ use Rattle.br_model.specs.TreeVectors.{root_of, roles}
 
 -- `unfolding computing` lets `refl` compute a whole run
 unfoldable pub computing : Unit {0}
-unfolding digits all_ports egress_ports ports_out leave line_says number new_port new_name port_number port_name device mac hex flag react told run cut reads scenario_by tree_step
+unfolding digits message all_ports egress_ports ports_out leave line_says number new_port new_name port_number port_name device mac group hex flag react told run front read scenario_by tree_step
 computing = tt
 
 -- and this one a run in which the spanning tree is on
 unfoldable pub computing_tree : Unit {0}
 unfolding computing root_of roles forgets states_follow states_move transmit drops_put_off settled
 computing_tree = tt
+
+-- and this one a run with a capture
+unfoldable pub computing_captures : Unit {0}
+unfolding computing cut read_blocks
+computing_captures = tt

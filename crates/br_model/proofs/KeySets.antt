@@ -1,5 +1,5 @@
 -- The keys of a finite map are a finite set: what is done to the map is done to its keys.
-use Rattle.std.proofs.Common.{◌≡◌, Bool, true, false, not, cond, List, [], ◌∷◌, map, Some, refl, sym, ap, ◌∙◌}
+use Rattle.std.proofs.Common.{◌≡◌, Bool, true, false, not, cond, T, List, [], ◌∷◌, Some, refl, sym, ap, ◌∙◌}
 use Rattle.std.specs.Prelude.{is_some}
 use Rattle.std.specs.List.{AllByRecursion}
 use Rattle.std.specs.List.Sorted.{IsStrictlySortedBy}
@@ -7,7 +7,9 @@ use Rattle.std.specs.declared.cmp.Ordering.{Ordering}
 use Rattle.std.specs.declared.cmp.Ordering.TheVariants.{Less, Equal, Greater}
 use Rattle.std.specs.Ordering.{is_lt, is_eq, eq_by_cmp, match_ordering}
 use Rattle.std.specs.Cmp.{IsTotalOrder, first_so, second_so}
-use Rattle.std.specs.FinMap.Entries.{by_order, below_all}
+use Rattle.std.specs.Bool.{passes}
+use Rattle.std.specs.FinMap.Entries.{by_order, below_all, is_sorted-put, is_sorted-where_key}
+use Rattle.br_model.specs.Ends.{keys}
 use Rattle.br_model.specs.Maps.{get, put, without, joined, parted, is_ascending}
 
 is_less : (r : Ordering) → is_lt r ≡ true → r ≡ Less
@@ -15,10 +17,11 @@ is_less Less h = refl
 is_less Equal h = absurd (cc)
 is_less Greater h = absurd (cc)
 
-module _ {K X : Type 0} where
-  abbrev keys : List (K × X) → List K
-  keys m = map (λ e. e.0) m
+pub holds : (b : Bool) → T b → b ≡ true
+holds true h = refl
+holds false h = absurd h
 
+module _ {K X : Type 0} where
   module _ (R : K → K → Ordering) where
     pub keys-put : (m : List (K × X)) (k : K) (x : X) → keys (put R m k x) ≡ joined R (keys m) k
     keys-put [] k x = refl
@@ -47,7 +50,13 @@ module _ {K X : Type 0} where
     keys-ascend [] h = tt
     keys-ascend (e ∷ m) h = (below_keys e.0 m (first_so _ _ h), keys-ascend m (second_so _ _ h))
 
+    pub ascending-without : (m : List (K × X)) (k : K) → is_ascending R m ≡ true → is_ascending R (without R m k) ≡ true
+    ascending-without m k h = holds _ (is_sorted-where_key R (λ q. not (eq_by_cmp R k q)) m (passes _ h))
+
     module _ (o : IsTotalOrder R) where
+      pub ascending-put : (m : List (K × X)) (k : K) (x : X) → is_ascending R m ≡ true → is_ascending R (put R m k x) ≡ true
+      ascending-put m k x h = holds _ (is_sorted-put R o k x m (passes _ h))
+
       -- below the first key there is none
       none_below : (k first : K) (m : List (K × X)) → R k first ≡ Less → below_all R first m ≡ true → is_some (get R m k) ≡ true → false ≡ true
       none_below k first [] less h there = there

@@ -1,66 +1,120 @@
--- A scenario whose first lines are known.
-use Rattle.std.proofs.Common.{◌≡◌, ℕ, ◌+◌, ◌<◌, ◌≤◌, Bool, true, false, if◌then◌else◌, List, [], ◌∷◌, ◌++◌, length, refl, ◌∙◌, ap, arith, nat_lt, length-append}
-use Rattle.std.specs.Cmp.{first_so, second_so}
-use Rattle.std.specs.List.{fold, list_all}
-use Rattle.std.proofs.lemmas.List.{append-nil}
-use Rattle.std.proofs.lemmas.List.Sums.{fold-append}
+-- The line at the front is read, and then what is behind it.
+use Rattle.std.proofs.Common.{◌≡◌, ℕ, suc, ◌+◌, ◌<◌, ◌≤◌, Bool, true, false, if◌then◌else◌, List, [], ◌∷◌, ◌++◌, length, take, Option, None, Some, Result, Ok, Err, refl, sym, ◌∙◌, ap, arith, nat_lt, length-append, append_assoc}
+use Rattle.std.proofs.Math.Seq.{take-append_seam}
+use Rattle.br_model.specs.declared.scenario.LineWhy.{LineWhy}
 use Rattle.br_model.specs.declared.scenario.LineWhy.TheVariants.{Long, Place, Unended}
+use Rattle.br_model.specs.declared.scenario.Said.{Said}
 use Rattle.br_model.specs.CommandForms.{step}
 use Rattle.br_model.specs.LineForms.{line_says}
-use Rattle.br_model.specs.Scenario.{Scenario, Ending, Going, Ended, Bad, Cut, cut, cut_byte, in_front, opened, takes, takes_at, takes_said, begins, begins_at, closes, closes_at, ends, is_end, bad, reads, scenario, scenario_by, longest_line}
-use Rattle.br_model.specs.WholeLines.{is_line, lines_text}
+use Rattle.br_model.specs.Scenario.{Scenario, Ending, Going, Ended, Bad, Front, front, Progress, opened, takes, whole_says, section_length, reads_at, reads_front, reads_line, read, closes, closes_at, ends, is_end, bad, scenario, scenario_by, longest_line}
+use Rattle.br_model.specs.WholeLines.{is_line}
 use Rattle.br_model.specs.Words.{words}
-use Rattle.br_model.proofs.Cutting.{cut_lines, cut_rest, joins}
-use Rattle.br_model.proofs.Endings.{has_ended, takes_ended, begins_ended, closes_ended}
+use Rattle.br_model.proofs.Fronts.{before, front_before, front_line, front_none}
 
--- what whole lines have said
-abbrev pub said : List (List ℕ) → Scenario
-said lines = fold takes (opened false) lines
+-- where the bytes end there
+abbrev pub closed : Progress → Scenario
+closed p = closes p.scenario p.line
 
-pub said_more : (lines : List (List ℕ)) (line : List ℕ) → said (lines ++ line ∷ []) ≡ takes (said lines) line
-said_more lines line = fold-append takes (opened false) lines (line ∷ [])
-
--- after lines that end it nothing is read
-pub reads_ended : (lines : List (List ℕ)) (more : List ℕ) → list_all is_line lines ≡ true → has_ended (said lines).ending ≡ true → reads (opened false) (lines_text lines ++ more) ≡ said lines
-unfolding reads
-reads_ended lines more h e =
-    ap (λ (c : Cut). begins (fold takes (opened false) c.lines) c.rest) (cut_lines lines more h)
-    ∙ ap (λ (s : Scenario). begins s (cut more).rest) (fold-append takes (opened false) lines (cut more).lines ∙ takes_ended (said lines) (cut more).lines e)
-    ∙ begins_ended (said lines) (cut more).rest e
-
-pub scenario_ended : (lines : List (List ℕ)) (more : List ℕ) → list_all is_line lines ≡ true → has_ended (said lines).ending ≡ true → scenario (lines_text lines ++ more) ≡ said lines
+pub scenario_is : (bytes : List ℕ) → scenario bytes ≡ closed (read 0 (opened false) bytes)
 unfolding scenario_by
-scenario_ended lines more h e =
-    ap (λ (s : Scenario). closes s (cut (lines_text lines ++ more)).rest) (reads_ended lines more h e)
-    ∙ closes_ended (said lines) (cut (lines_text lines ++ more)).rest e
+scenario_is bytes = refl
 
--- what stands after the lines has no line feed, and isn't too long
+-- bytes that were read with the line before
+pub read_ahead : (s : Scenario) (bytes more : List ℕ) (n : ℕ) → read (length bytes + n) s (bytes ++ more) ≡ read n s more
+unfolding read
+read_ahead s [] more n = ap (λ k. read k s more) (omega arith)
+read_ahead s (byte ∷ bytes) more n =
+    ap (λ k. read k s (byte ∷ (bytes ++ more))) {y = suc (length bytes + n)} (omega arith) ∙ read_ahead s bytes more n
 
-not_long : (n : ℕ) → n ≤ longest_line → nat_lt longest_line n ≡ false
-not_long n h = grind arith
+-- bytes in front of which a scenario goes on
+reads_so : (s : Scenario) (byte : ℕ) (bytes : List ℕ) (o : Option Front) → s.ending ≡ Going → front (byte ∷ bytes) ≡ o
+    → read 0 s (byte ∷ bytes) ≡ reads_front s (byte ∷ bytes) o (λ n t. read n t bytes)
+unfolding read
+reads_so s byte bytes o going is =
+    ap (λ (d : Ending). reads_at d s (byte ∷ bytes) (λ n t. read n t bytes)) going ∙ ap (λ f. reads_front s (byte ∷ bytes) f (λ n t. read n t bytes)) is
 
-begins_short : (s : Scenario) (rest : List ℕ) → s.ending ≡ Going → length rest ≤ longest_line → begins s rest ≡ s
-begins_short s rest e n =
-    ap (λ (d : Ending). begins_at d s rest) e ∙ ap (λ b. if b then bad s Long else s) (not_long (length rest) n)
+-- what is behind the first byte of a line and its line feed
+abbrev tail_of : List ℕ → List ℕ → List ℕ
+tail_of [] rest = rest
+tail_of (byte ∷ line) rest = line ++ 10 ∷ rest
 
-cut_all : (lines : List (List ℕ)) (rest : List ℕ) → list_all is_line lines ≡ true → is_line rest ≡ true → cut (lines_text lines ++ rest) ≡ record { lines = lines; rest = rest }
-cut_all lines rest h r =
-    cut_lines lines rest h
-    ∙ ap (λ (c : Cut). record { lines = lines ++ c.lines; rest = c.rest }) (cut_rest rest r)
-    ∙ ap (λ (l : List (List ℕ)). record { lines = l; rest = rest }) (append-nil lines)
+behind_line : (s : Scenario) (line rest : List ℕ) (n : ℕ) → read (length line + n) s (tail_of line rest) ≡ read n s rest
+behind_line s [] rest n = ap (λ k. read k s rest) (omega arith)
+behind_line s (byte ∷ line) rest n =
+    ap (λ k. read k s (line ++ 10 ∷ rest)) (omega (arith, length-append line (10 ∷ [])))
+    ∙ ap (read (length (line ++ 10 ∷ []) + n) s) (sym (append_assoc line (10 ∷ []) rest))
+    ∙ read_ahead s (line ++ 10 ∷ []) rest n
 
-pub reads_rest : (lines : List (List ℕ)) (rest : List ℕ) → list_all is_line lines ≡ true → is_line rest ≡ true → length rest ≤ longest_line → (said lines).ending ≡ Going
-    → reads (opened false) (lines_text lines ++ rest) ≡ said lines
-unfolding reads
-reads_rest lines rest h r n e =
-    ap (λ (c : Cut). begins (fold takes (opened false) c.lines) c.rest) (cut_all lines rest h r) ∙ begins_short (said lines) rest e n
+-- a line that has its line feed
+says_so : (s : Scenario) (line rest : List ℕ) (r : Result Said LineWhy) → s.ending ≡ Going → is_line line ≡ true → whole_says s.roster line ≡ r
+    → read 0 s (line ++ 10 ∷ rest) ≡ reads_line s (record { line = line; behind = rest }) r (λ n t. read n t (tail_of line rest))
+says_so s [] rest r going h says =
+    reads_so s 10 rest _ going (front_line [] rest h) ∙ ap (λ (o : Result Said LineWhy). reads_line s (record { line = []; behind = rest }) o (λ n t. read n t rest)) says
+says_so s (byte ∷ line) rest r going h says =
+    reads_so s byte (line ++ 10 ∷ rest) _ going (front_line (byte ∷ line) rest h)
+    ∙ ap (λ (o : Result Said LineWhy). reads_line s (record { line = byte ∷ line; behind = rest }) o (λ n t. read n t (line ++ 10 ∷ rest))) says
 
-pub scenario_rest : (lines : List (List ℕ)) (rest : List ℕ) → list_all is_line lines ≡ true → is_line rest ≡ true → length rest ≤ longest_line → (said lines).ending ≡ Going
-    → scenario (lines_text lines ++ rest) ≡ closes (said lines) rest
-unfolding scenario_by
-scenario_rest lines rest h r n e =
-    ap (λ (s : Scenario). closes s (cut (lines_text lines ++ rest)).rest) (reads_rest lines rest h r n e)
-    ∙ ap (λ (c : Cut). closes (said lines) c.rest) (cut_all lines rest h r)
+pub not_below : (n m : ℕ) → m ≤ n → nat_lt n m ≡ false
+not_below n m h = grind arith
+
+pub below : (n m : ℕ) → n < m → nat_lt n m ≡ true
+below n m h = grind arith
+
+-- with its section
+pub read_line : (s : Scenario) (said : Said) (line section more : List ℕ) → s.ending ≡ Going → is_line line ≡ true → whole_says s.roster line ≡ Ok said → length section ≡ section_length said
+    → read 0 s (line ++ 10 ∷ (section ++ more)) ≡ read 0 (takes s said section) more
+read_line s said line section more going h says sized =
+    let rest : List ℕ = section ++ more in
+    let n : ℕ = section_length said in
+    says_so s line rest (Ok said) going h says
+    ∙ ap (λ b. if b then record { scenario = s; line = [] } else read (length line + n) (takes s said (take n rest)) (tail_of line rest))
+    (not_below (length rest) n (omega (arith, sized, length-append section more)))
+    ∙ behind_line (takes s said (take n rest)) line rest n
+    ∙ ap (λ k. read k (takes s said (take k rest)) rest) (sym sized)
+    ∙ ap (λ (part : List ℕ). read (length section) (takes s said part) rest) (take-append_seam section more)
+    ∙ ap (λ k. read k (takes s said section) rest) {y = length section + 0} (omega arith)
+    ∙ read_ahead (takes s said section) section more 0
+
+-- with a part of its section
+pub read_part : (s : Scenario) (said : Said) (line part : List ℕ) → s.ending ≡ Going → is_line line ≡ true → whole_says s.roster line ≡ Ok said → length part < section_length said
+    → read 0 s (line ++ 10 ∷ part) ≡ record { scenario = s; line = [] }
+read_part s said line part going h says short =
+    says_so s line part (Ok said) going h says
+    ∙ ap (λ b. if b then record { scenario = s; line = [] } else read (length line + section_length said) (takes s said (take (section_length said) part)) (tail_of line part))
+    (below (length part) (section_length said) short)
+
+-- a bad line
+pub read_bad : (s : Scenario) (why : LineWhy) (line more : List ℕ) → s.ending ≡ Going → is_line line ≡ true → whole_says s.roster line ≡ Err why
+    → read 0 s (line ++ 10 ∷ more) ≡ record { scenario = bad s why; line = [] }
+read_bad s why line more going h says = says_so s line more (Err why) going h says
+
+-- a line without its line feed, which isn't too long
+pub read_rest : (s : Scenario) (rest : List ℕ) → s.ending ≡ Going → is_line rest ≡ true → length rest ≤ longest_line → read 0 s rest ≡ record { scenario = s; line = rest }
+unfolding read
+read_rest s [] going h short = refl
+read_rest s (byte ∷ bytes) going h short =
+    reads_so s byte bytes None going (front_none (byte ∷ bytes) h)
+    ∙ ap (λ b. record { scenario = if b then bad s Long else s; line = byte ∷ bytes }) (not_below longest_line (length (byte ∷ bytes)) short)
+
+-- a line that is too long
+
+long_so : (s : Scenario) (byte : ℕ) (bytes more : List ℕ) (o : Option Front) → s.ending ≡ Going → front (byte ∷ (bytes ++ more)) ≡ before (byte ∷ bytes) o
+    → longest_line < length (byte ∷ bytes) → (read 0 s (byte ∷ (bytes ++ more))).scenario ≡ bad s Long
+long_so s byte bytes more None going is long =
+    ap (λ (p : Progress). p.scenario) (reads_so s byte (bytes ++ more) None going is)
+    ∙ ap (λ b. if b then bad s Long else s) (below longest_line (length (byte ∷ (bytes ++ more))) (omega (arith, long, length-append bytes more)))
+long_so s byte bytes more (Some f) going is long =
+    let line : List ℕ = byte ∷ (bytes ++ f.line) in
+    let says : whole_says s.roster line ≡ Err Long =
+    ap (λ b. if b then Err Long else line_says s.roster line) (below longest_line (length line) (omega (arith, long, length-append bytes f.line))) in
+    ap (λ (p : Progress). p.scenario) (
+    reads_so s byte (bytes ++ more) (Some (record { line = line; behind = f.behind })) going is
+    ∙ ap (λ (r : Result Said LineWhy). reads_line s (record { line = line; behind = f.behind }) r (λ n t. read n t (bytes ++ more))) says
+    )
+
+pub read_long : (s : Scenario) (bytes more : List ℕ) → s.ending ≡ Going → is_line bytes ≡ true → longest_line < length bytes → (read 0 s (bytes ++ more)).scenario ≡ bad s Long
+read_long s [] more going h long = absurd (omega arith)
+read_long s (byte ∷ bytes) more going h long = long_so s byte bytes more (front more) going (front_before (byte ∷ bytes) more h) long
 
 -- where the bytes end in a line, this has no steps and no ports
 
@@ -72,69 +126,10 @@ last_keeps : (s : Scenario) (b : Bool) → ((if b then ends s else bad s Unended
 last_keeps s true = ends_keeps s (step s.roster.place)
 last_keeps s false = (refl, refl)
 
-closes_by : (d : Ending) (s : Scenario) (rest : List ℕ) → ((closes_at d s rest).roster ≡ s.roster) × ((closes_at d s rest).steps ≡ s.steps)
-closes_by Going s rest = last_keeps s (is_end (words rest))
-closes_by Ended s rest = (refl, refl)
-closes_by (Bad n why) s rest = (refl, refl)
+closes_by : (d : Ending) (s : Scenario) (line : List ℕ) → ((closes_at d s line).roster ≡ s.roster) × ((closes_at d s line).steps ≡ s.steps)
+closes_by Going s line = last_keeps s (is_end (words line))
+closes_by Ended s line = (refl, refl)
+closes_by (Bad n why) s line = (refl, refl)
 
-pub closes_keeps : (s : Scenario) (rest : List ℕ) → ((closes s rest).roster ≡ s.roster) × ((closes s rest).steps ≡ s.steps)
-closes_keeps s rest = closes_by s.ending s rest
-
--- a line that is too long
-
--- bytes without a line feed before a text
-abbrev pub before_cut : List ℕ → Cut → Cut
-before_cut [] c = c
-before_cut (byte ∷ bytes) c = let d : Cut = before_cut bytes c in in_front byte d.lines d.rest
-
-cut_before : (bytes more : List ℕ) → is_line bytes ≡ true → cut (bytes ++ more) ≡ before_cut bytes (cut more)
-unfolding cut
-cut_before [] more h = refl
-cut_before (byte ∷ bytes) more h =
-    ap (cut_byte byte) (cut_before bytes more (second_so _ _ h)) ∙ joins byte (before_cut bytes (cut more)) (first_so _ _ h)
-
-before_none : (bytes rest : List ℕ) → before_cut bytes (record { lines = []; rest = rest }) ≡ record { lines = []; rest = bytes ++ rest }
-before_none [] rest = refl
-before_none (byte ∷ bytes) rest = ap (λ (d : Cut). in_front byte d.lines d.rest) (before_none bytes rest)
-
-before_some : (bytes line : List ℕ) (lines : List (List ℕ)) (rest : List ℕ) → before_cut bytes (record { lines = line ∷ lines; rest = rest }) ≡ record { lines = (bytes ++ line) ∷ lines; rest = rest }
-before_some [] line lines rest = refl
-before_some (byte ∷ bytes) line lines rest = ap (λ (d : Cut). in_front byte d.lines d.rest) (before_some bytes line lines rest)
-
-long_true : (n : ℕ) → longest_line < n → nat_lt longest_line n ≡ true
-long_true n h = grind arith
-
-takes_long : (s : Scenario) (bytes line : List ℕ) → s.ending ≡ Going → longest_line < length bytes → takes s (bytes ++ line) ≡ bad s Long
-takes_long s bytes line e n =
-    ap (λ (d : Ending). takes_at d s (bytes ++ line)) e
-    ∙ ap (λ b. if b then bad s Long else takes_said s (line_says s.roster (bytes ++ line))) (long_true (length (bytes ++ line)) (omega (arith, n, length-append bytes line)))
-
-begins_long : (s : Scenario) (bytes rest : List ℕ) → s.ending ≡ Going → longest_line < length bytes → begins s (bytes ++ rest) ≡ bad s Long
-begins_long s bytes rest e n =
-    ap (λ (d : Ending). begins_at d s (bytes ++ rest)) e
-    ∙ ap (λ b. if b then bad s Long else s) (long_true (length (bytes ++ rest)) (omega (arith, n, length-append bytes rest)))
-
-long_cut : (s : Scenario) (bytes : List ℕ) (lines : List (List ℕ)) (rest : List ℕ) → s.ending ≡ Going → longest_line < length bytes
-    → begins (fold takes s (before_cut bytes (record { lines = lines; rest = rest })).lines) (before_cut bytes (record { lines = lines; rest = rest })).rest ≡ bad s Long
-long_cut s bytes [] rest e n = ap (λ (c : Cut). begins (fold takes s c.lines) c.rest) (before_none bytes rest) ∙ begins_long s bytes rest e n
-long_cut s bytes (line ∷ lines) rest e n =
-    ap (λ (c : Cut). begins (fold takes s c.lines) c.rest) (before_some bytes line lines rest)
-    ∙ ap (λ (t : Scenario). begins (fold takes t lines) rest) (takes_long s bytes line e n)
-    ∙ ap (λ (t : Scenario). begins t rest) (takes_ended (bad s Long) lines refl)
-    ∙ begins_ended (bad s Long) rest refl
-
-pub reads_long : (lines : List (List ℕ)) (bytes more : List ℕ) → list_all is_line lines ≡ true → is_line bytes ≡ true → longest_line < length bytes → (said lines).ending ≡ Going
-    → reads (opened false) (lines_text lines ++ (bytes ++ more)) ≡ bad (said lines) Long
-unfolding reads
-reads_long lines bytes more h b n e =
-    ap (λ (c : Cut). begins (fold takes (opened false) c.lines) c.rest) (cut_lines lines (bytes ++ more) h)
-    ∙ ap (λ (s : Scenario). begins s (cut (bytes ++ more)).rest) (fold-append takes (opened false) lines (cut (bytes ++ more)).lines)
-    ∙ ap (λ (c : Cut). begins (fold takes (said lines) c.lines) c.rest) (cut_before bytes more b)
-    ∙ long_cut (said lines) bytes (cut more).lines (cut more).rest e n
-
-pub scenario_long : (lines : List (List ℕ)) (bytes more : List ℕ) → list_all is_line lines ≡ true → is_line bytes ≡ true → longest_line < length bytes → (said lines).ending ≡ Going
-    → scenario (lines_text lines ++ (bytes ++ more)) ≡ bad (said lines) Long
-unfolding scenario_by
-scenario_long lines bytes more h b n e =
-    ap (λ (s : Scenario). closes s (cut (lines_text lines ++ (bytes ++ more))).rest) (reads_long lines bytes more h b n e)
-    ∙ closes_ended (bad (said lines) Long) (cut (lines_text lines ++ (bytes ++ more))).rest refl
+pub closes_keeps : (s : Scenario) (line : List ℕ) → ((closes s line).roster ≡ s.roster) × ((closes s line).steps ≡ s.steps)
+closes_keeps s line = closes_by s.ending s line

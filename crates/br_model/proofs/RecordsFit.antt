@@ -9,7 +9,7 @@ use Rattle.br_model.specs.declared.group.Group.{Group}
 use Rattle.br_model.specs.Checksum.{is_summed}
 use Rattle.br_model.specs.Frames.{number_at}
 use Rattle.br_model.specs.IpHeaders.{type_four, type_six, header_four, total_four, protocol_four, source_four, is_fragment, body_four, is_multicast_four, source_six, length_six, next_six, body_six, is_multicast_six}
-use Rattle.br_model.specs.McastMessages.{RecordsStand, report_of, leave_of, records_of, igmp, igmp_of_type, mld_of_type, message_four, message_six, message_of, query_four, is_report_four, leave_four, records_four, is_query_length_four, is_query_length_six, protocol_igmp}
+use Rattle.br_model.specs.Messages.{RecordsStand, report_of, leave_of, records_of, igmp, igmp_of_type, mld_of_type, message_four, message_six, message, query_four, is_report_four, leave_four, records_four, is_query_length_four, is_query_length_six, protocol_igmp}
 use Rattle.br_model.specs.MldHeaders.{hop_by_hop, icmp_six, hop_length, icmp_of, has_icmp, is_mld_type, has_mld, is_summed_six, query_six, report_six, done_six, records_six}
 use Rattle.br_model.specs.Numbers.{number}
 use Rattle.br_model.specs.Records.{address_length, group_at, record_length, record_fits, records_fit}
@@ -146,7 +146,8 @@ six-stands bytes dst first =
     mld_of_type-stands bytes (get_or (icmp_of packet) 0 0) (source_six packet) (first + 40 + hop_length (body_six packet)) _ (icmp_of packet)
     (icmp_is bytes first (not-false (has_mld packet) mld)))))
 
-pub message-stands : (bytes : List ℕ) (head : Head) → RecordsStand bytes (message_of bytes head)
+pub message-stands : (bytes : List ℕ) (head : Head) → RecordsStand bytes (message bytes head)
+unfolding message
 message-stands bytes head =
     let P = RecordsStand bytes in
     cond_both (head.kind == type_four) _ _ P (λ e. four-stands bytes head.dst head.body) (λ e.

@@ -52,7 +52,7 @@ pairs_letters a b c d e f i j k l m n =
     pair_letters e (58 ∷ hex_of (f ∷ [])) m (
     pair_letters f [] n refl)))))
 
-byte_below : (mac bits : ℕ) → byte_at mac bits < 256
+pub byte_below : (mac bits : ℕ) → byte_at mac bits < 256
 byte_below mac bits = below (mac / 2 ^ bits)
   where
     below : (n : ℕ) → n % 256 < 256
@@ -63,12 +63,13 @@ byte_below mac bits = below (mac / 2 ^ bits)
 digits_256 : (m p a b : ℕ) → a ≡ m / p / 256 → b ≡ m / p % 256 → 256 * a + b ≡ m / p
 digits_256 m p a b d e = omega arith
 
-step : (m p q : ℕ) → p * 256 ≡ q → 256 * (m / q) + m / p % 256 ≡ m / p
+-- the digits from one place on, and one more
+pub step : (m p q : ℕ) → p * 256 ≡ q → 256 * (m / q) + m / p % 256 ≡ m / p
 step m p q h =
     let e : m / q ≡ m / p / 256 = sym (div-div-eq-div-mul m p 256 ∙ ap (λ (n : ℕ). m / n) h) in
     digits_256 m p (m / q) (m / p % 256) e refl
 
-top : (m p : ℕ) → 0 < p → m < 256 * p → 256 * 0 + m / p % 256 ≡ m / p
+pub top : (m p : ℕ) → 0 < p → m < 256 * p → 256 * 0 + m / p % 256 ≡ m / p
 top m p positive h =
     let small : m / p < 256 = (div-lt_iff_lt-mul {k = p} {x = m} {y = 256} positive).1 h in
     omega arith

@@ -11,6 +11,7 @@ use Rattle.std.specs.declared.result.Result.TheVariants.{Ok, Err}
 use Rattle.br_model.specs.declared.change.Kind.{Kind}
 use Rattle.br_model.specs.declared.change.Kind.TheVariants.{Local, Static, Learned, Extern}
 use Rattle.br_model.specs.declared.frame.FrameFault.TheVariants as faults
+use Rattle.br_model.specs.declared.group.Ip.{Ip}
 use Rattle.br_model.specs.declared.scenario.LineWhy.{LineWhy}
 use Rattle.br_model.specs.declared.scenario.LineWhy.TheVariants as why
 use Rattle.br_model.specs.declared.scenario.Said.{Said}
@@ -29,10 +30,11 @@ use Rattle.br_model.specs.Frames.{longest_frame, shortest_frame, frame}
 use Rattle.br_model.specs.LineForms.{line_says, all_say, commanded}
 use Rattle.br_model.specs.Operands.{number, port_name, mac, hex, flag, bytes_of, most_cost, most_port_priority, most_priority, most_seconds, last_moment}
 use Rattle.br_model.specs.Roster.{Roster, has_number, host_name}
-use Rattle.br_model.specs.ScenarioText.{name_of, mac_text, command_text, device_text, kind_word, switch_word, shown, step_words}
+use Rattle.br_model.specs.ScenarioText.{name_of, mac_text, ip_text, command_text, device_text, kind_word, switch_word, shown, step_words}
 use Rattle.br_model.specs.Words.{Word, is_word, is_comment, words}
-use Rattle.br_model.specs.WrittenSteps.{is_byte, is_flag, is_vid, is_device, kind_has_line, command_has_line, has_line, given, is_station, is_whole}
+use Rattle.br_model.specs.WrittenSteps.{is_byte, is_flag, is_vid, is_device, is_ip, kind_has_line, command_has_line, has_line, given, is_station, is_whole}
 use Rattle.br_model.proofs.WrittenAddresses.{mac_read, mac_proper}
+use Rattle.br_model.proofs.WrittenGroups.{ip_read, ip_proper}
 use Rattle.br_model.proofs.WrittenNames.{port_small, port_number_read, port_name_read, name_proper, not_host, device_read, device_proper, number_read}
 use Rattle.br_model.proofs.WrittenNumbers.{decimal_proper, hex_read, hex_proper}
 use Rattle.br_model.proofs.WrittenWords.{is_proper, joined, both, words_joined}
@@ -260,6 +262,26 @@ fdb_del_read r vid address place v a =
     (two (λ a v. commands.FdbDel v a) (station_read address a) (vid_read vid v))
     place (both _ _ (mac_proper address) (both _ _ (vid_proper vid v) refl)) refl refl
 
+-- groups
+
+mdb_add_read : (r : Roster) (port vid : ℕ) (group : Ip) → step r.place ≡ true → are_declared r.ports ≡ true → is_vid vid ≡ true → is_device r.ports port ≡ true
+    → is_ip group ≡ true → Reads r (commands.MdbAdd port vid group)
+mdb_add_read r port vid group place all v h g =
+    says r (codes "cmd" ∷ codes "mdb" ∷ codes "add" ∷ ip_text group ∷ codes "dev" ∷ device_text r.ports port ∷ codes "vlan" ∷ decimal vid ∷ []) commanded
+    (three (λ g p v. commands.MdbAdd p v g) (ip_read group g) (device_read r.ports port all h) (vid_read vid v))
+    place (both _ _ (ip_proper group) (both _ _ (device_proper r.ports port all h) (both _ _ (vid_proper vid v) refl))) refl refl
+
+mdb_del_read : (r : Roster) (port vid : ℕ) (group : Ip) → step r.place ≡ true → are_declared r.ports ≡ true → is_vid vid ≡ true → is_device r.ports port ≡ true
+    → is_ip group ≡ true → Reads r (commands.MdbDel port vid group)
+mdb_del_read r port vid group place all v h g =
+    says r (codes "cmd" ∷ codes "mdb" ∷ codes "del" ∷ ip_text group ∷ codes "dev" ∷ device_text r.ports port ∷ codes "vlan" ∷ decimal vid ∷ []) commanded
+    (three (λ g p v. commands.MdbDel p v g) (ip_read group g) (device_read r.ports port all h) (vid_read vid v))
+    place (both _ _ (ip_proper group) (both _ _ (device_proper r.ports port all h) (both _ _ (vid_proper vid v) refl))) refl refl
+
+snooping_read : (r : Roster) (on : Bool) → step r.place ≡ true → Reads r (commands.Snooping on)
+snooping_read r true place = says r (codes "cmd" ∷ codes "snooping" ∷ codes "on" ∷ []) commanded {x = Ok (commands.Snooping true)} refl place refl refl refl
+snooping_read r false place = says r (codes "cmd" ∷ codes "snooping" ∷ codes "off" ∷ []) commanded {x = Ok (commands.Snooping false)} refl place refl refl refl
+
 ageing_read : (r : Roster) (seconds : ℕ) → step r.place ≡ true → nat_le 1 seconds ≡ true → nat_le seconds most_seconds ≡ true → Reads r (commands.Ageing seconds)
 ageing_read r seconds place low high =
     let small = below most_seconds seconds (omega arith) high in
@@ -319,9 +341,16 @@ command_read r (commands.FdbAdd vid address port kind) place all h =
     let more = second_so (is_vid vid) _ h in
     entries_read r vid address port kind place all (first_so _ _ h) (first_so (is_station address) _ more) (second_so (is_station address) _ more)
 command_read r (commands.FdbDel vid address) place all h = fdb_del_read r vid address place (first_so _ _ h) (second_so _ _ h)
+command_read r (commands.MdbAdd port vid group) place all h =
+    let more = second_so (is_vid vid) _ h in
+    mdb_add_read r port vid group place all (first_so _ _ h) (first_so (is_device r.ports port) _ more) (second_so (is_device r.ports port) _ more)
+command_read r (commands.MdbDel port vid group) place all h =
+    let more = second_so (is_vid vid) _ h in
+    mdb_del_read r port vid group place all (first_so _ _ h) (first_so (is_device r.ports port) _ more) (second_so (is_device r.ports port) _ more)
 command_read r (commands.Stp on) place all h = stp_read r on place
 command_read r (commands.Priority n) place all h = priority_read r n place h
 command_read r (commands.Ageing seconds) place all h = ageing_read r seconds place (first_so _ _ h) (second_so _ _ h)
+command_read r (commands.Snooping on) place all h = snooping_read r on place
 
 pub step_read : (r : Roster) (s : Step) → step r.place ≡ true → are_declared r.ports ≡ true → has_line r.ports s ≡ true
     → line_says r (step_words r.ports s) ≡ Ok (Does (given s))

@@ -66,6 +66,9 @@ numeral n h = decimal_by_steps Numeral one more n h
 decimal_word : (n : ℕ) → n < 2 ^ 64 → is_word (decimal n) ≡ true
 decimal_word n h = (numeral n h).some
 
+pub decimal_digits : (n : ℕ) → n < 2 ^ 64 → list_all is_digit (decimal n) ≡ true
+decimal_digits n h = (numeral n h).digits
+
 digit_letter : (c : ℕ) → is_digit c ≡ true → is_letter c ≡ true
 digit_letter c h = grind arith
 
@@ -73,8 +76,8 @@ digit_letters : (w : List ℕ) → list_all is_digit w ≡ true → letters w �
 digit_letters [] h = refl
 digit_letters (c ∷ w) h = both _ _ (digit_letter c (first_so _ _ h)) (digit_letters w (second_so _ _ h))
 
-decimal_letters : (n : ℕ) → n < 2 ^ 64 → letters (decimal n) ≡ true
-decimal_letters n h = digit_letters (decimal n) (numeral n h).digits
+pub decimal_letters : (n : ℕ) → n < 2 ^ 64 → letters (decimal n) ≡ true
+decimal_letters n h = digit_letters (decimal n) (decimal_digits n h)
 
 pub decimal_proper : (n : ℕ) → n < 2 ^ 64 → is_proper (decimal n) ≡ true
 decimal_proper n h = both _ _ (decimal_word n h) (decimal_letters n h)
@@ -123,7 +126,7 @@ hex_read (b ∷ bytes) h =
     small : (b : ℕ) → nat_lt b 256 ≡ true → b < 256
     small b h = grind arith
 
-hex_digit_letter : (n : ℕ) → n < 16 → is_letter (hex_digit n) ≡ true
+pub hex_digit_letter : (n : ℕ) → n < 16 → is_letter (hex_digit n) ≡ true
 hex_digit_letter n h = grind arith
 
 -- a byte's two digits in front of letters

@@ -5,7 +5,7 @@ use Rattle.br_model.specs.declared.change.Kind.TheVariants.{Local, Static, Exter
 use Rattle.br_model.specs.declared.scenario.Place.{Place}
 use Rattle.br_model.specs.declared.scenario.Place.TheVariants.{Opening, Header, Declarations, Steps}
 use Rattle.br_model.specs.declared.steps.Command.{Command}
-use Rattle.br_model.specs.declared.steps.Command.TheVariants.{PortUp, PortDown, Link, Cost, PortPriority, VlanAdd, VlanDel, FdbAdd, FdbDel, Stp, Priority, Ageing}
+use Rattle.br_model.specs.declared.steps.Command.TheVariants.{PortUp, PortDown, Link, Cost, PortPriority, VlanAdd, VlanDel, FdbAdd, FdbDel, MdbAdd, MdbDel, Stp, Priority, Ageing, Snooping}
 use Rattle.br_model.specs.Domains.{host}
 use Rattle.br_model.specs.Forms.{Row, row, Makes, tokens, operands_from}
 
@@ -50,6 +50,12 @@ fdbs =
     cmd (codes "fdb del MAC vlan VID") (λ mac vid. FdbDel vid mac) ∷
     []
 
+abbrev pub mdbs : List (Row Command)
+mdbs =
+    cmd (codes "mdb add GROUP dev DEV vlan VID") (λ group port vid. MdbAdd port vid group) ∷
+    cmd (codes "mdb del GROUP dev DEV vlan VID") (λ group port vid. MdbDel port vid group) ∷
+    []
+
 abbrev pub trees : List (Row Command)
 trees =
     cmd (codes "stp on") (Stp true) ∷
@@ -62,5 +68,11 @@ ageings =
     cmd (codes "ageing SECONDS") (λ seconds. Ageing seconds) ∷
     []
 
+abbrev pub snoopings : List (Row Command)
+snoopings =
+    cmd (codes "snooping on") (Snooping true) ∷
+    cmd (codes "snooping off") (Snooping false) ∷
+    []
+
 abbrev pub commands : List (Row Command)
-commands = ports ++ (links ++ (vlans ++ (fdbs ++ (trees ++ ageings))))
+commands = ports ++ (links ++ (vlans ++ (fdbs ++ (mdbs ++ (trees ++ (ageings ++ snoopings))))))

@@ -8,7 +8,7 @@ use Rattle.br_model.specs.declared.scenario.LineWhy.{LineWhy}
 use Rattle.br_model.specs.declared.scenario.Place.{Place}
 use Rattle.br_model.specs.declared.scenario.Place.TheVariants.{Opening, Header, Declarations, Steps}
 use Rattle.br_model.specs.declared.scenario.Said.{Said}
-use Rattle.br_model.specs.declared.scenario.Said.TheVariants.{Blank, Opens, Bridge, Declares, Does, Ends}
+use Rattle.br_model.specs.declared.scenario.Said.TheVariants.{Blank, Opens, Bridge, Declares, Does, Captures, Ends}
 use Rattle.br_model.specs.declared.steps.Command.{Command}
 use Rattle.br_model.specs.declared.steps.Step.TheVariants.{Rx, Cmd, Now, Serve, Turn, Report, Sweep, Publish}
 use Rattle.br_model.specs.CommandForms.{commands, step}
@@ -55,6 +55,7 @@ steps =
     row (codes "report 1") step (Does Report) ∷
     row (codes "sweep 1") step (Does Sweep) ∷
     row (codes "publish") step (Does Publish) ∷
+    row (codes "capture LENGTH") step (λ n. Captures n) ∷
     row (codes "end") step Ends ∷
     []
 

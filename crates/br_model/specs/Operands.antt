@@ -6,12 +6,14 @@ use Rattle.std.specs.declared.option.Option.TheVariants.{None, Some}
 use Rattle.std.specs.declared.result.Result.{Result}
 use Rattle.std.specs.declared.result.Result.TheVariants.{Ok, Err}
 use Rattle.std.specs.Option.{is_some}
+use Rattle.br_model.specs.declared.group.Ip.{Ip}
 use Rattle.br_model.specs.declared.scenario.LineWhy.{LineWhy}
 use Rattle.br_model.specs.declared.scenario.LineWhy.TheVariants as why
 use Rattle.std.specs.Str.{bytes_eq}
 use Rattle.br_model.specs.Digits.{decimal_from, bytes_from_hex, station}
 use Rattle.br_model.specs.Domains.{host}
 use Rattle.br_model.specs.FlagWords.{flags, flag_named}
+use Rattle.br_model.specs.IpWords.{address}
 use Rattle.br_model.specs.Roster.{Entry, has_number, port_named, is_name, host_name}
 use Rattle.br_model.specs.Words.{Word}
 
@@ -27,6 +29,8 @@ pub data Operand : Type 0 where
   Device : Operand
   -- an address of one station
   Station : Operand
+  -- an IP address, a group's or not
+  GroupAddress : Operand
   -- bytes, at least one
   Hex : Operand
   -- the name of a port's flag
@@ -50,6 +54,10 @@ most_seconds = 1000000
 abbrev pub last_moment : ℕ
 last_moment = 9007199254740991
 
+-- the bytes of the longest section: 2^24
+abbrev pub longest_section : ℕ
+longest_section = 16777216
+
 -- what the operands are called in a form
 abbrev pub operands : List (Word × Operand)
 operands =
@@ -59,6 +67,7 @@ operands =
     (codes "NAME", PortName) ∷
     (codes "DEV", Device) ∷
     (codes "MAC", Station) ∷
+    (codes "GROUP", GroupAddress) ∷
     (codes "HEX", Hex) ∷
     (codes "FLAG", Flag) ∷
     (codes "VID", Number 1 4094) ∷
@@ -67,9 +76,10 @@ operands =
     (codes "PRIORITY", Number 0 most_priority) ∷
     (codes "SECONDS", Number 1 most_seconds) ∷
     (codes "MS", Number 0 last_moment) ∷
+    (codes "LENGTH", Number 0 longest_section) ∷
     []
 
--- what an operand gives: a number, a name or bytes
+-- what an operand gives: a number, a name, an IP address or bytes
 abbrev pub Value : Operand → Type 0
 Value (Number low high) = ℕ
 Value NewPort = ℕ
@@ -78,6 +88,7 @@ Value PortNumber = ℕ
 Value PortName = ℕ
 Value Device = ℕ
 Value Station = ℕ
+Value GroupAddress = Ip
 Value Hex = List ℕ
 Value Flag = ℕ
 
@@ -130,6 +141,9 @@ station_of (Some bytes) = found why.Address (station bytes)
 unfoldable pub mac : Word → Result ℕ LineWhy
 mac w = if length w == 17 && has_colons w then station_of (bytes_from_hex (twelve w)) else Err why.Address
 
+unfoldable pub group : Word → Result Ip LineWhy
+group w = found why.Address (address w)
+
 abbrev pub some_bytes : List ℕ → Result (List ℕ) LineWhy
 some_bytes [] = Err why.Hex
 some_bytes (b ∷ bytes) = Ok (b ∷ bytes)
@@ -152,6 +166,7 @@ read ports PortNumber word = port_number ports word
 read ports PortName word = port_name ports word
 read ports Device word = device ports word
 read ports Station word = mac word
+read ports GroupAddress word = group word
 read ports Hex word = hex word
 read ports Flag word = flag word
 
@@ -165,5 +180,6 @@ can_stand PortNumber word = true
 can_stand PortName word = true
 can_stand Device word = true
 can_stand Station word = true
+can_stand GroupAddress word = true
 can_stand Hex word = true
 can_stand Flag word = is_some (flag_named flags word)

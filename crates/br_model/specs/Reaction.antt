@@ -20,11 +20,13 @@ use Rattle.br_model.specs.Commands.{command, sets}
 use Rattle.br_model.specs.Commands.SpanningTree.{tells}
 use Rattle.br_model.specs.Control.{Control, renewed}
 use Rattle.br_model.specs.Course.{Course, from, makes_all}
+use Rattle.br_model.specs.Ends.{endings}
 use Rattle.br_model.specs.DomainPorts.{is_in_domain}
 use Rattle.br_model.specs.Domains.{software}
 use Rattle.br_model.specs.Learning.{Address, is_renewed, teach, taught, told as reported}
 use Rattle.br_model.specs.Limits.{most_changes}
 use Rattle.br_model.specs.Setup.{Setup}
+use Rattle.br_model.specs.Snooping.{snoops}
 use Rattle.br_model.specs.Table.{table}
 use Rattle.br_model.specs.TreeReaction.{told, heard}
 
@@ -41,9 +43,14 @@ at_moment now r = record r { control = record r.control { now = now } }
 abbrev pub ages : Course → Course
 ages r = makes_all r (forgets (expired r.table r.control))
 
--- A moment may stay, but not go back. What is old by then is forgotten, and then the spanning tree does what is due.
+-- what snooping learned ends
+abbrev pub ends : Course → Course
+ends r = makes_all r (endings r.control.now r.control.ends)
+
+-- A moment may stay, but not go back. What is old by then is forgotten, what ends by then ends, and then the spanning tree does
+-- what is due.
 abbrev pub passes_to : ℕ → Course → Result Course Refusal
-passes_to now r = if nat_lt now r.control.now then Err Backward else Ok (told (Some tree_events.Moment) (ages (at_moment now r)))
+passes_to now r = if nat_lt now r.control.now then Err Backward else Ok (told (Some tree_events.Moment) (ends (ages (at_moment now r))))
 
 -- the entry of the address is renewed at its port
 abbrev pub renews : Address → ℕ → Course → Course
@@ -58,9 +65,10 @@ learns port (Some key) r = makes_all (renews key port r) (taught r.table key por
 abbrev pub learns_of : Setup → ℕ → Head → Course → Course
 learns_of setup port head r = if is_in_domain setup.domains software port then learns port (teach r.table port head) r else r
 
--- A frame is seen that software sent. It teaches its source; then the spanning tree reads it, if it is a message for it.
+-- A frame is seen that software sent. It teaches its source; then snooping reads its message, and the spanning tree reads it, if
+-- it is a message for it.
 abbrev pub sees : Setup → ℕ → List ℕ → Head → Course → Course
-sees setup port bytes head r = told (heard r.table port bytes head) (learns_of setup port head r)
+sees setup port bytes head r = told (heard r.table port bytes head) (snoops port bytes head (learns_of setup port head r))
 
 -- what the event does
 abbrev pub happens : Setup → Course → Event → Result Course Refusal

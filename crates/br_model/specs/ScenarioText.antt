@@ -4,6 +4,8 @@ use Rattle.std.specs.Prelude.{ℕ, ◌+◌, ◌/◌, ◌%◌, ◌^◌, ◌==◌,
 use Rattle.std.specs.Fmt.{decimal}
 use Rattle.br_model.specs.declared.change.Kind.{Kind}
 use Rattle.br_model.specs.declared.change.Kind.TheVariants.{Local, Static, Learned, Extern}
+use Rattle.br_model.specs.declared.group.Ip.{Ip}
+use Rattle.br_model.specs.declared.group.Ip.TheVariants.{V4, V6}
 use Rattle.br_model.specs.declared.steps.Command.{Command}
 use Rattle.br_model.specs.declared.steps.Command.TheVariants as commands
 use Rattle.br_model.specs.declared.steps.Step.{Step}
@@ -29,6 +31,25 @@ abbrev pub mac_text : ℕ → Word
 mac_text mac =
     hex_of (byte_at mac 40 ∷ []) ++ (58 ∷ hex_of (byte_at mac 32 ∷ []) ++ (58 ∷ hex_of (byte_at mac 24 ∷ []) ++ (58 ∷
     hex_of (byte_at mac 16 ∷ []) ++ (58 ∷ hex_of (byte_at mac 8 ∷ []) ++ (58 ∷ hex_of (byte_at mac 0 ∷ []))))))
+
+-- four decimal numbers, joined by dots
+abbrev pub dotted : ℕ → Word
+dotted n =
+    decimal (byte_at n 24) ++ (46 ∷ decimal (byte_at n 16) ++ (46 ∷ decimal (byte_at n 8) ++ (46 ∷ decimal (byte_at n 0))))
+
+-- the four digits of the two bytes that stand so many bits above the lowest
+abbrev pub digits_at : ℕ → ℕ → Word
+digits_at n bits = hex_of (byte_at n (bits + 8) ∷ byte_at n bits ∷ [])
+
+-- eight groups of four digits, joined by colons
+abbrev pub groups_of_four : ℕ → Word
+groups_of_four n =
+    digits_at n 112 ++ (58 ∷ digits_at n 96 ++ (58 ∷ digits_at n 80 ++ (58 ∷ digits_at n 64 ++ (58 ∷
+    digits_at n 48 ++ (58 ∷ digits_at n 32 ++ (58 ∷ digits_at n 16 ++ (58 ∷ digits_at n 0)))))))
+
+abbrev pub ip_text : Ip → Word
+ip_text (V4 n) = dotted n
+ip_text (V6 n) = groups_of_four n
 
 abbrev pub kind_word : Kind → Word
 kind_word Local = codes "local"
@@ -62,9 +83,14 @@ command_text ports (commands.VlanDel port vid) = codes "vlan del vid " ++ (decim
 command_text ports (commands.FdbAdd vid mac port kind) =
     codes "fdb add " ++ (mac_text mac ++ (codes " dev " ++ (device_text ports port ++ (codes " vlan " ++ (decimal vid ++ (32 ∷ kind_word kind))))))
 command_text ports (commands.FdbDel vid mac) = codes "fdb del " ++ (mac_text mac ++ (codes " vlan " ++ decimal vid))
+command_text ports (commands.MdbAdd port vid group) =
+    codes "mdb add " ++ (ip_text group ++ (codes " dev " ++ (device_text ports port ++ (codes " vlan " ++ decimal vid))))
+command_text ports (commands.MdbDel port vid group) =
+    codes "mdb del " ++ (ip_text group ++ (codes " dev " ++ (device_text ports port ++ (codes " vlan " ++ decimal vid))))
 command_text ports (commands.Stp on) = codes "stp " ++ switch_word on
 command_text ports (commands.Priority n) = codes "stp priority " ++ decimal n
 command_text ports (commands.Ageing seconds) = codes "ageing " ++ decimal seconds
+command_text ports (commands.Snooping on) = codes "snooping " ++ switch_word on
 
 -- The bytes by which a frame is written: of one that is too long, enough to tell; a byte of one that has none.
 abbrev pub shown : List ℕ → List ℕ

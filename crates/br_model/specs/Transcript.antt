@@ -12,7 +12,7 @@ use Rattle.br_model.specs.declared.scenario.LineWhy.TheVariants.{Long, Unended, 
 use Rattle.br_model.specs.declared.transcript.Line.{Line}
 use Rattle.br_model.specs.declared.transcript.Line.TheVariants.{Chip, Unread, Soft, Held, Tx, Ctl, Overrun, Done, Refused, End}
 use Rattle.br_model.specs.declared.steps.Refusal.{Refusal}
-use Rattle.br_model.specs.declared.steps.Refusal.TheVariants.{PortIsUp, PortNotUp, NotMember, Exists, Absent, FdbFull, HistoryFull, Backward, NothingWaiting, NothingPending, NothingReported, NothingToPost, NoSuchPoint}
+use Rattle.br_model.specs.declared.steps.Refusal.TheVariants.{PortIsUp, PortNotUp, NotMember, Exists, Absent, FdbFull, GroupsFull, HistoryFull, Backward, NothingWaiting, NothingPending, NothingReported, NotAGroup, NothingToPost, NoSuchPoint}
 use Rattle.br_model.specs.Digits.{hex_of}
 
 abbrev pub fault_word : FrameFault → List ℕ
@@ -33,11 +33,13 @@ refusal_number NotMember = 3
 refusal_number Exists = 4
 refusal_number Absent = 5
 refusal_number FdbFull = 6
+refusal_number GroupsFull = 7
 refusal_number HistoryFull = 8
 refusal_number Backward = 9
 refusal_number NothingWaiting = 10
 refusal_number NothingPending = 11
 refusal_number NothingReported = 12
+refusal_number NotAGroup = 13
 refusal_number NothingToPost = 14
 refusal_number NoSuchPoint = 15
 

@@ -278,6 +278,7 @@ refusals_without_post_text = lines_text (three_up ++
     codes "cmd fdb add 02:00:00:00:00:0b dev p2 vlan 1 static" ∷
     codes "cmd fdb add 02:00:00:00:00:0b dev p3 vlan 1 static" ∷
     codes "cmd fdb del 02:00:00:00:00:0a vlan 1" ∷
+    codes "cmd mdb add 10.0.0.1 dev p1 vlan 1" ∷
     codes "turn 1" ∷
     codes "turn 1" ∷
     codes "serve" ∷
@@ -294,11 +295,12 @@ refusals_without_post_told = lines_text (three_are_up ++
     codes "ok 7 1" ∷
     codes "refused 8 4" ∷
     codes "refused 9 5" ∷
-    codes "ok 10 0" ∷
-    codes "refused 11 11" ∷
-    codes "refused 12 10" ∷
-    codes "refused 13 12" ∷
-    codes "ok 14 2" ∷
-    codes "refused 15 2" ∷
-    codes "end 15 12 0 0" ∷
+    codes "refused 10 13" ∷
+    codes "ok 11 0" ∷
+    codes "refused 12 11" ∷
+    codes "refused 13 10" ∷
+    codes "refused 14 12" ∷
+    codes "ok 15 2" ∷
+    codes "refused 16 2" ∷
+    codes "end 16 12 0 0" ∷
     [])

@@ -4,6 +4,8 @@ use Rattle.std.specs.Prelude.{ℕ, ◌^◌, ◌==◌, nat_lt, nat_le, Bool, true
 use Rattle.std.specs.List.{list_all, list_any}
 use Rattle.br_model.specs.declared.change.Kind.{Kind}
 use Rattle.br_model.specs.declared.change.Kind.TheVariants.{Local, Static, Learned, Extern}
+use Rattle.br_model.specs.declared.group.Ip.{Ip}
+use Rattle.br_model.specs.declared.group.Ip.TheVariants.{V4, V6}
 use Rattle.br_model.specs.declared.steps.Command.{Command}
 use Rattle.br_model.specs.declared.steps.Command.TheVariants as commands
 use Rattle.br_model.specs.declared.steps.Step.{Step}
@@ -24,6 +26,11 @@ is_byte b = nat_lt b 256
 -- an address of one station
 abbrev pub is_station : ℕ → Bool
 is_station mac = nat_lt mac (2 ^ 48) && not (is_multicast mac || mac == 0)
+
+-- an address of 32 bits, or of 128
+abbrev pub is_ip : Ip → Bool
+is_ip (V4 n) = nat_lt n (2 ^ 32)
+is_ip (V6 n) = nat_lt n (2 ^ 128)
 
 abbrev pub is_vid : ℕ → Bool
 is_vid vid = nat_le 1 vid && nat_le vid 4094
@@ -53,9 +60,12 @@ command_has_line ports (commands.VlanAdd port vid untagged pvid) = is_vid vid &&
 command_has_line ports (commands.VlanDel port vid) = is_vid vid && is_device ports port
 command_has_line ports (commands.FdbAdd vid mac port kind) = is_vid vid && (is_station mac && kind_has_line ports port kind)
 command_has_line ports (commands.FdbDel vid mac) = is_vid vid && is_station mac
+command_has_line ports (commands.MdbAdd port vid group) = is_vid vid && (is_device ports port && is_ip group)
+command_has_line ports (commands.MdbDel port vid group) = is_vid vid && (is_device ports port && is_ip group)
 command_has_line ports (commands.Stp on) = true
 command_has_line ports (commands.Priority n) = nat_le n most_priority
 command_has_line ports (commands.Ageing seconds) = nat_le 1 seconds && nat_le seconds most_seconds
+command_has_line ports (commands.Snooping on) = true
 
 -- A frame may be of any length.
 abbrev pub has_line : List Entry → Step → Bool
@@ -102,9 +112,12 @@ command_names_declared ports (commands.VlanAdd port vid untagged pvid) = is_devi
 command_names_declared ports (commands.VlanDel port vid) = is_device ports port
 command_names_declared ports (commands.FdbAdd vid mac port kind) = is_device ports port
 command_names_declared ports (commands.FdbDel vid mac) = true
+command_names_declared ports (commands.MdbAdd port vid group) = is_device ports port
+command_names_declared ports (commands.MdbDel port vid group) = is_device ports port
 command_names_declared ports (commands.Stp on) = true
 command_names_declared ports (commands.Priority n) = true
 command_names_declared ports (commands.Ageing seconds) = true
+command_names_declared ports (commands.Snooping on) = true
 
 abbrev pub names_declared : List Entry → Step → Bool
 names_declared ports (Rx port bytes) = has_number ports port

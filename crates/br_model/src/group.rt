@@ -10,6 +10,13 @@ pub enum Group {
     V6(u128),
 }
 
+/// Any IP address, as the number that its bytes spell. Not each is a group's.
+#[derive(Clone, Copy, PartialEq, Eq, Debug)]
+pub enum Ip {
+    V4(u32),
+    V6(u128),
+}
+
 impl Group {
     /// `None` exactly where it isn't in 224.0.0.0/4.
     pub fn v4(n: u32) -> Option<Group>

@@ -1,27 +1,24 @@
 //! Laws about the definitions. A law is a function that does nothing: its contract says it.
-ghost use Rattle.std.specs.Prelude.{◌≡◌, ℕ, true, List, [], ◌++◌};
-ghost use Rattle.std.specs.List.{list_all};
+ghost use Rattle.std.specs.Prelude.{◌≡◌, ℕ, true, List, ◌∷◌, ◌++◌, length, map, Ok};
+ghost use Rattle.br_model.specs.IpWords.{address};
+ghost use Rattle.br_model.specs.declared.scenario.Said.{Said};
 ghost use Rattle.br_model.specs.Runs.{told};
-ghost use Rattle.br_model.specs.Scenario.{Going, cut, scenario};
-ghost use Rattle.br_model.specs.WholeLines.{is_line, lines_text};
+ghost use Rattle.br_model.specs.Scenario.{Scenario, Going, read, scenario, section_length, takes, whole_says};
+ghost use Rattle.br_model.specs.WholeLines.{is_line};
 ghost use Rattle.br_model.specs.WorkedRows.{first_frame_text, first_frame_told, first_refusals_text, first_refusals_told, empty_scenario_text, empty_scenario_told};
 ghost use Rattle.br_model.specs.WorkedVlans.{priority_tag_text, priority_tag_told, edges_of_the_vlan_range_text, edges_of_the_vlan_range_told, isolated_ports_text, isolated_ports_told};
 ghost use Rattle.br_model.specs.WorkedAddresses.{address_moves_text, address_moves_told, local_address_text, local_address_told, published_point_text, published_point_told, destination_on_its_ingress_port_text, destination_on_its_ingress_port_told, ageing_text, ageing_told};
 ghost use Rattle.br_model.specs.WorkedChip.{unknown_unicast_split_text, unknown_unicast_split_told, two_points_differ_text, two_points_differ_told, moved_to_a_foreign_port_text, moved_to_a_foreign_port_told, moved_to_a_chip_port_text, moved_to_a_chip_port_told, port_down_and_up_text, port_down_and_up_told, isolated_ingress_text, isolated_ingress_told, plain_ingress_text, plain_ingress_told, bits_follow_a_foreign_port_text, bits_follow_a_foreign_port_told, sweep_text, sweep_told, hit_by_a_frame_text, hit_by_a_frame_told, refusals_without_post_text, refusals_without_post_told};
+ghost use Rattle.br_model.specs.WorkedCaptures.{capture_text, capture_told, bad_captures, bad_captures_told};
 ghost use Rattle.br_model.specs.WorkedHold.{hold_told, hold_lines};
+ghost use Rattle.br_model.specs.WorkedGroups.{address_words, address_words_read, groups_by_command_text, groups_by_command_told, bad_group_text, bad_group_told};
 ghost use Rattle.br_model.specs.WorkedTree.{bpdu_at_a_chip_port_text, bpdu_at_a_chip_port_told, tie_and_lost_root_text, tie_and_lost_root_told};
 
-/// Lines are cut out of their text just as they are, and what stands after them is cut as if it stood alone.
-pub fn cut_lines()
-    ensures { (lines : List (List ℕ)) (rest : List ℕ) → list_all is_line lines ≡ true
-        → cut (lines_text lines ++ rest) ≡ record { lines = lines ++ (cut rest).lines; rest = (cut rest).rest } }
-{}
-
-/// What a text is cut into has no line feeds, and makes the text again.
-pub fn cut_whole()
-    ensures parts { (bytes : List ℕ) → list_all is_line (cut bytes).lines ≡ true }
-    ensures rest { (bytes : List ℕ) → is_line (cut bytes).rest ≡ true }
-    ensures text { (bytes : List ℕ) → lines_text (cut bytes).lines ++ (cut bytes).rest ≡ bytes }
+/// A line is read with its section, and what is behind them as if it stood alone.
+pub fn line_after_line()
+    ensures { (s : Scenario) (said : Said) (line section more : List ℕ) → s.ending ≡ Going → is_line line ≡ true
+        → whole_says s.roster line ≡ Ok said → length section ≡ section_length said
+        → read 0 s (line ++ 10 ∷ (section ++ more)) ≡ read 0 (takes s said section) more }
 {}
 
 /// Every scenario ends, well or badly.
@@ -152,4 +149,25 @@ pub fn bpdu_at_a_chip_port()
 /// Of two ports towards one root the lesser one by the other bridge's port is taken; and a root that is heard no more is lost.
 pub fn tie_and_lost_root()
     ensures { told tie_and_lost_root_text ≡ tie_and_lost_root_told }
+{}
+
+/// Words are read as the IP addresses that they spell, and others as none.
+pub fn address_words()
+    ensures { map address address_words ≡ address_words_read }
+{}
+
+/// Memberships are made and taken by command, and refused in order; snooping is switched.
+pub fn groups_by_command()
+    ensures told { told groups_by_command_text ≡ groups_by_command_told }
+    ensures bad { told bad_group_text ≡ bad_group_told }
+{}
+
+/// The packet of a capture is a step.
+pub fn capture()
+    ensures { told capture_text ≡ capture_told }
+{}
+
+/// Captures that are cut short or broken; and what may come after one.
+pub fn bad_captures()
+    ensures { map told bad_captures ≡ bad_captures_told }
 {}

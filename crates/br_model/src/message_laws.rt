@@ -1,7 +1,7 @@
 //! Laws about what frames say to snooping. A law is a function that does nothing: its contract says it.
 ghost use Rattle.std.specs.Prelude.{◌≡◌, ℕ, List};
 ghost use Rattle.br_model.specs.declared.frame.Head.{Head};
-ghost use Rattle.br_model.specs.McastMessages.{message_of, RecordsStand};
+ghost use Rattle.br_model.specs.Messages.{message, RecordsStand};
 ghost use Rattle.br_model.specs.Readings.{readings};
 ghost use Rattle.br_model.specs.WorkedFrames.{worked_1, worked_1_read, worked_2, worked_2_read, worked_3, worked_3_read, worked_4, worked_4_read};
 
@@ -15,5 +15,5 @@ pub fn worked_frames()
 
 /// Where a frame's message is records, they are in the frame, whole.
 pub fn records_stand()
-    ensures { (bytes : List ℕ) (head : Head) → RecordsStand bytes (message_of bytes head) }
+    ensures { (bytes : List ℕ) (head : Head) → RecordsStand bytes (message bytes head) }
 {}

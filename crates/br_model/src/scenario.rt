@@ -16,14 +16,14 @@ pub enum Place {
     Steps,
 }
 
-/// Why a line is bad, by the first test that it fails, in this order: its length, its line feed, its words, its place, and
-/// then its operands from left to right. The text of a transcript has these words in lower case, `capture` with its offset, and
-/// never want of memory.
+/// Why a line is bad, by the first test that it fails, in this order: its length, its line feed, its words, its place, its
+/// operands from left to right, and then its section: whether it is whole, and its blocks. The text of a transcript has these
+/// words in lower case, `capture` with its offset, and never want of memory.
 #[derive(Clone, Copy, PartialEq, Eq, Debug)]
 pub enum LineWhy {
     /// It has more than 20,000 bytes without a line feed, whether one follows or not.
     Long,
-    /// The input ends in this line or before it, and it isn't `end`.
+    /// The input ends in this line, in its section or before it, and it isn't `end`.
     Unended,
     /// The words are of no form.
     Word,
@@ -37,7 +37,7 @@ pub enum LineWhy {
     Address,
     /// Digits of bytes aren't of their form.
     Hex,
-    /// The bytes of a capture are broken at this offset.
+    /// The section's block at this place is broken, counted from the section's first byte.
     Capture(u32),
     /// There was no memory to read it. This is no cause of a bad line.
     NoMemory,
@@ -55,6 +55,8 @@ pub enum Said {
     /// The declaration of a port.
     Declares { port: Port, name: Name, dom: Dom },
     Does(Step),
+    /// So many bytes of a capture follow its line feed: the line's section.
+    Captures(u32),
     /// The last line.
     Ends,
 }
@@ -71,6 +73,8 @@ pub enum Item {
     /// The declaration of this port.
     Declared(Port),
     Step(Step),
+    /// So many bytes of a capture follow.
+    Capture(u32),
     /// The last line.
     End,
 }

@@ -2,6 +2,7 @@
 use crate::bytes::Bytes;
 use crate::change::{Flags, Kind};
 use crate::frame::Head;
+use crate::group::Ip;
 use crate::numbers::{Mac, Port, Vid};
 use lists::Items;
 
@@ -46,12 +47,25 @@ pub enum Command {
         vid: Vid,
         mac: Mac,
     },
+    /// Makes the port a member of the group in the VLAN; the membership has no end.
+    MdbAdd {
+        port: Port,
+        vid: Vid,
+        group: Ip,
+    },
+    MdbDel {
+        port: Port,
+        vid: Vid,
+        group: Ip,
+    },
     /// Switches the spanning tree on or off.
     Stp(bool),
     /// The bridge's priority in the spanning tree.
     Priority(u16),
     /// How long learned entries stay that no frame renews, in seconds.
     Ageing(u32),
+    /// Switches snooping on or off.
+    Snooping(bool),
 }
 
 /// What a bridge reacts to.
@@ -114,6 +128,8 @@ pub enum Refusal {
     Absent,
     /// 6: a command would make the 16,385th address entry.
     FdbFull,
+    /// 7: a command would make the 1,025th pair of VLAN and group.
+    GroupsFull,
     /// 8: the history would pass 1,048,576 changes.
     HistoryFull,
     /// 9: the moment is before the last one.
@@ -124,6 +140,8 @@ pub enum Refusal {
     NothingPending,
     /// 12: the chip has reported nothing.
     NothingReported,
+    /// 13: the address isn't multicast, is in 224.0.0.0/24 or is ff02::1.
+    NotAGroup,
     /// 14: no frame with that id is held.
     NothingToPost,
     /// 15: the count wasn't published since the frame was held.

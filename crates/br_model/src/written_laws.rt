@@ -1,16 +1,17 @@
 //! What is written is read back. A law is a function that does nothing: its contract says it.
 ghost use Rattle.std.specs.Prelude.{◌≡◌, ◌==◌, ◌||◌, ℕ, ◌<◌, ◌^◌, decimal, List, true, false, nat_lt};
 ghost use Rattle.std.specs.List.{list_all};
+ghost use Rattle.br_model.specs.declared.group.Ip.{Ip};
 ghost use Rattle.br_model.specs.declared.scenario.Said.TheVariants.{Does};
 ghost use Rattle.br_model.specs.declared.steps.Step.{Step};
 ghost use Rattle.br_model.specs.CommandForms.{step};
 ghost use Rattle.br_model.specs.Frames.{frame};
 ghost use Rattle.br_model.specs.LineForms.{line_says};
 ghost use Rattle.br_model.specs.Roster.{Roster};
-ghost use Rattle.br_model.specs.WrittenSteps.{has_line, given, is_whole};
+ghost use Rattle.br_model.specs.WrittenSteps.{has_line, given, is_ip, is_whole};
 ghost use Rattle.br_model.specs.Numbers.{is_multicast};
-ghost use Rattle.br_model.specs.Operands.{mac};
-ghost use Rattle.br_model.specs.ScenarioText.{mac_text, shown, step_words};
+ghost use Rattle.br_model.specs.Operands.{mac, group};
+ghost use Rattle.br_model.specs.ScenarioText.{mac_text, ip_text, shown, step_words};
 ghost use Rattle.br_model.specs.Declarations.{are_declared};
 ghost use Rattle.br_model.specs.Digits.{decimal_from, hex_of, bytes_from_hex};
 
@@ -27,6 +28,11 @@ pub fn hex_is_read()
 /// An address of one station is read back.
 pub fn address_is_read()
     ensures { (m : ℕ) → m < 2 ^ 48 → (is_multicast m || m == 0) ≡ false → mac (mac_text m) ≡ Ok m }
+{}
+
+/// An IP address is read back.
+pub fn group_is_read()
+    ensures { (g : Ip) → is_ip g ≡ true → group (ip_text g) ≡ Ok g }
 {}
 
 /// The line of a step is read back to the step. Of a frame that is too long, or has no byte, it keeps what tells so.

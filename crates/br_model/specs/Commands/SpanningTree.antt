@@ -9,7 +9,7 @@ use Rattle.std.specs.declared.result.Result.TheVariants.{Ok, Err}
 use Rattle.br_model.specs.declared.change.Change.{Change}
 use Rattle.br_model.specs.declared.change.Change.TheVariants as changes
 use Rattle.br_model.specs.declared.steps.Command.{Command}
-use Rattle.br_model.specs.declared.steps.Command.TheVariants.{PortUp, PortDown, Link, Cost, PortPriority, VlanAdd, VlanDel, FdbAdd, FdbDel, Stp, Priority, Ageing}
+use Rattle.br_model.specs.declared.steps.Command.TheVariants.{PortUp, PortDown, Link, Cost, PortPriority, VlanAdd, VlanDel, FdbAdd, FdbDel, MdbAdd, MdbDel, Stp, Priority, Ageing, Snooping}
 use Rattle.br_model.specs.declared.steps.Refusal.{Refusal}
 use Rattle.br_model.specs.declared.steps.Refusal.TheVariants.{PortNotUp}
 use Rattle.br_model.specs.declared.tree.TreeEvent.{TreeEvent}
@@ -40,6 +40,9 @@ tells t (VlanAdd port vid untagged pvid) = None
 tells t (VlanDel port vid) = None
 tells t (FdbAdd vid mac port kind) = None
 tells t (FdbDel vid mac) = None
+tells t (MdbAdd port vid group) = None
+tells t (MdbDel port vid group) = None
 tells t (Stp on) = if is_switched t on then None else Some (events.Switch on)
 tells t (Priority n) = Some (events.Priority n)
 tells t (Ageing seconds) = None
+tells t (Snooping on) = None

@@ -1,0 +1,5 @@
+use Rattle.br_model.proofs.GroupRows.{words_read}
+use Rattle.br_model.proofs.laws.address_words.Goals as goal
+
+pub returns : goal.returns
+returns c = words_read

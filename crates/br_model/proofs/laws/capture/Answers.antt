@@ -1,0 +1,5 @@
+use Rattle.br_model.proofs.CaptureRows.{capture}
+use Rattle.br_model.proofs.laws.capture.Goals as goal
+
+pub returns : goal.returns
+returns c = capture

@@ -1,0 +1,5 @@
+use Rattle.br_model.proofs.WrittenGroups.{ip_read}
+use Rattle.br_model.proofs.written_laws.group_is_read.Goals as goal
+
+pub returns : goal.returns
+returns c = ip_read
