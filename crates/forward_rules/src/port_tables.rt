@@ -3,6 +3,7 @@ ghost use Rattle.std.specs.Prelude.{◌≡◌, ◌==◌, ◌&&◌, ◌||◌, [],
 ghost use Rattle.std.specs.Ordering.{nat_cmp};
 ghost use Rattle.br_model.specs.Admission.{is_up, is_forwarding, member, vlan_of_tag, vlan_of, admit};
 ghost use Rattle.br_model.specs.Class.{is_snooped};
+ghost use Rattle.br_model.specs.Commands.Groups.{is_joined};
 ghost use Rattle.br_model.specs.Domains.{host};
 ghost use Rattle.br_model.specs.Eligible.{untagged, may};
 ghost use Rattle.br_model.specs.GroupPairs.{has_room};
@@ -49,7 +50,8 @@ pub struct PortTables {
 impl Model for PortTables {
     ghost use Rattle.std.specs.Prelude.{[]};
     ghost use Rattle.br_model.specs.Table.{Table};
-    ghost use Rattle.mdb_snoop.specs.Database.{keys, memberships};
+    ghost use Rattle.br_model.specs.Ends.{keys};
+    ghost use Rattle.mdb_snoop.specs.Database.{memberships};
 
     ghost Value = { Table };
 
@@ -205,6 +207,13 @@ impl PortTables {
         ensures { IfOk result (λ pairs. pairs ≡ pairs_of_port self.now.groups port) }
     {
         self.mdb.of_port(alloc, port)
+    }
+
+    /// Whether the port is a member of the group in the VLAN.
+    pub fn is_joined(&self, port: Port, vid: Vid, group: Group) -> bool
+        ensures { result ≡ is_joined self.now port vid group }
+    {
+        self.mdb.has(vid, group, port)
     }
 
     pub fn is_router(&self, port: Port) -> bool

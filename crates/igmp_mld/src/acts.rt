@@ -3,7 +3,7 @@ ghost use Rattle.std.specs.Prelude.{◌≡◌, true, List};
 ghost use Rattle.std.specs.Iterator.{YieldsFirst, item_count};
 ghost use Rattle.br_model.specs.declared.frame.Act.{Act};
 ghost use Rattle.br_model.specs.declared.frame.McastMsg.{McastMsg};
-ghost use Rattle.br_model.specs.McastMessages.{RecordsStand};
+ghost use Rattle.br_model.specs.Messages.{RecordsStand};
 ghost use Rattle.br_model.specs.Records.{act_of, act_on, acts, acts_of, record_fits, records_fit};
 
 use crate::numbers::two_at;

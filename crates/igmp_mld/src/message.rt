@@ -1,7 +1,7 @@
 //! The message of a frame.
 ghost use Rattle.std.specs.Prelude.{◌≡◌, Ok};
 ghost use Rattle.br_model.specs.Frames.{frame};
-ghost use Rattle.br_model.specs.McastMessages.{message_of, RecordsStand};
+ghost use Rattle.br_model.specs.Messages.{message, RecordsStand};
 
 use crate::igmp::message_four;
 use crate::mld::message_six;
@@ -14,15 +14,16 @@ use br_model::frame::{Head, McastMsg};
 /// the message. Where records are answered, they stand in `b` whole, for `Records::of` to read.
 pub fn classify(b: &[u8], h: &Head) -> McastMsg
     requires { frame b.now ≡ Ok h.now }
-    ensures value { result ≡ message_of b.now h.now }
+    ensures value { result ≡ message b.now h.now }
     ensures records { RecordsStand b.now result }
 {
     message_in(b, h)
 }
 
+#[tactic(auto, unfolding(br_model::specs::Messages::message))]
 fn message_in(b: &[u8], h: &Head) -> McastMsg
     requires { frame b.now ≡ Ok h.now }
-    ensures { result ≡ message_of b.now h.now }
+    ensures { result ≡ message b.now h.now }
 {
     if h.kind == 0x0800 {
         message_four(h.dst, h.body, &b[h.body..])

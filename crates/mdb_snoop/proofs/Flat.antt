@@ -11,10 +11,11 @@ use Rattle.std.proofs.lemmas.List.Folds.{list_all-append}
 use Rattle.br_model.specs.GroupPairs.{GroupPair, group_pair_cmp}
 use Rattle.br_model.specs.Groups.{Membership, membership_cmp}
 use Rattle.br_model.specs.Maps.{get, put, without, is_ascending}
+use Rattle.br_model.specs.Ends.{end_of}
 use Rattle.mdb_snoop.specs.Database.{joined_until, ending_soon, ended_sooner, end_joined}
 use Rattle.mdb_snoop.specs.Places.{Sections, section, flat, all_below, all_above, is_fit, IsAt, IsGap}
 use Rattle.mdb_snoop.proofs.Cuts.{is_Less, is_Greater, below_first, get_front, get_above, put_front, put_above, without_front, without_above}
-use Rattle.mdb_snoop.proofs.Orders.{pair_total, by_pair}
+use Rattle.br_model.proofs.GroupOrders.{pair_total, by_pair}
 
 abbrev pub at_port : GroupPair → ℕ → Membership
 at_port k p = (k.0, k.1, p)
@@ -174,15 +175,11 @@ module _ (ss : Sections) (k : GroupPair) (i p : ℕ) where
     join-at end = put-at (end_joined (get nat_cmp at.members p) end) ∙ ap (λ o. put membership_cmp (flat ss) (at_port k p) (end_joined o end)) (sym get-at)
 
     pub soon-at : (end : ℕ) → flat (with_at ss k i (ending_soon nat_cmp at.members p end)) ≡ ending_soon membership_cmp (flat ss) (at_port k p) end
-    soon-at end = by (get nat_cmp at.members p) ∙ ap (λ o. ended_sooner membership_cmp (flat ss) (at_port k p) end o) (sym get-at)
+    soon-at end = by (end_of (get nat_cmp at.members p)) ∙ ap (λ o. ended_sooner membership_cmp (flat ss) (at_port k p) end (end_of o)) (sym get-at)
       where
-        as_it_was : flat (with_at ss k i at.members) ≡ flat ss
-        as_it_was = ap flat (sym at.splits)
-
-        by : (o : Option (Option ℕ)) → flat (with_at ss k i (ended_sooner nat_cmp at.members p end o)) ≡ ended_sooner membership_cmp (flat ss) (at_port k p) end o
-        by None = as_it_was
-        by (Some None) = as_it_was
-        by (Some (Some old)) = put-at _
+        by : (o : Option ℕ) → flat (with_at ss k i (ended_sooner nat_cmp at.members p end o)) ≡ ended_sooner membership_cmp (flat ss) (at_port k p) end o
+        by None = ap flat (sym at.splits)
+        by (Some old) = put-at _
 
     -- a section without members is none
     pub nothing-at : flat (without_at ss i) ≡ flat (with_at ss k i [])
@@ -225,4 +222,4 @@ module _ (ss : Sections) (k : GroupPair) (i p : ℕ) where
         )
 
     pub soon-gap : (end : ℕ) → flat ss ≡ ending_soon membership_cmp (flat ss) (at_port k p) end
-    soon-gap end = ap (λ o. ended_sooner membership_cmp (flat ss) (at_port k p) end o) (sym get-gap)
+    soon-gap end = ap (λ o. ended_sooner membership_cmp (flat ss) (at_port k p) end (end_of o)) (sym get-gap)

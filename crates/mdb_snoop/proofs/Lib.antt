@@ -1,8 +1,8 @@
 pub mod Cuts
 pub mod Flat
 pub mod Mapped
-pub mod Orders
 pub mod Questions
 pub mod Search
+pub mod Soonest
 pub mod Sound
 pub mod Views

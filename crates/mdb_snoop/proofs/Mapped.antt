@@ -15,7 +15,8 @@ use Rattle.std.proofs.Math.Bool.{and-false, and-true}
 use Rattle.port_sets.specs.Numbers.{numbers_below, has_number, IsSetBelow}
 use Rattle.port_sets.specs.WordsOfMembers.{has-filter, has-below}
 use Rattle.br_model.specs.Maps.{get, put, without, is_ascending}
-use Rattle.mdb_snoop.specs.Database.{keys, due, due_members, has_ended}
+use Rattle.br_model.specs.Ends.{due, due_members, is_over, keys}
+use Rattle.br_model.proofs.KeySets.{holds}
 use Rattle.mdb_snoop.specs.Places.{has_some}
 
 abbrev pub mapped : {X : Type 0} → (ℕ → X) → List ℕ → List (ℕ × X)
@@ -90,10 +91,6 @@ sorted-set f t = sorted-range f t 0 64
 
 pub sorted-mapped : {X : Type 0} (f : ℕ → X) (ports : List ℕ) → IsSetBelow 64 ports → T (is_sorted nat_cmp (mapped f ports))
 sorted-mapped f ports set = subst (λ l. T (is_sorted nat_cmp (mapped f l))) (sym set) (sorted-set f (has_number ports))
-
-pub holds : (b : Bool) → T b → b ≡ true
-holds true h = refl
-holds false h = absurd h
 
 pub mapped-ascends : {X : Type 0} (f : ℕ → X) (ports : List ℕ) → IsSetBelow 64 ports → is_ascending nat_cmp (mapped f ports) ≡ true
 mapped-ascends f ports set = holds _ (sorted-mapped f ports set)
@@ -288,14 +285,14 @@ has_when f now ports q ascending =
     swap false b r = refl
 
 pub due-has : (f : ℕ → ℕ) (now : ℕ) (ports : List ℕ) (m : List (ℕ × ℕ)) (due : List ℕ) → IsSetBelow 64 ports → mapped f ports ≡ m → due ≡ numbers_below 64 (λ p. has_number ports p && nat_le (f p) now)
-    → (q : ℕ) → has_number due q ≡ has_ended now (get nat_cmp m q)
+    → (q : ℕ) → has_number due q ≡ is_over now (get nat_cmp m q)
 due-has f now ports m due ascending view is q =
     ap (λ l. has_number l q) is
     ∙ has_when f now ports q ascending
     ∙ by (has_number ports q)
-    ∙ sym (ap (λ l. has_ended now (get nat_cmp l q)) (sym view) ∙ ap (has_ended now) (get-mapped f ports q))
+    ∙ sym (ap (λ l. is_over now (get nat_cmp l q)) (sym view) ∙ ap (is_over now) (get-mapped f ports q))
   where
-    by : (b : Bool) → (b && nat_le (f q) now) ≡ has_ended now (cond b (Some (f q)) None)
+    by : (b : Bool) → (b && nat_le (f q) now) ≡ is_over now (cond b (Some (f q)) None)
     by true = refl
     by false = refl
 
@@ -304,12 +301,12 @@ same-filter s t h [] = refl
 same-filter s t h (x ∷ xs) = ap (λ b. cond b (x ∷ filter s xs) (filter s xs)) (h x) ∙ ap (λ l. cond (t x) (x ∷ l) l) (same-filter s t h xs)
 
 -- the members that are due
-pub both-due : (now : ℕ) (ends : List (ℕ × ℕ)) (ports over : List ℕ) (m : List (ℕ × Option ℕ)) → IsSetBelow 64 ports → mapped (get nat_cmp ends) ports ≡ m → ((q : ℕ) → has_number over q ≡ has_ended now (get nat_cmp ends q))
+pub both-due : (now : ℕ) (ends : List (ℕ × ℕ)) (ports over : List ℕ) (m : List (ℕ × Option ℕ)) → IsSetBelow 64 ports → mapped (get nat_cmp ends) ports ≡ m → ((q : ℕ) → has_number over q ≡ is_over now (get nat_cmp ends q))
     → numbers_below 64 (λ p. has_number ports p && has_number over p) ≡ due_members now m
 both-due now ends ports over m ascending view is =
     set-filter (has_number over) ports ascending
-    ∙ same-filter (has_number over) (λ q. has_ended now (get nat_cmp ends q)) is ports
-    ∙ keys-filter_mapped (get nat_cmp ends) (has_ended now) ports
+    ∙ same-filter (has_number over) (λ q. is_over now (get nat_cmp ends q)) is ports
+    ∙ keys-filter_mapped (get nat_cmp ends) (is_over now) ports
     ∙ ap (due_members now) view
 
 first-some : (l : List ℕ) → is_some (slice_get l 0) ≡ has_some l

@@ -13,14 +13,15 @@ use Rattle.br_model.specs.declared.group.Group.{Group}
 use Rattle.br_model.specs.GroupPairs.{GroupPair, group_pair_cmp, group_pairs, has_room, max_pairs}
 use Rattle.br_model.specs.Groups.{Membership, group_cmp}
 use Rattle.br_model.specs.Maps.{get, has, joined, is_ascending}
-use Rattle.mdb_snoop.specs.Database.{keys, ports_in, pairs_of_port, due_members, has_ended}
+use Rattle.br_model.specs.Ends.{due_members, is_over, keys}
+use Rattle.mdb_snoop.specs.Database.{ports_in, pairs_of_port}
 use Rattle.mdb_snoop.specs.Places.{Section, Sections, section, flat, all_below, all_above, has_some, is_fit, IsSound, IsAt, IsGap}
 use Rattle.port_sets.specs.Numbers.{numbers_below, has_number, IsSetBelow}
 use Rattle.br_model.proofs.Ranges.{filter-range_more}
 use Rattle.mdb_snoop.proofs.Cuts.{is_Less, is_Greater}
 use Rattle.mdb_snoop.proofs.Flat.{at_port, flat-append}
 use Rattle.mdb_snoop.proofs.Mapped.{tied_back}
-use Rattle.mdb_snoop.proofs.Orders.{pair_total, is_of_pair}
+use Rattle.br_model.proofs.GroupOrders.{pair_total, is_of_pair}
 
 -- the ports of a group in a VLAN
 
@@ -128,17 +129,17 @@ pairs-flat p (s ∷ ss) h =
 
 pub due-append : (now : ℕ) (xs ys : List (Membership × Option ℕ)) → due_members now (xs ++ ys) ≡ due_members now xs ++ due_members now ys
 due-append now xs ys =
-    ap keys (filter-append (λ x. has_ended now x.1) xs ys) ∙ map-append (λ x. x.0) (filter (λ x. has_ended now x.1) xs) (filter (λ x. has_ended now x.1) ys)
+    ap keys (filter-append (λ x. is_over now x.1) xs ys) ∙ map-append (λ x. x.0) (filter (λ x. is_over now x.1) xs) (filter (λ x. is_over now x.1) ys)
 
 pub due-section : (now : ℕ) (k : GroupPair) (ms : List (ℕ × Option ℕ)) → due_members now (section k ms) ≡ map (λ p. at_port k p) (due_members now ms)
 due-section now k [] = refl
-due-section now k (e ∷ ms) = by (due-section now k ms) (has_ended now e.1)
+due-section now k (e ∷ ms) = by (due-section now k ms) (is_over now e.1)
   where
     left : List (ℕ × Option ℕ)
-    left = filter (λ x. has_ended now x.1) ms
+    left = filter (λ x. is_over now x.1) ms
 
     ended : List (Membership × Option ℕ)
-    ended = filter (λ x. has_ended now x.1) (section k ms)
+    ended = filter (λ x. is_over now x.1) (section k ms)
 
     by : keys ended ≡ map (λ p. at_port k p) (keys left) → (b : Bool) → keys (cond b ((at_port k e.0, e.1) ∷ ended) ended) ≡ map (λ p. at_port k p) (keys (cond b (e ∷ left) left))
     by ih true = ap (λ l. at_port k e.0 ∷ l) ih

@@ -1,9 +1,10 @@
 //! Lists of memberships, and what ends at a moment.
-ghost use Rattle.std.specs.Prelude.{◌≡◌, ◌↔◌, IsTrue, length};
+ghost use Rattle.std.specs.Prelude.{◌≡◌, [], false};
 
 use br_model::group::Group;
 use br_model::numbers::{Port, Vid};
 use port_sets::Ports;
+use std::alloc::Global;
 use std::marker::Model;
 
 /// Groups in VLANs, ascending by VLAN and group, version 4 first.
@@ -37,24 +38,24 @@ impl Pairs {
 
 /// Memberships, ascending by VLAN, group and port.
 #[derive(Drop, Debug)]
-pub struct Ends {
+pub struct Memberships {
     members: Vec<(Vid, Group, Port)>,
 }
 
-impl Model for Ends {
+impl Model for Memberships {
     ghost use Rattle.std.specs.Prelude.{List};
     ghost use Rattle.br_model.specs.Groups.{Membership};
 
     ghost Value = { List Membership };
 
-    ghost view = { λ e. e.members.items };
+    ghost view = { λ m. m.members.items };
 }
 
-impl Ends {
-    pub(crate) fn of(members: Vec<(Vid, Group, Port)>) -> Ends
+impl Memberships {
+    pub(crate) fn of(members: Vec<(Vid, Group, Port)>) -> Memberships
         ensures { result ≡ members.items }
     {
-        Ends { members }
+        Memberships { members }
     }
 
     pub fn as_slice(&self) -> &[(Vid, Group, Port)]
@@ -67,8 +68,24 @@ impl Ends {
 /// What ends at a moment or before it: memberships, router ports, and the queriers of IP versions 4 and 6.
 #[derive(Drop, Debug)]
 pub struct Ended {
-    pub groups: Ends,
+    pub groups: Memberships,
     pub routers: Ports,
     pub four: bool,
     pub six: bool,
+}
+
+impl Ended {
+    pub(crate) fn nothing(alloc: Global) -> Ended
+        ensures groups { result.groups ≡ [] }
+        ensures routers { result.routers ≡ [] }
+        ensures four { result.four ≡ false }
+        ensures six { result.six ≡ false }
+    {
+        Ended {
+            groups: Memberships::of(Vec::new(alloc)),
+            routers: Ports::empty(),
+            four: false,
+            six: false,
+        }
+    }
 }

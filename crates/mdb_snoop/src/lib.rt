@@ -9,7 +9,7 @@ mod members;
 mod moments;
 mod sections;
 
-pub use crate::ended::{Ended, Ends, Pairs};
+pub use crate::ended::{Ended, Memberships, Pairs};
 pub use crate::mdb::Mdb;
 pub use br_model::NoMemory;
 

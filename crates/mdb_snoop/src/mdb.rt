@@ -1,5 +1,5 @@
 //! The multicast database.
-ghost use Rattle.std.specs.Prelude.{◌≡◌, ◌≤◌, IsTrue, IfOk, false, true, length, not, slice_get};
+ghost use Rattle.std.specs.Prelude.{◌≡◌, ◌+◌, ◌≤◌, min, ℕ, IsTrue, IfOk, None, Some, [], false, true, is_some, length, not, slice_get};
 ghost use Rattle.std.specs.List.Sorted.{IsStrictlySortedBy};
 ghost use Rattle.std.specs.Ordering.{nat_cmp};
 ghost use Rattle.br_model.specs.GroupPairs.{group_pairs, has_room, max_pairs};
@@ -7,9 +7,11 @@ ghost use Rattle.br_model.specs.Groups.{membership_cmp};
 ghost use Rattle.br_model.specs.Maps.{get, has, put, without, joined, parted, is_ascending};
 ghost use Rattle.br_model.specs.Table.{Table, ip_version, switched};
 ghost use Rattle.br_model.specs.Targets.{members_of, knows_querier};
-ghost use Rattle.mdb_snoop.specs.Database.{due, due_members, empty, ending_soon, has_ended, is_dynamic, joined_until, keys, memberships, pairs_of_port, ports_in};
+ghost use Rattle.br_model.specs.Ends.{due, due_members, end_of, is_over, keys, lasts, no_ends, parts, queries, querier_time, routes};
+ghost use Rattle.mdb_snoop.specs.Database.{ending_soon, joined_until, memberships, pairs_of_port, ports_in, versions};
+ghost use Rattle.mdb_snoop.specs.Soonest.{first_end, moment_of};
 
-use crate::ended::{Ended, Ends, Pairs};
+use crate::ended::{Ended, Memberships, Pairs};
 use crate::moments::Moments;
 use crate::sections::{MOST_PAIRS, Section};
 use crate::{NoMemory, sections};
@@ -26,31 +28,49 @@ pub struct Mdb {
     routers: Moments,
     four: Option<u64>,
     six: Option<u64>,
+    // Nothing ends before.
+    soonest: u64,
 }
 
 impl Model for Mdb {
     ghost use Rattle.std.specs.Prelude.{◌≤◌, vec_capacity};
     ghost use Rattle.br_model.specs.GroupPairs.{max_pairs};
-    ghost use Rattle.mdb_snoop.specs.Database.{Database};
+    ghost use Rattle.br_model.specs.Ends.{Ends};
     ghost use Rattle.mdb_snoop.specs.Places.{IsSound, flat, queriers_of};
+    ghost use Rattle.mdb_snoop.specs.Soonest.{first_end};
 
-    ghost Value = { Database };
+    ghost Value = { Ends };
 
     ghost view = { λ m. record { groups = flat m.sections.items; routers = m.routers; queriers = queriers_of m.four m.six } };
 
-    ghost invariant = { λ m. IsSound m.sections.items × (max_pairs ≤ vec_capacity m.sections) };
+    ghost invariant = { λ m. IsSound m.sections.items × (max_pairs ≤ vec_capacity m.sections)
+        × (m.soonest ≤ first_end (record { groups = flat m.sections.items; routers = m.routers; queriers = queriers_of m.four m.six })) };
 }
 
 impl Mdb {
     /// Takes the memory for all that it can hold.
     pub fn make(alloc: Global) -> Result<Mdb, NoMemory>
-        ensures { IfOk result (λ m. m ≡ empty) }
+        ensures { IfOk result (λ m. m ≡ no_ends) }
     {
         Ok(Mdb {
             sections: Vec::with_capacity(alloc, MOST_PAIRS)?,
             routers: Moments::empty(),
             four: None,
             six: None,
+            soonest: u64::MAX,
+        })
+    }
+
+    /// Takes the memory for all that it can hold, too.
+    pub fn copy(&self, alloc: Global) -> Result<Mdb, NoMemory>
+        ensures { IfOk result (λ m. m ≡ self.now) }
+    {
+        Ok(Mdb {
+            sections: sections::copy(alloc, &self.sections)?,
+            routers: self.routers.copy(),
+            four: self.four,
+            six: self.six,
+            soonest: self.soonest,
         })
     }
 
@@ -61,20 +81,32 @@ impl Mdb {
         sections::has_room(&self.sections, &(v, g))
     }
 
+    pub fn has(&self, v: Vid, g: Group, p: Port) -> bool
+        ensures { result ≡ has membership_cmp (memberships self.now) (v, g, p) }
+    {
+        sections::has_member(&self.sections, &(v, g), p)
+    }
+
     /// Joins the port until `end`, or without end, as a command does it. A membership that is there gets this end, but
     /// one without end keeps none.
     pub fn join(&mut self, v: Vid, g: Group, p: Port, end: Option<u64>)
         requires { IsTrue (has_room (memberships self.old) v g) }
         ensures groups { self.new ≡ record self.old { groups = joined_until membership_cmp self.old.groups (v, g, p) end } }
         ensures memberships { memberships self.new ≡ joined membership_cmp (memberships self.old) (v, g, p) }
+        ensures endless { end ≡ None → self.new ≡ lasts self.old (v, g, p) None }
+        ensures made { (moment : ℕ) → end ≡ Some moment → has membership_cmp (memberships self.old) (v, g, p) ≡ false
+            → self.new ≡ lasts (lasts self.old (v, g, p) None) (v, g, p) (Some moment) }
+        ensures renewed { (moment last : ℕ) → end ≡ Some moment → end_of (get membership_cmp self.old.groups (v, g, p)) ≡ Some last
+            → self.new ≡ lasts self.old (v, g, p) (Some moment) }
     {
+        self.soonest = self.soonest.min(moment_of(end));
         sections::join(&mut self.sections, (v, g), p, end);
     }
 
     /// Takes the membership out, with or without end, and says whether it was there.
     pub fn part(&mut self, v: Vid, g: Group, p: Port) -> bool
         ensures there { result ≡ has membership_cmp (memberships self.old) (v, g, p) }
-        ensures groups { self.new ≡ record self.old { groups = without membership_cmp self.old.groups (v, g, p) } }
+        ensures groups { self.new ≡ parts self.old (v, g, p) }
         ensures memberships { memberships self.new ≡ parted membership_cmp (memberships self.old) (v, g, p) }
     {
         sections::part(&mut self.sections, &(v, g), p)
@@ -84,13 +116,17 @@ impl Mdb {
     pub fn leave_soon(&mut self, v: Vid, g: Group, p: Port, end: u64)
         ensures groups { self.new ≡ record self.old { groups = ending_soon membership_cmp self.old.groups (v, g, p) end } }
         ensures memberships { memberships self.new ≡ memberships self.old }
+        ensures ending { (last : ℕ) → end_of (get membership_cmp self.old.groups (v, g, p)) ≡ Some last
+            → self.new ≡ lasts self.old (v, g, p) (Some (min last end)) }
+        ensures endless { end_of (get membership_cmp self.old.groups (v, g, p)) ≡ None → self.new ≡ self.old }
     {
+        self.soonest = self.soonest.min(end);
         sections::leave_soon(&mut self.sections, &(v, g), p, end);
     }
 
     /// Whether a membership that ends is there.
     pub fn dynamic(&self, v: Vid, g: Group, p: Port) -> bool
-        ensures { result ≡ is_dynamic (get membership_cmp self.now.groups (v, g, p)) }
+        ensures { result ≡ is_some (end_of (get membership_cmp self.now.groups (v, g, p))) }
     {
         sections::is_dynamic(&self.sections, &(v, g), p)
     }
@@ -100,8 +136,10 @@ impl Mdb {
         ensures seen { result ≡ not (has nat_cmp (keys self.old.routers) p) }
         ensures routers { self.new ≡ record self.old { routers = put nat_cmp self.old.routers p end } }
         ensures ports { keys self.new.routers ≡ switched true (keys self.old.routers) p }
+        ensures heard { (now : ℕ) → end ≡ now + querier_time → self.new ≡ routes true self.old now p }
     {
         let there = self.routers.get(p).is_some();
+        self.soonest = self.soonest.min(end);
         self.routers.set(p, end);
         !there
     }
@@ -122,8 +160,10 @@ impl Mdb {
         ensures seen { result ≡ not (has nat_cmp (keys self.old.queriers) (ip_version six)) }
         ensures queriers { self.new ≡ record self.old { queriers = put nat_cmp self.old.queriers (ip_version six) end } }
         ensures versions { keys self.new.queriers ≡ switched true (keys self.old.queriers) (ip_version six) }
+        ensures heard { (now : ℕ) → end ≡ now + querier_time → self.new ≡ queries true self.old now six }
     {
         let is_new = !self.querier(six);
+        self.soonest = self.soonest.min(end);
         if six {
             self.six = Some(end);
         } else {
@@ -155,19 +195,48 @@ impl Mdb {
         Ok(Pairs::of(pairs))
     }
 
-    /// What ends at `now` or before. Nothing is removed.
+    /// Whether something may end at `now` or before. It looks at none.
+    pub fn may_end(&self, now: u64) -> bool
+        ensures groups { result ≡ false → due_members now self.now.groups ≡ [] }
+        ensures routers { result ≡ false → due now self.now.routers ≡ [] }
+        ensures queriers { result ≡ false → due now self.now.queriers ≡ [] }
+    {
+        self.soonest <= now
+    }
+
+    /// Lets `may_end` say no until something ends. It looks at each end.
+    pub fn settle(&mut self)
+        ensures { self.new ≡ self.old }
+    {
+        self.soonest = self.first_end();
+    }
+
+    /// When the first of all ends, or `u64::MAX` where none does.
+    fn first_end(&self) -> u64
+        ensures { result ≡ first_end self.now }
+    {
+        let members = sections::soonest(&self.sections);
+        let queriers = moment_of(self.four).min(moment_of(self.six));
+        members.min(self.routers.soonest().min(queriers))
+    }
+
+    /// What ends at `now` or before. Nothing is removed. Where nothing may end, it looks at none.
     pub fn expire(&self, alloc: Global, now: u64) -> Result<Ended, NoMemory>
         ensures groups { IfOk result (λ e. e.groups ≡ due_members now self.now.groups) }
         ensures routers { IfOk result (λ e. e.routers ≡ due now self.now.routers) }
         ensures four { IfOk result (λ e. e.four ≡ has nat_cmp (due now self.now.queriers) (ip_version false)) }
         ensures six { IfOk result (λ e. e.six ≡ has nat_cmp (due now self.now.queriers) (ip_version true)) }
+        ensures queriers { IfOk result (λ e. due now self.now.queriers ≡ versions e.four e.six) }
     {
-        let groups = Ends::of(sections::expired(alloc, &self.sections, now)?);
+        if !self.may_end(now) {
+            return Ok(Ended::nothing(alloc));
+        }
+        let groups = Memberships::of(sections::expired(alloc, &self.sections, now)?);
         Ok(Ended {
             groups,
             routers: self.routers.due(now),
-            four: has_ended(self.four, now),
-            six: has_ended(self.six, now),
+            four: is_over(self.four, now),
+            six: is_over(self.six, now),
         })
     }
 
@@ -227,9 +296,16 @@ impl Mdb {
     }
 }
 
+/// The end, or `u64::MAX` where there is none.
+fn moment_of(end: Option<u64>) -> u64
+    ensures { result ≡ moment_of end }
+{
+    end.unwrap_or(u64::MAX)
+}
+
 /// Whether there is an end, at `now` or before.
-fn has_ended(end: Option<u64>, now: u64) -> bool
-    ensures { result ≡ has_ended now end }
+fn is_over(end: Option<u64>, now: u64) -> bool
+    ensures { result ≡ is_over now end }
 {
     match end {
         Some(end) => end <= now,

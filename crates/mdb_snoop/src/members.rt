@@ -2,8 +2,10 @@
 ghost use Rattle.std.specs.Prelude.{◌≡◌, [], ◌∷◌, is_some};
 ghost use Rattle.std.specs.Ordering.{nat_cmp};
 ghost use Rattle.br_model.specs.Maps.{get, put, without};
-ghost use Rattle.mdb_snoop.specs.Database.{due_members, end_joined, end_of, ending_soon, is_dynamic, joined_until, keys};
+ghost use Rattle.br_model.specs.Ends.{due_members, end_of, keys};
+ghost use Rattle.mdb_snoop.specs.Database.{end_joined, ending_soon, is_dynamic, joined_until};
 ghost use Rattle.mdb_snoop.specs.Places.{has_some};
+ghost use Rattle.mdb_snoop.specs.Soonest.{soonest_member};
 
 use crate::moments::Moments;
 use br_model::numbers::Port;
@@ -114,6 +116,22 @@ impl Members {
         ensures { result ≡ keys self.now }
     {
         self.ports
+    }
+
+    pub fn copy(&self) -> Members
+        ensures { result ≡ self.now }
+    {
+        Members {
+            ports: self.ports,
+            ends: self.ends.copy(),
+        }
+    }
+
+    /// When the first member ends, or `u64::MAX` where none ends.
+    pub fn soonest(&self) -> u64
+        ensures { result ≡ soonest_member self.now }
+    {
+        self.ends.soonest_of(self.ports)
     }
 
     /// The members that end at `now` or before.

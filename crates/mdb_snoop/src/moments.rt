@@ -1,8 +1,9 @@
 //! Ports with a moment each.
-ghost use Rattle.std.specs.Prelude.{◌≡◌, ◌<◌, ◌==◌, ◌&&◌, ◌||◌, ℕ, [], cond, nat_le, slice_index, slice_set, true};
+ghost use Rattle.std.specs.Prelude.{◌≡◌, ◌<◌, ◌==◌, ◌&&◌, ◌||◌, ℕ, [], cond, map, nat_le, slice_index, slice_set, true};
 ghost use Rattle.std.specs.Ordering.{nat_cmp};
 ghost use Rattle.br_model.specs.Maps.{get, put, without, is_ascending};
-ghost use Rattle.mdb_snoop.specs.Database.{due, has_ended, keys};
+ghost use Rattle.br_model.specs.Ends.{due, is_over, keys};
+ghost use Rattle.mdb_snoop.specs.Soonest.{moment_of, soonest_member, soonest_moment};
 ghost use Rattle.port_sets.specs.Numbers.{has_number, numbers_below};
 
 use br_model::numbers::Port;
@@ -76,10 +77,53 @@ impl Moments {
         self.ports.members_ascend();
     }
 
+    pub fn copy(&self) -> Moments
+        ensures { result ≡ self.now }
+    {
+        Moments {
+            ports: self.ports,
+            moments: self.moments,
+        }
+    }
+
+    /// The least of the moments, or `u64::MAX` where there is none.
+    pub fn soonest(&self) -> u64
+        ensures { result ≡ soonest_moment self.now }
+    {
+        let mut soonest = u64::MAX;
+        for port in self.ports.iter() {
+            soonest = soonest.min(self.moments[usize::from(port)]);
+        }
+        soonest
+    }
+
+    /// The least of the moments of these ports, or `u64::MAX` where they have none.
+    pub fn soonest_of(&self, ports: Ports) -> u64
+        ensures { result ≡ soonest_member (map (λ port. (port, get nat_cmp self.now port)) ports) }
+    {
+        let mut soonest = u64::MAX;
+        for port in ports.iter() {
+            soonest = soonest.min(self.moment_of(port));
+        }
+        soonest
+    }
+
+    /// The moment of the port, or `u64::MAX` where it has none.
+    fn moment_of(&self, port: u8) -> u64
+        requires { port < 64 }
+        ensures { result ≡ moment_of (get nat_cmp self.now port) }
+    {
+        if self.ports.has(port) {
+            self.moments[usize::from(port)]
+        } else {
+            u64::MAX
+        }
+    }
+
     /// The ports whose moment is `now` or before.
     pub fn due(&self, now: u64) -> Ports
         ensures value { result ≡ due now self.now }
-        ensures members { (n : ℕ) → has_number result n ≡ has_ended now (get nat_cmp self.now n) }
+        ensures members { (n : ℕ) → has_number result n ≡ is_over now (get nat_cmp self.now n) }
     {
         self.ports.members_ascend();
         let mut due = Ports::empty();

@@ -5,9 +5,11 @@ ghost use Rattle.std.specs.Ordering.{nat_cmp};
 ghost use Rattle.br_model.specs.GroupPairs.{group_pair_cmp, has_room, max_pairs};
 ghost use Rattle.br_model.specs.Groups.{membership_cmp};
 ghost use Rattle.br_model.specs.Maps.{get, without, is_ascending};
-ghost use Rattle.mdb_snoop.specs.Database.{due_members, ending_soon, is_dynamic, joined_until, keys, ports_in};
+ghost use Rattle.br_model.specs.Ends.{due_members, keys};
+ghost use Rattle.mdb_snoop.specs.Database.{ending_soon, is_dynamic, joined_until, ports_in};
 ghost use Rattle.port_sets.specs.Numbers.{has_number};
 ghost use Rattle.mdb_snoop.specs.Places.{IsAt, IsGap, IsSound, Section as SectionValue, flat, section};
+ghost use Rattle.mdb_snoop.specs.Soonest.{soonest_member};
 
 use crate::NoMemory;
 use crate::members::Members;
@@ -106,6 +108,41 @@ pub fn is_dynamic(sections: &[Section], key: &Key, port: Port) -> bool
         Ok(place) => sections[place].1.is_dynamic(port),
         Err(_) => false,
     }
+}
+
+/// Whether the port is a member at the key.
+pub fn has_member(sections: &[Section], key: &Key, port: Port) -> bool
+    requires { IsSound sections.now }
+    ensures { result ≡ is_some (get membership_cmp (flat sections.now) (key.now.0, key.now.1, port)) }
+{
+    match place_of(sections, key) {
+        Ok(place) => sections[place].1.has(port),
+        Err(_) => false,
+    }
+}
+
+/// Takes the memory for all sections that there can be.
+pub fn copy(alloc: Global, sections: &[Section]) -> Result<Vec<Section>, NoMemory>
+    requires { length sections.now ≤ max_pairs }
+    ensures items { IfOk result (λ v. v.items ≡ sections.now) }
+    ensures capacity { IfOk result (λ v. max_pairs ≤ vec_capacity v) }
+{
+    let mut copies = Vec::with_capacity(alloc, MOST_PAIRS)?;
+    for section in sections {
+        copies.push((section.0, section.1.copy()))?;
+    }
+    Ok(copies)
+}
+
+/// When the first member ends, or `u64::MAX` where none ends.
+pub fn soonest(sections: &[Section]) -> u64
+    ensures { result ≡ soonest_member (flat sections.now) }
+{
+    let mut soonest = u64::MAX;
+    for section in sections {
+        soonest = soonest.min(section.1.soonest());
+    }
+    soonest
 }
 
 /// Joins the port at the key, within the capacity.

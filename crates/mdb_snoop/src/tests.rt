@@ -2,7 +2,8 @@ ghost use Rattle.std.specs.Prelude.{◌≡◌, IsTrue};
 ghost use Rattle.br_model.specs.GroupPairs.{has_room};
 ghost use Rattle.br_model.specs.Table.{Table, apply};
 ghost use Rattle.br_model.specs.declared.change.Change.TheVariants.{GroupJoin, Router, Querier};
-ghost use Rattle.mdb_snoop.specs.Database.{keys, memberships};
+ghost use Rattle.br_model.specs.Ends.{keys};
+ghost use Rattle.mdb_snoop.specs.Database.{memberships};
 
 use crate::Mdb;
 use crate::sections::{MOST_PAIRS, Section};
@@ -179,6 +180,49 @@ fn routers_and_queriers(rt: HostRuntime) -> Result<(), Fail> {
     assert!(rt; mdb.router_gone(two) && !mdb.router_gone(two));
     assert!(rt; mdb.querier_gone(true) && !mdb.querier_gone(true) && !mdb.querier_gone(false));
     assert_eq!(rt; mdb.routers(), Ports::empty().with(1));
+    Ok(())
+}
+
+/// What may end is known without a look at it, and exactly once settled.
+#[test]
+fn first_end(rt: HostRuntime) -> Result<(), Fail> {
+    let alloc = rt.alloc();
+    let mut mdb = Mdb::make(alloc)?;
+    let (one, two, v) = (port(1)?, port(2)?, vid(10)?);
+    assert!(rt; !mdb.may_end(u64::MAX - 1));
+    assert!(rt; join(&mut mdb, v, FOUR, one, Some(300)));
+    assert!(rt; join(&mut mdb, v, FOUR, two, None));
+    assert!(rt; mdb.may_end(300) && !mdb.may_end(299));
+    mdb.router_seen(two, 200);
+    mdb.querier_seen(true, 250);
+    assert!(rt; mdb.may_end(200) && !mdb.may_end(199));
+    mdb.router_gone(two);
+    assert!(rt; mdb.may_end(200) && mdb.expire(alloc, 249)?.routers.is_empty());
+    mdb.settle();
+    assert!(rt; mdb.may_end(250) && !mdb.may_end(249));
+    mdb.querier_gone(true);
+    mdb.leave_soon(v, FOUR, one, 100);
+    mdb.settle();
+    assert!(rt; mdb.may_end(100) && !mdb.may_end(99));
+    Ok(())
+}
+
+#[test]
+fn copies_stand_alone(rt: HostRuntime) -> Result<(), Fail> {
+    let alloc = rt.alloc();
+    let mut mdb = Mdb::make(alloc)?;
+    let (one, two, v) = (port(1)?, port(2)?, vid(10)?);
+    assert!(rt; join(&mut mdb, v, FOUR, one, Some(300)));
+    mdb.querier_seen(false, 400);
+    let mut copy = mdb.copy(alloc)?;
+    assert!(rt; copy.part(v, FOUR, one) && join(&mut copy, v, SIX, two, None));
+    assert!(rt; mdb.has(v, FOUR, one) && !mdb.has(v, SIX, two));
+    assert!(rt; !copy.has(v, FOUR, one) && copy.has(v, SIX, two));
+    assert_eq!(rt;
+        mdb.expire(alloc, 300)?.groups.as_slice(),
+        [(v, FOUR, one)].as_slice()
+    );
+    assert!(rt; copy.expire(alloc, 400)?.four);
     Ok(())
 }
 

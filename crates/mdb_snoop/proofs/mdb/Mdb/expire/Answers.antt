@@ -1,10 +1,11 @@
-use Rattle.std.proofs.Common.{◌∙◌, true, false, ap}
+use Rattle.std.proofs.Common.{◌∙◌, true, false, sym, ap}
 use Rattle.std.specs.Ordering.{nat_cmp}
 use Rattle.br_model.specs.Maps.{has}
 use Rattle.br_model.specs.Table.{ip_version}
-use Rattle.mdb_snoop.specs.Database.{due, due_members}
+use Rattle.br_model.specs.Ends.{due, due_members}
 use Rattle.mdb_snoop.specs.Places.{flat}
-use Rattle.mdb_snoop.proofs.Views.{due-four, due-six}
+use Rattle.mdb_snoop.specs.Database.{versions}
+use Rattle.mdb_snoop.proofs.Views.{due-four, due-six, due-versions}
 use Rattle.mdb_snoop.proofs.mdb.Mdb.expire.Goals as goal
 
 pub returns-clause-groups : goal.returns-clause-groups
@@ -19,12 +20,18 @@ returns-clause-routers c = c.due.ensures.value ∙ ap (λ d. due c.args.now d.ro
 
 pub returns-clause-four : goal.returns-clause-four
 returns-clause-four c =
-    c.has_ended.ensures
+    c.is_over.ensures
     ∙ due-four c.args.now c.self.inside.four c.self.inside.six
     ∙ ap (λ d. has nat_cmp (due c.args.now d.queriers) (ip_version false)) c.self.view_is
 
 pub returns-clause-six : goal.returns-clause-six
 returns-clause-six c =
-    c.has_ended-2.ensures
+    c.is_over-2.ensures
     ∙ due-six c.args.now c.self.inside.four c.self.inside.six
     ∙ ap (λ d. has nat_cmp (due c.args.now d.queriers) (ip_version true)) c.self.view_is
+
+pub returns-clause-queriers : goal.returns-clause-queriers
+returns-clause-queriers c =
+    sym (ap (λ d. due c.args.now d.queriers) c.self.view_is)
+    ∙ due-versions c.args.now c.self.inside.four c.self.inside.six
+    ∙ sym (λ i. versions (c.is_over.ensures i) (c.is_over-2.ensures i))

@@ -1,6 +1,7 @@
 use Rattle.std.proofs.Common.{◌∙◌, ap}
 use Rattle.br_model.specs.GroupPairs.{has_room}
-use Rattle.mdb_snoop.specs.Database.{keys, memberships}
+use Rattle.br_model.specs.Ends.{keys}
+use Rattle.mdb_snoop.specs.Database.{memberships}
 use Rattle.mdb_snoop.specs.Places.{flat}
 use Rattle.mdb_snoop.proofs.mdb.Mdb.has_room.Goals as goal
 

@@ -3,13 +3,26 @@ use Rattle.br_model.specs.GroupPairs.{has_room}
 use Rattle.br_model.specs.Groups.{membership_cmp}
 use Rattle.mdb_snoop.specs.Database.{end_joined, joined_until, memberships}
 use Rattle.mdb_snoop.proofs.Questions.{room-for}
+use Rattle.mdb_snoop.proofs.Soonest.{joined-bound}
 use Rattle.mdb_snoop.proofs.Views.{with_groups}
+use Rattle.mdb_snoop.proofs.Sound.{made}
 use Rattle.br_model.proofs.KeySets.{keys-put}
 use Rattle.br_model.specs.Maps.{get}
 use Rattle.mdb_snoop.proofs.mdb.Mdb.join.Goals as goal
 
+pub invariant_of-self : goal.invariant_of-self
+invariant_of-self c =
+    rw (c.min-self-inside.ensures, c.moment_of.ensures) (
+      c.join.ensures.sound,
+      c.join.ensures.capacity,
+      joined-bound _ _ c.self.invariant.2 (c.args.v, c.args.g, c.args.p) _ c.args.end c.join.ensures.members,
+    )
+
 pub returns-clause-groups : goal.returns-clause-groups
 returns-clause-groups c = with_groups _ _ (λ l. joined_until membership_cmp l (c.args.v, c.args.g, c.args.p) c.args.end) _ c.join.ensures.members c.self.view_is
+
+pub returns-clause-made : goal.returns-clause-made
+returns-clause-made c = λ moment is new. returns-clause-groups c ∙ made c.args.self.now (c.args.v, c.args.g, c.args.p) c.args.end moment is new
 
 pub join-requires-clause-room : goal.join-requires-clause-room
 join-requires-clause-room c =

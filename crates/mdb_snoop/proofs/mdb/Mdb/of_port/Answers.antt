@@ -2,7 +2,8 @@ use Rattle.std.proofs.Common.{◌∙◌, ap, is_some}
 use Rattle.std.specs.Ordering.{nat_cmp}
 use Rattle.std.specs.List.{filter}
 use Rattle.br_model.specs.Maps.{get}
-use Rattle.mdb_snoop.specs.Database.{keys, memberships, pairs_of_port}
+use Rattle.br_model.specs.Ends.{keys}
+use Rattle.mdb_snoop.specs.Database.{memberships, pairs_of_port}
 use Rattle.mdb_snoop.proofs.Questions.{pairs-flat}
 use Rattle.mdb_snoop.proofs.mdb.Mdb.of_port.Goals as goal
 

@@ -1,6 +1,7 @@
 use Rattle.std.proofs.Common.{◌∙◌, sym, ap, slice_get}
 use Rattle.br_model.specs.GroupPairs.{group_pairs}
-use Rattle.mdb_snoop.specs.Database.{keys, memberships}
+use Rattle.br_model.specs.Ends.{keys}
+use Rattle.mdb_snoop.specs.Database.{memberships}
 use Rattle.mdb_snoop.proofs.Questions.{pairs-all}
 use Rattle.mdb_snoop.proofs.mdb.Mdb.pair.Goals as goal
 

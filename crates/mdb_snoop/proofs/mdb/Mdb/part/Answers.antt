@@ -1,12 +1,20 @@
-use Rattle.std.proofs.Common.{◌∙◌, ap}
+use Rattle.std.proofs.Common.{◌∙◌, ap, arith}
 use Rattle.std.specs.FinMap.Entries.{is_some-find}
 use Rattle.br_model.specs.Groups.{membership_cmp}
 use Rattle.br_model.specs.Maps.{has, without}
 use Rattle.mdb_snoop.specs.Database.{memberships}
 use Rattle.mdb_snoop.specs.Places.{flat}
+use Rattle.mdb_snoop.proofs.Soonest.{parted-bound}
 use Rattle.mdb_snoop.proofs.Views.{with_groups}
 use Rattle.br_model.proofs.KeySets.{keys-without}
 use Rattle.mdb_snoop.proofs.mdb.Mdb.part.Goals as goal
+
+pub invariant_of-self : goal.invariant_of-self
+invariant_of-self c = (
+  c.part.ensures.sound,
+  omega (arith, c.part.ensures.capacity, c.self.invariant.1),
+  parted-bound _ _ c.self.invariant.2 (c.args.v, c.args.g, c.args.p) _ c.part.ensures.members,
+)
 
 pub returns-clause-there : goal.returns-clause-there
 returns-clause-there c =

@@ -2,10 +2,14 @@ use Rattle.std.proofs.Common.{◌∙◌, ap, is_some}
 use Rattle.std.specs.Ordering.{nat_cmp}
 use Rattle.std.specs.FinMap.Entries.{is_some-find}
 use Rattle.br_model.specs.Maps.{has, without}
-use Rattle.mdb_snoop.specs.Database.{keys}
+use Rattle.br_model.specs.Ends.{keys}
+use Rattle.mdb_snoop.proofs.Soonest.{router_gone-bound}
 use Rattle.mdb_snoop.proofs.Views.{with_routers}
 use Rattle.br_model.proofs.KeySets.{keys-without}
 use Rattle.mdb_snoop.proofs.mdb.Mdb.router_gone.Goals as goal
+
+pub invariant_of-self : goal.invariant_of-self
+invariant_of-self c = (c.self.invariant.0, c.self.invariant.1, router_gone-bound _ _ c.self.invariant.2 c.args.p _ c.clear.ensures)
 
 pub returns-clause-there : goal.returns-clause-there
 returns-clause-there c =

@@ -1,5 +1,5 @@
 use Rattle.std.proofs.Common.{◌∙◌, ap}
-use Rattle.mdb_snoop.specs.Database.{keys}
+use Rattle.br_model.specs.Ends.{keys}
 use Rattle.mdb_snoop.proofs.mdb.Mdb.routers.Goals as goal
 
 pub returns : goal.returns
