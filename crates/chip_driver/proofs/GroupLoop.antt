@@ -10,7 +10,7 @@ use Rattle.br_model.specs.GroupPairs.{GroupPair, group_pair_cmp, group_pairs, ma
 use Rattle.br_model.specs.Groups.{Membership, membership_cmp}
 use Rattle.br_model.specs.Maps.{get, put, joined, parted, is_ascending}
 use Rattle.mdb_snoop.specs.Database.{ports_in}
-use Rattle.mdb_snoop.proofs.Orders.{equal_pairs}
+use Rattle.br_model.proofs.GroupOrders.{equal_pairs}
 use Rattle.chip_tables.specs.declared.rows.FanRow.{FanRow}
 use Rattle.chip_tables.specs.Rows.{Rows, vlan_at, groups_with}
 use Rattle.chip_tables.specs.Stands.{IsVid}

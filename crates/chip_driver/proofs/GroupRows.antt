@@ -18,7 +18,7 @@ use Rattle.br_model.specs.GroupPairs.{GroupPair, group_pair_cmp, group_pairs}
 use Rattle.br_model.specs.Groups.{Membership, group_cmp, membership_cmp}
 use Rattle.br_model.specs.Maps.{get, put, without, joined, parted, has, is_ascending}
 use Rattle.mdb_snoop.specs.Database.{ports_in}
-use Rattle.mdb_snoop.proofs.Orders.{pair_total, equal_pairs, by_pair, is_of_pair}
+use Rattle.br_model.proofs.GroupOrders.{pair_total, equal_pairs, by_pair, is_of_pair}
 use Rattle.port_sets.specs.Numbers.{has_number}
 
 -- ---- the pairs as the keys of a map

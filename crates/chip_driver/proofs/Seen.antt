@@ -59,9 +59,9 @@ next_in_blocks blocks p i seen w =
     more false false x = refl
 
 -- the sets seen were all but empty ones
-pub all_in_blocks : (blocks : List (List ℕ)) (p : ℕ) (used : List ℕ) → ((i : ℕ) → i < 64 → has_number used i ≡ false → block_at blocks p i ≡ [])
+pub all_in_blocks : (blocks : List (List ℕ)) (p : ℕ) (used : List ℕ) → ((i : ℕ) → i < 64 → (has_number used i ≡ false) ↔ (block_at blocks p i ≡ []))
     → (w : ℕ) → w < 4096 → has_vlan blocks p w ≡ in_blocks blocks p used w
-all_in_blocks blocks p used others w low = by (has_number used (w / 64)) (λ none. ap (λ (b : List ℕ). has_number b (w % 64)) (others (w / 64) (omega arith) none))
+all_in_blocks blocks p used others w low = by (has_number used (w / 64)) (λ none. ap (λ (b : List ℕ). has_number b (w % 64)) ((others (w / 64) (omega arith)).0 none))
   where
     by : (b : Bool) → (b ≡ false → has_vlan blocks p w ≡ false) → has_vlan blocks p w ≡ (b && has_vlan blocks p w)
     by true h = refl
@@ -72,8 +72,18 @@ pub none_used : (blocks used : List (List ℕ)) → blocks ≡ replicate 4096 []
 none_used blocks used no_blocks none = record {
   sized = ap (λ (bs : List (List ℕ)). length bs) no_blocks ∙ length-replicate {A = List ℕ} 4096 [];
   ports = ap (λ (us : List (List ℕ)). length us) none ∙ length-replicate {A = List ℕ} 64 [];
-  others = λ port i p_low i_low _. ap (λ (bs : List (List ℕ)). block_at bs port i) no_blocks ∙ get_or-replicate 4096 (64 * port + i) [] [] (omega arith);
+  others = λ port i p_low i_low. (
+    (λ _. ap (λ (bs : List (List ℕ)). block_at bs port i) no_blocks ∙ get_or-replicate 4096 (64 * port + i) [] [] (omega arith)),
+    (λ _. ap (λ (us : List (List ℕ)). has_number (get_or us port []) i) none ∙ ap (λ (u : List ℕ). has_number u i) (get_or-replicate 64 port [] [] p_low)),
+  );
 }
+
+same : (b c : Bool) (xs ys : List ℕ) → b ≡ c → xs ≡ ys → (c ≡ false) ↔ (ys ≡ []) → (b ≡ false) ↔ (xs ≡ [])
+same b c xs ys b_is xs_is old = ((λ e. xs_is ∙ old.0 (sym b_is ∙ e)), (λ e. b_is ∙ old.1 (sym xs_is ∙ e)))
+
+emptied : (b : Bool) (xs : List ℕ) → IsTrue b ↔ (xs ≡ []) → (not b ≡ false) ↔ (xs ≡ [])
+emptied true xs tells = ((λ _. tells.0 refl), (λ _. refl))
+emptied false xs tells = ((λ e. tells.0 (sym e)), (λ e. sym (tells.1 e)))
 
 -- one set of a port is written
 pub set_used : (blocks used : List (List ℕ)) (p i : ℕ) (block now : List ℕ) (empty : Bool) → AreUsed blocks used → p < 64 → i < 64
@@ -81,31 +91,29 @@ pub set_used : (blocks used : List (List ℕ)) (p i : ℕ) (block now : List ℕ
 set_used blocks used p i block now empty old p_low i_low now_is tells = record {
   sized = length-set blocks (64 * p + i) block ∙ old.sized;
   ports = length-set used p now ∙ old.ports;
-  others = λ q j q_low j_low none.
+  others = λ q j q_low j_low.
       ⊎_elim
       (λ (here : ((q == p) ≡ true) × (q ≡ p)).
-      of_port q j q_low j_low here.1 (sym (has-where now _ now_is j j_low) ∙ ap (λ (us : List ℕ). has_number us j) (sym (get_or-set_same used p now [] (omega (arith, old.ports)))) ∙ ap (λ n. has_number (get_or (set used p now) n []) j) (sym here.1) ∙ none))
+      of_port q j q_low j_low here.1
+      (ap (λ n. has_number (get_or (set used p now) n []) j) here.1 ∙ ap (λ (us : List ℕ). has_number us j) (get_or-set_same used p now [] (omega (arith, old.ports))) ∙ has-where now _ now_is j j_low))
       (λ (other : ((q == p) ≡ false) × (q ≢ p)).
-      get_or-set_other blocks (64 * p + i) (64 * q + j) block [] (λ e. other.1 (omega arith))
-      ∙ old.others q j q_low j_low (ap (λ (us : List ℕ). has_number us j) (sym (get_or-set_other used p q now [] other.1)) ∙ none))
+      same _ _ _ _ (ap (λ (us : List ℕ). has_number us j) (get_or-set_other used p q now [] other.1))
+      (get_or-set_other blocks (64 * p + i) (64 * q + j) block [] (λ e. other.1 (omega arith)))
+      (old.others q j q_low j_low))
       (eqb_tells q p);
 }
   where
-    of_set : (q j : ℕ) → q < 64 → j < 64 → q ≡ p → (b : Bool) → b ≡ empty → cond (j == i) (not b) (has_number (get_or used p []) j) ≡ false → block_at (set blocks (64 * p + i) block) q j ≡ []
-    of_set q j q_low j_low same b b_is none =
+    of_port : (q j : ℕ) → q < 64 → j < 64 → q ≡ p → has_number (get_or (set used p now) q []) j ≡ cond (j == i) (not empty) (has_number (get_or used p []) j)
+        → (has_number (get_or (set used p now) q []) j ≡ false) ↔ (block_at (set blocks (64 * p + i) block) q j ≡ [])
+    of_port q j q_low j_low at_p is =
         ⊎_elim
         (λ (here : ((j == i) ≡ true) × (j ≡ i)).
-        ap (λ k. get_or (set blocks (64 * p + i) block) k []) (let e : 64 * q + j ≡ 64 * p + i = omega (arith, same, here.1) in e)
-        ∙ get_or-set_same blocks (64 * p + i) block [] (omega (arith, old.sized))
-        ∙ tells.0 (emptied b (ap (λ c. cond c (not b) (has_number (get_or used p []) j)) (sym here.0) ∙ none) b_is))
+        same _ _ _ _ (is ∙ ap (λ c. cond c (not empty) (has_number (get_or used p []) j)) here.0)
+        (ap (λ k. get_or (set blocks (64 * p + i) block) k []) (let e : 64 * q + j ≡ 64 * p + i = omega (arith, at_p, here.1) in e)
+        ∙ get_or-set_same blocks (64 * p + i) block [] (omega (arith, old.sized)))
+        (emptied empty block tells))
         (λ (other : ((j == i) ≡ false) × (j ≢ i)).
-        get_or-set_other blocks (64 * p + i) (64 * q + j) block [] (λ e. other.1 (omega (arith, same)))
-        ∙ old.others q j q_low j_low (ap (λ n. has_number (get_or used n []) j) same ∙ ap (λ c. cond c (not b) (has_number (get_or used p []) j)) (sym other.0) ∙ none))
+        same _ _ _ _ (is ∙ ap (λ c. cond c (not empty) (has_number (get_or used p []) j)) other.0)
+        (get_or-set_other blocks (64 * p + i) (64 * q + j) block [] (λ e. other.1 (omega (arith, at_p))) ∙ ap (λ n. block_at blocks n j) at_p)
+        (old.others p j p_low j_low))
         (eqb_tells j i)
-      where
-        emptied : (b : Bool) → not b ≡ false → b ≡ empty → IsTrue empty
-        emptied true h e = sym e
-        emptied false h e = absurd (cc)
-
-    of_port : (q j : ℕ) → q < 64 → j < 64 → q ≡ p → cond (j == i) (not empty) (has_number (get_or used p []) j) ≡ false → block_at (set blocks (64 * p + i) block) q j ≡ []
-    of_port q j q_low j_low same none = of_set q j q_low j_low same empty refl none

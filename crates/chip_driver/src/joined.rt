@@ -1,5 +1,5 @@
 //! The VLANs of each port.
-ghost use Rattle.std.specs.Prelude.{◌≡◌, ◌<◌, ℕ, false, IfOk, [], replicate};
+ghost use Rattle.std.specs.Prelude.{◌≡◌, ◌<◌, ◌↔◌, ℕ, false, IfOk, [], replicate};
 ghost use Rattle.port_sets.specs.Numbers.{has_number};
 ghost use Rattle.chip_driver.specs.Joined.{block_at, has_vlan, Switches};
 
@@ -57,7 +57,7 @@ impl Joined {
 
     /// The numbers of the port's sets that aren't empty.
     pub fn used(&self, p: Port) -> Ports
-        ensures { (i : ℕ) → i < 64 → has_number result i ≡ false → block_at self.now p i ≡ [] }
+        ensures { (i : ℕ) → i < 64 → (has_number result i ≡ false) ↔ (block_at self.now p i ≡ []) }
     {
         self.used[usize::from(p.number())]
     }

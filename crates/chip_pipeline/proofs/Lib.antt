@@ -8,4 +8,3 @@ pub mod Keys
 pub mod Leaving
 pub mod Passing
 pub mod Sightings
-pub mod Room

@@ -5,3 +5,4 @@ pub mod Placed
 pub mod Renamed
 pub mod GroupRows
 pub mod AddressKeys
+pub mod Room

@@ -2,7 +2,8 @@ use Rattle.std.proofs.Common.{◌≡◌, List, ℕ, [], replicate, rules, ap, su
 use Rattle.br_model.specs.DomainPorts.{IsWordOf}
 use Rattle.br_model.specs.Domains.{chip}
 use Rattle.br_model.specs.Groups.{Membership}
-use Rattle.mdb_snoop.specs.Database.{memberships, empty}
+use Rattle.br_model.specs.Ends.{no_ends}
+use Rattle.mdb_snoop.specs.Database.{memberships}
 use Rattle.chip_tables.specs.Writing.{IsBlank}
 use Rattle.chip_driver.specs.declared.shadow.Shadow.{Shadow}
 use Rattle.chip_driver.specs.Making.{MarksOwn}
@@ -22,7 +23,7 @@ write_member-requires-clause-settled c =
 pub write_member-requires-clause-follow : goal.write_member-requires-clause-follow
 write_member-requires-clause-follow c =
     let blank : IsBlank c.in_ok-tables.tables = search rules in
-    let groups : ◌≡◌ {A = List Membership} (memberships c.in_ok-groups.groups) [] = ap memberships (let e : c.in_ok-groups.groups ≡ empty = search rules in e) in
+    let groups : ◌≡◌ {A = List Membership} (memberships c.in_ok-groups.groups) [] = ap memberships (let e : c.in_ok-groups.groups ≡ no_ends = search rules in e) in
     follow_made c.start-shadow.result c.start-shadow.result.own (memberships c.in_ok-groups.groups) c.in_ok-tables.tables _ _ _ blank c.mark_own.ensures c.switch_traps.ensures c.set_control.ensures.rest groups
 
 pub returns : goal.returns
@@ -30,7 +31,7 @@ returns c =
     let blank : IsBlank c.in_ok-tables.tables = search rules in
     let own : c.start-shadow.result.own ≡ c.from_word.result = ap (λ (s : Shadow). s.own) c.start-shadow.ensures in
     let word : IsWordOf c.args.d.now chip c.ports_of.result = subst (λ n. IsWordOf c.args.d.now n c.ports_of.result) c.requires c.ports_of.ensures in
-    let groups : ◌≡◌ {A = List Membership} (memberships c.in_ok-groups.groups) [] = ap memberships (let e : c.in_ok-groups.groups ≡ empty = search rules in e) in
+    let groups : ◌≡◌ {A = List Membership} (memberships c.in_ok-groups.groups) [] = ap memberships (let e : c.in_ok-groups.groups ≡ no_ends = search rules in e) in
     drives_start c.args.d.now c.ports_of.result c.from_word.result _ _ (memberships c.in_ok-groups.groups) c.in_ok-tables.tables _ _ _ _ blank
     (subst (λ o. MarksOwn o 64 c.in_ok-tables.tables c.mark_own.new.tables) own c.mark_own.ensures) c.switch_traps.ensures c.set_control.ensures.rest
     (c.set_control.ensures.row ∙ c.first_control.ensures) c.from_word.ensures word (ap (λ (s : Shadow). s.routers) c.start-shadow.ensures)
