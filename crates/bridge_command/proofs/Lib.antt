@@ -1,7 +1,10 @@
+pub mod Counting
 pub mod Declaring
 pub mod Entries
 pub mod FlagNames
 pub mod HexWords
 pub mod Links
+pub mod OtherRows
+pub mod Parts
 pub mod Places
 pub mod Stations

@@ -1,5 +1,5 @@
 -- What the code of texts sees of words and of declared ports.
-use Rattle.std.specs.Prelude.{◌≡◌, ◌⊎◌, slice_get, ℕ, Bool, true, false, ◌==◌, if◌then◌else◌, List, [], take, drop, slice_index_or, string_bytes, String}
+use Rattle.std.specs.Prelude.{◌≡◌, ◌⊎◌, slice_get, ℕ, Bool, true, false, ◌==◌, if◌then◌else◌, List, [], ◌++◌, take, drop, slice_index_or, string_bytes, String}
 use Rattle.std.specs.Borrow.{Bor}
 use Rattle.std.specs.Option.{option_map_or}
 use Rattle.std.specs.declared.alloc.Global.{Global}
@@ -13,7 +13,7 @@ use Rattle.br_model.specs.declared.scenario.Place.{Place}
 use Rattle.br_model.specs.declared.scenario.Place.TheVariants.{Opening, Header, Declarations, Steps}
 use Rattle.br_model.specs.declared.steps.Command.{Command}
 use Rattle.br_model.specs.declared.steps.Command.TheVariants.{Link}
-use Rattle.br_model.specs.CommandForms.{step, vlans, fdbs}
+use Rattle.br_model.specs.CommandForms.{step, vlans, fdbs, mdbs, trees, ageings, snoopings}
 use Rattle.br_model.specs.Forms.{Row, after}
 use Rattle.br_model.specs.LineForms.{opening, header, declaration}
 use Rattle.br_model.specs.Operands.{port_name}
@@ -78,3 +78,7 @@ fdb_adds = take 3 fdbs
 
 abbrev pub fdb_dels : List (Row Command)
 fdb_dels = drop 3 fdbs
+
+-- the commands after those of ports, VLANs and addresses
+abbrev pub later_commands : List (Row Command)
+later_commands = mdbs ++ (trees ++ (ageings ++ snoopings))

@@ -1,7 +1,7 @@
 //! The commands of the forwarding database: `fdb` and `ageing`.
 ghost use Rattle.std.specs.Prelude.{◌≡◌, length, Ok};
 ghost use Rattle.br_model.specs.declared.steps.Command.TheVariants.{FdbAdd};
-ghost use Rattle.br_model.specs.CommandForms.{ageings};
+ghost use Rattle.br_model.specs.CommandForms.{fdbs, ageings};
 ghost use Rattle.br_model.specs.Forms.{line, after};
 ghost use Rattle.br_model.specs.Operands.{number as number_of, port_name, mac as mac_of};
 ghost use Rattle.bridge_command.specs.Seen.{word, placed, fdb_adds, fdb_dels};
@@ -30,7 +30,7 @@ fn added(address: &str, name: &str, vid: &str, kind: Kind, r: &Roster) -> Result
 }
 
 #[tactic(auto, using(br_model::proofs::Words::words))]
-pub(crate) fn fdb_add(words: &[&str], r: &Roster) -> Result<Command, LineWhy>
+fn fdb_add(words: &[&str], r: &Roster) -> Result<Command, LineWhy>
     ensures { result ≡ line fdb_adds r.now (length words.now) (word words.now) }
 {
     match *words {
@@ -56,7 +56,7 @@ pub(crate) fn fdb_add(words: &[&str], r: &Roster) -> Result<Command, LineWhy>
 }
 
 #[tactic(auto, using(br_model::proofs::Words::words))]
-pub(crate) fn fdb_del(words: &[&str], r: &Roster) -> Result<Command, LineWhy>
+fn fdb_del(words: &[&str], r: &Roster) -> Result<Command, LineWhy>
     ensures { result ≡ line fdb_dels r.now (length words.now) (word words.now) }
 {
     match *words {
@@ -66,6 +66,17 @@ pub(crate) fn fdb_del(words: &[&str], r: &Roster) -> Result<Command, LineWhy>
             let vid = vlan(vid)?;
             Ok(Command::FdbDel { vid, mac })
         }
+        _ => Err(LineWhy::Word),
+    }
+}
+
+#[tactic(auto, using(br_model::proofs::Words::words))]
+pub(crate) fn fdb_command(words: &[&str], r: &Roster) -> Result<Command, LineWhy>
+    ensures { result ≡ line fdbs r.now (length words.now) (word words.now) }
+{
+    match *words {
+        ["fdb", "add", ..] => fdb_add(words, r),
+        ["fdb", "del", ..] => fdb_del(words, r),
         _ => Err(LineWhy::Word),
     }
 }

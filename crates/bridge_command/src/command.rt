@@ -2,15 +2,30 @@
 ghost use Rattle.std.specs.Prelude.{◌≡◌, length};
 ghost use Rattle.br_model.specs.CommandForms.{commands};
 ghost use Rattle.br_model.specs.Forms.{line};
-ghost use Rattle.bridge_command.specs.Seen.{word};
+ghost use Rattle.bridge_command.specs.Seen.{word, later_commands};
 
-use crate::addresses::{ageing_command, fdb_add, fdb_del};
+use crate::addresses::{ageing_command, fdb_command};
+use crate::groups::{mdb_command, snooping_command};
 use crate::ports::{link_command, port_command};
 use crate::roster::Roster;
 use crate::tree::stp_command;
-use crate::vlans::{vlan_add, vlan_del};
+use crate::vlans::vlan_command;
 use br_model::scenario::LineWhy;
 use br_model::steps::Command;
+
+/// The commands of groups and of the whole bridge.
+#[tactic(auto, using(br_model::proofs::Words::words))]
+fn later_command(words: &[&str], r: &Roster) -> Result<Command, LineWhy>
+    ensures { result ≡ line later_commands r.now (length words.now) (word words.now) }
+{
+    match *words {
+        ["mdb", ..] => mdb_command(words, r),
+        ["stp", ..] => stp_command(words, r),
+        ["ageing", ..] => ageing_command(words, r),
+        ["snooping", ..] => snooping_command(words, r),
+        _ => Err(LineWhy::Word),
+    }
+}
 
 /// The command that the words after `cmd` say, or the cause for which its line is bad.
 #[tactic(auto, using(br_model::proofs::Words::words))]
@@ -20,12 +35,8 @@ pub fn read_command(words: &[&str], r: &Roster) -> Result<Command, LineWhy>
     match *words {
         ["port", ..] => port_command(words, r),
         ["link", ..] => link_command(words, r),
-        ["vlan", "add", ..] => vlan_add(words, r),
-        ["vlan", "del", ..] => vlan_del(words, r),
-        ["fdb", "add", ..] => fdb_add(words, r),
-        ["fdb", "del", ..] => fdb_del(words, r),
-        ["stp", ..] => stp_command(words, r),
-        ["ageing", ..] => ageing_command(words, r),
-        _ => Err(LineWhy::Word),
+        ["vlan", ..] => vlan_command(words, r),
+        ["fdb", ..] => fdb_command(words, r),
+        _ => later_command(words, r),
     }
 }

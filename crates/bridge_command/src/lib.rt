@@ -4,6 +4,8 @@
 mod addresses;
 mod command;
 mod flags;
+mod groups;
+mod ip_words;
 mod operands;
 mod ports;
 mod roster;
@@ -14,5 +16,5 @@ mod vlans;
 
 pub use br_model::NoMemory;
 pub use command::read_command;
-pub use operands::{mac, milliseconds};
+pub use operands::{mac, milliseconds, section_length};
 pub use roster::Roster;

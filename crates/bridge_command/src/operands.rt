@@ -4,7 +4,7 @@ ghost use Rattle.std.specs.List.{list_all};
 ghost use Rattle.std.specs.Option.{option_map};
 ghost use Rattle.br_model.specs.declared.scenario.LineWhy.TheVariants.{Address};
 ghost use Rattle.br_model.specs.Digits.{decimal_from, station as station_of, bytes_from_hex};
-ghost use Rattle.br_model.specs.Operands.{number as number_of, mac as mac_of, has_colons as has_colons_at, twelve, found, most_cost, most_port_priority, most_priority, most_seconds, last_moment};
+ghost use Rattle.br_model.specs.Operands.{number as number_of, mac as mac_of, has_colons as has_colons_at, twelve, found, most_cost, most_port_priority, most_priority, most_seconds, last_moment, longest_section};
 ghost use Rattle.br_model.specs.Roster.{is_name as is_a_name, is_name_byte as is_a_name_byte};
 
 use br_model::numbers::{Mac, Vid};
@@ -100,6 +100,17 @@ pub fn milliseconds(word: &str) -> Result<u64, LineWhy>
     ensures most { IfOk result (λ n. nat_le n last_moment ≡ true) }
 {
     number(word, 0, LAST_MOMENT)
+}
+
+/// The bytes of the longest section: 2^24.
+const LONGEST_SECTION: u64 = 16_777_216;
+
+/// How many bytes a section has.
+pub fn section_length(word: &str) -> Result<u32, LineWhy>
+    ensures value { result ≡ number_of 0 longest_section word.now }
+    ensures most { IfOk result (λ n. nat_le n longest_section ≡ true) }
+{
+    Ok(number(word, 0, LONGEST_SECTION)? as u32)
 }
 
 /// The bytes of the longest name.

@@ -1,5 +1,5 @@
 //! The bridge's own address, the declared ports, and the place that a scenario has reached.
-ghost use Rattle.std.specs.Prelude.{◌≡◌, ◌≢◌, ◌==◌, length, OnOk, OnErr, IfOk, IfSome, slice_get, true, false, not, ◌&&◌, Some, Ok};
+ghost use Rattle.std.specs.Prelude.{◌≡◌, ◌≢◌, ◌≤◌, ◌==◌, length, OnOk, OnErr, IfOk, IfSome, slice_get, true, false, not, ◌&&◌, Some, Ok};
 ghost use Rattle.std.specs.Option.{option_map, is_some};
 ghost use Rattle.br_model.specs.declared.scenario.Said.TheVariants.{Bridge, Declares};
 ghost use Rattle.br_model.specs.Domains.{host};
@@ -79,9 +79,10 @@ impl Roster {
         self.own
     }
 
-    /// How many ports are declared.
+    /// How many ports are declared: 63 at most.
     pub fn len(&self) -> usize
         ensures value { result ≡ length self.now.ports }
+        ensures most { result ≤ 63 }
         ensures declared { are_declared self.now.ports ≡ true }
     {
         self.ports.len()

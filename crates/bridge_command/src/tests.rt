@@ -1,6 +1,7 @@
 //! Commands, with what they say or their cause.
 use crate::{Roster, milliseconds, read_command};
 use br_model::change::Kind;
+use br_model::group::Ip;
 use br_model::numbers::{Dom, Port};
 use br_model::scenario::{LineWhy, Place};
 use br_model::steps::Command;
@@ -23,9 +24,13 @@ enum Says {
     /// The VLAN, the address, the port and the kind.
     FdbAdd(u16, u64, u8, Kind),
     FdbDel(u16, u64),
+    /// The port, the VLAN and the group.
+    MdbAdd(u8, u16, Ip),
+    MdbDel(u8, u16, Ip),
     Stp(bool),
     Priority(u16),
     Ageing(u32),
+    Snooping(bool),
 }
 
 fn said(line: &str, r: &Roster) -> Result<Says, LineWhy> {
@@ -58,9 +63,12 @@ fn said(line: &str, r: &Roster) -> Result<Says, LineWhy> {
             kind,
         } => Says::FdbAdd(vid.number(), mac.number(), port.number(), kind),
         Command::FdbDel { vid, mac } => Says::FdbDel(vid.number(), mac.number()),
+        Command::MdbAdd { port, vid, group } => Says::MdbAdd(port.number(), vid.number(), group),
+        Command::MdbDel { port, vid, group } => Says::MdbDel(port.number(), vid.number(), group),
         Command::Stp(on) => Says::Stp(on),
         Command::Priority(n) => Says::Priority(n),
         Command::Ageing(seconds) => Says::Ageing(seconds),
+        Command::Snooping(on) => Says::Snooping(on),
     })
 }
 
@@ -220,6 +228,31 @@ fn commands(rt: HostRuntime) -> Result<(), Fail> {
             "fdb del 02:00:00:00:00:01 vlan 7",
             Ok(Says::FdbDel(7, station)),
         ),
+        (
+            "mdb add 239.1.2.3 dev p3 vlan 7",
+            Ok(Says::MdbAdd(3, 7, Ip::V4(0xEF01_0203))),
+        ),
+        (
+            "mdb add ff05:0000:0000:0000:0000:0000:0000:1234 dev host vlan 4094",
+            Ok(Says::MdbAdd(0, 4094, Ip::V6(0xFF05_0000_0000_0000_0000_0000_0000_1234))),
+        ),
+        (
+            "mdb del FF05:0000:0000:0000:0000:0000:0000:00Ab dev p3 vlan 1",
+            Ok(Says::MdbDel(3, 1, Ip::V6(0xFF05_0000_0000_0000_0000_0000_0000_00AB))),
+        ),
+        (
+            "mdb del 10.0.0.1 dev p3 vlan 1",
+            Ok(Says::MdbDel(3, 1, Ip::V4(0x0A00_0001))),
+        ),
+        ("mdb add 239.1.2.256 dev x vlan x", Err(LineWhy::Address)),
+        ("mdb add 239.1.2.03 dev p3 vlan 1", Err(LineWhy::Address)),
+        ("mdb add 239.1.2 dev p3 vlan 1", Err(LineWhy::Address)),
+        ("mdb add 239.1.2.3.4 dev p3 vlan 1", Err(LineWhy::Address)),
+        ("mdb add ff05::1234 dev p3 vlan 1", Err(LineWhy::Address)),
+        ("mdb add 239.1.2.3 dev x vlan x", Err(LineWhy::Port)),
+        ("mdb add 239.1.2.3 dev p3 vlan 0", Err(LineWhy::Number)),
+        ("mdb add 239.1.2.3 dev p3", Err(LineWhy::Word)),
+        ("mdb 239.1.2.3 dev p3 vlan 1", Err(LineWhy::Word)),
         ("stp", Err(LineWhy::Word)),
         ("stp on", Ok(Says::Stp(true))),
         ("stp off", Ok(Says::Stp(false))),
@@ -230,6 +263,10 @@ fn commands(rt: HostRuntime) -> Result<(), Fail> {
         ("ageing 1000000", Ok(Says::Ageing(1_000_000))),
         ("ageing 0", Err(LineWhy::Number)),
         ("ageing 1000001", Err(LineWhy::Number)),
+        ("snooping on", Ok(Says::Snooping(true))),
+        ("snooping off", Ok(Says::Snooping(false))),
+        ("snooping", Err(LineWhy::Word)),
+        ("snooping 1", Err(LineWhy::Word)),
     ];
     for (line, expected) in rows {
         assert_eq!(rt; said(line, &r), expected);

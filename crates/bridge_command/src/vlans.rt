@@ -1,6 +1,7 @@
 //! The commands of VLANs: `vlan`.
 ghost use Rattle.std.specs.Prelude.{◌≡◌, length, Ok};
 ghost use Rattle.br_model.specs.declared.steps.Command.TheVariants.{VlanAdd};
+ghost use Rattle.br_model.specs.CommandForms.{vlans};
 ghost use Rattle.br_model.specs.Forms.{line, after};
 ghost use Rattle.br_model.specs.Operands.{number as number_of, device as device_of};
 ghost use Rattle.bridge_command.specs.Seen.{word, placed, unmarked, marked_once, marked_twice, vlan_adds, vlan_dels};
@@ -59,7 +60,7 @@ fn marked_twice(words: &[&str], r: &Roster) -> Result<Command, LineWhy>
 }
 
 #[tactic(auto, using(br_model::proofs::Words::words))]
-pub(crate) fn vlan_add(words: &[&str], r: &Roster) -> Result<Command, LineWhy>
+fn vlan_add(words: &[&str], r: &Roster) -> Result<Command, LineWhy>
     ensures { result ≡ line vlan_adds r.now (length words.now) (word words.now) }
 {
     match words.len() {
@@ -70,7 +71,7 @@ pub(crate) fn vlan_add(words: &[&str], r: &Roster) -> Result<Command, LineWhy>
 }
 
 #[tactic(auto, using(br_model::proofs::Words::words))]
-pub(crate) fn vlan_del(words: &[&str], r: &Roster) -> Result<Command, LineWhy>
+fn vlan_del(words: &[&str], r: &Roster) -> Result<Command, LineWhy>
     ensures { result ≡ line vlan_dels r.now (length words.now) (word words.now) }
 {
     match *words {
@@ -80,6 +81,17 @@ pub(crate) fn vlan_del(words: &[&str], r: &Roster) -> Result<Command, LineWhy>
             let port = r.device(name)?;
             Ok(Command::VlanDel { port, vid })
         }
+        _ => Err(LineWhy::Word),
+    }
+}
+
+#[tactic(auto, using(br_model::proofs::Words::words))]
+pub(crate) fn vlan_command(words: &[&str], r: &Roster) -> Result<Command, LineWhy>
+    ensures { result ≡ line vlans r.now (length words.now) (word words.now) }
+{
+    match *words {
+        ["vlan", "add", ..] => vlan_add(words, r),
+        ["vlan", "del", ..] => vlan_del(words, r),
         _ => Err(LineWhy::Word),
     }
 }

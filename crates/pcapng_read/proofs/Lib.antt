@@ -1,3 +1,4 @@
 pub mod Cutting
+pub mod HavePorts
 pub mod Rows
 pub mod ReadingBack

@@ -1,5 +1,6 @@
 //! The packets of a capture, one by one.
-ghost use Rattle.std.specs.Prelude.{◌≡◌, ◌≤◌, ◌+◌, ◌^◌, length};
+ghost use Rattle.std.specs.Prelude.{◌≡◌, ◌≤◌, ◌+◌, ◌^◌, nat_lt, true, length};
+ghost use Rattle.std.specs.List.{list_all};
 ghost use Rattle.br_model.specs.Captures.{capture};
 ghost use Rattle.pcapng_read.specs.Telling.{TellsNext};
 
@@ -33,10 +34,11 @@ impl<'a> Model for Blocks<'a> {
 }
 
 impl<'a> Blocks<'a> {
-    /// The packets of these bytes, for so many declared ports. Allocates nothing.
+    /// The packets of these bytes, for so many declared ports: each has its port. Allocates nothing.
     pub fn of(alloc: Global, b: &'a [u8], ports: u32) -> Blocks<'a>
         requires { length b.now ≤ 2 ^ 24 }
-        ensures { result ≡ capture ports b.now }
+        ensures packets { result ≡ capture ports b.now }
+        ensures have_ports { list_all (λ p. nat_lt p.interface ports) result.packets ≡ true }
     {
         Blocks {
             alloc,

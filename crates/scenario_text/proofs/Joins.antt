@@ -1,5 +1,8 @@
 -- Texts that were written one behind another.
-use Rattle.std.proofs.Common.{◌≡◌, ℕ, List, [], ◌∷◌, ◌++◌, ap, ◌∙◌, append_assoc}
+use Rattle.std.proofs.Common.{◌≡◌, ℕ, ◌+◌, ◌<◌, List, [], ◌∷◌, ◌++◌, length, take, get_or, ap, sym, ◌∙◌, append_assoc}
+use Rattle.std.specs.List.{flat_map}
+use Rattle.std.proofs.lemmas.Grind.{flat_map-append}
+use Rattle.std.proofs.lemmas.List.{append-nil, take_more}
 use Rattle.br_model.specs.Digits.{hex_of}
 use Rattle.br_model.specs.ScenarioText.{byte_at, mac_text}
 
@@ -24,3 +27,17 @@ mac_parts mac a b c d e f s0 s1 s2 s3 i j k l m n p q r =
     ∙ ap (λ (x : ℕ). s0 ++ (three_pairs (byte_at mac 40) (byte_at mac 32) (byte_at mac 24) ++ (58 ∷ [] ++ three_pairs x e f))) l
     ∙ ap (λ (x : ℕ). s0 ++ (three_pairs (byte_at mac 40) (byte_at mac 32) (byte_at mac 24) ++ (58 ∷ [] ++ three_pairs (byte_at mac 16) x f))) m
     ∙ ap (λ (x : ℕ). s0 ++ (three_pairs (byte_at mac 40) (byte_at mac 32) (byte_at mac 24) ++ (58 ∷ [] ++ three_pairs (byte_at mac 16) (byte_at mac 8) x))) n
+
+-- one part more of many
+pub part_more : (f : ℕ → List ℕ) (s0 s1 s2 first : List ℕ) (xs : List ℕ) (i d : ℕ) → i < length xs → s1 ≡ s0 ++ (first ++ flat_map f (take i xs)) → s2 ≡ s1 ++ f (get_or xs i d)
+    → s2 ≡ s0 ++ (first ++ flat_map f (take (i + 1) xs))
+part_more f s0 s1 s2 first xs i d h e g =
+    let x = get_or xs i d in
+    let front = flat_map f (take i xs) in
+    g
+    ∙ ap (λ (s : List ℕ). s ++ f x) e
+    ∙ append_assoc s0 (first ++ front) (f x)
+    ∙ ap (λ (s : List ℕ). s0 ++ s) (append_assoc first front (f x))
+    ∙ ap (λ (s : List ℕ). s0 ++ (first ++ (front ++ s))) (sym (append-nil (f x)))
+    ∙ ap (λ (s : List ℕ). s0 ++ (first ++ s)) (sym (flat_map-append f (take i xs) (x ∷ [])))
+    ∙ ap (λ (ys : List ℕ). s0 ++ (first ++ flat_map f ys)) (sym (take_more xs i d h))

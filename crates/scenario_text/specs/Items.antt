@@ -9,12 +9,12 @@ use Rattle.br_model.specs.declared.scenario.LineWhy.{LineWhy}
 use Rattle.br_model.specs.declared.scenario.LineWhy.TheVariants as why
 use Rattle.br_model.specs.declared.scenario.Place.{Place}
 use Rattle.br_model.specs.declared.scenario.Said.{Said}
-use Rattle.br_model.specs.declared.scenario.Said.TheVariants.{Blank, Opens, Bridge, Declares, Does, Ends}
+use Rattle.br_model.specs.declared.scenario.Said.TheVariants.{Blank, Opens, Bridge, Declares, Does, Captures, Ends}
 use Rattle.br_model.specs.declared.steps.Step.{Step}
 use Rattle.br_model.specs.declared.steps.Step.TheVariants.{Rx, Cmd, Now, Serve, Turn, Report, Sweep, Publish}
 use Rattle.br_model.specs.Forms.{after}
 use Rattle.br_model.specs.LineForms.{line_says, opening, header, declaration}
-use Rattle.br_model.specs.Operands.{new_port, new_name, last_moment}
+use Rattle.br_model.specs.Operands.{new_port, new_name, last_moment, longest_section}
 use Rattle.br_model.specs.Roster.{Roster}
 use Rattle.br_model.specs.Scenario.{declared}
 use Rattle.br_model.specs.Declarations.{fits_beside}
@@ -26,6 +26,7 @@ item_of Opens = items.Scenario
 item_of (Bridge mac) = items.Bridge mac
 item_of (Declares port name dom) = items.Declared port
 item_of (Does step) = items.Step step
+item_of (Captures n) = items.Capture n
 item_of Ends = items.End
 
 -- what the declaration of a port says, by its number, its name and its domain
@@ -49,6 +50,7 @@ comes_in_place place items.Scenario = opening place
 comes_in_place place (items.Bridge mac) = header place
 comes_in_place place (items.Declared port) = declaration place
 comes_in_place place (items.Step step) = true
+comes_in_place place (items.Capture n) = true
 comes_in_place place items.End = true
 
 -- whether the moment of a step is one that a line can say
@@ -62,13 +64,15 @@ in_time Report = true
 in_time Sweep = true
 in_time Publish = true
 
-abbrev pub is_in_time : Item → Bool
-is_in_time items.Blank = true
-is_in_time items.Scenario = true
-is_in_time (items.Bridge mac) = true
-is_in_time (items.Declared port) = true
-is_in_time (items.Step step) = in_time step
-is_in_time items.End = true
+-- the same, and whether a section is as long as a line can say
+abbrev pub is_in_range : Item → Bool
+is_in_range items.Blank = true
+is_in_range items.Scenario = true
+is_in_range (items.Bridge mac) = true
+is_in_range (items.Declared port) = true
+is_in_range (items.Step step) = in_time step
+is_in_range (items.Capture n) = nat_le n longest_section
+is_in_range items.End = true
 
 -- the same of what a line says; and the port fits beside the declared ones
 abbrev pub fits_roster : Roster → Said → Bool
@@ -77,4 +81,5 @@ fits_roster roster Opens = opening roster.place
 fits_roster roster (Bridge mac) = header roster.place
 fits_roster roster (Declares port name dom) = declaration roster.place && fits_beside roster.ports (record { name = name; port = port; dom = dom })
 fits_roster roster (Does step) = in_time step
+fits_roster roster (Captures n) = nat_le n longest_section
 fits_roster roster Ends = true

@@ -10,7 +10,7 @@ use crate::digits::hex_bytes;
 use br_model::numbers::Dom;
 use br_model::scenario::{LineWhy, Place, Said};
 use br_model::steps::Step;
-use bridge_command::{Roster, mac, milliseconds, read_command};
+use bridge_command::{Roster, mac, milliseconds, read_command, section_length};
 use std::alloc::Global;
 
 /// The declaration of a port of this domain.
@@ -45,7 +45,7 @@ fn declaration_line(alloc: Global, words: &[&str], r: &Roster) -> Result<Said, L
     }
 }
 
-/// The steps but for commands, and the last line.
+/// The steps but for commands, captures, and the last line.
 #[tactic(auto, using(br_model::proofs::Words::words))]
 fn step_line(alloc: Global, words: &[&str], r: &Roster) -> Result<Said, LineWhy>
     ensures value { OrNoMemory result (line steps r.now (length words.now) (word words.now)) }
@@ -81,6 +81,10 @@ fn step_line(alloc: Global, words: &[&str], r: &Roster) -> Result<Said, LineWhy>
         ["publish"] => {
             r.stands(Place::Steps)?;
             Ok(Said::Does(Step::Publish))
+        }
+        ["capture", length] => {
+            r.stands(Place::Steps)?;
+            Ok(Said::Captures(section_length(length)?))
         }
         ["end"] => {
             r.stands(Place::Steps)?;

@@ -5,7 +5,7 @@ ghost use Rattle.br_model.specs.LineForms.{line_says, all_say};
 ghost use Rattle.br_model.specs.Scenario.{is_end};
 ghost use Rattle.br_model.specs.Words.{words};
 ghost use Rattle.bridge_command.specs.Seen.{OrNoMemory};
-ghost use Rattle.scenario_text.specs.Items.{Reads, comes_in_place, fits_roster, is_in_time};
+ghost use Rattle.scenario_text.specs.Items.{Reads, comes_in_place, fits_roster, is_in_range};
 
 use crate::lines::read_words;
 use crate::words::find_words;
@@ -20,7 +20,7 @@ use std::alloc::Global;
 pub fn read_line(alloc: Global, b: &[u8], r: &mut Roster) -> Result<Item, LineWhy>
     ensures read { IfOk result (Reads r.old r.new b.now) }
     ensures early { IfOk result (λ item. comes_in_place r.old.place item ≡ true) }
-    ensures moment { IfOk result (λ item. is_in_time item ≡ true) }
+    ensures range { IfOk result (λ item. is_in_range item ≡ true) }
     ensures bad { IfErr result (λ why. (why ≡ NoMemoryLeft) ⊎ (line_says r.old b.now ≡ Err why)) }
     ensures unchanged { OnErr result (r.new ≡ r.old) }
 {
@@ -41,6 +41,10 @@ pub fn read_line(alloc: Global, b: &[u8], r: &mut Roster) -> Result<Item, LineWh
         Said::Does(step) => {
             r.reach(Place::Steps);
             Ok(Item::Step(step))
+        }
+        Said::Captures(length) => {
+            r.reach(Place::Steps);
+            Ok(Item::Capture(length))
         }
         Said::Ends => Ok(Item::End),
     }

@@ -5,12 +5,13 @@ ghost use Rattle.br_model.specs.Digits.{hex_digit, hex_of};
 ghost use Rattle.br_model.specs.FlagWords.{flags, name_of_flag};
 ghost use Rattle.br_model.specs.Frames.{longest_frame};
 ghost use Rattle.br_model.specs.Roster.{has_number};
-ghost use Rattle.br_model.specs.ScenarioText.{byte_at, mac_text, kind_word as word_of_kind, command_text, device_text, further, name_of, switch_word as word_of_switch, shown as shown_of, step_text, step_words};
+ghost use Rattle.br_model.specs.ScenarioText.{byte_at, mac_text, dotted, digits_at, groups_of_four, ip_text, kind_word as word_of_kind, command_text, device_text, further, name_of, switch_word as word_of_switch, shown as shown_of, step_text, step_words};
 ghost use Rattle.br_model.specs.WrittenSteps.{is_device, command_names_declared, names_declared};
 
 use br_model::NoMemory;
 use br_model::bytes::Bytes;
 use br_model::change::{Flags, Kind};
+use br_model::group::Ip;
 use br_model::numbers::{Mac, Port, Vid};
 use br_model::steps::{Command, Step};
 use bridge_command::Roster;
@@ -78,6 +79,54 @@ fn append_mac(mac: Mac, to: &mut String) -> Result<(), NoMemory>
     append_three(byte(mac, 40), byte(mac, 32), byte(mac, 24), to)?;
     to.push(':')?;
     append_three(byte(mac, 16), byte(mac, 8), byte(mac, 0), to)
+}
+
+/// The byte that stands so many bits above the address's lowest.
+fn octet(address: u32, bits: u32) -> u8
+    requires { bits < 32 }
+    ensures { result ≡ byte_at address bits }
+{
+    ((address >> bits) % 256) as u8
+}
+
+/// Four decimal numbers, joined by dots.
+fn append_dotted(address: u32, to: &mut String) -> Result<(), NoMemory>
+    ensures { OnOk result (string_bytes to.new ≡ string_bytes to.old ++ dotted address) }
+{
+    let (a, b) = (octet(address, 24), octet(address, 16));
+    let (c, d) = (octet(address, 8), octet(address, 0));
+    write!(to, "{a}.{b}.{c}.{d}")
+}
+
+/// The four digits of the two bytes that stand so many bits above the address's lowest.
+fn append_digits(address: u128, bits: u32, to: &mut String) -> Result<(), NoMemory>
+    requires { bits < 120 }
+    ensures { OnOk result (string_bytes to.new ≡ string_bytes to.old ++ digits_at address bits) }
+{
+    let high = ((address >> (bits + 8)) % 256) as u8;
+    let low = ((address >> bits) % 256) as u8;
+    append_hex(&[high, low], to)
+}
+
+/// Eight groups of four digits, joined by colons.
+fn append_groups(address: u128, to: &mut String) -> Result<(), NoMemory>
+    ensures { OnOk result (string_bytes to.new ≡ string_bytes to.old ++ groups_of_four address) }
+{
+    append_digits(address, 112, to)?;
+    for bits in &[96, 80, 64, 48, 32, 16, 0] {
+        to.push(':')?;
+        append_digits(address, *bits, to)?;
+    }
+    Ok(())
+}
+
+fn append_ip(address: Ip, to: &mut String) -> Result<(), NoMemory>
+    ensures { OnOk result (string_bytes to.new ≡ string_bytes to.old ++ ip_text address) }
+{
+    match address {
+        Ip::V4(n) => append_dotted(n, to),
+        Ip::V6(n) => append_groups(n, to),
+    }
 }
 
 fn kind_word(kind: Kind) -> &'static str
@@ -215,6 +264,22 @@ fn append_fdb_del(mac: Mac, vid: Vid, to: &mut String) -> Result<(), NoMemory>
     write!(to, " vlan {vid}")
 }
 
+/// What `mdb add` and `mdb del` have in common: the group, the device and the VLAN.
+fn append_member(group: Ip, device: &str, vid: Vid, to: &mut String) -> Result<(), NoMemory>
+    ensures { OnOk result (string_bytes to.new ≡ string_bytes to.old ++ (ip_text group ++ (codes " dev " ++ (device.now ++ (codes " vlan " ++ decimal vid))))) }
+{
+    append_ip(group, to)?;
+    let vid = vid.number();
+    write!(to, " dev {device} vlan {vid}")
+}
+
+fn append_snooping(on: bool, to: &mut String) -> Result<(), NoMemory>
+    ensures { OnOk result (string_bytes to.new ≡ string_bytes to.old ++ (codes "snooping " ++ word_of_switch on)) }
+{
+    let on = switch_word(on);
+    write!(to, "snooping {on}")
+}
+
 fn append_command(command: Command, roster: &Roster, to: &mut String) -> Result<(), NoMemory>
     requires { command_names_declared roster.now.ports command ≡ true }
     ensures { OnOk result (string_bytes to.new ≡ string_bytes to.old ++ command_text roster.now.ports command) }
@@ -245,9 +310,18 @@ fn append_command(command: Command, roster: &Roster, to: &mut String) -> Result<
             kind,
         } => append_fdb_add(mac, device(roster, port), vid, kind, to),
         Command::FdbDel { vid, mac } => append_fdb_del(mac, vid, to),
+        Command::MdbAdd { port, vid, group } => {
+            to.push_str("mdb add ")?;
+            append_member(group, device(roster, port), vid, to)
+        }
+        Command::MdbDel { port, vid, group } => {
+            to.push_str("mdb del ")?;
+            append_member(group, device(roster, port), vid, to)
+        }
         Command::Stp(on) => append_stp(on, to),
         Command::Priority(n) => write!(to, "stp priority {n}"),
         Command::Ageing(seconds) => write!(to, "ageing {seconds}"),
+        Command::Snooping(on) => append_snooping(on, to),
     }
 }
 

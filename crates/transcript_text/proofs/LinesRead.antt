@@ -15,7 +15,7 @@ use Rattle.br_model.specs.declared.frame.Class.TheVariants as classes
 use Rattle.br_model.specs.declared.frame.FrameFault.{FrameFault}
 use Rattle.br_model.specs.declared.frame.FrameFault.TheVariants as faults
 use Rattle.br_model.specs.declared.steps.Refusal.{Refusal}
-use Rattle.br_model.specs.declared.steps.Refusal.TheVariants.{PortIsUp, PortNotUp, NotMember, Exists, Absent, FdbFull, HistoryFull, Backward, NothingWaiting, NothingPending, NothingReported, NothingToPost, NoSuchPoint}
+use Rattle.br_model.specs.declared.steps.Refusal.TheVariants.{PortIsUp, PortNotUp, NotMember, Exists, Absent, FdbFull, GroupsFull, HistoryFull, Backward, NothingWaiting, NothingPending, NothingReported, NotAGroup, NothingToPost, NoSuchPoint}
 use Rattle.br_model.specs.declared.transcript.Line.{Line}
 use Rattle.br_model.specs.declared.transcript.Line.TheVariants.{Chip, Unread, Soft, Held, Tx, Ctl, Overrun, Done, Refused, End}
 use Rattle.br_model.specs.Transcript.{line_text, class_word, fault_word, refusal_number}
@@ -105,12 +105,14 @@ numbered_is : (n : ℕ) {r : Refusal} → numbered n ≡ Some r → n ≡ refusa
 numbered_is n {r} =
     let from15 = row n 15 NoSuchPoint None {s = r} refl (none_is n) in
     let from14 = row n 14 NothingToPost _ refl from15 in
-    let from12 = row n 12 NothingReported _ refl from14 in
+    let from13 = row n 13 NotAGroup _ refl from14 in
+    let from12 = row n 12 NothingReported _ refl from13 in
     let from11 = row n 11 NothingPending _ refl from12 in
     let from10 = row n 10 NothingWaiting _ refl from11 in
     let from9 = row n 9 Backward _ refl from10 in
     let from8 = row n 8 HistoryFull _ refl from9 in
-    let from6 = row n 6 FdbFull _ refl from8 in
+    let from7 = row n 7 GroupsFull _ refl from8 in
+    let from6 = row n 6 FdbFull _ refl from7 in
     let from5 = row n 5 Absent _ refl from6 in
     let from4 = row n 4 Exists _ refl from5 in
     let from3 = row n 3 NotMember _ refl from4 in
@@ -124,11 +126,13 @@ numbered_back NotMember = refl
 numbered_back Exists = refl
 numbered_back Absent = refl
 numbered_back FdbFull = refl
+numbered_back GroupsFull = refl
 numbered_back HistoryFull = refl
 numbered_back Backward = refl
 numbered_back NothingWaiting = refl
 numbered_back NothingPending = refl
 numbered_back NothingReported = refl
+numbered_back NotAGroup = refl
 numbered_back NothingToPost = refl
 numbered_back NoSuchPoint = refl
 

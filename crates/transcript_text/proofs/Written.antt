@@ -10,7 +10,7 @@ use Rattle.br_model.specs.declared.frame.Class.TheVariants as classes
 use Rattle.br_model.specs.declared.frame.FrameFault.{FrameFault}
 use Rattle.br_model.specs.declared.frame.FrameFault.TheVariants as faults
 use Rattle.br_model.specs.declared.steps.Refusal.{Refusal}
-use Rattle.br_model.specs.declared.steps.Refusal.TheVariants.{PortIsUp, PortNotUp, NotMember, Exists, Absent, FdbFull, HistoryFull, Backward, NothingWaiting, NothingPending, NothingReported, NothingToPost, NoSuchPoint}
+use Rattle.br_model.specs.declared.steps.Refusal.TheVariants.{PortIsUp, PortNotUp, NotMember, Exists, Absent, FdbFull, GroupsFull, HistoryFull, Backward, NothingWaiting, NothingPending, NothingReported, NotAGroup, NothingToPost, NoSuchPoint}
 use Rattle.br_model.specs.declared.transcript.Line.{Line}
 use Rattle.br_model.specs.declared.transcript.Line.TheVariants.{Chip, Unread, Soft, Held, Tx, Ctl, Overrun, Done, Refused, End}
 use Rattle.br_model.specs.Digits.{hex_of}
@@ -69,11 +69,13 @@ refusal_small NotMember = refl
 refusal_small Exists = refl
 refusal_small Absent = refl
 refusal_small FdbFull = refl
+refusal_small GroupsFull = refl
 refusal_small HistoryFull = refl
 refusal_small Backward = refl
 refusal_small NothingWaiting = refl
 refusal_small NothingPending = refl
 refusal_small NothingReported = refl
+refusal_small NotAGroup = refl
 refusal_small NothingToPost = refl
 refusal_small NoSuchPoint = refl
 

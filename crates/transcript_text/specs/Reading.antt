@@ -12,7 +12,7 @@ use Rattle.br_model.specs.declared.frame.Class.TheVariants as classes
 use Rattle.br_model.specs.declared.frame.FrameFault.{FrameFault}
 use Rattle.br_model.specs.declared.frame.FrameFault.TheVariants as faults
 use Rattle.br_model.specs.declared.steps.Refusal.{Refusal}
-use Rattle.br_model.specs.declared.steps.Refusal.TheVariants.{PortIsUp, PortNotUp, NotMember, Exists, Absent, FdbFull, HistoryFull, Backward, NothingWaiting, NothingPending, NothingReported, NothingToPost, NoSuchPoint}
+use Rattle.br_model.specs.declared.steps.Refusal.TheVariants.{PortIsUp, PortNotUp, NotMember, Exists, Absent, FdbFull, GroupsFull, HistoryFull, Backward, NothingWaiting, NothingPending, NothingReported, NotAGroup, NothingToPost, NoSuchPoint}
 use Rattle.br_model.specs.declared.transcript.Line.{Line}
 use Rattle.br_model.specs.declared.transcript.Line.TheVariants.{Chip, Unread, Soft, Held, Tx, Ctl, Overrun, Done, Refused, End}
 use Rattle.br_model.specs.Digits.{is_decimal, digits_value}
@@ -75,11 +75,13 @@ numbered n =
     if n == 4 then Some Exists else
     if n == 5 then Some Absent else
     if n == 6 then Some FdbFull else
+    if n == 7 then Some GroupsFull else
     if n == 8 then Some HistoryFull else
     if n == 9 then Some Backward else
     if n == 10 then Some NothingWaiting else
     if n == 11 then Some NothingPending else
     if n == 12 then Some NothingReported else
+    if n == 13 then Some NotAGroup else
     if n == 14 then Some NothingToPost else
     if n == 15 then Some NoSuchPoint else
     None

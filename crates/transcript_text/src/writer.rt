@@ -190,11 +190,13 @@ fn number_of(refusal: Refusal) -> u32
         Refusal::Exists => 4,
         Refusal::Absent => 5,
         Refusal::FdbFull => 6,
+        Refusal::GroupsFull => 7,
         Refusal::HistoryFull => 8,
         Refusal::Backward => 9,
         Refusal::NothingWaiting => 10,
         Refusal::NothingPending => 11,
         Refusal::NothingReported => 12,
+        Refusal::NotAGroup => 13,
         Refusal::NothingToPost => 14,
         Refusal::NoSuchPoint => 15,
     }

@@ -25,6 +25,8 @@ enum Gives {
     Report,
     Sweep,
     Publish,
+    /// How many bytes follow.
+    Capture(u32),
     End,
 }
 
@@ -44,6 +46,7 @@ const LINES: &[(&[u8], Result<Gives, LineWhy>)] = &[
     (b"end", Err(LineWhy::Place)),
     (b"serve", Err(LineWhy::Place)),
     (b"cmd port up nobody", Err(LineWhy::Place)),
+    (b"capture x", Err(LineWhy::Place)),
     (b"  scenario   1 ", Ok(Gives::Scenario)),
     (b"scenario 1", Err(LineWhy::Place)),
     (b"# between", Ok(Gives::Blank)),
@@ -144,6 +147,13 @@ const STEPS: &[(&[u8], Result<Gives, LineWhy>)] = &[
     (b"turn 1", Ok(Gives::Turn)),
     (b"report 1", Ok(Gives::Report)),
     (b"sweep 1", Ok(Gives::Sweep)),
+    (b"capture 0", Ok(Gives::Capture(0))),
+    (b" capture  16777216 ", Ok(Gives::Capture(16_777_216))),
+    (b"capture 16777217", Err(LineWhy::Number)),
+    (b"capture 18446744073709551617", Err(LineWhy::Number)),
+    (b"capture 096", Err(LineWhy::Number)),
+    (b"capture", Err(LineWhy::Word)),
+    (b"capture 9 6", Err(LineWhy::Word)),
     (b"turn", Err(LineWhy::Word)),
     (b"report 2", Err(LineWhy::Word)),
     (b"sweep 01", Err(LineWhy::Word)),
@@ -175,6 +185,7 @@ fn given(item: &Item) -> Gives {
         Item::Step(Step::Report) => Gives::Report,
         Item::Step(Step::Sweep) => Gives::Sweep,
         Item::Step(Step::Publish) => Gives::Publish,
+        Item::Capture(length) => Gives::Capture(*length),
         Item::End => Gives::End,
     }
 }
@@ -203,6 +214,19 @@ fn lines_in_order(rt: HostRuntime) -> Result<(), Fail> {
         reads(&rt, alloc, &mut r, line, *expected);
     }
     assert_eq!(rt; r.own().number(), 0x0200_0000_00AB);
+    Ok(())
+}
+
+/// A capture ends the declarations.
+#[test]
+fn no_declaration_after_a_capture(rt: HostRuntime) -> Result<(), Fail> {
+    let alloc = rt.alloc();
+    let mut r = Roster::make(alloc, false)?;
+    reads(&rt, alloc, &mut r, b"scenario 1", Ok(Gives::Scenario));
+    reads(&rt, alloc, &mut r, b"capture 0", Ok(Gives::Capture(0)));
+    let address = b"bridge 02:00:00:00:00:ab";
+    reads(&rt, alloc, &mut r, address, Err(LineWhy::Place));
+    reads(&rt, alloc, &mut r, b"port 1 p1 soft", Err(LineWhy::Place));
     Ok(())
 }
 

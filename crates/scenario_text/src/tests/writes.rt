@@ -30,10 +30,15 @@ cmd fdb add 02:00:00:00:00:ab dev host vlan 4094 local
 cmd fdb add 02:00:00:00:00:ab dev p-1 vlan 4094 static
 cmd fdb add 02:00:00:00:00:ab dev p-1 vlan 4094 extern
 cmd fdb del 02:00:00:00:00:ab vlan 4094
+cmd mdb add 239.1.2.3 dev p-1 vlan 4094
+cmd mdb add ff05:0001:0000:00ab:0000:0000:0000:1234 dev host vlan 4094
+cmd mdb del 0.255.10.0 dev p-1 vlan 4094
 cmd stp on
 cmd stp off
 cmd stp priority 65535
 cmd ageing 1000000
+cmd snooping on
+cmd snooping off
 now 9007199254740991
 serve
 turn 1
@@ -62,9 +67,11 @@ fn are_declared(step: &Step, roster: &Roster) -> bool
             | Command::PortPriority { port, .. } => roster.name(port).is_some(),
             Command::VlanAdd { port, .. }
             | Command::VlanDel { port, .. }
-            | Command::FdbAdd { port, .. } => port.is_host() || roster.name(port).is_some(),
+            | Command::FdbAdd { port, .. }
+            | Command::MdbAdd { port, .. }
+            | Command::MdbDel { port, .. } => port.is_host() || roster.name(port).is_some(),
             Command::FdbDel { .. } | Command::Ageing(_) => true,
-            Command::Stp(_) | Command::Priority(_) => true,
+            Command::Stp(_) | Command::Priority(_) | Command::Snooping(_) => true,
         },
         Step::Now(_) => true,
         Step::Serve | Step::Turn | Step::Report | Step::Sweep | Step::Publish => true,

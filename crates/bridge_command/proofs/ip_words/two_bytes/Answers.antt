@@ -1,0 +1,8 @@
+use Rattle.bridge_command.proofs.HexWords.{sized, not-sized}
+use Rattle.bridge_command.proofs.ip_words.two_bytes.Goals as goal
+
+pub returns-in-Ok : goal.returns-in-Ok
+returns-in-Ok c = sized 2 c.args.digits.now c.in-Ok.bytes c.requires c.in-Ok.ensures
+
+pub returns-in-Err : goal.returns-in-Err
+returns-in-Err c = not-sized 2 c.args.digits.now c.in-Err.field-0 c.requires c.in-Err.ensures
