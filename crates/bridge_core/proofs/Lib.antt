@@ -3,3 +3,8 @@ pub mod Fitting
 pub mod Moments
 pub mod Accepting
 pub mod Reactions
+pub mod Hearing
+pub mod Speaking
+pub mod Endings
+pub mod Saying
+pub mod Seeing

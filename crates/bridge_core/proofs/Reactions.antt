@@ -14,7 +14,7 @@ use Rattle.br_model.specs.declared.change.Kind.{Kind}
 use Rattle.br_model.specs.declared.change.Kind.TheVariants.{Learned, Extern}
 use Rattle.br_model.specs.declared.frame.Head.{Head}
 use Rattle.br_model.specs.declared.steps.Command.{Command}
-use Rattle.br_model.specs.declared.steps.Command.TheVariants.{PortUp, PortDown, Link, Cost, PortPriority, VlanAdd, VlanDel, FdbAdd, FdbDel, Stp, Priority, Ageing}
+use Rattle.br_model.specs.declared.steps.Command.TheVariants.{PortUp, PortDown, Link, Cost, PortPriority, VlanAdd, VlanDel, FdbAdd, FdbDel, MdbAdd, MdbDel, Stp, Priority, Ageing, Snooping}
 use Rattle.br_model.specs.declared.steps.Refusal.{Refusal}
 use Rattle.br_model.specs.declared.steps.Refusal.TheVariants as refusals
 use Rattle.br_model.specs.declared.transcript.Line.{Line}
@@ -24,6 +24,7 @@ use Rattle.br_model.specs.Admission.{is_up, vlan_of, has_valid_source}
 use Rattle.br_model.specs.Ageing.{forgets}
 use Rattle.br_model.specs.Bpdus.{bpdu}
 use Rattle.br_model.specs.Commands.{command, sets}
+use Rattle.br_model.specs.Commands.Groups.{group_of, is_snooping}
 use Rattle.br_model.specs.Commands.Ports.{goes_down, drops_addresses, drops_groups, drops_vlans, flags_of, flags_with}
 use Rattle.br_model.specs.Commands.SpanningTree.{is_switched}
 use Rattle.br_model.specs.Commands.Vlans.{leaves_vlan}
@@ -99,6 +100,10 @@ drops_vlan t port vid =
     always-append (drops_addresses t (λ v. v == vid) port) _ (deletes t (λ v. v == vid) port)
     (always-append (drops_groups t (λ v. v == vid) port) _ (parts t (λ v. v == vid) port) refl)
 
+turned : (b : Bool) → not b ≡ false → b ≡ true
+turned true e = refl
+turned false e = absurd (cc)
+
 pub fit_command : (t : Table) (asked : Command) (cs : List Change) → command t asked ≡ Ok cs → all_fit t cs ≡ true
 fit_command t (PortUp port) cs e = fit_along t _ cs refl (tested _ refusals.PortIsUp _ cs e).1
 fit_command t (PortDown port) cs e = fit_along t _ cs (all_fit_any t (goes_down t port) (drops_down t port)) (tested _ refusals.PortNotUp _ cs e).1
@@ -114,11 +119,19 @@ fit_command t (VlanDel port vid) cs e = fit_along t _ cs (all_fit_any t (leaves_
 fit_command t (FdbAdd vid mac port kind) cs e =
     let last = tested (not (fits t (changes.AddrPut vid mac port kind))) refusals.FdbFull _ cs (tested _ refusals.Exists _ cs (tested _ refusals.NotMember _ cs (tested _ refusals.PortNotUp _ cs e).1).1).1 in
     fit_along t _ cs (both _ _ (turned (fits t (changes.AddrPut vid mac port kind)) last.0) refl) last.1
-  where
-    turned : (b : Bool) → not b ≡ false → b ≡ true
-    turned true e = refl
-    turned false e = absurd (cc)
 fit_command t (FdbDel vid mac) cs e = fit_along t _ cs refl (tested _ refusals.Absent _ cs e).1
+fit_command t (MdbAdd port vid address) cs e =
+    let join = changes.GroupJoin port vid (group_of address) in
+    let new = tested _ refusals.Exists _ cs (tested _ refusals.NotMember _ cs (tested _ refusals.NotAGroup _ cs (tested _ refusals.PortNotUp _ cs e).1).1).1 in
+    let last = tested (not (fits t join)) refusals.GroupsFull _ cs new.1 in
+    fit_along t _ cs (both _ _ (turned (fits t join) last.0) refl) last.1
+fit_command t (MdbDel port vid address) cs e =
+    fit_along t _ cs refl (tested _ refusals.Absent _ cs (tested _ refusals.NotAGroup _ cs (tested _ refusals.PortNotUp _ cs e).1).1).1
+fit_command t (Snooping on) cs e = fit_along t _ cs (switched (is_snooping t on)) e
+  where
+    switched : (b : Bool) → all_fit t (if b then [] else changes.Snoop on ∷ []) ≡ true
+    switched true = refl
+    switched false = refl
 fit_command t (Stp on) cs e = fit_along t _ cs (switched (is_switched t on)) e
   where
     switched : (b : Bool) → all_fit t (if b then [] else changes.Stp on ∷ []) ≡ true
@@ -313,6 +326,9 @@ sets_no_clock c (VlanAdd port vid untagged pvid) = refl
 sets_no_clock c (VlanDel port vid) = refl
 sets_no_clock c (FdbAdd vid mac port kind) = refl
 sets_no_clock c (FdbDel vid mac) = refl
+sets_no_clock c (MdbAdd port vid group) = refl
+sets_no_clock c (MdbDel port vid group) = refl
+sets_no_clock c (Snooping on) = refl
 sets_no_clock c (Stp on) = refl
 sets_no_clock c (Priority n) = refl
 sets_no_clock c (Ageing seconds) = refl
@@ -337,3 +353,7 @@ renewed_clock c (Some key) = refl
 pub renewed_tree : (c : Control) (o : Option Address) → (renewed_at c o).tree ≡ c.tree
 renewed_tree c None = refl
 renewed_tree c (Some key) = refl
+
+pub renewed_ends : (c : Control) (o : Option Address) → (renewed_at c o).ends ≡ c.ends
+renewed_ends c None = refl
+renewed_ends c (Some key) = refl

@@ -6,3 +6,5 @@ pub mod Plans
 pub mod Following
 pub mod Lessons
 pub mod Dropping
+pub mod Hearing
+pub mod Ending

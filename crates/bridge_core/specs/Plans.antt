@@ -1,17 +1,22 @@
 -- What a plan comes to, by the definitions.
-use Rattle.std.specs.Prelude.{◌≡◌, ◌<◌, ◌^◌, true, [], IfSome, IsSome}
+use Rattle.std.specs.Prelude.{ℕ, ◌≡◌, ◌<◌, ◌^◌, true, List, [], IfSome, IsSome}
 use Rattle.std.specs.declared.option.Option.{Option}
 use Rattle.std.specs.declared.option.Option.TheVariants.{None, Some}
 use Rattle.std.specs.declared.result.Result.{Result}
 use Rattle.std.specs.declared.result.Result.TheVariants.{Ok, Err}
+use Rattle.br_model.specs.declared.frame.Head.{Head}
+use Rattle.br_model.specs.declared.steps.Event.{Event}
+use Rattle.br_model.specs.declared.steps.Event.TheVariants.{Cmd, Moment, Sight, Told, Forget}
 use Rattle.br_model.specs.declared.steps.Refusal.{Refusal}
 use Rattle.br_model.specs.Control.{Control, renewed}
 use Rattle.br_model.specs.Course.{Course, makes_all}
 use Rattle.br_model.specs.Learning.{Address}
 use Rattle.br_model.specs.Limits.{all_fit}
 use Rattle.br_model.specs.Maps.{pair_cmp, get}
+use Rattle.br_model.specs.Reaction.{happens, learns_of}
+use Rattle.br_model.specs.Setup.{Setup}
 use Rattle.br_model.specs.Table.{Table}
-use Rattle.br_model.specs.TreeReaction.{told}
+use Rattle.br_model.specs.TreeReaction.{told, heard}
 use Rattle.bridge_core.specs.declared.faults.EventFault.{EventFault}
 use Rattle.bridge_core.specs.declared.faults.EventFault.TheVariants.{Refused, NoMemory}
 use Rattle.bridge_core.specs.declared.plan.Plan.{Plan}
@@ -40,3 +45,15 @@ abbrev pub Plans : Table → Control → Result Plan EventFault → Result Cours
 Plans t c (Ok p) answer = (answer ≡ Ok (planned t c p)) × IsSound t p
 Plans t c (Err (Refused why)) answer = answer ≡ Err why
 Plans t c (Err NoMemory) answer = Unit {0}
+
+-- what a frame comes to that software sent, but for snooping
+abbrev pub learns_and_tells : Setup → ℕ → List ℕ → Head → Course → Course
+learns_and_tells setup port bytes head r = told (heard r.table port bytes head) (learns_of setup port head r)
+
+-- what an event comes to, but for snooping
+abbrev pub plan_of : Setup → Course → Event → Result Course Refusal
+plan_of setup r (Cmd c) = happens setup r (Cmd c)
+plan_of setup r (Moment now) = happens setup r (Moment now)
+plan_of setup r (Sight port bytes head) = Ok (learns_and_tells setup port bytes head r)
+plan_of setup r (Told vid mac port) = happens setup r (Told vid mac port)
+plan_of setup r (Forget triples) = happens setup r (Forget triples)

@@ -1,5 +1,9 @@
 -- Where a bridge stands: its table and its control state.
-use Rattle.br_model.specs.Control.{Control}
+use Rattle.std.specs.Prelude.{ℕ, List}
+use Rattle.br_model.specs.declared.bpdu.BpduMsg.{BpduMsg}
+use Rattle.br_model.specs.declared.change.Change.{Change}
+use Rattle.br_model.specs.Control.{Control, ends_with, keeps_up}
+use Rattle.br_model.specs.Course.{Course}
 use Rattle.br_model.specs.Table.{Table, with_addresses}
 use Rattle.bridge_core.specs.declared.state.Clock.{Clock}
 use Rattle.bridge_core.specs.declared.state.State.{State}
@@ -8,7 +12,15 @@ abbrev pub table_of : State → Table
 table_of s = with_addresses s.ports s.addresses.addr
 
 abbrev pub control_of : State → Control
-control_of s = record { now = s.clock.now; ageing = s.clock.ageing; updated = s.addresses.updated; tree = s.tree }
+control_of s = record { now = s.clock.now; ageing = s.clock.ageing; updated = s.addresses.updated; ends = s.groups; tree = s.tree }
+
+-- the course that has come so far, by these changes and messages
+abbrev pub course_of : State → List Change → List (ℕ × BpduMsg) → Course
+course_of s changes messages = record { table = table_of s; control = control_of s; changes = changes; messages = messages }
+
+-- the control state after a change that moves no end
+abbrev pub places : Control → Change → Control
+places c d = ends_with (keeps_up c d) c.ends
 
 -- the control state at this moment, with this ageing time
 abbrev pub clocked : Clock → Control → Control

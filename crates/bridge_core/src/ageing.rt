@@ -9,6 +9,7 @@ ghost use Rattle.br_model.specs.TreeReaction.{told as tells_it};
 ghost use Rattle.bridge_core.specs.Plans.{Plans};
 ghost use Rattle.bridge_core.specs.Standing.{table_of, control_of};
 
+use crate::ending::add_endings;
 use crate::faults::EventFault;
 use crate::plan::Plan;
 use crate::state::{Clock, State};
@@ -21,7 +22,8 @@ use fdb_core::Key;
 use std::alloc::Global;
 use stp_core::Tree;
 
-/// What the moment comes to: what is old by then is forgotten, and then the spanning tree does what is due.
+/// What the moment comes to: what is old by then is forgotten, what ends by then ends, and then the spanning tree does what is
+/// due.
 pub fn passes_to(alloc: Global, state: &State, now: u64) -> Result<Plan, EventFault>
     requires { now < 2 ^ 53 }
     ensures { Plans (table_of state.now) (control_of state.now) result (passes_to now (from (table_of state.now) (control_of state.now))) }
@@ -29,13 +31,15 @@ pub fn passes_to(alloc: Global, state: &State, now: u64) -> Result<Plan, EventFa
     if now < state.clock.now {
         return Err(EventFault::Refused(Refusal::Backward));
     }
+    let mut changes = forgets_old(alloc, state, now)?;
+    add_endings(alloc, &state.groups, now, &mut changes)?;
     Ok(Plan {
         clock: Clock {
             now,
             ageing: state.clock.ageing,
         },
         renewed: None,
-        changes: forgets_old(alloc, state, now)?,
+        changes,
         told: due(&state.tree, now),
     })
 }

@@ -9,6 +9,7 @@ ghost use Rattle.std.specs.Prelude.{◌≡◌, ◌<◌, ◌^◌};
 
 mod addresses;
 mod drops;
+mod groups;
 mod ports;
 mod spanning_tree;
 mod vlans;
@@ -20,6 +21,8 @@ use crate::state::{Clock, State};
 use addresses::{fdb_add, fdb_del};
 use br_model::change::Change;
 use br_model::steps::Command;
+use groups::{mdb_add, mdb_del, snooping};
+pub use ports::flags_of;
 use ports::{link, port_down, port_up};
 use spanning_tree::{rank, stp};
 use std::alloc::Global;
@@ -59,9 +62,12 @@ fn command(alloc: Global, state: &State, command: &Command) -> Result<Vec<Change
             kind,
         } => fdb_add(alloc, state, vid, mac, port, kind),
         Command::FdbDel { vid, mac } => fdb_del(alloc, state, vid, mac),
+        Command::MdbAdd { port, vid, group } => mdb_add(alloc, state, port, vid, group),
+        Command::MdbDel { port, vid, group } => mdb_del(alloc, state, port, vid, group),
         Command::Cost { port, .. } | Command::PortPriority { port, .. } => rank(alloc, state, port),
         Command::Stp(on) => stp(alloc, state, on),
         Command::Priority(_) | Command::Ageing(_) => Ok(Vec::new(alloc)),
+        Command::Snooping(on) => snooping(alloc, state, on),
     }
 }
 
@@ -80,6 +86,9 @@ fn sets(state: &State, command: &Command) -> Clock
         | Command::FdbAdd { .. }
         | Command::FdbDel { .. }
         | Command::Stp(_)
+        | Command::MdbAdd { .. }
+        | Command::MdbDel { .. }
+        | Command::Snooping(_)
         | Command::Priority(_) => state.clock,
         Command::Ageing(seconds) => Clock {
             now: state.clock.now,

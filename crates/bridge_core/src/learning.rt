@@ -1,9 +1,13 @@
 //! What a frame teaches: behind which port its source is.
-ghost use Rattle.std.specs.Prelude.{◌≡◌, ◌==◌, ◌<◌, ◌^◌, ℕ, None, Some, Ok, IfOk, [], ◌∷◌};
+ghost use Rattle.std.specs.Prelude.{◌≡◌, ◌==◌, ◌<◌, ◌^◌, ℕ, None, Some, Ok, IfOk, [], ◌∷◌, true};
 ghost use Rattle.br_model.specs.declared.change.Change.TheVariants.{AddrPut};
 ghost use Rattle.br_model.specs.Course.{from, makes_all};
 ghost use Rattle.br_model.specs.Learning.{teach, is_reserved, told};
-ghost use Rattle.br_model.specs.Reaction.{learns, sees};
+ghost use Rattle.br_model.specs.Reaction.{learns};
+ghost use Rattle.br_model.specs.TreeReaction.{heard};
+ghost use Rattle.br_model.specs.Change.{deferred};
+ghost use Rattle.std.specs.List.{list_all};
+ghost use Rattle.bridge_core.specs.Plans.{learns_and_tells};
 ghost use Rattle.bridge_core.specs.Lessons.{lesson_of, is_taken};
 ghost use Rattle.bridge_core.specs.Plans.{Plans};
 ghost use Rattle.bridge_core.specs.Standing.{table_of, control_of};
@@ -113,7 +117,10 @@ fn puts(
 /// What it comes to that the address is seen behind the port.
 fn learns(alloc: Global, state: &State, port: Port, vid: Vid, mac: Mac) -> Result<Plan, EventFault>
     requires { state.now.clock.now < 2 ^ 53 }
-    ensures { Plans (table_of state.now) (control_of state.now) result (Ok (learns port (Some (vid, mac)) (from (table_of state.now) (control_of state.now)))) }
+    ensures told { IfOk result (λ plan. plan.told ≡ None) }
+    ensures clock { IfOk result (λ plan. plan.clock ≡ state.now.clock) }
+    ensures addresses { IfOk result (λ plan. list_all deferred plan.changes.items ≡ true) }
+    ensures plans { Plans (table_of state.now) (control_of state.now) result (Ok (learns port (Some (vid, mac)) (from (table_of state.now) (control_of state.now)))) }
 {
     match lesson_of(state, vid, mac, port) {
         Lesson::Known => Ok(Plan::nothing(alloc, state.clock)),
@@ -127,7 +134,7 @@ fn learns(alloc: Global, state: &State, port: Port, vid: Vid, mac: Mac) -> Resul
     }
 }
 
-/// What the sight of a frame comes to that software sent. A message for the spanning tree teaches nothing.
+/// What the sight of a frame comes to that software sent, but for snooping. A message for the spanning tree teaches nothing.
 pub fn sees(
     alloc: Global,
     domains: &Domains,
@@ -137,7 +144,10 @@ pub fn sees(
     head: &Head,
 ) -> Result<Plan, EventFault>
     requires { state.now.clock.now < 2 ^ 53 }
-    ensures { (own : ℕ) → Plans (table_of state.now) (control_of state.now) result (Ok (sees (record { domains = domains.now; own = own }) port bytes.now head.now (from (table_of state.now) (control_of state.now)))) }
+    ensures plans { (own : ℕ) → Plans (table_of state.now) (control_of state.now) result (Ok (learns_and_tells (record { domains = domains.now; own = own }) port bytes.now head.now (from (table_of state.now) (control_of state.now)))) }
+    ensures told { IfOk result (λ plan. plan.told ≡ heard (table_of state.now) port bytes.now head.now) }
+    ensures clock { IfOk result (λ plan. plan.clock ≡ state.now.clock) }
+    ensures addresses { IfOk result (λ plan. list_all deferred plan.changes.items ≡ true) }
 {
     let told = heard(state, port, bytes, head);
     if told.is_some() {

@@ -7,9 +7,11 @@ mod addresses;
 mod ageing;
 pub mod bridge;
 mod commands;
+mod ending;
 mod faults;
 mod learning;
 mod plan;
+mod snooping;
 mod spanning_tree;
 mod state;
 

@@ -37,6 +37,9 @@ pub fn tells(state: &State, command: &Command) -> Option<TreeEvent>
         | Command::VlanDel { .. }
         | Command::FdbAdd { .. }
         | Command::FdbDel { .. }
+        | Command::MdbAdd { .. }
+        | Command::MdbDel { .. }
+        | Command::Snooping(_)
         | Command::Stp(_)
         | Command::Ageing(_) => None,
     }

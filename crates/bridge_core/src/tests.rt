@@ -6,6 +6,7 @@ use crate::{Bridge, EventFault};
 use br_model::bytes::Bytes;
 use br_model::change::{Flags, Kind};
 use br_model::domains::Domains;
+use br_model::group::Ip;
 use br_model::numbers::{Dom, Mac, Port, Vid};
 use br_model::steps::{Command, Event, Refusal};
 use ether_frames::parse;
@@ -23,6 +24,10 @@ enum Happening {
     Left(u8, u16),
     Added(u8, u8, u16, Kind),
     Deleted(u8),
+    /// The port, the VLAN and the address of the group.
+    Grouped(u8, u16, Ip),
+    Ungrouped(u8, u16, Ip),
+    Snooped(bool),
     Aged(u32),
     Waited(u32),
     Seen(u8, u8),
@@ -62,6 +67,22 @@ fn left(number: u8, vlan: u16) -> Result<Command, Fail> {
     Ok(Command::VlanDel {
         port: port(number)?,
         vid: vid(vlan)?,
+    })
+}
+
+fn grouped(number: u8, vlan: u16, group: Ip) -> Result<Command, Fail> {
+    Ok(Command::MdbAdd {
+        port: port(number)?,
+        vid: vid(vlan)?,
+        group,
+    })
+}
+
+fn ungrouped(number: u8, vlan: u16, group: Ip) -> Result<Command, Fail> {
+    Ok(Command::MdbDel {
+        port: port(number)?,
+        vid: vid(vlan)?,
+        group,
     })
 }
 
@@ -105,6 +126,9 @@ fn event(alloc: Global, happening: Happening) -> Result<Event, Fail>
             vid: Vid::DEFAULT,
             mac: mac_of(mac),
         })),
+        Happening::Grouped(at, vlan, group) => Ok(Event::Cmd(grouped(at, vlan, group)?)),
+        Happening::Ungrouped(at, vlan, group) => Ok(Event::Cmd(ungrouped(at, vlan, group)?)),
+        Happening::Snooped(on) => Ok(Event::Cmd(Command::Snooping(on))),
         Happening::Aged(seconds) => Ok(Event::Cmd(Command::Ageing(seconds))),
         Happening::Waited(now) => Ok(Event::Moment(u64::from(now))),
         Happening::Seen(mac, at) => sight(alloc, mac, at),
@@ -230,6 +254,68 @@ fn chip_ports_and_what_goes(rt: HostRuntime) -> Result<(), Fail> {
         (Happening::Left(2, 10), Err(Refusal::Absent)),
     ];
     play(&rt, rt.alloc(), &mut bridge, &steps)
+}
+
+/// 239.0.0.0 and the number.
+fn group(number: u16) -> Ip {
+    Ip::V4(0xEF00_0000 + u32::from(number))
+}
+
+/// Members of groups by command: which addresses are groups', and the order of refusals.
+#[test]
+fn groups_by_command(rt: HostRuntime) -> Result<(), Fail> {
+    let mut bridge = of_three_ports(rt.alloc(), 0)?;
+    play(&rt, rt.alloc(), &mut bridge, &UP)?;
+    let station = Ip::V4(0x0A00_0001);
+    let all_nodes = Ip::V6(0xFF02_0000_0000_0000_0000_0000_0000_0001);
+    let steps = [
+        (Happening::Grouped(1, 1, group(0)), Ok(1)),
+        (Happening::Grouped(1, 1, group(0)), Err(Refusal::Exists)),
+        (Happening::Grouped(2, 7, station), Err(Refusal::NotAGroup)),
+        (
+            Happening::Grouped(1, 1, Ip::V4(0xE000_00FF)),
+            Err(Refusal::NotAGroup),
+        ),
+        (Happening::Grouped(1, 1, Ip::V4(0xE000_0100)), Ok(1)),
+        (Happening::Grouped(0, 1, all_nodes), Err(Refusal::NotAGroup)),
+        (Happening::Grouped(2, 7, group(0)), Err(Refusal::NotMember)),
+        (Happening::Ungrouped(2, 7, station), Err(Refusal::NotAGroup)),
+        (Happening::Ungrouped(2, 7, group(0)), Err(Refusal::Absent)),
+        (Happening::Ungrouped(1, 1, group(0)), Ok(1)),
+        (Happening::Ungrouped(1, 1, group(0)), Err(Refusal::Absent)),
+        (Happening::Snooped(true), Ok(0)),
+        (Happening::Snooped(false), Ok(1)),
+        (Happening::Waited(4_000_000), Ok(0)),
+        (Happening::Down(3), Ok(2)),
+        (Happening::Grouped(3, 1, station), Err(Refusal::PortNotUp)),
+        (Happening::Ungrouped(3, 1, station), Err(Refusal::PortNotUp)),
+        (Happening::Down(1), Ok(3)),
+    ];
+    play(&rt, rt.alloc(), &mut bridge, &steps)?;
+    assert!(rt; bridge.history().len() == 18 && bridge.pending() == 0);
+    Ok(())
+}
+
+/// The 1,025th pair of VLAN and group is refused; a pair that is there may have more members.
+#[test]
+fn no_more_than_1024_pairs(rt: HostRuntime) -> Result<(), Fail> {
+    let alloc = rt.alloc();
+    let mut bridge = of_three_ports(alloc, 0)?;
+    play(&rt, alloc, &mut bridge, &UP)?;
+    for number in 0..1024u16 {
+        let joined = Event::Cmd(grouped(1, 1, group(number))?);
+        assert!(rt; answer(alloc, &mut bridge, &joined)? == Ok(1));
+    }
+    let steps = [
+        (
+            Happening::Grouped(1, 1, group(1024)),
+            Err(Refusal::GroupsFull),
+        ),
+        (Happening::Grouped(2, 1, group(1023)), Ok(1)),
+        (Happening::Ungrouped(1, 1, group(0)), Ok(1)),
+        (Happening::Grouped(1, 1, group(1024)), Ok(1)),
+    ];
+    play(&rt, alloc, &mut bridge, &steps)
 }
 
 #[test]

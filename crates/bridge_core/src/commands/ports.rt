@@ -63,7 +63,7 @@ pub fn port_down(alloc: Global, state: &State, port: Port) -> Result<Vec<Change>
 }
 
 /// The flags of the port, none where it has none.
-fn flags_of(state: &State, port: Port) -> u8
+pub fn flags_of(state: &State, port: Port) -> u8
     ensures value { result ≡ flags_of (table_of state.now) port }
     ensures below { result < 64 }
 {

@@ -11,8 +11,8 @@ use Rattle.bridge_core.specs.Standing.{table_of, control_of, clocked}
 use Rattle.bridge_core.proofs.Reactions.{makes, learns_known, learns_renewed, learns_news, fits_news, is_there, put_of}
 use Rattle.bridge_core.proofs.learning.learns.Goals as goal
 
-pub returns-in-Known : goal.returns-in-Known
-returns-in-Known c =
+pub returns-in-Known-clause-plans : goal.returns-in-Known-clause-plans
+returns-in-Known-clause-plans c =
     let t = table_of c.args.state.now in
     let control = control_of c.args.state.now in
     let key : Address = (c.args.vid, c.args.mac) in
@@ -20,8 +20,8 @@ returns-in-Known c =
     makes t control c.nothing.result _ [] (subst (λ (x : Clock). x.now < 2 ^ 53) (sym is.clock) c.requires) (ap (λ (x : Clock). clocked x control) is.clock) is.renewed is.changes is.told refl
     (learns_known t control key c.args.port c.in-Known.ensures)
 
-pub returns-in-Renewed : goal.returns-in-Renewed
-returns-in-Renewed c =
+pub returns-in-Renewed-clause-plans : goal.returns-in-Renewed-clause-plans
+returns-in-Renewed-clause-plans c =
     let t = table_of c.args.state.now in
     let control = control_of c.args.state.now in
     let key : Address = (c.args.vid, c.args.mac) in (
@@ -36,8 +36,8 @@ returns-in-Renewed c =
     yes : Course → Result Course Refusal
     yes x = Ok x
 
-pub returns-in_ok-puts-in-News : goal.returns-in_ok-puts-in-News
-returns-in_ok-puts-in-News c =
+pub returns-in_ok-puts-in-News-clause-plans : goal.returns-in_ok-puts-in-News-clause-plans
+returns-in_ok-puts-in-News-clause-plans c =
     let t = table_of c.args.state.now in
     let control = control_of c.args.state.now in
     let key : Address = (c.args.vid, c.args.mac) in

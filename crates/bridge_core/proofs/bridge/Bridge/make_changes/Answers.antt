@@ -12,9 +12,11 @@ use Rattle.br_model.specs.Table.{Table, table, start, apply}
 use Rattle.bridge_core.specs.Kept.{Controlled}
 use Rattle.br_model.specs.Maps.{pair_cmp, get}
 use Rattle.bridge_core.specs.Plans.{renewed_at}
-use Rattle.bridge_core.specs.Standing.{clocked}
+use Rattle.br_model.specs.Ends.{Ends}
+use Rattle.br_model.specs.EndsTied.{IsTied}
+use Rattle.bridge_core.specs.Standing.{clocked, table_of}
 use Rattle.bridge_core.proofs.Fitting.{fit_behind}
-use Rattle.bridge_core.proofs.Reactions.{same_clock, renewed_clock}
+use Rattle.bridge_core.proofs.Reactions.{same_clock, renewed_clock, renewed_ends}
 use Rattle.bridge_core.proofs.bridge.Bridge.make_changes.Goals as goal
 
 pub overflow_cast-self : goal.overflow_cast-self
@@ -42,10 +44,19 @@ prepare-requires c =
     (sym (c.self.invariant.0 ∙ ap (λ (b : Controlled). table b.history) c.self.view_is))
     c.requires.there
 
-pub follow-requires : goal.follow-requires
-follow-requires c =
+pub follow-requires-clause-fits : goal.follow-requires-clause-fits
+follow-requires-clause-fits c =
     ap (λ (t : Table). all_fit t c.args.changes.now) (c.prepare.ensures.table ∙ c.self.invariant.0 ∙ ap (λ (b : Controlled). table b.history) c.self.view_is)
     ∙ c.requires.fits
+
+pub follow-requires-clause-tied : goal.follow-requires-clause-tied
+follow-requires-clause-tied c =
+    subst (λ (t : Table). IsTied t c.prepare.new.self.groups) (sym c.prepare.ensures.table)
+    (subst (λ (e : Ends). IsTied (table_of c.self.inside.state) e) (sym (ap (λ (k : Control). k.ends) c.prepare.ensures.control ∙ renewed_ends _ c.args.renewed)) c.self.invariant.5)
+
+pub follow-requires-clause-early : goal.follow-requires-clause-early
+follow-requires-clause-early c =
+    subst (λ (n : ℕ). n < 2 ^ 53) (sym (ap (λ (k : Control). k.now) c.prepare.ensures.control ∙ renewed_clock _ c.args.renewed)) c.requires.early
 
 pub returns : goal.returns
 returns c =
@@ -74,4 +85,5 @@ invariant_of-self-2 c =
       omega (arith, c.if-changes-len.false, kept.2, c.len.ensures, ap length grows, length-append old new),
       ap (all_fit start) grows ∙ fit_behind start old new kept.3 fit,
       subst (λ (n : ℕ). n < 2 ^ 53) (sym (ap (λ (x : Control). x.now) c.follow.ensures.control ∙ same_clock _ new ∙ ap (λ (x : Control). x.now) c.prepare.ensures.control ∙ renewed_clock _ c.args.renewed)) c.requires.early,
+      c.follow.ensures.tied,
     )

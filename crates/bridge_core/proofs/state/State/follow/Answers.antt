@@ -6,8 +6,8 @@ use Rattle.bridge_core.specs.Standing.{table_of}
 use Rattle.br_model.proofs.Within.{fits_at}
 use Rattle.bridge_core.proofs.state.State.follow.Goals as goal
 
-pub apply-requires : goal.apply-requires
-apply-requires c =
+pub apply-requires-clause-fits : goal.apply-requires-clause-fits
+apply-requires-clause-fits c =
     ap (λ (t : Table). fits t c.change-item.result) c.loop-change.invariant.table
     ∙ ap (λ (x : Change). fits (fold apply (table_of c.args.self.now) (take c.loop-change.change-index c.args.changes.now)) x) c.change-item.is
-    ∙ fits_at (table_of c.args.self.now) c.args.changes.now c.loop-change.change-index c.change-item.result c.requires c.loop-change-test.true
+    ∙ fits_at (table_of c.args.self.now) c.args.changes.now c.loop-change.change-index c.change-item.result c.requires.fits c.loop-change-test.true

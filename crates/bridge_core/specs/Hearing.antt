@@ -1,0 +1,88 @@
+-- What a message of IGMP or MLD does to a course of which these are the ends.
+use Rattle.std.specs.Prelude.{ℕ, ◌≡◌, true, not, List, [], ◌∷◌, ◌++◌}
+use Rattle.std.specs.List.{fold, list_all}
+use Rattle.std.specs.declared.option.Option.{Option}
+use Rattle.std.specs.declared.option.Option.TheVariants.{None, Some}
+use Rattle.br_model.specs.declared.change.Change.{Change}
+use Rattle.br_model.specs.declared.change.Change.TheVariants.{PortUp, PortDown, SetFlags, SetState, VlanAdd, VlanDel, GroupJoin, GroupPart, Router, Querier, Snoop, Stp, AddrPut, AddrDel}
+use Rattle.br_model.specs.declared.frame.McastMsg.{McastMsg}
+use Rattle.br_model.specs.declared.frame.McastMsg.TheVariants.{Plain, Payload, Query, Report, Leave, Records, Unrecognized}
+use Rattle.br_model.specs.Change.{deferred}
+use Rattle.br_model.specs.Control.{ends_with}
+use Rattle.br_model.specs.Course.{Course}
+use Rattle.br_model.specs.Ends.{Ends, keys}
+use Rattle.br_model.specs.EndsTied.{IsTied}
+use Rattle.br_model.specs.GroupPairs.{has_room}
+use Rattle.br_model.specs.Limits.{all_fit}
+use Rattle.br_model.specs.Snooping.{fastleave, said}
+use Rattle.br_model.specs.Table.{apply}
+use Rattle.br_model.specs.Targets.{has_flag}
+use Rattle.bridge_core.specs.declared.snooping.Speaker.{Speaker}
+use Rattle.bridge_core.specs.declared.state.State.{State}
+use Rattle.bridge_core.specs.Standing.{table_of}
+
+-- The course stands where the speaker is heard, with these ends.
+pub record Hears (s : Speaker) (e : Ends) (r : Course) : Type 0 where
+  pub tied : IsTied r.table e
+  pub ends : r.control.ends ≡ e
+  pub now : r.control.now ≡ s.moment
+  pub leaves : has_flag r.table s.port fastleave ≡ s.fastleave
+
+-- The course goes on by these changes, which fit, and then has these ends.
+pub record GoesOn (r next : Course) (e : Ends) (made : List Change) : Type 0 where
+  pub table : next.table ≡ fold apply r.table made
+  pub control : next.control ≡ ends_with r.control e
+  pub changes : next.changes ≡ r.changes ++ made
+  pub messages : next.messages ≡ r.messages
+  pub fits : all_fit r.table made ≡ true
+  -- none is of an address
+  pub prompt : list_all (λ c. not (deferred c)) made ≡ true
+
+-- Each course that hears the speaker goes on so.
+abbrev pub Leads : Speaker → Ends → Ends → List Change → (Course → Course) → Type 0
+Leads s old new made does = (r : Course) → Hears s old r → GoesOn r (does r) new made × Hears s new (does r)
+
+abbrev pub list_of : Option Change → List Change
+list_of None = []
+list_of (Some c) = c ∷ []
+
+-- These changes were added, and so it leads.
+abbrev pub Adds : Speaker → Ends → Ends → List Change → List Change → (Course → Course) → Type 0
+Adds s old new before after does = (made : List Change) × (after ≡ before ++ made) × Leads s old new made does
+
+-- how many changes the message makes at most
+abbrev pub most : McastMsg → ℕ
+most Plain = 0
+most (Payload group) = 0
+most (Query six counted) = 2
+most (Report group) = 1
+most (Leave group) = 1
+most (Records six first count) = count
+most Unrecognized = 0
+
+-- The speaker speaks now, by the flag of its port.
+pub record IsHeard (state : State) (s : Speaker) : Type 0 where
+  pub now : s.moment ≡ state.clock.now
+  pub leaves : has_flag (table_of state) s.port fastleave ≡ s.fastleave
+
+-- there is room for the membership that the change makes, if it makes one
+abbrev pub HasRoom : Ends → Change → Type 0
+HasRoom e (PortUp port) = Unit {0}
+HasRoom e (PortDown port) = Unit {0}
+HasRoom e (SetFlags port flags) = Unit {0}
+HasRoom e (SetState port state) = Unit {0}
+HasRoom e (VlanAdd port vid untagged pvid) = Unit {0}
+HasRoom e (VlanDel port vid) = Unit {0}
+HasRoom e (GroupJoin port vid group) = has_room (keys e.groups) vid group ≡ true
+HasRoom e (GroupPart port vid group) = Unit {0}
+HasRoom e (Router port on) = Unit {0}
+HasRoom e (Querier six on) = Unit {0}
+HasRoom e (Snoop on) = Unit {0}
+HasRoom e (Stp on) = Unit {0}
+HasRoom e (AddrPut vid mac port kind) = Unit {0}
+HasRoom e (AddrDel vid mac) = Unit {0}
+
+-- what the frame's message does, where somebody says it
+abbrev pub snoops_by : Option Speaker → List ℕ → McastMsg → Course → Course
+snoops_by None bytes m r = r
+snoops_by (Some s) bytes m r = said s.port s.vid bytes m r
