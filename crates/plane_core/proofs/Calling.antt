@@ -12,6 +12,7 @@ use Rattle.br_model.specs.declared.transcript.Line.TheVariants as lines
 use Rattle.br_model.specs.Chip.{applies}
 use Rattle.br_model.specs.Cut.{deferred_at}
 use Rattle.br_model.specs.Maps.{has}
+use Rattle.br_model.specs.Messages.{message}
 use Rattle.br_model.specs.Plane.ChipSteps.{turns}
 use Rattle.br_model.specs.Plane.Invariants.{IsWorld}
 use Rattle.br_model.specs.Plane.Serving.{posts, serves, holds, held_with, lets_go, is_point, posts_at}
@@ -19,7 +20,6 @@ use Rattle.br_model.specs.Plane.Steps.{Step, Cmd, Now, Serve, Hold, Post, Turn, 
 use Rattle.br_model.specs.Plane.World.{World, Waiting, Holding, Stepped, answered, reacts, refused, done}
 use Rattle.br_model.specs.Setup.{Setup}
 use Rattle.br_model.specs.Table.{table}
-use Rattle.br_model.specs.declared.frame.McastMsg.TheVariants.{Plain}
 use Rattle.table_publish.specs.Board.{Decides}
 use Rattle.table_publish.specs.Object.{Whose}
 use Rattle.table_publish.specs.declared.seat.Seen.{Seen}
@@ -117,10 +117,10 @@ held_there old s q n id x was found = ap (λ (o : PlaneState). held_with o.world
 
 -- what is asked of a decision, in the plane's sides
 pub decided : (old : PlaneState) (s : SidesState) (q : Queued) (n : ℕ) (x : Holding) (f : Waiting) (seen : Seen) → record { world = world_of s q n; board = s.board } ≡ old → f ≡ x.waiting
-    → IsDecision old.world x seen → Decides s.setup.domains (table (take seen.point s.history)) f.port f.head Plain seen.verdict
+    → IsDecision old.world x seen → Decides s.setup.domains (table (take seen.point s.history)) f.port f.head (message f.bytes f.head) seen.verdict
 decided old s q n x f seen was same is =
     let by : IsDecision (world_of s q n) x seen = subst (λ (o : PlaneState). IsDecision o.world x seen) (sym was) is in
-    subst (λ (g : Waiting). Decides s.setup.domains (table (take seen.point s.history)) g.port g.head Plain seen.verdict) (sym same) by.verdict
+    subst (λ (g : Waiting). Decides s.setup.domains (table (take seen.point s.history)) g.port g.head (message g.bytes g.head) seen.verdict) (sym same) by.verdict
 
 pub posts_one : (old : PlaneState) (s t : SidesState) (q r : Queued) (n m : ℕ) (h : Held) (x : Holding) (f : Waiting) (seen : Seen) (lines : List Line)
     → record { world = world_of s q n; board = s.board } ≡ old → find (λ g. g.waiting.id == h.id) q.held ≡ Some x → shown_by h ≡ shown_of x → f ≡ x.waiting

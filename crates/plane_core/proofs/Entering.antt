@@ -6,7 +6,6 @@ use Rattle.std.specs.declared.result.Result.TheVariants.{Ok}
 use Rattle.br_model.specs.declared.frame.Class.{Class}
 use Rattle.br_model.specs.declared.frame.Class.TheVariants.{Drop, Trap, Copy, Forward}
 use Rattle.br_model.specs.declared.frame.Head.{Head}
-use Rattle.br_model.specs.declared.frame.McastMsg.TheVariants.{Plain}
 use Rattle.br_model.specs.declared.transcript.Line.{Line}
 use Rattle.br_model.specs.declared.transcript.Line.TheVariants.{Chip}
 use Rattle.br_model.specs.Chip.{Chip as ChipValue, hits_entry, offers}
@@ -15,6 +14,7 @@ use Rattle.br_model.specs.Domains.{domain_of, chip}
 use Rattle.br_model.specs.Frames.{frame}
 use Rattle.br_model.specs.Learning.{Address}
 use Rattle.br_model.specs.Limits.{most_waiting}
+use Rattle.br_model.specs.Messages.{message}
 use Rattle.br_model.specs.Plane.Entering.{waits, goes_on, enters_as, enters_chip, class_of}
 use Rattle.br_model.specs.Plane.Steps.{Rx, world_step}
 use Rattle.br_model.specs.Plane.World.{World, Waiting, Stepped, sent, after_lines}
@@ -76,7 +76,7 @@ module _ (s : SidesState) (q : Queued) (n port : ℕ) (bytes : List ℕ) (head :
   noted c kept = after_lines (of_chip c)
       (goes_on c (counted (noting s kept) q (n + 1)) (record entering { mark = mark_of c s.setup.domains port }))
 
-  pub enters_by_chip : is_in_domain s.setup.domains chip port ≡ true → (p : Passed) → IsPass s.setup.domains (chip_side s) port head Plain p
+  pub enters_by_chip : is_in_domain s.setup.domains chip port ≡ true → (p : Passed) → IsPass s.setup.domains (chip_side s) port head (message bytes head) p
       → world_step (world_of s q n) (Rx port bytes)
       ≡ (
         world_of (record s { chip = hits_entry p.hit (offers port p.report s.chip) }) (settled q (arrival_by p.class (world_of s q n) port bytes head)) (n + 1),

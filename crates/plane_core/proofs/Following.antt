@@ -1,7 +1,7 @@
 -- A driver that follows a history: what it is asked to take is taken, and its rows stand for the cut after each change and each turn.
 use Rattle.std.proofs.Common.{◌≡◌, ℕ, ◌+◌, ◌<◌, ◌≤◌, true, false, List, [], ◌∷◌, ◌++◌, length, take, drop, get_or, Option, None, Some, option_map, slice_get, refl, sym, ap, ◌∙◌, arith, subst}
 use Rattle.std.proofs.lemmas.Bool.{leb-true}
-use Rattle.std.proofs.lemmas.List.{take_more, take-append-drop, length-map}
+use Rattle.std.proofs.lemmas.List.{take_more, take-append-drop}
 use Rattle.std.proofs.lemmas.List.Sums.{length-filter, count_by-le-length}
 use Rattle.std.specs.Prelude.{IsTrue, if◌then◌else◌}
 use Rattle.br_model.specs.declared.change.Change.{Change}
@@ -14,13 +14,9 @@ use Rattle.br_model.specs.Domains.{Domains}
 use Rattle.br_model.specs.GroupPairs.{has_room}
 use Rattle.br_model.specs.Groups.{Membership}
 use Rattle.br_model.specs.Limits.{fits, most_addresses, AreWithin}
-use Rattle.br_model.specs.Maps.{pair_cmp, put, without}
 use Rattle.br_model.specs.Table.{Table, apply, table}
 use Rattle.br_model.proofs.ApplyingLaws.{deferred_count-append}
 use Rattle.br_model.proofs.Cuts.{cut-one, cut-turn, table-cut, addr-within, deferred_at-deferred, updates-at, updates-named}
-use Rattle.chip_tables.specs.declared.rows.AddressRow.{AddressRow}
-use Rattle.chip_tables.specs.Rows.{max_addresses}
-use Rattle.chip_tables.specs.Stands.{address_wanted}
 use Rattle.chip_driver.specs.Drives.{Driven, Drives, IsTaken}
 use Rattle.chip_driver.proofs.Taking.{taken}
 use Rattle.plane_core.specs.Chips.{ChipState, Turns}

@@ -8,7 +8,6 @@ use Rattle.std.proofs.lemmas.Simd.{map-map}
 use Rattle.br_model.specs.declared.frame.Class.{Class}
 use Rattle.br_model.specs.declared.frame.Class.TheVariants.{Drop, Trap, Copy, Forward}
 use Rattle.br_model.specs.declared.frame.Head.{Head}
-use Rattle.br_model.specs.declared.frame.McastMsg.TheVariants.{Plain}
 use Rattle.br_model.specs.declared.transcript.Line.{Line}
 use Rattle.br_model.specs.declared.transcript.Line.TheVariants.{Tx}
 use Rattle.br_model.specs.Admission.{admit}
@@ -18,6 +17,7 @@ use Rattle.br_model.specs.Domains.{Domains, foreign}
 use Rattle.br_model.specs.Eligible.{untagged}
 use Rattle.br_model.specs.Frames.{dressed}
 use Rattle.br_model.specs.Leave.{leave, ports_out, dressed_in, tag_at}
+use Rattle.br_model.specs.Messages.{message}
 use Rattle.br_model.specs.Plane.World.{sent}
 use Rattle.br_model.specs.Shares.{chip_out, chip_out_by, soft_out, remaining}
 use Rattle.br_model.specs.Table.{Table}
@@ -112,7 +112,7 @@ module _ (t : Table) (id : ℕ) (bytes : List ℕ) (head : Head) where
   chip_lines domains port Forward o whole = share_lines o (λ q. not (foreign domains port q)) whole
 
 module _ (domains : Domains) (t : Table) (port id : ℕ) (bytes : List ℕ) (head : Head) where
-  pub sent_by : (v : Verdict) (mark : Option ℕ) (ports : List ℕ) → Decides domains t port head Plain v → ports ≡ filter (λ q. not (is_marked domains mark q)) v.ports
+  pub sent_by : (v : Verdict) (mark : Option ℕ) (ports : List ℕ) → Decides domains t port head (message bytes head) v → ports ≡ filter (λ q. not (is_marked domains mark q)) v.ports
       → lines_in id bytes head v.vid ports v.untagged ≡ sent id (soft_out domains t port bytes head mark)
   unfolding leave
   sent_by v mark ports d is =
@@ -120,9 +120,9 @@ module _ (domains : Domains) (t : Table) (port id : ℕ) (bytes : List ℕ) (hea
       ∙ soft_lines t id bytes head v.vid (λ q. not (is_marked domains mark q)) v.ports
       ∙ ap₂ (λ (o : Option ℕ) ps. sent id (remaining domains mark (dressed_in t o ps bytes head))) d.vid d.ports
 
-  pub passed_by : (p : Passed) → IsPass domains t port head Plain p → lines_in id bytes head p.vid p.ports p.untagged ≡ sent id (chip_out domains t port bytes head)
+  pub passed_by : (p : Passed) → IsPass domains t port head (message bytes head) p → lines_in id bytes head p.vid p.ports p.untagged ≡ sent id (chip_out domains t port bytes head)
   unfolding leave
   passed_by p is =
       ap (λ set. lines_in id bytes head p.vid p.ports set) is.untagged
       ∙ ap₂ (λ (o : Option ℕ) ps. lines_in id bytes head o ps (untagged_at_chip t o ps)) is.vid is.ports
-      ∙ chip_lines t id bytes head domains port (class domains t port head Plain) (admit t port head) (ports_out t port head Plain)
+      ∙ chip_lines t id bytes head domains port (class domains t port head (message bytes head)) (admit t port head) (ports_out t port head (message bytes head))

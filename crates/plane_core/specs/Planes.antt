@@ -10,13 +10,13 @@ use Rattle.std.specs.declared.result.Result.TheVariants.{Ok, Err}
 use Rattle.br_model.specs.declared.change.Update.{Update}
 use Rattle.br_model.specs.declared.frame.FrameFault.{FrameFault}
 use Rattle.br_model.specs.declared.frame.Head.{Head}
-use Rattle.br_model.specs.declared.frame.McastMsg.TheVariants.{Plain}
 use Rattle.br_model.specs.declared.steps.Event.{Event}
 use Rattle.br_model.specs.declared.steps.Event.TheVariants as events
 use Rattle.br_model.specs.declared.transcript.Line.{Line}
 use Rattle.br_model.specs.Cut.{deferred_at}
 use Rattle.br_model.specs.DomainPorts.{is_in_domain}
 use Rattle.br_model.specs.Domains.{chip}
+use Rattle.br_model.specs.Messages.{message}
 use Rattle.br_model.specs.Plane.Serving.{held_with}
 use Rattle.br_model.specs.Plane.Steps.{Step, Cmd, Now, Post, Turn, world_step}
 use Rattle.br_model.specs.Plane.World.{World, Waiting, Holding, table_at, table_of_chip}
@@ -70,11 +70,11 @@ arrival_in w f = arrival (record { waiting = w.waiting; held = w.held; next = w.
 
 -- The pass by which a frame at the port of these bytes was decided: none where the port isn't the chip's or the bytes are no
 -- frame.
-abbrev pub IsDecidedBy : World → ℕ → Result Head FrameFault → Option Passed → Type 0
-IsDecidedBy w port (Err why) pass = pass ≡ None
-IsDecidedBy w port (Ok head) pass =
+abbrev pub IsDecidedBy : World → ℕ → List ℕ → Result Head FrameFault → Option Passed → Type 0
+IsDecidedBy w port bytes (Err why) pass = pass ≡ None
+IsDecidedBy w port bytes (Ok head) pass =
     MatchBool (is_in_domain w.setup.domains chip port)
-    ((p : Passed) × (pass ≡ Some p) × IsPass w.setup.domains (table_of_chip w) port head Plain p)
+    ((p : Passed) × (pass ≡ Some p) × IsPass w.setup.domains (table_of_chip w) port head (message bytes head) p)
     (pass ≡ None)
 
 -- what becomes of a frame at the port that the chip has put into this class
@@ -110,7 +110,7 @@ pub record IsCopy (w : World) (h : Held) (x : Holding) : Type 0 where
 -- What is asked of a decision of a held frame: its point was published, and it is that of the point's table.
 pub record IsDecision (w : World) (x : Holding) (seen : Seen) : Type 0 where
   pub point : has nat_cmp w.counts seen.point ≡ true
-  pub verdict : Decides w.setup.domains (table_at w seen.point) x.waiting.port x.waiting.head Plain seen.verdict
+  pub verdict : Decides w.setup.domains (table_at w seen.point) x.waiting.port x.waiting.head (message x.waiting.bytes x.waiting.head) seen.verdict
 
 -- what was held is handed back, and all is as before
 pub record IsBack (old new : PlaneState) (h given : Held) : Type 0 where

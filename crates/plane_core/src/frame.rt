@@ -1,29 +1,32 @@
 //! Frames that wait for software, or that it holds.
 ghost use Rattle.std.specs.Prelude.{◌≡◌, ◌↔◌, IsTrue, Ok};
 ghost use Rattle.br_model.specs.Frames.{frame as frame_of};
+ghost use Rattle.br_model.specs.Messages.{message as message_of};
 ghost use Rattle.hwdom_marks.specs.Marks.{domain_marked};
 ghost use Rattle.plane_core.specs.Shown.{shown_by, shown_of};
 
 use crate::held::Held;
 use br_model::bytes::Bytes;
-use br_model::frame::Head;
+use br_model::frame::{Head, McastMsg};
 use br_model::numbers::Port;
 use hwdom_marks::Mark;
 use std::marker::Model;
 
-/// A frame on its way to software, with the header of its bytes. Its mark names the domain in which a chip has sent it.
+/// A frame on its way to software, with the header of its bytes and what they say to snooping. Its mark names the domain in which a chip has sent it.
 #[derive(Drop)]
 pub struct Frame {
     id: u32,
     port: Port,
     bytes: Bytes,
     head: Head,
+    message: McastMsg,
     mark: Option<Mark>,
 }
 
 impl Model for Frame {
     ghost use Rattle.std.specs.Prelude.{◌≡◌, Ok};
     ghost use Rattle.br_model.specs.Frames.{frame as frame_of};
+    ghost use Rattle.br_model.specs.Messages.{message as message_of};
     ghost use Rattle.br_model.specs.Plane.World.{Waiting};
     ghost use Rattle.hwdom_marks.specs.Marks.{domain_marked};
 
@@ -31,12 +34,20 @@ impl Model for Frame {
 
     ghost view = { λ f. record { id = f.id; port = f.port; bytes = f.bytes; head = f.head; mark = domain_marked f.mark } };
 
-    ghost invariant = { λ f. frame_of f.bytes ≡ Ok f.head };
+    ghost invariant = { λ f. (frame_of f.bytes ≡ Ok f.head) × (f.message ≡ message_of f.bytes f.head) };
 }
 
 impl Frame {
-    pub fn of(id: u32, port: Port, bytes: Bytes, head: Head, mark: Option<Mark>) -> Frame
-        requires { frame_of bytes ≡ Ok head }
+    pub fn of(
+        id: u32,
+        port: Port,
+        bytes: Bytes,
+        head: Head,
+        message: McastMsg,
+        mark: Option<Mark>,
+    ) -> Frame
+        requires frame { frame_of bytes ≡ Ok head }
+        requires message { message ≡ message_of bytes head }
         ensures { result ≡ record { id = id; port = port; bytes = bytes; head = head; mark = domain_marked mark } }
     {
         Frame {
@@ -44,6 +55,7 @@ impl Frame {
             port,
             bytes,
             head,
+            message,
             mark,
         }
     }
@@ -72,6 +84,13 @@ impl Frame {
         ensures frame { frame_of self.now.bytes ≡ Ok self.now.head }
     {
         &self.head
+    }
+
+    /// What it says to snooping.
+    pub fn message(&self) -> &McastMsg
+        ensures { result.now ≡ message_of self.now.bytes self.now.head }
+    {
+        &self.message
     }
 
     pub fn mark(&self) -> Option<Mark>

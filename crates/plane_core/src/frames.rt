@@ -4,6 +4,7 @@ ghost use Rattle.std.specs.List.{filter, find};
 ghost use Rattle.std.specs.Option.{option_copied};
 ghost use Rattle.br_model.specs.Limits.{most_waiting};
 ghost use Rattle.br_model.specs.Frames.{frame as frame_of};
+ghost use Rattle.br_model.specs.Messages.{message as message_of};
 ghost use Rattle.hwdom_marks.specs.Marks.{domain_marked};
 ghost use Rattle.plane_core.specs.Queued.{Queued, holds_oldest};
 ghost use Rattle.plane_core.specs.Arrivals.{arrival, arrival_lines, settled, IsArrival};
@@ -11,7 +12,7 @@ ghost use Rattle.plane_core.specs.Arrivals.{arrival, arrival_lines, settled, IsA
 use crate::NoMemory;
 use crate::frame::{Frame, Holding};
 use br_model::bytes::Bytes;
-use br_model::frame::Head;
+use br_model::frame::{Head, McastMsg};
 use br_model::numbers::Port;
 use br_model::transcript::Line;
 use hwdom_marks::Mark;
@@ -115,16 +116,18 @@ impl Frames {
         port: Port,
         bytes: &[u8],
         head: &Head,
+        message: &McastMsg,
         mark: Option<Mark>,
     ) -> Result<Arrival, NoMemory>
-        requires { frame_of bytes.now ≡ Ok head.now }
+        requires frame { frame_of bytes.now ≡ Ok head.now }
+        requires message { message.now ≡ message_of bytes.now head.now }
         ensures { IfOk result (λ a. a ≡ arrival self.now (record { id = self.now.next; port = port; bytes = bytes.now; head = head.now; mark = domain_marked mark })) }
     {
         if self.is_full() {
             return Ok(Arrival::Overruns);
         }
         let bytes = Bytes::copy_of(alloc, bytes)?;
-        Ok(Arrival::Waits(Frame::of(self.next, port, bytes, *head, mark)))
+        Ok(Arrival::Waits(Frame::of(self.next, port, bytes, *head, *message, mark)))
     }
 
     /// The next id is taken by a frame that arrived.

@@ -1,7 +1,6 @@
 //! The kernel's side of a bridge and its chip together: each call is one step of the world.
 ghost use Rattle.std.specs.Prelude.{◌≡◌, ◌+◌, ◌<◌, ◌≤◌, ◌^◌, [], ◌∷◌, length, slice_get, true, false, None, Ok, IfOk, IfSome, IsSome, OnErr};
 ghost use Rattle.std.specs.Option.{option_map};
-ghost use Rattle.br_model.specs.declared.frame.McastMsg.TheVariants.{Plain};
 ghost use Rattle.br_model.specs.declared.transcript.Line.TheVariants as line;
 ghost use Rattle.br_model.specs.DomainPorts.{is_in_domain};
 ghost use Rattle.chip_pipeline.specs.Passed.{IsPass};
@@ -9,6 +8,7 @@ ghost use Rattle.table_publish.specs.declared.seat.Seen.{Seen as SeenValue};
 ghost use Rattle.br_model.specs.Change.{updates};
 ghost use Rattle.br_model.specs.Domains.{chip};
 ghost use Rattle.br_model.specs.Frames.{frame as frame_of};
+ghost use Rattle.br_model.specs.Messages.{message as message_of};
 ghost use Rattle.br_model.specs.Plane.Invariants.{IsWorld};
 ghost use Rattle.br_model.specs.Plane.Runs.{pending};
 ghost use Rattle.br_model.specs.Plane.Serving.{held_with};
@@ -28,13 +28,14 @@ use crate::sending::{Egress, send};
 use crate::sides::Sides;
 use br_model::change::{Change, Update};
 use br_model::domains::Domains;
-use br_model::frame::{Class, Head};
+use br_model::frame::{Class, Head, McastMsg};
 use br_model::numbers::{Dom, Mac, Port};
 use br_model::steps::{Event, Refusal};
 use br_model::transcript::{Line, Lines};
 use chip_pipeline::Pass;
 use ether_frames::parse;
 use hwdom_marks::Mark;
+use igmp_mld::classify;
 use std::alloc::{AllocError, Global};
 use std::marker::Model;
 use table_publish::{Board, Seat, Seen};
@@ -115,7 +116,7 @@ impl Plane {
     /// A frame of these bytes enters at the port. At a port of the chip the chip decides it, by its rows alone.
     pub fn enter(&mut self, alloc: Global, p: Port, b: &[u8]) -> Result<Entered, NoMemory>
         ensures step { IfOk result (λ e. Steps self.old self.new (Rx p b.now) e.lines) }
-        ensures pass { IfOk result (λ e. IsDecidedBy self.old.world p (frame_of b.now) e.pass) }
+        ensures pass { IfOk result (λ e. IsDecidedBy self.old.world p b.now (frame_of b.now) e.pass) }
         ensures err { OnErr result (self.new ≡ self.old) }
     {
         let step = next(self.steps)?;
@@ -151,7 +152,8 @@ impl Plane {
         ensures err { OnErr result (self.new ≡ self.old) }
     {
         let id = self.frames.next_id();
-        let arrival = self.frames.arrive(alloc, p, b, head, None)?;
+        let message = classify(b, head);
+        let arrival = self.frames.arrive(alloc, p, b, head, &message, None)?;
         let mut lines = Vec::new(alloc);
         arrival.tell(id, &mut lines)?;
         self.frames.settle(arrival);
@@ -170,17 +172,19 @@ impl Plane {
         p: Port,
         b: &[u8],
         head: &Head,
+        message: &McastMsg,
     ) -> Result<Arrival, NoMemory>
         requires frame { frame_of b.now ≡ Ok head.now }
+        requires message { message.now ≡ message_of b.now head.now }
         requires on_chip { is_in_domain self.now.world.setup.domains chip p ≡ true }
         ensures { IfOk result (λ a. a ≡ arrival_by class self.now.world p b.now head.now) }
     {
         match class {
             Class::Drop => Ok(Arrival::PassesBy),
-            Class::Trap => self.frames.arrive(alloc, p, b, head, None),
+            Class::Trap => self.frames.arrive(alloc, p, b, head, message, None),
             Class::Copy => self
                 .frames
-                .arrive(alloc, p, b, head, Some(Mark { dom: dom() })),
+                .arrive(alloc, p, b, head, message, Some(Mark { dom: dom() })),
             Class::Forward => Ok(Arrival::PassesBy),
         }
     }
@@ -199,13 +203,14 @@ impl Plane {
         requires frame { frame_of b.now ≡ Ok head.now }
         requires on_chip { is_in_domain self.old.world.setup.domains chip p ≡ true }
         ensures step { IfOk result (λ e. Steps self.old self.new (Rx p b.now) e.lines) }
-        ensures pass { IfOk result (λ e. IfSome e.pass (IsPass self.old.world.setup.domains (table_of_chip self.old.world) p head.now Plain)) }
+        ensures pass { IfOk result (λ e. IfSome e.pass (IsPass self.old.world.setup.domains (table_of_chip self.old.world) p head.now (message_of b.now head.now))) }
         ensures some { IfOk result (λ e. IsSome e.pass) }
         ensures err { OnErr result (self.new ≡ self.old) }
     {
         let id = self.frames.next_id();
-        let pass = self.sides.pass(p, head);
-        let arrival = self.arrival(alloc, pass.class(), p, b, head)?;
+        let message = classify(b, head);
+        let pass = self.sides.pass(p, head, &message);
+        let arrival = self.arrival(alloc, pass.class(), p, b, head, &message)?;
         let mut lines = Vec::new(alloc);
         lines.push(self.chip_line(id, pass.class()))?;
         let out = Egress::of_pass(&pass);

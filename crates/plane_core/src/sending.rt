@@ -2,11 +2,11 @@
 ghost use Rattle.std.specs.Prelude.{◌≡◌, ℕ, ◌<◌, ◌++◌, List, map, IfOk, OnOk, Ok};
 ghost use Rattle.br_model.specs.Domains.{Domains as DomainsValue};
 ghost use Rattle.br_model.specs.Frames.{frame as frame_of};
+ghost use Rattle.br_model.specs.Messages.{message};
 ghost use Rattle.br_model.specs.Plane.World.{sent};
 ghost use Rattle.br_model.specs.Shares.{chip_out, soft_out};
 ghost use Rattle.br_model.specs.Table.{Table};
 ghost use Rattle.br_model.specs.declared.frame.Head.{Head as HeadValue};
-ghost use Rattle.br_model.specs.declared.frame.McastMsg.TheVariants.{Plain};
 ghost use Rattle.chip_pipeline.specs.Passed.{IsPass};
 ghost use Rattle.hwdom_marks.specs.Marks.{domain_marked};
 ghost use Rattle.plane_core.specs.Sent.{line_at, lines_of};
@@ -35,8 +35,8 @@ pub(crate) struct Egress {
 impl Egress {
     /// That of the frame at the chip.
     pub(crate) fn of_pass(pass: &Pass) -> Egress
-        ensures { (domains : DomainsValue) (t : Table) (port : ℕ) (head : HeadValue) → IsPass domains t port head Plain pass.now
-            → (id : ℕ) (bytes : List ℕ) → lines_of id bytes head result ≡ sent id (chip_out domains t port bytes head) }
+        ensures { (domains : DomainsValue) (t : Table) (port : ℕ) (bytes : List ℕ) (head : HeadValue) → IsPass domains t port head (message bytes head) pass.now
+            → (id : ℕ) → lines_of id bytes head result ≡ sent id (chip_out domains t port bytes head) }
     {
         Egress {
             vid: pass.vid(),
@@ -47,8 +47,8 @@ impl Egress {
 
     /// That of the frame in software, which leaves out the domain that the frame is marked with.
     pub(crate) fn of_verdict(verdict: &Verdict, mark: Option<Mark>, domains: &Domains) -> Egress
-        ensures { (t : Table) (port : ℕ) (head : HeadValue) → Decides domains.now t port head Plain verdict.now
-            → (id : ℕ) (bytes : List ℕ) → lines_of id bytes head result ≡ sent id (soft_out domains.now t port bytes head (domain_marked mark)) }
+        ensures { (t : Table) (port : ℕ) (bytes : List ℕ) (head : HeadValue) → Decides domains.now t port head (message bytes head) verdict.now
+            → (id : ℕ) → lines_of id bytes head result ≡ sent id (soft_out domains.now t port bytes head (domain_marked mark)) }
     {
         Egress {
             vid: verdict.vid,

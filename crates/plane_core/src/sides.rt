@@ -6,6 +6,7 @@ ghost use Rattle.br_model.specs.Chip.{hits_entry, offers};
 ghost use Rattle.br_model.specs.Cut.{deferred_at, deferred_count};
 ghost use Rattle.br_model.specs.DomainPorts.{is_in_domain};
 ghost use Rattle.br_model.specs.Domains.{Domains as DomainsValue, chip};
+ghost use Rattle.br_model.specs.Messages.{message as message_of};
 ghost use Rattle.br_model.specs.Plane.ChipSteps.{reports, sweeps};
 ghost use Rattle.br_model.specs.Plane.Serving.{posts};
 ghost use Rattle.br_model.specs.Plane.Steps.{publishes};
@@ -13,7 +14,6 @@ ghost use Rattle.br_model.specs.Plane.World.{answered, reacts, sent};
 ghost use Rattle.br_model.specs.Reaction.{react as reaction};
 ghost use Rattle.br_model.specs.Shares.{soft_out};
 ghost use Rattle.br_model.specs.Table.{table};
-ghost use Rattle.br_model.specs.declared.frame.McastMsg.TheVariants.{Plain};
 ghost use Rattle.br_model.specs.declared.steps.Event.TheVariants as Event;
 ghost use Rattle.br_model.specs.declared.transcript.Line.TheVariants as line;
 ghost use Rattle.bridge_core.specs.Answers.{IsEvent};
@@ -97,13 +97,13 @@ fn decide_anew(
     frame: &Frame,
 ) -> Result<Verdict, NoMemory>
     requires { AreWithin changes.now }
-    ensures { IfOk result (Decides domains.now (table changes.now) frame.now.port frame.now.head Plain) }
+    ensures { IfOk result (Decides domains.now (table changes.now) frame.now.port frame.now.head (message_of frame.now.bytes frame.now.head)) }
 {
     let mut tables = SoftTables::make(alloc)?;
     for i in 0..changes.len() {
         tables.apply(&changes[i]);
     }
-    Ok(tables.decide(frame.port(), frame.head(), &McastMsg::Plain, domains))
+    Ok(tables.decide(frame.port(), frame.head(), frame.message(), domains))
 }
 
 /// Lines with another one behind them, for which there is room.
@@ -164,9 +164,14 @@ impl Sides {
         ensures reacted { Reacted self.old self.new self.old.chip lines.old.items lines.new.items result (reaction self.old.setup self.old.history self.old.control (Event.Sight frame.now.port frame.now.bytes frame.now.head)) }
         ensures room { vec_len lines.new < vec_capacity lines.new }
     {
-        let from = self
-            .bridge
-            .see(alloc, frame.port(), frame.bytes(), frame.head(), lines)?;
+        let from = self.bridge.see(
+            alloc,
+            frame.port(),
+            frame.bytes(),
+            frame.head(),
+            frame.message(),
+            lines,
+        )?;
         Ok(follow(&self.bridge, &mut self.chip, &mut self.board, from))
     }
 
@@ -227,10 +232,10 @@ impl Sides {
         requires board { seat.old.board ≡ self.now.board }
         requires told { Begins seat.old.object (record { changes = take (length self.now.published.changes) self.now.history; counts = self.now.published.counts }) }
         ensures seat { Looks seat.old seat.new }
-        ensures verdict { IfOk result (Decides self.now.setup.domains (soft_side self.now) frame.now.port frame.now.head Plain) }
+        ensures verdict { IfOk result (Decides self.now.setup.domains (soft_side self.now) frame.now.port frame.now.head (message_of frame.now.bytes frame.now.head)) }
     {
         let published = self.board.published();
-        match seat.lookup(frame.port(), frame.head(), &McastMsg::Plain) {
+        match seat.lookup(frame.port(), frame.head(), frame.message()) {
             Some(seen) if seen.point == published => Ok(seen.verdict),
             _ => decide_anew(
                 alloc,
@@ -249,7 +254,7 @@ impl Sides {
         verdict: &Verdict,
         point: u32,
     ) -> Result<Vec<Line>, NoMemory>
-        requires { Decides self.now.setup.domains (table (take point self.now.history)) frame.now.port frame.now.head Plain verdict.now }
+        requires { Decides self.now.setup.domains (table (take point self.now.history)) frame.now.port frame.now.head (message_of frame.now.bytes frame.now.head) verdict.now }
         ensures lines { IfOk result (λ lines. lines.items ≡ line.Soft frame.now.id point
             ∷ sent frame.now.id (soft_out self.now.setup.domains (table (take point self.now.history)) frame.now.port frame.now.bytes frame.now.head frame.now.mark)) }
         ensures room { IfOk result (λ lines. vec_len lines < vec_capacity lines) }
@@ -272,7 +277,7 @@ impl Sides {
         verdict: &Verdict,
         point: u32,
     ) -> Result<Lines, NoMemory>
-        requires { Decides self.old.setup.domains (table (take point self.old.history)) frame.now.port frame.now.head Plain verdict.now }
+        requires { Decides self.old.setup.domains (table (take point self.old.history)) frame.now.port frame.now.head (message_of frame.now.bytes frame.now.head) verdict.now }
         ensures ok { IfOk result (λ lines. Comes (λ w. posts w frame.now point) self.old step self.new lines) }
         ensures err { OnErr result (self.new ≡ self.old) }
         ensures over { self.new.board ≡ self.old.board }
@@ -304,13 +309,13 @@ impl Sides {
         }
     }
 
-    /// What the chip does with a frame at one of its ports.
-    pub(crate) fn pass(&self, port: Port, head: &Head) -> Pass
+    /// What the chip does with a frame that says this to snooping, at one of its ports.
+    pub(crate) fn pass(&self, port: Port, head: &Head, message: &McastMsg) -> Pass
         requires { is_in_domain self.now.setup.domains chip port ≡ true }
-        ensures { IsPass self.now.setup.domains (chip_side self.now) port head.now Plain result }
+        ensures { IsPass self.now.setup.domains (chip_side self.now) port head.now message.now result }
     {
         let _host = self.bridge.domains().of(Port::HOST);
-        pass(self.chip.tables(), port, head, &McastMsg::Plain)
+        pass(self.chip.tables(), port, head, message)
     }
 
     /// Whether the port is one of the chip's.

@@ -1,13 +1,16 @@
 use Rattle.std.proofs.Common.{◌≡◌, ◌+◌, ◌++◌, ◌∷◌, [], List, ℕ, length, sym, ap, ap₂, subst, ◌∙◌}
 use Rattle.br_model.specs.declared.frame.Class.{Class}
+use Rattle.br_model.specs.declared.frame.McastMsg.{McastMsg}
 use Rattle.br_model.specs.declared.transcript.Line.{Line}
 use Rattle.br_model.specs.declared.transcript.Line.TheVariants.{Chip}
 use Rattle.br_model.specs.Chip.{hits_entry, offers}
 use Rattle.br_model.specs.DomainPorts.{is_in_domain}
 use Rattle.br_model.specs.Domains.{chip}
+use Rattle.br_model.specs.Messages.{message}
 use Rattle.br_model.specs.Plane.Steps.{Rx, world_step}
 use Rattle.br_model.specs.Plane.World.{World, sent}
 use Rattle.br_model.specs.Shares.{chip_out}
+use Rattle.chip_pipeline.specs.Passed.{IsPass}
 use Rattle.plane_core.specs.declared.frames.Arrival.{Arrival}
 use Rattle.plane_core.specs.Arrivals.{settled, arrival_lines}
 use Rattle.plane_core.specs.Planes.{PlaneState, Steps, arrival_by}
@@ -59,11 +62,14 @@ module _ (c : goal.After-of) where
       ∙ ap (λ (p : PlaneState). Chip c.next_id-id.result (length p.world.history) p.world.chip.count c.class-2.result) (sym c.self.view_is)
       ∙ ap₂ (λ (id : ℕ) (k : Class). Chip id (length c.self.inside.sides.history) c.self.inside.sides.chip.count k) id-is c.class-2.ensures
 
+  passed : IsPass c.self.inside.sides.setup.domains (chip_side c.self.inside.sides) c.args.p c.args.head.now (message c.args.b.now c.args.head.now) c.pass-pass.result
+  passed = subst (λ (m : McastMsg). IsPass c.self.inside.sides.setup.domains (chip_side c.self.inside.sides) c.args.p c.args.head.now m c.pass-pass.result) c.classify-message.ensures.value c.pass-pass.ensures
+
   sent-lines : c.send.new.lines.items ≡ decision ∷ leaves
   sent-lines = c.in_ok-send.ensures
       ∙ ap₂ (λ (before : List Line) (after : List Line). before ++ after)
       (c.in_ok-push.ensures.items ∙ ap₂ (λ (before : List Line) (l : Line). before ++ l ∷ []) c.new-lines.ensures.items first-line)
-      (c.of_pass-out.ensures _ _ _ _ c.pass-pass.ensures c.next_id-id.result c.args.b.now
+      (c.of_pass-out.ensures _ _ _ _ _ passed c.next_id-id.result
       ∙ ap (λ (id : ℕ). sent id (chip_out c.self.inside.sides.setup.domains (chip_side c.self.inside.sides) c.args.p c.args.b.now c.args.head.now)) id-is)
 
   all-lines : c.tell.new.lines.items ≡ (decision ∷ leaves) ++ arrival_lines c.self.inside.frames.next goes
@@ -71,7 +77,7 @@ module _ (c : goal.After-of) where
 
   made : world_step was (Rx c.args.p c.args.b.now) ≡ (world_of c.note.new.self c.settle.new.self c.args.step, c.tell.new.lines.items)
   made = enters_by_chip c.self.inside.sides c.self.inside.frames c.self.inside.steps c.args.p c.args.b.now c.args.head.now c.requires.frame
-      (ap (λ (p : PlaneState). is_in_domain p.world.setup.domains chip c.args.p) c.self.view_is ∙ c.requires.on_chip) c.pass-pass.result c.pass-pass.ensures
+      (ap (λ (p : PlaneState). is_in_domain p.world.setup.domains chip c.args.p) c.self.view_is ∙ c.requires.on_chip) c.pass-pass.result passed
       ∙ sym (ap₂ (λ (v : World) (ls : List Line). (v, ls)) world-is all-lines)
 
 pub invariant_of-self-2 : goal.invariant_of-self-2
