@@ -1,5 +1,5 @@
 -- The text of a run, from its first line to its last.
-use Rattle.std.proofs.Common.{◌≡◌, ℕ, ◌≤◌, false, List, [], ◌∷◌, ◌++◌, length, None, Some, Option, Err, refl, sym, ◌∙◌, ap, subst, map, arith, codes, append_assoc, length-append}
+use Rattle.std.proofs.Common.{◌≡◌, ℕ, ◌≤◌, false, List, [], ◌∷◌, ◌++◌, length, None, Some, Option, Result, Ok, Err, refl, sym, ◌∙◌, ap, subst, map, arith, codes, append_assoc, length-append}
 use Rattle.std.specs.Io.KnownBytes.{Appends, Consumes}
 use Rattle.std.proofs.KnownBytes.{Appends-trans}
 use Rattle.std.proofs.lemmas.List.{append-nil}
@@ -12,16 +12,16 @@ use Rattle.br_model.specs.Plane.World.{World, Stepped}
 use Rattle.br_model.specs.Runs.{run_of, body_of, body, told, last_text, setup_of}
 use Rattle.br_model.specs.Scenario.{Scenario, Ending, opened, scenario}
 use Rattle.br_model.specs.Transcript.{line_text}
-use Rattle.br_model.specs.WholeLines.{lines_text}
 use Rattle.br_model.proofs.Running.{run_none}
-use Rattle.capture_runner.specs.declared.replay.Halt.TheVariants.{Stopped}
+use Rattle.capture_runner.specs.declared.replay.Halt.{Halt}
+use Rattle.capture_runner.specs.declared.replay.Halt.TheVariants.{Stopped, WriteFault}
 use Rattle.capture_runner.specs.declared.replay.Stop.{Stop}
 use Rattle.capture_runner.specs.declared.replay.Stop.TheVariants.{ReadFault, NoMemory, TooLong}
 use Rattle.capture_runner.specs.declared.session.Last.{Last}
 use Rattle.capture_runner.specs.declared.session.Last.TheVariants as lasts
 use Rattle.capture_runner.specs.declared.session.Session.{Session}
 use Rattle.capture_runner.specs.Advancing.{Advanced}
-use Rattle.capture_runner.specs.Halting.{Moves, Written, Told, Plays}
+use Rattle.capture_runner.specs.Halting.{Moves, Written, Told, Plays, PlayedSection}
 use Rattle.capture_runner.specs.Playing.{Playing, Played}
 use Rattle.capture_runner.specs.Session.{Follows, IsWorld, ending_of, end_line_of, last_line}
 use Rattle.capture_runner.proofs.Following.{no_steps}
@@ -38,17 +38,20 @@ nothing_wrote (Some xs) = sym (append-nil xs)
 pub started : (left : Option (List ℕ)) (reader : Reading) (session : Session) (text : List ℕ) → reader.held ≡ [] → reader.taken ≡ 0 → reader.limit ≡ most_bytes → reader.fault ≡ None
     → Follows (opened false) session → session.lines ≡ 0 → text ≡ codes "transcript 1" ++ 10 ∷ [] → Playing left most_bytes reader left session text
 started left reader session text held none top fault follows lines told = record {
-  lines = [];
-  feedless = refl;
-  input = reader.held;
-  read = nothing_read left reader.held held;
-  parts = refl;
+  scenario = opened false;
+  reached = record {
+    lines = [];
+    input = reader.held;
+    given = nothing_read left reader.held held;
+    parts = refl;
+    reads = λ more. refl;
+    counts = omega (arith, none, ap length held);
+    within = omega (arith, none);
+    limited = top;
+  };
   follows = follows;
   told = told ∙ sym (no_steps (opened false) refl);
-  counts = omega (arith, none, ap length held);
   numbers = omega (arith, lines);
-  within = omega (arith, none);
-  limited = top;
   sound = fault;
 }
 
@@ -95,7 +98,8 @@ finished left now x text last p = record {
 
 -- a line takes a byte at least
 pub few_lines : (left now : Option (List ℕ)) (reader : Reading) (x : Session) (text : List ℕ) → Playing left most_bytes reader now x text → x.lines ≤ most_bytes
-few_lines left now reader x text p = omega (arith, p.numbers, ap length p.parts, length-append (lines_text p.lines) reader.held, p.counts, p.within)
+few_lines left now reader x text p =
+    omega (arith, p.numbers, ap length p.reached.parts, length-append p.reached.lines reader.held, p.reached.counts, p.reached.within)
 
 -- a line was read, with its text held
 
@@ -111,8 +115,24 @@ play_ends left now before after x held all text text' w last p e = (
   subst (λ (b : List ℕ). Told left now b last) (append_assoc w.gone text (last_line last x.world) ∙ ap (λ (b : List ℕ). w.gone ++ b) (sym e)) (finished left now x (w.gone ++ text) last p),
 )
 
-pub play_stops : (left now before after : Option (List ℕ)) (reader : Reading) (x : Session) (held all text : List ℕ) (w : Written before after held all) (stop : Stop)
-    → Advanced left most_bytes reader now x (w.gone ++ text) (Err stop) → Plays left now before after text (Err (Stopped stop))
-play_stops left now before after reader x held all text w ReadFault a = (w.gone ++ text, record { gone = w.gone; wrote = w.wrote; together = refl }, a)
-play_stops left now before after reader x held all text w TooLong a = (w.gone ++ text, record { gone = w.gone; wrote = w.wrote; together = refl }, a)
-play_stops left now before after reader x held all text w NoMemory a = tt
+pub play_stops : (left now before after : Option (List ℕ)) (reader : Reading) (x : Session) (held all text : List ℕ) (w : Written before after held all) (stop : Stop) (result : Result Last Halt)
+    → result ≡ Err (Stopped stop) → Advanced left most_bytes reader now x (w.gone ++ text) (Err stop) → Plays left now before after text result
+play_stops left now before after reader x held all text w ReadFault result is a =
+    subst (Plays left now before after text) (sym is) (w.gone ++ text, record { gone = w.gone; wrote = w.wrote; together = refl }, a)
+play_stops left now before after reader x held all text w TooLong result is a =
+    subst (Plays left now before after text) (sym is) (w.gone ++ text, record { gone = w.gone; wrote = w.wrote; together = refl }, a)
+play_stops left now before after reader x held all text w NoMemory result is a = subst (Plays left now before after text) (sym is) tt
+
+-- a section was read, and perhaps its steps done
+
+pub section_ends : (left now before after : Option (List ℕ)) (reader : Reading) (x : Session) (text text' : List ℕ) (last : Last) → PlayedSection left reader now x before after text (Ok (Some last))
+    → text' ≡ text ++ last_line last x.world → (whole : List ℕ) × Written before after text' whole × Told left now whole last
+section_ends left now before after reader x text text' last p e =
+    play_ends left now before after x text p.0 text text' p.1 last (subst (λ (b : List ℕ). Played left most_bytes now x b last) p.1.together p.2) e
+
+pub section_halts : (left now before after : Option (List ℕ)) (reader : Reading) (x : Session) (text : List ℕ) (halt : Halt) (result : Result Last Halt) → result ≡ Err halt
+    → PlayedSection left reader now x before after text (Err halt) → Plays left now before after text result
+section_halts left now before after reader x text (Stopped ReadFault) result is p = subst (Plays left now before after text) (sym is) p
+section_halts left now before after reader x text (Stopped TooLong) result is p = subst (Plays left now before after text) (sym is) p
+section_halts left now before after reader x text (Stopped NoMemory) result is p = subst (Plays left now before after text) (sym is) p
+section_halts left now before after reader x text WriteFault result is p = subst (Plays left now before after text) (sym is) p

@@ -3,19 +3,23 @@
 use Rattle.std.specs.Prelude.{◌≡◌, ℕ, List, ◌++◌, IfSome}
 use Rattle.std.specs.Io.KnownBytes.{Appends, Consumes}
 use Rattle.std.specs.declared.option.Option.{Option}
+use Rattle.std.specs.declared.option.Option.TheVariants.{None, Some}
 use Rattle.std.specs.declared.result.Result.{Result}
 use Rattle.std.specs.declared.result.Result.TheVariants.{Ok, Err}
 use Rattle.run_io.specs.Causes.{Rose}
+use Rattle.run_io.specs.Reading.{Reading}
+use Rattle.br_model.specs.declared.steps.Step.{Step}
 use Rattle.br_model.specs.Limits.{most_bytes}
 use Rattle.br_model.specs.Outcomes.{HoldsNoEnd}
-use Rattle.br_model.specs.Runs.{told}
-use Rattle.br_model.specs.Scenario.{scenario}
+use Rattle.br_model.specs.Runs.{run_of, body_of, told}
+use Rattle.br_model.specs.Scenario.{Scenario, scenario}
 use Rattle.capture_runner.specs.declared.replay.Halt.{Halt}
 use Rattle.capture_runner.specs.declared.replay.Halt.TheVariants.{Stopped, WriteFault}
 use Rattle.capture_runner.specs.declared.replay.Stop.TheVariants.{ReadFault, NoMemory, TooLong}
 use Rattle.capture_runner.specs.declared.session.Last.{Last}
+use Rattle.capture_runner.specs.declared.session.Session.{Session}
 use Rattle.capture_runner.specs.Playing as playing
-use Rattle.capture_runner.specs.Session.{ending_of}
+use Rattle.capture_runner.specs.Session.{Follows, IsAmongSteps, ending_of, with_steps}
 
 -- the first bytes of what was held went to the sink, and the others are held
 pub record Moves (before after : Option (List ℕ)) (old new : List ℕ) : Type 0 where
@@ -45,9 +49,45 @@ Plays left now before after text (Err (Stopped TooLong)) = (all : List ℕ) × W
 Plays left now before after text (Err (Stopped NoMemory)) = Unit {0}
 Plays left now before after text (Err WriteFault) = Unit {0}
 
+-- what is known after a section and its steps, by the answer
+abbrev pub PlayedSection : Option (List ℕ) → Reading → Option (List ℕ) → Session → Option (List ℕ) → Option (List ℕ) → List ℕ → Result (Option Last) Halt → Type 0
+PlayedSection left reader now session before after text (Ok None) =
+    (all : List ℕ) × Written before after text all × playing.Playing left most_bytes reader now session all
+PlayedSection left reader now session before after text (Ok (Some last)) =
+    (all : List ℕ) × Written before after text all × playing.Played left most_bytes now session all last
+PlayedSection left reader now session before after text (Err (Stopped ReadFault)) = (all : List ℕ) × Written before after text all × playing.Stopped left now all
+PlayedSection left reader now session before after text (Err (Stopped TooLong)) = (all : List ℕ) × Written before after text all × playing.Filled left most_bytes now all
+PlayedSection left reader now session before after text (Err (Stopped NoMemory)) = Unit {0}
+PlayedSection left reader now session before after text (Err WriteFault) = Unit {0}
+
+-- whatever was read and written before it
+abbrev pub PlaysSection : Reading → Reading → Option (List ℕ) → Option (List ℕ) → Session → Session → Option (List ℕ) → Option (List ℕ) → List ℕ → List ℕ → ℕ → Result (Option Last) Halt → Type 0
+PlaysSection old_reader reader left_before left_now old_session session taken_before taken_now old_text text n result =
+    (left before : Option (List ℕ)) (all : List ℕ) → Written before taken_before old_text all → playing.AtSection left most_bytes old_reader left_before old_session all n
+    → PlayedSection left reader left_now session before taken_now text result
+
+-- these steps were done, and all that was written since the run began is told of them
+pub record Did (t : Scenario) (session : Session) (before after : Option (List ℕ)) (text : List ℕ) : Type 0 where
+  pub all : List ℕ
+  pub written : Written before after text all
+  pub follows : Follows t session
+  pub told : all ≡ body_of (run_of t)
+
+abbrev pub DoesAll : Session → List Step → Session → Option (List ℕ) → Option (List ℕ) → List ℕ → List ℕ → Type 0
+DoesAll old steps session taken_before taken_now old_text text =
+    (s : Scenario) (before : Option (List ℕ)) → IsAmongSteps s → Did s old before taken_before old_text → Did (with_steps s steps) session before taken_now text
+
+-- when steps may stop: only for want of memory, and where a write failed
+abbrev pub Stalls : ℕ → ℕ → Result (Unit {0}) Halt → Type 0
+Stalls writes_before writes_now (Ok done) = Unit {0}
+Stalls writes_before writes_now (Err (Stopped ReadFault)) = ⊥
+Stalls writes_before writes_now (Err (Stopped TooLong)) = ⊥
+Stalls writes_before writes_now (Err (Stopped NoMemory)) = Unit {0}
+Stalls writes_before writes_now (Err WriteFault) = Rose writes_before writes_now
+
 -- a fault comes only where its count rose
-abbrev pub Halts : ℕ → ℕ → ℕ → ℕ → Result Last Halt → Type 0
-Halts reads_before reads_now writes_before writes_now (Ok last) = Unit {0}
+abbrev pub Halts : {T : Type 0} → ℕ → ℕ → ℕ → ℕ → Result T Halt → Type 0
+Halts reads_before reads_now writes_before writes_now (Ok x) = Unit {0}
 Halts reads_before reads_now writes_before writes_now (Err (Stopped ReadFault)) = Rose reads_before reads_now
 Halts reads_before reads_now writes_before writes_now (Err (Stopped TooLong)) = Unit {0}
 Halts reads_before reads_now writes_before writes_now (Err (Stopped NoMemory)) = Unit {0}

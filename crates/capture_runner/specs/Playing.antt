@@ -1,37 +1,66 @@
 -- What a replay has done so far, and how it ends. The source had `left` when the run began and has `now`; `text` is what was
 -- written since then, that which a buffer still holds included.
-use Rattle.std.specs.Prelude.{◌≡◌, ℕ, ◌≤◌, true, false, List, ◌++◌, length, IfSome}
-use Rattle.std.specs.List.{fold, list_all}
+use Rattle.std.specs.Prelude.{◌≡◌, ℕ, ◌+◌, ◌≤◌, true, false, List, [], ◌∷◌, ◌++◌, length, IfSome}
 use Rattle.std.specs.declared.option.Option.{Option}
 use Rattle.std.specs.declared.option.Option.TheVariants.{None}
+use Rattle.std.specs.declared.result.Result.TheVariants.{Ok}
 use Rattle.std.specs.Io.KnownBytes.{Consumes}
 use Rattle.run_io.specs.Reading.{Reading}
+use Rattle.br_model.specs.declared.scenario.Said.TheVariants.{Captures}
+use Rattle.br_model.specs.declared.steps.Step.{Step}
+use Rattle.br_model.specs.Operands.{longest_section}
 use Rattle.br_model.specs.Outcomes.{GoesOn, HoldsNoEnd}
 use Rattle.br_model.specs.Runs.{run_of, body_of, body}
-use Rattle.br_model.specs.Scenario.{Scenario, opened, takes, scenario}
-use Rattle.br_model.specs.WholeLines.{is_line, lines_text}
+use Rattle.br_model.specs.Scenario.{Scenario, Going, opened, read, scenario, whole_says}
+use Rattle.br_model.specs.WholeLines.{is_line}
 use Rattle.capture_runner.specs.declared.session.Last.{Last}
 use Rattle.capture_runner.specs.declared.session.Session.{Session}
-use Rattle.capture_runner.specs.Session.{Follows, IsWorld, ending_of}
+use Rattle.capture_runner.specs.Session.{Follows, IsWorld, IsAmongSteps, captures, ending_of, with_steps}
 
--- what whole lines have said
-abbrev pub said : List (List ℕ) → Scenario
-said lines = fold takes (opened false) lines
+-- The source gave some bytes: at first the lines that the scenario has read, then the bytes `ahead`, which were handed out, and
+-- then what the reader holds.
+pub record Reached (left : Option (List ℕ)) (limit : ℕ) (reader : Reading) (now : Option (List ℕ)) (s : Scenario) (ahead : List ℕ) : Type 0 where
+  pub lines : List ℕ
+  pub input : List ℕ
+  pub given : Consumes left now input
+  pub parts : input ≡ lines ++ (ahead ++ reader.held)
+  pub reads : (more : List ℕ) → read 0 (opened false) (lines ++ more) ≡ read 0 s more
+  pub counts : reader.taken ≡ length input
+  pub within : reader.taken ≤ limit
+  pub limited : reader.limit ≡ limit
 
 -- the run is between two lines
 pub record Playing (left : Option (List ℕ)) (limit : ℕ) (reader : Reading) (now : Option (List ℕ)) (session : Session) (text : List ℕ) : Type 0 where
-  -- the lines that were read, and the bytes that the source gave
-  pub lines : List (List ℕ)
-  pub feedless : list_all is_line lines ≡ true
-  pub input : List ℕ
-  pub read : Consumes left now input
-  pub parts : input ≡ lines_text lines ++ reader.held
-  pub follows : Follows (said lines) session
-  pub told : text ≡ body_of (run_of (said lines))
-  pub counts : reader.taken ≡ length input
-  pub numbers : session.lines ≤ length (lines_text lines)
-  pub within : reader.taken ≤ limit
-  pub limited : reader.limit ≡ limit
+  pub scenario : Scenario
+  pub reached : Reached left limit reader now scenario []
+  pub follows : Follows scenario session
+  pub told : text ≡ body_of (run_of scenario)
+  pub numbers : session.lines ≤ length reached.lines
+  pub sound : reader.fault ≡ None
+
+-- the run is behind a line `capture`, before its section of n bytes
+pub record AtSection (left : Option (List ℕ)) (limit : ℕ) (reader : Reading) (now : Option (List ℕ)) (session : Session) (text : List ℕ) (n : ℕ) : Type 0 where
+  pub scenario : Scenario
+  pub going : scenario.ending ≡ Going
+  pub line : List ℕ
+  pub feedless : is_line line ≡ true
+  pub says : whole_says scenario.roster line ≡ Ok (Captures n)
+  pub most : n ≤ longest_section
+  pub reached : Reached left limit reader now scenario (line ++ 10 ∷ [])
+  pub follows : Follows (captures scenario n) session
+  pub world : IsWorld scenario session.world
+  pub told : text ≡ body_of (run_of (captures scenario n))
+  pub numbers : session.lines ≤ length reached.lines + 1
+  pub sound : reader.fault ≡ None
+
+-- The run has read a section, and these are the steps that come next: the scenario has them already.
+pub record AtSteps (left : Option (List ℕ)) (limit : ℕ) (reader : Reading) (now : Option (List ℕ)) (session : Session) (text : List ℕ) (steps : List Step) : Type 0 where
+  pub before : Scenario
+  pub place : IsAmongSteps before
+  pub reached : Reached left limit reader now (with_steps before steps) []
+  pub follows : Follows before session
+  pub told : text ≡ body_of (run_of before)
+  pub numbers : session.lines ≤ length reached.lines
   pub sound : reader.fault ≡ None
 
 -- the scenario has ended: all but the last line of the transcript is written

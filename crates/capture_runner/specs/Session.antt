@@ -1,27 +1,48 @@
 -- A session has read the lines of a scenario up to here.
-use Rattle.std.specs.Prelude.{◌≡◌, ℕ, List, [], ◌++◌, false}
+use Rattle.std.specs.Prelude.{◌≡◌, ℕ, ◌≤◌, List, [], ◌++◌, length, true, false}
+use Rattle.std.specs.List.{list_all}
 use Rattle.std.specs.declared.option.Option.{Option}
 use Rattle.std.specs.declared.option.Option.TheVariants.{None, Some}
+use Rattle.std.specs.declared.result.Result.{Result}
+use Rattle.std.specs.declared.result.Result.TheVariants.{Ok, Err}
+use Rattle.br_model.specs.declared.scenario.LineWhy.{LineWhy}
+use Rattle.br_model.specs.declared.scenario.Said.{Said}
+use Rattle.br_model.specs.declared.scenario.Said.TheVariants as said
 use Rattle.br_model.specs.declared.steps.Step.{Step}
 use Rattle.br_model.specs.declared.transcript.Line.{Line}
 use Rattle.br_model.specs.declared.transcript.Line.TheVariants.{End}
+use Rattle.br_model.specs.Captures.{packets}
 use Rattle.br_model.specs.LineForms.{declaration, opening}
+use Rattle.br_model.specs.Operands.{longest_section}
 use Rattle.br_model.specs.Plane.Naming.{named}
 use Rattle.br_model.specs.Plane.Runs.{end_line}
 use Rattle.br_model.specs.Plane.Steps.{world_step}
 use Rattle.br_model.specs.Plane.World.{World, first_world}
 use Rattle.br_model.specs.Roster.{Roster}
 use Rattle.br_model.specs.Runs.{run_of, body_of, setup_of}
-use Rattle.br_model.specs.Scenario.{Scenario, Ending, Going, Ended, Bad, takes}
+use Rattle.br_model.specs.Scenario.{Scenario, Ending, Going, Ended, Bad, bad, captured, section_length, takes, takes_steps, whole_says}
 use Rattle.br_model.specs.Transcript.{text, line_text, bad_text}
+use Rattle.capture_runner.specs.declared.session.Captured.{Captured}
+use Rattle.capture_runner.specs.declared.session.Captured.TheVariants as sections
 use Rattle.capture_runner.specs.declared.session.Last.{Last}
 use Rattle.capture_runner.specs.declared.session.Last.TheVariants as lasts
+use Rattle.capture_runner.specs.declared.session.Next.{Next}
+use Rattle.capture_runner.specs.declared.session.Next.TheVariants.{Line as NextLine, Section, End as NoMore}
 use Rattle.capture_runner.specs.declared.session.Session.{Session}
+use Rattle.scenario_text.specs.Items.{in_time}
+
+-- after the declarations
+abbrev pub IsAmongSteps : Scenario → Type 0
+IsAmongSteps s = (declaration s.roster.place ≡ false) × (opening s.roster.place ≡ false)
 
 -- the world after the steps so far, where there were any
 abbrev pub IsWorld : Scenario → Option World → Type 0
 IsWorld s None = s.steps ≡ []
-IsWorld s (Some w) = (w ≡ (run_of s).0) × (declaration s.roster.place ≡ false) × (opening s.roster.place ≡ false)
+IsWorld s (Some w) = (w ≡ (run_of s).0) × IsAmongSteps s
+
+-- and these steps more
+abbrev pub with_steps : Scenario → List Step → Scenario
+with_steps s steps = record s { steps = s.steps ++ steps }
 
 -- the session has read what the scenario has
 pub record Stands (s : Scenario) (x : Session) : Type 0 where
@@ -39,21 +60,48 @@ abbrev pub ending_of : Last → Ending
 ending_of lasts.Ended = Ended
 ending_of (lasts.Bad n why) = Bad n why
 
-abbrev pub ending_by : Option Last → Ending
-ending_by None = Going
-ending_by (Some last) = ending_of last
-
--- a line was taken, and text added for its step
-pub record Took (s : Scenario) (line before : List ℕ) (x : Session) (after : List ℕ) (last : Option Last) : Type 0 where
-  pub world : IsWorld (takes s line) x.world
-  pub goes : last ≡ None → Follows (takes s line) x
-  pub ends : (takes s line).ending ≡ ending_by last
+-- The session went on from one scenario to another, and added text for the steps between them.
+pub record Went (s t : Scenario) (before : List ℕ) (x : Session) (after : List ℕ) : Type 0 where
+  pub follows : Follows t x
   pub added : List ℕ
   pub text : after ≡ before ++ added
-  pub body : body_of (run_of (takes s line)) ≡ body_of (run_of s) ++ added
+  pub body : body_of (run_of t) ≡ body_of (run_of s) ++ added
 
-abbrev pub Takes : Session → List ℕ → List ℕ → Session → List ℕ → Option Last → Type 0
-Takes old line before new after last = (s : Scenario) → Follows s old → Took s line before new after last
+-- the scenario ends with a line, whose step isn't one
+pub record Ends (s t : Scenario) (before : List ℕ) (x : Session) (after : List ℕ) (last : Last) : Type 0 where
+  pub world : IsWorld t x.world
+  pub ends : t.ending ≡ ending_of last
+  pub text : after ≡ before
+  pub body : body_of (run_of t) ≡ body_of (run_of s)
+
+abbrev pub EndsBy : Scenario → Result Said LineWhy → List ℕ → Session → List ℕ → Last → Type 0
+EndsBy s (Err why) before x after last = Ends s (bad s why) before x after last
+EndsBy s (Ok said) before x after last = (section_length said ≡ 0) × Ends s (takes s said []) before x after last
+
+-- after a line `capture`, its section left out
+abbrev pub captures : Scenario → ℕ → Scenario
+captures s n = takes_steps s (said.Captures n) (Ok [])
+
+-- a line was taken
+abbrev pub Took : Scenario → List ℕ → List ℕ → Session → List ℕ → Next → Type 0
+Took s line before x after NextLine = (said : Said) × (whole_says s.roster line ≡ Ok said) × (section_length said ≡ 0) × Went s (takes s said []) before x after
+Took s line before x after (Section n) =
+    (whole_says s.roster line ≡ Ok (said.Captures n)) × (n ≤ longest_section) × IsWorld s x.world × Went s (captures s n) before x after
+Took s line before x after (NoMore last) = EndsBy s (whole_says s.roster line) before x after last
+
+abbrev pub Takes : Session → List ℕ → List ℕ → Session → List ℕ → Next → Type 0
+Takes old line before new after next = (s : Scenario) → Follows s old → Took s line before new after next
+
+-- what the section of the line before gives
+abbrev pub IsCaptured : Session → List ℕ → Captured → Type 0
+IsCaptured x section (sections.Steps steps) = captured x.roster.ports (packets section (length x.roster.ports)) ≡ Ok steps.items
+IsCaptured x section (sections.End last) =
+    (why : LineWhy) × (captured x.roster.ports (packets section (length x.roster.ports)) ≡ Err why) × (last ≡ lasts.Bad x.lines why)
+
+-- the moment of each step is one that a line can say
+abbrev pub AreInTime : Captured → Type 0
+AreInTime (sections.Steps steps) = list_all in_time steps.items ≡ true
+AreInTime (sections.End last) = Unit {0}
 
 -- the world of a session before a step
 abbrev pub world_of : Roster → Option World → World

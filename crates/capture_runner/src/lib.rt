@@ -3,6 +3,7 @@
 
 mod replay;
 mod runner;
+mod section;
 mod session;
 mod world;
 

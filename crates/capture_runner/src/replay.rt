@@ -1,13 +1,18 @@
 //! A scenario is read from a source, line by line, and its transcript is written to a sink.
-ghost use Rattle.std.specs.Prelude.{◌≡◌, ℕ, ◌-◌, ◌<◌, ◌≤◌, ◌^◌, [], None, Ok, OnOk, string_bytes};
+ghost use Rattle.std.specs.Prelude.{◌≡◌, ℕ, ◌-◌, ◌<◌, ◌≤◌, ◌^◌, [], true, None, IfOk, OnOk, string_bytes};
+ghost use Rattle.std.specs.List.{list_all};
+ghost use Rattle.br_model.specs.Operands.{longest_section};
 ghost use Rattle.run_io.specs.Causes.{HasCause};
 ghost use Rattle.run_io.specs.Reading.{max_line};
 ghost use Rattle.run_io.proofs.ReadSteps.{room};
-ghost use Rattle.capture_runner.specs.Advancing.{Advances, Caused};
-ghost use Rattle.capture_runner.specs.Halting.{Moves, Plays, Halts};
+ghost use Rattle.capture_runner.specs.Advancing.{Advances, Caused, Lessens, Sections};
+ghost use Rattle.capture_runner.specs.Halting.{DoesAll, Halts, Moves, Plays, PlaysSection, Stalls};
+ghost use Rattle.capture_runner.specs.Session.{AreInTime};
+ghost use Rattle.scenario_text.specs.Items.{in_time};
 
-use crate::session::{Last, Session};
+use crate::session::{Captured, Last, Next, Session};
 use br_model::scenario::LineWhy;
+use br_model::steps::Step;
 use run_io::lines::{LineFault, LineReader};
 use run_io::output::Output;
 use run_io::sinks::{Sink, WriteFault};
@@ -35,19 +40,18 @@ impl From<AllocError> for Stop {
     }
 }
 
-/// Reads the next line, does its step and writes the step's lines after the text. The answer is how the scenario ends with
-/// it, if so.
+/// Reads the next line, does its step and writes the step's lines after the text.
 pub(crate) fn advance<S: Source>(
     alloc: Global,
     reader: &mut LineReader,
     session: &mut Session,
     source: &mut S,
     text: &mut String,
-) -> Result<Option<Last>, Stop>
+) -> Result<Next, Stop>
     requires sound { reader.old.fault ≡ None }
     requires few { session.old.lines < 2 ^ 32 - 1 }
     ensures advances { (limit : ℕ) → Advances limit reader.old reader.new (S.left source.old) (S.left source.new) session.old session.new (string_bytes text.old) (string_bytes text.new) result }
-    ensures less { result ≡ Ok None → room reader.new < room reader.old }
+    ensures less { IfOk result (Lessens (room reader.old) (room reader.new)) }
     ensures cause { Caused (S.faults source.old) (S.faults source.new) result }
     ensures later { S.faults source.old ≤ S.faults source.new }
 {
@@ -56,14 +60,45 @@ pub(crate) fn advance<S: Source>(
             if got.whole {
                 Ok(session.take(alloc, got.bytes, text)?)
             } else {
-                Ok(Some(session.close(got.bytes)))
+                Ok(Next::End(session.close(got.bytes)))
             }
         }
-        Ok(None) => Ok(Some(session.close(&[]))),
-        Err(LineFault::LineTooLong) => Ok(Some(session.bad(LineWhy::Long))),
+        Ok(None) => Ok(Next::End(session.close(&[]))),
+        Err(LineFault::LineTooLong) => Ok(Next::End(session.bad(LineWhy::Long))),
         Err(LineFault::ReadFault) => Err(Stop::ReadFault),
         Err(LineFault::TooLong) => Err(Stop::TooLong),
         Err(LineFault::NoMemory) => Err(Stop::NoMemory),
+    }
+}
+
+/// Reads the section of the line before, of so many bytes.
+fn read_section<S: Source>(
+    alloc: Global,
+    reader: &mut LineReader,
+    session: &Session,
+    source: &mut S,
+    length: u32,
+) -> Result<Captured, Stop>
+    requires sound { reader.old.fault ≡ None }
+    requires most { length ≤ longest_section }
+    ensures sections { (limit : ℕ) → Sections limit reader.old reader.new (S.left source.old) (S.left source.new) session.now length result }
+    ensures in_time { IfOk result AreInTime }
+    ensures less { OnOk result (room reader.new ≤ room reader.old) }
+    ensures cause { Caused (S.faults source.old) (S.faults source.new) result }
+    ensures later { S.faults source.old ≤ S.faults source.new }
+{
+    match reader.take(alloc, source, length) {
+        Ok(got) => {
+            if got.whole {
+                Ok(session.captured(alloc, got.bytes)?)
+            } else {
+                Ok(Captured::End(session.bad_section(LineWhy::Unended)))
+            }
+        }
+        Err(LineFault::ReadFault) => Err(Stop::ReadFault),
+        Err(LineFault::TooLong) => Err(Stop::TooLong),
+        Err(LineFault::NoMemory) => Err(Stop::NoMemory),
+        Err(LineFault::LineTooLong) => unreachable!(),
     }
 }
 
@@ -95,6 +130,27 @@ impl From<WriteFault> for Halt {
     }
 }
 
+impl From<Stop> for Halt {
+    ghost use Rattle.capture_runner.specs.declared.replay.Halt.TheVariants.{Stopped};
+
+    ghost from_gives = { λ stop halt. halt ≡ Stopped stop };
+
+    fn from(stop: Stop) -> Halt {
+        Halt::Stopped(stop)
+    }
+}
+
+/// Writes what the output holds, where there is much of it.
+fn put_if_full<K: Sink>(output: &mut Output, sink: &mut K) -> Result<(), WriteFault>
+    ensures moved { OnOk result (Moves (K.taken sink.old) (K.taken sink.new) (string_bytes output.old.text) (string_bytes output.new.text)) }
+    ensures cause { HasCause (K.faults sink.old) (K.faults sink.new) result }
+{
+    if output.is_full() {
+        return output.flush(sink);
+    }
+    Ok(())
+}
+
 /// Writes what the output holds, where a read may wait or there is much of it.
 fn put_before_read<K: Sink>(
     reader: &LineReader,
@@ -104,14 +160,63 @@ fn put_before_read<K: Sink>(
     ensures moved { OnOk result (Moves (K.taken sink.old) (K.taken sink.new) (string_bytes output.old.text) (string_bytes output.new.text)) }
     ensures cause { HasCause (K.faults sink.old) (K.faults sink.new) result }
 {
-    if reader.holds_line() && !output.is_full() {
-        return Ok(());
+    if reader.holds_line() {
+        return put_if_full(output, sink);
     }
     output.flush(sink)
 }
 
+/// Does the steps of a section. The output is written where it is full.
+fn do_steps<K: Sink>(
+    alloc: Global,
+    session: &mut Session,
+    sink: &mut K,
+    output: &mut Output,
+    steps: Vec<Step>,
+) -> Result<(), Halt>
+    requires { list_all in_time steps.items ≡ true }
+    ensures does { OnOk result (DoesAll session.old steps.items session.new (K.taken sink.old) (K.taken sink.new) (string_bytes output.old.text) (string_bytes output.new.text)) }
+    ensures cause { Stalls (K.faults sink.old) (K.faults sink.new) result }
+    ensures later { K.faults sink.old ≤ K.faults sink.new }
+{
+    for step in steps {
+        put_if_full(output, sink)?;
+        session.step(alloc, step, &mut output.text)?;
+    }
+    Ok(())
+}
+
+/// Reads the section of the line before, of so many bytes, and does its steps. The answer is how the scenario ends with it,
+/// if so.
+fn play_section<S: Source, K: Sink>(
+    alloc: Global,
+    reader: &mut LineReader,
+    session: &mut Session,
+    source: &mut S,
+    sink: &mut K,
+    output: &mut Output,
+    length: u32,
+) -> Result<Option<Last>, Halt>
+    requires sound { reader.old.fault ≡ None }
+    requires most { length ≤ longest_section }
+    ensures plays { PlaysSection reader.old reader.new (S.left source.old) (S.left source.new) session.old session.new (K.taken sink.old) (K.taken sink.new) (string_bytes output.old.text) (string_bytes output.new.text) length result }
+    ensures less { OnOk result (room reader.new ≤ room reader.old) }
+    ensures cause { Halts (S.faults source.old) (S.faults source.new) (K.faults sink.old) (K.faults sink.new) result }
+    ensures later { S.faults source.old ≤ S.faults source.new }
+    ensures later_sink { K.faults sink.old ≤ K.faults sink.new }
+{
+    output.flush(sink)?;
+    match read_section(alloc, reader, session, source, length)? {
+        Captured::Steps(steps) => {
+            do_steps(alloc, session, sink, output, steps)?;
+            Ok(None)
+        }
+        Captured::End(last) => Ok(Some(last)),
+    }
+}
+
 /// Reads a scenario to its end or to its first bad line. The output takes its transcript, the last line too, and is written
-/// before each read that may wait, and where it is full.
+/// before each read that may wait, before each section, and where it is full.
 pub(crate) fn play<S: Source, K: Sink>(
     alloc: Global,
     source: &mut S,
@@ -129,13 +234,21 @@ pub(crate) fn play<S: Source, K: Sink>(
     loop {
         put_before_read(&reader, output, sink)?;
         let text = &mut output.text;
-        match advance(alloc, &mut reader, &mut session, source, text) {
-            Ok(None) => {}
-            Ok(Some(last)) => {
+        match advance(alloc, &mut reader, &mut session, source, text)? {
+            Next::Line => {}
+            Next::Section(length) => {
+                let (reader, session) = (&mut reader, &mut session);
+                if let Some(last) = play_section(
+                    alloc, reader, session, source, sink, output, length,
+                )? {
+                    session.end(last, &mut output.text)?;
+                    return Ok(last);
+                }
+            }
+            Next::End(last) => {
                 session.end(last, text)?;
                 return Ok(last);
             }
-            Err(stop) => return Err(Halt::Stopped(stop)),
         }
     }
 }

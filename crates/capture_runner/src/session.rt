@@ -1,18 +1,21 @@
 //! A run of a scenario, line by line.
 ghost use Rattle.std.specs.Prelude.{◌≡◌, ℕ, ◌+◌, ◌-◌, ◌<◌, ◌≤◌, ◌^◌, ◌++◌, length, true, false, None, Some, IfOk, OnOk, OnErr, string_bytes};
+ghost use Rattle.br_model.specs.Operands.{longest_section};
 ghost use Rattle.br_model.specs.Plane.Naming.{named};
 ghost use Rattle.br_model.specs.Plane.Steps.{world_step};
 ghost use Rattle.br_model.specs.Scenario.{Scenario, opened, longest_line, closes};
-ghost use Rattle.capture_runner.specs.Session.{Follows, Takes, Does, ending_of, world_of, end_line_of, last_line};
+ghost use Rattle.capture_runner.specs.Session.{Follows, Takes, IsCaptured, AreInTime, Does, ending_of, world_of, end_line_of, last_line};
 ghost use Rattle.scenario_text.specs.Items.{in_time};
 ghost use Rattle.transcript_text.specs.Extends.{Extends};
 
 use crate::NoMemory;
+use crate::section::captured_steps;
 use crate::world::World;
 use br_model::scenario::{Item, LineWhy, Place};
 use br_model::steps::Step;
 use br_model::transcript::{Line, Lines};
 use bridge_command::Roster;
+use pcapng_read::CapFault;
 use scenario_text::{read_line, says_end};
 use std::alloc::{AllocError, Global};
 use transcript_text::{Writer, append_bad};
@@ -22,6 +25,26 @@ use transcript_text::{Writer, append_bad};
 pub(crate) enum Last {
     Ended,
     Bad(u32, LineWhy),
+}
+
+/// What a section gives.
+#[derive(Drop)]
+pub(crate) enum Captured {
+    /// Its packets, as steps in their order.
+    Steps(Vec<Step>),
+    /// It is cut off, or one of its blocks is broken, so the scenario ends.
+    End(Last),
+}
+
+/// What comes after a line.
+#[derive(Clone, Copy)]
+pub(crate) enum Next {
+    /// The next line.
+    Line,
+    /// The line's section, of so many bytes.
+    Section(u32),
+    /// Nothing: the scenario ends so.
+    End(Last),
 }
 
 /// What the lines so far have said, how many they are, and the world after their steps, which is made at the first one.
@@ -46,14 +69,14 @@ impl Session {
         })
     }
 
-    /// Reads a whole line, without its line feed, does its step, and writes the step's lines after the text. The answer is
-    /// how the scenario ends with it, if so. After want of memory the session isn't used again.
+    /// Reads a whole line, without its line feed, does its step, and writes the step's lines after the text. After want of
+    /// memory the session isn't used again.
     pub(crate) fn take(
         &mut self,
         alloc: Global,
         line: &[u8],
         text: &mut String,
-    ) -> Result<Option<Last>, NoMemory>
+    ) -> Result<Next, NoMemory>
         requires short { length line.now ≤ longest_line }
         requires few { self.old.lines < 2 ^ 32 - 1 }
         ensures takes { IfOk result (Takes self.old line.now (string_bytes text.old) self.new (string_bytes text.new)) }
@@ -63,20 +86,43 @@ impl Session {
         let item = match read_line(alloc, line, &mut self.roster) {
             Ok(item) => item,
             Err(LineWhy::NoMemory) => return Err(AllocError),
-            Err(why) => return Ok(Some(Last::Bad(self.lines + 1, why))),
+            Err(why) => return Ok(Next::End(self.bad(why))),
         };
         self.lines += 1;
         match item {
-            Item::Blank => Ok(None),
-            Item::Scenario => Ok(None),
-            Item::Bridge(_) => Ok(None),
-            Item::Declared(_) => Ok(None),
+            Item::Blank => Ok(Next::Line),
+            Item::Scenario => Ok(Next::Line),
+            Item::Bridge(_) => Ok(Next::Line),
+            Item::Declared(_) => Ok(Next::Line),
             Item::Step(step) => {
                 self.step(alloc, step, text)?;
-                Ok(None)
+                Ok(Next::Line)
             }
-            Item::End => Ok(Some(Last::Ended)),
+            Item::Capture(length) => Ok(Next::Section(length)),
+            Item::End => Ok(Next::End(Last::Ended)),
         }
+    }
+
+    /// Reads the section of the line before. It does none of its steps.
+    pub(crate) fn captured(&self, alloc: Global, section: &[u8]) -> Result<Captured, NoMemory>
+        requires { length section.now ≤ longest_section }
+        ensures gives { IfOk result (IsCaptured self.now section.now) }
+        ensures in_time { IfOk result AreInTime }
+    {
+        match captured_steps(alloc, section, &self.roster) {
+            Ok(steps) => Ok(Captured::Steps(steps)),
+            Err(CapFault::At { offset, .. }) => {
+                Ok(Captured::End(self.bad_section(LineWhy::Capture(offset))))
+            }
+            Err(CapFault::NoMemory) => Err(AllocError),
+        }
+    }
+
+    /// The line before is bad, since its section is.
+    pub(crate) fn bad_section(&self, why: LineWhy) -> Last
+        ensures { result ≡ Last.Bad self.now.lines why }
+    {
+        Last::Bad(self.lines, why)
     }
 
     /// Does the first step, in a new world. The answer is its lines. A world is large, so its making has a function of its own:
@@ -108,7 +154,12 @@ impl Session {
     }
 
     /// Does a step, and writes its lines.
-    fn step(&mut self, alloc: Global, step: Step, text: &mut String) -> Result<(), NoMemory>
+    pub(crate) fn step(
+        &mut self,
+        alloc: Global,
+        step: Step,
+        text: &mut String,
+    ) -> Result<(), NoMemory>
         requires { in_time step ≡ true }
         ensures does { OnOk result (Does self.old step (string_bytes text.old) self.new (string_bytes text.new)) }
         ensures err { OnErr result (Extends (string_bytes text.old) (string_bytes text.new)) }

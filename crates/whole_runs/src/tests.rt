@@ -1,7 +1,9 @@
 //! Runs over memory: what they answer, and what they write.
+mod captures;
 mod faults;
 mod limits;
 mod rows;
+mod snooping;
 mod trees;
 
 use capture_runner::{Status, run};

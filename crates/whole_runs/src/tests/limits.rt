@@ -1,4 +1,4 @@
-//! The longest line and the longest input; the most addresses, waiting frames and changes.
+//! The longest line and the longest input; the most addresses, groups, waiting frames and changes.
 use super::rows::CHIP_START;
 use super::{ends_in, is_told, read_row};
 use capture_runner::Status;
@@ -50,6 +50,16 @@ fn longest_input(rt: HostRuntime) -> Result<(), Fail> {
 
 const ONE_UP: &str = "scenario 1\nport 1 p1 soft\ncmd port up p1\n";
 
+const THREE_UP: &str = "scenario 1
+port 1 p1 soft
+port 2 p2 soft
+port 3 p3 soft
+cmd port up p1
+cmd port up p2
+cmd port up p3
+publish
+";
+
 /// The 16,385th address is refused, an address that is there still moves, and room that was freed is used.
 #[test]
 fn address_limit(rt: HostRuntime) -> Result<(), Fail> {
@@ -65,6 +75,28 @@ fn address_limit(rt: HostRuntime) -> Result<(), Fail> {
     input.push_str("cmd fdb del 02:00:00:01:00:00 vlan 1\n")?;
     input.push_str("cmd fdb add 02:00:00:01:40:00 dev p1 vlan 1 static\nend\n")?;
     let told = "ok 16385 1\nrefused 16386 6\nok 16387 1\nok 16388 1\nend 16388 16389 16386 0\n";
+    ends_in(&rt, alloc, input.as_bytes(), Status::Ok, told)
+}
+
+/// The 16,385th address is refused, and behind as many addresses the 1,025th group.
+#[test]
+fn address_and_group_limits(rt: HostRuntime) -> Result<(), Fail> {
+    let alloc = rt.alloc();
+    let mut input = String::from_str(alloc, THREE_UP)?;
+    for number in 0..16_385u32 {
+        let [low, high, ..] = number.to_le_bytes();
+        let line = format!(in alloc;
+            "cmd fdb add 02:00:00:01:{high:02x}:{low:02x} dev p1 vlan 1 static\n"
+        )?;
+        input.push_str(line.as_str())?;
+    }
+    for number in 0..1025u32 {
+        let [low, high, ..] = number.to_le_bytes();
+        let line = format!(in alloc; "cmd mdb add 239.0.{high}.{low} dev p1 vlan 1\n")?;
+        input.push_str(line.as_str())?;
+    }
+    input.push_str("cmd mdb add 239.0.3.255 dev host vlan 1\nend\n")?;
+    let told = "ok 17413 1\nrefused 17414 7\nok 17415 1\nend 17415 17418 16384 0\n";
     ends_in(&rt, alloc, input.as_bytes(), Status::Ok, told)
 }
 

@@ -84,13 +84,41 @@ cmd fdb add 02:00:00:00:00:0b dev p2 vlan 7 static => refused 6 3
 cmd fdb add 02:00:00:00:00:0b dev p2 vlan 1 static => ok 7 1
 cmd fdb add 02:00:00:00:00:0b dev p3 vlan 1 static => refused 8 4
 cmd fdb del 02:00:00:00:00:0a vlan 1 => refused 9 5
-turn 1 => ok 10 0
-turn 1 => refused 11 11
-serve => refused 12 10
-report 1 => refused 13 12
-cmd port down p3 => ok 14 2
-cmd link p3 flood off => refused 15 2
-end => end 15 12 0 0
+cmd mdb add 10.0.0.1 dev p1 vlan 1 => refused 10 13
+turn 1 => ok 11 0
+turn 1 => refused 12 11
+serve => refused 13 10
+report 1 => refused 14 12
+cmd port down p3 => ok 15 2
+cmd link p3 flood off => refused 16 2
+end => end 16 12 0 0
+";
+    row_is_told(&rt, rt.alloc(), text, Status::Ok)
+}
+
+/// Memberships by command, and snooping switched off and on.
+#[test]
+fn groups_by_command(rt: HostRuntime) -> Result<(), Fail> {
+    let text = "scenario 1
+port 1 p1 soft
+port 2 p2 soft
+cmd port up p1 => ok 1 3
+cmd port up p2 => ok 2 3
+cmd mdb add 239.1.2.3 dev p1 vlan 1 => ok 3 1
+cmd mdb add 239.1.2.3 dev p1 vlan 1 => refused 4 4
+cmd mdb add 224.0.0.255 dev p2 vlan 7 => refused 5 13
+cmd mdb add 224.0.1.0 dev p2 vlan 7 => refused 6 3
+cmd mdb add FF02:0000:0000:0000:0000:0000:0000:0001 dev host vlan 1 => refused 7 13
+cmd mdb add ff02:0000:0000:0000:0000:0000:0000:0002 dev host vlan 1 => ok 8 1
+cmd mdb del 239.1.2.3 dev p2 vlan 7 => refused 9 5
+cmd mdb del 239.1.2.3 dev p1 vlan 1 => ok 10 1
+cmd mdb del 239.1.2.3 dev p1 vlan 1 => refused 11 5
+cmd snooping on => ok 12 0
+cmd snooping off => ok 13 1
+now 4000000 => ok 14 0
+cmd port down p2 => ok 15 2
+cmd mdb del 10.0.0.1 dev p2 vlan 1 => refused 16 2
+end => end 16 12 0 0
 ";
     row_is_told(&rt, rt.alloc(), text, Status::Ok)
 }
@@ -295,6 +323,14 @@ fn causes_of_bad_lines(rt: HostRuntime) -> Result<(), Fail> {
             "cmd fdb add 02:00:00:00:00:0a dev p1 vlan 4095 static\n",
             "number",
         ),
+        ("cmd mdb add 239.1.2.3 dev p1\n", "word"),
+        ("cmd mdb add 256.1.2.3 dev p2 vlan 0\n", "address"),
+        ("cmd mdb add 239.1.02.3 dev p1 vlan 1\n", "address"),
+        ("cmd mdb add 239.1.2 dev p1 vlan 1\n", "address"),
+        ("cmd mdb add ff05::1234 dev p1 vlan 1\n", "address"),
+        ("cmd mdb del 239.1.2.3 dev p2 vlan 0\n", "port"),
+        ("cmd mdb del 239.1.2.3 dev p1 vlan 0\n", "number"),
+        ("cmd snooping\n", "word"),
         ("rx one 0g\n", "number"),
         ("rx 2 0g\n", "port"),
         ("rx 300 00\n", "port"),

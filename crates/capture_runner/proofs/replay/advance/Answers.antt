@@ -1,7 +1,7 @@
-use Rattle.std.proofs.Common.{[], ◌∷◌, arith, refl, length-append}
+use Rattle.std.proofs.Common.{[], ◌∷◌, refl, arith, length-append}
 use Rattle.std.proofs.lemmas.List.{append-nil}
 use Rattle.run_io.proofs.ReadSteps.{reads_room}
-use Rattle.capture_runner.proofs.Steps.{long, closed, stopped, filled, taken_line}
+use Rattle.capture_runner.proofs.Steps.{long, closed, stopped, filled, taken_line, lessens}
 use Rattle.capture_runner.proofs.replay.advance.Goals as goal
 
 pub returns-in_ok-take-in-Ok-Some-clause-advances : goal.returns-in_ok-take-in-Ok-Some-clause-advances
@@ -10,27 +10,27 @@ returns-in_ok-take-in-Ok-Some-clause-advances g c = λ limit left written p.
     let line = rw (c.in-Ok-Some.is, c.in-Ok-Some.field-0-is, c.if-got.true) at next.line in
     let reads = rw (c.in-Ok-Some.is, c.in-Ok-Some.field-0-is, c.if-got.true) at next.calls.reads in
     let sound = rw c.in-Ok-Some.is at next.calls.ok in
-    taken_line left _ _ limit _ _ _ _ written _ _ _ c.in_ok-take-in-Ok-Some.field-0 p reads next.calls.within sound line.feedless c.in_ok-take-in-Ok-Some.ensures.takes c.in_ok-take-in-Ok-Some.ensures.lines
+    taken_line left _ _ limit _ _ _ _ written _ _ _ p reads next.calls.within sound line.feedless c.in_ok-take-in-Ok-Some.ensures.lines c.in_ok-take-in-Ok-Some.field-0 c.in_ok-take-in-Ok-Some.ensures.takes
 
 pub returns-in_ok-take-in-Ok-Some-clause-less : goal.returns-in_ok-take-in-Ok-Some-clause-less
-returns-in_ok-take-in-Ok-Some-clause-less g c = λ _.
+returns-in_ok-take-in-Ok-Some-clause-less g c =
     let next = c.next.follows.holds-at-none in
     let reads = rw (c.in-Ok-Some.is, c.in-Ok-Some.field-0-is, c.if-got.true) at next.calls.reads in
-    omega (arith, reads_room _ _ _ _ _ reads next.calls.within, length-append c.in-Ok-Some.got.bytes.now (10 ∷ []))
+    lessens _ _ (omega (arith, reads_room _ _ _ _ _ reads next.calls.within, length-append c.in-Ok-Some.got.bytes.now (10 ∷ []))) c.in_ok-take-in-Ok-Some.field-0
 
 pub returns-else-got-clause-advances : goal.returns-else-got-clause-advances
 returns-else-got-clause-advances g c = λ limit left written p.
     let next = c.next.follows.holds-at-none in
     let line = rw (c.in-Ok-Some.is, c.in-Ok-Some.field-0-is, c.if-got.false) at next.line in
     let reads = rw (c.in-Ok-Some.is, c.in-Ok-Some.field-0-is, c.if-got.false, append-nil c.in-Ok-Some.got.bytes.now) at next.calls.reads in
-    closed left _ _ limit _ _ _ _ _ c.close.result p reads (line.last refl).1 line.feedless line.short c.close.ensures
+    closed left _ _ limit _ _ _ _ p _ c.close.result reads next.calls.within (line.last refl).1 line.feedless line.short c.close.ensures
 
 pub returns-in-Ok-None-clause-advances : goal.returns-in-Ok-None-clause-advances
 returns-in-Ok-None-clause-advances g c = λ limit left written p.
     let next = c.next.follows.holds-at-none in
     let at = rw (c.in-Ok-None.is, c.in-Ok-None.field-0-is) at next.line in
     let reads = rw (c.in-Ok-None.is, c.in-Ok-None.field-0-is) at next.calls.reads in
-    closed left _ _ limit _ _ _ _ [] c.close-in-Ok-None.result p reads at refl (omega arith) c.close-in-Ok-None.ensures
+    closed left _ _ limit _ _ _ _ p [] c.close-in-Ok-None.result reads next.calls.within at refl (omega arith) c.close-in-Ok-None.ensures
 
 pub returns-in-Err-LineTooLong-clause-advances : goal.returns-in-Err-LineTooLong-clause-advances
 returns-in-Err-LineTooLong-clause-advances g c = λ limit left written p.
@@ -44,11 +44,11 @@ returns-in-Err-ReadFault-clause-advances g c = λ limit left written p.
     let next = c.next.follows.holds-at-none in
     let cause = rw (c.in-Err-ReadFault.is, c.in-Err-ReadFault.field-0-is) at (next.cause c.requires.sound) in
     let reads = rw c.in-Err-ReadFault.is at next.calls.reads in
-    stopped left _ _ limit _ _ _ _ p reads cause.1
+    stopped left _ _ limit _ _ _ _ p reads next.calls.within cause.1
 
 pub returns-in-Err-TooLong-clause-advances : goal.returns-in-Err-TooLong-clause-advances
 returns-in-Err-TooLong-clause-advances g c = λ limit left written p.
     let next = c.next.follows.holds-at-none in
     let cause = rw (c.in-Err-TooLong.is, c.in-Err-TooLong.field-0-is) at (next.cause c.requires.sound) in
     let reads = rw c.in-Err-TooLong.is at next.calls.reads in
-    filled left _ _ limit _ _ _ _ p reads cause
+    filled left _ _ limit _ _ _ _ p reads next.calls.within cause

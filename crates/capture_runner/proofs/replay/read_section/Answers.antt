@@ -1,0 +1,40 @@
+use Rattle.std.proofs.Common.{arith}
+use Rattle.run_io.proofs.ReadSteps.{reads_room}
+use Rattle.capture_runner.proofs.Sections.{cut_off, filled, stopped, taken_section}
+use Rattle.capture_runner.proofs.replay.read_section.Goals as goal
+
+pub returns-in_ok-captured-in-Ok-clause-sections : goal.returns-in_ok-captured-in-Ok-clause-sections
+returns-in_ok-captured-in-Ok-clause-sections g c = λ limit left text p.
+    let taken = c.take.follows.holds-at-none in
+    let reads = rw c.in-Ok.is at taken.calls.reads in
+    let piece = rw c.in-Ok.is at taken.piece in
+    let sound = rw c.in-Ok.is at taken.calls.ok in
+    taken_section left _ _ limit _ _ c.args.session.now text c.args.length p c.in-Ok.got.bytes.now reads taken.calls.within (piece.full c.if-got.true) c.in_ok-captured-in-Ok.field-0 sound c.in_ok-captured-in-Ok.ensures.gives
+
+pub returns-in_ok-captured-in-Ok-clause-less : goal.returns-in_ok-captured-in-Ok-clause-less
+returns-in_ok-captured-in-Ok-clause-less g c =
+    let taken = c.take.follows.holds-at-none in
+    let reads = rw c.in-Ok.is at taken.calls.reads in
+    omega (arith, reads_room _ _ _ _ _ reads taken.calls.within)
+
+pub returns-else-got-clause-sections : goal.returns-else-got-clause-sections
+returns-else-got-clause-sections g c = λ limit left text p.
+    let taken = c.take.follows.holds-at-none in
+    let reads = rw c.in-Ok.is at taken.calls.reads in
+    let piece = rw c.in-Ok.is at taken.piece in
+    let last = piece.last c.if-got.false in
+    rw c.bad_section.ensures (cut_off left _ _ limit _ _ c.args.session.now text c.args.length p c.in-Ok.got.bytes.now reads taken.calls.within last.1 last.0)
+
+pub returns-in-Err-ReadFault-clause-sections : goal.returns-in-Err-ReadFault-clause-sections
+returns-in-Err-ReadFault-clause-sections g c = λ limit left text p.
+    let taken = c.take.follows.holds-at-none in
+    let cause = rw (c.in-Err-ReadFault.is, c.in-Err-ReadFault.field-0-is) at (taken.cause c.requires.sound) in
+    let reads = rw c.in-Err-ReadFault.is at taken.calls.reads in
+    stopped left _ _ limit _ _ c.args.session.now text c.args.length p reads taken.calls.within cause.1
+
+pub returns-in-Err-TooLong-clause-sections : goal.returns-in-Err-TooLong-clause-sections
+returns-in-Err-TooLong-clause-sections g c = λ limit left text p.
+    let taken = c.take.follows.holds-at-none in
+    let cause = rw (c.in-Err-TooLong.is, c.in-Err-TooLong.field-0-is) at (taken.cause c.requires.sound) in
+    let reads = rw c.in-Err-TooLong.is at taken.calls.reads in
+    filled left _ _ limit _ _ c.args.session.now text c.args.length p reads taken.calls.within cause.0 cause.1

@@ -1,0 +1,212 @@
+//! Lines `capture`, with their sections.
+use super::{ends_in, is_told, ran, read_row};
+use capture_runner::Status;
+use std::alloc::Global;
+use std::test::Fail;
+
+/// A section header: type, total length, magic, version 1.0, an unknown section length, total length.
+const HEADER: &[u8] =
+    b"\x0a\x0d\x0d\x0a\x1c\x00\x00\x00\x4d\x3c\x2b\x1a\x01\x00\x00\x00\xff\xff\xff\xff\xff\xff\xff\xff\x1c\x00\x00\x00";
+
+/// An Ethernet interface: type, total length, link type 1, reserved, snap length, total length.
+const INTERFACE: &[u8] =
+    b"\x01\x00\x00\x00\x14\x00\x00\x00\x01\x00\x00\x00\x00\x00\x04\x00\x14\x00\x00\x00";
+
+/// A packet by interface 0: type, total length, interface, time, captured and original length 16, the frame, total length.
+const PACKET: &[u8] =
+    b"\x06\x00\x00\x00\x30\x00\x00\x00\x00\x00\x00\x00\x00\x00\x00\x00\x00\x00\x00\x00\x10\x00\x00\x00\x10\x00\x00\x00\x02\x00\x00\x00\x00\x0b\x02\x00\x00\x00\x00\x0a\x88\xb5\x01\x02\x30\x00\x00\x00";
+
+/// A packet of no bytes by interface 0.
+const EMPTY_PACKET: &[u8] =
+    b"\x06\x00\x00\x00\x20\x00\x00\x00\x00\x00\x00\x00\x00\x00\x00\x00\x00\x00\x00\x00\x00\x00\x00\x00\x00\x00\x00\x00\x20\x00\x00\x00";
+
+/// Three ports that are up, and published.
+const THREE_UP: &str = "scenario 1
+port 1 p1 soft
+port 2 p2 soft
+port 3 p3 soft
+cmd port up p1 => ok 1 3
+cmd port up p2 => ok 2 3
+cmd port up p3 => ok 3 3
+publish => ok 4 0
+";
+
+/// A section of a header, an interface and a packet, with one byte changed. Its place counts from the section's first byte.
+fn section(alloc: Global, at: usize, byte: u8) -> Result<Vec<u8>, Fail> {
+    let mut bytes = Vec::from_slice(alloc, HEADER)?;
+    bytes.extend_from_slice(INTERFACE)?;
+    bytes.extend_from_slice(PACKET)?;
+    match bytes.get_mut(at) {
+        Some(place) => *place = byte,
+        None => return Err(Fail::new("the section isn't so long")),
+    }
+    Ok(bytes)
+}
+
+/// A changed byte, the length in the line, how many bytes of the section stand there, what follows them, and what is told
+/// behind the steps before.
+#[test]
+fn captures(rt: HostRuntime) -> Result<(), Fail> {
+    let alloc = rt.alloc();
+    let frame = "02000000000b02000000000a88b50102";
+    let sent = format!(in alloc;
+        "soft 1 at 9\ntx 1 2 {frame}\ntx 1 3 {frame}\nok 6 1\nend 6 10 1 0\n"
+    )?;
+    let serve = "serve\nend\n";
+    let rows = [
+        ((0, 0x0a), "96", 96, serve, Status::Ok, sent.as_str()),
+        ((0, 0x0a), "96", 95, "", Status::BadLine, "bad 9 unended\n"),
+        (
+            (0, 0x0a),
+            "95",
+            95,
+            serve,
+            Status::BadLine,
+            "bad 9 capture 48\n",
+        ),
+        (
+            (56, 1),
+            "96",
+            96,
+            serve,
+            Status::BadLine,
+            "bad 9 capture 48\n",
+        ),
+        (
+            (8, 0x4e),
+            "96",
+            96,
+            serve,
+            Status::BadLine,
+            "bad 9 capture 0\n",
+        ),
+        (
+            (36, 2),
+            "96",
+            96,
+            serve,
+            Status::BadLine,
+            "bad 9 capture 48\n",
+        ),
+        ((0, 0x0a), "96", 96, "", Status::BadLine, "bad 10 unended\n"),
+        ((0, 0x0a), "96", 96, "end", Status::Ok, "end 5 9 0 1\n"),
+        (
+            (0, 0x0a),
+            "96",
+            96,
+            "port 4 p4 soft\n",
+            Status::BadLine,
+            "bad 10 place\n",
+        ),
+        (
+            (0, 0x0a),
+            "16777217",
+            96,
+            serve,
+            Status::BadLine,
+            "bad 9 number\n",
+        ),
+        ((0, 0x0a), "0", 0, "end\n", Status::Ok, "end 4 9 0 0\n"),
+        (
+            (0, 0x0a),
+            "0",
+            0,
+            "capture 0\nend\n",
+            Status::Ok,
+            "end 4 9 0 0\n",
+        ),
+    ];
+    for ((at, byte), length, count, rest, status, told) in rows {
+        let before = read_row(alloc, THREE_UP)?;
+        let line = format!(in alloc; "capture {length}\n")?;
+        let section = section(alloc, at, byte)?;
+        let (section, _) = section.split_at(count.min(section.len()));
+        let mut input = Vec::from_slice(alloc, before.input.as_bytes())?;
+        input.extend_from_slice(line.as_bytes())?;
+        input.extend_from_slice(section)?;
+        input.extend_from_slice(rest.as_bytes())?;
+        let told = format!(in alloc; "{}{told}", before.told.as_str())?;
+        is_told(&rt, alloc, &input, status, told.as_str())?;
+    }
+    Ok(())
+}
+
+/// Bytes of sections as long as can be: a header, an interface, and packets without bytes.
+fn longest_section(alloc: Global) -> Result<Vec<u8>, Fail> {
+    let mut bytes = Vec::with_capacity(alloc, 1 << 24)?;
+    bytes.extend_from_slice(HEADER)?;
+    bytes.extend_from_slice(INTERFACE)?;
+    for _ in 0..524_286 {
+        bytes.extend_from_slice(EMPTY_PACKET)?;
+    }
+    bytes.extend_from_slice(b"\xfe\xca\x00\x80\x10\x00\x00\x00\x00\x00\x00\x00\x10\x00\x00\x00")?;
+    Ok(bytes)
+}
+
+/// Each of its packets is a step.
+#[test]
+fn longest_capture(rt: HostRuntime) -> Result<(), Fail> {
+    let alloc = rt.alloc();
+    let section = longest_section(alloc)?;
+    assert_eq!(rt; section.len(), 1 << 24);
+    let mut input = Vec::from_slice(alloc, b"scenario 1\nport 1 p1 soft\ncapture 16777216\n")?;
+    input.extend_from_slice(&section)?;
+    input.extend_from_slice(b"end\n")?;
+    let told = "unread 524285 short\nunread 524286 short\nend 524286 0 0 0\n";
+    ends_in(&rt, alloc, &input, Status::Ok, told)
+}
+
+/// Reads that fail in a section, and one that finds the end there: the first takes 65,536 bytes, the second as many as the lines
+/// had, the third what is left, and the fourth finds the end.
+#[test]
+fn section_is_cut_off(rt: HostRuntime) -> Result<(), Fail> {
+    let alloc = rt.alloc();
+    let section = longest_section(alloc)?;
+    let (part, _) = section.split_at(section.len().min(100_000));
+    let mut input = Vec::from_slice(
+        alloc,
+        b"scenario 1\nport 1 p1 soft\ncmd port up p1\ncapture 100001\n",
+    )?;
+    input.extend_from_slice(part)?;
+    let rows = [
+        (2, Status::ReadFault, "transcript 1\nok 1 3\nread fault\n"),
+        (4, Status::ReadFault, "transcript 1\nok 1 3\nread fault\n"),
+        (5, Status::BadLine, "transcript 1\nok 1 3\nbad 4 unended\n"),
+    ];
+    for (call, status, wrote) in rows {
+        let outcome = ran(alloc, &["replay"], &input, &[call], &[])?;
+        assert_eq!(rt; outcome.status, status, "at {call}");
+        assert_eq!(rt; outcome.wrote.as_slice(), wrote.as_bytes(), "at {call}");
+    }
+    Ok(())
+}
+
+/// Adds a block of a type of this test's own with so many bytes in its body: it is skipped.
+fn add_block(alloc: Global, bytes: &mut Vec<u8>, body: u32) -> Result<(), Fail> {
+    let total = body.saturating_add(12).to_le_bytes();
+    bytes.extend_from_slice(b"\xfe\xca\x00\x80")?;
+    bytes.extend_from_slice(total.as_slice())?;
+    bytes.extend_from_slice(&vec![in alloc; 0u8; body as usize]?)?;
+    bytes.extend_from_slice(total.as_slice())?;
+    Ok(())
+}
+
+/// At most 2^28 bytes are taken, of a section too: nobody knows then whether the rest of it comes.
+#[test]
+fn section_beyond_the_longest_input(rt: HostRuntime) -> Result<(), Fail> {
+    let alloc = rt.alloc();
+    let mut section = Vec::from_slice(alloc, b"capture 16777216\n")?;
+    section.extend_from_slice(HEADER)?;
+    for _ in 0..15 {
+        add_block(alloc, &mut section, (1 << 20) - 12)?;
+    }
+    add_block(alloc, &mut section, (1 << 20) - 40)?;
+    assert_eq!(rt; section.len(), (1 << 24) + 17);
+    let mut input = Vec::from_slice(alloc, b"scenario 1\n")?;
+    for _ in 0..16 {
+        input.extend_from_slice(&section)?;
+    }
+    input.extend_from_slice(b"end\n")?;
+    let told = "transcript 1\ntoo long\n";
+    ends_in(&rt, alloc, &input, Status::TooLong, told)
+}
