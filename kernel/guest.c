@@ -1,0 +1,424 @@
+/* Runs scenarios of software ports in the kernel's bridge; root's, in the guest.
+ *
+ * The file holds scenarios, each behind a line `=== NAME`. Each has a network namespace of its own, with a bridge br0
+ * and a veth pair for each port: frames enter and are seen at the far ends. For each scenario it writes
+ *
+ *     === NAME
+ *     tx FRAME PORT HEX     the FRAME-th frame left at PORT, or reached the host (0)
+ *     ok STEP               the kernel took the command of this step
+ *     refused STEP WORDS    it didn't, and said so
+ *     fatal WORDS           the scenario ended early
+ *     === end
+ */
+#define _GNU_SOURCE
+#include <arpa/inet.h>
+#include <errno.h>
+#include <fcntl.h>
+#include <linux/if_packet.h>
+#include <net/ethernet.h>
+#include <net/if.h>
+#include <sched.h>
+#include <spawn.h>
+#include <stdarg.h>
+#include <stdio.h>
+#include <stdlib.h>
+#include <string.h>
+#include <sys/mount.h>
+#include <sys/socket.h>
+#include <sys/wait.h>
+#include <time.h>
+#include <unistd.h>
+
+#define PORTS 64
+#define LONGEST 9100	/* bytes of a frame */
+#define SETTLE 3000	/* microseconds from a frame to the look at what came out */
+
+extern char **environ;
+
+static char name[PORTS][20];	/* of the bridge's port, "" where none is declared */
+static int far_end[PORTS];	/* a socket on the device at the other end of the pair */
+static int up[PORTS];
+static int host = -1;		/* a socket on br0 */
+static unsigned char own[6] = { 2, 0, 0, 0, 0, 1 };
+static unsigned char entered[12];	/* the addresses of the last frame */
+static struct { int port, type, socket; } past[256];	/* what a port's own device hands up past the bridge, by type */
+static int pasts;
+static struct timespec start;
+static int step, frame;
+static char words[400];		/* what the last command said */
+
+static void fatal(const char *what)
+{
+	printf("fatal %s (%s) %s\n", what, strerror(errno), words);
+	fflush(stdout);
+	_exit(1);
+}
+
+static void pause_for(long microseconds)
+{
+	struct timespec t = { microseconds / 1000000, microseconds % 1000000 * 1000 };
+
+	while (nanosleep(&t, &t) && errno == EINTR)
+		;
+}
+
+/* Runs a command; gives its status, and leaves what it said in `words`. */
+static int run(const char *format, ...)
+{
+	char line[400], *argv[40], *rest = line;
+	int n = 0, said[2], status;
+	size_t length = 0;
+	ssize_t got;
+	pid_t pid;
+	va_list operands;
+	posix_spawn_file_actions_t files;
+
+	va_start(operands, format);
+	vsnprintf(line, sizeof line, format, operands);
+	va_end(operands);
+	while (n < 39 && (argv[n] = strsep(&rest, " ")))
+		n += *argv[n] != 0;
+	argv[n] = NULL;
+	if (pipe2(said, O_CLOEXEC))
+		fatal("pipe");
+	posix_spawn_file_actions_init(&files);
+	posix_spawn_file_actions_addopen(&files, 0, "/dev/null", O_RDWR, 0);
+	posix_spawn_file_actions_adddup2(&files, 0, 1);
+	posix_spawn_file_actions_adddup2(&files, said[1], 2);
+	if (posix_spawnp(&pid, argv[0], &files, NULL, argv, environ))
+		fatal(argv[0]);
+	posix_spawn_file_actions_destroy(&files);
+	close(said[1]);
+	while (length < sizeof words - 1 && (got = read(said[0], words + length, sizeof words - 1 - length)) > 0)
+		length += got;
+	words[length] = 0;
+	for (char *c = words; *c; c++)
+		if (*c == '\n')
+			*c = ' ';
+	close(said[0]);
+	waitpid(pid, &status, 0);
+	return WIFEXITED(status) ? WEXITSTATUS(status) : 255;
+}
+
+/* Keeps the guest's own IPv6 off the devices that are made from now on. */
+static void silence(void)
+{
+	const char *path = "/proc/sys/net/ipv6/conf/default/disable_ipv6";
+	int file = open(path, O_WRONLY);
+
+	if (file < 0 || write(file, "1", 1) != 1)
+		fatal(path);
+	close(file);
+}
+
+static int listen_on(const char *device, int type)
+{
+	struct sockaddr_ll address = { .sll_family = AF_PACKET, .sll_protocol = htons(type),
+		.sll_ifindex = if_nametoindex(device) };
+	int s = socket(AF_PACKET, SOCK_RAW | SOCK_NONBLOCK | SOCK_CLOEXEC, 0), one = 1, room = 1 << 22;
+
+	if (s < 0 || bind(s, (struct sockaddr *)&address, sizeof address))
+		fatal(device);
+	setsockopt(s, SOL_PACKET, PACKET_AUXDATA, &one, sizeof one);
+	setsockopt(s, SOL_PACKET, PACKET_IGNORE_OUTGOING, &one, sizeof one);
+	setsockopt(s, SOL_SOCKET, SO_RCVBUFFORCE, &room, sizeof room);
+	return s;
+}
+
+static void make_bridge(void)
+{
+	if (run("ip link add name br0 arp off up address %02x:%02x:%02x:%02x:%02x:%02x mtu 9050 type bridge vlan_filtering 1"
+		" stp_state 0 mcast_snooping 1 mcast_querier 0 no_linklocal_learn 1",
+		own[0], own[1], own[2], own[3], own[4], own[5]))
+		fatal("br0");
+	host = listen_on("br0", ETH_P_ALL);
+}
+
+static void declare(int port, const char *device)
+{
+	char far[20];
+
+	snprintf(name[port], sizeof name[port], "%s", device);
+	snprintf(far, sizeof far, "far%d", port);
+	if (run("ip link add name %s address 02:fe:00:00:00:%02x mtu 9050 type veth peer name %s address 02:fd:00:00:00:%02x"
+		" mtu 9050", device, port, far, port) || run("ip link set %s arp off promisc on up", far))
+		fatal(device);
+	far_end[port] = listen_on(far, ETH_P_ALL);
+}
+
+/* One frame of a socket, with the tag that the kernel took off put back; gives its length, or -1 where none waits. */
+static int take(int s, unsigned char *bytes)
+{
+	union { char room[CMSG_SPACE(sizeof(struct tpacket_auxdata))]; struct cmsghdr header; } control;
+	struct iovec place = { bytes, LONGEST };
+	struct msghdr message = { .msg_iov = &place, .msg_iovlen = 1, .msg_control = &control,
+		.msg_controllen = sizeof control };
+	int length = recvmsg(s, &message, 0);
+
+	if (length < 0)
+		return -1;
+	for (struct cmsghdr *c = CMSG_FIRSTHDR(&message); c; c = CMSG_NXTHDR(&message, c)) {
+		struct tpacket_auxdata *x = (void *)CMSG_DATA(c);
+
+		if (c->cmsg_level != SOL_PACKET || c->cmsg_type != PACKET_AUXDATA || !(x->tp_status & TP_STATUS_VLAN_VALID))
+			continue;
+		memmove(bytes + 16, bytes + 12, length - 12);
+		bytes[12] = x->tp_vlan_tpid >> 8;
+		bytes[13] = x->tp_vlan_tpid;
+		bytes[14] = x->tp_vlan_tci >> 8;
+		bytes[15] = x->tp_vlan_tci;
+		length += 4;
+	}
+	return length;
+}
+
+/* Whether the guest made the frame itself: its source is the bridge's or a pair's. */
+static int guests_own(const unsigned char *bytes)
+{
+	if (!memcmp(bytes, entered, 12))
+		return 0;
+	return !memcmp(bytes + 6, own, 6) || (bytes[6] == 2 && (bytes[7] == 0xfe || bytes[7] == 0xfd));
+}
+
+/* Takes what waits at a socket; writes it where `told`. */
+static void drain(int s, int port, int told)
+{
+	unsigned char bytes[LONGEST + 4];
+	int length;
+
+	while ((length = take(s, bytes)) >= 0) {
+		if (!told || guests_own(bytes))
+			continue;
+		printf("tx %d %d ", frame, port);
+		for (int i = 0; i < length; i++)
+			printf("%02x", bytes[i]);
+		printf("\n");
+	}
+}
+
+static void drain_all(int told)
+{
+	drain(host, 0, told);
+	for (int i = 0; i < pasts; i++)
+		drain(past[i].socket, 0, told && up[past[i].port]);
+	for (int port = 1; port < PORTS; port++)
+		if (name[port][0])
+			drain(far_end[port], port, told);
+}
+
+/* Sees what the port's own device hands up past the bridge of frames of this one's type. */
+static void listen_past(int port, const unsigned char *bytes, int length)
+{
+	int type = bytes[12] << 8 | bytes[13];
+
+	if (type == 0x8100 && length >= 18)
+		type = bytes[16] << 8 | bytes[17];
+	if (type < 1536)
+		type = ETH_P_802_2;
+	for (int i = 0; i < pasts; i++)
+		if (past[i].port == port && past[i].type == type)
+			return;
+	if (pasts == 256)
+		fatal("types");
+	past[pasts].port = port;
+	past[pasts].type = type;
+	past[pasts++].socket = listen_on(name[port], type);
+}
+
+static void enter(int port, const char *hex)
+{
+	unsigned char bytes[LONGEST];
+	int length = 0;
+
+	frame++;
+	for (; length < LONGEST && sscanf(hex, "%2hhx", &bytes[length]) == 1; hex += 2)
+		length++;
+	if (length < 14)
+		return;
+	memcpy(entered, bytes, 12);
+	if (up[port] && !memcmp(bytes, "\x01\x80\xc2\x00\x00", 5) && bytes[5] > 0 && bytes[5] < 16)
+		listen_past(port, bytes, length);
+	drain_all(0);
+	if (send(far_end[port], bytes, length, 0) != length)
+		fatal("send");
+	pause_for(SETTLE);
+	drain_all(1);
+}
+
+/* The state of a port in the bridge, a digit; 0 where it is in none. */
+static char port_state(const char *device)
+{
+	char path[100], state = 0;
+	int file;
+
+	snprintf(path, sizeof path, "/sys/class/net/%s/brport/state", device);
+	file = open(path, O_RDONLY);
+	if (file >= 0 && read(file, &state, 1) != 1)
+		state = 0;
+	close(file);
+	return state;
+}
+
+static int port_command(const char *what, const char *device)
+{
+	int port = 1, status;
+
+	while (port < PORTS && strcmp(name[port], device))
+		port++;
+	if (port == PORTS || up[port] == !strcmp(what, "up")) {
+		snprintf(words, sizeof words, "the port is so already");
+		return 1;
+	}
+	if (up[port]) {
+		up[port] = 0;
+		return run("ip link set %s nomaster", device);
+	}
+	status = run("ip link set %s master br0 up", device);
+	up[port] = !status;
+	for (int i = 0; i < 200 && !status && port_state(device) < '1'; i++)
+		pause_for(5000);
+	return status;
+}
+
+static int delete_address(const char *address, const char *vlan)
+{
+	for (int port = 1; port < PORTS; port++)
+		if (up[port] && !run("bridge fdb del %s dev %s master vlan %s", address, name[port], vlan))
+			return 0;
+	return run("bridge fdb del %s dev br0 self vlan %s", address, vlan);
+}
+
+/* Carries out the words of a `cmd` line; gives 0 where the kernel took it. */
+static int command(int n, char **w)
+{
+#define IS(i, word) (n > (i) && !strcmp(w[i], word))
+	if (IS(0, "port") && n == 3)
+		return port_command(w[1], w[2]);
+	if (IS(0, "link") && IS(2, "cost"))
+		return run("bridge link set dev %s cost %s", w[1], w[3]);
+	if (IS(0, "link") && IS(2, "priority"))
+		return run("bridge link set dev %s priority %d", w[1], atoi(w[3]) / 4);
+	if (IS(0, "link") && n == 4)
+		return run("bridge link set dev %s %s %s", w[1], w[2], w[3]);
+	if (IS(0, "vlan") && n >= 6)
+		return run("bridge vlan %s vid %s dev %s %s %s", w[1], w[3], IS(5, "host") ? "br0 self" : w[5],
+			   n > 6 ? w[6] : "", n > 7 ? w[7] : "");
+	if (IS(0, "fdb") && IS(1, "add") && IS(4, "host"))
+		return run("bridge fdb add %s dev br0 self local vlan %s", w[2], w[6]);
+	if (IS(0, "fdb") && IS(1, "add") && n == 8)
+		return run("bridge fdb add %s dev %s master %s vlan %s", w[2], w[4],
+			   IS(7, "extern") ? "extern_learn" : "static", w[6]);
+	if (IS(0, "fdb") && IS(1, "del") && n == 5)
+		return delete_address(w[2], w[4]);
+	if (IS(0, "mdb") && n == 7)
+		return run("bridge mdb %s dev br0 port %s grp %s %s vid %s", w[1], IS(4, "host") ? "br0" : w[4], w[2],
+			   IS(4, "host") || IS(1, "del") ? "" : "permanent", w[6]);
+	if (IS(0, "stp") && IS(1, "priority"))
+		return run("ip link set br0 type bridge priority %s", w[2]);
+	if (IS(0, "stp"))
+		return run("ip link set br0 type bridge stp_state %d", IS(1, "on"));
+	if (IS(0, "ageing"))
+		return run("ip link set br0 type bridge ageing_time %ld", atol(w[1]) * 100);
+	if (IS(0, "snooping"))
+		return run("ip link set br0 type bridge mcast_snooping %d", IS(1, "on"));
+	fatal("a command that the guest can't carry out");
+	return 1;
+}
+
+/* Sleeps until so many milliseconds after the declarations. */
+static void sleep_until(long milliseconds)
+{
+	struct timespec t = { start.tv_sec + milliseconds / 1000, start.tv_nsec + milliseconds % 1000 * 1000000 };
+
+	if (t.tv_nsec >= 1000000000) {
+		t.tv_nsec -= 1000000000;
+		t.tv_sec++;
+	}
+	while (clock_nanosleep(CLOCK_MONOTONIC, TIMER_ABSTIME, &t, NULL) == EINTR)
+		;
+}
+
+static void do_step(int n, char **w)
+{
+	step++;
+	if (IS(0, "cmd")) {
+		if (command(n - 1, w + 1))
+			printf("refused %d %s\n", step, words);
+		else
+			printf("ok %d\n", step);
+		pause_for(1000);
+	} else if (IS(0, "rx") && n == 3) {
+		enter(atoi(w[1]), w[2]);
+	} else if (IS(0, "now") && n == 2) {
+		sleep_until(atol(w[1]));
+	}
+	/* serve and publish: the kernel has done it */
+}
+
+static void scenario(FILE *file)
+{
+	static char line[20100];
+	char *w[40], *rest;
+	int n;
+
+	while (fgets(line, sizeof line, file)) {
+		line[strcspn(line, "\n")] = 0;
+		for (n = 0, rest = line; n < 39 && (w[n] = strsep(&rest, " "));)
+			n += *w[n] != 0;
+		if (IS(0, "end"))
+			return;
+		if (IS(0, "bridge")) {
+			sscanf(w[1], "%hhx:%hhx:%hhx:%hhx:%hhx:%hhx", own, own + 1, own + 2, own + 3, own + 4, own + 5);
+		} else if (IS(0, "port")) {
+			declare(atoi(w[1]), w[2]);
+		} else if (n && !IS(0, "scenario")) {
+			if (host < 0) {
+				make_bridge();
+				clock_gettime(CLOCK_MONOTONIC, &start);
+			}
+			do_step(n, w);
+		}
+	}
+}
+
+static void own_namespace(void)
+{
+	if (unshare(CLONE_NEWNET | CLONE_NEWNS))
+		fatal("unshare");
+	/* sysfs shows the devices of the namespace that mounted it */
+	mount("none", "/", NULL, MS_REC | MS_PRIVATE, NULL);
+	umount2("/sys", MNT_DETACH);
+	mount("sysfs", "/sys", "sysfs", 0, NULL);
+	silence();
+}
+
+int main(int argc, char **argv)
+{
+	static char line[20100];
+	FILE *file = fopen(argc > 1 ? argv[1] : "", "r");
+
+	if (!file)
+		return 1;
+	while (fgets(line, sizeof line, file)) {
+		if (strncmp(line, "=== ", 4))
+			continue;
+		printf("%s", line);
+		fflush(stdout);
+		long at = ftell(file);
+		pid_t child = fork();
+		if (!child) {
+			FILE *again = fopen(argv[1], "r");
+
+			if (!again || fseek(again, at, SEEK_SET))
+				fatal(argv[1]);
+			own_namespace();
+			scenario(again);
+			fflush(stdout);
+			_exit(0);
+		}
+		waitpid(child, NULL, 0);
+		printf("=== end\n");
+		fflush(stdout);
+	}
+	return 0;
+}
