@@ -131,6 +131,51 @@ fn captures(rt: HostRuntime) -> Result<(), Fail> {
     Ok(())
 }
 
+/// A section whose numbers have their highest byte first: a header, three interfaces, a packet by interface 1, and one by
+/// interface 2 whose frame holds a line `end`.
+const HIGHEST_FIRST: [&[u8]; 6] = [
+    b"\x0a\x0d\x0d\x0a\x00\x00\x00\x1c\x1a\x2b\x3c\x4d\x00\x01\x00\x00\xff\xff\xff\xff\xff\xff\xff\xff\x00\x00\x00\x1c",
+    b"\x00\x00\x00\x01\x00\x00\x00\x14\x00\x01\x00\x00\x00\x04\x00\x00\x00\x00\x00\x14",
+    b"\x00\x00\x00\x01\x00\x00\x00\x14\x00\x01\x00\x00\x00\x04\x00\x00\x00\x00\x00\x14",
+    b"\x00\x00\x00\x01\x00\x00\x00\x14\x00\x01\x00\x00\x00\x04\x00\x00\x00\x00\x00\x14",
+    b"\x00\x00\x00\x06\x00\x00\x00\x30\x00\x00\x00\x01\x00\x00\x00\x00\x00\x00\x00\x00\x00\x00\x00\x10\x00\x00\x00\x10\x02\x00\x00\x00\x00\x0b\x02\x00\x00\x00\x00\x0a\x88\xb5\x01\x02\x00\x00\x00\x30",
+    b"\x00\x00\x00\x06\x00\x00\x00\x34\x00\x00\x00\x02\x00\x00\x00\x00\x00\x00\x00\x00\x00\x00\x00\x13\x00\x00\x00\x13\x02\x00\x00\x00\x00\x0a\x02\x00\x00\x00\x00\x0b\x88\xb5\nend\n\x00\x00\x00\x00\x34",
+];
+
+/// Ports that are declared in another order than that of their numbers.
+const OUT_OF_ORDER: &str = "scenario 1
+port 9 p9 soft
+port 3 p3 soft
+port 60 p60 soft
+cmd port up p9 => ok 1 3
+cmd port up p3 => ok 2 3
+cmd port up p60 => ok 3 3
+publish => ok 4 0
+";
+
+/// Interface i is the i-th port that was declared, whatever its number, and no byte of a section is a line.
+#[test]
+fn interfaces_are_ports_as_declared(rt: HostRuntime) -> Result<(), Fail> {
+    let alloc = rt.alloc();
+    let before = read_row(alloc, OUT_OF_ORDER)?;
+    let mut input = Vec::from_slice(alloc, before.input.as_bytes())?;
+    input.extend_from_slice(b"capture 188\n")?;
+    for piece in HIGHEST_FIRST {
+        input.extend_from_slice(piece)?;
+    }
+    input.extend_from_slice(b"serve\nserve\nend\n")?;
+    let (first, second) = (
+        "02000000000b02000000000a88b50102",
+        "02000000000a02000000000b88b50a656e640a",
+    );
+    let told = format!(in alloc;
+        "{}soft 1 at 9\ntx 1 9 {first}\ntx 1 60 {first}\nok 7 1\nsoft 2 at 9\ntx 2 3 {second}\ntx 2 9 {second}\nok 8 1\nend 8 11 2 0\n",
+        before.told.as_str()
+    )?;
+    is_told(&rt, alloc, &input, Status::Ok, told.as_str())?;
+    Ok(())
+}
+
 /// Bytes of sections as long as can be: a header, an interface, and packets without bytes.
 fn longest_section(alloc: Global) -> Result<Vec<u8>, Fail> {
     let mut bytes = Vec::with_capacity(alloc, 1 << 24)?;
