@@ -1,7 +1,9 @@
 -- One name to unfold where a proof computes with the definitions.
 use Rattle.std.specs.Fmt.{digits}
+use Rattle.br_model.specs.Generator.{made, frames_from}
 use Rattle.br_model.specs.Leave.{all_ports, egress_ports, ports_out, leave}
 use Rattle.br_model.specs.LineForms.{line_says}
+use Rattle.br_model.specs.Listings.{listed}
 use Rattle.br_model.specs.Messages.{message}
 use Rattle.br_model.specs.Operands.{number, new_port, new_name, port_number, port_name, device, mac, group, hex, flag}
 use Rattle.br_model.specs.Plane.Runs.{run}
@@ -9,6 +11,7 @@ use Rattle.br_model.specs.Reaction.{react}
 use Rattle.br_model.specs.Runs.{told}
 use Rattle.br_model.specs.Captures.{cut, read as read_blocks}
 use Rattle.br_model.specs.Scenario.{front, read, scenario_by}
+use Rattle.br_model.specs.Summary.{summary}
 use Rattle.br_model.specs.TreeSending.{transmit, drops_put_off}
 use Rattle.br_model.specs.TreeStates.{states_follow, states_move}
 use Rattle.br_model.specs.TreeStep.{settled, tree_step}
@@ -29,3 +32,8 @@ computing_tree = tt
 unfoldable pub computing_captures : Unit {0}
 unfolding computing cut read_blocks
 computing_captures = tt
+
+-- and these the answers of the other commands
+unfoldable pub computing_commands : Unit {0}
+unfolding computing listed made frames_from summary
+computing_commands = tt

@@ -3,6 +3,7 @@ pub mod ApplyingLaws
 pub mod BpduFacts
 pub mod CaptureRows
 pub mod ChipRows
+pub mod CommandRows
 pub mod Computing
 pub mod CoursesTied
 pub mod Cuts
@@ -16,6 +17,7 @@ pub mod GroupOrders
 pub mod GroupRows
 pub mod KeySets
 pub mod Least
+pub mod MadeRead
 pub mod MapLaws
 pub mod MessageRows
 pub mod PairKeys

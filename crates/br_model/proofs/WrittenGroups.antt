@@ -10,8 +10,8 @@ use Rattle.std.proofs.lemmas.List.Folds.{list_all-append}
 use Rattle.br_model.specs.declared.group.Ip.{Ip}
 use Rattle.br_model.specs.declared.group.Ip.TheVariants.{V4, V6}
 use Rattle.br_model.specs.declared.scenario.LineWhy.TheVariants.{Address}
-use Rattle.br_model.specs.Digits.{is_digit, hex_digit, in_front}
-use Rattle.br_model.specs.IpWords.{up_to, octet, four_digits, each, in_parts, address_four, address_six, four_or_six}
+use Rattle.br_model.specs.Digits.{is_digit, hex_digit, in_front, up_to}
+use Rattle.br_model.specs.IpWords.{octet, four_digits, each, in_parts, address_four, address_six, four_or_six}
 use Rattle.br_model.specs.Numbers.{number}
 use Rattle.br_model.specs.Operands.{group, found}
 use Rattle.br_model.specs.ScenarioText.{byte_at, dotted, digits_at, groups_of_four, ip_text}

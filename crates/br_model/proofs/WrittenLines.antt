@@ -372,7 +372,7 @@ take_whole zero (b ∷ bytes) h = absurd (omega arith)
 take_whole (suc n) [] h = refl
 take_whole (suc n) (b ∷ bytes) h = ap (λ (bs : List ℕ). b ∷ bs) (take_whole n bytes (omega arith))
 
-shown_whole : (bytes : List ℕ) → 0 < length bytes → length bytes ≤ longest_frame → shown bytes ≡ bytes
+pub shown_whole : (bytes : List ℕ) → 0 < length bytes → length bytes ≤ longest_frame → shown bytes ≡ bytes
 shown_whole [] some h = absurd (omega arith)
 shown_whole (b ∷ bytes) some h = take_whole (longest_frame + 1) (b ∷ bytes) (omega arith)
 

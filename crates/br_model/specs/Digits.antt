@@ -26,6 +26,14 @@ is_decimal word = nat_lt 0 (length word) && (list_all is_digit word && (length w
 abbrev pub decimal_from : List ℕ → Option ℕ
 decimal_from word = if is_decimal word then Some (digits_value word) else None
 
+abbrev pub up_to : ℕ → Option ℕ → Option ℕ
+up_to most None = None
+up_to most (Some n) = if nat_le n most then Some n else None
+
+-- the number up to this one that the word spells
+abbrev pub number_up_to : ℕ → List ℕ → Option ℕ
+number_up_to most word = up_to most (decimal_from word)
+
 -- hexadecimal bytes
 
 abbrev pub hex_digit : ℕ → ℕ

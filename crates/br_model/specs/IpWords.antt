@@ -1,23 +1,19 @@
 -- IP addresses, as words spell them: dotted decimal, and eight groups of four hexadecimal digits joined by colons, none left out.
 -- Source: RFC 4632 section 3.1 (dotted decimal) and RFC 4291 section 2.2, form 1; that no form is shortened is this profile's.
-use Rattle.std.specs.Prelude.{ℕ, ◌+◌, ◌*◌, ◌^◌, ◌==◌, nat_le, if◌then◌else◌, List, [], ◌∷◌, length}
+use Rattle.std.specs.Prelude.{ℕ, ◌+◌, ◌*◌, ◌^◌, ◌==◌, if◌then◌else◌, List, [], ◌∷◌, length}
 use Rattle.std.specs.List.{fold, slice_split}
 use Rattle.std.specs.declared.option.Option.{Option}
 use Rattle.std.specs.declared.option.Option.TheVariants.{None, Some}
 use Rattle.std.specs.Option.{option_map}
 use Rattle.br_model.specs.declared.group.Ip.{Ip}
 use Rattle.br_model.specs.declared.group.Ip.TheVariants.{V4, V6}
-use Rattle.br_model.specs.Digits.{decimal_from, bytes_from_hex, in_front}
+use Rattle.br_model.specs.Digits.{number_up_to, bytes_from_hex, in_front}
 use Rattle.br_model.specs.Numbers.{number}
 use Rattle.br_model.specs.Words.{Word}
 
-abbrev pub up_to : ℕ → Option ℕ → Option ℕ
-up_to most None = None
-up_to most (Some n) = if nat_le n most then Some n else None
-
 -- a decimal number up to 255
 abbrev pub octet : Word → Option ℕ
-octet word = up_to 255 (decimal_from word)
+octet word = number_up_to 255 word
 
 -- four hexadecimal digits
 abbrev pub four_digits : Word → Option ℕ

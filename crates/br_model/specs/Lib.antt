@@ -61,6 +61,9 @@ pub mod WorkedSnooping
 pub mod WrittenSteps
 pub mod Transcript
 pub mod Runs
+pub mod Listings
+pub mod Generator
+pub mod Summary
 pub mod Outcomes
 pub mod WholeLines
 pub mod WorkedRows
@@ -71,5 +74,6 @@ pub mod WorkedHold
 pub mod WorkedTree
 pub mod WorkedGroups
 pub mod WorkedCaptures
+pub mod WorkedCommands
 pub mod Readings
 pub mod WorkedFrames

@@ -31,7 +31,7 @@ header Header = true
 header Declarations = false
 header Steps = false
 
--- after it, and before the first step
+-- after it, and before the first step or capture
 abbrev pub declaration : Place → Bool
 declaration Opening = false
 declaration Header = true

@@ -1,12 +1,11 @@
--- How a replay may end, by what it saw of its source and did to its sink. A source or a sink may tell its bytes or not. Of a
+-- How a run may end, by what it saw of its source and did to its sink. A source or a sink may tell its bytes or not. Of a
 -- sink that doesn't, nothing is said; of a source that doesn't, that the output is that of some input.
 -- Source: this profile.
-use Rattle.std.specs.Prelude.{◌≡◌, ℕ, ◌≤◌, false, List, ◌++◌, length, take, IfSome}
+use Rattle.std.specs.Prelude.{◌≡◌, ℕ, ◌≤◌, false, List, [], ◌++◌, length, take, IfSome}
 use Rattle.std.specs.declared.option.Option.{Option}
 use Rattle.std.specs.Io.KnownBytes.{Appends, Consumes}
 use Rattle.br_model.specs.declared.scenario.LineWhy.{LineWhy}
 use Rattle.br_model.specs.Limits.{most_bytes}
-use Rattle.br_model.specs.Runs.{body, told}
 use Rattle.br_model.specs.Scenario.{Ending, Going, Bad, opened, reads, scenario}
 
 -- what a call saw and did
@@ -26,19 +25,23 @@ Read call bytes = Consumes call.left_before call.left_now bytes
 abbrev pub Wrote : Call → List ℕ → Type 0
 Wrote call bytes = Appends call.taken_before call.taken_now bytes
 
--- The scenario ends so, and the output is exactly what is told of it.
-pub record Tells (call : Call) (ending : Ending) : Type 0 where
+-- The scenario ends so, and the output is exactly this answer to its bytes.
+pub record Answers (answer : List ℕ → List ℕ) (call : Call) (ending : Ending) : Type 0 where
   -- the bytes that were read
   pub input : List ℕ
   pub read : Read call input
   pub ends : (scenario input).ending ≡ ending
-  pub wrote : Wrote call (told input)
+  pub wrote : Wrote call (answer input)
   -- and so it would be with all that the source had left
-  pub whole : IfSome call.left_before (λ bytes. ((scenario bytes).ending ≡ ending) × (told bytes ≡ told input))
+  pub whole : IfSome call.left_before (λ bytes. ((scenario bytes).ending ≡ ending) × (answer bytes ≡ answer input))
 
 -- the same of a scenario with a bad line
-abbrev pub TellsBad : Call → Type 0
-TellsBad call = (n : ℕ) × (why : LineWhy) × Tells call (Bad n why)
+abbrev pub AnswersBad : (List ℕ → List ℕ) → Call → Type 0
+AnswersBad answer call = (n : ℕ) × (why : LineWhy) × Answers answer call (Bad n why)
+
+-- Nothing was read, and the output is exactly this.
+abbrev pub Makes : Call → List ℕ → Type 0
+Makes call output = Read call [] × Wrote call output
 
 -- The bytes hold neither a whole `end` line nor a bad line other than one that only lacks its end.
 abbrev pub GoesOn : List ℕ → Type 0
@@ -51,15 +54,15 @@ HoldsNoEnd limit bytes = (limit ≤ length bytes) × GoesOn (take limit bytes)
 abbrev pub IsNotTooLong : Call → Type 0
 IsNotTooLong call = IfSome call.left_before (λ bytes. ¬ HoldsNoEnd most_bytes bytes)
 
--- The run stops on its way: the output is the body of the bytes that were read, which neither end the scenario nor hold a bad
--- line, and then this last line.
-pub record Stops (call : Call) (last : List ℕ) : Type 0 where
+-- The run stops on its way: the bytes that were read neither end the scenario nor hold a bad line, and the output is what stands
+-- before the last line for them, and then this last line.
+pub record StopsAfter (before : List ℕ → List ℕ) (call : Call) (last : List ℕ) : Type 0 where
   pub input : List ℕ
   pub read : Read call input
   pub going : GoesOn input
-  pub wrote : Wrote call (body input ++ last)
+  pub wrote : Wrote call (before input ++ last)
 
 -- The same where as many bytes were read as may be.
-pub record StopsFull (call : Call) (last : List ℕ) : Type 0 where
-  pub stops : Stops call last
+pub record StopsFullAfter (before : List ℕ → List ℕ) (call : Call) (last : List ℕ) : Type 0 where
+  pub stops : StopsAfter before call last
   pub full : length stops.input ≡ most_bytes

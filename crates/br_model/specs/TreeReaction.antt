@@ -1,5 +1,6 @@
 -- How the spanning tree takes part in a reaction: states follow it, and its messages go out.
--- Source: the kernel's br_set_state (a port's state is told to the switch in the event that changes it).
+-- Source: the kernel's br_stp_rcv (a port's BPDUs go to the tree) and br_set_state (a port's state is told to the switch in the
+-- event that changes it).
 use Rattle.std.specs.Prelude.{ℕ, if◌then◌else◌, List, ◌++◌, map}
 use Rattle.std.specs.declared.option.Option.{Option}
 use Rattle.std.specs.declared.option.Option.TheVariants.{None, Some}

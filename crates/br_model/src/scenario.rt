@@ -12,7 +12,7 @@ pub enum Place {
     Header,
     /// Among the declarations of ports.
     Declarations,
-    /// After the first step.
+    /// After the first step or capture.
     Steps,
 }
 

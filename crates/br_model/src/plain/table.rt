@@ -8,7 +8,7 @@ ghost use Rattle.br_model.specs.Domains.{host, foreign};
 ghost use Rattle.br_model.specs.Leave.{tag_at, egress_ports, ports_out};
 ghost use Rattle.br_model.specs.Maps.{get, has, pair_cmp};
 ghost use Rattle.std.specs.Ordering.{nat_cmp};
-ghost use Rattle.br_model.specs.Table.{Table as TableOf, start, apply as after_change, ip_version};
+ghost use Rattle.br_model.specs.Table.{Table as TableOf, start, apply as after_change, ip_version, table};
 ghost use Rattle.br_model.specs.Targets.{has_flag, is_for_the_host, with_flag, to_tree, knows_querier, members_of, to_routers, to_members, snooped_targets, unicast_targets, targets};
 
 use crate::NoMemory;
@@ -78,6 +78,45 @@ impl Table {
             stp: false,
             addr: BTreeMap::new(alloc),
         })
+    }
+
+    /// That of these changes, in their order.
+    pub fn of(alloc: Global, history: &[Change]) -> Result<Table, NoMemory>
+        ensures { IfOk result (λ t. t ≡ table history.now) }
+    {
+        let mut table = Table::start(alloc)?;
+        for change in history {
+            table.apply(change)?;
+        }
+        Ok(table)
+    }
+
+    /// By VLAN and address.
+    pub fn addresses(&self) -> &BTreeMap<(Vid, Mac), (Port, Kind)>
+        ensures { result.now.entries ≡ self.now.addr }
+    {
+        &self.addr
+    }
+
+    /// The members of VLANs, by VLAN and port: whether frames leave untagged.
+    pub fn memberships(&self) -> &BTreeMap<(Vid, Port), bool>
+        ensures { result.now.entries ≡ self.now.vlans }
+    {
+        &self.vlans
+    }
+
+    /// The members of groups, by VLAN, group and port.
+    pub fn groups(&self) -> &BTreeSet<(Vid, Group, Port)>
+        ensures { result.now.keys ≡ self.now.groups }
+    {
+        &self.groups
+    }
+
+    /// The VLAN of the port's untagged frames.
+    pub fn pvid(&self, port: Port) -> Option<Vid>
+        ensures { result ≡ get nat_cmp self.now.pvid port }
+    {
+        find(&self.pvid, &port)
     }
 
     fn port_up(&mut self, port: Port) -> Result<(), NoMemory>

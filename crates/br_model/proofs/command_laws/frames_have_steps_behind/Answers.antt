@@ -1,0 +1,5 @@
+use Rattle.br_model.proofs.CommandRows.{steps_behind}
+use Rattle.br_model.proofs.command_laws.frames_have_steps_behind.Goals as goal
+
+pub returns : goal.returns
+returns c = steps_behind
