@@ -1,21 +1,11 @@
 -- Calls of a reader, one after another.
-use Rattle.std.proofs.Common.{◌≡◌, ℕ, ◌+◌, ◌-◌, ◌<◌, ◌≤◌, List, [], ◌++◌, take, drop, length, slice_range, arith, refl, sym, ap, ◌∙◌, subst, Option, Some, append-nil, append_assoc, length-append, length-drop, length-take-le, None, true, false, true≢false, eq-or-lt_of_le, inl, inr, le-ltb, ne_eqb, ◌≢◌, MatchOption, Bool, ◌∷◌}
-use Rattle.std.specs.Io.KnownBytes.{Consumes, Keeps}
-use Rattle.std.proofs.KnownBytes.{Consumes-nil, Consumes-trans, Consumes-kept}
+use Rattle.std.proofs.Common.{◌≡◌, ℕ, ◌+◌, ◌<◌, ◌≤◌, List, [], ◌++◌, take, drop, length, slice_range, arith, refl, sym, ap, ◌∙◌, Option, Some, append_assoc, length-append, length-drop, length-take-le, None, true, false, true≢false, eq-or-lt_of_le, inl, inr, le-ltb, ne_eqb, ◌≢◌, MatchOption}
+use Rattle.std.specs.Io.KnownBytes.{Consumes}
+use Rattle.std.proofs.KnownBytes.{Consumes-trans}
 use Rattle.run_io.specs.Finding.{IsFirstFeed, WantsMore}
-use Rattle.run_io.specs.Reading.{Reading, Reads, HasNoFeed, HoldsLongLine, IsLine, line_end, holds_next, max_line}
+use Rattle.run_io.specs.Reading.{Reading, Reads, HasNoFeed, HoldsLongLine, holds_next, max_line}
 use Rattle.run_io.proofs.Feeds.{feedless_prefix, feedless_shorter}
 use Rattle.run_io.proofs.Pieces.{range_grown}
-
--- nothing was taken
-pub reads_none : (r : Reading) (before now : Option (List ℕ)) → Keeps before now → Reads r r before now []
-reads_none r before now kept = record {
-  given = [];
-  consumed = Consumes-kept before before now [] (Consumes-nil before) kept;
-  moved = append-nil r.held;
-  counted = omega arith;
-  limit = refl;
-}
 
 pub reads_then : (a b c : Reading) (one two three : Option (List ℕ)) (handed : List ℕ) → Reads a b one two [] → Reads b c two three handed → Reads a c one three handed
 reads_then a b c one two three handed h k = record {
@@ -25,45 +15,6 @@ reads_then a b c one two three handed h k = record {
   counted = omega (arith, h.counted, k.counted, length-append h.given k.given);
   limit = k.limit ∙ h.limit;
 }
-
--- what is held was handed out in part
-pub reads_handed : (a b : Reading) (before now : Option (List ℕ)) (handed rest : List ℕ) → Reads a b before now [] → b.held ≡ handed ++ rest
-    → Reads a (record b { held = rest }) before now handed
-reads_handed a b before now handed rest h parts = record {
-  given = h.given;
-  consumed = h.consumed;
-  moved = h.moved ∙ parts;
-  counted = h.counted;
-  limit = h.limit;
-}
-
--- ---- what a caller keeps from call to call
-
--- all that the source gave since `start` is what was handed out since then, and what is held
-pub reads_consumed : (old new : Reading) (start before now : Option (List ℕ)) (all handed : List ℕ) → Consumes start before (all ++ old.held) → Reads old new before now handed
-    → Consumes start now ((all ++ handed) ++ new.held)
-reads_consumed old new start before now all handed so_far h =
-    let same : (all ++ old.held) ++ h.given ≡ (all ++ handed) ++ new.held =
-    append_assoc all old.held h.given ∙ ap (λ xs. all ++ xs) h.moved ∙ sym (append_assoc all handed new.held) in
-    subst (Consumes start now) same (Consumes-trans start before now (all ++ old.held) h.given so_far h.consumed)
-
--- and it is as many bytes as were taken
-pub reads_taken : (old new : Reading) (before now : Option (List ℕ)) (all handed : List ℕ) → length (all ++ old.held) ≡ old.taken → Reads old new before now handed
-    → length ((all ++ handed) ++ new.held) ≡ new.taken
-reads_taken old new before now all handed so_far h =
-    let sizes : length old.held + length h.given ≡ length handed + length new.held =
-    sym (length-append old.held h.given) ∙ ap length h.moved ∙ length-append handed new.held in
-    omega (arith, so_far, sizes, h.counted, length-append all old.held, length-append (all ++ handed) new.held, length-append all handed)
-
--- how many bytes may still be handed out. Each call lessens it by what it hands out.
-abbrev pub room : Reading → ℕ
-room r = (r.limit - r.taken) + length r.held
-
-pub reads_room : (old new : Reading) (before now : Option (List ℕ)) (handed : List ℕ) → Reads old new before now handed → new.taken ≤ new.limit → room new + length handed ≡ room old
-reads_room old new before now handed h within =
-    let sizes : length old.held + length h.given ≡ length handed + length new.held =
-    sym (length-append old.held h.given) ∙ ap length h.moved ∙ length-append handed new.held in
-    omega (arith, sizes, h.counted, h.limit, within)
 
 -- ---- more was read behind what is held
 
@@ -111,9 +62,3 @@ handed_view old view later past is e = ap (λ l. record view { held = l }) (sym 
 pub none_of : {T : Type 0} (o : Option T) (P : Type 0) (Q : T → Type 0) → MatchOption o P Q → ((x : T) → o ≡ Some x → ⊥) → P
 none_of None P Q h is_none = h
 none_of (Some x) P Q h is_none = absurd (is_none x refl)
-
--- ---- a line takes bytes out, so a loop over lines ends
-
-pub line_counts : (new : Reading) (now : Option (List ℕ)) (bytes : List ℕ) (whole : Bool) → IsLine new now bytes whole → 0 < length (bytes ++ line_end whole)
-line_counts new now bytes true h = omega (arith, length-append bytes (10 ∷ []))
-line_counts new now bytes false h = omega (arith, length-append bytes [], (h.last refl).0)

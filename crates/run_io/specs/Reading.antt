@@ -1,5 +1,5 @@
 -- Lines and pieces that are cut out of the bytes of a source.
-use Rattle.std.specs.Prelude.{◌≡◌, ℕ, ◌+◌, ◌<◌, ◌≤◌, ◌==◌, Bool, true, false, not, ◌||◌, nat_lt, if◌then◌else◌, List, [], ◌∷◌, ◌++◌, length, take, IfOk, OnOk, IfErr, MatchOption, IsSome, is_some, Option, None, Some, Result, Ok, Err}
+use Rattle.std.specs.Prelude.{◌≡◌, ℕ, ◌+◌, ◌-◌, ◌<◌, ◌≤◌, ◌==◌, Bool, true, false, not, ◌||◌, nat_lt, if◌then◌else◌, List, [], ◌∷◌, ◌++◌, length, take, IfOk, OnOk, IfErr, MatchOption, IsSome, is_some, Option, None, Some, Result, Ok, Err}
 use Rattle.std.specs.List.{list_all}
 use Rattle.std.specs.Io.KnownBytes.{Consumes, IsAtEnd}
 use Rattle.run_io.specs.declared.lines.Got.{Got}
@@ -35,6 +35,10 @@ line_end whole = if whole then 10 ∷ [] else []
 -- is too long or that no more may be taken
 abbrev pub holds_next : Reading → Bool
 holds_next r = is_some r.fault || not (list_all is_no_feed r.held) || nat_lt max_line (length r.held) || (r.taken == r.limit)
+
+-- how many bytes may still be handed out
+abbrev pub room : Reading → ℕ
+room r = (r.limit - r.taken) + length r.held
 
 -- A call of a reader took some bytes from a source, which had left `before` and has left `now`, and handed out some. No byte is
 -- lost and none comes twice.
@@ -110,6 +114,8 @@ piece_bytes (Err _) = []
 pub record Calls {T : Type 0} (old new : Reading) (before now : Option (List ℕ)) (handed : List ℕ) (result : Result T LineFault) : Type 0 where
   pub reads : Reads old new before now handed
   pub within : new.taken ≤ new.limit
+  -- what is handed out is taken off the room, so a loop of calls ends
+  pub lessened : room new + length handed ≡ room old
   -- a fault from before stays
   pub still : IsSome old.fault → new ≡ old
   pub ok : OnOk result (new.fault ≡ None)

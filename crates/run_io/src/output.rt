@@ -1,6 +1,6 @@
 //! Text on its way to a sink, in large pieces.
-ghost use Rattle.std.specs.Prelude.{◌≡◌, ℕ, ◌≤◌, ◌↔◌, [], take, IfOk, OnOk, OnErr, IsTrue};
-ghost use Rattle.std.specs.String.{string_bytes, string_len};
+ghost use Rattle.std.specs.Prelude.{◌≡◌, ℕ, ◌*◌, ◌≤◌, ◌↔◌, [], take, IfOk, OnOk, OnErr, IsTrue};
+ghost use Rattle.std.specs.String.{string_bytes, string_capacity, string_len};
 ghost use Rattle.std.specs.Io.KnownBytes.{Appends};
 ghost use Rattle.run_io.specs.Causes.{HasCause};
 ghost use Rattle.run_io.specs.Writing.{full_length};
@@ -22,7 +22,8 @@ pub struct Output {
 impl Output {
     /// Takes memory for twice what makes it full, so that a line over the edge needs no more.
     pub fn make(alloc: Global) -> Result<Output, NoMemory>
-        ensures { IfOk result (λ output. string_bytes output.text ≡ []) }
+        ensures empty { IfOk result (λ output. string_bytes output.text ≡ []) }
+        ensures room { IfOk result (λ output. 2 * full_length ≤ string_capacity output.text) }
     {
         let text = String::with_capacity(alloc, 2 * FULL)?;
         Ok(Output { text })
@@ -39,6 +40,7 @@ impl Output {
     pub fn flush<K: Sink>(&mut self, sink: &mut K) -> Result<(), WriteFault>
         ensures all { OnOk result (Appends (K.taken sink.old) (K.taken sink.new) (string_bytes self.old.text)) }
         ensures empty { OnOk result (string_bytes self.new.text ≡ []) }
+        ensures room { OnOk result (string_capacity self.old.text ≤ string_capacity self.new.text) }
         ensures prefix { OnErr result ((n : ℕ) × Appends (K.taken sink.old) (K.taken sink.new) (take n (string_bytes self.old.text))) }
         ensures kept { OnErr result (self.new ≡ self.old) }
         ensures cause { HasCause (K.faults sink.old) (K.faults sink.new) result }

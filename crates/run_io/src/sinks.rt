@@ -1,5 +1,5 @@
 //! Where bytes go. Faults are counted, so that a caller's contract can say when one came.
-ghost use Rattle.std.specs.Prelude.{◌≡◌, ℕ, ◌+◌, ◌-◌, ◌^◌, ◌<◌, ◌≤◌, ◌↔◌, ◌++◌, min, List, [], Some, take, drop, length, IfOk, OnOk, OnErr, IsErr, MatchResult};
+ghost use Rattle.std.specs.Prelude.{◌≡◌, ℕ, ◌+◌, ◌-◌, ◌^◌, ◌<◌, ◌≤◌, ◌↔◌, ◌++◌, min, List, [], None, Some, Ok, take, drop, length, IfOk, OnOk, OnErr, IsErr, MatchResult};
 ghost use Rattle.std.specs.declared.option.Option.{Option};
 ghost use Rattle.std.specs.Io.{WritesAtMost};
 ghost use Rattle.std.specs.Io.KnownBytes.{Appends, WriteAppends};
@@ -184,5 +184,26 @@ impl<T: Write> Sink for StdSink<T> {
                 Err(Failed)
             }
         }
+    }
+}
+
+/// A sink that takes each piece whole, keeps none and never fails: for what reads and writes
+/// nothing.
+#[derive(Clone, Copy, Debug)]
+pub struct Nowhere;
+
+impl Sink for Nowhere {
+    ghost taken = { λ _. None };
+
+    ghost faults = { λ _. 0 };
+
+    fn write(&mut self, from: &[u8]) -> Result<usize, Failed>
+        ensures bound { WritesAtMost result from.now }
+        ensures bytes { WriteAppends None None result from.now }
+        ensures cause { HasCause 0 0 result }
+        ensures zero { ZeroHasCause 0 0 result from.now }
+        ensures whole { result ≡ Ok (length from.now) }
+    {
+        Ok(from.len())
     }
 }
