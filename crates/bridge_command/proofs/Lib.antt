@@ -2,6 +2,7 @@ pub mod Counting
 pub mod Declaring
 pub mod Entries
 pub mod FlagNames
+pub mod Growing
 pub mod HexWords
 pub mod Links
 pub mod OtherRows

@@ -4,7 +4,7 @@ ghost use Rattle.br_model.specs.Digits.{bytes_from_hex};
 ghost use Rattle.br_model.specs.IpWords.{octet as octet_of, four_digits as four_digits_of, address_four, address_six};
 ghost use Rattle.br_model.specs.Operands.{group as group_of};
 
-use crate::operands::decimal;
+use crate::operands::number_up_to;
 use br_model::group::Ip;
 use br_model::scenario::LineWhy;
 use hex::FromHex;
@@ -13,10 +13,7 @@ use hex::FromHex;
 fn octet(word: &str) -> Option<u8>
     ensures { result ≡ octet_of word.now }
 {
-    match decimal(word) {
-        Some(number) if number <= 255 => Some(number as u8),
-        _ => None,
-    }
+    Some(number_up_to(word, 255)? as u8)
 }
 
 fn two_bytes(digits: &[u8]) -> Option<[u8; 2]>

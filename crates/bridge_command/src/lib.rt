@@ -16,5 +16,5 @@ mod vlans;
 
 pub use br_model::NoMemory;
 pub use command::read_command;
-pub use operands::{mac, milliseconds, section_length};
+pub use operands::{mac, milliseconds, number_up_to, section_length};
 pub use roster::Roster;

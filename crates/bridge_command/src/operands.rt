@@ -1,46 +1,55 @@
 //! Operands, as words spell them.
-ghost use Rattle.std.specs.Prelude.{◌≡◌, length, ◌-◌, ◌^◌, ◌<◌, ◌≤◌, nat_le, true, min, IfOk};
+ghost use Rattle.std.specs.Prelude.{◌≡◌, length, ◌≤◌, nat_le, true, IfOk, IfSome};
 ghost use Rattle.std.specs.List.{list_all};
-ghost use Rattle.std.specs.Option.{option_map};
 ghost use Rattle.br_model.specs.declared.scenario.LineWhy.TheVariants.{Address};
-ghost use Rattle.br_model.specs.Digits.{decimal_from, station as station_of, bytes_from_hex};
+ghost use Rattle.br_model.specs.Digits.{is_decimal as is_a_decimal, is_digit, station as station_of, bytes_from_hex};
 ghost use Rattle.br_model.specs.Operands.{number as number_of, mac as mac_of, has_colons as has_colons_at, twelve, found, most_cost, most_port_priority, most_priority, most_seconds, last_moment, longest_section};
 ghost use Rattle.br_model.specs.Roster.{is_name as is_a_name, is_name_byte as is_a_name_byte};
+ghost use Rattle.br_model.specs.Digits.{number_up_to as number_up_to_of};
 
 use br_model::numbers::{Mac, Vid};
 use br_model::scenario::LineWhy;
 use hex::FromHex;
 
-/// The number that the word spells, where `u64::MAX` stands for all larger ones.
-pub(crate) fn decimal(word: &str) -> Option<u64>
-    ensures { result ≡ option_map (λ n. min n (2 ^ 64 - 1)) (decimal_from word.now) }
+fn has_digits(word: &[u8]) -> bool
+    ensures { result ≡ list_all is_digit word.now }
+{
+    word.iter().all(|byte| byte.is_ascii_digit())
+}
+
+/// Whether the word spells a number, however large.
+pub(crate) fn is_decimal(word: &str) -> bool
+    ensures { result ≡ is_a_decimal word.now }
 {
     let digits = word.as_bytes();
-    if digits.is_empty() || (digits.len() > 1 && digits[0] == b'0') {
+    !digits.is_empty() && has_digits(digits) && (digits.len() == 1 || digits[0] != b'0')
+}
+
+/// The number that the word spells, where it is no larger than `most`.
+pub fn number_up_to(word: &str, most: u64) -> Option<u64>
+    ensures value { result ≡ number_up_to_of most word.now }
+    ensures most { IfSome result (λ n. n ≤ most) }
+{
+    if !is_decimal(word) {
         return None;
     }
     let mut number = 0u64;
-    for digit in digits {
-        if !digit.is_ascii_digit() {
-            return None;
-        }
-        number = number
-            .saturating_mul(10)
-            .saturating_add(u64::from(*digit - b'0'));
+    for digit in word.as_bytes() {
+        let digit = u64::from(*digit - b'0');
+        number = number.checked_mul(10)?.checked_add(digit)?;
     }
-    Some(number)
+    if number <= most { Some(number) } else { None }
 }
 
 /// A number from `low` to `high`.
 #[tactic(auto, unfolding(br_model::specs::Operands::number))]
 pub(crate) fn number(word: &str, low: u64, high: u64) -> Result<u64, LineWhy>
-    requires { high < 2 ^ 64 - 1 }
     ensures value { result ≡ number_of low high word.now }
     ensures least { IfOk result (λ n. low ≤ n) }
     ensures most { IfOk result (λ n. n ≤ high) }
 {
-    match decimal(word) {
-        Some(number) if number >= low && number <= high => Ok(number),
+    match number_up_to(word, high) {
+        Some(number) if number >= low => Ok(number),
         _ => Err(LineWhy::Number),
     }
 }

@@ -10,7 +10,7 @@ ghost use Rattle.br_model.specs.ScenarioText.{name_of};
 ghost use Rattle.br_model.specs.Declarations.{fits_beside, are_declared};
 ghost use Rattle.bridge_command.specs.Seen.{in_place, stands_at, is_port_at, OrNoMemory};
 
-use crate::operands::{decimal, is_name, number};
+use crate::operands::{is_decimal, is_name, number, number_up_to};
 use br_model::NoMemory;
 use br_model::domains::Domains;
 use br_model::name::Name;
@@ -211,12 +211,12 @@ impl Roster {
     pub fn numbered(&self, word: &str) -> Result<Port, LineWhy>
         ensures { result ≡ port_number_of self.now.ports word.now }
     {
-        let Some(number) = decimal(word) else {
+        if !is_decimal(word) {
             return Err(LineWhy::Number);
-        };
-        if number > 63 {
-            return Err(LineWhy::Port);
         }
+        let Some(number) = number_up_to(word, 63) else {
+            return Err(LineWhy::Port);
+        };
         match Port::new(number as u8) {
             Some(port) if self.is_declared(port) => Ok(port),
             _ => Err(LineWhy::Port),
