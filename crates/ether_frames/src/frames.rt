@@ -95,6 +95,9 @@ pub fn dress(alloc: Global, b: &[u8], h: &Head, tag: Option<Vid>) -> Result<Byte
     requires { frame b.now ≡ Ok h.now }
     ensures { IfOk result (λ out. out ≡ dressed b.now h.now tag) }
 {
+    if tag.is_none() && h.body == PLAIN_HEADER {
+        return Bytes::copy_of(alloc, b);
+    }
     let mut out = Vec::with_capacity(alloc, b.len() + 4)?;
     out.extend_from_slice(&b[..TYPE_AT])?;
     if let Some(vid) = tag {
