@@ -1,3 +1,4 @@
 pub mod Extends
 pub mod Lines
 pub mod Reading
+pub mod Starts

@@ -6,6 +6,7 @@ mod fields;
 mod frames;
 mod numbers;
 mod reader;
+mod starts;
 #[cfg(test)]
 mod tests;
 mod words;

@@ -6,6 +6,7 @@ ghost use Rattle.transcript_text.specs.Extends.{Extends};
 
 use crate::frames::LastFrames;
 use crate::numbers::{append_field, append_number};
+use crate::starts::LastStart;
 use br_model::NoMemory;
 use br_model::bytes::Bytes;
 use br_model::frame::{Class, FrameFault};
@@ -14,9 +15,10 @@ use br_model::steps::Refusal;
 use br_model::transcript::Line;
 use std::alloc::Global;
 
-/// Writes lines, and remembers the digits of the last frames.
+/// Writes lines, and remembers the digits of the last frames and the id of the last one that left.
 #[derive(Drop)]
 pub struct Writer {
+    start: LastStart,
     frames: LastFrames,
 }
 
@@ -24,6 +26,7 @@ impl Writer {
     /// Allocates nothing.
     pub fn new(alloc: Global) -> Writer {
         Writer {
+            start: LastStart::new(alloc),
             frames: LastFrames::new(alloc),
         }
     }
@@ -78,8 +81,7 @@ impl Writer {
         ensures ok { OnOk result (string_bytes to.new ≡ string_bytes to.old ++ line_text (Line.Tx id port bytes.now)) }
         ensures err { OnErr result (Extends (string_bytes to.old) (string_bytes to.new)) }
     {
-        to.push_str("tx ")?;
-        append_field(id, ' ', to)?;
+        self.start.append(id, to)?;
         append_field(u32::from(port.number()), ' ', to)?;
         self.frames.append(bytes.as_slice(), to)?;
         to.push('\n')
