@@ -1,8 +1,10 @@
-//! The lines of a scenario: read as items, and written from steps.
+//! The lines of a scenario: read as items, written from steps, and generated. The lines of a listing.
 #![tactic(auto)]
 
 mod digits;
+mod generator;
 mod lines;
+mod listing;
 mod reading;
 #[cfg(test)]
 mod tests;
@@ -10,5 +12,10 @@ mod words;
 mod write;
 
 pub use br_model::NoMemory;
+pub use generator::{
+    END_BYTES, Generator, MOST_FRAME_BYTES, OPENING_BYTES, append_opening, domains, first_steps,
+    generate,
+};
+pub use listing::list;
 pub use reading::{read_line, says_end};
 pub use write::write_line;

@@ -73,7 +73,7 @@ fn append_three(a: u8, b: u8, c: u8, to: &mut String) -> Result<(), NoMemory>
     append_hex(&[c], to)
 }
 
-fn append_mac(mac: Mac, to: &mut String) -> Result<(), NoMemory>
+pub(crate) fn append_mac(mac: Mac, to: &mut String) -> Result<(), NoMemory>
     ensures { OnOk result (string_bytes to.new ≡ string_bytes to.old ++ mac_text mac) }
 {
     append_three(byte(mac, 40), byte(mac, 32), byte(mac, 24), to)?;
@@ -90,7 +90,7 @@ fn octet(address: u32, bits: u32) -> u8
 }
 
 /// Four decimal numbers, joined by dots.
-fn append_dotted(address: u32, to: &mut String) -> Result<(), NoMemory>
+pub(crate) fn append_dotted(address: u32, to: &mut String) -> Result<(), NoMemory>
     ensures { OnOk result (string_bytes to.new ≡ string_bytes to.old ++ dotted address) }
 {
     let (a, b) = (octet(address, 24), octet(address, 16));
@@ -109,7 +109,7 @@ fn append_digits(address: u128, bits: u32, to: &mut String) -> Result<(), NoMemo
 }
 
 /// Eight groups of four digits, joined by colons.
-fn append_groups(address: u128, to: &mut String) -> Result<(), NoMemory>
+pub(crate) fn append_groups(address: u128, to: &mut String) -> Result<(), NoMemory>
     ensures { OnOk result (string_bytes to.new ≡ string_bytes to.old ++ groups_of_four address) }
 {
     append_digits(address, 112, to)?;
@@ -129,7 +129,7 @@ fn append_ip(address: Ip, to: &mut String) -> Result<(), NoMemory>
     }
 }
 
-fn kind_word(kind: Kind) -> &'static str
+pub(crate) fn kind_word(kind: Kind) -> &'static str
     ensures { result.now ≡ word_of_kind kind }
 {
     match kind {
@@ -208,8 +208,8 @@ fn append_stp(on: bool, to: &mut String) -> Result<(), NoMemory>
     write!(to, "stp {on}")
 }
 
-/// The words behind the device of `vlan add`.
-fn marks(untagged: bool, pvid: bool) -> &'static str
+/// The words that mark a membership of a VLAN.
+pub(crate) fn marks(untagged: bool, pvid: bool) -> &'static str
     ensures { result.now ≡ further pvid (codes "pvid") ++ further untagged (codes "untagged") }
 {
     match (pvid, untagged) {
