@@ -26,7 +26,7 @@ use Rattle.capture_runner.specs.declared.session.Last.TheVariants as lasts
 use Rattle.capture_runner.specs.declared.session.Next.TheVariants as nexts
 use Rattle.capture_runner.specs.declared.session.Session.{Session}
 use Rattle.capture_runner.specs.Session as session
-use Rattle.capture_runner.specs.Session.{IsWorld, IsAmongSteps, Follows, Took, Went, EndsBy, world_of}
+use Rattle.capture_runner.specs.Session.{Agrees, IsWorld, IsAmongSteps, Follows, Took, Went, EndsBy, world_of}
 use Rattle.scenario_text.specs.Items.{item_of, comes_in_place}
 
 not_long : (n : ℕ) → n ≤ longest_line → nat_lt longest_line n ≡ false
@@ -198,26 +198,32 @@ section_next s line x r before n f short says moved most =
 
 -- the line `end`
 pub ended : (s : Scenario) (line : List ℕ) (x : Session) (r : Roster) (before : List ℕ) → Follows s x → length line ≤ longest_line
-    → line_says x.roster line ≡ Ok Ends → Took s line before (record x { lines = x.lines + 1; roster = r }) before (nexts.End lasts.Ended)
-ended s line x r before f short says =
+    → line_says x.roster line ≡ Ok Ends → r ≡ declared x.roster Ends → Took s line before (record x { lines = x.lines + 1; roster = r }) before (nexts.End lasts.Ended)
+ended s line x r before f short says moved =
     let t : Scenario = takes s Ends [] in
     let steps : t.steps ≡ s.steps = append-nil s.steps in
     subst (λ (o : Result Said LineWhy). EndsBy s o before (record x { lines = x.lines + 1; roster = r }) before lasts.Ended) (sym (said_here s line x (Ok Ends) f short says)) (
       refl,
       record {
-        world = quiet s t x.world f.stands.world steps refl (λ d o. (d, o));
+        agrees = record { ports = ap (λ (q : Roster). q.ports) (moved ∙ f.stands.roster); world = quiet s t x.world f.stands.world steps refl (λ d o. (d, o)) };
         ends = refl;
         text = refl;
         body = ap body_of (same_run s t refl steps);
       },
     )
 
+pub agrees : (s : Scenario) (x : Session) → Follows s x → Agrees s x
+agrees s x f = record { ports = ap (λ (q : Roster). q.ports) f.stands.roster; world = f.stands.world }
+
+pub agrees_badly : (s : Scenario) (x : Session) (why : LineWhy) → Agrees s x → Agrees (bad s why) x
+agrees_badly s x why h = record { ports = h.ports; world = quiet s (bad s why) x.world h.world refl refl (λ d o. (d, o)) }
+
 -- a bad line
 pub refused : (s : Scenario) (line : List ℕ) (x : Session) (before : List ℕ) (fault : LineWhy) → Follows s x → length line ≤ longest_line
     → line_says x.roster line ≡ Err fault → Took s line before x before (nexts.End (lasts.Bad (x.lines + 1) fault))
 refused s line x before fault f short says =
     subst (λ (o : Result Said LineWhy). EndsBy s o before x before (lasts.Bad (x.lines + 1) fault)) (sym (said_here s line x (Err fault) f short says)) (record {
-      world = quiet s (bad s fault) x.world f.stands.world refl refl (λ d o. (d, o));
+      agrees = agrees_badly s x fault (agrees s x f);
       ends = ap (λ n. Bad (n + 1) fault) (sym f.stands.lines);
       text = refl;
       body = ap body_of (same_run s (bad s fault) refl refl);

@@ -1,5 +1,7 @@
+pub mod Counting
 pub mod Doing
 pub mod Following
+pub mod Generating
 pub mod Outcomes
 pub mod Packets
 pub mod Reaching

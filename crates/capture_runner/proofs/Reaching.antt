@@ -16,7 +16,7 @@ use Rattle.br_model.proofs.Reading.{closed, closes_keeps, scenario_is}
 use Rattle.capture_runner.specs.declared.session.Last.{Last}
 use Rattle.capture_runner.specs.declared.session.Session.{Session}
 use Rattle.capture_runner.specs.Playing.{Reached, Played, Stopped}
-use Rattle.capture_runner.specs.Session.{IsWorld, ending_of}
+use Rattle.capture_runner.specs.Session.{Agrees, ending_of}
 use Rattle.capture_runner.proofs.Following.{same_run, quiet}
 
 -- what the body of bytes is, by what they say
@@ -106,15 +106,15 @@ module _ (left : Option (List ℕ)) (limit : ℕ) where
         )
 
     pub ended : (x : Session) (text : List ℕ) (t : Scenario) (last : Last) → ((more : List ℕ) → (read 0 s ((ahead ++ r.held) ++ more)).scenario ≡ t) → has_ended t.ending ≡ true
-        → t.ending ≡ ending_of last → IsWorld t x.world → text ≡ body_of (run_of t) → Played left limit now x text last
-    ended x text t last h finished ends world told =
+        → t.ending ≡ ending_of last → Agrees t x → text ≡ body_of (run_of t) → Played left limit now x text last
+    ended x text t last h finished ends agrees told =
         let k : (more : List ℕ) → reads (opened false) (p.input ++ more) ≡ t = λ more. ap (λ (q : Progress). q.scenario) (beyond more) ∙ h more in
         let all : (more : List ℕ) → scenario (p.input ++ more) ≡ t = λ more. scenario_is (p.input ++ more) ∙ over (read 0 (opened false) (p.input ++ more)) t (k more) finished in
         let e : scenario p.input ≡ t = ap scenario (sym (append-nil p.input)) ∙ all [] in record {
           input = p.input;
           read = p.given;
           ends = ap (λ (u : Scenario). u.ending) e ∙ ends;
-          world = subst (λ (u : Scenario). IsWorld u x.world) (sym e) world;
+          agrees = subst (λ (u : Scenario). Agrees u x) (sym e) agrees;
           told = told ∙ sym (body_by p.input t e);
           whole = whole_is left now p.input t p.given e all;
           within = not_too_long left now p.input t p.given (omega (arith, p.counts, p.within)) finished k;
@@ -141,8 +141,8 @@ module _ (left : Option (List ℕ)) (limit : ℕ) where
       )
 
       -- the source ends there
-      pub at_end : (x : Session) (text : List ℕ) (last : Last) → IsEnd r now → (closes s line).ending ≡ ending_of last → IsWorld s x.world → text ≡ body_of (run_of s) → Played left limit now x text last
-      at_end x text last end ends world told =
+      pub at_end : (x : Session) (text : List ℕ) (last : Last) → IsEnd r now → (closes s line).ending ≡ ending_of last → Agrees s x → text ≡ body_of (run_of s) → Played left limit now x text last
+      at_end x text last end ends agrees told =
           let t : Scenario = closes s line in
           let keeps = closes_keeps s line in
           let setup = ap setup_of keeps.0 in
@@ -151,7 +151,7 @@ module _ (left : Option (List ℕ)) (limit : ℕ) where
             input = p.input;
             read = p.given;
             ends = ap (λ (u : Scenario). u.ending) closed_so ∙ ends;
-            world = subst (λ (u : Scenario). IsWorld u x.world) (sym closed_so) (quiet s t x.world world keeps.1 setup place);
+            agrees = subst (λ (u : Scenario). Agrees u x) (sym closed_so) (record { ports = agrees.ports ∙ sym (ap (λ (q : Roster). q.ports) keeps.0); world = quiet s t x.world agrees.world keeps.1 setup place });
             told = told ∙ sym same;
             whole = all_of left now p.input p.given end.none_left;
             within = below left now p.input p.given end.none_left (omega (arith, p.counts, end.before_limit, p.limited));

@@ -19,8 +19,8 @@ use Rattle.capture_runner.specs.declared.session.Last.TheVariants as lasts
 use Rattle.capture_runner.specs.declared.session.Session.{Session}
 use Rattle.capture_runner.specs.Advancing.{Sectioned}
 use Rattle.capture_runner.specs.Playing.{Reached, AtSection, AtSteps, Played, Stopped, Filled}
-use Rattle.capture_runner.specs.Session.{IsCaptured, captures, with_steps}
-use Rattle.capture_runner.proofs.Following.{same_run, quiet}
+use Rattle.capture_runner.specs.Session.{Agrees, IsCaptured, captures, with_steps}
+use Rattle.capture_runner.proofs.Following.{same_run, agrees_badly}
 use Rattle.capture_runner.proofs.Reaching.{reached_more, reached_line, ended, stops, at_end}
 
 -- a line `capture` without its section has no steps
@@ -37,6 +37,9 @@ module _ (left now now' : Option (List ℕ)) (limit : ℕ) (r r' : Reading) (x :
 
   abbrev front : List ℕ
   front = p.line ++ 10 ∷ []
+
+  agrees : Agrees s x
+  agrees = record { ports = ap (λ (q : Roster). q.ports) p.follows.stands.roster; world = p.world }
 
   told_before : text ≡ body_of (run_of s)
   told_before = p.told ∙ none_more s n
@@ -79,7 +82,7 @@ module _ (left now now' : Option (List ℕ)) (limit : ℕ) (r r' : Reading) (x :
         ∙ ap (λ (q : Progress). q.scenario) (section_read (r'.held ++ more) ∙ ap (λ (u : Scenario). read 0 u (r'.held ++ more)) e ∙ read_ended (bad s why) (r'.held ++ more) refl) in
         ended left limit now' r' s (front ++ section) handed.0 x text (bad s why) (lasts.Bad x.lines why) reads_so refl
         (ap (λ k. Bad k why) (sym p.follows.stands.lines))
-        (quiet s (bad s why) x.world p.world refl refl (λ d o. (d, o)))
+        (agrees_badly s x why agrees)
         (told_before ∙ ap body_of (sym (same_run s (bad s why) refl refl)))
 
     pub taken_section : (c : Captured) → r'.fault ≡ None → IsCaptured x section c → Sectioned left limit r' now' x text (Ok c)
@@ -95,7 +98,7 @@ module _ (left now now' : Option (List ℕ)) (limit : ℕ) (r r' : Reading) (x :
       ∙ ap (read 0 s) (append-nil (front ++ part) ∙ append_assoc p.line (10 ∷ []) part)
       ∙ read_part s (Captures n) p.line part p.going p.feedless p.says short in
       at_end left limit now' r' s (front ++ part) (reached_more left limit now now' r r' s front part p.reached m within).0 [] is x text (lasts.Bad x.lines Unended) at
-      (closes_so s.ending p.going ∙ ap (λ k. Bad k Unended) (sym p.follows.stands.lines)) p.world told_before
+      (closes_so s.ending p.going ∙ ap (λ k. Bad k Unended) (sym p.follows.stands.lines)) agrees told_before
     where
       closes_so : (d : Ending) → d ≡ Going → (closes_at d s []).ending ≡ Bad (s.lines + 1) Unended
       closes_so Going e = refl

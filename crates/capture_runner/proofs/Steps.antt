@@ -17,7 +17,7 @@ use Rattle.capture_runner.specs.declared.session.Session.{Session}
 use Rattle.capture_runner.specs.Advancing.{Advanced, Lessens}
 use Rattle.capture_runner.specs.Playing.{Reached, Playing, AtSection, Played, Stopped, Filled}
 use Rattle.capture_runner.specs.Session.{Follows, EndsBy, Takes, Went, captures, ending_of}
-use Rattle.capture_runner.proofs.Following.{same_run, quiet}
+use Rattle.capture_runner.proofs.Following.{same_run, agrees, agrees_badly}
 use Rattle.capture_runner.proofs.Reaching.{reached_more, reached_line, ended, stops, at_end}
 
 pub ends_so : (l : Last) → has_ended (ending_of l) ≡ true
@@ -75,7 +75,7 @@ module _ (left now now' : Option (List ℕ)) (limit : ℕ) (r r' : Reading) (x :
         let reads_so : (more : List ℕ) → (read 0 s (((line ++ 10 ∷ []) ++ r'.held) ++ more)).scenario ≡ bad s why = λ more.
         ap (λ (b : List ℕ). (read 0 s b).scenario) (append_assoc (line ++ 10 ∷ []) r'.held more ∙ append_assoc line (10 ∷ []) (r'.held ++ more))
         ∙ ap (λ (q : Progress). q.scenario) (read_bad s why line (r'.held ++ more) p.follows.going feedless says) in
-        ended left limit now' r' s (line ++ 10 ∷ []) q y (w ++ after) (bad s why) last reads_so refl e.ends e.world
+        ended left limit now' r' s (line ++ 10 ∷ []) q y (w ++ after) (bad s why) last reads_so refl e.ends e.agrees
         (ap (λ (b : List ℕ). w ++ b) e.text ∙ p.told ∙ sym e.body)
     ends_by last (Ok said) says e =
         let q = handed.0 in
@@ -84,7 +84,7 @@ module _ (left now now' : Option (List ℕ)) (limit : ℕ) (r r' : Reading) (x :
         let reads_so : (more : List ℕ) → (read 0 s (((line ++ 10 ∷ []) ++ r'.held) ++ more)).scenario ≡ t = λ more.
         ap (λ (b : List ℕ). (read 0 s b).scenario) (append_assoc (line ++ 10 ∷ []) r'.held more)
         ∙ ap (λ (q : Progress). q.scenario) (line_says said says e.0 (r'.held ++ more) ∙ read_ended t (r'.held ++ more) over) in
-        ended left limit now' r' s (line ++ 10 ∷ []) q y (w ++ after) t last reads_so over e.1.ends e.1.world
+        ended left limit now' r' s (line ++ 10 ∷ []) q y (w ++ after) t last reads_so over e.1.ends e.1.agrees
         (ap (λ (b : List ℕ). w ++ b) e.1.text ∙ p.told ∙ sym e.1.body)
 
     pub taken_line : (next : Next) → Takes x line before y after next → Advanced left limit r' now' y (w ++ after) (Ok next)
@@ -108,7 +108,7 @@ module _ (left now now' : Option (List ℕ)) (limit : ℕ) (r r' : Reading) (x :
         ∙ read_long s front (rest ++ more) p.follows.going h.feedless size in
         ended left limit now' r' s [] (reached_more left limit now now' r r' s [] [] p.reached m within).0 x text (bad s Long) (lasts.Bad (x.lines + 1) Long) reads_so refl
         (ap (λ n. Bad (n + 1) Long) (sym p.follows.stands.lines))
-        (quiet s (bad s Long) x.world p.follows.stands.world refl refl (λ d o. (d, o)))
+        (agrees_badly s x Long (agrees s x p.follows))
         (p.told ∙ ap body_of (sym (same_run s (bad s Long) refl refl)))
 
     -- the end of the input, in a line or before one
@@ -117,7 +117,7 @@ module _ (left now now' : Option (List ℕ)) (limit : ℕ) (r r' : Reading) (x :
     closed rest last m within at feedless short closes_so =
         let s : Scenario = p.scenario in
         let is = ap (λ (b : List ℕ). read 0 s (rest ++ b)) at.none_held ∙ ap (read 0 s) (append-nil rest) ∙ read_rest s rest p.follows.going feedless short in
-        at_end left limit now' r' s rest (reached_more left limit now now' r r' s [] rest p.reached m within).0 rest is x text last at (closes_so s p.follows) p.follows.stands.world p.told
+        at_end left limit now' r' s rest (reached_more left limit now now' r r' s [] rest p.reached m within).0 rest is x text last at (closes_so s p.follows) (agrees s x p.follows) p.told
 
     -- the run stops
 

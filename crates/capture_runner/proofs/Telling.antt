@@ -9,6 +9,7 @@ use Rattle.br_model.specs.Limits.{most_bytes}
 use Rattle.br_model.specs.Plane.Naming.{named}
 use Rattle.br_model.specs.Plane.Runs.{run, end_line}
 use Rattle.br_model.specs.Plane.World.{World, Stepped}
+use Rattle.br_model.specs.Roster.{Roster}
 use Rattle.br_model.specs.Runs.{run_of, body_of, body, told, last_text, setup_of}
 use Rattle.br_model.specs.Scenario.{Scenario, Ending, opened, scenario}
 use Rattle.br_model.specs.Transcript.{line_text}
@@ -86,14 +87,22 @@ told_by input text w last ends world body_is =
     ap (λ (b : List ℕ). b ++ last_line last w) body_is
     ∙ ap (λ (b : List ℕ). body_of (run_of (scenario input)) ++ b) (last_is (scenario input) w last world ∙ ap (λ (d : Ending). last_text d (run_of (scenario input)).0) (sym ends))
 
-pub finished : (left now : Option (List ℕ)) (x : Session) (text : List ℕ) (last : Last) → Played left most_bytes now x text last → Told left now (text ++ last_line last x.world) last
-finished left now x text last p = record {
-  input = p.input;
-  read = p.read;
-  ends = p.ends;
-  tells = told_by p.input text x.world last p.ends p.world p.told;
-  whole = p.whole;
-  within = p.within;
+-- Its writer may be another one then.
+pub finished : (left now : Option (List ℕ)) (x y : Session) (text : List ℕ) (last : Last) → y.roster ≡ x.roster → y.world ≡ x.world → Played left most_bytes now x text last
+    → Told left now y (text ++ last_line last x.world) last
+finished left now x y text last roster world p = record {
+  answered = record {
+    input = p.input;
+    read = p.read;
+    ends = p.ends;
+    answers = told_by p.input text x.world last p.ends p.agrees.world p.told;
+    whole = p.whole;
+    within = p.within;
+  };
+  agrees = record {
+    ports = ap (λ (q : Roster). q.ports) roster ∙ p.agrees.ports;
+    world = subst (λ (w : Option World). IsWorld (scenario p.input) w) (sym world) p.agrees.world;
+  };
 }
 
 -- a line takes a byte at least
@@ -107,32 +116,32 @@ pub split_all : (before after : Option (List ℕ)) (text all : List ℕ) (w : Wr
     → Playing left most_bytes reader now session all → Playing left most_bytes reader now session (w.gone ++ text)
 split_all before after text all w left now reader session p = subst (λ (b : List ℕ). Playing left most_bytes reader now session b) w.together p
 
-pub play_ends : (left now before after : Option (List ℕ)) (x : Session) (held all text text' : List ℕ) (w : Written before after held all) (last : Last)
-    → Played left most_bytes now x (w.gone ++ text) last → text' ≡ text ++ last_line last x.world → (whole : List ℕ) × Written before after text' whole × Told left now whole last
-play_ends left now before after x held all text text' w last p e = (
+pub play_ends : (left now before after : Option (List ℕ)) (x y : Session) (held all text text' : List ℕ) (w : Written before after held all) (last : Last) → y.roster ≡ x.roster → y.world ≡ x.world
+    → Played left most_bytes now x (w.gone ++ text) last → text' ≡ text ++ last_line last x.world → (whole : List ℕ) × Written before after text' whole × Told left now y whole last
+play_ends left now before after x y held all text text' w last roster world p e = (
   w.gone ++ text',
   record { gone = w.gone; wrote = w.wrote; together = refl },
-  subst (λ (b : List ℕ). Told left now b last) (append_assoc w.gone text (last_line last x.world) ∙ ap (λ (b : List ℕ). w.gone ++ b) (sym e)) (finished left now x (w.gone ++ text) last p),
+  subst (λ (b : List ℕ). Told left now y b last) (append_assoc w.gone text (last_line last x.world) ∙ ap (λ (b : List ℕ). w.gone ++ b) (sym e)) (finished left now x y (w.gone ++ text) last roster world p),
 )
 
 pub play_stops : (left now before after : Option (List ℕ)) (reader : Reading) (x : Session) (held all text : List ℕ) (w : Written before after held all) (stop : Stop) (result : Result Last Halt)
-    → result ≡ Err (Stopped stop) → Advanced left most_bytes reader now x (w.gone ++ text) (Err stop) → Plays left now before after text result
+    → result ≡ Err (Stopped stop) → Advanced left most_bytes reader now x (w.gone ++ text) (Err stop) → Plays left now x before after text result
 play_stops left now before after reader x held all text w ReadFault result is a =
-    subst (Plays left now before after text) (sym is) (w.gone ++ text, record { gone = w.gone; wrote = w.wrote; together = refl }, a)
+    subst (Plays left now x before after text) (sym is) (w.gone ++ text, record { gone = w.gone; wrote = w.wrote; together = refl }, a)
 play_stops left now before after reader x held all text w TooLong result is a =
-    subst (Plays left now before after text) (sym is) (w.gone ++ text, record { gone = w.gone; wrote = w.wrote; together = refl }, a)
-play_stops left now before after reader x held all text w NoMemory result is a = subst (Plays left now before after text) (sym is) tt
+    subst (Plays left now x before after text) (sym is) (w.gone ++ text, record { gone = w.gone; wrote = w.wrote; together = refl }, a)
+play_stops left now before after reader x held all text w NoMemory result is a = subst (Plays left now x before after text) (sym is) tt
 
 -- a section was read, and perhaps its steps done
 
-pub section_ends : (left now before after : Option (List ℕ)) (reader : Reading) (x : Session) (text text' : List ℕ) (last : Last) → PlayedSection left reader now x before after text (Ok (Some last))
-    → text' ≡ text ++ last_line last x.world → (whole : List ℕ) × Written before after text' whole × Told left now whole last
-section_ends left now before after reader x text text' last p e =
-    play_ends left now before after x text p.0 text text' p.1 last (subst (λ (b : List ℕ). Played left most_bytes now x b last) p.1.together p.2) e
+pub section_ends : (left now before after : Option (List ℕ)) (reader : Reading) (x y : Session) (text text' : List ℕ) (last : Last) → y.roster ≡ x.roster → y.world ≡ x.world → PlayedSection left reader now x before after text (Ok (Some last))
+    → text' ≡ text ++ last_line last x.world → (whole : List ℕ) × Written before after text' whole × Told left now y whole last
+section_ends left now before after reader x y text text' last roster world p e =
+    play_ends left now before after x y text p.0 text text' p.1 last roster world (subst (λ (b : List ℕ). Played left most_bytes now x b last) p.1.together p.2) e
 
 pub section_halts : (left now before after : Option (List ℕ)) (reader : Reading) (x : Session) (text : List ℕ) (halt : Halt) (result : Result Last Halt) → result ≡ Err halt
-    → PlayedSection left reader now x before after text (Err halt) → Plays left now before after text result
-section_halts left now before after reader x text (Stopped ReadFault) result is p = subst (Plays left now before after text) (sym is) p
-section_halts left now before after reader x text (Stopped TooLong) result is p = subst (Plays left now before after text) (sym is) p
-section_halts left now before after reader x text (Stopped NoMemory) result is p = subst (Plays left now before after text) (sym is) p
-section_halts left now before after reader x text WriteFault result is p = subst (Plays left now before after text) (sym is) p
+    → PlayedSection left reader now x before after text (Err halt) → Plays left now x before after text result
+section_halts left now before after reader x text (Stopped ReadFault) result is p = subst (Plays left now x before after text) (sym is) p
+section_halts left now before after reader x text (Stopped TooLong) result is p = subst (Plays left now x before after text) (sym is) p
+section_halts left now before after reader x text (Stopped NoMemory) result is p = subst (Plays left now x before after text) (sym is) p
+section_halts left now before after reader x text WriteFault result is p = subst (Plays left now x before after text) (sym is) p

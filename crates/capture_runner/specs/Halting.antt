@@ -1,6 +1,7 @@
 -- How the reading of a scenario ends. The source had `left` and has `now`; the sink had taken `before` and has taken `after`;
 -- `text` is held by the output.
-use Rattle.std.specs.Prelude.{◌≡◌, ℕ, List, ◌++◌, IfSome}
+use Rattle.std.specs.Prelude.{◌≡◌, ℕ, List, ◌++◌, IfSome, String, string_bytes}
+use Rattle.std.specs.declared.alloc.Global.{Global}
 use Rattle.std.specs.Io.KnownBytes.{Appends, Consumes}
 use Rattle.std.specs.declared.option.Option.{Option}
 use Rattle.std.specs.declared.option.Option.TheVariants.{None, Some}
@@ -8,18 +9,21 @@ use Rattle.std.specs.declared.result.Result.{Result}
 use Rattle.std.specs.declared.result.Result.TheVariants.{Ok, Err}
 use Rattle.run_io.specs.Causes.{Rose}
 use Rattle.run_io.specs.Reading.{Reading}
+use Rattle.br_model.specs.declared.listing.Listing.{Listing}
 use Rattle.br_model.specs.declared.steps.Step.{Step}
 use Rattle.br_model.specs.Limits.{most_bytes}
+use Rattle.br_model.specs.Listings.{listed}
 use Rattle.br_model.specs.Outcomes.{HoldsNoEnd}
 use Rattle.br_model.specs.Runs.{run_of, body_of, told}
 use Rattle.br_model.specs.Scenario.{Scenario, scenario}
 use Rattle.capture_runner.specs.declared.replay.Halt.{Halt}
 use Rattle.capture_runner.specs.declared.replay.Halt.TheVariants.{Stopped, WriteFault}
+use Rattle.capture_runner.specs.declared.replay.Stop.{Stop}
 use Rattle.capture_runner.specs.declared.replay.Stop.TheVariants.{ReadFault, NoMemory, TooLong}
 use Rattle.capture_runner.specs.declared.session.Last.{Last}
 use Rattle.capture_runner.specs.declared.session.Session.{Session}
 use Rattle.capture_runner.specs.Playing as playing
-use Rattle.capture_runner.specs.Session.{Follows, IsAmongSteps, ending_of, with_steps}
+use Rattle.capture_runner.specs.Session.{Agrees, Follows, IsAmongSteps, ending_of, with_steps}
 
 -- the first bytes of what was held went to the sink, and the others are held
 pub record Moves (before after : Option (List ℕ)) (old new : List ℕ) : Type 0 where
@@ -33,21 +37,33 @@ pub record Written (before after : Option (List ℕ)) (text all : List ℕ) : Ty
   pub wrote : Appends before after gone
   pub together : all ≡ gone ++ text
 
--- all is told of a scenario that has ended
-pub record Told (left now : Option (List ℕ)) (all : List ℕ) (last : Last) : Type 0 where
+-- the scenario has ended, and all this is the answer to it
+pub record Answered (answer : List ℕ → List ℕ) (left now : Option (List ℕ)) (all : List ℕ) (last : Last) : Type 0 where
   pub input : List ℕ
   pub read : Consumes left now input
   pub ends : (scenario input).ending ≡ ending_of last
-  pub tells : all ≡ told input
+  pub answers : all ≡ answer input
   pub whole : IfSome left (λ bytes. scenario bytes ≡ scenario input)
   pub within : IfSome left (λ bytes. ¬ HoldsNoEnd most_bytes bytes)
 
-abbrev pub Plays : Option (List ℕ) → Option (List ℕ) → Option (List ℕ) → Option (List ℕ) → List ℕ → Result Last Halt → Type 0
-Plays left now before after text (Ok last) = (all : List ℕ) × Written before after text all × Told left now all last
-Plays left now before after text (Err (Stopped ReadFault)) = (all : List ℕ) × Written before after text all × playing.Stopped left now all
-Plays left now before after text (Err (Stopped TooLong)) = (all : List ℕ) × Written before after text all × playing.Filled left most_bytes now all
-Plays left now before after text (Err (Stopped NoMemory)) = Unit {0}
-Plays left now before after text (Err WriteFault) = Unit {0}
+-- all is told of it
+pub record Told (left now : Option (List ℕ)) (session : Session) (all : List ℕ) (last : Last) : Type 0 where
+  pub answered : Answered told left now all last
+  pub agrees : Agrees (scenario answered.input) session
+
+-- its listing is the answer
+abbrev pub Lists : Listing → Option (List ℕ) → Option (List ℕ) → Result (Last × String Global) Stop → Type 0
+Lists listing left now (Ok x) = Answered (listed listing) left now (string_bytes x.1) x.0
+Lists listing left now (Err ReadFault) = (text : List ℕ) × playing.Stopped left now text
+Lists listing left now (Err TooLong) = (text : List ℕ) × playing.Filled left most_bytes now text
+Lists listing left now (Err NoMemory) = Unit {0}
+
+abbrev pub Plays : Option (List ℕ) → Option (List ℕ) → Session → Option (List ℕ) → Option (List ℕ) → List ℕ → Result Last Halt → Type 0
+Plays left now session before after text (Ok last) = (all : List ℕ) × Written before after text all × Told left now session all last
+Plays left now session before after text (Err (Stopped ReadFault)) = (all : List ℕ) × Written before after text all × playing.Stopped left now all
+Plays left now session before after text (Err (Stopped TooLong)) = (all : List ℕ) × Written before after text all × playing.Filled left most_bytes now all
+Plays left now session before after text (Err (Stopped NoMemory)) = Unit {0}
+Plays left now session before after text (Err WriteFault) = Unit {0}
 
 -- what is known after a section and its steps, by the answer
 abbrev pub PlayedSection : Option (List ℕ) → Reading → Option (List ℕ) → Session → Option (List ℕ) → Option (List ℕ) → List ℕ → Result (Option Last) Halt → Type 0

@@ -1,6 +1,10 @@
 pub mod Advancing
+pub mod Counting
+pub mod Generating
 pub mod Halting
 pub mod Outcome
 pub mod Playing
 pub mod Section
 pub mod Session
+pub mod Stopping
+pub mod Words

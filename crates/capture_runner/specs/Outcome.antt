@@ -1,17 +1,18 @@
--- How a run may end, by its words and by what it saw and did.
-use Rattle.std.specs.Prelude.{◌≡◌, ℕ, Bool, false, List, [], ◌∷◌, ◌++◌, codes}
-use Rattle.std.specs.Str.{bytes_eq}
+-- How a run may end, by what its words ask for and by what it saw and did.
+use Rattle.std.specs.Prelude.{ℕ, List, [], ◌∷◌, ◌++◌, codes}
+use Rattle.std.specs.declared.option.Option.{Option}
+use Rattle.std.specs.declared.option.Option.TheVariants.{None, Some}
 use Rattle.run_io.specs.Causes.{Rose}
-use Rattle.br_model.specs.Outcomes.{Call, Wrote, Tells, TellsBad, IsNotTooLong, Stops, StopsFull}
+use Rattle.br_model.specs.Generator.{made}
+use Rattle.br_model.specs.Listings.{listed}
+use Rattle.br_model.specs.Outcomes.{Call, Wrote, Makes, Answers, AnswersBad, IsNotTooLong, StopsAfter, StopsFullAfter}
+use Rattle.br_model.specs.Runs.{body, told}
 use Rattle.br_model.specs.Scenario.{Ended}
-use Rattle.capture_runner.specs.declared.runner.Status.{Status}
-use Rattle.capture_runner.specs.declared.runner.Status.TheVariants as statuses
-
--- whether the words ask for a replay
-abbrev pub is_replay : List (List ℕ) → Bool
-is_replay [] = false
-is_replay (w ∷ []) = bytes_eq w (codes "replay")
-is_replay (w ∷ x ∷ ws) = false
+use Rattle.br_model.specs.Summary.{summary}
+use Rattle.capture_runner.specs.declared.asked.Asked.{Asked}
+use Rattle.capture_runner.specs.declared.asked.Asked.TheVariants.{Replay, Show, Gen, Demo}
+use Rattle.capture_runner.specs.declared.status.Status.{Status}
+use Rattle.capture_runner.specs.declared.status.Status.TheVariants as statuses
 
 -- the number with which the program ends
 abbrev pub status_code : Status → ℕ
@@ -27,32 +28,63 @@ status_code statuses.TooLong = 7
 abbrev pub last_line : List ℕ → List ℕ
 last_line text = text ++ 10 ∷ []
 
--- What the run read and wrote, by its status. Of a failed write and of want of memory nothing is said.
-abbrev pub Outcome : Status → Call → Type 0
-Outcome statuses.Ok call = Tells call Ended × IsNotTooLong call
-Outcome statuses.Usage call = Wrote call (last_line (codes "usage"))
-Outcome statuses.BadLine call = TellsBad call × IsNotTooLong call
-Outcome statuses.ReadFault call = Stops call (last_line (codes "read fault"))
-Outcome statuses.WriteFault call = Unit {0}
-Outcome statuses.NoMemory call = Unit {0}
-Outcome statuses.TooLong call = StopsFull call (last_line (codes "too long"))
+-- What a command does that reads a scenario: `answer` is what it writes for its bytes, `before` what stands before the last line
+-- where it stops on its way, and `lacking` holds where it lacks memory. Of a failed write nothing is said.
+abbrev pub Reads : (List ℕ → List ℕ) → (List ℕ → List ℕ) → (Call → Type 0) → Status → Call → Type 0
+Reads answer before lacking statuses.Ok call = Answers answer call Ended × IsNotTooLong call
+Reads answer before lacking statuses.Usage call = ⊥
+Reads answer before lacking statuses.BadLine call = AnswersBad answer call × IsNotTooLong call
+Reads answer before lacking statuses.ReadFault call = StopsAfter before call (last_line (codes "read fault"))
+Reads answer before lacking statuses.WriteFault call = Unit {0}
+Reads answer before lacking statuses.NoMemory call = lacking call
+Reads answer before lacking statuses.TooLong call = StopsFullAfter before call (last_line (codes "too long"))
 
--- when a status may come: usage only at unknown words, a fault only where its count rose
-abbrev pub Caused : Status → Bool → ℕ → ℕ → ℕ → ℕ → Type 0
-Caused statuses.Ok replay reads reads_now writes writes_now = Unit {0}
-Caused statuses.Usage replay reads reads_now writes writes_now = replay ≡ false
-Caused statuses.BadLine replay reads reads_now writes writes_now = Unit {0}
-Caused statuses.ReadFault replay reads reads_now writes writes_now = Rose reads reads_now
-Caused statuses.WriteFault replay reads reads_now writes writes_now = Rose writes writes_now
-Caused statuses.NoMemory replay reads reads_now writes writes_now = Unit {0}
-Caused statuses.TooLong replay reads reads_now writes writes_now = Unit {0}
+-- What a command does that reads nothing: this is what it writes, whole or not at all.
+abbrev pub Writes : List ℕ → Status → Call → Type 0
+Writes output statuses.Ok call = Makes call output
+Writes output statuses.Usage call = ⊥
+Writes output statuses.BadLine call = ⊥
+Writes output statuses.ReadFault call = ⊥
+Writes output statuses.WriteFault call = Unit {0}
+Writes output statuses.NoMemory call = Makes call (last_line (codes "no memory"))
+Writes output statuses.TooLong call = ⊥
 
--- what unknown words are answered: that they are, unless the sink fails
-abbrev pub AnswersUsage : Status → Type 0
-AnswersUsage statuses.Ok = ⊥
-AnswersUsage statuses.Usage = Unit {0}
-AnswersUsage statuses.BadLine = ⊥
-AnswersUsage statuses.ReadFault = ⊥
-AnswersUsage statuses.WriteFault = Unit {0}
-AnswersUsage statuses.NoMemory = ⊥
-AnswersUsage statuses.TooLong = ⊥
+-- what other words are answered
+abbrev pub Refuses : Status → Call → Type 0
+Refuses statuses.Ok call = ⊥
+Refuses statuses.Usage call = Makes call (last_line (codes "usage"))
+Refuses statuses.BadLine call = ⊥
+Refuses statuses.ReadFault call = ⊥
+Refuses statuses.WriteFault call = Unit {0}
+Refuses statuses.NoMemory call = Makes call (last_line (codes "no memory"))
+Refuses statuses.TooLong call = ⊥
+
+-- nothing stands before the last line
+abbrev pub nothing : List ℕ → List ℕ
+nothing bytes = []
+
+-- nothing is said
+abbrev pub anything : Call → Type 0
+anything call = Unit {0}
+
+-- the last line stands alone
+abbrev pub alone : Call → Type 0
+alone call = Wrote call (last_line (codes "no memory"))
+
+-- what the run read and wrote, by what the words ask for and by its status
+abbrev pub Outcome : Option Asked → Status → Call → Type 0
+Outcome None = Refuses
+Outcome (Some Replay) = Reads told body anything
+Outcome (Some (Show listing)) = Reads (listed listing) nothing alone
+Outcome (Some (Gen number count)) = Writes (made number count)
+Outcome (Some (Demo number count)) = Writes (summary number count)
+
+-- a fault only where its count rose
+abbrev pub Caused : Status → ℕ → ℕ → ℕ → ℕ → Type 0
+Caused statuses.Ok reads reads_now writes writes_now = Unit {0}
+Caused statuses.Usage reads reads_now writes writes_now = Unit {0}
+Caused statuses.BadLine reads reads_now writes writes_now = Unit {0}
+Caused statuses.ReadFault reads reads_now writes writes_now = Rose reads reads_now
+Caused statuses.WriteFault reads reads_now writes writes_now = Rose writes writes_now
+Caused statuses.NoMemory reads reads_now writes writes_now = Unit {0}
+Caused statuses.TooLong reads reads_now writes writes_now = Unit {0}

@@ -15,7 +15,7 @@ use Rattle.br_model.specs.Scenario.{Scenario, Going, opened, read, scenario, who
 use Rattle.br_model.specs.WholeLines.{is_line}
 use Rattle.capture_runner.specs.declared.session.Last.{Last}
 use Rattle.capture_runner.specs.declared.session.Session.{Session}
-use Rattle.capture_runner.specs.Session.{Follows, IsWorld, IsAmongSteps, captures, ending_of, with_steps}
+use Rattle.capture_runner.specs.Session.{Agrees, Follows, IsWorld, IsAmongSteps, captures, ending_of, with_steps}
 
 -- The source gave some bytes: at first the lines that the scenario has read, then the bytes `ahead`, which were handed out, and
 -- then what the reader holds.
@@ -68,7 +68,7 @@ pub record Played (left : Option (List ℕ)) (limit : ℕ) (now : Option (List �
   pub input : List ℕ
   pub read : Consumes left now input
   pub ends : (scenario input).ending ≡ ending_of last
-  pub world : IsWorld (scenario input) session.world
+  pub agrees : Agrees (scenario input) session
   pub told : text ≡ body input
   pub whole : IfSome left (λ bytes. scenario bytes ≡ scenario input)
   pub within : IfSome left (λ bytes. ¬ HoldsNoEnd limit bytes)

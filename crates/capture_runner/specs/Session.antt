@@ -5,6 +5,8 @@ use Rattle.std.specs.declared.option.Option.{Option}
 use Rattle.std.specs.declared.option.Option.TheVariants.{None, Some}
 use Rattle.std.specs.declared.result.Result.{Result}
 use Rattle.std.specs.declared.result.Result.TheVariants.{Ok, Err}
+use Rattle.br_model.specs.declared.change.Change.{Change}
+use Rattle.br_model.specs.declared.listing.Listing.{Listing}
 use Rattle.br_model.specs.declared.scenario.LineWhy.{LineWhy}
 use Rattle.br_model.specs.declared.scenario.Said.{Said}
 use Rattle.br_model.specs.declared.scenario.Said.TheVariants as said
@@ -13,14 +15,16 @@ use Rattle.br_model.specs.declared.transcript.Line.{Line}
 use Rattle.br_model.specs.declared.transcript.Line.TheVariants.{End}
 use Rattle.br_model.specs.Captures.{packets}
 use Rattle.br_model.specs.LineForms.{declaration, opening}
+use Rattle.br_model.specs.Listings.{listing_text}
 use Rattle.br_model.specs.Operands.{longest_section}
 use Rattle.br_model.specs.Plane.Naming.{named}
 use Rattle.br_model.specs.Plane.Runs.{end_line}
 use Rattle.br_model.specs.Plane.Steps.{world_step}
 use Rattle.br_model.specs.Plane.World.{World, first_world}
-use Rattle.br_model.specs.Roster.{Roster}
+use Rattle.br_model.specs.Roster.{Entry, Roster}
 use Rattle.br_model.specs.Runs.{run_of, body_of, setup_of}
 use Rattle.br_model.specs.Scenario.{Scenario, Ending, Going, Ended, Bad, bad, captured, section_length, takes, takes_steps, whole_says}
+use Rattle.br_model.specs.Table.{table}
 use Rattle.br_model.specs.Transcript.{text, line_text, bad_text}
 use Rattle.capture_runner.specs.declared.session.Captured.{Captured}
 use Rattle.capture_runner.specs.declared.session.Captured.TheVariants as sections
@@ -29,6 +33,8 @@ use Rattle.capture_runner.specs.declared.session.Last.TheVariants as lasts
 use Rattle.capture_runner.specs.declared.session.Next.{Next}
 use Rattle.capture_runner.specs.declared.session.Next.TheVariants.{Line as NextLine, Section, End as NoMore}
 use Rattle.capture_runner.specs.declared.session.Session.{Session}
+use Rattle.capture_runner.specs.declared.status.Status.{Status}
+use Rattle.capture_runner.specs.declared.status.Status.TheVariants as statuses
 use Rattle.scenario_text.specs.Items.{in_time}
 
 -- after the declarations
@@ -39,6 +45,11 @@ IsAmongSteps s = (declaration s.roster.place ≡ false) × (opening s.roster.pla
 abbrev pub IsWorld : Scenario → Option World → Type 0
 IsWorld s None = s.steps ≡ []
 IsWorld s (Some w) = (w ≡ (run_of s).0) × IsAmongSteps s
+
+-- the session's ports and world are those of the scenario
+pub record Agrees (s : Scenario) (x : Session) : Type 0 where
+  pub ports : x.roster.ports ≡ s.roster.ports
+  pub world : IsWorld s x.world
 
 -- and these steps more
 abbrev pub with_steps : Scenario → List Step → Scenario
@@ -69,7 +80,7 @@ pub record Went (s t : Scenario) (before : List ℕ) (x : Session) (after : List
 
 -- the scenario ends with a line, whose step isn't one
 pub record Ends (s t : Scenario) (before : List ℕ) (x : Session) (after : List ℕ) (last : Last) : Type 0 where
-  pub world : IsWorld t x.world
+  pub agrees : Agrees t x
   pub ends : t.ending ≡ ending_of last
   pub text : after ≡ before
   pub body : body_of (run_of t) ≡ body_of (run_of s)
@@ -118,6 +129,19 @@ pub record Does (old : Session) (step : Step) (before : List ℕ) (new : Session
 abbrev pub end_line_of : Option World → Line
 end_line_of None = End 0 0 0 0
 end_line_of (Some w) = end_line w
+
+abbrev pub history_of : Option World → List Change
+history_of None = []
+history_of (Some w) = w.history
+
+-- the listing of a scenario that has ended so
+abbrev pub listing_or_bad : Listing → Last → List Entry → Option World → List ℕ
+listing_or_bad listing lasts.Ended ports w = listing_text listing ports (table (history_of w))
+listing_or_bad listing (lasts.Bad n why) ports w = bad_text n why
+
+abbrev pub status_of : Last → Status
+status_of lasts.Ended = statuses.Ok
+status_of (lasts.Bad n why) = statuses.BadLine
 
 -- the last line of a run
 abbrev pub last_line : Last → Option World → List ℕ

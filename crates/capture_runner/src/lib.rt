@@ -1,11 +1,20 @@
-//! A scenario is read line by line, run against the bridge, and told as a transcript.
+//! What the words of the command line ask for is done: a scenario is read line by line and run against the bridge, and its
+//! transcript or a table is written; or a scenario is generated, and written or run.
 #![tactic(auto)]
 
+mod asked;
+mod commands;
+mod demo;
 mod replay;
 mod runner;
 mod section;
 mod session;
+mod status;
+mod words;
+pub mod words_laws;
 mod world;
 
+pub use asked::Asked;
 pub use br_model::NoMemory;
-pub use runner::{Status, end_without_memory, run};
+pub use runner::run;
+pub use status::{Status, end_without_memory};

@@ -1,16 +1,20 @@
 //! A scenario is read from a source, line by line, and its transcript is written to a sink.
-ghost use Rattle.std.specs.Prelude.{◌≡◌, ℕ, ◌-◌, ◌<◌, ◌≤◌, ◌^◌, [], true, None, IfOk, OnOk, string_bytes};
+ghost use Rattle.std.specs.Prelude.{◌≡◌, ℕ, false, ◌-◌, ◌<◌, ◌≤◌, ◌^◌, [], true, None, IfOk, OnOk, string_bytes};
 ghost use Rattle.std.specs.List.{list_all};
+ghost use Rattle.std.specs.String.{string_capacity, string_len};
 ghost use Rattle.br_model.specs.Operands.{longest_section};
+ghost use Rattle.br_model.specs.Scenario.{opened};
 ghost use Rattle.run_io.specs.Causes.{HasCause};
-ghost use Rattle.run_io.specs.Reading.{max_line};
-ghost use Rattle.run_io.proofs.ReadSteps.{room};
+ghost use Rattle.run_io.specs.Reading.{max_line, room};
+ghost use Rattle.run_io.specs.Writing.{full_length};
 ghost use Rattle.capture_runner.specs.Advancing.{Advances, Caused, Lessens, Sections};
 ghost use Rattle.capture_runner.specs.Halting.{DoesAll, Halts, Moves, Plays, PlaysSection, Stalls};
-ghost use Rattle.capture_runner.specs.Session.{AreInTime};
+ghost use Rattle.capture_runner.specs.Session.{AreInTime, Follows};
+ghost use Rattle.capture_runner.specs.Stopping.{stop_line, stop_status};
 ghost use Rattle.scenario_text.specs.Items.{in_time};
 
 use crate::session::{Captured, Last, Next, Session};
+use crate::status::Status;
 use br_model::scenario::LineWhy;
 use br_model::steps::Step;
 use run_io::lines::{LineFault, LineReader};
@@ -28,6 +32,29 @@ pub(crate) enum Stop {
     ReadFault,
     NoMemory,
     TooLong,
+}
+
+impl Stop {
+    /// The last line of a run that stopped so.
+    pub(crate) fn line(self) -> &'static [u8]
+        ensures { result.now ≡ stop_line self }
+    {
+        match self {
+            Stop::ReadFault => b"read fault\n",
+            Stop::NoMemory => b"no memory\n",
+            Stop::TooLong => b"too long\n",
+        }
+    }
+
+    pub(crate) fn status(self) -> Status
+        ensures { result ≡ stop_status self }
+    {
+        match self {
+            Stop::ReadFault => Status::ReadFault,
+            Stop::NoMemory => Status::NoMemory,
+            Stop::TooLong => Status::TooLong,
+        }
+    }
 }
 
 impl From<AllocError> for Stop {
@@ -141,8 +168,10 @@ impl From<Stop> for Halt {
 }
 
 /// Writes what the output holds, where there is much of it.
-fn put_if_full<K: Sink>(output: &mut Output, sink: &mut K) -> Result<(), WriteFault>
+pub(crate) fn put_if_full<K: Sink>(output: &mut Output, sink: &mut K) -> Result<(), WriteFault>
     ensures moved { OnOk result (Moves (K.taken sink.old) (K.taken sink.new) (string_bytes output.old.text) (string_bytes output.new.text)) }
+    ensures small { OnOk result (string_len output.new.text < full_length) }
+    ensures room { OnOk result (string_capacity output.old.text ≤ string_capacity output.new.text) }
     ensures cause { HasCause (K.faults sink.old) (K.faults sink.new) result }
 {
     if output.is_full() {
@@ -215,29 +244,31 @@ fn play_section<S: Source, K: Sink>(
     }
 }
 
-/// Reads a scenario to its end or to its first bad line. The output takes its transcript, the last line too, and is written
-/// before each read that may wait, before each section, and where it is full.
+/// Reads a scenario to its end or to its first bad line, in a new session. The output takes its transcript, the last line too, and
+/// is written before each read that may wait, before each section, and where it is full.
 pub(crate) fn play<S: Source, K: Sink>(
     alloc: Global,
+    session: &mut Session,
     source: &mut S,
     sink: &mut K,
     output: &mut Output,
 ) -> Result<Last, Halt>
-    requires { string_bytes output.old.text ≡ [] }
-    ensures plays { Plays (S.left source.old) (S.left source.new) (K.taken sink.old) (K.taken sink.new) (string_bytes output.new.text) result }
+    requires follows { Follows (opened false) session.old }
+    requires lines { session.old.lines ≡ 0 }
+    requires text { string_bytes output.old.text ≡ [] }
+    ensures plays { Plays (S.left source.old) (S.left source.new) session.new (K.taken sink.old) (K.taken sink.new) (string_bytes output.new.text) result }
     ensures cause { Halts (S.faults source.old) (S.faults source.new) (K.faults sink.old) (K.faults sink.new) result }
     ensures later { K.faults sink.old ≤ K.faults sink.new }
 {
     output.text.push_str("transcript 1\n")?;
     let mut reader = LineReader::make(alloc, LIMIT);
-    let mut session = Session::new(alloc)?;
     loop {
         put_before_read(&reader, output, sink)?;
         let text = &mut output.text;
-        match advance(alloc, &mut reader, &mut session, source, text)? {
+        match advance(alloc, &mut reader, session, source, text)? {
             Next::Line => {}
             Next::Section(length) => {
-                let (reader, session) = (&mut reader, &mut session);
+                let reader = &mut reader;
                 if let Some(last) = play_section(
                     alloc, reader, session, source, sink, output, length,
                 )? {

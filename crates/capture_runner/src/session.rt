@@ -4,19 +4,23 @@ ghost use Rattle.br_model.specs.Operands.{longest_section};
 ghost use Rattle.br_model.specs.Plane.Naming.{named};
 ghost use Rattle.br_model.specs.Plane.Steps.{world_step};
 ghost use Rattle.br_model.specs.Scenario.{Scenario, opened, longest_line, closes};
-ghost use Rattle.capture_runner.specs.Session.{Follows, Takes, IsCaptured, AreInTime, Does, ending_of, world_of, end_line_of, last_line};
+ghost use Rattle.br_model.specs.Table.{table};
+ghost use Rattle.capture_runner.specs.Session.{Follows, Takes, IsCaptured, AreInTime, Does, ending_of, world_of, end_line_of, last_line, history_of, listing_or_bad, status_of};
 ghost use Rattle.scenario_text.specs.Items.{in_time};
 ghost use Rattle.transcript_text.specs.Extends.{Extends};
 
 use crate::NoMemory;
 use crate::section::captured_steps;
+use crate::status::Status;
 use crate::world::World;
+use br_model::listing::Listing;
+use br_model::plain::table::Table;
 use br_model::scenario::{Item, LineWhy, Place};
 use br_model::steps::Step;
 use br_model::transcript::{Line, Lines};
 use bridge_command::Roster;
 use pcapng_read::CapFault;
-use scenario_text::{read_line, says_end};
+use scenario_text::{list, read_line, says_end};
 use std::alloc::{AllocError, Global};
 use transcript_text::{Writer, append_bad};
 
@@ -25,6 +29,17 @@ use transcript_text::{Writer, append_bad};
 pub(crate) enum Last {
     Ended,
     Bad(u32, LineWhy),
+}
+
+impl Last {
+    pub(crate) fn status(self) -> Status
+        ensures { result ≡ status_of self }
+    {
+        match self {
+            Last::Ended => Status::Ok,
+            Last::Bad(..) => Status::BadLine,
+        }
+    }
 }
 
 /// What a section gives.
@@ -190,6 +205,35 @@ impl Session {
         Last::Bad(self.lines + 1, why)
     }
 
+    /// The table of the whole history.
+    fn table(&self, alloc: Global) -> Result<Table, NoMemory>
+        ensures { IfOk result (λ t. t ≡ table (history_of self.now.world)) }
+    {
+        match &self.world {
+            Some(world) => Table::of(alloc, world.history()),
+            None => Table::of(alloc, &[]),
+        }
+    }
+
+    /// The listing of the whole history's table, or the bad line.
+    pub(crate) fn list(
+        &self,
+        alloc: Global,
+        listing: Listing,
+        last: Last,
+    ) -> Result<String, NoMemory>
+        ensures { IfOk result (λ text. string_bytes text ≡ listing_or_bad listing last self.now.roster.ports self.now.world) }
+    {
+        match last {
+            Last::Ended => list(alloc, listing, &self.table(alloc)?, &self.roster),
+            Last::Bad(number, why) => {
+                let mut text = String::new(alloc);
+                append_bad(number, why, &mut text)?;
+                Ok(text)
+            }
+        }
+    }
+
     fn end_line(&self) -> Line
         ensures { result ≡ end_line_of self.now.world }
     {
@@ -206,6 +250,8 @@ impl Session {
 
     /// Writes the last line after the text.
     pub(crate) fn end(&mut self, last: Last, text: &mut String) -> Result<(), NoMemory>
+        ensures roster { self.new.roster ≡ self.old.roster }
+        ensures world { self.new.world ≡ self.old.world }
         ensures ok { OnOk result (string_bytes text.new ≡ string_bytes text.old ++ last_line last self.old.world) }
         ensures err { OnErr result (Extends (string_bytes text.old) (string_bytes text.new)) }
     {

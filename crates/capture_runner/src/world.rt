@@ -1,13 +1,14 @@
 //! The world of a run: a bridge with its chip, and the seat by which its software looks up.
-ghost use Rattle.std.specs.Prelude.{◌≡◌, true, IfOk, OnErr};
+ghost use Rattle.std.specs.Prelude.{◌≡◌, length, true, IfOk, OnErr};
 ghost use Rattle.br_model.specs.Plane.Naming.{named};
-ghost use Rattle.br_model.specs.Plane.Runs.{end_line};
+ghost use Rattle.br_model.specs.Plane.Runs.{end_line, pending};
 ghost use Rattle.br_model.specs.Plane.Steps.{Turn, world_step};
 ghost use Rattle.br_model.specs.Plane.World.{first_world};
 ghost use Rattle.plane_core.specs.Planes.{Steps as IsStep};
 ghost use Rattle.scenario_text.specs.Items.{in_time};
 
 use crate::NoMemory;
+use br_model::change::Change;
 use br_model::domains::Domains;
 use br_model::numbers::{Dom, Mac};
 use br_model::steps::{Event, Step};
@@ -81,6 +82,28 @@ impl World {
         }
     }
 
+    /// All accepted changes.
+    pub(crate) fn history(&self) -> &[Change]
+        ensures { result.now ≡ self.now.history }
+    {
+        self.plane.history()
+    }
+
+    /// How many they are.
+    pub(crate) fn changes(&self) -> u32
+        ensures { result ≡ length self.now.history }
+    {
+        self.plane.stands();
+        self.history().len() as u32
+    }
+
+    /// Deferred changes that the chip hasn't applied.
+    pub(crate) fn pending(&self) -> u32
+        ensures { result ≡ pending self.now }
+    {
+        self.plane.pending(Dom::CHIP)
+    }
+
     /// The last line of a run that ends here.
     pub(crate) fn end_line(&self) -> Line
         ensures { result ≡ end_line self.now }
@@ -88,8 +111,8 @@ impl World {
         self.plane.stands();
         Line::End {
             steps: self.plane.steps(),
-            changes: self.plane.history().len() as u32,
-            pending: self.plane.pending(Dom::CHIP),
+            changes: self.changes(),
+            pending: self.pending(),
             waiting: (self.plane.waiting() + self.plane.held()) as u32,
         }
     }

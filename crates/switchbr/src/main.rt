@@ -1,4 +1,4 @@
-//! The program: a scenario from standard input, its transcript to standard output.
+//! The program: what its words ask for is done, from standard input to standard output.
 #![tactic(auto)]
 
 use capture_runner::{end_without_memory, run};

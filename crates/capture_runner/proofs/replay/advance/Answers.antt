@@ -1,6 +1,5 @@
 use Rattle.std.proofs.Common.{[], ◌∷◌, refl, arith, length-append}
 use Rattle.std.proofs.lemmas.List.{append-nil}
-use Rattle.run_io.proofs.ReadSteps.{reads_room}
 use Rattle.capture_runner.proofs.Steps.{long, closed, stopped, filled, taken_line, lessens}
 use Rattle.capture_runner.proofs.replay.advance.Goals as goal
 
@@ -15,8 +14,8 @@ returns-in_ok-take-in-Ok-Some-clause-advances g c = λ limit left written p.
 pub returns-in_ok-take-in-Ok-Some-clause-less : goal.returns-in_ok-take-in-Ok-Some-clause-less
 returns-in_ok-take-in-Ok-Some-clause-less g c =
     let next = c.next.follows.holds-at-none in
-    let reads = rw (c.in-Ok-Some.is, c.in-Ok-Some.field-0-is, c.if-got.true) at next.calls.reads in
-    lessens _ _ (omega (arith, reads_room _ _ _ _ _ reads next.calls.within, length-append c.in-Ok-Some.got.bytes.now (10 ∷ []))) c.in_ok-take-in-Ok-Some.field-0
+    let lessened = rw (c.in-Ok-Some.is, c.in-Ok-Some.field-0-is, c.if-got.true) at next.calls.lessened in
+    lessens _ _ (omega (arith, lessened, length-append c.in-Ok-Some.got.bytes.now (10 ∷ []))) c.in_ok-take-in-Ok-Some.field-0
 
 pub returns-else-got-clause-advances : goal.returns-else-got-clause-advances
 returns-else-got-clause-advances g c = λ limit left written p.

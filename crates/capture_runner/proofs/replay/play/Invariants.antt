@@ -1,17 +1,17 @@
 use Rattle.std.proofs.Common.{ℕ, ◌≤◌, List, string_bytes}
-use Rattle.run_io.proofs.ReadSteps.{room}
+use Rattle.run_io.specs.Reading.{room}
 use Rattle.br_model.specs.Limits.{most_bytes}
 use Rattle.capture_runner.specs.Halting.{Written}
 use Rattle.capture_runner.specs.Playing.{Playing}
 use Rattle.capture_runner.proofs.replay.play.Given as goal
 
-abbrev pub invariant-loop-session : goal.invariant-loop-session
-invariant-loop-session g l = record {
+abbrev pub invariant-loop-reader : goal.invariant-loop-reader
+invariant-loop-reader g l = record {
   plays : (all : List ℕ) × Written (g.K.Sink.taken l.fn.sink) (g.K.Sink.taken l.sink) (string_bytes l.output.text) all
       × Playing (g.S.Source.left l.fn.source) most_bytes l.reader (g.S.Source.left l.source) l.session all;
   reads : g.S.Source.faults l.fn.source ≤ g.S.Source.faults l.source;
   writes : g.K.Sink.faults l.fn.sink ≤ g.K.Sink.faults l.sink;
 }
 
-abbrev pub decreases-loop-session : goal.decreases-loop-session
-decreases-loop-session g l = room l.reader
+abbrev pub decreases-loop-reader : goal.decreases-loop-reader
+decreases-loop-reader g l = room l.reader

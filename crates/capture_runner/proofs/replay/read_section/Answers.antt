@@ -1,5 +1,4 @@
 use Rattle.std.proofs.Common.{arith}
-use Rattle.run_io.proofs.ReadSteps.{reads_room}
 use Rattle.capture_runner.proofs.Sections.{cut_off, filled, stopped, taken_section}
 use Rattle.capture_runner.proofs.replay.read_section.Goals as goal
 
@@ -14,8 +13,7 @@ returns-in_ok-captured-in-Ok-clause-sections g c = λ limit left text p.
 pub returns-in_ok-captured-in-Ok-clause-less : goal.returns-in_ok-captured-in-Ok-clause-less
 returns-in_ok-captured-in-Ok-clause-less g c =
     let taken = c.take.follows.holds-at-none in
-    let reads = rw c.in-Ok.is at taken.calls.reads in
-    omega (arith, reads_room _ _ _ _ _ reads taken.calls.within)
+    omega (arith, taken.calls.lessened)
 
 pub returns-else-got-clause-sections : goal.returns-else-got-clause-sections
 returns-else-got-clause-sections g c = λ limit left text p.

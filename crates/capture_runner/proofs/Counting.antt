@@ -1,0 +1,116 @@
+-- Lines are counted, step by step.
+use Rattle.std.proofs.Common.{◌≡◌, ℕ, ◌+◌, ◌*◌, ◌%◌, ◌==◌, ◌≤◌, nat_le, Bool, true, false, if◌then◌else◌, cond, length, List, [], ◌∷◌, ◌++◌, map, codes, refl, sym, ◌∙◌, ap, subst, arith, append_assoc, append-nil}
+use Rattle.std.specs.Fmt.{decimal}
+use Rattle.std.specs.List.{list_all}
+use Rattle.std.specs.Str.{bytes_eq}
+use Rattle.std.proofs.lemmas.List.Folds.{list_all-append}
+use Rattle.std.proofs.lemmas.List.Sums.{sum_by-append}
+use Rattle.br_model.specs.declared.steps.Step.{Step}
+use Rattle.br_model.specs.declared.steps.Step.TheVariants.{Now, Turn, Report, Publish}
+use Rattle.br_model.specs.declared.transcript.Line.{Line}
+use Rattle.br_model.specs.Generator.{made_scenario, most_frames, each, frame_steps, frames_from, steps}
+use Rattle.br_model.specs.Operands.{last_moment}
+use Rattle.br_model.specs.Plane.Naming.{named}
+use Rattle.br_model.specs.Plane.Runs.{run, then_step, pending}
+use Rattle.br_model.specs.Plane.Steps.{world_step}
+use Rattle.br_model.specs.Plane.World.{World, Stepped, first_world}
+use Rattle.br_model.specs.Runs.{run_of, setup_of}
+use Rattle.br_model.specs.Scenario.{Scenario}
+use Rattle.br_model.specs.Setup.{Setup}
+use Rattle.br_model.specs.Summary.{kind_of, count_of, summary, summary_text}
+use Rattle.br_model.proofs.MadeRead.{made_read}
+use Rattle.br_model.proofs.Running.{run_said, run_none}
+use Rattle.capture_runner.specs.declared.demo.Tally.{Tally}
+use Rattle.capture_runner.specs.Counting.{Tallies, Adds, Ran, RunsOn}
+use Rattle.scenario_text.specs.Generating.{At, steps_left}
+use Rattle.scenario_text.specs.Items.{in_time}
+
+-- the tally of lines more, by how many of each kind they are
+pub adds : (old new : Tally) (lines : List Line) → new.chip ≡ old.chip + count_of (codes "chip") lines → new.soft ≡ old.soft + count_of (codes "soft") lines
+    → new.tx ≡ old.tx + count_of (codes "tx") lines → new.overrun ≡ old.overrun + count_of (codes "overrun") lines → Adds old lines new
+adds old new lines chip soft tx overrun before t = record {
+  chip = one (codes "chip") chip t.chip;
+  soft = one (codes "soft") soft t.soft;
+  tx = one (codes "tx") tx t.tx;
+  overrun = one (codes "overrun") overrun t.overrun;
+}
+  where
+    one : (word : List ℕ) {x y : ℕ} → x ≡ y + count_of word lines → y ≡ count_of word before → x ≡ count_of word (before ++ lines)
+    one word e f = e ∙ ap (λ n. n + count_of word lines) f ∙ sym (sum_by-append (λ line. cond (bytes_eq (kind_of line) word) 1 0) before lines)
+
+pub adds_none : (t : Tally) → Adds t [] t
+adds_none t before h = subst (λ (lines : List Line). Tallies lines t) (sym (append-nil before)) h
+
+pub adds_more : (a b c : Tally) (lines : List Line) (line : Line) → Adds a lines b → Adds b (line ∷ []) c → Adds a (lines ++ line ∷ []) c
+adds_more a b c lines line h k before t = subst (λ (all : List Line). Tallies all c) (append_assoc before lines (line ∷ [])) (k (before ++ lines) (h before t))
+
+pub runs_none : (w : World) (t : Tally) → RunsOn w t [] w t
+runs_none w t setup before h = subst (λ (done : List Step). Ran setup done w t) (sym (append-nil before)) h
+
+pub runs_more : (w v u : World) (a b c : Tally) (done : List Step) (step : Step) (lines : List Line) → RunsOn w a done v b → (u, lines) ≡ world_step v (named step) → Adds b lines c
+    → RunsOn w a (done ++ step ∷ []) u c
+runs_more w v u a b c done step lines h stepped added setup before ran =
+    let r = h setup before ran in
+    let x : Stepped = run setup (map named (before ++ done)) in
+    let next : (u, lines) ≡ world_step x.0 (named step) = stepped ∙ ap (λ (w : World). world_step w (named step)) r.world_is in
+    let all : run setup (map named (before ++ (done ++ step ∷ []))) ≡ then_step x (named step) =
+    ap (λ (l : List Step). run setup (map named l)) (sym (append_assoc before done (step ∷ []))) ∙ run_said setup (before ++ done) step in record {
+      world_is = ap (λ (y : Stepped). y.0) next ∙ sym (ap (λ (y : Stepped). y.0) all);
+      tallies = subst (λ (l : List Line). Tallies l c) (ap (λ (y : Stepped). x.1 ++ y.1) next ∙ sym (ap (λ (y : Stepped). y.1) all)) (added x.1 r.tallies);
+    }
+
+-- before the first step
+pub ran_none : (setup : Setup) (w : World) (t : Tally) → w ≡ first_world setup → Tallies [] t → Ran setup [] w t
+ran_none setup w t e h = record {
+  world_is = e ∙ sym (ap (λ (x : Stepped). x.0) (run_none setup));
+  tallies = subst (λ (l : List Line). Tallies l t) (sym (ap (λ (x : Stepped). x.1) (run_none setup))) h;
+}
+
+-- the moments of generated steps are ones that a line can say
+pub frame_timed : (i n : ℕ) → i ≤ most_frames → list_all in_time (frame_steps i n) ≡ true
+frame_timed i n few =
+    joined (each 3 i Report) _ (timed (i % 3 == 0) Report refl)
+    (joined (each 5 i Turn) _ (timed (i % 5 == 0) Turn refl)
+    (joined (each 7 i Publish) _ (timed (i % 7 == 0) Publish refl)
+    (timed (i % 64 == 0) (Now (1000 * i)) (early (1000 * i) (omega arith)))))
+  where
+    timed : (b : Bool) (s : Step) → in_time s ≡ true → list_all in_time (if b then s ∷ [] else []) ≡ true
+    timed true s h = rw h refl
+    timed false s h = refl
+
+    joined : (l m : List Step) → list_all in_time l ≡ true → list_all in_time m ≡ true → list_all in_time (l ++ m) ≡ true
+    joined l m h k = list_all-append in_time l m ∙ rw (h, k) refl
+
+    early : (moment : ℕ) → moment ≤ last_moment → nat_le moment last_moment ≡ true
+    early moment h = grind arith
+
+-- the line of these counts
+pub line_is : (frames : ℕ) (w : World) (t : Tally) (lines : List Line) → Tallies lines t
+    → codes "demo frames " ++ (decimal frames ++ (codes " chip " ++ (decimal t.chip ++ (codes " soft " ++ (decimal t.soft ++ (codes " tx " ++ (decimal t.tx ++ (codes " overrun " ++ (decimal t.overrun ++ (codes " changes " ++ (decimal (length w.history) ++ (codes " pending " ++ (decimal (pending w) ++ 10 ∷ [])))))))))))))
+    ≡ summary_text frames (w, lines)
+line_is frames w t lines h =
+    λ i. codes "demo frames " ++ (decimal frames ++ (codes " chip " ++ (decimal (h.chip i) ++ (codes " soft " ++ (decimal (h.soft i) ++ (codes " tx " ++ (decimal (h.tx i) ++ (codes " overrun " ++ (decimal (h.overrun i) ++ (codes " changes " ++ (decimal (length w.history) ++ (codes " pending " ++ (decimal (pending w) ++ 10 ∷ [])))))))))))))
+
+-- the summary of the whole run
+pub summed : (x count : ℕ) (w : World) (t : Tally) → count ≤ most_frames → Ran (setup_of (made_scenario x count).roster) (steps x count) w t
+    → summary x count ≡ summary_text count (w, (run_of (made_scenario x count)).1)
+unfolding summary
+summed x count w t few r =
+    ap (λ (s : Scenario). summary_text count (run_of s)) (made_read x count few)
+    ∙ ap (λ (v : World). summary_text count (v, (run_of (made_scenario x count)).1)) (sym r.world_is)
+
+none_left : (g : At) → g.left ≡ 0 → steps_left g ≡ []
+unfolding frames_from
+none_left g e = ap (λ n. frames_from n g.i g.x) e
+
+-- the line of a run that is over
+pub summary_is : (x count changes waiting : ℕ) (w : World) (t : Tally) (done : List Step) (g : At) → count ≤ most_frames → Ran (setup_of (made_scenario x count).roster) done w t
+    → done ++ steps_left g ≡ steps x count → g.left ≡ 0 → changes ≡ length w.history → waiting ≡ pending w
+    → codes "demo frames " ++ (decimal count ++ (codes " chip " ++ (decimal t.chip ++ (codes " soft " ++ (decimal t.soft ++ (codes " tx " ++ (decimal t.tx ++ (codes " overrun " ++ (decimal t.overrun ++ (codes " changes " ++ (decimal changes ++ (codes " pending " ++ (decimal waiting ++ 10 ∷ [])))))))))))))
+    ≡ summary x count
+summary_is x count changes waiting w t done g few r all over c p =
+    let whole : done ≡ steps x count = sym (append-nil done) ∙ ap (λ (l : List Step). done ++ l) (sym (none_left g over)) ∙ all in
+    let ran = subst (λ (l : List Step). Ran (setup_of (made_scenario x count).roster) l w t) whole r in
+    (λ i. codes "demo frames " ++ (decimal count ++ (codes " chip " ++ (decimal t.chip ++ (codes " soft " ++ (decimal t.soft ++ (codes " tx " ++ (decimal t.tx ++ (codes " overrun " ++ (decimal t.overrun ++ (codes " changes " ++ (decimal (c i) ++ (codes " pending " ++ (decimal (p i) ++ 10 ∷ []))))))))))))))
+    ∙ line_is count w t (run_of (made_scenario x count)).1 ran.tallies
+    ∙ sym (summed x count w t few ran)

@@ -1,0 +1,30 @@
+-- Lines that are counted, and the run that they are of.
+use Rattle.std.specs.Prelude.{◌≡◌, List, ◌++◌, map, codes}
+use Rattle.br_model.specs.declared.steps.Step.{Step}
+use Rattle.br_model.specs.declared.transcript.Line.{Line}
+use Rattle.br_model.specs.Plane.Naming.{named}
+use Rattle.br_model.specs.Plane.Runs.{run}
+use Rattle.br_model.specs.Plane.World.{World}
+use Rattle.br_model.specs.Setup.{Setup}
+use Rattle.br_model.specs.Summary.{count_of}
+use Rattle.capture_runner.specs.declared.demo.Tally.{Tally}
+
+-- the tally of these lines
+pub record Tallies (lines : List Line) (tally : Tally) : Type 0 where
+  pub chip : tally.chip ≡ count_of (codes "chip") lines
+  pub soft : tally.soft ≡ count_of (codes "soft") lines
+  pub tx : tally.tx ≡ count_of (codes "tx") lines
+  pub overrun : tally.overrun ≡ count_of (codes "overrun") lines
+
+-- these lines were added to it
+abbrev pub Adds : Tally → List Line → Tally → Type 0
+Adds old lines new = (before : List Line) → Tallies before old → Tallies (before ++ lines) new
+
+-- the world after these steps, and the tally of their lines
+pub record Ran (setup : Setup) (steps : List Step) (world : World) (tally : Tally) : Type 0 where
+  pub world_is : world ≡ (run setup (map named steps)).0
+  pub tallies : Tallies (run setup (map named steps)).1 tally
+
+-- these steps more were done
+abbrev pub RunsOn : World → Tally → List Step → World → Tally → Type 0
+RunsOn old_world old steps world new = (setup : Setup) (before : List Step) → Ran setup before old_world old → Ran setup (before ++ steps) world new

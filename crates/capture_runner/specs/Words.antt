@@ -1,0 +1,108 @@
+-- The grammar of the command line, and what the words after the program's name ask for. How words are matched with a command, and
+-- so what `--` or `--help` does, is clap's own definition.
+-- Source: this profile.
+use Rattle.std.specs.Prelude.{ℕ, ◌-◌, ◌^◌, ◌≤◌, ⊤, true, List, [], ◌∷◌, Option, Some, None, codes, find, if◌then◌else◌}
+use Rattle.std.specs.List.{fold}
+use Rattle.std.specs.Option.{option_and_then, option_map}
+use Rattle.std.specs.Str.{bytes_eq}
+use Rattle.br_model.specs.declared.listing.Listing.{Listing}
+use Rattle.br_model.specs.declared.listing.Listing.TheVariants.{Fdb, Vlan, Mdb}
+use Rattle.br_model.specs.Digits.{number_up_to}
+use Rattle.br_model.specs.Generator.{most_frames}
+use Rattle.br_model.specs.Words.{Word}
+use Rattle.clap.specs.Words.{App, Kinds, Row, Rule, first_of, fault_of, new_app, new_rule, subcommand_of, with_rule, with_subcommand}
+use Rattle.clap.specs.Simple.{on_top}
+use Rattle.capture_runner.specs.declared.asked.Asked.{Asked}
+use Rattle.capture_runner.specs.declared.asked.Asked.TheVariants.{Replay, Show, Gen, Demo}
+
+-- what an operand's word spells
+
+abbrev pub listing : Word → Option Listing
+listing word =
+    if bytes_eq word (codes "fdb") then Some Fdb else
+    if bytes_eq word (codes "vlan") then Some Vlan else
+    if bytes_eq word (codes "mdb") then Some Mdb else
+    None
+
+-- the generator's first state
+abbrev pub number : Word → Option ℕ
+number = number_up_to (2 ^ 64 - 1)
+
+-- the number of frames
+abbrev pub count : Word → Option ℕ
+count = number_up_to most_frames
+
+-- what the words of a command's operands spell: a row holds the word of one
+
+abbrev pub operand : {A : Type 0} → Word → (Word → Option A) → List Row → Option A
+operand name spelled rows = option_and_then spelled (first_of name rows)
+
+abbrev pub pair : Option ℕ → Option ℕ → Option (ℕ × ℕ)
+pair None k = None
+pair (Some n) None = None
+pair (Some n) (Some k) = Some (n, k)
+
+abbrev pub table : List Word
+table = codes "table" ∷ []
+
+abbrev pub table_of : List Row → Option Listing
+table_of = operand (codes "table") listing
+
+abbrev pub number_count : List Word
+number_count = codes "number" ∷ codes "count" ∷ []
+
+abbrev pub number_count_of : List Row → Option (ℕ × ℕ)
+number_count_of rows = pair (operand (codes "number") number rows) (operand (codes "count") count rows)
+
+-- the grammar
+
+-- a command: its word, the names of its operands, all of which are required, and what it asks for with the words of these
+pub record Form : Type 0 where
+  pub word : Word
+  pub operands : List Word
+  pub asks : List Row → Option Asked
+
+abbrev pub form : Word → List Word → (List Row → Option Asked) → Form
+form word operands asks = record { word = word; operands = operands; asks = asks }
+
+abbrev pub forms : List Form
+forms =
+    form (codes "replay") [] (λ rows. Some Replay) ∷
+    form (codes "show") table (λ rows. option_map Show (table_of rows)) ∷
+    form (codes "gen") number_count (λ rows. option_map (λ p. Gen p.0 p.1) (number_count_of rows)) ∷
+    form (codes "demo") number_count (λ rows. option_map (λ p. Demo p.0 p.1) (number_count_of rows)) ∷
+    []
+
+-- the same for clap
+
+abbrev pub required : Word → Rule
+required name = record (new_rule name) { required = true }
+
+abbrev pub subcommand : Word → List Word → App
+subcommand word operands = fold (λ app name. with_rule app (required name)) (new_app word) operands
+
+-- the words don't begin with the program's name, and one of the commands has to follow
+abbrev pub top : App
+top = on_top (λ s. record s { no_binary_name = true; subcommand_required = true }) (new_app (codes "switchbr"))
+
+abbrev pub command : App
+command = fold (λ app f. with_subcommand app (subcommand f.word f.operands).top) top forms
+
+-- what the command of this word asks for, where its operands have these words
+abbrev pub asked_with : Word × List Row → Option Asked
+asked_with match = option_and_then (λ f. f.asks match.1) (find (λ f. bytes_eq match.0 f.word) forms)
+
+abbrev pub unless_fault : Kinds → Option Asked → Option Asked
+unless_fault [] found = found
+unless_fault (kind ∷ kinds) found = None
+
+-- what the words ask for; None where clap finds a fault, or an operand isn't spelled as it should be
+unfoldable pub asked : List Word → Option Asked
+asked words = unless_fault (fault_of command words) (option_and_then asked_with (subcommand_of command words))
+
+-- it asks for no more frames than are generated
+abbrev pub IsWithin : Asked → Type 0
+IsWithin Replay = ⊤
+IsWithin (Show _) = ⊤
+IsWithin (Gen number count) = count ≤ most_frames
+IsWithin (Demo number count) = count ≤ most_frames

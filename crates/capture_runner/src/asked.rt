@@ -1,0 +1,25 @@
+//! What the words of a command line ask for.
+use br_model::listing::Listing;
+
+/// What the program is asked to do.
+#[derive(Clone, Copy, PartialEq, Eq, Debug)]
+pub enum Asked {
+    /// To run the scenario of the input, and write its transcript.
+    Replay,
+    /// To run the scenario of the input, and write a table at its end.
+    Show(Listing),
+    /// To write a scenario of generated frames.
+    Gen {
+        /// The generator's first state.
+        number: u64,
+        /// Frames, at most 100,000.
+        count: u32,
+    },
+    /// To run such a scenario, and write a summary.
+    Demo {
+        /// The generator's first state.
+        number: u64,
+        /// Frames, at most 100,000.
+        count: u32,
+    },
+}

@@ -1,0 +1,122 @@
+//! What each command does, to its last line.
+ghost use Rattle.std.specs.Prelude.{◌≡◌, ℕ, ◌≤◌, [], List, Option, OnOk, string_bytes};
+ghost use Rattle.br_model.specs.Generator.{made, most_frames};
+ghost use Rattle.br_model.specs.Listings.{listed};
+ghost use Rattle.br_model.specs.Runs.{body, told};
+ghost use Rattle.br_model.specs.Summary.{summary as summary_of};
+ghost use Rattle.run_io.specs.Causes.{HasCause};
+ghost use Rattle.capture_runner.specs.Advancing.{Caused as StopsBy};
+ghost use Rattle.capture_runner.specs.Generating.{HasRoom, PutsAll};
+ghost use Rattle.capture_runner.specs.Halting.{Lists};
+ghost use Rattle.capture_runner.specs.Outcome.{Caused, Reads, Writes, nothing, anything, alone};
+
+use crate::demo::summary;
+use crate::replay::{Halt, Stop, play, put_if_full};
+use crate::session::{Last, Session};
+use crate::status::{Status, end_with, end_without_memory, put_last};
+use br_model::listing::Listing;
+use run_io::output::Output;
+use run_io::sinks::{Nowhere, Sink, WriteFault};
+use run_io::sources::Source;
+use scenario_text::{Generator, append_opening};
+use std::alloc::Global;
+
+/// `replay`: the transcript is written while the scenario is read.
+pub(crate) fn replay<S: Source, K: Sink>(alloc: Global, source: &mut S, sink: &mut K) -> Status
+    ensures outcome { Reads told body anything result (record { left_before = S.left source.old; left_now = S.left source.new; taken_before = K.taken sink.old; taken_now = K.taken sink.new }) }
+    ensures cause { Caused result (S.faults source.old) (S.faults source.new) (K.faults sink.old) (K.faults sink.new) }
+{
+    let (Ok(mut output), Ok(mut session)) = (Output::make(alloc), Session::new(alloc)) else {
+        return end_without_memory(sink);
+    };
+    match play(alloc, &mut session, source, sink, &mut output) {
+        Ok(last) => end_with(sink, &mut output, b"", last.status()),
+        Err(Halt::Stopped(stop)) => end_with(sink, &mut output, stop.line(), stop.status()),
+        Err(Halt::WriteFault) => Status::WriteFault,
+    }
+}
+
+/// Runs a scenario, and answers how it ends, with the listing of its whole history's table or with the bad line. The run is a
+/// replay's over a sink that keeps nothing, so there is one loop for both.
+fn listing_of<S: Source>(
+    alloc: Global,
+    listing: Listing,
+    source: &mut S,
+) -> Result<(Last, String), Stop>
+    ensures lists { Lists listing (S.left source.old) (S.left source.new) result }
+    ensures cause { StopsBy (S.faults source.old) (S.faults source.new) result }
+{
+    let mut output = Output::make(alloc)?;
+    let mut session = Session::new(alloc)?;
+    match play(alloc, &mut session, source, &mut Nowhere, &mut output) {
+        Ok(last) => Ok((last, session.list(alloc, listing, last)?)),
+        Err(Halt::Stopped(stop)) => Err(stop),
+        Err(Halt::WriteFault) => unreachable!(),
+    }
+}
+
+/// `show`: the listing is written when the scenario has ended.
+pub(crate) fn show<S: Source, K: Sink>(
+    alloc: Global,
+    listing: Listing,
+    source: &mut S,
+    sink: &mut K,
+) -> Status
+    ensures outcome { Reads (listed listing) nothing alone result (record { left_before = S.left source.old; left_now = S.left source.new; taken_before = K.taken sink.old; taken_now = K.taken sink.new }) }
+    ensures cause { Caused result (S.faults source.old) (S.faults source.new) (K.faults sink.old) (K.faults sink.new) }
+{
+    match listing_of(alloc, listing, source) {
+        Ok((last, text)) => put_last(sink, text.as_bytes(), last.status()),
+        Err(stop) => put_last(sink, stop.line(), stop.status()),
+    }
+}
+
+/// Writes frames as lines while any is left. The last ones are held.
+fn put_frames<K: Sink>(
+    frames: &mut Generator,
+    sink: &mut K,
+    output: &mut Output,
+) -> Result<(), WriteFault>
+    requires room { HasRoom output.old }
+    ensures puts { OnOk result (PutsAll frames.old frames.new (K.taken sink.old) (K.taken sink.new) (string_bytes output.old.text) (string_bytes output.new.text)) }
+    ensures room { OnOk result (HasRoom output.new) }
+    ensures cause { HasCause (K.faults sink.old) (K.faults sink.new) result }
+{
+    while frames.left() > 0 {
+        put_if_full(output, sink)?;
+        frames.append_frame(&mut output.text);
+    }
+    Ok(())
+}
+
+/// `gen`: all memory is there before the first write.
+pub(crate) fn generate<K: Sink>(alloc: Global, number: u64, count: u32, sink: &mut K) -> Status
+    requires { count ≤ most_frames }
+    ensures outcome { (left : Option (List ℕ)) → Writes (made number count) result (record { left_before = left; left_now = left; taken_before = K.taken sink.old; taken_now = K.taken sink.new }) }
+    ensures cause { (reads : ℕ) → Caused result reads reads (K.faults sink.old) (K.faults sink.new) }
+{
+    let Ok(mut output) = Output::make(alloc) else {
+        return end_without_memory(sink);
+    };
+    let mut frames = Generator::new(number, count);
+    append_opening(&mut output.text);
+    match put_frames(&mut frames, sink, &mut output) {
+        Ok(()) => {
+            frames.append_end(&mut output.text);
+            end_with(sink, &mut output, b"", Status::Ok)
+        }
+        Err(_) => Status::WriteFault,
+    }
+}
+
+/// `demo`: the summary is written when the run is over.
+pub(crate) fn demo<K: Sink>(alloc: Global, number: u64, count: u32, sink: &mut K) -> Status
+    requires { count ≤ most_frames }
+    ensures outcome { (left : Option (List ℕ)) → Writes (summary_of number count) result (record { left_before = left; left_now = left; taken_before = K.taken sink.old; taken_now = K.taken sink.new }) }
+    ensures cause { (reads : ℕ) → Caused result reads reads (K.faults sink.old) (K.faults sink.new) }
+{
+    match summary(alloc, number, count) {
+        Ok(text) => put_last(sink, text.as_bytes(), Status::Ok),
+        Err(_) => end_without_memory(sink),
+    }
+}

@@ -1,0 +1,128 @@
+//! The run of a generated scenario, of which lines are counted alone.
+ghost use Rattle.std.specs.Prelude.{◌≡◌, ◌+◌, ◌≤◌, ◌∷◌, ◌++◌, [], true, IfOk, OnOk, codes, decimal, string_bytes};
+ghost use Rattle.std.specs.List.{list_all};
+ghost use Rattle.br_model.specs.Generator.{most_frames};
+ghost use Rattle.br_model.specs.Summary.{summary as summary_of};
+ghost use Rattle.capture_runner.specs.Counting.{Adds, RunsOn};
+ghost use Rattle.scenario_text.specs.Items.{in_time};
+
+use crate::NoMemory;
+use crate::world::World;
+use br_model::numbers::Mac;
+use br_model::steps::Step;
+use br_model::transcript::Line;
+use scenario_text::{Generator, domains, first_steps};
+use std::alloc::{AllocError, Global};
+
+/// How many lines begin with each of these words.
+#[derive(Clone, Copy)]
+struct Tally {
+    chip: u64,
+    soft: u64,
+    tx: u64,
+    overrun: u64,
+}
+
+/// The number after this one. Past the last one it answers want of memory.
+fn next(number: u64) -> Result<u64, NoMemory>
+    ensures { IfOk result (λ n. n ≡ number + 1) }
+{
+    number.checked_add(1).ok_or(AllocError)
+}
+
+fn append_count(name: &str, n: u64, to: &mut String) -> Result<(), NoMemory>
+    ensures { OnOk result (string_bytes to.new ≡ string_bytes to.old ++ (name.now ++ decimal n)) }
+{
+    write!(to, "{name}{n}")
+}
+
+impl Tally {
+    const NONE: Tally = Tally {
+        chip: 0,
+        soft: 0,
+        tx: 0,
+        overrun: 0,
+    };
+
+    fn add(&mut self, line: &Line) -> Result<(), NoMemory>
+        ensures { OnOk result (Adds self.old (line.now ∷ []) self.new) }
+    {
+        match line {
+            Line::Chip { .. } => self.chip = next(self.chip)?,
+            Line::Soft { .. } => self.soft = next(self.soft)?,
+            Line::Tx { .. } => self.tx = next(self.tx)?,
+            Line::Overrun { .. } => self.overrun = next(self.overrun)?,
+            Line::Unread { .. }
+            | Line::Held { .. }
+            | Line::Ctl { .. }
+            | Line::Done { .. }
+            | Line::Refused { .. }
+            | Line::End { .. } => {}
+        }
+        Ok(())
+    }
+
+    fn add_all(&mut self, lines: &[Line]) -> Result<(), NoMemory>
+        ensures { OnOk result (Adds self.old lines.now self.new) }
+    {
+        for line in lines {
+            self.add(line)?;
+        }
+        Ok(())
+    }
+
+    /// The line that tells these counts, with its line feed.
+    fn line(
+        &self,
+        alloc: Global,
+        frames: u32,
+        changes: u32,
+        pending: u32,
+    ) -> Result<String, NoMemory>
+        ensures { IfOk result (λ text. string_bytes text ≡ codes "demo frames " ++ (decimal frames ++ (codes " chip " ++ (decimal self.now.chip ++ (codes " soft " ++ (decimal self.now.soft ++ (codes " tx " ++ (decimal self.now.tx ++ (codes " overrun " ++ (decimal self.now.overrun ++ (codes " changes " ++ (decimal changes ++ (codes " pending " ++ (decimal pending ++ 10 ∷ [])))))))))))))) }
+    {
+        let mut text = String::new(alloc);
+        append_count("demo frames ", u64::from(frames), &mut text)?;
+        append_count(" chip ", self.chip, &mut text)?;
+        append_count(" soft ", self.soft, &mut text)?;
+        append_count(" tx ", self.tx, &mut text)?;
+        append_count(" overrun ", self.overrun, &mut text)?;
+        append_count(" changes ", u64::from(changes), &mut text)?;
+        append_count(" pending ", u64::from(pending), &mut text)?;
+        text.push_str("\n")?;
+        Ok(text)
+    }
+}
+
+/// Does these steps, and counts their lines.
+fn do_steps(
+    alloc: Global,
+    steps: Vec<Step>,
+    world: &mut World,
+    tally: &mut Tally,
+) -> Result<(), NoMemory>
+    requires { list_all in_time steps.items ≡ true }
+    ensures { OnOk result (RunsOn world.old tally.old steps.items world.new tally.new) }
+{
+    for step in steps {
+        let lines = world.step(alloc, step)?;
+        tally.add_all(lines.as_slice())?;
+    }
+    Ok(())
+}
+
+/// The line that tells the run of so many frames from this state on, with its line feed.
+pub(crate) fn summary(alloc: Global, number: u64, count: u32) -> Result<String, NoMemory>
+    requires { count ≤ most_frames }
+    ensures { IfOk result (λ text. string_bytes text ≡ summary_of number count) }
+{
+    let mut world = World::make(alloc, domains(), Mac::FIRST_OWN)?;
+    let mut tally = Tally::NONE;
+    do_steps(alloc, first_steps(alloc)?, &mut world, &mut tally)?;
+    let mut frames = Generator::new(number, count);
+    while frames.left() > 0 {
+        let steps = frames.frame_steps(alloc)?;
+        do_steps(alloc, steps, &mut world, &mut tally)?;
+    }
+    tally.line(alloc, count, world.changes(), world.pending())
+}

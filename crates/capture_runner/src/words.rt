@@ -1,0 +1,126 @@
+//! The words of the command line.
+ghost use Rattle.std.specs.Prelude.{◌≡◌, ◌≤◌, IfOk, IfSome, map, string_bytes, option_map, codes, false};
+ghost use Rattle.std.specs.Option.{option_and_then};
+ghost use Rattle.br_model.specs.Generator.{most_frames};
+ghost use Rattle.clap.specs.Words.{app_of, first_of, found_of, rows_of, subcommand_rows_of};
+ghost use Rattle.clap.specs.declared.builder.Command.TheViews.{out-Command as fields_of};
+ghost use Rattle.capture_runner.specs.Words.{IsWithin, asked, asked_with, command, listing, number_count, number_count_of, subcommand, table, table_of};
+
+use crate::asked::Asked;
+use br_model::NoMemory;
+use br_model::listing::Listing;
+use bridge_command::number_up_to;
+use clap::error::ErrorKind;
+use clap::{Arg, ArgMatches, Command};
+use std::alloc::{AllocError, Global};
+
+/// The most frames that are generated.
+const MOST_FRAMES: u64 = 100_000;
+
+fn show_command<'a>(alloc: Global) -> Result<Command<'a>, NoMemory>
+    ensures app { IfOk result (λ c. app_of c ≡ subcommand (codes "show") table) }
+    ensures local { IfOk result (λ c. (fields_of c).has_globals ≡ false) }
+{
+    let table = Arg::new(alloc, "table").required(true);
+    Command::new(alloc, "show").arg(table)
+}
+
+/// `gen` or `demo`, with its two numbers.
+fn generating_command<'a>(alloc: Global, name: &'a str) -> Result<Command<'a>, NoMemory>
+    ensures app { IfOk result (λ c. app_of c ≡ subcommand name.now number_count) }
+    ensures local { IfOk result (λ c. (fields_of c).has_globals ≡ false) }
+{
+    let number = Arg::new(alloc, "number").required(true);
+    let count = Arg::new(alloc, "count").required(true);
+    Command::new(alloc, name).arg(number)?.arg(count)
+}
+
+/// The program's command.
+fn whole_command<'a>(alloc: Global) -> Result<Command<'a>, NoMemory>
+    ensures app { IfOk result (λ c. app_of c ≡ command) }
+{
+    Command::new(alloc, "switchbr")
+        .no_binary_name(true)
+        .subcommand_required(true)
+        .subcommand(Command::new(alloc, "replay"))?
+        .subcommand(show_command(alloc)?)?
+        .subcommand(generating_command(alloc, "gen")?)?
+        .subcommand(generating_command(alloc, "demo")?)
+}
+
+fn listing_named(word: &str) -> Option<Listing>
+    ensures { result ≡ listing word.now }
+{
+    match word {
+        "fdb" => Some(Listing::Fdb),
+        "vlan" => Some(Listing::Vlan),
+        "mdb" => Some(Listing::Mdb),
+        _ => None,
+    }
+}
+
+/// The first word given for an operand.
+fn word_of<'m>(found: &'m ArgMatches, name: &str) -> Option<&'m str>
+    ensures { option_map (λ s. s.now) result ≡ first_of name.now (rows_of (found_of found.now)) }
+{
+    found.get_str(name)
+}
+
+/// The table that `show` is given.
+fn listing_from(found: &ArgMatches) -> Option<Listing>
+    ensures { result ≡ table_of (rows_of (found_of found.now)) }
+{
+    listing_named(word_of(found, "table")?)
+}
+
+/// The generator's first state and the number of frames.
+fn numbers_from(found: &ArgMatches) -> Option<(u64, u32)>
+    ensures value { result ≡ number_count_of (rows_of (found_of found.now)) }
+    ensures most { IfSome result (λ p. p.1 ≤ most_frames) }
+{
+    let number = number_up_to(word_of(found, "number")?, u64::MAX)?;
+    let count = number_up_to(word_of(found, "count")?, MOST_FRAMES)?;
+    Some((number, count as u32))
+}
+
+/// What the command of this name asks for.
+fn asked_of(name: &str, found: &ArgMatches) -> Option<Asked>
+    ensures value { result ≡ asked_with (name.now, rows_of (found_of found.now)) }
+    ensures within { IfSome result IsWithin }
+{
+    match name {
+        "replay" => Some(Asked::Replay),
+        "show" => Some(Asked::Show(listing_from(found)?)),
+        "gen" => {
+            let (number, count) = numbers_from(found)?;
+            Some(Asked::Gen { number, count })
+        }
+        "demo" => {
+            let (number, count) = numbers_from(found)?;
+            Some(Asked::Demo { number, count })
+        }
+        _ => None,
+    }
+}
+
+/// What the matches ask for.
+fn asked_from(matches: &ArgMatches) -> Option<Asked>
+    ensures value { result ≡ option_and_then asked_with (subcommand_rows_of matches.now) }
+    ensures within { IfSome result IsWithin }
+{
+    let (name, found) = matches.subcommand()?;
+    asked_of(name, found)
+}
+
+/// What the words after the program's name ask for, if they are in the grammar.
+pub(crate) fn read_words(alloc: Global, words: &[String]) -> Result<Option<Asked>, NoMemory>
+    ensures value { IfOk result (λ a. a ≡ asked (map string_bytes words.entry.now)) }
+    ensures within { IfOk result (λ a. IfSome a IsWithin) }
+{
+    let command = whole_command(alloc)?;
+    match command.try_get_matches_from(words) {
+        Ok(matches) => Ok(asked_from(&matches)),
+        Err(error) if error.kind() == ErrorKind::OutOfMemory => Err(AllocError),
+        Err(_) => Ok(None),
+    }
+}

@@ -1,0 +1,47 @@
+//! Worked command lines. A law is a function that does nothing: its contract says it.
+ghost use Rattle.std.specs.Prelude.{◌≡◌, [], codes, None, Some};
+ghost use Rattle.br_model.specs.Words.{words};
+ghost use Rattle.br_model.specs.declared.listing.Listing.TheVariants.{Fdb, Vlan, Mdb};
+ghost use Rattle.capture_runner.specs.declared.asked.Asked.TheVariants.{Replay, Show, Gen, Demo};
+ghost use Rattle.capture_runner.specs.Words.{asked};
+
+/// Each command, with the largest numbers.
+pub fn commands_are_read()
+    ensures replay { asked (words (codes "replay")) ≡ Some Replay }
+    ensures fdb { asked (words (codes "show fdb")) ≡ Some (Show Fdb) }
+    ensures vlan { asked (words (codes "show vlan")) ≡ Some (Show Vlan) }
+    ensures mdb { asked (words (codes "show mdb")) ≡ Some (Show Mdb) }
+    ensures least { asked (words (codes "gen 0 0")) ≡ Some (Gen 0 0) }
+    ensures most { asked (words (codes "gen 18446744073709551615 100000")) ≡ Some (Gen 18446744073709551615 100000) }
+    ensures demo { asked (words (codes "demo 7 20")) ≡ Some (Demo 7 20) }
+{}
+
+/// An operand too few, one too many, and operands that aren't spelled as they should be.
+pub fn operands_are_tested()
+    ensures few { asked (words (codes "gen 7")) ≡ None }
+    ensures many { asked (words (codes "replay x")) ≡ None }
+    ensures table { asked (words (codes "show ports")) ≡ None }
+    ensures zero { asked (words (codes "gen 07 1")) ≡ None }
+    ensures number { asked (words (codes "gen 18446744073709551616 1")) ≡ None }
+    ensures count { asked (words (codes "gen 0 100001")) ≡ None }
+    ensures sign { asked (words (codes "demo 1 -1")) ≡ None }
+{}
+
+/// No word, an unknown one, words for help and for the version, a command's first letters and two commands.
+pub fn other_words_are_faults()
+    ensures none { asked [] ≡ None }
+    ensures unknown { asked (words (codes "list")) ≡ None }
+    ensures option { asked (words (codes "--help")) ≡ None }
+    ensures help { asked (words (codes "help")) ≡ None }
+    ensures help_of { asked (words (codes "help show")) ≡ None }
+    ensures below { asked (words (codes "gen -h")) ≡ None }
+    ensures version { asked (words (codes "-V")) ≡ None }
+    ensures shortened { asked (words (codes "rep")) ≡ None }
+    ensures two { asked (words (codes "replay replay")) ≡ None }
+{}
+
+/// What follows `--` is no command, and is an operand.
+pub fn dashes_end_options()
+    ensures before { asked (words (codes "-- replay")) ≡ None }
+    ensures behind { asked (words (codes "show -- fdb")) ≡ Some (Show Fdb) }
+{}
