@@ -1,12 +1,15 @@
-/* Runs scenarios of software ports in the kernel's bridge; root's, in the guest.
+/* Runs scenarios in the kernel's bridge; root's, in the guest.
  *
  * The file holds scenarios, each behind a line `=== NAME`. Each has a network namespace of its own, with a bridge br0
- * and a veth pair for each port: frames enter and are seen at the far ends. For each scenario it writes
+ * and a veth pair for each port of software: frames enter and are seen at the far ends. Ports of the chip are those of the
+ * driver in chip.c. A frame that enters there has one word more, what the chip did with it: `copy` and `trap` hand it up, with
+ * and without the mark, others don't. `report PORT MAC VLAN` is a report of the chip. For each scenario it writes
  *
  *     === NAME
  *     tx FRAME PORT HEX     the FRAME-th frame left at PORT, or reached the host (0)
  *     ok STEP               the kernel took the command of this step
  *     refused STEP WORDS    it didn't, and said so
+ *     told STEP WORDS       the driver was told in this step
  *     fatal WORDS           the scenario ended early
  *     === end
  */
@@ -36,7 +39,8 @@
 extern char **environ;
 
 static char name[PORTS][20];	/* of the bridge's port, "" where none is declared */
-static int far_end[PORTS];	/* a socket on the device at the other end of the pair */
+static int far_end[PORTS];	/* a socket on the device at the other end of the pair, or on the chip's port */
+static int is_chip[PORTS];
 static int up[PORTS];
 static int host = -1;		/* a socket on br0 */
 static unsigned char own[6] = { 2, 0, 0, 0, 0, 1 };
@@ -120,7 +124,6 @@ static int listen_on(const char *device, int type)
 	if (s < 0 || bind(s, (struct sockaddr *)&address, sizeof address))
 		fatal(device);
 	setsockopt(s, SOL_PACKET, PACKET_AUXDATA, &one, sizeof one);
-	setsockopt(s, SOL_PACKET, PACKET_IGNORE_OUTGOING, &one, sizeof one);
 	setsockopt(s, SOL_SOCKET, SO_RCVBUFFORCE, &room, sizeof room);
 	return s;
 }
@@ -134,11 +137,18 @@ static void make_bridge(void)
 	host = listen_on("br0", ETH_P_ALL);
 }
 
-static void declare(int port, const char *device)
+static void declare(int port, const char *device, int chip)
 {
 	char far[20];
 
 	snprintf(name[port], sizeof name[port], "%s", device);
+	is_chip[port] = chip;
+	if (chip) {
+		if (run("ip link add name %s address 02:fe:00:00:00:%02x arp off mtu 9050 type chip", device, port))
+			fatal(device);
+		far_end[port] = listen_on(device, ETH_P_ALL);
+		return;
+	}
 	snprintf(far, sizeof far, "far%d", port);
 	if (run("ip link add name %s address 02:fe:00:00:00:%02x mtu 9050 type veth peer name %s address 02:fd:00:00:00:%02x"
 		" mtu 9050", device, port, far, port) || run("ip link set %s arp off promisc on up", far))
@@ -146,17 +156,20 @@ static void declare(int port, const char *device)
 	far_end[port] = listen_on(far, ETH_P_ALL);
 }
 
-/* One frame of a socket, with the tag that the kernel took off put back; gives its length, or -1 where none waits. */
-static int take(int s, unsigned char *bytes)
+/* One frame of a socket, with the tag that the kernel took off put back; gives its length, or -1 where none waits. Tells
+ * whether the device sent it, and didn't receive it. */
+static int take(int s, unsigned char *bytes, int *sent)
 {
 	union { char room[CMSG_SPACE(sizeof(struct tpacket_auxdata))]; struct cmsghdr header; } control;
+	struct sockaddr_ll from;
 	struct iovec place = { bytes, LONGEST };
-	struct msghdr message = { .msg_iov = &place, .msg_iovlen = 1, .msg_control = &control,
-		.msg_controllen = sizeof control };
+	struct msghdr message = { .msg_name = &from, .msg_namelen = sizeof from, .msg_iov = &place, .msg_iovlen = 1,
+		.msg_control = &control, .msg_controllen = sizeof control };
 	int length = recvmsg(s, &message, 0);
 
 	if (length < 0)
 		return -1;
+	*sent = from.sll_pkttype == PACKET_OUTGOING;
 	for (struct cmsghdr *c = CMSG_FIRSTHDR(&message); c; c = CMSG_NXTHDR(&message, c)) {
 		struct tpacket_auxdata *x = (void *)CMSG_DATA(c);
 
@@ -180,14 +193,14 @@ static int guests_own(const unsigned char *bytes)
 	return !memcmp(bytes + 6, own, 6) || (bytes[6] == 2 && (bytes[7] == 0xfe || bytes[7] == 0xfd));
 }
 
-/* Takes what waits at a socket; writes it where `told`. */
-static void drain(int s, int port, int told)
+/* Takes what waits at a socket; writes what its device received, or what it sent, where `told`. */
+static void drain(int s, int port, int wants_sent, int told)
 {
 	unsigned char bytes[LONGEST + 4];
-	int length;
+	int length, sent;
 
-	while ((length = take(s, bytes)) >= 0) {
-		if (!told || guests_own(bytes))
+	while ((length = take(s, bytes, &sent)) >= 0) {
+		if (!told || sent != wants_sent || guests_own(bytes))
 			continue;
 		printf("tx %d %d ", frame, port);
 		for (int i = 0; i < length; i++)
@@ -198,12 +211,12 @@ static void drain(int s, int port, int told)
 
 static void drain_all(int told)
 {
-	drain(host, 0, told);
+	drain(host, 0, 0, told);
 	for (int i = 0; i < pasts; i++)
-		drain(past[i].socket, 0, told && up[past[i].port]);
+		drain(past[i].socket, 0, 0, told && up[past[i].port]);
 	for (int port = 1; port < PORTS; port++)
 		if (name[port][0])
-			drain(far_end[port], port, told);
+			drain(far_end[port], port, is_chip[port], told);
 }
 
 /* Sees what the port's own device hands up past the bridge of frames of this one's type. */
@@ -225,21 +238,61 @@ static void listen_past(int port, const unsigned char *bytes, int length)
 	past[pasts++].socket = listen_on(name[port], type);
 }
 
-static void enter(int port, const char *hex)
+/* Has the driver do what the words say; gives 0 where the kernel took it. */
+static int drive(const char *format, ...)
+{
+	static char line[20100];
+	int file = open("/proc/chip", O_RDWR | O_CLOEXEC), length, failed;
+	va_list operands;
+
+	if (file < 0)
+		fatal("/proc/chip");
+	va_start(operands, format);
+	length = vsnprintf(line, sizeof line, format, operands);
+	va_end(operands);
+	failed = write(file, line, length) != length;
+	if (failed)
+		snprintf(words, sizeof words, "%s", strerror(errno));
+	close(file);
+	return failed;
+}
+
+/* Takes what the driver was told; writes it where `told`, without what is told of the devices' own addresses. */
+static void hear(int told)
+{
+	static char log[30001];
+	int file = open("/proc/chip", O_RDONLY | O_CLOEXEC), length = 0, got;
+	char own_text[20], *rest = log, *line;
+
+	if (file < 0)
+		fatal("/proc/chip");
+	while (length < 30000 && (got = read(file, log + length, 30000 - length)) > 0)
+		length += got;
+	log[length] = 0;
+	close(file);
+	snprintf(own_text, sizeof own_text, "%02x:%02x:%02x:%02x:%02x:%02x", own[0], own[1], own[2], own[3], own[4], own[5]);
+	while (told && (line = strsep(&rest, "\n")))
+		if (*line && !strstr(line, " 02:fe:") && !strstr(line, own_text))
+			printf("told %d %s\n", step, line);
+}
+
+static void enter(int port, const char *hex, const char *handed)
 {
 	unsigned char bytes[LONGEST];
+	const char *digits = hex;
 	int length = 0;
 
 	frame++;
-	for (; length < LONGEST && sscanf(hex, "%2hhx", &bytes[length]) == 1; hex += 2)
+	for (; length < LONGEST && sscanf(digits, "%2hhx", &bytes[length]) == 1; digits += 2)
 		length++;
-	if (length < 14)
+	if (length < 14 || (is_chip[port] && strcmp(handed, "copy") && strcmp(handed, "trap")))
 		return;
 	memcpy(entered, bytes, 12);
 	if (up[port] && !memcmp(bytes, "\x01\x80\xc2\x00\x00", 5) && bytes[5] > 0 && bytes[5] < 16)
 		listen_past(port, bytes, length);
 	drain_all(0);
-	if (send(far_end[port], bytes, length, 0) != length)
+	if (is_chip[port] ? drive("rx %s %d %s", name[port], !strcmp(handed, "copy"), hex)
+			  : send(far_end[port], bytes, length, 0) != length)
 		fatal("send");
 	pause_for(SETTLE);
 	drain_all(1);
@@ -338,21 +391,29 @@ static void sleep_until(long milliseconds)
 		;
 }
 
+static void answer(int failed)
+{
+	if (failed)
+		printf("refused %d %s\n", step, words);
+	else
+		printf("ok %d\n", step);
+	pause_for(1000);
+}
+
 static void do_step(int n, char **w)
 {
 	step++;
-	if (IS(0, "cmd")) {
-		if (command(n - 1, w + 1))
-			printf("refused %d %s\n", step, words);
-		else
-			printf("ok %d\n", step);
-		pause_for(1000);
-	} else if (IS(0, "rx") && n == 3) {
-		enter(atoi(w[1]), w[2]);
-	} else if (IS(0, "now") && n == 2) {
+	if (IS(0, "cmd"))
+		answer(command(n - 1, w + 1));
+	else if (IS(0, "report") && n == 4)
+		answer(drive("report %s %s %s", name[atoi(w[1])], w[2], w[3]));
+	else if (IS(0, "rx") && n >= 3)
+		enter(atoi(w[1]), w[2], n > 3 ? w[3] : "");
+	else if (IS(0, "now") && n == 2)
 		sleep_until(atol(w[1]));
-	}
-	/* serve and publish: the kernel has done it */
+	else
+		return;	/* serve, publish and turn: the kernel has done it */
+	hear(1);
 }
 
 static void scenario(FILE *file)
@@ -370,10 +431,11 @@ static void scenario(FILE *file)
 		if (IS(0, "bridge")) {
 			sscanf(w[1], "%hhx:%hhx:%hhx:%hhx:%hhx:%hhx", own, own + 1, own + 2, own + 3, own + 4, own + 5);
 		} else if (IS(0, "port")) {
-			declare(atoi(w[1]), w[2]);
+			declare(atoi(w[1]), w[2], IS(3, "chip"));
 		} else if (n && !IS(0, "scenario")) {
 			if (host < 0) {
 				make_bridge();
+				hear(0);
 				clock_gettime(CLOCK_MONOTONIC, &start);
 			}
 			do_step(n, w);

@@ -1,12 +1,14 @@
-"""Random scenarios of software ports, of steps in which no difference of docs/KERNEL.md shows.
+"""Random scenarios, of steps in which no difference of docs/KERNEL.md shows.
 
-What they keep off is said where they do. Everything else that a line of software ports can say is in them.
+What they keep off is said where they do. Everything else that a line of software ports can say is in them. Where ports are the
+chip's, it reports each frame that it has to report, and takes its turns, directly behind the frame.
 """
 import random
 
 import frames
 
 PORTS = range(1, 6)
+CHIP_PORTS = range(1, 4)
 ROAMERS = "abcde"  # stations that send; f has static and local entries, since Linux moves a static entry with its station
 V4_GROUPS = ["239.1.2.3", "239.1.2.4", "239.9.9.9", "224.0.0.5", "224.0.1.1"]
 V6_GROUPS = ["ff05::1234", "ff05::99", "ff02::1", "ff02::2"]
@@ -20,9 +22,10 @@ def mac(station):
 
 
 class Maker:
-    def __init__(self, seed, number):
+    def __init__(self, seed, number, has_chip):
         self.random = random.Random("%s/%d" % (seed, number))
-        self.lines = ["scenario 1"] + ["port %d p%d soft" % (port, port) for port in PORTS]
+        self.chip_ports = CHIP_PORTS if has_chip else []
+        self.lines = ["scenario 1"] + ["port %d p%d %s" % (port, port, "chip 1" if port in self.chip_ports else "soft") for port in PORTS]
         self.clock = 0
         self.member = {port: {} for port in PORTS}  # of each port that is up, its VLANs: whether untagged
         self.member[0] = {1: True}
@@ -50,6 +53,10 @@ class Maker:
 
     def rx(self, port, data):
         self.lines.append("rx %d %s" % (port, data))
+        if port in self.chip_ports:
+            self.lines.append("report 1")
+        if self.chip_ports:
+            self.lines += ["turn 1"] * 2
 
     # ---- commands ----
 
@@ -205,5 +212,5 @@ class Maker:
         return "\n".join(self.lines + ["end"]) + "\n"
 
 
-def random_scenario(seed, number):
-    return Maker(seed, number).make()
+def random_scenario(seed, number, has_chip):
+    return Maker(seed, number, has_chip).make()
