@@ -121,7 +121,51 @@ def moments():
         yield f"now {moment}"
 
 
-SCENARIOS = {f.__name__: f for f in (large, blank, frames, links, learned, mixed, known, sights, no_sights, moments)}
+def summed(data, place):
+    """The bytes with their checksum (RFC 1071) at this place."""
+    total = sum(int.from_bytes(data[i:i + 2], "big") for i in range(0, len(data), 2))
+    while total > 0xFFFF:
+        total = (total & 0xFFFF) + (total >> 16)
+    return data[:place] + (0xFFFF - total).to_bytes(2, "big") + data[place + 2:]
+
+
+def packet(port, protocol, to, body):
+    """A packet of version 4 from the station of a port to a group, in a frame."""
+    header = bytes([0x45, 0]) + (20 + len(body)).to_bytes(2, "big") + bytes([0, 0, 0, 0, 1, protocol, 0, 0, 10, 0, 0, port])
+    frame = bytes([1, 0, 0x5E, to[1] & 0x7F, *to[2:], 2, 0, 0, 0, 0, port, 8, 0]) + summed(header + bytes(to), 10) + body
+    return f"rx {port} {frame.hex()}"
+
+
+def igmp(port, to, kind, group):
+    """A message of IGMP version 2."""
+    return packet(port, 2, to, summed(bytes([kind, 0, 0, 0, *group]), 2))
+
+
+def snooping():
+    """20,000 reports and leaves at six ports, three of four of them reports, for 300 groups; behind each a frame of payload to
+    one of them; a query each 500, a publication each 100, a moment each 50, a second later."""
+    chance = random.Random(3)
+    yield from soft_ports(6)
+    for i in range(20000):
+        if i % 500 == 0:
+            yield igmp(i // 500 % 6 + 1, (224, 0, 0, 1), 0x11, (0, 0, 0, 0))
+            yield "serve"
+        n = chance.randrange(300)
+        group = (239, 1, n // 256, n % 256)
+        port = chance.randrange(6) + 1
+        yield igmp(port, (224, 0, 0, 2), 0x17, group) if chance.randrange(4) == 0 else igmp(port, group, 0x16, group)
+        yield "serve"
+        n = chance.randrange(300)
+        yield packet(chance.randrange(6) + 1, 17, (239, 1, n // 256, n % 256), bytes(8))
+        yield "serve"
+        if i % 100 == 99:
+            yield "publish"
+        if i % 50 == 49:
+            yield f"now {20 * (i + 1)}"
+
+
+SCENARIOS = {f.__name__: f for f in (
+    large, blank, frames, links, learned, mixed, known, sights, no_sights, moments, snooping)}
 
 for line in SCENARIOS[sys.argv[1]]():
     print(line)
