@@ -5,7 +5,7 @@ use Rattle.br_model.specs.Leave.{all_ports, egress_ports, ports_out, leave}
 use Rattle.br_model.specs.LineForms.{line_says}
 use Rattle.br_model.specs.Listings.{listed}
 use Rattle.br_model.specs.Messages.{message}
-use Rattle.br_model.specs.Operands.{number, new_port, new_name, port_number, port_name, device, mac, group, hex, flag}
+use Rattle.br_model.specs.Operands.{number, chip_domain, new_port, new_name, port_number, port_name, device, mac, group, hex, flag}
 use Rattle.br_model.specs.Plane.Runs.{run}
 use Rattle.br_model.specs.Reaction.{react}
 use Rattle.br_model.specs.Runs.{told}
@@ -20,7 +20,7 @@ use Rattle.br_model.specs.TreeVectors.{root_of, roles}
 
 -- `unfolding computing` lets `refl` compute a whole run
 unfoldable pub computing : Unit {0}
-unfolding digits message all_ports egress_ports ports_out leave line_says number new_port new_name port_number port_name device mac group hex flag react told run front read scenario_by tree_step
+unfolding digits message all_ports egress_ports ports_out leave line_says number chip_domain new_port new_name port_number port_name device mac group hex flag react told run front read scenario_by tree_step
 computing = tt
 
 -- and this one a run in which the spanning tree is on

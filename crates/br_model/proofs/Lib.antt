@@ -6,9 +6,12 @@ pub mod ChipRows
 pub mod CommandRows
 pub mod Computing
 pub mod CoursesTied
+pub mod CutFits
 pub mod Cuts
+pub mod DeclaredChips
 pub mod DomainLaws
 pub mod Endings
+pub mod DomainRows
 pub mod DomainWords
 pub mod EndsTied
 pub mod FrameFacts
@@ -23,6 +26,7 @@ pub mod MessageRows
 pub mod PairKeys
 pub mod PlaneAgreement
 pub mod PlaneApplied
+pub mod PlaneChips
 pub mod PlaneFates
 pub mod PlaneHistory
 pub mod PlaneOnce

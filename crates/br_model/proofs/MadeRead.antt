@@ -7,6 +7,7 @@ use Rattle.std.specs.List.{list_all, flat_map}
 use Rattle.std.specs.declared.result.Result.TheVariants.{Ok, Err}
 use Rattle.std.proofs.lemmas.Fmt.{length-decimal-le}
 use Rattle.std.proofs.lemmas.List.Folds.{list_all-append}
+use Rattle.br_model.specs.declared.domains.Edition.TheVariants.{One}
 use Rattle.br_model.specs.declared.scenario.LineWhy.TheVariants.{Long}
 use Rattle.br_model.specs.declared.scenario.Place.TheVariants.{Header, Declarations, Steps}
 use Rattle.br_model.specs.declared.scenario.Said.TheVariants.{Does, Declares, Opens, Ends}
@@ -48,7 +49,7 @@ good_append (s ∷ l) m h k = (h.0, good_append l m h.1 k)
 
 -- what the lines so far have said, of which the first step is one
 abbrev at : ℕ → List Step → Scenario
-at n done = record { lines = n; roster = record { place = Steps; check = false; own = first_own; ports = ports }; steps = done; ending = Going }
+at n done = record { lines = n; roster = record { place = Steps; check = false; edition = One; own = first_own; ports = ports }; steps = done; ending = Going }
 
 says : (r : Roster) (s : Step) → r ≡ (at 0 []).roster → IsGood s → whole_says r (step_words ports s) ≡ Ok (Does s)
 unfolding computing
@@ -165,12 +166,13 @@ is_port : (r : ℕ) → r < 6 → has_line ports (Rx (r + 1) []) ≡ true
 is_port r h = grind arith
 
 frame_good : (i n : ℕ) → i ≤ most_frames → AreGood (frame_steps i n)
+unfolding digits
 frame_good i n few = (
   entry_good (n % 6 + 1) (frame n) (omega arith) (both _ _ (first_so _ _ (is_port (n % 6) (omega arith))) (frame_bytes n)) (frame_length n) (frame_bytes n),
   (
     record { feedless = refl; short = omega arith; line = refl; whole = refl },
-    good_append (each 3 i Report) _ (each_good (i % 3 == 0) Report (record { feedless = refl; short = omega arith; line = refl; whole = refl }))
-        (good_append (each 5 i Turn) _ (each_good (i % 5 == 0) Turn (record { feedless = refl; short = omega arith; line = refl; whole = refl }))
+    good_append (each 3 i (Report chip)) _ (each_good (i % 3 == 0) (Report chip) (record { feedless = refl; short = omega arith; line = refl; whole = refl }))
+        (good_append (each 5 i (Turn chip)) _ (each_good (i % 5 == 0) (Turn chip) (record { feedless = refl; short = omega arith; line = refl; whole = refl }))
         (good_append (each 7 i Publish) _ (each_good (i % 7 == 0) Publish (record { feedless = refl; short = omega arith; line = refl; whole = refl }))
         (each_good (i % 64 == 0) (Now (1000 * i)) (moment_good (1000 * i) (omega arith))))),
   ),
@@ -186,13 +188,13 @@ frames_good (suc count) i x few =
 -- the lines before the steps, and the first step
 
 abbrev begun : ℕ → List Entry → Scenario
-begun n declared = record { lines = n; roster = record { place = Declarations; check = false; own = first_own; ports = declared }; steps = []; ending = Going }
+begun n declared = record { lines = n; roster = record { place = Declarations; check = false; edition = One; own = first_own; ports = declared }; steps = []; ending = Going }
 
 -- the lines of these ports, and what is behind them
 abbrev port_lines : List Entry → List ℕ → List ℕ
 port_lines declared more = flat_map port_line declared ++ more
 
-says_opens : whole_says (first_roster false) (codes "scenario 1") ≡ Ok Opens
+says_opens : whole_says (first_roster false) (codes "scenario 1") ≡ Ok (Opens One)
 unfolding computing
 says_opens = refl
 
@@ -223,7 +225,7 @@ says_port_6 = refl
 head_read : (more : List ℕ) → read 0 (opened false) (head ++ more) ≡ read 0 (begun 7 ports) more
 unfolding digits
 head_read more =
-    read_line (opened false) (Opens) (codes "scenario 1") [] (port_lines (drop 0 ports) more) refl refl says_opens refl
+    read_line (opened false) (Opens One) (codes "scenario 1") [] (port_lines (drop 0 ports) more) refl refl says_opens refl
     ∙ read_line (record (opened false) { lines = 1; roster = record (first_roster false) { place = Header } }) (Declares 1 (codes "g1") chip) (codes "port 1 g1 chip 1") [] (port_lines (drop 1 ports) more) refl refl says_port_1 refl
     ∙ read_line (begun 2 (take 1 ports)) (Declares 2 (codes "g2") chip) (codes "port 2 g2 chip 1") [] (port_lines (drop 2 ports) more) refl refl says_port_2 refl
     ∙ read_line (begun 3 (take 2 ports)) (Declares 3 (codes "g3") chip) (codes "port 3 g3 chip 1") [] (port_lines (drop 3 ports) more) refl refl says_port_3 refl

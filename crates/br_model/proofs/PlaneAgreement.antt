@@ -13,11 +13,10 @@ use Rattle.br_model.specs.declared.frame.Class.TheVariants.{Drop, Trap, Copy, Fo
 use Rattle.br_model.specs.declared.frame.Head.{Head}
 use Rattle.br_model.specs.declared.transcript.Line.{Line}
 use Rattle.br_model.specs.declared.transcript.Line.TheVariants.{Overrun}
-use Rattle.br_model.specs.Chip.{notes}
+use Rattle.br_model.specs.Chip.{Chip, notes}
 use Rattle.br_model.specs.Class.{class}
 use Rattle.br_model.specs.Cut.{deferred_count}
-use Rattle.br_model.specs.DomainPorts.{is_in_domain}
-use Rattle.br_model.specs.Domains.{Domains, chip}
+use Rattle.br_model.specs.Domains.{Domains, domain_of}
 use Rattle.br_model.specs.Frames.{frame}
 use Rattle.br_model.specs.Leave.{leave}
 use Rattle.br_model.specs.Limits.{most_waiting}
@@ -26,16 +25,17 @@ use Rattle.br_model.specs.Setup.{Setup}
 use Rattle.br_model.specs.Shares.{chip_out, mark_of, soft_out}
 use Rattle.br_model.specs.Table.{Table, table}
 use Rattle.br_model.specs.Plane.Agreement.{is_there, is_overrun, IsSettled, IsUndisturbed}
-use Rattle.br_model.specs.Plane.Entering.{waits, goes_on, enters_chip, enters_as, class_of}
+use Rattle.br_model.specs.Plane.Entering.{waits, goes_on, enters_chip, enters_by, enters_as, class_of, chip_of}
 use Rattle.br_model.specs.Plane.Invariants.{frames_of, IsWorld}
 use Rattle.br_model.specs.Plane.Runs.{run, then_step}
 use Rattle.br_model.specs.Plane.Sending.{Sent, in_port_order, sent_of, software_share}
 use Rattle.br_model.specs.Plane.Steps.{Step, Rx, world_step}
-use Rattle.br_model.specs.Plane.World.{World, Waiting, Holding, Stepped, first_world, table_at, table_of_chip, sent}
+use Rattle.br_model.specs.Plane.World.{World, Waiting, Holding, Stepped, first_world, with_chip, table_at, table_of_chip, sent}
 use Rattle.br_model.proofs.Cuts.{cut-all}
 use Rattle.br_model.proofs.PlaneApplied.{run-world}
-use Rattle.br_model.proofs.PlaneFates.{sent_of-append, sent_of-sent, found-push, goes_on-joins, Found, hold_entry, wait_entry, waiting_found, found, found-free, found-taken, declared, Fate, idle, entered, taken, gone, IsDecidedAt, step-effect}
-use Rattle.br_model.proofs.PlaneKept.{first-world, step-world}
+use Rattle.br_model.proofs.PlaneChips.{chip_of-declared}
+use Rattle.br_model.proofs.PlaneFates.{sent_of-append, sent_of-sent, found-push, goes_on-joins, Found, hold_entry, wait_entry, waiting_found, found, found-free, found-taken, Fate, idle, entered, taken, gone, IsDecidedAt, step-effect}
+use Rattle.br_model.proofs.PlaneKept.{step-world}
 use Rattle.br_model.proofs.PlaneLists.{up-to-last, has-up-to}
 use Rattle.br_model.proofs.PlaneOnce.{run-lines}
 use Rattle.br_model.proofs.PlaneShares.{all-kept, ascends-leave, order-stays, together}
@@ -159,7 +159,7 @@ unmarked-whole domains t port bytes head = ap in_port_order (all-kept (leave t p
 
 -- When it enters.
 
-module _ (w : World) (port : ℕ) (bytes : List ℕ) (head : Head) (k : IsWorld w) (on : is_in_domain w.setup.domains chip port ≡ true) where
+module _ (w : World) (port : ℕ) (bytes : List ℕ) (head : Head) (k : IsWorld w) (chip : Chip) (on : chip_of w (domain_of w.setup.domains port) ≡ Some chip) where
   abbrev u : World
   u = record w { next = w.next + 1; steps = w.steps + 1 }
 
@@ -167,7 +167,7 @@ module _ (w : World) (port : ℕ) (bytes : List ℕ) (head : Head) (k : IsWorld 
   f = record { id = w.next; port = port; bytes = bytes; head = head; mark = None }
 
   abbrev t : Table
-  t = table_of_chip w
+  t = table_of_chip w chip
 
   abbrev share : Sent
   share = chip_out w.setup.domains t port bytes head
@@ -177,13 +177,13 @@ module _ (w : World) (port : ℕ) (bytes : List ℕ) (head : Head) (k : IsWorld 
 
   -- the chip's notes are taken, and the frame has its mark
   abbrev noted : World
-  noted = record u { chip = notes t port head w.chip }
+  noted = with_chip u (notes t port head chip)
 
   abbrev marked : Class → Waiting
   marked c = record f { mark = mark_of c w.setup.domains port }
 
   abbrev enters-as : Class → Stepped
-  enters-as c = enters_chip u t c f
+  enters-as c = enters_chip u chip c f
 
   says : (c : Class) → sent_of w.next (enters-as c).1 ≡ share
   says c =
@@ -206,9 +206,9 @@ module _ (w : World) (port : ℕ) (bytes : List ℕ) (head : Head) (k : IsWorld 
         | false ↦ λ h. absurd (both_ways (g.id == w.next) (or_parts (g.id == w.next) false h).0 (eq-eqb g.id w.next own))
       ]
 
-  module _ (before : List Line) (fresh : sent_of w.next before ≡ []) (applied : deferred_count w.history ≤ w.chip.count) (published : w.published ≡ length w.history) where
+  module _ (before : List Line) (fresh : sent_of w.next before ≡ []) (applied : deferred_count w.setup.domains.edition w.history ≤ chip.count) (published : w.published ≡ length w.history) where
     is-table : t ≡ table w.history
-    is-table = ap table (cut-all w.history w.chip.count applied)
+    is-table = ap table (cut-all w.setup.domains.edition w.history chip.count applied)
 
     abbrev after-entry : Class → Stepped
     after-entry c = ((enters-as c).0, before ++ (enters-as c).1)
@@ -217,7 +217,7 @@ module _ (w : World) (port : ℕ) (bytes : List ℕ) (head : Head) (k : IsWorld 
     said c = sent_of-append w.next before (enters-as c).1 ∙ (λ i. fresh i ++ says c i)
 
     both : (c : Class) → class w.setup.domains t port head (message bytes head) ≡ c → in_port_order (share ++ software_share c w.setup.domains t port bytes head) ≡ one
-    both c is = ap (λ d. in_port_order (share ++ software_share d w.setup.domains t port bytes head)) (sym is) ∙ together w.setup.domains t port bytes head (declared w.setup.domains port on)
+    both c is = ap (λ d. in_port_order (share ++ software_share d w.setup.domains t port bytes head)) (sym is) ∙ together w.setup.domains t port bytes head (chip_of-declared w (domain_of w.setup.domains port) chip on)
 
     -- a frame that goes no further is sent
     is-sent : (c : Class) → in_port_order (share ++ []) ≡ one → found w.next (enters-as c).0.held (enters-as c).0.waiting ≡ []
@@ -260,11 +260,11 @@ module _ (w : World) (port : ℕ) (bytes : List ℕ) (head : Head) (k : IsWorld 
           agrees w.next w.setup.domains w.history t is-table f [] one (unmarked-whole w.setup.domains t port bytes head) (after-entry Forward) after k1 (domains-stay Forward) (id-taken Forward) same end
           (inr (is-sent Forward (both Forward is) free))
 
-      entry-is : frame bytes ≡ Ok head → world_step w (Rx port bytes) ≡ enters-as (class_of u f)
-      entry-is e = ap (enters_as u w.next port bytes) e ∙ ap (λ b. cond {A = Stepped} b (enters_chip u t (class_of u f) f) (waits u f)) on
+      entry-is : frame bytes ≡ Ok head → world_step w (Rx port bytes) ≡ enters-as (class_of u chip f)
+      entry-is e = ap (enters_as u w.next port bytes) e ∙ ap (λ o. enters_by u o f) on
 
       pub enters-agrees : frame bytes ≡ Ok head → Follows (then_step (w, before) (Rx port bytes))
-      enters-agrees e = subst Follows (sym (ap (λ (y : Stepped). (y.0, before ++ y.1)) (entry-is e))) (follows (class_of u f) refl)
+      enters-agrees e = subst Follows (sym (ap (λ (y : Stepped). (y.0, before ++ y.1)) (entry-is e))) (follows (class_of u chip f) refl)
 
 -- lines that are said stay
 said-before : (p : Line → Bool) (x : Stepped) (steps : List Step) → list_any p (fold then_step x steps).1 ≡ false → list_any p x.1 ≡ false
@@ -277,29 +277,22 @@ run-more : (setup : Setup) (before more : List Step) → run setup (before ++ mo
 unfolding run
 run-more setup before more = fold-append then_step (first_world setup, []) before more
 
-run-setup : (setup : Setup) (steps : List Step) → (run setup steps).0.setup ≡ setup
-unfolding run
-run-setup setup steps = by (first_world setup, []) steps refl (first-world setup)
-  where
-    by : (x : Stepped) (steps : List Step) → x.0.setup ≡ setup → IsWorld x.0 → (fold then_step x steps).0.setup ≡ setup
-    by x [] is k = is
-    by x (step ∷ steps) is k = by (then_step x step) steps ((step-effect 0 x.0 step k).setup ∙ is) (step-world x.0 step k)
-
-pub agreement : (setup : Setup) (before after : List Step) (port : ℕ) (bytes : List ℕ) (head : Head) → frame bytes ≡ Ok head → IsSettled (run setup before).0 → IsUndisturbed setup before port bytes after
+pub agreement : (setup : Setup) (before after : List Step) (port : ℕ) (bytes : List ℕ) (head : Head) → frame bytes ≡ Ok head → IsSettled (run setup before).0 port → IsUndisturbed setup before port bytes after
     → in_port_order (sent_of (run setup before).0.next (run setup (before ++ Rx port bytes ∷ after)).1) ≡ leave (table (run setup before).0.history) port bytes head
 agreement setup before after port bytes head e settled undisturbed =
     let w = (run setup before).0 in
     let lines = (run setup before).1 in
     let k = run-world setup before in
-    let on : is_in_domain w.setup.domains chip port ≡ true = ap (λ (s : Setup). is_in_domain s.domains chip port) (run-setup setup before) ∙ undisturbed.on_chip in
-    let applied : deferred_count w.history ≤ w.chip.count = omega (arith, settled.applied) in
+    let chip = settled.chip in
+    let on = settled.on_chip in
+    let applied : deferred_count w.setup.domains.edition w.history ≤ chip.count = omega (arith, settled.applied) in
     let fresh = (run-lines setup before).fresh w.next (omega arith) in
     let next = then_step (w, lines) (Rx port bytes) in
     let more = λ (steps : List Step). run-more setup before (Rx port bytes ∷ steps) in
     ap (λ (x : Stepped). in_port_order (sent_of w.next x.1)) (more after)
-    ∙ enters-agrees w port bytes head k on lines fresh applied settled.published after e
+    ∙ enters-agrees w port bytes head k chip on lines fresh applied settled.published after e
     (step-world w (Rx port bytes) k)
     (said-before (is_overrun w.next) next after (ap (λ (x : Stepped). list_any (is_overrun w.next) x.1) (sym (more after)) ∙ undisturbed.room))
     (λ n there. ap (λ (x : Stepped). x.0.history) (sym (more (take n after))) ∙ undisturbed.same n (ap (λ (x : Stepped). is_there w.next x.0) (more (take n after)) ∙ there))
     (ap (λ (x : Stepped). is_there w.next x.0) (sym (more after)) ∙ undisturbed.gone)
-    ∙ ap (λ t. leave t port bytes head) (is-table w port bytes head k on lines fresh applied settled.published)
+    ∙ ap (λ t. leave t port bytes head) (is-table w port bytes head k chip on lines fresh applied settled.published)

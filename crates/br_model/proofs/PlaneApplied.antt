@@ -1,12 +1,14 @@
--- The chip's table is that of what it has applied.
-use Rattle.std.proofs.Common.{◌≡◌, ℕ, ◌+◌, true, false, cond, List, [], ◌∷◌, ◌++◌, length, drop, Option, None, Some, refl, sym, ap, ◌∙◌, subst, take}
+-- Each chip's table is that of what it has applied.
+use Rattle.std.proofs.Common.{◌≡◌, ℕ, ◌+◌, true, false, cond, List, [], ◌∷◌, ◌++◌, length, map, drop, Option, None, Some, refl, sym, ap, ◌∙◌, subst, take}
+use Rattle.std.proofs.lemmas.Bool.{eqb-true}
 use Rattle.std.proofs.lemmas.List.{append-nil}
-use Rattle.std.specs.List.{fold}
-use Rattle.std.specs.Prelude.{nat_lt}
-use Rattle.std.specs.Option.{option_to_list}
+use Rattle.std.specs.List.{AllByRecursion, fold, list_any}
+use Rattle.std.specs.Prelude.{nat_lt, ◌==◌, if◌then◌else◌, is_some}
+use Rattle.std.specs.Option.{option_map, option_to_list}
 use Rattle.std.specs.declared.result.Result.{Result}
 use Rattle.std.specs.declared.result.Result.TheVariants.{Ok, Err}
 use Rattle.br_model.specs.declared.change.Change.{Change}
+use Rattle.br_model.specs.declared.domains.Edition.{Edition}
 use Rattle.br_model.specs.declared.frame.Class.{Class}
 use Rattle.br_model.specs.declared.frame.Class.TheVariants.{Drop, Trap, Copy, Forward}
 use Rattle.br_model.specs.declared.frame.FrameFault.{FrameFault}
@@ -15,10 +17,9 @@ use Rattle.br_model.specs.declared.steps.Event.TheVariants as events
 use Rattle.br_model.specs.declared.steps.Refusal.{Refusal}
 use Rattle.br_model.specs.declared.steps.Refusal.TheVariants.{NoSuchPoint}
 use Rattle.br_model.specs.declared.transcript.Line.TheVariants.{Overrun}
-use Rattle.br_model.specs.Chip.{notes}
-use Rattle.br_model.specs.Cut.{cut, deferred_at, deferred_of, synchronous_of}
-use Rattle.br_model.specs.DomainPorts.{is_in_domain}
-use Rattle.br_model.specs.Domains.{chip}
+use Rattle.br_model.specs.Chip.{Chip, first_chip, first_chips, applies, notes}
+use Rattle.br_model.specs.Cut.{cut, deferred_of, synchronous_of}
+use Rattle.br_model.specs.Domains.{domain_of, chip_domains, has_chip}
 use Rattle.br_model.specs.Frames.{frame}
 use Rattle.br_model.specs.Learning.{Triple}
 use Rattle.br_model.specs.Limits.{most_waiting}
@@ -26,126 +27,203 @@ use Rattle.br_model.specs.Reaction.{Reaction}
 use Rattle.br_model.specs.Setup.{Setup}
 use Rattle.br_model.specs.Shares.{mark_of}
 use Rattle.br_model.specs.Table.{table}
-use Rattle.br_model.specs.Plane.Applied.{applied_in, then_applied, applied}
-use Rattle.br_model.specs.Plane.ChipSteps.{turns, reports}
-use Rattle.br_model.specs.Plane.Entering.{waits, goes_on, enters_chip, enters_as, class_of}
+use Rattle.br_model.specs.Plane.Applied.{turned_in, applied_in, then_applied, applied}
+use Rattle.br_model.specs.Plane.ChipSteps.{turns_to, turns, tells, reports, swept, sweeps}
+use Rattle.br_model.specs.Plane.Entering.{waits, goes_on, enters_by, enters_as, class_of, chip_of}
 use Rattle.br_model.specs.Plane.Invariants.{IsWorld}
 use Rattle.br_model.specs.Plane.Runs.{run, then_step}
 use Rattle.br_model.specs.Plane.Serving.{posts, serves, holds, held_with, lets_go, is_point, posts_held, posts_at}
 use Rattle.br_model.specs.Plane.Steps.{Step, Rx, Cmd, Now, Serve, Hold, Post, Turn, Report, Sweep, Publish, world_step}
-use Rattle.br_model.specs.Plane.World.{World, Waiting, Holding, Stepped, first_world, table_of_chip, answered, reacts, refused}
+use Rattle.br_model.specs.Plane.World.{World, Waiting, Holding, Stepped, first_world, chip_at, with_chip, table_of_chip, next_of, answered, reacts, refused}
 use Rattle.br_model.proofs.ApplyingLaws.{after_accept, after_turn, once_after_accept, once_after_turn}
-use Rattle.br_model.proofs.PlaneKept.{first-world, step-world, notes-keeps, hit_by-keeps}
+use Rattle.br_model.proofs.PlaneChips.{chip-dom, chip-own, chip-there, put-same, put-other, CountsStay, put-counts, counts-same, counted-before, chip_of-at}
+use Rattle.br_model.proofs.PlaneKept.{first-world, step-world, notes-keeps, hit_by-keeps, chip-stands}
+use Rattle.br_model.proofs.PlaneLists.{same-some, find-each}
 
--- Changes are accepted behind those that were, and the chip applies none of the deferred ones.
+-- Changes are accepted behind those that were, and no chip applies a deferred one.
 abbrev Grows : World → World → Type 0
-Grows w v = (changes : List Change) × (v.history ≡ w.history ++ changes) × (v.chip.count ≡ w.chip.count)
+Grows w v = (changes : List Change) × (v.setup ≡ w.setup) × (v.history ≡ w.history ++ changes) × CountsStay w.chips v.chips
 
-stays : (w v : World) → v.history ≡ w.history → v.chip.count ≡ w.chip.count → Grows w v
-stays w v same count = ([], same ∙ sym (append-nil w.history), count)
+stays : (w v : World) → v.setup ≡ w.setup → v.history ≡ w.history → CountsStay w.chips v.chips → Grows w v
+stays w v setup same counts = ([], setup, same ∙ sym (append-nil w.history), counts)
 
-answered-grows : (before after : World) (answer : Result Reaction Refusal) → after.history ≡ before.history → after.chip.count ≡ before.chip.count → Grows before (answered before after answer).0
-answered-grows before after (Err why) same count = stays before before refl refl
-answered-grows before after (Ok r) same count = (r.changes, ap (λ (h : List Change). h ++ r.changes) same, count)
+idle : (w : World) → Grows w w
+idle w = stays w w refl refl (counts-same w.chips)
+
+answered-grows : (before after : World) (answer : Result Reaction Refusal) → after.setup ≡ before.setup → after.history ≡ before.history → CountsStay before.chips after.chips → Grows before (answered before after answer).0
+answered-grows before after (Err why) setup same counts = idle before
+answered-grows before after (Ok r) setup same counts = (r.changes, setup, ap (λ (h : List Change). h ++ r.changes) same, counts)
 
 waits-grows : (w : World) (f : Waiting) → Grows w (waits w f).0
 waits-grows w f =
     elim (nat_lt (length w.waiting + length w.held) most_waiting) as (λ b. Grows w (cond {A = Stepped} b (record w { waiting = w.waiting ++ f ∷ [] }, []) (w, Overrun f.id ∷ [])).0) [
-      | true ↦ stays w (record w { waiting = w.waiting ++ f ∷ [] }) refl refl
-      | false ↦ stays w w refl refl
+      | true ↦ stays w (record w { waiting = w.waiting ++ f ∷ [] }) refl refl (counts-same w.chips)
+      | false ↦ idle w
     ]
 
 goes_on-grows : (c : Class) (w : World) (f : Waiting) → Grows w (goes_on c w f).0
-goes_on-grows Drop w f = stays w w refl refl
+goes_on-grows Drop w f = idle w
 goes_on-grows Trap w f = waits-grows w f
 goes_on-grows Copy w f = waits-grows w f
-goes_on-grows Forward w f = stays w w refl refl
+goes_on-grows Forward w f = idle w
+
+enters_by-grows : (w : World) (f : Waiting) (o : Option Chip) → chip_of w (domain_of w.setup.domains f.port) ≡ o → Grows w (enters_by w o f).0
+enters_by-grows w f None on = waits-grows w f
+enters_by-grows w f (Some c) on =
+    let at = chip_of-at w (domain_of w.setup.domains f.port) c on in
+    let keep = notes-keeps (table_of_chip w c) f.port f.head c in
+    let d = notes (table_of_chip w c) f.port f.head c in
+    let g = goes_on-grows (class_of w c f) (with_chip w d) (record f { mark = mark_of (class_of w c f) w.setup.domains f.port }) in
+    (g.0, g.1, g.2, λ dom. g.3 dom ∙ put-counts w.chips c d (chip-own w.chips at.0 c at.2) keep.dom keep.count dom)
 
 enters-grows : (w : World) (id port : ℕ) (bytes : List ℕ) (r : Result Head FrameFault) → Grows w (enters_as w id port bytes r).0
-enters-grows w id port bytes (Err why) = stays w w refl refl
+enters-grows w id port bytes (Err why) = idle w
 enters-grows w id port bytes (Ok head) =
-    let f : Waiting = record { id = id; port = port; bytes = bytes; head = head; mark = None } in
-    elim (is_in_domain w.setup.domains chip port) as (λ b. Grows w (cond {A = Stepped} b (enters_chip w (table_of_chip w) (class_of w f) f) (waits w f)).0) [
-      | true ↦
-          let g = goes_on-grows (class_of w f) (record w { chip = notes (table_of_chip w) port head w.chip }) (record f { mark = mark_of (class_of w f) w.setup.domains port }) in
-          (g.0, g.1, g.2 ∙ (notes-keeps (table_of_chip w) port head w.chip).0)
-      | false ↦ waits-grows w f
-    ]
+    enters_by-grows w (record { id = id; port = port; bytes = bytes; head = head; mark = None }) (chip_of w (domain_of w.setup.domains port)) refl
 
 posts-grows : (w : World) (f : Waiting) (point : ℕ) → Grows w (posts w f point).0
-posts-grows w f point = answered-grows w w (reacts w (events.Sight f.port f.bytes f.head)) refl refl
+posts-grows w f point = answered-grows w w (reacts w (events.Sight f.port f.bytes f.head)) refl refl (counts-same w.chips)
 
 serves-grows : (w : World) (fs : List Waiting) → Grows w (serves w fs).0
-serves-grows w [] = stays w w refl refl
+serves-grows w [] = idle w
 serves-grows w (f ∷ later) = posts-grows (record w { waiting = later }) f w.published
 
 holds-grows : (w : World) (fs : List Waiting) → Grows w (holds w fs).0
-holds-grows w [] = stays w w refl refl
-holds-grows w (f ∷ later) = ([], sym (append-nil w.history), refl)
+holds-grows w [] = idle w
+holds-grows w (f ∷ later) = stays w (holds w (f ∷ later)).0 refl refl (counts-same w.chips)
 
 posts_held-grows : (w : World) (h : Holding) (point : Option ℕ) → Grows w (posts_held w h point).0
 posts_held-grows w h None = posts-grows (lets_go w h.waiting.id) h.waiting h.floor
 posts_held-grows w h (Some point) =
     elim (is_point w h point) as (λ b. Grows w (cond {A = Stepped} b (posts (lets_go w h.waiting.id) h.waiting point) (refused w NoSuchPoint)).0) [
       | true ↦ posts-grows (lets_go w h.waiting.id) h.waiting point
-      | false ↦ stays w w refl refl
+      | false ↦ idle w
     ]
 
 posts_at-grows : (w : World) (o : Option Holding) (point : Option ℕ) → Grows w (posts_at w o point).0
-posts_at-grows w None point = stays w w refl refl
+posts_at-grows w None point = idle w
 posts_at-grows w (Some h) point = posts_held-grows w h point
 
-reports-grows : (w : World) (rs : List Triple) → Grows w (reports w rs).0
-reports-grows w [] = stays w w refl refl
-reports-grows w (x ∷ later) = answered-grows w (record w { chip = record w.chip { reports = later } }) (reacts w (events.Told x.0 x.1 x.2)) refl refl
+tells-grows : (w : World) (dom : ℕ) (c : Chip) (rs : List Triple) → chip_at w dom ≡ Some c → Grows w (tells w c rs).0
+tells-grows w dom c [] at = idle w
+tells-grows w dom c (x ∷ later) at =
+    answered-grows w (with_chip w (record c { reports = later })) (reacts w (events.Told x.0 x.1 x.2)) refl refl (put-counts w.chips c (record c { reports = later }) (chip-own w.chips dom c at) refl refl)
 
--- What is applied so far: it makes the chip's table, and holds each synchronous change and the first deferred ones once, each
--- kind in order.
-pub record Applies (w : World) (done : List Change) : Type 0 where
-  pub table : table done ≡ table_of_chip w
-  pub synchronous : synchronous_of done ≡ synchronous_of w.history
-  pub deferred : deferred_of done ≡ take w.chip.count (deferred_of w.history)
+reports-grows : (w : World) (dom : ℕ) (o : Option Chip) → chip_at w dom ≡ o → Grows w (reports w o).0
+reports-grows w dom None at = idle w
+reports-grows w dom (Some c) at = tells-grows w dom c c.reports at
+
+sweeps-grows : (w : World) (dom : ℕ) (o : Option Chip) → chip_at w dom ≡ o → Grows w (sweeps w o).0
+sweeps-grows w dom None at = idle w
+sweeps-grows w dom (Some c) at =
+    answered-grows w (with_chip w (record c { hits = [] })) (reacts w (swept w c)) refl refl (put-counts w.chips c (record c { hits = [] }) (chip-own w.chips dom c at) refl refl)
+
+-- What is applied so far by a chip that has so many deferred changes: it makes the chip's table, and holds each synchronous change
+-- and the first deferred ones once, each kind in order.
+pub record Applies (edition : Edition) (history : List Change) (count : ℕ) (done : List Change) : Type 0 where
+  pub table : table done ≡ table (cut edition history count)
+  pub synchronous : synchronous_of edition done ≡ synchronous_of edition history
+  pub deferred : deferred_of edition done ≡ take count (deferred_of edition history)
+
+-- by the chip of this domain
+abbrev pub AppliesAt : ℕ → World → List Change → Type 0
+AppliesAt dom w done = (c : Chip) → chip_at w dom ≡ Some c → Applies w.setup.domains.edition w.history c.count done
 
 drop-length : {X : Type 0} (xs ys : List X) → drop (length xs) (xs ++ ys) ≡ ys
 drop-length [] ys = refl
 drop-length (x ∷ xs) ys = drop-length xs ys
 
-accepts-applies : (w v : World) (done : List Change) → IsWorld w → Applies w done → Grows w v → Applies v (done ++ synchronous_of (drop (length w.history) v.history))
-accepts-applies w v done k a g =
-    let changes = ap (drop (length w.history)) g.1 ∙ drop-length w.history g.0 in
-    let after = after_accept w.history done g.0 w.chip.count k.history.applied a.table in
-    let once = once_after_accept w.history done g.0 w.chip.count k.history.applied a.synchronous a.deferred in
-    record {
-      table = ap (λ (l : List Change). table (done ++ synchronous_of l)) changes ∙ after.1 ∙ sym (λ i. table (cut (g.1 i) (g.2 i)));
-      synchronous = ap (λ (l : List Change). synchronous_of (done ++ synchronous_of l)) changes ∙ once.0 ∙ sym (ap synchronous_of g.1);
-      deferred = ap (λ (l : List Change). deferred_of (done ++ synchronous_of l)) changes ∙ once.1 ∙ sym (λ i. take (g.2 i) (deferred_of (g.1 i)));
-    }
+accepts-applies : (w v : World) (dom : ℕ) (done : List Change) → IsWorld w → AppliesAt dom w done → Grows w v
+    → AppliesAt dom v (done ++ synchronous_of w.setup.domains.edition (drop (length w.history) v.history))
+accepts-applies w v dom done k a g c at =
+    let edition = w.setup.domains.edition in
+    let before = counted-before (chip_at w dom) c (sym (ap (option_map (λ (x : Chip). x.count)) at) ∙ g.3 dom) in
+    let b = before.0 in
+    let is = a b before.1 in
+    let count : c.count ≡ b.count = sym before.2 in
+    let stands = chip-stands w dom b k before.1 in
+    let changes = ap (drop (length w.history)) g.2 ∙ drop-length w.history g.0 in
+    let after = after_accept edition w.history done g.0 b.count stands.applied is.table in
+    let once = once_after_accept edition w.history done g.0 b.count stands.applied is.synchronous is.deferred in
+    subst (λ (s : Setup). Applies s.domains.edition v.history c.count (done ++ synchronous_of edition (drop (length w.history) v.history))) (sym g.1) (record {
+      table = ap (λ (l : List Change). table (done ++ synchronous_of edition l)) changes ∙ after.1 ∙ sym (λ i. table (cut edition (g.2 i) (count i)));
+      synchronous = ap (λ (l : List Change). synchronous_of edition (done ++ synchronous_of edition l)) changes ∙ once.0 ∙ sym (ap (synchronous_of edition) g.2);
+      deferred = ap (λ (l : List Change). deferred_of edition (done ++ synchronous_of edition l)) changes ∙ once.1 ∙ sym (λ i. take (count i) (deferred_of edition (g.2 i)));
+    })
 
-turns-applies : (w : World) (done : List Change) (o : Option Change) → deferred_at w.history w.chip.count ≡ o → Applies w done → Applies (turns w o).0 (done ++ option_to_list o)
-turns-applies w done None e a =
-    let nothing = append-nil done in
-    record { table = ap table nothing ∙ a.table; synchronous = ap synchronous_of nothing ∙ a.synchronous; deferred = ap deferred_of nothing ∙ a.deferred }
-turns-applies w done (Some d) e a =
-    let count = (hit_by-keeps (record w.chip { count = w.chip.count + 1 }) d).0 in
-    let after = after_turn w.history done w.chip.count d e a.table in
-    let once = once_after_turn w.history done w.chip.count d e a.synchronous a.deferred in
-    record {
-      table = after.1 ∙ sym (ap (λ n. table (cut w.history n)) count);
+-- nothing is applied
+same-applies : {edition : Edition} {history : List Change} {count : ℕ} (done : List Change) → Applies edition history count done → Applies edition history count (done ++ [])
+same-applies {edition} {history} {count} done a = subst (Applies edition history count) (sym (append-nil done)) a
+
+turns_to-applies : (w : World) (dom : ℕ) (done : List Change) (c : Chip) (o : Option Change) → chip_at w dom ≡ Some c → next_of w c ≡ o → AppliesAt dom w done
+    → AppliesAt dom (turns_to w c o).0 (done ++ option_to_list o)
+turns_to-applies w dom done c None there e a d at = same-applies done (a d at)
+turns_to-applies w dom done c (Some x) there e a d at =
+    let edition = w.setup.domains.edition in
+    let is = a c there in
+    let keep = hit_by-keeps (record c { count = c.count + 1 }) x in
+    let after = after_turn edition w.history done c.count x e is.table in
+    let once = once_after_turn edition w.history done c.count x e is.synchronous is.deferred in
+    let own = chip-dom w.chips dom c there in
+    let new : applies c x ≡ d = same-some (applies c x) d (sym (put-same w.chips (applies c x) dom c (keep.dom ∙ own) there) ∙ at) in
+    subst (λ (y : Chip). Applies edition w.history y.count (done ++ x ∷ [])) new (record {
+      table = after.1 ∙ sym (ap (λ n. table (cut edition w.history n)) keep.count);
       synchronous = once.0;
-      deferred = once.1 ∙ sym (ap (λ n. take n (deferred_of w.history)) count);
-    }
+      deferred = once.1 ∙ sym (ap (λ n. take n (deferred_of edition w.history)) keep.count);
+    })
 
-pub step-applies : (w : World) (done : List Change) (step : Step) → IsWorld w → Applies w done → Applies (world_step w step).0 (done ++ applied_in w step)
-step-applies w done (Rx port bytes) k a = accepts-applies w _ done k a (enters-grows (record w { steps = w.steps + 1; next = w.next + 1 }) w.next port bytes (frame bytes))
-step-applies w done (Cmd c) k a = accepts-applies w _ done k a (answered-grows (record w { steps = w.steps + 1 }) (record w { steps = w.steps + 1 }) _ refl refl)
-step-applies w done (Now moment) k a = accepts-applies w _ done k a (answered-grows (record w { steps = w.steps + 1 }) (record w { steps = w.steps + 1 }) _ refl refl)
-step-applies w done Serve k a = accepts-applies w _ done k a (serves-grows (record w { steps = w.steps + 1 }) w.waiting)
-step-applies w done Hold k a = accepts-applies w _ done k a (holds-grows (record w { steps = w.steps + 1 }) w.waiting)
-step-applies w done (Post id point) k a = accepts-applies w _ done k a (posts_at-grows (record w { steps = w.steps + 1 }) (held_with w id) point)
-step-applies w done Turn k a = turns-applies (record w { steps = w.steps + 1 }) done (deferred_at w.history w.chip.count) refl (record { table = a.table; synchronous = a.synchronous; deferred = a.deferred })
-step-applies w done Report k a = accepts-applies w _ done k a (reports-grows (record w { steps = w.steps + 1 }) w.chip.reports)
-step-applies w done Sweep k a = accepts-applies w _ done k a (answered-grows (record w { steps = w.steps + 1 }) (record w { steps = w.steps + 1; chip = record w.chip { hits = [] } }) _ refl refl)
-step-applies w done Publish k a = accepts-applies w _ done k a (stays w (world_step w Publish).0 refl refl)
+turns-applies : (w : World) (dom : ℕ) (done : List Change) (o : Option Chip) → chip_at w dom ≡ o → AppliesAt dom w done → AppliesAt dom (turns w o).0 (done ++ turned_in w o)
+turns-applies w dom done None there a = λ d at. same-applies done (a d at)
+turns-applies w dom done (Some c) there a = turns_to-applies w dom done c (next_of w c) there refl a
+
+-- a turn of another chip
+turns_to-other : (w : World) (dom e : ℕ) (done : List Change) (c : Chip) (o : Option Change) → chip_at w e ≡ Some c → (e == dom) ≡ false → AppliesAt dom w done → AppliesAt dom (turns_to w c o).0 (done ++ [])
+turns_to-other w dom e done c None there other a d at = same-applies done (a d at)
+turns_to-other w dom e done c (Some x) there other a d at =
+    let own = (hit_by-keeps (record c { count = c.count + 1 }) x).dom ∙ chip-dom w.chips e c there in
+    same-applies done (a d (sym (put-other w.chips (applies c x) dom (ap (λ n. n == dom) own ∙ other)) ∙ at))
+
+turns-other : (w : World) (dom e : ℕ) (done : List Change) (o : Option Chip) → chip_at w e ≡ o → (e == dom) ≡ false → AppliesAt dom w done → AppliesAt dom (turns w o).0 (done ++ [])
+turns-other w dom e done None there other a = λ d at. same-applies done (a d at)
+turns-other w dom e done (Some c) there other a = turns_to-other w dom e done c (next_of w c) there other a
+
+turn-applies : (w : World) (dom e : ℕ) (done : List Change) → AppliesAt dom w done → AppliesAt dom (turns w (chip_at w e)).0 (done ++ (if e == dom then turned_in w (chip_at w dom) else []))
+turn-applies w dom e done a =
+    (elim (e == dom) as (λ b. (e == dom) ≡ b → AppliesAt dom (turns w (chip_at w e)).0 (done ++ cond b (turned_in w (chip_at w dom)) [])) [
+      | true ↦ λ is. subst (λ n. AppliesAt dom (turns w (chip_at w n)).0 (done ++ turned_in w (chip_at w dom))) (sym (eqb-true e dom is)) (turns-applies w dom done (chip_at w dom) refl a)
+      | false ↦ λ other. turns-other w dom e done (chip_at w e) refl other a
+    ]) refl
+
+-- Each step.
+
+pub step-applies : (w : World) (dom : ℕ) (done : List Change) (step : Step) → IsWorld w → AppliesAt dom w done → AppliesAt dom (world_step w step).0 (done ++ applied_in dom w step)
+step-applies w dom done (Rx port bytes) k a = accepts-applies w (world_step w (Rx port bytes)).0 dom done k a (enters-grows (record w { steps = w.steps + 1; next = w.next + 1 }) w.next port bytes (frame bytes))
+step-applies w dom done (Cmd c) k a = accepts-applies w (world_step w (Cmd c)).0 dom done k a (answered-grows (record w { steps = w.steps + 1 }) (record w { steps = w.steps + 1 }) _ refl refl (counts-same w.chips))
+step-applies w dom done (Now moment) k a = accepts-applies w (world_step w (Now moment)).0 dom done k a (answered-grows (record w { steps = w.steps + 1 }) (record w { steps = w.steps + 1 }) _ refl refl (counts-same w.chips))
+step-applies w dom done Serve k a = accepts-applies w (world_step w Serve).0 dom done k a (serves-grows (record w { steps = w.steps + 1 }) w.waiting)
+step-applies w dom done Hold k a = accepts-applies w (world_step w Hold).0 dom done k a (holds-grows (record w { steps = w.steps + 1 }) w.waiting)
+step-applies w dom done (Post id point) k a = accepts-applies w (world_step w (Post id point)).0 dom done k a (posts_at-grows (record w { steps = w.steps + 1 }) (held_with w id) point)
+step-applies w dom done (Turn e) k a = turn-applies (record w { steps = w.steps + 1 }) dom e done a
+step-applies w dom done (Report e) k a = accepts-applies w (world_step w (Report e)).0 dom done k a (reports-grows (record w { steps = w.steps + 1 }) e (chip_at w e) refl)
+step-applies w dom done (Sweep e) k a = accepts-applies w (world_step w (Sweep e)).0 dom done k a (sweeps-grows (record w { steps = w.steps + 1 }) e (chip_at w e) refl)
+step-applies w dom done Publish k a = accepts-applies w (world_step w Publish).0 dom done k a (stays w (world_step w Publish).0 refl refl (counts-same w.chips))
+
+-- No step changes what was said before.
+turns-setup : (w : World) (o : Option Chip) → (turns w o).0.setup ≡ w.setup
+turns-setup w None = refl
+turns-setup w (Some c) = elim (next_of w c) as (λ o. (turns_to w c o).0.setup ≡ w.setup) [ None ↦ refl | Some x ↦ refl ]
+
+pub step-setup : (w : World) (step : Step) → (world_step w step).0.setup ≡ w.setup
+step-setup w (Rx port bytes) = (enters-grows (record w { steps = w.steps + 1; next = w.next + 1 }) w.next port bytes (frame bytes)).1
+step-setup w (Cmd c) = (answered-grows (record w { steps = w.steps + 1 }) (record w { steps = w.steps + 1 }) (reacts (record w { steps = w.steps + 1 }) (events.Cmd c)) refl refl (counts-same w.chips)).1
+step-setup w (Now moment) = (answered-grows (record w { steps = w.steps + 1 }) (record w { steps = w.steps + 1 }) (reacts (record w { steps = w.steps + 1 }) (events.Moment moment)) refl refl (counts-same w.chips)).1
+step-setup w Serve = (serves-grows (record w { steps = w.steps + 1 }) w.waiting).1
+step-setup w Hold = (holds-grows (record w { steps = w.steps + 1 }) w.waiting).1
+step-setup w (Post id point) = (posts_at-grows (record w { steps = w.steps + 1 }) (held_with w id) point).1
+step-setup w (Turn e) = turns-setup (record w { steps = w.steps + 1 }) (chip_at w e)
+step-setup w (Report e) = (reports-grows (record w { steps = w.steps + 1 }) e (chip_at w e) refl).1
+step-setup w (Sweep e) = (sweeps-grows (record w { steps = w.steps + 1 }) e (chip_at w e) refl).1
+step-setup w Publish = refl
 
 -- Runs.
 
@@ -157,11 +235,35 @@ pub run-world : (setup : Setup) (steps : List Step) → IsWorld (run setup steps
 unfolding run
 run-world setup steps = fold-world (first_world setup, []) steps (first-world setup)
 
-fold-applies : (x : Stepped) (y : World × List Change) (steps : List Step) → y.0 ≡ x.0 → IsWorld x.0 → Applies x.0 y.1 → Applies (fold then_step x steps).0 (fold then_applied y steps).1
-fold-applies x y [] same k a = a
-fold-applies x y (step ∷ steps) same k a = fold-applies (then_step x step) (then_applied y step) steps (ap (λ w. (world_step w step).0) same) (step-world x.0 step k)
-    (subst (λ w. Applies (world_step x.0 step).0 (y.1 ++ applied_in w step)) (sym same) (step-applies x.0 y.1 step k a))
+fold-setup : (x : Stepped) (steps : List Step) → (fold then_step x steps).0.setup ≡ x.0.setup
+fold-setup x [] = refl
+fold-setup x (step ∷ steps) = fold-setup (then_step x step) steps ∙ step-setup x.0 step
 
-pub run-applies : (setup : Setup) (steps : List Step) → Applies (run setup steps).0 (applied setup steps)
+pub run-setup : (setup : Setup) (steps : List Step) → (run setup steps).0.setup ≡ setup
+unfolding run
+run-setup setup steps = fold-setup (first_world setup, []) steps
+
+fold-applies : (dom : ℕ) (x : Stepped) (y : World × List Change) (steps : List Step) → y.0 ≡ x.0 → IsWorld x.0 → AppliesAt dom x.0 y.1 → AppliesAt dom (fold then_step x steps).0 (fold (then_applied dom) y steps).1
+fold-applies dom x y [] same k a = a
+fold-applies dom x y (step ∷ steps) same k a = fold-applies dom (then_step x step) (then_applied dom y step) steps (ap (λ w. (world_step w step).0) same) (step-world x.0 step k)
+    (subst (λ w. AppliesAt dom (world_step x.0 step).0 (y.1 ++ applied_in dom w step)) (sym same) (step-applies x.0 dom y.1 step k a))
+
+first-applies : (setup : Setup) (dom : ℕ) → AppliesAt dom (first_world setup) []
+first-applies setup dom c at =
+    let none : c.count ≡ 0 = find-each (λ (x : Chip). x.count ≡ 0) (λ x. x.dom == dom) (first_chips setup.domains) c (all-new (chip_domains setup.domains)) at in
+    record { table = refl; synchronous = refl; deferred = sym (ap (λ n. take {A = Change} n []) none) }
+  where
+    all-new : (ds : List ℕ) → AllByRecursion (λ (x : Chip). x.count ≡ 0) (map first_chip ds)
+    all-new [] = tt
+    all-new (d ∷ ds) = (refl, all-new ds)
+
+pub run-applies : (setup : Setup) (steps : List Step) (dom : ℕ) (c : Chip) → chip_at (run setup steps).0 dom ≡ Some c → Applies setup.domains.edition (run setup steps).0.history c.count (applied setup dom steps)
 unfolding run applied
-run-applies setup steps = fold-applies (first_world setup, []) (first_world setup, []) steps refl (first-world setup) (record { table = refl; synchronous = refl; deferred = refl })
+run-applies setup steps dom c at =
+    subst (λ (s : Setup). Applies s.domains.edition (run setup steps).0.history c.count (applied setup dom steps)) (run-setup setup steps)
+    (fold-applies dom (first_world setup, []) (first_world setup, []) steps refl (first-world setup) (first-applies setup dom) c at)
+
+-- there is a chip for just each domain that exists
+pub run-chips : (setup : Setup) (steps : List Step) (dom : ℕ) → is_some (chip_at (run setup steps).0 dom) ≡ has_chip setup.domains dom
+run-chips setup steps dom =
+    chip-there (run setup steps).0.chips dom ∙ ap (list_any (λ d. d == dom)) ((run-world setup steps).doms ∙ ap (λ (s : Setup). chip_domains s.domains) (run-setup setup steps))

@@ -1,5 +1,5 @@
 -- What a step does to the frame with one id: it enters, is held, or is sent and gone, or nothing happens to it.
-use Rattle.std.proofs.Common.{◌≡◌, ℕ, suc, ◌+◌, ◌<◌, ◌≤◌, Bool, true, false, not, cond, List, [], ◌∷◌, ◌++◌, map, length, Option, None, Some, refl, sym, ap, ◌∙◌, arith, subst, append_assoc, length-append, take, ◌⊎◌, inl, inr, ⊎_elim}
+use Rattle.std.proofs.Common.{◌≡◌, ℕ, suc, ◌+◌, ◌<◌, ◌≤◌, Bool, true, false, not, cond, List, [], ◌∷◌, ◌++◌, map, length, Option, None, Some, refl, sym, ap, ◌∙◌, arith, append_assoc, length-append, take, ◌⊎◌, inl, inr, ⊎_elim}
 use Rattle.std.proofs.lemmas.Bool.{eqb-true, eqb-false, ne_eqb, cases_lt, and_parts, leb-true}
 use Rattle.std.proofs.lemmas.List.{append-nil, map-append, length-map}
 use Rattle.std.proofs.lemmas.List.Elements.{filter-append, recursion_from_All, All-weaker}
@@ -7,7 +7,6 @@ use Rattle.std.proofs.lemmas.Grind.{flat_map-append}
 use Rattle.std.specs.Prelude.{◌==◌, nat_le, nat_lt, is_some}
 use Rattle.std.specs.List.{AllByRecursion, IsDistinct, filter, find}
 use Rattle.std.specs.Ordering.{nat_cmp}
-use Rattle.std.specs.Option.{option_eq}
 use Rattle.std.specs.declared.result.Result.{Result}
 use Rattle.std.specs.declared.result.Result.TheVariants.{Ok, Err}
 use Rattle.br_model.specs.declared.transcript.Line.{Line}
@@ -21,10 +20,9 @@ use Rattle.br_model.specs.declared.steps.Refusal.{Refusal}
 use Rattle.br_model.specs.declared.steps.Refusal.TheVariants.{NoSuchPoint}
 use Rattle.br_model.specs.declared.bpdu.BpduMsg.{BpduMsg}
 use Rattle.br_model.specs.declared.transcript.Line.TheVariants.{Overrun, Done}
-use Rattle.br_model.specs.Chip.{notes}
-use Rattle.br_model.specs.Cut.{deferred_at}
-use Rattle.br_model.specs.DomainPorts.{is_in_domain, is_marked}
-use Rattle.br_model.specs.Domains.{Domains, chip, domain_of, foreign}
+use Rattle.br_model.specs.Chip.{Chip, notes}
+use Rattle.br_model.specs.DomainPorts.{is_marked}
+use Rattle.br_model.specs.Domains.{Domains, domain_of, foreign}
 use Rattle.br_model.specs.Frames.{frame}
 use Rattle.br_model.specs.Learning.{Triple}
 use Rattle.br_model.specs.Limits.{most_waiting}
@@ -34,15 +32,17 @@ use Rattle.br_model.specs.Setup.{Setup}
 use Rattle.br_model.specs.Leave.{leave}
 use Rattle.br_model.specs.Shares.{chip_out, chip_out_by, within, mark_of, soft_out}
 use Rattle.br_model.specs.Table.{Table, table}
+use Rattle.br_model.proofs.PlaneChips.{chip_of-declared}
 use Rattle.br_model.proofs.PlaneKept.{counted-world}
+use Rattle.br_model.proofs.PlaneLists.{same-some, find-passes, find-each}
 use Rattle.br_model.proofs.PlaneShares.{ascends-filter, ascends-leave, times-ascends, times-within}
-use Rattle.br_model.specs.Plane.ChipSteps.{turns, reports, swept}
-use Rattle.br_model.specs.Plane.Entering.{waits, goes_on, enters_chip, enters_as, class_of}
+use Rattle.br_model.specs.Plane.ChipSteps.{turns_to, turns, tells, reports, swept, sweeps}
+use Rattle.br_model.specs.Plane.Entering.{waits, goes_on, enters_chip, enters_by, enters_as, class_of, chip_of}
 use Rattle.br_model.specs.Plane.Serving.{posts, serves, holds, held_with, lets_go, is_point, posts_held, posts_at}
 use Rattle.br_model.specs.Plane.Steps.{Step, Rx, Cmd, Now, Serve, Hold, Post, Turn, Report, Sweep, Publish, does, world_step}
 use Rattle.br_model.specs.Plane.Invariants.{frames_of, IsFrame, IsWorld}
 use Rattle.br_model.specs.Plane.Sending.{Sent, sent_by, sent_of, times}
-use Rattle.br_model.specs.Plane.World.{World, Waiting, Holding, Stepped, table_at, table_of_chip, sent, control_lines, answered, reacts, refused}
+use Rattle.br_model.specs.Plane.World.{World, Waiting, Holding, Stepped, chip_at, with_chip, next_of, table_at, table_of_chip, sent, control_lines, answered, reacts, refused}
 
 -- The lines of a frame that is sent.
 
@@ -277,13 +277,6 @@ entry id w u f y lines out k own j setup next published same says once settled =
 }
 
 -- what the chip sends of a frame
-some-domain : (o : Option ℕ) → option_eq (λ x y. x == y) o (Some chip) ≡ true → is_some o ≡ true
-some-domain None h = absurd (cc)
-some-domain (Some d) h = refl
-
-pub declared : (domains : Domains) (port : ℕ) → is_in_domain domains chip port ≡ true → is_some (domain_of domains port) ≡ true
-declared domains port on = some-domain (domain_of domains port) on
-
 module _ (domains : Domains) (t : Table) (port : ℕ) (bytes : List ℕ) (head : Head) where
   chip-once : (c : Class) (q : ℕ) → times q (chip_out_by c domains port (leave t port bytes head)) ≤ 1
   chip-once Drop q = omega arith
@@ -292,41 +285,48 @@ module _ (domains : Domains) (t : Table) (port : ℕ) (bytes : List ℕ) (head :
   chip-once Forward q = times-ascends q _ (ascends-filter (λ (x : ℕ × List ℕ). not (foreign domains port x.0)) (leave t port bytes head) (ascends-leave t port bytes head))
 
   -- where it is marked, it was sent to ports of the mark's domain alone
-  chip-marked : is_in_domain domains chip port ≡ true → (q : ℕ) → is_marked domains (domain_of domains port) q ≡ false → times q (within domains port (leave t port bytes head)) ≡ 0
-  chip-marked on q h = times-within domains port (declared domains port on) q (leave t port bytes head) h
+  chip-marked : is_some (domain_of domains port) ≡ true → (q : ℕ) → is_marked domains (domain_of domains port) q ≡ false → times q (within domains port (leave t port bytes head)) ≡ 0
+  chip-marked declared q h = times-within domains port declared q (leave t port bytes head) h
 
-module _ (id : ℕ) (u : World) (t : Table) (f : Waiting) (on : is_in_domain u.setup.domains chip f.port ≡ true) where
+module _ (id : ℕ) (u : World) (t : Table) (f : Waiting) (declared : is_some (domain_of u.setup.domains f.port) ≡ true) where
   class-settles : (c : Class) → Settled id u (record f { mark = mark_of c u.setup.domains f.port }) (goes_on c u (record f { mark = mark_of c u.setup.domains f.port })) (chip_out_by c u.setup.domains f.port (leave t f.port f.bytes f.head))
   class-settles Drop = inl refl
   class-settles Trap = settles id u (record f { mark = None }) (waits u (record f { mark = None })) [] (waits-joins id u (record f { mark = None })) (λ port h. refl)
   class-settles Copy =
       let g : Waiting = record f { mark = domain_of u.setup.domains f.port } in
-      settles id u g (waits u g) _ (waits-joins id u g) (chip-marked u.setup.domains t f.port f.bytes f.head on)
+      settles id u g (waits u g) _ (waits-joins id u g) (chip-marked u.setup.domains t f.port f.bytes f.head declared)
   class-settles Forward = inl refl
 
 nothing : (b : Bool) → cond {A = Sent} b [] [] ≡ []
 nothing true = refl
 nothing false = refl
 
+-- the world has counted the frame
+abbrev numbered : World → World
+numbered w = record w { next = w.next + 1 }
+
+enters_by-effect : (id : ℕ) (w : World) (port : ℕ) (bytes : List ℕ) (head : Head) (o : Option Chip) → chip_of w (domain_of w.setup.domains port) ≡ o → IsWorld w
+    → let f : Waiting = record { id = w.next; port = port; bytes = bytes; head = head; mark = None } in Effect id w (enters_by (numbered w) o f).0 (enters_by (numbered w) o f).1
+enters_by-effect id w port bytes head None on k =
+    let u : World = numbered w in
+    let f : Waiting = record { id = w.next; port = port; bytes = bytes; head = head; mark = None } in
+    entry id w u f (waits u f) (waits u f).1 [] k refl (waits-joins id u f) refl refl refl refl ((waits-joins id u f).silent ∙ sym (nothing (w.next == id))) (λ q. omega arith) (settles id u f (waits u f) [] (waits-joins id u f) (λ q h. refl))
+enters_by-effect id w port bytes head (Some c) on k =
+    let u : World = numbered w in
+    let f : Waiting = record { id = w.next; port = port; bytes = bytes; head = head; mark = None } in
+    let t = table_of_chip u c in
+    let class = class_of u c f in
+    let v : World = with_chip u (notes t port head c) in
+    let g : Waiting = record f { mark = mark_of class w.setup.domains port } in
+    let out = chip_out w.setup.domains t port bytes head in
+    let joins = goes_on-joins class id v g in
+    entry id w v g (goes_on class v g) (enters_chip u c class f).1 out k refl joins refl refl refl refl (sent_of-sent id w.next out (goes_on class v g).1 joins.silent) (chip-once w.setup.domains t port bytes head class)
+    (class-settles id v t f (chip_of-declared w (domain_of w.setup.domains port) c on) class)
+
 enters-effect : (id : ℕ) (w : World) (port : ℕ) (bytes : List ℕ) (r : Result Head FrameFault) → IsWorld w
     → Effect id w (enters_as (record w { next = w.next + 1 }) w.next port bytes r).0 (enters_as (record w { next = w.next + 1 }) w.next port bytes r).1
 enters-effect id w port bytes (Err why) k = record { setup = refl; next = omega arith; published = inl refl; fate = idle refl refl }
-enters-effect id w port bytes (Ok head) k =
-    let u : World = record w { next = w.next + 1 } in
-    let f : Waiting = record { id = w.next; port = port; bytes = bytes; head = head; mark = None } in
-    (elim (is_in_domain w.setup.domains chip port) as (λ b. is_in_domain w.setup.domains chip port ≡ b
-    → Effect id w (cond {A = Stepped} b (enters_chip u (table_of_chip u) (class_of u f) f) (waits u f)).0 (cond {A = Stepped} b (enters_chip u (table_of_chip u) (class_of u f) f) (waits u f)).1) [
-      | true ↦ λ on.
-          let t = table_of_chip u in
-          let c = class_of u f in
-          let v : World = record u { chip = notes t port head u.chip } in
-          let g : Waiting = record f { mark = mark_of c w.setup.domains port } in
-          let out = chip_out w.setup.domains t port bytes head in
-          let joins = goes_on-joins c id v g in
-          entry id w v g (goes_on c v g) (enters_chip u t c f).1 out k refl joins refl refl refl refl (sent_of-sent id w.next out (goes_on c v g).1 joins.silent) (chip-once w.setup.domains t port bytes head c)
-          (class-settles id v t f on c)
-      | false ↦ λ off. entry id w u f (waits u f) (waits u f).1 [] k refl (waits-joins id u f) refl refl refl refl ((waits-joins id u f).silent ∙ sym (nothing (w.next == id))) (λ q. omega arith) (settles id u f (waits u f) [] (waits-joins id u f) (λ q h. refl))
-    ]) refl
+enters-effect id w port bytes (Ok head) k = enters_by-effect id w port bytes head (chip_of w (domain_of w.setup.domains port)) refl k
 
 -- A frame is held, or sent.
 
@@ -386,32 +386,12 @@ holds-effect id w (f ∷ later) e k =
           ]) refl now before;
     }
 
-same-some : {X : Type 0} (a b : X) → Some a ≡ Some b → a ≡ b
-same-some a b h = cc
-
--- the first that passes is one that passes
-find-passes : {X : Type 0} (p : X → Bool) (xs : List X) (x : X) → find p xs ≡ Some x → p x ≡ true
-find-passes p [] x e = absurd (cc)
-find-passes p (y ∷ ys) x e =
-    (elim (p y) as (λ b. p y ≡ b → cond b (Some y) (find p ys) ≡ Some x → p x ≡ true) [
-      | true ↦ λ yes is. ap p (sym (same-some y x is)) ∙ yes
-      | false ↦ λ fails is. find-passes p ys x is
-    ]) refl e
-
 find-filter : {X : Type 0} (p : X → Bool) (xs : List X) (x : X) → find p xs ≡ Some x → (rest : List X) × (filter p xs ≡ x ∷ rest)
 find-filter p [] x e = absurd (cc)
 find-filter {X} p (y ∷ ys) x e =
     (elim (p y) as (λ b. cond b (Some y) (find p ys) ≡ Some x → (rest : List X) × (cond b (y ∷ filter p ys) (filter p ys) ≡ x ∷ rest)) [
       | true ↦ λ is. (filter p ys, ap (λ a. a ∷ filter p ys) (same-some y x is))
       | false ↦ λ is. find-filter p ys x is
-    ]) e
-
-find-each : {X : Type 0} (P : X → Type 0) (p : X → Bool) (xs : List X) (x : X) → AllByRecursion P xs → find p xs ≡ Some x → P x
-find-each P p [] x h e = absurd (cc)
-find-each P p (y ∷ ys) x h e =
-    (elim (p y) as (λ b. cond b (Some y) (find p ys) ≡ Some x → P x) [
-      | true ↦ λ is. subst P (same-some y x is) h.0
-      | false ↦ λ is. find-each P p ys x h.1 is
     ]) e
 
 -- among the frames with other ids there is none with this one
@@ -475,14 +455,29 @@ posts_at-effect id i w (Some h) point e k = posts_held-effect id i w h point e k
 
 -- The other steps.
 
-turns-effect : (id : ℕ) (w : World) (o : Option Change) → Effect id w (turns w o).0 (turns w o).1
-turns-effect id w None = quiet id w w _ (alike w) refl
-turns-effect id w (Some d) = quiet id w _ _ (record { setup = refl; next = refl; published = refl; held = refl; waiting = refl }) refl
+turns_to-effect : (id : ℕ) (w : World) (c : Chip) (o : Option Change) → Effect id w (turns_to w c o).0 (turns_to w c o).1
+turns_to-effect id w c None = quiet id w w _ (alike w) refl
+turns_to-effect id w c (Some d) = quiet id w _ _ (record { setup = refl; next = refl; published = refl; held = refl; waiting = refl }) refl
 
-reports-effect : (id : ℕ) (w : World) (rs : List Triple) → Effect id w (reports w rs).0 (reports w rs).1
-reports-effect id w [] = quiet id w w _ (alike w) refl
-reports-effect id w (x ∷ later) =
-    answers id w (record w { chip = record w.chip { reports = later } }) (reacts w (events.Told x.0 x.1 x.2)) (record { setup = refl; next = refl; published = refl; held = refl; waiting = refl })
+turns-effect : (id : ℕ) (w : World) (o : Option Chip) → Effect id w (turns w o).0 (turns w o).1
+turns-effect id w None = quiet id w w _ (alike w) refl
+turns-effect id w (Some c) = turns_to-effect id w c (next_of w c)
+
+-- a chip changes
+alike-chip : (w : World) (c : Chip) → Alike w (with_chip w c)
+alike-chip w c = record { setup = refl; next = refl; published = refl; held = refl; waiting = refl }
+
+tells-effect : (id : ℕ) (w : World) (c : Chip) (rs : List Triple) → Effect id w (tells w c rs).0 (tells w c rs).1
+tells-effect id w c [] = quiet id w w _ (alike w) refl
+tells-effect id w c (x ∷ later) = answers id w (with_chip w (record c { reports = later })) (reacts w (events.Told x.0 x.1 x.2)) (alike-chip w (record c { reports = later }))
+
+reports-effect : (id : ℕ) (w : World) (o : Option Chip) → Effect id w (reports w o).0 (reports w o).1
+reports-effect id w None = quiet id w w _ (alike w) refl
+reports-effect id w (Some c) = tells-effect id w c c.reports
+
+sweeps-effect : (id : ℕ) (w : World) (o : Option Chip) → Effect id w (sweeps w o).0 (sweeps w o).1
+sweeps-effect id w None = quiet id w w _ (alike w) refl
+sweeps-effect id w (Some c) = answers id w (with_chip w (record c { hits = [] })) (reacts w (swept w c)) (alike-chip w (record c { hits = [] }))
 
 does-effect : (id : ℕ) (w : World) (step : Step) → IsWorld w → Effect id w (does w step).0 (does w step).1
 does-effect id w (Rx port bytes) k = enters-effect id w port bytes (frame bytes) k
@@ -491,10 +486,9 @@ does-effect id w (Now moment) k = answers id w w (reacts w (events.Moment moment
 does-effect id w Serve k = serves-effect id w w.waiting refl k
 does-effect id w Hold k = holds-effect id w w.waiting refl k
 does-effect id w (Post i point) k = posts_at-effect id i w (held_with w i) point refl k
-does-effect id w Turn k = turns-effect id w (deferred_at w.history w.chip.count)
-does-effect id w Report k = reports-effect id w w.chip.reports
-does-effect id w Sweep k =
-    answers id w (record w { chip = record w.chip { hits = [] } }) (reacts w (swept w)) (record { setup = refl; next = refl; published = refl; held = refl; waiting = refl })
+does-effect id w (Turn dom) k = turns-effect id w (chip_at w dom)
+does-effect id w (Report dom) k = reports-effect id w (chip_at w dom)
+does-effect id w (Sweep dom) k = sweeps-effect id w (chip_at w dom)
 does-effect id w Publish k = record { setup = refl; next = omega arith; published = inr refl; fate = idle refl refl }
 
 -- the count of steps is no matter

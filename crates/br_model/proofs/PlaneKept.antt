@@ -2,7 +2,7 @@
 use Rattle.std.proofs.Common.{◌≡◌, ℕ, ◌+◌, ◌<◌, ◌≤◌, true, false, not, ◌&&◌, cond, List, [], ◌∷◌, ◌++◌, map, length, Option, None, Some, refl, sym, ap, ◌∙◌, arith, subst, append_assoc, length-append}
 use Rattle.std.proofs.lemmas.Bool.{eqb-true, eqb-false, eq-eqb, ne_eqb, ltb-true, and_parts, or_parts, or_from, not-false}
 use Rattle.std.proofs.lemmas.Cmp.{nat_eq_equiv}
-use Rattle.std.proofs.lemmas.List.Elements.{All-nil, All-push, All-same, All-filter, All-weaker, recursion_from_All}
+use Rattle.std.proofs.lemmas.List.Elements.{All-nil, All-push, All-same, All-filter, All-weaker, All-from_recursion, recursion_from_All}
 use Rattle.std.proofs.lemmas.List.Sums.{length-filter, count_by-le-length}
 use Rattle.std.proofs.lemmas.List.{map-append}
 use Rattle.std.proofs.lemmas.Map.Keys.{IsDistinct-push}
@@ -17,6 +17,7 @@ use Rattle.std.specs.declared.result.Result.{Result}
 use Rattle.std.specs.declared.result.Result.TheVariants.{Ok, Err}
 use Rattle.br_model.specs.declared.change.Change.{Change}
 use Rattle.br_model.specs.declared.change.Change.TheVariants.{AddrPut}
+use Rattle.br_model.specs.declared.domains.Edition.{Edition}
 use Rattle.br_model.specs.declared.frame.Class.{Class}
 use Rattle.br_model.specs.declared.frame.Class.TheVariants.{Drop, Trap, Copy, Forward}
 use Rattle.br_model.specs.declared.frame.FrameFault.{FrameFault}
@@ -26,10 +27,10 @@ use Rattle.br_model.specs.declared.steps.Event.TheVariants as events
 use Rattle.br_model.specs.declared.steps.Refusal.{Refusal}
 use Rattle.br_model.specs.declared.steps.Refusal.TheVariants.{NoSuchPoint}
 use Rattle.br_model.specs.declared.transcript.Line.TheVariants.{Overrun}
-use Rattle.br_model.specs.Chip.{Chip, same_triple, offered, offers, hit, hit_by, hits_entry, notes, report, hit_of}
-use Rattle.br_model.specs.Cut.{deferred_of, deferred_at}
+use Rattle.br_model.specs.Chip.{Chip, first_chip, applies, same_triple, offered, offers, hit, hit_by, hits_entry, notes, report, hit_of}
+use Rattle.br_model.specs.Cut.{deferred_of}
 use Rattle.br_model.specs.DomainPorts.{is_in_domain}
-use Rattle.br_model.specs.Domains.{Domains, domain_of, chip}
+use Rattle.br_model.specs.Domains.{Domains, domain_of, chip_domains, has_chip}
 use Rattle.br_model.specs.Frames.{frame}
 use Rattle.br_model.specs.Learning.{Address, Triple}
 use Rattle.br_model.specs.Limits.{most_reports, most_waiting}
@@ -38,36 +39,47 @@ use Rattle.br_model.specs.Reaction.{Reaction}
 use Rattle.br_model.specs.Setup.{Setup}
 use Rattle.br_model.specs.Shares.{mark_of}
 use Rattle.br_model.specs.Table.{Table}
-use Rattle.br_model.specs.Plane.ChipSteps.{turns, reports, swept}
-use Rattle.br_model.specs.Plane.Entering.{waits, goes_on, enters_chip, enters_as, class_of}
-use Rattle.br_model.specs.Plane.Invariants.{frames_of, has_own_mark, IsFrame, FramesStand, ReportsStand, IsWorld}
+use Rattle.br_model.specs.Plane.ChipSteps.{turns_to, turns, tells, reports, swept, sweeps}
+use Rattle.br_model.specs.Plane.Entering.{waits, goes_on, enters_by, enters_as, class_of, chip_of}
+use Rattle.br_model.specs.Plane.Invariants.{frames_of, has_own_mark, IsFrame, FramesStand, ReportsStand, ChipStands, IsWorld}
 use Rattle.br_model.specs.Plane.Serving.{posts, serves, holds, held_with, lets_go, is_point, posts_held, posts_at}
 use Rattle.br_model.specs.Plane.Steps.{Step, Rx, Cmd, Now, Serve, Hold, Post, Turn, Report, Sweep, Publish, publishes, does, world_step}
-use Rattle.br_model.specs.Plane.World.{World, Waiting, Holding, first_world, table_of_chip, Stepped, accepts, answered, reacts, refused}
+use Rattle.br_model.specs.Plane.World.{World, Waiting, Holding, first_world, chip_at, with_chip, table_of_chip, next_of, Stepped, accepts, answered, reacts, refused}
 use Rattle.br_model.proofs.ApplyingLaws.{deferred_count-append}
 use Rattle.br_model.proofs.PairKeys.{pair_total}
+use Rattle.br_model.proofs.PlaneChips.{doms, chip-each, has-chip, put-doms, put-all, chip_of-at}
 use Rattle.br_model.proofs.PlaneHistory.{Accepts, react-accepts}
 use Rattle.br_model.proofs.PlaneLists.{Part, all-part, map-part, distinct-part, part-middle, part-filter, ascend-insert, ascend-push, last-push, first-push, has-push, last-has}
+
+doms-first : (ds : List ℕ) → doms (map first_chip ds) ≡ ds
+doms-first [] = refl
+doms-first (d ∷ ds) = ap (λ l. d ∷ l) (doms-first ds)
+
+stand-first : (edition : Edition) (ds : List ℕ) → AllByRecursion (ChipStands edition []) (map first_chip ds)
+unfolding IsStrictlySortedBy IsDistinct
+stand-first edition [] = tt
+stand-first edition (d ∷ ds) = (record { applied = omega arith; reports = record { ids = tt; few = omega arith }; hits = tt }, stand-first edition ds)
 
 pub first-world : (setup : Setup) → IsWorld (first_world setup)
 unfolding IsStrictlySortedBy IsDistinct
 first-world setup = record {
-  history = record { applied = omega arith; fits = refl; few = omega arith };
+  history = record { fits = refl; few = omega arith };
   counts = record { ascend = (tt, tt); first = refl; last = refl; within = omega arith };
   frames = record { frames = All-nil (IsFrame setup.domains 1); ids = tt; floors = All-nil (λ (h : Holding). has nat_cmp (0 ∷ []) h.floor ≡ true); few = omega arith };
-  reports = record { ids = tt; few = omega arith };
-  hits = tt;
+  doms = doms-first (chip_domains setup.domains);
+  chips = All-from_recursion (ChipStands setup.domains.edition []) (map first_chip (chip_domains setup.domains)) (stand-first setup.domains.edition (chip_domains setup.domains));
 }
 
 -- What is accepted.
 
 accepted-world : (w : World) (r : Reaction) → IsWorld w → Accepts w.history (Ok r) → IsWorld (accepts w r)
 accepted-world w r k fit = record {
-  history = record { applied = omega (arith, k.history.applied, deferred_count-append w.history r.changes); fits = fit.0; few = fit.1 };
+  history = record { fits = fit.0; few = fit.1 };
   counts = record { ascend = k.counts.ascend; first = k.counts.first; last = k.counts.last; within = omega (arith, k.counts.within, length-append w.history r.changes) };
   frames = k.frames;
-  reports = k.reports;
-  hits = k.hits;
+  doms = k.doms;
+  chips = All-weaker (ChipStands w.setup.domains.edition w.history) (ChipStands w.setup.domains.edition (w.history ++ r.changes))
+      (λ c is. record { applied = omega (arith, is.applied, deferred_count-append w.setup.domains.edition w.history r.changes); reports = is.reports; hits = is.hits }) w.chips k.chips;
 }
 
 answered-by : (before after : World) (answer : Result Reaction Refusal) → IsWorld before → IsWorld after → Accepts after.history answer → IsWorld (answered before after answer).0
@@ -82,8 +94,14 @@ answered-world before after e k l same =
 
 -- What the chip keeps.
 
-abbrev pub ChipKeeps : Chip → Chip → Type 0
-ChipKeeps c d = (d.count ≡ c.count) × (ReportsStand c.reports → ReportsStand d.reports) × (IsStrictlySortedBy pair_cmp c.hits → IsStrictlySortedBy pair_cmp d.hits)
+pub record ChipKeeps (c d : Chip) : Type 0 where
+  pub dom : d.dom ≡ c.dom
+  pub count : d.count ≡ c.count
+  pub reports : ReportsStand c.reports → ReportsStand d.reports
+  pub hits : IsStrictlySortedBy pair_cmp c.hits → IsStrictlySortedBy pair_cmp d.hits
+
+keeps : (c : Chip) → ChipKeeps c c
+keeps c = record { dom = refl; count = refl; reports = λ h. h; hits = λ h. h }
 
 same-parts : (x y : Triple) → same_triple x y ≡ true → (x.0 ≡ y.0) × (x.1 ≡ y.1) × (x.2 ≡ y.2)
 same-parts x y h =
@@ -102,45 +120,54 @@ offered-keeps : (c : Chip) (x : Triple) → ChipKeeps c (offered c x)
 offered-keeps c x =
     (elim (list_any (same_triple x) c.reports || not (nat_lt (length c.reports) most_reports)) as
     (λ b. (list_any (same_triple x) c.reports || not (nat_lt (length c.reports) most_reports)) ≡ b → ChipKeeps c (cond b c (record c { reports = c.reports ++ x ∷ [] }))) [
-      | true ↦ λ e. (refl, λ h. h, λ h. h)
+      | true ↦ λ e. keeps c
       | false ↦ λ e.
           let parts = or_parts (list_any (same_triple x) c.reports) (not (nat_lt (length c.reports) most_reports)) e in
-          let less = ltb-true (length c.reports) most_reports (not-false _ parts.1) in (
-            refl,
-            λ h. record { ids = IsDistinct-push same_triple-equivalence c.reports x h.ids parts.0; few = omega (arith, less, length-append c.reports (x ∷ [])) },
-            λ h. h,
-          )
+          let less = ltb-true (length c.reports) most_reports (not-false _ parts.1) in
+          record {
+            dom = refl;
+            count = refl;
+            reports = λ h. record { ids = IsDistinct-push same_triple-equivalence c.reports x h.ids parts.0; few = omega (arith, less, length-append c.reports (x ∷ [])) };
+            hits = λ h. h;
+          }
     ]) refl
 
 offers-keeps : (port : ℕ) (o : Option Address) (c : Chip) → ChipKeeps c (offers port o c)
-offers-keeps port None c = (refl, λ h. h, λ h. h)
+offers-keeps port None c = keeps c
 offers-keeps port (Some key) c = offered-keeps c (key.0, key.1, port)
 
 hit-keeps : (c : Chip) (key : Address) → ChipKeeps c (hit c key)
-hit-keeps c key = (refl, λ h. h, λ h. ascend-insert pair_cmp pair_total key c.hits h)
+hit-keeps c key = record { dom = refl; count = refl; reports = λ h. h; hits = λ h. ascend-insert pair_cmp pair_total key c.hits h }
 
 hits_entry-keeps : (o : Option Address) (c : Chip) → ChipKeeps c (hits_entry o c)
-hits_entry-keeps None c = (refl, λ h. h, λ h. h)
+hits_entry-keeps None c = keeps c
 hits_entry-keeps (Some key) c = hit-keeps c key
 
 pub hit_by-keeps : (c : Chip) (d : Change) → ChipKeeps c (hit_by c d)
 hit_by-keeps c (AddrPut vid mac port kind) = hit-keeps c (vid, mac)
-hit_by-keeps c d = (refl, λ h. h, λ h. h)
+hit_by-keeps c d = keeps c
 
 pub notes-keeps : (t : Table) (port : ℕ) (head : Head) (c : Chip) → ChipKeeps c (notes t port head c)
 notes-keeps t port head c =
     let a = offers-keeps port (report t port head) c in
     let b = hits_entry-keeps (hit_of t port head) (offers port (report t port head) c) in
-    (b.0 ∙ a.0, λ h. b.1 (a.1 h), λ h. b.2 (a.2 h))
+    record { dom = b.dom ∙ a.dom; count = b.count ∙ a.count; reports = λ h. b.reports (a.reports h); hits = λ h. b.hits (a.hits h) }
 
-chip-world : (w : World) (c : Chip) → ChipKeeps w.chip c → IsWorld w → IsWorld (record w { chip = c })
-chip-world w c keeps k = record {
-  history = record { applied = omega (arith, keeps.0, k.history.applied); fits = k.history.fits; few = k.history.few };
+-- a chip that stands takes the place of that of its domain
+chip-world : (w : World) (c : Chip) → ChipStands w.setup.domains.edition w.history c → IsWorld w → IsWorld (with_chip w c)
+chip-world w c stands k = record {
+  history = k.history;
   counts = k.counts;
   frames = k.frames;
-  reports = keeps.1 k.reports;
-  hits = keeps.2 k.hits;
+  doms = put-doms w.chips c ∙ k.doms;
+  chips = put-all (ChipStands w.setup.domains.edition w.history) w.chips c k.chips stands;
 }
+
+kept-stands : (edition : Edition) (history : List Change) (c d : Chip) → ChipKeeps c d → ChipStands edition history c → ChipStands edition history d
+kept-stands edition history c d keep k = record { applied = omega (arith, keep.count, k.applied); reports = keep.reports k.reports; hits = keep.hits k.hits }
+
+pub chip-stands : (w : World) (dom : ℕ) (c : Chip) → IsWorld w → chip_at w dom ≡ Some c → ChipStands w.setup.domains.edition w.history c
+chip-stands w dom c k e = chip-each (ChipStands w.setup.domains.edition w.history) w.chips dom c k.chips e
 
 -- Frames that wait or are held.
 
@@ -211,8 +238,8 @@ waits-world w f k is fresh =
         history = k.history;
         counts = k.counts;
         frames = frames-push k.frames f is fresh (ltb-true _ _ e);
-        reports = k.reports;
-        hits = k.hits;
+        doms = k.doms;
+        chips = k.chips;
       }
       | false ↦ λ e. k
     ]) refl
@@ -223,30 +250,33 @@ goes_on-world Trap w f k is fresh = waits-world w f k is fresh
 goes_on-world Copy w f k is fresh = waits-world w f k is fresh
 goes_on-world Forward w f k is fresh = k
 
-own-mark : (o : Option ℕ) → option_eq (λ x y. x == y) o (Some chip) ≡ true → option_map_or (λ mark. mark == chip && option_eq (λ x y. x == y) o (Some mark)) o true ≡ true
-own-mark None h = absurd (cc)
-own-mark (Some d) h = λ i. h i && eq-eqb d d refl i
+class-mark : (class : Class) (domains : Domains) (f : Waiting) (dom : ℕ) → domain_of domains f.port ≡ Some dom → has_chip domains dom ≡ true → has_own_mark domains (record f { mark = mark_of class domains f.port }) ≡ true
+class-mark Drop domains f dom on there = refl
+class-mark Trap domains f dom on there = refl
+class-mark Copy domains f dom on there =
+    ap (λ o. option_map_or (λ mark. has_chip domains mark && option_eq (λ x y. x == y) o (Some mark)) o true) on
+    ∙ (λ i. there i && eq-eqb dom dom refl i)
+class-mark Forward domains f dom on there = refl
 
-class-mark : (c : Class) (domains : Domains) (f : Waiting) → is_in_domain domains chip f.port ≡ true → has_own_mark domains (record f { mark = mark_of c domains f.port }) ≡ true
-class-mark Drop domains f on = refl
-class-mark Trap domains f on = refl
-class-mark Copy domains f on = own-mark (domain_of domains f.port) on
-class-mark Forward domains f on = refl
+enters_by-world : (w : World) (f : Waiting) (o : Option Chip) → chip_of w (domain_of w.setup.domains f.port) ≡ o → f.mark ≡ None → f.id < w.next → frame f.bytes ≡ Ok f.head
+    → IsWorld w → All (λ g. g.id < f.id) (frames_of w.held w.waiting) → IsWorld (enters_by w o f).0
+enters_by-world w f None on unmarked less e k fresh =
+    waits-world w f k (record { id = less; head = e; mark = ap (λ m. option_map_or (λ mark. has_chip w.setup.domains mark && is_in_domain w.setup.domains mark f.port) m true) unmarked }) fresh
+enters_by-world w f (Some c) on unmarked less e k fresh =
+    let at = chip_of-at w (domain_of w.setup.domains f.port) c on in
+    let d = notes (table_of_chip w c) f.port f.head c in
+    let stands = kept-stands w.setup.domains.edition w.history c d (notes-keeps (table_of_chip w c) f.port f.head c) (chip-stands w at.0 c k at.2) in
+    goes_on-world (class_of w c f) (with_chip w d) (record f { mark = mark_of (class_of w c f) w.setup.domains f.port })
+    (chip-world w d stands k)
+    (record { id = less; head = e; mark = class-mark (class_of w c f) w.setup.domains f at.0 at.1 (has-chip w.setup.domains w.chips at.0 c k.doms at.2) })
+    fresh
 
 enters-world : (w : World) (id port : ℕ) (bytes : List ℕ) (r : Result Head FrameFault) → frame bytes ≡ r → IsWorld w → id < w.next → All (λ g. g.id < id) (frames_of w.held w.waiting)
     → IsWorld (enters_as w id port bytes r).0
 enters-world w id port bytes (Err why) e k less fresh = k
 enters-world w id port bytes (Ok head) e k less fresh =
     let f : Waiting = record { id = id; port = port; bytes = bytes; head = head; mark = None } in
-    (elim (is_in_domain w.setup.domains chip port) as (λ b. is_in_domain w.setup.domains chip port ≡ b → IsWorld (cond {A = Stepped} b (enters_chip w (table_of_chip w) (class_of w f) f) (waits w f)).0) [
-      | true ↦ λ on.
-          let c = notes (table_of_chip w) port head w.chip in
-          goes_on-world (class_of w f) (record w { chip = c }) (record f { mark = mark_of (class_of w f) w.setup.domains port })
-          (chip-world w c (notes-keeps (table_of_chip w) port head w.chip) k)
-          (record { id = less; head = e; mark = class-mark (class_of w f) w.setup.domains f on })
-          fresh
-      | false ↦ λ off. waits-world w f k (record { id = less; head = e; mark = refl }) fresh
-    ]) refl
+    enters_by-world w f (chip_of w (domain_of w.setup.domains port)) refl refl less e k fresh
 
 -- A frame is sent, or held.
 
@@ -261,8 +291,8 @@ serves-world w (f ∷ later) e k = posts-world (record w { waiting = later }) f 
   frames =
       let frames = subst (λ l. FramesStand w.setup.domains w.counts w.held l w.next) e k.frames in
       frames-part frames w.held later (part-middle (map (λ (h : Holding). h.waiting) w.held) f later) frames.floors (omega arith);
-  reports = k.reports;
-  hits = k.hits;
+  doms = k.doms;
+  chips = k.chips;
 })
 
 holds-world : (w : World) (fs : List Waiting) → w.waiting ≡ fs → IsWorld w → IsWorld (holds w fs).0
@@ -271,8 +301,8 @@ holds-world w (f ∷ later) e k = record {
   history = k.history;
   counts = k.counts;
   frames = frames-hold w.published (subst (λ l. FramesStand w.setup.domains w.counts w.held l w.next) e k.frames) (last-has w.published w.counts k.counts.last);
-  reports = k.reports;
-  hits = k.hits;
+  doms = k.doms;
+  chips = k.chips;
 }
 
 lets_go-world : (w : World) (id : ℕ) → IsWorld w → IsWorld (lets_go w id)
@@ -283,8 +313,8 @@ lets_go-world w id k = record {
       frames-part k.frames (filter (λ h. not (h.waiting.id == id)) w.held) w.waiting (part-filter (λ (h : Holding). h.waiting) (λ h. not (h.waiting.id == id)) w.held w.waiting)
       (All-filter (λ (h : Holding). not (h.waiting.id == id)) (λ (h : Holding). has nat_cmp w.counts h.floor ≡ true) w.held k.frames.floors)
       (omega (arith, length-filter (λ (h : Holding). not (h.waiting.id == id)) w.held, count_by-le-length (λ (h : Holding). not (h.waiting.id == id)) w.held));
-  reports = k.reports;
-  hits = k.hits;
+  doms = k.doms;
+  chips = k.chips;
 }
 
 posts_held-world : (w : World) (h : Holding) (point : Option ℕ) → IsWorld w → IsWorld (posts_held w h point).0
@@ -301,32 +331,47 @@ posts_at-world w (Some h) point k = posts_held-world w h point k
 
 -- The chip's driver.
 
-turns-world : (w : World) (o : Option Change) → deferred_at w.history w.chip.count ≡ o → IsWorld w → IsWorld (turns w o).0
-turns-world w None e k = k
-turns-world w (Some d) e k =
-    let keeps = hit_by-keeps (record w.chip { count = w.chip.count + 1 }) d in
-    record {
-      history = record { applied = omega (arith, keeps.0, slice_get_within (deferred_of w.history) w.chip.count d e); fits = k.history.fits; few = k.history.few };
-      counts = k.counts;
-      frames = k.frames;
-      reports = keeps.1 k.reports;
-      hits = keeps.2 k.hits;
-    }
+turns_to-world : (w : World) (dom : ℕ) (c : Chip) (o : Option Change) → chip_at w dom ≡ Some c → next_of w c ≡ o → IsWorld w → IsWorld (turns_to w c o).0
+turns_to-world w dom c None at e k = k
+turns_to-world w dom c (Some d) at e k =
+    let keep = hit_by-keeps (record c { count = c.count + 1 }) d in
+    let stands = chip-stands w dom c k at in
+    chip-world w (applies c d) (record {
+      applied = omega (arith, keep.count, slice_get_within (deferred_of w.setup.domains.edition w.history) c.count d e);
+      reports = keep.reports stands.reports;
+      hits = keep.hits stands.hits;
+    }) k
+
+turns-world : (w : World) (dom : ℕ) (o : Option Chip) → chip_at w dom ≡ o → IsWorld w → IsWorld (turns w o).0
+turns-world w dom None at k = k
+turns-world w dom (Some c) at k = turns_to-world w dom c (next_of w c) at refl k
 
 fewer-reports : (x : Triple) (later : List Triple) → ReportsStand (x ∷ later) → ReportsStand later
 unfolding IsDistinct
 fewer-reports x later k = record { ids = k.ids.1; few = omega (arith, k.few) }
 
-reports-world : (w : World) (rs : List Triple) → w.chip.reports ≡ rs → IsWorld w → IsWorld (reports w rs).0
-reports-world w [] e k = k
-reports-world w (x ∷ later) e k =
-    answered-world w (record w { chip = record w.chip { reports = later } }) (events.Told x.0 x.1 x.2) k
-    (record { history = k.history; counts = k.counts; frames = k.frames; reports = fewer-reports x later (subst ReportsStand e k.reports); hits = k.hits })
+tells-world : (w : World) (dom : ℕ) (c : Chip) (rs : List Triple) → chip_at w dom ≡ Some c → c.reports ≡ rs → IsWorld w → IsWorld (tells w c rs).0
+tells-world w dom c [] at e k = k
+tells-world w dom c (x ∷ later) at e k =
+    let stands = chip-stands w dom c k at in
+    answered-world w (with_chip w (record c { reports = later })) (events.Told x.0 x.1 x.2) k
+    (chip-world w (record c { reports = later }) (record { applied = stands.applied; reports = fewer-reports x later (subst ReportsStand e stands.reports); hits = stands.hits }) k)
     refl
 
-swept-world : (w : World) → IsWorld w → IsWorld (record w { chip = record w.chip { hits = [] } })
+reports-world : (w : World) (dom : ℕ) (o : Option Chip) → chip_at w dom ≡ o → IsWorld w → IsWorld (reports w o).0
+reports-world w dom None at k = k
+reports-world w dom (Some c) at k = tells-world w dom c c.reports at refl k
+
+unhit-stands : (edition : Edition) (history : List Change) (c : Chip) → ChipStands edition history c → ChipStands edition history (record c { hits = [] })
 unfolding IsStrictlySortedBy
-swept-world w k = record { history = k.history; counts = k.counts; frames = k.frames; reports = k.reports; hits = tt }
+unhit-stands edition history c k = record { applied = k.applied; reports = k.reports; hits = tt }
+
+sweeps-world : (w : World) (dom : ℕ) (o : Option Chip) → chip_at w dom ≡ o → IsWorld w → IsWorld (sweeps w o).0
+sweeps-world w dom None at k = k
+sweeps-world w dom (Some c) at k =
+    answered-world w (with_chip w (record c { hits = [] })) (swept w c) k
+    (chip-world w (record c { hits = [] }) (unhit-stands w.setup.domains.edition w.history c (chip-stands w dom c k at)) k)
+    refl
 
 publishes-world : (w : World) → IsWorld w → IsWorld (publishes w (length w.history))
 publishes-world w k =
@@ -336,8 +381,8 @@ publishes-world w k =
         history = k.history;
         counts = record { ascend = k.counts.ascend; first = k.counts.first; last = k.counts.last ∙ ap (λ m. Some m) (sym (eqb-true n w.published e)); within = omega arith };
         frames = k.frames;
-        reports = k.reports;
-        hits = k.hits;
+        doms = k.doms;
+        chips = k.chips;
       }
       | false ↦ λ e.
           let less : w.published < n = omega (arith, k.counts.within, eqb-false n w.published e) in
@@ -350,18 +395,18 @@ publishes-world w k =
               within = omega arith;
             };
             frames = frames-published k.frames n;
-            reports = k.reports;
-            hits = k.hits;
+            doms = k.doms;
+            chips = k.chips;
           }
     ]) refl
 
 -- Each step.
 
 pub counted-world : (w : World) → IsWorld w → IsWorld (record w { steps = w.steps + 1 })
-counted-world w k = record { history = k.history; counts = k.counts; frames = k.frames; reports = k.reports; hits = k.hits }
+counted-world w k = record { history = k.history; counts = k.counts; frames = k.frames; doms = k.doms; chips = k.chips }
 
 numbered-world : (w : World) → IsWorld w → IsWorld (record w { next = w.next + 1 })
-numbered-world w k = record { history = k.history; counts = k.counts; frames = frames-next k.frames; reports = k.reports; hits = k.hits }
+numbered-world w k = record { history = k.history; counts = k.counts; frames = frames-next k.frames; doms = k.doms; chips = k.chips }
 
 does-world : (w : World) (step : Step) → IsWorld w → IsWorld (does w step).0
 does-world w (Rx port bytes) k =
@@ -372,9 +417,9 @@ does-world w (Now moment) k = answered-world w w (events.Moment moment) k k refl
 does-world w Serve k = serves-world w w.waiting refl k
 does-world w Hold k = holds-world w w.waiting refl k
 does-world w (Post id point) k = posts_at-world w (held_with w id) point k
-does-world w Turn k = turns-world w (deferred_at w.history w.chip.count) refl k
-does-world w Report k = reports-world w w.chip.reports refl k
-does-world w Sweep k = answered-world w (record w { chip = record w.chip { hits = [] } }) (swept w) k (swept-world w k) refl
+does-world w (Turn dom) k = turns-world w dom (chip_at w dom) refl k
+does-world w (Report dom) k = reports-world w dom (chip_at w dom) refl k
+does-world w (Sweep dom) k = sweeps-world w dom (chip_at w dom) refl k
 does-world w Publish k = publishes-world w k
 
 pub step-world : (w : World) (step : Step) → IsWorld w → IsWorld (world_step w step).0

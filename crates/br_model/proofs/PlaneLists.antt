@@ -1,7 +1,7 @@
 -- Lists: parts of them, ascending ones, and distinct ones.
-use Rattle.std.proofs.Common.{◌≡◌, ℕ, ◌<◌, ◌≤◌, Bool, true, false, cond, List, [], ◌∷◌, ◌++◌, map, length, Option, None, Some, refl, sym, ap, ◌∙◌, arith}
+use Rattle.std.proofs.Common.{◌≡◌, ℕ, ◌<◌, ◌≤◌, Bool, true, false, cond, List, [], ◌∷◌, ◌++◌, map, length, Option, None, Some, refl, sym, ap, ◌∙◌, arith, subst}
 use Rattle.std.specs.Prelude.{◌==◌, ◌||◌, nat_lt}
-use Rattle.std.specs.List.{AllByRecursion, All, IsDistinct, filter, last_or, slice_get}
+use Rattle.std.specs.List.{AllByRecursion, All, IsDistinct, filter, find, last_or, slice_get}
 use Rattle.std.specs.List.Sorted.{IsStrictlySortedBy}
 use Rattle.std.specs.Ordering.{nat_cmp, eq_by_cmp, match_ordering, ordering_reverse}
 use Rattle.std.specs.BTreeSet.{insert_key}
@@ -159,3 +159,25 @@ module _ {K : Type 0} (R : K → K → Ordering) (o : IsTotalOrder R) where
         | Equal ↦ λ e. h
         | Greater ↦ λ e. (below-insert x k xs h.0 (o.antisymm x k ∙ ap ordering_reverse e), ascend-insert k xs h.1)
       ]) refl
+
+-- What is found.
+
+pub same-some : {X : Type 0} (a b : X) → Some a ≡ Some b → a ≡ b
+same-some a b h = cc
+
+-- the first that passes is one that passes
+pub find-passes : {X : Type 0} (p : X → Bool) (xs : List X) (x : X) → find p xs ≡ Some x → p x ≡ true
+find-passes p [] x e = absurd (cc)
+find-passes p (y ∷ ys) x e =
+    (elim (p y) as (λ b. p y ≡ b → cond b (Some y) (find p ys) ≡ Some x → p x ≡ true) [
+      | true ↦ λ yes is. ap p (sym (same-some y x is)) ∙ yes
+      | false ↦ λ fails is. find-passes p ys x is
+    ]) refl e
+
+pub find-each : {X : Type 0} (P : X → Type 0) (p : X → Bool) (xs : List X) (x : X) → AllByRecursion P xs → find p xs ≡ Some x → P x
+find-each P p [] x h e = absurd (cc)
+find-each P p (y ∷ ys) x h e =
+    (elim (p y) as (λ b. cond b (Some y) (find p ys) ≡ Some x → P x) [
+      | true ↦ λ is. subst P (same-some y x is) h.0
+      | false ↦ λ is. find-each P p ys x h.1 is
+    ]) e

@@ -1,6 +1,6 @@
 -- The line that a step is written as is read back to the step.
 use Rattle.std.proofs.Common.{◌≡◌, ℕ, zero, suc, ◌+◌, ◌^◌, ◌<◌, ◌≤◌, ◌==◌, nat_lt, nat_le, Bool, true, false, ◌&&◌, ◌||◌, if◌then◌else◌, List, [], ◌∷◌, ◌++◌, length, take, length-take, inl, inr, refl, sym, ◌∙◌, ap, subst, arith, Option, slice_index_or, append-nil}
-use Rattle.std.specs.Prelude.{codes}
+use Rattle.std.specs.Prelude.{codes, not}
 use Rattle.std.specs.Cmp.{first_so, second_so}
 use Rattle.std.specs.Fmt.{decimal}
 use Rattle.std.specs.List.{list_all}
@@ -23,16 +23,16 @@ use Rattle.br_model.specs.declared.steps.Step.TheVariants.{Rx, Cmd, Now, Serve, 
 use Rattle.br_model.specs.CommandForms.{step}
 use Rattle.br_model.specs.Declarations.{are_declared}
 use Rattle.br_model.specs.Digits.{hex_of}
-use Rattle.br_model.specs.Domains.{host}
+use Rattle.br_model.specs.Domains.{host, chip, last_chip}
 use Rattle.br_model.specs.FlagWords.{flags, name_of_flag}
 use Rattle.br_model.specs.Forms.{Row, after, said}
 use Rattle.br_model.specs.Frames.{longest_frame, shortest_frame, frame}
 use Rattle.br_model.specs.LineForms.{line_says, all_say, commanded}
-use Rattle.br_model.specs.Operands.{number, port_name, mac, hex, flag, bytes_of, most_cost, most_port_priority, most_priority, most_seconds, last_moment}
-use Rattle.br_model.specs.Roster.{Roster, has_number, host_name}
+use Rattle.br_model.specs.Operands.{number, unless, chip_domain, port_name, mac, hex, flag, bytes_of, most_cost, most_port_priority, most_priority, most_seconds, last_moment}
+use Rattle.br_model.specs.Roster.{Entry, Roster, has_number, has_domain, host_name}
 use Rattle.br_model.specs.ScenarioText.{name_of, mac_text, ip_text, command_text, device_text, kind_word, switch_word, shown, step_words}
 use Rattle.br_model.specs.Words.{Word, is_word, is_comment, words}
-use Rattle.br_model.specs.WrittenSteps.{is_byte, is_flag, is_vid, is_device, is_ip, kind_has_line, command_has_line, has_line, given, is_station, is_whole}
+use Rattle.br_model.specs.WrittenSteps.{is_byte, is_chip, is_flag, is_vid, is_device, is_ip, kind_has_line, command_has_line, has_line, given, is_station, is_whole}
 use Rattle.br_model.proofs.WrittenAddresses.{mac_read, mac_proper}
 use Rattle.br_model.proofs.WrittenGroups.{ip_read, ip_proper}
 use Rattle.br_model.proofs.WrittenNames.{port_small, port_number_read, port_name_read, name_proper, not_host, device_read, device_proper, number_read}
@@ -76,6 +76,17 @@ vid_read vid h = number_read 1 4094 vid (below 4094 vid (omega arith) (second_so
 
 vid_proper : (vid : ℕ) → is_vid vid ≡ true → is_proper (decimal vid) ≡ true
 vid_proper vid h = decimal_proper vid (below 4094 vid (omega arith) (second_so _ _ h))
+
+chip_read : (ports : List Entry) (dom : ℕ) → is_chip ports dom ≡ true → chip_domain ports (decimal dom) ≡ Ok dom
+unfolding chip_domain
+chip_read ports dom h =
+    let rest = second_so (nat_le chip dom) _ h in
+    let high = first_so (nat_le dom last_chip) _ rest in
+    ap (unless why.Port (λ d. not (has_domain ports d))) (number_read chip last_chip dom (below last_chip dom (omega arith) high) (first_so (nat_le chip dom) _ h) high)
+    ∙ ap (λ (b : Bool). if not b then Err why.Port else Ok dom) (second_so (nat_le dom last_chip) _ rest)
+
+chip_proper : (ports : List Entry) (dom : ℕ) → is_chip ports dom ≡ true → is_proper (decimal dom) ≡ true
+chip_proper ports dom h = decimal_proper dom (below last_chip dom (omega arith) (first_so (nat_le dom last_chip) _ (second_so (nat_le chip dom) _ h)))
 
 station_read : (address : ℕ) → is_station address ≡ true → mac (mac_text address) ≡ Ok address
 station_read address h = mac_read address (small (2 ^ 48) address (first_so _ _ h)) (not-true _ (second_so _ _ h))
@@ -124,14 +135,14 @@ now_read r moment place h =
 serve_read : (r : Roster) → step r.place ≡ true → line_says r (codes "serve") ≡ Ok (Does Serve)
 serve_read r place = says r (codes "serve" ∷ []) (λ x. x) {x = Ok (Does Serve)} refl place refl refl refl
 
-turn_read : (r : Roster) → step r.place ≡ true → line_says r (codes "turn 1") ≡ Ok (Does Turn)
-turn_read r place = says r (codes "turn" ∷ codes "1" ∷ []) (λ x. x) {x = Ok (Does Turn)} refl place refl refl refl
+turn_read : (r : Roster) (dom : ℕ) → step r.place ≡ true → is_chip r.ports dom ≡ true → line_says r (codes "turn " ++ decimal dom) ≡ Ok (Does (Turn dom))
+turn_read r dom place h = says r (codes "turn" ∷ decimal dom ∷ []) (λ x. x) (one (λ d. Does (Turn d)) (chip_read r.ports dom h)) place (both _ _ (chip_proper r.ports dom h) refl) refl refl
 
-report_read : (r : Roster) → step r.place ≡ true → line_says r (codes "report 1") ≡ Ok (Does Report)
-report_read r place = says r (codes "report" ∷ codes "1" ∷ []) (λ x. x) {x = Ok (Does Report)} refl place refl refl refl
+report_read : (r : Roster) (dom : ℕ) → step r.place ≡ true → is_chip r.ports dom ≡ true → line_says r (codes "report " ++ decimal dom) ≡ Ok (Does (Report dom))
+report_read r dom place h = says r (codes "report" ∷ decimal dom ∷ []) (λ x. x) (one (λ d. Does (Report d)) (chip_read r.ports dom h)) place (both _ _ (chip_proper r.ports dom h) refl) refl refl
 
-sweep_read : (r : Roster) → step r.place ≡ true → line_says r (codes "sweep 1") ≡ Ok (Does Sweep)
-sweep_read r place = says r (codes "sweep" ∷ codes "1" ∷ []) (λ x. x) {x = Ok (Does Sweep)} refl place refl refl refl
+sweep_read : (r : Roster) (dom : ℕ) → step r.place ≡ true → is_chip r.ports dom ≡ true → line_says r (codes "sweep " ++ decimal dom) ≡ Ok (Does (Sweep dom))
+sweep_read r dom place h = says r (codes "sweep" ∷ decimal dom ∷ []) (λ x. x) (one (λ d. Does (Sweep d)) (chip_read r.ports dom h)) place (both _ _ (chip_proper r.ports dom h) refl) refl refl
 
 publish_read : (r : Roster) → step r.place ≡ true → line_says r (codes "publish") ≡ Ok (Does Publish)
 publish_read r place = says r (codes "publish" ∷ []) (λ x. x) {x = Ok (Does Publish)} refl place refl refl refl
@@ -359,9 +370,9 @@ step_read r (Rx port bytes) place all h =
 step_read r (Cmd command) place all h = command_read r command place all h
 step_read r (Now moment) place all h = now_read r moment place h
 step_read r Serve place all h = serve_read r place
-step_read r Turn place all h = turn_read r place
-step_read r Report place all h = report_read r place
-step_read r Sweep place all h = sweep_read r place
+step_read r (Turn dom) place all h = turn_read r dom place h
+step_read r (Report dom) place all h = report_read r dom place h
+step_read r (Sweep dom) place all h = sweep_read r dom place h
 step_read r Publish place all h = publish_read r place
 
 -- frames that a line shows whole, and those that it doesn't
@@ -387,9 +398,9 @@ given_whole (Rx port bytes) h = ap (λ (b : List ℕ). Rx port b) (shown_whole b
 given_whole (Cmd command) h = refl
 given_whole (Now moment) h = refl
 given_whole Serve h = refl
-given_whole Turn h = refl
-given_whole Report h = refl
-given_whole Sweep h = refl
+given_whole (Turn dom) h = refl
+given_whole (Report dom) h = refl
+given_whole (Sweep dom) h = refl
 given_whole Publish h = refl
 
 too_long : (bytes : List ℕ) → longest_frame < length bytes → frame bytes ≡ Err faults.Long

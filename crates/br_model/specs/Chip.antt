@@ -1,24 +1,27 @@
--- The chip: how many deferred changes it has applied, what it reports, and which of its entries frames hit.
+-- A chip: how many deferred changes it has applied, what it reports, and which of its entries frames hit.
 -- Source: the kernel's switchdev.rst (deferred work, learning in hardware, ageing in hardware); the queue, the ring of reports
 -- and the hits are this profile's.
 use Rattle.std.specs.Prelude.{ℕ, ◌+◌, ◌==◌, nat_lt, Bool, false, not, ◌&&◌, ◌||◌, if◌then◌else◌, List, [], ◌∷◌, ◌++◌, length, map}
-use Rattle.std.specs.List.{filter, list_any}
+use Rattle.std.specs.List.{filter, find, list_any}
 use Rattle.std.specs.declared.option.Option.{Option}
 use Rattle.std.specs.declared.option.Option.TheVariants.{None, Some}
 use Rattle.std.specs.Option.{option_map_or}
 use Rattle.br_model.specs.declared.change.Change.{Change}
 use Rattle.br_model.specs.declared.change.Change.TheVariants.{PortUp, PortDown, SetFlags, SetState, VlanAdd, VlanDel, GroupJoin, GroupPart, Router, Querier, Snoop, Stp, AddrPut, AddrDel}
+use Rattle.br_model.specs.declared.domains.Edition.{Edition}
 use Rattle.br_model.specs.declared.frame.Head.{Head}
 use Rattle.br_model.specs.Admission.{has_valid_source, vlan_of}
 use Rattle.br_model.specs.Cut.{cut}
 use Rattle.br_model.specs.DomainPorts.{is_in_domain}
-use Rattle.br_model.specs.Domains.{Domains, chip}
+use Rattle.br_model.specs.Domains.{Domains, chip_domains}
 use Rattle.br_model.specs.Learning.{Address, Triple, is_extern, is_news, teach}
 use Rattle.br_model.specs.Limits.{most_reports}
 use Rattle.br_model.specs.Maps.{pair_cmp, get, has, joined}
 use Rattle.br_model.specs.Table.{Table, table}
 
 pub record Chip : Type 0 where
+  -- the number of its domain
+  pub dom : ℕ
   -- how many deferred changes it has applied: the ticket of the next one
   pub count : ℕ
   -- what it saw and didn't tell yet, the oldest first
@@ -26,12 +29,24 @@ pub record Chip : Type 0 where
   -- the addresses whose entries were hit since the last sweep, a set
   pub hits : List Address
 
-abbrev pub first_chip : Chip
-first_chip = record { count = 0; reports = []; hits = [] }
+abbrev pub first_chip : ℕ → Chip
+first_chip dom = record { dom = dom; count = 0; reports = []; hits = [] }
+
+-- a chip for each domain that exists, ascending
+abbrev pub first_chips : Domains → List Chip
+first_chips domains = map first_chip (chip_domains domains)
+
+-- the chip of this domain
+abbrev pub chip_in : List Chip → ℕ → Option Chip
+chip_in chips dom = find (λ c. c.dom == dom) chips
+
+-- with this one in the place of that of its domain
+abbrev pub put_chip : List Chip → Chip → List Chip
+put_chip chips c = map (λ x. if x.dom == c.dom then c else x) chips
 
 -- the table by which it decides: that of the synchronous changes and of the deferred ones that it has applied
-abbrev pub chip_table : List Change → Chip → Table
-chip_table history c = table (cut history c.count)
+abbrev pub chip_table : Edition → List Change → Chip → Table
+chip_table edition history c = table (cut edition history c.count)
 
 abbrev pub hit : Chip → Address → Chip
 hit c key = record c { hits = joined pair_cmp c.hits key }
@@ -108,4 +123,4 @@ notes t port head c = hits_entry (hit_of t port head) (offers port (report t por
 abbrev pub unhit : Domains → Table → Chip → List Triple
 unhit domains t c =
     map (λ e. (e.0.0, e.0.1, e.1.0))
-    (filter (λ e. is_extern e.1.1 && (is_in_domain domains chip e.1.0 && not (has pair_cmp c.hits e.0))) t.addr)
+    (filter (λ e. is_extern e.1.1 && (is_in_domain domains c.dom e.1.0 && not (has pair_cmp c.hits e.0))) t.addr)

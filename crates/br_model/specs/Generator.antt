@@ -4,6 +4,7 @@
 use Rattle.std.specs.Prelude.{ℕ, zero, suc, ◌+◌, ◌*◌, ◌/◌, ◌%◌, ◌^◌, ◌==◌, false, if◌then◌else◌, List, [], ◌∷◌, ◌++◌, map, length, codes}
 use Rattle.std.specs.Fmt.{decimal}
 use Rattle.std.specs.List.{flat_map}
+use Rattle.br_model.specs.declared.domains.Edition.TheVariants.{One}
 use Rattle.br_model.specs.declared.scenario.Place.TheVariants.{Steps}
 use Rattle.br_model.specs.declared.steps.Command.TheVariants.{PortUp}
 use Rattle.br_model.specs.declared.steps.Step.{Step}
@@ -50,7 +51,7 @@ each d i step = if i % d == 0 then step ∷ [] else []
 -- report is taken, behind each fifth the chip has a turn, each seventh is followed by a publication, and each 64th by a moment.
 abbrev pub frame_steps : ℕ → ℕ → List Step
 frame_steps i n =
-    Rx (n % 6 + 1) (frame n) ∷ Serve ∷ (each 3 i Report ++ (each 5 i Turn ++ (each 7 i Publish ++ each 64 i (Now (1000 * i)))))
+    Rx (n % 6 + 1) (frame n) ∷ Serve ∷ (each 3 i (Report chip) ++ (each 5 i (Turn chip) ++ (each 7 i Publish ++ each 64 i (Now (1000 * i)))))
 
 -- those of so many frames from frame i on, where the state is x; it goes on before each frame
 unfoldable pub frames_from : ℕ → ℕ → ℕ → List Step
@@ -72,7 +73,7 @@ ports =
     []
 
 abbrev pub domain_words : ℕ → List ℕ
-domain_words dom = if dom == chip then codes "chip 1" else codes "soft"
+domain_words dom = if dom == software then codes "soft" else codes "chip " ++ decimal dom
 
 abbrev pub port_line : Entry → List ℕ
 port_line e = codes "port " ++ (decimal e.port ++ (32 ∷ (e.name ++ (32 ∷ (domain_words e.dom ++ 10 ∷ [])))))
@@ -96,7 +97,7 @@ made x count = head ++ (flat_map (step_text ports) (steps x count) ++ (codes "en
 abbrev pub made_scenario : ℕ → ℕ → Scenario
 made_scenario x count = record {
   lines = 8 + length (steps x count);
-  roster = record { place = Steps; check = false; own = first_own; ports = ports };
+  roster = record { place = Steps; check = false; edition = One; own = first_own; ports = ports };
   steps = steps x count;
   ending = Ended;
 }

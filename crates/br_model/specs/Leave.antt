@@ -8,6 +8,7 @@ use Rattle.std.specs.Ordering.{nat_cmp}
 use Rattle.br_model.specs.declared.frame.Head.{Head}
 use Rattle.br_model.specs.declared.frame.McastMsg.{McastMsg}
 use Rattle.br_model.specs.Admission.{admit}
+use Rattle.br_model.specs.Domains.{most_ports}
 use Rattle.br_model.specs.Eligible.{may, untagged}
 use Rattle.br_model.specs.Frames.{dressed}
 use Rattle.br_model.specs.Maps.{has}
@@ -16,7 +17,7 @@ use Rattle.br_model.specs.Table.{Table}
 use Rattle.br_model.specs.Targets.{targets, to_tree}
 
 unfoldable pub all_ports : List ℕ
-all_ports = range_with_len 0 64
+all_ports = range_with_len 0 most_ports
 
 -- the targets that may take the frame, ascending
 unfoldable pub egress_ports : Table → ℕ → ℕ → Head → McastMsg → List ℕ

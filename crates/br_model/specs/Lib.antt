@@ -76,4 +76,5 @@ pub mod WorkedGroups
 pub mod WorkedCaptures
 pub mod WorkedCommands
 pub mod Readings
+pub mod WorkedDomains
 pub mod WorkedFrames

@@ -4,6 +4,7 @@ use Rattle.std.specs.Prelude.{ℕ, ◌+◌, ◌-◌, Bool, true, false, if◌the
 use Rattle.std.specs.declared.result.Result.{Result}
 use Rattle.std.specs.declared.result.Result.TheVariants.{Ok, Err}
 use Rattle.std.specs.Str.{bytes_eq}
+use Rattle.br_model.specs.declared.domains.Edition.TheVariants.{One, Two}
 use Rattle.br_model.specs.declared.scenario.LineWhy.{LineWhy}
 use Rattle.br_model.specs.declared.scenario.Place.{Place}
 use Rattle.br_model.specs.declared.scenario.Place.TheVariants.{Opening, Header, Declarations, Steps}
@@ -12,7 +13,7 @@ use Rattle.br_model.specs.declared.scenario.Said.TheVariants.{Blank, Opens, Brid
 use Rattle.br_model.specs.declared.steps.Command.{Command}
 use Rattle.br_model.specs.declared.steps.Step.TheVariants.{Rx, Cmd, Now, Serve, Turn, Report, Sweep, Publish}
 use Rattle.br_model.specs.CommandForms.{commands, step}
-use Rattle.br_model.specs.Domains.{software, chip}
+use Rattle.br_model.specs.Domains.{software}
 use Rattle.br_model.specs.Forms.{Row, row, line}
 use Rattle.br_model.specs.Roster.{Roster}
 use Rattle.br_model.specs.Words.{Word, words, is_comment}
@@ -40,10 +41,11 @@ declaration Steps = false
 
 abbrev pub declarations : List (Row Said)
 declarations =
-    row (codes "scenario 1") opening Opens ∷
+    row (codes "scenario 1") opening (Opens One) ∷
+    row (codes "scenario 2") opening (Opens Two) ∷
     row (codes "bridge MAC") header (λ mac. Bridge mac) ∷
     row (codes "port NUMBER NEWNAME soft") declaration (λ port name. Declares port name software) ∷
-    row (codes "port NUMBER NEWNAME chip 1") declaration (λ port name. Declares port name chip) ∷
+    row (codes "port NUMBER NEWNAME chip DOMAIN") declaration (λ port name dom. Declares port name dom) ∷
     []
 
 abbrev pub steps : List (Row Said)
@@ -51,9 +53,9 @@ steps =
     row (codes "rx PORT HEX") step (λ port bytes. Does (Rx port bytes)) ∷
     row (codes "now MS") step (λ moment. Does (Now moment)) ∷
     row (codes "serve") step (Does Serve) ∷
-    row (codes "turn 1") step (Does Turn) ∷
-    row (codes "report 1") step (Does Report) ∷
-    row (codes "sweep 1") step (Does Sweep) ∷
+    row (codes "turn CHIP") step (λ dom. Does (Turn dom)) ∷
+    row (codes "report CHIP") step (λ dom. Does (Report dom)) ∷
+    row (codes "sweep CHIP") step (λ dom. Does (Sweep dom)) ∷
     row (codes "publish") step (Does Publish) ∷
     row (codes "capture LENGTH") step (λ n. Captures n) ∷
     row (codes "end") step Ends ∷

@@ -11,15 +11,17 @@ use Rattle.br_model.specs.declared.scenario.LineWhy.{LineWhy}
 use Rattle.br_model.specs.declared.scenario.LineWhy.TheVariants as why
 use Rattle.std.specs.Str.{bytes_eq}
 use Rattle.br_model.specs.Digits.{decimal_from, bytes_from_hex, station}
-use Rattle.br_model.specs.Domains.{host}
+use Rattle.br_model.specs.Domains.{host, chip, last_chip, last_port}
 use Rattle.br_model.specs.FlagWords.{flags, flag_named}
 use Rattle.br_model.specs.IpWords.{address}
-use Rattle.br_model.specs.Roster.{Entry, has_number, port_named, is_name, host_name}
+use Rattle.br_model.specs.Roster.{Entry, has_number, has_domain, port_named, is_name, host_name}
 use Rattle.br_model.specs.Words.{Word}
 
 pub data Operand : Type 0 where
   -- a decimal number from the first to the second
   Number : ℕ → ℕ → Operand
+  -- the domain of a switch chip that exists
+  Chip : Operand
   -- the number of a port that isn't declared yet, and its name
   NewPort : Operand
   NewName : Operand
@@ -62,6 +64,8 @@ longest_section = 16777216
 abbrev pub operands : List (Word × Operand)
 operands =
     (codes "NUMBER", NewPort) ∷
+    (codes "DOMAIN", Number chip last_chip) ∷
+    (codes "CHIP", Chip) ∷
     (codes "NEWNAME", NewName) ∷
     (codes "PORT", PortNumber) ∷
     (codes "NAME", PortName) ∷
@@ -82,6 +86,7 @@ operands =
 -- what an operand gives: a number, a name, an IP address or bytes
 abbrev pub Value : Operand → Type 0
 Value (Number low high) = ℕ
+Value Chip = ℕ
 Value NewPort = ℕ
 Value NewName = Word
 Value PortNumber = ℕ
@@ -109,14 +114,17 @@ unless fault test (Err e) = Err e
 unless fault test (Ok x) = if test x then Err fault else Ok x
 
 unfoldable pub new_port : List Entry → Word → Result ℕ LineWhy
-new_port ports word = unless why.Port (λ n. has_number ports n) (number 1 63 word)
+new_port ports word = unless why.Port (λ n. has_number ports n) (number 1 last_port word)
+
+unfoldable pub chip_domain : List Entry → Word → Result ℕ LineWhy
+chip_domain ports word = unless why.Port (λ dom. not (has_domain ports dom)) (number chip last_chip word)
 
 unfoldable pub new_name : List Entry → Word → Result Word LineWhy
 new_name ports word = if is_name word && not (is_some (port_named ports word)) then Ok word else Err why.Port
 
 -- a number that isn't a declared port's is no port, however large
 unfoldable pub port_number : List Entry → Word → Result ℕ LineWhy
-port_number ports word = unless why.Port (λ n. not (nat_le n 63 && has_number ports n)) (found why.Number (decimal_from word))
+port_number ports word = unless why.Port (λ n. not (nat_le n last_port && has_number ports n)) (found why.Number (decimal_from word))
 
 unfoldable pub port_name : List Entry → Word → Result ℕ LineWhy
 port_name ports word = found why.Port (port_named ports word)
@@ -160,6 +168,7 @@ flag word = found why.Word (flag_named flags word)
 
 abbrev pub read : List Entry → (o : Operand) → Word → Result (Value o) LineWhy
 read ports (Number low high) word = number low high word
+read ports Chip word = chip_domain ports word
 read ports NewPort word = new_port ports word
 read ports NewName word = new_name ports word
 read ports PortNumber word = port_number ports word
@@ -174,6 +183,7 @@ read ports Flag word = flag word
 -- bad one.
 abbrev pub can_stand : Operand → Word → Bool
 can_stand (Number low high) word = true
+can_stand Chip word = true
 can_stand NewPort word = true
 can_stand NewName word = true
 can_stand PortNumber word = true

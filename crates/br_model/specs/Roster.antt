@@ -1,5 +1,5 @@
--- What a scenario has said before a line: the bridge's address, its declared ports, in the order of their lines, and the place
--- that it has reached.
+-- What a scenario has said before a line: its edition, the bridge's address, its declared ports, in the order of their lines, and
+-- the place that it has reached.
 -- Source: this profile.
 use Rattle.std.specs.Prelude.{ℕ, ◌==◌, nat_lt, nat_le, Bool, not, ◌&&◌, ◌||◌, if◌then◌else◌, List, [], ◌∷◌, length, codes}
 use Rattle.std.specs.List.{fold, list_any, list_all}
@@ -7,9 +7,11 @@ use Rattle.std.specs.Ordering.{nat_cmp}
 use Rattle.std.specs.declared.option.Option.{Option}
 use Rattle.std.specs.declared.option.Option.TheVariants.{None, Some}
 use Rattle.std.specs.Str.{bytes_eq}
+use Rattle.br_model.specs.declared.domains.Edition.{Edition}
+use Rattle.br_model.specs.declared.domains.Edition.TheVariants.{One}
 use Rattle.br_model.specs.declared.scenario.Place.{Place}
 use Rattle.br_model.specs.declared.scenario.Place.TheVariants.{Opening}
-use Rattle.br_model.specs.Domains.{Domains, host, software}
+use Rattle.br_model.specs.Domains.{Domains, host, software, chip}
 use Rattle.br_model.specs.Maps.{put}
 use Rattle.br_model.specs.Setup.{first_own}
 use Rattle.br_model.specs.Words.{Word}
@@ -23,15 +25,20 @@ pub record Roster : Type 0 where
   pub place : Place
   -- whether the command is `check`
   pub check : Bool
+  pub edition : Edition
   -- the bridge's own address
   pub own : ℕ
   pub ports : List Entry
 
 abbrev pub first_roster : Bool → Roster
-first_roster check = record { place = Opening; check = check; own = first_own; ports = [] }
+first_roster check = record { place = Opening; check = check; edition = One; own = first_own; ports = [] }
 
 abbrev pub has_number : List Entry → ℕ → Bool
 has_number ports n = list_any (λ e. e.port == n) ports
+
+-- whether there is a switch chip of this domain: the first one always is, another where a port is declared on it
+abbrev pub has_domain : List Entry → ℕ → Bool
+has_domain ports dom = dom == chip || list_any (λ e. e.dom == dom) ports
 
 abbrev pub port_named : List Entry → Word → Option ℕ
 port_named [] name = None
@@ -54,5 +61,5 @@ abbrev pub is_name : Word → Bool
 is_name word = nat_lt 0 (length word) && (nat_le (length word) longest_name && (list_all is_name_byte word && not (bytes_eq word host_name)))
 
 -- the domain of each declared port, and the software's of the host
-abbrev pub domains_of : List Entry → Domains
-domains_of ports = fold (λ domains e. put nat_cmp domains e.port e.dom) ((host, software) ∷ []) ports
+abbrev pub domains_of : Edition → List Entry → Domains
+domains_of edition ports = record { edition = edition; ports = fold (λ m e. put nat_cmp m e.port e.dom) ((host, software) ∷ []) ports }

@@ -1,4 +1,4 @@
--- What a replay writes for the bytes of a scenario: the run of the world with a chip.
+-- What a replay writes for the bytes of a scenario: the run of the world with chips.
 -- Source: this profile.
 use Rattle.std.specs.Prelude.{ℕ, List, [], ◌∷◌, ◌++◌, map, codes}
 use Rattle.br_model.specs.Plane.Naming.{named}
@@ -10,7 +10,7 @@ use Rattle.br_model.specs.Setup.{Setup}
 use Rattle.br_model.specs.Transcript.{text, line_text, bad_text}
 
 abbrev pub setup_of : Roster → Setup
-setup_of roster = record { domains = domains_of roster.ports; own = roster.own }
+setup_of roster = record { domains = domains_of roster.edition roster.ports; own = roster.own }
 
 -- the run of what a scenario has said
 abbrev pub run_of : Scenario → Stepped

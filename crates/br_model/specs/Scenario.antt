@@ -55,7 +55,7 @@ whole_says roster line = if nat_lt longest_line (length line) then Err Long else
 -- how many bytes of a section are behind a line
 abbrev pub section_length : Said → ℕ
 section_length Blank = 0
-section_length Opens = 0
+section_length (Opens edition) = 0
 section_length (Bridge mac) = 0
 section_length (Declares port name dom) = 0
 section_length (Does step) = 0
@@ -74,7 +74,7 @@ captured ports (Ok packets) = Ok (map (entered ports) packets)
 -- the steps of a line with its section
 abbrev pub steps_of : List Entry → Said → List ℕ → Result (List Step) LineWhy
 steps_of ports Blank section = Ok []
-steps_of ports Opens section = Ok []
+steps_of ports (Opens edition) section = Ok []
 steps_of ports (Bridge mac) section = Ok []
 steps_of ports (Declares port name dom) section = Ok []
 steps_of ports (Does step) section = Ok (step ∷ [])
@@ -84,7 +84,7 @@ steps_of ports Ends section = Ok []
 -- what a line declares, and the place that it leads to
 abbrev pub declared : Roster → Said → Roster
 declared roster Blank = roster
-declared roster Opens = record roster { place = Header }
+declared roster (Opens edition) = record roster { place = Header; edition = edition }
 declared roster (Bridge mac) = record roster { place = Declarations; own = mac }
 declared roster (Declares port name dom) = record roster { place = Declarations; ports = roster.ports ++ record { name = name; port = port; dom = dom } ∷ [] }
 declared roster (Does step) = record roster { place = Steps }
@@ -94,7 +94,7 @@ declared roster Ends = roster
 -- whether a line is the last one
 abbrev pub ending_of : Said → Ending
 ending_of Blank = Going
-ending_of Opens = Going
+ending_of (Opens edition) = Going
 ending_of (Bridge mac) = Going
 ending_of (Declares port name dom) = Going
 ending_of (Does step) = Going

@@ -103,9 +103,9 @@ step_words ports (Rx port bytes) = codes "rx " ++ (decimal port ++ (32 ∷ hex_o
 step_words ports (Cmd command) = codes "cmd " ++ command_text ports command
 step_words ports (Now moment) = codes "now " ++ decimal moment
 step_words ports Serve = codes "serve"
-step_words ports Turn = codes "turn 1"
-step_words ports Report = codes "report 1"
-step_words ports Sweep = codes "sweep 1"
+step_words ports (Turn dom) = codes "turn " ++ decimal dom
+step_words ports (Report dom) = codes "report " ++ decimal dom
+step_words ports (Sweep dom) = codes "sweep " ++ decimal dom
 step_words ports Publish = codes "publish"
 
 -- and with it

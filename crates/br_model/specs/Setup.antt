@@ -1,4 +1,4 @@
--- What a scenario says before its steps: the domains of its ports, and the bridge's own address.
+-- What a scenario says before its steps: its edition and the domains of its ports, and the bridge's own address.
 -- Source: this profile.
 use Rattle.std.specs.Prelude.{ℕ}
 use Rattle.br_model.specs.Domains.{Domains}

@@ -2,6 +2,7 @@
 -- Source: this profile; all were worked out by hand.
 use Rattle.std.specs.Prelude.{ℕ, List, [], ◌∷◌, ◌++◌, codes}
 use Rattle.std.specs.List.{flat_map}
+use Rattle.br_model.specs.declared.domains.Edition.TheVariants.{One}
 use Rattle.br_model.specs.declared.frame.Class.TheVariants.{Copy}
 use Rattle.br_model.specs.declared.frame.FrameFault.TheVariants.{Short}
 use Rattle.br_model.specs.declared.steps.Refusal.TheVariants.{NothingWaiting}
@@ -212,7 +213,7 @@ all_kinds =
     []
 
 abbrev pub before_all : World
-before_all = first_world (record { domains = []; own = first_own })
+before_all = first_world (record { domains = record { edition = One; ports = [] }; own = first_own })
 
 abbrev pub all_kinds_summed : List ℕ
 all_kinds_summed = lines_text (codes "demo frames 9 chip 2 soft 3 tx 4 overrun 5 changes 0 pending 0" ∷ [])

@@ -3,6 +3,7 @@
 use Rattle.std.specs.Prelude.{ℕ, List, [], ◌∷◌, ◌++◌, codes}
 use Rattle.std.specs.declared.option.Option.TheVariants.{None}
 use Rattle.std.specs.Option.{unwrap_or}
+use Rattle.br_model.specs.declared.domains.Edition.TheVariants.{One}
 use Rattle.br_model.specs.declared.change.Kind.TheVariants.{Static}
 use Rattle.br_model.specs.declared.steps.Command.TheVariants.{PortUp, FdbAdd}
 use Rattle.br_model.specs.Digits.{bytes_from_hex}
@@ -19,7 +20,7 @@ lines_of x = text x.1 ++ line_text (end_line x.0)
 
 -- three ports of software
 abbrev pub soft_ports : Setup
-soft_ports = record { domains = (0, 0) ∷ (1, 0) ∷ (2, 0) ∷ (3, 0) ∷ []; own = first_own }
+soft_ports = record { domains = record { edition = One; ports = (0, 0) ∷ (1, 0) ∷ (2, 0) ∷ (3, 0) ∷ [] }; own = first_own }
 
 -- a frame to station b
 abbrev pub a_to_b : List ℕ

@@ -10,12 +10,12 @@ use Rattle.br_model.specs.declared.steps.Command.{Command}
 use Rattle.br_model.specs.declared.steps.Command.TheVariants as commands
 use Rattle.br_model.specs.declared.steps.Step.{Step}
 use Rattle.br_model.specs.declared.steps.Step.TheVariants.{Rx, Cmd, Now, Serve, Turn, Report, Sweep, Publish}
-use Rattle.br_model.specs.Domains.{host}
+use Rattle.br_model.specs.Domains.{host, chip, last_chip}
 use Rattle.br_model.specs.FlagWords.{flags}
 use Rattle.br_model.specs.Frames.{longest_frame}
 use Rattle.br_model.specs.Numbers.{is_multicast}
 use Rattle.br_model.specs.Operands.{most_cost, most_port_priority, most_priority, most_seconds, last_moment}
-use Rattle.br_model.specs.Roster.{Entry, has_number}
+use Rattle.br_model.specs.Roster.{Entry, has_number, has_domain}
 use Rattle.br_model.specs.ScenarioText.{shown}
 
 -- steps that a line can give where these ports are declared
@@ -38,6 +38,10 @@ is_vid vid = nat_le 1 vid && nat_le vid 4094
 -- a declared port, or the host
 abbrev pub is_device : List Entry → ℕ → Bool
 is_device ports port = port == host || has_number ports port
+
+-- the domain of a switch chip that exists
+abbrev pub is_chip : List Entry → ℕ → Bool
+is_chip ports dom = nat_le chip dom && (nat_le dom last_chip && has_domain ports dom)
 
 -- the bit of a flag that has a name
 abbrev pub is_flag : ℕ → Bool
@@ -73,9 +77,9 @@ has_line ports (Rx port bytes) = has_number ports port && list_all is_byte bytes
 has_line ports (Cmd command) = command_has_line ports command
 has_line ports (Now moment) = nat_le moment last_moment
 has_line ports Serve = true
-has_line ports Turn = true
-has_line ports Report = true
-has_line ports Sweep = true
+has_line ports (Turn dom) = is_chip ports dom
+has_line ports (Report dom) = is_chip ports dom
+has_line ports (Sweep dom) = is_chip ports dom
 has_line ports Publish = true
 
 -- the step that the line gives
@@ -84,9 +88,9 @@ given (Rx port bytes) = Rx port (shown bytes)
 given (Cmd command) = Cmd command
 given (Now moment) = Now moment
 given Serve = Serve
-given Turn = Turn
-given Report = Report
-given Sweep = Sweep
+given (Turn dom) = Turn dom
+given (Report dom) = Report dom
+given (Sweep dom) = Sweep dom
 given Publish = Publish
 
 -- from one byte to the longest frame
@@ -95,9 +99,9 @@ is_whole (Rx port bytes) = nat_lt 0 (length bytes) && nat_le (length bytes) long
 is_whole (Cmd command) = true
 is_whole (Now moment) = true
 is_whole Serve = true
-is_whole Turn = true
-is_whole Report = true
-is_whole Sweep = true
+is_whole (Turn dom) = true
+is_whole (Report dom) = true
+is_whole (Sweep dom) = true
 is_whole Publish = true
 
 -- whether the ports that the step names are declared
@@ -124,7 +128,7 @@ names_declared ports (Rx port bytes) = has_number ports port
 names_declared ports (Cmd command) = command_names_declared ports command
 names_declared ports (Now moment) = true
 names_declared ports Serve = true
-names_declared ports Turn = true
-names_declared ports Report = true
-names_declared ports Sweep = true
+names_declared ports (Turn dom) = is_chip ports dom
+names_declared ports (Report dom) = is_chip ports dom
+names_declared ports (Sweep dom) = is_chip ports dom
 names_declared ports Publish = true

@@ -2,6 +2,7 @@
 ghost use Rattle.std.specs.Prelude.{◌≡◌, ◌<◌, ◌↔◌, IsSome, IfSome};
 ghost use Rattle.br_model.specs.Change.{deferred};
 
+use crate::domains::Edition;
 use crate::group::Group;
 use crate::numbers::{Mac, Port, Vid};
 use std::marker::Model;
@@ -132,8 +133,8 @@ pub enum Change {
 
 impl Change {
     /// Whether it reaches a chip through the queue, and not in the step that accepts it.
-    pub fn is_deferred(&self) -> bool
-        ensures { result ≡ deferred self.now }
+    pub fn is_deferred(&self, e: Edition) -> bool
+        ensures { result ≡ deferred e self.now }
     {
         match self {
             Change::PortUp(_)
@@ -142,12 +143,11 @@ impl Change {
             | Change::SetState(..)
             | Change::VlanAdd { .. }
             | Change::VlanDel { .. }
-            | Change::GroupJoin { .. }
-            | Change::GroupPart { .. }
             | Change::Router { .. }
             | Change::Querier { .. }
             | Change::Snoop(_)
             | Change::Stp(_) => false,
+            Change::GroupJoin { .. } | Change::GroupPart { .. } => e.defers_groups(),
             Change::AddrPut { .. } | Change::AddrDel { .. } => true,
         }
     }

@@ -1,61 +1,104 @@
-//! The domains of the declared ports.
-ghost use Rattle.std.specs.Prelude.{◌≡◌, ◌≢◌, ◌==◌, ◌<◌, ℕ, false, [], ◌∷◌, if◌then◌else◌, get_or, slice_index, None, Some};
+//! The domains of the declared ports, and the edition of the profile.
+ghost use Rattle.std.specs.Prelude.{◌≡◌, ◌≢◌, ◌==◌, ◌<◌, ◌+◌, ◌*◌, ◌/◌, ◌%◌, ℕ, false, [], ◌∷◌, if◌then◌else◌, get_or, slice_index, None, Some};
 ghost use Rattle.std.specs.Int.{bit_at};
 ghost use Rattle.std.specs.Ordering.{nat_cmp};
-ghost use Rattle.br_model.specs.Domains.{domain_of, entries_from, host};
-ghost use Rattle.br_model.specs.DomainPorts.{IsWordOf};
+ghost use Rattle.br_model.specs.declared.domains.Edition.TheVariants.{One};
+ghost use Rattle.br_model.specs.Change.{groups_deferred};
+ghost use Rattle.br_model.specs.Domains.{domain_of, entries_from, has_chip, host};
+ghost use Rattle.br_model.specs.DomainPorts.{AreWordsOf};
 ghost use Rattle.br_model.specs.Maps.{put};
 
 use crate::numbers::{Dom, Port};
 use std::marker::Model;
 
-/// The domain of each declared port, seen as the list of pairs of a port and its domain, ascending by port.
+/// Which changes reach a chip through its queue.
+#[derive(Clone, Copy, PartialEq, Eq, Debug)]
+pub enum Edition {
+    /// Those of addresses.
+    One,
+    /// Those of addresses and of the members of groups.
+    Two,
+}
+
+impl Edition {
+    /// Whether changes of the members of groups reach a chip through its queue.
+    pub fn defers_groups(self) -> bool
+        ensures { result ≡ groups_deferred self }
+    {
+        match self {
+            Edition::One => false,
+            Edition::Two => true,
+        }
+    }
+}
+
+/// The domain of each declared port, seen as the list of pairs of a port and its domain, ascending by port, and the edition.
 /// The host is always there, in the software's domain.
 #[derive(Drop)]
 pub struct Domains {
-    by_port: [Option<Dom>; 64],
-    // A word for each domain, with a bit for each of its ports.
-    words: [u64; 2],
+    edition: Edition,
+    by_port: [Option<Dom>; 255],
+    // Four words for each domain, with a bit for each of its ports.
+    words: [u64; 20],
 }
 
 impl Model for Domains {
-    ghost use Rattle.std.specs.Prelude.{◌≡◌, ℕ, ◌<◌, List, Some, None, get_or, slice_index};
-    ghost use Rattle.br_model.specs.Domains.{entries_from};
-    ghost use Rattle.br_model.specs.DomainPorts.{IsWordOf};
+    ghost use Rattle.std.specs.Prelude.{◌≡◌, ℕ, ◌<◌, ◌+◌, ◌*◌, ◌/◌, ◌%◌, ◌==◌, Some, None, get_or, slice_index};
+    ghost use Rattle.std.specs.Int.{bit_at};
+    ghost use Rattle.br_model.specs.Domains.{Domains, entries_from};
+    ghost use Rattle.br_model.specs.DomainPorts.{is_in_domain};
 
-    ghost Value = { List (ℕ × ℕ) };
+    ghost Value = { Domains };
 
-    ghost view = { λ d. entries_from 0 d.by_port };
+    ghost view = { λ d. record { edition = d.edition; ports = entries_from 0 d.by_port } };
 
-    ghost invariant = { λ d. (get_or d.by_port 0 None ≡ Some 0) × ((domain : ℕ) → domain < 2 → IsWordOf (entries_from 0 d.by_port) domain (slice_index d.words domain)) };
+    ghost invariant = { λ d. (get_or d.by_port 0 None ≡ Some 0)
+        × ((domain port : ℕ) → domain < 5 → port < 255
+        → (bit_at (slice_index d.words (4 * domain + port / 64)) (port % 64) == 1) ≡ is_in_domain (record { edition = d.edition; ports = entries_from 0 d.by_port }) domain port) };
 }
 
 impl Domains {
-    /// No port is declared but the host.
+    /// No port is declared but the host. The edition is One.
     pub fn make() -> Domains
-        ensures { result ≡ (host, 0) ∷ [] }
+        ensures { result ≡ record { edition = One; ports = (host, 0) ∷ [] } }
     {
-        let mut words = [0; 2];
+        let mut words = [0; 20];
         put_bit(&mut words, Port::HOST, Dom::SOFTWARE);
         Domains {
+            edition: Edition::One,
             by_port: host_alone(),
             words,
         }
     }
 
+    /// The same ports, in this edition.
+    pub fn with_edition(mut self, e: Edition) -> Domains
+        ensures { result ≡ record self { edition = e } }
+    {
+        self.edition = e;
+        self
+    }
+
+    pub fn edition(&self) -> Edition
+        ensures { result ≡ self.now.edition }
+    {
+        self.edition
+    }
+
     pub fn set(&mut self, p: Port, d: Dom)
         requires { p ≢ host }
-        ensures { self.new ≡ put nat_cmp self.old p d }
+        ensures { self.new ≡ record self.old { ports = put nat_cmp self.old.ports p d } }
     {
         put_bit(&mut self.words, p, d);
         self.by_port[usize::from(p.number())] = Some(d);
     }
 
-    /// The same ports in the same domains.
+    /// The same ports in the same domains, in the same edition.
     pub fn again(&self) -> Domains
         ensures { result ≡ self.now }
     {
         Domains {
+            edition: self.edition,
             by_port: copy_of(&self.by_port),
             words: self.words,
         }
@@ -69,47 +112,55 @@ impl Domains {
         self.by_port[usize::from(p.number())]
     }
 
-    /// The ports of the domain: bit n of the word stands for port n.
-    pub fn ports_of(&self, d: Dom) -> u64
-        ensures { IsWordOf self.now d result }
+    /// The ports of the domain: bit n of the k-th word stands for port 64 * k + n.
+    pub fn ports_of(&self, d: Dom) -> [u64; 4]
+        ensures { AreWordsOf self.now d result }
     {
-        self.words[usize::from(d.number())]
+        let at = 4 * usize::from(d.number());
+        [
+            self.words[at],
+            self.words[at + 1],
+            self.words[at + 2],
+            self.words[at + 3],
+        ]
     }
 }
 
-fn copy_of(places: &[Option<Dom>; 64]) -> [Option<Dom>; 64]
+fn copy_of(places: &[Option<Dom>; 255]) -> [Option<Dom>; 255]
     ensures { result ≡ places.now }
 {
-    let mut copy = [None; 64];
-    for i in 0..64 {
+    let mut copy = [None; 255];
+    for i in 0..255 {
         copy[i] = places[i];
     }
     copy
 }
 
-fn host_alone() -> [Option<Dom>; 64]
+fn host_alone() -> [Option<Dom>; 255]
     ensures domains { entries_from 0 result ≡ (host, 0) ∷ [] }
     ensures host { get_or result 0 None ≡ Some 0 }
 {
-    let mut by_port = [None; 64];
+    let mut by_port = [None; 255];
     by_port[0] = Some(Dom::SOFTWARE);
     by_port
 }
 
-/// Sets the port's bit in the domain's word, and in no other one.
-fn put_bit(words: &mut [u64; 2], p: Port, d: Dom)
-    ensures { (domain port : ℕ) → domain < 2 → port < 64
-        → (bit_at (slice_index words.new domain) port == 1) ≡ (if port == p then d == domain else bit_at (slice_index words.old domain) port == 1) }
+/// Sets the port's bit in the domain's words, and in no other ones.
+fn put_bit(words: &mut [u64; 20], p: Port, d: Dom)
+    ensures { (domain port : ℕ) → domain < 5 → port < 255
+        → (bit_at (slice_index words.new (4 * domain + port / 64)) (port % 64) == 1)
+        ≡ (if port == p then d == domain else bit_at (slice_index words.old (4 * domain + port / 64)) (port % 64) == 1) }
 {
     clear_bit(words, p);
-    words[usize::from(d.number())] |= 1 << p.number();
+    words[4 * usize::from(d.number()) + usize::from(p.number() / 64)] |= 1 << (p.number() % 64);
 }
 
-fn clear_bit(words: &mut [u64; 2], p: Port)
-    ensures { (domain port : ℕ) → domain < 2 → port < 64
-        → (bit_at (slice_index words.new domain) port == 1) ≡ (if port == p then false else bit_at (slice_index words.old domain) port == 1) }
+fn clear_bit(words: &mut [u64; 20], p: Port)
+    ensures { (domain port : ℕ) → domain < 5 → port < 255
+        → (bit_at (slice_index words.new (4 * domain + port / 64)) (port % 64) == 1)
+        ≡ (if port == p then false else bit_at (slice_index words.old (4 * domain + port / 64)) (port % 64) == 1) }
 {
-    for domain in 0..2 {
-        words[domain] &= !(1 << p.number());
+    for domain in 0..5 {
+        words[4 * domain + usize::from(p.number() / 64)] &= !(1 << (p.number() % 64));
     }
 }

@@ -12,6 +12,7 @@ ghost use Rattle.br_model.specs.WorkedChip.{unknown_unicast_split_text, unknown_
 ghost use Rattle.br_model.specs.WorkedCaptures.{capture_text, capture_told, bad_captures, bad_captures_told};
 ghost use Rattle.br_model.specs.WorkedHold.{hold_told, hold_lines};
 ghost use Rattle.br_model.specs.WorkedGroups.{address_words, address_words_read, groups_by_command_text, groups_by_command_told, bad_group_text, bad_group_told};
+ghost use Rattle.br_model.specs.WorkedDomains.{groups_deferred_text, groups_deferred_told, groups_at_once_text, groups_at_once_told, two_chips_text, two_chips_told, one_turn_less_text, one_turn_less_told, bad_domains, bad_domains_told};
 ghost use Rattle.br_model.specs.WorkedTree.{bpdu_at_a_chip_port_text, bpdu_at_a_chip_port_told, tie_and_lost_root_text, tie_and_lost_root_told};
 
 /// A line is read with its section, and what is behind them as if it stood alone.
@@ -170,4 +171,29 @@ pub fn capture()
 /// Captures that are cut short or broken; and what may come after one.
 pub fn bad_captures()
     ensures { map told bad_captures ≡ bad_captures_told }
+{}
+
+/// In edition 2 a member of a group reaches the chip by a turn of its queue, and its router port at once.
+pub fn groups_deferred()
+    ensures { told groups_deferred_text ≡ groups_deferred_told }
+{}
+
+/// In edition 1 both reach it at once.
+pub fn groups_at_once()
+    ensures { told groups_at_once_text ≡ groups_at_once_told }
+{}
+
+/// Each of two chips applies an address by a turn of its own queue.
+pub fn two_chips()
+    ensures { told two_chips_text ≡ two_chips_told }
+{}
+
+/// What one chip hasn't applied is pending, whatever another one has.
+pub fn one_turn_less()
+    ensures { told one_turn_less_text ≡ one_turn_less_told }
+{}
+
+/// Ports above 254, domains above 4 and 0, and chips that aren't there are bad.
+pub fn bad_domains()
+    ensures { map told bad_domains ≡ bad_domains_told }
 {}

@@ -5,7 +5,7 @@ ghost use Rattle.br_model.specs.Targets.{is_for_the_host};
 
 use std::marker::Model;
 
-/// A port of the bridge, from 0 to 63. Port 0 is the host.
+/// A port of the bridge, from 0 to 254. Port 0 is the host.
 #[derive(Clone, Copy, PartialEq, Eq, PartialOrd, Ord, Debug)]
 pub struct Port {
     number: u8,
@@ -18,7 +18,7 @@ impl Model for Port {
 
     ghost view = { λ p. p.number };
 
-    ghost invariant = { λ p. p.number < 64 };
+    ghost invariant = { λ p. p.number < 255 };
 
     ghost inverse = { λ n. record { number = n } };
 }
@@ -27,11 +27,11 @@ impl Port {
     pub const HOST: Port = Port { number: 0 };
 
     /// How many ports there can be.
-    pub const COUNT: u8 = 64;
+    pub const COUNT: u8 = 255;
 
-    /// `None` exactly above 63.
+    /// `None` exactly above 254.
     pub fn new(number: u8) -> Option<Port>
-        ensures found { IsSome result ↔ (number < 64) }
+        ensures found { IsSome result ↔ (number < 255) }
         ensures value { IfSome result (λ p. p ≡ number) }
     {
         if number < Port::COUNT {
@@ -43,7 +43,7 @@ impl Port {
 
     pub fn number(self) -> u8
         ensures value { result ≡ self }
-        ensures below { self < 64 }
+        ensures below { self < 255 }
     {
         self.number
     }
@@ -55,7 +55,7 @@ impl Port {
     }
 }
 
-/// The domain of a port: 0 is software, 1 the chip.
+/// The domain of a port: 0 is software, 1 to 4 are chips.
 #[derive(Clone, Copy, PartialEq, Eq, PartialOrd, Ord, Debug)]
 pub struct Dom {
     number: u8,
@@ -68,7 +68,7 @@ impl Model for Dom {
 
     ghost view = { λ d. d.number };
 
-    ghost invariant = { λ d. d.number ≤ 1 };
+    ghost invariant = { λ d. d.number ≤ 4 };
 
     ghost inverse = { λ n. record { number = n } };
 }
@@ -76,14 +76,18 @@ impl Model for Dom {
 impl Dom {
     pub const SOFTWARE: Dom = Dom { number: 0 };
 
+    /// The first chip, which always exists.
     pub const CHIP: Dom = Dom { number: 1 };
 
-    /// `None` exactly above 1.
+    /// How many domains there can be.
+    pub const COUNT: u8 = 5;
+
+    /// `None` exactly above 4.
     pub fn new(number: u8) -> Option<Dom>
-        ensures found { IsSome result ↔ (number ≤ 1) }
+        ensures found { IsSome result ↔ (number ≤ 4) }
         ensures value { IfSome result (λ d. d ≡ number) }
     {
-        if number <= 1 {
+        if number < Dom::COUNT {
             Some(Dom { number })
         } else {
             None
@@ -92,7 +96,7 @@ impl Dom {
 
     pub fn number(self) -> u8
         ensures value { result ≡ self }
-        ensures below { self ≤ 1 }
+        ensures below { self ≤ 4 }
     {
         self.number
     }

@@ -1,7 +1,8 @@
-//! Laws about the world of a bridge with a chip. A law is a function that does nothing: its contract says it.
-ghost use Rattle.std.specs.Prelude.{◌≡◌, ◌≤◌, ℕ, true, List, ◌∷◌, ◌++◌, take, is_some, Ok};
+//! Laws about the world of a bridge with chips. A law is a function that does nothing: its contract says it.
+ghost use Rattle.std.specs.Prelude.{◌≡◌, ◌≤◌, ℕ, true, List, ◌∷◌, ◌++◌, take, is_some, Ok, Some};
 ghost use Rattle.br_model.specs.declared.frame.Head.{Head};
-ghost use Rattle.br_model.specs.Domains.{Domains, domain_of};
+ghost use Rattle.br_model.specs.Chip.{Chip};
+ghost use Rattle.br_model.specs.Domains.{Domains, domain_of, has_chip};
 ghost use Rattle.br_model.specs.Frames.{frame};
 ghost use Rattle.br_model.specs.Leave.{leave};
 ghost use Rattle.br_model.specs.Cut.{deferred_of, synchronous_of};
@@ -11,7 +12,7 @@ ghost use Rattle.br_model.specs.Plane.Runs.{run};
 ghost use Rattle.br_model.specs.Plane.Invariants.{IsWorld};
 ghost use Rattle.br_model.specs.Plane.OnceOnly.{LinesStand};
 ghost use Rattle.br_model.specs.Plane.Steps.{Step, Rx, world_step};
-ghost use Rattle.br_model.specs.Plane.World.{World, first_world, table_of_chip};
+ghost use Rattle.br_model.specs.Plane.World.{World, first_world, chip_at, table_of_chip};
 ghost use Rattle.br_model.specs.Setup.{Setup};
 ghost use Rattle.br_model.specs.Plane.Sending.{times, sent_of, in_port_order, both_shares};
 ghost use Rattle.br_model.specs.Table.{Table, table};
@@ -35,12 +36,20 @@ pub fn kept()
     ensures run { (setup : Setup) (steps : List Step) → IsWorld (run setup steps).0 }
 {}
 
-/// The chip decides by the table of what it has applied, which holds each synchronous change and the first deferred ones once,
+/// Each chip decides by the table of what it has applied, which holds each synchronous change and the first deferred ones once,
 /// each kind in order.
 pub fn applied()
-    ensures table { (setup : Setup) (steps : List Step) → table (applied setup steps) ≡ table_of_chip (run setup steps).0 }
-    ensures synchronous { (setup : Setup) (steps : List Step) → synchronous_of (applied setup steps) ≡ synchronous_of (run setup steps).0.history }
-    ensures deferred { (setup : Setup) (steps : List Step) → deferred_of (applied setup steps) ≡ take (run setup steps).0.chip.count (deferred_of (run setup steps).0.history) }
+    ensures table { (setup : Setup) (steps : List Step) (dom : ℕ) (c : Chip) → chip_at (run setup steps).0 dom ≡ Some c
+        → table (applied setup dom steps) ≡ table_of_chip (run setup steps).0 c }
+    ensures synchronous { (setup : Setup) (steps : List Step) (dom : ℕ) (c : Chip) → chip_at (run setup steps).0 dom ≡ Some c
+        → synchronous_of setup.domains.edition (applied setup dom steps) ≡ synchronous_of setup.domains.edition (run setup steps).0.history }
+    ensures deferred { (setup : Setup) (steps : List Step) (dom : ℕ) (c : Chip) → chip_at (run setup steps).0 dom ≡ Some c
+        → deferred_of setup.domains.edition (applied setup dom steps) ≡ take c.count (deferred_of setup.domains.edition (run setup steps).0.history) }
+{}
+
+/// There is a chip for just each domain that exists.
+pub fn chips_stay()
+    ensures { (setup : Setup) (steps : List Step) (dom : ℕ) → is_some (chip_at (run setup steps).0 dom) ≡ has_chip setup.domains dom }
 {}
 
 /// No frame leaves a port twice.
@@ -53,11 +62,11 @@ pub fn lines_stand()
     ensures { (setup : Setup) (steps : List Step) → LinesStand (run setup steps).0 (run setup steps).1 }
 {}
 
-/// A frame that enters a settled bridge by a port of the chip, and is sent before another change is accepted, leaves as by one
+/// A frame that enters a settled bridge by a port of a chip, and is sent before another change is accepted, leaves as by one
 /// bridge.
 pub fn agreement()
     ensures { (setup : Setup) (before after : List Step) (port : ℕ) (bytes : List ℕ) (head : Head)
-        → frame bytes ≡ Ok head → IsSettled (run setup before).0 → IsUndisturbed setup before port bytes after
+        → frame bytes ≡ Ok head → IsSettled (run setup before).0 port → IsUndisturbed setup before port bytes after
         → in_port_order (sent_of (run setup before).0.next (run setup (before ++ Rx port bytes ∷ after)).1)
         ≡ leave (table (run setup before).0.history) port bytes head }
 {}

@@ -1,4 +1,5 @@
 //! What the lines of a scenario are.
+use crate::domains::Edition;
 use crate::name::Name;
 use crate::numbers::{Dom, Mac, Port};
 use crate::steps::Step;
@@ -49,7 +50,7 @@ pub enum Said {
     /// Nothing: the line has no words, or is a comment.
     Blank,
     /// The first line.
-    Opens,
+    Opens(Edition),
     /// The bridge's own address.
     Bridge(Mac),
     /// The declaration of a port.
@@ -67,7 +68,7 @@ pub enum Item {
     /// Without words, or a comment.
     Blank,
     /// The first line.
-    Scenario,
+    Scenario(Edition),
     /// The bridge's own address.
     Bridge(Mac),
     /// The declaration of this port.

@@ -3,7 +3,7 @@ use crate::bytes::Bytes;
 use crate::change::{Flags, Kind};
 use crate::frame::Head;
 use crate::group::Ip;
-use crate::numbers::{Mac, Port, Vid};
+use crate::numbers::{Dom, Mac, Port, Vid};
 use lists::Items;
 
 /// A command, as a line of a scenario gives it.
@@ -103,12 +103,12 @@ pub enum Step {
     Now(u64),
     /// The oldest frame that waits is decided and sent.
     Serve,
-    /// The chip applies the next deferred change.
-    Turn,
-    /// The bridge is told the chip's oldest report.
-    Report,
-    /// The bridge forgets the stations that the chip no longer sees.
-    Sweep,
+    /// The chip of the domain applies the next deferred change.
+    Turn(Dom),
+    /// The bridge is told the oldest report of that chip.
+    Report(Dom),
+    /// The bridge forgets the stations that that chip no longer sees.
+    Sweep(Dom),
     /// The tables that frames are decided by become those of all accepted changes.
     Publish,
 }

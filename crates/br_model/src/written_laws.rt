@@ -1,14 +1,16 @@
 //! What is written is read back. A law is a function that does nothing: its contract says it.
 ghost use Rattle.std.specs.Prelude.{◌≡◌, ◌==◌, ◌||◌, ℕ, ◌<◌, ◌^◌, decimal, List, true, false, nat_lt};
 ghost use Rattle.std.specs.List.{list_all};
+ghost use Rattle.br_model.specs.declared.domains.Edition.{Edition};
 ghost use Rattle.br_model.specs.declared.group.Ip.{Ip};
 ghost use Rattle.br_model.specs.declared.scenario.Said.TheVariants.{Does};
 ghost use Rattle.br_model.specs.declared.steps.Step.{Step};
 ghost use Rattle.br_model.specs.CommandForms.{step};
 ghost use Rattle.br_model.specs.Frames.{frame};
 ghost use Rattle.br_model.specs.LineForms.{line_says};
-ghost use Rattle.br_model.specs.Roster.{Roster};
-ghost use Rattle.br_model.specs.WrittenSteps.{has_line, given, is_ip, is_whole};
+ghost use Rattle.br_model.specs.Domains.{has_chip};
+ghost use Rattle.br_model.specs.Roster.{Entry, Roster, domains_of};
+ghost use Rattle.br_model.specs.WrittenSteps.{has_line, given, is_chip, is_ip, is_whole};
 ghost use Rattle.br_model.specs.Numbers.{is_multicast};
 ghost use Rattle.br_model.specs.Operands.{mac, group};
 ghost use Rattle.br_model.specs.ScenarioText.{mac_text, ip_text, shown, step_words};
@@ -46,4 +48,9 @@ pub fn step_is_read()
 /// What is kept of a frame is refused as the frame is.
 pub fn frame_is_shown()
     ensures { (bytes : List ℕ) → frame (shown bytes) ≡ frame bytes }
+{}
+
+/// The chips that a line may name are those that exist.
+pub fn chips_are_declared()
+    ensures { (edition : Edition) (ports : List Entry) (dom : ℕ) → are_declared ports ≡ true → has_chip (domains_of edition ports) dom ≡ is_chip ports dom }
 {}

@@ -10,8 +10,9 @@ use Rattle.std.proofs.lemmas.Bool.{and_parts, and_from, or_parts, or_from, not-t
 use Rattle.std.proofs.lemmas.Grind.{fold-append}
 use Rattle.std.proofs.lemmas.List.Folds.{list_any-append}
 use Rattle.std.proofs.lemmas.Slice.Eq.{bytes_eq-Decides}
+use Rattle.br_model.specs.declared.domains.Edition.{Edition}
 use Rattle.br_model.specs.Domains.{Domains, domain_of, host, software}
-use Rattle.br_model.specs.Maps.{put}
+use Rattle.br_model.specs.Maps.{get, put}
 use Rattle.br_model.specs.Roster.{Entry, has_number, port_named, domains_of, is_name}
 use Rattle.br_model.specs.Words.{Word}
 use Rattle.br_model.specs.Declarations.{fits_beside, are_declared}
@@ -20,7 +21,7 @@ use Rattle.br_model.specs.Declarations.{fits_beside, are_declared}
 
 pub record Fits (ports : List Entry) (e : Entry) : Type 0 where
   pub low : nat_le 1 e.port ≡ true
-  pub high : nat_le e.port 63 ≡ true
+  pub high : nat_le e.port 254 ≡ true
   pub named : is_name e.name ≡ true
   pub free : has_number ports e.port ≡ false
   pub new : is_some (port_named ports e.name) ≡ false
@@ -90,8 +91,8 @@ grows (x ∷ ports) e h fits =
 
 -- domains
 
-abbrev adds : Domains → Entry → Domains
-adds domains e = put nat_cmp domains e.port e.dom
+abbrev adds : List (ℕ × ℕ) → Entry → List (ℕ × ℕ)
+adds m e = put nat_cmp m e.port e.dom
 
 joined : (b : Bool) (d : ℕ) (o : Option ℕ) (h : Bool) → (is_some (cond b (Some d) o) || h) ≡ (is_some o || (b || h))
 joined true d None h = refl
@@ -105,20 +106,20 @@ tied n p = unsigned_tied n p ∙ by (p == n) refl
     by true h = eq-eqb n p (sym (eqb-true p n h))
     by false h = apart p n h
 
-gathers : (domains : Domains) (ports : List Entry) (n : ℕ) → is_some (domain_of (fold adds domains ports) n) ≡ (is_some (domain_of domains n) || has_number ports n)
-gathers domains [] n = by (is_some (domain_of domains n))
+gathers : (m : List (ℕ × ℕ)) (ports : List Entry) (n : ℕ) → is_some (get nat_cmp (fold adds m ports) n) ≡ (is_some (get nat_cmp m n) || has_number ports n)
+gathers m [] n = by (is_some (get nat_cmp m n))
   where
     by : (b : Bool) → b ≡ (b || false)
     by true = refl
     by false = refl
-gathers domains (e ∷ ports) n =
-    gathers (adds domains e) ports n
-    ∙ ap (λ o. is_some o || has_number ports n) (find-put nat_cmp nat_cmp_total n e.port e.dom domains ∙ ap (λ b. cond b (Some e.dom) (domain_of domains n)) (tied n e.port))
-    ∙ joined (e.port == n) e.dom (domain_of domains n) (has_number ports n)
+gathers m (e ∷ ports) n =
+    gathers (adds m e) ports n
+    ∙ ap (λ o. is_some o || has_number ports n) (find-put nat_cmp nat_cmp_total n e.port e.dom m ∙ ap (λ b. cond b (Some e.dom) (get nat_cmp m n)) (tied n e.port))
+    ∙ joined (e.port == n) e.dom (get nat_cmp m n) (has_number ports n)
 
 -- a port has a domain where it is declared
-pub in_domains : (ports : List Entry) (n : ℕ) → (n == host) ≡ false → is_some (domain_of (domains_of ports) n) ≡ has_number ports n
-in_domains ports n h =
+pub in_domains : (edition : Edition) (ports : List Entry) (n : ℕ) → (n == host) ≡ false → is_some (domain_of (domains_of edition ports) n) ≡ has_number ports n
+in_domains edition ports n h =
     gathers ((host, software) ∷ []) ports n
     ∙ ap (λ b. is_some (cond b (Some software) None) || has_number ports n) (unsigned_tied n host ∙ h)
 
@@ -133,8 +134,9 @@ host_apart (x ∷ ports) n h e =
     above p m low none same = let l : 1 ≤ p = leb-true 1 p low in absurd (omega arith)
 
 -- the domains of one port more
-pub domains-append : (ports : List Entry) (e : Entry) → domains_of (ports ++ e ∷ []) ≡ put nat_cmp (domains_of ports) e.port e.dom
-domains-append ports e = fold-append adds ((host, software) ∷ []) ports (e ∷ [])
+pub domains-append : (edition : Edition) (ports : List Entry) (e : Entry)
+    → domains_of edition (ports ++ e ∷ []) ≡ record (domains_of edition ports) { ports = put nat_cmp (domains_of edition ports).ports e.port e.dom }
+domains-append edition ports e = ap (λ (m : List (ℕ × ℕ)). record { edition = edition; ports = m }) (fold-append adds ((host, software) ∷ []) ports (e ∷ []))
 
 -- a declared port and its domain
 
@@ -153,15 +155,15 @@ not_host {place} (x ∷ ports) zero h e same =
     absurd (omega arith)
 not_host (x ∷ ports) (suc i) h e same = not_host ports i (and_parts (fits_beside ports x) (are_declared ports) h).1 e same
 
-taken_from : {place : ℕ × ℕ} (domains : Domains) (ports : List Entry) (i : ℕ) → Some place ≡ in_domain (slice_get ports i)
+taken_from : {place : ℕ × ℕ} (domains : List (ℕ × ℕ)) (ports : List Entry) (i : ℕ) → Some place ≡ in_domain (slice_get ports i)
     → fold adds domains (take (suc i) ports) ≡ put nat_cmp (fold adds domains (take i ports)) place.0 place.1
 taken_from domains [] i e = absurd (cc)
 taken_from domains (x ∷ ports) zero e = ap (λ (q : ℕ × ℕ). put nat_cmp domains q.0 q.1) (sym (first_is x e))
 taken_from domains (x ∷ ports) (suc i) e = taken_from (adds domains x) ports i e
 
 -- the domains of the first ports, and then of one more
-pub taken : {place : ℕ × ℕ} (domains new : Domains) (ports : List Entry) (i : ℕ) → domains ≡ domains_of (take i ports) → Some place ≡ in_domain (slice_get ports i)
-    → new ≡ put nat_cmp domains place.0 place.1 → new ≡ domains_of (take (i + 1) ports)
-taken {place} domains new ports i before e after =
-    after ∙ ap (λ (m : Domains). put nat_cmp m place.0 place.1) before
-    ∙ sym (ap (λ n. domains_of (take n ports)) (add-one i) ∙ taken_from ((host, software) ∷ []) ports i e)
+pub taken : {place : ℕ × ℕ} (edition : Edition) (domains new : Domains) (ports : List Entry) (i : ℕ) → domains ≡ domains_of edition (take i ports) → Some place ≡ in_domain (slice_get ports i)
+    → new ≡ record domains { ports = put nat_cmp domains.ports place.0 place.1 } → new ≡ domains_of edition (take (i + 1) ports)
+taken {place} edition domains new ports i before e after =
+    after ∙ ap (λ (m : Domains). record m { ports = put nat_cmp m.ports place.0 place.1 }) before
+    ∙ sym (ap (λ n. domains_of edition (take n ports)) (add-one i) ∙ ap (λ (m : List (ℕ × ℕ)). record { edition = edition; ports = m }) (taken_from ((host, software) ∷ []) ports i e))

@@ -1,10 +1,11 @@
 -- Declared ports, place by place.
-use Rattle.std.proofs.Common.{◌≡◌, ℕ, zero, suc, ◌+◌, ◌<◌, true, false, ◌||◌, cond, List, [], ◌∷◌, length, drop, slice_get, Some, refl, ap, sym, ◌∙◌, add-one, arith, is_some}
+use Rattle.std.proofs.Common.{◌≡◌, ℕ, zero, suc, ◌+◌, ◌<◌, ◌≤◌, ◌==◌, true, false, ◌||◌, cond, List, [], ◌∷◌, length, drop, slice_get, Some, refl, ap, sym, ◌∙◌, add-one, arith, is_some}
+use Rattle.std.specs.List.{list_any}
 use Rattle.std.specs.Option.{option_map}
 use Rattle.br_model.specs.Roster.{Entry, has_number}
 use Rattle.br_model.specs.ScenarioText.{name_of}
 use Rattle.br_model.specs.Words.{Word}
-use Rattle.bridge_command.specs.Seen.{is_port_at}
+use Rattle.bridge_command.specs.Seen.{is_port_at, is_domain_at}
 
 -- the port stands there
 
@@ -34,3 +35,24 @@ pub further : (ports : List Entry) (i n : ℕ) → i < length ports → is_port_
 further ports i n h e =
     let s = step ports i n h e in
     (ap (λ j. has_number (drop j ports) n) (add-one i) ∙ s.0, ap (λ j. name_of (drop j ports) n) (add-one i) ∙ s.1)
+
+-- ports of a domain
+
+pub domain_here : (ports : List Entry) (i dom : ℕ) → is_domain_at ports i dom ≡ true → list_any (λ (e : Entry). e.dom == dom) (drop i ports) ≡ true
+domain_here [] i dom h = absurd (cc)
+domain_here (e ∷ ports) zero dom h = ap (λ b. b || list_any (λ (x : Entry). x.dom == dom) ports) h
+domain_here (e ∷ ports) (suc i) dom h = domain_here ports i dom h
+
+domain_step : (ports : List Entry) (i dom : ℕ) → i < length ports → is_domain_at ports i dom ≡ false → list_any (λ (e : Entry). e.dom == dom) (drop (suc i) ports) ≡ list_any (λ (e : Entry). e.dom == dom) (drop i ports)
+domain_step [] i dom h e = absurd (omega arith)
+domain_step (x ∷ ports) zero dom h e = sym (ap (λ b. b || list_any (λ (y : Entry). y.dom == dom) ports) e)
+domain_step (x ∷ ports) (suc i) dom h e = domain_step ports i dom (omega arith) e
+
+pub domain_further : (ports : List Entry) (i dom : ℕ) → i < length ports → is_domain_at ports i dom ≡ false → list_any (λ (e : Entry). e.dom == dom) (drop (i + 1) ports) ≡ list_any (λ (e : Entry). e.dom == dom) (drop i ports)
+domain_further ports i dom h e = ap (λ j. list_any (λ (x : Entry). x.dom == dom) (drop j ports)) (add-one i) ∙ domain_step ports i dom h e
+
+pub no_domain : (ports : List Entry) (i dom : ℕ) → length ports ≤ i → list_any (λ (e : Entry). e.dom == dom) (drop i ports) ≡ false
+no_domain [] zero dom h = refl
+no_domain [] (suc i) dom h = refl
+no_domain (x ∷ ports) zero dom h = absurd (omega arith)
+no_domain (x ∷ ports) (suc i) dom h = no_domain ports i dom (omega arith)

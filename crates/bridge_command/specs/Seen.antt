@@ -47,6 +47,9 @@ OrNoMemory result answer = (result ≡ Err why.NoMemory) ⊎ (result ≡ answer)
 abbrev pub is_port_at : List Entry → ℕ → ℕ → Bool
 is_port_at ports i n = option_map_or (λ e. e.port == n) (slice_get ports i) false
 
+abbrev pub is_domain_at : List Entry → ℕ → ℕ → Bool
+is_domain_at ports i dom = option_map_or (λ e. e.dom == dom) (slice_get ports i) false
+
 -- what a form says where it stands in its place
 abbrev pub placed : {A : Type 0} → Roster → Result A LineWhy → Result A LineWhy
 placed r said = if step r.place then said else Err why.Place

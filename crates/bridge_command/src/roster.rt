@@ -1,18 +1,19 @@
-//! The bridge's own address, the declared ports, and the place that a scenario has reached.
+//! The edition, the bridge's own address, the declared ports, and the place that a scenario has reached.
 ghost use Rattle.std.specs.Prelude.{◌≡◌, ◌≢◌, ◌≤◌, ◌==◌, length, OnOk, OnErr, IfOk, IfSome, slice_get, true, false, not, ◌&&◌, Some, Ok};
+ghost use Rattle.std.specs.List.{list_any};
 ghost use Rattle.std.specs.Option.{option_map, is_some};
-ghost use Rattle.br_model.specs.declared.scenario.Said.TheVariants.{Bridge, Declares};
+ghost use Rattle.br_model.specs.declared.scenario.Said.TheVariants.{Opens, Bridge, Declares};
 ghost use Rattle.br_model.specs.Domains.{host};
-ghost use Rattle.br_model.specs.Operands.{port_name, device as device_of, new_port as new_port_of, new_name as new_name_of, port_number as port_number_of};
-ghost use Rattle.br_model.specs.Roster.{first_roster, domains_of, has_number, port_named, is_name as is_a_name};
+ghost use Rattle.br_model.specs.Operands.{number as number_of, chip_domain, port_name, device as device_of, new_port as new_port_of, new_name as new_name_of, port_number as port_number_of};
+ghost use Rattle.br_model.specs.Roster.{first_roster, domains_of, has_domain, has_number, port_named, is_name as is_a_name};
 ghost use Rattle.br_model.specs.Scenario.{declared};
 ghost use Rattle.br_model.specs.ScenarioText.{name_of};
 ghost use Rattle.br_model.specs.Declarations.{fits_beside, are_declared};
-ghost use Rattle.bridge_command.specs.Seen.{in_place, stands_at, is_port_at, OrNoMemory};
+ghost use Rattle.bridge_command.specs.Seen.{in_place, stands_at, is_port_at, is_domain_at, OrNoMemory};
 
 use crate::operands::{is_decimal, is_name, number, number_up_to};
 use br_model::NoMemory;
-use br_model::domains::Domains;
+use br_model::domains::{Domains, Edition};
 use br_model::name::Name;
 use br_model::numbers::{Dom, Mac, Port};
 use br_model::scenario::{LineWhy, Place};
@@ -21,14 +22,14 @@ use std::alloc::Global;
 use std::marker::Model;
 
 /// The place that a scenario has reached, whether its command is `check`, the bridge's own address, and the declared ports, seen
-/// as their list in the order of their lines. Each has a number from 1 to 63 and a name of its own.
+/// as their list in the order of their lines. Each has a number from 1 to 254 and a name of its own.
 #[derive(Drop)]
 pub struct Roster {
     place: Place,
     check: bool,
     own: Mac,
     ports: IndexMap<String, (Port, Dom)>,
-    /// The domains of the same ports.
+    /// The domains of the same ports, and the edition.
     domains: Domains,
 }
 
@@ -40,9 +41,9 @@ impl Model for Roster {
 
     ghost Value = { Ports };
 
-    ghost view = { λ r. record { place = r.place; check = r.check; own = r.own; ports = map entry r.ports.entries } };
+    ghost view = { λ r. record { place = r.place; check = r.check; edition = r.domains.edition; own = r.own; ports = map entry r.ports.entries } };
 
-    ghost invariant = { λ r. (are_declared (map entry r.ports.entries) ≡ true) × (r.domains ≡ domains_of (map entry r.ports.entries)) };
+    ghost invariant = { λ r. (are_declared (map entry r.ports.entries) ≡ true) × (r.domains ≡ domains_of r.domains.edition (map entry r.ports.entries)) };
 }
 
 impl Roster {
@@ -72,6 +73,12 @@ impl Roster {
         self.check
     }
 
+    pub fn edition(&self) -> Edition
+        ensures { result ≡ self.now.edition }
+    {
+        self.domains.edition()
+    }
+
     /// The bridge's own address.
     pub fn own(&self) -> Mac
         ensures { result ≡ self.now.own }
@@ -79,10 +86,10 @@ impl Roster {
         self.own
     }
 
-    /// How many ports are declared: 63 at most.
+    /// How many ports are declared: 254 at most.
     pub fn len(&self) -> usize
         ensures value { result ≡ length self.now.ports }
-        ensures most { result ≤ 63 }
+        ensures most { result ≤ 254 }
         ensures declared { are_declared self.now.ports ≡ true }
     {
         self.ports.len()
@@ -105,12 +112,12 @@ impl Roster {
         }
     }
 
-    /// The domain of each declared port, and of the host.
+    /// The domain of each declared port, and of the host, in the edition.
     pub fn domains(&self) -> Domains
-        ensures value { result ≡ domains_of self.now.ports }
+        ensures value { result ≡ domains_of self.now.edition self.now.ports }
         ensures declared { are_declared self.now.ports ≡ true }
     {
-        let mut domains = Domains::make();
+        let mut domains = Domains::make().with_edition(self.edition());
         for i in 0..self.len() {
             let Some((port, dom)) = self.entry(i) else {
                 continue;
@@ -214,7 +221,7 @@ impl Roster {
         if !is_decimal(word) {
             return Err(LineWhy::Number);
         }
-        let Some(number) = number_up_to(word, 63) else {
+        let Some(number) = number_up_to(word, 254) else {
             return Err(LineWhy::Port);
         };
         match Port::new(number as u8) {
@@ -229,10 +236,62 @@ impl Roster {
         ensures value { result ≡ new_port_of self.now.ports word.now }
         ensures fits { IfOk result (λ p. (p ≢ host) × (has_number self.now.ports p ≡ false)) }
     {
-        let number = number(word, 1, 63)?;
+        let number = number(word, 1, 254)?;
         match Port::new(number as u8) {
             Some(port) if !self.is_declared(port) => Ok(port),
             _ => Err(LineWhy::Port),
+        }
+    }
+
+    /// The domain of a switch chip.
+    pub fn new_chip(&self, word: &str) -> Result<Dom, LineWhy>
+        ensures { result ≡ number_of 1 4 word.now }
+    {
+        let number = number(word, 1, 4)?;
+        match Dom::new(number as u8) {
+            Some(dom) => Ok(dom),
+            None => unreachable!(),
+        }
+    }
+
+    /// The domain of a switch chip that exists.
+    #[tactic(auto, unfolding(br_model::specs::Operands::chip_domain))]
+    pub fn chip(&self, word: &str) -> Result<Dom, LineWhy>
+        ensures { result ≡ chip_domain self.now.ports word.now }
+    {
+        let dom = self.new_chip(word)?;
+        if self.has_domain(dom) {
+            Ok(dom)
+        } else {
+            Err(LineWhy::Port)
+        }
+    }
+
+    fn has_domain(&self, dom: Dom) -> bool
+        ensures { result ≡ has_domain self.now.ports dom }
+    {
+        dom == Dom::CHIP || self.has_port_in(dom)
+    }
+
+    /// Whether a port of the domain is declared.
+    fn has_port_in(&self, dom: Dom) -> bool
+        ensures { result ≡ list_any (λ e. e.dom == dom) self.now.ports }
+    {
+        for i in 0..self.len() {
+            if self.is_in(i, dom) {
+                return true;
+            }
+        }
+        false
+    }
+
+    /// Whether the port that was declared in that place is in the domain.
+    fn is_in(&self, i: usize, dom: Dom) -> bool
+        ensures { result ≡ is_domain_at self.now.ports i dom }
+    {
+        match self.ports.get_index(i) {
+            Some((_, (_, d))) => *d == dom,
+            None => false,
         }
     }
 
@@ -266,6 +325,14 @@ impl Roster {
         ensures { self.new ≡ record self.old { place = place } }
     {
         self.place = place;
+    }
+
+    /// The scenario begins, in this edition.
+    pub fn open(&mut self, e: Edition)
+        ensures { self.new ≡ declared self.old (Opens e) }
+    {
+        self.domains = self.domains.again().with_edition(e);
+        self.place = Place::Header;
     }
 
     /// The bridge has this address, and the scenario is among its declarations.

@@ -22,18 +22,18 @@ use Rattle.br_model.specs.Words.{Word}
 
 abbrev pub item_of : Said → Item
 item_of Blank = items.Blank
-item_of Opens = items.Scenario
+item_of (Opens edition) = items.Scenario edition
 item_of (Bridge mac) = items.Bridge mac
 item_of (Declares port name dom) = items.Declared port
 item_of (Does step) = items.Step step
 item_of (Captures n) = items.Capture n
 item_of Ends = items.End
 
--- what the declaration of a port says, by its number, its name and its domain
-abbrev pub declares : Roster → Word → Word → ℕ → Result Said LineWhy
+-- what the declaration of a port says, by its number, its name and its domain, which may be none
+abbrev pub declares : Roster → Word → Word → Result ℕ LineWhy → Result Said LineWhy
 declares r number name dom =
     if declaration r.place
-    then after (new_port r.ports number) (λ port. after (new_name r.ports name) (λ given. Ok (Declares port given dom)))
+    then after (new_port r.ports number) (λ port. after (new_name r.ports name) (λ given. after dom (λ d. Ok (Declares port given d))))
     else Err why.Place
 
 -- A line was read: what it says gave the item, and took the roster on.
@@ -46,7 +46,7 @@ pub record Reads (before after : Roster) (line : List ℕ) (item : Item) : Type 
 -- whether the first line, the bridge's address, and the declaration of a port may stand there: another item, whatever the place
 abbrev pub comes_in_place : Place → Item → Bool
 comes_in_place place items.Blank = true
-comes_in_place place items.Scenario = opening place
+comes_in_place place (items.Scenario edition) = opening place
 comes_in_place place (items.Bridge mac) = header place
 comes_in_place place (items.Declared port) = declaration place
 comes_in_place place (items.Step step) = true
@@ -59,15 +59,15 @@ in_time (Rx port bytes) = true
 in_time (Cmd command) = true
 in_time (Now moment) = nat_le moment last_moment
 in_time Serve = true
-in_time Turn = true
-in_time Report = true
-in_time Sweep = true
+in_time (Turn dom) = true
+in_time (Report dom) = true
+in_time (Sweep dom) = true
 in_time Publish = true
 
 -- the same, and whether a section is as long as a line can say
 abbrev pub is_in_range : Item → Bool
 is_in_range items.Blank = true
-is_in_range items.Scenario = true
+is_in_range (items.Scenario edition) = true
 is_in_range (items.Bridge mac) = true
 is_in_range (items.Declared port) = true
 is_in_range (items.Step step) = in_time step
@@ -77,7 +77,7 @@ is_in_range items.End = true
 -- the same of what a line says; and the port fits beside the declared ones
 abbrev pub fits_roster : Roster → Said → Bool
 fits_roster roster Blank = true
-fits_roster roster Opens = opening roster.place
+fits_roster roster (Opens edition) = opening roster.place
 fits_roster roster (Bridge mac) = header roster.place
 fits_roster roster (Declares port name dom) = declaration roster.place && fits_beside roster.ports (record { name = name; port = port; dom = dom })
 fits_roster roster (Does step) = in_time step

@@ -7,20 +7,28 @@ ghost use Rattle.bridge_command.specs.Seen.{word, OrNoMemory};
 ghost use Rattle.scenario_text.specs.Items.{declares, fits_roster};
 
 use crate::digits::hex_bytes;
+use br_model::domains::Edition;
 use br_model::numbers::Dom;
 use br_model::scenario::{LineWhy, Place, Said};
 use br_model::steps::Step;
 use bridge_command::{Roster, mac, milliseconds, read_command, section_length};
 use std::alloc::Global;
 
-/// The declaration of a port of this domain.
-fn declared(alloc: Global, number: &str, name: &str, dom: Dom, r: &Roster) -> Result<Said, LineWhy>
+/// The declaration of a port of this domain, where it is one.
+fn declared(
+    alloc: Global,
+    number: &str,
+    name: &str,
+    dom: Result<Dom, LineWhy>,
+    r: &Roster,
+) -> Result<Said, LineWhy>
     ensures value { OrNoMemory result (declares r.now number.now name.now dom) }
     ensures fits { IfOk result (λ said. fits_roster r.now said ≡ true) }
 {
     r.stands(Place::Declarations)?;
     let port = r.new_port(number)?;
     let name = r.new_name(alloc, name)?;
+    let dom = dom?;
     Ok(Said::Declares { port, name, dom })
 }
 
@@ -33,14 +41,18 @@ fn declaration_line(alloc: Global, words: &[&str], r: &Roster) -> Result<Said, L
     match *words {
         ["scenario", "1"] => {
             r.stands(Place::Opening)?;
-            Ok(Said::Opens)
+            Ok(Said::Opens(Edition::One))
+        }
+        ["scenario", "2"] => {
+            r.stands(Place::Opening)?;
+            Ok(Said::Opens(Edition::Two))
         }
         ["bridge", address] => {
             r.stands(Place::Header)?;
             Ok(Said::Bridge(mac(address)?))
         }
-        ["port", number, name, "soft"] => declared(alloc, number, name, Dom::SOFTWARE, r),
-        ["port", number, name, "chip", "1"] => declared(alloc, number, name, Dom::CHIP, r),
+        ["port", number, name, "soft"] => declared(alloc, number, name, Ok(Dom::SOFTWARE), r),
+        ["port", number, name, "chip", dom] => declared(alloc, number, name, r.new_chip(dom), r),
         _ => Err(LineWhy::Word),
     }
 }
@@ -66,17 +78,17 @@ fn step_line(alloc: Global, words: &[&str], r: &Roster) -> Result<Said, LineWhy>
             r.stands(Place::Steps)?;
             Ok(Said::Does(Step::Serve))
         }
-        ["turn", "1"] => {
+        ["turn", dom] => {
             r.stands(Place::Steps)?;
-            Ok(Said::Does(Step::Turn))
+            Ok(Said::Does(Step::Turn(r.chip(dom)?)))
         }
-        ["report", "1"] => {
+        ["report", dom] => {
             r.stands(Place::Steps)?;
-            Ok(Said::Does(Step::Report))
+            Ok(Said::Does(Step::Report(r.chip(dom)?)))
         }
-        ["sweep", "1"] => {
+        ["sweep", dom] => {
             r.stands(Place::Steps)?;
-            Ok(Said::Does(Step::Sweep))
+            Ok(Said::Does(Step::Sweep(r.chip(dom)?)))
         }
         ["publish"] => {
             r.stands(Place::Steps)?;

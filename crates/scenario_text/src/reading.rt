@@ -26,9 +26,9 @@ pub fn read_line(alloc: Global, b: &[u8], r: &mut Roster) -> Result<Item, LineWh
 {
     match what_says(alloc, b, r)? {
         Said::Blank => Ok(Item::Blank),
-        Said::Opens => {
-            r.reach(Place::Header);
-            Ok(Item::Scenario)
+        Said::Opens(edition) => {
+            r.open(edition);
+            Ok(Item::Scenario(edition))
         }
         Said::Bridge(own) => {
             r.set_own(own);

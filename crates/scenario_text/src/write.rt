@@ -12,7 +12,7 @@ use br_model::NoMemory;
 use br_model::bytes::Bytes;
 use br_model::change::{Flags, Kind};
 use br_model::group::Ip;
-use br_model::numbers::{Mac, Port, Vid};
+use br_model::numbers::{Dom, Mac, Port, Vid};
 use br_model::steps::{Command, Step};
 use bridge_command::Roster;
 use std::alloc::Global;
@@ -333,6 +333,13 @@ fn append_rx(port: Port, bytes: &[u8], to: &mut String) -> Result<(), NoMemory>
     append_hex(shown(bytes), to)
 }
 
+fn append_of_chip(word: &str, dom: Dom, to: &mut String) -> Result<(), NoMemory>
+    ensures { OnOk result (string_bytes to.new ≡ string_bytes to.old ++ (word.now ++ decimal dom)) }
+{
+    let dom = dom.number();
+    write!(to, "{word}{dom}")
+}
+
 /// The line of a step with its line feed. Of a frame without bytes it shows one byte, of one that is too long only enough to
 /// tell so.
 pub fn write_line(alloc: Global, s: &Step, r: &Roster) -> Result<Bytes, NoMemory>
@@ -348,9 +355,9 @@ pub fn write_line(alloc: Global, s: &Step, r: &Roster) -> Result<Bytes, NoMemory
         }
         Step::Now(moment) => write!(line, "now {moment}")?,
         Step::Serve => line.push_str("serve")?,
-        Step::Turn => line.push_str("turn 1")?,
-        Step::Report => line.push_str("report 1")?,
-        Step::Sweep => line.push_str("sweep 1")?,
+        Step::Turn(dom) => append_of_chip("turn ", *dom, &mut line)?,
+        Step::Report(dom) => append_of_chip("report ", *dom, &mut line)?,
+        Step::Sweep(dom) => append_of_chip("sweep ", *dom, &mut line)?,
         Step::Publish => line.push_str("publish")?,
     }
     line.push('\n')?;

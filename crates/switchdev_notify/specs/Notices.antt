@@ -1,11 +1,13 @@
 -- What is told of a change, and the change that a notice tells.
 -- Source: the kernel's include/net/switchdev.h, Documentation/networking/switchdev.rst. That ports going up and down, queriers
 -- and the spanning tree are told by notices is this profile's.
-use Rattle.std.specs.Prelude.{false}
+use Rattle.std.specs.Prelude.{false, if◌then◌else◌}
 use Rattle.std.specs.declared.option.Option.{Option}
 use Rattle.std.specs.declared.option.Option.TheVariants.{None, Some}
 use Rattle.br_model.specs.declared.change.Change.{Change}
 use Rattle.br_model.specs.declared.change.Change.TheVariants as changes
+use Rattle.br_model.specs.declared.domains.Edition.{Edition}
+use Rattle.br_model.specs.Change.{deferred}
 use Rattle.br_model.specs.Table.{Table, apply}
 use Rattle.switchdev_notify.specs.declared.notice.Object.{Object}
 use Rattle.switchdev_notify.specs.declared.notice.Object.TheVariants.{Vlan, Group}
@@ -56,18 +58,26 @@ change_of (ObjDel object) = Some (change_removed object)
 change_of (Attr attribute) = Some (change_of_attribute attribute)
 change_of Address = None
 
+-- the change that a driver is told in an edition: one that is deferred in it is left to the queue
+abbrev pub unless_deferred : Edition → Option Change → Option Change
+unless_deferred edition None = None
+unless_deferred edition (Some c) = if deferred edition c then None else Some c
+
+abbrev pub told_in : Edition → Notice → Option Change
+told_in edition n = unless_deferred edition (change_of n)
+
 -- the table after the change that was told
 abbrev pub after_told : Table → Option Change → Table
 after_told t None = t
 after_told t (Some c) = apply t c
 
-abbrev pub after : Table → Notice → Table
-after t n = after_told t (change_of n)
+abbrev pub after : Edition → Table → Notice → Table
+after edition t n = after_told t (told_in edition n)
 
 -- what is asked of the change that is told
 abbrev pub TakesTold : (Change → Type 0) → Option Change → Type 0
 TakesTold takes None = Unit {0}
 TakesTold takes (Some c) = takes c
 
-abbrev pub Takes : (Change → Type 0) → Notice → Type 0
-Takes takes n = TakesTold takes (change_of n)
+abbrev pub Takes : (Change → Type 0) → Edition → Notice → Type 0
+Takes takes edition n = TakesTold takes (told_in edition n)

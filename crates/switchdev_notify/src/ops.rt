@@ -1,12 +1,14 @@
 //! Drivers that are told.
-ghost use Rattle.std.specs.Prelude.{◌≡◌, List, [], ◌∷◌, ◌++◌};
+ghost use Rattle.std.specs.Prelude.{◌≡◌, List, [], ◌∷◌, ◌++◌, None};
+ghost use Rattle.br_model.specs.Change.{deferred};
 ghost use Rattle.br_model.specs.Cut.{synchronous_of};
 ghost use Rattle.br_model.specs.Domains.{Domains};
 ghost use Rattle.br_model.specs.Table.{Table, apply, table};
 ghost use Rattle.br_model.specs.declared.change.Change.{Change};
-ghost use Rattle.switchdev_notify.specs.Notices.{notice, change_added, change_removed, change_of_attribute, after, Takes};
+ghost use Rattle.switchdev_notify.specs.Notices.{notice, change_added, change_removed, change_of_attribute, told_in, after, Takes};
 
 use crate::notice::{Attribute, Notice, Object};
+use br_model::domains::Edition;
 
 /// A switch driver. The kernel's drivers answer a port's notifications by the functions that they pass to
 /// `switchdev_handle_port_obj_add`, `switchdev_handle_port_obj_del` and `switchdev_handle_port_attr_set`.
@@ -35,19 +37,38 @@ pub trait SwitchOps {
         ensures { (d : Domains) (t : Table) → means d self.old t → means d self.new (apply t (change_of_attribute a.now)) };
 }
 
-/// Tells a driver of a change, as `switchdev_port_obj_add`, `switchdev_port_obj_del` and `switchdev_port_attr_set` do. An
-/// address is left to the queue, and the driver isn't called.
-pub fn deliver<D: SwitchOps>(d: &mut D, n: &Notice)
-    requires { Takes (D.takes d.old) n.now }
-    ensures told { (domains : Domains) (t : Table) → D.means domains d.old t → D.means domains d.new (after t n.now) }
+/// Tells a driver of a change, as `switchdev_port_obj_add`, `switchdev_port_obj_del` and `switchdev_port_attr_set` do. What is
+/// deferred in the edition is left to the queue, as the kernel does with `SWITCHDEV_F_DEFER`, and the driver isn't called.
+pub fn deliver<D: SwitchOps>(d: &mut D, n: &Notice, e: Edition)
+    requires { Takes (D.takes d.old) e n.now }
+    ensures told { (domains : Domains) (t : Table) → D.means domains d.old t → D.means domains d.new (after e t n.now) }
     ensures list { (domains : Domains) (list : List Change) (c : Change) → n.now ≡ notice c
-        → D.means domains d.old (table list) → D.means domains d.new (table (list ++ synchronous_of (c ∷ []))) }
-    ensures address { n.now ≡ Notice.Address → d.new ≡ d.old }
+        → D.means domains d.old (table list) → D.means domains d.new (table (list ++ synchronous_of e (c ∷ []))) }
+    ensures deferred { told_in e n.now ≡ None → d.new ≡ d.old }
 {
     match n {
-        Notice::ObjAdd(object) => d.obj_add(object),
-        Notice::ObjDel(object) => d.obj_del(object),
+        Notice::ObjAdd(object) => {
+            if !is_deferred(object, e) {
+                d.obj_add(object);
+            }
+        }
+        Notice::ObjDel(object) => {
+            if !is_deferred(object, e) {
+                d.obj_del(object);
+            }
+        }
         Notice::Attr(attribute) => d.attr_set(attribute),
         Notice::Address => {}
+    }
+}
+
+/// Whether the object comes and goes through the queue.
+fn is_deferred(o: &Object, e: Edition) -> bool
+    ensures added { result ≡ deferred e (change_added o.now) }
+    ensures removed { result ≡ deferred e (change_removed o.now) }
+{
+    match o {
+        Object::Vlan { .. } => false,
+        Object::Group { .. } => e.defers_groups(),
     }
 }

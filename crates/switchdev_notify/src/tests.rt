@@ -4,6 +4,8 @@ ghost use Rattle.switchdev_notify.specs.Notices.{change_added, change_removed, c
 
 use crate::{Attribute, Notice, Object, SwitchOps, deliver, notice_of};
 use br_model::change::{Change, Kind};
+use br_model::domains::Edition;
+use br_model::group::Group;
 use br_model::numbers::{Mac, Port, Vid};
 use std::test::Fail;
 
@@ -93,14 +95,18 @@ impl SwitchOps for Log {
 }
 
 #[test]
-fn a_log_is_told_all_but_addresses(rt: HostRuntime) -> Result<(), Fail> {
+fn a_log_is_told_all_but_what_is_deferred(rt: HostRuntime) -> Result<(), Fail> {
     let port = Port::new(3).ok_or("port")?;
     let vid = Vid::new(7).ok_or("vid")?;
     let mut log = Log {
         changes: Vec::with_capacity(rt.alloc(), 2)?,
     };
     assert!(rt; log.has_room());
-    deliver(&mut log, &notice_of(&Change::VlanDel { port, vid }));
+    deliver(
+        &mut log,
+        &notice_of(&Change::VlanDel { port, vid }),
+        Edition::One,
+    );
     deliver(
         &mut log,
         &notice_of(&Change::AddrPut {
@@ -109,9 +115,20 @@ fn a_log_is_told_all_but_addresses(rt: HostRuntime) -> Result<(), Fail> {
             port,
             kind: Kind::Static,
         }),
+        Edition::One,
+    );
+    let group = Group::v4(0xEF01_0203).ok_or("group")?;
+    deliver(
+        &mut log,
+        &notice_of(&Change::GroupJoin { port, vid, group }),
+        Edition::Two,
     );
     assert!(rt; log.has_room());
-    deliver(&mut log, &notice_of(&Change::SetState(port, 3)));
+    deliver(
+        &mut log,
+        &notice_of(&Change::SetState(port, 3)),
+        Edition::Two,
+    );
     assert_eq!(rt; log.changes.len(), 2);
     assert!(rt;
         matches!(&log.changes[0], Change::VlanDel { port: p, vid: v } if *p == port && *v == vid)

@@ -1,14 +1,16 @@
--- When the chip and software agree with one bridge on a frame, though each decides by a table of its own.
+-- When a chip and software agree with one bridge on a frame, though each decides by a table of its own.
 -- Source: this profile.
 use Rattle.std.specs.Prelude.{◌≡◌, ℕ, ◌==◌, Bool, true, false, List, ◌∷◌, ◌++◌, length, take}
 use Rattle.std.specs.List.{list_any}
+use Rattle.std.specs.declared.option.Option.TheVariants.{Some}
 use Rattle.br_model.specs.declared.transcript.Line.{Line}
 use Rattle.br_model.specs.declared.transcript.Line.TheVariants as lines
-use Rattle.br_model.specs.DomainPorts.{is_in_domain}
-use Rattle.br_model.specs.Domains.{chip}
+use Rattle.br_model.specs.Domains.{domain_of}
+use Rattle.br_model.specs.Chip.{Chip}
 use Rattle.br_model.specs.Setup.{Setup}
+use Rattle.br_model.specs.Plane.Entering.{chip_of}
 use Rattle.br_model.specs.Plane.Invariants.{frames_of}
-use Rattle.br_model.specs.Plane.Runs.{run, pending}
+use Rattle.br_model.specs.Plane.Runs.{run, pending_of}
 use Rattle.br_model.specs.Plane.Steps.{Step, Rx}
 use Rattle.br_model.specs.Plane.World.{World}
 
@@ -29,15 +31,16 @@ is_overrun id (lines.Done step changes) = false
 is_overrun id (lines.Refused step refusal) = false
 is_overrun id (lines.End steps changes pending waiting) = false
 
--- The chip has applied all that was accepted, and all of it is published.
-pub record IsSettled (w : World) : Type 0 where
-  pub applied : pending w ≡ 0
+-- The chip of the port's domain has applied all that was accepted, and all of it is published.
+pub record IsSettled (w : World) (port : ℕ) : Type 0 where
+  pub chip : Chip
+  pub on_chip : chip_of w (domain_of w.setup.domains port) ≡ Some chip
+  pub applied : pending_of w chip ≡ 0
   pub published : w.published ≡ length w.history
 
--- After these steps a frame enters at the port of the chip, then come the others. It finds room to wait if it goes on to the
+-- After these steps a frame enters at the port, then come the others. It finds room to wait if it goes on to the
 -- processor, no change is accepted as long as it waits or is held, and in the end it is gone.
 pub record IsUndisturbed (setup : Setup) (before : List Step) (port : ℕ) (bytes : List ℕ) (after : List Step) : Type 0 where
-  pub on_chip : is_in_domain setup.domains chip port ≡ true
   pub room : list_any (is_overrun (run setup before).0.next) (run setup (before ++ Rx port bytes ∷ after)).1 ≡ false
   pub same : (n : ℕ) → is_there (run setup before).0.next (run setup (before ++ Rx port bytes ∷ take n after)).0 ≡ true
       → (run setup (before ++ Rx port bytes ∷ take n after)).0.history ≡ (run setup before).0.history

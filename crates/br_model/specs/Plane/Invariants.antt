@@ -1,4 +1,4 @@
--- What holds of the world of a bridge with a chip after whatever steps.
+-- What holds of the world of a bridge with chips after whatever steps.
 -- Source: this profile.
 use Rattle.std.specs.Prelude.{◌≡◌, ℕ, ◌+◌, ◌<◌, ◌≤◌, ◌==◌, Bool, true, ◌&&◌, List, ◌++◌, map, length}
 use Rattle.std.specs.List.{All, IsDistinct, last_or, slice_get}
@@ -8,10 +8,11 @@ use Rattle.std.specs.Ordering.{nat_cmp}
 use Rattle.std.specs.declared.option.Option.TheVariants.{None, Some}
 use Rattle.std.specs.declared.result.Result.TheVariants.{Ok}
 use Rattle.br_model.specs.declared.change.Change.{Change}
-use Rattle.br_model.specs.Chip.{same_triple}
+use Rattle.br_model.specs.declared.domains.Edition.{Edition}
+use Rattle.br_model.specs.Chip.{Chip, same_triple}
 use Rattle.br_model.specs.Cut.{deferred_count}
 use Rattle.br_model.specs.DomainPorts.{is_in_domain}
-use Rattle.br_model.specs.Domains.{Domains, chip}
+use Rattle.br_model.specs.Domains.{Domains, chip_domains, has_chip}
 use Rattle.br_model.specs.Frames.{frame}
 use Rattle.br_model.specs.Learning.{Triple}
 use Rattle.br_model.specs.Limits.{all_fit, most_changes, most_reports, most_waiting}
@@ -23,10 +24,9 @@ use Rattle.br_model.specs.Table.{start}
 abbrev pub frames_of : List Holding → List Waiting → List Waiting
 frames_of held waiting = map (λ h. h.waiting) held ++ waiting
 
--- No more deferred changes are applied than were accepted. Each change fitted the table that it found, so each front of the
--- history keeps the limits of a table; and the changes are not too many.
-pub record HistoryStands (history : List Change) (count : ℕ) : Type 0 where
-  pub applied : count ≤ deferred_count history
+-- Each change fitted the table that it found, so each front of the history keeps the limits of a table; and the changes are not
+-- too many.
+pub record HistoryStands (history : List Change) : Type 0 where
   pub fits : all_fit start history ≡ true
   pub few : length history ≤ most_changes
 
@@ -37,9 +37,9 @@ pub record CountsStand (history : List Change) (counts : List ℕ) (published : 
   pub last : last_or None counts ≡ Some published
   pub within : published ≤ length history
 
--- where a frame has a mark, it is the chip's domain, and the frame came by a port of it
+-- where a frame has a mark, it is a chip's domain, and the frame came by a port of it
 abbrev pub has_own_mark : Domains → Waiting → Bool
-has_own_mark domains f = option_map_or (λ mark. mark == chip && is_in_domain domains mark f.port) f.mark true
+has_own_mark domains f = option_map_or (λ mark. has_chip domains mark && is_in_domain domains mark f.port) f.mark true
 
 -- a frame that entered before the next id was free
 pub record IsFrame (domains : Domains) (next : ℕ) (f : Waiting) : Type 0 where
@@ -59,10 +59,17 @@ pub record ReportsStand (reports : List Triple) : Type 0 where
   pub ids : IsDistinct same_triple reports
   pub few : length reports ≤ most_reports
 
+-- No more deferred changes are applied than were accepted.
+pub record ChipStands (edition : Edition) (history : List Change) (c : Chip) : Type 0 where
+  pub applied : c.count ≤ deferred_count edition history
+  pub reports : ReportsStand c.reports
+  -- the addresses that were hit, as a set
+  pub hits : IsStrictlySortedBy pair_cmp c.hits
+
 pub record IsWorld (w : World) : Type 0 where
-  pub history : HistoryStands w.history w.chip.count
+  pub history : HistoryStands w.history
   pub counts : CountsStand w.history w.counts w.published
   pub frames : FramesStand w.setup.domains w.counts w.held w.waiting w.next
-  pub reports : ReportsStand w.chip.reports
-  -- the addresses that were hit, as a set
-  pub hits : IsStrictlySortedBy pair_cmp w.chip.hits
+  -- the chips are those of the domains that exist
+  pub doms : map (λ c. c.dom) w.chips ≡ chip_domains w.setup.domains
+  pub chips : All (ChipStands w.setup.domains.edition w.history) w.chips

@@ -4,11 +4,10 @@ use Rattle.std.specs.Prelude.{ℕ, ◌+◌, ◌==◌, if◌then◌else◌, List,
 use Rattle.std.specs.declared.option.Option.{Option}
 use Rattle.br_model.specs.declared.steps.Command.{Command}
 use Rattle.br_model.specs.declared.steps.Event.TheVariants as events
-use Rattle.br_model.specs.Cut.{deferred_at}
 use Rattle.br_model.specs.Plane.ChipSteps.{turns, reports, sweeps}
 use Rattle.br_model.specs.Plane.Entering.{enters}
 use Rattle.br_model.specs.Plane.Serving.{serves, holds, held_with, posts_at}
-use Rattle.br_model.specs.Plane.World.{World, Stepped, done, answered, reacts}
+use Rattle.br_model.specs.Plane.World.{World, Stepped, chip_at, done, answered, reacts}
 
 pub data Step : Type 0 where
   -- a frame enters at a port
@@ -20,10 +19,10 @@ pub data Step : Type 0 where
   Serve : Step
   Hold : Step
   Post : ℕ → Option ℕ → Step
-  -- the chip applies a deferred change, tells a report, forgets what it no longer sees
-  Turn : Step
-  Report : Step
-  Sweep : Step
+  -- the chip of this domain applies a deferred change, tells a report, forgets what it no longer sees
+  Turn : ℕ → Step
+  Report : ℕ → Step
+  Sweep : ℕ → Step
   -- software decides by all accepted changes from now on
   Publish : Step
 
@@ -39,9 +38,9 @@ does w (Now moment) = answered w w (reacts w (events.Moment moment))
 does w Serve = serves w w.waiting
 does w Hold = holds w w.waiting
 does w (Post id point) = posts_at w (held_with w id) point
-does w Turn = turns w (deferred_at w.history w.chip.count)
-does w Report = reports w w.chip.reports
-does w Sweep = sweeps w
+does w (Turn dom) = turns w (chip_at w dom)
+does w (Report dom) = reports w (chip_at w dom)
+does w (Sweep dom) = sweeps w (chip_at w dom)
 does w Publish = done (publishes w (length w.history))
 
 -- Each step is counted, a refused one too.

@@ -1,4 +1,4 @@
--- The world of a bridge with a chip: its state, and how its steps end.
+-- The world of a bridge with chips: its state, and how its steps end.
 -- Source: this profile.
 use Rattle.std.specs.Prelude.{ℕ, List, [], ◌∷◌, ◌++◌, map, length, take}
 use Rattle.std.specs.declared.option.Option.{Option}
@@ -12,7 +12,8 @@ use Rattle.br_model.specs.declared.steps.Refusal.{Refusal}
 use Rattle.br_model.specs.declared.transcript.Line.{Line}
 use Rattle.br_model.specs.declared.transcript.Line.TheVariants.{Tx, Ctl, Done, Refused}
 use Rattle.br_model.specs.Bpdus.{written}
-use Rattle.br_model.specs.Chip.{Chip, first_chip, chip_table}
+use Rattle.br_model.specs.Chip.{Chip, first_chips, chip_in, put_chip, chip_table}
+use Rattle.br_model.specs.Cut.{deferred_at}
 use Rattle.br_model.specs.Control.{Control, first_control}
 use Rattle.br_model.specs.Reaction.{Reaction, react}
 use Rattle.br_model.specs.Setup.{Setup}
@@ -38,7 +39,8 @@ pub record World : Type 0 where
   -- the accepted changes, and what the bridge keeps beside their table
   pub history : List Change
   pub control : Control
-  pub chip : Chip
+  -- a chip for each domain that exists, ascending
+  pub chips : List Chip
   -- how many changes were published last, and each count that ever was, ascending
   pub published : ℕ
   pub counts : List ℕ
@@ -54,7 +56,7 @@ first_world setup = record {
   setup = setup;
   history = [];
   control = first_control setup.own;
-  chip = first_chip;
+  chips = first_chips setup.domains;
   published = 0;
   counts = 0 ∷ [];
   waiting = [];
@@ -71,9 +73,21 @@ Stepped = World × List Line
 abbrev pub table_at : World → ℕ → Table
 table_at w point = table (take point w.history)
 
--- the table by which the chip decides
-abbrev pub table_of_chip : World → Table
-table_of_chip w = chip_table w.history w.chip
+-- the chip of this domain
+abbrev pub chip_at : World → ℕ → Option Chip
+chip_at w dom = chip_in w.chips dom
+
+-- with this one in the place of that of its domain
+abbrev pub with_chip : World → Chip → World
+with_chip w c = record w { chips = put_chip w.chips c }
+
+-- the table by which a chip decides
+abbrev pub table_of_chip : World → Chip → Table
+table_of_chip w c = chip_table w.setup.domains.edition w.history c
+
+-- the deferred change that a chip applies next
+abbrev pub next_of : World → Chip → Option Change
+next_of w c = deferred_at w.setup.domains.edition w.history c.count
 
 -- the lines of a frame that is sent
 abbrev pub sent : ℕ → List (ℕ × List ℕ) → List Line

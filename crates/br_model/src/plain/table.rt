@@ -534,7 +534,7 @@ impl Table {
         number: u8,
         vid: Vid,
     ) -> Result<(), NoMemory>
-        requires { number < 64 }
+        requires { number < 255 }
         ensures { OnOk result (egress_ports.new.items ≡ egress_ports.old.items
             ++ (if has nat_cmp targets.now number && may self.now p number vid then number ∷ [] else [])) }
     {

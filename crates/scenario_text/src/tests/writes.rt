@@ -4,6 +4,7 @@ ghost use Rattle.br_model.specs.WrittenSteps.{names_declared};
 
 use crate::{read_line, write_line};
 use br_model::bytes::Bytes;
+use br_model::numbers::Dom;
 use br_model::scenario::Item;
 use br_model::steps::{Command, Step};
 use bridge_command::Roster;
@@ -74,7 +75,8 @@ fn are_declared(step: &Step, roster: &Roster) -> bool
             Command::Stp(_) | Command::Priority(_) | Command::Snooping(_) => true,
         },
         Step::Now(_) => true,
-        Step::Serve | Step::Turn | Step::Report | Step::Sweep | Step::Publish => true,
+        Step::Turn(dom) | Step::Report(dom) | Step::Sweep(dom) => *dom == Dom::CHIP,
+        Step::Serve | Step::Publish => true,
     }
 }
 

@@ -1,0 +1,5 @@
+use Rattle.br_model.proofs.DomainRows.{bad_domains_are}
+use Rattle.br_model.proofs.laws.bad_domains.Goals as goal
+
+pub returns : goal.returns
+returns c = bad_domains_are

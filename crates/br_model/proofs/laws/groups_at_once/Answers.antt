@@ -1,0 +1,5 @@
+use Rattle.br_model.proofs.DomainRows.{groups_at_once}
+use Rattle.br_model.proofs.laws.groups_at_once.Goals as goal
+
+pub returns : goal.returns
+returns c = groups_at_once

@@ -1,0 +1,5 @@
+use Rattle.br_model.proofs.DomainRows.{two_chips}
+use Rattle.br_model.proofs.laws.two_chips.Goals as goal
+
+pub returns : goal.returns
+returns c = two_chips

@@ -1,0 +1,5 @@
+use Rattle.br_model.proofs.DeclaredChips.{declared-chips}
+use Rattle.br_model.proofs.written_laws.chips_are_declared.Goals as goal
+
+pub returns : goal.returns
+returns c = declared-chips
