@@ -9,9 +9,9 @@ use Rattle.std.specs.Ordering.{eq_by_cmp}
 use Rattle.br_model.specs.declared.change.Change.{Change}
 use Rattle.br_model.specs.declared.change.Change.TheVariants.{AddrPut, AddrDel, Snoop}
 use Rattle.br_model.specs.declared.change.Kind.{Kind}
-use Rattle.br_model.specs.Limits.{fits, most_addresses, AreWithin}
-use Rattle.br_model.specs.Maps.{pair_cmp, get, put, without, is_ascending}
-use Rattle.br_model.specs.Table.{Table, start, apply, table}
+use Rattle.br_model.specs.Table.Limits.{fits, most_addresses, AreWithin}
+use Rattle.br_model.specs.Data.Maps.{pair_cmp, get, put, without, is_ascending}
+use Rattle.br_model.specs.Table.Table.{Table, start, apply, table}
 use Rattle.br_model.proofs.PairKeys.{pair_total}
 
 abbrev Entries : Type 0

@@ -13,17 +13,17 @@ use Rattle.br_model.specs.declared.scenario.Said.TheVariants.{Does, Declares, Op
 use Rattle.br_model.specs.declared.steps.Command.TheVariants.{PortUp}
 use Rattle.br_model.specs.declared.steps.Step.{Step}
 use Rattle.br_model.specs.declared.steps.Step.TheVariants.{Rx, Cmd, Now, Turn, Report, Publish}
-use Rattle.br_model.specs.Digits.{hex_digit, hex_of, is_digit}
-use Rattle.br_model.specs.Domains.{chip, software}
-use Rattle.br_model.specs.Generator.{most_frames, station, broadcast, destination, frame, each, frame_steps, frames_from, number_of, drawn, ports, steps, port_line, head, made, made_scenario}
-use Rattle.br_model.specs.LineForms.{line_says}
-use Rattle.br_model.specs.Operands.{last_moment}
-use Rattle.br_model.specs.Roster.{Entry, Roster, first_roster}
-use Rattle.br_model.specs.Scenario.{Scenario, Going, Ended, opened, read, scenario, whole_says, longest_line}
-use Rattle.br_model.specs.ScenarioText.{step_words, step_text, shown}
-use Rattle.br_model.specs.Setup.{first_own}
-use Rattle.br_model.specs.WholeLines.{is_line, is_no_feed}
-use Rattle.br_model.specs.WrittenSteps.{has_line, is_byte, is_whole}
+use Rattle.br_model.specs.Data.Digits.{hex_digit, hex_of, is_digit}
+use Rattle.br_model.specs.Table.Domains.{chip, software}
+use Rattle.br_model.specs.Program.Generator.{most_frames, station, broadcast, destination, frame, each, frame_steps, frames_from, number_of, drawn, ports, steps, port_line, head, made, made_scenario}
+use Rattle.br_model.specs.Text.LineForms.{line_says}
+use Rattle.br_model.specs.Text.Operands.{last_moment}
+use Rattle.br_model.specs.Text.Roster.{Entry, Roster, first_roster}
+use Rattle.br_model.specs.Text.Scenario.{Scenario, Going, Ended, opened, read, scenario, whole_says, longest_line}
+use Rattle.br_model.specs.Text.ScenarioText.{step_words, step_text, shown}
+use Rattle.br_model.specs.Table.Setup.{first_own}
+use Rattle.br_model.specs.Theorems.WholeLines.{is_line, is_no_feed}
+use Rattle.br_model.specs.Theorems.WrittenSteps.{has_line, is_byte, is_whole}
 use Rattle.br_model.proofs.Computing.{computing}
 use Rattle.br_model.proofs.Reading.{closed, scenario_is, read_line, not_below}
 use Rattle.br_model.proofs.WrittenLines.{step_read, given_whole, shown_whole}

@@ -15,21 +15,21 @@ use Rattle.br_model.specs.declared.steps.Event.TheVariants as events
 use Rattle.br_model.specs.declared.steps.Refusal.{Refusal}
 use Rattle.br_model.specs.declared.steps.Refusal.TheVariants.{NoSuchPoint}
 use Rattle.br_model.specs.declared.transcript.Line.TheVariants.{Overrun}
-use Rattle.br_model.specs.Chip.{notes}
-use Rattle.br_model.specs.Cut.{cut, deferred_at, deferred_of, synchronous_of}
-use Rattle.br_model.specs.DomainPorts.{is_in_domain}
-use Rattle.br_model.specs.Domains.{chip}
-use Rattle.br_model.specs.Frames.{frame}
-use Rattle.br_model.specs.Learning.{Triple}
-use Rattle.br_model.specs.Limits.{most_waiting}
-use Rattle.br_model.specs.Reaction.{Reaction}
-use Rattle.br_model.specs.Setup.{Setup}
-use Rattle.br_model.specs.Shares.{mark_of}
-use Rattle.br_model.specs.Table.{table}
-use Rattle.br_model.specs.Plane.Applied.{applied_in, then_applied, applied}
+use Rattle.br_model.specs.Plane.Chip.{notes}
+use Rattle.br_model.specs.Table.Cut.{cut, deferred_at, deferred_of, synchronous_of}
+use Rattle.br_model.specs.Table.DomainPorts.{is_in_domain}
+use Rattle.br_model.specs.Table.Domains.{chip}
+use Rattle.br_model.specs.Wire.Frames.{frame}
+use Rattle.br_model.specs.Control.Learning.{Triple}
+use Rattle.br_model.specs.Table.Limits.{most_waiting}
+use Rattle.br_model.specs.Control.Reaction.{Reaction}
+use Rattle.br_model.specs.Table.Setup.{Setup}
+use Rattle.br_model.specs.Forward.Shares.{mark_of}
+use Rattle.br_model.specs.Table.Table.{table}
+use Rattle.br_model.specs.Theorems.Applied.{applied_in, then_applied, applied}
 use Rattle.br_model.specs.Plane.ChipSteps.{turns, reports}
 use Rattle.br_model.specs.Plane.Entering.{waits, goes_on, enters_chip, enters_as, class_of}
-use Rattle.br_model.specs.Plane.Invariants.{IsWorld}
+use Rattle.br_model.specs.Theorems.Invariants.{IsWorld}
 use Rattle.br_model.specs.Plane.Runs.{run, then_step}
 use Rattle.br_model.specs.Plane.Serving.{posts, serves, holds, held_with, lets_go, is_point, posts_held, posts_at}
 use Rattle.br_model.specs.Plane.Steps.{Step, Rx, Cmd, Now, Serve, Hold, Post, Turn, Report, Sweep, Publish, world_step}

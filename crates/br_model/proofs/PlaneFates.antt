@@ -21,26 +21,26 @@ use Rattle.br_model.specs.declared.steps.Refusal.{Refusal}
 use Rattle.br_model.specs.declared.steps.Refusal.TheVariants.{NoSuchPoint}
 use Rattle.br_model.specs.declared.bpdu.BpduMsg.{BpduMsg}
 use Rattle.br_model.specs.declared.transcript.Line.TheVariants.{Overrun, Done}
-use Rattle.br_model.specs.Chip.{notes}
-use Rattle.br_model.specs.Cut.{deferred_at}
-use Rattle.br_model.specs.DomainPorts.{is_in_domain, is_marked}
-use Rattle.br_model.specs.Domains.{Domains, chip, domain_of, foreign}
-use Rattle.br_model.specs.Frames.{frame}
-use Rattle.br_model.specs.Learning.{Triple}
-use Rattle.br_model.specs.Limits.{most_waiting}
-use Rattle.br_model.specs.Maps.{has}
-use Rattle.br_model.specs.Reaction.{Reaction}
-use Rattle.br_model.specs.Setup.{Setup}
-use Rattle.br_model.specs.Leave.{leave}
-use Rattle.br_model.specs.Shares.{chip_out, chip_out_by, within, mark_of, soft_out}
-use Rattle.br_model.specs.Table.{Table, table}
+use Rattle.br_model.specs.Plane.Chip.{notes}
+use Rattle.br_model.specs.Table.Cut.{deferred_at}
+use Rattle.br_model.specs.Table.DomainPorts.{is_in_domain, is_marked}
+use Rattle.br_model.specs.Table.Domains.{Domains, chip, domain_of, foreign}
+use Rattle.br_model.specs.Wire.Frames.{frame}
+use Rattle.br_model.specs.Control.Learning.{Triple}
+use Rattle.br_model.specs.Table.Limits.{most_waiting}
+use Rattle.br_model.specs.Data.Maps.{has}
+use Rattle.br_model.specs.Control.Reaction.{Reaction}
+use Rattle.br_model.specs.Table.Setup.{Setup}
+use Rattle.br_model.specs.Forward.Leave.{leave}
+use Rattle.br_model.specs.Forward.Shares.{chip_out, chip_out_by, within, mark_of, soft_out}
+use Rattle.br_model.specs.Table.Table.{Table, table}
 use Rattle.br_model.proofs.PlaneKept.{counted-world}
 use Rattle.br_model.proofs.PlaneShares.{ascends-filter, ascends-leave, times-ascends, times-within}
 use Rattle.br_model.specs.Plane.ChipSteps.{turns, reports, swept}
 use Rattle.br_model.specs.Plane.Entering.{waits, goes_on, enters_chip, enters_as, class_of}
 use Rattle.br_model.specs.Plane.Serving.{posts, serves, holds, held_with, lets_go, is_point, posts_held, posts_at}
 use Rattle.br_model.specs.Plane.Steps.{Step, Rx, Cmd, Now, Serve, Hold, Post, Turn, Report, Sweep, Publish, does, world_step}
-use Rattle.br_model.specs.Plane.Invariants.{frames_of, IsFrame, IsWorld}
+use Rattle.br_model.specs.Theorems.Invariants.{frames_of, IsFrame, IsWorld}
 use Rattle.br_model.specs.Plane.Sending.{Sent, sent_by, sent_of, times}
 use Rattle.br_model.specs.Plane.World.{World, Waiting, Holding, Stepped, table_at, table_of_chip, sent, control_lines, answered, reacts, refused}
 

@@ -10,16 +10,16 @@ use Rattle.std.specs.Option.{option_eq}
 use Rattle.br_model.specs.declared.frame.Class.{Class}
 use Rattle.br_model.specs.declared.frame.Class.TheVariants.{Drop, Trap, Copy, Forward}
 use Rattle.br_model.specs.declared.frame.Head.{Head}
-use Rattle.br_model.specs.Admission.{admit}
-use Rattle.br_model.specs.Class.{class}
-use Rattle.br_model.specs.DomainPorts.{is_marked}
-use Rattle.br_model.specs.Domains.{Domains, domain_of, foreign}
-use Rattle.br_model.specs.Frames.{dressed}
-use Rattle.br_model.specs.Leave.{all_ports, egress_ports, ports_in, ports_out, tag_at, dressed_in, leave}
-use Rattle.br_model.specs.Messages.{message}
-use Rattle.br_model.specs.Shares.{within, chip_out_by, remaining}
-use Rattle.br_model.specs.Table.{Table}
-use Rattle.br_model.specs.Targets.{to_tree}
+use Rattle.br_model.specs.Forward.Admission.{admit}
+use Rattle.br_model.specs.Forward.Class.{class}
+use Rattle.br_model.specs.Table.DomainPorts.{is_marked}
+use Rattle.br_model.specs.Table.Domains.{Domains, domain_of, foreign}
+use Rattle.br_model.specs.Wire.Frames.{dressed}
+use Rattle.br_model.specs.Forward.Leave.{all_ports, egress_ports, ports_in, ports_out, tag_at, dressed_in, leave}
+use Rattle.br_model.specs.Wire.Messages.{message}
+use Rattle.br_model.specs.Forward.Shares.{within, chip_out_by, remaining}
+use Rattle.br_model.specs.Table.Table.{Table}
+use Rattle.br_model.specs.Forward.Targets.{to_tree}
 use Rattle.br_model.specs.Plane.Sending.{Sent, times, placed, in_port_order, software_share, both_shares}
 use Rattle.br_model.proofs.Ranges.{filter-all_ports}
 

@@ -1,7 +1,7 @@
 -- The numbers from 0 on that pass a test.
 use Rattle.std.proofs.Common.{◌≡◌, ℕ, zero, suc, ◌+◌, Bool, true, false, cond, List, [], ◌∷◌, ◌++◌, refl, sym, ap, ◌∙◌, arith, add-one, add-zero}
 use Rattle.std.specs.List.{filter, range_with_len}
-use Rattle.br_model.specs.Leave.{all_ports}
+use Rattle.br_model.specs.Forward.Leave.{all_ports}
 
 more_from : (p : ℕ → Bool) (a n : ℕ) → filter p (range_with_len a (suc n)) ≡ filter p (range_with_len a n) ++ cond (p (a + n)) ((a + n) ∷ []) []
 more_from p a zero = ap (λ m. cond (p m) (m ∷ []) []) (sym (add-zero a))

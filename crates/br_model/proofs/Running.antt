@@ -9,8 +9,8 @@ use Rattle.br_model.specs.Plane.Naming.{named}
 use Rattle.br_model.specs.Plane.Runs.{run, then_step}
 use Rattle.br_model.specs.Plane.Steps as world
 use Rattle.br_model.specs.Plane.World.{first_world}
-use Rattle.br_model.specs.Setup.{Setup}
-use Rattle.br_model.specs.Transcript.{text, line_text}
+use Rattle.br_model.specs.Table.Setup.{Setup}
+use Rattle.br_model.specs.Text.Transcript.{text, line_text}
 
 pub run_push : (setup : Setup) (steps : List world.Step) (s : world.Step) → run setup (steps ++ s ∷ []) ≡ then_step (run setup steps) s
 unfolding run

@@ -3,8 +3,8 @@ use Rattle.std.proofs.Common.{◌≡◌, ℕ, zero, suc, ◌<◌, ◌≤◌, tru
 use Rattle.std.specs.List.{fold}
 use Rattle.std.specs.Cmp.{first_so, second_so}
 use Rattle.br_model.specs.declared.change.Change.{Change}
-use Rattle.br_model.specs.Limits.{fits, all_fit, most_changes, AreWithin}
-use Rattle.br_model.specs.Table.{Table, apply, start}
+use Rattle.br_model.specs.Table.Limits.{fits, all_fit, most_changes, AreWithin}
+use Rattle.br_model.specs.Table.Table.{Table, apply, start}
 
 pub fits_at : (t : Table) (cs : List Change) (i : ℕ) (d : Change) → all_fit t cs ≡ true → i < length cs → fits (fold apply t (take i cs)) (get_or cs i d) ≡ true
 fits_at t [] i d h less = absurd (omega arith)

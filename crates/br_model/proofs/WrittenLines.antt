@@ -20,19 +20,19 @@ use Rattle.br_model.specs.declared.steps.Command.{Command}
 use Rattle.br_model.specs.declared.steps.Command.TheVariants as commands
 use Rattle.br_model.specs.declared.steps.Step.{Step}
 use Rattle.br_model.specs.declared.steps.Step.TheVariants.{Rx, Cmd, Now, Serve, Turn, Report, Sweep, Publish}
-use Rattle.br_model.specs.CommandForms.{step}
-use Rattle.br_model.specs.Declarations.{are_declared}
-use Rattle.br_model.specs.Digits.{hex_of}
-use Rattle.br_model.specs.Domains.{host}
-use Rattle.br_model.specs.FlagWords.{flags, name_of_flag}
-use Rattle.br_model.specs.Forms.{Row, after, said}
-use Rattle.br_model.specs.Frames.{longest_frame, shortest_frame, frame}
-use Rattle.br_model.specs.LineForms.{line_says, all_say, commanded}
-use Rattle.br_model.specs.Operands.{number, port_name, mac, hex, flag, bytes_of, most_cost, most_port_priority, most_priority, most_seconds, last_moment}
-use Rattle.br_model.specs.Roster.{Roster, has_number, host_name}
-use Rattle.br_model.specs.ScenarioText.{name_of, mac_text, ip_text, command_text, device_text, kind_word, switch_word, shown, step_words}
-use Rattle.br_model.specs.Words.{Word, is_word, is_comment, words}
-use Rattle.br_model.specs.WrittenSteps.{is_byte, is_flag, is_vid, is_device, is_ip, kind_has_line, command_has_line, has_line, given, is_station, is_whole}
+use Rattle.br_model.specs.Text.CommandForms.{step}
+use Rattle.br_model.specs.Text.Declarations.{are_declared}
+use Rattle.br_model.specs.Data.Digits.{hex_of}
+use Rattle.br_model.specs.Table.Domains.{host}
+use Rattle.br_model.specs.Text.FlagWords.{flags, name_of_flag}
+use Rattle.br_model.specs.Text.Forms.{Row, after, said}
+use Rattle.br_model.specs.Wire.Frames.{longest_frame, shortest_frame, frame}
+use Rattle.br_model.specs.Text.LineForms.{line_says, all_say, commanded}
+use Rattle.br_model.specs.Text.Operands.{number, port_name, mac, hex, flag, bytes_of, most_cost, most_port_priority, most_priority, most_seconds, last_moment}
+use Rattle.br_model.specs.Text.Roster.{Roster, has_number, host_name}
+use Rattle.br_model.specs.Text.ScenarioText.{name_of, mac_text, ip_text, command_text, device_text, kind_word, switch_word, shown, step_words}
+use Rattle.br_model.specs.Text.Words.{Word, is_word, is_comment, words}
+use Rattle.br_model.specs.Theorems.WrittenSteps.{is_byte, is_flag, is_vid, is_device, is_ip, kind_has_line, command_has_line, has_line, given, is_station, is_whole}
 use Rattle.br_model.proofs.WrittenAddresses.{mac_read, mac_proper}
 use Rattle.br_model.proofs.WrittenGroups.{ip_read, ip_proper}
 use Rattle.br_model.proofs.WrittenNames.{port_small, port_number_read, port_name_read, name_proper, not_host, device_read, device_proper, number_read}

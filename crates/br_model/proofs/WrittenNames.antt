@@ -11,13 +11,13 @@ use Rattle.std.specs.Str.{bytes_eq}
 use Rattle.std.proofs.lemmas.Bool.{eqb-true, not-true}
 use Rattle.std.proofs.lemmas.Slice.Eq.{bytes_eq-Decides}
 use Rattle.br_model.specs.declared.scenario.LineWhy.TheVariants as why
-use Rattle.br_model.specs.Domains.{host}
-use Rattle.br_model.specs.Operands.{number, number_in, port_number, port_name, device, found, unless}
-use Rattle.br_model.specs.Roster.{Entry, has_number, port_named, is_name, is_name_byte, host_name, longest_name}
-use Rattle.br_model.specs.ScenarioText.{name_of, device_text}
-use Rattle.br_model.specs.Words.{Word, is_word}
-use Rattle.br_model.specs.WrittenSteps.{is_device}
-use Rattle.br_model.specs.Declarations.{are_declared, fits_beside}
+use Rattle.br_model.specs.Table.Domains.{host}
+use Rattle.br_model.specs.Text.Operands.{number, number_in, port_number, port_name, device, found, unless}
+use Rattle.br_model.specs.Text.Roster.{Entry, has_number, port_named, is_name, is_name_byte, host_name, longest_name}
+use Rattle.br_model.specs.Text.ScenarioText.{name_of, device_text}
+use Rattle.br_model.specs.Text.Words.{Word, is_word}
+use Rattle.br_model.specs.Theorems.WrittenSteps.{is_device}
+use Rattle.br_model.specs.Text.Declarations.{are_declared, fits_beside}
 use Rattle.br_model.proofs.Words.{equal}
 use Rattle.br_model.proofs.WrittenNumbers.{decimal_read}
 use Rattle.br_model.proofs.WrittenWords.{is_letter, letters, is_proper, both}

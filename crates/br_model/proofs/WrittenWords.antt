@@ -4,7 +4,7 @@ use Rattle.std.specs.Char.{is_ascii}
 use Rattle.std.specs.Cmp.{first_so, second_so}
 use Rattle.std.specs.List.{filter, list_all, onto_first, slice_split}
 use Rattle.std.proofs.lemmas.Bool.{not-true}
-use Rattle.br_model.specs.Words.{Word, is_word, readable, replacement, words}
+use Rattle.br_model.specs.Text.Words.{Word, is_word, readable, replacement, words}
 
 -- a byte that can stand in a word
 abbrev pub is_letter : ℕ → Bool

@@ -1,6 +1,6 @@
 //! What is accepted: the changes of the bridge's table.
 ghost use Rattle.std.specs.Prelude.{◌≡◌, ◌<◌, ◌↔◌, IsSome, IfSome};
-ghost use Rattle.br_model.specs.Change.{deferred};
+ghost use Rattle.br_model.specs.Table.Change.{deferred};
 
 use crate::group::Group;
 use crate::numbers::{Mac, Port, Vid};

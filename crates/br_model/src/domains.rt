@@ -2,9 +2,9 @@
 ghost use Rattle.std.specs.Prelude.{◌≡◌, ◌≢◌, ◌==◌, ◌<◌, ℕ, false, [], ◌∷◌, if◌then◌else◌, get_or, slice_index, None, Some};
 ghost use Rattle.std.specs.Int.{bit_at};
 ghost use Rattle.std.specs.Ordering.{nat_cmp};
-ghost use Rattle.br_model.specs.Domains.{domain_of, entries_from, host};
-ghost use Rattle.br_model.specs.DomainPorts.{IsWordOf};
-ghost use Rattle.br_model.specs.Maps.{put};
+ghost use Rattle.br_model.specs.Table.Domains.{domain_of, entries_from, host};
+ghost use Rattle.br_model.specs.Table.DomainPorts.{IsWordOf};
+ghost use Rattle.br_model.specs.Data.Maps.{put};
 
 use crate::numbers::{Dom, Port};
 use std::marker::Model;
@@ -20,8 +20,8 @@ pub struct Domains {
 
 impl Model for Domains {
     ghost use Rattle.std.specs.Prelude.{◌≡◌, ℕ, ◌<◌, List, Some, None, get_or, slice_index};
-    ghost use Rattle.br_model.specs.Domains.{entries_from};
-    ghost use Rattle.br_model.specs.DomainPorts.{IsWordOf};
+    ghost use Rattle.br_model.specs.Table.Domains.{entries_from};
+    ghost use Rattle.br_model.specs.Table.DomainPorts.{IsWordOf};
 
     ghost Value = { List (ℕ × ℕ) };
 

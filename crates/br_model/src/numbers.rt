@@ -1,7 +1,7 @@
 //! Numbers that their types keep in range: ports, domains, VLANs and addresses.
 ghost use Rattle.std.specs.Prelude.{◌≡◌, ◌==◌, ◌≤◌, ◌<◌, ◌*◌, ◌^◌, ◌↔◌, IsSome, IfSome};
-ghost use Rattle.br_model.specs.Numbers.{number, is_multicast};
-ghost use Rattle.br_model.specs.Targets.{is_for_the_host};
+ghost use Rattle.br_model.specs.Data.Numbers.{number, is_multicast};
+ghost use Rattle.br_model.specs.Forward.Targets.{is_for_the_host};
 
 use std::marker::Model;
 

@@ -2,12 +2,12 @@
 ghost use Rattle.std.specs.Prelude.{◌≡◌, ◌≢◌, ◌≤◌, ◌==◌, length, OnOk, OnErr, IfOk, IfSome, slice_get, true, false, not, ◌&&◌, Some, Ok};
 ghost use Rattle.std.specs.Option.{option_map, is_some};
 ghost use Rattle.br_model.specs.declared.scenario.Said.TheVariants.{Bridge, Declares};
-ghost use Rattle.br_model.specs.Domains.{host};
-ghost use Rattle.br_model.specs.Operands.{port_name, device as device_of, new_port as new_port_of, new_name as new_name_of, port_number as port_number_of};
-ghost use Rattle.br_model.specs.Roster.{first_roster, domains_of, has_number, port_named, is_name as is_a_name};
-ghost use Rattle.br_model.specs.Scenario.{declared};
-ghost use Rattle.br_model.specs.ScenarioText.{name_of};
-ghost use Rattle.br_model.specs.Declarations.{fits_beside, are_declared};
+ghost use Rattle.br_model.specs.Table.Domains.{host};
+ghost use Rattle.br_model.specs.Text.Operands.{port_name, device as device_of, new_port as new_port_of, new_name as new_name_of, port_number as port_number_of};
+ghost use Rattle.br_model.specs.Text.Roster.{first_roster, domains_of, has_number, port_named, is_name as is_a_name};
+ghost use Rattle.br_model.specs.Text.Scenario.{declared};
+ghost use Rattle.br_model.specs.Text.ScenarioText.{name_of};
+ghost use Rattle.br_model.specs.Text.Declarations.{fits_beside, are_declared};
 ghost use Rattle.bridge_command.specs.Seen.{in_place, stands_at, is_port_at, OrNoMemory};
 
 use crate::operands::{is_decimal, is_name, number, number_up_to};
@@ -34,8 +34,8 @@ pub struct Roster {
 
 impl Model for Roster {
     ghost use Rattle.std.specs.Prelude.{◌≡◌, true, map};
-    ghost use Rattle.br_model.specs.Roster.{Roster as Ports, domains_of};
-    ghost use Rattle.br_model.specs.Declarations.{are_declared};
+    ghost use Rattle.br_model.specs.Text.Roster.{Roster as Ports, domains_of};
+    ghost use Rattle.br_model.specs.Text.Declarations.{are_declared};
     ghost use Rattle.bridge_command.specs.Seen.{entry};
 
     ghost Value = { Ports };
@@ -178,7 +178,7 @@ impl Roster {
     }
 
     /// The port that the word names.
-    #[tactic(auto, unfolding(br_model::specs::Operands::port_name))]
+    #[tactic(auto, unfolding(br_model::specs::Text::Operands::port_name))]
     pub(crate) fn named(&self, word: &str) -> Result<Port, LineWhy>
         ensures { result ≡ port_name self.now.ports word.now }
     {
@@ -189,7 +189,7 @@ impl Roster {
     }
 
     /// The port that the word names, or the host.
-    #[tactic(auto, unfolding(br_model::specs::Operands::device))]
+    #[tactic(auto, unfolding(br_model::specs::Text::Operands::device))]
     pub(crate) fn device(&self, word: &str) -> Result<Port, LineWhy>
         ensures { result ≡ device_of self.now.ports word.now }
     {
@@ -207,7 +207,7 @@ impl Roster {
     }
 
     /// The declared port whose number the word spells.
-    #[tactic(auto, unfolding(br_model::specs::Operands::port_number))]
+    #[tactic(auto, unfolding(br_model::specs::Text::Operands::port_number))]
     pub fn numbered(&self, word: &str) -> Result<Port, LineWhy>
         ensures { result ≡ port_number_of self.now.ports word.now }
     {
@@ -224,7 +224,7 @@ impl Roster {
     }
 
     /// The number of a port that isn't declared yet.
-    #[tactic(auto, unfolding(br_model::specs::Operands::new_port))]
+    #[tactic(auto, unfolding(br_model::specs::Text::Operands::new_port))]
     pub fn new_port(&self, word: &str) -> Result<Port, LineWhy>
         ensures value { result ≡ new_port_of self.now.ports word.now }
         ensures fits { IfOk result (λ p. (p ≢ host) × (has_number self.now.ports p ≡ false)) }
@@ -237,7 +237,7 @@ impl Roster {
     }
 
     /// The name of a port that isn't declared yet.
-    #[tactic(auto, unfolding(br_model::specs::Operands::new_name))]
+    #[tactic(auto, unfolding(br_model::specs::Text::Operands::new_name))]
     pub fn new_name(&self, alloc: Global, word: &str) -> Result<Name, LineWhy>
         ensures value { OrNoMemory result (new_name_of self.now.ports word.now) }
         ensures fits { IfOk result (λ name. (is_a_name name && not (is_some (port_named self.now.ports name))) ≡ true) }
@@ -251,7 +251,7 @@ impl Roster {
         }
     }
 
-    #[tactic(auto, unfolding(br_model::specs::Operands::port_name))]
+    #[tactic(auto, unfolding(br_model::specs::Text::Operands::port_name))]
     fn is_taken(&self, word: &str) -> bool
         ensures { result ≡ is_some (port_named self.now.ports word.now) }
     {

@@ -10,17 +10,17 @@ use Rattle.br_model.specs.declared.steps.Refusal.{Refusal}
 use Rattle.br_model.specs.declared.steps.Refusal.TheVariants.{HistoryFull}
 use Rattle.br_model.specs.declared.transcript.Line.{Line}
 use Rattle.br_model.specs.declared.tree.TreeEvent.{TreeEvent}
-use Rattle.br_model.specs.Control.{Control, keeps_up}
-use Rattle.br_model.specs.Course.{Course, makes_all}
-use Rattle.br_model.specs.Limits.{all_fit}
+use Rattle.br_model.specs.Control.Control.{Control, keeps_up}
+use Rattle.br_model.specs.Control.Course.{Course, makes_all}
+use Rattle.br_model.specs.Table.Limits.{all_fit}
 use Rattle.br_model.specs.Plane.World.{control_lines}
-use Rattle.br_model.specs.Reaction.{Reaction, has_room, in_room}
-use Rattle.br_model.specs.Table.{Table, table, apply}
-use Rattle.br_model.specs.Tree.{Tree, state_at}
-use Rattle.br_model.specs.TreeLaws.{knows_states}
-use Rattle.br_model.specs.TreeReaction.{states, told}
-use Rattle.br_model.specs.TreeSending.{Acted}
-use Rattle.br_model.specs.TreeStep.{tree_step, moved, sent}
+use Rattle.br_model.specs.Control.Reaction.{Reaction, has_room, in_room}
+use Rattle.br_model.specs.Table.Table.{Table, table, apply}
+use Rattle.br_model.specs.Tree.Tree.{Tree, state_at}
+use Rattle.br_model.specs.Theorems.TreeLaws.{knows_states}
+use Rattle.br_model.specs.Control.TreeReaction.{states, told}
+use Rattle.br_model.specs.Tree.Sending.{Acted}
+use Rattle.br_model.specs.Tree.Step.{tree_step, moved, sent}
 use Rattle.br_model.proofs.TreeKept.{known-at}
 use Rattle.bridge_core.specs.declared.faults.EventFault.{EventFault}
 use Rattle.bridge_core.specs.declared.faults.EventFault.TheVariants.{Refused, NoMemory}

@@ -5,17 +5,17 @@ use Rattle.std.specs.Cmp.{first_so, second_so}
 use Rattle.std.specs.List.{list_all}
 use Rattle.br_model.specs.declared.change.Change.{Change}
 use Rattle.br_model.specs.declared.change.Change.TheVariants.{PortUp, PortDown, SetFlags, SetState, VlanAdd, VlanDel, GroupJoin, GroupPart, Router, Querier, Snoop, Stp, AddrPut, AddrDel}
-use Rattle.br_model.specs.Ageing.{forgets}
-use Rattle.br_model.specs.Change.{deferred}
-use Rattle.br_model.specs.Control.{Control, keeps_up}
-use Rattle.br_model.specs.Course.{Course, makes, makes_all}
-use Rattle.br_model.specs.Ends.{Ends, due, due_members, endings}
-use Rattle.br_model.specs.EndsTied.{IsTied}
-use Rattle.br_model.specs.Groups.{Membership}
-use Rattle.br_model.specs.Learning.{Address}
-use Rattle.br_model.specs.Limits.{all_fit}
-use Rattle.br_model.specs.Reaction.{ends}
-use Rattle.br_model.specs.Table.{Table, apply, with_addresses, ip_version}
+use Rattle.br_model.specs.Control.Ageing.{forgets}
+use Rattle.br_model.specs.Table.Change.{deferred}
+use Rattle.br_model.specs.Control.Control.{Control, keeps_up}
+use Rattle.br_model.specs.Control.Course.{Course, makes, makes_all}
+use Rattle.br_model.specs.Control.Ends.{Ends, due, due_members, endings}
+use Rattle.br_model.specs.Theorems.EndsTied.{IsTied}
+use Rattle.br_model.specs.Table.Groups.{Membership}
+use Rattle.br_model.specs.Control.Learning.{Address}
+use Rattle.br_model.specs.Table.Limits.{all_fit}
+use Rattle.br_model.specs.Control.Reaction.{ends}
+use Rattle.br_model.specs.Table.Table.{Table, apply, with_addresses, ip_version}
 use Rattle.mdb_snoop.specs.Database.{versions}
 use Rattle.bridge_core.specs.Ending.{queriers_off}
 use Rattle.bridge_core.proofs.Fitting.{made_all, all_fit_any, always-append, always-map}

@@ -6,10 +6,10 @@ use Rattle.std.specs.List.{fold, list_all}
 use Rattle.std.specs.Cmp.{first_so, second_so}
 use Rattle.br_model.specs.declared.change.Change.{Change}
 use Rattle.br_model.specs.declared.change.Change.TheVariants.{PortUp, PortDown, SetFlags, SetState, VlanAdd, VlanDel, GroupJoin, GroupPart, Router, Querier, Snoop, Stp, AddrPut, AddrDel}
-use Rattle.br_model.specs.Control.{keeps_up}
-use Rattle.br_model.specs.Course.{Course, makes, makes_all}
-use Rattle.br_model.specs.Limits.{fits, all_fit}
-use Rattle.br_model.specs.Table.{Table, apply}
+use Rattle.br_model.specs.Control.Control.{keeps_up}
+use Rattle.br_model.specs.Control.Course.{Course, makes, makes_all}
+use Rattle.br_model.specs.Table.Limits.{fits, all_fit}
+use Rattle.br_model.specs.Table.Table.{Table, apply}
 
 both : (a b : Bool) → a ≡ true → b ≡ true → (a && b) ≡ true
 both a b p q = λ i. p i && q i

@@ -16,19 +16,19 @@ use Rattle.br_model.specs.declared.change.Change.TheVariants.{PortUp, PortDown, 
 use Rattle.br_model.specs.declared.group.Group.{Group}
 use Rattle.std.specs.Cmp.{first_so, second_so}
 use Rattle.std.specs.List.{list_all}
-use Rattle.br_model.specs.Change.{deferred}
-use Rattle.br_model.specs.Control.{Control, ends_with}
-use Rattle.br_model.specs.Course.{Course}
-use Rattle.br_model.specs.Ends.{Ends, member_time, querier_time, leave_time, end_of, lasts, parts, routes, queries, keys}
-use Rattle.br_model.specs.EndsTied.{IsTied}
-use Rattle.br_model.specs.GroupPairs.{has_room}
-use Rattle.br_model.specs.Groups.{Membership, is_link_local, membership_cmp}
-use Rattle.br_model.specs.Limits.{fits, all_fit}
-use Rattle.br_model.specs.Maps.{get, put, has}
-use Rattle.br_model.specs.Records.{acts, acts_of, record_length}
-use Rattle.br_model.specs.Snooping.{fastleave, end_at, until, joins, leaves, leaves_from, querier_heard, router_heard}
-use Rattle.br_model.specs.Table.{Table, apply, ip_version}
-use Rattle.br_model.specs.Targets.{has_flag}
+use Rattle.br_model.specs.Table.Change.{deferred}
+use Rattle.br_model.specs.Control.Control.{Control, ends_with}
+use Rattle.br_model.specs.Control.Course.{Course}
+use Rattle.br_model.specs.Control.Ends.{Ends, member_time, querier_time, leave_time, end_of, lasts, parts, routes, queries, keys}
+use Rattle.br_model.specs.Theorems.EndsTied.{IsTied}
+use Rattle.br_model.specs.Table.GroupPairs.{has_room}
+use Rattle.br_model.specs.Table.Groups.{Membership, is_link_local, membership_cmp}
+use Rattle.br_model.specs.Table.Limits.{fits, all_fit}
+use Rattle.br_model.specs.Data.Maps.{get, put, has}
+use Rattle.br_model.specs.Wire.Records.{acts, acts_of, record_length}
+use Rattle.br_model.specs.Control.Snooping.{fastleave, end_at, until, joins, leaves, leaves_from, querier_heard, router_heard}
+use Rattle.br_model.specs.Table.Table.{Table, apply, ip_version}
+use Rattle.br_model.specs.Forward.Targets.{has_flag}
 use Rattle.br_model.proofs.EndsTied.{tied-groups, tied-routers, tied-queriers, tied-lasts, tied-parts, tied-routes, tied-queries}
 use Rattle.br_model.proofs.GroupOrders.{membership_total}
 use Rattle.br_model.proofs.KeySets.{keys-put_there, ascending-put}

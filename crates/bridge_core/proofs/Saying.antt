@@ -8,16 +8,16 @@ use Rattle.std.specs.declared.result.Result.TheVariants.{Ok, Err}
 use Rattle.br_model.specs.declared.steps.Refusal.{Refusal}
 use Rattle.br_model.specs.declared.steps.Refusal.TheVariants.{HistoryFull}
 use Rattle.br_model.specs.declared.transcript.Line.{Line}
-use Rattle.br_model.specs.Change.{deferred}
-use Rattle.br_model.specs.Control.{keeps_up}
-use Rattle.br_model.specs.Course.{Course}
-use Rattle.br_model.specs.EndsTied.{IsTied}
-use Rattle.br_model.specs.Limits.{most_changes}
+use Rattle.br_model.specs.Table.Change.{deferred}
+use Rattle.br_model.specs.Control.Control.{keeps_up}
+use Rattle.br_model.specs.Control.Course.{Course}
+use Rattle.br_model.specs.Theorems.EndsTied.{IsTied}
+use Rattle.br_model.specs.Table.Limits.{most_changes}
 use Rattle.br_model.specs.Plane.World.{control_lines}
-use Rattle.br_model.specs.Reaction.{Reaction, in_room}
-use Rattle.br_model.specs.Snooping.{fastleave}
-use Rattle.br_model.specs.Table.{table, apply}
-use Rattle.br_model.specs.Targets.{has_flag}
+use Rattle.br_model.specs.Control.Reaction.{Reaction, in_room}
+use Rattle.br_model.specs.Control.Snooping.{fastleave}
+use Rattle.br_model.specs.Table.Table.{table, apply}
+use Rattle.br_model.specs.Forward.Targets.{has_flag}
 use Rattle.bridge_core.specs.declared.faults.EventFault.{EventFault}
 use Rattle.bridge_core.specs.declared.plan.Plan.{Plan}
 use Rattle.bridge_core.specs.declared.snooping.Speaker.{Speaker}

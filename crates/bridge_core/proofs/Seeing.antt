@@ -6,13 +6,13 @@ use Rattle.br_model.specs.declared.frame.Head.{Head}
 use Rattle.br_model.specs.declared.frame.McastMsg.{McastMsg}
 use Rattle.br_model.specs.declared.steps.Refusal.{Refusal}
 use Rattle.br_model.specs.declared.tree.TreeEvent.{TreeEvent}
-use Rattle.br_model.specs.Course.{Course}
-use Rattle.br_model.specs.Messages.{message}
-use Rattle.br_model.specs.Reaction.{learns_of, sees}
-use Rattle.br_model.specs.Setup.{Setup}
-use Rattle.br_model.specs.Snooping.{snoops}
-use Rattle.br_model.specs.Table.{Table}
-use Rattle.br_model.specs.TreeReaction.{heard, told}
+use Rattle.br_model.specs.Control.Course.{Course}
+use Rattle.br_model.specs.Wire.Messages.{message}
+use Rattle.br_model.specs.Control.Reaction.{learns_of, sees}
+use Rattle.br_model.specs.Table.Setup.{Setup}
+use Rattle.br_model.specs.Control.Snooping.{snoops}
+use Rattle.br_model.specs.Table.Table.{Table}
+use Rattle.br_model.specs.Control.TreeReaction.{heard, told}
 use Rattle.bridge_core.specs.Hearing.{most}
 use Rattle.bridge_core.specs.Plans.{learns_and_tells}
 use Rattle.bridge_core.proofs.Speaking.{tree-hears-alone}

@@ -10,10 +10,10 @@ use Rattle.br_model.specs.declared.steps.Event.TheVariants.{Cmd, Moment, Sight, 
 use Rattle.br_model.specs.declared.steps.Refusal.{Refusal}
 use Rattle.br_model.specs.declared.steps.Refusal.TheVariants.{HistoryFull}
 use Rattle.br_model.specs.declared.transcript.Line.{Line}
-use Rattle.br_model.specs.Control.{Control, keeps_up}
-use Rattle.br_model.specs.Frames.{frame}
+use Rattle.br_model.specs.Control.Control.{Control, keeps_up}
+use Rattle.br_model.specs.Wire.Frames.{frame}
 use Rattle.br_model.specs.Plane.World.{control_lines}
-use Rattle.br_model.specs.Reaction.{Reaction, has_room}
+use Rattle.br_model.specs.Control.Reaction.{Reaction, has_room}
 use Rattle.bridge_core.specs.declared.bridge.Reaction.{Reaction as Reacted}
 use Rattle.bridge_core.specs.declared.faults.EventFault.{EventFault}
 use Rattle.bridge_core.specs.declared.faults.EventFault.TheVariants.{Refused, NoMemory}

@@ -7,9 +7,9 @@ use Rattle.br_model.specs.declared.change.Change.{Change}
 use Rattle.br_model.specs.declared.change.Change.TheVariants.{SetState}
 use Rattle.br_model.specs.declared.transcript.Line.{Line}
 use Rattle.br_model.specs.Plane.World.{control_line}
-use Rattle.br_model.specs.Tree.{Tree, state_at}
-use Rattle.br_model.specs.TreeSending.{Acted}
-use Rattle.br_model.specs.TreeStep.{message}
+use Rattle.br_model.specs.Tree.Tree.{Tree, state_at}
+use Rattle.br_model.specs.Tree.Sending.{Acted}
+use Rattle.br_model.specs.Tree.Step.{message}
 use Rattle.stp_core.specs.declared.tree.TreeOut.{TreeOut}
 
 abbrev pub state_change : Tree → ℕ → Change

@@ -7,16 +7,16 @@ use Rattle.br_model.specs.declared.change.Change.{Change}
 use Rattle.br_model.specs.declared.change.Change.TheVariants.{PortUp, PortDown, SetFlags, SetState, VlanAdd, VlanDel, GroupJoin, GroupPart, Router, Querier, Snoop, Stp, AddrPut, AddrDel}
 use Rattle.br_model.specs.declared.frame.McastMsg.{McastMsg}
 use Rattle.br_model.specs.declared.frame.McastMsg.TheVariants.{Plain, Payload, Query, Report, Leave, Records, Unrecognized}
-use Rattle.br_model.specs.Change.{deferred}
-use Rattle.br_model.specs.Control.{ends_with}
-use Rattle.br_model.specs.Course.{Course}
-use Rattle.br_model.specs.Ends.{Ends, keys}
-use Rattle.br_model.specs.EndsTied.{IsTied}
-use Rattle.br_model.specs.GroupPairs.{has_room}
-use Rattle.br_model.specs.Limits.{all_fit}
-use Rattle.br_model.specs.Snooping.{fastleave, said}
-use Rattle.br_model.specs.Table.{apply}
-use Rattle.br_model.specs.Targets.{has_flag}
+use Rattle.br_model.specs.Table.Change.{deferred}
+use Rattle.br_model.specs.Control.Control.{ends_with}
+use Rattle.br_model.specs.Control.Course.{Course}
+use Rattle.br_model.specs.Control.Ends.{Ends, keys}
+use Rattle.br_model.specs.Theorems.EndsTied.{IsTied}
+use Rattle.br_model.specs.Table.GroupPairs.{has_room}
+use Rattle.br_model.specs.Table.Limits.{all_fit}
+use Rattle.br_model.specs.Control.Snooping.{fastleave, said}
+use Rattle.br_model.specs.Table.Table.{apply}
+use Rattle.br_model.specs.Forward.Targets.{has_flag}
 use Rattle.bridge_core.specs.declared.snooping.Speaker.{Speaker}
 use Rattle.bridge_core.specs.declared.state.State.{State}
 use Rattle.bridge_core.specs.Standing.{table_of}

@@ -2,9 +2,9 @@
 use Rattle.std.specs.Prelude.{ℕ, Bool, ◌&&◌, ◌||◌, if◌then◌else◌}
 use Rattle.br_model.specs.declared.change.Change.TheVariants.{AddrPut}
 use Rattle.br_model.specs.declared.change.Kind.TheVariants.{Learned, Extern}
-use Rattle.br_model.specs.Learning.{Address, is_learned_at, is_news, is_renewed, may_teach}
-use Rattle.br_model.specs.Limits.{fits}
-use Rattle.br_model.specs.Table.{Table}
+use Rattle.br_model.specs.Control.Learning.{Address, is_learned_at, is_news, is_renewed, may_teach}
+use Rattle.br_model.specs.Table.Limits.{fits}
+use Rattle.br_model.specs.Table.Table.{Table}
 use Rattle.bridge_core.specs.declared.learning.Lesson.{Lesson}
 use Rattle.bridge_core.specs.declared.learning.Lesson.TheVariants.{Known, Renewed, News}
 

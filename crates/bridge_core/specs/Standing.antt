@@ -2,9 +2,9 @@
 use Rattle.std.specs.Prelude.{ℕ, List}
 use Rattle.br_model.specs.declared.bpdu.BpduMsg.{BpduMsg}
 use Rattle.br_model.specs.declared.change.Change.{Change}
-use Rattle.br_model.specs.Control.{Control, ends_with, keeps_up}
-use Rattle.br_model.specs.Course.{Course}
-use Rattle.br_model.specs.Table.{Table, with_addresses}
+use Rattle.br_model.specs.Control.Control.{Control, ends_with, keeps_up}
+use Rattle.br_model.specs.Control.Course.{Course}
+use Rattle.br_model.specs.Table.Table.{Table, with_addresses}
 use Rattle.bridge_core.specs.declared.state.Clock.{Clock}
 use Rattle.bridge_core.specs.declared.state.State.{State}
 

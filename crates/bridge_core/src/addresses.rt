@@ -1,8 +1,8 @@
 //! The addresses of a bridge's table, with their moments.
 ghost use Rattle.std.specs.Prelude.{◌≡◌, ◌||◌, not, nat_lt, Bool, false, min, IfOk, IsSome, IsTrue, [], length, is_some, map, option_map};
 ghost use Rattle.std.specs.List.{filter};
-ghost use Rattle.br_model.specs.Limits.{most_addresses};
-ghost use Rattle.br_model.specs.Maps.{pair_cmp, get, put, without};
+ghost use Rattle.br_model.specs.Table.Limits.{most_addresses};
+ghost use Rattle.br_model.specs.Data.Maps.{pair_cmp, get, put, without};
 ghost use Rattle.fdb_core.specs.Fdb.{place};
 ghost use Rattle.bridge_core.specs.Entries.{keys_at, old_keys, is_due, exact_bound, last_moment};
 

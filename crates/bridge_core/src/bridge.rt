@@ -2,20 +2,20 @@
 ghost use Rattle.std.specs.Prelude.{◌≡◌, ◌≤◌, ◌<◌, ◌+◌, ◌^◌, ◌++◌, [], List, length, option_map, true, false, Some, Ok, IfOk, IfSome, IsSome, IsTrue, vec_len, vec_capacity};
 ghost use Rattle.std.specs.List.{filter};
 ghost use Rattle.std.specs.List.{list_all};
-ghost use Rattle.br_model.specs.Change.{deferred};
-ghost use Rattle.br_model.specs.Control.{first_control};
-ghost use Rattle.br_model.specs.Course.{Course, from};
-ghost use Rattle.br_model.specs.Frames.{frame};
-ghost use Rattle.br_model.specs.Limits.{all_fit, AreWithin, most_changes};
-ghost use Rattle.br_model.specs.Maps.{pair_cmp, get};
-ghost use Rattle.br_model.specs.Messages.{message as message_in, RecordsStand};
-ghost use Rattle.br_model.specs.Snooping.{fastleave, said};
-ghost use Rattle.br_model.specs.Targets.{has_flag};
-ghost use Rattle.br_model.specs.TreeReaction.{heard};
+ghost use Rattle.br_model.specs.Table.Change.{deferred};
+ghost use Rattle.br_model.specs.Control.Control.{first_control};
+ghost use Rattle.br_model.specs.Control.Course.{Course, from};
+ghost use Rattle.br_model.specs.Wire.Frames.{frame};
+ghost use Rattle.br_model.specs.Table.Limits.{all_fit, AreWithin, most_changes};
+ghost use Rattle.br_model.specs.Data.Maps.{pair_cmp, get};
+ghost use Rattle.br_model.specs.Wire.Messages.{message as message_in, RecordsStand};
+ghost use Rattle.br_model.specs.Control.Snooping.{fastleave, said};
+ghost use Rattle.br_model.specs.Forward.Targets.{has_flag};
+ghost use Rattle.br_model.specs.Control.TreeReaction.{heard};
 ghost use Rattle.br_model.specs.declared.transcript.Line.{Line as LineValue};
 ghost use Rattle.fdb_core.specs.Fdb.{place};
-ghost use Rattle.br_model.specs.Reaction.{in_room, react as reaction, sees as reacts_to_sight};
-ghost use Rattle.br_model.specs.Table.{table, start};
+ghost use Rattle.br_model.specs.Control.Reaction.{in_room, react as reaction, sees as reacts_to_sight};
+ghost use Rattle.br_model.specs.Table.Table.{table, start};
 ghost use Rattle.br_model.specs.declared.steps.Event.TheVariants as Event;
 ghost use Rattle.bridge_core.specs.Answers.{IsEvent, Makes, Reacts, ctl_of};
 ghost use Rattle.bridge_core.specs.Hearing.{Hears, most};
@@ -70,11 +70,11 @@ impl Model for Bridge {
 
     ghost use Rattle.std.specs.Prelude.{◌≡◌, ◌≤◌, ◌<◌, ◌^◌, IsTrue, length};
     ghost use Rattle.std.specs.List.{filter};
-    ghost use Rattle.br_model.specs.Change.{deferred};
-    ghost use Rattle.br_model.specs.Course.{from};
-    ghost use Rattle.br_model.specs.EndsTied.{IsTied};
-    ghost use Rattle.br_model.specs.Limits.{most_changes, all_fit};
-    ghost use Rattle.br_model.specs.Table.{table, start};
+    ghost use Rattle.br_model.specs.Table.Change.{deferred};
+    ghost use Rattle.br_model.specs.Control.Course.{from};
+    ghost use Rattle.br_model.specs.Theorems.EndsTied.{IsTied};
+    ghost use Rattle.br_model.specs.Table.Limits.{most_changes, all_fit};
+    ghost use Rattle.br_model.specs.Table.Table.{table, start};
     ghost use Rattle.bridge_core.specs.Standing.{table_of, control_of};
 
     ghost view = { λ b. record { setup = record { domains = b.domains; own = b.own }; history = b.history.items; control = control_of b.state } };
@@ -321,7 +321,7 @@ impl Bridge {
 
     /// Reacts to the event, and adds the lines of the control frames that leave, with room for another line behind them. The
     /// answer is the place of the first new change in the history. A refusal and want of memory leave the bridge as it was.
-    #[tactic(auto, unfolding(br_model::specs::Reaction::react))]
+    #[tactic(auto, unfolding(br_model::specs::Control::Reaction::react))]
     pub fn answer(
         &mut self,
         alloc: Global,
@@ -348,7 +348,7 @@ impl Bridge {
 
     /// Reacts to a frame that was sent, as to the event `Sight`, without a copy of its bytes. `message` is what the frame says to
     /// snooping.
-    #[tactic(auto, unfolding(br_model::specs::Reaction::react))]
+    #[tactic(auto, unfolding(br_model::specs::Control::Reaction::react))]
     pub fn see(
         &mut self,
         alloc: Global,

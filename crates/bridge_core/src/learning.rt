@@ -1,11 +1,11 @@
 //! What a frame teaches: behind which port its source is.
 ghost use Rattle.std.specs.Prelude.{◌≡◌, ◌==◌, ◌<◌, ◌^◌, ℕ, None, Some, Ok, IfOk, [], ◌∷◌, true};
 ghost use Rattle.br_model.specs.declared.change.Change.TheVariants.{AddrPut};
-ghost use Rattle.br_model.specs.Course.{from, makes_all};
-ghost use Rattle.br_model.specs.Learning.{teach, is_reserved, told};
-ghost use Rattle.br_model.specs.Reaction.{learns};
-ghost use Rattle.br_model.specs.TreeReaction.{heard};
-ghost use Rattle.br_model.specs.Change.{deferred};
+ghost use Rattle.br_model.specs.Control.Course.{from, makes_all};
+ghost use Rattle.br_model.specs.Control.Learning.{teach, is_reserved, told};
+ghost use Rattle.br_model.specs.Control.Reaction.{learns};
+ghost use Rattle.br_model.specs.Control.TreeReaction.{heard};
+ghost use Rattle.br_model.specs.Table.Change.{deferred};
 ghost use Rattle.std.specs.List.{list_all};
 ghost use Rattle.bridge_core.specs.Plans.{learns_and_tells};
 ghost use Rattle.bridge_core.specs.Lessons.{lesson_of, is_taken};

@@ -1,9 +1,9 @@
 //! How the spanning tree takes part: what it is told, the states that follow it, and the frames that carry its messages.
 ghost use Rattle.std.specs.Prelude.{◌≡◌, ◌++◌, ◌∷◌, [], ◌<◌, map, OnOk, IfOk, vec_len, vec_capacity};
-ghost use Rattle.br_model.specs.Commands.SpanningTree.{tells};
+ghost use Rattle.br_model.specs.Control.Commands.SpanningTree.{tells};
 ghost use Rattle.br_model.specs.Plane.World.{control_line, control_lines};
-ghost use Rattle.br_model.specs.TreeReaction.{heard};
-ghost use Rattle.br_model.specs.TreeStep.{sent};
+ghost use Rattle.br_model.specs.Control.TreeReaction.{heard};
+ghost use Rattle.br_model.specs.Tree.Step.{sent};
 ghost use Rattle.bridge_core.specs.Following.{state_change, config_lines, acted_by};
 ghost use Rattle.bridge_core.specs.Standing.{table_of};
 

@@ -1,15 +1,15 @@
 //! Where a bridge stands: its table, its moments, and its spanning tree.
 ghost use Rattle.std.specs.Prelude.{ℕ, ◌≡◌, ◌≤◌, ◌<◌, ◌+◌, ◌++◌, true, List, length, ◌^◌, IfOk, IfSome, IsSome, IsTrue, vec_len, vec_capacity};
 ghost use Rattle.std.specs.List.{fold};
-ghost use Rattle.br_model.specs.Ageing.{stay};
+ghost use Rattle.br_model.specs.Control.Ageing.{stay};
 ghost use Rattle.br_model.specs.declared.bpdu.BpduMsg.{BpduMsg};
-ghost use Rattle.br_model.specs.Control.{Control, first_control, keeps_up};
-ghost use Rattle.br_model.specs.EndsTied.{IsTied};
-ghost use Rattle.br_model.specs.Limits.{fits, all_fit};
-ghost use Rattle.br_model.specs.Table.{Table, start, apply};
-ghost use Rattle.br_model.specs.Maps.{pair_cmp, get};
-ghost use Rattle.br_model.specs.Messages.{RecordsStand};
-ghost use Rattle.br_model.specs.Snooping.{said};
+ghost use Rattle.br_model.specs.Control.Control.{Control, first_control, keeps_up};
+ghost use Rattle.br_model.specs.Theorems.EndsTied.{IsTied};
+ghost use Rattle.br_model.specs.Table.Limits.{fits, all_fit};
+ghost use Rattle.br_model.specs.Table.Table.{Table, start, apply};
+ghost use Rattle.br_model.specs.Data.Maps.{pair_cmp, get};
+ghost use Rattle.br_model.specs.Wire.Messages.{RecordsStand};
+ghost use Rattle.br_model.specs.Control.Snooping.{said};
 ghost use Rattle.bridge_core.specs.Plans.{renewed_at};
 ghost use Rattle.bridge_core.specs.Hearing.{IsHeard, HasRoom, most};
 ghost use Rattle.bridge_core.specs.Standing.{table_of, control_of, clocked, course_of, places};

@@ -8,16 +8,16 @@ use Rattle.std.proofs.lemmas.List.Sums.{sum_by-append}
 use Rattle.br_model.specs.declared.steps.Step.{Step}
 use Rattle.br_model.specs.declared.steps.Step.TheVariants.{Now, Turn, Report, Publish}
 use Rattle.br_model.specs.declared.transcript.Line.{Line}
-use Rattle.br_model.specs.Generator.{made_scenario, most_frames, each, frame_steps, frames_from, steps}
-use Rattle.br_model.specs.Operands.{last_moment}
+use Rattle.br_model.specs.Program.Generator.{made_scenario, most_frames, each, frame_steps, frames_from, steps}
+use Rattle.br_model.specs.Text.Operands.{last_moment}
 use Rattle.br_model.specs.Plane.Naming.{named}
 use Rattle.br_model.specs.Plane.Runs.{run, then_step, pending}
 use Rattle.br_model.specs.Plane.Steps.{world_step}
 use Rattle.br_model.specs.Plane.World.{World, Stepped, first_world}
-use Rattle.br_model.specs.Runs.{run_of, setup_of}
-use Rattle.br_model.specs.Scenario.{Scenario}
-use Rattle.br_model.specs.Setup.{Setup}
-use Rattle.br_model.specs.Summary.{kind_of, count_of, summary, summary_text}
+use Rattle.br_model.specs.Program.Runs.{run_of, setup_of}
+use Rattle.br_model.specs.Text.Scenario.{Scenario}
+use Rattle.br_model.specs.Table.Setup.{Setup}
+use Rattle.br_model.specs.Program.Summary.{kind_of, count_of, summary, summary_text}
 use Rattle.br_model.proofs.MadeRead.{made_read}
 use Rattle.br_model.proofs.Running.{run_said, run_none}
 use Rattle.capture_runner.specs.declared.demo.Tally.{Tally}

@@ -10,17 +10,17 @@ use Rattle.br_model.specs.declared.scenario.Said.TheVariants.{Blank, Opens, Brid
 use Rattle.br_model.specs.declared.steps.Step.{Step}
 use Rattle.br_model.specs.declared.scenario.Place.{Place}
 use Rattle.br_model.specs.declared.scenario.Place.TheVariants as places
-use Rattle.br_model.specs.LineForms.{line_says, header, declaration, opening}
+use Rattle.br_model.specs.Text.LineForms.{line_says, header, declaration, opening}
 use Rattle.br_model.specs.Plane.Naming.{named}
 use Rattle.br_model.specs.Plane.Runs.{run, then_step}
 use Rattle.br_model.specs.Plane.Steps.{world_step}
 use Rattle.br_model.specs.Plane.World.{World, Stepped, first_world}
-use Rattle.br_model.specs.Operands.{longest_section}
-use Rattle.br_model.specs.Roster.{Entry, Roster}
-use Rattle.br_model.specs.Runs.{run_of, setup_of, body_of}
-use Rattle.br_model.specs.Scenario.{Scenario, Going, Bad, takes, takes_steps, declared, steps_of, section_length, ending_of as said_ending, longest_line, bad, whole_says}
-use Rattle.br_model.specs.Setup.{Setup}
-use Rattle.br_model.specs.Transcript.{text}
+use Rattle.br_model.specs.Text.Operands.{longest_section}
+use Rattle.br_model.specs.Text.Roster.{Entry, Roster}
+use Rattle.br_model.specs.Program.Runs.{run_of, setup_of, body_of}
+use Rattle.br_model.specs.Text.Scenario.{Scenario, Going, Bad, takes, takes_steps, declared, steps_of, section_length, ending_of as said_ending, longest_line, bad, whole_says}
+use Rattle.br_model.specs.Table.Setup.{Setup}
+use Rattle.br_model.specs.Text.Transcript.{text}
 use Rattle.br_model.proofs.Running.{run_said, run_none, text-append}
 use Rattle.capture_runner.specs.declared.session.Last.TheVariants as lasts
 use Rattle.capture_runner.specs.declared.session.Next.TheVariants as nexts

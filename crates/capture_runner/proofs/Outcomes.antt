@@ -8,16 +8,16 @@ use Rattle.run_io.specs.Causes.{Rose}
 use Rattle.br_model.specs.declared.listing.Listing.{Listing}
 use Rattle.br_model.specs.declared.change.Change.{Change}
 use Rattle.br_model.specs.declared.steps.Step.{Step}
-use Rattle.br_model.specs.Limits.{most_bytes}
-use Rattle.br_model.specs.Listings.{listed, listed_at, listing_text}
-use Rattle.br_model.specs.Outcomes.{Call, Answers, Makes}
+use Rattle.br_model.specs.Table.Limits.{most_bytes}
+use Rattle.br_model.specs.Program.Listings.{listed, listed_at, listing_text}
+use Rattle.br_model.specs.Program.Outcomes.{Call, Answers, Makes}
 use Rattle.br_model.specs.Plane.Naming.{named}
 use Rattle.br_model.specs.Plane.Runs.{run}
 use Rattle.br_model.specs.Plane.World.{World, Stepped}
-use Rattle.br_model.specs.Roster.{Entry}
-use Rattle.br_model.specs.Runs.{body, told, told_of, run_of, setup_of}
-use Rattle.br_model.specs.Scenario.{Scenario, Ending, scenario}
-use Rattle.br_model.specs.Table.{table}
+use Rattle.br_model.specs.Text.Roster.{Entry}
+use Rattle.br_model.specs.Program.Runs.{body, told, told_of, run_of, setup_of}
+use Rattle.br_model.specs.Text.Scenario.{Scenario, Ending, scenario}
+use Rattle.br_model.specs.Table.Table.{table}
 use Rattle.br_model.proofs.Running.{run_none}
 use Rattle.capture_runner.specs.declared.replay.Halt.TheVariants as halts
 use Rattle.capture_runner.specs.declared.replay.Stop.{Stop}

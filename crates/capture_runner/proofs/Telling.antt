@@ -5,14 +5,14 @@ use Rattle.std.proofs.KnownBytes.{Appends-trans}
 use Rattle.std.proofs.lemmas.List.{append-nil}
 use Rattle.run_io.specs.Reading.{Reading}
 use Rattle.br_model.specs.declared.steps.Step.{Step}
-use Rattle.br_model.specs.Limits.{most_bytes}
+use Rattle.br_model.specs.Table.Limits.{most_bytes}
 use Rattle.br_model.specs.Plane.Naming.{named}
 use Rattle.br_model.specs.Plane.Runs.{run, end_line}
 use Rattle.br_model.specs.Plane.World.{World, Stepped}
-use Rattle.br_model.specs.Roster.{Roster}
-use Rattle.br_model.specs.Runs.{run_of, body_of, body, told, last_text, setup_of}
-use Rattle.br_model.specs.Scenario.{Scenario, Ending, opened, scenario}
-use Rattle.br_model.specs.Transcript.{line_text}
+use Rattle.br_model.specs.Text.Roster.{Roster}
+use Rattle.br_model.specs.Program.Runs.{run_of, body_of, body, told, last_text, setup_of}
+use Rattle.br_model.specs.Text.Scenario.{Scenario, Ending, opened, scenario}
+use Rattle.br_model.specs.Text.Transcript.{line_text}
 use Rattle.br_model.proofs.Running.{run_none}
 use Rattle.capture_runner.specs.declared.replay.Halt.{Halt}
 use Rattle.capture_runner.specs.declared.replay.Halt.TheVariants.{Stopped, WriteFault}

@@ -5,8 +5,8 @@ use Rattle.br_model.specs.declared.transcript.Line.{Line}
 use Rattle.br_model.specs.Plane.Naming.{named}
 use Rattle.br_model.specs.Plane.Runs.{run}
 use Rattle.br_model.specs.Plane.World.{World}
-use Rattle.br_model.specs.Setup.{Setup}
-use Rattle.br_model.specs.Summary.{count_of}
+use Rattle.br_model.specs.Table.Setup.{Setup}
+use Rattle.br_model.specs.Program.Summary.{count_of}
 use Rattle.capture_runner.specs.declared.demo.Tally.{Tally}
 
 -- the tally of these lines

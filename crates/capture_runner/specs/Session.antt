@@ -13,19 +13,19 @@ use Rattle.br_model.specs.declared.scenario.Said.TheVariants as said
 use Rattle.br_model.specs.declared.steps.Step.{Step}
 use Rattle.br_model.specs.declared.transcript.Line.{Line}
 use Rattle.br_model.specs.declared.transcript.Line.TheVariants.{End}
-use Rattle.br_model.specs.Captures.{packets}
-use Rattle.br_model.specs.LineForms.{declaration, opening}
-use Rattle.br_model.specs.Listings.{listing_text}
-use Rattle.br_model.specs.Operands.{longest_section}
+use Rattle.br_model.specs.Wire.Captures.{packets}
+use Rattle.br_model.specs.Text.LineForms.{declaration, opening}
+use Rattle.br_model.specs.Program.Listings.{listing_text}
+use Rattle.br_model.specs.Text.Operands.{longest_section}
 use Rattle.br_model.specs.Plane.Naming.{named}
 use Rattle.br_model.specs.Plane.Runs.{end_line}
 use Rattle.br_model.specs.Plane.Steps.{world_step}
 use Rattle.br_model.specs.Plane.World.{World, first_world}
-use Rattle.br_model.specs.Roster.{Entry, Roster}
-use Rattle.br_model.specs.Runs.{run_of, body_of, setup_of}
-use Rattle.br_model.specs.Scenario.{Scenario, Ending, Going, Ended, Bad, bad, captured, section_length, takes, takes_steps, whole_says}
-use Rattle.br_model.specs.Table.{table}
-use Rattle.br_model.specs.Transcript.{text, line_text, bad_text}
+use Rattle.br_model.specs.Text.Roster.{Entry, Roster}
+use Rattle.br_model.specs.Program.Runs.{run_of, body_of, setup_of}
+use Rattle.br_model.specs.Text.Scenario.{Scenario, Ending, Going, Ended, Bad, bad, captured, section_length, takes, takes_steps, whole_says}
+use Rattle.br_model.specs.Table.Table.{table}
+use Rattle.br_model.specs.Text.Transcript.{text, line_text, bad_text}
 use Rattle.capture_runner.specs.declared.session.Captured.{Captured}
 use Rattle.capture_runner.specs.declared.session.Captured.TheVariants as sections
 use Rattle.capture_runner.specs.declared.session.Last.{Last}

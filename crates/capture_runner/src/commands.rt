@@ -1,9 +1,9 @@
 //! What each command does, to its last line.
 ghost use Rattle.std.specs.Prelude.{◌≡◌, ℕ, ◌≤◌, [], List, Option, OnOk, string_bytes};
-ghost use Rattle.br_model.specs.Generator.{made, most_frames};
-ghost use Rattle.br_model.specs.Listings.{listed};
-ghost use Rattle.br_model.specs.Runs.{body, told};
-ghost use Rattle.br_model.specs.Summary.{summary as summary_of};
+ghost use Rattle.br_model.specs.Program.Generator.{made, most_frames};
+ghost use Rattle.br_model.specs.Program.Listings.{listed};
+ghost use Rattle.br_model.specs.Program.Runs.{body, told};
+ghost use Rattle.br_model.specs.Program.Summary.{summary as summary_of};
 ghost use Rattle.run_io.specs.Causes.{HasCause};
 ghost use Rattle.capture_runner.specs.Advancing.{Caused as StopsBy};
 ghost use Rattle.capture_runner.specs.Generating.{HasRoom, PutsAll};

@@ -1,8 +1,8 @@
 //! The run of a generated scenario, of which lines are counted alone.
 ghost use Rattle.std.specs.Prelude.{◌≡◌, ◌+◌, ◌≤◌, ◌∷◌, ◌++◌, [], true, IfOk, OnOk, codes, decimal, string_bytes};
 ghost use Rattle.std.specs.List.{list_all};
-ghost use Rattle.br_model.specs.Generator.{most_frames};
-ghost use Rattle.br_model.specs.Summary.{summary as summary_of};
+ghost use Rattle.br_model.specs.Program.Generator.{most_frames};
+ghost use Rattle.br_model.specs.Program.Summary.{summary as summary_of};
 ghost use Rattle.capture_runner.specs.Counting.{Adds, RunsOn};
 ghost use Rattle.scenario_text.specs.Items.{in_time};
 

@@ -2,8 +2,8 @@
 ghost use Rattle.std.specs.Prelude.{◌≡◌, ℕ, false, ◌-◌, ◌<◌, ◌≤◌, ◌^◌, [], true, None, IfOk, OnOk, string_bytes};
 ghost use Rattle.std.specs.List.{list_all};
 ghost use Rattle.std.specs.String.{string_capacity, string_len};
-ghost use Rattle.br_model.specs.Operands.{longest_section};
-ghost use Rattle.br_model.specs.Scenario.{opened};
+ghost use Rattle.br_model.specs.Text.Operands.{longest_section};
+ghost use Rattle.br_model.specs.Text.Scenario.{opened};
 ghost use Rattle.run_io.specs.Causes.{HasCause};
 ghost use Rattle.run_io.specs.Reading.{max_line, room};
 ghost use Rattle.run_io.specs.Writing.{full_length};

@@ -1,8 +1,8 @@
 //! The packets of a section as steps.
 ghost use Rattle.std.specs.Prelude.{◌≡◌, ◌<◌, ◌≤◌, ◌++◌, ◌∷◌, [], length, true, IfOk, OnOk};
 ghost use Rattle.std.specs.List.{list_all};
-ghost use Rattle.br_model.specs.Operands.{longest_section};
-ghost use Rattle.br_model.specs.Scenario.{entered};
+ghost use Rattle.br_model.specs.Text.Operands.{longest_section};
+ghost use Rattle.br_model.specs.Text.Scenario.{entered};
 ghost use Rattle.capture_runner.specs.Section.{Gives};
 ghost use Rattle.scenario_text.specs.Items.{in_time};
 

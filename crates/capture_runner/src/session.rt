@@ -1,10 +1,10 @@
 //! A run of a scenario, line by line.
 ghost use Rattle.std.specs.Prelude.{◌≡◌, ℕ, ◌+◌, ◌-◌, ◌<◌, ◌≤◌, ◌^◌, ◌++◌, length, true, false, None, Some, IfOk, OnOk, OnErr, string_bytes};
-ghost use Rattle.br_model.specs.Operands.{longest_section};
+ghost use Rattle.br_model.specs.Text.Operands.{longest_section};
 ghost use Rattle.br_model.specs.Plane.Naming.{named};
 ghost use Rattle.br_model.specs.Plane.Steps.{world_step};
-ghost use Rattle.br_model.specs.Scenario.{Scenario, opened, longest_line, closes};
-ghost use Rattle.br_model.specs.Table.{table};
+ghost use Rattle.br_model.specs.Text.Scenario.{Scenario, opened, longest_line, closes};
+ghost use Rattle.br_model.specs.Table.Table.{table};
 ghost use Rattle.capture_runner.specs.Session.{Follows, Takes, IsCaptured, AreInTime, Does, ending_of, world_of, end_line_of, last_line, history_of, listing_or_bad, status_of};
 ghost use Rattle.scenario_text.specs.Items.{in_time};
 ghost use Rattle.transcript_text.specs.Extends.{Extends};

@@ -1,9 +1,9 @@
 -- A change that fits the software tables is one that the chip's driver takes, and they stay alike.
 use Rattle.std.specs.Prelude.{IsTrue}
 use Rattle.br_model.specs.declared.change.Change.{Change}
-use Rattle.br_model.specs.Domains.{Domains}
-use Rattle.br_model.specs.Limits.{fits}
-use Rattle.br_model.specs.Table.{Table, apply}
+use Rattle.br_model.specs.Table.Domains.{Domains}
+use Rattle.br_model.specs.Table.Limits.{fits}
+use Rattle.br_model.specs.Table.Table.{Table, apply}
 use Rattle.br_model.proofs.AddressRoom.{HasRoom, room-apply}
 use Rattle.chip_driver.specs.Drives.{Driven, Drives, IsTaken}
 use Rattle.chip_driver.proofs.Taking.{taken}

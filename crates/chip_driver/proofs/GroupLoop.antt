@@ -6,9 +6,9 @@ use Rattle.std.specs.declared.cmp.Ordering.{Ordering}
 use Rattle.std.specs.declared.cmp.Ordering.TheVariants.{Less, Equal, Greater}
 use Rattle.port_sets.specs.Numbers.{has_number}
 use Rattle.br_model.specs.declared.group.Group.{Group}
-use Rattle.br_model.specs.GroupPairs.{GroupPair, group_pair_cmp, group_pairs, max_pairs}
-use Rattle.br_model.specs.Groups.{Membership, membership_cmp}
-use Rattle.br_model.specs.Maps.{get, put, joined, parted, is_ascending}
+use Rattle.br_model.specs.Table.GroupPairs.{GroupPair, group_pair_cmp, group_pairs, max_pairs}
+use Rattle.br_model.specs.Table.Groups.{Membership, membership_cmp}
+use Rattle.br_model.specs.Data.Maps.{get, put, joined, parted, is_ascending}
 use Rattle.mdb_snoop.specs.Database.{ports_in}
 use Rattle.br_model.proofs.GroupOrders.{equal_pairs}
 use Rattle.chip_tables.specs.declared.rows.FanRow.{FanRow}

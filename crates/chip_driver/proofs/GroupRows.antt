@@ -14,9 +14,9 @@ use Rattle.chip_driver.specs.GroupRows.{has_pair}
 use Rattle.std.proofs.lemmas.Map.Views.{any-filter_same}
 use Rattle.br_model.proofs.KeySets.{keys-put}
 use Rattle.br_model.specs.declared.group.Group.{Group}
-use Rattle.br_model.specs.GroupPairs.{GroupPair, group_pair_cmp, group_pairs}
-use Rattle.br_model.specs.Groups.{Membership, group_cmp, membership_cmp}
-use Rattle.br_model.specs.Maps.{get, put, without, joined, parted, has, is_ascending}
+use Rattle.br_model.specs.Table.GroupPairs.{GroupPair, group_pair_cmp, group_pairs}
+use Rattle.br_model.specs.Table.Groups.{Membership, group_cmp, membership_cmp}
+use Rattle.br_model.specs.Data.Maps.{get, put, without, joined, parted, has, is_ascending}
 use Rattle.mdb_snoop.specs.Database.{ports_in}
 use Rattle.br_model.proofs.GroupOrders.{pair_total, equal_pairs, by_pair, is_of_pair}
 use Rattle.port_sets.specs.Numbers.{has_number}

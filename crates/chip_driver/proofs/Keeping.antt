@@ -3,8 +3,8 @@ use Rattle.std.proofs.Common.{◌≡◌, ◌≢◌, ℕ, ◌<◌, ◌≤◌, Boo
 use Rattle.std.specs.Prelude.{◌==◌}
 use Rattle.std.proofs.lemmas.Bool.Decides.{eqb_tells}
 use Rattle.port_sets.specs.Numbers.{has_number}
-use Rattle.br_model.specs.Domains.{host}
-use Rattle.br_model.specs.Targets.{flood, mcast_flood, bcast_flood, isolated}
+use Rattle.br_model.specs.Table.Domains.{host}
+use Rattle.br_model.specs.Forward.Targets.{flood, mcast_flood, bcast_flood, isolated}
 use Rattle.chip_tables.specs.declared.rows.PortRow.{PortRow}
 use Rattle.chip_tables.specs.declared.rows.VlanRow.{VlanRow}
 use Rattle.chip_tables.specs.declared.rows.FanRow.{FanRow}
@@ -15,8 +15,8 @@ use Rattle.chip_tables.specs.Stands.{port_count, IsVid}
 use Rattle.chip_driver.specs.declared.shadow.Shadow.{Shadow}
 use Rattle.chip_driver.specs.Joined.{has_vlan, Switches}
 use Rattle.chip_driver.specs.Shadows.{Has, switched, row_forwards, row_has_flag, row_floods, floods_to, routes_to, fan_to}
-use Rattle.br_model.specs.GroupPairs.{GroupPair}
-use Rattle.br_model.specs.Groups.{Membership}
+use Rattle.br_model.specs.Table.GroupPairs.{GroupPair}
+use Rattle.br_model.specs.Table.Groups.{Membership}
 use Rattle.mdb_snoop.specs.Database.{ports_in}
 use Rattle.chip_driver.specs.GroupRows.{group_fan}
 use Rattle.chip_driver.specs.Settled.{Follows, Notes, Settled, Refreshes}

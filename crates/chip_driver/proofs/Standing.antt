@@ -5,14 +5,14 @@ use Rattle.std.specs.Option.{option_eq, unwrap_or}
 use Rattle.std.specs.Ordering.{nat_cmp}
 use Rattle.std.proofs.lemmas.Bool.Decides.{eqb_tells}
 use Rattle.br_model.specs.declared.change.Kind.{Kind}
-use Rattle.br_model.specs.Admission.{is_up, is_forwarding, forwarding, member}
-use Rattle.br_model.specs.Domains.{Domains, host}
-use Rattle.br_model.specs.Eligible.{untagged}
-use Rattle.br_model.specs.Groups as groups
-use Rattle.br_model.specs.Maps.{get, has}
-use Rattle.br_model.specs.Table.{Table}
-use Rattle.br_model.specs.Table as table
-use Rattle.br_model.specs.Targets.{flood, mcast_flood, bcast_flood, isolated}
+use Rattle.br_model.specs.Forward.Admission.{is_up, is_forwarding, forwarding, member}
+use Rattle.br_model.specs.Table.Domains.{Domains, host}
+use Rattle.br_model.specs.Forward.Eligible.{untagged}
+use Rattle.br_model.specs.Table.Groups as groups
+use Rattle.br_model.specs.Data.Maps.{get, has}
+use Rattle.br_model.specs.Table.Table.{Table}
+use Rattle.br_model.specs.Table.Table as table
+use Rattle.br_model.specs.Forward.Targets.{flood, mcast_flood, bcast_flood, isolated}
 use Rattle.port_sets.specs.Numbers.{has_number}
 use Rattle.chip_tables.specs.declared.rows.VlanRow.{VlanRow}
 use Rattle.chip_tables.specs.declared.rows.PortRow.{PortRow}
@@ -28,7 +28,7 @@ use Rattle.chip_driver.specs.Drives.{Driven, KeepsRouters, Drives}
 use Rattle.chip_driver.proofs.Sets.{has-where, same_ports}
 use Rattle.chip_driver.proofs.GroupRows.{rows_stand, has-ports}
 use Rattle.mdb_snoop.specs.Database.{ports_in}
-use Rattle.br_model.specs.GroupPairs.{GroupPair}
+use Rattle.br_model.specs.Table.GroupPairs.{GroupPair}
 use Rattle.chip_driver.proofs.FanRows.{same_fans}
 use Rattle.chip_driver.proofs.TableLaws.{has-switched}
 

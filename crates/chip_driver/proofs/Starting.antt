@@ -9,11 +9,11 @@ use Rattle.std.proofs.lemmas.Bool.Decides.{eqb_tells, nat_tests}
 use Rattle.port_sets.specs.Numbers.{has_number}
 use Rattle.port_sets.proofs.Numbers.{none_below}
 use Rattle.port_sets.proofs.Words.{no_members}
-use Rattle.br_model.specs.DomainPorts.{IsWordOf}
-use Rattle.br_model.specs.Domains.{Domains, chip, host}
-use Rattle.br_model.specs.Groups.{Membership}
-use Rattle.br_model.specs.Table.{Table, start}
-use Rattle.br_model.specs.Targets.{flood, mcast_flood, bcast_flood, isolated}
+use Rattle.br_model.specs.Table.DomainPorts.{IsWordOf}
+use Rattle.br_model.specs.Table.Domains.{Domains, chip, host}
+use Rattle.br_model.specs.Table.Groups.{Membership}
+use Rattle.br_model.specs.Table.Table.{Table, start}
+use Rattle.br_model.specs.Forward.Targets.{flood, mcast_flood, bcast_flood, isolated}
 use Rattle.chip_regs.specs.Rows.{field}
 use Rattle.chip_tables.specs.declared.rows.FanRow.{FanRow}
 use Rattle.chip_tables.specs.declared.rows.PortRow.{PortRow}

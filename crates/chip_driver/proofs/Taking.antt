@@ -5,13 +5,13 @@ use Rattle.std.proofs.lemmas.List.{length-map}
 use Rattle.std.specs.Prelude.{IsTrue}
 use Rattle.br_model.specs.declared.change.Change.{Change}
 use Rattle.br_model.specs.declared.change.Change.TheVariants.{PortUp, PortDown, SetFlags, SetState, VlanAdd, VlanDel, GroupJoin, GroupPart, Router, Querier, Snoop, Stp, AddrPut, AddrDel}
-use Rattle.br_model.specs.Change.{deferred}
-use Rattle.br_model.specs.Domains.{Domains}
-use Rattle.br_model.specs.GroupPairs.{has_room}
-use Rattle.br_model.specs.Groups.{Membership}
-use Rattle.br_model.specs.Limits.{fits, most_addresses}
-use Rattle.br_model.specs.Maps.{pair_cmp, put, without}
-use Rattle.br_model.specs.Table.{Table, apply}
+use Rattle.br_model.specs.Table.Change.{deferred}
+use Rattle.br_model.specs.Table.Domains.{Domains}
+use Rattle.br_model.specs.Table.GroupPairs.{has_room}
+use Rattle.br_model.specs.Table.Groups.{Membership}
+use Rattle.br_model.specs.Table.Limits.{fits, most_addresses}
+use Rattle.br_model.specs.Data.Maps.{pair_cmp, put, without}
+use Rattle.br_model.specs.Table.Table.{Table, apply}
 use Rattle.chip_tables.specs.declared.rows.AddressRow.{AddressRow}
 use Rattle.chip_tables.specs.Rows.{max_addresses}
 use Rattle.chip_tables.specs.Stands.{address_wanted}

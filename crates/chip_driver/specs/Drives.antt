@@ -3,11 +3,11 @@ use Rattle.std.specs.Prelude.{◌≡◌, ℕ, ◌<◌, ◌≤◌, List, IsTrue, 
 use Rattle.std.specs.Ordering.{nat_cmp}
 use Rattle.br_model.specs.declared.change.Change.{Change}
 use Rattle.br_model.specs.declared.change.Change.TheVariants as changes
-use Rattle.br_model.specs.Domains.{Domains}
-use Rattle.br_model.specs.GroupPairs.{has_room}
-use Rattle.br_model.specs.Groups.{Membership}
-use Rattle.br_model.specs.Maps.{has}
-use Rattle.br_model.specs.Table.{Table}
+use Rattle.br_model.specs.Table.Domains.{Domains}
+use Rattle.br_model.specs.Table.GroupPairs.{has_room}
+use Rattle.br_model.specs.Table.Groups.{Membership}
+use Rattle.br_model.specs.Data.Maps.{has}
+use Rattle.br_model.specs.Table.Table.{Table}
 use Rattle.port_sets.specs.Numbers.{has_number}
 use Rattle.chip_tables.specs.Rows.{Rows, addresses_with, max_addresses}
 use Rattle.chip_tables.specs.Stands.{port_count, address_wanted, Stands}

@@ -2,9 +2,9 @@
 use Rattle.std.specs.Prelude.{◌≡◌, ℕ, Bool, true, ◌&&◌, List, Some, None, is_some, if◌then◌else◌}
 use Rattle.std.specs.List.{list_any}
 use Rattle.std.specs.Ordering.{eq_by_cmp}
-use Rattle.br_model.specs.GroupPairs.{GroupPair, group_pair_cmp}
-use Rattle.br_model.specs.Groups.{Membership}
-use Rattle.br_model.specs.Maps.{get, is_ascending}
+use Rattle.br_model.specs.Table.GroupPairs.{GroupPair, group_pair_cmp}
+use Rattle.br_model.specs.Table.Groups.{Membership}
+use Rattle.br_model.specs.Data.Maps.{get, is_ascending}
 use Rattle.mdb_snoop.specs.Database.{ports_in}
 use Rattle.port_sets.specs.Numbers.{has_number}
 use Rattle.chip_tables.specs.declared.rows.FanRow.{FanRow}

@@ -1,7 +1,7 @@
 -- What a driver keeps of the ports beside its rows, and the rows that it makes of it. No table is spoken of here.
 use Rattle.std.specs.Prelude.{◌≡◌, ℕ, ◌==◌, ◌/◌, ◌%◌, ◌^◌, ◌<◌, Bool, not, ◌&&◌, ◌||◌, List, if◌then◌else◌}
-use Rattle.br_model.specs.Admission.{forwarding}
-use Rattle.br_model.specs.Domains.{host}
+use Rattle.br_model.specs.Forward.Admission.{forwarding}
+use Rattle.br_model.specs.Table.Domains.{host}
 use Rattle.port_sets.specs.Numbers.{has_number}
 use Rattle.chip_tables.specs.declared.rows.FanRow.{FanRow}
 use Rattle.chip_tables.specs.declared.rows.PortRow.{PortRow}

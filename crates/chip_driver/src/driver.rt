@@ -1,8 +1,8 @@
 //! The driver.
 ghost use Rattle.std.specs.Prelude.{◌≡◌, ◌≤◌, IfOk, IsTrue};
-ghost use Rattle.br_model.specs.Domains.{Domains as DomainsValue, chip};
-ghost use Rattle.br_model.specs.GroupPairs.{has_room};
-ghost use Rattle.br_model.specs.Table.{Table, apply, start};
+ghost use Rattle.br_model.specs.Table.Domains.{Domains as DomainsValue, chip};
+ghost use Rattle.br_model.specs.Table.GroupPairs.{has_room};
+ghost use Rattle.br_model.specs.Table.Table.{Table, apply, start};
 ghost use Rattle.br_model.specs.declared.change.Change.TheVariants as changes;
 ghost use Rattle.chip_tables.specs.Stands.{address_wanted};
 ghost use Rattle.chip_driver.specs.Drives.{Drives, IsTaken};

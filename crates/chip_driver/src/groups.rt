@@ -1,8 +1,8 @@
 //! The rows of groups.
 ghost use Rattle.std.specs.Prelude.{◌≡◌, ◌==◌, ℕ, IsTrue};
-ghost use Rattle.br_model.specs.GroupPairs.{has_room};
-ghost use Rattle.br_model.specs.Groups.{membership_cmp};
-ghost use Rattle.br_model.specs.Maps.{joined, parted};
+ghost use Rattle.br_model.specs.Table.GroupPairs.{has_room};
+ghost use Rattle.br_model.specs.Table.Groups.{membership_cmp};
+ghost use Rattle.br_model.specs.Data.Maps.{joined, parted};
 ghost use Rattle.mdb_snoop.specs.Database.{memberships};
 ghost use Rattle.chip_driver.specs.Joined.{has_vlan};
 ghost use Rattle.chip_driver.specs.GroupRows.{AreUsed, GroupsFollow, RefreshesGroups, group_fan};

@@ -1,6 +1,6 @@
 //! The rows before any change.
 ghost use Rattle.std.specs.Prelude.{◌≡◌, false};
-ghost use Rattle.br_model.specs.Domains.{host};
+ghost use Rattle.br_model.specs.Table.Domains.{host};
 ghost use Rattle.chip_tables.specs.Stands.{is_own};
 ghost use Rattle.chip_driver.specs.Making.{idle, MarksOwn};
 

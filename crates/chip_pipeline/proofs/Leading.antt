@@ -10,13 +10,13 @@ use Rattle.std.proofs.lemmas.Bool.{cases_Bool, eqb-true, ne_eqb}
 use borrow.Author.Tests.{ltb-true, leb-true}
 use Rattle.std.proofs.lemmas.Map.Lookups.{exact_unsigned}
 use Rattle.std.proofs.lemmas.Map.Views.{any-filter_same}
-use Rattle.br_model.specs.Admission.{is_up, is_forwarding, member}
-use Rattle.br_model.specs.Domains.{Domains, foreign, host}
-use Rattle.br_model.specs.Eligible.{may}
-use Rattle.br_model.specs.Maps.{pair_cmp, get, has}
-use Rattle.br_model.specs.Numbers.{is_multicast, broadcast}
-use Rattle.br_model.specs.Table.{Table}
-use Rattle.br_model.specs.Targets.{bridge_group_address, pause_address, is_for_the_host, has_flag, with_flag, targets, flood, mcast_flood, bcast_flood, multicast_flood, isolated, port_of, snooped_targets, unicast_targets}
+use Rattle.br_model.specs.Forward.Admission.{is_up, is_forwarding, member}
+use Rattle.br_model.specs.Table.Domains.{Domains, foreign, host}
+use Rattle.br_model.specs.Forward.Eligible.{may}
+use Rattle.br_model.specs.Data.Maps.{pair_cmp, get, has}
+use Rattle.br_model.specs.Data.Numbers.{is_multicast, broadcast}
+use Rattle.br_model.specs.Table.Table.{Table}
+use Rattle.br_model.specs.Forward.Targets.{bridge_group_address, pause_address, is_for_the_host, has_flag, with_flag, targets, flood, mcast_flood, bcast_flood, multicast_flood, isolated, port_of, snooped_targets, unicast_targets}
 use Rattle.br_model.specs.declared.change.Kind.{Kind}
 use Rattle.br_model.specs.declared.frame.Head.{Head}
 use Rattle.br_model.specs.declared.frame.McastMsg.{McastMsg}

@@ -8,14 +8,14 @@ use Rattle.std.proofs.lemmas.Bool.{eq-eqb, ne_eqb}
 use Rattle.std.proofs.lemmas.Bool.Decides.{eqb_tells}
 use Rattle.port_sets.specs.Numbers.{numbers_below, has_number}
 use Rattle.port_sets.proofs.Numbers.{has-below, has-filter, filter-numbers_below, same_below}
-use Rattle.br_model.specs.Admission.{is_forwarding, member}
-use Rattle.br_model.specs.Class.{class_by}
-use Rattle.br_model.specs.Domains.{Domains, foreign, host}
-use Rattle.br_model.specs.Eligible.{may}
-use Rattle.br_model.specs.Leave.{all_ports, egress_ports}
-use Rattle.br_model.specs.Maps.{has}
-use Rattle.br_model.specs.Table.{Table}
-use Rattle.br_model.specs.Targets.{has_flag, isolated, targets}
+use Rattle.br_model.specs.Forward.Admission.{is_forwarding, member}
+use Rattle.br_model.specs.Forward.Class.{class_by}
+use Rattle.br_model.specs.Table.Domains.{Domains, foreign, host}
+use Rattle.br_model.specs.Forward.Eligible.{may}
+use Rattle.br_model.specs.Forward.Leave.{all_ports, egress_ports}
+use Rattle.br_model.specs.Data.Maps.{has}
+use Rattle.br_model.specs.Table.Table.{Table}
+use Rattle.br_model.specs.Forward.Targets.{has_flag, isolated, targets}
 use Rattle.br_model.specs.declared.frame.Class.{Class}
 use Rattle.br_model.specs.declared.frame.Class.TheVariants.{Drop, Trap, Copy, Forward}
 use Rattle.br_model.specs.declared.frame.Head.{Head}

@@ -13,15 +13,15 @@ use Rattle.br_model.specs.declared.group.Group.{Group}
 use Rattle.br_model.specs.declared.group.Group.TheVariants.{V4, V6}
 use Rattle.br_model.specs.declared.frame.McastMsg.{McastMsg}
 use Rattle.br_model.specs.declared.frame.McastMsg.TheVariants.{Plain, Payload, Query, Report, Leave, Records, Unrecognized}
-use Rattle.br_model.specs.Admission.{member}
-use Rattle.br_model.specs.Class.{is_snooped}
-use Rattle.br_model.specs.Domains.{Domains}
-use Rattle.br_model.specs.Eligible.{may}
-use Rattle.br_model.specs.GroupPairs.{GroupPair, group_pair_cmp, group_pairs}
-use Rattle.br_model.specs.Groups.{Membership, group_cmp, is_link_local, is_six, membership_cmp}
-use Rattle.br_model.specs.Maps.{has, joined}
-use Rattle.br_model.specs.Table.{Table}
-use Rattle.br_model.specs.Targets.{knows_querier, members_of, multicast_flood, snooped_targets}
+use Rattle.br_model.specs.Forward.Admission.{member}
+use Rattle.br_model.specs.Forward.Class.{is_snooped}
+use Rattle.br_model.specs.Table.Domains.{Domains}
+use Rattle.br_model.specs.Forward.Eligible.{may}
+use Rattle.br_model.specs.Table.GroupPairs.{GroupPair, group_pair_cmp, group_pairs}
+use Rattle.br_model.specs.Table.Groups.{Membership, group_cmp, is_link_local, is_six, membership_cmp}
+use Rattle.br_model.specs.Data.Maps.{has, joined}
+use Rattle.br_model.specs.Table.Table.{Table}
+use Rattle.br_model.specs.Forward.Targets.{knows_querier, members_of, multicast_flood, snooped_targets}
 use Rattle.port_sets.specs.Numbers.{has_number}
 use Rattle.port_sets.proofs.Numbers.{same_below}
 use Rattle.chip_tables.specs.declared.rows.FanRow.{FanRow}

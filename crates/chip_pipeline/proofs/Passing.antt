@@ -2,13 +2,13 @@
 use Rattle.std.proofs.Common.{◌≡◌, ℕ, true, false, ◌&&◌, ◌||◌, cond, Option, None, Some, List, [], refl, sym, ap, ap₂, ◌∙◌}
 use Rattle.port_sets.specs.Numbers.{IsSetBelow, has_number}
 use Rattle.port_sets.proofs.Numbers.{filter-set, same_below}
-use Rattle.br_model.specs.Admission.{admit}
-use Rattle.br_model.specs.Class.{class, class_by, crosses, is_snooped, is_trapped_in, reaches_host}
-use Rattle.br_model.specs.Domains.{Domains}
-use Rattle.br_model.specs.Eligible.{untagged}
-use Rattle.br_model.specs.Leave.{egress_ports, ports_in, ports_out}
-use Rattle.br_model.specs.Table.{Table}
-use Rattle.br_model.specs.Targets.{to_tree}
+use Rattle.br_model.specs.Forward.Admission.{admit}
+use Rattle.br_model.specs.Forward.Class.{class, class_by, crosses, is_snooped, is_trapped_in, reaches_host}
+use Rattle.br_model.specs.Table.Domains.{Domains}
+use Rattle.br_model.specs.Forward.Eligible.{untagged}
+use Rattle.br_model.specs.Forward.Leave.{egress_ports, ports_in, ports_out}
+use Rattle.br_model.specs.Table.Table.{Table}
+use Rattle.br_model.specs.Forward.Targets.{to_tree}
 use Rattle.br_model.specs.declared.frame.Class.{Class}
 use Rattle.br_model.specs.declared.frame.Class.TheVariants.{Drop, Trap}
 use Rattle.br_model.specs.declared.frame.Head.{Head}

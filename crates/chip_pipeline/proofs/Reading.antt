@@ -6,12 +6,12 @@ use Rattle.std.specs.Ordering.{nat_cmp}
 use Rattle.std.proofs.lemmas.Bool.{eqb-true, ne_eqb}
 use Rattle.std.proofs.lemmas.Bool.Decides.{nat_tests}
 use Rattle.port_sets.specs.Numbers.{has_number}
-use Rattle.br_model.specs.Admission.{learning, forwarding, is_up, is_in_state, is_forwarding, member}
-use Rattle.br_model.specs.Domains.{Domains, chip, domain_of, foreign, host, software}
-use Rattle.br_model.specs.Eligible.{untagged}
-use Rattle.br_model.specs.Maps.{get}
-use Rattle.br_model.specs.Table.{Table}
-use Rattle.br_model.specs.Targets.{has_flag}
+use Rattle.br_model.specs.Forward.Admission.{learning, forwarding, is_up, is_in_state, is_forwarding, member}
+use Rattle.br_model.specs.Table.Domains.{Domains, chip, domain_of, foreign, host, software}
+use Rattle.br_model.specs.Forward.Eligible.{untagged}
+use Rattle.br_model.specs.Data.Maps.{get}
+use Rattle.br_model.specs.Table.Table.{Table}
+use Rattle.br_model.specs.Forward.Targets.{has_flag}
 use Rattle.chip_tables.specs.declared.rows.VlanRow.{VlanRow}
 use Rattle.chip_tables.specs.Rows.{Rows, vlan_at, port_at}
 use Rattle.chip_tables.specs.Stands.{IsVid, Stands, is_own, port_count}

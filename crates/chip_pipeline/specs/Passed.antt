@@ -9,14 +9,14 @@ use Rattle.br_model.specs.declared.frame.Class.{Class}
 use Rattle.br_model.specs.declared.frame.Class.TheVariants.{Drop, Trap, Copy, Forward}
 use Rattle.br_model.specs.declared.frame.Head.{Head}
 use Rattle.br_model.specs.declared.frame.McastMsg.{McastMsg}
-use Rattle.br_model.specs.Admission.{admit}
-use Rattle.br_model.specs.Chip.{report, hit_of}
-use Rattle.br_model.specs.Class.{class}
-use Rattle.br_model.specs.Domains.{Domains, domain_of, foreign, host, software}
-use Rattle.br_model.specs.Eligible.{untagged}
-use Rattle.br_model.specs.Learning.{Address}
-use Rattle.br_model.specs.Leave.{ports_out}
-use Rattle.br_model.specs.Table.{Table}
+use Rattle.br_model.specs.Forward.Admission.{admit}
+use Rattle.br_model.specs.Plane.Chip.{report, hit_of}
+use Rattle.br_model.specs.Forward.Class.{class}
+use Rattle.br_model.specs.Table.Domains.{Domains, domain_of, foreign, host, software}
+use Rattle.br_model.specs.Forward.Eligible.{untagged}
+use Rattle.br_model.specs.Control.Learning.{Address}
+use Rattle.br_model.specs.Forward.Leave.{ports_out}
+use Rattle.br_model.specs.Table.Table.{Table}
 use Rattle.chip_tables.specs.Rows.{Rows}
 use Rattle.chip_pipeline.specs.declared.answer.Sent.{Sent}
 use Rattle.chip_tables.specs.Stands.{Stands, is_own}

@@ -1,7 +1,7 @@
 -- What the row of a port tells of the port.
 use Rattle.std.specs.Prelude.{ℕ, ◌/◌, ◌%◌, ◌^◌, ◌==◌, Bool, not, ◌&&◌}
-use Rattle.br_model.specs.Admission.{forwarding}
-use Rattle.br_model.specs.Targets.{isolated}
+use Rattle.br_model.specs.Forward.Admission.{forwarding}
+use Rattle.br_model.specs.Forward.Targets.{isolated}
 use Rattle.port_sets.specs.Numbers.{has_number}
 use Rattle.chip_tables.specs.declared.rows.PortRow.{PortRow}
 use Rattle.chip_tables.specs.declared.rows.VlanRow.{VlanRow}

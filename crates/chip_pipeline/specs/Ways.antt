@@ -8,14 +8,14 @@ use Rattle.br_model.specs.declared.change.Kind.{Kind}
 use Rattle.br_model.specs.declared.frame.Head.{Head}
 use Rattle.br_model.specs.declared.frame.McastMsg.{McastMsg}
 use Rattle.br_model.specs.declared.group.Group.{Group}
-use Rattle.br_model.specs.Class.{crosses, reaches_host}
-use Rattle.br_model.specs.Domains.{Domains, foreign}
-use Rattle.br_model.specs.Eligible.{may}
-use Rattle.br_model.specs.GroupPairs.{group_pair_cmp, group_pairs}
-use Rattle.br_model.specs.Learning.{is_dynamic}
-use Rattle.br_model.specs.Maps.{pair_cmp, get, has}
-use Rattle.br_model.specs.Table.{Table}
-use Rattle.br_model.specs.Targets.{targets}
+use Rattle.br_model.specs.Forward.Class.{crosses, reaches_host}
+use Rattle.br_model.specs.Table.Domains.{Domains, foreign}
+use Rattle.br_model.specs.Forward.Eligible.{may}
+use Rattle.br_model.specs.Table.GroupPairs.{group_pair_cmp, group_pairs}
+use Rattle.br_model.specs.Control.Learning.{is_dynamic}
+use Rattle.br_model.specs.Data.Maps.{pair_cmp, get, has}
+use Rattle.br_model.specs.Table.Table.{Table}
+use Rattle.br_model.specs.Forward.Targets.{targets}
 use Rattle.chip_tables.specs.declared.rows.AddressRow.{AddressRow}
 use Rattle.chip_tables.specs.declared.rows.FanRow.{FanRow}
 use Rattle.chip_tables.specs.Stands.{fan_wanted, is_grouped, port_count}

@@ -1,9 +1,9 @@
 //! The way out: which of its ports the chip sends by, and whether the processor is to have the frame too, or alone.
 ghost use Rattle.std.specs.Prelude.{◌≡◌, ◌<◌, ◌&&◌, [], false, if◌then◌else◌};
-ghost use Rattle.br_model.specs.Domains.{Domains};
-ghost use Rattle.br_model.specs.Eligible.{may};
-ghost use Rattle.br_model.specs.Table.{Table};
-ghost use Rattle.br_model.specs.Targets.{targets};
+ghost use Rattle.br_model.specs.Table.Domains.{Domains};
+ghost use Rattle.br_model.specs.Forward.Eligible.{may};
+ghost use Rattle.br_model.specs.Table.Table.{Table};
+ghost use Rattle.br_model.specs.Forward.Targets.{targets};
 ghost use Rattle.br_model.specs.declared.frame.Class.TheVariants.{Drop, Copy, Forward};
 ghost use Rattle.br_model.specs.declared.frame.Head.{Head};
 ghost use Rattle.br_model.specs.declared.frame.McastMsg.{McastMsg};

@@ -1,10 +1,10 @@
 //! The pass of a frame through all stages.
 ghost use Rattle.std.specs.Prelude.{◌≡◌, ◌&&◌, [], false, if◌then◌else◌, IfSome, Some, None};
 ghost use Rattle.std.specs.Option.{option_map};
-ghost use Rattle.br_model.specs.Admission.{admit, has_valid_source, is_forwarding, vlan_of};
-ghost use Rattle.br_model.specs.Domains.{Domains};
-ghost use Rattle.br_model.specs.Table.{Table};
-ghost use Rattle.br_model.specs.Targets.{to_tree};
+ghost use Rattle.br_model.specs.Forward.Admission.{admit, has_valid_source, is_forwarding, vlan_of};
+ghost use Rattle.br_model.specs.Table.Domains.{Domains};
+ghost use Rattle.br_model.specs.Table.Table.{Table};
+ghost use Rattle.br_model.specs.Forward.Targets.{to_tree};
 ghost use Rattle.chip_tables.specs.Rows.{vlan_at, port_at};
 ghost use Rattle.chip_tables.specs.Stands.{IsVid, Stands};
 ghost use Rattle.chip_pipeline.specs.Passed.{AtChip, IsPass, IsSent};

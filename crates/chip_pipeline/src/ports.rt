@@ -1,8 +1,8 @@
 //! What the row of a port tells.
 ghost use Rattle.std.specs.Prelude.{◌≡◌, ◌<◌};
-ghost use Rattle.br_model.specs.Admission.{learning, forwarding};
-ghost use Rattle.br_model.specs.Learning.{learning_flag};
-ghost use Rattle.br_model.specs.Targets.{isolated};
+ghost use Rattle.br_model.specs.Forward.Admission.{learning, forwarding};
+ghost use Rattle.br_model.specs.Control.Learning.{learning_flag};
+ghost use Rattle.br_model.specs.Forward.Targets.{isolated};
 ghost use Rattle.chip_pipeline.specs.PortRows.{row_has_flag, row_is_in};
 
 use br_model::change::{FORWARDING, Flags};

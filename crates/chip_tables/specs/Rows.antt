@@ -9,8 +9,8 @@ use Rattle.br_model.specs.declared.change.Kind.{Kind}
 use Rattle.br_model.specs.declared.change.Kind.TheVariants.{Local, Static, Learned, Extern}
 use Rattle.port_sets.specs.Words.{members}
 use Rattle.chip_regs.specs.Rows.{field}
-use Rattle.br_model.specs.Maps.{pair_cmp, get, put, without}
-use Rattle.br_model.specs.GroupPairs.{GroupPair, group_pair_cmp}
+use Rattle.br_model.specs.Data.Maps.{pair_cmp, get, put, without}
+use Rattle.br_model.specs.Table.GroupPairs.{GroupPair, group_pair_cmp}
 use Rattle.chip_tables.specs.declared.rows.VlanRow.{VlanRow}
 use Rattle.chip_tables.specs.declared.rows.FanRow.{FanRow}
 use Rattle.chip_tables.specs.declared.rows.PortRow.{PortRow}

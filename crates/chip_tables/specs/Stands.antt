@@ -8,15 +8,15 @@ use Rattle.std.specs.Ordering.{nat_cmp}
 use Rattle.br_model.specs.declared.change.Kind.{Kind}
 use Rattle.br_model.specs.declared.change.Kind.TheVariants.{Local, Static, Learned, Extern}
 use Rattle.br_model.specs.declared.group.Group.{Group}
-use Rattle.br_model.specs.Admission.{is_up, is_forwarding, member}
-use Rattle.br_model.specs.DomainPorts.{is_in_domain}
-use Rattle.br_model.specs.Domains.{Domains, chip, host}
-use Rattle.br_model.specs.Eligible.{untagged}
-use Rattle.br_model.specs.GroupPairs.{group_pairs}
-use Rattle.br_model.specs.Groups.{membership_cmp}
-use Rattle.br_model.specs.Maps.{get, has}
-use Rattle.br_model.specs.Table.{Table}
-use Rattle.br_model.specs.Targets.{has_flag, flood, mcast_flood, bcast_flood, isolated, knows_querier}
+use Rattle.br_model.specs.Forward.Admission.{is_up, is_forwarding, member}
+use Rattle.br_model.specs.Table.DomainPorts.{is_in_domain}
+use Rattle.br_model.specs.Table.Domains.{Domains, chip, host}
+use Rattle.br_model.specs.Forward.Eligible.{untagged}
+use Rattle.br_model.specs.Table.GroupPairs.{group_pairs}
+use Rattle.br_model.specs.Table.Groups.{membership_cmp}
+use Rattle.br_model.specs.Data.Maps.{get, has}
+use Rattle.br_model.specs.Table.Table.{Table}
+use Rattle.br_model.specs.Forward.Targets.{has_flag, flood, mcast_flood, bcast_flood, isolated, knows_querier}
 use Rattle.port_sets.specs.Numbers.{numbers_below}
 use Rattle.chip_tables.specs.declared.rows.AddressRow.{AddressRow}
 use Rattle.chip_tables.specs.declared.rows.VlanRow.{VlanRow}

@@ -1,7 +1,7 @@
 //! The tables.
 ghost use Rattle.std.specs.Prelude.{◌≡◌, ◌<◌, ◌≤◌, IfOk, Some, length, map, slice_get};
 ghost use Rattle.std.specs.List.Sorted.{IsStrictlySortedBy};
-ghost use Rattle.br_model.specs.Maps.{pair_cmp};
+ghost use Rattle.br_model.specs.Data.Maps.{pair_cmp};
 ghost use Rattle.chip_tables.specs.Rows.{vlan_at, flood_at, router_at, port_at, trap_at, control_in, address_at, addresses_with, max_addresses, address_rows, group_at, groups_with, max_groups, IsPlaced, WritesVlan, WritesFlood, WritesRouter, WritesPort, WritesTrap};
 ghost use Rattle.chip_tables.specs.Writing.{WritesFan, IsBlank};
 

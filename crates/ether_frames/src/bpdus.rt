@@ -1,8 +1,8 @@
 //! Reading and writing the frames that carry spanning tree messages (BPDUs).
 ghost use Rattle.std.specs.Prelude.{◌≡◌, ◌<◌, ◌≤◌, [], ◌∷◌, ◌++◌, IfOk, length};
 ghost use Rattle.std.specs.declared.option.Option.TheVariants.{Some};
-ghost use Rattle.br_model.specs.Bpdus.{bpdu, written, carries_bpdu, config_at, llc_and_protocol, padded};
-ghost use Rattle.br_model.specs.Targets.{bridge_group_address};
+ghost use Rattle.br_model.specs.Wire.Bpdus.{bpdu, written, carries_bpdu, config_at, llc_and_protocol, padded};
+ghost use Rattle.br_model.specs.Forward.Targets.{bridge_group_address};
 ghost use Rattle.std.specs.Int.{bytes_high_first};
 
 use crate::NoMemory;

@@ -1,8 +1,8 @@
 //! Reading the header of a frame, and writing a frame with another tag.
 ghost use Rattle.std.specs.Prelude.{◌≡◌, ◌≤◌, ◌<◌, ◌+◌, IfOk, length, take};
-ghost use Rattle.br_model.specs.Frames.{frame, dressed, tag_of, tag_bits};
-ghost use Rattle.br_model.specs.Heads.{IsHead, TagFits};
-ghost use Rattle.br_model.specs.Numbers.{number};
+ghost use Rattle.br_model.specs.Wire.Frames.{frame, dressed, tag_of, tag_bits};
+ghost use Rattle.br_model.specs.Wire.Heads.{IsHead, TagFits};
+ghost use Rattle.br_model.specs.Data.Numbers.{number};
 
 use crate::NoMemory;
 use br_model::bytes::Bytes;

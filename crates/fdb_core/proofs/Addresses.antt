@@ -3,7 +3,7 @@ use Rattle.std.proofs.Common.{◌≡◌, ℕ, true, false, not, cond, Some, Opti
 use Rattle.std.specs.Ordering.{eq_by_cmp}
 use Rattle.std.specs.declared.cmp.Ordering.TheVariants.{Less, Equal, Greater}
 use Rattle.std.specs.FinMap.Entries.{by_order}
-use Rattle.br_model.specs.Maps.{pair_cmp, get, put, without}
+use Rattle.br_model.specs.Data.Maps.{pair_cmp, get, put, without}
 use Rattle.open_addressing.specs.Least.{smaller, least}
 use Rattle.fdb_core.specs.declared.entries.Entry.{Entry}
 use Rattle.fdb_core.specs.Packing.{by_address}

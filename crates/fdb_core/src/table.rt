@@ -1,6 +1,6 @@
 //! The forwarding database.
 ghost use Rattle.std.specs.Prelude.{◌≡◌, ℕ, ◌+◌, ◌<◌, ◌≤◌, ◌↔◌, [], None, Some, IfOk, IsTrue, length, option_map};
-ghost use Rattle.br_model.specs.Maps.{pair_cmp, get, put, without, is_ascending};
+ghost use Rattle.br_model.specs.Data.Maps.{pair_cmp, get, put, without, is_ascending};
 ghost use Rattle.fdb_core.specs.Fdb.{addresses, moments, place, keys_where, is_at_port, is_expired, learned_moment, oldest, all_from};
 
 use crate::NoMemory;

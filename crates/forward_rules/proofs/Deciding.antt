@@ -8,16 +8,16 @@ use Rattle.std.specs.Cmp.{first_so, second_so}
 use Rattle.std.proofs.lemmas.Bool.{cases_Bool, ne_eqb}
 use borrow.Author.Tests.{ltb-true, leb-true}
 use Rattle.std.proofs.lemmas.List.{length-map}
-use Rattle.br_model.specs.Admission.{admit}
-use Rattle.br_model.specs.Class.{class, class_by, is_snooped, is_trapped, is_trapped_in, reaches_host, crosses}
-use Rattle.br_model.specs.Domains.{Domains, host, foreign}
-use Rattle.br_model.specs.Eligible.{may, untagged}
-use Rattle.br_model.specs.Leave.{all_ports, egress_ports, ports_in, ports_out}
-use Rattle.br_model.specs.Limits.{most_addresses}
-use Rattle.br_model.specs.Maps.{pair_cmp, get, has}
-use Rattle.br_model.specs.Numbers.{is_multicast, broadcast}
-use Rattle.br_model.specs.Table.{Table, with_addresses}
-use Rattle.br_model.specs.Targets.{bridge_group_address, pause_address, port_of, targets, to_tree, is_for_the_host, with_flag, flood}
+use Rattle.br_model.specs.Forward.Admission.{admit}
+use Rattle.br_model.specs.Forward.Class.{class, class_by, is_snooped, is_trapped, is_trapped_in, reaches_host, crosses}
+use Rattle.br_model.specs.Table.Domains.{Domains, host, foreign}
+use Rattle.br_model.specs.Forward.Eligible.{may, untagged}
+use Rattle.br_model.specs.Forward.Leave.{all_ports, egress_ports, ports_in, ports_out}
+use Rattle.br_model.specs.Table.Limits.{most_addresses}
+use Rattle.br_model.specs.Data.Maps.{pair_cmp, get, has}
+use Rattle.br_model.specs.Data.Numbers.{is_multicast, broadcast}
+use Rattle.br_model.specs.Table.Table.{Table, with_addresses}
+use Rattle.br_model.specs.Forward.Targets.{bridge_group_address, pause_address, port_of, targets, to_tree, is_for_the_host, with_flag, flood}
 use Rattle.br_model.specs.declared.change.Kind.{Kind}
 use Rattle.br_model.specs.declared.frame.Class.{Class}
 use Rattle.br_model.specs.declared.frame.Class.TheVariants.{Drop, Trap}

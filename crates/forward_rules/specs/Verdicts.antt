@@ -6,11 +6,11 @@ use Rattle.std.specs.declared.option.Option.{Option}
 use Rattle.std.specs.declared.option.Option.TheVariants.{None, Some}
 use Rattle.std.specs.Option.{option_map}
 use Rattle.br_model.specs.declared.change.Change.{Change}
-use Rattle.br_model.specs.Eligible.{untagged}
-use Rattle.br_model.specs.Maps.{pair_cmp, get}
-use Rattle.br_model.specs.Numbers.{is_multicast}
-use Rattle.br_model.specs.Table.{Table, apply, with_addresses}
-use Rattle.br_model.specs.Targets.{port_of}
+use Rattle.br_model.specs.Forward.Eligible.{untagged}
+use Rattle.br_model.specs.Data.Maps.{pair_cmp, get}
+use Rattle.br_model.specs.Data.Numbers.{is_multicast}
+use Rattle.br_model.specs.Table.Table.{Table, apply, with_addresses}
+use Rattle.br_model.specs.Forward.Targets.{port_of}
 
 -- what a change makes of all parts but the addresses
 abbrev pub ports_after : Table → Change → Table

@@ -2,10 +2,10 @@
 ghost use Rattle.std.specs.Prelude.{◌≡◌, ℕ, ◌<◌, ◌==◌, ◌/◌, ◌%◌, ◌^◌, [], Some, None};
 ghost use Rattle.std.specs.Option.{unwrap_or};
 ghost use Rattle.std.specs.Ordering.{nat_cmp};
-ghost use Rattle.br_model.specs.Domains.{entries_from};
-ghost use Rattle.br_model.specs.Learning.{learning_flag};
-ghost use Rattle.br_model.specs.Maps.{get, put, without};
-ghost use Rattle.br_model.specs.Targets.{flood, mcast_flood, bcast_flood, isolated};
+ghost use Rattle.br_model.specs.Table.Domains.{entries_from};
+ghost use Rattle.br_model.specs.Control.Learning.{learning_flag};
+ghost use Rattle.br_model.specs.Data.Maps.{get, put, without};
+ghost use Rattle.br_model.specs.Forward.Targets.{flood, mcast_flood, bcast_flood, isolated};
 ghost use Rattle.forward_rules.specs.PortSets.{flagged};
 
 use crate::place::placed;
@@ -28,7 +28,7 @@ pub struct FlagTable {
 
 impl Model for FlagTable {
     ghost use Rattle.std.specs.Prelude.{ℕ, List};
-    ghost use Rattle.br_model.specs.Domains.{entries_from};
+    ghost use Rattle.br_model.specs.Table.Domains.{entries_from};
     ghost use Rattle.forward_rules.specs.PortSets.{AreFlagged};
 
     ghost Value = { List (ℕ × ℕ) };

@@ -1,8 +1,8 @@
 //! Ports of other domains.
 ghost use Rattle.std.specs.Prelude.{◌≡◌, ℕ, ◌<◌, is_some};
 ghost use Rattle.std.specs.List.{list_any};
-ghost use Rattle.br_model.specs.Class.{class_by};
-ghost use Rattle.br_model.specs.Domains.{domain_of, foreign};
+ghost use Rattle.br_model.specs.Forward.Class.{class_by};
+ghost use Rattle.br_model.specs.Table.Domains.{domain_of, foreign};
 
 use br_model::domains::Domains;
 use br_model::frame::Class;

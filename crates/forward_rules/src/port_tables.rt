@@ -1,18 +1,18 @@
 //! All parts of the table but the addresses.
 ghost use Rattle.std.specs.Prelude.{◌≡◌, ◌==◌, ◌&&◌, ◌||◌, [], ◌∷◌, true, IfOk, IsTrue, Some};
 ghost use Rattle.std.specs.Ordering.{nat_cmp};
-ghost use Rattle.br_model.specs.Admission.{is_up, is_forwarding, member, vlan_of_tag, vlan_of, admit};
-ghost use Rattle.br_model.specs.Class.{is_snooped};
-ghost use Rattle.br_model.specs.Commands.Groups.{is_joined};
-ghost use Rattle.br_model.specs.Domains.{host};
-ghost use Rattle.br_model.specs.Eligible.{untagged, may};
-ghost use Rattle.br_model.specs.GroupPairs.{has_room};
-ghost use Rattle.br_model.specs.Learning.{may_teach};
-ghost use Rattle.br_model.specs.Limits.{fits};
-ghost use Rattle.br_model.specs.Maps.{get, has};
-ghost use Rattle.br_model.specs.Numbers.{is_multicast};
-ghost use Rattle.br_model.specs.Table.{start, apply};
-ghost use Rattle.br_model.specs.Targets.{bridge_group_address, pause_address, bcast_flood, knows_querier, multicast_flood, to_routers, to_members, snooped_targets, targets, to_tree, with_flag, flood};
+ghost use Rattle.br_model.specs.Forward.Admission.{is_up, is_forwarding, member, vlan_of_tag, vlan_of, admit};
+ghost use Rattle.br_model.specs.Forward.Class.{is_snooped};
+ghost use Rattle.br_model.specs.Control.Commands.Groups.{is_joined};
+ghost use Rattle.br_model.specs.Table.Domains.{host};
+ghost use Rattle.br_model.specs.Forward.Eligible.{untagged, may};
+ghost use Rattle.br_model.specs.Table.GroupPairs.{has_room};
+ghost use Rattle.br_model.specs.Control.Learning.{may_teach};
+ghost use Rattle.br_model.specs.Table.Limits.{fits};
+ghost use Rattle.br_model.specs.Data.Maps.{get, has};
+ghost use Rattle.br_model.specs.Data.Numbers.{is_multicast};
+ghost use Rattle.br_model.specs.Table.Table.{start, apply};
+ghost use Rattle.br_model.specs.Forward.Targets.{bridge_group_address, pause_address, bcast_flood, knows_querier, multicast_flood, to_routers, to_members, snooped_targets, targets, to_tree, with_flag, flood};
 ghost use Rattle.br_model.specs.declared.change.Change.TheVariants as Change;
 ghost use Rattle.mdb_snoop.specs.Database.{pairs_of_port};
 ghost use Rattle.vlan_groups.specs.Rows.{ports_where};
@@ -49,8 +49,8 @@ pub struct PortTables {
 
 impl Model for PortTables {
     ghost use Rattle.std.specs.Prelude.{[]};
-    ghost use Rattle.br_model.specs.Table.{Table};
-    ghost use Rattle.br_model.specs.Ends.{keys};
+    ghost use Rattle.br_model.specs.Table.Table.{Table};
+    ghost use Rattle.br_model.specs.Control.Ends.{keys};
     ghost use Rattle.mdb_snoop.specs.Database.{memberships};
 
     ghost Value = { Table };

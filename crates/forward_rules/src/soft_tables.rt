@@ -1,14 +1,14 @@
 //! The whole table, and what it decides of a frame.
 ghost use Rattle.std.specs.Prelude.{◌≡◌, ◌<◌, nat_lt, ◌&&◌, ◌||◌, [], false, length, IfOk, IfSome, IsTrue, Some};
 ghost use Rattle.std.specs.Option.{is_some, option_map_or};
-ghost use Rattle.br_model.specs.Admission.{admit};
-ghost use Rattle.br_model.specs.Class.{class};
-ghost use Rattle.br_model.specs.Domains.{foreign, host};
-ghost use Rattle.br_model.specs.Leave.{ports_out};
-ghost use Rattle.br_model.specs.Limits.{fits, most_addresses};
-ghost use Rattle.br_model.specs.Maps.{pair_cmp, get};
-ghost use Rattle.br_model.specs.Table.{start, apply};
-ghost use Rattle.br_model.specs.Targets.{is_for_the_host, port_of, targets, to_tree};
+ghost use Rattle.br_model.specs.Forward.Admission.{admit};
+ghost use Rattle.br_model.specs.Forward.Class.{class};
+ghost use Rattle.br_model.specs.Table.Domains.{foreign, host};
+ghost use Rattle.br_model.specs.Forward.Leave.{ports_out};
+ghost use Rattle.br_model.specs.Table.Limits.{fits, most_addresses};
+ghost use Rattle.br_model.specs.Data.Maps.{pair_cmp, get};
+ghost use Rattle.br_model.specs.Table.Table.{start, apply};
+ghost use Rattle.br_model.specs.Forward.Targets.{is_for_the_host, port_of, targets, to_tree};
 ghost use Rattle.port_sets.specs.Numbers.{has_number};
 ghost use Rattle.forward_rules.specs.PortSets.{set_of};
 ghost use Rattle.forward_rules.specs.Verdicts.{known_port, untagged_among};
@@ -49,8 +49,8 @@ pub struct SoftTables {
 
 impl Model for SoftTables {
     ghost use Rattle.std.specs.Prelude.{◌≡◌};
-    ghost use Rattle.br_model.specs.Limits.{most_addresses};
-    ghost use Rattle.br_model.specs.Table.{Table, with_addresses};
+    ghost use Rattle.br_model.specs.Table.Limits.{most_addresses};
+    ghost use Rattle.br_model.specs.Table.Table.{Table, with_addresses};
     ghost use Rattle.fdb_core.specs.Fdb.{addresses};
 
     ghost Value = { Table };

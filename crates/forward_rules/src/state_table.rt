@@ -1,9 +1,9 @@
 //! The states of ports.
 ghost use Rattle.std.specs.Prelude.{◌≡◌, ℕ, [], Some, None};
 ghost use Rattle.std.specs.Ordering.{nat_cmp};
-ghost use Rattle.br_model.specs.Admission.{learning, forwarding};
-ghost use Rattle.br_model.specs.Domains.{entries_from};
-ghost use Rattle.br_model.specs.Maps.{get, put, without};
+ghost use Rattle.br_model.specs.Forward.Admission.{learning, forwarding};
+ghost use Rattle.br_model.specs.Table.Domains.{entries_from};
+ghost use Rattle.br_model.specs.Data.Maps.{get, put, without};
 ghost use Rattle.forward_rules.specs.PortSets.{in_state};
 
 use crate::place::placed;
@@ -26,7 +26,7 @@ pub struct StateTable {
 
 impl Model for StateTable {
     ghost use Rattle.std.specs.Prelude.{ℕ, List};
-    ghost use Rattle.br_model.specs.Domains.{entries_from};
+    ghost use Rattle.br_model.specs.Table.Domains.{entries_from};
     ghost use Rattle.forward_rules.specs.PortSets.{AreInState};
 
     ghost Value = { List (ℕ × ℕ) };

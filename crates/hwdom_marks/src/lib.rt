@@ -5,7 +5,7 @@
 
 ghost use Rattle.std.specs.Prelude.{◌≡◌, not};
 ghost use Rattle.std.specs.List.{filter};
-ghost use Rattle.br_model.specs.DomainPorts.{is_in_domain, is_marked};
+ghost use Rattle.br_model.specs.Table.DomainPorts.{is_in_domain, is_marked};
 ghost use Rattle.port_sets.specs.Numbers.{numbers_below};
 ghost use Rattle.hwdom_marks.specs.Marks.{domain_marked};
 

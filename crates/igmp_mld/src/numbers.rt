@@ -1,6 +1,6 @@
 //! Numbers in bytes, the highest byte first.
 ghost use Rattle.std.specs.Prelude.{◌≡◌, ◌≤◌, ◌+◌, length};
-ghost use Rattle.br_model.specs.Frames.{number_at};
+ghost use Rattle.br_model.specs.Wire.Frames.{number_at};
 
 use byteorder::{BigEndian, ByteOrder};
 

@@ -1,6 +1,6 @@
 //! The ring of reports, and the hits.
 ghost use Rattle.std.specs.Prelude.{◌≡◌, ◌++◌, ◌∷◌, ◌&&◌, [], not, nat_lt, length, drop, if◌then◌else◌, slice_get, IfOk, OnOk, OnErr};
-ghost use Rattle.br_model.specs.Maps.{has, joined, pair_cmp};
+ghost use Rattle.br_model.specs.Data.Maps.{has, joined, pair_cmp};
 ghost use Rattle.learn_report.specs.Reports.{is_waiting};
 
 use crate::NoMemory;

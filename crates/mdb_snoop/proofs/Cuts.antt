@@ -9,7 +9,7 @@ use Rattle.std.specs.FinMap.Entries.{below_all, by_order}
 use Rattle.std.proofs.lemmas.List.{take-append-drop, take_more}
 use Rattle.std.proofs.lemmas.List.Folds.{list_all-append}
 use Rattle.std.proofs.Math.Seq.{drop-cons}
-use Rattle.br_model.specs.Maps.{get, put, without, is_ascending}
+use Rattle.br_model.specs.Data.Maps.{get, put, without, is_ascending}
 use Rattle.mdb_snoop.specs.Places.{all_below, all_above}
 
 pub is_Less : (r : Ordering) → is_lt r ≡ true → r ≡ Less

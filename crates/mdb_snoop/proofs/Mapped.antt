@@ -14,8 +14,8 @@ use Rattle.std.proofs.lemmas.List.{get_or-set_same, get_or-set_other}
 use Rattle.std.proofs.Math.Bool.{and-false, and-true}
 use Rattle.port_sets.specs.Numbers.{numbers_below, has_number, IsSetBelow}
 use Rattle.port_sets.specs.WordsOfMembers.{has-filter, has-below}
-use Rattle.br_model.specs.Maps.{get, put, without, is_ascending}
-use Rattle.br_model.specs.Ends.{due, due_members, is_over, keys}
+use Rattle.br_model.specs.Data.Maps.{get, put, without, is_ascending}
+use Rattle.br_model.specs.Control.Ends.{due, due_members, is_over, keys}
 use Rattle.br_model.proofs.KeySets.{holds}
 use Rattle.mdb_snoop.specs.Places.{has_some}
 

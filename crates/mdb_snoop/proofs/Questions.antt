@@ -10,10 +10,10 @@ use Rattle.std.proofs.lemmas.List.{take-append-drop, take_more, append_assoc, ap
 use Rattle.std.proofs.lemmas.Bool.{eqb-true, ltb-true}
 use Rattle.std.proofs.lemmas.List.Elements.{filter-append}
 use Rattle.br_model.specs.declared.group.Group.{Group}
-use Rattle.br_model.specs.GroupPairs.{GroupPair, group_pair_cmp, group_pairs, has_room, max_pairs}
-use Rattle.br_model.specs.Groups.{Membership, group_cmp}
-use Rattle.br_model.specs.Maps.{get, has, joined, is_ascending}
-use Rattle.br_model.specs.Ends.{due_members, is_over, keys}
+use Rattle.br_model.specs.Table.GroupPairs.{GroupPair, group_pair_cmp, group_pairs, has_room, max_pairs}
+use Rattle.br_model.specs.Table.Groups.{Membership, group_cmp}
+use Rattle.br_model.specs.Data.Maps.{get, has, joined, is_ascending}
+use Rattle.br_model.specs.Control.Ends.{due_members, is_over, keys}
 use Rattle.mdb_snoop.specs.Database.{ports_in, pairs_of_port}
 use Rattle.mdb_snoop.specs.Places.{Section, Sections, section, flat, all_below, all_above, has_some, is_fit, IsSound, IsAt, IsGap}
 use Rattle.port_sets.specs.Numbers.{numbers_below, has_number, IsSetBelow}

@@ -1,4 +1,4 @@
--- What is asked of the ends of memberships, router ports and queriers (`br_model.specs.Ends`), and what moves them.
+-- What is asked of the ends of memberships, router ports and queriers (`br_model.specs.Control.Ends`), and what moves them.
 -- Source: RFC 4541 section 2.1 (members, router ports), RFC 2236 section 3 and RFC 3376 section 6 (timers of members and
 -- queriers), the kernel's net/bridge (permanent entries, which commands make).
 use Rattle.std.specs.Prelude.{ℕ, ◌==◌, min, Bool, true, false, ◌&&◌, if◌then◌else◌, List, [], ◌∷◌, ◌++◌, map, is_some}
@@ -8,11 +8,11 @@ use Rattle.std.specs.declared.option.Option.TheVariants.{None, Some}
 use Rattle.std.specs.declared.cmp.Ordering.{Ordering}
 use Rattle.std.specs.Ordering.{is_eq}
 use Rattle.br_model.specs.declared.group.Group.{Group}
-use Rattle.br_model.specs.Ends.{Ends, end_of, keys}
-use Rattle.br_model.specs.GroupPairs.{GroupPair}
-use Rattle.br_model.specs.Groups.{Membership, group_cmp}
-use Rattle.br_model.specs.Maps.{get, put}
-use Rattle.br_model.specs.Table.{ip_version}
+use Rattle.br_model.specs.Control.Ends.{Ends, end_of, keys}
+use Rattle.br_model.specs.Table.GroupPairs.{GroupPair}
+use Rattle.br_model.specs.Table.Groups.{Membership, group_cmp}
+use Rattle.br_model.specs.Data.Maps.{get, put}
+use Rattle.br_model.specs.Table.Table.{ip_version}
 
 abbrev pub memberships : Ends → List Membership
 memberships e = keys e.groups

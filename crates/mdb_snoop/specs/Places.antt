@@ -5,10 +5,10 @@ use Rattle.std.specs.declared.option.Option.{Option}
 use Rattle.std.specs.declared.option.Option.TheVariants.{None, Some}
 use Rattle.std.specs.declared.cmp.Ordering.{Ordering}
 use Rattle.std.specs.Ordering.{nat_cmp, is_lt, is_gt}
-use Rattle.br_model.specs.GroupPairs.{GroupPair, group_pair_cmp, max_pairs}
-use Rattle.br_model.specs.Groups.{Membership}
-use Rattle.br_model.specs.Maps.{is_ascending}
-use Rattle.br_model.specs.Table.{ip_version}
+use Rattle.br_model.specs.Table.GroupPairs.{GroupPair, group_pair_cmp, max_pairs}
+use Rattle.br_model.specs.Table.Groups.{Membership}
+use Rattle.br_model.specs.Data.Maps.{is_ascending}
+use Rattle.br_model.specs.Table.Table.{ip_version}
 
 -- the members of one group in one VLAN, each with its end
 abbrev pub Section : Type 0

@@ -2,12 +2,12 @@
 ghost use Rattle.std.specs.Prelude.{◌≡◌, ◌+◌, ◌≤◌, min, ℕ, IsTrue, IfOk, None, Some, [], false, true, is_some, length, not, slice_get};
 ghost use Rattle.std.specs.List.Sorted.{IsStrictlySortedBy};
 ghost use Rattle.std.specs.Ordering.{nat_cmp};
-ghost use Rattle.br_model.specs.GroupPairs.{group_pairs, has_room, max_pairs};
-ghost use Rattle.br_model.specs.Groups.{membership_cmp};
-ghost use Rattle.br_model.specs.Maps.{get, has, put, without, joined, parted, is_ascending};
-ghost use Rattle.br_model.specs.Table.{Table, ip_version, switched};
-ghost use Rattle.br_model.specs.Targets.{members_of, knows_querier};
-ghost use Rattle.br_model.specs.Ends.{due, due_members, end_of, is_over, keys, lasts, no_ends, parts, queries, querier_time, routes};
+ghost use Rattle.br_model.specs.Table.GroupPairs.{group_pairs, has_room, max_pairs};
+ghost use Rattle.br_model.specs.Table.Groups.{membership_cmp};
+ghost use Rattle.br_model.specs.Data.Maps.{get, has, put, without, joined, parted, is_ascending};
+ghost use Rattle.br_model.specs.Table.Table.{Table, ip_version, switched};
+ghost use Rattle.br_model.specs.Forward.Targets.{members_of, knows_querier};
+ghost use Rattle.br_model.specs.Control.Ends.{due, due_members, end_of, is_over, keys, lasts, no_ends, parts, queries, querier_time, routes};
 ghost use Rattle.mdb_snoop.specs.Database.{ending_soon, joined_until, memberships, pairs_of_port, ports_in, versions};
 ghost use Rattle.mdb_snoop.specs.Soonest.{first_end, moment_of};
 
@@ -34,8 +34,8 @@ pub struct Mdb {
 
 impl Model for Mdb {
     ghost use Rattle.std.specs.Prelude.{◌≤◌, vec_capacity};
-    ghost use Rattle.br_model.specs.GroupPairs.{max_pairs};
-    ghost use Rattle.br_model.specs.Ends.{Ends};
+    ghost use Rattle.br_model.specs.Table.GroupPairs.{max_pairs};
+    ghost use Rattle.br_model.specs.Control.Ends.{Ends};
     ghost use Rattle.mdb_snoop.specs.Places.{IsSound, flat, queriers_of};
     ghost use Rattle.mdb_snoop.specs.Soonest.{first_end};
 

@@ -1,8 +1,8 @@
 //! The members of a group in a VLAN.
 ghost use Rattle.std.specs.Prelude.{◌≡◌, [], ◌∷◌, is_some};
 ghost use Rattle.std.specs.Ordering.{nat_cmp};
-ghost use Rattle.br_model.specs.Maps.{get, put, without};
-ghost use Rattle.br_model.specs.Ends.{due_members, end_of, keys};
+ghost use Rattle.br_model.specs.Data.Maps.{get, put, without};
+ghost use Rattle.br_model.specs.Control.Ends.{due_members, end_of, keys};
 ghost use Rattle.mdb_snoop.specs.Database.{end_joined, ending_soon, is_dynamic, joined_until};
 ghost use Rattle.mdb_snoop.specs.Places.{has_some};
 ghost use Rattle.mdb_snoop.specs.Soonest.{soonest_member};
@@ -22,7 +22,7 @@ pub struct Members {
 impl Model for Members {
     ghost use Rattle.std.specs.Prelude.{ℕ, Option, List, map};
     ghost use Rattle.std.specs.Ordering.{nat_cmp};
-    ghost use Rattle.br_model.specs.Maps.{get};
+    ghost use Rattle.br_model.specs.Data.Maps.{get};
 
     ghost Value = { List (ℕ × Option ℕ) };
 

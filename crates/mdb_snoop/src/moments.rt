@@ -1,8 +1,8 @@
 //! Ports with a moment each.
 ghost use Rattle.std.specs.Prelude.{◌≡◌, ◌<◌, ◌==◌, ◌&&◌, ◌||◌, ℕ, [], cond, map, nat_le, slice_index, slice_set, true};
 ghost use Rattle.std.specs.Ordering.{nat_cmp};
-ghost use Rattle.br_model.specs.Maps.{get, put, without, is_ascending};
-ghost use Rattle.br_model.specs.Ends.{due, is_over, keys};
+ghost use Rattle.br_model.specs.Data.Maps.{get, put, without, is_ascending};
+ghost use Rattle.br_model.specs.Control.Ends.{due, is_over, keys};
 ghost use Rattle.mdb_snoop.specs.Soonest.{moment_of, soonest_member, soonest_moment};
 ghost use Rattle.port_sets.specs.Numbers.{has_number, numbers_below};
 

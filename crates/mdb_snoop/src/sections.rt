@@ -2,10 +2,10 @@
 ghost use Rattle.std.specs.Prelude.{◌≡◌, ℕ, ◌+◌, ◌++◌, ◌∷◌, ◌<◌, ◌≤◌, None, Some, true, [], IfOk, IfErr, cond, length, map, vec_capacity, slice_get, slice_set, slice_index_or, is_some};
 ghost use Rattle.std.specs.List.{filter, insert};
 ghost use Rattle.std.specs.Ordering.{nat_cmp};
-ghost use Rattle.br_model.specs.GroupPairs.{group_pair_cmp, has_room, max_pairs};
-ghost use Rattle.br_model.specs.Groups.{membership_cmp};
-ghost use Rattle.br_model.specs.Maps.{get, without, is_ascending};
-ghost use Rattle.br_model.specs.Ends.{due_members, keys};
+ghost use Rattle.br_model.specs.Table.GroupPairs.{group_pair_cmp, has_room, max_pairs};
+ghost use Rattle.br_model.specs.Table.Groups.{membership_cmp};
+ghost use Rattle.br_model.specs.Data.Maps.{get, without, is_ascending};
+ghost use Rattle.br_model.specs.Control.Ends.{due_members, keys};
 ghost use Rattle.mdb_snoop.specs.Database.{ending_soon, is_dynamic, joined_until, ports_in};
 ghost use Rattle.port_sets.specs.Numbers.{has_number};
 ghost use Rattle.mdb_snoop.specs.Places.{IsAt, IsGap, IsSound, Section as SectionValue, flat, section};

@@ -1,8 +1,8 @@
 ghost use Rattle.std.specs.Prelude.{◌≡◌, IsTrue};
-ghost use Rattle.br_model.specs.GroupPairs.{has_room};
-ghost use Rattle.br_model.specs.Table.{Table, apply};
+ghost use Rattle.br_model.specs.Table.GroupPairs.{has_room};
+ghost use Rattle.br_model.specs.Table.Table.{Table, apply};
 ghost use Rattle.br_model.specs.declared.change.Change.TheVariants.{GroupJoin, Router, Querier};
-ghost use Rattle.br_model.specs.Ends.{keys};
+ghost use Rattle.br_model.specs.Control.Ends.{keys};
 ghost use Rattle.mdb_snoop.specs.Database.{memberships};
 
 use crate::Mdb;

@@ -1,6 +1,6 @@
 //! Numbers in bytes, in the byte order of a section.
 ghost use Rattle.std.specs.Prelude.{◌≡◌, ◌≤◌, ◌+◌, length};
-ghost use Rattle.br_model.specs.Captures.{number_in};
+ghost use Rattle.br_model.specs.Wire.Captures.{number_in};
 
 use br_model::capture::Order;
 use byteorder::{BigEndian, ByteOrder, LittleEndian};

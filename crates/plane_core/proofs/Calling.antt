@@ -9,17 +9,17 @@ use Rattle.br_model.specs.declared.steps.Event.TheVariants as events
 use Rattle.br_model.specs.declared.steps.Refusal.TheVariants.{NothingPending, NoSuchPoint}
 use Rattle.br_model.specs.declared.transcript.Line.{Line}
 use Rattle.br_model.specs.declared.transcript.Line.TheVariants as lines
-use Rattle.br_model.specs.Chip.{applies}
-use Rattle.br_model.specs.Cut.{deferred_at}
-use Rattle.br_model.specs.Maps.{has}
-use Rattle.br_model.specs.Messages.{message}
+use Rattle.br_model.specs.Plane.Chip.{applies}
+use Rattle.br_model.specs.Table.Cut.{deferred_at}
+use Rattle.br_model.specs.Data.Maps.{has}
+use Rattle.br_model.specs.Wire.Messages.{message}
 use Rattle.br_model.specs.Plane.ChipSteps.{turns}
-use Rattle.br_model.specs.Plane.Invariants.{IsWorld}
+use Rattle.br_model.specs.Theorems.Invariants.{IsWorld}
 use Rattle.br_model.specs.Plane.Serving.{posts, serves, holds, held_with, lets_go, is_point, posts_at}
 use Rattle.br_model.specs.Plane.Steps.{Step, Cmd, Now, Serve, Hold, Post, Turn, Publish, publishes, does, world_step}
 use Rattle.br_model.specs.Plane.World.{World, Waiting, Holding, Stepped, answered, reacts, refused, done}
-use Rattle.br_model.specs.Setup.{Setup}
-use Rattle.br_model.specs.Table.{table}
+use Rattle.br_model.specs.Table.Setup.{Setup}
+use Rattle.br_model.specs.Table.Table.{table}
 use Rattle.table_publish.specs.Board.{Decides}
 use Rattle.table_publish.specs.Object.{Whose}
 use Rattle.table_publish.specs.declared.seat.Seen.{Seen}

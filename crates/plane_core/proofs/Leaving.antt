@@ -10,17 +10,17 @@ use Rattle.br_model.specs.declared.frame.Class.TheVariants.{Drop, Trap, Copy, Fo
 use Rattle.br_model.specs.declared.frame.Head.{Head}
 use Rattle.br_model.specs.declared.transcript.Line.{Line}
 use Rattle.br_model.specs.declared.transcript.Line.TheVariants.{Tx}
-use Rattle.br_model.specs.Admission.{admit}
-use Rattle.br_model.specs.Class.{class}
-use Rattle.br_model.specs.DomainPorts.{is_marked}
-use Rattle.br_model.specs.Domains.{Domains, foreign}
-use Rattle.br_model.specs.Eligible.{untagged}
-use Rattle.br_model.specs.Frames.{dressed}
-use Rattle.br_model.specs.Leave.{leave, ports_out, dressed_in, tag_at}
-use Rattle.br_model.specs.Messages.{message}
+use Rattle.br_model.specs.Forward.Admission.{admit}
+use Rattle.br_model.specs.Forward.Class.{class}
+use Rattle.br_model.specs.Table.DomainPorts.{is_marked}
+use Rattle.br_model.specs.Table.Domains.{Domains, foreign}
+use Rattle.br_model.specs.Forward.Eligible.{untagged}
+use Rattle.br_model.specs.Wire.Frames.{dressed}
+use Rattle.br_model.specs.Forward.Leave.{leave, ports_out, dressed_in, tag_at}
+use Rattle.br_model.specs.Wire.Messages.{message}
 use Rattle.br_model.specs.Plane.World.{sent}
-use Rattle.br_model.specs.Shares.{chip_out, chip_out_by, soft_out, remaining}
-use Rattle.br_model.specs.Table.{Table}
+use Rattle.br_model.specs.Forward.Shares.{chip_out, chip_out_by, soft_out, remaining}
+use Rattle.br_model.specs.Table.Table.{Table}
 use Rattle.chip_pipeline.specs.Passed.{Passed, IsPass, chip_ports_by, untagged_among as untagged_at_chip}
 use Rattle.forward_rules.specs.declared.soft_tables.Verdict.{Verdict}
 use Rattle.forward_rules.specs.Verdicts.{untagged_among}

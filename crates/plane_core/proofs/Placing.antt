@@ -1,8 +1,8 @@
 -- The places of deferred changes, and which change a ticket names.
 use Rattle.std.proofs.Common.{◌≡◌, ℕ, zero, suc, ◌+◌, ◌<◌, ◌≤◌, Bool, true, false, cond, Option, None, Some, option_map, List, [], ◌∷◌, ◌++◌, length, take, get_or, slice_get, filter, refl, sym, ap, ◌∙◌, add-one, arith}
 use Rattle.br_model.specs.declared.change.Change.{Change}
-use Rattle.br_model.specs.Change.{deferred, updates}
-use Rattle.br_model.specs.Cut.{under_ticket}
+use Rattle.br_model.specs.Table.Change.{deferred, updates}
+use Rattle.br_model.specs.Table.Cut.{under_ticket}
 use Rattle.br_model.proofs.Cuts.{updates-at}
 use Rattle.plane_core.specs.Places.{places_from, places}
 

@@ -7,12 +7,12 @@ use Rattle.br_model.specs.declared.change.Change.{Change}
 use Rattle.br_model.specs.declared.steps.Refusal.{Refusal}
 use Rattle.br_model.specs.declared.transcript.Line.{Line}
 use Rattle.br_model.specs.declared.transcript.Line.TheVariants as lines
-use Rattle.br_model.specs.Chip.{Chip}
-use Rattle.br_model.specs.Control.{first_control}
-use Rattle.br_model.specs.Domains.{Domains}
+use Rattle.br_model.specs.Plane.Chip.{Chip}
+use Rattle.br_model.specs.Control.Control.{first_control}
+use Rattle.br_model.specs.Table.Domains.{Domains}
 use Rattle.br_model.specs.Plane.World.{accepts, after_lines, answered, control_lines}
-use Rattle.br_model.specs.Reaction.{Reaction}
-use Rattle.br_model.specs.Setup.{Setup}
+use Rattle.br_model.specs.Control.Reaction.{Reaction}
+use Rattle.br_model.specs.Table.Setup.{Setup}
 use Rattle.bridge_core.specs.declared.faults.EventFault.{EventFault}
 use Rattle.bridge_core.specs.declared.faults.EventFault.TheVariants.{Refused, NoMemory}
 use Rattle.bridge_core.specs.Kept.{Controlled}

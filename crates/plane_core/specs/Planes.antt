@@ -1,7 +1,7 @@
 -- What contracts see of a plane: its world, and the board over which it stands.
 use Rattle.std.specs.Prelude.{◌≡◌, ◌≢◌, ℕ, true, List, IfSome, take, MatchBool, ◌≤◌, ◌<◌, ◌^◌}
 use Rattle.std.specs.Ordering.{nat_cmp}
-use Rattle.br_model.specs.Maps.{has}
+use Rattle.br_model.specs.Data.Maps.{has}
 use Rattle.std.specs.Option.{is_some}
 use Rattle.std.specs.declared.option.Option.{Option}
 use Rattle.std.specs.declared.option.Option.TheVariants.{None, Some}
@@ -13,10 +13,10 @@ use Rattle.br_model.specs.declared.frame.Head.{Head}
 use Rattle.br_model.specs.declared.steps.Event.{Event}
 use Rattle.br_model.specs.declared.steps.Event.TheVariants as events
 use Rattle.br_model.specs.declared.transcript.Line.{Line}
-use Rattle.br_model.specs.Cut.{deferred_at}
-use Rattle.br_model.specs.DomainPorts.{is_in_domain}
-use Rattle.br_model.specs.Domains.{chip}
-use Rattle.br_model.specs.Messages.{message}
+use Rattle.br_model.specs.Table.Cut.{deferred_at}
+use Rattle.br_model.specs.Table.DomainPorts.{is_in_domain}
+use Rattle.br_model.specs.Table.Domains.{chip}
+use Rattle.br_model.specs.Wire.Messages.{message}
 use Rattle.br_model.specs.Plane.Serving.{held_with}
 use Rattle.br_model.specs.Plane.Steps.{Step, Cmd, Now, Post, Turn, world_step}
 use Rattle.br_model.specs.Plane.World.{World, Waiting, Holding, table_at, table_of_chip}

@@ -1,11 +1,11 @@
 //! A chip that follows the history of a bridge.
 ghost use Rattle.std.specs.Prelude.{◌≡◌, ◌≤◌, ℕ, [], IfOk, OnOk, OnErr, false, length, take, drop, slice_get, if◌then◌else◌};
-ghost use Rattle.br_model.specs.Change.{deferred, updates};
-ghost use Rattle.br_model.specs.Chip.{Chip as ChipValue, first_chip, hit_by, offered, offers, hits_entry, unhit};
-ghost use Rattle.br_model.specs.Cut.{cut, deferred_at, deferred_count};
-ghost use Rattle.br_model.specs.Domains.{Domains as DomainsValue, chip};
-ghost use Rattle.br_model.specs.Limits.{AreWithin};
-ghost use Rattle.br_model.specs.Table.{Table, apply, table};
+ghost use Rattle.br_model.specs.Table.Change.{deferred, updates};
+ghost use Rattle.br_model.specs.Plane.Chip.{Chip as ChipValue, first_chip, hit_by, offered, offers, hits_entry, unhit};
+ghost use Rattle.br_model.specs.Table.Cut.{cut, deferred_at, deferred_count};
+ghost use Rattle.br_model.specs.Table.Domains.{Domains as DomainsValue, chip};
+ghost use Rattle.br_model.specs.Table.Limits.{AreWithin};
+ghost use Rattle.br_model.specs.Table.Table.{Table, apply, table};
 ghost use Rattle.chip_driver.specs.Drives.{Drives, IsTaken};
 ghost use Rattle.plane_core.specs.Places.{places};
 ghost use Rattle.plane_core.specs.Chips.{chip_of, IsChip, IsCut, Turns};

@@ -1,7 +1,7 @@
 //! Frames that wait for software, or that it holds.
 ghost use Rattle.std.specs.Prelude.{◌≡◌, ◌↔◌, IsTrue, Ok};
-ghost use Rattle.br_model.specs.Frames.{frame as frame_of};
-ghost use Rattle.br_model.specs.Messages.{message as message_of};
+ghost use Rattle.br_model.specs.Wire.Frames.{frame as frame_of};
+ghost use Rattle.br_model.specs.Wire.Messages.{message as message_of};
 ghost use Rattle.hwdom_marks.specs.Marks.{domain_marked};
 ghost use Rattle.plane_core.specs.Shown.{shown_by, shown_of};
 
@@ -25,8 +25,8 @@ pub struct Frame {
 
 impl Model for Frame {
     ghost use Rattle.std.specs.Prelude.{◌≡◌, Ok};
-    ghost use Rattle.br_model.specs.Frames.{frame as frame_of};
-    ghost use Rattle.br_model.specs.Messages.{message as message_of};
+    ghost use Rattle.br_model.specs.Wire.Frames.{frame as frame_of};
+    ghost use Rattle.br_model.specs.Wire.Messages.{message as message_of};
     ghost use Rattle.br_model.specs.Plane.World.{Waiting};
     ghost use Rattle.hwdom_marks.specs.Marks.{domain_marked};
 

@@ -2,9 +2,9 @@
 ghost use Rattle.std.specs.Prelude.{◌≡◌, ◌==◌, ◌+◌, ◌<◌, ◌^◌, ◌++◌, ◌∷◌, [], not, nat_lt, length, drop, slice_get, Option, Some, None, Ok, IfOk, OnOk, OnErr};
 ghost use Rattle.std.specs.List.{filter, find};
 ghost use Rattle.std.specs.Option.{option_copied};
-ghost use Rattle.br_model.specs.Limits.{most_waiting};
-ghost use Rattle.br_model.specs.Frames.{frame as frame_of};
-ghost use Rattle.br_model.specs.Messages.{message as message_of};
+ghost use Rattle.br_model.specs.Table.Limits.{most_waiting};
+ghost use Rattle.br_model.specs.Wire.Frames.{frame as frame_of};
+ghost use Rattle.br_model.specs.Wire.Messages.{message as message_of};
 ghost use Rattle.hwdom_marks.specs.Marks.{domain_marked};
 ghost use Rattle.plane_core.specs.Queued.{Queued, holds_oldest};
 ghost use Rattle.plane_core.specs.Arrivals.{arrival, arrival_lines, settled, IsArrival};

@@ -2,14 +2,14 @@
 ghost use Rattle.std.specs.Prelude.{◌≡◌, ◌+◌, ◌<◌, ◌≤◌, ◌^◌, [], ◌∷◌, length, slice_get, true, false, None, Ok, IfOk, IfSome, IsSome, OnErr};
 ghost use Rattle.std.specs.Option.{option_map};
 ghost use Rattle.br_model.specs.declared.transcript.Line.TheVariants as line;
-ghost use Rattle.br_model.specs.DomainPorts.{is_in_domain};
+ghost use Rattle.br_model.specs.Table.DomainPorts.{is_in_domain};
 ghost use Rattle.chip_pipeline.specs.Passed.{IsPass};
 ghost use Rattle.table_publish.specs.declared.seat.Seen.{Seen as SeenValue};
-ghost use Rattle.br_model.specs.Change.{updates};
-ghost use Rattle.br_model.specs.Domains.{chip};
-ghost use Rattle.br_model.specs.Frames.{frame as frame_of};
-ghost use Rattle.br_model.specs.Messages.{message as message_of};
-ghost use Rattle.br_model.specs.Plane.Invariants.{IsWorld};
+ghost use Rattle.br_model.specs.Table.Change.{updates};
+ghost use Rattle.br_model.specs.Table.Domains.{chip};
+ghost use Rattle.br_model.specs.Wire.Frames.{frame as frame_of};
+ghost use Rattle.br_model.specs.Wire.Messages.{message as message_of};
+ghost use Rattle.br_model.specs.Theorems.Invariants.{IsWorld};
 ghost use Rattle.br_model.specs.Plane.Runs.{pending};
 ghost use Rattle.br_model.specs.Plane.Serving.{held_with};
 ghost use Rattle.br_model.specs.Plane.Steps.{Rx, Serve, Hold, Publish, Report, Sweep, world_step};
@@ -50,7 +50,7 @@ pub struct Plane {
 }
 
 impl Model for Plane {
-    ghost use Rattle.br_model.specs.Plane.Invariants.{IsWorld};
+    ghost use Rattle.br_model.specs.Theorems.Invariants.{IsWorld};
     ghost use Rattle.plane_core.specs.Planes.{PlaneState};
     ghost use Rattle.plane_core.specs.Sides.{world_of};
 

@@ -1,11 +1,11 @@
 //! The lines of a frame that the chip or software sends.
 ghost use Rattle.std.specs.Prelude.{◌≡◌, ℕ, ◌<◌, ◌++◌, List, map, IfOk, OnOk, Ok};
-ghost use Rattle.br_model.specs.Domains.{Domains as DomainsValue};
-ghost use Rattle.br_model.specs.Frames.{frame as frame_of};
-ghost use Rattle.br_model.specs.Messages.{message};
+ghost use Rattle.br_model.specs.Table.Domains.{Domains as DomainsValue};
+ghost use Rattle.br_model.specs.Wire.Frames.{frame as frame_of};
+ghost use Rattle.br_model.specs.Wire.Messages.{message};
 ghost use Rattle.br_model.specs.Plane.World.{sent};
-ghost use Rattle.br_model.specs.Shares.{chip_out, soft_out};
-ghost use Rattle.br_model.specs.Table.{Table};
+ghost use Rattle.br_model.specs.Forward.Shares.{chip_out, soft_out};
+ghost use Rattle.br_model.specs.Table.Table.{Table};
 ghost use Rattle.br_model.specs.declared.frame.Head.{Head as HeadValue};
 ghost use Rattle.chip_pipeline.specs.Passed.{IsPass};
 ghost use Rattle.hwdom_marks.specs.Marks.{domain_marked};

@@ -1,10 +1,10 @@
 //! A sweep: the stations that the chip no longer sees.
 ghost use Rattle.std.specs.Prelude.{◌≡◌, ℕ, IfOk};
-ghost use Rattle.br_model.specs.Chip.{unhit};
-ghost use Rattle.br_model.specs.DomainPorts.{is_in_domain};
-ghost use Rattle.br_model.specs.Domains.{Domains, chip};
-ghost use Rattle.br_model.specs.Learning.{is_extern};
-ghost use Rattle.br_model.specs.Table.{Table};
+ghost use Rattle.br_model.specs.Plane.Chip.{unhit};
+ghost use Rattle.br_model.specs.Table.DomainPorts.{is_in_domain};
+ghost use Rattle.br_model.specs.Table.Domains.{Domains, chip};
+ghost use Rattle.br_model.specs.Control.Learning.{is_extern};
+ghost use Rattle.br_model.specs.Table.Table.{Table};
 ghost use Rattle.chip_tables.specs.Rows.{address_at};
 ghost use Rattle.chip_tables.specs.Stands.{PortsStand, Stands};
 ghost use Rattle.plane_core.specs.Chips.{chip_of};

@@ -1,8 +1,8 @@
 //! The deferred changes of a history by their tickets.
 ghost use Rattle.std.specs.Prelude.{◌≡◌, ◌++◌, ◌∷◌, ◌<◌, ◌≤◌, [], length, take, IfOk, slice_get, ◌==◌, if◌then◌else◌};
-ghost use Rattle.br_model.specs.Change.{deferred, updates};
-ghost use Rattle.br_model.specs.Cut.{deferred_count};
-ghost use Rattle.br_model.specs.Limits.{most_changes};
+ghost use Rattle.br_model.specs.Table.Change.{deferred, updates};
+ghost use Rattle.br_model.specs.Table.Cut.{deferred_count};
+ghost use Rattle.br_model.specs.Table.Limits.{most_changes};
 ghost use Rattle.plane_core.specs.Places.{places};
 
 use crate::NoMemory;

@@ -12,13 +12,13 @@ use Rattle.br_model.specs.declared.scenario.Said.{Said}
 use Rattle.br_model.specs.declared.scenario.Said.TheVariants.{Blank, Opens, Bridge, Declares, Does, Captures, Ends}
 use Rattle.br_model.specs.declared.steps.Step.{Step}
 use Rattle.br_model.specs.declared.steps.Step.TheVariants.{Rx, Cmd, Now, Serve, Turn, Report, Sweep, Publish}
-use Rattle.br_model.specs.Forms.{after}
-use Rattle.br_model.specs.LineForms.{line_says, opening, header, declaration}
-use Rattle.br_model.specs.Operands.{new_port, new_name, last_moment, longest_section}
-use Rattle.br_model.specs.Roster.{Roster}
-use Rattle.br_model.specs.Scenario.{declared}
-use Rattle.br_model.specs.Declarations.{fits_beside}
-use Rattle.br_model.specs.Words.{Word}
+use Rattle.br_model.specs.Text.Forms.{after}
+use Rattle.br_model.specs.Text.LineForms.{line_says, opening, header, declaration}
+use Rattle.br_model.specs.Text.Operands.{new_port, new_name, last_moment, longest_section}
+use Rattle.br_model.specs.Text.Roster.{Roster}
+use Rattle.br_model.specs.Text.Scenario.{declared}
+use Rattle.br_model.specs.Text.Declarations.{fits_beside}
+use Rattle.br_model.specs.Text.Words.{Word}
 
 abbrev pub item_of : Said → Item
 item_of Blank = items.Blank

@@ -1,8 +1,8 @@
 //! Bytes, as digits spell them.
 ghost use Rattle.std.specs.Prelude.{◌≡◌, ◌*◌, length, unwrap_or, Some, None, IfOk};
 ghost use Rattle.std.specs.Bool.{MatchBool};
-ghost use Rattle.br_model.specs.Digits.{nibble, bytes_from_hex};
-ghost use Rattle.br_model.specs.Operands.{hex as hex_of};
+ghost use Rattle.br_model.specs.Data.Digits.{nibble, bytes_from_hex};
+ghost use Rattle.br_model.specs.Text.Operands.{hex as hex_of};
 ghost use Rattle.bridge_command.specs.Seen.{OrNoMemory};
 
 use br_model::NoMemory;
@@ -69,7 +69,7 @@ fn decoded(alloc: Global, digits: &[u8]) -> Result<Option<Bytes>, NoMemory>
 }
 
 /// At least one byte.
-#[tactic(auto, unfolding(br_model::specs::Operands::hex))]
+#[tactic(auto, unfolding(br_model::specs::Text::Operands::hex))]
 pub(crate) fn hex_bytes(alloc: Global, word: &str) -> Result<Bytes, LineWhy>
     ensures { OrNoMemory result (hex_of word.now) }
 {

@@ -1,9 +1,9 @@
 //! The scenario that `gen` writes and `demo` runs.
 ghost use Rattle.std.specs.Prelude.{◌≡◌, ◌+◌, ◌*◌, ◌%◌, ◌==◌, ◌<◌, ◌≤◌, if◌then◌else◌, [], ◌∷◌, ◌++◌, length, codes, decimal, IfOk, OnOk, OnErr};
 ghost use Rattle.std.specs.String.{string_bytes, string_len, string_capacity};
-ghost use Rattle.br_model.specs.Digits.{hex_of};
-ghost use Rattle.br_model.specs.Generator.{drawn as drawn_of, number_of, station as station_of, destination as destination_of, frame as frame_of, frame_steps as steps_of_frame, each, most_frames, made, steps as all_steps, ports, first_steps as steps_at_first};
-ghost use Rattle.br_model.specs.Roster.{domains_of};
+ghost use Rattle.br_model.specs.Data.Digits.{hex_of};
+ghost use Rattle.br_model.specs.Program.Generator.{drawn as drawn_of, number_of, station as station_of, destination as destination_of, frame as frame_of, frame_steps as steps_of_frame, each, most_frames, made, steps as all_steps, ports, first_steps as steps_at_first};
+ghost use Rattle.br_model.specs.Text.Roster.{domains_of};
 ghost use Rattle.scenario_text.specs.Generating.{first, after_frame, next_steps, steps_left, lines_of, opening_text, text_left};
 
 use br_model::NoMemory;
@@ -52,7 +52,7 @@ pub struct Generator {
 
 impl Model for Generator {
     ghost use Rattle.std.specs.Prelude.{◌+◌, ◌≤◌};
-    ghost use Rattle.br_model.specs.Generator.{most_frames};
+    ghost use Rattle.br_model.specs.Program.Generator.{most_frames};
     ghost use Rattle.scenario_text.specs.Generating.{At};
 
     ghost Value = { At };

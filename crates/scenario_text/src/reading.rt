@@ -1,9 +1,9 @@
 //! A line as an item, and the roster after it.
 ghost use Rattle.std.specs.Prelude.{◌≡◌, ◌⊎◌, true, Err, IfOk, IfErr, OnErr};
 ghost use Rattle.br_model.specs.declared.scenario.LineWhy.TheVariants.{NoMemory as NoMemoryLeft};
-ghost use Rattle.br_model.specs.LineForms.{line_says, all_say};
-ghost use Rattle.br_model.specs.Scenario.{is_end};
-ghost use Rattle.br_model.specs.Words.{words};
+ghost use Rattle.br_model.specs.Text.LineForms.{line_says, all_say};
+ghost use Rattle.br_model.specs.Text.Scenario.{is_end};
+ghost use Rattle.br_model.specs.Text.Words.{words};
 ghost use Rattle.bridge_command.specs.Seen.{OrNoMemory};
 ghost use Rattle.scenario_text.specs.Items.{Reads, comes_in_place, fits_roster, is_in_range};
 
@@ -51,7 +51,7 @@ pub fn read_line(alloc: Global, b: &[u8], r: &mut Roster) -> Result<Item, LineWh
 }
 
 /// What a line says to a roster that stays as it is.
-#[tactic(auto, unfolding(br_model::specs::LineForms::line_says))]
+#[tactic(auto, unfolding(br_model::specs::Text::LineForms::line_says))]
 fn what_says(alloc: Global, line: &[u8], r: &Roster) -> Result<Said, LineWhy>
     ensures value { OrNoMemory result (line_says r.now line.now) }
     ensures fits { IfOk result (λ said. fits_roster r.now said ≡ true) }

@@ -1,6 +1,6 @@
 //! The words of a line.
 ghost use Rattle.std.specs.Prelude.{◌≡◌, ◌<◌, ◌∷◌, ◌++◌, [], length, map, OnSome, IfNone};
-ghost use Rattle.br_model.specs.Words.{readable as readable_of, words};
+ghost use Rattle.br_model.specs.Text.Words.{readable as readable_of, words};
 ghost use Rattle.scenario_text.specs.Parts.{words_among};
 
 use arrayvec::ArrayVec;

@@ -1,12 +1,12 @@
 //! Steps as lines.
 ghost use Rattle.std.specs.Prelude.{◌≡◌, ◌++◌, ◌+◌, ◌<◌, [], ◌∷◌, true, IfOk, OnOk, codes, decimal};
 ghost use Rattle.std.specs.String.{string_bytes};
-ghost use Rattle.br_model.specs.Digits.{hex_digit, hex_of};
-ghost use Rattle.br_model.specs.FlagWords.{flags, name_of_flag};
-ghost use Rattle.br_model.specs.Frames.{longest_frame};
-ghost use Rattle.br_model.specs.Roster.{has_number};
-ghost use Rattle.br_model.specs.ScenarioText.{byte_at, mac_text, dotted, digits_at, groups_of_four, ip_text, kind_word as word_of_kind, command_text, device_text, further, name_of, switch_word as word_of_switch, shown as shown_of, step_text, step_words};
-ghost use Rattle.br_model.specs.WrittenSteps.{is_device, command_names_declared, names_declared};
+ghost use Rattle.br_model.specs.Data.Digits.{hex_digit, hex_of};
+ghost use Rattle.br_model.specs.Text.FlagWords.{flags, name_of_flag};
+ghost use Rattle.br_model.specs.Wire.Frames.{longest_frame};
+ghost use Rattle.br_model.specs.Text.Roster.{has_number};
+ghost use Rattle.br_model.specs.Text.ScenarioText.{byte_at, mac_text, dotted, digits_at, groups_of_four, ip_text, kind_word as word_of_kind, command_text, device_text, further, name_of, switch_word as word_of_switch, shown as shown_of, step_text, step_words};
+ghost use Rattle.br_model.specs.Theorems.WrittenSteps.{is_device, command_names_declared, names_declared};
 
 use br_model::NoMemory;
 use br_model::bytes::Bytes;

@@ -2,16 +2,16 @@
 use Rattle.std.proofs.Common.{◌≡◌, [], ◌∷◌, cond, refl, ℕ, ◌<◌, List, length, set, get_or, Option, None, Some, not, ◌==◌, ◌∙◌, ap, ap₂, sym, arith}
 use Rattle.std.specs.Ordering.{nat_cmp}
 use Rattle.br_model.specs.declared.tree.TreePort.{TreePort}
-use Rattle.br_model.specs.Maps.{get, put, without}
+use Rattle.br_model.specs.Data.Maps.{get, put, without}
 use Rattle.stp_core.specs.Places.{entries_at}
 use Rattle.stp_core.proofs.PlaceLaws.{get-entries, put-entries, without-entries, numbers-kept}
 use Rattle.stp_core.specs.Settling.{state_in}
 use Rattle.std.specs.List.{filter}
 use Rattle.std.specs.Option.{option_map_or}
-use Rattle.br_model.specs.Table.{disabled}
+use Rattle.br_model.specs.Table.Table.{disabled}
 use Rattle.std.proofs.lemmas.Bool.{eq-eqb}
-use Rattle.br_model.specs.Tree.{Tree, numbers, state_at}
-use Rattle.br_model.specs.TreeStep.{moved}
+use Rattle.br_model.specs.Tree.Tree.{Tree, numbers, state_at}
+use Rattle.br_model.specs.Tree.Step.{moved}
 
 pub get_at : (p : ℕ) (os : List (Option TreePort)) → get nat_cmp (entries_at 0 os) p ≡ get_or os p None
 get_at p os = get-entries p 0 p os (omega arith)

@@ -6,16 +6,16 @@ use Rattle.std.specs.declared.option.Option.{Option}
 use Rattle.std.specs.List.{filter}
 use Rattle.std.specs.Option.{option_map_or}
 use Rattle.std.specs.Ordering.{nat_cmp}
-use Rattle.br_model.specs.Maps.{get}
-use Rattle.br_model.specs.Table.{disabled}
+use Rattle.br_model.specs.Data.Maps.{get}
+use Rattle.br_model.specs.Table.Table.{disabled}
 use Rattle.br_model.specs.declared.tree.TreeEvent.{TreeEvent}
 use Rattle.br_model.specs.declared.tree.TreeEvent.TheVariants.{PortPriority, Priority}
 use Rattle.br_model.specs.declared.tree.TreePort.{TreePort}
-use Rattle.br_model.specs.Tree.{Tree, state_at, numbers, at_port}
-use Rattle.br_model.specs.TreeVectors.{is_root, roles}
-use Rattle.br_model.specs.TreeStates.{states_follow, is_blocked_by_roles}
-use Rattle.br_model.specs.TreeSending.{Acted, quiet, generate, detected_if}
-use Rattle.br_model.specs.TreeStep.{moved}
+use Rattle.br_model.specs.Tree.Tree.{Tree, state_at, numbers, at_port}
+use Rattle.br_model.specs.Tree.Vectors.{is_root, roles}
+use Rattle.br_model.specs.Tree.States.{states_follow, is_blocked_by_roles}
+use Rattle.br_model.specs.Tree.Sending.{Acted, quiet, generate, detected_if}
+use Rattle.br_model.specs.Tree.Step.{moved}
 use Rattle.stp_core.specs.declared.steps.Before.{Before}
 use Rattle.stp_core.specs.declared.tree.TreeOut.{TreeOut}
 

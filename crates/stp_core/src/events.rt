@@ -1,10 +1,10 @@
 //! The events of the tree, as the control plane tells them.
 ghost use Rattle.std.specs.Prelude.{◌≡◌, ◌/◌, ◌%◌, ◌==◌, ◌<◌, ◌≤◌, ◌^◌, [], ◌∷◌, Some, None, true, IsSome, if◌then◌else◌};
-ghost use Rattle.br_model.specs.Tree.{fresh, bpdu_of};
+ghost use Rattle.br_model.specs.Tree.Tree.{fresh, bpdu_of};
 ghost use Rattle.br_model.specs.declared.tree.TreeEvent.TheVariants.{Switch, Up, Down, Message, Cost};
-ghost use Rattle.br_model.specs.TreeStep.{settled, with_kept, passed_on, config_received, tcn_received, received_at, tree_step, message};
-ghost use Rattle.br_model.specs.TreeStates.{blocking};
-ghost use Rattle.br_model.specs.Admission.{forwarding};
+ghost use Rattle.br_model.specs.Tree.Step.{settled, with_kept, passed_on, config_received, tcn_received, received_at, tree_step, message};
+ghost use Rattle.br_model.specs.Tree.States.{blocking};
+ghost use Rattle.br_model.specs.Forward.Admission.{forwarding};
 ghost use Rattle.stp_core.specs.Acting.{acted};
 ghost use Rattle.stp_core.specs.Places.{entries_at};
 ghost use Rattle.stp_core.specs.Settling.{moved_from, follows_by, ranked, ranking};
@@ -83,7 +83,7 @@ impl Parameters {
         }
     }
 
-    #[tactic(auto, unfolding(br_model::specs::TreeStep::tree_step))]
+    #[tactic(auto, unfolding(br_model::specs::Tree::Step::tree_step))]
     pub(crate) fn turn(&mut self, on: bool, now: u64) -> Sent
         requires { now < 2 ^ 53 }
         ensures { acted self.new result ≡ tree_step self.old now (Switch on) }
@@ -198,7 +198,7 @@ impl Parameters {
         }
     }
 
-    #[tactic(auto, unfolding(br_model::specs::TreeStep::tree_step))]
+    #[tactic(auto, unfolding(br_model::specs::Tree::Step::tree_step))]
     pub(crate) fn receive(&mut self, p: u8, m: &BpduMsg, now: u64) -> Sent
         requires early { now < 2 ^ 53 }
         requires port { p < 64 }
@@ -210,7 +210,7 @@ impl Parameters {
         }
     }
 
-    #[tactic(auto, using(crate::proofs::Settlements::follows_is), unfolding(br_model::specs::TreeStep::tree_step))]
+    #[tactic(auto, using(crate::proofs::Settlements::follows_is), unfolding(br_model::specs::Tree::Step::tree_step))]
     pub(crate) fn bring_up(&mut self, p: u8, now: u64) -> Sent
         requires early { now < 2 ^ 53 }
         requires port { p < 64 }
@@ -222,7 +222,7 @@ impl Parameters {
         self.follow(before, now)
     }
 
-    #[tactic(auto, using(crate::proofs::Settlements::follows_is), unfolding(br_model::specs::TreeStep::tree_step))]
+    #[tactic(auto, using(crate::proofs::Settlements::follows_is), unfolding(br_model::specs::Tree::Step::tree_step))]
     pub(crate) fn take_down(&mut self, p: u8, now: u64) -> Sent
         requires early { now < 2 ^ 53 }
         requires port { p < 64 }
@@ -233,7 +233,7 @@ impl Parameters {
         self.follow(before, now)
     }
 
-    #[tactic(auto, using(crate::proofs::Settlements::follows_is), unfolding(br_model::specs::TreeStep::tree_step))]
+    #[tactic(auto, using(crate::proofs::Settlements::follows_is), unfolding(br_model::specs::Tree::Step::tree_step))]
     pub(crate) fn set_cost_at(&mut self, p: u8, n: u16, now: u64) -> Sent
         requires early { now < 2 ^ 53 }
         requires port { p < 64 }

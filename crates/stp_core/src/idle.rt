@@ -1,8 +1,8 @@
 //! The first moment at which something is due: the moments before it change nothing.
 ghost use Rattle.std.specs.Prelude.{◌≡◌, ◌+◌, ◌-◌, ◌^◌, min};
 ghost use Rattle.std.specs.List.{list_any};
-ghost use Rattle.br_model.specs.TreeTimers.{is_tcn_due};
-ghost use Rattle.br_model.specs.TreeSending.{is_put_off};
+ghost use Rattle.br_model.specs.Tree.Timers.{is_tcn_due};
+ghost use Rattle.br_model.specs.Tree.Sending.{is_put_off};
 ghost use Rattle.stp_core.specs.Due.{IsFirst, is_age_over, is_delay_over, is_unsettled, is_due_at, is_change_over, says_hello, is_timer_due, is_any_due};
 ghost use Rattle.stp_core.specs.Places.{entries_at};
 

@@ -1,9 +1,9 @@
 //! What a bridge keeps of itself and of each port, and what can be read of it (IEEE 802.1D-1998 section 8.5).
 ghost use Rattle.std.specs.Prelude.{◌≡◌, ◌<◌};
 ghost use Rattle.std.specs.Option.{ForSome};
-ghost use Rattle.br_model.specs.Tree.{first_tree, bridge_id, port_at, state_at};
-ghost use Rattle.br_model.specs.TreeVectors.{root_of, root_kept, is_root};
-ghost use Rattle.br_model.specs.TreeTimers.{times, forward_delay, is_changing, hold};
+ghost use Rattle.br_model.specs.Tree.Tree.{first_tree, bridge_id, port_at, state_at};
+ghost use Rattle.br_model.specs.Tree.Vectors.{root_of, root_kept, is_root};
+ghost use Rattle.br_model.specs.Tree.Timers.{times, forward_delay, is_changing, hold};
 ghost use Rattle.stp_core.specs.Places.{entries_at};
 
 use crate::places::Places;
@@ -29,7 +29,7 @@ pub(crate) struct Parameters {
 }
 
 impl Model for Parameters {
-    ghost use Rattle.br_model.specs.Tree as tree;
+    ghost use Rattle.br_model.specs.Tree.Tree as tree;
     ghost use Rattle.stp_core.specs.Places.{entries_at};
 
     ghost Value = { tree.Tree };
@@ -80,7 +80,7 @@ impl Parameters {
         (u64::from(self.priority) << 48) + self.own.number()
     }
 
-    #[tactic(auto, unfolding(br_model::specs::TreeVectors::root_of))]
+    #[tactic(auto, unfolding(br_model::specs::Tree::Vectors::root_of))]
     pub(crate) fn root(&self) -> Root
         ensures value { result ≡ root_of self.now }
         ensures below { ForSome result.port (λ p. p < 64) }

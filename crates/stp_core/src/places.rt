@@ -1,10 +1,10 @@
 //! Ports in an array with a place for each, and passes over those that are up.
 ghost use Rattle.std.specs.Prelude.{◌≡◌, ◌<◌, ◌==◌, ℕ, Bool, if◌then◌else◌};
 ghost use Rattle.std.specs.Ordering.{nat_cmp};
-ghost use Rattle.br_model.specs.Maps.{put, without};
+ghost use Rattle.br_model.specs.Data.Maps.{put, without};
 ghost use Rattle.std.specs.List.{filter, list_any};
 ghost use Rattle.br_model.specs.declared.tree.TreePort.{TreePort as PortValue};
-ghost use Rattle.br_model.specs.Tree.{each, numbers};
+ghost use Rattle.br_model.specs.Tree.Tree.{each, numbers};
 ghost use Rattle.stp_core.specs.Places.{entries_at};
 
 use br_model::tree::TreePort;

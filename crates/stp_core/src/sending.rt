@@ -1,7 +1,7 @@
 //! Sending: configuration messages, those that were put off, and notifications of topology changes.
 ghost use Rattle.std.specs.Prelude.{◌≡◌, ◌<◌, ◌^◌};
 ghost use Rattle.std.specs.declared.option.Option.TheVariants.{Some};
-ghost use Rattle.br_model.specs.TreeSending.{transmit, generate, sends_put_off, notify, detected, detected_if, union};
+ghost use Rattle.br_model.specs.Tree.Sending.{transmit, generate, sends_put_off, notify, detected, detected_if, union};
 ghost use Rattle.stp_core.specs.Acting.{acted, voice_of};
 
 use crate::messages::{GoingOut, Sent, Transmitting, Voice};
@@ -30,7 +30,7 @@ impl Parameters {
     }
 
     /// Each of these ports is to send its message.
-    #[tactic(auto, unfolding(br_model::specs::TreeSending::transmit))]
+    #[tactic(auto, unfolding(br_model::specs::Tree::Sending::transmit))]
     pub(crate) fn transmit(&mut self, ports: Ports, now: u64, sent: &mut Sent)
         requires { now < 2 ^ 53 }
         ensures { acted self.new sent.new ≡ transmit ports now (acted self.old sent.old) }

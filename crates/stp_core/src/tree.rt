@@ -1,11 +1,11 @@
 //! The spanning tree, as the control plane tells it events and reads it.
 ghost use Rattle.std.specs.Prelude.{◌≡◌, ◌<◌, ◌≤◌, ◌^◌, true, Some, IsSome, IsTrue};
-ghost use Rattle.br_model.specs.Tree.{first_tree, state_at};
-ghost use Rattle.br_model.specs.TreeTimers.{hold};
-ghost use Rattle.br_model.specs.TreeSending.{quiet};
+ghost use Rattle.br_model.specs.Tree.Tree.{first_tree, state_at};
+ghost use Rattle.br_model.specs.Tree.Timers.{hold};
+ghost use Rattle.br_model.specs.Tree.Sending.{quiet};
 ghost use Rattle.br_model.specs.declared.tree.TreeEvent.TheVariants.{Switch, Up, Down, Message, Moment, Cost};
-ghost use Rattle.br_model.specs.TreeStep.{tree_step, message};
-ghost use Rattle.br_model.specs.TreeLaws.{HaveSent, knows_states};
+ghost use Rattle.br_model.specs.Tree.Step.{tree_step, message};
+ghost use Rattle.br_model.specs.Theorems.TreeLaws.{HaveSent, knows_states};
 ghost use Rattle.stp_core.specs.Settling.{ranking, out_of};
 
 use crate::parameters::Parameters;
@@ -26,8 +26,8 @@ pub struct Tree {
 
 impl Model for Tree {
     ghost use Rattle.std.specs.Prelude.{◌≡◌, true};
-    ghost use Rattle.br_model.specs.Tree as tree;
-    ghost use Rattle.br_model.specs.TreeLaws.{knows_states};
+    ghost use Rattle.br_model.specs.Tree.Tree as tree;
+    ghost use Rattle.br_model.specs.Theorems.TreeLaws.{knows_states};
     ghost use Rattle.stp_core.specs.Due.{IsFirst, is_any_due};
 
     ghost Value = { tree.Tree };

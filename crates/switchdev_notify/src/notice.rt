@@ -1,6 +1,6 @@
 //! Notices, and the changes that they tell.
 ghost use Rattle.std.specs.Prelude.{◌≡◌, Some, None, if◌then◌else◌};
-ghost use Rattle.br_model.specs.Change.{deferred};
+ghost use Rattle.br_model.specs.Table.Change.{deferred};
 ghost use Rattle.switchdev_notify.specs.Notices.{notice, change_of};
 
 use br_model::change::{Change, Flags};

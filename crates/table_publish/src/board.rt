@@ -1,7 +1,7 @@
 //! The board, which publishes, and the seats that it is made with.
 ghost use Rattle.std.specs.Prelude.{◌≡◌, ◌+◌, ◌-◌, ◌<◌, ◌≤◌, ◌++◌, ◌∷◌, ◌↔◌, [], length, take, replicate, IfOk, OnOk, OnErr, IfSome, IsSome};
-ghost use Rattle.br_model.specs.Limits.{AreWithin};
-ghost use Rattle.br_model.specs.Table.{table};
+ghost use Rattle.br_model.specs.Table.Limits.{AreWithin};
+ghost use Rattle.br_model.specs.Table.Table.{table};
 ghost use Rattle.table_publish.specs.Board.{all_of, newcomer};
 ghost use Rattle.table_publish.specs.Law.{head_of};
 ghost use Rattle.table_publish.specs.Object.{Begins, IsPublished, first_object, published};

@@ -18,8 +18,8 @@ use Rattle.br_model.specs.declared.steps.Refusal.{Refusal}
 use Rattle.br_model.specs.declared.steps.Refusal.TheVariants.{PortIsUp, PortNotUp, NotMember, Exists, Absent, FdbFull, GroupsFull, HistoryFull, Backward, NothingWaiting, NothingPending, NothingReported, NotAGroup, NothingToPost, NoSuchPoint}
 use Rattle.br_model.specs.declared.transcript.Line.{Line}
 use Rattle.br_model.specs.declared.transcript.Line.TheVariants.{Chip, Unread, Soft, Held, Tx, Ctl, Overrun, Done, Refused, End}
-use Rattle.br_model.specs.Transcript.{line_text, class_word, fault_word, refusal_number}
-use Rattle.br_model.specs.Words.{Word}
+use Rattle.br_model.specs.Text.Transcript.{line_text, class_word, fault_word, refusal_number}
+use Rattle.br_model.specs.Text.Words.{Word}
 use Rattle.br_model.proofs.WrittenWords.{both}
 use Rattle.transcript_text.specs.Lines.{is_number, is_port, is_line, line_words}
 use Rattle.transcript_text.specs.Reading as reading

@@ -13,9 +13,9 @@ use Rattle.br_model.specs.declared.steps.Refusal.{Refusal}
 use Rattle.br_model.specs.declared.steps.Refusal.TheVariants.{PortIsUp, PortNotUp, NotMember, Exists, Absent, FdbFull, GroupsFull, HistoryFull, Backward, NothingWaiting, NothingPending, NothingReported, NotAGroup, NothingToPost, NoSuchPoint}
 use Rattle.br_model.specs.declared.transcript.Line.{Line}
 use Rattle.br_model.specs.declared.transcript.Line.TheVariants.{Chip, Unread, Soft, Held, Tx, Ctl, Overrun, Done, Refused, End}
-use Rattle.br_model.specs.Digits.{hex_of}
-use Rattle.br_model.specs.Transcript.{line_text, class_word, fault_word, refusal_number}
-use Rattle.br_model.specs.Words.{Word, is_word}
+use Rattle.br_model.specs.Data.Digits.{hex_of}
+use Rattle.br_model.specs.Text.Transcript.{line_text, class_word, fault_word, refusal_number}
+use Rattle.br_model.specs.Text.Words.{Word, is_word}
 use Rattle.br_model.proofs.WrittenNumbers.{decimal_proper, hex_proper}
 use Rattle.br_model.proofs.WrittenWords.{is_letter, letters, is_proper, both}
 use Rattle.transcript_text.specs.Lines.{is_number, is_port, is_frame, is_line, line_words}

@@ -4,10 +4,10 @@ use Rattle.std.specs.Fmt.{decimal}
 use Rattle.std.specs.List.{list_all}
 use Rattle.br_model.specs.declared.transcript.Line.{Line}
 use Rattle.br_model.specs.declared.transcript.Line.TheVariants.{Chip, Unread, Soft, Held, Tx, Ctl, Overrun, Done, Refused, End}
-use Rattle.br_model.specs.Digits.{hex_of}
-use Rattle.br_model.specs.Transcript.{fault_word, class_word, refusal_number}
-use Rattle.br_model.specs.Words.{Word}
-use Rattle.br_model.specs.WrittenSteps.{is_byte}
+use Rattle.br_model.specs.Data.Digits.{hex_of}
+use Rattle.br_model.specs.Text.Transcript.{fault_word, class_word, refusal_number}
+use Rattle.br_model.specs.Text.Words.{Word}
+use Rattle.br_model.specs.Theorems.WrittenSteps.{is_byte}
 
 abbrev pub is_number : ℕ → Bool
 is_number n = nat_lt n (2 ^ 32)

@@ -1,7 +1,7 @@
 //! The cause of a bad line.
 ghost use Rattle.std.specs.Prelude.{◌≡◌, ◌++◌, [], ◌∷◌, OnOk, OnErr};
 ghost use Rattle.std.specs.String.{string_bytes};
-ghost use Rattle.br_model.specs.Transcript.{why_text, bad_text};
+ghost use Rattle.br_model.specs.Text.Transcript.{why_text, bad_text};
 ghost use Rattle.transcript_text.specs.Extends.{Extends};
 
 use crate::numbers::{append_field, append_number};

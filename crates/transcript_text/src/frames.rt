@@ -1,7 +1,7 @@
 //! The bytes of frames in hexadecimal digits.
 ghost use Rattle.std.specs.Prelude.{◌≡◌, ◌++◌, ◌↔◌, [], IsTrue, IfOk, OnOk, OnErr};
 ghost use Rattle.std.specs.String.{string_bytes};
-ghost use Rattle.br_model.specs.Digits.{hex_of};
+ghost use Rattle.br_model.specs.Data.Digits.{hex_of};
 
 use br_model::NoMemory;
 use std::alloc::Global;
@@ -18,7 +18,7 @@ pub(crate) struct Shown {
 impl Model for Shown {
     ghost use Rattle.std.specs.Prelude.{◌≡◌, ℕ, List};
     ghost use Rattle.std.specs.String.{string_bytes};
-    ghost use Rattle.br_model.specs.Digits.{hex_of};
+    ghost use Rattle.br_model.specs.Data.Digits.{hex_of};
 
     ghost Value = { List ℕ };
 

@@ -1,7 +1,7 @@
 //! Lines of a transcript.
 ghost use Rattle.std.specs.Prelude.{◌≡◌, ◌++◌, [], ◌∷◌, IfOk, OnOk, OnErr};
 ghost use Rattle.std.specs.String.{string_bytes};
-ghost use Rattle.br_model.specs.Transcript.{line_text, text, fault_word, class_word, refusal_number};
+ghost use Rattle.br_model.specs.Text.Transcript.{line_text, text, fault_word, class_word, refusal_number};
 ghost use Rattle.transcript_text.specs.Extends.{Extends};
 
 use crate::frames::LastFrames;

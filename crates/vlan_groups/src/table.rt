@@ -1,9 +1,9 @@
 //! The table of memberships and PVIDs.
 ghost use Rattle.std.specs.Prelude.{◌≡◌, ◌↔◌, ◌+◌, ◌<◌, not, IfOk, IsErr, IsTrue, OnErr, OnOk, [], length};
 ghost use Rattle.std.specs.Ordering.{nat_cmp};
-ghost use Rattle.br_model.specs.Domains.{entries_from};
-ghost use Rattle.br_model.specs.Maps.{get, put};
-ghost use Rattle.br_model.specs.Table.{start, without_pvid};
+ghost use Rattle.br_model.specs.Table.Domains.{entries_from};
+ghost use Rattle.br_model.specs.Data.Maps.{get, put};
+ghost use Rattle.br_model.specs.Table.Table.{start, without_pvid};
 ghost use Rattle.br_model.specs.declared.change.Change.TheVariants as Change;
 ghost use Rattle.vlan_groups.specs.Vlans.{parts, after, is_member, is_untagged, vids_of};
 ghost use Rattle.vlan_groups.specs.Rows.{ports_where, memberships_from};
@@ -39,7 +39,7 @@ pub struct VlanTable {
 
 impl Model for VlanTable {
     ghost use Rattle.std.specs.Prelude.{◌≡◌, length};
-    ghost use Rattle.br_model.specs.Domains.{entries_from};
+    ghost use Rattle.br_model.specs.Table.Domains.{entries_from};
     ghost use Rattle.vlan_groups.specs.Vlans.{Vlans};
     ghost use Rattle.vlan_groups.specs.Rows.{memberships_from};
 

@@ -7,8 +7,8 @@ use Rattle.br_model.specs.declared.change.Change.{Change}
 use Rattle.br_model.specs.declared.steps.Event.{Event}
 use Rattle.br_model.specs.declared.steps.Event.TheVariants.{Told, Forget}
 use Rattle.br_model.specs.declared.steps.Refusal.TheVariants.{NothingPending, NothingReported}
-use Rattle.br_model.specs.Chip.{applies, unhit}
-use Rattle.br_model.specs.Learning.{Triple}
+use Rattle.br_model.specs.Plane.Chip.{applies, unhit}
+use Rattle.br_model.specs.Control.Learning.{Triple}
 use Rattle.br_model.specs.Plane.World.{World, Stepped, table_of_chip, refused, done, answered, reacts}
 
 -- The chip applies the next deferred change.

@@ -4,7 +4,7 @@ use Rattle.std.specs.Prelude.{ℕ, ◌+◌, ◌==◌, if◌then◌else◌, List,
 use Rattle.std.specs.declared.option.Option.{Option}
 use Rattle.br_model.specs.declared.steps.Command.{Command}
 use Rattle.br_model.specs.declared.steps.Event.TheVariants as events
-use Rattle.br_model.specs.Cut.{deferred_at}
+use Rattle.br_model.specs.Table.Cut.{deferred_at}
 use Rattle.br_model.specs.Plane.ChipSteps.{turns, reports, sweeps}
 use Rattle.br_model.specs.Plane.Entering.{enters}
 use Rattle.br_model.specs.Plane.Serving.{serves, holds, held_with, posts_at}

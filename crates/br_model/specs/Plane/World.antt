@@ -11,12 +11,12 @@ use Rattle.br_model.specs.declared.steps.Event.{Event}
 use Rattle.br_model.specs.declared.steps.Refusal.{Refusal}
 use Rattle.br_model.specs.declared.transcript.Line.{Line}
 use Rattle.br_model.specs.declared.transcript.Line.TheVariants.{Tx, Ctl, Done, Refused}
-use Rattle.br_model.specs.Bpdus.{written}
-use Rattle.br_model.specs.Chip.{Chip, first_chip, chip_table}
-use Rattle.br_model.specs.Control.{Control, first_control}
-use Rattle.br_model.specs.Reaction.{Reaction, react}
-use Rattle.br_model.specs.Setup.{Setup}
-use Rattle.br_model.specs.Table.{Table, table}
+use Rattle.br_model.specs.Wire.Bpdus.{written}
+use Rattle.br_model.specs.Plane.Chip.{Chip, first_chip, chip_table}
+use Rattle.br_model.specs.Control.Control.{Control, first_control}
+use Rattle.br_model.specs.Control.Reaction.{Reaction, react}
+use Rattle.br_model.specs.Table.Setup.{Setup}
+use Rattle.br_model.specs.Table.Table.{Table, table}
 
 -- a frame that waits for software
 pub record Waiting : Type 0 where

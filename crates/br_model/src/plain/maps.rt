@@ -1,7 +1,7 @@
 //! Finite maps and sets by std's ordered ones, in the definitions' words.
 ghost use Rattle.std.specs.Prelude.{◌≡◌, OnOk};
 ghost use Rattle.std.specs.Option.{option_copied};
-ghost use Rattle.br_model.specs.Maps.{get, put as with_entry, without, joined, parted, has};
+ghost use Rattle.br_model.specs.Data.Maps.{get, put as with_entry, without, joined, parted, has};
 
 use crate::NoMemory;
 use std::collections::{BTreeMap, BTreeSet};

@@ -1,15 +1,15 @@
 //! The table of a list of changes.
 ghost use Rattle.std.specs.Prelude.{◌≡◌, ◌==◌, ◌/◌, ◌%◌, ◌^◌, ◌<◌, ◌∷◌, ◌&&◌, ◌++◌, [], if◌then◌else◌, OnOk, IfOk, Some, is_some};
-ghost use Rattle.br_model.specs.Admission.{is_up, is_forwarding, has_valid_source, member, vlan_of_tag, vlan_of, admit};
+ghost use Rattle.br_model.specs.Forward.Admission.{is_up, is_forwarding, has_valid_source, member, vlan_of_tag, vlan_of, admit};
 ghost use Rattle.std.specs.List.{list_any};
-ghost use Rattle.br_model.specs.Class.{is_snooped, crosses, is_trapped, class_by, class};
-ghost use Rattle.br_model.specs.Eligible.{untagged, may};
-ghost use Rattle.br_model.specs.Domains.{host, foreign};
-ghost use Rattle.br_model.specs.Leave.{tag_at, egress_ports, ports_out};
-ghost use Rattle.br_model.specs.Maps.{get, has, pair_cmp};
+ghost use Rattle.br_model.specs.Forward.Class.{is_snooped, crosses, is_trapped, class_by, class};
+ghost use Rattle.br_model.specs.Forward.Eligible.{untagged, may};
+ghost use Rattle.br_model.specs.Table.Domains.{host, foreign};
+ghost use Rattle.br_model.specs.Forward.Leave.{tag_at, egress_ports, ports_out};
+ghost use Rattle.br_model.specs.Data.Maps.{get, has, pair_cmp};
 ghost use Rattle.std.specs.Ordering.{nat_cmp};
-ghost use Rattle.br_model.specs.Table.{Table as TableOf, start, apply as after_change, ip_version, table};
-ghost use Rattle.br_model.specs.Targets.{has_flag, is_for_the_host, with_flag, to_tree, knows_querier, members_of, to_routers, to_members, snooped_targets, unicast_targets, targets};
+ghost use Rattle.br_model.specs.Table.Table.{Table as TableOf, start, apply as after_change, ip_version, table};
+ghost use Rattle.br_model.specs.Forward.Targets.{has_flag, is_for_the_host, with_flag, to_tree, knows_querier, members_of, to_routers, to_members, snooped_targets, unicast_targets, targets};
 
 use crate::NoMemory;
 use crate::change::{Change, DISABLED, FORWARDING, Flags, Kind};
@@ -39,7 +39,7 @@ pub struct Table {
 }
 
 impl Model for Table {
-    ghost use Rattle.br_model.specs.Table.{Table as TableOf};
+    ghost use Rattle.br_model.specs.Table.Table.{Table as TableOf};
 
     ghost Value = { TableOf };
 

@@ -27,7 +27,7 @@ pub(crate) struct Both {
 }
 
 impl Model for Both {
-    ghost use Rattle.br_model.specs.Table.{Table};
+    ghost use Rattle.br_model.specs.Table.Table.{Table};
     ghost use Rattle.chip_against_soft.specs.Alike.{AreAlike};
 
     ghost Value = { Table };

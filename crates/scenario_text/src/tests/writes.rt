@@ -1,6 +1,6 @@
 //! Steps with their lines.
 ghost use Rattle.std.specs.Prelude.{◌≡◌};
-ghost use Rattle.br_model.specs.WrittenSteps.{names_declared};
+ghost use Rattle.br_model.specs.Theorems.WrittenSteps.{names_declared};
 
 use crate::{read_line, write_line};
 use br_model::bytes::Bytes;

@@ -1,5 +1,5 @@
 use Rattle.std.proofs.Common.{◌<◌, ◌^◌, [], ◌∷◌, ap, sym, subst, refl, ◌∙◌}
-use Rattle.br_model.specs.Learning.{Address}
+use Rattle.br_model.specs.Control.Learning.{Address}
 use Rattle.bridge_core.specs.declared.state.Clock.{Clock}
 use Rattle.bridge_core.specs.Standing.{table_of, control_of, clocked}
 use Rattle.bridge_core.proofs.Reactions.{makes, report_of, fits_report, report_taken, report_left}

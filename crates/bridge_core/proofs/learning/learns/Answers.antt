@@ -2,10 +2,10 @@ use Rattle.std.proofs.Common.{◌<◌, ◌^◌, [], ◌∷◌, Ok, refl, ap, sym
 use Rattle.std.specs.Prelude.{Ok}
 use Rattle.std.specs.declared.result.Result.{Result}
 use Rattle.br_model.specs.declared.steps.Refusal.{Refusal}
-use Rattle.br_model.specs.Control.{renewed}
-use Rattle.br_model.specs.Course.{Course, makes_all}
-use Rattle.br_model.specs.Limits.{all_fit}
-use Rattle.br_model.specs.Learning.{Address}
+use Rattle.br_model.specs.Control.Control.{renewed}
+use Rattle.br_model.specs.Control.Course.{Course, makes_all}
+use Rattle.br_model.specs.Table.Limits.{all_fit}
+use Rattle.br_model.specs.Control.Learning.{Address}
 use Rattle.bridge_core.specs.declared.state.Clock.{Clock}
 use Rattle.bridge_core.specs.Standing.{table_of, control_of, clocked}
 use Rattle.bridge_core.proofs.Reactions.{makes, learns_known, learns_renewed, learns_news, fits_news, is_there, put_of}

@@ -6,7 +6,7 @@ use Rattle.br_model.specs.declared.bpdu.BpduMsg.{BpduMsg}
 use Rattle.br_model.specs.declared.bpdu.BpduMsg.TheVariants.{Tcn}
 use Rattle.br_model.specs.declared.transcript.Line.{Line}
 use Rattle.br_model.specs.Plane.World.{control_line, control_lines}
-use Rattle.br_model.specs.TreeStep.{message, sent}
+use Rattle.br_model.specs.Tree.Step.{message, sent}
 use Rattle.port_sets.proofs.Building.{yielded_members}
 use Rattle.bridge_core.specs.Following.{config_lines}
 use Rattle.bridge_core.proofs.Reactions.{frames_of}

@@ -1,6 +1,6 @@
 use Rattle.std.proofs.Common.{Err, ap, ◌∙◌}
 use Rattle.std.proofs.lemmas.Result.{err_from_is_err_and}
-use Rattle.br_model.specs.Captures.{capture}
+use Rattle.br_model.specs.Wire.Captures.{capture}
 use Rattle.capture_runner.proofs.Packets.{begun, more, has_its_port, fewer, all_read, faulty}
 use Rattle.capture_runner.proofs.section.captured_steps.Goals as goal
 

@@ -1,8 +1,8 @@
 use Rattle.std.proofs.Common.{◌≡◌, ℕ, true, Option, None, Some, refl, ap, ◌∙◌, slice_get, option_map}
 use Rattle.std.specs.Option.{is_some}
 use Rattle.br_model.specs.declared.change.Change.{Change}
-use Rattle.br_model.specs.Change.{updates}
-use Rattle.br_model.specs.Cut.{deferred_at, under_ticket}
+use Rattle.br_model.specs.Table.Change.{updates}
+use Rattle.br_model.specs.Table.Cut.{deferred_at, under_ticket}
 use Rattle.br_model.proofs.Cuts.{updates-at}
 use Rattle.plane_core.specs.Planes.{ticket_of}
 use Rattle.capture_runner.proofs.world.turn.Goals as goal

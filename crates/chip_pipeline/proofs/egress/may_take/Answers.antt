@@ -1,6 +1,6 @@
 use Rattle.std.proofs.Common.{◌≡◌, false, true, not, ◌&&◌, sym, ap, ap₂, ◌∙◌}
-use Rattle.br_model.specs.Admission.{member}
-use Rattle.br_model.specs.Targets.{has_flag, isolated}
+use Rattle.br_model.specs.Forward.Admission.{member}
+use Rattle.br_model.specs.Forward.Targets.{has_flag, isolated}
 use Rattle.port_sets.specs.Numbers.{has_number}
 use Rattle.chip_tables.specs.declared.rows.PortRow.{PortRow}
 use Rattle.chip_tables.specs.declared.rows.VlanRow.{VlanRow}

@@ -1,5 +1,5 @@
 use Rattle.std.proofs.Common.{◌≡◌, ◌&&◌, cond, sym, ap, ap₂, ◌∙◌}
-use Rattle.br_model.specs.Targets.{has_flag, isolated}
+use Rattle.br_model.specs.Forward.Targets.{has_flag, isolated}
 use Rattle.port_sets.specs.Numbers.{has_number}
 use Rattle.chip_tables.specs.declared.rows.PortRow.{PortRow}
 use Rattle.chip_tables.specs.declared.rows.VlanRow.{VlanRow}

@@ -1,7 +1,7 @@
 use Rattle.std.proofs.Common.{◌≡◌, true, ◌&&◌, ◌||◌, sym, ap, ap₂, ◌∙◌}
-use Rattle.br_model.specs.Admission.{forwarding, is_forwarding, is_in_state, learning, member}
-use Rattle.br_model.specs.Learning.{learning_flag}
-use Rattle.br_model.specs.Targets.{has_flag}
+use Rattle.br_model.specs.Forward.Admission.{forwarding, is_forwarding, is_in_state, learning, member}
+use Rattle.br_model.specs.Control.Learning.{learning_flag}
+use Rattle.br_model.specs.Forward.Targets.{has_flag}
 use Rattle.port_sets.specs.Numbers.{has_number}
 use Rattle.chip_tables.specs.declared.rows.PortRow.{PortRow}
 use Rattle.chip_tables.specs.declared.rows.VlanRow.{VlanRow}

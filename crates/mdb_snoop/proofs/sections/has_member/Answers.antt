@@ -1,6 +1,6 @@
 use Rattle.std.proofs.Common.{◌∙◌, ap, is_some, sym}
 use Rattle.std.specs.Ordering.{nat_cmp}
-use Rattle.br_model.specs.Maps.{get}
+use Rattle.br_model.specs.Data.Maps.{get}
 use Rattle.mdb_snoop.proofs.Flat.{get-at, get-gap}
 use Rattle.mdb_snoop.proofs.sections.has_member.Goals as goal
 

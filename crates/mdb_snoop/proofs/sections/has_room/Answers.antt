@@ -1,6 +1,6 @@
 use Rattle.std.proofs.Common.{length, ◌∙◌, sym, ap}
 use Rattle.std.specs.Prelude.{◌||◌, nat_lt}
-use Rattle.br_model.specs.GroupPairs.{max_pairs}
+use Rattle.br_model.specs.Table.GroupPairs.{max_pairs}
 use Rattle.mdb_snoop.proofs.Questions.{room-is}
 use Rattle.mdb_snoop.proofs.sections.has_room.Goals as goal
 

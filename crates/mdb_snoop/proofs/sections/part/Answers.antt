@@ -1,6 +1,6 @@
 use Rattle.std.proofs.Common.{◌≡◌, false, true, ◌∙◌, sym, ap, subst, is_some}
 use Rattle.std.specs.Ordering.{nat_cmp}
-use Rattle.br_model.specs.Maps.{get, without}
+use Rattle.br_model.specs.Data.Maps.{get, without}
 use Rattle.mdb_snoop.specs.Places.{IsSound, flat, has_some}
 use Rattle.mdb_snoop.proofs.Flat.{get-at, without-at, get-gap, without-gap}
 use Rattle.mdb_snoop.proofs.Search.{written, left_out}

@@ -1,5 +1,5 @@
 use Rattle.std.proofs.Common.{◌≡◌, ◌-◌, ◌≤◌, true, length, take, drop}
-use Rattle.br_model.specs.GroupPairs.{group_pair_cmp}
+use Rattle.br_model.specs.Table.GroupPairs.{group_pair_cmp}
 use Rattle.mdb_snoop.specs.Places.{all_below, all_above}
 use Rattle.mdb_snoop.proofs.sections.place_of.Given as goal
 

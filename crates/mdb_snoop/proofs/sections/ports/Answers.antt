@@ -1,5 +1,5 @@
 use Rattle.std.proofs.Common.{ap, ◌∙◌}
-use Rattle.br_model.specs.Ends.{keys}
+use Rattle.br_model.specs.Control.Ends.{keys}
 use Rattle.mdb_snoop.proofs.Questions.{ports-at, ports-gap}
 use Rattle.mdb_snoop.proofs.sections.ports.Goals as goal
 

@@ -1,8 +1,8 @@
 use Rattle.std.proofs.Common.{[], get_or, cond, sym, ap, subst, ◌∙◌}
 use Rattle.std.specs.Prelude.{◌==◌}
 use Rattle.std.specs.Int.{bit_at}
-use Rattle.br_model.specs.Domains.{Domains}
-use Rattle.br_model.specs.DomainPorts.{IsWordOf}
+use Rattle.br_model.specs.Table.Domains.{Domains}
+use Rattle.br_model.specs.Table.DomainPorts.{IsWordOf}
 use Rattle.br_model.proofs.DomainWords.{word-put, word-none, zero_words}
 use Rattle.br_model.proofs.domains.Domains.make.Goals as goal
 

@@ -1,8 +1,8 @@
 use Rattle.std.proofs.Common.{rules, ◌≡◌, ◌+◌, ◌<◌, length, get_or, sym, ap, subst, ◌∙◌, arith}
 use Rattle.std.specs.Ordering.{nat_cmp}
-use Rattle.br_model.specs.Domains.{Domains, entries_from}
-use Rattle.br_model.specs.Maps.{put}
-use Rattle.br_model.specs.DomainPorts.{IsWordOf}
+use Rattle.br_model.specs.Table.Domains.{Domains, entries_from}
+use Rattle.br_model.specs.Data.Maps.{put}
+use Rattle.br_model.specs.Table.DomainPorts.{IsWordOf}
 use Rattle.br_model.proofs.DomainLaws.{entries-set}
 use Rattle.br_model.proofs.DomainWords.{word-put}
 use Rattle.br_model.proofs.domains.Domains.set.Goals as goal

@@ -4,15 +4,15 @@ use Rattle.std.specs.List.{filter}
 use Rattle.std.proofs.lemmas.List.Elements.{filter-append}
 use Rattle.std.proofs.lemmas.List.Sums.{length-filter, count_by-le-length, fold-append}
 use Rattle.br_model.specs.declared.change.Change.{Change}
-use Rattle.br_model.specs.Change.{deferred}
-use Rattle.br_model.specs.Control.{Control, keeps_up}
-use Rattle.br_model.specs.Course.{Course}
-use Rattle.br_model.specs.Ends.{Ends}
-use Rattle.br_model.specs.EndsTied.{IsTied}
-use Rattle.br_model.specs.Limits.{all_fit}
-use Rattle.br_model.specs.Snooping.{fastleave, said}
-use Rattle.br_model.specs.Table.{Table, table, start, apply}
-use Rattle.br_model.specs.Targets.{has_flag}
+use Rattle.br_model.specs.Table.Change.{deferred}
+use Rattle.br_model.specs.Control.Control.{Control, keeps_up}
+use Rattle.br_model.specs.Control.Course.{Course}
+use Rattle.br_model.specs.Control.Ends.{Ends}
+use Rattle.br_model.specs.Theorems.EndsTied.{IsTied}
+use Rattle.br_model.specs.Table.Limits.{all_fit}
+use Rattle.br_model.specs.Control.Snooping.{fastleave, said}
+use Rattle.br_model.specs.Table.Table.{Table, table, start, apply}
+use Rattle.br_model.specs.Forward.Targets.{has_flag}
 use Rattle.bridge_core.specs.Kept.{Controlled}
 use Rattle.bridge_core.specs.Plans.{prepared, renewed_at}
 use Rattle.bridge_core.specs.Standing.{clocked, course_of, table_of, control_of}

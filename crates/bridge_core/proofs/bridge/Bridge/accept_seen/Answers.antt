@@ -1,11 +1,11 @@
 use Rattle.std.proofs.Common.{[], sym, ap, subst, ◌∙◌}
 use Rattle.std.specs.declared.result.Result.TheVariants.{Ok}
 use Rattle.br_model.specs.declared.frame.McastMsg.{McastMsg}
-use Rattle.br_model.specs.Course.{Course, from}
-use Rattle.br_model.specs.Messages.{RecordsStand}
-use Rattle.br_model.specs.Reaction.{in_room, learns_of}
-use Rattle.br_model.specs.Snooping.{said}
-use Rattle.br_model.specs.Table.{Table, table, with_addresses}
+use Rattle.br_model.specs.Control.Course.{Course, from}
+use Rattle.br_model.specs.Wire.Messages.{RecordsStand}
+use Rattle.br_model.specs.Control.Reaction.{in_room, learns_of}
+use Rattle.br_model.specs.Control.Snooping.{said}
+use Rattle.br_model.specs.Table.Table.{Table, table, with_addresses}
 use Rattle.br_model.proofs.RecordsFit.{message-stands}
 use Rattle.bridge_core.specs.Answers.{Reacts}
 use Rattle.bridge_core.specs.Kept.{Controlled}

@@ -2,12 +2,12 @@ use Rattle.std.proofs.Common.{ℕ, ◌≡◌, List, ◌++◌, length, map, take,
 use Rattle.std.proofs.Math.Seq.{take-append_seam}
 use Rattle.br_model.specs.declared.change.Change.{Change}
 use Rattle.br_model.specs.declared.transcript.Line.{Line}
-use Rattle.br_model.specs.Limits.{all_fit}
+use Rattle.br_model.specs.Table.Limits.{all_fit}
 use Rattle.br_model.specs.Plane.World.{control_lines}
-use Rattle.br_model.specs.Table.{table}
-use Rattle.br_model.specs.TreeLaws.{knows_states}
-use Rattle.br_model.specs.TreeSending.{Acted}
-use Rattle.br_model.specs.TreeStep.{tree_step, moved, sent}
+use Rattle.br_model.specs.Table.Table.{table}
+use Rattle.br_model.specs.Theorems.TreeLaws.{knows_states}
+use Rattle.br_model.specs.Tree.Sending.{Acted}
+use Rattle.br_model.specs.Tree.Step.{tree_step, moved, sent}
 use Rattle.stp_core.specs.declared.tree.TreeOut.{TreeOut}
 use Rattle.bridge_core.specs.Answers.{Makes}
 use Rattle.bridge_core.specs.Following.{state_change}

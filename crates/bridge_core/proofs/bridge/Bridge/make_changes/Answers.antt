@@ -5,15 +5,15 @@ use Rattle.std.proofs.lemmas.Bool.{le-leb}
 use Rattle.std.proofs.lemmas.List.Elements.{filter-append}
 use Rattle.std.proofs.lemmas.List.Sums.{length-filter, count_by-le-length, fold-append}
 use Rattle.br_model.specs.declared.change.Change.{Change}
-use Rattle.br_model.specs.Change.{deferred}
-use Rattle.br_model.specs.Control.{Control, keeps_up}
-use Rattle.br_model.specs.Limits.{all_fit}
-use Rattle.br_model.specs.Table.{Table, table, start, apply}
+use Rattle.br_model.specs.Table.Change.{deferred}
+use Rattle.br_model.specs.Control.Control.{Control, keeps_up}
+use Rattle.br_model.specs.Table.Limits.{all_fit}
+use Rattle.br_model.specs.Table.Table.{Table, table, start, apply}
 use Rattle.bridge_core.specs.Kept.{Controlled}
-use Rattle.br_model.specs.Maps.{pair_cmp, get}
+use Rattle.br_model.specs.Data.Maps.{pair_cmp, get}
 use Rattle.bridge_core.specs.Plans.{renewed_at}
-use Rattle.br_model.specs.Ends.{Ends}
-use Rattle.br_model.specs.EndsTied.{IsTied}
+use Rattle.br_model.specs.Control.Ends.{Ends}
+use Rattle.br_model.specs.Theorems.EndsTied.{IsTied}
 use Rattle.bridge_core.specs.Standing.{clocked, table_of}
 use Rattle.bridge_core.proofs.Fitting.{fit_behind}
 use Rattle.bridge_core.proofs.Reactions.{same_clock, renewed_clock, renewed_ends}

@@ -2,10 +2,10 @@ use Rattle.std.proofs.Common.{ap, subst, ◌∙◌}
 use Rattle.std.specs.declared.result.Result.{Result}
 use Rattle.std.specs.declared.result.Result.TheVariants.{Ok}
 use Rattle.br_model.specs.declared.steps.Refusal.{Refusal}
-use Rattle.br_model.specs.Control.{Control}
-use Rattle.br_model.specs.Course.{Course, from}
-use Rattle.br_model.specs.Setup.{Setup}
-use Rattle.br_model.specs.Table.{Table, table}
+use Rattle.br_model.specs.Control.Control.{Control}
+use Rattle.br_model.specs.Control.Course.{Course, from}
+use Rattle.br_model.specs.Table.Setup.{Setup}
+use Rattle.br_model.specs.Table.Table.{Table, table}
 use Rattle.bridge_core.specs.Kept.{Controlled}
 use Rattle.bridge_core.specs.Plans.{Plans, learns_and_tells}
 use Rattle.bridge_core.specs.Standing.{table_of, control_of}

@@ -2,7 +2,7 @@ use Rattle.std.proofs.Common.{◌≡◌, Some, ap, ◌∙◌}
 use Rattle.br_model.specs.Plane.Naming.{named}
 use Rattle.br_model.specs.Plane.Steps.{world_step}
 use Rattle.br_model.specs.Plane.World.{World, Stepped, first_world}
-use Rattle.br_model.specs.Runs.{setup_of}
+use Rattle.br_model.specs.Program.Runs.{setup_of}
 use Rattle.capture_runner.proofs.session.Session.begin.Goals as goal
 
 pub returns-clause-world : goal.returns-clause-world

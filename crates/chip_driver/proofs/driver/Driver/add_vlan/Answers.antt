@@ -1,6 +1,6 @@
 use Rattle.std.proofs.Common.{◌≡◌, true, cond, Some, sym, refl, ap, subst, ◌∙◌, nat_cmp}
-use Rattle.br_model.specs.Maps.{pair_cmp, put}
-use Rattle.br_model.specs.Table.{apply}
+use Rattle.br_model.specs.Data.Maps.{pair_cmp, put}
+use Rattle.br_model.specs.Table.Table.{apply}
 use Rattle.br_model.specs.declared.change.Change.TheVariants.{VlanAdd}
 use Rattle.chip_tables.specs.declared.rows.PortRow.{PortRow}
 use Rattle.chip_tables.specs.Rows.{Rows, port_at}

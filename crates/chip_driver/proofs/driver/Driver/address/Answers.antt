@@ -1,7 +1,7 @@
 use Rattle.std.proofs.Common.{◌≡◌, inl, inr, false, cond, None, Some, sym, ap, subst, ◌∙◌}
-use Rattle.br_model.specs.Change.{deferred}
+use Rattle.br_model.specs.Table.Change.{deferred}
 use Rattle.switchdev_notify.specs.Notices.{after_told}
-use Rattle.br_model.specs.Table.{apply}
+use Rattle.br_model.specs.Table.Table.{apply}
 use Rattle.chip_driver.specs.Drives.{Drives}
 use Rattle.chip_driver.proofs.driver.Driver.address.Goals as goal
 

@@ -1,5 +1,5 @@
 use Rattle.std.proofs.Common.{List, ℕ, sym, subst, ap, ◌∙◌}
-use Rattle.br_model.specs.Maps.{pair_cmp, without}
+use Rattle.br_model.specs.Data.Maps.{pair_cmp, without}
 use Rattle.mdb_snoop.specs.Database.{memberships}
 use Rattle.chip_tables.specs.declared.rows.AddressRow.{AddressRow}
 use Rattle.chip_tables.specs.Stands.{address_wanted}

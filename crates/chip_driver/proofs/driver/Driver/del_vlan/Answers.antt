@@ -1,7 +1,7 @@
 use Rattle.std.proofs.Common.{◌≡◌, ◌==◌, false, cond, None, Some, nat_cmp, sym, refl, ap, subst, ◌∙◌}
 use Rattle.std.specs.Option.{option_eq}
-use Rattle.br_model.specs.Maps.{pair_cmp, get, without}
-use Rattle.br_model.specs.Table.{apply, without_pvid}
+use Rattle.br_model.specs.Data.Maps.{pair_cmp, get, without}
+use Rattle.br_model.specs.Table.Table.{apply, without_pvid}
 use Rattle.br_model.specs.declared.change.Change.TheVariants.{VlanDel}
 use Rattle.chip_tables.specs.declared.rows.PortRow.{PortRow}
 use Rattle.chip_tables.specs.Rows.{Rows, port_at}

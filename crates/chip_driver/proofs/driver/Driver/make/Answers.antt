@@ -1,8 +1,8 @@
 use Rattle.std.proofs.Common.{◌≡◌, List, ℕ, [], replicate, rules, ap, subst, ◌∙◌}
-use Rattle.br_model.specs.DomainPorts.{IsWordOf}
-use Rattle.br_model.specs.Domains.{chip}
-use Rattle.br_model.specs.Groups.{Membership}
-use Rattle.br_model.specs.Ends.{no_ends}
+use Rattle.br_model.specs.Table.DomainPorts.{IsWordOf}
+use Rattle.br_model.specs.Table.Domains.{chip}
+use Rattle.br_model.specs.Table.Groups.{Membership}
+use Rattle.br_model.specs.Control.Ends.{no_ends}
 use Rattle.mdb_snoop.specs.Database.{memberships}
 use Rattle.chip_tables.specs.Writing.{IsBlank}
 use Rattle.chip_driver.specs.declared.shadow.Shadow.{Shadow}

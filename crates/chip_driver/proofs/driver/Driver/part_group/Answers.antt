@@ -1,6 +1,6 @@
 use Rattle.std.proofs.Common.{sym, refl, subst, ap, ◌∙◌}
-use Rattle.br_model.specs.Groups.{Membership, membership_cmp}
-use Rattle.br_model.specs.Maps.{parted}
+use Rattle.br_model.specs.Table.Groups.{Membership, membership_cmp}
+use Rattle.br_model.specs.Data.Maps.{parted}
 use Rattle.mdb_snoop.specs.Database.{memberships}
 use Rattle.std.specs.Prelude.{List}
 use Rattle.chip_driver.specs.Drives.{Drives}

@@ -1,5 +1,5 @@
 use Rattle.std.proofs.Common.{false, sym, subst, ap, ◌∙◌, nat_cmp}
-use Rattle.br_model.specs.Maps.{without, parted}
+use Rattle.br_model.specs.Data.Maps.{without, parted}
 use Rattle.mdb_snoop.specs.Database.{memberships}
 use Rattle.chip_driver.specs.Drives.{Drives}
 use Rattle.chip_driver.proofs.Standing.{drives_port}

@@ -1,6 +1,6 @@
 use Rattle.std.proofs.Common.{sym, subst, ◌∙◌, nat_cmp}
-use Rattle.br_model.specs.Maps.{put, joined}
-use Rattle.br_model.specs.Table.{default_flags, disabled}
+use Rattle.br_model.specs.Data.Maps.{put, joined}
+use Rattle.br_model.specs.Table.Table.{default_flags, disabled}
 use Rattle.mdb_snoop.specs.Database.{memberships}
 use Rattle.chip_driver.specs.Drives.{Drives}
 use Rattle.chip_driver.proofs.Standing.{drives_port}

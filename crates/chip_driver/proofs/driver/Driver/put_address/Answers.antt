@@ -1,5 +1,5 @@
 use Rattle.std.proofs.Common.{List, ℕ, Some, sym, subst, ap, ◌∙◌}
-use Rattle.br_model.specs.Maps.{pair_cmp, put}
+use Rattle.br_model.specs.Data.Maps.{pair_cmp, put}
 use Rattle.mdb_snoop.specs.Database.{memberships}
 use Rattle.chip_tables.specs.declared.rows.AddressRow.{AddressRow}
 use Rattle.chip_tables.specs.Rows.{addresses_with}

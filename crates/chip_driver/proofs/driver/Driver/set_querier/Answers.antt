@@ -1,6 +1,6 @@
 use Rattle.std.proofs.Common.{sym, refl, subst, ap, ◌∙◌}
-use Rattle.br_model.specs.Table.{ip_version}
-use Rattle.br_model.specs.Table as table
+use Rattle.br_model.specs.Table.Table.{ip_version}
+use Rattle.br_model.specs.Table.Table as table
 use Rattle.chip_tables.specs.Rows.{Rows, trap_at}
 use Rattle.mdb_snoop.specs.Database.{memberships}
 use Rattle.chip_driver.specs.Drives.{Drives}

@@ -1,5 +1,5 @@
 use Rattle.std.proofs.Common.{sym, subst, ◌∙◌, nat_cmp}
-use Rattle.br_model.specs.Maps.{put}
+use Rattle.br_model.specs.Data.Maps.{put}
 use Rattle.mdb_snoop.specs.Database.{memberships}
 use Rattle.chip_driver.specs.Drives.{Drives}
 use Rattle.chip_driver.proofs.Standing.{drives_port}

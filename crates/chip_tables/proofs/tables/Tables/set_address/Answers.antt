@@ -1,7 +1,7 @@
 use Rattle.std.proofs.Common.{◌≡◌, ◌≤◌, Option, None, length, ap, sym, subst, ◌∙◌, not, arith}
 use Rattle.std.specs.Ordering.{nat_cmp, eq_by_cmp}
 use Rattle.std.specs.FinMap.Entries as entries
-use Rattle.br_model.specs.Maps.{pair_cmp, put, without}
+use Rattle.br_model.specs.Data.Maps.{pair_cmp, put, without}
 use Rattle.open_addressing.specs.Finite.{Table}
 use Rattle.open_addressing.specs.Pairs.{Pair, packed, by_pair}
 use Rattle.open_addressing.proofs.Pairs.{put-by_pair, without-by_pair, length-by_pair}

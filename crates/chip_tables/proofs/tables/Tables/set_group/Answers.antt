@@ -1,8 +1,8 @@
 use Rattle.std.proofs.Common.{◌≡◌, ◌≤◌, Option, None, length, ap, sym, subst, ◌∙◌, not, arith}
 use Rattle.std.specs.Ordering.{nat_cmp, eq_by_cmp}
 use Rattle.std.specs.FinMap.Entries as entries
-use Rattle.br_model.specs.Maps.{put, without}
-use Rattle.br_model.specs.GroupPairs.{GroupPair, group_pair_cmp}
+use Rattle.br_model.specs.Data.Maps.{put, without}
+use Rattle.br_model.specs.Table.GroupPairs.{GroupPair, group_pair_cmp}
 use Rattle.open_addressing.specs.Finite.{Table}
 use Rattle.chip_tables.specs.declared.rows.FanRow.{FanRow}
 use Rattle.chip_tables.specs.GroupCells.{number_of, pair_from, by_group}

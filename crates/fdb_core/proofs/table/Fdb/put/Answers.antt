@@ -1,7 +1,7 @@
 use Rattle.std.proofs.Common.{◌≡◌, List, None, length, ap, sym, subst, ◌∙◌, arith}
 use Rattle.std.specs.Ordering.{nat_cmp}
 use Rattle.std.specs.FinMap.Entries as entries
-use Rattle.br_model.specs.Maps.{pair_cmp, get, put}
+use Rattle.br_model.specs.Data.Maps.{pair_cmp, get, put}
 use Rattle.open_addressing.specs.Finite as numbers
 use Rattle.fdb_core.specs.declared.entries.Entry.{Entry}
 use Rattle.fdb_core.specs.Fdb.{Table, place}

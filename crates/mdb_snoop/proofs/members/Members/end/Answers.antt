@@ -1,7 +1,7 @@
 use Rattle.std.proofs.Common.{sym, ap, ◌∙◌}
 use Rattle.std.specs.Ordering.{nat_cmp}
-use Rattle.br_model.specs.Maps.{get}
-use Rattle.br_model.specs.Ends.{end_of}
+use Rattle.br_model.specs.Data.Maps.{get}
+use Rattle.br_model.specs.Control.Ends.{end_of}
 use Rattle.mdb_snoop.proofs.Mapped.{get-there, get-not}
 use Rattle.mdb_snoop.proofs.members.Members.end.Goals as goal
 

@@ -1,7 +1,7 @@
 use Rattle.std.proofs.Common.{ap, ◌∙◌, is_some}
 use Rattle.std.specs.Prelude.{slice_get}
 use Rattle.std.specs.Ordering.{nat_cmp}
-use Rattle.br_model.specs.Maps.{get}
+use Rattle.br_model.specs.Data.Maps.{get}
 use Rattle.mdb_snoop.proofs.Mapped.{other-left}
 use Rattle.mdb_snoop.proofs.members.Members.has_other.Goals as goal
 

@@ -1,6 +1,6 @@
 use Rattle.std.proofs.Common.{ap, ◌∙◌}
 use Rattle.std.specs.Ordering.{nat_cmp}
-use Rattle.br_model.specs.Maps.{without}
+use Rattle.br_model.specs.Data.Maps.{without}
 use Rattle.mdb_snoop.proofs.Mapped.{mapped, part-none}
 use Rattle.mdb_snoop.proofs.members.Members.part.Goals as goal
 

@@ -1,6 +1,6 @@
 use Rattle.std.proofs.Common.{sym, ap, ◌∙◌, Some, None}
 use Rattle.std.specs.Ordering.{nat_cmp}
-use Rattle.br_model.specs.Maps.{put}
+use Rattle.br_model.specs.Data.Maps.{put}
 use Rattle.mdb_snoop.proofs.Mapped.{mapped, put-some, put-none}
 use Rattle.mdb_snoop.proofs.members.Members.put.Goals as goal
 

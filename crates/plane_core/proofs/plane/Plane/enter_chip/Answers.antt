@@ -3,13 +3,13 @@ use Rattle.br_model.specs.declared.frame.Class.{Class}
 use Rattle.br_model.specs.declared.frame.McastMsg.{McastMsg}
 use Rattle.br_model.specs.declared.transcript.Line.{Line}
 use Rattle.br_model.specs.declared.transcript.Line.TheVariants.{Chip}
-use Rattle.br_model.specs.Chip.{hits_entry, offers}
-use Rattle.br_model.specs.DomainPorts.{is_in_domain}
-use Rattle.br_model.specs.Domains.{chip}
-use Rattle.br_model.specs.Messages.{message}
+use Rattle.br_model.specs.Plane.Chip.{hits_entry, offers}
+use Rattle.br_model.specs.Table.DomainPorts.{is_in_domain}
+use Rattle.br_model.specs.Table.Domains.{chip}
+use Rattle.br_model.specs.Wire.Messages.{message}
 use Rattle.br_model.specs.Plane.Steps.{Rx, world_step}
 use Rattle.br_model.specs.Plane.World.{World, sent}
-use Rattle.br_model.specs.Shares.{chip_out}
+use Rattle.br_model.specs.Forward.Shares.{chip_out}
 use Rattle.chip_pipeline.specs.Passed.{IsPass}
 use Rattle.plane_core.specs.declared.frames.Arrival.{Arrival}
 use Rattle.plane_core.specs.Arrivals.{settled, arrival_lines}

@@ -1,6 +1,6 @@
 use Rattle.std.proofs.Common.{◌+◌, sym, ap, ◌∙◌}
-use Rattle.br_model.specs.DomainPorts.{is_in_domain}
-use Rattle.br_model.specs.Domains.{chip}
+use Rattle.br_model.specs.Table.DomainPorts.{is_in_domain}
+use Rattle.br_model.specs.Table.Domains.{chip}
 use Rattle.br_model.specs.Plane.Steps.{Rx}
 use Rattle.plane_core.specs.Arrivals.{settled}
 use Rattle.plane_core.specs.Planes.{PlaneState}

@@ -1,5 +1,5 @@
 use Rattle.std.proofs.Common.{[], List, slice_get, ap, ◌∙◌}
-use Rattle.br_model.specs.Learning.{Triple}
+use Rattle.br_model.specs.Control.Learning.{Triple}
 use Rattle.br_model.specs.Plane.ChipSteps.{reports}
 use Rattle.plane_core.specs.Sides.{SidesState, world_of}
 use Rattle.plane_core.proofs.Reacting.{ended, first_of_all}

@@ -1,7 +1,7 @@
 use Rattle.std.proofs.Common.{◌≡◌, [], List, sym, ap, ◌∙◌}
 use Rattle.br_model.specs.declared.steps.Event.TheVariants.{Forget}
-use Rattle.br_model.specs.Chip.{unhit}
-use Rattle.br_model.specs.Learning.{Triple}
+use Rattle.br_model.specs.Plane.Chip.{unhit}
+use Rattle.br_model.specs.Control.Learning.{Triple}
 use Rattle.br_model.specs.Plane.World.{World, answered, reacts}
 use Rattle.plane_core.specs.Sides.{SidesState, chip_side, world_of}
 use Rattle.plane_core.proofs.Reacting.{ended}

@@ -1,9 +1,9 @@
 use Rattle.std.proofs.Common.{ℕ, ◌∙◌, Bool, ◌&&◌, arith}
 use Rattle.std.specs.Ordering.{nat_cmp}
-use Rattle.br_model.specs.Eligible.{may}
-use Rattle.br_model.specs.Leave.{egress_ports}
-use Rattle.br_model.specs.Maps.{has}
-use Rattle.br_model.specs.Targets.{targets}
+use Rattle.br_model.specs.Forward.Eligible.{may}
+use Rattle.br_model.specs.Forward.Leave.{egress_ports}
+use Rattle.br_model.specs.Data.Maps.{has}
+use Rattle.br_model.specs.Forward.Targets.{targets}
 use Rattle.br_model.proofs.Ranges.{next_number, filter-all_ports}
 use Rattle.br_model.proofs.plain.table.Table.egress_ports.Goals as goal
 

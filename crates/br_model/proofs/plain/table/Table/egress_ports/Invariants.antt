@@ -1,9 +1,9 @@
 use Rattle.std.proofs.Common.{◌≡◌, ◌&&◌}
 use Rattle.std.specs.List.{filter, range_with_len}
 use Rattle.std.specs.Ordering.{nat_cmp}
-use Rattle.br_model.specs.Eligible.{may}
-use Rattle.br_model.specs.Maps.{has}
-use Rattle.br_model.specs.Targets.{targets}
+use Rattle.br_model.specs.Forward.Eligible.{may}
+use Rattle.br_model.specs.Data.Maps.{has}
+use Rattle.br_model.specs.Forward.Targets.{targets}
 use Rattle.br_model.proofs.plain.table.Table.egress_ports.Given as goal
 
 abbrev pub invariant-loop-number : goal.invariant-loop-number

@@ -1,0 +1,81 @@
+-- The lines of a scenario, a row a form, and the commands behind `cmd`.
+-- Source: this profile.
+use Rattle.std.specs.Prelude.{ℕ, ◌+◌, ◌-◌, Bool, true, false, if◌then◌else◌, List, [], ◌∷◌, ◌++◌, length, codes, slice_index_or}
+use Rattle.std.specs.declared.result.Result.{Result}
+use Rattle.std.specs.declared.result.Result.TheVariants.{Ok, Err}
+use Rattle.std.specs.Str.{bytes_eq}
+use Rattle.br_model.specs.declared.scenario.LineWhy.{LineWhy}
+use Rattle.br_model.specs.declared.scenario.Place.{Place}
+use Rattle.br_model.specs.declared.scenario.Place.TheVariants.{Opening, Header, Declarations, Steps}
+use Rattle.br_model.specs.declared.scenario.Said.{Said}
+use Rattle.br_model.specs.declared.scenario.Said.TheVariants.{Blank, Opens, Bridge, Declares, Does, Captures, Ends}
+use Rattle.br_model.specs.declared.steps.Command.{Command}
+use Rattle.br_model.specs.declared.steps.Step.TheVariants.{Rx, Cmd, Now, Serve, Turn, Report, Sweep, Publish}
+use Rattle.br_model.specs.Text.CommandForms.{commands, step}
+use Rattle.br_model.specs.Table.Domains.{software, chip}
+use Rattle.br_model.specs.Text.Forms.{Row, row, line}
+use Rattle.br_model.specs.Text.Roster.{Roster}
+use Rattle.br_model.specs.Text.Words.{Word, words, is_comment}
+
+-- the first line that isn't skipped
+abbrev pub opening : Place → Bool
+opening Opening = true
+opening Header = false
+opening Declarations = false
+opening Steps = false
+
+-- directly after it
+abbrev pub header : Place → Bool
+header Opening = false
+header Header = true
+header Declarations = false
+header Steps = false
+
+-- after it, and before the first step or capture
+abbrev pub declaration : Place → Bool
+declaration Opening = false
+declaration Header = true
+declaration Declarations = true
+declaration Steps = false
+
+abbrev pub declarations : List (Row Said)
+declarations =
+    row (codes "scenario 1") opening Opens ∷
+    row (codes "bridge MAC") header (λ mac. Bridge mac) ∷
+    row (codes "port NUMBER NEWNAME soft") declaration (λ port name. Declares port name software) ∷
+    row (codes "port NUMBER NEWNAME chip 1") declaration (λ port name. Declares port name chip) ∷
+    []
+
+abbrev pub steps : List (Row Said)
+steps =
+    row (codes "rx PORT HEX") step (λ port bytes. Does (Rx port bytes)) ∷
+    row (codes "now MS") step (λ moment. Does (Now moment)) ∷
+    row (codes "serve") step (Does Serve) ∷
+    row (codes "turn 1") step (Does Turn) ∷
+    row (codes "report 1") step (Does Report) ∷
+    row (codes "sweep 1") step (Does Sweep) ∷
+    row (codes "publish") step (Does Publish) ∷
+    row (codes "capture LENGTH") step (λ n. Captures n) ∷
+    row (codes "end") step Ends ∷
+    []
+
+abbrev pub lines : List (Row Said)
+lines = declarations ++ steps
+
+abbrev pub commanded : Result Command LineWhy → Result Said LineWhy
+commanded (Err why) = Err why
+commanded (Ok command) = Ok (Does (Cmd command))
+
+-- what a line of n words says: a command after `cmd`, or a row of the lines
+abbrev pub words_say : Roster → ℕ → (ℕ → Word) → Result Said LineWhy
+words_say roster n word =
+    if bytes_eq (word 0) (codes "cmd") then commanded (line commands roster (n - 1) (λ i. word (i + 1))) else
+    line lines roster n word
+
+abbrev pub all_say : Roster → List Word → Result Said LineWhy
+all_say roster [] = Ok Blank
+all_say roster (w ∷ ws) = words_say roster (length (w ∷ ws)) (λ i. slice_index_or (w ∷ ws) i [])
+
+-- what a line says, without its line feed
+unfoldable pub line_says : Roster → List ℕ → Result Said LineWhy
+line_says roster bytes = if is_comment bytes then Ok Blank else all_say roster (words bytes)
