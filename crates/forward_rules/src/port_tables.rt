@@ -183,12 +183,14 @@ impl PortTables {
         self.flags.of(port)
     }
 
+    /// The state of a port by Linux's number, 0 to 4, which one that is down may lack.
     pub fn state(&self, port: Port) -> Option<u8>
         ensures { result ≡ get nat_cmp self.now.state port }
     {
         self.states.of(port)
     }
 
+    /// Whether the port is a member of the VLAN.
     pub fn member(&self, port: Port, vid: Vid) -> bool
         ensures { result ≡ member self.now port vid }
     {
@@ -216,6 +218,7 @@ impl PortTables {
         self.mdb.has(vid, group, port)
     }
 
+    /// Whether a multicast router is known behind the port.
     pub fn is_router(&self, port: Port) -> bool
         ensures { result ≡ has nat_cmp self.now.routers port }
     {

@@ -81,6 +81,7 @@ impl Mdb {
         sections::has_room(&self.sections, &(v, g))
     }
 
+    /// Whether the port is a member of the group in the VLAN, with or without end.
     pub fn has(&self, v: Vid, g: Group, p: Port) -> bool
         ensures { result ≡ has membership_cmp (memberships self.now) (v, g, p) }
     {

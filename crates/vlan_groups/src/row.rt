@@ -32,6 +32,7 @@ impl Row {
         self.members.has(port.number())
     }
 
+    /// Whether the port is a member that the VLAN's frames leave without a tag.
     pub fn is_untagged(&self, port: Port) -> bool
         ensures { result ≡ unwrap_or (at_port self.now port) false }
     {
@@ -45,6 +46,7 @@ impl Row {
         self.members
     }
 
+    /// The members that the VLAN's frames leave without a tag.
     pub fn untagged(&self) -> Ports
         ensures { result ≡ ports_where (λ port. unwrap_or (at_port self.now port) false) }
     {
