@@ -121,6 +121,7 @@ impl PortTables {
     fn port_up(&mut self, port: Port)
         ensures { self.new ≡ apply self.old (Change.PortUp port) }
     {
+        // law: the members ascend
         self.up.members_ascend();
         self.up = self.up.with(port.number());
         self.flags.set(port, Flags::DEFAULT);
@@ -130,6 +131,7 @@ impl PortTables {
     fn port_down(&mut self, port: Port)
         ensures { self.new ≡ apply self.old (Change.PortDown port) }
     {
+        // law: the members ascend
         self.up.members_ascend();
         self.up = self.up.without(port.number());
         self.flags.clear(port);
@@ -160,6 +162,7 @@ impl PortTables {
     pub fn has_no_addresses(&self)
         ensures { self.now.addr ≡ [] }
     {
+        // law: the view has no addresses
         let _up = &self.up;
     }
 
@@ -358,6 +361,7 @@ impl PortTables {
     {
         if self.mdb.querier(six) {
             let routers = self.mdb.routers();
+            // law: the members ascend
             routers.members_ascend();
             routers
         } else {
@@ -373,6 +377,7 @@ impl PortTables {
         } else {
             let members = self.mdb.members(vid, group);
             let routers = self.mdb.routers();
+            // law: the members of both ascend
             members.members_ascend();
             routers.members_ascend();
             members.or(routers)

@@ -279,6 +279,7 @@ impl Mdb {
         ensures versions { IsStrictlySortedBy nat_cmp (keys self.now.queriers) }
         ensures few { length (group_pairs (memberships self.now)) ≤ max_pairs }
     {
+        // law: the router ports ascend
         self.routers.ports_ascend();
     }
 

@@ -42,6 +42,7 @@ impl Row {
     pub fn members(&self) -> Ports
         ensures { result ≡ ports_where (λ port. is_some (at_port self.now port)) }
     {
+        // law: the members ascend
         self.members.members_ascend();
         self.members
     }
