@@ -71,6 +71,7 @@ impl Flags {
         }
     }
 
+    /// Bit n is the flag whose place is n, `LEARNING` to `FASTLEAVE`.
     pub fn bits(self) -> u8
         ensures value { result ≡ self }
         ensures below { self < 64 }

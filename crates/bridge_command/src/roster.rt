@@ -59,6 +59,7 @@ impl Roster {
         })
     }
 
+    /// The place that the lines so far have reached.
     pub fn place(&self) -> Place
         ensures { result ≡ self.now.place }
     {

@@ -280,6 +280,7 @@ fn push_all(
 ) -> Result<(), NoMemory>
     ensures { IfOk result (λ _. out.new.items ≡ out.old.items ++ map (λ port. (vid, group, port)) ports) }
 {
+    // law: the members ascend
     ports.members_ascend();
     for number in 0..Port::COUNT {
         push_member(out, vid, group, number, ports)?;
