@@ -165,12 +165,13 @@ is_port : (r : ℕ) → r < 6 → has_line ports (Rx (r + 1) []) ≡ true
 is_port r h = grind arith
 
 frame_good : (i n : ℕ) → i ≤ most_frames → AreGood (frame_steps i n)
+unfolding digits
 frame_good i n few = (
   entry_good (n % 6 + 1) (frame n) (omega arith) (both _ _ (first_so _ _ (is_port (n % 6) (omega arith))) (frame_bytes n)) (frame_length n) (frame_bytes n),
   (
     record { feedless = refl; short = omega arith; line = refl; whole = refl },
-    good_append (each 3 i Report) _ (each_good (i % 3 == 0) Report (record { feedless = refl; short = omega arith; line = refl; whole = refl }))
-        (good_append (each 5 i Turn) _ (each_good (i % 5 == 0) Turn (record { feedless = refl; short = omega arith; line = refl; whole = refl }))
+    good_append (each 3 i (Report chip)) _ (each_good (i % 3 == 0) (Report chip) (record { feedless = refl; short = omega arith; line = refl; whole = refl }))
+        (good_append (each 5 i (Turn chip)) _ (each_good (i % 5 == 0) (Turn chip) (record { feedless = refl; short = omega arith; line = refl; whole = refl }))
         (good_append (each 7 i Publish) _ (each_good (i % 7 == 0) Publish (record { feedless = refl; short = omega arith; line = refl; whole = refl }))
         (each_good (i % 64 == 0) (Now (1000 * i)) (moment_good (1000 * i) (omega arith))))),
   ),

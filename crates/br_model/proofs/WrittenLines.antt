@@ -2,7 +2,7 @@
 use Rattle.std.proofs.Common.{◌≡◌, ℕ, zero, suc, ◌+◌, ◌^◌, ◌<◌, ◌≤◌, ◌==◌, nat_lt, nat_le, Bool, true, false, ◌&&◌, ◌||◌, if◌then◌else◌, List, [], ◌∷◌, ◌++◌, length, take, length-take, inl, inr, refl, sym, ◌∙◌, ap, subst, arith, Option, slice_index_or, append-nil}
 use Rattle.std.specs.Prelude.{codes}
 use Rattle.std.specs.Cmp.{first_so, second_so}
-use Rattle.std.specs.Fmt.{decimal}
+use Rattle.std.specs.Fmt.{decimal, digits}
 use Rattle.std.specs.List.{list_all}
 use Rattle.std.specs.Str.{bytes_eq}
 use Rattle.std.proofs.lemmas.Bool.{cases_lt, eqb-true, not-true}
@@ -19,11 +19,11 @@ use Rattle.br_model.specs.declared.scenario.Said.TheVariants.{Blank, Does}
 use Rattle.br_model.specs.declared.steps.Command.{Command}
 use Rattle.br_model.specs.declared.steps.Command.TheVariants as commands
 use Rattle.br_model.specs.declared.steps.Step.{Step}
-use Rattle.br_model.specs.declared.steps.Step.TheVariants.{Rx, Cmd, Now, Serve, Turn, Report, Sweep, Publish}
+use Rattle.br_model.specs.declared.steps.Step.TheVariants.{Rx, Cmd, Now, Serve, Hold, Post, Turn, Report, Sweep, Publish}
 use Rattle.br_model.specs.Text.CommandForms.{step}
 use Rattle.br_model.specs.Text.Declarations.{are_declared}
 use Rattle.br_model.specs.Data.Digits.{hex_of}
-use Rattle.br_model.specs.Table.Domains.{host}
+use Rattle.br_model.specs.Table.Domains.{host, chip}
 use Rattle.br_model.specs.Text.FlagWords.{flags, name_of_flag}
 use Rattle.br_model.specs.Text.Forms.{Row, after, said}
 use Rattle.br_model.specs.Wire.Frames.{longest_frame, shortest_frame, frame}
@@ -124,14 +124,20 @@ now_read r moment place h =
 serve_read : (r : Roster) → step r.place ≡ true → line_says r (codes "serve") ≡ Ok (Does Serve)
 serve_read r place = says r (codes "serve" ∷ []) (λ x. x) {x = Ok (Does Serve)} refl place refl refl refl
 
-turn_read : (r : Roster) → step r.place ≡ true → line_says r (codes "turn 1") ≡ Ok (Does Turn)
-turn_read r place = says r (codes "turn" ∷ codes "1" ∷ []) (λ x. x) {x = Ok (Does Turn)} refl place refl refl refl
+-- the only domain that a step's line names
+of_chip : (r : Roster) (word : List ℕ) (make : ℕ → Step) (dom : ℕ) → (dom == chip) ≡ true → line_says r (word ++ codes "1") ≡ Ok (Does (make chip))
+    → line_says r (word ++ decimal dom) ≡ Ok (Does (make dom))
+unfolding digits
+of_chip r word make dom h is = subst (λ d. line_says r (word ++ decimal d) ≡ Ok (Does (make d))) (sym (eqb-true dom chip h)) is
 
-report_read : (r : Roster) → step r.place ≡ true → line_says r (codes "report 1") ≡ Ok (Does Report)
-report_read r place = says r (codes "report" ∷ codes "1" ∷ []) (λ x. x) {x = Ok (Does Report)} refl place refl refl refl
+turn_read : (r : Roster) (dom : ℕ) → step r.place ≡ true → (dom == chip) ≡ true → line_says r (codes "turn " ++ decimal dom) ≡ Ok (Does (Turn dom))
+turn_read r dom place h = of_chip r (codes "turn ") Turn dom h (says r (codes "turn" ∷ codes "1" ∷ []) (λ x. x) {x = Ok (Does (Turn chip))} refl place refl refl refl)
 
-sweep_read : (r : Roster) → step r.place ≡ true → line_says r (codes "sweep 1") ≡ Ok (Does Sweep)
-sweep_read r place = says r (codes "sweep" ∷ codes "1" ∷ []) (λ x. x) {x = Ok (Does Sweep)} refl place refl refl refl
+report_read : (r : Roster) (dom : ℕ) → step r.place ≡ true → (dom == chip) ≡ true → line_says r (codes "report " ++ decimal dom) ≡ Ok (Does (Report dom))
+report_read r dom place h = of_chip r (codes "report ") Report dom h (says r (codes "report" ∷ codes "1" ∷ []) (λ x. x) {x = Ok (Does (Report chip))} refl place refl refl refl)
+
+sweep_read : (r : Roster) (dom : ℕ) → step r.place ≡ true → (dom == chip) ≡ true → line_says r (codes "sweep " ++ decimal dom) ≡ Ok (Does (Sweep dom))
+sweep_read r dom place h = of_chip r (codes "sweep ") Sweep dom h (says r (codes "sweep" ∷ codes "1" ∷ []) (λ x. x) {x = Ok (Does (Sweep chip))} refl place refl refl refl)
 
 publish_read : (r : Roster) → step r.place ≡ true → line_says r (codes "publish") ≡ Ok (Does Publish)
 publish_read r place = says r (codes "publish" ∷ []) (λ x. x) {x = Ok (Does Publish)} refl place refl refl refl
@@ -359,9 +365,11 @@ step_read r (Rx port bytes) place all h =
 step_read r (Cmd command) place all h = command_read r command place all h
 step_read r (Now moment) place all h = now_read r moment place h
 step_read r Serve place all h = serve_read r place
-step_read r Turn place all h = turn_read r place
-step_read r Report place all h = report_read r place
-step_read r Sweep place all h = sweep_read r place
+step_read r Hold place all h = absurd (cc)
+step_read r (Post id point) place all h = absurd (cc)
+step_read r (Turn dom) place all h = turn_read r dom place h
+step_read r (Report dom) place all h = report_read r dom place h
+step_read r (Sweep dom) place all h = sweep_read r dom place h
 step_read r Publish place all h = publish_read r place
 
 -- frames that a line shows whole, and those that it doesn't
@@ -387,9 +395,11 @@ given_whole (Rx port bytes) h = ap (λ (b : List ℕ). Rx port b) (shown_whole b
 given_whole (Cmd command) h = refl
 given_whole (Now moment) h = refl
 given_whole Serve h = refl
-given_whole Turn h = refl
-given_whole Report h = refl
-given_whole Sweep h = refl
+given_whole Hold h = refl
+given_whole (Post id point) h = refl
+given_whole (Turn dom) h = refl
+given_whole (Report dom) h = refl
+given_whole (Sweep dom) h = refl
 given_whole Publish h = refl
 
 too_long : (bytes : List ℕ) → longest_frame < length bytes → frame bytes ≡ Err faults.Long

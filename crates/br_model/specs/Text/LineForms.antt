@@ -1,6 +1,6 @@
 -- The lines of a scenario, a row a form, and the commands behind `cmd`.
 -- Source: this profile.
-use Rattle.std.specs.Prelude.{ℕ, ◌+◌, ◌-◌, Bool, true, false, if◌then◌else◌, List, [], ◌∷◌, ◌++◌, length, codes, slice_index_or}
+use Rattle.std.specs.Prelude.{ℕ, ◌+◌, ◌-◌, ◌==◌, nat_le, Bool, true, false, if◌then◌else◌, List, [], ◌∷◌, ◌++◌, length, codes, slice_index_or}
 use Rattle.std.specs.declared.result.Result.{Result}
 use Rattle.std.specs.declared.result.Result.TheVariants.{Ok, Err}
 use Rattle.std.specs.Str.{bytes_eq}
@@ -10,10 +10,12 @@ use Rattle.br_model.specs.declared.scenario.Place.TheVariants.{Opening, Header, 
 use Rattle.br_model.specs.declared.scenario.Said.{Said}
 use Rattle.br_model.specs.declared.scenario.Said.TheVariants.{Blank, Opens, Bridge, Declares, Does, Captures, Ends}
 use Rattle.br_model.specs.declared.steps.Command.{Command}
-use Rattle.br_model.specs.declared.steps.Step.TheVariants.{Rx, Cmd, Now, Serve, Turn, Report, Sweep, Publish}
+use Rattle.br_model.specs.declared.steps.Step.{Step}
+use Rattle.br_model.specs.declared.steps.Step.TheVariants.{Rx, Cmd, Now, Serve, Hold, Post, Turn, Report, Sweep, Publish}
 use Rattle.br_model.specs.Text.CommandForms.{commands, step}
 use Rattle.br_model.specs.Table.Domains.{software, chip}
 use Rattle.br_model.specs.Text.Forms.{Row, row, line}
+use Rattle.br_model.specs.Text.Operands.{last_moment}
 use Rattle.br_model.specs.Text.Roster.{Roster}
 use Rattle.br_model.specs.Text.Words.{Word, words, is_comment}
 
@@ -51,9 +53,9 @@ steps =
     row (codes "rx PORT HEX") step (λ port bytes. Does (Rx port bytes)) ∷
     row (codes "now MS") step (λ moment. Does (Now moment)) ∷
     row (codes "serve") step (Does Serve) ∷
-    row (codes "turn 1") step (Does Turn) ∷
-    row (codes "report 1") step (Does Report) ∷
-    row (codes "sweep 1") step (Does Sweep) ∷
+    row (codes "turn 1") step (Does (Turn chip)) ∷
+    row (codes "report 1") step (Does (Report chip)) ∷
+    row (codes "sweep 1") step (Does (Sweep chip)) ∷
     row (codes "publish") step (Does Publish) ∷
     row (codes "capture LENGTH") step (λ n. Captures n) ∷
     row (codes "end") step Ends ∷
@@ -61,6 +63,20 @@ steps =
 
 abbrev pub lines : List (Row Said)
 lines = declarations ++ steps
+
+-- Whether a line can give the step, whatever ports are declared: no line holds or posts a frame yet, or names another domain
+-- than the chip's.
+abbrev pub comes_by_line : Step → Bool
+comes_by_line (Rx port bytes) = true
+comes_by_line (Cmd command) = true
+comes_by_line (Now moment) = nat_le moment last_moment
+comes_by_line Serve = true
+comes_by_line Hold = false
+comes_by_line (Post id point) = false
+comes_by_line (Turn dom) = dom == chip
+comes_by_line (Report dom) = dom == chip
+comes_by_line (Sweep dom) = dom == chip
+comes_by_line Publish = true
 
 abbrev pub commanded : Result Command LineWhy → Result Said LineWhy
 commanded (Err why) = Err why

@@ -2,6 +2,7 @@
 -- Source: this profile; addresses are spelled as iproute2 spells them, with colons.
 use Rattle.std.specs.Prelude.{ℕ, ◌+◌, ◌/◌, ◌%◌, ◌^◌, ◌==◌, Bool, if◌then◌else◌, List, [], ◌∷◌, ◌++◌, take, codes}
 use Rattle.std.specs.Fmt.{decimal}
+use Rattle.std.specs.declared.option.Option.TheVariants.{None, Some}
 use Rattle.br_model.specs.declared.change.Kind.{Kind}
 use Rattle.br_model.specs.declared.change.Kind.TheVariants.{Local, Static, Learned, Extern}
 use Rattle.br_model.specs.declared.group.Ip.{Ip}
@@ -9,7 +10,7 @@ use Rattle.br_model.specs.declared.group.Ip.TheVariants.{V4, V6}
 use Rattle.br_model.specs.declared.steps.Command.{Command}
 use Rattle.br_model.specs.declared.steps.Command.TheVariants as commands
 use Rattle.br_model.specs.declared.steps.Step.{Step}
-use Rattle.br_model.specs.declared.steps.Step.TheVariants.{Rx, Cmd, Now, Serve, Turn, Report, Sweep, Publish}
+use Rattle.br_model.specs.declared.steps.Step.TheVariants.{Rx, Cmd, Now, Serve, Hold, Post, Turn, Report, Sweep, Publish}
 use Rattle.br_model.specs.Data.Digits.{hex_of}
 use Rattle.br_model.specs.Table.Domains.{host}
 use Rattle.br_model.specs.Text.FlagWords.{flags, name_of_flag}
@@ -103,9 +104,12 @@ step_words ports (Rx port bytes) = codes "rx " ++ (decimal port ++ (32 ∷ hex_o
 step_words ports (Cmd command) = codes "cmd " ++ command_text ports command
 step_words ports (Now moment) = codes "now " ++ decimal moment
 step_words ports Serve = codes "serve"
-step_words ports Turn = codes "turn 1"
-step_words ports Report = codes "report 1"
-step_words ports Sweep = codes "sweep 1"
+step_words ports Hold = codes "hold"
+step_words ports (Post id None) = codes "post " ++ decimal id
+step_words ports (Post id (Some point)) = codes "post " ++ (decimal id ++ (codes " at " ++ decimal point))
+step_words ports (Turn dom) = codes "turn " ++ decimal dom
+step_words ports (Report dom) = codes "report " ++ decimal dom
+step_words ports (Sweep dom) = codes "sweep " ++ decimal dom
 step_words ports Publish = codes "publish"
 
 -- and with it

@@ -9,12 +9,13 @@ use Rattle.br_model.specs.declared.group.Ip.TheVariants.{V4, V6}
 use Rattle.br_model.specs.declared.steps.Command.{Command}
 use Rattle.br_model.specs.declared.steps.Command.TheVariants as commands
 use Rattle.br_model.specs.declared.steps.Step.{Step}
-use Rattle.br_model.specs.declared.steps.Step.TheVariants.{Rx, Cmd, Now, Serve, Turn, Report, Sweep, Publish}
+use Rattle.br_model.specs.declared.steps.Step.TheVariants.{Rx, Cmd, Now, Serve, Hold, Post, Turn, Report, Sweep, Publish}
 use Rattle.br_model.specs.Table.Domains.{host}
 use Rattle.br_model.specs.Text.FlagWords.{flags}
 use Rattle.br_model.specs.Wire.Frames.{longest_frame}
 use Rattle.br_model.specs.Data.Numbers.{is_multicast}
-use Rattle.br_model.specs.Text.Operands.{most_cost, most_port_priority, most_priority, most_seconds, last_moment}
+use Rattle.br_model.specs.Text.LineForms.{comes_by_line}
+use Rattle.br_model.specs.Text.Operands.{most_cost, most_port_priority, most_priority, most_seconds}
 use Rattle.br_model.specs.Text.Roster.{Entry, has_number}
 use Rattle.br_model.specs.Text.ScenarioText.{shown}
 
@@ -71,12 +72,14 @@ command_has_line ports (commands.Snooping on) = true
 abbrev pub has_line : List Entry → Step → Bool
 has_line ports (Rx port bytes) = has_number ports port && list_all is_byte bytes
 has_line ports (Cmd command) = command_has_line ports command
-has_line ports (Now moment) = nat_le moment last_moment
-has_line ports Serve = true
-has_line ports Turn = true
-has_line ports Report = true
-has_line ports Sweep = true
-has_line ports Publish = true
+has_line ports (Now moment) = comes_by_line (Now moment)
+has_line ports Serve = comes_by_line Serve
+has_line ports Hold = comes_by_line Hold
+has_line ports (Post id point) = comes_by_line (Post id point)
+has_line ports (Turn dom) = comes_by_line (Turn dom)
+has_line ports (Report dom) = comes_by_line (Report dom)
+has_line ports (Sweep dom) = comes_by_line (Sweep dom)
+has_line ports Publish = comes_by_line Publish
 
 -- the step that the line gives
 abbrev pub given : Step → Step
@@ -84,9 +87,11 @@ given (Rx port bytes) = Rx port (shown bytes)
 given (Cmd command) = Cmd command
 given (Now moment) = Now moment
 given Serve = Serve
-given Turn = Turn
-given Report = Report
-given Sweep = Sweep
+given Hold = Hold
+given (Post id point) = Post id point
+given (Turn dom) = Turn dom
+given (Report dom) = Report dom
+given (Sweep dom) = Sweep dom
 given Publish = Publish
 
 -- from one byte to the longest frame
@@ -95,9 +100,11 @@ is_whole (Rx port bytes) = nat_lt 0 (length bytes) && nat_le (length bytes) long
 is_whole (Cmd command) = true
 is_whole (Now moment) = true
 is_whole Serve = true
-is_whole Turn = true
-is_whole Report = true
-is_whole Sweep = true
+is_whole Hold = true
+is_whole (Post id point) = true
+is_whole (Turn dom) = true
+is_whole (Report dom) = true
+is_whole (Sweep dom) = true
 is_whole Publish = true
 
 -- whether the ports that the step names are declared
@@ -124,7 +131,9 @@ names_declared ports (Rx port bytes) = has_number ports port
 names_declared ports (Cmd command) = command_names_declared ports command
 names_declared ports (Now moment) = true
 names_declared ports Serve = true
-names_declared ports Turn = true
-names_declared ports Report = true
-names_declared ports Sweep = true
+names_declared ports Hold = true
+names_declared ports (Post id point) = true
+names_declared ports (Turn dom) = true
+names_declared ports (Report dom) = true
+names_declared ports (Sweep dom) = true
 names_declared ports Publish = true
