@@ -14,6 +14,8 @@ pub mod EndsTied
 pub mod FrameFacts
 pub mod Fronts
 pub mod GroupOrders
+pub mod GroupPairs
+pub mod GroupRoom
 pub mod GroupRows
 pub mod KeySets
 pub mod Least
