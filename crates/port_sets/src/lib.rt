@@ -183,15 +183,6 @@ impl<const W: usize> PortSet<W> {
     {
         let _words = &self.words;
     }
-
-    /// A law, whose body does nothing: sets with the same members are equal.
-    pub fn same_members(&self, other: &PortSet<W>)
-        requires { (n : ℕ) → n < 64 * W → has_number self.now n ≡ has_number other.now n }
-        ensures { self.now ≡ other.now }
-    {
-        self.members_ascend();
-        other.members_ascend();
-    }
 }
 
 impl PortSet<1> {
