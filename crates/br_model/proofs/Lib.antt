@@ -35,10 +35,12 @@ pub mod Ranges
 pub mod ReactionSteps
 pub mod Reading
 pub mod RecordsFit
+pub mod Refusals
 pub mod Rows
 pub mod Running
 pub mod SnoopRows
 pub mod SnoopSteps
+pub mod Stations
 pub mod TreeKept
 pub mod TreeRoots
 pub mod TreeRuns

@@ -13,7 +13,7 @@ use Rattle.br_model.specs.declared.frame.Head.{Head}
 use Rattle.br_model.specs.Forward.Admission.{admit}
 use Rattle.br_model.specs.Forward.Class.{class}
 use Rattle.br_model.specs.Table.DomainPorts.{is_marked}
-use Rattle.br_model.specs.Table.Domains.{Domains, domain_of, foreign}
+use Rattle.br_model.specs.Table.Domains.{Domains, domain_of, foreign, port_places}
 use Rattle.br_model.specs.Wire.Frames.{dressed}
 use Rattle.br_model.specs.Forward.Leave.{all_ports, egress_ports, ports_in, ports_out, tag_at, dressed_in, leave}
 use Rattle.br_model.specs.Wire.Messages.{message}
@@ -58,7 +58,7 @@ module _ (g : ℕ → List ℕ) (p : ℕ → Bool) where
         | false ↦ rest
       ]
 
-  ascends-ports : (n : ℕ) → n ≡ 64 → Ascends (map (λ q. (q, g q)) (filter p all_ports))
+  ascends-ports : (n : ℕ) → n ≡ port_places → Ascends (map (λ q. (q, g q)) (filter p all_ports))
   ascends-ports n e = subst (λ xs. Ascends (map (λ q. (q, g q)) xs)) (filter-all_ports p n e) (ascends-range 0 n)
 
 pub ascends-leave : (t : Table) (port : ℕ) (bytes : List ℕ) (head : Head) → Ascends (leave t port bytes head)
@@ -68,7 +68,7 @@ ascends-leave t port bytes head = by (admit t port head) (to_tree t port head)
     by : (o : Option ℕ) (b : Bool) → Ascends (dressed_in t o (cond b [] (ports_in t port o head (message bytes head))) bytes head)
     by None b = tt
     by (Some vid) true = tt
-    by (Some vid) false = ascends-ports (λ q. dressed bytes head (tag_at t q vid)) _ 64 refl
+    by (Some vid) false = ascends-ports (λ q. dressed bytes head (tag_at t q vid)) _ port_places refl
 
 -- The order of ports.
 

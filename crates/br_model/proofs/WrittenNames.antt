@@ -11,7 +11,7 @@ use Rattle.std.specs.Str.{bytes_eq}
 use Rattle.std.proofs.lemmas.Bool.{eqb-true, not-true}
 use Rattle.std.proofs.lemmas.Slice.Eq.{bytes_eq-Decides}
 use Rattle.br_model.specs.declared.scenario.LineWhy.TheVariants as why
-use Rattle.br_model.specs.Table.Domains.{host}
+use Rattle.br_model.specs.Table.Domains.{host, last_port}
 use Rattle.br_model.specs.Text.Operands.{number, number_in, port_number, port_name, device, found, unless}
 use Rattle.br_model.specs.Text.Roster.{Entry, has_number, port_named, is_name, is_name_byte, host_name, longest_name}
 use Rattle.br_model.specs.Text.ScenarioText.{name_of, device_text}
@@ -43,7 +43,7 @@ among P e ports port here there h = by (e.port == port) refl
 -- what is known of a first entry
 record Fits (e : Entry) (ports : List Entry) : Type 0 where
   low : nat_le 1 e.port ≡ true
-  high : nat_le e.port 63 ≡ true
+  high : nat_le e.port last_port ≡ true
   named : is_name e.name ≡ true
   alone : is_some (port_named ports e.name) ≡ false
   rest : are_declared ports ≡ true
@@ -51,22 +51,22 @@ record Fits (e : Entry) (ports : List Entry) : Type 0 where
 fits : (e : Entry) (ports : List Entry) → are_declared (e ∷ ports) ≡ true → Fits e ports
 fits e ports h =
     let all = first_so (fits_beside ports e) (are_declared ports) h in
-    let from_high = second_so (nat_le 1 e.port) (nat_le e.port 63 && (is_name e.name && (not (has_number ports e.port) && not (is_some (port_named ports e.name))))) all in
-    let from_name = second_so (nat_le e.port 63) (is_name e.name && (not (has_number ports e.port) && not (is_some (port_named ports e.name)))) from_high in
+    let from_high = second_so (nat_le 1 e.port) (nat_le e.port last_port && (is_name e.name && (not (has_number ports e.port) && not (is_some (port_named ports e.name))))) all in
+    let from_name = second_so (nat_le e.port last_port) (is_name e.name && (not (has_number ports e.port) && not (is_some (port_named ports e.name)))) from_high in
     let news = second_so (is_name e.name) (not (has_number ports e.port) && not (is_some (port_named ports e.name))) from_name in
     record {
       low = first_so (nat_le 1 e.port) _ all;
-      high = first_so (nat_le e.port 63) _ from_high;
+      high = first_so (nat_le e.port last_port) _ from_high;
       named = first_so (is_name e.name) _ from_name;
       alone = not-true _ (second_so (not (has_number ports e.port)) _ news);
       rest = second_so (fits_beside ports e) _ h;
     }
 
-at_most : (ports : List Entry) (port : ℕ) → are_declared ports ≡ true → has_number ports port ≡ true → nat_le port 63 ≡ true
+at_most : (ports : List Entry) (port : ℕ) → are_declared ports ≡ true → has_number ports port ≡ true → nat_le port last_port ≡ true
 at_most [] port all h = absurd (cc)
 at_most (e ∷ ports) port all h =
-    among (nat_le port 63 ≡ true) e ports port
-    (λ same. ap (λ (n : ℕ). nat_le n 63) (sym same) ∙ (fits e ports all).high)
+    among (nat_le port last_port ≡ true) e ports port
+    (λ same. ap (λ (n : ℕ). nat_le n last_port) (sym same) ∙ (fits e ports all).high)
     (at_most ports port (fits e ports all).rest) h
 
 at_least : (ports : List Entry) (port : ℕ) → are_declared ports ≡ true → has_number ports port ≡ true → nat_le 1 port ≡ true
@@ -76,9 +76,9 @@ at_least (e ∷ ports) port all h =
     (λ same. ap (λ (n : ℕ). nat_le 1 n) (sym same) ∙ (fits e ports all).low)
     (at_least ports port (fits e ports all).rest) h
 
-small_port : (port : ℕ) → nat_le port 63 ≡ true → port < 2 ^ 64
+small_port : (port : ℕ) → nat_le port last_port ≡ true → port < 2 ^ 64
 small_port port h =
-    let below : port ≤ 63 = grind arith in
+    let below : port ≤ last_port = grind arith in
     omega arith
 
 pub port_small : (ports : List Entry) (port : ℕ) → are_declared ports ≡ true → has_number ports port ≡ true → port < 2 ^ 64
@@ -88,7 +88,7 @@ pub port_number_read : (ports : List Entry) (port : ℕ) → are_declared ports 
     → port_number ports (decimal port) ≡ Ok port
 unfolding port_number
 port_number_read ports port all h =
-    ap (λ (o : Option ℕ). unless why.Port (λ n. not (nat_le n 63 && has_number ports n)) (found why.Number o)) (decimal_read port (port_small ports port all h))
+    ap (λ (o : Option ℕ). unless why.Port (λ n. not (nat_le n last_port && has_number ports n)) (found why.Number o)) (decimal_read port (port_small ports port all h))
     ∙ ap (λ (b : Bool). if not b then Err why.Port else Ok port) (both _ _ (at_most ports port all h) h)
 
 -- ports by their names

@@ -1,4 +1,5 @@
 -- What commands, frames and moments make of the table: learning, ageing, snooping, the tree.
+pub mod Refusals
 pub mod Ends
 pub mod Control
 pub mod Learning

@@ -2,6 +2,7 @@
 pub mod Admission
 pub mod Targets
 pub mod Eligible
+pub mod Untagged
 pub mod Leave
 pub mod Class
 pub mod Shares

@@ -2,7 +2,7 @@
 ghost use Rattle.std.specs.Prelude.{◌≡◌, ◌≢◌, ◌==◌, ◌<◌, ℕ, false, [], ◌∷◌, if◌then◌else◌, get_or, slice_index, None, Some};
 ghost use Rattle.std.specs.Int.{bit_at};
 ghost use Rattle.std.specs.Ordering.{nat_cmp};
-ghost use Rattle.br_model.specs.Table.Domains.{domain_of, entries_from, host};
+ghost use Rattle.br_model.specs.Table.Domains.{domain_of, entries_from, host, port_places};
 ghost use Rattle.br_model.specs.Table.DomainPorts.{IsWordOf};
 ghost use Rattle.br_model.specs.Data.Maps.{put};
 
@@ -13,7 +13,7 @@ use std::marker::Model;
 /// The host is always there, in the software's domain.
 #[derive(Drop)]
 pub struct Domains {
-    by_port: [Option<Dom>; 64],
+    by_port: [Option<Dom>; Port::PLACES],
     // A word for each domain, with a bit for each of its ports.
     words: [u64; 2],
 }
@@ -78,28 +78,28 @@ impl Domains {
     }
 }
 
-fn copy_of(places: &[Option<Dom>; 64]) -> [Option<Dom>; 64]
+fn copy_of(places: &[Option<Dom>; Port::PLACES]) -> [Option<Dom>; Port::PLACES]
     ensures { result ≡ places.now }
 {
-    let mut copy = [None; 64];
-    for i in 0..64 {
+    let mut copy = [None; Port::PLACES];
+    for i in 0..Port::PLACES {
         copy[i] = places[i];
     }
     copy
 }
 
-fn host_alone() -> [Option<Dom>; 64]
+fn host_alone() -> [Option<Dom>; Port::PLACES]
     ensures domains { entries_from 0 result ≡ (host, 0) ∷ [] }
     ensures host { get_or result 0 None ≡ Some 0 }
 {
-    let mut by_port = [None; 64];
+    let mut by_port = [None; Port::PLACES];
     by_port[0] = Some(Dom::SOFTWARE);
     by_port
 }
 
 /// Sets the port's bit in the domain's word, and in no other one.
 fn put_bit(words: &mut [u64; 2], p: Port, d: Dom)
-    ensures { (domain port : ℕ) → domain < 2 → port < 64
+    ensures { (domain port : ℕ) → domain < 2 → port < port_places
         → (bit_at (slice_index words.new domain) port == 1) ≡ (if port == p then d == domain else bit_at (slice_index words.old domain) port == 1) }
 {
     clear_bit(words, p);
@@ -107,7 +107,7 @@ fn put_bit(words: &mut [u64; 2], p: Port, d: Dom)
 }
 
 fn clear_bit(words: &mut [u64; 2], p: Port)
-    ensures { (domain port : ℕ) → domain < 2 → port < 64
+    ensures { (domain port : ℕ) → domain < 2 → port < port_places
         → (bit_at (slice_index words.new domain) port == 1) ≡ (if port == p then false else bit_at (slice_index words.old domain) port == 1) }
 {
     for domain in 0..2 {

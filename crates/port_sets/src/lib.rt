@@ -185,16 +185,6 @@ impl<const W: usize> PortSet<W> {
         // law: the invariant says it
         let _words = &self.words;
     }
-
-    /// A law, whose body does nothing: sets with the same members are equal.
-    pub fn same_members(&self, other: &PortSet<W>)
-        requires { (n : ℕ) → n < 64 * W → has_number self.now n ≡ has_number other.now n }
-        ensures { self.now ≡ other.now }
-    {
-        // law: the members of both ascend
-        self.members_ascend();
-        other.members_ascend();
-    }
 }
 
 impl PortSet<1> {

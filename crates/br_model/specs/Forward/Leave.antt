@@ -12,11 +12,12 @@ use Rattle.br_model.specs.Forward.Eligible.{may, untagged}
 use Rattle.br_model.specs.Wire.Frames.{dressed}
 use Rattle.br_model.specs.Data.Maps.{has}
 use Rattle.br_model.specs.Wire.Messages.{message}
+use Rattle.br_model.specs.Table.Domains.{port_places}
 use Rattle.br_model.specs.Table.Table.{Table}
 use Rattle.br_model.specs.Forward.Targets.{targets, to_tree}
 
 unfoldable pub all_ports : List ℕ
-all_ports = range_with_len 0 64
+all_ports = range_with_len 0 port_places
 
 -- the targets that may take the frame, ascending
 unfoldable pub egress_ports : Table → ℕ → ℕ → Head → McastMsg → List ℕ

@@ -5,7 +5,7 @@ use Rattle.std.specs.declared.option.Option.{Option}
 use Rattle.std.specs.declared.option.Option.TheVariants.{None, Some}
 use Rattle.std.specs.Int.{bit_at}
 use Rattle.std.specs.Option.{option_eq}
-use Rattle.br_model.specs.Table.Domains.{Domains, domain_of}
+use Rattle.br_model.specs.Table.Domains.{Domains, domain_of, port_places}
 
 -- whether the port is in the domain
 abbrev pub is_in_domain : Domains → ℕ → ℕ → Bool
@@ -18,4 +18,4 @@ is_marked domains (Some mark) port = is_in_domain domains mark port
 
 -- in the word of a domain bit n stands for port n
 abbrev pub IsWordOf : Domains → ℕ → ℕ → Type 0
-IsWordOf domains domain word = (port : ℕ) → port < 64 → (bit_at word port == 1) ≡ is_in_domain domains domain port
+IsWordOf domains domain word = (port : ℕ) → port < port_places → (bit_at word port == 1) ≡ is_in_domain domains domain port

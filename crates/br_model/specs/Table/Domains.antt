@@ -15,6 +15,14 @@ Domains = List (ℕ × ℕ)
 abbrev pub host : ℕ
 host = 0
 
+-- the last port
+abbrev pub last_port : ℕ
+last_port = 63
+
+-- a set of ports, and a table by port, has a place for each number below this one
+abbrev pub port_places : ℕ
+port_places = 64
+
 -- the domain of software ports
 abbrev pub software : ℕ
 software = 0

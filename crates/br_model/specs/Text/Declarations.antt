@@ -2,12 +2,13 @@
 -- Source: this profile.
 use Rattle.std.specs.Prelude.{Bool, true, not, ◌&&◌, nat_le, List, [], ◌∷◌}
 use Rattle.std.specs.Option.{is_some}
+use Rattle.br_model.specs.Table.Domains.{last_port}
 use Rattle.br_model.specs.Text.Roster.{Entry, has_number, port_named, is_name}
 
--- Whether a port may be declared beside others: its number is from 1 to 63, its name is one, and they have neither.
+-- Whether a port may be declared beside others: its number is from 1 to that of the last port, its name is one, and they have neither.
 abbrev pub fits_beside : List Entry → Entry → Bool
 fits_beside ports e =
-    nat_le 1 e.port && (nat_le e.port 63 && (is_name e.name && (not (has_number ports e.port) && not (is_some (port_named ports e.name)))))
+    nat_le 1 e.port && (nat_le e.port last_port && (is_name e.name && (not (has_number ports e.port) && not (is_some (port_named ports e.name)))))
 
 -- whether each of the ports fits beside those after it
 abbrev pub are_declared : List Entry → Bool

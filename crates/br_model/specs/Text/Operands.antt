@@ -11,7 +11,7 @@ use Rattle.br_model.specs.declared.scenario.LineWhy.{LineWhy}
 use Rattle.br_model.specs.declared.scenario.LineWhy.TheVariants as why
 use Rattle.std.specs.Str.{bytes_eq}
 use Rattle.br_model.specs.Data.Digits.{decimal_from, bytes_from_hex, station}
-use Rattle.br_model.specs.Table.Domains.{host}
+use Rattle.br_model.specs.Table.Domains.{host, last_port}
 use Rattle.br_model.specs.Text.FlagWords.{flags, flag_named}
 use Rattle.br_model.specs.Text.IpWords.{address}
 use Rattle.br_model.specs.Text.Roster.{Entry, has_number, port_named, is_name, host_name}
@@ -109,14 +109,14 @@ unless fault test (Err e) = Err e
 unless fault test (Ok x) = if test x then Err fault else Ok x
 
 unfoldable pub new_port : List Entry → Word → Result ℕ LineWhy
-new_port ports word = unless why.Port (λ n. has_number ports n) (number 1 63 word)
+new_port ports word = unless why.Port (λ n. has_number ports n) (number 1 last_port word)
 
 unfoldable pub new_name : List Entry → Word → Result Word LineWhy
 new_name ports word = if is_name word && not (is_some (port_named ports word)) then Ok word else Err why.Port
 
 -- a number that isn't a declared port's is no port, however large
 unfoldable pub port_number : List Entry → Word → Result ℕ LineWhy
-port_number ports word = unless why.Port (λ n. not (nat_le n 63 && has_number ports n)) (found why.Number (decimal_from word))
+port_number ports word = unless why.Port (λ n. not (nat_le n last_port && has_number ports n)) (found why.Number (decimal_from word))
 
 unfoldable pub port_name : List Entry → Word → Result ℕ LineWhy
 port_name ports word = found why.Port (port_named ports word)

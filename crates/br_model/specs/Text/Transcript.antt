@@ -11,9 +11,8 @@ use Rattle.br_model.specs.declared.scenario.LineWhy.{LineWhy}
 use Rattle.br_model.specs.declared.scenario.LineWhy.TheVariants.{Long, Unended, Word, Place, Number, Port, Address, Hex, Capture, NoMemory}
 use Rattle.br_model.specs.declared.transcript.Line.{Line}
 use Rattle.br_model.specs.declared.transcript.Line.TheVariants.{Chip, Unread, Soft, Held, Tx, Ctl, Overrun, Done, Refused, End}
-use Rattle.br_model.specs.declared.steps.Refusal.{Refusal}
-use Rattle.br_model.specs.declared.steps.Refusal.TheVariants.{PortIsUp, PortNotUp, NotMember, Exists, Absent, FdbFull, GroupsFull, HistoryFull, Backward, NothingWaiting, NothingPending, NothingReported, NotAGroup, NothingToPost, NoSuchPoint}
 use Rattle.br_model.specs.Data.Digits.{hex_of}
+use Rattle.br_model.specs.Control.Refusals.{refusal_number}
 
 abbrev pub fault_word : FrameFault → List ℕ
 fault_word faults.Short = codes "short"
@@ -25,23 +24,6 @@ class_word classes.Drop = codes "drop"
 class_word classes.Trap = codes "trap"
 class_word classes.Copy = codes "copy"
 class_word classes.Forward = codes "forward"
-
-abbrev pub refusal_number : Refusal → ℕ
-refusal_number PortIsUp = 1
-refusal_number PortNotUp = 2
-refusal_number NotMember = 3
-refusal_number Exists = 4
-refusal_number Absent = 5
-refusal_number FdbFull = 6
-refusal_number GroupsFull = 7
-refusal_number HistoryFull = 8
-refusal_number Backward = 9
-refusal_number NothingWaiting = 10
-refusal_number NothingPending = 11
-refusal_number NothingReported = 12
-refusal_number NotAGroup = 13
-refusal_number NothingToPost = 14
-refusal_number NoSuchPoint = 15
 
 -- one line, with its line feed
 abbrev pub line_text : Line → List ℕ

@@ -1,7 +1,7 @@
 //! Finite maps and sets by std's ordered ones, in the definitions' words.
 ghost use Rattle.std.specs.Prelude.{◌≡◌, OnOk};
 ghost use Rattle.std.specs.Option.{option_copied};
-ghost use Rattle.br_model.specs.Data.Maps.{get, put as with_entry, without, joined, parted, has};
+ghost use Rattle.br_model.specs.Data.Maps.{get, put as with_entry, without, joined, parted};
 
 use crate::NoMemory;
 use std::collections::{BTreeMap, BTreeSet};
@@ -32,12 +32,6 @@ pub fn take<K: Ord + Drop, V: Drop>(map: &mut BTreeMap<K, V>, key: &K)
     if map.len() > 0 {
         let _ = map.remove(key);
     }
-}
-
-pub fn has_member<K: Ord>(set: &BTreeSet<K>, key: &K) -> bool
-    ensures { result ≡ has K.cmp set.now.keys key.now }
-{
-    set.contains(key)
 }
 
 /// Makes the key a member. After `NoMemory` nothing is known of the set.
