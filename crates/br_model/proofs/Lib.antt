@@ -52,4 +52,6 @@ pub mod WrittenGroups
 pub mod WrittenLines
 pub mod WrittenNames
 pub mod WrittenNumbers
+pub mod WrittenOperands
+pub mod WrittenRows
 pub mod WrittenWords
