@@ -13,9 +13,10 @@ ghost use Rattle.mdb_snoop.specs.Soonest.{first_end, moment_of};
 
 use crate::ended::{Ended, Memberships, Pairs};
 use crate::moments::Moments;
-use crate::sections::{MOST_PAIRS, Section};
+use crate::sections::Section;
 use crate::{NoMemory, sections};
 use br_model::group::Group;
+use br_model::limits::MOST_PAIRS;
 use br_model::numbers::{Port, Vid};
 use port_sets::Ports;
 use std::alloc::Global;

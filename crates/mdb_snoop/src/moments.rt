@@ -1,6 +1,7 @@
 //! Ports with a moment each.
 ghost use Rattle.std.specs.Prelude.{◌≡◌, ◌<◌, ◌==◌, ◌&&◌, ◌||◌, ℕ, [], cond, map, nat_le, slice_index, slice_set, true};
 ghost use Rattle.std.specs.Ordering.{nat_cmp};
+ghost use Rattle.br_model.specs.Table.Domains.{port_places};
 ghost use Rattle.br_model.specs.Data.Maps.{get, put, without, is_ascending};
 ghost use Rattle.br_model.specs.Control.Ends.{due, is_over, keys};
 ghost use Rattle.mdb_snoop.specs.Soonest.{moment_of, soonest_member, soonest_moment};
@@ -10,14 +11,11 @@ use br_model::numbers::Port;
 use port_sets::Ports;
 use std::marker::Model;
 
-/// The number of places for ports.
-const PORTS: usize = 64;
-
 /// A finite map from ports to moments in milliseconds.
 #[derive(Drop, Debug)]
 pub struct Moments {
     ports: Ports,
-    moments: [u64; PORTS],
+    moments: [u64; Port::PLACES],
 }
 
 impl Model for Moments {
@@ -34,7 +32,7 @@ impl Moments {
     {
         Moments {
             ports: Ports::empty(),
-            moments: [0; PORTS],
+            moments: [0; Port::PLACES],
         }
     }
 
@@ -113,7 +111,7 @@ impl Moments {
 
     /// The moment of the port, or `u64::MAX` where it has none.
     fn moment_of(&self, port: u8) -> u64
-        requires { port < 64 }
+        requires { port < port_places }
         ensures { result ≡ moment_of (get nat_cmp self.now port) }
     {
         if self.ports.has(port) {
@@ -131,17 +129,17 @@ impl Moments {
         // law: the members ascend
         self.ports.members_ascend();
         let mut due = Ports::empty();
-        for port in 0..Port::COUNT {
-            due = with_due(due, port, self.ports, &self.moments, now);
+        for port in 0..Port::PLACES {
+            due = with_due(due, port as u8, self.ports, &self.moments, now);
         }
         due
     }
 }
 
 /// The set, and the number where it is a port whose moment is `now` or before.
-fn with_due(due: Ports, number: u8, ports: Ports, moments: &[u64; PORTS], now: u64) -> Ports
-    requires { number < 64 }
-    ensures { result ≡ cond (has_number ports number && nat_le (slice_index moments.now number) now) (numbers_below 64 (λ m. (m == number) || has_number due m)) due }
+fn with_due(due: Ports, number: u8, ports: Ports, moments: &[u64; Port::PLACES], now: u64) -> Ports
+    requires { number < port_places }
+    ensures { result ≡ cond (has_number ports number && nat_le (slice_index moments.now number) now) (numbers_below port_places (λ m. (m == number) || has_number due m)) due }
 {
     if ports.has(number) && moments[usize::from(number)] <= now {
         due.with(number)
@@ -150,7 +148,7 @@ fn with_due(due: Ports, number: u8, ports: Ports, moments: &[u64; PORTS], now: u
     }
 }
 
-fn write(moments: &mut [u64; PORTS], port: Port, moment: u64)
+fn write(moments: &mut [u64; Port::PLACES], port: Port, moment: u64)
     ensures { moments.new ≡ slice_set moments.old port moment }
 {
     moments[usize::from(port.number())] = moment;

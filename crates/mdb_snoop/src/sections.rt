@@ -2,6 +2,7 @@
 ghost use Rattle.std.specs.Prelude.{◌≡◌, ℕ, ◌+◌, ◌++◌, ◌∷◌, ◌<◌, ◌≤◌, None, Some, true, [], IfOk, IfErr, cond, length, map, vec_capacity, slice_get, slice_set, slice_index_or, is_some};
 ghost use Rattle.std.specs.List.{filter, insert};
 ghost use Rattle.std.specs.Ordering.{nat_cmp};
+ghost use Rattle.br_model.specs.Table.Domains.{port_places};
 ghost use Rattle.br_model.specs.Table.GroupPairs.{group_pair_cmp, has_room, max_pairs};
 ghost use Rattle.br_model.specs.Table.Groups.{membership_cmp};
 ghost use Rattle.br_model.specs.Data.Maps.{get, without, is_ascending};
@@ -14,13 +15,11 @@ ghost use Rattle.mdb_snoop.specs.Soonest.{soonest_member};
 use crate::NoMemory;
 use crate::members::Members;
 use br_model::group::Group;
+use br_model::limits::MOST_PAIRS;
 use br_model::numbers::{Port, Vid};
 use port_sets::Ports;
 use std::alloc::Global;
 use std::cmp::Ordering;
-
-/// The most pairs of VLAN and group.
-pub const MOST_PAIRS: usize = 1024;
 
 pub type Key = (Vid, Group);
 
@@ -282,8 +281,8 @@ fn push_all(
 {
     // law: the members ascend
     ports.members_ascend();
-    for number in 0..Port::COUNT {
-        push_member(out, vid, group, number, ports)?;
+    for number in 0..Port::PLACES {
+        push_member(out, vid, group, number as u8, ports)?;
     }
     Ok(())
 }
@@ -296,7 +295,7 @@ fn push_member(
     number: u8,
     ports: Ports,
 ) -> Result<(), NoMemory>
-    requires { number < 64 }
+    requires { number < port_places }
     ensures { IfOk result (λ _. out.new.items ≡ out.old.items ++ cond (has_number ports number) ((vid, group, number) ∷ []) []) }
 {
     if ports.has(number) {

@@ -6,8 +6,9 @@ ghost use Rattle.br_model.specs.Control.Ends.{keys};
 ghost use Rattle.mdb_snoop.specs.Database.{memberships};
 
 use crate::Mdb;
-use crate::sections::{MOST_PAIRS, Section};
+use crate::sections::Section;
 use br_model::group::Group;
+use br_model::limits::MOST_PAIRS;
 use br_model::numbers::{Port, Vid};
 use port_sets::Ports;
 use std::mem::size_of;
