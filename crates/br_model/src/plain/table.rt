@@ -458,7 +458,7 @@ impl Table {
     }
 
     /// The ports that the frame leaves, ascending.
-    #[tactic(auto, unfolding(crate::specs::Leave::ports_out))]
+    #[tactic(auto, unfolding(crate::specs::Forward::Leave::ports_out))]
     pub fn ports_out(
         &self,
         alloc: Global,
