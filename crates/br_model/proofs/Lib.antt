@@ -14,6 +14,8 @@ pub mod EndsTied
 pub mod FrameFacts
 pub mod Fronts
 pub mod GroupOrders
+pub mod GroupPairs
+pub mod GroupRoom
 pub mod GroupRows
 pub mod KeySets
 pub mod Least
@@ -50,4 +52,6 @@ pub mod WrittenGroups
 pub mod WrittenLines
 pub mod WrittenNames
 pub mod WrittenNumbers
+pub mod WrittenOperands
+pub mod WrittenRows
 pub mod WrittenWords

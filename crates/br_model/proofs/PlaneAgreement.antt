@@ -11,6 +11,8 @@ use Rattle.br_model.specs.declared.change.Change.{Change}
 use Rattle.br_model.specs.declared.frame.Class.{Class}
 use Rattle.br_model.specs.declared.frame.Class.TheVariants.{Drop, Trap, Copy, Forward}
 use Rattle.br_model.specs.declared.frame.Head.{Head}
+use Rattle.br_model.specs.declared.steps.Step.{Step}
+use Rattle.br_model.specs.declared.steps.Step.TheVariants.{Rx}
 use Rattle.br_model.specs.declared.transcript.Line.{Line}
 use Rattle.br_model.specs.declared.transcript.Line.TheVariants.{Overrun}
 use Rattle.br_model.specs.Plane.Chip.{notes}
@@ -30,7 +32,7 @@ use Rattle.br_model.specs.Plane.Entering.{waits, goes_on, enters_chip, enters_as
 use Rattle.br_model.specs.Theorems.Invariants.{frames_of, IsWorld}
 use Rattle.br_model.specs.Plane.Runs.{run, then_step}
 use Rattle.br_model.specs.Plane.Sending.{Sent, in_port_order, sent_of, software_share}
-use Rattle.br_model.specs.Plane.Steps.{Step, Rx, world_step}
+use Rattle.br_model.specs.Plane.Steps.{world_step}
 use Rattle.br_model.specs.Plane.World.{World, Waiting, Holding, Stepped, first_world, table_at, table_of_chip, sent}
 use Rattle.br_model.proofs.Cuts.{cut-all}
 use Rattle.br_model.proofs.PlaneApplied.{run-world}

@@ -2,7 +2,7 @@
 use Rattle.std.proofs.Common.{◌≡◌, ℕ, ◌+◌, true, false, cond, List, [], ◌∷◌, ◌++◌, length, drop, Option, None, Some, refl, sym, ap, ◌∙◌, subst, take}
 use Rattle.std.proofs.lemmas.List.{append-nil}
 use Rattle.std.specs.List.{fold}
-use Rattle.std.specs.Prelude.{nat_lt}
+use Rattle.std.specs.Prelude.{◌==◌, nat_lt}
 use Rattle.std.specs.Option.{option_to_list}
 use Rattle.std.specs.declared.result.Result.{Result}
 use Rattle.std.specs.declared.result.Result.TheVariants.{Ok, Err}
@@ -16,7 +16,7 @@ use Rattle.br_model.specs.declared.steps.Refusal.{Refusal}
 use Rattle.br_model.specs.declared.steps.Refusal.TheVariants.{NoSuchPoint}
 use Rattle.br_model.specs.declared.transcript.Line.TheVariants.{Overrun}
 use Rattle.br_model.specs.Plane.Chip.{notes}
-use Rattle.br_model.specs.Table.Cut.{cut, deferred_at, deferred_of, synchronous_of}
+use Rattle.br_model.specs.Table.Cut.{cut, deferred_of, synchronous_of}
 use Rattle.br_model.specs.Table.DomainPorts.{is_in_domain}
 use Rattle.br_model.specs.Table.Domains.{chip}
 use Rattle.br_model.specs.Wire.Frames.{frame}
@@ -26,14 +26,16 @@ use Rattle.br_model.specs.Control.Reaction.{Reaction}
 use Rattle.br_model.specs.Table.Setup.{Setup}
 use Rattle.br_model.specs.Forward.Shares.{mark_of}
 use Rattle.br_model.specs.Table.Table.{table}
-use Rattle.br_model.specs.Theorems.Applied.{applied_in, then_applied, applied}
-use Rattle.br_model.specs.Plane.ChipSteps.{turns, reports}
+use Rattle.br_model.specs.Theorems.Applied.{applied_in, turned_in, then_applied, applied}
+use Rattle.br_model.specs.Plane.ChipSteps.{turns_to, turns, tells, reports, swept, sweeps}
 use Rattle.br_model.specs.Plane.Entering.{waits, goes_on, enters_chip, enters_as, class_of}
 use Rattle.br_model.specs.Theorems.Invariants.{IsWorld}
 use Rattle.br_model.specs.Plane.Runs.{run, then_step}
 use Rattle.br_model.specs.Plane.Serving.{posts, serves, holds, held_with, lets_go, is_point, posts_held, posts_at}
-use Rattle.br_model.specs.Plane.Steps.{Step, Rx, Cmd, Now, Serve, Hold, Post, Turn, Report, Sweep, Publish, world_step}
-use Rattle.br_model.specs.Plane.World.{World, Waiting, Holding, Stepped, first_world, table_of_chip, answered, reacts, refused}
+use Rattle.br_model.specs.Plane.Steps.{world_step}
+use Rattle.br_model.specs.declared.steps.Step.{Step}
+use Rattle.br_model.specs.declared.steps.Step.TheVariants.{Rx, Cmd, Now, Serve, Hold, Post, Turn, Report, Sweep, Publish}
+use Rattle.br_model.specs.Plane.World.{World, Waiting, Holding, Stepped, first_world, chip_at, next_of, table_of_chip, answered, reacts, refused}
 use Rattle.br_model.proofs.ApplyingLaws.{after_accept, after_turn, once_after_accept, once_after_turn}
 use Rattle.br_model.proofs.PlaneKept.{first-world, step-world, notes-keeps, hit_by-keeps}
 
@@ -95,9 +97,21 @@ posts_at-grows : (w : World) (o : Option Holding) (point : Option ℕ) → Grows
 posts_at-grows w None point = stays w w refl refl
 posts_at-grows w (Some h) point = posts_held-grows w h point
 
-reports-grows : (w : World) (rs : List Triple) → Grows w (reports w rs).0
-reports-grows w [] = stays w w refl refl
-reports-grows w (x ∷ later) = answered-grows w (record w { chip = record w.chip { reports = later } }) (reacts w (events.Told x.0 x.1 x.2)) refl refl
+tells-grows : (w : World) (rs : List Triple) → Grows w (tells w w.chip rs).0
+tells-grows w [] = stays w w refl refl
+tells-grows w (x ∷ later) = answered-grows w (record w { chip = record w.chip { reports = later } }) (reacts w (events.Told x.0 x.1 x.2)) refl refl
+
+reports-grows : (w : World) (dom : ℕ) → Grows w (reports w (chip_at w dom)).0
+reports-grows w dom = elim (dom == chip) as (λ b. Grows w (reports w (cond b (Some w.chip) None)).0) [
+  | true ↦ tells-grows w w.chip.reports
+  | false ↦ stays w w refl refl
+]
+
+sweeps-grows : (w : World) (dom : ℕ) → Grows w (sweeps w (chip_at w dom)).0
+sweeps-grows w dom = elim (dom == chip) as (λ b. Grows w (sweeps w (cond b (Some w.chip) None)).0) [
+  | true ↦ answered-grows w (record w { chip = record w.chip { hits = [] } }) (reacts w (swept w w.chip)) refl refl
+  | false ↦ stays w w refl refl
+]
 
 -- What is applied so far: it makes the chip's table, and holds each synchronous change and the first deferred ones once, each
 -- kind in order.
@@ -121,11 +135,14 @@ accepts-applies w v done k a g =
       deferred = ap (λ (l : List Change). deferred_of (done ++ synchronous_of l)) changes ∙ once.1 ∙ sym (λ i. take (g.2 i) (deferred_of (g.1 i)));
     }
 
-turns-applies : (w : World) (done : List Change) (o : Option Change) → deferred_at w.history w.chip.count ≡ o → Applies w done → Applies (turns w o).0 (done ++ option_to_list o)
-turns-applies w done None e a =
+nothing-applies : (w : World) (done : List Change) → Applies w done → Applies w (done ++ [])
+nothing-applies w done a =
     let nothing = append-nil done in
     record { table = ap table nothing ∙ a.table; synchronous = ap synchronous_of nothing ∙ a.synchronous; deferred = ap deferred_of nothing ∙ a.deferred }
-turns-applies w done (Some d) e a =
+
+turns_to-applies : (w : World) (done : List Change) (o : Option Change) → next_of w w.chip ≡ o → Applies w done → Applies (turns_to w w.chip o).0 (done ++ option_to_list o)
+turns_to-applies w done None e a = nothing-applies w done a
+turns_to-applies w done (Some d) e a =
     let count = (hit_by-keeps (record w.chip { count = w.chip.count + 1 }) d).0 in
     let after = after_turn w.history done w.chip.count d e a.table in
     let once = once_after_turn w.history done w.chip.count d e a.synchronous a.deferred in
@@ -135,6 +152,13 @@ turns-applies w done (Some d) e a =
       deferred = once.1 ∙ sym (ap (λ n. take n (deferred_of w.history)) count);
     }
 
+turns-applies : (w : World) (done : List Change) (dom : ℕ) → Applies w done → Applies (turns w (chip_at w dom)).0 (done ++ turned_in w (chip_at w dom))
+turns-applies w done dom a =
+    elim (dom == chip) as (λ b. Applies (turns w (cond b (Some w.chip) None)).0 (done ++ turned_in w (cond b (Some w.chip) None))) [
+      | true ↦ turns_to-applies w done (next_of w w.chip) refl a
+      | false ↦ nothing-applies w done a
+    ]
+
 pub step-applies : (w : World) (done : List Change) (step : Step) → IsWorld w → Applies w done → Applies (world_step w step).0 (done ++ applied_in w step)
 step-applies w done (Rx port bytes) k a = accepts-applies w _ done k a (enters-grows (record w { steps = w.steps + 1; next = w.next + 1 }) w.next port bytes (frame bytes))
 step-applies w done (Cmd c) k a = accepts-applies w _ done k a (answered-grows (record w { steps = w.steps + 1 }) (record w { steps = w.steps + 1 }) _ refl refl)
@@ -142,9 +166,9 @@ step-applies w done (Now moment) k a = accepts-applies w _ done k a (answered-gr
 step-applies w done Serve k a = accepts-applies w _ done k a (serves-grows (record w { steps = w.steps + 1 }) w.waiting)
 step-applies w done Hold k a = accepts-applies w _ done k a (holds-grows (record w { steps = w.steps + 1 }) w.waiting)
 step-applies w done (Post id point) k a = accepts-applies w _ done k a (posts_at-grows (record w { steps = w.steps + 1 }) (held_with w id) point)
-step-applies w done Turn k a = turns-applies (record w { steps = w.steps + 1 }) done (deferred_at w.history w.chip.count) refl (record { table = a.table; synchronous = a.synchronous; deferred = a.deferred })
-step-applies w done Report k a = accepts-applies w _ done k a (reports-grows (record w { steps = w.steps + 1 }) w.chip.reports)
-step-applies w done Sweep k a = accepts-applies w _ done k a (answered-grows (record w { steps = w.steps + 1 }) (record w { steps = w.steps + 1; chip = record w.chip { hits = [] } }) _ refl refl)
+step-applies w done (Turn dom) k a = turns-applies (record w { steps = w.steps + 1 }) done dom (record { table = a.table; synchronous = a.synchronous; deferred = a.deferred })
+step-applies w done (Report dom) k a = accepts-applies w _ done k a (reports-grows (record w { steps = w.steps + 1 }) dom)
+step-applies w done (Sweep dom) k a = accepts-applies w _ done k a (sweeps-grows (record w { steps = w.steps + 1 }) dom)
 step-applies w done Publish k a = accepts-applies w _ done k a (stays w (world_step w Publish).0 refl refl)
 
 -- Runs.

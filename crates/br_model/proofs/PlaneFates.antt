@@ -21,8 +21,7 @@ use Rattle.br_model.specs.declared.steps.Refusal.{Refusal}
 use Rattle.br_model.specs.declared.steps.Refusal.TheVariants.{NoSuchPoint}
 use Rattle.br_model.specs.declared.bpdu.BpduMsg.{BpduMsg}
 use Rattle.br_model.specs.declared.transcript.Line.TheVariants.{Overrun, Done}
-use Rattle.br_model.specs.Plane.Chip.{notes}
-use Rattle.br_model.specs.Table.Cut.{deferred_at}
+use Rattle.br_model.specs.Plane.Chip.{Chip, applies, notes}
 use Rattle.br_model.specs.Table.DomainPorts.{is_in_domain, is_marked}
 use Rattle.br_model.specs.Table.Domains.{Domains, chip, domain_of, foreign}
 use Rattle.br_model.specs.Wire.Frames.{frame}
@@ -36,13 +35,15 @@ use Rattle.br_model.specs.Forward.Shares.{chip_out, chip_out_by, within, mark_of
 use Rattle.br_model.specs.Table.Table.{Table, table}
 use Rattle.br_model.proofs.PlaneKept.{counted-world}
 use Rattle.br_model.proofs.PlaneShares.{ascends-filter, ascends-leave, times-ascends, times-within}
-use Rattle.br_model.specs.Plane.ChipSteps.{turns, reports, swept}
+use Rattle.br_model.specs.Plane.ChipSteps.{turns_to, turns, tells, reports, swept, sweeps}
 use Rattle.br_model.specs.Plane.Entering.{waits, goes_on, enters_chip, enters_as, class_of}
 use Rattle.br_model.specs.Plane.Serving.{posts, serves, holds, held_with, lets_go, is_point, posts_held, posts_at}
-use Rattle.br_model.specs.Plane.Steps.{Step, Rx, Cmd, Now, Serve, Hold, Post, Turn, Report, Sweep, Publish, does, world_step}
+use Rattle.br_model.specs.Plane.Steps.{does, world_step}
+use Rattle.br_model.specs.declared.steps.Step.{Step}
+use Rattle.br_model.specs.declared.steps.Step.TheVariants.{Rx, Cmd, Now, Serve, Hold, Post, Turn, Report, Sweep, Publish}
 use Rattle.br_model.specs.Theorems.Invariants.{frames_of, IsFrame, IsWorld}
 use Rattle.br_model.specs.Plane.Sending.{Sent, sent_by, sent_of, times}
-use Rattle.br_model.specs.Plane.World.{World, Waiting, Holding, Stepped, table_at, table_of_chip, sent, control_lines, answered, reacts, refused}
+use Rattle.br_model.specs.Plane.World.{World, Waiting, Holding, Stepped, chip_at, with_chip, next_of, table_at, table_of_chip, sent, control_lines, answered, reacts, refused}
 
 -- The lines of a frame that is sent.
 
@@ -475,14 +476,28 @@ posts_at-effect id i w (Some h) point e k = posts_held-effect id i w h point e k
 
 -- The other steps.
 
-turns-effect : (id : ℕ) (w : World) (o : Option Change) → Effect id w (turns w o).0 (turns w o).1
-turns-effect id w None = quiet id w w _ (alike w) refl
-turns-effect id w (Some d) = quiet id w _ _ (record { setup = refl; next = refl; published = refl; held = refl; waiting = refl }) refl
+alike-chip : (w : World) (c : Chip) → Alike w (with_chip w c)
+alike-chip w c = record { setup = refl; next = refl; published = refl; held = refl; waiting = refl }
 
-reports-effect : (id : ℕ) (w : World) (rs : List Triple) → Effect id w (reports w rs).0 (reports w rs).1
-reports-effect id w [] = quiet id w w _ (alike w) refl
-reports-effect id w (x ∷ later) =
-    answers id w (record w { chip = record w.chip { reports = later } }) (reacts w (events.Told x.0 x.1 x.2)) (record { setup = refl; next = refl; published = refl; held = refl; waiting = refl })
+turns_to-effect : (id : ℕ) (w : World) (c : Chip) (o : Option Change) → Effect id w (turns_to w c o).0 (turns_to w c o).1
+turns_to-effect id w c None = quiet id w w _ (alike w) refl
+turns_to-effect id w c (Some d) = quiet id w _ _ (alike-chip w (applies c d)) refl
+
+turns-effect : (id : ℕ) (w : World) (o : Option Chip) → Effect id w (turns w o).0 (turns w o).1
+turns-effect id w None = quiet id w w _ (alike w) refl
+turns-effect id w (Some c) = turns_to-effect id w c (next_of w c)
+
+tells-effect : (id : ℕ) (w : World) (c : Chip) (rs : List Triple) → Effect id w (tells w c rs).0 (tells w c rs).1
+tells-effect id w c [] = quiet id w w _ (alike w) refl
+tells-effect id w c (x ∷ later) = answers id w (with_chip w (record c { reports = later })) (reacts w (events.Told x.0 x.1 x.2)) (alike-chip w (record c { reports = later }))
+
+reports-effect : (id : ℕ) (w : World) (o : Option Chip) → Effect id w (reports w o).0 (reports w o).1
+reports-effect id w None = quiet id w w _ (alike w) refl
+reports-effect id w (Some c) = tells-effect id w c c.reports
+
+sweeps-effect : (id : ℕ) (w : World) (o : Option Chip) → Effect id w (sweeps w o).0 (sweeps w o).1
+sweeps-effect id w None = quiet id w w _ (alike w) refl
+sweeps-effect id w (Some c) = answers id w (with_chip w (record c { hits = [] })) (reacts w (swept w c)) (alike-chip w (record c { hits = [] }))
 
 does-effect : (id : ℕ) (w : World) (step : Step) → IsWorld w → Effect id w (does w step).0 (does w step).1
 does-effect id w (Rx port bytes) k = enters-effect id w port bytes (frame bytes) k
@@ -491,10 +506,9 @@ does-effect id w (Now moment) k = answers id w w (reacts w (events.Moment moment
 does-effect id w Serve k = serves-effect id w w.waiting refl k
 does-effect id w Hold k = holds-effect id w w.waiting refl k
 does-effect id w (Post i point) k = posts_at-effect id i w (held_with w i) point refl k
-does-effect id w Turn k = turns-effect id w (deferred_at w.history w.chip.count)
-does-effect id w Report k = reports-effect id w w.chip.reports
-does-effect id w Sweep k =
-    answers id w (record w { chip = record w.chip { hits = [] } }) (reacts w (swept w)) (record { setup = refl; next = refl; published = refl; held = refl; waiting = refl })
+does-effect id w (Turn dom) k = turns-effect id w (chip_at w dom)
+does-effect id w (Report dom) k = reports-effect id w (chip_at w dom)
+does-effect id w (Sweep dom) k = sweeps-effect id w (chip_at w dom)
 does-effect id w Publish k = record { setup = refl; next = omega arith; published = inr refl; fate = idle refl refl }
 
 -- the count of steps is no matter

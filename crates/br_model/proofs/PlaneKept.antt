@@ -27,7 +27,7 @@ use Rattle.br_model.specs.declared.steps.Refusal.{Refusal}
 use Rattle.br_model.specs.declared.steps.Refusal.TheVariants.{NoSuchPoint}
 use Rattle.br_model.specs.declared.transcript.Line.TheVariants.{Overrun}
 use Rattle.br_model.specs.Plane.Chip.{Chip, same_triple, offered, offers, hit, hit_by, hits_entry, notes, report, hit_of}
-use Rattle.br_model.specs.Table.Cut.{deferred_of, deferred_at}
+use Rattle.br_model.specs.Table.Cut.{deferred_of}
 use Rattle.br_model.specs.Table.DomainPorts.{is_in_domain}
 use Rattle.br_model.specs.Table.Domains.{Domains, domain_of, chip}
 use Rattle.br_model.specs.Wire.Frames.{frame}
@@ -38,12 +38,14 @@ use Rattle.br_model.specs.Control.Reaction.{Reaction}
 use Rattle.br_model.specs.Table.Setup.{Setup}
 use Rattle.br_model.specs.Forward.Shares.{mark_of}
 use Rattle.br_model.specs.Table.Table.{Table}
-use Rattle.br_model.specs.Plane.ChipSteps.{turns, reports, swept}
+use Rattle.br_model.specs.Plane.ChipSteps.{turns_to, turns, tells, reports, swept, sweeps}
 use Rattle.br_model.specs.Plane.Entering.{waits, goes_on, enters_chip, enters_as, class_of}
 use Rattle.br_model.specs.Theorems.Invariants.{frames_of, has_own_mark, IsFrame, FramesStand, ReportsStand, IsWorld}
 use Rattle.br_model.specs.Plane.Serving.{posts, serves, holds, held_with, lets_go, is_point, posts_held, posts_at}
-use Rattle.br_model.specs.Plane.Steps.{Step, Rx, Cmd, Now, Serve, Hold, Post, Turn, Report, Sweep, Publish, publishes, does, world_step}
-use Rattle.br_model.specs.Plane.World.{World, Waiting, Holding, first_world, table_of_chip, Stepped, accepts, answered, reacts, refused}
+use Rattle.br_model.specs.Plane.Steps.{publishes, does, world_step}
+use Rattle.br_model.specs.declared.steps.Step.{Step}
+use Rattle.br_model.specs.declared.steps.Step.TheVariants.{Rx, Cmd, Now, Serve, Hold, Post, Turn, Report, Sweep, Publish}
+use Rattle.br_model.specs.Plane.World.{World, Waiting, Holding, first_world, chip_at, next_of, table_of_chip, Stepped, accepts, answered, reacts, refused}
 use Rattle.br_model.proofs.ApplyingLaws.{deferred_count-append}
 use Rattle.br_model.proofs.PairKeys.{pair_total}
 use Rattle.br_model.proofs.PlaneHistory.{Accepts, react-accepts}
@@ -301,9 +303,9 @@ posts_at-world w (Some h) point k = posts_held-world w h point k
 
 -- The chip's driver.
 
-turns-world : (w : World) (o : Option Change) → deferred_at w.history w.chip.count ≡ o → IsWorld w → IsWorld (turns w o).0
-turns-world w None e k = k
-turns-world w (Some d) e k =
+turns_to-world : (w : World) (o : Option Change) → next_of w w.chip ≡ o → IsWorld w → IsWorld (turns_to w w.chip o).0
+turns_to-world w None e k = k
+turns_to-world w (Some d) e k =
     let keeps = hit_by-keeps (record w.chip { count = w.chip.count + 1 }) d in
     record {
       history = record { applied = omega (arith, keeps.0, slice_get_within (deferred_of w.history) w.chip.count d e); fits = k.history.fits; few = k.history.few };
@@ -313,20 +315,38 @@ turns-world w (Some d) e k =
       hits = keeps.2 k.hits;
     }
 
+turns-world : (w : World) (dom : ℕ) → IsWorld w → IsWorld (turns w (chip_at w dom)).0
+turns-world w dom k = elim (dom == chip) as (λ b. IsWorld (turns w (cond b (Some w.chip) None)).0) [
+  | true ↦ turns_to-world w (next_of w w.chip) refl k
+  | false ↦ k
+]
+
 fewer-reports : (x : Triple) (later : List Triple) → ReportsStand (x ∷ later) → ReportsStand later
 unfolding IsDistinct
 fewer-reports x later k = record { ids = k.ids.1; few = omega (arith, k.few) }
 
-reports-world : (w : World) (rs : List Triple) → w.chip.reports ≡ rs → IsWorld w → IsWorld (reports w rs).0
-reports-world w [] e k = k
-reports-world w (x ∷ later) e k =
+tells-world : (w : World) (rs : List Triple) → w.chip.reports ≡ rs → IsWorld w → IsWorld (tells w w.chip rs).0
+tells-world w [] e k = k
+tells-world w (x ∷ later) e k =
     answered-world w (record w { chip = record w.chip { reports = later } }) (events.Told x.0 x.1 x.2) k
     (record { history = k.history; counts = k.counts; frames = k.frames; reports = fewer-reports x later (subst ReportsStand e k.reports); hits = k.hits })
     refl
 
+reports-world : (w : World) (dom : ℕ) → IsWorld w → IsWorld (reports w (chip_at w dom)).0
+reports-world w dom k = elim (dom == chip) as (λ b. IsWorld (reports w (cond b (Some w.chip) None)).0) [
+  | true ↦ tells-world w w.chip.reports refl k
+  | false ↦ k
+]
+
 swept-world : (w : World) → IsWorld w → IsWorld (record w { chip = record w.chip { hits = [] } })
 unfolding IsStrictlySortedBy
 swept-world w k = record { history = k.history; counts = k.counts; frames = k.frames; reports = k.reports; hits = tt }
+
+sweeps-world : (w : World) (dom : ℕ) → IsWorld w → IsWorld (sweeps w (chip_at w dom)).0
+sweeps-world w dom k = elim (dom == chip) as (λ b. IsWorld (sweeps w (cond b (Some w.chip) None)).0) [
+  | true ↦ answered-world w (record w { chip = record w.chip { hits = [] } }) (swept w w.chip) k (swept-world w k) refl
+  | false ↦ k
+]
 
 publishes-world : (w : World) → IsWorld w → IsWorld (publishes w (length w.history))
 publishes-world w k =
@@ -372,9 +392,9 @@ does-world w (Now moment) k = answered-world w w (events.Moment moment) k k refl
 does-world w Serve k = serves-world w w.waiting refl k
 does-world w Hold k = holds-world w w.waiting refl k
 does-world w (Post id point) k = posts_at-world w (held_with w id) point k
-does-world w Turn k = turns-world w (deferred_at w.history w.chip.count) refl k
-does-world w Report k = reports-world w w.chip.reports refl k
-does-world w Sweep k = answered-world w (record w { chip = record w.chip { hits = [] } }) (swept w) k (swept-world w k) refl
+does-world w (Turn dom) k = turns-world w dom k
+does-world w (Report dom) k = reports-world w dom k
+does-world w (Sweep dom) k = sweeps-world w dom k
 does-world w Publish k = publishes-world w k
 
 pub step-world : (w : World) (step : Step) → IsWorld w → IsWorld (world_step w step).0

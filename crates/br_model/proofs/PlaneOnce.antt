@@ -5,6 +5,7 @@ use Rattle.std.proofs.lemmas.List.{append-nil}
 use Rattle.std.proofs.lemmas.List.Elements.{All-from_recursion}
 use Rattle.std.specs.Prelude.{◌==◌}
 use Rattle.std.specs.List.{AllByRecursion, filter, fold}
+use Rattle.br_model.specs.declared.steps.Step.{Step}
 use Rattle.br_model.specs.declared.transcript.Line.{Line}
 use Rattle.br_model.specs.Table.DomainPorts.{is_marked}
 use Rattle.br_model.specs.Table.Domains.{Domains}
@@ -15,7 +16,7 @@ use Rattle.br_model.specs.Theorems.Invariants.{frames_of, IsWorld}
 use Rattle.br_model.specs.Theorems.OnceOnly.{LinesStand}
 use Rattle.br_model.specs.Plane.Runs.{run, then_step}
 use Rattle.br_model.specs.Plane.Sending.{Sent, times, sent_of}
-use Rattle.br_model.specs.Plane.Steps.{Step, world_step}
+use Rattle.br_model.specs.Plane.Steps.{world_step}
 use Rattle.br_model.specs.Plane.World.{World, Waiting, Holding, Stepped, first_world, table_at}
 use Rattle.br_model.proofs.PlaneFates.{sent_of-append, Found, hold_entry, wait_entry, waiting_found, found, found-taken, Fate, idle, entered, taken, gone, Waits, step-effect}
 use Rattle.br_model.proofs.PlaneKept.{first-world, step-world}

@@ -8,7 +8,7 @@ use Rattle.br_model.specs.declared.scenario.LineWhy.TheVariants.{Address}
 use Rattle.br_model.specs.Data.Digits.{hex_of, station}
 use Rattle.br_model.specs.Data.Numbers.{number, is_multicast}
 use Rattle.br_model.specs.Text.Operands.{mac, station_of, found}
-use Rattle.br_model.specs.Text.ScenarioText.{byte_at, mac_text}
+use Rattle.br_model.specs.Text.Spelling.{byte_at, mac_text}
 use Rattle.br_model.specs.Text.Words.{Word}
 use Rattle.br_model.proofs.WrittenNumbers.{hex_read, pair_letters}
 use Rattle.br_model.proofs.WrittenWords.{letters, is_proper, both}

@@ -14,9 +14,9 @@ use Rattle.br_model.specs.declared.scenario.LineWhy.TheVariants as why
 use Rattle.br_model.specs.Table.Domains.{host, last_port}
 use Rattle.br_model.specs.Text.Operands.{number, number_in, port_number, port_name, device, found, unless}
 use Rattle.br_model.specs.Text.Roster.{Entry, has_number, port_named, is_name, is_name_byte, host_name, longest_name}
-use Rattle.br_model.specs.Text.ScenarioText.{name_of, device_text}
+use Rattle.br_model.specs.Text.Spelling.{name_of, device_text}
 use Rattle.br_model.specs.Text.Words.{Word, is_word}
-use Rattle.br_model.specs.Theorems.WrittenSteps.{is_device}
+use Rattle.br_model.specs.Text.Operands.{is_device}
 use Rattle.br_model.specs.Text.Declarations.{are_declared, fits_beside}
 use Rattle.br_model.proofs.Words.{equal}
 use Rattle.br_model.proofs.WrittenNumbers.{decimal_read}
@@ -182,17 +182,12 @@ some_word : (w : Word) → nat_lt 0 (length w) ≡ true → is_word w ≡ true
 some_word [] h = h
 some_word (c ∷ w) h = refl
 
-name_word : (ports : List Entry) (port : ℕ) → are_declared ports ≡ true → has_number ports port ≡ true → is_word (name_of ports port) ≡ true
-name_word ports port all h = some_word _ (first_so _ _ (named_by ports port all h))
-
-name_of_letters : (ports : List Entry) (port : ℕ) → are_declared ports ≡ true → has_number ports port ≡ true → letters (name_of ports port) ≡ true
-name_of_letters ports port all h = by (name_of ports port) (named_by ports port all h)
-  where
-    by : (w : Word) → is_name w ≡ true → letters w ≡ true
-    by w is = name_letters w (first_so _ _ (second_so (nat_le (length w) longest_name) _ (second_so (nat_lt 0 (length w)) _ is)))
+pub given_name_proper : (w : Word) → is_name w ≡ true → is_proper w ≡ true
+given_name_proper w h =
+    both _ _ (some_word w (first_so _ _ h)) (name_letters w (first_so _ _ (second_so (nat_le (length w) longest_name) _ (second_so (nat_lt 0 (length w)) _ h))))
 
 pub name_proper : (ports : List Entry) (port : ℕ) → are_declared ports ≡ true → has_number ports port ≡ true → is_proper (name_of ports port) ≡ true
-name_proper ports port all h = both _ _ (name_word ports port all h) (name_of_letters ports port all h)
+name_proper ports port all h = given_name_proper (name_of ports port) (named_by ports port all h)
 
 -- devices
 

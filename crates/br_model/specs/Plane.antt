@@ -7,4 +7,3 @@ pub mod Sending
 pub mod ChipSteps
 pub mod Steps
 pub mod Runs
-pub mod Naming

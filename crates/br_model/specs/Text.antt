@@ -4,6 +4,7 @@ pub mod Roster
 pub mod Declarations
 pub mod FlagWords
 pub mod IpWords
+pub mod Spelling
 pub mod Operands
 pub mod Forms
 pub mod CommandForms

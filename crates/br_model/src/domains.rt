@@ -43,6 +43,7 @@ impl Domains {
         }
     }
 
+    /// Declares the port in this domain, in place of the one that it may have.
     pub fn set(&mut self, p: Port, d: Dom)
         requires { p ≢ host }
         ensures { self.new ≡ put nat_cmp self.old p d }

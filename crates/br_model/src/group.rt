@@ -42,6 +42,7 @@ impl Group {
         }
     }
 
+    /// Whether it is an address of IP version 6.
     pub fn is_six(self) -> bool
         ensures { result ≡ is_six self }
     {

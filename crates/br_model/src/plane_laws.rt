@@ -1,6 +1,8 @@
 //! Laws about the world of a bridge with a chip. A law is a function that does nothing: its contract says it.
 ghost use Rattle.std.specs.Prelude.{◌≡◌, ◌≤◌, ℕ, true, List, ◌∷◌, ◌++◌, take, is_some, Ok};
 ghost use Rattle.br_model.specs.declared.frame.Head.{Head};
+ghost use Rattle.br_model.specs.declared.steps.Step.{Step};
+ghost use Rattle.br_model.specs.declared.steps.Step.TheVariants.{Rx};
 ghost use Rattle.br_model.specs.Table.Domains.{Domains, domain_of};
 ghost use Rattle.br_model.specs.Wire.Frames.{frame};
 ghost use Rattle.br_model.specs.Forward.Leave.{leave};
@@ -10,7 +12,7 @@ ghost use Rattle.br_model.specs.Theorems.Applied.{applied};
 ghost use Rattle.br_model.specs.Plane.Runs.{run};
 ghost use Rattle.br_model.specs.Theorems.Invariants.{IsWorld};
 ghost use Rattle.br_model.specs.Theorems.OnceOnly.{LinesStand};
-ghost use Rattle.br_model.specs.Plane.Steps.{Step, Rx, world_step};
+ghost use Rattle.br_model.specs.Plane.Steps.{world_step};
 ghost use Rattle.br_model.specs.Plane.World.{World, first_world, table_of_chip};
 ghost use Rattle.br_model.specs.Table.Setup.{Setup};
 ghost use Rattle.br_model.specs.Plane.Sending.{times, sent_of, in_port_order, both_shares};

@@ -6,7 +6,7 @@ use crate::bytes::Bytes;
 use crate::change::{Flags, Kind};
 use crate::frame::Head;
 use crate::group::Ip;
-use crate::numbers::{Mac, Port, Vid};
+use crate::numbers::{Dom, Mac, Port, Vid};
 use lists::Items;
 
 /// A command, as a line of a scenario gives it.
@@ -106,12 +106,16 @@ pub enum Step {
     Now(u64),
     /// The oldest frame that waits is decided and sent.
     Serve,
-    /// The chip applies the next deferred change.
-    Turn,
-    /// The bridge is told the chip's oldest report.
-    Report,
-    /// The bridge forgets the stations that the chip no longer sees.
-    Sweep,
+    /// The oldest frame that waits is held. What is published now is its floor.
+    Hold,
+    /// The held frame with this id is decided, by the tables of its floor or of the point that is named, and sent.
+    Post { id: u32, point: Option<u32> },
+    /// The chip of this domain applies the next deferred change.
+    Turn(Dom),
+    /// The bridge is told the oldest report of this domain's chip.
+    Report(Dom),
+    /// The bridge forgets the stations that this domain's chip no longer sees.
+    Sweep(Dom),
     /// The tables that frames are decided by become those of all accepted changes.
     Publish,
 }

@@ -8,10 +8,11 @@ ghost use Rattle.br_model.specs.Text.CommandForms.{step};
 ghost use Rattle.br_model.specs.Wire.Frames.{frame};
 ghost use Rattle.br_model.specs.Text.LineForms.{line_says};
 ghost use Rattle.br_model.specs.Text.Roster.{Roster};
-ghost use Rattle.br_model.specs.Theorems.WrittenSteps.{has_line, given, is_ip, is_whole};
+ghost use Rattle.br_model.specs.Theorems.WrittenSteps.{given, is_whole};
 ghost use Rattle.br_model.specs.Data.Numbers.{is_multicast};
-ghost use Rattle.br_model.specs.Text.Operands.{mac, group};
-ghost use Rattle.br_model.specs.Text.ScenarioText.{mac_text, ip_text, shown, step_words};
+ghost use Rattle.br_model.specs.Text.Operands.{mac, group, is_ip};
+ghost use Rattle.br_model.specs.Text.ScenarioText.{has_line, step_words};
+ghost use Rattle.br_model.specs.Text.Spelling.{mac_text, ip_text, shown};
 ghost use Rattle.br_model.specs.Text.Declarations.{are_declared};
 ghost use Rattle.br_model.specs.Data.Digits.{decimal_from, hex_of, bytes_from_hex};
 

@@ -2,7 +2,7 @@
 use Rattle.std.proofs.Common.{◌≡◌, ℕ, zero, suc, ◌+◌, ◌<◌, true, false, ◌||◌, cond, List, [], ◌∷◌, length, drop, slice_get, Some, refl, ap, sym, ◌∙◌, add-one, arith, is_some}
 use Rattle.std.specs.Option.{option_map}
 use Rattle.br_model.specs.Text.Roster.{Entry, has_number}
-use Rattle.br_model.specs.Text.ScenarioText.{name_of}
+use Rattle.br_model.specs.Text.Spelling.{name_of}
 use Rattle.br_model.specs.Text.Words.{Word}
 use Rattle.bridge_command.specs.Seen.{is_port_at}
 

@@ -6,7 +6,7 @@ ghost use Rattle.br_model.specs.Table.Domains.{host};
 ghost use Rattle.br_model.specs.Text.Operands.{port_name, device as device_of, new_port as new_port_of, new_name as new_name_of, port_number as port_number_of};
 ghost use Rattle.br_model.specs.Text.Roster.{first_roster, domains_of, has_number, port_named, is_name as is_a_name};
 ghost use Rattle.br_model.specs.Text.Scenario.{declared};
-ghost use Rattle.br_model.specs.Text.ScenarioText.{name_of};
+ghost use Rattle.br_model.specs.Text.Spelling.{name_of};
 ghost use Rattle.br_model.specs.Text.Declarations.{fits_beside, are_declared};
 ghost use Rattle.bridge_command.specs.Seen.{in_place, stands_at, is_port_at, OrNoMemory};
 
@@ -59,6 +59,7 @@ impl Roster {
         })
     }
 
+    /// The place that the lines so far have reached.
     pub fn place(&self) -> Place
         ensures { result ≡ self.now.place }
     {

@@ -46,6 +46,7 @@ impl Addresses {
         })
     }
 
+    /// The port and the kind of the entry at the address.
     pub fn find(&self, vid: Vid, mac: Mac) -> Option<(Port, Kind)>
         ensures { result ≡ get pair_cmp self.now.addr (vid, mac) }
     {

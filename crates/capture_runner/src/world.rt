@@ -93,6 +93,7 @@ impl World {
     pub(crate) fn changes(&self) -> u32
         ensures { result ≡ length self.now.history }
     {
+        // law: what holds of every plane
         self.plane.stands();
         self.history().len() as u32
     }
@@ -108,6 +109,7 @@ impl World {
     pub(crate) fn end_line(&self) -> Line
         ensures { result ≡ end_line self.now }
     {
+        // law: what holds of every plane
         self.plane.stands();
         Line::End {
             steps: self.plane.steps(),

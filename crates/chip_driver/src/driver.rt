@@ -53,6 +53,7 @@ impl Driver {
         let mut joined = Joined::make(alloc)?;
         let groups = Mdb::make(alloc)?;
         let shadow = Shadow::start(Ports::from_word(d.ports_of(dom)));
+        // law: the host isn't on the chip
         making::host_is_elsewhere(d);
         making::mark_own(&mut tables, &shadow.own);
         switches::switch_traps(&mut tables, switches::FIRST_RESERVED, true);

@@ -115,6 +115,7 @@ pub fn write_port(
     ensures rest { tables.new ≡ record tables.old { unicast = tables.new.unicast; mcast = tables.new.mcast; bcast = tables.new.bcast; routers = tables.new.routers; ports = tables.new.ports; groups = tables.new.groups } }
     ensures below { p < port_count }
 {
+    // law: the port is in range
     let _number = p.number();
     tables.set_port(p, row);
     *shadow = shadow.with_row(p, &row);
@@ -169,6 +170,7 @@ pub fn write_pvid(tables: &mut Tables, shadow: &Shadow, joined: &Joined, p: Port
     ensures rest { tables.new ≡ record tables.old { ports = tables.new.ports } }
     ensures below { p < port_count }
 {
+    // law: the port is in range
     let _number = p.number();
     let mut row = tables.port(p);
     row.pvid = pvid;

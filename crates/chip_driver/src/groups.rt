@@ -27,6 +27,7 @@ pub fn refresh_of_port(tables: &mut Tables, shadow: &Shadow, joined: &Joined, gr
     requires { AreUsed (memberships groups.now) tables.old }
     ensures { RefreshesGroups (has_vlan joined.now p) shadow.now (memberships groups.now) tables.old tables.new }
 {
+    // law: groups ascend, within their limit
     groups.parts_ascend();
     for i in 0..groups.pairs() {
         if let Some(pair) = groups.pair(i) {
@@ -43,6 +44,7 @@ pub fn refresh_of_vlan(tables: &mut Tables, shadow: &Shadow, groups: &Mdb, vid: 
     requires { AreUsed (memberships groups.now) tables.old }
     ensures { RefreshesGroups (λ w. w == vid) shadow.now (memberships groups.now) tables.old tables.new }
 {
+    // law: groups ascend, within their limit
     groups.parts_ascend();
     for i in 0..groups.pairs() {
         if let Some(pair) = groups.pair(i) {
@@ -62,8 +64,10 @@ pub fn join(tables: &mut Tables, shadow: &Shadow, groups: &mut Mdb, v: Vid, g: G
     ensures follow { GroupsFollow shadow.now (memberships groups.new) tables.new }
     ensures rest { tables.new ≡ record tables.old { groups = tables.new.groups } }
 {
+    // law: the VLAN is in range
     let _number = v.number();
     groups.join(v, g, p, None);
+    // law: groups ascend, within their limit
     groups.parts_ascend();
     let row = group_row(tables, shadow, groups, v, g);
     tables.set_group(v, g, Some(row));
@@ -76,8 +80,10 @@ pub fn part(tables: &mut Tables, shadow: &Shadow, groups: &mut Mdb, v: Vid, g: G
     ensures follow { GroupsFollow shadow.now (memberships groups.new) tables.new }
     ensures rest { tables.new ≡ record tables.old { groups = tables.new.groups } }
 {
+    // law: the VLAN is in range
     let _number = v.number();
     groups.part(v, g, p);
+    // law: groups ascend, within their limit
     groups.parts_ascend();
     let row = if groups.members(v, g).is_empty() {
         None

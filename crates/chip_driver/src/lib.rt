@@ -11,6 +11,3 @@ pub mod shadow;
 mod switches;
 
 pub use driver::Driver;
-
-#[cfg(test)]
-mod tests;

@@ -48,5 +48,6 @@ pub fn mark_own(tables: &mut Tables, own: &Ports)
 pub fn host_is_elsewhere(d: &Domains)
     ensures { is_own d.now host ≡ false }
 {
+    // law: the host is in software's domain
     let _domain = d.of(Port::HOST);
 }

@@ -122,6 +122,7 @@ fn may_take(
     requires other { other.now ≡ port_at tables.now goal }
     ensures { (d : Domains) (t : Table) → Stands d tables.now t → result ≡ may t port goal vlan.now.vid }
 {
+    // law: the port is in range
     let _number = port.number();
     if !vlan.row.members.has(goal.number()) {
         return false;
@@ -146,6 +147,7 @@ fn send_by(tables: &Tables, port: Port, row: &PortRow, vlan: &Vlan, fan: &FanRow
     let alone = is_isolated(row);
     let ports = reached(tables, port, alone, &vlan.row, fan);
     let elsewhere = if alone { fan.isolated } else { fan.plain };
+    // law: the port is in range
     let _number = port.number();
     Out {
         class: class_by(elsewhere, ports.is_empty()),

@@ -76,6 +76,7 @@ fn port_of(entry: &AddressRow) -> Port
         Kind::Local => Port::HOST,
         Kind::Static | Kind::Learned | Kind::Extern => entry.port,
     };
+    // law: the port is in range
     let _number = port.number();
     port
 }

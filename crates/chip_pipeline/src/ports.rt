@@ -32,12 +32,14 @@ fn has_flag(row: &PortRow, flag: u8) -> bool
     row.flags.bits() >> flag & 1 == 1
 }
 
+/// Whether the port has the flag `isolated` (Linux's BR_ISOLATED).
 pub fn is_isolated(row: &PortRow) -> bool
     ensures { result ≡ row_has_flag row.now isolated }
 {
     has_flag(row, Flags::ISOLATED)
 }
 
+/// Whether the port has the flag `learning` (Linux's BR_LEARNING), whatever its state is.
 pub fn learns(row: &PortRow) -> bool
     ensures { result ≡ row_has_flag row.now learning_flag }
 {

@@ -40,6 +40,7 @@ pub fn is_for_tree(tables: &Tables, port: Port, row: &PortRow, head: &Head) -> b
     requires { row.now ≡ port_at tables.now port }
     ensures { (d : Domains) (t : Table) → Stands d tables.now t → result ≡ to_tree t port head.now }
 {
+    // law: the port is in range
     let _number = port.number();
     is_for_bridges(tables, head) && speaks(row, head)
 }

@@ -66,6 +66,7 @@ fn vlan_at(tables: &Tables, vid: Vid) -> Vlan
     ensures row { result.row ≡ vlan_at tables.now vid }
     ensures range { IsVid vid }
 {
+    // law: the VLAN is in range
     let _number = vid.number();
     Vlan {
         vid,

@@ -44,6 +44,7 @@ pub fn key(v: Vid, m: Mac) -> Key
     ensures some { packed (v, m) ≢ 0 }
     ensures below { m < 2 ^ 48 }
 {
+    // law: no key's number is 0
     let _ = number_of(&(v, m));
     (v, m)
 }

@@ -54,6 +54,7 @@ pub fn group_key(v: Vid, g: Group) -> GroupKey
     ensures some { number_of (v, g) ≢ 0 }
     ensures below { address_bits g < 2 ^ 128 }
 {
+    // law: no key's head is 0
     let _ = head(&(v, g));
     (v, g)
 }
@@ -64,6 +65,7 @@ fn head(key: &GroupKey) -> u64
     ensures some { 0 < result }
     ensures below { address_bits key.now.1 < 2 ^ 128 }
 {
+    // law: an address is below 2^128
     let _ = address(key.1);
     2 * u64::from(key.0.number()) + version(key.1)
 }

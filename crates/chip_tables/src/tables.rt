@@ -86,6 +86,7 @@ impl Tables {
         self.vlans.put(usize::from(v.number()), pack_vlan(&r));
     }
 
+    /// Where the VLAN's unicast, multicast or broadcast flood goes.
     pub fn flood(&self, v: Vid, f: Flood) -> FanRow
         ensures { result ≡ flood_at self.now v f }
     {
@@ -108,6 +109,7 @@ impl Tables {
         }
     }
 
+    /// Where frames go that are for multicast routers: the ports in the VLAN behind which one is known.
     pub fn router(&self, v: Vid) -> FanRow
         ensures { result ≡ router_at self.now v }
     {
@@ -144,6 +146,8 @@ impl Tables {
         is_on(&self.traps.row(i))
     }
 
+    /// Row 0 is that of 01-80-C2-00-00-00, rows 2 to 15 those of 01-80-C2-00-00-02 to 0F, row 16 that of IGMP, and 17 to 20
+    /// those of ICMPv6 types 130, 131, 132 and 143. Row 1 is no frame's.
     pub fn set_trap(&mut self, i: usize, on: bool)
         requires { i < 21 }
         ensures row { WritesTrap self.old self.new i on }

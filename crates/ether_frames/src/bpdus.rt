@@ -30,6 +30,28 @@ const VERSION_AT: usize = 19;
 
 const MESSAGE_TYPE_AT: usize = 20;
 
+/// Where the fields of a configuration message stand (IEEE 802.1D-1998 section 9.3.1): its flags, 1 byte.
+const FLAGS_AT: usize = 21;
+
+/// The identifier of the root, 8 bytes, and the cost of the path to it, 4 bytes.
+const ROOT_AT: usize = 22;
+
+const COST_AT: usize = 30;
+
+/// The identifier of the bridge that sends it, 8 bytes, and that of its port, 2 bytes.
+const BRIDGE_AT: usize = 34;
+
+const PORT_AT: usize = 42;
+
+/// Times of 2 bytes each: the message's age, then the max age, hello time and forward delay of the root.
+const AGE_AT: usize = 44;
+
+const MAX_AGE_AT: usize = 46;
+
+const HELLO_TIME_AT: usize = 48;
+
+const FORWARD_DELAY_AT: usize = 50;
+
 /// The type of a configuration message.
 const CONFIG_TYPE: u8 = 0x00;
 
@@ -78,15 +100,15 @@ fn config_at(b: &[u8]) -> BpduMsg
     ensures { result ≡ config_at b.now }
 {
     BpduMsg::Config {
-        flags: b[21],
-        root: BigEndian::read_u64(&b[22..]),
-        cost: BigEndian::read_u32(&b[30..]),
-        bridge: BigEndian::read_u64(&b[34..]),
-        port: BigEndian::read_u16(&b[42..]),
-        age: BigEndian::read_u16(&b[44..]),
-        max: BigEndian::read_u16(&b[46..]),
-        hello: BigEndian::read_u16(&b[48..]),
-        delay: BigEndian::read_u16(&b[50..]),
+        flags: b[FLAGS_AT],
+        root: BigEndian::read_u64(&b[ROOT_AT..]),
+        cost: BigEndian::read_u32(&b[COST_AT..]),
+        bridge: BigEndian::read_u64(&b[BRIDGE_AT..]),
+        port: BigEndian::read_u16(&b[PORT_AT..]),
+        age: BigEndian::read_u16(&b[AGE_AT..]),
+        max: BigEndian::read_u16(&b[MAX_AGE_AT..]),
+        hello: BigEndian::read_u16(&b[HELLO_TIME_AT..]),
+        delay: BigEndian::read_u16(&b[FORWARD_DELAY_AT..]),
     }
 }
 
@@ -109,15 +131,15 @@ pub fn bpdu_write(alloc: Global, own: Mac, m: &BpduMsg) -> Result<Bytes, NoMemor
             delay,
         } => {
             let mut frame = frame_from(own, CONFIG_LENGTH, CONFIG_TYPE);
-            frame[21] = flags;
-            BigEndian::write_u64(&mut frame[22..], root);
-            BigEndian::write_u32(&mut frame[30..], cost);
-            BigEndian::write_u64(&mut frame[34..], bridge);
-            BigEndian::write_u16(&mut frame[42..], port);
-            BigEndian::write_u16(&mut frame[44..], age);
-            BigEndian::write_u16(&mut frame[46..], max);
-            BigEndian::write_u16(&mut frame[48..], hello);
-            BigEndian::write_u16(&mut frame[50..], delay);
+            frame[FLAGS_AT] = flags;
+            BigEndian::write_u64(&mut frame[ROOT_AT..], root);
+            BigEndian::write_u32(&mut frame[COST_AT..], cost);
+            BigEndian::write_u64(&mut frame[BRIDGE_AT..], bridge);
+            BigEndian::write_u16(&mut frame[PORT_AT..], port);
+            BigEndian::write_u16(&mut frame[AGE_AT..], age);
+            BigEndian::write_u16(&mut frame[MAX_AGE_AT..], max);
+            BigEndian::write_u16(&mut frame[HELLO_TIME_AT..], hello);
+            BigEndian::write_u16(&mut frame[FORWARD_DELAY_AT..], delay);
             frame
         }
         BpduMsg::Tcn => frame_from(own, TCN_LENGTH, TCN_TYPE),

@@ -53,6 +53,7 @@ impl FlagTable {
         }
     }
 
+    /// `None` where the port has no flags.
     pub fn of(&self, port: Port) -> Option<Flags>
         ensures { result ≡ get nat_cmp self.now port }
     {
@@ -85,31 +86,35 @@ impl FlagTable {
         self.isolated = placed(self.isolated, port, has(bits, Flags::ISOLATED));
     }
 
-    /// The ports with the flag `learning`, and so on.
+    /// The ports with the flag `learning`: frames teach there (Linux's BR_LEARNING).
     pub fn learning(&self) -> Ports
         ensures { result ≡ flagged self.now learning_flag }
     {
         self.learning
     }
 
+    /// Those with `flood`: unknown unicast goes there (Linux's BR_FLOOD).
     pub fn flood(&self) -> Ports
         ensures { result ≡ flagged self.now flood }
     {
         self.flood
     }
 
+    /// Those with `mcast_flood`: multicast frames that are flooded go there (Linux's BR_MCAST_FLOOD).
     pub fn mcast_flood(&self) -> Ports
         ensures { result ≡ flagged self.now mcast_flood }
     {
         self.mcast_flood
     }
 
+    /// Those with `bcast_flood`: broadcasts go there (Linux's BR_BCAST_FLOOD).
     pub fn bcast_flood(&self) -> Ports
         ensures { result ≡ flagged self.now bcast_flood }
     {
         self.bcast_flood
     }
 
+    /// Those with `isolated`: none sends to another (Linux's BR_ISOLATED).
     pub fn isolated(&self) -> Ports
         ensures { result ≡ flagged self.now isolated }
     {

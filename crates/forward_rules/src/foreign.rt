@@ -35,6 +35,7 @@ fn has_foreign(domains: &Domains, port: Port, ports: Ports) -> bool
 {
     match domains.of(port) {
         Some(own) => {
+            // law: the members ascend
             ports.members_ascend();
             let same = Ports::from_word(domains.ports_of(own));
             !ports.minus(same).is_empty()
@@ -46,6 +47,7 @@ fn has_foreign(domains: &Domains, port: Port, ports: Ports) -> bool
 fn has_declared(domains: &Domains, ports: Ports) -> bool
     ensures { result ≡ list_any (λ q. is_some (domain_of domains.now q)) ports }
 {
+    // law: the members ascend
     ports.members_ascend();
     for number in 0..Port::COUNT {
         if ports.has(number) && is_declared(domains, number) {

@@ -121,6 +121,7 @@ impl PortTables {
     fn port_up(&mut self, port: Port)
         ensures { self.new ≡ apply self.old (Change.PortUp port) }
     {
+        // law: the members ascend
         self.up.members_ascend();
         self.up = self.up.with(port.number());
         self.flags.set(port, Flags::DEFAULT);
@@ -130,6 +131,7 @@ impl PortTables {
     fn port_down(&mut self, port: Port)
         ensures { self.new ≡ apply self.old (Change.PortDown port) }
     {
+        // law: the members ascend
         self.up.members_ascend();
         self.up = self.up.without(port.number());
         self.flags.clear(port);
@@ -160,6 +162,7 @@ impl PortTables {
     pub fn has_no_addresses(&self)
         ensures { self.now.addr ≡ [] }
     {
+        // law: the view has no addresses
         let _up = &self.up;
     }
 
@@ -183,12 +186,14 @@ impl PortTables {
         self.flags.of(port)
     }
 
+    /// The state of a port by Linux's number, 0 to 4, which one that is down may lack.
     pub fn state(&self, port: Port) -> Option<u8>
         ensures { result ≡ get nat_cmp self.now.state port }
     {
         self.states.of(port)
     }
 
+    /// Whether the port is a member of the VLAN.
     pub fn member(&self, port: Port, vid: Vid) -> bool
         ensures { result ≡ member self.now port vid }
     {
@@ -216,6 +221,7 @@ impl PortTables {
         self.mdb.has(vid, group, port)
     }
 
+    /// Whether a multicast router is known behind the port.
     pub fn is_router(&self, port: Port) -> bool
         ensures { result ≡ has nat_cmp self.now.routers port }
     {
@@ -355,6 +361,7 @@ impl PortTables {
     {
         if self.mdb.querier(six) {
             let routers = self.mdb.routers();
+            // law: the members ascend
             routers.members_ascend();
             routers
         } else {
@@ -370,6 +377,7 @@ impl PortTables {
         } else {
             let members = self.mdb.members(vid, group);
             let routers = self.mdb.routers();
+            // law: the members of both ascend
             members.members_ascend();
             routers.members_ascend();
             members.or(routers)

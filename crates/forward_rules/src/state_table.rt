@@ -48,12 +48,14 @@ impl StateTable {
         }
     }
 
+    /// The state by Linux's number; `None` where the port has none.
     pub fn of(&self, port: Port) -> Option<u8>
         ensures { result ≡ get nat_cmp self.now port }
     {
         self.by_port[usize::from(port.number())]
     }
 
+    /// Puts the port in a state. That Linux numbers it isn't tested.
     pub fn set(&mut self, port: Port, state: u8)
         ensures { self.new ≡ put nat_cmp self.old port state }
     {

@@ -26,6 +26,7 @@ pub fn remaining(ports: Ports, mark: Option<Mark>, d: &Domains) -> Ports
 {
     match mark {
         Some(mark) => {
+            // law: the members ascend
             ports.members_ascend();
             ports.minus(ports_of(d, mark.dom))
         }

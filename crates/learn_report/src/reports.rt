@@ -38,6 +38,7 @@ impl Model for Reports {
 }
 
 impl Reports {
+    /// No report waits and nothing was hit. It takes the room for all reports, but none for hits.
     pub fn make(alloc: Global) -> Result<Reports, NoMemory>
         ensures { IfOk result (λ r. r ≡ record { reports = []; hits = [] }) }
     {

@@ -82,6 +82,7 @@ impl Mdb {
         sections::has_room(&self.sections, &(v, g))
     }
 
+    /// Whether the port is a member of the group in the VLAN, with or without end.
     pub fn has(&self, v: Vid, g: Group, p: Port) -> bool
         ensures { result ≡ has membership_cmp (memberships self.now) (v, g, p) }
     {
@@ -279,6 +280,7 @@ impl Mdb {
         ensures versions { IsStrictlySortedBy nat_cmp (keys self.now.queriers) }
         ensures few { length (group_pairs (memberships self.now)) ≤ max_pairs }
     {
+        // law: the router ports ascend
         self.routers.ports_ascend();
     }
 

@@ -63,6 +63,7 @@ impl Members {
     fn put(&mut self, port: Port, end: Option<u64>)
         ensures { self.new ≡ put nat_cmp self.old port end }
     {
+        // law: the members ascend
         self.ports.members_ascend();
         self.ports = self.ports.with(port.number());
         match end {
@@ -74,6 +75,7 @@ impl Members {
     pub fn part(&mut self, port: Port)
         ensures { self.new ≡ without nat_cmp self.old port }
     {
+        // law: the members ascend
         self.ports.members_ascend();
         self.ports = self.ports.without(port.number());
         self.ends.clear(port);
@@ -138,6 +140,7 @@ impl Members {
     pub fn due(&self, now: u64) -> Ports
         ensures { result ≡ due_members now self.now }
     {
+        // law: the members ascend
         self.ports.members_ascend();
         self.ports.and(self.ends.due(now))
     }
@@ -146,6 +149,7 @@ impl Members {
     pub fn has_other(&self, port: Port) -> bool
         ensures { result ≡ has_some (without nat_cmp self.now port) }
     {
+        // law: the members ascend
         self.ports.members_ascend();
         self.ports.without(port.number()).first().is_some()
     }

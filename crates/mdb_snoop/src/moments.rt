@@ -50,6 +50,7 @@ impl Moments {
     pub fn set(&mut self, port: Port, moment: u64)
         ensures { self.new ≡ put nat_cmp self.old port moment }
     {
+        // law: the members ascend
         self.ports.members_ascend();
         self.ports = self.ports.with(port.number());
         write(&mut self.moments, port, moment);
@@ -58,6 +59,7 @@ impl Moments {
     pub fn clear(&mut self, port: Port)
         ensures { self.new ≡ without nat_cmp self.old port }
     {
+        // law: the members ascend
         self.ports.members_ascend();
         self.ports = self.ports.without(port.number());
     }
@@ -72,6 +74,7 @@ impl Moments {
     pub fn ports_ascend(&self)
         ensures { is_ascending nat_cmp self.now ≡ true }
     {
+        // law: the members ascend
         self.ports.members_ascend();
     }
 
@@ -123,6 +126,7 @@ impl Moments {
         ensures value { result ≡ due now self.now }
         ensures members { (n : ℕ) → has_number result n ≡ is_over now (get nat_cmp self.now n) }
     {
+        // law: the members ascend
         self.ports.members_ascend();
         let mut due = Ports::empty();
         for port in 0..Port::PLACES {

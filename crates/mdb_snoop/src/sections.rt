@@ -279,6 +279,7 @@ fn push_all(
 ) -> Result<(), NoMemory>
     ensures { IfOk result (λ _. out.new.items ≡ out.old.items ++ map (λ port. (vid, group, port)) ports) }
 {
+    // law: the members ascend
     ports.members_ascend();
     for number in 0..Port::PLACES {
         push_member(out, vid, group, number as u8, ports)?;

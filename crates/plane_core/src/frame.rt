@@ -38,6 +38,7 @@ impl Model for Frame {
 }
 
 impl Frame {
+    /// The frame whose header and message were read already. `id` is its number among those that entered.
     pub fn of(
         id: u32,
         port: Port,
@@ -93,6 +94,7 @@ impl Frame {
         &self.message
     }
 
+    /// The domain whose chip has sent the frame to its own ports already, if one has.
     pub fn mark(&self) -> Option<Mark>
         ensures { domain_marked result ≡ self.now.mark }
     {
@@ -116,6 +118,7 @@ impl Model for Holding {
 }
 
 impl Holding {
+    /// `floor` is how many changes are published when the frame is held.
     pub fn of(frame: Frame, floor: u32) -> Holding
         ensures { result ≡ record { waiting = frame; floor = floor } }
     {

@@ -483,6 +483,7 @@ impl Plane {
         ensures world { IsWorld self.now.world }
         ensures domains { self.now.board.domains ≡ self.now.world.setup.domains }
     {
+        // law: the board has the bridge's domains
         self.sides.stands();
     }
 }

@@ -314,6 +314,7 @@ impl Sides {
         requires { is_in_domain self.now.setup.domains chip port ≡ true }
         ensures { IsPass self.now.setup.domains (chip_side self.now) port head.now message.now result }
     {
+        // law: the host is in software's domain
         let _host = self.bridge.domains().of(Port::HOST);
         pass(self.chip.tables(), port, head, message)
     }
@@ -449,6 +450,7 @@ impl Sides {
     pub(crate) fn stands(&self)
         ensures { self.now.board.domains ≡ self.now.setup.domains }
     {
+        // law: the invariant says it
         let _bridge = &self.bridge;
     }
 }

@@ -22,6 +22,7 @@ use std::alloc::Global;
 fn is_own(tables: &Tables, port: Port) -> bool
     ensures { (domains : Domains) (t : Table) → PortsStand domains tables.now t → result ≡ is_in_domain domains chip port }
 {
+    // law: the port is in range
     let _number = port.number();
     tables.port(port).own
 }

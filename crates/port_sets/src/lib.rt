@@ -170,6 +170,7 @@ impl<const W: usize> PortSet<W> {
         ensures below { All (λ n. n < 64 * W) result }
         ensures few { length result ≤ 64 * W }
     {
+        // law: the members ascend
         self.members_ascend();
         Members { left: *self }
     }
@@ -181,6 +182,7 @@ impl<const W: usize> PortSet<W> {
         ensures below { All (λ n. n < 64 * W) self.now }
         ensures few { length self.now ≤ 64 * W }
     {
+        // law: the invariant says it
         let _words = &self.words;
     }
 }

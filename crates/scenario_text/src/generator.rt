@@ -63,7 +63,7 @@ impl Model for Generator {
 }
 
 impl Generator {
-    /// Before the first of so many frames.
+    /// Before the first of so many frames. `x` is the NUMBER of `gen`, the first state.
     pub fn new(x: u64, count: u32) -> Generator
         requires { count ≤ most_frames }
         ensures first { result ≡ first x count }

@@ -6,8 +6,6 @@ mod generator;
 mod lines;
 mod listing;
 mod reading;
-#[cfg(test)]
-mod tests;
 mod words;
 mod write;
 

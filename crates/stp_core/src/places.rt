@@ -52,6 +52,7 @@ pub(crate) fn ports_where<T: Test>(test: &T, places: &Places) -> Ports
             }
         }
     }
+    // law: the members ascend
     ports.members_ascend();
     ports
 }

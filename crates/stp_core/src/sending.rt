@@ -93,6 +93,7 @@ impl Parameters {
 fn union(a: Ports, b: Ports) -> Ports
     ensures { result ≡ union a b }
 {
+    // law: the members of both ascend
     a.members_ascend();
     b.members_ascend();
     a.or(b)

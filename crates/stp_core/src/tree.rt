@@ -76,8 +76,11 @@ impl Tree {
         ensures spoken { HaveSent self.new result.config }
         ensures known { knows_states self.new ≡ true }
     {
+        // law: the states are Linux's numbers
         self.states_are_known();
+        // law: events keep the states known
         known_states();
+        // law: what went out can be read
         messages_went_out();
         match event {
             TreeEvent::Switch(on) => self.switch(*on, now),
@@ -98,6 +101,7 @@ impl Tree {
         ensures tree { self.new ≡ (tree_step self.old now (Switch on)).tree }
         ensures out { result ≡ out_of self.old (tree_step self.old now (Switch on)) }
     {
+        // law: events keep the states known
         known_states();
         let before = self.parameters.places();
         let sent = self.parameters.turn(on, now);
@@ -111,6 +115,7 @@ impl Tree {
         ensures tree { self.new ≡ (tree_step self.old now (Up p)).tree }
         ensures out { result ≡ out_of self.old (tree_step self.old now (Up p)) }
     {
+        // law: events keep the states known
         known_states();
         let before = self.parameters.places();
         let sent = self.parameters.bring_up(p.number(), now);
@@ -124,6 +129,7 @@ impl Tree {
         ensures tree { self.new ≡ (tree_step self.old now (Down p)).tree }
         ensures out { result ≡ out_of self.old (tree_step self.old now (Down p)) }
     {
+        // law: events keep the states known
         known_states();
         let before = self.parameters.places();
         let sent = self.parameters.take_down(p.number(), now);
@@ -138,6 +144,7 @@ impl Tree {
         ensures tree { self.new ≡ (tree_step self.old now (Message p m.now)).tree }
         ensures out { result ≡ out_of self.old (tree_step self.old now (Message p m.now)) }
     {
+        // law: events keep the states known
         known_states();
         let before = self.parameters.places();
         let sent = self.parameters.receive(p.number(), m, now);
@@ -173,6 +180,7 @@ impl Tree {
         ensures tree { self.new ≡ (tree_step self.old now Moment).tree }
         ensures out { result ≡ out_of self.old (tree_step self.old now Moment) }
     {
+        // law: events keep the states known
         known_states();
         let before = self.parameters.places();
         let sent = self.parameters.pass_moment(now);
@@ -186,6 +194,7 @@ impl Tree {
         ensures tree { self.new ≡ (tree_step self.old now (Cost p n)).tree }
         ensures out { result ≡ out_of self.old (tree_step self.old now (Cost p n)) }
     {
+        // law: events keep the states known
         known_states();
         let before = self.parameters.places();
         let sent = self.parameters.set_cost_at(p.number(), n, now);
@@ -200,6 +209,7 @@ impl Tree {
         ensures tree { self.new ≡ (tree_step self.old now (ranking p n)).tree }
         ensures out { result ≡ out_of self.old (tree_step self.old now (ranking p n)) }
     {
+        // law: events keep the states known
         known_states();
         let before = self.parameters.places();
         let sent = self.parameters.set_priority_at(p, n, now);
@@ -212,6 +222,7 @@ impl Tree {
         ensures value { result ≡ state_at self.now p }
         ensures below { result ≤ 4 }
     {
+        // law: a known state is at most 4
         known_states();
         self.parameters.state(p)
     }
@@ -220,6 +231,7 @@ impl Tree {
     pub fn states_are_known(&self)
         ensures { knows_states self.now ≡ true }
     {
+        // law: the invariant says it
         let _parameters = &self.parameters;
     }
 

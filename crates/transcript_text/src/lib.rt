@@ -7,8 +7,6 @@ mod frames;
 mod numbers;
 mod reader;
 mod starts;
-#[cfg(test)]
-mod tests;
 mod words;
 mod writer;
 

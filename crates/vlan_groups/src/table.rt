@@ -117,6 +117,7 @@ impl VlanTable {
         pvid_of(&self.pvids, p)
     }
 
+    /// Whether the port is a member of the VLAN.
     pub fn member(&self, p: Port, v: Vid) -> bool
         ensures { result ≡ is_member self.now p v }
     {

@@ -1,31 +1,13 @@
--- The step of the world, by cases.
+-- The step of the world, by cases. Steps of a chip name its domain.
 -- Source: this profile.
-use Rattle.std.specs.Prelude.{ℕ, ◌+◌, ◌==◌, if◌then◌else◌, List, [], ◌∷◌, ◌++◌, length}
-use Rattle.std.specs.declared.option.Option.{Option}
-use Rattle.br_model.specs.declared.steps.Command.{Command}
+use Rattle.std.specs.Prelude.{ℕ, ◌+◌, ◌==◌, if◌then◌else◌, [], ◌∷◌, ◌++◌, length}
 use Rattle.br_model.specs.declared.steps.Event.TheVariants as events
-use Rattle.br_model.specs.Table.Cut.{deferred_at}
+use Rattle.br_model.specs.declared.steps.Step.{Step}
+use Rattle.br_model.specs.declared.steps.Step.TheVariants.{Rx, Cmd, Now, Serve, Hold, Post, Turn, Report, Sweep, Publish}
 use Rattle.br_model.specs.Plane.ChipSteps.{turns, reports, sweeps}
 use Rattle.br_model.specs.Plane.Entering.{enters}
 use Rattle.br_model.specs.Plane.Serving.{serves, holds, held_with, posts_at}
-use Rattle.br_model.specs.Plane.World.{World, Stepped, done, answered, reacts}
-
-pub data Step : Type 0 where
-  -- a frame enters at a port
-  Rx : ℕ → List ℕ → Step
-  Cmd : Command → Step
-  -- the moment comes, in milliseconds from the start
-  Now : ℕ → Step
-  -- the oldest frame that waits is decided and sent; or it is held, and then decided and sent by its id, at its floor or at a point
-  Serve : Step
-  Hold : Step
-  Post : ℕ → Option ℕ → Step
-  -- the chip applies a deferred change, tells a report, forgets what it no longer sees
-  Turn : Step
-  Report : Step
-  Sweep : Step
-  -- software decides by all accepted changes from now on
-  Publish : Step
+use Rattle.br_model.specs.Plane.World.{World, Stepped, chip_at, done, answered, reacts}
 
 -- a count is published once, however often it is
 abbrev pub publishes : World → ℕ → World
@@ -39,9 +21,9 @@ does w (Now moment) = answered w w (reacts w (events.Moment moment))
 does w Serve = serves w w.waiting
 does w Hold = holds w w.waiting
 does w (Post id point) = posts_at w (held_with w id) point
-does w Turn = turns w (deferred_at w.history w.chip.count)
-does w Report = reports w w.chip.reports
-does w Sweep = sweeps w
+does w (Turn dom) = turns w (chip_at w dom)
+does w (Report dom) = reports w (chip_at w dom)
+does w (Sweep dom) = sweeps w (chip_at w dom)
 does w Publish = done (publishes w (length w.history))
 
 -- Each step is counted, a refused one too.

@@ -1,7 +1,8 @@
 -- The world of a bridge with a chip: its state, and how its steps end.
 -- Source: this profile.
-use Rattle.std.specs.Prelude.{ℕ, List, [], ◌∷◌, ◌++◌, map, length, take}
+use Rattle.std.specs.Prelude.{ℕ, ◌==◌, if◌then◌else◌, List, [], ◌∷◌, ◌++◌, map, length, take}
 use Rattle.std.specs.declared.option.Option.{Option}
+use Rattle.std.specs.declared.option.Option.TheVariants.{None, Some}
 use Rattle.std.specs.declared.result.Result.{Result}
 use Rattle.std.specs.declared.result.Result.TheVariants.{Ok, Err}
 use Rattle.br_model.specs.declared.bpdu.BpduMsg.{BpduMsg}
@@ -15,6 +16,8 @@ use Rattle.br_model.specs.Wire.Bpdus.{written}
 use Rattle.br_model.specs.Plane.Chip.{Chip, first_chip, chip_table}
 use Rattle.br_model.specs.Control.Control.{Control, first_control}
 use Rattle.br_model.specs.Control.Reaction.{Reaction, react}
+use Rattle.br_model.specs.Table.Cut.{deferred_at}
+use Rattle.br_model.specs.Table.Domains.{chip}
 use Rattle.br_model.specs.Table.Setup.{Setup}
 use Rattle.br_model.specs.Table.Table.{Table, table}
 
@@ -74,6 +77,18 @@ table_at w point = table (take point w.history)
 -- the table by which the chip decides
 abbrev pub table_of_chip : World → Table
 table_of_chip w = chip_table w.history w.chip
+
+-- the chip of this domain
+abbrev pub chip_at : World → ℕ → Option Chip
+chip_at w dom = if dom == chip then Some w.chip else None
+
+-- with this one in the place of that of its domain
+abbrev pub with_chip : World → Chip → World
+with_chip w c = record w { chip = c }
+
+-- the deferred change that a chip applies next
+abbrev pub next_of : World → Chip → Option Change
+next_of w c = deferred_at w.history c.count
 
 -- the lines of a frame that is sent
 abbrev pub sent : ℕ → List (ℕ × List ℕ) → List Line

@@ -50,7 +50,7 @@ each d i step = if i % d == 0 then step ∷ [] else []
 -- report is taken, behind each fifth the chip has a turn, each seventh is followed by a publication, and each 64th by a moment.
 abbrev pub frame_steps : ℕ → ℕ → List Step
 frame_steps i n =
-    Rx (n % 6 + 1) (frame n) ∷ Serve ∷ (each 3 i Report ++ (each 5 i Turn ++ (each 7 i Publish ++ each 64 i (Now (1000 * i)))))
+    Rx (n % 6 + 1) (frame n) ∷ Serve ∷ (each 3 i (Report chip) ++ (each 5 i (Turn chip) ++ (each 7 i Publish ++ each 64 i (Now (1000 * i)))))
 
 -- those of so many frames from frame i on, where the state is x; it goes on before each frame
 unfoldable pub frames_from : ℕ → ℕ → ℕ → List Step

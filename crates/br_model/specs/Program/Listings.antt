@@ -17,7 +17,7 @@ use Rattle.br_model.specs.Data.Maps.{get}
 use Rattle.br_model.specs.Text.Roster.{Entry}
 use Rattle.br_model.specs.Program.Runs.{run_of}
 use Rattle.br_model.specs.Text.Scenario.{Scenario, Ending, Going, Ended, Bad, scenario}
-use Rattle.br_model.specs.Text.ScenarioText.{mac_text, dotted, groups_of_four, kind_word, device_text, further}
+use Rattle.br_model.specs.Text.Spelling.{mac_text, dotted, groups_of_four, kind_word, device_text, further}
 use Rattle.br_model.specs.Table.Table.{Table, table}
 use Rattle.br_model.specs.Text.Transcript.{bad_text}
 

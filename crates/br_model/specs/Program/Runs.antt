@@ -1,7 +1,6 @@
 -- What a replay writes for the bytes of a scenario: the run of the world with a chip.
 -- Source: this profile.
-use Rattle.std.specs.Prelude.{ℕ, List, [], ◌∷◌, ◌++◌, map, codes}
-use Rattle.br_model.specs.Plane.Naming.{named}
+use Rattle.std.specs.Prelude.{ℕ, List, [], ◌∷◌, ◌++◌, codes}
 use Rattle.br_model.specs.Plane.Runs.{run, end_line}
 use Rattle.br_model.specs.Plane.World.{World, Stepped}
 use Rattle.br_model.specs.Text.Roster.{Roster, domains_of}
@@ -14,7 +13,7 @@ setup_of roster = record { domains = domains_of roster.ports; own = roster.own }
 
 -- the run of what a scenario has said
 abbrev pub run_of : Scenario → Stepped
-run_of s = run (setup_of s.roster) (map named s.steps)
+run_of s = run (setup_of s.roster) s.steps
 
 -- the first line, and the text of the steps' lines
 abbrev pub body_of : Stepped → List ℕ

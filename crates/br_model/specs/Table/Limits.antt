@@ -2,6 +2,8 @@
 -- Source: this profile.
 use Rattle.std.specs.Prelude.{ℕ, ◌<◌, ◌≤◌, nat_le, nat_lt, Bool, true, ◌&&◌, ◌||◌, IsTrue, List, [], ◌∷◌, length, take, get_or}
 use Rattle.std.specs.Option.{is_some}
+use Rattle.br_model.specs.declared.change.Asks.{Asks}
+use Rattle.br_model.specs.declared.change.Asks.TheVariants.{Nothing, State, GroupRoom, AddressRoom}
 use Rattle.br_model.specs.declared.change.Change.{Change}
 use Rattle.br_model.specs.declared.change.Change.TheVariants.{PortUp, PortDown, SetFlags, SetState, VlanAdd, VlanDel, GroupJoin, GroupPart, Router, Querier, Snoop, Stp, AddrPut, AddrDel}
 use Rattle.br_model.specs.Table.GroupPairs.{has_room}
@@ -28,23 +30,35 @@ most_reports = 256
 abbrev pub most_addresses : ℕ
 most_addresses = 16384
 
--- Whether the table holds its limits after the change: an address that is there may move, and a group that is there may have
--- more members; a new one wants room. A state is one of Linux's five, 0 to 4.
+-- What a change asks for: a state that it sets is to be one of Linux's, and a pair of VLAN and group or an address that comes
+-- wants room.
+abbrev pub asks : Change → Asks
+asks (PortUp port) = Nothing
+asks (PortDown port) = Nothing
+asks (SetFlags port flags) = Nothing
+asks (SetState port state) = State state
+asks (VlanAdd port vid untagged pvid) = Nothing
+asks (VlanDel port vid) = Nothing
+asks (GroupJoin port vid group) = GroupRoom vid group
+asks (GroupPart port vid group) = Nothing
+asks (Router port on) = Nothing
+asks (Querier six on) = Nothing
+asks (Snoop on) = Nothing
+asks (Stp on) = Nothing
+asks (AddrPut vid mac port kind) = AddressRoom vid mac
+asks (AddrDel vid mac) = Nothing
+
+-- Whether the table has what is asked for: a group that is there may have more members, and an address that is there may move;
+-- a new one wants room. The states are 0 to 4.
+abbrev pub grants : Table → Asks → Bool
+grants t Nothing = true
+grants t (State state) = nat_le state 4
+grants t (GroupRoom vid group) = has_room t.groups vid group
+grants t (AddressRoom vid mac) = is_some (get pair_cmp t.addr (vid, mac)) || nat_lt (length t.addr) most_addresses
+
+-- Whether the table holds its limits after the change.
 abbrev pub fits : Table → Change → Bool
-fits t (PortUp port) = true
-fits t (PortDown port) = true
-fits t (SetFlags port flags) = true
-fits t (SetState port state) = nat_le state 4
-fits t (VlanAdd port vid untagged pvid) = true
-fits t (VlanDel port vid) = true
-fits t (GroupJoin port vid group) = has_room t.groups vid group
-fits t (GroupPart port vid group) = true
-fits t (Router port on) = true
-fits t (Querier six on) = true
-fits t (Snoop on) = true
-fits t (Stp on) = true
-fits t (AddrPut vid mac port kind) = is_some (get pair_cmp t.addr (vid, mac)) || nat_lt (length t.addr) most_addresses
-fits t (AddrDel vid mac) = true
+fits t c = grants t (asks c)
 
 -- whether each of the changes fits the table that it finds, which those before it have made
 abbrev pub all_fit : Table → List Change → Bool

@@ -1,21 +1,28 @@
--- The operands of a line: what each kind is called in a form, and how it is read: its value, or its cause.
--- Source: this profile; addresses are spelled as iproute2 spells them, with colons.
-use Rattle.std.specs.Prelude.{ℕ, ◌==◌, nat_le, Bool, true, not, ◌&&◌, if◌then◌else◌, List, [], ◌∷◌, length, codes, slice_index_or}
+-- The operands of a line: what each kind is called in a form, how it is read (its value, or its cause), how its value is written,
+-- and which values words give.
+-- Source: this profile; a VLAN is from 1 to 4094 (IEEE 802.1Q-2018 section 9.6), an address of one station has an even first byte
+-- (IEEE 802.3 clause 3.2.3).
+use Rattle.std.specs.Prelude.{ℕ, ◌^◌, ◌==◌, nat_lt, nat_le, Bool, true, not, ◌&&◌, ◌||◌, if◌then◌else◌, List, [], ◌∷◌, length, codes, slice_index_or}
+use Rattle.std.specs.Fmt.{decimal}
+use Rattle.std.specs.List.{list_all, list_any}
 use Rattle.std.specs.declared.option.Option.{Option}
 use Rattle.std.specs.declared.option.Option.TheVariants.{None, Some}
 use Rattle.std.specs.declared.result.Result.{Result}
 use Rattle.std.specs.declared.result.Result.TheVariants.{Ok, Err}
 use Rattle.std.specs.Option.{is_some}
 use Rattle.br_model.specs.declared.group.Ip.{Ip}
+use Rattle.br_model.specs.declared.group.Ip.TheVariants.{V4, V6}
 use Rattle.br_model.specs.declared.scenario.LineWhy.{LineWhy}
 use Rattle.br_model.specs.declared.scenario.LineWhy.TheVariants as why
 use Rattle.std.specs.Str.{bytes_eq}
-use Rattle.br_model.specs.Data.Digits.{decimal_from, bytes_from_hex, station}
+use Rattle.br_model.specs.Data.Digits.{decimal_from, bytes_from_hex, hex_of, station}
+use Rattle.br_model.specs.Data.Numbers.{is_multicast}
 use Rattle.br_model.specs.Table.Domains.{host, last_port}
-use Rattle.br_model.specs.Text.FlagWords.{flags, flag_named}
+use Rattle.br_model.specs.Text.FlagWords.{flags, flag_named, name_of_flag}
 use Rattle.br_model.specs.Text.IpWords.{address}
 use Rattle.br_model.specs.Text.Roster.{Entry, has_number, port_named, is_name, host_name}
-use Rattle.br_model.specs.Text.Words.{Word}
+use Rattle.br_model.specs.Text.Spelling.{name_of, device_text, mac_text, ip_text}
+use Rattle.br_model.specs.Text.Words.{Word, is_word}
 
 pub data Operand : Type 0 where
   -- a decimal number from the first to the second
@@ -183,3 +190,64 @@ can_stand Station word = true
 can_stand GroupAddress word = true
 can_stand Hex word = true
 can_stand Flag word = is_some (flag_named flags word)
+
+-- writing
+
+-- how a value is written
+abbrev pub spelled : List Entry → (o : Operand) → Value o → Word
+spelled ports (Number low high) n = decimal n
+spelled ports NewPort port = decimal port
+spelled ports NewName name = name
+spelled ports PortNumber port = decimal port
+spelled ports PortName port = name_of ports port
+spelled ports Device port = device_text ports port
+spelled ports Station mac = mac_text mac
+spelled ports GroupAddress address = ip_text address
+spelled ports Hex bytes = hex_of bytes
+spelled ports Flag flag = name_of_flag flags flag
+
+-- an address of one station
+abbrev pub is_station : ℕ → Bool
+is_station mac = nat_lt mac (2 ^ 48) && not (is_multicast mac || mac == 0)
+
+-- an address of 32 bits, or of 128
+abbrev pub is_ip : Ip → Bool
+is_ip (V4 n) = nat_lt n (2 ^ 32)
+is_ip (V6 n) = nat_lt n (2 ^ 128)
+
+-- a declared port, or the host
+abbrev pub is_device : List Entry → ℕ → Bool
+is_device ports port = port == host || has_number ports port
+
+-- the bit of a flag that has a name
+abbrev pub is_flag : ℕ → Bool
+is_flag flag = list_any (λ f. f.1 == flag) flags
+
+abbrev pub is_byte : ℕ → Bool
+is_byte b = nat_lt b 256
+
+-- the values that words give
+abbrev pub in_range : List Entry → (o : Operand) → Value o → Bool
+in_range ports (Number low high) n = nat_le low n && nat_le n high
+in_range ports NewPort port = (nat_le 1 port && nat_le port last_port) && not (has_number ports port)
+in_range ports NewName name = is_name name && not (is_some (port_named ports name))
+in_range ports PortNumber port = has_number ports port
+in_range ports PortName port = has_number ports port
+in_range ports Device port = is_device ports port
+in_range ports Station mac = is_station mac
+in_range ports GroupAddress address = is_ip address
+in_range ports Hex bytes = is_word bytes && list_all is_byte bytes
+in_range ports Flag flag = is_flag flag
+
+-- whether a value that names a port names a declared one
+abbrev pub is_known : List Entry → (o : Operand) → Value o → Bool
+is_known ports (Number low high) n = true
+is_known ports NewPort port = true
+is_known ports NewName name = true
+is_known ports PortNumber port = has_number ports port
+is_known ports PortName port = has_number ports port
+is_known ports Device port = is_device ports port
+is_known ports Station mac = true
+is_known ports GroupAddress address = true
+is_known ports Hex bytes = true
+is_known ports Flag flag = true

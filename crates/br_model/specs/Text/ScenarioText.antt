@@ -1,113 +1,40 @@
 -- Steps as lines of a scenario.
--- Source: this profile; addresses are spelled as iproute2 spells them, with colons.
-use Rattle.std.specs.Prelude.{ℕ, ◌+◌, ◌/◌, ◌%◌, ◌^◌, ◌==◌, Bool, if◌then◌else◌, List, [], ◌∷◌, ◌++◌, take, codes}
-use Rattle.std.specs.Fmt.{decimal}
-use Rattle.br_model.specs.declared.change.Kind.{Kind}
-use Rattle.br_model.specs.declared.change.Kind.TheVariants.{Local, Static, Learned, Extern}
-use Rattle.br_model.specs.declared.group.Ip.{Ip}
-use Rattle.br_model.specs.declared.group.Ip.TheVariants.{V4, V6}
-use Rattle.br_model.specs.declared.steps.Command.{Command}
-use Rattle.br_model.specs.declared.steps.Command.TheVariants as commands
+-- Source: this profile.
+use Rattle.std.specs.Prelude.{ℕ, Bool, false, List, [], ◌∷◌, ◌++◌}
+use Rattle.std.specs.declared.option.Option.{Option}
+use Rattle.std.specs.declared.option.Option.TheVariants.{None, Some}
 use Rattle.br_model.specs.declared.steps.Step.{Step}
-use Rattle.br_model.specs.declared.steps.Step.TheVariants.{Rx, Cmd, Now, Serve, Turn, Report, Sweep, Publish}
-use Rattle.br_model.specs.Data.Digits.{hex_of}
-use Rattle.br_model.specs.Table.Domains.{host}
-use Rattle.br_model.specs.Text.FlagWords.{flags, name_of_flag}
-use Rattle.br_model.specs.Wire.Frames.{longest_frame}
-use Rattle.br_model.specs.Text.Roster.{Entry, host_name}
-use Rattle.br_model.specs.Text.Words.{Word}
+use Rattle.br_model.specs.Text.Forms.{Form, words_of, all_values}
+use Rattle.br_model.specs.Text.LineForms.{step_form}
+use Rattle.br_model.specs.Text.Operands.{in_range, is_known}
+use Rattle.br_model.specs.Text.Roster.{Entry}
+use Rattle.br_model.specs.Text.Words.{Word, joined}
 
--- the name of a declared port
-abbrev pub name_of : List Entry → ℕ → Word
-name_of [] port = []
-name_of (e ∷ ports) port = if e.port == port then e.name else name_of ports port
-
--- the byte of an address that stands so many bits above its lowest
-abbrev pub byte_at : ℕ → ℕ → ℕ
-byte_at mac bits = mac / 2 ^ bits % 256
-
--- six pairs of digits, joined by colons
-abbrev pub mac_text : ℕ → Word
-mac_text mac =
-    hex_of (byte_at mac 40 ∷ []) ++ (58 ∷ hex_of (byte_at mac 32 ∷ []) ++ (58 ∷ hex_of (byte_at mac 24 ∷ []) ++ (58 ∷
-    hex_of (byte_at mac 16 ∷ []) ++ (58 ∷ hex_of (byte_at mac 8 ∷ []) ++ (58 ∷ hex_of (byte_at mac 0 ∷ []))))))
-
--- four decimal numbers, joined by dots
-abbrev pub dotted : ℕ → Word
-dotted n =
-    decimal (byte_at n 24) ++ (46 ∷ decimal (byte_at n 16) ++ (46 ∷ decimal (byte_at n 8) ++ (46 ∷ decimal (byte_at n 0))))
-
--- the four digits of the two bytes that stand so many bits above the lowest
-abbrev pub digits_at : ℕ → ℕ → Word
-digits_at n bits = hex_of (byte_at n (bits + 8) ∷ byte_at n bits ∷ [])
-
--- eight groups of four digits, joined by colons
-abbrev pub groups_of_four : ℕ → Word
-groups_of_four n =
-    digits_at n 112 ++ (58 ∷ digits_at n 96 ++ (58 ∷ digits_at n 80 ++ (58 ∷ digits_at n 64 ++ (58 ∷
-    digits_at n 48 ++ (58 ∷ digits_at n 32 ++ (58 ∷ digits_at n 16 ++ (58 ∷ digits_at n 0)))))))
-
-abbrev pub ip_text : Ip → Word
-ip_text (V4 n) = dotted n
-ip_text (V6 n) = groups_of_four n
-
-abbrev pub kind_word : Kind → Word
-kind_word Local = codes "local"
-kind_word Static = codes "static"
-kind_word Learned = codes "learned"
-kind_word Extern = codes "extern"
-
--- the name of a declared port, or of the host
-abbrev pub device_text : List Entry → ℕ → Word
-device_text ports port = if port == host then host_name else name_of ports port
-
-abbrev pub switch_word : Bool → Word
-switch_word on = if on then codes "on" else codes "off"
-
--- the word with a space before it, where it is to stand
-abbrev pub further : Bool → Word → Word
-further stands word = if stands then 32 ∷ word else []
-
--- the words after `cmd`
-abbrev pub command_text : List Entry → Command → List ℕ
-command_text ports (commands.PortUp port) = codes "port up " ++ name_of ports port
-command_text ports (commands.PortDown port) = codes "port down " ++ name_of ports port
-command_text ports (commands.Link port flag on) =
-    codes "link " ++ (name_of ports port ++ (32 ∷ (name_of_flag flags flag ++ (32 ∷ switch_word on))))
-command_text ports (commands.Cost port n) = codes "link " ++ (name_of ports port ++ (codes " cost " ++ decimal n))
-command_text ports (commands.PortPriority port n) = codes "link " ++ (name_of ports port ++ (codes " priority " ++ decimal n))
-command_text ports (commands.VlanAdd port vid untagged pvid) =
-    codes "vlan add vid " ++ (decimal vid ++ (codes " dev " ++ (device_text ports port
-    ++ (further pvid (codes "pvid") ++ further untagged (codes "untagged")))))
-command_text ports (commands.VlanDel port vid) = codes "vlan del vid " ++ (decimal vid ++ (codes " dev " ++ device_text ports port))
-command_text ports (commands.FdbAdd vid mac port kind) =
-    codes "fdb add " ++ (mac_text mac ++ (codes " dev " ++ (device_text ports port ++ (codes " vlan " ++ (decimal vid ++ (32 ∷ kind_word kind))))))
-command_text ports (commands.FdbDel vid mac) = codes "fdb del " ++ (mac_text mac ++ (codes " vlan " ++ decimal vid))
-command_text ports (commands.MdbAdd port vid group) =
-    codes "mdb add " ++ (ip_text group ++ (codes " dev " ++ (device_text ports port ++ (codes " vlan " ++ decimal vid))))
-command_text ports (commands.MdbDel port vid group) =
-    codes "mdb del " ++ (ip_text group ++ (codes " dev " ++ (device_text ports port ++ (codes " vlan " ++ decimal vid))))
-command_text ports (commands.Stp on) = codes "stp " ++ switch_word on
-command_text ports (commands.Priority n) = codes "stp priority " ++ decimal n
-command_text ports (commands.Ageing seconds) = codes "ageing " ++ decimal seconds
-command_text ports (commands.Snooping on) = codes "snooping " ++ switch_word on
-
--- The bytes by which a frame is written: of one that is too long, enough to tell; a byte of one that has none.
-abbrev pub shown : List ℕ → List ℕ
-shown [] = 0 ∷ []
-shown (byte ∷ bytes) = take (longest_frame + 1) (byte ∷ bytes)
+-- a step that no line gives has no words
+abbrev pub words_in : List Entry → Option Form → List Word
+words_in ports None = []
+words_in ports (Some f) = words_of ports f.shape f.values
 
 -- a step's line, without its line feed
 abbrev pub step_words : List Entry → Step → List ℕ
-step_words ports (Rx port bytes) = codes "rx " ++ (decimal port ++ (32 ∷ hex_of (shown bytes)))
-step_words ports (Cmd command) = codes "cmd " ++ command_text ports command
-step_words ports (Now moment) = codes "now " ++ decimal moment
-step_words ports Serve = codes "serve"
-step_words ports Turn = codes "turn 1"
-step_words ports Report = codes "report 1"
-step_words ports Sweep = codes "sweep 1"
-step_words ports Publish = codes "publish"
+step_words ports step = joined (words_in ports (step_form step))
 
 -- and with it
 abbrev pub step_text : List Entry → Step → List ℕ
 step_text ports step = step_words ports step ++ 10 ∷ []
+
+abbrev pub fits_in : List Entry → Option Form → Bool
+fits_in ports None = false
+fits_in ports (Some f) = all_values (in_range ports) f.shape f.values
+
+-- Whether a line can give the step where these ports are declared. A frame may be of any length.
+abbrev pub has_line : List Entry → Step → Bool
+has_line ports step = fits_in ports (step_form step)
+
+abbrev pub knows_in : List Entry → Option Form → Bool
+knows_in ports None = false
+knows_in ports (Some f) = all_values (is_known ports) f.shape f.values
+
+-- whether the step has a form, and the ports that it names are declared
+abbrev pub names_declared : List Entry → Step → Bool
+names_declared ports step = knows_in ports (step_form step)

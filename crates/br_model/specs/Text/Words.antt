@@ -1,6 +1,6 @@
 -- The words of a line.
 -- Source: this profile.
-use Rattle.std.specs.Prelude.{ℕ, ◌==◌, Bool, true, false, if◌then◌else◌, List, [], ◌∷◌, map}
+use Rattle.std.specs.Prelude.{ℕ, ◌==◌, Bool, true, false, if◌then◌else◌, List, [], ◌∷◌, ◌++◌, map}
 use Rattle.std.specs.Char.{is_ascii}
 use Rattle.std.specs.List.{filter, list_all, slice_split}
 
@@ -22,6 +22,12 @@ readable word = if list_all is_ascii word then word else replacement
 -- what stands between the spaces
 abbrev pub words : List ℕ → List Word
 words line = map readable (filter is_word (slice_split (λ c. c == 32) line))
+
+-- words with a space between each two
+abbrev pub joined : List Word → List ℕ
+joined [] = []
+joined (w ∷ []) = w
+joined (w ∷ v ∷ ws) = w ++ 32 ∷ joined (v ∷ ws)
 
 -- the line's first byte is `#`
 abbrev pub is_comment : List ℕ → Bool

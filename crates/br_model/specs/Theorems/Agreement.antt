@@ -2,6 +2,8 @@
 -- Source: this profile.
 use Rattle.std.specs.Prelude.{◌≡◌, ℕ, ◌==◌, Bool, true, false, List, ◌∷◌, ◌++◌, length, take}
 use Rattle.std.specs.List.{list_any}
+use Rattle.br_model.specs.declared.steps.Step.{Step}
+use Rattle.br_model.specs.declared.steps.Step.TheVariants.{Rx}
 use Rattle.br_model.specs.declared.transcript.Line.{Line}
 use Rattle.br_model.specs.declared.transcript.Line.TheVariants as lines
 use Rattle.br_model.specs.Table.DomainPorts.{is_in_domain}
@@ -9,7 +11,6 @@ use Rattle.br_model.specs.Table.Domains.{chip}
 use Rattle.br_model.specs.Table.Setup.{Setup}
 use Rattle.br_model.specs.Theorems.Invariants.{frames_of}
 use Rattle.br_model.specs.Plane.Runs.{run, pending}
-use Rattle.br_model.specs.Plane.Steps.{Step, Rx}
 use Rattle.br_model.specs.Plane.World.{World}
 
 -- whether the frame with this id waits or is held

@@ -1,14 +1,16 @@
--- A worked run with a frame that is held: no line of a scenario says so yet, so it is said over steps of the world.
+-- Worked runs with a frame that is held, and with steps of a domain that has no chip: no line of a scenario says so yet.
 -- Source: this profile; the lines were worked out by hand.
 use Rattle.std.specs.Prelude.{ℕ, List, [], ◌∷◌, ◌++◌, codes}
 use Rattle.std.specs.declared.option.Option.TheVariants.{None}
 use Rattle.std.specs.Option.{unwrap_or}
 use Rattle.br_model.specs.declared.change.Kind.TheVariants.{Static}
 use Rattle.br_model.specs.declared.steps.Command.TheVariants.{PortUp, FdbAdd}
+use Rattle.br_model.specs.declared.steps.Step.{Step}
+use Rattle.br_model.specs.declared.steps.Step.TheVariants.{Rx, Cmd, Hold, Post, Turn, Report, Sweep, Publish}
 use Rattle.br_model.specs.Data.Digits.{bytes_from_hex}
 use Rattle.br_model.specs.Plane.Runs.{run, end_line}
-use Rattle.br_model.specs.Plane.Steps.{Step, Rx, Cmd, Hold, Post, Publish}
 use Rattle.br_model.specs.Plane.World.{Stepped}
+use Rattle.br_model.specs.Table.Domains.{software}
 use Rattle.br_model.specs.Table.Setup.{Setup, first_own}
 use Rattle.br_model.specs.Text.Transcript.{text, line_text}
 use Rattle.br_model.specs.Theorems.WholeLines.{lines_text}
@@ -62,3 +64,13 @@ hold_lines = lines_text (
 
 abbrev pub hold_told : List ℕ
 hold_told = lines_of (run soft_ports hold_steps)
+
+-- Where there is no chip, nothing is pending or reported, and a sweep forgets nothing.
+abbrev pub no_chip_steps : List Step
+no_chip_steps = Turn software ∷ Report software ∷ Sweep software ∷ []
+
+abbrev pub no_chip_lines : List ℕ
+no_chip_lines = lines_text (codes "refused 1 11" ∷ codes "refused 2 12" ∷ codes "ok 3 0" ∷ codes "end 3 0 0 0" ∷ [])
+
+abbrev pub no_chip_told : List ℕ
+no_chip_told = lines_of (run soft_ports no_chip_steps)
