@@ -1,6 +1,7 @@
 //! The scenario that `gen` writes and `demo` runs.
 ghost use Rattle.std.specs.Prelude.{◌≡◌, ◌+◌, ◌*◌, ◌%◌, ◌==◌, ◌<◌, ◌≤◌, if◌then◌else◌, [], ◌∷◌, ◌++◌, length, codes, decimal, IfOk, OnOk, OnErr};
 ghost use Rattle.std.specs.String.{string_bytes, string_len, string_capacity};
+ghost use Rattle.br_model.specs.Table.Domains.{last_port};
 ghost use Rattle.br_model.specs.Data.Digits.{hex_of};
 ghost use Rattle.br_model.specs.Program.Generator.{drawn as drawn_of, number_of, station as station_of, destination as destination_of, frame as frame_of, frame_steps as steps_of_frame, each, most_frames, made, steps as all_steps, ports, first_steps as steps_at_first};
 ghost use Rattle.br_model.specs.Table.Domains.{chip};
@@ -305,7 +306,7 @@ fn frame(n: u32) -> [u8; 16]
 }
 
 fn port(number: u8) -> Port
-    requires { number < 64 }
+    requires { number ≤ last_port }
     ensures { result ≡ number }
 {
     match Port::new(number) {
@@ -348,7 +349,7 @@ fn push_others(i: u32, steps: &mut Vec<Step>) -> Result<(), NoMemory>
 }
 
 fn up(number: u8) -> Step
-    requires { number < 64 }
+    requires { number ≤ last_port }
     ensures { result ≡ Step.Cmd (Command.PortUp number) }
 {
     Step::Cmd(Command::PortUp(port(number)))
