@@ -33,6 +33,7 @@ use br_model::NoMemory;
 use br_model::change::Change;
 use br_model::domains::Domains;
 use br_model::frame::{Head, McastMsg};
+use br_model::limits::MOST_CHANGES;
 use br_model::numbers::{Mac, Port, Vid};
 use br_model::steps::{Event, Refusal};
 use br_model::transcript::{Line, Lines};
@@ -41,9 +42,6 @@ use fdb_core::{Entry, Key};
 use igmp_mld::classify;
 use std::alloc::Global;
 use std::marker::Model;
-
-/// How many changes a history holds at most.
-const MOST_CHANGES: usize = 1_048_576;
 
 /// What an event came to: the changes of the history from the place `from` on, and the control frames that leave.
 #[derive(Drop)]

@@ -15,6 +15,7 @@ ghost use Rattle.scenario_text.specs.Items.{in_time};
 
 use crate::session::{Captured, Last, Next, Session};
 use crate::status::Status;
+use br_model::limits::MOST_BYTES;
 use br_model::scenario::LineWhy;
 use br_model::steps::Step;
 use run_io::lines::{LineFault, LineReader};
@@ -22,9 +23,6 @@ use run_io::output::Output;
 use run_io::sinks::{Sink, WriteFault};
 use run_io::sources::Source;
 use std::alloc::{AllocError, Global};
-
-/// How many bytes are taken at most.
-const LIMIT: u32 = 1 << 28;
 
 /// Why a run stopped before its scenario ended.
 #[derive(Clone, Copy, PartialEq, Eq)]
@@ -261,7 +259,7 @@ pub(crate) fn play<S: Source, K: Sink>(
     ensures later { K.faults sink.old ≤ K.faults sink.new }
 {
     output.text.push_str("transcript 1\n")?;
-    let mut reader = LineReader::make(alloc, LIMIT);
+    let mut reader = LineReader::make(alloc, MOST_BYTES);
     loop {
         put_before_read(&reader, output, sink)?;
         let text = &mut output.text;

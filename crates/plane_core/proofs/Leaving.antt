@@ -21,9 +21,10 @@ use Rattle.br_model.specs.Wire.Messages.{message}
 use Rattle.br_model.specs.Plane.World.{sent}
 use Rattle.br_model.specs.Forward.Shares.{chip_out, chip_out_by, soft_out, remaining}
 use Rattle.br_model.specs.Table.Table.{Table}
+use Rattle.br_model.specs.Forward.Untagged.{untagged_among}
 use Rattle.chip_pipeline.specs.Passed.{Passed, IsPass, chip_ports_by, untagged_among as untagged_at_chip}
 use Rattle.forward_rules.specs.declared.soft_tables.Verdict.{Verdict}
-use Rattle.forward_rules.specs.Verdicts.{untagged_among}
+use Rattle.br_model.specs.Forward.Untagged.{untagged_among}
 use Rattle.port_sets.specs.Numbers.{has_number}
 use Rattle.plane_core.specs.Sent.{line_at, lines_in}
 use Rattle.table_publish.specs.Board.{Decides}
