@@ -1,5 +1,5 @@
 -- Rows read as they were packed, field after field.
-use Rattle.std.proofs.Common.{◌≡◌, ℕ, ◌+◌, ◌^◌, ◌<◌, ◌≤◌, Bool, cond, lt-ltb, ap, ◌∙◌, arith, nat_lt}
+use Rattle.std.proofs.Common.{◌≡◌, ℕ, ◌+◌, ◌^◌, ◌<◌, ◌≤◌, Bool, cond, le-leb, ap, ◌∙◌, arith, nat_lt}
 use Rattle.std.specs.Prelude.{◌==◌}
 use Rattle.br_model.specs.Table.Domains.{last_port}
 use Rattle.chip_regs.specs.Rows.{field, with_field}
