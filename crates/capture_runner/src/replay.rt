@@ -9,9 +9,9 @@ ghost use Rattle.run_io.specs.Reading.{max_line, room};
 ghost use Rattle.run_io.specs.Writing.{full_length};
 ghost use Rattle.capture_runner.specs.Advancing.{Advances, Caused, Lessens, Sections};
 ghost use Rattle.capture_runner.specs.Halting.{DoesAll, Halts, Moves, Plays, PlaysSection, Stalls};
-ghost use Rattle.capture_runner.specs.Session.{AreInTime, Follows};
+ghost use Rattle.capture_runner.specs.Session.{ComeByLine, Follows};
 ghost use Rattle.capture_runner.specs.Stopping.{stop_line, stop_status};
-ghost use Rattle.scenario_text.specs.Items.{in_time};
+ghost use Rattle.br_model.specs.Text.LineForms.{comes_by_line};
 
 use crate::session::{Captured, Last, Next, Session};
 use crate::status::Status;
@@ -107,7 +107,7 @@ fn read_section<S: Source>(
     requires sound { reader.old.fault ≡ None }
     requires most { length ≤ longest_section }
     ensures sections { (limit : ℕ) → Sections limit reader.old reader.new (S.left source.old) (S.left source.new) session.now length result }
-    ensures in_time { IfOk result AreInTime }
+    ensures by_line { IfOk result ComeByLine }
     ensures less { OnOk result (room reader.new ≤ room reader.old) }
     ensures cause { Caused (S.faults source.old) (S.faults source.new) result }
     ensures later { S.faults source.old ≤ S.faults source.new }
@@ -201,7 +201,7 @@ fn do_steps<K: Sink>(
     output: &mut Output,
     steps: Vec<Step>,
 ) -> Result<(), Halt>
-    requires { list_all in_time steps.items ≡ true }
+    requires { list_all comes_by_line steps.items ≡ true }
     ensures does { OnOk result (DoesAll session.old steps.items session.new (K.taken sink.old) (K.taken sink.new) (string_bytes output.old.text) (string_bytes output.new.text)) }
     ensures cause { Stalls (K.faults sink.old) (K.faults sink.new) result }
     ensures later { K.faults sink.old ≤ K.faults sink.new }

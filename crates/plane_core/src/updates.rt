@@ -19,7 +19,7 @@ pub struct Updates {
 }
 
 impl Model for Updates {
-    ghost use Rattle.std.specs.Prelude.{◌≡◌, ◌≤◌, ℕ, List};
+    ghost use Rattle.std.specs.Prelude.{◌≡◌, ◌≤◌, ℕ, List, length};
     ghost use Rattle.std.specs.Vec.{vec_capacity};
     ghost use Rattle.br_model.specs.Table.Limits.{most_changes};
 
@@ -27,7 +27,7 @@ impl Model for Updates {
 
     ghost view = { λ u. u.places.items };
 
-    ghost invariant = { λ u. most_changes ≤ vec_capacity u.places };
+    ghost invariant = { λ u. (most_changes ≤ vec_capacity u.places) × (length u.places.items ≤ most_changes) };
 }
 
 impl Updates {
@@ -42,7 +42,8 @@ impl Updates {
 
     /// How many there are.
     pub fn len(&self) -> usize
-        ensures { result ≡ length self.now }
+        ensures value { result ≡ length self.now }
+        ensures few { length self.now ≤ most_changes }
     {
         self.places.len()
     }
