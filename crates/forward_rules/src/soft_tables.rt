@@ -17,7 +17,7 @@ ghost use Rattle.br_model.specs.declared.change.Change.TheVariants as Change;
 use crate::NoMemory;
 use crate::foreign::{class_by, is_foreign};
 use crate::port_tables::PortTables;
-use br_model::change::{BLOCKING, Change, Kind};
+use br_model::change::{Asks, BLOCKING, Change, Kind};
 use br_model::domains::Domains;
 use br_model::frame::{Class, Head, McastMsg};
 use br_model::numbers::{Mac, Port, Vid};
@@ -81,21 +81,11 @@ impl SoftTables {
     pub fn fits(&self, c: &Change) -> bool
         ensures { result ≡ fits self.now c.now }
     {
-        match *c {
-            Change::GroupJoin { vid, group, .. } => self.ports.has_room(vid, group),
-            Change::AddrPut { vid, mac, .. } => self.has_room_at(vid, mac),
-            Change::SetState(_, state) => state <= BLOCKING,
-            Change::PortUp(_)
-            | Change::PortDown(_)
-            | Change::SetFlags(..)
-            | Change::VlanAdd { .. }
-            | Change::VlanDel { .. }
-            | Change::GroupPart { .. }
-            | Change::Router { .. }
-            | Change::Querier { .. }
-            | Change::Snoop(_)
-            | Change::Stp(_)
-            | Change::AddrDel { .. } => true,
+        match c.asks() {
+            Asks::Nothing => true,
+            Asks::State(state) => state <= BLOCKING,
+            Asks::GroupRoom(vid, group) => self.ports.has_room(vid, group),
+            Asks::AddressRoom(vid, mac) => self.has_room_at(vid, mac),
         }
     }
 

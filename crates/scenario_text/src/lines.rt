@@ -68,15 +68,15 @@ fn step_line(alloc: Global, words: &[&str], r: &Roster) -> Result<Said, LineWhy>
         }
         ["turn", "1"] => {
             r.stands(Place::Steps)?;
-            Ok(Said::Does(Step::Turn))
+            Ok(Said::Does(Step::Turn(Dom::CHIP)))
         }
         ["report", "1"] => {
             r.stands(Place::Steps)?;
-            Ok(Said::Does(Step::Report))
+            Ok(Said::Does(Step::Report(Dom::CHIP)))
         }
         ["sweep", "1"] => {
             r.stands(Place::Steps)?;
-            Ok(Said::Does(Step::Sweep))
+            Ok(Said::Does(Step::Sweep(Dom::CHIP)))
         }
         ["publish"] => {
             r.stands(Place::Steps)?;

@@ -94,8 +94,8 @@ fn append_memberships_of(
 fn append_memberships(table: &Table, roster: &Roster, to: &mut String) -> Result<(), NoMemory>
     ensures { OnOk result (string_bytes to.new ≡ string_bytes to.old ++ flat_map (vlan_line roster.now.ports table.now.pvid) (by_port table.now.vlans)) }
 {
-    for number in 0..Port::COUNT {
-        let Some(port) = Port::new(number) else {
+    for number in 0..Port::PLACES {
+        let Some(port) = Port::new(number as u8) else {
             unreachable!();
         };
         append_memberships_of(port, table, roster, to)?;

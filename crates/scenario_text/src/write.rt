@@ -4,6 +4,7 @@ ghost use Rattle.std.specs.String.{string_bytes};
 ghost use Rattle.br_model.specs.Data.Digits.{hex_digit, hex_of};
 ghost use Rattle.br_model.specs.Text.FlagWords.{flags, name_of_flag};
 ghost use Rattle.br_model.specs.Wire.Frames.{longest_frame};
+ghost use Rattle.br_model.specs.Text.LineForms.{comes_by_line};
 ghost use Rattle.br_model.specs.Text.Roster.{has_number};
 ghost use Rattle.br_model.specs.Text.ScenarioText.{byte_at, mac_text, dotted, digits_at, groups_of_four, ip_text, kind_word as word_of_kind, command_text, device_text, further, name_of, switch_word as word_of_switch, shown as shown_of, step_text, step_words};
 ghost use Rattle.br_model.specs.Theorems.WrittenSteps.{is_device, command_names_declared, names_declared};
@@ -12,7 +13,7 @@ use br_model::NoMemory;
 use br_model::bytes::Bytes;
 use br_model::change::{Flags, Kind};
 use br_model::group::Ip;
-use br_model::numbers::{Mac, Port, Vid};
+use br_model::numbers::{Dom, Mac, Port, Vid};
 use br_model::steps::{Command, Step};
 use bridge_command::Roster;
 use std::alloc::Global;
@@ -333,10 +334,19 @@ fn append_rx(port: Port, bytes: &[u8], to: &mut String) -> Result<(), NoMemory>
     append_hex(shown(bytes), to)
 }
 
-/// The line of a step with its line feed. Of a frame without bytes it shows one byte, of one that is too long only enough to
+/// A step of the chip of a domain.
+fn append_of_chip(word: &str, dom: Dom, to: &mut String) -> Result<(), NoMemory>
+    ensures { OnOk result (string_bytes to.new ≡ string_bytes to.old ++ (word.now ++ decimal dom)) }
+{
+    let dom = dom.number();
+    write!(to, "{word}{dom}")
+}
+
+/// The line of a step that a line can give, with its line feed. Of a frame without bytes it shows one byte, of one that is too long only enough to
 /// tell so.
 pub fn write_line(alloc: Global, s: &Step, r: &Roster) -> Result<Bytes, NoMemory>
-    requires { names_declared r.now.ports s.now ≡ true }
+    requires by_line { comes_by_line s.now ≡ true }
+    requires declared { names_declared r.now.ports s.now ≡ true }
     ensures { IfOk result (λ line. line ≡ step_text r.now.ports s.now) }
 {
     let mut line = String::new(alloc);
@@ -348,9 +358,10 @@ pub fn write_line(alloc: Global, s: &Step, r: &Roster) -> Result<Bytes, NoMemory
         }
         Step::Now(moment) => write!(line, "now {moment}")?,
         Step::Serve => line.push_str("serve")?,
-        Step::Turn => line.push_str("turn 1")?,
-        Step::Report => line.push_str("report 1")?,
-        Step::Sweep => line.push_str("sweep 1")?,
+        Step::Hold | Step::Post { .. } => unreachable!(),
+        Step::Turn(dom) => append_of_chip("turn ", *dom, &mut line)?,
+        Step::Report(dom) => append_of_chip("report ", *dom, &mut line)?,
+        Step::Sweep(dom) => append_of_chip("sweep ", *dom, &mut line)?,
         Step::Publish => line.push_str("publish")?,
     }
     line.push('\n')?;

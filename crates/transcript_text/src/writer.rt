@@ -1,7 +1,7 @@
 //! Lines of a transcript.
 ghost use Rattle.std.specs.Prelude.{◌≡◌, ◌++◌, [], ◌∷◌, IfOk, OnOk, OnErr};
 ghost use Rattle.std.specs.String.{string_bytes};
-ghost use Rattle.br_model.specs.Text.Transcript.{line_text, text, fault_word, class_word, refusal_number};
+ghost use Rattle.br_model.specs.Text.Transcript.{line_text, text, fault_word, class_word};
 ghost use Rattle.transcript_text.specs.Extends.{Extends};
 
 use crate::frames::LastFrames;
@@ -182,35 +182,13 @@ fn append_done(step: u32, changes: u32, to: &mut String) -> Result<(), NoMemory>
     append_field(changes, '\n', to)
 }
 
-fn number_of(refusal: Refusal) -> u32
-    ensures { result ≡ refusal_number refusal }
-{
-    match refusal {
-        Refusal::PortIsUp => 1,
-        Refusal::PortNotUp => 2,
-        Refusal::NotMember => 3,
-        Refusal::Exists => 4,
-        Refusal::Absent => 5,
-        Refusal::FdbFull => 6,
-        Refusal::GroupsFull => 7,
-        Refusal::HistoryFull => 8,
-        Refusal::Backward => 9,
-        Refusal::NothingWaiting => 10,
-        Refusal::NothingPending => 11,
-        Refusal::NothingReported => 12,
-        Refusal::NotAGroup => 13,
-        Refusal::NothingToPost => 14,
-        Refusal::NoSuchPoint => 15,
-    }
-}
-
 fn append_refused(step: u32, refusal: Refusal, to: &mut String) -> Result<(), NoMemory>
     ensures ok { OnOk result (string_bytes to.new ≡ string_bytes to.old ++ line_text (Line.Refused step refusal)) }
     ensures err { OnErr result (Extends (string_bytes to.old) (string_bytes to.new)) }
 {
     to.push_str("refused ")?;
     append_field(step, ' ', to)?;
-    append_field(number_of(refusal), '\n', to)
+    append_field(refusal.number(), '\n', to)
 }
 
 fn append_end(

@@ -34,7 +34,7 @@ const VLANS: usize = 4094;
 pub struct VlanTable {
     // The row of VLAN v at place v - 1.
     rows: Vec<Row>,
-    pvids: [Option<Vid>; 64],
+    pvids: [Option<Vid>; Port::PLACES],
 }
 
 impl Model for VlanTable {
@@ -166,26 +166,26 @@ fn empty_rows(alloc: Global) -> Result<Vec<Row>, NoMemory>
     vec![in alloc; Row::empty(); VLANS]
 }
 
-fn no_pvids() -> [Option<Vid>; 64]
+fn no_pvids() -> [Option<Vid>; Port::PLACES]
     ensures { entries_from 0 result ≡ [] }
 {
-    [None; 64]
+    [None; Port::PLACES]
 }
 
-fn pvid_of(pvids: &[Option<Vid>; 64], p: Port) -> Option<Vid>
+fn pvid_of(pvids: &[Option<Vid>; Port::PLACES], p: Port) -> Option<Vid>
     ensures { result ≡ get nat_cmp (entries_from 0 pvids.now) p }
 {
     pvids[usize::from(p.number())]
 }
 
-fn set_pvid(pvids: &mut [Option<Vid>; 64], p: Port, v: Vid)
+fn set_pvid(pvids: &mut [Option<Vid>; Port::PLACES], p: Port, v: Vid)
     ensures { entries_from 0 pvids.new ≡ put nat_cmp (entries_from 0 pvids.old) p v }
 {
     pvids[usize::from(p.number())] = Some(v);
 }
 
 /// Leaves the port without a PVID where the VLAN was that.
-fn unset_pvid(pvids: &mut [Option<Vid>; 64], p: Port, v: Vid)
+fn unset_pvid(pvids: &mut [Option<Vid>; Port::PLACES], p: Port, v: Vid)
     ensures { entries_from 0 pvids.new ≡ without_pvid (entries_from 0 pvids.old) p v }
 {
     if pvid_of(pvids, p) == Some(v) {

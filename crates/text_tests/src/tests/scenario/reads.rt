@@ -25,6 +25,8 @@ enum Gives {
     Report,
     Sweep,
     Publish,
+    /// A step that no line gives.
+    NoLine,
     /// How many bytes follow.
     Capture(u32),
     End,
@@ -157,6 +159,10 @@ const STEPS: &[(&[u8], Result<Gives, LineWhy>)] = &[
     (b"turn", Err(LineWhy::Word)),
     (b"report 2", Err(LineWhy::Word)),
     (b"sweep 01", Err(LineWhy::Word)),
+    (b"turn 2", Err(LineWhy::Word)),
+    (b"hold", Err(LineWhy::Word)),
+    (b"post 1", Err(LineWhy::Word)),
+    (b"post 1 at 0", Err(LineWhy::Word)),
     (b"a b c d e f g h i j k l m n o p q", Err(LineWhy::Word)),
     (b"end", Ok(Gives::End)),
 ];
@@ -181,9 +187,10 @@ fn given(item: &Item) -> Gives {
         Item::Step(Step::Cmd(_)) => Gives::Command,
         Item::Step(Step::Now(moment)) => Gives::Now(*moment),
         Item::Step(Step::Serve) => Gives::Serve,
-        Item::Step(Step::Turn) => Gives::Turn,
-        Item::Step(Step::Report) => Gives::Report,
-        Item::Step(Step::Sweep) => Gives::Sweep,
+        Item::Step(Step::Hold | Step::Post { .. }) => Gives::NoLine,
+        Item::Step(Step::Turn(_)) => Gives::Turn,
+        Item::Step(Step::Report(_)) => Gives::Report,
+        Item::Step(Step::Sweep(_)) => Gives::Sweep,
         Item::Step(Step::Publish) => Gives::Publish,
         Item::Capture(length) => Gives::Capture(*length),
         Item::End => Gives::End,

@@ -1,8 +1,10 @@
 //! Steps with their lines.
 ghost use Rattle.std.specs.Prelude.{◌≡◌};
+ghost use Rattle.br_model.specs.Text.LineForms.{comes_by_line};
 ghost use Rattle.br_model.specs.Theorems.WrittenSteps.{names_declared};
 
 use br_model::bytes::Bytes;
+use br_model::numbers::Dom;
 use br_model::scenario::Item;
 use br_model::steps::{Command, Step};
 use bridge_command::Roster;
@@ -74,13 +76,27 @@ fn are_declared(step: &Step, roster: &Roster) -> bool
             Command::Stp(_) | Command::Priority(_) | Command::Snooping(_) => true,
         },
         Step::Now(_) => true,
-        Step::Serve | Step::Turn | Step::Report | Step::Sweep | Step::Publish => true,
+        Step::Serve | Step::Hold | Step::Post { .. } | Step::Publish => true,
+        Step::Turn(_) | Step::Report(_) | Step::Sweep(_) => true,
     }
 }
 
-/// Whether the step is written so; the ports that it names are declared.
+/// Whether a line can give the step, whatever ports are declared.
+fn comes_by_line(step: &Step) -> bool
+    ensures { result ≡ comes_by_line step.now }
+{
+    match step {
+        Step::Now(moment) => *moment <= 9_007_199_254_740_991,
+        Step::Turn(dom) | Step::Report(dom) | Step::Sweep(dom) => *dom == Dom::CHIP,
+        Step::Hold | Step::Post { .. } => false,
+        Step::Rx { .. } | Step::Cmd(_) | Step::Serve | Step::Publish => true,
+    }
+}
+
+/// Whether the step is written so; a line can give it, and the ports that it names are declared.
 fn is_written(alloc: Global, step: &Step, roster: &Roster, line: &str) -> bool {
-    are_declared(step, roster)
+    comes_by_line(step)
+        && are_declared(step, roster)
         && match write_line(alloc, step, roster) {
             Ok(written) => written.as_slice() == line.as_bytes(),
             Err(_) => false,
