@@ -8,12 +8,10 @@ pub mod key_list;
 mod packing;
 pub mod table;
 
+pub use br_model::NoMemory;
 pub use entries::{Entry, Key};
 pub use key_list::Keys;
 pub use table::Fdb;
-
-/// There was no memory.
-pub type NoMemory = std::alloc::AllocError;
 
 #[cfg(test)]
 mod tests;
