@@ -404,7 +404,7 @@ impl Sides {
     pub(crate) fn pending(&self) -> u32
         ensures { result ≡ deferred_count self.now.history - self.now.chip.count }
     {
-        self.bridge.pending() - self.chip.count()
+        self.chip.pending()
     }
 
     /// How many changes are published.

@@ -21,14 +21,15 @@ pub struct Updates {
 }
 
 impl Model for Updates {
-    ghost use Rattle.std.specs.Prelude.{◌≡◌, ◌≤◌, ℕ, List};
+    ghost use Rattle.std.specs.Prelude.{◌≡◌, ◌≤◌, ℕ, List, length};
     ghost use Rattle.std.specs.Vec.{vec_capacity};
+    ghost use Rattle.br_model.specs.Table.Limits.{most_changes};
 
     ghost Value = { List ℕ };
 
     ghost view = { λ u. u.places.items };
 
-    ghost invariant = { λ u. 1048576 ≤ vec_capacity u.places };
+    ghost invariant = { λ u. (1048576 ≤ vec_capacity u.places) × (length u.places.items ≤ most_changes) };
 }
 
 impl Updates {
@@ -43,7 +44,8 @@ impl Updates {
 
     /// How many there are.
     pub fn len(&self) -> usize
-        ensures { result ≡ length self.now }
+        ensures value { result ≡ length self.now }
+        ensures few { length self.now ≤ most_changes }
     {
         self.places.len()
     }
