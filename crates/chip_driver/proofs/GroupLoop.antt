@@ -18,7 +18,8 @@ use Rattle.chip_driver.specs.declared.shadow.Shadow.{Shadow}
 use Rattle.chip_driver.specs.GroupRows.{has_pair, group_fan, AreUsed, GroupsFollow, RefreshesGroups}
 use Rattle.chip_driver.specs.Shadows.{fan_to}
 use Rattle.chip_driver.proofs.FanRows.{same_fans}
-use Rattle.chip_driver.proofs.GroupRows.{count_is, find-written, ascending-written, find-freed, ascending-freed, among, among-pairs, among-next, among-past, among-all, among-one, same_pair, pair-joined, pair-parted, pair-ports, ports-joined, ports-parted}
+use Rattle.br_model.proofs.GroupPairs.{pair-joined, pair-parted}
+use Rattle.chip_driver.proofs.GroupRows.{count_is, find-written, ascending-written, find-freed, ascending-freed, among, among-pairs, among-next, among-past, among-all, among-one, same_pair, pair-ports, ports-joined, ports-parted}
 
 equal_of : (k j : GroupPair) (r : Ordering) → group_pair_cmp k j ≡ r → is_eq r ≡ true → k ≡ j
 equal_of k j Less is e = absurd (cc)

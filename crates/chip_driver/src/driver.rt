@@ -119,7 +119,6 @@ impl Driver {
     }
 
     fn del_address(&mut self, v: Vid, m: Mac)
-        requires { IsTaken self.old (changes.AddrDel v m) }
         ensures { (d : DomainsValue) (t : Table) → Drives d self.old t → Drives d self.new (apply t (changes.AddrDel v m)) }
     {
         self.tables.set_address(v, m, None);

@@ -1,5 +1,5 @@
 //! The tables.
-ghost use Rattle.std.specs.Prelude.{◌≡◌, ◌<◌, ◌≤◌, IfOk, Some, length, map, slice_get};
+ghost use Rattle.std.specs.Prelude.{◌≡◌, ◌<◌, ◌≤◌, IfOk, IfSome, Some, length, map, slice_get};
 ghost use Rattle.std.specs.List.Sorted.{IsStrictlySortedBy};
 ghost use Rattle.br_model.specs.Data.Maps.{pair_cmp};
 ghost use Rattle.br_model.specs.Table.GroupPairs.{max_pairs};
@@ -182,7 +182,7 @@ impl Tables {
 
     /// `None` frees the row. At most 16,384 rows may be used afterwards.
     pub fn set_address(&mut self, v: Vid, m: Mac, r: Option<AddressRow>)
-        requires { length (addresses_with self.old v m r) ≤ most_addresses }
+        requires { IfSome r (λ row. length (addresses_with self.old v m (Some row)) ≤ most_addresses) }
         ensures row { self.new.addresses ≡ addresses_with self.old v m r }
         ensures rest { self.new ≡ record self.old { addresses = self.new.addresses; places = self.new.places } }
     {

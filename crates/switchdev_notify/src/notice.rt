@@ -1,6 +1,6 @@
 //! Notices, and the changes that they tell.
 ghost use Rattle.std.specs.Prelude.{◌≡◌, Some, None, if◌then◌else◌};
-ghost use Rattle.br_model.specs.Table.Change.{deferred};
+ghost use Rattle.br_model.specs.Table.Change.{is_of_address};
 ghost use Rattle.switchdev_notify.specs.Notices.{notice, change_of};
 
 use br_model::change::{Change, Flags};
@@ -65,7 +65,7 @@ pub enum Notice {
 /// What is told of the change.
 pub fn notice_of(c: &Change) -> Notice
     ensures value { result ≡ notice c.now }
-    ensures change { change_of result ≡ (if deferred c.now then None else Some c.now) }
+    ensures change { change_of result ≡ (if is_of_address c.now then None else Some c.now) }
 {
     match *c {
         Change::PortUp(port) => Notice::Attr(Attribute::PortUp(port)),
