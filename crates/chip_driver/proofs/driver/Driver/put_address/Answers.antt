@@ -2,7 +2,8 @@ use Rattle.std.proofs.Common.{◌≤◌, List, length, ℕ, Some, sym, subst, ap
 use Rattle.br_model.specs.Data.Maps.{pair_cmp, put}
 use Rattle.mdb_snoop.specs.Database.{memberships}
 use Rattle.chip_tables.specs.declared.rows.AddressRow.{AddressRow}
-use Rattle.chip_tables.specs.Rows.{addresses_with, max_addresses}
+use Rattle.br_model.specs.Table.Limits.{most_addresses}
+use Rattle.chip_tables.specs.Rows.{addresses_with}
 use Rattle.chip_tables.specs.Stands.{address_wanted}
 use Rattle.chip_driver.specs.Drives.{Driven, Drives}
 use Rattle.chip_driver.proofs.GroupRows.{mapped-put}
@@ -11,7 +12,7 @@ use Rattle.chip_driver.proofs.driver.Driver.put_address.Goals as goal
 
 pub set_address-requires : goal.set_address-requires
 set_address-requires c =
-    subst (λ (driver : Driven). length (addresses_with driver.rows c.args.v c.args.m (Some c.address_row.result)) ≤ max_addresses) (sym c.self.view_is) (c.requires c.address_row.result)
+    subst (λ (driver : Driven). length (addresses_with driver.rows c.args.v c.args.m (Some c.address_row.result)) ≤ most_addresses) (sym c.self.view_is) (c.requires c.address_row.result)
 
 pub returns : goal.returns
 returns c d t before =
