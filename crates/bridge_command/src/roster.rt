@@ -2,7 +2,7 @@
 ghost use Rattle.std.specs.Prelude.{◌≡◌, ◌≢◌, ◌≤◌, ◌==◌, length, OnOk, OnErr, IfOk, IfSome, slice_get, true, false, not, ◌&&◌, Some, Ok};
 ghost use Rattle.std.specs.Option.{option_map, is_some};
 ghost use Rattle.br_model.specs.declared.scenario.Said.TheVariants.{Bridge, Declares};
-ghost use Rattle.br_model.specs.Table.Domains.{host};
+ghost use Rattle.br_model.specs.Table.Domains.{host, last_port};
 ghost use Rattle.br_model.specs.Text.Operands.{port_name, device as device_of, new_port as new_port_of, new_name as new_name_of, port_number as port_number_of};
 ghost use Rattle.br_model.specs.Text.Roster.{first_roster, domains_of, has_number, port_named, is_name as is_a_name};
 ghost use Rattle.br_model.specs.Text.Scenario.{declared};
@@ -21,7 +21,7 @@ use std::alloc::Global;
 use std::marker::Model;
 
 /// The place that a scenario has reached, whether its command is `check`, the bridge's own address, and the declared ports, seen
-/// as their list in the order of their lines. Each has a number from 1 to 63 and a name of its own.
+/// as their list in the order of their lines. Each has a number from 1 to `Port::LAST` and a name of its own.
 #[derive(Drop)]
 pub struct Roster {
     place: Place,
@@ -80,10 +80,10 @@ impl Roster {
         self.own
     }
 
-    /// How many ports are declared: 63 at most.
+    /// How many ports are declared: at most as many as `Port::LAST`.
     pub fn len(&self) -> usize
         ensures value { result ≡ length self.now.ports }
-        ensures most { result ≤ 63 }
+        ensures most { result ≤ last_port }
         ensures declared { are_declared self.now.ports ≡ true }
     {
         self.ports.len()
@@ -215,7 +215,7 @@ impl Roster {
         if !is_decimal(word) {
             return Err(LineWhy::Number);
         }
-        let Some(number) = number_up_to(word, 63) else {
+        let Some(number) = number_up_to(word, u64::from(Port::LAST)) else {
             return Err(LineWhy::Port);
         };
         match Port::new(number as u8) {
@@ -230,7 +230,7 @@ impl Roster {
         ensures value { result ≡ new_port_of self.now.ports word.now }
         ensures fits { IfOk result (λ p. (p ≢ host) × (has_number self.now.ports p ≡ false)) }
     {
-        let number = number(word, 1, 63)?;
+        let number = number(word, 1, u64::from(Port::LAST))?;
         match Port::new(number as u8) {
             Some(port) if !self.is_declared(port) => Ok(port),
             _ => Err(LineWhy::Port),

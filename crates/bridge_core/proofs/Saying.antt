@@ -8,7 +8,7 @@ use Rattle.std.specs.declared.result.Result.TheVariants.{Ok, Err}
 use Rattle.br_model.specs.declared.steps.Refusal.{Refusal}
 use Rattle.br_model.specs.declared.steps.Refusal.TheVariants.{HistoryFull}
 use Rattle.br_model.specs.declared.transcript.Line.{Line}
-use Rattle.br_model.specs.Table.Change.{deferred}
+use Rattle.br_model.specs.Table.Change.{is_of_address}
 use Rattle.br_model.specs.Control.Control.{keeps_up}
 use Rattle.br_model.specs.Control.Course.{Course}
 use Rattle.br_model.specs.Theorems.EndsTied.{IsTied}
@@ -35,7 +35,7 @@ module _ (old : Controlled) (p : Plan) where
   abbrev pub learned : Course
   learned = record { table = fold apply (table old.history) p.changes.items; control = fold keeps_up (prepared old.control p) p.changes.items; changes = p.changes.items; messages = [] }
 
-  module _ (s : Speaker) (addresses : list_all deferred p.changes.items ≡ true) (clock : p.clock.now ≡ s.moment) (leaves : has_flag (table old.history) s.port fastleave ≡ s.fastleave) where
+  module _ (s : Speaker) (addresses : list_all is_of_address p.changes.items ≡ true) (clock : p.clock.now ≡ s.moment) (leaves : has_flag (table old.history) s.port fastleave ≡ s.fastleave) where
     pub heard_now : learned.control.now ≡ s.moment
     heard_now = same_clock (prepared old.control p) p.changes.items ∙ renewed_clock (clocked p.clock old.control) p.renewed ∙ clock
 

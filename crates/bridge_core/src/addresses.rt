@@ -8,13 +8,11 @@ ghost use Rattle.bridge_core.specs.Entries.{keys_at, old_keys, is_due, exact_bou
 
 use br_model::NoMemory;
 use br_model::change::Kind;
+use br_model::limits::MOST_ADDRESSES;
 use br_model::numbers::{Mac, Port, Vid};
 use fdb_core::{Entry, Fdb, Keys};
 use std::alloc::Global;
 use std::marker::Model;
-
-/// How many address entries there are at most.
-const MOST_ADDRESSES: usize = 16384;
 
 /// What contracts see as the entries by VLAN and address, and beside them their moments in milliseconds.
 #[derive(Drop, Debug)]

@@ -1,8 +1,7 @@
 //! The control plane: the accepted changes, and the reaction to an event.
 ghost use Rattle.std.specs.Prelude.{◌≡◌, ◌≤◌, ◌<◌, ◌+◌, ◌^◌, ◌++◌, [], List, length, option_map, true, false, Some, Ok, IfOk, IfSome, IsSome, IsTrue, vec_len, vec_capacity};
-ghost use Rattle.std.specs.List.{filter};
 ghost use Rattle.std.specs.List.{list_all};
-ghost use Rattle.br_model.specs.Table.Change.{deferred};
+ghost use Rattle.br_model.specs.Table.Change.{is_of_address};
 ghost use Rattle.br_model.specs.Control.Control.{first_control};
 ghost use Rattle.br_model.specs.Control.Course.{Course, from};
 ghost use Rattle.br_model.specs.Wire.Frames.{frame};
@@ -34,6 +33,7 @@ use br_model::NoMemory;
 use br_model::change::Change;
 use br_model::domains::Domains;
 use br_model::frame::{Head, McastMsg};
+use br_model::limits::MOST_CHANGES;
 use br_model::numbers::{Mac, Port, Vid};
 use br_model::steps::{Event, Refusal};
 use br_model::transcript::{Line, Lines};
@@ -42,9 +42,6 @@ use fdb_core::{Entry, Key};
 use igmp_mld::classify;
 use std::alloc::Global;
 use std::marker::Model;
-
-/// How many changes a history holds at most.
-const MOST_CHANGES: usize = 1_048_576;
 
 /// What an event came to: the changes of the history from the place `from` on, and the control frames that leave.
 #[derive(Drop)]
@@ -60,7 +57,6 @@ pub struct Bridge {
     own: Mac,
     history: Vec<Change>,
     state: State,
-    pending: u32,
 }
 
 impl Model for Bridge {
@@ -69,8 +65,6 @@ impl Model for Bridge {
     ghost Value = { Controlled };
 
     ghost use Rattle.std.specs.Prelude.{◌≡◌, ◌≤◌, ◌<◌, ◌^◌, IsTrue, length};
-    ghost use Rattle.std.specs.List.{filter};
-    ghost use Rattle.br_model.specs.Table.Change.{deferred};
     ghost use Rattle.br_model.specs.Control.Course.{from};
     ghost use Rattle.br_model.specs.Theorems.EndsTied.{IsTied};
     ghost use Rattle.br_model.specs.Table.Limits.{most_changes, all_fit};
@@ -79,7 +73,7 @@ impl Model for Bridge {
 
     ghost view = { λ b. record { setup = record { domains = b.domains; own = b.own }; history = b.history.items; control = control_of b.state } };
 
-    ghost invariant = { λ b. (table_of b.state ≡ table b.history.items) × (b.pending ≡ length (filter deferred b.history.items)) × (length b.history.items ≤ most_changes) × IsTrue (all_fit start b.history.items) × (b.state.clock.now < 2 ^ 53) × IsTied (table_of b.state) b.state.groups };
+    ghost invariant = { λ b. (table_of b.state ≡ table b.history.items) × (length b.history.items ≤ most_changes) × IsTrue (all_fit start b.history.items) × (b.state.clock.now < 2 ^ 53) × IsTied (table_of b.state) b.state.groups };
 }
 
 /// Appends the changes within the room that is there.
@@ -93,13 +87,6 @@ fn append(history: &mut Vec<Change>, changes: &[Change])
     }
 }
 
-/// How many of the changes are deferred.
-fn count_deferred(changes: &[Change]) -> usize
-    ensures { result ≡ length (filter deferred changes.now) }
-{
-    changes.iter().filter(|change| change.is_deferred()).count()
-}
-
 impl Bridge {
     /// A bridge with this address and the ports of these domains, in which nothing has happened. It takes the memory
     /// for its tables, but not for the changes to come.
@@ -111,7 +98,6 @@ impl Bridge {
             own,
             history: Vec::new(alloc),
             state: State::make(alloc, own)?,
-            pending: 0,
         })
     }
 
@@ -126,7 +112,7 @@ impl Bridge {
         ensures plans { Plans (table self.now.history) self.now.control result (Ok (learns_and_tells self.now.setup port bytes.now head.now (from (table self.now.history) self.now.control))) }
         ensures told { IfOk result (λ plan. plan.told ≡ heard (table self.now.history) port bytes.now head.now) }
         ensures clock { IfOk result (λ plan. plan.clock.now ≡ self.now.control.now) }
-        ensures addresses { IfOk result (λ plan. list_all deferred plan.changes.items ≡ true) }
+        ensures addresses { IfOk result (λ plan. list_all is_of_address plan.changes.items ≡ true) }
     {
         sees(alloc, &self.domains, &self.state, port, bytes, head)
     }
@@ -163,7 +149,6 @@ impl Bridge {
             return Err(EventFault::Refused(Refusal::HistoryFull));
         }
         self.history.extend_from_slice(changes)?;
-        self.pending += count_deferred(changes) as u32;
         self.state.prepare(clock, renewed);
         self.state.follow(changes);
         Ok(())
@@ -249,7 +234,7 @@ impl Bridge {
     ) -> Result<(), EventFault>
         requires sound { IsSound (table self.old.history) plan }
         requires untold { plan.told ≡ None }
-        requires addresses { list_all deferred plan.changes.items ≡ true }
+        requires addresses { list_all is_of_address plan.changes.items ≡ true }
         requires clock { plan.clock.now ≡ speaker.now.moment }
         requires leaves { has_flag (table self.old.history) speaker.now.port fastleave ≡ speaker.now.fastleave }
         requires records { RecordsStand bytes.now message.now }
@@ -266,7 +251,6 @@ impl Bridge {
         self.state.follow(&changes);
         self.state.hear(speaker, bytes, message, &mut changes);
         append(&mut self.history, &changes);
-        self.pending += count_deferred(&changes) as u32;
         Ok(())
     }
 
@@ -286,7 +270,7 @@ impl Bridge {
         requires plans { Plans (table self.old.history) self.old.control (Ok plan) (Ok (learns_and_tells self.old.setup port bytes.now head.now (from (table self.old.history) self.old.control))) }
         requires told { plan.told ≡ heard (table self.old.history) port bytes.now head.now }
         requires clock { plan.clock.now ≡ self.old.control.now }
-        requires addresses { list_all deferred plan.changes.items ≡ true }
+        requires addresses { list_all is_of_address plan.changes.items ≡ true }
         requires room { vec_len lines.old < vec_capacity lines.old }
         ensures reacts { Reacts self.old self.new lines.old.items lines.new.items result (in_room self.old.history (Ok (reacts_to_sight self.old.setup port bytes.now head.now (from (table self.old.history) self.old.control)))) }
         ensures room { vec_len lines.new < vec_capacity lines.new }
@@ -406,12 +390,5 @@ impl Bridge {
         ensures within { AreWithin self.now.history }
     {
         self.history.as_slice()
-    }
-
-    /// How many deferred changes there are.
-    pub fn pending(&self) -> u32
-        ensures { result ≡ length (filter deferred self.now.history) }
-    {
-        self.pending
     }
 }

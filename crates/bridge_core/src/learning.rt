@@ -5,7 +5,7 @@ ghost use Rattle.br_model.specs.Control.Course.{from, makes_all};
 ghost use Rattle.br_model.specs.Control.Learning.{teach, is_reserved, told};
 ghost use Rattle.br_model.specs.Control.Reaction.{learns};
 ghost use Rattle.br_model.specs.Control.TreeReaction.{heard};
-ghost use Rattle.br_model.specs.Table.Change.{deferred};
+ghost use Rattle.br_model.specs.Table.Change.{is_of_address};
 ghost use Rattle.std.specs.List.{list_all};
 ghost use Rattle.bridge_core.specs.Plans.{learns_and_tells};
 ghost use Rattle.bridge_core.specs.Lessons.{lesson_of, is_taken};
@@ -119,7 +119,7 @@ fn learns(alloc: Global, state: &State, port: Port, vid: Vid, mac: Mac) -> Resul
     requires { state.now.clock.now < 2 ^ 53 }
     ensures told { IfOk result (λ plan. plan.told ≡ None) }
     ensures clock { IfOk result (λ plan. plan.clock ≡ state.now.clock) }
-    ensures addresses { IfOk result (λ plan. list_all deferred plan.changes.items ≡ true) }
+    ensures addresses { IfOk result (λ plan. list_all is_of_address plan.changes.items ≡ true) }
     ensures plans { Plans (table_of state.now) (control_of state.now) result (Ok (learns port (Some (vid, mac)) (from (table_of state.now) (control_of state.now)))) }
 {
     match lesson_of(state, vid, mac, port) {
@@ -147,7 +147,7 @@ pub fn sees(
     ensures plans { (own : ℕ) → Plans (table_of state.now) (control_of state.now) result (Ok (learns_and_tells (record { domains = domains.now; own = own }) port bytes.now head.now (from (table_of state.now) (control_of state.now)))) }
     ensures told { IfOk result (λ plan. plan.told ≡ heard (table_of state.now) port bytes.now head.now) }
     ensures clock { IfOk result (λ plan. plan.clock ≡ state.now.clock) }
-    ensures addresses { IfOk result (λ plan. list_all deferred plan.changes.items ≡ true) }
+    ensures addresses { IfOk result (λ plan. list_all is_of_address plan.changes.items ≡ true) }
 {
     let told = heard(state, port, bytes, head);
     if told.is_some() {

@@ -1,5 +1,6 @@
 //! How the spanning tree takes part: what it is told, the states that follow it, and the frames that carry its messages.
 ghost use Rattle.std.specs.Prelude.{◌≡◌, ◌++◌, ◌∷◌, [], ◌<◌, map, OnOk, IfOk, vec_len, vec_capacity};
+ghost use Rattle.br_model.specs.Table.Domains.{port_places};
 ghost use Rattle.br_model.specs.Control.Commands.SpanningTree.{tells};
 ghost use Rattle.br_model.specs.Plane.World.{control_line, control_lines};
 ghost use Rattle.br_model.specs.Control.TreeReaction.{heard};
@@ -100,7 +101,7 @@ fn add_config(
     number: u8,
     lines: &mut Vec<Line>,
 ) -> Result<(), NoMemory>
-    requires number { number < 64 }
+    requires number { number < port_places }
     requires room { vec_len lines.old < vec_capacity lines.old }
     ensures ok { OnOk result (lines.new.items ≡ lines.old.items ++ config_lines own tree.now number) }
     ensures room { vec_len lines.new < vec_capacity lines.new }

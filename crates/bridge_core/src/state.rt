@@ -5,7 +5,7 @@ ghost use Rattle.br_model.specs.Control.Ageing.{stay};
 ghost use Rattle.br_model.specs.declared.bpdu.BpduMsg.{BpduMsg};
 ghost use Rattle.br_model.specs.Control.Control.{Control, first_control, keeps_up};
 ghost use Rattle.br_model.specs.Theorems.EndsTied.{IsTied};
-ghost use Rattle.br_model.specs.Table.Limits.{fits, all_fit};
+ghost use Rattle.br_model.specs.Table.Limits.{asks, fits, all_fit};
 ghost use Rattle.br_model.specs.Table.Table.{Table, start, apply};
 ghost use Rattle.br_model.specs.Data.Maps.{pair_cmp, get};
 ghost use Rattle.br_model.specs.Wire.Messages.{RecordsStand};
@@ -193,7 +193,7 @@ impl State {
 
 /// Lets the ends follow a change that was made at the moment `now`.
 fn follow_ends(groups: &mut Mdb, now: u64, change: &Change)
-    requires room { HasRoom groups.old change.now }
+    requires room { HasRoom groups.old (asks change.now) }
     requires early { now < 2 ^ 53 }
     ensures { (c : Control) → c.now ≡ now → c.ends ≡ groups.old → (keeps_up c change.now).ends ≡ groups.new }
 {

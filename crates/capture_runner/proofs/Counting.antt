@@ -1,5 +1,5 @@
 -- Lines are counted, step by step.
-use Rattle.std.proofs.Common.{◌≡◌, ℕ, ◌+◌, ◌*◌, ◌%◌, ◌==◌, ◌≤◌, nat_le, Bool, true, false, if◌then◌else◌, cond, length, List, [], ◌∷◌, ◌++◌, map, codes, refl, sym, ◌∙◌, ap, subst, arith, append_assoc, append-nil}
+use Rattle.std.proofs.Common.{◌≡◌, ℕ, ◌+◌, ◌*◌, ◌%◌, ◌==◌, ◌≤◌, nat_le, Bool, true, false, if◌then◌else◌, cond, length, List, [], ◌∷◌, ◌++◌, codes, refl, sym, ◌∙◌, ap, subst, arith, append_assoc, append-nil}
 use Rattle.std.specs.Fmt.{decimal}
 use Rattle.std.specs.List.{list_all}
 use Rattle.std.specs.Str.{bytes_eq}
@@ -10,20 +10,20 @@ use Rattle.br_model.specs.declared.steps.Step.TheVariants.{Now, Turn, Report, Pu
 use Rattle.br_model.specs.declared.transcript.Line.{Line}
 use Rattle.br_model.specs.Program.Generator.{made_scenario, most_frames, each, frame_steps, frames_from, steps}
 use Rattle.br_model.specs.Text.Operands.{last_moment}
-use Rattle.br_model.specs.Plane.Naming.{named}
 use Rattle.br_model.specs.Plane.Runs.{run, then_step, pending}
 use Rattle.br_model.specs.Plane.Steps.{world_step}
 use Rattle.br_model.specs.Plane.World.{World, Stepped, first_world}
 use Rattle.br_model.specs.Program.Runs.{run_of, setup_of}
 use Rattle.br_model.specs.Text.Scenario.{Scenario}
+use Rattle.br_model.specs.Table.Domains.{chip}
 use Rattle.br_model.specs.Table.Setup.{Setup}
 use Rattle.br_model.specs.Program.Summary.{kind_of, count_of, summary, summary_text}
 use Rattle.br_model.proofs.MadeRead.{made_read}
-use Rattle.br_model.proofs.Running.{run_said, run_none}
+use Rattle.br_model.proofs.Running.{run_push, run_none}
 use Rattle.capture_runner.specs.declared.demo.Tally.{Tally}
 use Rattle.capture_runner.specs.Counting.{Tallies, Adds, Ran, RunsOn}
 use Rattle.scenario_text.specs.Generating.{At, steps_left}
-use Rattle.scenario_text.specs.Items.{in_time}
+use Rattle.br_model.specs.Text.LineForms.{comes_by_line}
 
 -- the tally of lines more, by how many of each kind they are
 pub adds : (old new : Tally) (lines : List Line) → new.chip ≡ old.chip + count_of (codes "chip") lines → new.soft ≡ old.soft + count_of (codes "soft") lines
@@ -47,14 +47,14 @@ adds_more a b c lines line h k before t = subst (λ (all : List Line). Tallies a
 pub runs_none : (w : World) (t : Tally) → RunsOn w t [] w t
 runs_none w t setup before h = subst (λ (done : List Step). Ran setup done w t) (sym (append-nil before)) h
 
-pub runs_more : (w v u : World) (a b c : Tally) (done : List Step) (step : Step) (lines : List Line) → RunsOn w a done v b → (u, lines) ≡ world_step v (named step) → Adds b lines c
+pub runs_more : (w v u : World) (a b c : Tally) (done : List Step) (step : Step) (lines : List Line) → RunsOn w a done v b → (u, lines) ≡ world_step v step → Adds b lines c
     → RunsOn w a (done ++ step ∷ []) u c
 runs_more w v u a b c done step lines h stepped added setup before ran =
     let r = h setup before ran in
-    let x : Stepped = run setup (map named (before ++ done)) in
-    let next : (u, lines) ≡ world_step x.0 (named step) = stepped ∙ ap (λ (w : World). world_step w (named step)) r.world_is in
-    let all : run setup (map named (before ++ (done ++ step ∷ []))) ≡ then_step x (named step) =
-    ap (λ (l : List Step). run setup (map named l)) (sym (append_assoc before done (step ∷ []))) ∙ run_said setup (before ++ done) step in record {
+    let x : Stepped = run setup (before ++ done) in
+    let next : (u, lines) ≡ world_step x.0 step = stepped ∙ ap (λ (w : World). world_step w step) r.world_is in
+    let all : run setup (before ++ (done ++ step ∷ [])) ≡ then_step x step =
+    ap (run setup) (sym (append_assoc before done (step ∷ []))) ∙ run_push setup (before ++ done) step in record {
       world_is = ap (λ (y : Stepped). y.0) next ∙ sym (ap (λ (y : Stepped). y.0) all);
       tallies = subst (λ (l : List Line). Tallies l c) (ap (λ (y : Stepped). x.1 ++ y.1) next ∙ sym (ap (λ (y : Stepped). y.1) all)) (added x.1 r.tallies);
     }
@@ -66,20 +66,20 @@ ran_none setup w t e h = record {
   tallies = subst (λ (l : List Line). Tallies l t) (sym (ap (λ (x : Stepped). x.1) (run_none setup))) h;
 }
 
--- the moments of generated steps are ones that a line can say
-pub frame_timed : (i n : ℕ) → i ≤ most_frames → list_all in_time (frame_steps i n) ≡ true
-frame_timed i n few =
-    joined (each 3 i Report) _ (timed (i % 3 == 0) Report refl)
-    (joined (each 5 i Turn) _ (timed (i % 5 == 0) Turn refl)
-    (joined (each 7 i Publish) _ (timed (i % 7 == 0) Publish refl)
-    (timed (i % 64 == 0) (Now (1000 * i)) (early (1000 * i) (omega arith)))))
+-- generated steps come by lines
+pub frame_by_line : (i n : ℕ) → i ≤ most_frames → list_all comes_by_line (frame_steps i n) ≡ true
+frame_by_line i n few =
+    joined (each 3 i (Report chip)) _ (one (i % 3 == 0) (Report chip) refl)
+    (joined (each 5 i (Turn chip)) _ (one (i % 5 == 0) (Turn chip) refl)
+    (joined (each 7 i Publish) _ (one (i % 7 == 0) Publish refl)
+    (one (i % 64 == 0) (Now (1000 * i)) (early (1000 * i) (omega arith)))))
   where
-    timed : (b : Bool) (s : Step) → in_time s ≡ true → list_all in_time (if b then s ∷ [] else []) ≡ true
-    timed true s h = rw h refl
-    timed false s h = refl
+    one : (b : Bool) (s : Step) → comes_by_line s ≡ true → list_all comes_by_line (if b then s ∷ [] else []) ≡ true
+    one true s h = rw h refl
+    one false s h = refl
 
-    joined : (l m : List Step) → list_all in_time l ≡ true → list_all in_time m ≡ true → list_all in_time (l ++ m) ≡ true
-    joined l m h k = list_all-append in_time l m ∙ rw (h, k) refl
+    joined : (l m : List Step) → list_all comes_by_line l ≡ true → list_all comes_by_line m ≡ true → list_all comes_by_line (l ++ m) ≡ true
+    joined l m h k = list_all-append comes_by_line l m ∙ rw (h, k) refl
 
     early : (moment : ℕ) → moment ≤ last_moment → nat_le moment last_moment ≡ true
     early moment h = grind arith

@@ -1,8 +1,7 @@
 -- Lines that are counted, and the run that they are of.
-use Rattle.std.specs.Prelude.{◌≡◌, List, ◌++◌, map, codes}
+use Rattle.std.specs.Prelude.{◌≡◌, List, ◌++◌, codes}
 use Rattle.br_model.specs.declared.steps.Step.{Step}
 use Rattle.br_model.specs.declared.transcript.Line.{Line}
-use Rattle.br_model.specs.Plane.Naming.{named}
 use Rattle.br_model.specs.Plane.Runs.{run}
 use Rattle.br_model.specs.Plane.World.{World}
 use Rattle.br_model.specs.Table.Setup.{Setup}
@@ -22,8 +21,8 @@ Adds old lines new = (before : List Line) → Tallies before old → Tallies (be
 
 -- the world after these steps, and the tally of their lines
 pub record Ran (setup : Setup) (steps : List Step) (world : World) (tally : Tally) : Type 0 where
-  pub world_is : world ≡ (run setup (map named steps)).0
-  pub tallies : Tallies (run setup (map named steps)).1 tally
+  pub world_is : world ≡ (run setup steps).0
+  pub tallies : Tallies (run setup steps).1 tally
 
 -- these steps more were done
 abbrev pub RunsOn : World → Tally → List Step → World → Tally → Type 0

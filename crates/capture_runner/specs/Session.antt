@@ -17,7 +17,6 @@ use Rattle.br_model.specs.Wire.Captures.{packets}
 use Rattle.br_model.specs.Text.LineForms.{declaration, opening}
 use Rattle.br_model.specs.Program.Listings.{listing_text}
 use Rattle.br_model.specs.Text.Operands.{longest_section}
-use Rattle.br_model.specs.Plane.Naming.{named}
 use Rattle.br_model.specs.Plane.Runs.{end_line}
 use Rattle.br_model.specs.Plane.Steps.{world_step}
 use Rattle.br_model.specs.Plane.World.{World, first_world}
@@ -35,7 +34,7 @@ use Rattle.capture_runner.specs.declared.session.Next.TheVariants.{Line as NextL
 use Rattle.capture_runner.specs.declared.session.Session.{Session}
 use Rattle.capture_runner.specs.declared.status.Status.{Status}
 use Rattle.capture_runner.specs.declared.status.Status.TheVariants as statuses
-use Rattle.scenario_text.specs.Items.{in_time}
+use Rattle.br_model.specs.Text.LineForms.{comes_by_line}
 
 -- after the declarations
 abbrev pub IsAmongSteps : Scenario → Type 0
@@ -109,10 +108,10 @@ IsCaptured x section (sections.Steps steps) = captured x.roster.ports (packets s
 IsCaptured x section (sections.End last) =
     (why : LineWhy) × (captured x.roster.ports (packets section (length x.roster.ports)) ≡ Err why) × (last ≡ lasts.Bad x.lines why)
 
--- the moment of each step is one that a line can say
-abbrev pub AreInTime : Captured → Type 0
-AreInTime (sections.Steps steps) = list_all in_time steps.items ≡ true
-AreInTime (sections.End last) = Unit {0}
+-- each step is one that a line can give
+abbrev pub ComeByLine : Captured → Type 0
+ComeByLine (sections.Steps steps) = list_all comes_by_line steps.items ≡ true
+ComeByLine (sections.End last) = Unit {0}
 
 -- the world of a session before a step
 abbrev pub world_of : Roster → Option World → World
@@ -123,8 +122,8 @@ world_of roster (Some w) = w
 pub record Does (old : Session) (step : Step) (before : List ℕ) (new : Session) (after : List ℕ) : Type 0 where
   pub lines : new.lines ≡ old.lines
   pub roster : new.roster ≡ old.roster
-  pub world : new.world ≡ Some (world_step (world_of old.roster old.world) (named step)).0
-  pub text : after ≡ before ++ text (world_step (world_of old.roster old.world) (named step)).1
+  pub world : new.world ≡ Some (world_step (world_of old.roster old.world) step).0
+  pub text : after ≡ before ++ text (world_step (world_of old.roster old.world) step).1
 
 abbrev pub end_line_of : Option World → Line
 end_line_of None = End 0 0 0 0

@@ -4,7 +4,7 @@ ghost use Rattle.std.specs.List.{list_all};
 ghost use Rattle.br_model.specs.Program.Generator.{most_frames};
 ghost use Rattle.br_model.specs.Program.Summary.{summary as summary_of};
 ghost use Rattle.capture_runner.specs.Counting.{Adds, RunsOn};
-ghost use Rattle.scenario_text.specs.Items.{in_time};
+ghost use Rattle.br_model.specs.Text.LineForms.{comes_by_line};
 
 use crate::NoMemory;
 use crate::world::World;
@@ -101,7 +101,7 @@ fn do_steps(
     world: &mut World,
     tally: &mut Tally,
 ) -> Result<(), NoMemory>
-    requires { list_all in_time steps.items ≡ true }
+    requires { list_all comes_by_line steps.items ≡ true }
     ensures { OnOk result (RunsOn world.old tally.old steps.items world.new tally.new) }
 {
     for step in steps {

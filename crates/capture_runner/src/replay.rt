@@ -9,12 +9,13 @@ ghost use Rattle.run_io.specs.Reading.{max_line, room};
 ghost use Rattle.run_io.specs.Writing.{full_length};
 ghost use Rattle.capture_runner.specs.Advancing.{Advances, Caused, Lessens, Sections};
 ghost use Rattle.capture_runner.specs.Halting.{DoesAll, Halts, Moves, Plays, PlaysSection, Stalls};
-ghost use Rattle.capture_runner.specs.Session.{AreInTime, Follows};
+ghost use Rattle.capture_runner.specs.Session.{ComeByLine, Follows};
 ghost use Rattle.capture_runner.specs.Stopping.{stop_line, stop_status};
-ghost use Rattle.scenario_text.specs.Items.{in_time};
+ghost use Rattle.br_model.specs.Text.LineForms.{comes_by_line};
 
 use crate::session::{Captured, Last, Next, Session};
 use crate::status::Status;
+use br_model::limits::MOST_BYTES;
 use br_model::scenario::LineWhy;
 use br_model::steps::Step;
 use run_io::lines::{LineFault, LineReader};
@@ -22,9 +23,6 @@ use run_io::output::Output;
 use run_io::sinks::{Sink, WriteFault};
 use run_io::sources::Source;
 use std::alloc::{AllocError, Global};
-
-/// How many bytes are taken at most.
-const LIMIT: u32 = 1 << 28;
 
 /// Why a run stopped before its scenario ended.
 #[derive(Clone, Copy, PartialEq, Eq)]
@@ -109,7 +107,7 @@ fn read_section<S: Source>(
     requires sound { reader.old.fault ≡ None }
     requires most { length ≤ longest_section }
     ensures sections { (limit : ℕ) → Sections limit reader.old reader.new (S.left source.old) (S.left source.new) session.now length result }
-    ensures in_time { IfOk result AreInTime }
+    ensures by_line { IfOk result ComeByLine }
     ensures less { OnOk result (room reader.new ≤ room reader.old) }
     ensures cause { Caused (S.faults source.old) (S.faults source.new) result }
     ensures later { S.faults source.old ≤ S.faults source.new }
@@ -203,7 +201,7 @@ fn do_steps<K: Sink>(
     output: &mut Output,
     steps: Vec<Step>,
 ) -> Result<(), Halt>
-    requires { list_all in_time steps.items ≡ true }
+    requires { list_all comes_by_line steps.items ≡ true }
     ensures does { OnOk result (DoesAll session.old steps.items session.new (K.taken sink.old) (K.taken sink.new) (string_bytes output.old.text) (string_bytes output.new.text)) }
     ensures cause { Stalls (K.faults sink.old) (K.faults sink.new) result }
     ensures later { K.faults sink.old ≤ K.faults sink.new }
@@ -261,7 +259,7 @@ pub(crate) fn play<S: Source, K: Sink>(
     ensures later { K.faults sink.old ≤ K.faults sink.new }
 {
     output.text.push_str("transcript 1\n")?;
-    let mut reader = LineReader::make(alloc, LIMIT);
+    let mut reader = LineReader::make(alloc, MOST_BYTES);
     loop {
         put_before_read(&reader, output, sink)?;
         let text = &mut output.text;

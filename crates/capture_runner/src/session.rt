@@ -1,12 +1,11 @@
 //! A run of a scenario, line by line.
 ghost use Rattle.std.specs.Prelude.{◌≡◌, ℕ, ◌+◌, ◌-◌, ◌<◌, ◌≤◌, ◌^◌, ◌++◌, length, true, false, None, Some, IfOk, OnOk, OnErr, string_bytes};
 ghost use Rattle.br_model.specs.Text.Operands.{longest_section};
-ghost use Rattle.br_model.specs.Plane.Naming.{named};
 ghost use Rattle.br_model.specs.Plane.Steps.{world_step};
 ghost use Rattle.br_model.specs.Text.Scenario.{Scenario, opened, longest_line, closes};
 ghost use Rattle.br_model.specs.Table.Table.{table};
-ghost use Rattle.capture_runner.specs.Session.{Follows, Takes, IsCaptured, AreInTime, Does, ending_of, world_of, end_line_of, last_line, history_of, listing_or_bad, status_of};
-ghost use Rattle.scenario_text.specs.Items.{in_time};
+ghost use Rattle.capture_runner.specs.Session.{Follows, Takes, IsCaptured, ComeByLine, Does, ending_of, world_of, end_line_of, last_line, history_of, listing_or_bad, status_of};
+ghost use Rattle.br_model.specs.Text.LineForms.{comes_by_line};
 ghost use Rattle.transcript_text.specs.Extends.{Extends};
 
 use crate::NoMemory;
@@ -122,7 +121,7 @@ impl Session {
     pub(crate) fn captured(&self, alloc: Global, section: &[u8]) -> Result<Captured, NoMemory>
         requires { length section.now ≤ longest_section }
         ensures gives { IfOk result (IsCaptured self.now section.now) }
-        ensures in_time { IfOk result AreInTime }
+        ensures by_line { IfOk result ComeByLine }
     {
         match captured_steps(alloc, section, &self.roster) {
             Ok(steps) => Ok(Captured::Steps(steps)),
@@ -144,10 +143,10 @@ impl Session {
     /// each call pays for the room of its locals.
     fn begin(&mut self, alloc: Global, step: Step) -> Result<Lines, NoMemory>
         requires first { self.old.world ≡ None }
-        requires moment { in_time step ≡ true }
+        requires by_line { comes_by_line step ≡ true }
         ensures lines { OnOk result (self.new.lines ≡ self.old.lines) }
         ensures roster { OnOk result (self.new.roster ≡ self.old.roster) }
-        ensures world { IfOk result (λ lines. (self.new.world ≡ Some (world_step (world_of self.old.roster None) (named step)).0) × (lines ≡ (world_step (world_of self.old.roster None) (named step)).1)) }
+        ensures world { IfOk result (λ lines. (self.new.world ≡ Some (world_step (world_of self.old.roster None) step).0) × (lines ≡ (world_step (world_of self.old.roster None) step).1)) }
     {
         let mut world = World::make(alloc, self.roster.domains(), self.roster.own())?;
         let lines = world.step(alloc, step)?;
@@ -157,10 +156,10 @@ impl Session {
 
     /// Does a step in the world that is there, or in a new one. The answer is its lines.
     fn go_on(&mut self, alloc: Global, step: Step) -> Result<Lines, NoMemory>
-        requires { in_time step ≡ true }
+        requires { comes_by_line step ≡ true }
         ensures lines { OnOk result (self.new.lines ≡ self.old.lines) }
         ensures roster { OnOk result (self.new.roster ≡ self.old.roster) }
-        ensures world { IfOk result (λ lines. (self.new.world ≡ Some (world_step (world_of self.old.roster self.old.world) (named step)).0) × (lines ≡ (world_step (world_of self.old.roster self.old.world) (named step)).1)) }
+        ensures world { IfOk result (λ lines. (self.new.world ≡ Some (world_step (world_of self.old.roster self.old.world) step).0) × (lines ≡ (world_step (world_of self.old.roster self.old.world) step).1)) }
     {
         match &mut self.world {
             Some(world) => world.step(alloc, step),
@@ -175,7 +174,7 @@ impl Session {
         step: Step,
         text: &mut String,
     ) -> Result<(), NoMemory>
-        requires { in_time step ≡ true }
+        requires { comes_by_line step ≡ true }
         ensures does { OnOk result (Does self.old step (string_bytes text.old) self.new (string_bytes text.new)) }
         ensures err { OnErr result (Extends (string_bytes text.old) (string_bytes text.new)) }
     {

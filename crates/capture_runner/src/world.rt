@@ -1,11 +1,12 @@
 //! The world of a run: a bridge with its chip, and the seat by which its software looks up.
 ghost use Rattle.std.specs.Prelude.{◌≡◌, length, true, IfOk, OnErr};
-ghost use Rattle.br_model.specs.Plane.Naming.{named};
 ghost use Rattle.br_model.specs.Plane.Runs.{end_line, pending};
-ghost use Rattle.br_model.specs.Plane.Steps.{Turn, world_step};
+ghost use Rattle.br_model.specs.declared.steps.Step.TheVariants.{Turn};
+ghost use Rattle.br_model.specs.Plane.Steps.{world_step};
 ghost use Rattle.br_model.specs.Plane.World.{first_world};
+ghost use Rattle.br_model.specs.Table.Domains.{chip};
 ghost use Rattle.plane_core.specs.Planes.{Steps as IsStep};
-ghost use Rattle.scenario_text.specs.Items.{in_time};
+ghost use Rattle.br_model.specs.Text.LineForms.{comes_by_line};
 
 use crate::NoMemory;
 use br_model::change::Change;
@@ -36,13 +37,14 @@ impl Model for World {
     ghost invariant = { λ w. w.seat.value.board ≡ w.plane.value.board };
 }
 
-/// The chip applies the update whose turn it is.
-fn turn(alloc: Global, plane: &mut Plane) -> Result<Lines, NoMemory>
-    ensures ok { IfOk result (λ lines. IsStep plane.old plane.new Turn lines) }
+/// The chip of the domain applies the update whose turn it is.
+fn turn(alloc: Global, plane: &mut Plane, dom: Dom) -> Result<Lines, NoMemory>
+    requires { dom ≡ chip }
+    ensures ok { IfOk result (λ lines. IsStep plane.old plane.new (Turn dom) lines) }
     ensures err { OnErr result (plane.new ≡ plane.old) }
 {
-    let update = plane.update(plane.applied(Dom::CHIP));
-    match plane.turn(alloc, Dom::CHIP, update) {
+    let update = plane.update(plane.applied(dom));
+    match plane.turn(alloc, dom, update) {
         Ok(lines) => Ok(lines),
         Err(TurnFault::NoMemory) => Err(AllocError),
         Err(TurnFault::OutOfTurn { .. }) => unreachable!(),
@@ -65,20 +67,21 @@ impl World {
         })
     }
 
-    /// Does a step.
+    /// Does a step that a line can give.
     pub(crate) fn step(&mut self, alloc: Global, step: Step) -> Result<Lines, NoMemory>
-        requires { in_time step ≡ true }
-        ensures { IfOk result (λ lines. (self.new, lines) ≡ world_step self.old (named step)) }
+        requires { comes_by_line step ≡ true }
+        ensures { IfOk result (λ lines. (self.new, lines) ≡ world_step self.old step) }
     {
         match step {
             Step::Rx { port, bytes } => Ok(self.plane.enter(alloc, port, bytes.as_slice())?.lines),
             Step::Cmd(command) => self.plane.accept(alloc, &Event::Cmd(command)),
             Step::Now(moment) => self.plane.accept(alloc, &Event::Moment(moment)),
             Step::Serve => self.plane.serve(alloc, &mut self.seat),
+            Step::Hold | Step::Post { .. } => unreachable!(),
+            Step::Turn(dom) => turn(alloc, &mut self.plane, dom),
+            Step::Report(dom) => self.plane.report(alloc, dom),
+            Step::Sweep(dom) => self.plane.sweep(alloc, dom),
             Step::Publish => self.plane.publish(alloc),
-            Step::Turn => turn(alloc, &mut self.plane),
-            Step::Report => self.plane.report(alloc, Dom::CHIP),
-            Step::Sweep => self.plane.sweep(alloc, Dom::CHIP),
         }
     }
 

@@ -1,17 +1,19 @@
 -- A row of targets, from set to set.
 use Rattle.std.proofs.Common.{◌≡◌, ℕ, ◌<◌, Bool, true, false, not, ◌&&◌, ◌||◌, IsTrue, ◌↔◌, List, [], refl, ap, ap₂, ◌∙◌}
 use Rattle.std.specs.Prelude.{◌==◌}
+use Rattle.br_model.specs.Table.Domains.{port_places}
 use Rattle.port_sets.specs.Numbers.{has_number}
 use Rattle.chip_tables.specs.declared.rows.Flood.TheVariants.{Unicast, Mcast, Bcast}
-use Rattle.chip_tables.specs.Stands.{port_count, ports_where, some_port, fan}
+use Rattle.chip_tables.specs.Stands.{ports_where, some_port, fan}
 use Rattle.chip_driver.specs.declared.shadow.Shadow.{Shadow}
 use Rattle.chip_driver.specs.Shadows.{Has, floods_to, routes_to, opens, frees, fan_to}
-use Rattle.chip_driver.proofs.Sets.{has-where, same_ports, same_some, some-none}
+use Rattle.chip_tables.proofs.SomePort.{same_some, some-none}
+use Rattle.chip_driver.proofs.Sets.{has-where, same_ports}
 
 -- rows by tests that agree at each port are one row
 pub same_fans : (own own' target target' eligible eligible' free free' : ℕ → Bool)
-    → ((q : ℕ) → q < port_count → own q ≡ own' q) → ((q : ℕ) → q < port_count → target q ≡ target' q)
-    → ((q : ℕ) → q < port_count → eligible q ≡ eligible' q) → ((q : ℕ) → q < port_count → free q ≡ free' q)
+    → ((q : ℕ) → q < port_places → own q ≡ own' q) → ((q : ℕ) → q < port_places → target q ≡ target' q)
+    → ((q : ℕ) → q < port_places → eligible q ≡ eligible' q) → ((q : ℕ) → q < port_places → free q ≡ free' q)
     → fan own target eligible free ≡ fan own' target' eligible' free'
 same_fans own own' target target' eligible eligible' free free' o t e f =
     let ports : ports_where (λ q. own q && target q) ≡ ports_where (λ q. own' q && target' q) = same_ports _ _ (λ q low. ap₂ (λ a b. a && b) (o q low) (t q low)) in

@@ -3,7 +3,7 @@ use Rattle.std.proofs.Common.{◌≡◌, ◌≢◌, ℕ, ◌<◌, ◌≤◌, Boo
 use Rattle.std.specs.Prelude.{◌==◌}
 use Rattle.std.proofs.lemmas.Bool.Decides.{eqb_tells}
 use Rattle.port_sets.specs.Numbers.{has_number}
-use Rattle.br_model.specs.Table.Domains.{host}
+use Rattle.br_model.specs.Table.Domains.{host, port_places}
 use Rattle.br_model.specs.Forward.Targets.{flood, mcast_flood, bcast_flood, isolated}
 use Rattle.chip_tables.specs.declared.rows.PortRow.{PortRow}
 use Rattle.chip_tables.specs.declared.rows.VlanRow.{VlanRow}
@@ -11,10 +11,11 @@ use Rattle.chip_tables.specs.declared.rows.FanRow.{FanRow}
 use Rattle.chip_tables.specs.declared.rows.Flood.{Flood}
 use Rattle.chip_tables.specs.declared.rows.Flood.TheVariants.{Unicast, Mcast, Bcast}
 use Rattle.chip_tables.specs.Rows.{Rows, vlan_at, flood_at, router_at, port_at, WritesPort, WritesVlan}
-use Rattle.chip_tables.specs.Stands.{port_count, IsVid}
+use Rattle.chip_tables.specs.Stands.{IsVid}
 use Rattle.chip_driver.specs.declared.shadow.Shadow.{Shadow}
 use Rattle.chip_driver.specs.Joined.{has_vlan, Switches}
-use Rattle.chip_driver.specs.Shadows.{Has, switched, row_forwards, row_has_flag, row_floods, floods_to, routes_to, fan_to}
+use Rattle.chip_tables.specs.Flags.{row_has_flag}
+use Rattle.chip_driver.specs.Shadows.{Has, switched, row_forwards, row_floods, floods_to, routes_to, fan_to}
 use Rattle.br_model.specs.Table.GroupPairs.{GroupPair}
 use Rattle.br_model.specs.Table.Groups.{Membership}
 use Rattle.mdb_snoop.specs.Database.{ports_in}
@@ -49,15 +50,15 @@ guarded_twice : (m a b a' b' : Bool) → (m ≡ true → a ≡ a') → (m ≡ tr
 guarded_twice true a b a' b' h k = ap₂ (λ x y. x && y) (h refl) (k refl)
 guarded_twice false a b a' b' h k = refl
 
-module _ (s s' : Shadow) (members : List ℕ) (own : s'.own ≡ s.own) (same : (q : ℕ) → q < port_count → has_number members q ≡ true → SameAt s s' q) where
-  by_targets : (to to' : ℕ → Bool) → ((q : ℕ) → q < port_count → to q ≡ to' q) → fan_to s members to ≡ fan_to s' members to'
+module _ (s s' : Shadow) (members : List ℕ) (own : s'.own ≡ s.own) (same : (q : ℕ) → q < port_places → has_number members q ≡ true → SameAt s s' q) where
+  by_targets : (to to' : ℕ → Bool) → ((q : ℕ) → q < port_places → to q ≡ to' q) → fan_to s members to ≡ fan_to s' members to'
   unfolding fan_to
   by_targets to to' target =
       same_fans _ _ _ _ _ _ _ _ (λ q low. ap (λ (ns : List ℕ). has_number ns q) (sym own)) target
       (λ q low. guarded (has_number members q) _ _ (λ is. ap (λ b. (q == host) || b) (same q low is).forwarding))
       (λ q low. guarded_twice (has_number members q) _ _ _ _ (λ is. ap (λ b. (q == host) || b) (same q low is).forwarding) (λ is. ap (λ b. (q == host) || not b) (same q low is).isolated))
 
-  flood_target : (f : Flood) → (q : ℕ) → q < port_count → floods_to s members f q ≡ floods_to s' members f q
+  flood_target : (f : Flood) → (q : ℕ) → q < port_places → floods_to s members f q ≡ floods_to s' members f q
   flood_target Unicast q low = guarded (has_number members q) _ _ (λ is. (same q low is).flood)
   flood_target Mcast q low = ap (λ b. (q == host) || b) (guarded (has_number members q) _ _ (λ is. (same q low is).mcast_flood))
   flood_target Bcast q low = ap (λ b. (q == host) || b) (guarded (has_number members q) _ _ (λ is. (same q low is).bcast_flood))
@@ -80,13 +81,13 @@ follows_same s old new same follows = record {
   isolated = λ q low. follows.isolated q low ∙ ap (λ r. row_has_flag r isolated) (sym (same q));
 }
 
-states_same : (old new : Rows) → ((q : ℕ) → port_at new q ≡ port_at old q) → ((q : ℕ) → q < port_count → (port_at old q).state ≤ 4) → (q : ℕ) → q < port_count → (port_at new q).state ≤ 4
+states_same : (old new : Rows) → ((q : ℕ) → port_at new q ≡ port_at old q) → ((q : ℕ) → q < port_places → (port_at old q).state ≤ 4) → (q : ℕ) → q < port_places → (port_at new q).state ≤ 4
 states_same old new same states q low = subst (λ (r : PortRow). r.state ≤ 4) (sym (same q)) (states q low)
 
 -- ---- the rows of a port's VLANs are made anew
 
-pub settled_anew : (s s' : Shadow) (j : List (List ℕ)) (p : ℕ) (old mid new : Rows) → p < port_count → Settled s j old → mid ≡ record old { ports = mid.ports }
-    → s'.own ≡ s.own → ((q : ℕ) → q < port_count → q ≢ p → SameAt s s' q) → Follows s' mid → ((q : ℕ) → q < port_count → (port_at mid q).state ≤ 4)
+pub settled_anew : (s s' : Shadow) (j : List (List ℕ)) (p : ℕ) (old mid new : Rows) → p < port_places → Settled s j old → mid ≡ record old { ports = mid.ports }
+    → s'.own ≡ s.own → ((q : ℕ) → q < port_places → q ≢ p → SameAt s s' q) → Follows s' mid → ((q : ℕ) → q < port_places → (port_at mid q).state ≤ 4)
     → Refreshes (has_vlan j p) s' mid new → Settled s' j new
 settled_anew s s' j p old mid new p_low settled mid_rest own same follows states refreshes = record {
   shadow = follows_same s' mid new (λ q. ap (λ (r : Rows). port_at r q) refreshes.rest) follows;
@@ -116,7 +117,7 @@ settled_anew s s' j p old mid new p_low settled mid_rest own same follows states
     not_member members q absent present is = (let e : true ≡ false = sym present ∙ ap (has_number members) is ∙ absent in cc)
 
     by_member : (vid : ℕ) → IsVid vid → (row : Shadow → List ℕ → FanRow) (kept : FanRow) (has : Bool) → has_vlan j p vid ≡ has → kept ≡ row s (vlan_at mid vid).members
-        → (((q : ℕ) → q < port_count → has_number (vlan_at mid vid).members q ≡ true → SameAt s s' q) → row s (vlan_at mid vid).members ≡ row s' (vlan_at mid vid).members)
+        → (((q : ℕ) → q < port_places → has_number (vlan_at mid vid).members q ≡ true → SameAt s s' q) → row s (vlan_at mid vid).members ≡ row s' (vlan_at mid vid).members)
         → cond has (row s' (vlan_at mid vid).members) kept ≡ row s' (vlan_at mid vid).members
     by_member vid in_range row kept true is before local = refl
     by_member vid in_range row kept false is before local =
@@ -133,7 +134,7 @@ state_written : (b : Bool) (x y : PortRow) → x.state ≤ 4 → y.state ≤ 4 �
 state_written true x y hx hy = hx
 state_written false x y hx hy = hy
 
-pub states_written : (p : ℕ) (row : PortRow) (old mid : Rows) → WritesPort old mid p row → row.state ≤ 4 → ((q : ℕ) → q < port_count → (port_at old q).state ≤ 4) → (q : ℕ) → q < port_count → (port_at mid q).state ≤ 4
+pub states_written : (p : ℕ) (row : PortRow) (old mid : Rows) → WritesPort old mid p row → row.state ≤ 4 → ((q : ℕ) → q < port_places → (port_at old q).state ≤ 4) → (q : ℕ) → q < port_places → (port_at mid q).state ≤ 4
 states_written p row old mid writes fits states q low = subst (λ (r : PortRow). r.state ≤ 4) (sym (writes q)) (state_written (q == p) row (port_at old q) fits (states q low))
 
 own_stays : (p : ℕ) (row : PortRow) (old : Rows) → row.own ≡ (port_at old p).own → (q : ℕ) → (port_at old q).own ≡ (cond (q == p) row (port_at old q)).own
@@ -157,7 +158,7 @@ follows_written s s' p row old mid follows own_is writes notes = record {
     noted read set set' has is q low =
         has-where set' _ is q low ∙ ap (λ b. cond (q == p) (read row) b) (has q low) ∙ cond_read read (q == p) row (port_at old q) ∙ ap read (sym (writes q))
 
-notes_same : (s s' : Shadow) (p : ℕ) (row : PortRow) → Notes p row s s' → (q : ℕ) → q < port_count → q ≢ p → SameAt s s' q
+notes_same : (s s' : Shadow) (p : ℕ) (row : PortRow) → Notes p row s s' → (q : ℕ) → q < port_places → q ≢ p → SameAt s s' q
 notes_same s s' p row notes q low other = record {
   forwarding = switched_other s'.forwarding s.forwarding p _ notes.forwarding q low other;
   flood = switched_other s'.flood s.flood p _ notes.flood q low other;
@@ -167,7 +168,7 @@ notes_same s s' p row notes q low other = record {
   routers = ap (λ (ns : List ℕ). has_number ns q) (sym notes.routers);
 }
 
-pub settled_port : (s s' : Shadow) (j : List (List ℕ)) (p : ℕ) (row : PortRow) (old mid new : Rows) → p < port_count → Settled s j old → row.own ≡ (port_at old p).own → row.state ≤ 4
+pub settled_port : (s s' : Shadow) (j : List (List ℕ)) (p : ℕ) (row : PortRow) (old mid new : Rows) → p < port_places → Settled s j old → row.own ≡ (port_at old p).own → row.state ≤ 4
     → WritesPort old mid p row → mid ≡ record old { ports = mid.ports } → Notes p row s s' → Refreshes (has_vlan j p) s' mid new → Settled s' j new
 settled_port s s' j p row old mid new p_low settled own_is fits writes mid_rest notes refreshes =
     settled_anew s s' j p old mid new p_low settled mid_rest notes.own
@@ -178,7 +179,7 @@ settled_port s s' j p row old mid new p_low settled own_is fits writes mid_rest 
 
 -- ---- a router comes or goes
 
-pub settled_router : (s : Shadow) (j : List (List ℕ)) (p : ℕ) (routers : List ℕ) (on : Bool) (old new : Rows) → p < port_count → Settled s j old → routers ≡ switched s.routers p on
+pub settled_router : (s : Shadow) (j : List (List ℕ)) (p : ℕ) (routers : List ℕ) (on : Bool) (old new : Rows) → p < port_places → Settled s j old → routers ≡ switched s.routers p on
     → Refreshes (has_vlan j p) (record s { routers = routers }) old new → Settled (record s { routers = routers }) j new
 settled_router s j p routers on old new p_low settled is refreshes =
     settled_anew s (record s { routers = routers }) j p old old new p_low settled refl refl
@@ -231,7 +232,7 @@ settled_member s j j' p v on row old mid new v_low settled is writes mid_rest sw
     and_false true = refl
     and_false false = refl
 
-    here : (q vid : ℕ) → q < port_count → (vid == v) ≡ true → vid ≡ v → cond ((q == p) && (vid == v)) on (has_number (vlan_at old vid).members q) ≡ has_number (cond (vid == v) row (vlan_at old vid)).members q
+    here : (q vid : ℕ) → q < port_places → (vid == v) ≡ true → vid ≡ v → cond ((q == p) && (vid == v)) on (has_number (vlan_at old vid).members q) ≡ has_number (cond (vid == v) row (vlan_at old vid)).members q
     here q vid low test same =
         ap (λ b. cond ((q == p) && b) on (has_number (vlan_at old vid).members q)) test
         ∙ ap (λ b. cond b on (has_number (vlan_at old vid).members q)) (and_true (q == p))
@@ -266,7 +267,7 @@ settled_groups s j old new settled rest = subst (λ r. Settled s j r) (sym rest)
 })
 
 -- The group rows of VLANs of which the port isn't a member stay.
-pub port_kept : (s s' : Shadow) (j : List (List ℕ)) (p : ℕ) (row : PortRow) (ms : List Membership) (old mid : Rows) → p < port_count → Settled s j old → Notes p row s s' → ((vid : ℕ) → vlan_at mid vid ≡ vlan_at old vid)
+pub port_kept : (s s' : Shadow) (j : List (List ℕ)) (p : ℕ) (row : PortRow) (ms : List Membership) (old mid : Rows) → p < port_places → Settled s j old → Notes p row s s' → ((vid : ℕ) → vlan_at mid vid ≡ vlan_at old vid)
     → (k : GroupPair) → IsVid k.0 → has_vlan j p k.0 ≡ false → group_fan s old ms k ≡ group_fan s' mid ms k
 port_kept s s' j p row ms old mid p_low settled notes vlan k in_range absent =
     by_targets s s' (vlan_at old k.0).members notes.own (λ q low there. notes_same s s' p row notes q low (apart q there)) (has_number (ports_in ms k.0 k.1)) (has_number (ports_in ms k.0 k.1)) (λ q low. refl)

@@ -6,7 +6,7 @@ use Rattle.std.specs.Ordering.{nat_cmp}
 use Rattle.std.proofs.lemmas.Bool.Decides.{eqb_tells}
 use Rattle.br_model.specs.declared.change.Kind.{Kind}
 use Rattle.br_model.specs.Forward.Admission.{is_up, is_forwarding, forwarding, member}
-use Rattle.br_model.specs.Table.Domains.{Domains, host}
+use Rattle.br_model.specs.Table.Domains.{Domains, host, port_places}
 use Rattle.br_model.specs.Forward.Eligible.{untagged}
 use Rattle.br_model.specs.Table.Groups as groups
 use Rattle.br_model.specs.Data.Maps.{get, has}
@@ -19,9 +19,10 @@ use Rattle.chip_tables.specs.declared.rows.PortRow.{PortRow}
 use Rattle.chip_tables.specs.declared.rows.Flood.{Flood}
 use Rattle.chip_tables.specs.declared.rows.Flood.TheVariants.{Unicast, Mcast, Bcast}
 use Rattle.chip_tables.specs.Rows.{Rows, vlan_at, flood_at, router_at, port_at, trap_at, control_in, WritesPort, WritesVlan}
-use Rattle.chip_tables.specs.Stands.{port_count, ports_where, is_flooded, is_routed, is_grouped, is_open, vlan_wanted, fan_wanted, port_wanted, VlansStand, PortsStand, TrapsStand, ControlStands, address_wanted, AddressesStand, Stands}
+use Rattle.chip_tables.specs.Stands.{ports_where, is_flooded, is_routed, is_grouped, is_open, vlan_wanted, fan_wanted, port_wanted, VlansStand, PortsStand, TrapsStand, ControlStands, address_wanted, AddressesStand, Stands}
 use Rattle.chip_driver.specs.declared.shadow.Shadow.{Shadow}
-use Rattle.chip_driver.specs.Shadows.{Has, switched, switched_row, row_forwards, row_has_flag, row_floods, floods_to, routes_to, opens, fan_to}
+use Rattle.chip_tables.specs.Flags.{row_has_flag}
+use Rattle.chip_driver.specs.Shadows.{Has, switched, switched_row, row_forwards, row_floods, floods_to, routes_to, opens, fan_to}
 use Rattle.chip_driver.specs.GroupRows.{has_pair, group_fan, GroupsFollow}
 use Rattle.chip_driver.specs.Settled.{Settled}
 use Rattle.chip_driver.specs.Drives.{Driven, KeepsRouters, Drives}
@@ -60,10 +61,10 @@ stands d t s j rows settled vlans ports routers traps control addresses follow =
     forwards : Has s.forwarding (is_forwarding t)
     forwards q low = settled.shadow.forwarding q low ∙ ap row_forwards (ports q low) ∙ ap (λ b. is_up t q && b) (state_is (get nat_cmp t.state q))
 
-    eligible : (vid q : ℕ) → q < port_count → opens s (vlan_wanted t vid).members q ≡ is_open t vid q
+    eligible : (vid q : ℕ) → q < port_places → opens s (vlan_wanted t vid).members q ≡ is_open t vid q
     eligible vid q low = ap₂ (λ m b. m && ((q == host) || b)) (members vid q low) (forwards q low)
 
-    wanted : (vid : ℕ) (to target : ℕ → Bool) → ((q : ℕ) → q < port_count → to q ≡ target q) → fan_to s (vlan_wanted t vid).members to ≡ fan_wanted d t vid target
+    wanted : (vid : ℕ) (to target : ℕ → Bool) → ((q : ℕ) → q < port_places → to q ≡ target q) → fan_to s (vlan_wanted t vid).members to ≡ fan_wanted d t vid target
     wanted vid to target same =
         same_fans _ _ _ _ _ _ _ _ (λ q low. settled.shadow.own q low ∙ ap (λ (r : PortRow). r.own) (ports q low)) same (eligible vid)
         (λ q low. ap₂ (λ e b. e && ((q == host) || not b)) (eligible vid q low) (settled.shadow.isolated q low ∙ ap (λ r. row_has_flag r isolated) (ports q low)))
@@ -74,7 +75,7 @@ stands d t s j rows settled vlans ports routers traps control addresses follow =
         ∙ wanted k.0 (has_number (ports_in t.groups k.0 k.1)) (is_grouped t k.0 k.1) (λ q low. has-ports q k.0 k.1 t.groups))
     grouped k false is = refl
 
-    floods : (vid : ℕ) (f : Flood) (q : ℕ) → q < port_count → floods_to s (vlan_wanted t vid).members f q ≡ is_flooded t vid f q
+    floods : (vid : ℕ) (f : Flood) (q : ℕ) → q < port_places → floods_to s (vlan_wanted t vid).members f q ≡ is_flooded t vid f q
     floods vid Unicast q low = ap₂ (λ m b. m && b) (members vid q low) (settled.shadow.flood q low ∙ ap (λ r. row_floods r flood) (ports q low))
     floods vid Mcast q low = ap₂ (λ m b. (q == host) || (m && b)) (members vid q low) (settled.shadow.mcast_flood q low ∙ ap (λ r. row_floods r mcast_flood) (ports q low))
     floods vid Bcast q low = ap₂ (λ m b. (q == host) || (m && b)) (members vid q low) (settled.shadow.bcast_flood q low ∙ ap (λ r. row_floods r bcast_flood) (ports q low))

@@ -10,7 +10,7 @@ use Rattle.port_sets.specs.Numbers.{has_number}
 use Rattle.port_sets.proofs.Numbers.{none_below}
 use Rattle.port_sets.proofs.Words.{no_members}
 use Rattle.br_model.specs.Table.DomainPorts.{IsWordOf}
-use Rattle.br_model.specs.Table.Domains.{Domains, chip, host}
+use Rattle.br_model.specs.Table.Domains.{Domains, chip, host, port_places}
 use Rattle.br_model.specs.Table.Groups.{Membership}
 use Rattle.br_model.specs.Table.Table.{Table, start}
 use Rattle.br_model.specs.Forward.Targets.{flood, mcast_flood, bcast_flood, isolated}
@@ -21,15 +21,17 @@ use Rattle.chip_tables.specs.declared.rows.VlanRow.{VlanRow}
 use Rattle.chip_tables.specs.declared.rows.Flood.{Flood}
 use Rattle.chip_tables.specs.declared.rows.Flood.TheVariants.{Unicast, Mcast, Bcast}
 use Rattle.chip_tables.specs.Rows.{Rows, members_of, vlan_of, fan_of, is_on, vlan_at, flood_at, router_at, port_at, trap_at, control_in, WritesVlan, WritesPort}
-use Rattle.chip_tables.specs.Stands.{port_count, ports_where, some_port, trap_count, trap_wanted, is_own, VlansStand}
+use Rattle.chip_tables.specs.Stands.{ports_where, some_port, trap_count, trap_wanted, is_own, VlansStand}
 use Rattle.chip_tables.specs.Writing.{IsBlank}
 use Rattle.chip_driver.specs.declared.shadow.Shadow.{Shadow}
 use Rattle.chip_driver.specs.Drives.{Drives}
 use Rattle.chip_driver.specs.Making.{idle, MarksOwn, SwitchesTraps}
-use Rattle.chip_driver.specs.Shadows.{row_forwards, row_has_flag, row_floods, floods_to, routes_to, opens, frees, fan_to, switched_row}
+use Rattle.chip_tables.specs.Flags.{row_has_flag}
+use Rattle.chip_driver.specs.Shadows.{row_forwards, row_floods, floods_to, routes_to, opens, frees, fan_to, switched_row}
 use Rattle.chip_driver.specs.GroupRows.{GroupsFollow}
 use Rattle.chip_driver.specs.Settled.{Settled}
-use Rattle.chip_driver.proofs.Sets.{has-where, same_some}
+use Rattle.chip_tables.proofs.SomePort.{same_some}
+use Rattle.chip_driver.proofs.Sets.{has-where}
 use Rattle.chip_driver.proofs.GroupLoop.{follow_start}
 use Rattle.chip_driver.proofs.Standing.{stands, vlans_switched}
 use Rattle.chip_driver.proofs.Steps.{is_lt, not_lt, next_of}
@@ -90,9 +92,9 @@ any_nothing : (xs : List ℕ) → list_any (λ x. false) xs ≡ false
 any_nothing [] = refl
 any_nothing (x ∷ xs) = any_nothing xs
 
-none_some : (p : ℕ → Bool) → ((q : ℕ) → q < port_count → p q ≡ false) → some_port p ≡ false
+none_some : (p : ℕ → Bool) → ((q : ℕ) → q < port_places → p q ≡ false) → some_port p ≡ false
 unfolding some_port
-none_some p h = same_some p (λ q. false) h ∙ any_nothing (range_with_len 0 port_count)
+none_some p h = same_some p (λ q. false) h ∙ any_nothing (range_with_len 0 port_places)
 
 nothing_of : (a b : Bool) → (a && (b && false)) ≡ false
 nothing_of true true = refl
@@ -103,10 +105,10 @@ no_more : (b : Bool) → (b && false) ≡ false
 no_more true = refl
 no_more false = refl
 
-nobody : (s : Shadow) (to : ℕ → Bool) → ((q : ℕ) → q < port_count → (has_number s.own q && to q) ≡ false) → no_fan ≡ fan_to s [] to
+nobody : (s : Shadow) (to : ℕ → Bool) → ((q : ℕ) → q < port_places → (has_number s.own q && to q) ≡ false) → no_fan ≡ fan_to s [] to
 unfolding fan_to
 nobody s to none =
-    let p : ports_where (λ q. has_number s.own q && to q) ≡ [] = none_below _ port_count none in
+    let p : ports_where (λ q. has_number s.own q && to q) ≡ [] = none_below _ port_places none in
     let i : some_port (λ q. not (has_number s.own q) && (to q && frees s [] q)) ≡ false = none_some _ (λ q low. nothing_of (not (has_number s.own q)) (to q)) in
     let l : some_port (λ q. not (has_number s.own q) && (to q && opens s [] q)) ≡ false = none_some _ (λ q low. nothing_of (not (has_number s.own q)) (to q)) in
     cc
@@ -118,7 +120,7 @@ host_alone s own_host q =
     (λ (other : ((q == host) ≡ false) × (q ≢ host)). ap (λ b. has_number s.own q && (b || false)) other.0 ∙ no_more (has_number s.own q))
     (eqb_tells q host)
 
-untargeted : (s : Shadow) (f : Flood) → has_number s.own host ≡ false → (q : ℕ) → q < port_count → (has_number s.own q && floods_to s [] f q) ≡ false
+untargeted : (s : Shadow) (f : Flood) → has_number s.own host ≡ false → (q : ℕ) → q < port_places → (has_number s.own q && floods_to s [] f q) ≡ false
 untargeted s Unicast own_host q low = no_more (has_number s.own q)
 untargeted s Mcast own_host q low = host_alone s own_host q
 untargeted s Bcast own_host q low = host_alone s own_host q
@@ -131,7 +133,7 @@ first_shadow own = record { own = own; forwarding = []; flood = []; mcast_flood 
 
 -- the ports and the traps are written, and then the control row
 record Begun (own : List ℕ) (blank rows : Rows) : Type 0 where
-  ports : (q : ℕ) → q < port_count → port_at rows q ≡ idle (has_number own q)
+  ports : (q : ℕ) → q < port_places → port_at rows q ≡ idle (has_number own q)
   traps : (i : ℕ) → i < trap_count → trap_at rows i ≡ cond (nat_lt i 2) false true
   ports_now : List ℕ
   traps_now : List ℕ
@@ -242,7 +244,7 @@ drives_start d word own s joined groups blank marked trapped rows new is_blank m
     nobody_there : VlansStand rows no_members_yet
     nobody_there vid in_range =
         vlan_begun own blank rows is_blank b vid
-        ∙ ap₂ (λ m u. record { members = m; untagged = u }) (sym (none_below _ port_count (λ q low. refl))) (sym (none_below _ port_count (λ q low. refl)))
+        ∙ ap₂ (λ m u. record { members = m; untagged = u }) (sym (none_below _ port_places (λ q low. refl))) (sym (none_below _ port_places (λ q low. refl)))
 
     vlans : VlansStand new start
     vlans =

@@ -13,7 +13,6 @@ use Rattle.br_model.specs.Table.Limits.{fits, most_addresses}
 use Rattle.br_model.specs.Data.Maps.{pair_cmp, put, without}
 use Rattle.br_model.specs.Table.Table.{Table, apply}
 use Rattle.chip_tables.specs.declared.rows.AddressRow.{AddressRow}
-use Rattle.chip_tables.specs.Rows.{max_addresses}
 use Rattle.chip_tables.specs.Stands.{address_wanted}
 use Rattle.chip_driver.specs.Drives.{Driven, Drives, IsTaken}
 use Rattle.chip_driver.proofs.GroupRows.{mapped-put, mapped-without}
@@ -36,10 +35,10 @@ taken domains driver t (AddrPut vid mac port kind) stands fit room =
     ap (λ (rows : List ((ℕ × ℕ) × AddressRow)). length (put pair_cmp rows (vid, mac) (address_wanted (port, kind)))) stands.rows.addresses
     ∙ ap length (sym (mapped-put pair_cmp address_wanted t.addr (vid, mac) (port, kind)))
     ∙ length-map (put pair_cmp t.addr (vid, mac) (port, kind)) _ in
-    subst (λ n. n ≤ max_addresses) (sym same) room
+    subst (λ n. n ≤ most_addresses) (sym same) room
 taken domains driver t (AddrDel vid mac) stands fit room =
     let same : length (without pair_cmp driver.rows.addresses (vid, mac)) ≡ length (without pair_cmp t.addr (vid, mac)) =
     ap (λ (rows : List ((ℕ × ℕ) × AddressRow)). length (without pair_cmp rows (vid, mac))) stands.rows.addresses
     ∙ ap length (sym (mapped-without pair_cmp address_wanted t.addr (vid, mac)))
     ∙ length-map (without pair_cmp t.addr (vid, mac)) _ in
-    subst (λ n. n ≤ max_addresses) (sym same) room
+    subst (λ n. n ≤ most_addresses) (sym same) room

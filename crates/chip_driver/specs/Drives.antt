@@ -3,14 +3,15 @@ use Rattle.std.specs.Prelude.{◌≡◌, ℕ, ◌<◌, ◌≤◌, List, IsTrue, 
 use Rattle.std.specs.Ordering.{nat_cmp}
 use Rattle.br_model.specs.declared.change.Change.{Change}
 use Rattle.br_model.specs.declared.change.Change.TheVariants as changes
-use Rattle.br_model.specs.Table.Domains.{Domains}
+use Rattle.br_model.specs.Table.Domains.{Domains, port_places}
 use Rattle.br_model.specs.Table.GroupPairs.{has_room}
 use Rattle.br_model.specs.Table.Groups.{Membership}
 use Rattle.br_model.specs.Data.Maps.{has}
+use Rattle.br_model.specs.Table.Limits.{most_addresses}
 use Rattle.br_model.specs.Table.Table.{Table}
 use Rattle.port_sets.specs.Numbers.{has_number}
-use Rattle.chip_tables.specs.Rows.{Rows, addresses_with, max_addresses}
-use Rattle.chip_tables.specs.Stands.{port_count, address_wanted, Stands}
+use Rattle.chip_tables.specs.Rows.{Rows, addresses_with}
+use Rattle.chip_tables.specs.Stands.{address_wanted, Stands}
 
 -- what contracts see of a driver
 pub record Driven : Type 0 where
@@ -21,7 +22,7 @@ pub record Driven : Type 0 where
   pub groups : List Membership
 
 abbrev pub KeepsRouters : List ℕ → Table → Type 0
-KeepsRouters routers t = (q : ℕ) → q < port_count → has_number routers q ≡ has nat_cmp t.routers q
+KeepsRouters routers t = (q : ℕ) → q < port_places → has_number routers q ≡ has nat_cmp t.routers q
 
 pub record Drives (domains : Domains) (driver : Driven) (t : Table) : Type 0 where
   pub rows : Stands domains driver.rows t
@@ -42,5 +43,5 @@ IsTaken driver (changes.Router port on) = Unit {0}
 IsTaken driver (changes.Querier six on) = Unit {0}
 IsTaken driver (changes.Snoop on) = Unit {0}
 IsTaken driver (changes.Stp on) = Unit {0}
-IsTaken driver (changes.AddrPut vid mac port kind) = length (addresses_with driver.rows vid mac (Some (address_wanted (port, kind)))) ≤ max_addresses
-IsTaken driver (changes.AddrDel vid mac) = length (addresses_with driver.rows vid mac None) ≤ max_addresses
+IsTaken driver (changes.AddrPut vid mac port kind) = length (addresses_with driver.rows vid mac (Some (address_wanted (port, kind)))) ≤ most_addresses
+IsTaken driver (changes.AddrDel vid mac) = length (addresses_with driver.rows vid mac None) ≤ most_addresses

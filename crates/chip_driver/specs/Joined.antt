@@ -1,8 +1,13 @@
--- The VLANs of each port, 64 of them a set: set i of a port has VLAN 64 i + n where it has the number n.
+-- The VLANs of each port in blocks of 64: block i of a port has VLAN 64 i + n where it has the number n.
 use Rattle.std.specs.Prelude.{◌≡◌, ℕ, ◌+◌, ◌*◌, ◌/◌, ◌%◌, ◌<◌, ◌==◌, Bool, ◌&&◌, if◌then◌else◌, List, [], slice_index_or}
+use Rattle.br_model.specs.Table.Domains.{port_places}
 use Rattle.port_sets.specs.Numbers.{has_number}
 
--- set i of the port
+-- how many blocks there are, 64 a port
+abbrev pub block_count : ℕ
+block_count = 64 * port_places
+
+-- block i of the port
 abbrev pub block_at : List (List ℕ) → ℕ → ℕ → List ℕ
 block_at blocks port i = slice_index_or blocks (64 * port + i) []
 

@@ -1,14 +1,16 @@
 -- What a driver keeps is what its rows say, and the rows of its floods and routers are those that it makes.
 use Rattle.std.specs.Prelude.{◌≡◌, ℕ, ◌<◌, ◌≤◌, Bool, List, if◌then◌else◌}
 use Rattle.br_model.specs.Forward.Targets.{flood, mcast_flood, bcast_flood, isolated}
+use Rattle.br_model.specs.Table.Domains.{port_places}
 use Rattle.port_sets.specs.Numbers.{has_number}
 use Rattle.chip_tables.specs.declared.rows.PortRow.{PortRow}
 use Rattle.chip_tables.specs.declared.rows.Flood.{Flood}
 use Rattle.chip_tables.specs.Rows.{Rows, vlan_at, flood_at, router_at, port_at}
-use Rattle.chip_tables.specs.Stands.{port_count, IsVid}
+use Rattle.chip_tables.specs.Stands.{IsVid}
 use Rattle.chip_driver.specs.declared.shadow.Shadow.{Shadow}
 use Rattle.chip_driver.specs.Joined.{has_vlan}
-use Rattle.chip_driver.specs.Shadows.{Has, switched, row_forwards, row_has_flag, row_floods, floods_to, routes_to, fan_to}
+use Rattle.chip_tables.specs.Flags.{row_has_flag}
+use Rattle.chip_driver.specs.Shadows.{Has, switched, row_forwards, row_floods, floods_to, routes_to, fan_to}
 
 -- Each set of the shadow but the routers has the ports whose rows say so.
 pub record Follows (s : Shadow) (rows : Rows) : Type 0 where
@@ -32,8 +34,8 @@ pub record Notes (port : ℕ) (row : PortRow) (old new : Shadow) : Type 0 where
 pub record Settled (s : Shadow) (blocks : List (List ℕ)) (rows : Rows) : Type 0 where
   pub shadow : Follows s rows
   -- each port's VLANs are those whose rows have it
-  pub joined : (port vid : ℕ) → port < port_count → IsVid vid → has_vlan blocks port vid ≡ has_number (vlan_at rows vid).members port
-  pub states : (port : ℕ) → port < port_count → (port_at rows port).state ≤ 4
+  pub joined : (port vid : ℕ) → port < port_places → IsVid vid → has_vlan blocks port vid ≡ has_number (vlan_at rows vid).members port
+  pub states : (port : ℕ) → port < port_places → (port_at rows port).state ≤ 4
   pub floods : (vid : ℕ) → IsVid vid → (f : Flood) → flood_at rows vid f ≡ fan_to s (vlan_at rows vid).members (floods_to s (vlan_at rows vid).members f)
   pub routers : (vid : ℕ) → IsVid vid → router_at rows vid ≡ fan_to s (vlan_at rows vid).members (routes_to s (vlan_at rows vid).members)
 

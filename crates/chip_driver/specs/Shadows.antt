@@ -1,19 +1,20 @@
 -- What a driver keeps of the ports beside its rows, and the rows that it makes of it. No table is spoken of here.
-use Rattle.std.specs.Prelude.{◌≡◌, ℕ, ◌==◌, ◌/◌, ◌%◌, ◌^◌, ◌<◌, Bool, not, ◌&&◌, ◌||◌, List, if◌then◌else◌}
+use Rattle.std.specs.Prelude.{◌≡◌, ℕ, ◌==◌, ◌<◌, Bool, not, ◌&&◌, ◌||◌, List, if◌then◌else◌}
 use Rattle.br_model.specs.Forward.Admission.{forwarding}
-use Rattle.br_model.specs.Table.Domains.{host}
+use Rattle.br_model.specs.Table.Domains.{host, port_places}
 use Rattle.port_sets.specs.Numbers.{has_number}
 use Rattle.chip_tables.specs.declared.rows.FanRow.{FanRow}
 use Rattle.chip_tables.specs.declared.rows.PortRow.{PortRow}
 use Rattle.chip_tables.specs.declared.rows.VlanRow.{VlanRow}
 use Rattle.chip_tables.specs.declared.rows.Flood.{Flood}
 use Rattle.chip_tables.specs.declared.rows.Flood.TheVariants.{Unicast, Mcast, Bcast}
-use Rattle.chip_tables.specs.Stands.{port_count, ports_where, fan}
+use Rattle.chip_tables.specs.Flags.{row_has_flag}
+use Rattle.chip_tables.specs.Stands.{ports_where, fan}
 use Rattle.chip_driver.specs.declared.shadow.Shadow.{Shadow}
 
 -- the set has just the ports that pass
 abbrev pub Has : List ℕ → (ℕ → Bool) → Type 0
-Has set test = (q : ℕ) → q < port_count → has_number set q ≡ test q
+Has set test = (q : ℕ) → q < port_places → has_number set q ≡ test q
 
 -- the set with the port or without it
 abbrev pub switched : List ℕ → ℕ → Bool → List ℕ
@@ -27,9 +28,6 @@ switched_row row port on untagged = record { members = switched row.members port
 
 abbrev pub row_forwards : PortRow → Bool
 row_forwards row = row.up && (row.state == forwarding)
-
-abbrev pub row_has_flag : PortRow → ℕ → Bool
-row_has_flag row flag = row.flags / 2 ^ flag % 2 == 1
 
 abbrev pub row_floods : PortRow → ℕ → Bool
 row_floods row flag = row.up && row_has_flag row flag

@@ -1,8 +1,8 @@
 //! The rows of floods and of routers.
 ghost use Rattle.std.specs.Prelude.{◌≡◌, ◌==◌, ◌<◌, ◌≤◌, ◌/◌, ◌%◌, ◌&&◌, ℕ, Bool};
+ghost use Rattle.br_model.specs.Table.Domains.{port_places};
 ghost use Rattle.port_sets.specs.Numbers.{has_number};
 ghost use Rattle.chip_tables.specs.Rows.{vlan_at, port_at, WritesPort, WritesVlan};
-ghost use Rattle.chip_tables.specs.Stands.{port_count};
 ghost use Rattle.chip_driver.specs.Joined.{has_vlan};
 ghost use Rattle.chip_driver.specs.Shadows.{switched, switched_row, floods_to, routes_to, fan_to};
 ghost use Rattle.mdb_snoop.specs.Database.{memberships};
@@ -10,7 +10,7 @@ ghost use Rattle.chip_driver.specs.GroupRows.{GroupsFollow};
 ghost use Rattle.chip_driver.specs.Settled.{Refreshes, Settled};
 
 use crate::groups;
-use crate::joined::Joined;
+use crate::joined::{Joined, VlanBlock};
 use crate::shadow::{Shadow, switched};
 use br_model::numbers::{Port, Vid};
 use chip_tables::{FanRow, Flood, PortRow, Tables, VlanRow};
@@ -77,7 +77,7 @@ fn refresh_number(tables: &mut Tables, shadow: &Shadow, i: u8, n: u8)
 }
 
 /// Makes the rows of some VLANs anew: of the VLAN 64 i + n for each number n of the set.
-fn refresh_block(tables: &mut Tables, shadow: &Shadow, vids: Ports, i: u8)
+fn refresh_block(tables: &mut Tables, shadow: &Shadow, vids: VlanBlock, i: u8)
     requires { i < 64 }
     ensures { Refreshes (λ w. (w / 64 == i) && has_number vids (w % 64)) shadow.now tables.old tables.new }
 {
@@ -113,7 +113,7 @@ pub fn write_port(
     ensures routers { shadow.new.routers ≡ shadow.old.routers }
     ensures row { WritesPort tables.old tables.new p row }
     ensures rest { tables.new ≡ record tables.old { unicast = tables.new.unicast; mcast = tables.new.mcast; bcast = tables.new.bcast; routers = tables.new.routers; ports = tables.new.ports; groups = tables.new.groups } }
-    ensures below { p < port_count }
+    ensures below { p < port_places }
 {
     // law: the port is in range
     let _number = p.number();
@@ -168,7 +168,7 @@ pub fn write_pvid(tables: &mut Tables, shadow: &Shadow, joined: &Joined, p: Port
     ensures settled { Settled shadow.now joined.now tables.new }
     ensures row { WritesPort tables.old tables.new p (record (port_at tables.old p) { pvid = pvid }) }
     ensures rest { tables.new ≡ record tables.old { ports = tables.new.ports } }
-    ensures below { p < port_count }
+    ensures below { p < port_places }
 {
     // law: the port is in range
     let _number = p.number();

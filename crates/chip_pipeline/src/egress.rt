@@ -1,6 +1,6 @@
 //! The way out: which of its ports the chip sends by, and whether the processor is to have the frame too, or alone.
 ghost use Rattle.std.specs.Prelude.{◌≡◌, ◌<◌, ◌&&◌, [], false, if◌then◌else◌};
-ghost use Rattle.br_model.specs.Table.Domains.{Domains};
+ghost use Rattle.br_model.specs.Table.Domains.{Domains, port_places};
 ghost use Rattle.br_model.specs.Forward.Eligible.{may};
 ghost use Rattle.br_model.specs.Table.Table.{Table};
 ghost use Rattle.br_model.specs.Forward.Targets.{targets};
@@ -39,7 +39,7 @@ pub fn reached(tables: &Tables, port: Port, alone: bool, vlan: &VlanRow, fan: &F
 }
 
 fn lets_number(tables: &Tables, alone: bool, number: u8) -> bool
-    requires { number < 64 }
+    requires { number < port_places }
     ensures { result ≡ row_lets alone (port_at tables.now number) }
 {
     match Port::new(number) {

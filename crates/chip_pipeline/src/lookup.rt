@@ -1,7 +1,7 @@
 //! The lookup: where an admitted frame is to go.
 ghost use Rattle.std.specs.Prelude.{◌≡◌, ℕ, ◌<◌, ◌==◌, ◌&&◌, ◌||◌, ◌∷◌, ◌++◌, not, true, false, if◌then◌else◌};
 ghost use Rattle.br_model.specs.Forward.Class.{is_snooped};
-ghost use Rattle.br_model.specs.Table.Domains.{Domains, host};
+ghost use Rattle.br_model.specs.Table.Domains.{Domains, host, port_places};
 ghost use Rattle.br_model.specs.Table.Groups.{is_link_local, is_six};
 ghost use Rattle.br_model.specs.Data.Numbers.{is_multicast};
 ghost use Rattle.br_model.specs.Table.Table.{Table};
@@ -70,7 +70,7 @@ fn to_station(tables: &Tables, vid: Vid, head: &Head) -> Way
 /// Where an entry sends: the host for a local one.
 fn port_of(entry: &AddressRow) -> Port
     ensures value { result ≡ port_of (entry.now.port, entry.now.kind) }
-    ensures below { result < 64 }
+    ensures below { result < port_places }
 {
     let port = match entry.kind {
         Kind::Local => Port::HOST,

@@ -8,7 +8,8 @@ ghost use Rattle.br_model.specs.Control.Learning.{is_news, is_reserved, learning
 ghost use Rattle.br_model.specs.Table.Table.{Table};
 ghost use Rattle.chip_tables.specs.Rows.{vlan_at, port_at};
 ghost use Rattle.chip_tables.specs.Stands.{IsVid, Stands};
-ghost use Rattle.chip_pipeline.specs.PortRows.{row_has_flag, row_is_in};
+ghost use Rattle.chip_tables.specs.Flags.{row_has_flag};
+ghost use Rattle.chip_pipeline.specs.PortRows.{row_is_in};
 ghost use Rattle.chip_pipeline.specs.Ways.{entry_wanted};
 ghost use Rattle.chip_pipeline.specs.declared.vlans.Vlan.{Vlan};
 

@@ -17,7 +17,7 @@ use std::marker::Model;
 /// The flags of each port that has some, seen as the list of pairs of a port and its flags, ascending by port.
 #[derive(Drop, Debug)]
 pub struct FlagTable {
-    by_port: [Option<Flags>; 64],
+    by_port: [Option<Flags>; Port::PLACES],
     // The ports that have each of the flags that decisions ask for.
     learning: Ports,
     flood: Ports,
@@ -44,7 +44,7 @@ impl FlagTable {
         ensures { result ≡ [] }
     {
         FlagTable {
-            by_port: [None; 64],
+            by_port: [None; Port::PLACES],
             learning: Ports::empty(),
             flood: Ports::empty(),
             mcast_flood: Ports::empty(),

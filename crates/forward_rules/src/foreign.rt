@@ -2,7 +2,7 @@
 ghost use Rattle.std.specs.Prelude.{◌≡◌, ℕ, ◌<◌, is_some};
 ghost use Rattle.std.specs.List.{list_any};
 ghost use Rattle.br_model.specs.Forward.Class.{class_by};
-ghost use Rattle.br_model.specs.Table.Domains.{domain_of, foreign};
+ghost use Rattle.br_model.specs.Table.Domains.{domain_of, foreign, port_places};
 
 use br_model::domains::Domains;
 use br_model::frame::Class;
@@ -49,8 +49,8 @@ fn has_declared(domains: &Domains, ports: Ports) -> bool
 {
     // law: the members ascend
     ports.members_ascend();
-    for number in 0..Port::COUNT {
-        if ports.has(number) && is_declared(domains, number) {
+    for number in 0..Port::PLACES {
+        if ports.has(number as u8) && is_declared(domains, number as u8) {
             return true;
         }
     }
@@ -58,7 +58,7 @@ fn has_declared(domains: &Domains, ports: Ports) -> bool
 }
 
 fn is_declared(domains: &Domains, number: u8) -> bool
-    requires { number < 64 }
+    requires { number < port_places }
     ensures { result ≡ is_some (domain_of domains.now number) }
 {
     match Port::new(number) {

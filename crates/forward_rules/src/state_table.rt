@@ -18,7 +18,7 @@ const LEARNING: u8 = 2;
 /// The state of each port that has one, seen as the list of pairs of a port and its state, ascending by port.
 #[derive(Drop, Debug)]
 pub struct StateTable {
-    by_port: [Option<u8>; 64],
+    by_port: [Option<u8>; Port::PLACES],
     // The ports in the states that decisions ask for.
     learning: Ports,
     forwarding: Ports,
@@ -42,7 +42,7 @@ impl StateTable {
         ensures { result ≡ [] }
     {
         StateTable {
-            by_port: [None; 64],
+            by_port: [None; Port::PLACES],
             learning: Ports::empty(),
             forwarding: Ports::empty(),
         }

@@ -16,7 +16,8 @@ use Rattle.br_model.specs.Control.Learning.{Address}
 use Rattle.br_model.specs.Table.Limits.{most_waiting}
 use Rattle.br_model.specs.Wire.Messages.{message}
 use Rattle.br_model.specs.Plane.Entering.{waits, goes_on, enters_as, enters_chip, class_of}
-use Rattle.br_model.specs.Plane.Steps.{Rx, world_step}
+use Rattle.br_model.specs.declared.steps.Step.TheVariants.{Rx}
+use Rattle.br_model.specs.Plane.Steps.{world_step}
 use Rattle.br_model.specs.Plane.World.{World, Waiting, Stepped, sent, after_lines}
 use Rattle.br_model.specs.Forward.Shares.{chip_out, mark_of}
 use Rattle.chip_pipeline.specs.Passed.{Passed, IsPass}

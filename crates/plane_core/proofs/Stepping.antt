@@ -2,7 +2,8 @@
 use Rattle.std.proofs.Common.{◌≡◌, List, subst}
 use Rattle.br_model.specs.declared.transcript.Line.{Line}
 use Rattle.br_model.specs.Theorems.Invariants.{IsWorld}
-use Rattle.br_model.specs.Plane.Steps.{Step, world_step}
+use Rattle.br_model.specs.declared.steps.Step.{Step}
+use Rattle.br_model.specs.Plane.Steps.{world_step}
 use Rattle.br_model.specs.Plane.World.{World, Stepped}
 use Rattle.br_model.proofs.PlaneKept.{step-world}
 

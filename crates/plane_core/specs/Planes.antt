@@ -18,7 +18,9 @@ use Rattle.br_model.specs.Table.DomainPorts.{is_in_domain}
 use Rattle.br_model.specs.Table.Domains.{chip}
 use Rattle.br_model.specs.Wire.Messages.{message}
 use Rattle.br_model.specs.Plane.Serving.{held_with}
-use Rattle.br_model.specs.Plane.Steps.{Step, Cmd, Now, Post, Turn, world_step}
+use Rattle.br_model.specs.declared.steps.Step.{Step}
+use Rattle.br_model.specs.declared.steps.Step.TheVariants.{Cmd, Now, Post, Turn}
+use Rattle.br_model.specs.Plane.Steps.{world_step}
 use Rattle.br_model.specs.Plane.World.{World, Waiting, Holding, table_at, table_of_chip}
 use Rattle.chip_pipeline.specs.Passed.{Passed, IsPass}
 use Rattle.table_publish.specs.Board.{Decides}
@@ -94,10 +96,10 @@ ticket_of (Some u) = Some u.ticket
 abbrev pub IsPending : World → Type 0
 IsPending w = is_some (deferred_at w.history w.chip.count) ≡ true
 
-abbrev pub Turned : PlaneState → PlaneState → Option Update → Result (List Line) TurnFault → Type 0
-Turned old new update (Ok lines) = Steps old new Turn lines × (IsPending old.world → ticket_of update ≡ Some old.world.chip.count)
-Turned old new update (Err turns.NoMemory) = new ≡ old
-Turned old new update (Err (turns.OutOfTurn expected got)) =
+abbrev pub Turned : PlaneState → PlaneState → ℕ → Option Update → Result (List Line) TurnFault → Type 0
+Turned old new dom update (Ok lines) = Steps old new (Turn dom) lines × (IsPending old.world → ticket_of update ≡ Some old.world.chip.count)
+Turned old new dom update (Err turns.NoMemory) = new ≡ old
+Turned old new dom update (Err (turns.OutOfTurn expected got)) =
     (new ≡ old) × IsPending old.world × (ticket_of update ≢ Some old.world.chip.count) × (expected ≡ old.world.chip.count) × (got ≡ ticket_of update)
 
 -- A post.

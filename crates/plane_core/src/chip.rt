@@ -1,5 +1,5 @@
 //! A chip that follows the history of a bridge.
-ghost use Rattle.std.specs.Prelude.{◌≡◌, ◌≤◌, ℕ, [], IfOk, OnOk, OnErr, false, length, take, drop, slice_get, if◌then◌else◌};
+ghost use Rattle.std.specs.Prelude.{◌≡◌, ◌≤◌, ◌-◌, ℕ, [], IfOk, OnOk, OnErr, false, length, take, drop, slice_get, if◌then◌else◌};
 ghost use Rattle.br_model.specs.Table.Change.{deferred, updates};
 ghost use Rattle.br_model.specs.Plane.Chip.{Chip as ChipValue, first_chip, hit_by, offered, offers, hits_entry, unhit};
 ghost use Rattle.br_model.specs.Table.Cut.{cut, deferred_at, deferred_count};
@@ -147,6 +147,14 @@ impl Chip {
         ensures { result ≡ self.now.chip.count }
     {
         self.count
+    }
+
+    /// How many deferred changes of the history that it follows it hasn't applied.
+    pub fn pending(&self) -> u32
+        requires { self.now.chip.count ≤ length self.now.places }
+        ensures { result ≡ length self.now.places - self.now.chip.count }
+    {
+        self.updates.len() as u32 - self.count
     }
 
     /// Follows the changes that the history got behind its first `from` ones: the driver is told of the synchronous ones, and

@@ -13,15 +13,13 @@ use crate::NoMemory;
 use crate::frame::{Frame, Holding};
 use br_model::bytes::Bytes;
 use br_model::frame::{Head, McastMsg};
+use br_model::limits::MOST_WAITING;
 use br_model::numbers::Port;
 use br_model::transcript::Line;
 use hwdom_marks::Mark;
 use std::alloc::{AllocError, Global};
 use std::collections::{BTreeMap, VecDeque};
 use std::marker::Model;
-
-/// How many frames wait or are held at most.
-pub const MOST_WAITING: usize = 4096;
 
 /// What becomes of a frame that enters.
 #[derive(Drop)]
@@ -60,13 +58,14 @@ pub struct Frames {
 impl Model for Frames {
     ghost use Rattle.std.specs.Prelude.{◌≡◌, ◌≤◌, map};
     ghost use Rattle.std.specs.VecDeque.{deque_capacity};
+    ghost use Rattle.br_model.specs.Table.Limits.{most_waiting};
     ghost use Rattle.plane_core.specs.Queued.{Queued, IsQueued, IsKeyed, held_in};
 
     ghost Value = { Queued };
 
     ghost view = { λ f. record { waiting = f.waiting.items; held = held_in f.held.entries; next = f.next } };
 
-    ghost invariant = { λ f. (4096 ≤ deque_capacity f.waiting) × IsKeyed f.held.entries × IsQueued (record { waiting = f.waiting.items; held = held_in f.held.entries; next = f.next }) };
+    ghost invariant = { λ f. (most_waiting ≤ deque_capacity f.waiting) × IsKeyed f.held.entries × IsQueued (record { waiting = f.waiting.items; held = held_in f.held.entries; next = f.next }) };
 }
 
 impl Frames {

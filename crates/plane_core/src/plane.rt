@@ -12,7 +12,8 @@ ghost use Rattle.br_model.specs.Wire.Messages.{message as message_of};
 ghost use Rattle.br_model.specs.Theorems.Invariants.{IsWorld};
 ghost use Rattle.br_model.specs.Plane.Runs.{pending};
 ghost use Rattle.br_model.specs.Plane.Serving.{held_with};
-ghost use Rattle.br_model.specs.Plane.Steps.{Rx, Serve, Hold, Publish, Report, Sweep, world_step};
+ghost use Rattle.br_model.specs.declared.steps.Step.TheVariants.{Rx, Serve, Hold, Publish, Report, Sweep};
+ghost use Rattle.br_model.specs.Plane.Steps.{world_step};
 ghost use Rattle.br_model.specs.Plane.World.{Holding as HoldingOf, first_world, table_of_chip};
 ghost use Rattle.table_publish.specs.Object.{Begins, IsPublished, first_object};
 ghost use Rattle.plane_core.specs.Planes.{Accepts, IsCopy, IsDecidedBy, IsDecision, IsNamed, Posted, Steps, Turned, arrival_by, published_in, ticket_of};
@@ -251,7 +252,7 @@ impl Plane {
     /// The chip applies the next deferred change of the history, which the update names by its ticket.
     pub fn turn(&mut self, alloc: Global, d: Dom, u: Option<Update>) -> Result<Lines, TurnFault>
         requires { d ≡ chip }
-        ensures { Turned self.old self.new u result }
+        ensures { Turned self.old self.new d u result }
     {
         let step = next(self.steps)?;
         let Some(expected) = self.sides.next_ticket() else {
@@ -386,7 +387,7 @@ impl Plane {
     /// The bridge is told the chip's oldest report.
     pub fn report(&mut self, alloc: Global, d: Dom) -> Result<Lines, NoMemory>
         requires { d ≡ chip }
-        ensures ok { IfOk result (λ lines. Steps self.old self.new Report lines) }
+        ensures ok { IfOk result (λ lines. Steps self.old self.new (Report d) lines) }
         ensures err { OnErr result (self.new ≡ self.old) }
     {
         let step = next(self.steps)?;
@@ -398,7 +399,7 @@ impl Plane {
     /// The bridge forgets the stations that the chip no longer sees.
     pub fn sweep(&mut self, alloc: Global, d: Dom) -> Result<Lines, NoMemory>
         requires { d ≡ chip }
-        ensures ok { IfOk result (λ lines. Steps self.old self.new Sweep lines) }
+        ensures ok { IfOk result (λ lines. Steps self.old self.new (Sweep d) lines) }
         ensures err { OnErr result (self.new ≡ self.old) }
     {
         let step = next(self.steps)?;

@@ -1,6 +1,6 @@
 //! The lines of a frame that the chip or software sends.
 ghost use Rattle.std.specs.Prelude.{◌≡◌, ℕ, ◌<◌, ◌++◌, List, map, IfOk, OnOk, Ok};
-ghost use Rattle.br_model.specs.Table.Domains.{Domains as DomainsValue};
+ghost use Rattle.br_model.specs.Table.Domains.{Domains as DomainsValue, port_places};
 ghost use Rattle.br_model.specs.Wire.Frames.{frame as frame_of};
 ghost use Rattle.br_model.specs.Wire.Messages.{message};
 ghost use Rattle.br_model.specs.Plane.World.{sent};
@@ -68,7 +68,7 @@ fn line_at(
     untagged: Ports,
     number: u8,
 ) -> Result<Line, NoMemory>
-    requires number { number < 64 }
+    requires number { number < port_places }
     requires frame { frame_of bytes.now ≡ Ok head.now }
     ensures { IfOk result (λ line. line ≡ line_at untagged id bytes.now head.now vid number) }
 {

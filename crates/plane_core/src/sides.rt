@@ -344,7 +344,7 @@ impl Sides {
 
     /// The bridge is told the chip's oldest report, which leaves unless that is refused.
     pub(crate) fn report(&mut self, alloc: Global, step: u32) -> Result<Lines, NoMemory>
-        ensures ok { IfOk result (λ lines. Comes (λ w. reports w w.chip.reports) self.old step self.new lines) }
+        ensures ok { IfOk result (λ lines. Comes (λ w. reports w (Some w.chip)) self.old step self.new lines) }
         ensures err { OnErr result (self.new ≡ self.old) }
         ensures over { self.new.board ≡ self.old.board }
     {
@@ -360,7 +360,7 @@ impl Sides {
 
     /// The bridge forgets what the chip no longer sees, and no entry is hit, unless that is refused.
     pub(crate) fn sweep(&mut self, alloc: Global, step: u32) -> Result<Lines, NoMemory>
-        ensures ok { IfOk result (λ lines. Comes sweeps self.old step self.new lines) }
+        ensures ok { IfOk result (λ lines. Comes (λ w. sweeps w (Some w.chip)) self.old step self.new lines) }
         ensures err { OnErr result (self.new ≡ self.old) }
         ensures over { self.new.board ≡ self.old.board }
     {
@@ -405,7 +405,7 @@ impl Sides {
     pub(crate) fn pending(&self) -> u32
         ensures { result ≡ deferred_count self.now.history - self.now.chip.count }
     {
-        self.bridge.pending() - self.chip.count()
+        self.chip.pending()
     }
 
     /// How many changes are published.

@@ -5,3 +5,4 @@ pub mod Joins
 pub mod Listed
 pub mod Pairs
 pub mod Splits
+pub mod Written

@@ -6,7 +6,7 @@ ghost use Rattle.std.specs.Ordering.{nat_cmp};
 ghost use Rattle.std.specs.String.{string_bytes};
 ghost use Rattle.br_model.specs.Program.Listings.{fdb_line, vlan_line, mdb_line, group_text, by_port, listing_text};
 ghost use Rattle.br_model.specs.Data.Maps.{get};
-ghost use Rattle.br_model.specs.Text.ScenarioText.{device_text, mac_text, kind_word as word_of_kind, further};
+ghost use Rattle.br_model.specs.Text.Spelling.{device_text, mac_text, kind_word as word_of_kind, further};
 
 use crate::write::{append_dotted, append_groups, append_mac, kind_word, marks};
 use br_model::NoMemory;

@@ -1,5 +1,6 @@
 //! The events of the tree, as the control plane tells them.
 ghost use Rattle.std.specs.Prelude.{◌≡◌, ◌/◌, ◌%◌, ◌==◌, ◌<◌, ◌≤◌, ◌^◌, [], ◌∷◌, Some, None, true, IsSome, if◌then◌else◌};
+ghost use Rattle.br_model.specs.Table.Domains.{port_places};
 ghost use Rattle.br_model.specs.Tree.Tree.{fresh, bpdu_of};
 ghost use Rattle.br_model.specs.declared.tree.TreeEvent.TheVariants.{Switch, Up, Down, Message, Cost};
 ghost use Rattle.br_model.specs.Tree.Step.{settled, with_kept, passed_on, config_received, tcn_received, received_at, tree_step, message};
@@ -23,7 +24,7 @@ use port_sets::Ports;
 
 // The set of this port alone.
 fn only(p: u8) -> Ports
-    requires { p < 64 }
+    requires { p < port_places }
     ensures { result ≡ p ∷ [] }
 {
     Ports::empty().with(p)
@@ -116,7 +117,7 @@ impl Parameters {
     #[tactic(auto, using(crate::proofs::Settlements::settled_is))]
     fn keep(&mut self, p: u8, m: &ConfigMsg, now: u64) -> Sent
         requires early { now < 2 ^ 53 }
-        requires port { p < 64 }
+        requires port { p < port_places }
         ensures { acted self.new result ≡ passed_on now p m.now (settled true self.old now (with_kept self.old now p m.now)) }
     {
         let before = self.before();
@@ -132,7 +133,7 @@ impl Parameters {
 
     fn receive_config(&mut self, p: u8, x: &TreePort, m: &ConfigMsg, now: u64) -> Sent
         requires early { now < 2 ^ 53 }
-        requires port { p < 64 }
+        requires port { p < port_places }
         ensures { acted self.new result ≡ config_received self.old now (p, x.now) m.now }
     {
         if m.max <= m.age {
@@ -151,7 +152,7 @@ impl Parameters {
 
     fn receive_tcn(&mut self, p: u8, x: &TreePort, now: u64) -> Sent
         requires early { now < 2 ^ 53 }
-        requires port { p < 64 }
+        requires port { p < port_places }
         ensures { acted self.new result ≡ tcn_received self.old now (p, x.now) }
     {
         let mut sent = nothing_sent();
@@ -166,7 +167,7 @@ impl Parameters {
 
     fn receive_at(&mut self, p: u8, x: &TreePort, m: &BpduMsg, now: u64) -> Sent
         requires early { now < 2 ^ 53 }
-        requires port { p < 64 }
+        requires port { p < port_places }
         ensures { acted self.new result ≡ received_at self.old now (p, x.now) m.now }
     {
         match *m {
@@ -201,7 +202,7 @@ impl Parameters {
     #[tactic(auto, unfolding(br_model::specs::Tree::Step::tree_step))]
     pub(crate) fn receive(&mut self, p: u8, m: &BpduMsg, now: u64) -> Sent
         requires early { now < 2 ^ 53 }
-        requires port { p < 64 }
+        requires port { p < port_places }
         ensures { acted self.new result ≡ tree_step self.old now (Message p m.now) }
     {
         match self.port(p) {
@@ -213,7 +214,7 @@ impl Parameters {
     #[tactic(auto, using(crate::proofs::Settlements::follows_is), unfolding(br_model::specs::Tree::Step::tree_step))]
     pub(crate) fn bring_up(&mut self, p: u8, now: u64) -> Sent
         requires early { now < 2 ^ 53 }
-        requires port { p < 64 }
+        requires port { p < port_places }
         ensures { acted self.new result ≡ tree_step self.old now (Up p) }
     {
         let before = self.before();
@@ -225,7 +226,7 @@ impl Parameters {
     #[tactic(auto, using(crate::proofs::Settlements::follows_is), unfolding(br_model::specs::Tree::Step::tree_step))]
     pub(crate) fn take_down(&mut self, p: u8, now: u64) -> Sent
         requires early { now < 2 ^ 53 }
-        requires port { p < 64 }
+        requires port { p < port_places }
         ensures { acted self.new result ≡ tree_step self.old now (Down p) }
     {
         let before = self.before();
@@ -236,7 +237,7 @@ impl Parameters {
     #[tactic(auto, using(crate::proofs::Settlements::follows_is), unfolding(br_model::specs::Tree::Step::tree_step))]
     pub(crate) fn set_cost_at(&mut self, p: u8, n: u16, now: u64) -> Sent
         requires early { now < 2 ^ 53 }
-        requires port { p < 64 }
+        requires port { p < port_places }
         ensures { acted self.new result ≡ tree_step self.old now (Cost p n) }
     {
         let before = self.before();

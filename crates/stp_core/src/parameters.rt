@@ -1,6 +1,7 @@
 //! What a bridge keeps of itself and of each port, and what can be read of it (IEEE 802.1D-1998 section 8.5).
 ghost use Rattle.std.specs.Prelude.{◌≡◌, ◌<◌};
 ghost use Rattle.std.specs.Option.{ForSome};
+ghost use Rattle.br_model.specs.Table.Domains.{port_places};
 ghost use Rattle.br_model.specs.Tree.Tree.{first_tree, bridge_id, port_at, state_at};
 ghost use Rattle.br_model.specs.Tree.Vectors.{root_of, root_kept, is_root};
 ghost use Rattle.br_model.specs.Tree.Timers.{times, forward_delay, is_changing, hold};
@@ -45,7 +46,7 @@ impl Parameters {
             own,
             priority: 32768,
             on: false,
-            places: [None; 64],
+            places: [None; Port::PLACES],
             change_end: None,
             notified: None,
             hello: 0,
@@ -83,7 +84,7 @@ impl Parameters {
     #[tactic(auto, unfolding(br_model::specs::Tree::Vectors::root_of))]
     pub(crate) fn root(&self) -> Root
         ensures value { result ≡ root_of self.now }
-        ensures below { ForSome result.port (λ p. p < 64) }
+        ensures below { ForSome result.port (λ p. p < port_places) }
     {
         elect(self.bridge_id(), &self.places)
     }
@@ -105,7 +106,7 @@ impl Parameters {
 
     #[tactic(auto, using(crate::proofs::Reading::get_at))]
     pub(crate) fn port(&self, p: u8) -> Option<TreePort>
-        requires { p < 64 }
+        requires { p < port_places }
         ensures { result ≡ port_at self.now p }
     {
         self.places[usize::from(p)]

@@ -3,15 +3,17 @@ ghost use Rattle.std.specs.Prelude.{◌≡◌, ◌<◌, ◌==◌, ℕ, Bool, if�
 ghost use Rattle.std.specs.Ordering.{nat_cmp};
 ghost use Rattle.br_model.specs.Data.Maps.{put, without};
 ghost use Rattle.std.specs.List.{filter, list_any};
+ghost use Rattle.br_model.specs.Table.Domains.{port_places};
 ghost use Rattle.br_model.specs.declared.tree.TreePort.{TreePort as PortValue};
 ghost use Rattle.br_model.specs.Tree.Tree.{each, numbers};
 ghost use Rattle.stp_core.specs.Places.{entries_at};
 
+use br_model::numbers::Port;
 use br_model::tree::TreePort;
 use port_sets::Ports;
 
 /// What is kept of each port, by its number; `None` where it isn't up.
-pub(crate) type Places = [Option<TreePort>; 64];
+pub(crate) type Places = [Option<TreePort>; Port::PLACES];
 
 /// What happens at one port.
 pub(crate) trait Rule {
@@ -33,7 +35,7 @@ pub(crate) trait Test {
 pub(crate) fn change_each<R: Rule>(rule: &R, places: &mut Places)
     ensures { entries_at 0 places.new ≡ each (R.changed rule.now) (entries_at 0 places.old) }
 {
-    for p in 0..64u8 {
+    for p in 0..Port::PLACES as u8 {
         if let Some(x) = &mut places[usize::from(p)] {
             rule.change(p, x);
         }
@@ -45,7 +47,7 @@ pub(crate) fn ports_where<T: Test>(test: &T, places: &Places) -> Ports
     ensures { result ≡ numbers (filter (T.holds test.now) (entries_at 0 places.now)) }
 {
     let mut ports = Ports::empty();
-    for p in 0..64u8 {
+    for p in 0..Port::PLACES as u8 {
         if let Some(x) = &places[usize::from(p)] {
             if test.passes(p, x) {
                 ports = ports.with(p);
@@ -66,7 +68,7 @@ pub(crate) fn any_port<T: Test>(test: &T, places: &Places) -> bool
 
 /// The rule at this port, if it is up.
 pub(crate) fn change_at<R: Rule>(rule: &R, p: u8, places: &mut Places)
-    requires { p < 64 }
+    requires { p < port_places }
     ensures { entries_at 0 places.new ≡ each (λ e. if e.0 == p then R.changed rule.now e else e.1) (entries_at 0 places.old) }
 {
     if let Some(x) = &mut places[usize::from(p)] {
@@ -76,7 +78,7 @@ pub(crate) fn change_at<R: Rule>(rule: &R, p: u8, places: &mut Places)
 
 #[tactic(auto, using(crate::proofs::Reading::put_at))]
 pub(crate) fn put_port(places: &mut Places, p: u8, x: TreePort)
-    requires { p < 64 }
+    requires { p < port_places }
     ensures { entries_at 0 places.new ≡ put nat_cmp (entries_at 0 places.old) p x }
 {
     places[usize::from(p)] = Some(x);
@@ -84,7 +86,7 @@ pub(crate) fn put_port(places: &mut Places, p: u8, x: TreePort)
 
 #[tactic(auto, using(crate::proofs::Reading::without_at))]
 pub(crate) fn take_port(places: &mut Places, p: u8)
-    requires { p < 64 }
+    requires { p < port_places }
     ensures { entries_at 0 places.new ≡ without nat_cmp (entries_at 0 places.old) p }
 {
     places[usize::from(p)] = None;

@@ -1,6 +1,7 @@
 //! Sending: configuration messages, those that were put off, and notifications of topology changes.
 ghost use Rattle.std.specs.Prelude.{◌≡◌, ◌<◌, ◌^◌};
 ghost use Rattle.std.specs.declared.option.Option.TheVariants.{Some};
+ghost use Rattle.br_model.specs.Table.Domains.{port_places};
 ghost use Rattle.br_model.specs.Tree.Sending.{transmit, generate, sends_put_off, notify, detected, detected_if, union};
 ghost use Rattle.stp_core.specs.Acting.{acted, voice_of};
 
@@ -62,7 +63,7 @@ impl Parameters {
 
     /// A notification goes out on the root port.
     pub(crate) fn notify(&mut self, p: u8, now: u64, sent: &mut Sent)
-        requires { p < 64 }
+        requires { p < port_places }
         ensures { acted self.new sent.new ≡ notify now (Some p) (acted self.old sent.old) }
     {
         self.notified = Some(now);
@@ -100,7 +101,7 @@ fn union(a: Ports, b: Ports) -> Ports
 }
 
 fn port_of(p: u8) -> Port
-    requires { p < 64 }
+    requires { p < port_places }
     ensures { result ≡ p }
 {
     match Port::new(p) {

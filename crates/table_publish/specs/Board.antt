@@ -7,9 +7,9 @@ use Rattle.br_model.specs.Forward.Admission.{admit}
 use Rattle.br_model.specs.Forward.Class.{class}
 use Rattle.br_model.specs.Table.Domains.{Domains}
 use Rattle.br_model.specs.Forward.Leave.{ports_out}
+use Rattle.br_model.specs.Forward.Untagged.{untagged_among}
 use Rattle.br_model.specs.Table.Table.{Table, table}
 use Rattle.forward_rules.specs.declared.soft_tables.Verdict.{Verdict}
-use Rattle.forward_rules.specs.Verdicts.{untagged_among}
 use Rattle.table_publish.specs.Object.{Whose, Object, first_object}
 
 -- which board it is, what it has published, and what it has not yet

@@ -9,7 +9,7 @@ use Rattle.br_model.specs.Data.Digits.{hex_of}
 use Rattle.br_model.specs.Table.Domains.{last_port}
 use Rattle.br_model.specs.Text.Transcript.{fault_word, class_word}
 use Rattle.br_model.specs.Text.Words.{Word}
-use Rattle.br_model.specs.Theorems.WrittenSteps.{is_byte}
+use Rattle.br_model.specs.Text.Operands.{is_byte}
 
 abbrev pub is_number : ℕ → Bool
 is_number n = nat_lt n (2 ^ 32)

@@ -1,9 +1,9 @@
 //! Steps with their lines.
 ghost use Rattle.std.specs.Prelude.{◌≡◌};
-ghost use Rattle.br_model.specs.Text.LineForms.{comes_by_line};
-ghost use Rattle.br_model.specs.Theorems.WrittenSteps.{names_declared};
+ghost use Rattle.br_model.specs.Text.ScenarioText.{names_declared};
 
 use br_model::bytes::Bytes;
+use br_model::change::Kind;
 use br_model::numbers::Dom;
 use br_model::scenario::Item;
 use br_model::steps::{Command, Step};
@@ -55,7 +55,7 @@ const FRAMES: &[(&[u8], &str)] = &[
     (&[0xFF, 0x02, 0x00, 0x0A, 0xB5], "rx 63 ff02000ab5\n"),
 ];
 
-/// Whether the ports that the step names are declared.
+/// Whether a line gives the step, and the ports that it names are declared.
 fn are_declared(step: &Step, roster: &Roster) -> bool
     ensures { result ≡ names_declared roster.now.ports step.now }
 {
@@ -69,34 +69,25 @@ fn are_declared(step: &Step, roster: &Roster) -> bool
             | Command::PortPriority { port, .. } => roster.name(port).is_some(),
             Command::VlanAdd { port, .. }
             | Command::VlanDel { port, .. }
-            | Command::FdbAdd { port, .. }
             | Command::MdbAdd { port, .. }
             | Command::MdbDel { port, .. } => port.is_host() || roster.name(port).is_some(),
+            Command::FdbAdd { port, kind, .. } => match kind {
+                Kind::Local => port.is_host(),
+                Kind::Static | Kind::Extern => roster.name(port).is_some(),
+                Kind::Learned => false,
+            },
             Command::FdbDel { .. } | Command::Ageing(_) => true,
             Command::Stp(_) | Command::Priority(_) | Command::Snooping(_) => true,
         },
-        Step::Now(_) => true,
-        Step::Serve | Step::Hold | Step::Post { .. } | Step::Publish => true,
-        Step::Turn(_) | Step::Report(_) | Step::Sweep(_) => true,
-    }
-}
-
-/// Whether a line can give the step, whatever ports are declared.
-fn comes_by_line(step: &Step) -> bool
-    ensures { result ≡ comes_by_line step.now }
-{
-    match step {
-        Step::Now(moment) => *moment <= 9_007_199_254_740_991,
-        Step::Turn(dom) | Step::Report(dom) | Step::Sweep(dom) => *dom == Dom::CHIP,
+        Step::Now(_) | Step::Serve | Step::Publish => true,
         Step::Hold | Step::Post { .. } => false,
-        Step::Rx { .. } | Step::Cmd(_) | Step::Serve | Step::Publish => true,
+        Step::Turn(dom) | Step::Report(dom) | Step::Sweep(dom) => *dom == Dom::CHIP,
     }
 }
 
-/// Whether the step is written so; a line can give it, and the ports that it names are declared.
+/// Whether the step is written so; a line gives it, and the ports that it names are declared.
 fn is_written(alloc: Global, step: &Step, roster: &Roster, line: &str) -> bool {
-    comes_by_line(step)
-        && are_declared(step, roster)
+    are_declared(step, roster)
         && match write_line(alloc, step, roster) {
             Ok(written) => written.as_slice() == line.as_bytes(),
             Err(_) => false,

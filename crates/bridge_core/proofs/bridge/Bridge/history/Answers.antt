@@ -6,4 +6,4 @@ use Rattle.bridge_core.proofs.bridge.Bridge.history.Goals as goal
 
 pub returns-clause-within : goal.returns-clause-within
 returns-clause-within c =
-    subst (λ (b : Controlled). AreWithin b.history) c.self.view_is (within_of c.self.inside.history.items c.self.invariant.2 c.self.invariant.3)
+    subst (λ (b : Controlled). AreWithin b.history) c.self.view_is (within_of c.self.inside.history.items c.self.invariant.1 c.self.invariant.2)

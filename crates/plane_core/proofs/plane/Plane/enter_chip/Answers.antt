@@ -7,7 +7,8 @@ use Rattle.br_model.specs.Plane.Chip.{hits_entry, offers}
 use Rattle.br_model.specs.Table.DomainPorts.{is_in_domain}
 use Rattle.br_model.specs.Table.Domains.{chip}
 use Rattle.br_model.specs.Wire.Messages.{message}
-use Rattle.br_model.specs.Plane.Steps.{Rx, world_step}
+use Rattle.br_model.specs.declared.steps.Step.TheVariants.{Rx}
+use Rattle.br_model.specs.Plane.Steps.{world_step}
 use Rattle.br_model.specs.Plane.World.{World, sent}
 use Rattle.br_model.specs.Forward.Shares.{chip_out}
 use Rattle.chip_pipeline.specs.Passed.{IsPass}

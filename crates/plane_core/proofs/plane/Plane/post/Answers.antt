@@ -1,6 +1,7 @@
 use Rattle.std.proofs.Common.{◌≡◌, ◌≤◌, Option, Some, IfSome, refl, sym, ap, subst, arith}
 use Rattle.br_model.specs.Plane.Serving.{held_with}
-use Rattle.br_model.specs.Plane.Steps.{Post, does}
+use Rattle.br_model.specs.declared.steps.Step.TheVariants.{Post}
+use Rattle.br_model.specs.Plane.Steps.{does}
 use Rattle.br_model.specs.Plane.World.{Holding}
 use Rattle.plane_core.specs.Planes.{PlaneState}
 use Rattle.plane_core.specs.Shown.{shown_by, shown_of}

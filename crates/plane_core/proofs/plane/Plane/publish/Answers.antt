@@ -1,4 +1,4 @@
-use Rattle.br_model.specs.Plane.Steps.{Publish}
+use Rattle.br_model.specs.declared.steps.Step.TheVariants.{Publish}
 use Rattle.plane_core.proofs.Calling.{publishes_all, stands_after, steps_so}
 use Rattle.plane_core.proofs.plane.Plane.publish.Goals as goal
 
