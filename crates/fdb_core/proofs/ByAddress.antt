@@ -82,6 +82,9 @@ pub key-range : (n : ℕ) → is_key n ≡ true → (1 ≤ n / 2 ^ 48) × (n / 2
 unfolding unpacked
 key-range n h = (leb-true 1 (n / 2 ^ 48) (first_so _ _ h), leb-true (n / 2 ^ 48) 4094 (second_so _ _ h))
 
+pub key-some : (n : ℕ) → is_key n ≡ true → n ≡ 0 → ⊥
+key-some n h zero_is = (let low = (key-range n h).0 in omega arith)
+
 pub all-at : (ns : List ℕ) (i d : ℕ) → list_all is_key ns ≡ true → i < length ns → is_key (get_or ns i d) ≡ true
 all-at [] i d all h = absurd (omega arith)
 all-at (n ∷ ns) zero d all h = first_so _ _ all
