@@ -1,15 +1,14 @@
 -- The numbers of entries at ports, through a put and a take.
-use Rattle.std.proofs.Common.{◌≡◌, ℕ, ◌+◌, ◌-◌, ◌<◌, ◌≤◌, Bool, true, false, cond, not, Option, None, Some, List, [], ◌∷◌, length, filter, map, refl, sym, ap, ◌∙◌, arith}
-use Rattle.std.specs.Ordering.{is_eq, is_lt, eq_by_cmp, nat_cmp}
+use Rattle.std.proofs.Common.{◌≡◌, ℕ, ◌+◌, ◌≤◌, true, false, cond, not, Some, List, [], ◌∷◌, length, filter, map, refl, ap, arith}
+use Rattle.std.specs.Ordering.{is_eq, eq_by_cmp, nat_cmp}
 use Rattle.std.specs.declared.cmp.Ordering.TheVariants.{Less, Equal, Greater}
-use Rattle.std.specs.Cmp.{first_so, second_so}
+use Rattle.std.specs.Cmp.{second_so}
 use Rattle.std.specs.FinMap.Entries.{find, put, where_key, by_order, below_all, is_sorted}
 use Rattle.open_addressing.specs.Finite.{keys_where}
-use Rattle.open_addressing.proofs.Lookups.{by_test}
 use Rattle.fdb_core.specs.declared.entries.Entry.{Entry}
 use Rattle.fdb_core.specs.Fdb.{is_at_port}
 use Rattle.fdb_core.specs.Counts.{one_at, one_if, count_at}
-use Rattle.fdb_core.proofs.Tests.{find_past, lowest}
+use Rattle.fdb_core.proofs.Lookups.{find_past, lowest}
 
 module _ (port : ℕ) where
   -- not_so more than there are

@@ -1,6 +1,6 @@
 pub mod ByAddress
 pub mod Addresses
-pub mod Tests
+pub mod Lookups
 pub mod Numbers
 pub mod Places
 pub mod Counts

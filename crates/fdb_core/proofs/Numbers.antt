@@ -1,11 +1,11 @@
 -- Numbers in order, none of them twice, that are the keys of the entries that pass, are the list of those.
-use Rattle.std.proofs.Common.{◌≡◌, ◌≢◌, ℕ, zero, suc, ◌+◌, ◌<◌, ◌≤◌, Bool, true, false, T, cond, eqb, ◌&&◌, ◌||◌, Option, None, Some, List, [], ◌∷◌, length, get_or, map, filter, IsPermutation, IsSorted, refl, sym, ap, subst, ◌∙◌, arith}
+use Rattle.std.proofs.Common.{◌≡◌, ◌≢◌, ℕ, suc, ◌<◌, ◌≤◌, Bool, true, false, cond, eqb, ◌&&◌, ◌||◌, Option, None, Some, List, [], ◌∷◌, map, filter, IsPermutation, IsSorted, refl, sym, ap, subst, ◌∙◌, arith}
 use Rattle.std.specs.List.{list_any, dedup, dedup_from}
 use Rattle.std.specs.List.Retain.{IsFiltered, DiffersFromLast}
 use Rattle.std.specs.Ordering.{is_lt, eq_by_cmp, nat_cmp}
 use Rattle.std.specs.Cmp.{first_so, second_so, nat_cmp_is}
 use Rattle.std.specs.List.Sorted.{IsNonDecreasingBy}
-use Rattle.std.proofs.lemmas.Bool.{eqb-true, eq-eqb, ltb-true, leb-true, le-leb}
+use Rattle.std.proofs.lemmas.Bool.{eqb-true, eq-eqb}
 use Rattle.std.proofs.lemmas.Cmp.{nat_cmp_total}
 use Rattle.std.proofs.lemmas.List.Filters.{dedup_is}
 use Rattle.std.proofs.lemmas.List.Sorted.{IsNonDecreasingBy-from_sort, list_any-IsPermutation}
@@ -13,8 +13,7 @@ use Rattle.std.proofs.lemmas.Map.Lookups.{exact_unsigned}
 use Rattle.std.specs.FinMap.Entries.{find, below_all, is_sorted, same_entries}
 use Rattle.open_addressing.specs.Finite.{keys_where}
 use Rattle.open_addressing.proofs.Lookups.{by_test}
-use Rattle.fdb_core.specs.declared.entries.Entry.{Entry}
-use Rattle.fdb_core.proofs.Tests.{both, in_either, or_first, or_second, as_T, tied, self_tied, find_past, find_here}
+use Rattle.fdb_core.proofs.Lookups.{both, as_T, find_past}
 
 abbrev pub is_among : ℕ → List ℕ → Bool
 is_among q ns = list_any (λ n. eq_by_cmp nat_cmp q n) ns

@@ -1,5 +1,5 @@
 -- No learned entry is earlier than the least moment of the learned ones.
-use Rattle.std.proofs.Common.{◌≡◌, ℕ, ◌+◌, ◌≤◌, min, Bool, true, false, not, cond, ◌&&◌, ◌||◌, Option, None, Some, List, [], ◌∷◌, nat_le, refl, sym, ap, subst, ◌∙◌, arith}
+use Rattle.std.proofs.Common.{◌≡◌, ℕ, ◌+◌, ◌≤◌, min, Bool, true, false, not, cond, ◌||◌, Option, None, Some, List, [], ◌∷◌, nat_le, refl, sym, ap, subst, ◌∙◌, arith}
 use Rattle.std.specs.Ordering.{eq_by_cmp, nat_cmp}
 use Rattle.std.specs.Cmp.{first_so, second_so}
 use Rattle.std.specs.FinMap.Entries.{find, is_sorted}
@@ -10,7 +10,7 @@ use Rattle.fdb_core.specs.declared.entries.Entry.{Entry}
 use Rattle.fdb_core.specs.Fdb.{is_learned, learned_moment, oldest, all_from}
 use Rattle.fdb_core.specs.Places.{Place, was_learned, is_current, Tells, is_settled, first_moment}
 use Rattle.fdb_core.proofs.ByAddress.{Key}
-use Rattle.fdb_core.proofs.Tests.{both, find_past, find_here}
+use Rattle.fdb_core.proofs.Lookups.{both, find_past, find_here}
 use Rattle.fdb_core.proofs.Places.{first-least}
 
 abbrev Bounds : ℕ → Option ℕ → Type 0

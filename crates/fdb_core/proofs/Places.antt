@@ -1,16 +1,16 @@
 -- Places of entries, through each change of them; and which entries are over.
-use Rattle.std.proofs.Common.{◌≡◌, ℕ, ◌+◌, ◌≤◌, Bool, true, false, cond, not, eqb, ◌&&◌, ◌||◌, Option, None, Some, List, [], ◌∷◌, ◌++◌, nat_le, filter, refl, sym, ap, subst, ◌∙◌, arith}
+use Rattle.std.proofs.Common.{◌≡◌, ℕ, ◌+◌, ◌≤◌, Bool, true, false, cond, not, Option, None, Some, List, [], ◌∷◌, ◌++◌, nat_le, filter, refl, sym, ap, subst, ◌∙◌, arith}
 use Rattle.std.specs.List.{list_all, list_any}
 use Rattle.std.specs.Ordering.{eq_by_cmp, nat_cmp}
 use Rattle.std.specs.Cmp.{first_so, second_so}
-use Rattle.std.specs.FinMap.Entries.{find, put, where_key, is_sorted, find-put}
+use Rattle.std.specs.FinMap.Entries.{find, put, where_key, find-put}
 use Rattle.std.proofs.lemmas.Bool.{eqb-true, eq-eqb, leb-true, le-leb}
 use Rattle.std.proofs.lemmas.Cmp.{nat_cmp_total}
 use Rattle.open_addressing.proofs.Lookups.{by_test}
 use Rattle.fdb_core.specs.declared.entries.Entry.{Entry}
-use Rattle.fdb_core.specs.Fdb.{is_learned, is_expired, learned_at, learned_moment}
+use Rattle.fdb_core.specs.Fdb.{is_expired, learned_at, learned_moment}
 use Rattle.fdb_core.specs.Places.{Place, was_learned, is_current, is_same, in_order, Tells, IsTold, over, if_new, news_of}
-use Rattle.fdb_core.proofs.Tests.{both, in_either, or_first, or_second, same_answer, tied, self_tied, find_without}
+use Rattle.fdb_core.proofs.Lookups.{both, in_either, or_first, or_second, same_answer, tied, self_tied, find_without}
 use Rattle.fdb_core.proofs.Numbers.{is_among, passes}
 
 same_place : (p q : Place) → is_same p q ≡ true → q ≡ p

@@ -1,5 +1,5 @@
 -- What is kept beside the entries, and holds of them.
-use Rattle.std.specs.Prelude.{◌≡◌, ℕ, Bool, true, List, IsTrue}
+use Rattle.std.specs.Prelude.{◌≡◌, ℕ, Bool, true, List}
 use Rattle.std.specs.Ordering.{nat_cmp}
 use Rattle.std.specs.FinMap.Entries.{is_sorted}
 use Rattle.fdb_core.specs.declared.entries.Entry.{Entry}

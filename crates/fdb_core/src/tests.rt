@@ -84,38 +84,6 @@ fn ageing_at_the_limit(rt: HostRuntime) -> Result<(), Fail> {
     Ok(())
 }
 
-/// Three addresses are seen in turn, more often than there is room for places, and each ends at its own moment. One that
-/// comes late is found as well.
-#[test]
-fn ageing_one_by_one(rt: HostRuntime) -> Result<(), Fail> {
-    let alloc = rt.alloc();
-    let mut fdb = Fdb::make(alloc, 4)?;
-    let vid = Vid::new(1).ok_or("vid")?;
-    let seen = |moment: u16| Entry {
-        port: Port::HOST,
-        kind: Kind::Learned,
-        updated: u64::from(moment),
-    };
-    for moment in 0..20u16 {
-        assert!(rt; !fdb.is_full());
-        fdb.put(vid, mac(moment % 3), seen(moment));
-    }
-    assert_eq!(rt; fdb.oldest(), Some(17));
-    for (now, over) in [(116, 0), (117, 1), (118, 2), (119, 3)] {
-        assert_eq!(rt; fdb.expired(alloc, now, 100)?.as_slice().len(), over);
-    }
-    fdb.take(vid, mac(2));
-    assert_eq!(rt; fdb.oldest(), Some(18));
-    assert!(rt; !fdb.is_full());
-    fdb.put(vid, mac(7), seen(3));
-    assert_eq!(rt; fdb.oldest(), Some(3));
-    assert_eq!(rt;
-        fdb.expired(alloc, 103, 100)?.as_slice(),
-        [(vid, mac(7))].as_slice()
-    );
-    Ok(())
-}
-
 /// There is room for 16,384 addresses, each is found, and each can be taken.
 #[test]
 fn all_addresses(rt: HostRuntime) -> Result<(), Fail> {

@@ -1,7 +1,6 @@
-use Rattle.std.proofs.Common.{◌≡◌, ℕ, true, List, IsTrue, map, ap, sym, subst, ◌∙◌, arith}
+use Rattle.std.proofs.Common.{◌≡◌, ℕ, List, IsTrue, map, ap, sym, subst, ◌∙◌, arith}
 use Rattle.std.specs.List.{list_all}
 use Rattle.fdb_core.specs.Fdb.{Table, keys_where, is_at_port}
-use Rattle.open_addressing.specs.Finite.{keys_where as numbers_where}
 use Rattle.open_addressing.specs.Pairs.{unpacked}
 use Rattle.fdb_core.specs.Packing.{is_key}
 use Rattle.fdb_core.proofs.ByAddress.{keys-where, keys_where-by_address}

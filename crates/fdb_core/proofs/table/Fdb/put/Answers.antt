@@ -14,7 +14,7 @@ use Rattle.fdb_core.specs.Counts.{AreCounts, one_more}
 use Rattle.fdb_core.specs.Places.{IsTold, news_of}
 use Rattle.fdb_core.proofs.ByAddress.{Key, keys-put}
 use Rattle.fdb_core.proofs.Kept.{found-some, fewer, counted-put}
-use Rattle.fdb_core.proofs.Tests.{as_T}
+use Rattle.fdb_core.proofs.Lookups.{as_T}
 use Rattle.fdb_core.proofs.Addresses.{told, told-put}
 use Rattle.fdb_core.proofs.table.Fdb.put.Goals as goal
 

@@ -14,7 +14,7 @@ use Rattle.fdb_core.specs.Places.{IsTold}
 use Rattle.fdb_core.proofs.ByAddress.{Key, keys-filter}
 use Rattle.fdb_core.proofs.Kept.{found-some, counted-without}
 use Rattle.fdb_core.proofs.Places.{tells-without}
-use Rattle.fdb_core.proofs.Tests.{as_T}
+use Rattle.fdb_core.proofs.Lookups.{as_T}
 use Rattle.fdb_core.proofs.Addresses.{told, told-without}
 use Rattle.fdb_core.proofs.table.Fdb.take.Goals as goal
 
