@@ -3,9 +3,11 @@
 //! It takes its memory at its making, so that no entry is lost later for want of memory.
 #![tactic(auto)]
 
+mod ages;
 pub mod entries;
 pub mod key_list;
 mod packing;
+mod port_counts;
 pub mod table;
 
 pub use br_model::NoMemory;
