@@ -2,6 +2,7 @@
 use Rattle.std.specs.Prelude.{◌≡◌, ℕ, ◌+◌, ◌-◌, cond, List, [], ◌∷◌, length, slice_index, slice_set}
 use Rattle.std.specs.declared.option.Option.{Option}
 use Rattle.std.specs.declared.option.Option.TheVariants.{None, Some}
+use Rattle.br_model.specs.Table.Domains.{port_places}
 use Rattle.fdb_core.specs.declared.entries.Entry.{Entry}
 use Rattle.fdb_core.specs.Fdb.{is_at_port}
 
@@ -27,5 +28,5 @@ one_more port counts = slice_set counts port (slice_index counts port + 1)
 
 -- what the numbers count
 pub record AreCounts (counts : List ℕ) (es : List (ℕ × Entry)) : Type 0 where
-  pub sized : length counts ≡ 64
+  pub sized : length counts ≡ port_places
   pub counted : (port : ℕ) → slice_index counts port ≡ count_at port es

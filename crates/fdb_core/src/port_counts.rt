@@ -1,24 +1,24 @@
 //! How many entries each port has.
 ghost use Rattle.std.specs.Prelude.{◌≡◌, ◌<◌, IfSome, replicate, slice_index};
+ghost use Rattle.br_model.specs.Table.Domains.{port_places};
 ghost use Rattle.fdb_core.specs.Counts.{less_one, one_more};
 
 use crate::entries::Entry;
 use br_model::numbers::Port;
 
-/// The number of places for ports.
-const PORTS: usize = 64;
-
 /// A number for each port. Contracts see the list.
 #[derive(Drop, Debug)]
 pub struct PortCounts {
-    counts: [usize; PORTS],
+    counts: [usize; Port::PLACES],
 }
 
 impl PortCounts {
     pub fn none() -> PortCounts
-        ensures { result.counts ≡ replicate 64 0 }
+        ensures { result.counts ≡ replicate port_places 0 }
     {
-        PortCounts { counts: [0; PORTS] }
+        PortCounts {
+            counts: [0; Port::PLACES],
+        }
     }
 
     pub fn of(&self, port: Port) -> usize
@@ -31,7 +31,7 @@ impl PortCounts {
     pub fn add(&mut self, entry: &Entry, entries: usize)
         requires { slice_index self.old.counts entry.now.port < entries }
         ensures value { self.new.counts ≡ one_more entry.now.port self.old.counts }
-        ensures within { entry.now.port < 64 }
+        ensures within { entry.now.port < port_places }
     {
         self.counts[usize::from(entry.port.number())] += 1;
     }
