@@ -111,7 +111,7 @@ impl Addresses {
         }
     }
 
-    /// The addresses at the port, by VLAN and address. It looks at each entry.
+    /// The addresses at the port, by VLAN and address. Where there is none it looks at no entry, and else at each.
     pub fn of_port(&self, alloc: Global, port: Port) -> Result<Keys, NoMemory>
         ensures { IfOk result (λ keys. keys ≡ keys_at port self.now.addr) }
     {
@@ -129,14 +129,14 @@ impl Addresses {
         }
     }
 
-    /// The learned addresses that are over at `now`, by VLAN and address. It looks at each entry.
+    /// The learned addresses that are over at `now`, by VLAN and address. It looks at those alone, and at what they were before.
     pub fn expired(&self, alloc: Global, now: u64, hold: u64) -> Result<Keys, NoMemory>
         ensures { IfOk result (λ keys. keys ≡ old_keys now hold self.now) }
     {
         self.fdb.expired(alloc, now, hold)
     }
 
-    /// Finds the first moment anew, so that `may_expire` is exact. It looks at each entry.
+    /// Finds the first moment anew, so that `may_expire` is exact. It looks at no entry.
     pub fn settle(&mut self)
         ensures { self.new ≡ record self.old { oldest = exact_bound self.old } }
     {
