@@ -1,14 +1,12 @@
 //! The rows of groups.
-ghost use Rattle.std.specs.Prelude.{◌≡◌, ◌==◌, ℕ, IsTrue};
+ghost use Rattle.std.specs.Prelude.{◌≡◌, ◌==◌, ◌&&◌, IsTrue, true};
 ghost use Rattle.br_model.specs.Table.GroupPairs.{has_room};
 ghost use Rattle.br_model.specs.Table.Groups.{membership_cmp};
 ghost use Rattle.br_model.specs.Data.Maps.{joined, parted};
 ghost use Rattle.mdb_snoop.specs.Database.{memberships};
-ghost use Rattle.chip_driver.specs.Joined.{has_vlan};
-ghost use Rattle.chip_driver.specs.GroupRows.{AreUsed, GroupsFollow, RefreshesGroups, group_fan};
+ghost use Rattle.chip_driver.specs.GroupRows.{AreUsed, GroupsFollow, RefreshesGroups, group_fan, is_among, is_member};
 
 use crate::fans;
-use crate::joined::Joined;
 use crate::shadow::Shadow;
 use br_model::group::Group;
 use br_model::numbers::{Port, Vid};
@@ -22,16 +20,18 @@ fn group_row(tables: &Tables, shadow: &Shadow, groups: &Mdb, v: Vid, g: Group) -
     fans::fan_to(shadow, tables.vlan(v).members, groups.members(v, g))
 }
 
-/// Makes the group rows of each VLAN anew of which the port is a member.
-pub fn refresh_of_port(tables: &mut Tables, shadow: &Shadow, joined: &Joined, groups: &Mdb, p: Port)
+/// Makes the rows of the groups anew of which the port is a member, in a VLAN or in all.
+fn refresh_all(tables: &mut Tables, shadow: &Shadow, groups: &Mdb, p: Port, vid: Option<Vid>)
     requires { AreUsed (memberships groups.now) tables.old }
-    ensures { RefreshesGroups (has_vlan joined.now p) shadow.now (memberships groups.now) tables.old tables.new }
+    ensures { RefreshesGroups (λ k. is_among vid k.0 && is_member (memberships groups.now) p k)
+        shadow.now (memberships groups.now) tables.old tables.new }
 {
     // law: groups ascend, within their limit
     groups.parts_ascend();
     for i in 0..groups.pairs() {
         if let Some(pair) = groups.pair(i) {
-            if joined.has(p, pair.0) {
+            let member = groups.has(pair.0, pair.1, p);
+            if is_asked(&vid, pair.0, member) {
                 let row = group_row(tables, shadow, groups, pair.0, pair.1);
                 tables.set_group(pair.0, pair.1, Some(row));
             }
@@ -39,20 +39,24 @@ pub fn refresh_of_port(tables: &mut Tables, shadow: &Shadow, joined: &Joined, gr
     }
 }
 
-/// Makes the group rows of a VLAN anew.
-pub fn refresh_of_vlan(tables: &mut Tables, shadow: &Shadow, groups: &Mdb, vid: Vid)
-    requires { AreUsed (memberships groups.now) tables.old }
-    ensures { RefreshesGroups (λ w. w == vid) shadow.now (memberships groups.now) tables.old tables.new }
+/// Whether the port is a member and the VLAN is asked for, as each is where none is named.
+fn is_asked(asked: &Option<Vid>, v: Vid, member: bool) -> bool
+    ensures { result ≡ (is_among asked.now v && member) }
 {
-    // law: groups ascend, within their limit
-    groups.parts_ascend();
-    for i in 0..groups.pairs() {
-        if let Some(pair) = groups.pair(i) {
-            if pair.0 == vid {
-                let row = group_row(tables, shadow, groups, pair.0, pair.1);
-                tables.set_group(pair.0, pair.1, Some(row));
-            }
-        }
+    match *asked {
+        Some(vid) => v == vid && member,
+        None => member,
+    }
+}
+
+/// Makes the rows of the groups anew of which the port is a member, in a VLAN or in all, where they are told of.
+pub fn refresh(tables: &mut Tables, shadow: &Shadow, groups: &Mdb, told: bool, p: Port, vid: Option<Vid>)
+    requires { AreUsed (memberships groups.now) tables.old }
+    ensures { RefreshesGroups (λ k. told && (is_among vid k.0 && is_member (memberships groups.now) p k))
+        shadow.now (memberships groups.now) tables.old tables.new }
+{
+    if told {
+        refresh_all(tables, shadow, groups, p, vid);
     }
 }
 
