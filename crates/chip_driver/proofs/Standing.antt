@@ -31,7 +31,7 @@ use Rattle.chip_driver.specs.Keeping.{IsKept, IsRemade}
 use Rattle.chip_driver.specs.Drives.{Driven, driven, KeepsRouters, Drives}
 use Rattle.chip_driver.proofs.Sets.{has-where, same_ports}
 use Rattle.chip_driver.proofs.GroupRows.{rows_stand, has-ports}
-use Rattle.mdb_snoop.specs.Database.{memberships, ports_in}
+use Rattle.mdb_snoop.specs.Database.{ports_in}
 use Rattle.br_model.specs.Table.GroupPairs.{GroupPair}
 use Rattle.chip_driver.proofs.FanRows.{same_fans}
 use Rattle.chip_driver.proofs.TableLaws.{has-switched}
@@ -85,7 +85,7 @@ stands d t s j rows settled vlans ports routers traps control addresses follow =
 
 -- A port's row is written, and all else of the table stays.
 pub drives_port : (d : Domains) (t : Table) (up : List ℕ) (flags state : List (ℕ × ℕ)) (p : ℕ) (row : PortRow) (old : Driven) (kept : Kept) → Drives d old t
-    → IsKept kept → kept.shadow.routers ≡ old.routers → memberships kept.groups ≡ old.groups → WritesPort old.rows kept.tables p row
+    → IsKept kept → kept.shadow.routers ≡ old.routers → kept.groups ≡ old.groups → WritesPort old.rows kept.tables p row
     → IsRemade (record old.rows { ports = kept.tables.ports }) kept.tables
     → row ≡ port_wanted d (record t { up = up; flags = flags; state = state }) p
     → ((q : ℕ) → q ≢ p → port_wanted d (record t { up = up; flags = flags; state = state }) q ≡ port_wanted d t q)
@@ -115,7 +115,7 @@ switched_set set old p on test test' is has h = is ∙ same_ports _ _ (λ q low.
 
 -- A router comes or goes.
 pub drives_router : (d : Domains) (t : Table) (p : ℕ) (on : Bool) (old : Driven) (kept : Kept) → Drives d old t
-    → IsKept kept → kept.shadow.routers ≡ switched old.routers p on → memberships kept.groups ≡ old.groups
+    → IsKept kept → kept.shadow.routers ≡ switched old.routers p on → kept.groups ≡ old.groups
     → IsRemade old.rows kept.tables → Drives d (driven kept) (record t { routers = table.switched on t.routers p })
 drives_router d t p on old kept before is_kept routers_is groups_is rest = record {
   rows = stands d _ kept.shadow kept.joined kept.tables is_kept.settled
@@ -170,7 +170,7 @@ vlans_switched t t' p v on plain row old mid before change row_is writes vid in_
         (same_ports _ _ (λ q low. sym (change.untagged vid q ∙ ap (λ b. cond (b && (q == p)) plain (untagged t q vid)) test)))
 
 pub drives_vlan : (d : Domains) (t : Table) (vlans : List ((ℕ × ℕ) × Bool)) (pvid : List (ℕ × ℕ)) (p v : ℕ) (on plain : Bool) (port : PortRow) (old : Driven) (mid : Rows) (kept : Kept)
-    → Drives d old t → Membership t (record t { vlans = vlans; pvid = pvid }) p v on plain → IsKept kept → kept.shadow.routers ≡ old.routers → memberships kept.groups ≡ old.groups
+    → Drives d old t → Membership t (record t { vlans = vlans; pvid = pvid }) p v on plain → IsKept kept → kept.shadow.routers ≡ old.routers → kept.groups ≡ old.groups
     → WritesVlan old.rows mid v (switched_row (vlan_at old.rows v) p on plain)
     → IsRemade (record old.rows { vlans = mid.vlans }) mid
     → WritesPort mid kept.tables p port → kept.tables ≡ record mid { ports = kept.tables.ports } → port ≡ port_wanted d (record t { vlans = vlans; pvid = pvid }) p
@@ -217,7 +217,7 @@ drives_switches d t queriers snoop stp routers old new traps_now control_now bef
 
 -- The members of a group change, and its row.
 pub drives_groups : (d : Domains) (t : Table) (groups : List groups.Membership) (old : Driven) (kept : Kept) → Drives d old t → IsKept kept → kept.shadow.routers ≡ old.routers
-    → kept.tables ≡ record old.rows { groups = kept.tables.groups } → memberships kept.groups ≡ groups
+    → kept.tables ≡ record old.rows { groups = kept.tables.groups } → kept.groups ≡ groups
     → Drives d (driven kept) (record t { groups = groups })
 drives_groups d t groups old kept before is_kept routers_is rest is = record {
   rows = stands d _ kept.shadow kept.joined kept.tables is_kept.settled

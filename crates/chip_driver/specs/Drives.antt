@@ -10,7 +10,6 @@ use Rattle.br_model.specs.Table.Groups.{Membership}
 use Rattle.br_model.specs.Data.Maps.{has}
 use Rattle.br_model.specs.Table.Limits.{asks, most_addresses}
 use Rattle.br_model.specs.Table.Table.{Table}
-use Rattle.mdb_snoop.specs.Database.{memberships}
 use Rattle.port_sets.specs.Numbers.{has_number}
 use Rattle.chip_tables.specs.declared.rows.AddressRow.{AddressRow}
 use Rattle.chip_tables.specs.Rows.{Rows, addresses_with}
@@ -27,7 +26,7 @@ pub record Driven : Type 0 where
 
 -- what they see of what is kept
 abbrev pub driven : Kept → Driven
-driven kept = record { rows = kept.tables; routers = kept.shadow.routers; groups = memberships kept.groups }
+driven kept = record { rows = kept.tables; routers = kept.shadow.routers; groups = kept.groups }
 
 abbrev pub KeepsRouters : List ℕ → Table → Type 0
 KeepsRouters routers t = (q : ℕ) → q < port_places → has_number routers q ≡ has nat_cmp t.routers q
@@ -43,7 +42,7 @@ Grants driver Nothing = Unit {0}
 Grants driver (State state) = state ≤ 4
 Grants driver (GroupRoom vid group) = IsTrue (has_room driver.groups vid group)
 Grants driver (AddressRoom vid mac) =
-  (row : AddressRow) → length (addresses_with driver.rows vid mac (Some row)) ≤ most_addresses
+    (row : AddressRow) → length (addresses_with driver.rows vid mac (Some row)) ≤ most_addresses
 
 -- what is asked of a change
 abbrev pub IsTaken : Driven → Change → Type 0

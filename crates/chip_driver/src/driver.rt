@@ -16,7 +16,7 @@ use br_model::domains::Domains;
 use br_model::group::Group;
 use br_model::numbers::{Dom, Mac, Port, Vid};
 use chip_tables::{AddressRow, NoMemory, Tables};
-use mdb_snoop::Mdb;
+use mdb_snoop::Groups;
 use port_sets::Ports;
 use std::alloc::Global;
 use std::marker::Model;
@@ -47,7 +47,7 @@ impl Driver {
     {
         let mut tables = Tables::make(alloc)?;
         let joined = Joined::make(alloc)?;
-        let groups = Mdb::make(alloc)?;
+        let groups = Groups::make(alloc)?;
         let shadow = Shadow::start(Ports::from_word(d.ports_of(dom)));
         // law: the host isn't on the chip
         making::host_is_elsewhere(d);
@@ -103,7 +103,9 @@ impl Driver {
         requires { IsTaken self.old (changes.AddrPut v m p kind) }
         ensures { (d : DomainsValue) (t : Table) → Drives d self.old t → Drives d self.new (apply t (changes.AddrPut v m p kind)) }
     {
-        self.kept.tables.set_address(v, m, Some(address_row(p, kind)));
+        self.kept
+            .tables
+            .set_address(v, m, Some(address_row(p, kind)));
     }
 
     fn del_address(&mut self, v: Vid, m: Mac)

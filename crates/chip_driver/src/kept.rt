@@ -4,7 +4,6 @@ ghost use Rattle.br_model.specs.Table.Domains.{port_places};
 ghost use Rattle.br_model.specs.Table.GroupPairs.{has_room};
 ghost use Rattle.br_model.specs.Table.Groups.{membership_cmp};
 ghost use Rattle.br_model.specs.Data.Maps.{joined, parted};
-ghost use Rattle.mdb_snoop.specs.Database.{memberships};
 ghost use Rattle.chip_tables.specs.Rows.{vlan_at, port_at, WritesPort, WritesVlan};
 ghost use Rattle.chip_driver.specs.Shadows.{switched, switched_row};
 ghost use Rattle.chip_driver.specs.Keeping.{IsKept, IsRemade};
@@ -16,7 +15,7 @@ use crate::{fans, groups};
 use br_model::group::Group;
 use br_model::numbers::{Port, Vid};
 use chip_tables::{PortRow, Tables, VlanRow};
-use mdb_snoop::Mdb;
+use mdb_snoop::Groups;
 
 /// The chip's tables, and what the driver keeps beside them.
 #[derive(Drop)]
@@ -24,7 +23,7 @@ pub struct Kept {
     pub tables: Tables,
     pub shadow: Shadow,
     pub joined: Joined,
-    pub groups: Mdb,
+    pub groups: Groups,
 }
 
 impl Kept {
@@ -47,7 +46,14 @@ impl Kept {
         self.shadow = self.shadow.with_row(p, &row);
         let told = before.told(&Shares::of(&self.shadow, p, true));
         fans::refresh(&mut self.tables, &self.shadow, &self.joined, &told, p);
-        groups::refresh(&mut self.tables, &self.shadow, &self.groups, told.groups, p, None);
+        groups::refresh(
+            &mut self.tables,
+            &self.shadow,
+            &self.groups,
+            told.groups,
+            p,
+            None,
+        );
     }
 
     /// Puts a router behind a port or not, and makes those rows anew that tell of it.
@@ -62,7 +68,14 @@ impl Kept {
         self.shadow.routers = switched(self.shadow.routers, p.number(), on);
         let told = before.told(&Shares::of(&self.shadow, p, true));
         fans::refresh(&mut self.tables, &self.shadow, &self.joined, &told, p);
-        groups::refresh(&mut self.tables, &self.shadow, &self.groups, told.groups, p, None);
+        groups::refresh(
+            &mut self.tables,
+            &self.shadow,
+            &self.groups,
+            told.groups,
+            p,
+            None,
+        );
     }
 
     /// Switches a membership, and makes those rows of the VLAN anew that tell of it.
@@ -83,7 +96,14 @@ impl Kept {
         self.tables.set_vlan(v, VlanRow { members, untagged });
         self.joined.switch(p, v, on);
         fans::refresh_vlan(&mut self.tables, &self.shadow, &told, v);
-        groups::refresh(&mut self.tables, &self.shadow, &self.groups, told.groups, p, Some(v));
+        groups::refresh(
+            &mut self.tables,
+            &self.shadow,
+            &self.groups,
+            told.groups,
+            p,
+            Some(v),
+        );
     }
 
     /// Writes the VLAN of a port's untagged frames, on which no other row depends.
@@ -106,10 +126,10 @@ impl Kept {
     /// Joins a port to a group, and makes its row anew.
     pub fn join(&mut self, v: Vid, g: Group, p: Port)
         requires kept { IsKept self.old }
-        requires room { IsTrue (has_room (memberships self.old.groups) v g) }
+        requires room { IsTrue (has_room self.old.groups v g) }
         ensures kept { IsKept self.new }
         ensures shadow { self.new.shadow ≡ self.old.shadow }
-        ensures members { memberships self.new.groups ≡ joined membership_cmp (memberships self.old.groups) (v, g, p) }
+        ensures members { self.new.groups ≡ joined membership_cmp self.old.groups (v, g, p) }
         ensures rest { self.new.tables ≡ record self.old.tables { groups = self.new.tables.groups } }
     {
         groups::join(&mut self.tables, &self.shadow, &mut self.groups, v, g, p);
@@ -120,7 +140,7 @@ impl Kept {
         requires { IsKept self.old }
         ensures kept { IsKept self.new }
         ensures shadow { self.new.shadow ≡ self.old.shadow }
-        ensures members { memberships self.new.groups ≡ parted membership_cmp (memberships self.old.groups) (v, g, p) }
+        ensures members { self.new.groups ≡ parted membership_cmp self.old.groups (v, g, p) }
         ensures rest { self.new.tables ≡ record self.old.tables { groups = self.new.tables.groups } }
     {
         groups::part(&mut self.tables, &self.shadow, &mut self.groups, v, g, p);

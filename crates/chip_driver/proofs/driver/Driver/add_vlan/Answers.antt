@@ -5,7 +5,6 @@ use Rattle.br_model.specs.declared.change.Change.TheVariants.{VlanAdd}
 use Rattle.chip_tables.specs.declared.rows.PortRow.{PortRow}
 use Rattle.chip_tables.specs.Rows.{port_at}
 use Rattle.chip_tables.specs.Stands.{port_wanted}
-use Rattle.mdb_snoop.specs.Database.{memberships}
 use Rattle.chip_driver.specs.declared.shadow.Shadow.{Shadow}
 use Rattle.chip_driver.specs.Drives.{Drives, driven}
 use Rattle.chip_driver.proofs.Standing.{Membership, drives_vlan}
@@ -25,7 +24,7 @@ returns c d t before =
     let port : port_at c.write_member.new.self.tables p ≡ port_wanted d t p = ap (λ r. port_at r p) c.write_member.ensures.rest ∙ old.rows.ports p c.write_pvid.ensures.below in
     drives_vlan d t (put pair_cmp t.vlans (v, p) c.args.untagged) (cond c.args.pvid (put nat_cmp t.pvid p v) t.pvid) p v true c.args.untagged _
     (driven c.self.inside.kept) _ c.write_pvid.new.self old change c.write_pvid.ensures.kept
-    (ap (λ (s : Shadow). s.routers) (c.write_pvid.ensures.shadow ∙ c.write_member.ensures.shadow)) (ap memberships (c.write_pvid.ensures.members ∙ c.write_member.ensures.members))
+    (ap (λ (s : Shadow). s.routers) (c.write_pvid.ensures.shadow ∙ c.write_member.ensures.shadow)) (c.write_pvid.ensures.members ∙ c.write_member.ensures.members)
     c.write_member.ensures.row c.write_member.ensures.rest c.write_pvid.ensures.row c.write_pvid.ensures.rest
     (ap (λ (r : PortRow). record r { pvid = c.pvid_with-pvid.result }) port
     ∙ ap (λ o. record (port_wanted d t p) { pvid = o })

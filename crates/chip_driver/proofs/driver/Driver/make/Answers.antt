@@ -2,8 +2,6 @@ use Rattle.std.proofs.Common.{◌≡◌, List, ℕ, [], replicate, rules, ap, su
 use Rattle.br_model.specs.Table.DomainPorts.{IsWordOf}
 use Rattle.br_model.specs.Table.Domains.{chip, port_places}
 use Rattle.br_model.specs.Table.Groups.{Membership}
-use Rattle.br_model.specs.Control.Ends.{no_ends}
-use Rattle.mdb_snoop.specs.Database.{memberships}
 use Rattle.chip_tables.specs.Writing.{IsBlank}
 use Rattle.chip_driver.specs.declared.shadow.Shadow.{Shadow}
 use Rattle.chip_driver.specs.Joined.{block_count}
@@ -17,12 +15,12 @@ write_member-requires c =
     let joined : ◌≡◌ {A = List (List ℕ)} c.in_ok-joined.joined (replicate block_count []) = search rules in
     let own : c.start-shadow.result.own ≡ c.from_word.result = ap (λ (s : Shadow). s.own) c.start-shadow.ensures in
     let word : IsWordOf c.args.d.now chip c.ports_of.result = subst (λ n. IsWordOf c.args.d.now n c.ports_of.result) c.requires c.ports_of.ensures in
-    let groups : ◌≡◌ {A = List Membership} (memberships c.in_ok-groups.groups) [] = ap memberships (let e : c.in_ok-groups.groups ≡ no_ends = search rules in e) in
+    let groups : ◌≡◌ {A = List Membership} c.in_ok-groups.groups [] = search rules in
     record {
       settled = settled_start c.from_word.result _ _ c.in_ok-tables.tables _ _ _ blank
           (subst (λ o. MarksOwn o port_places c.in_ok-tables.tables c.mark_own.new.tables) own c.mark_own.ensures) c.switch_traps.ensures c.set_control.ensures.rest
           c.start-shadow.ensures joined (host_off c.args.d.now c.ports_of.result c.from_word.result c.from_word.ensures word c.host_is_elsewhere.ensures);
-      follow = follow_made c.start-shadow.result c.start-shadow.result.own (memberships c.in_ok-groups.groups) c.in_ok-tables.tables _ _ _ blank c.mark_own.ensures c.switch_traps.ensures c.set_control.ensures.rest groups;
+      follow = follow_made c.start-shadow.result c.start-shadow.result.own c.in_ok-groups.groups c.in_ok-tables.tables _ _ _ blank c.mark_own.ensures c.switch_traps.ensures c.set_control.ensures.rest groups;
     }
 
 pub returns : goal.returns
@@ -30,9 +28,9 @@ returns c =
     let blank : IsBlank c.in_ok-tables.tables = search rules in
     let own : c.start-shadow.result.own ≡ c.from_word.result = ap (λ (s : Shadow). s.own) c.start-shadow.ensures in
     let word : IsWordOf c.args.d.now chip c.ports_of.result = subst (λ n. IsWordOf c.args.d.now n c.ports_of.result) c.requires c.ports_of.ensures in
-    let groups : ◌≡◌ {A = List Membership} (memberships c.in_ok-groups.groups) [] = ap memberships (let e : c.in_ok-groups.groups ≡ no_ends = search rules in e) in
+    let groups : ◌≡◌ {A = List Membership} c.in_ok-groups.groups [] = search rules in
     let kept = c.write_member.new.self in
-    drives_start c.args.d.now c.ports_of.result c.from_word.result kept.shadow kept.joined (memberships kept.groups) c.in_ok-tables.tables _ _ _ kept.tables blank
+    drives_start c.args.d.now c.ports_of.result c.from_word.result kept.shadow kept.joined kept.groups c.in_ok-tables.tables _ _ _ kept.tables blank
     (subst (λ o. MarksOwn o port_places c.in_ok-tables.tables c.mark_own.new.tables) own c.mark_own.ensures) c.switch_traps.ensures c.set_control.ensures.rest
     (c.set_control.ensures.row ∙ c.first_control.ensures) c.from_word.ensures word (ap (λ (s : Shadow). s.routers) (c.write_member.ensures.shadow ∙ c.start-shadow.ensures))
-    c.write_member.ensures.kept.settled c.write_member.ensures.row c.write_member.ensures.rest (ap memberships c.write_member.ensures.members ∙ groups) c.write_member.ensures.kept.follow
+    c.write_member.ensures.kept.settled c.write_member.ensures.row c.write_member.ensures.rest (c.write_member.ensures.members ∙ groups) c.write_member.ensures.kept.follow

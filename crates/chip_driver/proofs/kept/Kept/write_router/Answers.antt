@@ -1,6 +1,5 @@
 use Rattle.std.proofs.Common.{◌&&◌, refl, sym, ap, ◌∙◌}
 use Rattle.std.specs.Prelude.{None}
-use Rattle.mdb_snoop.specs.Database.{memberships}
 use Rattle.chip_tables.specs.Rows.{Rows, vlan_at}
 use Rattle.chip_driver.specs.GroupRows.{is_among, is_member}
 use Rattle.chip_driver.specs.Shadows.{switched}
@@ -10,7 +9,7 @@ use Rattle.chip_driver.proofs.kept.Kept.write_router.Goals as goal
 
 pub refresh-requires-2 : goal.refresh-requires-2
 refresh-requires-2 c =
-    used_of c.args.self.now.shadow (memberships c.args.self.now.groups) c.args.self.now.tables _ c.requires.follow (ap (λ (r : Rows). r.groups) c.refresh.ensures.rest)
+    used_of c.args.self.now.shadow c.args.self.now.groups c.args.self.now.tables _ c.requires.follow (ap (λ (r : Rows). r.groups) c.refresh.ensures.rest)
 
 pub returns-clause-kept : goal.returns-clause-kept
 returns-clause-kept c =
@@ -22,9 +21,9 @@ returns-clause-kept c =
       settled = settled_groups _ kept.joined _ _
           (settled_router kept.shadow kept.joined p c.switched-self.result c.args.on c.told-told.result kept.tables _ c.number.ensures.below c.requires.settled routers tells c.refresh.ensures)
           c.refresh-2.ensures.rest;
-      follow = groups_anew (λ k. c.told-told.result.groups && (is_among None k.0 && is_member (memberships kept.groups) p k)) kept.shadow _ (memberships kept.groups) kept.tables c.refresh.new.tables c.refresh-2.new.tables c.requires.follow
+      follow = groups_anew (λ k. c.told-told.result.groups && (is_among None k.0 && is_member kept.groups p k)) kept.shadow _ kept.groups kept.tables c.refresh.new.tables c.refresh-2.new.tables c.requires.follow
           (ap (λ (r : Rows). r.groups) c.refresh.ensures.rest)
-          (port_kept kept.shadow _ p c.told-told.result (memberships kept.groups) kept.tables c.refresh.new.tables (routed_same kept.shadow p c.switched-self.result c.args.on routers) tells refl
+          (port_kept kept.shadow _ p c.told-told.result kept.groups kept.tables c.refresh.new.tables (routed_same kept.shadow p c.switched-self.result c.args.on routers) tells refl
           (λ vid. ap (λ (r : Rows). vlan_at r vid) c.refresh.ensures.rest))
           c.refresh-2.ensures;
     }
