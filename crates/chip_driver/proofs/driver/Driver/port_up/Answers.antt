@@ -1,4 +1,4 @@
-use Rattle.std.proofs.Common.{sym, subst, ap, ◌∙◌, nat_cmp}
+use Rattle.std.proofs.Common.{sym, subst, ◌∙◌, nat_cmp}
 use Rattle.br_model.specs.Data.Maps.{put, joined}
 use Rattle.br_model.specs.Table.Table.{default_flags, disabled}
 use Rattle.chip_driver.specs.Drives.{Drives, driven}

@@ -1,4 +1,4 @@
-use Rattle.std.proofs.Common.{sym, subst, ap}
+use Rattle.std.proofs.Common.{sym, subst}
 use Rattle.chip_driver.specs.Drives.{Drives, driven}
 use Rattle.chip_driver.proofs.Standing.{drives_router}
 use Rattle.chip_driver.proofs.driver.Driver.set_router.Goals as goal

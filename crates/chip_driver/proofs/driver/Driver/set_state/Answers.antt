@@ -1,4 +1,4 @@
-use Rattle.std.proofs.Common.{sym, subst, ap, ◌∙◌, nat_cmp}
+use Rattle.std.proofs.Common.{sym, subst, ◌∙◌, nat_cmp}
 use Rattle.br_model.specs.Data.Maps.{put}
 use Rattle.chip_driver.specs.Drives.{Drives, driven}
 use Rattle.chip_driver.proofs.Standing.{drives_port}

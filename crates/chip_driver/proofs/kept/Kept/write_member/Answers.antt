@@ -1,4 +1,4 @@
-use Rattle.std.proofs.Common.{◌==◌, ◌&&◌, cond, ap, ap₂, ◌∙◌}
+use Rattle.std.proofs.Common.{◌&&◌, ap, ap₂, ◌∙◌}
 use Rattle.std.specs.Prelude.{Some}
 use Rattle.port_sets.specs.Numbers.{has_number}
 use Rattle.chip_tables.specs.declared.rows.VlanRow.{VlanRow}

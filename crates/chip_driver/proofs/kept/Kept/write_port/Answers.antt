@@ -1,5 +1,4 @@
-use Rattle.std.proofs.Common.{◌&&◌, refl, sym, ap, ◌∙◌}
-use Rattle.br_model.specs.Table.GroupPairs.{GroupPair}
+use Rattle.std.proofs.Common.{◌&&◌, sym, ap, ◌∙◌}
 use Rattle.port_sets.specs.Numbers.{has_number}
 use Rattle.chip_tables.specs.Rows.{Rows, vlan_at}
 use Rattle.std.specs.Prelude.{ℕ, List, None}

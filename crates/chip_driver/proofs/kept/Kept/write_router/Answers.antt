@@ -1,4 +1,4 @@
-use Rattle.std.proofs.Common.{◌&&◌, refl, sym, ap, ◌∙◌}
+use Rattle.std.proofs.Common.{◌&&◌, refl, ap, ◌∙◌}
 use Rattle.std.specs.Prelude.{None}
 use Rattle.chip_tables.specs.Rows.{Rows, vlan_at}
 use Rattle.chip_driver.specs.GroupRows.{is_among, is_member}
