@@ -1,17 +1,21 @@
 -- Sets of ports, told by tests.
-use Rattle.std.proofs.Common.{◌≡◌, ◌≢◌, ⊎_elim, ℕ, zero, suc, ◌+◌, ◌<◌, ◌≤◌, Bool, true, false, not, ◌||◌, cond, IsTrue, ◌↔◌, List, [], ◌∷◌, refl, sym, ap, ap₂, ◌∙◌, arith}
+use Rattle.std.proofs.Common.{◌≡◌, ◌≢◌, ⊎_elim, ℕ, ◌<◌, Bool, true, false, cond, List, sym, ap, ◌∙◌}
 use Rattle.std.specs.Prelude.{◌==◌}
 use Rattle.std.proofs.lemmas.Bool.{ne_eqb}
 use Rattle.std.proofs.lemmas.Bool.Decides.{eqb_tells}
 use Rattle.br_model.specs.Table.Domains.{port_places}
-use Rattle.port_sets.specs.Numbers.{has_number}
+use Rattle.port_sets.specs.Numbers.{has_number, numbers_below}
 use Rattle.port_sets.proofs.Numbers.{has-below, same_below}
 use Rattle.chip_tables.specs.Stands.{ports_where}
 use Rattle.chip_driver.specs.Shadows.{Has}
 
+-- a set of the numbers that pass has just these
+pub has-numbers : (most : ℕ) (set : List ℕ) (test : ℕ → Bool) → set ≡ numbers_below most test → (n : ℕ) → n < most → has_number set n ≡ test n
+has-numbers most set test is n low = ap (λ (ns : List ℕ). has_number ns n) is ∙ has-below test most n low
+
 -- a set of the ports that pass has just these
 pub has-where : (set : List ℕ) (test : ℕ → Bool) → set ≡ ports_where test → Has set test
-has-where set test is q low = ap (λ (ns : List ℕ). has_number ns q) is ∙ has-below test port_places q low
+has-where set test is = has-numbers port_places set test is
 
 pub same_ports : (p q : ℕ → Bool) → ((m : ℕ) → m < port_places → p m ≡ q m) → ports_where p ≡ ports_where q
 same_ports p q h = same_below p q port_places h

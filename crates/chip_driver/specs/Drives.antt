@@ -14,6 +14,7 @@ use Rattle.port_sets.specs.Numbers.{has_number}
 use Rattle.chip_tables.specs.declared.rows.AddressRow.{AddressRow}
 use Rattle.chip_tables.specs.Rows.{Rows, addresses_with}
 use Rattle.chip_tables.specs.Stands.{Stands}
+use Rattle.chip_driver.specs.declared.kept.Kept.{Kept}
 
 -- what contracts see of a driver
 pub record Driven : Type 0 where
@@ -22,6 +23,10 @@ pub record Driven : Type 0 where
   pub routers : List ℕ
   -- the members of groups
   pub groups : List Membership
+
+-- what they see of what is kept
+abbrev pub driven : Kept → Driven
+driven kept = record { rows = kept.tables; routers = kept.shadow.routers; groups = kept.groups }
 
 abbrev pub KeepsRouters : List ℕ → Table → Type 0
 KeepsRouters routers t = (q : ℕ) → q < port_places → has_number routers q ≡ has nat_cmp t.routers q
@@ -36,7 +41,8 @@ abbrev pub Grants : Driven → Asks → Type 0
 Grants driver Nothing = Unit {0}
 Grants driver (State state) = state ≤ 4
 Grants driver (GroupRoom vid group) = IsTrue (has_room driver.groups vid group)
-Grants driver (AddressRoom vid mac) = (row : AddressRow) → length (addresses_with driver.rows vid mac (Some row)) ≤ most_addresses
+Grants driver (AddressRoom vid mac) =
+    (row : AddressRow) → length (addresses_with driver.rows vid mac (Some row)) ≤ most_addresses
 
 -- what is asked of a change
 abbrev pub IsTaken : Driven → Change → Type 0

@@ -54,7 +54,7 @@ module _ {K V : Type 0} (R : K → K → Ordering) where
   below_from k m goes (x ∷ front) h =
       ap (λ r. is_gt r && all_below R k front) (goes x.0 (is_Less _ (first_so _ _ h))) ∙ below_from k m goes front (second_so _ _ h)
 
-  above_from : (k m : K) → ((x : K) → R m x ≡ Less → R k x ≡ Less) → (rest : List (K × V)) → below_all R m rest ≡ true → all_above R k rest ≡ true
+  pub above_from : (k m : K) → ((x : K) → R m x ≡ Less → R k x ≡ Less) → (rest : List (K × V)) → below_all R m rest ≡ true → all_above R k rest ≡ true
   above_from k m goes [] h = refl
   above_from k m goes (x ∷ rest) h =
       ap (λ r. is_lt r && all_above R k rest) (goes x.0 (is_Less _ (first_so _ _ h))) ∙ above_from k m goes rest (second_so _ _ h)

@@ -17,6 +17,7 @@ use Rattle.port_sets.specs.WordsOfMembers.{has-filter, has-below}
 use Rattle.br_model.specs.Data.Maps.{get, put, without, is_ascending}
 use Rattle.br_model.specs.Control.Ends.{due, due_members, is_over, keys}
 use Rattle.br_model.proofs.KeySets.{holds}
+use Rattle.mdb_snoop.specs.Database.{with_end}
 use Rattle.mdb_snoop.specs.Places.{has_some}
 
 abbrev pub mapped : {X : Type 0} → (ℕ → X) → List ℕ → List (ℕ × X)
@@ -241,7 +242,7 @@ write-put moments written ports p x ascending low size is =
 
 -- ends of members
 
-pub put-some : (ends left : List (ℕ × ℕ)) (ports : List ℕ) (p x : ℕ) → IsSetBelow 64 ports → p < 64 → left ≡ put nat_cmp ends p x
+put-some : (ends left : List (ℕ × ℕ)) (ports : List ℕ) (p x : ℕ) → IsSetBelow 64 ports → p < 64 → left ≡ put nat_cmp ends p x
     → mapped (get nat_cmp left) (numbers_below 64 (λ m. (m == p) || has_number ports m)) ≡ put nat_cmp (mapped (get nat_cmp ends) ports) p (Some x)
 put-some ends left ports p x ascending low is =
     mapped-put (get nat_cmp ends) (get nat_cmp left) ports p (Some x) ascending low
@@ -256,12 +257,18 @@ left-at ends left p q is =
     ap (λ l. get nat_cmp l q) is
     ∙ find-where_key nat_cmp (λ x. not (eq_by_cmp nat_cmp p x)) q (λ x e. ap (λ y. not (eq_by_cmp nat_cmp p y)) (sym (nat_cmp-IsAntisymmetric q x e))) ends
 
-pub put-none : (ends left : List (ℕ × ℕ)) (ports : List ℕ) (p : ℕ) → IsSetBelow 64 ports → p < 64 → left ≡ without nat_cmp ends p
+put-none : (ends left : List (ℕ × ℕ)) (ports : List ℕ) (p : ℕ) → IsSetBelow 64 ports → p < 64 → left ≡ without nat_cmp ends p
     → mapped (get nat_cmp left) (numbers_below 64 (λ m. (m == p) || has_number ports m)) ≡ put nat_cmp (mapped (get nat_cmp ends) ports) p None
 put-none ends left ports p ascending low is =
     mapped-put (get nat_cmp ends) (get nat_cmp left) ports p None ascending low
     (left-at ends left p p is ∙ ap (λ r. cond (not (is_eq r)) (get nat_cmp ends p) None) (tied_itself nat_cmp_total p))
     (λ q e. left-at ends left p q is ∙ ap (λ b. cond (not b) (get nat_cmp ends q) None) (tied_back q p false e))
+
+-- with an end or without
+pub put-end : (ends left : List (ℕ × ℕ)) (ports : List ℕ) (p : ℕ) (end : Option ℕ) → IsSetBelow 64 ports → p < 64 → left ≡ with_end ends p end
+    → mapped (get nat_cmp left) (numbers_below 64 (λ m. (m == p) || has_number ports m)) ≡ put nat_cmp (mapped (get nat_cmp ends) ports) p end
+put-end ends left ports p None ascending low is = put-none ends left ports p ascending low is
+put-end ends left ports p (Some x) ascending low is = put-some ends left ports p x ascending low is
 
 pub part-none : (ends left : List (ℕ × ℕ)) (ports : List ℕ) (p : ℕ) → IsSetBelow 64 ports → left ≡ without nat_cmp ends p
     → mapped (get nat_cmp left) (numbers_below 64 (λ m. has_number ports m && not (m == p))) ≡ without nat_cmp (mapped (get nat_cmp ends) ports) p

@@ -25,7 +25,7 @@ use std::marker::Model;
 /// Members of groups, router ports and queriers, with their ends in milliseconds.
 #[derive(Drop, Debug)]
 pub struct Mdb {
-    sections: Vec<Section>,
+    sections: Vec<Section<Moments>>,
     routers: Moments,
     four: Option<u64>,
     six: Option<u64>,

@@ -1,5 +1,5 @@
 //! Ports with a moment each.
-ghost use Rattle.std.specs.Prelude.{◌≡◌, ◌<◌, ◌==◌, ◌&&◌, ◌||◌, ℕ, [], cond, map, nat_le, slice_index, slice_set, true};
+ghost use Rattle.std.specs.Prelude.{◌≡◌, ◌<◌, ◌==◌, ◌&&◌, ◌||◌, ℕ, [], cond, map, nat_le, refl, slice_index, slice_set, true};
 ghost use Rattle.std.specs.Ordering.{nat_cmp};
 ghost use Rattle.br_model.specs.Table.Domains.{port_places};
 ghost use Rattle.br_model.specs.Data.Maps.{get, put, without, is_ascending};
@@ -7,6 +7,7 @@ ghost use Rattle.br_model.specs.Control.Ends.{due, is_over, keys};
 ghost use Rattle.mdb_snoop.specs.Soonest.{moment_of, soonest_member, soonest_moment};
 ghost use Rattle.port_sets.specs.Numbers.{has_number, numbers_below};
 
+use crate::ends::Ends;
 use br_model::numbers::Port;
 use port_sets::Ports;
 use std::marker::Model;
@@ -133,6 +134,29 @@ impl Moments {
             due = with_due(due, port as u8, self.ports, &self.moments, now);
         }
         due
+    }
+}
+
+impl Ends for Moments {
+    ghost moments = { λ m. m };
+
+    ghost keeps = { λ end. true };
+
+    ghost lasts = { refl };
+
+    fn none() -> Moments {
+        Moments::empty()
+    }
+
+    fn end(&self, port: Port) -> Option<u64> {
+        self.get(port)
+    }
+
+    fn set_end(&mut self, port: Port, end: Option<u64>) {
+        match end {
+            Some(moment) => self.set(port, moment),
+            None => self.clear(port),
+        }
     }
 }
 

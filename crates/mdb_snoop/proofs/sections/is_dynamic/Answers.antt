@@ -6,11 +6,11 @@ use Rattle.mdb_snoop.proofs.Flat.{get-at, get-gap}
 use Rattle.mdb_snoop.proofs.sections.is_dynamic.Goals as goal
 
 pub returns-in-Ok : goal.returns-in-Ok
-returns-in-Ok c =
+returns-in-Ok g c =
     let at = c.in-Ok.ensures.found in
     c.is_dynamic.ensures
     ∙ ap (λ s. is_dynamic (get nat_cmp s.1 c.args.port)) (at.reads _)
     ∙ ap is_dynamic (sym (get-at _ _ _ c.args.port at))
 
 pub returns-in-Err : goal.returns-in-Err
-returns-in-Err c = ap is_dynamic (sym (get-gap _ _ _ c.args.port c.in-Err.ensures.gap))
+returns-in-Err g c = ap is_dynamic (sym (get-gap _ _ _ c.args.port c.in-Err.ensures.gap))

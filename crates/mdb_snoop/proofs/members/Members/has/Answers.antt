@@ -5,4 +5,4 @@ use Rattle.mdb_snoop.proofs.Mapped.{is_some-mapped}
 use Rattle.mdb_snoop.proofs.members.Members.has.Goals as goal
 
 pub returns : goal.returns
-returns c = rw c.number.ensures.value at c.has.ensures.value ∙ is_some-mapped (get nat_cmp c.self.inside.ends) c.self.inside.ports c.args.port c.args.self.now c.self.view_is
+returns g c = rw c.number.ensures.value at c.has.ensures.value ∙ is_some-mapped (get nat_cmp (g.E.Ends.moments c.self.inside.ends)) c.self.inside.ports c.args.port c.args.self.now c.self.view_is

@@ -6,4 +6,4 @@ use Rattle.mdb_snoop.proofs.Mapped.{keys-mapped}
 use Rattle.mdb_snoop.proofs.members.Members.ports.Goals as goal
 
 pub returns : goal.returns
-returns c = keys-mapped (get nat_cmp c.self.inside.ends) c.self.inside.ports ∙ ap keys c.self.view_is
+returns g c = keys-mapped (get nat_cmp (g.E.Ends.moments c.self.inside.ends)) c.self.inside.ports ∙ ap keys c.self.view_is
