@@ -1,5 +1,5 @@
 //! Members by VLAN and group: a list in the order of these keys, which is searched by halves.
-ghost use Rattle.std.specs.Prelude.{◌≡◌, ℕ, ◌+◌, ◌++◌, ◌∷◌, ◌<◌, ◌≤◌, None, Some, true, [], IfOk, IfErr, IsTrue, cond, length, map, vec_capacity, slice_get, slice_set, slice_index_or, is_some};
+ghost use Rattle.std.specs.Prelude.{◌≡◌, ℕ, ◌+◌, ◌++◌, ◌∷◌, ◌<◌, ◌≤◌, None, Some, true, [], IfOk, IfErr, IsTrue, length, map, vec_capacity, slice_get, slice_set, slice_index_or, is_some};
 ghost use Rattle.std.specs.List.{filter, insert};
 ghost use Rattle.std.specs.Ordering.{nat_cmp};
 ghost use Rattle.br_model.specs.Table.Domains.{port_places};
@@ -8,7 +8,6 @@ ghost use Rattle.br_model.specs.Table.Groups.{membership_cmp};
 ghost use Rattle.br_model.specs.Data.Maps.{get, without, is_ascending};
 ghost use Rattle.br_model.specs.Control.Ends.{due_members, keys};
 ghost use Rattle.mdb_snoop.specs.Database.{ending_soon, is_dynamic, joined_until, ports_in};
-ghost use Rattle.port_sets.specs.Numbers.{has_number};
 ghost use Rattle.mdb_snoop.specs.Places.{IsAt, IsGap, IsSound, Section as SectionValue, flat, section};
 ghost use Rattle.mdb_snoop.specs.Soonest.{soonest_member};
 
@@ -246,7 +245,11 @@ fn leave_soon_at(sections: &mut Vec<Section<Moments>>, place: usize, port: Port,
 }
 
 /// The keys at which the port is a member.
-pub fn of_port<E: Ends>(alloc: Global, sections: &[Section<E>], port: Port) -> Result<Vec<Key>, NoMemory>
+pub fn of_port<E: Ends>(
+    alloc: Global,
+    sections: &[Section<E>],
+    port: Port,
+) -> Result<Vec<Key>, NoMemory>
     ensures { IfOk result (λ v. v.items ≡ keys (filter (λ s. is_some (get nat_cmp s.1 port)) sections.now)) }
 {
     sections
@@ -293,29 +296,25 @@ fn push_all(
 ) -> Result<(), NoMemory>
     ensures { IfOk result (λ _. out.new.items ≡ out.old.items ++ map (λ port. (vid, group, port)) ports) }
 {
-    // law: the members ascend
-    ports.members_ascend();
-    for number in 0..Port::PLACES {
-        push_member(out, vid, group, number as u8, ports)?;
+    for number in ports.iter() {
+        push_member(out, vid, group, number)?;
     }
     Ok(())
 }
 
-/// Adds a membership where the number is one of the ports.
+/// Adds the membership of the port of this number.
 fn push_member(
     out: &mut Vec<(Vid, Group, Port)>,
     vid: Vid,
     group: Group,
     number: u8,
-    ports: Ports,
 ) -> Result<(), NoMemory>
     requires { number < port_places }
-    ensures { IfOk result (λ _. out.new.items ≡ out.old.items ++ cond (has_number ports number) ((vid, group, number) ∷ []) []) }
+    ensures { IfOk result (λ _. out.new.items ≡ out.old.items ++ (vid, group, number) ∷ []) }
 {
-    if ports.has(number) {
-        if let Some(port) = Port::new(number) {
-            out.push((vid, group, port))?;
-        }
-    }
+    let Some(port) = Port::new(number) else {
+        unreachable!()
+    };
+    out.push((vid, group, port))?;
     Ok(())
 }
