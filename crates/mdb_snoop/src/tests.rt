@@ -256,7 +256,7 @@ fn room_for_pairs(rt: HostRuntime) -> Result<(), Fail> {
 #[test]
 fn sections_are_small(rt: HostRuntime) {
     assert_eq!(rt; size_of::<Section<Moments>>(), 576);
-    assert_eq!(rt; size_of::<Section<NoEnds>>(), 48);
+    assert!(rt; size_of::<Section<NoEnds>>() <= 64);
     assert!(rt; size_of::<Section<Moments>>() * MOST_PAIRS < 2_000_000);
 }
 
