@@ -32,7 +32,7 @@ as_T b h = subst T (sym h) tt
 
 -- keys that tie are equal
 
-equal : (r : Ordering) → is_eq r ≡ true → r ≡ Equal
+pub equal : (r : Ordering) → is_eq r ≡ true → r ≡ Equal
 equal Less e = absurd (cc)
 equal Equal e = refl
 equal Greater e = absurd (cc)

@@ -91,7 +91,9 @@ impl Ages {
     /// Notes an entry at the key, and when it was learned where that is news.
     pub fn note(&mut self, news: Option<u64>, key: u64)
         requires { IsTrue (is_key key) }
-        ensures { (es : List (ℕ × Entry)) (x : Entry) → news ≡ news_of (find nat_cmp key es) x → IsTold self.old.complete self.old.latest self.old.places.items es → IsTold self.new.complete self.new.latest self.new.places.items (put nat_cmp key x es) }
+        ensures { (es : List (ℕ × Entry)) (x : Entry) → news ≡ news_of (find nat_cmp key es) x
+            → IsTold self.old.complete self.old.latest self.old.places.items es
+            → IsTold self.new.complete self.new.latest self.new.places.items (put nat_cmp key x es) }
     {
         let Some(moment) = news else {
             return;
@@ -145,7 +147,8 @@ impl Ages {
 
 /// Drops the places that are no longer so, where there is no more room.
 pub fn make_room(ages: &mut Ages, entries: &Columned<Entry>)
-    ensures { IsTold ages.old.complete ages.old.latest ages.old.places.items entries.now.entries → IsTold ages.new.complete ages.new.latest ages.new.places.items entries.now.entries }
+    ensures { IsTold ages.old.complete ages.old.latest ages.old.places.items entries.now.entries
+        → IsTold ages.new.complete ages.new.latest ages.new.places.items entries.now.entries }
 {
     if ages.places.len() >= ages.places.capacity() {
         ages.places.retain(|place| place.is_current(entries));
@@ -155,7 +158,8 @@ pub fn make_room(ages: &mut Ages, entries: &Columned<Entry>)
 /// Drops the first places up to one that is so still.
 pub fn settle(ages: &mut Ages, entries: &Columned<Entry>)
     ensures settled { is_settled entries.now.entries ages.new.places.items ≡ true }
-    ensures told { IsTold ages.old.complete ages.old.latest ages.old.places.items entries.now.entries → IsTold ages.new.complete ages.new.latest ages.new.places.items entries.now.entries }
+    ensures told { IsTold ages.old.complete ages.old.latest ages.old.places.items entries.now.entries
+        → IsTold ages.new.complete ages.new.latest ages.new.places.items entries.now.entries }
 {
     while let Some(place) = ages.places.front().copied() {
         if place.is_current(entries) {

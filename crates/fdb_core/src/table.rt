@@ -1,8 +1,9 @@
 //! The forwarding database.
-ghost use Rattle.std.specs.Prelude.{◌≡◌, ℕ, ◌+◌, ◌<◌, ◌≤◌, ◌↔◌, [], None, Some, IfOk, IsTrue, length, map, option_map};
+ghost use Rattle.std.specs.Prelude.{◌≡◌, ℕ, ◌+◌, ◌<◌, ◌≤◌, ◌↔◌, [], None, Some, IfOk, IsSome, IsTrue, length, map, option_map};
 ghost use Rattle.br_model.specs.Data.Maps.{pair_cmp, get, put, without, is_ascending};
 ghost use Rattle.fdb_core.specs.Fdb.{addresses, moments, place, keys_where, is_at_port, is_expired, learned_moment, oldest, all_from};
 ghost use Rattle.fdb_core.specs.Places.{news_of};
+ghost use Rattle.fdb_core.specs.declared.entries.Entry.{Entry};
 ghost use Rattle.fdb_core.specs.Packing.{is_key};
 ghost use Rattle.open_addressing.specs.Pairs.{unpacked};
 ghost use Rattle.std.specs.List.{list_all};
@@ -144,8 +145,41 @@ impl Fdb {
         ensures addresses { addresses self.new.entries ≡ put pair_cmp (addresses self.old.entries) (vid, mac) (place entry) }
         ensures moments { moments self.new.entries ≡ put pair_cmp (moments self.old.entries) (vid, mac) entry.updated }
     {
+        let old = self.find(vid, mac);
+        self.replace(vid, mac, old, entry);
+    }
+
+    /// Gives the entry at the address this moment.
+    pub fn renew(&mut self, vid: Vid, mac: Mac, moment: u64)
+        requires { IsSome (get pair_cmp self.old.entries (vid, mac)) }
+        ensures entries { (e : Entry) → get pair_cmp self.old.entries (vid, mac) ≡ Some e
+            → self.new ≡ record self.old { entries = put pair_cmp self.old.entries (vid, mac) (record e { updated = moment }) } }
+        ensures addresses { addresses self.new.entries ≡ addresses self.old.entries }
+        ensures moments { moments self.new.entries ≡ put pair_cmp (moments self.old.entries) (vid, mac) moment }
+        ensures room { self.new.room ≡ self.old.room }
+    {
+        // law: the entries ascend
+        let _len = self.len();
+        match self.find(vid, mac) {
+            Some(old) => {
+                let entry = Entry {
+                    port: old.port,
+                    kind: old.kind,
+                    updated: moment,
+                };
+                self.replace(vid, mac, Some(old), entry);
+            }
+            None => unreachable!(),
+        }
+    }
+
+    /// Puts an entry at the address, in place of `old`, which is there.
+    fn replace(&mut self, vid: Vid, mac: Mac, old: Option<Entry>, entry: Entry)
+        requires old { old ≡ get pair_cmp self.old.entries (vid, mac) }
+        requires room { old ≡ None → length self.old.entries < self.old.room }
+        ensures { self.new ≡ record self.old { entries = put pair_cmp self.old.entries (vid, mac) entry } }
+    {
         let key = pack(vid, mac);
-        let old = self.entries.get(&key);
         make_room(&mut self.ages, &self.entries);
         self.entries.insert(&key, entry);
         let len = self.entries.len();

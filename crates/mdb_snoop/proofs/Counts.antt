@@ -231,9 +231,9 @@ no_member (m ∷ members) p v g h = by (no_member members p v g) (m.2 == p) refl
 
     apart : (m.2 == p) ≡ false → (p == m.2) ≡ false
     apart is = elim (p == m.2) as (λ b. (p == m.2) ≡ b → b ≡ false) [
-        | true ↦ λ same. (let back = eq-eqb m.2 p (sym (eqb-true p m.2 same)) in absurd (cc))
-        | false ↦ λ _. refl
-      ] refl
+      | true ↦ λ same. (let back = eq-eqb m.2 p (sym (eqb-true p m.2 same)) in absurd (cc))
+      | false ↦ λ _. refl
+    ] refl
 
     by : (has_some (pairs_of_port members p) ≡ false → has_number (ports_in members v g) p ≡ false) → (b : Bool) → (m.2 == p) ≡ b → has_some {X = GroupPair} (map (λ (x : Membership). (x.0, x.1)) (cond b (m ∷ those) those)) ≡ false → (t : Bool) → has_number (map (λ (x : Membership). x.2) (cond t (m ∷ here) here)) p ≡ false
     by rest true is none t = absurd (cc (none))

@@ -183,24 +183,13 @@ pub room-for : (ss : Sections) (v : ℕ) (g : Group) → IsSound ss → has_room
 room-for ss v g sound room none =
     ltb-true (length ss) max_pairs (sym (ap (λ o. is_some o || nat_lt (length ss) max_pairs) none) ∙ sym (room-is ss v g sound) ∙ room)
 
--- lists that grow number by number
-
-map-cond : (f : ℕ → Membership) (n : ℕ) (b : Bool) → map f (cond b (n ∷ []) []) ≡ cond b (f n ∷ []) []
-map-cond f n true = refl
-map-cond f n false = refl
-
-pub push-next : (f : ℕ → Membership) (p : ℕ → Bool) (n : ℕ) (start out new : List Membership) → out ≡ start ++ map f (filter p (range_with_len 0 n)) → new ≡ out ++ cond (p n) (f n ∷ []) []
-    → new ≡ start ++ map f (filter p (range_with_len 0 (n + 1)))
-push-next f p n start out new is then_is =
-    let so_far : List ℕ = filter p (range_with_len 0 n) in
+-- a list that grows member by member
+pub push-next : (f : ℕ → Membership) (p : ℕ) (seen : List ℕ) (start out new : List Membership) → out ≡ start ++ map f seen → new ≡ out ++ f p ∷ [] → new ≡ start ++ map f (seen ++ p ∷ [])
+push-next f p seen start out new is then_is =
     then_is
-    ∙ ap (λ l. l ++ cond (p n) (f n ∷ []) []) is
-    ∙ append_assoc start (map f so_far) (cond (p n) (f n ∷ []) [])
-    ∙ ap (λ l. start ++ l) (ap (λ l. map f so_far ++ l) (sym (map-cond f n (p n))) ∙ sym (map-append f so_far (cond (p n) (n ∷ []) [])) ∙ ap (λ l. map f l) (sym (filter-range_more p n)))
-
-pub push-all : (f : ℕ → Membership) (ports : List ℕ) (n : ℕ) (start out : List Membership) → IsSetBelow 64 ports → n ≡ 64 → out ≡ start ++ map f (filter (has_number ports) (range_with_len 0 n)) → out ≡ start ++ map f ports
-unfolding numbers_below
-push-all f ports n start out ascending end is = is ∙ ap (λ m. start ++ map f (filter (has_number ports) (range_with_len 0 m))) end ∙ ap (λ l. start ++ map f l) (sym ascending)
+    ∙ ap (λ l. l ++ f p ∷ []) is
+    ∙ append_assoc start (map f seen) (f p ∷ [])
+    ∙ ap (λ l. start ++ l) (sym (map-append f seen (p ∷ [])))
 
 -- the sections so far, with the next one
 pub due-next : (now i : ℕ) (ss : Sections) (d s : Section) (ended new : List Membership) → i < length ss → s ≡ get_or ss i d → ended ≡ due_members now (flat (take i ss))

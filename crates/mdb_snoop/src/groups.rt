@@ -40,7 +40,8 @@ impl Model for Groups {
 
     ghost view = { λ g. keys (flat g.sections.items) };
 
-    ghost invariant = { λ g. IsSound g.sections.items × (max_pairs ≤ vec_capacity g.sections) × AreCounts g.counts.counts (keys (flat g.sections.items)) };
+    ghost invariant = { λ g. IsSound g.sections.items × (max_pairs ≤ vec_capacity g.sections)
+        × AreCounts g.counts.counts (keys (flat g.sections.items)) };
 }
 
 impl Groups {

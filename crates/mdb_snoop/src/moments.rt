@@ -1,5 +1,5 @@
 //! Ports with a moment each.
-ghost use Rattle.std.specs.Prelude.{◌≡◌, ◌<◌, ◌==◌, ◌&&◌, ◌||◌, ℕ, [], cond, map, nat_le, refl, slice_index, slice_set, true};
+ghost use Rattle.std.specs.Prelude.{◌≡◌, ◌<◌, ◌==◌, ◌||◌, ℕ, [], cond, map, nat_le, refl, slice_index, slice_set, true};
 ghost use Rattle.std.specs.Ordering.{nat_cmp};
 ghost use Rattle.br_model.specs.Table.Domains.{port_places};
 ghost use Rattle.br_model.specs.Data.Maps.{get, put, without, is_ascending};
@@ -130,8 +130,8 @@ impl Moments {
         // law: the members ascend
         self.ports.members_ascend();
         let mut due = Ports::empty();
-        for port in 0..Port::PLACES {
-            due = with_due(due, port as u8, self.ports, &self.moments, now);
+        for port in self.ports.iter() {
+            due = with_due(due, port, self.moments[usize::from(port)], now);
         }
         due
     }
@@ -160,16 +160,12 @@ impl Ends for Moments {
     }
 }
 
-/// The set, and the number where it is a port whose moment is `now` or before.
-fn with_due(due: Ports, number: u8, ports: Ports, moments: &[u64; Port::PLACES], now: u64) -> Ports
+/// The set, and the number where its moment is `now` or before.
+fn with_due(due: Ports, number: u8, moment: u64, now: u64) -> Ports
     requires { number < port_places }
-    ensures { result ≡ cond (has_number ports number && nat_le (slice_index moments.now number) now) (numbers_below port_places (λ m. (m == number) || has_number due m)) due }
+    ensures { result ≡ cond (nat_le moment now) (numbers_below port_places (λ m. (m == number) || has_number due m)) due }
 {
-    if ports.has(number) && moments[usize::from(number)] <= now {
-        due.with(number)
-    } else {
-        due
-    }
+    if moment <= now { due.with(number) } else { due }
 }
 
 fn write(moments: &mut [u64; Port::PLACES], port: Port, moment: u64)

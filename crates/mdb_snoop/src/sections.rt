@@ -1,5 +1,6 @@
 //! Members by VLAN and group: a list in the order of these keys, which is searched by halves.
-ghost use Rattle.std.specs.Prelude.{◌≡◌, ℕ, ◌+◌, ◌++◌, ◌∷◌, ◌<◌, ◌≤◌, None, Some, true, [], IfOk, IfErr, IsTrue, cond, length, map, vec_capacity, slice_get, slice_set, slice_index_or, is_some};
+ghost use Rattle.std.specs.Prelude.{◌≡◌, ℕ, ◌+◌, ◌++◌, ◌∷◌, ◌<◌, ◌≤◌, None, Some, true, [], IfOk, IfErr, IsTrue, is_some};
+ghost use Rattle.std.specs.Prelude.{length, map, vec_capacity, slice_get};
 ghost use Rattle.std.specs.List.{filter, insert};
 ghost use Rattle.std.specs.Ordering.{nat_cmp};
 ghost use Rattle.br_model.specs.Table.Domains.{port_places};
@@ -8,8 +9,7 @@ ghost use Rattle.br_model.specs.Table.Groups.{membership_cmp};
 ghost use Rattle.br_model.specs.Data.Maps.{get, without, is_ascending};
 ghost use Rattle.br_model.specs.Control.Ends.{due_members, keys};
 ghost use Rattle.mdb_snoop.specs.Database.{ending_soon, is_dynamic, joined_until, ports_in};
-ghost use Rattle.port_sets.specs.Numbers.{has_number};
-ghost use Rattle.mdb_snoop.specs.Places.{IsAt, IsGap, IsSound, Section as SectionValue, flat, section};
+ghost use Rattle.mdb_snoop.specs.Places.{IsAt, IsGap, IsSound, Section as SectionValue, changed_at, flat, section};
 ghost use Rattle.mdb_snoop.specs.Soonest.{soonest_member};
 
 use crate::NoMemory;
@@ -175,7 +175,7 @@ pub fn join<E: Ends>(sections: &mut Vec<Section<E>>, key: Key, port: Port, end: 
 fn join_at<E: Ends>(sections: &mut Vec<Section<E>>, place: usize, port: Port, end: Option<u64>)
     requires within { place < length sections.old.items }
     requires end { IsTrue (E.keeps end) }
-    ensures items { (d : SectionValue) → sections.new.items ≡ slice_set sections.old.items place ((slice_index_or sections.old.items place d).0, joined_until nat_cmp (slice_index_or sections.old.items place d).1 port end) }
+    ensures items { (d : SectionValue) → sections.new.items ≡ changed_at sections.old.items place (λ ms. joined_until nat_cmp ms port end) d }
     ensures capacity { vec_capacity sections.new ≡ vec_capacity sections.old }
 {
     sections[place].1.join(port, end);
@@ -218,7 +218,7 @@ pub fn part<E: Ends>(sections: &mut Vec<Section<E>>, key: &Key, port: Port) -> b
 
 fn part_at<E: Ends>(sections: &mut Vec<Section<E>>, place: usize, port: Port)
     requires { place < length sections.old.items }
-    ensures items { (d : SectionValue) → sections.new.items ≡ slice_set sections.old.items place ((slice_index_or sections.old.items place d).0, without nat_cmp (slice_index_or sections.old.items place d).1 port) }
+    ensures items { (d : SectionValue) → sections.new.items ≡ changed_at sections.old.items place (λ ms. without nat_cmp ms port) d }
     ensures capacity { vec_capacity sections.new ≡ vec_capacity sections.old }
 {
     sections[place].1.part(port);
@@ -239,14 +239,18 @@ pub fn leave_soon(sections: &mut Vec<Section<Moments>>, key: &Key, port: Port, e
 
 fn leave_soon_at(sections: &mut Vec<Section<Moments>>, place: usize, port: Port, end: u64)
     requires { place < length sections.old.items }
-    ensures items { (d : SectionValue) → sections.new.items ≡ slice_set sections.old.items place ((slice_index_or sections.old.items place d).0, ending_soon nat_cmp (slice_index_or sections.old.items place d).1 port end) }
+    ensures items { (d : SectionValue) → sections.new.items ≡ changed_at sections.old.items place (λ ms. ending_soon nat_cmp ms port end) d }
     ensures capacity { vec_capacity sections.new ≡ vec_capacity sections.old }
 {
     sections[place].1.leave_soon(port, end);
 }
 
 /// The keys at which the port is a member.
-pub fn of_port<E: Ends>(alloc: Global, sections: &[Section<E>], port: Port) -> Result<Vec<Key>, NoMemory>
+pub fn of_port<E: Ends>(
+    alloc: Global,
+    sections: &[Section<E>],
+    port: Port,
+) -> Result<Vec<Key>, NoMemory>
     ensures { IfOk result (λ v. v.items ≡ keys (filter (λ s. is_some (get nat_cmp s.1 port)) sections.now)) }
 {
     sections
@@ -293,29 +297,25 @@ fn push_all(
 ) -> Result<(), NoMemory>
     ensures { IfOk result (λ _. out.new.items ≡ out.old.items ++ map (λ port. (vid, group, port)) ports) }
 {
-    // law: the members ascend
-    ports.members_ascend();
-    for number in 0..Port::PLACES {
-        push_member(out, vid, group, number as u8, ports)?;
+    for number in ports.iter() {
+        push_member(out, vid, group, number)?;
     }
     Ok(())
 }
 
-/// Adds a membership where the number is one of the ports.
+/// Adds the membership of the port of this number.
 fn push_member(
     out: &mut Vec<(Vid, Group, Port)>,
     vid: Vid,
     group: Group,
     number: u8,
-    ports: Ports,
 ) -> Result<(), NoMemory>
     requires { number < port_places }
-    ensures { IfOk result (λ _. out.new.items ≡ out.old.items ++ cond (has_number ports number) ((vid, group, number) ∷ []) []) }
+    ensures { IfOk result (λ _. out.new.items ≡ out.old.items ++ (vid, group, number) ∷ []) }
 {
-    if ports.has(number) {
-        if let Some(port) = Port::new(number) {
-            out.push((vid, group, port))?;
-        }
-    }
+    let Some(port) = Port::new(number) else {
+        unreachable!()
+    };
+    out.push((vid, group, port))?;
     Ok(())
 }

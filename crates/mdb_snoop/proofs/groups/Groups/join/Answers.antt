@@ -23,9 +23,9 @@ invariant_of-self c = (
   c.join.ensures.sound,
   c.join.ensures.capacity,
   counted-join c.self.inside.counts.counts (flat c.self.inside.sections.items) _ (c.args.v, c.args.g, c.args.p) c.self.invariant.2 (groups-ascend c.self.inside.sections.items c.self.invariant.0)
-  _ (end_joined (get membership_cmp (flat c.self.inside.sections.items) (c.args.v, c.args.g, c.args.p)) None) _ c.join.ensures.members
-  (ap not (c.has_member-is_new.ensures ∙ ap (λ l. is_some (get membership_cmp (flat l) (c.args.v, c.args.g, c.args.p))) c.deref.ensures.value))
-  c.add.ensures.value c.add.ensures.within,
+      _ (end_joined (get membership_cmp (flat c.self.inside.sections.items) (c.args.v, c.args.g, c.args.p)) None) _ c.join.ensures.members
+      (ap not (c.has_member-is_new.ensures ∙ ap (λ l. is_some (get membership_cmp (flat l) (c.args.v, c.args.g, c.args.p))) c.deref.ensures.value))
+      c.add.ensures.value c.add.ensures.within,
 )
 
 pub returns : goal.returns

@@ -19,7 +19,7 @@ invariant_of-self c = (
   c.part-was_there.ensures.sound,
   omega (arith, c.part-was_there.ensures.capacity, c.self.invariant.1),
   counted-part c.self.inside.counts.counts (flat c.self.inside.sections.items) _ (c.args.v, c.args.g, c.args.p) c.self.invariant.2 (groups-ascend c.self.inside.sections.items c.self.invariant.0)
-  _ _ c.part-was_there.ensures.members c.part-was_there.ensures.there c.remove.ensures.value c.remove.ensures.within,
+      _ _ c.part-was_there.ensures.members c.part-was_there.ensures.there c.remove.ensures.value c.remove.ensures.within,
 )
 
 pub returns-clause-there : goal.returns-clause-there
