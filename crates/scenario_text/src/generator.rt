@@ -102,6 +102,20 @@ impl Generator {
         self.left -= 1;
     }
 
+    /// The place of the next frame, and the number that it comes from. The frames go on.
+    pub(crate) fn draw(&mut self) -> (u32, u32)
+        requires { 0 < self.old.left }
+        ensures drawn { result ≡ (self.old.i, number_of (drawn_of self.old.x)) }
+        ensures next { self.new ≡ after_frame self.old }
+        ensures rest { steps_left self.old ≡ next_steps self.old ++ steps_left self.new }
+        ensures few { self.old.i ≤ most_frames }
+    {
+        let i = self.i;
+        let n = self.number();
+        self.go_on();
+        (i, n)
+    }
+
     /// Writes the lines of the next frame, for which there is room.
     pub fn append_frame(&mut self, text: &mut String)
         requires left { 0 < self.old.left }
@@ -276,7 +290,7 @@ fn append_others(i: u32, text: &mut String)
 }
 
 /// The bytes of the frame of this number.
-fn frame(n: u32) -> [u8; 16]
+pub(crate) fn frame(n: u32) -> [u8; 16]
     ensures { result ≡ frame_of n }
 {
     let from = 0x10 + (n / 6 % 8) as u8;
@@ -305,7 +319,7 @@ fn frame(n: u32) -> [u8; 16]
     }
 }
 
-fn port(number: u8) -> Port
+pub(crate) fn port(number: u8) -> Port
     requires { number ≤ last_port }
     ensures { result ≡ number }
 {

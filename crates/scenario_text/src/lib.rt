@@ -2,6 +2,7 @@
 #![tactic(auto)]
 
 mod digits;
+mod frame_steps;
 mod generator;
 mod lines;
 mod listing;
@@ -10,6 +11,7 @@ mod words;
 mod write;
 
 pub use br_model::NoMemory;
+pub use frame_steps::{FrameSteps, Made};
 pub use generator::{
     END_BYTES, Generator, MOST_FRAME_BYTES, OPENING_BYTES, append_opening, domains, first_steps,
     generate,
