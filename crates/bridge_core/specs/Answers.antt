@@ -55,7 +55,7 @@ Reacts old new before after (Ok _) answer =
     (r : Reaction) × (answer ≡ Ok r) × (new ≡ record old { history = old.history ++ r.changes; control = r.control })
     × (after ≡ before ++ control_lines old.setup.own r.messages)
 Reacts old new before after (Err (Refused why)) answer = (answer ≡ Err why) × (new ≡ old) × (after ≡ before)
-Reacts old new before after (Err NoMemory) answer = new ≡ old
+Reacts old new before after (Err NoMemory) answer = (new ≡ old) × (after ≡ before)
 
 -- where the bridge stands
 abbrev pub standing : Controlled → Course
@@ -90,5 +90,5 @@ CarriesQuietly old new result course = (lines : List Line) → CarriesOut old ne
 
 -- the control frames of a reaction
 abbrev pub ctl_of : Result Reacted EventFault → List Line
-ctl_of (Ok r) = r.ctl
+ctl_of (Ok r) = r.ctl.lines
 ctl_of (Err why) = []

@@ -28,7 +28,7 @@ use crate::faults::EventFault;
 use crate::learning::{Lesson, is_taken, lesson_of, taught, teaches};
 use crate::plan::Plan;
 use crate::snooping::{Speaker, most_changes, who_speaks};
-use crate::spanning_tree::{add_frames, add_states, heard};
+use crate::spanning_tree::{add_frames, add_states, heard, reserve_frames};
 use crate::state::{Clock, State};
 use br_model::NoMemory;
 use br_model::change::{Change, Kind};
@@ -37,12 +37,12 @@ use br_model::frame::{Head, McastMsg};
 use br_model::limits::MOST_CHANGES;
 use br_model::numbers::{Mac, Port, Vid};
 use br_model::steps::{Command, Event, Refusal, Triples};
-use br_model::transcript::{Line, Lines};
 use br_model::tree::TreeEvent;
 use fdb_core::{Entry, Key};
 use igmp_mld::classify;
 use std::alloc::Global;
 use std::marker::Model;
+use transcript_lines::Lines;
 
 /// What an event came to: the changes of the history from the place `from` on, and the control frames that leave.
 #[derive(Drop)]
@@ -148,45 +148,72 @@ impl Bridge {
         Ok(())
     }
 
-    /// Carries out a plan in which the spanning tree is told this.
-    fn accept_told(
+    /// Near the end of the history, where the states that follow may be too many: the event happens in a copy of the tree, which
+    /// takes its place unless that is so.
+    fn try_told(
         &mut self,
-        alloc: Global,
         plan: Plan,
         event: &TreeEvent,
-        lines: &mut Vec<Line>,
+        lines: &mut Lines,
     ) -> Result<(), EventFault>
         requires sound { IsSound (table self.old.history) plan }
         requires told { plan.told ≡ Some event.now }
-        requires room { vec_len lines.old < vec_capacity lines.old }
-        ensures carries_out { CarriesOut self.old self.new lines.old.items lines.new.items result (Ok (carried_out self.old plan)) }
-        ensures room { vec_len lines.new < vec_capacity lines.new }
+        requires room { 1 ≤ lines.old.rows }
+        ensures carries_out { CarriesOut self.old self.new lines.old.lines lines.new.lines result (Ok (carried_out self.old plan)) }
+        ensures room { 1 ≤ lines.new.rows }
     {
+        let mut changes = plan.changes;
+        changes.reserve(Port::PLACES)?;
+        reserve_frames(lines)?;
         let mut tree = self.state.tree.copy();
         let out = tree.act(event, plan.clock.now);
-        let mut changes = plan.changes;
-        add_states(&mut changes, &tree, out.moved)?;
-        let count = lines.len();
-        add_frames(alloc, self.own, &tree, &out, lines)?;
-        let answer = self.make_changes(plan.clock, plan.renewed, &changes);
-        if answer.is_err() {
-            lines.truncate(count);
-            return answer;
-        }
+        add_states(&mut changes, &tree, out.moved);
+        self.make_changes(plan.clock, plan.renewed, &changes)?;
+        add_frames(self.own, &tree, &out, lines);
         self.state.tree = tree;
-        answer
+        Ok(())
+    }
+
+    /// Carries out a plan in which the spanning tree is told this. Room is taken first, so that nothing is refused once the event
+    /// happened.
+    fn accept_told(
+        &mut self,
+        plan: Plan,
+        event: &TreeEvent,
+        lines: &mut Lines,
+    ) -> Result<(), EventFault>
+        requires sound { IsSound (table self.old.history) plan }
+        requires told { plan.told ≡ Some event.now }
+        requires room { 1 ≤ lines.old.rows }
+        ensures carries_out { CarriesOut self.old self.new lines.old.lines lines.new.lines result (Ok (carried_out self.old plan)) }
+        ensures room { 1 ≤ lines.new.rows }
+    {
+        let from = self.history.len();
+        let most = plan.changes.len() + Port::PLACES;
+        if most > MOST_CHANGES - from {
+            return self.try_told(plan, event, lines);
+        }
+        self.history.reserve(most)?;
+        reserve_frames(lines)?;
+        append(&mut self.history, &plan.changes);
+        let out = self.state.tree.act(event, plan.clock.now);
+        add_states(&mut self.history, &self.state.tree, out.moved);
+        self.state.prepare(plan.clock, plan.renewed);
+        self.state.follow(&self.history[from..]);
+        add_frames(self.own, &self.state.tree, &out, lines);
+        Ok(())
     }
 
     /// Carries out a plan.
-    fn accept(&mut self, alloc: Global, plan: Plan, lines: &mut Vec<Line>) -> Result<(), EventFault>
+    fn accept(&mut self, plan: Plan, lines: &mut Lines) -> Result<(), EventFault>
         requires sound { IsSound (table self.old.history) plan }
-        requires room { vec_len lines.old < vec_capacity lines.old }
-        ensures carries_out { CarriesOut self.old self.new lines.old.items lines.new.items result (Ok (carried_out self.old plan)) }
-        ensures room { vec_len lines.new < vec_capacity lines.new }
+        requires room { 1 ≤ lines.old.rows }
+        ensures carries_out { CarriesOut self.old self.new lines.old.lines lines.new.lines result (Ok (carried_out self.old plan)) }
+        ensures room { 1 ≤ lines.new.rows }
     {
         let told = plan.told;
         match told {
-            Some(event) => self.accept_told(alloc, plan, &event, lines),
+            Some(event) => self.accept_told(plan, &event, lines),
             None => self.make_changes(plan.clock, plan.renewed, &plan.changes),
         }
     }
@@ -322,17 +349,17 @@ impl Bridge {
         bytes: &[u8],
         head: &Head,
         message: &McastMsg,
-        lines: &mut Vec<Line>,
+        lines: &mut Lines,
     ) -> Result<(), EventFault>
         requires message { message.now ≡ message_in bytes.now head.now }
-        requires room { vec_len lines.old < vec_capacity lines.old }
-        ensures carries_out { CarriesOut self.old self.new lines.old.items lines.new.items result (comes_to self.old (Sight port bytes.now head.now)) }
-        ensures room { vec_len lines.new < vec_capacity lines.new }
+        requires room { 1 ≤ lines.old.rows }
+        ensures carries_out { CarriesOut self.old self.new lines.old.lines lines.new.lines result (comes_to self.old (Sight port bytes.now head.now)) }
+        ensures room { 1 ≤ lines.new.rows }
     {
         match heard(&self.state, port, bytes, head) {
             Some(event) => {
                 let plan = Plan::telling(alloc, self.state.clock, Some(event));
-                self.accept(alloc, plan, lines)
+                self.accept(plan, lines)
             }
             None => self.take_untold(alloc, port, bytes, head, message),
         }
@@ -358,29 +385,29 @@ impl Bridge {
     }
 
     /// The moment comes.
-    fn pass_to(&mut self, alloc: Global, now: u64, lines: &mut Vec<Line>) -> Result<(), EventFault>
+    fn pass_to(&mut self, alloc: Global, now: u64, lines: &mut Lines) -> Result<(), EventFault>
         requires early { now < 2 ^ 53 }
-        requires room { vec_len lines.old < vec_capacity lines.old }
-        ensures carries_out { CarriesOut self.old self.new lines.old.items lines.new.items result (comes_to self.old (Moment now)) }
-        ensures room { vec_len lines.new < vec_capacity lines.new }
+        requires room { 1 ≤ lines.old.rows }
+        ensures carries_out { CarriesOut self.old self.new lines.old.lines lines.new.lines result (comes_to self.old (Moment now)) }
+        ensures room { 1 ≤ lines.new.rows }
     {
         let plan = self.plan_moment(alloc, now)?;
-        self.accept(alloc, plan, lines)?;
+        self.accept(plan, lines)?;
         self.state.settle();
         Ok(())
     }
 
     /// Carries out what the event comes to.
-    fn take(&mut self, alloc: Global, event: &Event, lines: &mut Vec<Line>) -> Result<(), EventFault>
+    fn take(&mut self, alloc: Global, event: &Event, lines: &mut Lines) -> Result<(), EventFault>
         requires event { IsEvent event.now }
-        requires room { vec_len lines.old < vec_capacity lines.old }
-        ensures carries_out { CarriesOut self.old self.new lines.old.items lines.new.items result (comes_to self.old event.now) }
-        ensures room { vec_len lines.new < vec_capacity lines.new }
+        requires room { 1 ≤ lines.old.rows }
+        ensures carries_out { CarriesOut self.old self.new lines.old.lines lines.new.lines result (comes_to self.old event.now) }
+        ensures room { 1 ≤ lines.new.rows }
     {
         match event {
             Event::Cmd(asked) => {
                 let plan = self.plan_command(alloc, asked)?;
-                self.accept(alloc, plan, lines)
+                self.accept(plan, lines)
             }
             Event::Moment(now) => self.pass_to(alloc, *now, lines),
             Event::Sight { port, bytes, head } => {
@@ -391,7 +418,7 @@ impl Bridge {
             Event::Told { vid, mac, port } => self.take_report(*vid, *mac, *port),
             Event::Forget(stations) => {
                 let plan = self.plan_loss(alloc, stations)?;
-                self.accept(alloc, plan, lines)
+                self.accept(plan, lines)
             }
         }
     }
@@ -403,13 +430,13 @@ impl Bridge {
         &mut self,
         alloc: Global,
         event: &Event,
-        lines: &mut Vec<Line>,
+        lines: &mut Lines,
     ) -> Result<usize, EventFault>
         requires event { IsEvent event.now }
-        requires room { vec_len lines.old < vec_capacity lines.old }
-        ensures reacts { Reacts self.old self.new lines.old.items lines.new.items result (reaction self.old.setup self.old.history self.old.control event.now) }
+        requires room { 1 ≤ lines.old.rows }
+        ensures reacts { Reacts self.old self.new lines.old.lines lines.new.lines result (reaction self.old.setup self.old.history self.old.control event.now) }
         ensures from { IfOk result (λ from. from ≡ length self.old.history) }
-        ensures room { vec_len lines.new < vec_capacity lines.new }
+        ensures room { 1 ≤ lines.new.rows }
     {
         let from = self.history.len();
         self.take(alloc, event, lines)?;
@@ -426,14 +453,14 @@ impl Bridge {
         bytes: &[u8],
         head: &Head,
         message: &McastMsg,
-        lines: &mut Vec<Line>,
+        lines: &mut Lines,
     ) -> Result<usize, EventFault>
         requires frame { frame bytes.now ≡ Ok head.now }
         requires message { message.now ≡ message_in bytes.now head.now }
-        requires room { vec_len lines.old < vec_capacity lines.old }
-        ensures reacts { Reacts self.old self.new lines.old.items lines.new.items result (reaction self.old.setup self.old.history self.old.control (Event.Sight port bytes.now head.now)) }
+        requires room { 1 ≤ lines.old.rows }
+        ensures reacts { Reacts self.old self.new lines.old.lines lines.new.lines result (reaction self.old.setup self.old.history self.old.control (Event.Sight port bytes.now head.now)) }
         ensures from { IfOk result (λ from. from ≡ length self.old.history) }
-        ensures room { vec_len lines.new < vec_capacity lines.new }
+        ensures room { 1 ≤ lines.new.rows }
     {
         let from = self.history.len();
         self.take_frame(alloc, port, bytes, head, message, lines)?;
@@ -446,12 +473,10 @@ impl Bridge {
         ensures reacts { Reacts self.old self.new [] (ctl_of result) result (reaction self.old.setup self.old.history self.old.control event.now) }
         ensures from { IfOk result (λ r. r.from ≡ length self.old.history) }
     {
-        let mut lines = Vec::with_capacity(alloc, 1)?;
+        let mut lines = Lines::new(alloc);
+        lines.reserve(1, 0)?;
         let from = self.answer(alloc, event, &mut lines)?;
-        Ok(Reaction {
-            from,
-            ctl: Lines::of(lines),
-        })
+        Ok(Reaction { from, ctl: lines })
     }
 
     /// The domains of the declared ports.
