@@ -116,7 +116,7 @@ module _ (old : Controlled) (p : Plan) (sound : IsSound (table old.history) p) (
     where
       refuses : Refusal → Result Reaction Refusal
       refuses why = Err why
-  quiet_reacts new (Err NoMemory) quiet makes says = makes
+  quiet_reacts new (Err NoMemory) quiet makes says = (makes, says)
 
   module _ (event : TreeEvent) (is : p.told ≡ Some event) (known : knows_states (acts (table old.history) old.control p sound event).tree ≡ true) where
     abbrev pub whole : List Change
@@ -147,7 +147,7 @@ module _ (old : Controlled) (p : Plan) (sound : IsSound (table old.history) p) (
       where
         refuses : Refusal → Result Reaction Refusal
         refuses why = Err why
-    told_refused new (Err NoMemory) e makes says = makes
+    told_refused new (Err NoMemory) e makes says = (makes, says)
 
 -- a course of which no message goes out
 
@@ -168,7 +168,7 @@ module _ (old new : Controlled) (x : Course) (c : Control) (cs : List Change) (c
     where
       refuses : Refusal → Result Reaction Refusal
       refuses why = Err why
-  carried_out (Err NoMemory) makes lines = makes
+  carried_out (Err NoMemory) makes lines = (makes, refl)
 
 -- where it makes no change
 pub carried_still : (old new : Controlled) (x : Course) (c : Control) → length old.history ≤ most_changes → from (table old.history) c ≡ x → new ≡ record old { control = c } → CarriesQuietly old new (Ok tt) x

@@ -168,10 +168,13 @@ impl Bridge {
         let mut tree = self.state.tree.copy();
         let out = tree.act(event, plan.clock.now);
         add_states(&mut changes, &tree, out.moved);
-        self.make_changes(plan.clock, plan.renewed, &changes)?;
+        let answer = self.make_changes(plan.clock, plan.renewed, &changes);
+        if answer.is_err() {
+            return answer;
+        }
         add_frames(self.own, &tree, &out, lines);
         self.state.tree = tree;
-        Ok(())
+        answer
     }
 
     /// Carries out a plan in which the spanning tree is told this. Room is taken first, so that nothing is refused once the event

@@ -115,7 +115,8 @@ fn config_at(b: &[u8]) -> BpduMsg
 /// The frame that carries the message, in the form that `bpdu_read` takes: version 0, `own` as its source, and zeros up
 /// to 60 bytes.
 pub fn bpdu_frame(own: Mac, m: &BpduMsg) -> [u8; BPDU_LENGTH]
-    ensures { result ≡ written own m.now }
+    ensures value { result ≡ written own m.now }
+    ensures read_back { bpdu result ≡ Some m.now }
 {
     match *m {
         BpduMsg::Config {
