@@ -1,11 +1,13 @@
 -- Loops over members, and the tree beside what a control state keeps up.
-use Rattle.std.proofs.Common.{◌≡◌, ◌<◌, ℕ, List, [], ◌∷◌, fold, length, Option, Some, refl, sym, ap, ◌∙◌}
+use Rattle.std.proofs.Common.{◌≡◌, ◌<◌, ℕ, List, [], ◌∷◌, fold, length, Option, None, Some, refl, sym, ap, ◌∙◌}
 use Rattle.std.specs.Iterator.{Yields, YieldsFirst}
 use Rattle.std.proofs.lemmas.Iterator.Consumers.{YieldsList-turn, YieldsList-from_first}
 use Rattle.br_model.specs.declared.change.Change.{Change}
 use Rattle.br_model.specs.declared.change.Change.TheVariants as changes
 use Rattle.br_model.specs.Control.Control.{Control, keeps_up}
+use Rattle.br_model.specs.Control.Learning.{Address}
 use Rattle.br_model.specs.Tree.Tree.{Tree}
+use Rattle.bridge_core.specs.Plans.{renewed_at}
 
 -- as long as there is another member, a loop has seen fewer than there are
 pub fewer_seen : (from s t u seen : List ℕ) (r : Option ℕ) (x : ℕ) → s ≡ from → Yields (YieldsFirst (λ (x : List ℕ). x)) s seen t → r ≡ Some x → YieldsFirst (λ (x : List ℕ). x) t r u → length seen < length from
@@ -35,3 +37,7 @@ beside tree c (changes.AddrDel vid mac) = refl
 pub all_beside : (tree : Tree) (c : Control) (cs : List Change) → fold keeps_up (with_tree tree c) cs ≡ with_tree tree (fold keeps_up c cs)
 all_beside tree c [] = refl
 all_beside tree c (d ∷ ds) = ap (λ (x : Control). fold keeps_up x ds) (beside tree c d) ∙ all_beside tree (keeps_up c d) ds
+
+pub renewed_beside : (tree : Tree) (c : Control) (o : Option Address) → renewed_at (with_tree tree c) o ≡ with_tree tree (renewed_at c o)
+renewed_beside tree c None = refl
+renewed_beside tree c (Some key) = refl

@@ -1,12 +1,12 @@
 -- What a frame comes to that is seen, by what the spanning tree is told and who is heard.
-use Rattle.std.proofs.Common.{◌≡◌, ◌<◌, ℕ, Bool, true, false, if◌then◌else◌, List, [], Option, None, Some, refl, sym, ap, subst, ◌∙◌, arith}
+use Rattle.std.proofs.Common.{◌≡◌, ◌<◌, ◌^◌, ℕ, Bool, true, false, if◌then◌else◌, List, [], Option, None, Some, refl, sym, ap, subst, ◌∙◌, arith}
 use Rattle.std.specs.declared.result.Result.{Result}
 use Rattle.std.specs.declared.result.Result.TheVariants.{Ok}
 use Rattle.br_model.specs.declared.frame.Head.{Head}
 use Rattle.br_model.specs.declared.frame.McastMsg.{McastMsg}
 use Rattle.br_model.specs.declared.steps.Refusal.{Refusal}
 use Rattle.br_model.specs.declared.tree.TreeEvent.{TreeEvent}
-use Rattle.br_model.specs.Control.Course.{Course, from}
+use Rattle.br_model.specs.Control.Course.{Course, from, makes_all}
 use Rattle.br_model.specs.Wire.Messages.{message}
 use Rattle.br_model.specs.Control.Reaction.{learns, learns_of, sees}
 use Rattle.br_model.specs.Control.Learning.{Address}
@@ -16,7 +16,13 @@ use Rattle.br_model.specs.Table.Setup.{Setup}
 use Rattle.br_model.specs.Control.Snooping.{snoops}
 use Rattle.br_model.specs.Table.Table.{Table, table, with_addresses}
 use Rattle.br_model.specs.Control.TreeReaction.{heard, told}
-use Rattle.bridge_core.specs.Answers.{standing}
+use Rattle.bridge_core.specs.declared.plan.Plan.{Plan}
+use Rattle.bridge_core.specs.Answers.{carried_out, standing}
+use Rattle.bridge_core.specs.Plans.{IsSound, renewed_at}
+use Rattle.bridge_core.specs.Standing.{clocked}
+use Rattle.br_model.specs.Data.Maps.{pair_cmp, get}
+use Rattle.br_model.specs.Table.Limits.{all_fit}
+use Rattle.std.specs.Prelude.{IfSome, IsSome}
 use Rattle.bridge_core.specs.Hearing.{most}
 use Rattle.bridge_core.specs.Kept.{Controlled}
 use Rattle.bridge_core.specs.Lessons.{IsTaught, of_bridge}
@@ -69,3 +75,16 @@ pub taught_so : (b : Controlled) (domains : Domains) (own : ℕ) (t : Table) (po
 taught_so b domains own t port head key setup at taught =
     subst (λ (x : Setup). learns_of x port head (standing b) ≡ learns port key (standing b)) setup
     (subst (λ (x : Table). learns_of (of_bridge domains own) port head (from x b.control) ≡ learns port key (from x b.control)) at (taught own b.control))
+
+-- A plan of which the spanning tree is told this, and nothing else is done.
+
+module _ (b : Controlled) (p : Plan) (event : TreeEvent) (early : p.clock.now < 2 ^ 53) (clock : clocked p.clock b.control ≡ b.control) (renewed : p.renewed ≡ None) (none : p.changes.items ≡ []) (tells : p.told ≡ Some event) where
+  pub sound-alone : IsSound (table b.history) p
+  sound-alone = record {
+    early = early;
+    there = subst (λ (o : Option Address). IfSome o (λ key. IsSome (get pair_cmp (table b.history).addr key))) (sym renewed) tt;
+    fits = ap (all_fit (table b.history)) none;
+  }
+
+  pub tells_alone : told (Some event) (standing b) ≡ carried_out b p
+  tells_alone = sym (λ i. told (tells i) (makes_all (record { table = table b.history; control = (ap (renewed_at (clocked p.clock b.control)) renewed ∙ clock) i; changes = []; messages = [] }) (none i)))

@@ -120,9 +120,8 @@ impl Bridge {
         if self.history.len() >= MOST_CHANGES {
             return Err(EventFault::Refused(Refusal::HistoryFull));
         }
-        if self.history.push(change).is_err() {
-            return Err(EventFault::NoMemory);
-        }
+        self.history.reserve(1)?;
+        self.history.push_reserved(change);
         self.state.apply(&change);
         Ok(())
     }
@@ -165,6 +164,7 @@ impl Bridge {
         let mut changes = plan.changes;
         changes.reserve(Port::PLACES)?;
         reserve_frames(lines)?;
+        let own = self.own;
         let mut tree = self.state.tree.copy();
         let out = tree.act(event, plan.clock.now);
         add_states(&mut changes, &tree, out.moved);
@@ -172,7 +172,7 @@ impl Bridge {
         if answer.is_err() {
             return answer;
         }
-        add_frames(self.own, &tree, &out, lines);
+        add_frames(own, &tree, &out, lines);
         self.state.tree = tree;
         answer
     }
@@ -191,19 +191,20 @@ impl Bridge {
         ensures carries_out { CarriesOut self.old self.new lines.old.lines lines.new.lines result (Ok (carried_out self.old plan)) }
         ensures room { 1 ≤ lines.new.rows }
     {
-        let from = self.history.len();
         let most = plan.changes.len() + Port::PLACES;
-        if most > MOST_CHANGES - from {
+        if most > MOST_CHANGES - self.history.len() {
             return self.try_told(plan, event, lines);
         }
+        let mut changes = plan.changes;
+        changes.reserve(Port::PLACES)?;
         self.history.reserve(most)?;
         reserve_frames(lines)?;
-        append(&mut self.history, &plan.changes);
         let out = self.state.tree.act(event, plan.clock.now);
-        add_states(&mut self.history, &self.state.tree, out.moved);
-        self.state.prepare(plan.clock, plan.renewed);
-        self.state.follow(&self.history[from..]);
+        add_states(&mut changes, &self.state.tree, out.moved);
         add_frames(self.own, &self.state.tree, &out, lines);
+        self.state.prepare(plan.clock, plan.renewed);
+        self.state.follow(&changes);
+        append(&mut self.history, &changes);
         Ok(())
     }
 
@@ -302,7 +303,7 @@ impl Bridge {
         ensures { CarriesQuietly self.old self.new result (learns_of self.old.setup port head.now (standing self.old)) }
     {
         match taught(&self.domains, &self.state, port, head) {
-            Some((vid, mac)) => self.learn_at(port, vid, mac),
+            Some(key) => self.learn_at(port, key.0, key.1),
             None => Ok(()),
         }
     }

@@ -149,7 +149,7 @@ pub fn teaches(
     ensures plans { (own : ℕ) → PlansAt state.now result (Ok (learns_of (of_bridge domains.now own) port head.now (course_at state.now))) }
 {
     match taught(domains, state, port, head) {
-        Some((vid, mac)) => learns(alloc, state, port, vid, mac),
+        Some(key) => learns(alloc, state, port, key.0, key.1),
         None => Ok(Plan::telling(alloc, state.clock, None)),
     }
 }

@@ -16,7 +16,6 @@ use Rattle.bridge_core.proofs.bridge.Bridge.learn.Goals as goal
 pub returns-in-Some : goal.returns-in-Some
 returns-in-Some c =
     let old = c.args.self.now in
-    let key : Address = (c.in-Some.vid, c.in-Some.mac) in
     let at = c.self.invariant.0 ∙ ap (λ (b : Controlled). table b.history) c.self.view_is in
     carried_as old _ _ _ _
     (sym (taught_so old c.self.inside.domains c.self.inside.own _ c.args.port c.args.head.now _ (ap (λ (b : Controlled). b.setup) c.self.view_is) at c.taught.ensures ∙ ap (λ (o : Option Address). learns c.args.port o (standing old)) c.in-Some.is))

@@ -8,6 +8,7 @@ use Rattle.bridge_core.specs.declared.learning.Lesson.{Lesson}
 use Rattle.bridge_core.specs.declared.learning.Lesson.TheVariants.{Known, Renewed, News}
 use Rattle.bridge_core.specs.Kept.{Controlled}
 use Rattle.bridge_core.specs.Lessons.{lesson_of}
+use Rattle.bridge_core.specs.Standing.{table_of}
 use Rattle.bridge_core.proofs.Accepting.{carried_one, carried_still}
 use Rattle.bridge_core.proofs.Reactions.{learns_known, learns_renewed, learns_news, fits_news, is_there, put_of}
 use Rattle.bridge_core.proofs.bridge.Bridge.learn_at.Goals as goal
@@ -22,7 +23,7 @@ returns-in-Known c =
     carried_still old _ _ old.control few (learns_known (table old.history) old.control key c.args.port lesson) refl
 
 pub renew-requires : goal.renew-requires
-renew-requires c = is_there _ (c.args.self.now.control) (c.args.vid, c.args.mac) c.args.port c.in-Renewed.ensures
+renew-requires c = is_there (table_of c.self.inside.state) c.args.self.now.control (c.args.vid, c.args.mac) c.args.port c.in-Renewed.ensures
 
 pub returns-in-Renewed : goal.returns-in-Renewed
 returns-in-Renewed c =
