@@ -1,4 +1,5 @@
 pub mod Counting
+pub mod Cutting
 pub mod Doing
 pub mod Following
 pub mod Generating

@@ -1,11 +1,12 @@
 //! A run of a scenario, line by line.
-ghost use Rattle.std.specs.Prelude.{◌≡◌, ℕ, ◌+◌, ◌-◌, ◌<◌, ◌≤◌, ◌^◌, ◌++◌, length, true, false, None, Some, IfOk, OnOk, OnErr, string_bytes};
+ghost use Rattle.std.specs.Prelude.{◌≡◌, ℕ, ◌+◌, ◌-◌, ◌<◌, ◌≤◌, ◌^◌, ◌++◌, length, take, true, false, None, Some, IfOk, OnOk, OnErr, string_bytes};
 ghost use Rattle.br_model.specs.Text.Operands.{longest_section};
 ghost use Rattle.br_model.specs.Plane.Steps.{world_step};
 ghost use Rattle.br_model.specs.Text.Scenario.{Scenario, opened, longest_line, closes};
 ghost use Rattle.br_model.specs.Table.Table.{table};
 ghost use Rattle.capture_runner.specs.Session.{Follows, Takes, IsCaptured, ComeByLine, Does, ending_of, world_of, end_line_of, last_line, history_of, listing_or_bad, status_of};
 ghost use Rattle.br_model.specs.Text.LineForms.{comes_by_line};
+ghost use Rattle.std.specs.String.Boundary.{IsSplitPoint};
 ghost use Rattle.transcript_text.specs.Extends.{Extends};
 
 use crate::NoMemory;
@@ -95,7 +96,7 @@ impl Session {
         requires few { self.old.lines < 2 ^ 32 - 1 }
         ensures takes { IfOk result (Takes self.old line.now (string_bytes text.old) self.new (string_bytes text.new)) }
         ensures lines { OnOk result (self.new.lines ≤ self.old.lines + 1) }
-        ensures err { OnErr result (Extends (string_bytes text.old) (string_bytes text.new)) }
+        ensures err { OnErr result (string_bytes text.new ≡ string_bytes text.old) }
     {
         let item = match read_line(alloc, line, &mut self.roster) {
             Ok(item) => item,
@@ -176,10 +177,12 @@ impl Session {
     ) -> Result<(), NoMemory>
         requires { comes_by_line step ≡ true }
         ensures does { OnOk result (Does self.old step (string_bytes text.old) self.new (string_bytes text.new)) }
-        ensures err { OnErr result (Extends (string_bytes text.old) (string_bytes text.new)) }
+        ensures err { OnErr result (string_bytes text.new ≡ string_bytes text.old) }
     {
         let lines = self.go_on(alloc, step)?;
-        self.writer.append_lines(lines.as_slice(), text)
+        let whole = text.as_bytes().len();
+        let appended = self.writer.append_lines(lines.as_slice(), text);
+        cut_if_torn(appended, whole, text)
     }
 
     /// How the scenario ends where its bytes end in this line.
@@ -247,8 +250,8 @@ impl Session {
         }
     }
 
-    /// Writes the last line after the text.
-    pub(crate) fn end(&mut self, last: Last, text: &mut String) -> Result<(), NoMemory>
+    /// Appends the last line. After want of memory a part of it may stand there.
+    fn append_last(&mut self, last: Last, text: &mut String) -> Result<(), NoMemory>
         ensures roster { self.new.roster ≡ self.old.roster }
         ensures world { self.new.world ≡ self.old.world }
         ensures ok { OnOk result (string_bytes text.new ≡ string_bytes text.old ++ last_line last self.old.world) }
@@ -262,4 +265,33 @@ impl Session {
             Last::Bad(number, why) => append_bad(number, why, text),
         }
     }
+
+    /// Writes the last line after the text.
+    pub(crate) fn end(&mut self, last: Last, text: &mut String) -> Result<(), NoMemory>
+        ensures roster { self.new.roster ≡ self.old.roster }
+        ensures world { self.new.world ≡ self.old.world }
+        ensures ok { OnOk result (string_bytes text.new ≡ string_bytes text.old ++ last_line last self.old.world) }
+        ensures err { OnErr result (string_bytes text.new ≡ string_bytes text.old) }
+    {
+        let whole = text.as_bytes().len();
+        let appended = self.append_last(last, text);
+        cut_if_torn(appended, whole, text)
+    }
+}
+
+/// Where what was appended found no room, the text is cut back to its first `whole` bytes, so that no torn line stands there.
+fn cut_if_torn(
+    appended: Result<(), NoMemory>,
+    whole: usize,
+    text: &mut String,
+) -> Result<(), NoMemory>
+    requires seam { OnErr appended (IsSplitPoint (string_bytes text.old) whole) }
+    ensures same { result ≡ appended }
+    ensures ok { OnOk result (string_bytes text.new ≡ string_bytes text.old) }
+    ensures err { OnErr result (string_bytes text.new ≡ take whole (string_bytes text.old)) }
+{
+    if appended.is_err() {
+        text.truncate(whole);
+    }
+    appended
 }

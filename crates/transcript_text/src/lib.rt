@@ -4,9 +4,8 @@
 mod causes;
 mod fields;
 mod frames;
-mod numbers;
+mod line_end;
 mod reader;
-mod starts;
 mod words;
 mod writer;
 
