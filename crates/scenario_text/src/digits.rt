@@ -54,7 +54,7 @@ fn write_bytes(digits: &[u8], out: &mut [u8]) -> bool
 }
 
 /// The bytes that digits of either case spell.
-fn decoded(alloc: Global, digits: &[u8]) -> Result<Option<Bytes>, NoMemory>
+pub(crate) fn decoded(alloc: Global, digits: &[u8]) -> Result<Option<Bytes>, NoMemory>
     ensures { IfOk result (λ bytes. bytes ≡ bytes_from_hex digits.now) }
 {
     if digits.len() % 2 != 0 {

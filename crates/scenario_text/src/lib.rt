@@ -6,6 +6,7 @@ mod frame_steps;
 mod generator;
 mod lines;
 mod listing;
+mod plain;
 mod reading;
 mod words;
 mod write;

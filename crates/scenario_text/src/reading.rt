@@ -8,6 +8,7 @@ ghost use Rattle.bridge_command.specs.Seen.{OrNoMemory};
 ghost use Rattle.scenario_text.specs.Items.{Reads, comes_in_place, fits_roster, is_in_range};
 
 use crate::lines::read_words;
+use crate::plain::plain_step;
 use crate::words::find_words;
 use arrayvec::ArrayVec;
 use br_model::scenario::{Item, LineWhy, Place, Said};
@@ -59,10 +60,21 @@ fn what_says(alloc: Global, line: &[u8], r: &Roster) -> Result<Said, LineWhy>
     if line.is_empty() || line[0] == b'#' {
         return Ok(Said::Blank);
     }
-    what_words_say(alloc, line, r)
+    what_steps_say(alloc, line, r)
 }
 
-/// The same of a line that is no comment.
+/// The same of a line that is no comment: a frequent step in its plainest spelling, or word by word.
+fn what_steps_say(alloc: Global, line: &[u8], r: &Roster) -> Result<Said, LineWhy>
+    ensures value { OrNoMemory result (all_say r.now (words line.now)) }
+    ensures fits { IfOk result (λ said. fits_roster r.now said ≡ true) }
+{
+    match plain_step(alloc, line, r) {
+        Some(step) => Ok(Said::Does(step)),
+        None => what_words_say(alloc, line, r),
+    }
+}
+
+/// The same, word by word.
 #[inline(never)]
 fn what_words_say(alloc: Global, line: &[u8], r: &Roster) -> Result<Said, LineWhy>
     ensures value { OrNoMemory result (all_say r.now (words line.now)) }
