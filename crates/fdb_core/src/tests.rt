@@ -84,30 +84,6 @@ fn ageing_at_the_limit(rt: HostRuntime) -> Result<(), Fail> {
     Ok(())
 }
 
-/// Each ends at a moment of its own, and one that is renewed at a later one.
-#[test]
-fn entries_end_one_by_one(rt: HostRuntime) -> Result<(), Fail> {
-    let alloc = rt.alloc();
-    let mut fdb = Fdb::make(alloc, 3)?;
-    let vid = Vid::new(1).ok_or("vid")?;
-    for (address, updated) in [(1, 100), (2, 101), (3, 102)] {
-        assert!(rt; !fdb.is_full());
-        let entry = Entry {
-            port: Port::HOST,
-            kind: Kind::Learned,
-            updated,
-        };
-        fdb.put(vid, mac(address), entry);
-    }
-    assert!(rt; fdb.find(vid, mac(1)).is_some());
-    fdb.renew(vid, mac(1), 103);
-    for (now, ended) in [(400, 0), (401, 1), (402, 2), (403, 3)] {
-        assert_eq!(rt; fdb.expired(alloc, now, 300)?.as_slice().len(), ended);
-    }
-    assert_eq!(rt; fdb.oldest(), Some(101));
-    Ok(())
-}
-
 /// There is room for 16,384 addresses, each is found, and each can be taken.
 #[test]
 fn all_addresses(rt: HostRuntime) -> Result<(), Fail> {
