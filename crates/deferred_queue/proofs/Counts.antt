@@ -10,7 +10,7 @@ use Rattle.deferred_queue.proofs.Views.{All, all_set, at_end}
 use Rattle.deferred_queue.specs.declared.tally.Event.{Event}
 use Rattle.deferred_queue.specs.declared.tally.Event.TheVariants.{Post, Look}
 use Rattle.deferred_queue.specs.declared.tally.Past.{Past}
-use Rattle.deferred_queue.specs.Tally.{posts_in, looks_in, past, counting, looking, KnownBut, Looked, Knows, Kept, Counted, LookedFor}
+use Rattle.deferred_queue.specs.Tally.{posts_in, looks_in, past, counting, looking, KnownBut, Knows, Kept, Counted, LookedFor}
 
 posts_in-append : (a b : List Event) → posts_in (a ++ b) ≡ posts_in a + posts_in b
 posts_in-append [] b = omega arith
