@@ -6,24 +6,11 @@ use mathlib.Core.Option.{some, some-ne-none, some-injective}
 use lib.ListN.{get_elem?}
 use Rattle.crossbeam_queue.specs.Fifo.{Pushes, Pops, Forks, Merges, Learns}
 use Rattle.crossbeam_queue.proofs.Lists.{at_set, at_snoc}
+use Rattle.deferred_queue.proofs.Views.{All, all_set, at_end}
 use Rattle.br_model.specs.declared.change.Update.{Update}
 use Rattle.deferred_queue.specs.declared.rule.Log.{Log}
 use Rattle.deferred_queue.specs.Ends.{IsNext}
 use Rattle.deferred_queue.specs.Rule.{log, posting, taking, spent, TicketsFrom, Begins, Fits, Carries}
-
--- ---- lists of passes
-at_end : (l : List Log) (a b : Log) (j : ℕ) → get_elem? l j ≢ some b → get_elem? (l ++ a ∷ []) j ≡ some b → j ≡ length l
-at_end [] a b zero n e = refl
-at_end [] a b (suc j) n e = absurd (some-ne-none b (sym e))
-at_end (x ∷ xs) a b zero n e = absurd (n e)
-at_end (x ∷ xs) a b (suc j) n e = ap suc (at_end xs a b j n e)
-
-abbrev All : (ℕ → Log → Type 0) → List Log → Type 0
-All F views = (place : ℕ) (v : Log) → get_elem? views place ≡ some v → F place v
-
-all_set : (F : ℕ → Log → Type 0) (views : List Log) (place : ℕ) (w : Log) → F place w → ((j : ℕ) (u : Log) → j ≢ place → get_elem? views j ≡ some u → F j u) → All F (set views place w)
-all_set F views place w mine others j u e = ⊎_elim (λ (x : (j ≡ place) × (w ≡ u)). subst (λ (y : ℕ × Log). F y.0 y.1) (λ i. (sym x.0 i, x.1 i)) mine)
-    (λ (x : (j ≢ place) × (get_elem? views j ≡ some u)). others j u x.0 x.1) (at_set views place j w u e)
 
 -- ---- the beginning, and how passes are cut and joined
 pub begins : Carries [] (log true true [] [] [] ∷ [])

@@ -4,10 +4,12 @@
 
 mod ends;
 mod rule;
+mod tally;
 #[cfg(test)]
 mod tests;
 
-pub use ends::{MOST_UPDATES, Poster, Taker, make};
+pub use br_model::limits::MOST_CHANGES as MOST_UPDATES;
+pub use ends::{Poster, Taker, make};
 
 /// Want of memory.
 pub type NoMemory = std::alloc::AllocError;
