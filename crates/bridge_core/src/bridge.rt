@@ -160,6 +160,7 @@ impl Bridge {
         requires room { 1 ≤ lines.old.rows }
         ensures carries_out { CarriesOut self.old self.new lines.old.lines lines.new.lines result (Ok (carried_out self.old plan)) }
         ensures room { 1 ≤ lines.new.rows }
+        ensures marked { lines.new.marked ≡ lines.old.marked }
     {
         let mut changes = plan.changes;
         changes.reserve(Port::PLACES)?;
@@ -190,6 +191,7 @@ impl Bridge {
         requires room { 1 ≤ lines.old.rows }
         ensures carries_out { CarriesOut self.old self.new lines.old.lines lines.new.lines result (Ok (carried_out self.old plan)) }
         ensures room { 1 ≤ lines.new.rows }
+        ensures marked { lines.new.marked ≡ lines.old.marked }
     {
         let most = plan.changes.len() + Port::PLACES;
         if most > MOST_CHANGES - self.history.len() {
@@ -214,6 +216,7 @@ impl Bridge {
         requires room { 1 ≤ lines.old.rows }
         ensures carries_out { CarriesOut self.old self.new lines.old.lines lines.new.lines result (Ok (carried_out self.old plan)) }
         ensures room { 1 ≤ lines.new.rows }
+        ensures marked { lines.new.marked ≡ lines.old.marked }
     {
         let told = plan.told;
         match told {
@@ -359,6 +362,7 @@ impl Bridge {
         requires room { 1 ≤ lines.old.rows }
         ensures carries_out { CarriesOut self.old self.new lines.old.lines lines.new.lines result (comes_to self.old (Sight port bytes.now head.now)) }
         ensures room { 1 ≤ lines.new.rows }
+        ensures marked { lines.new.marked ≡ lines.old.marked }
     {
         match heard(&self.state, port, bytes, head) {
             Some(event) => {
@@ -394,6 +398,7 @@ impl Bridge {
         requires room { 1 ≤ lines.old.rows }
         ensures carries_out { CarriesOut self.old self.new lines.old.lines lines.new.lines result (comes_to self.old (Moment now)) }
         ensures room { 1 ≤ lines.new.rows }
+        ensures marked { lines.new.marked ≡ lines.old.marked }
     {
         let plan = self.plan_moment(alloc, now)?;
         self.accept(plan, lines)?;
@@ -407,6 +412,7 @@ impl Bridge {
         requires room { 1 ≤ lines.old.rows }
         ensures carries_out { CarriesOut self.old self.new lines.old.lines lines.new.lines result (comes_to self.old event.now) }
         ensures room { 1 ≤ lines.new.rows }
+        ensures marked { lines.new.marked ≡ lines.old.marked }
     {
         match event {
             Event::Cmd(asked) => {
@@ -441,6 +447,7 @@ impl Bridge {
         ensures reacts { Reacts self.old self.new lines.old.lines lines.new.lines result (reaction self.old.setup self.old.history self.old.control event.now) }
         ensures from { IfOk result (λ from. from ≡ length self.old.history) }
         ensures room { 1 ≤ lines.new.rows }
+        ensures marked { lines.new.marked ≡ lines.old.marked }
     {
         let from = self.history.len();
         self.take(alloc, event, lines)?;
@@ -465,6 +472,7 @@ impl Bridge {
         ensures reacts { Reacts self.old self.new lines.old.lines lines.new.lines result (reaction self.old.setup self.old.history self.old.control (Event.Sight port bytes.now head.now)) }
         ensures from { IfOk result (λ from. from ≡ length self.old.history) }
         ensures room { 1 ≤ lines.new.rows }
+        ensures marked { lines.new.marked ≡ lines.old.marked }
     {
         let from = self.history.len();
         self.take_frame(alloc, port, bytes, head, message, lines)?;
