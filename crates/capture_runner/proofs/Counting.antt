@@ -1,9 +1,10 @@
 -- Lines are counted, step by step.
-use Rattle.std.proofs.Common.{◌≡◌, ℕ, ◌+◌, ◌*◌, ◌%◌, ◌==◌, ◌≤◌, nat_le, Bool, true, false, if◌then◌else◌, cond, length, List, [], ◌∷◌, ◌++◌, codes, refl, sym, ◌∙◌, ap, subst, arith, append_assoc, append-nil}
+use Rattle.std.proofs.Common.{◌≡◌, ℕ, suc, ◌+◌, ◌*◌, ◌%◌, ◌==◌, ◌≤◌, nat_le, Bool, true, false, if◌then◌else◌, cond, length, List, [], ◌∷◌, ◌++◌, codes, refl, sym, ◌∙◌, ap, subst, arith, append_assoc, append-nil}
 use Rattle.std.specs.Fmt.{decimal}
 use Rattle.std.specs.List.{list_all}
 use Rattle.std.specs.Str.{bytes_eq}
 use Rattle.std.proofs.lemmas.List.Folds.{list_all-append}
+use Rattle.std.proofs.lemmas.Grind.{flat_map-append}
 use Rattle.std.proofs.lemmas.List.Sums.{sum_by-append}
 use Rattle.br_model.specs.declared.steps.Step.{Step}
 use Rattle.br_model.specs.declared.steps.Step.TheVariants.{Now, Turn, Report, Publish}
@@ -21,7 +22,9 @@ use Rattle.br_model.specs.Program.Summary.{kind_of, count_of, summary, summary_t
 use Rattle.br_model.proofs.MadeRead.{made_read}
 use Rattle.br_model.proofs.Running.{run_push, run_none}
 use Rattle.capture_runner.specs.declared.demo.Tally.{Tally}
-use Rattle.capture_runner.specs.Counting.{Tallies, Adds, Ran, RunsOn}
+use Rattle.transcript_lines.specs.declared.row.Row.{Row}
+use Rattle.transcript_lines.specs.Rows.{expand, expand_row, sent_lines}
+use Rattle.capture_runner.specs.Counting.{Tallies, Adds, AddsSent, Ran, RunsOn}
 use Rattle.scenario_text.specs.Generating.{At, steps_left}
 use Rattle.br_model.specs.Text.LineForms.{comes_by_line}
 
@@ -41,8 +44,35 @@ adds old new lines chip soft tx overrun before t = record {
 pub adds_none : (t : Tally) → Adds t [] t
 adds_none t before h = subst (λ (lines : List Line). Tallies lines t) (sym (append-nil before)) h
 
-pub adds_more : (a b c : Tally) (lines : List Line) (line : Line) → Adds a lines b → Adds b (line ∷ []) c → Adds a (lines ++ line ∷ []) c
-adds_more a b c lines line h k before t = subst (λ (all : List Line). Tallies all c) (append_assoc before lines (line ∷ [])) (k (before ++ lines) (h before t))
+pub adds_more : (a b c : Tally) (lines more : List Line) → Adds a lines b → Adds b more c → Adds a (lines ++ more) c
+adds_more a b c lines more h k before t = subst (λ (all : List Line). Tallies all c) (append_assoc before lines more) (k (before ++ lines) (h before t))
+
+pub one_row_more : (arena : List ℕ) (rows : List Row) (row : Row) → expand arena (rows ++ row ∷ []) ≡ expand arena rows ++ expand_row arena row
+one_row_more arena rows row = flat_map-append (expand_row arena) rows (row ∷ []) ∙ ap (λ l. expand arena rows ++ l) (append-nil (expand_row arena row))
+
+-- the lines of a frame that leaves these ports, of each kind
+
+one_more : (word : List ℕ) (lines more : List Line) → count_of word (lines ++ more) ≡ count_of word lines + count_of word more
+one_more word lines more = sum_by-append (λ line. cond (bytes_eq (kind_of line) word) 1 0) lines more
+
+tx_sent : (id : ℕ) (ports untagged plain tagged : List ℕ) → count_of (codes "tx") (sent_lines id ports untagged plain tagged) ≡ length ports
+tx_sent id [] untagged plain tagged = refl
+tx_sent id (port ∷ ports) untagged plain tagged =
+    omega (arith, one_more (codes "tx") (sent_lines id (port ∷ []) untagged plain tagged) (sent_lines id ports untagged plain tagged), tx_sent id ports untagged plain tagged)
+
+none_sent : (word : List ℕ) → bytes_eq (codes "tx") word ≡ false → (id : ℕ) (ports untagged plain tagged : List ℕ) → count_of word (sent_lines id ports untagged plain tagged) ≡ 0
+none_sent word other id [] untagged plain tagged = refl
+none_sent word other id (port ∷ ports) untagged plain tagged =
+    let first : count_of word (sent_lines id (port ∷ []) untagged plain tagged) ≡ 0 = rw other refl in
+    omega (arith, one_more word (sent_lines id (port ∷ []) untagged plain tagged) (sent_lines id ports untagged plain tagged), first, none_sent word other id ports untagged plain tagged)
+
+pub adds_sent : (old new : Tally) (ports : List ℕ) → new.chip ≡ old.chip → new.soft ≡ old.soft → new.tx ≡ old.tx + length ports → new.overrun ≡ old.overrun → AddsSent old ports new
+adds_sent old new ports chip soft tx overrun id untagged plain tagged =
+    adds old new (sent_lines id ports untagged plain tagged)
+    (omega (arith, chip, none_sent (codes "chip") refl id ports untagged plain tagged))
+    (omega (arith, soft, none_sent (codes "soft") refl id ports untagged plain tagged))
+    (omega (arith, tx, tx_sent id ports untagged plain tagged))
+    (omega (arith, overrun, none_sent (codes "overrun") refl id ports untagged plain tagged))
 
 pub runs_none : (w : World) (t : Tally) → RunsOn w t [] w t
 runs_none w t setup before h = subst (λ (done : List Step). Ran setup done w t) (sym (append-nil before)) h

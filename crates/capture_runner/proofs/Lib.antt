@@ -9,3 +9,4 @@ pub mod Reaching
 pub mod Sections
 pub mod Steps
 pub mod Telling
+pub mod Worlds

@@ -118,6 +118,14 @@ abbrev pub world_of : Roster → Option World → World
 world_of roster None = first_world (setup_of roster)
 world_of roster (Some w) = w
 
+-- a step was done in a world, and these are its lines
+abbrev pub Tells : World → Step → World → List Line → Type 0
+Tells old step new lines = (new, lines) ≡ world_step old step
+
+-- the session after the step in that world
+abbrev pub IsAfter : World → Step → Session → Type 0
+IsAfter w step x = (x.world ≡ Some (world_step w step).0) × (x.told.lines ≡ (world_step w step).1)
+
 -- a step was done
 pub record Does (old : Session) (step : Step) (before : List ℕ) (new : Session) (after : List ℕ) : Type 0 where
   pub lines : new.lines ≡ old.lines

@@ -75,7 +75,8 @@ pub(crate) fn advance<S: Source>(
 ) -> Result<Next, Stop>
     requires sound { reader.old.fault ≡ None }
     requires few { session.old.lines < 2 ^ 32 - 1 }
-    ensures advances { (limit : ℕ) → Advances limit reader.old reader.new (S.left source.old) (S.left source.new) session.old session.new (string_bytes text.old) (string_bytes text.new) result }
+    ensures advances { (limit : ℕ) → Advances limit reader.old reader.new (S.left source.old) (S.left source.new)
+        session.old session.new (string_bytes text.old) (string_bytes text.new) result }
     ensures less { IfOk result (Lessens (room reader.old) (room reader.new)) }
     ensures cause { Caused (S.faults source.old) (S.faults source.new) result }
     ensures later { S.faults source.old ≤ S.faults source.new }
@@ -202,7 +203,8 @@ fn do_steps<K: Sink>(
     steps: Vec<Step>,
 ) -> Result<(), Halt>
     requires { list_all comes_by_line steps.items ≡ true }
-    ensures does { OnOk result (DoesAll session.old steps.items session.new (K.taken sink.old) (K.taken sink.new) (string_bytes output.old.text) (string_bytes output.new.text)) }
+    ensures does { OnOk result (DoesAll session.old steps.items session.new
+        (K.taken sink.old) (K.taken sink.new) (string_bytes output.old.text) (string_bytes output.new.text)) }
     ensures cause { Stalls (K.faults sink.old) (K.faults sink.new) result }
     ensures later { K.faults sink.old ≤ K.faults sink.new }
 {
@@ -226,7 +228,8 @@ fn play_section<S: Source, K: Sink>(
 ) -> Result<Option<Last>, Halt>
     requires sound { reader.old.fault ≡ None }
     requires most { length ≤ longest_section }
-    ensures plays { PlaysSection reader.old reader.new (S.left source.old) (S.left source.new) session.old session.new (K.taken sink.old) (K.taken sink.new) (string_bytes output.old.text) (string_bytes output.new.text) length result }
+    ensures plays { PlaysSection reader.old reader.new (S.left source.old) (S.left source.new)
+        session.old session.new (K.taken sink.old) (K.taken sink.new) (string_bytes output.old.text) (string_bytes output.new.text) length result }
     ensures less { OnOk result (room reader.new ≤ room reader.old) }
     ensures cause { Halts (S.faults source.old) (S.faults source.new) (K.faults sink.old) (K.faults sink.new) result }
     ensures later { S.faults source.old ≤ S.faults source.new }

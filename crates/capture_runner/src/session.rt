@@ -1,10 +1,9 @@
 //! A run of a scenario, line by line.
-ghost use Rattle.std.specs.Prelude.{◌≡◌, ℕ, ◌+◌, ◌-◌, ◌<◌, ◌≤◌, ◌^◌, ◌++◌, length, take, true, false, None, Some, IfOk, OnOk, OnErr, string_bytes};
+ghost use Rattle.std.specs.Prelude.{◌≡◌, ℕ, ◌+◌, ◌-◌, ◌<◌, ◌≤◌, ◌^◌, ◌++◌, [], length, take, true, false, None, Some, IfOk, OnOk, OnErr, string_bytes};
 ghost use Rattle.br_model.specs.Text.Operands.{longest_section};
-ghost use Rattle.br_model.specs.Plane.Steps.{world_step};
 ghost use Rattle.br_model.specs.Text.Scenario.{Scenario, opened, longest_line, closes};
 ghost use Rattle.br_model.specs.Table.Table.{table};
-ghost use Rattle.capture_runner.specs.Session.{Follows, Takes, IsCaptured, ComeByLine, Does, ending_of, world_of, end_line_of, last_line, history_of, listing_or_bad, status_of};
+ghost use Rattle.capture_runner.specs.Session.{Follows, Takes, IsAfter, IsCaptured, ComeByLine, Does, ending_of, world_of, end_line_of, last_line, history_of, listing_or_bad, status_of};
 ghost use Rattle.br_model.specs.Text.LineForms.{comes_by_line};
 ghost use Rattle.std.specs.String.Boundary.{IsSplitPoint};
 ghost use Rattle.transcript_text.specs.Extends.{Extends};
@@ -17,11 +16,12 @@ use br_model::listing::Listing;
 use br_model::plain::table::Table;
 use br_model::scenario::{Item, LineWhy, Place};
 use br_model::steps::Step;
-use br_model::transcript::{Line, Lines};
+use br_model::transcript::Line;
 use bridge_command::Roster;
 use pcapng_read::CapFault;
 use scenario_text::{list, read_line, says_end};
 use std::alloc::{AllocError, Global};
+use transcript_lines::Lines;
 use transcript_text::{Writer, append_bad};
 
 /// How a scenario ends: by its line `end`, or by the bad line of that number, for that cause.
@@ -68,6 +68,8 @@ pub(crate) struct Session {
     lines: u32,
     roster: Roster,
     world: Option<World>,
+    // Those of the last step, in the memory of those before.
+    told: Lines,
     writer: Writer,
 }
 
@@ -80,6 +82,7 @@ impl Session {
             lines: 0,
             roster: Roster::make(alloc, false)?,
             world: None,
+            told: Lines::new(alloc),
             writer: Writer::new(alloc),
         })
     }
@@ -140,30 +143,32 @@ impl Session {
         Last::Bad(self.lines, why)
     }
 
-    /// Does the first step, in a new world. The answer is its lines. A world is large, so its making has a function of its own:
-    /// each call pays for the room of its locals.
-    fn begin(&mut self, alloc: Global, step: Step) -> Result<Lines, NoMemory>
+    /// Does the first step, in a new world. A world is large, so its making has a function of its own: each call pays for the room
+    /// of its locals.
+    fn begin(&mut self, alloc: Global, step: Step) -> Result<(), NoMemory>
         requires first { self.old.world ≡ None }
         requires by_line { comes_by_line step ≡ true }
+        requires empty { self.old.told.lines ≡ [] }
         ensures lines { OnOk result (self.new.lines ≡ self.old.lines) }
         ensures roster { OnOk result (self.new.roster ≡ self.old.roster) }
-        ensures world { IfOk result (λ lines. (self.new.world ≡ Some (world_step (world_of self.old.roster None) step).0) × (lines ≡ (world_step (world_of self.old.roster None) step).1)) }
+        ensures does { OnOk result (IsAfter (world_of self.old.roster None) step self.new) }
     {
         let mut world = World::make(alloc, self.roster.domains(), self.roster.own())?;
-        let lines = world.step(alloc, step)?;
+        world.step(alloc, step, &mut self.told)?;
         self.world = Some(world);
-        Ok(lines)
+        Ok(())
     }
 
-    /// Does a step in the world that is there, or in a new one. The answer is its lines.
-    fn go_on(&mut self, alloc: Global, step: Step) -> Result<Lines, NoMemory>
-        requires { comes_by_line step ≡ true }
+    /// Does a step in the world that is there, or in a new one.
+    fn go_on(&mut self, alloc: Global, step: Step) -> Result<(), NoMemory>
+        requires by_line { comes_by_line step ≡ true }
+        requires empty { self.old.told.lines ≡ [] }
         ensures lines { OnOk result (self.new.lines ≡ self.old.lines) }
         ensures roster { OnOk result (self.new.roster ≡ self.old.roster) }
-        ensures world { IfOk result (λ lines. (self.new.world ≡ Some (world_step (world_of self.old.roster self.old.world) step).0) × (lines ≡ (world_step (world_of self.old.roster self.old.world) step).1)) }
+        ensures does { OnOk result (IsAfter (world_of self.old.roster self.old.world) step self.new) }
     {
         match &mut self.world {
-            Some(world) => world.step(alloc, step),
+            Some(world) => world.step(alloc, step, &mut self.told),
             None => self.begin(alloc, step),
         }
     }
@@ -179,9 +184,10 @@ impl Session {
         ensures does { OnOk result (Does self.old step (string_bytes text.old) self.new (string_bytes text.new)) }
         ensures err { OnErr result (string_bytes text.new ≡ string_bytes text.old) }
     {
-        let lines = self.go_on(alloc, step)?;
+        self.told.clear();
+        self.go_on(alloc, step)?;
         let whole = text.as_bytes().len();
-        let appended = self.writer.append_lines(lines.as_slice(), text);
+        let appended = self.writer.append_lines(&self.told, text);
         cut_if_torn(appended, whole, text)
     }
 

@@ -5,9 +5,11 @@ use br_model::numbers::Port;
 use br_model::scenario::LineWhy;
 use br_model::steps::Refusal;
 use br_model::transcript::Line;
+use port_sets::Ports;
 use std::alloc::Global;
 use std::process::Abort;
 use std::test::Fail;
+use transcript_lines::Lines;
 use transcript_text::{Writer, append_bad, read, write};
 
 fn sent(alloc: Global, id: u32, port: u8, bytes: &[u8]) -> Result<Line, Fail> {
@@ -16,6 +18,35 @@ fn sent(alloc: Global, id: u32, port: u8, bytes: &[u8]) -> Result<Line, Fail> {
         port: Port::new(port).ok_or("port")?,
         bytes: Bytes::copy_of(alloc, bytes)?,
     })
+}
+
+#[test]
+fn the_text_of_rows(rt: HostRuntime) -> Result<(), Fail> {
+    let alloc = rt.alloc();
+    let none = Ports::empty();
+    let mut lines = Lines::new(alloc);
+    lines.push(Line::Soft { id: 7, point: 0 })?;
+    lines.reserve(3, 20)?;
+    lines.push_sent(
+        7,
+        none.with(1).with(2).with(63),
+        none.with(2),
+        &[0x02, 0xAB],
+        &[0x81, 0x00],
+        &[0x0F],
+    );
+    lines.push_ctl(Port::new(5).ok_or("port")?, &[0x01, 0x80]);
+    lines.push_sent(8, none.with(2).with(3), none.with(3), &[0x04], &[0x81], &[]);
+    let mut text = String::new(alloc);
+    let mut writer = Writer::new(alloc);
+    writer.append_lines(&lines, &mut text)?;
+    lines.clear();
+    lines.push(Line::Overrun { id: 9 })?;
+    writer.append_lines(&lines, &mut text)?;
+    let want = "soft 7 at 0\ntx 7 1 02ab81000f\ntx 7 2 02ab0f\ntx 7 63 02ab81000f\nctl 5 0180\n\
+                tx 8 2 0481\ntx 8 3 04\noverrun 9\n";
+    assert_eq!(rt; text.as_str(), want);
+    Ok(())
 }
 
 #[test]
@@ -116,7 +147,10 @@ fn lines_and_their_texts(rt: HostRuntime) -> Result<(), Fail> {
         all.push_str(want)?;
     }
     let mut text = String::new(alloc);
-    Writer::new(alloc).append_lines(lines.as_slice(), &mut text)?;
+    let mut writer = Writer::new(alloc);
+    for line in lines.iter() {
+        writer.append(line, &mut text)?;
+    }
     assert_eq!(rt; text.as_str(), all.as_str());
     Ok(())
 }

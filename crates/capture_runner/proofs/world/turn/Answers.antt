@@ -15,6 +15,6 @@ names_ticket n (Some d) e = refl
 pub unreachable-requires : goal.unreachable-requires
 unreachable-requires c =
     let w = c.args.plane.now.world in
-    let refused = rw (c.in-Err-OutOfTurn.is, c.in-Err-OutOfTurn.field-0-is) at c.turn.ensures in
+    let refused = rw (c.in-Err-OutOfTurn.is, c.in-Err-OutOfTurn.field-0-is) at c.turn_to.ensures in
     let update = c.update-update.ensures ∙ ap (slice_get (updates w.history)) c.applied.ensures ∙ updates-at w.history w.chip.count in
-    refused.2 (ap ticket_of update ∙ names_ticket w.chip.count (deferred_at w.history w.chip.count) refused.1)
+    refused.0.2 (ap ticket_of update ∙ names_ticket w.chip.count (deferred_at w.history w.chip.count) refused.0.1)
