@@ -32,6 +32,10 @@ made_all r (c ∷ cs) h =
     made_all (makes r c) cs (ap (λ b. all_fit (cond b (record { table = apply r.table c; control = keeps_up r.control c; changes = r.changes ++ c ∷ []; messages = r.messages }) r).table cs) here ∙ later)
     ∙ made r c cs here
 
+-- one change that fits
+pub fits_alone : (t : Table) (c : Change) → all_fit t (c ∷ []) ≡ true → fits t c ≡ true
+fits_alone t c h = first_so (fits t c) true h
+
 -- changes that fit behind others that do
 pub fit_behind : (t : Table) (cs ds : List Change) → all_fit t cs ≡ true → all_fit (fold apply t cs) ds ≡ true → all_fit t (cs ++ ds) ≡ true
 fit_behind t [] ds h k = k

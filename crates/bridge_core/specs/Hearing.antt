@@ -61,6 +61,10 @@ most (Leave group) = 1
 most (Records six first count) = count
 most Unrecognized = 0
 
+-- what the speaker's message does
+abbrev pub says : Speaker → List ℕ → McastMsg → Course → Course
+says s bytes m r = said s.port s.vid bytes m r
+
 -- The speaker speaks now, by the flag of its port.
 pub record IsHeard (state : State) (s : Speaker) : Type 0 where
   pub now : s.moment ≡ state.clock.now

@@ -3,7 +3,7 @@ ghost use Rattle.std.specs.Prelude.{ℕ, ◌≡◌, ◌≤◌, ◌<◌, ◌+◌,
 ghost use Rattle.std.specs.List.{fold};
 ghost use Rattle.br_model.specs.Control.Ageing.{stay};
 ghost use Rattle.br_model.specs.declared.bpdu.BpduMsg.{BpduMsg};
-ghost use Rattle.br_model.specs.Control.Control.{Control, first_control, keeps_up};
+ghost use Rattle.br_model.specs.Control.Control.{Control, first_control, keeps_up, renewed};
 ghost use Rattle.br_model.specs.Theorems.EndsTied.{IsTied};
 ghost use Rattle.br_model.specs.Table.Limits.{asks, fits, all_fit};
 ghost use Rattle.br_model.specs.Table.Table.{Table, start, apply};
@@ -19,7 +19,7 @@ use crate::snooping::{QUERIER_TIME, Speaker};
 use br_model::NoMemory;
 use br_model::change::Change;
 use br_model::frame::McastMsg;
-use br_model::numbers::Mac;
+use br_model::numbers::{Mac, Vid};
 use fdb_core::Key;
 use forward_rules::PortTables;
 use mdb_snoop::Mdb;
@@ -84,6 +84,15 @@ impl State {
         }
     }
 
+    /// Gives the entry the clock's moment.
+    pub fn renew(&mut self, vid: Vid, mac: Mac)
+        requires { IsSome (get pair_cmp (table_of self.old).addr (vid, mac)) }
+        ensures table { table_of self.new ≡ table_of self.old }
+        ensures control { control_of self.new ≡ renewed (control_of self.old) (vid, mac) }
+    {
+        self.addresses.renew(vid, mac, self.clock.now);
+    }
+
     /// Where a learned entry may be over by now, finds the first moment anew.
     pub fn settle(&mut self)
         ensures table { table_of self.new ≡ table_of self.old }
@@ -127,7 +136,8 @@ impl State {
         }
     }
 
-    fn apply(&mut self, change: &Change)
+    /// Makes the change.
+    pub fn apply(&mut self, change: &Change)
         requires fits { IsTrue (fits (table_of self.old) change.now) }
         requires tied { IsTied (table_of self.old) self.old.groups }
         requires early { self.old.clock.now < 2 ^ 53 }

@@ -58,8 +58,8 @@ const CONFIG_TYPE: u8 = 0x00;
 /// The type of a notification.
 const TCN_TYPE: u8 = 0x80;
 
-/// The least length of a frame, without its check sequence.
-const LEAST_LENGTH: usize = 60;
+/// The bytes of a frame that carries a message: the least length of a frame, without its check sequence.
+pub const BPDU_LENGTH: usize = 60;
 
 /// Reads a spanning tree message: an untagged frame to 01-80-C2-00-00-00 whose type field is the length of what
 /// follows, then 42 42 03, protocol 2 bytes, version 1, type 1 (IEEE 802.1D-1998 section 9.3). Any version is taken.
@@ -114,11 +114,11 @@ fn config_at(b: &[u8]) -> BpduMsg
 
 /// The frame that carries the message, in the form that `bpdu_read` takes: version 0, `own` as its source, and zeros up
 /// to 60 bytes.
-pub fn bpdu_write(alloc: Global, own: Mac, m: &BpduMsg) -> Result<Bytes, NoMemory>
-    ensures value { IfOk result (λ out. out ≡ written own m.now) }
-    ensures read_back { IfOk result (λ out. bpdu out ≡ Some m.now) }
+pub fn bpdu_frame(own: Mac, m: &BpduMsg) -> [u8; BPDU_LENGTH]
+    ensures value { result ≡ written own m.now }
+    ensures read_back { bpdu result ≡ Some m.now }
 {
-    let frame = match *m {
+    match *m {
         BpduMsg::Config {
             flags,
             root,
@@ -143,15 +143,22 @@ pub fn bpdu_write(alloc: Global, own: Mac, m: &BpduMsg) -> Result<Bytes, NoMemor
             frame
         }
         BpduMsg::Tcn => frame_from(own, TCN_LENGTH, TCN_TYPE),
-    };
-    Bytes::copy_of(alloc, &frame)
+    }
+}
+
+/// The same, in memory of its own.
+pub fn bpdu_write(alloc: Global, own: Mac, m: &BpduMsg) -> Result<Bytes, NoMemory>
+    ensures value { IfOk result (λ out. out ≡ written own m.now) }
+    ensures read_back { IfOk result (λ out. bpdu out ≡ Some m.now) }
+{
+    Bytes::copy_of(alloc, &bpdu_frame(own, m))
 }
 
 // A frame of this type, with zeros behind the type.
-fn frame_from(own: Mac, length: u16, kind: u8) -> [u8; LEAST_LENGTH]
+fn frame_from(own: Mac, length: u16, kind: u8) -> [u8; BPDU_LENGTH]
     ensures { result ≡ padded (bytes_high_first 6 bridge_group_address ++ (bytes_high_first 6 own ++ (bytes_high_first 2 length ++ (llc_and_protocol ++ 0 ∷ kind ∷ [])))) }
 {
-    let mut frame = [0; LEAST_LENGTH];
+    let mut frame = [0; BPDU_LENGTH];
     BigEndian::write_u48(&mut frame, Mac::BRIDGE_GROUP_ADDRESS);
     BigEndian::write_u48(&mut frame[6..], own.number());
     BigEndian::write_u16(&mut frame[TYPE_AT..], length);

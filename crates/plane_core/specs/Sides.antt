@@ -71,13 +71,13 @@ abbrev pub soft_side : SidesState → Table
 soft_side s = table s.published.changes
 
 -- The changes of the reaction were made, and are so many, the chip keeps this, and the lines of the messages were added; or
--- nothing changed. After want of memory the lines are any.
+-- nothing changed.
 abbrev pub Reacted : SidesState → SidesState → Chip → List Line → List Line → Result ℕ EventFault → Result Reaction Refusal → Type 0
 Reacted old new kept before after (Ok changes) answer =
     (r : Reaction) × (answer ≡ Ok r) × (changes ≡ length r.changes) × (new ≡ record old { history = old.history ++ r.changes; control = r.control; chip = kept })
     × (after ≡ before ++ control_lines old.setup.own r.messages)
 Reacted old new kept before after (Err (Refused why)) answer = (answer ≡ Err why) × (new ≡ old) × (after ≡ before)
-Reacted old new kept before after (Err NoMemory) answer = new ≡ old
+Reacted old new kept before after (Err NoMemory) answer = (new ≡ old) × (after ≡ before)
 
 -- the last line of a step in which an event came to so many changes, or was refused
 abbrev pub Lasts : ℕ → Result ℕ EventFault → Result Line AllocError → Type 0

@@ -1,5 +1,5 @@
 //! The frames on their way to software.
-ghost use Rattle.std.specs.Prelude.{◌≡◌, ◌==◌, ◌+◌, ◌<◌, ◌^◌, ◌++◌, ◌∷◌, [], not, nat_lt, length, drop, slice_get, Option, Some, None, Ok, IfOk, OnOk, OnErr};
+ghost use Rattle.std.specs.Prelude.{◌≡◌, ◌==◌, ◌+◌, ◌<◌, ◌≤◌, ◌^◌, ◌++◌, ◌∷◌, [], not, nat_lt, length, drop, slice_get, Option, Some, None, Ok, IfOk, OnOk, OnErr};
 ghost use Rattle.std.specs.List.{filter, find};
 ghost use Rattle.std.specs.Option.{option_copied};
 ghost use Rattle.br_model.specs.Table.Limits.{most_waiting};
@@ -20,6 +20,7 @@ use hwdom_marks::Mark;
 use std::alloc::{AllocError, Global};
 use std::collections::{BTreeMap, VecDeque};
 use std::marker::Model;
+use transcript_lines::Lines;
 
 /// What becomes of a frame that enters.
 #[derive(Drop)]
@@ -32,16 +33,16 @@ pub(crate) enum Arrival {
 }
 
 impl Arrival {
-    /// Adds the line that says of the frame with this id that it doesn't wait for want of room, if so.
-    pub(crate) fn tell(&self, id: u32, lines: &mut Vec<Line>) -> Result<(), NoMemory>
-        ensures { OnOk result (lines.new.items ≡ lines.old.items ++ arrival_lines id self.now) }
+    /// Adds the line that says of the frame with this id that it doesn't wait for want of room, if so. There is room for the line.
+    pub(crate) fn tell(&self, id: u32, lines: &mut Lines)
+        requires { 1 ≤ lines.old.rows }
+        ensures { lines.new.lines ≡ lines.old.lines ++ arrival_lines id self.now }
     {
         match self {
-            Arrival::Overruns => lines.push(Line::Overrun { id })?,
+            Arrival::Overruns => lines.push_reserved(Line::Overrun { id }),
             Arrival::PassesBy => {}
             Arrival::Waits(_) => {}
         }
-        Ok(())
     }
 }
 

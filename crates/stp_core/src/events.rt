@@ -1,18 +1,17 @@
 //! The events of the tree, as the control plane tells them.
 ghost use Rattle.std.specs.Prelude.{◌≡◌, ◌/◌, ◌%◌, ◌==◌, ◌<◌, ◌≤◌, ◌^◌, [], ◌∷◌, Some, None, true, IsSome, if◌then◌else◌};
 ghost use Rattle.br_model.specs.Table.Domains.{port_places};
-ghost use Rattle.br_model.specs.Tree.Tree.{fresh, bpdu_of};
+ghost use Rattle.br_model.specs.Tree.Tree.{Tree as TreeValue, fresh, bpdu_of};
 ghost use Rattle.br_model.specs.declared.tree.TreeEvent.TheVariants.{Switch, Up, Down, Message, Cost};
 ghost use Rattle.br_model.specs.Tree.Step.{settled, with_kept, passed_on, config_received, tcn_received, received_at, tree_step, message};
 ghost use Rattle.br_model.specs.Tree.States.{blocking};
 ghost use Rattle.br_model.specs.Forward.Admission.{forwarding};
 ghost use Rattle.stp_core.specs.Acting.{acted};
-ghost use Rattle.stp_core.specs.Places.{entries_at};
-ghost use Rattle.stp_core.specs.Settling.{moved_from, follows_by, ranked, ranking};
+ghost use Rattle.stp_core.specs.Settling.{AreStates, follows_by, out_of, ranked, ranking};
 
 use crate::messages::Sent;
 use crate::parameters::Parameters;
-use crate::places::{Places, change_at, put_port, take_port};
+use crate::places::{States, change_at, put_port, take_port};
 use crate::rules::{BLOCKING, Costing, FORWARDING, Keeping, Owing, Ranking};
 use crate::steps::{Before, nothing_sent};
 use crate::tree::TreeOut;
@@ -62,8 +61,8 @@ fn acknowledges(m: &ConfigMsg) -> bool
 
 impl Parameters {
     /// What is answered.
-    pub(crate) fn out(&self, before: &Places, sent: Sent) -> TreeOut
-        ensures { result ≡ record { moved = moved_from (entries_at 0 before.now) self.now; config = sent.config; tcn = sent.tcn } }
+    pub(crate) fn out(&self, before: &States, sent: Sent) -> TreeOut
+        ensures { (old : TreeValue) → AreStates before.now old → result ≡ out_of old (acted self.now sent) }
     {
         TreeOut {
             moved: self.moved_from(before),

@@ -5,9 +5,9 @@ ghost use Rattle.br_model.specs.Table.Domains.{port_places};
 ghost use Rattle.br_model.specs.Tree.Tree.{first_tree, bridge_id, port_at, state_at};
 ghost use Rattle.br_model.specs.Tree.Vectors.{root_of, root_kept, is_root};
 ghost use Rattle.br_model.specs.Tree.Timers.{times, forward_delay, is_changing, hold};
-ghost use Rattle.stp_core.specs.Places.{entries_at};
+ghost use Rattle.stp_core.specs.Settling.{AreStates};
 
-use crate::places::Places;
+use crate::places::{Places, States, states_of};
 use crate::timers::{milliseconds, times_of};
 use crate::vectors::{Election, elect};
 use br_model::numbers::{Mac, Port};
@@ -67,11 +67,11 @@ impl Parameters {
         }
     }
 
-    /// What is kept of the ports.
-    pub(crate) fn places(&self) -> Places
-        ensures { entries_at 0 result ≡ self.now.ports }
+    /// The state of each port.
+    pub(crate) fn states(&self) -> States
+        ensures { AreStates result self.now }
     {
-        self.places
+        states_of(&self.places)
     }
 
     /// The identifier of the bridge: its priority, then its address.

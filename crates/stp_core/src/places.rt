@@ -1,12 +1,14 @@
 //! Ports in an array with a place for each, and passes over those that are up.
-ghost use Rattle.std.specs.Prelude.{◌≡◌, ◌<◌, ◌==◌, ℕ, Bool, if◌then◌else◌};
+ghost use Rattle.std.specs.Prelude.{◌≡◌, ◌<◌, ◌==◌, ℕ, Bool, get_or, if◌then◌else◌};
 ghost use Rattle.std.specs.Ordering.{nat_cmp};
 ghost use Rattle.br_model.specs.Data.Maps.{put, without};
 ghost use Rattle.std.specs.List.{filter, list_any};
 ghost use Rattle.br_model.specs.Table.Domains.{port_places};
 ghost use Rattle.br_model.specs.declared.tree.TreePort.{TreePort as PortValue};
 ghost use Rattle.br_model.specs.Tree.Tree.{each, numbers};
+ghost use Rattle.br_model.specs.Table.Table.{disabled};
 ghost use Rattle.stp_core.specs.Places.{entries_at};
+ghost use Rattle.stp_core.specs.Settling.{state_in};
 
 use br_model::numbers::Port;
 use br_model::tree::TreePort;
@@ -14,6 +16,9 @@ use port_sets::Ports;
 
 /// What is kept of each port, by its number; `None` where it isn't up.
 pub(crate) type Places = [Option<TreePort>; Port::PLACES];
+
+/// The state of each port, by its number; that of a disabled port where it isn't up.
+pub(crate) type States = [u8; Port::PLACES];
 
 /// What happens at one port.
 pub(crate) trait Rule {
@@ -64,6 +69,19 @@ pub(crate) fn any_port<T: Test>(test: &T, places: &Places) -> bool
     ensures { result ≡ list_any (T.holds test.now) (entries_at 0 places.now) }
 {
     !ports_where(test, places).is_empty()
+}
+
+/// The state of each port.
+pub(crate) fn states_of(places: &Places) -> States
+    ensures { (p : ℕ) → get_or result p disabled ≡ state_in (entries_at 0 places.now) p }
+{
+    let mut states = [0; Port::PLACES];
+    for p in 0..Port::PLACES as u8 {
+        if let Some(x) = &places[usize::from(p)] {
+            states[usize::from(p)] = x.state;
+        }
+    }
+    states
 }
 
 /// The rule at this port, if it is up.

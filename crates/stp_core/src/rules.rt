@@ -5,13 +5,13 @@ ghost use Rattle.br_model.specs.Tree.Vectors.{without_kept, is_designated_by, is
 ghost use Rattle.br_model.specs.Tree.Timers.{is_aged_out, forgets};
 ghost use Rattle.br_model.specs.Tree.States.{by_role, enters, is_open, states_follow, states_move, listening, learning, is_blocked_by_roles, is_opened_by_time};
 ghost use Rattle.br_model.specs.Tree.Sending.{is_put_off, drops_put_off};
-ghost use Rattle.br_model.specs.Tree.Step.{restarted, on_at, off_at};
+ghost use Rattle.br_model.specs.Tree.Step.{moved, restarted, on_at, off_at};
+ghost use Rattle.br_model.specs.Tree.Tree.{Tree as TreeValue};
 ghost use Rattle.br_model.specs.Table.Table.{disabled};
-ghost use Rattle.stp_core.specs.Places.{entries_at};
-ghost use Rattle.stp_core.specs.Settling.{moved_from};
+ghost use Rattle.stp_core.specs.Settling.{AreStates};
 
 use crate::parameters::Parameters;
-use crate::places::{Places, Rule, Test, any_port, change_each, ports_where};
+use crate::places::{Rule, States, Test, any_port, change_each, ports_where};
 use crate::timers::{has_passed, is_aged_out, is_held};
 use crate::vectors::{Election, is_designated, is_root_port};
 use br_model::tree::{Stamped, TreePort};
@@ -277,17 +277,17 @@ impl Rule for Ranking {
 /// Whether the port was in another state; it was disabled where it wasn't up.
 #[derive(Clone, Copy)]
 struct Moved<'a> {
-    before: &'a Places,
+    before: &'a States,
 }
 
 impl Test for Moved<'_> {
-    ghost holds = { λ t e. not (option_map_or (λ x. x.state) (get_or t.before.now e.0 None) disabled == e.1.state) };
+    ghost holds = { λ t e. not (get_or t.before.now e.0 disabled == e.1.state) };
 
     fn passes(&self, p: u8, x: &TreePort) -> bool {
         let before = self.before;
         match before.get(usize::from(p)) {
-            Some(Some(was)) => was.state != x.state,
-            Some(None) | None => x.state != DISABLED,
+            Some(was) => *was != x.state,
+            None => x.state != DISABLED,
         }
     }
 }
@@ -317,8 +317,8 @@ impl Parameters {
     }
 
     /// The ports whose state isn't as it was.
-    pub(crate) fn moved_from(&self, before: &Places) -> Ports
-        ensures { result ≡ moved_from (entries_at 0 before.now) self.now }
+    pub(crate) fn moved_from(&self, before: &States) -> Ports
+        ensures { (old : TreeValue) → AreStates before.now old → result ≡ moved old self.now }
     {
         ports_where(&Moved { before }, &self.places)
     }

@@ -103,7 +103,7 @@ impl Tree {
     {
         // law: events keep the states known
         known_states();
-        let before = self.parameters.places();
+        let before = self.parameters.states();
         let sent = self.parameters.turn(on, now);
         self.due = self.parameters.due();
         self.parameters.out(&before, sent)
@@ -117,7 +117,7 @@ impl Tree {
     {
         // law: events keep the states known
         known_states();
-        let before = self.parameters.places();
+        let before = self.parameters.states();
         let sent = self.parameters.bring_up(p.number(), now);
         self.due = self.parameters.due();
         self.parameters.out(&before, sent)
@@ -131,7 +131,7 @@ impl Tree {
     {
         // law: events keep the states known
         known_states();
-        let before = self.parameters.places();
+        let before = self.parameters.states();
         let sent = self.parameters.take_down(p.number(), now);
         self.due = self.parameters.due();
         self.parameters.out(&before, sent)
@@ -146,7 +146,7 @@ impl Tree {
     {
         // law: events keep the states known
         known_states();
-        let before = self.parameters.places();
+        let before = self.parameters.states();
         let sent = self.parameters.receive(p.number(), m, now);
         self.due = self.parameters.due();
         self.parameters.out(&before, sent)
@@ -182,7 +182,7 @@ impl Tree {
     {
         // law: events keep the states known
         known_states();
-        let before = self.parameters.places();
+        let before = self.parameters.states();
         let sent = self.parameters.pass_moment(now);
         self.due = self.parameters.due();
         self.parameters.out(&before, sent)
@@ -196,7 +196,7 @@ impl Tree {
     {
         // law: events keep the states known
         known_states();
-        let before = self.parameters.places();
+        let before = self.parameters.states();
         let sent = self.parameters.set_cost_at(p.number(), n, now);
         self.due = self.parameters.due();
         self.parameters.out(&before, sent)
@@ -211,7 +211,7 @@ impl Tree {
     {
         // law: events keep the states known
         known_states();
-        let before = self.parameters.places();
+        let before = self.parameters.states();
         let sent = self.parameters.set_priority_at(p, n, now);
         self.due = self.parameters.due();
         self.parameters.out(&before, sent)

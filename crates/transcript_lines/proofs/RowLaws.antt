@@ -1,8 +1,7 @@
 -- Bytes that come to the arena leave what stands in it.
-use Rattle.std.proofs.Common.{arith, ◌≡◌, ℕ, ◌+◌, ◌-◌, ◌≤◌, List, [], ◌∷◌, ◌++◌, length, map, take, drop, refl, sym, ap, ap₂, ◌∙◌, subst}
-use Rattle.std.specs.List.{flat_map}
+use Rattle.std.proofs.Common.{arith, ◌≡◌, ℕ, zero, suc, ◌+◌, ◌≤◌, List, [], ◌∷◌, ◌++◌, length, take, drop, refl, sym, ap, ap₂, ◌∙◌, subst}
 use Rattle.std.proofs.Math.Seq.{take-length, drop-append_seam}
-use Rattle.std.proofs.lemmas.List.{append-nil, append_assoc, length-append, take-append-le, drop-append-le, length-drop}
+use Rattle.std.proofs.lemmas.List.{append-nil, length-append, take-append-le, drop-append-le, length-drop}
 use Rattle.std.proofs.lemmas.Grind.{flat_map-append}
 use Rattle.br_model.specs.declared.transcript.Line.{Line}
 use Rattle.br_model.specs.declared.transcript.Line.TheVariants as lines
@@ -82,3 +81,28 @@ fits arena after more s grown from len = omega (arith, from, len, ap length grow
 
 pub grows : (arena after more : List ℕ) → after ≡ arena ++ more → length arena ≤ length after
 grows arena after more grown = omega (arith, ap length grown ∙ length-append arena more)
+
+inside-take : (n k : ℕ) (rows : List Row) → AreInside n rows → AreInside n (take k rows)
+inside-take n zero rows inside = tt
+inside-take n (suc k) [] inside = tt
+inside-take n (suc k) (row ∷ rows) inside = (inside.0, inside-take n k rows inside.1)
+
+-- what is before the mark stays
+pub marked_kept : (arena more after : List ℕ) (rows now : List Row) (row : Row) (mark : ℕ) (before : List Line) → AreInside (length arena) rows → mark ≤ length rows
+    → expand arena (take mark rows) ≡ before → after ≡ arena ++ more → now ≡ rows ++ row ∷ [] → expand after (take mark now) ≡ before
+marked_kept arena more after rows now row mark before inside low is grown more_rows =
+    ap₂ (λ a r. expand a (take mark r)) grown more_rows
+    ∙ ap (expand (arena ++ more)) (take-append-le mark rows (row ∷ []) low)
+    ∙ expand-more arena more (take mark rows) (inside-take (length arena) mark rows inside)
+    ∙ is
+
+pub marked_kept_one : (arena : List ℕ) (rows now : List Row) (row : Row) (mark : ℕ) (before : List Line) → mark ≤ length rows
+    → expand arena (take mark rows) ≡ before → now ≡ rows ++ row ∷ [] → expand arena (take mark now) ≡ before
+marked_kept_one arena rows now row mark before low is more_rows =
+    ap (λ r. expand arena (take mark r)) more_rows ∙ ap (expand arena) (take-append-le mark rows (row ∷ []) low) ∙ is
+
+pub mark_low : (mark : ℕ) (rows now : List Row) (row : Row) → mark ≤ length rows → now ≡ rows ++ row ∷ [] → mark ≤ length now
+mark_low mark rows now row low more_rows = omega (arith, low, ap length more_rows ∙ length-append rows (row ∷ []))
+
+pub inside_cut : (n mark : ℕ) (rows now : List Row) → AreInside n rows → now ≡ take mark rows → AreInside n now
+inside_cut n mark rows now inside is = subst (AreInside n) (sym is) (inside-take n mark rows inside)

@@ -1,5 +1,5 @@
 -- Rows of lines over an arena of bytes, and the lines that they stand for.
-use Rattle.std.specs.Prelude.{◌≡◌, ℕ, ◌+◌, ◌≤◌, if◌then◌else◌, List, [], ◌∷◌, map, take, drop}
+use Rattle.std.specs.Prelude.{ℕ, ◌+◌, ◌≤◌, if◌then◌else◌, List, [], ◌∷◌, map, take, drop}
 use Rattle.std.specs.List.{flat_map}
 use Rattle.br_model.specs.declared.transcript.Line.{Line}
 use Rattle.br_model.specs.declared.transcript.Line.TheVariants as lines
@@ -36,8 +36,9 @@ abbrev pub AreInside : ℕ → List Row → Type 0
 AreInside most [] = Unit
 AreInside most (row ∷ rows) = IsInside most row × AreInside most rows
 
--- Lines, and the room beside them: how many more rows and bytes they have place for.
+-- Lines, those of them before the mark, and the room beside them: how many more rows and bytes they have place for.
 pub record Listed : Type 0 where
   pub lines : List Line
+  pub marked : List Line
   pub rows : ℕ
   pub bytes : ℕ

@@ -13,22 +13,24 @@ use std::marker::Model;
 
 /// Lines in the order in which they are written, and room for more. Room is taken first; what is pushed into it can't fail.
 ///
-/// Contracts see the list of the lines, and beside it how many more rows and bytes there is room for.
+/// Contracts see the list of the lines, those before the mark, and how many more rows and bytes there is room for.
 #[derive(Drop)]
 pub struct Lines {
     rows: Vec<Row>,
     bytes: Vec<u8>,
+    // How many rows there were when the mark was set.
+    mark: usize,
 }
 
 impl Model for Lines {
-    ghost use Rattle.std.specs.Prelude.{◌-◌, ◌≤◌, length, vec_len, vec_capacity};
+    ghost use Rattle.std.specs.Prelude.{◌-◌, ◌≤◌, length, take, vec_len, vec_capacity};
     ghost use Rattle.transcript_lines.specs.Rows.{Listed, AreInside, expand};
 
     ghost Value = { Listed };
 
-    ghost view = { λ l. record { lines = expand l.bytes.items l.rows.items; rows = vec_capacity l.rows - vec_len l.rows; bytes = vec_capacity l.bytes - vec_len l.bytes } };
+    ghost view = { λ l. record { lines = expand l.bytes.items l.rows.items; marked = expand l.bytes.items (take l.mark l.rows.items); rows = vec_capacity l.rows - vec_len l.rows; bytes = vec_capacity l.bytes - vec_len l.bytes } };
 
-    ghost invariant = { λ l. AreInside (length l.bytes.items) l.rows.items × (vec_len l.rows ≤ vec_capacity l.rows) × (vec_len l.bytes ≤ vec_capacity l.bytes) };
+    ghost invariant = { λ l. AreInside (length l.bytes.items) l.rows.items × (l.mark ≤ length l.rows.items) × (vec_len l.rows ≤ vec_capacity l.rows) × (vec_len l.bytes ≤ vec_capacity l.bytes) };
 }
 
 /// Adds bytes, for which there is room.
@@ -66,20 +68,23 @@ fn store(arena: &mut Vec<u8>, front: &[u8], tag: &[u8], rest: &[u8]) -> Span
 impl Lines {
     /// No line, and no room: it takes no memory.
     pub fn new(alloc: Global) -> Lines
-        ensures { result ≡ record { lines = []; rows = 0; bytes = 0 } }
+        ensures { result ≡ record { lines = []; marked = []; rows = 0; bytes = 0 } }
     {
         Lines {
             rows: Vec::new(alloc),
             bytes: Vec::new(alloc),
+            mark: 0,
         }
     }
 
     /// The lines leave, and the room stays.
     pub fn clear(&mut self)
         ensures lines { self.new.lines ≡ [] }
+        ensures marked { self.new.marked ≡ [] }
         ensures rows { self.old.rows ≤ self.new.rows }
         ensures bytes { self.old.bytes ≤ self.new.bytes }
     {
+        self.mark = 0;
         self.rows.clear();
         self.bytes.clear();
     }
@@ -87,6 +92,7 @@ impl Lines {
     /// Room for so many more rows and bytes.
     pub fn reserve(&mut self, rows: usize, bytes: usize) -> Result<(), NoMemory>
         ensures lines { self.new.lines ≡ self.old.lines }
+        ensures marked { self.new.marked ≡ self.old.marked }
         ensures rows { OnOk result (rows ≤ self.new.rows) }
         ensures bytes { OnOk result (bytes ≤ self.new.bytes) }
         ensures kept_rows { self.old.rows ≤ self.new.rows }
@@ -101,6 +107,7 @@ impl Lines {
     pub fn push(&mut self, line: Line) -> Result<(), NoMemory>
         ensures ok { OnOk result (self.new.lines ≡ self.old.lines ++ line ∷ []) }
         ensures err { OnErr result (self.new ≡ self.old) }
+        ensures marked { self.new.marked ≡ self.old.marked }
         ensures bytes { self.new.bytes ≡ self.old.bytes }
     {
         self.rows.reserve(1)?;
@@ -112,6 +119,7 @@ impl Lines {
     pub fn push_reserved(&mut self, line: Line)
         requires { 1 ≤ self.old.rows }
         ensures lines { self.new.lines ≡ self.old.lines ++ line ∷ [] }
+        ensures marked { self.new.marked ≡ self.old.marked }
         ensures rows { self.new.rows + 1 ≡ self.old.rows }
         ensures bytes { self.new.bytes ≡ self.old.bytes }
     {
@@ -123,6 +131,7 @@ impl Lines {
         requires rows { 1 ≤ self.old.rows }
         requires bytes { length bytes.now ≤ self.old.bytes }
         ensures lines { self.new.lines ≡ self.old.lines ++ line.Ctl port bytes.now ∷ [] }
+        ensures marked { self.new.marked ≡ self.old.marked }
         ensures rows { self.new.rows + 1 ≡ self.old.rows }
         ensures bytes { self.old.bytes ≤ self.new.bytes + length bytes.now }
     {
@@ -144,6 +153,7 @@ impl Lines {
         requires rows { 1 ≤ self.old.rows }
         requires bytes { (length front.now + length rest.now) + (length front.now + (length tag.now + length rest.now)) ≤ self.old.bytes }
         ensures lines { self.new.lines ≡ self.old.lines ++ sent_lines id ports untagged (front.now ++ rest.now) (front.now ++ (tag.now ++ rest.now)) }
+        ensures marked { self.new.marked ≡ self.old.marked }
         ensures rows { self.new.rows + 1 ≡ self.old.rows }
         ensures bytes { self.old.bytes ≤ self.new.bytes + ((length front.now + length rest.now) + (length front.now + (length tag.now + length rest.now))) }
     {
@@ -156,6 +166,26 @@ impl Lines {
             plain,
             tagged,
         });
+    }
+
+    /// Sets the mark behind the lines that there are.
+    pub fn mark(&mut self)
+        ensures marked { self.new.marked ≡ self.old.lines }
+        ensures lines { self.new.lines ≡ self.old.lines }
+        ensures rows { self.new.rows ≡ self.old.rows }
+        ensures bytes { self.new.bytes ≡ self.old.bytes }
+    {
+        self.mark = self.rows.len();
+    }
+
+    /// Takes back the lines behind the mark.
+    pub fn cut(&mut self)
+        ensures lines { self.new.lines ≡ self.old.marked }
+        ensures marked { self.new.marked ≡ self.old.marked }
+        ensures rows { self.old.rows ≤ self.new.rows }
+        ensures bytes { self.new.bytes ≡ self.old.bytes }
+    {
+        self.rows.truncate(self.mark);
     }
 
     /// The rows, and the arena in which their bytes stand: these rows over these bytes stand for the lines.
@@ -173,7 +203,9 @@ mod tests {
     use std::test::Fail;
 
     const FRONT: [u8; 3] = [1, 2, 3];
+
     const TAG: [u8; 2] = [9, 9];
+
     const REST: [u8; 2] = [4, 5];
 
     #[test]
@@ -185,7 +217,10 @@ mod tests {
         lines.push_ctl(Port::HOST, &[6, 6]);
         let ports = Ports::empty().with(1).with(5).with(9);
         lines.push_sent(7, ports, Ports::empty().with(5), &FRONT, &TAG, &REST);
-        lines.push_reserved(Line::Done { step: 1, changes: 0 });
+        lines.push_reserved(Line::Done {
+            step: 1,
+            changes: 0,
+        });
         let (rows, arena) = lines.parts();
         assert!(rt; rows.len() == 4);
         match rows[1] {
@@ -208,6 +243,13 @@ mod tests {
             }
             Row::One(_) | Row::Ctl { .. } => assert!(rt; false),
         }
+        lines.mark();
+        lines.push(Line::Done {
+            step: 2,
+            changes: 0,
+        })?;
+        lines.cut();
+        assert!(rt; lines.parts().0.len() == 4);
         lines.clear();
         assert!(rt; lines.parts().0.is_empty() && lines.parts().1.is_empty());
         Ok(())

@@ -16,8 +16,8 @@ returns-in-Known-clause-plans c =
     let t = table_of c.args.state.now in
     let control = control_of c.args.state.now in
     let key : Address = (c.args.vid, c.args.mac) in
-    let is = c.nothing.ensures in
-    makes t control c.nothing.result _ [] (subst (λ (x : Clock). x.now < 2 ^ 53) (sym is.clock) c.requires) (ap (λ (x : Clock). clocked x control) is.clock) is.renewed is.changes is.told refl
+    let is = c.telling.ensures in
+    makes t control c.telling.result _ [] (subst (λ (x : Clock). x.now < 2 ^ 53) (sym is.clock) c.requires) (ap (λ (x : Clock). clocked x control) is.clock) is.renewed is.changes is.told refl
     (learns_known t control key c.args.port c.in-Known.ensures)
 
 pub returns-in-Renewed-clause-plans : goal.returns-in-Renewed-clause-plans

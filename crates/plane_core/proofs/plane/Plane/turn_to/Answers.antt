@@ -1,6 +1,6 @@
 use Rattle.std.proofs.Common.{refl}
 use Rattle.plane_core.proofs.Calling.{stands_turned}
-use Rattle.plane_core.proofs.plane.Plane.turn.Goals as goal
+use Rattle.plane_core.proofs.plane.Plane.turn_to.Goals as goal
 
 pub invariant_of-self-2 : goal.invariant_of-self-2
 invariant_of-self-2 c =
