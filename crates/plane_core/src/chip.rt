@@ -54,7 +54,8 @@ pub(crate) fn dom() -> Dom
 /// Tells the driver of a change, unless it is a deferred one.
 fn tell(driver: &mut Driver, change: &Change)
     requires { deferred change.now ≡ false → IsTaken driver.old change.now }
-    ensures { (domains : DomainsValue) (t : Table) → Drives domains driver.old t → Drives domains driver.new (if deferred change.now then t else apply t change.now) }
+    ensures { (domains : DomainsValue) (t : Table) → Drives domains driver.old t
+        → Drives domains driver.new (if deferred change.now then t else apply t change.now) }
 {
     deliver(driver, &notice_of(change));
 }
@@ -64,7 +65,8 @@ fn tell_from(driver: &mut Driver, history: &[Change], from: usize)
     requires from { from ≤ length history.now }
     requires history { AreWithin history.now }
     requires stands { IsCut (take from history.now) driver.old }
-    ensures { (domains : DomainsValue) (k : ℕ) → k ≤ deferred_count (take from history.now) → Drives domains driver.old (table (cut (take from history.now) k)) → Drives domains driver.new (table (cut history.now k)) }
+    ensures { (domains : DomainsValue) (k : ℕ) → k ≤ deferred_count (take from history.now)
+        → Drives domains driver.old (table (cut (take from history.now) k)) → Drives domains driver.new (table (cut history.now k)) }
 {
     for place in from..history.len() {
         tell(driver, &history[place]);
@@ -226,7 +228,8 @@ impl Chip {
 
     /// The stations that it learned at its own ports and that no frame hit, ascending by VLAN and address.
     pub fn unhit(&self, alloc: Global) -> Result<Triples, NoMemory>
-        ensures { IfOk result (λ stations. (domains : DomainsValue) (t : Table) → Drives domains self.now.driver t → stations ≡ unhit domains t self.now.chip) }
+        ensures { IfOk result (λ stations. (domains : DomainsValue) (t : Table) → Drives domains self.now.driver t
+            → stations ≡ unhit domains t self.now.chip) }
     {
         sweep::unhit(alloc, self.driver.tables(), &self.reports)
     }

@@ -66,7 +66,8 @@ impl Model for Frames {
 
     ghost view = { λ f. record { waiting = f.waiting.items; held = held_in f.held.entries; next = f.next } };
 
-    ghost invariant = { λ f. (most_waiting ≤ deque_capacity f.waiting) × IsKeyed f.held.entries × IsQueued (record { waiting = f.waiting.items; held = held_in f.held.entries; next = f.next }) };
+    ghost invariant = { λ f. (most_waiting ≤ deque_capacity f.waiting) × IsKeyed f.held.entries
+        × IsQueued (record { waiting = f.waiting.items; held = held_in f.held.entries; next = f.next }) };
 }
 
 impl Frames {
@@ -121,7 +122,13 @@ impl Frames {
     ) -> Result<Arrival, NoMemory>
         requires frame { frame_of bytes.now ≡ Ok head.now }
         requires message { message.now ≡ message_of bytes.now head.now }
-        ensures { IfOk result (λ a. a ≡ arrival self.now (record { id = self.now.next; port = port; bytes = bytes.now; head = head.now; mark = domain_marked mark })) }
+        ensures { IfOk result (λ a. a ≡ arrival self.now (record {
+          id = self.now.next;
+          port = port;
+          bytes = bytes.now;
+          head = head.now;
+          mark = domain_marked mark;
+        })) }
     {
         if self.is_full() {
             return Ok(Arrival::Overruns);

@@ -332,7 +332,13 @@ impl Plane {
     }
 
     /// As `post`, with the lines of the step behind these.
-    pub fn post_to(&mut self, alloc: Global, h: Held, s: Seen, lines: &mut Lines) -> Result<(), PostFault>
+    pub fn post_to(
+        &mut self,
+        alloc: Global,
+        h: Held,
+        s: Seen,
+        lines: &mut Lines,
+    ) -> Result<(), PostFault>
         requires floor { h.floor ≤ s.point }
         requires decision { (x : HoldingOf) → IsCopy self.old.world h x → s.point ≤ self.old.world.published → IsDecision self.old.world x s }
         ensures { PostedTo self.old self.new h s lines.old.lines lines.new.lines result }
@@ -419,7 +425,12 @@ impl Plane {
     }
 
     /// As `serve`, with the lines of the step behind these.
-    pub fn serve_to(&mut self, alloc: Global, s: &mut Seat, lines: &mut Lines) -> Result<(), NoMemory>
+    pub fn serve_to(
+        &mut self,
+        alloc: Global,
+        s: &mut Seat,
+        lines: &mut Lines,
+    ) -> Result<(), NoMemory>
         requires { s.old.board ≡ self.old.board }
         ensures ok { OnOk result (Added (Steps self.old self.new Serve) lines.old.lines lines.new.lines) }
         ensures err { OnErr result (self.new ≡ self.old) }

@@ -35,7 +35,8 @@ pub(crate) struct Egress {
 impl Egress {
     /// That of the frame at the chip.
     pub(crate) fn of_pass(pass: &Pass) -> Egress
-        ensures { (domains : DomainsValue) (t : Table) (port : ℕ) (bytes : List ℕ) (head : HeadValue) → IsPass domains t port head (message bytes head) pass.now
+        ensures { (domains : DomainsValue) (t : Table) (port : ℕ) (bytes : List ℕ) (head : HeadValue)
+            → IsPass domains t port head (message bytes head) pass.now
             → (id : ℕ) → lines_of id bytes head result ≡ sent id (chip_out domains t port bytes head) }
     {
         Egress {

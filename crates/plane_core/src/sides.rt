@@ -59,7 +59,14 @@ impl Model for Sides {
 
     ghost Value = { SidesState };
 
-    ghost view = { λ s. record { setup = s.bridge.setup; history = s.bridge.history; control = s.bridge.control; chip = s.chip.chip; published = s.board.object; board = s.board.board } };
+    ghost view = { λ s. record {
+      setup = s.bridge.setup;
+      history = s.bridge.history;
+      control = s.bridge.control;
+      chip = s.chip.chip;
+      published = s.board.object;
+      board = s.board.board;
+    } };
 
     ghost invariant = { λ s. AreSides s.bridge s.chip s.board };
 }
@@ -131,15 +138,11 @@ impl Sides {
 
     /// The bridge reacts to an event, and the lines of the control frames that leave are added, with room for another line behind
     /// them. The answer is how many changes it made.
-    fn react(
-        &mut self,
-        alloc: Global,
-        event: &Event,
-        lines: &mut Lines,
-    ) -> Result<u32, EventFault>
+    fn react(&mut self, alloc: Global, event: &Event, lines: &mut Lines) -> Result<u32, EventFault>
         requires event { IsEvent event.now }
         requires room { 1 ≤ lines.old.rows }
-        ensures reacted { Reacted self.old self.new self.old.chip lines.old.lines lines.new.lines result (reaction self.old.setup self.old.history self.old.control event.now) }
+        ensures reacted { Reacted self.old self.new self.old.chip lines.old.lines lines.new.lines result
+            (reaction self.old.setup self.old.history self.old.control event.now) }
         ensures marked { lines.new.marked ≡ lines.old.marked }
         ensures room { 1 ≤ lines.new.rows }
     {
@@ -148,14 +151,10 @@ impl Sides {
     }
 
     /// The bridge sees a frame that software sent, as it reacts to an event.
-    fn see(
-        &mut self,
-        alloc: Global,
-        frame: &Frame,
-        lines: &mut Lines,
-    ) -> Result<u32, EventFault>
+    fn see(&mut self, alloc: Global, frame: &Frame, lines: &mut Lines) -> Result<u32, EventFault>
         requires { 1 ≤ lines.old.rows }
-        ensures reacted { Reacted self.old self.new self.old.chip lines.old.lines lines.new.lines result (reaction self.old.setup self.old.history self.old.control (Event.Sight frame.now.port frame.now.bytes frame.now.head)) }
+        ensures reacted { Reacted self.old self.new self.old.chip lines.old.lines lines.new.lines result
+            (reaction self.old.setup self.old.history self.old.control (Event.Sight frame.now.port frame.now.bytes frame.now.head)) }
         ensures marked { lines.new.marked ≡ lines.old.marked }
         ensures room { 1 ≤ lines.new.rows }
     {
@@ -179,7 +178,9 @@ impl Sides {
     ) -> Result<u32, EventFault>
         requires event { IsEvent event.now }
         requires room { 1 ≤ lines.old.rows }
-        ensures reacted { Reacted self.old self.new (record self.old.chip { reports = drop 1 self.old.chip.reports }) lines.old.lines lines.new.lines result (reaction self.old.setup self.old.history self.old.control event.now) }
+        ensures reacted { Reacted self.old self.new
+            (record self.old.chip { reports = drop 1 self.old.chip.reports }) lines.old.lines lines.new.lines result
+            (reaction self.old.setup self.old.history self.old.control event.now) }
         ensures marked { lines.new.marked ≡ lines.old.marked }
         ensures room { 1 ≤ lines.new.rows }
     {
@@ -197,7 +198,8 @@ impl Sides {
     ) -> Result<u32, EventFault>
         requires event { IsEvent event.now }
         requires room { 1 ≤ lines.old.rows }
-        ensures reacted { Reacted self.old self.new (record self.old.chip { hits = [] }) lines.old.lines lines.new.lines result (reaction self.old.setup self.old.history self.old.control event.now) }
+        ensures reacted { Reacted self.old self.new (record self.old.chip { hits = [] }) lines.old.lines lines.new.lines result
+            (reaction self.old.setup self.old.history self.old.control event.now) }
         ensures marked { lines.new.marked ≡ lines.old.marked }
         ensures room { 1 ≤ lines.new.rows }
     {
@@ -226,14 +228,17 @@ impl Sides {
         Ok(())
     }
 
-
     /// The decision of a frame by what is published, by a seat that was told of it. Where the seat has no reading of just that, it is
     /// made anew.
     fn decide(&self, alloc: Global, seat: &mut Seat, frame: &Frame) -> Result<Verdict, NoMemory>
         requires board { seat.old.board ≡ self.now.board }
-        requires told { Begins seat.old.object (record { changes = take (length self.now.published.changes) self.now.history; counts = self.now.published.counts }) }
+        requires told { Begins seat.old.object (record {
+          changes = take (length self.now.published.changes) self.now.history;
+          counts = self.now.published.counts;
+        }) }
         ensures seat { Looks seat.old seat.new }
-        ensures verdict { IfOk result (Decides self.now.setup.domains (soft_side self.now) frame.now.port frame.now.head (message_of frame.now.bytes frame.now.head)) }
+        ensures verdict { IfOk result (Decides self.now.setup.domains (soft_side self.now) frame.now.port frame.now.head
+            (message_of frame.now.bytes frame.now.head)) }
     {
         let published = self.board.published();
         match seat.lookup(frame.port(), frame.head(), frame.message()) {
@@ -255,9 +260,11 @@ impl Sides {
         point: u32,
         lines: &mut Lines,
     ) -> Result<(), NoMemory>
-        requires { Decides self.now.setup.domains (table (take point self.now.history)) frame.now.port frame.now.head (message_of frame.now.bytes frame.now.head) verdict.now }
+        requires { Decides self.now.setup.domains (table (take point self.now.history)) frame.now.port frame.now.head
+            (message_of frame.now.bytes frame.now.head) verdict.now }
         ensures lines { OnOk result (lines.new.lines ≡ lines.old.lines ++ line.Soft frame.now.id point
-            ∷ sent frame.now.id (soft_out self.now.setup.domains (table (take point self.now.history)) frame.now.port frame.now.bytes frame.now.head frame.now.mark)) }
+            ∷ sent frame.now.id (soft_out self.now.setup.domains (table (take point self.now.history))
+            frame.now.port frame.now.bytes frame.now.head frame.now.mark)) }
         ensures err { OnErr result (lines.new.lines ≡ lines.old.lines) }
         ensures marked { lines.new.marked ≡ lines.old.marked }
         ensures room { OnOk result (1 ≤ lines.new.rows) }
@@ -280,7 +287,8 @@ impl Sides {
         point: u32,
         lines: &mut Lines,
     ) -> Result<(), NoMemory>
-        requires { Decides self.old.setup.domains (table (take point self.old.history)) frame.now.port frame.now.head (message_of frame.now.bytes frame.now.head) verdict.now }
+        requires { Decides self.old.setup.domains (table (take point self.old.history)) frame.now.port frame.now.head
+            (message_of frame.now.bytes frame.now.head) verdict.now }
         ensures ok { OnOk result (Added (Comes (λ w. posts w frame.now point) self.old step self.new) lines.old.lines lines.new.lines) }
         ensures err { OnErr result (self.new ≡ self.old) }
         ensures lines { OnErr result (lines.new.lines ≡ lines.old.lines) }
@@ -297,7 +305,6 @@ impl Sides {
         Ok(())
     }
 
-
     /// Sends a frame by what is published, of which the seat was told, and lets the bridge see it.
     pub(crate) fn serve(
         &mut self,
@@ -308,7 +315,10 @@ impl Sides {
         lines: &mut Lines,
     ) -> Result<(), NoMemory>
         requires board { seat.old.board ≡ self.old.board }
-        requires told { Begins seat.old.object (record { changes = take (length self.old.published.changes) self.old.history; counts = self.old.published.counts }) }
+        requires told { Begins seat.old.object (record {
+          changes = take (length self.old.published.changes) self.old.history;
+          counts = self.old.published.counts;
+        }) }
         ensures ok { OnOk result (Added (Comes (λ w. posts w frame.now w.published) self.old step self.new) lines.old.lines lines.new.lines) }
         ensures err { OnErr result (self.new ≡ self.old) }
         ensures lines { OnErr result (lines.new.lines ≡ lines.old.lines) }
@@ -321,7 +331,6 @@ impl Sides {
             Err(_) => Err(AllocError),
         }
     }
-
 
     /// What the chip does with a frame that says this to snooping, at one of its ports.
     pub(crate) fn pass(&self, port: Port, head: &Head, message: &McastMsg) -> Pass
@@ -357,7 +366,12 @@ impl Sides {
     }
 
     /// The bridge is told the chip's oldest report, which leaves unless that is refused.
-    pub(crate) fn report(&mut self, alloc: Global, step: u32, lines: &mut Lines) -> Result<(), NoMemory>
+    pub(crate) fn report(
+        &mut self,
+        alloc: Global,
+        step: u32,
+        lines: &mut Lines,
+    ) -> Result<(), NoMemory>
         ensures ok { OnOk result (Added (Comes (λ w. reports w (Some w.chip)) self.old step self.new) lines.old.lines lines.new.lines) }
         ensures err { OnErr result (self.new ≡ self.old) }
         ensures lines { OnErr result (lines.new.lines ≡ lines.old.lines) }
@@ -375,9 +389,13 @@ impl Sides {
         Ok(())
     }
 
-
     /// The bridge forgets what the chip no longer sees, and no entry is hit, unless that is refused.
-    pub(crate) fn sweep(&mut self, alloc: Global, step: u32, lines: &mut Lines) -> Result<(), NoMemory>
+    pub(crate) fn sweep(
+        &mut self,
+        alloc: Global,
+        step: u32,
+        lines: &mut Lines,
+    ) -> Result<(), NoMemory>
         ensures ok { OnOk result (Added (Comes (λ w. sweeps w (Some w.chip)) self.old step self.new) lines.old.lines lines.new.lines) }
         ensures err { OnErr result (self.new ≡ self.old) }
         ensures lines { OnErr result (lines.new.lines ≡ lines.old.lines) }
@@ -389,7 +407,6 @@ impl Sides {
         lines.push_reserved(last_line(step, outcome)?);
         Ok(())
     }
-
 
     /// All changes are published.
     pub(crate) fn publish(&mut self, alloc: Global) -> Result<(), NoMemory>
@@ -459,7 +476,10 @@ impl Sides {
         requires { seat.old.board ≡ self.old.board }
         ensures same { self.new ≡ self.old }
         ensures board { seat.new.board ≡ seat.old.board }
-        ensures told { Begins seat.new.object (record { changes = take (length self.old.published.changes) self.old.history; counts = self.old.published.counts }) }
+        ensures told { Begins seat.new.object (record {
+          changes = take (length self.old.published.changes) self.old.history;
+          counts = self.old.published.counts;
+        }) }
         ensures kept { Begins seat.new.object seat.old.object }
         ensures misses { seat.new.misses ≡ seat.old.misses }
         ensures published { IsPublished seat.new.object }

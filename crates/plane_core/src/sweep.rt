@@ -43,7 +43,8 @@ fn is_unhit(tables: &Tables, reports: &Reports, vid: Vid, mac: Mac, row: &Addres
 
 /// The station at a key and its port, if the chip no longer sees it there.
 fn unseen(tables: &Tables, reports: &Reports, vid: Vid, mac: Mac) -> Option<(Vid, Mac, Port)>
-    ensures { (domains : Domains) (t : Table) → PortsStand domains tables.now t → result ≡ unseen domains reports.now.hits (vid, mac) (address_at tables.now vid mac) }
+    ensures { (domains : Domains) (t : Table) → PortsStand domains tables.now t
+        → result ≡ unseen domains reports.now.hits (vid, mac) (address_at tables.now vid mac) }
 {
     let row = tables.address(vid, mac)?;
     if is_unhit(tables, reports, vid, mac, &row) {
@@ -55,7 +56,8 @@ fn unseen(tables: &Tables, reports: &Reports, vid: Vid, mac: Mac) -> Option<(Vid
 
 /// These stations, ascending by VLAN and address.
 pub fn unhit(alloc: Global, tables: &Tables, reports: &Reports) -> Result<Triples, NoMemory>
-    ensures { IfOk result (λ stations. (domains : Domains) (t : Table) (n : ℕ) → Stands domains tables.now t → stations ≡ unhit domains t (chip_of n reports.now)) }
+    ensures { IfOk result (λ stations. (domains : Domains) (t : Table) (n : ℕ) → Stands domains tables.now t
+        → stations ≡ unhit domains t (chip_of n reports.now)) }
 {
     let mut stations = Vec::new(alloc);
     let keys = tables.address_keys(alloc)?;

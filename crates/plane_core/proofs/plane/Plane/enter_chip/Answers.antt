@@ -92,6 +92,6 @@ pub returns-clause-step : goal.returns-clause-step
 returns-clause-step c = record {
   lines = told c;
   so = subst (λ (p : PlaneState). Steps p (record { world = world_of c.note.new.self c.settle.new.self c.args.step; board = c.note.new.self.board }) (Rx c.args.p c.args.b.now) (told c)) c.self.view_is
-    (record { world = made c; board = ap (λ (s : SidesState). s.board) (sides-are c) });
+      (record { world = made c; board = ap (λ (s : SidesState). s.board) (sides-are c) });
   added = all-lines c;
 }

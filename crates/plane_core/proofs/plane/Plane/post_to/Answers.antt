@@ -55,7 +55,7 @@ returns-in-Ok-post c = record {
   lines = c.in-Ok-post.ensures.ok.lines;
   so = (
     steps_so c.args.self.now c.self.inside.sides c.post.new.self c.self.inside.frames c.release-holding.new.self c.self.inside.steps c.in-Ok.step (Post c.args.h.id (Some c.args.s.point))
-      c.in-Ok-post.ensures.ok.lines c.in-Ok-post.ensures.ok.lines c.self.view_is c.in-Ok.ensures (does_so c) refl c.in-Ok-post.ensures.over,
+        c.in-Ok-post.ensures.ok.lines c.in-Ok-post.ensures.ok.lines c.self.view_is c.in-Ok.ensures (does_so c) refl c.in-Ok-post.ensures.over,
     subst (λ (o : Option Holding). IfSome o (λ y. (shown_by c.args.h ≡ shown_of y) × (c.args.s.point ≤ c.args.self.now.world.published))) (sym (held c)) (shown c, published c),
   );
   added = c.in-Ok-post.ensures.ok.added;

@@ -17,6 +17,6 @@ returns-clause-ok c =
     record {
       lines = Done m 0 ∷ [];
       so = steps_so c.args.self.now c.self.inside.sides c.publish.new.self q q c.self.inside.steps m Publish _ _ c.self.view_is c.in_ok-step.ensures
-      (publishes_all c.self.inside.sides c.publish.new.self q m (c.in_ok-publish.ensures.ok q m)) refl c.in_ok-publish.ensures.over;
+          (publishes_all c.self.inside.sides c.publish.new.self q m (c.in_ok-publish.ensures.ok q m)) refl c.in_ok-publish.ensures.over;
       added = c.push_reserved.ensures.lines ∙ ap (λ ls. ls ++ Done m 0 ∷ []) c.in_ok-reserve.ensures.lines;
     }
