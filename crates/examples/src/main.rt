@@ -52,7 +52,11 @@ fn is_written<R: Files + Alloc<A = Global>>(rt: &R, file: &str) -> io::Result<bo
 
 fn main(rt: HostRuntime) -> io::Result<()> {
     for file in env::args(&rt)?.skip(1) {
-        let answer = if is_written(&rt, &file)? { "is written" } else { "differs" };
+        let answer = if is_written(&rt, &file)? {
+            "is written"
+        } else {
+            "differs"
+        };
         println!(rt; "{file} {answer}")?;
     }
     Ok(())

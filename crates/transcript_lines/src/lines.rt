@@ -28,8 +28,12 @@ impl Model for Lines {
 
     ghost Value = { Listed };
 
-    ghost view = { λ l. record { lines = expand l.bytes.items l.rows.items; marked = expand l.bytes.items (take l.mark l.rows.items);
-        rows = vec_capacity l.rows - vec_len l.rows; bytes = vec_capacity l.bytes - vec_len l.bytes } };
+    ghost view = { λ l. record {
+      lines = expand l.bytes.items l.rows.items;
+      marked = expand l.bytes.items (take l.mark l.rows.items);
+      rows = vec_capacity l.rows - vec_len l.rows;
+      bytes = vec_capacity l.bytes - vec_len l.bytes;
+    } };
 
     ghost invariant = { λ l. AreInside (length l.bytes.items) l.rows.items × (l.mark ≤ length l.rows.items)
         × (vec_len l.rows ≤ vec_capacity l.rows) × (vec_len l.bytes ≤ vec_capacity l.bytes) };

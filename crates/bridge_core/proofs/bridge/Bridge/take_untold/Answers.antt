@@ -25,8 +25,8 @@ returns-in_ok-plan-in-Some c =
     let ports = taught-ports old.setup c.args.port c.args.head.now r ∙ sym (ap (λ (t : Table). with_addresses t []) at) in
     carried_as old _ _ _ _
     (ap does (came_to (carried_out old c.in_ok-plan-in-Some.plan) _ c.in_ok-plan-in-Some.ensures.plans.0)
-        ∙ sees-said old.setup r c.args.port c.args.bytes.now c.args.head.now does c.requires.untold
-        (c.in-Some.ensures.heard (learns_of old.setup c.args.port c.args.head.now r) c.args.bytes.now c.requires.message ports))
+    ∙ sees-said old.setup r c.args.port c.args.bytes.now c.args.head.now does c.requires.untold
+    (c.in-Some.ensures.heard (learns_of old.setup c.args.port c.args.head.now r) c.args.bytes.now c.requires.message ports))
     c.accept_said.ensures
 
 pub returns-in-None : goal.returns-in-None
@@ -37,5 +37,5 @@ returns-in-None c =
     let ports = taught-ports old.setup c.args.port c.args.head.now r ∙ sym (ap (λ (t : Table). with_addresses t []) at) in
     carried_as old _ _ _ _
     (sees-said old.setup r c.args.port c.args.bytes.now c.args.head.now (λ x. x) c.requires.untold
-        (c.in-None.ensures.heard (learns_of old.setup c.args.port c.args.head.now r) c.args.bytes.now c.requires.message ports))
+    (c.in-None.ensures.heard (learns_of old.setup c.args.port c.args.head.now r) c.args.bytes.now c.requires.message ports))
     c.learn.ensures
