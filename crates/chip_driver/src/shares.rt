@@ -1,7 +1,6 @@
 //! What a port has in the rows of a VLAN, and of which of them a change tells.
-ghost use Rattle.std.specs.Prelude.{◌≡◌, false};
+ghost use Rattle.std.specs.Prelude.{◌≡◌, ◌&&◌, not, false};
 ghost use Rattle.chip_driver.specs.declared.fans.Fan.{Fan};
-ghost use Rattle.chip_driver.specs.Shadows.{share_of};
 ghost use Rattle.chip_driver.specs.Shares.{shares_of, told_of, Tells};
 
 use crate::shadow::Shadow;
@@ -35,18 +34,15 @@ pub struct Told {
     pub groups: bool,
 }
 
-/// What the port has in a row, as a member of the VLAN or not and as a target or not.
-fn share_of(shadow: &Shadow, p: Port, member: bool, target: bool) -> Share
-    ensures { result ≡ share_of shadow.now p member target }
+/// What a port of the chip or another one has in a row, as a target or not, by whether it may get frames from a plain ingress port
+/// and from an isolated one.
+fn share_of(own: bool, eligible: bool, free: bool, target: bool) -> Share
+    ensures { result ≡ record { ports = own && target; isolated = not own && (target && free); plain = not own && (target && eligible) } }
 {
-    let n = p.number();
-    let own = shadow.own.has(n);
-    let open = member && (p.is_host() || shadow.forwarding.has(n));
-    let free = open && (p.is_host() || !shadow.isolated.has(n));
     Share {
         ports: own && target,
         isolated: !own && (target && free),
-        plain: !own && (target && open),
+        plain: !own && (target && eligible),
     }
 }
 
@@ -63,14 +59,18 @@ impl Shares {
         ensures { result ≡ shares_of shadow.now p member }
     {
         let n = p.number();
-        let mcast = p.is_host() || (member && shadow.mcast_flood.has(n));
-        let bcast = p.is_host() || (member && shadow.bcast_flood.has(n));
+        let host = p.is_host();
+        let own = shadow.own.has(n);
+        let eligible = member && (host || shadow.forwarding.has(n));
+        let free = eligible && (host || !shadow.isolated.has(n));
+        let mcast = host || (member && shadow.mcast_flood.has(n));
+        let bcast = host || (member && shadow.bcast_flood.has(n));
         Shares {
-            unicast: share_of(shadow, p, member, member && shadow.flood.has(n)),
-            mcast: share_of(shadow, p, member, mcast),
-            bcast: share_of(shadow, p, member, bcast),
-            routers: share_of(shadow, p, member, shadow.routers.has(n) && member),
-            groups: share_of(shadow, p, member, true),
+            unicast: share_of(own, eligible, free, member && shadow.flood.has(n)),
+            mcast: share_of(own, eligible, free, mcast),
+            bcast: share_of(own, eligible, free, bcast),
+            routers: share_of(own, eligible, free, shadow.routers.has(n) && member),
+            groups: share_of(own, eligible, free, true),
         }
     }
 
