@@ -1,5 +1,5 @@
 //! The world of a run: a bridge with its chip, and the seat by which its software looks up.
-ghost use Rattle.std.specs.Prelude.{◌≡◌, length, true, IfOk, OnOk};
+ghost use Rattle.std.specs.Prelude.{◌≡◌, length, true, IfOk, OnOk, OnErr};
 ghost use Rattle.br_model.specs.Plane.Runs.{end_line, pending};
 ghost use Rattle.br_model.specs.declared.steps.Step.TheVariants.{Turn};
 ghost use Rattle.br_model.specs.Plane.World.{first_world};
@@ -43,7 +43,8 @@ impl Model for World {
 #[tactic(auto, using(crate::proofs::Worlds::turn_told))]
 fn turn(plane: &mut Plane, dom: Dom, lines: &mut Lines) -> Result<(), NoMemory>
     requires { dom ≡ chip }
-    ensures { OnOk result (Added (IsStep plane.old plane.new (Turn dom)) lines.old.lines lines.new.lines) }
+    ensures ok { OnOk result (Added (IsStep plane.old plane.new (Turn dom)) lines.old.lines lines.new.lines) }
+    ensures err { OnErr result (plane.new ≡ plane.old) }
 {
     let update = plane.update(plane.applied(dom));
     match plane.turn_to(dom, update, lines) {
