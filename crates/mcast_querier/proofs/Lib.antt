@@ -4,3 +4,4 @@ pub mod Silence
 pub mod Sized
 pub mod Counted
 pub mod Rows
+pub mod Pushed

@@ -1,5 +1,6 @@
 -- A packet that holds a query holds its source.
-use Rattle.std.proofs.Common.{◌≡◌, ℕ, ◌≤◌, Bool, true, false, not, cond, List, length, drop, refl, arith}
+use Rattle.std.proofs.Common.{◌≡◌, ℕ, ◌-◌, ◌≤◌, Bool, true, false, not, cond, List, length, take, drop, refl, sym, subst, arith}
+use Rattle.std.proofs.lemmas.List.{take_all, length-drop}
 use Rattle.std.specs.Prelude.{◌==◌, ◌&&◌, nat_le}
 use Rattle.br_model.specs.declared.frame.Head.{Head}
 use Rattle.br_model.specs.declared.frame.McastMsg.{McastMsg}
@@ -33,9 +34,16 @@ by_kind true six a b v counted n f g h = let long = f h in omega (arith, long)
 by_kind false true a b v counted n f g h = let long = g h in omega (arith, long)
 by_kind false false a b v counted n f g h = absurd (cc (h))
 
-pub holds_source : (bytes : List ℕ) (head : Head) (v counted : Bool) → message bytes head ≡ Query v counted → source_end head.kind ≤ length (drop head.body bytes)
+holds_source : (bytes : List ℕ) (head : Head) (v counted : Bool) → message bytes head ≡ Query v counted → source_end head.kind ≤ length (drop head.body bytes)
 unfolding message
 holds_source bytes head v counted h =
     let packet = drop head.body bytes in
     by_kind (head.kind == type_four) (head.kind == type_six) (message_four head.dst head.body packet) (message_six head.dst head.body packet) v counted (length packet)
     (long_four head.dst head.body packet v counted) (long_six head.dst head.body packet v counted) h
+
+-- the same of the packet as it is read
+pub holds_source_in : (bytes : List ℕ) (head : Head) (v counted : Bool) → message bytes head ≡ Query v counted
+    → source_end head.kind ≤ length (take (length bytes - head.body) (drop head.body bytes))
+holds_source_in bytes head v counted h =
+    let whole : take (length bytes - head.body) (drop head.body bytes) ≡ drop head.body bytes = take_all _ _ (omega (arith, length-drop head.body bytes)) in
+    subst (λ (packet : List ℕ). source_end head.kind ≤ length packet) (sym whole) (holds_source bytes head v counted h)

@@ -21,7 +21,6 @@ pub fn asker(b: &[u8], h: &Head) -> Option<u128>
 }
 
 /// Who asks by the frame: whether in version 6, and the address.
-#[tactic(auto, using(crate::proofs::Sized::holds_source))]
 pub(crate) fn asker_in(b: &[u8], h: &Head) -> Option<(bool, u128)>
     requires { frame b.now ≡ Ok h.now }
     ensures { result ≡ asker_of b.now h.now }

@@ -1,5 +1,6 @@
 //! The bytes of general queries.
-ghost use Rattle.std.specs.Prelude.{◌≡◌, ◌<◌, ◌^◌};
+ghost use Rattle.std.specs.Prelude.{◌≡◌, ◌<◌, ◌^◌, ◌++◌};
+ghost use Rattle.br_model.specs.Wire.MldHeaders.{icmp_of, pseudo_header};
 ghost use Rattle.mcast_querier.specs.Queries.{checksum_six, ethernet, general_query_six, header_four, packet_six, query_four, query_six};
 
 use crate::checksum::checksum;
@@ -90,9 +91,16 @@ fn general_query_six(sum: u16) -> [u8; 24]
     query
 }
 
-// The checksum of the query from this source, over the pseudo-header too (RFC 8200 section 8.1).
+// The checksum of the query from this source.
 fn checksum_six(source: u128) -> u16
     ensures { result ≡ checksum_six source }
+{
+    checksum(&summed_six(source))
+}
+
+// What it is over: the pseudo-header (RFC 8200 section 8.1), and the query with zeros in its place.
+fn summed_six(source: u128) -> [u8; 64]
+    ensures { result ≡ pseudo_header (packet_six 0 source) ++ icmp_of (packet_six 0 source) }
 {
     let mut summed = [0; 64];
     BigEndian::write_u128(&mut summed, source);
@@ -100,5 +108,5 @@ fn checksum_six(source: u128) -> u16
     summed[35] = 24;
     summed[39] = 58;
     summed[40..].copy_from_slice(&general_query_six(0));
-    checksum(&summed)
+    summed
 }
