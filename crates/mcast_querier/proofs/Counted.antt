@@ -1,5 +1,5 @@
 -- The queries that are written are read as general queries from their sources.
-use Rattle.std.proofs.Common.{◌≡◌, ℕ, ◌+◌, ◌*◌, ◌/◌, ◌^◌, ◌<◌, ◌≤◌, Bool, true, false, not, cond, if◌then◌else◌, List, [], ◌∷◌, ◌++◌, length, drop, Some, None, refl, sym, ap, ◌∙◌, arith}
+use Rattle.std.proofs.Common.{◌≡◌, ℕ, ◌+◌, ◌*◌, ◌^◌, ◌<◌, Bool, true, false, not, cond, if◌then◌else◌, List, [], ◌∷◌, ◌++◌, length, drop, Some, None, refl, sym, ap, ◌∙◌, arith}
 use Rattle.std.specs.Prelude.{◌==◌, ◌&&◌, replicate, slice_index}
 use Rattle.std.specs.Int.{byte_at, bytes_high_first}
 use Rattle.std.specs.List.{list_all}
@@ -117,10 +117,10 @@ reads_six : (bytes packet : List ℕ) (head : Head) (source : ℕ) → IsQuery b
 reads_six bytes packet head source q ones =
     let says = says_six bytes packet head source q ones in
     let asks : asker bytes head ≡ Some (true, source) =
-      (ap (λ m. asker_by m (source_in head.kind (drop head.body bytes))) says
-      ∙ ap (λ kind. Some (true, source_in kind (drop head.body bytes))) q.kind
-      ∙ ap (λ (p : List ℕ). Some (true, source_six p)) q.behind
-      ∙ ap (λ n. Some (true, n)) q.from) in
+    (ap (λ m. asker_by m (source_in head.kind (drop head.body bytes))) says
+    ∙ ap (λ kind. Some (true, source_in kind (drop head.body bytes))) q.kind
+    ∙ ap (λ (p : List ℕ). Some (true, source_six p)) q.behind
+    ∙ ap (λ n. Some (true, n)) q.from) in
     (ap (message_as bytes) q.reads ∙ ap (λ m. Some m) says, ap (asker_as bytes) q.reads ∙ asks)
 
 -- the sum of a packet with its checksum

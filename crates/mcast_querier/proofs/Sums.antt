@@ -65,7 +65,7 @@ sums us vs f g =
     let before = sum_of (us ++ 0 ∷ vs) (fit_at us vs 0 f g (omega arith)) in
     let after = sum_of (us ++ (65535 - s) ∷ vs) (fit_at us vs (65535 - s) f g (omega arith)) in
     let more : total (us ++ (65535 - s) ∷ vs) ≡ total (us ++ 0 ∷ vs) + (65535 - s) =
-      (let x = total_at us vs 0 in let y = total_at us vs (65535 - s) in omega (arith, x, y)) in
+    (let x = total_at us vs 0 in let y = total_at us vs (65535 - s) in omega (arith, x, y)) in
     let is = before.is in
     let fits = before.fits in
     let there : 0 < 0 + total (us ++ (65535 - s) ∷ vs) = omega (arith, more, is, fits) in
@@ -123,5 +123,5 @@ summed bytes zeroed us vs c words zeros is small =
     let sum_is : c ≡ 65535 - fold ones_add 0 (us ++ 0 ∷ vs) = is ∙ ap (λ ws. 65535 - fold ones_add 0 ws) zeros in
     let word_is : 256 * byte_at 1 c + byte_at 0 c ≡ 65535 - fold ones_add 0 (us ++ 0 ∷ vs) = two_bytes c _ sum_is ∙ sum_is in
     let ones : fold ones_add 0 (sixteens bytes) ≡ 65535 =
-      ap (fold ones_add 0) words ∙ ap (λ w. fold ones_add 0 (us ++ w ∷ vs)) word_is ∙ sums us vs (fit_before us vs 0 fit) (fit_behind us vs 0 fit) in
+    ap (fold ones_add 0) words ∙ ap (λ w. fold ones_add 0 (us ++ w ∷ vs)) word_is ∙ sums us vs (fit_before us vs 0 fit) (fit_behind us vs 0 fit) in
     ap (λ s. nat_eq s 65535) ones

@@ -1,7 +1,7 @@
 -- The bytes of general queries, in frames to the group of all hosts.
 -- Source: RFC 2236 section 2 and RFC 791 section 3.1 (IGMP version 2), RFC 2113 (router alert), RFC 1112 section 6.4; RFC 2710
 -- section 3 and RFC 8200 sections 3 and 4.3 (MLD version 1), RFC 2711 (router alert), RFC 2464 section 7; RFC 1071 (checksums).
-use Rattle.std.specs.Prelude.{ℕ, ◌-◌, ◌/◌, ◌^◌, ◌<◌, ◌==◌, Bool, not, ◌&&◌, List, [], ◌∷◌, ◌++◌, replicate}
+use Rattle.std.specs.Prelude.{ℕ, ◌-◌, ◌/◌, ◌^◌, ◌==◌, Bool, not, ◌&&◌, List, [], ◌∷◌, ◌++◌, replicate}
 use Rattle.std.specs.Int.{bytes_high_first}
 use Rattle.br_model.specs.Data.Numbers.{is_group_four}
 use Rattle.br_model.specs.Wire.Checksum.{ones_sum}

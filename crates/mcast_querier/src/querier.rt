@@ -82,12 +82,7 @@ impl Querier {
     }
 
     // Adds the query of version 4, where it leaves.
-    fn push_four(
-        &self,
-        alloc: Global,
-        now: u64,
-        queries: &mut Queries,
-    ) -> Result<(), NoMemory>
+    fn push_four(&self, alloc: Global, now: u64, queries: &mut Queries) -> Result<(), NoMemory>
         ensures { OnOk result (queries.new ≡ queries.old ++ query_of self.now.four now (query_four self.now.own self.now.four.address)) }
     {
         let own = self.own;
