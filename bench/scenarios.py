@@ -4,10 +4,11 @@ import random
 import sys
 
 
-def soft_ports(count):
+def ports(count, kind="soft"):
+    """So many ports, which are up."""
     yield "scenario 1"
     for i in range(1, count + 1):
-        yield f"port {i} p{i} soft"
+        yield f"port {i} p{i} {kind}"
     for i in range(1, count + 1):
         yield f"cmd port up p{i}"
     yield "publish"
@@ -15,7 +16,7 @@ def soft_ports(count):
 
 def large():
     """1,400 broadcasts to 59 ports."""
-    yield from soft_ports(59)
+    yield from ports(59)
     for _ in range(1400):
         yield "rx 1 ffffffffffff02000000000a88b50102"
         yield "serve"
@@ -30,7 +31,7 @@ def blank():
 
 def frames():
     """31 broadcasts of 1,000 bytes to 63 ports."""
-    yield from soft_ports(63)
+    yield from ports(63)
     for _ in range(31):
         yield "rx 1 ffffffffffff02000000000a88b5" + "0" * 1972
         yield "serve"
@@ -38,7 +39,7 @@ def frames():
 
 def links():
     """100,000 commands that each change a flag."""
-    yield from soft_ports(1)
+    yield from ports(1)
     for _ in range(50000):
         yield "cmd link p1 flood off"
         yield "cmd link p1 flood on"
@@ -47,7 +48,7 @@ def links():
 def learned():
     """30,000 frames among 12,000 stations behind 60 ports, with a publication each 1,000."""
     chance = random.Random(1)
-    yield from soft_ports(60)
+    yield from ports(60)
     for i in range(1, 30001):
         source, destination = chance.randrange(12000), chance.randrange(12000)
         yield f"rx {source % 60 + 1} 0200{destination:08x}0200{source:08x}88b50102"
@@ -145,7 +146,7 @@ def snooping():
     """20,000 reports and leaves at six ports, three of four of them reports, for 300 groups; behind each a frame of payload to
     one of them; a query each 500, a publication each 100, a moment each 50, a second later."""
     chance = random.Random(3)
-    yield from soft_ports(6)
+    yield from ports(6)
     for i in range(20000):
         if i % 500 == 0:
             yield igmp(i // 500 % 6 + 1, (224, 0, 0, 1), 0x11, (0, 0, 0, 0))
@@ -167,6 +168,7 @@ def snooping():
 SCENARIOS = {f.__name__: f for f in (
     large, blank, frames, links, learned, mixed, known, sights, no_sights, moments, snooping)}
 
-for line in SCENARIOS[sys.argv[1]]():
-    print(line)
-print("end")
+if __name__ == "__main__":
+    for line in SCENARIOS[sys.argv[1]]():
+        print(line)
+    print("end")

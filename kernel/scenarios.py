@@ -1,7 +1,7 @@
 """Random scenarios, of steps in which no difference of docs/KERNEL.md shows.
 
 What they keep off is said where they do. Everything else that a line of software ports can say is in them. Where ports are the
-chip's, it reports each frame that it has to report, and takes its turns, directly behind the frame.
+chip's, it reports each frame that it has to report directly behind the frame, and takes its turns there and behind `fdb del`.
 """
 import random
 
@@ -51,12 +51,15 @@ class Maker:
         self.clock += milliseconds
         self.lines.append("now %d" % self.clock)
 
+    def turns(self):
+        if self.chip_ports:
+            self.lines += ["turn 1"] * 2
+
     def rx(self, port, data):
         self.lines.append("rx %d %s" % (port, data))
         if port in self.chip_ports:
             self.lines.append("report 1")
-        if self.chip_ports:
-            self.lines += ["turn 1"] * 2
+        self.turns()
 
     # ---- commands ----
 
@@ -94,6 +97,7 @@ class Maker:
         port, vlan = self.random.choice([0] + list(PORTS)), self.random.choice([1, 1, 10])
         if self.chance(.4):
             self.command("fdb del %s vlan %d" % (mac(self.random.choice("abcdef")), vlan))
+            self.turns()
         else:
             self.command("fdb add %s dev %s vlan %d %s" % (mac("f"), self.device(port), vlan, "static" if port else "local"))
 

@@ -9,6 +9,7 @@ mod finds;
 use crate::chip::Chip;
 use crate::finds::{find_absent, find_present};
 use br_model::change::Kind;
+use br_model::limits::MOST_ADDRESSES;
 use br_model::numbers::{Mac, Port, Vid};
 use fdb_core::{Entry, Fdb, Key};
 use std::alloc::{AllocError, Global};
@@ -16,7 +17,7 @@ use std::time::Instant;
 use std::{env, io};
 
 /// How many addresses are in a store.
-pub const ROOM: usize = 16384;
+pub const ROOM: usize = MOST_ADDRESSES;
 
 const FINDS: u64 = 1_000_000;
 

@@ -1,28 +1,27 @@
-//! Times decisions and changes over 16,384 addresses, 63 ports and 100 VLANs, beside br_model's plain table. The least times go to
-//! standard error; standard output says whether both tables decided the same.
+//! Times decisions over 16,384 addresses, 63 ports and 100 VLANs, and changes beside br_model's plain table. The least times go to
+//! standard error; standard output says whether a decision came twice to the same.
 #![tactic(auto)]
 
 use br_model::change::{Change, FORWARDING, Flags, Kind};
 use br_model::domains::Domains;
 use br_model::frame::{Head, McastMsg, Tag};
 use br_model::group::Group;
+use br_model::limits::MOST_ADDRESSES;
 use br_model::numbers::{Dom, Mac, Port, Vid};
 use br_model::plain::table::Table;
 use forward_rules::SoftTables;
-use port_sets::Ports;
 use std::alloc::{AllocError, Global};
 use std::io;
 use std::time::Instant;
 
-const ADDRESSES: u64 = 16384;
+const ADDRESSES: u64 = MOST_ADDRESSES as u64;
 
-const PORTS: u64 = 63;
+/// All ports but the host.
+const PORTS: u64 = Port::LAST as u64;
 
 const VLANS: u64 = 100;
 
 const DECISIONS: u32 = 300_000;
-
-const PLAIN_DECISIONS: u32 = 2_000;
 
 const CHANGES: u32 = 100_000;
 
@@ -158,11 +157,11 @@ fn frame(keys: &[Key], sort: Frames, state: u64) -> (Port, Head, McastMsg) {
     (port(state >> 20), head, message)
 }
 
-/// Decides so many frames, and answers a sum over the verdicts.
-fn decide(table: &SoftTables, domains: &Domains, keys: &[Key], sort: Frames, count: u32) -> u64 {
+/// Decides frames of the sort, and answers a sum over the verdicts.
+fn decide(table: &SoftTables, domains: &Domains, keys: &[Key], sort: Frames) -> u64 {
     let mut state = 2;
     let mut sum = 0u64;
-    for _ in 0..count {
+    for _ in 0..DECISIONS {
         state = next(state);
         let (port, head, message) = frame(keys, sort, state);
         let verdict = table.decide(port, &head, &message, domains);
@@ -174,39 +173,6 @@ fn decide(table: &SoftTables, domains: &Domains, keys: &[Key], sort: Frames, cou
             .wrapping_add(verdict.class as u64);
     }
     sum
-}
-
-/// The same by the plain table.
-fn decide_plainly(
-    alloc: Global,
-    table: &Table,
-    domains: &Domains,
-    keys: &[Key],
-    sort: Frames,
-) -> Result<u64, AllocError> {
-    let mut state = 2;
-    let mut sum = 0u64;
-    for _ in 0..PLAIN_DECISIONS {
-        state = next(state);
-        let (port, head, message) = frame(keys, sort, state);
-        let class = table.class(alloc, domains, port, &head, &message)?;
-        let vid = table.admit(port, &head).unwrap_or(Vid::DEFAULT);
-        let mut ports = Ports::empty();
-        let mut untagged = Ports::empty();
-        for other in &table.ports_out(alloc, port, &head, &message)? {
-            ports = ports.with(other.number());
-            if table.is_untagged(*other, vid) {
-                untagged = untagged.with(other.number());
-            }
-        }
-        let [ports] = ports.words();
-        let [untagged] = untagged.words();
-        sum = next(sum)
-            .wrapping_add(ports)
-            .wrapping_add(next(untagged))
-            .wrapping_add(class as u64);
-    }
-    Ok(sum)
 }
 
 /// A change of the sort.
@@ -289,7 +255,7 @@ impl Both {
         Ok(Both { soft, plain })
     }
 
-    /// Times decisions, and answers whether both decide the same.
+    /// Times decisions of the software tables, and answers whether each round came to the same.
     fn time_decisions(
         &self,
         rt: &HostRuntime,
@@ -298,24 +264,16 @@ impl Both {
         sort: Frames,
         name: &str,
     ) -> io::Result<bool> {
-        let mut soft = u128::MAX;
-        let mut plain = u128::MAX;
+        let first = decide(&self.soft, domains, keys, sort);
+        let mut least = u128::MAX;
         let mut same = true;
         for _ in 0..ROUNDS {
             let start = Instant::now(rt)?;
-            let sum = decide(&self.soft, domains, keys, sort, DECISIONS);
-            soft = soft.min(start.elapsed(rt)?.as_nanos());
-            let start = Instant::now(rt)?;
-            let plain_sum = decide_plainly(rt.alloc(), &self.plain, domains, keys, sort)?;
-            plain = plain.min(start.elapsed(rt)?.as_nanos());
-            let soft_sum = decide(&self.soft, domains, keys, sort, PLAIN_DECISIONS);
-            same = same && soft_sum == plain_sum && sum != 0;
+            let sum = decide(&self.soft, domains, keys, sort);
+            least = least.min(start.elapsed(rt)?.as_nanos());
+            same = same && sum == first;
         }
-        eprintln!(rt;
-            "decide {name}: soft {} plain {} ps a call",
-            soft / 300,
-            plain / 2
-        )?;
+        eprintln!(rt; "decide {name}: {} ps a call", least / 300)?;
         Ok(same)
     }
 

@@ -1,18 +1,17 @@
 -- A change that fits leaves no more addresses than there may be, and so does each front of a history.
-use Rattle.std.proofs.Common.{◌≡◌, ℕ, zero, suc, ◌+◌, ◌<◌, ◌≤◌, Bool, true, false, T, not, cond, ◌||◌, List, [], ◌∷◌, length, take, get_or, refl, sym, ap, ◌∙◌, arith, subst, add-one, ⊎_elim}
-use Rattle.std.proofs.lemmas.Bool.{cases_lt, ltb-true}
-use Rattle.std.proofs.lemmas.List.{take_more, take_all}
-use Rattle.std.proofs.lemmas.List.Sums.{fold_push}
+use Rattle.std.proofs.Common.{◌≡◌, ℕ, ◌+◌, ◌≤◌, Bool, true, false, T, not, cond, ◌||◌, List, [], ◌∷◌, length, take, refl, sym, arith, subst}
+use Rattle.std.proofs.lemmas.Bool.{ltb-true}
 use Rattle.std.specs.Prelude.{nat_lt, is_some}
 use Rattle.std.specs.FinMap.Entries.{length-put, is_sorted-put, is_sorted-where_key}
 use Rattle.std.specs.Ordering.{eq_by_cmp}
 use Rattle.br_model.specs.declared.change.Change.{Change}
-use Rattle.br_model.specs.declared.change.Change.TheVariants.{AddrPut, AddrDel, Snoop}
+use Rattle.br_model.specs.declared.change.Change.TheVariants.{AddrPut, AddrDel}
 use Rattle.br_model.specs.declared.change.Kind.{Kind}
-use Rattle.br_model.specs.Limits.{fits, most_addresses, AreWithin}
-use Rattle.br_model.specs.Maps.{pair_cmp, get, put, without, is_ascending}
-use Rattle.br_model.specs.Table.{Table, start, apply, table}
+use Rattle.br_model.specs.Table.Limits.{fits, most_addresses, AreWithin}
+use Rattle.br_model.specs.Data.Maps.{pair_cmp, get, put, without, is_ascending}
+use Rattle.br_model.specs.Table.Table.{Table, apply, table}
 use Rattle.br_model.proofs.PairKeys.{pair_total}
+use Rattle.br_model.proofs.Within.{front_keeps}
 
 abbrev Entries : Type 0
 Entries = List ((ℕ × ℕ) × (ℕ × Kind))
@@ -54,17 +53,5 @@ room-apply t (AddrDel v a) room fit = record {
 }
 room-apply t c room fit = room
 
-room-front : (H : List Change) → AreWithin H → (n : ℕ) → HasRoom (table (take n H)).addr
-room-front H is zero = record { ascend = refl; few = omega arith }
-room-front H is (suc n) =
-    ⊎_elim
-    (λ (h : n < length H).
-    subst (λ (cs : List Change). HasRoom (table cs).addr) (sym (take_more H n (Snoop true) h) ∙ ap (λ m. take m H) (add-one n))
-    (subst (λ (t : Table). HasRoom t.addr) (sym (fold_push apply start (take n H) (get_or H n (Snoop true))))
-    (room-apply (table (take n H)) (get_or H n (Snoop true)) (room-front H is n) (is.fit n (Snoop true) h))))
-    (λ (h : length H ≤ n).
-    subst (λ (cs : List Change). HasRoom (table cs).addr) (take_all n H h ∙ sym (take_all (suc n) H (omega (arith, h)))) (room-front H is n))
-    (cases_lt n (length H))
-
 pub few-front : (H : List Change) → AreWithin H → (n : ℕ) → length (table (take n H)).addr ≤ most_addresses
-few-front H is n = (room-front H is n).few
+few-front H is n = (front_keeps (λ t. HasRoom t.addr) (record { ascend = refl; few = omega arith }) room-apply H is n).few

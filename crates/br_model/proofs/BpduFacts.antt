@@ -5,9 +5,9 @@ use Rattle.std.specs.Int.{byte_at, bytes_high_first}
 use Rattle.std.specs.List.{fold}
 use Rattle.br_model.specs.declared.bpdu.BpduMsg.{BpduMsg}
 use Rattle.br_model.specs.declared.bpdu.BpduMsg.TheVariants.{Config, Tcn}
-use Rattle.br_model.specs.Bpdus.{bpdu, written}
-use Rattle.br_model.specs.Numbers.{number}
-use Rattle.br_model.specs.TreeLaws.{Fits}
+use Rattle.br_model.specs.Wire.Bpdus.{bpdu, written}
+use Rattle.br_model.specs.Data.Numbers.{number}
+use Rattle.br_model.specs.Theorems.TreeLaws.{Fits}
 
 -- the two low digits of n, to the bases c and then m
 mod-split : (n : ℕ) {m c : ℕ} → zero < m → zero < c → n % (m * c) ≡ (n / c % m) * c + n % c

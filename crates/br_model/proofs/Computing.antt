@@ -1,22 +1,31 @@
 -- One name to unfold where a proof computes with the definitions.
 use Rattle.std.specs.Fmt.{digits}
+<<<<<<< HEAD
 use Rattle.br_model.specs.Generator.{made, frames_from}
 use Rattle.br_model.specs.Leave.{all_ports, egress_ports, ports_out, leave}
 use Rattle.br_model.specs.LineForms.{line_says}
 use Rattle.br_model.specs.Listings.{listed}
 use Rattle.br_model.specs.Messages.{message}
 use Rattle.br_model.specs.Operands.{number, chip_domain, new_port, new_name, port_number, port_name, device, mac, group, hex, flag}
+=======
+use Rattle.br_model.specs.Program.Generator.{made, frames_from}
+use Rattle.br_model.specs.Forward.Leave.{all_ports, egress_ports, ports_out, leave}
+use Rattle.br_model.specs.Text.LineForms.{line_says}
+use Rattle.br_model.specs.Program.Listings.{listed}
+use Rattle.br_model.specs.Wire.Messages.{message}
+use Rattle.br_model.specs.Text.Operands.{number, new_port, new_name, port_number, port_name, device, mac, group, hex, flag}
+>>>>>>> main
 use Rattle.br_model.specs.Plane.Runs.{run}
-use Rattle.br_model.specs.Reaction.{react}
-use Rattle.br_model.specs.Runs.{told}
-use Rattle.br_model.specs.Captures.{cut, read as read_blocks}
-use Rattle.br_model.specs.Scenario.{front, read, scenario_by}
-use Rattle.br_model.specs.Summary.{summary}
-use Rattle.br_model.specs.TreeSending.{transmit, drops_put_off}
-use Rattle.br_model.specs.TreeStates.{states_follow, states_move}
-use Rattle.br_model.specs.TreeStep.{settled, tree_step}
-use Rattle.br_model.specs.TreeTimers.{forgets}
-use Rattle.br_model.specs.TreeVectors.{root_of, roles}
+use Rattle.br_model.specs.Control.Reaction.{react}
+use Rattle.br_model.specs.Program.Runs.{told}
+use Rattle.br_model.specs.Wire.Captures.{cut, read as read_blocks}
+use Rattle.br_model.specs.Text.Scenario.{front, read, scenario_by}
+use Rattle.br_model.specs.Program.Summary.{summary}
+use Rattle.br_model.specs.Tree.Sending.{transmit, drops_put_off}
+use Rattle.br_model.specs.Tree.States.{states_follow, states_move}
+use Rattle.br_model.specs.Tree.Step.{settled, tree_step}
+use Rattle.br_model.specs.Tree.Timers.{forgets}
+use Rattle.br_model.specs.Tree.Vectors.{root_of, roles}
 
 -- `unfolding computing` lets `refl` compute a whole run
 unfoldable pub computing : Unit {0}

@@ -13,18 +13,18 @@ use Rattle.br_model.specs.declared.frame.McastMsg.{McastMsg}
 use Rattle.br_model.specs.declared.steps.Event.{Event}
 use Rattle.br_model.specs.declared.steps.Refusal.{Refusal}
 use Rattle.br_model.specs.declared.steps.Refusal.TheVariants.{HistoryFull}
-use Rattle.br_model.specs.Control.{Control, keeps_up}
-use Rattle.br_model.specs.Course.{Course, from, makes}
-use Rattle.br_model.specs.Ends.{Ends, lasts, querier_time, queries, routes}
-use Rattle.br_model.specs.EndsTied.{IsTied}
-use Rattle.br_model.specs.Groups.{Membership, membership_cmp}
-use Rattle.br_model.specs.Limits.{fits}
-use Rattle.br_model.specs.Maps.{get, has}
-use Rattle.br_model.specs.Reaction.{Reaction, has_room, in_room, happens, react}
-use Rattle.br_model.specs.Setup.{Setup}
-use Rattle.br_model.specs.Snooping.{said, snoops}
-use Rattle.br_model.specs.Table.{Table, apply, table, ip_version}
-use Rattle.br_model.specs.Targets.{knows_querier}
+use Rattle.br_model.specs.Control.Control.{Control, keeps_up}
+use Rattle.br_model.specs.Control.Course.{Course, from, makes}
+use Rattle.br_model.specs.Control.Ends.{Ends, lasts, querier_time, queries, routes}
+use Rattle.br_model.specs.Theorems.EndsTied.{IsTied}
+use Rattle.br_model.specs.Table.Groups.{Membership, membership_cmp}
+use Rattle.br_model.specs.Table.Limits.{fits}
+use Rattle.br_model.specs.Data.Maps.{get, has}
+use Rattle.br_model.specs.Control.Reaction.{Reaction, has_room, in_room, happens, react}
+use Rattle.br_model.specs.Table.Setup.{Setup}
+use Rattle.br_model.specs.Control.Snooping.{said, snoops}
+use Rattle.br_model.specs.Table.Table.{Table, apply, table, ip_version}
+use Rattle.br_model.specs.Forward.Targets.{knows_querier}
 use Rattle.br_model.proofs.EndsTied.{tied-apply, tied-groups, tied-routers, tied-queriers}
 use Rattle.br_model.proofs.GroupOrders.{membership_total}
 use Rattle.br_model.proofs.KeySets.{keys-put_there, ascending-put}

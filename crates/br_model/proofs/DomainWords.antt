@@ -10,10 +10,16 @@ use Rattle.std.proofs.lemmas.Bool.{eq-eqb, ne_eqb, cases_lt}
 use Rattle.std.proofs.lemmas.Bool.Decides.{eqb_tells}
 use Rattle.std.proofs.lemmas.Cmp.{nat_cmp_total}
 use Rattle.std.proofs.lemmas.Nat.Bits.{bit_at-zero, bit_at_set_same, bit_at_set_other, bit_at_clear_same, bit_at_clear_other}
+<<<<<<< HEAD
 use Rattle.br_model.specs.declared.domains.Edition.{Edition}
 use Rattle.br_model.specs.Domains.{Domains}
 use Rattle.br_model.specs.DomainPorts.{is_in_domain}
 use Rattle.br_model.specs.Maps.{get, put}
+=======
+use Rattle.br_model.specs.Table.Domains.{Domains}
+use Rattle.br_model.specs.Table.DomainPorts.{is_in_domain, IsWordOf}
+use Rattle.br_model.specs.Data.Maps.{get, put}
+>>>>>>> main
 
 -- a word with one bit less
 pub bit-cleared : (v p port : ℕ) → p < 64 → port < 64 → (bit_at (bit_and v (bit_not w64 (1 * 2 ^ p % 2 ^ 64))) port == 1) ≡ cond (port == p) false (bit_at v port == 1)

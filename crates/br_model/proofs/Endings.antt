@@ -1,9 +1,9 @@
 -- What has ended stays, and every scenario ends.
 use Rattle.std.proofs.Common.{◌≡◌, ℕ, ◌+◌, Bool, true, false, if◌then◌else◌, List, [], ◌∷◌, refl, sym, ◌∙◌}
 use Rattle.br_model.specs.declared.scenario.LineWhy.TheVariants.{Place, Unended}
-use Rattle.br_model.specs.CommandForms.{step}
-use Rattle.br_model.specs.Words.{words}
-use Rattle.br_model.specs.Scenario.{Scenario, Ending, Going, Ended, Bad, Progress, reads_at, read, closes, closes_at, ends, bad, is_end, opened, scenario, scenario_by}
+use Rattle.br_model.specs.Text.CommandForms.{step}
+use Rattle.br_model.specs.Text.Words.{words}
+use Rattle.br_model.specs.Text.Scenario.{Scenario, Ending, Going, Ended, Bad, Progress, reads_at, read, closes, closes_at, ends, bad, is_end, opened, scenario, scenario_by}
 
 -- whether a scenario is over
 abbrev pub has_ended : Ending → Bool

@@ -4,12 +4,12 @@ use Rattle.std.specs.Ordering.{nat_cmp}
 use Rattle.std.proofs.lemmas.Cmp.{nat_cmp_total}
 use Rattle.br_model.specs.declared.change.Change.{Change}
 use Rattle.br_model.specs.declared.change.Change.TheVariants.{PortUp, PortDown, SetFlags, SetState, VlanAdd, VlanDel, GroupJoin, GroupPart, Router, Querier, Snoop, Stp, AddrPut, AddrDel}
-use Rattle.br_model.specs.Control.{Control, keeps_up}
-use Rattle.br_model.specs.Ends.{Ends, no_ends, lasts, parts, routes, queries, keys}
-use Rattle.br_model.specs.EndsTied.{IsTied}
-use Rattle.br_model.specs.Groups.{Membership, membership_cmp}
-use Rattle.br_model.specs.Maps.{joined, parted, is_ascending}
-use Rattle.br_model.specs.Table.{Table, start, apply, ip_version, switched}
+use Rattle.br_model.specs.Control.Control.{Control, keeps_up}
+use Rattle.br_model.specs.Control.Ends.{Ends, no_ends, lasts, parts, routes, queries, keys}
+use Rattle.br_model.specs.Theorems.EndsTied.{IsTied}
+use Rattle.br_model.specs.Table.Groups.{Membership, membership_cmp}
+use Rattle.br_model.specs.Data.Maps.{joined, parted, is_ascending}
+use Rattle.br_model.specs.Table.Table.{Table, start, apply, ip_version, switched}
 use Rattle.br_model.proofs.GroupOrders.{membership_total}
 use Rattle.br_model.proofs.KeySets.{keys-put, keys-without, ascending-put, ascending-without}
 

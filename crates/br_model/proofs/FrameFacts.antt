@@ -6,9 +6,9 @@ use Rattle.std.proofs.lemmas.Result.{IfOk-at_ok}
 use Rattle.br_model.specs.declared.frame.FrameFault.TheVariants.{Short, Long, TagShort}
 use Rattle.br_model.specs.declared.frame.Head.{Head}
 use Rattle.br_model.specs.declared.frame.Tag.{Tag}
-use Rattle.br_model.specs.Frames.{frame, head_of, number_at, tag_type, tag_of, tag_bits}
-use Rattle.br_model.specs.Heads.{IsHead, TagFits}
-use Rattle.br_model.specs.Numbers.{number}
+use Rattle.br_model.specs.Wire.Frames.{frame, head_of, number_at, tag_type, tag_of, tag_bits}
+use Rattle.br_model.specs.Wire.Heads.{IsHead, TagFits}
+use Rattle.br_model.specs.Data.Numbers.{number}
 
 -- two bytes spell a number of 16 bits
 number-below : (xs : List ℕ) → ((i : ℕ) → get_or xs i 0 < 256) → number (take 2 xs) < 65536

@@ -3,8 +3,8 @@ use Rattle.std.proofs.Common.{◌≡◌, ℕ, true, if◌then◌else◌, List, [
 use Rattle.std.proofs.lemmas.List.{append-nil}
 use Rattle.std.specs.Cmp.{first_so, second_so}
 use Rattle.std.proofs.lemmas.Bool.{not-true}
-use Rattle.br_model.specs.Scenario.{Front, front, in_front}
-use Rattle.br_model.specs.WholeLines.{is_line}
+use Rattle.br_model.specs.Text.Scenario.{Front, front, in_front}
+use Rattle.br_model.specs.Theorems.WholeLines.{is_line}
 
 -- bytes before a line
 abbrev pub before : List ℕ → Option Front → Option Front

@@ -8,8 +8,8 @@ use Rattle.std.specs.declared.cmp.Ordering.{Ordering}
 use Rattle.std.specs.declared.cmp.Ordering.TheVariants.{Less, Equal, Greater}
 use Rattle.br_model.specs.declared.group.Group.{Group}
 use Rattle.br_model.specs.declared.group.Group.TheVariants.{V4, V6}
-use Rattle.br_model.specs.GroupPairs.{GroupPair, group_pair_cmp}
-use Rattle.br_model.specs.Groups.{group_cmp, membership_cmp}
+use Rattle.br_model.specs.Table.GroupPairs.{GroupPair, group_pair_cmp}
+use Rattle.br_model.specs.Table.Groups.{group_cmp, membership_cmp}
 
 reversed : (x y : Group) → group_cmp x y ≡ ordering_reverse (group_cmp y x)
 reversed (V4 m) (V4 n) = nat_cmp_total.antisymm m n

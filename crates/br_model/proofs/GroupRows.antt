@@ -1,8 +1,8 @@
 -- Worked runs with commands on groups, computed by the definitions.
 use Rattle.std.proofs.Common.{◌≡◌, map, refl}
-use Rattle.br_model.specs.IpWords.{address}
-use Rattle.br_model.specs.Runs.{told}
-use Rattle.br_model.specs.WorkedGroups.{address_words, address_words_read, groups_by_command_text, groups_by_command_told, bad_group_text, bad_group_told}
+use Rattle.br_model.specs.Text.IpWords.{address}
+use Rattle.br_model.specs.Program.Runs.{told}
+use Rattle.br_model.specs.Worked.Groups.{address_words, address_words_read, groups_by_command_text, groups_by_command_told, bad_group_text, bad_group_told}
 use Rattle.br_model.proofs.Computing.{computing}
 
 pub words_read : map address address_words ≡ address_words_read

@@ -9,8 +9,8 @@ use Rattle.std.specs.Ordering.{is_lt, is_eq, eq_by_cmp, match_ordering}
 use Rattle.std.specs.Cmp.{IsTotalOrder, first_so, second_so}
 use Rattle.std.specs.Bool.{passes}
 use Rattle.std.specs.FinMap.Entries.{by_order, below_all, is_sorted-put, is_sorted-where_key}
-use Rattle.br_model.specs.Ends.{keys}
-use Rattle.br_model.specs.Maps.{get, put, without, joined, parted, is_ascending}
+use Rattle.br_model.specs.Control.Ends.{keys}
+use Rattle.br_model.specs.Data.Maps.{get, put, without, joined, parted, is_ascending}
 
 is_less : (r : Ordering) → is_lt r ≡ true → r ≡ Less
 is_less Less h = refl

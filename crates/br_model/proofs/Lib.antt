@@ -17,6 +17,8 @@ pub mod EndsTied
 pub mod FrameFacts
 pub mod Fronts
 pub mod GroupOrders
+pub mod GroupPairs
+pub mod GroupRoom
 pub mod GroupRows
 pub mod KeySets
 pub mod Least
@@ -37,10 +39,12 @@ pub mod Ranges
 pub mod ReactionSteps
 pub mod Reading
 pub mod RecordsFit
+pub mod Refusals
 pub mod Rows
 pub mod Running
 pub mod SnoopRows
 pub mod SnoopSteps
+pub mod Stations
 pub mod TreeKept
 pub mod TreeRoots
 pub mod TreeRuns
@@ -52,4 +56,6 @@ pub mod WrittenGroups
 pub mod WrittenLines
 pub mod WrittenNames
 pub mod WrittenNumbers
+pub mod WrittenOperands
+pub mod WrittenRows
 pub mod WrittenWords

@@ -1,5 +1,5 @@
 -- A generated scenario is read as the steps of which it was made.
-use Rattle.std.proofs.Common.{◌≡◌, ℕ, zero, suc, ◌+◌, ◌*◌, ◌/◌, ◌%◌, ◌^◌, ◌<◌, ◌≤◌, ◌==◌, nat_lt, nat_le, Bool, true, false, if◌then◌else◌, List, [], ◌∷◌, ◌++◌, length, take, drop, refl, sym, ◌∙◌, ap, ap₂, arith, length-append, append_assoc, append-nil}
+use Rattle.std.proofs.Common.{◌≡◌, ℕ, zero, suc, ◌+◌, ◌*◌, ◌/◌, ◌%◌, ◌^◌, ◌<◌, ◌≤◌, ◌==◌, nat_lt, nat_le, Bool, true, false, ◌&&◌, if◌then◌else◌, List, [], ◌∷◌, ◌++◌, length, take, drop, refl, sym, ◌∙◌, ap, ap₂, arith, length-append, append_assoc, append-nil}
 use Rattle.std.specs.Prelude.{codes}
 use Rattle.std.specs.Cmp.{first_so, second_so}
 use Rattle.std.specs.Fmt.{decimal, digits}
@@ -14,17 +14,19 @@ use Rattle.br_model.specs.declared.scenario.Said.TheVariants.{Does, Declares, Op
 use Rattle.br_model.specs.declared.steps.Command.TheVariants.{PortUp}
 use Rattle.br_model.specs.declared.steps.Step.{Step}
 use Rattle.br_model.specs.declared.steps.Step.TheVariants.{Rx, Cmd, Now, Turn, Report, Publish}
-use Rattle.br_model.specs.Digits.{hex_digit, hex_of, is_digit}
-use Rattle.br_model.specs.Domains.{chip, software}
-use Rattle.br_model.specs.Generator.{most_frames, station, broadcast, destination, frame, each, frame_steps, frames_from, number_of, drawn, ports, steps, port_line, head, made, made_scenario}
-use Rattle.br_model.specs.LineForms.{line_says}
-use Rattle.br_model.specs.Operands.{last_moment}
-use Rattle.br_model.specs.Roster.{Entry, Roster, first_roster}
-use Rattle.br_model.specs.Scenario.{Scenario, Going, Ended, opened, read, scenario, whole_says, longest_line}
-use Rattle.br_model.specs.ScenarioText.{step_words, step_text, shown}
-use Rattle.br_model.specs.Setup.{first_own}
-use Rattle.br_model.specs.WholeLines.{is_line, is_no_feed}
-use Rattle.br_model.specs.WrittenSteps.{has_line, is_byte, is_whole}
+use Rattle.br_model.specs.Data.Digits.{hex_digit, hex_of, is_digit}
+use Rattle.br_model.specs.Table.Domains.{chip, software}
+use Rattle.br_model.specs.Program.Generator.{most_frames, station, broadcast, destination, frame, each, frame_steps, frames_from, number_of, drawn, ports, steps, port_line, head, made, made_scenario}
+use Rattle.br_model.specs.Text.LineForms.{line_says}
+use Rattle.br_model.specs.Text.Operands.{last_moment, is_byte}
+use Rattle.br_model.specs.Text.Roster.{Entry, Roster, first_roster, has_number}
+use Rattle.br_model.specs.Text.Scenario.{Scenario, Going, Ended, opened, read, scenario, whole_says, longest_line}
+use Rattle.br_model.specs.Text.ScenarioText.{has_line, step_words, step_text}
+use Rattle.br_model.specs.Text.Spelling.{shown}
+use Rattle.br_model.specs.Text.Words.{is_word}
+use Rattle.br_model.specs.Table.Setup.{first_own}
+use Rattle.br_model.specs.Theorems.WholeLines.{is_line, is_no_feed}
+use Rattle.br_model.specs.Theorems.WrittenSteps.{is_whole}
 use Rattle.br_model.proofs.Computing.{computing}
 use Rattle.br_model.proofs.Reading.{closed, scenario_is, read_line, not_below}
 use Rattle.br_model.proofs.WrittenLines.{step_read, given_whole, shown_whole}
@@ -130,14 +132,21 @@ frame_length n =
     let d : ℕ = n / 48 % 9 in
     length-append (destination d) (station (n / 6 % 8) ++ (0x88 ∷ 0xB5 ∷ 0 ∷ 0 ∷ [])) ∙ ap (λ k. k + 10) (destination_length (d == 8) d)
 
-entry_good : (port : ℕ) (bytes : List ℕ) → port < 7 → has_line ports (Rx port bytes) ≡ true → length bytes ≡ 16 → list_all is_byte bytes ≡ true → IsGood (Rx port bytes)
-entry_good port bytes few line sized are =
+some_word : (bytes : List ℕ) → length bytes ≡ 16 → is_word bytes ≡ true
+some_word [] h = absurd (omega arith)
+some_word (b ∷ bytes) h = refl
+
+entry_good : (port : ℕ) (bytes : List ℕ) → port < 7 → has_number ports port ≡ true → length bytes ≡ 16 → list_all is_byte bytes ≡ true → IsGood (Rx port bytes)
+entry_good port bytes few declared sized are =
     let as_is : shown bytes ≡ bytes = shown_whole bytes (omega arith) (omega arith) in
     let digits : length (decimal port) ≤ 20 = length-decimal-le 20 port (omega arith) (omega arith) (omega arith) in
     record {
       feedless = ap (λ (shown : List ℕ). is_line (decimal port ++ (32 ∷ hex_of shown))) as_is ∙ joined (decimal port) (32 ∷ hex_of bytes) (decimal_feedless port (omega arith)) (hex_feedless bytes are);
       short = rw as_is (omega (arith, digits, sized, length-append (decimal port) (32 ∷ hex_of bytes), length_hex bytes));
-      line = line;
+      line =
+          let in_range : (is_word (shown bytes) && list_all is_byte (shown bytes)) ≡ true =
+          ap (λ (shown : List ℕ). is_word shown && list_all is_byte shown) as_is ∙ both (is_word bytes) _ (some_word bytes sized) are in
+          both (has_number ports port) _ declared (both (is_word (shown bytes) && list_all is_byte (shown bytes)) true in_range refl);
       whole = both _ _ (some (length bytes) sized) (not_long (length bytes) sized);
     }
   where
@@ -155,20 +164,20 @@ moment_good moment h = record {
   whole = refl;
 }
   where
-    small : (n : ℕ) → n ≤ last_moment → nat_le n last_moment ≡ true
+    small : (n : ℕ) → n ≤ last_moment → ((nat_le 0 n && nat_le n last_moment) && true) ≡ true
     small n h = grind arith
 
 each_good : (b : Bool) (s : Step) → IsGood s → AreGood (if b then s ∷ [] else [])
 each_good true s h = (h, tt)
 each_good false s h = tt
 
-is_port : (r : ℕ) → r < 6 → has_line ports (Rx (r + 1) []) ≡ true
+is_port : (r : ℕ) → r < 6 → has_number ports (r + 1) ≡ true
 is_port r h = grind arith
 
 frame_good : (i n : ℕ) → i ≤ most_frames → AreGood (frame_steps i n)
 unfolding digits
 frame_good i n few = (
-  entry_good (n % 6 + 1) (frame n) (omega arith) (both _ _ (first_so _ _ (is_port (n % 6) (omega arith))) (frame_bytes n)) (frame_length n) (frame_bytes n),
+  entry_good (n % 6 + 1) (frame n) (omega arith) (is_port (n % 6) (omega arith)) (frame_length n) (frame_bytes n),
   (
     record { feedless = refl; short = omega arith; line = refl; whole = refl },
     good_append (each 3 i (Report chip)) _ (each_good (i % 3 == 0) (Report chip) (record { feedless = refl; short = omega arith; line = refl; whole = refl }))

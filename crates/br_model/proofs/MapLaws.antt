@@ -10,7 +10,7 @@ use Rattle.std.specs.BTreeMap.{insert_entry, is_at}
 use Rattle.std.specs.Map.{lookup, remove_entry, keys_of}
 use Rattle.std.specs.Set.{remove_key}
 use Rattle.std.specs.FinMap.Entries.{by_order}
-use Rattle.br_model.specs.Maps.{get, put, without, parted}
+use Rattle.br_model.specs.Data.Maps.{get, put, without, parted}
 
 pub insert_entry-is : {K X : Type 0} (R : K → K → Ordering) (es : List (K × X)) (k : K) (v : X) → insert_entry R es k v ≡ put R es k v
 insert_entry-is R [] k v = refl

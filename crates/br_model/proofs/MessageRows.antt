@@ -1,8 +1,8 @@
 -- What frames say, computed by the definitions.
 use Rattle.std.proofs.Common.{◌≡◌, refl}
-use Rattle.br_model.specs.Messages.{message}
-use Rattle.br_model.specs.Readings.{readings}
-use Rattle.br_model.specs.WorkedFrames.{worked_1, worked_1_read, worked_2, worked_2_read, worked_3, worked_3_read, worked_4, worked_4_read}
+use Rattle.br_model.specs.Wire.Messages.{message}
+use Rattle.br_model.specs.Worked.Readings.{readings}
+use Rattle.br_model.specs.Worked.Frames.{worked_1, worked_1_read, worked_2, worked_2_read, worked_3, worked_3_read, worked_4, worked_4_read}
 
 pub read_worked_1 : readings worked_1 ≡ worked_1_read
 unfolding message readings

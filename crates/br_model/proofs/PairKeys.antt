@@ -7,7 +7,7 @@ use Rattle.std.specs.Cmp.{IsTotalOrder, unsigned_tied}
 use Rattle.std.specs.Ordering.{nat_cmp, is_eq, eq_by_cmp, ordering_then}
 use Rattle.std.proofs.lemmas.Cmp.{then_total, on_total, nat_cmp_total}
 use Rattle.std.proofs.lemmas.Map.Lookups.{exact_pairs, exact_unsigned}
-use Rattle.br_model.specs.Maps.{pair_cmp}
+use Rattle.br_model.specs.Data.Maps.{pair_cmp}
 
 abbrev pub Key : Type 0
 Key = ℕ × ℕ

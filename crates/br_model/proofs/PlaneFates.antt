@@ -20,6 +20,7 @@ use Rattle.br_model.specs.declared.steps.Refusal.{Refusal}
 use Rattle.br_model.specs.declared.steps.Refusal.TheVariants.{NoSuchPoint}
 use Rattle.br_model.specs.declared.bpdu.BpduMsg.{BpduMsg}
 use Rattle.br_model.specs.declared.transcript.Line.TheVariants.{Overrun, Done}
+<<<<<<< HEAD
 use Rattle.br_model.specs.Chip.{Chip, notes}
 use Rattle.br_model.specs.DomainPorts.{is_marked}
 use Rattle.br_model.specs.Domains.{Domains, domain_of, foreign}
@@ -33,14 +34,34 @@ use Rattle.br_model.specs.Leave.{leave}
 use Rattle.br_model.specs.Shares.{chip_out, chip_out_by, within, mark_of, soft_out}
 use Rattle.br_model.specs.Table.{Table, table}
 use Rattle.br_model.proofs.PlaneChips.{chip_of-declared}
+=======
+use Rattle.br_model.specs.Plane.Chip.{Chip, applies, notes}
+use Rattle.br_model.specs.Table.DomainPorts.{is_in_domain, is_marked}
+use Rattle.br_model.specs.Table.Domains.{Domains, chip, domain_of, foreign}
+use Rattle.br_model.specs.Wire.Frames.{frame}
+use Rattle.br_model.specs.Control.Learning.{Triple}
+use Rattle.br_model.specs.Table.Limits.{most_waiting}
+use Rattle.br_model.specs.Data.Maps.{has}
+use Rattle.br_model.specs.Control.Reaction.{Reaction}
+use Rattle.br_model.specs.Table.Setup.{Setup}
+use Rattle.br_model.specs.Forward.Leave.{leave}
+use Rattle.br_model.specs.Forward.Shares.{chip_out, chip_out_by, within, mark_of, soft_out}
+use Rattle.br_model.specs.Table.Table.{Table, table}
+>>>>>>> main
 use Rattle.br_model.proofs.PlaneKept.{counted-world}
 use Rattle.br_model.proofs.PlaneLists.{same-some, find-passes, find-each}
 use Rattle.br_model.proofs.PlaneShares.{ascends-filter, ascends-leave, times-ascends, times-within}
 use Rattle.br_model.specs.Plane.ChipSteps.{turns_to, turns, tells, reports, swept, sweeps}
+<<<<<<< HEAD
 use Rattle.br_model.specs.Plane.Entering.{waits, goes_on, enters_chip, enters_by, enters_as, class_of, chip_of}
+=======
+use Rattle.br_model.specs.Plane.Entering.{waits, goes_on, enters_chip, enters_as, class_of}
+>>>>>>> main
 use Rattle.br_model.specs.Plane.Serving.{posts, serves, holds, held_with, lets_go, is_point, posts_held, posts_at}
-use Rattle.br_model.specs.Plane.Steps.{Step, Rx, Cmd, Now, Serve, Hold, Post, Turn, Report, Sweep, Publish, does, world_step}
-use Rattle.br_model.specs.Plane.Invariants.{frames_of, IsFrame, IsWorld}
+use Rattle.br_model.specs.Plane.Steps.{does, world_step}
+use Rattle.br_model.specs.declared.steps.Step.{Step}
+use Rattle.br_model.specs.declared.steps.Step.TheVariants.{Rx, Cmd, Now, Serve, Hold, Post, Turn, Report, Sweep, Publish}
+use Rattle.br_model.specs.Theorems.Invariants.{frames_of, IsFrame, IsWorld}
 use Rattle.br_model.specs.Plane.Sending.{Sent, sent_by, sent_of, times}
 use Rattle.br_model.specs.Plane.World.{World, Waiting, Holding, Stepped, chip_at, with_chip, next_of, table_at, table_of_chip, sent, control_lines, answered, reacts, refused}
 
@@ -455,18 +476,31 @@ posts_at-effect id i w (Some h) point e k = posts_held-effect id i w h point e k
 
 -- The other steps.
 
+<<<<<<< HEAD
 turns_to-effect : (id : ℕ) (w : World) (c : Chip) (o : Option Change) → Effect id w (turns_to w c o).0 (turns_to w c o).1
 turns_to-effect id w c None = quiet id w w _ (alike w) refl
 turns_to-effect id w c (Some d) = quiet id w _ _ (record { setup = refl; next = refl; published = refl; held = refl; waiting = refl }) refl
 
+=======
+alike-chip : (w : World) (c : Chip) → Alike w (with_chip w c)
+alike-chip w c = record { setup = refl; next = refl; published = refl; held = refl; waiting = refl }
+
+turns_to-effect : (id : ℕ) (w : World) (c : Chip) (o : Option Change) → Effect id w (turns_to w c o).0 (turns_to w c o).1
+turns_to-effect id w c None = quiet id w w _ (alike w) refl
+turns_to-effect id w c (Some d) = quiet id w _ _ (alike-chip w (applies c d)) refl
+
+>>>>>>> main
 turns-effect : (id : ℕ) (w : World) (o : Option Chip) → Effect id w (turns w o).0 (turns w o).1
 turns-effect id w None = quiet id w w _ (alike w) refl
 turns-effect id w (Some c) = turns_to-effect id w c (next_of w c)
 
+<<<<<<< HEAD
 -- a chip changes
 alike-chip : (w : World) (c : Chip) → Alike w (with_chip w c)
 alike-chip w c = record { setup = refl; next = refl; published = refl; held = refl; waiting = refl }
 
+=======
+>>>>>>> main
 tells-effect : (id : ℕ) (w : World) (c : Chip) (rs : List Triple) → Effect id w (tells w c rs).0 (tells w c rs).1
 tells-effect id w c [] = quiet id w w _ (alike w) refl
 tells-effect id w c (x ∷ later) = answers id w (with_chip w (record c { reports = later })) (reacts w (events.Told x.0 x.1 x.2)) (alike-chip w (record c { reports = later }))

@@ -9,12 +9,12 @@ use Rattle.br_model.specs.declared.change.Change.{Change}
 use Rattle.br_model.specs.declared.steps.Event.{Event}
 use Rattle.br_model.specs.declared.steps.Refusal.{Refusal}
 use Rattle.br_model.specs.declared.steps.Refusal.TheVariants.{HistoryFull}
-use Rattle.br_model.specs.Control.{Control, keeps_up}
-use Rattle.br_model.specs.Course.{Course, from, makes}
-use Rattle.br_model.specs.Limits.{fits, all_fit, most_changes}
-use Rattle.br_model.specs.Reaction.{Reaction, has_room, in_room, react, happens}
-use Rattle.br_model.specs.Setup.{Setup}
-use Rattle.br_model.specs.Table.{Table, start, apply, table}
+use Rattle.br_model.specs.Control.Control.{Control, keeps_up}
+use Rattle.br_model.specs.Control.Course.{Course, from, makes}
+use Rattle.br_model.specs.Table.Limits.{fits, all_fit, most_changes}
+use Rattle.br_model.specs.Control.Reaction.{Reaction, has_room, in_room, react, happens}
+use Rattle.br_model.specs.Table.Setup.{Setup}
+use Rattle.br_model.specs.Table.Table.{Table, start, apply, table}
 use Rattle.br_model.proofs.ReactionSteps.{IsKept, happens-keeps, makes-table}
 use Rattle.br_model.proofs.SnoopSteps.{snoops-keeps}
 

@@ -5,17 +5,18 @@ use Rattle.std.proofs.lemmas.List.{append-nil}
 use Rattle.std.proofs.lemmas.List.Elements.{All-from_recursion}
 use Rattle.std.specs.Prelude.{◌==◌}
 use Rattle.std.specs.List.{AllByRecursion, filter, fold}
+use Rattle.br_model.specs.declared.steps.Step.{Step}
 use Rattle.br_model.specs.declared.transcript.Line.{Line}
-use Rattle.br_model.specs.DomainPorts.{is_marked}
-use Rattle.br_model.specs.Domains.{Domains}
-use Rattle.br_model.specs.Leave.{leave}
-use Rattle.br_model.specs.Setup.{Setup}
-use Rattle.br_model.specs.Shares.{remaining, soft_out}
-use Rattle.br_model.specs.Plane.Invariants.{frames_of, IsWorld}
-use Rattle.br_model.specs.Plane.OnceOnly.{LinesStand}
+use Rattle.br_model.specs.Table.DomainPorts.{is_marked}
+use Rattle.br_model.specs.Table.Domains.{Domains}
+use Rattle.br_model.specs.Forward.Leave.{leave}
+use Rattle.br_model.specs.Table.Setup.{Setup}
+use Rattle.br_model.specs.Forward.Shares.{remaining, soft_out}
+use Rattle.br_model.specs.Theorems.Invariants.{frames_of, IsWorld}
+use Rattle.br_model.specs.Theorems.OnceOnly.{LinesStand}
 use Rattle.br_model.specs.Plane.Runs.{run, then_step}
 use Rattle.br_model.specs.Plane.Sending.{Sent, times, sent_of}
-use Rattle.br_model.specs.Plane.Steps.{Step, world_step}
+use Rattle.br_model.specs.Plane.Steps.{world_step}
 use Rattle.br_model.specs.Plane.World.{World, Waiting, Holding, Stepped, first_world, table_at}
 use Rattle.br_model.proofs.PlaneFates.{sent_of-append, Found, hold_entry, wait_entry, waiting_found, found, found-taken, Fate, idle, entered, taken, gone, Waits, step-effect}
 use Rattle.br_model.proofs.PlaneKept.{first-world, step-world}

@@ -10,16 +10,16 @@ use Rattle.std.specs.Option.{option_eq}
 use Rattle.br_model.specs.declared.frame.Class.{Class}
 use Rattle.br_model.specs.declared.frame.Class.TheVariants.{Drop, Trap, Copy, Forward}
 use Rattle.br_model.specs.declared.frame.Head.{Head}
-use Rattle.br_model.specs.Admission.{admit}
-use Rattle.br_model.specs.Class.{class}
-use Rattle.br_model.specs.DomainPorts.{is_marked}
-use Rattle.br_model.specs.Domains.{Domains, domain_of, foreign}
-use Rattle.br_model.specs.Frames.{dressed}
-use Rattle.br_model.specs.Leave.{all_ports, egress_ports, ports_in, ports_out, tag_at, dressed_in, leave}
-use Rattle.br_model.specs.Messages.{message}
-use Rattle.br_model.specs.Shares.{within, chip_out_by, remaining}
-use Rattle.br_model.specs.Table.{Table}
-use Rattle.br_model.specs.Targets.{to_tree}
+use Rattle.br_model.specs.Forward.Admission.{admit}
+use Rattle.br_model.specs.Forward.Class.{class}
+use Rattle.br_model.specs.Table.DomainPorts.{is_marked}
+use Rattle.br_model.specs.Table.Domains.{Domains, domain_of, foreign, port_places}
+use Rattle.br_model.specs.Wire.Frames.{dressed}
+use Rattle.br_model.specs.Forward.Leave.{all_ports, egress_ports, ports_in, ports_out, tag_at, dressed_in, leave}
+use Rattle.br_model.specs.Wire.Messages.{message}
+use Rattle.br_model.specs.Forward.Shares.{within, chip_out_by, remaining}
+use Rattle.br_model.specs.Table.Table.{Table}
+use Rattle.br_model.specs.Forward.Targets.{to_tree}
 use Rattle.br_model.specs.Plane.Sending.{Sent, times, placed, in_port_order, software_share, both_shares}
 use Rattle.br_model.proofs.Ranges.{filter-all_ports}
 
@@ -58,7 +58,11 @@ module _ (g : ℕ → List ℕ) (p : ℕ → Bool) where
         | false ↦ rest
       ]
 
+<<<<<<< HEAD
   ascends-ports : (n : ℕ) → n ≡ 255 → Ascends (map (λ q. (q, g q)) (filter p all_ports))
+=======
+  ascends-ports : (n : ℕ) → n ≡ port_places → Ascends (map (λ q. (q, g q)) (filter p all_ports))
+>>>>>>> main
   ascends-ports n e = subst (λ xs. Ascends (map (λ q. (q, g q)) xs)) (filter-all_ports p n e) (ascends-range 0 n)
 
 pub ascends-leave : (t : Table) (port : ℕ) (bytes : List ℕ) (head : Head) → Ascends (leave t port bytes head)
@@ -68,7 +72,11 @@ ascends-leave t port bytes head = by (admit t port head) (to_tree t port head)
     by : (o : Option ℕ) (b : Bool) → Ascends (dressed_in t o (cond b [] (ports_in t port o head (message bytes head))) bytes head)
     by None b = tt
     by (Some vid) true = tt
+<<<<<<< HEAD
     by (Some vid) false = ascends-ports (λ q. dressed bytes head (tag_at t q vid)) _ 255 refl
+=======
+    by (Some vid) false = ascends-ports (λ q. dressed bytes head (tag_at t q vid)) _ port_places refl
+>>>>>>> main
 
 -- The order of ports.
 

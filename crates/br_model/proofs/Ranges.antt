@@ -1,7 +1,8 @@
 -- The numbers from 0 on that pass a test.
 use Rattle.std.proofs.Common.{◌≡◌, ℕ, zero, suc, ◌+◌, Bool, true, false, cond, List, [], ◌∷◌, ◌++◌, refl, sym, ap, ◌∙◌, arith, add-one, add-zero}
 use Rattle.std.specs.List.{filter, range_with_len}
-use Rattle.br_model.specs.Leave.{all_ports}
+use Rattle.br_model.specs.Forward.Leave.{all_ports}
+use Rattle.br_model.specs.Table.Domains.{port_places}
 
 more_from : (p : ℕ → Bool) (a n : ℕ) → filter p (range_with_len a (suc n)) ≡ filter p (range_with_len a n) ++ cond (p (a + n)) ((a + n) ∷ []) []
 more_from p a zero = ap (λ m. cond (p m) (m ∷ []) []) (sym (add-zero a))
@@ -20,10 +21,10 @@ filter-range_more p n =
     let e : 0 + n ≡ n = omega arith in
     rw add-one (more_from p 0 n ∙ ap (λ m. filter p (range_with_len 0 n) ++ cond (p m) (m ∷ []) []) e)
 
+<<<<<<< HEAD
 pub filter-all_ports : (p : ℕ → Bool) (n : ℕ) → n ≡ 255 → filter p (range_with_len 0 n) ≡ filter p all_ports
+=======
+pub filter-all_ports : (p : ℕ → Bool) (n : ℕ) → n ≡ port_places → filter p (range_with_len 0 n) ≡ filter p all_ports
+>>>>>>> main
 unfolding all_ports
 filter-all_ports p n e = ap (λ m. filter p (range_with_len 0 m)) e
-
--- the list so far, and the next number where it passes
-pub next_number : (p : ℕ → Bool) (n : ℕ) (xs : List ℕ) → xs ≡ filter p (range_with_len 0 n) → xs ++ cond (p n) (n ∷ []) [] ≡ filter p (range_with_len 0 (n + 1))
-next_number p n xs e = ap (λ (ys : List ℕ). ys ++ cond (p n) (n ∷ []) []) e ∙ sym (filter-range_more p n)

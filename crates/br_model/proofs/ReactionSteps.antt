@@ -15,22 +15,22 @@ use Rattle.br_model.specs.declared.steps.Refusal.{Refusal}
 use Rattle.br_model.specs.declared.steps.Refusal.TheVariants.{Backward}
 use Rattle.br_model.specs.declared.tree.TreeEvent.{TreeEvent}
 use Rattle.br_model.specs.declared.tree.TreeEvent.TheVariants as tree_events
-use Rattle.br_model.specs.Ageing.{expired, forgets, forgotten}
-use Rattle.br_model.specs.Commands.{command, sets}
-use Rattle.br_model.specs.Commands.SpanningTree.{tells}
-use Rattle.br_model.specs.Control.{Control, keeps_up, renewed}
-use Rattle.br_model.specs.Course.{Course, makes, makes_all}
-use Rattle.br_model.specs.DomainPorts.{is_in_domain}
-use Rattle.br_model.specs.Domains.{software}
-use Rattle.br_model.specs.Ends.{endings}
-use Rattle.br_model.specs.Learning.{Address, is_renewed, teach, taught, told as reported}
-use Rattle.br_model.specs.Limits.{fits}
-use Rattle.br_model.specs.Reaction.{happens, commanded, passes_to, at_moment, ages, ends, sees, learns_of, learns, renews}
-use Rattle.br_model.specs.Setup.{Setup}
-use Rattle.br_model.specs.Snooping.{snoops}
-use Rattle.br_model.specs.Table.{start, apply, table}
-use Rattle.br_model.specs.TreeReaction.{told, heard, states}
-use Rattle.br_model.specs.TreeStep.{tree_step, sent}
+use Rattle.br_model.specs.Control.Ageing.{expired, forgets, forgotten}
+use Rattle.br_model.specs.Control.Commands.{command, sets}
+use Rattle.br_model.specs.Control.Commands.SpanningTree.{tells}
+use Rattle.br_model.specs.Control.Control.{Control, keeps_up, renewed}
+use Rattle.br_model.specs.Control.Course.{Course, makes, makes_all}
+use Rattle.br_model.specs.Table.DomainPorts.{is_in_domain}
+use Rattle.br_model.specs.Table.Domains.{software}
+use Rattle.br_model.specs.Control.Ends.{endings}
+use Rattle.br_model.specs.Control.Learning.{Address, is_renewed, teach, taught, told as reported}
+use Rattle.br_model.specs.Table.Limits.{fits}
+use Rattle.br_model.specs.Control.Reaction.{happens, commanded, passes_to, at_moment, ages, ends, sees, learns_of, learns, renews}
+use Rattle.br_model.specs.Table.Setup.{Setup}
+use Rattle.br_model.specs.Control.Snooping.{snoops}
+use Rattle.br_model.specs.Table.Table.{start, apply, table}
+use Rattle.br_model.specs.Control.TreeReaction.{told, heard, states}
+use Rattle.br_model.specs.Tree.Step.{tree_step, sent}
 
 -- the table stays that of the changes
 pub makes-table : (h : List Change) (r : Course) (c : Change) → r.table ≡ table (h ++ r.changes) → (makes r c).table ≡ table (h ++ (makes r c).changes)

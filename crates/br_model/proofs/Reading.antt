@@ -4,11 +4,11 @@ use Rattle.std.proofs.Math.Seq.{take-append_seam}
 use Rattle.br_model.specs.declared.scenario.LineWhy.{LineWhy}
 use Rattle.br_model.specs.declared.scenario.LineWhy.TheVariants.{Long, Place, Unended}
 use Rattle.br_model.specs.declared.scenario.Said.{Said}
-use Rattle.br_model.specs.CommandForms.{step}
-use Rattle.br_model.specs.LineForms.{line_says}
-use Rattle.br_model.specs.Scenario.{Scenario, Ending, Going, Ended, Bad, Front, front, Progress, opened, takes, whole_says, section_length, reads_at, reads_front, reads_line, read, closes, closes_at, ends, is_end, bad, scenario, scenario_by, longest_line}
-use Rattle.br_model.specs.WholeLines.{is_line}
-use Rattle.br_model.specs.Words.{words}
+use Rattle.br_model.specs.Text.CommandForms.{step}
+use Rattle.br_model.specs.Text.LineForms.{line_says}
+use Rattle.br_model.specs.Text.Scenario.{Scenario, Ending, Going, Ended, Bad, Front, front, Progress, opened, takes, whole_says, section_length, reads_at, reads_front, reads_line, read, closes, closes_at, ends, is_end, bad, scenario, scenario_by, longest_line}
+use Rattle.br_model.specs.Theorems.WholeLines.{is_line}
+use Rattle.br_model.specs.Text.Words.{words}
 use Rattle.br_model.proofs.Fronts.{before, front_before, front_line, front_none}
 
 -- where the bytes end there

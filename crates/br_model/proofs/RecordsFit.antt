@@ -6,13 +6,13 @@ use Rattle.std.specs.Option.{option_map, unwrap_or}
 use Rattle.br_model.specs.declared.frame.Head.{Head}
 use Rattle.br_model.specs.declared.frame.McastMsg.TheVariants.{Records, Unrecognized}
 use Rattle.br_model.specs.declared.group.Group.{Group}
-use Rattle.br_model.specs.Checksum.{is_summed}
-use Rattle.br_model.specs.Frames.{number_at}
-use Rattle.br_model.specs.IpHeaders.{type_four, type_six, header_four, total_four, protocol_four, source_four, is_fragment, body_four, is_multicast_four, source_six, length_six, next_six, body_six, is_multicast_six}
-use Rattle.br_model.specs.Messages.{RecordsStand, report_of, leave_of, records_of, igmp, igmp_of_type, mld_of_type, message_four, message_six, message, query_four, is_report_four, leave_four, records_four, is_query_length_four, is_query_length_six, protocol_igmp}
-use Rattle.br_model.specs.MldHeaders.{hop_by_hop, icmp_six, hop_length, icmp_of, has_icmp, is_mld_type, has_mld, is_summed_six, query_six, report_six, done_six, records_six}
-use Rattle.br_model.specs.Numbers.{number}
-use Rattle.br_model.specs.Records.{address_length, group_at, record_length, record_fits, records_fit}
+use Rattle.br_model.specs.Wire.Checksum.{is_summed}
+use Rattle.br_model.specs.Wire.Frames.{number_at}
+use Rattle.br_model.specs.Wire.IpHeaders.{type_four, type_six, header_four, total_four, protocol_four, source_four, is_fragment, body_four, is_multicast_four, source_six, length_six, next_six, body_six, is_multicast_six}
+use Rattle.br_model.specs.Wire.Messages.{RecordsStand, report_of, leave_of, records_of, igmp, igmp_of_type, mld_of_type, message_four, message_six, message, query_four, is_report_four, leave_four, records_four, is_query_length_four, is_query_length_six, protocol_igmp}
+use Rattle.br_model.specs.Wire.MldHeaders.{hop_by_hop, icmp_six, hop_length, icmp_of, has_icmp, is_mld_type, has_mld, is_summed_six, query_six, report_six, done_six, records_six}
+use Rattle.br_model.specs.Data.Numbers.{number}
+use Rattle.br_model.specs.Wire.Records.{address_length, group_at, record_length, record_fits, records_fit}
 
 -- fronts of bytes
 

@@ -1,28 +1,21 @@
 -- A run step by step.
-use Rattle.std.proofs.Common.{◌≡◌, List, [], ◌∷◌, ◌++◌, map, refl, ap, ◌∙◌}
+use Rattle.std.proofs.Common.{◌≡◌, List, [], ◌∷◌, ◌++◌, refl}
 use Rattle.std.proofs.lemmas.List.Sums.{fold-append}
 use Rattle.std.proofs.lemmas.Grind.{flat_map-append}
-use Rattle.std.proofs.lemmas.List.{map-append}
 use Rattle.br_model.specs.declared.steps.Step.{Step}
 use Rattle.br_model.specs.declared.transcript.Line.{Line}
-use Rattle.br_model.specs.Plane.Naming.{named}
 use Rattle.br_model.specs.Plane.Runs.{run, then_step}
-use Rattle.br_model.specs.Plane.Steps as world
 use Rattle.br_model.specs.Plane.World.{first_world}
-use Rattle.br_model.specs.Setup.{Setup}
-use Rattle.br_model.specs.Transcript.{text, line_text}
+use Rattle.br_model.specs.Table.Setup.{Setup}
+use Rattle.br_model.specs.Text.Transcript.{text, line_text}
 
-pub run_push : (setup : Setup) (steps : List world.Step) (s : world.Step) → run setup (steps ++ s ∷ []) ≡ then_step (run setup steps) s
+pub run_push : (setup : Setup) (steps : List Step) (s : Step) → run setup (steps ++ s ∷ []) ≡ then_step (run setup steps) s
 unfolding run
 run_push setup steps s = fold-append then_step (first_world setup, []) steps (s ∷ [])
 
 pub run_none : (setup : Setup) → run setup [] ≡ (first_world setup, [])
 unfolding run
 run_none setup = refl
-
--- one line's step more
-pub run_said : (setup : Setup) (steps : List Step) (s : Step) → run setup (map named (steps ++ s ∷ [])) ≡ then_step (run setup (map named steps)) (named s)
-run_said setup steps s = ap (run setup) (map-append named steps (s ∷ [])) ∙ run_push setup (map named steps) (named s)
 
 pub text-append : (xs ys : List Line) → text (xs ++ ys) ≡ text xs ++ text ys
 text-append xs ys = flat_map-append line_text xs ys

@@ -13,18 +13,18 @@ use Rattle.br_model.specs.declared.frame.Head.{Head}
 use Rattle.br_model.specs.declared.frame.McastMsg.{McastMsg}
 use Rattle.br_model.specs.declared.frame.McastMsg.TheVariants.{Plain, Payload, Query, Report, Leave, Records, Unrecognized}
 use Rattle.br_model.specs.declared.group.Group.{Group}
-use Rattle.br_model.specs.Admission.{admit}
-use Rattle.br_model.specs.Control.{keeps_up, ends_with}
-use Rattle.br_model.specs.Course.{Course, makes}
-use Rattle.br_model.specs.Ends.{member_time, leave_time, end_of, routes, queries}
-use Rattle.br_model.specs.GroupPairs.{has_room}
-use Rattle.br_model.specs.Groups.{Membership, is_link_local, membership_cmp}
-use Rattle.br_model.specs.Maps.{get, has}
-use Rattle.br_model.specs.Messages.{message}
-use Rattle.br_model.specs.Records.{acts}
-use Rattle.br_model.specs.Snooping.{fastleave, end_at, until, joins, leaves, leaves_from, acted, querier_heard, router_heard, said, snoops_in, snoops}
-use Rattle.br_model.specs.Table.{apply}
-use Rattle.br_model.specs.Targets.{has_flag, knows_querier}
+use Rattle.br_model.specs.Forward.Admission.{admit}
+use Rattle.br_model.specs.Control.Control.{keeps_up, ends_with}
+use Rattle.br_model.specs.Control.Course.{Course, makes}
+use Rattle.br_model.specs.Control.Ends.{member_time, leave_time, end_of, routes, queries}
+use Rattle.br_model.specs.Table.GroupPairs.{has_room}
+use Rattle.br_model.specs.Table.Groups.{Membership, is_link_local, membership_cmp}
+use Rattle.br_model.specs.Data.Maps.{get, has}
+use Rattle.br_model.specs.Wire.Messages.{message}
+use Rattle.br_model.specs.Wire.Records.{acts}
+use Rattle.br_model.specs.Control.Snooping.{fastleave, end_at, until, joins, leaves, leaves_from, acted, querier_heard, router_heard, said, snoops_in, snoops}
+use Rattle.br_model.specs.Table.Table.{apply}
+use Rattle.br_model.specs.Forward.Targets.{has_flag, knows_querier}
 use Rattle.br_model.proofs.GroupOrders.{membership_total}
 
 is_not : (b : Bool) → not b ≡ false → b ≡ true

@@ -17,16 +17,16 @@ use Rattle.br_model.specs.declared.tree.Stamped.{Stamped}
 use Rattle.br_model.specs.declared.tree.TreeEvent.{TreeEvent}
 use Rattle.br_model.specs.declared.tree.TreeEvent.TheVariants.{Switch, Up, Down, Message, Moment, Cost, PortPriority, Priority}
 use Rattle.br_model.specs.declared.tree.TreePort.{TreePort}
-use Rattle.br_model.specs.Maps.{get, put, without, has}
-use Rattle.br_model.specs.Table.{disabled}
-use Rattle.br_model.specs.Admission.{forwarding}
-use Rattle.br_model.specs.Tree.{Tree, bpdu_of, first_tree, numbers, port_at, state_at, each, at_port, fresh}
-use Rattle.br_model.specs.TreeVectors.{root_of, root_kept, is_root, is_root_port, is_designated, is_active, designated_ports, without_kept, roles, keeps}
-use Rattle.br_model.specs.TreeTimers.{times, is_aged_out, is_held, is_hello_due, is_tcn_due, forgets}
-use Rattle.br_model.specs.TreeStates.{blocking, listening, learning, enters, by_role, is_due, states_follow, states_move, is_opened_by_time}
-use Rattle.br_model.specs.TreeSending.{Acted, quiet, age_at, message_at, goes_out, transmitted, union, transmit, generate, is_put_off, drops_put_off, sends_put_off, notify, detected_at, detected, detected_if}
-use Rattle.br_model.specs.TreeStep.{settled, port_up, port_down, becomes_root, stops_being_root, hands_over, detects, follows, restarted, on_at, off_at, switched, config_received, tcn_received, received_at, received, with_kept, acknowledged, passed_on, with_owed, states_due, change_due, tcn_due, hello_due, moment, tree_step, message}
-use Rattle.br_model.specs.TreeLaws.{knows_states, HaveSent}
+use Rattle.br_model.specs.Data.Maps.{get, put, without, has}
+use Rattle.br_model.specs.Table.Table.{disabled}
+use Rattle.br_model.specs.Forward.Admission.{forwarding}
+use Rattle.br_model.specs.Tree.Tree.{Tree, bpdu_of, first_tree, numbers, port_at, state_at, each, at_port, fresh}
+use Rattle.br_model.specs.Tree.Vectors.{root_of, root_kept, is_root, is_root_port, is_designated, is_active, designated_ports, without_kept, roles, keeps}
+use Rattle.br_model.specs.Tree.Timers.{times, is_aged_out, is_held, is_hello_due, is_tcn_due, forgets}
+use Rattle.br_model.specs.Tree.States.{blocking, listening, learning, enters, by_role, is_due, states_follow, states_move, is_opened_by_time}
+use Rattle.br_model.specs.Tree.Sending.{Acted, quiet, age_at, message_at, goes_out, transmitted, union, transmit, generate, is_put_off, drops_put_off, sends_put_off, notify, detected_at, detected, detected_if}
+use Rattle.br_model.specs.Tree.Step.{settled, port_up, port_down, becomes_root, stops_being_root, hands_over, detects, follows, restarted, on_at, off_at, switched, config_received, tcn_received, received_at, received, with_kept, acknowledged, passed_on, with_owed, states_due, change_due, tcn_due, hello_due, moment, tree_step, message}
+use Rattle.br_model.specs.Theorems.TreeLaws.{knows_states, HaveSent}
 
 -- Ports, one after another
 

@@ -1,7 +1,7 @@
 -- Worked runs of a bridge with its spanning tree on, computed by the definitions.
 use Rattle.std.proofs.Common.{◌≡◌, refl}
-use Rattle.br_model.specs.Runs.{told}
-use Rattle.br_model.specs.WorkedTree.{bpdu_at_a_chip_port_text, bpdu_at_a_chip_port_told, tie_and_lost_root_text, tie_and_lost_root_told}
+use Rattle.br_model.specs.Program.Runs.{told}
+use Rattle.br_model.specs.Worked.Tree.{bpdu_at_a_chip_port_text, bpdu_at_a_chip_port_told, tie_and_lost_root_text, tie_and_lost_root_told}
 use Rattle.br_model.proofs.Computing.{computing_tree}
 
 pub bpdu_at_a_chip_port : told bpdu_at_a_chip_port_text ≡ bpdu_at_a_chip_port_told

@@ -5,11 +5,11 @@ use Rattle.std.specs.declared.option.Option.TheVariants.{None, Some}
 use Rattle.std.specs.declared.result.Result.TheVariants.{Ok}
 use Rattle.std.proofs.Math.Nat.{div-div-eq-div-mul, div-lt_iff_lt-mul}
 use Rattle.br_model.specs.declared.scenario.LineWhy.TheVariants.{Address}
-use Rattle.br_model.specs.Digits.{hex_of, station}
-use Rattle.br_model.specs.Numbers.{number, is_multicast}
-use Rattle.br_model.specs.Operands.{mac, station_of, found}
-use Rattle.br_model.specs.ScenarioText.{byte_at, mac_text}
-use Rattle.br_model.specs.Words.{Word}
+use Rattle.br_model.specs.Data.Digits.{hex_of, station}
+use Rattle.br_model.specs.Data.Numbers.{number, is_multicast}
+use Rattle.br_model.specs.Text.Operands.{mac, station_of, found}
+use Rattle.br_model.specs.Text.Spelling.{byte_at, mac_text}
+use Rattle.br_model.specs.Text.Words.{Word}
 use Rattle.br_model.proofs.WrittenNumbers.{hex_read, pair_letters}
 use Rattle.br_model.proofs.WrittenWords.{letters, is_proper, both}
 

@@ -10,13 +10,13 @@ use Rattle.std.proofs.lemmas.List.Folds.{list_all-append}
 use Rattle.br_model.specs.declared.group.Ip.{Ip}
 use Rattle.br_model.specs.declared.group.Ip.TheVariants.{V4, V6}
 use Rattle.br_model.specs.declared.scenario.LineWhy.TheVariants.{Address}
-use Rattle.br_model.specs.Digits.{is_digit, hex_digit, in_front, up_to}
-use Rattle.br_model.specs.IpWords.{octet, four_digits, each, in_parts, address_four, address_six, four_or_six}
-use Rattle.br_model.specs.Numbers.{number}
-use Rattle.br_model.specs.Operands.{group, found}
-use Rattle.br_model.specs.ScenarioText.{byte_at, dotted, digits_at, groups_of_four, ip_text}
-use Rattle.br_model.specs.Words.{Word, is_word}
-use Rattle.br_model.specs.WrittenSteps.{is_ip}
+use Rattle.br_model.specs.Data.Digits.{is_digit, hex_digit, in_front, up_to}
+use Rattle.br_model.specs.Text.IpWords.{octet, four_digits, each, in_parts, address_four, address_six, four_or_six}
+use Rattle.br_model.specs.Data.Numbers.{number}
+use Rattle.br_model.specs.Text.Operands.{group, found}
+use Rattle.br_model.specs.Text.Spelling.{byte_at, dotted, digits_at, groups_of_four, ip_text}
+use Rattle.br_model.specs.Text.Words.{Word, is_word}
+use Rattle.br_model.specs.Text.Operands.{is_ip}
 use Rattle.br_model.proofs.WrittenAddresses.{byte_below, step, top}
 use Rattle.br_model.proofs.WrittenNumbers.{decimal_digits, decimal_letters, decimal_proper, decimal_read, hex_digit_letter, hex_read}
 use Rattle.br_model.proofs.WrittenWords.{is_letter, letters, is_proper, both}

@@ -1,24 +1,25 @@
 -- The line that a step is written as is read back to the step.
+<<<<<<< HEAD
 use Rattle.std.proofs.Common.{◌≡◌, ℕ, zero, suc, ◌+◌, ◌^◌, ◌<◌, ◌≤◌, ◌==◌, nat_lt, nat_le, Bool, true, false, ◌&&◌, ◌||◌, if◌then◌else◌, List, [], ◌∷◌, ◌++◌, length, take, length-take, inl, inr, refl, sym, ◌∙◌, ap, subst, arith, Option, slice_index_or, append-nil}
 use Rattle.std.specs.Prelude.{codes, not}
+=======
+use Rattle.std.proofs.Common.{◌≡◌, ℕ, zero, suc, ◌+◌, ◌-◌, ◌<◌, ◌≤◌, ◌==◌, nat_lt, nat_le, Bool, true, false, if◌then◌else◌, List, [], ◌∷◌, length, take, length-take, inl, inr, refl, sym, ◌∙◌, ap, subst, arith, Some, slice_index_or}
+use Rattle.std.specs.Prelude.{codes}
+>>>>>>> main
 use Rattle.std.specs.Cmp.{first_so, second_so}
-use Rattle.std.specs.Fmt.{decimal}
 use Rattle.std.specs.List.{list_all}
-use Rattle.std.specs.Str.{bytes_eq}
-use Rattle.std.proofs.lemmas.Bool.{cases_lt, eqb-true, not-true}
-use Rattle.std.specs.declared.result.Result.{Result}
+use Rattle.std.specs.Option.{option_map}
+use Rattle.std.specs.declared.option.Option.TheVariants.{None}
 use Rattle.std.specs.declared.result.Result.TheVariants.{Ok, Err}
-use Rattle.br_model.specs.declared.change.Kind.{Kind}
+use Rattle.std.proofs.lemmas.Bool.{cases_lt, eqb-true}
 use Rattle.br_model.specs.declared.change.Kind.TheVariants.{Local, Static, Learned, Extern}
 use Rattle.br_model.specs.declared.frame.FrameFault.TheVariants as faults
-use Rattle.br_model.specs.declared.group.Ip.{Ip}
-use Rattle.br_model.specs.declared.scenario.LineWhy.{LineWhy}
-use Rattle.br_model.specs.declared.scenario.LineWhy.TheVariants as why
 use Rattle.br_model.specs.declared.scenario.Said.{Said}
 use Rattle.br_model.specs.declared.scenario.Said.TheVariants.{Blank, Does}
 use Rattle.br_model.specs.declared.steps.Command.{Command}
 use Rattle.br_model.specs.declared.steps.Command.TheVariants as commands
 use Rattle.br_model.specs.declared.steps.Step.{Step}
+<<<<<<< HEAD
 use Rattle.br_model.specs.declared.steps.Step.TheVariants.{Rx, Cmd, Now, Serve, Turn, Report, Sweep, Publish}
 use Rattle.br_model.specs.CommandForms.{step}
 use Rattle.br_model.specs.Declarations.{are_declared}
@@ -38,25 +39,45 @@ use Rattle.br_model.proofs.WrittenGroups.{ip_read, ip_proper}
 use Rattle.br_model.proofs.WrittenNames.{port_small, port_number_read, port_name_read, name_proper, not_host, device_read, device_proper, number_read}
 use Rattle.br_model.proofs.WrittenNumbers.{decimal_proper, hex_read, hex_proper}
 use Rattle.br_model.proofs.WrittenWords.{is_proper, joined, both, words_joined}
+=======
+use Rattle.br_model.specs.declared.steps.Step.TheVariants.{Rx, Cmd, Now, Serve, Hold, Post, Turn, Report, Sweep, Publish}
+use Rattle.br_model.specs.Table.Domains.{host, chip}
+use Rattle.br_model.specs.Text.CommandForms as forms
+use Rattle.br_model.specs.Text.Declarations.{are_declared}
+use Rattle.br_model.specs.Text.Forms.{Form, Row, Values, words_of, all_values, fills, line}
+use Rattle.br_model.specs.Text.LineForms as lines
+use Rattle.br_model.specs.Text.Operands.{in_range}
+use Rattle.br_model.specs.Text.Roster.{Roster}
+use Rattle.br_model.specs.Text.ScenarioText.{fits_in, has_line, step_words}
+use Rattle.br_model.specs.Text.Spelling.{shown}
+use Rattle.br_model.specs.Text.Words.{Word, is_word, is_comment, joined, words}
+use Rattle.br_model.specs.Theorems.WrittenSteps.{given, is_whole}
+use Rattle.br_model.specs.Wire.Frames.{longest_frame, shortest_frame, frame}
+use Rattle.br_model.proofs.WrittenRows.{is_sound, all_proper, as_many, own_stand, behind_stand, first_near, makes, row_read}
+use Rattle.br_model.proofs.WrittenWords.{is_proper, both, words_joined}
+>>>>>>> main
 
--- A line whose words are of the form of a step says what its operands give.
-says : {A : Type 0} (r : Roster) (ws : List Word) (made : Result A LineWhy → Result Said LineWhy) {x : Result A LineWhy} {a : A} → x ≡ Ok a
-    → step r.place ≡ true → list_all is_proper ws ≡ true → is_comment (joined ws) ≡ false
-    → all_say r ws ≡ made (if step r.place then x else Err why.Place)
-    → line_says r (joined ws) ≡ made (Ok a)
-unfolding line_says
-says {A} r ws made {x = x} gives place proper line form =
-    ap (λ (b : Bool). if b then Ok Blank else all_say r (words (joined ws))) line
-    ∙ ap (all_say r) (words_joined ws proper)
-    ∙ form
-    ∙ ap (λ (b : Bool). made (if b then x else Err why.Place)) place
-    ∙ ap made gives
+-- lines by their words
 
--- one, two and three operands are read
+says : (r : Roster) (ws : List Word) → list_all is_proper ws ≡ true → is_comment (joined ws) ≡ false → lines.line_says r (joined ws) ≡ lines.all_say r ws
+unfolding lines.line_says
+says r ws proper line =
+    ap (λ (b : Bool). if b then Ok Blank else lines.all_say r (words (joined ws))) line ∙ ap (lines.all_say r) (words_joined ws proper)
 
-one : {A B : Type 0} {x : Result A LineWhy} {a : A} (make : A → B) → x ≡ Ok a → after x (λ p. Ok (make p)) ≡ Ok (make a)
-one {A} make h = ap (λ (x : Result A LineWhy). after x (λ p. Ok (make p))) h
+-- a line that a row writes of values in range
+pub line_read : (r : Roster) (q : Row Said) (values : Values q.shape) → are_declared r.ports ≡ true → q.place r.place ≡ true → is_sound q.shape ≡ true
+    → first_near lines.lines q.shape ≡ Some q → is_comment (joined (words_of r.ports q.shape values)) ≡ false
+    → lines.all_say r (words_of r.ports q.shape values) ≡ line lines.lines r (length (words_of r.ports q.shape values)) (λ i. slice_index_or (words_of r.ports q.shape values) i [])
+    → all_values (in_range r.ports) q.shape values ≡ true
+    → lines.line_says r (joined (words_of r.ports q.shape values)) ≡ Ok (makes 0 q.shape q.says values)
+line_read r q values all place sound first text other h =
+    let ws = words_of r.ports q.shape values in
+    says r ws (all_proper r.ports q.shape values all sound h) text
+    ∙ other
+    ∙ ap (λ (n : ℕ). line lines.lines r n (λ i. slice_index_or ws i [])) (as_many r.ports q.shape values)
+    ∙ row_read r lines.lines q values (λ i. slice_index_or ws i []) place all sound first h (own_stand ws)
 
+<<<<<<< HEAD
 two : {A B C : Type 0} {x : Result A LineWhy} {y : Result B LineWhy} {a : A} {b : B} (make : A → B → C) → x ≡ Ok a → y ≡ Ok b
     → after x (λ p. after y (λ q. Ok (make p q))) ≡ Ok (make a b)
 two {A} {B} {y = y} {a = a} make h i = ap (λ (x : Result A LineWhy). after x (λ p. after y (λ q. Ok (make p q)))) h ∙ one (make a) i
@@ -90,19 +111,33 @@ chip_proper ports dom h = decimal_proper dom (below last_chip dom (omega arith) 
 
 station_read : (address : ℕ) → is_station address ≡ true → mac (mac_text address) ≡ Ok address
 station_read address h = mac_read address (small (2 ^ 48) address (first_so _ _ h)) (not-true _ (second_so _ _ h))
+=======
+-- the line of a command that a row writes
+command_line : (r : Roster) (q : Row Command) (values : Values q.shape) → are_declared r.ports ≡ true → q.place r.place ≡ true → is_sound q.shape ≡ true
+    → first_near forms.commands q.shape ≡ Some q → all_values (in_range r.ports) q.shape values ≡ true
+    → lines.line_says r (joined (codes "cmd" ∷ words_of r.ports q.shape values)) ≡ Ok (Does (Cmd (makes 0 q.shape q.says values)))
+command_line r q values all place sound first h =
+    let ws = words_of r.ports q.shape values in
+    let behind : ℕ → Word = λ i. slice_index_or (codes "cmd" ∷ ws) (i + 1) [] in
+    says r (codes "cmd" ∷ ws) (both (is_proper (codes "cmd")) (list_all is_proper ws) refl (all_proper r.ports q.shape values all sound h)) (no_comment ws)
+    ∙ ap (λ (n : ℕ). lines.commanded (line forms.commands r n behind)) (one_less (length ws) (length q.shape) (as_many r.ports q.shape values))
+    ∙ ap lines.commanded (row_read r forms.commands q values behind place all sound first h (behind_stand (codes "cmd") ws))
+>>>>>>> main
   where
-    small : (m n : ℕ) → nat_lt n m ≡ true → n < m
-    small m n h = grind arith
+    one_less : (n m : ℕ) → n ≡ m → suc n - 1 ≡ m
+    one_less n m e = omega arith
 
-hex_is : (bytes : List ℕ) → is_word bytes ≡ true → list_all is_byte bytes ≡ true → hex (hex_of bytes) ≡ Ok bytes
-unfolding hex
-hex_is [] some h = absurd (cc)
-hex_is (b ∷ bytes) some h = ap bytes_of (hex_read (b ∷ bytes) h)
+    no_comment : (ws : List Word) → is_comment (joined (codes "cmd" ∷ ws)) ≡ false
+    no_comment [] = refl
+    no_comment (w ∷ ws) = refl
+
+-- the frame that a line shows
 
 shown_some : (bytes : List ℕ) → is_word (shown bytes) ≡ true
 shown_some [] = refl
 shown_some (b ∷ bytes) = refl
 
+<<<<<<< HEAD
 take_all : (n : ℕ) (bytes : List ℕ) → list_all is_byte bytes ≡ true → list_all is_byte (take n bytes) ≡ true
 take_all zero bytes h = refl
 take_all (suc n) [] h = refl
@@ -148,121 +183,77 @@ publish_read : (r : Roster) → step r.place ≡ true → line_says r (codes "pu
 publish_read r place = says r (codes "publish" ∷ []) (λ x. x) {x = Ok (Does Publish)} refl place refl refl refl
 
 -- commands
+=======
+-- the rows of all commands and steps
+>>>>>>> main
 
 -- the command's line is read back
 abbrev Reads : Roster → Command → Type 0
-Reads r c = line_says r (codes "cmd " ++ command_text r.ports c) ≡ Ok (Does (Cmd c))
+Reads r c = lines.line_says r (step_words r.ports (Cmd c)) ≡ Ok (Does (Cmd c))
 
-up_read : (r : Roster) (port : ℕ) → step r.place ≡ true → are_declared r.ports ≡ true → has_number r.ports port ≡ true → Reads r (commands.PortUp port)
-up_read r port place all h =
-    says r (codes "cmd" ∷ codes "port" ∷ codes "up" ∷ name_of r.ports port ∷ []) commanded
-    (one (λ p. commands.PortUp p) (port_name_read r.ports port all h))
-    place (both _ _ (name_proper r.ports port all h) refl) refl refl
+abbrev HasLine : Roster → Command → Type 0
+HasLine r c = has_line r.ports (Cmd c) ≡ true
 
-down_read : (r : Roster) (port : ℕ) → step r.place ≡ true → are_declared r.ports ≡ true → has_number r.ports port ≡ true → Reads r (commands.PortDown port)
-down_read r port place all h =
-    says r (codes "cmd" ∷ codes "port" ∷ codes "down" ∷ name_of r.ports port ∷ []) commanded
-    (one (λ p. commands.PortDown p) (port_name_read r.ports port all h))
-    place (both _ _ (name_proper r.ports port all h) refl) refl refl
-
--- what is said of each flag that has a name
-by_flag : (P : ℕ → Type 0) → P 1 → P 2 → P 4 → P 8 → P 16 → P 32 → (f : ℕ) → is_flag f ≡ true → P f
-by_flag P a b c d e g f h =
-    here 1 a _ (here 2 b _ (here 4 c _ (here 8 d _ (here 16 e _ (here 32 g false (λ none. absurd (cc))))))) h
+-- a form that stands for one number alone
+only_at : (P : ℕ → Type 0) (m n : ℕ) → P m → ((n == m) ≡ false → P n) → P n
+only_at P m n here there = by (n == m) refl
   where
-    here : (n : ℕ) → P n → (more : Bool) → (more ≡ true → P f) → (n == f || more) ≡ true → P f
-    here n this more later h = by (n == f) refl h
-      where
-        by : (b : Bool) → (n == f) ≡ b → (b || more) ≡ true → P f
-        by true is h = subst P (eqb-true _ _ is) this
-        by false is h = later h
+    by : (b : Bool) → (n == m) ≡ b → P n
+    by true is = subst P (sym (eqb-true _ _ is)) here
+    by false is = there is
 
-linked : (r : Roster) (port f : ℕ) (on : Bool) → step r.place ≡ true → are_declared r.ports ≡ true → has_number r.ports port ≡ true
-    → list_all is_proper (name_of_flag flags f ∷ switch_word on ∷ []) ≡ true → flag (name_of_flag flags f) ≡ Ok f
-    → all_say r (codes "cmd" ∷ codes "link" ∷ name_of r.ports port ∷ name_of_flag flags f ∷ switch_word on ∷ [])
-    ≡ commanded (if step r.place then after (port_name r.ports (name_of r.ports port)) (λ p. after (flag (name_of_flag flags f)) (λ g. Ok (commands.Link p g on))) else Err why.Place)
-    → Reads r (commands.Link port f on)
-linked r port f on place all h proper gives form =
-    says r (codes "cmd" ∷ codes "link" ∷ name_of r.ports port ∷ name_of_flag flags f ∷ switch_word on ∷ []) commanded
-    (two (λ p g. commands.Link p g on) (port_name_read r.ports port all h) gives)
-    place (both _ _ (name_proper r.ports port all h) proper) refl form
-
-link_read : (r : Roster) (port f : ℕ) (on : Bool) → step r.place ≡ true → are_declared r.ports ≡ true → has_number r.ports port ≡ true → is_flag f ≡ true
-    → Reads r (commands.Link port f on)
-unfolding flag
-link_read r port f true place all h named =
-    let to = λ (f : ℕ). linked r port f true place all h in
-    by_flag (λ f. Reads r (commands.Link port f true))
-    (to 1 refl refl refl) (to 2 refl refl refl) (to 4 refl refl refl) (to 8 refl refl refl) (to 16 refl refl refl) (to 32 refl refl refl) f named
-link_read r port f false place all h named =
-    let to = λ (f : ℕ). linked r port f false place all h in
-    by_flag (λ f. Reads r (commands.Link port f false))
-    (to 1 refl refl refl) (to 2 refl refl refl) (to 4 refl refl refl) (to 8 refl refl refl) (to 16 refl refl refl) (to 32 refl refl refl) f named
-
-vlan_add_read : (r : Roster) (port vid : ℕ) (untagged pvid : Bool) → step r.place ≡ true → are_declared r.ports ≡ true → is_vid vid ≡ true → is_device r.ports port ≡ true
-    → Reads r (commands.VlanAdd port vid untagged pvid)
-vlan_add_read r port vid false false place all v h =
-    ap (λ (w : List ℕ). line_says r (codes "cmd vlan add vid " ++ (decimal vid ++ (codes " dev " ++ w)))) (append-nil (device_text r.ports port))
-    ∙ says r (codes "cmd" ∷ codes "vlan" ∷ codes "add" ∷ codes "vid" ∷ decimal vid ∷ codes "dev" ∷ device_text r.ports port ∷ []) commanded
-    (two (λ v p. commands.VlanAdd p v false false) (vid_read vid v) (device_read r.ports port all h))
-    place (both _ _ (vid_proper vid v) (both _ _ (device_proper r.ports port all h) refl)) refl refl
-vlan_add_read r port vid false true place all v h =
-    says r (codes "cmd" ∷ codes "vlan" ∷ codes "add" ∷ codes "vid" ∷ decimal vid ∷ codes "dev" ∷ device_text r.ports port ∷ codes "pvid" ∷ []) commanded
-    (two (λ v p. commands.VlanAdd p v false true) (vid_read vid v) (device_read r.ports port all h))
-    place (both _ _ (vid_proper vid v) (both _ _ (device_proper r.ports port all h) refl)) refl refl
-vlan_add_read r port vid true false place all v h =
-    says r (codes "cmd" ∷ codes "vlan" ∷ codes "add" ∷ codes "vid" ∷ decimal vid ∷ codes "dev" ∷ device_text r.ports port ∷ codes "untagged" ∷ []) commanded
-    (two (λ v p. commands.VlanAdd p v true false) (vid_read vid v) (device_read r.ports port all h))
-    place (both _ _ (vid_proper vid v) (both _ _ (device_proper r.ports port all h) refl)) refl refl
-vlan_add_read r port vid true true place all v h =
-    says r (codes "cmd" ∷ codes "vlan" ∷ codes "add" ∷ codes "vid" ∷ decimal vid ∷ codes "dev" ∷ device_text r.ports port ∷ codes "pvid" ∷ codes "untagged" ∷ []) commanded
-    (two (λ v p. commands.VlanAdd p v true true) (vid_read vid v) (device_read r.ports port all h))
-    place (both _ _ (vid_proper vid v) (both _ _ (device_proper r.ports port all h) refl)) refl refl
-
-vlan_del_read : (r : Roster) (port vid : ℕ) → step r.place ≡ true → are_declared r.ports ≡ true → is_vid vid ≡ true → is_device r.ports port ≡ true
-    → Reads r (commands.VlanDel port vid)
-vlan_del_read r port vid place all v h =
-    says r (codes "cmd" ∷ codes "vlan" ∷ codes "del" ∷ codes "vid" ∷ decimal vid ∷ codes "dev" ∷ device_text r.ports port ∷ []) commanded
-    (two (λ v p. commands.VlanDel p v) (vid_read vid v) (device_read r.ports port all h))
-    place (both _ _ (vid_proper vid v) (both _ _ (device_proper r.ports port all h) refl)) refl refl
-
--- entries
-
--- a row before that fits only by one word, and not by a later one, isn't the line's
-past : (b : Bool) (row other : Option (Row Command)) → (if b && false then row else other) ≡ other
-past true row other = refl
-past false row other = refl
-
-local_read : (r : Roster) (vid address port : ℕ) → step r.place ≡ true → is_vid vid ≡ true → is_station address ≡ true → (port == host) ≡ true
+local_read : (r : Roster) (vid address port : ℕ) → forms.step r.place ≡ true → are_declared r.ports ≡ true → HasLine r (commands.FdbAdd vid address port Local)
     → Reads r (commands.FdbAdd vid address port Local)
-local_read r vid address port place v a is = subst (λ (p : ℕ). Reads r (commands.FdbAdd vid address p Local)) (sym (eqb-true _ _ is)) at_host
+local_read r vid address port place all =
+    only_at (λ (p : ℕ). HasLine r (commands.FdbAdd vid address p Local) → Reads r (commands.FdbAdd vid address p Local)) host port
+    (command_line r forms.fdb_add_local (address, (vid, tt)) all place refl refl)
+    (elsewhere (port == host) (fills forms.fdb_add_local address vid))
   where
-    at_host : Reads r (commands.FdbAdd vid address host Local)
-    at_host =
-        says r (codes "cmd" ∷ codes "fdb" ∷ codes "add" ∷ mac_text address ∷ codes "dev" ∷ host_name ∷ codes "vlan" ∷ decimal vid ∷ codes "local" ∷ []) commanded
-        (two (λ a v. commands.FdbAdd v a host Local) (station_read address a) (vid_read vid v))
-        place (both _ _ (mac_proper address) (both _ _ (vid_proper vid v) refl)) refl refl
+    elsewhere : (b : Bool) (f : Form) → b ≡ false → fits_in r.ports (option_map lines.behind_cmd (if b then Some f else None)) ≡ true → Reads r (commands.FdbAdd vid address port Local)
+    elsewhere true f is h = absurd (cc)
+    elsewhere false f is h = absurd (cc)
 
-abbrev entry_words : Word → Word → Word → Kind → List Word
-entry_words address name vlan kind = codes "cmd" ∷ codes "fdb" ∷ codes "add" ∷ address ∷ codes "dev" ∷ name ∷ codes "vlan" ∷ vlan ∷ kind_word kind ∷ []
+command_read : (r : Roster) (command : Command) → forms.step r.place ≡ true → are_declared r.ports ≡ true → HasLine r command → Reads r command
+command_read r (commands.PortUp port) place all = command_line r forms.port_up (port, tt) all place refl refl
+command_read r (commands.PortDown port) place all = command_line r forms.port_down (port, tt) all place refl refl
+command_read r (commands.Link port flag true) place all = command_line r forms.link_on (port, (flag, tt)) all place refl refl
+command_read r (commands.Link port flag false) place all = command_line r forms.link_off (port, (flag, tt)) all place refl refl
+command_read r (commands.Cost port n) place all = command_line r forms.link_cost (port, (n, tt)) all place refl refl
+command_read r (commands.PortPriority port n) place all = command_line r forms.link_priority (port, (n, tt)) all place refl refl
+command_read r (commands.VlanAdd port vid false false) place all = command_line r forms.vlan_add (vid, (port, tt)) all place refl refl
+command_read r (commands.VlanAdd port vid false true) place all = command_line r forms.vlan_add_pvid (vid, (port, tt)) all place refl refl
+command_read r (commands.VlanAdd port vid true false) place all = command_line r forms.vlan_add_untagged (vid, (port, tt)) all place refl refl
+command_read r (commands.VlanAdd port vid true true) place all = command_line r forms.vlan_add_both (vid, (port, tt)) all place refl refl
+command_read r (commands.VlanDel port vid) place all = command_line r forms.vlan_del (vid, (port, tt)) all place refl refl
+command_read r (commands.FdbAdd vid address port Local) place all = local_read r vid address port place all
+command_read r (commands.FdbAdd vid address port Static) place all = command_line r forms.fdb_add_static (address, (port, (vid, tt))) all place refl refl
+command_read r (commands.FdbAdd vid address port Learned) place all = λ h. absurd (cc)
+command_read r (commands.FdbAdd vid address port Extern) place all = command_line r forms.fdb_add_extern (address, (port, (vid, tt))) all place refl refl
+command_read r (commands.FdbDel vid address) place all = command_line r forms.fdb_del (address, (vid, tt)) all place refl refl
+command_read r (commands.MdbAdd port vid group) place all = command_line r forms.mdb_add (group, (port, (vid, tt))) all place refl refl
+command_read r (commands.MdbDel port vid group) place all = command_line r forms.mdb_del (group, (port, (vid, tt))) all place refl refl
+command_read r (commands.Stp true) place all = command_line r forms.stp_on tt all place refl refl
+command_read r (commands.Stp false) place all = command_line r forms.stp_off tt all place refl refl
+command_read r (commands.Priority n) place all = command_line r forms.stp_priority (n, tt) all place refl refl
+command_read r (commands.Ageing seconds) place all = command_line r forms.ageing (seconds, tt) all place refl refl
+command_read r (commands.Snooping true) place all = command_line r forms.snooping_on tt all place refl refl
+command_read r (commands.Snooping false) place all = command_line r forms.snooping_off tt all place refl refl
 
--- the entry of a port, where its line's form is known
-entry_read : (r : Roster) (vid address port : ℕ) (kind : Kind) → step r.place ≡ true → are_declared r.ports ≡ true → is_vid vid ≡ true → is_station address ≡ true
-    → has_number r.ports port ≡ true → is_proper (kind_word kind) ≡ true
-    → ((a n v : Word) → all_say r (entry_words a n v kind)
-    ≡ commanded (if step r.place then after (mac a) (λ x. after (port_name r.ports n) (λ p. after (number 1 4094 v) (λ u. Ok (commands.FdbAdd u x p kind)))) else Err why.Place))
-    → Reads r (commands.FdbAdd vid address port kind)
-entry_read r vid address port kind place all v a h k form =
-    ap (λ (b : Bool). line_says r (codes "cmd fdb add " ++ (mac_text address ++ (codes " dev " ++ ((if b then host_name else name_of r.ports port) ++ (codes " vlan " ++ (decimal vid ++ (32 ∷ kind_word kind))))))))
-    (not_host r.ports port all h)
-    ∙ says r (entry_words (mac_text address) (name_of r.ports port) (decimal vid) kind) commanded
-    (three (λ a p v. commands.FdbAdd v a p kind) (station_read address a) (port_name_read r.ports port all h) (vid_read vid v))
-    place (both _ _ (mac_proper address) (both _ _ (name_proper r.ports port all h) (both _ _ (vid_proper vid v) (both _ _ k refl)))) refl (form _ _ _)
+-- the step's line is read back
+abbrev IsRead : Roster → Step → Type 0
+IsRead r s = lines.line_says r (step_words r.ports s) ≡ Ok (Does (given s))
 
-static_words : (r : Roster) (a n v : Word) → all_say r (entry_words a n v Static)
-    ≡ commanded (if step r.place then after (mac a) (λ x. after (port_name r.ports n) (λ p. after (number 1 4094 v) (λ u. Ok (commands.FdbAdd u x p Static)))) else Err why.Place)
-static_words r a n v = ap (λ (o : Option (Row Command)). commanded (said r o (λ i. slice_index_or (entry_words a n v Static) (i + 1) []))) (past (bytes_eq n host_name) _ _)
+-- the only domain that a step's line names
+of_chip : (r : Roster) (make : ℕ → Step) (f : Form) (dom : ℕ) → ((d : ℕ) → has_line r.ports (make d) ≡ fits_in r.ports (if d == chip then Some f else None))
+    → (has_line r.ports (make chip) ≡ true → IsRead r (make chip)) → has_line r.ports (make dom) ≡ true → IsRead r (make dom)
+of_chip r make f dom form here =
+    only_at (λ (d : ℕ). has_line r.ports (make d) ≡ true → IsRead r (make d)) chip dom here (λ is h. elsewhere (dom == chip) is (sym (form dom) ∙ h))
+  where
+    elsewhere : (b : Bool) → b ≡ false → fits_in r.ports (if b then Some f else None) ≡ true → IsRead r (make dom)
+    elsewhere true is h = absurd (cc)
+    elsewhere false is h = absurd (cc)
 
+<<<<<<< HEAD
 extern_words : (r : Roster) (a n v : Word) → all_say r (entry_words a n v Extern)
     ≡ commanded (if step r.place then after (mac a) (λ x. after (port_name r.ports n) (λ p. after (number 1 4094 v) (λ u. Ok (commands.FdbAdd u x p Extern)))) else Err why.Place)
 extern_words r a n v = ap (λ (o : Option (Row Command)). commanded (said r o (λ i. slice_index_or (entry_words a n v Extern) (i + 1) []))) (past (bytes_eq n host_name) _ _)
@@ -374,6 +365,20 @@ step_read r (Turn dom) place all h = turn_read r dom place h
 step_read r (Report dom) place all h = report_read r dom place h
 step_read r (Sweep dom) place all h = sweep_read r dom place h
 step_read r Publish place all h = publish_read r place
+=======
+pub step_read : (r : Roster) (s : Step) → forms.step r.place ≡ true → are_declared r.ports ≡ true → has_line r.ports s ≡ true
+    → IsRead r s
+step_read r (Rx port bytes) place all = line_read r lines.rx (port, (shown bytes, tt)) all place refl refl refl refl
+step_read r (Cmd command) place all = command_read r command place all
+step_read r (Now moment) place all = line_read r lines.now (moment, tt) all place refl refl refl refl
+step_read r Serve place all = line_read r lines.serve tt all place refl refl refl refl
+step_read r Hold place all = λ h. absurd (cc)
+step_read r (Post id point) place all = λ h. absurd (cc)
+step_read r (Turn dom) place all = of_chip r Turn (fills lines.turn) dom (λ d. refl) (line_read r lines.turn tt all place refl refl refl refl)
+step_read r (Report dom) place all = of_chip r Report (fills lines.report) dom (λ d. refl) (line_read r lines.report tt all place refl refl refl refl)
+step_read r (Sweep dom) place all = of_chip r Sweep (fills lines.sweep) dom (λ d. refl) (line_read r lines.sweep tt all place refl refl refl refl)
+step_read r Publish place all = line_read r lines.publish tt all place refl refl refl refl
+>>>>>>> main
 
 -- frames that a line shows whole, and those that it doesn't
 
@@ -398,6 +403,11 @@ given_whole (Rx port bytes) h = ap (λ (b : List ℕ). Rx port b) (shown_whole b
 given_whole (Cmd command) h = refl
 given_whole (Now moment) h = refl
 given_whole Serve h = refl
+<<<<<<< HEAD
+=======
+given_whole Hold h = refl
+given_whole (Post id point) h = refl
+>>>>>>> main
 given_whole (Turn dom) h = refl
 given_whole (Report dom) h = refl
 given_whole (Sweep dom) h = refl

@@ -11,6 +11,7 @@ use Rattle.std.specs.Str.{bytes_eq}
 use Rattle.std.proofs.lemmas.Bool.{eqb-true, not-true}
 use Rattle.std.proofs.lemmas.Slice.Eq.{bytes_eq-Decides}
 use Rattle.br_model.specs.declared.scenario.LineWhy.TheVariants as why
+<<<<<<< HEAD
 use Rattle.br_model.specs.Domains.{host, last_port}
 use Rattle.br_model.specs.Operands.{number, number_in, port_number, port_name, device, found, unless}
 use Rattle.br_model.specs.Roster.{Entry, has_number, port_named, is_name, is_name_byte, host_name, longest_name}
@@ -18,6 +19,15 @@ use Rattle.br_model.specs.ScenarioText.{name_of, device_text}
 use Rattle.br_model.specs.Words.{Word, is_word}
 use Rattle.br_model.specs.WrittenSteps.{is_device}
 use Rattle.br_model.specs.Declarations.{are_declared, fits_beside}
+=======
+use Rattle.br_model.specs.Table.Domains.{host, last_port}
+use Rattle.br_model.specs.Text.Operands.{number, number_in, port_number, port_name, device, found, unless}
+use Rattle.br_model.specs.Text.Roster.{Entry, has_number, port_named, is_name, is_name_byte, host_name, longest_name}
+use Rattle.br_model.specs.Text.Spelling.{name_of, device_text}
+use Rattle.br_model.specs.Text.Words.{Word, is_word}
+use Rattle.br_model.specs.Text.Operands.{is_device}
+use Rattle.br_model.specs.Text.Declarations.{are_declared, fits_beside}
+>>>>>>> main
 use Rattle.br_model.proofs.Words.{equal}
 use Rattle.br_model.proofs.WrittenNumbers.{decimal_read}
 use Rattle.br_model.proofs.WrittenWords.{is_letter, letters, is_proper, both}
@@ -41,6 +51,7 @@ among P e ports port here there h = by (e.port == port) refl
     by false is = there (ap (λ (b : Bool). b || has_number ports port) (sym is) ∙ h)
 
 -- what is known of a first entry
+<<<<<<< HEAD
 pub record Fits (e : Entry) (ports : List Entry) : Type 0 where
   pub low : nat_le 1 e.port ≡ true
   pub high : nat_le e.port last_port ≡ true
@@ -48,6 +59,14 @@ pub record Fits (e : Entry) (ports : List Entry) : Type 0 where
   pub new : has_number ports e.port ≡ false
   pub alone : is_some (port_named ports e.name) ≡ false
   pub rest : are_declared ports ≡ true
+=======
+record Fits (e : Entry) (ports : List Entry) : Type 0 where
+  low : nat_le 1 e.port ≡ true
+  high : nat_le e.port last_port ≡ true
+  named : is_name e.name ≡ true
+  alone : is_some (port_named ports e.name) ≡ false
+  rest : are_declared ports ≡ true
+>>>>>>> main
 
 pub fits : (e : Entry) (ports : List Entry) → are_declared (e ∷ ports) ≡ true → Fits e ports
 fits e ports h =
@@ -80,7 +99,11 @@ at_least (e ∷ ports) port all h =
 
 small_port : (port : ℕ) → nat_le port last_port ≡ true → port < 2 ^ 64
 small_port port h =
+<<<<<<< HEAD
     let below : port ≤ 254 = grind arith in
+=======
+    let below : port ≤ last_port = grind arith in
+>>>>>>> main
     omega arith
 
 pub port_small : (ports : List Entry) (port : ℕ) → are_declared ports ≡ true → has_number ports port ≡ true → port < 2 ^ 64
@@ -184,17 +207,12 @@ some_word : (w : Word) → nat_lt 0 (length w) ≡ true → is_word w ≡ true
 some_word [] h = h
 some_word (c ∷ w) h = refl
 
-name_word : (ports : List Entry) (port : ℕ) → are_declared ports ≡ true → has_number ports port ≡ true → is_word (name_of ports port) ≡ true
-name_word ports port all h = some_word _ (first_so _ _ (named_by ports port all h))
-
-name_of_letters : (ports : List Entry) (port : ℕ) → are_declared ports ≡ true → has_number ports port ≡ true → letters (name_of ports port) ≡ true
-name_of_letters ports port all h = by (name_of ports port) (named_by ports port all h)
-  where
-    by : (w : Word) → is_name w ≡ true → letters w ≡ true
-    by w is = name_letters w (first_so _ _ (second_so (nat_le (length w) longest_name) _ (second_so (nat_lt 0 (length w)) _ is)))
+pub given_name_proper : (w : Word) → is_name w ≡ true → is_proper w ≡ true
+given_name_proper w h =
+    both _ _ (some_word w (first_so _ _ h)) (name_letters w (first_so _ _ (second_so (nat_le (length w) longest_name) _ (second_so (nat_lt 0 (length w)) _ h))))
 
 pub name_proper : (ports : List Entry) (port : ℕ) → are_declared ports ≡ true → has_number ports port ≡ true → is_proper (name_of ports port) ≡ true
-name_proper ports port all h = both _ _ (name_word ports port all h) (name_of_letters ports port all h)
+name_proper ports port all h = given_name_proper (name_of ports port) (named_by ports port all h)
 
 -- devices
 

@@ -8,8 +8,8 @@ use Rattle.std.specs.declared.option.Option.TheVariants.{None, Some}
 use Rattle.std.proofs.lemmas.Fmt.{decimal_by_steps}
 use Rattle.std.proofs.lemmas.List.Sums.{fold-append}
 use Rattle.std.proofs.lemmas.List.Folds.{list_all-append}
-use Rattle.br_model.specs.Digits.{is_digit, digits_value, begins_with_zero, decimal_from, hex_digit, hex_of, nibble, byte_of, in_front, bytes_from_hex}
-use Rattle.br_model.specs.Words.{is_word}
+use Rattle.br_model.specs.Data.Digits.{is_digit, digits_value, begins_with_zero, decimal_from, hex_digit, hex_of, nibble, byte_of, in_front, bytes_from_hex}
+use Rattle.br_model.specs.Text.Words.{is_word}
 use Rattle.br_model.proofs.WrittenWords.{is_letter, letters, is_proper, both}
 
 -- decimal numbers

@@ -4,7 +4,7 @@ use Rattle.std.specs.Char.{is_ascii}
 use Rattle.std.specs.Cmp.{first_so, second_so}
 use Rattle.std.specs.List.{filter, list_all, onto_first, slice_split}
 use Rattle.std.proofs.lemmas.Bool.{not-true}
-use Rattle.br_model.specs.Words.{Word, is_word, readable, replacement, words}
+use Rattle.br_model.specs.Text.Words.{Word, is_word, joined, readable, replacement, words}
 
 -- a byte that can stand in a word
 abbrev pub is_letter : ℕ → Bool
@@ -59,11 +59,6 @@ words_last w some h =
 
 abbrev pub is_proper : Word → Bool
 is_proper w = is_word w && letters w
-
-abbrev pub joined : List Word → List ℕ
-joined [] = []
-joined (w ∷ []) = w
-joined (w ∷ v ∷ ws) = w ++ 32 ∷ joined (v ∷ ws)
 
 pub words_joined : (ws : List Word) → list_all is_proper ws ≡ true → words (joined ws) ≡ ws
 words_joined [] h = refl

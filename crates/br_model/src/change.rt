@@ -1,6 +1,7 @@
 //! What is accepted: the changes of the bridge's table.
 ghost use Rattle.std.specs.Prelude.{◌≡◌, ◌<◌, ◌↔◌, IsSome, IfSome};
-ghost use Rattle.br_model.specs.Change.{deferred};
+ghost use Rattle.br_model.specs.Table.Change.{deferred};
+ghost use Rattle.br_model.specs.Table.Limits.{asks};
 
 use crate::domains::Edition;
 use crate::group::Group;
@@ -72,6 +73,7 @@ impl Flags {
         }
     }
 
+    /// Bit n is the flag whose place is n, `LEARNING` to `FASTLEAVE`.
     pub fn bits(self) -> u8
         ensures value { result ≡ self }
         ensures below { self < 64 }
@@ -131,7 +133,41 @@ pub enum Change {
     },
 }
 
+/// What a change asks for.
+#[derive(Clone, Copy, Debug)]
+pub enum Asks {
+    Nothing,
+    /// That this is the number of a state.
+    State(u8),
+    /// Room for a member of the group in the VLAN.
+    GroupRoom(Vid, Group),
+    /// Room for an entry at the address.
+    AddressRoom(Vid, Mac),
+}
+
 impl Change {
+    /// What it asks for.
+    pub fn asks(&self) -> Asks
+        ensures { result ≡ asks self.now }
+    {
+        match *self {
+            Change::SetState(_, state) => Asks::State(state),
+            Change::GroupJoin { vid, group, .. } => Asks::GroupRoom(vid, group),
+            Change::AddrPut { vid, mac, .. } => Asks::AddressRoom(vid, mac),
+            Change::PortUp(_)
+            | Change::PortDown(_)
+            | Change::SetFlags(..)
+            | Change::VlanAdd { .. }
+            | Change::VlanDel { .. }
+            | Change::GroupPart { .. }
+            | Change::Router { .. }
+            | Change::Querier { .. }
+            | Change::Snoop(_)
+            | Change::Stp(_)
+            | Change::AddrDel { .. } => Asks::Nothing,
+        }
+    }
+
     /// Whether it reaches a chip through the queue, and not in the step that accepts it.
     pub fn is_deferred(&self, e: Edition) -> bool
         ensures { result ≡ deferred e self.now }

@@ -3,13 +3,13 @@
 ghost use Rattle.std.specs.Prelude.{◌≡◌, ℕ, ◌+◌, ◌≤◌, ◌∷◌, ◌++◌, length, take, []};
 ghost use Rattle.br_model.specs.declared.listing.Listing.TheVariants.{Fdb, Vlan, Mdb};
 ghost use Rattle.br_model.specs.declared.transcript.Line.{Line};
-ghost use Rattle.br_model.specs.Generator.{made, made_scenario, most_frames};
-ghost use Rattle.br_model.specs.Listings.{listed};
-ghost use Rattle.br_model.specs.Scenario.{scenario};
-ghost use Rattle.br_model.specs.Summary.{kind_of, summary, summary_text};
-ghost use Rattle.br_model.specs.Transcript.{line_text};
-ghost use Rattle.br_model.specs.WorkedCommands.{first_frame_fdb, first_frame_vlan, no_rows, orders_text, orders_fdb, orders_vlan, orders_mdb, crossed_text, crossed_fdb, crossed_mdb, broken_text, broken, unended, generated, three_generated, lines_of_frames, what_is_behind, all_kinds, before_all, all_kinds_summed, no_frame_summed, one_frame_summed};
-ghost use Rattle.br_model.specs.WorkedRows.{first_frame_text};
+ghost use Rattle.br_model.specs.Program.Generator.{made, made_scenario, most_frames};
+ghost use Rattle.br_model.specs.Program.Listings.{listed};
+ghost use Rattle.br_model.specs.Text.Scenario.{scenario};
+ghost use Rattle.br_model.specs.Program.Summary.{kind_of, summary, summary_text};
+ghost use Rattle.br_model.specs.Text.Transcript.{line_text};
+ghost use Rattle.br_model.specs.Worked.Commands.{first_frame_fdb, first_frame_vlan, no_rows, orders_text, orders_fdb, orders_vlan, orders_mdb, crossed_text, crossed_fdb, crossed_mdb, broken_text, broken, unended, generated, three_generated, lines_of_frames, what_is_behind, all_kinds, before_all, all_kinds_summed, no_frame_summed, one_frame_summed};
+ghost use Rattle.br_model.specs.Worked.Rows.{first_frame_text};
 
 /// The tables of a run, and what stands in the place of one where the scenario is bad.
 pub fn tables_are_listed()

@@ -4,14 +4,14 @@ ghost use Rattle.std.specs.declared.result.Result.TheVariants.{Ok};
 ghost use Rattle.br_model.specs.declared.change.Change.{Change};
 ghost use Rattle.br_model.specs.declared.frame.McastMsg.{McastMsg};
 ghost use Rattle.br_model.specs.declared.steps.Event.{Event};
-ghost use Rattle.br_model.specs.Control.{Control, keeps_up};
-ghost use Rattle.br_model.specs.Course.{Course};
-ghost use Rattle.br_model.specs.Ends.{no_ends};
-ghost use Rattle.br_model.specs.EndsTied.{IsTied};
-ghost use Rattle.br_model.specs.Reaction.{Reaction, react};
-ghost use Rattle.br_model.specs.Setup.{Setup};
-ghost use Rattle.br_model.specs.Snooping.{said};
-ghost use Rattle.br_model.specs.Table.{Table, start, apply, table};
+ghost use Rattle.br_model.specs.Control.Control.{Control, keeps_up};
+ghost use Rattle.br_model.specs.Control.Course.{Course};
+ghost use Rattle.br_model.specs.Control.Ends.{no_ends};
+ghost use Rattle.br_model.specs.Theorems.EndsTied.{IsTied};
+ghost use Rattle.br_model.specs.Control.Reaction.{Reaction, react};
+ghost use Rattle.br_model.specs.Table.Setup.{Setup};
+ghost use Rattle.br_model.specs.Control.Snooping.{said};
+ghost use Rattle.br_model.specs.Table.Table.{Table, start, apply, table};
 
 /// What snooping learned has its end beside it, and nothing else has one: at first, after each change, after a message, and
 /// after every reaction.

@@ -1,7 +1,7 @@
 //! What a frame's first bytes say.
 ghost use Rattle.std.specs.Prelude.{◌≡◌};
-ghost use Rattle.br_model.specs.Admission.{has_valid_source};
-ghost use Rattle.br_model.specs.Class.{is_snooped};
+ghost use Rattle.br_model.specs.Forward.Admission.{has_valid_source};
+ghost use Rattle.br_model.specs.Forward.Class.{is_snooped};
 
 use crate::group::Group;
 use crate::numbers::Mac;

@@ -1,7 +1,7 @@
 //! Addresses of IP groups.
 ghost use Rattle.std.specs.Prelude.{◌≡◌, ◌↔◌, IsSome, IfSome, IsTrue};
-ghost use Rattle.br_model.specs.Groups.{is_six, is_link_local};
-ghost use Rattle.br_model.specs.Numbers.{is_group_four, is_group_six};
+ghost use Rattle.br_model.specs.Table.Groups.{is_six, is_link_local};
+ghost use Rattle.br_model.specs.Data.Numbers.{is_group_four, is_group_six};
 
 /// An IP multicast address, as the number that its bytes spell, the first byte highest.
 #[derive(Clone, Copy, PartialEq, Eq, PartialOrd, Ord, Debug)]
@@ -42,6 +42,7 @@ impl Group {
         }
     }
 
+    /// Whether it is an address of IP version 6.
     pub fn is_six(self) -> bool
         ensures { result ≡ is_six self }
     {

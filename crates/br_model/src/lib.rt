@@ -14,6 +14,7 @@ pub mod ends_laws;
 pub mod frame;
 pub mod group;
 pub mod laws;
+pub mod limits;
 pub mod listing;
 pub mod message_laws;
 pub mod name;

@@ -20,6 +20,7 @@ impl Model for Name {
 }
 
 impl Name {
+    /// The name of any text. That a port may have it is for the caller to test.
     pub fn of(text: String) -> Name
         ensures { result ≡ string_bytes text }
     {

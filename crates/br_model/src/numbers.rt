@@ -1,24 +1,34 @@
 //! Numbers that their types keep in range: ports, domains, VLANs and addresses.
 ghost use Rattle.std.specs.Prelude.{◌≡◌, ◌==◌, ◌≤◌, ◌<◌, ◌*◌, ◌^◌, ◌↔◌, IsSome, IfSome};
-ghost use Rattle.br_model.specs.Numbers.{number, is_multicast};
-ghost use Rattle.br_model.specs.Targets.{is_for_the_host};
+ghost use Rattle.br_model.specs.Data.Numbers.{number, is_multicast};
+ghost use Rattle.br_model.specs.Forward.Targets.{is_for_the_host};
+ghost use Rattle.br_model.specs.Table.Domains.{last_port, port_places};
 
 use std::marker::Model;
 
+<<<<<<< HEAD
 /// A port of the bridge, from 0 to 254. Port 0 is the host.
+=======
+/// A port of the bridge, from 0 to `LAST`. Port 0 is the host.
+>>>>>>> main
 #[derive(Clone, Copy, PartialEq, Eq, PartialOrd, Ord, Debug)]
 pub struct Port {
     number: u8,
 }
 
 impl Model for Port {
-    ghost use Rattle.std.specs.Prelude.{ℕ, ◌<◌};
+    ghost use Rattle.std.specs.Prelude.{ℕ, ◌≤◌};
+    ghost use Rattle.br_model.specs.Table.Domains.{last_port};
 
     ghost Value = { ℕ };
 
     ghost view = { λ p. p.number };
 
+<<<<<<< HEAD
     ghost invariant = { λ p. p.number < 255 };
+=======
+    ghost invariant = { λ p. p.number ≤ last_port };
+>>>>>>> main
 
     ghost inverse = { λ n. record { number = n } };
 }
@@ -26,15 +36,27 @@ impl Model for Port {
 impl Port {
     pub const HOST: Port = Port { number: 0 };
 
+<<<<<<< HEAD
     /// How many ports there can be.
     pub const COUNT: u8 = 255;
 
     /// `None` exactly above 254.
     pub fn new(number: u8) -> Option<Port>
         ensures found { IsSome result ↔ (number < 255) }
+=======
+    /// The number of the last port.
+    pub const LAST: u8 = 63;
+
+    /// How many places a set of ports and a table by port have, from 0 on: as many at least as there are ports.
+    pub const PLACES: usize = 64;
+
+    /// `None` exactly above `LAST`.
+    pub fn new(number: u8) -> Option<Port>
+        ensures found { IsSome result ↔ (number ≤ last_port) }
+>>>>>>> main
         ensures value { IfSome result (λ p. p ≡ number) }
     {
-        if number < Port::COUNT {
+        if number <= Port::LAST {
             Some(Port { number })
         } else {
             None
@@ -43,7 +65,12 @@ impl Port {
 
     pub fn number(self) -> u8
         ensures value { result ≡ self }
+<<<<<<< HEAD
         ensures below { self < 255 }
+=======
+        ensures last { self ≤ last_port }
+        ensures below { self < port_places }
+>>>>>>> main
     {
         self.number
     }

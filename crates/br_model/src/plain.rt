@@ -1,4 +1,4 @@
-//! The table of a list of changes, as plain as its definition: for small inputs, until faster tables take its place.
+//! The table of a list of changes, as plain as its definition: `show` lists it.
 
 pub mod maps;
 pub mod table;

@@ -1,7 +1,7 @@
 //! Worked runs of snooping. A law is a function that does nothing: its contract says it.
 ghost use Rattle.std.specs.Prelude.{◌≡◌, []};
-ghost use Rattle.br_model.specs.Runs.{told};
-ghost use Rattle.br_model.specs.WorkedSnooping.{snooping_text, snooping_told, mld_report_text, mld_report_told, truncated_record_text, truncated_record_told, report_at_a_chip_port_text, report_at_a_chip_port_told, ends_of_members_text, ends_of_members_told, all_ends_text, all_ends_told, members_by_command_text, members_by_command_told, learned_of, all_ends_learned, states_behind_text, states_behind_learned, report, late_records, swapping_records, full, snooped_of, with_ends, left_out, late, swapped};
+ghost use Rattle.br_model.specs.Program.Runs.{told};
+ghost use Rattle.br_model.specs.Worked.Snooping.{snooping_text, snooping_told, mld_report_text, mld_report_told, truncated_record_text, truncated_record_told, report_at_a_chip_port_text, report_at_a_chip_port_told, ends_of_members_text, ends_of_members_told, all_ends_text, all_ends_told, members_by_command_text, members_by_command_told, learned_of, all_ends_learned, states_behind_text, states_behind_learned, report, late_records, swapping_records, full, snooped_of, with_ends, left_out, late, swapped};
 
 /// A report, a query and a leave move a stream to where it is wanted.
 pub fn snooping()

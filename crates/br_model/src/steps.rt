@@ -1,4 +1,7 @@
 //! The steps of the world, the commands and events among them, and the refusals.
+ghost use Rattle.std.specs.Prelude.{◌≡◌, Some};
+ghost use Rattle.br_model.specs.Control.Refusals.{refusal_number, refusal_of};
+
 use crate::bytes::Bytes;
 use crate::change::{Flags, Kind};
 use crate::frame::Head;
@@ -103,47 +106,109 @@ pub enum Step {
     Now(u64),
     /// The oldest frame that waits is decided and sent.
     Serve,
+<<<<<<< HEAD
     /// The chip of the domain applies the next deferred change.
     Turn(Dom),
     /// The bridge is told the oldest report of that chip.
     Report(Dom),
     /// The bridge forgets the stations that that chip no longer sees.
+=======
+    /// The oldest frame that waits is held. What is published now is its floor.
+    Hold,
+    /// The held frame with this id is decided, by the tables of its floor or of the point that is named, and sent.
+    Post { id: u32, point: Option<u32> },
+    /// The chip of this domain applies the next deferred change.
+    Turn(Dom),
+    /// The bridge is told the oldest report of this domain's chip.
+    Report(Dom),
+    /// The bridge forgets the stations that this domain's chip no longer sees.
+>>>>>>> main
     Sweep(Dom),
     /// The tables that frames are decided by become those of all accepted changes.
     Publish,
 }
 
-/// Why a step was refused. The text of a transcript has their numbers.
+/// Why a step was refused. A transcript tells its number.
 #[derive(Clone, Copy, PartialEq, Eq)]
 pub enum Refusal {
-    /// 1: `port up` of a port that is up.
+    /// `port up` of a port that is up.
     PortIsUp,
-    /// 2: the named port isn't up; the host is never down.
+    /// The named port isn't up; the host is never down.
     PortNotUp,
-    /// 3: the port isn't a member of the VLAN.
+    /// The port isn't a member of the VLAN.
     NotMember,
-    /// 4: the membership or the entry is there.
+    /// The membership or the entry is there.
     Exists,
-    /// 5: it isn't there.
+    /// It isn't there.
     Absent,
-    /// 6: a command would make the 16,385th address entry.
+    /// A command would make the 16,385th address entry.
     FdbFull,
-    /// 7: a command would make the 1,025th pair of VLAN and group.
+    /// A command would make the 1,025th pair of VLAN and group.
     GroupsFull,
-    /// 8: the history would pass 1,048,576 changes.
+    /// The history would pass 1,048,576 changes.
     HistoryFull,
-    /// 9: the moment is before the last one.
+    /// The moment is before the last one.
     Backward,
-    /// 10: no frame waits.
+    /// No frame waits.
     NothingWaiting,
-    /// 11: the chip has applied every deferred change.
+    /// The chip has applied every deferred change.
     NothingPending,
-    /// 12: the chip has reported nothing.
+    /// The chip has reported nothing.
     NothingReported,
-    /// 13: the address isn't multicast, is in 224.0.0.0/24 or is ff02::1.
+    /// The address isn't multicast, is in 224.0.0.0/24 or is ff02::1.
     NotAGroup,
-    /// 14: no frame with that id is held.
+    /// No frame with that id is held.
     NothingToPost,
-    /// 15: the count wasn't published since the frame was held.
+    /// The count wasn't published since the frame was held.
     NoSuchPoint,
+}
+
+impl Refusal {
+    /// What stands for it in a transcript.
+    pub fn number(self) -> u32
+        ensures value { result ≡ refusal_number self }
+        ensures back { refusal_of result ≡ Some self }
+    {
+        match self {
+            Refusal::PortIsUp => 1,
+            Refusal::PortNotUp => 2,
+            Refusal::NotMember => 3,
+            Refusal::Exists => 4,
+            Refusal::Absent => 5,
+            Refusal::FdbFull => 6,
+            Refusal::GroupsFull => 7,
+            Refusal::HistoryFull => 8,
+            Refusal::Backward => 9,
+            Refusal::NothingWaiting => 10,
+            Refusal::NothingPending => 11,
+            Refusal::NothingReported => 12,
+            Refusal::NotAGroup => 13,
+            Refusal::NothingToPost => 14,
+            Refusal::NoSuchPoint => 15,
+        }
+    }
+
+    /// `None` exactly where no refusal has that number.
+    pub fn from_number(number: u32) -> Option<Refusal>
+        ensures { result ≡ refusal_of number }
+    {
+        match number {
+            1 => Some(Refusal::PortIsUp),
+            2 => Some(Refusal::PortNotUp),
+            3 => Some(Refusal::NotMember),
+            4 => Some(Refusal::Exists),
+            5 => Some(Refusal::Absent),
+            6 => Some(Refusal::FdbFull),
+            7 => Some(Refusal::GroupsFull),
+            8 => Some(Refusal::HistoryFull),
+            9 => Some(Refusal::Backward),
+            10 => Some(Refusal::NothingWaiting),
+            11 => Some(Refusal::NothingPending),
+            12 => Some(Refusal::NothingReported),
+            13 => Some(Refusal::NotAGroup),
+            14 => Some(Refusal::NothingToPost),
+            15 => Some(Refusal::NoSuchPoint),
+            _ => None,
+        }
+    }
 }

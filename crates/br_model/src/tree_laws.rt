@@ -2,13 +2,13 @@
 //! contract says it.
 ghost use Rattle.std.specs.Prelude.{◌≡◌, ◌≤◌, ℕ, true};
 ghost use Rattle.std.specs.declared.option.Option.TheVariants.{Some};
-ghost use Rattle.br_model.specs.Bpdus.{bpdu, written};
+ghost use Rattle.br_model.specs.Wire.Bpdus.{bpdu, written};
 ghost use Rattle.br_model.specs.declared.bpdu.BpduMsg.{BpduMsg};
 ghost use Rattle.br_model.specs.declared.tree.TreeEvent.{TreeEvent};
-ghost use Rattle.br_model.specs.Tree.{Tree, first_tree, state_at};
-ghost use Rattle.br_model.specs.TreeStep.{tree_step};
-ghost use Rattle.br_model.specs.TreeLaws.{Fits, HasLeastRoot, RolesStand, knows_states, HaveSent};
-ghost use Rattle.br_model.specs.TreeRows.{answers, own, tie_events, tie_answers, chip_port_events, chip_port_answers, acknowledged_events, acknowledged_answers, put_off_events, put_off_answers, aged_out_events, aged_out_answers, own_message_events, own_message_answers, managed_events, managed_answers, frames_said, frames_expected, frames_written, frames_digits};
+ghost use Rattle.br_model.specs.Tree.Tree.{Tree, first_tree, state_at};
+ghost use Rattle.br_model.specs.Tree.Step.{tree_step};
+ghost use Rattle.br_model.specs.Theorems.TreeLaws.{Fits, HasLeastRoot, RolesStand, knows_states, HaveSent};
+ghost use Rattle.br_model.specs.Worked.TreeRows.{answers, own, tie_events, tie_answers, chip_port_events, chip_port_answers, acknowledged_events, acknowledged_answers, put_off_events, put_off_answers, aged_out_events, aged_out_answers, own_message_events, own_message_answers, managed_events, managed_answers, frames_said, frames_expected, frames_written, frames_digits};
 
 /// The root port offers the least of all candidates.
 pub fn least_root()

@@ -5,8 +5,8 @@ use Rattle.std.proofs.lemmas.Bool.{and_parts, or_parts, eqb-true, eqb-false, ne_
 use Rattle.std.proofs.lemmas.List.{length-map}
 use Rattle.std.proofs.lemmas.Map.Keys.{IsDistinct-cons}
 use Rattle.std.proofs.lemmas.Map.Steps.{length-le_from_distinct_below}
-use Rattle.br_model.specs.Declarations.{fits_beside, are_declared}
-use Rattle.br_model.specs.Roster.{Entry, has_number}
+use Rattle.br_model.specs.Text.Declarations.{fits_beside, are_declared}
+use Rattle.br_model.specs.Text.Roster.{Entry, has_number}
 use Rattle.bridge_command.proofs.Declaring.{Fits, parts}
 
 abbrev numbers : List Entry → List ℕ

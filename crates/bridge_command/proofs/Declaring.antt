@@ -10,12 +10,20 @@ use Rattle.std.proofs.lemmas.Bool.{and_parts, and_from, or_parts, or_from, not-t
 use Rattle.std.proofs.lemmas.Grind.{fold-append}
 use Rattle.std.proofs.lemmas.List.Folds.{list_any-append}
 use Rattle.std.proofs.lemmas.Slice.Eq.{bytes_eq-Decides}
+<<<<<<< HEAD
 use Rattle.br_model.specs.declared.domains.Edition.{Edition}
 use Rattle.br_model.specs.Domains.{Domains, domain_of, host, software}
 use Rattle.br_model.specs.Maps.{get, put}
 use Rattle.br_model.specs.Roster.{Entry, has_number, port_named, domains_of, is_name}
 use Rattle.br_model.specs.Words.{Word}
 use Rattle.br_model.specs.Declarations.{fits_beside, are_declared}
+=======
+use Rattle.br_model.specs.Table.Domains.{Domains, domain_of, host, software}
+use Rattle.br_model.specs.Data.Maps.{put}
+use Rattle.br_model.specs.Text.Roster.{Entry, has_number, port_named, domains_of, is_name}
+use Rattle.br_model.specs.Text.Words.{Word}
+use Rattle.br_model.specs.Text.Declarations.{fits_beside, are_declared}
+>>>>>>> main
 
 -- the parts of a port that fits
 

@@ -6,9 +6,9 @@ use Rattle.std.specs.Map.{lookup}
 use Rattle.std.proofs.lemmas.List.{map-append}
 use Rattle.indexmap.specs.IndexMap.{insert_entry}
 use Rattle.std.specs.declared.alloc.Global.{Global}
-use Rattle.br_model.specs.Roster.{Entry, port_named}
-use Rattle.br_model.specs.Words.{Word}
-use Rattle.br_model.specs.Declarations.{fits_beside}
+use Rattle.br_model.specs.Text.Roster.{Entry, port_named}
+use Rattle.br_model.specs.Text.Words.{Word}
+use Rattle.br_model.specs.Text.Declarations.{fits_beside}
 use Rattle.bridge_command.specs.Seen.{entry}
 use Rattle.bridge_command.proofs.Declaring.{parts}
 

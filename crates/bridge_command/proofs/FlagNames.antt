@@ -7,8 +7,8 @@ use Rattle.std.specs.Str.{bytes_eq}
 use Rattle.std.proofs.lemmas.Bool.Decides.{Decides-eqb}
 use Rattle.std.proofs.lemmas.Slice.Eq.{bytes_eq-Decides, slice_eq-Decides}
 use Rattle.bitflags.specs.Sets.{find_row, find_name}
-use Rattle.br_model.specs.FlagWords.{flags, flag_named}
-use Rattle.br_model.specs.Words.{Word}
+use Rattle.br_model.specs.Text.FlagWords.{flags, flag_named}
+use Rattle.br_model.specs.Text.Words.{Word}
 
 same_word : (a b : Word) → pointwise nat_eq a b ≡ bytes_eq b a
 same_word a b = grind (arith, slice_eq-Decides Decides-eqb a b (pointwise nat_eq a b) refl, bytes_eq-Decides b a)

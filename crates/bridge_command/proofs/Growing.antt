@@ -3,8 +3,8 @@ use Rattle.std.proofs.Common.{◌≡◌, ℕ, zero, suc, ◌+◌, ◌-◌, ◌*�
 use Rattle.std.specs.List.{fold}
 use Rattle.std.proofs.lemmas.Bool.{lt-leb}
 use Rattle.std.proofs.lemmas.List.Sums.{fold_more}
-use Rattle.br_model.specs.Digits.{digits_value, is_decimal}
-use Rattle.br_model.specs.Digits.{number_up_to, up_to}
+use Rattle.br_model.specs.Data.Digits.{digits_value, is_decimal}
+use Rattle.br_model.specs.Data.Digits.{number_up_to, up_to}
 
 abbrev step : ℕ → ℕ → ℕ
 step n c = 10 * n + (c - 48)

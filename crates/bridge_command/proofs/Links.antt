@@ -6,12 +6,12 @@ use Rattle.std.specs.declared.result.Result.TheVariants.{Ok, Err}
 use Rattle.br_model.specs.declared.scenario.LineWhy.TheVariants as why
 use Rattle.br_model.specs.declared.steps.Command.{Command}
 use Rattle.br_model.specs.declared.steps.Command.TheVariants.{Link}
-use Rattle.br_model.specs.CommandForms.{links}
-use Rattle.br_model.specs.FlagWords.{flags, flag_named}
-use Rattle.br_model.specs.Forms.{Row, line, said, after}
-use Rattle.br_model.specs.Operands.{flag, found, port_name}
-use Rattle.br_model.specs.Roster.{Roster}
-use Rattle.br_model.specs.Words.{Word}
+use Rattle.br_model.specs.Text.CommandForms.{links}
+use Rattle.br_model.specs.Text.FlagWords.{flags, flag_named}
+use Rattle.br_model.specs.Text.Forms.{Row, line, said, after}
+use Rattle.br_model.specs.Text.Operands.{flag, found, port_name}
+use Rattle.br_model.specs.Text.Roster.{Roster}
+use Rattle.br_model.specs.Text.Words.{Word}
 use Rattle.br_model.proofs.Words.{equal, other}
 use Rattle.bridge_command.specs.Seen.{placed, switched}
 

@@ -6,10 +6,10 @@ use Rattle.std.specs.List.{list_all}
 use Rattle.std.specs.Str.{bytes_eq}
 use Rattle.std.proofs.lemmas.Bool.{not-true}
 use Rattle.br_model.specs.declared.steps.Command.{Command}
-use Rattle.br_model.specs.CommandForms.{commands, ports, links, vlans, fdbs}
-use Rattle.br_model.specs.Forms.{Token, Fixed, Has, Row, fits, pick, said, line}
-use Rattle.br_model.specs.Roster.{Roster}
-use Rattle.br_model.specs.Words.{Word}
+use Rattle.br_model.specs.Text.CommandForms.{commands, ports, links, vlans, fdbs}
+use Rattle.br_model.specs.Text.Forms.{Token, Fixed, Has, Row, fits, pick, said, line}
+use Rattle.br_model.specs.Text.Roster.{Roster}
+use Rattle.br_model.specs.Text.Words.{Word}
 use Rattle.br_model.proofs.Words.{other}
 use Rattle.bridge_command.specs.Seen.{word, later_commands}
 

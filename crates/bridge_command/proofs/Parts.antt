@@ -5,9 +5,9 @@ use Rattle.std.specs.Option.{option_map}
 use Rattle.std.proofs.Math.Nat.{mul-le-mul_left, pow-le-pow_right, pow-succ', pow-zero}
 use Rattle.std.proofs.lemmas.Bool.{ne_eqb}
 use Rattle.std.proofs.lemmas.List.{at_drop_more, drop_all}
-use Rattle.br_model.specs.Digits.{in_front}
-use Rattle.br_model.specs.IpWords.{each, in_parts}
-use Rattle.br_model.specs.Words.{Word}
+use Rattle.br_model.specs.Data.Digits.{in_front}
+use Rattle.br_model.specs.Text.IpWords.{each, in_parts}
+use Rattle.br_model.specs.Text.Words.{Word}
 
 -- what follows `address` spells, where the parts that are left are these
 abbrev pub goes_on : ℕ → (Word → Option ℕ) → ℕ → List Word → Option ℕ

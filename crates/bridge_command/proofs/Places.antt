@@ -2,10 +2,17 @@
 use Rattle.std.proofs.Common.{◌≡◌, ℕ, zero, suc, ◌+◌, ◌<◌, ◌≤◌, ◌==◌, true, false, ◌||◌, cond, List, [], ◌∷◌, length, drop, slice_get, Some, refl, ap, sym, ◌∙◌, add-one, arith, is_some}
 use Rattle.std.specs.List.{list_any}
 use Rattle.std.specs.Option.{option_map}
+<<<<<<< HEAD
 use Rattle.br_model.specs.Roster.{Entry, has_number}
 use Rattle.br_model.specs.ScenarioText.{name_of}
 use Rattle.br_model.specs.Words.{Word}
 use Rattle.bridge_command.specs.Seen.{is_port_at, is_domain_at}
+=======
+use Rattle.br_model.specs.Text.Roster.{Entry, has_number}
+use Rattle.br_model.specs.Text.Spelling.{name_of}
+use Rattle.br_model.specs.Text.Words.{Word}
+use Rattle.bridge_command.specs.Seen.{is_port_at}
+>>>>>>> main
 
 -- the port stands there
 

@@ -1,8 +1,8 @@
 -- The address of a station, digit by digit.
 use Rattle.std.proofs.Common.{◌≡◌, ℕ, List, true, length, refl, ap, ◌∙◌, Option}
-use Rattle.br_model.specs.Digits.{bytes_from_hex}
-use Rattle.br_model.specs.Words.{Word}
-use Rattle.br_model.specs.Operands.{mac, has_colons, twelve, station_of}
+use Rattle.br_model.specs.Data.Digits.{bytes_from_hex}
+use Rattle.br_model.specs.Text.Words.{Word}
+use Rattle.br_model.specs.Text.Operands.{mac, has_colons, twelve, station_of}
 
 whole : (w : Word) → length w ≡ 17 → has_colons w ≡ true → station_of (bytes_from_hex (twelve w)) ≡ mac w
 unfolding mac

@@ -13,12 +13,12 @@ use Rattle.br_model.specs.declared.scenario.Place.{Place}
 use Rattle.br_model.specs.declared.scenario.Place.TheVariants.{Opening, Header, Declarations, Steps}
 use Rattle.br_model.specs.declared.steps.Command.{Command}
 use Rattle.br_model.specs.declared.steps.Command.TheVariants.{Link}
-use Rattle.br_model.specs.CommandForms.{step, vlans, fdbs, mdbs, trees, ageings, snoopings}
-use Rattle.br_model.specs.Forms.{Row, after}
-use Rattle.br_model.specs.LineForms.{opening, header, declaration}
-use Rattle.br_model.specs.Operands.{port_name}
-use Rattle.br_model.specs.Roster.{Entry, Roster}
-use Rattle.br_model.specs.Words.{Word}
+use Rattle.br_model.specs.Text.CommandForms.{step, vlans, fdbs, mdbs, trees, ageings, snoopings}
+use Rattle.br_model.specs.Text.Forms.{Row, after}
+use Rattle.br_model.specs.Text.LineForms.{opening, header, declaration}
+use Rattle.br_model.specs.Text.Operands.{port_name}
+use Rattle.br_model.specs.Text.Roster.{Entry, Roster}
+use Rattle.br_model.specs.Text.Words.{Word}
 
 -- the word of that index; a slice pattern reads its words with this default
 abbrev pub word : List (Bor Word) → ℕ → Word

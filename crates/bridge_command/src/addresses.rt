@@ -1,9 +1,9 @@
 //! The commands of the forwarding database: `fdb` and `ageing`.
 ghost use Rattle.std.specs.Prelude.{◌≡◌, length, Ok};
 ghost use Rattle.br_model.specs.declared.steps.Command.TheVariants.{FdbAdd};
-ghost use Rattle.br_model.specs.CommandForms.{fdbs, ageings};
-ghost use Rattle.br_model.specs.Forms.{line, after};
-ghost use Rattle.br_model.specs.Operands.{number as number_of, port_name, mac as mac_of};
+ghost use Rattle.br_model.specs.Text.CommandForms.{fdbs, ageings};
+ghost use Rattle.br_model.specs.Text.Forms.{line, after};
+ghost use Rattle.br_model.specs.Text.Operands.{number as number_of, port_name, mac as mac_of};
 ghost use Rattle.bridge_command.specs.Seen.{word, placed, fdb_adds, fdb_dels};
 
 use crate::operands::{mac, seconds, vlan};

@@ -1,7 +1,7 @@
 //! Commands, by the first word after `cmd`.
 ghost use Rattle.std.specs.Prelude.{◌≡◌, length};
-ghost use Rattle.br_model.specs.CommandForms.{commands};
-ghost use Rattle.br_model.specs.Forms.{line};
+ghost use Rattle.br_model.specs.Text.CommandForms.{commands};
+ghost use Rattle.br_model.specs.Text.Forms.{line};
 ghost use Rattle.bridge_command.specs.Seen.{word, later_commands};
 
 use crate::addresses::{ageing_command, fdb_command};

@@ -1,6 +1,6 @@
 //! The flags of a port, by their names.
 ghost use Rattle.std.specs.Prelude.{◌≡◌, ◌<◌, IfSome};
-ghost use Rattle.br_model.specs.FlagWords.{flags, flag_named};
+ghost use Rattle.br_model.specs.Text.FlagWords.{flags, flag_named};
 
 use bitflags::{Flag, Flags as Names};
 use br_model::change::Flags;
@@ -40,7 +40,7 @@ impl PortFlags {
 
 impl Names for PortFlags {
     ghost use Rattle.std.specs.Prelude.{⊤};
-    ghost use Rattle.br_model.specs.FlagWords.{flags};
+    ghost use Rattle.br_model.specs.Text.FlagWords.{flags};
 
     type Bits = u8;
 

@@ -1,7 +1,7 @@
 //! The commands of groups: `mdb` and `snooping`.
 ghost use Rattle.std.specs.Prelude.{◌≡◌, length};
-ghost use Rattle.br_model.specs.CommandForms.{mdbs, snoopings};
-ghost use Rattle.br_model.specs.Forms.{line};
+ghost use Rattle.br_model.specs.Text.CommandForms.{mdbs, snoopings};
+ghost use Rattle.br_model.specs.Text.Forms.{line};
 ghost use Rattle.bridge_command.specs.Seen.{word};
 
 use crate::ip_words::group;

@@ -1,8 +1,8 @@
 //! IP addresses, as words spell them.
 ghost use Rattle.std.specs.Prelude.{◌≡◌, length};
-ghost use Rattle.br_model.specs.Digits.{bytes_from_hex};
-ghost use Rattle.br_model.specs.IpWords.{octet as octet_of, four_digits as four_digits_of, address_four, address_six};
-ghost use Rattle.br_model.specs.Operands.{group as group_of};
+ghost use Rattle.br_model.specs.Data.Digits.{bytes_from_hex};
+ghost use Rattle.br_model.specs.Text.IpWords.{octet as octet_of, four_digits as four_digits_of, address_four, address_six};
+ghost use Rattle.br_model.specs.Text.Operands.{group as group_of};
 
 use crate::operands::number_up_to;
 use br_model::group::Ip;
@@ -76,7 +76,7 @@ fn address_six(word: &str) -> Option<u128>
 }
 
 /// The address that names a group, or is to be refused as none.
-#[tactic(auto, unfolding(br_model::specs::Operands::group))]
+#[tactic(auto, unfolding(br_model::specs::Text::Operands::group))]
 pub(crate) fn group(word: &str) -> Result<Ip, LineWhy>
     ensures { result ≡ group_of word.now }
 {

@@ -9,8 +9,6 @@ mod ip_words;
 mod operands;
 mod ports;
 mod roster;
-#[cfg(test)]
-mod tests;
 mod tree;
 mod vlans;
 

@@ -2,10 +2,10 @@
 ghost use Rattle.std.specs.Prelude.{◌≡◌, length, ◌≤◌, nat_le, true, IfOk, IfSome};
 ghost use Rattle.std.specs.List.{list_all};
 ghost use Rattle.br_model.specs.declared.scenario.LineWhy.TheVariants.{Address};
-ghost use Rattle.br_model.specs.Digits.{is_decimal as is_a_decimal, is_digit, station as station_of, bytes_from_hex};
-ghost use Rattle.br_model.specs.Operands.{number as number_of, mac as mac_of, has_colons as has_colons_at, twelve, found, most_cost, most_port_priority, most_priority, most_seconds, last_moment, longest_section};
-ghost use Rattle.br_model.specs.Roster.{is_name as is_a_name, is_name_byte as is_a_name_byte};
-ghost use Rattle.br_model.specs.Digits.{number_up_to as number_up_to_of};
+ghost use Rattle.br_model.specs.Data.Digits.{is_decimal as is_a_decimal, is_digit, station as station_of, bytes_from_hex};
+ghost use Rattle.br_model.specs.Text.Operands.{number as number_of, mac as mac_of, has_colons as has_colons_at, twelve, found, most_cost, most_port_priority, most_priority, most_seconds, last_moment, longest_section};
+ghost use Rattle.br_model.specs.Text.Roster.{is_name as is_a_name, is_name_byte as is_a_name_byte};
+ghost use Rattle.br_model.specs.Data.Digits.{number_up_to as number_up_to_of};
 
 use br_model::numbers::{Mac, Vid};
 use br_model::scenario::LineWhy;
@@ -42,7 +42,7 @@ pub fn number_up_to(word: &str, most: u64) -> Option<u64>
 }
 
 /// A number from `low` to `high`.
-#[tactic(auto, unfolding(br_model::specs::Operands::number))]
+#[tactic(auto, unfolding(br_model::specs::Text::Operands::number))]
 pub(crate) fn number(word: &str, low: u64, high: u64) -> Result<u64, LineWhy>
     ensures value { result ≡ number_of low high word.now }
     ensures least { IfOk result (λ n. low ≤ n) }
@@ -188,7 +188,7 @@ fn six_bytes(digits: &[u8]) -> Option<[u8; 6]>
 }
 
 /// The address of one station.
-#[tactic(auto, unfolding(br_model::specs::Operands::mac))]
+#[tactic(auto, unfolding(br_model::specs::Text::Operands::mac))]
 pub fn mac(word: &str) -> Result<Mac, LineWhy>
     ensures { result ≡ mac_of word.now }
 {

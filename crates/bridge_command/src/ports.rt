@@ -1,7 +1,7 @@
 //! The commands of ports, of their flags, and of their places in the spanning tree: `port` and `link`.
 ghost use Rattle.std.specs.Prelude.{◌≡◌, length};
-ghost use Rattle.br_model.specs.CommandForms.{ports, links};
-ghost use Rattle.br_model.specs.Forms.{line};
+ghost use Rattle.br_model.specs.Text.CommandForms.{ports, links};
+ghost use Rattle.br_model.specs.Text.Forms.{line};
 ghost use Rattle.bridge_command.specs.Seen.{word, switched};
 
 use crate::flags::flag;

@@ -2,6 +2,7 @@
 ghost use Rattle.std.specs.Prelude.{◌≡◌, ◌≢◌, ◌≤◌, ◌==◌, length, OnOk, OnErr, IfOk, IfSome, slice_get, true, false, not, ◌&&◌, Some, Ok};
 ghost use Rattle.std.specs.List.{list_any};
 ghost use Rattle.std.specs.Option.{option_map, is_some};
+<<<<<<< HEAD
 ghost use Rattle.br_model.specs.declared.scenario.Said.TheVariants.{Opens, Bridge, Declares};
 ghost use Rattle.br_model.specs.Domains.{host};
 ghost use Rattle.br_model.specs.Operands.{number as number_of, chip_domain, port_name, device as device_of, new_port as new_port_of, new_name as new_name_of, port_number as port_number_of};
@@ -10,6 +11,16 @@ ghost use Rattle.br_model.specs.Scenario.{declared};
 ghost use Rattle.br_model.specs.ScenarioText.{name_of};
 ghost use Rattle.br_model.specs.Declarations.{fits_beside, are_declared};
 ghost use Rattle.bridge_command.specs.Seen.{in_place, stands_at, is_port_at, is_domain_at, OrNoMemory};
+=======
+ghost use Rattle.br_model.specs.declared.scenario.Said.TheVariants.{Bridge, Declares};
+ghost use Rattle.br_model.specs.Table.Domains.{host, last_port};
+ghost use Rattle.br_model.specs.Text.Operands.{port_name, device as device_of, new_port as new_port_of, new_name as new_name_of, port_number as port_number_of};
+ghost use Rattle.br_model.specs.Text.Roster.{first_roster, domains_of, has_number, port_named, is_name as is_a_name};
+ghost use Rattle.br_model.specs.Text.Scenario.{declared};
+ghost use Rattle.br_model.specs.Text.Spelling.{name_of};
+ghost use Rattle.br_model.specs.Text.Declarations.{fits_beside, are_declared};
+ghost use Rattle.bridge_command.specs.Seen.{in_place, stands_at, is_port_at, OrNoMemory};
+>>>>>>> main
 
 use crate::operands::{is_decimal, is_name, number, number_up_to};
 use br_model::NoMemory;
@@ -22,7 +33,11 @@ use std::alloc::Global;
 use std::marker::Model;
 
 /// The place that a scenario has reached, whether its command is `check`, the bridge's own address, and the declared ports, seen
+<<<<<<< HEAD
 /// as their list in the order of their lines. Each has a number from 1 to 254 and a name of its own.
+=======
+/// as their list in the order of their lines. Each has a number from 1 to `Port::LAST` and a name of its own.
+>>>>>>> main
 #[derive(Drop)]
 pub struct Roster {
     place: Place,
@@ -35,8 +50,8 @@ pub struct Roster {
 
 impl Model for Roster {
     ghost use Rattle.std.specs.Prelude.{◌≡◌, true, map};
-    ghost use Rattle.br_model.specs.Roster.{Roster as Ports, domains_of};
-    ghost use Rattle.br_model.specs.Declarations.{are_declared};
+    ghost use Rattle.br_model.specs.Text.Roster.{Roster as Ports, domains_of};
+    ghost use Rattle.br_model.specs.Text.Declarations.{are_declared};
     ghost use Rattle.bridge_command.specs.Seen.{entry};
 
     ghost Value = { Ports };
@@ -60,6 +75,7 @@ impl Roster {
         })
     }
 
+    /// The place that the lines so far have reached.
     pub fn place(&self) -> Place
         ensures { result ≡ self.now.place }
     {
@@ -86,10 +102,17 @@ impl Roster {
         self.own
     }
 
+<<<<<<< HEAD
     /// How many ports are declared: 254 at most.
     pub fn len(&self) -> usize
         ensures value { result ≡ length self.now.ports }
         ensures most { result ≤ 254 }
+=======
+    /// How many ports are declared: at most as many as `Port::LAST`.
+    pub fn len(&self) -> usize
+        ensures value { result ≡ length self.now.ports }
+        ensures most { result ≤ last_port }
+>>>>>>> main
         ensures declared { are_declared self.now.ports ≡ true }
     {
         self.ports.len()
@@ -185,7 +208,7 @@ impl Roster {
     }
 
     /// The port that the word names.
-    #[tactic(auto, unfolding(br_model::specs::Operands::port_name))]
+    #[tactic(auto, unfolding(br_model::specs::Text::Operands::port_name))]
     pub(crate) fn named(&self, word: &str) -> Result<Port, LineWhy>
         ensures { result ≡ port_name self.now.ports word.now }
     {
@@ -196,7 +219,7 @@ impl Roster {
     }
 
     /// The port that the word names, or the host.
-    #[tactic(auto, unfolding(br_model::specs::Operands::device))]
+    #[tactic(auto, unfolding(br_model::specs::Text::Operands::device))]
     pub(crate) fn device(&self, word: &str) -> Result<Port, LineWhy>
         ensures { result ≡ device_of self.now.ports word.now }
     {
@@ -214,14 +237,18 @@ impl Roster {
     }
 
     /// The declared port whose number the word spells.
-    #[tactic(auto, unfolding(br_model::specs::Operands::port_number))]
+    #[tactic(auto, unfolding(br_model::specs::Text::Operands::port_number))]
     pub fn numbered(&self, word: &str) -> Result<Port, LineWhy>
         ensures { result ≡ port_number_of self.now.ports word.now }
     {
         if !is_decimal(word) {
             return Err(LineWhy::Number);
         }
+<<<<<<< HEAD
         let Some(number) = number_up_to(word, 254) else {
+=======
+        let Some(number) = number_up_to(word, u64::from(Port::LAST)) else {
+>>>>>>> main
             return Err(LineWhy::Port);
         };
         match Port::new(number as u8) {
@@ -231,12 +258,16 @@ impl Roster {
     }
 
     /// The number of a port that isn't declared yet.
-    #[tactic(auto, unfolding(br_model::specs::Operands::new_port))]
+    #[tactic(auto, unfolding(br_model::specs::Text::Operands::new_port))]
     pub fn new_port(&self, word: &str) -> Result<Port, LineWhy>
         ensures value { result ≡ new_port_of self.now.ports word.now }
         ensures fits { IfOk result (λ p. (p ≢ host) × (has_number self.now.ports p ≡ false)) }
     {
+<<<<<<< HEAD
         let number = number(word, 1, 254)?;
+=======
+        let number = number(word, 1, u64::from(Port::LAST))?;
+>>>>>>> main
         match Port::new(number as u8) {
             Some(port) if !self.is_declared(port) => Ok(port),
             _ => Err(LineWhy::Port),
@@ -296,7 +327,7 @@ impl Roster {
     }
 
     /// The name of a port that isn't declared yet.
-    #[tactic(auto, unfolding(br_model::specs::Operands::new_name))]
+    #[tactic(auto, unfolding(br_model::specs::Text::Operands::new_name))]
     pub fn new_name(&self, alloc: Global, word: &str) -> Result<Name, LineWhy>
         ensures value { OrNoMemory result (new_name_of self.now.ports word.now) }
         ensures fits { IfOk result (λ name. (is_a_name name && not (is_some (port_named self.now.ports name))) ≡ true) }
@@ -310,7 +341,7 @@ impl Roster {
         }
     }
 
-    #[tactic(auto, unfolding(br_model::specs::Operands::port_name))]
+    #[tactic(auto, unfolding(br_model::specs::Text::Operands::port_name))]
     fn is_taken(&self, word: &str) -> bool
         ensures { result ≡ is_some (port_named self.now.ports word.now) }
     {

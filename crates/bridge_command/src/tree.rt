@@ -1,7 +1,7 @@
 //! The commands of the spanning tree: `stp`. Those of a port's cost and priority are forms of `link`.
 ghost use Rattle.std.specs.Prelude.{◌≡◌, length};
-ghost use Rattle.br_model.specs.CommandForms.{trees};
-ghost use Rattle.br_model.specs.Forms.{line};
+ghost use Rattle.br_model.specs.Text.CommandForms.{trees};
+ghost use Rattle.br_model.specs.Text.Forms.{line};
 ghost use Rattle.bridge_command.specs.Seen.{word};
 
 use crate::operands::priority;

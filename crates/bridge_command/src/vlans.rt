@@ -1,9 +1,9 @@
 //! The commands of VLANs: `vlan`.
 ghost use Rattle.std.specs.Prelude.{◌≡◌, length, Ok};
 ghost use Rattle.br_model.specs.declared.steps.Command.TheVariants.{VlanAdd};
-ghost use Rattle.br_model.specs.CommandForms.{vlans};
-ghost use Rattle.br_model.specs.Forms.{line, after};
-ghost use Rattle.br_model.specs.Operands.{number as number_of, device as device_of};
+ghost use Rattle.br_model.specs.Text.CommandForms.{vlans};
+ghost use Rattle.br_model.specs.Text.Forms.{line, after};
+ghost use Rattle.br_model.specs.Text.Operands.{number as number_of, device as device_of};
 ghost use Rattle.bridge_command.specs.Seen.{word, placed, unmarked, marked_once, marked_twice, vlan_adds, vlan_dels};
 
 use crate::operands::vlan;

@@ -1,5 +1,5 @@
 -- What a plan comes to, once it is known to fit.
-use Rattle.std.proofs.Common.{◌≡◌, ℕ, Bool, true, false, if◌then◌else◌, List, [], ◌∷◌, ◌++◌, map, fold, None, Some, is_err, refl, sym, ap, ◌∙◌}
+use Rattle.std.proofs.Common.{◌≡◌, ℕ, Bool, true, false, if◌then◌else◌, List, [], ◌∷◌, ◌++◌, map, fold, None, Some, is_err, length, ◌≤◌, refl, sym, ap, subst, ◌∙◌, arith}
 use Rattle.std.proofs.lemmas.Bool.{le-leb}
 use Rattle.std.proofs.lemmas.List.{append-nil}
 use Rattle.std.proofs.lemmas.List.Sums.{fold-append}
@@ -10,22 +10,22 @@ use Rattle.br_model.specs.declared.steps.Refusal.{Refusal}
 use Rattle.br_model.specs.declared.steps.Refusal.TheVariants.{HistoryFull}
 use Rattle.br_model.specs.declared.transcript.Line.{Line}
 use Rattle.br_model.specs.declared.tree.TreeEvent.{TreeEvent}
-use Rattle.br_model.specs.Control.{Control, keeps_up}
-use Rattle.br_model.specs.Course.{Course, makes_all}
-use Rattle.br_model.specs.Limits.{all_fit}
+use Rattle.br_model.specs.Control.Control.{Control, keeps_up}
+use Rattle.br_model.specs.Control.Course.{Course, from, makes_all}
+use Rattle.br_model.specs.Table.Limits.{all_fit, most_changes}
 use Rattle.br_model.specs.Plane.World.{control_lines}
-use Rattle.br_model.specs.Reaction.{Reaction, has_room, in_room}
-use Rattle.br_model.specs.Table.{Table, table, apply}
-use Rattle.br_model.specs.Tree.{Tree, state_at}
-use Rattle.br_model.specs.TreeLaws.{knows_states}
-use Rattle.br_model.specs.TreeReaction.{states, told}
-use Rattle.br_model.specs.TreeSending.{Acted}
-use Rattle.br_model.specs.TreeStep.{tree_step, moved, sent}
+use Rattle.br_model.specs.Control.Reaction.{Reaction, has_room, in_room}
+use Rattle.br_model.specs.Table.Table.{Table, table, apply}
+use Rattle.br_model.specs.Tree.Tree.{Tree, state_at}
+use Rattle.br_model.specs.Theorems.TreeLaws.{knows_states}
+use Rattle.br_model.specs.Control.TreeReaction.{states, told}
+use Rattle.br_model.specs.Tree.Sending.{Acted}
+use Rattle.br_model.specs.Tree.Step.{tree_step, moved, sent}
 use Rattle.br_model.proofs.TreeKept.{known-at}
 use Rattle.bridge_core.specs.declared.faults.EventFault.{EventFault}
 use Rattle.bridge_core.specs.declared.faults.EventFault.TheVariants.{Refused, NoMemory}
 use Rattle.bridge_core.specs.declared.plan.Plan.{Plan}
-use Rattle.bridge_core.specs.Answers.{Makes, Reacts}
+use Rattle.bridge_core.specs.Answers.{CarriesQuietly, Makes, Reacts}
 use Rattle.bridge_core.specs.Following.{state_change}
 use Rattle.bridge_core.specs.Kept.{Controlled}
 use Rattle.bridge_core.specs.Plans.{IsSound, planned, prepared}
@@ -116,7 +116,7 @@ module _ (old : Controlled) (p : Plan) (sound : IsSound (table old.history) p) (
     where
       refuses : Refusal → Result Reaction Refusal
       refuses why = Err why
-  quiet_reacts new (Err NoMemory) quiet makes says = makes
+  quiet_reacts new (Err NoMemory) quiet makes says = (makes, says)
 
   module _ (event : TreeEvent) (is : p.told ≡ Some event) (known : knows_states (acts (table old.history) old.control p sound event).tree ≡ true) where
     abbrev pub whole : List Change
@@ -147,4 +147,42 @@ module _ (old : Controlled) (p : Plan) (sound : IsSound (table old.history) p) (
       where
         refuses : Refusal → Result Reaction Refusal
         refuses why = Err why
-    told_refused new (Err NoMemory) e makes says = makes
+    told_refused new (Err NoMemory) e makes says = (makes, says)
+
+-- a course of which no message goes out
+
+module _ (old new : Controlled) (x : Course) (c : Control) (cs : List Change) (changes : x.changes ≡ cs) (control : x.control ≡ fold keeps_up c cs) (silent : x.messages ≡ []) where
+  comes : (room : Bool) → has_room old.history cs ≡ room
+      → in_room old.history (Ok x) ≡ (if room then Ok (record { changes = x.changes; control = x.control; messages = x.messages }) else Err HistoryFull)
+  comes room e = ap (λ b. if b then Ok (record { changes = x.changes; control = x.control; messages = x.messages }) else Err HistoryFull) (ap (has_room old.history) changes ∙ e)
+
+  -- who made its changes carried it out
+  pub carried_out : (r : Result (Unit {0}) EventFault) → Makes old new c cs r → CarriesQuietly old new r x
+  carried_out (Ok done) makes lines = (
+    record { changes = x.changes; control = x.control; messages = x.messages },
+    comes true makes.0,
+    makes.1 ∙ (λ i. record old { history = old.history ++ sym changes i; control = sym control i }),
+    sym (append-nil lines) ∙ ap (λ ms. lines ++ control_lines old.setup.own ms) (sym silent),
+  )
+  carried_out (Err (Refused why)) makes lines = (comes false makes.0 ∙ sym (ap refuses makes.1), makes.2, refl)
+    where
+      refuses : Refusal → Result Reaction Refusal
+      refuses why = Err why
+  carried_out (Err NoMemory) makes lines = (makes, refl)
+
+-- where it makes no change
+pub carried_still : (old new : Controlled) (x : Course) (c : Control) → length old.history ≤ most_changes → from (table old.history) c ≡ x → new ≡ record old { control = c } → CarriesQuietly old new (Ok tt) x
+carried_still old new x c few is goes =
+    carried_out old new x c [] (ap (λ (r : Course). r.changes) (sym is)) (ap (λ (r : Course). r.control) (sym is)) (ap (λ (r : Course). r.messages) (sym is)) (Ok tt)
+    (le-leb _ _ (omega (arith, few)), goes ∙ (λ i. record old { history = sym (append-nil old.history) i; control = c }))
+
+-- by another name
+pub carried_as : (old new : Controlled) (r : Result (Unit {0}) EventFault) (x y : Course) → x ≡ y → CarriesQuietly old new r x → CarriesQuietly old new r y
+carried_as old new r x y is carried = subst (λ (z : Course). CarriesQuietly old new r z) is carried
+
+-- one change
+pub carried_one : (old new : Controlled) (d : Change) (x : Course) → all_fit (table old.history) (d ∷ []) ≡ true → makes_all (from (table old.history) old.control) (d ∷ []) ≡ x
+    → (r : Result (Unit {0}) EventFault) → Makes old new old.control (d ∷ []) r → CarriesQuietly old new r x
+carried_one old new d x fit is r makes =
+    let all = sym is ∙ made_all (from (table old.history) old.control) (d ∷ []) fit in
+    carried_out old new x old.control (d ∷ []) (ap (λ (y : Course). y.changes) all) (ap (λ (y : Course). y.control) all) (ap (λ (y : Course). y.messages) all) r makes

@@ -4,9 +4,9 @@ use Rattle.std.specs.List.{filter}
 use Rattle.br_model.specs.declared.change.Change.{Change}
 use Rattle.br_model.specs.declared.change.Change.TheVariants.{GroupPart, AddrDel, VlanDel}
 use Rattle.br_model.specs.declared.change.Kind.{Kind}
-use Rattle.br_model.specs.Groups.{Membership}
-use Rattle.br_model.specs.GroupPairs.{GroupPair}
-use Rattle.br_model.specs.Learning.{Address}
+use Rattle.br_model.specs.Table.Groups.{Membership}
+use Rattle.br_model.specs.Table.GroupPairs.{GroupPair}
+use Rattle.br_model.specs.Control.Learning.{Address}
 use Rattle.bridge_core.specs.Entries.{keys_at}
 
 -- one item more

@@ -5,17 +5,17 @@ use Rattle.std.specs.Cmp.{first_so, second_so}
 use Rattle.std.specs.List.{list_all}
 use Rattle.br_model.specs.declared.change.Change.{Change}
 use Rattle.br_model.specs.declared.change.Change.TheVariants.{PortUp, PortDown, SetFlags, SetState, VlanAdd, VlanDel, GroupJoin, GroupPart, Router, Querier, Snoop, Stp, AddrPut, AddrDel}
-use Rattle.br_model.specs.Ageing.{forgets}
-use Rattle.br_model.specs.Change.{deferred}
-use Rattle.br_model.specs.Control.{Control, keeps_up}
-use Rattle.br_model.specs.Course.{Course, makes, makes_all}
-use Rattle.br_model.specs.Ends.{Ends, due, due_members, endings}
-use Rattle.br_model.specs.EndsTied.{IsTied}
-use Rattle.br_model.specs.Groups.{Membership}
-use Rattle.br_model.specs.Learning.{Address}
-use Rattle.br_model.specs.Limits.{all_fit}
-use Rattle.br_model.specs.Reaction.{ends}
-use Rattle.br_model.specs.Table.{Table, apply, with_addresses, ip_version}
+use Rattle.br_model.specs.Control.Ageing.{forgets}
+use Rattle.br_model.specs.Table.Change.{is_of_address}
+use Rattle.br_model.specs.Control.Control.{Control, keeps_up}
+use Rattle.br_model.specs.Control.Course.{Course, makes, makes_all}
+use Rattle.br_model.specs.Control.Ends.{Ends, due, due_members, endings}
+use Rattle.br_model.specs.Theorems.EndsTied.{IsTied}
+use Rattle.br_model.specs.Table.Groups.{Membership}
+use Rattle.br_model.specs.Control.Learning.{Address}
+use Rattle.br_model.specs.Table.Limits.{all_fit}
+use Rattle.br_model.specs.Control.Reaction.{ends}
+use Rattle.br_model.specs.Table.Table.{Table, apply, with_addresses, ip_version}
 use Rattle.mdb_snoop.specs.Database.{versions}
 use Rattle.bridge_core.specs.Ending.{queriers_off}
 use Rattle.bridge_core.proofs.Fitting.{made_all, all_fit_any, always-append, always-map}
@@ -33,7 +33,7 @@ fit_endings t now e =
 
 -- changes of addresses
 
-leaves_ends : (c : Control) (d : Change) → deferred d ≡ true → (keeps_up c d).ends ≡ c.ends
+leaves_ends : (c : Control) (d : Change) → is_of_address d ≡ true → (keeps_up c d).ends ≡ c.ends
 leaves_ends c (PortUp port) h = absurd (cc)
 leaves_ends c (PortDown port) h = absurd (cc)
 leaves_ends c (SetFlags port flags) h = absurd (cc)
@@ -49,7 +49,7 @@ leaves_ends c (Stp on) h = absurd (cc)
 leaves_ends c (AddrPut vid mac port kind) h = refl
 leaves_ends c (AddrDel vid mac) h = refl
 
-leaves_ports : (t : Table) (d : Change) → deferred d ≡ true → with_addresses (apply t d) [] ≡ with_addresses t []
+leaves_ports : (t : Table) (d : Change) → is_of_address d ≡ true → with_addresses (apply t d) [] ≡ with_addresses t []
 leaves_ports t (PortUp port) h = absurd (cc)
 leaves_ports t (PortDown port) h = absurd (cc)
 leaves_ports t (SetFlags port flags) h = absurd (cc)
@@ -65,13 +65,13 @@ leaves_ports t (Stp on) h = absurd (cc)
 leaves_ports t (AddrPut vid mac port kind) h = refl
 leaves_ports t (AddrDel vid mac) h = refl
 
-pub same_ends : (c : Control) (cs : List Change) → list_all deferred cs ≡ true → (fold keeps_up c cs).ends ≡ c.ends
+pub same_ends : (c : Control) (cs : List Change) → list_all is_of_address cs ≡ true → (fold keeps_up c cs).ends ≡ c.ends
 same_ends c [] h = refl
-same_ends c (d ∷ ds) h = same_ends (keeps_up c d) ds (second_so (deferred d) (list_all deferred ds) h) ∙ leaves_ends c d (first_so (deferred d) (list_all deferred ds) h)
+same_ends c (d ∷ ds) h = same_ends (keeps_up c d) ds (second_so (is_of_address d) (list_all is_of_address ds) h) ∙ leaves_ends c d (first_so (is_of_address d) (list_all is_of_address ds) h)
 
-pub same_ports : (t : Table) (cs : List Change) → list_all deferred cs ≡ true → with_addresses (fold apply t cs) [] ≡ with_addresses t []
+pub same_ports : (t : Table) (cs : List Change) → list_all is_of_address cs ≡ true → with_addresses (fold apply t cs) [] ≡ with_addresses t []
 same_ports t [] h = refl
-same_ports t (d ∷ ds) h = same_ports (apply t d) ds (second_so (deferred d) (list_all deferred ds) h) ∙ leaves_ports t d (first_so (deferred d) (list_all deferred ds) h)
+same_ports t (d ∷ ds) h = same_ports (apply t d) ds (second_so (is_of_address d) (list_all is_of_address ds) h) ∙ leaves_ports t d (first_so (is_of_address d) (list_all is_of_address ds) h)
 
 -- the tie of a table and its ends doesn't speak of addresses
 pub tied-but_addresses : (t u : Table) (e : Ends) → with_addresses u [] ≡ with_addresses t [] → IsTied t e → IsTied u e
@@ -86,9 +86,9 @@ tied-but_addresses t u e same tied = record {
 
 -- what is forgotten
 
-pub forgets-deferred : (keys : List Address) → list_all deferred (forgets keys) ≡ true
-forgets-deferred [] = refl
-forgets-deferred (k ∷ keys) = forgets-deferred keys
+pub forgets-is_of_address : (keys : List Address) → list_all is_of_address (forgets keys) ≡ true
+forgets-is_of_address [] = refl
+forgets-is_of_address (k ∷ keys) = forgets-is_of_address keys
 
 module _ (base : Course) (keys : List Address) where
   abbrev pub gone : List Change
@@ -98,7 +98,7 @@ module _ (base : Course) (keys : List Address) where
   both_go fit now =
       let aged = made_all base (forgets keys) fit in
       let at = ap (λ (r : Course). r.control.now) aged ∙ now in
-      let ending = ap (λ (r : Course). r.control.ends) aged ∙ same_ends base.control (forgets keys) (forgets-deferred keys) in
+      let ending = ap (λ (r : Course). r.control.ends) aged ∙ same_ends base.control (forgets keys) (forgets-is_of_address keys) in
       (λ i. makes_all (makes_all base (forgets keys)) (endings (at i) (ending i)))
       ∙ sym (fold-append makes base (forgets keys) (endings base.control.now base.control.ends))
 

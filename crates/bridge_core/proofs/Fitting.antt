@@ -4,12 +4,13 @@ use Rattle.std.proofs.lemmas.List.{append-nil}
 use Rattle.std.specs.Prelude.{nat_le}
 use Rattle.std.specs.List.{fold, list_all}
 use Rattle.std.specs.Cmp.{first_so, second_so}
+use Rattle.br_model.specs.declared.change.Asks.{Asks}
+use Rattle.br_model.specs.declared.change.Asks.TheVariants.{Nothing, State, GroupRoom, AddressRoom}
 use Rattle.br_model.specs.declared.change.Change.{Change}
-use Rattle.br_model.specs.declared.change.Change.TheVariants.{PortUp, PortDown, SetFlags, SetState, VlanAdd, VlanDel, GroupJoin, GroupPart, Router, Querier, Snoop, Stp, AddrPut, AddrDel}
-use Rattle.br_model.specs.Control.{keeps_up}
-use Rattle.br_model.specs.Course.{Course, makes, makes_all}
-use Rattle.br_model.specs.Limits.{fits, all_fit}
-use Rattle.br_model.specs.Table.{Table, apply}
+use Rattle.br_model.specs.Control.Control.{keeps_up}
+use Rattle.br_model.specs.Control.Course.{Course, makes, makes_all}
+use Rattle.br_model.specs.Table.Limits.{asks, grants, fits, all_fit}
+use Rattle.br_model.specs.Table.Table.{Table, apply}
 
 both : (a b : Bool) → a ≡ true → b ≡ true → (a && b) ≡ true
 both a b p q = λ i. p i && q i
@@ -31,6 +32,10 @@ made_all r (c ∷ cs) h =
     made_all (makes r c) cs (ap (λ b. all_fit (cond b (record { table = apply r.table c; control = keeps_up r.control c; changes = r.changes ++ c ∷ []; messages = r.messages }) r).table cs) here ∙ later)
     ∙ made r c cs here
 
+-- one change that fits
+pub fits_alone : (t : Table) (c : Change) → all_fit t (c ∷ []) ≡ true → fits t c ≡ true
+fits_alone t c h = first_so (fits t c) true h
+
 -- changes that fit behind others that do
 pub fit_behind : (t : Table) (cs ds : List Change) → all_fit t cs ≡ true → all_fit (fold apply t cs) ds ≡ true → all_fit t (cs ++ ds) ≡ true
 fit_behind t [] ds h k = k
@@ -38,38 +43,25 @@ fit_behind t (c ∷ cs) ds h k =
     both (fits t c) (all_fit (apply t c) (cs ++ ds)) (first_so (fits t c) (all_fit (apply t c) cs) h)
     (fit_behind (apply t c) cs ds (second_so (fits t c) (all_fit (apply t c) cs) h) k)
 
+-- what every table grants
+abbrev pub always : Asks → Bool
+always Nothing = true
+always (State state) = nat_le state 4
+always (GroupRoom vid group) = false
+always (AddressRoom vid mac) = false
+
+granted : (t : Table) (a : Asks) → always a ≡ true → grants t a ≡ true
+granted t Nothing h = refl
+granted t (State state) h = h
+granted t (GroupRoom vid group) h = absurd (cc)
+granted t (AddressRoom vid mac) h = absurd (cc)
+
 -- changes that fit every table
 abbrev pub always_fits : Change → Bool
-always_fits (PortUp port) = true
-always_fits (PortDown port) = true
-always_fits (SetFlags port flags) = true
-always_fits (SetState port state) = nat_le state 4
-always_fits (VlanAdd port vid untagged pvid) = true
-always_fits (VlanDel port vid) = true
-always_fits (GroupJoin port vid group) = false
-always_fits (GroupPart port vid group) = true
-always_fits (Router port on) = true
-always_fits (Querier six on) = true
-always_fits (Snoop on) = true
-always_fits (Stp on) = true
-always_fits (AddrPut vid mac port kind) = false
-always_fits (AddrDel vid mac) = true
+always_fits c = always (asks c)
 
 fits_any : (t : Table) (c : Change) → always_fits c ≡ true → fits t c ≡ true
-fits_any t (PortUp port) h = refl
-fits_any t (PortDown port) h = refl
-fits_any t (SetFlags port flags) h = refl
-fits_any t (SetState port state) h = h
-fits_any t (VlanAdd port vid untagged pvid) h = refl
-fits_any t (VlanDel port vid) h = refl
-fits_any t (GroupJoin port vid group) h = absurd (cc)
-fits_any t (GroupPart port vid group) h = refl
-fits_any t (Router port on) h = refl
-fits_any t (Querier six on) h = refl
-fits_any t (Snoop on) h = refl
-fits_any t (Stp on) h = refl
-fits_any t (AddrPut vid mac port kind) h = absurd (cc)
-fits_any t (AddrDel vid mac) h = refl
+fits_any t c h = granted t (asks c) h
 
 pub all_fit_any : (t : Table) (cs : List Change) → list_all always_fits cs ≡ true → all_fit t cs ≡ true
 all_fit_any t [] h = refl

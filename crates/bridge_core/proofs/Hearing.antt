@@ -16,19 +16,19 @@ use Rattle.br_model.specs.declared.change.Change.TheVariants.{PortUp, PortDown, 
 use Rattle.br_model.specs.declared.group.Group.{Group}
 use Rattle.std.specs.Cmp.{first_so, second_so}
 use Rattle.std.specs.List.{list_all}
-use Rattle.br_model.specs.Change.{deferred}
-use Rattle.br_model.specs.Control.{Control, ends_with}
-use Rattle.br_model.specs.Course.{Course}
-use Rattle.br_model.specs.Ends.{Ends, member_time, querier_time, leave_time, end_of, lasts, parts, routes, queries, keys}
-use Rattle.br_model.specs.EndsTied.{IsTied}
-use Rattle.br_model.specs.GroupPairs.{has_room}
-use Rattle.br_model.specs.Groups.{Membership, is_link_local, membership_cmp}
-use Rattle.br_model.specs.Limits.{fits, all_fit}
-use Rattle.br_model.specs.Maps.{get, put, has}
-use Rattle.br_model.specs.Records.{acts, acts_of, record_length}
-use Rattle.br_model.specs.Snooping.{fastleave, end_at, until, joins, leaves, leaves_from, querier_heard, router_heard}
-use Rattle.br_model.specs.Table.{Table, apply, ip_version}
-use Rattle.br_model.specs.Targets.{has_flag}
+use Rattle.br_model.specs.Table.Change.{is_of_address}
+use Rattle.br_model.specs.Control.Control.{Control, ends_with}
+use Rattle.br_model.specs.Control.Course.{Course}
+use Rattle.br_model.specs.Control.Ends.{Ends, member_time, querier_time, leave_time, end_of, lasts, parts, routes, queries, keys}
+use Rattle.br_model.specs.Theorems.EndsTied.{IsTied}
+use Rattle.br_model.specs.Table.GroupPairs.{has_room}
+use Rattle.br_model.specs.Table.Groups.{Membership, is_link_local, membership_cmp}
+use Rattle.br_model.specs.Table.Limits.{fits, all_fit}
+use Rattle.br_model.specs.Data.Maps.{get, put, has}
+use Rattle.br_model.specs.Wire.Records.{acts, acts_of, record_length}
+use Rattle.br_model.specs.Control.Snooping.{fastleave, end_at, until, joins, leaves, leaves_from, querier_heard, router_heard}
+use Rattle.br_model.specs.Table.Table.{Table, apply, ip_version}
+use Rattle.br_model.specs.Forward.Targets.{has_flag}
 use Rattle.br_model.proofs.EndsTied.{tied-groups, tied-routers, tied-queriers, tied-lasts, tied-parts, tied-routes, tied-queries}
 use Rattle.br_model.proofs.GroupOrders.{membership_total}
 use Rattle.br_model.proofs.KeySets.{keys-put_there, ascending-put}
@@ -96,12 +96,12 @@ all-append p [] ys h k = k
 all-append p (x ∷ xs) ys h k = λ i. first_so (p x) (list_all p xs) h i && all-append p xs ys (second_so (p x) (list_all p xs) h) k i
 
 -- changes that are none of an address move no moment of one
-pub places-prompt : (c : Control) (cs : List Change) → list_all (λ d. not (deferred d)) cs ≡ true → fold places c cs ≡ c
+pub places-prompt : (c : Control) (cs : List Change) → list_all (λ d. not (is_of_address d)) cs ≡ true → fold places c cs ≡ c
 places-prompt c [] h = refl
 places-prompt c (d ∷ ds) h =
-    places-prompt (places c d) ds (second_so (not (deferred d)) (list_all (λ e. not (deferred e)) ds) h) ∙ one d (first_so (not (deferred d)) (list_all (λ e. not (deferred e)) ds) h)
+    places-prompt (places c d) ds (second_so (not (is_of_address d)) (list_all (λ e. not (is_of_address e)) ds) h) ∙ one d (first_so (not (is_of_address d)) (list_all (λ e. not (is_of_address e)) ds) h)
   where
-    one : (d : Change) → not (deferred d) ≡ true → places c d ≡ c
+    one : (d : Change) → not (is_of_address d) ≡ true → places c d ≡ c
     one (PortUp port) e = refl
     one (PortDown port) e = refl
     one (SetFlags port flags) e = refl
@@ -157,7 +157,7 @@ module _ (s : Speaker) where
           changes = y.0.changes ∙ ap (λ l. l ++ ns) x.0.changes ∙ append_assoc r.changes ms ns;
           messages = y.0.messages ∙ x.0.messages;
           fits = fit_behind r.table ms ns x.0.fits (ap (λ t. all_fit t ns) (sym x.0.table) ∙ y.0.fits);
-          prompt = all-append (λ (c : Change). not (deferred c)) ms ns x.0.prompt y.0.prompt;
+          prompt = all-append (λ (c : Change). not (is_of_address c)) ms ns x.0.prompt y.0.prompt;
         },
         y.1,
       )
@@ -180,7 +180,7 @@ module _ (s : Speaker) where
   )
 
   -- One change is made that fits, and the ends move with it.
-  one-change : (a b : Ends) (c : Change) → not (deferred c) ≡ true → ((t : Table) → IsTied t a → IsTied (apply t c) b × (fits t c ≡ true))
+  one-change : (a b : Ends) (c : Change) → not (is_of_address c) ≡ true → ((t : Table) → IsTied t a → IsTied (apply t c) b × (fits t c ≡ true))
       → ((t : Table) → has_flag (apply t c) s.port fastleave ≡ has_flag t s.port fastleave) → Leads s a b (c ∷ []) (λ r. made r c b)
   one-change a b c prompt tied flag r h = (
     record { table = refl; control = refl; changes = refl; messages = refl; fits = ap (λ x. x && true) (tied r.table h.tied).1; prompt = ap (λ x. x && true) prompt },

@@ -2,6 +2,7 @@ pub mod Drops
 pub mod Fitting
 pub mod Moments
 pub mod Accepting
+pub mod Following
 pub mod Reactions
 pub mod Hearing
 pub mod Speaking

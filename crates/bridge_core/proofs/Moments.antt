@@ -12,10 +12,10 @@ use Rattle.std.proofs.lemmas.List.{length-map}
 use Rattle.std.proofs.lemmas.Bool.Decides.{nat_tests}
 use Rattle.br_model.specs.declared.change.Kind.{Kind}
 use Rattle.br_model.specs.declared.change.Kind.TheVariants.{Local, Static, Learned, Extern}
-use Rattle.br_model.specs.Ageing.{expires, is_old}
-use Rattle.br_model.specs.Learning.{Address}
-use Rattle.br_model.specs.Limits.{most_addresses}
-use Rattle.br_model.specs.Maps.{pair_cmp, get, put, without, is_ascending}
+use Rattle.br_model.specs.Control.Ageing.{expires, is_old}
+use Rattle.br_model.specs.Control.Learning.{Address}
+use Rattle.br_model.specs.Table.Limits.{most_addresses}
+use Rattle.br_model.specs.Data.Maps.{pair_cmp, get, put, without, is_ascending}
 use Rattle.br_model.proofs.PairKeys.{pair_total, same_cmp}
 use Rattle.fdb_core.specs.declared.entries.Entry.{Entry}
 use Rattle.fdb_core.specs.Fdb.{addresses, moments, place, keys_where, is_at_port, is_expired, is_learned, is_from, all_from}

@@ -20,28 +20,28 @@ use Rattle.br_model.specs.declared.steps.Refusal.TheVariants as refusals
 use Rattle.br_model.specs.declared.transcript.Line.{Line}
 use Rattle.br_model.specs.declared.tree.TreeEvent.{TreeEvent}
 use Rattle.br_model.specs.declared.tree.TreeEvent.TheVariants.{Message, Moment}
-use Rattle.br_model.specs.Admission.{is_up, vlan_of, has_valid_source}
-use Rattle.br_model.specs.Ageing.{forgets}
-use Rattle.br_model.specs.Bpdus.{bpdu}
-use Rattle.br_model.specs.Commands.{command, sets}
-use Rattle.br_model.specs.Commands.Groups.{group_of, is_snooping}
-use Rattle.br_model.specs.Commands.Ports.{goes_down, drops_addresses, drops_groups, drops_vlans, flags_of, flags_with}
-use Rattle.br_model.specs.Commands.SpanningTree.{is_switched}
-use Rattle.br_model.specs.Commands.Vlans.{leaves_vlan}
-use Rattle.br_model.specs.Control.{Control, keeps_up, renewed}
-use Rattle.br_model.specs.Course.{Course, from, makes_all}
-use Rattle.br_model.specs.Groups.{Membership}
-use Rattle.br_model.specs.Learning.{Address, is_news, is_renewed, is_dynamic, is_learned_at, may_teach, taught, teach, teach_in, told as reported}
-use Rattle.br_model.specs.Limits.{fits, all_fit}
-use Rattle.br_model.specs.Maps.{pair_cmp, get, has}
+use Rattle.br_model.specs.Forward.Admission.{is_up, vlan_of, has_valid_source}
+use Rattle.br_model.specs.Control.Ageing.{forgets}
+use Rattle.br_model.specs.Wire.Bpdus.{bpdu}
+use Rattle.br_model.specs.Control.Commands.{command, sets}
+use Rattle.br_model.specs.Control.Commands.Groups.{group_of, is_snooping}
+use Rattle.br_model.specs.Control.Commands.Ports.{goes_down, drops_addresses, drops_groups, drops_vlans, flags_of, flags_with}
+use Rattle.br_model.specs.Control.Commands.SpanningTree.{is_switched}
+use Rattle.br_model.specs.Control.Commands.Vlans.{leaves_vlan}
+use Rattle.br_model.specs.Control.Control.{Control, keeps_up, renewed}
+use Rattle.br_model.specs.Control.Course.{Course, from, makes_all}
+use Rattle.br_model.specs.Table.Groups.{Membership}
+use Rattle.br_model.specs.Control.Learning.{Address, is_news, is_renewed, is_dynamic, is_learned_at, may_teach, taught, teach, teach_in, told as reported}
+use Rattle.br_model.specs.Table.Limits.{fits, all_fit}
+use Rattle.br_model.specs.Data.Maps.{pair_cmp, get, has}
 use Rattle.br_model.specs.Plane.World.{control_line, control_lines}
-use Rattle.br_model.specs.Reaction.{learns}
-use Rattle.br_model.specs.Table.{Table, apply}
-use Rattle.br_model.specs.Targets.{bridge_group_address, is_for_the_host, pause_address}
-use Rattle.br_model.specs.Tree.{Tree, numbers, state_at}
-use Rattle.br_model.specs.TreeReaction.{follows, heard, told as tells_it}
-use Rattle.br_model.specs.TreeSending.{quiet}
-use Rattle.br_model.specs.TreeStep.{tree_step, message}
+use Rattle.br_model.specs.Control.Reaction.{learns}
+use Rattle.br_model.specs.Table.Table.{Table, apply}
+use Rattle.br_model.specs.Forward.Targets.{bridge_group_address, is_for_the_host, pause_address}
+use Rattle.br_model.specs.Tree.Tree.{Tree, numbers, state_at}
+use Rattle.br_model.specs.Control.TreeReaction.{follows, heard, told as tells_it}
+use Rattle.br_model.specs.Tree.Sending.{quiet}
+use Rattle.br_model.specs.Tree.Step.{tree_step, message}
 use Rattle.bridge_core.specs.declared.learning.Lesson.{Lesson}
 use Rattle.bridge_core.specs.declared.learning.Lesson.TheVariants.{Known, Renewed, News}
 use Rattle.bridge_core.specs.declared.plan.Plan.{Plan}

@@ -8,16 +8,16 @@ use Rattle.std.specs.declared.result.Result.TheVariants.{Ok, Err}
 use Rattle.br_model.specs.declared.steps.Refusal.{Refusal}
 use Rattle.br_model.specs.declared.steps.Refusal.TheVariants.{HistoryFull}
 use Rattle.br_model.specs.declared.transcript.Line.{Line}
-use Rattle.br_model.specs.Change.{deferred}
-use Rattle.br_model.specs.Control.{keeps_up}
-use Rattle.br_model.specs.Course.{Course}
-use Rattle.br_model.specs.EndsTied.{IsTied}
-use Rattle.br_model.specs.Limits.{most_changes}
+use Rattle.br_model.specs.Table.Change.{is_of_address}
+use Rattle.br_model.specs.Control.Control.{keeps_up}
+use Rattle.br_model.specs.Control.Course.{Course}
+use Rattle.br_model.specs.Theorems.EndsTied.{IsTied}
+use Rattle.br_model.specs.Table.Limits.{most_changes}
 use Rattle.br_model.specs.Plane.World.{control_lines}
-use Rattle.br_model.specs.Reaction.{Reaction, in_room}
-use Rattle.br_model.specs.Snooping.{fastleave}
-use Rattle.br_model.specs.Table.{table, apply}
-use Rattle.br_model.specs.Targets.{has_flag}
+use Rattle.br_model.specs.Control.Reaction.{Reaction, in_room}
+use Rattle.br_model.specs.Control.Snooping.{fastleave}
+use Rattle.br_model.specs.Table.Table.{table, apply}
+use Rattle.br_model.specs.Forward.Targets.{has_flag}
 use Rattle.bridge_core.specs.declared.faults.EventFault.{EventFault}
 use Rattle.bridge_core.specs.declared.plan.Plan.{Plan}
 use Rattle.bridge_core.specs.declared.snooping.Speaker.{Speaker}
@@ -35,7 +35,7 @@ module _ (old : Controlled) (p : Plan) where
   abbrev pub learned : Course
   learned = record { table = fold apply (table old.history) p.changes.items; control = fold keeps_up (prepared old.control p) p.changes.items; changes = p.changes.items; messages = [] }
 
-  module _ (s : Speaker) (addresses : list_all deferred p.changes.items ≡ true) (clock : p.clock.now ≡ s.moment) (leaves : has_flag (table old.history) s.port fastleave ≡ s.fastleave) where
+  module _ (s : Speaker) (addresses : list_all is_of_address p.changes.items ≡ true) (clock : p.clock.now ≡ s.moment) (leaves : has_flag (table old.history) s.port fastleave ≡ s.fastleave) where
     pub heard_now : learned.control.now ≡ s.moment
     heard_now = same_clock (prepared old.control p) p.changes.items ∙ renewed_clock (clocked p.clock old.control) p.renewed ∙ clock
 

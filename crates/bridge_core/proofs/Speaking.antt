@@ -9,23 +9,23 @@ use Rattle.br_model.specs.declared.frame.McastMsg.{McastMsg}
 use Rattle.br_model.specs.declared.frame.McastMsg.TheVariants.{Plain, Payload, Query, Report, Leave, Records, Unrecognized}
 use Rattle.br_model.specs.declared.tree.TreeEvent.{TreeEvent}
 use Rattle.br_model.specs.declared.tree.TreeEvent.TheVariants.{Message}
-use Rattle.br_model.specs.Admission.{admit, is_up, has_valid_source}
-use Rattle.br_model.specs.Bpdus.{bpdu}
-use Rattle.br_model.specs.Control.{renewed}
-use Rattle.br_model.specs.Course.{Course, makes}
-use Rattle.br_model.specs.DomainPorts.{is_in_domain}
-use Rattle.br_model.specs.Domains.{software}
-use Rattle.br_model.specs.IpHeaders.{destination_four, destination_six, is_multicast_four, is_multicast_six, is_whole_four, is_whole_six, mac_of_four, mac_of_six, type_four, type_six}
-use Rattle.br_model.specs.Learning.{Address, is_news, is_renewed, teach}
-use Rattle.br_model.specs.Limits.{fits}
-use Rattle.br_model.specs.Messages.{message, message_four, message_six}
-use Rattle.br_model.specs.Numbers.{is_group_four, is_group_six}
-use Rattle.br_model.specs.Reaction.{learns, learns_of}
-use Rattle.br_model.specs.Setup.{Setup}
-use Rattle.br_model.specs.Snooping.{said, snoops, snoops_in}
-use Rattle.br_model.specs.Table.{Table, apply, with_addresses}
-use Rattle.br_model.specs.Targets.{bridge_group_address}
-use Rattle.br_model.specs.TreeReaction.{heard}
+use Rattle.br_model.specs.Forward.Admission.{admit, is_up, has_valid_source}
+use Rattle.br_model.specs.Wire.Bpdus.{bpdu}
+use Rattle.br_model.specs.Control.Control.{renewed}
+use Rattle.br_model.specs.Control.Course.{Course, makes}
+use Rattle.br_model.specs.Table.DomainPorts.{is_in_domain}
+use Rattle.br_model.specs.Table.Domains.{software}
+use Rattle.br_model.specs.Wire.IpHeaders.{destination_four, destination_six, is_multicast_four, is_multicast_six, is_whole_four, is_whole_six, mac_of_four, mac_of_six, type_four, type_six}
+use Rattle.br_model.specs.Control.Learning.{Address, is_news, is_renewed, teach}
+use Rattle.br_model.specs.Table.Limits.{fits}
+use Rattle.br_model.specs.Wire.Messages.{message, message_four, message_six}
+use Rattle.br_model.specs.Data.Numbers.{is_group_four, is_group_six}
+use Rattle.br_model.specs.Control.Reaction.{learns, learns_of}
+use Rattle.br_model.specs.Table.Setup.{Setup}
+use Rattle.br_model.specs.Control.Snooping.{said, snoops, snoops_in}
+use Rattle.br_model.specs.Table.Table.{Table, apply, with_addresses}
+use Rattle.br_model.specs.Forward.Targets.{bridge_group_address}
+use Rattle.br_model.specs.Control.TreeReaction.{heard}
 use Rattle.bridge_core.specs.Hearing.{most}
 
 -- A message that may change nothing changes nothing.

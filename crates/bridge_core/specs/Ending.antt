@@ -2,7 +2,7 @@
 use Rattle.std.specs.Prelude.{ℕ, Bool, true, false, if◌then◌else◌, List, [], ◌∷◌, ◌++◌}
 use Rattle.br_model.specs.declared.change.Change.{Change}
 use Rattle.br_model.specs.declared.change.Change.TheVariants.{GroupPart, Router, Querier}
-use Rattle.br_model.specs.Groups.{Membership}
+use Rattle.br_model.specs.Table.Groups.{Membership}
 
 abbrev pub part : Membership → Change
 part m = GroupPart m.2 m.0 m.1

@@ -3,10 +3,10 @@ use Rattle.std.specs.Prelude.{ℕ, ◌≡◌, ◌+◌, ◌^◌, ◌-◌, ◌==�
 use Rattle.std.specs.List.{filter}
 use Rattle.std.specs.Option.{unwrap_or}
 use Rattle.br_model.specs.declared.change.Kind.{Kind}
-use Rattle.br_model.specs.Ageing.{expires, is_old}
-use Rattle.br_model.specs.Learning.{Address}
-use Rattle.br_model.specs.Limits.{most_addresses}
-use Rattle.br_model.specs.Maps.{pair_cmp, get, is_ascending}
+use Rattle.br_model.specs.Control.Ageing.{expires, is_old}
+use Rattle.br_model.specs.Control.Learning.{Address}
+use Rattle.br_model.specs.Table.Limits.{most_addresses}
+use Rattle.br_model.specs.Data.Maps.{pair_cmp, get, is_ascending}
 use Rattle.fdb_core.specs.declared.entries.Entry.{Entry}
 use Rattle.fdb_core.specs.Fdb.{Table, all_from, oldest}
 

@@ -3,20 +3,21 @@ use Rattle.std.specs.Prelude.{ℕ, ◌≡◌, true, not, List, [], ◌∷◌, �
 use Rattle.std.specs.List.{fold, list_all}
 use Rattle.std.specs.declared.option.Option.{Option}
 use Rattle.std.specs.declared.option.Option.TheVariants.{None, Some}
+use Rattle.br_model.specs.declared.change.Asks.{Asks}
+use Rattle.br_model.specs.declared.change.Asks.TheVariants as asks
 use Rattle.br_model.specs.declared.change.Change.{Change}
-use Rattle.br_model.specs.declared.change.Change.TheVariants.{PortUp, PortDown, SetFlags, SetState, VlanAdd, VlanDel, GroupJoin, GroupPart, Router, Querier, Snoop, Stp, AddrPut, AddrDel}
 use Rattle.br_model.specs.declared.frame.McastMsg.{McastMsg}
 use Rattle.br_model.specs.declared.frame.McastMsg.TheVariants.{Plain, Payload, Query, Report, Leave, Records, Unrecognized}
-use Rattle.br_model.specs.Change.{deferred}
-use Rattle.br_model.specs.Control.{ends_with}
-use Rattle.br_model.specs.Course.{Course}
-use Rattle.br_model.specs.Ends.{Ends, keys}
-use Rattle.br_model.specs.EndsTied.{IsTied}
-use Rattle.br_model.specs.GroupPairs.{has_room}
-use Rattle.br_model.specs.Limits.{all_fit}
-use Rattle.br_model.specs.Snooping.{fastleave, said}
-use Rattle.br_model.specs.Table.{apply}
-use Rattle.br_model.specs.Targets.{has_flag}
+use Rattle.br_model.specs.Table.Change.{is_of_address}
+use Rattle.br_model.specs.Control.Control.{ends_with}
+use Rattle.br_model.specs.Control.Course.{Course}
+use Rattle.br_model.specs.Control.Ends.{Ends, keys}
+use Rattle.br_model.specs.Theorems.EndsTied.{IsTied}
+use Rattle.br_model.specs.Table.GroupPairs.{has_room}
+use Rattle.br_model.specs.Table.Limits.{all_fit}
+use Rattle.br_model.specs.Control.Snooping.{fastleave, said}
+use Rattle.br_model.specs.Table.Table.{apply}
+use Rattle.br_model.specs.Forward.Targets.{has_flag}
 use Rattle.bridge_core.specs.declared.snooping.Speaker.{Speaker}
 use Rattle.bridge_core.specs.declared.state.State.{State}
 use Rattle.bridge_core.specs.Standing.{table_of}
@@ -36,7 +37,7 @@ pub record GoesOn (r next : Course) (e : Ends) (made : List Change) : Type 0 whe
   pub messages : next.messages ≡ r.messages
   pub fits : all_fit r.table made ≡ true
   -- none is of an address
-  pub prompt : list_all (λ c. not (deferred c)) made ≡ true
+  pub prompt : list_all (λ c. not (is_of_address c)) made ≡ true
 
 -- Each course that hears the speaker goes on so.
 abbrev pub Leads : Speaker → Ends → Ends → List Change → (Course → Course) → Type 0
@@ -60,27 +61,21 @@ most (Leave group) = 1
 most (Records six first count) = count
 most Unrecognized = 0
 
+-- what the speaker's message does
+abbrev pub says : Speaker → List ℕ → McastMsg → Course → Course
+says s bytes m r = said s.port s.vid bytes m r
+
 -- The speaker speaks now, by the flag of its port.
 pub record IsHeard (state : State) (s : Speaker) : Type 0 where
   pub now : s.moment ≡ state.clock.now
   pub leaves : has_flag (table_of state) s.port fastleave ≡ s.fastleave
 
--- there is room for the membership that the change makes, if it makes one
-abbrev pub HasRoom : Ends → Change → Type 0
-HasRoom e (PortUp port) = Unit {0}
-HasRoom e (PortDown port) = Unit {0}
-HasRoom e (SetFlags port flags) = Unit {0}
-HasRoom e (SetState port state) = Unit {0}
-HasRoom e (VlanAdd port vid untagged pvid) = Unit {0}
-HasRoom e (VlanDel port vid) = Unit {0}
-HasRoom e (GroupJoin port vid group) = has_room (keys e.groups) vid group ≡ true
-HasRoom e (GroupPart port vid group) = Unit {0}
-HasRoom e (Router port on) = Unit {0}
-HasRoom e (Querier six on) = Unit {0}
-HasRoom e (Snoop on) = Unit {0}
-HasRoom e (Stp on) = Unit {0}
-HasRoom e (AddrPut vid mac port kind) = Unit {0}
-HasRoom e (AddrDel vid mac) = Unit {0}
+-- there is room for the membership that is asked for, if one is
+abbrev pub HasRoom : Ends → Asks → Type 0
+HasRoom e asks.Nothing = Unit {0}
+HasRoom e (asks.State state) = Unit {0}
+HasRoom e (asks.GroupRoom vid group) = has_room (keys e.groups) vid group ≡ true
+HasRoom e (asks.AddressRoom vid mac) = Unit {0}
 
 -- what the frame's message does, where somebody says it
 abbrev pub snoops_by : Option Speaker → List ℕ → McastMsg → Course → Course

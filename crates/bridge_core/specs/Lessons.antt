@@ -1,12 +1,28 @@
 -- What an address behind a port comes to.
-use Rattle.std.specs.Prelude.{ℕ, Bool, ◌&&◌, ◌||◌, if◌then◌else◌}
+use Rattle.std.specs.Prelude.{ℕ, ◌≡◌, Bool, ◌&&◌, ◌||◌, if◌then◌else◌}
+use Rattle.std.specs.declared.option.Option.{Option}
 use Rattle.br_model.specs.declared.change.Change.TheVariants.{AddrPut}
 use Rattle.br_model.specs.declared.change.Kind.TheVariants.{Learned, Extern}
-use Rattle.br_model.specs.Learning.{Address, is_learned_at, is_news, is_renewed, may_teach}
-use Rattle.br_model.specs.Limits.{fits}
-use Rattle.br_model.specs.Table.{Table}
+use Rattle.br_model.specs.declared.frame.Head.{Head}
+use Rattle.br_model.specs.Control.Control.{Control}
+use Rattle.br_model.specs.Control.Course.{from}
+use Rattle.br_model.specs.Control.Learning.{Address, is_learned_at, is_news, is_renewed, may_teach}
+use Rattle.br_model.specs.Control.Reaction.{learns, learns_of}
+use Rattle.br_model.specs.Table.Domains.{Domains}
+use Rattle.br_model.specs.Table.Setup.{Setup}
+use Rattle.br_model.specs.Table.Limits.{fits}
+use Rattle.br_model.specs.Table.Table.{Table}
 use Rattle.bridge_core.specs.declared.learning.Lesson.{Lesson}
 use Rattle.bridge_core.specs.declared.learning.Lesson.TheVariants.{Known, Renewed, News}
+
+-- the bridge of these domains and this address
+abbrev pub of_bridge : Domains → ℕ → Setup
+of_bridge domains own = record { domains = domains; own = own }
+
+-- The frame teaches this address, where it teaches one: with these domains, whatever the control state is.
+abbrev pub IsTaught : Domains → Table → ℕ → Head → Option Address → Type 0
+IsTaught domains t port head key =
+    (own : ℕ) (c : Control) → learns_of (of_bridge domains own) port head (from t c) ≡ learns port key (from t c)
 
 abbrev pub lesson_of : Table → Address → ℕ → Lesson
 lesson_of t key port =

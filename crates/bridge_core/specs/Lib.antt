@@ -1,10 +1,10 @@
 pub mod Entries
 pub mod Standing
 pub mod Kept
-pub mod Answers
 pub mod Plans
 pub mod Following
 pub mod Lessons
 pub mod Dropping
 pub mod Hearing
 pub mod Ending
+pub mod Answers

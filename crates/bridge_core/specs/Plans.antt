@@ -8,19 +8,21 @@ use Rattle.br_model.specs.declared.frame.Head.{Head}
 use Rattle.br_model.specs.declared.steps.Event.{Event}
 use Rattle.br_model.specs.declared.steps.Event.TheVariants.{Cmd, Moment, Sight, Told, Forget}
 use Rattle.br_model.specs.declared.steps.Refusal.{Refusal}
-use Rattle.br_model.specs.Control.{Control, renewed}
-use Rattle.br_model.specs.Course.{Course, makes_all}
-use Rattle.br_model.specs.Learning.{Address}
-use Rattle.br_model.specs.Limits.{all_fit}
-use Rattle.br_model.specs.Maps.{pair_cmp, get}
-use Rattle.br_model.specs.Reaction.{happens, learns_of}
-use Rattle.br_model.specs.Setup.{Setup}
-use Rattle.br_model.specs.Table.{Table}
-use Rattle.br_model.specs.TreeReaction.{told, heard}
+use Rattle.br_model.specs.Control.Control.{Control, renewed}
+use Rattle.br_model.specs.Control.Course.{Course, makes_all}
+use Rattle.br_model.specs.Control.Learning.{Address}
+use Rattle.br_model.specs.Table.Limits.{all_fit}
+use Rattle.br_model.specs.Data.Maps.{pair_cmp, get}
+use Rattle.br_model.specs.Control.Reaction.{happens, learns_of}
+use Rattle.br_model.specs.Table.Setup.{Setup}
+use Rattle.br_model.specs.Table.Table.{Table, table}
+use Rattle.br_model.specs.Control.TreeReaction.{told, heard}
 use Rattle.bridge_core.specs.declared.faults.EventFault.{EventFault}
 use Rattle.bridge_core.specs.declared.faults.EventFault.TheVariants.{Refused, NoMemory}
 use Rattle.bridge_core.specs.declared.plan.Plan.{Plan}
-use Rattle.bridge_core.specs.Standing.{clocked}
+use Rattle.bridge_core.specs.declared.state.State.{State}
+use Rattle.bridge_core.specs.Kept.{Controlled}
+use Rattle.bridge_core.specs.Standing.{clocked, control_of, table_of}
 
 abbrev pub renewed_at : Control → Option Address → Control
 renewed_at c None = c
@@ -46,14 +48,10 @@ Plans t c (Ok p) answer = (answer ≡ Ok (planned t c p)) × IsSound t p
 Plans t c (Err (Refused why)) answer = answer ≡ Err why
 Plans t c (Err NoMemory) answer = Unit {0}
 
--- what a frame comes to that software sent, but for snooping
-abbrev pub learns_and_tells : Setup → ℕ → List ℕ → Head → Course → Course
-learns_and_tells setup port bytes head r = told (heard r.table port bytes head) (learns_of setup port head r)
+-- the same, where this state stands
+abbrev pub PlansAt : State → Result Plan EventFault → Result Course Refusal → Type 0
+PlansAt s answer course = Plans (table_of s) (control_of s) answer course
 
--- what an event comes to, but for snooping
-abbrev pub plan_of : Setup → Course → Event → Result Course Refusal
-plan_of setup r (Cmd c) = happens setup r (Cmd c)
-plan_of setup r (Moment now) = happens setup r (Moment now)
-plan_of setup r (Sight port bytes head) = Ok (learns_and_tells setup port bytes head r)
-plan_of setup r (Told vid mac port) = happens setup r (Told vid mac port)
-plan_of setup r (Forget triples) = happens setup r (Forget triples)
+-- the same, where this bridge stands
+abbrev pub PlansOf : Controlled → Result Plan EventFault → Result Course Refusal → Type 0
+PlansOf b answer course = Plans (table b.history) b.control answer course

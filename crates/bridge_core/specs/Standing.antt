@@ -2,9 +2,9 @@
 use Rattle.std.specs.Prelude.{ℕ, List}
 use Rattle.br_model.specs.declared.bpdu.BpduMsg.{BpduMsg}
 use Rattle.br_model.specs.declared.change.Change.{Change}
-use Rattle.br_model.specs.Control.{Control, ends_with, keeps_up}
-use Rattle.br_model.specs.Course.{Course}
-use Rattle.br_model.specs.Table.{Table, with_addresses}
+use Rattle.br_model.specs.Control.Control.{Control, ends_with, keeps_up}
+use Rattle.br_model.specs.Control.Course.{Course, from}
+use Rattle.br_model.specs.Table.Table.{Table, with_addresses}
 use Rattle.bridge_core.specs.declared.state.Clock.{Clock}
 use Rattle.bridge_core.specs.declared.state.State.{State}
 
@@ -13,6 +13,10 @@ table_of s = with_addresses s.ports s.addresses.addr
 
 abbrev pub control_of : State → Control
 control_of s = record { now = s.clock.now; ageing = s.clock.ageing; updated = s.addresses.updated; ends = s.groups; tree = s.tree }
+
+-- before anything is done
+abbrev pub course_at : State → Course
+course_at s = from (table_of s) (control_of s)
 
 -- the course that has come so far, by these changes and messages
 abbrev pub course_of : State → List Change → List (ℕ × BpduMsg) → Course

@@ -1,20 +1,18 @@
 //! The addresses of a bridge's table, with their moments.
 ghost use Rattle.std.specs.Prelude.{◌≡◌, ◌||◌, not, nat_lt, Bool, false, min, IfOk, IsSome, IsTrue, [], length, is_some, map, option_map};
 ghost use Rattle.std.specs.List.{filter};
-ghost use Rattle.br_model.specs.Limits.{most_addresses};
-ghost use Rattle.br_model.specs.Maps.{pair_cmp, get, put, without};
+ghost use Rattle.br_model.specs.Table.Limits.{most_addresses};
+ghost use Rattle.br_model.specs.Data.Maps.{pair_cmp, get, put, without};
 ghost use Rattle.fdb_core.specs.Fdb.{place};
 ghost use Rattle.bridge_core.specs.Entries.{keys_at, old_keys, is_due, exact_bound, last_moment};
 
 use br_model::NoMemory;
 use br_model::change::Kind;
+use br_model::limits::MOST_ADDRESSES;
 use br_model::numbers::{Mac, Port, Vid};
 use fdb_core::{Entry, Fdb, Keys};
 use std::alloc::Global;
 use std::marker::Model;
-
-/// How many address entries there are at most.
-const MOST_ADDRESSES: usize = 16384;
 
 /// What contracts see as the entries by VLAN and address, and beside them their moments in milliseconds.
 #[derive(Drop, Debug)]
@@ -46,6 +44,7 @@ impl Addresses {
         })
     }
 
+    /// The port and the kind of the entry at the address.
     pub fn find(&self, vid: Vid, mac: Mac) -> Option<(Port, Kind)>
         ensures { result ≡ get pair_cmp self.now.addr (vid, mac) }
     {
@@ -111,7 +110,7 @@ impl Addresses {
         }
     }
 
-    /// The addresses at the port, by VLAN and address. It looks at each entry.
+    /// The addresses at the port, by VLAN and address. Where there is none it looks at no entry, and else at each.
     pub fn of_port(&self, alloc: Global, port: Port) -> Result<Keys, NoMemory>
         ensures { IfOk result (λ keys. keys ≡ keys_at port self.now.addr) }
     {
@@ -129,14 +128,14 @@ impl Addresses {
         }
     }
 
-    /// The learned addresses that are over at `now`, by VLAN and address. It looks at each entry.
+    /// The learned addresses that are over at `now`, by VLAN and address. It looks at those alone, and at what they were before.
     pub fn expired(&self, alloc: Global, now: u64, hold: u64) -> Result<Keys, NoMemory>
         ensures { IfOk result (λ keys. keys ≡ old_keys now hold self.now) }
     {
         self.fdb.expired(alloc, now, hold)
     }
 
-    /// Finds the first moment anew, so that `may_expire` is exact. It looks at each entry.
+    /// Finds the first moment anew, so that `may_expire` is exact. It looks at no entry.
     pub fn settle(&mut self)
         ensures { self.new ≡ record self.old { oldest = exact_bound self.old } }
     {

@@ -1,11 +1,11 @@
 //! Which addresses are forgotten.
 ghost use Rattle.std.specs.Prelude.{◌≡◌, ◌==◌, ◌<◌, ◌^◌, IfOk, Ok, Some};
 ghost use Rattle.br_model.specs.declared.tree.TreeEvent.TheVariants.{Moment};
-ghost use Rattle.br_model.specs.Ageing.{expired, forgets, forgotten};
-ghost use Rattle.br_model.specs.Course.{Course, from, makes_all};
-ghost use Rattle.br_model.specs.Learning.{is_extern_at};
-ghost use Rattle.br_model.specs.Reaction.{passes_to};
-ghost use Rattle.br_model.specs.TreeReaction.{told as tells_it};
+ghost use Rattle.br_model.specs.Control.Ageing.{expired, forgets, forgotten};
+ghost use Rattle.br_model.specs.Control.Course.{Course, from, makes_all};
+ghost use Rattle.br_model.specs.Control.Learning.{is_extern_at};
+ghost use Rattle.br_model.specs.Control.Reaction.{passes_to};
+ghost use Rattle.br_model.specs.Control.TreeReaction.{told as tells_it};
 ghost use Rattle.bridge_core.specs.Plans.{Plans};
 ghost use Rattle.bridge_core.specs.Standing.{table_of, control_of};
 

@@ -1,50 +1,48 @@
 //! The control plane: the accepted changes, and the reaction to an event.
-ghost use Rattle.std.specs.Prelude.{◌≡◌, ◌≤◌, ◌<◌, ◌+◌, ◌^◌, ◌++◌, [], List, length, option_map, true, false, Some, Ok, IfOk, IfSome, IsSome, IsTrue, vec_len, vec_capacity};
-ghost use Rattle.std.specs.List.{filter};
+ghost use Rattle.std.specs.Prelude.{◌≡◌, ◌≤◌, ◌<◌, ◌+◌, ◌^◌, ◌++◌, ◌∷◌, [], length, option_map, true, false, None, Some, Ok, IfOk, IfSome, IsSome, vec_len, vec_capacity};
 ghost use Rattle.std.specs.List.{list_all};
-ghost use Rattle.br_model.specs.Change.{deferred};
-ghost use Rattle.br_model.specs.Control.{first_control};
-ghost use Rattle.br_model.specs.Course.{Course, from};
-ghost use Rattle.br_model.specs.Frames.{frame};
-ghost use Rattle.br_model.specs.Limits.{all_fit, AreWithin, most_changes};
-ghost use Rattle.br_model.specs.Maps.{pair_cmp, get};
-ghost use Rattle.br_model.specs.Messages.{message as message_in, RecordsStand};
-ghost use Rattle.br_model.specs.Snooping.{fastleave, said};
-ghost use Rattle.br_model.specs.Targets.{has_flag};
-ghost use Rattle.br_model.specs.TreeReaction.{heard};
-ghost use Rattle.br_model.specs.declared.transcript.Line.{Line as LineValue};
-ghost use Rattle.fdb_core.specs.Fdb.{place};
-ghost use Rattle.br_model.specs.Reaction.{in_room, react as reaction, sees as reacts_to_sight};
-ghost use Rattle.br_model.specs.Table.{table, start};
+ghost use Rattle.br_model.specs.Control.Control.{first_control};
+ghost use Rattle.br_model.specs.Control.Course.{makes_all};
+ghost use Rattle.br_model.specs.Control.Learning.{told as reported};
+ghost use Rattle.br_model.specs.Control.Reaction.{learns, learns_of, react as reaction, sees};
+ghost use Rattle.br_model.specs.Control.Snooping.{fastleave};
+ghost use Rattle.br_model.specs.Control.TreeReaction.{heard};
+ghost use Rattle.br_model.specs.Data.Maps.{get, pair_cmp};
+ghost use Rattle.br_model.specs.Forward.Targets.{has_flag};
+ghost use Rattle.br_model.specs.Table.Change.{is_of_address};
+ghost use Rattle.br_model.specs.Table.Limits.{AreWithin, all_fit};
+ghost use Rattle.br_model.specs.Table.Table.{table};
+ghost use Rattle.br_model.specs.Wire.Frames.{frame};
+ghost use Rattle.br_model.specs.Wire.Messages.{RecordsStand, message as message_in};
 ghost use Rattle.br_model.specs.declared.steps.Event.TheVariants as Event;
-ghost use Rattle.bridge_core.specs.Answers.{IsEvent, Makes, Reacts, ctl_of};
-ghost use Rattle.bridge_core.specs.Hearing.{Hears, most};
-ghost use Rattle.bridge_core.specs.Plans.{IsSound, Plans, learns_and_tells, plan_of, planned, renewed_at};
+ghost use Rattle.br_model.specs.declared.steps.Event.TheVariants.{Cmd, Forget, Moment, Sight};
+ghost use Rattle.bridge_core.specs.Answers.{CarriesOut, CarriesQuietly, HasRoomFor, IsEvent, LacksRoomFor, Makes, Reacts, carried_out, comes_to, ctl_of, standing};
+ghost use Rattle.bridge_core.specs.Hearing.{most, says};
+ghost use Rattle.bridge_core.specs.Plans.{IsSound, PlansOf, renewed_at};
 ghost use Rattle.bridge_core.specs.Standing.{clocked};
+ghost use Rattle.fdb_core.specs.Fdb.{place};
 
 use crate::ageing::{loses, passes_to};
 use crate::commands::obey;
 use crate::faults::EventFault;
-use crate::learning::{is_told, sees};
+use crate::learning::{Lesson, is_taken, lesson_of, taught, teaches};
 use crate::plan::Plan;
 use crate::snooping::{Speaker, most_changes, who_speaks};
-use crate::spanning_tree::{add_frames, add_states};
+use crate::spanning_tree::{add_frames, add_states, heard, reserve_frames};
 use crate::state::{Clock, State};
 use br_model::NoMemory;
-use br_model::change::Change;
+use br_model::change::{Change, Kind};
 use br_model::domains::Domains;
 use br_model::frame::{Head, McastMsg};
+use br_model::limits::MOST_CHANGES;
 use br_model::numbers::{Mac, Port, Vid};
-use br_model::steps::{Event, Refusal};
-use br_model::transcript::{Line, Lines};
+use br_model::steps::{Command, Event, Refusal, Triples};
 use br_model::tree::TreeEvent;
 use fdb_core::{Entry, Key};
 use igmp_mld::classify;
 use std::alloc::Global;
 use std::marker::Model;
-
-/// How many changes a history holds at most.
-const MOST_CHANGES: usize = 1_048_576;
+use transcript_lines::Lines;
 
 /// What an event came to: the changes of the history from the place `from` on, and the control frames that leave.
 #[derive(Drop)]
@@ -60,7 +58,6 @@ pub struct Bridge {
     own: Mac,
     history: Vec<Change>,
     state: State,
-    pending: u32,
 }
 
 impl Model for Bridge {
@@ -69,17 +66,15 @@ impl Model for Bridge {
     ghost Value = { Controlled };
 
     ghost use Rattle.std.specs.Prelude.{◌≡◌, ◌≤◌, ◌<◌, ◌^◌, IsTrue, length};
-    ghost use Rattle.std.specs.List.{filter};
-    ghost use Rattle.br_model.specs.Change.{deferred};
-    ghost use Rattle.br_model.specs.Course.{from};
-    ghost use Rattle.br_model.specs.EndsTied.{IsTied};
-    ghost use Rattle.br_model.specs.Limits.{most_changes, all_fit};
-    ghost use Rattle.br_model.specs.Table.{table, start};
+    ghost use Rattle.br_model.specs.Control.Course.{from};
+    ghost use Rattle.br_model.specs.Theorems.EndsTied.{IsTied};
+    ghost use Rattle.br_model.specs.Table.Limits.{most_changes, all_fit};
+    ghost use Rattle.br_model.specs.Table.Table.{table, start};
     ghost use Rattle.bridge_core.specs.Standing.{table_of, control_of};
 
     ghost view = { λ b. record { setup = record { domains = b.domains; own = b.own }; history = b.history.items; control = control_of b.state } };
 
-    ghost invariant = { λ b. (table_of b.state ≡ table b.history.items) × (b.pending ≡ length (filter deferred b.history.items)) × (length b.history.items ≤ most_changes) × IsTrue (all_fit start b.history.items) × (b.state.clock.now < 2 ^ 53) × IsTied (table_of b.state) b.state.groups };
+    ghost invariant = { λ b. (table_of b.state ≡ table b.history.items) × (length b.history.items ≤ most_changes) × IsTrue (all_fit start b.history.items) × (b.state.clock.now < 2 ^ 53) × IsTied (table_of b.state) b.state.groups };
 }
 
 /// Appends the changes within the room that is there.
@@ -93,13 +88,6 @@ fn append(history: &mut Vec<Change>, changes: &[Change])
     }
 }
 
-/// How many of the changes are deferred.
-fn count_deferred(changes: &[Change]) -> usize
-    ensures { result ≡ length (filter deferred changes.now) }
-{
-    changes.iter().filter(|change| change.is_deferred()).count()
-}
-
 impl Bridge {
     /// A bridge with this address and the ports of these domains, in which nothing has happened. It takes the memory
     /// for its tables, but not for the changes to come.
@@ -111,40 +99,31 @@ impl Bridge {
             own,
             history: Vec::new(alloc),
             state: State::make(alloc, own)?,
-            pending: 0,
         })
     }
 
-    /// What the sight of a frame comes to, but for snooping.
-    fn plan_sight(
-        &self,
-        alloc: Global,
-        port: Port,
-        bytes: &[u8],
-        head: &Head,
-    ) -> Result<Plan, EventFault>
-        ensures plans { Plans (table self.now.history) self.now.control result (Ok (learns_and_tells self.now.setup port bytes.now head.now (from (table self.now.history) self.now.control))) }
-        ensures told { IfOk result (λ plan. plan.told ≡ heard (table self.now.history) port bytes.now head.now) }
+    /// What the frame teaches, where more is to be done than that.
+    fn plan_taught(&self, alloc: Global, port: Port, head: &Head) -> Result<Plan, EventFault>
+        ensures plans { PlansOf self.now result (Ok (learns_of self.now.setup port head.now (standing self.now))) }
+        ensures told { IfOk result (λ plan. plan.told ≡ None) }
         ensures clock { IfOk result (λ plan. plan.clock.now ≡ self.now.control.now) }
-        ensures addresses { IfOk result (λ plan. list_all deferred plan.changes.items ≡ true) }
+        ensures addresses { IfOk result (λ plan. list_all is_of_address plan.changes.items ≡ true) }
     {
-        sees(alloc, &self.domains, &self.state, port, bytes, head)
+        teaches(alloc, &self.domains, &self.state, port, head)
     }
 
-    /// What the event comes to, but for snooping.
-    fn plan(&self, alloc: Global, event: &Event) -> Result<Plan, EventFault>
-        requires { IsEvent event.now }
-        ensures { Plans (table self.now.history) self.now.control result (plan_of self.now.setup (from (table self.now.history) self.now.control) event.now) }
+    /// Makes one change, or refuses it where there is no room for it.
+    fn make_change(&mut self, change: Change) -> Result<(), EventFault>
+        requires { all_fit (table self.old.history) (change ∷ []) ≡ true }
+        ensures { Makes self.old self.new self.old.control (change ∷ []) result }
     {
-        match event {
-            Event::Cmd(asked) => obey(alloc, &self.state, asked),
-            Event::Moment(now) => passes_to(alloc, &self.state, *now),
-            Event::Sight { port, bytes, head } => {
-                self.plan_sight(alloc, *port, bytes.as_slice(), head)
-            }
-            Event::Told { vid, mac, port } => is_told(alloc, &self.state, *vid, *mac, *port),
-            Event::Forget(stations) => loses(alloc, &self.state, stations),
+        if self.history.len() >= MOST_CHANGES {
+            return Err(EventFault::Refused(Refusal::HistoryFull));
         }
+        self.history.reserve(1)?;
+        self.history.push_reserved(change);
+        self.state.apply(&change);
+        Ok(())
     }
 
     /// Sets the clock, renews the entry and makes the changes, or refuses them where they are too many.
@@ -163,51 +142,85 @@ impl Bridge {
             return Err(EventFault::Refused(Refusal::HistoryFull));
         }
         self.history.extend_from_slice(changes)?;
-        self.pending += count_deferred(changes) as u32;
         self.state.prepare(clock, renewed);
         self.state.follow(changes);
         Ok(())
     }
 
-    /// Carries out a plan in which the spanning tree is told this.
-    fn accept_told(
+    /// Near the end of the history, where the states that follow may be too many: the event happens in a copy of the tree, which
+    /// takes its place unless that is so.
+    fn try_told(
         &mut self,
-        alloc: Global,
         plan: Plan,
         event: &TreeEvent,
-        lines: &mut Vec<Line>,
+        lines: &mut Lines,
     ) -> Result<(), EventFault>
         requires sound { IsSound (table self.old.history) plan }
         requires told { plan.told ≡ Some event.now }
-        requires room { vec_len lines.old < vec_capacity lines.old }
-        ensures reacts { Reacts self.old self.new lines.old.items lines.new.items result (in_room self.old.history (Ok (planned (table self.old.history) self.old.control plan))) }
-        ensures room { vec_len lines.new < vec_capacity lines.new }
+        requires room { 1 ≤ lines.old.rows }
+        ensures carries_out { CarriesOut self.old self.new lines.old.lines lines.new.lines result (Ok (carried_out self.old plan)) }
+        ensures room { 1 ≤ lines.new.rows }
+        ensures marked { lines.new.marked ≡ lines.old.marked }
     {
+        let mut changes = plan.changes;
+        changes.reserve(Port::PLACES)?;
+        reserve_frames(lines)?;
+        let own = self.own;
         let mut tree = self.state.tree.copy();
         let out = tree.act(event, plan.clock.now);
-        let mut changes = plan.changes;
-        add_states(&mut changes, &tree, out.moved)?;
-        let count = lines.len();
-        add_frames(alloc, self.own, &tree, &out, lines)?;
+        add_states(&mut changes, &tree, out.moved);
         let answer = self.make_changes(plan.clock, plan.renewed, &changes);
         if answer.is_err() {
-            lines.truncate(count);
             return answer;
         }
+        add_frames(own, &tree, &out, lines);
         self.state.tree = tree;
         answer
     }
 
-    /// Carries out a plan.
-    fn accept(&mut self, alloc: Global, plan: Plan, lines: &mut Vec<Line>) -> Result<(), EventFault>
+    /// Carries out a plan in which the spanning tree is told this. Room is taken first, so that nothing is refused once the event
+    /// happened.
+    fn accept_told(
+        &mut self,
+        plan: Plan,
+        event: &TreeEvent,
+        lines: &mut Lines,
+    ) -> Result<(), EventFault>
         requires sound { IsSound (table self.old.history) plan }
-        requires room { vec_len lines.old < vec_capacity lines.old }
-        ensures reacts { Reacts self.old self.new lines.old.items lines.new.items result (in_room self.old.history (Ok (planned (table self.old.history) self.old.control plan))) }
-        ensures room { vec_len lines.new < vec_capacity lines.new }
+        requires told { plan.told ≡ Some event.now }
+        requires room { 1 ≤ lines.old.rows }
+        ensures carries_out { CarriesOut self.old self.new lines.old.lines lines.new.lines result (Ok (carried_out self.old plan)) }
+        ensures room { 1 ≤ lines.new.rows }
+        ensures marked { lines.new.marked ≡ lines.old.marked }
+    {
+        let most = plan.changes.len() + Port::PLACES;
+        if most > MOST_CHANGES - self.history.len() {
+            return self.try_told(plan, event, lines);
+        }
+        let mut changes = plan.changes;
+        changes.reserve(Port::PLACES)?;
+        self.history.reserve(most)?;
+        reserve_frames(lines)?;
+        let out = self.state.tree.act(event, plan.clock.now);
+        add_states(&mut changes, &self.state.tree, out.moved);
+        add_frames(self.own, &self.state.tree, &out, lines);
+        self.state.prepare(plan.clock, plan.renewed);
+        self.state.follow(&changes);
+        append(&mut self.history, &changes);
+        Ok(())
+    }
+
+    /// Carries out a plan.
+    fn accept(&mut self, plan: Plan, lines: &mut Lines) -> Result<(), EventFault>
+        requires sound { IsSound (table self.old.history) plan }
+        requires room { 1 ≤ lines.old.rows }
+        ensures carries_out { CarriesOut self.old self.new lines.old.lines lines.new.lines result (Ok (carried_out self.old plan)) }
+        ensures room { 1 ≤ lines.new.rows }
+        ensures marked { lines.new.marked ≡ lines.old.marked }
     {
         let told = plan.told;
         match told {
-            Some(event) => self.accept_told(alloc, plan, &event, lines),
+            Some(event) => self.accept_told(plan, &event, lines),
             None => self.make_changes(plan.clock, plan.renewed, &plan.changes),
         }
     }
@@ -224,8 +237,8 @@ impl Bridge {
     ) -> Result<bool, NoMemory>
         requires early { speaker.now.moment < 2 ^ 53 }
         requires records { RecordsStand bytes.now message.now }
-        ensures yes { IfOk result (λ fits. fits ≡ true → (r : Course) → Hears speaker.now self.now.control.ends r → length r.changes ≡ planned → length (said speaker.now.port speaker.now.vid bytes.now message.now r).changes ≤ planned + most message.now → length self.now.history + length (said speaker.now.port speaker.now.vid bytes.now message.now r).changes ≤ most_changes) }
-        ensures no { IfOk result (λ fits. fits ≡ false → (r : Course) → Hears speaker.now self.now.control.ends r → length r.changes ≡ planned → most_changes < length self.now.history + length (said speaker.now.port speaker.now.vid bytes.now message.now r).changes) }
+        ensures yes { IfOk result (λ fits. fits ≡ true → HasRoomFor self.now planned speaker.now bytes.now message.now) }
+        ensures no { IfOk result (λ fits. fits ≡ false → LacksRoomFor self.now planned speaker.now bytes.now message.now) }
     {
         let room = MOST_CHANGES - self.history.len();
         let most = most_changes(message);
@@ -249,11 +262,11 @@ impl Bridge {
     ) -> Result<(), EventFault>
         requires sound { IsSound (table self.old.history) plan }
         requires untold { plan.told ≡ None }
-        requires addresses { list_all deferred plan.changes.items ≡ true }
+        requires addresses { list_all is_of_address plan.changes.items ≡ true }
         requires clock { plan.clock.now ≡ speaker.now.moment }
         requires leaves { has_flag (table self.old.history) speaker.now.port fastleave ≡ speaker.now.fastleave }
         requires records { RecordsStand bytes.now message.now }
-        ensures { (lines : List LineValue) → Reacts self.old self.new lines lines result (in_room self.old.history (Ok (said speaker.now.port speaker.now.vid bytes.now message.now (planned (table self.old.history) self.old.control plan)))) }
+        ensures { CarriesQuietly self.old self.new result (says speaker.now bytes.now message.now (carried_out self.old plan)) }
     {
         let mut changes = plan.changes;
         let most = most_changes(message);
@@ -266,89 +279,184 @@ impl Bridge {
         self.state.follow(&changes);
         self.state.hear(speaker, bytes, message, &mut changes);
         append(&mut self.history, &changes);
-        self.pending += count_deferred(&changes) as u32;
         Ok(())
     }
 
-    /// Carries out the plan of a frame, and what its message says if somebody is heard.
-    fn accept_seen(
+    /// What comes of it that the address is seen behind the port.
+    fn learn_at(&mut self, port: Port, vid: Vid, mac: Mac) -> Result<(), EventFault>
+        ensures { CarriesQuietly self.old self.new result (learns port (Some (vid, mac)) (standing self.old)) }
+    {
+        match lesson_of(&self.state, vid, mac, port) {
+            Lesson::Known => Ok(()),
+            Lesson::Renewed => {
+                self.state.renew(vid, mac);
+                Ok(())
+            }
+            Lesson::News => self.make_change(Change::AddrPut {
+                vid,
+                mac,
+                port,
+                kind: Kind::Learned,
+            }),
+        }
+    }
+
+    /// Learns what the frame teaches.
+    fn learn(&mut self, port: Port, head: &Head) -> Result<(), EventFault>
+        ensures { CarriesQuietly self.old self.new result (learns_of self.old.setup port head.now (standing self.old)) }
+    {
+        match taught(&self.domains, &self.state, port, head) {
+            Some(key) => self.learn_at(port, key.0, key.1),
+            None => Ok(()),
+        }
+    }
+
+    /// What comes of a chip's report that the address is behind the port.
+    fn take_report(&mut self, vid: Vid, mac: Mac, port: Port) -> Result<(), EventFault>
+        ensures { CarriesQuietly self.old self.new result (makes_all (standing self.old) (reported (table self.old.history) (vid, mac) port)) }
+    {
+        if !is_taken(&self.state, vid, mac, port) {
+            return Ok(());
+        }
+        self.make_change(Change::AddrPut {
+            vid,
+            mac,
+            port,
+            kind: Kind::Extern,
+        })
+    }
+
+    /// What comes of a frame of which the spanning tree is told nothing.
+    fn take_untold(
         &mut self,
         alloc: Global,
-        plan: Plan,
         port: Port,
         bytes: &[u8],
         head: &Head,
         message: &McastMsg,
-        lines: &mut Vec<Line>,
     ) -> Result<(), EventFault>
-        requires frame { frame bytes.now ≡ Ok head.now }
         requires message { message.now ≡ message_in bytes.now head.now }
-        requires plans { Plans (table self.old.history) self.old.control (Ok plan) (Ok (learns_and_tells self.old.setup port bytes.now head.now (from (table self.old.history) self.old.control))) }
-        requires told { plan.told ≡ heard (table self.old.history) port bytes.now head.now }
-        requires clock { plan.clock.now ≡ self.old.control.now }
-        requires addresses { list_all deferred plan.changes.items ≡ true }
-        requires room { vec_len lines.old < vec_capacity lines.old }
-        ensures reacts { Reacts self.old self.new lines.old.items lines.new.items result (in_room self.old.history (Ok (reacts_to_sight self.old.setup port bytes.now head.now (from (table self.old.history) self.old.control)))) }
-        ensures room { vec_len lines.new < vec_capacity lines.new }
+        requires untold { heard (table self.old.history) port bytes.now head.now ≡ None }
+        ensures { CarriesQuietly self.old self.new result (sees self.old.setup port bytes.now head.now (standing self.old)) }
     {
         match who_speaks(&self.state, port, head, message) {
-            Some(speaker) => self.accept_said(alloc, plan, &speaker, bytes, message),
-            None => self.accept(alloc, plan, lines),
+            Some(speaker) => {
+                let plan = self.plan_taught(alloc, port, head)?;
+                self.accept_said(alloc, plan, &speaker, bytes, message)
+            }
+            None => self.learn(port, head),
         }
     }
 
-    /// Plans the event and carries the plan out.
-    fn do_planned(
+    /// What comes of the sight of a frame. One that the spanning tree reads teaches nothing, and says nothing to snooping.
+    fn take_frame(
         &mut self,
         alloc: Global,
-        event: &Event,
-        lines: &mut Vec<Line>,
-    ) -> Result<usize, EventFault>
-        requires event { IsEvent event.now }
-        requires room { vec_len lines.old < vec_capacity lines.old }
-        ensures reacts { Reacts self.old self.new lines.old.items lines.new.items result (in_room self.old.history (plan_of self.old.setup (from (table self.old.history) self.old.control) event.now)) }
-        ensures from { IfOk result (λ from. from ≡ length self.old.history) }
-        ensures room { vec_len lines.new < vec_capacity lines.new }
+        port: Port,
+        bytes: &[u8],
+        head: &Head,
+        message: &McastMsg,
+        lines: &mut Lines,
+    ) -> Result<(), EventFault>
+        requires message { message.now ≡ message_in bytes.now head.now }
+        requires room { 1 ≤ lines.old.rows }
+        ensures carries_out { CarriesOut self.old self.new lines.old.lines lines.new.lines result (comes_to self.old (Sight port bytes.now head.now)) }
+        ensures room { 1 ≤ lines.new.rows }
+        ensures marked { lines.new.marked ≡ lines.old.marked }
     {
-        let plan = self.plan(alloc, event)?;
-        let from = self.history.len();
-        self.accept(alloc, plan, lines)?;
-        if let Event::Moment(_) = event {
-            self.state.settle();
+        match heard(&self.state, port, bytes, head) {
+            Some(event) => {
+                let plan = Plan::telling(alloc, self.state.clock, Some(event));
+                self.accept(plan, lines)
+            }
+            None => self.take_untold(alloc, port, bytes, head, message),
         }
-        Ok(from)
+    }
+
+    fn plan_command(&self, alloc: Global, asked: &Command) -> Result<Plan, EventFault>
+        ensures { PlansOf self.now result (comes_to self.now (Cmd asked.now)) }
+    {
+        obey(alloc, &self.state, asked)
+    }
+
+    fn plan_moment(&self, alloc: Global, now: u64) -> Result<Plan, EventFault>
+        requires { now < 2 ^ 53 }
+        ensures { PlansOf self.now result (comes_to self.now (Moment now)) }
+    {
+        passes_to(alloc, &self.state, now)
+    }
+
+    fn plan_loss(&self, alloc: Global, stations: &Triples) -> Result<Plan, EventFault>
+        ensures { PlansOf self.now result (comes_to self.now (Forget stations.now)) }
+    {
+        loses(alloc, &self.state, stations)
+    }
+
+    /// The moment comes.
+    fn pass_to(&mut self, alloc: Global, now: u64, lines: &mut Lines) -> Result<(), EventFault>
+        requires early { now < 2 ^ 53 }
+        requires room { 1 ≤ lines.old.rows }
+        ensures carries_out { CarriesOut self.old self.new lines.old.lines lines.new.lines result (comes_to self.old (Moment now)) }
+        ensures room { 1 ≤ lines.new.rows }
+        ensures marked { lines.new.marked ≡ lines.old.marked }
+    {
+        let plan = self.plan_moment(alloc, now)?;
+        self.accept(plan, lines)?;
+        self.state.settle();
+        Ok(())
+    }
+
+    /// Carries out what the event comes to.
+    fn take(&mut self, alloc: Global, event: &Event, lines: &mut Lines) -> Result<(), EventFault>
+        requires event { IsEvent event.now }
+        requires room { 1 ≤ lines.old.rows }
+        ensures carries_out { CarriesOut self.old self.new lines.old.lines lines.new.lines result (comes_to self.old event.now) }
+        ensures room { 1 ≤ lines.new.rows }
+        ensures marked { lines.new.marked ≡ lines.old.marked }
+    {
+        match event {
+            Event::Cmd(asked) => {
+                let plan = self.plan_command(alloc, asked)?;
+                self.accept(plan, lines)
+            }
+            Event::Moment(now) => self.pass_to(alloc, *now, lines),
+            Event::Sight { port, bytes, head } => {
+                let bytes = bytes.as_slice();
+                let message = classify(bytes, head);
+                self.take_frame(alloc, *port, bytes, head, &message, lines)
+            }
+            Event::Told { vid, mac, port } => self.take_report(*vid, *mac, *port),
+            Event::Forget(stations) => {
+                let plan = self.plan_loss(alloc, stations)?;
+                self.accept(plan, lines)
+            }
+        }
     }
 
     /// Reacts to the event, and adds the lines of the control frames that leave, with room for another line behind them. The
     /// answer is the place of the first new change in the history. A refusal and want of memory leave the bridge as it was.
-    #[tactic(auto, unfolding(br_model::specs::Reaction::react))]
+    #[tactic(auto, unfolding(br_model::specs::Control::Reaction::react))]
     pub fn answer(
         &mut self,
         alloc: Global,
         event: &Event,
-        lines: &mut Vec<Line>,
+        lines: &mut Lines,
     ) -> Result<usize, EventFault>
         requires event { IsEvent event.now }
-        requires room { vec_len lines.old < vec_capacity lines.old }
-        ensures reacts { Reacts self.old self.new lines.old.items lines.new.items result (reaction self.old.setup self.old.history self.old.control event.now) }
+        requires room { 1 ≤ lines.old.rows }
+        ensures reacts { Reacts self.old self.new lines.old.lines lines.new.lines result (reaction self.old.setup self.old.history self.old.control event.now) }
         ensures from { IfOk result (λ from. from ≡ length self.old.history) }
-        ensures room { vec_len lines.new < vec_capacity lines.new }
+        ensures room { 1 ≤ lines.new.rows }
+        ensures marked { lines.new.marked ≡ lines.old.marked }
     {
-        match event {
-            Event::Sight { port, bytes, head } => {
-                let bytes = bytes.as_slice();
-                let message = classify(bytes, head);
-                self.see(alloc, *port, bytes, head, &message, lines)
-            }
-            Event::Cmd(_) | Event::Moment(_) | Event::Told { .. } | Event::Forget(_) => {
-                self.do_planned(alloc, event, lines)
-            }
-        }
+        let from = self.history.len();
+        self.take(alloc, event, lines)?;
+        Ok(from)
     }
 
     /// Reacts to a frame that was sent, as to the event `Sight`, without a copy of its bytes. `message` is what the frame says to
     /// snooping.
-    #[tactic(auto, unfolding(br_model::specs::Reaction::react))]
+    #[tactic(auto, unfolding(br_model::specs::Control::Reaction::react))]
     pub fn see(
         &mut self,
         alloc: Global,
@@ -356,18 +464,18 @@ impl Bridge {
         bytes: &[u8],
         head: &Head,
         message: &McastMsg,
-        lines: &mut Vec<Line>,
+        lines: &mut Lines,
     ) -> Result<usize, EventFault>
         requires frame { frame bytes.now ≡ Ok head.now }
         requires message { message.now ≡ message_in bytes.now head.now }
-        requires room { vec_len lines.old < vec_capacity lines.old }
-        ensures reacts { Reacts self.old self.new lines.old.items lines.new.items result (reaction self.old.setup self.old.history self.old.control (Event.Sight port bytes.now head.now)) }
+        requires room { 1 ≤ lines.old.rows }
+        ensures reacts { Reacts self.old self.new lines.old.lines lines.new.lines result (reaction self.old.setup self.old.history self.old.control (Event.Sight port bytes.now head.now)) }
         ensures from { IfOk result (λ from. from ≡ length self.old.history) }
-        ensures room { vec_len lines.new < vec_capacity lines.new }
+        ensures room { 1 ≤ lines.new.rows }
+        ensures marked { lines.new.marked ≡ lines.old.marked }
     {
-        let plan = self.plan_sight(alloc, port, bytes, head)?;
         let from = self.history.len();
-        self.accept_seen(alloc, plan, port, bytes, head, message, lines)?;
+        self.take_frame(alloc, port, bytes, head, message, lines)?;
         Ok(from)
     }
 
@@ -377,12 +485,10 @@ impl Bridge {
         ensures reacts { Reacts self.old self.new [] (ctl_of result) result (reaction self.old.setup self.old.history self.old.control event.now) }
         ensures from { IfOk result (λ r. r.from ≡ length self.old.history) }
     {
-        let mut lines = Vec::with_capacity(alloc, 1)?;
+        let mut lines = Lines::new(alloc);
+        lines.reserve(1, 0)?;
         let from = self.answer(alloc, event, &mut lines)?;
-        Ok(Reaction {
-            from,
-            ctl: Lines::of(lines),
-        })
+        Ok(Reaction { from, ctl: lines })
     }
 
     /// The domains of the declared ports.
@@ -406,12 +512,5 @@ impl Bridge {
         ensures within { AreWithin self.now.history }
     {
         self.history.as_slice()
-    }
-
-    /// How many deferred changes there are.
-    pub fn pending(&self) -> u32
-        ensures { result ≡ length (filter deferred self.now.history) }
-    {
-        self.pending
     }
 }

@@ -1,7 +1,7 @@
 //! What a command is answered: its first refusal that holds, or its changes in order. A file a family of commands.
-ghost use Rattle.br_model.specs.Commands.{command as answer, sets as what_is_set};
-ghost use Rattle.br_model.specs.Course.{from};
-ghost use Rattle.br_model.specs.Reaction.{commanded};
+ghost use Rattle.br_model.specs.Control.Commands.{command as answer, sets as what_is_set};
+ghost use Rattle.br_model.specs.Control.Course.{from};
+ghost use Rattle.br_model.specs.Control.Reaction.{commanded};
 ghost use Rattle.bridge_core.specs.Answers.{Answers};
 ghost use Rattle.bridge_core.specs.Plans.{Plans};
 ghost use Rattle.bridge_core.specs.Standing.{table_of, control_of, clocked};

@@ -1,6 +1,6 @@
 //! What snooping learned ends: memberships, router ports, queriers.
 ghost use Rattle.std.specs.Prelude.{◌≡◌, ◌++◌, map, OnOk};
-ghost use Rattle.br_model.specs.Ends.{endings};
+ghost use Rattle.br_model.specs.Control.Ends.{endings};
 ghost use Rattle.bridge_core.specs.Ending.{part, router_off, queriers_off};
 
 use br_model::NoMemory;

@@ -1,20 +1,17 @@
 //! What a frame teaches: behind which port its source is.
-ghost use Rattle.std.specs.Prelude.{◌≡◌, ◌==◌, ◌<◌, ◌^◌, ℕ, None, Some, Ok, IfOk, [], ◌∷◌, true};
-ghost use Rattle.br_model.specs.declared.change.Change.TheVariants.{AddrPut};
-ghost use Rattle.br_model.specs.Course.{from, makes_all};
-ghost use Rattle.br_model.specs.Learning.{teach, is_reserved, told};
-ghost use Rattle.br_model.specs.Reaction.{learns};
-ghost use Rattle.br_model.specs.TreeReaction.{heard};
-ghost use Rattle.br_model.specs.Change.{deferred};
+ghost use Rattle.std.specs.Prelude.{◌≡◌, ◌<◌, ◌^◌, ℕ, None, Some, Ok, IfOk, [], ◌∷◌, true};
 ghost use Rattle.std.specs.List.{list_all};
-ghost use Rattle.bridge_core.specs.Plans.{learns_and_tells};
-ghost use Rattle.bridge_core.specs.Lessons.{lesson_of, is_taken};
-ghost use Rattle.bridge_core.specs.Plans.{Plans};
-ghost use Rattle.bridge_core.specs.Standing.{table_of, control_of};
+ghost use Rattle.br_model.specs.declared.change.Change.TheVariants.{AddrPut};
+ghost use Rattle.br_model.specs.declared.change.Kind.TheVariants.{Learned};
+ghost use Rattle.br_model.specs.Control.Learning.{teach, is_reserved};
+ghost use Rattle.br_model.specs.Control.Reaction.{learns, learns_of};
+ghost use Rattle.br_model.specs.Table.Change.{is_of_address};
+ghost use Rattle.bridge_core.specs.Lessons.{IsTaught, is_taken, lesson_of, of_bridge};
+ghost use Rattle.bridge_core.specs.Plans.{PlansAt};
+ghost use Rattle.bridge_core.specs.Standing.{course_at, table_of};
 
 use crate::faults::EventFault;
 use crate::plan::Plan;
-use crate::spanning_tree::heard;
 use crate::state::State;
 use br_model::NoMemory;
 use br_model::change::{Change, Kind};
@@ -59,7 +56,7 @@ fn teach(state: &State, port: Port, head: &Head) -> Option<Key>
 }
 
 /// What the address behind the port comes to.
-fn lesson_of(state: &State, vid: Vid, mac: Mac, port: Port) -> Lesson
+pub fn lesson_of(state: &State, vid: Vid, mac: Mac, port: Port) -> Lesson
     ensures { result ≡ lesson_of (table_of state.now) (vid, mac) port }
 {
     match state.addresses.find(vid, mac) {
@@ -72,7 +69,7 @@ fn lesson_of(state: &State, vid: Vid, mac: Mac, port: Port) -> Lesson
 }
 
 /// Whether a chip's report that the address is behind the port is taken.
-fn is_taken(state: &State, vid: Vid, mac: Mac, port: Port) -> bool
+pub fn is_taken(state: &State, vid: Vid, mac: Mac, port: Port) -> bool
     ensures { result ≡ is_taken (table_of state.now) (vid, mac) port }
 {
     if !state.ports.may_teach(port, vid) {
@@ -86,25 +83,28 @@ fn is_taken(state: &State, vid: Vid, mac: Mac, port: Port) -> bool
     }
 }
 
-/// An entry of this kind is put at the address.
-fn puts(
-    alloc: Global,
-    state: &State,
-    vid: Vid,
-    mac: Mac,
-    port: Port,
-    kind: Kind,
-) -> Result<Plan, NoMemory>
+/// The address that the frame teaches software.
+pub fn taught(domains: &Domains, state: &State, port: Port, head: &Head) -> Option<Key>
+    ensures { IsTaught domains.now (table_of state.now) port head.now result }
+{
+    if domains.of(port) != Some(Dom::SOFTWARE) {
+        return None;
+    }
+    teach(state, port, head)
+}
+
+/// An address behind a port is new there.
+fn puts(alloc: Global, state: &State, port: Port, vid: Vid, mac: Mac) -> Result<Plan, NoMemory>
     ensures clock { IfOk result (λ plan. plan.clock ≡ state.now.clock) }
     ensures renewed { IfOk result (λ plan. plan.renewed ≡ None) }
-    ensures changes { IfOk result (λ plan. plan.changes.items ≡ AddrPut vid mac port kind ∷ []) }
+    ensures changes { IfOk result (λ plan. plan.changes.items ≡ AddrPut vid mac port Learned ∷ []) }
     ensures told { IfOk result (λ plan. plan.told ≡ None) }
 {
     let put = Change::AddrPut {
         vid,
         mac,
         port,
-        kind,
+        kind: Kind::Learned,
     };
     Ok(Plan {
         clock: state.clock,
@@ -119,67 +119,37 @@ fn learns(alloc: Global, state: &State, port: Port, vid: Vid, mac: Mac) -> Resul
     requires { state.now.clock.now < 2 ^ 53 }
     ensures told { IfOk result (λ plan. plan.told ≡ None) }
     ensures clock { IfOk result (λ plan. plan.clock ≡ state.now.clock) }
-    ensures addresses { IfOk result (λ plan. list_all deferred plan.changes.items ≡ true) }
-    ensures plans { Plans (table_of state.now) (control_of state.now) result (Ok (learns port (Some (vid, mac)) (from (table_of state.now) (control_of state.now)))) }
+    ensures addresses { IfOk result (λ plan. list_all is_of_address plan.changes.items ≡ true) }
+    ensures plans { PlansAt state.now result (Ok (learns port (Some (vid, mac)) (course_at state.now))) }
 {
     match lesson_of(state, vid, mac, port) {
-        Lesson::Known => Ok(Plan::nothing(alloc, state.clock)),
+        Lesson::Known => Ok(Plan::telling(alloc, state.clock, None)),
         Lesson::Renewed => Ok(Plan {
             clock: state.clock,
             renewed: Some((vid, mac)),
             changes: Vec::new(alloc),
             told: None,
         }),
-        Lesson::News => Ok(puts(alloc, state, vid, mac, port, Kind::Learned)?),
+        Lesson::News => Ok(puts(alloc, state, port, vid, mac)?),
     }
 }
 
-/// What the sight of a frame comes to that software sent, but for snooping. A message for the spanning tree teaches nothing.
-pub fn sees(
+/// What the sight of a frame teaches, where more is to be done than that.
+pub fn teaches(
     alloc: Global,
     domains: &Domains,
     state: &State,
     port: Port,
-    bytes: &[u8],
     head: &Head,
 ) -> Result<Plan, EventFault>
     requires { state.now.clock.now < 2 ^ 53 }
-    ensures plans { (own : ℕ) → Plans (table_of state.now) (control_of state.now) result (Ok (learns_and_tells (record { domains = domains.now; own = own }) port bytes.now head.now (from (table_of state.now) (control_of state.now)))) }
-    ensures told { IfOk result (λ plan. plan.told ≡ heard (table_of state.now) port bytes.now head.now) }
+    ensures told { IfOk result (λ plan. plan.told ≡ None) }
     ensures clock { IfOk result (λ plan. plan.clock ≡ state.now.clock) }
-    ensures addresses { IfOk result (λ plan. list_all deferred plan.changes.items ≡ true) }
+    ensures addresses { IfOk result (λ plan. list_all is_of_address plan.changes.items ≡ true) }
+    ensures plans { (own : ℕ) → PlansAt state.now result (Ok (learns_of (of_bridge domains.now own) port head.now (course_at state.now))) }
 {
-    let told = heard(state, port, bytes, head);
-    if told.is_some() {
-        return Ok(Plan {
-            clock: state.clock,
-            renewed: None,
-            changes: Vec::new(alloc),
-            told,
-        });
+    match taught(domains, state, port, head) {
+        Some(key) => learns(alloc, state, port, key.0, key.1),
+        None => Ok(Plan::telling(alloc, state.clock, None)),
     }
-    if domains.of(port) != Some(Dom::SOFTWARE) {
-        return Ok(Plan::nothing(alloc, state.clock));
-    }
-    match teach(state, port, head) {
-        Some((vid, mac)) => learns(alloc, state, port, vid, mac),
-        None => Ok(Plan::nothing(alloc, state.clock)),
-    }
-}
-
-/// What a chip's report comes to that the address is behind the port.
-pub fn is_told(
-    alloc: Global,
-    state: &State,
-    vid: Vid,
-    mac: Mac,
-    port: Port,
-) -> Result<Plan, EventFault>
-    requires { state.now.clock.now < 2 ^ 53 }
-    ensures { Plans (table_of state.now) (control_of state.now) result (Ok (makes_all (from (table_of state.now) (control_of state.now)) (told (table_of state.now) (vid, mac) port))) }
-{
-    if is_taken(state, vid, mac, port) {
-        return Ok(puts(alloc, state, vid, mac, port, Kind::Extern)?);
-    }
-    Ok(Plan::nothing(alloc, state.clock))
 }

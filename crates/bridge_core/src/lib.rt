@@ -19,6 +19,3 @@ pub use br_model::NoMemory;
 pub use bridge::{Bridge, Reaction};
 pub use faults::EventFault;
 pub use fdb_core::Entry;
-
-#[cfg(test)]
-mod tests;

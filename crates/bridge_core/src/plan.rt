@@ -21,18 +21,18 @@ pub struct Plan {
 }
 
 impl Plan {
-    /// Nothing is done.
-    pub fn nothing(alloc: Global, clock: Clock) -> Plan
+    /// Nothing is done, but that the spanning tree is told this, if anything.
+    pub fn telling(alloc: Global, clock: Clock, told: Option<TreeEvent>) -> Plan
         ensures clock { result.clock ≡ clock }
         ensures renewed { result.renewed ≡ None }
         ensures changes { result.changes.items ≡ [] }
-        ensures told { result.told ≡ None }
+        ensures told { result.told ≡ told }
     {
         Plan {
             clock,
             renewed: None,
             changes: Vec::new(alloc),
-            told: None,
+            told,
         }
     }
 }

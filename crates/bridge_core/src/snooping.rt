@@ -1,12 +1,12 @@
 //! What a message of IGMP and MLD does: who is a member, where a router is, and until when.
 ghost use Rattle.std.specs.Prelude.{ℕ, ◌≡◌, ◌+◌, ◌++◌, ◌≤◌, ◌<◌, ◌^◌, true, [], List, length, IfSome, vec_len, vec_capacity};
 ghost use Rattle.std.specs.List.{fold};
-ghost use Rattle.br_model.specs.Course.{Course};
-ghost use Rattle.br_model.specs.Messages.{message as message_in, RecordsStand};
-ghost use Rattle.br_model.specs.Records.{acts};
-ghost use Rattle.br_model.specs.Snooping.{acted, fastleave, joins, leaves, querier_heard, queried, router_heard, said, snoops};
-ghost use Rattle.br_model.specs.Table.{with_addresses};
-ghost use Rattle.br_model.specs.Targets.{has_flag};
+ghost use Rattle.br_model.specs.Control.Course.{Course};
+ghost use Rattle.br_model.specs.Wire.Messages.{message as message_in, RecordsStand};
+ghost use Rattle.br_model.specs.Wire.Records.{acts};
+ghost use Rattle.br_model.specs.Control.Snooping.{acted, fastleave, joins, leaves, querier_heard, queried, router_heard, said, snoops};
+ghost use Rattle.br_model.specs.Table.Table.{with_addresses};
+ghost use Rattle.br_model.specs.Forward.Targets.{has_flag};
 ghost use Rattle.bridge_core.specs.Hearing.{Adds, IsHeard, Leads, list_of, most, snoops_by};
 ghost use Rattle.bridge_core.specs.Standing.{table_of};
 

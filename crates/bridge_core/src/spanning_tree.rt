@@ -1,10 +1,11 @@
 //! How the spanning tree takes part: what it is told, the states that follow it, and the frames that carry its messages.
-ghost use Rattle.std.specs.Prelude.{◌≡◌, ◌++◌, ◌∷◌, [], ◌<◌, map, OnOk, IfOk, vec_len, vec_capacity};
-ghost use Rattle.br_model.specs.Commands.SpanningTree.{tells};
+ghost use Rattle.std.specs.Prelude.{◌≡◌, ◌+◌, ◌++◌, ◌∷◌, [], ◌<◌, ◌≤◌, length, map, OnOk, vec_len, vec_capacity};
+ghost use Rattle.br_model.specs.Table.Domains.{port_places};
+ghost use Rattle.br_model.specs.Control.Commands.SpanningTree.{tells};
 ghost use Rattle.br_model.specs.Plane.World.{control_line, control_lines};
-ghost use Rattle.br_model.specs.TreeReaction.{heard};
-ghost use Rattle.br_model.specs.TreeStep.{sent};
-ghost use Rattle.bridge_core.specs.Following.{state_change, config_lines, acted_by};
+ghost use Rattle.br_model.specs.Control.TreeReaction.{heard};
+ghost use Rattle.br_model.specs.Tree.Step.{sent};
+ghost use Rattle.bridge_core.specs.Following.{HasFrameRoom, state_change, config_lines, acted_by};
 ghost use Rattle.bridge_core.specs.Standing.{table_of};
 
 use crate::state::State;
@@ -14,12 +15,11 @@ use br_model::change::Change;
 use br_model::frame::Head;
 use br_model::numbers::{Mac, Port};
 use br_model::steps::Command;
-use br_model::transcript::Line;
 use br_model::tree::TreeEvent;
-use ether_frames::{bpdu_read, bpdu_write};
+use ether_frames::{BPDU_LENGTH, bpdu_frame, bpdu_read};
 use port_sets::Ports;
-use std::alloc::Global;
 use stp_core::{Tree, TreeOut};
+use transcript_lines::Lines;
 
 /// What the command tells the spanning tree.
 pub fn tells(state: &State, command: &Command) -> Option<TreeEvent>
@@ -58,83 +58,74 @@ pub fn heard(state: &State, port: Port, bytes: &[u8], head: &Head) -> Option<Tre
     }
 }
 
-/// Adds the state of each port that has another one than before.
-pub fn add_states(changes: &mut Vec<Change>, tree: &Tree, moved: Ports) -> Result<(), NoMemory>
-    ensures { OnOk result (changes.new.items ≡ changes.old.items ++ map (state_change tree.now) moved) }
+/// Adds the state of each port that has another one than before, for which there is room.
+pub fn add_states(changes: &mut Vec<Change>, tree: &Tree, moved: Ports)
+    requires { vec_len changes.old + port_places ≤ vec_capacity changes.old }
+    ensures states { changes.new.items ≡ changes.old.items ++ map (state_change tree.now) moved }
+    ensures few { length changes.new.items ≤ length changes.old.items + port_places }
 {
     for number in moved.iter() {
         let Some(port) = Port::new(number) else {
             unreachable!();
         };
-        changes.push(Change::SetState(port, tree.state(port)))?;
+        changes.push_reserved(Change::SetState(port, tree.state(port)));
     }
-    Ok(())
 }
 
-/// Adds a line, with room for another one behind it.
-fn add(lines: &mut Vec<Line>, line: Line) -> Result<(), NoMemory>
-    requires { vec_len lines.old < vec_capacity lines.old }
-    ensures ok { OnOk result (lines.new.items ≡ lines.old.items ++ line ∷ []) }
-    ensures room { vec_len lines.new < vec_capacity lines.new }
+/// How many frames an event of the tree sends at most: one by each port, and a notification.
+const MOST_FRAMES: usize = Port::PLACES + 1;
+
+/// Takes room for the frames that an event sends at most, and for another row behind them.
+pub fn reserve_frames(lines: &mut Lines) -> Result<(), NoMemory>
+    ensures lines { lines.new.lines ≡ lines.old.lines }
+    ensures marked { lines.new.marked ≡ lines.old.marked }
+    ensures rows { lines.old.rows ≤ lines.new.rows }
+    ensures room { OnOk result (HasFrameRoom lines.new) }
 {
-    lines.reserve(2)?;
-    lines.push_reserved(line);
-    Ok(())
+    lines.reserve(MOST_FRAMES + 1, BPDU_LENGTH * MOST_FRAMES)
 }
 
-/// The line of the frame that carries the message by the port.
-fn control_line(alloc: Global, own: Mac, port: Port, message: &BpduMsg) -> Result<Line, NoMemory>
-    ensures { IfOk result (λ line. line ≡ control_line own (port, message.now)) }
+/// Adds the line of the frame that carries the message by the port, for which there is room.
+fn add_frame(own: Mac, port: Port, message: &BpduMsg, lines: &mut Lines)
+    requires rows { 1 ≤ lines.old.rows }
+    requires bytes { 60 ≤ lines.old.bytes }
+    ensures lines { lines.new.lines ≡ lines.old.lines ++ control_line own (port, message.now) ∷ [] }
+    ensures marked { lines.new.marked ≡ lines.old.marked }
+    ensures rows { lines.old.rows ≤ lines.new.rows + 1 }
+    ensures bytes { lines.old.bytes ≤ lines.new.bytes + 60 }
 {
-    Ok(Line::Ctl {
-        port,
-        bytes: bpdu_write(alloc, own, message)?,
-    })
+    lines.push_ctl(port, &bpdu_frame(own, message));
 }
 
 /// Adds the line of the configuration message that went out last on the port of this number.
-fn add_config(
-    alloc: Global,
-    own: Mac,
-    tree: &Tree,
-    number: u8,
-    lines: &mut Vec<Line>,
-) -> Result<(), NoMemory>
-    requires number { number < 64 }
-    requires room { vec_len lines.old < vec_capacity lines.old }
-    ensures ok { OnOk result (lines.new.items ≡ lines.old.items ++ config_lines own tree.now number) }
-    ensures room { vec_len lines.new < vec_capacity lines.new }
+fn add_config(own: Mac, tree: &Tree, number: u8, lines: &mut Lines)
+    requires number { number < port_places }
+    requires rows { 1 ≤ lines.old.rows }
+    requires bytes { 60 ≤ lines.old.bytes }
+    ensures lines { lines.new.lines ≡ lines.old.lines ++ config_lines own tree.now number }
+    ensures marked { lines.new.marked ≡ lines.old.marked }
+    ensures rows { lines.old.rows ≤ lines.new.rows + 1 }
+    ensures bytes { lines.old.bytes ≤ lines.new.bytes + 60 }
 {
     let Some(port) = Port::new(number) else {
         unreachable!();
     };
-    let Some(message) = tree.last_message(port) else {
-        return Ok(());
-    };
-    let line = control_line(alloc, own, port, &message)?;
-    add(lines, line)?;
-    Ok(())
+    if let Some(message) = tree.last_message(port) {
+        add_frame(own, port, &message, lines);
+    }
 }
 
-/// Adds the lines of the frames that go out: configuration messages by port, and then the notification.
-pub fn add_frames(
-    alloc: Global,
-    own: Mac,
-    tree: &Tree,
-    out: &TreeOut,
-    lines: &mut Vec<Line>,
-) -> Result<(), NoMemory>
-    requires { vec_len lines.old < vec_capacity lines.old }
-    ensures ok { OnOk result (lines.new.items ≡ lines.old.items ++ control_lines own (sent (acted_by tree.now out.now))) }
-    ensures room { vec_len lines.new < vec_capacity lines.new }
+/// Adds the lines of the frames that go out, for which there is room: configuration messages by port, and then the notification.
+pub fn add_frames(own: Mac, tree: &Tree, out: &TreeOut, lines: &mut Lines)
+    requires { HasFrameRoom lines.old }
+    ensures lines { lines.new.lines ≡ lines.old.lines ++ control_lines own (sent (acted_by tree.now out.now)) }
+    ensures marked { lines.new.marked ≡ lines.old.marked }
+    ensures room { 1 ≤ lines.new.rows }
 {
     for number in out.config.iter() {
-        add_config(alloc, own, tree, number, lines)?;
+        add_config(own, tree, number, lines);
     }
-    let Some(port) = out.tcn else {
-        return Ok(());
-    };
-    let line = control_line(alloc, own, port, &BpduMsg::Tcn)?;
-    add(lines, line)?;
-    Ok(())
+    if let Some(port) = out.tcn {
+        add_frame(own, port, &BpduMsg::Tcn, lines);
+    }
 }

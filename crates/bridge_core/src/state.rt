@@ -1,15 +1,15 @@
 //! Where a bridge stands: its table, its moments, and its spanning tree.
 ghost use Rattle.std.specs.Prelude.{ℕ, ◌≡◌, ◌≤◌, ◌<◌, ◌+◌, ◌++◌, true, List, length, ◌^◌, IfOk, IfSome, IsSome, IsTrue, vec_len, vec_capacity};
 ghost use Rattle.std.specs.List.{fold};
-ghost use Rattle.br_model.specs.Ageing.{stay};
+ghost use Rattle.br_model.specs.Control.Ageing.{stay};
 ghost use Rattle.br_model.specs.declared.bpdu.BpduMsg.{BpduMsg};
-ghost use Rattle.br_model.specs.Control.{Control, first_control, keeps_up};
-ghost use Rattle.br_model.specs.EndsTied.{IsTied};
-ghost use Rattle.br_model.specs.Limits.{fits, all_fit};
-ghost use Rattle.br_model.specs.Table.{Table, start, apply};
-ghost use Rattle.br_model.specs.Maps.{pair_cmp, get};
-ghost use Rattle.br_model.specs.Messages.{RecordsStand};
-ghost use Rattle.br_model.specs.Snooping.{said};
+ghost use Rattle.br_model.specs.Control.Control.{Control, first_control, keeps_up, renewed};
+ghost use Rattle.br_model.specs.Theorems.EndsTied.{IsTied};
+ghost use Rattle.br_model.specs.Table.Limits.{asks, fits, all_fit};
+ghost use Rattle.br_model.specs.Table.Table.{Table, start, apply};
+ghost use Rattle.br_model.specs.Data.Maps.{pair_cmp, get};
+ghost use Rattle.br_model.specs.Wire.Messages.{RecordsStand};
+ghost use Rattle.br_model.specs.Control.Snooping.{said};
 ghost use Rattle.bridge_core.specs.Plans.{renewed_at};
 ghost use Rattle.bridge_core.specs.Hearing.{IsHeard, HasRoom, most};
 ghost use Rattle.bridge_core.specs.Standing.{table_of, control_of, clocked, course_of, places};
@@ -19,7 +19,7 @@ use crate::snooping::{QUERIER_TIME, Speaker};
 use br_model::NoMemory;
 use br_model::change::Change;
 use br_model::frame::McastMsg;
-use br_model::numbers::Mac;
+use br_model::numbers::{Mac, Vid};
 use fdb_core::Key;
 use forward_rules::PortTables;
 use mdb_snoop::Mdb;
@@ -84,6 +84,15 @@ impl State {
         }
     }
 
+    /// Gives the entry the clock's moment.
+    pub fn renew(&mut self, vid: Vid, mac: Mac)
+        requires { IsSome (get pair_cmp (table_of self.old).addr (vid, mac)) }
+        ensures table { table_of self.new ≡ table_of self.old }
+        ensures control { control_of self.new ≡ renewed (control_of self.old) (vid, mac) }
+    {
+        self.addresses.renew(vid, mac, self.clock.now);
+    }
+
     /// Where a learned entry may be over by now, finds the first moment anew.
     pub fn settle(&mut self)
         ensures table { table_of self.new ≡ table_of self.old }
@@ -127,7 +136,8 @@ impl State {
         }
     }
 
-    fn apply(&mut self, change: &Change)
+    /// Makes the change.
+    pub fn apply(&mut self, change: &Change)
         requires fits { IsTrue (fits (table_of self.old) change.now) }
         requires tied { IsTied (table_of self.old) self.old.groups }
         requires early { self.old.clock.now < 2 ^ 53 }
@@ -193,7 +203,7 @@ impl State {
 
 /// Lets the ends follow a change that was made at the moment `now`.
 fn follow_ends(groups: &mut Mdb, now: u64, change: &Change)
-    requires room { HasRoom groups.old change.now }
+    requires room { HasRoom groups.old (asks change.now) }
     requires early { now < 2 ^ 53 }
     ensures { (c : Control) → c.now ≡ now → c.ends ≡ groups.old → (keeps_up c change.now).ends ≡ groups.new }
 {

@@ -1,29 +1,32 @@
 -- Lines are counted, step by step.
-use Rattle.std.proofs.Common.{◌≡◌, ℕ, ◌+◌, ◌*◌, ◌%◌, ◌==◌, ◌≤◌, nat_le, Bool, true, false, if◌then◌else◌, cond, length, List, [], ◌∷◌, ◌++◌, map, codes, refl, sym, ◌∙◌, ap, subst, arith, append_assoc, append-nil}
+use Rattle.std.proofs.Common.{◌≡◌, ℕ, suc, ◌+◌, ◌*◌, ◌%◌, ◌==◌, ◌≤◌, nat_le, Bool, true, false, if◌then◌else◌, cond, length, List, [], ◌∷◌, ◌++◌, codes, refl, sym, ◌∙◌, ap, subst, arith, append_assoc, append-nil}
 use Rattle.std.specs.Fmt.{decimal}
 use Rattle.std.specs.List.{list_all}
 use Rattle.std.specs.Str.{bytes_eq}
 use Rattle.std.proofs.lemmas.List.Folds.{list_all-append}
+use Rattle.std.proofs.lemmas.Grind.{flat_map-append}
 use Rattle.std.proofs.lemmas.List.Sums.{sum_by-append}
 use Rattle.br_model.specs.declared.steps.Step.{Step}
 use Rattle.br_model.specs.declared.steps.Step.TheVariants.{Now, Turn, Report, Publish}
 use Rattle.br_model.specs.declared.transcript.Line.{Line}
-use Rattle.br_model.specs.Generator.{made_scenario, most_frames, each, frame_steps, frames_from, steps}
-use Rattle.br_model.specs.Operands.{last_moment}
-use Rattle.br_model.specs.Plane.Naming.{named}
+use Rattle.br_model.specs.Program.Generator.{made_scenario, most_frames, each, frame_steps, frames_from, steps}
+use Rattle.br_model.specs.Text.Operands.{last_moment}
 use Rattle.br_model.specs.Plane.Runs.{run, then_step, pending}
 use Rattle.br_model.specs.Plane.Steps.{world_step}
 use Rattle.br_model.specs.Plane.World.{World, Stepped, first_world}
-use Rattle.br_model.specs.Runs.{run_of, setup_of}
-use Rattle.br_model.specs.Scenario.{Scenario}
-use Rattle.br_model.specs.Setup.{Setup}
-use Rattle.br_model.specs.Summary.{kind_of, count_of, summary, summary_text}
+use Rattle.br_model.specs.Program.Runs.{run_of, setup_of}
+use Rattle.br_model.specs.Text.Scenario.{Scenario}
+use Rattle.br_model.specs.Table.Domains.{chip}
+use Rattle.br_model.specs.Table.Setup.{Setup}
+use Rattle.br_model.specs.Program.Summary.{kind_of, count_of, summary, summary_text}
 use Rattle.br_model.proofs.MadeRead.{made_read}
-use Rattle.br_model.proofs.Running.{run_said, run_none}
+use Rattle.br_model.proofs.Running.{run_push, run_none}
 use Rattle.capture_runner.specs.declared.demo.Tally.{Tally}
-use Rattle.capture_runner.specs.Counting.{Tallies, Adds, Ran, RunsOn}
+use Rattle.transcript_lines.specs.declared.row.Row.{Row}
+use Rattle.transcript_lines.specs.Rows.{expand, expand_row, sent_lines}
+use Rattle.capture_runner.specs.Counting.{Tallies, Adds, AddsSent, Ran, RunsOn}
 use Rattle.scenario_text.specs.Generating.{At, steps_left}
-use Rattle.scenario_text.specs.Items.{in_time}
+use Rattle.br_model.specs.Text.LineForms.{comes_by_line}
 
 -- the tally of lines more, by how many of each kind they are
 pub adds : (old new : Tally) (lines : List Line) → new.chip ≡ old.chip + count_of (codes "chip") lines → new.soft ≡ old.soft + count_of (codes "soft") lines
@@ -41,20 +44,47 @@ adds old new lines chip soft tx overrun before t = record {
 pub adds_none : (t : Tally) → Adds t [] t
 adds_none t before h = subst (λ (lines : List Line). Tallies lines t) (sym (append-nil before)) h
 
-pub adds_more : (a b c : Tally) (lines : List Line) (line : Line) → Adds a lines b → Adds b (line ∷ []) c → Adds a (lines ++ line ∷ []) c
-adds_more a b c lines line h k before t = subst (λ (all : List Line). Tallies all c) (append_assoc before lines (line ∷ [])) (k (before ++ lines) (h before t))
+pub adds_more : (a b c : Tally) (lines more : List Line) → Adds a lines b → Adds b more c → Adds a (lines ++ more) c
+adds_more a b c lines more h k before t = subst (λ (all : List Line). Tallies all c) (append_assoc before lines more) (k (before ++ lines) (h before t))
+
+pub one_row_more : (arena : List ℕ) (rows : List Row) (row : Row) → expand arena (rows ++ row ∷ []) ≡ expand arena rows ++ expand_row arena row
+one_row_more arena rows row = flat_map-append (expand_row arena) rows (row ∷ []) ∙ ap (λ l. expand arena rows ++ l) (append-nil (expand_row arena row))
+
+-- the lines of a frame that leaves these ports, of each kind
+
+one_more : (word : List ℕ) (lines more : List Line) → count_of word (lines ++ more) ≡ count_of word lines + count_of word more
+one_more word lines more = sum_by-append (λ line. cond (bytes_eq (kind_of line) word) 1 0) lines more
+
+tx_sent : (id : ℕ) (ports untagged plain tagged : List ℕ) → count_of (codes "tx") (sent_lines id ports untagged plain tagged) ≡ length ports
+tx_sent id [] untagged plain tagged = refl
+tx_sent id (port ∷ ports) untagged plain tagged =
+    omega (arith, one_more (codes "tx") (sent_lines id (port ∷ []) untagged plain tagged) (sent_lines id ports untagged plain tagged), tx_sent id ports untagged plain tagged)
+
+none_sent : (word : List ℕ) → bytes_eq (codes "tx") word ≡ false → (id : ℕ) (ports untagged plain tagged : List ℕ) → count_of word (sent_lines id ports untagged plain tagged) ≡ 0
+none_sent word other id [] untagged plain tagged = refl
+none_sent word other id (port ∷ ports) untagged plain tagged =
+    let first : count_of word (sent_lines id (port ∷ []) untagged plain tagged) ≡ 0 = rw other refl in
+    omega (arith, one_more word (sent_lines id (port ∷ []) untagged plain tagged) (sent_lines id ports untagged plain tagged), first, none_sent word other id ports untagged plain tagged)
+
+pub adds_sent : (old new : Tally) (ports : List ℕ) → new.chip ≡ old.chip → new.soft ≡ old.soft → new.tx ≡ old.tx + length ports → new.overrun ≡ old.overrun → AddsSent old ports new
+adds_sent old new ports chip soft tx overrun id untagged plain tagged =
+    adds old new (sent_lines id ports untagged plain tagged)
+    (omega (arith, chip, none_sent (codes "chip") refl id ports untagged plain tagged))
+    (omega (arith, soft, none_sent (codes "soft") refl id ports untagged plain tagged))
+    (omega (arith, tx, tx_sent id ports untagged plain tagged))
+    (omega (arith, overrun, none_sent (codes "overrun") refl id ports untagged plain tagged))
 
 pub runs_none : (w : World) (t : Tally) → RunsOn w t [] w t
 runs_none w t setup before h = subst (λ (done : List Step). Ran setup done w t) (sym (append-nil before)) h
 
-pub runs_more : (w v u : World) (a b c : Tally) (done : List Step) (step : Step) (lines : List Line) → RunsOn w a done v b → (u, lines) ≡ world_step v (named step) → Adds b lines c
+pub runs_more : (w v u : World) (a b c : Tally) (done : List Step) (step : Step) (lines : List Line) → RunsOn w a done v b → (u, lines) ≡ world_step v step → Adds b lines c
     → RunsOn w a (done ++ step ∷ []) u c
 runs_more w v u a b c done step lines h stepped added setup before ran =
     let r = h setup before ran in
-    let x : Stepped = run setup (map named (before ++ done)) in
-    let next : (u, lines) ≡ world_step x.0 (named step) = stepped ∙ ap (λ (w : World). world_step w (named step)) r.world_is in
-    let all : run setup (map named (before ++ (done ++ step ∷ []))) ≡ then_step x (named step) =
-    ap (λ (l : List Step). run setup (map named l)) (sym (append_assoc before done (step ∷ []))) ∙ run_said setup (before ++ done) step in record {
+    let x : Stepped = run setup (before ++ done) in
+    let next : (u, lines) ≡ world_step x.0 step = stepped ∙ ap (λ (w : World). world_step w step) r.world_is in
+    let all : run setup (before ++ (done ++ step ∷ [])) ≡ then_step x step =
+    ap (run setup) (sym (append_assoc before done (step ∷ []))) ∙ run_push setup (before ++ done) step in record {
       world_is = ap (λ (y : Stepped). y.0) next ∙ sym (ap (λ (y : Stepped). y.0) all);
       tallies = subst (λ (l : List Line). Tallies l c) (ap (λ (y : Stepped). x.1 ++ y.1) next ∙ sym (ap (λ (y : Stepped). y.1) all)) (added x.1 r.tallies);
     }
@@ -66,20 +96,20 @@ ran_none setup w t e h = record {
   tallies = subst (λ (l : List Line). Tallies l t) (sym (ap (λ (x : Stepped). x.1) (run_none setup))) h;
 }
 
--- the moments of generated steps are ones that a line can say
-pub frame_timed : (i n : ℕ) → i ≤ most_frames → list_all in_time (frame_steps i n) ≡ true
-frame_timed i n few =
-    joined (each 3 i Report) _ (timed (i % 3 == 0) Report refl)
-    (joined (each 5 i Turn) _ (timed (i % 5 == 0) Turn refl)
-    (joined (each 7 i Publish) _ (timed (i % 7 == 0) Publish refl)
-    (timed (i % 64 == 0) (Now (1000 * i)) (early (1000 * i) (omega arith)))))
+-- generated steps come by lines
+pub frame_by_line : (i n : ℕ) → i ≤ most_frames → list_all comes_by_line (frame_steps i n) ≡ true
+frame_by_line i n few =
+    joined (each 3 i (Report chip)) _ (one (i % 3 == 0) (Report chip) refl)
+    (joined (each 5 i (Turn chip)) _ (one (i % 5 == 0) (Turn chip) refl)
+    (joined (each 7 i Publish) _ (one (i % 7 == 0) Publish refl)
+    (one (i % 64 == 0) (Now (1000 * i)) (early (1000 * i) (omega arith)))))
   where
-    timed : (b : Bool) (s : Step) → in_time s ≡ true → list_all in_time (if b then s ∷ [] else []) ≡ true
-    timed true s h = rw h refl
-    timed false s h = refl
+    one : (b : Bool) (s : Step) → comes_by_line s ≡ true → list_all comes_by_line (if b then s ∷ [] else []) ≡ true
+    one true s h = rw h refl
+    one false s h = refl
 
-    joined : (l m : List Step) → list_all in_time l ≡ true → list_all in_time m ≡ true → list_all in_time (l ++ m) ≡ true
-    joined l m h k = list_all-append in_time l m ∙ rw (h, k) refl
+    joined : (l m : List Step) → list_all comes_by_line l ≡ true → list_all comes_by_line m ≡ true → list_all comes_by_line (l ++ m) ≡ true
+    joined l m h k = list_all-append comes_by_line l m ∙ rw (h, k) refl
 
     early : (moment : ℕ) → moment ≤ last_moment → nat_le moment last_moment ≡ true
     early moment h = grind arith

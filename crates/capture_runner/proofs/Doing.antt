@@ -4,8 +4,8 @@ use Rattle.std.specs.Io.KnownBytes.{Appends}
 use Rattle.std.proofs.lemmas.List.{append-nil}
 use Rattle.br_model.specs.declared.steps.Step.{Step}
 use Rattle.run_io.specs.Reading.{Reading}
-use Rattle.br_model.specs.Limits.{most_bytes}
-use Rattle.br_model.specs.Scenario.{Scenario}
+use Rattle.br_model.specs.Table.Limits.{most_bytes}
+use Rattle.br_model.specs.Text.Scenario.{Scenario}
 use Rattle.capture_runner.specs.declared.replay.Halt.{Halt}
 use Rattle.capture_runner.specs.declared.replay.Halt.TheVariants.{Stopped}
 use Rattle.capture_runner.specs.declared.replay.Stop.{Stop}

@@ -1,5 +1,5 @@
 -- A session goes on with a line.
-use Rattle.std.proofs.Common.{◌≡◌, ℕ, ◌+◌, ◌≤◌, true, false, if◌then◌else◌, List, [], ◌∷◌, ◌++◌, length, arith, None, Some, Option, Result, Ok, Err, refl, sym, ◌∙◌, ap, subst, map, codes, nat_lt, nat_le}
+use Rattle.std.proofs.Common.{◌≡◌, ℕ, ◌+◌, ◌≤◌, true, false, if◌then◌else◌, List, [], ◌∷◌, ◌++◌, length, arith, None, Some, Option, Result, Ok, Err, refl, sym, ◌∙◌, ap, subst, codes, nat_lt, nat_le}
 use Rattle.std.proofs.lemmas.List.{append-nil}
 use Rattle.br_model.specs.declared.scenario.Item.{Item}
 use Rattle.br_model.specs.declared.scenario.Item.TheVariants as items
@@ -10,18 +10,17 @@ use Rattle.br_model.specs.declared.scenario.Said.TheVariants.{Blank, Opens, Brid
 use Rattle.br_model.specs.declared.steps.Step.{Step}
 use Rattle.br_model.specs.declared.scenario.Place.{Place}
 use Rattle.br_model.specs.declared.scenario.Place.TheVariants as places
-use Rattle.br_model.specs.LineForms.{line_says, header, declaration, opening}
-use Rattle.br_model.specs.Plane.Naming.{named}
+use Rattle.br_model.specs.Text.LineForms.{line_says, header, declaration, opening}
 use Rattle.br_model.specs.Plane.Runs.{run, then_step}
 use Rattle.br_model.specs.Plane.Steps.{world_step}
 use Rattle.br_model.specs.Plane.World.{World, Stepped, first_world}
-use Rattle.br_model.specs.Operands.{longest_section}
-use Rattle.br_model.specs.Roster.{Entry, Roster}
-use Rattle.br_model.specs.Runs.{run_of, setup_of, body_of}
-use Rattle.br_model.specs.Scenario.{Scenario, Going, Bad, takes, takes_steps, declared, steps_of, section_length, ending_of as said_ending, longest_line, bad, whole_says}
-use Rattle.br_model.specs.Setup.{Setup}
-use Rattle.br_model.specs.Transcript.{text}
-use Rattle.br_model.proofs.Running.{run_said, run_none, text-append}
+use Rattle.br_model.specs.Text.Operands.{longest_section}
+use Rattle.br_model.specs.Text.Roster.{Entry, Roster}
+use Rattle.br_model.specs.Program.Runs.{run_of, setup_of, body_of}
+use Rattle.br_model.specs.Text.Scenario.{Scenario, Going, Bad, takes, takes_steps, declared, steps_of, section_length, ending_of as said_ending, longest_line, bad, whole_says}
+use Rattle.br_model.specs.Table.Setup.{Setup}
+use Rattle.br_model.specs.Text.Transcript.{text}
+use Rattle.br_model.proofs.Running.{run_push, run_none, text-append}
 use Rattle.capture_runner.specs.declared.session.Last.TheVariants as lasts
 use Rattle.capture_runner.specs.declared.session.Next.TheVariants as nexts
 use Rattle.capture_runner.specs.declared.session.Session.{Session}
@@ -37,14 +36,11 @@ pub says_whole : (r : Roster) (line : List ℕ) (said : Result Said LineWhy) →
 says_whole r line said short says = ap (λ b. if b then Err why.Long else line_says r line) (not_long (length line) short) ∙ says
 
 -- the run of these lines' steps
-abbrev ran : Setup → List Step → Stepped
-ran setup steps = run setup (map named steps)
-
 -- lines without a step
 
 -- the same run, where no step and nothing of the setup came
 pub same_run : (s t : Scenario) → setup_of t.roster ≡ setup_of s.roster → t.steps ≡ s.steps → run_of t ≡ run_of s
-same_run s t p e = ap (λ (x : Setup). ran x t.steps) p ∙ ap (ran (setup_of s.roster)) e
+same_run s t p e = ap (λ (x : Setup). run x t.steps) p ∙ ap (run (setup_of s.roster)) e
 
 -- directly after the first line
 begins : (place : Place) → header place ≡ true → declaration place ≡ true
@@ -77,7 +73,7 @@ unmade s t (Some w) h e d = let e : true ≡ false = sym d ∙ h.1.0 in absurd (
 
 -- a run without steps writes nothing, whatever the setup
 pub no_steps : (s : Scenario) → s.steps ≡ [] → body_of (run_of s) ≡ codes "transcript 1" ++ 10 ∷ []
-no_steps s e = ap (λ (steps : List Step). body_of (ran (setup_of s.roster) steps)) e ∙ ap body_of (run_none (setup_of s.roster))
+no_steps s e = ap (λ (steps : List Step). body_of (run (setup_of s.roster) steps)) e ∙ ap body_of (run_none (setup_of s.roster))
 
 pub unmade_body : (s t : Scenario) (w : Option World) → IsWorld s w → t.steps ≡ s.steps → declaration s.roster.place ≡ true → body_of (run_of t) ≡ body_of (run_of s)
 unmade_body s t None h e d = no_steps t (e ∙ h) ∙ sym (no_steps s h)
@@ -87,25 +83,25 @@ unmade_body s t (Some w) h e d = let e : true ≡ false = sym d ∙ h.1.0 in abs
 
 -- the world before it
 world_before : (s : Scenario) (w : Option World) → IsWorld s w → world_of s.roster w ≡ (run_of s).0
-world_before s None h = sym (ap (λ (x : Stepped). x.0) (ap (ran (setup_of s.roster)) h ∙ run_none (setup_of s.roster)))
+world_before s None h = sym (ap (λ (x : Stepped). x.0) (ap (run (setup_of s.roster)) h ∙ run_none (setup_of s.roster)))
 world_before s (Some w) h = h.0
 
 -- the run with one step more
-goes_on : (s t : Scenario) (step : Step) → t.steps ≡ s.steps ++ step ∷ [] → setup_of t.roster ≡ setup_of s.roster → run_of t ≡ then_step (run_of s) (named step)
+goes_on : (s t : Scenario) (step : Step) → t.steps ≡ s.steps ++ step ∷ [] → setup_of t.roster ≡ setup_of s.roster → run_of t ≡ then_step (run_of s) step
 goes_on s t step e p =
-    ap (λ (x : Setup). ran x t.steps) p ∙ ap (ran (setup_of s.roster)) e ∙ run_said (setup_of s.roster) s.steps step
+    ap (λ (x : Setup). run x t.steps) p ∙ ap (run (setup_of s.roster)) e ∙ run_push (setup_of s.roster) s.steps step
 
 world_after : (s t : Scenario) (w : Option World) (step : Step) → IsWorld s w → t.steps ≡ s.steps ++ step ∷ [] → setup_of t.roster ≡ setup_of s.roster → IsAmongSteps t
-    → IsWorld t (Some (world_step (world_of s.roster w) (named step)).0)
+    → IsWorld t (Some (world_step (world_of s.roster w) step).0)
 world_after s t w step h e p place =
-    (ap (λ (v : World). (world_step v (named step)).0) (world_before s w h) ∙ sym (ap (λ (x : Stepped). x.0) (goes_on s t step e p)), place)
+    (ap (λ (v : World). (world_step v step).0) (world_before s w h) ∙ sym (ap (λ (x : Stepped). x.0) (goes_on s t step e p)), place)
 
 body_after : (s t : Scenario) (w : Option World) (step : Step) → IsWorld s w → t.steps ≡ s.steps ++ step ∷ [] → setup_of t.roster ≡ setup_of s.roster
-    → body_of (run_of t) ≡ body_of (run_of s) ++ text (world_step (world_of s.roster w) (named step)).1
+    → body_of (run_of t) ≡ body_of (run_of s) ++ text (world_step (world_of s.roster w) step).1
 body_after s t w step h e p =
     ap body_of (goes_on s t step e p)
-    ∙ ap (λ (x : List ℕ). codes "transcript 1" ++ 10 ∷ x) (text-append (run_of s).1 (world_step (run_of s).0 (named step)).1)
-    ∙ ap (λ (v : World). body_of (run_of s) ++ text (world_step v (named step)).1) (sym (world_before s w h))
+    ∙ ap (λ (x : List ℕ). codes "transcript 1" ++ 10 ∷ x) (text-append (run_of s).1 (world_step (run_of s).0 step).1)
+    ∙ ap (λ (v : World). body_of (run_of s) ++ text (world_step v step).1) (sym (world_before s w h))
 
 -- what a session takes
 
@@ -240,12 +236,12 @@ did_step s t x y before after step world roster lines going steps same place doe
         stands = record {
           lines = does.lines ∙ lines;
           roster = does.roster ∙ roster;
-          world = subst (λ (w : Option World). IsWorld t w) (sym (does.world ∙ ap (λ (v : World). Some (world_step v (named step)).0) setup)) (world_after s t x.world step world steps same place);
+          world = subst (λ (w : Option World). IsWorld t w) (sym (does.world ∙ ap (λ (v : World). Some (world_step v step).0) setup)) (world_after s t x.world step world steps same place);
         };
         going = going;
       };
-      added = text (world_step (world_of s.roster x.world) (named step)).1;
-      text = does.text ∙ ap (λ (v : World). before ++ text (world_step v (named step)).1) setup;
+      added = text (world_step (world_of s.roster x.world) step).1;
+      text = does.text ∙ ap (λ (v : World). before ++ text (world_step v step).1) setup;
       body = body_after s t x.world step world steps same;
     }
   where

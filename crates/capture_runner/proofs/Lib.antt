@@ -1,4 +1,5 @@
 pub mod Counting
+pub mod Cutting
 pub mod Doing
 pub mod Following
 pub mod Generating
@@ -8,3 +9,4 @@ pub mod Reaching
 pub mod Sections
 pub mod Steps
 pub mod Telling
+pub mod Worlds

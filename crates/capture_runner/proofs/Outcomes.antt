@@ -1,5 +1,5 @@
 -- How a run ends, once its last line is written.
-use Rattle.std.proofs.Common.{◌≡◌, ℕ, List, [], ◌++◌, Option, None, Some, Ok, Err, IfSome, String, string_bytes, refl, sym, ◌∙◌, ap, subst, map, codes, append_assoc}
+use Rattle.std.proofs.Common.{◌≡◌, ℕ, List, [], ◌++◌, Option, None, Some, Ok, Err, IfSome, String, string_bytes, refl, sym, ◌∙◌, ap, subst, codes, append_assoc}
 use Rattle.std.specs.declared.alloc.Global.{Global}
 use Rattle.std.specs.Io.KnownBytes.{Appends, Consumes}
 use Rattle.std.proofs.KnownBytes.{Appends-trans}
@@ -7,17 +7,15 @@ use Rattle.std.proofs.lemmas.List.{append-nil}
 use Rattle.run_io.specs.Causes.{Rose}
 use Rattle.br_model.specs.declared.listing.Listing.{Listing}
 use Rattle.br_model.specs.declared.change.Change.{Change}
-use Rattle.br_model.specs.declared.steps.Step.{Step}
-use Rattle.br_model.specs.Limits.{most_bytes}
-use Rattle.br_model.specs.Listings.{listed, listed_at, listing_text}
-use Rattle.br_model.specs.Outcomes.{Call, Answers, Makes}
-use Rattle.br_model.specs.Plane.Naming.{named}
+use Rattle.br_model.specs.Table.Limits.{most_bytes}
+use Rattle.br_model.specs.Program.Listings.{listed, listed_at, listing_text}
+use Rattle.br_model.specs.Program.Outcomes.{Call, Answers, Makes}
 use Rattle.br_model.specs.Plane.Runs.{run}
 use Rattle.br_model.specs.Plane.World.{World, Stepped}
-use Rattle.br_model.specs.Roster.{Entry}
-use Rattle.br_model.specs.Runs.{body, told, told_of, run_of, setup_of}
-use Rattle.br_model.specs.Scenario.{Scenario, Ending, scenario}
-use Rattle.br_model.specs.Table.{table}
+use Rattle.br_model.specs.Text.Roster.{Entry}
+use Rattle.br_model.specs.Program.Runs.{body, told, told_of, run_of, setup_of}
+use Rattle.br_model.specs.Text.Scenario.{Scenario, Ending, scenario}
+use Rattle.br_model.specs.Table.Table.{table}
 use Rattle.br_model.proofs.Running.{run_none}
 use Rattle.capture_runner.specs.declared.replay.Halt.TheVariants as halts
 use Rattle.capture_runner.specs.declared.replay.Stop.{Stop}
@@ -144,7 +142,7 @@ module _ (left left_now before now : Option (List ℕ)) (r : Status) where
 
 history_is : (s : Scenario) (w : Option World) → session.IsWorld s w → session.history_of w ≡ (run_of s).0.history
 history_is s None h =
-    sym (ap (λ (x : Stepped). x.0.history) (ap (λ (steps : List Step). run (setup_of s.roster) (map named steps)) h ∙ run_none (setup_of s.roster)))
+    sym (ap (λ (x : Stepped). x.0.history) (ap (run (setup_of s.roster)) h ∙ run_none (setup_of s.roster)))
 history_is s (Some w) h = ap (λ (w : World). w.history) h.0
 
 listing_is : (listing : Listing) (s : Scenario) (x : Session) (last : Last) → session.Agrees s x → session.listing_or_bad listing last x.roster.ports x.world ≡ listed_at (session.ending_of last) listing s

@@ -6,11 +6,11 @@ use Rattle.std.proofs.Math.Seq.{take-append-add}
 use Rattle.std.proofs.lemmas.Bool.{true≢false}
 use Rattle.std.proofs.lemmas.List.{append-nil}
 use Rattle.run_io.specs.Reading.{Reading, Reads, IsEnd}
-use Rattle.br_model.specs.LineForms.{declaration, opening}
-use Rattle.br_model.specs.Roster.{Roster}
-use Rattle.br_model.specs.Outcomes.{HoldsNoEnd}
-use Rattle.br_model.specs.Runs.{run_of, setup_of, body_of, body}
-use Rattle.br_model.specs.Scenario.{Scenario, Going, Progress, opened, closes, read, reads, scenario}
+use Rattle.br_model.specs.Text.LineForms.{declaration, opening}
+use Rattle.br_model.specs.Text.Roster.{Roster}
+use Rattle.br_model.specs.Program.Outcomes.{HoldsNoEnd}
+use Rattle.br_model.specs.Program.Runs.{run_of, setup_of, body_of, body}
+use Rattle.br_model.specs.Text.Scenario.{Scenario, Going, Progress, opened, closes, read, reads, scenario}
 use Rattle.br_model.proofs.Endings.{has_ended, closes_ended}
 use Rattle.br_model.proofs.Reading.{closed, closes_keeps, scenario_is}
 use Rattle.capture_runner.specs.declared.session.Last.{Last}

@@ -6,10 +6,10 @@ use Rattle.br_model.specs.declared.scenario.LineWhy.{LineWhy}
 use Rattle.br_model.specs.declared.scenario.LineWhy.TheVariants.{Unended}
 use Rattle.br_model.specs.declared.scenario.Said.TheVariants.{Captures}
 use Rattle.br_model.specs.declared.steps.Step.{Step}
-use Rattle.br_model.specs.Captures.{packets}
-use Rattle.br_model.specs.Roster.{Roster}
-use Rattle.br_model.specs.Runs.{run_of, body_of}
-use Rattle.br_model.specs.Scenario.{Scenario, Ending, Going, Ended, Bad, Progress, bad, captured, closes_at, read, takes, takes_steps}
+use Rattle.br_model.specs.Wire.Captures.{packets}
+use Rattle.br_model.specs.Text.Roster.{Roster}
+use Rattle.br_model.specs.Program.Runs.{run_of, body_of}
+use Rattle.br_model.specs.Text.Scenario.{Scenario, Ending, Going, Ended, Bad, Progress, bad, captured, closes_at, read, takes, takes_steps}
 use Rattle.br_model.proofs.Endings.{read_ended}
 use Rattle.br_model.proofs.Reading.{read_line, read_part}
 use Rattle.capture_runner.specs.declared.session.Captured.{Captured}

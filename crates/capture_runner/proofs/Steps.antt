@@ -5,8 +5,8 @@ use Rattle.run_io.specs.Reading.{Reading, Reads, HasNoFeed, IsEnd, WantsLine, Ho
 use Rattle.br_model.specs.declared.scenario.LineWhy.{LineWhy}
 use Rattle.br_model.specs.declared.scenario.LineWhy.TheVariants.{Long}
 use Rattle.br_model.specs.declared.scenario.Said.{Said}
-use Rattle.br_model.specs.Runs.{run_of, body_of}
-use Rattle.br_model.specs.Scenario.{Scenario, Bad, Progress, closes, bad, read, takes, section_length, whole_says, longest_line}
+use Rattle.br_model.specs.Program.Runs.{run_of, body_of}
+use Rattle.br_model.specs.Text.Scenario.{Scenario, Bad, Progress, closes, bad, read, takes, section_length, whole_says, longest_line}
 use Rattle.br_model.proofs.Endings.{has_ended, read_ended}
 use Rattle.br_model.proofs.Reading.{read_line, read_bad, read_rest, read_long}
 use Rattle.capture_runner.specs.declared.session.Last.{Last}

@@ -1,18 +1,16 @@
 -- The text of a run, from its first line to its last.
-use Rattle.std.proofs.Common.{◌≡◌, ℕ, ◌≤◌, false, List, [], ◌∷◌, ◌++◌, length, None, Some, Option, Result, Ok, Err, refl, sym, ◌∙◌, ap, subst, map, arith, codes, append_assoc, length-append}
+use Rattle.std.proofs.Common.{◌≡◌, ℕ, ◌≤◌, false, List, [], ◌∷◌, ◌++◌, length, None, Some, Option, Result, Ok, Err, refl, sym, ◌∙◌, ap, subst, arith, codes, append_assoc, length-append}
 use Rattle.std.specs.Io.KnownBytes.{Appends, Consumes}
 use Rattle.std.proofs.KnownBytes.{Appends-trans}
 use Rattle.std.proofs.lemmas.List.{append-nil}
 use Rattle.run_io.specs.Reading.{Reading}
-use Rattle.br_model.specs.declared.steps.Step.{Step}
-use Rattle.br_model.specs.Limits.{most_bytes}
-use Rattle.br_model.specs.Plane.Naming.{named}
+use Rattle.br_model.specs.Table.Limits.{most_bytes}
 use Rattle.br_model.specs.Plane.Runs.{run, end_line}
 use Rattle.br_model.specs.Plane.World.{World, Stepped}
-use Rattle.br_model.specs.Roster.{Roster}
-use Rattle.br_model.specs.Runs.{run_of, body_of, body, told, last_text, setup_of}
-use Rattle.br_model.specs.Scenario.{Scenario, Ending, opened, scenario}
-use Rattle.br_model.specs.Transcript.{line_text}
+use Rattle.br_model.specs.Text.Roster.{Roster}
+use Rattle.br_model.specs.Program.Runs.{run_of, body_of, body, told, last_text, setup_of}
+use Rattle.br_model.specs.Text.Scenario.{Scenario, Ending, opened, scenario}
+use Rattle.br_model.specs.Text.Transcript.{line_text}
 use Rattle.br_model.proofs.Running.{run_none}
 use Rattle.capture_runner.specs.declared.replay.Halt.{Halt}
 use Rattle.capture_runner.specs.declared.replay.Halt.TheVariants.{Stopped, WriteFault}
@@ -74,7 +72,7 @@ grown before after old new all w = record { gone = w.gone; wrote = w.wrote; toge
 -- the last line
 
 last_world : (s : Scenario) (w : Option World) → IsWorld s w → end_line_of w ≡ end_line (run_of s).0
-last_world s None h = sym (ap (λ (x : Stepped). end_line x.0) (ap (λ (steps : List Step). run (setup_of s.roster) (map named steps)) h ∙ run_none (setup_of s.roster)))
+last_world s None h = sym (ap (λ (x : Stepped). end_line x.0) (ap (run (setup_of s.roster)) h ∙ run_none (setup_of s.roster)))
 last_world s (Some w) h = ap end_line h.0
 
 last_is : (s : Scenario) (w : Option World) (last : Last) → IsWorld s w → last_line last w ≡ last_text (ending_of last) (run_of s).0

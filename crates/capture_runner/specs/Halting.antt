@@ -11,11 +11,11 @@ use Rattle.run_io.specs.Causes.{Rose}
 use Rattle.run_io.specs.Reading.{Reading}
 use Rattle.br_model.specs.declared.listing.Listing.{Listing}
 use Rattle.br_model.specs.declared.steps.Step.{Step}
-use Rattle.br_model.specs.Limits.{most_bytes}
-use Rattle.br_model.specs.Listings.{listed}
-use Rattle.br_model.specs.Outcomes.{HoldsNoEnd}
-use Rattle.br_model.specs.Runs.{run_of, body_of, told}
-use Rattle.br_model.specs.Scenario.{Scenario, scenario}
+use Rattle.br_model.specs.Table.Limits.{most_bytes}
+use Rattle.br_model.specs.Program.Listings.{listed}
+use Rattle.br_model.specs.Program.Outcomes.{HoldsNoEnd}
+use Rattle.br_model.specs.Program.Runs.{run_of, body_of, told}
+use Rattle.br_model.specs.Text.Scenario.{Scenario, scenario}
 use Rattle.capture_runner.specs.declared.replay.Halt.{Halt}
 use Rattle.capture_runner.specs.declared.replay.Halt.TheVariants.{Stopped, WriteFault}
 use Rattle.capture_runner.specs.declared.replay.Stop.{Stop}

@@ -3,12 +3,12 @@ use Rattle.std.specs.Prelude.{ℕ, List, [], ◌∷◌, ◌++◌, codes}
 use Rattle.std.specs.declared.option.Option.{Option}
 use Rattle.std.specs.declared.option.Option.TheVariants.{None, Some}
 use Rattle.run_io.specs.Causes.{Rose}
-use Rattle.br_model.specs.Generator.{made}
-use Rattle.br_model.specs.Listings.{listed}
-use Rattle.br_model.specs.Outcomes.{Call, Wrote, Makes, Answers, AnswersBad, IsNotTooLong, StopsAfter, StopsFullAfter}
-use Rattle.br_model.specs.Runs.{body, told}
-use Rattle.br_model.specs.Scenario.{Ended}
-use Rattle.br_model.specs.Summary.{summary}
+use Rattle.br_model.specs.Program.Generator.{made}
+use Rattle.br_model.specs.Program.Listings.{listed}
+use Rattle.br_model.specs.Program.Outcomes.{Call, Wrote, Makes, Answers, AnswersBad, IsNotTooLong, StopsAfter, StopsFullAfter}
+use Rattle.br_model.specs.Program.Runs.{body, told}
+use Rattle.br_model.specs.Text.Scenario.{Ended}
+use Rattle.br_model.specs.Program.Summary.{summary}
 use Rattle.capture_runner.specs.declared.asked.Asked.{Asked}
 use Rattle.capture_runner.specs.declared.asked.Asked.TheVariants.{Replay, Show, Gen, Demo}
 use Rattle.capture_runner.specs.declared.status.Status.{Status}

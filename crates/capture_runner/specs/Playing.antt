@@ -8,11 +8,11 @@ use Rattle.std.specs.Io.KnownBytes.{Consumes}
 use Rattle.run_io.specs.Reading.{Reading}
 use Rattle.br_model.specs.declared.scenario.Said.TheVariants.{Captures}
 use Rattle.br_model.specs.declared.steps.Step.{Step}
-use Rattle.br_model.specs.Operands.{longest_section}
-use Rattle.br_model.specs.Outcomes.{GoesOn, HoldsNoEnd}
-use Rattle.br_model.specs.Runs.{run_of, body_of, body}
-use Rattle.br_model.specs.Scenario.{Scenario, Going, opened, read, scenario, whole_says}
-use Rattle.br_model.specs.WholeLines.{is_line}
+use Rattle.br_model.specs.Text.Operands.{longest_section}
+use Rattle.br_model.specs.Program.Outcomes.{GoesOn, HoldsNoEnd}
+use Rattle.br_model.specs.Program.Runs.{run_of, body_of, body}
+use Rattle.br_model.specs.Text.Scenario.{Scenario, Going, opened, read, scenario, whole_says}
+use Rattle.br_model.specs.Theorems.WholeLines.{is_line}
 use Rattle.capture_runner.specs.declared.session.Last.{Last}
 use Rattle.capture_runner.specs.declared.session.Session.{Session}
 use Rattle.capture_runner.specs.Session.{Agrees, Follows, IsWorld, IsAmongSteps, captures, ending_of, with_steps}

@@ -5,9 +5,9 @@ use Rattle.std.specs.declared.result.Result.{Result}
 use Rattle.std.specs.declared.result.Result.TheVariants.{Ok, Err}
 use Rattle.br_model.specs.declared.capture.Packet.{Packet}
 use Rattle.br_model.specs.declared.steps.Step.{Step}
-use Rattle.br_model.specs.Captures.{packets}
-use Rattle.br_model.specs.Roster.{Entry}
-use Rattle.br_model.specs.Scenario.{entered}
+use Rattle.br_model.specs.Wire.Captures.{packets}
+use Rattle.br_model.specs.Text.Roster.{Entry}
+use Rattle.br_model.specs.Text.Scenario.{entered}
 use Rattle.pcapng_read.specs.declared.fault.CapFault.{CapFault}
 use Rattle.pcapng_read.specs.declared.fault.CapFault.TheVariants.{At, NoMemory}
 

@@ -13,19 +13,18 @@ use Rattle.br_model.specs.declared.scenario.Said.TheVariants as said
 use Rattle.br_model.specs.declared.steps.Step.{Step}
 use Rattle.br_model.specs.declared.transcript.Line.{Line}
 use Rattle.br_model.specs.declared.transcript.Line.TheVariants.{End}
-use Rattle.br_model.specs.Captures.{packets}
-use Rattle.br_model.specs.LineForms.{declaration, opening}
-use Rattle.br_model.specs.Listings.{listing_text}
-use Rattle.br_model.specs.Operands.{longest_section}
-use Rattle.br_model.specs.Plane.Naming.{named}
+use Rattle.br_model.specs.Wire.Captures.{packets}
+use Rattle.br_model.specs.Text.LineForms.{declaration, opening}
+use Rattle.br_model.specs.Program.Listings.{listing_text}
+use Rattle.br_model.specs.Text.Operands.{longest_section}
 use Rattle.br_model.specs.Plane.Runs.{end_line}
 use Rattle.br_model.specs.Plane.Steps.{world_step}
 use Rattle.br_model.specs.Plane.World.{World, first_world}
-use Rattle.br_model.specs.Roster.{Entry, Roster}
-use Rattle.br_model.specs.Runs.{run_of, body_of, setup_of}
-use Rattle.br_model.specs.Scenario.{Scenario, Ending, Going, Ended, Bad, bad, captured, section_length, takes, takes_steps, whole_says}
-use Rattle.br_model.specs.Table.{table}
-use Rattle.br_model.specs.Transcript.{text, line_text, bad_text}
+use Rattle.br_model.specs.Text.Roster.{Entry, Roster}
+use Rattle.br_model.specs.Program.Runs.{run_of, body_of, setup_of}
+use Rattle.br_model.specs.Text.Scenario.{Scenario, Ending, Going, Ended, Bad, bad, captured, section_length, takes, takes_steps, whole_says}
+use Rattle.br_model.specs.Table.Table.{table}
+use Rattle.br_model.specs.Text.Transcript.{text, line_text, bad_text}
 use Rattle.capture_runner.specs.declared.session.Captured.{Captured}
 use Rattle.capture_runner.specs.declared.session.Captured.TheVariants as sections
 use Rattle.capture_runner.specs.declared.session.Last.{Last}
@@ -35,7 +34,7 @@ use Rattle.capture_runner.specs.declared.session.Next.TheVariants.{Line as NextL
 use Rattle.capture_runner.specs.declared.session.Session.{Session}
 use Rattle.capture_runner.specs.declared.status.Status.{Status}
 use Rattle.capture_runner.specs.declared.status.Status.TheVariants as statuses
-use Rattle.scenario_text.specs.Items.{in_time}
+use Rattle.br_model.specs.Text.LineForms.{comes_by_line}
 
 -- after the declarations
 abbrev pub IsAmongSteps : Scenario → Type 0
@@ -109,22 +108,30 @@ IsCaptured x section (sections.Steps steps) = captured x.roster.ports (packets s
 IsCaptured x section (sections.End last) =
     (why : LineWhy) × (captured x.roster.ports (packets section (length x.roster.ports)) ≡ Err why) × (last ≡ lasts.Bad x.lines why)
 
--- the moment of each step is one that a line can say
-abbrev pub AreInTime : Captured → Type 0
-AreInTime (sections.Steps steps) = list_all in_time steps.items ≡ true
-AreInTime (sections.End last) = Unit {0}
+-- each step is one that a line can give
+abbrev pub ComeByLine : Captured → Type 0
+ComeByLine (sections.Steps steps) = list_all comes_by_line steps.items ≡ true
+ComeByLine (sections.End last) = Unit {0}
 
 -- the world of a session before a step
 abbrev pub world_of : Roster → Option World → World
 world_of roster None = first_world (setup_of roster)
 world_of roster (Some w) = w
 
+-- a step was done in a world, and these are its lines
+abbrev pub Tells : World → Step → World → List Line → Type 0
+Tells old step new lines = (new, lines) ≡ world_step old step
+
+-- the session after the step in that world
+abbrev pub IsAfter : World → Step → Session → Type 0
+IsAfter w step x = (x.world ≡ Some (world_step w step).0) × (x.told.lines ≡ (world_step w step).1)
+
 -- a step was done
 pub record Does (old : Session) (step : Step) (before : List ℕ) (new : Session) (after : List ℕ) : Type 0 where
   pub lines : new.lines ≡ old.lines
   pub roster : new.roster ≡ old.roster
-  pub world : new.world ≡ Some (world_step (world_of old.roster old.world) (named step)).0
-  pub text : after ≡ before ++ text (world_step (world_of old.roster old.world) (named step)).1
+  pub world : new.world ≡ Some (world_step (world_of old.roster old.world) step).0
+  pub text : after ≡ before ++ text (world_step (world_of old.roster old.world) step).1
 
 abbrev pub end_line_of : Option World → Line
 end_line_of None = End 0 0 0 0

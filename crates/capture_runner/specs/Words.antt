@@ -7,9 +7,9 @@ use Rattle.std.specs.Option.{option_and_then, option_map}
 use Rattle.std.specs.Str.{bytes_eq}
 use Rattle.br_model.specs.declared.listing.Listing.{Listing}
 use Rattle.br_model.specs.declared.listing.Listing.TheVariants.{Fdb, Vlan, Mdb}
-use Rattle.br_model.specs.Digits.{number_up_to}
-use Rattle.br_model.specs.Generator.{most_frames}
-use Rattle.br_model.specs.Words.{Word}
+use Rattle.br_model.specs.Data.Digits.{number_up_to}
+use Rattle.br_model.specs.Program.Generator.{most_frames}
+use Rattle.br_model.specs.Text.Words.{Word}
 use Rattle.clap.specs.Words.{App, Kinds, Row, Rule, first_of, fault_of, new_app, new_rule, subcommand_of, with_rule, with_subcommand}
 use Rattle.clap.specs.Simple.{on_top}
 use Rattle.capture_runner.specs.declared.asked.Asked.{Asked}

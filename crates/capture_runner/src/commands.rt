@@ -1,9 +1,9 @@
 //! What each command does, to its last line.
 ghost use Rattle.std.specs.Prelude.{◌≡◌, ℕ, ◌≤◌, [], List, Option, OnOk, string_bytes};
-ghost use Rattle.br_model.specs.Generator.{made, most_frames};
-ghost use Rattle.br_model.specs.Listings.{listed};
-ghost use Rattle.br_model.specs.Runs.{body, told};
-ghost use Rattle.br_model.specs.Summary.{summary as summary_of};
+ghost use Rattle.br_model.specs.Program.Generator.{made, most_frames};
+ghost use Rattle.br_model.specs.Program.Listings.{listed};
+ghost use Rattle.br_model.specs.Program.Runs.{body, told};
+ghost use Rattle.br_model.specs.Program.Summary.{summary as summary_of};
 ghost use Rattle.run_io.specs.Causes.{HasCause};
 ghost use Rattle.capture_runner.specs.Advancing.{Caused as StopsBy};
 ghost use Rattle.capture_runner.specs.Generating.{HasRoom, PutsAll};
@@ -23,7 +23,8 @@ use std::alloc::Global;
 
 /// `replay`: the transcript is written while the scenario is read.
 pub(crate) fn replay<S: Source, K: Sink>(alloc: Global, source: &mut S, sink: &mut K) -> Status
-    ensures outcome { Reads told body anything result (record { left_before = S.left source.old; left_now = S.left source.new; taken_before = K.taken sink.old; taken_now = K.taken sink.new }) }
+    ensures outcome { Reads told body anything result
+        (record { left_before = S.left source.old; left_now = S.left source.new; taken_before = K.taken sink.old; taken_now = K.taken sink.new }) }
     ensures cause { Caused result (S.faults source.old) (S.faults source.new) (K.faults sink.old) (K.faults sink.new) }
 {
     let (Ok(mut output), Ok(mut session)) = (Output::make(alloc), Session::new(alloc)) else {
@@ -62,7 +63,8 @@ pub(crate) fn show<S: Source, K: Sink>(
     source: &mut S,
     sink: &mut K,
 ) -> Status
-    ensures outcome { Reads (listed listing) nothing alone result (record { left_before = S.left source.old; left_now = S.left source.new; taken_before = K.taken sink.old; taken_now = K.taken sink.new }) }
+    ensures outcome { Reads (listed listing) nothing alone result
+        (record { left_before = S.left source.old; left_now = S.left source.new; taken_before = K.taken sink.old; taken_now = K.taken sink.new }) }
     ensures cause { Caused result (S.faults source.old) (S.faults source.new) (K.faults sink.old) (K.faults sink.new) }
 {
     match listing_of(alloc, listing, source) {
@@ -78,7 +80,8 @@ fn put_frames<K: Sink>(
     output: &mut Output,
 ) -> Result<(), WriteFault>
     requires room { HasRoom output.old }
-    ensures puts { OnOk result (PutsAll frames.old frames.new (K.taken sink.old) (K.taken sink.new) (string_bytes output.old.text) (string_bytes output.new.text)) }
+    ensures puts { OnOk result (PutsAll frames.old frames.new (K.taken sink.old) (K.taken sink.new)
+        (string_bytes output.old.text) (string_bytes output.new.text)) }
     ensures room { OnOk result (HasRoom output.new) }
     ensures cause { HasCause (K.faults sink.old) (K.faults sink.new) result }
 {
@@ -92,7 +95,8 @@ fn put_frames<K: Sink>(
 /// `gen`: all memory is there before the first write.
 pub(crate) fn generate<K: Sink>(alloc: Global, number: u64, count: u32, sink: &mut K) -> Status
     requires { count ≤ most_frames }
-    ensures outcome { (left : Option (List ℕ)) → Writes (made number count) result (record { left_before = left; left_now = left; taken_before = K.taken sink.old; taken_now = K.taken sink.new }) }
+    ensures outcome { (left : Option (List ℕ)) → Writes (made number count) result
+        (record { left_before = left; left_now = left; taken_before = K.taken sink.old; taken_now = K.taken sink.new }) }
     ensures cause { (reads : ℕ) → Caused result reads reads (K.faults sink.old) (K.faults sink.new) }
 {
     let Ok(mut output) = Output::make(alloc) else {
@@ -112,7 +116,8 @@ pub(crate) fn generate<K: Sink>(alloc: Global, number: u64, count: u32, sink: &m
 /// `demo`: the summary is written when the run is over.
 pub(crate) fn demo<K: Sink>(alloc: Global, number: u64, count: u32, sink: &mut K) -> Status
     requires { count ≤ most_frames }
-    ensures outcome { (left : Option (List ℕ)) → Writes (summary_of number count) result (record { left_before = left; left_now = left; taken_before = K.taken sink.old; taken_now = K.taken sink.new }) }
+    ensures outcome { (left : Option (List ℕ)) → Writes (summary_of number count) result
+        (record { left_before = left; left_now = left; taken_before = K.taken sink.old; taken_now = K.taken sink.new }) }
     ensures cause { (reads : ℕ) → Caused result reads reads (K.faults sink.old) (K.faults sink.new) }
 {
     match summary(alloc, number, count) {

@@ -1,18 +1,21 @@
 //! The run of a generated scenario, of which lines are counted alone.
 ghost use Rattle.std.specs.Prelude.{◌≡◌, ◌+◌, ◌≤◌, ◌∷◌, ◌++◌, [], true, IfOk, OnOk, codes, decimal, string_bytes};
 ghost use Rattle.std.specs.List.{list_all};
-ghost use Rattle.br_model.specs.Generator.{most_frames};
-ghost use Rattle.br_model.specs.Summary.{summary as summary_of};
-ghost use Rattle.capture_runner.specs.Counting.{Adds, RunsOn};
-ghost use Rattle.scenario_text.specs.Items.{in_time};
+ghost use Rattle.br_model.specs.Program.Generator.{most_frames};
+ghost use Rattle.br_model.specs.Program.Summary.{summary as summary_of};
+ghost use Rattle.transcript_lines.specs.Rows.{expand_row};
+ghost use Rattle.capture_runner.specs.Counting.{Adds, AddsSent, RunsOn};
+ghost use Rattle.br_model.specs.Text.LineForms.{comes_by_line};
 
 use crate::NoMemory;
 use crate::world::World;
 use br_model::numbers::Mac;
 use br_model::steps::Step;
 use br_model::transcript::Line;
+use port_sets::Ports;
 use scenario_text::{Generator, domains, first_steps};
 use std::alloc::{AllocError, Global};
+use transcript_lines::{Lines, Row};
 
 /// How many lines begin with each of these words.
 #[derive(Clone, Copy)]
@@ -62,11 +65,32 @@ impl Tally {
         Ok(())
     }
 
-    fn add_all(&mut self, lines: &[Line]) -> Result<(), NoMemory>
-        ensures { OnOk result (Adds self.old lines.now self.new) }
+    /// A line for each of the ports by which a frame leaves.
+    fn add_sent(&mut self, ports: Ports) -> Result<(), NoMemory>
+        ensures { OnOk result (AddsSent self.old ports self.new) }
     {
-        for line in lines {
-            self.add(line)?;
+        'ports: for _ in ports.iter() {
+            self.tx = next(self.tx)?;
+        }
+        Ok(())
+    }
+
+    fn add_row(&mut self, row: &Row, arena: &[u8]) -> Result<(), NoMemory>
+        ensures { OnOk result (Adds self.old (expand_row arena.now row.now) self.new) }
+    {
+        match row {
+            Row::One(line) => self.add(line),
+            Row::Sent { ports, .. } => self.add_sent(*ports),
+            Row::Ctl { .. } => Ok(()),
+        }
+    }
+
+    fn add_all(&mut self, lines: &Lines) -> Result<(), NoMemory>
+        ensures { OnOk result (Adds self.old lines.now.lines self.new) }
+    {
+        let (rows, arena) = lines.parts();
+        for row in rows {
+            self.add_row(row, arena)?;
         }
         Ok(())
     }
@@ -79,7 +103,9 @@ impl Tally {
         changes: u32,
         pending: u32,
     ) -> Result<String, NoMemory>
-        ensures { IfOk result (λ text. string_bytes text ≡ codes "demo frames " ++ (decimal frames ++ (codes " chip " ++ (decimal self.now.chip ++ (codes " soft " ++ (decimal self.now.soft ++ (codes " tx " ++ (decimal self.now.tx ++ (codes " overrun " ++ (decimal self.now.overrun ++ (codes " changes " ++ (decimal changes ++ (codes " pending " ++ (decimal pending ++ 10 ∷ [])))))))))))))) }
+        ensures { IfOk result (λ text. string_bytes text ≡ codes "demo frames " ++ (decimal frames ++ (codes " chip " ++ (decimal self.now.chip
+            ++ (codes " soft " ++ (decimal self.now.soft ++ (codes " tx " ++ (decimal self.now.tx ++ (codes " overrun " ++ (decimal self.now.overrun
+            ++ (codes " changes " ++ (decimal changes ++ (codes " pending " ++ (decimal pending ++ 10 ∷ [])))))))))))))) }
     {
         let mut text = String::new(alloc);
         append_count("demo frames ", u64::from(frames), &mut text)?;
@@ -99,14 +125,16 @@ fn do_steps(
     alloc: Global,
     steps: Vec<Step>,
     world: &mut World,
+    lines: &mut Lines,
     tally: &mut Tally,
 ) -> Result<(), NoMemory>
-    requires { list_all in_time steps.items ≡ true }
+    requires { list_all comes_by_line steps.items ≡ true }
     ensures { OnOk result (RunsOn world.old tally.old steps.items world.new tally.new) }
 {
     for step in steps {
-        let lines = world.step(alloc, step)?;
-        tally.add_all(lines.as_slice())?;
+        lines.clear();
+        world.step(alloc, step, lines)?;
+        tally.add_all(lines)?;
     }
     Ok(())
 }
@@ -117,12 +145,19 @@ pub(crate) fn summary(alloc: Global, number: u64, count: u32) -> Result<String, 
     ensures { IfOk result (λ text. string_bytes text ≡ summary_of number count) }
 {
     let mut world = World::make(alloc, domains(), Mac::FIRST_OWN)?;
+    let mut lines = Lines::new(alloc);
     let mut tally = Tally::NONE;
-    do_steps(alloc, first_steps(alloc)?, &mut world, &mut tally)?;
+    do_steps(
+        alloc,
+        first_steps(alloc)?,
+        &mut world,
+        &mut lines,
+        &mut tally,
+    )?;
     let mut frames = Generator::new(number, count);
     while frames.left() > 0 {
         let steps = frames.frame_steps(alloc)?;
-        do_steps(alloc, steps, &mut world, &mut tally)?;
+        do_steps(alloc, steps, &mut world, &mut lines, &mut tally)?;
     }
     tally.line(alloc, count, world.changes(), world.pending())
 }

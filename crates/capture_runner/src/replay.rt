@@ -2,19 +2,20 @@
 ghost use Rattle.std.specs.Prelude.{◌≡◌, ℕ, false, ◌-◌, ◌<◌, ◌≤◌, ◌^◌, [], true, None, IfOk, OnOk, string_bytes};
 ghost use Rattle.std.specs.List.{list_all};
 ghost use Rattle.std.specs.String.{string_capacity, string_len};
-ghost use Rattle.br_model.specs.Operands.{longest_section};
-ghost use Rattle.br_model.specs.Scenario.{opened};
+ghost use Rattle.br_model.specs.Text.Operands.{longest_section};
+ghost use Rattle.br_model.specs.Text.Scenario.{opened};
 ghost use Rattle.run_io.specs.Causes.{HasCause};
 ghost use Rattle.run_io.specs.Reading.{max_line, room};
 ghost use Rattle.run_io.specs.Writing.{full_length};
 ghost use Rattle.capture_runner.specs.Advancing.{Advances, Caused, Lessens, Sections};
 ghost use Rattle.capture_runner.specs.Halting.{DoesAll, Halts, Moves, Plays, PlaysSection, Stalls};
-ghost use Rattle.capture_runner.specs.Session.{AreInTime, Follows};
+ghost use Rattle.capture_runner.specs.Session.{ComeByLine, Follows};
 ghost use Rattle.capture_runner.specs.Stopping.{stop_line, stop_status};
-ghost use Rattle.scenario_text.specs.Items.{in_time};
+ghost use Rattle.br_model.specs.Text.LineForms.{comes_by_line};
 
 use crate::session::{Captured, Last, Next, Session};
 use crate::status::Status;
+use br_model::limits::MOST_BYTES;
 use br_model::scenario::LineWhy;
 use br_model::steps::Step;
 use run_io::lines::{LineFault, LineReader};
@@ -22,9 +23,6 @@ use run_io::output::Output;
 use run_io::sinks::{Sink, WriteFault};
 use run_io::sources::Source;
 use std::alloc::{AllocError, Global};
-
-/// How many bytes are taken at most.
-const LIMIT: u32 = 1 << 28;
 
 /// Why a run stopped before its scenario ended.
 #[derive(Clone, Copy, PartialEq, Eq)]
@@ -77,7 +75,8 @@ pub(crate) fn advance<S: Source>(
 ) -> Result<Next, Stop>
     requires sound { reader.old.fault ≡ None }
     requires few { session.old.lines < 2 ^ 32 - 1 }
-    ensures advances { (limit : ℕ) → Advances limit reader.old reader.new (S.left source.old) (S.left source.new) session.old session.new (string_bytes text.old) (string_bytes text.new) result }
+    ensures advances { (limit : ℕ) → Advances limit reader.old reader.new (S.left source.old) (S.left source.new)
+        session.old session.new (string_bytes text.old) (string_bytes text.new) result }
     ensures less { IfOk result (Lessens (room reader.old) (room reader.new)) }
     ensures cause { Caused (S.faults source.old) (S.faults source.new) result }
     ensures later { S.faults source.old ≤ S.faults source.new }
@@ -109,7 +108,7 @@ fn read_section<S: Source>(
     requires sound { reader.old.fault ≡ None }
     requires most { length ≤ longest_section }
     ensures sections { (limit : ℕ) → Sections limit reader.old reader.new (S.left source.old) (S.left source.new) session.now length result }
-    ensures in_time { IfOk result AreInTime }
+    ensures by_line { IfOk result ComeByLine }
     ensures less { OnOk result (room reader.new ≤ room reader.old) }
     ensures cause { Caused (S.faults source.old) (S.faults source.new) result }
     ensures later { S.faults source.old ≤ S.faults source.new }
@@ -203,8 +202,9 @@ fn do_steps<K: Sink>(
     output: &mut Output,
     steps: Vec<Step>,
 ) -> Result<(), Halt>
-    requires { list_all in_time steps.items ≡ true }
-    ensures does { OnOk result (DoesAll session.old steps.items session.new (K.taken sink.old) (K.taken sink.new) (string_bytes output.old.text) (string_bytes output.new.text)) }
+    requires { list_all comes_by_line steps.items ≡ true }
+    ensures does { OnOk result (DoesAll session.old steps.items session.new
+        (K.taken sink.old) (K.taken sink.new) (string_bytes output.old.text) (string_bytes output.new.text)) }
     ensures cause { Stalls (K.faults sink.old) (K.faults sink.new) result }
     ensures later { K.faults sink.old ≤ K.faults sink.new }
 {
@@ -228,7 +228,8 @@ fn play_section<S: Source, K: Sink>(
 ) -> Result<Option<Last>, Halt>
     requires sound { reader.old.fault ≡ None }
     requires most { length ≤ longest_section }
-    ensures plays { PlaysSection reader.old reader.new (S.left source.old) (S.left source.new) session.old session.new (K.taken sink.old) (K.taken sink.new) (string_bytes output.old.text) (string_bytes output.new.text) length result }
+    ensures plays { PlaysSection reader.old reader.new (S.left source.old) (S.left source.new)
+        session.old session.new (K.taken sink.old) (K.taken sink.new) (string_bytes output.old.text) (string_bytes output.new.text) length result }
     ensures less { OnOk result (room reader.new ≤ room reader.old) }
     ensures cause { Halts (S.faults source.old) (S.faults source.new) (K.faults sink.old) (K.faults sink.new) result }
     ensures later { S.faults source.old ≤ S.faults source.new }
@@ -261,7 +262,7 @@ pub(crate) fn play<S: Source, K: Sink>(
     ensures later { K.faults sink.old ≤ K.faults sink.new }
 {
     output.text.push_str("transcript 1\n")?;
-    let mut reader = LineReader::make(alloc, LIMIT);
+    let mut reader = LineReader::make(alloc, MOST_BYTES);
     loop {
         put_before_read(&reader, output, sink)?;
         let text = &mut output.text;

@@ -1,10 +1,10 @@
 //! The packets of a section as steps.
 ghost use Rattle.std.specs.Prelude.{◌≡◌, ◌<◌, ◌≤◌, ◌++◌, ◌∷◌, [], length, true, IfOk, OnOk};
 ghost use Rattle.std.specs.List.{list_all};
-ghost use Rattle.br_model.specs.Operands.{longest_section};
-ghost use Rattle.br_model.specs.Scenario.{entered};
+ghost use Rattle.br_model.specs.Text.Operands.{longest_section};
+ghost use Rattle.br_model.specs.Text.Scenario.{entered};
 ghost use Rattle.capture_runner.specs.Section.{Gives};
-ghost use Rattle.scenario_text.specs.Items.{in_time};
+ghost use Rattle.br_model.specs.Text.LineForms.{comes_by_line};
 
 use crate::NoMemory;
 use br_model::steps::Step;
@@ -35,7 +35,7 @@ pub(crate) fn captured_steps(
 ) -> Result<Vec<Step>, CapFault>
     requires { length section.now ≤ longest_section }
     ensures gives { Gives roster.now.ports section.now result }
-    ensures in_time { IfOk result (λ steps. list_all in_time steps.items ≡ true) }
+    ensures by_line { IfOk result (λ steps. list_all comes_by_line steps.items ≡ true) }
 {
     let mut blocks = Blocks::of(alloc, section, roster.len() as u32);
     let mut steps = Vec::new(alloc);

@@ -1,12 +1,11 @@
 //! A run of a scenario, line by line.
-ghost use Rattle.std.specs.Prelude.{◌≡◌, ℕ, ◌+◌, ◌-◌, ◌<◌, ◌≤◌, ◌^◌, ◌++◌, length, true, false, None, Some, IfOk, OnOk, OnErr, string_bytes};
-ghost use Rattle.br_model.specs.Operands.{longest_section};
-ghost use Rattle.br_model.specs.Plane.Naming.{named};
-ghost use Rattle.br_model.specs.Plane.Steps.{world_step};
-ghost use Rattle.br_model.specs.Scenario.{Scenario, opened, longest_line, closes};
-ghost use Rattle.br_model.specs.Table.{table};
-ghost use Rattle.capture_runner.specs.Session.{Follows, Takes, IsCaptured, AreInTime, Does, ending_of, world_of, end_line_of, last_line, history_of, listing_or_bad, status_of};
-ghost use Rattle.scenario_text.specs.Items.{in_time};
+ghost use Rattle.std.specs.Prelude.{◌≡◌, ℕ, ◌+◌, ◌-◌, ◌<◌, ◌≤◌, ◌^◌, ◌++◌, [], length, take, true, false, None, Some, IfOk, OnOk, OnErr, string_bytes};
+ghost use Rattle.br_model.specs.Text.Operands.{longest_section};
+ghost use Rattle.br_model.specs.Text.Scenario.{Scenario, opened, longest_line, closes};
+ghost use Rattle.br_model.specs.Table.Table.{table};
+ghost use Rattle.capture_runner.specs.Session.{Follows, Takes, IsAfter, IsCaptured, ComeByLine, Does, ending_of, world_of, end_line_of, last_line, history_of, listing_or_bad, status_of};
+ghost use Rattle.br_model.specs.Text.LineForms.{comes_by_line};
+ghost use Rattle.std.specs.String.Boundary.{IsSplitPoint};
 ghost use Rattle.transcript_text.specs.Extends.{Extends};
 
 use crate::NoMemory;
@@ -17,11 +16,12 @@ use br_model::listing::Listing;
 use br_model::plain::table::Table;
 use br_model::scenario::{Item, LineWhy, Place};
 use br_model::steps::Step;
-use br_model::transcript::{Line, Lines};
+use br_model::transcript::Line;
 use bridge_command::Roster;
 use pcapng_read::CapFault;
 use scenario_text::{list, read_line, says_end};
 use std::alloc::{AllocError, Global};
+use transcript_lines::Lines;
 use transcript_text::{Writer, append_bad};
 
 /// How a scenario ends: by its line `end`, or by the bad line of that number, for that cause.
@@ -68,6 +68,8 @@ pub(crate) struct Session {
     lines: u32,
     roster: Roster,
     world: Option<World>,
+    // Those of the last step, in the memory of those before.
+    told: Lines,
     writer: Writer,
 }
 
@@ -80,6 +82,7 @@ impl Session {
             lines: 0,
             roster: Roster::make(alloc, false)?,
             world: None,
+            told: Lines::new(alloc),
             writer: Writer::new(alloc),
         })
     }
@@ -96,7 +99,7 @@ impl Session {
         requires few { self.old.lines < 2 ^ 32 - 1 }
         ensures takes { IfOk result (Takes self.old line.now (string_bytes text.old) self.new (string_bytes text.new)) }
         ensures lines { OnOk result (self.new.lines ≤ self.old.lines + 1) }
-        ensures err { OnErr result (Extends (string_bytes text.old) (string_bytes text.new)) }
+        ensures err { OnErr result (string_bytes text.new ≡ string_bytes text.old) }
     {
         let item = match read_line(alloc, line, &mut self.roster) {
             Ok(item) => item,
@@ -122,7 +125,7 @@ impl Session {
     pub(crate) fn captured(&self, alloc: Global, section: &[u8]) -> Result<Captured, NoMemory>
         requires { length section.now ≤ longest_section }
         ensures gives { IfOk result (IsCaptured self.now section.now) }
-        ensures in_time { IfOk result AreInTime }
+        ensures by_line { IfOk result ComeByLine }
     {
         match captured_steps(alloc, section, &self.roster) {
             Ok(steps) => Ok(Captured::Steps(steps)),
@@ -140,30 +143,32 @@ impl Session {
         Last::Bad(self.lines, why)
     }
 
-    /// Does the first step, in a new world. The answer is its lines. A world is large, so its making has a function of its own:
-    /// each call pays for the room of its locals.
-    fn begin(&mut self, alloc: Global, step: Step) -> Result<Lines, NoMemory>
+    /// Does the first step, in a new world. A world is large, so its making has a function of its own: each call pays for the room
+    /// of its locals.
+    fn begin(&mut self, alloc: Global, step: Step) -> Result<(), NoMemory>
         requires first { self.old.world ≡ None }
-        requires moment { in_time step ≡ true }
+        requires by_line { comes_by_line step ≡ true }
+        requires empty { self.old.told.lines ≡ [] }
         ensures lines { OnOk result (self.new.lines ≡ self.old.lines) }
         ensures roster { OnOk result (self.new.roster ≡ self.old.roster) }
-        ensures world { IfOk result (λ lines. (self.new.world ≡ Some (world_step (world_of self.old.roster None) (named step)).0) × (lines ≡ (world_step (world_of self.old.roster None) (named step)).1)) }
+        ensures does { OnOk result (IsAfter (world_of self.old.roster None) step self.new) }
     {
         let mut world = World::make(alloc, self.roster.domains(), self.roster.own())?;
-        let lines = world.step(alloc, step)?;
+        world.step(alloc, step, &mut self.told)?;
         self.world = Some(world);
-        Ok(lines)
+        Ok(())
     }
 
-    /// Does a step in the world that is there, or in a new one. The answer is its lines.
-    fn go_on(&mut self, alloc: Global, step: Step) -> Result<Lines, NoMemory>
-        requires { in_time step ≡ true }
+    /// Does a step in the world that is there, or in a new one.
+    fn go_on(&mut self, alloc: Global, step: Step) -> Result<(), NoMemory>
+        requires by_line { comes_by_line step ≡ true }
+        requires empty { self.old.told.lines ≡ [] }
         ensures lines { OnOk result (self.new.lines ≡ self.old.lines) }
         ensures roster { OnOk result (self.new.roster ≡ self.old.roster) }
-        ensures world { IfOk result (λ lines. (self.new.world ≡ Some (world_step (world_of self.old.roster self.old.world) (named step)).0) × (lines ≡ (world_step (world_of self.old.roster self.old.world) (named step)).1)) }
+        ensures does { OnOk result (IsAfter (world_of self.old.roster self.old.world) step self.new) }
     {
         match &mut self.world {
-            Some(world) => world.step(alloc, step),
+            Some(world) => world.step(alloc, step, &mut self.told),
             None => self.begin(alloc, step),
         }
     }
@@ -175,12 +180,15 @@ impl Session {
         step: Step,
         text: &mut String,
     ) -> Result<(), NoMemory>
-        requires { in_time step ≡ true }
+        requires { comes_by_line step ≡ true }
         ensures does { OnOk result (Does self.old step (string_bytes text.old) self.new (string_bytes text.new)) }
-        ensures err { OnErr result (Extends (string_bytes text.old) (string_bytes text.new)) }
+        ensures err { OnErr result (string_bytes text.new ≡ string_bytes text.old) }
     {
-        let lines = self.go_on(alloc, step)?;
-        self.writer.append_lines(lines.as_slice(), text)
+        self.told.clear();
+        self.go_on(alloc, step)?;
+        let whole = text.as_bytes().len();
+        let appended = self.writer.append_lines(&self.told, text);
+        cut_if_torn(appended, whole, text)
     }
 
     /// How the scenario ends where its bytes end in this line.
@@ -248,8 +256,8 @@ impl Session {
         }
     }
 
-    /// Writes the last line after the text.
-    pub(crate) fn end(&mut self, last: Last, text: &mut String) -> Result<(), NoMemory>
+    /// Appends the last line. After want of memory a part of it may stand there.
+    fn append_last(&mut self, last: Last, text: &mut String) -> Result<(), NoMemory>
         ensures roster { self.new.roster ≡ self.old.roster }
         ensures world { self.new.world ≡ self.old.world }
         ensures ok { OnOk result (string_bytes text.new ≡ string_bytes text.old ++ last_line last self.old.world) }
@@ -263,4 +271,33 @@ impl Session {
             Last::Bad(number, why) => append_bad(number, why, text),
         }
     }
+
+    /// Writes the last line after the text.
+    pub(crate) fn end(&mut self, last: Last, text: &mut String) -> Result<(), NoMemory>
+        ensures roster { self.new.roster ≡ self.old.roster }
+        ensures world { self.new.world ≡ self.old.world }
+        ensures ok { OnOk result (string_bytes text.new ≡ string_bytes text.old ++ last_line last self.old.world) }
+        ensures err { OnErr result (string_bytes text.new ≡ string_bytes text.old) }
+    {
+        let whole = text.as_bytes().len();
+        let appended = self.append_last(last, text);
+        cut_if_torn(appended, whole, text)
+    }
+}
+
+/// Where what was appended found no room, the text is cut back to its first `whole` bytes, so that no torn line stands there.
+fn cut_if_torn(
+    appended: Result<(), NoMemory>,
+    whole: usize,
+    text: &mut String,
+) -> Result<(), NoMemory>
+    requires seam { OnErr appended (IsSplitPoint (string_bytes text.old) whole) }
+    ensures same { result ≡ appended }
+    ensures ok { OnOk result (string_bytes text.new ≡ string_bytes text.old) }
+    ensures err { OnErr result (string_bytes text.new ≡ take whole (string_bytes text.old)) }
+{
+    if appended.is_err() {
+        text.truncate(whole);
+    }
+    appended
 }

@@ -1,7 +1,7 @@
 //! The words of the command line.
 ghost use Rattle.std.specs.Prelude.{◌≡◌, ◌≤◌, IfOk, IfSome, map, string_bytes, option_map, codes, false};
 ghost use Rattle.std.specs.Option.{option_and_then};
-ghost use Rattle.br_model.specs.Generator.{most_frames};
+ghost use Rattle.br_model.specs.Program.Generator.{most_frames};
 ghost use Rattle.clap.specs.Words.{app_of, first_of, found_of, rows_of, subcommand_rows_of};
 ghost use Rattle.clap.specs.declared.builder.Command.TheViews.{out-Command as fields_of};
 ghost use Rattle.capture_runner.specs.Words.{IsWithin, asked, asked_with, command, listing, number_count, number_count_of, subcommand, table, table_of};

@@ -1,6 +1,6 @@
 //! Worked command lines. A law is a function that does nothing: its contract says it.
 ghost use Rattle.std.specs.Prelude.{◌≡◌, [], codes, None, Some};
-ghost use Rattle.br_model.specs.Words.{words};
+ghost use Rattle.br_model.specs.Text.Words.{words};
 ghost use Rattle.br_model.specs.declared.listing.Listing.TheVariants.{Fdb, Vlan, Mdb};
 ghost use Rattle.capture_runner.specs.declared.asked.Asked.TheVariants.{Replay, Show, Gen, Demo};
 ghost use Rattle.capture_runner.specs.Words.{asked};

@@ -1,22 +1,25 @@
 //! The world of a run: a bridge with its chip, and the seat by which its software looks up.
-ghost use Rattle.std.specs.Prelude.{◌≡◌, length, true, IfOk, OnErr};
-ghost use Rattle.br_model.specs.Plane.Naming.{named};
+ghost use Rattle.std.specs.Prelude.{◌≡◌, length, true, IfOk, OnOk, OnErr};
 ghost use Rattle.br_model.specs.Plane.Runs.{end_line, pending};
-ghost use Rattle.br_model.specs.Plane.Steps.{Turn, world_step};
+ghost use Rattle.br_model.specs.declared.steps.Step.TheVariants.{Turn};
 ghost use Rattle.br_model.specs.Plane.World.{first_world};
+ghost use Rattle.br_model.specs.Table.Domains.{chip};
+ghost use Rattle.plane_core.specs.Added.{Added};
 ghost use Rattle.plane_core.specs.Planes.{Steps as IsStep};
-ghost use Rattle.scenario_text.specs.Items.{in_time};
+ghost use Rattle.capture_runner.specs.Session.{Tells};
+ghost use Rattle.br_model.specs.Text.LineForms.{comes_by_line};
 
 use crate::NoMemory;
 use br_model::change::Change;
 use br_model::domains::Domains;
 use br_model::numbers::{Dom, Mac};
 use br_model::steps::{Event, Step};
-use br_model::transcript::{Line, Lines};
+use br_model::transcript::Line;
 use plane_core::{Plane, TurnFault};
 use std::alloc::{AllocError, Global};
 use std::marker::Model;
 use table_publish::{Board, Seat};
+use transcript_lines::Lines;
 
 /// The plane, and the one seat at its board. Both are large, so they stand on the heap: a call pays for the room of its locals.
 #[derive(Drop)]
@@ -36,20 +39,22 @@ impl Model for World {
     ghost invariant = { λ w. w.seat.value.board ≡ w.plane.value.board };
 }
 
-/// The chip applies the update whose turn it is.
-fn turn(alloc: Global, plane: &mut Plane) -> Result<Lines, NoMemory>
-    ensures ok { IfOk result (λ lines. IsStep plane.old plane.new Turn lines) }
+/// The chip of the domain applies the update whose turn it is.
+#[tactic(auto, using(crate::proofs::Worlds::turn_told))]
+fn turn(plane: &mut Plane, dom: Dom, lines: &mut Lines) -> Result<(), NoMemory>
+    requires { dom ≡ chip }
+    ensures ok { OnOk result (Added (IsStep plane.old plane.new (Turn dom)) lines.old.lines lines.new.lines) }
     ensures err { OnErr result (plane.new ≡ plane.old) }
 {
-    let update = plane.update(plane.applied(Dom::CHIP));
-    match plane.turn(alloc, Dom::CHIP, update) {
-        Ok(lines) => Ok(lines),
+    let update = plane.update(plane.applied(dom));
+    match plane.turn_to(dom, update, lines) {
+        Ok(()) => Ok(()),
         Err(TurnFault::NoMemory) => Err(AllocError),
         Err(TurnFault::OutOfTurn { .. }) => unreachable!(),
     }
 }
 
-// Each of these answers the lines of its step. After want of memory a world isn't used again.
+// After want of memory a world isn't used again.
 impl World {
     pub(crate) fn make(alloc: Global, domains: Domains, own: Mac) -> Result<World, NoMemory>
         ensures { IfOk result (λ w. w ≡ first_world (record { domains = domains; own = own })) }
@@ -65,20 +70,30 @@ impl World {
         })
     }
 
-    /// Does a step.
-    pub(crate) fn step(&mut self, alloc: Global, step: Step) -> Result<Lines, NoMemory>
-        requires { in_time step ≡ true }
-        ensures { IfOk result (λ lines. (self.new, lines) ≡ world_step self.old (named step)) }
+    /// Does a step that a line can give. Its lines are added.
+    #[tactic(auto, using(crate::proofs::Worlds::world_told, crate::proofs::Worlds::world_tells))]
+    pub(crate) fn step(
+        &mut self,
+        alloc: Global,
+        step: Step,
+        lines: &mut Lines,
+    ) -> Result<(), NoMemory>
+        requires { comes_by_line step ≡ true }
+        ensures { OnOk result (Added (Tells self.old step self.new) lines.old.lines lines.new.lines) }
     {
         match step {
-            Step::Rx { port, bytes } => Ok(self.plane.enter(alloc, port, bytes.as_slice())?.lines),
-            Step::Cmd(command) => self.plane.accept(alloc, &Event::Cmd(command)),
-            Step::Now(moment) => self.plane.accept(alloc, &Event::Moment(moment)),
-            Step::Serve => self.plane.serve(alloc, &mut self.seat),
-            Step::Publish => self.plane.publish(alloc),
-            Step::Turn => turn(alloc, &mut self.plane),
-            Step::Report => self.plane.report(alloc, Dom::CHIP),
-            Step::Sweep => self.plane.sweep(alloc, Dom::CHIP),
+            Step::Rx { port, bytes } => {
+                self.plane.enter_to(alloc, port, bytes.as_slice(), lines)?;
+                Ok(())
+            }
+            Step::Cmd(command) => self.plane.accept_to(alloc, &Event::Cmd(command), lines),
+            Step::Now(moment) => self.plane.accept_to(alloc, &Event::Moment(moment), lines),
+            Step::Serve => self.plane.serve_to(alloc, &mut self.seat, lines),
+            Step::Hold | Step::Post { .. } => unreachable!(),
+            Step::Turn(dom) => turn(&mut self.plane, dom, lines),
+            Step::Report(dom) => self.plane.report_to(alloc, dom, lines),
+            Step::Sweep(dom) => self.plane.sweep_to(alloc, dom, lines),
+            Step::Publish => self.plane.publish_to(alloc, lines),
         }
     }
 
@@ -93,6 +108,7 @@ impl World {
     pub(crate) fn changes(&self) -> u32
         ensures { result ≡ length self.now.history }
     {
+        // law: what holds of every plane
         self.plane.stands();
         self.history().len() as u32
     }
@@ -108,6 +124,7 @@ impl World {
     pub(crate) fn end_line(&self) -> Line
         ensures { result ≡ end_line self.now }
     {
+        // law: what holds of every plane
         self.plane.stands();
         Line::End {
             steps: self.plane.steps(),

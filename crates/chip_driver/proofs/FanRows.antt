@@ -1,17 +1,24 @@
 -- A row of targets, from set to set.
-use Rattle.std.proofs.Common.{◌≡◌, ℕ, ◌<◌, Bool, true, false, not, ◌&&◌, ◌||◌, IsTrue, ◌↔◌, List, [], refl, ap, ap₂, ◌∙◌}
+use Rattle.std.proofs.Common.{◌≡◌, ◌≢◌, ⊎_elim, ℕ, ◌<◌, Bool, true, false, not, ◌&&◌, ◌||◌, IsTrue, ◌↔◌, List, [], refl, sym, ap, ap₂, subst, ◌∙◌}
 use Rattle.std.specs.Prelude.{◌==◌}
+use Rattle.std.proofs.lemmas.Bool.Decides.{eqb_tells}
+use Rattle.br_model.specs.Table.Domains.{host, port_places}
 use Rattle.port_sets.specs.Numbers.{has_number}
 use Rattle.chip_tables.specs.declared.rows.Flood.TheVariants.{Unicast, Mcast, Bcast}
-use Rattle.chip_tables.specs.Stands.{port_count, ports_where, some_port, fan}
+use Rattle.chip_tables.specs.Stands.{ports_where, some_port, fan}
+use Rattle.chip_driver.specs.declared.fans.Fan.{Fan}
+use Rattle.chip_driver.specs.declared.fans.Fan.TheVariants.{Floods, Routers}
 use Rattle.chip_driver.specs.declared.shadow.Shadow.{Shadow}
-use Rattle.chip_driver.specs.Shadows.{Has, floods_to, routes_to, opens, frees, fan_to}
-use Rattle.chip_driver.proofs.Sets.{has-where, same_ports, same_some, some-none}
+use Rattle.chip_driver.specs.declared.shares.Share.{Share}
+use Rattle.chip_driver.specs.Shadows.{Has, is_target, is_open, is_free, share_of, floods_to, routes_to, opens, frees, fan_to, fan_made}
+use Rattle.chip_driver.specs.Shares.{shares_of, share_in}
+use Rattle.chip_tables.proofs.SomePort.{same_some, some-none}
+use Rattle.chip_driver.proofs.Sets.{has-where, same_ports}
 
 -- rows by tests that agree at each port are one row
 pub same_fans : (own own' target target' eligible eligible' free free' : ℕ → Bool)
-    → ((q : ℕ) → q < port_count → own q ≡ own' q) → ((q : ℕ) → q < port_count → target q ≡ target' q)
-    → ((q : ℕ) → q < port_count → eligible q ≡ eligible' q) → ((q : ℕ) → q < port_count → free q ≡ free' q)
+    → ((q : ℕ) → q < port_places → own q ≡ own' q) → ((q : ℕ) → q < port_places → target q ≡ target' q)
+    → ((q : ℕ) → q < port_places → eligible q ≡ eligible' q) → ((q : ℕ) → q < port_places → free q ≡ free' q)
     → fan own target eligible free ≡ fan own' target' eligible' free'
 same_fans own own' target target' eligible eligible' free free' o t e f =
     let ports : ports_where (λ q. own q && target q) ≡ ports_where (λ q. own' q && target' q) = same_ports _ _ (λ q low. ap₂ (λ a b. a && b) (o q low) (t q low)) in
@@ -93,3 +100,105 @@ made_row s members targets hosted eligible unhosted free elsewhere ports both_fr
 pub same_targets : (s : Shadow) (members targets : List ℕ) (test : ℕ → Bool) → Has targets test → fan_to s members (has_number targets) ≡ fan_to s members test
 unfolding fan_to
 same_targets s members targets test to = same_fans _ _ _ _ _ _ _ _ (λ q low. refl) to (λ q low. refl) (λ q low. refl)
+
+-- ---- a change of one port: each row stays in which the port has what it had
+
+-- rows in which each port has the same are one row
+pub same_shares : (s s' : Shadow) (members members' : List ℕ) (to to' : ℕ → Bool)
+    → ((q : ℕ) → q < port_places → share_of s q (has_number members q) (to q) ≡ share_of s' q (has_number members' q) (to' q))
+    → fan_to s members to ≡ fan_to s' members' to'
+unfolding fan_to
+same_shares s s' members members' to to' same =
+    let ports : ports_where (λ q. has_number s.own q && to q) ≡ ports_where (λ q. has_number s'.own q && to' q) =
+    same_ports _ _ (λ q low. ap (λ (x : Share). x.ports) (same q low)) in
+    let isolated : some_port (λ q. not (has_number s.own q) && (to q && frees s members q)) ≡ some_port (λ q. not (has_number s'.own q) && (to' q && frees s' members' q)) =
+    same_some _ _ (λ q low. ap (λ (x : Share). x.isolated) (same q low)) in
+    let plain : some_port (λ q. not (has_number s.own q) && (to q && opens s members q)) ≡ some_port (λ q. not (has_number s'.own q) && (to' q && opens s' members' q)) =
+    same_some _ _ (λ q low. ap (λ (x : Share). x.plain) (same q low)) in
+    cc
+
+-- shadows that say the same of a port
+pub record SameAt (s s' : Shadow) (q : ℕ) : Type 0 where
+  pub own : has_number s.own q ≡ has_number s'.own q
+  pub forwarding : has_number s.forwarding q ≡ has_number s'.forwarding q
+  pub flood : has_number s.flood q ≡ has_number s'.flood q
+  pub mcast_flood : has_number s.mcast_flood q ≡ has_number s'.mcast_flood q
+  pub bcast_flood : has_number s.bcast_flood q ≡ has_number s'.bcast_flood q
+  pub isolated : has_number s.isolated q ≡ has_number s'.isolated q
+  pub routers : has_number s.routers q ≡ has_number s'.routers q
+
+-- of all but one port shadows and members say the same
+pub record SameBut (p : ℕ) (s s' : Shadow) (members members' : List ℕ) : Type 0 where
+  pub shadow : (q : ℕ) → q < port_places → q ≢ p → SameAt s s' q
+  pub others : (q : ℕ) → q < port_places → q ≢ p → has_number members q ≡ has_number members' q
+
+abbrev share_by : (own host forwarding isolated member target : Bool) → Share
+share_by own is_host forwarding isolated member target = record {
+  ports = own && target;
+  isolated = not own && (target && ((member && (is_host || forwarding)) && (is_host || not isolated)));
+  plain = not own && (target && (member && (is_host || forwarding)));
+}
+
+same_share : (s s' : Shadow) (q : ℕ) (m m' t t' : Bool) → SameAt s s' q → m ≡ m' → t ≡ t' → share_of s q m t ≡ share_of s' q m' t'
+same_share s s' q m m' t t' same m_is t_is =
+    ap₂ (λ o f. share_by o (q == host) f (has_number s.isolated q) m t) same.own same.forwarding
+    ∙ ap (λ i. share_by (has_number s'.own q) (q == host) (has_number s'.forwarding q) i m t) same.isolated
+    ∙ ap₂ (λ a b. share_by (has_number s'.own q) (q == host) (has_number s'.forwarding q) (has_number s'.isolated q) a b) m_is t_is
+
+same_target : (s s' : Shadow) (q : ℕ) (m m' : Bool) (fan : Fan) → SameAt s s' q → m ≡ m' → is_target s m fan q ≡ is_target s' m' fan q
+same_target s s' q m m' (Floods Unicast) same is = ap₂ (λ a b. a && b) is same.flood
+same_target s s' q m m' (Floods Mcast) same is = ap₂ (λ a b. (q == host) || (a && b)) is same.mcast_flood
+same_target s s' q m m' (Floods Bcast) same is = ap₂ (λ a b. (q == host) || (a && b)) is same.bcast_flood
+same_target s s' q m m' Routers same is = ap₂ (λ a b. b && a) is same.routers
+
+module _ (p : ℕ) (s s' : Shadow) (members members' : List ℕ) (same : SameBut p s s' members members') where
+  kept_row : (to to' : ℕ → Bool) → ((q : ℕ) → q < port_places → q ≢ p → to q ≡ to' q)
+      → share_of s p (has_number members p) (to p) ≡ share_of s' p (has_number members' p) (to' p) → fan_to s members to ≡ fan_to s' members' to'
+  kept_row to to' others here =
+      same_shares s s' members members' to to'
+      (λ q low.
+      ⊎_elim
+      (λ (at : ((q == p) ≡ true) × (q ≡ p)). subst (λ n. share_of s n (has_number members n) (to n) ≡ share_of s' n (has_number members' n) (to' n)) (sym at.1) here)
+      (λ (off : ((q == p) ≡ false) × (q ≢ p)). same_share s s' q _ _ _ _ (same.shadow q low off.1) (same.others q low off.1) (others q low off.1))
+      (eqb_tells q p))
+
+  -- a row of floods or of routers
+  pub kept_fan : (fan : Fan)
+      → share_of s p (has_number members p) (is_target s (has_number members p) fan p) ≡ share_of s' p (has_number members' p) (is_target s' (has_number members' p) fan p)
+      → fan_made s members fan ≡ fan_made s' members' fan
+  kept_fan fan = kept_row _ _ (λ q low other. same_target s s' q _ _ fan (same.shadow q low other) (same.others q low other))
+
+  -- a row of a group
+  pub kept_group : (to : ℕ → Bool) → share_of s p (has_number members p) (to p) ≡ share_of s' p (has_number members' p) (to p) → fan_to s members to ≡ fan_to s' members' to
+  kept_group to = kept_row to to (λ q low other. refl)
+
+-- what a port has in a row of which it isn't a target
+nothing_there : (own rest more : Bool) → ◌≡◌ {A = Share} (record { ports = own && false; isolated = not own && (false && rest); plain = not own && (false && more) }) (record { ports = false; isolated = false; plain = false })
+nothing_there true rest more = refl
+nothing_there false rest more = refl
+
+pub untargeted : (s s' : Shadow) (p : ℕ) (m m' : Bool) → share_of s p m false ≡ share_of s' p m' false
+untargeted s s' p m m' = nothing_there (has_number s.own p) (is_free s m p) (is_open s m p) ∙ sym (nothing_there (has_number s'.own p) (is_free s' m' p) (is_open s' m' p))
+
+-- and in a row of a VLAN of which it is no member
+absent_by : (own own' t t' : Bool) → own ≡ own' → t ≡ t'
+    → ◌≡◌ {A = Share} (record { ports = own && t; isolated = not own && (t && false); plain = not own && (t && false) }) (record { ports = own' && t'; isolated = not own' && (t' && false); plain = not own' && (t' && false) })
+absent_by own own' t t' own_is t_is = ap₂ (λ a b. share_by a false false false false b) own_is t_is
+
+absent_target : (s s' : Shadow) (p : ℕ) (fan : Fan) → is_target s false fan p ≡ is_target s' false fan p
+absent_target s s' p (Floods Unicast) = refl
+absent_target s s' p (Floods Mcast) = refl
+absent_target s s' p (Floods Bcast) = refl
+absent_target s s' p Routers = turned (has_number s.routers p) false ∙ sym (turned (has_number s'.routers p) false)
+
+pub absent_share : (s s' : Shadow) (p : ℕ) (t : Bool) → has_number s.own p ≡ has_number s'.own p → share_of s p false t ≡ share_of s' p false t
+absent_share s s' p t own = absent_by _ _ _ _ own refl
+
+pub absent : (s s' : Shadow) (p : ℕ) (fan : Fan) → has_number s.own p ≡ has_number s'.own p → share_of s p false (is_target s false fan p) ≡ share_of s' p false (is_target s' false fan p)
+absent s s' p fan own = absent_by _ _ _ _ own (absent_target s s' p fan)
+
+pub share-in : (s : Shadow) (p : ℕ) (m : Bool) (fan : Fan) → share_in (shares_of s p m) fan ≡ share_of s p m (is_target s m fan p)
+share-in s p m (Floods Unicast) = refl
+share-in s p m (Floods Mcast) = refl
+share-in s p m (Floods Bcast) = refl
+share-in s p m Routers = refl

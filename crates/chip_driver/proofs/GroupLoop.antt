@@ -6,9 +6,9 @@ use Rattle.std.specs.declared.cmp.Ordering.{Ordering}
 use Rattle.std.specs.declared.cmp.Ordering.TheVariants.{Less, Equal, Greater}
 use Rattle.port_sets.specs.Numbers.{has_number}
 use Rattle.br_model.specs.declared.group.Group.{Group}
-use Rattle.br_model.specs.GroupPairs.{GroupPair, group_pair_cmp, group_pairs, max_pairs}
-use Rattle.br_model.specs.Groups.{Membership, membership_cmp}
-use Rattle.br_model.specs.Maps.{get, put, joined, parted, is_ascending}
+use Rattle.br_model.specs.Table.GroupPairs.{GroupPair, group_pair_cmp, group_pairs, max_pairs}
+use Rattle.br_model.specs.Table.Groups.{Membership, membership_cmp}
+use Rattle.br_model.specs.Data.Maps.{get, put, joined, parted, is_ascending}
 use Rattle.mdb_snoop.specs.Database.{ports_in}
 use Rattle.br_model.proofs.GroupOrders.{equal_pairs}
 use Rattle.chip_tables.specs.declared.rows.FanRow.{FanRow}
@@ -18,7 +18,8 @@ use Rattle.chip_driver.specs.declared.shadow.Shadow.{Shadow}
 use Rattle.chip_driver.specs.GroupRows.{has_pair, group_fan, AreUsed, GroupsFollow, RefreshesGroups}
 use Rattle.chip_driver.specs.Shadows.{fan_to}
 use Rattle.chip_driver.proofs.FanRows.{same_fans}
-use Rattle.chip_driver.proofs.GroupRows.{count_is, find-written, ascending-written, find-freed, ascending-freed, among, among-pairs, among-next, among-past, among-all, among-one, same_pair, pair-joined, pair-parted, pair-ports, ports-joined, ports-parted}
+use Rattle.br_model.proofs.GroupPairs.{pair-joined, pair-parted}
+use Rattle.chip_driver.proofs.GroupRows.{count_is, find-written, ascending-written, find-freed, ascending-freed, among, among-pairs, among-next, among-past, among-all, among-one, same_pair, pair-ports, ports-joined, ports-parted}
 
 equal_of : (k j : GroupPair) (r : Ordering) → group_pair_cmp k j ≡ r → is_eq r ≡ true → k ≡ j
 equal_of k j Less is e = absurd (cc)
@@ -29,23 +30,23 @@ pub equal_key : (k j : GroupPair) → eq_by_cmp group_pair_cmp k j ≡ true → 
 equal_key k j e = equal_of k j (group_pair_cmp k j) refl e
 
 -- the first pairs are done
-pub record SoFar (test : ℕ → Bool) (s : Shadow) (ms : List Membership) (i : ℕ) (old now : Rows) : Type 0 where
-  pub at : (k : GroupPair) → get group_pair_cmp now.groups k ≡ cond (among (take i (group_pairs ms)) k && test k.0) (Some (group_fan s old ms k)) (get group_pair_cmp old.groups k)
+pub record SoFar (test : GroupPair → Bool) (s : Shadow) (ms : List Membership) (i : ℕ) (old now : Rows) : Type 0 where
+  pub at : (k : GroupPair) → get group_pair_cmp now.groups k ≡ cond (among (take i (group_pairs ms)) k && test k) (Some (group_fan s old ms k)) (get group_pair_cmp old.groups k)
   pub used : (k : GroupPair) → is_some (get group_pair_cmp now.groups k) ≡ has_pair ms k
   pub ascending : is_ascending group_pair_cmp now.groups ≡ true
   pub rest : now ≡ record old { groups = now.groups }
 
-pub none_so_far : (test : ℕ → Bool) (s : Shadow) (ms : List Membership) (old : Rows) → AreUsed ms old → SoFar test s ms 0 old old
+pub none_so_far : (test : GroupPair → Bool) (s : Shadow) (ms : List Membership) (old : Rows) → AreUsed ms old → SoFar test s ms 0 old old
 none_so_far test s ms old used = record { at = λ k. refl; used = used.used; ascending = used.ascending; rest = refl }
 
-pub all_so_far : (test : ℕ → Bool) (s : Shadow) (ms : List Membership) (i : ℕ) (old now : Rows) → SoFar test s ms i old now → i ≡ length (group_pairs ms) → RefreshesGroups test s ms old now
+pub all_so_far : (test : GroupPair → Bool) (s : Shadow) (ms : List Membership) (i : ℕ) (old now : Rows) → SoFar test s ms i old now → i ≡ length (group_pairs ms) → RefreshesGroups test s ms old now
 all_so_far test s ms i old now so is = record {
-  at = λ k. so.at k ∙ ap (λ b. cond (b && test k.0) (Some (group_fan s old ms k)) (get group_pair_cmp old.groups k)) (ap (λ n. among (take n (group_pairs ms)) k) is ∙ among-all (group_pairs ms) k ∙ among-pairs ms k);
+  at = λ k. so.at k ∙ ap (λ b. cond (b && test k) (Some (group_fan s old ms k)) (get group_pair_cmp old.groups k)) (ap (λ n. among (take n (group_pairs ms)) k) is ∙ among-all (group_pairs ms) k ∙ among-pairs ms k);
   ascending = so.ascending;
   rest = so.rest;
 }
 
-module _ (test : ℕ → Bool) (s : Shadow) (ms : List Membership) (i : ℕ) (j : GroupPair) (old now : Rows) (so : SoFar test s ms i old now) (here : slice_get (group_pairs ms) i ≡ Some j) where
+module _ (test : GroupPair → Bool) (s : Shadow) (ms : List Membership) (i : ℕ) (j : GroupPair) (old now : Rows) (so : SoFar test s ms i old now) (here : slice_get (group_pairs ms) i ≡ Some j) where
   used_after : (row : FanRow) (k : GroupPair) → is_some (get group_pair_cmp (put group_pair_cmp now.groups j row) k) ≡ has_pair ms k
   used_after row k = ap is_some (find-written now.groups j k row) ∙ by (eq_by_cmp group_pair_cmp k j) refl
     where
@@ -56,11 +57,11 @@ module _ (test : ℕ → Bool) (s : Shadow) (ms : List Membership) (i : ℕ) (j 
   pub room_so_far : (row : FanRow) → length (group_pairs ms) ≤ max_pairs → length (put group_pair_cmp now.groups j row) ≤ max_pairs
   room_so_far row few = subst (λ n. n ≤ max_pairs) (sym (count_is (put group_pair_cmp now.groups j row) ms (ascending-written now.groups j row so.ascending) (used_after row))) few
 
-  pub next_written : (row : FanRow) (new : Rows) → test j.0 ≡ true → row ≡ group_fan s now ms j → new.groups ≡ put group_pair_cmp now.groups j row → new ≡ record now { groups = new.groups } → SoFar test s ms (i + 1) old new
+  pub next_written : (row : FanRow) (new : Rows) → test j ≡ true → row ≡ group_fan s now ms j → new.groups ≡ put group_pair_cmp now.groups j row → new ≡ record now { groups = new.groups } → SoFar test s ms (i + 1) old new
   next_written row new passes row_is written rest = record {
     at = λ k.
         ap (λ rows. get group_pair_cmp rows k) written ∙ find-written now.groups j k row ∙ by k (eq_by_cmp group_pair_cmp k j) refl (among (take i (group_pairs ms)) k) (so.at k)
-        ∙ ap (λ b. cond (b && test k.0) (Some (group_fan s old ms k)) (get group_pair_cmp old.groups k)) (sym (among-next (group_pairs ms) i j k here));
+        ∙ ap (λ b. cond (b && test k) (Some (group_fan s old ms k)) (get group_pair_cmp old.groups k)) (sym (among-next (group_pairs ms) i j k here));
     used = λ k. ap (λ rows. is_some (get group_pair_cmp rows k)) written ∙ used_after row k;
     ascending = ap (is_ascending group_pair_cmp) written ∙ ascending-written now.groups j row so.ascending;
     rest = rest ∙ ap (λ (r : Rows). record r { groups = new.groups }) so.rest;
@@ -71,50 +72,50 @@ module _ (test : ℕ → Bool) (s : Shadow) (ms : List Membership) (i : ℕ) (j 
           row_is ∙ ap (λ (r : Rows). fan_to s (vlan_at r j.0).members (has_number (ports_in ms j.0 j.1))) so.rest
           ∙ ap (group_fan s old ms) (sym same)
 
-      by : (k : GroupPair) (b : Bool) → eq_by_cmp group_pair_cmp k j ≡ b → (a : Bool) → get group_pair_cmp now.groups k ≡ cond (a && test k.0) (Some (group_fan s old ms k)) (get group_pair_cmp old.groups k)
-          → cond b (Some row) (get group_pair_cmp now.groups k) ≡ cond ((a || eq_by_cmp group_pair_cmp k j) && test k.0) (Some (group_fan s old ms k)) (get group_pair_cmp old.groups k)
+      by : (k : GroupPair) (b : Bool) → eq_by_cmp group_pair_cmp k j ≡ b → (a : Bool) → get group_pair_cmp now.groups k ≡ cond (a && test k) (Some (group_fan s old ms k)) (get group_pair_cmp old.groups k)
+          → cond b (Some row) (get group_pair_cmp now.groups k) ≡ cond ((a || eq_by_cmp group_pair_cmp k j) && test k) (Some (group_fan s old ms k)) (get group_pair_cmp old.groups k)
       by k true e a at =
           ap Some (row_at k (equal_key k j e))
-          ∙ sym (ap₂ (λ x y. cond ((a || x) && y) (Some (group_fan s old ms k)) (get group_pair_cmp old.groups k)) e (ap (λ (n : GroupPair). test n.0) (equal_key k j e) ∙ passes)
+          ∙ sym (ap₂ (λ x y. cond ((a || x) && y) (Some (group_fan s old ms k)) (get group_pair_cmp old.groups k)) e (ap test (equal_key k j e) ∙ passes)
           ∙ ap (λ b. cond (b && true) (Some (group_fan s old ms k)) (get group_pair_cmp old.groups k)) (or_true a))
         where
           or_true : (b : Bool) → (b || true) ≡ true
           or_true true = refl
           or_true false = refl
-      by k false e a at = at ∙ ap (λ b. cond (b && test k.0) (Some (group_fan s old ms k)) (get group_pair_cmp old.groups k)) (sym (ap (λ x. a || x) e ∙ or_none a))
+      by k false e a at = at ∙ ap (λ b. cond (b && test k) (Some (group_fan s old ms k)) (get group_pair_cmp old.groups k)) (sym (ap (λ x. a || x) e ∙ or_none a))
         where
           or_none : (b : Bool) → (b || false) ≡ b
           or_none true = refl
           or_none false = refl
 
-  pub next_kept : test j.0 ≡ false → SoFar test s ms (i + 1) old now
+  pub next_kept : test j ≡ false → SoFar test s ms (i + 1) old now
   next_kept fails = record {
     at = λ k.
         so.at k ∙ by k (eq_by_cmp group_pair_cmp k j) refl (among (take i (group_pairs ms)) k)
-        ∙ ap (λ b. cond (b && test k.0) (Some (group_fan s old ms k)) (get group_pair_cmp old.groups k)) (sym (among-next (group_pairs ms) i j k here));
+        ∙ ap (λ b. cond (b && test k) (Some (group_fan s old ms k)) (get group_pair_cmp old.groups k)) (sym (among-next (group_pairs ms) i j k here));
     used = so.used;
     ascending = so.ascending;
     rest = so.rest;
   }
     where
       by : (k : GroupPair) (b : Bool) → eq_by_cmp group_pair_cmp k j ≡ b → (a : Bool)
-          → cond (a && test k.0) (Some (group_fan s old ms k)) (get group_pair_cmp old.groups k) ≡ cond ((a || eq_by_cmp group_pair_cmp k j) && test k.0) (Some (group_fan s old ms k)) (get group_pair_cmp old.groups k)
+          → cond (a && test k) (Some (group_fan s old ms k)) (get group_pair_cmp old.groups k) ≡ cond ((a || eq_by_cmp group_pair_cmp k j) && test k) (Some (group_fan s old ms k)) (get group_pair_cmp old.groups k)
       by k true e a =
-          (let no : test k.0 ≡ false = ap (λ (n : GroupPair). test n.0) (equal_key k j e) ∙ fails in
+          (let no : test k ≡ false = ap test (equal_key k j e) ∙ fails in
           ap (λ x. cond x (Some (group_fan s old ms k)) (get group_pair_cmp old.groups k)) (ap (λ x. a && x) no ∙ and_false a ∙ sym (ap (λ x. (a || eq_by_cmp group_pair_cmp k j) && x) no ∙ and_false (a || eq_by_cmp group_pair_cmp k j))))
         where
           and_false : (b : Bool) → (b && false) ≡ false
           and_false true = refl
           and_false false = refl
-      by k false e a = ap (λ b. cond (b && test k.0) (Some (group_fan s old ms k)) (get group_pair_cmp old.groups k)) (sym (ap (λ x. a || x) e ∙ or_none a))
+      by k false e a = ap (λ b. cond (b && test k) (Some (group_fan s old ms k)) (get group_pair_cmp old.groups k)) (sym (ap (λ x. a || x) e ∙ or_none a))
         where
           or_none : (b : Bool) → (b || false) ≡ b
           or_none true = refl
           or_none false = refl
 
-pub next_past : (test : ℕ → Bool) (s : Shadow) (ms : List Membership) (i : ℕ) (old now : Rows) → SoFar test s ms i old now → slice_get (group_pairs ms) i ≡ None → SoFar test s ms (i + 1) old now
+pub next_past : (test : GroupPair → Bool) (s : Shadow) (ms : List Membership) (i : ℕ) (old now : Rows) → SoFar test s ms i old now → slice_get (group_pairs ms) i ≡ None → SoFar test s ms (i + 1) old now
 next_past test s ms i old now so none = record {
-  at = λ k. so.at k ∙ ap (λ b. cond (b && test k.0) (Some (group_fan s old ms k)) (get group_pair_cmp old.groups k)) (sym (among-past (group_pairs ms) i k none));
+  at = λ k. so.at k ∙ ap (λ b. cond (b && test k) (Some (group_fan s old ms k)) (get group_pair_cmp old.groups k)) (sym (among-past (group_pairs ms) i k none));
   used = so.used;
   ascending = so.ascending;
   rest = so.rest;
@@ -132,22 +133,42 @@ used_of s ms old now follow same = record {
     by true x = refl
     by false x = refl
 
-pub groups_anew : (test : ℕ → Bool) (s s' : Shadow) (ms : List Membership) (old mid new : Rows) → GroupsFollow s ms old → mid.groups ≡ old.groups
-    → ((k : GroupPair) → IsVid k.0 → test k.0 ≡ false → group_fan s old ms k ≡ group_fan s' mid ms k) → RefreshesGroups test s' ms mid new → GroupsFollow s' ms new
+pub groups_anew : (test : GroupPair → Bool) (s s' : Shadow) (ms : List Membership) (old mid new : Rows) → GroupsFollow s ms old → mid.groups ≡ old.groups
+    → ((k : GroupPair) → test k ≡ false → group_fan s old ms k ≡ group_fan s' mid ms k) → RefreshesGroups test s' ms mid new → GroupsFollow s' ms new
 groups_anew test s s' ms old mid new follow same kept refreshes = record {
   vids = follow.vids;
-  at = λ k. refreshes.at k ∙ by k (has_pair ms k) refl (test k.0) refl (ap (λ rows. get group_pair_cmp rows k) same ∙ follow.at k);
+  at = λ k. refreshes.at k ∙ by k (has_pair ms k) refl (test k) refl (ap (λ rows. get group_pair_cmp rows k) same ∙ follow.at k);
   ascending = refreshes.ascending;
 }
   where
     vlan : (k : GroupPair) → group_fan s' mid ms k ≡ group_fan s' new ms k
     vlan k = ap (λ (r : Rows). group_fan s' r ms k) (sym refreshes.rest)
 
-    by : (k : GroupPair) (h : Bool) → has_pair ms k ≡ h → (b : Bool) → test k.0 ≡ b → get group_pair_cmp mid.groups k ≡ cond (has_pair ms k) (Some (group_fan s old ms k)) None
+    by : (k : GroupPair) (h : Bool) → has_pair ms k ≡ h → (b : Bool) → test k ≡ b → get group_pair_cmp mid.groups k ≡ cond (has_pair ms k) (Some (group_fan s old ms k)) None
         → cond (h && b) (Some (group_fan s' mid ms k)) (get group_pair_cmp mid.groups k) ≡ cond h (Some (group_fan s' new ms k)) None
     by k true is true passes before = ap Some (vlan k)
-    by k true is false fails before = before ∙ ap (λ b. cond b (Some (group_fan s old ms k)) None) is ∙ ap Some (kept k (follow.vids k is) fails ∙ vlan k)
+    by k true is false fails before = before ∙ ap (λ b. cond b (Some (group_fan s old ms k)) None) is ∙ ap Some (kept k fails ∙ vlan k)
     by k false is b test_is before = before ∙ ap (λ b. cond b (Some (group_fan s old ms k)) None) is
+
+-- none is told of
+pub groups_left : (test : GroupPair → Bool) (s : Shadow) (ms : List Membership) (old : Rows) → AreUsed ms old → ((k : GroupPair) → test k ≡ false) → RefreshesGroups test s ms old old
+groups_left test s ms old used none = record {
+  at = λ k. sym (ap (λ b. cond (has_pair ms k && b) (Some (group_fan s old ms k)) (get group_pair_cmp old.groups k)) (none k) ∙ by k (has_pair ms k));
+  ascending = used.ascending;
+  rest = refl;
+}
+  where
+    by : (k : GroupPair) (b : Bool) → cond (b && false) (Some (group_fan s old ms k)) (get group_pair_cmp old.groups k) ≡ get group_pair_cmp old.groups k
+    by k true = refl
+    by k false = refl
+
+-- tests that agree
+pub groups_agree : (test test' : GroupPair → Bool) (s : Shadow) (ms : List Membership) (old new : Rows) → ((k : GroupPair) → test' k ≡ test k) → RefreshesGroups test s ms old new → RefreshesGroups test' s ms old new
+groups_agree test test' s ms old new same refreshes = record {
+  at = λ k. refreshes.at k ∙ ap (λ b. cond (has_pair ms k && b) (Some (group_fan s old ms k)) (get group_pair_cmp old.groups k)) (sym (same k));
+  ascending = refreshes.ascending;
+  rest = refreshes.rest;
+}
 
 pub groups_same : (s s' : Shadow) (ms : List Membership) (old new : Rows) → GroupsFollow s ms old → new.groups ≡ old.groups → ((k : GroupPair) → group_fan s old ms k ≡ group_fan s' new ms k) → GroupsFollow s' ms new
 groups_same s s' ms old new follow same fan = record {

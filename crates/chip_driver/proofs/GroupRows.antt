@@ -4,49 +4,23 @@ use Rattle.std.specs.Prelude.{◌==◌, is_some, slice_get}
 use Rattle.std.specs.List.{list_any, filter}
 use Rattle.std.specs.declared.cmp.Ordering.{Ordering}
 use Rattle.std.specs.declared.cmp.Ordering.TheVariants.{Less, Equal, Greater}
-use Rattle.std.specs.Ordering.{nat_cmp, eq_by_cmp, is_eq, is_lt, match_ordering, ordering_then}
+use Rattle.std.specs.Ordering.{nat_cmp, eq_by_cmp, is_eq, is_lt, ordering_then}
 use Rattle.std.specs.Cmp.{unsigned_tied}
-use Rattle.std.proofs.lemmas.Bool.{eqb-true}
 use Rattle.std.specs.FinMap.Entries.{by_order, below_all, is_sorted, find-put, find-where_key, is_sorted-put, is_sorted-where_key, same_entries}
 use Rattle.std.proofs.lemmas.Cmp.{eq_by_cmp_equiv}
 use Rattle.std.proofs.lemmas.List.{length-map}
 use Rattle.chip_driver.specs.GroupRows.{has_pair}
 use Rattle.std.proofs.lemmas.Map.Views.{any-filter_same}
-use Rattle.br_model.proofs.KeySets.{keys-put}
 use Rattle.br_model.specs.declared.group.Group.{Group}
-use Rattle.br_model.specs.GroupPairs.{GroupPair, group_pair_cmp, group_pairs}
-use Rattle.br_model.specs.Groups.{Membership, group_cmp, membership_cmp}
-use Rattle.br_model.specs.Maps.{get, put, without, joined, parted, has, is_ascending}
+use Rattle.br_model.specs.Table.GroupPairs.{GroupPair, group_pair_cmp, group_pairs}
+use Rattle.br_model.specs.Table.Groups.{Membership, group_cmp, membership_cmp}
+use Rattle.br_model.specs.Data.Maps.{get, put, without, joined, parted, has, is_ascending}
 use Rattle.mdb_snoop.specs.Database.{ports_in}
 use Rattle.br_model.proofs.GroupOrders.{pair_total, equal_pairs, by_pair, is_of_pair}
+use Rattle.br_model.proofs.GroupPairs.{any-joined, equal_members, find-pairs, keys-pairs, pairs, same_units, sorted-pairs}
 use Rattle.port_sets.specs.Numbers.{has_number}
 
--- ---- the pairs as the keys of a map
-
-pairs : List Membership → List (GroupPair × Unit {0})
-pairs [] = []
-pairs (m ∷ ms) = put group_pair_cmp (pairs ms) (m.0, m.1) tt
-
-keys-pairs : (ms : List Membership) → map (λ e. e.0) (pairs ms) ≡ group_pairs ms
-unfolding pairs
-keys-pairs [] = refl
-keys-pairs (m ∷ ms) = keys-put group_pair_cmp (pairs ms) (m.0, m.1) tt ∙ ap (λ ks. joined group_pair_cmp ks (m.0, m.1)) (keys-pairs ms)
-
-sorted-pairs : (ms : List Membership) → T (is_sorted group_pair_cmp (pairs ms))
-unfolding pairs
-sorted-pairs [] = tt
-sorted-pairs (m ∷ ms) = is_sorted-put group_pair_cmp pair_total (m.0, m.1) tt (pairs ms) (sorted-pairs ms)
-
-some_put : (b : Bool) (o : Option (Unit {0})) → is_some (cond b (Some tt) o) ≡ (b || is_some o)
-some_put true o = refl
-some_put false o = refl
-
-find-pairs : (ms : List Membership) (k : GroupPair) → is_some (get group_pair_cmp (pairs ms) k) ≡ has_pair ms k
-unfolding pairs
-find-pairs [] k = refl
-find-pairs (m ∷ ms) k =
-    ap is_some (find-put group_pair_cmp pair_total k (m.0, m.1) tt (pairs ms)) ∙ some_put (eq_by_cmp group_pair_cmp k (m.0, m.1)) (get group_pair_cmp (pairs ms) k)
-    ∙ ap (λ b. eq_by_cmp group_pair_cmp k (m.0, m.1) || b) (find-pairs ms k)
+-- ---- rows at the pairs that have members
 
 module _ {X : Type 0} (F : GroupPair → X) where
   abbrev pub keyed : List (GroupPair × Unit {0}) → List (GroupPair × X)
@@ -87,55 +61,6 @@ module _ {X : Type 0} (F : GroupPair → X) where
       ap (λ rows. get group_pair_cmp rows k) (sym (keyed-keys (pairs ms) ∙ ap (map (λ j. (j, F j))) (keys-pairs ms)))
       ∙ find-keyed (pairs ms) k ∙ ap (λ b. cond b (Some (F k)) None) (find-pairs ms k)
 
--- ---- members that join and part
-
-or_twice : (b c : Bool) → (b || c) ≡ (b || (b || c))
-or_twice true c = refl
-or_twice false c = refl
-
-or_swap : (a b c : Bool) → (a || (b || c)) ≡ (b || (a || c))
-or_swap true true c = refl
-or_swap true false c = refl
-or_swap false true c = refl
-or_swap false false c = refl
-
-then_equal : (r s : Ordering) → ordering_then r s ≡ Equal → (r ≡ Equal) × (s ≡ Equal)
-then_equal Less s e = absurd (cc)
-then_equal Equal s e = (refl, e)
-then_equal Greater s e = absurd (cc)
-
-number_equal : (m n : ℕ) → nat_cmp m n ≡ Equal → m ≡ n
-number_equal m n e = eqb-true m n (sym (unsigned_tied m n) ∙ ap is_eq e)
-
-pub equal_members : (x y : Membership) → membership_cmp x y ≡ Equal → x ≡ y
-equal_members x y e =
-    let parts = then_equal (group_pair_cmp (x.0, x.1) (y.0, y.1)) (nat_cmp x.2 y.2) (sym (by_pair (x.0, x.1) (y.0, y.1) x.2 y.2) ∙ e) in
-    ap₂ (λ (k : GroupPair) q. (k.0, k.1, q)) (equal_pairs (x.0, x.1) (y.0, y.1) parts.0) (number_equal x.2 y.2 parts.1)
-
-pub any-joined : (test : Membership → Bool) (ms : List Membership) (m : Membership) → list_any test (joined membership_cmp ms m) ≡ (test m || list_any test ms)
-any-joined test [] m = refl
-any-joined test (x ∷ xs) m = step (any-joined test xs m) (membership_cmp m x) refl
-  where
-    step : list_any test (joined membership_cmp xs m) ≡ (test m || list_any test xs) → (r : Ordering) → membership_cmp m x ≡ r
-        → list_any test (match_ordering r (m ∷ x ∷ xs) (x ∷ xs) (x ∷ joined membership_cmp xs m)) ≡ (test m || (test x || list_any test xs))
-    step rest Less is = refl
-    step rest Equal is = or_twice (test x) (list_any test xs) ∙ ap (λ n. test n || (test x || list_any test xs)) (sym (equal_members m x is))
-    step rest Greater is = ap (λ b. test x || b) rest ∙ or_swap (test x) (test m) (list_any test xs)
-
-pub pair-joined : (ms : List Membership) (m : Membership) (k : GroupPair) → has_pair (joined membership_cmp ms m) k ≡ (eq_by_cmp group_pair_cmp k (m.0, m.1) || has_pair ms k)
-pair-joined ms m k = any-joined (λ n. eq_by_cmp group_pair_cmp k (n.0, n.1)) ms m
-
--- other pairs keep their members
-pub pair-parted : (ms : List Membership) (m : Membership) (k : GroupPair) → eq_by_cmp group_pair_cmp k (m.0, m.1) ≡ false → has_pair (parted membership_cmp ms m) k ≡ has_pair ms k
-pair-parted ms m k other =
-    any-filter_same (λ n. eq_by_cmp group_pair_cmp k (n.0, n.1)) (λ n. not (eq_by_cmp membership_cmp m n)) true (λ n tie. ap not (apart n tie (membership_cmp m n) refl)) ms
-  where
-    apart : (n : Membership) → eq_by_cmp group_pair_cmp k (n.0, n.1) ≡ true → (r : Ordering) → membership_cmp m n ≡ r → is_eq r ≡ false
-    apart n tie Less is = refl
-    apart n tie Greater is = refl
-    apart n tie Equal is =
-        absurd (let no : false ≡ true = sym other ∙ ap (λ (x : Membership). eq_by_cmp group_pair_cmp k (x.0, x.1)) (equal_members m n is) ∙ tie in cc)
-
 -- ---- the ports of a pair
 
 pub has-ports : (q v : ℕ) (g : Group) (ms : List Membership) → has_number (ports_in ms v g) q ≡ has membership_cmp ms (v, g, q)
@@ -165,12 +90,6 @@ of_T true h = refl
 of_T false h = absurd h
 
 -- ---- one row at each pair: as many rows as pairs
-
-same_units : (o r : Option (Unit {0})) → is_some o ≡ is_some r → o ≡ r
-same_units None None h = refl
-same_units None (Some y) h = (let e : false ≡ true = h in cc)
-same_units (Some x) None h = (let e : true ≡ false = h in cc)
-same_units (Some x) (Some y) h = refl
 
 module _ {X : Type 0} where
   abbrev bare : List (GroupPair × X) → List (GroupPair × Unit {0})

@@ -1,72 +1,30 @@
 -- A row is written, and the driver is settled again.
-use Rattle.std.proofs.Common.{◌≡◌, ◌≢◌, ℕ, ◌<◌, ◌≤◌, Bool, true, false, not, ◌&&◌, ◌||◌, cond, ⊎_elim, List, refl, sym, ap, ap₂, subst, ◌∙◌, arith}
+use Rattle.std.proofs.Common.{◌≡◌, ◌≢◌, ℕ, ◌<◌, ◌≤◌, Bool, true, false, ◌&&◌, cond, ⊎_elim, List, refl, sym, ap, subst, ◌∙◌, arith}
 use Rattle.std.specs.Prelude.{◌==◌}
+use Rattle.std.proofs.lemmas.Bool.{eq-eqb, eqb-true}
 use Rattle.std.proofs.lemmas.Bool.Decides.{eqb_tells}
 use Rattle.port_sets.specs.Numbers.{has_number}
-use Rattle.br_model.specs.Domains.{host}
-use Rattle.br_model.specs.Targets.{flood, mcast_flood, bcast_flood, isolated}
+use Rattle.br_model.specs.Table.Domains.{port_places}
+use Rattle.br_model.specs.Forward.Targets.{flood, mcast_flood, bcast_flood, isolated}
 use Rattle.chip_tables.specs.declared.rows.PortRow.{PortRow}
 use Rattle.chip_tables.specs.declared.rows.VlanRow.{VlanRow}
 use Rattle.chip_tables.specs.declared.rows.FanRow.{FanRow}
-use Rattle.chip_tables.specs.declared.rows.Flood.{Flood}
-use Rattle.chip_tables.specs.declared.rows.Flood.TheVariants.{Unicast, Mcast, Bcast}
-use Rattle.chip_tables.specs.Rows.{Rows, vlan_at, flood_at, router_at, port_at, WritesPort, WritesVlan}
-use Rattle.chip_tables.specs.Stands.{port_count, IsVid}
+use Rattle.chip_tables.specs.Rows.{Rows, vlan_at, port_at, WritesPort, WritesVlan}
+use Rattle.chip_tables.specs.Stands.{IsVid}
+use Rattle.chip_driver.specs.declared.fans.Fan.{Fan}
 use Rattle.chip_driver.specs.declared.shadow.Shadow.{Shadow}
+use Rattle.chip_driver.specs.declared.shares.Shares.{Shares}
+use Rattle.chip_driver.specs.declared.shares.Told.{Told}
 use Rattle.chip_driver.specs.Joined.{has_vlan, Switches}
-use Rattle.chip_driver.specs.Shadows.{Has, switched, row_forwards, row_has_flag, row_floods, floods_to, routes_to, fan_to}
-use Rattle.br_model.specs.GroupPairs.{GroupPair}
-use Rattle.br_model.specs.Groups.{Membership}
-use Rattle.mdb_snoop.specs.Database.{ports_in}
-use Rattle.chip_driver.specs.GroupRows.{group_fan}
-use Rattle.chip_driver.specs.Settled.{Follows, Notes, Settled, Refreshes}
+use Rattle.chip_tables.specs.Flags.{row_has_flag}
+use Rattle.chip_driver.specs.Shadows.{Has, switched, row_forwards, row_floods, is_target, share_of, fan_to, fan_made}
+use Rattle.chip_driver.specs.Shares.{shares_of, told_of, Tells}
+use Rattle.br_model.specs.Table.GroupPairs.{GroupPair}
+use Rattle.br_model.specs.Table.Groups.{Membership}
+use Rattle.chip_driver.specs.GroupRows.{is_member, group_fan}
+use Rattle.chip_driver.specs.Settled.{fan_at, Follows, Notes, Settled, Refreshes}
 use Rattle.chip_driver.proofs.Sets.{has-where, switched_other}
-use Rattle.chip_driver.proofs.FanRows.{same_fans}
-
--- ---- locality: the rows of a VLAN depend on what the shadow says of its members
-
--- shadows that say the same of a port
-pub record SameAt (s s' : Shadow) (q : ℕ) : Type 0 where
-  pub forwarding : has_number s.forwarding q ≡ has_number s'.forwarding q
-  pub flood : has_number s.flood q ≡ has_number s'.flood q
-  pub mcast_flood : has_number s.mcast_flood q ≡ has_number s'.mcast_flood q
-  pub bcast_flood : has_number s.bcast_flood q ≡ has_number s'.bcast_flood q
-  pub isolated : has_number s.isolated q ≡ has_number s'.isolated q
-  pub routers : has_number s.routers q ≡ has_number s'.routers q
-
-guarded : (m a b : Bool) → (m ≡ true → a ≡ b) → (m && a) ≡ (m && b)
-guarded true a b h = h refl
-guarded false a b h = refl
-
-guarded_first : (m a b : Bool) → (m ≡ true → a ≡ b) → (a && m) ≡ (b && m)
-guarded_first true a b h = ap (λ x. x && true) (h refl)
-guarded_first false true true h = refl
-guarded_first false true false h = refl
-guarded_first false false true h = refl
-guarded_first false false false h = refl
-
-guarded_twice : (m a b a' b' : Bool) → (m ≡ true → a ≡ a') → (m ≡ true → b ≡ b') → ((m && a) && b) ≡ ((m && a') && b')
-guarded_twice true a b a' b' h k = ap₂ (λ x y. x && y) (h refl) (k refl)
-guarded_twice false a b a' b' h k = refl
-
-module _ (s s' : Shadow) (members : List ℕ) (own : s'.own ≡ s.own) (same : (q : ℕ) → q < port_count → has_number members q ≡ true → SameAt s s' q) where
-  by_targets : (to to' : ℕ → Bool) → ((q : ℕ) → q < port_count → to q ≡ to' q) → fan_to s members to ≡ fan_to s' members to'
-  unfolding fan_to
-  by_targets to to' target =
-      same_fans _ _ _ _ _ _ _ _ (λ q low. ap (λ (ns : List ℕ). has_number ns q) (sym own)) target
-      (λ q low. guarded (has_number members q) _ _ (λ is. ap (λ b. (q == host) || b) (same q low is).forwarding))
-      (λ q low. guarded_twice (has_number members q) _ _ _ _ (λ is. ap (λ b. (q == host) || b) (same q low is).forwarding) (λ is. ap (λ b. (q == host) || not b) (same q low is).isolated))
-
-  flood_target : (f : Flood) → (q : ℕ) → q < port_count → floods_to s members f q ≡ floods_to s' members f q
-  flood_target Unicast q low = guarded (has_number members q) _ _ (λ is. (same q low is).flood)
-  flood_target Mcast q low = ap (λ b. (q == host) || b) (guarded (has_number members q) _ _ (λ is. (same q low is).mcast_flood))
-  flood_target Bcast q low = ap (λ b. (q == host) || b) (guarded (has_number members q) _ _ (λ is. (same q low is).bcast_flood))
-
-  flood_of_members : (f : Flood) → fan_to s members (floods_to s members f) ≡ fan_to s' members (floods_to s' members f)
-  flood_of_members f = by_targets _ _ (flood_target f)
-
-  router_of_members : fan_to s members (routes_to s members) ≡ fan_to s' members (routes_to s' members)
-  router_of_members = by_targets _ _ (λ q low. guarded_first (has_number members q) _ _ (λ is. (same q low is).routers))
+use Rattle.chip_driver.proofs.FanRows.{SameAt, SameBut, kept_fan, kept_group, absent, absent_share, untargeted, share-in}
 
 -- ---- what depends on the rows of ports alone
 
@@ -80,30 +38,33 @@ follows_same s old new same follows = record {
   isolated = λ q low. follows.isolated q low ∙ ap (λ r. row_has_flag r isolated) (sym (same q));
 }
 
-states_same : (old new : Rows) → ((q : ℕ) → port_at new q ≡ port_at old q) → ((q : ℕ) → q < port_count → (port_at old q).state ≤ 4) → (q : ℕ) → q < port_count → (port_at new q).state ≤ 4
+states_same : (old new : Rows) → ((q : ℕ) → port_at new q ≡ port_at old q) → ((q : ℕ) → q < port_places → (port_at old q).state ≤ 4) → (q : ℕ) → q < port_places → (port_at new q).state ≤ 4
 states_same old new same states q low = subst (λ (r : PortRow). r.state ≤ 4) (sym (same q)) (states q low)
 
--- ---- the rows of a port's VLANs are made anew
+pub tells_at : (old new old' new' : Shares) (told : Told) → old ≡ old' → new ≡ new' → Tells old new told → Tells old' new' told
+tells_at old new old' new' told old_is new_is tells = subst (λ x. Tells x new' told) old_is (subst (λ x. Tells old x told) new_is tells)
 
-pub settled_anew : (s s' : Shadow) (j : List (List ℕ)) (p : ℕ) (old mid new : Rows) → p < port_count → Settled s j old → mid ≡ record old { ports = mid.ports }
-    → s'.own ≡ s.own → ((q : ℕ) → q < port_count → q ≢ p → SameAt s s' q) → Follows s' mid → ((q : ℕ) → q < port_count → (port_at mid q).state ≤ 4)
-    → Refreshes (has_vlan j p) s' mid new → Settled s' j new
-settled_anew s s' j p old mid new p_low settled mid_rest own same follows states refreshes = record {
+-- ---- the rows of a port's VLANs are made anew that tell of a change of it
+
+by_told : (h t : Bool) (made kept : FanRow) → (h ≡ true → t ≡ false → kept ≡ made) → (h ≡ false → kept ≡ made) → cond (h && t) made kept ≡ made
+by_told true true made kept untold apart = refl
+by_told true false made kept untold apart = untold refl refl
+by_told false t made kept untold apart = apart refl
+
+pub settled_anew : (s s' : Shadow) (j : List (List ℕ)) (p : ℕ) (told : Told) (old mid new : Rows) → p < port_places → Settled s j old → mid ≡ record old { ports = mid.ports }
+    → s'.own ≡ s.own → ((q : ℕ) → q < port_places → q ≢ p → SameAt s s' q) → Tells (shares_of s p true) (shares_of s' p true) told
+    → Follows s' mid → ((q : ℕ) → q < port_places → (port_at mid q).state ≤ 4)
+    → Refreshes (λ w k. has_vlan j p w && told_of told k) s' mid new → Settled s' j new
+settled_anew s s' j p told old mid new p_low settled mid_rest own same tells follows states refreshes = record {
   shadow = follows_same s' mid new (λ q. ap (λ (r : Rows). port_at r q) refreshes.rest) follows;
   joined = λ q vid low in_range. settled.joined q vid low in_range ∙ ap (λ (r : VlanRow). has_number r.members q) (sym (vlan vid));
   states = states_same mid new (λ q. ap (λ (r : Rows). port_at r q) refreshes.rest) states;
-  floods = λ vid in_range f.
-      refreshes.floods vid in_range f
-      ∙ by_member vid in_range (λ t m. fan_to t m (floods_to t m f)) (flood_at mid vid f) (has_vlan j p vid) refl
-      (ap (λ (r : Rows). flood_at r vid f) mid_rest ∙ settled.floods vid in_range f ∙ ap (λ (r : VlanRow). fan_to s r.members (floods_to s r.members f)) (sym (mid_vlan vid)))
-      (λ other. flood_of_members s s' (vlan_at mid vid).members own other f)
-      ∙ ap (λ (r : Rows). fan_to s' (vlan_at r vid).members (floods_to s' (vlan_at r vid).members f)) (sym refreshes.rest);
-  routers = λ vid in_range.
-      refreshes.routers vid in_range
-      ∙ by_member vid in_range (λ t m. fan_to t m (routes_to t m)) (router_at mid vid) (has_vlan j p vid) refl
-      (ap (λ (r : Rows). router_at r vid) mid_rest ∙ settled.routers vid in_range ∙ ap (λ (r : VlanRow). fan_to s r.members (routes_to s r.members)) (sym (mid_vlan vid)))
-      (λ other. router_of_members s s' (vlan_at mid vid).members own other)
-      ∙ ap (λ (r : Rows). fan_to s' (vlan_at r vid).members (routes_to s' (vlan_at r vid).members)) (sym refreshes.rest);
+  fans = λ vid in_range fan.
+      refreshes.fans vid in_range fan
+      ∙ by_told (has_vlan j p vid) (told_of told fan) _ _
+      (λ is off. before vid in_range fan ∙ kept vid fan (here vid fan (settled.joined p vid p_low in_range) is off))
+      (λ is. before vid in_range fan ∙ kept vid fan (there vid fan (settled.joined p vid p_low in_range) is))
+      ∙ ap (λ (r : Rows). fan_made s' (vlan_at r vid).members fan) (sym refreshes.rest);
 }
   where
     mid_vlan : (vid : ℕ) → vlan_at mid vid ≡ vlan_at old vid
@@ -112,16 +73,28 @@ settled_anew s s' j p old mid new p_low settled mid_rest own same follows states
     vlan : (vid : ℕ) → vlan_at new vid ≡ vlan_at old vid
     vlan vid = ap (λ (r : Rows). vlan_at r vid) refreshes.rest ∙ mid_vlan vid
 
-    not_member : (members : List ℕ) (q : ℕ) → has_number members p ≡ false → has_number members q ≡ true → q ≢ p
-    not_member members q absent present is = (let e : true ≡ false = sym present ∙ ap (has_number members) is ∙ absent in cc)
+    before : (vid : ℕ) → IsVid vid → (fan : Fan) → fan_at mid vid fan ≡ fan_made s (vlan_at mid vid).members fan
+    before vid in_range fan = ap (λ (r : Rows). fan_at r vid fan) mid_rest ∙ settled.fans vid in_range fan ∙ ap (λ (r : VlanRow). fan_made s r.members fan) (sym (mid_vlan vid))
 
-    by_member : (vid : ℕ) → IsVid vid → (row : Shadow → List ℕ → FanRow) (kept : FanRow) (has : Bool) → has_vlan j p vid ≡ has → kept ≡ row s (vlan_at mid vid).members
-        → (((q : ℕ) → q < port_count → has_number (vlan_at mid vid).members q ≡ true → SameAt s s' q) → row s (vlan_at mid vid).members ≡ row s' (vlan_at mid vid).members)
-        → cond has (row s' (vlan_at mid vid).members) kept ≡ row s' (vlan_at mid vid).members
-    by_member vid in_range row kept true is before local = refl
-    by_member vid in_range row kept false is before local =
-        before
-        ∙ local (λ q low yes. same q low (not_member (vlan_at mid vid).members q (ap (λ (r : VlanRow). has_number r.members p) (mid_vlan vid) ∙ sym (settled.joined p vid p_low in_range) ∙ is) yes))
+    kept : (vid : ℕ) (fan : Fan)
+        → share_of s p (has_number (vlan_at mid vid).members p) (is_target s (has_number (vlan_at mid vid).members p) fan p) ≡ share_of s' p (has_number (vlan_at mid vid).members p) (is_target s' (has_number (vlan_at mid vid).members p) fan p)
+        → fan_made s (vlan_at mid vid).members fan ≡ fan_made s' (vlan_at mid vid).members fan
+    kept vid fan = kept_fan p s s' (vlan_at mid vid).members (vlan_at mid vid).members (record { shadow = same; others = λ q low other. refl }) fan
+
+    is_there : (vid : ℕ) (m : Bool) → has_vlan j p vid ≡ has_number (vlan_at old vid).members p → has_vlan j p vid ≡ m → m ≡ has_number (vlan_at mid vid).members p
+    is_there vid m joined is = sym is ∙ joined ∙ ap (λ (r : VlanRow). has_number r.members p) (sym (mid_vlan vid))
+
+    here : (vid : ℕ) (fan : Fan) → has_vlan j p vid ≡ has_number (vlan_at old vid).members p → has_vlan j p vid ≡ true → told_of told fan ≡ false
+        → share_of s p (has_number (vlan_at mid vid).members p) (is_target s (has_number (vlan_at mid vid).members p) fan p) ≡ share_of s' p (has_number (vlan_at mid vid).members p) (is_target s' (has_number (vlan_at mid vid).members p) fan p)
+    here vid fan joined is off =
+        subst (λ m. share_of s p m (is_target s m fan p) ≡ share_of s' p m (is_target s' m fan p)) (is_there vid true joined is)
+        (sym (share-in s p true fan) ∙ tells.fans fan off ∙ share-in s' p true fan)
+
+    there : (vid : ℕ) (fan : Fan) → has_vlan j p vid ≡ has_number (vlan_at old vid).members p → has_vlan j p vid ≡ false
+        → share_of s p (has_number (vlan_at mid vid).members p) (is_target s (has_number (vlan_at mid vid).members p) fan p) ≡ share_of s' p (has_number (vlan_at mid vid).members p) (is_target s' (has_number (vlan_at mid vid).members p) fan p)
+    there vid fan joined is =
+        subst (λ m. share_of s p m (is_target s m fan p) ≡ share_of s' p m (is_target s' m fan p)) (is_there vid false joined is)
+        (absent s s' p fan (ap (λ (ns : List ℕ). has_number ns p) (sym own)))
 
 -- ---- a port's row is written
 
@@ -133,7 +106,7 @@ state_written : (b : Bool) (x y : PortRow) → x.state ≤ 4 → y.state ≤ 4 �
 state_written true x y hx hy = hx
 state_written false x y hx hy = hy
 
-pub states_written : (p : ℕ) (row : PortRow) (old mid : Rows) → WritesPort old mid p row → row.state ≤ 4 → ((q : ℕ) → q < port_count → (port_at old q).state ≤ 4) → (q : ℕ) → q < port_count → (port_at mid q).state ≤ 4
+pub states_written : (p : ℕ) (row : PortRow) (old mid : Rows) → WritesPort old mid p row → row.state ≤ 4 → ((q : ℕ) → q < port_places → (port_at old q).state ≤ 4) → (q : ℕ) → q < port_places → (port_at mid q).state ≤ 4
 states_written p row old mid writes fits states q low = subst (λ (r : PortRow). r.state ≤ 4) (sym (writes q)) (state_written (q == p) row (port_at old q) fits (states q low))
 
 own_stays : (p : ℕ) (row : PortRow) (old : Rows) → row.own ≡ (port_at old p).own → (q : ℕ) → (port_at old q).own ≡ (cond (q == p) row (port_at old q)).own
@@ -157,8 +130,9 @@ follows_written s s' p row old mid follows own_is writes notes = record {
     noted read set set' has is q low =
         has-where set' _ is q low ∙ ap (λ b. cond (q == p) (read row) b) (has q low) ∙ cond_read read (q == p) row (port_at old q) ∙ ap read (sym (writes q))
 
-notes_same : (s s' : Shadow) (p : ℕ) (row : PortRow) → Notes p row s s' → (q : ℕ) → q < port_count → q ≢ p → SameAt s s' q
+pub notes_same : (s s' : Shadow) (p : ℕ) (row : PortRow) → Notes p row s s' → (q : ℕ) → q < port_places → q ≢ p → SameAt s s' q
 notes_same s s' p row notes q low other = record {
+  own = ap (λ (ns : List ℕ). has_number ns q) (sym notes.own);
   forwarding = switched_other s'.forwarding s.forwarding p _ notes.forwarding q low other;
   flood = switched_other s'.flood s.flood p _ notes.flood q low other;
   mcast_flood = switched_other s'.mcast_flood s.mcast_flood p _ notes.mcast_flood q low other;
@@ -167,22 +141,26 @@ notes_same s s' p row notes q low other = record {
   routers = ap (λ (ns : List ℕ). has_number ns q) (sym notes.routers);
 }
 
-pub settled_port : (s s' : Shadow) (j : List (List ℕ)) (p : ℕ) (row : PortRow) (old mid new : Rows) → p < port_count → Settled s j old → row.own ≡ (port_at old p).own → row.state ≤ 4
-    → WritesPort old mid p row → mid ≡ record old { ports = mid.ports } → Notes p row s s' → Refreshes (has_vlan j p) s' mid new → Settled s' j new
-settled_port s s' j p row old mid new p_low settled own_is fits writes mid_rest notes refreshes =
-    settled_anew s s' j p old mid new p_low settled mid_rest notes.own
-    (notes_same s s' p row notes)
+pub settled_port : (s s' : Shadow) (j : List (List ℕ)) (p : ℕ) (row : PortRow) (told : Told) (old mid new : Rows) → p < port_places → Settled s j old
+    → row.own ≡ (port_at old p).own → row.state ≤ 4 → WritesPort old mid p row → mid ≡ record old { ports = mid.ports } → Notes p row s s'
+    → Tells (shares_of s p true) (shares_of s' p true) told → Refreshes (λ w k. has_vlan j p w && told_of told k) s' mid new → Settled s' j new
+settled_port s s' j p row told old mid new p_low settled own_is fits writes mid_rest notes tells refreshes =
+    settled_anew s s' j p told old mid new p_low settled mid_rest notes.own
+    (notes_same s s' p row notes) tells
     (follows_written s s' p row old mid settled.shadow own_is writes notes)
     (states_written p row old mid writes fits settled.states)
     refreshes
 
 -- ---- a router comes or goes
 
-pub settled_router : (s : Shadow) (j : List (List ℕ)) (p : ℕ) (routers : List ℕ) (on : Bool) (old new : Rows) → p < port_count → Settled s j old → routers ≡ switched s.routers p on
-    → Refreshes (has_vlan j p) (record s { routers = routers }) old new → Settled (record s { routers = routers }) j new
-settled_router s j p routers on old new p_low settled is refreshes =
-    settled_anew s (record s { routers = routers }) j p old old new p_low settled refl refl
-    (λ q low other. record { forwarding = refl; flood = refl; mcast_flood = refl; bcast_flood = refl; isolated = refl; routers = switched_other routers s.routers p on is q low other })
+pub routed_same : (s : Shadow) (p : ℕ) (routers : List ℕ) (on : Bool) → routers ≡ switched s.routers p on → (q : ℕ) → q < port_places → q ≢ p → SameAt s (record s { routers = routers }) q
+routed_same s p routers on is q low other = record { own = refl; forwarding = refl; flood = refl; mcast_flood = refl; bcast_flood = refl; isolated = refl; routers = switched_other routers s.routers p on is q low other }
+
+pub settled_router : (s : Shadow) (j : List (List ℕ)) (p : ℕ) (routers : List ℕ) (on : Bool) (told : Told) (old new : Rows) → p < port_places → Settled s j old → routers ≡ switched s.routers p on
+    → Tells (shares_of s p true) (shares_of (record s { routers = routers }) p true) told
+    → Refreshes (λ w k. has_vlan j p w && told_of told k) (record s { routers = routers }) old new → Settled (record s { routers = routers }) j new
+settled_router s j p routers on told old new p_low settled is tells refreshes =
+    settled_anew s (record s { routers = routers }) j p told old old new p_low settled refl refl (routed_same s p routers on is) tells
     (record {
       own = settled.shadow.own;
       forwarding = settled.shadow.forwarding;
@@ -195,9 +173,20 @@ settled_router s j p routers on old new p_low settled is refreshes =
 
 -- ---- a membership is switched
 
-pub settled_member : (s : Shadow) (j j' : List (List ℕ)) (p v : ℕ) (on : Bool) (row : VlanRow) (old mid new : Rows) → v < 4096 → Settled s j old → row.members ≡ switched (vlan_at old v).members p on
-    → WritesVlan old mid v row → mid ≡ record old { vlans = mid.vlans } → Switches j j' p v on → Refreshes (λ w. w == v) s mid new → Settled s j' new
-settled_member s j j' p v on row old mid new v_low settled is writes mid_rest switches refreshes = record {
+shadow_same : (s : Shadow) (q : ℕ) → SameAt s s q
+shadow_same s q = record { own = refl; forwarding = refl; flood = refl; mcast_flood = refl; bcast_flood = refl; isolated = refl; routers = refl }
+
+member_same : (s : Shadow) (p : ℕ) (members members' : List ℕ) (on : Bool) → members' ≡ switched members p on → SameBut p s s members members'
+member_same s p members members' on is = record { shadow = λ q low other. shadow_same s q; others = λ q low other. switched_other members' members p on is q low other }
+
+switched_here : (members members' : List ℕ) (p : ℕ) (on : Bool) → p < port_places → members' ≡ switched members p on → on ≡ has_number members' p
+switched_here members members' p on low is = sym (has-where members' _ is p low ∙ ap (λ b. cond b on (has_number members p)) (eq-eqb p p refl))
+
+pub settled_member : (s : Shadow) (j j' : List (List ℕ)) (p v : ℕ) (on : Bool) (row : VlanRow) (told : Told) (old mid new : Rows) → p < port_places → v < 4096 → Settled s j old
+    → row.members ≡ switched (vlan_at old v).members p on → WritesVlan old mid v row → mid ≡ record old { vlans = mid.vlans } → Switches j j' p v on
+    → Tells (shares_of s p (has_number (vlan_at old v).members p)) (shares_of s p on) told
+    → Refreshes (λ w k. (w == v) && told_of told k) s mid new → Settled s j' new
+settled_member s j j' p v on row told old mid new p_low v_low settled is writes mid_rest switches tells refreshes = record {
   shadow = follows_same s old new port settled.shadow;
   joined = λ q vid low in_range.
       switches q vid (omega arith) ∙ ap (λ b. cond ((q == p) && (vid == v)) on b) (settled.joined q vid low in_range)
@@ -207,14 +196,12 @@ settled_member s j j' p v on row old mid new v_low settled is writes mid_rest sw
       (eqb_tells vid v)
       ∙ ap (λ (r : VlanRow). has_number r.members q) (sym (vlan vid));
   states = states_same old new port settled.states;
-  floods = λ vid in_range f.
-      refreshes.floods vid in_range f
-      ∙ made vid (λ m. fan_to s m (floods_to s m f)) (flood_at mid vid f) (ap (λ (r : Rows). flood_at r vid f) mid_rest ∙ settled.floods vid in_range f)
-      ∙ ap (λ (r : Rows). fan_to s (vlan_at r vid).members (floods_to s (vlan_at r vid).members f)) (sym refreshes.rest);
-  routers = λ vid in_range.
-      refreshes.routers vid in_range
-      ∙ made vid (λ m. fan_to s m (routes_to s m)) (router_at mid vid) (ap (λ (r : Rows). router_at r vid) mid_rest ∙ settled.routers vid in_range)
-      ∙ ap (λ (r : Rows). fan_to s (vlan_at r vid).members (routes_to s (vlan_at r vid).members)) (sym refreshes.rest);
+  fans = λ vid in_range fan.
+      refreshes.fans vid in_range fan
+      ∙ by_told (vid == v) (told_of told fan) _ _
+      (λ at off. before vid in_range fan ∙ changed vid fan at off)
+      (λ at. before vid in_range fan ∙ ap (λ (r : VlanRow). fan_made s r.members fan) (sym (writes vid ∙ ap (λ b. cond b row (vlan_at old vid)) at)))
+      ∙ ap (λ (r : Rows). fan_made s (vlan_at r vid).members fan) (sym refreshes.rest);
 }
   where
     port : (q : ℕ) → port_at new q ≡ port_at old q
@@ -231,7 +218,7 @@ settled_member s j j' p v on row old mid new v_low settled is writes mid_rest sw
     and_false true = refl
     and_false false = refl
 
-    here : (q vid : ℕ) → q < port_count → (vid == v) ≡ true → vid ≡ v → cond ((q == p) && (vid == v)) on (has_number (vlan_at old vid).members q) ≡ has_number (cond (vid == v) row (vlan_at old vid)).members q
+    here : (q vid : ℕ) → q < port_places → (vid == v) ≡ true → vid ≡ v → cond ((q == p) && (vid == v)) on (has_number (vlan_at old vid).members q) ≡ has_number (cond (vid == v) row (vlan_at old vid)).members q
     here q vid low test same =
         ap (λ b. cond ((q == p) && b) on (has_number (vlan_at old vid).members q)) test
         ∙ ap (λ b. cond b on (has_number (vlan_at old vid).members q)) (and_true (q == p))
@@ -245,14 +232,21 @@ settled_member s j j' p v on row old mid new v_low settled is writes mid_rest sw
         ∙ ap (λ b. cond b on (has_number (vlan_at old vid).members q)) (and_false (q == p))
         ∙ ap (λ b. has_number (cond b row (vlan_at old vid)).members q) (sym test)
 
-    made : (vid : ℕ) (row_of : List ℕ → FanRow) (kept : FanRow) → kept ≡ row_of (vlan_at old vid).members → cond (vid == v) (row_of (vlan_at mid vid).members) kept ≡ row_of (vlan_at mid vid).members
-    made vid row_of kept before =
-        ⊎_elim
-        (λ (same : ((vid == v) ≡ true) × (vid ≡ v)). ap (λ b. cond b (row_of (vlan_at mid vid).members) kept) same.0)
-        (λ (apart : ((vid == v) ≡ false) × (vid ≢ v)).
-        ap (λ b. cond b (row_of (vlan_at mid vid).members) kept) apart.0 ∙ before
-        ∙ ap (λ (r : VlanRow). row_of r.members) (sym (writes vid ∙ ap (λ b. cond b row (vlan_at old vid)) apart.0)))
-        (eqb_tells vid v)
+    before : (vid : ℕ) → IsVid vid → (fan : Fan) → fan_at mid vid fan ≡ fan_made s (vlan_at old vid).members fan
+    before vid in_range fan = ap (λ (r : Rows). fan_at r vid fan) mid_rest ∙ settled.fans vid in_range fan
+
+    share : (fan : Fan) → told_of told fan ≡ false
+        → share_of s p (has_number (vlan_at old v).members p) (is_target s (has_number (vlan_at old v).members p) fan p) ≡ share_of s p (has_number row.members p) (is_target s (has_number row.members p) fan p)
+    share fan off =
+        subst (λ m. share_of s p (has_number (vlan_at old v).members p) (is_target s (has_number (vlan_at old v).members p) fan p) ≡ share_of s p m (is_target s m fan p))
+        (switched_here (vlan_at old v).members row.members p on p_low is)
+        (sym (share-in s p (has_number (vlan_at old v).members p) fan) ∙ tells.fans fan off ∙ share-in s p on fan)
+
+    changed : (vid : ℕ) (fan : Fan) → (vid == v) ≡ true → told_of told fan ≡ false → fan_made s (vlan_at old vid).members fan ≡ fan_made s (vlan_at mid vid).members fan
+    changed vid fan at off =
+        ap (λ n. fan_made s (vlan_at old n).members fan) (eqb-true vid v at)
+        ∙ kept_fan p s s (vlan_at old v).members row.members (member_same s p (vlan_at old v).members row.members on is) fan (share fan off)
+        ∙ ap (λ (r : VlanRow). fan_made s r.members fan) (sym (writes vid ∙ ap (λ b. cond b row (vlan_at old vid)) at))
 
 -- ---- group rows are written
 
@@ -261,28 +255,78 @@ settled_groups s j old new settled rest = subst (λ r. Settled s j r) (sym rest)
   shadow = follows_same s old _ (λ q. refl) settled.shadow;
   joined = settled.joined;
   states = settled.states;
-  floods = settled.floods;
-  routers = settled.routers;
+  fans = settled.fans;
 })
 
--- The group rows of VLANs of which the port isn't a member stay.
-pub port_kept : (s s' : Shadow) (j : List (List ℕ)) (p : ℕ) (row : PortRow) (ms : List Membership) (old mid : Rows) → p < port_count → Settled s j old → Notes p row s s' → ((vid : ℕ) → vlan_at mid vid ≡ vlan_at old vid)
-    → (k : GroupPair) → IsVid k.0 → has_vlan j p k.0 ≡ false → group_fan s old ms k ≡ group_fan s' mid ms k
-port_kept s s' j p row ms old mid p_low settled notes vlan k in_range absent =
-    by_targets s s' (vlan_at old k.0).members notes.own (λ q low there. notes_same s s' p row notes q low (apart q there)) (has_number (ports_in ms k.0 k.1)) (has_number (ports_in ms k.0 k.1)) (λ q low. refl)
-    ∙ ap (λ (r : VlanRow). fan_to s' r.members (has_number (ports_in ms k.0 k.1))) (sym (vlan k.0))
+-- the row of a port's untagged frames is written
+pub settled_pvid : (s : Shadow) (j : List (List ℕ)) (p : ℕ) (row : PortRow) (old new : Rows) → p < port_places → Settled s j old → WritesPort old new p (record (port_at old p) { pvid = row.pvid })
+    → new ≡ record old { ports = new.ports } → Settled s j new
+settled_pvid s j p row old new p_low settled writes rest = record {
+  shadow = record {
+    own = λ q low. settled.shadow.own q low ∙ reads (λ r. r.own) q (λ o. refl);
+    forwarding = λ q low. settled.shadow.forwarding q low ∙ reads row_forwards q (λ o. refl);
+    flood = λ q low. settled.shadow.flood q low ∙ reads (λ r. row_floods r flood) q (λ o. refl);
+    mcast_flood = λ q low. settled.shadow.mcast_flood q low ∙ reads (λ r. row_floods r mcast_flood) q (λ o. refl);
+    bcast_flood = λ q low. settled.shadow.bcast_flood q low ∙ reads (λ r. row_floods r bcast_flood) q (λ o. refl);
+    isolated = λ q low. settled.shadow.isolated q low ∙ reads (λ r. row_has_flag r isolated) q (λ o. refl);
+  };
+  joined = λ q vid low in_range. settled.joined q vid low in_range ∙ ap (λ (r : Rows). has_number (vlan_at r vid).members q) (sym rest);
+  states = states_written p (record (port_at old p) { pvid = row.pvid }) old new writes (settled.states p p_low) settled.states;
+  fans = λ vid in_range fan.
+      ap (λ (r : Rows). fan_at r vid fan) rest ∙ settled.fans vid in_range fan ∙ ap (λ (r : Rows). fan_made s (vlan_at r vid).members fan) (sym rest);
+}
   where
-    apart : (q : ℕ) → has_number (vlan_at old k.0).members q ≡ true → q ≢ p
-    apart q there is = (let e : true ≡ false = sym there ∙ ap (has_number (vlan_at old k.0).members) is ∙ sym (settled.joined p k.0 p_low in_range) ∙ absent in cc)
+    reads : (read : PortRow → Bool) (q : ℕ) → ((o : PortRow) → read o ≡ read (record o { pvid = row.pvid })) → read (port_at old q) ≡ read (port_at new q)
+    reads read q blind =
+        ⊎_elim
+        (λ (at : ((q == p) ≡ true) × (q ≡ p)). ap (λ n. read (port_at old n)) at.1 ∙ blind (port_at old p) ∙ ap (λ b. read (cond b (record (port_at old p) { pvid = row.pvid }) (port_at old q))) (sym at.0))
+        (λ (off : ((q == p) ≡ false) × (q ≢ p)). ap (λ b. read (cond b (record (port_at old p) { pvid = row.pvid }) (port_at old q))) (sym off.0))
+        (eqb_tells q p)
+        ∙ ap read (sym (writes q))
 
--- No row of a group tells of routers.
-pub router_kept : (s : Shadow) (routers : List ℕ) (ms : List Membership) (old new : Rows) → ((vid : ℕ) → vlan_at new vid ≡ vlan_at old vid) → (k : GroupPair) → group_fan s old ms k ≡ group_fan (record s { routers = routers }) new ms k
-unfolding fan_to
-router_kept s routers ms old new vlan k = ap (λ (r : VlanRow). fan_to s r.members (has_number (ports_in ms k.0 k.1))) (sym (vlan k.0))
+-- ---- group rows that don't tell of a change
 
--- Those of other VLANs stay.
-pub vlan_kept : (s : Shadow) (ms : List Membership) (v : ℕ) (row : VlanRow) (old mid fanned : Rows) → WritesVlan old mid v row → fanned ≡ record mid { unicast = fanned.unicast; mcast = fanned.mcast; bcast = fanned.bcast; routers = fanned.routers }
-    → (k : GroupPair) → IsVid k.0 → (k.0 == v) ≡ false → group_fan s old ms k ≡ group_fan s fanned ms k
-vlan_kept s ms v row old mid fanned writes rest k in_range apart =
-    ap (λ (r : VlanRow). fan_to s r.members (has_number (ports_in ms k.0 k.1)))
-    (sym (ap (λ (r : Rows). vlan_at r k.0) rest ∙ writes k.0 ∙ ap (λ b. cond b row (vlan_at old k.0)) apart))
+-- the row of a group stays where the port isn't a member of it, or has what it had
+group_share : (s s' : Shadow) (p : ℕ) (m m' t told : Bool) → (told ≡ false → share_of s p m true ≡ share_of s' p m' true) → (told && t) ≡ false → share_of s p m t ≡ share_of s' p m' t
+group_share s s' p m m' true told same off = same (sym (and_true told) ∙ off)
+  where
+    and_true : (b : Bool) → (b && true) ≡ b
+    and_true true = refl
+    and_true false = refl
+group_share s s' p m m' false told same off = untargeted s s' p m m'
+
+-- of a port's row or of a router
+pub port_kept : (s s' : Shadow) (p : ℕ) (told : Told) (ms : List Membership) (old mid : Rows) → ((q : ℕ) → q < port_places → q ≢ p → SameAt s s' q)
+    → Tells (shares_of s p true) (shares_of s' p true) told → has_number s.own p ≡ has_number s'.own p → ((vid : ℕ) → vlan_at mid vid ≡ vlan_at old vid)
+    → (k : GroupPair) → (told.groups && is_member ms p k) ≡ false → group_fan s old ms k ≡ group_fan s' mid ms k
+port_kept s s' p told ms old mid same tells own vlan k off =
+    kept_group p s s' (vlan_at old k.0).members (vlan_at old k.0).members (record { shadow = same; others = λ q low other. refl }) (is_there ms k)
+    (by (has_number (vlan_at old k.0).members p) (is_member ms p k) off)
+    ∙ ap (λ (r : VlanRow). fan_to s' r.members (is_there ms k)) (sym (vlan k.0))
+  where
+    is_there : List Membership → GroupPair → ℕ → Bool
+    is_there ms k q = is_member ms q k
+
+    closed : (t : Bool) → share_of s p false t ≡ share_of s' p false t
+    closed t = absent_share s s' p t own
+
+    by : (m t : Bool) → (told.groups && t) ≡ false → share_of s p m t ≡ share_of s' p m t
+    by true t off = group_share s s' p true true t told.groups tells.groups off
+    by false t off = closed t
+
+-- of a membership of a VLAN
+pub vlan_kept : (s : Shadow) (p v : ℕ) (on : Bool) (row : VlanRow) (told : Told) (ms : List Membership) (old mid : Rows) → p < port_places → row.members ≡ switched (vlan_at old v).members p on
+    → Tells (shares_of s p (has_number (vlan_at old v).members p)) (shares_of s p on) told → ((vid : ℕ) → vlan_at mid vid ≡ cond (vid == v) row (vlan_at old vid))
+    → (k : GroupPair) → (told.groups && ((k.0 == v) && is_member ms p k)) ≡ false → group_fan s old ms k ≡ group_fan s mid ms k
+vlan_kept s p v on row told ms old mid p_low is tells writes k off =
+    ⊎_elim
+    (λ (at : ((k.0 == v) ≡ true) × (k.0 ≡ v)).
+    ap (λ n. fan_to s (vlan_at old n).members (λ q. is_member ms q k)) at.1
+    ∙ kept_group p s s (vlan_at old v).members row.members (member_same s p (vlan_at old v).members row.members on is) (λ q. is_member ms q k)
+    (group_share s s p _ _ (is_member ms p k) told.groups
+    (λ quiet. tells.groups quiet ∙ ap (λ m. share_of s p m true) (switched_here (vlan_at old v).members row.members p on p_low is))
+    (ap (λ b. told.groups && (b && is_member ms p k)) (sym at.0) ∙ off))
+    ∙ ap (λ (r : VlanRow). fan_to s r.members (λ q. is_member ms q k)) (sym (writes k.0 ∙ ap (λ b. cond b row (vlan_at old k.0)) at.0)))
+    (λ (apart : ((k.0 == v) ≡ false) × (k.0 ≢ v)).
+    ap (λ (r : VlanRow). fan_to s r.members (λ q. is_member ms q k)) (sym (writes k.0 ∙ ap (λ b. cond b row (vlan_at old k.0)) apart.0)))
+    (eqb_tells k.0 v)

@@ -4,17 +4,17 @@ use Rattle.std.specs.Prelude.{◌==◌}
 use Rattle.std.proofs.lemmas.Bool.{eq-eqb, ne_eqb}
 use Rattle.std.proofs.lemmas.Bool.Decides.{eqb_tells}
 use Rattle.port_sets.specs.Numbers.{has_number}
-use Rattle.chip_driver.specs.Joined.{block_at, has_vlan, Switches}
-use Rattle.chip_driver.specs.Shadows.{switched}
-use Rattle.chip_driver.proofs.Sets.{has-where}
+use Rattle.br_model.specs.Table.Domains.{port_places}
+use Rattle.chip_driver.specs.Joined.{block_at, block_count, block_switched, has_vlan, Switches}
+use Rattle.chip_driver.proofs.Sets.{has-numbers}
 
-pub switches : (blocks : List (List ℕ)) (new : List ℕ) (p v : ℕ) (on : Bool) → length blocks ≡ 4096 → p < 64 → v < 4096
-    → new ≡ switched (block_at blocks p (v / 64)) (v % 64) on → Switches blocks (set blocks (64 * p + v / 64) new) p v on
+pub switches : (blocks : List (List ℕ)) (new : List ℕ) (p v : ℕ) (on : Bool) → length blocks ≡ block_count → p < port_places → v < 4096
+    → new ≡ block_switched (block_at blocks p (v / 64)) (v % 64) on → Switches blocks (set blocks (64 * p + v / 64) new) p v on
 switches blocks new p v on sized p_low v_low new_is q w low =
     ⊎_elim
     (λ (here : ((64 * q + w / 64 == 64 * p + v / 64) ≡ true) × (64 * q + w / 64 ≡ 64 * p + v / 64)).
     ap (λ (b : List ℕ). has_number b (w % 64)) (ap (λ i. get_or (set blocks (64 * p + v / 64) new) i []) here.1 ∙ get_or-set_same blocks (64 * p + v / 64) new [] inside)
-    ∙ has-where new _ new_is (w % 64) (omega arith)
+    ∙ has-numbers 64 new _ new_is (w % 64) (omega arith)
     ∙ ap (λ i. cond (w % 64 == v % 64) on (has_number (get_or blocks i []) (w % 64))) (sym here.1)
     ∙ ap (λ b. cond b on (has_vlan blocks q w)) (at_place here.1))
     (λ (other : ((64 * q + w / 64 == 64 * p + v / 64) ≡ false) × (64 * q + w / 64 ≢ 64 * p + v / 64)).

@@ -5,10 +5,10 @@ use Rattle.std.proofs.lemmas.Bool.Decides.{eqb_tells}
 use Rattle.std.proofs.lemmas.List.{length-replicate, get_or-replicate}
 use Rattle.std.proofs.lemmas.List.Folds.{list_any-append}
 use Rattle.port_sets.specs.Numbers.{has_number}
-use Rattle.chip_driver.specs.Joined.{block_at, has_vlan}
-use Rattle.chip_driver.specs.Shadows.{switched}
+use Rattle.br_model.specs.Table.Domains.{port_places}
+use Rattle.chip_driver.specs.Joined.{block_at, block_count, block_switched, has_vlan}
 use Rattle.chip_driver.specs.UsedSets.{AreUsed}
-use Rattle.chip_driver.proofs.Sets.{has-where}
+use Rattle.chip_driver.proofs.Sets.{has-numbers}
 
 -- those of set i with the numbers seen
 abbrev pub in_block : ℕ → List ℕ → ℕ → Bool
@@ -68,13 +68,13 @@ all_in_blocks blocks p used others w low = by (has_number used (w / 64)) (λ non
     by false h = h refl
 
 -- no set, and no VLAN
-pub none_used : (blocks used : List (List ℕ)) → blocks ≡ replicate 4096 [] → used ≡ replicate 64 [] → AreUsed blocks used
+pub none_used : (blocks used : List (List ℕ)) → blocks ≡ replicate block_count [] → used ≡ replicate port_places [] → AreUsed blocks used
 none_used blocks used no_blocks none = record {
-  sized = ap (λ (bs : List (List ℕ)). length bs) no_blocks ∙ length-replicate {A = List ℕ} 4096 [];
-  ports = ap (λ (us : List (List ℕ)). length us) none ∙ length-replicate {A = List ℕ} 64 [];
+  sized = ap (λ (bs : List (List ℕ)). length bs) no_blocks ∙ length-replicate {A = List ℕ} block_count [];
+  ports = ap (λ (us : List (List ℕ)). length us) none ∙ length-replicate {A = List ℕ} port_places [];
   others = λ port i p_low i_low. (
-    (λ _. ap (λ (bs : List (List ℕ)). block_at bs port i) no_blocks ∙ get_or-replicate 4096 (64 * port + i) [] [] (omega arith)),
-    (λ _. ap (λ (us : List (List ℕ)). has_number (get_or us port []) i) none ∙ ap (λ (u : List ℕ). has_number u i) (get_or-replicate 64 port [] [] p_low)),
+    (λ _. ap (λ (bs : List (List ℕ)). block_at bs port i) no_blocks ∙ get_or-replicate block_count (64 * port + i) [] [] (omega arith)),
+    (λ _. ap (λ (us : List (List ℕ)). has_number (get_or us port []) i) none ∙ ap (λ (u : List ℕ). has_number u i) (get_or-replicate port_places port [] [] p_low)),
   );
 }
 
@@ -86,8 +86,8 @@ emptied true xs tells = ((λ _. tells.0 refl), (λ _. refl))
 emptied false xs tells = ((λ e. tells.0 (sym e)), (λ e. sym (tells.1 e)))
 
 -- one set of a port is written
-pub set_used : (blocks used : List (List ℕ)) (p i : ℕ) (block now : List ℕ) (empty : Bool) → AreUsed blocks used → p < 64 → i < 64
-    → now ≡ switched (get_or used p []) i (not empty) → IsTrue empty ↔ (block ≡ []) → AreUsed (set blocks (64 * p + i) block) (set used p now)
+pub set_used : (blocks used : List (List ℕ)) (p i : ℕ) (block now : List ℕ) (empty : Bool) → AreUsed blocks used → p < port_places → i < 64
+    → now ≡ block_switched (get_or used p []) i (not empty) → IsTrue empty ↔ (block ≡ []) → AreUsed (set blocks (64 * p + i) block) (set used p now)
 set_used blocks used p i block now empty old p_low i_low now_is tells = record {
   sized = length-set blocks (64 * p + i) block ∙ old.sized;
   ports = length-set used p now ∙ old.ports;
@@ -95,7 +95,7 @@ set_used blocks used p i block now empty old p_low i_low now_is tells = record {
       ⊎_elim
       (λ (here : ((q == p) ≡ true) × (q ≡ p)).
       of_port q j q_low j_low here.1
-      (ap (λ n. has_number (get_or (set used p now) n []) j) here.1 ∙ ap (λ (us : List ℕ). has_number us j) (get_or-set_same used p now [] (omega (arith, old.ports))) ∙ has-where now _ now_is j j_low))
+      (ap (λ n. has_number (get_or (set used p now) n []) j) here.1 ∙ ap (λ (us : List ℕ). has_number us j) (get_or-set_same used p now [] (omega (arith, old.ports))) ∙ has-numbers 64 now _ now_is j j_low))
       (λ (other : ((q == p) ≡ false) × (q ≢ p)).
       same _ _ _ _ (ap (λ (us : List ℕ). has_number us j) (get_or-set_other used p q now [] other.1))
       (get_or-set_other blocks (64 * p + i) (64 * q + j) block [] (λ e. other.1 (omega arith)))
@@ -103,7 +103,7 @@ set_used blocks used p i block now empty old p_low i_low now_is tells = record {
       (eqb_tells q p);
 }
   where
-    of_port : (q j : ℕ) → q < 64 → j < 64 → q ≡ p → has_number (get_or (set used p now) q []) j ≡ cond (j == i) (not empty) (has_number (get_or used p []) j)
+    of_port : (q j : ℕ) → q < port_places → j < 64 → q ≡ p → has_number (get_or (set used p now) q []) j ≡ cond (j == i) (not empty) (has_number (get_or used p []) j)
         → (has_number (get_or (set used p now) q []) j ≡ false) ↔ (block_at (set blocks (64 * p + i) block) q j ≡ [])
     of_port q j q_low j_low at_p is =
         ⊎_elim

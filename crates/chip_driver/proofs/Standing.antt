@@ -5,30 +5,34 @@ use Rattle.std.specs.Option.{option_eq, unwrap_or}
 use Rattle.std.specs.Ordering.{nat_cmp}
 use Rattle.std.proofs.lemmas.Bool.Decides.{eqb_tells}
 use Rattle.br_model.specs.declared.change.Kind.{Kind}
-use Rattle.br_model.specs.Admission.{is_up, is_forwarding, forwarding, member}
-use Rattle.br_model.specs.Domains.{Domains, host}
-use Rattle.br_model.specs.Eligible.{untagged}
-use Rattle.br_model.specs.Groups as groups
-use Rattle.br_model.specs.Maps.{get, has}
-use Rattle.br_model.specs.Table.{Table}
-use Rattle.br_model.specs.Table as table
-use Rattle.br_model.specs.Targets.{flood, mcast_flood, bcast_flood, isolated}
+use Rattle.br_model.specs.Forward.Admission.{is_up, is_forwarding, forwarding, member}
+use Rattle.br_model.specs.Table.Domains.{Domains, host, port_places}
+use Rattle.br_model.specs.Forward.Eligible.{untagged}
+use Rattle.br_model.specs.Table.Groups as groups
+use Rattle.br_model.specs.Data.Maps.{get, has}
+use Rattle.br_model.specs.Table.Table.{Table}
+use Rattle.br_model.specs.Table.Table as table
+use Rattle.br_model.specs.Forward.Targets.{flood, mcast_flood, bcast_flood, isolated}
 use Rattle.port_sets.specs.Numbers.{has_number}
 use Rattle.chip_tables.specs.declared.rows.VlanRow.{VlanRow}
 use Rattle.chip_tables.specs.declared.rows.PortRow.{PortRow}
 use Rattle.chip_tables.specs.declared.rows.Flood.{Flood}
 use Rattle.chip_tables.specs.declared.rows.Flood.TheVariants.{Unicast, Mcast, Bcast}
 use Rattle.chip_tables.specs.Rows.{Rows, vlan_at, flood_at, router_at, port_at, trap_at, control_in, WritesPort, WritesVlan}
-use Rattle.chip_tables.specs.Stands.{port_count, ports_where, is_flooded, is_routed, is_grouped, is_open, vlan_wanted, fan_wanted, port_wanted, VlansStand, PortsStand, TrapsStand, ControlStands, address_wanted, AddressesStand, Stands}
+use Rattle.chip_tables.specs.Stands.{ports_where, is_flooded, is_routed, is_grouped, is_open, vlan_wanted, fan_wanted, port_wanted, VlansStand, PortsStand, TrapsStand, ControlStands, address_wanted, AddressesStand, Stands}
+use Rattle.chip_driver.specs.declared.fans.Fan.TheVariants.{Floods, Routers}
 use Rattle.chip_driver.specs.declared.shadow.Shadow.{Shadow}
-use Rattle.chip_driver.specs.Shadows.{Has, switched, switched_row, row_forwards, row_has_flag, row_floods, floods_to, routes_to, opens, fan_to}
+use Rattle.chip_tables.specs.Flags.{row_has_flag}
+use Rattle.chip_driver.specs.Shadows.{Has, switched, switched_row, row_forwards, row_floods, floods_to, routes_to, opens, fan_to}
 use Rattle.chip_driver.specs.GroupRows.{has_pair, group_fan, GroupsFollow}
 use Rattle.chip_driver.specs.Settled.{Settled}
-use Rattle.chip_driver.specs.Drives.{Driven, KeepsRouters, Drives}
+use Rattle.chip_driver.specs.declared.kept.Kept.{Kept}
+use Rattle.chip_driver.specs.Keeping.{IsKept, IsRemade}
+use Rattle.chip_driver.specs.Drives.{Driven, driven, KeepsRouters, Drives}
 use Rattle.chip_driver.proofs.Sets.{has-where, same_ports}
 use Rattle.chip_driver.proofs.GroupRows.{rows_stand, has-ports}
 use Rattle.mdb_snoop.specs.Database.{ports_in}
-use Rattle.br_model.specs.GroupPairs.{GroupPair}
+use Rattle.br_model.specs.Table.GroupPairs.{GroupPair}
 use Rattle.chip_driver.proofs.FanRows.{same_fans}
 use Rattle.chip_driver.proofs.TableLaws.{has-switched}
 
@@ -42,10 +46,10 @@ unfolding fan_to
 stands d t s j rows settled vlans ports routers traps control addresses follow = record {
   vlans = vlans;
   floods = λ vid in_range f.
-      settled.floods vid in_range f ∙ ap (λ (r : VlanRow). fan_to s r.members (floods_to s r.members f)) (vlans vid in_range)
+      settled.fans vid in_range (Floods f) ∙ ap (λ (r : VlanRow). fan_to s r.members (floods_to s r.members f)) (vlans vid in_range)
       ∙ wanted vid (floods_to s (vlan_wanted t vid).members f) (is_flooded t vid f) (floods vid f);
   routers = λ vid in_range.
-      settled.routers vid in_range ∙ ap (λ (r : VlanRow). fan_to s r.members (routes_to s r.members)) (vlans vid in_range)
+      settled.fans vid in_range Routers ∙ ap (λ (r : VlanRow). fan_to s r.members (routes_to s r.members)) (vlans vid in_range)
       ∙ wanted vid (routes_to s (vlan_wanted t vid).members) (is_routed t vid) (λ q low. ap₂ (λ a b. a && b) (routers q low) (members vid q low));
   ports = ports;
   traps = traps;
@@ -60,10 +64,10 @@ stands d t s j rows settled vlans ports routers traps control addresses follow =
     forwards : Has s.forwarding (is_forwarding t)
     forwards q low = settled.shadow.forwarding q low ∙ ap row_forwards (ports q low) ∙ ap (λ b. is_up t q && b) (state_is (get nat_cmp t.state q))
 
-    eligible : (vid q : ℕ) → q < port_count → opens s (vlan_wanted t vid).members q ≡ is_open t vid q
+    eligible : (vid q : ℕ) → q < port_places → opens s (vlan_wanted t vid).members q ≡ is_open t vid q
     eligible vid q low = ap₂ (λ m b. m && ((q == host) || b)) (members vid q low) (forwards q low)
 
-    wanted : (vid : ℕ) (to target : ℕ → Bool) → ((q : ℕ) → q < port_count → to q ≡ target q) → fan_to s (vlan_wanted t vid).members to ≡ fan_wanted d t vid target
+    wanted : (vid : ℕ) (to target : ℕ → Bool) → ((q : ℕ) → q < port_places → to q ≡ target q) → fan_to s (vlan_wanted t vid).members to ≡ fan_wanted d t vid target
     wanted vid to target same =
         same_fans _ _ _ _ _ _ _ _ (λ q low. settled.shadow.own q low ∙ ap (λ (r : PortRow). r.own) (ports q low)) same (eligible vid)
         (λ q low. ap₂ (λ e b. e && ((q == host) || not b)) (eligible vid q low) (settled.shadow.isolated q low ∙ ap (λ r. row_has_flag r isolated) (ports q low)))
@@ -74,21 +78,20 @@ stands d t s j rows settled vlans ports routers traps control addresses follow =
         ∙ wanted k.0 (has_number (ports_in t.groups k.0 k.1)) (is_grouped t k.0 k.1) (λ q low. has-ports q k.0 k.1 t.groups))
     grouped k false is = refl
 
-    floods : (vid : ℕ) (f : Flood) (q : ℕ) → q < port_count → floods_to s (vlan_wanted t vid).members f q ≡ is_flooded t vid f q
+    floods : (vid : ℕ) (f : Flood) (q : ℕ) → q < port_places → floods_to s (vlan_wanted t vid).members f q ≡ is_flooded t vid f q
     floods vid Unicast q low = ap₂ (λ m b. m && b) (members vid q low) (settled.shadow.flood q low ∙ ap (λ r. row_floods r flood) (ports q low))
     floods vid Mcast q low = ap₂ (λ m b. (q == host) || (m && b)) (members vid q low) (settled.shadow.mcast_flood q low ∙ ap (λ r. row_floods r mcast_flood) (ports q low))
     floods vid Bcast q low = ap₂ (λ m b. (q == host) || (m && b)) (members vid q low) (settled.shadow.bcast_flood q low ∙ ap (λ r. row_floods r bcast_flood) (ports q low))
 
 -- A port's row is written, and all else of the table stays.
-pub drives_port : (d : Domains) (t : Table) (up : List ℕ) (flags state : List (ℕ × ℕ)) (s : Shadow) (j : List (List ℕ)) (p : ℕ) (row : PortRow) (old : Driven) (new : Rows) → Drives d old t
-    → Settled s j new → s.routers ≡ old.routers → WritesPort old.rows new p row
-    → new ≡ record old.rows { unicast = new.unicast; mcast = new.mcast; bcast = new.bcast; routers = new.routers; ports = new.ports; groups = new.groups }
-    → GroupsFollow s old.groups new
+pub drives_port : (d : Domains) (t : Table) (up : List ℕ) (flags state : List (ℕ × ℕ)) (p : ℕ) (row : PortRow) (old : Driven) (kept : Kept) → Drives d old t
+    → IsKept kept → kept.shadow.routers ≡ old.routers → kept.groups ≡ old.groups → WritesPort old.rows kept.tables p row
+    → IsRemade (record old.rows { ports = kept.tables.ports }) kept.tables
     → row ≡ port_wanted d (record t { up = up; flags = flags; state = state }) p
     → ((q : ℕ) → q ≢ p → port_wanted d (record t { up = up; flags = flags; state = state }) q ≡ port_wanted d t q)
-    → Drives d (record { rows = new; routers = s.routers; groups = old.groups }) (record t { up = up; flags = flags; state = state })
-drives_port d t up flags state s j p row old new before settled routers_is writes rest follow written unwritten = record {
-  rows = stands d _ s j new settled
+    → Drives d (driven kept) (record t { up = up; flags = flags; state = state })
+drives_port d t up flags state p row old kept before is_kept routers_is groups_is writes rest written unwritten = record {
+  rows = stands d _ kept.shadow kept.joined kept.tables is_kept.settled
       (λ vid in_range. ap (λ (r : Rows). vlan_at r vid) rest ∙ before.rows.vlans vid in_range)
       (λ q low.
       writes q
@@ -100,9 +103,9 @@ drives_port d t up flags state s j p row old new before settled routers_is write
       (λ i low. ap (λ (r : Rows). trap_at r i) rest ∙ before.rows.traps i low)
       (ap control_in rest ∙ before.rows.control)
       (ap (λ (r : Rows). r.addresses) rest ∙ before.rows.addresses)
-      (subst (λ ms. GroupsFollow s ms new) before.groups follow);
+      (subst (λ ms. GroupsFollow kept.shadow ms kept.tables) (groups_is ∙ before.groups) is_kept.follow);
   routers = λ q low. ap (λ (ns : List ℕ). has_number ns q) routers_is ∙ before.routers q low;
-  groups = before.groups;
+  groups = groups_is ∙ before.groups;
 }
 
 -- a set of which one port is switched, as a test says
@@ -111,26 +114,24 @@ switched_set : (set old : List ℕ) (p : ℕ) (on : Bool) (test test' : ℕ → 
 switched_set set old p on test test' is has h = is ∙ same_ports _ _ (λ q low. ap (λ b. cond (q == p) on b) (has q low) ∙ sym (h q))
 
 -- A router comes or goes.
-pub drives_router : (d : Domains) (t : Table) (s : Shadow) (j : List (List ℕ)) (p : ℕ) (on : Bool) (old : Driven) (new : Rows) → Drives d old t
-    → Settled s j new → s.routers ≡ switched old.routers p on
-    → new ≡ record old.rows { unicast = new.unicast; mcast = new.mcast; bcast = new.bcast; routers = new.routers }
-    → GroupsFollow s old.groups new
-    → Drives d (record { rows = new; routers = s.routers; groups = old.groups }) (record t { routers = table.switched on t.routers p })
-drives_router d t s j p on old new before settled routers_is rest follow = record {
-  rows = stands d _ s j new settled
+pub drives_router : (d : Domains) (t : Table) (p : ℕ) (on : Bool) (old : Driven) (kept : Kept) → Drives d old t
+    → IsKept kept → kept.shadow.routers ≡ switched old.routers p on → kept.groups ≡ old.groups
+    → IsRemade old.rows kept.tables → Drives d (driven kept) (record t { routers = table.switched on t.routers p })
+drives_router d t p on old kept before is_kept routers_is groups_is rest = record {
+  rows = stands d _ kept.shadow kept.joined kept.tables is_kept.settled
       (λ vid in_range. ap (λ (r : Rows). vlan_at r vid) rest ∙ before.rows.vlans vid in_range)
       (λ q low. ap (λ (r : Rows). port_at r q) rest ∙ before.rows.ports q low)
-      kept
+      routed
       (λ i low. ap (λ (r : Rows). trap_at r i) rest ∙ before.rows.traps i low)
       (ap control_in rest ∙ before.rows.control)
       (ap (λ (r : Rows). r.addresses) rest ∙ before.rows.addresses)
-      (subst (λ ms. GroupsFollow s ms new) before.groups follow);
-  routers = kept;
-  groups = before.groups;
+      (subst (λ ms. GroupsFollow kept.shadow ms kept.tables) (groups_is ∙ before.groups) is_kept.follow);
+  routers = routed;
+  groups = groups_is ∙ before.groups;
 }
   where
-    kept : KeepsRouters s.routers (record t { routers = table.switched on t.routers p })
-    kept q low = has-where s.routers _ routers_is q low ∙ ap (λ b. cond (q == p) on b) (before.routers q low) ∙ sym (has-switched on t.routers p q)
+    routed : KeepsRouters kept.shadow.routers (record t { routers = table.switched on t.routers p })
+    routed q low = has-where kept.shadow.routers _ routers_is q low ∙ ap (λ b. cond (q == p) on b) (before.routers q low) ∙ sym (has-switched on t.routers p q)
 
 -- One membership is switched, and the VLAN of the port's untagged frames is written.
 pub record Membership (t t' : Table) (p v : ℕ) (on plain : Bool) : Type 0 where
@@ -168,14 +169,14 @@ vlans_switched t t' p v on plain row old mid before change row_is writes vid in_
         (same_ports _ _ (λ q low. sym (change.member vid q ∙ ap (λ b. cond (b && (q == p)) on (member t q vid)) test)))
         (same_ports _ _ (λ q low. sym (change.untagged vid q ∙ ap (λ b. cond (b && (q == p)) plain (untagged t q vid)) test)))
 
-pub drives_vlan : (d : Domains) (t : Table) (vlans : List ((ℕ × ℕ) × Bool)) (pvid : List (ℕ × ℕ)) (s : Shadow) (j : List (List ℕ)) (p v : ℕ) (on plain : Bool) (port : PortRow) (old : Driven) (mid new : Rows)
-    → Drives d old t → Membership t (record t { vlans = vlans; pvid = pvid }) p v on plain → Settled s j new → s.routers ≡ old.routers
+pub drives_vlan : (d : Domains) (t : Table) (vlans : List ((ℕ × ℕ) × Bool)) (pvid : List (ℕ × ℕ)) (p v : ℕ) (on plain : Bool) (port : PortRow) (old : Driven) (mid : Rows) (kept : Kept)
+    → Drives d old t → Membership t (record t { vlans = vlans; pvid = pvid }) p v on plain → IsKept kept → kept.shadow.routers ≡ old.routers → kept.groups ≡ old.groups
     → WritesVlan old.rows mid v (switched_row (vlan_at old.rows v) p on plain)
-    → mid ≡ record old.rows { vlans = mid.vlans; unicast = mid.unicast; mcast = mid.mcast; bcast = mid.bcast; routers = mid.routers; groups = mid.groups }
-    → WritesPort mid new p port → new ≡ record mid { ports = new.ports } → GroupsFollow s old.groups new → port ≡ port_wanted d (record t { vlans = vlans; pvid = pvid }) p
-    → Drives d (record { rows = new; routers = s.routers; groups = old.groups }) (record t { vlans = vlans; pvid = pvid })
-drives_vlan d t vlans pvid s j p v on plain port old mid new before change settled routers_is writes_vlan mid_rest writes_port rest follow port_is = record {
-  rows = stands d _ s j new settled
+    → IsRemade (record old.rows { vlans = mid.vlans }) mid
+    → WritesPort mid kept.tables p port → kept.tables ≡ record mid { ports = kept.tables.ports } → port ≡ port_wanted d (record t { vlans = vlans; pvid = pvid }) p
+    → Drives d (driven kept) (record t { vlans = vlans; pvid = pvid })
+drives_vlan d t vlans pvid p v on plain port old mid kept before change is_kept routers_is groups_is writes_vlan mid_rest writes_port rest port_is = record {
+  rows = stands d _ kept.shadow kept.joined kept.tables is_kept.settled
       (λ vid in_range. ap (λ (r : Rows). vlan_at r vid) rest ∙ vlans_switched t _ p v on plain _ old.rows mid before.rows.vlans change refl writes_vlan vid in_range)
       (λ q low.
       writes_port q
@@ -186,12 +187,12 @@ drives_vlan d t vlans pvid s j p v on plain port old mid new before change settl
       ∙ ap (λ o. record (port_wanted d t q) { pvid = o }) (sym (change.other q apart.1)))
       (eqb_tells q p))
       (λ q low. ap (λ (ns : List ℕ). has_number ns q) routers_is ∙ before.routers q low)
-      (λ i low. ap (λ (r : Rows). trap_at r i) (rest ∙ ap (λ (r : Rows). record r { ports = new.ports }) mid_rest) ∙ before.rows.traps i low)
-      (ap control_in (rest ∙ ap (λ (r : Rows). record r { ports = new.ports }) mid_rest) ∙ before.rows.control)
-      (ap (λ (r : Rows). r.addresses) (rest ∙ ap (λ (r : Rows). record r { ports = new.ports }) mid_rest) ∙ before.rows.addresses)
-      (subst (λ ms. GroupsFollow s ms new) before.groups follow);
+      (λ i low. ap (λ (r : Rows). trap_at r i) (rest ∙ ap (λ (r : Rows). record r { ports = kept.tables.ports }) mid_rest) ∙ before.rows.traps i low)
+      (ap control_in (rest ∙ ap (λ (r : Rows). record r { ports = kept.tables.ports }) mid_rest) ∙ before.rows.control)
+      (ap (λ (r : Rows). r.addresses) (rest ∙ ap (λ (r : Rows). record r { ports = kept.tables.ports }) mid_rest) ∙ before.rows.addresses)
+      (subst (λ ms. GroupsFollow kept.shadow ms kept.tables) (groups_is ∙ before.groups) is_kept.follow);
   routers = λ q low. ap (λ (ns : List ℕ). has_number ns q) routers_is ∙ before.routers q low;
-  groups = before.groups;
+  groups = groups_is ∙ before.groups;
 }
 
 -- The traps and the control row are written.
@@ -215,18 +216,18 @@ drives_switches d t queriers snoop stp routers old new traps_now control_now bef
 }
 
 -- The members of a group change, and its row.
-pub drives_groups : (d : Domains) (t : Table) (s : Shadow) (j : List (List ℕ)) (groups groups' : List groups.Membership) (old : Driven) (new : Rows) → Drives d old t → Settled s j new → s.routers ≡ old.routers
-    → new ≡ record old.rows { groups = new.groups } → GroupsFollow s groups' new → groups' ≡ groups
-    → Drives d (record { rows = new; routers = s.routers; groups = groups' }) (record t { groups = groups })
-drives_groups d t s j groups groups' old new before settled routers_is rest follow is = record {
-  rows = stands d _ s j new settled
+pub drives_groups : (d : Domains) (t : Table) (groups : List groups.Membership) (old : Driven) (kept : Kept) → Drives d old t → IsKept kept → kept.shadow.routers ≡ old.routers
+    → kept.tables ≡ record old.rows { groups = kept.tables.groups } → kept.groups ≡ groups
+    → Drives d (driven kept) (record t { groups = groups })
+drives_groups d t groups old kept before is_kept routers_is rest is = record {
+  rows = stands d _ kept.shadow kept.joined kept.tables is_kept.settled
       (λ vid in_range. ap (λ (r : Rows). vlan_at r vid) rest ∙ before.rows.vlans vid in_range)
       (λ q low. ap (λ (r : Rows). port_at r q) rest ∙ before.rows.ports q low)
       (λ q low. ap (λ (ns : List ℕ). has_number ns q) routers_is ∙ before.routers q low)
       (λ i low. ap (λ (r : Rows). trap_at r i) rest ∙ before.rows.traps i low)
       (ap control_in rest ∙ before.rows.control)
       (ap (λ (r : Rows). r.addresses) rest ∙ before.rows.addresses)
-      (subst (λ ms. GroupsFollow s ms new) is follow);
+      (subst (λ ms. GroupsFollow kept.shadow ms kept.tables) is is_kept.follow);
   routers = λ q low. ap (λ (ns : List ℕ). has_number ns q) routers_is ∙ before.routers q low;
   groups = is;
 }

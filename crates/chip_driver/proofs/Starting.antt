@@ -9,11 +9,11 @@ use Rattle.std.proofs.lemmas.Bool.Decides.{eqb_tells, nat_tests}
 use Rattle.port_sets.specs.Numbers.{has_number}
 use Rattle.port_sets.proofs.Numbers.{none_below}
 use Rattle.port_sets.proofs.Words.{no_members}
-use Rattle.br_model.specs.DomainPorts.{IsWordOf}
-use Rattle.br_model.specs.Domains.{Domains, chip, host}
-use Rattle.br_model.specs.Groups.{Membership}
-use Rattle.br_model.specs.Table.{Table, start}
-use Rattle.br_model.specs.Targets.{flood, mcast_flood, bcast_flood, isolated}
+use Rattle.br_model.specs.Table.DomainPorts.{IsWordOf}
+use Rattle.br_model.specs.Table.Domains.{Domains, chip, host, port_places}
+use Rattle.br_model.specs.Table.Groups.{Membership}
+use Rattle.br_model.specs.Table.Table.{Table, start}
+use Rattle.br_model.specs.Forward.Targets.{flood, mcast_flood, bcast_flood, isolated}
 use Rattle.chip_regs.specs.Rows.{field}
 use Rattle.chip_tables.specs.declared.rows.FanRow.{FanRow}
 use Rattle.chip_tables.specs.declared.rows.PortRow.{PortRow}
@@ -21,15 +21,21 @@ use Rattle.chip_tables.specs.declared.rows.VlanRow.{VlanRow}
 use Rattle.chip_tables.specs.declared.rows.Flood.{Flood}
 use Rattle.chip_tables.specs.declared.rows.Flood.TheVariants.{Unicast, Mcast, Bcast}
 use Rattle.chip_tables.specs.Rows.{Rows, members_of, vlan_of, fan_of, is_on, vlan_at, flood_at, router_at, port_at, trap_at, control_in, WritesVlan, WritesPort}
-use Rattle.chip_tables.specs.Stands.{port_count, ports_where, some_port, trap_count, trap_wanted, is_own, VlansStand}
+use Rattle.chip_tables.specs.Stands.{ports_where, some_port, trap_count, trap_wanted, is_own, VlansStand}
 use Rattle.chip_tables.specs.Writing.{IsBlank}
+use Rattle.chip_driver.specs.declared.fans.Fan.{Fan}
+use Rattle.chip_driver.specs.declared.fans.Fan.TheVariants.{Floods, Routers}
 use Rattle.chip_driver.specs.declared.shadow.Shadow.{Shadow}
 use Rattle.chip_driver.specs.Drives.{Drives}
+use Rattle.chip_driver.specs.Joined.{block_count}
 use Rattle.chip_driver.specs.Making.{idle, MarksOwn, SwitchesTraps}
-use Rattle.chip_driver.specs.Shadows.{row_forwards, row_has_flag, row_floods, floods_to, routes_to, opens, frees, fan_to, switched_row}
+use Rattle.chip_tables.specs.Flags.{row_has_flag}
+use Rattle.chip_driver.specs.Shadows.{row_forwards, row_floods, floods_to, routes_to, opens, frees, fan_to, fan_made, switched_row}
 use Rattle.chip_driver.specs.GroupRows.{GroupsFollow}
-use Rattle.chip_driver.specs.Settled.{Settled}
-use Rattle.chip_driver.proofs.Sets.{has-where, same_some}
+use Rattle.chip_driver.specs.Settled.{fan_at, Settled}
+use Rattle.chip_driver.specs.Keeping.{IsRemade}
+use Rattle.chip_tables.proofs.SomePort.{same_some}
+use Rattle.chip_driver.proofs.Sets.{has-where}
 use Rattle.chip_driver.proofs.GroupLoop.{follow_start}
 use Rattle.chip_driver.proofs.Standing.{stands, vlans_switched}
 use Rattle.chip_driver.proofs.Steps.{is_lt, not_lt, next_of}
@@ -90,9 +96,9 @@ any_nothing : (xs : List ℕ) → list_any (λ x. false) xs ≡ false
 any_nothing [] = refl
 any_nothing (x ∷ xs) = any_nothing xs
 
-none_some : (p : ℕ → Bool) → ((q : ℕ) → q < port_count → p q ≡ false) → some_port p ≡ false
+none_some : (p : ℕ → Bool) → ((q : ℕ) → q < port_places → p q ≡ false) → some_port p ≡ false
 unfolding some_port
-none_some p h = same_some p (λ q. false) h ∙ any_nothing (range_with_len 0 port_count)
+none_some p h = same_some p (λ q. false) h ∙ any_nothing (range_with_len 0 port_places)
 
 nothing_of : (a b : Bool) → (a && (b && false)) ≡ false
 nothing_of true true = refl
@@ -103,10 +109,10 @@ no_more : (b : Bool) → (b && false) ≡ false
 no_more true = refl
 no_more false = refl
 
-nobody : (s : Shadow) (to : ℕ → Bool) → ((q : ℕ) → q < port_count → (has_number s.own q && to q) ≡ false) → no_fan ≡ fan_to s [] to
+nobody : (s : Shadow) (to : ℕ → Bool) → ((q : ℕ) → q < port_places → (has_number s.own q && to q) ≡ false) → no_fan ≡ fan_to s [] to
 unfolding fan_to
 nobody s to none =
-    let p : ports_where (λ q. has_number s.own q && to q) ≡ [] = none_below _ port_count none in
+    let p : ports_where (λ q. has_number s.own q && to q) ≡ [] = none_below _ port_places none in
     let i : some_port (λ q. not (has_number s.own q) && (to q && frees s [] q)) ≡ false = none_some _ (λ q low. nothing_of (not (has_number s.own q)) (to q)) in
     let l : some_port (λ q. not (has_number s.own q) && (to q && opens s [] q)) ≡ false = none_some _ (λ q low. nothing_of (not (has_number s.own q)) (to q)) in
     cc
@@ -118,7 +124,7 @@ host_alone s own_host q =
     (λ (other : ((q == host) ≡ false) × (q ≢ host)). ap (λ b. has_number s.own q && (b || false)) other.0 ∙ no_more (has_number s.own q))
     (eqb_tells q host)
 
-untargeted : (s : Shadow) (f : Flood) → has_number s.own host ≡ false → (q : ℕ) → q < port_count → (has_number s.own q && floods_to s [] f q) ≡ false
+untargeted : (s : Shadow) (f : Flood) → has_number s.own host ≡ false → (q : ℕ) → q < port_places → (has_number s.own q && floods_to s [] f q) ≡ false
 untargeted s Unicast own_host q low = no_more (has_number s.own q)
 untargeted s Mcast own_host q low = host_alone s own_host q
 untargeted s Bcast own_host q low = host_alone s own_host q
@@ -131,18 +137,18 @@ first_shadow own = record { own = own; forwarding = []; flood = []; mcast_flood 
 
 -- the ports and the traps are written, and then the control row
 record Begun (own : List ℕ) (blank rows : Rows) : Type 0 where
-  ports : (q : ℕ) → q < port_count → port_at rows q ≡ idle (has_number own q)
+  ports : (q : ℕ) → q < port_places → port_at rows q ≡ idle (has_number own q)
   traps : (i : ℕ) → i < trap_count → trap_at rows i ≡ cond (nat_lt i 2) false true
   ports_now : List ℕ
   traps_now : List ℕ
   control_now : List ℕ
   rest : rows ≡ record blank { ports = ports_now; traps = traps_now; control = control_now }
 
-begun : (own : List ℕ) (blank marked trapped rows : Rows) → IsBlank blank → MarksOwn own 64 blank marked → SwitchesTraps 2 21 true marked trapped → rows ≡ record trapped { control = rows.control } → Begun own blank rows
+begun : (own : List ℕ) (blank marked trapped rows : Rows) → IsBlank blank → MarksOwn own port_places blank marked → SwitchesTraps 2 21 true marked trapped → rows ≡ record trapped { control = rows.control } → Begun own blank rows
 begun own blank marked trapped rows is_blank marks traps rest = record {
   ports = λ q low.
       ap (λ (r : Rows). port_at r q) (rest ∙ ap (λ (r : Rows). record r { control = rows.control }) traps.rest) ∙ marks.ports q
-      ∙ ap (λ b. cond b (idle (has_number own q)) (port_at blank q)) (is_lt q 64 low);
+      ∙ ap (λ b. cond b (idle (has_number own q)) (port_at blank q)) (is_lt q port_places low);
   traps = λ i low.
       ap (λ (r : Rows). trap_at r i) rest ∙ traps.traps i
       ∙ ap (λ b. cond b (cond (nat_lt i 2) (trap_at marked i) true) (trap_at marked i)) (is_lt i 21 low)
@@ -169,8 +175,8 @@ router_begun : (own : List ℕ) (blank rows : Rows) → IsBlank blank → Begun 
 router_begun own blank rows is_blank b vid =
     ap (λ (r : Rows). router_at r vid) b.rest ∙ ap fan_of (ap (λ (bank : List ℕ). get_or bank vid 0) is_blank.routers ∙ same_all 4096 vid 0) ∙ blank_fan
 
-pub settled_start : (own : List ℕ) (s : Shadow) (joined : List (List ℕ)) (blank marked trapped rows : Rows) → IsBlank blank → MarksOwn own 64 blank marked → SwitchesTraps 2 21 true marked trapped
-    → rows ≡ record trapped { control = rows.control } → s ≡ first_shadow own → joined ≡ replicate 4096 [] → has_number own host ≡ false → Settled s joined rows
+pub settled_start : (own : List ℕ) (s : Shadow) (joined : List (List ℕ)) (blank marked trapped rows : Rows) → IsBlank blank → MarksOwn own port_places blank marked → SwitchesTraps 2 21 true marked trapped
+    → rows ≡ record trapped { control = rows.control } → s ≡ first_shadow own → joined ≡ replicate block_count [] → has_number own host ≡ false → Settled s joined rows
 settled_start own s joined blank marked trapped rows is_blank marks traps rest s_is joined_is own_host =
     subst (λ x. Settled x joined rows) (sym s_is) (subst (λ j. Settled (first_shadow own) j rows) (sym joined_is) (record {
       shadow = record {
@@ -181,14 +187,9 @@ settled_start own s joined blank marked trapped rows is_blank marks traps rest s
         bcast_flood = λ q low. sym (ap (λ r. row_floods r bcast_flood) (b.ports q low));
         isolated = λ q low. sym (ap (λ r. row_has_flag r isolated) (b.ports q low));
       };
-      joined = λ q vid low in_range. ap (λ (set : List ℕ). has_number set (vid % 64)) (same_all 4096 (64 * q + vid / 64) []) ∙ sym (ap (λ (r : VlanRow). has_number r.members q) (vlan vid));
+      joined = λ q vid low in_range. ap (λ (set : List ℕ). has_number set (vid % 64)) (same_all block_count (64 * q + vid / 64) []) ∙ sym (ap (λ (r : VlanRow). has_number r.members q) (vlan vid));
       states = λ q low. subst (λ (r : PortRow). r.state ≤ 4) (sym (b.ports q low)) (omega arith);
-      floods = λ vid in_range f.
-          flood_begun own blank rows is_blank b vid f ∙ nobody (first_shadow own) (floods_to (first_shadow own) [] f) (untargeted (first_shadow own) f own_host)
-          ∙ ap (λ (r : VlanRow). fan_to (first_shadow own) r.members (floods_to (first_shadow own) r.members f)) (sym (vlan vid));
-      routers = λ vid in_range.
-          router_begun own blank rows is_blank b vid ∙ nobody (first_shadow own) (routes_to (first_shadow own) []) (λ q low. no_more (has_number own q))
-          ∙ ap (λ (r : VlanRow). fan_to (first_shadow own) r.members (routes_to (first_shadow own) r.members)) (sym (vlan vid));
+      fans = λ vid in_range fan. fans vid fan ∙ ap (λ (r : VlanRow). fan_made (first_shadow own) r.members fan) (sym (vlan vid));
     }))
   where
     b : Begun own blank rows
@@ -196,6 +197,10 @@ settled_start own s joined blank marked trapped rows is_blank marks traps rest s
 
     vlan : (vid : ℕ) → vlan_at rows vid ≡ no_vlan
     vlan = vlan_begun own blank rows is_blank b
+
+    fans : (vid : ℕ) (fan : Fan) → fan_at rows vid fan ≡ fan_made (first_shadow own) [] fan
+    fans vid (Floods f) = flood_begun own blank rows is_blank b vid f ∙ nobody (first_shadow own) (floods_to (first_shadow own) [] f) (untargeted (first_shadow own) f own_host)
+    fans vid Routers = router_begun own blank rows is_blank b vid ∙ nobody (first_shadow own) (routes_to (first_shadow own) []) (λ q low. no_more (has_number own q))
 
 -- the table before the host is a member of its VLAN
 abbrev no_members_yet : Table
@@ -216,11 +221,11 @@ first_trap i =
     by false false true e h k l = ap (λ x. cond x false true) (l refl refl)
     by false false false e h k l = ap (λ x. cond x false true) (l refl refl)
 
-pub drives_start : (d : Domains) (word : ℕ) (own : List ℕ) (s : Shadow) (joined : List (List ℕ)) (groups : List Membership) (blank marked trapped rows new : Rows) → IsBlank blank → MarksOwn own 64 blank marked → SwitchesTraps 2 21 true marked trapped
+pub drives_start : (d : Domains) (word : ℕ) (own : List ℕ) (s : Shadow) (joined : List (List ℕ)) (groups : List Membership) (blank marked trapped rows new : Rows) → IsBlank blank → MarksOwn own port_places blank marked → SwitchesTraps 2 21 true marked trapped
     → rows ≡ record trapped { control = rows.control } → control_in rows ≡ record { snooping = true; tree = false; four = false; six = false }
     → own ≡ ports_where (λ n. bit_at word n == 1) → IsWordOf d chip word → s.routers ≡ []
     → Settled s joined new → WritesVlan rows new 1 (switched_row (vlan_at rows 1) host true true)
-    → new ≡ record rows { vlans = new.vlans; unicast = new.unicast; mcast = new.mcast; bcast = new.bcast; routers = new.routers; groups = new.groups }
+    → IsRemade (record rows { vlans = new.vlans }) new
     → groups ≡ [] → GroupsFollow s groups new → Drives d (record { rows = new; routers = s.routers; groups = groups }) start
 drives_start d word own s joined groups blank marked trapped rows new is_blank marks traps rest control own_is word_is routers_is settled writes new_rest groups_is follow = record {
   rows = stands d start s joined new settled vlans
@@ -242,7 +247,7 @@ drives_start d word own s joined groups blank marked trapped rows new is_blank m
     nobody_there : VlansStand rows no_members_yet
     nobody_there vid in_range =
         vlan_begun own blank rows is_blank b vid
-        ∙ ap₂ (λ m u. record { members = m; untagged = u }) (sym (none_below _ port_count (λ q low. refl))) (sym (none_below _ port_count (λ q low. refl)))
+        ∙ ap₂ (λ m u. record { members = m; untagged = u }) (sym (none_below _ port_places (λ q low. refl))) (sym (none_below _ port_places (λ q low. refl)))
 
     vlans : VlansStand new start
     vlans =
@@ -258,7 +263,7 @@ drives_start d word own s joined groups blank marked trapped rows new is_blank m
 pub host_off : (d : Domains) (word : ℕ) (own : List ℕ) → own ≡ ports_where (λ n. bit_at word n == 1) → IsWordOf d chip word → is_own d host ≡ false → has_number own host ≡ false
 host_off d word own own_is word_is elsewhere = has-where own _ own_is host (omega arith) ∙ word_is host (omega arith) ∙ elsewhere
 
-pub follow_made : (s : Shadow) (own : List ℕ) (groups : List Membership) (blank marked trapped rows : Rows) → IsBlank blank → MarksOwn own 64 blank marked → SwitchesTraps 2 21 true marked trapped
+pub follow_made : (s : Shadow) (own : List ℕ) (groups : List Membership) (blank marked trapped rows : Rows) → IsBlank blank → MarksOwn own port_places blank marked → SwitchesTraps 2 21 true marked trapped
     → rows ≡ record trapped { control = rows.control } → groups ≡ [] → GroupsFollow s groups rows
 follow_made s own groups blank marked trapped rows is_blank marks traps rest none =
     follow_start s groups rows (ap (λ (r : Rows). r.groups) (begun own blank marked trapped rows is_blank marks traps rest).rest ∙ is_blank.groups) none

@@ -11,11 +11,11 @@ use Rattle.std.proofs.lemmas.Bool.{eq-eqb, ne_eqb, eqb-true}
 use Rattle.std.proofs.lemmas.Cmp.{nat_cmp_total, eq_by_cmp_equiv}
 use Rattle.std.proofs.lemmas.Map.Lookups.{exact_unsigned}
 use Rattle.std.proofs.lemmas.Map.Views.{any-filter_same}
-use Rattle.br_model.specs.Domains.{Domains}
-use Rattle.br_model.specs.Admission.{member}
-use Rattle.br_model.specs.Eligible.{untagged}
-use Rattle.br_model.specs.Maps.{pair_cmp, get, put, without, joined, parted, has}
-use Rattle.br_model.specs.Table.{Table, apply, default_flags, switched}
+use Rattle.br_model.specs.Table.Domains.{Domains}
+use Rattle.br_model.specs.Forward.Admission.{member}
+use Rattle.br_model.specs.Forward.Eligible.{untagged}
+use Rattle.br_model.specs.Data.Maps.{pair_cmp, get, put, without, joined, parted, has}
+use Rattle.br_model.specs.Table.Table.{Table, apply, default_flags, switched}
 use Rattle.br_model.specs.declared.change.Change.TheVariants.{PortUp, PortDown, SetFlags, SetState, VlanAdd, VlanDel, Querier}
 use Rattle.br_model.proofs.PairKeys.{pair_total, same_cmp, eq-pair}
 use Rattle.chip_tables.specs.declared.rows.PortRow.{PortRow}

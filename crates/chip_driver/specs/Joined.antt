@@ -1,8 +1,13 @@
--- The VLANs of each port, 64 of them a set: set i of a port has VLAN 64 i + n where it has the number n.
+-- The VLANs of each port in blocks of 64: block i of a port has VLAN 64 i + n where it has the number n.
 use Rattle.std.specs.Prelude.{◌≡◌, ℕ, ◌+◌, ◌*◌, ◌/◌, ◌%◌, ◌<◌, ◌==◌, Bool, ◌&&◌, if◌then◌else◌, List, [], slice_index_or}
-use Rattle.port_sets.specs.Numbers.{has_number}
+use Rattle.br_model.specs.Table.Domains.{port_places}
+use Rattle.port_sets.specs.Numbers.{has_number, numbers_below}
 
--- set i of the port
+-- how many blocks there are, 64 a port
+abbrev pub block_count : ℕ
+block_count = 64 * port_places
+
+-- block i of the port
 abbrev pub block_at : List (List ℕ) → ℕ → ℕ → List ℕ
 block_at blocks port i = slice_index_or blocks (64 * port + i) []
 
@@ -10,6 +15,11 @@ block_at blocks port i = slice_index_or blocks (64 * port + i) []
 abbrev pub has_vlan : List (List ℕ) → ℕ → ℕ → Bool
 has_vlan blocks port vid = has_number (block_at blocks port (vid / 64)) (vid % 64)
 
+-- the block with the number or without it
+abbrev pub block_switched : List ℕ → ℕ → Bool → List ℕ
+block_switched block n on = numbers_below 64 (λ m. if m == n then on else has_number block m)
+
 -- one VLAN of the port is switched
 abbrev pub Switches : List (List ℕ) → List (List ℕ) → ℕ → ℕ → Bool → Type 0
-Switches old new port vid on = (q v : ℕ) → v < 4096 → has_vlan new q v ≡ (if (q == port) && (v == vid) then on else has_vlan old q v)
+Switches old new port vid on = (q v : ℕ) → v < 4096
+    → has_vlan new q v ≡ (if (q == port) && (v == vid) then on else has_vlan old q v)

@@ -5,3 +5,5 @@ pub mod Making
 pub mod GroupRows
 pub mod Drives
 pub mod UsedSets
+pub mod Shares
+pub mod Keeping

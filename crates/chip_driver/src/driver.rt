@@ -1,21 +1,22 @@
 //! The driver.
 ghost use Rattle.std.specs.Prelude.{◌≡◌, ◌≤◌, IfOk, IsTrue};
-ghost use Rattle.br_model.specs.Domains.{Domains as DomainsValue, chip};
-ghost use Rattle.br_model.specs.GroupPairs.{has_room};
-ghost use Rattle.br_model.specs.Table.{Table, apply, start};
+ghost use Rattle.br_model.specs.Table.Domains.{Domains as DomainsValue, chip};
+ghost use Rattle.br_model.specs.Table.GroupPairs.{has_room};
+ghost use Rattle.br_model.specs.Table.Table.{Table, apply, start};
 ghost use Rattle.br_model.specs.declared.change.Change.TheVariants as changes;
 ghost use Rattle.chip_tables.specs.Stands.{address_wanted};
 ghost use Rattle.chip_driver.specs.Drives.{Drives, IsTaken};
 
 use crate::joined::Joined;
+use crate::kept::Kept;
 use crate::shadow::Shadow;
-use crate::{fans, groups, making, pvids, switches};
+use crate::{making, pvids, switches};
 use br_model::change::{Change, DISABLED, Flags, Kind, Update};
 use br_model::domains::Domains;
 use br_model::group::Group;
 use br_model::numbers::{Dom, Mac, Port, Vid};
 use chip_tables::{AddressRow, NoMemory, Tables};
-use mdb_snoop::Mdb;
+use mdb_snoop::Groups;
 use port_sets::Ports;
 use std::alloc::Global;
 use std::marker::Model;
@@ -24,23 +25,18 @@ use switchdev_notify::{Attribute, Object, SwitchOps, deliver, notice_of};
 /// A chip's tables, and what the driver keeps beside them. Contracts see the rows, and the ports behind which a router is.
 #[derive(Drop)]
 pub struct Driver {
-    tables: Tables,
-    shadow: Shadow,
-    joined: Joined,
-    groups: Mdb,
+    kept: Kept,
 }
 
 impl Model for Driver {
-    ghost use Rattle.mdb_snoop.specs.Database.{memberships};
-    ghost use Rattle.chip_driver.specs.Drives.{Driven};
-    ghost use Rattle.chip_driver.specs.GroupRows.{GroupsFollow};
-    ghost use Rattle.chip_driver.specs.Settled.{Settled};
+    ghost use Rattle.chip_driver.specs.Drives.{Driven, driven};
+    ghost use Rattle.chip_driver.specs.Keeping.{IsKept};
 
     ghost Value = { Driven };
 
-    ghost view = { λ d. record { rows = d.tables; routers = d.shadow.routers; groups = memberships d.groups } };
+    ghost view = { λ d. driven d.kept };
 
-    ghost invariant = { λ d. Settled d.shadow d.joined d.tables × GroupsFollow d.shadow (memberships d.groups) d.tables };
+    ghost invariant = { λ d. IsKept d.kept };
 }
 
 impl Driver {
@@ -50,36 +46,29 @@ impl Driver {
         ensures { IfOk result (λ x. Drives d.now x start) }
     {
         let mut tables = Tables::make(alloc)?;
-        let mut joined = Joined::make(alloc)?;
-        let groups = Mdb::make(alloc)?;
+        let joined = Joined::make(alloc)?;
+        let groups = Groups::make(alloc)?;
         let shadow = Shadow::start(Ports::from_word(d.ports_of(dom)));
+        // law: the host isn't on the chip
         making::host_is_elsewhere(d);
         making::mark_own(&mut tables, &shadow.own);
         switches::switch_traps(&mut tables, switches::FIRST_RESERVED, true);
         tables.set_control(switches::first_control());
-        fans::write_member(
-            &mut tables,
-            &shadow,
-            &mut joined,
-            &groups,
-            Port::HOST,
-            Vid::DEFAULT,
-            true,
-            true,
-        );
-        Ok(Driver {
+        let mut kept = Kept {
             tables,
             shadow,
             joined,
             groups,
-        })
+        };
+        kept.write_member(Port::HOST, Vid::DEFAULT, true, true);
+        Ok(Driver { kept })
     }
 
     /// The chip's rows.
     pub fn tables(&self) -> &Tables
         ensures { result.now ≡ self.now.rows }
     {
-        &self.tables
+        &self.kept.tables
     }
 
     /// Applies an update of the queue. Others than those of addresses are told.
@@ -114,157 +103,112 @@ impl Driver {
         requires { IsTaken self.old (changes.AddrPut v m p kind) }
         ensures { (d : DomainsValue) (t : Table) → Drives d self.old t → Drives d self.new (apply t (changes.AddrPut v m p kind)) }
     {
-        self.tables.set_address(v, m, Some(address_row(p, kind)));
+        self.kept
+            .tables
+            .set_address(v, m, Some(address_row(p, kind)));
     }
 
     fn del_address(&mut self, v: Vid, m: Mac)
-        requires { IsTaken self.old (changes.AddrDel v m) }
         ensures { (d : DomainsValue) (t : Table) → Drives d self.old t → Drives d self.new (apply t (changes.AddrDel v m)) }
     {
-        self.tables.set_address(v, m, None);
+        self.kept.tables.set_address(v, m, None);
     }
 
     fn set_state(&mut self, p: Port, state: u8)
         requires { state ≤ 4 }
         ensures { (d : DomainsValue) (t : Table) → Drives d self.old t → Drives d self.new (apply t (changes.SetState p state)) }
     {
-        let mut row = self.tables.port(p);
+        let mut row = self.kept.tables.port(p);
         row.state = state;
-        fans::write_port(
-            &mut self.tables,
-            &mut self.shadow,
-            &self.joined,
-            &self.groups,
-            p,
-            row,
-        );
+        self.kept.write_port(p, row);
     }
 
     fn set_flags(&mut self, p: Port, flags: Flags)
         ensures { (d : DomainsValue) (t : Table) → Drives d self.old t → Drives d self.new (apply t (changes.SetFlags p flags)) }
     {
-        let mut row = self.tables.port(p);
+        let mut row = self.kept.tables.port(p);
         row.flags = flags;
-        fans::write_port(
-            &mut self.tables,
-            &mut self.shadow,
-            &self.joined,
-            &self.groups,
-            p,
-            row,
-        );
+        self.kept.write_port(p, row);
     }
 
     fn port_up(&mut self, p: Port)
         ensures { (d : DomainsValue) (t : Table) → Drives d self.old t → Drives d self.new (apply t (changes.PortUp p)) }
     {
-        let mut row = self.tables.port(p);
+        let mut row = self.kept.tables.port(p);
         row.up = true;
         row.flags = Flags::DEFAULT;
         row.state = DISABLED;
-        fans::write_port(
-            &mut self.tables,
-            &mut self.shadow,
-            &self.joined,
-            &self.groups,
-            p,
-            row,
-        );
+        self.kept.write_port(p, row);
     }
 
     fn port_down(&mut self, p: Port)
         ensures { (d : DomainsValue) (t : Table) → Drives d self.old t → Drives d self.new (apply t (changes.PortDown p)) }
     {
-        let mut row = self.tables.port(p);
+        let mut row = self.kept.tables.port(p);
         row.up = false;
         row.flags = making::no_flags();
         row.state = DISABLED;
-        fans::write_port(
-            &mut self.tables,
-            &mut self.shadow,
-            &self.joined,
-            &self.groups,
-            p,
-            row,
-        );
+        self.kept.write_port(p, row);
     }
 
     fn add_vlan(&mut self, p: Port, v: Vid, untagged: bool, pvid: bool)
         ensures { (d : DomainsValue) (t : Table) → Drives d self.old t → Drives d self.new (apply t (changes.VlanAdd p v untagged pvid)) }
     {
-        fans::write_member(
-            &mut self.tables,
-            &self.shadow,
-            &mut self.joined,
-            &self.groups,
-            p,
-            v,
-            true,
-            untagged,
-        );
-        let pvid = pvids::pvid_with(self.tables.port(p).pvid, v, pvid);
-        fans::write_pvid(&mut self.tables, &self.shadow, &self.joined, p, pvid);
+        self.kept.write_member(p, v, true, untagged);
+        let pvid = pvids::pvid_with(self.kept.tables.port(p).pvid, v, pvid);
+        self.kept.write_pvid(p, pvid);
     }
 
     fn del_vlan(&mut self, p: Port, v: Vid)
         ensures { (d : DomainsValue) (t : Table) → Drives d self.old t → Drives d self.new (apply t (changes.VlanDel p v)) }
     {
-        fans::write_member(
-            &mut self.tables,
-            &self.shadow,
-            &mut self.joined,
-            &self.groups,
-            p,
-            v,
-            false,
-            false,
-        );
-        let pvid = pvids::pvid_without(self.tables.port(p).pvid, v);
-        fans::write_pvid(&mut self.tables, &self.shadow, &self.joined, p, pvid);
+        self.kept.write_member(p, v, false, false);
+        let pvid = pvids::pvid_without(self.kept.tables.port(p).pvid, v);
+        self.kept.write_pvid(p, pvid);
     }
 
     fn join_group(&mut self, p: Port, v: Vid, g: Group)
         requires { IsTrue (has_room self.old.groups v g) }
         ensures { (d : DomainsValue) (t : Table) → Drives d self.old t → Drives d self.new (apply t (changes.GroupJoin p v g)) }
     {
-        groups::join(&mut self.tables, &self.shadow, &mut self.groups, v, g, p);
+        self.kept.join(v, g, p);
     }
 
     fn part_group(&mut self, p: Port, v: Vid, g: Group)
         ensures { (d : DomainsValue) (t : Table) → Drives d self.old t → Drives d self.new (apply t (changes.GroupPart p v g)) }
     {
-        groups::part(&mut self.tables, &self.shadow, &mut self.groups, v, g, p);
+        self.kept.part(v, g, p);
     }
 
     fn set_router(&mut self, p: Port, on: bool)
         ensures { (d : DomainsValue) (t : Table) → Drives d self.old t → Drives d self.new (apply t (changes.Router p on)) }
     {
-        fans::write_router(&mut self.tables, &mut self.shadow, &self.joined, p, on);
+        self.kept.write_router(p, on);
     }
 
     fn set_querier(&mut self, six: bool, on: bool)
         ensures { (d : DomainsValue) (t : Table) → Drives d self.old t → Drives d self.new (apply t (changes.Querier six on)) }
     {
-        let control = switches::with_querier(self.tables.control(), six, on);
-        self.tables.set_control(control);
+        let control = switches::with_querier(self.kept.tables.control(), six, on);
+        self.kept.tables.set_control(control);
     }
 
     fn set_snoop(&mut self, on: bool)
         ensures { (d : DomainsValue) (t : Table) → Drives d self.old t → Drives d self.new (apply t (changes.Snoop on)) }
     {
-        let mut control = self.tables.control();
+        let mut control = self.kept.tables.control();
         control.snooping = on;
-        self.tables.set_control(control);
-        switches::switch_traps(&mut self.tables, switches::FIRST_SNOOPING, on);
+        self.kept.tables.set_control(control);
+        switches::switch_traps(&mut self.kept.tables, switches::FIRST_SNOOPING, on);
     }
 
     fn set_stp(&mut self, on: bool)
         ensures { (d : DomainsValue) (t : Table) → Drives d self.old t → Drives d self.new (apply t (changes.Stp on)) }
     {
-        let mut control = self.tables.control();
+        let mut control = self.kept.tables.control();
         control.tree = on;
-        self.tables.set_control(control);
-        self.tables.set_trap(switches::TREE_TRAP, on);
+        self.kept.tables.set_control(control);
+        self.kept.tables.set_trap(switches::TREE_TRAP, on);
     }
 }
 

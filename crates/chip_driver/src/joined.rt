@@ -1,21 +1,27 @@
 //! The VLANs of each port.
 ghost use Rattle.std.specs.Prelude.{◌≡◌, ◌<◌, ◌↔◌, ℕ, false, IfOk, [], replicate};
 ghost use Rattle.port_sets.specs.Numbers.{has_number};
-ghost use Rattle.chip_driver.specs.Joined.{block_at, has_vlan, Switches};
+ghost use Rattle.chip_driver.specs.Joined.{block_at, block_count, has_vlan, Switches};
 
 use crate::shadow::switched;
 use br_model::numbers::{Port, Vid};
 use chip_tables::NoMemory;
-use port_sets::Ports;
+use port_sets::PortSet;
 use std::alloc::Global;
 use std::marker::Model;
 
-/// The VLANs of each port, as sets of numbers: 64 sets a port, and set i has the number n for VLAN 64 i + n.
+/// A set of numbers below 64: VLANs by their places in a block of 64, or the blocks of a port.
+pub type VlanBlock = PortSet<1>;
+
+/// How many blocks there are, 64 a port.
+const BLOCKS: usize = 64 * Port::PLACES;
+
+/// The VLANs of each port in blocks: block i of a port has the number n for VLAN 64 i + n.
 #[derive(Drop)]
 pub struct Joined {
-    blocks: Vec<Ports>,
-    // Of each port the numbers of its sets that aren't empty.
-    used: Vec<Ports>,
+    blocks: Vec<VlanBlock>,
+    // Of each port the numbers of its blocks that aren't empty.
+    used: Vec<VlanBlock>,
 }
 
 impl Model for Joined {
@@ -30,33 +36,33 @@ impl Model for Joined {
 }
 
 /// So many empty sets.
-fn no_sets(alloc: Global, count: usize) -> Result<Vec<Ports>, NoMemory>
+fn no_sets(alloc: Global, count: usize) -> Result<Vec<VlanBlock>, NoMemory>
     ensures { IfOk result (λ v. v.items ≡ replicate count []) }
 {
-    let none = Ports::empty();
+    let none = VlanBlock::empty();
     vec![in alloc; none; count]
 }
 
 impl Joined {
     /// No port is in a VLAN.
     pub fn make(alloc: Global) -> Result<Joined, NoMemory>
-        ensures { IfOk result (λ j. j ≡ replicate 4096 []) }
+        ensures { IfOk result (λ j. j ≡ replicate block_count []) }
     {
-        let blocks = no_sets(alloc, 4096)?;
-        let used = no_sets(alloc, 64)?;
+        let blocks = no_sets(alloc, BLOCKS)?;
+        let used = no_sets(alloc, Port::PLACES)?;
         Ok(Joined { blocks, used })
     }
 
-    /// Set i of the port.
-    pub fn block(&self, p: Port, i: u8) -> Ports
+    /// Block i of the port.
+    pub fn block(&self, p: Port, i: u8) -> VlanBlock
         requires { i < 64 }
         ensures { result ≡ block_at self.now p i }
     {
         self.blocks[64 * usize::from(p.number()) + usize::from(i)]
     }
 
-    /// The numbers of the port's sets that aren't empty.
-    pub fn used(&self, p: Port) -> Ports
+    /// The numbers of the port's blocks that aren't empty.
+    pub fn used(&self, p: Port) -> VlanBlock
         ensures { (i : ℕ) → i < 64 → (has_number result i ≡ false) ↔ (block_at self.now p i ≡ []) }
     {
         self.used[usize::from(p.number())]

@@ -2,15 +2,14 @@
 #![tactic(auto)]
 
 pub mod driver;
-mod fans;
+pub mod fans;
 mod groups;
 pub mod joined;
+pub mod kept;
 mod making;
 mod pvids;
 pub mod shadow;
+pub mod shares;
 mod switches;
 
 pub use driver::Driver;
-
-#[cfg(test)]
-mod tests;

@@ -1,6 +1,6 @@
 //! The rows before any change.
 ghost use Rattle.std.specs.Prelude.{◌≡◌, false};
-ghost use Rattle.br_model.specs.Domains.{host};
+ghost use Rattle.br_model.specs.Table.Domains.{host, port_places};
 ghost use Rattle.chip_tables.specs.Stands.{is_own};
 ghost use Rattle.chip_driver.specs.Making.{idle, MarksOwn};
 
@@ -35,11 +35,11 @@ fn idle(own: bool) -> PortRow
 
 /// Writes the row of each port.
 pub fn mark_own(tables: &mut Tables, own: &Ports)
-    ensures { MarksOwn own.now 64 tables.old tables.new }
+    ensures { MarksOwn own.now port_places tables.old tables.new }
 {
-    for n in 0..64 {
-        if let Some(p) = Port::new(n) {
-            tables.set_port(p, idle(own.has(n)));
+    for n in 0..Port::PLACES {
+        if let Some(p) = Port::new(n as u8) {
+            tables.set_port(p, idle(own.has(n as u8)));
         }
     }
 }
@@ -48,5 +48,6 @@ pub fn mark_own(tables: &mut Tables, own: &Ports)
 pub fn host_is_elsewhere(d: &Domains)
     ensures { is_own d.now host ≡ false }
 {
+    // law: the host is in software's domain
     let _domain = d.of(Port::HOST);
 }

@@ -1,12 +1,14 @@
 //! What the driver keeps of the ports beside the chip's rows.
-ghost use Rattle.std.specs.Prelude.{◌≡◌, ◌<◌, []};
-ghost use Rattle.chip_driver.specs.Shadows.{switched, row_forwards, row_has_flag, row_floods};
+ghost use Rattle.std.specs.Prelude.{◌≡◌, ◌==◌, ◌*◌, ◌<◌, if◌then◌else◌, []};
+ghost use Rattle.port_sets.specs.Numbers.{has_number, numbers_below};
+ghost use Rattle.chip_tables.specs.Flags.{row_has_flag};
+ghost use Rattle.chip_driver.specs.Shadows.{row_forwards, row_floods};
 ghost use Rattle.chip_driver.specs.Settled.{Notes};
 
 use br_model::change::{FORWARDING, Flags};
 use br_model::numbers::Port;
 use chip_tables::PortRow;
-use port_sets::Ports;
+use port_sets::{PortSet, Ports};
 
 /// The ports of which each is so: on the chip, forwarding, up with a flag of flooding, isolated, and before a multicast router.
 #[derive(Clone, Copy, Debug)]
@@ -20,10 +22,10 @@ pub struct Shadow {
     pub routers: Ports,
 }
 
-/// The set with the number, which is below 64, or without it.
-pub fn switched(set: Ports, n: u8, on: bool) -> Ports
-    requires { n < 64 }
-    ensures { result ≡ switched set n on }
+/// The set with the number or without it.
+pub fn switched<const W: usize>(set: PortSet<W>, n: u8, on: bool) -> PortSet<W>
+    requires { n < 64 * W }
+    ensures { result ≡ numbers_below (64 * W) (λ m. if m == n then on else has_number set.entry m) }
 {
     if on { set.with(n) } else { set.without(n) }
 }

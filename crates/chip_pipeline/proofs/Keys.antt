@@ -6,11 +6,11 @@ use Rattle.std.specs.declared.cmp.Ordering.TheVariants.{Less, Equal, Greater}
 use Rattle.br_model.specs.declared.change.Kind.{Kind}
 use Rattle.br_model.specs.declared.change.Kind.TheVariants.{Local, Static, Learned, Extern}
 use Rattle.br_model.specs.declared.group.Group.{Group}
-use Rattle.br_model.specs.Domains.{Domains}
-use Rattle.br_model.specs.GroupPairs.{GroupPair, group_pair_cmp, group_pairs}
-use Rattle.br_model.specs.Learning.{is_dynamic}
-use Rattle.br_model.specs.Maps.{pair_cmp, get, has}
-use Rattle.br_model.specs.Table.{Table}
+use Rattle.br_model.specs.Table.Domains.{Domains}
+use Rattle.br_model.specs.Table.GroupPairs.{GroupPair, group_pair_cmp, group_pairs}
+use Rattle.br_model.specs.Control.Learning.{is_dynamic}
+use Rattle.br_model.specs.Data.Maps.{pair_cmp, get, has}
+use Rattle.br_model.specs.Table.Table.{Table}
 use Rattle.chip_tables.specs.declared.rows.AddressRow.{AddressRow}
 use Rattle.chip_tables.specs.declared.rows.FanRow.{FanRow}
 use Rattle.chip_tables.specs.Rows.{Rows, address_at, group_at}

@@ -10,22 +10,23 @@ use Rattle.std.proofs.lemmas.Bool.{cases_Bool, eqb-true, ne_eqb}
 use borrow.Author.Tests.{ltb-true, leb-true}
 use Rattle.std.proofs.lemmas.Map.Lookups.{exact_unsigned}
 use Rattle.std.proofs.lemmas.Map.Views.{any-filter_same}
-use Rattle.br_model.specs.Admission.{is_up, is_forwarding, member}
-use Rattle.br_model.specs.Domains.{Domains, foreign, host}
-use Rattle.br_model.specs.Eligible.{may}
-use Rattle.br_model.specs.Maps.{pair_cmp, get, has}
-use Rattle.br_model.specs.Numbers.{is_multicast, broadcast}
-use Rattle.br_model.specs.Table.{Table}
-use Rattle.br_model.specs.Targets.{bridge_group_address, pause_address, is_for_the_host, has_flag, with_flag, targets, flood, mcast_flood, bcast_flood, multicast_flood, isolated, port_of, snooped_targets, unicast_targets}
+use Rattle.br_model.specs.Forward.Admission.{is_up, is_forwarding, member}
+use Rattle.br_model.specs.Table.Domains.{Domains, foreign, host, port_places}
+use Rattle.br_model.specs.Forward.Eligible.{may}
+use Rattle.br_model.specs.Data.Maps.{pair_cmp, get, has}
+use Rattle.br_model.specs.Data.Numbers.{is_multicast, broadcast}
+use Rattle.br_model.specs.Table.Table.{Table}
+use Rattle.br_model.specs.Forward.Targets.{bridge_group_address, pause_address, is_for_the_host, has_flag, with_flag, targets, flood, mcast_flood, bcast_flood, multicast_flood, isolated, port_of, snooped_targets, unicast_targets}
 use Rattle.br_model.specs.declared.change.Kind.{Kind}
 use Rattle.br_model.specs.declared.frame.Head.{Head}
 use Rattle.br_model.specs.declared.frame.McastMsg.{McastMsg}
+use Rattle.br_model.proofs.Stations.{other, not-reserved}
 use Rattle.chip_tables.specs.declared.rows.AddressRow.{AddressRow}
 use Rattle.chip_tables.specs.declared.rows.FanRow.{FanRow}
 use Rattle.chip_tables.specs.declared.rows.Flood.{Flood}
 use Rattle.chip_tables.specs.declared.rows.Flood.TheVariants.{Unicast, Mcast, Bcast}
 use Rattle.chip_tables.specs.Rows.{Rows, flood_at}
-use Rattle.chip_tables.specs.Stands.{IsVid, Stands, is_flooded, port_count}
+use Rattle.chip_tables.specs.Stands.{IsVid, Stands, is_flooded}
 use Rattle.chip_pipeline.specs.declared.lookup.Way.{Way}
 use Rattle.chip_pipeline.specs.declared.lookup.Way.TheVariants.{Nowhere, One, Many}
 use Rattle.chip_pipeline.specs.Passed.{AtChip}
@@ -100,19 +101,6 @@ bcast-leads d rows t p vid row stands range is = group-leads d rows t p vid bcas
 
 -- ---- stations
 
-other : (a n : ℕ) → is_multicast a ≡ false → is_multicast n ≡ true → (a == n) ≡ false
-other a n station group = ne_eqb a n (λ e. absurd (cc (ap is_multicast e)))
-
-not-reserved : (a : ℕ) → is_multicast a ≡ false → is_for_the_host a ≡ false
-not-reserved a station = elim (cases_Bool (is_for_the_host a)) [
-  | inl e ↦
-      let low : pause_address < a = ltb-true pause_address a (first_so _ _ e) in
-      let high : a ≤ 0x0180C200000F = leb-true a 0x0180C200000F (second_so _ _ e) in
-      let one : a / 2 ^ 40 ≡ 1 = omega (arith, low, high) in
-      absurd (cc (sym station ∙ ap (λ n. n % 2 == 1) one))
-  | inr e ↦ e
-]
-
 station-targets : (t : Table) (vid : ℕ) (head : Head) (msg : McastMsg) (o : Option (ℕ × Kind)) → is_multicast head.dst ≡ false → get pair_cmp t.addr (vid, head.dst) ≡ o
     → targets t vid head msg ≡ unicast_targets t o
 station-targets t vid head msg o station is =
@@ -133,7 +121,7 @@ no-entry None h = refl
 no-entry (Some e) h = absurd (cc)
 
 pub known-way : (d : Domains) (t : Table) (p vid q : ℕ) (head : Head) (msg : McastMsg) (row : AddressRow) → is_multicast head.dst ≡ false → Some row ≡ entry_wanted t vid head.dst
-    → q ≡ port_of (row.port, row.kind) → q < port_count → IsWay d t p vid head msg (One q)
+    → q ≡ port_of (row.port, row.kind) → q < port_places → IsWay d t p vid head msg (One q)
 known-way d t p vid q head msg row station found is low =
     let e = known-entry (get pair_cmp t.addr (vid, head.dst)) row found in
     let same : q ≡ port_of e.0 = is ∙ ap (λ (r : AddressRow). port_of (r.port, r.kind)) e.1.1 in

@@ -8,28 +8,29 @@ use Rattle.std.proofs.lemmas.Bool.{eq-eqb, ne_eqb}
 use Rattle.std.proofs.lemmas.Bool.Decides.{eqb_tells}
 use Rattle.port_sets.specs.Numbers.{numbers_below, has_number}
 use Rattle.port_sets.proofs.Numbers.{has-below, has-filter, filter-numbers_below, same_below}
-use Rattle.br_model.specs.Admission.{is_forwarding, member}
-use Rattle.br_model.specs.Class.{class_by}
-use Rattle.br_model.specs.Domains.{Domains, foreign, host}
-use Rattle.br_model.specs.Eligible.{may}
-use Rattle.br_model.specs.Leave.{all_ports, egress_ports}
-use Rattle.br_model.specs.Maps.{has}
-use Rattle.br_model.specs.Table.{Table}
-use Rattle.br_model.specs.Targets.{has_flag, isolated, targets}
+use Rattle.br_model.specs.Forward.Admission.{is_forwarding, member}
+use Rattle.br_model.specs.Forward.Class.{class_by}
+use Rattle.br_model.specs.Table.Domains.{Domains, foreign, host, port_places}
+use Rattle.br_model.specs.Forward.Eligible.{may}
+use Rattle.br_model.specs.Forward.Leave.{all_ports, egress_ports}
+use Rattle.br_model.specs.Data.Maps.{has}
+use Rattle.br_model.specs.Table.Table.{Table}
+use Rattle.br_model.specs.Forward.Targets.{has_flag, isolated, targets}
 use Rattle.br_model.specs.declared.frame.Class.{Class}
 use Rattle.br_model.specs.declared.frame.Class.TheVariants.{Drop, Trap, Copy, Forward}
 use Rattle.br_model.specs.declared.frame.Head.{Head}
 use Rattle.br_model.specs.declared.frame.McastMsg.{McastMsg}
 use Rattle.chip_tables.specs.declared.rows.FanRow.{FanRow}
 use Rattle.chip_tables.specs.Rows.{Rows, port_at, vlan_at}
-use Rattle.chip_tables.specs.Stands.{IsVid, is_free, is_open, is_own, port_count, ports_where, some_port}
+use Rattle.chip_tables.specs.Stands.{IsVid, is_free, is_open, is_own, ports_where, some_port}
 use Rattle.chip_pipeline.specs.declared.egress.Out.{Out}
 use Rattle.chip_pipeline.specs.Outs.{IsOut}
 use Rattle.chip_pipeline.specs.Passed.{AtChip, chip_ports_by}
 use Rattle.chip_pipeline.specs.PortRows.{row_takes}
 use Rattle.chip_pipeline.specs.Ways.{Leads, LeadsTo, leaves_chip}
 use Rattle.chip_pipeline.proofs.Reading.{flag-is, foreign-is, forwards-is, member-is, not-host}
-use Rattle.chip_pipeline.proofs.Sets.{any_filter, any_split, member-of, nowhere_filter, same_some}
+use Rattle.chip_tables.proofs.SomePort.{same_some, some-none}
+use Rattle.chip_pipeline.proofs.Sets.{any_filter, any_split, member-of, nowhere_filter}
 
 -- ---- which port may take a frame
 
@@ -64,13 +65,13 @@ class-of : (d : Domains) (t : Table) (p vid : ℕ) (head : Head) (msg : McastMsg
     → class_by d p (egress_ports t p vid head msg) ≡ cond (not (some_port (goes t p vid head msg))) Drop (cond (some_port (λ q. goes t p vid head msg q && foreign d p q)) Copy Forward)
 unfolding egress_ports all_ports some_port
 class-of d t p vid head msg =
-    ap₂ (λ a b. cond a Drop (cond b Copy Forward)) (nowhere_filter (goes t p vid head msg) (range_with_len 0 port_count)) (any_filter (goes t p vid head msg) (foreign d p) (range_with_len 0 port_count))
+    ap₂ (λ a b. cond a Drop (cond b Copy Forward)) (nowhere_filter (goes t p vid head msg) (range_with_len 0 port_places)) (any_filter (goes t p vid head msg) (foreign d p) (range_with_len 0 port_places))
 
 -- the chip's share of it
 own-share : (d : Domains) (t : Table) (p vid : ℕ) (head : Head) (msg : McastMsg)
     → filter (λ q. not (foreign d p q)) (egress_ports t p vid head msg) ≡ ports_where (λ q. goes t p vid head msg q && not (foreign d p q))
 unfolding egress_ports all_ports numbers_below
-own-share d t p vid head msg = filter-numbers_below (goes t p vid head msg) (λ q. not (foreign d p q)) port_count
+own-share d t p vid head msg = filter-numbers_below (goes t p vid head msg) (λ q. not (foreign d p q)) port_places
 
 -- ---- one target
 
@@ -84,9 +85,9 @@ any_and x b (y ∷ ys) = ap (λ c. ((x == y) && b) || c) (any_and x b ys) ∙ st
     step true false false = refl
     step false b c = refl
 
-in-range : (x : ℕ) → x < port_count → has_number (range_with_len 0 port_count) x ≡ true
+in-range : (x : ℕ) → x < port_places → has_number (range_with_len 0 port_places) x ≡ true
 unfolding numbers_below
-in-range x low = sym (has-filter (λ _. true) x (range_with_len 0 port_count)) ∙ has-below (λ _. true) port_count x low
+in-range x low = sym (has-filter (λ _. true) x (range_with_len 0 port_places)) ∙ has-below (λ _. true) port_places x low
 
 or-none : (b : Bool) → (b || false) ≡ b
 or-none true = refl
@@ -98,11 +99,11 @@ alone x q f = elim (eqb_tells q x) [
   | inr e ↦ ap (λ a. (a || false) && f q) (unsigned_tied q x ∙ e.0) ∙ sym (ap (λ a. a && f x) (ne_eqb x q (λ same. e.1 (sym same))))
 ]
 
-any-one : (x : ℕ) (f : ℕ → Bool) → x < port_count → some_port (λ q. has nat_cmp (x ∷ []) q && f q) ≡ f x
+any-one : (x : ℕ) (f : ℕ → Bool) → x < port_places → some_port (λ q. has nat_cmp (x ∷ []) q && f q) ≡ f x
 unfolding some_port
 any-one x f low =
     same_some (λ q. has nat_cmp (x ∷ []) q && f q) (λ q. (x == q) && f x) (λ q below. alone x q f)
-    ∙ any_and x (f x) (range_with_len 0 port_count)
+    ∙ any_and x (f x) (range_with_len 0 port_places)
     ∙ ap (λ b. b && f x) (in-range x low)
 
 assoc : (a b c : Bool) → ((a && b) && c) ≡ (a && (b && c))
@@ -146,7 +147,7 @@ one-forward d rows t p vid x head msg ports at leads takes own is =
           sym
           (ap₂ (λ l c. cond l Trap c) (leads.alone ∙ ap₂ ◌&&◌ near takes)
           (class-one d t p vid x head msg leads ∙ ap₂ (λ b f. cond (not b) Drop (cond (b && f) Copy Forward)) takes near));
-      ports = is ∙ same_below _ _ port_count (λ q low. only q) ∙ sym (own-share d t p vid head msg);
+      ports = is ∙ same_below _ _ port_places (λ q low. only q) ∙ sym (own-share d t p vid head msg);
     }
   where
     only : (q : ℕ) → ((q == x) || false) ≡ ((has nat_cmp (targets t vid head msg) q && may t p q vid) && not (foreign d p q))
@@ -184,7 +185,7 @@ nowhere-out d t p vid head msg out nothing stays is =
     (ap₂ (λ l c. cond l Trap c) stays
     (class-of d t p vid head msg
     ∙ ap (λ (xs : List ℕ). cond (not (some_port (λ q. has nat_cmp xs q && may t p q vid))) Drop (cond (some_port (λ q. (has nat_cmp xs q && may t p q vid) && foreign d p q)) Copy Forward)) nothing
-    ∙ ap (λ b. cond (not b) Drop (cond (some_port (λ q. (has nat_cmp [] q && may t p q vid) && foreign d p q)) Copy Forward)) (none-of (range_with_len 0 port_count)))))
+    ∙ ap (λ b. cond (not b) Drop (cond (some_port (λ q. (has nat_cmp [] q && may t p q vid) && foreign d p q)) Copy Forward)) (none-of (range_with_len 0 port_places)))))
   where
     none-of : (xs : List ℕ) → list_any (λ (q : ℕ). false) xs ≡ false
     none-of [] = refl
@@ -227,36 +228,17 @@ turned false false = refl
 contradicts : {A : Type 0} (b : Bool) → b ≡ true → b ≡ false → A
 contradicts b is isnt = (let e : true ≡ false = sym is ∙ isnt in cc)
 
-any-filter : (p : ℕ → Bool) (xs : List ℕ) → (list_any p xs ≡ false) ↔ (filter p xs ≡ [])
-any-filter p [] = ((λ _. refl), (λ _. refl))
-any-filter p (x ∷ xs) = step (p x) (any-filter p xs)
-  where
-    step : (b : Bool) → (list_any p xs ≡ false) ↔ (filter p xs ≡ []) → ((b || list_any p xs) ≡ false) ↔ (cond b (x ∷ filter p xs) (filter p xs) ≡ [])
-    step true h = ((λ e. absurd (cc)), (λ e. absurd (cc)))
-    step false h = h
-
--- a set is empty where no port passes
-some-none : (set : List ℕ) (test : ℕ → Bool) (empty : Bool) → set ≡ ports_where test → IsTrue empty ↔ (set ≡ []) → not empty ≡ some_port test
-unfolding some_port numbers_below
-some-none set test empty is tells = by_case (list_any test (range_with_len 0 port_count)) empty (any-filter test (range_with_len 0 port_count)) is tells
-  where
-    by_case : (b e : Bool) {xs : List ℕ} → (b ≡ false) ↔ (xs ≡ []) → set ≡ xs → IsTrue e ↔ (set ≡ []) → not e ≡ b
-    by_case true true h is tells = sym (h.1 (sym is ∙ tells.0 refl))
-    by_case true false h is tells = refl
-    by_case false true h is tells = refl
-    by_case false false h is tells = (let no : IsTrue false = tells.1 (is ∙ h.0 refl) in cc)
-
 some_split : (own p : ℕ → Bool) → some_port p ≡ (some_port (λ x. own x && p x) || some_port (λ x. not (own x) && p x))
 unfolding some_port
-some_split own p = any_split own p (range_with_len 0 port_count)
+some_split own p = any_split own p (range_with_len 0 port_places)
 
 module _ (d : Domains) (rows : Rows) (t : Table) (p vid : ℕ) (head : Head) (msg : McastMsg) (row : FanRow)
-    (at : AtChip d rows t p) (low : p < port_count) (range : IsVid vid) (leads : Leads d t p vid row (targets t vid head msg)) where
+    (at : AtChip d rows t p) (low : p < port_places) (range : IsVid vid) (leads : Leads d t p vid row (targets t vid head msg)) where
   abbrev reaches : ℕ → Bool
   reaches q = leads.target q && may t p q vid
 
   -- a port of the chip
-  takes-is : (q : ℕ) → q < port_count → is_own d q ≡ true → row_takes p (has_flag t p isolated) (vlan_at rows vid) q (port_at rows q) ≡ may t p q vid
+  takes-is : (q : ℕ) → q < port_places → is_own d q ≡ true → row_takes p (has_flag t p isolated) (vlan_at rows vid) q (port_at rows q) ≡ may t p q vid
   takes-is q below own =
       ap₂ (λ m l. m && (not (q == p) && l)) (member-is d t rows at.stands vid q range below)
       (ap₂ (λ f x. f && not (has_flag t p isolated && x)) (forwards-is d t rows at.stands q below) (flag-is d t rows at.stands q isolated below))
@@ -269,7 +251,7 @@ module _ (d : Domains) (rows : Rows) (t : Table) (p vid : ℕ) (head : Head) (ms
       turn false true false z = refl
       turn false false f z = refl
 
-  reached-is : (q : ℕ) → q < port_count → (has_number row.ports q && row_takes p (has_flag t p isolated) (vlan_at rows vid) q (port_at rows q)) ≡ (is_own d q && reaches q)
+  reached-is : (q : ℕ) → q < port_places → (has_number row.ports q && row_takes p (has_flag t p isolated) (vlan_at rows vid) q (port_at rows q)) ≡ (is_own d q && reaches q)
   reached-is q below =
       ap (λ b. b && row_takes p (has_flag t p isolated) (vlan_at rows vid) q (port_at rows q)) (member-of (λ m. is_own d m && leads.target m) row.ports q (ap (λ (r : FanRow). r.ports) leads.wanted) below)
       ∙ by (is_own d q) refl
@@ -302,7 +284,7 @@ module _ (d : Domains) (rows : Rows) (t : Table) (p vid : ℕ) (head : Head) (ms
   many-share : (ports : List ℕ) → ports ≡ ports_where (λ q. has_number row.ports q && row_takes p (has_flag t p isolated) (vlan_at rows vid) q (port_at rows q)) → ports ≡ filter (λ q. not (foreign d p q)) (egress_ports t p vid head msg)
   many-share ports is =
       is
-      ∙ same_below _ _ port_count (λ q below.
+      ∙ same_below _ _ port_places (λ q below.
       reached-is q below ∙ ap (λ b. is_own d q && b) (leads.same q below) ∙ by (is_own d q) (goes t p vid head msg q) ∙ ap (λ b. goes t p vid head msg q && not b) (sym (foreign-is d p q at.own)))
       ∙ sym (own-share d t p vid head msg)
     where
@@ -315,7 +297,7 @@ module _ (d : Domains) (rows : Rows) (t : Table) (p vid : ℕ) (head : Head) (ms
   many-class : (ports : List ℕ) (elsewhere nowhere : Bool) → ports ≡ ports_where (λ q. has_number row.ports q && row_takes p (has_flag t p isolated) (vlan_at rows vid) q (port_at rows q))
       → elsewhere ≡ cond (has_flag t p isolated) row.isolated row.plain → IsTrue nowhere ↔ (ports ≡ []) → cond elsewhere Copy (cond nowhere Drop Forward) ≡ class_by d p (egress_ports t p vid head msg)
   many-class ports elsewhere nowhere is bit tells =
-      let own_any : not nowhere ≡ some_port (λ q. is_own d q && reaches q) = some-none ports _ nowhere (is ∙ same_below _ _ port_count reached-is) tells in
+      let own_any : not nowhere ≡ some_port (λ q. is_own d q && reaches q) = some-none ports _ nowhere (is ∙ same_below _ _ port_places reached-is) tells in
       let away : some_port (λ q. goes t p vid head msg q && foreign d p q) ≡ some_port reaches_elsewhere =
       same_some _ _ (λ q below. ap₂ (λ a b. a && b) (sym (leads.same q below)) (foreign-is d p q at.own) ∙ turned (reaches q) (not (is_own d q))) in
       let any : some_port (goes t p vid head msg) ≡ (some_port (λ q. is_own d q && reaches q) || some_port reaches_elsewhere) =

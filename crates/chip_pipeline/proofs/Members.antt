@@ -13,20 +13,20 @@ use Rattle.br_model.specs.declared.group.Group.{Group}
 use Rattle.br_model.specs.declared.group.Group.TheVariants.{V4, V6}
 use Rattle.br_model.specs.declared.frame.McastMsg.{McastMsg}
 use Rattle.br_model.specs.declared.frame.McastMsg.TheVariants.{Plain, Payload, Query, Report, Leave, Records, Unrecognized}
-use Rattle.br_model.specs.Admission.{member}
-use Rattle.br_model.specs.Class.{is_snooped}
-use Rattle.br_model.specs.Domains.{Domains}
-use Rattle.br_model.specs.Eligible.{may}
-use Rattle.br_model.specs.GroupPairs.{GroupPair, group_pair_cmp, group_pairs}
-use Rattle.br_model.specs.Groups.{Membership, group_cmp, is_link_local, is_six, membership_cmp}
-use Rattle.br_model.specs.Maps.{has, joined}
-use Rattle.br_model.specs.Table.{Table}
-use Rattle.br_model.specs.Targets.{knows_querier, members_of, multicast_flood, snooped_targets}
+use Rattle.br_model.specs.Forward.Admission.{member}
+use Rattle.br_model.specs.Forward.Class.{is_snooped}
+use Rattle.br_model.specs.Table.Domains.{Domains, port_places}
+use Rattle.br_model.specs.Forward.Eligible.{may}
+use Rattle.br_model.specs.Table.GroupPairs.{GroupPair, group_pair_cmp, group_pairs}
+use Rattle.br_model.specs.Table.Groups.{Membership, group_cmp, is_link_local, is_six, membership_cmp}
+use Rattle.br_model.specs.Data.Maps.{has, joined}
+use Rattle.br_model.specs.Table.Table.{Table}
+use Rattle.br_model.specs.Forward.Targets.{knows_querier, members_of, multicast_flood, snooped_targets}
 use Rattle.port_sets.specs.Numbers.{has_number}
 use Rattle.port_sets.proofs.Numbers.{same_below}
 use Rattle.chip_tables.specs.declared.rows.FanRow.{FanRow}
 use Rattle.chip_tables.specs.Rows.{Rows, router_at}
-use Rattle.chip_tables.specs.Stands.{IsVid, Stands, fan, fan_wanted, is_free, is_grouped, is_open, is_own, is_routed, port_count, ports_where, some_port}
+use Rattle.chip_tables.specs.Stands.{IsVid, Stands, fan, fan_wanted, is_free, is_grouped, is_open, is_own, is_routed, ports_where, some_port}
 use Rattle.chip_pipeline.specs.Ways.{Leads, group_wanted}
 use Rattle.chip_pipeline.proofs.Leading.{needs-member}
 use Rattle.chip_pipeline.proofs.Sets.{member-of}
@@ -143,7 +143,7 @@ same_any p q (x ∷ xs) h = ap₂ (λ a b. a || b) (h x) (same_any p q xs h)
 
 some-or : (own p q f : ℕ → Bool) → some_port (λ x. not (own x) && ((p x || q x) && f x)) ≡ (some_port (λ x. not (own x) && (p x && f x)) || some_port (λ x. not (own x) && (q x && f x)))
 unfolding some_port
-some-or own p q f = any_from own p q f 0 port_count
+some-or own p q f = any_from own p q f 0 port_places
   where
     spread : (o a b c : Bool) → (not o && ((a || b) && c)) ≡ ((not o && (a && c)) || (not o && (b && c)))
     spread true a b c = refl
@@ -164,7 +164,7 @@ fan-both own target other eligible free a b both is_a is_b ports isolated plain 
     λ i. record {
       ports =
           (ports
-          ∙ same_below _ _ port_count (λ q low.
+          ∙ same_below _ _ port_places (λ q low.
           ap₂ (λ x y. x || y) (member-of (λ m. own m && target m) a.ports q (ap (λ (r : FanRow). r.ports) is_a) low) (member-of (λ m. own m && other m) b.ports q (ap (λ (r : FanRow). r.ports) is_b) low)
           ∙ gather (own q) (target q) (other q))) i;
       isolated = (isolated ∙ ap₂ (λ (x y : FanRow). x.isolated || y.isolated) is_a is_b ∙ sym (some-or own target other free)) i;

@@ -2,23 +2,24 @@
 use Rattle.std.proofs.Common.{◌≡◌, ℕ, true, false, ◌&&◌, ◌||◌, cond, Option, None, Some, List, [], refl, sym, ap, ap₂, ◌∙◌}
 use Rattle.port_sets.specs.Numbers.{IsSetBelow, has_number}
 use Rattle.port_sets.proofs.Numbers.{filter-set, same_below}
-use Rattle.br_model.specs.Admission.{admit}
-use Rattle.br_model.specs.Class.{class, class_by, crosses, is_snooped, is_trapped_in, reaches_host}
-use Rattle.br_model.specs.Domains.{Domains}
-use Rattle.br_model.specs.Eligible.{untagged}
-use Rattle.br_model.specs.Leave.{egress_ports, ports_in, ports_out}
-use Rattle.br_model.specs.Table.{Table}
-use Rattle.br_model.specs.Targets.{to_tree}
+use Rattle.br_model.specs.Forward.Admission.{admit}
+use Rattle.br_model.specs.Forward.Class.{class, class_by, crosses, is_snooped, is_trapped_in, reaches_host}
+use Rattle.br_model.specs.Table.Domains.{Domains, port_places}
+use Rattle.br_model.specs.Forward.Eligible.{untagged}
+use Rattle.br_model.specs.Forward.Leave.{egress_ports, ports_in, ports_out}
+use Rattle.br_model.specs.Forward.Untagged.{untagged_among}
+use Rattle.br_model.specs.Table.Table.{Table}
+use Rattle.br_model.specs.Forward.Targets.{to_tree}
 use Rattle.br_model.specs.declared.frame.Class.{Class}
 use Rattle.br_model.specs.declared.frame.Class.TheVariants.{Drop, Trap}
 use Rattle.br_model.specs.declared.frame.Head.{Head}
 use Rattle.br_model.specs.declared.frame.McastMsg.{McastMsg}
 use Rattle.chip_tables.specs.Rows.{Rows, vlan_at}
-use Rattle.chip_tables.specs.Stands.{IsVid, Stands, port_count, ports_where}
+use Rattle.chip_tables.specs.Stands.{IsVid, Stands, ports_where}
 use Rattle.chip_pipeline.specs.declared.answer.Sent.{Sent}
 use Rattle.chip_pipeline.specs.declared.egress.Out.{Out}
 use Rattle.chip_pipeline.specs.Outs.{IsOut}
-use Rattle.chip_pipeline.specs.Passed.{IsSent, chip_ports_by, untagged_among}
+use Rattle.chip_pipeline.specs.Passed.{IsSent, chip_ports_by}
 use Rattle.chip_pipeline.specs.Ways.{leaves_chip}
 use Rattle.chip_pipeline.proofs.Reading.{untagged-is}
 
@@ -85,7 +86,7 @@ class-is d t p vid head msg out other admitted free is =
     ∙ ap (λ b. cond (b || leaves_chip d t p vid head) Trap (class_by d p (ports_out t p head msg))) free)
 
 pub out-sent : (d : Domains) (rows : Rows) (t : Table) (p vid : ℕ) (head : Head) (msg : McastMsg) (out : Out) (plain both : List ℕ) → Stands d rows t → IsVid vid → to_tree t p head ≡ false → Some vid ≡ admit t p head
-    → (t.snoop && is_snooped msg) ≡ false → IsOut d t p vid head msg out → IsSetBelow port_count out.ports → plain ≡ (vlan_at rows vid).untagged
+    → (t.snoop && is_snooped msg) ≡ false → IsOut d t p vid head msg out → IsSetBelow port_places out.ports → plain ≡ (vlan_at rows vid).untagged
     → both ≡ ports_where (λ q. has_number out.ports q && has_number plain q) → IsSent d t p head msg (record { class = out.class; vid = Some vid; ports = out.ports; untagged = both })
 out-sent d rows t p vid head msg out plain both stands range other admitted free is ascending plain_is both_is =
     let cls = class-is d t p vid head msg out other admitted free is in
@@ -95,6 +96,6 @@ out-sent d rows t p vid head msg out plain both stands range other admitted free
       ports = is.ports ∙ ap₂ (λ c (qs : List ℕ). chip_ports_by c d p qs) cls (out-is t p vid head msg other admitted);
       untagged =
           both_is
-          ∙ same_below _ _ port_count (λ q low. ap (λ b. has_number out.ports q && b) (ap (λ (ns : List ℕ). has_number ns q) plain_is ∙ untagged-is d t rows stands vid q range low))
-          ∙ sym (filter-set port_count out.ports (λ q. untagged t q vid) ascending);
+          ∙ same_below _ _ port_places (λ q low. ap (λ b. has_number out.ports q && b) (ap (λ (ns : List ℕ). has_number ns q) plain_is ∙ untagged-is d t rows stands vid q range low))
+          ∙ sym (filter-set port_places out.ports (λ q. untagged t q vid) ascending);
     }

@@ -6,16 +6,17 @@ use Rattle.std.specs.Ordering.{nat_cmp}
 use Rattle.std.proofs.lemmas.Bool.{eqb-true, ne_eqb}
 use Rattle.std.proofs.lemmas.Bool.Decides.{nat_tests}
 use Rattle.port_sets.specs.Numbers.{has_number}
-use Rattle.br_model.specs.Admission.{learning, forwarding, is_up, is_in_state, is_forwarding, member}
-use Rattle.br_model.specs.Domains.{Domains, chip, domain_of, foreign, host, software}
-use Rattle.br_model.specs.Eligible.{untagged}
-use Rattle.br_model.specs.Maps.{get}
-use Rattle.br_model.specs.Table.{Table}
-use Rattle.br_model.specs.Targets.{has_flag}
+use Rattle.br_model.specs.Forward.Admission.{learning, forwarding, is_up, is_in_state, is_forwarding, member}
+use Rattle.br_model.specs.Table.Domains.{Domains, chip, domain_of, foreign, host, software, port_places}
+use Rattle.br_model.specs.Forward.Eligible.{untagged}
+use Rattle.br_model.specs.Data.Maps.{get}
+use Rattle.br_model.specs.Table.Table.{Table}
+use Rattle.br_model.specs.Forward.Targets.{has_flag}
 use Rattle.chip_tables.specs.declared.rows.VlanRow.{VlanRow}
 use Rattle.chip_tables.specs.Rows.{Rows, vlan_at, port_at}
-use Rattle.chip_tables.specs.Stands.{IsVid, Stands, is_own, port_count}
-use Rattle.chip_pipeline.specs.PortRows.{row_has_flag, row_is_in}
+use Rattle.chip_tables.specs.Stands.{IsVid, Stands, is_own}
+use Rattle.chip_tables.specs.Flags.{row_has_flag}
+use Rattle.chip_pipeline.specs.PortRows.{row_is_in}
 use Rattle.chip_pipeline.proofs.Sets.{member-of}
 
 contradicts : {A : Type 0} (b : Bool) → b ≡ true → b ≡ false → A
@@ -30,19 +31,19 @@ learning-is None = refl
 learning-is (Some n) = refl
 
 module _ (d : Domains) (t : Table) (rows : Rows) (stands : Stands d rows t) where
-  pub forwards-is : (q : ℕ) → q < port_count → row_is_in (port_at rows q) forwarding ≡ is_forwarding t q
+  pub forwards-is : (q : ℕ) → q < port_places → row_is_in (port_at rows q) forwarding ≡ is_forwarding t q
   forwards-is q low = ap (λ r. row_is_in r forwarding) (stands.ports q low) ∙ ap (λ b. is_up t q && b) (forwarding-is (get nat_cmp t.state q))
 
-  pub learns-is : (q : ℕ) → q < port_count → row_is_in (port_at rows q) learning ≡ is_in_state t q learning
+  pub learns-is : (q : ℕ) → q < port_places → row_is_in (port_at rows q) learning ≡ is_in_state t q learning
   learns-is q low = ap (λ r. row_is_in r learning) (stands.ports q low) ∙ ap (λ b. is_up t q && b) (learning-is (get nat_cmp t.state q))
 
-  pub flag-is : (q flag : ℕ) → q < port_count → row_has_flag (port_at rows q) flag ≡ has_flag t q flag
+  pub flag-is : (q flag : ℕ) → q < port_places → row_has_flag (port_at rows q) flag ≡ has_flag t q flag
   flag-is q flag low = ap (λ r. row_has_flag r flag) (stands.ports q low)
 
-  pub member-is : (vid q : ℕ) → IsVid vid → q < port_count → has_number (vlan_at rows vid).members q ≡ member t q vid
+  pub member-is : (vid q : ℕ) → IsVid vid → q < port_places → has_number (vlan_at rows vid).members q ≡ member t q vid
   member-is vid q range low = member-of (λ p. member t p vid) (vlan_at rows vid).members q (ap (λ (r : VlanRow). r.members) (stands.vlans vid range)) low
 
-  pub untagged-is : (vid q : ℕ) → IsVid vid → q < port_count → has_number (vlan_at rows vid).untagged q ≡ untagged t q vid
+  pub untagged-is : (vid q : ℕ) → IsVid vid → q < port_places → has_number (vlan_at rows vid).untagged q ≡ untagged t q vid
   untagged-is vid q range low = member-of (λ p. untagged t p vid) (vlan_at rows vid).untagged q (ap (λ (r : VlanRow). r.untagged) (stands.vlans vid range)) low
 
 swapped : (m n : ℕ) → (m == n) ≡ (n == m)

@@ -7,11 +7,12 @@ use Rattle.std.specs.Cmp.{unsigned_tied}
 use Rattle.std.proofs.lemmas.Bool.{ne_eqb}
 use Rattle.port_sets.specs.Numbers.{has_number}
 use Rattle.port_sets.proofs.Numbers.{has-below, same_below, filter-numbers_below}
-use Rattle.br_model.specs.Maps.{has}
+use Rattle.br_model.specs.Data.Maps.{has}
+use Rattle.br_model.specs.Table.Domains.{port_places}
 use Rattle.chip_tables.specs.declared.rows.FanRow.{FanRow}
 use Rattle.chip_tables.specs.declared.rows.VlanRow.{VlanRow}
 use Rattle.chip_tables.specs.Rows.{Rows, port_at}
-use Rattle.chip_tables.specs.Stands.{port_count, ports_where, some_port}
+use Rattle.chip_tables.specs.Stands.{ports_where}
 use Rattle.chip_pipeline.specs.PortRows.{row_lets, row_takes}
 
 -- a list as a set of numbers has what the list has
@@ -20,16 +21,8 @@ has-is [] n = refl
 has-is (x ∷ xs) n = ap₂ ◌||◌ (unsigned_tied n x) (has-is xs n)
 
 -- what a set has, told by its test
-pub member-of : (f : ℕ → Bool) (set : List ℕ) (q : ℕ) → set ≡ ports_where f → q < port_count → has_number set q ≡ f q
-member-of f set q e low = ap (λ (ns : List ℕ). has_number ns q) e ∙ has-below f port_count q low
-
-any_from : (p q : ℕ → Bool) (a n : ℕ) → ((m : ℕ) → a ≤ m → m < a + n → p m ≡ q m) → list_any p (range_with_len a n) ≡ list_any q (range_with_len a n)
-any_from p q a zero h = refl
-any_from p q a (suc n) h = ap₂ (λ b c. b || c) (h a (omega arith) (omega arith)) (any_from p q (a + 1) n (λ m low high. h m (omega arith) (omega arith)))
-
-pub same_some : (p q : ℕ → Bool) → ((m : ℕ) → m < port_count → p m ≡ q m) → some_port p ≡ some_port q
-unfolding some_port
-same_some p q h = any_from p q 0 port_count (λ m low high. h m (omega arith))
+pub member-of : (f : ℕ → Bool) (set : List ℕ) (q : ℕ) → set ≡ ports_where f → q < port_places → has_number set q ≡ f q
+member-of f set q e low = ap (λ (ns : List ℕ). has_number ns q) e ∙ has-below f port_places q low
 
 -- ---- lists of ports
 
@@ -70,8 +63,8 @@ pub reached-are : (rows : Rows) (port n : ℕ) (alone : Bool) (vlan : VlanRow) (
 reached-are rows port n alone vlan fan both others ports is b o e =
     e
     ∙ ap (filter (λ q. row_lets alone (port_at rows q))) o
-    ∙ filter-numbers_below (λ m. has_number both m && not (m == n)) (λ q. row_lets alone (port_at rows q)) port_count
-    ∙ same_below _ _ port_count (λ q low.
+    ∙ filter-numbers_below (λ m. has_number both m && not (m == n)) (λ q. row_lets alone (port_at rows q)) port_places
+    ∙ same_below _ _ port_places (λ q low.
     ap₂ (λ x m. (x && not (q == m)) && row_lets alone (port_at rows q)) (member-of _ both q b low) is
     ∙ turn (has_number fan.ports q) (has_number vlan.members q) (not (q == port)) (row_lets alone (port_at rows q)))
   where

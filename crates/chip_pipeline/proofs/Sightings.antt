@@ -1,9 +1,9 @@
 -- What is made of a source.
 use Rattle.std.proofs.Common.{◌≡◌, ℕ, Bool, true, false, not, ◌&&◌, cond, None, Some, refl, sym, ap, ap₂, ◌∙◌}
-use Rattle.br_model.specs.Admission.{has_valid_source, vlan_of}
-use Rattle.br_model.specs.Chip.{hit_in, hit_of, report, report_of}
-use Rattle.br_model.specs.Learning.{is_news, is_reserved, may_teach, teach_in}
-use Rattle.br_model.specs.Table.{Table}
+use Rattle.br_model.specs.Forward.Admission.{has_valid_source, vlan_of}
+use Rattle.br_model.specs.Plane.Chip.{hit_in, hit_of, report, report_of}
+use Rattle.br_model.specs.Control.Learning.{is_news, is_reserved, may_teach, teach_in}
+use Rattle.br_model.specs.Table.Table.{Table}
 use Rattle.br_model.specs.declared.frame.Head.{Head}
 
 pub report-is : (t : Table) (port vid address : ℕ) (reserved so : Bool) → so ≡ (not reserved && (may_teach t port vid && is_news t (vid, address) port))

@@ -3,9 +3,9 @@ use Rattle.std.proofs.Common.{◌≡◌, ℕ, Bool, cond, None, Some, sym, ap, a
 use Rattle.std.specs.Ordering.{nat_cmp}
 use Rattle.std.proofs.lemmas.Bool.{le-ltb, ne_eqb}
 use Rattle.br_model.specs.declared.frame.Tag.{Tag}
-use Rattle.br_model.specs.Admission.{last_vid, member, vlan_of_tag}
-use Rattle.br_model.specs.Maps.{get}
-use Rattle.br_model.specs.Table.{Table}
+use Rattle.br_model.specs.Forward.Admission.{last_vid, member, vlan_of_tag}
+use Rattle.br_model.specs.Data.Maps.{get}
+use Rattle.br_model.specs.Table.Table.{Table}
 use Rattle.chip_tables.specs.Stands.{IsVid}
 
 -- a tag that names a VLAN

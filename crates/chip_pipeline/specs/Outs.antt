@@ -3,10 +3,10 @@ use Rattle.std.specs.Prelude.{ℕ, ◌≡◌, if◌then◌else◌}
 use Rattle.br_model.specs.declared.frame.Class.TheVariants.{Trap}
 use Rattle.br_model.specs.declared.frame.Head.{Head}
 use Rattle.br_model.specs.declared.frame.McastMsg.{McastMsg}
-use Rattle.br_model.specs.Class.{class_by}
-use Rattle.br_model.specs.Domains.{Domains}
-use Rattle.br_model.specs.Leave.{egress_ports}
-use Rattle.br_model.specs.Table.{Table}
+use Rattle.br_model.specs.Forward.Class.{class_by}
+use Rattle.br_model.specs.Table.Domains.{Domains}
+use Rattle.br_model.specs.Forward.Leave.{egress_ports}
+use Rattle.br_model.specs.Table.Table.{Table}
 use Rattle.chip_pipeline.specs.declared.egress.Out.{Out}
 use Rattle.chip_pipeline.specs.Passed.{chip_ports_by}
 use Rattle.chip_pipeline.specs.Ways.{leaves_chip}

@@ -9,14 +9,14 @@ use Rattle.br_model.specs.declared.frame.Class.{Class}
 use Rattle.br_model.specs.declared.frame.Class.TheVariants.{Drop, Trap, Copy, Forward}
 use Rattle.br_model.specs.declared.frame.Head.{Head}
 use Rattle.br_model.specs.declared.frame.McastMsg.{McastMsg}
-use Rattle.br_model.specs.Admission.{admit}
-use Rattle.br_model.specs.Chip.{report, hit_of}
-use Rattle.br_model.specs.Class.{class}
-use Rattle.br_model.specs.Domains.{Domains, domain_of, foreign, host, software}
-use Rattle.br_model.specs.Eligible.{untagged}
-use Rattle.br_model.specs.Learning.{Address}
-use Rattle.br_model.specs.Leave.{ports_out}
-use Rattle.br_model.specs.Table.{Table}
+use Rattle.br_model.specs.Forward.Admission.{admit}
+use Rattle.br_model.specs.Plane.Chip.{report, hit_of}
+use Rattle.br_model.specs.Forward.Class.{class}
+use Rattle.br_model.specs.Table.Domains.{Domains, domain_of, foreign, host, software}
+use Rattle.br_model.specs.Forward.Untagged.{untagged_among}
+use Rattle.br_model.specs.Control.Learning.{Address}
+use Rattle.br_model.specs.Forward.Leave.{ports_out}
+use Rattle.br_model.specs.Table.Table.{Table}
 use Rattle.chip_tables.specs.Rows.{Rows}
 use Rattle.chip_pipeline.specs.declared.answer.Sent.{Sent}
 use Rattle.chip_tables.specs.Stands.{Stands, is_own}
@@ -45,11 +45,6 @@ chip_ports_by Forward domains port out = filter (λ q. not (foreign domains port
 
 abbrev pub chip_ports : Domains → Table → ℕ → Head → McastMsg → List ℕ
 chip_ports domains t port head msg = chip_ports_by (class domains t port head msg) domains port (ports_out t port head msg)
-
--- the ports among these that the VLAN's frames leave without a tag
-abbrev pub untagged_among : Table → Option ℕ → List ℕ → List ℕ
-untagged_among t None ports = []
-untagged_among t (Some vid) ports = filter (λ q. untagged t q vid) ports
 
 -- What the chip does with a frame, but for its source, is what the table says.
 pub record IsSent (domains : Domains) (t : Table) (port : ℕ) (head : Head) (msg : McastMsg) (sent : Sent) : Type 0 where

@@ -1,17 +1,15 @@
 -- What the row of a port tells of the port.
-use Rattle.std.specs.Prelude.{ℕ, ◌/◌, ◌%◌, ◌^◌, ◌==◌, Bool, not, ◌&&◌}
-use Rattle.br_model.specs.Admission.{forwarding}
-use Rattle.br_model.specs.Targets.{isolated}
+use Rattle.std.specs.Prelude.{ℕ, ◌==◌, Bool, not, ◌&&◌}
+use Rattle.br_model.specs.Forward.Admission.{forwarding}
+use Rattle.br_model.specs.Forward.Targets.{isolated}
 use Rattle.port_sets.specs.Numbers.{has_number}
 use Rattle.chip_tables.specs.declared.rows.PortRow.{PortRow}
 use Rattle.chip_tables.specs.declared.rows.VlanRow.{VlanRow}
+use Rattle.chip_tables.specs.Flags.{row_has_flag}
 
 -- whether the port is up, in this state
 abbrev pub row_is_in : PortRow → ℕ → Bool
 row_is_in row state = row.up && row.state == state
-
-abbrev pub row_has_flag : PortRow → ℕ → Bool
-row_has_flag row flag = row.flags / 2 ^ flag % 2 == 1
 
 -- whether a port with this row lets out what came by another port, isolated or not
 abbrev pub row_lets : Bool → PortRow → Bool

@@ -8,17 +8,17 @@ use Rattle.br_model.specs.declared.change.Kind.{Kind}
 use Rattle.br_model.specs.declared.frame.Head.{Head}
 use Rattle.br_model.specs.declared.frame.McastMsg.{McastMsg}
 use Rattle.br_model.specs.declared.group.Group.{Group}
-use Rattle.br_model.specs.Class.{crosses, reaches_host}
-use Rattle.br_model.specs.Domains.{Domains, foreign}
-use Rattle.br_model.specs.Eligible.{may}
-use Rattle.br_model.specs.GroupPairs.{group_pair_cmp, group_pairs}
-use Rattle.br_model.specs.Learning.{is_dynamic}
-use Rattle.br_model.specs.Maps.{pair_cmp, get, has}
-use Rattle.br_model.specs.Table.{Table}
-use Rattle.br_model.specs.Targets.{targets}
+use Rattle.br_model.specs.Forward.Class.{crosses, reaches_host}
+use Rattle.br_model.specs.Table.Domains.{Domains, foreign, port_places}
+use Rattle.br_model.specs.Forward.Eligible.{may}
+use Rattle.br_model.specs.Table.GroupPairs.{group_pair_cmp, group_pairs}
+use Rattle.br_model.specs.Control.Learning.{is_dynamic}
+use Rattle.br_model.specs.Data.Maps.{pair_cmp, get, has}
+use Rattle.br_model.specs.Table.Table.{Table}
+use Rattle.br_model.specs.Forward.Targets.{targets}
 use Rattle.chip_tables.specs.declared.rows.AddressRow.{AddressRow}
 use Rattle.chip_tables.specs.declared.rows.FanRow.{FanRow}
-use Rattle.chip_tables.specs.Stands.{fan_wanted, is_grouped, port_count}
+use Rattle.chip_tables.specs.Stands.{fan_wanted, is_grouped}
 use Rattle.chip_pipeline.specs.declared.lookup.Way.{Way}
 use Rattle.chip_pipeline.specs.declared.lookup.Way.TheVariants.{Nowhere, One, Many}
 
@@ -26,7 +26,7 @@ use Rattle.chip_pipeline.specs.declared.lookup.Way.TheVariants.{Nowhere, One, Ma
 pub record Leads (domains : Domains) (t : Table) (port vid : ℕ) (row : FanRow) (goals : List ℕ) : Type 0 where
   pub target : ℕ → Bool
   pub wanted : row ≡ fan_wanted domains t vid target
-  pub same : (q : ℕ) → q < port_count → (target q && may t port q vid) ≡ (has nat_cmp goals q && may t port q vid)
+  pub same : (q : ℕ) → q < port_places → (target q && may t port q vid) ≡ (has nat_cmp goals q && may t port q vid)
 
 -- whether the processor alone is to have the frame for where it is to go: a station or the host that the chip doesn't reach
 abbrev pub leaves_chip : Domains → Table → ℕ → ℕ → Head → Bool
@@ -34,7 +34,7 @@ leaves_chip domains t port vid head = reaches_host t port vid head || crosses do
 
 -- One port is where the frame is to go, and the processor alone has it where that port is elsewhere and may take it.
 pub record LeadsTo (domains : Domains) (t : Table) (port vid : ℕ) (head : Head) (q : ℕ) (goals : List ℕ) : Type 0 where
-  pub below : q < port_count
+  pub below : q < port_places
   pub goal : goals ≡ q ∷ []
   pub alone : leaves_chip domains t port vid head ≡ (foreign domains port q && may t port q vid)
 

@@ -1,9 +1,9 @@
 //! The way out: which of its ports the chip sends by, and whether the processor is to have the frame too, or alone.
 ghost use Rattle.std.specs.Prelude.{◌≡◌, ◌<◌, ◌&&◌, [], false, if◌then◌else◌};
-ghost use Rattle.br_model.specs.Domains.{Domains};
-ghost use Rattle.br_model.specs.Eligible.{may};
-ghost use Rattle.br_model.specs.Table.{Table};
-ghost use Rattle.br_model.specs.Targets.{targets};
+ghost use Rattle.br_model.specs.Table.Domains.{Domains, port_places};
+ghost use Rattle.br_model.specs.Forward.Eligible.{may};
+ghost use Rattle.br_model.specs.Table.Table.{Table};
+ghost use Rattle.br_model.specs.Forward.Targets.{targets};
 ghost use Rattle.br_model.specs.declared.frame.Class.TheVariants.{Drop, Copy, Forward};
 ghost use Rattle.br_model.specs.declared.frame.Head.{Head};
 ghost use Rattle.br_model.specs.declared.frame.McastMsg.{McastMsg};
@@ -39,7 +39,7 @@ pub fn reached(tables: &Tables, port: Port, alone: bool, vlan: &VlanRow, fan: &F
 }
 
 fn lets_number(tables: &Tables, alone: bool, number: u8) -> bool
-    requires { number < 64 }
+    requires { number < port_places }
     ensures { result ≡ row_lets alone (port_at tables.now number) }
 {
     match Port::new(number) {
@@ -122,6 +122,7 @@ fn may_take(
     requires other { other.now ≡ port_at tables.now goal }
     ensures { (d : Domains) (t : Table) → Stands d tables.now t → result ≡ may t port goal vlan.now.vid }
 {
+    // law: the port is in range
     let _number = port.number();
     if !vlan.row.members.has(goal.number()) {
         return false;
@@ -146,6 +147,7 @@ fn send_by(tables: &Tables, port: Port, row: &PortRow, vlan: &Vlan, fan: &FanRow
     let alone = is_isolated(row);
     let ports = reached(tables, port, alone, &vlan.row, fan);
     let elsewhere = if alone { fan.isolated } else { fan.plain };
+    // law: the port is in range
     let _number = port.number();
     Out {
         class: class_by(elsewhere, ports.is_empty()),

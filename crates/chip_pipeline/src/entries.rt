@@ -1,7 +1,7 @@
 //! The rows that are found by keys.
 ghost use Rattle.std.specs.Prelude.{◌≡◌};
-ghost use Rattle.br_model.specs.Domains.{Domains};
-ghost use Rattle.br_model.specs.Table.{Table};
+ghost use Rattle.br_model.specs.Table.Domains.{Domains};
+ghost use Rattle.br_model.specs.Table.Table.{Table};
 ghost use Rattle.chip_tables.specs.Stands.{Stands};
 ghost use Rattle.chip_pipeline.specs.Ways.{entry_wanted, group_wanted};
 

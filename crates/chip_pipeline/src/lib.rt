@@ -15,6 +15,3 @@ mod vlans;
 
 pub use answer::Pass;
 pub use pipeline::pass;
-
-#[cfg(test)]
-mod tests;

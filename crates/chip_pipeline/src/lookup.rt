@@ -1,11 +1,11 @@
 //! The lookup: where an admitted frame is to go.
 ghost use Rattle.std.specs.Prelude.{◌≡◌, ℕ, ◌<◌, ◌==◌, ◌&&◌, ◌||◌, ◌∷◌, ◌++◌, not, true, false, if◌then◌else◌};
-ghost use Rattle.br_model.specs.Class.{is_snooped};
-ghost use Rattle.br_model.specs.Domains.{Domains, host};
-ghost use Rattle.br_model.specs.Groups.{is_link_local, is_six};
-ghost use Rattle.br_model.specs.Numbers.{is_multicast};
-ghost use Rattle.br_model.specs.Table.{Table};
-ghost use Rattle.br_model.specs.Targets.{bridge_group_address, pause_address, bcast_flood, with_flag, knows_querier, members_of, multicast_flood, port_of, snooped_targets};
+ghost use Rattle.br_model.specs.Forward.Class.{is_snooped};
+ghost use Rattle.br_model.specs.Table.Domains.{Domains, host, port_places};
+ghost use Rattle.br_model.specs.Table.Groups.{is_link_local, is_six};
+ghost use Rattle.br_model.specs.Data.Numbers.{is_multicast};
+ghost use Rattle.br_model.specs.Table.Table.{Table};
+ghost use Rattle.br_model.specs.Forward.Targets.{bridge_group_address, pause_address, bcast_flood, with_flag, knows_querier, members_of, multicast_flood, port_of, snooped_targets};
 ghost use Rattle.br_model.specs.declared.frame.McastMsg.{McastMsg};
 ghost use Rattle.port_sets.specs.Numbers.{has_number};
 ghost use Rattle.chip_tables.specs.Stands.{IsVid, Stands, ports_where};
@@ -70,12 +70,13 @@ fn to_station(tables: &Tables, vid: Vid, head: &Head) -> Way
 /// Where an entry sends: the host for a local one.
 fn port_of(entry: &AddressRow) -> Port
     ensures value { result ≡ port_of (entry.now.port, entry.now.kind) }
-    ensures below { result < 64 }
+    ensures below { result < port_places }
 {
     let port = match entry.kind {
         Kind::Local => Port::HOST,
         Kind::Static | Kind::Learned | Kind::Extern => entry.port,
     };
+    // law: the port is in range
     let _number = port.number();
     port
 }

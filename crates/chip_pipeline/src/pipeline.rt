@@ -1,10 +1,10 @@
 //! The pass of a frame through all stages.
 ghost use Rattle.std.specs.Prelude.{◌≡◌, ◌&&◌, [], false, if◌then◌else◌, IfSome, Some, None};
 ghost use Rattle.std.specs.Option.{option_map};
-ghost use Rattle.br_model.specs.Admission.{admit, has_valid_source, is_forwarding, vlan_of};
-ghost use Rattle.br_model.specs.Domains.{Domains};
-ghost use Rattle.br_model.specs.Table.{Table};
-ghost use Rattle.br_model.specs.Targets.{to_tree};
+ghost use Rattle.br_model.specs.Forward.Admission.{admit, has_valid_source, is_forwarding, vlan_of};
+ghost use Rattle.br_model.specs.Table.Domains.{Domains};
+ghost use Rattle.br_model.specs.Table.Table.{Table};
+ghost use Rattle.br_model.specs.Forward.Targets.{to_tree};
 ghost use Rattle.chip_tables.specs.Rows.{vlan_at, port_at};
 ghost use Rattle.chip_tables.specs.Stands.{IsVid, Stands};
 ghost use Rattle.chip_pipeline.specs.Passed.{AtChip, IsPass, IsSent};
@@ -56,6 +56,7 @@ fn admitted(t: &Tables, p: Port, row: &PortRow, vlan: &Option<Vlan>, h: &Head) -
     ensures same { IfSome result (λ v. vlan.now ≡ Some v) }
     ensures vid { (d : Domains) (table : Table) → Stands d t.now table → option_map (λ (v : Vlan). v.vid) result ≡ (if is_forwarding table p && has_valid_source h.now then option_map (λ (v : Vlan). v.vid) vlan.now else None) }
 {
+    // law: the port is in range
     let _number = p.number();
     if forwards(row) && h.has_valid_source() {
         *vlan
@@ -97,6 +98,7 @@ fn forward_in(t: &Tables, p: Port, row: &PortRow, vlan: &Vlan, h: &Head, m: &Mca
     }
     let way = lookup(t, vlan.vid, h, m);
     let out = send(t, p, row, vlan, &way);
+    // law: the members ascend
     out.ports.members_ascend();
     Sent {
         class: out.class,

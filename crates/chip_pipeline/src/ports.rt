@@ -1,9 +1,10 @@
 //! What the row of a port tells.
 ghost use Rattle.std.specs.Prelude.{◌≡◌, ◌<◌};
-ghost use Rattle.br_model.specs.Admission.{learning, forwarding};
-ghost use Rattle.br_model.specs.Learning.{learning_flag};
-ghost use Rattle.br_model.specs.Targets.{isolated};
-ghost use Rattle.chip_pipeline.specs.PortRows.{row_has_flag, row_is_in};
+ghost use Rattle.br_model.specs.Forward.Admission.{learning, forwarding};
+ghost use Rattle.br_model.specs.Control.Learning.{learning_flag};
+ghost use Rattle.br_model.specs.Forward.Targets.{isolated};
+ghost use Rattle.chip_tables.specs.Flags.{row_has_flag};
+ghost use Rattle.chip_pipeline.specs.PortRows.{row_is_in};
 
 use br_model::change::{FORWARDING, Flags};
 use chip_tables::PortRow;
@@ -32,12 +33,14 @@ fn has_flag(row: &PortRow, flag: u8) -> bool
     row.flags.bits() >> flag & 1 == 1
 }
 
+/// Whether the port has the flag `isolated` (Linux's BR_ISOLATED).
 pub fn is_isolated(row: &PortRow) -> bool
     ensures { result ≡ row_has_flag row.now isolated }
 {
     has_flag(row, Flags::ISOLATED)
 }
 
+/// Whether the port has the flag `learning` (Linux's BR_LEARNING), whatever its state is.
 pub fn learns(row: &PortRow) -> bool
     ensures { result ≡ row_has_flag row.now learning_flag }
 {

@@ -1,14 +1,15 @@
 //! The source: what the chip reports of it, and whether it hits its entry.
 ghost use Rattle.std.specs.Prelude.{◌≡◌, ℕ, ◌&&◌, ◌||◌, not, if◌then◌else◌, IfSome, Some, None};
 ghost use Rattle.std.specs.Option.{option_map};
-ghost use Rattle.br_model.specs.Admission.{forwarding, learning, vlan_of};
-ghost use Rattle.br_model.specs.Chip.{report, hit_of, hit_in, is_at, report_of};
-ghost use Rattle.br_model.specs.Domains.{Domains};
-ghost use Rattle.br_model.specs.Learning.{is_news, is_reserved, learning_flag, may_teach, teach_in};
-ghost use Rattle.br_model.specs.Table.{Table};
+ghost use Rattle.br_model.specs.Forward.Admission.{forwarding, learning, vlan_of};
+ghost use Rattle.br_model.specs.Plane.Chip.{report, hit_of, hit_in, is_at, report_of};
+ghost use Rattle.br_model.specs.Table.Domains.{Domains};
+ghost use Rattle.br_model.specs.Control.Learning.{is_news, is_reserved, learning_flag, may_teach, teach_in};
+ghost use Rattle.br_model.specs.Table.Table.{Table};
 ghost use Rattle.chip_tables.specs.Rows.{vlan_at, port_at};
 ghost use Rattle.chip_tables.specs.Stands.{IsVid, Stands};
-ghost use Rattle.chip_pipeline.specs.PortRows.{row_has_flag, row_is_in};
+ghost use Rattle.chip_tables.specs.Flags.{row_has_flag};
+ghost use Rattle.chip_pipeline.specs.PortRows.{row_is_in};
 ghost use Rattle.chip_pipeline.specs.Ways.{entry_wanted};
 ghost use Rattle.chip_pipeline.specs.declared.vlans.Vlan.{Vlan};
 

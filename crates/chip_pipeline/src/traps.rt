@@ -1,11 +1,11 @@
 //! What the chip hands to the processor alone, by its trap rows.
 ghost use Rattle.std.specs.Prelude.{◌≡◌, ◌==◌, ◌≤◌, ◌<◌, ◌&&◌, ◌||◌, is_some, IfSome};
-ghost use Rattle.br_model.specs.Admission.{has_valid_source};
-ghost use Rattle.br_model.specs.Class.{is_snooped};
-ghost use Rattle.br_model.specs.Domains.{Domains};
-ghost use Rattle.br_model.specs.Learning.{is_reserved};
-ghost use Rattle.br_model.specs.Table.{Table};
-ghost use Rattle.br_model.specs.Targets.{bridge_group_address, pause_address, is_for_the_host, to_tree};
+ghost use Rattle.br_model.specs.Forward.Admission.{has_valid_source};
+ghost use Rattle.br_model.specs.Forward.Class.{is_snooped};
+ghost use Rattle.br_model.specs.Table.Domains.{Domains};
+ghost use Rattle.br_model.specs.Control.Learning.{is_reserved};
+ghost use Rattle.br_model.specs.Table.Table.{Table};
+ghost use Rattle.br_model.specs.Forward.Targets.{bridge_group_address, pause_address, is_for_the_host, to_tree};
 ghost use Rattle.chip_tables.specs.Rows.{port_at};
 ghost use Rattle.chip_tables.specs.Stands.{Stands};
 
@@ -40,6 +40,7 @@ pub fn is_for_tree(tables: &Tables, port: Port, row: &PortRow, head: &Head) -> b
     requires { row.now ≡ port_at tables.now port }
     ensures { (d : Domains) (t : Table) → Stands d tables.now t → result ≡ to_tree t port head.now }
 {
+    // law: the port is in range
     let _number = port.number();
     is_for_bridges(tables, head) && speaks(row, head)
 }

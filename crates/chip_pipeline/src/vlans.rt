@@ -1,9 +1,9 @@
 //! The VLAN of a frame.
 ghost use Rattle.std.specs.Prelude.{◌≡◌, IfSome, Some};
 ghost use Rattle.std.specs.Option.{option_map};
-ghost use Rattle.br_model.specs.Admission.{vlan_of, vlan_of_tag};
-ghost use Rattle.br_model.specs.Domains.{Domains};
-ghost use Rattle.br_model.specs.Table.{Table};
+ghost use Rattle.br_model.specs.Forward.Admission.{vlan_of, vlan_of_tag};
+ghost use Rattle.br_model.specs.Table.Domains.{Domains};
+ghost use Rattle.br_model.specs.Table.Table.{Table};
 ghost use Rattle.chip_tables.specs.Rows.{vlan_at, port_at};
 ghost use Rattle.chip_tables.specs.Stands.{Stands, IsVid};
 ghost use Rattle.chip_pipeline.specs.declared.vlans.Vlan.{Vlan};
@@ -66,6 +66,7 @@ fn vlan_at(tables: &Tables, vid: Vid) -> Vlan
     ensures row { result.row ≡ vlan_at tables.now vid }
     ensures range { IsVid vid }
 {
+    // law: the VLAN is in range
     let _number = vid.number();
     Vlan {
         vid,

@@ -6,7 +6,7 @@ use Rattle.std.specs.Ordering.{nat_cmp, is_lt}
 use Rattle.std.proofs.lemmas.List.{get_or-map, length-map}
 use Rattle.std.proofs.lemmas.List.Elements.{All-map, All-tail}
 use Rattle.std.proofs.lemmas.List.Sorted.{IsPermutation-map, All-permutation}
-use Rattle.br_model.specs.Maps.{pair_cmp}
+use Rattle.br_model.specs.Data.Maps.{pair_cmp}
 use Rattle.br_model.proofs.KeySets.{keys-ascend}
 use Rattle.std.specs.FinMap.Entries.{is_sorted}
 use Rattle.open_addressing.specs.Finite.{entries_of, keys_where, key_if}

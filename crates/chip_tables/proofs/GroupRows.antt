@@ -11,8 +11,8 @@ use Rattle.std.proofs.Math.Nat.{mod-lt}
 use Rattle.std.proofs.Common.{⊎_elim}
 use Rattle.br_model.specs.declared.group.Group.{Group}
 use Rattle.br_model.specs.declared.group.Group.TheVariants.{V4, V6}
-use Rattle.br_model.specs.GroupPairs.{GroupPair, group_pair_cmp}
-use Rattle.br_model.specs.Groups.{group_cmp}
+use Rattle.br_model.specs.Table.GroupPairs.{GroupPair, group_pair_cmp}
+use Rattle.br_model.specs.Table.Groups.{group_cmp}
 use Rattle.chip_regs.specs.Rows.{field, with_field}
 use Rattle.chip_regs.proofs.Fields.{field-zero}
 use Rattle.open_addressing.specs.Zipped.{cell_of, cells_of, key_of, value_of}

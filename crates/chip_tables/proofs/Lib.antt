@@ -6,3 +6,4 @@ pub mod Renamed
 pub mod GroupRows
 pub mod AddressKeys
 pub mod Room
+pub mod SomePort

@@ -1,6 +1,7 @@
 -- Rows read as they were packed, field after field.
-use Rattle.std.proofs.Common.{◌≡◌, ℕ, ◌+◌, ◌^◌, ◌<◌, ◌≤◌, Bool, cond, lt-ltb, ap, ◌∙◌, arith, nat_lt}
+use Rattle.std.proofs.Common.{◌≡◌, ℕ, ◌+◌, ◌^◌, ◌<◌, ◌≤◌, Bool, cond, le-leb, ap, ◌∙◌, arith, nat_lt}
 use Rattle.std.specs.Prelude.{◌==◌}
+use Rattle.br_model.specs.Table.Domains.{last_port}
 use Rattle.chip_regs.specs.Rows.{field, with_field}
 use Rattle.chip_regs.proofs.Fields.{field-same, field-before}
 use Rattle.chip_tables.specs.declared.rows.VlanRow.{VlanRow}
@@ -79,7 +80,7 @@ address-fields r0 r1 r2 r3 r4 r5 k po ki pin us e1 e2 e3 e4 e5 f1 f2 f3 f4 = (
 )
 
 port-below : (p : ℕ) → p < 64 → port_from p ≡ p
-port-below p h = ap (λ b. cond b p 0) (lt-ltb p 64 h)
+port-below p h = ap (λ b. cond b p 0) (le-leb p last_port (omega arith))
 
 pub address-packed : (r0 r1 r2 r3 r4 r5 k po ki pin us : ℕ) (row : AddressRow)
     → r1 ≡ with_field r0 0 60 k → r2 ≡ with_field r1 60 8 po → r3 ≡ with_field r2 68 2 ki → r4 ≡ with_field r3 70 1 pin → r5 ≡ with_field r4 71 1 us

@@ -5,7 +5,7 @@ use Rattle.std.specs.declared.cmp.Ordering.{Ordering}
 use Rattle.std.specs.declared.cmp.Ordering.TheVariants.{Less, Equal, Greater}
 use Rattle.std.specs.FinMap.Entries as entries
 use Rattle.std.specs.FinMap.Entries.{by_order}
-use Rattle.br_model.specs.Maps.{get, put, without}
+use Rattle.br_model.specs.Data.Maps.{get, put, without}
 
 module _ {K V : Type 0} (R : K → K → Ordering) (name : ℕ → K) where
   abbrev pub renamed : List (ℕ × V) → List (K × V)

@@ -3,7 +3,7 @@ use Rattle.std.proofs.Common.{suc, ◌≤◌, List, [], ◌∷◌, length, arith
 use Rattle.std.specs.FinMap.Entries.{by_order}
 use Rattle.std.specs.declared.cmp.Ordering.{Ordering}
 use Rattle.std.specs.declared.cmp.Ordering.TheVariants.{Less, Equal, Greater}
-use Rattle.br_model.specs.Maps.{put}
+use Rattle.br_model.specs.Data.Maps.{put}
 
 pub put-grows : {K X : Type 0} (R : K → K → Ordering) (es : List (K × X)) (k : K) (v : X) → length (put R es k v) ≤ suc (length es)
 put-grows R [] k v = omega arith

@@ -3,7 +3,7 @@ use Rattle.std.specs.Prelude.{ℕ, zero, suc, ◌+◌, ◌*◌, ◌/◌, ◌%◌
 use Rattle.std.specs.declared.option.Option.{Option}
 use Rattle.br_model.specs.declared.group.Group.{Group}
 use Rattle.br_model.specs.declared.group.Group.TheVariants.{V4, V6}
-use Rattle.br_model.specs.GroupPairs.{GroupPair}
+use Rattle.br_model.specs.Table.GroupPairs.{GroupPair}
 use Rattle.chip_regs.specs.Rows.{field}
 use Rattle.open_addressing.specs.Circle.{mix}
 use Rattle.open_addressing.specs.Zipped.{cells_of}

@@ -4,4 +4,5 @@ pub mod GroupCells
 pub mod GroupHash
 pub mod Blank
 pub mod Writing
+pub mod Flags
 pub mod Stands

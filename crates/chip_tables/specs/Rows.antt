@@ -9,8 +9,9 @@ use Rattle.br_model.specs.declared.change.Kind.{Kind}
 use Rattle.br_model.specs.declared.change.Kind.TheVariants.{Local, Static, Learned, Extern}
 use Rattle.port_sets.specs.Words.{members}
 use Rattle.chip_regs.specs.Rows.{field}
-use Rattle.br_model.specs.Maps.{pair_cmp, get, put, without}
-use Rattle.br_model.specs.GroupPairs.{GroupPair, group_pair_cmp}
+use Rattle.br_model.specs.Data.Maps.{pair_cmp, get, put, without}
+use Rattle.br_model.specs.Table.GroupPairs.{GroupPair, group_pair_cmp}
+use Rattle.br_model.specs.Table.Domains.{last_port}
 use Rattle.chip_tables.specs.declared.rows.VlanRow.{VlanRow}
 use Rattle.chip_tables.specs.declared.rows.FanRow.{FanRow}
 use Rattle.chip_tables.specs.declared.rows.PortRow.{PortRow}
@@ -50,9 +51,9 @@ kind_of (suc zero) = Static
 kind_of (suc (suc zero)) = Learned
 kind_of (suc (suc (suc n))) = Extern
 
--- a port, which is below 64
+-- a port, which is at most the last
 abbrev pub port_from : ℕ → ℕ
-port_from n = cond (nat_lt n 64) n 0
+port_from n = cond (nat_le n last_port) n 0
 
 abbrev pub address_of : ℕ → AddressRow
 address_of row = record { port = port_from (field row 60 8); kind = kind_of (field row 68 2); pinned = is_on row 70 }
@@ -159,13 +160,6 @@ groups_with rows vid group row = set_at group_pair_cmp rows.groups (vid, group) 
 
 abbrev pub address_rows : ℕ
 address_rows = 32768
-
--- how many of them may be used
-abbrev pub max_addresses : ℕ
-max_addresses = 16384
-
-abbrev pub max_groups : ℕ
-max_groups = 1024
 
 -- The key of an address row that is used stands at exactly one place, and the key at a place is that of a used row.
 pub record IsPlaced (rows : Rows) : Type 0 where

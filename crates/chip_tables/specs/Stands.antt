@@ -8,15 +8,15 @@ use Rattle.std.specs.Ordering.{nat_cmp}
 use Rattle.br_model.specs.declared.change.Kind.{Kind}
 use Rattle.br_model.specs.declared.change.Kind.TheVariants.{Local, Static, Learned, Extern}
 use Rattle.br_model.specs.declared.group.Group.{Group}
-use Rattle.br_model.specs.Admission.{is_up, is_forwarding, member}
-use Rattle.br_model.specs.DomainPorts.{is_in_domain}
-use Rattle.br_model.specs.Domains.{Domains, chip, host}
-use Rattle.br_model.specs.Eligible.{untagged}
-use Rattle.br_model.specs.GroupPairs.{group_pairs}
-use Rattle.br_model.specs.Groups.{membership_cmp}
-use Rattle.br_model.specs.Maps.{get, has}
-use Rattle.br_model.specs.Table.{Table}
-use Rattle.br_model.specs.Targets.{has_flag, flood, mcast_flood, bcast_flood, isolated, knows_querier}
+use Rattle.br_model.specs.Forward.Admission.{is_up, is_forwarding, member}
+use Rattle.br_model.specs.Table.DomainPorts.{is_in_domain}
+use Rattle.br_model.specs.Table.Domains.{Domains, chip, host, port_places}
+use Rattle.br_model.specs.Forward.Eligible.{untagged}
+use Rattle.br_model.specs.Table.GroupPairs.{group_pairs}
+use Rattle.br_model.specs.Table.Groups.{membership_cmp}
+use Rattle.br_model.specs.Data.Maps.{get, has}
+use Rattle.br_model.specs.Table.Table.{Table}
+use Rattle.br_model.specs.Forward.Targets.{has_flag, flood, mcast_flood, bcast_flood, isolated, knows_querier}
 use Rattle.port_sets.specs.Numbers.{numbers_below}
 use Rattle.chip_tables.specs.declared.rows.AddressRow.{AddressRow}
 use Rattle.chip_tables.specs.declared.rows.VlanRow.{VlanRow}
@@ -27,20 +27,16 @@ use Rattle.chip_tables.specs.declared.rows.Flood.{Flood}
 use Rattle.chip_tables.specs.declared.rows.Flood.TheVariants.{Unicast, Mcast, Bcast}
 use Rattle.chip_tables.specs.Rows.{Rows, vlan_at, flood_at, router_at, port_at, trap_at, control_in}
 
--- how many ports there can be
-abbrev pub port_count : ℕ
-port_count = 64
-
 abbrev pub IsVid : ℕ → Type 0
 IsVid vid = (1 ≤ vid) × (vid ≤ 4094)
 
 -- the ports that pass, ascending
 abbrev pub ports_where : (ℕ → Bool) → List ℕ
-ports_where test = numbers_below port_count test
+ports_where test = numbers_below port_places test
 
 -- whether a port passes
 unfoldable pub some_port : (ℕ → Bool) → Bool
-some_port test = list_any test (range_with_len 0 port_count)
+some_port test = list_any test (range_with_len 0 port_places)
 
 -- whether the port is on the chip
 abbrev pub is_own : Domains → ℕ → Bool
@@ -138,7 +134,7 @@ RoutersStand domains rows t = (vid : ℕ) → IsVid vid → router_at rows vid �
 
 -- Each port row, that of a foreign port too, has the port's life, state, flags and PVID, and whether it is on the chip.
 abbrev pub PortsStand : Domains → Rows → Table → Type 0
-PortsStand domains rows t = (port : ℕ) → port < port_count → port_at rows port ≡ port_wanted domains t port
+PortsStand domains rows t = (port : ℕ) → port < port_places → port_at rows port ≡ port_wanted domains t port
 
 -- Each trap is on or off by whether snooping and the spanning tree are on.
 abbrev pub TrapsStand : Rows → Table → Type 0

@@ -1,5 +1,6 @@
 -- A bank of which one row is written.
 use Rattle.std.specs.Prelude.{◌≡◌, ℕ, ◌==◌, if◌then◌else◌, List, [], slice_index, replicate}
+use Rattle.br_model.specs.Table.Domains.{port_places}
 use Rattle.chip_tables.specs.declared.rows.FanRow.{FanRow}
 use Rattle.chip_tables.specs.Rows.{Rows, fan_of}
 
@@ -13,7 +14,7 @@ pub record IsBlank (rows : Rows) : Type 0 where
   pub mcast : rows.mcast ≡ replicate 4096 0
   pub bcast : rows.bcast ≡ replicate 4096 0
   pub routers : rows.routers ≡ replicate 4096 0
-  pub ports : rows.ports ≡ replicate 64 0
+  pub ports : rows.ports ≡ replicate port_places 0
   pub traps : rows.traps ≡ replicate 21 0
   pub control : rows.control ≡ replicate 1 0
   pub addresses : rows.addresses ≡ []

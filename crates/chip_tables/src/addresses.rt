@@ -1,6 +1,7 @@
 //! The address rows as the cells of a map.
 ghost use Rattle.std.specs.Prelude.{◌≡◌, ◌≢◌, ◌<◌, ◌^◌, IfOk, None, Some, [], filter_map, length, replicate, slice_get};
 ghost use Rattle.std.specs.List.{All};
+ghost use Rattle.br_model.specs.Table.Limits.{most_addresses};
 ghost use Rattle.open_addressing.specs.Circle.{mix};
 ghost use Rattle.open_addressing.specs.Hashes.{mix-lt};
 ghost use Rattle.open_addressing.specs.Pairs.{packed};
@@ -9,6 +10,7 @@ ghost use Rattle.chip_tables.specs.AddressCells.{ordered, address_cells, places_
 
 use crate::NoMemory;
 use crate::rows::{AddressRow, address_row, key_in, pack_address, pack_key};
+use br_model::limits::MOST_ADDRESSES;
 use br_model::numbers::{Mac, Vid};
 use chip_regs::{Bank, Row};
 use open_addressing::map::Map;
@@ -23,9 +25,6 @@ pub type Addresses = Map<Key, AddressRow, AddressCells>;
 
 /// There are 2 to this power of address rows.
 const BITS: u32 = 15;
-
-/// How many address rows may be used.
-const ROOM: usize = 16384;
 
 /// How far apart the numbers of one address in two VLANs that follow one another are.
 const VLAN_STEP: u64 = 1 << 48;
@@ -44,6 +43,7 @@ pub fn key(v: Vid, m: Mac) -> Key
     ensures some { packed (v, m) ≢ 0 }
     ensures below { m < 2 ^ 48 }
 {
+    // law: no key's number is 0
     let _ = number_of(&(v, m));
     (v, m)
 }
@@ -153,8 +153,8 @@ impl AddressCells {
 
 /// No row is used.
 pub fn make(alloc: Global) -> Result<Addresses, NoMemory>
-    ensures { IfOk result (λ m. m ≡ record m { entries = []; room = 16384 }) }
+    ensures { IfOk result (λ m. m ≡ record m { entries = []; room = most_addresses }) }
 {
     let cells = AddressCells::make(alloc)?;
-    Ok(Map::of(cells, BITS, ROOM))
+    Ok(Map::of(cells, BITS, MOST_ADDRESSES))
 }

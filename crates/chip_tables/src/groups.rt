@@ -1,12 +1,14 @@
 //! The group rows as the cells of a map.
 ghost use Rattle.std.specs.Prelude.{◌≡◌, ◌≢◌, ◌<◌, ◌*◌, ◌+◌, ◌^◌, IfOk, None, [], length, replicate};
 ghost use Rattle.chip_tables.specs.GroupCells.{version_bit, address_bits, numbered, head_of, number_of, head_in, bits_in, group_key_of, group_cells, folded, group_hash};
+ghost use Rattle.br_model.specs.Table.GroupPairs.{max_pairs};
 ghost use Rattle.chip_tables.specs.GroupHash.{group_hash-lt};
 ghost use Rattle.open_addressing.specs.Circle.{mix};
 
 use crate::NoMemory;
 use crate::rows::{FanRow, fan_row, pack_fan};
 use br_model::group::Group;
+use br_model::limits::MOST_PAIRS;
 use br_model::numbers::Vid;
 use chip_regs::{Bank, Field, Row};
 use open_addressing::map::Map;
@@ -19,11 +21,8 @@ pub type GroupKey = (Vid, Group);
 /// The used group rows by their keys.
 pub type Groups = Map<GroupKey, FanRow, GroupCells>;
 
-/// There are 2 to this power of group rows.
+/// There are 2 to this power of group rows, and all may be used.
 const BITS: u32 = 10;
-
-/// How many group rows may be used: all of them.
-const ROOM: usize = 1024;
 
 /// The fields of a key row.
 const VID: Field = Field { at: 0, width: 12 };
@@ -54,6 +53,7 @@ pub fn group_key(v: Vid, g: Group) -> GroupKey
     ensures some { number_of (v, g) ≢ 0 }
     ensures below { address_bits g < 2 ^ 128 }
 {
+    // law: no key's head is 0
     let _ = head(&(v, g));
     (v, g)
 }
@@ -64,6 +64,7 @@ fn head(key: &GroupKey) -> u64
     ensures some { 0 < result }
     ensures below { address_bits key.now.1 < 2 ^ 128 }
 {
+    // law: an address is below 2^128
     let _ = address(key.1);
     2 * u64::from(key.0.number()) + version(key.1)
 }
@@ -198,8 +199,8 @@ impl GroupCells {
 
 /// No row is used.
 pub fn make(alloc: Global) -> Result<Groups, NoMemory>
-    ensures { IfOk result (λ m. m ≡ record m { entries = []; room = 1024 }) }
+    ensures { IfOk result (λ m. m ≡ record m { entries = []; room = max_pairs }) }
 {
     let cells = GroupCells::make(alloc)?;
-    Ok(Map::of(cells, BITS, ROOM))
+    Ok(Map::of(cells, BITS, MOST_PAIRS))
 }

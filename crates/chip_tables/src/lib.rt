@@ -6,11 +6,9 @@ mod groups;
 pub mod rows;
 pub mod tables;
 
+pub use br_model::NoMemory;
 pub use rows::{AddressRow, Control, FanRow, Flood, PortRow, VlanRow};
 pub use tables::Tables;
-
-/// Want of memory.
-pub type NoMemory = std::alloc::AllocError;
 
 #[cfg(test)]
 mod tests;

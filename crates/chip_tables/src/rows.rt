@@ -98,6 +98,7 @@ fn bit(on: bool) -> u64
     if on { 1 } else { 0 }
 }
 
+/// Bits 0 to 63: the members; 64 to 127: those that its frames leave without a tag. Bit n of each is port n.
 pub fn vlan_row(row: &Row<16>) -> VlanRow
     ensures { result ≡ vlan_of row.now }
 {
@@ -116,6 +117,7 @@ pub fn pack_vlan(r: &VlanRow) -> Row<16>
     row
 }
 
+/// Bits 0 to 63: the ports, bit n for port n; 64 and 65: a target elsewhere for an isolated, and for a plain ingress port.
 pub fn fan_row(row: &Row<9>) -> FanRow
     ensures { result ≡ fan_of row.now }
 {
@@ -136,6 +138,7 @@ pub fn pack_fan(r: &FanRow) -> Row<9>
     row
 }
 
+/// Bit 0: up; 1 to 3: the state; 4 to 9: the flags; 10: whether there is a PVID; 11 to 22: the PVID; 23: own.
 pub fn port_row(row: &Row<3>) -> PortRow
     ensures { result ≡ port_of row.now }
 {
@@ -176,6 +179,7 @@ fn number_of_pvid(pvid: &Option<Vid>) -> u64
     }
 }
 
+/// A row as `port_row` reads it. The state has three bits.
 pub fn pack_port(r: &PortRow) -> Row<3>
     requires { r.now.state < 8 }
     ensures { port_of result ≡ r.now }
@@ -191,6 +195,7 @@ pub fn pack_port(r: &PortRow) -> Row<3>
     row
 }
 
+/// Bit 0: snooping; 1: the spanning tree; 2 and 3: a querier of IP version 4, and of 6.
 pub fn control_row(row: &Row<1>) -> Control
     ensures { result ≡ control_of row.now }
 {
@@ -220,6 +225,7 @@ pub fn is_on(row: &Row<1>) -> bool
     get!(row, 0)
 }
 
+/// Bit 0: on.
 pub fn pack_trap(on: bool) -> Row<1>
     ensures { is_on result 0 ≡ on }
 {
@@ -247,6 +253,7 @@ pub fn pack_key(v: Vid, m: Mac) -> u64
     u64::from(v.number()) + 4096 * m.number()
 }
 
+/// Bits 0 to 59: the key; 60 to 67: the port; 68 and 69: the kind, local 0, static 1, learned 2, extern 3; 70: pinned.
 pub fn address_row(row: &Row<9>) -> AddressRow
     ensures { result ≡ address_of row.now }
 {
@@ -290,6 +297,7 @@ fn number_of(kind: Kind) -> u64
     }
 }
 
+/// A row as `key_in` and `address_row` read it. Bit 71, which neither reads, is set.
 pub fn pack_address(key: u64, r: &AddressRow) -> Row<9>
     requires { key < 2 ^ 60 }
     ensures key { key_of result ≡ key }

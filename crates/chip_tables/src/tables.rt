@@ -1,8 +1,10 @@
 //! The tables.
-ghost use Rattle.std.specs.Prelude.{◌≡◌, ◌<◌, ◌≤◌, IfOk, Some, length, map, slice_get};
+ghost use Rattle.std.specs.Prelude.{◌≡◌, ◌<◌, ◌≤◌, IfOk, IfSome, Some, length, map, slice_get};
 ghost use Rattle.std.specs.List.Sorted.{IsStrictlySortedBy};
-ghost use Rattle.br_model.specs.Maps.{pair_cmp};
-ghost use Rattle.chip_tables.specs.Rows.{vlan_at, flood_at, router_at, port_at, trap_at, control_in, address_at, addresses_with, max_addresses, address_rows, group_at, groups_with, max_groups, IsPlaced, WritesVlan, WritesFlood, WritesRouter, WritesPort, WritesTrap};
+ghost use Rattle.br_model.specs.Data.Maps.{pair_cmp};
+ghost use Rattle.br_model.specs.Table.GroupPairs.{max_pairs};
+ghost use Rattle.br_model.specs.Table.Limits.{most_addresses};
+ghost use Rattle.chip_tables.specs.Rows.{vlan_at, flood_at, router_at, port_at, trap_at, control_in, address_at, addresses_with, address_rows, group_at, groups_with, IsPlaced, WritesVlan, WritesFlood, WritesRouter, WritesPort, WritesTrap};
 ghost use Rattle.chip_tables.specs.Writing.{WritesFan, IsBlank};
 
 use crate::NoMemory;
@@ -26,7 +28,7 @@ pub struct Tables {
     mcast: Bank<4096, 9>,
     bcast: Bank<4096, 9>,
     routers: Bank<4096, 9>,
-    ports: Bank<64, 3>,
+    ports: Bank<{ Port::PLACES }, 3>,
     traps: Bank<21, 1>,
     control: Bank<1, 1>,
     addresses: Addresses,
@@ -35,6 +37,8 @@ pub struct Tables {
 
 impl Model for Tables {
     ghost use Rattle.std.specs.Prelude.{◌≡◌, []};
+    ghost use Rattle.br_model.specs.Table.GroupPairs.{max_pairs};
+    ghost use Rattle.br_model.specs.Table.Limits.{most_addresses};
     ghost use Rattle.open_addressing.specs.Pairs.{by_pair};
     ghost use Rattle.chip_tables.specs.Rows.{Rows};
     ghost use Rattle.chip_tables.specs.AddressCells.{places_of};
@@ -44,7 +48,7 @@ impl Model for Tables {
 
     ghost view = { λ t. record { vlans = t.vlans; unicast = t.unicast; mcast = t.mcast; bcast = t.bcast; routers = t.routers; ports = t.ports; traps = t.traps; control = t.control; addresses = by_pair t.addresses.entries; places = places_of t.addresses.cells; groups = by_group t.groups.entries } };
 
-    ghost invariant = { λ t. (t.addresses.room ≡ 16384) × (t.groups.room ≡ 1024) };
+    ghost invariant = { λ t. (t.addresses.room ≡ most_addresses) × (t.groups.room ≡ max_pairs) };
 }
 
 /// Writes the row of a VLAN.
@@ -86,6 +90,7 @@ impl Tables {
         self.vlans.put(usize::from(v.number()), pack_vlan(&r));
     }
 
+    /// Where the VLAN's unicast, multicast or broadcast flood goes.
     pub fn flood(&self, v: Vid, f: Flood) -> FanRow
         ensures { result ≡ flood_at self.now v f }
     {
@@ -108,6 +113,7 @@ impl Tables {
         }
     }
 
+    /// Where frames go that are for multicast routers: the ports in the VLAN behind which one is known.
     pub fn router(&self, v: Vid) -> FanRow
         ensures { result ≡ router_at self.now v }
     {
@@ -144,6 +150,8 @@ impl Tables {
         is_on(&self.traps.row(i))
     }
 
+    /// Row 0 is that of 01-80-C2-00-00-00, rows 2 to 15 those of 01-80-C2-00-00-02 to 0F, row 16 that of IGMP, and 17 to 20
+    /// those of ICMPv6 types 130, 131, 132 and 143. Row 1 is no frame's.
     pub fn set_trap(&mut self, i: usize, on: bool)
         requires { i < 21 }
         ensures row { WritesTrap self.old self.new i on }
@@ -174,7 +182,7 @@ impl Tables {
 
     /// `None` frees the row. At most 16,384 rows may be used afterwards.
     pub fn set_address(&mut self, v: Vid, m: Mac, r: Option<AddressRow>)
-        requires { length (addresses_with self.old v m r) ≤ max_addresses }
+        requires { IfSome r (λ row. length (addresses_with self.old v m (Some row)) ≤ most_addresses) }
         ensures row { self.new.addresses ≡ addresses_with self.old v m r }
         ensures rest { self.new ≡ record self.old { addresses = self.new.addresses; places = self.new.places } }
     {
@@ -214,7 +222,7 @@ impl Tables {
 
     /// `None` frees the row. At most 1,024 rows may be used afterwards.
     pub fn set_group(&mut self, v: Vid, g: Group, r: Option<FanRow>)
-        requires { length (groups_with self.old v g r) ≤ max_groups }
+        requires { length (groups_with self.old v g r) ≤ max_pairs }
         ensures row { self.new.groups ≡ groups_with self.old v g r }
         ensures rest { self.new ≡ record self.old { groups = self.new.groups } }
     {

@@ -5,7 +5,7 @@ use Rattle.std.proofs.Math.Seq.{drop-cons}
 use Rattle.std.proofs.lemmas.List.{length-drop}
 use Rattle.std.proofs.lemmas.Slice.{between_to_end}
 use Rattle.std.specs.List.{fold}
-use Rattle.br_model.specs.Numbers.{number}
+use Rattle.br_model.specs.Data.Numbers.{number}
 use Rattle.byteorder.specs.Endian.{big_from}
 
 collect : (a b p r : ℕ) → (256 * a + b) * p + r ≡ a * (256 * p) + (b * p + r)

@@ -1,8 +1,8 @@
 //! Reading the header of a frame, and writing a frame with another tag.
-ghost use Rattle.std.specs.Prelude.{◌≡◌, ◌≤◌, ◌<◌, ◌+◌, IfOk, length, take};
-ghost use Rattle.br_model.specs.Frames.{frame, dressed, tag_of, tag_bits};
-ghost use Rattle.br_model.specs.Heads.{IsHead, TagFits};
-ghost use Rattle.br_model.specs.Numbers.{number};
+ghost use Rattle.std.specs.Prelude.{◌≡◌, ◌≤◌, ◌<◌, ◌+◌, ◌-◌, ◌++◌, IfOk, Some, None, Ok, length, take, drop};
+ghost use Rattle.br_model.specs.Wire.Frames.{frame, dressed, tag_of, tag_bits};
+ghost use Rattle.br_model.specs.Wire.Heads.{IsHead, TagFits};
+ghost use Rattle.br_model.specs.Data.Numbers.{number};
 
 use crate::NoMemory;
 use br_model::bytes::Bytes;
@@ -108,6 +108,28 @@ pub fn dress(alloc: Global, b: &[u8], h: &Head, tag: Option<Vid>) -> Result<Byte
     }
     out.extend_from_slice(&b[h.body - 2..])?;
     Ok(Bytes::of(out))
+}
+
+/// What stands in a frame before a tag, and all from the type on: the frame without a tag is the two together. `h` is the header
+/// that `parse` reads from `b`.
+pub fn parts<'a>(b: &'a [u8], h: &Head) -> (&'a [u8], &'a [u8])
+    requires { frame b.now ≡ Ok h.now }
+    ensures front { result.0.now ≡ take 12 b.now }
+    ensures rest { result.1.now ≡ drop (h.now.body - 2) b.now }
+    ensures short { length result.0.now + length result.1.now ≤ length b.now }
+{
+    (&b[..TYPE_AT], &b[h.body - 2..])
+}
+
+/// The bytes of the tag of this VLAN that stand between the two parts of a frame with this header, as `dress` writes them.
+pub fn tag_bytes(b: &[u8], h: &Head, vid: Vid) -> [u8; 4]
+    requires { frame b.now ≡ Ok h.now }
+    ensures { dressed b.now h.now (Some vid) ≡ take 12 b.now ++ (result ++ drop (h.now.body - 2) b.now) }
+{
+    let mut bytes = [0; 4];
+    BigEndian::write_u16(&mut bytes, TAG_TYPE);
+    BigEndian::write_u16(&mut bytes[2..], tag_bits(h.tag) + vid.number());
+    bytes
 }
 
 // The priority and drop eligible bits of a tag's two bytes, zeros where there is no tag.

@@ -8,6 +8,6 @@
 mod bpdus;
 mod frames;
 
-pub use crate::bpdus::{bpdu_read, bpdu_write};
-pub use crate::frames::{dress, parse};
+pub use crate::bpdus::{BPDU_LENGTH, bpdu_frame, bpdu_read, bpdu_write};
+pub use crate::frames::{dress, parse, parts, tag_bytes};
 pub use br_model::NoMemory;

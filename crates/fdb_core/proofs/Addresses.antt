@@ -1,16 +1,28 @@
 -- What is told of each entry follows the entries: look-ups, puts and takes are the same there.
-use Rattle.std.proofs.Common.{◌≡◌, ℕ, true, false, not, cond, Some, Option, option_map, List, [], ◌∷◌, map, refl, ap}
-use Rattle.std.specs.Ordering.{eq_by_cmp}
+use Rattle.std.proofs.Common.{◌≡◌, ℕ, Bool, true, false, T, not, cond, ◌&&◌, Some, Option, option_map, List, [], ◌∷◌, map, refl, sym, ap, ap₂, ◌∙◌}
+use Rattle.std.specs.Ordering.{eq_by_cmp, is_lt}
 use Rattle.std.specs.declared.cmp.Ordering.TheVariants.{Less, Equal, Greater}
-use Rattle.std.specs.FinMap.Entries.{by_order}
-use Rattle.br_model.specs.Maps.{pair_cmp, get, put, without}
+use Rattle.std.specs.FinMap.Entries.{by_order, below_all, is_sorted, is_sorted-put, find-put, same_entries}
+use Rattle.br_model.specs.Data.Maps.{pair_cmp, get, put, without, is_ascending}
+use Rattle.br_model.proofs.PairKeys.{pair_total, same_cmp}
 use Rattle.open_addressing.specs.Least.{smaller, least}
 use Rattle.fdb_core.specs.declared.entries.Entry.{Entry}
 use Rattle.fdb_core.specs.Packing.{by_address}
 use Rattle.fdb_core.proofs.ByAddress.{Key}
+use Rattle.fdb_core.proofs.Lookups.{as_T, equal}
 
 abbrev pub told : {X : Type 0} → (Entry → X) → List (Key × Entry) → List (Key × X)
 told f es = map (λ e. (e.0, f e.1)) es
+
+-- what is there is put again
+put-same : {X : Type 0} (m : List (Key × X)) (k : Key) (v : X) → T (is_sorted pair_cmp m) → get pair_cmp m k ≡ Some v → put pair_cmp m k v ≡ m
+put-same {X} m k v up is =
+    same_entries pair_cmp pair_total same_cmp (put pair_cmp m k v) m (is_sorted-put pair_cmp pair_total k v m up) up
+    (λ q. find-put pair_cmp pair_total q k v m ∙ by q (eq_by_cmp pair_cmp q k) refl)
+  where
+    by : (q : Key) (b : Bool) → eq_by_cmp pair_cmp q k ≡ b → cond b (Some v) (get pair_cmp m q) ≡ get pair_cmp m q
+    by q true e = sym (ap (get pair_cmp m) (same_cmp q k (equal _ e)) ∙ is)
+    by q false e = refl
 
 module _ {X : Type 0} (f : Entry → X) where
   pub get-told : (es : List (Key × Entry)) (k : Key) → get pair_cmp (told f es) k ≡ option_map f (get pair_cmp es k)
@@ -29,6 +41,18 @@ module _ {X : Type 0} (f : Entry → X) where
         | Equal ↦ refl
         | Greater ↦ ap (λ (rest : List (Key × X)). (e.0, f e.1) ∷ rest) (told-put es k x)
       ]
+
+  below-told : (k : Key) (es : List (Key × Entry)) → below_all pair_cmp k (told f es) ≡ below_all pair_cmp k es
+  below-told k [] = refl
+  below-told k (e ∷ es) = ap (λ b. is_lt (pair_cmp k e.0) && b) (below-told k es)
+
+  sorted-told : (es : List (Key × Entry)) → is_sorted pair_cmp (told f es) ≡ is_sorted pair_cmp es
+  sorted-told [] = refl
+  sorted-told (e ∷ es) = ap₂ ◌&&◌ (below-told e.0 es) (sorted-told es)
+
+  -- an entry of which the same is told changes nothing
+  pub told-same : (es : List (Key × Entry)) (k : Key) (x : Entry) → is_ascending pair_cmp es ≡ true → get pair_cmp (told f es) k ≡ Some (f x) → told f (put pair_cmp es k x) ≡ told f es
+  told-same es k x up is = told-put es k x ∙ put-same (told f es) k (f x) (as_T _ (sorted-told es ∙ up)) is
 
   pub told-without : (es : List (Key × Entry)) (k : Key) → told f (without pair_cmp es k) ≡ without pair_cmp (told f es) k
   told-without [] k = refl

@@ -1,12 +1,10 @@
 -- What keys' numbers are, and the keys of entries that pass.
-use Rattle.std.proofs.Common.{◌≡◌, ℕ, zero, suc, ◌+◌, ◌*◌, ◌/◌, ◌%◌, ◌^◌, ◌<◌, ◌≤◌, Bool, true, false, T, not, cond, ◌&&◌, IsTrue, Some, List, [], ◌∷◌, length, get_or, map, filter, nat_le, refl, sym, ap, subst, ◌∙◌, ⊎_elim, arith}
+use Rattle.std.proofs.Common.{◌≡◌, ℕ, zero, suc, ◌/◌, ◌^◌, ◌<◌, ◌≤◌, Bool, true, false, T, cond, ◌&&◌, IsTrue, List, [], ◌∷◌, length, get_or, map, filter, nat_le, refl, sym, ap, subst, arith}
 use Rattle.std.specs.List.{list_all}
-use Rattle.std.specs.Ordering.{is_eq, is_lt, eq_by_cmp, nat_cmp, ordering_then}
+use Rattle.std.specs.Ordering.{nat_cmp}
 use Rattle.std.specs.declared.cmp.Ordering.TheVariants.{Less, Equal, Greater}
-use Rattle.std.specs.Cmp.{nat_cmp_is, first_so, second_so}
-use Rattle.std.proofs.lemmas.Bool.{cases_eq, cases_lt, le-leb, leb-true}
-use Rattle.std.proofs.lemmas.Nat.{div-mul-add, mod-mul-add}
-use Rattle.std.proofs.Math.Nat.{mul-le-mul_right, mod-lt, div-add-mod}
+use Rattle.std.specs.Cmp.{first_so, second_so}
+use Rattle.std.proofs.lemmas.Bool.{le-leb, leb-true}
 use Rattle.std.specs.FinMap.Entries as entries
 use Rattle.std.specs.FinMap.Entries.{by_order}
 use Rattle.fdb_core.specs.declared.entries.Entry.{Entry}
@@ -81,6 +79,9 @@ key-packed k fits low high =
 pub key-range : (n : ℕ) → is_key n ≡ true → (1 ≤ n / 2 ^ 48) × (n / 2 ^ 48 ≤ 4094)
 unfolding unpacked
 key-range n h = (leb-true 1 (n / 2 ^ 48) (first_so _ _ h), leb-true (n / 2 ^ 48) 4094 (second_so _ _ h))
+
+pub key-some : (n : ℕ) → is_key n ≡ true → n ≡ 0 → ⊥
+key-some n h zero_is = (let low = (key-range n h).0 in omega arith)
 
 pub all-at : (ns : List ℕ) (i d : ℕ) → list_all is_key ns ≡ true → i < length ns → is_key (get_or ns i d) ≡ true
 all-at [] i d all h = absurd (omega arith)

@@ -42,6 +42,10 @@ addresses entries = map (λ e. (e.0, place e.1)) entries
 abbrev pub moments : List ((ℕ × ℕ) × Entry) → List ((ℕ × ℕ) × ℕ)
 moments entries = map (λ e. (e.0, e.1.updated)) entries
 
+-- learned at the moment
+abbrev pub learned_at : ℕ → Entry → Bool
+learned_at moment entry = is_learned entry.kind && entry.updated == moment
+
 -- the moment of a learned entry
 abbrev pub learned_moment : Entry → Option ℕ
 learned_moment entry = if is_learned entry.kind then Some entry.updated else None

@@ -1,2 +1,5 @@
 pub mod Fdb
 pub mod Packing
+pub mod Places
+pub mod Counts
+pub mod Kept

@@ -1,5 +1,5 @@
 -- Which numbers are those of a VLAN and an address, and the entries by VLAN and address.
-use Rattle.std.specs.Prelude.{ℕ, ◌+◌, ◌*◌, ◌/◌, ◌%◌, ◌^◌, nat_le, Bool, ◌&&◌, List, map, IsTrue}
+use Rattle.std.specs.Prelude.{ℕ, nat_le, Bool, ◌&&◌, List, IsTrue}
 use Rattle.std.specs.List.{list_all}
 use Rattle.open_addressing.specs.Pairs.{unpacked, by_pair}
 use Rattle.fdb_core.specs.declared.entries.Entry.{Entry}

@@ -1,6 +1,6 @@
 //! What stands at an address.
 ghost use Rattle.std.specs.Prelude.{◌≡◌};
-ghost use Rattle.fdb_core.specs.Fdb.{is_at_port, is_expired, learned_moment};
+ghost use Rattle.fdb_core.specs.Fdb.{is_at_port, is_expired, learned_at, learned_moment};
 
 use br_model::change::Kind;
 use br_model::numbers::{Mac, Port, Vid};
@@ -33,6 +33,16 @@ impl Entry {
                 None => false,
             },
             Kind::Local | Kind::Static | Kind::Extern => false,
+        }
+    }
+
+    /// Whether it was learned at the moment.
+    pub fn is_learned_at(&self, moment: u64) -> bool
+        ensures { result ≡ learned_at moment self.now }
+    {
+        match self.kind {
+            Kind::Learned => self.updated == moment,
+            Kind::Extern | Kind::Static | Kind::Local => false,
         }
     }
 

@@ -3,17 +3,17 @@
 //! It takes its memory at its making, so that no entry is lost later for want of memory.
 #![tactic(auto)]
 
+mod ages;
 pub mod entries;
 pub mod key_list;
 mod packing;
+mod port_counts;
 pub mod table;
 
+pub use br_model::NoMemory;
 pub use entries::{Entry, Key};
 pub use key_list::Keys;
 pub use table::Fdb;
-
-/// There was no memory.
-pub type NoMemory = std::alloc::AllocError;
 
 #[cfg(test)]
 mod tests;

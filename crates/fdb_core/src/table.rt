@@ -1,12 +1,19 @@
 //! The forwarding database.
-ghost use Rattle.std.specs.Prelude.{◌≡◌, ℕ, ◌+◌, ◌<◌, ◌≤◌, ◌↔◌, [], None, Some, IfOk, IsTrue, length, option_map};
-ghost use Rattle.br_model.specs.Maps.{pair_cmp, get, put, without, is_ascending};
+ghost use Rattle.std.specs.Prelude.{◌≡◌, ℕ, ◌+◌, ◌<◌, ◌≤◌, ◌↔◌, [], None, Some, IfOk, IsSome, IsTrue, length, map, option_map};
+ghost use Rattle.br_model.specs.Data.Maps.{pair_cmp, get, put, without, is_ascending};
 ghost use Rattle.fdb_core.specs.Fdb.{addresses, moments, place, keys_where, is_at_port, is_expired, learned_moment, oldest, all_from};
+ghost use Rattle.fdb_core.specs.Places.{news_of};
+ghost use Rattle.fdb_core.specs.declared.entries.Entry.{Entry};
+ghost use Rattle.fdb_core.specs.Packing.{is_key};
+ghost use Rattle.open_addressing.specs.Pairs.{unpacked};
+ghost use Rattle.std.specs.List.{list_all};
 
 use crate::NoMemory;
+use crate::ages::{Ages, make_room, settle};
 use crate::entries::Entry;
 use crate::key_list::Keys;
 use crate::packing::{pack, unpack_all};
+use crate::port_counts::PortCounts;
 use br_model::change::Kind;
 use br_model::numbers::{Mac, Port, Vid};
 use open_addressing::map::{Columned, Measure, Test};
@@ -17,17 +24,22 @@ use std::marker::Model;
 #[derive(Drop, Debug)]
 pub struct Fdb {
     entries: Columned<Entry>,
+    // How many of them each port has.
+    ports: PortCounts,
+    // When the learned ones of them were.
+    ages: Ages,
 }
 
 impl Model for Fdb {
     ghost use Rattle.fdb_core.specs.Fdb.{Table};
-    ghost use Rattle.fdb_core.specs.Packing.{by_address, AreKeys};
+    ghost use Rattle.fdb_core.specs.Packing.{by_address};
+    ghost use Rattle.fdb_core.specs.Kept.{AreKept};
 
     ghost Value = { Table };
 
     ghost view = { λ f. record { entries = by_address f.entries.entries; room = f.entries.room } };
 
-    ghost invariant = { λ f. AreKeys f.entries.entries };
+    ghost invariant = { λ f. AreKept f.entries.entries f.ports.counts f.ages.complete f.ages.latest f.ages.places.items };
 }
 
 /// What stands in cells before they are used.
@@ -75,13 +87,27 @@ impl Measure<Entry> for LearnedMoment {
     }
 }
 
+/// The moment of a learned entry, where the one that was there before wasn't learned then too.
+fn news(old: Option<Entry>, entry: Entry) -> Option<u64>
+    ensures { result ≡ news_of old entry }
+{
+    let moment = entry.learned_moment()?;
+    match old {
+        Some(old) if old.is_learned_at(moment) => None,
+        Some(_) | None => Some(moment),
+    }
+}
+
 impl Fdb {
     /// Makes a database with room for `cap` entries.
     pub fn make(alloc: Global, cap: usize) -> Result<Fdb, NoMemory>
         ensures { IfOk result (λ f. f ≡ record { entries = []; room = cap }) }
     {
-        let entries = Columned::make(alloc, cap, BLANK)?;
-        Ok(Fdb { entries })
+        Ok(Fdb {
+            entries: Columned::make(alloc, cap, BLANK)?,
+            ports: PortCounts::none(),
+            ages: Ages::make(alloc, cap)?,
+        })
     }
 
     pub fn len(&self) -> usize
@@ -119,7 +145,48 @@ impl Fdb {
         ensures addresses { addresses self.new.entries ≡ put pair_cmp (addresses self.old.entries) (vid, mac) (place entry) }
         ensures moments { moments self.new.entries ≡ put pair_cmp (moments self.old.entries) (vid, mac) entry.updated }
     {
-        self.entries.insert(&pack(vid, mac), entry);
+        let old = self.find(vid, mac);
+        self.replace(vid, mac, old, entry);
+    }
+
+    /// Gives the entry at the address this moment.
+    pub fn renew(&mut self, vid: Vid, mac: Mac, moment: u64)
+        requires { IsSome (get pair_cmp self.old.entries (vid, mac)) }
+        ensures entries { (e : Entry) → get pair_cmp self.old.entries (vid, mac) ≡ Some e
+            → self.new ≡ record self.old { entries = put pair_cmp self.old.entries (vid, mac) (record e { updated = moment }) } }
+        ensures addresses { addresses self.new.entries ≡ addresses self.old.entries }
+        ensures moments { moments self.new.entries ≡ put pair_cmp (moments self.old.entries) (vid, mac) moment }
+        ensures room { self.new.room ≡ self.old.room }
+    {
+        // law: the entries ascend
+        let _len = self.len();
+        match self.find(vid, mac) {
+            Some(old) => {
+                let entry = Entry {
+                    port: old.port,
+                    kind: old.kind,
+                    updated: moment,
+                };
+                self.replace(vid, mac, Some(old), entry);
+            }
+            None => unreachable!(),
+        }
+    }
+
+    /// Puts an entry at the address, in place of `old`, which is there.
+    fn replace(&mut self, vid: Vid, mac: Mac, old: Option<Entry>, entry: Entry)
+        requires old { old ≡ get pair_cmp self.old.entries (vid, mac) }
+        requires room { old ≡ None → length self.old.entries < self.old.room }
+        ensures { self.new ≡ record self.old { entries = put pair_cmp self.old.entries (vid, mac) entry } }
+    {
+        let key = pack(vid, mac);
+        make_room(&mut self.ages, &self.entries);
+        self.entries.insert(&key, entry);
+        let len = self.entries.len();
+        self.ports.remove(&old);
+        self.ports.add(&entry, len);
+        self.ages.note(news(old, entry), key);
+        settle(&mut self.ages, &self.entries);
     }
 
     /// Takes the entry at the address out.
@@ -129,32 +196,68 @@ impl Fdb {
         ensures addresses { addresses self.new.entries ≡ without pair_cmp (addresses self.old.entries) (vid, mac) }
         ensures moments { moments self.new.entries ≡ without pair_cmp (moments self.old.entries) (vid, mac) }
     {
-        self.entries.take(&pack(vid, mac))
+        let taken = self.entries.take(&pack(vid, mac));
+        self.ports.remove(&taken);
+        settle(&mut self.ages, &self.entries);
+        taken
     }
 
     /// The keys of the entries at the port.
     pub fn entries_of_port(&self, alloc: Global, port: Port) -> Result<Keys, NoMemory>
         ensures { IfOk result (λ keys. keys ≡ keys_where (is_at_port port) self.now.entries) }
     {
-        let numbers = self.entries.keys_where(alloc, &AtPort { port })?;
+        let numbers = self.numbers_at(alloc, port)?;
         let keys = unpack_all(alloc, &numbers)?;
         Ok(Keys::of(keys))
     }
 
-    /// The keys of the learned entries whose time is over at the moment `now`, in milliseconds.
+    /// The numbers of those keys, ascending.
+    fn numbers_at(&self, alloc: Global, port: Port) -> Result<Vec<u64>, NoMemory>
+        ensures keys { IfOk result (λ v. IsTrue (list_all is_key v.items)) }
+        ensures value { IfOk result (λ v. map unpacked v.items ≡ keys_where (is_at_port port) self.now.entries) }
+    {
+        if self.ports.of(port) == 0 {
+            let none = Vec::new(alloc);
+            return Ok(none);
+        }
+        let all = self.entries.keys_where(alloc, &AtPort { port })?;
+        Ok(all)
+    }
+
+    /// The keys of the learned entries whose time is over at the moment `now`: the moment of each and `hold`, for how long
+    /// an entry stays that isn't seen again, come to no more than that. All are in milliseconds. It looks at places of age
+    /// that are over, of which there are no more than there were changes.
     pub fn expired(&self, alloc: Global, now: u64, hold: u64) -> Result<Keys, NoMemory>
         ensures { IfOk result (λ keys. keys ≡ keys_where (is_expired now hold) self.now.entries) }
     {
-        let numbers = self.entries.keys_where(alloc, &Expired { now, hold })?;
+        let numbers = self.numbers_over(alloc, now, hold)?;
         let keys = unpack_all(alloc, &numbers)?;
         Ok(Keys::of(keys))
     }
 
-    /// The least moment of a learned entry. It looks at each entry.
+    /// The numbers of those keys, ascending.
+    fn numbers_over(&self, alloc: Global, now: u64, hold: u64) -> Result<Vec<u64>, NoMemory>
+        ensures keys { IfOk result (λ v. IsTrue (list_all is_key v.items)) }
+        ensures value { IfOk result (λ v. map unpacked v.items ≡ keys_where (is_expired now hold) self.now.entries) }
+    {
+        if self.ages.is_complete() {
+            let mut numbers = self.ages.over(alloc, &self.entries, now, hold)?;
+            numbers.sort_unstable();
+            numbers.dedup();
+            return Ok(numbers);
+        }
+        let all = self.entries.keys_where(alloc, &Expired { now, hold })?;
+        Ok(all)
+    }
+
+    /// The least moment of a learned entry.
     pub fn oldest(&self) -> Option<u64>
         ensures value { result ≡ oldest self.now.entries }
         ensures first { (moment : ℕ) → ((m : ℕ) → result ≡ Some m → moment ≤ m) → IsTrue (all_from moment self.now.entries) }
     {
+        if self.ages.is_complete() {
+            return self.ages.first();
+        }
         self.entries.least(&LearnedMoment)
     }
 }

@@ -8,21 +8,22 @@ use Rattle.std.specs.Cmp.{first_so, second_so}
 use Rattle.std.proofs.lemmas.Bool.{cases_Bool, ne_eqb}
 use borrow.Author.Tests.{ltb-true, leb-true}
 use Rattle.std.proofs.lemmas.List.{length-map}
-use Rattle.br_model.specs.Admission.{admit}
-use Rattle.br_model.specs.Class.{class, class_by, is_snooped, is_trapped, is_trapped_in, reaches_host, crosses}
-use Rattle.br_model.specs.Domains.{Domains, host, foreign}
-use Rattle.br_model.specs.Eligible.{may, untagged}
-use Rattle.br_model.specs.Leave.{all_ports, egress_ports, ports_in, ports_out}
-use Rattle.br_model.specs.Limits.{most_addresses}
-use Rattle.br_model.specs.Maps.{pair_cmp, get, has}
-use Rattle.br_model.specs.Numbers.{is_multicast, broadcast}
-use Rattle.br_model.specs.Table.{Table, with_addresses}
-use Rattle.br_model.specs.Targets.{bridge_group_address, pause_address, port_of, targets, to_tree, is_for_the_host, with_flag, flood}
+use Rattle.br_model.specs.Forward.Admission.{admit}
+use Rattle.br_model.specs.Forward.Class.{class, class_by, is_snooped, is_trapped, is_trapped_in, reaches_host, crosses}
+use Rattle.br_model.specs.Table.Domains.{Domains, host, foreign}
+use Rattle.br_model.specs.Forward.Eligible.{may, untagged}
+use Rattle.br_model.specs.Forward.Leave.{all_ports, egress_ports, ports_in, ports_out}
+use Rattle.br_model.specs.Table.Limits.{most_addresses}
+use Rattle.br_model.specs.Data.Maps.{pair_cmp, get, has}
+use Rattle.br_model.specs.Data.Numbers.{is_multicast, broadcast}
+use Rattle.br_model.specs.Table.Table.{Table, with_addresses}
+use Rattle.br_model.specs.Forward.Targets.{bridge_group_address, pause_address, port_of, targets, to_tree, is_for_the_host, with_flag, flood}
 use Rattle.br_model.specs.declared.change.Kind.{Kind}
 use Rattle.br_model.specs.declared.frame.Class.{Class}
 use Rattle.br_model.specs.declared.frame.Class.TheVariants.{Drop, Trap}
 use Rattle.br_model.specs.declared.frame.Head.{Head}
 use Rattle.br_model.specs.declared.frame.McastMsg.{McastMsg}
+use Rattle.br_model.proofs.Stations.{other, not-reserved}
 use Rattle.fdb_core.specs.declared.entries.Entry.{Entry}
 use Rattle.fdb_core.specs.Fdb.{addresses, place}
 use Rattle.fdb_core.proofs.Addresses.{get-told}
@@ -30,7 +31,8 @@ use Rattle.port_sets.specs.Numbers.{numbers_below, has_number}
 use Rattle.port_sets.proofs.Numbers.{same_below, filter-set, IsSetBelow-numbers_below}
 use Rattle.vlan_groups.specs.Rows.{ports_where}
 use Rattle.forward_rules.specs.PortSets.{set_of}
-use Rattle.forward_rules.specs.Verdicts.{known_port, untagged_among}
+use Rattle.br_model.specs.Forward.Untagged.{untagged_among}
+use Rattle.forward_rules.specs.Verdicts.{known_port}
 use Rattle.forward_rules.proofs.SetLaws.{member-of}
 
 abbrev Entries : Type 0
@@ -75,19 +77,6 @@ unknown-none t vid address station none =
     by (Some e) h = absurd (cc)
 
 -- ---- where frames are to go
-
-other : (a n : ℕ) → is_multicast a ≡ false → is_multicast n ≡ true → (a == n) ≡ false
-other a n station group = ne_eqb a n (λ e. absurd (cc (ap is_multicast e)))
-
-not-reserved : (a : ℕ) → is_multicast a ≡ false → is_for_the_host a ≡ false
-not-reserved a station = elim (cases_Bool (is_for_the_host a)) [
-  | inl e ↦
-      let low : pause_address < a = ltb-true pause_address a (first_so _ _ e) in
-      let high : a ≤ 0x0180C200000F = leb-true a 0x0180C200000F (second_so _ _ e) in
-      let one : a / 2 ^ 40 ≡ 1 = omega (arith, low, high) in
-      absurd (cc (sym station ∙ ap (λ n. n % 2 == 1) one))
-  | inr e ↦ e
-]
 
 pub nobody-targets : (t : Table) (vid : ℕ) (head : Head) (msg : McastMsg) → (((head.dst == bridge_group_address) && t.stp) || (head.dst == pause_address)) ≡ true → targets t vid head msg ≡ []
 nobody-targets t vid head msg h = by _ ((head.dst == bridge_group_address) && t.stp) (head.dst == pause_address) h

@@ -6,8 +6,8 @@ use Rattle.std.specs.List.{filter}
 use Rattle.std.specs.Option.{option_eq}
 use Rattle.std.proofs.lemmas.Bool.{eq-eqb, ne_eqb}
 use Rattle.std.proofs.lemmas.Bool.Decides.{eqb_tells}
-use Rattle.br_model.specs.DomainPorts.{is_in_domain, IsWordOf}
-use Rattle.br_model.specs.Domains.{Domains, domain_of, foreign}
+use Rattle.br_model.specs.Table.DomainPorts.{is_in_domain, IsWordOf}
+use Rattle.br_model.specs.Table.Domains.{Domains, domain_of, foreign}
 use Rattle.port_sets.specs.Numbers.{has_number, IsSetBelow}
 use Rattle.port_sets.proofs.Numbers.{filter-set, same_below}
 use Rattle.vlan_groups.specs.Rows.{ports_where}

@@ -4,8 +4,8 @@ use Rattle.std.specs.Prelude.{◌==◌}
 use Rattle.std.specs.Ordering.{nat_cmp}
 use Rattle.std.proofs.lemmas.Bool.{eq-eqb, ne_eqb}
 use Rattle.std.proofs.lemmas.Bool.Decides.{eqb_tells}
-use Rattle.br_model.specs.Domains.{entries_from}
-use Rattle.br_model.specs.Maps.{get, put, without}
+use Rattle.br_model.specs.Table.Domains.{entries_from}
+use Rattle.br_model.specs.Data.Maps.{get, put, without}
 use Rattle.br_model.proofs.DomainLaws.{get-entries, entries-set}
 use Rattle.vlan_groups.proofs.Pvids.{entries-clear}
 use Rattle.port_sets.specs.Numbers.{numbers_below, has_number}

@@ -5,13 +5,13 @@ use Rattle.std.specs.Ordering.{nat_cmp}
 use Rattle.std.proofs.Math.Bool.{and-true}
 use Rattle.std.proofs.lemmas.Bool.{eq-eqb, ne_eqb}
 use Rattle.std.proofs.lemmas.Bool.Decides.{eqb_tells}
-use Rattle.br_model.specs.Admission.{forwarding, learning, is_forwarding, member}
-use Rattle.br_model.specs.Domains.{host}
-use Rattle.br_model.specs.Eligible.{may}
-use Rattle.br_model.specs.Learning.{learning_flag, may_teach}
-use Rattle.br_model.specs.Maps.{get, has, put, joined, parted, without}
-use Rattle.br_model.specs.Table.{Table, apply, default_flags, disabled}
-use Rattle.br_model.specs.Targets.{has_flag, isolated}
+use Rattle.br_model.specs.Forward.Admission.{forwarding, learning, is_forwarding, member}
+use Rattle.br_model.specs.Table.Domains.{host}
+use Rattle.br_model.specs.Forward.Eligible.{may}
+use Rattle.br_model.specs.Control.Learning.{learning_flag, may_teach}
+use Rattle.br_model.specs.Data.Maps.{get, has, put, joined, parted, without}
+use Rattle.br_model.specs.Table.Table.{Table, apply, default_flags, disabled}
+use Rattle.br_model.specs.Forward.Targets.{has_flag, isolated}
 use Rattle.br_model.specs.declared.change.Change.TheVariants.{PortUp, PortDown}
 use Rattle.port_sets.specs.Numbers.{has_number}
 use Rattle.vlan_groups.specs.Rows.{ports_where}

@@ -4,10 +4,10 @@ use Rattle.std.specs.declared.option.Option.{Option}
 use Rattle.std.specs.declared.option.Option.TheVariants.{Some}
 use Rattle.std.specs.Option.{option_eq, unwrap_or}
 use Rattle.std.specs.Ordering.{nat_cmp}
-use Rattle.br_model.specs.Admission.{learning, forwarding}
-use Rattle.br_model.specs.Learning.{learning_flag}
-use Rattle.br_model.specs.Maps.{get, has}
-use Rattle.br_model.specs.Targets.{flood, mcast_flood, bcast_flood, isolated}
+use Rattle.br_model.specs.Forward.Admission.{learning, forwarding}
+use Rattle.br_model.specs.Control.Learning.{learning_flag}
+use Rattle.br_model.specs.Data.Maps.{get, has}
+use Rattle.br_model.specs.Forward.Targets.{flood, mcast_flood, bcast_flood, isolated}
 use Rattle.port_sets.specs.Numbers.{has_number}
 use Rattle.vlan_groups.specs.Rows.{ports_where}
 

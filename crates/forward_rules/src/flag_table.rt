@@ -2,10 +2,10 @@
 ghost use Rattle.std.specs.Prelude.{◌≡◌, ℕ, ◌<◌, ◌==◌, ◌/◌, ◌%◌, ◌^◌, [], Some, None};
 ghost use Rattle.std.specs.Option.{unwrap_or};
 ghost use Rattle.std.specs.Ordering.{nat_cmp};
-ghost use Rattle.br_model.specs.Domains.{entries_from};
-ghost use Rattle.br_model.specs.Learning.{learning_flag};
-ghost use Rattle.br_model.specs.Maps.{get, put, without};
-ghost use Rattle.br_model.specs.Targets.{flood, mcast_flood, bcast_flood, isolated};
+ghost use Rattle.br_model.specs.Table.Domains.{entries_from};
+ghost use Rattle.br_model.specs.Control.Learning.{learning_flag};
+ghost use Rattle.br_model.specs.Data.Maps.{get, put, without};
+ghost use Rattle.br_model.specs.Forward.Targets.{flood, mcast_flood, bcast_flood, isolated};
 ghost use Rattle.forward_rules.specs.PortSets.{flagged};
 
 use crate::place::placed;
@@ -17,7 +17,7 @@ use std::marker::Model;
 /// The flags of each port that has some, seen as the list of pairs of a port and its flags, ascending by port.
 #[derive(Drop, Debug)]
 pub struct FlagTable {
-    by_port: [Option<Flags>; 64],
+    by_port: [Option<Flags>; Port::PLACES],
     // The ports that have each of the flags that decisions ask for.
     learning: Ports,
     flood: Ports,
@@ -28,7 +28,7 @@ pub struct FlagTable {
 
 impl Model for FlagTable {
     ghost use Rattle.std.specs.Prelude.{ℕ, List};
-    ghost use Rattle.br_model.specs.Domains.{entries_from};
+    ghost use Rattle.br_model.specs.Table.Domains.{entries_from};
     ghost use Rattle.forward_rules.specs.PortSets.{AreFlagged};
 
     ghost Value = { List (ℕ × ℕ) };
@@ -44,7 +44,7 @@ impl FlagTable {
         ensures { result ≡ [] }
     {
         FlagTable {
-            by_port: [None; 64],
+            by_port: [None; Port::PLACES],
             learning: Ports::empty(),
             flood: Ports::empty(),
             mcast_flood: Ports::empty(),
@@ -53,6 +53,7 @@ impl FlagTable {
         }
     }
 
+    /// `None` where the port has no flags.
     pub fn of(&self, port: Port) -> Option<Flags>
         ensures { result ≡ get nat_cmp self.now port }
     {
@@ -85,31 +86,35 @@ impl FlagTable {
         self.isolated = placed(self.isolated, port, has(bits, Flags::ISOLATED));
     }
 
-    /// The ports with the flag `learning`, and so on.
+    /// The ports with the flag `learning`: frames teach there (Linux's BR_LEARNING).
     pub fn learning(&self) -> Ports
         ensures { result ≡ flagged self.now learning_flag }
     {
         self.learning
     }
 
+    /// Those with `flood`: unknown unicast goes there (Linux's BR_FLOOD).
     pub fn flood(&self) -> Ports
         ensures { result ≡ flagged self.now flood }
     {
         self.flood
     }
 
+    /// Those with `mcast_flood`: multicast frames that are flooded go there (Linux's BR_MCAST_FLOOD).
     pub fn mcast_flood(&self) -> Ports
         ensures { result ≡ flagged self.now mcast_flood }
     {
         self.mcast_flood
     }
 
+    /// Those with `bcast_flood`: broadcasts go there (Linux's BR_BCAST_FLOOD).
     pub fn bcast_flood(&self) -> Ports
         ensures { result ≡ flagged self.now bcast_flood }
     {
         self.bcast_flood
     }
 
+    /// Those with `isolated`: none sends to another (Linux's BR_ISOLATED).
     pub fn isolated(&self) -> Ports
         ensures { result ≡ flagged self.now isolated }
     {

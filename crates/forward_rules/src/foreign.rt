@@ -1,8 +1,8 @@
 //! Ports of other domains.
 ghost use Rattle.std.specs.Prelude.{◌≡◌, ℕ, ◌<◌, is_some};
 ghost use Rattle.std.specs.List.{list_any};
-ghost use Rattle.br_model.specs.Class.{class_by};
-ghost use Rattle.br_model.specs.Domains.{domain_of, foreign};
+ghost use Rattle.br_model.specs.Forward.Class.{class_by};
+ghost use Rattle.br_model.specs.Table.Domains.{domain_of, foreign, port_places};
 
 use br_model::domains::Domains;
 use br_model::frame::Class;
@@ -35,6 +35,7 @@ fn has_foreign(domains: &Domains, port: Port, ports: Ports) -> bool
 {
     match domains.of(port) {
         Some(own) => {
+            // law: the members ascend
             ports.members_ascend();
             let same = Ports::from_word(domains.ports_of(own));
             !ports.minus(same).is_empty()
@@ -46,9 +47,10 @@ fn has_foreign(domains: &Domains, port: Port, ports: Ports) -> bool
 fn has_declared(domains: &Domains, ports: Ports) -> bool
     ensures { result ≡ list_any (λ q. is_some (domain_of domains.now q)) ports }
 {
+    // law: the members ascend
     ports.members_ascend();
-    for number in 0..Port::COUNT {
-        if ports.has(number) && is_declared(domains, number) {
+    for number in 0..Port::PLACES {
+        if ports.has(number as u8) && is_declared(domains, number as u8) {
             return true;
         }
     }
@@ -56,7 +58,7 @@ fn has_declared(domains: &Domains, ports: Ports) -> bool
 }
 
 fn is_declared(domains: &Domains, number: u8) -> bool
-    requires { number < 64 }
+    requires { number < port_places }
     ensures { result ≡ is_some (domain_of domains.now number) }
 {
     match Port::new(number) {

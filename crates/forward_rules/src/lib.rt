@@ -13,6 +13,3 @@ mod state_table;
 pub use br_model::NoMemory;
 pub use port_tables::PortTables;
 pub use soft_tables::{SoftTables, Verdict};
-
-#[cfg(test)]
-mod tests;

@@ -1,18 +1,18 @@
 //! All parts of the table but the addresses.
 ghost use Rattle.std.specs.Prelude.{◌≡◌, ◌==◌, ◌&&◌, ◌||◌, [], ◌∷◌, true, IfOk, IsTrue, Some};
 ghost use Rattle.std.specs.Ordering.{nat_cmp};
-ghost use Rattle.br_model.specs.Admission.{is_up, is_forwarding, member, vlan_of_tag, vlan_of, admit};
-ghost use Rattle.br_model.specs.Class.{is_snooped};
-ghost use Rattle.br_model.specs.Commands.Groups.{is_joined};
-ghost use Rattle.br_model.specs.Domains.{host};
-ghost use Rattle.br_model.specs.Eligible.{untagged, may};
-ghost use Rattle.br_model.specs.GroupPairs.{has_room};
-ghost use Rattle.br_model.specs.Learning.{may_teach};
-ghost use Rattle.br_model.specs.Limits.{fits};
-ghost use Rattle.br_model.specs.Maps.{get, has};
-ghost use Rattle.br_model.specs.Numbers.{is_multicast};
-ghost use Rattle.br_model.specs.Table.{start, apply};
-ghost use Rattle.br_model.specs.Targets.{bridge_group_address, pause_address, bcast_flood, knows_querier, multicast_flood, to_routers, to_members, snooped_targets, targets, to_tree, with_flag, flood};
+ghost use Rattle.br_model.specs.Forward.Admission.{is_up, is_forwarding, member, vlan_of_tag, vlan_of, admit};
+ghost use Rattle.br_model.specs.Forward.Class.{is_snooped};
+ghost use Rattle.br_model.specs.Control.Commands.Groups.{is_joined};
+ghost use Rattle.br_model.specs.Table.Domains.{host};
+ghost use Rattle.br_model.specs.Forward.Eligible.{untagged, may};
+ghost use Rattle.br_model.specs.Table.GroupPairs.{has_room};
+ghost use Rattle.br_model.specs.Control.Learning.{may_teach};
+ghost use Rattle.br_model.specs.Table.Limits.{fits};
+ghost use Rattle.br_model.specs.Data.Maps.{get, has};
+ghost use Rattle.br_model.specs.Data.Numbers.{is_multicast};
+ghost use Rattle.br_model.specs.Table.Table.{start, apply};
+ghost use Rattle.br_model.specs.Forward.Targets.{bridge_group_address, pause_address, bcast_flood, knows_querier, multicast_flood, to_routers, to_members, snooped_targets, targets, to_tree, with_flag, flood};
 ghost use Rattle.br_model.specs.declared.change.Change.TheVariants as Change;
 ghost use Rattle.mdb_snoop.specs.Database.{pairs_of_port};
 ghost use Rattle.vlan_groups.specs.Rows.{ports_where};
@@ -49,8 +49,8 @@ pub struct PortTables {
 
 impl Model for PortTables {
     ghost use Rattle.std.specs.Prelude.{[]};
-    ghost use Rattle.br_model.specs.Table.{Table};
-    ghost use Rattle.br_model.specs.Ends.{keys};
+    ghost use Rattle.br_model.specs.Table.Table.{Table};
+    ghost use Rattle.br_model.specs.Control.Ends.{keys};
     ghost use Rattle.mdb_snoop.specs.Database.{memberships};
 
     ghost Value = { Table };
@@ -121,6 +121,7 @@ impl PortTables {
     fn port_up(&mut self, port: Port)
         ensures { self.new ≡ apply self.old (Change.PortUp port) }
     {
+        // law: the members ascend
         self.up.members_ascend();
         self.up = self.up.with(port.number());
         self.flags.set(port, Flags::DEFAULT);
@@ -130,6 +131,7 @@ impl PortTables {
     fn port_down(&mut self, port: Port)
         ensures { self.new ≡ apply self.old (Change.PortDown port) }
     {
+        // law: the members ascend
         self.up.members_ascend();
         self.up = self.up.without(port.number());
         self.flags.clear(port);
@@ -160,6 +162,7 @@ impl PortTables {
     pub fn has_no_addresses(&self)
         ensures { self.now.addr ≡ [] }
     {
+        // law: the view has no addresses
         let _up = &self.up;
     }
 
@@ -183,12 +186,14 @@ impl PortTables {
         self.flags.of(port)
     }
 
+    /// The state of a port by Linux's number, 0 to 4, which one that is down may lack.
     pub fn state(&self, port: Port) -> Option<u8>
         ensures { result ≡ get nat_cmp self.now.state port }
     {
         self.states.of(port)
     }
 
+    /// Whether the port is a member of the VLAN.
     pub fn member(&self, port: Port, vid: Vid) -> bool
         ensures { result ≡ member self.now port vid }
     {
@@ -216,6 +221,7 @@ impl PortTables {
         self.mdb.has(vid, group, port)
     }
 
+    /// Whether a multicast router is known behind the port.
     pub fn is_router(&self, port: Port) -> bool
         ensures { result ≡ has nat_cmp self.now.routers port }
     {
@@ -355,6 +361,7 @@ impl PortTables {
     {
         if self.mdb.querier(six) {
             let routers = self.mdb.routers();
+            // law: the members ascend
             routers.members_ascend();
             routers
         } else {
@@ -370,6 +377,7 @@ impl PortTables {
         } else {
             let members = self.mdb.members(vid, group);
             let routers = self.mdb.routers();
+            // law: the members of both ascend
             members.members_ascend();
             routers.members_ascend();
             members.or(routers)

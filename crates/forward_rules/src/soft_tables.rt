@@ -1,25 +1,27 @@
 //! The whole table, and what it decides of a frame.
 ghost use Rattle.std.specs.Prelude.{◌≡◌, ◌<◌, nat_lt, ◌&&◌, ◌||◌, [], false, length, IfOk, IfSome, IsTrue, Some};
 ghost use Rattle.std.specs.Option.{is_some, option_map_or};
-ghost use Rattle.br_model.specs.Admission.{admit};
-ghost use Rattle.br_model.specs.Class.{class};
-ghost use Rattle.br_model.specs.Domains.{foreign, host};
-ghost use Rattle.br_model.specs.Leave.{ports_out};
-ghost use Rattle.br_model.specs.Limits.{fits, most_addresses};
-ghost use Rattle.br_model.specs.Maps.{pair_cmp, get};
-ghost use Rattle.br_model.specs.Table.{start, apply};
-ghost use Rattle.br_model.specs.Targets.{is_for_the_host, port_of, targets, to_tree};
+ghost use Rattle.br_model.specs.Forward.Admission.{admit};
+ghost use Rattle.br_model.specs.Forward.Class.{class};
+ghost use Rattle.br_model.specs.Table.Domains.{foreign, host, port_places};
+ghost use Rattle.br_model.specs.Forward.Leave.{ports_out};
+ghost use Rattle.br_model.specs.Forward.Untagged.{untagged_among};
+ghost use Rattle.br_model.specs.Table.Limits.{fits, most_addresses};
+ghost use Rattle.br_model.specs.Data.Maps.{pair_cmp, get};
+ghost use Rattle.br_model.specs.Table.Table.{start, apply};
+ghost use Rattle.br_model.specs.Forward.Targets.{is_for_the_host, port_of, targets, to_tree};
 ghost use Rattle.port_sets.specs.Numbers.{has_number};
 ghost use Rattle.forward_rules.specs.PortSets.{set_of};
-ghost use Rattle.forward_rules.specs.Verdicts.{known_port, untagged_among};
+ghost use Rattle.forward_rules.specs.Verdicts.{known_port};
 ghost use Rattle.br_model.specs.declared.change.Change.TheVariants as Change;
 
 use crate::NoMemory;
 use crate::foreign::{class_by, is_foreign};
 use crate::port_tables::PortTables;
-use br_model::change::{BLOCKING, Change, Kind};
+use br_model::change::{Asks, BLOCKING, Change, Kind};
 use br_model::domains::Domains;
 use br_model::frame::{Class, Head, McastMsg};
+use br_model::limits::MOST_ADDRESSES;
 use br_model::numbers::{Mac, Port, Vid};
 use fdb_core::{Entry, Fdb};
 use port_sets::Ports;
@@ -49,8 +51,8 @@ pub struct SoftTables {
 
 impl Model for SoftTables {
     ghost use Rattle.std.specs.Prelude.{◌≡◌};
-    ghost use Rattle.br_model.specs.Limits.{most_addresses};
-    ghost use Rattle.br_model.specs.Table.{Table, with_addresses};
+    ghost use Rattle.br_model.specs.Table.Limits.{most_addresses};
+    ghost use Rattle.br_model.specs.Table.Table.{Table, with_addresses};
     ghost use Rattle.fdb_core.specs.Fdb.{addresses};
 
     ghost Value = { Table };
@@ -59,9 +61,6 @@ impl Model for SoftTables {
 
     ghost invariant = { λ t. t.fdb.room ≡ most_addresses };
 }
-
-/// How many addresses there may be.
-const MOST_ADDRESSES: usize = 16384;
 
 /// The moment of all entries.
 const NO_MOMENT: u64 = 0;
@@ -81,21 +80,11 @@ impl SoftTables {
     pub fn fits(&self, c: &Change) -> bool
         ensures { result ≡ fits self.now c.now }
     {
-        match *c {
-            Change::GroupJoin { vid, group, .. } => self.ports.has_room(vid, group),
-            Change::AddrPut { vid, mac, .. } => self.has_room_at(vid, mac),
-            Change::SetState(_, state) => state <= BLOCKING,
-            Change::PortUp(_)
-            | Change::PortDown(_)
-            | Change::SetFlags(..)
-            | Change::VlanAdd { .. }
-            | Change::VlanDel { .. }
-            | Change::GroupPart { .. }
-            | Change::Router { .. }
-            | Change::Querier { .. }
-            | Change::Snoop(_)
-            | Change::Stp(_)
-            | Change::AddrDel { .. } => true,
+        match c.asks() {
+            Asks::Nothing => true,
+            Asks::State(state) => state <= BLOCKING,
+            Asks::GroupRoom(vid, group) => self.ports.has_room(vid, group),
+            Asks::AddressRoom(vid, mac) => self.has_room_at(vid, mac),
         }
     }
 
@@ -255,7 +244,7 @@ fn reaches_host(head: &Head, eligible: &Ports) -> bool
 /// Whether the frame is for a known station behind a port of another domain, and that port may take it.
 fn crosses(domains: &Domains, port: Port, known: Option<Port>, eligible: &Ports) -> bool
     ensures value { result ≡ option_map_or (λ q. foreign domains.now port q && has_number eligible.now q) known false }
-    ensures below { IfSome known (λ q. q < 64) }
+    ensures below { IfSome known (λ q. q < port_places) }
 {
     match known {
         Some(other) => is_foreign(domains, port, other) && eligible.has(other.number()),

@@ -1,9 +1,9 @@
 //! The states of ports.
 ghost use Rattle.std.specs.Prelude.{◌≡◌, ℕ, [], Some, None};
 ghost use Rattle.std.specs.Ordering.{nat_cmp};
-ghost use Rattle.br_model.specs.Admission.{learning, forwarding};
-ghost use Rattle.br_model.specs.Domains.{entries_from};
-ghost use Rattle.br_model.specs.Maps.{get, put, without};
+ghost use Rattle.br_model.specs.Forward.Admission.{learning, forwarding};
+ghost use Rattle.br_model.specs.Table.Domains.{entries_from};
+ghost use Rattle.br_model.specs.Data.Maps.{get, put, without};
 ghost use Rattle.forward_rules.specs.PortSets.{in_state};
 
 use crate::place::placed;
@@ -18,7 +18,7 @@ const LEARNING: u8 = 2;
 /// The state of each port that has one, seen as the list of pairs of a port and its state, ascending by port.
 #[derive(Drop, Debug)]
 pub struct StateTable {
-    by_port: [Option<u8>; 64],
+    by_port: [Option<u8>; Port::PLACES],
     // The ports in the states that decisions ask for.
     learning: Ports,
     forwarding: Ports,
@@ -26,7 +26,7 @@ pub struct StateTable {
 
 impl Model for StateTable {
     ghost use Rattle.std.specs.Prelude.{ℕ, List};
-    ghost use Rattle.br_model.specs.Domains.{entries_from};
+    ghost use Rattle.br_model.specs.Table.Domains.{entries_from};
     ghost use Rattle.forward_rules.specs.PortSets.{AreInState};
 
     ghost Value = { List (ℕ × ℕ) };
@@ -42,18 +42,20 @@ impl StateTable {
         ensures { result ≡ [] }
     {
         StateTable {
-            by_port: [None; 64],
+            by_port: [None; Port::PLACES],
             learning: Ports::empty(),
             forwarding: Ports::empty(),
         }
     }
 
+    /// The state by Linux's number; `None` where the port has none.
     pub fn of(&self, port: Port) -> Option<u8>
         ensures { result ≡ get nat_cmp self.now port }
     {
         self.by_port[usize::from(port.number())]
     }
 
+    /// Puts the port in a state. That Linux numbers it isn't tested.
     pub fn set(&mut self, port: Port, state: u8)
         ensures { self.new ≡ put nat_cmp self.old port state }
     {

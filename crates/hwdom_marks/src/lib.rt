@@ -5,7 +5,8 @@
 
 ghost use Rattle.std.specs.Prelude.{◌≡◌, not};
 ghost use Rattle.std.specs.List.{filter};
-ghost use Rattle.br_model.specs.DomainPorts.{is_in_domain, is_marked};
+ghost use Rattle.br_model.specs.Table.DomainPorts.{is_in_domain, is_marked};
+ghost use Rattle.br_model.specs.Table.Domains.{port_places};
 ghost use Rattle.port_sets.specs.Numbers.{numbers_below};
 ghost use Rattle.hwdom_marks.specs.Marks.{domain_marked};
 
@@ -26,6 +27,7 @@ pub fn remaining(ports: Ports, mark: Option<Mark>, d: &Domains) -> Ports
 {
     match mark {
         Some(mark) => {
+            // law: the members ascend
             ports.members_ascend();
             ports.minus(ports_of(d, mark.dom))
         }
@@ -34,7 +36,7 @@ pub fn remaining(ports: Ports, mark: Option<Mark>, d: &Domains) -> Ports
 }
 
 fn ports_of(d: &Domains, dom: Dom) -> Ports
-    ensures { result ≡ numbers_below 64 (is_in_domain d.now dom) }
+    ensures { result ≡ numbers_below port_places (is_in_domain d.now dom) }
 {
     Ports::from_word(d.ports_of(dom))
 }

@@ -4,8 +4,8 @@ use Rattle.std.proofs.Math.Nat.{pow-suc}
 use Rattle.std.proofs.Math.Seq.{drop-cons}
 use Rattle.std.proofs.lemmas.List.{take_all, length-drop}
 use Rattle.std.specs.List.{fold}
-use Rattle.br_model.specs.Frames.{number_at}
-use Rattle.br_model.specs.Numbers.{number}
+use Rattle.br_model.specs.Wire.Frames.{number_at}
+use Rattle.br_model.specs.Data.Numbers.{number}
 use Rattle.byteorder.specs.Endian.{big_from, big_number}
 
 -- the number of these bytes behind a number

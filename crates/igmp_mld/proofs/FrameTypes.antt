@@ -4,8 +4,8 @@ use Rattle.std.proofs.lemmas.List.{take_all, length-drop}
 use Rattle.br_model.specs.declared.frame.Head.{Head}
 use Rattle.br_model.specs.declared.frame.McastMsg.{McastMsg}
 use Rattle.br_model.specs.declared.frame.McastMsg.TheVariants.{Plain}
-use Rattle.br_model.specs.IpHeaders.{type_four, type_six}
-use Rattle.br_model.specs.Messages.{message, message_six}
+use Rattle.br_model.specs.Wire.IpHeaders.{type_four, type_six}
+use Rattle.br_model.specs.Wire.Messages.{message, message_six}
 
 of_six : (a b : McastMsg) (kind : ℕ) → kind ≡ 34525 → (if kind == type_four then a else if kind == type_six then b else Plain) ≡ b
 of_six a b kind e = rw e refl

@@ -3,8 +3,8 @@ ghost use Rattle.std.specs.Prelude.{◌≡◌, true, List};
 ghost use Rattle.std.specs.Iterator.{YieldsFirst, item_count};
 ghost use Rattle.br_model.specs.declared.frame.Act.{Act};
 ghost use Rattle.br_model.specs.declared.frame.McastMsg.{McastMsg};
-ghost use Rattle.br_model.specs.Messages.{RecordsStand};
-ghost use Rattle.br_model.specs.Records.{act_of, act_on, acts, acts_of, record_fits, records_fit};
+ghost use Rattle.br_model.specs.Wire.Messages.{RecordsStand};
+ghost use Rattle.br_model.specs.Wire.Records.{act_of, act_on, acts, acts_of, record_fits, records_fit};
 
 use crate::numbers::two_at;
 use crate::records::{group_at, record_length};

@@ -23,6 +23,3 @@ mod records;
 
 pub use crate::acts::Records;
 pub use crate::message::classify;
-
-#[cfg(test)]
-mod tests;

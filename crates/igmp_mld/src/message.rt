@@ -1,7 +1,7 @@
 //! The message of a frame.
 ghost use Rattle.std.specs.Prelude.{◌≡◌, Ok};
-ghost use Rattle.br_model.specs.Frames.{frame};
-ghost use Rattle.br_model.specs.Messages.{message, RecordsStand};
+ghost use Rattle.br_model.specs.Wire.Frames.{frame};
+ghost use Rattle.br_model.specs.Wire.Messages.{message, RecordsStand};
 
 use crate::igmp::message_four;
 use crate::mld::message_six;
@@ -20,7 +20,7 @@ pub fn classify(b: &[u8], h: &Head) -> McastMsg
     message_in(b, h)
 }
 
-#[tactic(auto, unfolding(br_model::specs::Messages::message))]
+#[tactic(auto, unfolding(br_model::specs::Wire::Messages::message))]
 fn message_in(b: &[u8], h: &Head) -> McastMsg
     requires { frame b.now ≡ Ok h.now }
     ensures { result ≡ message b.now h.now }

@@ -6,7 +6,7 @@ use Rattle.std.proofs.lemmas.Bool.Decides.{eqb_tells}
 use Rattle.std.specs.List.{list_any}
 use Rattle.std.specs.Ordering.{eq_by_cmp}
 use Rattle.std.specs.FinMap.Entries.{is_sorted, is_some-find, is_sorted-put, find-put, same_entries}
-use Rattle.br_model.specs.Maps.{pair_cmp, get, put, has, joined}
+use Rattle.br_model.specs.Data.Maps.{pair_cmp, get, put, has, joined}
 use Rattle.br_model.proofs.KeySets.{keys-put}
 use Rattle.br_model.proofs.PairKeys.{Key, pair_total, same_cmp, eq-pair}
 use Rattle.learn_report.specs.Hits.{ascending}

@@ -1,6 +1,6 @@
 -- A set of pairs that is kept in no order.
 use Rattle.std.specs.Prelude.{ℕ, List, [], ◌∷◌}
-use Rattle.br_model.specs.Maps.{pair_cmp, joined}
+use Rattle.br_model.specs.Data.Maps.{pair_cmp, joined}
 
 -- the same pairs in ascending order
 abbrev pub ascending : List (ℕ × ℕ) → List (ℕ × ℕ)

@@ -3,10 +3,8 @@
 
 pub mod reports;
 
-pub use reports::{RING, Report, Reports};
-
-/// There was no memory.
-pub type NoMemory = std::alloc::AllocError;
+pub use br_model::NoMemory;
+pub use reports::{Report, Reports};
 
 #[cfg(test)]
 mod tests;

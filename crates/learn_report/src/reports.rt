@@ -1,9 +1,11 @@
 //! The ring of reports, and the hits.
 ghost use Rattle.std.specs.Prelude.{◌≡◌, ◌++◌, ◌∷◌, ◌&&◌, [], not, nat_lt, length, drop, if◌then◌else◌, slice_get, IfOk, OnOk, OnErr};
-ghost use Rattle.br_model.specs.Maps.{has, joined, pair_cmp};
+ghost use Rattle.br_model.specs.Data.Maps.{has, joined, pair_cmp};
+ghost use Rattle.br_model.specs.Table.Limits.{most_reports};
 ghost use Rattle.learn_report.specs.Reports.{is_waiting};
 
 use crate::NoMemory;
+use br_model::limits::MOST_REPORTS;
 use br_model::numbers::{Mac, Port, Vid};
 use std::alloc::Global;
 use std::collections::{HashSet, VecDeque};
@@ -11,9 +13,6 @@ use std::marker::Model;
 
 /// A source address, its VLAN, and the port by which it came.
 pub type Report = (Vid, Mac, Port);
-
-/// How many reports can wait.
-pub const RING: usize = 256;
 
 /// The reports that wait, and the addresses that were hit since the hits were last cleared.
 #[derive(Drop)]
@@ -27,6 +26,7 @@ pub struct Reports {
 impl Model for Reports {
     ghost use Rattle.std.specs.Prelude.{◌≤◌};
     ghost use Rattle.std.specs.VecDeque.{deque_capacity};
+    ghost use Rattle.br_model.specs.Table.Limits.{most_reports};
     ghost use Rattle.learn_report.specs.Reports.{Reported};
     ghost use Rattle.learn_report.specs.Hits.{ascending};
 
@@ -34,14 +34,15 @@ impl Model for Reports {
 
     ghost view = { λ r. record { reports = r.ring.items; hits = ascending r.hits.keys } };
 
-    ghost invariant = { λ r. 256 ≤ deque_capacity r.ring };
+    ghost invariant = { λ r. most_reports ≤ deque_capacity r.ring };
 }
 
 impl Reports {
+    /// No report waits and nothing was hit. It takes the room for all reports, but none for hits.
     pub fn make(alloc: Global) -> Result<Reports, NoMemory>
         ensures { IfOk result (λ r. r ≡ record { reports = []; hits = [] }) }
     {
-        let ring = VecDeque::with_capacity(alloc, RING)?;
+        let ring = VecDeque::with_capacity(alloc, MOST_REPORTS)?;
         Ok(Reports {
             ring,
             hits: HashSet::new(alloc),
@@ -50,11 +51,11 @@ impl Reports {
 
     /// Keeps a report. `false` exactly where the ring is full or an equal report waits.
     pub fn offer(&mut self, v: Vid, m: Mac, p: Port) -> bool
-        ensures value { result ≡ (nat_lt (length self.old.reports) 256 && not (is_waiting self.old.reports (v, m, p))) }
+        ensures value { result ≡ (nat_lt (length self.old.reports) most_reports && not (is_waiting self.old.reports (v, m, p))) }
         ensures kept { self.new ≡ record self.old { reports = if result then self.old.reports ++ (v, m, p) ∷ [] else self.old.reports } }
     {
         let report = (v, m, p);
-        if self.ring.len() >= RING || self.ring.contains(&report) {
+        if self.ring.len() >= MOST_REPORTS || self.ring.contains(&report) {
             return false;
         }
         self.ring.push_back_reserved(report);

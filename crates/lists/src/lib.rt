@@ -33,6 +33,7 @@ impl<T> Items<T> {
         }
     }
 
+    /// The list of these items, which move: it allocates nothing.
     pub fn of(items: Vec<T>) -> Items<T>
         ensures { result ≡ items.items }
     {

@@ -9,7 +9,7 @@ use Rattle.std.specs.FinMap.Entries.{below_all, by_order}
 use Rattle.std.proofs.lemmas.List.{take-append-drop, take_more}
 use Rattle.std.proofs.lemmas.List.Folds.{list_all-append}
 use Rattle.std.proofs.Math.Seq.{drop-cons}
-use Rattle.br_model.specs.Maps.{get, put, without, is_ascending}
+use Rattle.br_model.specs.Data.Maps.{get, put, without, is_ascending}
 use Rattle.mdb_snoop.specs.Places.{all_below, all_above}
 
 pub is_Less : (r : Ordering) → is_lt r ≡ true → r ≡ Less
@@ -54,7 +54,7 @@ module _ {K V : Type 0} (R : K → K → Ordering) where
   below_from k m goes (x ∷ front) h =
       ap (λ r. is_gt r && all_below R k front) (goes x.0 (is_Less _ (first_so _ _ h))) ∙ below_from k m goes front (second_so _ _ h)
 
-  above_from : (k m : K) → ((x : K) → R m x ≡ Less → R k x ≡ Less) → (rest : List (K × V)) → below_all R m rest ≡ true → all_above R k rest ≡ true
+  pub above_from : (k m : K) → ((x : K) → R m x ≡ Less → R k x ≡ Less) → (rest : List (K × V)) → below_all R m rest ≡ true → all_above R k rest ≡ true
   above_from k m goes [] h = refl
   above_from k m goes (x ∷ rest) h =
       ap (λ r. is_lt r && all_above R k rest) (goes x.0 (is_Less _ (first_so _ _ h))) ∙ above_from k m goes rest (second_so _ _ h)

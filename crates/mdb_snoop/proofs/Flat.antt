@@ -8,10 +8,10 @@ use Rattle.std.specs.Cmp.{tied_itself, first_so, second_so}
 use Rattle.std.specs.FinMap.Entries.{by_order, below_all}
 use Rattle.std.proofs.lemmas.List.{take-append-drop, append_assoc}
 use Rattle.std.proofs.lemmas.List.Folds.{list_all-append}
-use Rattle.br_model.specs.GroupPairs.{GroupPair, group_pair_cmp}
-use Rattle.br_model.specs.Groups.{Membership, membership_cmp}
-use Rattle.br_model.specs.Maps.{get, put, without, is_ascending}
-use Rattle.br_model.specs.Ends.{end_of}
+use Rattle.br_model.specs.Table.GroupPairs.{GroupPair, group_pair_cmp}
+use Rattle.br_model.specs.Table.Groups.{Membership, membership_cmp}
+use Rattle.br_model.specs.Data.Maps.{get, put, without, is_ascending}
+use Rattle.br_model.specs.Control.Ends.{end_of}
 use Rattle.mdb_snoop.specs.Database.{joined_until, ending_soon, ended_sooner, end_joined}
 use Rattle.mdb_snoop.specs.Places.{Sections, section, flat, all_below, all_above, is_fit, IsAt, IsGap}
 use Rattle.mdb_snoop.proofs.Cuts.{is_Less, is_Greater, below_first, get_front, get_above, put_front, put_above, without_front, without_above}

@@ -1,5 +1,5 @@
 -- A finite map from ports, as the ascending list of the ports and a function.
-use Rattle.std.proofs.Common.{◌≡◌, ℕ, zero, suc, ◌+◌, ◌<◌, ◌≤◌, Bool, true, false, not, ◌&&◌, cond, T, Option, Some, None, List, [], ◌∷◌, length, map, set, refl, sym, ap, ◌∙◌, subst, arith}
+use Rattle.std.proofs.Common.{◌≡◌, ℕ, zero, suc, ◌+◌, ◌<◌, ◌≤◌, Bool, true, false, not, ◌&&◌, cond, T, Option, Some, None, List, [], ◌∷◌, ◌++◌, length, map, set, refl, sym, ap, ◌∙◌, subst, arith}
 use Rattle.std.specs.Prelude.{◌==◌, ◌||◌, ◌≢◌, nat_le, nat_lt, is_some, slice_get, slice_index}
 use Rattle.std.proofs.lemmas.Bool.Decides.{nat_tests}
 use Rattle.std.specs.Cmp.{nat_cmp_total, nat_cmp_is, tied_itself, unsigned_ties}
@@ -13,10 +13,12 @@ use Rattle.std.proofs.lemmas.Bool.{eqb-true, eq-eqb, lt-ltb}
 use Rattle.std.proofs.lemmas.List.{get_or-set_same, get_or-set_other}
 use Rattle.std.proofs.Math.Bool.{and-false, and-true}
 use Rattle.port_sets.specs.Numbers.{numbers_below, has_number, IsSetBelow}
+use Rattle.port_sets.proofs.Building.{among_with, among_skip}
 use Rattle.port_sets.specs.WordsOfMembers.{has-filter, has-below}
-use Rattle.br_model.specs.Maps.{get, put, without, is_ascending}
-use Rattle.br_model.specs.Ends.{due, due_members, is_over, keys}
+use Rattle.br_model.specs.Data.Maps.{get, put, without, is_ascending}
+use Rattle.br_model.specs.Control.Ends.{due, due_members, is_over, keys}
 use Rattle.br_model.proofs.KeySets.{holds}
+use Rattle.mdb_snoop.specs.Database.{with_end}
 use Rattle.mdb_snoop.specs.Places.{has_some}
 
 abbrev pub mapped : {X : Type 0} → (ℕ → X) → List ℕ → List (ℕ × X)
@@ -174,56 +176,16 @@ is_some-mapped f ports q m view = by (has_number ports q) ∙ sym (ap (λ l. is_
     by true = refl
     by false = refl
 
--- a set that is built number by number
+-- a set that is built member by member
 
-pub same_set : (s t : ℕ → Bool) → ((m : ℕ) → m < 64 → s m ≡ t m) → numbers_below 64 s ≡ numbers_below 64 t
-unfolding numbers_below
-same_set s t h = go 0 64 (omega arith)
+-- the members so far, with the next one where it passes
+pub next-if : (t : ℕ → Bool) (p : ℕ) (seen due new : List ℕ) → due ≡ numbers_below 64 (λ m. has_number seen m && t m)
+    → new ≡ cond (t p) (numbers_below 64 (λ m. (m == p) || has_number due m)) due → new ≡ numbers_below 64 (λ m. has_number (seen ++ p ∷ []) m && t m)
+next-if t p seen due new so_far then_is = by (t p) refl then_is
   where
-    go : (a n : ℕ) → a + n ≤ 64 → filter s (range_with_len a n) ≡ filter t (range_with_len a n)
-    go a zero within = refl
-    go a (suc n) within = ap (λ b. cond b (a ∷ filter s (range_with_len (a + 1) n)) (filter s (range_with_len (a + 1) n))) (h a (omega (arith, within))) ∙ ap (λ l. cond (t a) (a ∷ l) l) (go (a + 1) n (omega (arith, within)))
-
-nat_lt-suc : (m i : ℕ) (b : Bool) → (m == i) ≡ b → nat_lt m (i + 1) ≡ (b || nat_lt m i)
-nat_lt-suc m i b e = grind (arith, nat_tests, e)
-
--- the numbers so far, with the next one or without it
-pub next-in : (t : ℕ → Bool) (i : ℕ) (due : List ℕ) → i < 64 → due ≡ numbers_below 64 (λ m. nat_lt m i && t m) → t i ≡ true
-    → numbers_below 64 (λ m. (m == i) || has_number due m) ≡ numbers_below 64 (λ m. nat_lt m (i + 1) && t m)
-next-in t i due low is at = same_set _ _ (λ m within. ap (λ l. (m == i) || has_number l m) is ∙ ap (λ b. (m == i) || b) (has-below (λ k. nat_lt k i && t k) 64 m within) ∙ by m (m == i) refl)
-  where
-    by : (m : ℕ) (b : Bool) → (m == i) ≡ b → ((m == i) || (nat_lt m i && t m)) ≡ (nat_lt m (i + 1) && t m)
-    by m true e = rw (nat_lt-suc m i true e, e) (sym (ap t (eqb-true m i e) ∙ at))
-    by m false e = rw (nat_lt-suc m i false e, e) refl
-
-pub next-out : (t : ℕ → Bool) (i : ℕ) (due : List ℕ) → due ≡ numbers_below 64 (λ m. nat_lt m i && t m) → t i ≡ false → due ≡ numbers_below 64 (λ m. nat_lt m (i + 1) && t m)
-next-out t i due is at = is ∙ same_set _ _ (λ m within. by m (m == i) refl)
-  where
-    by : (m : ℕ) (b : Bool) → (m == i) ≡ b → (nat_lt m i && t m) ≡ (nat_lt m (i + 1) && t m)
-    by m true e = rw (nat_lt-suc m i true e, ap t (eqb-true m i e) ∙ at) (and-false (nat_lt m i))
-    by m false e = rw (nat_lt-suc m i false e) refl
-
-no_numbers : [] ≡ numbers_below 64 (λ m. false)
-unfolding numbers_below
-no_numbers = refl
-
-nothing_below : (m : ℕ) → nat_lt m 0 ≡ false
-nothing_below m = grind (arith, nat_tests)
-
-pub none-before : (t : ℕ → Bool) → [] ≡ numbers_below 64 (λ m. nat_lt m 0 && t m)
-none-before t = no_numbers ∙ same_set (λ m. false) (λ m. nat_lt m 0 && t m) (λ m within. ap (λ b. b && t m) (sym (nothing_below m)))
-
--- the numbers so far, with the next one where it passes
-pub next-if : (t : ℕ → Bool) (i : ℕ) (due new : List ℕ) → i < 64 → due ≡ numbers_below 64 (λ m. nat_lt m i && t m)
-    → new ≡ cond (t i) (numbers_below 64 (λ m. (m == i) || has_number due m)) due → new ≡ numbers_below 64 (λ m. nat_lt m (i + 1) && t m)
-next-if t i due new low is then_is = then_is ∙ by (t i) refl
-  where
-    by : (b : Bool) → t i ≡ b → cond b (numbers_below 64 (λ m. (m == i) || has_number due m)) due ≡ numbers_below 64 (λ m. nat_lt m (i + 1) && t m)
-    by true at = next-in t i due low is at
-    by false at = next-out t i due is at
-
-pub all-below : (t : ℕ → Bool) → numbers_below 64 (λ m. nat_lt m 64 && t m) ≡ numbers_below 64 t
-all-below t = same_set _ _ (λ m within. ap (λ b. b && t m) (lt-ltb m 64 within))
+    by : (b : Bool) → t p ≡ b → new ≡ cond b (numbers_below 64 (λ m. (m == p) || has_number due m)) due → new ≡ numbers_below 64 (λ m. has_number (seen ++ p ∷ []) m && t m)
+    by true at is = among_with 64 p t seen due new so_far is at
+    by false at is = is ∙ among_skip 64 p t seen due so_far at
 
 pub due-is : (f : ℕ → ℕ) (now : ℕ) (ports : List ℕ) (m : List (ℕ × ℕ)) → IsSetBelow 64 ports → mapped f ports ≡ m → numbers_below 64 (λ p. has_number ports p && nat_le (f p) now) ≡ due now m
 due-is f now ports m set view = set-filter (λ p. nat_le (f p) now) ports set ∙ keys-filter_mapped f (λ x. nat_le x now) ports ∙ ap (λ l. due now l) view
@@ -241,7 +203,7 @@ write-put moments written ports p x ascending low size is =
 
 -- ends of members
 
-pub put-some : (ends left : List (ℕ × ℕ)) (ports : List ℕ) (p x : ℕ) → IsSetBelow 64 ports → p < 64 → left ≡ put nat_cmp ends p x
+put-some : (ends left : List (ℕ × ℕ)) (ports : List ℕ) (p x : ℕ) → IsSetBelow 64 ports → p < 64 → left ≡ put nat_cmp ends p x
     → mapped (get nat_cmp left) (numbers_below 64 (λ m. (m == p) || has_number ports m)) ≡ put nat_cmp (mapped (get nat_cmp ends) ports) p (Some x)
 put-some ends left ports p x ascending low is =
     mapped-put (get nat_cmp ends) (get nat_cmp left) ports p (Some x) ascending low
@@ -256,12 +218,18 @@ left-at ends left p q is =
     ap (λ l. get nat_cmp l q) is
     ∙ find-where_key nat_cmp (λ x. not (eq_by_cmp nat_cmp p x)) q (λ x e. ap (λ y. not (eq_by_cmp nat_cmp p y)) (sym (nat_cmp-IsAntisymmetric q x e))) ends
 
-pub put-none : (ends left : List (ℕ × ℕ)) (ports : List ℕ) (p : ℕ) → IsSetBelow 64 ports → p < 64 → left ≡ without nat_cmp ends p
+put-none : (ends left : List (ℕ × ℕ)) (ports : List ℕ) (p : ℕ) → IsSetBelow 64 ports → p < 64 → left ≡ without nat_cmp ends p
     → mapped (get nat_cmp left) (numbers_below 64 (λ m. (m == p) || has_number ports m)) ≡ put nat_cmp (mapped (get nat_cmp ends) ports) p None
 put-none ends left ports p ascending low is =
     mapped-put (get nat_cmp ends) (get nat_cmp left) ports p None ascending low
     (left-at ends left p p is ∙ ap (λ r. cond (not (is_eq r)) (get nat_cmp ends p) None) (tied_itself nat_cmp_total p))
     (λ q e. left-at ends left p q is ∙ ap (λ b. cond (not b) (get nat_cmp ends q) None) (tied_back q p false e))
+
+-- with an end or without
+pub put-end : (ends left : List (ℕ × ℕ)) (ports : List ℕ) (p : ℕ) (end : Option ℕ) → IsSetBelow 64 ports → p < 64 → left ≡ with_end ends p end
+    → mapped (get nat_cmp left) (numbers_below 64 (λ m. (m == p) || has_number ports m)) ≡ put nat_cmp (mapped (get nat_cmp ends) ports) p end
+put-end ends left ports p None ascending low is = put-none ends left ports p ascending low is
+put-end ends left ports p (Some x) ascending low is = put-some ends left ports p x ascending low is
 
 pub part-none : (ends left : List (ℕ × ℕ)) (ports : List ℕ) (p : ℕ) → IsSetBelow 64 ports → left ≡ without nat_cmp ends p
     → mapped (get nat_cmp left) (numbers_below 64 (λ m. has_number ports m && not (m == p))) ≡ without nat_cmp (mapped (get nat_cmp ends) ports) p

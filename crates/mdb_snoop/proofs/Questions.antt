@@ -1,6 +1,6 @@
 -- What questions find in the sections.
-use Rattle.std.proofs.Common.{◌≡◌, ℕ, ◌+◌, ◌<◌, Bool, true, false, cond, ◌&&◌, ◌||◌, Option, Some, None, List, [], ◌∷◌, ◌++◌, length, map, take, drop, get_or, refl, sym, ap, ◌∙◌}
-use Rattle.std.specs.Prelude.{◌==◌, nat_lt, is_some}
+use Rattle.std.proofs.Common.{◌≡◌, ℕ, zero, suc, ◌+◌, ◌<◌, Bool, true, false, cond, ◌&&◌, ◌||◌, Option, Some, None, List, [], ◌∷◌, ◌++◌, length, map, take, drop, get_or, refl, sym, ap, ◌∙◌, arith}
+use Rattle.std.specs.Prelude.{◌==◌, nat_lt, is_some, slice_get}
 use Rattle.std.specs.List.{filter, list_all, range_with_len}
 use Rattle.std.specs.Ordering.{nat_cmp, is_eq, is_lt, eq_by_cmp, match_ordering, ordering_reverse}
 use Rattle.std.specs.declared.cmp.Ordering.TheVariants.{Less}
@@ -10,10 +10,10 @@ use Rattle.std.proofs.lemmas.List.{take-append-drop, take_more, append_assoc, ap
 use Rattle.std.proofs.lemmas.Bool.{eqb-true, ltb-true}
 use Rattle.std.proofs.lemmas.List.Elements.{filter-append}
 use Rattle.br_model.specs.declared.group.Group.{Group}
-use Rattle.br_model.specs.GroupPairs.{GroupPair, group_pair_cmp, group_pairs, has_room, max_pairs}
-use Rattle.br_model.specs.Groups.{Membership, group_cmp}
-use Rattle.br_model.specs.Maps.{get, has, joined, is_ascending}
-use Rattle.br_model.specs.Ends.{due_members, is_over, keys}
+use Rattle.br_model.specs.Table.GroupPairs.{GroupPair, group_pair_cmp, group_pairs, has_room, max_pairs}
+use Rattle.br_model.specs.Table.Groups.{Membership, group_cmp}
+use Rattle.br_model.specs.Data.Maps.{get, has, joined, is_ascending}
+use Rattle.br_model.specs.Control.Ends.{due_members, is_over, keys}
 use Rattle.mdb_snoop.specs.Database.{ports_in, pairs_of_port}
 use Rattle.mdb_snoop.specs.Places.{Section, Sections, section, flat, all_below, all_above, has_some, is_fit, IsSound, IsAt, IsGap}
 use Rattle.port_sets.specs.Numbers.{numbers_below, has_number, IsSetBelow}
@@ -21,6 +21,7 @@ use Rattle.br_model.proofs.Ranges.{filter-range_more}
 use Rattle.mdb_snoop.proofs.Cuts.{is_Less, is_Greater}
 use Rattle.mdb_snoop.proofs.Flat.{at_port, flat-append}
 use Rattle.mdb_snoop.proofs.Mapped.{tied_back}
+use Rattle.mdb_snoop.proofs.Search.{is_at}
 use Rattle.br_model.proofs.GroupOrders.{pair_total, is_of_pair}
 
 -- the ports of a group in a VLAN
@@ -182,24 +183,13 @@ pub room-for : (ss : Sections) (v : ℕ) (g : Group) → IsSound ss → has_room
 room-for ss v g sound room none =
     ltb-true (length ss) max_pairs (sym (ap (λ o. is_some o || nat_lt (length ss) max_pairs) none) ∙ sym (room-is ss v g sound) ∙ room)
 
--- lists that grow number by number
-
-map-cond : (f : ℕ → Membership) (n : ℕ) (b : Bool) → map f (cond b (n ∷ []) []) ≡ cond b (f n ∷ []) []
-map-cond f n true = refl
-map-cond f n false = refl
-
-pub push-next : (f : ℕ → Membership) (p : ℕ → Bool) (n : ℕ) (start out new : List Membership) → out ≡ start ++ map f (filter p (range_with_len 0 n)) → new ≡ out ++ cond (p n) (f n ∷ []) []
-    → new ≡ start ++ map f (filter p (range_with_len 0 (n + 1)))
-push-next f p n start out new is then_is =
-    let so_far : List ℕ = filter p (range_with_len 0 n) in
+-- a list that grows member by member
+pub push-next : (f : ℕ → Membership) (p : ℕ) (seen : List ℕ) (start out new : List Membership) → out ≡ start ++ map f seen → new ≡ out ++ f p ∷ [] → new ≡ start ++ map f (seen ++ p ∷ [])
+push-next f p seen start out new is then_is =
     then_is
-    ∙ ap (λ l. l ++ cond (p n) (f n ∷ []) []) is
-    ∙ append_assoc start (map f so_far) (cond (p n) (f n ∷ []) [])
-    ∙ ap (λ l. start ++ l) (ap (λ l. map f so_far ++ l) (sym (map-cond f n (p n))) ∙ sym (map-append f so_far (cond (p n) (n ∷ []) [])) ∙ ap (λ l. map f l) (sym (filter-range_more p n)))
-
-pub push-all : (f : ℕ → Membership) (ports : List ℕ) (n : ℕ) (start out : List Membership) → IsSetBelow 64 ports → n ≡ 64 → out ≡ start ++ map f (filter (has_number ports) (range_with_len 0 n)) → out ≡ start ++ map f ports
-unfolding numbers_below
-push-all f ports n start out ascending end is = is ∙ ap (λ m. start ++ map f (filter (has_number ports) (range_with_len 0 m))) end ∙ ap (λ l. start ++ map f l) (sym ascending)
+    ∙ ap (λ l. l ++ f p ∷ []) is
+    ∙ append_assoc start (map f seen) (f p ∷ [])
+    ∙ ap (λ l. start ++ l) (sym (map-append f seen (p ∷ [])))
 
 -- the sections so far, with the next one
 pub due-next : (now i : ℕ) (ss : Sections) (d s : Section) (ended new : List Membership) → i < length ss → s ≡ get_or ss i d → ended ≡ due_members now (flat (take i ss))
@@ -213,3 +203,32 @@ due-next now i ss d s ended new within is so_far then_is =
 
 pub pairs-count : (ss : Sections) → IsSound ss → length ss ≡ length (group_pairs (keys (flat ss)))
 pairs-count ss sound = sym (length-map ss (λ s. s.0)) ∙ ap length (sym (pairs-all ss sound.ascending sound.fit))
+
+-- a member at the place of a key
+
+has-keys : (ms : List (ℕ × Option ℕ)) (p : ℕ) → is_some (get nat_cmp ms p) ≡ has_number (keys ms) p
+has-keys [] p = refl
+has-keys (e ∷ ms) p = by (has-keys ms p) (eq_by_cmp nat_cmp p e.0) ∙ ap (λ b. b || has_number (keys ms) p) (sym (unsigned_ties p e.0))
+  where
+    by : is_some (get nat_cmp ms p) ≡ has_number (keys ms) p → (b : Bool) → is_some (cond b (Some e.1) (get nat_cmp ms p)) ≡ (b || has_number (keys ms) p)
+    by ih true = refl
+    by ih false = ih
+
+key_there : (ss : Sections) (i : ℕ) (k : GroupPair) (d : Section) → slice_get (keys ss) i ≡ Some k → (i < length ss) × (slice_get ss i ≡ Some (get_or ss i d)) × ((get_or ss i d).0 ≡ k)
+key_there [] i k d is = absurd (cc (is))
+key_there (s ∷ ss) zero k d is = (omega arith, refl, cc)
+key_there (s ∷ ss) (suc i) k d is =
+    let rest = key_there ss i k d is in
+    (omega (arith, rest.0), rest.1, rest.2)
+
+pub member-there : (ss : Sections) (i p v : ℕ) (g : Group) (b : Bool) → IsSound ss → slice_get (group_pairs (keys (flat ss))) i ≡ Some (v, g)
+    → ((s : Section) → slice_get ss i ≡ Some s → b ≡ is_some (get nat_cmp s.1 p)) → b ≡ has_number (ports_in (keys (flat ss)) v g) p
+member-there ss i p v g b sound is reads =
+    let k : GroupPair = (v, g) in
+    let d : Section = (k, []) in
+    let there = key_there ss i k d (ap (λ ks. slice_get ks i) (sym (pairs-all ss sound.ascending sound.fit)) ∙ is) in
+    let at = is_at ss k i d (get_or ss i d) sound.ascending there.0 refl (ap (group_pair_cmp k) there.2 ∙ tied_itself pair_total k) in
+    reads (get_or ss i d) there.1
+    ∙ ap (λ s. is_some (get nat_cmp s.1 p)) (at.reads d)
+    ∙ has-keys at.members p
+    ∙ ap (λ l. has_number l p) (ports-at ss k i at)

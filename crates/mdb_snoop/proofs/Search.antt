@@ -4,9 +4,9 @@ use Rattle.std.specs.Ordering.{nat_cmp, is_eq}
 use Rattle.std.specs.declared.cmp.Ordering.TheVariants.{Equal}
 use Rattle.std.specs.Cmp.{tied_itself}
 use Rattle.std.proofs.lemmas.List.{take-append-drop, get_or_default}
-use Rattle.br_model.specs.GroupPairs.{GroupPair, group_pair_cmp}
-use Rattle.br_model.specs.Groups.{membership_cmp}
-use Rattle.br_model.specs.Maps.{get, without, is_ascending}
+use Rattle.br_model.specs.Table.GroupPairs.{GroupPair, group_pair_cmp}
+use Rattle.br_model.specs.Table.Groups.{membership_cmp}
+use Rattle.br_model.specs.Data.Maps.{get, without, is_ascending}
 use Rattle.mdb_snoop.specs.Places.{Section, Sections, flat, has_some, IsAt, IsGap, all_below, all_above}
 use Rattle.mdb_snoop.proofs.Cuts.{cut, set-splits, before_place, after_place, get_front, get_above}
 use Rattle.mdb_snoop.proofs.Flat.{with_at, without_at, at_port, nothing-at, without-at}

@@ -8,10 +8,10 @@ use Rattle.std.specs.declared.cmp.Ordering.TheVariants.{Less, Equal, Greater}
 use Rattle.std.specs.FinMap.Entries.{by_order}
 use Rattle.std.proofs.lemmas.Bool.Decides.{nat_tests}
 use Rattle.std.proofs.lemmas.List.{take_more, append-nil, map-append}
-use Rattle.br_model.specs.Ends.{Ends, due, due_members, end_of, is_over, keys}
-use Rattle.br_model.specs.GroupPairs.{GroupPair}
-use Rattle.br_model.specs.Groups.{Membership, membership_cmp}
-use Rattle.br_model.specs.Maps.{get, put, without}
+use Rattle.br_model.specs.Control.Ends.{Ends, due, due_members, end_of, is_over, keys}
+use Rattle.br_model.specs.Table.GroupPairs.{GroupPair}
+use Rattle.br_model.specs.Table.Groups.{Membership, membership_cmp}
+use Rattle.br_model.specs.Data.Maps.{get, put, without}
 use Rattle.mdb_snoop.specs.Database.{end_joined, joined_until, ended_sooner, ending_soon}
 use Rattle.mdb_snoop.specs.Places.{Section, Sections, flat, section}
 use Rattle.mdb_snoop.specs.Soonest.{last_moment, moment_of, soonest, soonest_member, soonest_moment, first_end}

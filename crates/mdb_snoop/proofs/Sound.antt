@@ -9,11 +9,11 @@ use Rattle.std.specs.Cmp.{tied_itself, first_so, second_so, nat_cmp_total}
 use Rattle.std.specs.FinMap.Entries.{by_order, is_some-find}
 use Rattle.std.proofs.lemmas.List.{take-append-drop}
 use Rattle.std.proofs.lemmas.List.Folds.{list_all-append}
-use Rattle.br_model.specs.GroupPairs.{GroupPair, group_pair_cmp, max_pairs}
-use Rattle.br_model.specs.Groups.{Membership, membership_cmp}
-use Rattle.br_model.specs.Maps.{get, has, put, without, is_ascending}
+use Rattle.br_model.specs.Table.GroupPairs.{GroupPair, group_pair_cmp, max_pairs}
+use Rattle.br_model.specs.Table.Groups.{Membership, membership_cmp}
+use Rattle.br_model.specs.Data.Maps.{get, has, put, without, is_ascending}
 use Rattle.br_model.proofs.KeySets.{keys-put_there, ascending-put, ascending-without}
-use Rattle.br_model.specs.Ends.{Ends, end_of, keys, lasts}
+use Rattle.br_model.specs.Control.Ends.{Ends, end_of, keys, lasts}
 use Rattle.mdb_snoop.specs.Database.{joined_until, ending_soon, ended_sooner, end_joined, memberships}
 use Rattle.mdb_snoop.specs.Places.{Sections, flat, queriers_of, has_some, is_fit, IsSound, IsAt, IsGap}
 use Rattle.mdb_snoop.proofs.Cuts.{put_front, put_above, without_front, without_above}

@@ -2,10 +2,10 @@
 use Rattle.std.proofs.Common.{◌≡◌, ℕ, Bool, true, false, Option, Some, None, List, [], ◌∷◌, cond, refl, ap, ◌∙◌}
 use Rattle.std.specs.Prelude.{is_some, nat_le}
 use Rattle.std.specs.Ordering.{nat_cmp}
-use Rattle.br_model.specs.Groups.{Membership}
-use Rattle.br_model.specs.Maps.{has, put, without}
-use Rattle.br_model.specs.Table.{ip_version}
-use Rattle.br_model.specs.Ends.{Ends, due, is_over, keys}
+use Rattle.br_model.specs.Table.Groups.{Membership}
+use Rattle.br_model.specs.Data.Maps.{has, put, without}
+use Rattle.br_model.specs.Table.Table.{ip_version}
+use Rattle.br_model.specs.Control.Ends.{Ends, due, is_over, keys}
 use Rattle.mdb_snoop.specs.Database.{versions}
 use Rattle.mdb_snoop.specs.Places.{queriers_of}
 

@@ -1,4 +1,4 @@
--- What is asked of the ends of memberships, router ports and queriers (`br_model.specs.Ends`), and what moves them.
+-- What is asked of the ends of memberships, router ports and queriers (`br_model.specs.Control.Ends`), and what moves them.
 -- Source: RFC 4541 section 2.1 (members, router ports), RFC 2236 section 3 and RFC 3376 section 6 (timers of members and
 -- queriers), the kernel's net/bridge (permanent entries, which commands make).
 use Rattle.std.specs.Prelude.{ℕ, ◌==◌, min, Bool, true, false, ◌&&◌, if◌then◌else◌, List, [], ◌∷◌, ◌++◌, map, is_some}
@@ -6,13 +6,13 @@ use Rattle.std.specs.List.{filter}
 use Rattle.std.specs.declared.option.Option.{Option}
 use Rattle.std.specs.declared.option.Option.TheVariants.{None, Some}
 use Rattle.std.specs.declared.cmp.Ordering.{Ordering}
-use Rattle.std.specs.Ordering.{is_eq}
+use Rattle.std.specs.Ordering.{is_eq, nat_cmp}
 use Rattle.br_model.specs.declared.group.Group.{Group}
-use Rattle.br_model.specs.Ends.{Ends, end_of, keys}
-use Rattle.br_model.specs.GroupPairs.{GroupPair}
-use Rattle.br_model.specs.Groups.{Membership, group_cmp}
-use Rattle.br_model.specs.Maps.{get, put}
-use Rattle.br_model.specs.Table.{ip_version}
+use Rattle.br_model.specs.Control.Ends.{Ends, end_of, keys}
+use Rattle.br_model.specs.Table.GroupPairs.{GroupPair}
+use Rattle.br_model.specs.Table.Groups.{Membership, group_cmp}
+use Rattle.br_model.specs.Data.Maps.{get, put, without}
+use Rattle.br_model.specs.Table.Table.{ip_version}
 
 abbrev pub memberships : Ends → List Membership
 memberships e = keys e.groups
@@ -43,6 +43,11 @@ module _ {K : Type 0} (R : K → K → Ordering) where
 -- IP version 4, and then 6, where they are meant
 abbrev pub versions : Bool → Bool → List ℕ
 versions four six = (if four then ip_version false ∷ [] else []) ++ (if six then ip_version true ∷ [] else [])
+
+-- the moments with this end at the port, or with none
+abbrev pub with_end : List (ℕ × ℕ) → ℕ → Option ℕ → List (ℕ × ℕ)
+with_end moments port None = without nat_cmp moments port
+with_end moments port (Some end) = put nat_cmp moments port end
 
 -- the ports that are members of the group in the VLAN
 abbrev pub ports_in : List Membership → ℕ → Group → List ℕ

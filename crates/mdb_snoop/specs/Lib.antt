@@ -1,3 +1,4 @@
+pub mod Counts
 pub mod Database
 pub mod Places
 pub mod Soonest

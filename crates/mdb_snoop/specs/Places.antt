@@ -1,14 +1,14 @@
 -- Members by their VLAN and group, in the order of these keys, and where a key stands.
-use Rattle.std.specs.Prelude.{◌≡◌, ℕ, ◌+◌, ◌<◌, ◌≤◌, Bool, true, false, ◌&&◌, List, [], ◌∷◌, ◌++◌, length, map, take, drop, slice_index_or}
+use Rattle.std.specs.Prelude.{◌≡◌, ℕ, ◌+◌, ◌<◌, ◌≤◌, Bool, true, false, ◌&&◌, List, [], ◌∷◌, ◌++◌, length, map, take, drop, slice_index_or, slice_set}
 use Rattle.std.specs.List.{list_all}
 use Rattle.std.specs.declared.option.Option.{Option}
 use Rattle.std.specs.declared.option.Option.TheVariants.{None, Some}
 use Rattle.std.specs.declared.cmp.Ordering.{Ordering}
 use Rattle.std.specs.Ordering.{nat_cmp, is_lt, is_gt}
-use Rattle.br_model.specs.GroupPairs.{GroupPair, group_pair_cmp, max_pairs}
-use Rattle.br_model.specs.Groups.{Membership}
-use Rattle.br_model.specs.Maps.{is_ascending}
-use Rattle.br_model.specs.Table.{ip_version}
+use Rattle.br_model.specs.Table.GroupPairs.{GroupPair, group_pair_cmp, max_pairs}
+use Rattle.br_model.specs.Table.Groups.{Membership}
+use Rattle.br_model.specs.Data.Maps.{is_ascending}
+use Rattle.br_model.specs.Table.Table.{ip_version}
 
 -- the members of one group in one VLAN, each with its end
 abbrev pub Section : Type 0
@@ -24,6 +24,10 @@ section k members = map (λ e. ((k.0, k.1, e.0), e.1)) members
 abbrev pub flat : Sections → List (Membership × Option ℕ)
 flat [] = []
 flat (s ∷ ss) = section s.0 s.1 ++ flat ss
+
+-- other members at a place
+abbrev pub changed_at : Sections → ℕ → (List (ℕ × Option ℕ) → List (ℕ × Option ℕ)) → Section → Sections
+changed_at ss i change d = slice_set ss i ((slice_index_or ss i d).0, change (slice_index_or ss i d).1)
 
 abbrev pub has_some : {X : Type 0} → List X → Bool
 has_some [] = false

@@ -3,7 +3,7 @@
 use Rattle.std.specs.Prelude.{ℕ, ◌^◌, ◌-◌, min, List, [], ◌∷◌}
 use Rattle.std.specs.Option.{unwrap_or}
 use Rattle.std.specs.declared.option.Option.{Option}
-use Rattle.br_model.specs.Ends.{Ends}
+use Rattle.br_model.specs.Control.Ends.{Ends}
 
 -- the last moment that there can be
 abbrev pub last_moment : ℕ

@@ -15,7 +15,7 @@ pub struct Pairs {
 
 impl Model for Pairs {
     ghost use Rattle.std.specs.Prelude.{List};
-    ghost use Rattle.br_model.specs.GroupPairs.{GroupPair};
+    ghost use Rattle.br_model.specs.Table.GroupPairs.{GroupPair};
 
     ghost Value = { List GroupPair };
 
@@ -44,7 +44,7 @@ pub struct Memberships {
 
 impl Model for Memberships {
     ghost use Rattle.std.specs.Prelude.{List};
-    ghost use Rattle.br_model.specs.Groups.{Membership};
+    ghost use Rattle.br_model.specs.Table.Groups.{Membership};
 
     ghost Value = { List Membership };
 

@@ -4,12 +4,16 @@
 #![tactic(auto)]
 
 pub mod ended;
+mod ends;
+mod groups;
 mod mdb;
 mod members;
 mod moments;
+mod port_counts;
 mod sections;
 
 pub use crate::ended::{Ended, Memberships, Pairs};
+pub use crate::groups::Groups;
 pub use crate::mdb::Mdb;
 pub use br_model::NoMemory;
 

@@ -2,20 +2,21 @@
 ghost use Rattle.std.specs.Prelude.{◌≡◌, ◌+◌, ◌≤◌, min, ℕ, IsTrue, IfOk, None, Some, [], false, true, is_some, length, not, slice_get};
 ghost use Rattle.std.specs.List.Sorted.{IsStrictlySortedBy};
 ghost use Rattle.std.specs.Ordering.{nat_cmp};
-ghost use Rattle.br_model.specs.GroupPairs.{group_pairs, has_room, max_pairs};
-ghost use Rattle.br_model.specs.Groups.{membership_cmp};
-ghost use Rattle.br_model.specs.Maps.{get, has, put, without, joined, parted, is_ascending};
-ghost use Rattle.br_model.specs.Table.{Table, ip_version, switched};
-ghost use Rattle.br_model.specs.Targets.{members_of, knows_querier};
-ghost use Rattle.br_model.specs.Ends.{due, due_members, end_of, is_over, keys, lasts, no_ends, parts, queries, querier_time, routes};
+ghost use Rattle.br_model.specs.Table.GroupPairs.{group_pairs, has_room, max_pairs};
+ghost use Rattle.br_model.specs.Table.Groups.{membership_cmp};
+ghost use Rattle.br_model.specs.Data.Maps.{get, has, put, without, joined, parted, is_ascending};
+ghost use Rattle.br_model.specs.Table.Table.{Table, ip_version, switched};
+ghost use Rattle.br_model.specs.Forward.Targets.{members_of, knows_querier};
+ghost use Rattle.br_model.specs.Control.Ends.{due, due_members, end_of, is_over, keys, lasts, no_ends, parts, queries, querier_time, routes};
 ghost use Rattle.mdb_snoop.specs.Database.{ending_soon, joined_until, memberships, pairs_of_port, ports_in, versions};
 ghost use Rattle.mdb_snoop.specs.Soonest.{first_end, moment_of};
 
 use crate::ended::{Ended, Memberships, Pairs};
 use crate::moments::Moments;
-use crate::sections::{MOST_PAIRS, Section};
+use crate::sections::Section;
 use crate::{NoMemory, sections};
 use br_model::group::Group;
+use br_model::limits::MOST_PAIRS;
 use br_model::numbers::{Port, Vid};
 use port_sets::Ports;
 use std::alloc::Global;
@@ -24,7 +25,7 @@ use std::marker::Model;
 /// Members of groups, router ports and queriers, with their ends in milliseconds.
 #[derive(Drop, Debug)]
 pub struct Mdb {
-    sections: Vec<Section>,
+    sections: Vec<Section<Moments>>,
     routers: Moments,
     four: Option<u64>,
     six: Option<u64>,
@@ -34,8 +35,8 @@ pub struct Mdb {
 
 impl Model for Mdb {
     ghost use Rattle.std.specs.Prelude.{◌≤◌, vec_capacity};
-    ghost use Rattle.br_model.specs.GroupPairs.{max_pairs};
-    ghost use Rattle.br_model.specs.Ends.{Ends};
+    ghost use Rattle.br_model.specs.Table.GroupPairs.{max_pairs};
+    ghost use Rattle.br_model.specs.Control.Ends.{Ends};
     ghost use Rattle.mdb_snoop.specs.Places.{IsSound, flat, queriers_of};
     ghost use Rattle.mdb_snoop.specs.Soonest.{first_end};
 
@@ -81,6 +82,7 @@ impl Mdb {
         sections::has_room(&self.sections, &(v, g))
     }
 
+    /// Whether the port is a member of the group in the VLAN, with or without end.
     pub fn has(&self, v: Vid, g: Group, p: Port) -> bool
         ensures { result ≡ has membership_cmp (memberships self.now) (v, g, p) }
     {
@@ -278,6 +280,7 @@ impl Mdb {
         ensures versions { IsStrictlySortedBy nat_cmp (keys self.now.queriers) }
         ensures few { length (group_pairs (memberships self.now)) ≤ max_pairs }
     {
+        // law: the router ports ascend
         self.routers.ports_ascend();
     }
 

@@ -1,12 +1,13 @@
 //! The members of a group in a VLAN.
-ghost use Rattle.std.specs.Prelude.{◌≡◌, [], ◌∷◌, is_some};
+ghost use Rattle.std.specs.Prelude.{◌≡◌, [], ◌∷◌, IsTrue, is_some};
 ghost use Rattle.std.specs.Ordering.{nat_cmp};
-ghost use Rattle.br_model.specs.Maps.{get, put, without};
-ghost use Rattle.br_model.specs.Ends.{due_members, end_of, keys};
+ghost use Rattle.br_model.specs.Data.Maps.{get, put, without};
+ghost use Rattle.br_model.specs.Control.Ends.{due_members, end_of, keys};
 ghost use Rattle.mdb_snoop.specs.Database.{end_joined, ending_soon, is_dynamic, joined_until};
 ghost use Rattle.mdb_snoop.specs.Places.{has_some};
 ghost use Rattle.mdb_snoop.specs.Soonest.{soonest_member};
 
+use crate::ends::Ends;
 use crate::moments::Moments;
 use br_model::numbers::Port;
 use port_sets::Ports;
@@ -14,29 +15,30 @@ use std::marker::Model;
 
 /// The ports, and the ends of those that end.
 #[derive(Drop, Debug)]
-pub struct Members {
+pub struct Members<E: Ends> {
     ports: Ports,
-    ends: Moments,
+    ends: E,
 }
 
-impl Model for Members {
+impl<E: Ends> Model for Members<E> {
     ghost use Rattle.std.specs.Prelude.{ℕ, Option, List, map};
     ghost use Rattle.std.specs.Ordering.{nat_cmp};
-    ghost use Rattle.br_model.specs.Maps.{get};
+    ghost use Rattle.br_model.specs.Data.Maps.{get};
 
     ghost Value = { List (ℕ × Option ℕ) };
 
-    ghost view = { λ m. map (λ port. (port, get nat_cmp m.ends port)) m.ports };
+    ghost view = { λ m. map (λ port. (port, get nat_cmp (E.moments m.ends) port)) m.ports };
 }
 
-impl Members {
+impl<E: Ends> Members<E> {
     /// One member.
-    pub fn of(port: Port, end: Option<u64>) -> Members
+    pub fn of(port: Port, end: Option<u64>) -> Members<E>
+        requires { IsTrue (E.keeps end) }
         ensures { result ≡ (port, end) ∷ [] }
     {
         let mut members = Members {
             ports: Ports::empty(),
-            ends: Moments::empty(),
+            ends: E::none(),
         };
         members.join(port, end);
         members
@@ -44,6 +46,7 @@ impl Members {
 
     /// A member without end stays without end.
     pub fn join(&mut self, port: Port, end: Option<u64>)
+        requires { IsTrue (E.keeps end) }
         ensures { self.new ≡ joined_until nat_cmp self.old port end }
     {
         let until = self.end_joined(port, end);
@@ -61,31 +64,22 @@ impl Members {
     }
 
     fn put(&mut self, port: Port, end: Option<u64>)
+        requires { IsTrue (E.keeps end) }
         ensures { self.new ≡ put nat_cmp self.old port end }
     {
+        // law: the members ascend
         self.ports.members_ascend();
         self.ports = self.ports.with(port.number());
-        match end {
-            Some(end) => self.ends.set(port, end),
-            None => self.ends.clear(port),
-        }
+        self.ends.set_end(port, end);
     }
 
     pub fn part(&mut self, port: Port)
         ensures { self.new ≡ without nat_cmp self.old port }
     {
+        // law: the members ascend
         self.ports.members_ascend();
         self.ports = self.ports.without(port.number());
-        self.ends.clear(port);
-    }
-
-    /// The end of a member that ends becomes the smaller one.
-    pub fn leave_soon(&mut self, port: Port, end: u64)
-        ensures { self.new ≡ ending_soon nat_cmp self.old port end }
-    {
-        if let Some(old) = self.end(port) {
-            self.put(port, Some(old.min(end)));
-        }
+        self.ends.set_end(port, None);
     }
 
     // The end of a member that has one.
@@ -93,7 +87,7 @@ impl Members {
         ensures { result ≡ end_of (get nat_cmp self.now port) }
     {
         if self.ports.has(port.number()) {
-            self.ends.get(port)
+            self.ends.end(port)
         } else {
             None
         }
@@ -118,7 +112,27 @@ impl Members {
         self.ports
     }
 
-    pub fn copy(&self) -> Members
+    /// Whether there is a member but the port.
+    pub fn has_other(&self, port: Port) -> bool
+        ensures { result ≡ has_some (without nat_cmp self.now port) }
+    {
+        // law: the members ascend
+        self.ports.members_ascend();
+        self.ports.without(port.number()).first().is_some()
+    }
+}
+
+impl Members<Moments> {
+    /// The end of a member that ends becomes the smaller one.
+    pub fn leave_soon(&mut self, port: Port, end: u64)
+        ensures { self.new ≡ ending_soon nat_cmp self.old port end }
+    {
+        if let Some(old) = self.end(port) {
+            self.put(port, Some(old.min(end)));
+        }
+    }
+
+    pub fn copy(&self) -> Members<Moments>
         ensures { result ≡ self.now }
     {
         Members {
@@ -138,15 +152,8 @@ impl Members {
     pub fn due(&self, now: u64) -> Ports
         ensures { result ≡ due_members now self.now }
     {
+        // law: the members ascend
         self.ports.members_ascend();
         self.ports.and(self.ends.due(now))
-    }
-
-    /// Whether there is a member but the port.
-    pub fn has_other(&self, port: Port) -> bool
-        ensures { result ≡ has_some (without nat_cmp self.now port) }
-    {
-        self.ports.members_ascend();
-        self.ports.without(port.number()).first().is_some()
     }
 }

@@ -1,23 +1,22 @@
 //! Ports with a moment each.
-ghost use Rattle.std.specs.Prelude.{◌≡◌, ◌<◌, ◌==◌, ◌&&◌, ◌||◌, ℕ, [], cond, map, nat_le, slice_index, slice_set, true};
+ghost use Rattle.std.specs.Prelude.{◌≡◌, ◌<◌, ◌==◌, ◌||◌, ℕ, [], cond, map, nat_le, refl, slice_index, slice_set, true};
 ghost use Rattle.std.specs.Ordering.{nat_cmp};
-ghost use Rattle.br_model.specs.Maps.{get, put, without, is_ascending};
-ghost use Rattle.br_model.specs.Ends.{due, is_over, keys};
+ghost use Rattle.br_model.specs.Table.Domains.{port_places};
+ghost use Rattle.br_model.specs.Data.Maps.{get, put, without, is_ascending};
+ghost use Rattle.br_model.specs.Control.Ends.{due, is_over, keys};
 ghost use Rattle.mdb_snoop.specs.Soonest.{moment_of, soonest_member, soonest_moment};
 ghost use Rattle.port_sets.specs.Numbers.{has_number, numbers_below};
 
+use crate::ends::Ends;
 use br_model::numbers::Port;
 use port_sets::Ports;
 use std::marker::Model;
-
-/// The number of places for ports.
-const PORTS: usize = 64;
 
 /// A finite map from ports to moments in milliseconds.
 #[derive(Drop, Debug)]
 pub struct Moments {
     ports: Ports,
-    moments: [u64; PORTS],
+    moments: [u64; Port::PLACES],
 }
 
 impl Model for Moments {
@@ -34,7 +33,7 @@ impl Moments {
     {
         Moments {
             ports: Ports::empty(),
-            moments: [0; PORTS],
+            moments: [0; Port::PLACES],
         }
     }
 
@@ -52,6 +51,7 @@ impl Moments {
     pub fn set(&mut self, port: Port, moment: u64)
         ensures { self.new ≡ put nat_cmp self.old port moment }
     {
+        // law: the members ascend
         self.ports.members_ascend();
         self.ports = self.ports.with(port.number());
         write(&mut self.moments, port, moment);
@@ -60,6 +60,7 @@ impl Moments {
     pub fn clear(&mut self, port: Port)
         ensures { self.new ≡ without nat_cmp self.old port }
     {
+        // law: the members ascend
         self.ports.members_ascend();
         self.ports = self.ports.without(port.number());
     }
@@ -74,6 +75,7 @@ impl Moments {
     pub fn ports_ascend(&self)
         ensures { is_ascending nat_cmp self.now ≡ true }
     {
+        // law: the members ascend
         self.ports.members_ascend();
     }
 
@@ -110,7 +112,7 @@ impl Moments {
 
     /// The moment of the port, or `u64::MAX` where it has none.
     fn moment_of(&self, port: u8) -> u64
-        requires { port < 64 }
+        requires { port < port_places }
         ensures { result ≡ moment_of (get nat_cmp self.now port) }
     {
         if self.ports.has(port) {
@@ -125,28 +127,48 @@ impl Moments {
         ensures value { result ≡ due now self.now }
         ensures members { (n : ℕ) → has_number result n ≡ is_over now (get nat_cmp self.now n) }
     {
+        // law: the members ascend
         self.ports.members_ascend();
         let mut due = Ports::empty();
-        for port in 0..Port::COUNT {
-            due = with_due(due, port, self.ports, &self.moments, now);
+        for port in self.ports.iter() {
+            due = with_due(due, port, self.moments[usize::from(port)], now);
         }
         due
     }
 }
 
-/// The set, and the number where it is a port whose moment is `now` or before.
-fn with_due(due: Ports, number: u8, ports: Ports, moments: &[u64; PORTS], now: u64) -> Ports
-    requires { number < 64 }
-    ensures { result ≡ cond (has_number ports number && nat_le (slice_index moments.now number) now) (numbers_below 64 (λ m. (m == number) || has_number due m)) due }
-{
-    if ports.has(number) && moments[usize::from(number)] <= now {
-        due.with(number)
-    } else {
-        due
+impl Ends for Moments {
+    ghost moments = { λ m. m };
+
+    ghost keeps = { λ end. true };
+
+    ghost lasts = { refl };
+
+    fn none() -> Moments {
+        Moments::empty()
+    }
+
+    fn end(&self, port: Port) -> Option<u64> {
+        self.get(port)
+    }
+
+    fn set_end(&mut self, port: Port, end: Option<u64>) {
+        match end {
+            Some(moment) => self.set(port, moment),
+            None => self.clear(port),
+        }
     }
 }
 
-fn write(moments: &mut [u64; PORTS], port: Port, moment: u64)
+/// The set, and the number where its moment is `now` or before.
+fn with_due(due: Ports, number: u8, moment: u64, now: u64) -> Ports
+    requires { number < port_places }
+    ensures { result ≡ cond (nat_le moment now) (numbers_below port_places (λ m. (m == number) || has_number due m)) due }
+{
+    if moment <= now { due.with(number) } else { due }
+}
+
+fn write(moments: &mut [u64; Port::PLACES], port: Port, moment: u64)
     ensures { moments.new ≡ slice_set moments.old port moment }
 {
     moments[usize::from(port.number())] = moment;

@@ -1,30 +1,31 @@
 //! Members by VLAN and group: a list in the order of these keys, which is searched by halves.
-ghost use Rattle.std.specs.Prelude.{◌≡◌, ℕ, ◌+◌, ◌++◌, ◌∷◌, ◌<◌, ◌≤◌, None, Some, true, [], IfOk, IfErr, cond, length, map, vec_capacity, slice_get, slice_set, slice_index_or, is_some};
+ghost use Rattle.std.specs.Prelude.{◌≡◌, ℕ, ◌+◌, ◌++◌, ◌∷◌, ◌<◌, ◌≤◌, None, Some, true, [], IfOk, IfErr, IsTrue, is_some};
+ghost use Rattle.std.specs.Prelude.{length, map, vec_capacity, slice_get};
 ghost use Rattle.std.specs.List.{filter, insert};
 ghost use Rattle.std.specs.Ordering.{nat_cmp};
-ghost use Rattle.br_model.specs.GroupPairs.{group_pair_cmp, has_room, max_pairs};
-ghost use Rattle.br_model.specs.Groups.{membership_cmp};
-ghost use Rattle.br_model.specs.Maps.{get, without, is_ascending};
-ghost use Rattle.br_model.specs.Ends.{due_members, keys};
+ghost use Rattle.br_model.specs.Table.Domains.{port_places};
+ghost use Rattle.br_model.specs.Table.GroupPairs.{group_pair_cmp, has_room, max_pairs};
+ghost use Rattle.br_model.specs.Table.Groups.{membership_cmp};
+ghost use Rattle.br_model.specs.Data.Maps.{get, without, is_ascending};
+ghost use Rattle.br_model.specs.Control.Ends.{due_members, keys};
 ghost use Rattle.mdb_snoop.specs.Database.{ending_soon, is_dynamic, joined_until, ports_in};
-ghost use Rattle.port_sets.specs.Numbers.{has_number};
-ghost use Rattle.mdb_snoop.specs.Places.{IsAt, IsGap, IsSound, Section as SectionValue, flat, section};
+ghost use Rattle.mdb_snoop.specs.Places.{IsAt, IsGap, IsSound, Section as SectionValue, changed_at, flat, section};
 ghost use Rattle.mdb_snoop.specs.Soonest.{soonest_member};
 
 use crate::NoMemory;
+use crate::ends::Ends;
 use crate::members::Members;
+use crate::moments::Moments;
 use br_model::group::Group;
+use br_model::limits::MOST_PAIRS;
 use br_model::numbers::{Port, Vid};
 use port_sets::Ports;
 use std::alloc::Global;
 use std::cmp::Ordering;
 
-/// The most pairs of VLAN and group.
-pub const MOST_PAIRS: usize = 1024;
-
 pub type Key = (Vid, Group);
 
-pub type Section = (Key, Members);
+pub type Section<E> = (Key, Members<E>);
 
 /// Which of two keys comes first.
 fn order(a: &Key, b: &Key) -> Ordering
@@ -34,7 +35,7 @@ fn order(a: &Key, b: &Key) -> Ordering
 }
 
 /// Where the key is, or where it would go.
-fn place_of(sections: &[Section], key: &Key) -> Result<usize, usize>
+fn place_of<E: Ends>(sections: &[Section<E>], key: &Key) -> Result<usize, usize>
     requires { is_ascending group_pair_cmp sections.now ≡ true }
     ensures found { IfOk result (IsAt sections.now key.now) }
     ensures gap { IfErr result (IsGap sections.now key.now) }
@@ -53,7 +54,7 @@ fn place_of(sections: &[Section], key: &Key) -> Result<usize, usize>
 }
 
 /// Whether the key has members.
-pub fn has(sections: &[Section], key: &Key) -> bool
+pub fn has<E: Ends>(sections: &[Section<E>], key: &Key) -> bool
     requires { is_ascending group_pair_cmp sections.now ≡ true }
     ensures { result ≡ is_some (get group_pair_cmp sections.now key.now) }
 {
@@ -64,7 +65,7 @@ pub fn has(sections: &[Section], key: &Key) -> bool
 }
 
 /// Whether there is room for a member at the key.
-pub fn has_room(sections: &[Section], key: &Key) -> bool
+pub fn has_room<E: Ends>(sections: &[Section<E>], key: &Key) -> bool
     requires { IsSound sections.now }
     ensures { result ≡ has_room (keys (flat sections.now)) key.now.0 key.now.1 }
 {
@@ -72,14 +73,14 @@ pub fn has_room(sections: &[Section], key: &Key) -> bool
 }
 
 /// How many keys have members.
-pub fn count(sections: &[Section]) -> usize
+pub fn count<E: Ends>(sections: &[Section<E>]) -> usize
     ensures { result ≡ length sections.now }
 {
     sections.len()
 }
 
 /// The key at a place, if there are so many.
-pub fn key_at(sections: &[Section], place: usize) -> Option<Key>
+pub fn key_at<E: Ends>(sections: &[Section<E>], place: usize) -> Option<Key>
     ensures { result ≡ slice_get (keys sections.now) place }
 {
     match sections.get(place) {
@@ -88,8 +89,18 @@ pub fn key_at(sections: &[Section], place: usize) -> Option<Key>
     }
 }
 
+/// Whether the port is a member at a place.
+pub fn member_at<E: Ends>(sections: &[Section<E>], place: usize, port: Port) -> bool
+    ensures { (s : SectionValue) → slice_get sections.now place ≡ Some s → result ≡ is_some (get nat_cmp s.1 port) }
+{
+    match sections.get(place) {
+        Some(section) => section.1.has(port),
+        None => false,
+    }
+}
+
 /// The ports that are members at the key.
-pub fn ports(sections: &[Section], key: &Key) -> Ports
+pub fn ports<E: Ends>(sections: &[Section<E>], key: &Key) -> Ports
     requires { IsSound sections.now }
     ensures { result ≡ ports_in (keys (flat sections.now)) key.now.0 key.now.1 }
 {
@@ -100,7 +111,7 @@ pub fn ports(sections: &[Section], key: &Key) -> Ports
 }
 
 /// Whether the port is a member at the key, and ends.
-pub fn is_dynamic(sections: &[Section], key: &Key, port: Port) -> bool
+pub fn is_dynamic<E: Ends>(sections: &[Section<E>], key: &Key, port: Port) -> bool
     requires { IsSound sections.now }
     ensures { result ≡ is_dynamic (get membership_cmp (flat sections.now) (key.now.0, key.now.1, port)) }
 {
@@ -111,7 +122,7 @@ pub fn is_dynamic(sections: &[Section], key: &Key, port: Port) -> bool
 }
 
 /// Whether the port is a member at the key.
-pub fn has_member(sections: &[Section], key: &Key, port: Port) -> bool
+pub fn has_member<E: Ends>(sections: &[Section<E>], key: &Key, port: Port) -> bool
     requires { IsSound sections.now }
     ensures { result ≡ is_some (get membership_cmp (flat sections.now) (key.now.0, key.now.1, port)) }
 {
@@ -122,7 +133,7 @@ pub fn has_member(sections: &[Section], key: &Key, port: Port) -> bool
 }
 
 /// Takes the memory for all sections that there can be.
-pub fn copy(alloc: Global, sections: &[Section]) -> Result<Vec<Section>, NoMemory>
+pub fn copy(alloc: Global, sections: &[Section<Moments>]) -> Result<Vec<Section<Moments>>, NoMemory>
     requires { length sections.now ≤ max_pairs }
     ensures items { IfOk result (λ v. v.items ≡ sections.now) }
     ensures capacity { IfOk result (λ v. max_pairs ≤ vec_capacity v) }
@@ -135,7 +146,7 @@ pub fn copy(alloc: Global, sections: &[Section]) -> Result<Vec<Section>, NoMemor
 }
 
 /// When the first member ends, or `u64::MAX` where none ends.
-pub fn soonest(sections: &[Section]) -> u64
+pub fn soonest(sections: &[Section<Moments>]) -> u64
     ensures { result ≡ soonest_member (flat sections.now) }
 {
     let mut soonest = u64::MAX;
@@ -146,10 +157,11 @@ pub fn soonest(sections: &[Section]) -> u64
 }
 
 /// Joins the port at the key, within the capacity.
-pub fn join(sections: &mut Vec<Section>, key: Key, port: Port, end: Option<u64>)
+pub fn join<E: Ends>(sections: &mut Vec<Section<E>>, key: Key, port: Port, end: Option<u64>)
     requires sound { IsSound sections.old.items }
     requires room { get group_pair_cmp sections.old.items key ≡ None → length sections.old.items < max_pairs }
     requires capacity { max_pairs ≤ vec_capacity sections.old }
+    requires end { IsTrue (E.keeps end) }
     ensures members { flat sections.new.items ≡ joined_until membership_cmp (flat sections.old.items) (key.0, key.1, port) end }
     ensures sound { IsSound sections.new.items }
     ensures capacity { max_pairs ≤ vec_capacity sections.new }
@@ -160,16 +172,17 @@ pub fn join(sections: &mut Vec<Section>, key: Key, port: Port, end: Option<u64>)
     }
 }
 
-fn join_at(sections: &mut Vec<Section>, place: usize, port: Port, end: Option<u64>)
-    requires { place < length sections.old.items }
-    ensures items { (d : SectionValue) → sections.new.items ≡ slice_set sections.old.items place ((slice_index_or sections.old.items place d).0, joined_until nat_cmp (slice_index_or sections.old.items place d).1 port end) }
+fn join_at<E: Ends>(sections: &mut Vec<Section<E>>, place: usize, port: Port, end: Option<u64>)
+    requires within { place < length sections.old.items }
+    requires end { IsTrue (E.keeps end) }
+    ensures items { (d : SectionValue) → sections.new.items ≡ changed_at sections.old.items place (λ ms. joined_until nat_cmp ms port end) d }
     ensures capacity { vec_capacity sections.new ≡ vec_capacity sections.old }
 {
     sections[place].1.join(port, end);
 }
 
 /// Inserts within the capacity.
-fn insert_at(sections: &mut Vec<Section>, place: usize, section: Section)
+fn insert_at<E: Ends>(sections: &mut Vec<Section<E>>, place: usize, section: Section<E>)
     requires within { place ≤ length sections.old.items }
     requires room { length sections.old.items < vec_capacity sections.old }
     ensures items { sections.new.items ≡ insert sections.old.items place section }
@@ -182,7 +195,7 @@ fn insert_at(sections: &mut Vec<Section>, place: usize, section: Section)
 }
 
 /// Takes the member out, and says whether it was there.
-pub fn part(sections: &mut Vec<Section>, key: &Key, port: Port) -> bool
+pub fn part<E: Ends>(sections: &mut Vec<Section<E>>, key: &Key, port: Port) -> bool
     requires sound { IsSound sections.old.items }
     ensures there { result ≡ is_some (get membership_cmp (flat sections.old.items) (key.now.0, key.now.1, port)) }
     ensures members { flat sections.new.items ≡ without membership_cmp (flat sections.old.items) (key.now.0, key.now.1, port) }
@@ -203,16 +216,16 @@ pub fn part(sections: &mut Vec<Section>, key: &Key, port: Port) -> bool
     }
 }
 
-fn part_at(sections: &mut Vec<Section>, place: usize, port: Port)
+fn part_at<E: Ends>(sections: &mut Vec<Section<E>>, place: usize, port: Port)
     requires { place < length sections.old.items }
-    ensures items { (d : SectionValue) → sections.new.items ≡ slice_set sections.old.items place ((slice_index_or sections.old.items place d).0, without nat_cmp (slice_index_or sections.old.items place d).1 port) }
+    ensures items { (d : SectionValue) → sections.new.items ≡ changed_at sections.old.items place (λ ms. without nat_cmp ms port) d }
     ensures capacity { vec_capacity sections.new ≡ vec_capacity sections.old }
 {
     sections[place].1.part(port);
 }
 
 /// The end of a member that ends becomes the smaller one.
-pub fn leave_soon(sections: &mut Vec<Section>, key: &Key, port: Port, end: u64)
+pub fn leave_soon(sections: &mut Vec<Section<Moments>>, key: &Key, port: Port, end: u64)
     requires sound { IsSound sections.old.items }
     ensures members { flat sections.new.items ≡ ending_soon membership_cmp (flat sections.old.items) (key.now.0, key.now.1, port) end }
     ensures sound { IsSound sections.new.items }
@@ -224,16 +237,20 @@ pub fn leave_soon(sections: &mut Vec<Section>, key: &Key, port: Port, end: u64)
     }
 }
 
-fn leave_soon_at(sections: &mut Vec<Section>, place: usize, port: Port, end: u64)
+fn leave_soon_at(sections: &mut Vec<Section<Moments>>, place: usize, port: Port, end: u64)
     requires { place < length sections.old.items }
-    ensures items { (d : SectionValue) → sections.new.items ≡ slice_set sections.old.items place ((slice_index_or sections.old.items place d).0, ending_soon nat_cmp (slice_index_or sections.old.items place d).1 port end) }
+    ensures items { (d : SectionValue) → sections.new.items ≡ changed_at sections.old.items place (λ ms. ending_soon nat_cmp ms port end) d }
     ensures capacity { vec_capacity sections.new ≡ vec_capacity sections.old }
 {
     sections[place].1.leave_soon(port, end);
 }
 
 /// The keys at which the port is a member.
-pub fn of_port(alloc: Global, sections: &[Section], port: Port) -> Result<Vec<Key>, NoMemory>
+pub fn of_port<E: Ends>(
+    alloc: Global,
+    sections: &[Section<E>],
+    port: Port,
+) -> Result<Vec<Key>, NoMemory>
     ensures { IfOk result (λ v. v.items ≡ keys (filter (λ s. is_some (get nat_cmp s.1 port)) sections.now)) }
 {
     sections
@@ -246,7 +263,7 @@ pub fn of_port(alloc: Global, sections: &[Section], port: Port) -> Result<Vec<Ke
 /// The members that end at `now` or before.
 pub fn expired(
     alloc: Global,
-    sections: &[Section],
+    sections: &[Section<Moments>],
     now: u64,
 ) -> Result<Vec<(Vid, Group, Port)>, NoMemory>
     ensures { IfOk result (λ v. v.items ≡ due_members now (flat sections.now)) }
@@ -261,7 +278,7 @@ pub fn expired(
 /// Adds the members of a section that end at `now` or before.
 fn push_section(
     out: &mut Vec<(Vid, Group, Port)>,
-    members: &Section,
+    members: &Section<Moments>,
     now: u64,
 ) -> Result<(), NoMemory>
     ensures { IfOk result (λ _. out.new.items ≡ out.old.items ++ due_members now (section members.now.0 members.now.1)) }
@@ -280,28 +297,25 @@ fn push_all(
 ) -> Result<(), NoMemory>
     ensures { IfOk result (λ _. out.new.items ≡ out.old.items ++ map (λ port. (vid, group, port)) ports) }
 {
-    ports.members_ascend();
-    for number in 0..Port::COUNT {
-        push_member(out, vid, group, number, ports)?;
+    for number in ports.iter() {
+        push_member(out, vid, group, number)?;
     }
     Ok(())
 }
 
-/// Adds a membership where the number is one of the ports.
+/// Adds the membership of the port of this number.
 fn push_member(
     out: &mut Vec<(Vid, Group, Port)>,
     vid: Vid,
     group: Group,
     number: u8,
-    ports: Ports,
 ) -> Result<(), NoMemory>
-    requires { number < 64 }
-    ensures { IfOk result (λ _. out.new.items ≡ out.old.items ++ cond (has_number ports number) ((vid, group, number) ∷ []) []) }
+    requires { number < port_places }
+    ensures { IfOk result (λ _. out.new.items ≡ out.old.items ++ (vid, group, number) ∷ []) }
 {
-    if ports.has(number) {
-        if let Some(port) = Port::new(number) {
-            out.push((vid, group, port))?;
-        }
-    }
+    let Some(port) = Port::new(number) else {
+        unreachable!()
+    };
+    out.push((vid, group, port))?;
     Ok(())
 }

@@ -1,13 +1,16 @@
 ghost use Rattle.std.specs.Prelude.{◌≡◌, IsTrue};
-ghost use Rattle.br_model.specs.GroupPairs.{has_room};
-ghost use Rattle.br_model.specs.Table.{Table, apply};
+ghost use Rattle.br_model.specs.Table.GroupPairs.{has_room};
+ghost use Rattle.br_model.specs.Table.Table.{Table, apply};
 ghost use Rattle.br_model.specs.declared.change.Change.TheVariants.{GroupJoin, Router, Querier};
-ghost use Rattle.br_model.specs.Ends.{keys};
+ghost use Rattle.br_model.specs.Control.Ends.{keys};
 ghost use Rattle.mdb_snoop.specs.Database.{memberships};
 
-use crate::Mdb;
-use crate::sections::{MOST_PAIRS, Section};
+use crate::ends::NoEnds;
+use crate::moments::Moments;
+use crate::sections::Section;
+use crate::{Groups, Mdb};
 use br_model::group::Group;
+use br_model::limits::MOST_PAIRS;
 use br_model::numbers::{Port, Vid};
 use port_sets::Ports;
 use std::mem::size_of;
@@ -252,6 +255,33 @@ fn room_for_pairs(rt: HostRuntime) -> Result<(), Fail> {
 /// All that there can be takes less than 2 MB.
 #[test]
 fn sections_are_small(rt: HostRuntime) {
-    assert_eq!(rt; size_of::<Section>(), 576);
-    assert!(rt; size_of::<Section>() * MOST_PAIRS < 2_000_000);
+    assert_eq!(rt; size_of::<Section<Moments>>(), 576);
+    assert!(rt; size_of::<Section<NoEnds>>() <= 64);
+    assert!(rt; size_of::<Section<Moments>>() * MOST_PAIRS < 2_000_000);
+}
+
+/// Members without ends: how many pairs there are, who is a member at a place, and of any.
+#[test]
+fn members_of_groups(rt: HostRuntime) -> Result<(), Fail> {
+    let mut groups = Groups::make(rt.alloc())?;
+    let (one, two, v) = (port(1)?, port(2)?, vid(10)?);
+    assert!(rt; !groups.is_member(one) && groups.pairs() == 0);
+    for (g, p) in [(SIX, two), (FOUR, one), (SIX, one), (SIX, two)] {
+        assert!(rt; groups.has_room(v, g));
+        if groups.has_room(v, g) {
+            groups.join(v, g, p);
+        }
+    }
+    assert_eq!(rt; groups.pairs(), 2);
+    assert_eq!(rt; groups.pair(0), Some((v, FOUR)));
+    assert_eq!(rt; groups.pair(1), Some((v, SIX)));
+    assert_eq!(rt; groups.pair(2), None);
+    assert!(rt; groups.member_at(0, one) && !groups.member_at(0, two));
+    assert!(rt; groups.member_at(1, one) && groups.member_at(1, two) && !groups.member_at(2, one));
+    assert_eq!(rt; groups.members(v, SIX), Ports::empty().with(1).with(2));
+    assert!(rt; groups.part(v, FOUR, one) && !groups.part(v, FOUR, one));
+    assert!(rt; groups.is_member(one) && groups.is_member(two) && groups.pairs() == 1);
+    assert!(rt; groups.part(v, SIX, two) && !groups.is_member(two) && groups.is_member(one));
+    assert!(rt; groups.part(v, SIX, one) && !groups.is_member(one) && groups.pairs() == 0);
+    Ok(())
 }

@@ -7,7 +7,7 @@ use Rattle.std.specs.declared.result.Result.TheVariants.{Ok, Err}
 use Rattle.br_model.specs.declared.capture.CapKind.{CapKind}
 use Rattle.br_model.specs.declared.capture.Order.{Order}
 use Rattle.br_model.specs.declared.capture.Packet.{Packet}
-use Rattle.br_model.specs.Captures.{Block, Capture, cut, front, in_front, read, read_cut, says}
+use Rattle.br_model.specs.Wire.Captures.{Block, Capture, cut, front, in_front, read, read_cut, says}
 use Rattle.pcapng_read.specs.declared.fault.CapFault.{CapFault}
 use Rattle.pcapng_read.specs.declared.fault.CapFault.TheVariants.{At, NoMemory}
 use Rattle.pcapng_read.specs.Telling.{Tells, TellsNext}

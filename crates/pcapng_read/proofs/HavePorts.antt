@@ -9,7 +9,7 @@ use Rattle.std.specs.declared.result.Result.TheVariants.{Ok, Err}
 use Rattle.br_model.specs.declared.capture.CapKind.{CapKind}
 use Rattle.br_model.specs.declared.capture.CapKind.TheVariants.{Captured}
 use Rattle.br_model.specs.declared.capture.Packet.{Packet}
-use Rattle.br_model.specs.Captures.{Block, Capture, Fault, Said, in_front, read_front, read, says, said_packet, packet_by, packet_of, number_in, major_version, section_header, interface_description, enhanced_packet, ethernet}
+use Rattle.br_model.specs.Wire.Captures.{Block, Capture, Fault, Said, in_front, read_front, read, says, said_packet, packet_by, packet_of, number_in, major_version, section_header, interface_description, enhanced_packet, ethernet}
 
 -- what a block says keeps no more interfaces than there are ports, and its packet came by one of them
 abbrev Fits : ℕ → Said → Type 0

@@ -9,7 +9,7 @@ use Rattle.byteorder.specs.Numbers.{big_number-reads_back, little_number-reads_b
 use Rattle.br_model.specs.declared.capture.Order.{Order}
 use Rattle.br_model.specs.declared.capture.Order.TheVariants.{HighFirst, LowFirst}
 use Rattle.br_model.specs.declared.capture.Packet.{Packet}
-use Rattle.br_model.specs.Captures.{Block, Capture, enhanced_packet, front, in_front, interface_description, is_length, number_in, order_of, packets, says, section_header, unless_broken}
+use Rattle.br_model.specs.Wire.Captures.{Block, Capture, enhanced_packet, front, in_front, interface_description, is_length, number_in, order_of, packets, says, section_header, unless_broken}
 use Rattle.pcapng_read.specs.WrittenCaptures.{AreWritable, block, bytes_in, header_body, interface_body, interfaces, packet_blocks, packet_body, padding, written}
 use Rattle.pcapng_read.proofs.Cutting.{left, left_at_end, left_whole}
 

@@ -5,7 +5,7 @@ use Rattle.std.specs.declared.option.Option.TheVariants.{None, Some}
 use Rattle.std.specs.declared.result.Result.{Result}
 use Rattle.std.specs.declared.result.Result.TheVariants.{Ok, Err}
 use Rattle.br_model.specs.declared.capture.Packet.{Packet}
-use Rattle.br_model.specs.Captures.{Capture, Said, in_front}
+use Rattle.br_model.specs.Wire.Captures.{Capture, Said, in_front}
 use Rattle.pcapng_read.specs.declared.fault.CapFault.{CapFault}
 use Rattle.pcapng_read.specs.declared.fault.CapFault.TheVariants.{At, NoMemory}
 

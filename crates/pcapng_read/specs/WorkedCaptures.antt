@@ -6,8 +6,8 @@ use Rattle.std.specs.declared.result.Result.TheVariants.{Ok, Err}
 use Rattle.br_model.specs.declared.capture.CapKind.{CapKind}
 use Rattle.br_model.specs.declared.capture.CapKind.TheVariants.{Short, Magic, Interface, Link}
 use Rattle.br_model.specs.declared.capture.Packet.{Packet}
-use Rattle.br_model.specs.Captures.{Fault, packets}
-use Rattle.br_model.specs.Readings.{bytes_of}
+use Rattle.br_model.specs.Wire.Captures.{Fault, packets}
+use Rattle.br_model.specs.Worked.Readings.{bytes_of}
 
 -- what each capture says, for the number of ports that stands with it
 unfoldable pub captures : List (ℕ × List ℕ) → List (Result (List Packet) Fault)

@@ -5,7 +5,7 @@ use Rattle.std.specs.Int.{bytes_high_first, bytes_low_first}
 use Rattle.br_model.specs.declared.capture.Order.{Order}
 use Rattle.br_model.specs.declared.capture.Order.TheVariants.{HighFirst, LowFirst}
 use Rattle.br_model.specs.declared.capture.Packet.{Packet}
-use Rattle.br_model.specs.Captures.{enhanced_packet, ethernet, interface_description, magic, major_version, section_header}
+use Rattle.br_model.specs.Wire.Captures.{enhanced_packet, ethernet, interface_description, magic, major_version, section_header}
 
 -- a number in so many bytes
 abbrev pub bytes_in : Order → ℕ → ℕ → List ℕ

@@ -1,7 +1,7 @@
 //! The packets of a capture, one by one.
 ghost use Rattle.std.specs.Prelude.{◌≡◌, ◌≤◌, ◌+◌, ◌^◌, nat_lt, true, length};
 ghost use Rattle.std.specs.List.{list_all};
-ghost use Rattle.br_model.specs.Captures.{capture};
+ghost use Rattle.br_model.specs.Wire.Captures.{capture};
 ghost use Rattle.pcapng_read.specs.Telling.{TellsNext};
 
 use crate::block::{FRAME, front};
@@ -24,7 +24,7 @@ pub struct Blocks<'a> {
 
 impl<'a> Model for Blocks<'a> {
     ghost use Rattle.std.specs.Prelude.{◌≤◌, ◌+◌, ◌^◌, length};
-    ghost use Rattle.br_model.specs.Captures.{Capture, cut, read_cut};
+    ghost use Rattle.br_model.specs.Wire.Captures.{Capture, cut, read_cut};
 
     ghost Value = { Capture };
 

@@ -2,7 +2,7 @@
 ghost use Rattle.std.specs.Prelude.{◌≡◌, ◌<◌, ◌^◌, ℕ, List};
 ghost use Rattle.br_model.specs.declared.capture.Order.{Order};
 ghost use Rattle.br_model.specs.declared.capture.Packet.{Packet};
-ghost use Rattle.br_model.specs.Captures.{packets};
+ghost use Rattle.br_model.specs.Wire.Captures.{packets};
 ghost use Rattle.pcapng_read.specs.WorkedCaptures.{captures, worked, worked_said};
 ghost use Rattle.pcapng_read.specs.WrittenCaptures.{AreWritable, written};
 

@@ -1,6 +1,6 @@
 //! What the blocks of a section say.
 ghost use Rattle.std.specs.Prelude.{◌≡◌, ◌≤◌, [], ◌∷◌, ◌++◌, length, take, slice_get, OnOk, OnErr};
-ghost use Rattle.br_model.specs.Captures.{enhanced_packet, number_in, says, packet_by};
+ghost use Rattle.br_model.specs.Wire.Captures.{enhanced_packet, number_in, says, packet_by};
 ghost use Rattle.pcapng_read.specs.Telling.{Tells};
 
 use crate::block::{Block, ENHANCED_PACKET, INTERFACE_DESCRIPTION, SECTION_HEADER};

@@ -9,17 +9,20 @@ use Rattle.br_model.specs.declared.steps.Event.TheVariants as events
 use Rattle.br_model.specs.declared.steps.Refusal.TheVariants.{NothingPending, NoSuchPoint}
 use Rattle.br_model.specs.declared.transcript.Line.{Line}
 use Rattle.br_model.specs.declared.transcript.Line.TheVariants as lines
-use Rattle.br_model.specs.Chip.{applies}
-use Rattle.br_model.specs.Cut.{deferred_at}
-use Rattle.br_model.specs.Maps.{has}
-use Rattle.br_model.specs.Messages.{message}
-use Rattle.br_model.specs.Plane.ChipSteps.{turns}
-use Rattle.br_model.specs.Plane.Invariants.{IsWorld}
+use Rattle.br_model.specs.Plane.Chip.{applies}
+use Rattle.br_model.specs.Table.Cut.{deferred_at}
+use Rattle.br_model.specs.Table.Domains.{chip}
+use Rattle.br_model.specs.Data.Maps.{has}
+use Rattle.br_model.specs.Wire.Messages.{message}
+use Rattle.br_model.specs.Plane.ChipSteps.{turns_to}
+use Rattle.br_model.specs.Theorems.Invariants.{IsWorld}
 use Rattle.br_model.specs.Plane.Serving.{posts, serves, holds, held_with, lets_go, is_point, posts_at}
-use Rattle.br_model.specs.Plane.Steps.{Step, Cmd, Now, Serve, Hold, Post, Turn, Publish, publishes, does, world_step}
+use Rattle.br_model.specs.declared.steps.Step.{Step}
+use Rattle.br_model.specs.declared.steps.Step.TheVariants.{Cmd, Now, Serve, Hold, Post, Turn, Publish}
+use Rattle.br_model.specs.Plane.Steps.{publishes, does, world_step}
 use Rattle.br_model.specs.Plane.World.{World, Waiting, Holding, Stepped, answered, reacts, refused, done}
-use Rattle.br_model.specs.Setup.{Setup}
-use Rattle.br_model.specs.Table.{table}
+use Rattle.br_model.specs.Table.Setup.{Setup}
+use Rattle.br_model.specs.Table.Table.{table}
 use Rattle.table_publish.specs.Board.{Decides}
 use Rattle.table_publish.specs.Object.{Whose}
 use Rattle.table_publish.specs.declared.seat.Seen.{Seen}
@@ -137,10 +140,10 @@ posts_one old s t q r n m h x f seen lines was found shown same floor is comes l
 pub stands_turned : (s t : SidesState) (q : Queued) (n m : ℕ) (o : Option Change) (more : Bool) → m ≡ n + 1 → deferred_at s.history s.chip.count ≡ o → SideTurns s t o more
     → IsWorld (world_of s q n) → IsWorld (world_of t q m)
 stands_turned s t q n m None more e at h k =
-    subst (λ (x : SidesState). IsWorld (world_of x q m)) (sym h.1) (stands_after s s q q n m Turn (lines.Refused m NothingPending ∷ []) e (ap (turns (world_of s q m)) at) k)
+    subst (λ (x : SidesState). IsWorld (world_of x q m)) (sym h.1) (stands_after s s q q n m (Turn chip) (lines.Refused m NothingPending ∷ []) e (ap (turns_to (world_of s q m) s.chip) at) k)
 stands_turned s t q n m (Some d) more e at h k =
     let now : SidesState = record s { chip = applies s.chip d } in
-    subst (λ (x : SidesState). IsWorld (world_of x q m)) (sym h.1) (stands_after s now q q n m Turn (lines.Done m 0 ∷ []) e (ap (turns (world_of s q m)) at) k)
+    subst (λ (x : SidesState). IsWorld (world_of x q m)) (sym h.1) (stands_after s now q q n m (Turn chip) (lines.Done m 0 ∷ []) e (ap (turns_to (world_of s q m) s.chip) at) k)
 
 pub publishes_all : (s t : SidesState) (q : Queued) (m : ℕ) → publishes (world_of s q m) (length s.history) ≡ world_of t q m → does (world_of s q m) Publish ≡ (world_of t q m, lines.Done m 0 ∷ [])
 publishes_all s t q m h = ap (λ (w : World). done w) h

@@ -8,17 +8,18 @@ use Rattle.br_model.specs.declared.frame.Class.TheVariants.{Drop, Trap, Copy, Fo
 use Rattle.br_model.specs.declared.frame.Head.{Head}
 use Rattle.br_model.specs.declared.transcript.Line.{Line}
 use Rattle.br_model.specs.declared.transcript.Line.TheVariants.{Chip}
-use Rattle.br_model.specs.Chip.{Chip as ChipValue, hits_entry, offers}
-use Rattle.br_model.specs.DomainPorts.{is_in_domain}
-use Rattle.br_model.specs.Domains.{domain_of, chip}
-use Rattle.br_model.specs.Frames.{frame}
-use Rattle.br_model.specs.Learning.{Address}
-use Rattle.br_model.specs.Limits.{most_waiting}
-use Rattle.br_model.specs.Messages.{message}
+use Rattle.br_model.specs.Plane.Chip.{Chip as ChipValue, hits_entry, offers}
+use Rattle.br_model.specs.Table.DomainPorts.{is_in_domain}
+use Rattle.br_model.specs.Table.Domains.{domain_of, chip}
+use Rattle.br_model.specs.Wire.Frames.{frame}
+use Rattle.br_model.specs.Control.Learning.{Address}
+use Rattle.br_model.specs.Table.Limits.{most_waiting}
+use Rattle.br_model.specs.Wire.Messages.{message}
 use Rattle.br_model.specs.Plane.Entering.{waits, goes_on, enters_as, enters_chip, class_of}
-use Rattle.br_model.specs.Plane.Steps.{Rx, world_step}
+use Rattle.br_model.specs.declared.steps.Step.TheVariants.{Rx}
+use Rattle.br_model.specs.Plane.Steps.{world_step}
 use Rattle.br_model.specs.Plane.World.{World, Waiting, Stepped, sent, after_lines}
-use Rattle.br_model.specs.Shares.{chip_out, mark_of}
+use Rattle.br_model.specs.Forward.Shares.{chip_out, mark_of}
 use Rattle.chip_pipeline.specs.Passed.{Passed, IsPass}
 use Rattle.plane_core.specs.declared.frames.Arrival.TheVariants.{Waits, Overruns}
 use Rattle.plane_core.specs.Arrivals.{arrival, arrival_lines, settled}

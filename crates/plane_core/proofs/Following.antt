@@ -7,14 +7,14 @@ use Rattle.std.specs.Prelude.{IsTrue, if◌then◌else◌}
 use Rattle.br_model.specs.declared.change.Change.{Change}
 use Rattle.br_model.specs.declared.change.Change.TheVariants.{PortUp, PortDown, SetFlags, SetState, VlanAdd, VlanDel, GroupJoin, GroupPart, Router, Querier, Snoop, Stp, AddrPut, AddrDel}
 use Rattle.br_model.specs.declared.change.Update.{Update}
-use Rattle.br_model.specs.Change.{deferred, updates}
-use Rattle.br_model.specs.Chip.{applies}
-use Rattle.br_model.specs.Cut.{cut, deferred_at, deferred_count, under_ticket}
-use Rattle.br_model.specs.Domains.{Domains}
-use Rattle.br_model.specs.GroupPairs.{has_room}
-use Rattle.br_model.specs.Groups.{Membership}
-use Rattle.br_model.specs.Limits.{fits, most_addresses, AreWithin}
-use Rattle.br_model.specs.Table.{Table, apply, table}
+use Rattle.br_model.specs.Table.Change.{deferred, updates}
+use Rattle.br_model.specs.Plane.Chip.{applies}
+use Rattle.br_model.specs.Table.Cut.{cut, deferred_at, deferred_count, under_ticket}
+use Rattle.br_model.specs.Table.Domains.{Domains}
+use Rattle.br_model.specs.Table.GroupPairs.{has_room}
+use Rattle.br_model.specs.Table.Groups.{Membership}
+use Rattle.br_model.specs.Table.Limits.{fits, most_addresses, most_changes, AreWithin}
+use Rattle.br_model.specs.Table.Table.{Table, apply, table}
 use Rattle.br_model.proofs.ApplyingLaws.{deferred_count-append}
 use Rattle.br_model.proofs.Cuts.{cut-one, cut-turn, table-cut, addr-within, deferred_at-deferred, updates-at, updates-named}
 use Rattle.chip_driver.specs.Drives.{Driven, Drives, IsTaken}
@@ -83,7 +83,7 @@ pub still_applied : (H : List Change) (from k : ℕ) → k ≤ deferred_count (t
 still_applied H from k n =
     subst (λ (cs : List Change). k ≤ deferred_count cs) (take-append-drop from H) (omega (arith, n, deferred_count-append (take from H) (drop from H)))
 
-pub count_below : (H : List Change) (k : ℕ) (d : Change) → AreWithin H → deferred_at H k ≡ Some d → k < 1048576
+pub count_below : (H : List Change) (k : ℕ) (d : Change) → AreWithin H → deferred_at H k ≡ Some d → k < most_changes
 count_below H k d is at = omega (arith, is.few, (deferred_at-deferred H k d at).1, length-filter deferred H, count_by-le-length deferred H)
 
 pub turned : (H : List Change) (old new : ChipState) (d : Change) → deferred_at H old.chip.count ≡ Some d → new.chip ≡ applies old.chip d → Turns old new (deferred_at H old.chip.count) true

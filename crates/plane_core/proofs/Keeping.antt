@@ -2,7 +2,7 @@
 use Rattle.std.proofs.Common.{◌≡◌, ℕ, ◌+◌, ◌<◌, ◌≤◌, Bool, List, [], ◌∷◌, ◌++◌, length, drop, sym, ap, ◌∙◌, arith}
 use Rattle.std.specs.List.{filter}
 use Rattle.std.proofs.lemmas.List.{append_assoc, map-append, length-append}
-use Rattle.br_model.specs.Limits.{most_waiting}
+use Rattle.br_model.specs.Table.Limits.{most_waiting}
 use Rattle.br_model.specs.Plane.World.{Waiting, Holding}
 use Rattle.plane_core.specs.Queued.{Queued, IsQueued, ascends, holds_oldest, waiting_ids, held_ids}
 use Rattle.plane_core.proofs.HeldRows.{ascends_filter, fewer}

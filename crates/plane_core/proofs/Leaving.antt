@@ -10,20 +10,20 @@ use Rattle.br_model.specs.declared.frame.Class.TheVariants.{Drop, Trap, Copy, Fo
 use Rattle.br_model.specs.declared.frame.Head.{Head}
 use Rattle.br_model.specs.declared.transcript.Line.{Line}
 use Rattle.br_model.specs.declared.transcript.Line.TheVariants.{Tx}
-use Rattle.br_model.specs.Admission.{admit}
-use Rattle.br_model.specs.Class.{class}
-use Rattle.br_model.specs.DomainPorts.{is_marked}
-use Rattle.br_model.specs.Domains.{Domains, foreign}
-use Rattle.br_model.specs.Eligible.{untagged}
-use Rattle.br_model.specs.Frames.{dressed}
-use Rattle.br_model.specs.Leave.{leave, ports_out, dressed_in, tag_at}
-use Rattle.br_model.specs.Messages.{message}
+use Rattle.br_model.specs.Forward.Admission.{admit}
+use Rattle.br_model.specs.Forward.Class.{class}
+use Rattle.br_model.specs.Table.DomainPorts.{is_marked}
+use Rattle.br_model.specs.Table.Domains.{Domains, foreign}
+use Rattle.br_model.specs.Forward.Eligible.{untagged}
+use Rattle.br_model.specs.Wire.Frames.{dressed}
+use Rattle.br_model.specs.Forward.Leave.{leave, ports_out, dressed_in, tag_at}
+use Rattle.br_model.specs.Wire.Messages.{message}
 use Rattle.br_model.specs.Plane.World.{sent}
-use Rattle.br_model.specs.Shares.{chip_out, chip_out_by, soft_out, remaining}
-use Rattle.br_model.specs.Table.{Table}
-use Rattle.chip_pipeline.specs.Passed.{Passed, IsPass, chip_ports_by, untagged_among as untagged_at_chip}
+use Rattle.br_model.specs.Forward.Shares.{chip_out, chip_out_by, soft_out, remaining}
+use Rattle.br_model.specs.Table.Table.{Table}
+use Rattle.br_model.specs.Forward.Untagged.{untagged_among}
+use Rattle.chip_pipeline.specs.Passed.{Passed, IsPass, chip_ports_by}
 use Rattle.forward_rules.specs.declared.soft_tables.Verdict.{Verdict}
-use Rattle.forward_rules.specs.Verdicts.{untagged_among}
 use Rattle.port_sets.specs.Numbers.{has_number}
 use Rattle.plane_core.specs.Sent.{line_at, lines_in}
 use Rattle.table_publish.specs.Board.{Decides}
@@ -96,18 +96,18 @@ module _ (t : Table) (id : ℕ) (bytes : List ℕ) (head : Head) where
 
   -- among the ports of the chip's share
   share_lines : (o : Option ℕ) (p : ℕ → Bool) (whole : List ℕ)
-      → lines_in id bytes head o (filter p whole) (untagged_at_chip t o (filter p whole)) ≡ sent id (filter (λ x. p x.0) (dressed_in t o whole bytes head))
-  share_lines o p whole = sent_lines o p whole (untagged_at_chip t o (filter p whole)) (λ vid q some within.
-      ap (λ (v : Option ℕ). has_number (untagged_at_chip t v (filter p whole)) q) (sym some) ∙ has_passed (λ k. untagged t k vid) q (filter p whole) within)
+      → lines_in id bytes head o (filter p whole) (untagged_among t o (filter p whole)) ≡ sent id (filter (λ x. p x.0) (dressed_in t o whole bytes head))
+  share_lines o p whole = sent_lines o p whole (untagged_among t o (filter p whole)) (λ vid q some within.
+      ap (λ (v : Option ℕ). has_number (untagged_among t v (filter p whole)) q) (sym some) ∙ has_passed (λ k. untagged t k vid) q (filter p whole) within)
 
   no_lines : (o : Option ℕ) (set : List ℕ) → lines_in id bytes head o [] set ≡ []
   no_lines None set = refl
   no_lines (Some vid) set = refl
 
   chip_lines : (domains : Domains) (port : ℕ) (c : Class) (o : Option ℕ) (whole : List ℕ)
-      → lines_in id bytes head o (chip_ports_by c domains port whole) (untagged_at_chip t o (chip_ports_by c domains port whole)) ≡ sent id (chip_out_by c domains port (dressed_in t o whole bytes head))
-  chip_lines domains port Drop o whole = no_lines o (untagged_at_chip t o [])
-  chip_lines domains port Trap o whole = no_lines o (untagged_at_chip t o [])
+      → lines_in id bytes head o (chip_ports_by c domains port whole) (untagged_among t o (chip_ports_by c domains port whole)) ≡ sent id (chip_out_by c domains port (dressed_in t o whole bytes head))
+  chip_lines domains port Drop o whole = no_lines o (untagged_among t o [])
+  chip_lines domains port Trap o whole = no_lines o (untagged_among t o [])
   chip_lines domains port Copy o whole = share_lines o (λ q. not (foreign domains port q)) whole
   chip_lines domains port Forward o whole = share_lines o (λ q. not (foreign domains port q)) whole
 
@@ -124,5 +124,5 @@ module _ (domains : Domains) (t : Table) (port id : ℕ) (bytes : List ℕ) (hea
   unfolding leave
   passed_by p is =
       ap (λ set. lines_in id bytes head p.vid p.ports set) is.untagged
-      ∙ ap₂ (λ (o : Option ℕ) ps. lines_in id bytes head o ps (untagged_at_chip t o ps)) is.vid is.ports
+      ∙ ap₂ (λ (o : Option ℕ) ps. lines_in id bytes head o ps (untagged_among t o ps)) is.vid is.ports
       ∙ chip_lines t id bytes head domains port (class domains t port head (message bytes head)) (admit t port head) (ports_out t port head (message bytes head))

@@ -1,3 +1,4 @@
+pub mod Adding
 pub mod Ordered
 pub mod HeldRows
 pub mod Keeping

@@ -2,9 +2,9 @@
 use Rattle.std.proofs.Common.{◌≡◌, ℕ, ◌==◌, nat_lt, Bool, true, false, not, cond, ◌&&◌, ◌||◌, List, [], ◌∷◌, ◌++◌, length, Option, None, Some, refl, sym, ap, ap₂, ◌∙◌, arith}
 use Rattle.std.proofs.lemmas.Bool.Decides.{nat_tests}
 use Rattle.std.specs.List.{list_any}
-use Rattle.br_model.specs.Chip.{Chip, same_triple, offered, offers, hits_entry}
-use Rattle.br_model.specs.Learning.{Address, Triple}
-use Rattle.br_model.specs.Limits.{most_reports}
+use Rattle.br_model.specs.Plane.Chip.{Chip, same_triple, offered, offers, hits_entry}
+use Rattle.br_model.specs.Control.Learning.{Address, Triple}
+use Rattle.br_model.specs.Table.Limits.{most_reports}
 use Rattle.learn_report.specs.Reports.{Reported, is_waiting}
 use Rattle.plane_core.specs.Chips.{chip_of}
 

@@ -1,8 +1,8 @@
 -- The places of deferred changes, and which change a ticket names.
 use Rattle.std.proofs.Common.{◌≡◌, ℕ, zero, suc, ◌+◌, ◌<◌, ◌≤◌, Bool, true, false, cond, Option, None, Some, option_map, List, [], ◌∷◌, ◌++◌, length, take, get_or, slice_get, filter, refl, sym, ap, ◌∙◌, add-one, arith}
 use Rattle.br_model.specs.declared.change.Change.{Change}
-use Rattle.br_model.specs.Change.{deferred, updates}
-use Rattle.br_model.specs.Cut.{under_ticket}
+use Rattle.br_model.specs.Table.Change.{deferred, updates}
+use Rattle.br_model.specs.Table.Cut.{deferred_count, under_ticket}
 use Rattle.br_model.proofs.Cuts.{updates-at}
 use Rattle.plane_core.specs.Places.{places_from, places}
 
@@ -77,6 +77,17 @@ there h k p e = let r = there_from 0 h k p e in let at : p ≡ r.0 = r.1 ∙ gri
 
 pub none : (h : List Change) (k : ℕ) → slice_get (places h) k ≡ None → slice_get (updates h) k ≡ None
 none h k e = updates-at h k ∙ ap (option_map (under_ticket k)) (none_from 0 h k e)
+
+count_from : (n : ℕ) (cs : List Change) → length (places_from n cs) ≡ deferred_count cs
+count_from n [] = refl
+count_from n (c ∷ cs) = elim (deferred c) as (λ b. length (cond b (n ∷ places_from (n + 1) cs) (places_from (n + 1) cs)) ≡ length (cond b (c ∷ filter deferred cs) (filter deferred cs))) [
+  | true ↦ ap suc (count_from (n + 1) cs)
+  | false ↦ count_from (n + 1) cs
+]
+
+-- there is a place for each deferred change
+pub count : (h : List Change) → length (places h) ≡ deferred_count h
+count h = count_from 0 h
 
 pub few : (h : List Change) → length (places h) ≤ length h
 few h = few_from 0 h

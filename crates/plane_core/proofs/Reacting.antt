@@ -1,5 +1,5 @@
 -- What becomes of a bridge's sides when it reacts.
-use Rattle.std.proofs.Common.{◌≡◌, ℕ, List, [], ◌∷◌, ◌++◌, length, take, drop, slice_get, Some, Result, Ok, Err, sym, ap, ap₂, subst, ◌∙◌, append_assoc}
+use Rattle.std.proofs.Common.{◌≡◌, ℕ, List, [], ◌∷◌, ◌++◌, length, take, drop, slice_get, Some, Result, Ok, Err, refl, sym, ap, ap₂, subst, ◌∙◌, append_assoc}
 use Rattle.std.proofs.lemmas.List.{take-append-drop}
 use Rattle.std.proofs.Math.Seq.{take-append_seam}
 use Rattle.std.specs.declared.alloc.AllocError.{AllocError}
@@ -7,17 +7,18 @@ use Rattle.br_model.specs.declared.change.Change.{Change}
 use Rattle.br_model.specs.declared.steps.Refusal.{Refusal}
 use Rattle.br_model.specs.declared.transcript.Line.{Line}
 use Rattle.br_model.specs.declared.transcript.Line.TheVariants as lines
-use Rattle.br_model.specs.Chip.{Chip}
-use Rattle.br_model.specs.Control.{first_control}
-use Rattle.br_model.specs.Domains.{Domains}
+use Rattle.br_model.specs.Plane.Chip.{Chip}
+use Rattle.br_model.specs.Control.Control.{first_control}
+use Rattle.br_model.specs.Table.Domains.{Domains}
 use Rattle.br_model.specs.Plane.World.{accepts, after_lines, answered, control_lines}
-use Rattle.br_model.specs.Reaction.{Reaction}
-use Rattle.br_model.specs.Setup.{Setup}
+use Rattle.br_model.specs.Control.Reaction.{Reaction}
+use Rattle.br_model.specs.Table.Setup.{Setup}
 use Rattle.bridge_core.specs.declared.faults.EventFault.{EventFault}
 use Rattle.bridge_core.specs.declared.faults.EventFault.TheVariants.{Refused, NoMemory}
 use Rattle.bridge_core.specs.Kept.{Controlled}
 use Rattle.table_publish.specs.Board.{Shelf, all_of}
 use Rattle.table_publish.specs.Object.{first_object}
+use Rattle.plane_core.specs.Added.{Added}
 use Rattle.plane_core.specs.Chips.{ChipState, IsChip}
 use Rattle.plane_core.specs.Queued.{Queued}
 use Rattle.plane_core.specs.Sides.{SidesState, AreSides, Comes, Lasts, Reacted, world_of}
@@ -79,6 +80,29 @@ ended s t kept first before after told step outcome end last answer is did ends 
     ap (λ (ls : List Line). after_lines ls (answered (world_of s q step) (record (world_of s q step) { chip = kept }) answer)) (sym is)
     ∙ comes s t kept before after step outcome last answer did (subst (λ (e : Result Line AllocError). Lasts step outcome e) at ends) q
     ∙ ap (λ (ls : List Line). (world_of t q step, ls)) (sym all)
+
+-- the reaction's lines behind the first ones, without those that were there before
+behind_first : (s t : SidesState) (kept : Chip) (there first before after : List Line) (step : ℕ) (outcome : Result ℕ EventFault) (last : Line) (answer : Result Reaction Refusal)
+    → before ≡ there ++ first → Reacted s t kept before after outcome answer → Lasts step outcome (Ok last)
+    → (own : List Line) × (Reacted s t kept first own outcome answer) × (after ≡ there ++ own)
+behind_first s t kept there first before after step (Ok changes) last answer is did ends =
+    let sends = control_lines s.setup.own did.0.messages in
+    (first ++ sends, (did.0, did.1, did.2, did.3, refl), did.4 ∙ ap (λ ls. ls ++ sends) is ∙ append_assoc there first sends)
+behind_first s t kept there first before after step (Err (Refused why)) last answer is did ends = (first, (did.0, did.1, refl), did.2 ∙ is)
+behind_first s t kept there first before after step (Err NoMemory) last answer is did ends = absurd cc
+
+-- a step that a reaction ends, with its lines behind others
+pub ended_behind : (s t : SidesState) (kept : Chip) (there first before after told : List Line) (step : ℕ) (outcome : Result ℕ EventFault) (end : Result Line AllocError) (last : Line)
+    (answer : Result Reaction Refusal) → before ≡ there ++ first → Reacted s t kept before after outcome answer → Lasts step outcome end → end ≡ Ok last → told ≡ after ++ last ∷ []
+    → Added (Comes (λ w. after_lines first (answered w (record w { chip = kept }) answer)) s step t) there told
+ended_behind s t kept there first before after told step outcome end last answer is did ends at all =
+    let known : Lasts step outcome (Ok last) = subst (λ (e : Result Line AllocError). Lasts step outcome e) at ends in
+    let own = behind_first s t kept there first before after step outcome last answer is did known in
+    record {
+      lines = own.0 ++ last ∷ [];
+      so = ended s t kept first first own.0 (own.0 ++ last ∷ []) step outcome end last answer refl own.1 ends at refl;
+      added = all ∙ ap (λ ls. ls ++ last ∷ []) own.2 ∙ append_assoc there own.0 (last ∷ []);
+    }
 
 -- what is first in a list stands before the rest
 pub first_of_all : {A : Type 0} (xs : List A) (x : A) → Some x ≡ slice_get xs 0 → xs ≡ x ∷ drop 1 xs

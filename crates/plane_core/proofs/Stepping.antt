@@ -1,8 +1,9 @@
 -- A plane that has made a step of its world is a plane again.
 use Rattle.std.proofs.Common.{◌≡◌, List, subst}
 use Rattle.br_model.specs.declared.transcript.Line.{Line}
-use Rattle.br_model.specs.Plane.Invariants.{IsWorld}
-use Rattle.br_model.specs.Plane.Steps.{Step, world_step}
+use Rattle.br_model.specs.Theorems.Invariants.{IsWorld}
+use Rattle.br_model.specs.declared.steps.Step.{Step}
+use Rattle.br_model.specs.Plane.Steps.{world_step}
 use Rattle.br_model.specs.Plane.World.{World, Stepped}
 use Rattle.br_model.proofs.PlaneKept.{step-world}
 

@@ -6,11 +6,11 @@ use Rattle.std.specs.Ordering.{is_eq, ordering_reverse}
 use Rattle.std.specs.declared.cmp.Ordering.TheVariants.{Less}
 use Rattle.std.proofs.lemmas.Cmp.{tied_itself}
 use Rattle.br_model.specs.declared.change.Kind.{Kind}
-use Rattle.br_model.specs.Chip.{Chip, unhit}
-use Rattle.br_model.specs.Domains.{Domains}
-use Rattle.br_model.specs.Learning.{Address, Triple}
-use Rattle.br_model.specs.Maps.{pair_cmp, get}
-use Rattle.br_model.specs.Table.{Table, with_addresses}
+use Rattle.br_model.specs.Plane.Chip.{Chip, unhit}
+use Rattle.br_model.specs.Table.Domains.{Domains}
+use Rattle.br_model.specs.Control.Learning.{Address, Triple}
+use Rattle.br_model.specs.Data.Maps.{pair_cmp, get}
+use Rattle.br_model.specs.Table.Table.{Table, with_addresses}
 use Rattle.br_model.proofs.PairKeys.{pair_total}
 use Rattle.chip_tables.specs.declared.rows.AddressRow.{AddressRow}
 use Rattle.chip_tables.specs.Rows.{Rows, address_at}

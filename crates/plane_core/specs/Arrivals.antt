@@ -2,7 +2,7 @@
 use Rattle.std.specs.Prelude.{◌≡◌, ℕ, ◌+◌, ◌<◌, nat_lt, if◌then◌else◌, List, [], ◌∷◌, ◌++◌, length}
 use Rattle.br_model.specs.declared.transcript.Line.{Line}
 use Rattle.br_model.specs.declared.transcript.Line.TheVariants.{Overrun}
-use Rattle.br_model.specs.Limits.{most_waiting}
+use Rattle.br_model.specs.Table.Limits.{most_waiting}
 use Rattle.br_model.specs.Plane.World.{Waiting}
 use Rattle.plane_core.specs.declared.frames.Arrival.{Arrival}
 use Rattle.plane_core.specs.declared.frames.Arrival.TheVariants.{PassesBy, Waits, Overruns}

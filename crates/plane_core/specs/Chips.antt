@@ -3,10 +3,10 @@ use Rattle.std.specs.Prelude.{◌≡◌, ℕ, ◌≤◌, Bool, true, false, List
 use Rattle.std.specs.declared.option.Option.{Option}
 use Rattle.std.specs.declared.option.Option.TheVariants.{None, Some}
 use Rattle.br_model.specs.declared.change.Change.{Change}
-use Rattle.br_model.specs.Chip.{Chip, applies, chip_table}
-use Rattle.br_model.specs.Cut.{cut, deferred_count}
-use Rattle.br_model.specs.Domains.{Domains}
-use Rattle.br_model.specs.Table.{table}
+use Rattle.br_model.specs.Plane.Chip.{Chip, applies, chip_table}
+use Rattle.br_model.specs.Table.Cut.{cut, deferred_count}
+use Rattle.br_model.specs.Table.Domains.{Domains}
+use Rattle.br_model.specs.Table.Table.{table}
 use Rattle.chip_driver.specs.Drives.{Driven, Drives}
 use Rattle.learn_report.specs.Reports.{Reported}
 use Rattle.plane_core.specs.Places.{places}

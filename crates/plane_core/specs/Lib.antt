@@ -1,3 +1,4 @@
+pub mod Added
 pub mod Queued
 pub mod Arrivals
 pub mod Places

@@ -1,7 +1,7 @@
 -- Where the deferred changes of a history stand.
 use Rattle.std.specs.Prelude.{ℕ, ◌+◌, if◌then◌else◌, List, [], ◌∷◌}
 use Rattle.br_model.specs.declared.change.Change.{Change}
-use Rattle.br_model.specs.Change.{deferred}
+use Rattle.br_model.specs.Table.Change.{deferred}
 
 -- the places of the deferred changes, the first of which stands at place n
 abbrev pub places_from : ℕ → List Change → List ℕ

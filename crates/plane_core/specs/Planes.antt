@@ -1,7 +1,7 @@
 -- What contracts see of a plane: its world, and the board over which it stands.
 use Rattle.std.specs.Prelude.{◌≡◌, ◌≢◌, ℕ, true, List, IfSome, take, MatchBool, ◌≤◌, ◌<◌, ◌^◌}
 use Rattle.std.specs.Ordering.{nat_cmp}
-use Rattle.br_model.specs.Maps.{has}
+use Rattle.br_model.specs.Data.Maps.{has}
 use Rattle.std.specs.Option.{is_some}
 use Rattle.std.specs.declared.option.Option.{Option}
 use Rattle.std.specs.declared.option.Option.TheVariants.{None, Some}
@@ -13,12 +13,14 @@ use Rattle.br_model.specs.declared.frame.Head.{Head}
 use Rattle.br_model.specs.declared.steps.Event.{Event}
 use Rattle.br_model.specs.declared.steps.Event.TheVariants as events
 use Rattle.br_model.specs.declared.transcript.Line.{Line}
-use Rattle.br_model.specs.Cut.{deferred_at}
-use Rattle.br_model.specs.DomainPorts.{is_in_domain}
-use Rattle.br_model.specs.Domains.{chip}
-use Rattle.br_model.specs.Messages.{message}
+use Rattle.br_model.specs.Table.Cut.{deferred_at}
+use Rattle.br_model.specs.Table.DomainPorts.{is_in_domain}
+use Rattle.br_model.specs.Table.Domains.{chip}
+use Rattle.br_model.specs.Wire.Messages.{message}
 use Rattle.br_model.specs.Plane.Serving.{held_with}
-use Rattle.br_model.specs.Plane.Steps.{Step, Cmd, Now, Post, Turn, world_step}
+use Rattle.br_model.specs.declared.steps.Step.{Step}
+use Rattle.br_model.specs.declared.steps.Step.TheVariants.{Cmd, Now, Post, Turn}
+use Rattle.br_model.specs.Plane.Steps.{world_step}
 use Rattle.br_model.specs.Plane.World.{World, Waiting, Holding, table_at, table_of_chip}
 use Rattle.chip_pipeline.specs.Passed.{Passed, IsPass}
 use Rattle.table_publish.specs.Board.{Decides}
@@ -29,6 +31,8 @@ use Rattle.br_model.specs.declared.frame.Class.TheVariants.{Drop, Trap, Copy, Fo
 use Rattle.plane_core.specs.declared.frames.Arrival.{Arrival}
 use Rattle.plane_core.specs.declared.frames.Arrival.TheVariants.{PassesBy}
 use Rattle.plane_core.specs.Arrivals.{arrival}
+use Rattle.transcript_lines.specs.Rows.{Listed}
+use Rattle.plane_core.specs.Added.{Added}
 use Rattle.plane_core.specs.declared.held.Held.{Held}
 use Rattle.plane_core.specs.Shown.{shown_by, shown_of}
 use Rattle.plane_core.specs.declared.faults.PostFault.{PostFault}
@@ -94,11 +98,21 @@ ticket_of (Some u) = Some u.ticket
 abbrev pub IsPending : World → Type 0
 IsPending w = is_some (deferred_at w.history w.chip.count) ≡ true
 
-abbrev pub Turned : PlaneState → PlaneState → Option Update → Result (List Line) TurnFault → Type 0
-Turned old new update (Ok lines) = Steps old new Turn lines × (IsPending old.world → ticket_of update ≡ Some old.world.chip.count)
-Turned old new update (Err turns.NoMemory) = new ≡ old
-Turned old new update (Err (turns.OutOfTurn expected got)) =
+abbrev pub TurnsBy : PlaneState → PlaneState → ℕ → Option Update → List Line → Type 0
+TurnsBy old new dom update lines = Steps old new (Turn dom) lines × (IsPending old.world → ticket_of update ≡ Some old.world.chip.count)
+
+abbrev pub NotTurned : PlaneState → PlaneState → Option Update → TurnFault → Type 0
+NotTurned old new update turns.NoMemory = new ≡ old
+NotTurned old new update (turns.OutOfTurn expected got) =
     (new ≡ old) × IsPending old.world × (ticket_of update ≢ Some old.world.chip.count) × (expected ≡ old.world.chip.count) × (got ≡ ticket_of update)
+
+abbrev pub Turned : PlaneState → PlaneState → ℕ → Option Update → Result Listed TurnFault → Type 0
+Turned old new dom update (Ok lines) = TurnsBy old new dom update lines.lines
+Turned old new dom update (Err why) = NotTurned old new update why
+
+abbrev pub TurnedTo : PlaneState → PlaneState → ℕ → Option Update → List Line → List Line → Result (Unit {0}) TurnFault → Type 0
+TurnedTo old new dom update before after (Ok done) = Added (TurnsBy old new dom update) before after
+TurnedTo old new dom update before after (Err why) = NotTurned old new update why × (after ≡ before)
 
 -- A post.
 
@@ -117,13 +131,23 @@ pub record IsBack (old new : PlaneState) (h given : Held) : Type 0 where
   pub same : new ≡ old
   pub back : given ≡ h
 
--- The first of the tests that answers: another frame is held under the id; its point isn't published yet.
-abbrev pub Posted : PlaneState → PlaneState → Held → Seen → Result (List Line) PostFault → Type 0
-Posted old new h seen (Ok lines) =
+abbrev pub Posts : PlaneState → PlaneState → Held → Seen → List Line → Type 0
+Posts old new h seen lines =
     Steps old new (Post h.id (Some seen.point)) lines × IfSome (held_with old.world h.id) (λ x. (shown_by h ≡ shown_of x) × (seen.point ≤ old.world.published))
-Posted old new h seen (Err (posts.NoMemory back)) = IsBack old new h back
-Posted old new h seen (Err (posts.Stranger back)) =
+
+-- The first of the tests that answers: another frame is held under the id; its point isn't published yet.
+abbrev pub NotPosted : PlaneState → PlaneState → Held → Seen → PostFault → Type 0
+NotPosted old new h seen (posts.NoMemory back) = IsBack old new h back
+NotPosted old new h seen (posts.Stranger back) =
     IsBack old new h back × ((x : Holding) × (held_with old.world h.id ≡ Some x) × (shown_by h ≢ shown_of x))
-Posted old new h seen (Err (posts.Ahead back point published)) =
+NotPosted old new h seen (posts.Ahead back point published) =
     IsBack old new h back × ((x : Holding) × IsCopy old.world h x) × (old.world.published < seen.point) × (point ≡ seen.point) × (published ≡ old.world.published)
-Posted old new h seen (Err (posts.Unpublished lines)) = ⊥
+NotPosted old new h seen (posts.Unpublished lines) = ⊥
+
+abbrev pub Posted : PlaneState → PlaneState → Held → Seen → Result Listed PostFault → Type 0
+Posted old new h seen (Ok lines) = Posts old new h seen lines.lines
+Posted old new h seen (Err why) = NotPosted old new h seen why
+
+abbrev pub PostedTo : PlaneState → PlaneState → Held → Seen → List Line → List Line → Result (Unit {0}) PostFault → Type 0
+PostedTo old new h seen before after (Ok done) = Added (Posts old new h seen) before after
+PostedTo old new h seen before after (Err why) = NotPosted old new h seen why × (after ≡ before)

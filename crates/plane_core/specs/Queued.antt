@@ -1,7 +1,7 @@
 -- Frames on their way to software: those that wait, those that it holds, and the id of the next one.
 use Rattle.std.specs.Prelude.{◌≡◌, ℕ, ◌+◌, ◌≤◌, nat_lt, Bool, true, ◌&&◌, List, [], ◌∷◌, ◌++◌, length, map}
 use Rattle.std.specs.List.{list_all}
-use Rattle.br_model.specs.Limits.{most_waiting}
+use Rattle.br_model.specs.Table.Limits.{most_waiting}
 use Rattle.br_model.specs.Plane.World.{Waiting, Holding}
 
 pub record Queued : Type 0 where

@@ -5,7 +5,7 @@ use Rattle.std.specs.declared.option.Option.TheVariants.{None, Some}
 use Rattle.br_model.specs.declared.frame.Head.{Head}
 use Rattle.br_model.specs.declared.transcript.Line.{Line}
 use Rattle.br_model.specs.declared.transcript.Line.TheVariants.{Tx}
-use Rattle.br_model.specs.Frames.{dressed}
+use Rattle.br_model.specs.Wire.Frames.{dressed}
 use Rattle.port_sets.specs.Numbers.{has_number}
 use Rattle.plane_core.specs.declared.sending.Egress.{Egress}
 

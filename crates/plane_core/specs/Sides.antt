@@ -9,12 +9,12 @@ use Rattle.br_model.specs.declared.change.Change.{Change}
 use Rattle.br_model.specs.declared.steps.Refusal.{Refusal}
 use Rattle.br_model.specs.declared.transcript.Line.{Line}
 use Rattle.br_model.specs.declared.transcript.Line.TheVariants as lines
-use Rattle.br_model.specs.Chip.{Chip, applies, chip_table, first_chip}
-use Rattle.br_model.specs.Control.{Control, first_control}
+use Rattle.br_model.specs.Plane.Chip.{Chip, applies, chip_table, first_chip}
+use Rattle.br_model.specs.Control.Control.{Control, first_control}
 use Rattle.br_model.specs.Plane.World.{World, Stepped, control_lines}
-use Rattle.br_model.specs.Reaction.{Reaction}
-use Rattle.br_model.specs.Setup.{Setup}
-use Rattle.br_model.specs.Table.{Table, table}
+use Rattle.br_model.specs.Control.Reaction.{Reaction}
+use Rattle.br_model.specs.Table.Setup.{Setup}
+use Rattle.br_model.specs.Table.Table.{Table, table}
 use Rattle.bridge_core.specs.declared.faults.EventFault.{EventFault}
 use Rattle.bridge_core.specs.declared.faults.EventFault.TheVariants.{Refused, NoMemory}
 use Rattle.bridge_core.specs.Kept.{Controlled}
@@ -71,13 +71,13 @@ abbrev pub soft_side : SidesState → Table
 soft_side s = table s.published.changes
 
 -- The changes of the reaction were made, and are so many, the chip keeps this, and the lines of the messages were added; or
--- nothing changed. After want of memory the lines are any.
+-- nothing changed.
 abbrev pub Reacted : SidesState → SidesState → Chip → List Line → List Line → Result ℕ EventFault → Result Reaction Refusal → Type 0
 Reacted old new kept before after (Ok changes) answer =
     (r : Reaction) × (answer ≡ Ok r) × (changes ≡ length r.changes) × (new ≡ record old { history = old.history ++ r.changes; control = r.control; chip = kept })
     × (after ≡ before ++ control_lines old.setup.own r.messages)
 Reacted old new kept before after (Err (Refused why)) answer = (answer ≡ Err why) × (new ≡ old) × (after ≡ before)
-Reacted old new kept before after (Err NoMemory) answer = new ≡ old
+Reacted old new kept before after (Err NoMemory) answer = (new ≡ old) × (after ≡ before)
 
 -- the last line of a step in which an event came to so many changes, or was refused
 abbrev pub Lasts : ℕ → Result ℕ EventFault → Result Line AllocError → Type 0

@@ -2,10 +2,10 @@
 use Rattle.std.specs.Prelude.{Bool, not, ◌&&◌, if◌then◌else◌, List}
 use Rattle.std.specs.declared.option.Option.{Option}
 use Rattle.std.specs.declared.option.Option.TheVariants.{None, Some}
-use Rattle.br_model.specs.DomainPorts.{is_in_domain}
-use Rattle.br_model.specs.Domains.{Domains, chip}
-use Rattle.br_model.specs.Learning.{Address, Triple, is_extern}
-use Rattle.br_model.specs.Maps.{pair_cmp, has}
+use Rattle.br_model.specs.Table.DomainPorts.{is_in_domain}
+use Rattle.br_model.specs.Table.Domains.{Domains, chip}
+use Rattle.br_model.specs.Control.Learning.{Address, Triple, is_extern}
+use Rattle.br_model.specs.Data.Maps.{pair_cmp, has}
 use Rattle.chip_tables.specs.declared.rows.AddressRow.{AddressRow}
 
 -- whether a chip learned the row at one of its own ports and no frame hit it

@@ -1,11 +1,11 @@
 //! A chip that follows the history of a bridge.
-ghost use Rattle.std.specs.Prelude.{◌≡◌, ◌≤◌, ℕ, [], IfOk, OnOk, OnErr, false, length, take, drop, slice_get, if◌then◌else◌};
-ghost use Rattle.br_model.specs.Change.{deferred, updates};
-ghost use Rattle.br_model.specs.Chip.{Chip as ChipValue, first_chip, hit_by, offered, offers, hits_entry, unhit};
-ghost use Rattle.br_model.specs.Cut.{cut, deferred_at, deferred_count};
-ghost use Rattle.br_model.specs.Domains.{Domains as DomainsValue, chip};
-ghost use Rattle.br_model.specs.Limits.{AreWithin};
-ghost use Rattle.br_model.specs.Table.{Table, apply, table};
+ghost use Rattle.std.specs.Prelude.{◌≡◌, ◌≤◌, ◌-◌, ℕ, [], IfOk, OnOk, OnErr, false, length, take, drop, slice_get, if◌then◌else◌};
+ghost use Rattle.br_model.specs.Table.Change.{deferred, updates};
+ghost use Rattle.br_model.specs.Plane.Chip.{Chip as ChipValue, first_chip, hit_by, offered, offers, hits_entry, unhit};
+ghost use Rattle.br_model.specs.Table.Cut.{cut, deferred_at, deferred_count};
+ghost use Rattle.br_model.specs.Table.Domains.{Domains as DomainsValue, chip};
+ghost use Rattle.br_model.specs.Table.Limits.{AreWithin};
+ghost use Rattle.br_model.specs.Table.Table.{Table, apply, table};
 ghost use Rattle.chip_driver.specs.Drives.{Drives, IsTaken};
 ghost use Rattle.plane_core.specs.Places.{places};
 ghost use Rattle.plane_core.specs.Chips.{chip_of, IsChip, IsCut, Turns};
@@ -54,7 +54,8 @@ pub(crate) fn dom() -> Dom
 /// Tells the driver of a change, unless it is a deferred one.
 fn tell(driver: &mut Driver, change: &Change)
     requires { deferred change.now ≡ false → IsTaken driver.old change.now }
-    ensures { (domains : DomainsValue) (t : Table) → Drives domains driver.old t → Drives domains driver.new (if deferred change.now then t else apply t change.now) }
+    ensures { (domains : DomainsValue) (t : Table) → Drives domains driver.old t
+        → Drives domains driver.new (if deferred change.now then t else apply t change.now) }
 {
     deliver(driver, &notice_of(change));
 }
@@ -64,7 +65,8 @@ fn tell_from(driver: &mut Driver, history: &[Change], from: usize)
     requires from { from ≤ length history.now }
     requires history { AreWithin history.now }
     requires stands { IsCut (take from history.now) driver.old }
-    ensures { (domains : DomainsValue) (k : ℕ) → k ≤ deferred_count (take from history.now) → Drives domains driver.old (table (cut (take from history.now) k)) → Drives domains driver.new (table (cut history.now k)) }
+    ensures { (domains : DomainsValue) (k : ℕ) → k ≤ deferred_count (take from history.now)
+        → Drives domains driver.old (table (cut (take from history.now) k)) → Drives domains driver.new (table (cut history.now k)) }
 {
     for place in from..history.len() {
         tell(driver, &history[place]);
@@ -149,6 +151,14 @@ impl Chip {
         self.count
     }
 
+    /// How many deferred changes of the history that it follows it hasn't applied.
+    pub fn pending(&self) -> u32
+        requires { self.now.chip.count ≤ length self.now.places }
+        ensures { result ≡ length self.now.places - self.now.chip.count }
+    {
+        self.updates.len() as u32 - self.count
+    }
+
     /// Follows the changes that the history got behind its first `from` ones: the driver is told of the synchronous ones, and
     /// the deferred ones wait.
     pub fn follow(&mut self, history: &[Change], from: usize)
@@ -218,7 +228,8 @@ impl Chip {
 
     /// The stations that it learned at its own ports and that no frame hit, ascending by VLAN and address.
     pub fn unhit(&self, alloc: Global) -> Result<Triples, NoMemory>
-        ensures { IfOk result (λ stations. (domains : DomainsValue) (t : Table) → Drives domains self.now.driver t → stations ≡ unhit domains t self.now.chip) }
+        ensures { IfOk result (λ stations. (domains : DomainsValue) (t : Table) → Drives domains self.now.driver t
+            → stations ≡ unhit domains t self.now.chip) }
     {
         sweep::unhit(alloc, self.driver.tables(), &self.reports)
     }

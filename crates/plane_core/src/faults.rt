@@ -3,8 +3,8 @@ ghost use Rattle.std.specs.Prelude.{◌≡◌};
 ghost use Rattle.plane_core.specs.declared.faults.TurnFault.TheVariants.{NoMemory as no_memory};
 
 use crate::held::Held;
-use br_model::transcript::Lines;
 use std::alloc::AllocError;
+use transcript_lines::Lines;
 
 /// Why a turn wasn't taken.
 #[derive(Clone, Copy, PartialEq, Eq, Debug)]

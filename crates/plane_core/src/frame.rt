@@ -1,7 +1,7 @@
 //! Frames that wait for software, or that it holds.
 ghost use Rattle.std.specs.Prelude.{◌≡◌, ◌↔◌, IsTrue, Ok};
-ghost use Rattle.br_model.specs.Frames.{frame as frame_of};
-ghost use Rattle.br_model.specs.Messages.{message as message_of};
+ghost use Rattle.br_model.specs.Wire.Frames.{frame as frame_of};
+ghost use Rattle.br_model.specs.Wire.Messages.{message as message_of};
 ghost use Rattle.hwdom_marks.specs.Marks.{domain_marked};
 ghost use Rattle.plane_core.specs.Shown.{shown_by, shown_of};
 
@@ -25,8 +25,8 @@ pub struct Frame {
 
 impl Model for Frame {
     ghost use Rattle.std.specs.Prelude.{◌≡◌, Ok};
-    ghost use Rattle.br_model.specs.Frames.{frame as frame_of};
-    ghost use Rattle.br_model.specs.Messages.{message as message_of};
+    ghost use Rattle.br_model.specs.Wire.Frames.{frame as frame_of};
+    ghost use Rattle.br_model.specs.Wire.Messages.{message as message_of};
     ghost use Rattle.br_model.specs.Plane.World.{Waiting};
     ghost use Rattle.hwdom_marks.specs.Marks.{domain_marked};
 
@@ -38,6 +38,7 @@ impl Model for Frame {
 }
 
 impl Frame {
+    /// The frame whose header and message were read already. `id` is its number among those that entered.
     pub fn of(
         id: u32,
         port: Port,
@@ -93,6 +94,7 @@ impl Frame {
         &self.message
     }
 
+    /// The domain whose chip has sent the frame to its own ports already, if one has.
     pub fn mark(&self) -> Option<Mark>
         ensures { domain_marked result ≡ self.now.mark }
     {
@@ -116,6 +118,7 @@ impl Model for Holding {
 }
 
 impl Holding {
+    /// `floor` is how many changes are published when the frame is held.
     pub fn of(frame: Frame, floor: u32) -> Holding
         ensures { result ≡ record { waiting = frame; floor = floor } }
     {

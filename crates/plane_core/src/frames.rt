@@ -1,10 +1,10 @@
 //! The frames on their way to software.
-ghost use Rattle.std.specs.Prelude.{◌≡◌, ◌==◌, ◌+◌, ◌<◌, ◌^◌, ◌++◌, ◌∷◌, [], not, nat_lt, length, drop, slice_get, Option, Some, None, Ok, IfOk, OnOk, OnErr};
+ghost use Rattle.std.specs.Prelude.{◌≡◌, ◌==◌, ◌+◌, ◌<◌, ◌≤◌, ◌^◌, ◌++◌, ◌∷◌, [], not, nat_lt, length, drop, slice_get, Option, Some, None, Ok, IfOk, OnOk, OnErr};
 ghost use Rattle.std.specs.List.{filter, find};
 ghost use Rattle.std.specs.Option.{option_copied};
-ghost use Rattle.br_model.specs.Limits.{most_waiting};
-ghost use Rattle.br_model.specs.Frames.{frame as frame_of};
-ghost use Rattle.br_model.specs.Messages.{message as message_of};
+ghost use Rattle.br_model.specs.Table.Limits.{most_waiting};
+ghost use Rattle.br_model.specs.Wire.Frames.{frame as frame_of};
+ghost use Rattle.br_model.specs.Wire.Messages.{message as message_of};
 ghost use Rattle.hwdom_marks.specs.Marks.{domain_marked};
 ghost use Rattle.plane_core.specs.Queued.{Queued, holds_oldest};
 ghost use Rattle.plane_core.specs.Arrivals.{arrival, arrival_lines, settled, IsArrival};
@@ -13,15 +13,14 @@ use crate::NoMemory;
 use crate::frame::{Frame, Holding};
 use br_model::bytes::Bytes;
 use br_model::frame::{Head, McastMsg};
+use br_model::limits::MOST_WAITING;
 use br_model::numbers::Port;
 use br_model::transcript::Line;
 use hwdom_marks::Mark;
 use std::alloc::{AllocError, Global};
 use std::collections::{BTreeMap, VecDeque};
 use std::marker::Model;
-
-/// How many frames wait or are held at most.
-pub const MOST_WAITING: usize = 4096;
+use transcript_lines::Lines;
 
 /// What becomes of a frame that enters.
 #[derive(Drop)]
@@ -34,16 +33,16 @@ pub(crate) enum Arrival {
 }
 
 impl Arrival {
-    /// Adds the line that says of the frame with this id that it doesn't wait for want of room, if so.
-    pub(crate) fn tell(&self, id: u32, lines: &mut Vec<Line>) -> Result<(), NoMemory>
-        ensures { OnOk result (lines.new.items ≡ lines.old.items ++ arrival_lines id self.now) }
+    /// Adds the line that says of the frame with this id that it doesn't wait for want of room, if so. There is room for the line.
+    pub(crate) fn tell(&self, id: u32, lines: &mut Lines)
+        requires { 1 ≤ lines.old.rows }
+        ensures { lines.new.lines ≡ lines.old.lines ++ arrival_lines id self.now }
     {
         match self {
-            Arrival::Overruns => lines.push(Line::Overrun { id })?,
+            Arrival::Overruns => lines.push_reserved(Line::Overrun { id }),
             Arrival::PassesBy => {}
             Arrival::Waits(_) => {}
         }
-        Ok(())
     }
 }
 
@@ -60,13 +59,15 @@ pub struct Frames {
 impl Model for Frames {
     ghost use Rattle.std.specs.Prelude.{◌≡◌, ◌≤◌, map};
     ghost use Rattle.std.specs.VecDeque.{deque_capacity};
+    ghost use Rattle.br_model.specs.Table.Limits.{most_waiting};
     ghost use Rattle.plane_core.specs.Queued.{Queued, IsQueued, IsKeyed, held_in};
 
     ghost Value = { Queued };
 
     ghost view = { λ f. record { waiting = f.waiting.items; held = held_in f.held.entries; next = f.next } };
 
-    ghost invariant = { λ f. (4096 ≤ deque_capacity f.waiting) × IsKeyed f.held.entries × IsQueued (record { waiting = f.waiting.items; held = held_in f.held.entries; next = f.next }) };
+    ghost invariant = { λ f. (most_waiting ≤ deque_capacity f.waiting) × IsKeyed f.held.entries
+        × IsQueued (record { waiting = f.waiting.items; held = held_in f.held.entries; next = f.next }) };
 }
 
 impl Frames {
@@ -121,7 +122,13 @@ impl Frames {
     ) -> Result<Arrival, NoMemory>
         requires frame { frame_of bytes.now ≡ Ok head.now }
         requires message { message.now ≡ message_of bytes.now head.now }
-        ensures { IfOk result (λ a. a ≡ arrival self.now (record { id = self.now.next; port = port; bytes = bytes.now; head = head.now; mark = domain_marked mark })) }
+        ensures { IfOk result (λ a. a ≡ arrival self.now (record {
+          id = self.now.next;
+          port = port;
+          bytes = bytes.now;
+          head = head.now;
+          mark = domain_marked mark;
+        })) }
     {
         if self.is_full() {
             return Ok(Arrival::Overruns);

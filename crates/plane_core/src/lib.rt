@@ -12,9 +12,7 @@ mod sides;
 mod sweep;
 mod updates;
 
+pub use br_model::NoMemory;
 pub use faults::{PostFault, TurnFault};
 pub use held::Held;
 pub use plane::{Entered, Plane};
-
-/// Want of memory.
-pub type NoMemory = std::alloc::AllocError;

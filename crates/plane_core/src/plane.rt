@@ -1,21 +1,23 @@
 //! The kernel's side of a bridge and its chip together: each call is one step of the world.
-ghost use Rattle.std.specs.Prelude.{◌≡◌, ◌+◌, ◌<◌, ◌≤◌, ◌^◌, [], ◌∷◌, length, slice_get, true, false, None, Ok, IfOk, IfSome, IsSome, OnErr};
+ghost use Rattle.std.specs.Prelude.{◌≡◌, ℕ, List, ◌+◌, ◌<◌, ◌≤◌, ◌^◌, [], ◌∷◌, length, slice_get, true, false, None, Ok, IfOk, IfSome, IsSome, OnErr, OnOk};
 ghost use Rattle.std.specs.Option.{option_map};
 ghost use Rattle.br_model.specs.declared.transcript.Line.TheVariants as line;
-ghost use Rattle.br_model.specs.DomainPorts.{is_in_domain};
+ghost use Rattle.br_model.specs.Table.DomainPorts.{is_in_domain};
 ghost use Rattle.chip_pipeline.specs.Passed.{IsPass};
 ghost use Rattle.table_publish.specs.declared.seat.Seen.{Seen as SeenValue};
-ghost use Rattle.br_model.specs.Change.{updates};
-ghost use Rattle.br_model.specs.Domains.{chip};
-ghost use Rattle.br_model.specs.Frames.{frame as frame_of};
-ghost use Rattle.br_model.specs.Messages.{message as message_of};
-ghost use Rattle.br_model.specs.Plane.Invariants.{IsWorld};
+ghost use Rattle.br_model.specs.Table.Change.{updates};
+ghost use Rattle.br_model.specs.Table.Domains.{chip};
+ghost use Rattle.br_model.specs.Wire.Frames.{frame as frame_of};
+ghost use Rattle.br_model.specs.Wire.Messages.{message as message_of};
+ghost use Rattle.br_model.specs.Theorems.Invariants.{IsWorld};
 ghost use Rattle.br_model.specs.Plane.Runs.{pending};
 ghost use Rattle.br_model.specs.Plane.Serving.{held_with};
-ghost use Rattle.br_model.specs.Plane.Steps.{Rx, Serve, Hold, Publish, Report, Sweep, world_step};
+ghost use Rattle.br_model.specs.declared.steps.Step.TheVariants.{Rx, Serve, Hold, Publish, Report, Sweep};
+ghost use Rattle.br_model.specs.Plane.Steps.{world_step};
 ghost use Rattle.br_model.specs.Plane.World.{Holding as HoldingOf, first_world, table_of_chip};
 ghost use Rattle.table_publish.specs.Object.{Begins, IsPublished, first_object};
-ghost use Rattle.plane_core.specs.Planes.{Accepts, IsCopy, IsDecidedBy, IsDecision, IsNamed, Posted, Steps, Turned, arrival_by, published_in, ticket_of};
+ghost use Rattle.plane_core.specs.Planes.{Accepts, IsCopy, IsDecidedBy, IsDecision, IsNamed, Posted, PostedTo, Steps, Turned, TurnedTo, arrival_by, published_in, ticket_of};
+ghost use Rattle.plane_core.specs.Added.{Added};
 ghost use Rattle.plane_core.specs.Seats.{IsTold, Looks};
 ghost use Rattle.plane_core.specs.Shown.{opened, shown_by};
 
@@ -24,14 +26,14 @@ use crate::chip::dom;
 use crate::faults::{PostFault, TurnFault};
 use crate::frames::{Arrival, Frames};
 use crate::held::Held;
-use crate::sending::{Egress, send};
+use crate::sending::{Egress, make_room, send};
 use crate::sides::Sides;
 use br_model::change::{Change, Update};
 use br_model::domains::Domains;
 use br_model::frame::{Class, Head, McastMsg};
 use br_model::numbers::{Dom, Mac, Port};
 use br_model::steps::{Event, Refusal};
-use br_model::transcript::{Line, Lines};
+use br_model::transcript::Line;
 use chip_pipeline::Pass;
 use ether_frames::parse;
 use hwdom_marks::Mark;
@@ -39,6 +41,7 @@ use igmp_mld::classify;
 use std::alloc::{AllocError, Global};
 use std::marker::Model;
 use table_publish::{Board, Seat, Seen};
+use transcript_lines::Lines;
 
 /// A bridge with its chip and its published tables, the frames on their way to software, and how many steps there were. Each step is
 /// counted, a refused one too; where a call answers a fault, there was no step, and the plane is as before.
@@ -50,7 +53,7 @@ pub struct Plane {
 }
 
 impl Model for Plane {
-    ghost use Rattle.br_model.specs.Plane.Invariants.{IsWorld};
+    ghost use Rattle.br_model.specs.Theorems.Invariants.{IsWorld};
     ghost use Rattle.plane_core.specs.Planes.{PlaneState};
     ghost use Rattle.plane_core.specs.Sides.{world_of};
 
@@ -73,20 +76,6 @@ fn next(number: u32) -> Result<u32, NoMemory>
     ensures { IfOk result (λ n. n ≡ number + 1) }
 {
     number.checked_add(1).ok_or(AllocError)
-}
-
-fn one_line(alloc: Global, line: Line) -> Result<Lines, NoMemory>
-    ensures { IfOk result (λ lines. lines ≡ line ∷ []) }
-{
-    let mut lines = Lines::new(alloc);
-    lines.push(line)?;
-    Ok(lines)
-}
-
-fn refused(alloc: Global, step: u32, refusal: Refusal) -> Result<Lines, NoMemory>
-    ensures { IfOk result (λ lines. lines ≡ line.Refused step refusal ∷ []) }
-{
-    one_line(alloc, Line::Refused { step, refusal })
 }
 
 fn ticket_of(update: &Option<Update>) -> Option<u32>
@@ -115,22 +104,45 @@ impl Plane {
 
     /// A frame of these bytes enters at the port. At a port of the chip the chip decides it, by its rows alone.
     pub fn enter(&mut self, alloc: Global, p: Port, b: &[u8]) -> Result<Entered, NoMemory>
-        ensures step { IfOk result (λ e. Steps self.old self.new (Rx p b.now) e.lines) }
+        ensures step { IfOk result (λ e. Steps self.old self.new (Rx p b.now) e.lines.lines) }
         ensures pass { IfOk result (λ e. IsDecidedBy self.old.world p b.now (frame_of b.now) e.pass) }
         ensures err { OnErr result (self.new ≡ self.old) }
+    {
+        let mut lines = Lines::new(alloc);
+        let pass = self.enter_to(alloc, p, b, &mut lines)?;
+        Ok(Entered { lines, pass })
+    }
+
+    /// As `enter`, with the lines of the step behind these.
+    pub fn enter_to(
+        &mut self,
+        alloc: Global,
+        p: Port,
+        b: &[u8],
+        lines: &mut Lines,
+    ) -> Result<Option<Pass>, NoMemory>
+        ensures step { OnOk result (Added (Steps self.old self.new (Rx p b.now)) lines.old.lines lines.new.lines) }
+        ensures pass { IfOk result (IsDecidedBy self.old.world p b.now (frame_of b.now)) }
+        ensures err { OnErr result (self.new ≡ self.old) }
+        ensures lines { OnErr result (lines.new.lines ≡ lines.old.lines) }
     {
         let step = next(self.steps)?;
         let id = self.frames.next_id();
         next(id)?;
         match parse(b) {
             Err(why) => {
-                let lines = one_line(alloc, Line::Unread { id, why })?;
+                lines.push(Line::Unread { id, why })?;
                 self.frames.settle(Arrival::PassesBy);
                 self.steps = step;
-                Ok(Entered { lines, pass: None })
+                Ok(None)
             }
-            Ok(head) if self.sides.is_on_chip(p) => self.enter_chip(alloc, step, p, b, &head),
-            Ok(head) => self.enter_software(alloc, step, p, b, &head),
+            Ok(head) if self.sides.is_on_chip(p) => {
+                Ok(Some(self.enter_chip(alloc, step, p, b, &head, lines)?))
+            }
+            Ok(head) => {
+                self.enter_software(alloc, step, p, b, &head, lines)?;
+                Ok(None)
+            }
         }
     }
 
@@ -142,26 +154,24 @@ impl Plane {
         p: Port,
         b: &[u8],
         head: &Head,
-    ) -> Result<Entered, NoMemory>
+        lines: &mut Lines,
+    ) -> Result<(), NoMemory>
         requires step { step ≡ self.old.world.steps + 1 }
         requires last { self.old.world.next + 1 < 2 ^ 32 }
         requires frame { frame_of b.now ≡ Ok head.now }
         requires off_chip { is_in_domain self.old.world.setup.domains chip p ≡ false }
-        ensures step { IfOk result (λ e. Steps self.old self.new (Rx p b.now) e.lines) }
-        ensures pass { IfOk result (λ e. e.pass ≡ None) }
+        ensures step { OnOk result (Added (Steps self.old self.new (Rx p b.now)) lines.old.lines lines.new.lines) }
         ensures err { OnErr result (self.new ≡ self.old) }
+        ensures lines { OnErr result (lines.new.lines ≡ lines.old.lines) }
     {
         let id = self.frames.next_id();
         let message = classify(b, head);
         let arrival = self.frames.arrive(alloc, p, b, head, &message, None)?;
-        let mut lines = Vec::new(alloc);
-        arrival.tell(id, &mut lines)?;
+        lines.reserve(1, 0)?;
+        arrival.tell(id, lines);
         self.frames.settle(arrival);
         self.steps = step;
-        Ok(Entered {
-            lines: Lines::of(lines),
-            pass: None,
-        })
+        Ok(())
     }
 
     /// What becomes of a frame that the chip has decided so.
@@ -197,32 +207,30 @@ impl Plane {
         p: Port,
         b: &[u8],
         head: &Head,
-    ) -> Result<Entered, NoMemory>
+        lines: &mut Lines,
+    ) -> Result<Pass, NoMemory>
         requires step { step ≡ self.old.world.steps + 1 }
         requires last { self.old.world.next + 1 < 2 ^ 32 }
         requires frame { frame_of b.now ≡ Ok head.now }
         requires on_chip { is_in_domain self.old.world.setup.domains chip p ≡ true }
-        ensures step { IfOk result (λ e. Steps self.old self.new (Rx p b.now) e.lines) }
-        ensures pass { IfOk result (λ e. IfSome e.pass (IsPass self.old.world.setup.domains (table_of_chip self.old.world) p head.now (message_of b.now head.now))) }
-        ensures some { IfOk result (λ e. IsSome e.pass) }
+        ensures step { OnOk result (Added (Steps self.old self.new (Rx p b.now)) lines.old.lines lines.new.lines) }
+        ensures pass { IfOk result (IsPass self.old.world.setup.domains (table_of_chip self.old.world) p head.now (message_of b.now head.now)) }
         ensures err { OnErr result (self.new ≡ self.old) }
+        ensures lines { OnErr result (lines.new.lines ≡ lines.old.lines) }
     {
         let id = self.frames.next_id();
         let message = classify(b, head);
         let pass = self.sides.pass(p, head, &message);
         let arrival = self.arrival(alloc, pass.class(), p, b, head, &message)?;
-        let mut lines = Vec::new(alloc);
-        lines.push(self.chip_line(id, pass.class()))?;
-        let out = Egress::of_pass(&pass);
-        send(alloc, id, b, head, &out, &mut lines)?;
-        arrival.tell(id, &mut lines)?;
+        let decision = self.chip_line(id, pass.class());
+        make_room(lines, b)?;
         self.sides.note(p, &pass)?;
+        lines.push_reserved(decision);
+        send(id, b, head, &Egress::of_pass(&pass), lines);
+        arrival.tell(id, lines);
         self.frames.settle(arrival);
         self.steps = step;
-        Ok(Entered {
-            lines: Lines::of(lines),
-            pass: Some(pass),
-        })
+        Ok(pass)
     }
 
     fn chip_line(&self, id: u32, class: Class) -> Line
@@ -239,34 +247,58 @@ impl Plane {
     /// An event that a scenario names, a command or a moment before 2^53.
     pub fn accept(&mut self, alloc: Global, e: &Event) -> Result<Lines, NoMemory>
         requires { IsNamed e.now }
-        ensures ok { IfOk result (λ lines. Accepts self.old self.new e.now lines) }
+        ensures ok { IfOk result (λ lines. Accepts self.old self.new e.now lines.lines) }
         ensures err { OnErr result (self.new ≡ self.old) }
     {
-        let step = next(self.steps)?;
-        let lines = self.sides.answer(alloc, step, e)?;
-        self.steps = step;
+        let mut lines = Lines::new(alloc);
+        self.accept_to(alloc, e, &mut lines)?;
         Ok(lines)
+    }
+
+    /// As `accept`, with the lines of the step behind these.
+    pub fn accept_to(&mut self, alloc: Global, e: &Event, lines: &mut Lines) -> Result<(), NoMemory>
+        requires { IsNamed e.now }
+        ensures ok { OnOk result (Added (Accepts self.old self.new e.now) lines.old.lines lines.new.lines) }
+        ensures err { OnErr result (self.new ≡ self.old) }
+        ensures lines { OnErr result (lines.new.lines ≡ lines.old.lines) }
+    {
+        let step = next(self.steps)?;
+        self.sides.answer(alloc, step, e, lines)?;
+        self.steps = step;
+        Ok(())
     }
 
     /// The chip applies the next deferred change of the history, which the update names by its ticket.
     pub fn turn(&mut self, alloc: Global, d: Dom, u: Option<Update>) -> Result<Lines, TurnFault>
         requires { d ≡ chip }
-        ensures { Turned self.old self.new u result }
+        ensures { Turned self.old self.new d u result }
+    {
+        let mut lines = Lines::new(alloc);
+        self.turn_to(d, u, &mut lines)?;
+        Ok(lines)
+    }
+
+    /// As `turn`, with the lines of the step behind these.
+    pub fn turn_to(&mut self, d: Dom, u: Option<Update>, lines: &mut Lines) -> Result<(), TurnFault>
+        requires { d ≡ chip }
+        ensures { TurnedTo self.old self.new d u lines.old.lines lines.new.lines result }
     {
         let step = next(self.steps)?;
         let Some(expected) = self.sides.next_ticket() else {
-            let lines = refused(alloc, step, Refusal::NothingPending)?;
+            let refusal = Refusal::NothingPending;
+            lines.push(Line::Refused { step, refusal })?;
             self.steps = step;
-            return Ok(lines);
+            return Ok(());
         };
         let got = ticket_of(&u);
         if got != Some(expected) {
             return Err(TurnFault::OutOfTurn { expected, got });
         }
-        let lines = one_line(alloc, Line::Done { step, changes: 0 })?;
+        lines.reserve(1, 0)?;
         self.sides.turn()?;
+        lines.push_reserved(Line::Done { step, changes: 0 });
         self.steps = step;
-        Ok(lines)
+        Ok(())
     }
 
     /// The oldest frame that waits is held, with what is published now as its floor, and the answer is a copy of it. `None` exactly
@@ -294,11 +326,28 @@ impl Plane {
         requires decision { (x : HoldingOf) → IsCopy self.old.world h x → s.point ≤ self.old.world.published → IsDecision self.old.world x s }
         ensures { Posted self.old self.new h s result }
     {
+        let mut lines = Lines::new(alloc);
+        self.post_to(alloc, h, s, &mut lines)?;
+        Ok(lines)
+    }
+
+    /// As `post`, with the lines of the step behind these.
+    pub fn post_to(
+        &mut self,
+        alloc: Global,
+        h: Held,
+        s: Seen,
+        lines: &mut Lines,
+    ) -> Result<(), PostFault>
+        requires floor { h.floor ≤ s.point }
+        requires decision { (x : HoldingOf) → IsCopy self.old.world h x → s.point ≤ self.old.world.published → IsDecision self.old.world x s }
+        ensures { PostedTo self.old self.new h s lines.old.lines lines.new.lines result }
+    {
         let Ok(step) = next(self.steps) else {
             return Err(PostFault::NoMemory(h));
         };
         let Some(holding) = self.frames.find(h.id) else {
-            return self.post_none(alloc, step, h);
+            return self.post_none(step, h, lines);
         };
         if !holding.is_shown_by(&h) {
             return Err(PostFault::Stranger(h));
@@ -313,98 +362,155 @@ impl Plane {
         }
         match self
             .sides
-            .post(alloc, step, holding.frame(), &s.verdict, s.point)
+            .post(alloc, step, holding.frame(), &s.verdict, s.point, lines)
         {
-            Ok(lines) => {
+            Ok(()) => {
                 let _holding = self.frames.release(h.id);
                 self.steps = step;
-                Ok(lines)
+                Ok(())
             }
             Err(_) => Err(PostFault::NoMemory(h)),
         }
     }
 
     /// No frame with this id is held.
-    fn post_none(&mut self, alloc: Global, step: u32, h: Held) -> Result<Lines, PostFault>
+    fn post_none(&mut self, step: u32, h: Held, lines: &mut Lines) -> Result<(), PostFault>
         requires step { step ≡ self.old.world.steps + 1 }
         requires none { held_with self.old.world h.id ≡ None }
-        ensures { (s : SeenValue) → Posted self.old self.new h s result }
+        ensures { (s : SeenValue) → PostedTo self.old self.new h s lines.old.lines lines.new.lines result }
     {
-        match refused(alloc, step, Refusal::NothingToPost) {
-            Ok(lines) => {
+        let refusal = Refusal::NothingToPost;
+        match lines.push(Line::Refused { step, refusal }) {
+            Ok(()) => {
                 self.steps = step;
-                Ok(lines)
+                Ok(())
             }
             Err(_) => Err(PostFault::NoMemory(h)),
         }
     }
 
     /// The oldest frame that waits is sent by what is published, of which the seat was told.
-    fn serve_told(&mut self, alloc: Global, s: &mut Seat) -> Result<Lines, NoMemory>
+    fn serve_told(&mut self, alloc: Global, s: &mut Seat, lines: &mut Lines) -> Result<(), NoMemory>
         requires board { s.old.board ≡ self.old.board }
         requires told { Begins s.old.object (published_in self.old.world) }
         requires published { IsPublished s.old.object }
-        ensures ok { IfOk result (λ lines. Steps self.old self.new Serve lines) }
+        ensures ok { OnOk result (Added (Steps self.old self.new Serve) lines.old.lines lines.new.lines) }
         ensures err { OnErr result (self.new ≡ self.old) }
+        ensures lines { OnErr result (lines.new.lines ≡ lines.old.lines) }
         ensures seat { Looks s.old s.new }
     {
         let step = next(self.steps)?;
         let Some(frame) = self.frames.oldest() else {
-            let lines = refused(alloc, step, Refusal::NothingWaiting)?;
+            let refusal = Refusal::NothingWaiting;
+            lines.push(Line::Refused { step, refusal })?;
             self.steps = step;
-            return Ok(lines);
+            return Ok(());
         };
-        let lines = self.sides.serve(alloc, step, s, frame)?;
+        self.sides.serve(alloc, step, s, frame, lines)?;
         let _frame = self.frames.serve();
         self.steps = step;
-        Ok(lines)
+        Ok(())
     }
 
     /// The oldest frame that waits is sent by what is published. The seat is told of that first, whatever the answer.
     pub fn serve(&mut self, alloc: Global, s: &mut Seat) -> Result<Lines, NoMemory>
         requires { s.old.board ≡ self.old.board }
-        ensures ok { IfOk result (λ lines. Steps self.old self.new Serve lines) }
+        ensures ok { IfOk result (λ lines. Steps self.old self.new Serve lines.lines) }
         ensures err { OnErr result (self.new ≡ self.old) }
         ensures seat { IsTold s.old s.new (published_in self.old.world) }
     {
+        let mut lines = Lines::new(alloc);
+        self.serve_to(alloc, s, &mut lines)?;
+        Ok(lines)
+    }
+
+    /// As `serve`, with the lines of the step behind these.
+    pub fn serve_to(
+        &mut self,
+        alloc: Global,
+        s: &mut Seat,
+        lines: &mut Lines,
+    ) -> Result<(), NoMemory>
+        requires { s.old.board ≡ self.old.board }
+        ensures ok { OnOk result (Added (Steps self.old self.new Serve) lines.old.lines lines.new.lines) }
+        ensures err { OnErr result (self.new ≡ self.old) }
+        ensures lines { OnErr result (lines.new.lines ≡ lines.old.lines) }
+        ensures seat { IsTold s.old s.new (published_in self.old.world) }
+    {
         self.tell(s);
-        self.serve_told(alloc, s)
+        self.serve_told(alloc, s, lines)
     }
 
     /// All accepted changes are published.
     pub fn publish(&mut self, alloc: Global) -> Result<Lines, NoMemory>
-        ensures ok { IfOk result (λ lines. Steps self.old self.new Publish lines) }
+        ensures ok { IfOk result (λ lines. Steps self.old self.new Publish lines.lines) }
         ensures err { OnErr result (self.new ≡ self.old) }
     {
-        let step = next(self.steps)?;
-        let lines = one_line(alloc, Line::Done { step, changes: 0 })?;
-        self.sides.publish(alloc)?;
-        self.steps = step;
+        let mut lines = Lines::new(alloc);
+        self.publish_to(alloc, &mut lines)?;
         Ok(lines)
+    }
+
+    /// As `publish`, with the lines of the step behind these.
+    pub fn publish_to(&mut self, alloc: Global, lines: &mut Lines) -> Result<(), NoMemory>
+        ensures ok { OnOk result (Added (Steps self.old self.new Publish) lines.old.lines lines.new.lines) }
+        ensures err { OnErr result (self.new ≡ self.old) }
+        ensures lines { OnErr result (lines.new.lines ≡ lines.old.lines) }
+    {
+        let step = next(self.steps)?;
+        lines.reserve(1, 0)?;
+        self.sides.publish(alloc)?;
+        lines.push_reserved(Line::Done { step, changes: 0 });
+        self.steps = step;
+        Ok(())
     }
 
     /// The bridge is told the chip's oldest report.
     pub fn report(&mut self, alloc: Global, d: Dom) -> Result<Lines, NoMemory>
         requires { d ≡ chip }
-        ensures ok { IfOk result (λ lines. Steps self.old self.new Report lines) }
+        ensures ok { IfOk result (λ lines. Steps self.old self.new (Report d) lines.lines) }
         ensures err { OnErr result (self.new ≡ self.old) }
     {
-        let step = next(self.steps)?;
-        let lines = self.sides.report(alloc, step)?;
-        self.steps = step;
+        let mut lines = Lines::new(alloc);
+        self.report_to(alloc, d, &mut lines)?;
         Ok(lines)
+    }
+
+    /// As `report`, with the lines of the step behind these.
+    pub fn report_to(&mut self, alloc: Global, d: Dom, lines: &mut Lines) -> Result<(), NoMemory>
+        requires { d ≡ chip }
+        ensures ok { OnOk result (Added (Steps self.old self.new (Report d)) lines.old.lines lines.new.lines) }
+        ensures err { OnErr result (self.new ≡ self.old) }
+        ensures lines { OnErr result (lines.new.lines ≡ lines.old.lines) }
+    {
+        let step = next(self.steps)?;
+        self.sides.report(alloc, step, lines)?;
+        self.steps = step;
+        Ok(())
     }
 
     /// The bridge forgets the stations that the chip no longer sees.
     pub fn sweep(&mut self, alloc: Global, d: Dom) -> Result<Lines, NoMemory>
         requires { d ≡ chip }
-        ensures ok { IfOk result (λ lines. Steps self.old self.new Sweep lines) }
+        ensures ok { IfOk result (λ lines. Steps self.old self.new (Sweep d) lines.lines) }
         ensures err { OnErr result (self.new ≡ self.old) }
     {
-        let step = next(self.steps)?;
-        let lines = self.sides.sweep(alloc, step)?;
-        self.steps = step;
+        let mut lines = Lines::new(alloc);
+        self.sweep_to(alloc, d, &mut lines)?;
         Ok(lines)
+    }
+
+    /// As `sweep`, with the lines of the step behind these.
+    pub fn sweep_to(&mut self, alloc: Global, d: Dom, lines: &mut Lines) -> Result<(), NoMemory>
+        requires { d ≡ chip }
+        ensures ok { OnOk result (Added (Steps self.old self.new (Sweep d)) lines.old.lines lines.new.lines) }
+        ensures err { OnErr result (self.new ≡ self.old) }
+        ensures lines { OnErr result (lines.new.lines ≡ lines.old.lines) }
+    {
+        let step = next(self.steps)?;
+        self.sides.sweep(alloc, step, lines)?;
+        self.steps = step;
+        Ok(())
     }
 
     /// Tells a seat what is published. It is no step.
@@ -483,6 +589,7 @@ impl Plane {
         ensures world { IsWorld self.now.world }
         ensures domains { self.now.board.domains ≡ self.now.world.setup.domains }
     {
+        // law: the board has the bridge's domains
         self.sides.stands();
     }
 }

@@ -1,28 +1,28 @@
 //! The lines of a frame that the chip or software sends.
-ghost use Rattle.std.specs.Prelude.{◌≡◌, ℕ, ◌<◌, ◌++◌, List, map, IfOk, OnOk, Ok};
-ghost use Rattle.br_model.specs.Domains.{Domains as DomainsValue};
-ghost use Rattle.br_model.specs.Frames.{frame as frame_of};
-ghost use Rattle.br_model.specs.Messages.{message};
+ghost use Rattle.std.specs.Prelude.{◌≡◌, ℕ, ◌+◌, ◌*◌, ◌≤◌, ◌++◌, List, length, OnOk, Ok};
+ghost use Rattle.br_model.specs.Table.Domains.{Domains as DomainsValue};
+ghost use Rattle.br_model.specs.Wire.Frames.{frame as frame_of};
+ghost use Rattle.br_model.specs.Wire.Messages.{message};
 ghost use Rattle.br_model.specs.Plane.World.{sent};
-ghost use Rattle.br_model.specs.Shares.{chip_out, soft_out};
-ghost use Rattle.br_model.specs.Table.{Table};
+ghost use Rattle.br_model.specs.Forward.Shares.{chip_out, soft_out};
+ghost use Rattle.br_model.specs.Table.Table.{Table};
 ghost use Rattle.br_model.specs.declared.frame.Head.{Head as HeadValue};
 ghost use Rattle.chip_pipeline.specs.Passed.{IsPass};
 ghost use Rattle.hwdom_marks.specs.Marks.{domain_marked};
-ghost use Rattle.plane_core.specs.Sent.{line_at, lines_of};
+ghost use Rattle.plane_core.specs.Sent.{lines_of};
 ghost use Rattle.table_publish.specs.Board.{Decides};
 
 use crate::NoMemory;
 use br_model::domains::Domains;
 use br_model::frame::Head;
-use br_model::numbers::{Port, Vid};
-use br_model::transcript::Line;
+use br_model::numbers::Vid;
 use chip_pipeline::Pass;
-use ether_frames::dress;
+use ether_frames::{parts, tag_bytes};
 use forward_rules::Verdict;
 use hwdom_marks::{Mark, remaining};
 use port_sets::Ports;
-use std::alloc::Global;
+use std::alloc::AllocError;
+use transcript_lines::Lines;
 
 /// By which ports a frame leaves: those of its VLAN, and those of them that it leaves without a tag.
 #[derive(Clone, Copy, Debug)]
@@ -35,7 +35,8 @@ pub(crate) struct Egress {
 impl Egress {
     /// That of the frame at the chip.
     pub(crate) fn of_pass(pass: &Pass) -> Egress
-        ensures { (domains : DomainsValue) (t : Table) (port : ℕ) (bytes : List ℕ) (head : HeadValue) → IsPass domains t port head (message bytes head) pass.now
+        ensures { (domains : DomainsValue) (t : Table) (port : ℕ) (bytes : List ℕ) (head : HeadValue)
+            → IsPass domains t port head (message bytes head) pass.now
             → (id : ℕ) → lines_of id bytes head result ≡ sent id (chip_out domains t port bytes head) }
     {
         Egress {
@@ -58,49 +59,34 @@ impl Egress {
     }
 }
 
-/// The line of the port of this number, which the frame leaves, with the VLAN's tag unless it is among the untagged ones.
-fn line_at(
-    alloc: Global,
-    id: u32,
-    bytes: &[u8],
-    head: &Head,
-    vid: Vid,
-    untagged: Ports,
-    number: u8,
-) -> Result<Line, NoMemory>
-    requires number { number < 64 }
-    requires frame { frame_of bytes.now ≡ Ok head.now }
-    ensures { IfOk result (λ line. line ≡ line_at untagged id bytes.now head.now vid number) }
+/// Takes the room for the lines of a step by which a frame of these bytes leaves: its two forms, and three rows, for its lines, the
+/// one before and the one behind them.
+pub(crate) fn make_room(lines: &mut Lines, bytes: &[u8]) -> Result<(), NoMemory>
+    ensures lines { lines.new.lines ≡ lines.old.lines }
+    ensures marked { lines.new.marked ≡ lines.old.marked }
+    ensures rows { OnOk result (3 ≤ lines.new.rows) }
+    ensures bytes { OnOk result (2 * length bytes.now + 4 ≤ lines.new.bytes) }
 {
-    let tag = if untagged.has(number) {
-        None
-    } else {
-        Some(vid)
-    };
-    let bytes = dress(alloc, bytes, head, tag)?;
-    match Port::new(number) {
-        Some(port) => Ok(Line::Tx { id, port, bytes }),
-        None => unreachable!(),
-    }
+    let twice = bytes.len().checked_mul(2).ok_or(AllocError)?;
+    lines.reserve(3, twice.checked_add(4).ok_or(AllocError)?)
 }
 
-/// Adds a line for each port by which the frame leaves.
-pub(crate) fn send(
-    alloc: Global,
-    id: u32,
-    bytes: &[u8],
-    head: &Head,
-    out: &Egress,
-    lines: &mut Vec<Line>,
-) -> Result<(), NoMemory>
-    requires { frame_of bytes.now ≡ Ok head.now }
-    ensures { OnOk result (lines.new.items ≡ lines.old.items ++ lines_of id bytes.now head.now out.now) }
+/// Adds the lines of the ports by which the frame leaves, for which there is room.
+pub(crate) fn send(id: u32, bytes: &[u8], head: &Head, out: &Egress, lines: &mut Lines)
+    requires frame { frame_of bytes.now ≡ Ok head.now }
+    requires rows { 1 ≤ lines.old.rows }
+    requires bytes { 2 * length bytes.now + 4 ≤ lines.old.bytes }
+    ensures lines { lines.new.lines ≡ lines.old.lines ++ lines_of id bytes.now head.now out.now }
+    ensures marked { lines.new.marked ≡ lines.old.marked }
+    ensures rows { lines.old.rows ≤ lines.new.rows + 1 }
 {
     let Some(vid) = out.vid else {
-        return Ok(());
+        return;
     };
-    for number in out.ports.iter() {
-        lines.push(line_at(alloc, id, bytes, head, vid, out.untagged, number)?)?;
+    if out.ports.is_empty() {
+        return;
     }
-    Ok(())
+    let (front, rest) = parts(bytes, head);
+    let tag = tag_bytes(bytes, head, vid);
+    lines.push_sent(id, out.ports, out.untagged, front, &tag, rest);
 }

@@ -1,47 +1,49 @@
 //! A bridge with the two copies of its table that follow it: the chip's rows, and the published tables.
-ghost use Rattle.std.specs.Prelude.{◌≡◌, ℕ, ◌-◌, ◌<◌, ◌≤◌, ◌++◌, ◌∷◌, [], length, take, drop, slice_get, vec_len, vec_capacity, IfOk, OnOk, OnErr, true};
+ghost use Rattle.std.specs.Prelude.{◌≡◌, ℕ, ◌-◌, ◌<◌, ◌≤◌, ◌++◌, ◌∷◌, [], length, take, drop, slice_get, IfOk, OnOk, OnErr, true};
 ghost use Rattle.std.specs.Option.{option_map};
-ghost use Rattle.br_model.specs.Change.{updates};
-ghost use Rattle.br_model.specs.Chip.{hits_entry, offers};
-ghost use Rattle.br_model.specs.Cut.{deferred_at, deferred_count};
-ghost use Rattle.br_model.specs.DomainPorts.{is_in_domain};
-ghost use Rattle.br_model.specs.Domains.{Domains as DomainsValue, chip};
-ghost use Rattle.br_model.specs.Messages.{message as message_of};
+ghost use Rattle.br_model.specs.Table.Change.{updates};
+ghost use Rattle.br_model.specs.Plane.Chip.{hits_entry, offers};
+ghost use Rattle.br_model.specs.Table.Cut.{deferred_at, deferred_count};
+ghost use Rattle.br_model.specs.Table.DomainPorts.{is_in_domain};
+ghost use Rattle.br_model.specs.Table.Domains.{Domains as DomainsValue, chip};
+ghost use Rattle.br_model.specs.Wire.Messages.{message as message_of};
 ghost use Rattle.br_model.specs.Plane.ChipSteps.{reports, sweeps};
 ghost use Rattle.br_model.specs.Plane.Serving.{posts};
 ghost use Rattle.br_model.specs.Plane.Steps.{publishes};
 ghost use Rattle.br_model.specs.Plane.World.{answered, reacts, sent};
-ghost use Rattle.br_model.specs.Reaction.{react as reaction};
-ghost use Rattle.br_model.specs.Shares.{soft_out};
-ghost use Rattle.br_model.specs.Table.{table};
+ghost use Rattle.br_model.specs.Control.Reaction.{react as reaction};
+ghost use Rattle.br_model.specs.Forward.Shares.{soft_out};
+ghost use Rattle.br_model.specs.Table.Table.{table};
 ghost use Rattle.br_model.specs.declared.steps.Event.TheVariants as Event;
 ghost use Rattle.br_model.specs.declared.transcript.Line.TheVariants as line;
 ghost use Rattle.bridge_core.specs.Answers.{IsEvent};
 ghost use Rattle.chip_pipeline.specs.Passed.{IsPass};
-ghost use Rattle.br_model.specs.Limits.{AreWithin};
+ghost use Rattle.br_model.specs.Table.Limits.{AreWithin};
 ghost use Rattle.table_publish.specs.Board.{Decides, all_of};
 ghost use Rattle.table_publish.specs.Object.{Begins, IsPublished, first_object};
 ghost use Rattle.plane_core.specs.Chips.{IsChip};
 ghost use Rattle.plane_core.specs.Queued.{Queued};
+ghost use Rattle.plane_core.specs.Added.{Added};
 ghost use Rattle.plane_core.specs.Seats.{Looks};
 ghost use Rattle.plane_core.specs.Sides.{Comes, Lasts, Reacted, SideTurns, world_of, chip_side, first_sides, soft_side};
 
 use crate::NoMemory;
 use crate::chip::{Chip, dom};
 use crate::frame::Frame;
-use crate::sending::{Egress, send};
+use crate::sending::{Egress, make_room, send};
 use br_model::change::{Change, Update};
 use br_model::domains::Domains;
 use br_model::frame::{Head, McastMsg};
 use br_model::numbers::{Mac, Port};
 use br_model::steps::{Event, Refusal};
-use br_model::transcript::{Line, Lines};
+use br_model::transcript::Line;
 use bridge_core::{Bridge, EventFault};
 use chip_pipeline::{Pass, pass};
 use forward_rules::{SoftTables, Verdict};
 use std::alloc::{AllocError, Global};
 use std::marker::Model;
 use table_publish::{Board, Seat};
+use transcript_lines::Lines;
 
 /// The control plane, the chip and the board, with one history: the chip has applied a part of its deferred changes, the board
 /// has published a front of it.
@@ -57,7 +59,14 @@ impl Model for Sides {
 
     ghost Value = { SidesState };
 
-    ghost view = { λ s. record { setup = s.bridge.setup; history = s.bridge.history; control = s.bridge.control; chip = s.chip.chip; published = s.board.object; board = s.board.board } };
+    ghost view = { λ s. record {
+      setup = s.bridge.setup;
+      history = s.bridge.history;
+      control = s.bridge.control;
+      chip = s.chip.chip;
+      published = s.board.object;
+      board = s.board.board;
+    } };
 
     ghost invariant = { λ s. AreSides s.bridge s.chip s.board };
 }
@@ -106,15 +115,6 @@ fn decide_anew(
     Ok(tables.decide(frame.port(), frame.head(), frame.message(), domains))
 }
 
-/// Lines with another one behind them, for which there is room.
-fn with_last(mut lines: Vec<Line>, last: Line) -> Lines
-    requires { vec_len lines < vec_capacity lines }
-    ensures { result ≡ lines.items ++ last ∷ [] }
-{
-    lines.push_reserved(last);
-    Lines::of(lines)
-}
-
 impl Sides {
     /// Those of a bridge in which nothing has happened.
     pub(crate) fn make(
@@ -138,31 +138,25 @@ impl Sides {
 
     /// The bridge reacts to an event, and the lines of the control frames that leave are added, with room for another line behind
     /// them. The answer is how many changes it made.
-    fn react(
-        &mut self,
-        alloc: Global,
-        event: &Event,
-        lines: &mut Vec<Line>,
-    ) -> Result<u32, EventFault>
+    fn react(&mut self, alloc: Global, event: &Event, lines: &mut Lines) -> Result<u32, EventFault>
         requires event { IsEvent event.now }
-        requires room { vec_len lines.old < vec_capacity lines.old }
-        ensures reacted { Reacted self.old self.new self.old.chip lines.old.items lines.new.items result (reaction self.old.setup self.old.history self.old.control event.now) }
-        ensures room { vec_len lines.new < vec_capacity lines.new }
+        requires room { 1 ≤ lines.old.rows }
+        ensures reacted { Reacted self.old self.new self.old.chip lines.old.lines lines.new.lines result
+            (reaction self.old.setup self.old.history self.old.control event.now) }
+        ensures marked { lines.new.marked ≡ lines.old.marked }
+        ensures room { 1 ≤ lines.new.rows }
     {
         let from = self.bridge.answer(alloc, event, lines)?;
         Ok(follow(&self.bridge, &mut self.chip, &mut self.board, from))
     }
 
     /// The bridge sees a frame that software sent, as it reacts to an event.
-    fn see(
-        &mut self,
-        alloc: Global,
-        frame: &Frame,
-        lines: &mut Vec<Line>,
-    ) -> Result<u32, EventFault>
-        requires { vec_len lines.old < vec_capacity lines.old }
-        ensures reacted { Reacted self.old self.new self.old.chip lines.old.items lines.new.items result (reaction self.old.setup self.old.history self.old.control (Event.Sight frame.now.port frame.now.bytes frame.now.head)) }
-        ensures room { vec_len lines.new < vec_capacity lines.new }
+    fn see(&mut self, alloc: Global, frame: &Frame, lines: &mut Lines) -> Result<u32, EventFault>
+        requires { 1 ≤ lines.old.rows }
+        ensures reacted { Reacted self.old self.new self.old.chip lines.old.lines lines.new.lines result
+            (reaction self.old.setup self.old.history self.old.control (Event.Sight frame.now.port frame.now.bytes frame.now.head)) }
+        ensures marked { lines.new.marked ≡ lines.old.marked }
+        ensures room { 1 ≤ lines.new.rows }
     {
         let from = self.bridge.see(
             alloc,
@@ -180,12 +174,15 @@ impl Sides {
         &mut self,
         alloc: Global,
         event: &Event,
-        lines: &mut Vec<Line>,
+        lines: &mut Lines,
     ) -> Result<u32, EventFault>
         requires event { IsEvent event.now }
-        requires room { vec_len lines.old < vec_capacity lines.old }
-        ensures reacted { Reacted self.old self.new (record self.old.chip { reports = drop 1 self.old.chip.reports }) lines.old.items lines.new.items result (reaction self.old.setup self.old.history self.old.control event.now) }
-        ensures room { vec_len lines.new < vec_capacity lines.new }
+        requires room { 1 ≤ lines.old.rows }
+        ensures reacted { Reacted self.old self.new
+            (record self.old.chip { reports = drop 1 self.old.chip.reports }) lines.old.lines lines.new.lines result
+            (reaction self.old.setup self.old.history self.old.control event.now) }
+        ensures marked { lines.new.marked ≡ lines.old.marked }
+        ensures room { 1 ≤ lines.new.rows }
     {
         let changes = self.react(alloc, event, lines)?;
         self.chip.drop_report();
@@ -197,42 +194,51 @@ impl Sides {
         &mut self,
         alloc: Global,
         event: &Event,
-        lines: &mut Vec<Line>,
+        lines: &mut Lines,
     ) -> Result<u32, EventFault>
         requires event { IsEvent event.now }
-        requires room { vec_len lines.old < vec_capacity lines.old }
-        ensures reacted { Reacted self.old self.new (record self.old.chip { hits = [] }) lines.old.items lines.new.items result (reaction self.old.setup self.old.history self.old.control event.now) }
-        ensures room { vec_len lines.new < vec_capacity lines.new }
+        requires room { 1 ≤ lines.old.rows }
+        ensures reacted { Reacted self.old self.new (record self.old.chip { hits = [] }) lines.old.lines lines.new.lines result
+            (reaction self.old.setup self.old.history self.old.control event.now) }
+        ensures marked { lines.new.marked ≡ lines.old.marked }
+        ensures room { 1 ≤ lines.new.rows }
     {
         let changes = self.react(alloc, event, lines)?;
         self.chip.clear_hits();
         Ok(changes)
     }
 
-    /// The event of a step. The answer is the lines of the step. After want of memory all is as before, here and in what follows.
+    /// The event of a step. The lines of the step are added. After want of memory all is as before, here and in what follows.
     pub(crate) fn answer(
         &mut self,
         alloc: Global,
         step: u32,
         event: &Event,
-    ) -> Result<Lines, NoMemory>
+        lines: &mut Lines,
+    ) -> Result<(), NoMemory>
         requires { IsEvent event.now }
-        ensures ok { IfOk result (λ lines. Comes (λ w. answered w w (reacts w event.now)) self.old step self.new lines) }
+        ensures ok { OnOk result (Added (Comes (λ w. answered w w (reacts w event.now)) self.old step self.new) lines.old.lines lines.new.lines) }
         ensures err { OnErr result (self.new ≡ self.old) }
+        ensures lines { OnErr result (lines.new.lines ≡ lines.old.lines) }
         ensures over { self.new.board ≡ self.old.board }
     {
-        let mut lines = Vec::with_capacity(alloc, 1)?;
-        let outcome = self.react(alloc, event, &mut lines);
-        Ok(with_last(lines, last_line(step, outcome)?))
+        lines.reserve(1, 0)?;
+        let outcome = self.react(alloc, event, lines);
+        lines.push_reserved(last_line(step, outcome)?);
+        Ok(())
     }
 
     /// The decision of a frame by what is published, by a seat that was told of it. Where the seat has no reading of just that, it is
     /// made anew.
     fn decide(&self, alloc: Global, seat: &mut Seat, frame: &Frame) -> Result<Verdict, NoMemory>
         requires board { seat.old.board ≡ self.now.board }
-        requires told { Begins seat.old.object (record { changes = take (length self.now.published.changes) self.now.history; counts = self.now.published.counts }) }
+        requires told { Begins seat.old.object (record {
+          changes = take (length self.now.published.changes) self.now.history;
+          counts = self.now.published.counts;
+        }) }
         ensures seat { Looks seat.old seat.new }
-        ensures verdict { IfOk result (Decides self.now.setup.domains (soft_side self.now) frame.now.port frame.now.head (message_of frame.now.bytes frame.now.head)) }
+        ensures verdict { IfOk result (Decides self.now.setup.domains (soft_side self.now) frame.now.port frame.now.head
+            (message_of frame.now.bytes frame.now.head)) }
     {
         let published = self.board.published();
         match seat.lookup(frame.port(), frame.head(), frame.message()) {
@@ -246,29 +252,32 @@ impl Sides {
         }
     }
 
-    /// The lines of a frame that is sent by a decision of the table at this point, with room for another line behind them.
+    /// Adds the lines of a frame that is sent by a decision of the table at this point, with room for another line behind them.
     fn soft_lines(
         &self,
-        alloc: Global,
         frame: &Frame,
         verdict: &Verdict,
         point: u32,
-    ) -> Result<Vec<Line>, NoMemory>
-        requires { Decides self.now.setup.domains (table (take point self.now.history)) frame.now.port frame.now.head (message_of frame.now.bytes frame.now.head) verdict.now }
-        ensures lines { IfOk result (λ lines. lines.items ≡ line.Soft frame.now.id point
-            ∷ sent frame.now.id (soft_out self.now.setup.domains (table (take point self.now.history)) frame.now.port frame.now.bytes frame.now.head frame.now.mark)) }
-        ensures room { IfOk result (λ lines. vec_len lines < vec_capacity lines) }
+        lines: &mut Lines,
+    ) -> Result<(), NoMemory>
+        requires { Decides self.now.setup.domains (table (take point self.now.history)) frame.now.port frame.now.head
+            (message_of frame.now.bytes frame.now.head) verdict.now }
+        ensures lines { OnOk result (lines.new.lines ≡ lines.old.lines ++ line.Soft frame.now.id point
+            ∷ sent frame.now.id (soft_out self.now.setup.domains (table (take point self.now.history))
+            frame.now.port frame.now.bytes frame.now.head frame.now.mark)) }
+        ensures err { OnErr result (lines.new.lines ≡ lines.old.lines) }
+        ensures marked { lines.new.marked ≡ lines.old.marked }
+        ensures room { OnOk result (1 ≤ lines.new.rows) }
     {
-        let mut lines = Vec::new(alloc);
+        make_room(lines, frame.bytes())?;
         let id = frame.id();
-        lines.push(Line::Soft { id, point })?;
+        lines.push_reserved(Line::Soft { id, point });
         let out = Egress::of_verdict(verdict, frame.mark(), self.bridge.domains());
-        send(alloc, id, frame.bytes(), frame.head(), &out, &mut lines)?;
-        lines.reserve(1)?;
-        Ok(lines)
+        send(id, frame.bytes(), frame.head(), &out, lines);
+        Ok(())
     }
 
-    /// Sends a frame by a decision of the table at this point, and lets the bridge see it. The answer is the lines of the step.
+    /// Sends a frame by a decision of the table at this point, and lets the bridge see it. The lines of the step are added.
     pub(crate) fn post(
         &mut self,
         alloc: Global,
@@ -276,15 +285,24 @@ impl Sides {
         frame: &Frame,
         verdict: &Verdict,
         point: u32,
-    ) -> Result<Lines, NoMemory>
-        requires { Decides self.old.setup.domains (table (take point self.old.history)) frame.now.port frame.now.head (message_of frame.now.bytes frame.now.head) verdict.now }
-        ensures ok { IfOk result (λ lines. Comes (λ w. posts w frame.now point) self.old step self.new lines) }
+        lines: &mut Lines,
+    ) -> Result<(), NoMemory>
+        requires { Decides self.old.setup.domains (table (take point self.old.history)) frame.now.port frame.now.head
+            (message_of frame.now.bytes frame.now.head) verdict.now }
+        ensures ok { OnOk result (Added (Comes (λ w. posts w frame.now point) self.old step self.new) lines.old.lines lines.new.lines) }
         ensures err { OnErr result (self.new ≡ self.old) }
+        ensures lines { OnErr result (lines.new.lines ≡ lines.old.lines) }
         ensures over { self.new.board ≡ self.old.board }
     {
-        let mut lines = self.soft_lines(alloc, frame, verdict, point)?;
-        let outcome = self.see(alloc, frame, &mut lines);
-        Ok(with_last(lines, last_line(step, outcome)?))
+        lines.mark();
+        self.soft_lines(frame, verdict, point, lines)?;
+        let outcome = self.see(alloc, frame, lines);
+        let Ok(last) = last_line(step, outcome) else {
+            lines.cut();
+            return Err(AllocError);
+        };
+        lines.push_reserved(last);
+        Ok(())
     }
 
     /// Sends a frame by what is published, of which the seat was told, and lets the bridge see it.
@@ -294,17 +312,22 @@ impl Sides {
         step: u32,
         seat: &mut Seat,
         frame: &Frame,
-    ) -> Result<Lines, NoMemory>
+        lines: &mut Lines,
+    ) -> Result<(), NoMemory>
         requires board { seat.old.board ≡ self.old.board }
-        requires told { Begins seat.old.object (record { changes = take (length self.old.published.changes) self.old.history; counts = self.old.published.counts }) }
-        ensures ok { IfOk result (λ lines. Comes (λ w. posts w frame.now w.published) self.old step self.new lines) }
+        requires told { Begins seat.old.object (record {
+          changes = take (length self.old.published.changes) self.old.history;
+          counts = self.old.published.counts;
+        }) }
+        ensures ok { OnOk result (Added (Comes (λ w. posts w frame.now w.published) self.old step self.new) lines.old.lines lines.new.lines) }
         ensures err { OnErr result (self.new ≡ self.old) }
+        ensures lines { OnErr result (lines.new.lines ≡ lines.old.lines) }
         ensures over { self.new.board ≡ self.old.board }
         ensures seat { Looks seat.old seat.new }
     {
         let point = self.board.published();
         match self.decide(alloc, seat, frame) {
-            Ok(verdict) => self.post(alloc, step, frame, &verdict, point),
+            Ok(verdict) => self.post(alloc, step, frame, &verdict, point, lines),
             Err(_) => Err(AllocError),
         }
     }
@@ -314,6 +337,7 @@ impl Sides {
         requires { is_in_domain self.now.setup.domains chip port ≡ true }
         ensures { IsPass self.now.setup.domains (chip_side self.now) port head.now message.now result }
     {
+        // law: the host is in software's domain
         let _host = self.bridge.domains().of(Port::HOST);
         pass(self.chip.tables(), port, head, message)
     }
@@ -342,31 +366,46 @@ impl Sides {
     }
 
     /// The bridge is told the chip's oldest report, which leaves unless that is refused.
-    pub(crate) fn report(&mut self, alloc: Global, step: u32) -> Result<Lines, NoMemory>
-        ensures ok { IfOk result (λ lines. Comes (λ w. reports w w.chip.reports) self.old step self.new lines) }
+    pub(crate) fn report(
+        &mut self,
+        alloc: Global,
+        step: u32,
+        lines: &mut Lines,
+    ) -> Result<(), NoMemory>
+        ensures ok { OnOk result (Added (Comes (λ w. reports w (Some w.chip)) self.old step self.new) lines.old.lines lines.new.lines) }
         ensures err { OnErr result (self.new ≡ self.old) }
+        ensures lines { OnErr result (lines.new.lines ≡ lines.old.lines) }
         ensures over { self.new.board ≡ self.old.board }
     {
-        let mut lines = Vec::with_capacity(alloc, 1)?;
+        lines.reserve(1, 0)?;
         let Some((vid, mac, port)) = self.chip.first_report() else {
             let refusal = Refusal::NothingReported;
-            return Ok(with_last(lines, Line::Refused { step, refusal }));
+            lines.push_reserved(Line::Refused { step, refusal });
+            return Ok(());
         };
         let event = Event::Told { vid, mac, port };
-        let outcome = self.react_to_report(alloc, &event, &mut lines);
-        Ok(with_last(lines, last_line(step, outcome)?))
+        let outcome = self.react_to_report(alloc, &event, lines);
+        lines.push_reserved(last_line(step, outcome)?);
+        Ok(())
     }
 
     /// The bridge forgets what the chip no longer sees, and no entry is hit, unless that is refused.
-    pub(crate) fn sweep(&mut self, alloc: Global, step: u32) -> Result<Lines, NoMemory>
-        ensures ok { IfOk result (λ lines. Comes sweeps self.old step self.new lines) }
+    pub(crate) fn sweep(
+        &mut self,
+        alloc: Global,
+        step: u32,
+        lines: &mut Lines,
+    ) -> Result<(), NoMemory>
+        ensures ok { OnOk result (Added (Comes (λ w. sweeps w (Some w.chip)) self.old step self.new) lines.old.lines lines.new.lines) }
         ensures err { OnErr result (self.new ≡ self.old) }
+        ensures lines { OnErr result (lines.new.lines ≡ lines.old.lines) }
         ensures over { self.new.board ≡ self.old.board }
     {
-        let mut lines = Vec::with_capacity(alloc, 1)?;
+        lines.reserve(1, 0)?;
         let event = Event::Forget(self.chip.unhit(alloc)?);
-        let outcome = self.react_to_sweep(alloc, &event, &mut lines);
-        Ok(with_last(lines, last_line(step, outcome)?))
+        let outcome = self.react_to_sweep(alloc, &event, lines);
+        lines.push_reserved(last_line(step, outcome)?);
+        Ok(())
     }
 
     /// All changes are published.
@@ -404,7 +443,7 @@ impl Sides {
     pub(crate) fn pending(&self) -> u32
         ensures { result ≡ deferred_count self.now.history - self.now.chip.count }
     {
-        self.bridge.pending() - self.chip.count()
+        self.chip.pending()
     }
 
     /// How many changes are published.
@@ -437,7 +476,10 @@ impl Sides {
         requires { seat.old.board ≡ self.old.board }
         ensures same { self.new ≡ self.old }
         ensures board { seat.new.board ≡ seat.old.board }
-        ensures told { Begins seat.new.object (record { changes = take (length self.old.published.changes) self.old.history; counts = self.old.published.counts }) }
+        ensures told { Begins seat.new.object (record {
+          changes = take (length self.old.published.changes) self.old.history;
+          counts = self.old.published.counts;
+        }) }
         ensures kept { Begins seat.new.object seat.old.object }
         ensures misses { seat.new.misses ≡ seat.old.misses }
         ensures published { IsPublished seat.new.object }
@@ -449,6 +491,7 @@ impl Sides {
     pub(crate) fn stands(&self)
         ensures { self.now.board.domains ≡ self.now.setup.domains }
     {
+        // law: the invariant says it
         let _bridge = &self.bridge;
     }
 }

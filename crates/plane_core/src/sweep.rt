@@ -1,10 +1,10 @@
 //! A sweep: the stations that the chip no longer sees.
 ghost use Rattle.std.specs.Prelude.{◌≡◌, ℕ, IfOk};
-ghost use Rattle.br_model.specs.Chip.{unhit};
-ghost use Rattle.br_model.specs.DomainPorts.{is_in_domain};
-ghost use Rattle.br_model.specs.Domains.{Domains, chip};
-ghost use Rattle.br_model.specs.Learning.{is_extern};
-ghost use Rattle.br_model.specs.Table.{Table};
+ghost use Rattle.br_model.specs.Plane.Chip.{unhit};
+ghost use Rattle.br_model.specs.Table.DomainPorts.{is_in_domain};
+ghost use Rattle.br_model.specs.Table.Domains.{Domains, chip};
+ghost use Rattle.br_model.specs.Control.Learning.{is_extern};
+ghost use Rattle.br_model.specs.Table.Table.{Table};
 ghost use Rattle.chip_tables.specs.Rows.{address_at};
 ghost use Rattle.chip_tables.specs.Stands.{PortsStand, Stands};
 ghost use Rattle.plane_core.specs.Chips.{chip_of};
@@ -22,6 +22,7 @@ use std::alloc::Global;
 fn is_own(tables: &Tables, port: Port) -> bool
     ensures { (domains : Domains) (t : Table) → PortsStand domains tables.now t → result ≡ is_in_domain domains chip port }
 {
+    // law: the port is in range
     let _number = port.number();
     tables.port(port).own
 }
@@ -42,7 +43,8 @@ fn is_unhit(tables: &Tables, reports: &Reports, vid: Vid, mac: Mac, row: &Addres
 
 /// The station at a key and its port, if the chip no longer sees it there.
 fn unseen(tables: &Tables, reports: &Reports, vid: Vid, mac: Mac) -> Option<(Vid, Mac, Port)>
-    ensures { (domains : Domains) (t : Table) → PortsStand domains tables.now t → result ≡ unseen domains reports.now.hits (vid, mac) (address_at tables.now vid mac) }
+    ensures { (domains : Domains) (t : Table) → PortsStand domains tables.now t
+        → result ≡ unseen domains reports.now.hits (vid, mac) (address_at tables.now vid mac) }
 {
     let row = tables.address(vid, mac)?;
     if is_unhit(tables, reports, vid, mac, &row) {
@@ -54,7 +56,8 @@ fn unseen(tables: &Tables, reports: &Reports, vid: Vid, mac: Mac) -> Option<(Vid
 
 /// These stations, ascending by VLAN and address.
 pub fn unhit(alloc: Global, tables: &Tables, reports: &Reports) -> Result<Triples, NoMemory>
-    ensures { IfOk result (λ stations. (domains : Domains) (t : Table) (n : ℕ) → Stands domains tables.now t → stations ≡ unhit domains t (chip_of n reports.now)) }
+    ensures { IfOk result (λ stations. (domains : Domains) (t : Table) (n : ℕ) → Stands domains tables.now t
+        → stations ≡ unhit domains t (chip_of n reports.now)) }
 {
     let mut stations = Vec::new(alloc);
     let keys = tables.address_keys(alloc)?;

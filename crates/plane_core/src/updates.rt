@@ -1,17 +1,15 @@
 //! The deferred changes of a history by their tickets.
 ghost use Rattle.std.specs.Prelude.{◌≡◌, ◌++◌, ◌∷◌, ◌<◌, ◌≤◌, [], length, take, IfOk, slice_get, ◌==◌, if◌then◌else◌};
-ghost use Rattle.br_model.specs.Change.{deferred, updates};
-ghost use Rattle.br_model.specs.Cut.{deferred_count};
-ghost use Rattle.br_model.specs.Limits.{most_changes};
+ghost use Rattle.br_model.specs.Table.Change.{deferred, updates};
+ghost use Rattle.br_model.specs.Table.Cut.{deferred_count};
+ghost use Rattle.br_model.specs.Table.Limits.{most_changes};
 ghost use Rattle.plane_core.specs.Places.{places};
 
 use crate::NoMemory;
 use br_model::change::{Change, Update};
+use br_model::limits::MOST_CHANGES;
 use std::alloc::Global;
 use std::marker::Model;
-
-/// How many changes a history holds at most.
-pub const MOST_CHANGES: usize = 1_048_576;
 
 /// Where the deferred changes stand in a history, so that none of them need be sought.
 #[derive(Drop)]
@@ -21,14 +19,15 @@ pub struct Updates {
 }
 
 impl Model for Updates {
-    ghost use Rattle.std.specs.Prelude.{◌≡◌, ◌≤◌, ℕ, List};
+    ghost use Rattle.std.specs.Prelude.{◌≡◌, ◌≤◌, ℕ, List, length};
     ghost use Rattle.std.specs.Vec.{vec_capacity};
+    ghost use Rattle.br_model.specs.Table.Limits.{most_changes};
 
     ghost Value = { List ℕ };
 
     ghost view = { λ u. u.places.items };
 
-    ghost invariant = { λ u. 1048576 ≤ vec_capacity u.places };
+    ghost invariant = { λ u. (most_changes ≤ vec_capacity u.places) × (length u.places.items ≤ most_changes) };
 }
 
 impl Updates {
@@ -43,7 +42,8 @@ impl Updates {
 
     /// How many there are.
     pub fn len(&self) -> usize
-        ensures { result ≡ length self.now }
+        ensures value { result ≡ length self.now }
+        ensures few { length self.now ≤ most_changes }
     {
         self.places.len()
     }

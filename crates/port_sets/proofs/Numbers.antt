@@ -39,10 +39,6 @@ has-above p most m high = has-filter p m (range_with_len 0 most) ∙ ap (λ b. p
 pub IsSetBelow-numbers_below : (p : ℕ → Bool) (most : ℕ) → IsSetBelow most (numbers_below most p)
 IsSetBelow-numbers_below p most = same_below p (has_number (numbers_below most p)) most (λ m low. sym (has-below p most m low))
 
--- two sets with the same members are equal
-pub same_sets : (most : ℕ) (xs ys : List ℕ) → IsSetBelow most xs → IsSetBelow most ys → ((m : ℕ) → m < most → has_number xs m ≡ has_number ys m) → xs ≡ ys
-same_sets most xs ys hx hy h = hx ∙ same_below (has_number xs) (has_number ys) most h ∙ sym hy
-
 filter_filter : (p q : ℕ → Bool) (xs : List ℕ) → filter q (filter p xs) ≡ filter (λ m. p m && q m) xs
 filter_filter p q [] = refl
 filter_filter p q (x ∷ xs) = step (p x) (filter_filter p q xs)

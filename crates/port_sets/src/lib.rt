@@ -170,6 +170,7 @@ impl<const W: usize> PortSet<W> {
         ensures below { All (λ n. n < 64 * W) result }
         ensures few { length result ≤ 64 * W }
     {
+        // law: the members ascend
         self.members_ascend();
         Members { left: *self }
     }
@@ -181,16 +182,8 @@ impl<const W: usize> PortSet<W> {
         ensures below { All (λ n. n < 64 * W) self.now }
         ensures few { length self.now ≤ 64 * W }
     {
+        // law: the invariant says it
         let _words = &self.words;
-    }
-
-    /// A law, whose body does nothing: sets with the same members are equal.
-    pub fn same_members(&self, other: &PortSet<W>)
-        requires { (n : ℕ) → n < 64 * W → has_number self.now n ≡ has_number other.now n }
-        ensures { self.now ≡ other.now }
-    {
-        self.members_ascend();
-        other.members_ascend();
     }
 }
 

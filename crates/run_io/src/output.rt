@@ -29,6 +29,7 @@ impl Output {
         Ok(Output { text })
     }
 
+    /// From 64 kB on: half of the memory that it has at first.
     pub fn is_full(&self) -> bool
         ensures { IsTrue result ↔ (full_length ≤ string_len self.now.text) }
     {

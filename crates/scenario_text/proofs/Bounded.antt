@@ -10,11 +10,11 @@ use Rattle.br_model.specs.declared.scenario.LineWhy.{LineWhy}
 use Rattle.br_model.specs.declared.scenario.LineWhy.TheVariants as why
 use Rattle.br_model.specs.declared.scenario.Said.{Said}
 use Rattle.br_model.specs.declared.scenario.Said.TheVariants.{Blank}
-use Rattle.br_model.specs.CommandForms.{commands}
-use Rattle.br_model.specs.Forms.{Row, pick, said, line, fits}
-use Rattle.br_model.specs.LineForms.{lines, commanded, words_say, all_say, line_says}
-use Rattle.br_model.specs.Roster.{Roster}
-use Rattle.br_model.specs.Words.{Word, words, is_comment}
+use Rattle.br_model.specs.Text.CommandForms.{commands}
+use Rattle.br_model.specs.Text.Forms.{Row, pick, said, line, fits}
+use Rattle.br_model.specs.Text.LineForms.{lines, commanded, words_say, all_say, line_says}
+use Rattle.br_model.specs.Text.Roster.{Roster}
+use Rattle.br_model.specs.Text.Words.{Word, words, is_comment}
 use Rattle.bridge_command.specs.Seen.{word, OrNoMemory}
 
 -- whether each row has fewer words

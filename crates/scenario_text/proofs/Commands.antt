@@ -3,11 +3,11 @@ use Rattle.std.proofs.Common.{◌≡◌, ℕ, ◌+◌, ◌-◌, Bool, if◌then�
 use Rattle.std.specs.Prelude.{codes}
 use Rattle.std.proofs.lemmas.List.{take_all}
 use Rattle.std.proofs.Math.Path.{fun_ext}
-use Rattle.br_model.specs.CommandForms.{commands}
-use Rattle.br_model.specs.Forms.{line}
-use Rattle.br_model.specs.LineForms.{commanded, lines, words_say}
-use Rattle.br_model.specs.Roster.{Roster}
-use Rattle.br_model.specs.Words.{Word}
+use Rattle.br_model.specs.Text.CommandForms.{commands}
+use Rattle.br_model.specs.Text.Forms.{line}
+use Rattle.br_model.specs.Text.LineForms.{commanded, lines, words_say}
+use Rattle.br_model.specs.Text.Roster.{Roster}
+use Rattle.br_model.specs.Text.Words.{Word}
 use Rattle.br_model.proofs.Words.{equal, other}
 use Rattle.bridge_command.specs.Seen.{word}
 

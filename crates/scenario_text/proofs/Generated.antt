@@ -7,11 +7,20 @@ use Rattle.std.proofs.lemmas.Grind.{flat_map-append}
 use Rattle.std.proofs.lemmas.List.{append-nil, take_all}
 use Rattle.br_model.specs.declared.steps.Step.{Step}
 use Rattle.br_model.specs.declared.steps.Step.TheVariants.{Rx, Now, Serve, Turn, Report, Publish}
+<<<<<<< HEAD
 use Rattle.br_model.specs.Digits.{hex_digit, hex_of}
 use Rattle.br_model.specs.Frames.{longest_frame}
 use Rattle.br_model.specs.Domains.{chip}
 use Rattle.br_model.specs.Generator.{drawn, number_of, station, broadcast, destination, frame, each, frame_steps, frames_from, ports, first_steps, head, made}
 use Rattle.br_model.specs.ScenarioText.{step_text, shown}
+=======
+use Rattle.br_model.specs.Data.Digits.{hex_digit, hex_of}
+use Rattle.br_model.specs.Table.Domains.{chip}
+use Rattle.br_model.specs.Wire.Frames.{longest_frame}
+use Rattle.br_model.specs.Program.Generator.{drawn, number_of, station, broadcast, destination, frame, each, frame_steps, frames_from, ports, first_steps, head, made}
+use Rattle.br_model.specs.Text.ScenarioText.{step_text}
+use Rattle.br_model.specs.Text.Spelling.{shown}
+>>>>>>> main
 use Rattle.scenario_text.proofs.Joins.{three_parts}
 use Rattle.scenario_text.specs.Generating.{At, first, after_frame, next_steps, steps_left, lines_of, opening_text, text_left}
 

@@ -3,8 +3,8 @@ use Rattle.std.proofs.Common.{◌≡◌, ℕ, ◌+◌, ◌<◌, List, [], ◌∷
 use Rattle.std.specs.List.{flat_map}
 use Rattle.std.proofs.lemmas.Grind.{flat_map-append}
 use Rattle.std.proofs.lemmas.List.{append-nil, take_more}
-use Rattle.br_model.specs.Digits.{hex_of}
-use Rattle.br_model.specs.ScenarioText.{byte_at, mac_text}
+use Rattle.br_model.specs.Data.Digits.{hex_of}
+use Rattle.br_model.specs.Text.Spelling.{byte_at, mac_text}
 
 pub three_parts : (s0 s1 s2 s3 a b c : List ℕ) → s1 ≡ s0 ++ a → s2 ≡ s1 ++ b → s3 ≡ s2 ++ c → s3 ≡ s0 ++ (a ++ (b ++ c))
 three_parts s0 s1 s2 s3 a b c d e f =

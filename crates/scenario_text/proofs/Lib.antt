@@ -4,4 +4,6 @@ pub mod Generated
 pub mod Joins
 pub mod Listed
 pub mod Pairs
+pub mod PlainLines
 pub mod Splits
+pub mod Written

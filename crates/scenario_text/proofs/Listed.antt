@@ -5,9 +5,9 @@ use Rattle.std.proofs.lemmas.Grind.{flat_map-append}
 use Rattle.std.proofs.lemmas.List.{append-nil}
 use Rattle.std.proofs.lemmas.List.FromFn.{map-range_with_len_more}
 use Rattle.std.proofs.lemmas.List.Folds.{flat_map-map}
-use Rattle.br_model.specs.Leave.{all_ports}
-use Rattle.br_model.specs.Roster.{Entry, has_number, host_name}
-use Rattle.br_model.specs.ScenarioText.{name_of, device_text}
+use Rattle.br_model.specs.Forward.Leave.{all_ports}
+use Rattle.br_model.specs.Text.Roster.{Entry, has_number, host_name}
+use Rattle.br_model.specs.Text.Spelling.{name_of, device_text}
 
 -- a port that isn't declared has no name
 

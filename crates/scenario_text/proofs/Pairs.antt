@@ -4,7 +4,7 @@ use Rattle.std.specs.Option.{option_map}
 use Rattle.std.proofs.lemmas.Bool.{agree_below, agree_below_at, eqb-true}
 use Rattle.scenario_text.specs.declared.digits.TheConstants.{VALUES}
 use Rattle.std.proofs.Math.Seq.{take-suc-set, drop-cons}
-use Rattle.br_model.specs.Digits.{nibble, byte_of, in_front, bytes_from_hex}
+use Rattle.br_model.specs.Data.Digits.{nibble, byte_of, in_front, bytes_from_hex}
 
 -- one digit
 

@@ -7,7 +7,7 @@ use Rattle.std.proofs.lemmas.Bool.{and_from, and_left, and_right, lt-ltb, le-ltb
 use Rattle.std.proofs.lemmas.List.{length-append, length-drop, drop-drop}
 use Rattle.std.proofs.Math.Seq.{take-length}
 use Rattle.memchr.specs.Find.{IsFirstByte, is_byte}
-use Rattle.br_model.specs.Words.{Word, is_word, readable, replacement, words}
+use Rattle.br_model.specs.Text.Words.{Word, is_word, readable, replacement, words}
 use Rattle.scenario_text.specs.Parts.{words_among}
 
 -- one word

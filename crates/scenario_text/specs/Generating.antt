@@ -3,8 +3,8 @@
 use Rattle.std.specs.Prelude.{ℕ, ◌+◌, ◌-◌, List, [], ◌∷◌, ◌++◌, codes}
 use Rattle.std.specs.List.{flat_map}
 use Rattle.br_model.specs.declared.steps.Step.{Step}
-use Rattle.br_model.specs.Generator.{drawn, number_of, frame_steps, frames_from, ports, first_steps, head}
-use Rattle.br_model.specs.ScenarioText.{step_text}
+use Rattle.br_model.specs.Program.Generator.{drawn, number_of, frame_steps, frames_from, ports, first_steps, head}
+use Rattle.br_model.specs.Text.ScenarioText.{step_text}
 
 -- the state, the number of the next frame, and how many frames are left
 pub record At : Type 0 where

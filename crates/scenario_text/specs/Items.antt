@@ -10,15 +10,13 @@ use Rattle.br_model.specs.declared.scenario.LineWhy.TheVariants as why
 use Rattle.br_model.specs.declared.scenario.Place.{Place}
 use Rattle.br_model.specs.declared.scenario.Said.{Said}
 use Rattle.br_model.specs.declared.scenario.Said.TheVariants.{Blank, Opens, Bridge, Declares, Does, Captures, Ends}
-use Rattle.br_model.specs.declared.steps.Step.{Step}
-use Rattle.br_model.specs.declared.steps.Step.TheVariants.{Rx, Cmd, Now, Serve, Turn, Report, Sweep, Publish}
-use Rattle.br_model.specs.Forms.{after}
-use Rattle.br_model.specs.LineForms.{line_says, opening, header, declaration}
-use Rattle.br_model.specs.Operands.{new_port, new_name, last_moment, longest_section}
-use Rattle.br_model.specs.Roster.{Roster}
-use Rattle.br_model.specs.Scenario.{declared}
-use Rattle.br_model.specs.Declarations.{fits_beside}
-use Rattle.br_model.specs.Words.{Word}
+use Rattle.br_model.specs.Text.Forms.{after}
+use Rattle.br_model.specs.Text.LineForms.{line_says, opening, header, declaration, comes_by_line}
+use Rattle.br_model.specs.Text.Operands.{new_port, new_name, longest_section}
+use Rattle.br_model.specs.Text.Roster.{Roster}
+use Rattle.br_model.specs.Text.Scenario.{declared}
+use Rattle.br_model.specs.Text.Declarations.{fits_beside}
+use Rattle.br_model.specs.Text.Words.{Word}
 
 abbrev pub item_of : Said → Item
 item_of Blank = items.Blank
@@ -53,6 +51,7 @@ comes_in_place place (items.Step step) = true
 comes_in_place place (items.Capture n) = true
 comes_in_place place items.End = true
 
+<<<<<<< HEAD
 -- whether the moment of a step is one that a line can say
 abbrev pub in_time : Step → Bool
 in_time (Rx port bytes) = true
@@ -65,12 +64,15 @@ in_time (Sweep dom) = true
 in_time Publish = true
 
 -- the same, and whether a section is as long as a line can say
+=======
+-- whether a step is one that a line can give, and a section as long as a line can say
+>>>>>>> main
 abbrev pub is_in_range : Item → Bool
 is_in_range items.Blank = true
 is_in_range (items.Scenario edition) = true
 is_in_range (items.Bridge mac) = true
 is_in_range (items.Declared port) = true
-is_in_range (items.Step step) = in_time step
+is_in_range (items.Step step) = comes_by_line step
 is_in_range (items.Capture n) = nat_le n longest_section
 is_in_range items.End = true
 
@@ -80,6 +82,6 @@ fits_roster roster Blank = true
 fits_roster roster (Opens edition) = opening roster.place
 fits_roster roster (Bridge mac) = header roster.place
 fits_roster roster (Declares port name dom) = declaration roster.place && fits_beside roster.ports (record { name = name; port = port; dom = dom })
-fits_roster roster (Does step) = in_time step
+fits_roster roster (Does step) = comes_by_line step
 fits_roster roster (Captures n) = nat_le n longest_section
 fits_roster roster Ends = true

@@ -1,3 +1,4 @@
 pub mod Generating
 pub mod Items
 pub mod Parts
+pub mod Stepping

@@ -1,8 +1,8 @@
 //! Bytes, as digits spell them.
 ghost use Rattle.std.specs.Prelude.{◌≡◌, ◌*◌, length, unwrap_or, Some, None, IfOk};
 ghost use Rattle.std.specs.Bool.{MatchBool};
-ghost use Rattle.br_model.specs.Digits.{nibble, bytes_from_hex};
-ghost use Rattle.br_model.specs.Operands.{hex as hex_of};
+ghost use Rattle.br_model.specs.Data.Digits.{nibble, bytes_from_hex};
+ghost use Rattle.br_model.specs.Text.Operands.{hex as hex_of};
 ghost use Rattle.bridge_command.specs.Seen.{OrNoMemory};
 
 use br_model::NoMemory;
@@ -54,7 +54,7 @@ fn write_bytes(digits: &[u8], out: &mut [u8]) -> bool
 }
 
 /// The bytes that digits of either case spell.
-fn decoded(alloc: Global, digits: &[u8]) -> Result<Option<Bytes>, NoMemory>
+pub(crate) fn decoded(alloc: Global, digits: &[u8]) -> Result<Option<Bytes>, NoMemory>
     ensures { IfOk result (λ bytes. bytes ≡ bytes_from_hex digits.now) }
 {
     if digits.len() % 2 != 0 {
@@ -69,7 +69,7 @@ fn decoded(alloc: Global, digits: &[u8]) -> Result<Option<Bytes>, NoMemory>
 }
 
 /// At least one byte.
-#[tactic(auto, unfolding(br_model::specs::Operands::hex))]
+#[tactic(auto, unfolding(br_model::specs::Text::Operands::hex))]
 pub(crate) fn hex_bytes(alloc: Global, word: &str) -> Result<Bytes, LineWhy>
     ensures { OrNoMemory result (hex_of word.now) }
 {

@@ -1,11 +1,19 @@
 //! The scenario that `gen` writes and `demo` runs.
 ghost use Rattle.std.specs.Prelude.{◌≡◌, ◌+◌, ◌*◌, ◌%◌, ◌==◌, ◌<◌, ◌≤◌, if◌then◌else◌, [], ◌∷◌, ◌++◌, length, codes, decimal, IfOk, OnOk, OnErr};
 ghost use Rattle.std.specs.String.{string_bytes, string_len, string_capacity};
+<<<<<<< HEAD
 ghost use Rattle.br_model.specs.Digits.{hex_of};
 ghost use Rattle.br_model.specs.declared.domains.Edition.TheVariants.{One};
 ghost use Rattle.br_model.specs.Domains.{chip};
 ghost use Rattle.br_model.specs.Generator.{drawn as drawn_of, number_of, station as station_of, destination as destination_of, frame as frame_of, frame_steps as steps_of_frame, each, most_frames, made, steps as all_steps, ports, first_steps as steps_at_first};
 ghost use Rattle.br_model.specs.Roster.{domains_of};
+=======
+ghost use Rattle.br_model.specs.Table.Domains.{last_port};
+ghost use Rattle.br_model.specs.Data.Digits.{hex_of};
+ghost use Rattle.br_model.specs.Program.Generator.{drawn as drawn_of, number_of, station as station_of, destination as destination_of, frame as frame_of, frame_steps as steps_of_frame, each, most_frames, made, steps as all_steps, ports, first_steps as steps_at_first};
+ghost use Rattle.br_model.specs.Table.Domains.{chip};
+ghost use Rattle.br_model.specs.Text.Roster.{domains_of};
+>>>>>>> main
 ghost use Rattle.scenario_text.specs.Generating.{first, after_frame, next_steps, steps_left, lines_of, opening_text, text_left};
 
 use br_model::NoMemory;
@@ -54,7 +62,7 @@ pub struct Generator {
 
 impl Model for Generator {
     ghost use Rattle.std.specs.Prelude.{◌+◌, ◌≤◌};
-    ghost use Rattle.br_model.specs.Generator.{most_frames};
+    ghost use Rattle.br_model.specs.Program.Generator.{most_frames};
     ghost use Rattle.scenario_text.specs.Generating.{At};
 
     ghost Value = { At };
@@ -65,7 +73,7 @@ impl Model for Generator {
 }
 
 impl Generator {
-    /// Before the first of so many frames.
+    /// Before the first of so many frames. `x` is the NUMBER of `gen`, the first state.
     pub fn new(x: u64, count: u32) -> Generator
         requires { count ≤ most_frames }
         ensures first { result ≡ first x count }
@@ -100,6 +108,20 @@ impl Generator {
         self.x = drawn(self.x);
         self.i += 1;
         self.left -= 1;
+    }
+
+    /// The place of the next frame, and the number that it comes from. The frames go on.
+    pub(crate) fn draw(&mut self) -> (u32, u32)
+        requires { 0 < self.old.left }
+        ensures drawn { result ≡ (self.old.i, number_of (drawn_of self.old.x)) }
+        ensures next { self.new ≡ after_frame self.old }
+        ensures rest { steps_left self.old ≡ next_steps self.old ++ steps_left self.new }
+        ensures few { self.old.i ≤ most_frames }
+    {
+        let i = self.i;
+        let n = self.number();
+        self.go_on();
+        (i, n)
     }
 
     /// Writes the lines of the next frame, for which there is room.
@@ -276,7 +298,7 @@ fn append_others(i: u32, text: &mut String)
 }
 
 /// The bytes of the frame of this number.
-fn frame(n: u32) -> [u8; 16]
+pub(crate) fn frame(n: u32) -> [u8; 16]
     ensures { result ≡ frame_of n }
 {
     let from = 0x10 + (n / 6 % 8) as u8;
@@ -305,8 +327,8 @@ fn frame(n: u32) -> [u8; 16]
     }
 }
 
-fn port(number: u8) -> Port
-    requires { number < 64 }
+pub(crate) fn port(number: u8) -> Port
+    requires { number ≤ last_port }
     ensures { result ≡ number }
 {
     match Port::new(number) {
@@ -349,7 +371,7 @@ fn push_others(i: u32, steps: &mut Vec<Step>) -> Result<(), NoMemory>
 }
 
 fn up(number: u8) -> Step
-    requires { number < 64 }
+    requires { number ≤ last_port }
     ensures { result ≡ Step.Cmd (Command.PortUp number) }
 {
     Step::Cmd(Command::PortUp(port(number)))

@@ -2,16 +2,17 @@
 #![tactic(auto)]
 
 mod digits;
+mod frame_steps;
 mod generator;
 mod lines;
 mod listing;
+mod plain;
 mod reading;
-#[cfg(test)]
-mod tests;
 mod words;
 mod write;
 
 pub use br_model::NoMemory;
+pub use frame_steps::{FrameSteps, Made};
 pub use generator::{
     END_BYTES, Generator, MOST_FRAME_BYTES, OPENING_BYTES, append_opening, domains, first_steps,
     generate,

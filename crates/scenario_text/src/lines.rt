@@ -1,8 +1,8 @@
 //! Lines, by their first word.
 ghost use Rattle.std.specs.Prelude.{◌≡◌, ◌<◌, length, true, IfOk};
-ghost use Rattle.br_model.specs.CommandForms.{commands};
-ghost use Rattle.br_model.specs.Forms.{line};
-ghost use Rattle.br_model.specs.LineForms.{declarations, steps, lines, commanded, words_say};
+ghost use Rattle.br_model.specs.Text.CommandForms.{commands};
+ghost use Rattle.br_model.specs.Text.Forms.{line};
+ghost use Rattle.br_model.specs.Text.LineForms.{declarations, steps, lines, commanded, words_say};
 ghost use Rattle.bridge_command.specs.Seen.{word, OrNoMemory};
 ghost use Rattle.scenario_text.specs.Items.{declares, fits_roster};
 
@@ -80,15 +80,27 @@ fn step_line(alloc: Global, words: &[&str], r: &Roster) -> Result<Said, LineWhy>
         }
         ["turn", dom] => {
             r.stands(Place::Steps)?;
+<<<<<<< HEAD
             Ok(Said::Does(Step::Turn(r.chip(dom)?)))
+=======
+            Ok(Said::Does(Step::Turn(Dom::CHIP)))
+>>>>>>> main
         }
         ["report", dom] => {
             r.stands(Place::Steps)?;
+<<<<<<< HEAD
             Ok(Said::Does(Step::Report(r.chip(dom)?)))
+=======
+            Ok(Said::Does(Step::Report(Dom::CHIP)))
+>>>>>>> main
         }
         ["sweep", dom] => {
             r.stands(Place::Steps)?;
+<<<<<<< HEAD
             Ok(Said::Does(Step::Sweep(r.chip(dom)?)))
+=======
+            Ok(Said::Does(Step::Sweep(Dom::CHIP)))
+>>>>>>> main
         }
         ["publish"] => {
             r.stands(Place::Steps)?;

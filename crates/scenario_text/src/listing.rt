@@ -4,9 +4,9 @@ ghost use Rattle.std.specs.List.{filter, flat_map};
 ghost use Rattle.std.specs.Option.{option_eq};
 ghost use Rattle.std.specs.Ordering.{nat_cmp};
 ghost use Rattle.std.specs.String.{string_bytes};
-ghost use Rattle.br_model.specs.Listings.{fdb_line, vlan_line, mdb_line, group_text, by_port, listing_text};
-ghost use Rattle.br_model.specs.Maps.{get};
-ghost use Rattle.br_model.specs.ScenarioText.{device_text, mac_text, kind_word as word_of_kind, further};
+ghost use Rattle.br_model.specs.Program.Listings.{fdb_line, vlan_line, mdb_line, group_text, by_port, listing_text};
+ghost use Rattle.br_model.specs.Data.Maps.{get};
+ghost use Rattle.br_model.specs.Text.Spelling.{device_text, mac_text, kind_word as word_of_kind, further};
 
 use crate::write::{append_dotted, append_groups, append_mac, kind_word, marks};
 use br_model::NoMemory;
@@ -94,8 +94,8 @@ fn append_memberships_of(
 fn append_memberships(table: &Table, roster: &Roster, to: &mut String) -> Result<(), NoMemory>
     ensures { OnOk result (string_bytes to.new ≡ string_bytes to.old ++ flat_map (vlan_line roster.now.ports table.now.pvid) (by_port table.now.vlans)) }
 {
-    for number in 0..Port::COUNT {
-        let Some(port) = Port::new(number) else {
+    for number in 0..Port::PLACES {
+        let Some(port) = Port::new(number as u8) else {
             unreachable!();
         };
         append_memberships_of(port, table, roster, to)?;

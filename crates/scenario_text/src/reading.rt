@@ -1,13 +1,14 @@
 //! A line as an item, and the roster after it.
 ghost use Rattle.std.specs.Prelude.{◌≡◌, ◌⊎◌, true, Err, IfOk, IfErr, OnErr};
 ghost use Rattle.br_model.specs.declared.scenario.LineWhy.TheVariants.{NoMemory as NoMemoryLeft};
-ghost use Rattle.br_model.specs.LineForms.{line_says, all_say};
-ghost use Rattle.br_model.specs.Scenario.{is_end};
-ghost use Rattle.br_model.specs.Words.{words};
+ghost use Rattle.br_model.specs.Text.LineForms.{line_says, all_say};
+ghost use Rattle.br_model.specs.Text.Scenario.{is_end};
+ghost use Rattle.br_model.specs.Text.Words.{words};
 ghost use Rattle.bridge_command.specs.Seen.{OrNoMemory};
 ghost use Rattle.scenario_text.specs.Items.{Reads, comes_in_place, fits_roster, is_in_range};
 
 use crate::lines::read_words;
+use crate::plain::plain_step;
 use crate::words::find_words;
 use arrayvec::ArrayVec;
 use br_model::scenario::{Item, LineWhy, Place, Said};
@@ -51,7 +52,7 @@ pub fn read_line(alloc: Global, b: &[u8], r: &mut Roster) -> Result<Item, LineWh
 }
 
 /// What a line says to a roster that stays as it is.
-#[tactic(auto, unfolding(br_model::specs::LineForms::line_says))]
+#[tactic(auto, unfolding(br_model::specs::Text::LineForms::line_says))]
 fn what_says(alloc: Global, line: &[u8], r: &Roster) -> Result<Said, LineWhy>
     ensures value { OrNoMemory result (line_says r.now line.now) }
     ensures fits { IfOk result (λ said. fits_roster r.now said ≡ true) }
@@ -59,10 +60,21 @@ fn what_says(alloc: Global, line: &[u8], r: &Roster) -> Result<Said, LineWhy>
     if line.is_empty() || line[0] == b'#' {
         return Ok(Said::Blank);
     }
-    what_words_say(alloc, line, r)
+    what_steps_say(alloc, line, r)
 }
 
-/// The same of a line that is no comment.
+/// The same of a line that is no comment: a frequent step in its plainest spelling, or word by word.
+fn what_steps_say(alloc: Global, line: &[u8], r: &Roster) -> Result<Said, LineWhy>
+    ensures value { OrNoMemory result (all_say r.now (words line.now)) }
+    ensures fits { IfOk result (λ said. fits_roster r.now said ≡ true) }
+{
+    match plain_step(alloc, line, r) {
+        Some(step) => Ok(Said::Does(step)),
+        None => what_words_say(alloc, line, r),
+    }
+}
+
+/// The same, word by word.
 #[inline(never)]
 fn what_words_say(alloc: Global, line: &[u8], r: &Roster) -> Result<Said, LineWhy>
     ensures value { OrNoMemory result (all_say r.now (words line.now)) }

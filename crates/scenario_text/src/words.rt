@@ -1,6 +1,6 @@
 //! The words of a line.
 ghost use Rattle.std.specs.Prelude.{◌≡◌, ◌<◌, ◌∷◌, ◌++◌, [], length, map, OnSome, IfNone};
-ghost use Rattle.br_model.specs.Words.{readable as readable_of, words};
+ghost use Rattle.br_model.specs.Text.Words.{readable as readable_of, words};
 ghost use Rattle.scenario_text.specs.Parts.{words_among};
 
 use arrayvec::ArrayVec;
@@ -16,7 +16,7 @@ pub(crate) type Words<'a> = ArrayVec<&'a str, MOST_WORDS>;
 /// Stands for a word with a byte above 0x7F, which is no word of a form and no operand.
 const UNREADABLE: &str = "\u{FFFD}";
 
-fn readable(word: &[u8]) -> &str
+pub(crate) fn readable(word: &[u8]) -> &str
     ensures { result.now ≡ readable_of word.now }
 {
     if !word.is_ascii() {

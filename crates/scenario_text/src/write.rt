@@ -1,12 +1,15 @@
 //! Steps as lines.
 ghost use Rattle.std.specs.Prelude.{◌≡◌, ◌++◌, ◌+◌, ◌<◌, [], ◌∷◌, true, IfOk, OnOk, codes, decimal};
 ghost use Rattle.std.specs.String.{string_bytes};
-ghost use Rattle.br_model.specs.Digits.{hex_digit, hex_of};
-ghost use Rattle.br_model.specs.FlagWords.{flags, name_of_flag};
-ghost use Rattle.br_model.specs.Frames.{longest_frame};
-ghost use Rattle.br_model.specs.Roster.{has_number};
-ghost use Rattle.br_model.specs.ScenarioText.{byte_at, mac_text, dotted, digits_at, groups_of_four, ip_text, kind_word as word_of_kind, command_text, device_text, further, name_of, switch_word as word_of_switch, shown as shown_of, step_text, step_words};
-ghost use Rattle.br_model.specs.WrittenSteps.{is_device, command_names_declared, names_declared};
+ghost use Rattle.br_model.specs.Data.Digits.{hex_digit, hex_of};
+ghost use Rattle.br_model.specs.Text.FlagWords.{flags, name_of_flag};
+ghost use Rattle.br_model.specs.Wire.Frames.{longest_frame};
+ghost use Rattle.br_model.specs.Text.Roster.{has_number};
+ghost use Rattle.br_model.specs.declared.steps.Command.TheVariants.{Link, VlanAdd, FdbAdd, FdbDel};
+ghost use Rattle.br_model.specs.Text.Operands.{is_device};
+ghost use Rattle.br_model.specs.Text.ScenarioText.{names_declared, step_text, step_words};
+ghost use Rattle.br_model.specs.Text.Spelling.{byte_at, mac_text, dotted, digits_at, groups_of_four, ip_text, kind_word as word_of_kind, device_text, further, name_of, shown as shown_of};
+ghost use Rattle.br_model.specs.Text.Words.{joined};
 
 use br_model::NoMemory;
 use br_model::bytes::Bytes;
@@ -176,36 +179,21 @@ fn flag_name(flag: Flags) -> &'static str
     }
 }
 
-fn switch_word(on: bool) -> &'static str
-    ensures { result.now ≡ word_of_switch on }
+fn append_link(
+    port: Port,
+    flag: Flags,
+    on: bool,
+    roster: &Roster,
+    to: &mut String,
+) -> Result<(), NoMemory>
+    requires { has_number roster.now.ports port ≡ true }
+    ensures { OnOk result (string_bytes to.new ≡ string_bytes to.old ++ step_words roster.now.ports (Step.Cmd (Link port flag on))) }
 {
-    if on { "on" } else { "off" }
-}
-
-fn append_link(port: &str, flag: Flags, on: bool, to: &mut String) -> Result<(), NoMemory>
-    ensures { OnOk result (string_bytes to.new ≡ string_bytes to.old ++ (codes "link " ++ (port.now ++ (32 ∷ (name_of_flag flags flag ++ (32 ∷ word_of_switch on)))))) }
-{
-    let (flag, on) = (flag_name(flag), switch_word(on));
-    write!(to, "link {port} {flag} {on}")
-}
-
-fn append_cost(port: &str, n: u16, to: &mut String) -> Result<(), NoMemory>
-    ensures { OnOk result (string_bytes to.new ≡ string_bytes to.old ++ (codes "link " ++ (port.now ++ (codes " cost " ++ decimal n)))) }
-{
-    write!(to, "link {port} cost {n}")
-}
-
-fn append_port_priority(port: &str, n: u8, to: &mut String) -> Result<(), NoMemory>
-    ensures { OnOk result (string_bytes to.new ≡ string_bytes to.old ++ (codes "link " ++ (port.now ++ (codes " priority " ++ decimal n)))) }
-{
-    write!(to, "link {port} priority {n}")
-}
-
-fn append_stp(on: bool, to: &mut String) -> Result<(), NoMemory>
-    ensures { OnOk result (string_bytes to.new ≡ string_bytes to.old ++ (codes "stp " ++ word_of_switch on)) }
-{
-    let on = switch_word(on);
-    write!(to, "stp {on}")
+    let (port, flag) = (name(roster, port), flag_name(flag));
+    match on {
+        true => write!(to, "cmd link {port} {flag} on"),
+        false => write!(to, "cmd link {port} {flag} off"),
+    }
 }
 
 /// The words that mark a membership of a VLAN.
@@ -221,44 +209,59 @@ pub(crate) fn marks(untagged: bool, pvid: bool) -> &'static str
 }
 
 fn append_vlan_add(
-    device: &str,
+    port: Port,
     vid: Vid,
     untagged: bool,
     pvid: bool,
+    roster: &Roster,
     to: &mut String,
 ) -> Result<(), NoMemory>
-    ensures { OnOk result (string_bytes to.new ≡ string_bytes to.old ++ (codes "vlan add vid " ++ (decimal vid ++ (codes " dev " ++ (device.now ++ (further pvid (codes "pvid") ++ further untagged (codes "untagged"))))))) }
+    requires { is_device roster.now.ports port ≡ true }
+    ensures { OnOk result (string_bytes to.new ≡ string_bytes to.old ++ step_words roster.now.ports (Step.Cmd (VlanAdd port vid untagged pvid))) }
 {
-    let (vid, marks) = (vid.number(), marks(untagged, pvid));
-    write!(to, "vlan add vid {vid} dev {device}{marks}")
+    let (vid, device, marks) = (vid.number(), device(roster, port), marks(untagged, pvid));
+    write!(to, "cmd vlan add vid {vid} dev {device}{marks}")
 }
 
-fn append_vlan_del(device: &str, vid: Vid, to: &mut String) -> Result<(), NoMemory>
-    ensures { OnOk result (string_bytes to.new ≡ string_bytes to.old ++ (codes "vlan del vid " ++ (decimal vid ++ (codes " dev " ++ device.now)))) }
-{
-    let vid = vid.number();
-    write!(to, "vlan del vid {vid} dev {device}")
-}
-
-fn append_fdb_add(
+/// The entry of an address, at the host or at a port by its name.
+fn append_entry(
     mac: Mac,
     device: &str,
     vid: Vid,
-    kind: Kind,
+    kind: &str,
     to: &mut String,
 ) -> Result<(), NoMemory>
-    ensures { OnOk result (string_bytes to.new ≡ string_bytes to.old ++ (codes "fdb add " ++ (mac_text mac ++ (codes " dev " ++ (device.now ++ (codes " vlan " ++ (decimal vid ++ (32 ∷ word_of_kind kind)))))))) }
+    ensures { OnOk result (string_bytes to.new ≡ string_bytes to.old ++ joined (codes "cmd" ∷ codes "fdb" ∷ codes "add" ∷ mac_text mac ∷ codes "dev" ∷ device.now ∷ codes "vlan" ∷ decimal vid ∷ kind.now ∷ [])) }
 {
-    to.push_str("fdb add ")?;
+    to.push_str("cmd fdb add ")?;
     append_mac(mac, to)?;
-    let (vid, kind) = (vid.number(), kind_word(kind));
+    let vid = vid.number();
     write!(to, " dev {device} vlan {vid} {kind}")
 }
 
-fn append_fdb_del(mac: Mac, vid: Vid, to: &mut String) -> Result<(), NoMemory>
-    ensures { OnOk result (string_bytes to.new ≡ string_bytes to.old ++ (codes "fdb del " ++ (mac_text mac ++ (codes " vlan " ++ decimal vid)))) }
+fn append_fdb_add(
+    vid: Vid,
+    mac: Mac,
+    port: Port,
+    kind: Kind,
+    roster: &Roster,
+    to: &mut String,
+) -> Result<(), NoMemory>
+    requires { names_declared roster.now.ports (Step.Cmd (FdbAdd vid mac port kind)) ≡ true }
+    ensures { OnOk result (string_bytes to.new ≡ string_bytes to.old ++ step_words roster.now.ports (Step.Cmd (FdbAdd vid mac port kind))) }
 {
-    to.push_str("fdb del ")?;
+    match kind {
+        Kind::Local => append_entry(mac, "host", vid, "local", to),
+        Kind::Static => append_entry(mac, name(roster, port), vid, "static", to),
+        Kind::Extern => append_entry(mac, name(roster, port), vid, "extern", to),
+        Kind::Learned => unreachable!(),
+    }
+}
+
+fn append_fdb_del(vid: Vid, mac: Mac, to: &mut String) -> Result<(), NoMemory>
+    ensures { OnOk result (string_bytes to.new ≡ string_bytes to.old ++ step_words [] (Step.Cmd (FdbDel vid mac))) }
+{
+    to.push_str("cmd fdb del ")?;
     append_mac(mac, to)?;
     let vid = vid.number();
     write!(to, " vlan {vid}")
@@ -266,62 +269,66 @@ fn append_fdb_del(mac: Mac, vid: Vid, to: &mut String) -> Result<(), NoMemory>
 
 /// What `mdb add` and `mdb del` have in common: the group, the device and the VLAN.
 fn append_member(group: Ip, device: &str, vid: Vid, to: &mut String) -> Result<(), NoMemory>
-    ensures { OnOk result (string_bytes to.new ≡ string_bytes to.old ++ (ip_text group ++ (codes " dev " ++ (device.now ++ (codes " vlan " ++ decimal vid))))) }
+    ensures { OnOk result (string_bytes to.new ≡ string_bytes to.old ++ joined (ip_text group ∷ codes "dev" ∷ device.now ∷ codes "vlan" ∷ decimal vid ∷ [])) }
 {
     append_ip(group, to)?;
     let vid = vid.number();
     write!(to, " dev {device} vlan {vid}")
 }
 
-fn append_snooping(on: bool, to: &mut String) -> Result<(), NoMemory>
-    ensures { OnOk result (string_bytes to.new ≡ string_bytes to.old ++ (codes "snooping " ++ word_of_switch on)) }
-{
-    let on = switch_word(on);
-    write!(to, "snooping {on}")
-}
-
 fn append_command(command: Command, roster: &Roster, to: &mut String) -> Result<(), NoMemory>
-    requires { command_names_declared roster.now.ports command ≡ true }
-    ensures { OnOk result (string_bytes to.new ≡ string_bytes to.old ++ command_text roster.now.ports command) }
+    requires { names_declared roster.now.ports (Step.Cmd command) ≡ true }
+    ensures { OnOk result (string_bytes to.new ≡ string_bytes to.old ++ step_words roster.now.ports (Step.Cmd command)) }
 {
     match command {
         Command::PortUp(port) => {
             let port = name(roster, port);
-            write!(to, "port up {port}")
+            write!(to, "cmd port up {port}")
         }
         Command::PortDown(port) => {
             let port = name(roster, port);
-            write!(to, "port down {port}")
+            write!(to, "cmd port down {port}")
         }
-        Command::Link { port, flag, on } => append_link(name(roster, port), flag, on, to),
-        Command::Cost { port, n } => append_cost(name(roster, port), n, to),
-        Command::PortPriority { port, n } => append_port_priority(name(roster, port), n, to),
+        Command::Link { port, flag, on } => append_link(port, flag, on, roster, to),
+        Command::Cost { port, n } => {
+            let port = name(roster, port);
+            write!(to, "cmd link {port} cost {n}")
+        }
+        Command::PortPriority { port, n } => {
+            let port = name(roster, port);
+            write!(to, "cmd link {port} priority {n}")
+        }
         Command::VlanAdd {
             port,
             vid,
             untagged,
             pvid,
-        } => append_vlan_add(device(roster, port), vid, untagged, pvid, to),
-        Command::VlanDel { port, vid } => append_vlan_del(device(roster, port), vid, to),
+        } => append_vlan_add(port, vid, untagged, pvid, roster, to),
+        Command::VlanDel { port, vid } => {
+            let (vid, device) = (vid.number(), device(roster, port));
+            write!(to, "cmd vlan del vid {vid} dev {device}")
+        }
         Command::FdbAdd {
             vid,
             mac,
             port,
             kind,
-        } => append_fdb_add(mac, device(roster, port), vid, kind, to),
-        Command::FdbDel { vid, mac } => append_fdb_del(mac, vid, to),
+        } => append_fdb_add(vid, mac, port, kind, roster, to),
+        Command::FdbDel { vid, mac } => append_fdb_del(vid, mac, to),
         Command::MdbAdd { port, vid, group } => {
-            to.push_str("mdb add ")?;
+            to.push_str("cmd mdb add ")?;
             append_member(group, device(roster, port), vid, to)
         }
         Command::MdbDel { port, vid, group } => {
-            to.push_str("mdb del ")?;
+            to.push_str("cmd mdb del ")?;
             append_member(group, device(roster, port), vid, to)
         }
-        Command::Stp(on) => append_stp(on, to),
-        Command::Priority(n) => write!(to, "stp priority {n}"),
-        Command::Ageing(seconds) => write!(to, "ageing {seconds}"),
-        Command::Snooping(on) => append_snooping(on, to),
+        Command::Stp(true) => to.push_str("cmd stp on"),
+        Command::Stp(false) => to.push_str("cmd stp off"),
+        Command::Priority(n) => write!(to, "cmd stp priority {n}"),
+        Command::Ageing(seconds) => write!(to, "cmd ageing {seconds}"),
+        Command::Snooping(true) => to.push_str("cmd snooping on"),
+        Command::Snooping(false) => to.push_str("cmd snooping off"),
     }
 }
 
@@ -333,11 +340,30 @@ fn append_rx(port: Port, bytes: &[u8], to: &mut String) -> Result<(), NoMemory>
     append_hex(shown(bytes), to)
 }
 
+<<<<<<< HEAD
 fn append_of_chip(word: &str, dom: Dom, to: &mut String) -> Result<(), NoMemory>
     ensures { OnOk result (string_bytes to.new ≡ string_bytes to.old ++ (word.now ++ decimal dom)) }
 {
     let dom = dom.number();
     write!(to, "{word}{dom}")
+=======
+/// The line of a step, without its line feed.
+fn append_step(s: &Step, roster: &Roster, to: &mut String) -> Result<(), NoMemory>
+    requires { names_declared roster.now.ports s.now ≡ true }
+    ensures { OnOk result (string_bytes to.new ≡ string_bytes to.old ++ step_words roster.now.ports s.now) }
+{
+    match s {
+        Step::Rx { port, bytes } => append_rx(*port, bytes.as_slice(), to),
+        Step::Cmd(command) => append_command(*command, roster, to),
+        Step::Now(moment) => write!(to, "now {moment}"),
+        Step::Serve => to.push_str("serve"),
+        Step::Hold | Step::Post { .. } => unreachable!(),
+        Step::Turn(_) => to.push_str("turn 1"),
+        Step::Report(_) => to.push_str("report 1"),
+        Step::Sweep(_) => to.push_str("sweep 1"),
+        Step::Publish => to.push_str("publish"),
+    }
+>>>>>>> main
 }
 
 /// The line of a step with its line feed. Of a frame without bytes it shows one byte, of one that is too long only enough to
@@ -347,6 +373,7 @@ pub fn write_line(alloc: Global, s: &Step, r: &Roster) -> Result<Bytes, NoMemory
     ensures { IfOk result (λ line. line ≡ step_text r.now.ports s.now) }
 {
     let mut line = String::new(alloc);
+<<<<<<< HEAD
     match s {
         Step::Rx { port, bytes } => append_rx(*port, bytes.as_slice(), &mut line)?,
         Step::Cmd(command) => {
@@ -360,6 +387,9 @@ pub fn write_line(alloc: Global, s: &Step, r: &Roster) -> Result<Bytes, NoMemory
         Step::Sweep(dom) => append_of_chip("sweep ", *dom, &mut line)?,
         Step::Publish => line.push_str("publish")?,
     }
+=======
+    append_step(s, r, &mut line)?;
+>>>>>>> main
     line.push('\n')?;
     Ok(Bytes::of(line.into_bytes()))
 }

@@ -6,7 +6,7 @@ use Rattle.std.specs.Ordering.{ord_min, is_lt}
 use Rattle.std.proofs.lemmas.List.Elements.{filter_map-append}
 use Rattle.br_model.specs.declared.tree.Candidate.{Candidate}
 use Rattle.br_model.specs.declared.tree.TreePort.{TreePort}
-use Rattle.br_model.specs.TreeVectors.{candidate_cmp, candidate, least}
+use Rattle.br_model.specs.Tree.Vectors.{candidate_cmp, candidate, least}
 use Rattle.stp_core.specs.Places.{entries_at}
 use Rattle.stp_core.proofs.PlaceLaws.{entry_at, entries-more}
 

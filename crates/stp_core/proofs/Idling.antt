@@ -6,13 +6,13 @@ use Rattle.std.proofs.lemmas.Bool.{or_parts, cases_Bool}
 use Rattle.std.proofs.lemmas.Bool.Decides.{nat_tests}
 use Rattle.br_model.specs.declared.tree.Stamped.{Stamped}
 use Rattle.br_model.specs.declared.tree.TreePort.{TreePort}
-use Rattle.br_model.specs.Tree.{Tree, each, numbers}
-use Rattle.br_model.specs.TreeVectors.{root_of, is_root, is_designated, is_active, without_kept, roles}
-use Rattle.br_model.specs.TreeTimers.{forward_delay, is_aged_out, is_tcn_due, forgets}
-use Rattle.br_model.specs.TreeStates.{blocking, learning, enters, by_role, is_open, is_due, is_blocked_by_roles, is_opened_by_time, states_follow, states_move}
-use Rattle.br_model.specs.TreeSending.{quiet, union, is_put_off, transmit, generate, drops_put_off, sends_put_off, notify, detected_if}
+use Rattle.br_model.specs.Tree.Tree.{Tree, each, numbers}
+use Rattle.br_model.specs.Tree.Vectors.{root_of, is_root, is_designated, is_active, without_kept, roles}
+use Rattle.br_model.specs.Tree.Timers.{forward_delay, is_aged_out, is_tcn_due, forgets}
+use Rattle.br_model.specs.Tree.States.{blocking, learning, enters, by_role, is_open, is_due, is_blocked_by_roles, is_opened_by_time, states_follow, states_move}
+use Rattle.br_model.specs.Tree.Sending.{quiet, union, is_put_off, transmit, generate, drops_put_off, sends_put_off, notify, detected_if}
 use Rattle.br_model.specs.declared.tree.TreeEvent.TheVariants.{Moment}
-use Rattle.br_model.specs.TreeStep.{tree_step, settled, roles_taken, hands_over, detects, greets_as_root, states_due, change_due, tcn_due, hello_due}
+use Rattle.br_model.specs.Tree.Step.{tree_step, settled, roles_taken, hands_over, detects, greets_as_root, states_due, change_due, tcn_due, hello_due}
 use Rattle.stp_core.specs.declared.vectors.Election.{Election}
 use Rattle.stp_core.specs.Due.{election_of, is_any_due, is_due_at, is_timer_due, is_change_over, says_hello, is_age_over, is_delay_over, is_unsettled, keeps_beside_role, stands_beside_role}
 

@@ -11,8 +11,8 @@ use Rattle.std.proofs.lemmas.List.Folds.{list_any-append}
 use Rattle.std.proofs.lemmas.List.{get_or-set_same, get_or-set_other, length-set}
 use Rattle.std.proofs.lemmas.Bool.{cases_eq, eq-eqb, ne_eqb, lt-ltb, le-ltb, and_right, or_parts, cases_Bool, false≢true}
 use Rattle.br_model.specs.declared.tree.TreePort.{TreePort}
-use Rattle.br_model.specs.Maps.{get, put, without}
-use Rattle.br_model.specs.Tree.{each, numbers}
+use Rattle.br_model.specs.Data.Maps.{get, put, without}
+use Rattle.br_model.specs.Tree.Tree.{each, numbers}
 use Rattle.port_sets.specs.Numbers.{numbers_below, has_number, IsSetBelow}
 use Rattle.port_sets.specs.WordsOfMembers.{has-below}
 use Rattle.stp_core.specs.Places.{entries_at}

@@ -1,17 +1,19 @@
 -- What stands at a port, in the form that a search applies.
-use Rattle.std.proofs.Common.{◌≡◌, [], ◌∷◌, cond, refl, ℕ, ◌<◌, List, length, set, get_or, Option, None, Some, not, ◌==◌, ◌∙◌, ap, ap₂, sym, arith}
+use Rattle.std.proofs.Common.{◌≡◌, [], ◌∷◌, cond, refl, ℕ, ◌+◌, ◌<◌, ◌≤◌, ◌⊎◌, inl, inr, nat_lt, Bool, true, false, List, length, replicate, set, get_or, Option, None, Some, not, ◌==◌, ◌∙◌, ap, ap₂, sym, arith}
 use Rattle.std.specs.Ordering.{nat_cmp}
 use Rattle.br_model.specs.declared.tree.TreePort.{TreePort}
-use Rattle.br_model.specs.Maps.{get, put, without}
+use Rattle.br_model.specs.Data.Maps.{get, put, without}
 use Rattle.stp_core.specs.Places.{entries_at}
 use Rattle.stp_core.proofs.PlaceLaws.{get-entries, put-entries, without-entries, numbers-kept}
-use Rattle.stp_core.specs.Settling.{state_in}
+use Rattle.stp_core.specs.Settling.{AreStates, state_in}
 use Rattle.std.specs.List.{filter}
 use Rattle.std.specs.Option.{option_map_or}
-use Rattle.br_model.specs.Table.{disabled}
-use Rattle.std.proofs.lemmas.Bool.{eq-eqb}
-use Rattle.br_model.specs.Tree.{Tree, numbers, state_at}
-use Rattle.br_model.specs.TreeStep.{moved}
+use Rattle.br_model.specs.Table.Table.{disabled}
+use Rattle.std.proofs.lemmas.Bool.{cases_eq, cases_lt, eq-eqb, le-ltb, lt-ltb}
+use Rattle.std.proofs.lemmas.Bool.Decides.{nat_tests}
+use Rattle.std.proofs.lemmas.List.{get_or-replicate, get_or-set_same, get_or-set_other, get_or_past, length-replicate}
+use Rattle.br_model.specs.Tree.Tree.{Tree, numbers, state_at}
+use Rattle.br_model.specs.Tree.Step.{moved}
 
 pub get_at : (p : ℕ) (os : List (Option TreePort)) → get nat_cmp (entries_at 0 os) p ≡ get_or os p None
 get_at p os = get-entries p 0 p os (omega arith)
@@ -22,15 +24,76 @@ put_at p x os low = sym (put-entries p 0 p x os (omega arith) low)
 pub without_at : (p : ℕ) (os : List (Option TreePort)) → entries_at 0 (set os p None) ≡ without nat_cmp (entries_at 0 os) p
 without_at p os = sym (without-entries p 0 p os (omega arith))
 
-pub moved_is : (bs os : List (Option TreePort))
-    → numbers (filter (λ e. not (option_map_or (λ x. x.state) (get_or bs e.0 None) disabled == e.1.state)) (entries_at 0 os))
-    ≡ filter (λ p. not (state_in (entries_at 0 bs) p == state_in (entries_at 0 os) p)) (numbers (entries_at 0 os))
-moved_is bs os =
-    numbers-kept (λ e. not (option_map_or (λ x. x.state) (get_or bs e.0 None) disabled == e.1.state)) (λ p. not (state_in (entries_at 0 bs) p == state_in (entries_at 0 os) p)) 0 os
+-- the ports whose state isn't the one that they had
+pub moved_is : (states : List ℕ) (old : Tree) (os : List (Option TreePort)) → AreStates states old
+    → numbers (filter (λ e. not (get_or states e.0 disabled == e.1.state)) (entries_at 0 os))
+    ≡ filter (λ p. not (state_at old p == state_in (entries_at 0 os) p)) (numbers (entries_at 0 os))
+moved_is states old os had =
+    numbers-kept (λ e. not (get_or states e.0 disabled == e.1.state)) (λ p. not (state_at old p == state_in (entries_at 0 os) p)) 0 os
     (λ k m x e is.
     let here : m ≡ k = omega arith in
     let now = get_at m os ∙ ap (λ j. get_or os j None) here ∙ is in
-    sym (ap₂ (λ b o. not (option_map_or (λ x. x.state) b disabled == option_map_or (λ x. x.state) o disabled)) (get_at m bs) now))
+    ap₂ (λ a b. not (a == b)) (had m) (sym (ap (λ o. option_map_or (λ y. y.state) o disabled) now)))
+
+abbrev pub state_at_place : List (Option TreePort) → ℕ → ℕ
+state_at_place ps k = option_map_or (λ x. x.state) (get_or ps k None) disabled
+
+-- The states of the ports below i are there, and as yet the others are disabled.
+abbrev pub Known : List (Option TreePort) → List ℕ → ℕ → Type 0
+Known ps states i = (k : ℕ) → get_or states k disabled ≡ cond (nat_lt k i) (state_at_place ps k) disabled
+
+none_there : (n k : ℕ) → get_or (replicate n disabled) k disabled ≡ disabled
+none_there n k = by (cases_lt k n)
+  where
+    by : (k < n) ⊎ (n ≤ k) → get_or (replicate n disabled) k disabled ≡ disabled
+    by (inl low) = get_or-replicate n k disabled disabled low
+    by (inr up) = get_or_past (replicate n disabled) k disabled (omega (arith, up, length-replicate n disabled))
+
+pub known-none : (ps : List (Option TreePort)) (n : ℕ) → Known ps (replicate n disabled) 0
+known-none ps n k = none_there n k ∙ sym (ap (λ b. cond b (state_at_place ps k) disabled) (le-ltb k 0 (omega arith)))
+
+later : (k i : ℕ) → (k ≡ i → ⊥) → nat_lt k i ≡ nat_lt k (i + 1)
+later k i apart = grind (arith, nat_tests)
+
+-- one port more
+pub known-more : (ps : List (Option TreePort)) (states new : List ℕ) (i s : ℕ) → i < length states → Known ps states i → new ≡ set states i s → state_at_place ps i ≡ s → Known ps new (i + 1)
+known-more ps states new i s low before is here k = ap (λ l. get_or l k disabled) is ∙ by (cases_eq k i)
+  where
+    by : (k ≡ i) ⊎ (k ≡ i → ⊥) → get_or (set states i s) k disabled ≡ cond (nat_lt k (i + 1)) (state_at_place ps k) disabled
+    by (inl same) =
+        ap (λ j. get_or (set states i s) j disabled) same
+        ∙ get_or-set_same states i s disabled low
+        ∙ sym here
+        ∙ sym (ap (λ j. state_at_place ps j) same)
+        ∙ sym (ap (λ b. cond b (state_at_place ps k) disabled) (lt-ltb k (i + 1) (omega arith)))
+    by (inr apart) =
+        get_or-set_other states i k s disabled apart
+        ∙ before k
+        ∙ ap (λ b. cond b (state_at_place ps k) disabled) (later k i apart)
+
+-- one that is disabled
+pub known-same : (ps : List (Option TreePort)) (states : List ℕ) (i : ℕ) → Known ps states i → state_at_place ps i ≡ disabled → Known ps states (i + 1)
+known-same ps states i before here k = before k ∙ by (cases_eq k i)
+  where
+    by : (k ≡ i) ⊎ (k ≡ i → ⊥) → cond (nat_lt k i) (state_at_place ps k) disabled ≡ cond (nat_lt k (i + 1)) (state_at_place ps k) disabled
+    by (inl same) = any (nat_lt k i) (nat_lt k (i + 1)) (ap (λ j. state_at_place ps j) same ∙ here)
+      where
+        any : (a b : Bool) → state_at_place ps k ≡ disabled → cond a (state_at_place ps k) disabled ≡ cond b (state_at_place ps k) disabled
+        any true true e = refl
+        any true false e = e
+        any false true e = sym e
+        any false false e = refl
+    by (inr apart) = ap (λ b. cond b (state_at_place ps k) disabled) (later k i apart)
+
+-- all ports
+pub known-all : (ps : List (Option TreePort)) (states : List ℕ) (n : ℕ) → length ps ≤ n → Known ps states n → (p : ℕ) → get_or states p disabled ≡ state_in (entries_at 0 ps) p
+known-all ps states n high all p = all p ∙ by (cases_lt p n) ∙ sym (ap (λ o. option_map_or (λ x. x.state) o disabled) (get_at p ps))
+  where
+    by : (p < n) ⊎ (n ≤ p) → cond (nat_lt p n) (state_at_place ps p) disabled ≡ state_at_place ps p
+    by (inl low) = ap (λ b. cond b (state_at_place ps p) disabled) (lt-ltb p n low)
+    by (inr up) =
+        ap (λ b. cond b (state_at_place ps p) disabled) (le-ltb p n up)
+        ∙ sym (ap (λ o. option_map_or (λ x. x.state) o disabled) (get_or_past ps p None (omega (arith, high, up))))
 
 none_differ : (f : ℕ → ℕ) (ps : List ℕ) → filter (λ p. not (f p == f p)) ps ≡ []
 none_differ f [] = refl

@@ -1,9 +1,9 @@
 -- What follows on a change needs no more of the tree before it than what the code remembers.
 use Rattle.std.proofs.Common.{◌≡◌, ℕ, Bool, Option, None, Some, refl}
 use Rattle.std.specs.Option.{is_some}
-use Rattle.br_model.specs.Tree.{Tree}
-use Rattle.br_model.specs.TreeVectors.{is_root}
-use Rattle.br_model.specs.TreeStep.{settled, follows, tree_step}
+use Rattle.br_model.specs.Tree.Tree.{Tree}
+use Rattle.br_model.specs.Tree.Vectors.{is_root}
+use Rattle.br_model.specs.Tree.Step.{settled, follows, tree_step}
 use Rattle.stp_core.specs.Settling.{settled_by, follows_by, ranked, ranking}
 
 pub settled_is : (kept : Bool) (before : Tree) (now : ℕ) (t : Tree)

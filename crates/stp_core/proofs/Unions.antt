@@ -6,8 +6,8 @@ use Rattle.std.specs.declared.cmp.Ordering.TheVariants.{Less, Equal, Greater}
 use Rattle.std.specs.Ordering.{nat_cmp, eq_by_cmp, match_ordering}
 use Rattle.std.proofs.lemmas.Bool.{cases_eq, cases_Bool, eq-eqb, ne_eqb}
 use Rattle.std.proofs.lemmas.Bool.Decides.{nat_tests}
-use Rattle.br_model.specs.Maps.{has, joined}
-use Rattle.br_model.specs.TreeSending.{union}
+use Rattle.br_model.specs.Data.Maps.{has, joined}
+use Rattle.br_model.specs.Tree.Sending.{union}
 use Rattle.port_sets.specs.Numbers.{numbers_below, has_number, IsSetBelow}
 
 eq_is : (k m : ℕ) → eq_by_cmp nat_cmp k m ≡ (k == m)

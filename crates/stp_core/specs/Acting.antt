@@ -3,13 +3,13 @@ use Rattle.std.specs.Prelude.{ℕ, nat_lt, Bool, true, false, not, ◌&&◌, if�
 use Rattle.std.specs.declared.option.Option.TheVariants.{Some}
 use Rattle.br_model.specs.declared.tree.ConfigMsg.{ConfigMsg}
 use Rattle.br_model.specs.declared.tree.TreePort.{TreePort}
-use Rattle.br_model.specs.Tree.{Tree, bridge_id, port_id}
+use Rattle.br_model.specs.Tree.Tree.{Tree, bridge_id, port_id}
 use Rattle.br_model.specs.declared.tree.Vector.{Vector}
 use Rattle.std.specs.Option.{option_map_or}
-use Rattle.br_model.specs.TreeVectors.{root_of, root_kept, own_vector, is_designated_by, kept_vector}
+use Rattle.br_model.specs.Tree.Vectors.{root_of, root_kept, own_vector, is_designated_by, kept_vector}
 use Rattle.stp_core.specs.declared.vectors.Election.{Election}
-use Rattle.br_model.specs.TreeTimers.{times, is_changing, is_held}
-use Rattle.br_model.specs.TreeSending.{Acted, flags_of, age_at}
+use Rattle.br_model.specs.Tree.Timers.{times, is_changing, is_held}
+use Rattle.br_model.specs.Tree.Sending.{Acted, flags_of, age_at}
 use Rattle.stp_core.specs.declared.messages.Sent.{Sent}
 use Rattle.stp_core.specs.declared.messages.Voice.{Voice}
 

@@ -3,11 +3,11 @@ use Rattle.std.specs.Prelude.{ℕ, ◌+◌, ◌-◌, ◌^◌, ◌<◌, ◌≡◌
 use Rattle.std.specs.Option.{is_some, option_map_or}
 use Rattle.std.specs.List.{list_any}
 use Rattle.br_model.specs.declared.tree.TreePort.{TreePort}
-use Rattle.br_model.specs.Tree.{Tree, bridge_id}
-use Rattle.br_model.specs.TreeVectors.{root_of, is_root, is_port_of, is_designated_by}
-use Rattle.br_model.specs.TreeTimers.{forward_delay, is_aged_out, is_tcn_due, is_hello_due}
-use Rattle.br_model.specs.TreeStates.{listening, learning, blocking}
-use Rattle.br_model.specs.TreeSending.{is_put_off}
+use Rattle.br_model.specs.Tree.Tree.{Tree, bridge_id}
+use Rattle.br_model.specs.Tree.Vectors.{root_of, is_root, is_port_of, is_designated_by}
+use Rattle.br_model.specs.Tree.Timers.{forward_delay, is_aged_out, is_tcn_due, is_hello_due}
+use Rattle.br_model.specs.Tree.States.{listening, learning, blocking}
+use Rattle.br_model.specs.Tree.Sending.{is_put_off}
 use Rattle.stp_core.specs.declared.vectors.Election.{Election}
 
 -- the first moment that passes; the last of all moments where none before it passes

@@ -1,21 +1,20 @@
 -- What follows on a change, by what the code remembers of the tree before it: whether the bridge was the root, and whether
 -- its own topology change was on.
-use Rattle.std.specs.Prelude.{ℕ, ◌==◌, Bool, false, not, List, ◌&&◌, ◌||◌, if◌then◌else◌}
+use Rattle.std.specs.Prelude.{ℕ, ◌≡◌, Bool, false, not, List, get_or, ◌&&◌, ◌||◌, if◌then◌else◌}
 use Rattle.std.specs.declared.option.Option.TheVariants.{None, Some}
 use Rattle.std.specs.declared.option.Option.{Option}
-use Rattle.std.specs.List.{filter}
 use Rattle.std.specs.Option.{option_map_or}
 use Rattle.std.specs.Ordering.{nat_cmp}
-use Rattle.br_model.specs.Maps.{get}
-use Rattle.br_model.specs.Table.{disabled}
+use Rattle.br_model.specs.Data.Maps.{get}
+use Rattle.br_model.specs.Table.Table.{disabled}
 use Rattle.br_model.specs.declared.tree.TreeEvent.{TreeEvent}
 use Rattle.br_model.specs.declared.tree.TreeEvent.TheVariants.{PortPriority, Priority}
 use Rattle.br_model.specs.declared.tree.TreePort.{TreePort}
-use Rattle.br_model.specs.Tree.{Tree, state_at, numbers, at_port}
-use Rattle.br_model.specs.TreeVectors.{is_root, roles}
-use Rattle.br_model.specs.TreeStates.{states_follow, is_blocked_by_roles}
-use Rattle.br_model.specs.TreeSending.{Acted, quiet, generate, detected_if}
-use Rattle.br_model.specs.TreeStep.{moved}
+use Rattle.br_model.specs.Tree.Tree.{Tree, state_at, at_port}
+use Rattle.br_model.specs.Tree.Vectors.{is_root, roles}
+use Rattle.br_model.specs.Tree.States.{states_follow, is_blocked_by_roles}
+use Rattle.br_model.specs.Tree.Sending.{Acted, quiet, generate, detected_if}
+use Rattle.br_model.specs.Tree.Step.{moved}
 use Rattle.stp_core.specs.declared.steps.Before.{Before}
 use Rattle.stp_core.specs.declared.tree.TreeOut.{TreeOut}
 
@@ -56,9 +55,9 @@ ranking (Some p) n = PortPriority p n
 abbrev pub state_in : List (ℕ × TreePort) → ℕ → ℕ
 state_in ports p = option_map_or (λ x. x.state) (get nat_cmp ports p) disabled
 
--- the ports that are up now, and whose state was another one
-abbrev pub moved_from : List (ℕ × TreePort) → Tree → List ℕ
-moved_from ports t = filter (λ p. not (state_in ports p == state_at t p)) (numbers t.ports)
+-- the states of the tree's ports, by their numbers
+abbrev pub AreStates : List ℕ → Tree → Type 0
+AreStates states t = (p : ℕ) → get_or states p disabled ≡ state_at t p
 
 -- what an event answers
 abbrev pub out_of : Tree → Acted → TreeOut

@@ -1,17 +1,17 @@
 //! The events of the tree, as the control plane tells them.
 ghost use Rattle.std.specs.Prelude.{◌≡◌, ◌/◌, ◌%◌, ◌==◌, ◌<◌, ◌≤◌, ◌^◌, [], ◌∷◌, Some, None, true, IsSome, if◌then◌else◌};
-ghost use Rattle.br_model.specs.Tree.{fresh, bpdu_of};
+ghost use Rattle.br_model.specs.Table.Domains.{port_places};
+ghost use Rattle.br_model.specs.Tree.Tree.{Tree as TreeValue, fresh, bpdu_of};
 ghost use Rattle.br_model.specs.declared.tree.TreeEvent.TheVariants.{Switch, Up, Down, Message, Cost};
-ghost use Rattle.br_model.specs.TreeStep.{settled, with_kept, passed_on, config_received, tcn_received, received_at, tree_step, message};
-ghost use Rattle.br_model.specs.TreeStates.{blocking};
-ghost use Rattle.br_model.specs.Admission.{forwarding};
+ghost use Rattle.br_model.specs.Tree.Step.{settled, with_kept, passed_on, config_received, tcn_received, received_at, tree_step, message};
+ghost use Rattle.br_model.specs.Tree.States.{blocking};
+ghost use Rattle.br_model.specs.Forward.Admission.{forwarding};
 ghost use Rattle.stp_core.specs.Acting.{acted};
-ghost use Rattle.stp_core.specs.Places.{entries_at};
-ghost use Rattle.stp_core.specs.Settling.{moved_from, follows_by, ranked, ranking};
+ghost use Rattle.stp_core.specs.Settling.{AreStates, follows_by, out_of, ranked, ranking};
 
 use crate::messages::Sent;
 use crate::parameters::Parameters;
-use crate::places::{Places, change_at, put_port, take_port};
+use crate::places::{States, change_at, put_port, take_port};
 use crate::rules::{BLOCKING, Costing, FORWARDING, Keeping, Owing, Ranking};
 use crate::steps::{Before, nothing_sent};
 use crate::tree::TreeOut;
@@ -23,7 +23,7 @@ use port_sets::Ports;
 
 // The set of this port alone.
 fn only(p: u8) -> Ports
-    requires { p < 64 }
+    requires { p < port_places }
     ensures { result ≡ p ∷ [] }
 {
     Ports::empty().with(p)
@@ -61,8 +61,8 @@ fn acknowledges(m: &ConfigMsg) -> bool
 
 impl Parameters {
     /// What is answered.
-    pub(crate) fn out(&self, before: &Places, sent: Sent) -> TreeOut
-        ensures { result ≡ record { moved = moved_from (entries_at 0 before.now) self.now; config = sent.config; tcn = sent.tcn } }
+    pub(crate) fn out(&self, before: &States, sent: Sent) -> TreeOut
+        ensures { (old : TreeValue) → AreStates before.now old → result ≡ out_of old (acted self.now sent) }
     {
         TreeOut {
             moved: self.moved_from(before),
@@ -83,7 +83,7 @@ impl Parameters {
         }
     }
 
-    #[tactic(auto, unfolding(br_model::specs::TreeStep::tree_step))]
+    #[tactic(auto, unfolding(br_model::specs::Tree::Step::tree_step))]
     pub(crate) fn turn(&mut self, on: bool, now: u64) -> Sent
         requires { now < 2 ^ 53 }
         ensures { acted self.new result ≡ tree_step self.old now (Switch on) }
@@ -116,7 +116,7 @@ impl Parameters {
     #[tactic(auto, using(crate::proofs::Settlements::settled_is))]
     fn keep(&mut self, p: u8, m: &ConfigMsg, now: u64) -> Sent
         requires early { now < 2 ^ 53 }
-        requires port { p < 64 }
+        requires port { p < port_places }
         ensures { acted self.new result ≡ passed_on now p m.now (settled true self.old now (with_kept self.old now p m.now)) }
     {
         let before = self.before();
@@ -132,7 +132,7 @@ impl Parameters {
 
     fn receive_config(&mut self, p: u8, x: &TreePort, m: &ConfigMsg, now: u64) -> Sent
         requires early { now < 2 ^ 53 }
-        requires port { p < 64 }
+        requires port { p < port_places }
         ensures { acted self.new result ≡ config_received self.old now (p, x.now) m.now }
     {
         if m.max <= m.age {
@@ -151,7 +151,7 @@ impl Parameters {
 
     fn receive_tcn(&mut self, p: u8, x: &TreePort, now: u64) -> Sent
         requires early { now < 2 ^ 53 }
-        requires port { p < 64 }
+        requires port { p < port_places }
         ensures { acted self.new result ≡ tcn_received self.old now (p, x.now) }
     {
         let mut sent = nothing_sent();
@@ -166,7 +166,7 @@ impl Parameters {
 
     fn receive_at(&mut self, p: u8, x: &TreePort, m: &BpduMsg, now: u64) -> Sent
         requires early { now < 2 ^ 53 }
-        requires port { p < 64 }
+        requires port { p < port_places }
         ensures { acted self.new result ≡ received_at self.old now (p, x.now) m.now }
     {
         match *m {
@@ -198,10 +198,10 @@ impl Parameters {
         }
     }
 
-    #[tactic(auto, unfolding(br_model::specs::TreeStep::tree_step))]
+    #[tactic(auto, unfolding(br_model::specs::Tree::Step::tree_step))]
     pub(crate) fn receive(&mut self, p: u8, m: &BpduMsg, now: u64) -> Sent
         requires early { now < 2 ^ 53 }
-        requires port { p < 64 }
+        requires port { p < port_places }
         ensures { acted self.new result ≡ tree_step self.old now (Message p m.now) }
     {
         match self.port(p) {
@@ -210,10 +210,10 @@ impl Parameters {
         }
     }
 
-    #[tactic(auto, using(crate::proofs::Settlements::follows_is), unfolding(br_model::specs::TreeStep::tree_step))]
+    #[tactic(auto, using(crate::proofs::Settlements::follows_is), unfolding(br_model::specs::Tree::Step::tree_step))]
     pub(crate) fn bring_up(&mut self, p: u8, now: u64) -> Sent
         requires early { now < 2 ^ 53 }
-        requires port { p < 64 }
+        requires port { p < port_places }
         ensures { acted self.new result ≡ tree_step self.old now (Up p) }
     {
         let before = self.before();
@@ -222,10 +222,10 @@ impl Parameters {
         self.follow(before, now)
     }
 
-    #[tactic(auto, using(crate::proofs::Settlements::follows_is), unfolding(br_model::specs::TreeStep::tree_step))]
+    #[tactic(auto, using(crate::proofs::Settlements::follows_is), unfolding(br_model::specs::Tree::Step::tree_step))]
     pub(crate) fn take_down(&mut self, p: u8, now: u64) -> Sent
         requires early { now < 2 ^ 53 }
-        requires port { p < 64 }
+        requires port { p < port_places }
         ensures { acted self.new result ≡ tree_step self.old now (Down p) }
     {
         let before = self.before();
@@ -233,10 +233,10 @@ impl Parameters {
         self.follow(before, now)
     }
 
-    #[tactic(auto, using(crate::proofs::Settlements::follows_is), unfolding(br_model::specs::TreeStep::tree_step))]
+    #[tactic(auto, using(crate::proofs::Settlements::follows_is), unfolding(br_model::specs::Tree::Step::tree_step))]
     pub(crate) fn set_cost_at(&mut self, p: u8, n: u16, now: u64) -> Sent
         requires early { now < 2 ^ 53 }
-        requires port { p < 64 }
+        requires port { p < port_places }
         ensures { acted self.new result ≡ tree_step self.old now (Cost p n) }
     {
         let before = self.before();

@@ -1,8 +1,8 @@
 //! The first moment at which something is due: the moments before it change nothing.
 ghost use Rattle.std.specs.Prelude.{◌≡◌, ◌+◌, ◌-◌, ◌^◌, min};
 ghost use Rattle.std.specs.List.{list_any};
-ghost use Rattle.br_model.specs.TreeTimers.{is_tcn_due};
-ghost use Rattle.br_model.specs.TreeSending.{is_put_off};
+ghost use Rattle.br_model.specs.Tree.Timers.{is_tcn_due};
+ghost use Rattle.br_model.specs.Tree.Sending.{is_put_off};
 ghost use Rattle.stp_core.specs.Due.{IsFirst, is_age_over, is_delay_over, is_unsettled, is_due_at, is_change_over, says_hello, is_timer_due, is_any_due};
 ghost use Rattle.stp_core.specs.Places.{entries_at};
 
@@ -12,6 +12,7 @@ use crate::rules::{BLOCKING, LEARNING, LISTENING, is_active};
 use crate::steps::{HELLO_TIME, TCN_TIME};
 use crate::timers::{HOLD_TIME, milliseconds};
 use crate::vectors::{Election, is_designated};
+use br_model::numbers::Port;
 use br_model::tree::TreePort;
 
 // For what is never due.
@@ -82,7 +83,7 @@ fn ports_due(election: &Election, delay: u64, places: &Places) -> u64
     ensures { IsFirst result (λ now. list_any (is_due_at election.now delay now) (entries_at 0 places.now)) }
 {
     let mut due = NEVER;
-    for p in 0..64u8 {
+    for p in 0..Port::PLACES as u8 {
         if let Some(x) = &places[usize::from(p)] {
             due = due.min(port_due(election, delay, p, x));
         }

@@ -17,6 +17,3 @@ mod tree;
 mod vectors;
 
 pub use crate::tree::{Tree, TreeOut};
-
-#[cfg(test)]
-mod tests;

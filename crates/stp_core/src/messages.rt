@@ -1,8 +1,8 @@
 //! What goes out, and by which messages.
 ghost use Rattle.std.specs.Prelude.{◌≡◌, ◌<◌, ◌^◌, ◌&&◌, if◌then◌else◌};
 ghost use Rattle.std.specs.Ordering.{nat_cmp};
-ghost use Rattle.br_model.specs.Maps.{has};
-ghost use Rattle.br_model.specs.TreeSending.{flags_of};
+ghost use Rattle.br_model.specs.Data.Maps.{has};
+ghost use Rattle.br_model.specs.Tree.Sending.{flags_of};
 ghost use Rattle.stp_core.specs.Acting.{message_by, goes_out_by, transmitted_by};
 
 use crate::places::{Rule, Test};

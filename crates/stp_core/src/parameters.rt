@@ -1,12 +1,13 @@
 //! What a bridge keeps of itself and of each port, and what can be read of it (IEEE 802.1D-1998 section 8.5).
 ghost use Rattle.std.specs.Prelude.{◌≡◌, ◌<◌};
 ghost use Rattle.std.specs.Option.{ForSome};
-ghost use Rattle.br_model.specs.Tree.{first_tree, bridge_id, port_at, state_at};
-ghost use Rattle.br_model.specs.TreeVectors.{root_of, root_kept, is_root};
-ghost use Rattle.br_model.specs.TreeTimers.{times, forward_delay, is_changing, hold};
-ghost use Rattle.stp_core.specs.Places.{entries_at};
+ghost use Rattle.br_model.specs.Table.Domains.{port_places};
+ghost use Rattle.br_model.specs.Tree.Tree.{first_tree, bridge_id, port_at, state_at};
+ghost use Rattle.br_model.specs.Tree.Vectors.{root_of, root_kept, is_root};
+ghost use Rattle.br_model.specs.Tree.Timers.{times, forward_delay, is_changing, hold};
+ghost use Rattle.stp_core.specs.Settling.{AreStates};
 
-use crate::places::Places;
+use crate::places::{Places, States, states_of};
 use crate::timers::{milliseconds, times_of};
 use crate::vectors::{Election, elect};
 use br_model::numbers::{Mac, Port};
@@ -29,7 +30,7 @@ pub(crate) struct Parameters {
 }
 
 impl Model for Parameters {
-    ghost use Rattle.br_model.specs.Tree as tree;
+    ghost use Rattle.br_model.specs.Tree.Tree as tree;
     ghost use Rattle.stp_core.specs.Places.{entries_at};
 
     ghost Value = { tree.Tree };
@@ -45,7 +46,7 @@ impl Parameters {
             own,
             priority: 32768,
             on: false,
-            places: [None; 64],
+            places: [None; Port::PLACES],
             change_end: None,
             notified: None,
             hello: 0,
@@ -66,11 +67,11 @@ impl Parameters {
         }
     }
 
-    /// What is kept of the ports.
-    pub(crate) fn places(&self) -> Places
-        ensures { entries_at 0 result ≡ self.now.ports }
+    /// The state of each port.
+    pub(crate) fn states(&self) -> States
+        ensures { AreStates result self.now }
     {
-        self.places
+        states_of(&self.places)
     }
 
     /// The identifier of the bridge: its priority, then its address.
@@ -80,10 +81,10 @@ impl Parameters {
         (u64::from(self.priority) << 48) + self.own.number()
     }
 
-    #[tactic(auto, unfolding(br_model::specs::TreeVectors::root_of))]
+    #[tactic(auto, unfolding(br_model::specs::Tree::Vectors::root_of))]
     pub(crate) fn root(&self) -> Root
         ensures value { result ≡ root_of self.now }
-        ensures below { ForSome result.port (λ p. p < 64) }
+        ensures below { ForSome result.port (λ p. p < port_places) }
     {
         elect(self.bridge_id(), &self.places)
     }
@@ -105,7 +106,7 @@ impl Parameters {
 
     #[tactic(auto, using(crate::proofs::Reading::get_at))]
     pub(crate) fn port(&self, p: u8) -> Option<TreePort>
-        requires { p < 64 }
+        requires { p < port_places }
         ensures { result ≡ port_at self.now p }
     {
         self.places[usize::from(p)]

@@ -1,17 +1,24 @@
 //! Ports in an array with a place for each, and passes over those that are up.
-ghost use Rattle.std.specs.Prelude.{◌≡◌, ◌<◌, ◌==◌, ℕ, Bool, if◌then◌else◌};
+ghost use Rattle.std.specs.Prelude.{◌≡◌, ◌<◌, ◌==◌, ℕ, Bool, get_or, if◌then◌else◌};
 ghost use Rattle.std.specs.Ordering.{nat_cmp};
-ghost use Rattle.br_model.specs.Maps.{put, without};
+ghost use Rattle.br_model.specs.Data.Maps.{put, without};
 ghost use Rattle.std.specs.List.{filter, list_any};
+ghost use Rattle.br_model.specs.Table.Domains.{port_places};
 ghost use Rattle.br_model.specs.declared.tree.TreePort.{TreePort as PortValue};
-ghost use Rattle.br_model.specs.Tree.{each, numbers};
+ghost use Rattle.br_model.specs.Tree.Tree.{each, numbers};
+ghost use Rattle.br_model.specs.Table.Table.{disabled};
 ghost use Rattle.stp_core.specs.Places.{entries_at};
+ghost use Rattle.stp_core.specs.Settling.{state_in};
 
+use br_model::numbers::Port;
 use br_model::tree::TreePort;
 use port_sets::Ports;
 
 /// What is kept of each port, by its number; `None` where it isn't up.
-pub(crate) type Places = [Option<TreePort>; 64];
+pub(crate) type Places = [Option<TreePort>; Port::PLACES];
+
+/// The state of each port, by its number; that of a disabled port where it isn't up.
+pub(crate) type States = [u8; Port::PLACES];
 
 /// What happens at one port.
 pub(crate) trait Rule {
@@ -33,7 +40,7 @@ pub(crate) trait Test {
 pub(crate) fn change_each<R: Rule>(rule: &R, places: &mut Places)
     ensures { entries_at 0 places.new ≡ each (R.changed rule.now) (entries_at 0 places.old) }
 {
-    for p in 0..64u8 {
+    for p in 0..Port::PLACES as u8 {
         if let Some(x) = &mut places[usize::from(p)] {
             rule.change(p, x);
         }
@@ -45,13 +52,14 @@ pub(crate) fn ports_where<T: Test>(test: &T, places: &Places) -> Ports
     ensures { result ≡ numbers (filter (T.holds test.now) (entries_at 0 places.now)) }
 {
     let mut ports = Ports::empty();
-    for p in 0..64u8 {
+    for p in 0..Port::PLACES as u8 {
         if let Some(x) = &places[usize::from(p)] {
             if test.passes(p, x) {
                 ports = ports.with(p);
             }
         }
     }
+    // law: the members ascend
     ports.members_ascend();
     ports
 }
@@ -63,9 +71,22 @@ pub(crate) fn any_port<T: Test>(test: &T, places: &Places) -> bool
     !ports_where(test, places).is_empty()
 }
 
+/// The state of each port.
+pub(crate) fn states_of(places: &Places) -> States
+    ensures { (p : ℕ) → get_or result p disabled ≡ state_in (entries_at 0 places.now) p }
+{
+    let mut states = [0; Port::PLACES];
+    for p in 0..Port::PLACES as u8 {
+        if let Some(x) = &places[usize::from(p)] {
+            states[usize::from(p)] = x.state;
+        }
+    }
+    states
+}
+
 /// The rule at this port, if it is up.
 pub(crate) fn change_at<R: Rule>(rule: &R, p: u8, places: &mut Places)
-    requires { p < 64 }
+    requires { p < port_places }
     ensures { entries_at 0 places.new ≡ each (λ e. if e.0 == p then R.changed rule.now e else e.1) (entries_at 0 places.old) }
 {
     if let Some(x) = &mut places[usize::from(p)] {
@@ -75,7 +96,7 @@ pub(crate) fn change_at<R: Rule>(rule: &R, p: u8, places: &mut Places)
 
 #[tactic(auto, using(crate::proofs::Reading::put_at))]
 pub(crate) fn put_port(places: &mut Places, p: u8, x: TreePort)
-    requires { p < 64 }
+    requires { p < port_places }
     ensures { entries_at 0 places.new ≡ put nat_cmp (entries_at 0 places.old) p x }
 {
     places[usize::from(p)] = Some(x);
@@ -83,7 +104,7 @@ pub(crate) fn put_port(places: &mut Places, p: u8, x: TreePort)
 
 #[tactic(auto, using(crate::proofs::Reading::without_at))]
 pub(crate) fn take_port(places: &mut Places, p: u8)
-    requires { p < 64 }
+    requires { p < port_places }
     ensures { entries_at 0 places.new ≡ without nat_cmp (entries_at 0 places.old) p }
 {
     places[usize::from(p)] = None;

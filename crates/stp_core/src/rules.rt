@@ -1,17 +1,17 @@
 //! The rules that change each port on its own: what is forgotten, roles, and states.
 ghost use Rattle.std.specs.Prelude.{◌≡◌, ◌+◌, ◌==◌, ◌&&◌, ◌||◌, None, Some, true, false, get_or, nat_le, not, if◌then◌else◌};
 ghost use Rattle.std.specs.Option.{option_map_or};
-ghost use Rattle.br_model.specs.TreeVectors.{without_kept, is_designated_by, is_port_of, roles, designated_ports};
-ghost use Rattle.br_model.specs.TreeTimers.{is_aged_out, forgets};
-ghost use Rattle.br_model.specs.TreeStates.{by_role, enters, is_open, states_follow, states_move, listening, learning, is_blocked_by_roles, is_opened_by_time};
-ghost use Rattle.br_model.specs.TreeSending.{is_put_off, drops_put_off};
-ghost use Rattle.br_model.specs.TreeStep.{restarted, on_at, off_at};
-ghost use Rattle.br_model.specs.Table.{disabled};
-ghost use Rattle.stp_core.specs.Places.{entries_at};
-ghost use Rattle.stp_core.specs.Settling.{moved_from};
+ghost use Rattle.br_model.specs.Tree.Vectors.{without_kept, is_designated_by, is_port_of, roles, designated_ports};
+ghost use Rattle.br_model.specs.Tree.Timers.{is_aged_out, forgets};
+ghost use Rattle.br_model.specs.Tree.States.{by_role, enters, is_open, states_follow, states_move, listening, learning, is_blocked_by_roles, is_opened_by_time};
+ghost use Rattle.br_model.specs.Tree.Sending.{is_put_off, drops_put_off};
+ghost use Rattle.br_model.specs.Tree.Step.{moved, restarted, on_at, off_at};
+ghost use Rattle.br_model.specs.Tree.Tree.{Tree as TreeValue};
+ghost use Rattle.br_model.specs.Table.Table.{disabled};
+ghost use Rattle.stp_core.specs.Settling.{AreStates};
 
 use crate::parameters::Parameters;
-use crate::places::{Places, Rule, Test, any_port, change_each, ports_where};
+use crate::places::{Rule, States, Test, any_port, change_each, ports_where};
 use crate::timers::{has_passed, is_aged_out, is_held};
 use crate::vectors::{Election, is_designated, is_root_port};
 use br_model::tree::{Stamped, TreePort};
@@ -277,17 +277,17 @@ impl Rule for Ranking {
 /// Whether the port was in another state; it was disabled where it wasn't up.
 #[derive(Clone, Copy)]
 struct Moved<'a> {
-    before: &'a Places,
+    before: &'a States,
 }
 
 impl Test for Moved<'_> {
-    ghost holds = { λ t e. not (option_map_or (λ x. x.state) (get_or t.before.now e.0 None) disabled == e.1.state) };
+    ghost holds = { λ t e. not (get_or t.before.now e.0 disabled == e.1.state) };
 
     fn passes(&self, p: u8, x: &TreePort) -> bool {
         let before = self.before;
         match before.get(usize::from(p)) {
-            Some(Some(was)) => was.state != x.state,
-            Some(None) | None => x.state != DISABLED,
+            Some(was) => *was != x.state,
+            None => x.state != DISABLED,
         }
     }
 }
@@ -317,14 +317,14 @@ impl Parameters {
     }
 
     /// The ports whose state isn't as it was.
-    pub(crate) fn moved_from(&self, before: &Places) -> Ports
-        ensures { result ≡ moved_from (entries_at 0 before.now) self.now }
+    pub(crate) fn moved_from(&self, before: &States) -> Ports
+        ensures { (old : TreeValue) → AreStates before.now old → result ≡ moved old self.now }
     {
         ports_where(&Moved { before }, &self.places)
     }
 
     /// Forgets the messages that have aged out.
-    #[tactic(auto, unfolding(br_model::specs::TreeTimers::forgets))]
+    #[tactic(auto, unfolding(br_model::specs::Tree::Timers::forgets))]
     pub(crate) fn forget(&mut self, now: u64)
         ensures { self.new ≡ forgets now self.old }
     {
@@ -332,7 +332,7 @@ impl Parameters {
     }
 
     /// Takes roles anew.
-    #[tactic(auto, unfolding(br_model::specs::TreeVectors::roles))]
+    #[tactic(auto, unfolding(br_model::specs::Tree::Vectors::roles))]
     pub(crate) fn take_roles(&mut self)
         ensures { self.new ≡ roles self.old }
     {
@@ -341,7 +341,7 @@ impl Parameters {
     }
 
     /// Lets states follow the roles.
-    #[tactic(auto, unfolding(br_model::specs::TreeStates::states_follow))]
+    #[tactic(auto, unfolding(br_model::specs::Tree::States::states_follow))]
     pub(crate) fn follow_roles(&mut self, now: u64)
         ensures { self.new ≡ states_follow now self.old }
     {
@@ -350,7 +350,7 @@ impl Parameters {
     }
 
     /// Moves the states that are due.
-    #[tactic(auto, unfolding(br_model::specs::TreeStates::states_move))]
+    #[tactic(auto, unfolding(br_model::specs::Tree::States::states_move))]
     pub(crate) fn move_states(&mut self, now: u64)
         ensures { self.new ≡ states_move now self.old }
     {
@@ -359,7 +359,7 @@ impl Parameters {
     }
 
     /// Drops the messages that were put off on ports that aren't designated.
-    #[tactic(auto, unfolding(br_model::specs::TreeSending::drops_put_off))]
+    #[tactic(auto, unfolding(br_model::specs::Tree::Sending::drops_put_off))]
     pub(crate) fn drop_put_off(&mut self, now: u64)
         ensures { self.new ≡ drops_put_off now self.old }
     {

@@ -1,7 +1,8 @@
 //! Sending: configuration messages, those that were put off, and notifications of topology changes.
 ghost use Rattle.std.specs.Prelude.{◌≡◌, ◌<◌, ◌^◌};
 ghost use Rattle.std.specs.declared.option.Option.TheVariants.{Some};
-ghost use Rattle.br_model.specs.TreeSending.{transmit, generate, sends_put_off, notify, detected, detected_if, union};
+ghost use Rattle.br_model.specs.Table.Domains.{port_places};
+ghost use Rattle.br_model.specs.Tree.Sending.{transmit, generate, sends_put_off, notify, detected, detected_if, union};
 ghost use Rattle.stp_core.specs.Acting.{acted, voice_of};
 
 use crate::messages::{GoingOut, Sent, Transmitting, Voice};
@@ -30,7 +31,7 @@ impl Parameters {
     }
 
     /// Each of these ports is to send its message.
-    #[tactic(auto, unfolding(br_model::specs::TreeSending::transmit))]
+    #[tactic(auto, unfolding(br_model::specs::Tree::Sending::transmit))]
     pub(crate) fn transmit(&mut self, ports: Ports, now: u64, sent: &mut Sent)
         requires { now < 2 ^ 53 }
         ensures { acted self.new sent.new ≡ transmit ports now (acted self.old sent.old) }
@@ -62,7 +63,7 @@ impl Parameters {
 
     /// A notification goes out on the root port.
     pub(crate) fn notify(&mut self, p: u8, now: u64, sent: &mut Sent)
-        requires { p < 64 }
+        requires { p < port_places }
         ensures { acted self.new sent.new ≡ notify now (Some p) (acted self.old sent.old) }
     {
         self.notified = Some(now);
@@ -93,13 +94,14 @@ impl Parameters {
 fn union(a: Ports, b: Ports) -> Ports
     ensures { result ≡ union a b }
 {
+    // law: the members of both ascend
     a.members_ascend();
     b.members_ascend();
     a.or(b)
 }
 
 fn port_of(p: u8) -> Port
-    requires { p < 64 }
+    requires { p < port_places }
     ensures { result ≡ p }
 {
     match Port::new(p) {

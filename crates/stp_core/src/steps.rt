@@ -1,11 +1,11 @@
 //! What happens in the tree: each event is a composition of the rules, in their order.
 ghost use Rattle.std.specs.Prelude.{◌≡◌, ◌<◌, ◌≤◌, ◌^◌, ◌&&◌, ◌||◌, [], ◌∷◌, None, Some, true, false, not, if◌then◌else◌};
 ghost use Rattle.std.specs.Option.{is_some};
-ghost use Rattle.br_model.specs.Tree.{Tree as TreeValue};
-ghost use Rattle.br_model.specs.TreeVectors.{is_root};
-ghost use Rattle.br_model.specs.TreeTimers.{is_hello_due, change_ends};
+ghost use Rattle.br_model.specs.Tree.Tree.{Tree as TreeValue};
+ghost use Rattle.br_model.specs.Tree.Vectors.{is_root};
+ghost use Rattle.br_model.specs.Tree.Timers.{is_hello_due, change_ends};
 ghost use Rattle.br_model.specs.declared.tree.TreeEvent.TheVariants.{Moment};
-ghost use Rattle.br_model.specs.TreeStep.{states_due, tcn_due, hello_due, tree_step};
+ghost use Rattle.br_model.specs.Tree.Step.{states_due, tcn_due, hello_due, tree_step};
 ghost use Rattle.stp_core.specs.Acting.{acted};
 ghost use Rattle.stp_core.specs.Settling.{hands_over_by, detects_by, settled_by};
 
@@ -137,7 +137,7 @@ impl Parameters {
     }
 
     // The moment is told.
-    #[tactic(auto, using(crate::proofs::Settlements::settled_is), unfolding(br_model::specs::TreeStep::tree_step))]
+    #[tactic(auto, using(crate::proofs::Settlements::settled_is), unfolding(br_model::specs::Tree::Step::tree_step))]
     pub(crate) fn pass_moment(&mut self, now: u64) -> Sent
         requires { now < 2 ^ 53 }
         ensures { acted self.new result ≡ tree_step self.old now Moment }

@@ -1,11 +1,11 @@
 //! The spanning tree, as the control plane tells it events and reads it.
 ghost use Rattle.std.specs.Prelude.{◌≡◌, ◌<◌, ◌≤◌, ◌^◌, true, Some, IsSome, IsTrue};
-ghost use Rattle.br_model.specs.Tree.{first_tree, state_at};
-ghost use Rattle.br_model.specs.TreeTimers.{hold};
-ghost use Rattle.br_model.specs.TreeSending.{quiet};
+ghost use Rattle.br_model.specs.Tree.Tree.{first_tree, state_at};
+ghost use Rattle.br_model.specs.Tree.Timers.{hold};
+ghost use Rattle.br_model.specs.Tree.Sending.{quiet};
 ghost use Rattle.br_model.specs.declared.tree.TreeEvent.TheVariants.{Switch, Up, Down, Message, Moment, Cost};
-ghost use Rattle.br_model.specs.TreeStep.{tree_step, message};
-ghost use Rattle.br_model.specs.TreeLaws.{HaveSent, knows_states};
+ghost use Rattle.br_model.specs.Tree.Step.{tree_step, message};
+ghost use Rattle.br_model.specs.Theorems.TreeLaws.{HaveSent, knows_states};
 ghost use Rattle.stp_core.specs.Settling.{ranking, out_of};
 
 use crate::parameters::Parameters;
@@ -26,8 +26,8 @@ pub struct Tree {
 
 impl Model for Tree {
     ghost use Rattle.std.specs.Prelude.{◌≡◌, true};
-    ghost use Rattle.br_model.specs.Tree as tree;
-    ghost use Rattle.br_model.specs.TreeLaws.{knows_states};
+    ghost use Rattle.br_model.specs.Tree.Tree as tree;
+    ghost use Rattle.br_model.specs.Theorems.TreeLaws.{knows_states};
     ghost use Rattle.stp_core.specs.Due.{IsFirst, is_any_due};
 
     ghost Value = { tree.Tree };
@@ -76,8 +76,11 @@ impl Tree {
         ensures spoken { HaveSent self.new result.config }
         ensures known { knows_states self.new ≡ true }
     {
+        // law: the states are Linux's numbers
         self.states_are_known();
+        // law: events keep the states known
         known_states();
+        // law: what went out can be read
         messages_went_out();
         match event {
             TreeEvent::Switch(on) => self.switch(*on, now),
@@ -98,8 +101,9 @@ impl Tree {
         ensures tree { self.new ≡ (tree_step self.old now (Switch on)).tree }
         ensures out { result ≡ out_of self.old (tree_step self.old now (Switch on)) }
     {
+        // law: events keep the states known
         known_states();
-        let before = self.parameters.places();
+        let before = self.parameters.states();
         let sent = self.parameters.turn(on, now);
         self.due = self.parameters.due();
         self.parameters.out(&before, sent)
@@ -111,8 +115,9 @@ impl Tree {
         ensures tree { self.new ≡ (tree_step self.old now (Up p)).tree }
         ensures out { result ≡ out_of self.old (tree_step self.old now (Up p)) }
     {
+        // law: events keep the states known
         known_states();
-        let before = self.parameters.places();
+        let before = self.parameters.states();
         let sent = self.parameters.bring_up(p.number(), now);
         self.due = self.parameters.due();
         self.parameters.out(&before, sent)
@@ -124,8 +129,9 @@ impl Tree {
         ensures tree { self.new ≡ (tree_step self.old now (Down p)).tree }
         ensures out { result ≡ out_of self.old (tree_step self.old now (Down p)) }
     {
+        // law: events keep the states known
         known_states();
-        let before = self.parameters.places();
+        let before = self.parameters.states();
         let sent = self.parameters.take_down(p.number(), now);
         self.due = self.parameters.due();
         self.parameters.out(&before, sent)
@@ -138,8 +144,9 @@ impl Tree {
         ensures tree { self.new ≡ (tree_step self.old now (Message p m.now)).tree }
         ensures out { result ≡ out_of self.old (tree_step self.old now (Message p m.now)) }
     {
+        // law: events keep the states known
         known_states();
-        let before = self.parameters.places();
+        let before = self.parameters.states();
         let sent = self.parameters.receive(p.number(), m, now);
         self.due = self.parameters.due();
         self.parameters.out(&before, sent)
@@ -173,8 +180,9 @@ impl Tree {
         ensures tree { self.new ≡ (tree_step self.old now Moment).tree }
         ensures out { result ≡ out_of self.old (tree_step self.old now Moment) }
     {
+        // law: events keep the states known
         known_states();
-        let before = self.parameters.places();
+        let before = self.parameters.states();
         let sent = self.parameters.pass_moment(now);
         self.due = self.parameters.due();
         self.parameters.out(&before, sent)
@@ -186,8 +194,9 @@ impl Tree {
         ensures tree { self.new ≡ (tree_step self.old now (Cost p n)).tree }
         ensures out { result ≡ out_of self.old (tree_step self.old now (Cost p n)) }
     {
+        // law: events keep the states known
         known_states();
-        let before = self.parameters.places();
+        let before = self.parameters.states();
         let sent = self.parameters.set_cost_at(p.number(), n, now);
         self.due = self.parameters.due();
         self.parameters.out(&before, sent)
@@ -200,8 +209,9 @@ impl Tree {
         ensures tree { self.new ≡ (tree_step self.old now (ranking p n)).tree }
         ensures out { result ≡ out_of self.old (tree_step self.old now (ranking p n)) }
     {
+        // law: events keep the states known
         known_states();
-        let before = self.parameters.places();
+        let before = self.parameters.states();
         let sent = self.parameters.set_priority_at(p, n, now);
         self.due = self.parameters.due();
         self.parameters.out(&before, sent)
@@ -212,6 +222,7 @@ impl Tree {
         ensures value { result ≡ state_at self.now p }
         ensures below { result ≤ 4 }
     {
+        // law: a known state is at most 4
         known_states();
         self.parameters.state(p)
     }
@@ -220,6 +231,7 @@ impl Tree {
     pub fn states_are_known(&self)
         ensures { knows_states self.now ≡ true }
     {
+        // law: the invariant says it
         let _parameters = &self.parameters;
     }
 

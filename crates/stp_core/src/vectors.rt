@@ -4,12 +4,14 @@ ghost use Rattle.std.specs.Option.{ForSome, option_map_or};
 ghost use Rattle.std.specs.List.{filter_map};
 ghost use Rattle.std.specs.declared.option.Option.TheVariants.{Some};
 ghost use Rattle.std.specs.Ordering.{is_lt, is_le, is_eq, ord_min};
-ghost use Rattle.br_model.specs.Tree.{port_id};
-ghost use Rattle.br_model.specs.TreeVectors.{vector_cmp, bridge_cmp, vector_of, candidate_cmp, candidate, least, root_by, is_port_of, own_vector, is_best, is_designated_by, supersedes};
+ghost use Rattle.br_model.specs.Table.Domains.{port_places};
+ghost use Rattle.br_model.specs.Tree.Tree.{port_id};
+ghost use Rattle.br_model.specs.Tree.Vectors.{vector_cmp, bridge_cmp, vector_of, candidate_cmp, candidate, least, root_by, is_port_of, own_vector, is_best, is_designated_by, supersedes};
 ghost use Rattle.stp_core.specs.Places.{entries_at};
 ghost use Rattle.stp_core.specs.Acting.{held_by};
 
 use crate::places::Places;
+use br_model::numbers::Port;
 use br_model::tree::{Candidate, ConfigMsg, Root, TreePort, Vector};
 use std::cmp::Ordering;
 
@@ -96,10 +98,10 @@ fn lesser(best: Option<Candidate>, c: Candidate) -> Option<Candidate>
 /// The root, by the least of what the ports offer.
 pub(crate) fn elect(id: u64, places: &Places) -> Root
     ensures value { result ≡ root_by id (least (filter_map (candidate id) (entries_at 0 places.now))) }
-    ensures below { ForSome result.port (λ p. p < 64) }
+    ensures below { ForSome result.port (λ p. p < port_places) }
 {
     let mut best: Option<Candidate> = None;
-    for p in 0..64u8 {
+    for p in 0..Port::PLACES as u8 {
         if let Some(x) = &places[usize::from(p)] {
             if let Some(c) = candidate(id, p, x) {
                 best = lesser(best, c);

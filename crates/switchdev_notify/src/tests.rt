@@ -1,5 +1,5 @@
 ghost use Rattle.std.specs.Prelude.{◌≡◌, ◌<◌, ◌++◌, ◌∷◌, [], ◌↔◌, IsTrue, vec_len, vec_capacity};
-ghost use Rattle.br_model.specs.Table.{table};
+ghost use Rattle.br_model.specs.Table.Table.{table};
 ghost use Rattle.switchdev_notify.specs.Notices.{change_added, change_removed, change_of_attribute};
 
 use crate::{Attribute, Notice, Object, SwitchOps, deliver, notice_of};

@@ -4,7 +4,7 @@ use Rattle.std.proofs.lemmas.List.{length-take-le}
 use Rattle.std.proofs.Math.Seq.{take-append_seam}
 use mathlib.Core.List.{IsPrefix}
 use Rattle.br_model.specs.declared.change.Change.{Change}
-use Rattle.br_model.specs.Limits.{most_changes}
+use Rattle.br_model.specs.Table.Limits.{most_changes}
 use Rattle.table_publish.specs.Object.{Object, with_batch, published, changes_of, AllFull, IsPublished, object_of}
 use Rattle.table_publish.specs.Shelved.{IsShelved, IsSeated}
 use Rattle.table_publish.specs.declared.board.Board.TheInside.{Inside}

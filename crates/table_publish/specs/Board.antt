@@ -3,13 +3,13 @@ use Rattle.std.specs.Prelude.{◌≡◌, ℕ, ◌<◌, ◌⊎◌, List, ◌++◌
 use Rattle.br_model.specs.declared.change.Change.{Change}
 use Rattle.br_model.specs.declared.frame.Head.{Head}
 use Rattle.br_model.specs.declared.frame.McastMsg.{McastMsg}
-use Rattle.br_model.specs.Admission.{admit}
-use Rattle.br_model.specs.Class.{class}
-use Rattle.br_model.specs.Domains.{Domains}
-use Rattle.br_model.specs.Leave.{ports_out}
-use Rattle.br_model.specs.Table.{Table, table}
+use Rattle.br_model.specs.Forward.Admission.{admit}
+use Rattle.br_model.specs.Forward.Class.{class}
+use Rattle.br_model.specs.Table.Domains.{Domains}
+use Rattle.br_model.specs.Forward.Leave.{ports_out}
+use Rattle.br_model.specs.Forward.Untagged.{untagged_among}
+use Rattle.br_model.specs.Table.Table.{Table, table}
 use Rattle.forward_rules.specs.declared.soft_tables.Verdict.{Verdict}
-use Rattle.forward_rules.specs.Verdicts.{untagged_among}
 use Rattle.table_publish.specs.Object.{Whose, Object, first_object}
 
 -- which board it is, what it has published, and what it has not yet

@@ -5,7 +5,7 @@ use Rattle.std.specs.Prelude.{◌≡◌, ℕ, ◌+◌, ◌<◌, List, [], ◌∷
 use mathlib.Core.List.{IsPrefix}
 use Rattle.logbook.specs.Pages.{Book}
 use Rattle.br_model.specs.declared.change.Change.{Change}
-use Rattle.br_model.specs.Domains.{Domains}
+use Rattle.br_model.specs.Table.Domains.{Domains}
 
 -- which board it is, and which ports are in which domain there
 pub record Whose : Type 0 where

@@ -1,7 +1,7 @@
 -- What holds of the fields of a board and of a seat.
 use Rattle.std.specs.Prelude.{◌≡◌, ◌≤◌, length, take, vec_capacity}
-use Rattle.br_model.specs.Limits.{most_changes, AreWithin}
-use Rattle.br_model.specs.Table.{table}
+use Rattle.br_model.specs.Table.Limits.{most_changes, AreWithin}
+use Rattle.br_model.specs.Table.Table.{table}
 use Rattle.table_publish.specs.Object.{changes_of, AllFull}
 use Rattle.table_publish.specs.Law.{head_of}
 use Rattle.table_publish.specs.declared.board.Board.TheInside.{Inside}

@@ -1,7 +1,7 @@
 //! The board, which publishes, and the seats that it is made with.
 ghost use Rattle.std.specs.Prelude.{◌≡◌, ◌+◌, ◌-◌, ◌<◌, ◌≤◌, ◌++◌, ◌∷◌, ◌↔◌, [], length, take, replicate, IfOk, OnOk, OnErr, IfSome, IsSome};
-ghost use Rattle.br_model.specs.Limits.{AreWithin};
-ghost use Rattle.br_model.specs.Table.{table};
+ghost use Rattle.br_model.specs.Table.Limits.{AreWithin, most_changes};
+ghost use Rattle.br_model.specs.Table.Table.{table};
 ghost use Rattle.table_publish.specs.Board.{all_of, newcomer};
 ghost use Rattle.table_publish.specs.Law.{head_of};
 ghost use Rattle.table_publish.specs.Object.{Begins, IsPublished, first_object, published};
@@ -11,13 +11,11 @@ use crate::law::{Add, Batch, Count, Law, Nothing, Shown};
 use crate::seat::Seat;
 use br_model::change::Change;
 use br_model::domains::Domains;
+use br_model::limits::MOST_CHANGES;
 use forward_rules::SoftTables;
 use logbook::{Offer, Start};
 use std::alloc::{AllocError, Global};
 use std::marker::Model;
-
-/// How many changes there are at most.
-const MOST_CHANGES: usize = 1_048_576;
 
 /// The one who publishes. Contracts see which board it is, its published object and its pending changes.
 #[derive(Drop)]
@@ -48,7 +46,7 @@ impl Model for Board {
 /// alone adds.
 fn enter_batch(word: &Count, seen: &Shown, batches: u64, changes: &Vec<Change>) -> Option<Shown>
     requires word { word.now ≡ head_of seen.now.book }
-    requires batches { (batches ≡ length seen.now.log) × (batches ≤ 1048576) }
+    requires batches { (batches ≡ length seen.now.log) × (batches ≤ most_changes) }
     requires some { 0 < length changes.now.items }
     ensures { IfSome result (λ s. (s.book ≡ seen.now.book) × (s.log ≡ seen.now.log ++ changes.now.items ∷ [])) }
 {

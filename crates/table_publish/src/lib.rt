@@ -11,8 +11,6 @@ mod seat;
 mod tests;
 
 pub use board::{Board, Seats};
+pub use br_model::NoMemory;
 pub use name::Name;
 pub use seat::{Seat, Seen};
-
-/// Want of memory.
-pub type NoMemory = std::alloc::AllocError;

@@ -1,6 +1,6 @@
 //! A seat, which looks up in its own tables.
 ghost use Rattle.std.specs.Prelude.{◌≡◌, length, IfSome, IfNone};
-ghost use Rattle.br_model.specs.Table.{table};
+ghost use Rattle.br_model.specs.Table.Table.{table};
 ghost use Rattle.table_publish.specs.Board.{Decides, Rises};
 ghost use Rattle.table_publish.specs.Object.{Begins, IsPublished};
 

@@ -2,9 +2,9 @@
 use Rattle.std.proofs.Common.{◌≡◌, ◌≢◌, ℕ, zero, suc, ◌+◌, ◌*◌, ◌/◌, ◌%◌, ◌<◌, Bool, true, if◌then◌else◌, List, [], ◌∷◌, length, refl, sym, ◌∙◌, ap, arith, Option, Some, None, Result, Ok, Err}
 use Rattle.std.specs.Cmp.{first_so, second_so}
 use Rattle.std.specs.List.{list_all}
-use Rattle.br_model.specs.Digits.{hex_digit, hex_of}
-use Rattle.br_model.specs.Words.{Word}
-use Rattle.br_model.specs.WrittenSteps.{is_byte}
+use Rattle.br_model.specs.Data.Digits.{hex_digit, hex_of}
+use Rattle.br_model.specs.Text.Words.{Word}
+use Rattle.br_model.specs.Text.Operands.{is_byte}
 use Rattle.br_model.proofs.WrittenWords.{both}
 use Rattle.hex.specs.Hex.{IsBytes, ◌>>=◌, hex_digit_value, digit_or_error, decode_pairs, decode_of}
 use Rattle.hex.specs.declared.error.FromHexError.{FromHexError}

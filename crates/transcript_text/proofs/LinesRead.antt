@@ -4,7 +4,6 @@ use Rattle.std.specs.Prelude.{codes}
 use Rattle.std.specs.Cmp.{first_so, second_so}
 use Rattle.std.specs.Fmt.{decimal}
 use Rattle.std.specs.Str.{IsAscii, bytes_eq}
-use Rattle.std.proofs.lemmas.Bool.{eqb-true}
 use Rattle.std.proofs.lemmas.List.{append_cancel_right, length-map}
 use Rattle.std.proofs.lemmas.List.Splits.{join_with_byte-slice_split}
 use Rattle.std.proofs.lemmas.Result.{IfOk-weaker}
@@ -15,15 +14,16 @@ use Rattle.br_model.specs.declared.frame.Class.TheVariants as classes
 use Rattle.br_model.specs.declared.frame.FrameFault.{FrameFault}
 use Rattle.br_model.specs.declared.frame.FrameFault.TheVariants as faults
 use Rattle.br_model.specs.declared.steps.Refusal.{Refusal}
-use Rattle.br_model.specs.declared.steps.Refusal.TheVariants.{PortIsUp, PortNotUp, NotMember, Exists, Absent, FdbFull, GroupsFull, HistoryFull, Backward, NothingWaiting, NothingPending, NothingReported, NotAGroup, NothingToPost, NoSuchPoint}
 use Rattle.br_model.specs.declared.transcript.Line.{Line}
 use Rattle.br_model.specs.declared.transcript.Line.TheVariants.{Chip, Unread, Soft, Held, Tx, Ctl, Overrun, Done, Refused, End}
-use Rattle.br_model.specs.Transcript.{line_text, class_word, fault_word, refusal_number}
-use Rattle.br_model.specs.Words.{Word}
+use Rattle.br_model.specs.Control.Refusals.{refusal_number, refusal_of}
+use Rattle.br_model.specs.Text.Transcript.{line_text, class_word, fault_word}
+use Rattle.br_model.specs.Text.Words.{Word}
+use Rattle.br_model.proofs.Refusals as refusals
 use Rattle.br_model.proofs.WrittenWords.{both}
 use Rattle.transcript_text.specs.Lines.{is_number, is_port, is_line, line_words}
 use Rattle.transcript_text.specs.Reading as reading
-use Rattle.transcript_text.specs.Reading.{word, says, ◌>>=◌, in_range, numbered}
+use Rattle.transcript_text.specs.Reading.{word, says, ◌>>=◌, in_range}
 use Rattle.transcript_text.proofs.HexWords.{frame_is, frame_back}
 use Rattle.transcript_text.proofs.Numerals.{if_some, value_of, number_is, number_back}
 use Rattle.transcript_text.proofs.Spaces.{parts}
@@ -90,59 +90,13 @@ fault_back faults.Short = refl
 fault_back faults.Long = refl
 fault_back faults.TagShort = refl
 
--- a row of the table of refusals, in front of rows that say so
-row : (n k : ℕ) (r : Refusal) (rest : Option Refusal) {s : Refusal} → refusal_number r ≡ k → (rest ≡ Some s → n ≡ refusal_number s) → (if n == k then Some r else rest) ≡ Some s → n ≡ refusal_number s
-row n k r rest e more h =
-    elim (either (n == k) (Some r) rest h) [
-      | inl p ↦ eqb-true n k p.0 ∙ sym e ∙ ap refusal_number (value_of p.1)
-      | inr h ↦ more h
-    ]
-
-none_is : (n : ℕ) {r : Refusal} → ◌≡◌ {A = Option Refusal} None (Some r) → n ≡ refusal_number r
-none_is n h = cc
-
-numbered_is : (n : ℕ) {r : Refusal} → numbered n ≡ Some r → n ≡ refusal_number r
-numbered_is n {r} =
-    let from15 = row n 15 NoSuchPoint None {s = r} refl (none_is n) in
-    let from14 = row n 14 NothingToPost _ refl from15 in
-    let from13 = row n 13 NotAGroup _ refl from14 in
-    let from12 = row n 12 NothingReported _ refl from13 in
-    let from11 = row n 11 NothingPending _ refl from12 in
-    let from10 = row n 10 NothingWaiting _ refl from11 in
-    let from9 = row n 9 Backward _ refl from10 in
-    let from8 = row n 8 HistoryFull _ refl from9 in
-    let from7 = row n 7 GroupsFull _ refl from8 in
-    let from6 = row n 6 FdbFull _ refl from7 in
-    let from5 = row n 5 Absent _ refl from6 in
-    let from4 = row n 4 Exists _ refl from5 in
-    let from3 = row n 3 NotMember _ refl from4 in
-    let from2 = row n 2 PortNotUp _ refl from3 in
-    row n 1 PortIsUp _ refl from2
-
-numbered_back : (r : Refusal) → numbered (refusal_number r) ≡ Some r
-numbered_back PortIsUp = refl
-numbered_back PortNotUp = refl
-numbered_back NotMember = refl
-numbered_back Exists = refl
-numbered_back Absent = refl
-numbered_back FdbFull = refl
-numbered_back GroupsFull = refl
-numbered_back HistoryFull = refl
-numbered_back Backward = refl
-numbered_back NothingWaiting = refl
-numbered_back NothingPending = refl
-numbered_back NothingReported = refl
-numbered_back NotAGroup = refl
-numbered_back NothingToPost = refl
-numbered_back NoSuchPoint = refl
-
 refusal_is : (w : Word) {r : Refusal} → reading.refusal w ≡ Some r → w ≡ decimal (refusal_number r)
 refusal_is w h =
-    let p = bind_some (reading.number w) numbered h in
-    (number_is w p.1).0 ∙ ap decimal (numbered_is p.0 p.2)
+    let p = bind_some (reading.number w) refusal_of h in
+    (number_is w p.1).0 ∙ ap decimal (refusals.refusal_is p.0 p.2)
 
 refusal_back : (r : Refusal) → reading.refusal (decimal (refusal_number r)) ≡ Some r
-refusal_back r = ap (λ (o : Option ℕ). o >>= numbered) (number_back (refusal_number r) (refusal_small r)) ∙ numbered_back r
+refusal_back r = ap (λ (o : Option ℕ). o >>= refusal_of) (number_back (refusal_number r) (refusal_small r)) ∙ refusals.refusal_found r
 
 -- a line is read from its words
 

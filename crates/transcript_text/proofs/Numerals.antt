@@ -7,8 +7,8 @@ use Rattle.std.specs.Result.{result_ok}
 use Rattle.std.specs.Str.Parse.{ParsesUnsigned}
 use Rattle.std.proofs.lemmas.Fmt.{decimal-digits_value}
 use Rattle.std.proofs.lemmas.Str.Parse.{IsNumeralModel, IsDigitsTest, FoldsDigits, numerals_by_fold, parse_plain}
-use Rattle.br_model.specs.Digits.{is_digit, digits_value, begins_with_zero, is_decimal}
-use Rattle.br_model.specs.Words.{Word}
+use Rattle.br_model.specs.Data.Digits.{is_digit, digits_value, begins_with_zero, is_decimal}
+use Rattle.br_model.specs.Text.Words.{Word}
 use Rattle.br_model.proofs.WrittenNumbers.{decimal_read}
 use Rattle.br_model.proofs.WrittenWords.{both}
 use Rattle.transcript_text.specs.Lines.{is_number}

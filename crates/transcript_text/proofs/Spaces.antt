@@ -5,7 +5,7 @@ use Rattle.std.proofs.lemmas.List.Splits.{slice_split_first, slice_split_none, l
 use Rattle.std.proofs.lemmas.List.Sums.{fails_before_first}
 use Rattle.std.specs.Result.{result_ok}
 use Rattle.std.specs.List.{slice_split, position_or_len, before_first, after_first}
-use Rattle.br_model.specs.Words.{Word}
+use Rattle.br_model.specs.Text.Words.{Word}
 
 abbrev pub is_space : ℕ → Bool
 is_space c = c == 32

@@ -10,12 +10,13 @@ use Rattle.br_model.specs.declared.frame.Class.TheVariants as classes
 use Rattle.br_model.specs.declared.frame.FrameFault.{FrameFault}
 use Rattle.br_model.specs.declared.frame.FrameFault.TheVariants as faults
 use Rattle.br_model.specs.declared.steps.Refusal.{Refusal}
-use Rattle.br_model.specs.declared.steps.Refusal.TheVariants.{PortIsUp, PortNotUp, NotMember, Exists, Absent, FdbFull, GroupsFull, HistoryFull, Backward, NothingWaiting, NothingPending, NothingReported, NotAGroup, NothingToPost, NoSuchPoint}
 use Rattle.br_model.specs.declared.transcript.Line.{Line}
 use Rattle.br_model.specs.declared.transcript.Line.TheVariants.{Chip, Unread, Soft, Held, Tx, Ctl, Overrun, Done, Refused, End}
-use Rattle.br_model.specs.Digits.{hex_of}
-use Rattle.br_model.specs.Transcript.{line_text, class_word, fault_word, refusal_number}
-use Rattle.br_model.specs.Words.{Word, is_word}
+use Rattle.br_model.specs.Control.Refusals.{refusal_number}
+use Rattle.br_model.specs.Data.Digits.{hex_of}
+use Rattle.br_model.specs.Text.Transcript.{line_text, class_word, fault_word}
+use Rattle.br_model.specs.Text.Words.{Word, is_word}
+use Rattle.br_model.proofs.Refusals.{each_number}
 use Rattle.br_model.proofs.WrittenNumbers.{decimal_proper, hex_proper}
 use Rattle.br_model.proofs.WrittenWords.{is_letter, letters, is_proper, both}
 use Rattle.transcript_text.specs.Lines.{is_number, is_port, is_frame, is_line, line_words}
@@ -63,21 +64,7 @@ fault_proper faults.Long = refl
 fault_proper faults.TagShort = refl
 
 pub refusal_small : (why : Refusal) → is_number (refusal_number why) ≡ true
-refusal_small PortIsUp = refl
-refusal_small PortNotUp = refl
-refusal_small NotMember = refl
-refusal_small Exists = refl
-refusal_small Absent = refl
-refusal_small FdbFull = refl
-refusal_small GroupsFull = refl
-refusal_small HistoryFull = refl
-refusal_small Backward = refl
-refusal_small NothingWaiting = refl
-refusal_small NothingPending = refl
-refusal_small NothingReported = refl
-refusal_small NotAGroup = refl
-refusal_small NothingToPost = refl
-refusal_small NoSuchPoint = refl
+refusal_small why = each_number is_number why refl
 
 pub line_proper : (l : Line) → is_line l ≡ true → list_all is_proper (line_words l) ≡ true
 line_proper (Chip id changes applied class) h =

@@ -1,4 +1,4 @@
 pub mod Extends
 pub mod Lines
 pub mod Reading
-pub mod Starts
+pub mod Frames

@@ -1,26 +1,36 @@
 -- Which lines can be read, and their words.
-use Rattle.std.specs.Prelude.{ℕ, ◌^◌, nat_lt, Bool, false, ◌&&◌, List, [], ◌∷◌, codes}
+use Rattle.std.specs.Prelude.{ℕ, ◌^◌, nat_lt, nat_le, Bool, false, ◌&&◌, List, [], ◌∷◌, codes}
 use Rattle.std.specs.Fmt.{decimal}
 use Rattle.std.specs.List.{list_all}
 use Rattle.br_model.specs.declared.transcript.Line.{Line}
 use Rattle.br_model.specs.declared.transcript.Line.TheVariants.{Chip, Unread, Soft, Held, Tx, Ctl, Overrun, Done, Refused, End}
-use Rattle.br_model.specs.Digits.{hex_of}
-use Rattle.br_model.specs.Transcript.{fault_word, class_word, refusal_number}
-use Rattle.br_model.specs.Words.{Word}
-use Rattle.br_model.specs.WrittenSteps.{is_byte}
+use Rattle.br_model.specs.Control.Refusals.{refusal_number}
+use Rattle.br_model.specs.Data.Digits.{hex_of}
+use Rattle.br_model.specs.Table.Domains.{last_port}
+use Rattle.br_model.specs.Text.Transcript.{fault_word, class_word}
+use Rattle.br_model.specs.Text.Words.{Word}
+use Rattle.br_model.specs.Text.Operands.{is_byte}
 
 abbrev pub is_number : ℕ → Bool
 is_number n = nat_lt n (2 ^ 32)
 
 abbrev pub is_port : ℕ → Bool
+<<<<<<< HEAD
 is_port n = nat_lt n 255
+=======
+is_port n = nat_le n last_port
+>>>>>>> main
 
 -- at least one byte
 abbrev pub is_frame : List ℕ → Bool
 is_frame [] = false
 is_frame (b ∷ bytes) = list_all is_byte (b ∷ bytes)
 
+<<<<<<< HEAD
 -- Numbers are below 2^32, ports below 255, and a frame has bytes.
+=======
+-- Numbers are below 2^32, ports at most the last, and a frame has bytes.
+>>>>>>> main
 abbrev pub is_line : Line → Bool
 is_line (Chip id changes applied class) = is_number id && (is_number changes && is_number applied)
 is_line (Unread id why) = is_number id

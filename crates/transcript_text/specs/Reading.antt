@@ -12,11 +12,11 @@ use Rattle.br_model.specs.declared.frame.Class.TheVariants as classes
 use Rattle.br_model.specs.declared.frame.FrameFault.{FrameFault}
 use Rattle.br_model.specs.declared.frame.FrameFault.TheVariants as faults
 use Rattle.br_model.specs.declared.steps.Refusal.{Refusal}
-use Rattle.br_model.specs.declared.steps.Refusal.TheVariants.{PortIsUp, PortNotUp, NotMember, Exists, Absent, FdbFull, GroupsFull, HistoryFull, Backward, NothingWaiting, NothingPending, NothingReported, NotAGroup, NothingToPost, NoSuchPoint}
 use Rattle.br_model.specs.declared.transcript.Line.{Line}
 use Rattle.br_model.specs.declared.transcript.Line.TheVariants.{Chip, Unread, Soft, Held, Tx, Ctl, Overrun, Done, Refused, End}
-use Rattle.br_model.specs.Digits.{is_decimal, digits_value}
-use Rattle.br_model.specs.Words.{Word}
+use Rattle.br_model.specs.Control.Refusals.{refusal_of}
+use Rattle.br_model.specs.Data.Digits.{is_decimal, digits_value}
+use Rattle.br_model.specs.Text.Words.{Word}
 use Rattle.hex.specs.Hex.{decode_of}
 use Rattle.hex.specs.declared.error.FromHexError.{FromHexError}
 use Rattle.transcript_text.specs.Lines.{is_number, is_port}
@@ -67,27 +67,8 @@ fault w =
     if bytes_eq w (codes "tagshort") then Some faults.TagShort else
     None
 
-abbrev pub numbered : ℕ → Option Refusal
-numbered n =
-    if n == 1 then Some PortIsUp else
-    if n == 2 then Some PortNotUp else
-    if n == 3 then Some NotMember else
-    if n == 4 then Some Exists else
-    if n == 5 then Some Absent else
-    if n == 6 then Some FdbFull else
-    if n == 7 then Some GroupsFull else
-    if n == 8 then Some HistoryFull else
-    if n == 9 then Some Backward else
-    if n == 10 then Some NothingWaiting else
-    if n == 11 then Some NothingPending else
-    if n == 12 then Some NothingReported else
-    if n == 13 then Some NotAGroup else
-    if n == 14 then Some NothingToPost else
-    if n == 15 then Some NoSuchPoint else
-    None
-
 abbrev pub refusal : Word → Option Refusal
-refusal w = number w >>= numbered
+refusal w = number w >>= refusal_of
 
 -- the lines, by their words
 

@@ -1,31 +1,33 @@
 //! The cause of a bad line.
-ghost use Rattle.std.specs.Prelude.{◌≡◌, ◌++◌, [], ◌∷◌, OnOk, OnErr};
+ghost use Rattle.std.specs.Prelude.{◌≡◌, ◌+◌, ◌≤◌, ◌++◌, length, OnOk, OnErr};
 ghost use Rattle.std.specs.String.{string_bytes};
-ghost use Rattle.br_model.specs.Transcript.{why_text, bad_text};
+ghost use Rattle.br_model.specs.Text.Transcript.{why_text, bad_text};
 ghost use Rattle.transcript_text.specs.Extends.{Extends};
 
-use crate::numbers::{append_field, append_number};
+use crate::line_end::LineEnd;
 use br_model::NoMemory;
 use br_model::scenario::LineWhy;
 
-fn append_why(why: LineWhy, to: &mut String) -> Result<(), NoMemory>
-    ensures ok { OnOk result (string_bytes to.new ≡ string_bytes to.old ++ why_text why) }
-    ensures err { OnErr result (Extends (string_bytes to.old) (string_bytes to.new)) }
+/// The cause in front of what stands there.
+fn put_why(why: LineWhy, line: &mut LineEnd)
+    requires { 18 + length line.old ≤ 64 }
+    ensures text { line.new ≡ why_text why ++ line.old }
+    ensures len { length line.new ≤ 18 + length line.old }
 {
     match why {
-        LineWhy::Long => to.push_str("long"),
-        LineWhy::Unended => to.push_str("unended"),
-        LineWhy::Word => to.push_str("word"),
-        LineWhy::Place => to.push_str("place"),
-        LineWhy::Number => to.push_str("number"),
-        LineWhy::Port => to.push_str("port"),
-        LineWhy::Address => to.push_str("address"),
-        LineWhy::Hex => to.push_str("hex"),
+        LineWhy::Long => line.word("long"),
+        LineWhy::Unended => line.word("unended"),
+        LineWhy::Word => line.word("word"),
+        LineWhy::Place => line.word("place"),
+        LineWhy::Number => line.word("number"),
+        LineWhy::Port => line.word("port"),
+        LineWhy::Address => line.word("address"),
+        LineWhy::Hex => line.word("hex"),
         LineWhy::Capture(offset) => {
-            to.push_str("capture ")?;
-            append_number(offset, to)
+            line.number(offset);
+            line.word("capture ");
         }
-        LineWhy::NoMemory => to.push_str("memory"),
+        LineWhy::NoMemory => line.word("memory"),
     }
 }
 
@@ -35,8 +37,11 @@ pub fn append_bad(line: u32, why: LineWhy, to: &mut String) -> Result<(), NoMemo
     ensures ok { OnOk result (string_bytes to.new ≡ string_bytes to.old ++ bad_text line why) }
     ensures err { OnErr result (Extends (string_bytes to.old) (string_bytes to.new)) }
 {
-    to.push_str("bad ")?;
-    append_field(line, ' ', to)?;
-    append_why(why, to)?;
-    to.push('\n')
+    let mut end = LineEnd::new();
+    end.word("\n");
+    put_why(why, &mut end);
+    end.word(" ");
+    end.number(line);
+    end.word("bad ");
+    end.append_to(to)
 }

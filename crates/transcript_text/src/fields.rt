@@ -86,22 +86,5 @@ pub(crate) fn fault(word: &str) -> Option<FrameFault>
 pub(crate) fn refusal(word: &str) -> Option<Refusal>
     ensures { result ≡ refusal_of word.now }
 {
-    match number(word)? {
-        1 => Some(Refusal::PortIsUp),
-        2 => Some(Refusal::PortNotUp),
-        3 => Some(Refusal::NotMember),
-        4 => Some(Refusal::Exists),
-        5 => Some(Refusal::Absent),
-        6 => Some(Refusal::FdbFull),
-        7 => Some(Refusal::GroupsFull),
-        8 => Some(Refusal::HistoryFull),
-        9 => Some(Refusal::Backward),
-        10 => Some(Refusal::NothingWaiting),
-        11 => Some(Refusal::NothingPending),
-        12 => Some(Refusal::NothingReported),
-        13 => Some(Refusal::NotAGroup),
-        14 => Some(Refusal::NothingToPost),
-        15 => Some(Refusal::NoSuchPoint),
-        _ => None,
-    }
+    Refusal::from_number(number(word)?)
 }

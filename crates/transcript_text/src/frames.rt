@@ -1,66 +1,29 @@
 //! The bytes of frames in hexadecimal digits.
-ghost use Rattle.std.specs.Prelude.{◌≡◌, ◌++◌, ◌↔◌, [], IsTrue, IfOk, OnOk, OnErr};
+ghost use Rattle.std.specs.Prelude.{◌≡◌, ◌++◌, None, IfSome, IfOk, OnOk, OnErr};
 ghost use Rattle.std.specs.String.{string_bytes};
-ghost use Rattle.br_model.specs.Digits.{hex_of};
+ghost use Rattle.br_model.specs.Data.Digits.{hex_of};
+ghost use Rattle.transcript_text.specs.Frames.{frame_end};
 
 use br_model::NoMemory;
 use std::alloc::Global;
 use std::marker::Model;
 use std::mem;
 
-/// The bytes of a frame, with their text.
+/// The end of a frame's lines, once it's made: the digits of its bytes, and the line feed. A frame leaves by many ports.
 #[derive(Drop)]
-pub(crate) struct Shown {
-    bytes: Vec<u8>,
+pub(crate) struct FrameEnd {
+    alloc: Global,
     text: String,
+    is_made: bool,
 }
 
-impl Model for Shown {
-    ghost use Rattle.std.specs.Prelude.{◌≡◌, ℕ, List};
+impl Model for FrameEnd {
+    ghost use Rattle.std.specs.Prelude.{if◌then◌else◌, List, ℕ, Option, Some, None};
     ghost use Rattle.std.specs.String.{string_bytes};
-    ghost use Rattle.br_model.specs.Digits.{hex_of};
 
-    ghost Value = { List ℕ };
+    ghost Value = { Option (List ℕ) };
 
-    ghost view = { λ s. s.bytes.items };
-
-    ghost invariant = { λ s. string_bytes s.text ≡ hex_of s.bytes.items };
-}
-
-impl Shown {
-    pub(crate) fn new(alloc: Global) -> Shown
-        ensures { result ≡ [] }
-    {
-        Shown {
-            bytes: Vec::new(alloc),
-            text: String::new(alloc),
-        }
-    }
-
-    /// Whether these are its bytes.
-    fn has(&self, bytes: &[u8]) -> bool
-        ensures { IsTrue result ↔ (self.now ≡ bytes.now) }
-    {
-        self.bytes.as_slice() == bytes
-    }
-
-    fn text(&self) -> &str
-        ensures { result.now ≡ hex_of self.now }
-    {
-        self.text.as_str()
-    }
-
-    /// Takes other bytes, in the memory of those before.
-    fn take(&mut self, alloc: Global, bytes: &[u8]) -> Result<(), NoMemory>
-        ensures { OnOk result (self.new ≡ bytes.now) }
-    {
-        let text = mem::replace(&mut self.text, String::new(alloc));
-        self.bytes.clear();
-        let text = hex_text(text, bytes)?;
-        self.bytes.extend_from_slice(bytes)?;
-        self.text = text;
-        Ok(())
-    }
+    ghost view = { λ f. if f.is_made then Some (string_bytes f.text) else None };
 }
 
 /// The text of the bytes, in the memory of another text.
@@ -77,33 +40,45 @@ fn hex_text(room: String, bytes: &[u8]) -> Result<String, NoMemory>
     Ok(unsafe { String::from_utf8_unchecked(digits) })
 }
 
-/// The two frames that were written last. A frame leaves by many ports, with a tag or without one.
-#[derive(Drop)]
-pub(crate) struct LastFrames {
-    alloc: Global,
-    latest: Shown,
-    earlier: Shown,
+/// The end of the frame's lines, in the memory of another text.
+fn end_text(room: String, bytes: &[u8]) -> Result<String, NoMemory>
+    ensures { IfOk result (λ text. string_bytes text ≡ frame_end bytes.now) }
+{
+    let mut text = hex_text(room, bytes)?;
+    text.push('\n')?;
+    Ok(text)
 }
 
-impl LastFrames {
-    pub(crate) fn new(alloc: Global) -> LastFrames {
-        LastFrames {
+impl FrameEnd {
+    pub(crate) fn new(alloc: Global) -> FrameEnd
+        ensures { result ≡ None }
+    {
+        FrameEnd {
             alloc,
-            latest: Shown::new(alloc),
-            earlier: Shown::new(alloc),
+            text: String::new(alloc),
+            is_made: false,
         }
     }
 
+    /// Another frame comes.
+    pub(crate) fn forget(&mut self)
+        ensures { self.new ≡ None }
+    {
+        self.is_made = false;
+    }
+
+    /// Writes the end of the frame's lines behind the text.
     pub(crate) fn append(&mut self, bytes: &[u8], to: &mut String) -> Result<(), NoMemory>
-        ensures ok { OnOk result (string_bytes to.new ≡ string_bytes to.old ++ hex_of bytes.now) }
+        requires { IfSome self.old (λ text. text ≡ frame_end bytes.now) }
+        ensures frame { IfSome self.new (λ text. text ≡ frame_end bytes.now) }
+        ensures ok { OnOk result (string_bytes to.new ≡ string_bytes to.old ++ frame_end bytes.now) }
         ensures err { OnErr result (string_bytes to.new ≡ string_bytes to.old) }
     {
-        if !self.latest.has(bytes) {
-            if !self.earlier.has(bytes) {
-                self.earlier.take(self.alloc, bytes)?;
-            }
-            mem::swap(&mut self.latest, &mut self.earlier);
+        if !self.is_made {
+            let room = mem::replace(&mut self.text, String::new(self.alloc));
+            self.text = end_text(room, bytes)?;
+            self.is_made = true;
         }
-        to.push_str(self.latest.text())
+        to.push_str(self.text.as_str())
     }
 }

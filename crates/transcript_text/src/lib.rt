@@ -4,11 +4,8 @@
 mod causes;
 mod fields;
 mod frames;
-mod numbers;
+mod line_end;
 mod reader;
-mod starts;
-#[cfg(test)]
-mod tests;
 mod words;
 mod writer;
 

@@ -1,7 +1,7 @@
 //! Lines, read from their words.
 ghost use Rattle.std.specs.Prelude.{◌≡◌, ◌↔◌, true, length, IfOk};
 ghost use Rattle.br_model.specs.declared.transcript.Line.{Line as ALine};
-ghost use Rattle.br_model.specs.Transcript.{line_text};
+ghost use Rattle.br_model.specs.Text.Transcript.{line_text};
 ghost use Rattle.transcript_text.specs.Lines.{is_line};
 ghost use Rattle.transcript_text.specs.Reading.{word, says, chip as chip_of, unread as unread_of, soft as soft_of, held as held_of, tx as tx_of, ctl as ctl_of, overrun as overrun_of, done as done_of, refused as refused_of, ended as ended_of};
 

@@ -1,33 +1,35 @@
 //! Lines of a transcript.
-ghost use Rattle.std.specs.Prelude.{◌≡◌, ◌++◌, [], ◌∷◌, IfOk, OnOk, OnErr};
+ghost use Rattle.std.specs.Prelude.{◌≡◌, ◌≤◌, ◌++◌, [], ◌∷◌, IfOk, OnOk, OnErr, codes, decimal, length};
 ghost use Rattle.std.specs.String.{string_bytes};
-ghost use Rattle.br_model.specs.Transcript.{line_text, text, fault_word, class_word, refusal_number};
+ghost use Rattle.br_model.specs.Text.Transcript.{line_text, text, fault_word, class_word};
+ghost use Rattle.transcript_lines.specs.Rows.{expand_row, sent_lines};
 ghost use Rattle.transcript_text.specs.Extends.{Extends};
 
-use crate::frames::LastFrames;
-use crate::numbers::{append_field, append_number};
-use crate::starts::LastStart;
+use crate::frames::FrameEnd;
+use crate::line_end::LineEnd;
 use br_model::NoMemory;
 use br_model::bytes::Bytes;
 use br_model::frame::{Class, FrameFault};
 use br_model::numbers::Port;
 use br_model::steps::Refusal;
 use br_model::transcript::Line;
+use port_sets::Ports;
 use std::alloc::Global;
+use transcript_lines::{Lines, Row};
 
-/// Writes lines, and remembers the digits of the last frames and the id of the last one that left.
+/// Writes lines. The digits of the frame at hand are kept, since it leaves by many ports: without its tag, and with it.
 #[derive(Drop)]
 pub struct Writer {
-    start: LastStart,
-    frames: LastFrames,
+    plain: FrameEnd,
+    tagged: FrameEnd,
 }
 
 impl Writer {
     /// Allocates nothing.
     pub fn new(alloc: Global) -> Writer {
         Writer {
-            start: LastStart::new(alloc),
-            frames: LastFrames::new(alloc),
+            plain: FrameEnd::new(alloc),
+            tagged: FrameEnd::new(alloc),
         }
     }
 
@@ -47,7 +49,7 @@ impl Writer {
             Line::Soft { id, point } => append_soft(*id, *point, to),
             Line::Held { id, floor } => append_held(*id, *floor, to),
             Line::Tx { id, port, bytes } => self.append_tx(*id, *port, bytes, to),
-            Line::Ctl { port, bytes } => self.append_ctl(*port, bytes, to),
+            Line::Ctl { port, bytes } => self.append_ctl(*port, bytes.as_slice(), to),
             Line::Overrun { id } => append_overrun(*id, to),
             Line::Done { step, changes } => append_done(*step, *changes, to),
             Line::Refused { step, refusal } => append_refused(*step, *refusal, to),
@@ -61,12 +63,60 @@ impl Writer {
     }
 
     /// Writes the lines one after another behind the text. After want of memory a part of them may stand there.
-    pub fn append_lines(&mut self, lines: &[Line], to: &mut String) -> Result<(), NoMemory>
-        ensures ok { OnOk result (string_bytes to.new ≡ string_bytes to.old ++ text lines.now) }
+    pub fn append_lines(&mut self, lines: &Lines, to: &mut String) -> Result<(), NoMemory>
+        ensures ok { OnOk result (string_bytes to.new ≡ string_bytes to.old ++ text lines.now.lines) }
         ensures err { OnErr result (Extends (string_bytes to.old) (string_bytes to.new)) }
     {
-        for line in lines {
-            self.append(line, to)?;
+        let (rows, arena) = lines.parts();
+        for row in rows {
+            self.append_row(row, arena, to)?;
+        }
+        Ok(())
+    }
+
+    /// Writes the lines that the row stands for.
+    fn append_row(&mut self, row: &Row, arena: &[u8], to: &mut String) -> Result<(), NoMemory>
+        ensures ok { OnOk result (string_bytes to.new ≡ string_bytes to.old ++ text (expand_row arena.now row.now)) }
+        ensures err { OnErr result (Extends (string_bytes to.old) (string_bytes to.new)) }
+    {
+        match row {
+            Row::One(line) => self.append(line, to),
+            Row::Sent {
+                id,
+                ports,
+                untagged,
+                plain,
+                tagged,
+            } => {
+                let (plain, tagged) = (plain.of(arena), tagged.of(arena));
+                self.append_sent(*id, *ports, *untagged, plain, tagged, to)
+            }
+            Row::Ctl { port, bytes } => self.append_ctl(*port, bytes.of(arena), to),
+        }
+    }
+
+    /// Writes a line for each of the ports. The digits of each form are made once, where some port wants it.
+    fn append_sent(
+        &mut self,
+        id: u32,
+        ports: Ports,
+        untagged: Ports,
+        plain: &[u8],
+        tagged: &[u8],
+        to: &mut String,
+    ) -> Result<(), NoMemory>
+        ensures ok { OnOk result (string_bytes to.new ≡ string_bytes to.old ++ text (sent_lines id ports untagged plain.now tagged.now)) }
+        ensures err { OnErr result (Extends (string_bytes to.old) (string_bytes to.new)) }
+    {
+        self.plain.forget();
+        self.tagged.forget();
+        for number in ports.iter() {
+            append_start(id, number, to)?;
+            if untagged.has(number) {
+                self.plain.append(plain, to)?;
+            } else {
+                self.tagged.append(tagged, to)?;
+            }
         }
         Ok(())
     }
@@ -81,25 +131,43 @@ impl Writer {
         ensures ok { OnOk result (string_bytes to.new ≡ string_bytes to.old ++ line_text (Line.Tx id port bytes.now)) }
         ensures err { OnErr result (Extends (string_bytes to.old) (string_bytes to.new)) }
     {
-        self.start.append(id, to)?;
-        append_field(u32::from(port.number()), ' ', to)?;
-        self.frames.append(bytes.as_slice(), to)?;
-        to.push('\n')
+        append_start(id, port.number(), to)?;
+        self.plain.forget();
+        self.plain.append(bytes.as_slice(), to)
     }
 
-    fn append_ctl(&mut self, port: Port, bytes: &Bytes, to: &mut String) -> Result<(), NoMemory>
+    fn append_ctl(&mut self, port: Port, bytes: &[u8], to: &mut String) -> Result<(), NoMemory>
         ensures ok { OnOk result (string_bytes to.new ≡ string_bytes to.old ++ line_text (Line.Ctl port bytes.now)) }
         ensures err { OnErr result (Extends (string_bytes to.old) (string_bytes to.new)) }
     {
-        to.push_str("ctl ")?;
-        append_field(u32::from(port.number()), ' ', to)?;
-        self.frames.append(bytes.as_slice(), to)?;
-        to.push('\n')
+        let mut line = LineEnd::new();
+        line.word(" ");
+        line.number(u32::from(port.number()));
+        line.word("ctl ");
+        line.append_to(to)?;
+        self.plain.forget();
+        self.plain.append(bytes, to)
     }
 }
 
+/// Writes `tx ID PORT `, the start of a line of a frame that leaves.
+fn append_start(id: u32, port: u8, to: &mut String) -> Result<(), NoMemory>
+    ensures ok { OnOk result (string_bytes to.new ≡ string_bytes to.old ++ (codes "tx " ++ (decimal id ++ (32 ∷ (decimal port ++ 32 ∷ []))))) }
+    ensures err { OnErr result (string_bytes to.new ≡ string_bytes to.old) }
+{
+    let mut line = LineEnd::new();
+    line.word(" ");
+    line.number(u32::from(port));
+    line.word(" ");
+    line.number(id);
+    line.word("tx ");
+    line.append_to(to)
+}
+
+/// The word with the line feed.
 fn class_text(class: Class) -> &'static str
-    ensures { result.now ≡ class_word class ++ 10 ∷ [] }
+    ensures text { result.now ≡ class_word class ++ 10 ∷ [] }
+    ensures short { length result.now ≤ 8 }
 {
     match class {
         Class::Drop => "drop\n",
@@ -117,18 +185,24 @@ fn append_chip(
     to: &mut String,
 ) -> Result<(), NoMemory>
     ensures ok { OnOk result (string_bytes to.new ≡ string_bytes to.old ++ line_text (Line.Chip id changes applied class)) }
-    ensures err { OnErr result (Extends (string_bytes to.old) (string_bytes to.new)) }
+    ensures err { OnErr result (string_bytes to.new ≡ string_bytes to.old) }
 {
-    to.push_str("chip ")?;
-    append_number(id, to)?;
-    to.push_str(" at ")?;
-    append_field(changes, ' ', to)?;
-    append_field(applied, ' ', to)?;
-    to.push_str(class_text(class))
+    let mut line = LineEnd::new();
+    line.word(class_text(class));
+    line.word(" ");
+    line.number(applied);
+    line.word(" ");
+    line.number(changes);
+    line.word(" at ");
+    line.number(id);
+    line.word("chip ");
+    line.append_to(to)
 }
 
-fn fault(why: FrameFault) -> &'static str
-    ensures { result.now ≡ fault_word why ++ 10 ∷ [] }
+/// The word with the line feed.
+fn fault_text(why: FrameFault) -> &'static str
+    ensures text { result.now ≡ fault_word why ++ 10 ∷ [] }
+    ensures short { length result.now ≤ 9 }
 {
     match why {
         FrameFault::Short => "short\n",
@@ -139,78 +213,77 @@ fn fault(why: FrameFault) -> &'static str
 
 fn append_unread(id: u32, why: FrameFault, to: &mut String) -> Result<(), NoMemory>
     ensures ok { OnOk result (string_bytes to.new ≡ string_bytes to.old ++ line_text (Line.Unread id why)) }
-    ensures err { OnErr result (Extends (string_bytes to.old) (string_bytes to.new)) }
+    ensures err { OnErr result (string_bytes to.new ≡ string_bytes to.old) }
 {
-    to.push_str("unread ")?;
-    append_field(id, ' ', to)?;
-    to.push_str(fault(why))
+    let mut line = LineEnd::new();
+    line.word(fault_text(why));
+    line.word(" ");
+    line.number(id);
+    line.word("unread ");
+    line.append_to(to)
 }
 
 fn append_soft(id: u32, point: u32, to: &mut String) -> Result<(), NoMemory>
     ensures ok { OnOk result (string_bytes to.new ≡ string_bytes to.old ++ line_text (Line.Soft id point)) }
-    ensures err { OnErr result (Extends (string_bytes to.old) (string_bytes to.new)) }
+    ensures err { OnErr result (string_bytes to.new ≡ string_bytes to.old) }
 {
-    to.push_str("soft ")?;
-    append_number(id, to)?;
-    to.push_str(" at ")?;
-    append_field(point, '\n', to)
+    let mut line = LineEnd::new();
+    line.word("\n");
+    line.number(point);
+    line.word(" at ");
+    line.number(id);
+    line.word("soft ");
+    line.append_to(to)
 }
 
 fn append_held(id: u32, floor: u32, to: &mut String) -> Result<(), NoMemory>
     ensures ok { OnOk result (string_bytes to.new ≡ string_bytes to.old ++ line_text (Line.Held id floor)) }
-    ensures err { OnErr result (Extends (string_bytes to.old) (string_bytes to.new)) }
+    ensures err { OnErr result (string_bytes to.new ≡ string_bytes to.old) }
 {
-    to.push_str("held ")?;
-    append_field(id, ' ', to)?;
-    append_field(floor, '\n', to)
+    let mut line = LineEnd::new();
+    line.word("\n");
+    line.number(floor);
+    line.word(" ");
+    line.number(id);
+    line.word("held ");
+    line.append_to(to)
 }
 
 fn append_overrun(id: u32, to: &mut String) -> Result<(), NoMemory>
     ensures ok { OnOk result (string_bytes to.new ≡ string_bytes to.old ++ line_text (Line.Overrun id)) }
-    ensures err { OnErr result (Extends (string_bytes to.old) (string_bytes to.new)) }
+    ensures err { OnErr result (string_bytes to.new ≡ string_bytes to.old) }
 {
-    to.push_str("overrun ")?;
-    append_field(id, '\n', to)
+    let mut line = LineEnd::new();
+    line.word("\n");
+    line.number(id);
+    line.word("overrun ");
+    line.append_to(to)
 }
 
 fn append_done(step: u32, changes: u32, to: &mut String) -> Result<(), NoMemory>
     ensures ok { OnOk result (string_bytes to.new ≡ string_bytes to.old ++ line_text (Line.Done step changes)) }
-    ensures err { OnErr result (Extends (string_bytes to.old) (string_bytes to.new)) }
+    ensures err { OnErr result (string_bytes to.new ≡ string_bytes to.old) }
 {
-    to.push_str("ok ")?;
-    append_field(step, ' ', to)?;
-    append_field(changes, '\n', to)
-}
-
-fn number_of(refusal: Refusal) -> u32
-    ensures { result ≡ refusal_number refusal }
-{
-    match refusal {
-        Refusal::PortIsUp => 1,
-        Refusal::PortNotUp => 2,
-        Refusal::NotMember => 3,
-        Refusal::Exists => 4,
-        Refusal::Absent => 5,
-        Refusal::FdbFull => 6,
-        Refusal::GroupsFull => 7,
-        Refusal::HistoryFull => 8,
-        Refusal::Backward => 9,
-        Refusal::NothingWaiting => 10,
-        Refusal::NothingPending => 11,
-        Refusal::NothingReported => 12,
-        Refusal::NotAGroup => 13,
-        Refusal::NothingToPost => 14,
-        Refusal::NoSuchPoint => 15,
-    }
+    let mut line = LineEnd::new();
+    line.word("\n");
+    line.number(changes);
+    line.word(" ");
+    line.number(step);
+    line.word("ok ");
+    line.append_to(to)
 }
 
 fn append_refused(step: u32, refusal: Refusal, to: &mut String) -> Result<(), NoMemory>
     ensures ok { OnOk result (string_bytes to.new ≡ string_bytes to.old ++ line_text (Line.Refused step refusal)) }
-    ensures err { OnErr result (Extends (string_bytes to.old) (string_bytes to.new)) }
+    ensures err { OnErr result (string_bytes to.new ≡ string_bytes to.old) }
 {
-    to.push_str("refused ")?;
-    append_field(step, ' ', to)?;
-    append_field(number_of(refusal), '\n', to)
+    let mut line = LineEnd::new();
+    line.word("\n");
+    line.number(refusal.number());
+    line.word(" ");
+    line.number(step);
+    line.word("refused ");
+    line.append_to(to)
 }
 
 fn append_end(
@@ -221,13 +294,19 @@ fn append_end(
     to: &mut String,
 ) -> Result<(), NoMemory>
     ensures ok { OnOk result (string_bytes to.new ≡ string_bytes to.old ++ line_text (Line.End steps changes pending waiting)) }
-    ensures err { OnErr result (Extends (string_bytes to.old) (string_bytes to.new)) }
+    ensures err { OnErr result (string_bytes to.new ≡ string_bytes to.old) }
 {
-    to.push_str("end ")?;
-    append_field(steps, ' ', to)?;
-    append_field(changes, ' ', to)?;
-    append_field(pending, ' ', to)?;
-    append_field(waiting, '\n', to)
+    let mut line = LineEnd::new();
+    line.word("\n");
+    line.number(waiting);
+    line.word(" ");
+    line.number(pending);
+    line.word(" ");
+    line.number(changes);
+    line.word(" ");
+    line.number(steps);
+    line.word("end ");
+    line.append_to(to)
 }
 
 /// The line with its line feed.

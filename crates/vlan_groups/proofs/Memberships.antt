@@ -11,7 +11,7 @@ use Rattle.std.proofs.lemmas.Bool.{eqb-true, eq-eqb, ne_eqb, cases_lt, lt-ltb}
 use Rattle.std.proofs.lemmas.Bool.Decides.{eqb_tells}
 use Rattle.std.proofs.lemmas.List.{map-append, get_or_default, take_more, length-take-le}
 use Rattle.std.proofs.lemmas.List.Elements.{filter-append}
-use Rattle.br_model.specs.Maps.{pair_cmp, get, put, without}
+use Rattle.br_model.specs.Data.Maps.{pair_cmp, get, put, without}
 use Rattle.port_sets.specs.Numbers.{numbers_below, has_number}
 use Rattle.port_sets.proofs.Numbers.{numbers_below-filter, none_below}
 use Rattle.vlan_groups.specs.declared.row.Row.{Row}

@@ -3,8 +3,8 @@ use Rattle.std.proofs.Common.{◌≡◌, ℕ, zero, suc, ◌+◌, ◌<◌, true,
 use Rattle.std.specs.Cmp.{unsigned_tied}
 use Rattle.std.specs.Ordering.{nat_cmp, eq_by_cmp}
 use Rattle.std.proofs.lemmas.Bool.{eq-eqb, ne_eqb}
-use Rattle.br_model.specs.Domains.{entries_from}
-use Rattle.br_model.specs.Maps.{without}
+use Rattle.br_model.specs.Table.Domains.{entries_from}
+use Rattle.br_model.specs.Data.Maps.{without}
 
 apart : (q n : ℕ) → (q ≡ n → ⊥) → eq_by_cmp nat_cmp q n ≡ false
 apart q n h = unsigned_tied q n ∙ ne_eqb q n h

@@ -5,8 +5,8 @@ use Rattle.std.specs.Prelude.{ℕ, ◌==◌, Bool, false, List, map}
 use Rattle.std.specs.List.{filter}
 use Rattle.std.specs.Option.{is_some, unwrap_or}
 use Rattle.br_model.specs.declared.change.Change.{Change}
-use Rattle.br_model.specs.Maps.{pair_cmp, get}
-use Rattle.br_model.specs.Table.{Table, start, apply}
+use Rattle.br_model.specs.Data.Maps.{pair_cmp, get}
+use Rattle.br_model.specs.Table.Table.{Table, start, apply}
 
 pub record Vlans : Type 0 where
   -- at a VLAN and a member port: whether frames leave it untagged

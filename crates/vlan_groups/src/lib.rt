@@ -5,11 +5,9 @@ mod row;
 pub mod table;
 pub mod vid_list;
 
+pub use br_model::NoMemory;
 pub use table::{Absent, Exists, VlanTable};
 pub use vid_list::Vids;
-
-/// There was no memory.
-pub type NoMemory = std::alloc::AllocError;
 
 #[cfg(test)]
 mod tests;

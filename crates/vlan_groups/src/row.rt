@@ -32,6 +32,7 @@ impl Row {
         self.members.has(port.number())
     }
 
+    /// Whether the port is a member that the VLAN's frames leave without a tag.
     pub fn is_untagged(&self, port: Port) -> bool
         ensures { result ≡ unwrap_or (at_port self.now port) false }
     {
@@ -41,10 +42,12 @@ impl Row {
     pub fn members(&self) -> Ports
         ensures { result ≡ ports_where (λ port. is_some (at_port self.now port)) }
     {
+        // law: the members ascend
         self.members.members_ascend();
         self.members
     }
 
+    /// The members that the VLAN's frames leave without a tag.
     pub fn untagged(&self) -> Ports
         ensures { result ≡ ports_where (λ port. unwrap_or (at_port self.now port) false) }
     {

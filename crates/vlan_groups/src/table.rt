@@ -1,9 +1,9 @@
 //! The table of memberships and PVIDs.
 ghost use Rattle.std.specs.Prelude.{◌≡◌, ◌↔◌, ◌+◌, ◌<◌, not, IfOk, IsErr, IsTrue, OnErr, OnOk, [], length};
 ghost use Rattle.std.specs.Ordering.{nat_cmp};
-ghost use Rattle.br_model.specs.Domains.{entries_from};
-ghost use Rattle.br_model.specs.Maps.{get, put};
-ghost use Rattle.br_model.specs.Table.{start, without_pvid};
+ghost use Rattle.br_model.specs.Table.Domains.{entries_from};
+ghost use Rattle.br_model.specs.Data.Maps.{get, put};
+ghost use Rattle.br_model.specs.Table.Table.{start, without_pvid};
 ghost use Rattle.br_model.specs.declared.change.Change.TheVariants as Change;
 ghost use Rattle.vlan_groups.specs.Vlans.{parts, after, is_member, is_untagged, vids_of};
 ghost use Rattle.vlan_groups.specs.Rows.{ports_where, memberships_from};
@@ -34,12 +34,12 @@ const VLANS: usize = 4094;
 pub struct VlanTable {
     // The row of VLAN v at place v - 1.
     rows: Vec<Row>,
-    pvids: [Option<Vid>; 64],
+    pvids: [Option<Vid>; Port::PLACES],
 }
 
 impl Model for VlanTable {
     ghost use Rattle.std.specs.Prelude.{◌≡◌, length};
-    ghost use Rattle.br_model.specs.Domains.{entries_from};
+    ghost use Rattle.br_model.specs.Table.Domains.{entries_from};
     ghost use Rattle.vlan_groups.specs.Vlans.{Vlans};
     ghost use Rattle.vlan_groups.specs.Rows.{memberships_from};
 
@@ -117,6 +117,7 @@ impl VlanTable {
         pvid_of(&self.pvids, p)
     }
 
+    /// Whether the port is a member of the VLAN.
     pub fn member(&self, p: Port, v: Vid) -> bool
         ensures { result ≡ is_member self.now p v }
     {
@@ -165,26 +166,26 @@ fn empty_rows(alloc: Global) -> Result<Vec<Row>, NoMemory>
     vec![in alloc; Row::empty(); VLANS]
 }
 
-fn no_pvids() -> [Option<Vid>; 64]
+fn no_pvids() -> [Option<Vid>; Port::PLACES]
     ensures { entries_from 0 result ≡ [] }
 {
-    [None; 64]
+    [None; Port::PLACES]
 }
 
-fn pvid_of(pvids: &[Option<Vid>; 64], p: Port) -> Option<Vid>
+fn pvid_of(pvids: &[Option<Vid>; Port::PLACES], p: Port) -> Option<Vid>
     ensures { result ≡ get nat_cmp (entries_from 0 pvids.now) p }
 {
     pvids[usize::from(p.number())]
 }
 
-fn set_pvid(pvids: &mut [Option<Vid>; 64], p: Port, v: Vid)
+fn set_pvid(pvids: &mut [Option<Vid>; Port::PLACES], p: Port, v: Vid)
     ensures { entries_from 0 pvids.new ≡ put nat_cmp (entries_from 0 pvids.old) p v }
 {
     pvids[usize::from(p.number())] = Some(v);
 }
 
 /// Leaves the port without a PVID where the VLAN was that.
-fn unset_pvid(pvids: &mut [Option<Vid>; 64], p: Port, v: Vid)
+fn unset_pvid(pvids: &mut [Option<Vid>; Port::PLACES], p: Port, v: Vid)
     ensures { entries_from 0 pvids.new ≡ without_pvid (entries_from 0 pvids.old) p v }
 {
     if pvid_of(pvids, p) == Some(v) {

@@ -1,14 +1,23 @@
 -- Runs of the world of a bridge with chips.
 -- Source: this profile.
 use Rattle.std.specs.Prelude.{ℕ, ◌+◌, ◌-◌, List, [], ◌++◌, length}
+<<<<<<< HEAD
 use Rattle.std.specs.List.{fold, sum_by}
 use Rattle.br_model.specs.declared.transcript.Line.{Line}
 use Rattle.br_model.specs.declared.transcript.Line.TheVariants.{End}
 use Rattle.br_model.specs.Chip.{Chip}
 use Rattle.br_model.specs.Cut.{deferred_count}
 use Rattle.br_model.specs.Plane.Steps.{Step, world_step}
+=======
+use Rattle.std.specs.List.{fold}
+use Rattle.br_model.specs.declared.steps.Step.{Step}
+use Rattle.br_model.specs.declared.transcript.Line.{Line}
+use Rattle.br_model.specs.declared.transcript.Line.TheVariants.{End}
+use Rattle.br_model.specs.Table.Cut.{deferred_count}
+use Rattle.br_model.specs.Plane.Steps.{world_step}
+>>>>>>> main
 use Rattle.br_model.specs.Plane.World.{World, Stepped, first_world}
-use Rattle.br_model.specs.Setup.{Setup}
+use Rattle.br_model.specs.Table.Setup.{Setup}
 
 abbrev pub then_step : Stepped → Step → Stepped
 then_step x step = let y = world_step x.0 step in (y.0, x.1 ++ y.1)

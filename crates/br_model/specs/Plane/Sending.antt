@@ -7,11 +7,11 @@ use Rattle.br_model.specs.declared.frame.Class.TheVariants.{Drop, Trap, Copy, Fo
 use Rattle.br_model.specs.declared.frame.Head.{Head}
 use Rattle.br_model.specs.declared.transcript.Line.{Line}
 use Rattle.br_model.specs.declared.transcript.Line.TheVariants as lines
-use Rattle.br_model.specs.Class.{class}
-use Rattle.br_model.specs.Domains.{Domains}
-use Rattle.br_model.specs.Messages.{message}
-use Rattle.br_model.specs.Shares.{chip_out, mark_of, soft_out}
-use Rattle.br_model.specs.Table.{Table}
+use Rattle.br_model.specs.Forward.Class.{class}
+use Rattle.br_model.specs.Table.Domains.{Domains}
+use Rattle.br_model.specs.Wire.Messages.{message}
+use Rattle.br_model.specs.Forward.Shares.{chip_out, mark_of, soft_out}
+use Rattle.br_model.specs.Table.Table.{Table}
 
 -- ports and what left there, in the order in which it did
 abbrev pub Sent : Type 0

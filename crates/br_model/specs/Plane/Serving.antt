@@ -9,8 +9,8 @@ use Rattle.std.specs.Ordering.{nat_cmp}
 use Rattle.br_model.specs.declared.steps.Event.TheVariants.{Sight}
 use Rattle.br_model.specs.declared.steps.Refusal.TheVariants.{NothingWaiting, NothingToPost, NoSuchPoint}
 use Rattle.br_model.specs.declared.transcript.Line.TheVariants.{Soft, Held}
-use Rattle.br_model.specs.Maps.{has}
-use Rattle.br_model.specs.Shares.{soft_out}
+use Rattle.br_model.specs.Data.Maps.{has}
+use Rattle.br_model.specs.Forward.Shares.{soft_out}
 use Rattle.br_model.specs.Plane.World.{World, Waiting, Holding, Stepped, table_at, sent, refused, answered, reacts, after_lines}
 
 -- The frame leaves by the table of this point, and then it is reacted to. A reaction that is refused leaves nothing of

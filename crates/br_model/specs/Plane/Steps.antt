@@ -1,13 +1,17 @@
--- The step of the world, by cases.
+-- The step of the world, by cases. Steps of a chip name its domain.
 -- Source: this profile.
-use Rattle.std.specs.Prelude.{ℕ, ◌+◌, ◌==◌, if◌then◌else◌, List, [], ◌∷◌, ◌++◌, length}
-use Rattle.std.specs.declared.option.Option.{Option}
-use Rattle.br_model.specs.declared.steps.Command.{Command}
+use Rattle.std.specs.Prelude.{ℕ, ◌+◌, ◌==◌, if◌then◌else◌, [], ◌∷◌, ◌++◌, length}
 use Rattle.br_model.specs.declared.steps.Event.TheVariants as events
+<<<<<<< HEAD
+=======
+use Rattle.br_model.specs.declared.steps.Step.{Step}
+use Rattle.br_model.specs.declared.steps.Step.TheVariants.{Rx, Cmd, Now, Serve, Hold, Post, Turn, Report, Sweep, Publish}
+>>>>>>> main
 use Rattle.br_model.specs.Plane.ChipSteps.{turns, reports, sweeps}
 use Rattle.br_model.specs.Plane.Entering.{enters}
 use Rattle.br_model.specs.Plane.Serving.{serves, holds, held_with, posts_at}
 use Rattle.br_model.specs.Plane.World.{World, Stepped, chip_at, done, answered, reacts}
+<<<<<<< HEAD
 
 pub data Step : Type 0 where
   -- a frame enters at a port
@@ -25,6 +29,8 @@ pub data Step : Type 0 where
   Sweep : ℕ → Step
   -- software decides by all accepted changes from now on
   Publish : Step
+=======
+>>>>>>> main
 
 -- a count is published once, however often it is
 abbrev pub publishes : World → ℕ → World

@@ -1,7 +1,7 @@
 //! Finite maps and sets by std's ordered ones, in the definitions' words.
 ghost use Rattle.std.specs.Prelude.{◌≡◌, OnOk};
 ghost use Rattle.std.specs.Option.{option_copied};
-ghost use Rattle.br_model.specs.Maps.{get, put as with_entry, without, joined, parted, has};
+ghost use Rattle.br_model.specs.Data.Maps.{get, put as with_entry, without, joined, parted};
 
 use crate::NoMemory;
 use std::collections::{BTreeMap, BTreeSet};
@@ -12,6 +12,7 @@ pub fn find<K: Ord, V: Copy>(map: &BTreeMap<K, V>, key: &K) -> Option<V>
     map.get(key).copied()
 }
 
+/// Puts the value at the key, in place of one. After `NoMemory` nothing is known of the map.
 pub fn put<K: Ord + Drop, V: Drop>(
     map: &mut BTreeMap<K, V>,
     key: K,
@@ -23,6 +24,7 @@ pub fn put<K: Ord + Drop, V: Drop>(
     Ok(())
 }
 
+/// Takes out the key's entry, if there is one.
 pub fn take<K: Ord + Drop, V: Drop>(map: &mut BTreeMap<K, V>, key: &K)
     ensures { map.new.entries ≡ without K.cmp map.old.entries key.now }
 {
@@ -32,12 +34,7 @@ pub fn take<K: Ord + Drop, V: Drop>(map: &mut BTreeMap<K, V>, key: &K)
     }
 }
 
-pub fn has_member<K: Ord>(set: &BTreeSet<K>, key: &K) -> bool
-    ensures { result ≡ has K.cmp set.now.keys key.now }
-{
-    set.contains(key)
-}
-
+/// Makes the key a member. After `NoMemory` nothing is known of the set.
 pub fn join<K: Ord + Drop>(set: &mut BTreeSet<K>, key: K) -> Result<(), NoMemory>
     ensures { OnOk result (set.new.keys ≡ joined K.cmp set.old.keys key) }
 {
@@ -45,6 +42,7 @@ pub fn join<K: Ord + Drop>(set: &mut BTreeSet<K>, key: K) -> Result<(), NoMemory
     Ok(())
 }
 
+/// Takes the key out, if it is a member.
 pub fn part<K: Ord + Drop>(set: &mut BTreeSet<K>, key: &K)
     ensures { set.new.keys ≡ parted K.cmp set.old.keys key.now }
 {

@@ -1,23 +1,16 @@
 //! The table of a list of changes.
-ghost use Rattle.std.specs.Prelude.{◌≡◌, ◌==◌, ◌/◌, ◌%◌, ◌^◌, ◌<◌, ◌∷◌, ◌&&◌, ◌++◌, [], if◌then◌else◌, OnOk, IfOk, Some, is_some};
-ghost use Rattle.br_model.specs.Admission.{is_up, is_forwarding, has_valid_source, member, vlan_of_tag, vlan_of, admit};
-ghost use Rattle.std.specs.List.{list_any};
-ghost use Rattle.br_model.specs.Class.{is_snooped, crosses, is_trapped, class_by, class};
-ghost use Rattle.br_model.specs.Eligible.{untagged, may};
-ghost use Rattle.br_model.specs.Domains.{host, foreign};
-ghost use Rattle.br_model.specs.Leave.{tag_at, egress_ports, ports_out};
-ghost use Rattle.br_model.specs.Maps.{get, has, pair_cmp};
+ghost use Rattle.std.specs.Prelude.{◌≡◌, OnOk, IfOk};
 ghost use Rattle.std.specs.Ordering.{nat_cmp};
-ghost use Rattle.br_model.specs.Table.{Table as TableOf, start, apply as after_change, ip_version, table};
-ghost use Rattle.br_model.specs.Targets.{has_flag, is_for_the_host, with_flag, to_tree, knows_querier, members_of, to_routers, to_members, snooped_targets, unicast_targets, targets};
+ghost use Rattle.br_model.specs.Data.Maps.{get};
+ghost use Rattle.br_model.specs.Forward.Admission.{member};
+ghost use Rattle.br_model.specs.Forward.Eligible.{untagged};
+ghost use Rattle.br_model.specs.Table.Table.{Table as TableOf, start, apply as after_change, ip_version, table};
 
 use crate::NoMemory;
-use crate::change::{Change, DISABLED, FORWARDING, Flags, Kind};
-use crate::domains::Domains;
-use crate::frame::{Class, Head, McastMsg, Tag};
+use crate::change::{Change, DISABLED, Flags, Kind};
 use crate::group::Group;
 use crate::numbers::{Mac, Port, Vid};
-use crate::plain::maps::{find, has_member, join, part, put, take};
+use crate::plain::maps::{find, join, part, put, take};
 use std::alloc::Global;
 use std::collections::{BTreeMap, BTreeSet};
 use std::marker::Model;
@@ -39,7 +32,7 @@ pub struct Table {
 }
 
 impl Model for Table {
-    ghost use Rattle.br_model.specs.Table.{Table as TableOf};
+    ghost use Rattle.br_model.specs.Table.Table.{Table as TableOf};
 
     ghost Value = { TableOf };
 
@@ -210,28 +203,6 @@ impl Table {
         Ok(())
     }
 
-    pub fn is_up(&self, port: Port) -> bool
-        ensures { result ≡ is_up self.now port }
-    {
-        has_member(&self.up, &port)
-    }
-
-    fn is_forwarding(&self, port: Port) -> bool
-        ensures { result ≡ is_forwarding self.now port }
-    {
-        self.is_up(port) && find(&self.state, &port) == Some(FORWARDING)
-    }
-
-    fn has_flag(&self, port: Port, flag: u8) -> bool
-        requires { flag < 8 }
-        ensures { result ≡ has_flag self.now port flag }
-    {
-        match find(&self.flags, &port) {
-            Some(flags) => is_set(flags.bits(), flag),
-            None => false,
-        }
-    }
-
     pub fn is_member(&self, port: Port, vid: Vid) -> bool
         ensures { result ≡ member self.now port vid }
     {
@@ -244,6 +215,7 @@ impl Table {
     {
         find(&self.vlans, &(vid, port)).unwrap_or(false)
     }
+<<<<<<< HEAD
 
     /// The tag with which the VLAN's frames leave the port.
     pub fn tag_at(&self, port: Port, vid: Vid) -> Option<Vid>
@@ -579,6 +551,8 @@ fn class_by(domains: &Domains, port: Port, ports: &[Port]) -> Class
     } else {
         Class::Forward
     }
+=======
+>>>>>>> main
 }
 
 fn version_of(six: bool) -> u8

@@ -1,5 +1,5 @@
 //! `fdb add`, `fdb del`.
-ghost use Rattle.br_model.specs.Commands.Addresses.{fdb_add, fdb_del};
+ghost use Rattle.br_model.specs.Control.Commands.Addresses.{fdb_add, fdb_del};
 ghost use Rattle.bridge_core.specs.Answers.{Answers};
 ghost use Rattle.bridge_core.specs.Standing.{table_of};
 

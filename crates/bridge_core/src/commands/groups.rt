@@ -1,6 +1,6 @@
 //! `mdb add`, `mdb del`, `snooping`.
 ghost use Rattle.std.specs.Prelude.{◌≡◌, IfSome, is_some};
-ghost use Rattle.br_model.specs.Commands.Groups.{is_a_group, group_of, mdb_add, mdb_del, snooping};
+ghost use Rattle.br_model.specs.Control.Commands.Groups.{is_a_group, group_of, mdb_add, mdb_del, snooping};
 ghost use Rattle.bridge_core.specs.Answers.{Answers};
 ghost use Rattle.bridge_core.specs.Standing.{table_of};
 

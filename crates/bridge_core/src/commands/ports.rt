@@ -1,6 +1,6 @@
 //! `port up`, `port down`, `link`.
 ghost use Rattle.std.specs.Prelude.{◌≡◌, ◌<◌, IfOk};
-ghost use Rattle.br_model.specs.Commands.Ports.{is_down, port_up, port_down, goes_down, link, flags_with, flags_of};
+ghost use Rattle.br_model.specs.Control.Commands.Ports.{is_down, port_up, port_down, goes_down, link, flags_with, flags_of};
 ghost use Rattle.bridge_core.specs.Answers.{Answers};
 ghost use Rattle.bridge_core.specs.Standing.{table_of};
 

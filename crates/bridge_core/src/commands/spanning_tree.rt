@@ -1,5 +1,5 @@
 //! `stp`, and the cost and priority of a port.
-ghost use Rattle.br_model.specs.Commands.SpanningTree.{stp, rank};
+ghost use Rattle.br_model.specs.Control.Commands.SpanningTree.{stp, rank};
 ghost use Rattle.bridge_core.specs.Answers.{Answers};
 ghost use Rattle.bridge_core.specs.Standing.{table_of};
 

@@ -1,6 +1,6 @@
 //! `vlan add`, `vlan del`.
 ghost use Rattle.std.specs.Prelude.{◌≡◌, IfOk};
-ghost use Rattle.br_model.specs.Commands.Vlans.{vlan_add, vlan_del, leaves_vlan};
+ghost use Rattle.br_model.specs.Control.Commands.Vlans.{vlan_add, vlan_del, leaves_vlan};
 ghost use Rattle.bridge_core.specs.Answers.{Answers};
 ghost use Rattle.bridge_core.specs.Standing.{table_of};
 

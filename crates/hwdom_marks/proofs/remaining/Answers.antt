@@ -1,6 +1,6 @@
 use Rattle.std.proofs.Common.{◌≡◌, ℕ, Bool, true, not, ◌&&◌, List, [], ◌∷◌, Option, refl, sym, ap, ◌∙◌}
 use Rattle.std.specs.List.{filter}
-use Rattle.br_model.specs.DomainPorts.{is_in_domain, is_marked}
+use Rattle.br_model.specs.Table.DomainPorts.{is_in_domain, is_marked}
 use Rattle.port_sets.specs.Numbers.{numbers_below, has_number, IsSetBelow}
 use Rattle.port_sets.proofs.Numbers.{same_below, has-below, filter-set}
 use Rattle.hwdom_marks.specs.declared.Mark.{Mark}

@@ -3,8 +3,8 @@ use Rattle.std.specs.List.{slice_split}
 use Rattle.std.proofs.lemmas.Iterator.Splits.{YieldsList-from_str_split}
 use Rattle.std.proofs.lemmas.Iterator.Consumers.{YieldsList-turn, YieldsList-end}
 use Rattle.std.proofs.lemmas.List.{length_push}
-use Rattle.br_model.specs.IpWords.{octet}
-use Rattle.br_model.specs.Words.{Word}
+use Rattle.br_model.specs.Text.IpWords.{octet}
+use Rattle.br_model.specs.Text.Words.{Word}
 use Rattle.bridge_command.proofs.Parts.{none_read, more_read, not_read, other_count, all_read, room}
 use Rattle.bridge_command.proofs.ip_words.address_four.Goals as goal
 

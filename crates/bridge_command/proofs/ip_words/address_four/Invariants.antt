@@ -1,6 +1,6 @@
 use Rattle.std.proofs.Common.{◌≡◌, ◌^◌, ◌==◌, length}
 use Rattle.std.specs.List.{slice_split}
-use Rattle.br_model.specs.IpWords.{octet}
+use Rattle.br_model.specs.Text.IpWords.{octet}
 use Rattle.bridge_command.proofs.Parts.{Reads}
 use Rattle.bridge_command.proofs.ip_words.address_four.Given as goal
 

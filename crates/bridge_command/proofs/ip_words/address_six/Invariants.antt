@@ -1,6 +1,6 @@
 use Rattle.std.proofs.Common.{◌≡◌, ◌^◌, ◌==◌, length}
 use Rattle.std.specs.List.{slice_split}
-use Rattle.br_model.specs.IpWords.{four_digits}
+use Rattle.br_model.specs.Text.IpWords.{four_digits}
 use Rattle.bridge_command.proofs.Parts.{Reads}
 use Rattle.bridge_command.proofs.ip_words.address_six.Given as goal
 

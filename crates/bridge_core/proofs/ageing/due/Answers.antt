@@ -1,7 +1,7 @@
 use Rattle.std.proofs.Common.{sym, ◌∙◌}
 use Rattle.br_model.specs.declared.tree.TreeEvent.TheVariants.{Moment}
-use Rattle.br_model.specs.TreeSending.{quiet}
-use Rattle.br_model.specs.TreeStep.{tree_step}
+use Rattle.br_model.specs.Tree.Sending.{quiet}
+use Rattle.br_model.specs.Tree.Step.{tree_step}
 use Rattle.bridge_core.proofs.Reactions.{told_idle}
 use Rattle.bridge_core.proofs.ageing.due.Goals as goal
 

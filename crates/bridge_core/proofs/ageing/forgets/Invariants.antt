@@ -1,5 +1,5 @@
 use Rattle.std.proofs.Common.{◌≡◌, take}
-use Rattle.br_model.specs.Ageing.{forgets}
+use Rattle.br_model.specs.Control.Ageing.{forgets}
 use Rattle.bridge_core.proofs.ageing.forgets.Given as goal
 
 abbrev pub invariant-loop-vid : goal.invariant-loop-vid

@@ -1,6 +1,6 @@
 use Rattle.std.proofs.Common.{◌≡◌, List, IfOk, ap, subst, ◌∙◌}
-use Rattle.br_model.specs.Ageing.{forgets}
-use Rattle.br_model.specs.Learning.{Address}
+use Rattle.br_model.specs.Control.Ageing.{forgets}
+use Rattle.br_model.specs.Control.Learning.{Address}
 use Rattle.bridge_core.specs.Entries.{old_keys}
 use Rattle.bridge_core.proofs.ageing.forgets_old.Goals as goal
 

@@ -1,5 +1,5 @@
 use Rattle.std.proofs.Common.{◌≡◌, take}
-use Rattle.br_model.specs.Ageing.{forgets, forgotten}
+use Rattle.br_model.specs.Control.Ageing.{forgets, forgotten}
 use Rattle.bridge_core.specs.Standing.{table_of}
 use Rattle.bridge_core.proofs.ageing.forgets_reported.Given as goal
 

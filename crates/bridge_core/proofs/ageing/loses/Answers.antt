@@ -1,6 +1,6 @@
 use Rattle.std.proofs.Common.{List, ap, refl, ◌∙◌}
-use Rattle.br_model.specs.Ageing.{forgets, forgotten}
-use Rattle.br_model.specs.Learning.{Triple}
+use Rattle.br_model.specs.Control.Ageing.{forgets, forgotten}
+use Rattle.br_model.specs.Control.Learning.{Triple}
 use Rattle.bridge_core.specs.Standing.{table_of, control_of}
 use Rattle.bridge_core.proofs.Reactions.{makes, fit_forgets}
 use Rattle.bridge_core.proofs.ageing.loses.Goals as goal

@@ -6,12 +6,12 @@ use Rattle.br_model.specs.declared.change.Change.{Change}
 use Rattle.br_model.specs.declared.steps.Refusal.{Refusal}
 use Rattle.br_model.specs.declared.steps.Refusal.TheVariants.{Backward}
 use Rattle.br_model.specs.declared.tree.TreeEvent.TheVariants.{Moment}
-use Rattle.br_model.specs.Ageing.{expired, forgets}
-use Rattle.br_model.specs.Course.{Course, from, makes_all}
-use Rattle.br_model.specs.Ends.{endings}
-use Rattle.br_model.specs.Limits.{all_fit}
-use Rattle.br_model.specs.Reaction.{ages, ends}
-use Rattle.br_model.specs.TreeReaction.{told}
+use Rattle.br_model.specs.Control.Ageing.{expired, forgets}
+use Rattle.br_model.specs.Control.Course.{Course, from, makes_all}
+use Rattle.br_model.specs.Control.Ends.{endings}
+use Rattle.br_model.specs.Table.Limits.{all_fit}
+use Rattle.br_model.specs.Control.Reaction.{ages, ends}
+use Rattle.br_model.specs.Control.TreeReaction.{told}
 use Rattle.bridge_core.specs.Standing.{table_of, control_of}
 use Rattle.bridge_core.proofs.Endings.{both_go, fit_endings, gone}
 use Rattle.bridge_core.proofs.Fitting.{made_all, fit_behind}

@@ -2,10 +2,10 @@ use Rattle.std.proofs.Common.{◌<◌, ◌^◌, ℕ, [], sym, ap, subst, ◌∙�
 use Rattle.std.specs.declared.result.Result.{Result}
 use Rattle.std.specs.declared.result.Result.TheVariants.{Ok}
 use Rattle.br_model.specs.declared.steps.Refusal.{Refusal}
-use Rattle.br_model.specs.Control.{Control}
-use Rattle.br_model.specs.Course.{Course, from, makes_all}
-use Rattle.br_model.specs.Reaction.{commanded}
-use Rattle.br_model.specs.TreeReaction.{told}
+use Rattle.br_model.specs.Control.Control.{Control}
+use Rattle.br_model.specs.Control.Course.{Course, from, makes_all}
+use Rattle.br_model.specs.Control.Reaction.{commanded}
+use Rattle.br_model.specs.Control.TreeReaction.{told}
 use Rattle.bridge_core.specs.Standing.{table_of, control_of}
 use Rattle.bridge_core.proofs.Reactions.{fit_command, sets_no_clock}
 use Rattle.bridge_core.proofs.commands.obey.Goals as goal

@@ -1,8 +1,8 @@
 use Rattle.std.proofs.Common.{ℕ, ◌==◌, true, false, List, ◌++◌, map, sym, ap, ◌∙◌}
 use Rattle.br_model.specs.declared.change.Change.{Change}
 use Rattle.br_model.specs.declared.change.Change.TheVariants.{Querier}
-use Rattle.br_model.specs.Groups.{Membership}
-use Rattle.br_model.specs.Table.{ip_version}
+use Rattle.br_model.specs.Table.Groups.{Membership}
+use Rattle.br_model.specs.Table.Table.{ip_version}
 use Rattle.bridge_core.specs.Ending.{part, router_off, queriers_off}
 use Rattle.bridge_core.proofs.Endings.{in_three, queriers_go}
 use Rattle.bridge_core.proofs.ending.add_endings.Goals as goal

@@ -2,10 +2,10 @@ use Rattle.std.proofs.Common.{◌<◌, ◌^◌, [], ◌∷◌, Ok, refl, ap, sym
 use Rattle.std.specs.Prelude.{Ok}
 use Rattle.std.specs.declared.result.Result.{Result}
 use Rattle.br_model.specs.declared.steps.Refusal.{Refusal}
-use Rattle.br_model.specs.Control.{renewed}
-use Rattle.br_model.specs.Course.{Course, makes_all}
-use Rattle.br_model.specs.Limits.{all_fit}
-use Rattle.br_model.specs.Learning.{Address}
+use Rattle.br_model.specs.Control.Control.{renewed}
+use Rattle.br_model.specs.Control.Course.{Course, makes_all}
+use Rattle.br_model.specs.Table.Limits.{all_fit}
+use Rattle.br_model.specs.Control.Learning.{Address}
 use Rattle.bridge_core.specs.declared.state.Clock.{Clock}
 use Rattle.bridge_core.specs.Standing.{table_of, control_of, clocked}
 use Rattle.bridge_core.proofs.Reactions.{makes, learns_known, learns_renewed, learns_news, fits_news, is_there, put_of}
@@ -16,8 +16,8 @@ returns-in-Known-clause-plans c =
     let t = table_of c.args.state.now in
     let control = control_of c.args.state.now in
     let key : Address = (c.args.vid, c.args.mac) in
-    let is = c.nothing.ensures in
-    makes t control c.nothing.result _ [] (subst (λ (x : Clock). x.now < 2 ^ 53) (sym is.clock) c.requires) (ap (λ (x : Clock). clocked x control) is.clock) is.renewed is.changes is.told refl
+    let is = c.telling.ensures in
+    makes t control c.telling.result _ [] (subst (λ (x : Clock). x.now < 2 ^ 53) (sym is.clock) c.requires) (ap (λ (x : Clock). clocked x control) is.clock) is.renewed is.changes is.told refl
     (learns_known t control key c.args.port c.in-Known.ensures)
 
 pub returns-in-Renewed-clause-plans : goal.returns-in-Renewed-clause-plans

@@ -1,11 +1,11 @@
 use Rattle.std.proofs.Common.{◌≡◌, ◌++◌, [], ◌∷◌, IfOk, List, ℕ, String, string_bytes, refl, ap, sym, ◌∙◌, subst, arith, append_assoc}
 use Rattle.std.specs.declared.alloc.Global.{Global}
 use Rattle.br_model.specs.declared.steps.Step.{Step}
-use Rattle.br_model.specs.Domains.{Domains}
-use Rattle.br_model.specs.Generator.{made_scenario}
+use Rattle.br_model.specs.Table.Domains.{Domains}
+use Rattle.br_model.specs.Program.Generator.{made_scenario}
 use Rattle.br_model.specs.Plane.World.{first_world}
-use Rattle.br_model.specs.Runs.{setup_of}
-use Rattle.br_model.specs.Setup.{first_own}
+use Rattle.br_model.specs.Program.Runs.{setup_of}
+use Rattle.br_model.specs.Table.Setup.{first_own}
 use Rattle.scenario_text.specs.Generating.{At, steps_left}
 use Rattle.capture_runner.proofs.Counting.{ran_none, summary_is}
 use Rattle.capture_runner.proofs.demo.summary.Goals as goal

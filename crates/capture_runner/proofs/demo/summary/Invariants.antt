@@ -1,7 +1,7 @@
 use Rattle.std.proofs.Common.{◌≡◌, ◌+◌, ◌≤◌, List, ◌++◌}
 use Rattle.br_model.specs.declared.steps.Step.{Step}
-use Rattle.br_model.specs.Generator.{made_scenario, most_frames, steps}
-use Rattle.br_model.specs.Runs.{setup_of}
+use Rattle.br_model.specs.Program.Generator.{made_scenario, most_frames, steps}
+use Rattle.br_model.specs.Program.Runs.{setup_of}
 use Rattle.capture_runner.specs.Counting.{Ran}
 use Rattle.scenario_text.specs.Generating.{steps_left}
 use Rattle.capture_runner.proofs.demo.summary.Given as goal

@@ -2,7 +2,7 @@ use Rattle.std.proofs.Common.{[], ◌∷◌, ◌++◌, List, sym, ap, ◌∙◌,
 use Rattle.std.specs.Cmp.{second_so}
 use Rattle.std.specs.List.{list_all}
 use Rattle.br_model.specs.declared.steps.Step.{Step}
-use Rattle.scenario_text.specs.Items.{in_time}
+use Rattle.br_model.specs.Text.LineForms.{comes_by_line}
 use Rattle.capture_runner.proofs.Doing.{does_more}
 use Rattle.capture_runner.proofs.replay.do_steps.Goals as goal
 
@@ -11,7 +11,7 @@ loop-step-preserved g c =
     let so_far = c.loop-step.invariant in
     let next = (rw c.in-Some.is at c.next.ensures.steps).0 in record {
       parts = so_far.parts ∙ ap (λ (l : List Step). c.loop-step.yielded ++ l) next ∙ sym (append_assoc c.loop-step.yielded (c.in-Some.step ∷ []) c.next.new.self.rest.items);
-      timed = second_so _ _ (ap (list_all in_time) (sym next) ∙ so_far.timed);
+      by_line = second_so _ _ (ap (list_all comes_by_line) (sym next) ∙ so_far.by_line);
       does = does_more _ _ _ _ _ _ _ _ _ _ _ _ so_far.does c.in_ok-put_if_full.ensures.moved c.in_ok-step.ensures.does;
       later = omega (arith, so_far.later, c.put_if_full.ensures.cause.later);
     }

@@ -1,13 +1,13 @@
 use Rattle.std.proofs.Common.{◌≡◌, ◌≤◌, ◌++◌, true, string_bytes}
 use Rattle.std.specs.List.{list_all}
 use Rattle.capture_runner.specs.Halting.{DoesAll}
-use Rattle.scenario_text.specs.Items.{in_time}
+use Rattle.br_model.specs.Text.LineForms.{comes_by_line}
 use Rattle.capture_runner.proofs.replay.do_steps.Given as goal
 
 abbrev pub invariant-loop-step : goal.invariant-loop-step
 invariant-loop-step g l = record {
   parts : l.fn.steps.items ≡ l.yielded ++ l.step-iterator.rest.items;
-  timed : list_all in_time l.step-iterator.rest.items ≡ true;
+  by_line : list_all comes_by_line l.step-iterator.rest.items ≡ true;
   does : DoesAll l.fn.session l.yielded l.session (g.K.Sink.taken l.fn.sink) (g.K.Sink.taken l.sink) (string_bytes l.fn.output.text) (string_bytes l.output.text);
   later : g.K.Sink.faults l.fn.sink ≤ g.K.Sink.faults l.sink;
 }

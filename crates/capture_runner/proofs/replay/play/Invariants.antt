@@ -1,6 +1,6 @@
 use Rattle.std.proofs.Common.{ℕ, ◌≤◌, List, string_bytes}
 use Rattle.run_io.specs.Reading.{room}
-use Rattle.br_model.specs.Limits.{most_bytes}
+use Rattle.br_model.specs.Table.Limits.{most_bytes}
 use Rattle.capture_runner.specs.Halting.{Written}
 use Rattle.capture_runner.specs.Playing.{Playing}
 use Rattle.capture_runner.proofs.replay.play.Given as goal

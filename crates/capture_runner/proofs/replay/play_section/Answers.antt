@@ -1,6 +1,6 @@
 use Rattle.std.proofs.Common.{Err, ap, ◌∙◌}
 use Rattle.std.proofs.lemmas.Result.{err_from_is_err_and}
-use Rattle.br_model.specs.Limits.{most_bytes}
+use Rattle.br_model.specs.Table.Limits.{most_bytes}
 use Rattle.capture_runner.proofs.Doing.{flushed, plays_on, section_stops}
 use Rattle.capture_runner.proofs.replay.play_section.Goals as goal
 

@@ -1,6 +1,6 @@
 use Rattle.std.proofs.Common.{Err, ap, ◌∙◌}
 use Rattle.std.proofs.lemmas.Result.{err_from_is_err_and}
-use Rattle.br_model.specs.Captures.{capture}
+use Rattle.br_model.specs.Wire.Captures.{capture}
 use Rattle.capture_runner.proofs.Packets.{begun, more, has_its_port, fewer, all_read, faulty}
 use Rattle.capture_runner.proofs.section.captured_steps.Goals as goal
 
@@ -27,5 +27,5 @@ loop-steps-preserved c = rw c.in_ok-add_step.ensures (more _ _ _ _ c.loop-steps.
 pub returns-clause-gives : goal.returns-clause-gives
 returns-clause-gives c = all_read _ _ _ _ c.loop-steps.invariant (rw c.in_default.is at c.in_ok-packet.ensures).0
 
-pub returns-clause-in_time : goal.returns-clause-in_time
-returns-clause-in_time c = c.loop-steps.invariant.in_time
+pub returns-clause-by_line : goal.returns-clause-by_line
+returns-clause-by_line c = c.loop-steps.invariant.by_line

@@ -1,4 +1,4 @@
-use Rattle.std.proofs.Common.{◌≡◌, true, false, ap, ◌∙◌}
+use Rattle.std.proofs.Common.{◌≡◌, true, false, ap, ◌∙◌, arith}
 use Rattle.chip_driver.specs.Making.{idle}
 use Rattle.chip_driver.proofs.Starting.{marked_one}
 use Rattle.chip_driver.proofs.making.mark_own.Goals as goal
@@ -10,5 +10,5 @@ loop-n-preserved c =
       | in-Some w ↦
           rw (w.tables-is)
           (marked_one c.args.own.now c.loop-n.n w.in-Some.p _ c.args.tables.now c.loop-n.tables w.set_port.new.self c.loop-n.invariant w.in-Some.ensures.value (w.idle.ensures ∙ ap idle w.has.ensures.value) w.set_port.ensures.row w.set_port.ensures.rest)
-      | in_default w ↦ (let e : false ≡ true = w.in_default.ensures.found.1 c.loop-n-test.true in cc)
+      | in_default w ↦ (let e : false ≡ true = w.in_default.ensures.found.1 (omega (arith, c.loop-n-test.true)) in cc)
     ]

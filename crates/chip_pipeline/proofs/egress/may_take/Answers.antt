@@ -1,10 +1,11 @@
 use Rattle.std.proofs.Common.{◌≡◌, false, true, not, ◌&&◌, sym, ap, ap₂, ◌∙◌}
-use Rattle.br_model.specs.Admission.{member}
-use Rattle.br_model.specs.Targets.{has_flag, isolated}
+use Rattle.br_model.specs.Forward.Admission.{member}
+use Rattle.br_model.specs.Forward.Targets.{has_flag, isolated}
 use Rattle.port_sets.specs.Numbers.{has_number}
 use Rattle.chip_tables.specs.declared.rows.PortRow.{PortRow}
 use Rattle.chip_tables.specs.declared.rows.VlanRow.{VlanRow}
-use Rattle.chip_pipeline.specs.PortRows.{row_has_flag, row_lets}
+use Rattle.chip_tables.specs.Flags.{row_has_flag}
+use Rattle.chip_pipeline.specs.PortRows.{row_lets}
 use Rattle.chip_pipeline.proofs.Leaving.{host-takes, no-member, other-takes}
 use Rattle.chip_pipeline.proofs.Reading.{flag-is, forwards-is, member-is}
 use Rattle.chip_pipeline.proofs.egress.may_take.Goals as goal

@@ -1,11 +1,12 @@
 use Rattle.std.proofs.Common.{◌≡◌, ◌&&◌, cond, sym, ap, ap₂, ◌∙◌}
-use Rattle.br_model.specs.Targets.{has_flag, isolated}
+use Rattle.br_model.specs.Forward.Targets.{has_flag, isolated}
 use Rattle.port_sets.specs.Numbers.{has_number}
 use Rattle.chip_tables.specs.declared.rows.PortRow.{PortRow}
 use Rattle.chip_tables.specs.declared.rows.VlanRow.{VlanRow}
 use Rattle.chip_tables.specs.Rows.{port_at}
 use Rattle.chip_tables.specs.Stands.{ports_where}
-use Rattle.chip_pipeline.specs.PortRows.{row_has_flag, row_takes}
+use Rattle.chip_tables.specs.Flags.{row_has_flag}
+use Rattle.chip_pipeline.specs.PortRows.{row_takes}
 use Rattle.chip_pipeline.proofs.Leaving.{many-out}
 use Rattle.chip_pipeline.proofs.Reading.{flag-is}
 use Rattle.chip_pipeline.proofs.egress.send_by.Goals as goal

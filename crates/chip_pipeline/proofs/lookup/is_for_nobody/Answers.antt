@@ -1,6 +1,6 @@
 use Rattle.std.proofs.Common.{◌||◌, sym, ap, ◌∙◌}
 use Rattle.std.specs.Prelude.{◌==◌}
-use Rattle.br_model.specs.Targets.{pause_address}
+use Rattle.br_model.specs.Forward.Targets.{pause_address}
 use Rattle.chip_pipeline.proofs.lookup.is_for_nobody.Goals as goal
 
 pub returns-then-is_for_bridges : goal.returns-then-is_for_bridges

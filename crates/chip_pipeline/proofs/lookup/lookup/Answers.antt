@@ -1,9 +1,9 @@
 use Rattle.std.proofs.Common.{◌≡◌, true, sym, ◌∙◌}
 use Rattle.std.specs.Prelude.{◌∷◌}
 use Rattle.std.proofs.lemmas.Bool.{eq-eqb, ne_eqb}
-use Rattle.br_model.specs.Domains.{host}
-use Rattle.br_model.specs.Numbers.{broadcast, is_multicast}
-use Rattle.br_model.specs.Targets.{bcast_flood, with_flag}
+use Rattle.br_model.specs.Table.Domains.{host}
+use Rattle.br_model.specs.Data.Numbers.{broadcast, is_multicast}
+use Rattle.br_model.specs.Forward.Targets.{bcast_flood, with_flag}
 use Rattle.chip_pipeline.proofs.Leading.{broadcast-targets, group-targets, host-way, many-way, nowhere-way}
 use Rattle.chip_pipeline.proofs.Members.{goals}
 use Rattle.chip_pipeline.proofs.lookup.lookup.Goals as goal

@@ -1,5 +1,5 @@
 use Rattle.std.proofs.Common.{sym, ap, ◌++◌, ◌∙◌}
-use Rattle.br_model.specs.Targets.{members_of, multicast_flood}
+use Rattle.br_model.specs.Forward.Targets.{members_of, multicast_flood}
 use Rattle.chip_pipeline.proofs.Members.{flood-goals, goals, lead-alike, flooded, members-goals}
 use Rattle.chip_pipeline.proofs.lookup.to_group.Goals as goal
 

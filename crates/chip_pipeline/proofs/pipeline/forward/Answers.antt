@@ -1,6 +1,6 @@
 use Rattle.std.proofs.Common.{◌≡◌, ℕ, ◌&&◌, cond, Option, None, sym, ap, ◌∙◌}
 use Rattle.std.specs.Option.{option_map}
-use Rattle.br_model.specs.Admission.{admit, has_valid_source, is_forwarding}
+use Rattle.br_model.specs.Forward.Admission.{admit, has_valid_source, is_forwarding}
 use Rattle.chip_pipeline.specs.declared.vlans.Vlan.{Vlan}
 use Rattle.chip_pipeline.proofs.Passing.{none-sent, tree-sent}
 use Rattle.chip_pipeline.proofs.pipeline.forward.Goals as goal

@@ -1,5 +1,6 @@
 use Rattle.std.proofs.Common.{ap, sym, ◌∙◌}
-use Rattle.chip_pipeline.specs.Passed.{Passed, untagged_among}
+use Rattle.br_model.specs.Forward.Untagged.{untagged_among}
+use Rattle.chip_pipeline.specs.Passed.{Passed}
 use Rattle.chip_pipeline.proofs.pipeline.pass.Goals as goal
 
 pub returns : goal.returns

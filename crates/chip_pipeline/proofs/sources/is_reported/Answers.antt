@@ -1,5 +1,5 @@
 use Rattle.std.proofs.Common.{◌&&◌, sym, ◌∙◌}
-use Rattle.br_model.specs.Learning.{is_news, is_reserved, may_teach}
+use Rattle.br_model.specs.Control.Learning.{is_news, is_reserved, may_teach}
 use Rattle.chip_pipeline.proofs.Truth.{first-fails, second-fails, third-tells}
 use Rattle.chip_pipeline.proofs.sources.is_reported.Goals as goal
 

@@ -1,11 +1,12 @@
 use Rattle.std.proofs.Common.{◌≡◌, true, ◌&&◌, ◌||◌, sym, ap, ap₂, ◌∙◌}
-use Rattle.br_model.specs.Admission.{forwarding, is_forwarding, is_in_state, learning, member}
-use Rattle.br_model.specs.Learning.{learning_flag}
-use Rattle.br_model.specs.Targets.{has_flag}
+use Rattle.br_model.specs.Forward.Admission.{forwarding, is_forwarding, is_in_state, learning, member}
+use Rattle.br_model.specs.Control.Learning.{learning_flag}
+use Rattle.br_model.specs.Forward.Targets.{has_flag}
 use Rattle.port_sets.specs.Numbers.{has_number}
 use Rattle.chip_tables.specs.declared.rows.PortRow.{PortRow}
 use Rattle.chip_tables.specs.declared.rows.VlanRow.{VlanRow}
-use Rattle.chip_pipeline.specs.PortRows.{row_has_flag, row_is_in}
+use Rattle.chip_tables.specs.Flags.{row_has_flag}
+use Rattle.chip_pipeline.specs.PortRows.{row_is_in}
 use Rattle.chip_pipeline.proofs.Reading.{flag-is, forwards-is, learns-is, member-is}
 use Rattle.chip_pipeline.proofs.Truth.{all-known}
 use Rattle.chip_pipeline.proofs.sources.may_teach.Goals as goal

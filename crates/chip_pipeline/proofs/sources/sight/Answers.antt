@@ -1,6 +1,6 @@
 use Rattle.std.proofs.Common.{◌≡◌, ℕ, Option, Some, sym, ap, ◌∙◌}
 use Rattle.std.specs.Option.{option_map}
-use Rattle.br_model.specs.Admission.{vlan_of}
+use Rattle.br_model.specs.Forward.Admission.{vlan_of}
 use Rattle.chip_pipeline.specs.declared.vlans.Vlan.{Vlan}
 use Rattle.chip_pipeline.proofs.Sightings.{hit-of-frame, report-of-frame}
 use Rattle.chip_pipeline.proofs.sources.sight.Goals as goal

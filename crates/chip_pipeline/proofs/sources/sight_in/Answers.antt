@@ -1,5 +1,5 @@
 use Rattle.std.proofs.Common.{cond, None, Some, ap, ◌∙◌}
-use Rattle.br_model.specs.Learning.{is_reserved}
+use Rattle.br_model.specs.Control.Learning.{is_reserved}
 use Rattle.chip_pipeline.proofs.Sightings.{report-is}
 use Rattle.chip_pipeline.proofs.sources.sight_in.Goals as goal
 

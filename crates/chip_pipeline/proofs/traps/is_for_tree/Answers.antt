@@ -1,7 +1,7 @@
 use Rattle.std.proofs.Common.{◌&&◌, ap, ◌∙◌}
 use Rattle.std.specs.Prelude.{◌==◌}
-use Rattle.br_model.specs.Admission.{has_valid_source, is_up}
-use Rattle.br_model.specs.Targets.{bridge_group_address}
+use Rattle.br_model.specs.Forward.Admission.{has_valid_source, is_up}
+use Rattle.br_model.specs.Forward.Targets.{bridge_group_address}
 use Rattle.chip_tables.specs.declared.rows.PortRow.{PortRow}
 use Rattle.chip_pipeline.proofs.Truth.{both, neither}
 use Rattle.chip_pipeline.proofs.traps.is_for_tree.Goals as goal

@@ -1,6 +1,6 @@
 use Rattle.std.proofs.Common.{◌&&◌, sym, ◌∙◌}
 use Rattle.std.specs.Prelude.{◌==◌}
-use Rattle.br_model.specs.Targets.{bridge_group_address, pause_address, is_for_the_host}
+use Rattle.br_model.specs.Forward.Targets.{bridge_group_address, pause_address, is_for_the_host}
 use Rattle.chip_pipeline.proofs.Truth.{either, or-last}
 use Rattle.chip_pipeline.proofs.traps.is_reserved.Goals as goal
 

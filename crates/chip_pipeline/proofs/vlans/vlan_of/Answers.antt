@@ -1,5 +1,5 @@
 use Rattle.std.proofs.Common.{sym, ap, ◌∙◌}
-use Rattle.br_model.specs.Admission.{vlan_of_tag}
+use Rattle.br_model.specs.Forward.Admission.{vlan_of_tag}
 use Rattle.chip_pipeline.proofs.vlans.vlan_of.Goals as goal
 
 pub returns-in-Some-clause-vid : goal.returns-in-Some-clause-vid

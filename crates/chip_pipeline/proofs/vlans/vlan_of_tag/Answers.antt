@@ -1,5 +1,5 @@
 use Rattle.std.proofs.Common.{◌≡◌, ℕ, cond, None, Some, sym, ap, ◌∙◌}
-use Rattle.br_model.specs.Admission.{member}
+use Rattle.br_model.specs.Forward.Admission.{member}
 use Rattle.port_sets.specs.Numbers.{has_number}
 use Rattle.chip_tables.specs.declared.rows.VlanRow.{VlanRow}
 use Rattle.chip_tables.specs.Rows.{vlan_at}

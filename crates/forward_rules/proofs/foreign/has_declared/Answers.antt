@@ -1,6 +1,6 @@
 use Rattle.std.proofs.Common.{◌<◌, ◌&&◌, ap, arith, ◌∙◌, sym}
 use Rattle.std.specs.Prelude.{is_some}
-use Rattle.br_model.specs.Domains.{domain_of}
+use Rattle.br_model.specs.Table.Domains.{domain_of}
 use Rattle.port_sets.specs.Numbers.{has_number}
 use Rattle.port_sets.proofs.Numbers.{has-set_below}
 use Rattle.forward_rules.proofs.SetLaws.{any-found, any-none}

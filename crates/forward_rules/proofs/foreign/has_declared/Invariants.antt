@@ -1,6 +1,6 @@
 use Rattle.std.proofs.Common.{◌≡◌, ℕ, ◌<◌, false, ◌&&◌}
 use Rattle.std.specs.Prelude.{is_some}
-use Rattle.br_model.specs.Domains.{domain_of}
+use Rattle.br_model.specs.Table.Domains.{domain_of}
 use Rattle.port_sets.specs.Numbers.{has_number}
 use Rattle.forward_rules.proofs.foreign.has_declared.Given as goal
 

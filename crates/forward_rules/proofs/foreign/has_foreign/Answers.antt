@@ -1,5 +1,5 @@
 use Rattle.std.proofs.Common.{◌∙◌, ap, sym}
-use Rattle.br_model.specs.Domains.{foreign}
+use Rattle.br_model.specs.Table.Domains.{foreign}
 use Rattle.forward_rules.proofs.ForeignPorts.{not-own}
 use Rattle.forward_rules.proofs.SetLaws.{any-filter}
 use Rattle.forward_rules.proofs.foreign.has_foreign.Goals as goal

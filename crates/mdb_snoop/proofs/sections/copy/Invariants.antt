@@ -1,6 +1,6 @@
 use Rattle.std.proofs.Common.{◌≡◌, ◌≤◌, take}
 use Rattle.std.specs.Vec.{vec_capacity}
-use Rattle.br_model.specs.GroupPairs.{max_pairs}
+use Rattle.br_model.specs.Table.GroupPairs.{max_pairs}
 use Rattle.mdb_snoop.proofs.sections.copy.Given as goal
 
 abbrev pub invariant-loop-section : goal.invariant-loop-section

@@ -1,5 +1,5 @@
 use Rattle.std.proofs.Common.{◌≡◌, take}
-use Rattle.br_model.specs.Ends.{due_members}
+use Rattle.br_model.specs.Control.Ends.{due_members}
 use Rattle.mdb_snoop.specs.Places.{flat}
 use Rattle.mdb_snoop.proofs.sections.expired.Given as goal
 

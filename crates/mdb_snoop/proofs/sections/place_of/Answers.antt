@@ -1,12 +1,12 @@
 use Rattle.std.proofs.Common.{arith, refl, sym, ◌+◌, ◌-◌, ◌/◌, ℕ, ◌∙◌}
-use Rattle.br_model.specs.GroupPairs.{group_pair_cmp}
+use Rattle.br_model.specs.Table.GroupPairs.{group_pair_cmp}
 use Rattle.mdb_snoop.proofs.Cuts.{above_place, below_place}
 use Rattle.br_model.proofs.GroupOrders.{pair_total}
 use Rattle.mdb_snoop.proofs.Search.{is_at}
 use Rattle.mdb_snoop.proofs.sections.place_of.Goals as goal
 
 pub loop-low-preserved-in-Less : goal.loop-low-preserved-in-Less
-loop-low-preserved-in-Less c =
+loop-low-preserved-in-Less g c =
     let k = c.loop-low.invariant in
     let i : ℕ = c.loop-low.low + (c.loop-low.high - c.loop-low.low) / 2 in (
       omega arith,
@@ -16,7 +16,7 @@ loop-low-preserved-in-Less c =
     )
 
 pub loop-low-preserved : goal.loop-low-preserved
-loop-low-preserved c =
+loop-low-preserved g c =
     let k = c.loop-low.invariant in
     let i : ℕ = c.loop-low.low + (c.loop-low.high - c.loop-low.low) / 2 in (
       omega arith,
@@ -26,6 +26,6 @@ loop-low-preserved c =
     )
 
 pub returns-in-Equal-clause-found : goal.returns-in-Equal-clause-found
-returns-in-Equal-clause-found c =
+returns-in-Equal-clause-found g c =
     let i : ℕ = c.loop-low.low + (c.loop-low.high - c.loop-low.low) / 2 in
     is_at c.args.sections.now c.args.key.now i c.index-sections-middle.result _ c.requires (omega (arith, c.loop-low.invariant.1)) refl (sym c.order.ensures ∙ c.in-Equal.is)

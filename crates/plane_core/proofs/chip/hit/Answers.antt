@@ -2,7 +2,7 @@ use Rattle.std.proofs.Common.{sym, ap, ◌∙◌}
 use Rattle.std.specs.declared.result.Result.{Result}
 use Rattle.std.specs.declared.result.Result.TheVariants.{Ok, Err}
 use Rattle.std.specs.Prelude.{OnOk}
-use Rattle.br_model.specs.Chip.{hits_entry}
+use Rattle.br_model.specs.Plane.Chip.{hits_entry}
 use Rattle.plane_core.specs.Chips.{chip_of}
 use Rattle.plane_core.proofs.chip.hit.Goals as goal
 

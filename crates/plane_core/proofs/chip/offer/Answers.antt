@@ -1,5 +1,5 @@
 use Rattle.std.proofs.Common.{sym, ap, ◌∙◌}
-use Rattle.br_model.specs.Chip.{offers}
+use Rattle.br_model.specs.Plane.Chip.{offers}
 use Rattle.plane_core.specs.Chips.{chip_of}
 use Rattle.plane_core.proofs.chip.offer.Goals as goal
 

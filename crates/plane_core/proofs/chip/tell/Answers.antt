@@ -1,7 +1,7 @@
 use Rattle.std.proofs.Common.{◌≡◌, Bool, true, false, None, Some, if◌then◌else◌, refl, ap, ◌∙◌, subst}
 use Rattle.br_model.specs.declared.change.Change.{Change}
-use Rattle.br_model.specs.Change.{deferred}
-use Rattle.br_model.specs.Table.{Table, apply}
+use Rattle.br_model.specs.Table.Change.{deferred}
+use Rattle.br_model.specs.Table.Table.{Table, apply}
 use Rattle.switchdev_notify.specs.Notices.{after_told}
 use Rattle.chip_driver.specs.Drives.{Drives}
 use Rattle.plane_core.proofs.chip.tell.Goals as goal

@@ -1,9 +1,9 @@
 use Rattle.std.proofs.Common.{List, take, if◌then◌else◌, sym, ap, ◌∙◌, subst, arith}
 use Rattle.std.proofs.lemmas.List.{take_all}
 use Rattle.br_model.specs.declared.change.Change.{Change}
-use Rattle.br_model.specs.Change.{deferred}
-use Rattle.br_model.specs.Cut.{cut}
-use Rattle.br_model.specs.Table.{apply, table}
+use Rattle.br_model.specs.Table.Change.{deferred}
+use Rattle.br_model.specs.Table.Cut.{cut}
+use Rattle.br_model.specs.Table.Table.{apply, table}
 use Rattle.chip_driver.specs.Drives.{Drives, IsTaken}
 use Rattle.plane_core.proofs.Following.{taken_now, more_deferred, table_more}
 use Rattle.plane_core.proofs.chip.tell_from.Goals as goal

@@ -1,7 +1,7 @@
 use Rattle.std.proofs.Common.{ℕ, ◌≤◌, take}
-use Rattle.br_model.specs.Cut.{cut, deferred_count}
-use Rattle.br_model.specs.Domains.{Domains}
-use Rattle.br_model.specs.Table.{table}
+use Rattle.br_model.specs.Table.Cut.{cut, deferred_count}
+use Rattle.br_model.specs.Table.Domains.{Domains}
+use Rattle.br_model.specs.Table.Table.{table}
 use Rattle.chip_driver.specs.Drives.{Drives}
 use Rattle.plane_core.proofs.chip.tell_from.Given as goal
 

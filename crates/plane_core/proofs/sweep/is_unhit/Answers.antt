@@ -1,7 +1,7 @@
 use Rattle.std.proofs.Common.{Bool, not, ◌&&◌, sym, ap, ap₂, ◌∙◌}
-use Rattle.br_model.specs.DomainPorts.{is_in_domain}
-use Rattle.br_model.specs.Domains.{chip}
-use Rattle.br_model.specs.Maps.{pair_cmp, has}
+use Rattle.br_model.specs.Table.DomainPorts.{is_in_domain}
+use Rattle.br_model.specs.Table.Domains.{chip}
+use Rattle.br_model.specs.Data.Maps.{pair_cmp, has}
 use Rattle.plane_core.proofs.sweep.is_unhit.Goals as goal
 use Rattle.plane_core.proofs.sweep.is_unhit.Goals.{then-is_extern, else-is_extern}
 

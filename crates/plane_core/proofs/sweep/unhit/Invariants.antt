@@ -1,6 +1,6 @@
 use Rattle.std.proofs.Common.{◌≡◌, filter_map, take}
-use Rattle.br_model.specs.Domains.{Domains}
-use Rattle.br_model.specs.Table.{Table}
+use Rattle.br_model.specs.Table.Domains.{Domains}
+use Rattle.br_model.specs.Table.Table.{Table}
 use Rattle.chip_tables.specs.Rows.{address_at}
 use Rattle.chip_tables.specs.Stands.{PortsStand}
 use Rattle.plane_core.specs.Sweep.{unseen}

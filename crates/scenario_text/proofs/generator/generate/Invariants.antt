@@ -1,6 +1,6 @@
 use Rattle.std.proofs.Common.{◌≡◌, ◌+◌, ◌*◌, ◌≤◌, ◌++◌}
 use Rattle.std.specs.String.{string_bytes, string_len, string_capacity}
-use Rattle.br_model.specs.Generator.{made}
+use Rattle.br_model.specs.Program.Generator.{made}
 use Rattle.scenario_text.specs.Generating.{text_left}
 use Rattle.scenario_text.proofs.generator.generate.Given as goal
 

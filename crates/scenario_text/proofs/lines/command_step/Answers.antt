@@ -1,5 +1,5 @@
 use Rattle.std.proofs.Common.{ap}
-use Rattle.br_model.specs.LineForms.{commanded}
+use Rattle.br_model.specs.Text.LineForms.{commanded}
 use Rattle.scenario_text.proofs.lines.command_step.Goals as goal
 
 pub returns-in-Ok-clause-value : goal.returns-in-Ok-clause-value

@@ -2,8 +2,8 @@ use Rattle.std.proofs.Common.{ℕ, List, [], ◌∷◌, ◌++◌, ap}
 use Rattle.std.specs.Fmt.{decimal}
 use Rattle.std.specs.Prelude.{codes}
 use Rattle.std.specs.String.{string_bytes}
-use Rattle.br_model.specs.Listings.{fdb_line}
-use Rattle.br_model.specs.ScenarioText.{mac_text, kind_word}
+use Rattle.br_model.specs.Program.Listings.{fdb_line}
+use Rattle.br_model.specs.Text.Spelling.{mac_text, kind_word}
 use Rattle.scenario_text.proofs.Listed.{line_more}
 use Rattle.scenario_text.proofs.listing.append_addresses.Goals as goal
 

@@ -1,7 +1,7 @@
 use Rattle.std.proofs.Common.{◌≡◌, ◌==◌, ◌++◌}
 use Rattle.std.specs.List.{flat_map, filter}
 use Rattle.std.specs.String.{string_bytes}
-use Rattle.br_model.specs.Listings.{vlan_line}
+use Rattle.br_model.specs.Program.Listings.{vlan_line}
 use Rattle.scenario_text.proofs.listing.append_memberships_of.Given as goal
 
 abbrev pub invariant-loop-vid : goal.invariant-loop-vid

@@ -1,6 +1,6 @@
 use Rattle.std.proofs.lemmas.Option.{IfSome_then}
 use Rattle.std.proofs.Common.{map}
-use Rattle.br_model.specs.Words.{words}
+use Rattle.br_model.specs.Text.Words.{words}
 use Rattle.scenario_text.proofs.Splits.{none_then, goes_on, is_all, too_many, too_many_last}
 use Rattle.scenario_text.proofs.words.find_words.Goals as goal
 

@@ -1,5 +1,5 @@
 use Rattle.std.proofs.Common.{◌≡◌, ◌++◌, length, map}
-use Rattle.br_model.specs.Words.{words}
+use Rattle.br_model.specs.Text.Words.{words}
 use Rattle.scenario_text.proofs.words.find_words.Given as goal
 
 abbrev pub decreases-loop-end : goal.decreases-loop-end

@@ -1,7 +1,7 @@
 use Rattle.std.proofs.Common.{◌≡◌, ℕ, List, [], ◌∷◌, ◌++◌, take, get_or, ap, arith, ◌∙◌, append_assoc}
 use Rattle.std.specs.List.{flat_map}
 use Rattle.std.specs.String.{string_bytes}
-use Rattle.br_model.specs.ScenarioText.{digits_at}
+use Rattle.br_model.specs.Text.Spelling.{digits_at}
 use Rattle.scenario_text.proofs.Joins.{part_more}
 use Rattle.scenario_text.proofs.write.append_groups.Goals as goal
 

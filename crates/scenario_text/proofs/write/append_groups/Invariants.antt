@@ -1,7 +1,7 @@
 use Rattle.std.proofs.Common.{◌≡◌, ◌∷◌, ◌++◌, take}
 use Rattle.std.specs.List.{flat_map}
 use Rattle.std.specs.String.{string_bytes}
-use Rattle.br_model.specs.ScenarioText.{digits_at}
+use Rattle.br_model.specs.Text.Spelling.{digits_at}
 use Rattle.scenario_text.proofs.write.append_groups.Given as goal
 
 abbrev pub invariant-loop-bits : goal.invariant-loop-bits

@@ -1,6 +1,6 @@
 use Rattle.std.proofs.Common.{◌≡◌, ◌++◌, take}
 use Rattle.std.specs.String.{string_bytes}
-use Rattle.br_model.specs.Digits.{hex_of}
+use Rattle.br_model.specs.Data.Digits.{hex_of}
 use Rattle.scenario_text.proofs.write.append_hex.Given as goal
 
 abbrev pub invariant-loop-byte : goal.invariant-loop-byte

@@ -1,7 +1,7 @@
 use Rattle.std.proofs.Common.{◌≡◌, ℕ, ◌+◌, ◌==◌, false, List, [], ◌∷◌, length, take, min, ap, sym, ◌∙◌, arith}
 use Rattle.std.proofs.lemmas.List.{take_min}
-use Rattle.br_model.specs.Frames.{longest_frame}
-use Rattle.br_model.specs.ScenarioText.{shown as shown_of}
+use Rattle.br_model.specs.Wire.Frames.{longest_frame}
+use Rattle.br_model.specs.Text.Spelling.{shown as shown_of}
 use Rattle.scenario_text.proofs.write.shown.Goals as goal
 
 some : (bytes : List ℕ) (n : ℕ) → (length bytes == 0) ≡ false → n ≡ min (length bytes) (longest_frame + 1) → take n bytes ≡ shown_of bytes

@@ -1,6 +1,6 @@
 use Rattle.std.proofs.Common.{◌≡◌, get_or, sym, ap, ◌∙◌, None, arith}
 use Rattle.std.specs.Option.{option_and_then}
-use Rattle.br_model.specs.TreeVectors.{candidate}
+use Rattle.br_model.specs.Tree.Vectors.{candidate}
 use Rattle.stp_core.proofs.ElectLaws.{added, least-more, below-added}
 use Rattle.stp_core.proofs.vectors.elect.Goals as goal
 use Rattle.stp_core.proofs.vectors.elect.Goals.{in-Some+in-Some-candidate, in-Some+in_default-candidate, in_default}

@@ -1,7 +1,7 @@
 use Rattle.std.proofs.Common.{◌≡◌, ◌<◌, take}
 use Rattle.std.specs.List.{filter_map}
 use Rattle.std.specs.Option.{ForSome}
-use Rattle.br_model.specs.TreeVectors.{candidate, least}
+use Rattle.br_model.specs.Tree.Vectors.{candidate, least}
 use Rattle.stp_core.specs.Places.{entries_at}
 use Rattle.stp_core.proofs.vectors.elect.Given as goal
 

@@ -1,7 +1,7 @@
 use Rattle.std.proofs.Common.{List, [], ◌∷◌, ◌++◌, true, refl, sym, subst, arith}
 use Rattle.br_model.specs.declared.change.Change.{Change}
 use Rattle.br_model.specs.declared.change.Change.TheVariants.{PortUp, SetState, VlanAdd}
-use Rattle.br_model.specs.Limits.{AreWithin}
+use Rattle.br_model.specs.Table.Limits.{AreWithin}
 use Rattle.br_model.proofs.Within.{within_of}
 use Rattle.table_publish.proofs.tests.append_port.Goals as goal
 

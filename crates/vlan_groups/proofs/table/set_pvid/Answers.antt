@@ -1,7 +1,7 @@
 use Rattle.std.proofs.Common.{◌≡◌, ◌+◌, ◌<◌, length, ap, ◌∙◌, arith}
 use Rattle.std.specs.Ordering.{nat_cmp}
-use Rattle.br_model.specs.Domains.{entries_from}
-use Rattle.br_model.specs.Maps.{put}
+use Rattle.br_model.specs.Table.Domains.{entries_from}
+use Rattle.br_model.specs.Data.Maps.{put}
 use Rattle.br_model.proofs.DomainLaws.{entries-set}
 use Rattle.vlan_groups.proofs.table.set_pvid.Goals as goal
 

@@ -2,8 +2,8 @@ use Rattle.std.proofs.Common.{◌≡◌, ℕ, ◌+◌, cond, List, true, false, 
 use Rattle.std.specs.Prelude.{◌==◌}
 use Rattle.std.specs.Option.{option_eq}
 use Rattle.std.specs.Ordering.{nat_cmp}
-use Rattle.br_model.specs.Domains.{entries_from}
-use Rattle.br_model.specs.Maps.{get, without}
+use Rattle.br_model.specs.Table.Domains.{entries_from}
+use Rattle.br_model.specs.Data.Maps.{get, without}
 use Rattle.vlan_groups.proofs.Pvids.{entries-clear}
 use Rattle.vlan_groups.proofs.table.unset_pvid.Goals as goal
 

@@ -1,5 +1,5 @@
 use Rattle.std.proofs.Common.{ℕ, suc, ◌+◌, ◌≤◌, List, length, sym, subst, false, arith}
-use Rattle.br_model.specs.Maps.{pair_cmp}
+use Rattle.br_model.specs.Data.Maps.{pair_cmp}
 use Rattle.br_model.specs.declared.change.Kind.TheVariants.{Learned}
 use Rattle.chip_tables.specs.declared.rows.AddressRow.{AddressRow}
 use Rattle.chip_tables.proofs.Room.{put-grows}

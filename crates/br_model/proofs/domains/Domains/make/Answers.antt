@@ -1,6 +1,15 @@
+<<<<<<< HEAD
 use Rattle.std.proofs.Common.{ℕ, List, [], sym, subst, replicate}
 use Rattle.br_model.specs.declared.domains.Edition.TheVariants.{One}
 use Rattle.br_model.proofs.DomainWords.{Keep, words-keep, none-keep}
+=======
+use Rattle.std.proofs.Common.{[], get_or, cond, sym, ap, subst, ◌∙◌}
+use Rattle.std.specs.Prelude.{◌==◌}
+use Rattle.std.specs.Int.{bit_at}
+use Rattle.br_model.specs.Table.Domains.{Domains}
+use Rattle.br_model.specs.Table.DomainPorts.{IsWordOf}
+use Rattle.br_model.proofs.DomainWords.{word-put, word-none, zero_words}
+>>>>>>> main
 use Rattle.br_model.proofs.domains.Domains.make.Goals as goal
 
 pub invariant_of-result : goal.invariant_of-result

@@ -1,7 +1,13 @@
 use Rattle.std.proofs.Common.{rules, ℕ, List, ◌≡◌, ◌+◌, ◌<◌, length, set, Some, sym, ap, subst, ◌∙◌, arith}
 use Rattle.std.specs.Ordering.{nat_cmp}
+<<<<<<< HEAD
 use Rattle.br_model.specs.Domains.{Domains, entries_from}
 use Rattle.br_model.specs.Maps.{put}
+=======
+use Rattle.br_model.specs.Table.Domains.{Domains, entries_from}
+use Rattle.br_model.specs.Data.Maps.{put}
+use Rattle.br_model.specs.Table.DomainPorts.{IsWordOf}
+>>>>>>> main
 use Rattle.br_model.proofs.DomainLaws.{entries-set}
 use Rattle.br_model.proofs.DomainWords.{Keep, words-keep}
 use Rattle.br_model.proofs.domains.Domains.set.Goals as goal

@@ -1,5 +1,5 @@
 use Rattle.std.proofs.Common.{◌≡◌, ◌<◌, ◌^◌, take}
-use Rattle.br_model.specs.Numbers.{number}
+use Rattle.br_model.specs.Data.Numbers.{number}
 use Rattle.br_model.proofs.numbers.Mac.new.Given as goal
 
 abbrev pub invariant-loop-byte : goal.invariant-loop-byte

@@ -1,10 +1,10 @@
 use Rattle.std.proofs.Common.{◌≡◌, ◌∷◌, ◌++◌, [], ap, sym, ◌∙◌, map}
 use Rattle.std.specs.Ordering.{nat_cmp}
 use Rattle.br_model.specs.declared.scenario.Place.TheVariants.{Declarations}
-use Rattle.br_model.specs.Domains.{Domains}
-use Rattle.br_model.specs.Maps.{put}
-use Rattle.br_model.specs.Roster.{Roster, Entry, domains_of}
-use Rattle.br_model.specs.Declarations.{are_declared}
+use Rattle.br_model.specs.Table.Domains.{Domains}
+use Rattle.br_model.specs.Data.Maps.{put}
+use Rattle.br_model.specs.Text.Roster.{Roster, Entry, domains_of}
+use Rattle.br_model.specs.Text.Declarations.{are_declared}
 use Rattle.bridge_command.specs.Seen.{entry}
 use Rattle.bridge_command.proofs.Declaring.{grows, domains-append}
 use Rattle.bridge_command.proofs.Entries.{declared_last}

@@ -1,5 +1,5 @@
 use Rattle.std.proofs.Common.{◌≡◌, length, take}
-use Rattle.br_model.specs.Roster.{domains_of}
+use Rattle.br_model.specs.Text.Roster.{domains_of}
 use Rattle.bridge_command.proofs.roster.Roster.domains.Given as goal
 
 abbrev pub invariant-loop-i : goal.invariant-loop-i

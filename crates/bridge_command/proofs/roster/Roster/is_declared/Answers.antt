@@ -1,7 +1,7 @@
 use Rattle.std.proofs.Common.{ap, sym, ◌∙◌, is_some, not}
-use Rattle.br_model.specs.Domains.{Domains, domain_of}
-use Rattle.br_model.specs.Roster.{domains_of}
-use Rattle.br_model.specs.Declarations.{are_declared}
+use Rattle.br_model.specs.Table.Domains.{Domains, domain_of}
+use Rattle.br_model.specs.Text.Roster.{domains_of}
+use Rattle.br_model.specs.Text.Declarations.{are_declared}
 use Rattle.bridge_command.proofs.Declaring.{in_domains, host_apart}
 use Rattle.bridge_command.proofs.roster.Roster.is_declared.Goals as goal
 

@@ -1,6 +1,6 @@
 use Rattle.std.proofs.Common.{◌≡◌, length, drop}
-use Rattle.br_model.specs.Roster.{has_number}
-use Rattle.br_model.specs.ScenarioText.{name_of}
+use Rattle.br_model.specs.Text.Roster.{has_number}
+use Rattle.br_model.specs.Text.Spelling.{name_of}
 use Rattle.bridge_command.proofs.roster.Roster.name.Given as goal
 
 abbrev pub invariant-loop-i : goal.invariant-loop-i

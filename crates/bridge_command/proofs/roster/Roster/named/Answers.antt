@@ -1,7 +1,7 @@
 use Rattle.std.proofs.Common.{ap, sym, ◌∙◌}
 use Rattle.std.specs.Option.{option_map}
-use Rattle.br_model.specs.Roster.{port_named}
-use Rattle.br_model.specs.Operands.{found, port_name}
+use Rattle.br_model.specs.Text.Roster.{port_named}
+use Rattle.br_model.specs.Text.Operands.{found, port_name}
 use Rattle.br_model.specs.declared.scenario.LineWhy.TheVariants.{Port}
 use Rattle.bridge_command.proofs.Entries.{named}
 use Rattle.bridge_command.proofs.roster.Roster.named.Goals as goal

@@ -1,6 +1,6 @@
 use Rattle.std.proofs.Common.{ap, option_map, sym, ◌∙◌}
-use Rattle.br_model.specs.Learning.{Address}
-use Rattle.br_model.specs.Maps.{pair_cmp, get}
+use Rattle.br_model.specs.Control.Learning.{Address}
+use Rattle.br_model.specs.Data.Maps.{pair_cmp, get}
 use Rattle.fdb_core.specs.declared.entries.Entry.{Entry}
 use Rattle.fdb_core.proofs.Addresses.{get-told}
 use Rattle.bridge_core.specs.Entries.{Entries}

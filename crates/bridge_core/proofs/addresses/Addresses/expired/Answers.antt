@@ -1,5 +1,5 @@
 use Rattle.std.proofs.Common.{◌≡◌, List, IfOk, ap, subst, ◌∙◌}
-use Rattle.br_model.specs.Learning.{Address}
+use Rattle.br_model.specs.Control.Learning.{Address}
 use Rattle.bridge_core.specs.Entries.{Entries, old_keys}
 use Rattle.bridge_core.proofs.Moments.{old_as}
 use Rattle.bridge_core.proofs.addresses.Addresses.expired.Goals as goal

@@ -1,5 +1,5 @@
 use Rattle.std.proofs.Common.{◌≡◌, List, IfOk, ap, subst, ◌∙◌}
-use Rattle.br_model.specs.Learning.{Address}
+use Rattle.br_model.specs.Control.Learning.{Address}
 use Rattle.bridge_core.specs.Entries.{Entries, keys_at}
 use Rattle.bridge_core.proofs.Moments.{at_port}
 use Rattle.bridge_core.proofs.addresses.Addresses.of_port.Goals as goal

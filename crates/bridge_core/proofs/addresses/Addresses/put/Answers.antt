@@ -1,6 +1,6 @@
 use Rattle.std.proofs.Common.{IsTrue, ◌||◌, ap, is_some, length, nat_lt, refl, sym, subst, ◌∙◌}
-use Rattle.br_model.specs.Limits.{most_addresses}
-use Rattle.br_model.specs.Maps.{pair_cmp, get}
+use Rattle.br_model.specs.Table.Limits.{most_addresses}
+use Rattle.br_model.specs.Data.Maps.{pair_cmp, get}
 use Rattle.fdb_core.specs.Fdb.{Table}
 use Rattle.bridge_core.specs.Entries.{Entries}
 use Rattle.bridge_core.proofs.Moments.{ascending-put, from-put, room-absent}

@@ -1,7 +1,7 @@
 use Rattle.std.proofs.Common.{ap, min, option_map, ◌∙◌, refl}
 use Rattle.fdb_core.specs.Fdb.{Table, place}
-use Rattle.br_model.specs.Learning.{Address}
-use Rattle.br_model.specs.Maps.{pair_cmp, put}
+use Rattle.br_model.specs.Control.Learning.{Address}
+use Rattle.br_model.specs.Data.Maps.{pair_cmp, put}
 use Rattle.bridge_core.specs.Entries.{Entries}
 use Rattle.bridge_core.proofs.Moments.{ascending-put, from-put, place-stays}
 use Rattle.bridge_core.proofs.addresses.Addresses.renew.Goals as goal

@@ -1,6 +1,6 @@
 use Rattle.std.proofs.Common.{ap, not, ◌∙◌}
 use Rattle.std.specs.Ordering.{eq_by_cmp}
-use Rattle.br_model.specs.Maps.{pair_cmp}
+use Rattle.br_model.specs.Data.Maps.{pair_cmp}
 use Rattle.fdb_core.specs.Fdb.{Table}
 use Rattle.bridge_core.proofs.Moments.{from-filter, ascending-without}
 use Rattle.bridge_core.proofs.addresses.Addresses.take.Goals as goal

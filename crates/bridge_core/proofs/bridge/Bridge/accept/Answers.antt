@@ -5,8 +5,8 @@ use Rattle.bridge_core.specs.Plans.{prepared}
 use Rattle.bridge_core.proofs.Accepting.{quiet_reacts}
 use Rattle.bridge_core.proofs.bridge.Bridge.accept.Goals as goal
 
-pub returns-in-None-clause-reacts : goal.returns-in-None-clause-reacts
-returns-in-None-clause-reacts c =
+pub returns-in-None-clause-carries_out : goal.returns-in-None-clause-carries_out
+returns-in-None-clause-carries_out c =
     quiet_reacts c.args.self.now c.args.plan c.requires.sound _ _ _ c.make_changes.result c.in-None.is
     (subst (λ (l : List Change). Makes c.args.self.now c.make_changes.new.self (prepared c.args.self.now.control c.args.plan) l c.make_changes.result) c.deref.ensures.value c.make_changes.ensures)
     refl

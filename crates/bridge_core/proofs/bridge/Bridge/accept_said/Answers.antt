@@ -1,18 +1,15 @@
 use Rattle.std.proofs.Common.{◌≡◌, ◌<◌, ◌^◌, ℕ, true, List, [], ◌++◌, fold, length, refl, sym, ap, subst, ◌∙◌, arith, length-append}
 use Rattle.std.specs.declared.result.Result.TheVariants.{Ok}
-use Rattle.std.specs.List.{filter}
-use Rattle.std.proofs.lemmas.List.Elements.{filter-append}
-use Rattle.std.proofs.lemmas.List.Sums.{length-filter, count_by-le-length, fold-append}
+use Rattle.std.proofs.lemmas.List.Sums.{fold-append}
 use Rattle.br_model.specs.declared.change.Change.{Change}
-use Rattle.br_model.specs.Change.{deferred}
-use Rattle.br_model.specs.Control.{Control, keeps_up}
-use Rattle.br_model.specs.Course.{Course}
-use Rattle.br_model.specs.Ends.{Ends}
-use Rattle.br_model.specs.EndsTied.{IsTied}
-use Rattle.br_model.specs.Limits.{all_fit}
-use Rattle.br_model.specs.Snooping.{fastleave, said}
-use Rattle.br_model.specs.Table.{Table, table, start, apply}
-use Rattle.br_model.specs.Targets.{has_flag}
+use Rattle.br_model.specs.Control.Control.{Control, keeps_up}
+use Rattle.br_model.specs.Control.Course.{Course}
+use Rattle.br_model.specs.Control.Ends.{Ends}
+use Rattle.br_model.specs.Theorems.EndsTied.{IsTied}
+use Rattle.br_model.specs.Table.Limits.{all_fit}
+use Rattle.br_model.specs.Control.Snooping.{fastleave, said}
+use Rattle.br_model.specs.Table.Table.{Table, table, start, apply}
+use Rattle.br_model.specs.Forward.Targets.{has_flag}
 use Rattle.bridge_core.specs.Kept.{Controlled}
 use Rattle.bridge_core.specs.Plans.{prepared, renewed_at}
 use Rattle.bridge_core.specs.Standing.{clocked, course_of, table_of, control_of}
@@ -27,7 +24,7 @@ returns-then-not-branch c lines =
     let s = c.args.speaker.now in
     let view = c.self.view_is in
     let at = c.self.invariant.0 ∙ ap (λ (b : Controlled). table b.history) view in
-    let tied = subst (λ (t : Table). IsTied t old.control.ends) at (subst (λ (e : Ends). IsTied (table_of c.self.inside.state) e) (ap (λ (b : Controlled). b.control.ends) view) c.self.invariant.5) in
+    let tied = subst (λ (t : Table). IsTied t old.control.ends) at (subst (λ (e : Ends). IsTied (table_of c.self.inside.state) e) (ap (λ (b : Controlled). b.control.ends) view) c.self.invariant.4) in
     let h = hears old p s c.requires.addresses c.requires.clock c.requires.leaves tied in (
       refused old p c.requires.sound c.requires.untold (said s.port s.vid c.args.bytes.now c.args.message.now) (c.in_ok-has_room_for.ensures.no c.if-not-branch.true (learned old p) h (sym (c.len.ensures ∙ p.changes.ok.0))),
       refl,
@@ -67,72 +64,6 @@ hear-requires-clause-early c =
     in
     subst (λ (n : ℕ). n < 2 ^ 53) (c.requires.clock ∙ sym (ap (λ (k : Control). k.now) controls ∙ heard_now old p s c.requires.addresses c.requires.clock c.requires.leaves)) c.requires.sound.early
 
-pub overflow_cast-self : goal.overflow_cast-self
-overflow_cast-self c =
-    let old = c.args.self.now in
-    let p = c.args.plan in
-    let s = c.args.speaker.now in
-    let view = c.self.view_is in
-    let at = c.self.invariant.0 ∙ ap (λ (b : Controlled). table b.history) view in
-    let tied = subst (λ (t : Table). IsTied t old.control.ends) at (subst (λ (e : Ends). IsTied (table_of c.self.inside.state) e) (ap (λ (b : Controlled). b.control.ends) view) c.self.invariant.5) in
-    let h = hears old p s c.requires.addresses c.requires.clock c.requires.leaves tied in
-    let made = c.deref.ensures.value ∙ c.in_ok-reserve.ensures.items in
-    let tables : table_of c.follow.new.self ≡ fold apply (table old.history) p.changes.items = c.follow.ensures.table ∙ (λ i. fold apply ((c.prepare.ensures.table ∙ at) i) (made i)) in
-    let controls : control_of c.follow.new.self ≡ fold keeps_up (prepared old.control p) p.changes.items =
-    c.follow.ensures.control
-    ∙ (λ i. fold keeps_up ((c.prepare.ensures.control ∙ ap (λ (b : Controlled). renewed_at (clocked p.clock b.control) p.renewed) view) i) (made i))
-    in
-    let says : Course → Course = said s.port s.vid c.args.bytes.now c.args.message.now in
-    let is : says (learned old p) ≡ course_of c.hear.new.self c.hear.new.changes.items [] =
-    sym (λ i. says (record { table = tables i; control = controls i; changes = c.in_ok-reserve.ensures.items i; messages = [] })) ∙ c.hear.ensures.course []
-    in
-    let long = ap (λ (r : Course). length r.changes) is in
-    let few = c.in_ok-has_room_for.ensures.yes c.if-not-branch.false (learned old p) h (sym (c.len.ensures ∙ p.changes.ok.0)) (omega (arith, long, c.hear.ensures.count, c.in_ok-reserve.ensures.items, ap (λ (l : List Change). length l) c.in_ok-reserve.ensures.items, c.len.ensures, p.changes.ok.0)) in
-    omega (
-      arith,
-      few,
-      long,
-      c.count_deferred.ensures,
-      ap (λ (l : List Change). length (filter deferred l)) c.deref-3.ensures.value,
-      length-filter deferred c.hear.new.changes.items,
-      count_by-le-length deferred c.hear.new.changes.items,
-    )
-
-pub overflow_add-self : goal.overflow_add-self
-overflow_add-self c =
-    let old = c.args.self.now in
-    let p = c.args.plan in
-    let s = c.args.speaker.now in
-    let view = c.self.view_is in
-    let at = c.self.invariant.0 ∙ ap (λ (b : Controlled). table b.history) view in
-    let tied = subst (λ (t : Table). IsTied t old.control.ends) at (subst (λ (e : Ends). IsTied (table_of c.self.inside.state) e) (ap (λ (b : Controlled). b.control.ends) view) c.self.invariant.5) in
-    let h = hears old p s c.requires.addresses c.requires.clock c.requires.leaves tied in
-    let made = c.deref.ensures.value ∙ c.in_ok-reserve.ensures.items in
-    let tables : table_of c.follow.new.self ≡ fold apply (table old.history) p.changes.items = c.follow.ensures.table ∙ (λ i. fold apply ((c.prepare.ensures.table ∙ at) i) (made i)) in
-    let controls : control_of c.follow.new.self ≡ fold keeps_up (prepared old.control p) p.changes.items =
-    c.follow.ensures.control
-    ∙ (λ i. fold keeps_up ((c.prepare.ensures.control ∙ ap (λ (b : Controlled). renewed_at (clocked p.clock b.control) p.renewed) view) i) (made i))
-    in
-    let says : Course → Course = said s.port s.vid c.args.bytes.now c.args.message.now in
-    let is : says (learned old p) ≡ course_of c.hear.new.self c.hear.new.changes.items [] =
-    sym (λ i. says (record { table = tables i; control = controls i; changes = c.in_ok-reserve.ensures.items i; messages = [] })) ∙ c.hear.ensures.course []
-    in
-    let long = ap (λ (r : Course). length r.changes) is in
-    let few = c.in_ok-has_room_for.ensures.yes c.if-not-branch.false (learned old p) h (sym (c.len.ensures ∙ p.changes.ok.0)) (omega (arith, long, c.hear.ensures.count, c.in_ok-reserve.ensures.items, ap (λ (l : List Change). length l) c.in_ok-reserve.ensures.items, c.len.ensures, p.changes.ok.0)) in
-    omega (
-      arith,
-      few,
-      long,
-      c.count_deferred.ensures,
-      ap (λ (l : List Change). length (filter deferred l)) c.deref-3.ensures.value,
-      length-filter deferred c.hear.new.changes.items,
-      count_by-le-length deferred c.hear.new.changes.items,
-      c.self.invariant.1,
-      ap (λ (b : Controlled). length b.history) view,
-      length-filter deferred c.self.inside.history.items,
-      count_by-le-length deferred c.self.inside.history.items,
-    )
-
 pub invariant_of-self-2 : goal.invariant_of-self-2
 invariant_of-self-2 c =
     let old = c.args.self.now in
@@ -140,7 +71,7 @@ invariant_of-self-2 c =
     let s = c.args.speaker.now in
     let view = c.self.view_is in
     let at = c.self.invariant.0 ∙ ap (λ (b : Controlled). table b.history) view in
-    let tied = subst (λ (t : Table). IsTied t old.control.ends) at (subst (λ (e : Ends). IsTied (table_of c.self.inside.state) e) (ap (λ (b : Controlled). b.control.ends) view) c.self.invariant.5) in
+    let tied = subst (λ (t : Table). IsTied t old.control.ends) at (subst (λ (e : Ends). IsTied (table_of c.self.inside.state) e) (ap (λ (b : Controlled). b.control.ends) view) c.self.invariant.4) in
     let h = hears old p s c.requires.addresses c.requires.clock c.requires.leaves tied in
     let made = c.deref.ensures.value ∙ c.in_ok-reserve.ensures.items in
     let tables : table_of c.follow.new.self ≡ fold apply (table old.history) p.changes.items = c.follow.ensures.table ∙ (λ i. fold apply ((c.prepare.ensures.table ∙ at) i) (made i)) in
@@ -163,17 +94,8 @@ invariant_of-self-2 c =
     in
     let fit : all_fit (table before) c.reserve.new.self.items ≡ true = (λ i. all_fit (ap (λ (b : Controlled). table b.history) view i) (c.in_ok-reserve.ensures.items i)) ∙ c.requires.sound.fits in (
       sym (ap table grows ∙ fold-append apply start before new ∙ c.hear.ensures.table (table before) start_at),
-      omega (
-        arith,
-        c.count_deferred.ensures,
-        ap (λ (l : List Change). length (filter deferred l)) c.deref-3.ensures.value,
-        kept.1,
-        ap (λ (l : List Change). length (filter deferred l)) grows,
-        ap length (filter-append deferred before new),
-        length-append (filter deferred before) (filter deferred new),
-      ),
       omega (arith, few, long, ap (λ (b : Controlled). length b.history) view, ap (λ (l : List Change). length l) grows, length-append before new),
-      ap (all_fit start) grows ∙ fit_behind start before new kept.3 (c.hear.ensures.fits (table before) start_at fit),
+      ap (all_fit start) grows ∙ fit_behind start before new kept.2 (c.hear.ensures.fits (table before) start_at fit),
       subst (λ (n : ℕ). n < 2 ^ 53) (c.requires.clock ∙ sym (c.hear.ensures.now ∙ ap (λ (k : Control). k.now) controls ∙ heard_now old p s c.requires.addresses c.requires.clock c.requires.leaves)) c.requires.sound.early,
       c.hear.ensures.tied,
     )
@@ -185,7 +107,7 @@ returns c lines =
     let s = c.args.speaker.now in
     let view = c.self.view_is in
     let at = c.self.invariant.0 ∙ ap (λ (b : Controlled). table b.history) view in
-    let tied = subst (λ (t : Table). IsTied t old.control.ends) at (subst (λ (e : Ends). IsTied (table_of c.self.inside.state) e) (ap (λ (b : Controlled). b.control.ends) view) c.self.invariant.5) in
+    let tied = subst (λ (t : Table). IsTied t old.control.ends) at (subst (λ (e : Ends). IsTied (table_of c.self.inside.state) e) (ap (λ (b : Controlled). b.control.ends) view) c.self.invariant.4) in
     let h = hears old p s c.requires.addresses c.requires.clock c.requires.leaves tied in
     let made = c.deref.ensures.value ∙ c.in_ok-reserve.ensures.items in
     let tables : table_of c.follow.new.self ≡ fold apply (table old.history) p.changes.items = c.follow.ensures.table ∙ (λ i. fold apply ((c.prepare.ensures.table ∙ at) i) (made i)) in

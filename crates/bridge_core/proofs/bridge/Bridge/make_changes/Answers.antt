@@ -1,42 +1,21 @@
 use Rattle.std.proofs.Common.{◌≡◌, ◌<◌, ◌^◌, ℕ, true, subst, List, ◌++◌, length, sym, ap, ◌∙◌, arith, length-append}
 use Rattle.std.specs.Prelude.{IfSome, IsSome}
-use Rattle.std.specs.List.{fold, filter}
+use Rattle.std.specs.List.{fold}
 use Rattle.std.proofs.lemmas.Bool.{le-leb}
-use Rattle.std.proofs.lemmas.List.Elements.{filter-append}
-use Rattle.std.proofs.lemmas.List.Sums.{length-filter, count_by-le-length, fold-append}
+use Rattle.std.proofs.lemmas.List.Sums.{fold-append}
 use Rattle.br_model.specs.declared.change.Change.{Change}
-use Rattle.br_model.specs.Change.{deferred}
-use Rattle.br_model.specs.Control.{Control, keeps_up}
-use Rattle.br_model.specs.Limits.{all_fit}
-use Rattle.br_model.specs.Table.{Table, table, start, apply}
+use Rattle.br_model.specs.Control.Control.{Control, keeps_up}
+use Rattle.br_model.specs.Table.Limits.{all_fit}
+use Rattle.br_model.specs.Table.Table.{Table, table, start, apply}
 use Rattle.bridge_core.specs.Kept.{Controlled}
-use Rattle.br_model.specs.Maps.{pair_cmp, get}
+use Rattle.br_model.specs.Data.Maps.{pair_cmp, get}
 use Rattle.bridge_core.specs.Plans.{renewed_at}
-use Rattle.br_model.specs.Ends.{Ends}
-use Rattle.br_model.specs.EndsTied.{IsTied}
+use Rattle.br_model.specs.Control.Ends.{Ends}
+use Rattle.br_model.specs.Theorems.EndsTied.{IsTied}
 use Rattle.bridge_core.specs.Standing.{clocked, table_of}
 use Rattle.bridge_core.proofs.Fitting.{fit_behind}
 use Rattle.bridge_core.proofs.Reactions.{same_clock, renewed_clock, renewed_ends}
 use Rattle.bridge_core.proofs.bridge.Bridge.make_changes.Goals as goal
-
-pub overflow_cast-self : goal.overflow_cast-self
-overflow_cast-self c =
-    omega (arith, c.count_deferred.ensures, c.if-changes-len.false, c.self.invariant.2, c.len.ensures, length-filter deferred c.args.changes.now, count_by-le-length deferred c.args.changes.now)
-
-pub overflow_add-self : goal.overflow_add-self
-overflow_add-self c =
-    omega (
-      arith,
-      c.count_deferred.ensures,
-      c.if-changes-len.false,
-      c.self.invariant.1,
-      c.self.invariant.2,
-      c.len.ensures,
-      length-filter deferred c.args.changes.now,
-      count_by-le-length deferred c.args.changes.now,
-      length-filter deferred c.self.inside.history.items,
-      count_by-le-length deferred c.self.inside.history.items,
-    )
 
 pub prepare-requires : goal.prepare-requires
 prepare-requires c =
@@ -52,7 +31,7 @@ follow-requires-clause-fits c =
 pub follow-requires-clause-tied : goal.follow-requires-clause-tied
 follow-requires-clause-tied c =
     subst (λ (t : Table). IsTied t c.prepare.new.self.groups) (sym c.prepare.ensures.table)
-    (subst (λ (e : Ends). IsTied (table_of c.self.inside.state) e) (sym (ap (λ (k : Control). k.ends) c.prepare.ensures.control ∙ renewed_ends _ c.args.renewed)) c.self.invariant.5)
+    (subst (λ (e : Ends). IsTied (table_of c.self.inside.state) e) (sym (ap (λ (k : Control). k.ends) c.prepare.ensures.control ∙ renewed_ends _ c.args.renewed)) c.self.invariant.4)
 
 pub follow-requires-clause-early : goal.follow-requires-clause-early
 follow-requires-clause-early c =
@@ -61,7 +40,7 @@ follow-requires-clause-early c =
 pub returns : goal.returns
 returns c =
     let h = ap (λ (b : Controlled). b.history) c.self.view_is in (
-      le-leb _ _ (let long = ap (λ (l : List Change). length l) h in omega (arith, c.if-changes-len.false, c.self.invariant.2, c.len.ensures)),
+      le-leb _ _ (let long = ap (λ (l : List Change). length l) h in omega (arith, c.if-changes-len.false, c.self.invariant.1, c.len.ensures)),
       λ i. record {
         setup = ap (λ (b : Controlled). b.setup) c.self.view_is i;
         history = (c.in_ok-extend_from_slice.ensures.items ∙ ap (λ (l : List Change). l ++ c.args.changes.now) h) i;
@@ -81,9 +60,8 @@ invariant_of-self-2 c =
     let h = ap (λ (b : Controlled). b.history) c.self.view_is in
     let fit : all_fit (table old) new ≡ true = ap (λ (l : List Change). all_fit (table l) new) h ∙ c.requires.fits in (
       c.follow.ensures.table ∙ ap (λ (t : Table). fold apply t new) (c.prepare.ensures.table ∙ kept.0) ∙ sym (ap table grows ∙ fold-append apply start old new),
-      omega (arith, c.count_deferred.ensures, kept.1, ap (λ (l : List Change). length (filter deferred l)) grows, ap length (filter-append deferred old new), length-append (filter deferred old) (filter deferred new)),
-      omega (arith, c.if-changes-len.false, kept.2, c.len.ensures, ap length grows, length-append old new),
-      ap (all_fit start) grows ∙ fit_behind start old new kept.3 fit,
+      omega (arith, c.if-changes-len.false, kept.1, c.len.ensures, ap length grows, length-append old new),
+      ap (all_fit start) grows ∙ fit_behind start old new kept.2 fit,
       subst (λ (n : ℕ). n < 2 ^ 53) (sym (ap (λ (x : Control). x.now) c.follow.ensures.control ∙ same_clock _ new ∙ ap (λ (x : Control). x.now) c.prepare.ensures.control ∙ renewed_clock _ c.args.renewed)) c.requires.early,
       c.follow.ensures.tied,
     )

@@ -1,7 +1,7 @@
 use Rattle.std.proofs.Common.{List, ◌++◌, ap, ◌∙◌}
 use Rattle.std.proofs.lemmas.List.{take_all}
 use Rattle.br_model.specs.declared.change.Change.{Change}
-use Rattle.br_model.specs.Learning.{Address}
+use Rattle.br_model.specs.Control.Learning.{Address}
 use Rattle.bridge_core.specs.Dropping.{is_meant}
 use Rattle.bridge_core.proofs.Drops.{deletions, deletions-at}
 use Rattle.bridge_core.proofs.commands.drops.drop_addresses.Goals as goal

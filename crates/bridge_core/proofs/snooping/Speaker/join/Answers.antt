@@ -1,7 +1,7 @@
 use Rattle.std.proofs.Common.{[], ◌∷◌, sym, subst, ◌∙◌}
 use Rattle.br_model.specs.declared.change.Change.TheVariants.{GroupJoin}
-use Rattle.br_model.specs.Ends.{Ends}
-use Rattle.br_model.specs.Snooping.{joins}
+use Rattle.br_model.specs.Control.Ends.{Ends}
+use Rattle.br_model.specs.Control.Snooping.{joins}
 use Rattle.bridge_core.specs.Hearing.{Leads}
 use Rattle.bridge_core.proofs.Hearing.{joins-new, joins-renewed}
 use Rattle.bridge_core.proofs.snooping.Speaker.join.Goals as goal

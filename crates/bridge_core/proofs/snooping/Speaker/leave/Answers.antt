@@ -1,7 +1,7 @@
 use Rattle.std.proofs.Common.{[], ◌∷◌, sym, subst, ◌∙◌}
 use Rattle.br_model.specs.declared.change.Change.TheVariants.{GroupPart}
-use Rattle.br_model.specs.Ends.{Ends}
-use Rattle.br_model.specs.Snooping.{leaves}
+use Rattle.br_model.specs.Control.Ends.{Ends}
+use Rattle.br_model.specs.Control.Snooping.{leaves}
 use Rattle.bridge_core.specs.Hearing.{Leads}
 use Rattle.bridge_core.proofs.Hearing.{leaves-fast, leaves-soon}
 use Rattle.bridge_core.proofs.snooping.Speaker.leave.Goals as goal

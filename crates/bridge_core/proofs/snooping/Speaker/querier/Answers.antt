@@ -1,7 +1,7 @@
 use Rattle.std.proofs.Common.{true, false, [], ◌∷◌, refl, sym, subst, ◌∙◌}
 use Rattle.br_model.specs.declared.change.Change.TheVariants.{Querier}
-use Rattle.br_model.specs.Ends.{Ends}
-use Rattle.br_model.specs.Snooping.{querier_heard}
+use Rattle.br_model.specs.Control.Ends.{Ends}
+use Rattle.br_model.specs.Control.Snooping.{querier_heard}
 use Rattle.bridge_core.specs.Hearing.{Leads}
 use Rattle.bridge_core.proofs.Hearing.{querier-known, querier-new, turned}
 use Rattle.bridge_core.proofs.snooping.Speaker.querier.Goals as goal

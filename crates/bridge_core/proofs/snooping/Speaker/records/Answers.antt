@@ -3,7 +3,7 @@ use Rattle.std.proofs.lemmas.List.{append-nil}
 use Rattle.std.proofs.lemmas.List.Sums.{fold_push}
 use Rattle.br_model.specs.declared.frame.Act.{Act}
 use Rattle.br_model.specs.declared.change.Change.{Change}
-use Rattle.br_model.specs.Snooping.{acted}
+use Rattle.br_model.specs.Control.Snooping.{acted}
 use Rattle.bridge_core.specs.Hearing.{Adds, list_of}
 use Rattle.bridge_core.proofs.Hearing.{after, like, stays, at_most_one}
 use Rattle.bridge_core.proofs.snooping.Speaker.records.Goals as goal

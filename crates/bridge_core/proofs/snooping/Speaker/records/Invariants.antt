@@ -1,6 +1,6 @@
 use Rattle.std.proofs.Common.{◌≡◌, ◌≤◌, ◌+◌, ◌++◌, fold, length}
 use Rattle.std.specs.Prelude.{vec_capacity}
-use Rattle.br_model.specs.Snooping.{acted}
+use Rattle.br_model.specs.Control.Snooping.{acted}
 use Rattle.bridge_core.specs.Hearing.{Adds}
 use Rattle.bridge_core.proofs.snooping.Speaker.records.Given as goal
 

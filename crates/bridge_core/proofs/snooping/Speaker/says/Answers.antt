@@ -1,7 +1,7 @@
 use Rattle.std.proofs.Common.{[], sym, ap, ◌∙◌, arith, length}
 use Rattle.std.proofs.lemmas.List.{append-nil}
 use Rattle.br_model.specs.declared.frame.McastMsg.{McastMsg}
-use Rattle.br_model.specs.Snooping.{queried, said}
+use Rattle.br_model.specs.Control.Snooping.{queried, said}
 use Rattle.bridge_core.specs.Hearing.{most}
 use Rattle.bridge_core.proofs.Hearing.{acts-length, like, stays}
 use Rattle.bridge_core.proofs.snooping.Speaker.says.Goals as goal

@@ -1,8 +1,8 @@
 use Rattle.std.proofs.Common.{sym, ap, subst}
-use Rattle.br_model.specs.Control.{Control}
-use Rattle.br_model.specs.Ends.{Ends}
-use Rattle.br_model.specs.EndsTied.{IsTied}
-use Rattle.br_model.specs.Table.{Table, apply}
+use Rattle.br_model.specs.Control.Control.{Control}
+use Rattle.br_model.specs.Control.Ends.{Ends}
+use Rattle.br_model.specs.Theorems.EndsTied.{IsTied}
+use Rattle.br_model.specs.Table.Table.{Table, apply}
 use Rattle.br_model.proofs.EndsTied.{tied-apply}
 use Rattle.bridge_core.specs.Standing.{table_of, control_of}
 use Rattle.bridge_core.proofs.state.State.apply.Goals as goal

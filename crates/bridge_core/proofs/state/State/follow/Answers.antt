@@ -1,7 +1,7 @@
 use Rattle.std.proofs.Common.{take, fold, ap, ◌∙◌}
 use Rattle.br_model.specs.declared.change.Change.{Change}
-use Rattle.br_model.specs.Limits.{fits}
-use Rattle.br_model.specs.Table.{Table, apply}
+use Rattle.br_model.specs.Table.Limits.{fits}
+use Rattle.br_model.specs.Table.Table.{Table, apply}
 use Rattle.bridge_core.specs.Standing.{table_of}
 use Rattle.br_model.proofs.Within.{fits_at}
 use Rattle.bridge_core.proofs.state.State.follow.Goals as goal

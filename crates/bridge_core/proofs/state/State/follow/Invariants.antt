@@ -1,8 +1,8 @@
 use Rattle.std.proofs.Common.{◌≡◌, take}
 use Rattle.std.specs.List.{fold}
-use Rattle.br_model.specs.Control.{keeps_up}
-use Rattle.br_model.specs.EndsTied.{IsTied}
-use Rattle.br_model.specs.Table.{apply}
+use Rattle.br_model.specs.Control.Control.{keeps_up}
+use Rattle.br_model.specs.Theorems.EndsTied.{IsTied}
+use Rattle.br_model.specs.Table.Table.{apply}
 use Rattle.bridge_core.specs.Standing.{table_of, control_of}
 use Rattle.bridge_core.proofs.state.State.follow.Given as goal
 

@@ -1,10 +1,10 @@
 use Rattle.std.proofs.Common.{List, [], fold, length, refl, sym, ap, subst, ◌∙◌}
 use Rattle.br_model.specs.declared.change.Change.{Change}
-use Rattle.br_model.specs.Control.{Control, ends_with}
-use Rattle.br_model.specs.Ends.{Ends}
-use Rattle.br_model.specs.EndsTied.{IsTied}
-use Rattle.br_model.specs.Limits.{all_fit}
-use Rattle.br_model.specs.Table.{Table, apply}
+use Rattle.br_model.specs.Control.Control.{Control, ends_with}
+use Rattle.br_model.specs.Control.Ends.{Ends}
+use Rattle.br_model.specs.Theorems.EndsTied.{IsTied}
+use Rattle.br_model.specs.Table.Limits.{all_fit}
+use Rattle.br_model.specs.Table.Table.{Table, apply}
 use Rattle.bridge_core.specs.Hearing.{Hears}
 use Rattle.bridge_core.specs.Standing.{table_of, control_of, course_of, places}
 use Rattle.bridge_core.proofs.Fitting.{fit_behind}

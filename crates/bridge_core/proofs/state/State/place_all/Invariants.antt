@@ -1,6 +1,6 @@
 use Rattle.std.proofs.Common.{◌≡◌, take}
 use Rattle.std.specs.List.{fold}
-use Rattle.br_model.specs.Table.{apply}
+use Rattle.br_model.specs.Table.Table.{apply}
 use Rattle.bridge_core.specs.Standing.{table_of, control_of, places}
 use Rattle.bridge_core.proofs.state.State.place_all.Given as goal
 

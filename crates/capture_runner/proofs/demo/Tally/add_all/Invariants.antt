@@ -1,6 +1,7 @@
 use Rattle.std.proofs.Common.{take}
+use Rattle.transcript_lines.specs.Rows.{expand}
 use Rattle.capture_runner.specs.Counting.{Adds}
 use Rattle.capture_runner.proofs.demo.Tally.add_all.Given as goal
 
-abbrev pub invariant-loop-line : goal.invariant-loop-line
-invariant-loop-line l = Adds l.fn.self (take l.line-index l.lines) l.self
+abbrev pub invariant-loop-row : goal.invariant-loop-row
+invariant-loop-row l = Adds l.fn.self (expand l.arena (take l.row-index l.rows)) l.self

@@ -1,5 +1,5 @@
 use Rattle.std.proofs.Common.{Ok, ap, sym, ◌∙◌}
-use Rattle.br_model.specs.Scenario.{declared}
+use Rattle.br_model.specs.Text.Scenario.{declared}
 use Rattle.capture_runner.proofs.Following.{gives_item, calm, section_next, stepped}
 use Rattle.capture_runner.proofs.session.Session.take.Goals as goal
 

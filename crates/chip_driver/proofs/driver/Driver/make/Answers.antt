@@ -1,38 +1,36 @@
 use Rattle.std.proofs.Common.{◌≡◌, List, ℕ, [], replicate, rules, ap, subst, ◌∙◌}
-use Rattle.br_model.specs.DomainPorts.{IsWordOf}
-use Rattle.br_model.specs.Domains.{chip}
-use Rattle.br_model.specs.Groups.{Membership}
-use Rattle.br_model.specs.Ends.{no_ends}
-use Rattle.mdb_snoop.specs.Database.{memberships}
+use Rattle.br_model.specs.Table.DomainPorts.{IsWordOf}
+use Rattle.br_model.specs.Table.Domains.{chip, port_places}
+use Rattle.br_model.specs.Table.Groups.{Membership}
 use Rattle.chip_tables.specs.Writing.{IsBlank}
 use Rattle.chip_driver.specs.declared.shadow.Shadow.{Shadow}
+use Rattle.chip_driver.specs.Joined.{block_count}
 use Rattle.chip_driver.specs.Making.{MarksOwn}
 use Rattle.chip_driver.proofs.Starting.{settled_start, drives_start, follow_made, host_off}
 use Rattle.chip_driver.proofs.driver.Driver.make.Goals as goal
 
-pub write_member-requires-clause-settled : goal.write_member-requires-clause-settled
-write_member-requires-clause-settled c =
+pub write_member-requires : goal.write_member-requires
+write_member-requires c =
     let blank : IsBlank c.in_ok-tables.tables = search rules in
-    let joined : ◌≡◌ {A = List (List ℕ)} c.in_ok-joined.joined (replicate 4096 []) = search rules in
+    let joined : ◌≡◌ {A = List (List ℕ)} c.in_ok-joined.joined (replicate block_count []) = search rules in
     let own : c.start-shadow.result.own ≡ c.from_word.result = ap (λ (s : Shadow). s.own) c.start-shadow.ensures in
     let word : IsWordOf c.args.d.now chip c.ports_of.result = subst (λ n. IsWordOf c.args.d.now n c.ports_of.result) c.requires c.ports_of.ensures in
-    settled_start c.from_word.result _ _ c.in_ok-tables.tables _ _ _ blank
-    (subst (λ o. MarksOwn o 64 c.in_ok-tables.tables c.mark_own.new.tables) own c.mark_own.ensures) c.switch_traps.ensures c.set_control.ensures.rest
-    c.start-shadow.ensures joined (host_off c.args.d.now c.ports_of.result c.from_word.result c.from_word.ensures word c.host_is_elsewhere.ensures)
-
-pub write_member-requires-clause-follow : goal.write_member-requires-clause-follow
-write_member-requires-clause-follow c =
-    let blank : IsBlank c.in_ok-tables.tables = search rules in
-    let groups : ◌≡◌ {A = List Membership} (memberships c.in_ok-groups.groups) [] = ap memberships (let e : c.in_ok-groups.groups ≡ no_ends = search rules in e) in
-    follow_made c.start-shadow.result c.start-shadow.result.own (memberships c.in_ok-groups.groups) c.in_ok-tables.tables _ _ _ blank c.mark_own.ensures c.switch_traps.ensures c.set_control.ensures.rest groups
+    let groups : ◌≡◌ {A = List Membership} c.in_ok-groups.groups [] = search rules in
+    record {
+      settled = settled_start c.from_word.result _ _ c.in_ok-tables.tables _ _ _ blank
+          (subst (λ o. MarksOwn o port_places c.in_ok-tables.tables c.mark_own.new.tables) own c.mark_own.ensures) c.switch_traps.ensures c.set_control.ensures.rest
+          c.start-shadow.ensures joined (host_off c.args.d.now c.ports_of.result c.from_word.result c.from_word.ensures word c.host_is_elsewhere.ensures);
+      follow = follow_made c.start-shadow.result c.start-shadow.result.own c.in_ok-groups.groups c.in_ok-tables.tables _ _ _ blank c.mark_own.ensures c.switch_traps.ensures c.set_control.ensures.rest groups;
+    }
 
 pub returns : goal.returns
 returns c =
     let blank : IsBlank c.in_ok-tables.tables = search rules in
     let own : c.start-shadow.result.own ≡ c.from_word.result = ap (λ (s : Shadow). s.own) c.start-shadow.ensures in
     let word : IsWordOf c.args.d.now chip c.ports_of.result = subst (λ n. IsWordOf c.args.d.now n c.ports_of.result) c.requires c.ports_of.ensures in
-    let groups : ◌≡◌ {A = List Membership} (memberships c.in_ok-groups.groups) [] = ap memberships (let e : c.in_ok-groups.groups ≡ no_ends = search rules in e) in
-    drives_start c.args.d.now c.ports_of.result c.from_word.result _ _ (memberships c.in_ok-groups.groups) c.in_ok-tables.tables _ _ _ _ blank
-    (subst (λ o. MarksOwn o 64 c.in_ok-tables.tables c.mark_own.new.tables) own c.mark_own.ensures) c.switch_traps.ensures c.set_control.ensures.rest
-    (c.set_control.ensures.row ∙ c.first_control.ensures) c.from_word.ensures word (ap (λ (s : Shadow). s.routers) c.start-shadow.ensures)
-    c.write_member.ensures.settled c.write_member.ensures.row c.write_member.ensures.rest groups c.write_member.ensures.follow
+    let groups : ◌≡◌ {A = List Membership} c.in_ok-groups.groups [] = search rules in
+    let kept = c.write_member.new.self in
+    drives_start c.args.d.now c.ports_of.result c.from_word.result kept.shadow kept.joined kept.groups c.in_ok-tables.tables _ _ _ kept.tables blank
+    (subst (λ o. MarksOwn o port_places c.in_ok-tables.tables c.mark_own.new.tables) own c.mark_own.ensures) c.switch_traps.ensures c.set_control.ensures.rest
+    (c.set_control.ensures.row ∙ c.first_control.ensures) c.from_word.ensures word (ap (λ (s : Shadow). s.routers) (c.write_member.ensures.shadow ∙ c.start-shadow.ensures))
+    c.write_member.ensures.kept.settled c.write_member.ensures.row c.write_member.ensures.rest (c.write_member.ensures.members ∙ groups) c.write_member.ensures.kept.follow

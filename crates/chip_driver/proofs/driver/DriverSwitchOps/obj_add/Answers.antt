@@ -1,5 +1,5 @@
 use Rattle.std.proofs.Common.{sym, subst}
-use Rattle.br_model.specs.Table.{apply}
+use Rattle.br_model.specs.Table.Table.{apply}
 use Rattle.switchdev_notify.specs.Notices.{change_added}
 use Rattle.chip_driver.specs.Drives.{Drives}
 use Rattle.chip_driver.proofs.driver.DriverSwitchOps.obj_add.Goals as goal

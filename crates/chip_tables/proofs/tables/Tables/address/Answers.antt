@@ -1,7 +1,7 @@
 use Rattle.std.proofs.Common.{ap, sym, ◌∙◌}
 use Rattle.std.specs.Ordering.{nat_cmp}
 use Rattle.std.specs.FinMap.Entries as entries
-use Rattle.br_model.specs.Maps.{pair_cmp, get}
+use Rattle.br_model.specs.Data.Maps.{pair_cmp, get}
 use Rattle.open_addressing.specs.Pairs.{Pair, packed}
 use Rattle.open_addressing.proofs.Pairs.{get-by_pair}
 use Rattle.chip_tables.specs.Rows.{Rows}

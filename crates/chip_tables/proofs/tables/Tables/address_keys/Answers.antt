@@ -1,6 +1,6 @@
 use Rattle.std.proofs.Common.{ℕ, List, Option, map, ap, sym, subst, ◌∙◌}
 use Rattle.std.specs.List.Sorted.{IsStrictlySortedBy}
-use Rattle.br_model.specs.Maps.{pair_cmp}
+use Rattle.br_model.specs.Data.Maps.{pair_cmp}
 use Rattle.open_addressing.specs.Finite.{entries_of}
 use Rattle.open_addressing.specs.Lookups.{IsApart}
 use Rattle.open_addressing.specs.Zipped.{key_of}

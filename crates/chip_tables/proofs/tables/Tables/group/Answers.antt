@@ -1,8 +1,8 @@
 use Rattle.std.proofs.Common.{ap, sym, ◌∙◌}
 use Rattle.std.specs.Ordering.{nat_cmp}
 use Rattle.std.specs.FinMap.Entries as entries
-use Rattle.br_model.specs.Maps.{get}
-use Rattle.br_model.specs.GroupPairs.{GroupPair, group_pair_cmp}
+use Rattle.br_model.specs.Data.Maps.{get}
+use Rattle.br_model.specs.Table.GroupPairs.{GroupPair, group_pair_cmp}
 use Rattle.chip_tables.specs.GroupCells.{number_of, pair_from}
 use Rattle.chip_tables.specs.Rows.{Rows}
 use Rattle.chip_tables.proofs.Renamed.{get-renamed}

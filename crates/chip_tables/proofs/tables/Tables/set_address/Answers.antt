@@ -1,12 +1,14 @@
 use Rattle.std.proofs.Common.{◌≡◌, ◌≤◌, Option, None, length, ap, sym, subst, ◌∙◌, not, arith}
+use Rattle.std.specs.Prelude.{IfSome}
 use Rattle.std.specs.Ordering.{nat_cmp, eq_by_cmp}
 use Rattle.std.specs.FinMap.Entries as entries
-use Rattle.br_model.specs.Maps.{pair_cmp, put, without}
+use Rattle.br_model.specs.Data.Maps.{pair_cmp, put, without}
+use Rattle.br_model.specs.Table.Limits.{most_addresses}
 use Rattle.open_addressing.specs.Finite.{Table}
 use Rattle.open_addressing.specs.Pairs.{Pair, packed, by_pair}
 use Rattle.open_addressing.proofs.Pairs.{put-by_pair, without-by_pair, length-by_pair}
 use Rattle.chip_tables.specs.declared.rows.AddressRow.{AddressRow}
-use Rattle.chip_tables.specs.Rows.{Rows, set_at, max_addresses}
+use Rattle.chip_tables.specs.Rows.{Rows, set_at}
 use Rattle.chip_tables.proofs.Placed.{length-new}
 use Rattle.chip_tables.proofs.tables.Tables.set_address.Goals as goal
 
@@ -15,7 +17,7 @@ insert-requires-clause-room c none =
     let k : Pair = (c.args.v, c.args.m) in
     let es = c.self.inside.addresses.entries in
     let absent : entries.find nat_cmp (packed k) es ≡ None = ap (λ (q : Pair). entries.find nat_cmp (packed q) es) (sym c.key.ensures.value) ∙ none in
-    let given : length (put pair_cmp c.args.self.now.addresses k c.in-Some.row) ≤ max_addresses = subst (λ (r : Option AddressRow). length (set_at pair_cmp c.args.self.now.addresses k r) ≤ max_addresses) c.in-Some.is c.requires in
+    let given : length (put pair_cmp c.args.self.now.addresses k c.in-Some.row) ≤ most_addresses = subst (λ (r : Option AddressRow). IfSome r (λ row. length (put pair_cmp c.args.self.now.addresses k row) ≤ most_addresses)) c.in-Some.is c.requires in
     let same : length (put pair_cmp c.args.self.now.addresses k c.in-Some.row) ≡ length (entries.put nat_cmp (packed k) c.in-Some.row es) =
     ap (λ (t : Rows). length (put pair_cmp t.addresses k c.in-Some.row)) (sym c.self.view_is) ∙ ap length (put-by_pair k c.key.ensures.below c.in-Some.row es) ∙ length-by_pair (entries.put nat_cmp (packed k) c.in-Some.row es) in
     let more = length-new (packed k) c.in-Some.row es absent in

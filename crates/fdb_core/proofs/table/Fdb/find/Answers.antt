@@ -1,7 +1,7 @@
 use Rattle.std.proofs.Common.{option_map, ap, sym, ◌∙◌}
 use Rattle.std.specs.Ordering.{nat_cmp}
 use Rattle.std.specs.FinMap.Entries as entries
-use Rattle.br_model.specs.Maps.{pair_cmp, get}
+use Rattle.br_model.specs.Data.Maps.{pair_cmp, get}
 use Rattle.fdb_core.specs.Fdb.{Table, place}
 use Rattle.open_addressing.proofs.Pairs.{get-by_pair}
 use Rattle.fdb_core.proofs.Addresses.{get-told}

@@ -1,8 +1,8 @@
 use Rattle.std.proofs.Common.{◌≡◌, ◌<◌, length, None, ap, ◌∙◌, sym, arith}
 use Rattle.std.specs.Ordering.{nat_cmp}
 use Rattle.std.proofs.lemmas.List.{get_or_default}
-use Rattle.br_model.specs.Domains.{entries_from}
-use Rattle.br_model.specs.Maps.{get}
+use Rattle.br_model.specs.Table.Domains.{entries_from}
+use Rattle.br_model.specs.Data.Maps.{get}
 use Rattle.forward_rules.proofs.Places.{get-place}
 use Rattle.forward_rules.proofs.flag_table.FlagTable.of.Goals as goal
 

@@ -1,8 +1,8 @@
 use Rattle.std.proofs.Common.{◌≡◌, ◌<◌, length, ap, ◌∙◌, Some, arith}
 use Rattle.std.specs.Ordering.{nat_cmp}
-use Rattle.br_model.specs.Learning.{learning_flag}
-use Rattle.br_model.specs.Maps.{put, without}
-use Rattle.br_model.specs.Targets.{flood, mcast_flood, bcast_flood, isolated}
+use Rattle.br_model.specs.Control.Learning.{learning_flag}
+use Rattle.br_model.specs.Data.Maps.{put, without}
+use Rattle.br_model.specs.Forward.Targets.{flood, mcast_flood, bcast_flood, isolated}
 use Rattle.forward_rules.specs.PortSets.{flag_is_set}
 use Rattle.forward_rules.proofs.Places.{placed-is, put-is, without-is}
 use Rattle.forward_rules.proofs.flag_table.FlagTable.place.Goals as goal

@@ -1,6 +1,6 @@
 use Rattle.std.proofs.Common.{◌∷◌, ap, ◌∙◌}
-use Rattle.br_model.specs.Table.{Table}
-use Rattle.br_model.specs.Targets.{with_flag, bcast_flood}
+use Rattle.br_model.specs.Table.Table.{Table}
+use Rattle.br_model.specs.Forward.Targets.{with_flag, bcast_flood}
 use Rattle.forward_rules.specs.PortSets.{set_of}
 use Rattle.forward_rules.proofs.SetLaws.{set_of-flagged, set_of-with}
 use Rattle.forward_rules.proofs.port_tables.PortTables.broadcast_flood.Goals as goal

@@ -1,7 +1,7 @@
 use Rattle.std.proofs.Common.{◌≡◌, ℕ, List, ◌<◌, not, ◌&&◌, true, false, refl, ap, sym, ◌∙◌}
 use Rattle.std.proofs.Math.Bool.{and-true}
-use Rattle.br_model.specs.Eligible.{may}
-use Rattle.br_model.specs.Table.{Table}
+use Rattle.br_model.specs.Forward.Eligible.{may}
+use Rattle.br_model.specs.Table.Table.{Table}
 use Rattle.port_sets.specs.Numbers.{has_number}
 use Rattle.port_sets.proofs.Numbers.{has-below}
 use Rattle.vlan_groups.specs.Rows.{ports_where}

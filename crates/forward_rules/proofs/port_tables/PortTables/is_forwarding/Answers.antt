@@ -1,6 +1,6 @@
 use Rattle.std.proofs.Common.{◌&&◌, refl, ap, sym, ◌∙◌}
-use Rattle.br_model.specs.Admission.{is_forwarding}
-use Rattle.br_model.specs.Table.{Table}
+use Rattle.br_model.specs.Forward.Admission.{is_forwarding}
+use Rattle.br_model.specs.Table.Table.{Table}
 use Rattle.port_sets.specs.Numbers.{has_number}
 use Rattle.forward_rules.specs.contracts.port_tables.PortTables.{the_view}
 use Rattle.forward_rules.proofs.PortParts.{is-forwarding}

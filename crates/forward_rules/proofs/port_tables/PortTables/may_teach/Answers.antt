@@ -1,7 +1,7 @@
 use Rattle.std.proofs.Common.{◌&&◌, refl, ap, sym, ◌∙◌}
-use Rattle.br_model.specs.Admission.{member}
-use Rattle.br_model.specs.Learning.{may_teach}
-use Rattle.br_model.specs.Table.{Table}
+use Rattle.br_model.specs.Forward.Admission.{member}
+use Rattle.br_model.specs.Control.Learning.{may_teach}
+use Rattle.br_model.specs.Table.Table.{Table}
 use Rattle.forward_rules.specs.contracts.port_tables.PortTables.{the_view}
 use Rattle.forward_rules.proofs.PortParts.{may-teach}
 use Rattle.forward_rules.proofs.port_tables.PortTables.may_teach.Goals as goal

@@ -1,6 +1,6 @@
 use Rattle.std.proofs.Common.{◌&&◌, not, ap, sym, ◌∙◌}
 use Rattle.std.specs.Prelude.{◌==◌}
-use Rattle.br_model.specs.Table.{Table, apply}
+use Rattle.br_model.specs.Table.Table.{Table, apply}
 use Rattle.br_model.specs.declared.change.Change.TheVariants.{PortDown}
 use Rattle.port_sets.specs.Numbers.{has_number, numbers_below}
 use Rattle.port_sets.proofs.Ordered.{without-set}

@@ -1,6 +1,6 @@
 use Rattle.std.proofs.Common.{◌||◌, ap, sym, ◌∙◌}
 use Rattle.std.specs.Prelude.{◌==◌}
-use Rattle.br_model.specs.Table.{Table, apply}
+use Rattle.br_model.specs.Table.Table.{Table, apply}
 use Rattle.br_model.specs.declared.change.Change.TheVariants.{PortUp}
 use Rattle.port_sets.specs.Numbers.{has_number, numbers_below}
 use Rattle.port_sets.proofs.Ordered.{insert_key-set}

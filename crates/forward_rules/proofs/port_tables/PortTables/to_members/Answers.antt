@@ -1,7 +1,7 @@
 use Rattle.std.proofs.Common.{◌≡◌, Bool, true, false, not, ◌||◌, cond, ◌++◌, refl, ap, ap₂, sym, ◌∙◌}
-use Rattle.br_model.specs.Groups.{is_link_local, is_six}
-use Rattle.br_model.specs.Table.{Table}
-use Rattle.br_model.specs.Targets.{knows_querier, members_of, multicast_flood, to_members}
+use Rattle.br_model.specs.Table.Groups.{is_link_local, is_six}
+use Rattle.br_model.specs.Table.Table.{Table}
+use Rattle.br_model.specs.Forward.Targets.{knows_querier, members_of, multicast_flood, to_members}
 use Rattle.forward_rules.specs.PortSets.{set_of}
 use Rattle.forward_rules.specs.contracts.port_tables.PortTables.{the_view}
 use Rattle.forward_rules.proofs.SetLaws.{set_of-append, set_of-set}

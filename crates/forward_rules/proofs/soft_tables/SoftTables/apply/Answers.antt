@@ -1,5 +1,5 @@
 use Rattle.std.proofs.Common.{ap, sym, ◌∙◌}
-use Rattle.br_model.specs.Table.{Table, apply, with_addresses}
+use Rattle.br_model.specs.Table.Table.{Table, apply, with_addresses}
 use Rattle.br_model.specs.declared.change.Change.TheVariants.{AddrDel}
 use Rattle.forward_rules.proofs.soft_tables.SoftTables.apply.Goals as goal
 

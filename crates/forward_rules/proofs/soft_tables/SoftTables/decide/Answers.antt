@@ -1,7 +1,7 @@
 use Rattle.std.proofs.Common.{ap, sym, ◌∙◌}
-use Rattle.br_model.specs.Table.{Table}
-use Rattle.br_model.specs.Admission.{admit}
-use Rattle.br_model.specs.Targets.{to_tree}
+use Rattle.br_model.specs.Table.Table.{Table}
+use Rattle.br_model.specs.Forward.Admission.{admit}
+use Rattle.br_model.specs.Forward.Targets.{to_tree}
 use Rattle.br_model.specs.declared.frame.Class.{Class}
 use Rattle.forward_rules.specs.declared.soft_tables.Verdict.{Verdict}
 use Rattle.forward_rules.proofs.Deciding.{tree-out, none-out, none-class}

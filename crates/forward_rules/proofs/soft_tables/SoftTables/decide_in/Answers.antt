@@ -1,12 +1,12 @@
 use Rattle.std.proofs.Common.{◌≡◌, ℕ, Bool, true, false, ◌&&◌, ◌||◌, cond, List, Some, ap, sym, ◌∙◌, arith}
-use Rattle.br_model.specs.Class.{class_by, crosses, is_snooped, is_trapped_in, reaches_host}
-use Rattle.br_model.specs.Domains.{host}
-use Rattle.br_model.specs.Eligible.{may, untagged}
-use Rattle.br_model.specs.Table.{Table}
-use Rattle.br_model.specs.Targets.{is_for_the_host}
+use Rattle.br_model.specs.Forward.Class.{class_by, crosses, is_snooped, is_trapped_in, reaches_host}
+use Rattle.br_model.specs.Table.Domains.{host}
+use Rattle.br_model.specs.Forward.Eligible.{may, untagged}
+use Rattle.br_model.specs.Table.Table.{Table}
+use Rattle.br_model.specs.Forward.Targets.{is_for_the_host}
 use Rattle.br_model.specs.declared.frame.Class.{Class}
 use Rattle.br_model.specs.declared.frame.Class.TheVariants.{Trap}
-use Rattle.br_model.specs.Leave.{ports_out}
+use Rattle.br_model.specs.Forward.Leave.{ports_out}
 use Rattle.vlan_groups.specs.Rows.{ports_where}
 use Rattle.port_sets.specs.Numbers.{has_number}
 use Rattle.forward_rules.specs.contracts.soft_tables.SoftTables.{the_view}

@@ -1,8 +1,8 @@
 use Rattle.std.proofs.Common.{◌||◌, Option, length, is_some, ap, ap₂, sym, ◌∙◌}
 use Rattle.std.specs.Prelude.{nat_lt}
-use Rattle.br_model.specs.Limits.{most_addresses}
-use Rattle.br_model.specs.Maps.{pair_cmp, get}
-use Rattle.br_model.specs.Table.{Table}
+use Rattle.br_model.specs.Table.Limits.{most_addresses}
+use Rattle.br_model.specs.Data.Maps.{pair_cmp, get}
+use Rattle.br_model.specs.Table.Table.{Table}
 use Rattle.fdb_core.specs.declared.entries.Entry.{Entry}
 use Rattle.forward_rules.proofs.Deciding.{room-is}
 use Rattle.forward_rules.proofs.soft_tables.SoftTables.has_room_at.Goals as goal

@@ -1,5 +1,5 @@
 use Rattle.std.proofs.Common.{ap, sym, ◌∙◌, Some}
-use Rattle.br_model.specs.Table.{Table}
+use Rattle.br_model.specs.Table.Table.{Table}
 use Rattle.forward_rules.specs.Verdicts.{known_port}
 use Rattle.forward_rules.proofs.Deciding.{known-none, known-some}
 use Rattle.forward_rules.proofs.soft_tables.SoftTables.known_port.Goals as goal

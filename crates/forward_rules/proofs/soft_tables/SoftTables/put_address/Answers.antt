@@ -1,6 +1,6 @@
 use Rattle.std.proofs.Common.{ap, sym, subst, ◌∙◌}
-use Rattle.br_model.specs.Table.{Table, apply, with_addresses}
-use Rattle.br_model.specs.Limits.{fits}
+use Rattle.br_model.specs.Table.Table.{Table, apply, with_addresses}
+use Rattle.br_model.specs.Table.Limits.{fits}
 use Rattle.br_model.specs.declared.change.Change.TheVariants.{AddrPut}
 use Rattle.forward_rules.specs.contracts.soft_tables.SoftTables.{the_view}
 use Rattle.forward_rules.proofs.Deciding.{room-left}

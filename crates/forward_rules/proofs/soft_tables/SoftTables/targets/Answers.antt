@@ -1,6 +1,6 @@
 use Rattle.std.proofs.Common.{ap, sym, ◌∙◌}
-use Rattle.br_model.specs.Table.{Table}
-use Rattle.br_model.specs.Targets.{targets, with_flag, flood}
+use Rattle.br_model.specs.Table.Table.{Table}
+use Rattle.br_model.specs.Forward.Targets.{targets, with_flag, flood}
 use Rattle.fdb_core.specs.Fdb.{addresses}
 use Rattle.forward_rules.specs.PortSets.{set_of}
 use Rattle.forward_rules.proofs.Deciding.{group-targets, unknown-targets, unknown-none}

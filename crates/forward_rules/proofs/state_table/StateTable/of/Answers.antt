@@ -1,7 +1,7 @@
 use Rattle.std.proofs.Common.{◌≡◌, ap, ◌∙◌, sym, arith}
 use Rattle.std.specs.Ordering.{nat_cmp}
-use Rattle.br_model.specs.Domains.{entries_from}
-use Rattle.br_model.specs.Maps.{get}
+use Rattle.br_model.specs.Table.Domains.{entries_from}
+use Rattle.br_model.specs.Data.Maps.{get}
 use Rattle.forward_rules.proofs.Places.{get-place}
 use Rattle.forward_rules.proofs.state_table.StateTable.of.Goals as goal
 

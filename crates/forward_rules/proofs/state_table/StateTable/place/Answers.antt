@@ -1,7 +1,7 @@
 use Rattle.std.proofs.Common.{◌≡◌, ◌<◌, length, ap, ◌∙◌, arith}
 use Rattle.std.specs.Ordering.{nat_cmp}
-use Rattle.br_model.specs.Admission.{learning, forwarding}
-use Rattle.br_model.specs.Maps.{put, without}
+use Rattle.br_model.specs.Forward.Admission.{learning, forwarding}
+use Rattle.br_model.specs.Data.Maps.{put, without}
 use Rattle.forward_rules.specs.PortSets.{state_is}
 use Rattle.forward_rules.proofs.Places.{placed-is, put-is, without-is}
 use Rattle.forward_rules.proofs.state_table.StateTable.place.Goals as goal

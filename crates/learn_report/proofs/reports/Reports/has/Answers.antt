@@ -1,5 +1,5 @@
 use Rattle.std.proofs.Common.{ap, ap₂, ◌∙◌}
-use Rattle.br_model.specs.Maps.{has, pair_cmp}
+use Rattle.br_model.specs.Data.Maps.{has, pair_cmp}
 use Rattle.learn_report.specs.Reports.{Reported}
 use Rattle.learn_report.proofs.HitLaws.{has-any}
 use Rattle.learn_report.proofs.reports.Reports.has.Goals as goal

@@ -1,5 +1,5 @@
 use Rattle.std.proofs.Common.{List, ℕ, ap, ap₂, ◌∙◌}
-use Rattle.br_model.specs.Maps.{joined, pair_cmp}
+use Rattle.br_model.specs.Data.Maps.{joined, pair_cmp}
 use Rattle.learn_report.specs.Reports.{Reported}
 use Rattle.learn_report.proofs.HitLaws.{ascending-put}
 use Rattle.learn_report.proofs.reports.Reports.hit.Goals as goal

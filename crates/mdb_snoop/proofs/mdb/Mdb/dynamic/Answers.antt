@@ -1,6 +1,6 @@
 use Rattle.std.proofs.Common.{◌∙◌, ap}
-use Rattle.br_model.specs.Groups.{membership_cmp}
-use Rattle.br_model.specs.Maps.{get}
+use Rattle.br_model.specs.Table.Groups.{membership_cmp}
+use Rattle.br_model.specs.Data.Maps.{get}
 use Rattle.mdb_snoop.specs.Database.{is_dynamic}
 use Rattle.mdb_snoop.specs.Places.{flat}
 use Rattle.mdb_snoop.proofs.mdb.Mdb.dynamic.Goals as goal

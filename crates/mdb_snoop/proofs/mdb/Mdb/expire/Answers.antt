@@ -1,8 +1,8 @@
 use Rattle.std.proofs.Common.{◌∙◌, true, false, sym, ap}
 use Rattle.std.specs.Ordering.{nat_cmp}
-use Rattle.br_model.specs.Maps.{has}
-use Rattle.br_model.specs.Table.{ip_version}
-use Rattle.br_model.specs.Ends.{due, due_members}
+use Rattle.br_model.specs.Data.Maps.{has}
+use Rattle.br_model.specs.Table.Table.{ip_version}
+use Rattle.br_model.specs.Control.Ends.{due, due_members}
 use Rattle.mdb_snoop.specs.Places.{flat}
 use Rattle.mdb_snoop.specs.Database.{versions}
 use Rattle.mdb_snoop.proofs.Views.{due-four, due-six, due-versions}

@@ -1,6 +1,6 @@
 use Rattle.std.proofs.Common.{◌∙◌, ap}
-use Rattle.br_model.specs.GroupPairs.{has_room}
-use Rattle.br_model.specs.Ends.{keys}
+use Rattle.br_model.specs.Table.GroupPairs.{has_room}
+use Rattle.br_model.specs.Control.Ends.{keys}
 use Rattle.mdb_snoop.specs.Database.{memberships}
 use Rattle.mdb_snoop.specs.Places.{flat}
 use Rattle.mdb_snoop.proofs.mdb.Mdb.has_room.Goals as goal

@@ -1,13 +1,13 @@
 use Rattle.std.proofs.Common.{◌∙◌, ap}
-use Rattle.br_model.specs.GroupPairs.{has_room}
-use Rattle.br_model.specs.Groups.{membership_cmp}
+use Rattle.br_model.specs.Table.GroupPairs.{has_room}
+use Rattle.br_model.specs.Table.Groups.{membership_cmp}
 use Rattle.mdb_snoop.specs.Database.{end_joined, joined_until, memberships}
 use Rattle.mdb_snoop.proofs.Questions.{room-for}
 use Rattle.mdb_snoop.proofs.Soonest.{joined-bound}
 use Rattle.mdb_snoop.proofs.Views.{with_groups}
 use Rattle.mdb_snoop.proofs.Sound.{made}
 use Rattle.br_model.proofs.KeySets.{keys-put}
-use Rattle.br_model.specs.Maps.{get}
+use Rattle.br_model.specs.Data.Maps.{get}
 use Rattle.mdb_snoop.proofs.mdb.Mdb.join.Goals as goal
 
 pub invariant_of-self : goal.invariant_of-self

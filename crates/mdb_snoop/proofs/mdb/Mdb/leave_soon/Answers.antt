@@ -1,9 +1,9 @@
-use Rattle.br_model.specs.Groups.{membership_cmp}
+use Rattle.br_model.specs.Table.Groups.{membership_cmp}
 use Rattle.mdb_snoop.specs.Database.{ending_soon, memberships}
 use Rattle.mdb_snoop.proofs.Soonest.{sooner-bound}
 use Rattle.mdb_snoop.proofs.Views.{with_groups}
 use Rattle.std.proofs.Common.{sym, ap, ◌∙◌, arith}
-use Rattle.br_model.specs.Maps.{is_ascending}
+use Rattle.br_model.specs.Data.Maps.{is_ascending}
 use Rattle.mdb_snoop.proofs.Sound.{groups-ascend, soon-keys}
 use Rattle.mdb_snoop.proofs.mdb.Mdb.leave_soon.Goals as goal
 

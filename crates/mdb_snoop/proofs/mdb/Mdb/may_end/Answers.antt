@@ -1,5 +1,5 @@
 use Rattle.std.proofs.Common.{◌∙◌, sym, ap}
-use Rattle.br_model.specs.Ends.{due, due_members}
+use Rattle.br_model.specs.Control.Ends.{due, due_members}
 use Rattle.mdb_snoop.proofs.Soonest.{members-wait, routers-wait, queriers-wait}
 use Rattle.mdb_snoop.proofs.mdb.Mdb.may_end.Goals as goal
 

@@ -1,5 +1,5 @@
 use Rattle.std.proofs.Common.{◌∙◌, sym, ap}
-use Rattle.br_model.specs.Ends.{keys}
+use Rattle.br_model.specs.Control.Ends.{keys}
 use Rattle.mdb_snoop.specs.Database.{memberships, ports_in}
 use Rattle.mdb_snoop.specs.Places.{flat}
 use Rattle.mdb_snoop.proofs.mdb.Mdb.members.Goals as goal

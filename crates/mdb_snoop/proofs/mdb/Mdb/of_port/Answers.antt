@@ -1,8 +1,8 @@
 use Rattle.std.proofs.Common.{◌∙◌, ap, is_some}
 use Rattle.std.specs.Ordering.{nat_cmp}
 use Rattle.std.specs.List.{filter}
-use Rattle.br_model.specs.Maps.{get}
-use Rattle.br_model.specs.Ends.{keys}
+use Rattle.br_model.specs.Data.Maps.{get}
+use Rattle.br_model.specs.Control.Ends.{keys}
 use Rattle.mdb_snoop.specs.Database.{memberships, pairs_of_port}
 use Rattle.mdb_snoop.proofs.Questions.{pairs-flat}
 use Rattle.mdb_snoop.proofs.mdb.Mdb.of_port.Goals as goal

@@ -1,6 +1,6 @@
 use Rattle.std.proofs.Common.{◌∙◌, sym, ap, slice_get}
-use Rattle.br_model.specs.GroupPairs.{group_pairs}
-use Rattle.br_model.specs.Ends.{keys}
+use Rattle.br_model.specs.Table.GroupPairs.{group_pairs}
+use Rattle.br_model.specs.Control.Ends.{keys}
 use Rattle.mdb_snoop.specs.Database.{memberships}
 use Rattle.mdb_snoop.proofs.Questions.{pairs-all}
 use Rattle.mdb_snoop.proofs.mdb.Mdb.pair.Goals as goal

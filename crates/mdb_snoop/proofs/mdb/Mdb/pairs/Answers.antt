@@ -1,5 +1,5 @@
 use Rattle.std.proofs.Common.{◌∙◌, ap, length}
-use Rattle.br_model.specs.GroupPairs.{group_pairs}
+use Rattle.br_model.specs.Table.GroupPairs.{group_pairs}
 use Rattle.mdb_snoop.specs.Database.{memberships}
 use Rattle.mdb_snoop.proofs.Questions.{pairs-count}
 use Rattle.mdb_snoop.proofs.mdb.Mdb.pairs.Goals as goal

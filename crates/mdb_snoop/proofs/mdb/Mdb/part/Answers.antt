@@ -1,7 +1,7 @@
 use Rattle.std.proofs.Common.{◌∙◌, ap, arith}
 use Rattle.std.specs.FinMap.Entries.{is_some-find}
-use Rattle.br_model.specs.Groups.{membership_cmp}
-use Rattle.br_model.specs.Maps.{has, without}
+use Rattle.br_model.specs.Table.Groups.{membership_cmp}
+use Rattle.br_model.specs.Data.Maps.{has, without}
 use Rattle.mdb_snoop.specs.Database.{memberships}
 use Rattle.mdb_snoop.specs.Places.{flat}
 use Rattle.mdb_snoop.proofs.Soonest.{parted-bound}

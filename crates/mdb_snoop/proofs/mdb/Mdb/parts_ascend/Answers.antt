@@ -1,9 +1,9 @@
 use Rattle.std.proofs.Common.{◌≤◌, length, sym, ap, ◌∙◌, subst}
 use Rattle.std.specs.Ordering.{nat_cmp}
 use Rattle.br_model.proofs.KeySets.{keys-ascend}
-use Rattle.br_model.specs.GroupPairs.{group_pairs, max_pairs}
-use Rattle.br_model.specs.Groups.{membership_cmp}
-use Rattle.br_model.specs.Maps.{is_ascending}
+use Rattle.br_model.specs.Table.GroupPairs.{group_pairs, max_pairs}
+use Rattle.br_model.specs.Table.Groups.{membership_cmp}
+use Rattle.br_model.specs.Data.Maps.{is_ascending}
 use Rattle.mdb_snoop.specs.Database.{memberships}
 use Rattle.mdb_snoop.proofs.Questions.{pairs-count}
 use Rattle.mdb_snoop.proofs.Sound.{groups-ascend, queriers-ascend}

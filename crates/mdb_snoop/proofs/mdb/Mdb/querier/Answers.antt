@@ -1,8 +1,8 @@
 use Rattle.std.proofs.Common.{◌∙◌, true, false, sym, ap}
 use Rattle.std.specs.Ordering.{nat_cmp}
-use Rattle.br_model.specs.Maps.{has}
-use Rattle.br_model.specs.Table.{ip_version}
-use Rattle.br_model.specs.Ends.{keys}
+use Rattle.br_model.specs.Data.Maps.{has}
+use Rattle.br_model.specs.Table.Table.{ip_version}
+use Rattle.br_model.specs.Control.Ends.{keys}
 use Rattle.mdb_snoop.proofs.Views.{known-four, known-six}
 use Rattle.mdb_snoop.proofs.mdb.Mdb.querier.Goals as goal
 

@@ -1,8 +1,8 @@
 use Rattle.std.proofs.Common.{◌∙◌, sym, ap}
 use Rattle.std.specs.Ordering.{nat_cmp}
-use Rattle.br_model.specs.Maps.{put}
-use Rattle.br_model.specs.Table.{ip_version}
-use Rattle.br_model.specs.Ends.{keys}
+use Rattle.br_model.specs.Data.Maps.{put}
+use Rattle.br_model.specs.Table.Table.{ip_version}
+use Rattle.br_model.specs.Control.Ends.{keys}
 use Rattle.mdb_snoop.specs.Places.{queriers_of}
 use Rattle.mdb_snoop.proofs.Views.{with_queriers, seen-four, seen-six}
 use Rattle.br_model.proofs.KeySets.{keys-put}

@@ -1,8 +1,8 @@
 use Rattle.std.proofs.Common.{◌∙◌, ap, is_some}
 use Rattle.std.specs.Ordering.{nat_cmp}
 use Rattle.std.specs.FinMap.Entries.{is_some-find}
-use Rattle.br_model.specs.Maps.{has, without}
-use Rattle.br_model.specs.Ends.{keys}
+use Rattle.br_model.specs.Data.Maps.{has, without}
+use Rattle.br_model.specs.Control.Ends.{keys}
 use Rattle.mdb_snoop.proofs.Soonest.{router_gone-bound}
 use Rattle.mdb_snoop.proofs.Views.{with_routers}
 use Rattle.br_model.proofs.KeySets.{keys-without}

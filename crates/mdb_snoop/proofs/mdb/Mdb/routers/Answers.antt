@@ -1,5 +1,5 @@
 use Rattle.std.proofs.Common.{◌∙◌, ap}
-use Rattle.br_model.specs.Ends.{keys}
+use Rattle.br_model.specs.Control.Ends.{keys}
 use Rattle.mdb_snoop.proofs.mdb.Mdb.routers.Goals as goal
 
 pub returns : goal.returns

@@ -1,7 +1,7 @@
 use Rattle.std.proofs.Common.{refl, ap, ◌∙◌}
 use Rattle.std.specs.Prelude.{slice_index}
 use Rattle.std.specs.Ordering.{nat_cmp}
-use Rattle.br_model.specs.Maps.{without}
+use Rattle.br_model.specs.Data.Maps.{without}
 use Rattle.mdb_snoop.proofs.Mapped.{mapped, mapped-without}
 use Rattle.mdb_snoop.proofs.moments.Moments.clear.Goals as goal
 

@@ -1,6 +1,6 @@
 use Rattle.std.proofs.Common.{ap, ◌∙◌}
 use Rattle.std.specs.Prelude.{slice_index}
-use Rattle.br_model.specs.Ends.{keys}
+use Rattle.br_model.specs.Control.Ends.{keys}
 use Rattle.mdb_snoop.proofs.Mapped.{keys-mapped}
 use Rattle.mdb_snoop.proofs.moments.Moments.ports.Goals as goal
 

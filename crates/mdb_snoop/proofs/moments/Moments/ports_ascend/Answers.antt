@@ -1,7 +1,7 @@
 use Rattle.std.proofs.Common.{sym, ap, ◌∙◌}
 use Rattle.std.specs.Prelude.{slice_index}
 use Rattle.std.specs.Ordering.{nat_cmp}
-use Rattle.br_model.specs.Maps.{is_ascending}
+use Rattle.br_model.specs.Data.Maps.{is_ascending}
 use Rattle.mdb_snoop.proofs.Mapped.{mapped-ascends}
 use Rattle.mdb_snoop.proofs.moments.Moments.ports_ascend.Goals as goal
 

@@ -1,6 +1,6 @@
 use Rattle.std.proofs.Common.{ap, ◌∙◌, arith}
 use Rattle.std.specs.Ordering.{nat_cmp}
-use Rattle.br_model.specs.Maps.{put}
+use Rattle.br_model.specs.Data.Maps.{put}
 use Rattle.mdb_snoop.proofs.Mapped.{mapped, write-put}
 use Rattle.mdb_snoop.proofs.moments.Moments.set.Goals as goal
 

@@ -1,7 +1,7 @@
 use Rattle.std.proofs.Common.{ap, ◌∙◌}
 use Rattle.std.specs.Prelude.{min}
 use Rattle.std.specs.Ordering.{nat_cmp}
-use Rattle.br_model.specs.Maps.{get}
+use Rattle.br_model.specs.Data.Maps.{get}
 use Rattle.mdb_snoop.specs.Soonest.{moment_of}
 use Rattle.mdb_snoop.proofs.Soonest.{soonest-next}
 use Rattle.mdb_snoop.proofs.moments.Moments.soonest_of.Goals as goal

@@ -1,7 +1,7 @@
 use Rattle.std.specs.declared.result.Result.TheVariants.{Ok}
 use Rattle.std.proofs.Common.{◌≡◌, ◌≤◌, ◌+◌, length, sym, ◌∙◌, subst}
 use Rattle.std.proofs.lemmas.Result.{err_from_is_err_and}
-use Rattle.br_model.specs.Captures.{Block}
+use Rattle.br_model.specs.Wire.Captures.{Block}
 use Rattle.pcapng_read.specs.Telling.{TellsNext}
 use Rattle.pcapng_read.proofs.Cutting.{behind, total, place_within, left_not_whole, left_at_end, some_left, none_left, tells_fault, tells_packet, tells_nothing}
 use Rattle.pcapng_read.proofs.blocks.Blocks.next.Goals as goal

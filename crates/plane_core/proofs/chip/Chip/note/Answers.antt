@@ -1,5 +1,5 @@
 use Rattle.std.proofs.Common.{ap, ◌∙◌}
-use Rattle.br_model.specs.Chip.{Chip, offers, hits_entry}
+use Rattle.br_model.specs.Plane.Chip.{Chip, offers, hits_entry}
 use Rattle.plane_core.specs.Chips.{ChipState, chip_of}
 use Rattle.plane_core.proofs.Noting.{either_order}
 use Rattle.plane_core.proofs.chip.Chip.note.Goals as goal

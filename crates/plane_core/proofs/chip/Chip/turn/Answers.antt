@@ -1,7 +1,7 @@
 use Rattle.std.proofs.Common.{◌+◌, sym, ap, subst, ◌∙◌, arith, refl}
-use Rattle.br_model.specs.Chip.{applies}
-use Rattle.br_model.specs.Cut.{cut, deferred_at}
-use Rattle.br_model.specs.Table.{table}
+use Rattle.br_model.specs.Plane.Chip.{applies}
+use Rattle.br_model.specs.Table.Cut.{cut, deferred_at}
+use Rattle.br_model.specs.Table.Table.{table}
 use Rattle.br_model.proofs.Cuts.{cut-turn, deferred_at-deferred, updates-named}
 use Rattle.chip_driver.specs.Drives.{Drives}
 use Rattle.learn_report.specs.Reports.{Reported}

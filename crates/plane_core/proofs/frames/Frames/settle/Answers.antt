@@ -1,5 +1,6 @@
 use Rattle.std.proofs.Common.{◌+◌, ◌≤◌, sym, ap, subst, ◌∙◌, length}
 use Rattle.std.specs.VecDeque.{deque_capacity}
+use Rattle.br_model.specs.Table.Limits.{most_waiting}
 use Rattle.plane_core.specs.declared.frames.Frames.TheInside.{Inside}
 use Rattle.plane_core.specs.Arrivals.{IsArrival}
 use Rattle.plane_core.specs.declared.frames.Arrival.{Arrival}
@@ -11,7 +12,7 @@ use Rattle.plane_core.proofs.frames.Frames.settle.Goals as goal
 
 -- what holds of the fields once the next id is taken
 abbrev Stands : Inside → Type 0
-Stands f = (4096 ≤ deque_capacity f.waiting) × IsKeyed f.held.entries × IsQueued (record { waiting = f.waiting.items; held = held_in f.held.entries; next = f.next + 1 })
+Stands f = (most_waiting ≤ deque_capacity f.waiting) × IsKeyed f.held.entries × IsQueued (record { waiting = f.waiting.items; held = held_in f.held.entries; next = f.next + 1 })
 
 pub invariant_of-self : goal.invariant_of-self
 invariant_of-self c = elim c.match-arrival.branch as (λ x. Stands c.match-arrival.self-inside) [

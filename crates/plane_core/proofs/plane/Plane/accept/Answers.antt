@@ -1,5 +1,7 @@
-use Rattle.plane_core.proofs.Calling.{stands_accepted}
+use Rattle.std.proofs.Common.{ap}
+use Rattle.transcript_lines.specs.Rows.{Listed}
+use Rattle.plane_core.proofs.Adding.{whole}
 use Rattle.plane_core.proofs.plane.Plane.accept.Goals as goal
 
-pub invariant_of-self-2 : goal.invariant_of-self-2
-invariant_of-self-2 c = stands_accepted c.args.e.now c.requires c.self.inside.sides c.answer.new.self c.self.inside.frames c.self.inside.steps c.in_ok-step.step _ c.in_ok-step.ensures c.in_ok-lines.ensures.ok c.self.invariant
+pub returns-clause-ok : goal.returns-clause-ok
+returns-clause-ok c = whole _ _ _ (ap (λ (l : Listed). l.lines) c.new-lines.ensures) c.in_ok-accept_to.ensures.ok

@@ -1,7 +1,7 @@
 use Rattle.std.proofs.Common.{◌+◌, sym, ap, ◌∙◌}
-use Rattle.br_model.specs.DomainPorts.{is_in_domain}
-use Rattle.br_model.specs.Domains.{chip}
-use Rattle.br_model.specs.Plane.Steps.{Rx}
+use Rattle.br_model.specs.Table.DomainPorts.{is_in_domain}
+use Rattle.br_model.specs.Table.Domains.{chip}
+use Rattle.br_model.specs.declared.steps.Step.TheVariants.{Rx}
 use Rattle.plane_core.specs.Arrivals.{settled}
 use Rattle.plane_core.specs.Planes.{PlaneState}
 use Rattle.plane_core.proofs.Entering.{enters_software}

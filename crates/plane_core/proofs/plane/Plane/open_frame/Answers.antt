@@ -1,5 +1,5 @@
 use Rattle.std.proofs.Common.{◌≡◌, ◌+◌, length, sym, ap, ◌∙◌, subst}
-use Rattle.br_model.specs.Plane.Invariants.{IsWorld}
+use Rattle.br_model.specs.Theorems.Invariants.{IsWorld}
 use Rattle.plane_core.specs.Sides.{world_of}
 use Rattle.plane_core.specs.declared.plane.Plane.TheInside.{Inside}
 use Rattle.plane_core.proofs.Calling.{stands_held}

@@ -1,8 +1,7 @@
-use Rattle.br_model.specs.Plane.Steps.{Sweep}
-use Rattle.plane_core.proofs.Calling.{stands_after}
+use Rattle.std.proofs.Common.{ap}
+use Rattle.transcript_lines.specs.Rows.{Listed}
+use Rattle.plane_core.proofs.Adding.{whole}
 use Rattle.plane_core.proofs.plane.Plane.sweep.Goals as goal
 
-pub invariant_of-self-2 : goal.invariant_of-self-2
-invariant_of-self-2 c =
-    let q = c.self.inside.frames in
-    stands_after c.self.inside.sides c.sweep.new.self q q c.self.inside.steps c.in_ok-step.step Sweep _ c.in_ok-step.ensures (c.in_ok-lines.ensures.ok q) c.self.invariant
+pub returns-clause-ok : goal.returns-clause-ok
+returns-clause-ok c = whole _ _ _ (ap (λ (l : Listed). l.lines) c.new-lines.ensures) c.in_ok-sweep_to.ensures.ok

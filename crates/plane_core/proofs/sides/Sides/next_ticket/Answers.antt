@@ -1,7 +1,7 @@
 use Rattle.std.proofs.Common.{◌≡◌, ℕ, List, Option, None, Some, option_map, slice_get, sym, ap, ◌∙◌}
 use Rattle.br_model.specs.declared.change.Change.{Change}
-use Rattle.br_model.specs.Change.{updates}
-use Rattle.br_model.specs.Cut.{deferred_at}
+use Rattle.br_model.specs.Table.Change.{updates}
+use Rattle.br_model.specs.Table.Cut.{deferred_at}
 use Rattle.plane_core.specs.Sides.{SidesState}
 use Rattle.plane_core.proofs.Following.{ticket_there, ticket_none}
 use Rattle.plane_core.proofs.sides.Sides.next_ticket.Goals as goal

@@ -1,6 +1,6 @@
 use Rattle.std.proofs.Common.{◌≡◌, ◌≤◌, ◌++◌, ◌∷◌, [], length, take, cond, ap, sym, ◌∙◌, arith}
 use Rattle.std.proofs.lemmas.List.{length-take-le}
-use Rattle.br_model.specs.Change.{deferred}
+use Rattle.br_model.specs.Table.Change.{deferred}
 use Rattle.plane_core.specs.Places.{places}
 use Rattle.plane_core.proofs.Placing.{more, few}
 use Rattle.plane_core.proofs.updates.Updates.follow.Goals as goal

@@ -1,7 +1,7 @@
 use Rattle.std.proofs.Common.{◌≡◌, ◌≤◌, Some, length, slice_get, option_map, nat_lt, false, arith, ap, sym, ◌∙◌, List, ℕ}
 use Rattle.std.proofs.lemmas.Bool.{ltb-true}
 use Rattle.std.proofs.lemmas.Option.{slice_get-get_or, slice_get_past}
-use Rattle.br_model.specs.Cut.{under_ticket}
+use Rattle.br_model.specs.Table.Cut.{under_ticket}
 use Rattle.plane_core.specs.Places.{places}
 use Rattle.plane_core.proofs.Placing.{there, none}
 use Rattle.plane_core.proofs.updates.Updates.get.Goals as goal

@@ -1,8 +1,13 @@
 use Rattle.std.proofs.Common.{ℕ, ◌+◌, ◌*◌, ◌%◌, [], ◌∷◌, ◌++◌, ap, sym, ◌∙◌}
 use Rattle.std.specs.String.{string_bytes}
 use Rattle.br_model.specs.declared.steps.Step.TheVariants.{Rx, Now, Serve, Turn, Report, Publish}
+<<<<<<< HEAD
 use Rattle.br_model.specs.Domains.{chip}
 use Rattle.br_model.specs.Generator.{frame, each}
+=======
+use Rattle.br_model.specs.Program.Generator.{frame, each}
+use Rattle.br_model.specs.Table.Domains.{chip}
+>>>>>>> main
 use Rattle.scenario_text.specs.Generating.{At, next_steps, lines_of, text_left}
 use Rattle.scenario_text.proofs.Generated.{frame_parts, text_goes_on}
 use Rattle.scenario_text.proofs.generator.Generator.append_frame.Goals as goal

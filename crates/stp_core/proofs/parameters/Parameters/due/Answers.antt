@@ -1,7 +1,7 @@
 use Rattle.std.proofs.Common.{◌≡◌, ◌∙◌, ◌&&◌, ◌||◌, ℕ, List, true, false, refl, ap, ap₂, sym}
 use Rattle.std.specs.List.{list_any}
 use Rattle.br_model.specs.declared.tree.TreePort.{TreePort}
-use Rattle.br_model.specs.TreeTimers.{forward_delay}
+use Rattle.br_model.specs.Tree.Timers.{forward_delay}
 use Rattle.stp_core.specs.declared.vectors.Election.{Election}
 use Rattle.stp_core.specs.Due.{election_of, is_any_due, is_due_at, is_timer_due}
 use Rattle.stp_core.specs.Places.{entries_at}

@@ -1,5 +1,5 @@
 use Rattle.std.proofs.Common.{◌∙◌, sym, ap}
-use Rattle.br_model.specs.TreeStep.{received_at}
+use Rattle.br_model.specs.Tree.Step.{received_at}
 use Rattle.stp_core.proofs.parameters.Parameters.receive_at.Goals as goal
 
 pub returns-in-Config : goal.returns-in-Config

@@ -1,5 +1,5 @@
 use Rattle.std.proofs.Common.{◌||◌, ℕ, refl, sym}
-use Rattle.br_model.specs.TreeTimers.{is_tcn_due}
+use Rattle.br_model.specs.Tree.Timers.{is_tcn_due}
 use Rattle.stp_core.specs.Due.{is_change_over, says_hello, is_timer_due}
 use Rattle.stp_core.proofs.Firsts.{first_either, first_same}
 use Rattle.stp_core.proofs.parameters.Parameters.timers_due.Goals as goal

@@ -1,9 +1,9 @@
 use Rattle.std.proofs.Common.{◌≡◌, subst}
 use Rattle.std.proofs.lemmas.Bool.{ltb-true}
 use Rattle.br_model.specs.declared.tree.TreeEvent.TheVariants.{Moment}
-use Rattle.br_model.specs.Tree.{Tree}
-use Rattle.br_model.specs.TreeSending.{quiet}
-use Rattle.br_model.specs.TreeStep.{tree_step}
+use Rattle.br_model.specs.Tree.Tree.{Tree}
+use Rattle.br_model.specs.Tree.Sending.{quiet}
+use Rattle.br_model.specs.Tree.Step.{tree_step}
 use Rattle.stp_core.proofs.Idling.{idle}
 use Rattle.stp_core.proofs.tree.Tree.is_idle.Goals as goal
 

@@ -1,7 +1,7 @@
 use Rattle.std.proofs.Common.{◌≤◌, List, length, take, sym, ap, subst, ◌∙◌, arith}
 use mathlib.Core.List.{IsPrefix}
 use Rattle.br_model.specs.declared.change.Change.{Change}
-use Rattle.br_model.specs.Table.{table}
+use Rattle.br_model.specs.Table.Table.{table}
 use Rattle.table_publish.specs.Board.{Shelf, Known}
 use Rattle.table_publish.specs.Object.{Object, Begins, IsPublished, object_of}
 use Rattle.table_publish.proofs.Keeping.{first, fewer}

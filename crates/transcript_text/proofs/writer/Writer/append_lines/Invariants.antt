@@ -1,7 +1,8 @@
 use Rattle.std.proofs.Common.{◌≡◌, ◌++◌, take}
 use Rattle.std.specs.String.{string_bytes}
-use Rattle.br_model.specs.Transcript.{text}
+use Rattle.br_model.specs.Text.Transcript.{text}
+use Rattle.transcript_lines.specs.Rows.{expand}
 use Rattle.transcript_text.proofs.writer.Writer.append_lines.Given as goal
 
-abbrev pub invariant-loop-line : goal.invariant-loop-line
-invariant-loop-line l = string_bytes l.to ≡ string_bytes l.initial.to ++ text (take l.line-index l.lines)
+abbrev pub invariant-loop-row : goal.invariant-loop-row
+invariant-loop-row l = string_bytes l.to ≡ string_bytes l.fn.to ++ text (expand l.arena (take l.row-index l.rows))

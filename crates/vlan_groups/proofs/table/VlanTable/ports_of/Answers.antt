@@ -1,5 +1,5 @@
 use Rattle.std.proofs.Common.{◌≡◌, ℕ, ◌<◌, Bool, List, true, false, not, cond, length, is_some, sym, ap, ap₂, ◌∙◌, arith}
-use Rattle.br_model.specs.Maps.{pair_cmp, get, put, without}
+use Rattle.br_model.specs.Data.Maps.{pair_cmp, get, put, without}
 use Rattle.vlan_groups.specs.declared.row.Row.{Row}
 use Rattle.vlan_groups.specs.Rows.{at_port, memberships_from}
 use Rattle.vlan_groups.specs.Vlans.{Vlans, is_member}

@@ -1,6 +1,6 @@
 use Rattle.std.proofs.Common.{◌≡◌, ℕ, Bool, List, cond, sym, ap, ap₂, ◌∙◌, arith}
 use Rattle.std.specs.Ordering.{nat_cmp}
-use Rattle.br_model.specs.Maps.{put}
+use Rattle.br_model.specs.Data.Maps.{put}
 use Rattle.vlan_groups.specs.Vlans.{Vlans}
 use Rattle.vlan_groups.proofs.Memberships.{added}
 use Rattle.vlan_groups.proofs.table.VlanTable.put.Goals as goal

@@ -1,5 +1,5 @@
 use Rattle.std.proofs.Common.{◌≡◌, ℕ, List, ap, ap₂, ◌∙◌, arith}
-use Rattle.br_model.specs.Table.{without_pvid}
+use Rattle.br_model.specs.Table.Table.{without_pvid}
 use Rattle.vlan_groups.specs.Vlans.{Vlans}
 use Rattle.vlan_groups.proofs.Memberships.{removed}
 use Rattle.vlan_groups.proofs.table.VlanTable.remove.Goals as goal

@@ -1,0 +1,68 @@
+-- How a run may end, by what it saw of its source and did to its sink. A source or a sink may tell its bytes or not. Of a
+-- sink that doesn't, nothing is said; of a source that doesn't, that the output is that of some input.
+-- Source: this profile.
+use Rattle.std.specs.Prelude.{◌≡◌, ℕ, ◌≤◌, false, List, [], ◌++◌, length, take, IfSome}
+use Rattle.std.specs.declared.option.Option.{Option}
+use Rattle.std.specs.Io.KnownBytes.{Appends, Consumes}
+use Rattle.br_model.specs.declared.scenario.LineWhy.{LineWhy}
+use Rattle.br_model.specs.Table.Limits.{most_bytes}
+use Rattle.br_model.specs.Text.Scenario.{Ending, Going, Bad, opened, reads, scenario}
+
+-- what a call saw and did
+pub record Call : Type 0 where
+  -- the bytes that the source had left when the call began, and has left now
+  pub left_before : Option (List ℕ)
+  pub left_now : Option (List ℕ)
+  -- the bytes that the sink had taken when the call began, and has taken now
+  pub taken_before : Option (List ℕ)
+  pub taken_now : Option (List ℕ)
+
+-- the source gave just these bytes in the call
+abbrev pub Read : Call → List ℕ → Type 0
+Read call bytes = Consumes call.left_before call.left_now bytes
+
+-- the sink took just these bytes in the call
+abbrev pub Wrote : Call → List ℕ → Type 0
+Wrote call bytes = Appends call.taken_before call.taken_now bytes
+
+-- The scenario ends so, and the output is exactly this answer to its bytes.
+pub record Answers (answer : List ℕ → List ℕ) (call : Call) (ending : Ending) : Type 0 where
+  -- the bytes that were read
+  pub input : List ℕ
+  pub read : Read call input
+  pub ends : (scenario input).ending ≡ ending
+  pub wrote : Wrote call (answer input)
+  -- and so it would be with all that the source had left
+  pub whole : IfSome call.left_before (λ bytes. ((scenario bytes).ending ≡ ending) × (answer bytes ≡ answer input))
+
+-- the same of a scenario with a bad line
+abbrev pub AnswersBad : (List ℕ → List ℕ) → Call → Type 0
+AnswersBad answer call = (n : ℕ) × (why : LineWhy) × Answers answer call (Bad n why)
+
+-- Nothing was read, and the output is exactly this.
+abbrev pub Makes : Call → List ℕ → Type 0
+Makes call output = Read call [] × Wrote call output
+
+-- The bytes hold neither a whole `end` line nor a bad line other than one that only lacks its end.
+abbrev pub GoesOn : List ℕ → Type 0
+GoesOn bytes = (reads (opened false) bytes).ending ≡ Going
+
+-- At least so many bytes were left, and the first of them hold neither a whole `end` line nor a bad line.
+abbrev pub HoldsNoEnd : ℕ → List ℕ → Type 0
+HoldsNoEnd limit bytes = (limit ≤ length bytes) × GoesOn (take limit bytes)
+
+abbrev pub IsNotTooLong : Call → Type 0
+IsNotTooLong call = IfSome call.left_before (λ bytes. ¬ HoldsNoEnd most_bytes bytes)
+
+-- The run stops on its way: the bytes that were read neither end the scenario nor hold a bad line, and the output is what stands
+-- before the last line for them, and then this last line.
+pub record StopsAfter (before : List ℕ → List ℕ) (call : Call) (last : List ℕ) : Type 0 where
+  pub input : List ℕ
+  pub read : Read call input
+  pub going : GoesOn input
+  pub wrote : Wrote call (before input ++ last)
+
+-- The same where as many bytes were read as may be.
+pub record StopsFullAfter (before : List ℕ → List ℕ) (call : Call) (last : List ℕ) : Type 0 where
+  pub stops : StopsAfter before call last
+  pub full : length stops.input ≡ most_bytes

@@ -1,0 +1,71 @@
+-- What a bridge and a run hold at most.
+-- Source: this profile.
+use Rattle.std.specs.Prelude.{ℕ, ◌<◌, ◌≤◌, nat_le, nat_lt, Bool, true, ◌&&◌, ◌||◌, IsTrue, List, [], ◌∷◌, length, take, get_or}
+use Rattle.std.specs.Option.{is_some}
+use Rattle.br_model.specs.declared.change.Asks.{Asks}
+use Rattle.br_model.specs.declared.change.Asks.TheVariants.{Nothing, State, GroupRoom, AddressRoom}
+use Rattle.br_model.specs.declared.change.Change.{Change}
+use Rattle.br_model.specs.declared.change.Change.TheVariants.{PortUp, PortDown, SetFlags, SetState, VlanAdd, VlanDel, GroupJoin, GroupPart, Router, Querier, Snoop, Stp, AddrPut, AddrDel}
+use Rattle.br_model.specs.Table.GroupPairs.{has_room}
+use Rattle.br_model.specs.Data.Maps.{pair_cmp, get}
+use Rattle.br_model.specs.Table.Table.{Table, apply, table}
+
+-- bytes that are read of an input: 2^28
+abbrev pub most_bytes : ℕ
+most_bytes = 268435456
+
+-- changes of a run
+abbrev pub most_changes : ℕ
+most_changes = 1048576
+
+-- frames that wait or are held
+abbrev pub most_waiting : ℕ
+most_waiting = 4096
+
+-- reports of a chip that wait
+abbrev pub most_reports : ℕ
+most_reports = 256
+
+-- address entries
+abbrev pub most_addresses : ℕ
+most_addresses = 16384
+
+-- What a change asks for: a state that it sets is to be one of Linux's, and a pair of VLAN and group or an address that comes
+-- wants room.
+abbrev pub asks : Change → Asks
+asks (PortUp port) = Nothing
+asks (PortDown port) = Nothing
+asks (SetFlags port flags) = Nothing
+asks (SetState port state) = State state
+asks (VlanAdd port vid untagged pvid) = Nothing
+asks (VlanDel port vid) = Nothing
+asks (GroupJoin port vid group) = GroupRoom vid group
+asks (GroupPart port vid group) = Nothing
+asks (Router port on) = Nothing
+asks (Querier six on) = Nothing
+asks (Snoop on) = Nothing
+asks (Stp on) = Nothing
+asks (AddrPut vid mac port kind) = AddressRoom vid mac
+asks (AddrDel vid mac) = Nothing
+
+-- Whether the table has what is asked for: a group that is there may have more members, and an address that is there may move;
+-- a new one wants room. The states are 0 to 4.
+abbrev pub grants : Table → Asks → Bool
+grants t Nothing = true
+grants t (State state) = nat_le state 4
+grants t (GroupRoom vid group) = has_room t.groups vid group
+grants t (AddressRoom vid mac) = is_some (get pair_cmp t.addr (vid, mac)) || nat_lt (length t.addr) most_addresses
+
+-- Whether the table holds its limits after the change.
+abbrev pub fits : Table → Change → Bool
+fits t c = grants t (asks c)
+
+-- whether each of the changes fits the table that it finds, which those before it have made
+abbrev pub all_fit : Table → List Change → Bool
+all_fit t [] = true
+all_fit t (c ∷ later) = fits t c && all_fit (apply t c) later
+
+-- What holds of a history: there are not too many changes, and each fits the table of those before it.
+pub record AreWithin (history : List Change) : Type 0 where
+  pub few : length history ≤ most_changes
+  pub fit : (i : ℕ) (d : Change) → i < length history → IsTrue (fits (table (take i history)) (get_or history i d))

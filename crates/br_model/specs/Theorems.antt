@@ -1,0 +1,10 @@
+-- Words that theorems and proofs are said in. None is needed to believe what `run` says.
+pub mod Invariants
+pub mod Applied
+pub mod OnceOnly
+pub mod Agreement
+pub mod Applying
+pub mod EndsTied
+pub mod TreeLaws
+pub mod WholeLines
+pub mod WrittenSteps

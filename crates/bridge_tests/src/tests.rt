@@ -1,0 +1,4 @@
+//! Tests by crate.
+mod bridge;
+mod messages;
+mod tree;

@@ -1,0 +1,493 @@
+//! Worked runs as tables, limits, and random events beside a plain list of stations.
+ghost use Rattle.std.specs.Prelude.{IfOk};
+ghost use Rattle.bridge_core.specs.Answers.{IsEvent};
+
+use br_model::bytes::Bytes;
+use br_model::change::{Flags, Kind};
+use br_model::domains::Domains;
+use br_model::group::Ip;
+use br_model::numbers::{Dom, Mac, Port, Vid};
+use br_model::steps::{Command, Event, Refusal};
+use bridge_core::{Bridge, EventFault};
+use ether_frames::parse;
+use std::alloc::Global;
+use std::process::Abort;
+use std::test::Fail;
+
+/// What happens, by the numbers of ports, VLANs and stations.
+#[derive(Clone, Copy)]
+enum Happening {
+    Up(u8),
+    Down(u8),
+    Flood(u8, bool),
+    Joined(u8, u16),
+    Left(u8, u16),
+    Added(u8, u8, u16, Kind),
+    Deleted(u8),
+    /// The port, the VLAN and the address of the group.
+    Grouped(u8, u16, Ip),
+    Ungrouped(u8, u16, Ip),
+    Snooped(bool),
+    Aged(u32),
+    Waited(u32),
+    Seen(u8, u8),
+}
+
+fn port(number: u8) -> Result<Port, Fail> {
+    Ok(Port::new(number).ok_or("port")?)
+}
+
+fn vid(number: u16) -> Result<Vid, Fail> {
+    Ok(Vid::new(number).ok_or("vid")?)
+}
+
+/// 02:00:00:00:00 and the number.
+fn mac_of(number: u8) -> Mac {
+    Mac::new([2, 0, 0, 0, 0, number])
+}
+
+fn flood(number: u8, on: bool) -> Result<Command, Fail> {
+    Ok(Command::Link {
+        port: port(number)?,
+        flag: Flags::new(2).ok_or("flags")?,
+        on,
+    })
+}
+
+fn joined(number: u8, vlan: u16) -> Result<Command, Fail> {
+    Ok(Command::VlanAdd {
+        port: port(number)?,
+        vid: vid(vlan)?,
+        untagged: false,
+        pvid: false,
+    })
+}
+
+fn left(number: u8, vlan: u16) -> Result<Command, Fail> {
+    Ok(Command::VlanDel {
+        port: port(number)?,
+        vid: vid(vlan)?,
+    })
+}
+
+fn grouped(number: u8, vlan: u16, group: Ip) -> Result<Command, Fail> {
+    Ok(Command::MdbAdd {
+        port: port(number)?,
+        vid: vid(vlan)?,
+        group,
+    })
+}
+
+fn ungrouped(number: u8, vlan: u16, group: Ip) -> Result<Command, Fail> {
+    Ok(Command::MdbDel {
+        port: port(number)?,
+        vid: vid(vlan)?,
+        group,
+    })
+}
+
+fn added(mac: Mac, number: u8, vlan: u16, kind: Kind) -> Result<Command, Fail> {
+    Ok(Command::FdbAdd {
+        vid: vid(vlan)?,
+        mac,
+        port: port(number)?,
+        kind,
+    })
+}
+
+/// A frame of 16 bytes to the station 11 that came by the port.
+fn sight(alloc: Global, from: u8, number: u8) -> Result<Event, Fail>
+    ensures { IfOk result IsEvent }
+{
+    let bytes = [2, 0, 0, 0, 0, 11, 2, 0, 0, 0, 0, from, 0x88, 0xb5, 1, 2];
+    match parse(&bytes) {
+        Ok(head) => Ok(Event::Sight {
+            port: port(number)?,
+            bytes: Bytes::copy_of(alloc, &bytes)?,
+            head,
+        }),
+        Err(_) => Err(Fail::from("frame")),
+    }
+}
+
+fn event(alloc: Global, happening: Happening) -> Result<Event, Fail>
+    ensures { IfOk result IsEvent }
+{
+    match happening {
+        Happening::Up(at) => Ok(Event::Cmd(Command::PortUp(port(at)?))),
+        Happening::Down(at) => Ok(Event::Cmd(Command::PortDown(port(at)?))),
+        Happening::Flood(at, on) => Ok(Event::Cmd(flood(at, on)?)),
+        Happening::Joined(at, vlan) => Ok(Event::Cmd(joined(at, vlan)?)),
+        Happening::Left(at, vlan) => Ok(Event::Cmd(left(at, vlan)?)),
+        Happening::Added(mac, at, vlan, kind) => {
+            Ok(Event::Cmd(added(mac_of(mac), at, vlan, kind)?))
+        }
+        Happening::Deleted(mac) => Ok(Event::Cmd(Command::FdbDel {
+            vid: Vid::DEFAULT,
+            mac: mac_of(mac),
+        })),
+        Happening::Grouped(at, vlan, group) => Ok(Event::Cmd(grouped(at, vlan, group)?)),
+        Happening::Ungrouped(at, vlan, group) => Ok(Event::Cmd(ungrouped(at, vlan, group)?)),
+        Happening::Snooped(on) => Ok(Event::Cmd(Command::Snooping(on))),
+        Happening::Aged(seconds) => Ok(Event::Cmd(Command::Ageing(seconds))),
+        Happening::Waited(now) => Ok(Event::Moment(u64::from(now))),
+        Happening::Seen(mac, at) => sight(alloc, mac, at),
+    }
+}
+
+/// How many changes the event makes, or its refusal.
+fn answer(alloc: Global, bridge: &mut Bridge, event: &Event) -> Result<Result<usize, Refusal>, Fail>
+    requires { IsEvent event.now }
+{
+    match bridge.react(alloc, event) {
+        Ok(reaction) => Ok(Ok(bridge.history().len().saturating_sub(reaction.from))),
+        Err(EventFault::Refused(refusal)) => Ok(Err(refusal)),
+        Err(EventFault::NoMemory) => Err(Fail::from("memory")),
+    }
+}
+
+/// A bridge with the ports 1 to 3. The chip has those up to `chips`.
+fn of_three_ports(alloc: Global, chips: u8) -> Result<Bridge, Fail> {
+    let mut domains = Domains::make();
+    let chip = Dom::new(1).ok_or("domain")?;
+    for number in 1..4u8 {
+        let domain = if number <= chips { chip } else { Dom::SOFTWARE };
+        match Port::new(number) {
+            Some(port) if !port.is_host() => domains.set(port, domain),
+            Some(_) | None => return Err(Fail::from("port")),
+        }
+    }
+    Ok(Bridge::make(alloc, domains, Mac::FIRST_OWN)?)
+}
+
+type Step = (Happening, Result<usize, Refusal>);
+
+const UP: [Step; 3] = [
+    (Happening::Up(1), Ok(3)),
+    (Happening::Up(2), Ok(3)),
+    (Happening::Up(3), Ok(3)),
+];
+
+/// Plays the steps, and compares what each of them comes to.
+fn play(rt: &impl Abort, alloc: Global, bridge: &mut Bridge, steps: &[Step]) -> Result<(), Fail> {
+    for (happening, expected) in steps {
+        let event = event(alloc, *happening)?;
+        assert!(rt; answer(alloc, bridge, &event)? == *expected);
+    }
+    Ok(())
+}
+
+#[test]
+fn first_refusals(rt: HostRuntime) -> Result<(), Fail> {
+    let mut bridge = of_three_ports(rt.alloc(), 0)?;
+    play(&rt, rt.alloc(), &mut bridge, &UP)?;
+    let steps = [
+        (Happening::Up(1), Err(Refusal::PortIsUp)),
+        (
+            Happening::Added(11, 2, 7, Kind::Static),
+            Err(Refusal::NotMember),
+        ),
+        (Happening::Added(11, 2, 1, Kind::Static), Ok(1)),
+        (
+            Happening::Added(11, 3, 1, Kind::Static),
+            Err(Refusal::Exists),
+        ),
+        (Happening::Deleted(10), Err(Refusal::Absent)),
+        (Happening::Down(3), Ok(2)),
+        (Happening::Flood(3, false), Err(Refusal::PortNotUp)),
+    ];
+    play(&rt, rt.alloc(), &mut bridge, &steps)?;
+    assert!(rt; bridge.history().len() == 12);
+    Ok(())
+}
+
+/// The extern entry stays, the learned one is over 300 s after it was learned.
+#[test]
+fn ageing(rt: HostRuntime) -> Result<(), Fail> {
+    let mut bridge = of_three_ports(rt.alloc(), 0)?;
+    play(&rt, rt.alloc(), &mut bridge, &UP)?;
+    let steps = [
+        (Happening::Added(12, 2, 1, Kind::Extern), Ok(1)),
+        (Happening::Seen(10, 1), Ok(1)),
+        (Happening::Waited(299_999), Ok(0)),
+        (Happening::Waited(300_000), Ok(1)),
+        (Happening::Waited(299_999), Err(Refusal::Backward)),
+    ];
+    play(&rt, rt.alloc(), &mut bridge, &steps)?;
+    assert!(rt; bridge.history().len() == 12);
+    Ok(())
+}
+
+/// A frame that comes by another port moves its source, and one that comes by the same renews it.
+#[test]
+fn moves_and_renewals(rt: HostRuntime) -> Result<(), Fail> {
+    let mut bridge = of_three_ports(rt.alloc(), 0)?;
+    play(&rt, rt.alloc(), &mut bridge, &UP)?;
+    let steps = [
+        (Happening::Seen(10, 1), Ok(1)),
+        (Happening::Seen(10, 2), Ok(1)),
+        (Happening::Waited(1000), Ok(0)),
+        (Happening::Seen(10, 2), Ok(0)),
+        (Happening::Waited(300_999), Ok(0)),
+        (Happening::Waited(301_000), Ok(1)),
+        (Happening::Seen(10, 1), Ok(1)),
+        (Happening::Aged(1), Ok(0)),
+        (Happening::Waited(302_000), Ok(1)),
+    ];
+    play(&rt, rt.alloc(), &mut bridge, &steps)
+}
+
+/// A chip's port teaches nothing here, and what a port has goes with it or with its VLAN.
+#[test]
+fn chip_ports_and_what_goes(rt: HostRuntime) -> Result<(), Fail> {
+    let mut bridge = of_three_ports(rt.alloc(), 2)?;
+    play(&rt, rt.alloc(), &mut bridge, &UP)?;
+    let steps = [
+        (Happening::Seen(10, 1), Ok(0)),
+        (Happening::Added(11, 2, 1, Kind::Static), Ok(1)),
+        (Happening::Down(2), Ok(3)),
+        (Happening::Up(2), Ok(3)),
+        (Happening::Joined(2, 10), Ok(1)),
+        (Happening::Joined(2, 10), Err(Refusal::Exists)),
+        (Happening::Added(12, 2, 10, Kind::Static), Ok(1)),
+        (Happening::Left(2, 10), Ok(2)),
+        (Happening::Left(2, 10), Err(Refusal::Absent)),
+    ];
+    play(&rt, rt.alloc(), &mut bridge, &steps)
+}
+
+/// 239.0.0.0 and the number.
+fn group(number: u16) -> Ip {
+    Ip::V4(0xEF00_0000 + u32::from(number))
+}
+
+/// Members of groups by command: which addresses are groups', and the order of refusals.
+#[test]
+fn groups_by_command(rt: HostRuntime) -> Result<(), Fail> {
+    let mut bridge = of_three_ports(rt.alloc(), 0)?;
+    play(&rt, rt.alloc(), &mut bridge, &UP)?;
+    let station = Ip::V4(0x0A00_0001);
+    let all_nodes = Ip::V6(0xFF02_0000_0000_0000_0000_0000_0000_0001);
+    let steps = [
+        (Happening::Grouped(1, 1, group(0)), Ok(1)),
+        (Happening::Grouped(1, 1, group(0)), Err(Refusal::Exists)),
+        (Happening::Grouped(2, 7, station), Err(Refusal::NotAGroup)),
+        (
+            Happening::Grouped(1, 1, Ip::V4(0xE000_00FF)),
+            Err(Refusal::NotAGroup),
+        ),
+        (Happening::Grouped(1, 1, Ip::V4(0xE000_0100)), Ok(1)),
+        (Happening::Grouped(0, 1, all_nodes), Err(Refusal::NotAGroup)),
+        (Happening::Grouped(2, 7, group(0)), Err(Refusal::NotMember)),
+        (Happening::Ungrouped(2, 7, station), Err(Refusal::NotAGroup)),
+        (Happening::Ungrouped(2, 7, group(0)), Err(Refusal::Absent)),
+        (Happening::Ungrouped(1, 1, group(0)), Ok(1)),
+        (Happening::Ungrouped(1, 1, group(0)), Err(Refusal::Absent)),
+        (Happening::Snooped(true), Ok(0)),
+        (Happening::Snooped(false), Ok(1)),
+        (Happening::Waited(4_000_000), Ok(0)),
+        (Happening::Down(3), Ok(2)),
+        (Happening::Grouped(3, 1, station), Err(Refusal::PortNotUp)),
+        (Happening::Ungrouped(3, 1, station), Err(Refusal::PortNotUp)),
+        (Happening::Down(1), Ok(3)),
+    ];
+    play(&rt, rt.alloc(), &mut bridge, &steps)?;
+    assert!(rt; bridge.history().len() == 18);
+    Ok(())
+}
+
+/// The 1,025th pair of VLAN and group is refused; a pair that is there may have more members.
+#[test]
+fn no_more_than_1024_pairs(rt: HostRuntime) -> Result<(), Fail> {
+    let alloc = rt.alloc();
+    let mut bridge = of_three_ports(alloc, 0)?;
+    play(&rt, alloc, &mut bridge, &UP)?;
+    for number in 0..1024u16 {
+        let joined = Event::Cmd(grouped(1, 1, group(number))?);
+        assert!(rt; answer(alloc, &mut bridge, &joined)? == Ok(1));
+    }
+    let steps = [
+        (
+            Happening::Grouped(1, 1, group(1024)),
+            Err(Refusal::GroupsFull),
+        ),
+        (Happening::Grouped(2, 1, group(1023)), Ok(1)),
+        (Happening::Ungrouped(1, 1, group(0)), Ok(1)),
+        (Happening::Grouped(1, 1, group(1024)), Ok(1)),
+    ];
+    play(&rt, alloc, &mut bridge, &steps)
+}
+
+#[test]
+fn no_more_than_16384_addresses(rt: HostRuntime) -> Result<(), Fail> {
+    let alloc = rt.alloc();
+    let mut bridge = of_three_ports(alloc, 0)?;
+    play(&rt, alloc, &mut bridge, &UP)?;
+    for number in 0..16384u16 {
+        let [high, low] = number.to_be_bytes();
+        let mac = Mac::new([2, 0, 0, 1, high, low]);
+        let entry = Event::Cmd(added(mac, 1, 1, Kind::Static)?);
+        assert!(rt; answer(alloc, &mut bridge, &entry)? == Ok(1));
+    }
+    let steps = [
+        (
+            Happening::Added(11, 1, 1, Kind::Static),
+            Err(Refusal::FdbFull),
+        ),
+        (Happening::Seen(10, 1), Ok(0)),
+    ];
+    play(&rt, alloc, &mut bridge, &steps)
+}
+
+#[test]
+fn no_more_than_1048576_changes(rt: HostRuntime) -> Result<(), Fail> {
+    let alloc = rt.alloc();
+    let mut bridge = of_three_ports(alloc, 0)?;
+    play(&rt, alloc, &mut bridge, &UP)?;
+    let mut on = false;
+    for _ in 0..1_048_567u32 {
+        let link = Event::Cmd(flood(1, on)?);
+        assert!(rt; answer(alloc, &mut bridge, &link)? == Ok(1));
+        on = !on;
+    }
+    let steps = [
+        (Happening::Flood(1, false), Ok(0)),
+        (Happening::Flood(1, true), Err(Refusal::HistoryFull)),
+        (Happening::Waited(5), Ok(0)),
+    ];
+    play(&rt, alloc, &mut bridge, &steps)
+}
+
+/// A station of the plain list.
+#[derive(Clone, Copy)]
+struct Station {
+    port: u8,
+    kind: Kind,
+    updated: u32,
+}
+
+/// The stations that are known in VLAN 1, the last moment, and how long learned ones stay.
+#[derive(Drop)]
+struct Plain {
+    stations: [Option<Station>; 32],
+    now: u32,
+    hold: u32,
+}
+
+impl Plain {
+    fn see(&mut self, number: u8, port: u8) -> Result<usize, Refusal> {
+        let place = usize::from(number % 32);
+        let (changes, kind) = match self.stations[place] {
+            None => (1, Kind::Learned),
+            Some(there) => {
+                if there.kind == Kind::Static {
+                    return Ok(0);
+                }
+                if there.port == port {
+                    (0, there.kind)
+                } else {
+                    (1, Kind::Learned)
+                }
+            }
+        };
+        let updated = self.now;
+        self.stations[place] = Some(Station {
+            port,
+            kind,
+            updated,
+        });
+        Ok(changes)
+    }
+
+    fn add(&mut self, number: u8, port: u8, kind: Kind) -> Result<usize, Refusal> {
+        let place = usize::from(number % 32);
+        if self.stations[place].is_some() {
+            return Err(Refusal::Exists);
+        }
+        let updated = self.now;
+        self.stations[place] = Some(Station {
+            port,
+            kind,
+            updated,
+        });
+        Ok(1)
+    }
+
+    fn delete(&mut self, number: u8) -> Result<usize, Refusal> {
+        let place = usize::from(number % 32);
+        if self.stations[place].is_none() {
+            return Err(Refusal::Absent);
+        }
+        self.stations[place] = None;
+        Ok(1)
+    }
+
+    fn wait(&mut self, now: u32) -> Result<usize, Refusal> {
+        if now < self.now {
+            return Err(Refusal::Backward);
+        }
+        self.now = now;
+        let mut gone = 0usize;
+        for place in 0..32 {
+            if let Some(there) = self.stations[place] {
+                if there.kind == Kind::Learned && there.updated.saturating_add(self.hold) <= now {
+                    self.stations[place] = None;
+                    gone = gone.wrapping_add(1);
+                }
+            }
+        }
+        Ok(gone)
+    }
+}
+
+/// The next number of a row that looks like chance.
+fn next(state: u64) -> u64 {
+    state
+        .wrapping_mul(6364136223846793005)
+        .wrapping_add(1442695040888963407)
+}
+
+/// What happens by a number, and what the plain list comes to.
+fn happens(plain: &mut Plain, number: u64) -> Step {
+    let [which, mac, at, more, ..] = number.to_be_bytes();
+    let (mac, at) = (mac % 32, 1 + at % 3);
+    match which {
+        0..=31 => {
+            let kind = if more % 2 == 0 {
+                Kind::Static
+            } else {
+                Kind::Extern
+            };
+            (Happening::Added(mac, at, 1, kind), plain.add(mac, at, kind))
+        }
+        32..=63 => (Happening::Deleted(mac), plain.delete(mac)),
+        64..=67 => {
+            let now = plain.now.saturating_add(u32::from(more)).saturating_sub(16);
+            (Happening::Waited(now), plain.wait(now))
+        }
+        68..=71 => {
+            plain.hold = 1000 * u32::from(more % 3);
+            (Happening::Aged(u32::from(more % 3)), Ok(0))
+        }
+        _ => (Happening::Seen(mac, at), plain.see(mac, at)),
+    }
+}
+
+#[test]
+fn a_hundred_thousand_events(rt: HostRuntime) -> Result<(), Fail> {
+    let alloc = rt.alloc();
+    let mut bridge = of_three_ports(alloc, 0)?;
+    play(&rt, alloc, &mut bridge, &UP)?;
+    let mut plain = Plain {
+        stations: [None; 32],
+        now: 0,
+        hold: 300_000,
+    };
+    let mut state = 14;
+    for _ in 0..100_000u32 {
+        state = next(state);
+        let step = happens(&mut plain, state);
+        play(&rt, alloc, &mut bridge, &[step])?;
+    }
+    Ok(())
+}

@@ -1,0 +1,148 @@
+//! The chip's tables and what the driver keeps beside them, as one.
+ghost use Rattle.std.specs.Prelude.{◌≡◌, ◌<◌, ◌≤◌, IsTrue};
+ghost use Rattle.br_model.specs.Table.Domains.{port_places};
+ghost use Rattle.br_model.specs.Table.GroupPairs.{has_room};
+ghost use Rattle.br_model.specs.Table.Groups.{membership_cmp};
+ghost use Rattle.br_model.specs.Data.Maps.{joined, parted};
+ghost use Rattle.chip_tables.specs.Rows.{vlan_at, port_at, WritesPort, WritesVlan};
+ghost use Rattle.chip_driver.specs.Shadows.{switched, switched_row};
+ghost use Rattle.chip_driver.specs.Keeping.{IsKept, IsRemade};
+
+use crate::joined::Joined;
+use crate::shadow::{Shadow, switched};
+use crate::shares::Shares;
+use crate::{fans, groups};
+use br_model::group::Group;
+use br_model::numbers::{Port, Vid};
+use chip_tables::{PortRow, Tables, VlanRow};
+use mdb_snoop::Groups;
+
+/// The chip's tables, and what the driver keeps beside them.
+#[derive(Drop)]
+pub struct Kept {
+    pub tables: Tables,
+    pub shadow: Shadow,
+    pub joined: Joined,
+    pub groups: Groups,
+}
+
+impl Kept {
+    /// Writes the row of a port, and makes those rows anew that tell of it.
+    pub fn write_port(&mut self, p: Port, row: PortRow)
+        requires kept { IsKept self.old }
+        requires own { row.own ≡ (port_at self.old.tables p).own }
+        requires state { row.state ≤ 4 }
+        ensures kept { IsKept self.new }
+        ensures routers { self.new.shadow.routers ≡ self.old.shadow.routers }
+        ensures members { self.new.groups ≡ self.old.groups }
+        ensures row { WritesPort self.old.tables self.new.tables p row }
+        ensures rest { IsRemade (record self.old.tables { ports = self.new.tables.ports }) self.new.tables }
+        ensures below { p < port_places }
+    {
+        // law: the port is in range
+        let _number = p.number();
+        let before = Shares::of(&self.shadow, p, true);
+        self.tables.set_port(p, row);
+        self.shadow = self.shadow.with_row(p, &row);
+        let told = before.told(&Shares::of(&self.shadow, p, true));
+        fans::refresh(&mut self.tables, &self.shadow, &self.joined, &told, p);
+        groups::refresh(
+            &mut self.tables,
+            &self.shadow,
+            &self.groups,
+            told.groups,
+            p,
+            None,
+        );
+    }
+
+    /// Puts a router behind a port or not, and makes those rows anew that tell of it.
+    pub fn write_router(&mut self, p: Port, on: bool)
+        requires { IsKept self.old }
+        ensures kept { IsKept self.new }
+        ensures routers { self.new.shadow.routers ≡ switched self.old.shadow.routers p on }
+        ensures members { self.new.groups ≡ self.old.groups }
+        ensures rest { IsRemade self.old.tables self.new.tables }
+    {
+        let before = Shares::of(&self.shadow, p, true);
+        self.shadow.routers = switched(self.shadow.routers, p.number(), on);
+        let told = before.told(&Shares::of(&self.shadow, p, true));
+        fans::refresh(&mut self.tables, &self.shadow, &self.joined, &told, p);
+        groups::refresh(
+            &mut self.tables,
+            &self.shadow,
+            &self.groups,
+            told.groups,
+            p,
+            None,
+        );
+    }
+
+    /// Switches a membership, and makes those rows of the VLAN anew that tell of it.
+    pub fn write_member(&mut self, p: Port, v: Vid, on: bool, untagged: bool)
+        requires { IsKept self.old }
+        ensures kept { IsKept self.new }
+        ensures shadow { self.new.shadow ≡ self.old.shadow }
+        ensures members { self.new.groups ≡ self.old.groups }
+        ensures row { WritesVlan self.old.tables self.new.tables v (switched_row (vlan_at self.old.tables v) p on untagged) }
+        ensures rest { IsRemade (record self.old.tables { vlans = self.new.tables.vlans }) self.new.tables }
+    {
+        let row = self.tables.vlan(v);
+        let n = p.number();
+        let members = switched(row.members, n, on);
+        let untagged = switched(row.untagged, n, untagged);
+        let before = Shares::of(&self.shadow, p, row.members.has(n));
+        let told = before.told(&Shares::of(&self.shadow, p, on));
+        self.tables.set_vlan(v, VlanRow { members, untagged });
+        self.joined.switch(p, v, on);
+        fans::refresh_vlan(&mut self.tables, &self.shadow, &told, v);
+        groups::refresh(
+            &mut self.tables,
+            &self.shadow,
+            &self.groups,
+            told.groups,
+            p,
+            Some(v),
+        );
+    }
+
+    /// Writes the VLAN of a port's untagged frames, on which no other row depends.
+    pub fn write_pvid(&mut self, p: Port, pvid: Option<Vid>)
+        requires { IsKept self.old }
+        ensures kept { IsKept self.new }
+        ensures shadow { self.new.shadow ≡ self.old.shadow }
+        ensures members { self.new.groups ≡ self.old.groups }
+        ensures row { WritesPort self.old.tables self.new.tables p (record (port_at self.old.tables p) { pvid = pvid }) }
+        ensures rest { self.new.tables ≡ record self.old.tables { ports = self.new.tables.ports } }
+        ensures below { p < port_places }
+    {
+        // law: the port is in range
+        let _number = p.number();
+        let mut row = self.tables.port(p);
+        row.pvid = pvid;
+        self.tables.set_port(p, row);
+    }
+
+    /// Joins a port to a group, and makes its row anew.
+    pub fn join(&mut self, v: Vid, g: Group, p: Port)
+        requires kept { IsKept self.old }
+        requires room { IsTrue (has_room self.old.groups v g) }
+        ensures kept { IsKept self.new }
+        ensures shadow { self.new.shadow ≡ self.old.shadow }
+        ensures members { self.new.groups ≡ joined membership_cmp self.old.groups (v, g, p) }
+        ensures rest { self.new.tables ≡ record self.old.tables { groups = self.new.tables.groups } }
+    {
+        groups::join(&mut self.tables, &self.shadow, &mut self.groups, v, g, p);
+    }
+
+    /// Parts a port from a group, and makes its row anew, which goes with the last member.
+    pub fn part(&mut self, v: Vid, g: Group, p: Port)
+        requires { IsKept self.old }
+        ensures kept { IsKept self.new }
+        ensures shadow { self.new.shadow ≡ self.old.shadow }
+        ensures members { self.new.groups ≡ parted membership_cmp self.old.groups (v, g, p) }
+        ensures rest { self.new.tables ≡ record self.old.tables { groups = self.new.tables.groups } }
+    {
+        groups::part(&mut self.tables, &self.shadow, &mut self.groups, v, g, p);
+    }
+}

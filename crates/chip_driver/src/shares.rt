@@ -1,0 +1,98 @@
+//! What a port has in the rows of a VLAN, and of which of them a change tells.
+ghost use Rattle.std.specs.Prelude.{◌≡◌, ◌&&◌, not, false};
+ghost use Rattle.chip_driver.specs.declared.fans.Fan.{Fan};
+ghost use Rattle.chip_driver.specs.Shares.{shares_of, told_of, Tells};
+
+use crate::shadow::Shadow;
+use br_model::numbers::Port;
+
+/// What a port has in one row: whether it is among the row's ports, and whether it asks for each of the two bits.
+#[derive(Clone, Copy, Debug)]
+pub struct Share {
+    pub ports: bool,
+    pub isolated: bool,
+    pub plain: bool,
+}
+
+/// What a port has in each row of a VLAN of which it is a member or not, and in the row of a group of which it is a member.
+#[derive(Clone, Copy, Debug)]
+pub struct Shares {
+    pub unicast: Share,
+    pub mcast: Share,
+    pub bcast: Share,
+    pub routers: Share,
+    pub groups: Share,
+}
+
+/// Of which rows of a VLAN a change of one port tells: of the others each is what it was.
+#[derive(Clone, Copy, Debug)]
+pub struct Told {
+    pub unicast: bool,
+    pub mcast: bool,
+    pub bcast: bool,
+    pub routers: bool,
+    pub groups: bool,
+}
+
+/// What a port of the chip or another one has in a row, as a target or not, by whether it may get frames from a plain ingress port
+/// and from an isolated one.
+fn share_of(own: bool, eligible: bool, free: bool, target: bool) -> Share
+    ensures { result ≡ record { ports = own && target; isolated = not own && (target && free); plain = not own && (target && eligible) } }
+{
+    Share {
+        ports: own && target,
+        isolated: !own && (target && free),
+        plain: !own && (target && eligible),
+    }
+}
+
+/// Whether the two differ.
+fn differ(old: Share, new: Share) -> bool
+    ensures { result ≡ false → old ≡ new }
+{
+    old.ports != new.ports || old.isolated != new.isolated || old.plain != new.plain
+}
+
+impl Shares {
+    /// What the port has in the rows of a VLAN, as a member of it or not.
+    pub fn of(shadow: &Shadow, p: Port, member: bool) -> Shares
+        ensures { result ≡ shares_of shadow.now p member }
+    {
+        let n = p.number();
+        let host = p.is_host();
+        let own = shadow.own.has(n);
+        let eligible = member && (host || shadow.forwarding.has(n));
+        let free = eligible && (host || !shadow.isolated.has(n));
+        let mcast = host || (member && shadow.mcast_flood.has(n));
+        let bcast = host || (member && shadow.bcast_flood.has(n));
+        Shares {
+            unicast: share_of(own, eligible, free, member && shadow.flood.has(n)),
+            mcast: share_of(own, eligible, free, mcast),
+            bcast: share_of(own, eligible, free, bcast),
+            routers: share_of(own, eligible, free, shadow.routers.has(n) && member),
+            groups: share_of(own, eligible, free, true),
+        }
+    }
+
+    /// The rows in which the port now has something else.
+    pub fn told(&self, new: &Shares) -> Told
+        ensures { Tells self.now new.now result }
+    {
+        Told {
+            unicast: differ(self.unicast, new.unicast),
+            mcast: differ(self.mcast, new.mcast),
+            bcast: differ(self.bcast, new.bcast),
+            routers: differ(self.routers, new.routers),
+            groups: differ(self.groups, new.groups),
+        }
+    }
+}
+
+impl Told {
+    /// Whether it tells of a row of floods or of routers.
+    pub fn of_fans(&self) -> bool
+        ensures { result ≡ false → (fan : Fan) → told_of self.now fan ≡ false }
+    {
+        self.unicast || self.mcast || self.bcast || self.routers
+    }
+}

@@ -1,0 +1,8 @@
+use Rattle.std.proofs.Common.{length, ap, sym, ◌∙◌}
+use Rattle.deferred_queue.proofs.Moves.{posts, posts_learns}
+use Rattle.deferred_queue.proofs.ends.Poster.post.Goals as goal
+
+pub push_as-requires-clause-rule : goal.push_as-requires-clause-rule
+push_as-requires-clause-rule g c =
+    let may = ap (λ v. v.posts) c.self.invariant.1 in
+    (posts _ _ _ _ may (c.requires.ticket ∙ ap (λ p. length p.posted) (sym c.self.view_is)), posts_learns _ _ may)

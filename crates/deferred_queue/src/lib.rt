@@ -1,0 +1,15 @@
+//! Updates of addresses on their way to a driver: one end posts them, the other takes them, in order. It has room for all that a
+//! run can have, from the beginning.
+#![tactic(auto)]
+
+mod ends;
+mod rule;
+mod tally;
+#[cfg(test)]
+mod tests;
+
+pub use br_model::limits::MOST_CHANGES as MOST_UPDATES;
+pub use ends::{Poster, Taker, make};
+
+/// Want of memory.
+pub type NoMemory = std::alloc::AllocError;

@@ -1,0 +1,97 @@
+//! Two threads at the two ends.
+ghost use Rattle.std.specs.Prelude.{◌≡◌, []};
+
+use crate::{Poster, Taker, make};
+use br_model::change::{Change, Update};
+use br_model::numbers::{Mac, Vid};
+use std::sync::Wait;
+use std::test::Fail;
+use std::thread::join;
+
+const MANY: u32 = 100_000;
+
+/// The deletion of an address that is as the ticket is.
+fn update(ticket: u32) -> Update
+    ensures { result.ticket ≡ ticket }
+{
+    let [a, b, c, d] = ticket.to_be_bytes();
+    Update {
+        ticket,
+        change: Change::AddrDel {
+            vid: Vid::DEFAULT,
+            mac: Mac::new([2, 0, a, b, c, d]),
+        },
+    }
+}
+
+/// Whether the update is the one that was posted with this ticket.
+fn is_update(update: &Update, ticket: u32) -> bool {
+    let [a, b, c, d] = ticket.to_be_bytes();
+    match update.change {
+        Change::AddrDel { vid: _, mac } => {
+            update.ticket == ticket && mac == Mac::new([2, 0, a, b, c, d])
+        }
+        _ => false,
+    }
+}
+
+fn post_all<R: Wait>(rt: &R, mut poster: Poster) -> Poster
+    requires { poster.posted ≡ [] }
+{
+    for ticket in 0..MANY {
+        poster.post(rt, update(ticket));
+    }
+    poster
+}
+
+fn take_all<R: Wait>(rt: &R, mut taker: Taker) -> (Taker, u32, bool) {
+    let mut next = 0u32;
+    let mut right = true;
+    for _ in 0..134_217_728u64 {
+        if next >= MANY {
+            break;
+        }
+        if let Some(update) = taker.take(rt) {
+            right = right && is_update(&update, next);
+            next += 1;
+        }
+    }
+    (taker, next, right)
+}
+
+/// Whether the next update is there, and is the one with this ticket.
+fn takes<R: Wait>(rt: &R, taker: &mut Taker, ticket: u32) -> bool {
+    match taker.take(rt) {
+        Some(update) => is_update(&update, ticket),
+        None => false,
+    }
+}
+
+#[test]
+fn what_is_taken_and_left_is_what_was_posted(rt: HostRuntime) -> Result<(), Fail> {
+    let (poster, taker) = make(rt.alloc())?;
+    let (_poster, (mut taker, seen, right)) = join(
+        &rt,
+        || post_all(&rt, poster),
+        || take_all(&rt, taker),
+    );
+    assert!(rt; right);
+    for ticket in seen..MANY {
+        assert!(rt; takes(&rt, &mut taker, ticket));
+    }
+    assert!(rt; !takes(&rt, &mut taker, MANY));
+    Ok(())
+}
+
+#[test]
+fn what_was_told_is_taken(rt: HostRuntime) -> Result<(), Fail> {
+    let (mut poster, mut taker) = make(rt.alloc())?;
+    poster.post(&rt, update(0));
+    poster.post(&rt, update(1));
+    assert_eq!(rt; poster.posted(), 2);
+    poster.tell(&mut taker);
+    assert!(rt; takes(&rt, &mut taker, 0));
+    assert!(rt; takes(&rt, &mut taker, 1));
+    assert!(rt; !takes(&rt, &mut taker, 2));
+    Ok(())
+}

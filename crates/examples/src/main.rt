@@ -1,0 +1,63 @@
+//! Runs the examples beside it (`data/`), and tells of each whether what is written is what stands there.
+//!
+//! The words are names of files there, each with what one command writes: `NAME.transcript` is what `replay` writes of
+//! `NAME.scenario`, and `NAME.fdb`, `NAME.vlan` and `NAME.mdb` what `show` writes of it with that word.
+#![tactic(auto)]
+
+use capture_runner::run;
+use run_io::sinks::MemSink;
+use run_io::sources::MemSource;
+use std::alloc::Global;
+use std::rt::{Env, Files};
+use std::{env, fs, io};
+
+/// The room of a sink: no example writes as much.
+const ROOM: u32 = 1 << 20;
+
+/// The words of the command whose output has this ending, if there is one.
+fn command_of(ending: &str) -> Option<&'static [&'static str]> {
+    match ending {
+        "transcript" => Some(&["replay"]),
+        "fdb" => Some(&["show", "fdb"]),
+        "vlan" => Some(&["show", "vlan"]),
+        "mdb" => Some(&["show", "mdb"]),
+        _ => None,
+    }
+}
+
+/// What these words write of a scenario.
+fn written(alloc: Global, words: &[&str], scenario: Vec<u8>) -> io::Result<Vec<u8>> {
+    let mut owned = Vec::new(alloc);
+    for word in words {
+        owned.push(String::from_str(alloc, *word)?)?;
+    }
+    let mut source = MemSource::make(scenario, Vec::new(alloc));
+    let mut sink = MemSink::make(alloc, ROOM, Vec::new(alloc))?;
+    let _status = run(alloc, &owned, &mut source, &mut sink);
+    Ok(Vec::from_slice(alloc, sink.bytes())?)
+}
+
+/// Whether the file holds what its command writes of the scenario beside it.
+fn is_written<R: Files + Alloc<A = Global>>(rt: &R, file: &str) -> io::Result<bool> {
+    let Some((name, ending)) = file.split_once('.') else {
+        return Ok(false);
+    };
+    let Some(words) = command_of(ending) else {
+        return Ok(false);
+    };
+    let scenario = fs::read(rt, format!(in rt.alloc(); "{name}.scenario")?)?;
+    let wanted = fs::read(rt, file)?;
+    Ok(written(rt.alloc(), words, scenario)? == wanted)
+}
+
+fn main(rt: HostRuntime) -> io::Result<()> {
+    for file in env::args(&rt)?.skip(1) {
+        let answer = if is_written(&rt, &file)? {
+            "is written"
+        } else {
+            "differs"
+        };
+        println!(rt; "{file} {answer}")?;
+    }
+    Ok(())
+}

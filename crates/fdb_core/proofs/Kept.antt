@@ -1,0 +1,103 @@
+-- The numbers of entries at ports, as they are kept.
+use Rattle.std.proofs.Common.{◌≡◌, ◌≢◌, ℕ, zero, suc, ◌+◌, ◌-◌, ◌<◌, Bool, true, false, cond, not, eqb, Option, None, Some, List, [], ◌∷◌, length, get_or, set, replicate, IfSome, refl, sym, ap, subst, ◌∙◌, arith, get_or-set_same, get_or-set_other}
+use Rattle.std.specs.Ordering.{eq_by_cmp, nat_cmp}
+use Rattle.std.specs.FinMap.Entries.{find, put, where_key, is_sorted}
+use Rattle.std.proofs.Math.ListN.{length-set}
+use Rattle.std.proofs.lemmas.Bool.{eqb-true, eq-eqb}
+use Rattle.fdb_core.specs.declared.entries.Entry.{Entry}
+use Rattle.fdb_core.specs.Counts.{one_at, one_if, count_at, less_one, one_more, AreCounts}
+use Rattle.fdb_core.specs.Kept.{AreKept}
+use Rattle.fdb_core.specs.Places.{Place}
+use Rattle.fdb_core.proofs.Counts.{count-most, count-put, count-without, count-found}
+
+within : (cs : List ℕ) (i : ℕ) → 0 < get_or cs i 0 → i < length cs
+within [] i h = absurd (omega arith)
+within (c ∷ cs) zero h = omega arith
+within (c ∷ cs) (suc i) h = (let lt = within cs i h in omega arith)
+
+zeros : (n i : ℕ) → ◌≡◌ {A = ℕ} (get_or (replicate n 0) i 0) 0
+zeros zero i = refl
+zeros (suc n) zero = refl
+zeros (suc n) (suc i) = zeros n i
+
+pub counted-none : (cs : List ℕ) → cs ≡ replicate 64 0 → AreCounts cs []
+counted-none cs is = record {
+  sized = ap length is;
+  counted = λ port. ap (λ (l : List ℕ). get_or l port 0) is ∙ zeros 64 port;
+}
+
+one_self : (e : Entry) → one_at e.port e ≡ 1
+one_self e = ap (λ b. cond b 1 0) (eq-eqb e.port e.port refl)
+
+-- what is written at one port, and read at another
+read_at : (cs : List ℕ) (q v p : ℕ) (n : ℕ → ℕ) → q < length cs → v ≡ n q → (eqb q p ≡ false → get_or cs p 0 ≡ n p) → get_or (set cs q v) p 0 ≡ n p
+read_at cs q v p n lt here there =
+    elim (eqb q p) as (λ b. eqb q p ≡ b → get_or (set cs q v) p 0 ≡ n p) [
+      | true ↦ λ e. subst (λ x. get_or (set cs q v) x 0 ≡ n x) (eqb-true q p e) (get_or-set_same cs q v 0 lt ∙ here)
+      | false ↦ λ e. (let apart : p ≢ q = λ same. (let t = eq-eqb q p (sym same) in absurd (cc)) in get_or-set_other cs q p v 0 apart ∙ there e)
+    ] refl
+
+other : (p : ℕ) (e : Entry) → eqb e.port p ≡ false → one_at p e ≡ 0
+other p e apart = ap (λ b. cond b 1 0) apart
+
+module _ (cs : List ℕ) (es : List (ℕ × Entry)) (a : AreCounts cs es) (sorted : is_sorted nat_cmp es ≡ true) (k : ℕ) where
+  found : (e : Entry) → Some e ≡ find nat_cmp k es → 0 < get_or cs e.port 0
+  found e is =
+      let some = count-found e.port k es sorted in
+      let one : one_if e.port (find nat_cmp k es) ≡ 1 = sym (ap (one_if e.port) is) ∙ one_self e in
+      let all = a.counted e.port in
+      omega arith
+
+  pub found-some : (o : Option Entry) → o ≡ find nat_cmp k es → IfSome o (λ e. 0 < get_or cs e.port 0)
+  found-some None is = tt
+  found-some (Some e) is = found e is
+
+  less-all : (o : Option Entry) → o ≡ find nat_cmp k es → (p : ℕ) → get_or (less_one o cs) p 0 ≡ count_at p es - one_if p o
+  less-all None is p = (let all = a.counted p in omega arith)
+  less-all (Some e) is p =
+      read_at cs e.port (get_or cs e.port 0 - 1) p (λ q. count_at q es - one_at q e) (within cs e.port (found e is))
+      (let one = one_self e in let all = a.counted e.port in omega arith)
+      (λ apart. (let none = other p e apart in let all = a.counted p in omega arith))
+
+  length-less : (o : Option Entry) → length (less_one o cs) ≡ length cs
+  length-less None = refl
+  length-less (Some e) = length-set cs e.port (get_or cs e.port 0 - 1)
+
+  pub counted-without : (o : Option Entry) → o ≡ find nat_cmp k es → AreCounts (less_one o cs) (where_key nat_cmp (λ q. not (eq_by_cmp nat_cmp k q)) es)
+  counted-without o is = record {
+    sized = length-less o ∙ a.sized;
+    counted = λ p. (let left = less-all o is p in let all = count-without p k es sorted in let same = ap (one_if p) is in omega arith);
+  }
+
+  module _ (x : Entry) (o : Option Entry) (is : o ≡ find nat_cmp k es) where
+    pub fewer : get_or (less_one o cs) x.port 0 < length (put nat_cmp k x es)
+    fewer =
+        let left = less-all o is x.port in
+        let all = count-put x.port k x es sorted in
+        let same = ap (one_if x.port) is in
+        let one = one_self x in
+        let some = count-found x.port k es sorted in
+        let most = count-most x.port (put nat_cmp k x es) in
+        omega arith
+
+    pub counted-put : x.port < 64 → AreCounts (one_more x.port (less_one o cs)) (put nat_cmp k x es)
+    counted-put lt = record {
+      sized = length-set (less_one o cs) x.port (get_or (less_one o cs) x.port 0 + 1) ∙ length-less o ∙ a.sized;
+      counted = λ p.
+          read_at (less_one o cs) x.port (get_or (less_one o cs) x.port 0 + 1) p (λ q. count_at q (put nat_cmp k x es))
+          (let long = length-less o in let all = a.sized in omega arith)
+          (let left = less-all o is x.port in let all = count-put x.port k x es sorted in let some = count-found x.port k es sorted in let same = ap (one_if x.port) is in let one = one_self x in omega arith)
+          (λ apart. (let left = less-all o is p in let all = count-put p k x es sorted in let same = ap (one_if p) is in let none = other p x apart in omega arith));
+    }
+
+-- at the beginning
+pub kept-none : (es : List (ℕ × Entry)) (cs : List ℕ) (complete : Bool) (latest : ℕ) (ps : List Place) → es ≡ [] → cs ≡ replicate 64 0 → ps ≡ [] → AreKept es cs complete latest ps
+kept-none es cs complete latest ps e counts p =
+    subst (λ (l : List (ℕ × Entry)). AreKept l cs complete latest ps) (sym e)
+    (subst (λ (l : List Place). AreKept [] cs complete latest l) (sym p) (record {
+      keys = refl;
+      sorted = refl;
+      counted = counted-none cs counts;
+      told = λ _. record { ordered = refl; past = refl; known = λ q h. absurd (cc) };
+      settled = refl;
+    }))

@@ -1,0 +1,7 @@
+pub mod Spelled
+pub mod Sums
+pub mod Silence
+pub mod Sized
+pub mod Counted
+pub mod Rows
+pub mod Pushed

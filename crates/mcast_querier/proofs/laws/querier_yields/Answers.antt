@@ -1,0 +1,5 @@
+use Rattle.mcast_querier.proofs.Rows as rows
+use Rattle.mcast_querier.proofs.laws.querier_yields.Goals as goal
+
+pub returns : goal.returns
+returns c = rows.querier_yields

@@ -1,0 +1,6 @@
+pub mod Election
+pub mod Queries
+pub mod Hearing
+pub mod Querier
+pub mod Runs
+pub mod Worked

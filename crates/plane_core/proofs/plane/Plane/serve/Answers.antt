@@ -1,0 +1,7 @@
+use Rattle.std.proofs.Common.{ap}
+use Rattle.transcript_lines.specs.Rows.{Listed}
+use Rattle.plane_core.proofs.Adding.{whole}
+use Rattle.plane_core.proofs.plane.Plane.serve.Goals as goal
+
+pub returns-clause-ok : goal.returns-clause-ok
+returns-clause-ok c = whole _ _ _ (ap (λ (l : Listed). l.lines) c.new-lines.ensures) c.in_ok-serve_to.ensures.ok

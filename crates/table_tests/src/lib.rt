@@ -1,0 +1,6 @@
+//! Nothing but tests of the tables on both sides: of the chip's driver, of its pipeline, of the bridge's tables that software
+//! looks up in, and that chip and software decide frames alike.
+#![tactic(auto)]
+
+#[cfg(test)]
+mod tests;

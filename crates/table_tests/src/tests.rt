@@ -1,0 +1,5 @@
+//! Tests by crate, and of the chip beside software.
+mod alike;
+mod driver;
+mod pipeline;
+mod soft_tables;

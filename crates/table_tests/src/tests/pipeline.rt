@@ -1,0 +1,187 @@
+//! Frames by hand.
+ghost use Rattle.std.specs.Prelude.{◌<◌, ◌≤◌, length, suc};
+
+use br_model::change::{FORWARDING, Flags, Kind};
+use br_model::frame::{Head, McastMsg, Tag};
+use br_model::numbers::{Mac, Port, Vid};
+use chip_pipeline::{Pass, pass};
+use chip_tables::{AddressRow, FanRow, Flood, PortRow, Tables, VlanRow};
+use port_sets::Ports;
+use std::alloc::{AllocError, Global};
+use std::process::Abort;
+
+// Stations: one that the chip learned at port 1, one behind port 3, and one that is static at port 2.
+const LEARNED: u64 = 0x0200_0000_000A;
+
+const ELSEWHERE: u64 = 0x0200_0000_000B;
+
+const STATIC: u64 = 0x0200_0000_000C;
+
+/// A station without an entry.
+const NEW: u64 = 0x0200_0000_000D;
+
+const RESERVED: u64 = 0x0180_C200_000E;
+
+fn port(rt: &impl Abort, number: u8) -> Port {
+    Port::new(number).expect(rt, "a port")
+}
+
+fn mac(rt: &impl Abort, number: u64) -> Mac {
+    Mac::from_number(number).expect(rt, "an address")
+}
+
+/// Puts an entry of VLAN 1.
+fn put(tables: &mut Tables, mac: Mac, row: AddressRow)
+    requires { length tables.old.addresses < 3 }
+    ensures { length tables.new.addresses ≤ suc (length tables.old.addresses) }
+{
+    tables.set_address(Vid::DEFAULT, mac, Some(row));
+}
+
+/// The row of a station behind the port.
+fn entry(port: Port, kind: Kind) -> AddressRow {
+    AddressRow {
+        port,
+        kind,
+        pinned: kind == Kind::Static,
+    }
+}
+
+/// The entries of VLAN 1.
+fn with_entries(rt: &impl Abort, alloc: Global) -> Tables {
+    let mut tables = Tables::make(alloc).expect(rt, "memory");
+    put(
+        &mut tables,
+        mac(rt, LEARNED),
+        entry(port(rt, 1), Kind::Extern),
+    );
+    put(
+        &mut tables,
+        mac(rt, ELSEWHERE),
+        entry(port(rt, 3), Kind::Learned),
+    );
+    put(
+        &mut tables,
+        mac(rt, STATIC),
+        entry(port(rt, 2), Kind::Static),
+    );
+    tables
+}
+
+/// Of the ports, which forward and flood, 1 and 2 are the chip's. Reserved addresses are trapped.
+fn set_ports(rt: &impl Abort, tables: &mut Tables) {
+    for number in 1..4 {
+        let row = PortRow {
+            up: true,
+            state: FORWARDING,
+            flags: Flags::DEFAULT,
+            pvid: Some(Vid::DEFAULT),
+            own: number < 3,
+        };
+        tables.set_port(port(rt, number), row);
+    }
+    for trap in 2..16 {
+        tables.set_trap(trap, true);
+    }
+}
+
+/// The row with the chip's ports, and one with those elsewhere.
+fn fan(elsewhere: bool) -> FanRow {
+    FanRow {
+        ports: Ports::from_word(6),
+        isolated: elsewhere,
+        plain: elsewhere,
+    }
+}
+
+/// The rows of a VLAN, whose frames leave port 1 untagged.
+fn set_vlan(tables: &mut Tables, vid: Vid, members: u64, elsewhere: bool) {
+    let row = VlanRow {
+        members: Ports::from_word(members),
+        untagged: Ports::from_word(2),
+    };
+    tables.set_vlan(vid, row);
+    tables.set_flood(vid, Flood::Unicast, fan(elsewhere));
+    tables.set_flood(vid, Flood::Bcast, fan(elsewhere));
+}
+
+/// VLAN 1 has the host and ports 1 to 3, VLAN 2 ports 1 and 2.
+fn chip(rt: &impl Abort, alloc: Global) -> Tables {
+    let mut tables = with_entries(rt, alloc);
+    set_ports(rt, &mut tables);
+    set_vlan(&mut tables, Vid::DEFAULT, 15, true);
+    set_vlan(&mut tables, Vid::new(2).expect(rt, "a VLAN"), 6, false);
+    tables
+}
+
+/// What the chip decides: the class, the ports, those without a tag marked, and whether it reports the source or hits its entry.
+fn told(alloc: Global, pass: &Pass) -> Result<String, AllocError> {
+    let mut text = format!(in alloc; "{:?}", pass.class())?;
+    for number in pass.ports().iter() {
+        let mark = if pass.untagged().has(number) { "u" } else { "" };
+        text.push_str(format!(in alloc; " {number}{mark}")?.as_str())?;
+    }
+    if pass.report().is_some() {
+        text.push_str(", reported")?;
+    }
+    if pass.hit().is_some() {
+        text.push_str(", hit")?;
+    }
+    Ok(text)
+}
+
+/// The port of a frame, its destination and source, its VLAN, and what the chip decides.
+type Row = (u8, u64, u64, u16, &'static str);
+
+fn head(rt: &impl Abort, dst: u64, src: u64, vid: u16) -> Head {
+    let tag = Tag {
+        pcp: 0,
+        dei: false,
+        vid,
+    };
+    Head {
+        dst: mac(rt, dst),
+        src: mac(rt, src),
+        tag: Some(tag),
+        kind: 0x88B5,
+        body: 18,
+    }
+}
+
+fn assert_row(rt: &impl Abort, alloc: Global, tables: &Tables, row: &Row) {
+    let (number, dst, src, vid, expected) = *row;
+    let head = head(rt, dst, src, vid);
+    let pass = pass(tables, port(rt, number), &head, &McastMsg::Plain);
+    let told = told(alloc, &pass).expect(rt, "memory");
+    assert_eq!(rt; told.as_str(), expected);
+}
+
+fn assert_rows(rt: &impl Abort, alloc: Global, rows: &[Row]) {
+    let tables = chip(rt, alloc);
+    for row in rows {
+        assert_row(rt, alloc, &tables, row);
+    }
+}
+
+#[test]
+fn frames_to_one_station(rt: HostRuntime) {
+    let rows: [Row; 4] = [
+        (1, STATIC, LEARNED, 1, "Forward 2, hit"),
+        (1, LEARNED, NEW, 1, "Drop, reported"),
+        (1, ELSEWHERE, NEW, 1, "Trap, reported"),
+        (1, STATIC, NEW, 3, "Drop"),
+    ];
+    assert_rows(&rt, rt.alloc(), &rows);
+}
+
+#[test]
+fn frames_to_many(rt: HostRuntime) {
+    let rows: [Row; 4] = [
+        // VLAN 2 doesn't know the station, and has no port elsewhere.
+        (1, STATIC, LEARNED, 2, "Forward 2, reported"),
+        (2, NEW, STATIC, 1, "Copy 1u, hit"),
+        (1, Mac::BROADCAST_ADDRESS, STATIC, 1, "Copy 2"),
+        (1, RESERVED, NEW, 1, "Trap"),
+    ];
+    assert_rows(&rt, rt.alloc(), &rows);
+}

@@ -1,0 +1,108 @@
+-- Bytes that come to the arena leave what stands in it.
+use Rattle.std.proofs.Common.{arith, ◌≡◌, ℕ, zero, suc, ◌+◌, ◌≤◌, List, [], ◌∷◌, ◌++◌, length, take, drop, refl, sym, ap, ap₂, ◌∙◌, subst}
+use Rattle.std.proofs.Math.Seq.{take-length, drop-append_seam}
+use Rattle.std.proofs.lemmas.List.{append-nil, length-append, take-append-le, drop-append-le, length-drop}
+use Rattle.std.proofs.lemmas.Grind.{flat_map-append}
+use Rattle.br_model.specs.declared.transcript.Line.{Line}
+use Rattle.br_model.specs.declared.transcript.Line.TheVariants as lines
+use Rattle.transcript_lines.specs.declared.row.Row.{Row}
+use Rattle.transcript_lines.specs.declared.row.Row.TheVariants.{One, Sent, Ctl}
+use Rattle.transcript_lines.specs.declared.row.Span.{Span}
+use Rattle.transcript_lines.specs.Rows.{at, sent_lines, expand_row, expand, IsInside, AreInside}
+
+pub at-more : (arena more : List ℕ) (s : Span) → s.from + s.len ≤ length arena → at (arena ++ more) s ≡ at arena s
+at-more arena more s inside =
+    ap (take s.len) (drop-append-le s.from arena more (omega arith))
+    ∙ take-append-le s.len (drop s.from arena) more (omega (arith, length-drop s.from arena))
+
+-- what was put at the end of the arena
+pub at-end : (arena more : List ℕ) (s : Span) → s.from ≡ length arena → s.len ≡ length more → at (arena ++ more) s ≡ more
+at-end arena more s from len =
+    ap₂ (λ n m. take n (drop m (arena ++ more))) len from
+    ∙ ap (take (length more)) (drop-append_seam arena more)
+    ∙ take-length more
+
+expand_row-more : (arena more : List ℕ) (row : Row) → IsInside (length arena) row → expand_row (arena ++ more) row ≡ expand_row arena row
+expand_row-more arena more (One line) inside = refl
+expand_row-more arena more (Sent id ports untagged plain tagged) inside =
+    ap₂ (sent_lines id ports untagged) (at-more arena more plain inside.0) (at-more arena more tagged inside.1)
+expand_row-more arena more (Ctl port bytes) inside = ap (λ b. lines.Ctl port b ∷ []) (at-more arena more bytes inside)
+
+pub expand-more : (arena more : List ℕ) (rows : List Row) → AreInside (length arena) rows → expand (arena ++ more) rows ≡ expand arena rows
+expand-more arena more [] inside = refl
+expand-more arena more (row ∷ rows) inside = ap₂ (λ a b. a ++ b) (expand_row-more arena more row inside.0) (expand-more arena more rows inside.1)
+
+pub expand-append : (arena : List ℕ) (rows : List Row) (row : Row) → expand arena (rows ++ row ∷ []) ≡ expand arena rows ++ expand_row arena row
+expand-append arena rows row = flat_map-append (expand_row arena) rows (row ∷ []) ∙ ap (λ l. expand arena rows ++ l) (append-nil (expand_row arena row))
+
+pub expand-none : (arena : List ℕ) → expand arena [] ≡ []
+expand-none arena = refl
+
+pub inside-more : (n m : ℕ) (rows : List Row) → n ≤ m → AreInside n rows → AreInside m rows
+inside-more n m [] more inside = inside
+inside-more n m (One line ∷ rows) more inside = (tt, inside-more n m rows more inside.1)
+inside-more n m (Sent id ports untagged plain tagged ∷ rows) more inside =
+    ((omega (arith, inside.0.0, more), omega (arith, inside.0.1, more)), inside-more n m rows more inside.1)
+inside-more n m (Ctl port bytes ∷ rows) more inside = (omega (arith, inside.0, more), inside-more n m rows more inside.1)
+
+pub inside-append : (n : ℕ) (rows : List Row) (row : Row) → AreInside n rows → IsInside n row → AreInside n (rows ++ row ∷ [])
+inside-append n [] row inside last = (last, tt)
+inside-append n (r ∷ rows) row inside last = (inside.0, inside-append n rows row inside.1 last)
+
+-- a row that comes to the rows, with what comes to the arena
+pub pushed : (arena more after : List ℕ) (rows now : List Row) (row : Row) (before : List Line) → AreInside (length arena) rows → expand arena rows ≡ before
+    → after ≡ arena ++ more → now ≡ rows ++ row ∷ [] → expand after now ≡ before ++ expand_row after row
+pushed arena more after rows now row before inside is grown more_rows =
+    ap (expand after) more_rows
+    ∙ expand-append after rows row
+    ∙ ap (λ l. l ++ expand_row after row) (ap (λ b. expand b rows) grown ∙ expand-more arena more rows inside ∙ is)
+
+-- the same of a row whose bytes stand elsewhere
+pub pushed_one : (arena : List ℕ) (rows now : List Row) (row : Row) (before : List Line) → expand arena rows ≡ before → now ≡ rows ++ row ∷ []
+    → expand arena now ≡ before ++ expand_row arena row
+pushed_one arena rows now row before is more_rows = ap (expand arena) more_rows ∙ expand-append arena rows row ∙ ap (λ l. l ++ expand_row arena row) is
+
+pub kept : (n m : ℕ) (rows now : List Row) (row : Row) → AreInside n rows → n ≤ m → IsInside m row → now ≡ rows ++ row ∷ [] → AreInside m now
+kept n m rows now row inside more last same = subst (AreInside m) (sym same) (inside-append m rows row (inside-more n m rows more inside) last)
+
+-- two runs of bytes that come to the arena, one behind the other
+pub at-first : (arena one two a b : List ℕ) (s : Span) → one ≡ arena ++ a → two ≡ one ++ b → s.from ≡ length arena → s.len ≡ length a → at two s ≡ a
+at-first arena one two a b s first second from len =
+    ap (λ x. at x s) second
+    ∙ at-more one b s (omega (arith, from, len, ap length first ∙ length-append arena a))
+    ∙ ap (λ x. at x s) first
+    ∙ at-end arena a s from len
+
+pub at-last : (one two b : List ℕ) (s : Span) → two ≡ one ++ b → s.from ≡ length one → s.len ≡ length b → at two s ≡ b
+at-last one two b s second from len = ap (λ x. at x s) second ∙ at-end one b s from len
+
+pub fits : (arena after more : List ℕ) (s : Span) → after ≡ arena ++ more → s.from ≡ length arena → s.len ≡ length more → s.from + s.len ≤ length after
+fits arena after more s grown from len = omega (arith, from, len, ap length grown ∙ length-append arena more)
+
+pub grows : (arena after more : List ℕ) → after ≡ arena ++ more → length arena ≤ length after
+grows arena after more grown = omega (arith, ap length grown ∙ length-append arena more)
+
+inside-take : (n k : ℕ) (rows : List Row) → AreInside n rows → AreInside n (take k rows)
+inside-take n zero rows inside = tt
+inside-take n (suc k) [] inside = tt
+inside-take n (suc k) (row ∷ rows) inside = (inside.0, inside-take n k rows inside.1)
+
+-- what is before the mark stays
+pub marked_kept : (arena more after : List ℕ) (rows now : List Row) (row : Row) (mark : ℕ) (before : List Line) → AreInside (length arena) rows → mark ≤ length rows
+    → expand arena (take mark rows) ≡ before → after ≡ arena ++ more → now ≡ rows ++ row ∷ [] → expand after (take mark now) ≡ before
+marked_kept arena more after rows now row mark before inside low is grown more_rows =
+    ap₂ (λ a r. expand a (take mark r)) grown more_rows
+    ∙ ap (expand (arena ++ more)) (take-append-le mark rows (row ∷ []) low)
+    ∙ expand-more arena more (take mark rows) (inside-take (length arena) mark rows inside)
+    ∙ is
+
+pub marked_kept_one : (arena : List ℕ) (rows now : List Row) (row : Row) (mark : ℕ) (before : List Line) → mark ≤ length rows
+    → expand arena (take mark rows) ≡ before → now ≡ rows ++ row ∷ [] → expand arena (take mark now) ≡ before
+marked_kept_one arena rows now row mark before low is more_rows =
+    ap (λ r. expand arena (take mark r)) more_rows ∙ ap (expand arena) (take-append-le mark rows (row ∷ []) low) ∙ is
+
+pub mark_low : (mark : ℕ) (rows now : List Row) (row : Row) → mark ≤ length rows → now ≡ rows ++ row ∷ [] → mark ≤ length now
+mark_low mark rows now row low more_rows = omega (arith, low, ap length more_rows ∙ length-append rows (row ∷ []))
+
+pub inside_cut : (n mark : ℕ) (rows now : List Row) → AreInside n rows → now ≡ take mark rows → AreInside n now
+inside_cut n mark rows now inside is = subst (AreInside n) (sym is) (inside-take n mark rows inside)

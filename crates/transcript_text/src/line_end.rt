@@ -1,0 +1,83 @@
+//! A short line, put together from its end.
+ghost use Rattle.std.specs.Prelude.{◌≡◌, ◌+◌, ◌≤◌, ◌++◌, [], length, drop, OnOk, OnErr, decimal};
+ghost use Rattle.std.specs.String.{string_bytes};
+
+use br_model::NoMemory;
+use itoa::write_digits;
+use std::marker::Model;
+use std::str;
+
+/// The most bytes of a line that has no frame.
+const ROOM: usize = 64;
+
+/// What stands at the end of a line. Digits of a number come from the last to the first, so a line is put together from its end.
+#[derive(Drop)]
+pub(crate) struct LineEnd {
+    bytes: [u8; ROOM],
+    from: usize,
+}
+
+impl Model for LineEnd {
+    ghost use Rattle.std.specs.Prelude.{◌≤◌, List, ℕ, drop};
+    ghost use Rattle.std.specs.Str.{IsUtf8};
+
+    ghost Value = { List ℕ };
+
+    ghost view = { λ l. drop l.from l.bytes };
+
+    ghost invariant = { λ l. (l.from ≤ 64) × IsUtf8 (drop l.from l.bytes) };
+}
+
+/// Puts a word before this place, and answers where it begins.
+#[inline(always)]
+fn put_before(bytes: &mut [u8; ROOM], end: usize, word: &[u8]) -> usize
+    requires fits { length word.now ≤ end }
+    requires inside { end ≤ 64 }
+    ensures from { result + length word.now ≡ end }
+    ensures written { drop result bytes.new ≡ word.now ++ drop end bytes.old }
+{
+    let from = end - word.len();
+    bytes[from..end].copy_from_slice(word);
+    from
+}
+
+impl LineEnd {
+    #[inline(always)]
+    pub(crate) fn new() -> LineEnd
+        ensures { result ≡ [] }
+    {
+        LineEnd {
+            bytes: [0; ROOM],
+            from: ROOM,
+        }
+    }
+
+    /// A word in front of what stands there.
+    #[inline(always)]
+    pub(crate) fn word(&mut self, word: &str)
+        requires { length word.now + length self.old ≤ 64 }
+        ensures text { self.new ≡ word.now ++ self.old }
+        ensures len { length self.new ≡ length word.now + length self.old }
+    {
+        self.from = put_before(&mut self.bytes, self.from, word.as_bytes());
+    }
+
+    /// A number in front of what stands there.
+    #[inline(always)]
+    pub(crate) fn number(&mut self, number: u32)
+        requires { 10 + length self.old ≤ 64 }
+        ensures text { self.new ≡ decimal number ++ self.old }
+        ensures len { length self.new ≤ 10 + length self.old }
+    {
+        self.from = write_digits(u64::from(number), &mut self.bytes, self.from);
+    }
+
+    /// Writes it behind the text.
+    pub(crate) fn append_to(&self, to: &mut String) -> Result<(), NoMemory>
+        ensures ok { OnOk result (string_bytes to.new ≡ string_bytes to.old ++ self.now) }
+        ensures err { OnErr result (string_bytes to.new ≡ string_bytes to.old) }
+    {
+        // Words and digits are UTF-8.
+        to.push_str(unsafe { str::from_utf8_unchecked(&self.bytes[self.from..]) })
+    }
+}
