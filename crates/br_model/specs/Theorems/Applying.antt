@@ -5,12 +5,8 @@ use Rattle.std.specs.List.{fold}
 use Rattle.std.specs.declared.option.Option.{Option}
 use Rattle.std.specs.declared.option.Option.TheVariants.{None, Some}
 use Rattle.br_model.specs.declared.change.Change.{Change}
-<<<<<<< HEAD:crates/br_model/specs/Applying.antt
 use Rattle.br_model.specs.declared.domains.Edition.{Edition}
-use Rattle.br_model.specs.Cut.{synchronous_of, deferred_at}
-=======
 use Rattle.br_model.specs.Table.Cut.{synchronous_of, deferred_at}
->>>>>>> main:crates/br_model/specs/Theorems/Applying.antt
 
 pub data Event : Type 0 where
   -- these are accepted, in order
