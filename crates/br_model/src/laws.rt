@@ -11,6 +11,7 @@ ghost use Rattle.br_model.specs.Worked.Addresses.{address_moves_text, address_mo
 ghost use Rattle.br_model.specs.Worked.Chip.{unknown_unicast_split_text, unknown_unicast_split_told, two_points_differ_text, two_points_differ_told, moved_to_a_foreign_port_text, moved_to_a_foreign_port_told, moved_to_a_chip_port_text, moved_to_a_chip_port_told, port_down_and_up_text, port_down_and_up_told, isolated_ingress_text, isolated_ingress_told, plain_ingress_text, plain_ingress_told, bits_follow_a_foreign_port_text, bits_follow_a_foreign_port_told, sweep_text, sweep_told, hit_by_a_frame_text, hit_by_a_frame_told, refusals_without_post_text, refusals_without_post_told};
 ghost use Rattle.br_model.specs.Worked.Captures.{capture_text, capture_told, bad_captures, bad_captures_told};
 ghost use Rattle.br_model.specs.Worked.Hold.{hold_told, hold_lines, no_chip_told, no_chip_lines};
+ghost use Rattle.br_model.specs.Worked.Domains.{groups_deferred_text, groups_deferred_told, groups_at_once_text, groups_at_once_told, two_chips_text, two_chips_told, one_turn_less_text, one_turn_less_told, bad_domains, bad_domains_told};
 ghost use Rattle.br_model.specs.Worked.Groups.{address_words, address_words_read, groups_by_command_text, groups_by_command_told, bad_group_text, bad_group_told};
 ghost use Rattle.br_model.specs.Worked.Tree.{bpdu_at_a_chip_port_text, bpdu_at_a_chip_port_told, tie_and_lost_root_text, tie_and_lost_root_told};
 
@@ -197,7 +198,7 @@ pub fn one_turn_less()
     ensures { told one_turn_less_text ≡ one_turn_less_told }
 {}
 
-/// Ports above 254, domains above 4 and 0, and chips that aren't there are bad.
+/// Editions that there aren't, ports above the last one, domains above 4 and 0, and chips that aren't there are bad.
 pub fn bad_domains()
     ensures { map told bad_domains ≡ bad_domains_told }
 {}

@@ -8,7 +8,8 @@ ghost use Rattle.br_model.specs.declared.steps.Step.{Step};
 ghost use Rattle.br_model.specs.Text.CommandForms.{step};
 ghost use Rattle.br_model.specs.Wire.Frames.{frame};
 ghost use Rattle.br_model.specs.Text.LineForms.{line_says};
-ghost use Rattle.br_model.specs.Text.Roster.{Roster};
+ghost use Rattle.br_model.specs.Table.Domains.{chip_domains};
+ghost use Rattle.br_model.specs.Text.Roster.{Entry, Roster, chips_of, domains_of};
 ghost use Rattle.br_model.specs.Theorems.WrittenSteps.{given, is_whole};
 ghost use Rattle.br_model.specs.Data.Numbers.{is_multicast};
 ghost use Rattle.br_model.specs.Text.Operands.{mac, group, is_ip};
@@ -52,5 +53,5 @@ pub fn frame_is_shown()
 
 /// The chips that a line may name are those that exist.
 pub fn chips_are_declared()
-    ensures { (edition : Edition) (ports : List Entry) (dom : ℕ) → are_declared ports ≡ true → has_chip (domains_of edition ports) dom ≡ is_chip ports dom }
+    ensures { (edition : Edition) (ports : List Entry) → are_declared ports ≡ true → chip_domains (domains_of edition ports) ≡ chips_of ports }
 {}
