@@ -78,7 +78,7 @@ same-filter t u alike (d ∷ ds) h =
     ap (λ b. cond b (d ∷ filter t ds) (filter t ds)) (alike d (first_so _ _ h))
     ∙ ap (λ kept. cond (u d) (d ∷ kept) kept) (same-filter t u alike ds (second_so (nat_le 1 d) _ h))
 
-any-map : {A : Type 0} → (f : A → ℕ) (dom : ℕ) (l : List A) → list_any (λ d. d == dom) (map f l) ≡ list_any (λ x. f x == dom) l
+pub any-map : {A : Type 0} → (f : A → ℕ) (dom : ℕ) (l : List A) → list_any (λ d. d == dom) (map f l) ≡ list_any (λ x. f x == dom) l
 any-map f dom [] = refl
 any-map f dom (x ∷ l) = ap (λ b. f x == dom || b) (any-map f dom l)
 
