@@ -251,10 +251,10 @@ in_range ports GroupAddress address = is_ip address
 in_range ports Hex bytes = is_word bytes && list_all is_byte bytes
 in_range ports Flag flag = is_flag flag
 
--- whether a value that names a port or a chip names one that is there
+-- whether a value that names a port names a declared one
 abbrev pub is_known : List Entry → (o : Operand) → Value o → Bool
 is_known ports (Number low high) n = true
-is_known ports Chip dom = is_chip ports dom
+is_known ports Chip dom = true
 is_known ports NewPort port = true
 is_known ports NewName name = true
 is_known ports PortNumber port = has_number ports port
