@@ -1,20 +1,11 @@
 -- One name to unfold where a proof computes with the definitions.
 use Rattle.std.specs.Fmt.{digits}
-<<<<<<< HEAD
-use Rattle.br_model.specs.Generator.{made, frames_from}
-use Rattle.br_model.specs.Leave.{all_ports, egress_ports, ports_out, leave}
-use Rattle.br_model.specs.LineForms.{line_says}
-use Rattle.br_model.specs.Listings.{listed}
-use Rattle.br_model.specs.Messages.{message}
-use Rattle.br_model.specs.Operands.{number, chip_domain, new_port, new_name, port_number, port_name, device, mac, group, hex, flag}
-=======
 use Rattle.br_model.specs.Program.Generator.{made, frames_from}
 use Rattle.br_model.specs.Forward.Leave.{all_ports, egress_ports, ports_out, leave}
 use Rattle.br_model.specs.Text.LineForms.{line_says}
 use Rattle.br_model.specs.Program.Listings.{listed}
 use Rattle.br_model.specs.Wire.Messages.{message}
-use Rattle.br_model.specs.Text.Operands.{number, new_port, new_name, port_number, port_name, device, mac, group, hex, flag}
->>>>>>> main
+use Rattle.br_model.specs.Text.Operands.{number, chip_domain, new_port, new_name, port_number, port_name, device, mac, group, hex, flag}
 use Rattle.br_model.specs.Plane.Runs.{run}
 use Rattle.br_model.specs.Control.Reaction.{react}
 use Rattle.br_model.specs.Program.Runs.{told}

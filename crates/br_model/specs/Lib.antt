@@ -5,42 +5,7 @@ pub mod Forward
 pub mod Tree
 pub mod Control
 pub mod Plane
-<<<<<<< HEAD
-pub mod Words
-pub mod Roster
-pub mod Declarations
-pub mod FlagWords
-pub mod IpWords
-pub mod Operands
-pub mod Forms
-pub mod CommandForms
-pub mod LineForms
-pub mod Scenario
-pub mod ScenarioText
-pub mod WorkedSnooping
-pub mod WrittenSteps
-pub mod Transcript
-pub mod Runs
-pub mod Listings
-pub mod Generator
-pub mod Summary
-pub mod Outcomes
-pub mod WholeLines
-pub mod WorkedRows
-pub mod WorkedVlans
-pub mod WorkedAddresses
-pub mod WorkedChip
-pub mod WorkedHold
-pub mod WorkedTree
-pub mod WorkedGroups
-pub mod WorkedCaptures
-pub mod WorkedCommands
-pub mod Readings
-pub mod WorkedDomains
-pub mod WorkedFrames
-=======
 pub mod Text
 pub mod Program
 pub mod Theorems
 pub mod Worked
->>>>>>> main
