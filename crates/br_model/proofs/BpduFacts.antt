@@ -44,7 +44,7 @@ spelled_from (suc k) a x =
     ∙ ap (λ (y : ℕ). a * y + x % y) (sym (pow-succ' 256 k))
 
 -- a number is spelled by its bytes
-spelled : (k x : ℕ) → x < 256 ^ k → number (bytes_high_first k x) ≡ x
+pub spelled : (k x : ℕ) → x < 256 ^ k → number (bytes_high_first k x) ≡ x
 spelled k x h = spelled_from k 0 x ∙ (let e = mod-eq_of_lt h in omega (arith, e))
 
 read_back : (own flags root cost bridge port age max hello delay : ℕ)

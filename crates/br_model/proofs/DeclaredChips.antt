@@ -1,20 +1,19 @@
--- The chips that lines may name are those that exist.
-use Rattle.std.proofs.Common.{◌≡◌, ℕ, zero, suc, ◌==◌, nat_le, Bool, true, false, ◌&&◌, ◌||◌, cond, List, [], ◌∷◌, Option, None, Some, refl, sym, ap, ◌∙◌, subst, arith, inl, inr}
+-- The chips that exist where ports are declared are those of their domains.
+use Rattle.std.proofs.Common.{◌≡◌, ℕ, zero, suc, ◌==◌, nat_le, Bool, true, false, ◌&&◌, ◌||◌, cond, List, [], ◌∷◌, map, Option, None, Some, refl, sym, ap, ◌∙◌, subst, arith, inl, inr}
 use Rattle.std.specs.declared.cmp.Ordering.{Ordering}
 use Rattle.std.specs.declared.cmp.Ordering.TheVariants.{Less, Equal, Greater}
 use Rattle.std.specs.FinMap.Entries.{by_order, find-put}
-use Rattle.std.specs.List.{filter, fold, list_any}
+use Rattle.std.specs.List.{filter, fold, list_all, list_any}
 use Rattle.std.specs.Ordering.{nat_cmp, eq_by_cmp, is_eq}
-use Rattle.std.specs.Cmp.{unsigned_tied}
+use Rattle.std.specs.Cmp.{first_so, second_so, unsigned_tied}
 use Rattle.std.proofs.lemmas.Bool.{both_ways, eqb-true, eq-eqb, ne_eqb, not-true}
 use Rattle.std.proofs.lemmas.Bool.Decides.{eqb_tells}
 use Rattle.std.proofs.lemmas.Cmp.{nat_cmp_total}
 use Rattle.br_model.specs.declared.domains.Edition.{Edition}
-use Rattle.br_model.specs.Declarations.{are_declared}
-use Rattle.br_model.specs.Domains.{host, software, chip, has_chip}
-use Rattle.br_model.specs.Maps.{get, put}
-use Rattle.br_model.specs.Roster.{Entry, has_number, has_domain, domains_of}
-use Rattle.br_model.specs.WrittenSteps.{is_chip}
+use Rattle.br_model.specs.Text.Declarations.{are_declared}
+use Rattle.br_model.specs.Table.Domains.{host, software, first_chip_domain, chip_domains}
+use Rattle.br_model.specs.Data.Maps.{get, put}
+use Rattle.br_model.specs.Text.Roster.{Entry, has_number, chips_of, domains_of}
 use Rattle.br_model.proofs.WrittenNames.{fits, at_least}
 
 swapped : (a b c : Bool) → (a || (b || c)) ≡ (b || (a || c))
@@ -72,45 +71,29 @@ host-new : (ports : List Entry) → are_declared ports ≡ true → AreNew ((hos
 host-new ports all port h =
     ap (λ b. cond b (Some software) None) (unsigned_tied port host ∙ ne_eqb port host (λ same. both_ways (nat_le 1 port) (ap (nat_le 1) same) (at_least ports port all h)))
 
-any-filter : (t : ℕ → Bool) (ds : List ℕ) (dom : ℕ) → list_any (λ d. d == dom) (filter t ds) ≡ (list_any (λ d. d == dom) ds && t dom)
-any-filter t [] dom = refl
-any-filter t (d ∷ ds) dom =
-    (elim (eqb_tells d dom) [
-      | inl e ↦
-          let at : t d ≡ t dom = ap t e.1 in
-          (elim (t dom) as (λ b. t dom ≡ b → list_any (λ x. x == dom) (cond (t d) (d ∷ filter t ds) (filter t ds)) ≡ ((d == dom || list_any (λ x. x == dom) ds) && b)) [
-            | true ↦ λ is. ap (λ b. list_any (λ x. x == dom) (cond b (d ∷ filter t ds) (filter t ds))) (at ∙ is) ∙ (λ i. eq-eqb d dom e.1 i || list_any (λ x. x == dom) (filter t ds)) ∙ sym (λ i. (eq-eqb d dom e.1 i || list_any (λ x. x == dom) ds) && true)
-            | false ↦ λ is. ap (λ b. list_any (λ x. x == dom) (cond b (d ∷ filter t ds) (filter t ds))) (at ∙ is) ∙ any-filter t ds dom ∙ ap (λ b. list_any (λ x. x == dom) ds && b) is ∙ none (list_any (λ x. x == dom) ds) ∙ sym (none (d == dom || list_any (λ x. x == dom) ds))
-          ]) refl
-      | inr e ↦
-          left (t d) (ne_eqb d dom e.1) ∙ any-filter t ds dom ∙ sym (ap (λ b. (b || list_any (λ x. x == dom) ds) && t dom) (ne_eqb d dom e.1))
-    ])
+-- a list's numbers, each of which is one at least, are kept alike by tests that agree at such numbers
+same-filter : (t u : ℕ → Bool) → ((d : ℕ) → nat_le 1 d ≡ true → t d ≡ u d) → (ds : List ℕ) → list_all (nat_le 1) ds ≡ true → filter t ds ≡ filter u ds
+same-filter t u alike [] h = refl
+same-filter t u alike (d ∷ ds) h =
+    ap (λ b. cond b (d ∷ filter t ds) (filter t ds)) (alike d (first_so _ _ h))
+    ∙ ap (λ kept. cond (u d) (d ∷ kept) kept) (same-filter t u alike ds (second_so (nat_le 1 d) _ h))
+
+pub any-map : {A : Type 0} → (f : A → ℕ) (dom : ℕ) (l : List A) → list_any (λ d. d == dom) (map f l) ≡ list_any (λ x. f x == dom) l
+any-map f dom [] = refl
+any-map f dom (x ∷ l) = ap (λ b. f x == dom || b) (any-map f dom l)
+
+pub declared-chips : (edition : Edition) (ports : List Entry) → are_declared ports ≡ true → chip_domains (domains_of edition ports) ≡ chips_of ports
+declared-chips edition ports all =
+    same-filter (λ dom. dom == first_chip_domain || list_any (λ d. d == dom) (map (λ e. e.1) (domains_from ((host, software) ∷ []) ports)))
+    (λ dom. dom == first_chip_domain || list_any (λ d. d == dom) (map (λ (e : Entry). e.dom) ports)) alike (1 ∷ 2 ∷ 3 ∷ 4 ∷ []) refl
   where
-    none : (b : Bool) → (b && false) ≡ false
-    none true = refl
-    none false = refl
-
-    left : (b : Bool) → (d == dom) ≡ false → list_any (λ x. x == dom) (cond b (d ∷ filter t ds) (filter t ds)) ≡ list_any (λ x. x == dom) (filter t ds)
-    left true h = ap (λ b. b || list_any (λ x. x == dom) (filter t ds)) h
-    left false h = refl
-
--- the four numbers
-among-four : (dom : ℕ) (b : Bool) → (list_any (λ d. d == dom) (1 ∷ 2 ∷ 3 ∷ 4 ∷ []) && b) ≡ (nat_le 1 dom && (nat_le dom 4 && b))
-among-four dom true = grind arith
-among-four dom false = grind arith
-
--- whether a port of the domain is declared, or it is the first one
-abbrev stands : List Entry → ℕ → Bool
-stands ports d = d == chip || list_any (λ e. e.1 == d) (domains_from ((host, software) ∷ []) ports)
-
-pub declared-chips : (edition : Edition) (ports : List Entry) (dom : ℕ) → are_declared ports ≡ true → has_chip (domains_of edition ports) dom ≡ is_chip ports dom
-declared-chips edition ports dom all =
-    any-filter (stands ports) (1 ∷ 2 ∷ 3 ∷ 4 ∷ []) dom
-    ∙ among-four dom (stands ports dom)
-    ∙ by (nat_le 1 dom) refl
-  where
-    by : (b : Bool) → nat_le 1 dom ≡ b → (b && (nat_le dom 4 && stands ports dom)) ≡ (b && (nat_le dom 4 && has_domain ports dom))
-    by false h = refl
-    by true h =
+    alike : (dom : ℕ) → nat_le 1 dom ≡ true
+        → (dom == first_chip_domain || list_any (λ d. d == dom) (map (λ e. e.1) (domains_from ((host, software) ∷ []) ports)))
+        ≡ (dom == first_chip_domain || list_any (λ d. d == dom) (map (λ (e : Entry). e.dom) ports))
+    alike dom h =
         let soft : (software == dom) ≡ false = ne_eqb software dom (λ e. both_ways (nat_le 1 dom) (ap (nat_le 1) (sym e)) h) in
-        ap (λ b. nat_le dom 4 && (dom == chip || b)) (any-declared ((host, software) ∷ []) ports dom all (host-new ports all) ∙ ap (λ b. (b || false) || list_any (λ (e : Entry). e.dom == dom) ports) soft)
+        ap (λ b. dom == first_chip_domain || b) (
+        any-map (λ (e : ℕ × ℕ). e.1) dom (domains_from ((host, software) ∷ []) ports)
+        ∙ any-declared ((host, software) ∷ []) ports dom all (host-new ports all)
+        ∙ ap (λ b. (b || false) || list_any (λ (e : Entry). e.dom == dom) ports) soft
+        ∙ sym (any-map (λ (e : Entry). e.dom) dom ports))

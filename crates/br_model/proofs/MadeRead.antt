@@ -15,7 +15,7 @@ use Rattle.br_model.specs.declared.steps.Command.TheVariants.{PortUp}
 use Rattle.br_model.specs.declared.steps.Step.{Step}
 use Rattle.br_model.specs.declared.steps.Step.TheVariants.{Rx, Cmd, Now, Turn, Report, Publish}
 use Rattle.br_model.specs.Data.Digits.{hex_digit, hex_of, is_digit}
-use Rattle.br_model.specs.Table.Domains.{chip, software}
+use Rattle.br_model.specs.Table.Domains.{first_chip_domain, software}
 use Rattle.br_model.specs.Program.Generator.{most_frames, station, broadcast, destination, frame, each, frame_steps, frames_from, number_of, drawn, ports, steps, port_line, head, made, made_scenario}
 use Rattle.br_model.specs.Text.LineForms.{line_says}
 use Rattle.br_model.specs.Text.Operands.{last_moment, is_byte}
@@ -180,8 +180,8 @@ frame_good i n few = (
   entry_good (n % 6 + 1) (frame n) (omega arith) (is_port (n % 6) (omega arith)) (frame_length n) (frame_bytes n),
   (
     record { feedless = refl; short = omega arith; line = refl; whole = refl },
-    good_append (each 3 i (Report chip)) _ (each_good (i % 3 == 0) (Report chip) (record { feedless = refl; short = omega arith; line = refl; whole = refl }))
-        (good_append (each 5 i (Turn chip)) _ (each_good (i % 5 == 0) (Turn chip) (record { feedless = refl; short = omega arith; line = refl; whole = refl }))
+    good_append (each 3 i (Report first_chip_domain)) _ (each_good (i % 3 == 0) (Report first_chip_domain) (record { feedless = refl; short = omega arith; line = refl; whole = refl }))
+        (good_append (each 5 i (Turn first_chip_domain)) _ (each_good (i % 5 == 0) (Turn first_chip_domain) (record { feedless = refl; short = omega arith; line = refl; whole = refl }))
         (good_append (each 7 i Publish) _ (each_good (i % 7 == 0) Publish (record { feedless = refl; short = omega arith; line = refl; whole = refl }))
         (each_good (i % 64 == 0) (Now (1000 * i)) (moment_good (1000 * i) (omega arith))))),
   ),
@@ -207,19 +207,19 @@ says_opens : whole_says (first_roster false) (codes "scenario 1") ≡ Ok (Opens 
 unfolding computing
 says_opens = refl
 
-says_port_1 : whole_says (record (first_roster false) { place = Header }) (codes "port 1 g1 chip 1") ≡ Ok (Declares 1 (codes "g1") chip)
+says_port_1 : whole_says (record (first_roster false) { place = Header }) (codes "port 1 g1 chip 1") ≡ Ok (Declares 1 (codes "g1") first_chip_domain)
 unfolding computing
 says_port_1 = refl
 
-says_port_2 : whole_says (begun 2 (take 1 ports)).roster (codes "port 2 g2 chip 1") ≡ Ok (Declares 2 (codes "g2") chip)
+says_port_2 : whole_says (begun 2 (take 1 ports)).roster (codes "port 2 g2 chip 1") ≡ Ok (Declares 2 (codes "g2") first_chip_domain)
 unfolding computing
 says_port_2 = refl
 
-says_port_3 : whole_says (begun 3 (take 2 ports)).roster (codes "port 3 g3 chip 1") ≡ Ok (Declares 3 (codes "g3") chip)
+says_port_3 : whole_says (begun 3 (take 2 ports)).roster (codes "port 3 g3 chip 1") ≡ Ok (Declares 3 (codes "g3") first_chip_domain)
 unfolding computing
 says_port_3 = refl
 
-says_port_4 : whole_says (begun 4 (take 3 ports)).roster (codes "port 4 g4 chip 1") ≡ Ok (Declares 4 (codes "g4") chip)
+says_port_4 : whole_says (begun 4 (take 3 ports)).roster (codes "port 4 g4 chip 1") ≡ Ok (Declares 4 (codes "g4") first_chip_domain)
 unfolding computing
 says_port_4 = refl
 
@@ -235,10 +235,10 @@ head_read : (more : List ℕ) → read 0 (opened false) (head ++ more) ≡ read 
 unfolding digits
 head_read more =
     read_line (opened false) (Opens One) (codes "scenario 1") [] (port_lines (drop 0 ports) more) refl refl says_opens refl
-    ∙ read_line (record (opened false) { lines = 1; roster = record (first_roster false) { place = Header } }) (Declares 1 (codes "g1") chip) (codes "port 1 g1 chip 1") [] (port_lines (drop 1 ports) more) refl refl says_port_1 refl
-    ∙ read_line (begun 2 (take 1 ports)) (Declares 2 (codes "g2") chip) (codes "port 2 g2 chip 1") [] (port_lines (drop 2 ports) more) refl refl says_port_2 refl
-    ∙ read_line (begun 3 (take 2 ports)) (Declares 3 (codes "g3") chip) (codes "port 3 g3 chip 1") [] (port_lines (drop 3 ports) more) refl refl says_port_3 refl
-    ∙ read_line (begun 4 (take 3 ports)) (Declares 4 (codes "g4") chip) (codes "port 4 g4 chip 1") [] (port_lines (drop 4 ports) more) refl refl says_port_4 refl
+    ∙ read_line (record (opened false) { lines = 1; roster = record (first_roster false) { place = Header } }) (Declares 1 (codes "g1") first_chip_domain) (codes "port 1 g1 chip 1") [] (port_lines (drop 1 ports) more) refl refl says_port_1 refl
+    ∙ read_line (begun 2 (take 1 ports)) (Declares 2 (codes "g2") first_chip_domain) (codes "port 2 g2 chip 1") [] (port_lines (drop 2 ports) more) refl refl says_port_2 refl
+    ∙ read_line (begun 3 (take 2 ports)) (Declares 3 (codes "g3") first_chip_domain) (codes "port 3 g3 chip 1") [] (port_lines (drop 3 ports) more) refl refl says_port_3 refl
+    ∙ read_line (begun 4 (take 3 ports)) (Declares 4 (codes "g4") first_chip_domain) (codes "port 4 g4 chip 1") [] (port_lines (drop 4 ports) more) refl refl says_port_4 refl
     ∙ read_line (begun 5 (take 4 ports)) (Declares 5 (codes "g5") software) (codes "port 5 g5 soft") [] (port_lines (drop 5 ports) more) refl refl says_port_5 refl
     ∙ read_line (begun 6 (take 5 ports)) (Declares 6 (codes "g6") software) (codes "port 6 g6 soft") [] (port_lines (drop 6 ports) more) refl refl says_port_6 refl
 

@@ -15,31 +15,12 @@ use Rattle.br_model.specs.declared.steps.Step.{Step}
 use Rattle.br_model.specs.declared.steps.Step.TheVariants.{Rx}
 use Rattle.br_model.specs.declared.transcript.Line.{Line}
 use Rattle.br_model.specs.declared.transcript.Line.TheVariants.{Overrun}
-<<<<<<< HEAD
-use Rattle.br_model.specs.Chip.{Chip, notes}
-use Rattle.br_model.specs.Class.{class}
-use Rattle.br_model.specs.Cut.{deferred_count}
-use Rattle.br_model.specs.Domains.{Domains, domain_of}
-use Rattle.br_model.specs.Frames.{frame}
-use Rattle.br_model.specs.Leave.{leave}
-use Rattle.br_model.specs.Limits.{most_waiting}
-use Rattle.br_model.specs.Messages.{message}
-use Rattle.br_model.specs.Setup.{Setup}
-use Rattle.br_model.specs.Shares.{chip_out, mark_of, soft_out}
-use Rattle.br_model.specs.Table.{Table, table}
-use Rattle.br_model.specs.Plane.Agreement.{is_there, is_overrun, IsSettled, IsUndisturbed}
-use Rattle.br_model.specs.Plane.Entering.{waits, goes_on, enters_chip, enters_by, enters_as, class_of, chip_of}
-use Rattle.br_model.specs.Plane.Invariants.{frames_of, IsWorld}
-use Rattle.br_model.specs.Plane.Runs.{run, then_step}
-use Rattle.br_model.specs.Plane.Sending.{Sent, in_port_order, sent_of, software_share}
-use Rattle.br_model.specs.Plane.Steps.{Step, Rx, world_step}
-use Rattle.br_model.specs.Plane.World.{World, Waiting, Holding, Stepped, first_world, with_chip, table_at, table_of_chip, sent}
-=======
-use Rattle.br_model.specs.Plane.Chip.{notes}
+use Rattle.br_model.specs.declared.steps.Step.TheVariants.{Rx}
+use Rattle.br_model.specs.declared.steps.Step.{Step}
+use Rattle.br_model.specs.Plane.Chip.{notes, Chip}
 use Rattle.br_model.specs.Forward.Class.{class}
 use Rattle.br_model.specs.Table.Cut.{deferred_count}
-use Rattle.br_model.specs.Table.DomainPorts.{is_in_domain}
-use Rattle.br_model.specs.Table.Domains.{Domains, chip}
+use Rattle.br_model.specs.Table.Domains.{Domains, chip, domain_of}
 use Rattle.br_model.specs.Wire.Frames.{frame}
 use Rattle.br_model.specs.Forward.Leave.{leave}
 use Rattle.br_model.specs.Table.Limits.{most_waiting}
@@ -48,13 +29,12 @@ use Rattle.br_model.specs.Table.Setup.{Setup}
 use Rattle.br_model.specs.Forward.Shares.{chip_out, mark_of, soft_out}
 use Rattle.br_model.specs.Table.Table.{Table, table}
 use Rattle.br_model.specs.Theorems.Agreement.{is_there, is_overrun, IsSettled, IsUndisturbed}
-use Rattle.br_model.specs.Plane.Entering.{waits, goes_on, enters_chip, enters_as, class_of}
+use Rattle.br_model.specs.Plane.Entering.{waits, goes_on, enters_chip, enters_as, class_of, enters_by, chip_of}
 use Rattle.br_model.specs.Theorems.Invariants.{frames_of, IsWorld}
 use Rattle.br_model.specs.Plane.Runs.{run, then_step}
 use Rattle.br_model.specs.Plane.Sending.{Sent, in_port_order, sent_of, software_share}
 use Rattle.br_model.specs.Plane.Steps.{world_step}
-use Rattle.br_model.specs.Plane.World.{World, Waiting, Holding, Stepped, first_world, table_at, table_of_chip, sent}
->>>>>>> main
+use Rattle.br_model.specs.Plane.World.{World, Waiting, Holding, Stepped, first_world, table_at, table_of_chip, sent, with_chip}
 use Rattle.br_model.proofs.Cuts.{cut-all}
 use Rattle.br_model.proofs.PlaneApplied.{run-world}
 use Rattle.br_model.proofs.PlaneChips.{chip_of-declared}

@@ -2,15 +2,9 @@
 use Rattle.std.proofs.Common.{◌≡◌, ℕ, ◌+◌, true, false, cond, List, [], ◌∷◌, ◌++◌, length, map, drop, Option, None, Some, refl, sym, ap, ◌∙◌, subst, take}
 use Rattle.std.proofs.lemmas.Bool.{eqb-true}
 use Rattle.std.proofs.lemmas.List.{append-nil}
-<<<<<<< HEAD
-use Rattle.std.specs.List.{AllByRecursion, fold, list_any}
-use Rattle.std.specs.Prelude.{nat_lt, ◌==◌, if◌then◌else◌, is_some}
-use Rattle.std.specs.Option.{option_map, option_to_list}
-=======
-use Rattle.std.specs.List.{fold}
-use Rattle.std.specs.Prelude.{◌==◌, nat_lt}
-use Rattle.std.specs.Option.{option_to_list}
->>>>>>> main
+use Rattle.std.specs.List.{fold, AllByRecursion, list_any}
+use Rattle.std.specs.Prelude.{◌==◌, nat_lt, if◌then◌else◌, is_some}
+use Rattle.std.specs.Option.{option_to_list, option_map}
 use Rattle.std.specs.declared.result.Result.{Result}
 use Rattle.std.specs.declared.result.Result.TheVariants.{Ok, Err}
 use Rattle.br_model.specs.declared.change.Change.{Change}
@@ -23,30 +17,9 @@ use Rattle.br_model.specs.declared.steps.Event.TheVariants as events
 use Rattle.br_model.specs.declared.steps.Refusal.{Refusal}
 use Rattle.br_model.specs.declared.steps.Refusal.TheVariants.{NoSuchPoint}
 use Rattle.br_model.specs.declared.transcript.Line.TheVariants.{Overrun}
-<<<<<<< HEAD
-use Rattle.br_model.specs.Chip.{Chip, first_chip, first_chips, applies, notes}
-use Rattle.br_model.specs.Cut.{cut, deferred_of, synchronous_of}
-use Rattle.br_model.specs.Domains.{domain_of, chip_domains, has_chip}
-use Rattle.br_model.specs.Frames.{frame}
-use Rattle.br_model.specs.Learning.{Triple}
-use Rattle.br_model.specs.Limits.{most_waiting}
-use Rattle.br_model.specs.Reaction.{Reaction}
-use Rattle.br_model.specs.Setup.{Setup}
-use Rattle.br_model.specs.Shares.{mark_of}
-use Rattle.br_model.specs.Table.{table}
-use Rattle.br_model.specs.Plane.Applied.{turned_in, applied_in, then_applied, applied}
-use Rattle.br_model.specs.Plane.ChipSteps.{turns_to, turns, tells, reports, swept, sweeps}
-use Rattle.br_model.specs.Plane.Entering.{waits, goes_on, enters_by, enters_as, class_of, chip_of}
-use Rattle.br_model.specs.Plane.Invariants.{IsWorld}
-use Rattle.br_model.specs.Plane.Runs.{run, then_step}
-use Rattle.br_model.specs.Plane.Serving.{posts, serves, holds, held_with, lets_go, is_point, posts_held, posts_at}
-use Rattle.br_model.specs.Plane.Steps.{Step, Rx, Cmd, Now, Serve, Hold, Post, Turn, Report, Sweep, Publish, world_step}
-use Rattle.br_model.specs.Plane.World.{World, Waiting, Holding, Stepped, first_world, chip_at, with_chip, table_of_chip, next_of, answered, reacts, refused}
-=======
-use Rattle.br_model.specs.Plane.Chip.{notes}
+use Rattle.br_model.specs.Plane.Chip.{notes, Chip, first_chip, first_chips, applies}
 use Rattle.br_model.specs.Table.Cut.{cut, deferred_of, synchronous_of}
-use Rattle.br_model.specs.Table.DomainPorts.{is_in_domain}
-use Rattle.br_model.specs.Table.Domains.{chip}
+use Rattle.br_model.specs.Table.Domains.{chip, domain_of, chip_domains, has_chip}
 use Rattle.br_model.specs.Wire.Frames.{frame}
 use Rattle.br_model.specs.Control.Learning.{Triple}
 use Rattle.br_model.specs.Table.Limits.{most_waiting}
@@ -56,15 +29,14 @@ use Rattle.br_model.specs.Forward.Shares.{mark_of}
 use Rattle.br_model.specs.Table.Table.{table}
 use Rattle.br_model.specs.Theorems.Applied.{applied_in, turned_in, then_applied, applied}
 use Rattle.br_model.specs.Plane.ChipSteps.{turns_to, turns, tells, reports, swept, sweeps}
-use Rattle.br_model.specs.Plane.Entering.{waits, goes_on, enters_chip, enters_as, class_of}
+use Rattle.br_model.specs.Plane.Entering.{waits, goes_on, enters_as, class_of, enters_by, chip_of}
 use Rattle.br_model.specs.Theorems.Invariants.{IsWorld}
 use Rattle.br_model.specs.Plane.Runs.{run, then_step}
 use Rattle.br_model.specs.Plane.Serving.{posts, serves, holds, held_with, lets_go, is_point, posts_held, posts_at}
 use Rattle.br_model.specs.Plane.Steps.{world_step}
 use Rattle.br_model.specs.declared.steps.Step.{Step}
 use Rattle.br_model.specs.declared.steps.Step.TheVariants.{Rx, Cmd, Now, Serve, Hold, Post, Turn, Report, Sweep, Publish}
-use Rattle.br_model.specs.Plane.World.{World, Waiting, Holding, Stepped, first_world, chip_at, next_of, table_of_chip, answered, reacts, refused}
->>>>>>> main
+use Rattle.br_model.specs.Plane.World.{World, Waiting, Holding, Stepped, first_world, chip_at, next_of, table_of_chip, answered, reacts, refused, with_chip}
 use Rattle.br_model.proofs.ApplyingLaws.{after_accept, after_turn, once_after_accept, once_after_turn}
 use Rattle.br_model.proofs.PlaneChips.{chip-dom, chip-own, chip-there, put-same, put-other, CountsStay, put-counts, counts-same, counted-before, chip_of-at}
 use Rattle.br_model.proofs.PlaneKept.{first-world, step-world, notes-keeps, hit_by-keeps, chip-stands}

@@ -20,23 +20,8 @@ use Rattle.br_model.specs.declared.steps.Refusal.{Refusal}
 use Rattle.br_model.specs.declared.steps.Refusal.TheVariants.{NoSuchPoint}
 use Rattle.br_model.specs.declared.bpdu.BpduMsg.{BpduMsg}
 use Rattle.br_model.specs.declared.transcript.Line.TheVariants.{Overrun, Done}
-<<<<<<< HEAD
-use Rattle.br_model.specs.Chip.{Chip, notes}
-use Rattle.br_model.specs.DomainPorts.{is_marked}
-use Rattle.br_model.specs.Domains.{Domains, domain_of, foreign}
-use Rattle.br_model.specs.Frames.{frame}
-use Rattle.br_model.specs.Learning.{Triple}
-use Rattle.br_model.specs.Limits.{most_waiting}
-use Rattle.br_model.specs.Maps.{has}
-use Rattle.br_model.specs.Reaction.{Reaction}
-use Rattle.br_model.specs.Setup.{Setup}
-use Rattle.br_model.specs.Leave.{leave}
-use Rattle.br_model.specs.Shares.{chip_out, chip_out_by, within, mark_of, soft_out}
-use Rattle.br_model.specs.Table.{Table, table}
-use Rattle.br_model.proofs.PlaneChips.{chip_of-declared}
-=======
 use Rattle.br_model.specs.Plane.Chip.{Chip, applies, notes}
-use Rattle.br_model.specs.Table.DomainPorts.{is_in_domain, is_marked}
+use Rattle.br_model.specs.Table.DomainPorts.{is_marked}
 use Rattle.br_model.specs.Table.Domains.{Domains, chip, domain_of, foreign}
 use Rattle.br_model.specs.Wire.Frames.{frame}
 use Rattle.br_model.specs.Control.Learning.{Triple}
@@ -47,16 +32,12 @@ use Rattle.br_model.specs.Table.Setup.{Setup}
 use Rattle.br_model.specs.Forward.Leave.{leave}
 use Rattle.br_model.specs.Forward.Shares.{chip_out, chip_out_by, within, mark_of, soft_out}
 use Rattle.br_model.specs.Table.Table.{Table, table}
->>>>>>> main
+use Rattle.br_model.proofs.PlaneChips.{chip_of-declared}
 use Rattle.br_model.proofs.PlaneKept.{counted-world}
 use Rattle.br_model.proofs.PlaneLists.{same-some, find-passes, find-each}
 use Rattle.br_model.proofs.PlaneShares.{ascends-filter, ascends-leave, times-ascends, times-within}
 use Rattle.br_model.specs.Plane.ChipSteps.{turns_to, turns, tells, reports, swept, sweeps}
-<<<<<<< HEAD
-use Rattle.br_model.specs.Plane.Entering.{waits, goes_on, enters_chip, enters_by, enters_as, class_of, chip_of}
-=======
-use Rattle.br_model.specs.Plane.Entering.{waits, goes_on, enters_chip, enters_as, class_of}
->>>>>>> main
+use Rattle.br_model.specs.Plane.Entering.{waits, goes_on, enters_chip, enters_as, class_of, enters_by, chip_of}
 use Rattle.br_model.specs.Plane.Serving.{posts, serves, holds, held_with, lets_go, is_point, posts_held, posts_at}
 use Rattle.br_model.specs.Plane.Steps.{does, world_step}
 use Rattle.br_model.specs.declared.steps.Step.{Step}

@@ -27,30 +27,10 @@ use Rattle.br_model.specs.declared.steps.Event.TheVariants as events
 use Rattle.br_model.specs.declared.steps.Refusal.{Refusal}
 use Rattle.br_model.specs.declared.steps.Refusal.TheVariants.{NoSuchPoint}
 use Rattle.br_model.specs.declared.transcript.Line.TheVariants.{Overrun}
-<<<<<<< HEAD
-use Rattle.br_model.specs.Chip.{Chip, first_chip, applies, same_triple, offered, offers, hit, hit_by, hits_entry, notes, report, hit_of}
-use Rattle.br_model.specs.Cut.{deferred_of}
-use Rattle.br_model.specs.DomainPorts.{is_in_domain}
-use Rattle.br_model.specs.Domains.{Domains, domain_of, chip_domains, has_chip}
-use Rattle.br_model.specs.Frames.{frame}
-use Rattle.br_model.specs.Learning.{Address, Triple}
-use Rattle.br_model.specs.Limits.{most_reports, most_waiting}
-use Rattle.br_model.specs.Maps.{pair_cmp, has}
-use Rattle.br_model.specs.Reaction.{Reaction}
-use Rattle.br_model.specs.Setup.{Setup}
-use Rattle.br_model.specs.Shares.{mark_of}
-use Rattle.br_model.specs.Table.{Table}
-use Rattle.br_model.specs.Plane.ChipSteps.{turns_to, turns, tells, reports, swept, sweeps}
-use Rattle.br_model.specs.Plane.Entering.{waits, goes_on, enters_by, enters_as, class_of, chip_of}
-use Rattle.br_model.specs.Plane.Invariants.{frames_of, has_own_mark, IsFrame, FramesStand, ReportsStand, ChipStands, IsWorld}
-use Rattle.br_model.specs.Plane.Serving.{posts, serves, holds, held_with, lets_go, is_point, posts_held, posts_at}
-use Rattle.br_model.specs.Plane.Steps.{Step, Rx, Cmd, Now, Serve, Hold, Post, Turn, Report, Sweep, Publish, publishes, does, world_step}
-use Rattle.br_model.specs.Plane.World.{World, Waiting, Holding, first_world, chip_at, with_chip, table_of_chip, next_of, Stepped, accepts, answered, reacts, refused}
-=======
-use Rattle.br_model.specs.Plane.Chip.{Chip, same_triple, offered, offers, hit, hit_by, hits_entry, notes, report, hit_of}
+use Rattle.br_model.specs.Plane.Chip.{Chip, same_triple, offered, offers, hit, hit_by, hits_entry, notes, report, hit_of, first_chip, applies}
 use Rattle.br_model.specs.Table.Cut.{deferred_of}
 use Rattle.br_model.specs.Table.DomainPorts.{is_in_domain}
-use Rattle.br_model.specs.Table.Domains.{Domains, domain_of, chip}
+use Rattle.br_model.specs.Table.Domains.{Domains, domain_of, chip, chip_domains, has_chip}
 use Rattle.br_model.specs.Wire.Frames.{frame}
 use Rattle.br_model.specs.Control.Learning.{Address, Triple}
 use Rattle.br_model.specs.Table.Limits.{most_reports, most_waiting}
@@ -60,14 +40,13 @@ use Rattle.br_model.specs.Table.Setup.{Setup}
 use Rattle.br_model.specs.Forward.Shares.{mark_of}
 use Rattle.br_model.specs.Table.Table.{Table}
 use Rattle.br_model.specs.Plane.ChipSteps.{turns_to, turns, tells, reports, swept, sweeps}
-use Rattle.br_model.specs.Plane.Entering.{waits, goes_on, enters_chip, enters_as, class_of}
-use Rattle.br_model.specs.Theorems.Invariants.{frames_of, has_own_mark, IsFrame, FramesStand, ReportsStand, IsWorld}
+use Rattle.br_model.specs.Plane.Entering.{waits, goes_on, enters_as, class_of, enters_by, chip_of}
+use Rattle.br_model.specs.Theorems.Invariants.{frames_of, has_own_mark, IsFrame, FramesStand, ReportsStand, IsWorld, ChipStands}
 use Rattle.br_model.specs.Plane.Serving.{posts, serves, holds, held_with, lets_go, is_point, posts_held, posts_at}
 use Rattle.br_model.specs.Plane.Steps.{publishes, does, world_step}
 use Rattle.br_model.specs.declared.steps.Step.{Step}
 use Rattle.br_model.specs.declared.steps.Step.TheVariants.{Rx, Cmd, Now, Serve, Hold, Post, Turn, Report, Sweep, Publish}
-use Rattle.br_model.specs.Plane.World.{World, Waiting, Holding, first_world, chip_at, next_of, table_of_chip, Stepped, accepts, answered, reacts, refused}
->>>>>>> main
+use Rattle.br_model.specs.Plane.World.{World, Waiting, Holding, first_world, chip_at, next_of, table_of_chip, Stepped, accepts, answered, reacts, refused, with_chip}
 use Rattle.br_model.proofs.ApplyingLaws.{deferred_count-append}
 use Rattle.br_model.proofs.PairKeys.{pair_total}
 use Rattle.br_model.proofs.PlaneChips.{doms, chip-each, has-chip, put-doms, put-all, chip_of-at}

@@ -11,23 +11,13 @@ use Rattle.std.specs.Str.{bytes_eq}
 use Rattle.std.proofs.lemmas.Bool.{eqb-true, not-true}
 use Rattle.std.proofs.lemmas.Slice.Eq.{bytes_eq-Decides}
 use Rattle.br_model.specs.declared.scenario.LineWhy.TheVariants as why
-<<<<<<< HEAD
-use Rattle.br_model.specs.Domains.{host, last_port}
-use Rattle.br_model.specs.Operands.{number, number_in, port_number, port_name, device, found, unless}
-use Rattle.br_model.specs.Roster.{Entry, has_number, port_named, is_name, is_name_byte, host_name, longest_name}
-use Rattle.br_model.specs.ScenarioText.{name_of, device_text}
-use Rattle.br_model.specs.Words.{Word, is_word}
-use Rattle.br_model.specs.WrittenSteps.{is_device}
-use Rattle.br_model.specs.Declarations.{are_declared, fits_beside}
-=======
-use Rattle.br_model.specs.Table.Domains.{host, last_port}
+use Rattle.br_model.specs.Table.Domains.{host, last_port, last_chip}
 use Rattle.br_model.specs.Text.Operands.{number, number_in, port_number, port_name, device, found, unless}
 use Rattle.br_model.specs.Text.Roster.{Entry, has_number, port_named, is_name, is_name_byte, host_name, longest_name}
 use Rattle.br_model.specs.Text.Spelling.{name_of, device_text}
 use Rattle.br_model.specs.Text.Words.{Word, is_word}
 use Rattle.br_model.specs.Text.Operands.{is_device}
 use Rattle.br_model.specs.Text.Declarations.{are_declared, fits_beside}
->>>>>>> main
 use Rattle.br_model.proofs.Words.{equal}
 use Rattle.br_model.proofs.WrittenNumbers.{decimal_read}
 use Rattle.br_model.proofs.WrittenWords.{is_letter, letters, is_proper, both}
@@ -51,32 +41,27 @@ among P e ports port here there h = by (e.port == port) refl
     by false is = there (ap (λ (b : Bool). b || has_number ports port) (sym is) ∙ h)
 
 -- what is known of a first entry
-<<<<<<< HEAD
 pub record Fits (e : Entry) (ports : List Entry) : Type 0 where
   pub low : nat_le 1 e.port ≡ true
   pub high : nat_le e.port last_port ≡ true
+  pub of_chip : nat_le e.dom last_chip ≡ true
   pub named : is_name e.name ≡ true
   pub new : has_number ports e.port ≡ false
   pub alone : is_some (port_named ports e.name) ≡ false
   pub rest : are_declared ports ≡ true
-=======
-record Fits (e : Entry) (ports : List Entry) : Type 0 where
-  low : nat_le 1 e.port ≡ true
-  high : nat_le e.port last_port ≡ true
-  named : is_name e.name ≡ true
-  alone : is_some (port_named ports e.name) ≡ false
-  rest : are_declared ports ≡ true
->>>>>>> main
 
 pub fits : (e : Entry) (ports : List Entry) → are_declared (e ∷ ports) ≡ true → Fits e ports
 fits e ports h =
     let all = first_so (fits_beside ports e) (are_declared ports) h in
-    let from_high = second_so (nat_le 1 e.port) (nat_le e.port last_port && (is_name e.name && (not (has_number ports e.port) && not (is_some (port_named ports e.name))))) all in
-    let from_name = second_so (nat_le e.port last_port) (is_name e.name && (not (has_number ports e.port) && not (is_some (port_named ports e.name)))) from_high in
-    let news = second_so (is_name e.name) (not (has_number ports e.port) && not (is_some (port_named ports e.name))) from_name in
+    let free : Bool = not (has_number ports e.port) && not (is_some (port_named ports e.name)) in
+    let from_high = second_so (nat_le 1 e.port) (nat_le e.port last_port && (nat_le e.dom last_chip && (is_name e.name && free))) all in
+    let from_dom = second_so (nat_le e.port last_port) (nat_le e.dom last_chip && (is_name e.name && free)) from_high in
+    let from_name = second_so (nat_le e.dom last_chip) (is_name e.name && free) from_dom in
+    let news = second_so (is_name e.name) free from_name in
     record {
       low = first_so (nat_le 1 e.port) _ all;
       high = first_so (nat_le e.port last_port) _ from_high;
+      of_chip = first_so (nat_le e.dom last_chip) _ from_dom;
       named = first_so (is_name e.name) _ from_name;
       new = not-true _ (first_so (not (has_number ports e.port)) _ news);
       alone = not-true _ (second_so (not (has_number ports e.port)) _ news);
@@ -99,11 +84,7 @@ at_least (e ∷ ports) port all h =
 
 small_port : (port : ℕ) → nat_le port last_port ≡ true → port < 2 ^ 64
 small_port port h =
-<<<<<<< HEAD
-    let below : port ≤ 254 = grind arith in
-=======
     let below : port ≤ last_port = grind arith in
->>>>>>> main
     omega arith
 
 pub port_small : (ports : List Entry) (port : ℕ) → are_declared ports ≡ true → has_number ports port ≡ true → port < 2 ^ 64

@@ -5,6 +5,7 @@ pub mod Vlans
 pub mod Addresses
 pub mod Chip
 pub mod Hold
+pub mod Domains
 pub mod Tree
 pub mod TreeRows
 pub mod Groups

@@ -2,20 +2,6 @@
 ghost use Rattle.std.specs.Prelude.{◌≡◌, ℕ, true, List, ◌∷◌, ◌++◌, length, map, Ok};
 ghost use Rattle.br_model.specs.Text.IpWords.{address};
 ghost use Rattle.br_model.specs.declared.scenario.Said.{Said};
-<<<<<<< HEAD
-ghost use Rattle.br_model.specs.Runs.{told};
-ghost use Rattle.br_model.specs.Scenario.{Scenario, Going, read, scenario, section_length, takes, whole_says};
-ghost use Rattle.br_model.specs.WholeLines.{is_line};
-ghost use Rattle.br_model.specs.WorkedRows.{first_frame_text, first_frame_told, first_refusals_text, first_refusals_told, empty_scenario_text, empty_scenario_told};
-ghost use Rattle.br_model.specs.WorkedVlans.{priority_tag_text, priority_tag_told, edges_of_the_vlan_range_text, edges_of_the_vlan_range_told, isolated_ports_text, isolated_ports_told};
-ghost use Rattle.br_model.specs.WorkedAddresses.{address_moves_text, address_moves_told, local_address_text, local_address_told, published_point_text, published_point_told, destination_on_its_ingress_port_text, destination_on_its_ingress_port_told, ageing_text, ageing_told};
-ghost use Rattle.br_model.specs.WorkedChip.{unknown_unicast_split_text, unknown_unicast_split_told, two_points_differ_text, two_points_differ_told, moved_to_a_foreign_port_text, moved_to_a_foreign_port_told, moved_to_a_chip_port_text, moved_to_a_chip_port_told, port_down_and_up_text, port_down_and_up_told, isolated_ingress_text, isolated_ingress_told, plain_ingress_text, plain_ingress_told, bits_follow_a_foreign_port_text, bits_follow_a_foreign_port_told, sweep_text, sweep_told, hit_by_a_frame_text, hit_by_a_frame_told, refusals_without_post_text, refusals_without_post_told};
-ghost use Rattle.br_model.specs.WorkedCaptures.{capture_text, capture_told, bad_captures, bad_captures_told};
-ghost use Rattle.br_model.specs.WorkedHold.{hold_told, hold_lines};
-ghost use Rattle.br_model.specs.WorkedGroups.{address_words, address_words_read, groups_by_command_text, groups_by_command_told, bad_group_text, bad_group_told};
-ghost use Rattle.br_model.specs.WorkedDomains.{groups_deferred_text, groups_deferred_told, groups_at_once_text, groups_at_once_told, two_chips_text, two_chips_told, one_turn_less_text, one_turn_less_told, bad_domains, bad_domains_told};
-ghost use Rattle.br_model.specs.WorkedTree.{bpdu_at_a_chip_port_text, bpdu_at_a_chip_port_told, tie_and_lost_root_text, tie_and_lost_root_told};
-=======
 ghost use Rattle.br_model.specs.Program.Runs.{told};
 ghost use Rattle.br_model.specs.Text.Scenario.{Scenario, Going, read, scenario, section_length, takes, whole_says};
 ghost use Rattle.br_model.specs.Theorems.WholeLines.{is_line};
@@ -25,9 +11,9 @@ ghost use Rattle.br_model.specs.Worked.Addresses.{address_moves_text, address_mo
 ghost use Rattle.br_model.specs.Worked.Chip.{unknown_unicast_split_text, unknown_unicast_split_told, two_points_differ_text, two_points_differ_told, moved_to_a_foreign_port_text, moved_to_a_foreign_port_told, moved_to_a_chip_port_text, moved_to_a_chip_port_told, port_down_and_up_text, port_down_and_up_told, isolated_ingress_text, isolated_ingress_told, plain_ingress_text, plain_ingress_told, bits_follow_a_foreign_port_text, bits_follow_a_foreign_port_told, sweep_text, sweep_told, hit_by_a_frame_text, hit_by_a_frame_told, refusals_without_post_text, refusals_without_post_told};
 ghost use Rattle.br_model.specs.Worked.Captures.{capture_text, capture_told, bad_captures, bad_captures_told};
 ghost use Rattle.br_model.specs.Worked.Hold.{hold_told, hold_lines, no_chip_told, no_chip_lines};
+ghost use Rattle.br_model.specs.Worked.Domains.{groups_deferred_text, groups_deferred_told, groups_at_once_text, groups_at_once_told, two_chips_text, two_chips_told, one_turn_less_text, one_turn_less_told, bad_domains, bad_domains_told};
 ghost use Rattle.br_model.specs.Worked.Groups.{address_words, address_words_read, groups_by_command_text, groups_by_command_told, bad_group_text, bad_group_told};
 ghost use Rattle.br_model.specs.Worked.Tree.{bpdu_at_a_chip_port_text, bpdu_at_a_chip_port_told, tie_and_lost_root_text, tie_and_lost_root_told};
->>>>>>> main
 
 /// A line is read with its section, and what is behind them as if it stood alone.
 pub fn line_after_line()
@@ -212,7 +198,7 @@ pub fn one_turn_less()
     ensures { told one_turn_less_text ≡ one_turn_less_told }
 {}
 
-/// Ports above 254, domains above 4 and 0, and chips that aren't there are bad.
+/// Editions that there aren't, ports above the last one, domains above 4 and 0, and chips that aren't there are bad.
 pub fn bad_domains()
     ensures { map told bad_domains ≡ bad_domains_told }
 {}

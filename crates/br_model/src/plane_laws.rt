@@ -1,24 +1,9 @@
 //! Laws about the world of a bridge with chips. A law is a function that does nothing: its contract says it.
 ghost use Rattle.std.specs.Prelude.{◌≡◌, ◌≤◌, ℕ, true, List, ◌∷◌, ◌++◌, take, is_some, Ok, Some};
 ghost use Rattle.br_model.specs.declared.frame.Head.{Head};
-<<<<<<< HEAD
-ghost use Rattle.br_model.specs.Chip.{Chip};
-ghost use Rattle.br_model.specs.Domains.{Domains, domain_of, has_chip};
-ghost use Rattle.br_model.specs.Frames.{frame};
-ghost use Rattle.br_model.specs.Leave.{leave};
-ghost use Rattle.br_model.specs.Cut.{deferred_of, synchronous_of};
-ghost use Rattle.br_model.specs.Plane.Agreement.{IsSettled, IsUndisturbed};
-ghost use Rattle.br_model.specs.Plane.Applied.{applied};
-ghost use Rattle.br_model.specs.Plane.Runs.{run};
-ghost use Rattle.br_model.specs.Plane.Invariants.{IsWorld};
-ghost use Rattle.br_model.specs.Plane.OnceOnly.{LinesStand};
-ghost use Rattle.br_model.specs.Plane.Steps.{Step, Rx, world_step};
-ghost use Rattle.br_model.specs.Plane.World.{World, first_world, chip_at, table_of_chip};
-ghost use Rattle.br_model.specs.Setup.{Setup};
-=======
 ghost use Rattle.br_model.specs.declared.steps.Step.{Step};
 ghost use Rattle.br_model.specs.declared.steps.Step.TheVariants.{Rx};
-ghost use Rattle.br_model.specs.Table.Domains.{Domains, domain_of};
+ghost use Rattle.br_model.specs.Table.Domains.{Domains, domain_of, has_chip};
 ghost use Rattle.br_model.specs.Wire.Frames.{frame};
 ghost use Rattle.br_model.specs.Forward.Leave.{leave};
 ghost use Rattle.br_model.specs.Table.Cut.{deferred_of, synchronous_of};
@@ -28,9 +13,9 @@ ghost use Rattle.br_model.specs.Plane.Runs.{run};
 ghost use Rattle.br_model.specs.Theorems.Invariants.{IsWorld};
 ghost use Rattle.br_model.specs.Theorems.OnceOnly.{LinesStand};
 ghost use Rattle.br_model.specs.Plane.Steps.{world_step};
-ghost use Rattle.br_model.specs.Plane.World.{World, first_world, table_of_chip};
+ghost use Rattle.br_model.specs.Plane.World.{World, first_world, chip_at, table_of_chip};
 ghost use Rattle.br_model.specs.Table.Setup.{Setup};
->>>>>>> main
+ghost use Rattle.br_model.specs.Plane.Chip.{Chip};
 ghost use Rattle.br_model.specs.Plane.Sending.{times, sent_of, in_port_order, both_shares};
 ghost use Rattle.br_model.specs.Table.Table.{Table, table};
 

@@ -106,13 +106,6 @@ pub enum Step {
     Now(u64),
     /// The oldest frame that waits is decided and sent.
     Serve,
-<<<<<<< HEAD
-    /// The chip of the domain applies the next deferred change.
-    Turn(Dom),
-    /// The bridge is told the oldest report of that chip.
-    Report(Dom),
-    /// The bridge forgets the stations that that chip no longer sees.
-=======
     /// The oldest frame that waits is held. What is published now is its floor.
     Hold,
     /// The held frame with this id is decided, by the tables of its floor or of the point that is named, and sent.
@@ -122,7 +115,6 @@ pub enum Step {
     /// The bridge is told the oldest report of this domain's chip.
     Report(Dom),
     /// The bridge forgets the stations that this domain's chip no longer sees.
->>>>>>> main
     Sweep(Dom),
     /// The tables that frames are decided by become those of all accepted changes.
     Publish,

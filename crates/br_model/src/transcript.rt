@@ -3,7 +3,6 @@ use crate::bytes::Bytes;
 use crate::frame::{Class, FrameFault};
 use crate::numbers::Port;
 use crate::steps::Refusal;
-use lists::Items;
 
 /// One line of a transcript.
 #[derive(Drop)]
@@ -62,6 +61,3 @@ pub enum Line {
         waiting: u32,
     },
 }
-
-/// Lines in the order in which they are written.
-pub type Lines = Items<Line>;

@@ -5,23 +5,11 @@ ghost use Rattle.br_model.specs.declared.domains.Edition.{Edition};
 ghost use Rattle.br_model.specs.declared.group.Ip.{Ip};
 ghost use Rattle.br_model.specs.declared.scenario.Said.TheVariants.{Does};
 ghost use Rattle.br_model.specs.declared.steps.Step.{Step};
-<<<<<<< HEAD
-ghost use Rattle.br_model.specs.CommandForms.{step};
-ghost use Rattle.br_model.specs.Frames.{frame};
-ghost use Rattle.br_model.specs.LineForms.{line_says};
-ghost use Rattle.br_model.specs.Domains.{has_chip};
-ghost use Rattle.br_model.specs.Roster.{Entry, Roster, domains_of};
-ghost use Rattle.br_model.specs.WrittenSteps.{has_line, given, is_chip, is_ip, is_whole};
-ghost use Rattle.br_model.specs.Numbers.{is_multicast};
-ghost use Rattle.br_model.specs.Operands.{mac, group};
-ghost use Rattle.br_model.specs.ScenarioText.{mac_text, ip_text, shown, step_words};
-ghost use Rattle.br_model.specs.Declarations.{are_declared};
-ghost use Rattle.br_model.specs.Digits.{decimal_from, hex_of, bytes_from_hex};
-=======
 ghost use Rattle.br_model.specs.Text.CommandForms.{step};
 ghost use Rattle.br_model.specs.Wire.Frames.{frame};
 ghost use Rattle.br_model.specs.Text.LineForms.{line_says};
-ghost use Rattle.br_model.specs.Text.Roster.{Roster};
+ghost use Rattle.br_model.specs.Table.Domains.{chip_domains};
+ghost use Rattle.br_model.specs.Text.Roster.{Entry, Roster, chips_of, domains_of};
 ghost use Rattle.br_model.specs.Theorems.WrittenSteps.{given, is_whole};
 ghost use Rattle.br_model.specs.Data.Numbers.{is_multicast};
 ghost use Rattle.br_model.specs.Text.Operands.{mac, group, is_ip};
@@ -29,7 +17,6 @@ ghost use Rattle.br_model.specs.Text.ScenarioText.{has_line, step_words};
 ghost use Rattle.br_model.specs.Text.Spelling.{mac_text, ip_text, shown};
 ghost use Rattle.br_model.specs.Text.Declarations.{are_declared};
 ghost use Rattle.br_model.specs.Data.Digits.{decimal_from, hex_of, bytes_from_hex};
->>>>>>> main
 
 /// A number is read back from its digits.
 pub fn decimal_is_read()
@@ -66,5 +53,5 @@ pub fn frame_is_shown()
 
 /// The chips that a line may name are those that exist.
 pub fn chips_are_declared()
-    ensures { (edition : Edition) (ports : List Entry) (dom : ℕ) → are_declared ports ≡ true → has_chip (domains_of edition ports) dom ≡ is_chip ports dom }
+    ensures { (edition : Edition) (ports : List Entry) → are_declared ports ≡ true → chip_domains (domains_of edition ports) ≡ chips_of ports }
 {}

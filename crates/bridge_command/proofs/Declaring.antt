@@ -10,26 +10,19 @@ use Rattle.std.proofs.lemmas.Bool.{and_parts, and_from, or_parts, or_from, not-t
 use Rattle.std.proofs.lemmas.Grind.{fold-append}
 use Rattle.std.proofs.lemmas.List.Folds.{list_any-append}
 use Rattle.std.proofs.lemmas.Slice.Eq.{bytes_eq-Decides}
-<<<<<<< HEAD
 use Rattle.br_model.specs.declared.domains.Edition.{Edition}
-use Rattle.br_model.specs.Domains.{Domains, domain_of, host, software}
-use Rattle.br_model.specs.Maps.{get, put}
-use Rattle.br_model.specs.Roster.{Entry, has_number, port_named, domains_of, is_name}
-use Rattle.br_model.specs.Words.{Word}
-use Rattle.br_model.specs.Declarations.{fits_beside, are_declared}
-=======
-use Rattle.br_model.specs.Table.Domains.{Domains, domain_of, host, software}
-use Rattle.br_model.specs.Data.Maps.{put}
+use Rattle.br_model.specs.Table.Domains.{Domains, domain_of, host, software, last_port, last_chip}
+use Rattle.br_model.specs.Data.Maps.{get, put}
 use Rattle.br_model.specs.Text.Roster.{Entry, has_number, port_named, domains_of, is_name}
 use Rattle.br_model.specs.Text.Words.{Word}
 use Rattle.br_model.specs.Text.Declarations.{fits_beside, are_declared}
->>>>>>> main
 
 -- the parts of a port that fits
 
 pub record Fits (ports : List Entry) (e : Entry) : Type 0 where
   pub low : nat_le 1 e.port ≡ true
-  pub high : nat_le e.port 254 ≡ true
+  pub high : nat_le e.port last_port ≡ true
+  pub of_chip : nat_le e.dom last_chip ≡ true
   pub named : is_name e.name ≡ true
   pub free : has_number ports e.port ≡ false
   pub new : is_some (port_named ports e.name) ≡ false
@@ -40,11 +33,12 @@ parts ports e h =
     let b = and_parts _ _ a.1 in
     let c = and_parts _ _ b.1 in
     let d = and_parts _ _ c.1 in
-    record { low = a.0; high = b.0; named = c.0; free = not-true _ d.0; new = not-true _ d.1 }
+    let e = and_parts _ _ d.1 in
+    record { low = a.0; high = b.0; of_chip = c.0; named = d.0; free = not-true _ e.0; new = not-true _ e.1 }
 
 pub whole : (ports : List Entry) (e : Entry) → Fits ports e → fits_beside ports e ≡ true
 whole ports e h =
-    and_from _ _ h.low (and_from _ _ h.high (and_from _ _ h.named (and_from _ _ (not_from_false _ h.free) (not_from_false _ h.new))))
+    and_from _ _ h.low (and_from _ _ h.high (and_from _ _ h.of_chip (and_from _ _ h.named (and_from _ _ (not_from_false _ h.free) (not_from_false _ h.new)))))
 
 -- one port more
 
@@ -75,7 +69,7 @@ fewer : (x : Entry) (ports : List Entry) (e : Entry) → Fits (x ∷ ports) e �
 fewer x ports e h =
     let free = or_parts _ _ h.free in
     let new = by (bytes_eq e.name x.name) h.new in
-    (record { low = h.low; high = h.high; named = h.named; free = free.1; new = new.1 }, free.0, new.0)
+    (record { low = h.low; high = h.high; of_chip = h.of_chip; named = h.named; free = free.1; new = new.1 }, free.0, new.0)
   where
     by : (b : Bool) → is_some (cond b (Some x.port) (port_named ports e.name)) ≡ false → (b ≡ false) × (is_some (port_named ports e.name) ≡ false)
     by true h = absurd (cc)
@@ -85,6 +79,7 @@ beside_more : (x : Entry) (ports : List Entry) (e : Entry) → Fits ports x → 
 beside_more x ports e h p w = record {
   low = h.low;
   high = h.high;
+  of_chip = h.of_chip;
   named = h.named;
   free = number-append ports e x.port ∙ or_from _ _ h.free (or_from _ _ (apart x.port e.port p) refl);
   new = named-append ports e x.name ∙ or_from _ _ h.new (other e.name x.name w);

@@ -1,18 +1,14 @@
 -- Declared ports, place by place.
-use Rattle.std.proofs.Common.{◌≡◌, ℕ, zero, suc, ◌+◌, ◌<◌, ◌≤◌, ◌==◌, true, false, ◌||◌, cond, List, [], ◌∷◌, length, drop, slice_get, Some, refl, ap, sym, ◌∙◌, add-one, arith, is_some}
-use Rattle.std.specs.List.{list_any}
+use Rattle.std.proofs.Common.{◌≡◌, ℕ, zero, suc, ◌+◌, ◌<◌, ◌≤◌, ◌==◌, Bool, true, false, not, ◌||◌, ◌&&◌, cond, List, [], ◌∷◌, length, map, drop, slice_get, Some, refl, ap, sym, ◌∙◌, add-one, arith, is_some}
+use Rattle.std.specs.List.{filter, list_any}
 use Rattle.std.specs.Option.{option_map}
-<<<<<<< HEAD
-use Rattle.br_model.specs.Roster.{Entry, has_number}
-use Rattle.br_model.specs.ScenarioText.{name_of}
-use Rattle.br_model.specs.Words.{Word}
-use Rattle.bridge_command.specs.Seen.{is_port_at, is_domain_at}
-=======
-use Rattle.br_model.specs.Text.Roster.{Entry, has_number}
+use Rattle.std.proofs.lemmas.Bool.{eqb-true}
+use Rattle.br_model.specs.Table.Domains.{first_chip_domain, last_chip, software}
+use Rattle.br_model.specs.Text.Roster.{Entry, has_number, is_chip}
 use Rattle.br_model.specs.Text.Spelling.{name_of}
 use Rattle.br_model.specs.Text.Words.{Word}
-use Rattle.bridge_command.specs.Seen.{is_port_at}
->>>>>>> main
+use Rattle.br_model.proofs.DeclaredChips.{any-map}
+use Rattle.bridge_command.specs.Seen.{is_port_at, is_domain_at}
 
 -- the port stands there
 
@@ -63,3 +59,33 @@ no_domain [] zero dom h = refl
 no_domain [] (suc i) dom h = refl
 no_domain (x ∷ ports) zero dom h = absurd (omega arith)
 no_domain (x ∷ ports) (suc i) dom h = no_domain ports i dom (omega arith)
+
+-- the test of a list's numbers, and of a domain
+
+any-filter : (t : ℕ → Bool) (ds : List ℕ) (dom : ℕ) → list_any (λ d. d == dom) (filter t ds) ≡ (list_any (λ d. d == dom) ds && t dom)
+any-filter t [] dom = refl
+any-filter t (d ∷ ds) dom = by (d == dom) (t d) refl refl
+  where
+    abbrev goes : Bool → Bool → Type 0
+    goes same kept = list_any (λ x. x == dom) (cond kept (d ∷ filter t ds) (filter t ds)) ≡ ((same || list_any (λ x. x == dom) ds) && t dom)
+
+    rest = any-filter t ds dom
+
+    by : (same kept : Bool) → (d == dom) ≡ same → t d ≡ kept → goes same kept
+    by true true is h = ap (λ b. b || list_any (λ x. x == dom) (filter t ds)) is ∙ sym h ∙ ap t (eqb-true _ _ is)
+    by true false is h = rest ∙ (let off : t dom ≡ false = ap t (sym (eqb-true _ _ is)) ∙ h in ap (λ b. list_any (λ x. x == dom) ds && b) off ∙ none (list_any (λ x. x == dom) ds) ∙ sym off)
+      where
+        none : (b : Bool) → (b && false) ≡ false
+        none true = refl
+        none false = refl
+    by false true is h = ap (λ b. b || list_any (λ x. x == dom) (filter t ds)) is ∙ rest
+    by false false is h = rest
+
+pub is_chip_by : (ports : List Entry) (dom : ℕ) → dom ≤ last_chip → is_chip ports dom ≡ ((not (dom == software)) && (dom == first_chip_domain || list_any (λ (e : Entry). e.dom == dom) ports))
+is_chip_by ports dom few =
+    any-filter (λ d. d == first_chip_domain || list_any (λ e. e == d) (map (λ (e : Entry). e.dom) ports)) (1 ∷ 2 ∷ 3 ∷ 4 ∷ []) dom
+    ∙ ap (λ b. b && (dom == first_chip_domain || list_any (λ e. e == dom) (map (λ (e : Entry). e.dom) ports))) (four dom few)
+    ∙ ap (λ b. not (dom == software) && (dom == first_chip_domain || b)) (any-map (λ (e : Entry). e.dom) dom ports)
+  where
+    four : (dom : ℕ) → dom ≤ 4 → list_any (λ d. d == dom) (1 ∷ 2 ∷ 3 ∷ 4 ∷ []) ≡ not (dom == 0)
+    four dom few = grind arith

@@ -2,25 +2,15 @@
 ghost use Rattle.std.specs.Prelude.{◌≡◌, ◌≢◌, ◌≤◌, ◌==◌, length, OnOk, OnErr, IfOk, IfSome, slice_get, true, false, not, ◌&&◌, Some, Ok};
 ghost use Rattle.std.specs.List.{list_any};
 ghost use Rattle.std.specs.Option.{option_map, is_some};
-<<<<<<< HEAD
 ghost use Rattle.br_model.specs.declared.scenario.Said.TheVariants.{Opens, Bridge, Declares};
-ghost use Rattle.br_model.specs.Domains.{host};
-ghost use Rattle.br_model.specs.Operands.{number as number_of, chip_domain, port_name, device as device_of, new_port as new_port_of, new_name as new_name_of, port_number as port_number_of};
-ghost use Rattle.br_model.specs.Roster.{first_roster, domains_of, has_domain, has_number, port_named, is_name as is_a_name};
-ghost use Rattle.br_model.specs.Scenario.{declared};
-ghost use Rattle.br_model.specs.ScenarioText.{name_of};
-ghost use Rattle.br_model.specs.Declarations.{fits_beside, are_declared};
-ghost use Rattle.bridge_command.specs.Seen.{in_place, stands_at, is_port_at, is_domain_at, OrNoMemory};
-=======
-ghost use Rattle.br_model.specs.declared.scenario.Said.TheVariants.{Bridge, Declares};
-ghost use Rattle.br_model.specs.Table.Domains.{host, last_port};
-ghost use Rattle.br_model.specs.Text.Operands.{port_name, device as device_of, new_port as new_port_of, new_name as new_name_of, port_number as port_number_of};
-ghost use Rattle.br_model.specs.Text.Roster.{first_roster, domains_of, has_number, port_named, is_name as is_a_name};
+ghost use Rattle.br_model.specs.Table.Domains.{first_chip_domain, host, last_chip, last_port};
+ghost use Rattle.br_model.specs.Text.LineForms.{of_chip};
+ghost use Rattle.br_model.specs.Text.Operands.{number as number_of, chip_domain, port_name, device as device_of, new_port as new_port_of, new_name as new_name_of, port_number as port_number_of};
+ghost use Rattle.br_model.specs.Text.Roster.{first_roster, domains_of, is_chip, has_number, port_named, is_name as is_a_name};
 ghost use Rattle.br_model.specs.Text.Scenario.{declared};
 ghost use Rattle.br_model.specs.Text.Spelling.{name_of};
 ghost use Rattle.br_model.specs.Text.Declarations.{fits_beside, are_declared};
-ghost use Rattle.bridge_command.specs.Seen.{in_place, stands_at, is_port_at, OrNoMemory};
->>>>>>> main
+ghost use Rattle.bridge_command.specs.Seen.{in_place, stands_at, is_port_at, is_domain_at, OrNoMemory};
 
 use crate::operands::{is_decimal, is_name, number, number_up_to};
 use br_model::NoMemory;
@@ -33,11 +23,7 @@ use std::alloc::Global;
 use std::marker::Model;
 
 /// The place that a scenario has reached, whether its command is `check`, the bridge's own address, and the declared ports, seen
-<<<<<<< HEAD
-/// as their list in the order of their lines. Each has a number from 1 to 254 and a name of its own.
-=======
 /// as their list in the order of their lines. Each has a number from 1 to `Port::LAST` and a name of its own.
->>>>>>> main
 #[derive(Drop)]
 pub struct Roster {
     place: Place,
@@ -89,6 +75,7 @@ impl Roster {
         self.check
     }
 
+    /// The edition of the scenario.
     pub fn edition(&self) -> Edition
         ensures { result ≡ self.now.edition }
     {
@@ -102,17 +89,10 @@ impl Roster {
         self.own
     }
 
-<<<<<<< HEAD
-    /// How many ports are declared: 254 at most.
-    pub fn len(&self) -> usize
-        ensures value { result ≡ length self.now.ports }
-        ensures most { result ≤ 254 }
-=======
     /// How many ports are declared: at most as many as `Port::LAST`.
     pub fn len(&self) -> usize
         ensures value { result ≡ length self.now.ports }
         ensures most { result ≤ last_port }
->>>>>>> main
         ensures declared { are_declared self.now.ports ≡ true }
     {
         self.ports.len()
@@ -244,11 +224,7 @@ impl Roster {
         if !is_decimal(word) {
             return Err(LineWhy::Number);
         }
-<<<<<<< HEAD
-        let Some(number) = number_up_to(word, 254) else {
-=======
         let Some(number) = number_up_to(word, u64::from(Port::LAST)) else {
->>>>>>> main
             return Err(LineWhy::Port);
         };
         match Port::new(number as u8) {
@@ -263,22 +239,19 @@ impl Roster {
         ensures value { result ≡ new_port_of self.now.ports word.now }
         ensures fits { IfOk result (λ p. (p ≢ host) × (has_number self.now.ports p ≡ false)) }
     {
-<<<<<<< HEAD
-        let number = number(word, 1, 254)?;
-=======
         let number = number(word, 1, u64::from(Port::LAST))?;
->>>>>>> main
         match Port::new(number as u8) {
             Some(port) if !self.is_declared(port) => Ok(port),
             _ => Err(LineWhy::Port),
         }
     }
 
-    /// The domain of a switch chip.
-    pub fn new_chip(&self, word: &str) -> Result<Dom, LineWhy>
-        ensures { result ≡ number_of 1 4 word.now }
+    /// A domain that a switch chip can have.
+    pub fn chip_domain(&self, word: &str) -> Result<Dom, LineWhy>
+        ensures value { result ≡ number_of first_chip_domain last_chip word.now }
+        ensures range { IfOk result (λ dom. of_chip dom ≡ true) }
     {
-        let number = number(word, 1, 4)?;
+        let number = number(word, u64::from(Dom::CHIP.number()), u64::from(Dom::LAST))?;
         match Dom::new(number as u8) {
             Some(dom) => Ok(dom),
             None => unreachable!(),
@@ -286,22 +259,23 @@ impl Roster {
     }
 
     /// The domain of a switch chip that exists.
-    #[tactic(auto, unfolding(br_model::specs::Operands::chip_domain))]
+    #[tactic(auto, unfolding(br_model::specs::Text::Operands::chip_domain))]
     pub fn chip(&self, word: &str) -> Result<Dom, LineWhy>
-        ensures { result ≡ chip_domain self.now.ports word.now }
+        ensures value { result ≡ chip_domain self.now.ports word.now }
+        ensures range { IfOk result (λ dom. of_chip dom ≡ true) }
     {
-        let dom = self.new_chip(word)?;
-        if self.has_domain(dom) {
+        let dom = self.chip_domain(word)?;
+        if self.has_chip(dom) {
             Ok(dom)
         } else {
             Err(LineWhy::Port)
         }
     }
 
-    fn has_domain(&self, dom: Dom) -> bool
-        ensures { result ≡ has_domain self.now.ports dom }
+    fn has_chip(&self, dom: Dom) -> bool
+        ensures { result ≡ is_chip self.now.ports dom }
     {
-        dom == Dom::CHIP || self.has_port_in(dom)
+        dom == Dom::CHIP || (dom != Dom::SOFTWARE && self.has_port_in(dom))
     }
 
     /// Whether a port of the domain is declared.

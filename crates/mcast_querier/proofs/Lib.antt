@@ -1,4 +1,4 @@
-pub mod Spelled
+pub mod Bytes
 pub mod Sums
 pub mod Silence
 pub mod Sized

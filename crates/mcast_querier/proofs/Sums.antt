@@ -5,7 +5,7 @@ use Rattle.std.specs.Int.{byte_at}
 use Rattle.std.specs.List.{fold, list_all}
 use Rattle.br_model.specs.Wire.Checksum.{is_summed, ones_add, sixteens}
 use Rattle.mcast_querier.specs.Queries.{checksum}
-use Rattle.mcast_querier.proofs.Spelled.{is_byte}
+use Rattle.mcast_querier.proofs.Bytes.{is_byte}
 
 abbrev total : List ℕ → ℕ
 total [] = 0

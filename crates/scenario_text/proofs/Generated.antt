@@ -7,20 +7,12 @@ use Rattle.std.proofs.lemmas.Grind.{flat_map-append}
 use Rattle.std.proofs.lemmas.List.{append-nil, take_all}
 use Rattle.br_model.specs.declared.steps.Step.{Step}
 use Rattle.br_model.specs.declared.steps.Step.TheVariants.{Rx, Now, Serve, Turn, Report, Publish}
-<<<<<<< HEAD
-use Rattle.br_model.specs.Digits.{hex_digit, hex_of}
-use Rattle.br_model.specs.Frames.{longest_frame}
-use Rattle.br_model.specs.Domains.{chip}
-use Rattle.br_model.specs.Generator.{drawn, number_of, station, broadcast, destination, frame, each, frame_steps, frames_from, ports, first_steps, head, made}
-use Rattle.br_model.specs.ScenarioText.{step_text, shown}
-=======
 use Rattle.br_model.specs.Data.Digits.{hex_digit, hex_of}
-use Rattle.br_model.specs.Table.Domains.{chip}
+use Rattle.br_model.specs.Table.Domains.{first_chip_domain}
 use Rattle.br_model.specs.Wire.Frames.{longest_frame}
 use Rattle.br_model.specs.Program.Generator.{drawn, number_of, station, broadcast, destination, frame, each, frame_steps, frames_from, ports, first_steps, head, made}
 use Rattle.br_model.specs.Text.ScenarioText.{step_text}
 use Rattle.br_model.specs.Text.Spelling.{shown}
->>>>>>> main
 use Rattle.scenario_text.proofs.Joins.{three_parts}
 use Rattle.scenario_text.specs.Generating.{At, first, after_frame, next_steps, steps_left, lines_of, opening_text, text_left}
 
@@ -113,24 +105,24 @@ lines_join a b t e = ap (λ (u : List ℕ). lines_of a ++ u) e ∙ sym (flat_map
 
 pub others_parts : (i : ℕ) (s0 s1 s2 s3 s4 : List ℕ)
     → s1 ≡ s0 ++ (if i % 3 == 0 then codes "report 1\n" else []) → s2 ≡ s1 ++ (if i % 5 == 0 then codes "turn 1\n" else []) → s3 ≡ s2 ++ (if i % 7 == 0 then codes "publish\n" else []) → s4 ≡ s3 ++ lines_of (each 64 i (Now (1000 * i)))
-    → s4 ≡ s0 ++ lines_of (each 3 i (Report chip) ++ (each 5 i (Turn chip) ++ (each 7 i Publish ++ each 64 i (Now (1000 * i)))))
+    → s4 ≡ s0 ++ lines_of (each 3 i (Report first_chip_domain) ++ (each 5 i (Turn first_chip_domain) ++ (each 7 i Publish ++ each 64 i (Now (1000 * i)))))
 unfolding digits
 others_parts i s0 s1 s2 s3 s4 e f g h =
     let last = each 64 i (Now (1000 * i)) in
-    four_parts s0 s1 s2 s3 s4 (lines_of (each 3 i (Report chip))) (lines_of (each 5 i (Turn chip))) (lines_of (each 7 i Publish)) (lines_of last)
-    (e ∙ ap (λ (t : List ℕ). s0 ++ t) (line_if (i % 3 == 0) (Report chip))) (f ∙ ap (λ (t : List ℕ). s1 ++ t) (line_if (i % 5 == 0) (Turn chip))) (g ∙ ap (λ (t : List ℕ). s2 ++ t) (line_if (i % 7 == 0) Publish)) h
+    four_parts s0 s1 s2 s3 s4 (lines_of (each 3 i (Report first_chip_domain))) (lines_of (each 5 i (Turn first_chip_domain))) (lines_of (each 7 i Publish)) (lines_of last)
+    (e ∙ ap (λ (t : List ℕ). s0 ++ t) (line_if (i % 3 == 0) (Report first_chip_domain))) (f ∙ ap (λ (t : List ℕ). s1 ++ t) (line_if (i % 5 == 0) (Turn first_chip_domain))) (g ∙ ap (λ (t : List ℕ). s2 ++ t) (line_if (i % 7 == 0) Publish)) h
     ∙ ap (λ (t : List ℕ). s0 ++ t)
-    (lines_join (each 3 i (Report chip)) (each 5 i (Turn chip) ++ (each 7 i Publish ++ last)) (lines_of (each 5 i (Turn chip)) ++ (lines_of (each 7 i Publish) ++ lines_of last))
-    (lines_join (each 5 i (Turn chip)) (each 7 i Publish ++ last) (lines_of (each 7 i Publish) ++ lines_of last) (lines_join (each 7 i Publish) last (lines_of last) refl)))
+    (lines_join (each 3 i (Report first_chip_domain)) (each 5 i (Turn first_chip_domain) ++ (each 7 i Publish ++ last)) (lines_of (each 5 i (Turn first_chip_domain)) ++ (lines_of (each 7 i Publish) ++ lines_of last))
+    (lines_join (each 5 i (Turn first_chip_domain)) (each 7 i Publish ++ last) (lines_of (each 7 i Publish) ++ lines_of last) (lines_join (each 7 i Publish) last (lines_of last) refl)))
 
 -- a frame's lines, and what else happens
 pub frame_parts : (g : At) (s0 s1 s2 : List ℕ)
     → s1 ≡ s0 ++ lines_of (Rx (number_of (drawn g.x) % 6 + 1) (frame (number_of (drawn g.x))) ∷ Serve ∷ [])
-    → s2 ≡ s1 ++ lines_of (each 3 g.i (Report chip) ++ (each 5 g.i (Turn chip) ++ (each 7 g.i Publish ++ each 64 g.i (Now (1000 * g.i)))))
+    → s2 ≡ s1 ++ lines_of (each 3 g.i (Report first_chip_domain) ++ (each 5 g.i (Turn first_chip_domain) ++ (each 7 g.i Publish ++ each 64 g.i (Now (1000 * g.i)))))
     → s2 ≡ s0 ++ lines_of (next_steps g)
 frame_parts g s0 s1 s2 e f =
     let first = Rx (number_of (drawn g.x) % 6 + 1) (frame (number_of (drawn g.x))) ∷ Serve ∷ [] in
-    let others = each 3 g.i (Report chip) ++ (each 5 g.i (Turn chip) ++ (each 7 g.i Publish ++ each 64 g.i (Now (1000 * g.i)))) in
+    let others = each 3 g.i (Report first_chip_domain) ++ (each 5 g.i (Turn first_chip_domain) ++ (each 7 g.i Publish ++ each 64 g.i (Now (1000 * g.i)))) in
     f ∙ ap (λ (s : List ℕ). s ++ lines_of others) e ∙ append_assoc s0 (lines_of first) (lines_of others)
     ∙ ap (λ (t : List ℕ). s0 ++ t) (sym (flat_map-append (step_text ports) first others))
 

@@ -53,6 +53,6 @@ port_more line at s0 s1 s2 n port e g is =
     ∙ ap (λ (t : List ℕ). s0 ++ t) (sym (flat_map-append line (flat_map at (range_with_len 0 n)) (at n)))
     ∙ ap (λ (xs : List _). s0 ++ flat_map line xs) (sym (range_more at n))
 
-pub all_numbers : {A : Type 0} (at : ℕ → List A) (n : ℕ) → n ≡ 255 → flat_map at (range_with_len 0 n) ≡ flat_map at all_ports
+pub all_numbers : {A : Type 0} (at : ℕ → List A) (n : ℕ) → n ≡ 64 → flat_map at (range_with_len 0 n) ≡ flat_map at all_ports
 unfolding all_ports
 all_numbers at n e = ap (λ (k : ℕ). flat_map at (range_with_len 0 k)) e

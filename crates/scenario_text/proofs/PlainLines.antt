@@ -9,11 +9,11 @@ use Rattle.br_model.specs.declared.scenario.LineWhy.TheVariants as why
 use Rattle.br_model.specs.declared.scenario.Said.TheVariants.{Does}
 use Rattle.br_model.specs.declared.steps.Step.TheVariants.{Rx, Serve, Turn, Report, Publish}
 use Rattle.br_model.specs.Data.Digits.{nibble, byte_of, in_front, bytes_from_hex}
-use Rattle.br_model.specs.Table.Domains.{chip}
+use Rattle.br_model.specs.Table.Domains.{first_chip_domain}
 use Rattle.br_model.specs.Text.CommandForms.{step}
 use Rattle.br_model.specs.Text.Forms.{after}
 use Rattle.br_model.specs.Text.LineForms.{all_say}
-use Rattle.br_model.specs.Text.Operands.{port_number, hex, bytes_of}
+use Rattle.br_model.specs.Text.Operands.{number, chip_domain, port_number, hex, bytes_of}
 use Rattle.br_model.specs.Text.Roster.{Roster}
 use Rattle.br_model.specs.Text.Words.{Word, words, is_word, readable, replacement}
 use Rattle.scenario_text.specs.Parts.{is_plain, Splits, enters}
@@ -152,11 +152,13 @@ serve_says r line place e = ap (λ l. all_say r (words l)) e ∙ ap (λ b. if b 
 pub publish_says : (r : Roster) (line : List ℕ) → step r.place ≡ true → line ≡ codes "publish" → all_say r (words line) ≡ Ok (Does Publish)
 publish_says r line place e = ap (λ l. all_say r (words l)) e ∙ ap (λ b. if b then Ok (Does Publish) else Err why.Place) place
 
-pub turn_says : (r : Roster) (line : List ℕ) → step r.place ≡ true → line ≡ codes "turn 1" → all_say r (words line) ≡ Ok (Does (Turn chip))
-turn_says r line place e = ap (λ l. all_say r (words l)) e ∙ ap (λ b. if b then Ok (Does (Turn chip)) else Err why.Place) place
+pub turn_says : (r : Roster) (line : List ℕ) → step r.place ≡ true → line ≡ codes "turn 1" → all_say r (words line) ≡ Ok (Does (Turn first_chip_domain))
+unfolding number chip_domain
+turn_says r line place e = ap (λ l. all_say r (words l)) e ∙ ap (λ b. if b then Ok (Does (Turn first_chip_domain)) else Err why.Place) place
 
-pub report_says : (r : Roster) (line : List ℕ) → step r.place ≡ true → line ≡ codes "report 1" → all_say r (words line) ≡ Ok (Does (Report chip))
-report_says r line place e = ap (λ l. all_say r (words l)) e ∙ ap (λ b. if b then Ok (Does (Report chip)) else Err why.Place) place
+pub report_says : (r : Roster) (line : List ℕ) → step r.place ≡ true → line ≡ codes "report 1" → all_say r (words line) ≡ Ok (Does (Report first_chip_domain))
+unfolding number chip_domain
+report_says r line place e = ap (λ l. all_say r (words l)) e ∙ ap (λ b. if b then Ok (Does (Report first_chip_domain)) else Err why.Place) place
 
 pub rx_line : (line : List ℕ) → 3 ≤ length line → get_or line 0 0 ≡ 114 → get_or line 1 0 ≡ 120 → get_or line 2 0 ≡ 32 → line ≡ enters (take (length line - 3) (drop 3 line))
 rx_line line long r x space =

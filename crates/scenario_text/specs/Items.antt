@@ -51,22 +51,7 @@ comes_in_place place (items.Step step) = true
 comes_in_place place (items.Capture n) = true
 comes_in_place place items.End = true
 
-<<<<<<< HEAD
--- whether the moment of a step is one that a line can say
-abbrev pub in_time : Step → Bool
-in_time (Rx port bytes) = true
-in_time (Cmd command) = true
-in_time (Now moment) = nat_le moment last_moment
-in_time Serve = true
-in_time (Turn dom) = true
-in_time (Report dom) = true
-in_time (Sweep dom) = true
-in_time Publish = true
-
--- the same, and whether a section is as long as a line can say
-=======
 -- whether a step is one that a line can give, and a section as long as a line can say
->>>>>>> main
 abbrev pub is_in_range : Item → Bool
 is_in_range items.Blank = true
 is_in_range (items.Scenario edition) = true

@@ -5,7 +5,7 @@ use Rattle.std.specs.declared.option.Option.{Option}
 use Rattle.br_model.specs.declared.steps.Step.{Step}
 use Rattle.br_model.specs.declared.steps.Step.TheVariants.{Rx, Now, Serve, Turn, Report, Publish}
 use Rattle.br_model.specs.Program.Generator.{each}
-use Rattle.br_model.specs.Table.Domains.{chip}
+use Rattle.br_model.specs.Table.Domains.{first_chip_domain}
 use Rattle.scenario_text.specs.declared.frame_steps.Following.{Following}
 use Rattle.scenario_text.specs.declared.frame_steps.Made.{Made}
 use Rattle.scenario_text.specs.declared.frame_steps.Made.TheVariants.{Enters, Follows}
@@ -14,9 +14,9 @@ use Rattle.scenario_text.specs.declared.frame_steps.Stage.TheVariants as next
 
 -- the steps that come with frame i, from a stage on
 abbrev pub following : Stage → ℕ → List Step
-following next.Serve i = Serve ∷ (each 3 i (Report chip) ++ (each 5 i (Turn chip) ++ (each 7 i Publish ++ each 64 i (Now (1000 * i)))))
-following next.Report i = each 3 i (Report chip) ++ (each 5 i (Turn chip) ++ (each 7 i Publish ++ each 64 i (Now (1000 * i))))
-following next.Turn i = each 5 i (Turn chip) ++ (each 7 i Publish ++ each 64 i (Now (1000 * i)))
+following next.Serve i = Serve ∷ (each 3 i (Report first_chip_domain) ++ (each 5 i (Turn first_chip_domain) ++ (each 7 i Publish ++ each 64 i (Now (1000 * i)))))
+following next.Report i = each 3 i (Report first_chip_domain) ++ (each 5 i (Turn first_chip_domain) ++ (each 7 i Publish ++ each 64 i (Now (1000 * i))))
+following next.Turn i = each 5 i (Turn first_chip_domain) ++ (each 7 i Publish ++ each 64 i (Now (1000 * i)))
 following next.Publish i = each 7 i Publish ++ each 64 i (Now (1000 * i))
 following next.Moment i = each 64 i (Now (1000 * i))
 following next.Frame i = []

@@ -1,19 +1,11 @@
 //! The scenario that `gen` writes and `demo` runs.
 ghost use Rattle.std.specs.Prelude.{◌≡◌, ◌+◌, ◌*◌, ◌%◌, ◌==◌, ◌<◌, ◌≤◌, if◌then◌else◌, [], ◌∷◌, ◌++◌, length, codes, decimal, IfOk, OnOk, OnErr};
 ghost use Rattle.std.specs.String.{string_bytes, string_len, string_capacity};
-<<<<<<< HEAD
-ghost use Rattle.br_model.specs.Digits.{hex_of};
 ghost use Rattle.br_model.specs.declared.domains.Edition.TheVariants.{One};
-ghost use Rattle.br_model.specs.Domains.{chip};
-ghost use Rattle.br_model.specs.Generator.{drawn as drawn_of, number_of, station as station_of, destination as destination_of, frame as frame_of, frame_steps as steps_of_frame, each, most_frames, made, steps as all_steps, ports, first_steps as steps_at_first};
-ghost use Rattle.br_model.specs.Roster.{domains_of};
-=======
-ghost use Rattle.br_model.specs.Table.Domains.{last_port};
+ghost use Rattle.br_model.specs.Table.Domains.{first_chip_domain, last_port};
 ghost use Rattle.br_model.specs.Data.Digits.{hex_of};
 ghost use Rattle.br_model.specs.Program.Generator.{drawn as drawn_of, number_of, station as station_of, destination as destination_of, frame as frame_of, frame_steps as steps_of_frame, each, most_frames, made, steps as all_steps, ports, first_steps as steps_at_first};
-ghost use Rattle.br_model.specs.Table.Domains.{chip};
 ghost use Rattle.br_model.specs.Text.Roster.{domains_of};
->>>>>>> main
 ghost use Rattle.scenario_text.specs.Generating.{first, after_frame, next_steps, steps_left, lines_of, opening_text, text_left};
 
 use br_model::NoMemory;
@@ -287,7 +279,7 @@ fn append_moment(i: u32, text: &mut String)
 fn append_others(i: u32, text: &mut String)
     requires few { i ≤ most_frames }
     requires room { string_len text.old + 39 ≤ string_capacity text.old }
-    ensures text { string_bytes text.new ≡ string_bytes text.old ++ lines_of (each 3 i (Step.Report chip) ++ (each 5 i (Step.Turn chip) ++ (each 7 i Step.Publish ++ each 64 i (Step.Now (1000 * i))))) }
+    ensures text { string_bytes text.new ≡ string_bytes text.old ++ lines_of (each 3 i (Step.Report first_chip_domain) ++ (each 5 i (Step.Turn first_chip_domain) ++ (each 7 i Step.Publish ++ each 64 i (Step.Now (1000 * i))))) }
     ensures len { string_len text.new ≤ string_len text.old + 39 }
     ensures capacity { string_capacity text.old ≤ string_capacity text.new }
 {
@@ -362,7 +354,7 @@ fn push_each(d: u32, i: u32, step: Step, steps: &mut Vec<Step>) -> Result<(), No
 /// Adds what else happens with frame i.
 fn push_others(i: u32, steps: &mut Vec<Step>) -> Result<(), NoMemory>
     requires { i ≤ most_frames }
-    ensures { OnOk result (steps.new.items ≡ steps.old.items ++ (each 3 i (Step.Report chip) ++ (each 5 i (Step.Turn chip) ++ (each 7 i Step.Publish ++ each 64 i (Step.Now (1000 * i)))))) }
+    ensures { OnOk result (steps.new.items ≡ steps.old.items ++ (each 3 i (Step.Report first_chip_domain) ++ (each 5 i (Step.Turn first_chip_domain) ++ (each 7 i Step.Publish ++ each 64 i (Step.Now (1000 * i)))))) }
 {
     push_each(3, i, Step::Report(Dom::CHIP), steps)?;
     push_each(5, i, Step::Turn(Dom::CHIP), steps)?;

@@ -52,7 +52,7 @@ fn declaration_line(alloc: Global, words: &[&str], r: &Roster) -> Result<Said, L
             Ok(Said::Bridge(mac(address)?))
         }
         ["port", number, name, "soft"] => declared(alloc, number, name, Ok(Dom::SOFTWARE), r),
-        ["port", number, name, "chip", dom] => declared(alloc, number, name, r.new_chip(dom), r),
+        ["port", number, name, "chip", dom] => declared(alloc, number, name, r.chip_domain(dom), r),
         _ => Err(LineWhy::Word),
     }
 }
@@ -80,27 +80,15 @@ fn step_line(alloc: Global, words: &[&str], r: &Roster) -> Result<Said, LineWhy>
         }
         ["turn", dom] => {
             r.stands(Place::Steps)?;
-<<<<<<< HEAD
             Ok(Said::Does(Step::Turn(r.chip(dom)?)))
-=======
-            Ok(Said::Does(Step::Turn(Dom::CHIP)))
->>>>>>> main
         }
         ["report", dom] => {
             r.stands(Place::Steps)?;
-<<<<<<< HEAD
             Ok(Said::Does(Step::Report(r.chip(dom)?)))
-=======
-            Ok(Said::Does(Step::Report(Dom::CHIP)))
->>>>>>> main
         }
         ["sweep", dom] => {
             r.stands(Place::Steps)?;
-<<<<<<< HEAD
             Ok(Said::Does(Step::Sweep(r.chip(dom)?)))
-=======
-            Ok(Said::Does(Step::Sweep(Dom::CHIP)))
->>>>>>> main
         }
         ["publish"] => {
             r.stands(Place::Steps)?;

@@ -340,13 +340,14 @@ fn append_rx(port: Port, bytes: &[u8], to: &mut String) -> Result<(), NoMemory>
     append_hex(shown(bytes), to)
 }
 
-<<<<<<< HEAD
+/// A step of the domain's chip, by its first word.
 fn append_of_chip(word: &str, dom: Dom, to: &mut String) -> Result<(), NoMemory>
-    ensures { OnOk result (string_bytes to.new ≡ string_bytes to.old ++ (word.now ++ decimal dom)) }
+    ensures { OnOk result (string_bytes to.new ≡ string_bytes to.old ++ joined (word.now ∷ decimal dom ∷ [])) }
 {
     let dom = dom.number();
-    write!(to, "{word}{dom}")
-=======
+    write!(to, "{word} {dom}")
+}
+
 /// The line of a step, without its line feed.
 fn append_step(s: &Step, roster: &Roster, to: &mut String) -> Result<(), NoMemory>
     requires { names_declared roster.now.ports s.now ≡ true }
@@ -358,12 +359,11 @@ fn append_step(s: &Step, roster: &Roster, to: &mut String) -> Result<(), NoMemor
         Step::Now(moment) => write!(to, "now {moment}"),
         Step::Serve => to.push_str("serve"),
         Step::Hold | Step::Post { .. } => unreachable!(),
-        Step::Turn(_) => to.push_str("turn 1"),
-        Step::Report(_) => to.push_str("report 1"),
-        Step::Sweep(_) => to.push_str("sweep 1"),
+        Step::Turn(dom) => append_of_chip("turn", *dom, to),
+        Step::Report(dom) => append_of_chip("report", *dom, to),
+        Step::Sweep(dom) => append_of_chip("sweep", *dom, to),
         Step::Publish => to.push_str("publish"),
     }
->>>>>>> main
 }
 
 /// The line of a step with its line feed. Of a frame without bytes it shows one byte, of one that is too long only enough to
@@ -373,23 +373,7 @@ pub fn write_line(alloc: Global, s: &Step, r: &Roster) -> Result<Bytes, NoMemory
     ensures { IfOk result (λ line. line ≡ step_text r.now.ports s.now) }
 {
     let mut line = String::new(alloc);
-<<<<<<< HEAD
-    match s {
-        Step::Rx { port, bytes } => append_rx(*port, bytes.as_slice(), &mut line)?,
-        Step::Cmd(command) => {
-            line.push_str("cmd ")?;
-            append_command(*command, r, &mut line)?;
-        }
-        Step::Now(moment) => write!(line, "now {moment}")?,
-        Step::Serve => line.push_str("serve")?,
-        Step::Turn(dom) => append_of_chip("turn ", *dom, &mut line)?,
-        Step::Report(dom) => append_of_chip("report ", *dom, &mut line)?,
-        Step::Sweep(dom) => append_of_chip("sweep ", *dom, &mut line)?,
-        Step::Publish => line.push_str("publish")?,
-    }
-=======
     append_step(s, r, &mut line)?;
->>>>>>> main
     line.push('\n')?;
     Ok(Bytes::of(line.into_bytes()))
 }

@@ -15,22 +15,14 @@ abbrev pub is_number : ℕ → Bool
 is_number n = nat_lt n (2 ^ 32)
 
 abbrev pub is_port : ℕ → Bool
-<<<<<<< HEAD
-is_port n = nat_lt n 255
-=======
 is_port n = nat_le n last_port
->>>>>>> main
 
 -- at least one byte
 abbrev pub is_frame : List ℕ → Bool
 is_frame [] = false
 is_frame (b ∷ bytes) = list_all is_byte (b ∷ bytes)
 
-<<<<<<< HEAD
--- Numbers are below 2^32, ports below 255, and a frame has bytes.
-=======
 -- Numbers are below 2^32, ports at most the last, and a frame has bytes.
->>>>>>> main
 abbrev pub is_line : Line → Bool
 is_line (Chip id changes applied class) = is_number id && (is_number changes && is_number applied)
 is_line (Unread id why) = is_number id

@@ -10,25 +10,14 @@ use Rattle.br_model.specs.declared.change.Change.{Change}
 use Rattle.br_model.specs.declared.change.Change.TheVariants.{PortUp, PortDown, SetFlags, SetState, VlanAdd, VlanDel, GroupJoin, GroupPart, Router, Querier, Snoop, Stp, AddrPut, AddrDel}
 use Rattle.br_model.specs.declared.domains.Edition.{Edition}
 use Rattle.br_model.specs.declared.frame.Head.{Head}
-<<<<<<< HEAD:crates/br_model/specs/Chip.antt
-use Rattle.br_model.specs.Admission.{has_valid_source, vlan_of}
-use Rattle.br_model.specs.Cut.{cut}
-use Rattle.br_model.specs.DomainPorts.{is_in_domain}
-use Rattle.br_model.specs.Domains.{Domains, chip_domains}
-use Rattle.br_model.specs.Learning.{Address, Triple, is_extern, is_news, teach}
-use Rattle.br_model.specs.Limits.{most_reports}
-use Rattle.br_model.specs.Maps.{pair_cmp, get, has, joined}
-use Rattle.br_model.specs.Table.{Table, table}
-=======
 use Rattle.br_model.specs.Forward.Admission.{has_valid_source, vlan_of}
 use Rattle.br_model.specs.Table.Cut.{cut}
 use Rattle.br_model.specs.Table.DomainPorts.{is_in_domain}
-use Rattle.br_model.specs.Table.Domains.{Domains, chip}
+use Rattle.br_model.specs.Table.Domains.{Domains, chip_domains}
 use Rattle.br_model.specs.Control.Learning.{Address, Triple, is_extern, is_news, teach}
 use Rattle.br_model.specs.Table.Limits.{most_reports}
 use Rattle.br_model.specs.Data.Maps.{pair_cmp, get, has, joined}
 use Rattle.br_model.specs.Table.Table.{Table, table}
->>>>>>> main:crates/br_model/specs/Plane/Chip.antt
 
 pub record Chip : Type 0 where
   -- the number of its domain

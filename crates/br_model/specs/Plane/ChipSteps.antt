@@ -7,15 +7,9 @@ use Rattle.br_model.specs.declared.change.Change.{Change}
 use Rattle.br_model.specs.declared.steps.Event.{Event}
 use Rattle.br_model.specs.declared.steps.Event.TheVariants.{Told, Forget}
 use Rattle.br_model.specs.declared.steps.Refusal.TheVariants.{NothingPending, NothingReported}
-<<<<<<< HEAD
-use Rattle.br_model.specs.Chip.{Chip, applies, unhit}
-use Rattle.br_model.specs.Learning.{Triple}
-use Rattle.br_model.specs.Plane.World.{World, Stepped, with_chip, table_of_chip, next_of, refused, done, answered, reacts}
-=======
-use Rattle.br_model.specs.Plane.Chip.{Chip, applies, chip_table, unhit}
+use Rattle.br_model.specs.Plane.Chip.{Chip, applies, unhit}
 use Rattle.br_model.specs.Control.Learning.{Triple}
-use Rattle.br_model.specs.Plane.World.{World, Stepped, with_chip, next_of, refused, done, answered, reacts}
->>>>>>> main
+use Rattle.br_model.specs.Plane.World.{World, Stepped, with_chip, table_of_chip, next_of, refused, done, answered, reacts}
 
 -- The chip applies the next deferred change.
 abbrev pub turns_to : World → Chip → Option Change → Stepped
@@ -37,11 +31,7 @@ reports w (Some c) = tells w c c.reports
 
 -- the event of a sweep: the chip no longer sees the stations whose entries no frame hit
 abbrev pub swept : World → Chip → Event
-<<<<<<< HEAD
 swept w c = Forget (unhit w.setup.domains (table_of_chip w c) c)
-=======
-swept w c = Forget (unhit w.setup.domains (chip_table w.history c) c)
->>>>>>> main
 
 -- The bridge forgets them, and all hits of the chip are cleared. A sweep that is refused leaves the hits.
 abbrev pub sweeps : World → Option Chip → Stepped

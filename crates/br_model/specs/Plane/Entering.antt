@@ -9,29 +9,15 @@ use Rattle.br_model.specs.declared.frame.Class.{Class}
 use Rattle.br_model.specs.declared.frame.Class.TheVariants.{Drop, Trap, Copy, Forward}
 use Rattle.br_model.specs.declared.frame.FrameFault.{FrameFault}
 use Rattle.br_model.specs.declared.frame.Head.{Head}
-<<<<<<< HEAD
 use Rattle.br_model.specs.declared.transcript.Line.TheVariants as lines
-use Rattle.br_model.specs.Chip.{Chip, notes}
-use Rattle.br_model.specs.Class.{class}
-use Rattle.br_model.specs.Domains.{domain_of}
-use Rattle.br_model.specs.Frames.{frame}
-use Rattle.br_model.specs.Limits.{most_waiting}
-use Rattle.br_model.specs.Messages.{message}
-use Rattle.br_model.specs.Shares.{chip_out, mark_of}
-use Rattle.br_model.specs.Plane.World.{World, Waiting, Stepped, chip_at, with_chip, table_of_chip, sent, after_lines}
-=======
-use Rattle.br_model.specs.declared.transcript.Line.TheVariants.{Chip, Unread, Overrun}
-use Rattle.br_model.specs.Plane.Chip.{notes}
+use Rattle.br_model.specs.Plane.Chip.{Chip, notes}
 use Rattle.br_model.specs.Forward.Class.{class}
-use Rattle.br_model.specs.Table.DomainPorts.{is_in_domain}
-use Rattle.br_model.specs.Table.Domains.{chip}
+use Rattle.br_model.specs.Table.Domains.{domain_of}
 use Rattle.br_model.specs.Wire.Frames.{frame}
 use Rattle.br_model.specs.Table.Limits.{most_waiting}
 use Rattle.br_model.specs.Wire.Messages.{message}
 use Rattle.br_model.specs.Forward.Shares.{chip_out, mark_of}
-use Rattle.br_model.specs.Table.Table.{Table}
-use Rattle.br_model.specs.Plane.World.{World, Waiting, Stepped, table_of_chip, sent, after_lines}
->>>>>>> main
+use Rattle.br_model.specs.Plane.World.{World, Waiting, Stepped, chip_at, with_chip, table_of_chip, sent, after_lines}
 
 -- A frame waits for software, unless as many wait or are held as may.
 abbrev pub waits : World → Waiting → Stepped

@@ -1,21 +1,13 @@
 -- Runs of the world of a bridge with chips.
 -- Source: this profile.
 use Rattle.std.specs.Prelude.{ℕ, ◌+◌, ◌-◌, List, [], ◌++◌, length}
-<<<<<<< HEAD
 use Rattle.std.specs.List.{fold, sum_by}
-use Rattle.br_model.specs.declared.transcript.Line.{Line}
-use Rattle.br_model.specs.declared.transcript.Line.TheVariants.{End}
-use Rattle.br_model.specs.Chip.{Chip}
-use Rattle.br_model.specs.Cut.{deferred_count}
-use Rattle.br_model.specs.Plane.Steps.{Step, world_step}
-=======
-use Rattle.std.specs.List.{fold}
 use Rattle.br_model.specs.declared.steps.Step.{Step}
 use Rattle.br_model.specs.declared.transcript.Line.{Line}
 use Rattle.br_model.specs.declared.transcript.Line.TheVariants.{End}
 use Rattle.br_model.specs.Table.Cut.{deferred_count}
 use Rattle.br_model.specs.Plane.Steps.{world_step}
->>>>>>> main
+use Rattle.br_model.specs.Plane.Chip.{Chip}
 use Rattle.br_model.specs.Plane.World.{World, Stepped, first_world}
 use Rattle.br_model.specs.Table.Setup.{Setup}
 

@@ -2,35 +2,12 @@
 -- Source: this profile.
 use Rattle.std.specs.Prelude.{ℕ, ◌+◌, ◌==◌, if◌then◌else◌, [], ◌∷◌, ◌++◌, length}
 use Rattle.br_model.specs.declared.steps.Event.TheVariants as events
-<<<<<<< HEAD
-=======
 use Rattle.br_model.specs.declared.steps.Step.{Step}
 use Rattle.br_model.specs.declared.steps.Step.TheVariants.{Rx, Cmd, Now, Serve, Hold, Post, Turn, Report, Sweep, Publish}
->>>>>>> main
 use Rattle.br_model.specs.Plane.ChipSteps.{turns, reports, sweeps}
 use Rattle.br_model.specs.Plane.Entering.{enters}
 use Rattle.br_model.specs.Plane.Serving.{serves, holds, held_with, posts_at}
 use Rattle.br_model.specs.Plane.World.{World, Stepped, chip_at, done, answered, reacts}
-<<<<<<< HEAD
-
-pub data Step : Type 0 where
-  -- a frame enters at a port
-  Rx : ℕ → List ℕ → Step
-  Cmd : Command → Step
-  -- the moment comes, in milliseconds from the start
-  Now : ℕ → Step
-  -- the oldest frame that waits is decided and sent; or it is held, and then decided and sent by its id, at its floor or at a point
-  Serve : Step
-  Hold : Step
-  Post : ℕ → Option ℕ → Step
-  -- the chip of this domain applies a deferred change, tells a report, forgets what it no longer sees
-  Turn : ℕ → Step
-  Report : ℕ → Step
-  Sweep : ℕ → Step
-  -- software decides by all accepted changes from now on
-  Publish : Step
-=======
->>>>>>> main
 
 -- a count is published once, however often it is
 abbrev pub publishes : World → ℕ → World

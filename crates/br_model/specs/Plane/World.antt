@@ -12,24 +12,13 @@ use Rattle.br_model.specs.declared.steps.Event.{Event}
 use Rattle.br_model.specs.declared.steps.Refusal.{Refusal}
 use Rattle.br_model.specs.declared.transcript.Line.{Line}
 use Rattle.br_model.specs.declared.transcript.Line.TheVariants.{Tx, Ctl, Done, Refused}
-<<<<<<< HEAD
-use Rattle.br_model.specs.Bpdus.{written}
-use Rattle.br_model.specs.Chip.{Chip, first_chips, chip_in, put_chip, chip_table}
-use Rattle.br_model.specs.Cut.{deferred_at}
-use Rattle.br_model.specs.Control.{Control, first_control}
-use Rattle.br_model.specs.Reaction.{Reaction, react}
-use Rattle.br_model.specs.Setup.{Setup}
-use Rattle.br_model.specs.Table.{Table, table}
-=======
 use Rattle.br_model.specs.Wire.Bpdus.{written}
-use Rattle.br_model.specs.Plane.Chip.{Chip, first_chip, chip_table}
+use Rattle.br_model.specs.Plane.Chip.{Chip, first_chips, chip_in, put_chip, chip_table}
 use Rattle.br_model.specs.Control.Control.{Control, first_control}
 use Rattle.br_model.specs.Control.Reaction.{Reaction, react}
 use Rattle.br_model.specs.Table.Cut.{deferred_at}
-use Rattle.br_model.specs.Table.Domains.{chip}
 use Rattle.br_model.specs.Table.Setup.{Setup}
 use Rattle.br_model.specs.Table.Table.{Table, table}
->>>>>>> main
 
 -- a frame that waits for software
 pub record Waiting : Type 0 where
@@ -100,18 +89,6 @@ table_of_chip w c = chip_table w.setup.domains.edition w.history c
 -- the deferred change that a chip applies next
 abbrev pub next_of : World → Chip → Option Change
 next_of w c = deferred_at w.setup.domains.edition w.history c.count
-
--- the chip of this domain
-abbrev pub chip_at : World → ℕ → Option Chip
-chip_at w dom = if dom == chip then Some w.chip else None
-
--- with this one in the place of that of its domain
-abbrev pub with_chip : World → Chip → World
-with_chip w c = record w { chip = c }
-
--- the deferred change that a chip applies next
-abbrev pub next_of : World → Chip → Option Change
-next_of w c = deferred_at w.history c.count
 
 -- the lines of a frame that is sent
 abbrev pub sent : ℕ → List (ℕ × List ℕ) → List Line

@@ -9,7 +9,7 @@ use Rattle.br_model.specs.declared.scenario.Place.TheVariants.{Steps}
 use Rattle.br_model.specs.declared.steps.Command.TheVariants.{PortUp}
 use Rattle.br_model.specs.declared.steps.Step.{Step}
 use Rattle.br_model.specs.declared.steps.Step.TheVariants.{Rx, Cmd, Now, Serve, Turn, Report, Publish}
-use Rattle.br_model.specs.Table.Domains.{chip, software}
+use Rattle.br_model.specs.Table.Domains.{first_chip_domain, software}
 use Rattle.br_model.specs.Text.Roster.{Entry}
 use Rattle.br_model.specs.Text.Scenario.{Scenario, Ended}
 use Rattle.br_model.specs.Text.ScenarioText.{step_text}
@@ -51,7 +51,7 @@ each d i step = if i % d == 0 then step ∷ [] else []
 -- report is taken, behind each fifth the chip has a turn, each seventh is followed by a publication, and each 64th by a moment.
 abbrev pub frame_steps : ℕ → ℕ → List Step
 frame_steps i n =
-    Rx (n % 6 + 1) (frame n) ∷ Serve ∷ (each 3 i (Report chip) ++ (each 5 i (Turn chip) ++ (each 7 i Publish ++ each 64 i (Now (1000 * i)))))
+    Rx (n % 6 + 1) (frame n) ∷ Serve ∷ (each 3 i (Report first_chip_domain) ++ (each 5 i (Turn first_chip_domain) ++ (each 7 i Publish ++ each 64 i (Now (1000 * i)))))
 
 -- those of so many frames from frame i on, where the state is x; it goes on before each frame
 unfoldable pub frames_from : ℕ → ℕ → ℕ → List Step
@@ -64,10 +64,10 @@ entry name port dom = record { name = name; port = port; dom = dom }
 -- four ports of the chip, and two of software
 abbrev pub ports : List Entry
 ports =
-    entry (codes "g1") 1 chip ∷
-    entry (codes "g2") 2 chip ∷
-    entry (codes "g3") 3 chip ∷
-    entry (codes "g4") 4 chip ∷
+    entry (codes "g1") 1 first_chip_domain ∷
+    entry (codes "g2") 2 first_chip_domain ∷
+    entry (codes "g3") 3 first_chip_domain ∷
+    entry (codes "g4") 4 first_chip_domain ∷
     entry (codes "g5") 5 software ∷
     entry (codes "g6") 6 software ∷
     []

@@ -1,12 +1,13 @@
 -- The lines of a scenario, a row a form, and the commands behind `cmd`; and the form of each step.
 -- Source: this profile.
-use Rattle.std.specs.Prelude.{ℕ, ◌+◌, ◌-◌, ◌==◌, nat_le, Bool, true, false, if◌then◌else◌, List, [], ◌∷◌, ◌++◌, length, codes, slice_index_or}
+use Rattle.std.specs.Prelude.{ℕ, ◌+◌, ◌-◌, nat_le, Bool, true, false, ◌&&◌, if◌then◌else◌, List, [], ◌∷◌, ◌++◌, length, codes, slice_index_or}
 use Rattle.std.specs.Option.{option_map}
 use Rattle.std.specs.declared.option.Option.{Option}
 use Rattle.std.specs.declared.option.Option.TheVariants.{None, Some}
 use Rattle.std.specs.declared.result.Result.{Result}
 use Rattle.std.specs.declared.result.Result.TheVariants.{Ok, Err}
 use Rattle.std.specs.Str.{bytes_eq}
+use Rattle.br_model.specs.declared.domains.Edition.TheVariants.{One, Two}
 use Rattle.br_model.specs.declared.scenario.LineWhy.{LineWhy}
 use Rattle.br_model.specs.declared.scenario.Place.{Place}
 use Rattle.br_model.specs.declared.scenario.Place.TheVariants.{Opening, Header, Declarations, Steps}
@@ -16,7 +17,7 @@ use Rattle.br_model.specs.declared.steps.Command.{Command}
 use Rattle.br_model.specs.declared.steps.Step.{Step}
 use Rattle.br_model.specs.declared.steps.Step.TheVariants.{Rx, Cmd, Now, Serve, Hold, Post, Turn, Report, Sweep, Publish}
 use Rattle.br_model.specs.Text.CommandForms.{commands, command_form, step}
-use Rattle.br_model.specs.Table.Domains.{software, chip}
+use Rattle.br_model.specs.Table.Domains.{software, first_chip_domain, last_chip}
 use Rattle.br_model.specs.Text.Forms.{Row, row, line, Form, Fixed, fills}
 use Rattle.br_model.specs.Text.Operands.{last_moment}
 use Rattle.br_model.specs.Text.Roster.{Roster}
@@ -46,10 +47,11 @@ declaration Steps = false
 
 abbrev pub declarations : List (Row Said)
 declarations =
-    row (codes "scenario 1") opening Opens ∷
+    row (codes "scenario 1") opening (Opens One) ∷
+    row (codes "scenario 2") opening (Opens Two) ∷
     row (codes "bridge MAC") header (λ mac. Bridge mac) ∷
     row (codes "port NUMBER NEWNAME soft") declaration (λ port name. Declares port name software) ∷
-    row (codes "port NUMBER NEWNAME chip 1") declaration (λ port name. Declares port name chip) ∷
+    row (codes "port NUMBER NEWNAME chip DOMAIN") declaration (λ port name dom. Declares port name dom) ∷
     []
 
 abbrev pub rx : Row Said
@@ -62,13 +64,13 @@ abbrev pub serve : Row Said
 serve = row (codes "serve") step (Does Serve)
 
 abbrev pub turn : Row Said
-turn = row (codes "turn 1") step (Does (Turn chip))
+turn = row (codes "turn CHIP") step (λ dom. Does (Turn dom))
 
 abbrev pub report : Row Said
-report = row (codes "report 1") step (Does (Report chip))
+report = row (codes "report CHIP") step (λ dom. Does (Report dom))
 
 abbrev pub sweep : Row Said
-sweep = row (codes "sweep 1") step (Does (Sweep chip))
+sweep = row (codes "sweep CHIP") step (λ dom. Does (Sweep dom))
 
 abbrev pub publish : Row Said
 publish = row (codes "publish") step (Does Publish)
@@ -104,7 +106,7 @@ line_says roster bytes = if is_comment bytes then Ok Blank else all_say roster (
 abbrev pub behind_cmd : Form → Form
 behind_cmd f = record { shape = Fixed (codes "cmd") ∷ f.shape; values = f.values }
 
--- The form that gives a step. No line holds or posts a frame yet, or names another domain than the chip's.
+-- The form that gives a step. No line holds or posts a frame yet.
 abbrev pub step_form : Step → Option Form
 step_form (Rx port bytes) = Some (fills rx port (shown bytes))
 step_form (Cmd command) = option_map behind_cmd (command_form command)
@@ -112,13 +114,17 @@ step_form (Now moment) = Some (fills now moment)
 step_form Serve = Some (fills serve)
 step_form Hold = None
 step_form (Post id point) = None
-step_form (Turn dom) = if dom == chip then Some (fills turn) else None
-step_form (Report dom) = if dom == chip then Some (fills report) else None
-step_form (Sweep dom) = if dom == chip then Some (fills sweep) else None
+step_form (Turn dom) = Some (fills turn dom)
+step_form (Report dom) = Some (fills report dom)
+step_form (Sweep dom) = Some (fills sweep dom)
 step_form Publish = Some (fills publish)
 
--- Whether a line can give the step, whatever ports are declared: no line holds or posts a frame yet, or names another domain
--- than the chip's.
+-- whether a domain is one that a switch chip can have
+abbrev pub of_chip : ℕ → Bool
+of_chip dom = nat_le first_chip_domain dom && nat_le dom last_chip
+
+-- Whether a line can give the step, whatever ports are declared: no line holds or posts a frame yet, or names a domain that no
+-- chip can have.
 abbrev pub comes_by_line : Step → Bool
 comes_by_line (Rx port bytes) = true
 comes_by_line (Cmd command) = true
@@ -126,7 +132,7 @@ comes_by_line (Now moment) = nat_le moment last_moment
 comes_by_line Serve = true
 comes_by_line Hold = false
 comes_by_line (Post id point) = false
-comes_by_line (Turn dom) = dom == chip
-comes_by_line (Report dom) = dom == chip
-comes_by_line (Sweep dom) = dom == chip
+comes_by_line (Turn dom) = of_chip dom
+comes_by_line (Report dom) = of_chip dom
+comes_by_line (Sweep dom) = of_chip dom
 comes_by_line Publish = true

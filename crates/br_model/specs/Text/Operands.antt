@@ -15,23 +15,14 @@ use Rattle.br_model.specs.declared.group.Ip.TheVariants.{V4, V6}
 use Rattle.br_model.specs.declared.scenario.LineWhy.{LineWhy}
 use Rattle.br_model.specs.declared.scenario.LineWhy.TheVariants as why
 use Rattle.std.specs.Str.{bytes_eq}
-<<<<<<< HEAD:crates/br_model/specs/Operands.antt
-use Rattle.br_model.specs.Digits.{decimal_from, bytes_from_hex, station}
-use Rattle.br_model.specs.Domains.{host, chip, last_chip, last_port}
-use Rattle.br_model.specs.FlagWords.{flags, flag_named}
-use Rattle.br_model.specs.IpWords.{address}
-use Rattle.br_model.specs.Roster.{Entry, has_number, has_domain, port_named, is_name, host_name}
-use Rattle.br_model.specs.Words.{Word}
-=======
 use Rattle.br_model.specs.Data.Digits.{decimal_from, bytes_from_hex, hex_of, station}
 use Rattle.br_model.specs.Data.Numbers.{is_multicast}
-use Rattle.br_model.specs.Table.Domains.{host, last_port}
+use Rattle.br_model.specs.Table.Domains.{host, last_port, first_chip_domain, last_chip}
 use Rattle.br_model.specs.Text.FlagWords.{flags, flag_named, name_of_flag}
 use Rattle.br_model.specs.Text.IpWords.{address}
-use Rattle.br_model.specs.Text.Roster.{Entry, has_number, port_named, is_name, host_name}
+use Rattle.br_model.specs.Text.Roster.{Entry, has_number, is_chip, port_named, is_name, host_name}
 use Rattle.br_model.specs.Text.Spelling.{name_of, device_text, mac_text, ip_text}
 use Rattle.br_model.specs.Text.Words.{Word, is_word}
->>>>>>> main:crates/br_model/specs/Text/Operands.antt
 
 pub data Operand : Type 0 where
   -- a decimal number from the first to the second
@@ -80,7 +71,7 @@ longest_section = 16777216
 abbrev pub operands : List (Word × Operand)
 operands =
     (codes "NUMBER", NewPort) ∷
-    (codes "DOMAIN", Number chip last_chip) ∷
+    (codes "DOMAIN", Number first_chip_domain last_chip) ∷
     (codes "CHIP", Chip) ∷
     (codes "NEWNAME", NewName) ∷
     (codes "PORT", PortNumber) ∷
@@ -131,12 +122,9 @@ unless fault test (Ok x) = if test x then Err fault else Ok x
 
 unfoldable pub new_port : List Entry → Word → Result ℕ LineWhy
 new_port ports word = unless why.Port (λ n. has_number ports n) (number 1 last_port word)
-<<<<<<< HEAD:crates/br_model/specs/Operands.antt
 
 unfoldable pub chip_domain : List Entry → Word → Result ℕ LineWhy
-chip_domain ports word = unless why.Port (λ dom. not (has_domain ports dom)) (number chip last_chip word)
-=======
->>>>>>> main:crates/br_model/specs/Text/Operands.antt
+chip_domain ports word = unless why.Port (λ dom. not (is_chip ports dom)) (number first_chip_domain last_chip word)
 
 unfoldable pub new_name : List Entry → Word → Result Word LineWhy
 new_name ports word = if is_name word && not (is_some (port_named ports word)) then Ok word else Err why.Port
@@ -218,6 +206,7 @@ can_stand Flag word = is_some (flag_named flags word)
 -- how a value is written
 abbrev pub spelled : List Entry → (o : Operand) → Value o → Word
 spelled ports (Number low high) n = decimal n
+spelled ports Chip dom = decimal dom
 spelled ports NewPort port = decimal port
 spelled ports NewName name = name
 spelled ports PortNumber port = decimal port
@@ -251,6 +240,7 @@ is_byte b = nat_lt b 256
 -- the values that words give
 abbrev pub in_range : List Entry → (o : Operand) → Value o → Bool
 in_range ports (Number low high) n = nat_le low n && nat_le n high
+in_range ports Chip dom = is_chip ports dom
 in_range ports NewPort port = (nat_le 1 port && nat_le port last_port) && not (has_number ports port)
 in_range ports NewName name = is_name name && not (is_some (port_named ports name))
 in_range ports PortNumber port = has_number ports port
@@ -264,6 +254,7 @@ in_range ports Flag flag = is_flag flag
 -- whether a value that names a port names a declared one
 abbrev pub is_known : List Entry → (o : Operand) → Value o → Bool
 is_known ports (Number low high) n = true
+is_known ports Chip dom = true
 is_known ports NewPort port = true
 is_known ports NewName name = true
 is_known ports PortNumber port = has_number ports port

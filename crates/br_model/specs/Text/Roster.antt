@@ -1,7 +1,7 @@
 -- What a scenario has said before a line: its edition, the bridge's address, its declared ports, in the order of their lines, and
 -- the place that it has reached.
 -- Source: this profile.
-use Rattle.std.specs.Prelude.{ℕ, ◌==◌, nat_lt, nat_le, Bool, not, ◌&&◌, ◌||◌, if◌then◌else◌, List, [], ◌∷◌, length, codes}
+use Rattle.std.specs.Prelude.{ℕ, ◌==◌, nat_lt, nat_le, Bool, not, ◌&&◌, ◌||◌, if◌then◌else◌, List, [], ◌∷◌, length, map, codes}
 use Rattle.std.specs.List.{fold, list_any, list_all}
 use Rattle.std.specs.Ordering.{nat_cmp}
 use Rattle.std.specs.declared.option.Option.{Option}
@@ -11,17 +11,10 @@ use Rattle.br_model.specs.declared.domains.Edition.{Edition}
 use Rattle.br_model.specs.declared.domains.Edition.TheVariants.{One}
 use Rattle.br_model.specs.declared.scenario.Place.{Place}
 use Rattle.br_model.specs.declared.scenario.Place.TheVariants.{Opening}
-<<<<<<< HEAD:crates/br_model/specs/Roster.antt
-use Rattle.br_model.specs.Domains.{Domains, host, software, chip}
-use Rattle.br_model.specs.Maps.{put}
-use Rattle.br_model.specs.Setup.{first_own}
-use Rattle.br_model.specs.Words.{Word}
-=======
-use Rattle.br_model.specs.Table.Domains.{Domains, host, software}
+use Rattle.br_model.specs.Table.Domains.{Domains, host, software, chips_among}
 use Rattle.br_model.specs.Data.Maps.{put}
 use Rattle.br_model.specs.Table.Setup.{first_own}
 use Rattle.br_model.specs.Text.Words.{Word}
->>>>>>> main:crates/br_model/specs/Text/Roster.antt
 
 pub record Entry : Type 0 where
   pub name : Word
@@ -43,9 +36,13 @@ first_roster check = record { place = Opening; check = check; edition = One; own
 abbrev pub has_number : List Entry → ℕ → Bool
 has_number ports n = list_any (λ e. e.port == n) ports
 
--- whether there is a switch chip of this domain: the first one always is, another where a port is declared on it
-abbrev pub has_domain : List Entry → ℕ → Bool
-has_domain ports dom = dom == chip || list_any (λ e. e.dom == dom) ports
+-- the domains of the switch chips that exist where these ports are declared
+abbrev pub chips_of : List Entry → List ℕ
+chips_of ports = chips_among (map (λ (e : Entry). e.dom) ports)
+
+-- whether there is a switch chip of this domain
+abbrev pub is_chip : List Entry → ℕ → Bool
+is_chip ports dom = list_any (λ d. d == dom) (chips_of ports)
 
 abbrev pub port_named : List Entry → Word → Option ℕ
 port_named [] name = None
@@ -67,6 +64,6 @@ longest_name = 15
 abbrev pub is_name : Word → Bool
 is_name word = nat_lt 0 (length word) && (nat_le (length word) longest_name && (list_all is_name_byte word && not (bytes_eq word host_name)))
 
--- the domain of each declared port, and the software's of the host
+-- the edition, the domain of each declared port, and the software's of the host
 abbrev pub domains_of : Edition → List Entry → Domains
 domains_of edition ports = record { edition = edition; ports = fold (λ m e. put nat_cmp m e.port e.dom) ((host, software) ∷ []) ports }

@@ -2,28 +2,17 @@
 -- Source: this profile.
 use Rattle.std.specs.Prelude.{◌≡◌, ℕ, ◌==◌, Bool, true, false, List, ◌∷◌, ◌++◌, length, take}
 use Rattle.std.specs.List.{list_any}
-<<<<<<< HEAD:crates/br_model/specs/Plane/Agreement.antt
 use Rattle.std.specs.declared.option.Option.TheVariants.{Some}
-use Rattle.br_model.specs.declared.transcript.Line.{Line}
-use Rattle.br_model.specs.declared.transcript.Line.TheVariants as lines
-use Rattle.br_model.specs.Domains.{domain_of}
-use Rattle.br_model.specs.Chip.{Chip}
-use Rattle.br_model.specs.Setup.{Setup}
-use Rattle.br_model.specs.Plane.Entering.{chip_of}
-use Rattle.br_model.specs.Plane.Invariants.{frames_of}
-use Rattle.br_model.specs.Plane.Runs.{run, pending_of}
-use Rattle.br_model.specs.Plane.Steps.{Step, Rx}
-=======
 use Rattle.br_model.specs.declared.steps.Step.{Step}
 use Rattle.br_model.specs.declared.steps.Step.TheVariants.{Rx}
 use Rattle.br_model.specs.declared.transcript.Line.{Line}
 use Rattle.br_model.specs.declared.transcript.Line.TheVariants as lines
-use Rattle.br_model.specs.Table.DomainPorts.{is_in_domain}
-use Rattle.br_model.specs.Table.Domains.{chip}
+use Rattle.br_model.specs.Table.Domains.{domain_of}
 use Rattle.br_model.specs.Table.Setup.{Setup}
 use Rattle.br_model.specs.Theorems.Invariants.{frames_of}
-use Rattle.br_model.specs.Plane.Runs.{run, pending}
->>>>>>> main:crates/br_model/specs/Theorems/Agreement.antt
+use Rattle.br_model.specs.Plane.Runs.{run, pending_of}
+use Rattle.br_model.specs.Plane.Chip.{Chip}
+use Rattle.br_model.specs.Plane.Entering.{chip_of}
 use Rattle.br_model.specs.Plane.World.{World}
 
 -- whether the frame with this id waits or is held

@@ -7,48 +7,21 @@ use Rattle.std.specs.Option.{option_to_list}
 use Rattle.std.specs.declared.option.Option.{Option}
 use Rattle.std.specs.declared.option.Option.TheVariants.{None, Some}
 use Rattle.br_model.specs.declared.change.Change.{Change}
-<<<<<<< HEAD:crates/br_model/specs/Plane/Applied.antt
-use Rattle.br_model.specs.Chip.{Chip}
-use Rattle.br_model.specs.Cut.{synchronous_of}
-use Rattle.br_model.specs.Setup.{Setup}
-use Rattle.br_model.specs.Plane.Steps.{Step, Rx, Cmd, Now, Serve, Hold, Post, Turn, Report, Sweep, Publish, world_step}
-=======
 use Rattle.br_model.specs.declared.steps.Step.{Step}
 use Rattle.br_model.specs.declared.steps.Step.TheVariants.{Rx, Cmd, Now, Serve, Hold, Post, Turn, Report, Sweep, Publish}
 use Rattle.br_model.specs.Table.Cut.{synchronous_of}
 use Rattle.br_model.specs.Table.Setup.{Setup}
 use Rattle.br_model.specs.Plane.Chip.{Chip}
 use Rattle.br_model.specs.Plane.Steps.{world_step}
->>>>>>> main:crates/br_model/specs/Theorems/Applied.antt
 use Rattle.br_model.specs.Plane.World.{World, first_world, chip_at, next_of}
 
 -- what the step accepts
 abbrev pub accepted_in : World → Step → List Change
 accepted_in w step = drop (length w.history) (world_step w step).0.history
 
-<<<<<<< HEAD:crates/br_model/specs/Plane/Applied.antt
 -- those of them that reach each chip at once
 abbrev pub synchronous_in : World → Step → List Change
 synchronous_in w step = synchronous_of w.setup.domains.edition (accepted_in w step)
-=======
--- what a turn of this chip's queue applies
-abbrev pub turned_in : World → Option Chip → List Change
-turned_in w None = []
-turned_in w (Some c) = option_to_list (next_of w c)
-
--- what the chip applies in the step
-abbrev pub applied_in : World → Step → List Change
-applied_in w (Rx port bytes) = synchronous_of (accepted_in w (Rx port bytes))
-applied_in w (Cmd c) = synchronous_of (accepted_in w (Cmd c))
-applied_in w (Now moment) = synchronous_of (accepted_in w (Now moment))
-applied_in w Serve = synchronous_of (accepted_in w Serve)
-applied_in w Hold = synchronous_of (accepted_in w Hold)
-applied_in w (Post id point) = synchronous_of (accepted_in w (Post id point))
-applied_in w (Turn dom) = turned_in w (chip_at w dom)
-applied_in w (Report dom) = synchronous_of (accepted_in w (Report dom))
-applied_in w (Sweep dom) = synchronous_of (accepted_in w (Sweep dom))
-applied_in w Publish = synchronous_of (accepted_in w Publish)
->>>>>>> main:crates/br_model/specs/Theorems/Applied.antt
 
 -- what a turn of this chip's queue applies
 abbrev pub turned_in : World → Option Chip → List Change

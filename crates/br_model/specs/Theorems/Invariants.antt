@@ -8,26 +8,15 @@ use Rattle.std.specs.Ordering.{nat_cmp}
 use Rattle.std.specs.declared.option.Option.TheVariants.{None, Some}
 use Rattle.std.specs.declared.result.Result.TheVariants.{Ok}
 use Rattle.br_model.specs.declared.change.Change.{Change}
-<<<<<<< HEAD:crates/br_model/specs/Plane/Invariants.antt
 use Rattle.br_model.specs.declared.domains.Edition.{Edition}
-use Rattle.br_model.specs.Chip.{Chip, same_triple}
-use Rattle.br_model.specs.Cut.{deferred_count}
-use Rattle.br_model.specs.DomainPorts.{is_in_domain}
-use Rattle.br_model.specs.Domains.{Domains, chip_domains, has_chip}
-use Rattle.br_model.specs.Frames.{frame}
-use Rattle.br_model.specs.Learning.{Triple}
-use Rattle.br_model.specs.Limits.{all_fit, most_changes, most_reports, most_waiting}
-use Rattle.br_model.specs.Maps.{pair_cmp, has}
-=======
-use Rattle.br_model.specs.Plane.Chip.{same_triple}
+use Rattle.br_model.specs.Plane.Chip.{Chip, same_triple}
 use Rattle.br_model.specs.Table.Cut.{deferred_count}
 use Rattle.br_model.specs.Table.DomainPorts.{is_in_domain}
-use Rattle.br_model.specs.Table.Domains.{Domains, chip}
+use Rattle.br_model.specs.Table.Domains.{Domains, chip_domains, has_chip}
 use Rattle.br_model.specs.Wire.Frames.{frame}
 use Rattle.br_model.specs.Control.Learning.{Triple}
 use Rattle.br_model.specs.Table.Limits.{all_fit, most_changes, most_reports, most_waiting}
 use Rattle.br_model.specs.Data.Maps.{pair_cmp, has}
->>>>>>> main:crates/br_model/specs/Theorems/Invariants.antt
 use Rattle.br_model.specs.Plane.World.{World, Waiting, Holding}
 use Rattle.br_model.specs.Table.Table.{start}
 

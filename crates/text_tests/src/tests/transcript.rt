@@ -232,7 +232,7 @@ fn texts_that_are_no_lines(rt: HostRuntime) -> Result<(), Fail> {
         "chip 1 at 2 0 Drop\n",
         "refused 3 0\n",
         "refused 3 16\n",
-        "tx 7 255 02\n",
+        "tx 7 64 02\n",
         "tx 7 1 \n",
         "tx 7 1 0\n",
         "tx 7 1 0g\n",

@@ -13,7 +13,7 @@ loop-number-preserved c =
 
 pub returns : goal.returns
 returns c =
-    let all : c.loop-number.number ≡ 255 = omega arith in
+    let all : c.loop-number.number ≡ 64 = omega arith in
     let line = vlan_line c.args.roster.now.ports c.args.table.now.pvid in
     let at = λ (port : ℕ). filter (λ (e : (ℕ × ℕ) × Bool). e.0.1 == port) c.args.table.now.vlans in
     c.loop-number.invariant

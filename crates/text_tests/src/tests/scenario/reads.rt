@@ -61,7 +61,7 @@ const LINES: &[(&[u8], Result<Gives, LineWhy>)] = &[
     ),
     (b"bridge 02:00:00:00:00:ac", Err(LineWhy::Place)),
     (b"port 0 a soft", Err(LineWhy::Number)),
-    (b"port 255 a soft", Err(LineWhy::Number)),
+    (b"port 64 a soft", Err(LineWhy::Number)),
     (b"port 01 a soft", Err(LineWhy::Number)),
     (b"port +1 a soft", Err(LineWhy::Number)),
     (b"port 18446744073709551617 a soft", Err(LineWhy::Number)),
@@ -157,18 +157,13 @@ const STEPS: &[(&[u8], Result<Gives, LineWhy>)] = &[
     (b"capture", Err(LineWhy::Word)),
     (b"capture 9 6", Err(LineWhy::Word)),
     (b"turn", Err(LineWhy::Word)),
-<<<<<<< HEAD:crates/scenario_text/src/tests/reads.rt
     (b"report 2", Err(LineWhy::Port)),
     (b"sweep 01", Err(LineWhy::Number)),
+    (b"turn 2", Err(LineWhy::Port)),
     (b"turn 5", Err(LineWhy::Number)),
-=======
-    (b"report 2", Err(LineWhy::Word)),
-    (b"sweep 01", Err(LineWhy::Word)),
-    (b"turn 2", Err(LineWhy::Word)),
     (b"hold", Err(LineWhy::Word)),
     (b"post 1", Err(LineWhy::Word)),
     (b"post 1 at 0", Err(LineWhy::Word)),
->>>>>>> main:crates/text_tests/src/tests/scenario/reads.rt
     (b"a b c d e f g h i j k l m n o p q", Err(LineWhy::Word)),
     (b"end", Ok(Gives::End)),
 ];
@@ -193,10 +188,7 @@ fn given(item: &Item) -> Gives {
         Item::Step(Step::Cmd(_)) => Gives::Command,
         Item::Step(Step::Now(moment)) => Gives::Now(*moment),
         Item::Step(Step::Serve) => Gives::Serve,
-<<<<<<< HEAD:crates/scenario_text/src/tests/reads.rt
-=======
         Item::Step(Step::Hold | Step::Post { .. }) => Gives::NoLine,
->>>>>>> main:crates/text_tests/src/tests/scenario/reads.rt
         Item::Step(Step::Turn(_)) => Gives::Turn,
         Item::Step(Step::Report(_)) => Gives::Report,
         Item::Step(Step::Sweep(_)) => Gives::Sweep,

@@ -3,11 +3,7 @@ ghost use Rattle.std.specs.Prelude.{◌≡◌};
 ghost use Rattle.br_model.specs.Text.ScenarioText.{names_declared};
 
 use br_model::bytes::Bytes;
-<<<<<<< HEAD:crates/scenario_text/src/tests/writes.rt
-=======
 use br_model::change::Kind;
->>>>>>> main:crates/text_tests/src/tests/scenario/writes.rt
-use br_model::numbers::Dom;
 use br_model::scenario::Item;
 use br_model::steps::{Command, Step};
 use bridge_command::Roster;
@@ -15,7 +11,7 @@ use scenario_text::{read_line, write_line};
 use std::alloc::Global;
 use std::test::Fail;
 
-const DECLARATIONS: [&str; 2] = ["scenario 1", "port 63 p-1 soft"];
+const DECLARATIONS: [&str; 3] = ["scenario 1", "port 63 p-1 soft", "port 62 p-2 chip 4"];
 
 /// Each step is written as it was read.
 const STEPS: &str = "\
@@ -48,7 +44,7 @@ now 9007199254740991
 serve
 turn 1
 report 1
-sweep 1
+sweep 4
 publish
 ";
 
@@ -82,15 +78,9 @@ fn are_declared(step: &Step, roster: &Roster) -> bool
             Command::FdbDel { .. } | Command::Ageing(_) => true,
             Command::Stp(_) | Command::Priority(_) | Command::Snooping(_) => true,
         },
-<<<<<<< HEAD:crates/scenario_text/src/tests/writes.rt
-        Step::Now(_) => true,
-        Step::Turn(dom) | Step::Report(dom) | Step::Sweep(dom) => *dom == Dom::CHIP,
-        Step::Serve | Step::Publish => true,
-=======
         Step::Now(_) | Step::Serve | Step::Publish => true,
         Step::Hold | Step::Post { .. } => false,
-        Step::Turn(dom) | Step::Report(dom) | Step::Sweep(dom) => *dom == Dom::CHIP,
->>>>>>> main:crates/text_tests/src/tests/scenario/writes.rt
+        Step::Turn(_) | Step::Report(_) | Step::Sweep(_) => true,
     }
 }
 
@@ -112,7 +102,7 @@ fn is_written_back(alloc: Global, line: &str, roster: &mut Roster) -> bool {
     }
 }
 
-/// A roster with the port `p-1`, whose number is 63.
+/// A roster with the port `p-1`, whose number is 63, and a port of the fourth chip.
 fn roster(alloc: Global) -> Result<Roster, Fail> {
     let mut roster = Roster::make(alloc, false)?;
     for line in DECLARATIONS {

@@ -1,6 +1,6 @@
 use Rattle.std.proofs.Common.{◌≡◌, ◌==◌, length, drop}
 use Rattle.std.specs.List.{list_any}
-use Rattle.br_model.specs.Roster.{Entry}
+use Rattle.br_model.specs.Text.Roster.{Entry}
 use Rattle.bridge_command.proofs.roster.Roster.has_port_in.Given as goal
 
 abbrev pub invariant-loop-i : goal.invariant-loop-i

@@ -1,9 +1,9 @@
 -- Worked runs with editions and several chips: the text of each scenario, and what is told of it.
 -- Source: this profile; the transcripts were worked out by hand.
 use Rattle.std.specs.Prelude.{ℕ, List, [], ◌∷◌, codes}
-use Rattle.br_model.specs.WholeLines.{lines_text}
+use Rattle.br_model.specs.Theorems.WholeLines.{lines_text}
 
--- Two ports of the chip beside one of software; a query, a member of a group, and two streams.
+-- two ports of the chip beside one of software; a query, a member of a group, and two streams.
 abbrev pub groups_of : List ℕ → List (List ℕ)
 groups_of first =
     first ∷
@@ -91,7 +91,7 @@ two_chips_text = lines_text (
     codes "scenario 1" ∷
     codes "port 1 a1 chip 1" ∷
     codes "port 2 b2 chip 2" ∷
-    codes "port 200 f3 soft" ∷
+    codes "port 60 f3 soft" ∷
     codes "cmd port up a1" ∷
     codes "cmd port up b2" ∷
     codes "cmd port up f3" ∷
@@ -137,7 +137,7 @@ one_turn_less_text = lines_text (
     codes "scenario 1" ∷
     codes "port 1 a1 chip 1" ∷
     codes "port 2 b2 chip 2" ∷
-    codes "port 200 f3 soft" ∷
+    codes "port 60 f3 soft" ∷
     codes "cmd port up a1" ∷
     codes "cmd port up b2" ∷
     codes "cmd port up f3" ∷
@@ -173,13 +173,13 @@ one_turn_less_told = lines_text (
     codes "end 11 10 1 0" ∷
     [])
 
--- lines that name a port or a domain that can't be, or that isn't there
+-- lines that name an edition, a port or a domain that can't be, and a chip that isn't there
 abbrev pub bad_domains : List (List ℕ)
 bad_domains =
     lines_text (codes "scenario 1" ∷ codes "port 255 x soft" ∷ []) ∷
     lines_text (codes "scenario 1" ∷ codes "port 1 a chip 5" ∷ []) ∷
     lines_text (codes "scenario 1" ∷ codes "port 1 a chip 0" ∷ []) ∷
-    lines_text (codes "scenario 1" ∷ codes "port 254 a chip 3" ∷ codes "turn 2" ∷ []) ∷
+    lines_text (codes "scenario 1" ∷ codes "port 63 a chip 3" ∷ codes "turn 2" ∷ []) ∷
     lines_text (codes "scenario 1" ∷ codes "report 5" ∷ []) ∷
     lines_text (codes "scenario 1" ∷ codes "sweep x" ∷ []) ∷
     lines_text (codes "scenario 1" ∷ codes "report 4" ∷ []) ∷
