@@ -1,5 +1,5 @@
 -- Words with a bit for each port of a domain.
-use Rattle.std.proofs.Common.{◌≡◌, ℕ, zero, suc, ◌*◌, ◌<◌, ◌%◌, ◌^◌, Bool, true, false, cond, List, [], ◌∷◌, length, get_or, set, bit_and, bit_or, w64, Some, refl, sym, ap, ◌∙◌, inl, inr, get_or-set_same, get_or-set_other}
+use Rattle.std.proofs.Common.{◌≡◌, ℕ, zero, suc, ◌*◌, ◌<◌, ◌%◌, ◌^◌, Bool, true, false, cond, List, [], length, get_or, set, replicate, bit_and, bit_or, w64, Some, refl, sym, ap, ◌∙◌, inl, inr, get_or-set_same, get_or-set_other}
 use Rattle.std.specs.Prelude.{◌==◌}
 use Rattle.std.specs.Int.{bit_at, bit_not}
 use Rattle.std.specs.Option.{option_eq}
@@ -10,6 +10,7 @@ use Rattle.std.proofs.lemmas.Bool.{eq-eqb, ne_eqb}
 use Rattle.std.proofs.lemmas.Bool.Decides.{eqb_tells}
 use Rattle.std.proofs.lemmas.Cmp.{nat_cmp_total}
 use Rattle.std.proofs.lemmas.Nat.Bits.{bit_at-zero, bit_at_set_same, bit_at_set_other, bit_at_clear_same, bit_at_clear_other}
+use Rattle.br_model.specs.declared.domains.Edition.{Edition}
 use Rattle.br_model.specs.Table.Domains.{Domains}
 use Rattle.br_model.specs.Table.DomainPorts.{is_in_domain, IsWordOf}
 use Rattle.br_model.specs.Data.Maps.{get, put}
@@ -63,21 +64,21 @@ words-put old cleared p d domain port small within h = elim (eqb_tells domain d)
 -- the word of a domain when a port is declared
 pub word-put : (m : Domains) (p d domain word new : ℕ) → IsWordOf m domain word
     → ((port : ℕ) → port < 64 → (bit_at new port == 1) ≡ cond (port == p) (d == domain) (bit_at word port == 1))
-    → IsWordOf (put nat_cmp m p d) domain new
+    → IsWordOf (record m { ports = put nat_cmp m.ports p d }) domain new
 word-put m p d domain word new h made port low =
     made port low
     ∙ ap (cond (port == p) (d == domain)) (h port low)
     ∙ by (port == p)
-    ∙ sym (ap (λ o. option_eq (λ x y. x == y) o (Some domain)) (find-put nat_cmp nat_cmp_total port p d m ∙ ap (λ b. cond b (Some d) (get nat_cmp m port)) (unsigned_tied port p)))
+    ∙ sym (ap (λ o. option_eq (λ x y. x == y) o (Some domain)) (find-put nat_cmp nat_cmp_total port p d m.ports ∙ ap (λ b. cond b (Some d) (get nat_cmp m.ports port)) (unsigned_tied port p)))
   where
-    by : (b : Bool) → cond b (d == domain) (is_in_domain m domain port) ≡ option_eq (λ x y. x == y) (cond b (Some d) (get nat_cmp m port)) (Some domain)
+    by : (b : Bool) → cond b (d == domain) (is_in_domain m domain port) ≡ option_eq (λ x y. x == y) (cond b (Some d) (get nat_cmp m.ports port)) (Some domain)
     by true = refl
     by false = refl
 
-pub word-none : (domain : ℕ) → IsWordOf [] domain 0
-word-none domain port low = ap (λ b. b == 1) (bit_at-zero port)
+pub word-none : (edition : Edition) (domain : ℕ) → IsWordOf (record { edition = edition; ports = [] }) domain 0
+word-none edition domain port low = ap (λ b. b == 1) (bit_at-zero port)
 
-pub zero_words : (domain : ℕ) → ◌≡◌ {A = ℕ} (get_or (0 ∷ 0 ∷ []) domain 0) 0
-zero_words zero = refl
-zero_words (suc zero) = refl
-zero_words (suc (suc domain)) = refl
+pub zero_words : (n domain : ℕ) → ◌≡◌ {A = ℕ} (get_or (replicate n 0) domain 0) 0
+zero_words zero domain = refl
+zero_words (suc n) zero = refl
+zero_words (suc n) (suc domain) = zero_words n domain

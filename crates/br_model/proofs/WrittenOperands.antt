@@ -73,7 +73,7 @@ chip_read : (ports : List Entry) (dom : ℕ) → is_chip ports dom ≡ true → 
 unfolding chip_domain
 chip_read ports dom h =
     let is_number : number first_chip_domain last_chip (decimal dom) ≡ Ok dom =
-        by_chip (λ n. number first_chip_domain last_chip (decimal n) ≡ Ok n) (in_number 1 4 1 refl refl) (in_number 1 4 2 refl refl) (in_number 1 4 3 refl refl) (in_number 1 4 4 refl refl) ports dom h in
+    by_chip (λ n. number first_chip_domain last_chip (decimal n) ≡ Ok n) (in_number 1 4 1 refl refl) (in_number 1 4 2 refl refl) (in_number 1 4 3 refl refl) (in_number 1 4 4 refl refl) ports dom h in
     ap (unless why.Port (λ d. not (is_chip ports d))) is_number ∙ ap (λ (b : Bool). if not b then Err why.Port else Ok dom) h
 
 chip_proper : (ports : List Entry) (dom : ℕ) → is_chip ports dom ≡ true → is_proper (decimal dom) ≡ true

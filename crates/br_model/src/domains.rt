@@ -36,6 +36,7 @@ impl Edition {
 /// The host is always there, in the software's domain.
 #[derive(Drop)]
 pub struct Domains {
+    edition: Edition,
     by_port: [Option<Dom>; Port::PLACES],
     // A word for each domain, with a bit for each of its ports.
     words: [u64; Dom::PLACES],

@@ -8,5 +8,5 @@ abbrev pub invariant-loop-domain : goal.invariant-loop-domain
 invariant-loop-domain l = record {
   done : (k port : ℕ) → k < l.domain → port < port_places → (bit_at (get_or l.words k 0) port == 1) ≡ cond (port == l.p) false (bit_at (get_or l.initial.words k 0) port == 1);
   left : (k : ℕ) → l.domain ≤ k → get_or l.words k 0 ≡ get_or l.initial.words k 0;
-  sized : length l.words ≡ 2;
+  sized : length l.words ≡ 5;
 }
