@@ -1,8 +1,8 @@
 -- What fits the table of a history fits that of its cut.
-use Rattle.std.proofs.Common.{◌≡◌, ℕ, zero, suc, ◌+◌, ◌-◌, ◌<◌, ◌≤◌, true, false, cond, ◌&&◌, List, [], ◌∷◌, ◌++◌, length, take, drop, Option, Some, refl, sym, ap, ◌∙◌, arith, add-one, length-append}
-use Rattle.std.proofs.lemmas.Bool.{and_parts}
+use Rattle.std.proofs.Common.{◌≡◌, ℕ, zero, suc, ◌+◌, ◌-◌, ◌<◌, ◌≤◌, true, false, cond, List, [], ◌∷◌, ◌++◌, length, take, drop, Option, Some, refl, sym, ap, ◌∙◌, arith, add-one, length-append}
 use Rattle.std.proofs.lemmas.List.{take-append-drop, length-take}
 use Rattle.std.proofs.lemmas.List.Sums.{fold-append}
+use Rattle.std.proofs.lemmas.Option.{slice_get_within, get_or_from_slice_get}
 use Rattle.std.specs.Prelude.{nat_lt, ◌||◌, is_some}
 use Rattle.std.specs.List.{fold, slice_get}
 use Rattle.br_model.specs.declared.change.Change.{Change}
@@ -11,16 +11,15 @@ use Rattle.br_model.specs.declared.change.Kind.{Kind}
 use Rattle.br_model.specs.declared.domains.Edition.{Edition}
 use Rattle.br_model.specs.declared.domains.Edition.TheVariants.{One, Two}
 use Rattle.br_model.specs.declared.group.Group.{Group}
-use Rattle.br_model.specs.Change.{deferred}
-use Rattle.br_model.specs.Cut.{deferred_of, synchronous_of, deferred_count, deferred_at, cut, reach}
-use Rattle.br_model.specs.GroupPairs.{has_room}
-use Rattle.br_model.specs.Groups.{Membership}
-use Rattle.br_model.specs.Limits.{fits, all_fit, most_addresses}
-use Rattle.br_model.specs.Maps.{pair_cmp, get}
-use Rattle.br_model.specs.Table.{Table, start, apply, table}
+use Rattle.br_model.specs.Table.Change.{deferred}
+use Rattle.br_model.specs.Table.Cut.{deferred_of, synchronous_of, deferred_count, deferred_at, cut, reach}
+use Rattle.br_model.specs.Table.GroupPairs.{has_room}
+use Rattle.br_model.specs.Table.Groups.{Membership}
+use Rattle.br_model.specs.Table.Limits.{AreWithin, fits, most_addresses}
+use Rattle.br_model.specs.Data.Maps.{pair_cmp, get}
+use Rattle.br_model.specs.Table.Table.{Table, start, apply, table}
 use Rattle.br_model.proofs.ApplyingLaws.{deferred_count-append, take-next}
 use Rattle.br_model.proofs.Cuts.{addr-synchronous, groups-synchronous, groups-cut, cut-append, cut-all, cut-none, deferred_of-front, deferred_at-deferred, reach-turn}
-use Rattle.br_model.proofs.PlaneHistory.{fit-append}
 
 -- a synchronous change
 
@@ -32,25 +31,15 @@ synchronous-fits edition H k c now fit = fit
 
 -- a deferred one
 
-rest-at : (H : List Change) (n : ℕ) (d : Change) → slice_get H n ≡ Some d → (rest : List Change) × (drop n H ≡ d ∷ rest)
-rest-at [] n d e = absurd (cc)
-rest-at (c ∷ H) zero d e = (H, let is : c ≡ d = cc in ap (λ x. x ∷ H) is)
-rest-at (c ∷ H) (suc n) d e = rest-at H n d e
-
 -- it fits the table of the changes before it
-fits-there : (H : List Change) (n : ℕ) (d : Change) → all_fit start H ≡ true → slice_get H n ≡ Some d → fits (table (take n H)) d ≡ true
-fits-there H n d all e =
-    let rest = rest-at H n d e in
-    let parts = ap (all_fit start) (ap (λ (l : List Change). take n H ++ l) (sym rest.1) ∙ take-append-drop n H) ∙ all in
-    let later = (and_parts (all_fit start (take n H)) (all_fit (table (take n H)) (d ∷ rest.0)) (sym (fit-append start (take n H) (d ∷ rest.0)) ∙ parts)).1 in
-    (and_parts (fits (table (take n H)) d) (all_fit (apply (table (take n H)) d) rest.0) later).0
+fits-there : (H : List Change) (n : ℕ) (d : Change) → AreWithin H → slice_get H n ≡ Some d → fits (table (take n H)) d ≡ true
+fits-there H n d is e = ap (fits (table (take n H))) (sym (get_or_from_slice_get H n d d e)) ∙ is.fit n d (slice_get_within H n d e)
 
 -- the changes before it have just the deferred ones that were applied
 before-turn : (edition : Edition) (H : List Change) (k : ℕ) (d : Change) → deferred_at edition H k ≡ Some d → (n : ℕ) × (slice_get H n ≡ Some d) × (deferred_count edition (take n H) ≡ k)
 before-turn edition H k d e =
     let r = reach-turn edition H k d e in
     let n = r.0 in
-    let rest = rest-at H n d r.2 in
     let is = deferred_at-deferred edition H k d e in
     let front : take (n + 1) H ≡ take n H ++ d ∷ [] = take-next H n d r.2 in
     let all : deferred_count edition (take (n + 1) H) ≡ deferred_count edition (take n H) + deferred_count edition (d ∷ []) = ap (deferred_count edition) front ∙ deferred_count-append edition (take n H) (d ∷ []) in
@@ -67,10 +56,10 @@ cut-from edition H n k count =
     ∙ (λ i. cut-all edition (take n H) k (omega (arith, count)) i ++ (ap (cut edition (drop n H)) none ∙ cut-none edition (drop n H)) i))
     ∙ fold-append apply start (take n H) (synchronous_of edition (drop n H))
 
-pub turn-fits : (edition : Edition) (H : List Change) (k : ℕ) (d : Change) → all_fit start H ≡ true → deferred_at edition H k ≡ Some d → fits (table (cut edition H k)) d ≡ true
-turn-fits edition H k d all e =
+pub turn-fits : (edition : Edition) (H : List Change) (k : ℕ) (d : Change) → AreWithin H → deferred_at edition H k ≡ Some d → fits (table (cut edition H k)) d ≡ true
+turn-fits edition H k d within e =
     let b = before-turn edition H k d e in
-    by edition d (table (take b.0 H)) (drop b.0 H) (deferred_at-deferred edition H k d e).0 (cut-from edition H b.0 k b.2) (fits-there H b.0 d all b.1)
+    by edition d (table (take b.0 H)) (drop b.0 H) (deferred_at-deferred edition H k d e).0 (cut-from edition H b.0 k b.2) (fits-there H b.0 d within b.1)
   where
     by : (edition : Edition) (d : Change) (t : Table) (later : List Change) → deferred edition d ≡ true → table (cut edition H k) ≡ fold apply t (synchronous_of edition later) → fits t d ≡ true → fits (table (cut edition H k)) d ≡ true
     by edition (AddrPut vid mac port kind) t later late is fit =

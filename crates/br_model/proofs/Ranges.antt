@@ -21,10 +21,6 @@ filter-range_more p n =
     let e : 0 + n ≡ n = omega arith in
     rw add-one (more_from p 0 n ∙ ap (λ m. filter p (range_with_len 0 n) ++ cond (p m) (m ∷ []) []) e)
 
-<<<<<<< HEAD
-pub filter-all_ports : (p : ℕ → Bool) (n : ℕ) → n ≡ 255 → filter p (range_with_len 0 n) ≡ filter p all_ports
-=======
 pub filter-all_ports : (p : ℕ → Bool) (n : ℕ) → n ≡ port_places → filter p (range_with_len 0 n) ≡ filter p all_ports
->>>>>>> main
 unfolding all_ports
 filter-all_ports p n e = ap (λ m. filter p (range_with_len 0 m)) e

@@ -1,18 +1,12 @@
 //! The domains of the declared ports, and the edition of the profile.
-ghost use Rattle.std.specs.Prelude.{◌≡◌, ◌≢◌, ◌==◌, ◌<◌, ◌+◌, ◌*◌, ◌/◌, ◌%◌, ℕ, false, [], ◌∷◌, if◌then◌else◌, get_or, slice_index, None, Some};
+ghost use Rattle.std.specs.Prelude.{◌≡◌, ◌≢◌, ◌==◌, ◌<◌, ◌≤◌, ℕ, false, [], ◌∷◌, if◌then◌else◌, get_or, slice_index, None, Some};
 ghost use Rattle.std.specs.Int.{bit_at};
 ghost use Rattle.std.specs.Ordering.{nat_cmp};
-<<<<<<< HEAD
 ghost use Rattle.br_model.specs.declared.domains.Edition.TheVariants.{One};
-ghost use Rattle.br_model.specs.Change.{groups_deferred};
-ghost use Rattle.br_model.specs.Domains.{domain_of, entries_from, has_chip, host};
-ghost use Rattle.br_model.specs.DomainPorts.{AreWordsOf};
-ghost use Rattle.br_model.specs.Maps.{put};
-=======
-ghost use Rattle.br_model.specs.Table.Domains.{domain_of, entries_from, host, port_places};
+ghost use Rattle.br_model.specs.Table.Change.{groups_deferred};
+ghost use Rattle.br_model.specs.Table.Domains.{domain_of, entries_from, host, last_chip, port_places};
 ghost use Rattle.br_model.specs.Table.DomainPorts.{IsWordOf};
 ghost use Rattle.br_model.specs.Data.Maps.{put};
->>>>>>> main
 
 use crate::numbers::{Dom, Port};
 use std::marker::Model;
@@ -42,37 +36,22 @@ impl Edition {
 /// The host is always there, in the software's domain.
 #[derive(Drop)]
 pub struct Domains {
-<<<<<<< HEAD
-    edition: Edition,
-    by_port: [Option<Dom>; 255],
-    // Four words for each domain, with a bit for each of its ports.
-    words: [u64; 20],
-}
-
-impl Model for Domains {
-    ghost use Rattle.std.specs.Prelude.{◌≡◌, ℕ, ◌<◌, ◌+◌, ◌*◌, ◌/◌, ◌%◌, ◌==◌, Some, None, get_or, slice_index};
-    ghost use Rattle.std.specs.Int.{bit_at};
-    ghost use Rattle.br_model.specs.Domains.{Domains, entries_from};
-    ghost use Rattle.br_model.specs.DomainPorts.{is_in_domain};
-=======
     by_port: [Option<Dom>; Port::PLACES],
     // A word for each domain, with a bit for each of its ports.
-    words: [u64; 2],
+    words: [u64; Dom::PLACES],
 }
 
 impl Model for Domains {
-    ghost use Rattle.std.specs.Prelude.{◌≡◌, ℕ, ◌<◌, List, Some, None, get_or, slice_index};
-    ghost use Rattle.br_model.specs.Table.Domains.{entries_from};
+    ghost use Rattle.std.specs.Prelude.{◌≡◌, ℕ, ◌≤◌, Some, None, get_or, slice_index};
+    ghost use Rattle.br_model.specs.Table.Domains.{Domains, entries_from, last_chip};
     ghost use Rattle.br_model.specs.Table.DomainPorts.{IsWordOf};
->>>>>>> main
 
     ghost Value = { Domains };
 
     ghost view = { λ d. record { edition = d.edition; ports = entries_from 0 d.by_port } };
 
     ghost invariant = { λ d. (get_or d.by_port 0 None ≡ Some 0)
-        × ((domain port : ℕ) → domain < 5 → port < 255
-        → (bit_at (slice_index d.words (4 * domain + port / 64)) (port % 64) == 1) ≡ is_in_domain (record { edition = d.edition; ports = entries_from 0 d.by_port }) domain port) };
+        × ((domain : ℕ) → domain ≤ last_chip → IsWordOf (record { edition = d.edition; ports = entries_from 0 d.by_port }) domain (slice_index d.words domain)) };
 }
 
 impl Domains {
@@ -80,7 +59,7 @@ impl Domains {
     pub fn make() -> Domains
         ensures { result ≡ record { edition = One; ports = (host, 0) ∷ [] } }
     {
-        let mut words = [0; 20];
+        let mut words = [0; Dom::PLACES];
         put_bit(&mut words, Port::HOST, Dom::SOFTWARE);
         Domains {
             edition: Edition::One,
@@ -89,7 +68,6 @@ impl Domains {
         }
     }
 
-<<<<<<< HEAD
     /// The same ports, in this edition.
     pub fn with_edition(mut self, e: Edition) -> Domains
         ensures { result ≡ record self { edition = e } }
@@ -104,9 +82,7 @@ impl Domains {
         self.edition
     }
 
-=======
     /// Declares the port in this domain, in place of the one that it may have.
->>>>>>> main
     pub fn set(&mut self, p: Port, d: Dom)
         requires { p ≢ host }
         ensures { self.new ≡ record self.old { ports = put nat_cmp self.old.ports p d } }
@@ -134,84 +110,47 @@ impl Domains {
         self.by_port[usize::from(p.number())]
     }
 
-    /// The ports of the domain: bit n of the k-th word stands for port 64 * k + n.
-    pub fn ports_of(&self, d: Dom) -> [u64; 4]
-        ensures { AreWordsOf self.now d result }
+    /// The ports of the domain: bit n of the word stands for port n.
+    pub fn ports_of(&self, d: Dom) -> u64
+        ensures { IsWordOf self.now d result }
     {
-        let at = 4 * usize::from(d.number());
-        [
-            self.words[at],
-            self.words[at + 1],
-            self.words[at + 2],
-            self.words[at + 3],
-        ]
+        self.words[usize::from(d.number())]
     }
 }
 
-<<<<<<< HEAD
-fn copy_of(places: &[Option<Dom>; 255]) -> [Option<Dom>; 255]
-    ensures { result ≡ places.now }
-{
-    let mut copy = [None; 255];
-    for i in 0..255 {
-=======
 fn copy_of(places: &[Option<Dom>; Port::PLACES]) -> [Option<Dom>; Port::PLACES]
     ensures { result ≡ places.now }
 {
     let mut copy = [None; Port::PLACES];
     for i in 0..Port::PLACES {
->>>>>>> main
         copy[i] = places[i];
     }
     copy
 }
 
-<<<<<<< HEAD
-fn host_alone() -> [Option<Dom>; 255]
-    ensures domains { entries_from 0 result ≡ (host, 0) ∷ [] }
-    ensures host { get_or result 0 None ≡ Some 0 }
-{
-    let mut by_port = [None; 255];
-=======
 fn host_alone() -> [Option<Dom>; Port::PLACES]
     ensures domains { entries_from 0 result ≡ (host, 0) ∷ [] }
     ensures host { get_or result 0 None ≡ Some 0 }
 {
     let mut by_port = [None; Port::PLACES];
->>>>>>> main
     by_port[0] = Some(Dom::SOFTWARE);
     by_port
 }
 
-<<<<<<< HEAD
-/// Sets the port's bit in the domain's words, and in no other ones.
-fn put_bit(words: &mut [u64; 20], p: Port, d: Dom)
-    ensures { (domain port : ℕ) → domain < 5 → port < 255
-        → (bit_at (slice_index words.new (4 * domain + port / 64)) (port % 64) == 1)
-        ≡ (if port == p then d == domain else bit_at (slice_index words.old (4 * domain + port / 64)) (port % 64) == 1) }
-=======
 /// Sets the port's bit in the domain's word, and in no other one.
-fn put_bit(words: &mut [u64; 2], p: Port, d: Dom)
-    ensures { (domain port : ℕ) → domain < 2 → port < port_places
+fn put_bit(words: &mut [u64; Dom::PLACES], p: Port, d: Dom)
+    ensures { (domain port : ℕ) → domain ≤ last_chip → port < port_places
         → (bit_at (slice_index words.new domain) port == 1) ≡ (if port == p then d == domain else bit_at (slice_index words.old domain) port == 1) }
->>>>>>> main
 {
     clear_bit(words, p);
-    words[4 * usize::from(d.number()) + usize::from(p.number() / 64)] |= 1 << (p.number() % 64);
+    words[usize::from(d.number())] |= 1 << p.number();
 }
 
-<<<<<<< HEAD
-fn clear_bit(words: &mut [u64; 20], p: Port)
-    ensures { (domain port : ℕ) → domain < 5 → port < 255
-        → (bit_at (slice_index words.new (4 * domain + port / 64)) (port % 64) == 1)
-        ≡ (if port == p then false else bit_at (slice_index words.old (4 * domain + port / 64)) (port % 64) == 1) }
-=======
-fn clear_bit(words: &mut [u64; 2], p: Port)
-    ensures { (domain port : ℕ) → domain < 2 → port < port_places
+fn clear_bit(words: &mut [u64; Dom::PLACES], p: Port)
+    ensures { (domain port : ℕ) → domain ≤ last_chip → port < port_places
         → (bit_at (slice_index words.new domain) port == 1) ≡ (if port == p then false else bit_at (slice_index words.old domain) port == 1) }
->>>>>>> main
 {
-    for domain in 0..5 {
-        words[4 * domain + usize::from(p.number() / 64)] &= !(1 << (p.number() % 64));
+    for domain in 0..Dom::PLACES {
+        words[domain] &= !(1 << p.number());
     }
 }

@@ -2,15 +2,11 @@
 ghost use Rattle.std.specs.Prelude.{◌≡◌, ◌==◌, ◌≤◌, ◌<◌, ◌*◌, ◌^◌, ◌↔◌, IsSome, IfSome};
 ghost use Rattle.br_model.specs.Data.Numbers.{number, is_multicast};
 ghost use Rattle.br_model.specs.Forward.Targets.{is_for_the_host};
-ghost use Rattle.br_model.specs.Table.Domains.{last_port, port_places};
+ghost use Rattle.br_model.specs.Table.Domains.{last_chip, last_port, port_places};
 
 use std::marker::Model;
 
-<<<<<<< HEAD
-/// A port of the bridge, from 0 to 254. Port 0 is the host.
-=======
 /// A port of the bridge, from 0 to `LAST`. Port 0 is the host.
->>>>>>> main
 #[derive(Clone, Copy, PartialEq, Eq, PartialOrd, Ord, Debug)]
 pub struct Port {
     number: u8,
@@ -24,11 +20,7 @@ impl Model for Port {
 
     ghost view = { λ p. p.number };
 
-<<<<<<< HEAD
-    ghost invariant = { λ p. p.number < 255 };
-=======
     ghost invariant = { λ p. p.number ≤ last_port };
->>>>>>> main
 
     ghost inverse = { λ n. record { number = n } };
 }
@@ -36,14 +28,6 @@ impl Model for Port {
 impl Port {
     pub const HOST: Port = Port { number: 0 };
 
-<<<<<<< HEAD
-    /// How many ports there can be.
-    pub const COUNT: u8 = 255;
-
-    /// `None` exactly above 254.
-    pub fn new(number: u8) -> Option<Port>
-        ensures found { IsSome result ↔ (number < 255) }
-=======
     /// The number of the last port.
     pub const LAST: u8 = 63;
 
@@ -53,7 +37,6 @@ impl Port {
     /// `None` exactly above `LAST`.
     pub fn new(number: u8) -> Option<Port>
         ensures found { IsSome result ↔ (number ≤ last_port) }
->>>>>>> main
         ensures value { IfSome result (λ p. p ≡ number) }
     {
         if number <= Port::LAST {
@@ -65,12 +48,8 @@ impl Port {
 
     pub fn number(self) -> u8
         ensures value { result ≡ self }
-<<<<<<< HEAD
-        ensures below { self < 255 }
-=======
         ensures last { self ≤ last_port }
         ensures below { self < port_places }
->>>>>>> main
     {
         self.number
     }
@@ -82,7 +61,7 @@ impl Port {
     }
 }
 
-/// The domain of a port: 0 is software, 1 to 4 are chips.
+/// The domain of a port, from 0 to `LAST`: 0 is software, the others are of chips.
 #[derive(Clone, Copy, PartialEq, Eq, PartialOrd, Ord, Debug)]
 pub struct Dom {
     number: u8,
@@ -90,12 +69,13 @@ pub struct Dom {
 
 impl Model for Dom {
     ghost use Rattle.std.specs.Prelude.{ℕ, ◌≤◌};
+    ghost use Rattle.br_model.specs.Table.Domains.{last_chip};
 
     ghost Value = { ℕ };
 
     ghost view = { λ d. d.number };
 
-    ghost invariant = { λ d. d.number ≤ 4 };
+    ghost invariant = { λ d. d.number ≤ last_chip };
 
     ghost inverse = { λ n. record { number = n } };
 }
@@ -103,18 +83,21 @@ impl Model for Dom {
 impl Dom {
     pub const SOFTWARE: Dom = Dom { number: 0 };
 
-    /// The first chip, which always exists.
+    /// The domain that always has a chip.
     pub const CHIP: Dom = Dom { number: 1 };
 
-    /// How many domains there can be.
-    pub const COUNT: u8 = 5;
+    /// The number of the last domain.
+    pub const LAST: u8 = 4;
 
-    /// `None` exactly above 4.
+    /// How many places a table by domain has, from 0 on.
+    pub const PLACES: usize = 5;
+
+    /// `None` exactly above `LAST`.
     pub fn new(number: u8) -> Option<Dom>
-        ensures found { IsSome result ↔ (number ≤ 4) }
+        ensures found { IsSome result ↔ (number ≤ last_chip) }
         ensures value { IfSome result (λ d. d ≡ number) }
     {
-        if number < Dom::COUNT {
+        if number <= Dom::LAST {
             Some(Dom { number })
         } else {
             None
@@ -123,7 +106,7 @@ impl Dom {
 
     pub fn number(self) -> u8
         ensures value { result ≡ self }
-        ensures below { self ≤ 4 }
+        ensures below { self ≤ last_chip }
     {
         self.number
     }

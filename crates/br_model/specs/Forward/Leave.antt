@@ -7,19 +7,6 @@ use Rattle.std.specs.declared.option.Option.TheVariants.{None, Some}
 use Rattle.std.specs.Ordering.{nat_cmp}
 use Rattle.br_model.specs.declared.frame.Head.{Head}
 use Rattle.br_model.specs.declared.frame.McastMsg.{McastMsg}
-<<<<<<< HEAD:crates/br_model/specs/Leave.antt
-use Rattle.br_model.specs.Admission.{admit}
-use Rattle.br_model.specs.Domains.{most_ports}
-use Rattle.br_model.specs.Eligible.{may, untagged}
-use Rattle.br_model.specs.Frames.{dressed}
-use Rattle.br_model.specs.Maps.{has}
-use Rattle.br_model.specs.Messages.{message}
-use Rattle.br_model.specs.Table.{Table}
-use Rattle.br_model.specs.Targets.{targets, to_tree}
-
-unfoldable pub all_ports : List ℕ
-all_ports = range_with_len 0 most_ports
-=======
 use Rattle.br_model.specs.Forward.Admission.{admit}
 use Rattle.br_model.specs.Forward.Eligible.{may, untagged}
 use Rattle.br_model.specs.Wire.Frames.{dressed}
@@ -31,7 +18,6 @@ use Rattle.br_model.specs.Forward.Targets.{targets, to_tree}
 
 unfoldable pub all_ports : List ℕ
 all_ports = range_with_len 0 port_places
->>>>>>> main:crates/br_model/specs/Forward/Leave.antt
 
 -- the targets that may take the frame, ascending
 unfoldable pub egress_ports : Table → ℕ → ℕ → Head → McastMsg → List ℕ

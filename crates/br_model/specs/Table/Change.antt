@@ -1,11 +1,6 @@
-<<<<<<< HEAD:crates/br_model/specs/Change.antt
--- Changes of the table: which of them reach a chip later, and the tickets under which they do.
--- Source: the kernel's switchdev.rst (address entries are offloaded by deferred work) and net/bridge/br_mdb.c (group objects with
--- SWITCHDEV_F_DEFER, which edition 2 follows); the queue is this profile's.
-=======
 -- Changes of the table: which of them are of address entries, which reach a chip later, and the tickets under which they do.
--- Source: the kernel's switchdev.rst (address entries are offloaded by deferred work); the queue is this profile's.
->>>>>>> main:crates/br_model/specs/Table/Change.antt
+-- Source: the kernel's switchdev.rst (address entries are offloaded by deferred work) and net/bridge/br_switchdev.c
+-- (br_switchdev_mdb_notify offloads members of groups with SWITCHDEV_F_DEFER, as edition 2 does); the queue is this profile's.
 use Rattle.std.specs.Prelude.{Bool, true, false, List, map}
 use Rattle.std.specs.List.{filter, enumerate_from}
 use Rattle.br_model.specs.declared.change.Change.{Change}
@@ -14,7 +9,23 @@ use Rattle.br_model.specs.declared.change.Update.{Update}
 use Rattle.br_model.specs.declared.domains.Edition.{Edition}
 use Rattle.br_model.specs.declared.domains.Edition.TheVariants.{One, Two}
 
-<<<<<<< HEAD:crates/br_model/specs/Change.antt
+-- whether it is of an address entry
+abbrev pub is_of_address : Change → Bool
+is_of_address (PortUp port) = false
+is_of_address (PortDown port) = false
+is_of_address (SetFlags port flags) = false
+is_of_address (SetState port state) = false
+is_of_address (VlanAdd port vid untagged pvid) = false
+is_of_address (VlanDel port vid) = false
+is_of_address (GroupJoin port vid group) = false
+is_of_address (GroupPart port vid group) = false
+is_of_address (Router port on) = false
+is_of_address (Querier six on) = false
+is_of_address (Snoop on) = false
+is_of_address (Stp on) = false
+is_of_address (AddrPut vid mac port kind) = true
+is_of_address (AddrDel vid mac) = true
+
 -- whether the members of groups reach a chip through the queue
 abbrev pub groups_deferred : Edition → Bool
 groups_deferred One = false
@@ -36,28 +47,6 @@ deferred edition (Snoop on) = false
 deferred edition (Stp on) = false
 deferred edition (AddrPut vid mac port kind) = true
 deferred edition (AddrDel vid mac) = true
-=======
--- whether it is of an address entry
-abbrev pub is_of_address : Change → Bool
-is_of_address (PortUp port) = false
-is_of_address (PortDown port) = false
-is_of_address (SetFlags port flags) = false
-is_of_address (SetState port state) = false
-is_of_address (VlanAdd port vid untagged pvid) = false
-is_of_address (VlanDel port vid) = false
-is_of_address (GroupJoin port vid group) = false
-is_of_address (GroupPart port vid group) = false
-is_of_address (Router port on) = false
-is_of_address (Querier six on) = false
-is_of_address (Snoop on) = false
-is_of_address (Stp on) = false
-is_of_address (AddrPut vid mac port kind) = true
-is_of_address (AddrDel vid mac) = true
-
--- A deferred change reaches the chip through the queue, any other one in the step that accepts it.
-abbrev pub deferred : Change → Bool
-deferred c = is_of_address c
->>>>>>> main:crates/br_model/specs/Table/Change.antt
 
 -- the deferred changes in order, with tickets 0, 1, 2 and so on
 abbrev pub updates : Edition → List Change → List Update

@@ -5,12 +5,8 @@ use Rattle.std.specs.List.{filter, slice_get}
 use Rattle.std.specs.declared.option.Option.{Option}
 use Rattle.br_model.specs.declared.change.Change.{Change}
 use Rattle.br_model.specs.declared.change.Update.{Update}
-<<<<<<< HEAD:crates/br_model/specs/Cut.antt
 use Rattle.br_model.specs.declared.domains.Edition.{Edition}
-use Rattle.br_model.specs.Change.{deferred}
-=======
 use Rattle.br_model.specs.Table.Change.{deferred}
->>>>>>> main:crates/br_model/specs/Table/Cut.antt
 
 -- those that reach a chip through the queue, in order
 abbrev pub deferred_of : Edition → List Change → List Change

@@ -5,11 +5,7 @@ use Rattle.std.specs.declared.option.Option.{Option}
 use Rattle.std.specs.declared.option.Option.TheVariants.{None, Some}
 use Rattle.std.specs.Int.{bit_at}
 use Rattle.std.specs.Option.{option_eq}
-<<<<<<< HEAD:crates/br_model/specs/DomainPorts.antt
-use Rattle.br_model.specs.Domains.{Domains, domain_of, most_ports}
-=======
 use Rattle.br_model.specs.Table.Domains.{Domains, domain_of, port_places}
->>>>>>> main:crates/br_model/specs/Table/DomainPorts.antt
 
 -- whether the port is in the domain
 abbrev pub is_in_domain : Domains → ℕ → ℕ → Bool
@@ -20,12 +16,6 @@ abbrev pub is_marked : Domains → Option ℕ → ℕ → Bool
 is_marked domains None port = false
 is_marked domains (Some mark) port = is_in_domain domains mark port
 
-<<<<<<< HEAD:crates/br_model/specs/DomainPorts.antt
--- in the words of a domain bit n of the k-th one stands for port 64 * k + n
-abbrev pub AreWordsOf : Domains → ℕ → List ℕ → Type 0
-AreWordsOf domains domain words = (port : ℕ) → port < most_ports → (bit_at (slice_index words (port / 64)) (port % 64) == 1) ≡ is_in_domain domains domain port
-=======
 -- in the word of a domain bit n stands for port n
 abbrev pub IsWordOf : Domains → ℕ → ℕ → Type 0
 IsWordOf domains domain word = (port : ℕ) → port < port_places → (bit_at word port == 1) ≡ is_in_domain domains domain port
->>>>>>> main:crates/br_model/specs/Table/DomainPorts.antt

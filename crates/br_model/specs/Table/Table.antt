@@ -6,6 +6,8 @@ use Rattle.std.specs.List.{fold}
 use Rattle.std.specs.declared.option.Option.TheVariants.{Some}
 use Rattle.std.specs.Option.{option_eq}
 use Rattle.std.specs.Ordering.{nat_cmp}
+use Rattle.br_model.specs.declared.domains.Edition.{Edition}
+use Rattle.br_model.specs.declared.domains.Edition.TheVariants.{One, Two}
 use Rattle.br_model.specs.declared.change.Kind.{Kind}
 use Rattle.br_model.specs.declared.change.Change.{Change}
 use Rattle.br_model.specs.declared.change.Change.TheVariants.{PortUp, PortDown, SetFlags, SetState, VlanAdd, VlanDel, GroupJoin, GroupPart, Router, Querier, Snoop, Stp, AddrPut, AddrDel}
@@ -99,3 +101,8 @@ table history = fold apply start history
 -- the table with these addresses in the place of its own
 abbrev pub with_addresses : Table → List ((ℕ × ℕ) × (ℕ × Kind)) → Table
 with_addresses t entries = record t { addr = entries }
+
+-- the table with another one's deferred parts in the place of its own: the addresses, and in edition 2 the groups
+abbrev pub with_deferred : Edition → Table → Table → Table
+with_deferred One t late = record t { addr = late.addr }
+with_deferred Two t late = record t { groups = late.groups; addr = late.addr }

@@ -1,22 +1,30 @@
-use Rattle.std.proofs.Common.{ℕ, ◌≡◌, ◌+◌, ◌*◌, ◌/◌, ◌%◌, ◌^◌, ◌<◌, length, get_or, bit_and, w64, List, ap, ◌∙◌, arith, get_or-set_other, length-set}
-use Rattle.std.specs.Int.{bit_not}
-use Rattle.br_model.proofs.DomainWords.{words-cleared}
+use Rattle.std.proofs.Common.{◌≡◌, ℕ, ◌*◌, ◌%◌, ◌^◌, false, cond, List, get_or, set, bit_and, w64, sym, ap, ◌∙◌, arith, inl, inr, get_or-set_same, get_or-set_other, length-set}
+use Rattle.std.specs.Prelude.{◌==◌}
+use Rattle.std.specs.Int.{bit_at, bit_not}
+use Rattle.std.proofs.lemmas.Bool.Decides.{eqb_tells}
+use Rattle.br_model.proofs.DomainWords.{bit-cleared}
 use Rattle.br_model.proofs.domains.clear_bit.Goals as goal
 
 pub loop-domain-preserved : goal.loop-domain-preserved
 loop-domain-preserved c =
     let words : List ℕ = c.loop-domain.words in
     let d : ℕ = c.loop-domain.domain in
-    let q : ℕ = c.from.result in
-    let v : ℕ = bit_and (get_or words (4 * d + q) 0) (bit_not w64 (1 * 2 ^ (c.number.result % 64) % 2 ^ 64)) in
-    let word : q ≡ c.args.p / 64 = c.from.ensures ∙ ap (λ n. n / 64) c.number-in-loop-domain.ensures.value in
-    let within : 4 * d + q < length words = omega (arith, word, c.number.ensures.below, c.loop-domain.invariant.sized, c.loop-domain-test.true) in
+    let old : List ℕ = c.args.words.now in
+    let v : ℕ = bit_and (get_or words d 0) (bit_not w64 (1 * 2 ^ c.number.result % 2 ^ 64)) in
+    let same : get_or words d 0 ≡ get_or old d 0 = c.loop-domain.invariant.left d (omega arith) in
     record {
-      done = λ k port low fits.
-          words-cleared c.args.words.now words c.args.p c.number.result q d k port c.number.ensures.below fits c.number.ensures.value word within low
-          (c.loop-domain.invariant.left (4 * d + q) (omega arith))
-          (λ less. c.loop-domain.invariant.done k port less fits)
-          (λ is. c.loop-domain.invariant.left (4 * k + port / 64) (omega (arith, is)));
-      left = λ k high. get_or-set_other words (4 * d + q) k v 0 (λ e. absurd (omega (arith, e, high, word, c.number.ensures.below))) ∙ c.loop-domain.invariant.left k (omega arith);
-      sized = length-set words (4 * d + q) v ∙ c.loop-domain.invariant.sized;
+      done = λ k port low fits. elim (eqb_tells k d) [
+        | inl e ↦
+            ap (λ i. bit_at (get_or (set words d v) i 0) port == 1) e.1
+            ∙ ap (λ x. bit_at x port == 1) (get_or-set_same words d v 0 (omega (arith, c.loop-domain.invariant.sized)))
+            ∙ bit-cleared (get_or words d 0) c.number.result port (omega arith) fits
+            ∙ ap (λ q. cond (port == q) false (bit_at (get_or words d 0) port == 1)) c.number.ensures.value
+            ∙ ap (λ x. cond (port == c.args.p) false (bit_at x port == 1)) same
+            ∙ ap (λ i. cond (port == c.args.p) false (bit_at (get_or old i 0) port == 1)) (sym e.1)
+        | inr e ↦
+            ap (λ x. bit_at x port == 1) (get_or-set_other words d k v 0 e.1)
+            ∙ c.loop-domain.invariant.done k port (omega (arith, e.1)) fits
+      ];
+      left = λ k high. get_or-set_other words d k v 0 (λ e. absurd (omega arith)) ∙ c.loop-domain.invariant.left k (omega arith);
+      sized = length-set words d v ∙ c.loop-domain.invariant.sized;
     }

@@ -12,5 +12,5 @@ returns-clause-value c =
     let here : c.from.result < length c.self.inside.by_port = omega (arith, c.number.ensures.below, c.from.ensures, c.number.ensures.value) in
     get_or_default c.self.inside.by_port c.from.result c.index-self-from.result None here
     ∙ sym (get-entries 0 c.from.result c.self.inside.by_port)
-    ∙ ap (λ (m : Domains). get nat_cmp m.ports (0 + c.from.result)) c.self.view_is
-    ∙ ap (λ q. get nat_cmp c.args.self.now.ports q) port
+    ∙ ap (λ (m : Domains). get nat_cmp m (0 + c.from.result)) c.self.view_is
+    ∙ ap (λ q. get nat_cmp c.args.self.now q) port

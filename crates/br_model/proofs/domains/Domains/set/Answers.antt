@@ -1,33 +1,28 @@
-use Rattle.std.proofs.Common.{rules, ℕ, List, ◌≡◌, ◌+◌, ◌<◌, length, set, Some, sym, ap, subst, ◌∙◌, arith}
+use Rattle.std.proofs.Common.{rules, ◌≡◌, ◌+◌, ◌<◌, length, get_or, sym, ap, subst, ◌∙◌, arith}
 use Rattle.std.specs.Ordering.{nat_cmp}
-<<<<<<< HEAD
-use Rattle.br_model.specs.Domains.{Domains, entries_from}
-use Rattle.br_model.specs.Maps.{put}
-=======
 use Rattle.br_model.specs.Table.Domains.{Domains, entries_from}
 use Rattle.br_model.specs.Data.Maps.{put}
 use Rattle.br_model.specs.Table.DomainPorts.{IsWordOf}
->>>>>>> main
 use Rattle.br_model.proofs.DomainLaws.{entries-set}
-use Rattle.br_model.proofs.DomainWords.{Keep, words-keep}
+use Rattle.br_model.proofs.DomainWords.{word-put}
 use Rattle.br_model.proofs.domains.Domains.set.Goals as goal
-
--- the entries with the new one
-entries-put : (c : goal.After-index-self-from) → entries_from 0 (set c.self.inside.by_port c.from.result (Some c.args.d)) ≡ put nat_cmp (entries_from 0 c.self.inside.by_port) c.args.p c.args.d
-entries-put c =
-    let port : 0 + c.from.result ≡ c.args.p = omega (arith, c.from.ensures, c.number.ensures.value) in
-    let within : c.from.result < length c.self.inside.by_port = omega arith in
-    entries-set 0 c.from.result c.args.d c.self.inside.by_port within
-    ∙ ap (λ q. put nat_cmp (entries_from 0 c.self.inside.by_port) q c.args.d) port
 
 pub returns : goal.returns
 returns c =
-    ap (λ (es : List (ℕ × ℕ)). record { edition = c.self.inside.edition; ports = es }) (entries-put c)
-    ∙ ap (λ (m : Domains). record m { ports = put nat_cmp m.ports c.args.p c.args.d }) c.self.view_is
+    let port : 0 + c.from.result ≡ c.args.p = omega (arith, c.from.ensures, c.number.ensures.value) in
+    let within : c.from.result < length c.self.inside.by_port = omega arith in
+    entries-set 0 c.from.result c.args.d c.self.inside.by_port within
+    ∙ ap (λ (m : Domains). put nat_cmp m (0 + c.from.result) c.args.d) c.self.view_is
+    ∙ ap (λ q. put nat_cmp c.args.self.now q c.args.d) port
 
 pub invariant_of-self : goal.invariant_of-self
 invariant_of-self c = (
   search rules,
-  subst (λ (es : List (ℕ × ℕ)). Keep c.put_bit.new.words (record { edition = c.self.inside.edition; ports = es })) (sym (entries-put c))
-      (words-keep (record { edition = c.self.inside.edition; ports = entries_from 0 c.self.inside.by_port }) c.args.p c.args.d c.self.inside.words c.put_bit.new.words c.self.invariant.1 c.put_bit.ensures),
+  λ domain low.
+      let m : Domains = entries_from 0 c.self.inside.by_port in
+      let within : c.from.result < length c.self.inside.by_port = omega arith in
+      let port : 0 + c.from.result ≡ c.args.p = omega (arith, c.from.ensures, c.number.ensures.value) in
+      subst (λ (es : Domains). IsWordOf es domain (get_or c.put_bit.new.words domain 0))
+      (sym (entries-set 0 c.from.result c.args.d c.self.inside.by_port within ∙ ap (λ q. put nat_cmp m q c.args.d) port))
+      (word-put m c.args.p c.args.d domain (get_or c.self.inside.words domain 0) (get_or c.put_bit.new.words domain 0) (c.self.invariant.1 domain low) (λ n fits. c.put_bit.ensures domain n low fits)),
 )
