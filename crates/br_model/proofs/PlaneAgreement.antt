@@ -20,7 +20,7 @@ use Rattle.br_model.specs.declared.steps.Step.{Step}
 use Rattle.br_model.specs.Plane.Chip.{notes, Chip}
 use Rattle.br_model.specs.Forward.Class.{class}
 use Rattle.br_model.specs.Table.Cut.{deferred_count}
-use Rattle.br_model.specs.Table.Domains.{Domains, chip, domain_of}
+use Rattle.br_model.specs.Table.Domains.{Domains, domain_of}
 use Rattle.br_model.specs.Wire.Frames.{frame}
 use Rattle.br_model.specs.Forward.Leave.{leave}
 use Rattle.br_model.specs.Table.Limits.{most_waiting}

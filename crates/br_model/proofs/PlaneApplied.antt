@@ -19,7 +19,7 @@ use Rattle.br_model.specs.declared.steps.Refusal.TheVariants.{NoSuchPoint}
 use Rattle.br_model.specs.declared.transcript.Line.TheVariants.{Overrun}
 use Rattle.br_model.specs.Plane.Chip.{notes, Chip, first_chip, first_chips, applies}
 use Rattle.br_model.specs.Table.Cut.{cut, deferred_of, synchronous_of}
-use Rattle.br_model.specs.Table.Domains.{chip, domain_of, chip_domains, has_chip}
+use Rattle.br_model.specs.Table.Domains.{domain_of, chip_domains, has_chip}
 use Rattle.br_model.specs.Wire.Frames.{frame}
 use Rattle.br_model.specs.Control.Learning.{Triple}
 use Rattle.br_model.specs.Table.Limits.{most_waiting}
@@ -106,28 +106,10 @@ posts_at-grows : (w : World) (o : Option Holding) (point : Option ℕ) → Grows
 posts_at-grows w None point = idle w
 posts_at-grows w (Some h) point = posts_held-grows w h point
 
-<<<<<<< HEAD
 tells-grows : (w : World) (dom : ℕ) (c : Chip) (rs : List Triple) → chip_at w dom ≡ Some c → Grows w (tells w c rs).0
 tells-grows w dom c [] at = idle w
 tells-grows w dom c (x ∷ later) at =
     answered-grows w (with_chip w (record c { reports = later })) (reacts w (events.Told x.0 x.1 x.2)) refl refl (put-counts w.chips c (record c { reports = later }) (chip-own w.chips dom c at) refl refl)
-=======
-tells-grows : (w : World) (rs : List Triple) → Grows w (tells w w.chip rs).0
-tells-grows w [] = stays w w refl refl
-tells-grows w (x ∷ later) = answered-grows w (record w { chip = record w.chip { reports = later } }) (reacts w (events.Told x.0 x.1 x.2)) refl refl
-
-reports-grows : (w : World) (dom : ℕ) → Grows w (reports w (chip_at w dom)).0
-reports-grows w dom = elim (dom == chip) as (λ b. Grows w (reports w (cond b (Some w.chip) None)).0) [
-  | true ↦ tells-grows w w.chip.reports
-  | false ↦ stays w w refl refl
-]
-
-sweeps-grows : (w : World) (dom : ℕ) → Grows w (sweeps w (chip_at w dom)).0
-sweeps-grows w dom = elim (dom == chip) as (λ b. Grows w (sweeps w (cond b (Some w.chip) None)).0) [
-  | true ↦ answered-grows w (record w { chip = record w.chip { hits = [] } }) (reacts w (swept w w.chip)) refl refl
-  | false ↦ stays w w refl refl
-]
->>>>>>> main
 
 reports-grows : (w : World) (dom : ℕ) (o : Option Chip) → chip_at w dom ≡ o → Grows w (reports w o).0
 reports-grows w dom None at = idle w
@@ -171,7 +153,6 @@ accepts-applies w v dom done k a g c at =
       deferred = ap (λ (l : List Change). deferred_of edition (done ++ synchronous_of edition l)) changes ∙ once.1 ∙ sym (λ i. take (count i) (deferred_of edition (g.2 i)));
     })
 
-<<<<<<< HEAD
 -- nothing is applied
 same-applies : {edition : Edition} {history : List Change} {count : ℕ} (done : List Change) → Applies edition history count done → Applies edition history count (done ++ [])
 same-applies {edition} {history} {count} done a = subst (Applies edition history count) (sym (append-nil done)) a
@@ -189,26 +170,10 @@ turns_to-applies w dom done c (Some x) there e a d at =
     let new : applies c x ≡ d = same-some (applies c x) d (sym (put-same w.chips (applies c x) dom c (keep.dom ∙ own) there) ∙ at) in
     subst (λ (y : Chip). Applies edition w.history y.count (done ++ x ∷ [])) new (record {
       table = after.1 ∙ sym (ap (λ n. table (cut edition w.history n)) keep.count);
-=======
-nothing-applies : (w : World) (done : List Change) → Applies w done → Applies w (done ++ [])
-nothing-applies w done a =
-    let nothing = append-nil done in
-    record { table = ap table nothing ∙ a.table; synchronous = ap synchronous_of nothing ∙ a.synchronous; deferred = ap deferred_of nothing ∙ a.deferred }
-
-turns_to-applies : (w : World) (done : List Change) (o : Option Change) → next_of w w.chip ≡ o → Applies w done → Applies (turns_to w w.chip o).0 (done ++ option_to_list o)
-turns_to-applies w done None e a = nothing-applies w done a
-turns_to-applies w done (Some d) e a =
-    let count = (hit_by-keeps (record w.chip { count = w.chip.count + 1 }) d).0 in
-    let after = after_turn w.history done w.chip.count d e a.table in
-    let once = once_after_turn w.history done w.chip.count d e a.synchronous a.deferred in
-    record {
-      table = after.1 ∙ sym (ap (λ n. table (cut w.history n)) count);
->>>>>>> main
       synchronous = once.0;
       deferred = once.1 ∙ sym (ap (λ n. take n (deferred_of edition w.history)) keep.count);
     })
 
-<<<<<<< HEAD
 turns-applies : (w : World) (dom : ℕ) (done : List Change) (o : Option Chip) → chip_at w dom ≡ o → AppliesAt dom w done → AppliesAt dom (turns w o).0 (done ++ turned_in w o)
 turns-applies w dom done None there a = λ d at. same-applies done (a d at)
 turns-applies w dom done (Some c) there a = turns_to-applies w dom done c (next_of w c) there refl a
@@ -261,26 +226,6 @@ step-setup w (Turn e) = turns-setup (record w { steps = w.steps + 1 }) (chip_at 
 step-setup w (Report e) = (reports-grows (record w { steps = w.steps + 1 }) e (chip_at w e) refl).1
 step-setup w (Sweep e) = (sweeps-grows (record w { steps = w.steps + 1 }) e (chip_at w e) refl).1
 step-setup w Publish = refl
-=======
-turns-applies : (w : World) (done : List Change) (dom : ℕ) → Applies w done → Applies (turns w (chip_at w dom)).0 (done ++ turned_in w (chip_at w dom))
-turns-applies w done dom a =
-    elim (dom == chip) as (λ b. Applies (turns w (cond b (Some w.chip) None)).0 (done ++ turned_in w (cond b (Some w.chip) None))) [
-      | true ↦ turns_to-applies w done (next_of w w.chip) refl a
-      | false ↦ nothing-applies w done a
-    ]
-
-pub step-applies : (w : World) (done : List Change) (step : Step) → IsWorld w → Applies w done → Applies (world_step w step).0 (done ++ applied_in w step)
-step-applies w done (Rx port bytes) k a = accepts-applies w _ done k a (enters-grows (record w { steps = w.steps + 1; next = w.next + 1 }) w.next port bytes (frame bytes))
-step-applies w done (Cmd c) k a = accepts-applies w _ done k a (answered-grows (record w { steps = w.steps + 1 }) (record w { steps = w.steps + 1 }) _ refl refl)
-step-applies w done (Now moment) k a = accepts-applies w _ done k a (answered-grows (record w { steps = w.steps + 1 }) (record w { steps = w.steps + 1 }) _ refl refl)
-step-applies w done Serve k a = accepts-applies w _ done k a (serves-grows (record w { steps = w.steps + 1 }) w.waiting)
-step-applies w done Hold k a = accepts-applies w _ done k a (holds-grows (record w { steps = w.steps + 1 }) w.waiting)
-step-applies w done (Post id point) k a = accepts-applies w _ done k a (posts_at-grows (record w { steps = w.steps + 1 }) (held_with w id) point)
-step-applies w done (Turn dom) k a = turns-applies (record w { steps = w.steps + 1 }) done dom (record { table = a.table; synchronous = a.synchronous; deferred = a.deferred })
-step-applies w done (Report dom) k a = accepts-applies w _ done k a (reports-grows (record w { steps = w.steps + 1 }) dom)
-step-applies w done (Sweep dom) k a = accepts-applies w _ done k a (sweeps-grows (record w { steps = w.steps + 1 }) dom)
-step-applies w done Publish k a = accepts-applies w _ done k a (stays w (world_step w Publish).0 refl refl)
->>>>>>> main
 
 -- Runs.
 

@@ -22,7 +22,7 @@ use Rattle.br_model.specs.declared.bpdu.BpduMsg.{BpduMsg}
 use Rattle.br_model.specs.declared.transcript.Line.TheVariants.{Overrun, Done}
 use Rattle.br_model.specs.Plane.Chip.{Chip, applies, notes}
 use Rattle.br_model.specs.Table.DomainPorts.{is_marked}
-use Rattle.br_model.specs.Table.Domains.{Domains, chip, domain_of, foreign}
+use Rattle.br_model.specs.Table.Domains.{Domains, domain_of, foreign}
 use Rattle.br_model.specs.Wire.Frames.{frame}
 use Rattle.br_model.specs.Control.Learning.{Triple}
 use Rattle.br_model.specs.Table.Limits.{most_waiting}
@@ -457,12 +457,6 @@ posts_at-effect id i w (Some h) point e k = posts_held-effect id i w h point e k
 
 -- The other steps.
 
-<<<<<<< HEAD
-turns_to-effect : (id : ℕ) (w : World) (c : Chip) (o : Option Change) → Effect id w (turns_to w c o).0 (turns_to w c o).1
-turns_to-effect id w c None = quiet id w w _ (alike w) refl
-turns_to-effect id w c (Some d) = quiet id w _ _ (record { setup = refl; next = refl; published = refl; held = refl; waiting = refl }) refl
-
-=======
 alike-chip : (w : World) (c : Chip) → Alike w (with_chip w c)
 alike-chip w c = record { setup = refl; next = refl; published = refl; held = refl; waiting = refl }
 
@@ -470,18 +464,10 @@ turns_to-effect : (id : ℕ) (w : World) (c : Chip) (o : Option Change) → Effe
 turns_to-effect id w c None = quiet id w w _ (alike w) refl
 turns_to-effect id w c (Some d) = quiet id w _ _ (alike-chip w (applies c d)) refl
 
->>>>>>> main
 turns-effect : (id : ℕ) (w : World) (o : Option Chip) → Effect id w (turns w o).0 (turns w o).1
 turns-effect id w None = quiet id w w _ (alike w) refl
 turns-effect id w (Some c) = turns_to-effect id w c (next_of w c)
 
-<<<<<<< HEAD
--- a chip changes
-alike-chip : (w : World) (c : Chip) → Alike w (with_chip w c)
-alike-chip w c = record { setup = refl; next = refl; published = refl; held = refl; waiting = refl }
-
-=======
->>>>>>> main
 tells-effect : (id : ℕ) (w : World) (c : Chip) (rs : List Triple) → Effect id w (tells w c rs).0 (tells w c rs).1
 tells-effect id w c [] = quiet id w w _ (alike w) refl
 tells-effect id w c (x ∷ later) = answers id w (with_chip w (record c { reports = later })) (reacts w (events.Told x.0 x.1 x.2)) (alike-chip w (record c { reports = later }))

@@ -30,7 +30,7 @@ use Rattle.br_model.specs.declared.transcript.Line.TheVariants.{Overrun}
 use Rattle.br_model.specs.Plane.Chip.{Chip, same_triple, offered, offers, hit, hit_by, hits_entry, notes, report, hit_of, first_chip, applies}
 use Rattle.br_model.specs.Table.Cut.{deferred_of}
 use Rattle.br_model.specs.Table.DomainPorts.{is_in_domain}
-use Rattle.br_model.specs.Table.Domains.{Domains, domain_of, chip, chip_domains, has_chip}
+use Rattle.br_model.specs.Table.Domains.{Domains, domain_of, chip_domains, has_chip}
 use Rattle.br_model.specs.Wire.Frames.{frame}
 use Rattle.br_model.specs.Control.Learning.{Address, Triple}
 use Rattle.br_model.specs.Table.Limits.{most_reports, most_waiting}
@@ -333,7 +333,6 @@ posts_at-world w (Some h) point k = posts_held-world w h point k
 
 -- The chip's driver.
 
-<<<<<<< HEAD
 turns_to-world : (w : World) (dom : ℕ) (c : Chip) (o : Option Change) → chip_at w dom ≡ Some c → next_of w c ≡ o → IsWorld w → IsWorld (turns_to w c o).0
 turns_to-world w dom c None at e k = k
 turns_to-world w dom c (Some d) at e k =
@@ -348,31 +347,11 @@ turns_to-world w dom c (Some d) at e k =
 turns-world : (w : World) (dom : ℕ) (o : Option Chip) → chip_at w dom ≡ o → IsWorld w → IsWorld (turns w o).0
 turns-world w dom None at k = k
 turns-world w dom (Some c) at k = turns_to-world w dom c (next_of w c) at refl k
-=======
-turns_to-world : (w : World) (o : Option Change) → next_of w w.chip ≡ o → IsWorld w → IsWorld (turns_to w w.chip o).0
-turns_to-world w None e k = k
-turns_to-world w (Some d) e k =
-    let keeps = hit_by-keeps (record w.chip { count = w.chip.count + 1 }) d in
-    record {
-      history = record { applied = omega (arith, keeps.0, slice_get_within (deferred_of w.history) w.chip.count d e); fits = k.history.fits; few = k.history.few };
-      counts = k.counts;
-      frames = k.frames;
-      reports = keeps.1 k.reports;
-      hits = keeps.2 k.hits;
-    }
->>>>>>> main
-
-turns-world : (w : World) (dom : ℕ) → IsWorld w → IsWorld (turns w (chip_at w dom)).0
-turns-world w dom k = elim (dom == chip) as (λ b. IsWorld (turns w (cond b (Some w.chip) None)).0) [
-  | true ↦ turns_to-world w (next_of w w.chip) refl k
-  | false ↦ k
-]
 
 fewer-reports : (x : Triple) (later : List Triple) → ReportsStand (x ∷ later) → ReportsStand later
 unfolding IsDistinct
 fewer-reports x later k = record { ids = k.ids.1; few = omega (arith, k.few) }
 
-<<<<<<< HEAD
 tells-world : (w : World) (dom : ℕ) (c : Chip) (rs : List Triple) → chip_at w dom ≡ Some c → c.reports ≡ rs → IsWorld w → IsWorld (tells w c rs).0
 tells-world w dom c [] at e k = k
 tells-world w dom c (x ∷ later) at e k =
@@ -386,22 +365,6 @@ reports-world w dom None at k = k
 reports-world w dom (Some c) at k = tells-world w dom c c.reports at refl k
 
 unhit-stands : (edition : Edition) (history : List Change) (c : Chip) → ChipStands edition history c → ChipStands edition history (record c { hits = [] })
-=======
-tells-world : (w : World) (rs : List Triple) → w.chip.reports ≡ rs → IsWorld w → IsWorld (tells w w.chip rs).0
-tells-world w [] e k = k
-tells-world w (x ∷ later) e k =
-    answered-world w (record w { chip = record w.chip { reports = later } }) (events.Told x.0 x.1 x.2) k
-    (record { history = k.history; counts = k.counts; frames = k.frames; reports = fewer-reports x later (subst ReportsStand e k.reports); hits = k.hits })
-    refl
-
-reports-world : (w : World) (dom : ℕ) → IsWorld w → IsWorld (reports w (chip_at w dom)).0
-reports-world w dom k = elim (dom == chip) as (λ b. IsWorld (reports w (cond b (Some w.chip) None)).0) [
-  | true ↦ tells-world w w.chip.reports refl k
-  | false ↦ k
-]
-
-swept-world : (w : World) → IsWorld w → IsWorld (record w { chip = record w.chip { hits = [] } })
->>>>>>> main
 unfolding IsStrictlySortedBy
 unhit-stands edition history c k = record { applied = k.applied; reports = k.reports; hits = tt }
 
@@ -411,12 +374,6 @@ sweeps-world w dom (Some c) at k =
     answered-world w (with_chip w (record c { hits = [] })) (swept w c) k
     (chip-world w (record c { hits = [] }) (unhit-stands w.setup.domains.edition w.history c (chip-stands w dom c k at)) k)
     refl
-
-sweeps-world : (w : World) (dom : ℕ) → IsWorld w → IsWorld (sweeps w (chip_at w dom)).0
-sweeps-world w dom k = elim (dom == chip) as (λ b. IsWorld (sweeps w (cond b (Some w.chip) None)).0) [
-  | true ↦ answered-world w (record w { chip = record w.chip { hits = [] } }) (swept w w.chip) k (swept-world w k) refl
-  | false ↦ k
-]
 
 publishes-world : (w : World) → IsWorld w → IsWorld (publishes w (length w.history))
 publishes-world w k =
@@ -462,15 +419,9 @@ does-world w (Now moment) k = answered-world w w (events.Moment moment) k k refl
 does-world w Serve k = serves-world w w.waiting refl k
 does-world w Hold k = holds-world w w.waiting refl k
 does-world w (Post id point) k = posts_at-world w (held_with w id) point k
-<<<<<<< HEAD
 does-world w (Turn dom) k = turns-world w dom (chip_at w dom) refl k
 does-world w (Report dom) k = reports-world w dom (chip_at w dom) refl k
 does-world w (Sweep dom) k = sweeps-world w dom (chip_at w dom) refl k
-=======
-does-world w (Turn dom) k = turns-world w dom k
-does-world w (Report dom) k = reports-world w dom k
-does-world w (Sweep dom) k = sweeps-world w dom k
->>>>>>> main
 does-world w Publish k = publishes-world w k
 
 pub step-world : (w : World) (step : Step) → IsWorld w → IsWorld (world_step w step).0

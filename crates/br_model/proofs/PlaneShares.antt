@@ -58,11 +58,7 @@ module _ (g : ℕ → List ℕ) (p : ℕ → Bool) where
         | false ↦ rest
       ]
 
-<<<<<<< HEAD
-  ascends-ports : (n : ℕ) → n ≡ 255 → Ascends (map (λ q. (q, g q)) (filter p all_ports))
-=======
   ascends-ports : (n : ℕ) → n ≡ port_places → Ascends (map (λ q. (q, g q)) (filter p all_ports))
->>>>>>> main
   ascends-ports n e = subst (λ xs. Ascends (map (λ q. (q, g q)) xs)) (filter-all_ports p n e) (ascends-range 0 n)
 
 pub ascends-leave : (t : Table) (port : ℕ) (bytes : List ℕ) (head : Head) → Ascends (leave t port bytes head)
@@ -72,11 +68,7 @@ ascends-leave t port bytes head = by (admit t port head) (to_tree t port head)
     by : (o : Option ℕ) (b : Bool) → Ascends (dressed_in t o (cond b [] (ports_in t port o head (message bytes head))) bytes head)
     by None b = tt
     by (Some vid) true = tt
-<<<<<<< HEAD
-    by (Some vid) false = ascends-ports (λ q. dressed bytes head (tag_at t q vid)) _ 255 refl
-=======
     by (Some vid) false = ascends-ports (λ q. dressed bytes head (tag_at t q vid)) _ port_places refl
->>>>>>> main
 
 -- The order of ports.
 

@@ -1,5 +1,6 @@
 //! Runs over memory: what they answer, and what they write.
 mod captures;
+mod chips;
 mod commands;
 mod faults;
 mod limits;

@@ -1,0 +1,110 @@
+//! Worked runs of both editions, and of several chips.
+use super::rows::row_is_told;
+use capture_runner::Status;
+use std::test::Fail;
+
+/// An empty line stands between two runs.
+const RUNS: &str =
+    "# In edition 1 the member of a group reaches the chip at once,
+scenario 1
+port 1 c1 chip 1
+port 2 c2 chip 1
+port 3 f3 soft
+cmd port up c1 => ok 1 3
+cmd port up c2 => ok 2 3
+cmd port up f3 => ok 3 3
+publish => ok 4 0
+rx 3 01005e00000102000000000e08004500001c000000000102cfd60a000009e00000011164ee9b00000000
+serve => soft 1 at 9; tx 1 0 01005e00000102000000000e08004500001c000000000102cfd60a000009e00000011164ee9b00000000; tx 1 1 01005e00000102000000000e08004500001c000000000102cfd60a000009e00000011164ee9b00000000; tx 1 2 01005e00000102000000000e08004500001c000000000102cfd60a000009e00000011164ee9b00000000; ok 6 3
+cmd mdb add 239.1.2.3 dev c2 vlan 1 => ok 7 1
+publish => ok 8 0
+rx 1 01005e01020302000000000c080045000014000000000111bed30a000002ef010203 => chip 2 at 13 0 copy; tx 2 2 01005e01020302000000000c080045000014000000000111bed30a000002ef010203
+turn 1 => ok 10 0
+turn 1 => refused 11 11
+rx 1 01005e01020302000000000c080045000014000000000111bed30a000002ef010203 => chip 3 at 13 1 copy; tx 3 2 01005e01020302000000000c080045000014000000000111bed30a000002ef010203
+serve => soft 2 at 13; tx 2 3 01005e01020302000000000c080045000014000000000111bed30a000002ef010203; ok 13 0
+end => end 13 13 0 1
+
+# and in edition 2 by a turn.
+scenario 2
+port 1 c1 chip 1
+port 2 c2 chip 1
+port 3 f3 soft
+cmd port up c1 => ok 1 3
+cmd port up c2 => ok 2 3
+cmd port up f3 => ok 3 3
+publish => ok 4 0
+rx 3 01005e00000102000000000e08004500001c000000000102cfd60a000009e00000011164ee9b00000000
+serve => soft 1 at 9; tx 1 0 01005e00000102000000000e08004500001c000000000102cfd60a000009e00000011164ee9b00000000; tx 1 1 01005e00000102000000000e08004500001c000000000102cfd60a000009e00000011164ee9b00000000; tx 1 2 01005e00000102000000000e08004500001c000000000102cfd60a000009e00000011164ee9b00000000; ok 6 3
+cmd mdb add 239.1.2.3 dev c2 vlan 1 => ok 7 1
+publish => ok 8 0
+rx 1 01005e01020302000000000c080045000014000000000111bed30a000002ef010203 => chip 2 at 13 0 copy
+turn 1 => ok 10 0
+turn 1 => ok 11 0
+rx 1 01005e01020302000000000c080045000014000000000111bed30a000002ef010203 => chip 3 at 13 2 copy; tx 3 2 01005e01020302000000000c080045000014000000000111bed30a000002ef010203
+serve => soft 2 at 13; tx 2 3 01005e01020302000000000c080045000014000000000111bed30a000002ef010203; ok 13 0
+end => end 13 13 0 1
+
+# Each chip applies an address by a turn of its own.
+scenario 1
+port 1 a1 chip 1
+port 2 b2 chip 2
+port 60 f3 soft
+cmd port up a1 => ok 1 3
+cmd port up b2 => ok 2 3
+cmd port up f3 => ok 3 3
+publish => ok 4 0
+cmd fdb add 02:00:00:00:00:0b dev b2 vlan 1 static => ok 5 1
+publish => ok 6 0
+rx 1 02000000000b02000000000a88b50102 => chip 1 at 10 0 copy
+serve => soft 1 at 10; tx 1 2 02000000000b02000000000a88b50102; ok 8 0
+turn 1 => ok 9 0
+rx 1 02000000000b02000000000a88b50102 => chip 2 at 10 1 trap
+serve => soft 2 at 10; tx 2 2 02000000000b02000000000a88b50102; ok 11 0
+turn 2 => ok 12 0
+turn 2 => refused 13 11
+end => end 13 10 0 0
+
+# Without that turn its address is pending.
+scenario 1
+port 1 a1 chip 1
+port 2 b2 chip 2
+port 60 f3 soft
+cmd port up a1 => ok 1 3
+cmd port up b2 => ok 2 3
+cmd port up f3 => ok 3 3
+publish => ok 4 0
+cmd fdb add 02:00:00:00:00:0b dev b2 vlan 1 static => ok 5 1
+publish => ok 6 0
+rx 1 02000000000b02000000000a88b50102 => chip 1 at 10 0 copy
+serve => soft 1 at 10; tx 1 2 02000000000b02000000000a88b50102; ok 8 0
+turn 1 => ok 9 0
+rx 1 02000000000b02000000000a88b50102 => chip 2 at 10 1 trap
+serve => soft 2 at 10; tx 2 2 02000000000b02000000000a88b50102; ok 11 0
+end => end 11 10 1 0
+
+# Each chip has its own reports and hits. What is pending is a sum over chips.
+scenario 1
+port 1 a1 chip 1
+port 2 d2 chip 4
+cmd port up a1 => ok 1 3
+cmd port up d2 => ok 2 3
+publish => ok 3 0
+rx 2 02000000000a02000000000b88b50102 => chip 1 at 6 0 copy
+report 1 => refused 5 12
+report 4 => ok 6 1
+turn 4 => ok 7 0
+turn 4 => refused 8 11
+sweep 1 => ok 9 0
+sweep 4 => ok 10 0
+sweep 4 => ok 11 1
+turn 1 => ok 12 0
+end => end 12 8 2 1";
+
+#[test]
+fn runs_of_editions_and_chips(rt: HostRuntime) -> Result<(), Fail> {
+    for text in RUNS.split("\n\n") {
+        row_is_told(&rt, rt.alloc(), text, Status::Ok)?;
+    }
+    Ok(())
+}
