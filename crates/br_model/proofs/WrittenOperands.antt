@@ -66,7 +66,7 @@ among P t d ds n this later = by (t d)
 -- what is said of each domain that a chip can have
 by_chip : (P : ℕ → Type 0) → P 1 → P 2 → P 3 → P 4 → (ports : List Entry) (dom : ℕ) → is_chip ports dom ≡ true → P dom
 by_chip P a b c d ports dom =
-    let t = (λ x. x == first_chip_domain || list_any (λ y. y == x) (map (λ (e : Entry). e.dom) ports)) in
+    let t : ℕ → Bool = λ x. x == first_chip_domain || list_any (λ y. y == x) (map (λ (e : Entry). e.dom) ports) in
     among P t 1 (2 ∷ 3 ∷ 4 ∷ []) dom a (among P t 2 (3 ∷ 4 ∷ []) dom b (among P t 3 (4 ∷ []) dom c (among P t 4 [] dom d (λ none. absurd (cc)))))
 
 chip_read : (ports : List Entry) (dom : ℕ) → is_chip ports dom ≡ true → chip_domain ports (decimal dom) ≡ Ok dom

@@ -6,13 +6,9 @@ use Rattle.std.specs.declared.option.Option.{Option}
 use Rattle.std.specs.declared.option.Option.TheVariants.{None, Some}
 use Rattle.br_model.specs.declared.change.Change.{Change}
 use Rattle.br_model.specs.declared.change.Change.TheVariants as changes
-<<<<<<< HEAD
 use Rattle.br_model.specs.declared.domains.Edition.{Edition}
-use Rattle.br_model.specs.Change.{deferred}
-use Rattle.br_model.specs.Table.{Table, apply}
-=======
+use Rattle.br_model.specs.Table.Change.{deferred}
 use Rattle.br_model.specs.Table.Table.{Table, apply}
->>>>>>> main
 use Rattle.switchdev_notify.specs.declared.notice.Object.{Object}
 use Rattle.switchdev_notify.specs.declared.notice.Object.TheVariants.{Vlan, Group}
 use Rattle.switchdev_notify.specs.declared.notice.Attribute.{Attribute}

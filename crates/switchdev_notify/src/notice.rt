@@ -1,11 +1,6 @@
 //! Notices, and the changes that they tell.
 ghost use Rattle.std.specs.Prelude.{◌≡◌, Some, None, if◌then◌else◌};
-<<<<<<< HEAD
-ghost use Rattle.br_model.specs.declared.domains.Edition.TheVariants.{One};
-ghost use Rattle.br_model.specs.Change.{deferred};
-=======
 ghost use Rattle.br_model.specs.Table.Change.{is_of_address};
->>>>>>> main
 ghost use Rattle.switchdev_notify.specs.Notices.{notice, change_of};
 
 use br_model::change::{Change, Flags};
@@ -70,11 +65,7 @@ pub enum Notice {
 /// What is told of the change.
 pub fn notice_of(c: &Change) -> Notice
     ensures value { result ≡ notice c.now }
-<<<<<<< HEAD
-    ensures change { change_of result ≡ (if deferred One c.now then None else Some c.now) }
-=======
     ensures change { change_of result ≡ (if is_of_address c.now then None else Some c.now) }
->>>>>>> main
 {
     match *c {
         Change::PortUp(port) => Notice::Attr(Attribute::PortUp(port)),

@@ -1,16 +1,9 @@
 //! Drivers that are told.
-<<<<<<< HEAD
 ghost use Rattle.std.specs.Prelude.{◌≡◌, List, [], ◌∷◌, ◌++◌, None};
-ghost use Rattle.br_model.specs.Change.{deferred};
-ghost use Rattle.br_model.specs.Cut.{synchronous_of};
-ghost use Rattle.br_model.specs.Domains.{Domains};
-ghost use Rattle.br_model.specs.Table.{Table, apply, table};
-=======
-ghost use Rattle.std.specs.Prelude.{◌≡◌, List, [], ◌∷◌, ◌++◌};
+ghost use Rattle.br_model.specs.Table.Change.{deferred};
 ghost use Rattle.br_model.specs.Table.Cut.{synchronous_of};
 ghost use Rattle.br_model.specs.Table.Domains.{Domains};
 ghost use Rattle.br_model.specs.Table.Table.{Table, apply, table};
->>>>>>> main
 ghost use Rattle.br_model.specs.declared.change.Change.{Change};
 ghost use Rattle.switchdev_notify.specs.Notices.{notice, change_added, change_removed, change_of_attribute, told_in, after, Takes};
 

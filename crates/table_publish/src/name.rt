@@ -14,8 +14,9 @@ pub trait Name {
 
 impl Name for Brand {
     ghost use Rattle.std.specs.Prelude.{[]};
+    ghost use Rattle.br_model.specs.declared.domains.Edition.TheVariants.{One};
 
-    ghost board = { record { book = record { number = 0; log_name = 0; cells_name = 0 }; domains = [] } };
+    ghost board = { record { book = record { number = 0; log_name = 0; cells_name = 0 }; domains = record { edition = One; ports = [] } } };
 
     ghost own = { 0 };
 }
