@@ -5,8 +5,8 @@ use Rattle.std.proofs.lemmas.List.Elements.{All-from_recursion, recursion_from_A
 use Rattle.std.specs.Prelude.{◌==◌, ◌||◌, is_some}
 use Rattle.std.specs.List.{All, AllByRecursion, list_any}
 use Rattle.std.specs.Option.{option_map}
-use Rattle.br_model.specs.Chip.{Chip, chip_in, put_chip}
-use Rattle.br_model.specs.Domains.{Domains, has_chip, chip_domains}
+use Rattle.br_model.specs.Plane.Chip.{Chip, chip_in, put_chip}
+use Rattle.br_model.specs.Table.Domains.{Domains, has_chip, chip_domains}
 use Rattle.br_model.specs.Plane.Entering.{chip_of}
 use Rattle.br_model.specs.Plane.World.{World, chip_at}
 use Rattle.br_model.proofs.PlaneLists.{same-some, find-passes, find-each}

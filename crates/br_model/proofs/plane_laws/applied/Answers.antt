@@ -1,9 +1,9 @@
 use Rattle.br_model.proofs.PlaneApplied.{run-setup, run-applies}
 use Rattle.br_model.proofs.plane_laws.applied.Goals as goal
 use Rattle.std.proofs.Common.{sym, ap, ◌∙◌}
-use Rattle.br_model.specs.Cut.{cut}
-use Rattle.br_model.specs.Setup.{Setup}
-use Rattle.br_model.specs.Table.{table}
+use Rattle.br_model.specs.Table.Cut.{cut}
+use Rattle.br_model.specs.Table.Setup.{Setup}
+use Rattle.br_model.specs.Table.Table.{table}
 use Rattle.br_model.specs.Plane.Runs.{run}
 
 pub returns : goal.returns
