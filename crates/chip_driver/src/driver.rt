@@ -1,6 +1,6 @@
 //! The driver.
-ghost use Rattle.std.specs.Prelude.{◌≡◌, ◌≤◌, IfOk, IsTrue};
-ghost use Rattle.br_model.specs.Table.Domains.{Domains as DomainsValue, chip};
+ghost use Rattle.std.specs.Prelude.{◌≡◌, ◌≢◌, ◌≤◌, IfOk, IsTrue};
+ghost use Rattle.br_model.specs.Table.Domains.{Domains as DomainsValue, software};
 ghost use Rattle.br_model.specs.Table.GroupPairs.{has_room};
 ghost use Rattle.br_model.specs.Table.Table.{Table, apply, start};
 ghost use Rattle.br_model.specs.declared.change.Change.TheVariants as changes;
@@ -20,11 +20,13 @@ use mdb_snoop::Groups;
 use port_sets::Ports;
 use std::alloc::Global;
 use std::marker::Model;
-use switchdev_notify::{Attribute, Object, SwitchOps, deliver, notice_of};
+use switchdev_notify::{Attribute, Object, SwitchOps};
 
-/// A chip's tables, and what the driver keeps beside them. Contracts see the rows, and the ports behind which a router is.
+/// A chip's tables, and what the driver keeps beside them. Contracts see the chip's domain, the rows, the ports behind which a
+/// router is, and the members of groups.
 #[derive(Drop)]
 pub struct Driver {
+    dom: Dom,
     kept: Kept,
 }
 
@@ -34,23 +36,24 @@ impl Model for Driver {
 
     ghost Value = { Driven };
 
-    ghost view = { λ d. driven d.kept };
+    ghost view = { λ d. driven d.dom d.kept };
 
     ghost invariant = { λ d. IsKept d.kept };
 }
 
 impl Driver {
-    /// A chip whose ports are those of the domain, before any change.
+    /// The chip of the domain, which isn't software's, before any change.
     pub fn make(alloc: Global, dom: Dom, d: &Domains) -> Result<Driver, NoMemory>
-        requires { dom ≡ chip }
-        ensures { IfOk result (λ x. Drives d.now x start) }
+        requires { dom ≢ software }
+        ensures domain { IfOk result (λ x. x.dom ≡ dom) }
+        ensures start { IfOk result (λ x. Drives d.now x start) }
     {
         let mut tables = Tables::make(alloc)?;
         let joined = Joined::make(alloc)?;
         let groups = Groups::make(alloc)?;
         let shadow = Shadow::start(Ports::from_word(d.ports_of(dom)));
         // law: the host isn't on the chip
-        making::host_is_elsewhere(d);
+        making::host_is_elsewhere(d, dom);
         making::mark_own(&mut tables, &shadow.own);
         switches::switch_traps(&mut tables, switches::FIRST_RESERVED, true);
         tables.set_control(switches::first_control());
@@ -61,7 +64,14 @@ impl Driver {
             groups,
         };
         kept.write_member(Port::HOST, Vid::DEFAULT, true, true);
-        Ok(Driver { kept })
+        Ok(Driver { dom, kept })
+    }
+
+    /// The chip's domain.
+    pub fn dom(&self) -> Dom
+        ensures { result ≡ self.now.dom }
+    {
+        self.dom
     }
 
     /// The chip's rows.
@@ -71,7 +81,7 @@ impl Driver {
         &self.kept.tables
     }
 
-    /// Applies an update of the queue. Others than those of addresses are told.
+    /// Applies an update of the queue, of whatever is deferred.
     pub fn address(&mut self, u: &Update)
         requires { IsTaken self.old u.now.change }
         ensures { (d : DomainsValue) (t : Table) → Drives d self.old t → Drives d self.new (apply t u.now.change) }
@@ -84,18 +94,23 @@ impl Driver {
                 kind,
             } => self.put_address(vid, mac, port, kind),
             Change::AddrDel { vid, mac } => self.del_address(vid, mac),
-            Change::PortUp(_)
-            | Change::PortDown(_)
-            | Change::SetFlags(..)
-            | Change::SetState(..)
-            | Change::VlanAdd { .. }
-            | Change::VlanDel { .. }
-            | Change::GroupJoin { .. }
-            | Change::GroupPart { .. }
-            | Change::Router { .. }
-            | Change::Querier { .. }
-            | Change::Snoop(_)
-            | Change::Stp(_) => deliver(self, &notice_of(&u.change)),
+            Change::GroupJoin { port, vid, group } => self.join_group(port, vid, group),
+            Change::GroupPart { port, vid, group } => self.part_group(port, vid, group),
+            Change::PortUp(port) => self.port_up(port),
+            Change::PortDown(port) => self.port_down(port),
+            Change::SetFlags(port, flags) => self.set_flags(port, flags),
+            Change::SetState(port, state) => self.set_state(port, state),
+            Change::VlanAdd {
+                port,
+                vid,
+                untagged,
+                pvid,
+            } => self.add_vlan(port, vid, untagged, pvid),
+            Change::VlanDel { port, vid } => self.del_vlan(port, vid),
+            Change::Router { port, on } => self.set_router(port, on),
+            Change::Querier { six, on } => self.set_querier(six, on),
+            Change::Snoop(on) => self.set_snoop(on),
+            Change::Stp(on) => self.set_stp(on),
         }
     }
 
