@@ -10,11 +10,11 @@ use Rattle.br_model.specs.Table.Domains.{chip_domains}
 use Rattle.br_model.specs.Table.Setup.{Setup}
 use Rattle.br_model.specs.Text.LineForms.{comes_by_line}
 use Rattle.br_model.specs.Text.Roster.{Roster, chips_of}
-use Rattle.br_model.specs.Text.Scenario.{declared, opened}
+use Rattle.br_model.specs.Text.Scenario.{Scenario, declared, opened}
 use Rattle.br_model.proofs.PlaneApplied.{step-setup}
 use Rattle.plane_core.specs.Added.{Added}
 use Rattle.capture_runner.specs.declared.session.Session.{Session}
-use Rattle.capture_runner.specs.Session.{Follows, IsBehindDeclarations, IsReady, IsWorld, Tells}
+use Rattle.capture_runner.specs.Session.{Follows, IsBehindDeclarations, IsReady, IsWorld, Tells, captures}
 use Rattle.capture_runner.proofs.Following.{past}
 use Rattle.scenario_text.specs.Items.{item_of, comes_in_place}
 
@@ -54,3 +54,7 @@ pub ready_told : {A E : Type 0} (r : Result A E) (roster : Roster) (w v : World)
     → OnOk r (Added (Tells w step v) before after) → OnOk r (IsReady roster (Some v))
 ready_told (Ok x) roster w v step before after h told = ready_after roster w v step h.0 h.1 (ap (λ (y : Stepped). y.0) told.so)
 ready_told (Err e) roster w v step before after h told = told
+
+-- behind a line `capture`
+pub behind_section : (s : Scenario) (x : Session) (n : ℕ) → Follows (captures s n) x → IsBehindDeclarations x.roster
+behind_section s x n f = subst IsBehindDeclarations (sym f.stands.roster) (refl, refl)
