@@ -1,5 +1,5 @@
 -- What a call of a plane comes to, by what its sides and its frames come to.
-use Rattle.std.proofs.Common.{◌≡◌, ℕ, ◌+◌, ◌==◌, ◌≤◌, nat_le, Bool, true, false, cond, ◌&&◌, not, List, [], ◌∷◌, length, take, drop, slice_get, Option, None, Some, option_map, refl, sym, ap, ◌∙◌, subst, arith}
+use Rattle.std.proofs.Common.{◌≡◌, ℕ, ◌+◌, ◌==◌, ◌≤◌, nat_le, true, false, cond, ◌&&◌, not, List, [], ◌∷◌, length, take, drop, slice_get, Option, None, Some, option_map, refl, sym, ap, ◌∙◌, subst, arith}
 use Rattle.std.proofs.lemmas.Bool.{eqb-true}
 use Rattle.std.specs.Option.{is_some}
 use Rattle.std.specs.List.{filter, find, list_any}
@@ -37,7 +37,7 @@ use Rattle.plane_core.specs.Shown.{shown_by, shown_of}
 use Rattle.plane_core.specs.declared.held.Held.{Held}
 use Rattle.br_model.proofs.Cuts.{updates-at, updates-named}
 use Rattle.br_model.proofs.PlaneKept.{first-world, step-world}
-use Rattle.plane_core.specs.Planes.{PlaneState, Steps, IsDecision, IsNamed, IsPassOf}
+use Rattle.plane_core.specs.Planes.{PlaneState, Steps, IsDecision, IsNamed, IsPassOf, next_ticket}
 use Rattle.plane_core.specs.Queued.{Queued, holds_oldest}
 use Rattle.plane_core.specs.Sides.{SidesState, Comes, first_sides, world_of}
 use Rattle.plane_core.proofs.Stepping.{stepped}
@@ -161,6 +161,16 @@ pub turns_one : (s t : SidesState) (q : Queued) (dom m : ℕ) (c : Chip) (u : Up
 turns_one s t q dom m c u found next is =
     ap (turns (world_of s q m)) found ∙ ap (turns_to (world_of s q m) c) (updates-named s.setup.domains.edition s.history c.count u next).1
     ∙ ap (λ (x : SidesState). (world_of x q m, lines.Done m 0 ∷ [])) (sym is)
+
+-- the ticket of the change that waits for the chip
+pub waits_for : (s : SidesState) (q : Queued) (n dom : ℕ) (c : Chip) (o : Option Update) → chip_in s.chips dom ≡ Some c → slice_get (updates s.setup.domains.edition s.history) c.count ≡ o
+    → next_ticket (world_of s q n) (chip_at (world_of s q n) dom) ≡ option_map (λ u. u.ticket) o
+waits_for s q n dom c o found is =
+    ap (next_ticket (world_of s q n)) found ∙ by (deferred_at s.setup.domains.edition s.history c.count) ∙ ap (option_map (λ (u : Update). u.ticket)) (sym (updates-at s.setup.domains.edition s.history c.count) ∙ is)
+  where
+    by : (d : Option Change) → option_map (λ x. c.count) d ≡ option_map (λ (u : Update). u.ticket) (option_map (under_ticket c.count) d)
+    by None = refl
+    by (Some d) = refl
 
 pub publishes_all : (s t : SidesState) (q : Queued) (m : ℕ) → publishes (world_of s q m) (length s.history) ≡ world_of t q m → does (world_of s q m) Publish ≡ (world_of t q m, lines.Done m 0 ∷ [])
 publishes_all s t q m h = ap (λ (w : World). done w) h

@@ -1,5 +1,5 @@
 -- Another chip in the place of that of a domain.
-use Rattle.std.proofs.Common.{◌≡◌, ℕ, ◌+◌, ◌<◌, List, map, length, set, slice_get, Option, None, Some, option_map, refl, sym, ap, ◌∙◌, subst, arith}
+use Rattle.std.proofs.Common.{◌≡◌, ℕ, ◌+◌, List, length, set, slice_get, Option, None, Some, option_map, refl, sym, ap, ◌∙◌, subst, arith}
 use Rattle.std.proofs.Math.Seq.{map-set_same}
 use Rattle.std.proofs.lemmas.Bool.{eqb-true, eq-eqb, ne_eqb}
 use Rattle.std.proofs.lemmas.List.Elements.{All-set, recursion_from_All}
@@ -26,11 +26,11 @@ use Rattle.chip_pipeline.specs.Passed.{AtChip}
 use Rattle.chip_tables.specs.Stands.{Stands}
 use Rattle.bridge_core.specs.Kept.{Controlled}
 use Rattle.table_publish.specs.Board.{Shelf}
-use Rattle.plane_core.specs.Chips.{AreChips, ChipState, IsChip, IsPlace, chips_of, state_in}
+use Rattle.plane_core.specs.Chips.{ChipState, IsChip, IsPlace, chips_of, state_in}
 use Rattle.plane_core.specs.Sides.{AreSides, SidesState}
 use Rattle.plane_core.specs.Places.{places}
 use Rattle.plane_core.proofs.Placing.{count}
-use Rattle.plane_core.proofs.ChipLists.{apart, apart-chips, chip-found, doms, not-software, put-place, some-found}
+use Rattle.plane_core.proofs.ChipLists.{apart, apart-chips, chip-found, not-software, put-place, some-found}
 
 -- what is there for the definitions is there for the states
 pub there_at : (states : List ChipState) (chips : List Chip) (dom : ℕ) → chips_of states ≡ chips → is_some (chip_in chips dom) ≡ true → is_some (state_in states dom) ≡ true

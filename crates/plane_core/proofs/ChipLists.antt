@@ -1,12 +1,12 @@
 -- Lists of chips, by the numbers of their domains.
-use Rattle.std.proofs.Common.{◌≡◌, ℕ, zero, suc, ◌+◌, ◌<◌, ◌≤◌, Bool, true, false, cond, not, List, [], ◌∷◌, ◌++◌, map, length, take, drop, set, get_or, slice_get, Option, None, Some, option_map, refl, sym, ap, ◌∙◌, subst, arith}
+use Rattle.std.proofs.Common.{◌≡◌, ℕ, zero, suc, ◌+◌, ◌<◌, Bool, true, false, cond, not, List, [], ◌∷◌, map, length, drop, set, get_or, slice_get, Option, None, Some, option_map, refl, sym, ap, ◌∙◌, arith}
 use Rattle.std.proofs.lemmas.Bool.{eqb-true, eq-eqb, or_parts, and_parts}
 use Rattle.std.proofs.lemmas.List.{at_drop_more, get_or-drop, drop-set-lt, drop-drop}
 use Rattle.std.proofs.lemmas.List.Sums.{sum_by-cons}
 use Rattle.std.proofs.lemmas.Simd.{map-map}
 use Rattle.std.proofs.lemmas.Option.{slice_get-get_or}
 use Rattle.std.specs.Prelude.{◌==◌, ◌||◌, ◌&&◌, is_some}
-use Rattle.std.specs.List.{find, filter, list_any, sum_by}
+use Rattle.std.specs.List.{filter, list_any, sum_by}
 use Rattle.br_model.specs.Plane.Chip.{Chip, chip_in, put_chip, first_chip}
 use Rattle.br_model.specs.Table.Domains.{Domains, chip_domains, has_chip, software}
 use Rattle.plane_core.specs.Chips.{ChipState, IsPlace, chips_of, state_in}

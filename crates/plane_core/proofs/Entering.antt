@@ -1,5 +1,5 @@
 -- A frame's entry, as the step of the world.
-use Rattle.std.proofs.Common.{◌≡◌, ℕ, ◌+◌, ◌==◌, nat_lt, true, false, cond, List, [], ◌∷◌, ◌++◌, length, Option, None, Some, refl, sym, ap, ap₂, ◌∙◌}
+use Rattle.std.proofs.Common.{◌≡◌, ℕ, ◌+◌, nat_lt, true, false, cond, List, [], ◌∷◌, ◌++◌, length, Option, None, Some, refl, sym, ap, ap₂, ◌∙◌}
 use Rattle.std.specs.declared.result.Result.TheVariants.{Ok}
 use Rattle.br_model.specs.declared.frame.Class.{Class}
 use Rattle.br_model.specs.declared.frame.Class.TheVariants.{Drop, Trap, Copy, Forward}
@@ -13,7 +13,7 @@ use Rattle.br_model.specs.Control.Learning.{Address}
 use Rattle.br_model.specs.Table.Limits.{most_waiting}
 use Rattle.br_model.specs.Table.Table.{Table}
 use Rattle.br_model.specs.Wire.Messages.{message}
-use Rattle.br_model.specs.Plane.Entering.{waits, goes_on, enters_as, enters_by, enters_chip, class_of, chip_of}
+use Rattle.br_model.specs.Plane.Entering.{waits, goes_on, enters_as, enters_by, enters_chip, chip_of}
 use Rattle.br_model.specs.declared.steps.Step.TheVariants.{Rx}
 use Rattle.br_model.specs.Plane.Steps.{world_step}
 use Rattle.br_model.specs.Plane.World.{World, Waiting, Stepped, sent, after_lines}

@@ -22,16 +22,19 @@ tell-requires c now =
     (c.requires.history.fit c.loop-place.place d c.loop-place-test.true) (ap (deferred e) (sym c.index-history-place.is) ∙ now))
 
 pub loop-place-preserved : goal.loop-place-preserved
-loop-place-preserved c = (c.tell.ensures.dom ∙ c.loop-place.invariant.0, λ domains k n before.
-    let e = c.args.edition in
-    let here = c.loop-place.invariant.1 domains k n before in
-    let h = c.args.history.now in
-    let d = c.index-history-place.result in
-    let t = table (cut e (take c.loop-place.place h) k) in (
-      more_deferred e h c.loop-place.place d k c.loop-place-test.true here.0,
-      subst (Drives domains c.tell.new.driver) (sym (table_more e h c.loop-place.place d k c.loop-place-test.true here.0))
-          (subst (λ (x : Change). Drives domains c.tell.new.driver (if deferred e x then t else apply t x)) c.index-history-place.is (c.tell.ensures.told domains t here.1)),
-    ))
+loop-place-preserved c = (
+  c.tell.ensures.dom ∙ c.loop-place.invariant.0,
+  λ domains k n before.
+      let e = c.args.edition in
+      let here = c.loop-place.invariant.1 domains k n before in
+      let h = c.args.history.now in
+      let d = c.index-history-place.result in
+      let t = table (cut e (take c.loop-place.place h) k) in (
+        more_deferred e h c.loop-place.place d k c.loop-place-test.true here.0,
+        subst (Drives domains c.tell.new.driver) (sym (table_more e h c.loop-place.place d k c.loop-place-test.true here.0))
+            (subst (λ (x : Change). Drives domains c.tell.new.driver (if deferred e x then t else apply t x)) c.index-history-place.is (c.tell.ensures.told domains t here.1)),
+      ),
+)
 
 pub returns-clause-told : goal.returns-clause-told
 returns-clause-told c domains k n before =

@@ -1,5 +1,5 @@
-use Rattle.plane_core.proofs.Adding.{added_as, from_none}
-use Rattle.plane_core.proofs.Reacting.{ended_behind, first_of_all}
+use Rattle.plane_core.proofs.Adding.{from_none}
+use Rattle.plane_core.proofs.Reacting.{ended_behind}
 use Rattle.std.proofs.Common.{[]}
 use Rattle.plane_core.proofs.sides.Sides.answer.Goals as goal
 

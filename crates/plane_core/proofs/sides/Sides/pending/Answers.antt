@@ -1,4 +1,4 @@
-use Rattle.std.proofs.Common.{◌≡◌, ◌-◌, ℕ, Some, option_map, refl, sym, ap, ap₂, ◌∙◌, arith}
+use Rattle.std.proofs.Common.{◌-◌, ℕ, Some, option_map, refl, sym, ap, ap₂, ◌∙◌, arith}
 use Rattle.br_model.specs.Plane.Chip.{Chip, chip_in}
 use Rattle.br_model.specs.Table.Cut.{deferred_count}
 use Rattle.plane_core.specs.Chips.{chips_of}
@@ -11,8 +11,13 @@ at-requires c = there_at c.self.inside.chips c.args.self.now.chips c.args.d (ap 
 
 pub overflow_sub-result : goal.overflow_sub-result
 overflow_sub-result c =
-    omega (arith, c.len.ensures.value, c.count.ensures, counted c.self.inside.bridge c.self.inside.updates c.self.invariant.places,
-    (chip_found c.self.inside.bridge c.self.inside.chips c.self.inside.updates c.self.inside.board c.self.invariant c.args.d c.at.result.now c.at.ensures).applied)
+    omega (
+      arith,
+      c.len.ensures.value,
+      c.count.ensures,
+      counted c.self.inside.bridge c.self.inside.updates c.self.invariant.places,
+      (chip_found c.self.inside.bridge c.self.inside.chips c.self.inside.updates c.self.inside.board c.self.invariant c.args.d c.at.result.now c.at.ensures).applied,
+    )
 
 pub returns : goal.returns
 returns c =

@@ -1,4 +1,4 @@
-use Rattle.std.proofs.Common.{◌≡◌, List, [], drop, Some, refl, sym, ap, ◌∙◌}
+use Rattle.std.proofs.Common.{[], ap, ◌∙◌}
 use Rattle.std.specs.Prelude.{is_some}
 use Rattle.std.proofs.lemmas.Option.{slice_get_within}
 use Rattle.br_model.specs.Plane.Chip.{Chip, chip_in, put_chip}
@@ -30,9 +30,12 @@ pub returns-clause-reacted : goal.returns-clause-reacted
 returns-clause-reacted c x at =
     let did = c.in_ok-changes.ensures.reacted in
     let f = λ (x : Chip). record x { hits = [] } in
-    let is = c.clear_hits.ensures in
-    (did.0, did.1, did.2,
-    changed c.self.inside.bridge c.self.inside.chips c.self.inside.updates c.self.inside.board c.self.invariant c.place-place.result c.at_mut.result.now c.clear_hits.new.self c.at_mut.ensures.value
-    c.react.new.self c.args.d x f c.self.view_is c.place-place.ensures (ap (λ (s : SidesState). chip_in s.chips c.args.d) did.3 ∙ at) (ap (λ (s : ChipState). s.chip.dom) is) (ap (λ (s : ChipState). s.chip) is)
-    ∙ ap (λ (s : SidesState). record s { chips = put_chip s.chips (f x) }) did.3,
-    did.4)
+    let is = c.clear_hits.ensures in (
+      did.0,
+      did.1,
+      did.2,
+      changed c.self.inside.bridge c.self.inside.chips c.self.inside.updates c.self.inside.board c.self.invariant c.place-place.result c.at_mut.result.now c.clear_hits.new.self c.at_mut.ensures.value
+          c.react.new.self c.args.d x f c.self.view_is c.place-place.ensures (ap (λ (s : SidesState). chip_in s.chips c.args.d) did.3 ∙ at) (ap (λ (s : ChipState). s.chip.dom) is) (ap (λ (s : ChipState). s.chip) is)
+          ∙ ap (λ (s : SidesState). record s { chips = put_chip s.chips (f x) }) did.3,
+      did.4,
+    )

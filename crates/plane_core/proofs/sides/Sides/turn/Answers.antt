@@ -1,4 +1,4 @@
-use Rattle.std.proofs.Common.{◌≡◌, sym, ap, ◌∙◌, subst}
+use Rattle.std.proofs.Common.{◌≡◌, sym, ap, subst}
 use Rattle.std.proofs.lemmas.Option.{slice_get_within}
 use Rattle.br_model.specs.Plane.Chip.{Chip, applies}
 use Rattle.br_model.specs.Table.Domains.{Domains}
