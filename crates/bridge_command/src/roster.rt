@@ -4,7 +4,6 @@ ghost use Rattle.std.specs.List.{list_any};
 ghost use Rattle.std.specs.Option.{option_map, is_some};
 ghost use Rattle.br_model.specs.declared.scenario.Said.TheVariants.{Opens, Bridge, Declares};
 ghost use Rattle.br_model.specs.Table.Domains.{first_chip_domain, host, last_chip, last_port};
-ghost use Rattle.br_model.specs.Text.LineForms.{of_chip};
 ghost use Rattle.br_model.specs.Text.Operands.{number as number_of, chip_domain, port_name, device as device_of, new_port as new_port_of, new_name as new_name_of, port_number as port_number_of};
 ghost use Rattle.br_model.specs.Text.Roster.{first_roster, domains_of, is_chip, has_number, port_named, is_name as is_a_name};
 ghost use Rattle.br_model.specs.Text.Scenario.{declared};
@@ -248,8 +247,7 @@ impl Roster {
 
     /// A domain that a switch chip can have.
     pub fn chip_domain(&self, word: &str) -> Result<Dom, LineWhy>
-        ensures value { result ≡ number_of first_chip_domain last_chip word.now }
-        ensures range { IfOk result (λ dom. of_chip dom ≡ true) }
+        ensures { result ≡ number_of first_chip_domain last_chip word.now }
     {
         let number = number(word, u64::from(Dom::CHIP.number()), u64::from(Dom::LAST))?;
         match Dom::new(number as u8) {
@@ -262,7 +260,7 @@ impl Roster {
     #[tactic(auto, unfolding(br_model::specs::Text::Operands::chip_domain))]
     pub fn chip(&self, word: &str) -> Result<Dom, LineWhy>
         ensures value { result ≡ chip_domain self.now.ports word.now }
-        ensures range { IfOk result (λ dom. of_chip dom ≡ true) }
+        ensures exists { IfOk result (λ dom. is_chip self.now.ports dom ≡ true) }
     {
         let dom = self.chip_domain(word)?;
         if self.has_chip(dom) {

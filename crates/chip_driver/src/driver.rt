@@ -84,7 +84,8 @@ impl Driver {
     /// Applies an update of the queue, of whatever is deferred.
     pub fn address(&mut self, u: &Update)
         requires { IsTaken self.old u.now.change }
-        ensures { (d : DomainsValue) (t : Table) → Drives d self.old t → Drives d self.new (apply t u.now.change) }
+        ensures drives { (d : DomainsValue) (t : Table) → Drives d self.old t → Drives d self.new (apply t u.now.change) }
+        ensures dom { self.new.dom ≡ self.old.dom }
     {
         match u.change {
             Change::AddrPut {
@@ -116,7 +117,8 @@ impl Driver {
 
     fn put_address(&mut self, v: Vid, m: Mac, p: Port, kind: Kind)
         requires { IsTaken self.old (changes.AddrPut v m p kind) }
-        ensures { (d : DomainsValue) (t : Table) → Drives d self.old t → Drives d self.new (apply t (changes.AddrPut v m p kind)) }
+        ensures drives { (d : DomainsValue) (t : Table) → Drives d self.old t → Drives d self.new (apply t (changes.AddrPut v m p kind)) }
+        ensures dom { self.new.dom ≡ self.old.dom }
     {
         self.kept
             .tables
@@ -124,14 +126,16 @@ impl Driver {
     }
 
     fn del_address(&mut self, v: Vid, m: Mac)
-        ensures { (d : DomainsValue) (t : Table) → Drives d self.old t → Drives d self.new (apply t (changes.AddrDel v m)) }
+        ensures drives { (d : DomainsValue) (t : Table) → Drives d self.old t → Drives d self.new (apply t (changes.AddrDel v m)) }
+        ensures dom { self.new.dom ≡ self.old.dom }
     {
         self.kept.tables.set_address(v, m, None);
     }
 
     fn set_state(&mut self, p: Port, state: u8)
         requires { state ≤ 4 }
-        ensures { (d : DomainsValue) (t : Table) → Drives d self.old t → Drives d self.new (apply t (changes.SetState p state)) }
+        ensures drives { (d : DomainsValue) (t : Table) → Drives d self.old t → Drives d self.new (apply t (changes.SetState p state)) }
+        ensures dom { self.new.dom ≡ self.old.dom }
     {
         let mut row = self.kept.tables.port(p);
         row.state = state;
@@ -139,7 +143,8 @@ impl Driver {
     }
 
     fn set_flags(&mut self, p: Port, flags: Flags)
-        ensures { (d : DomainsValue) (t : Table) → Drives d self.old t → Drives d self.new (apply t (changes.SetFlags p flags)) }
+        ensures drives { (d : DomainsValue) (t : Table) → Drives d self.old t → Drives d self.new (apply t (changes.SetFlags p flags)) }
+        ensures dom { self.new.dom ≡ self.old.dom }
     {
         let mut row = self.kept.tables.port(p);
         row.flags = flags;
@@ -147,7 +152,8 @@ impl Driver {
     }
 
     fn port_up(&mut self, p: Port)
-        ensures { (d : DomainsValue) (t : Table) → Drives d self.old t → Drives d self.new (apply t (changes.PortUp p)) }
+        ensures drives { (d : DomainsValue) (t : Table) → Drives d self.old t → Drives d self.new (apply t (changes.PortUp p)) }
+        ensures dom { self.new.dom ≡ self.old.dom }
     {
         let mut row = self.kept.tables.port(p);
         row.up = true;
@@ -157,7 +163,8 @@ impl Driver {
     }
 
     fn port_down(&mut self, p: Port)
-        ensures { (d : DomainsValue) (t : Table) → Drives d self.old t → Drives d self.new (apply t (changes.PortDown p)) }
+        ensures drives { (d : DomainsValue) (t : Table) → Drives d self.old t → Drives d self.new (apply t (changes.PortDown p)) }
+        ensures dom { self.new.dom ≡ self.old.dom }
     {
         let mut row = self.kept.tables.port(p);
         row.up = false;
@@ -167,7 +174,8 @@ impl Driver {
     }
 
     fn add_vlan(&mut self, p: Port, v: Vid, untagged: bool, pvid: bool)
-        ensures { (d : DomainsValue) (t : Table) → Drives d self.old t → Drives d self.new (apply t (changes.VlanAdd p v untagged pvid)) }
+        ensures drives { (d : DomainsValue) (t : Table) → Drives d self.old t → Drives d self.new (apply t (changes.VlanAdd p v untagged pvid)) }
+        ensures dom { self.new.dom ≡ self.old.dom }
     {
         self.kept.write_member(p, v, true, untagged);
         let pvid = pvids::pvid_with(self.kept.tables.port(p).pvid, v, pvid);
@@ -175,7 +183,8 @@ impl Driver {
     }
 
     fn del_vlan(&mut self, p: Port, v: Vid)
-        ensures { (d : DomainsValue) (t : Table) → Drives d self.old t → Drives d self.new (apply t (changes.VlanDel p v)) }
+        ensures drives { (d : DomainsValue) (t : Table) → Drives d self.old t → Drives d self.new (apply t (changes.VlanDel p v)) }
+        ensures dom { self.new.dom ≡ self.old.dom }
     {
         self.kept.write_member(p, v, false, false);
         let pvid = pvids::pvid_without(self.kept.tables.port(p).pvid, v);
@@ -184,32 +193,37 @@ impl Driver {
 
     fn join_group(&mut self, p: Port, v: Vid, g: Group)
         requires { IsTrue (has_room self.old.groups v g) }
-        ensures { (d : DomainsValue) (t : Table) → Drives d self.old t → Drives d self.new (apply t (changes.GroupJoin p v g)) }
+        ensures drives { (d : DomainsValue) (t : Table) → Drives d self.old t → Drives d self.new (apply t (changes.GroupJoin p v g)) }
+        ensures dom { self.new.dom ≡ self.old.dom }
     {
         self.kept.join(v, g, p);
     }
 
     fn part_group(&mut self, p: Port, v: Vid, g: Group)
-        ensures { (d : DomainsValue) (t : Table) → Drives d self.old t → Drives d self.new (apply t (changes.GroupPart p v g)) }
+        ensures drives { (d : DomainsValue) (t : Table) → Drives d self.old t → Drives d self.new (apply t (changes.GroupPart p v g)) }
+        ensures dom { self.new.dom ≡ self.old.dom }
     {
         self.kept.part(v, g, p);
     }
 
     fn set_router(&mut self, p: Port, on: bool)
-        ensures { (d : DomainsValue) (t : Table) → Drives d self.old t → Drives d self.new (apply t (changes.Router p on)) }
+        ensures drives { (d : DomainsValue) (t : Table) → Drives d self.old t → Drives d self.new (apply t (changes.Router p on)) }
+        ensures dom { self.new.dom ≡ self.old.dom }
     {
         self.kept.write_router(p, on);
     }
 
     fn set_querier(&mut self, six: bool, on: bool)
-        ensures { (d : DomainsValue) (t : Table) → Drives d self.old t → Drives d self.new (apply t (changes.Querier six on)) }
+        ensures drives { (d : DomainsValue) (t : Table) → Drives d self.old t → Drives d self.new (apply t (changes.Querier six on)) }
+        ensures dom { self.new.dom ≡ self.old.dom }
     {
         let control = switches::with_querier(self.kept.tables.control(), six, on);
         self.kept.tables.set_control(control);
     }
 
     fn set_snoop(&mut self, on: bool)
-        ensures { (d : DomainsValue) (t : Table) → Drives d self.old t → Drives d self.new (apply t (changes.Snoop on)) }
+        ensures drives { (d : DomainsValue) (t : Table) → Drives d self.old t → Drives d self.new (apply t (changes.Snoop on)) }
+        ensures dom { self.new.dom ≡ self.old.dom }
     {
         let mut control = self.kept.tables.control();
         control.snooping = on;
@@ -218,7 +232,8 @@ impl Driver {
     }
 
     fn set_stp(&mut self, on: bool)
-        ensures { (d : DomainsValue) (t : Table) → Drives d self.old t → Drives d self.new (apply t (changes.Stp on)) }
+        ensures drives { (d : DomainsValue) (t : Table) → Drives d self.old t → Drives d self.new (apply t (changes.Stp on)) }
+        ensures dom { self.new.dom ≡ self.old.dom }
     {
         let mut control = self.kept.tables.control();
         control.tree = on;
@@ -239,6 +254,8 @@ fn address_row(port: Port, kind: Kind) -> AddressRow
 }
 
 impl SwitchOps for Driver {
+    ghost domain = { λ x. x.dom };
+
     ghost means = { Drives };
 
     ghost takes = { IsTaken };

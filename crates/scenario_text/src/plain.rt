@@ -4,6 +4,7 @@ ghost use Rattle.br_model.specs.Data.Digits.{bytes_from_hex};
 ghost use Rattle.br_model.specs.declared.scenario.Said.TheVariants.{Does};
 ghost use Rattle.br_model.specs.Text.CommandForms.{step};
 ghost use Rattle.br_model.specs.Text.LineForms.{all_say, comes_by_line};
+ghost use Rattle.br_model.specs.Text.Roster.{chips_of};
 ghost use Rattle.br_model.specs.Text.Words.{words};
 ghost use Rattle.scenario_text.specs.Parts.{Splits, enters};
 
@@ -45,7 +46,7 @@ fn plain_bytes(alloc: Global, digits: &[u8]) -> Option<Bytes>
 fn plain_entry(alloc: Global, entry: &[u8], r: &Roster) -> Option<Step>
     requires { step r.now.place ≡ true }
     ensures says { IfSome result (λ it. all_say r.now (words (enters entry.now)) ≡ Ok (Does it)) }
-    ensures by_line { IfSome result (λ it. comes_by_line it ≡ true) }
+    ensures by_line { IfSome result (λ it. comes_by_line (chips_of r.now.ports) it ≡ true) }
 {
     let found = first_word(entry)?;
     let Ok(port) = r.numbered(readable(found.0)) else {
@@ -58,7 +59,7 @@ fn plain_entry(alloc: Global, entry: &[u8], r: &Roster) -> Option<Step>
 /// The step of a line that is so spelled. `None` says nothing of a line: it is to be read word by word.
 pub(crate) fn plain_step(alloc: Global, line: &[u8], r: &Roster) -> Option<Step>
     ensures says { IfSome result (λ it. all_say r.now (words line.now) ≡ Ok (Does it)) }
-    ensures by_line { IfSome result (λ it. comes_by_line it ≡ true) }
+    ensures by_line { IfSome result (λ it. comes_by_line (chips_of r.now.ports) it ≡ true) }
 {
     let Ok(()) = r.stands(Place::Steps) else {
         return None;

@@ -12,8 +12,8 @@ use Rattle.chip_driver.proofs.Standing.{Membership, drives_vlan}
 use Rattle.chip_driver.proofs.TableLaws.{member_left, untagged_left, pvid_left, pvid_left_other}
 use Rattle.chip_driver.proofs.driver.Driver.del_vlan.Goals as goal
 
-pub returns : goal.returns
-returns c d t before =
+pub returns-clause-drives : goal.returns-clause-drives
+returns-clause-drives c d t before =
     let p = c.args.p in
     let v = c.args.v in
     let old : Drives d (driven c.self.inside.dom c.self.inside.kept) t = subst (λ r. Drives d r t) (sym c.self.view_is) before in
