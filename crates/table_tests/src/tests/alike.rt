@@ -11,7 +11,7 @@ use std::process::Abort;
 use tally::Tally;
 
 /// How many changes and frames there are.
-const ROUNDS: u32 = 10_000;
+const ROUNDS: u32 = 20_000;
 
 /// A change, and a frame that comes by a port of a chip, again and again. Of what is deferred each chip has as much as its turns
 /// have brought.

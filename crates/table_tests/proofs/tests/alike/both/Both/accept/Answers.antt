@@ -1,7 +1,6 @@
 use Rattle.std.proofs.Common.{◌≡◌, Some, sym, ap, subst, ◌∙◌}
 use Rattle.std.specs.declared.option.Option.{Option}
 use Rattle.br_model.specs.declared.change.Change.{Change}
-use Rattle.br_model.specs.declared.domains.Edition.{Edition}
 use Rattle.br_model.specs.Table.Limits.{fits}
 use Rattle.br_model.specs.Table.Table.{Table, apply}
 use Rattle.switchdev_notify.specs.Notices.{after_told, told_in}
