@@ -19,7 +19,7 @@ use Rattle.br_model.specs.Data.Maps.{pair_cmp, get}
 use Rattle.br_model.specs.Table.Table.{Table, with_addresses}
 use Rattle.br_model.proofs.PairKeys.{pair_total}
 use Rattle.chip_tables.specs.declared.rows.AddressRow.{AddressRow}
-use Rattle.chip_tables.specs.Rows.{Rows, address_at, extern_if, extern_at, IsPlaced}
+use Rattle.chip_tables.specs.Rows.{Rows, extern_if, extern_at, IsPlaced}
 use Rattle.chip_tables.specs.Stands.{address_wanted, AddressesStand}
 use Rattle.plane_core.specs.Sweep.{is_unhit, unseen}
 use Rattle.plane_core.proofs.Arranged.{times, Low, Ascends, low_more, given-moved, arranged}
