@@ -6,6 +6,7 @@ pub mod Leaving
 pub mod Placing
 pub mod Following
 pub mod Noting
+pub mod Arranged
 pub mod Sweeping
 pub mod Reacting
 pub mod Stepping
