@@ -1,9 +1,9 @@
 //! A chip that follows the history of a bridge.
-ghost use Rattle.std.specs.Prelude.{◌≡◌, ◌+◌, ◌<◌, ◌≤◌, ◌×◌, ℕ, [], IfOk, OnOk, OnErr, true, false, length, take, drop, slice_get, if◌then◌else◌};
+ghost use Rattle.std.specs.Prelude.{◌≡◌, ◌≢◌, ◌+◌, ◌<◌, ◌≤◌, ℕ, [], IfOk, OnOk, OnErr, true, false, length, take, drop, slice_get, if◌then◌else◌};
 ghost use Rattle.br_model.specs.Table.Change.{deferred};
 ghost use Rattle.br_model.specs.Plane.Chip.{Chip as ChipValue, applies, first_chip, hit_by, offered, offers, hits_entry, unhit};
 ghost use Rattle.br_model.specs.Table.Cut.{cut, deferred_count};
-ghost use Rattle.br_model.specs.Table.Domains.{Domains as DomainsValue, has_chip};
+ghost use Rattle.br_model.specs.Table.Domains.{Domains as DomainsValue, software};
 ghost use Rattle.br_model.specs.Table.Limits.{AreWithin, most_changes};
 ghost use Rattle.br_model.specs.Table.Table.{Table, apply, table};
 ghost use Rattle.chip_driver.specs.Drives.{Drives, IsTaken};
@@ -24,7 +24,6 @@ use switchdev_notify::{deliver, notice_of};
 /// The switch chip of a domain: its driver, how many deferred changes it has applied, and what it reports.
 #[derive(Drop)]
 pub struct Chip {
-    dom: Dom,
     driver: Driver,
     count: u32,
     reports: Reports,
@@ -35,7 +34,7 @@ impl Model for Chip {
 
     ghost Value = { ChipState };
 
-    ghost view = { λ c. record { driver = c.driver; chip = chip_of c.dom c.count c.reports } };
+    ghost view = { λ c. record { driver = c.driver; chip = chip_of c.driver.dom c.count c.reports } };
 }
 
 /// Tells the driver of a change, unless it is a deferred one.
@@ -115,12 +114,11 @@ fn offer(reports: &mut Reports, port: Port, station: Option<(Vid, Mac)>)
 impl Chip {
     /// The chip of a domain, with the ports of it, before any change. It takes all its room but that of the hits.
     pub fn make(alloc: Global, dom: Dom, d: &Domains) -> Result<Chip, NoMemory>
-        requires { has_chip d.now dom ≡ true }
+        requires { dom ≢ software }
         ensures stands { IfOk result (λ c. IsChip d.now [] c) }
         ensures first { IfOk result (λ c. c.chip ≡ first_chip dom) }
     {
         Ok(Chip {
-            dom,
             driver: Driver::make(alloc, dom, d)?,
             count: 0,
             reports: Reports::make(alloc)?,
@@ -131,7 +129,7 @@ impl Chip {
     pub fn dom(&self) -> Dom
         ensures { result ≡ self.now.chip.dom }
     {
-        self.dom
+        self.driver.dom()
     }
 
     /// Its rows.
@@ -208,7 +206,7 @@ impl Chip {
     /// The stations that it learned at its own ports and that no frame hit, ascending by VLAN and address.
     pub fn unhit(&self, alloc: Global) -> Result<Triples, NoMemory>
         ensures { IfOk result (λ stations. (domains : DomainsValue) (t : Table) → Drives domains self.now.driver t
-            → self.now.driver.dom ≡ self.now.chip.dom → stations ≡ unhit domains t self.now.chip) }
+            → stations ≡ unhit domains t self.now.chip) }
     {
         sweep::unhit(alloc, self.driver.tables(), &self.reports)
     }

@@ -1,5 +1,5 @@
 //! The chips of a bridge, by their domains.
-ghost use Rattle.std.specs.Prelude.{◌≡◌, ◌+◌, ◌-◌, ◌*◌, ◌<◌, ◌≤◌, ◌==◌, ℕ, [], ◌∷◌, ◌++◌, map, true, IfOk, OnOk, OnErr, length, take, is_some, slice_get};
+ghost use Rattle.std.specs.Prelude.{◌≡◌, ◌+◌, ◌-◌, ◌*◌, ◌<◌, ◌≤◌, ◌==◌, ℕ, [], ◌∷◌, ◌++◌, map, true, IfOk, OnOk, OnErr, length, take, is_some, slice_get, Some};
 ghost use Rattle.std.specs.Borrow.{sem};
 ghost use Rattle.std.specs.List.{All, filter, sum_by};
 ghost use Rattle.br_model.specs.Plane.Chip.{first_chip, first_chips};
@@ -35,7 +35,7 @@ impl Model for Chips {
 
 /// Adds the chip of the domain with this number, where it has one.
 fn add(alloc: Global, chips: &mut Vec<Chip>, number: usize, d: &Domains) -> Result<(), NoMemory>
-    requires number { number < 5 }
+    requires number { number ≤ last_chip }
     requires stand { All (IsChip d.now []) chips.old.items }
     ensures stand { All (IsChip d.now []) chips.new.items }
     ensures chips { OnOk result (chips_of chips.new.items ≡ chips_of chips.old.items ++ map first_chip (filter (λ k. has_chip d.now k) (number ∷ []))) }
@@ -84,7 +84,7 @@ impl Chips {
     /// Where the chip of the domain stands.
     pub fn place(&self, d: Dom) -> usize
         requires { is_some (state_in self.now d) ≡ true }
-        ensures { slice_get self.now result ≡ state_in self.now d }
+        ensures { IsPlace self.now d (Some result) }
     {
         match self.find(d) {
             Some(place) => place,

@@ -408,6 +408,8 @@ impl Sides {
             → self.new ≡ record self.old { chips = put_chip self.old.chips (applies c update.now.change) }) }
         ensures err { OnErr result (self.new ≡ self.old) }
     {
+        // law: the history is within the limits
+        let _history = self.bridge.history();
         let place = self.chips.place(d);
         self.chips.at_mut(place).turn(update)
     }

@@ -1,5 +1,5 @@
 //! The deferred changes of a history by their tickets.
-ghost use Rattle.std.specs.Prelude.{◌≡◌, ◌++◌, ◌∷◌, ◌<◌, ◌≤◌, ◌×◌, [], length, take, IfOk, slice_get, ◌==◌, if◌then◌else◌};
+ghost use Rattle.std.specs.Prelude.{◌≡◌, ◌++◌, ◌∷◌, ◌<◌, ◌≤◌, [], length, take, IfOk, slice_get, ◌==◌, if◌then◌else◌};
 ghost use Rattle.br_model.specs.declared.domains.Edition.{Edition as EditionValue};
 ghost use Rattle.br_model.specs.Table.Change.{deferred, updates};
 ghost use Rattle.br_model.specs.Table.Cut.{deferred_count};
