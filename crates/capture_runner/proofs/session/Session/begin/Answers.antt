@@ -13,16 +13,16 @@ pub step-requires : goal.step-requires
 step-requires c =
     let roster = c.args.self.now.roster in
     let chips =
-        ap (λ (w : World). chip_domains w.setup.domains) c.in_ok-world.ensures ∙ ap chip_domains c.domains.ensures.value
-        ∙ declared-chips roster.edition roster.ports c.domains.ensures.declared in
+    ap (λ (w : World). chip_domains w.setup.domains) c.in_ok-world.ensures ∙ ap chip_domains c.domains.ensures.value
+    ∙ declared-chips roster.edition roster.ports c.domains.ensures.declared in
     comes_here _ (chips_of roster.ports) c.args.step chips c.requires.by_line
 
 pub returns-clause-ready : goal.returns-clause-ready
 returns-clause-ready c =
     let roster = c.args.self.now.roster in
     let chips =
-        ap (λ (w : World). chip_domains w.setup.domains) c.in_ok-world.ensures ∙ ap chip_domains c.domains.ensures.value
-        ∙ declared-chips roster.edition roster.ports c.domains.ensures.declared in
+    ap (λ (w : World). chip_domains w.setup.domains) c.in_ok-world.ensures ∙ ap chip_domains c.domains.ensures.value
+    ∙ declared-chips roster.edition roster.ports c.domains.ensures.declared in
     ready_after roster c.in_ok-world.world c.step.new.self c.args.step chips c.requires.behind (ap (λ (x : Stepped). x.0) c.in_ok-step.ensures.so)
 
 pub returns-clause-does : goal.returns-clause-does
