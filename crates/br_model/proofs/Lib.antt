@@ -10,6 +10,7 @@ pub mod CutFits
 pub mod Cuts
 pub mod DeclaredChips
 pub mod DomainLaws
+pub mod DomainChips
 pub mod Endings
 pub mod DomainRows
 pub mod DomainWords

@@ -1,10 +1,11 @@
 //! The domains of the declared ports, and the edition of the profile.
-ghost use Rattle.std.specs.Prelude.{◌≡◌, ◌≢◌, ◌==◌, ◌<◌, ◌≤◌, ℕ, false, [], ◌∷◌, if◌then◌else◌, get_or, slice_index, None, Some};
+ghost use Rattle.std.specs.Prelude.{◌≡◌, ◌≢◌, ◌==◌, ◌<◌, ◌≤◌, ℕ, false, [], ◌∷◌, if◌then◌else◌, get_or, map, slice_index, None, Some};
+ghost use Rattle.std.specs.List.{list_any};
 ghost use Rattle.std.specs.Int.{bit_at};
 ghost use Rattle.std.specs.Ordering.{nat_cmp};
 ghost use Rattle.br_model.specs.declared.domains.Edition.TheVariants.{One};
 ghost use Rattle.br_model.specs.Table.Change.{groups_deferred};
-ghost use Rattle.br_model.specs.Table.Domains.{domain_of, entries_from, host, last_chip, port_places};
+ghost use Rattle.br_model.specs.Table.Domains.{domain_of, entries_from, has_chip, host, last_chip, port_places};
 ghost use Rattle.br_model.specs.Table.DomainPorts.{IsWordOf};
 ghost use Rattle.br_model.specs.Data.Maps.{put};
 
@@ -111,12 +112,28 @@ impl Domains {
         self.by_port[usize::from(p.number())]
     }
 
+    /// Whether the domain has a chip.
+    pub fn has_chip(&self, d: Dom) -> bool
+        ensures { result ≡ has_chip self.now d }
+    {
+        // law: the number is in range
+        let _number = d.number();
+        d == Dom::CHIP || (d != Dom::SOFTWARE && is_declared(&self.by_port, d))
+    }
+
     /// The ports of the domain: bit n of the word stands for port n.
     pub fn ports_of(&self, d: Dom) -> u64
         ensures { IsWordOf self.now d result }
     {
         self.words[usize::from(d.number())]
     }
+}
+
+/// Whether a port is declared on the domain.
+fn is_declared(places: &[Option<Dom>; Port::PLACES], d: Dom) -> bool
+    ensures { (n : ℕ) → result ≡ list_any (λ e. e == d) (map (λ e. e.1) (entries_from n places.now)) }
+{
+    places.contains(&Some(d))
 }
 
 fn copy_of(places: &[Option<Dom>; Port::PLACES]) -> [Option<Dom>; Port::PLACES]

@@ -64,24 +64,22 @@ no_domain (x ∷ ports) (suc i) dom h = no_domain ports i dom (omega arith)
 
 any-filter : (t : ℕ → Bool) (ds : List ℕ) (dom : ℕ) → list_any (λ d. d == dom) (filter t ds) ≡ (list_any (λ d. d == dom) ds && t dom)
 any-filter t [] dom = refl
-any-filter t (d ∷ ds) dom = by (d == dom) (t d) refl refl
+any-filter t (d ∷ ds) dom = by (d == dom) (t d) refl refl (any-filter t ds dom)
   where
-    abbrev goes : Bool → Bool → Type 0
-    goes same kept = list_any (λ x. x == dom) (cond kept (d ∷ filter t ds) (filter t ds)) ≡ ((same || list_any (λ x. x == dom) ds) && t dom)
+    none : (b : Bool) → (b && false) ≡ false
+    none true = refl
+    none false = refl
 
-    rest = any-filter t ds dom
+    by : (same kept : Bool) → (d == dom) ≡ same → t d ≡ kept → list_any (λ x. x == dom) (filter t ds) ≡ (list_any (λ x. x == dom) ds && t dom)
+        → list_any (λ x. x == dom) (cond kept (d ∷ filter t ds) (filter t ds)) ≡ ((same || list_any (λ x. x == dom) ds) && t dom)
+    by true true is h rest = ap (λ b. b || list_any (λ x. x == dom) (filter t ds)) is ∙ sym h ∙ ap t (eqb-true _ _ is)
+    by true false is h rest =
+        let off : t dom ≡ false = ap t (sym (eqb-true _ _ is)) ∙ h in
+        rest ∙ ap (λ b. list_any (λ x. x == dom) ds && b) off ∙ none (list_any (λ x. x == dom) ds) ∙ sym off
+    by false true is h rest = ap (λ b. b || list_any (λ x. x == dom) (filter t ds)) is ∙ rest
+    by false false is h rest = rest
 
-    by : (same kept : Bool) → (d == dom) ≡ same → t d ≡ kept → goes same kept
-    by true true is h = ap (λ b. b || list_any (λ x. x == dom) (filter t ds)) is ∙ sym h ∙ ap t (eqb-true _ _ is)
-    by true false is h = rest ∙ (let off : t dom ≡ false = ap t (sym (eqb-true _ _ is)) ∙ h in ap (λ b. list_any (λ x. x == dom) ds && b) off ∙ none (list_any (λ x. x == dom) ds) ∙ sym off)
-      where
-        none : (b : Bool) → (b && false) ≡ false
-        none true = refl
-        none false = refl
-    by false true is h = ap (λ b. b || list_any (λ x. x == dom) (filter t ds)) is ∙ rest
-    by false false is h = rest
-
-pub is_chip_by : (ports : List Entry) (dom : ℕ) → dom ≤ last_chip → is_chip ports dom ≡ ((not (dom == software)) && (dom == first_chip_domain || list_any (λ (e : Entry). e.dom == dom) ports))
+is_chip_by : (ports : List Entry) (dom : ℕ) → dom ≤ last_chip → is_chip ports dom ≡ ((not (dom == software)) && (dom == first_chip_domain || list_any (λ (e : Entry). e.dom == dom) ports))
 is_chip_by ports dom few =
     any-filter (λ d. d == first_chip_domain || list_any (λ e. e == d) (map (λ (e : Entry). e.dom) ports)) (1 ∷ 2 ∷ 3 ∷ 4 ∷ []) dom
     ∙ ap (λ b. b && (dom == first_chip_domain || list_any (λ e. e == dom) (map (λ (e : Entry). e.dom) ports))) (four dom few)
@@ -89,3 +87,10 @@ is_chip_by ports dom few =
   where
     four : (dom : ℕ) → dom ≤ 4 → list_any (λ d. d == dom) (1 ∷ 2 ∷ 3 ∷ 4 ∷ []) ≡ not (dom == 0)
     four dom few = grind arith
+
+-- another domain than the first chip's and the software's
+pub other_chip : (ports : List Entry) (dom : ℕ) → dom ≤ last_chip → (dom == first_chip_domain) ≡ false → (dom == software) ≡ false
+    → is_chip ports dom ≡ list_any (λ (e : Entry). e.dom == dom) ports
+other_chip ports dom few first soft =
+    let on = list_any (λ (e : Entry). e.dom == dom) ports in
+    is_chip_by ports dom few ∙ ap (λ b. not b && (dom == first_chip_domain || on)) soft ∙ ap (λ b. b || on) first

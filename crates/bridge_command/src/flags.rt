@@ -75,7 +75,7 @@ fn bit_named(word: &str) -> Option<u8>
 }
 
 /// The flag with this name.
-pub(crate) fn flag(word: &str) -> Option<Flags>
+pub fn flag(word: &str) -> Option<Flags>
     ensures { result ≡ flag_named flags word.now }
 {
     Flags::new(bit_named(word)?)

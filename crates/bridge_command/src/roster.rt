@@ -1,10 +1,11 @@
 //! The edition, the bridge's own address, the declared ports, and the place that a scenario has reached.
-ghost use Rattle.std.specs.Prelude.{◌≡◌, ◌≢◌, ◌≤◌, ◌==◌, length, OnOk, OnErr, IfOk, IfSome, slice_get, true, false, not, ◌&&◌, Some, Ok};
+ghost use Rattle.std.specs.Prelude.{◌≡◌, ◌≢◌, ◌≤◌, ◌==◌, length, OnOk, OnErr, IfOk, IfSome, slice_get, nat_le, true, false, not, ◌&&◌, if◌then◌else◌, None, Some, Ok};
 ghost use Rattle.std.specs.List.{list_any};
 ghost use Rattle.std.specs.Option.{option_map, is_some};
+ghost use Rattle.br_model.specs.declared.scenario.LineWhy.TheVariants.{Port as PortWhy, Number as NumberWhy};
 ghost use Rattle.br_model.specs.declared.scenario.Said.TheVariants.{Opens, Bridge, Declares};
+ghost use Rattle.br_model.specs.Data.Digits.{is_decimal as is_a_decimal};
 ghost use Rattle.br_model.specs.Table.Domains.{first_chip_domain, host, last_chip, last_port};
-ghost use Rattle.br_model.specs.Text.LineForms.{of_chip};
 ghost use Rattle.br_model.specs.Text.Operands.{number as number_of, chip_domain, port_name, device as device_of, new_port as new_port_of, new_name as new_name_of, port_number as port_number_of};
 ghost use Rattle.br_model.specs.Text.Roster.{first_roster, domains_of, is_chip, has_number, port_named, is_name as is_a_name};
 ghost use Rattle.br_model.specs.Text.Scenario.{declared};
@@ -45,6 +46,17 @@ impl Model for Roster {
     ghost view = { λ r. record { place = r.place; check = r.check; edition = r.domains.edition; own = r.own; ports = map entry r.ports.entries } };
 
     ghost invariant = { λ r. (are_declared (map entry r.ports.entries) ≡ true) × (r.domains ≡ domains_of r.domains.edition (map entry r.ports.entries)) };
+}
+
+/// Why a word that spells no number up to the last port's names no port.
+fn not_numbered(word: &str) -> LineWhy
+    ensures { result ≡ (if is_a_decimal word.now then PortWhy else NumberWhy) }
+{
+    if is_decimal(word) {
+        LineWhy::Port
+    } else {
+        LineWhy::Number
+    }
 }
 
 impl Roster {
@@ -189,7 +201,7 @@ impl Roster {
 
     /// The port that the word names.
     #[tactic(auto, unfolding(br_model::specs::Text::Operands::port_name))]
-    pub(crate) fn named(&self, word: &str) -> Result<Port, LineWhy>
+    pub fn named(&self, word: &str) -> Result<Port, LineWhy>
         ensures { result ≡ port_name self.now.ports word.now }
     {
         match self.ports.get(word) {
@@ -216,20 +228,27 @@ impl Roster {
         !p.is_host() && self.domains.of(p).is_some()
     }
 
+    /// The declared port with this number.
+    pub fn port_of(&self, number: u8) -> Option<Port>
+        ensures { result ≡ (if nat_le number last_port && has_number self.now.ports number then Some number else None) }
+    {
+        match Port::new(number) {
+            Some(port) if self.is_declared(port) => Some(port),
+            _ => None,
+        }
+    }
+
     /// The declared port whose number the word spells.
     #[tactic(auto, unfolding(br_model::specs::Text::Operands::port_number))]
     pub fn numbered(&self, word: &str) -> Result<Port, LineWhy>
         ensures { result ≡ port_number_of self.now.ports word.now }
     {
-        if !is_decimal(word) {
-            return Err(LineWhy::Number);
-        }
         let Some(number) = number_up_to(word, u64::from(Port::LAST)) else {
-            return Err(LineWhy::Port);
+            return Err(not_numbered(word));
         };
-        match Port::new(number as u8) {
-            Some(port) if self.is_declared(port) => Ok(port),
-            _ => Err(LineWhy::Port),
+        match self.port_of(number as u8) {
+            Some(port) => Ok(port),
+            None => Err(LineWhy::Port),
         }
     }
 
@@ -248,8 +267,7 @@ impl Roster {
 
     /// A domain that a switch chip can have.
     pub fn chip_domain(&self, word: &str) -> Result<Dom, LineWhy>
-        ensures value { result ≡ number_of first_chip_domain last_chip word.now }
-        ensures range { IfOk result (λ dom. of_chip dom ≡ true) }
+        ensures { result ≡ number_of first_chip_domain last_chip word.now }
     {
         let number = number(word, u64::from(Dom::CHIP.number()), u64::from(Dom::LAST))?;
         match Dom::new(number as u8) {
@@ -262,7 +280,7 @@ impl Roster {
     #[tactic(auto, unfolding(br_model::specs::Text::Operands::chip_domain))]
     pub fn chip(&self, word: &str) -> Result<Dom, LineWhy>
         ensures value { result ≡ chip_domain self.now.ports word.now }
-        ensures range { IfOk result (λ dom. of_chip dom ≡ true) }
+        ensures exists { IfOk result (λ dom. is_chip self.now.ports dom ≡ true) }
     {
         let dom = self.chip_domain(word)?;
         if self.has_chip(dom) {

@@ -5,9 +5,9 @@ use Rattle.std.specs.Cmp.{first_so, second_so, tied_itself}
 use Rattle.std.specs.Ordering.{eq_by_cmp, is_eq, is_lt, ordering_reverse}
 use Rattle.std.specs.declared.cmp.Ordering.{Ordering}
 use Rattle.std.specs.declared.cmp.Ordering.TheVariants.{Less, Equal, Greater}
-use Rattle.std.specs.FinMap.Entries.{by_order, below_all, same_entries, is_sorted-put, find-put, is_sorted-where_key}
+use Rattle.std.specs.FinMap.Entries.{below_all, by_order, is_sorted-put, is_sorted-where_key}
 use Rattle.std.specs.Option.{option_map_or, unwrap_or}
-use Rattle.std.proofs.lemmas.Bool.{le-leb, leb-true, ltb-true}
+use Rattle.std.proofs.lemmas.Bool.{le-leb, leb-true, ltb-true, false≢true}
 use Rattle.std.proofs.lemmas.List.{length-map}
 use Rattle.std.proofs.lemmas.Bool.Decides.{nat_tests}
 use Rattle.br_model.specs.declared.change.Kind.{Kind}
@@ -16,11 +16,11 @@ use Rattle.br_model.specs.Control.Ageing.{expires, is_old}
 use Rattle.br_model.specs.Control.Learning.{Address}
 use Rattle.br_model.specs.Table.Limits.{most_addresses}
 use Rattle.br_model.specs.Data.Maps.{pair_cmp, get, put, without, is_ascending}
-use Rattle.br_model.proofs.PairKeys.{pair_total, same_cmp}
+use Rattle.br_model.proofs.PairKeys.{pair_total}
 use Rattle.fdb_core.specs.declared.entries.Entry.{Entry}
-use Rattle.fdb_core.specs.Fdb.{addresses, moments, place, keys_where, is_at_port, is_expired, is_learned, is_from, all_from}
+use Rattle.fdb_core.specs.Fdb.{Table, addresses, moments, place, keys_where, is_at_port, is_expired, is_learned, is_from, all_from}
 use Rattle.fdb_core.proofs.Addresses.{get-told}
-use Rattle.bridge_core.specs.Entries.{keys_at, old_keys, entries_of}
+use Rattle.bridge_core.specs.Entries.{keys_at, old_keys, entries_of, IsKept}
 
 abbrev Entries : Type 0
 Entries = List (Address × Entry)
@@ -162,31 +162,10 @@ told ms (e ∷ es) h = λ i. (e.0, record { port = e.1.port; kind = e.1.kind; up
 pub entries_told : (b : ℕ) (es : Entries) → is_ascending pair_cmp es ≡ true → entries_of (record { addr = addresses es; updated = moments es; oldest = b }) ≡ es
 entries_told b es up = told (moments es) es (has-moments es up)
 
--- the place of an entry that is there is put again
+-- in order
 
 true_T : (b : Bool) → b ≡ true → T b
 true_T b e = subst T (sym e) tt
-
-ascending-addresses : (es : Entries) → is_ascending pair_cmp (addresses es) ≡ is_ascending pair_cmp es
-ascending-addresses [] = refl
-ascending-addresses (e ∷ es) = λ i. below e.0 es i && ascending-addresses es i
-  where
-    below : (k : Address) (fs : Entries) → below_all pair_cmp k (addresses fs) ≡ below_all pair_cmp k fs
-    below k [] = refl
-    below k (f ∷ fs) = λ i. is_lt (pair_cmp k f.0) && below k fs i
-
-put_found : {X : Type 0} (m : List (Address × X)) (k : Address) (x : X) → is_ascending pair_cmp m ≡ true → get pair_cmp m k ≡ Some x → put pair_cmp m k x ≡ m
-put_found {X} m k x up is =
-    same_entries pair_cmp pair_total same_cmp (put pair_cmp m k x) m (is_sorted-put pair_cmp pair_total k x m (true_T _ up)) (true_T _ up)
-    (λ q. find-put pair_cmp pair_total q k x m ∙ by q (pair_cmp q k) refl)
-  where
-    by : (q : Address) (r : Ordering) → pair_cmp q k ≡ r → cond (is_eq r) (Some x) (get pair_cmp m q) ≡ get pair_cmp m q
-    by q Less e = refl
-    by q Equal e = sym is ∙ ap (λ p. get pair_cmp m p) (sym (same_cmp q k e))
-    by q Greater e = refl
-
-pub place-stays : (es : Entries) (k : Address) (x : Entry) → is_ascending pair_cmp es ≡ true → get pair_cmp (addresses es) k ≡ Some (place x) → put pair_cmp (addresses es) k (place x) ≡ addresses es
-place-stays es k x up is = put_found (addresses es) k (place x) (ascending-addresses es ∙ up) is
 
 pub ascending-put : (es : Entries) (k : Address) (x : Entry) → is_ascending pair_cmp es ≡ true → is_ascending pair_cmp (put pair_cmp es k x) ≡ true
 ascending-put es k x up = of _ (is_sorted-put pair_cmp pair_total k x es (true_T _ up))
@@ -210,3 +189,28 @@ room-absent es k none h =
     let t : nat_lt (length (addresses es)) most_addresses ≡ true = rw none at k in
     let l : length (addresses es) < most_addresses = ltb-true _ _ t in
     omega arith
+
+-- whether an address is there
+pub there-told : (es : Entries) (k : Address) → is_some (get pair_cmp (addresses es) k) ≡ true → is_some (get pair_cmp es k) ≡ true
+there-told es k h = by (get pair_cmp es k) (sym (ap is_some (get-told place es k)) ∙ h)
+  where
+    by : (o : Option Entry) → is_some (option_map place o) ≡ true → is_some o ≡ true
+    by None e = e
+    by (Some x) e = refl
+
+-- an entry that is there gets the moment `now`
+pub renewed-kept : (fdb new : Table) (k : Address) (b now : ℕ) → is_some (get pair_cmp fdb.entries k) ≡ true
+    → ((e : Entry) → get pair_cmp fdb.entries k ≡ Some e → new ≡ record fdb { entries = put pair_cmp fdb.entries k (record e { updated = now }) })
+    → IsKept fdb b → IsKept new (min b now)
+renewed-kept fdb new k b now there is kept = by (get pair_cmp fdb.entries k) refl there
+  where
+    by : (o : Option Entry) → get pair_cmp fdb.entries k ≡ o → is_some o ≡ true → IsKept new (min b now)
+    by None e h = absurd (false≢true h)
+    by (Some x) e h =
+        let put_so : IsKept (record fdb { entries = put pair_cmp fdb.entries k (record x { updated = now }) }) (min b now) = record {
+          room = kept.room;
+          ascending = ascending-put fdb.entries k (record x { updated = now }) kept.ascending;
+          bounded = from-put b now k (record x { updated = now }) fdb.entries refl kept.bounded;
+        }
+        in
+        subst (λ (t : Table). IsKept t (min b now)) (sym (is x e)) put_so

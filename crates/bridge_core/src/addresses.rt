@@ -96,18 +96,7 @@ impl Addresses {
         ensures { self.new ≡ record self.old { updated = put pair_cmp self.old.updated (vid, mac) now; oldest = min self.old.oldest now } }
     {
         self.oldest = self.oldest.min(now);
-        match self.fdb.find(vid, mac) {
-            Some(entry) => self.fdb.put(
-                vid,
-                mac,
-                Entry {
-                    port: entry.port,
-                    kind: entry.kind,
-                    updated: now,
-                },
-            ),
-            None => unreachable!(),
-        }
+        self.fdb.renew(vid, mac, now);
     }
 
     /// The addresses at the port, by VLAN and address. Where there is none it looks at no entry, and else at each.

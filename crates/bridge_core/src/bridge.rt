@@ -367,7 +367,7 @@ impl Bridge {
         match heard(&self.state, port, bytes, head) {
             Some(event) => {
                 let plan = Plan::telling(alloc, self.state.clock, Some(event));
-                self.accept(plan, lines)
+                self.accept_told(plan, &event, lines)
             }
             None => self.take_untold(alloc, port, bytes, head, message),
         }
@@ -390,6 +390,38 @@ impl Bridge {
         ensures { PlansOf self.now result (comes_to self.now (Forget stations.now)) }
     {
         loses(alloc, &self.state, stations)
+    }
+
+    /// What comes of a command.
+    fn take_command(
+        &mut self,
+        alloc: Global,
+        asked: &Command,
+        lines: &mut Lines,
+    ) -> Result<(), EventFault>
+        requires room { 1 ≤ lines.old.rows }
+        ensures carries_out { CarriesOut self.old self.new lines.old.lines lines.new.lines result (comes_to self.old (Cmd asked.now)) }
+        ensures room { 1 ≤ lines.new.rows }
+        ensures marked { lines.new.marked ≡ lines.old.marked }
+    {
+        let plan = self.plan_command(alloc, asked)?;
+        self.accept(plan, lines)
+    }
+
+    /// What comes of the loss of these stations.
+    fn take_loss(
+        &mut self,
+        alloc: Global,
+        stations: &Triples,
+        lines: &mut Lines,
+    ) -> Result<(), EventFault>
+        requires room { 1 ≤ lines.old.rows }
+        ensures carries_out { CarriesOut self.old self.new lines.old.lines lines.new.lines result (comes_to self.old (Forget stations.now)) }
+        ensures room { 1 ≤ lines.new.rows }
+        ensures marked { lines.new.marked ≡ lines.old.marked }
+    {
+        let plan = self.plan_loss(alloc, stations)?;
+        self.accept(plan, lines)
     }
 
     /// The moment comes.
@@ -415,10 +447,7 @@ impl Bridge {
         ensures marked { lines.new.marked ≡ lines.old.marked }
     {
         match event {
-            Event::Cmd(asked) => {
-                let plan = self.plan_command(alloc, asked)?;
-                self.accept(plan, lines)
-            }
+            Event::Cmd(asked) => self.take_command(alloc, asked, lines),
             Event::Moment(now) => self.pass_to(alloc, *now, lines),
             Event::Sight { port, bytes, head } => {
                 let bytes = bytes.as_slice();
@@ -426,10 +455,7 @@ impl Bridge {
                 self.take_frame(alloc, *port, bytes, head, &message, lines)
             }
             Event::Told { vid, mac, port } => self.take_report(*vid, *mac, *port),
-            Event::Forget(stations) => {
-                let plan = self.plan_loss(alloc, stations)?;
-                self.accept(plan, lines)
-            }
+            Event::Forget(stations) => self.take_loss(alloc, stations, lines),
         }
     }
 

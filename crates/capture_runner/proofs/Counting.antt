@@ -16,7 +16,7 @@ use Rattle.br_model.specs.Plane.Steps.{world_step}
 use Rattle.br_model.specs.Plane.World.{World, Stepped, first_world}
 use Rattle.br_model.specs.Program.Runs.{run_of, setup_of}
 use Rattle.br_model.specs.Text.Scenario.{Scenario}
-use Rattle.br_model.specs.Table.Domains.{chip}
+use Rattle.br_model.specs.Table.Domains.{first_chip_domain}
 use Rattle.br_model.specs.Table.Setup.{Setup}
 use Rattle.br_model.specs.Program.Summary.{kind_of, count_of, summary, summary_text}
 use Rattle.br_model.proofs.MadeRead.{made_read}
@@ -96,20 +96,24 @@ ran_none setup w t e h = record {
   tallies = subst (λ (l : List Line). Tallies l t) (sym (ap (λ (x : Stepped). x.1) (run_none setup))) h;
 }
 
+-- the chips of a generated scenario
+abbrev pub chips : List ℕ
+chips = first_chip_domain ∷ []
+
 -- generated steps come by lines
-pub frame_by_line : (i n : ℕ) → i ≤ most_frames → list_all comes_by_line (frame_steps i n) ≡ true
+pub frame_by_line : (i n : ℕ) → i ≤ most_frames → list_all (comes_by_line chips) (frame_steps i n) ≡ true
 frame_by_line i n few =
-    joined (each 3 i (Report chip)) _ (one (i % 3 == 0) (Report chip) refl)
-    (joined (each 5 i (Turn chip)) _ (one (i % 5 == 0) (Turn chip) refl)
+    joined (each 3 i (Report first_chip_domain)) _ (one (i % 3 == 0) (Report first_chip_domain) refl)
+    (joined (each 5 i (Turn first_chip_domain)) _ (one (i % 5 == 0) (Turn first_chip_domain) refl)
     (joined (each 7 i Publish) _ (one (i % 7 == 0) Publish refl)
     (one (i % 64 == 0) (Now (1000 * i)) (early (1000 * i) (omega arith)))))
   where
-    one : (b : Bool) (s : Step) → comes_by_line s ≡ true → list_all comes_by_line (if b then s ∷ [] else []) ≡ true
+    one : (b : Bool) (s : Step) → comes_by_line chips s ≡ true → list_all (comes_by_line chips) (if b then s ∷ [] else []) ≡ true
     one true s h = rw h refl
     one false s h = refl
 
-    joined : (l m : List Step) → list_all comes_by_line l ≡ true → list_all comes_by_line m ≡ true → list_all comes_by_line (l ++ m) ≡ true
-    joined l m h k = list_all-append comes_by_line l m ∙ rw (h, k) refl
+    joined : (l m : List Step) → list_all (comes_by_line chips) l ≡ true → list_all (comes_by_line chips) m ≡ true → list_all (comes_by_line chips) (l ++ m) ≡ true
+    joined l m h k = list_all-append (comes_by_line chips) l m ∙ rw (h, k) refl
 
     early : (moment : ℕ) → moment ≤ last_moment → nat_le moment last_moment ≡ true
     early moment h = grind arith

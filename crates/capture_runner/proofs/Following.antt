@@ -53,7 +53,7 @@ begins places.Steps h = absurd (cc)
 pub past : (r : Roster) (said : Said) → declaration r.place ≡ false → opening r.place ≡ false → comes_in_place r.place (item_of said) ≡ true
     → (declaration (declared r said).place ≡ false) × (opening (declared r said).place ≡ false)
 past r Blank d o h = (d, o)
-past r Opens d o h = let e : true ≡ false = sym h ∙ o in absurd (cc)
+past r (Opens edition) d o h = let e : true ≡ false = sym h ∙ o in absurd (cc)
 past r (Bridge mac) d o h = let e : true ≡ false = sym (begins r.place h) ∙ d in absurd (cc)
 past r (Declares port name dom) d o h = let e : true ≡ false = sym h ∙ d in absurd (cc)
 past r (Does step) d o h = (refl, refl)
@@ -71,6 +71,11 @@ pub unmade : (s t : Scenario) (w : Option World) → IsWorld s w → t.steps ≡
 unmade s t None h e d = e ∙ h
 unmade s t (Some w) h e d = let e : true ≡ false = sym d ∙ h.1.0 in absurd (cc)
 
+-- nor where the first line may stand
+unopened : (s t : Scenario) (w : Option World) → IsWorld s w → t.steps ≡ s.steps → opening s.roster.place ≡ true → IsWorld t w
+unopened s t None h e o = e ∙ h
+unopened s t (Some w) h e o = let e : true ≡ false = sym o ∙ h.1.1 in absurd (cc)
+
 -- a run without steps writes nothing, whatever the setup
 pub no_steps : (s : Scenario) → s.steps ≡ [] → body_of (run_of s) ≡ codes "transcript 1" ++ 10 ∷ []
 no_steps s e = ap (λ (steps : List Step). body_of (run (setup_of s.roster) steps)) e ∙ ap body_of (run_none (setup_of s.roster))
@@ -78,6 +83,10 @@ no_steps s e = ap (λ (steps : List Step). body_of (run (setup_of s.roster) step
 pub unmade_body : (s t : Scenario) (w : Option World) → IsWorld s w → t.steps ≡ s.steps → declaration s.roster.place ≡ true → body_of (run_of t) ≡ body_of (run_of s)
 unmade_body s t None h e d = no_steps t (e ∙ h) ∙ sym (no_steps s h)
 unmade_body s t (Some w) h e d = let e : true ≡ false = sym d ∙ h.1.0 in absurd (cc)
+
+unopened_body : (s t : Scenario) (w : Option World) → IsWorld s w → t.steps ≡ s.steps → opening s.roster.place ≡ true → body_of (run_of t) ≡ body_of (run_of s)
+unopened_body s t None h e o = no_steps t (e ∙ h) ∙ sym (no_steps s h)
+unopened_body s t (Some w) h e o = let e : true ≡ false = sym o ∙ h.1.1 in absurd (cc)
 
 -- a step
 
@@ -127,7 +136,7 @@ quietly s x r before said f moved place going =
 
     stays : (said : Said) → comes_in_place s.roster.place (item_of said) ≡ true → (after said).steps ≡ s.steps → IsWorld (after said) x.world
     stays Blank h e = quiet s (after Blank) x.world f.stands.world e refl (λ d o. past s.roster Blank d o h)
-    stays Opens h e = quiet s (after Opens) x.world f.stands.world e refl (λ d o. past s.roster Opens d o h)
+    stays (Opens edition) h e = unopened s (after (Opens edition)) x.world f.stands.world e h
     stays (Bridge mac) h e = unmade s (after (Bridge mac)) x.world f.stands.world e (begins s.roster.place h)
     stays (Declares port name dom) h e = unmade s (after (Declares port name dom)) x.world f.stands.world e h
     stays (Does step) h e = quiet s (after (Does step)) x.world f.stands.world e refl (λ d o. past s.roster (Does step) d o h)
@@ -136,7 +145,7 @@ quietly s x r before said f moved place going =
 
     same_body : (said : Said) → comes_in_place s.roster.place (item_of said) ≡ true → (after said).steps ≡ s.steps → body_of (run_of (after said)) ≡ body_of (run_of s)
     same_body Blank h e = ap body_of (same_run s (after Blank) refl e)
-    same_body Opens h e = ap body_of (same_run s (after Opens) refl e)
+    same_body (Opens edition) h e = unopened_body s (after (Opens edition)) x.world f.stands.world e h
     same_body (Bridge mac) h e = unmade_body s (after (Bridge mac)) x.world f.stands.world e (begins s.roster.place h)
     same_body (Declares port name dom) h e = unmade_body s (after (Declares port name dom)) x.world f.stands.world e h
     same_body (Does step) h e = ap body_of (same_run s (after (Does step)) refl e)
@@ -153,7 +162,7 @@ pub record IsCalm (said : Said) : Type 0 where
 
 abbrev pub GivesItem : Item → Said → Type 0
 GivesItem items.Blank said = IsCalm said
-GivesItem items.Scenario said = IsCalm said
+GivesItem (items.Scenario edition) said = IsCalm said
 GivesItem (items.Bridge mac) said = IsCalm said
 GivesItem (items.Declared port) said = IsCalm said
 GivesItem (items.Step step) said = said ≡ Does step
@@ -162,7 +171,7 @@ GivesItem items.End said = said ≡ Ends
 
 gives_own : (said : Said) → GivesItem (item_of said) said
 gives_own Blank = record { steps = λ ports. refl; sized = refl; going = refl }
-gives_own Opens = record { steps = λ ports. refl; sized = refl; going = refl }
+gives_own (Opens edition) = record { steps = λ ports. refl; sized = refl; going = refl }
 gives_own (Bridge mac) = record { steps = λ ports. refl; sized = refl; going = refl }
 gives_own (Declares port name dom) = record { steps = λ ports. refl; sized = refl; going = refl }
 gives_own (Does step) = refl

@@ -6,6 +6,7 @@ pub mod Generating
 pub mod Outcomes
 pub mod Packets
 pub mod Reaching
+pub mod Ready
 pub mod Sections
 pub mod Steps
 pub mod Telling

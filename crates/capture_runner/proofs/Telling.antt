@@ -1,12 +1,17 @@
 -- The text of a run, from its first line to its last.
-use Rattle.std.proofs.Common.{◌≡◌, ℕ, ◌≤◌, false, List, [], ◌∷◌, ◌++◌, length, None, Some, Option, Result, Ok, Err, refl, sym, ◌∙◌, ap, subst, arith, codes, append_assoc, length-append}
+use Rattle.std.proofs.Common.{◌≡◌, ℕ, ◌≤◌, false, List, [], ◌∷◌, ◌++◌, length, map, None, Some, Option, Result, Ok, Err, refl, sym, ◌∙◌, ap, subst, arith, codes, append_assoc, length-append}
 use Rattle.std.specs.Io.KnownBytes.{Appends, Consumes}
+use Rattle.std.specs.List.{sum_by}
 use Rattle.std.proofs.KnownBytes.{Appends-trans}
 use Rattle.std.proofs.lemmas.List.{append-nil}
 use Rattle.run_io.specs.Reading.{Reading}
 use Rattle.br_model.specs.Table.Limits.{most_bytes}
-use Rattle.br_model.specs.Plane.Runs.{run, end_line}
-use Rattle.br_model.specs.Plane.World.{World, Stepped}
+use Rattle.br_model.specs.Plane.Chip.{first_chip}
+use Rattle.br_model.specs.Plane.Runs.{run, end_line, pending_of}
+use Rattle.br_model.specs.Plane.World.{World, Stepped, first_world}
+use Rattle.br_model.specs.Table.Domains.{chip_domains}
+use Rattle.br_model.specs.Table.Setup.{Setup}
+use Rattle.br_model.specs.declared.transcript.Line.TheVariants.{End}
 use Rattle.br_model.specs.Text.Roster.{Roster}
 use Rattle.br_model.specs.Program.Runs.{run_of, body_of, body, told, last_text, setup_of}
 use Rattle.br_model.specs.Text.Scenario.{Scenario, Ending, opened, scenario}
@@ -71,8 +76,12 @@ grown before after old new all w = record { gone = w.gone; wrote = w.wrote; toge
 
 -- the last line
 
+none_pending : (setup : Setup) (doms : List ℕ) → sum_by (pending_of (first_world setup)) (map first_chip doms) ≡ 0
+none_pending setup [] = refl
+none_pending setup (dom ∷ doms) = none_pending setup doms
+
 last_world : (s : Scenario) (w : Option World) → IsWorld s w → end_line_of w ≡ end_line (run_of s).0
-last_world s None h = sym (ap (λ (x : Stepped). end_line x.0) (ap (run (setup_of s.roster)) h ∙ run_none (setup_of s.roster)))
+last_world s None h = ap (λ (n : ℕ). End 0 0 n 0) (sym (none_pending (setup_of s.roster) (chip_domains (setup_of s.roster).domains))) ∙ sym (ap (λ (x : Stepped). end_line x.0) (ap (run (setup_of s.roster)) h ∙ run_none (setup_of s.roster)))
 last_world s (Some w) h = ap end_line h.0
 
 last_is : (s : Scenario) (w : Option World) (last : Last) → IsWorld s w → last_line last w ≡ last_text (ending_of last) (run_of s).0

@@ -20,7 +20,8 @@ use Rattle.br_model.specs.Text.Operands.{longest_section}
 use Rattle.br_model.specs.Plane.Runs.{end_line}
 use Rattle.br_model.specs.Plane.Steps.{world_step}
 use Rattle.br_model.specs.Plane.World.{World, first_world}
-use Rattle.br_model.specs.Text.Roster.{Entry, Roster}
+use Rattle.br_model.specs.Table.Domains.{chip_domains}
+use Rattle.br_model.specs.Text.Roster.{Entry, Roster, chips_of}
 use Rattle.br_model.specs.Program.Runs.{run_of, body_of, setup_of}
 use Rattle.br_model.specs.Text.Scenario.{Scenario, Ending, Going, Ended, Bad, bad, captured, section_length, takes, takes_steps, whole_says}
 use Rattle.br_model.specs.Table.Table.{table}
@@ -36,9 +37,18 @@ use Rattle.capture_runner.specs.declared.status.Status.{Status}
 use Rattle.capture_runner.specs.declared.status.Status.TheVariants as statuses
 use Rattle.br_model.specs.Text.LineForms.{comes_by_line}
 
+-- no port can be declared any more
+abbrev pub IsBehindDeclarations : Roster → Type 0
+IsBehindDeclarations roster = (declaration roster.place ≡ false) × (opening roster.place ≡ false)
+
+-- where there is a world, it has the chips of the declared ports, and no port can be declared any more
+abbrev pub IsReady : Roster → Option World → Type 0
+IsReady roster None = Unit {0}
+IsReady roster (Some w) = (chip_domains w.setup.domains ≡ chips_of roster.ports) × IsBehindDeclarations roster
+
 -- after the declarations
 abbrev pub IsAmongSteps : Scenario → Type 0
-IsAmongSteps s = (declaration s.roster.place ≡ false) × (opening s.roster.place ≡ false)
+IsAmongSteps s = IsBehindDeclarations s.roster
 
 -- the world after the steps so far, where there were any
 abbrev pub IsWorld : Scenario → Option World → Type 0
@@ -108,10 +118,10 @@ IsCaptured x section (sections.Steps steps) = captured x.roster.ports (packets s
 IsCaptured x section (sections.End last) =
     (why : LineWhy) × (captured x.roster.ports (packets section (length x.roster.ports)) ≡ Err why) × (last ≡ lasts.Bad x.lines why)
 
--- each step is one that a line can give
-abbrev pub ComeByLine : Captured → Type 0
-ComeByLine (sections.Steps steps) = list_all comes_by_line steps.items ≡ true
-ComeByLine (sections.End last) = Unit {0}
+-- each step is one that a line can give where these domains have switch chips
+abbrev pub ComeByLine : List ℕ → Captured → Type 0
+ComeByLine chips (sections.Steps steps) = list_all (comes_by_line chips) steps.items ≡ true
+ComeByLine chips (sections.End last) = Unit {0}
 
 -- the world of a session before a step
 abbrev pub world_of : Roster → Option World → World

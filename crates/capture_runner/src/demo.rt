@@ -5,6 +5,7 @@ ghost use Rattle.br_model.specs.Program.Generator.{most_frames};
 ghost use Rattle.br_model.specs.Program.Summary.{summary as summary_of};
 ghost use Rattle.transcript_lines.specs.Rows.{expand_row};
 ghost use Rattle.capture_runner.specs.Counting.{Adds, AddsSent, RunsOn};
+ghost use Rattle.br_model.specs.Table.Domains.{chip_domains};
 ghost use Rattle.br_model.specs.Text.LineForms.{comes_by_line};
 
 use crate::NoMemory;
@@ -128,7 +129,7 @@ fn do_steps(
     lines: &mut Lines,
     tally: &mut Tally,
 ) -> Result<(), NoMemory>
-    requires { list_all comes_by_line steps.items ≡ true }
+    requires { list_all (comes_by_line (chip_domains world.old.setup.domains)) steps.items ≡ true }
     ensures { OnOk result (RunsOn world.old tally.old steps.items world.new tally.new) }
 {
     for step in steps {

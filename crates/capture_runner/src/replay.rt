@@ -9,9 +9,10 @@ ghost use Rattle.run_io.specs.Reading.{max_line, room};
 ghost use Rattle.run_io.specs.Writing.{full_length};
 ghost use Rattle.capture_runner.specs.Advancing.{Advances, Caused, Lessens, Sections};
 ghost use Rattle.capture_runner.specs.Halting.{DoesAll, Halts, Moves, Plays, PlaysSection, Stalls};
-ghost use Rattle.capture_runner.specs.Session.{ComeByLine, Follows};
+ghost use Rattle.capture_runner.specs.Session.{ComeByLine, Follows, IsBehindDeclarations, IsReady};
 ghost use Rattle.capture_runner.specs.Stopping.{stop_line, stop_status};
 ghost use Rattle.br_model.specs.Text.LineForms.{comes_by_line};
+ghost use Rattle.br_model.specs.Text.Roster.{chips_of};
 
 use crate::session::{Captured, Last, Next, Session};
 use crate::status::Status;
@@ -75,6 +76,8 @@ pub(crate) fn advance<S: Source>(
 ) -> Result<Next, Stop>
     requires sound { reader.old.fault ≡ None }
     requires few { session.old.lines < 2 ^ 32 - 1 }
+    requires ready { IsReady session.old.roster session.old.world }
+    ensures ready { OnOk result (IsReady session.new.roster session.new.world) }
     ensures advances { (limit : ℕ) → Advances limit reader.old reader.new (S.left source.old) (S.left source.new)
         session.old session.new (string_bytes text.old) (string_bytes text.new) result }
     ensures less { IfOk result (Lessens (room reader.old) (room reader.new)) }
@@ -108,7 +111,7 @@ fn read_section<S: Source>(
     requires sound { reader.old.fault ≡ None }
     requires most { length ≤ longest_section }
     ensures sections { (limit : ℕ) → Sections limit reader.old reader.new (S.left source.old) (S.left source.new) session.now length result }
-    ensures by_line { IfOk result ComeByLine }
+    ensures by_line { IfOk result (ComeByLine (chips_of session.now.roster.ports)) }
     ensures less { OnOk result (room reader.new ≤ room reader.old) }
     ensures cause { Caused (S.faults source.old) (S.faults source.new) result }
     ensures later { S.faults source.old ≤ S.faults source.new }
@@ -202,7 +205,10 @@ fn do_steps<K: Sink>(
     output: &mut Output,
     steps: Vec<Step>,
 ) -> Result<(), Halt>
-    requires { list_all comes_by_line steps.items ≡ true }
+    requires by_line { list_all (comes_by_line (chips_of session.old.roster.ports)) steps.items ≡ true }
+    requires ready { IsReady session.old.roster session.old.world }
+    requires behind { IsBehindDeclarations session.old.roster }
+    ensures ready { OnOk result (IsReady session.new.roster session.new.world) }
     ensures does { OnOk result (DoesAll session.old steps.items session.new
         (K.taken sink.old) (K.taken sink.new) (string_bytes output.old.text) (string_bytes output.new.text)) }
     ensures cause { Stalls (K.faults sink.old) (K.faults sink.new) result }
@@ -228,6 +234,9 @@ fn play_section<S: Source, K: Sink>(
 ) -> Result<Option<Last>, Halt>
     requires sound { reader.old.fault ≡ None }
     requires most { length ≤ longest_section }
+    requires ready { IsReady session.old.roster session.old.world }
+    requires behind { IsBehindDeclarations session.old.roster }
+    ensures ready { OnOk result (IsReady session.new.roster session.new.world) }
     ensures plays { PlaysSection reader.old reader.new (S.left source.old) (S.left source.new)
         session.old session.new (K.taken sink.old) (K.taken sink.new) (string_bytes output.old.text) (string_bytes output.new.text) length result }
     ensures less { OnOk result (room reader.new ≤ room reader.old) }

@@ -5,6 +5,7 @@ ghost use Rattle.br_model.specs.Text.Operands.{longest_section};
 ghost use Rattle.br_model.specs.Text.Scenario.{entered};
 ghost use Rattle.capture_runner.specs.Section.{Gives};
 ghost use Rattle.br_model.specs.Text.LineForms.{comes_by_line};
+ghost use Rattle.br_model.specs.Text.Roster.{chips_of};
 
 use crate::NoMemory;
 use br_model::steps::Step;
@@ -35,7 +36,7 @@ pub(crate) fn captured_steps(
 ) -> Result<Vec<Step>, CapFault>
     requires { length section.now ≤ longest_section }
     ensures gives { Gives roster.now.ports section.now result }
-    ensures by_line { IfOk result (λ steps. list_all comes_by_line steps.items ≡ true) }
+    ensures by_line { IfOk result (λ steps. list_all (comes_by_line (chips_of roster.now.ports)) steps.items ≡ true) }
 {
     let mut blocks = Blocks::of(alloc, section, roster.len() as u32);
     let mut steps = Vec::new(alloc);

@@ -3,8 +3,9 @@ ghost use Rattle.std.specs.Prelude.{◌≡◌, ℕ, ◌+◌, ◌-◌, ◌<◌, �
 ghost use Rattle.br_model.specs.Text.Operands.{longest_section};
 ghost use Rattle.br_model.specs.Text.Scenario.{Scenario, opened, longest_line, closes};
 ghost use Rattle.br_model.specs.Table.Table.{table};
-ghost use Rattle.capture_runner.specs.Session.{Follows, Takes, IsAfter, IsCaptured, ComeByLine, Does, ending_of, world_of, end_line_of, last_line, history_of, listing_or_bad, status_of};
+ghost use Rattle.capture_runner.specs.Session.{Follows, Takes, IsAfter, IsBehindDeclarations, IsCaptured, IsReady, ComeByLine, Does, ending_of, world_of, end_line_of, last_line, history_of, listing_or_bad, status_of};
 ghost use Rattle.br_model.specs.Text.LineForms.{comes_by_line};
+ghost use Rattle.br_model.specs.Text.Roster.{chips_of};
 ghost use Rattle.std.specs.String.Boundary.{IsSplitPoint};
 ghost use Rattle.transcript_text.specs.Extends.{Extends};
 
@@ -97,6 +98,8 @@ impl Session {
     ) -> Result<Next, NoMemory>
         requires short { length line.now ≤ longest_line }
         requires few { self.old.lines < 2 ^ 32 - 1 }
+        requires ready { IsReady self.old.roster self.old.world }
+        ensures ready { OnOk result (IsReady self.new.roster self.new.world) }
         ensures takes { IfOk result (Takes self.old line.now (string_bytes text.old) self.new (string_bytes text.new)) }
         ensures lines { OnOk result (self.new.lines ≤ self.old.lines + 1) }
         ensures err { OnErr result (string_bytes text.new ≡ string_bytes text.old) }
@@ -109,7 +112,7 @@ impl Session {
         self.lines += 1;
         match item {
             Item::Blank => Ok(Next::Line),
-            Item::Scenario => Ok(Next::Line),
+            Item::Scenario(_) => Ok(Next::Line),
             Item::Bridge(_) => Ok(Next::Line),
             Item::Declared(_) => Ok(Next::Line),
             Item::Step(step) => {
@@ -125,7 +128,7 @@ impl Session {
     pub(crate) fn captured(&self, alloc: Global, section: &[u8]) -> Result<Captured, NoMemory>
         requires { length section.now ≤ longest_section }
         ensures gives { IfOk result (IsCaptured self.now section.now) }
-        ensures by_line { IfOk result ComeByLine }
+        ensures by_line { IfOk result (ComeByLine (chips_of self.now.roster.ports)) }
     {
         match captured_steps(alloc, section, &self.roster) {
             Ok(steps) => Ok(Captured::Steps(steps)),
@@ -147,10 +150,12 @@ impl Session {
     /// of its locals.
     fn begin(&mut self, alloc: Global, step: Step) -> Result<(), NoMemory>
         requires first { self.old.world ≡ None }
-        requires by_line { comes_by_line step ≡ true }
+        requires by_line { comes_by_line (chips_of self.old.roster.ports) step ≡ true }
+        requires behind { IsBehindDeclarations self.old.roster }
         requires empty { self.old.told.lines ≡ [] }
         ensures lines { OnOk result (self.new.lines ≡ self.old.lines) }
         ensures roster { OnOk result (self.new.roster ≡ self.old.roster) }
+        ensures ready { OnOk result (IsReady self.new.roster self.new.world) }
         ensures does { OnOk result (IsAfter (world_of self.old.roster None) step self.new) }
     {
         let mut world = World::make(alloc, self.roster.domains(), self.roster.own())?;
@@ -161,10 +166,13 @@ impl Session {
 
     /// Does a step in the world that is there, or in a new one.
     fn go_on(&mut self, alloc: Global, step: Step) -> Result<(), NoMemory>
-        requires by_line { comes_by_line step ≡ true }
+        requires by_line { comes_by_line (chips_of self.old.roster.ports) step ≡ true }
+        requires ready { IsReady self.old.roster self.old.world }
+        requires behind { IsBehindDeclarations self.old.roster }
         requires empty { self.old.told.lines ≡ [] }
         ensures lines { OnOk result (self.new.lines ≡ self.old.lines) }
         ensures roster { OnOk result (self.new.roster ≡ self.old.roster) }
+        ensures ready { OnOk result (IsReady self.new.roster self.new.world) }
         ensures does { OnOk result (IsAfter (world_of self.old.roster self.old.world) step self.new) }
     {
         match &mut self.world {
@@ -180,7 +188,10 @@ impl Session {
         step: Step,
         text: &mut String,
     ) -> Result<(), NoMemory>
-        requires { comes_by_line step ≡ true }
+        requires by_line { comes_by_line (chips_of self.old.roster.ports) step ≡ true }
+        requires ready { IsReady self.old.roster self.old.world }
+        requires behind { IsBehindDeclarations self.old.roster }
+        ensures ready { OnOk result (IsReady self.new.roster self.new.world) }
         ensures does { OnOk result (Does self.old step (string_bytes text.old) self.new (string_bytes text.new)) }
         ensures err { OnErr result (string_bytes text.new ≡ string_bytes text.old) }
     {

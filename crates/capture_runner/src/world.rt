@@ -1,9 +1,9 @@
-//! The world of a run: a bridge with its chip, and the seat by which its software looks up.
+//! The world of a run: a bridge with its chips, and the seat by which its software looks up.
 ghost use Rattle.std.specs.Prelude.{◌≡◌, length, true, IfOk, OnOk, OnErr};
 ghost use Rattle.br_model.specs.Plane.Runs.{end_line, pending};
 ghost use Rattle.br_model.specs.declared.steps.Step.TheVariants.{Turn};
 ghost use Rattle.br_model.specs.Plane.World.{first_world};
-ghost use Rattle.br_model.specs.Table.Domains.{chip};
+ghost use Rattle.br_model.specs.Table.Domains.{chip_domains, has_chip};
 ghost use Rattle.plane_core.specs.Added.{Added};
 ghost use Rattle.plane_core.specs.Planes.{Steps as IsStep};
 ghost use Rattle.capture_runner.specs.Session.{Tells};
@@ -42,7 +42,7 @@ impl Model for World {
 /// The chip of the domain applies the update whose turn it is.
 #[tactic(auto, using(crate::proofs::Worlds::turn_told))]
 fn turn(plane: &mut Plane, dom: Dom, lines: &mut Lines) -> Result<(), NoMemory>
-    requires { dom ≡ chip }
+    requires { has_chip plane.old.world.setup.domains dom ≡ true }
     ensures ok { OnOk result (Added (IsStep plane.old plane.new (Turn dom)) lines.old.lines lines.new.lines) }
     ensures err { OnErr result (plane.new ≡ plane.old) }
 {
@@ -78,7 +78,7 @@ impl World {
         step: Step,
         lines: &mut Lines,
     ) -> Result<(), NoMemory>
-        requires { comes_by_line step ≡ true }
+        requires { comes_by_line (chip_domains self.old.setup.domains) step ≡ true }
         ensures { OnOk result (Added (Tells self.old step self.new) lines.old.lines lines.new.lines) }
     {
         match step {
@@ -113,11 +113,11 @@ impl World {
         self.history().len() as u32
     }
 
-    /// Deferred changes that the chip hasn't applied.
+    /// Deferred changes that chips haven't applied, all chips together.
     pub(crate) fn pending(&self) -> u32
         ensures { result ≡ pending self.now }
     {
-        self.plane.pending(Dom::CHIP)
+        self.plane.pending_of_all()
     }
 
     /// The last line of a run that ends here.

@@ -40,10 +40,10 @@ state_is : (o : Option ℕ) → (unwrap_or o 0 == forwarding) ≡ option_eq (λ 
 state_is None = refl
 state_is (Some n) = refl
 
-pub stands : (d : Domains) (t : Table) (s : Shadow) (j : List (List ℕ)) (rows : Rows) → Settled s j rows → VlansStand rows t → PortsStand d rows t → KeepsRouters s.routers t
-    → TrapsStand rows t → ControlStands rows t → AddressesStand rows t → GroupsFollow s t.groups rows → Stands d rows t
+pub stands : (d : Domains) (dom : ℕ) (t : Table) (s : Shadow) (j : List (List ℕ)) (rows : Rows) → Settled s j rows → VlansStand rows t → PortsStand d dom rows t → KeepsRouters s.routers t
+    → TrapsStand rows t → ControlStands rows t → AddressesStand rows t → GroupsFollow s t.groups rows → Stands d dom rows t
 unfolding fan_to
-stands d t s j rows settled vlans ports routers traps control addresses follow = record {
+stands d dom t s j rows settled vlans ports routers traps control addresses follow = record {
   vlans = vlans;
   floods = λ vid in_range f.
       settled.fans vid in_range (Floods f) ∙ ap (λ (r : VlanRow). fan_to s r.members (floods_to s r.members f)) (vlans vid in_range)
@@ -55,7 +55,7 @@ stands d t s j rows settled vlans ports routers traps control addresses follow =
   traps = traps;
   control = control;
   addresses = addresses;
-  groups = rows_stand (λ k. fan_wanted d t k.0 (is_grouped t k.0 k.1)) rows.groups t.groups follow.ascending (λ k. follow.at k ∙ grouped k (has_pair t.groups k) refl);
+  groups = rows_stand (λ k. fan_wanted d dom t k.0 (is_grouped t k.0 k.1)) rows.groups t.groups follow.ascending (λ k. follow.at k ∙ grouped k (has_pair t.groups k) refl);
 }
   where
     members : (vid : ℕ) → Has (vlan_wanted t vid).members (λ q. member t q vid)
@@ -67,12 +67,12 @@ stands d t s j rows settled vlans ports routers traps control addresses follow =
     eligible : (vid q : ℕ) → q < port_places → opens s (vlan_wanted t vid).members q ≡ is_open t vid q
     eligible vid q low = ap₂ (λ m b. m && ((q == host) || b)) (members vid q low) (forwards q low)
 
-    wanted : (vid : ℕ) (to target : ℕ → Bool) → ((q : ℕ) → q < port_places → to q ≡ target q) → fan_to s (vlan_wanted t vid).members to ≡ fan_wanted d t vid target
+    wanted : (vid : ℕ) (to target : ℕ → Bool) → ((q : ℕ) → q < port_places → to q ≡ target q) → fan_to s (vlan_wanted t vid).members to ≡ fan_wanted d dom t vid target
     wanted vid to target same =
         same_fans _ _ _ _ _ _ _ _ (λ q low. settled.shadow.own q low ∙ ap (λ (r : PortRow). r.own) (ports q low)) same (eligible vid)
         (λ q low. ap₂ (λ e b. e && ((q == host) || not b)) (eligible vid q low) (settled.shadow.isolated q low ∙ ap (λ r. row_has_flag r isolated) (ports q low)))
 
-    grouped : (k : GroupPair) (b : Bool) → has_pair t.groups k ≡ b → cond b (Some (group_fan s rows t.groups k)) None ≡ cond b (Some (fan_wanted d t k.0 (is_grouped t k.0 k.1))) None
+    grouped : (k : GroupPair) (b : Bool) → has_pair t.groups k ≡ b → cond b (Some (group_fan s rows t.groups k)) None ≡ cond b (Some (fan_wanted d dom t k.0 (is_grouped t k.0 k.1))) None
     grouped k true is =
         ap Some (ap (λ (r : VlanRow). fan_to s r.members (has_number (ports_in t.groups k.0 k.1))) (vlans k.0 (follow.vids k is))
         ∙ wanted k.0 (has_number (ports_in t.groups k.0 k.1)) (is_grouped t k.0 k.1) (λ q low. has-ports q k.0 k.1 t.groups))
@@ -87,16 +87,16 @@ stands d t s j rows settled vlans ports routers traps control addresses follow =
 pub drives_port : (d : Domains) (t : Table) (up : List ℕ) (flags state : List (ℕ × ℕ)) (p : ℕ) (row : PortRow) (old : Driven) (kept : Kept) → Drives d old t
     → IsKept kept → kept.shadow.routers ≡ old.routers → kept.groups ≡ old.groups → WritesPort old.rows kept.tables p row
     → IsRemade (record old.rows { ports = kept.tables.ports }) kept.tables
-    → row ≡ port_wanted d (record t { up = up; flags = flags; state = state }) p
-    → ((q : ℕ) → q ≢ p → port_wanted d (record t { up = up; flags = flags; state = state }) q ≡ port_wanted d t q)
-    → Drives d (driven kept) (record t { up = up; flags = flags; state = state })
+    → row ≡ port_wanted d old.dom (record t { up = up; flags = flags; state = state }) p
+    → ((q : ℕ) → q ≢ p → port_wanted d old.dom (record t { up = up; flags = flags; state = state }) q ≡ port_wanted d old.dom t q)
+    → Drives d (driven old.dom kept) (record t { up = up; flags = flags; state = state })
 drives_port d t up flags state p row old kept before is_kept routers_is groups_is writes rest written unwritten = record {
-  rows = stands d _ kept.shadow kept.joined kept.tables is_kept.settled
+  rows = stands d old.dom _ kept.shadow kept.joined kept.tables is_kept.settled
       (λ vid in_range. ap (λ (r : Rows). vlan_at r vid) rest ∙ before.rows.vlans vid in_range)
       (λ q low.
       writes q
       ∙ ⊎_elim
-      (λ (same : ((q == p) ≡ true) × (q ≡ p)). ap (λ b. cond b row (port_at old.rows q)) same.0 ∙ written ∙ ap (port_wanted d (record t { up = up; flags = flags; state = state })) (sym same.1))
+      (λ (same : ((q == p) ≡ true) × (q ≡ p)). ap (λ b. cond b row (port_at old.rows q)) same.0 ∙ written ∙ ap (port_wanted d old.dom (record t { up = up; flags = flags; state = state })) (sym same.1))
       (λ (other : ((q == p) ≡ false) × (q ≢ p)). ap (λ b. cond b row (port_at old.rows q)) other.0 ∙ before.rows.ports q low ∙ sym (unwritten q other.1))
       (eqb_tells q p))
       (λ q low. ap (λ (ns : List ℕ). has_number ns q) routers_is ∙ before.routers q low)
@@ -116,9 +116,9 @@ switched_set set old p on test test' is has h = is ∙ same_ports _ _ (λ q low.
 -- A router comes or goes.
 pub drives_router : (d : Domains) (t : Table) (p : ℕ) (on : Bool) (old : Driven) (kept : Kept) → Drives d old t
     → IsKept kept → kept.shadow.routers ≡ switched old.routers p on → kept.groups ≡ old.groups
-    → IsRemade old.rows kept.tables → Drives d (driven kept) (record t { routers = table.switched on t.routers p })
+    → IsRemade old.rows kept.tables → Drives d (driven old.dom kept) (record t { routers = table.switched on t.routers p })
 drives_router d t p on old kept before is_kept routers_is groups_is rest = record {
-  rows = stands d _ kept.shadow kept.joined kept.tables is_kept.settled
+  rows = stands d old.dom _ kept.shadow kept.joined kept.tables is_kept.settled
       (λ vid in_range. ap (λ (r : Rows). vlan_at r vid) rest ∙ before.rows.vlans vid in_range)
       (λ q low. ap (λ (r : Rows). port_at r q) rest ∙ before.rows.ports q low)
       routed
@@ -173,18 +173,18 @@ pub drives_vlan : (d : Domains) (t : Table) (vlans : List ((ℕ × ℕ) × Bool)
     → Drives d old t → Membership t (record t { vlans = vlans; pvid = pvid }) p v on plain → IsKept kept → kept.shadow.routers ≡ old.routers → kept.groups ≡ old.groups
     → WritesVlan old.rows mid v (switched_row (vlan_at old.rows v) p on plain)
     → IsRemade (record old.rows { vlans = mid.vlans }) mid
-    → WritesPort mid kept.tables p port → kept.tables ≡ record mid { ports = kept.tables.ports } → port ≡ port_wanted d (record t { vlans = vlans; pvid = pvid }) p
-    → Drives d (driven kept) (record t { vlans = vlans; pvid = pvid })
+    → WritesPort mid kept.tables p port → kept.tables ≡ record mid { ports = kept.tables.ports } → port ≡ port_wanted d old.dom (record t { vlans = vlans; pvid = pvid }) p
+    → Drives d (driven old.dom kept) (record t { vlans = vlans; pvid = pvid })
 drives_vlan d t vlans pvid p v on plain port old mid kept before change is_kept routers_is groups_is writes_vlan mid_rest writes_port rest port_is = record {
-  rows = stands d _ kept.shadow kept.joined kept.tables is_kept.settled
+  rows = stands d old.dom _ kept.shadow kept.joined kept.tables is_kept.settled
       (λ vid in_range. ap (λ (r : Rows). vlan_at r vid) rest ∙ vlans_switched t _ p v on plain _ old.rows mid before.rows.vlans change refl writes_vlan vid in_range)
       (λ q low.
       writes_port q
       ∙ ⊎_elim
-      (λ (same : ((q == p) ≡ true) × (q ≡ p)). ap (λ b. cond b port (port_at mid q)) same.0 ∙ port_is ∙ ap (port_wanted d (record t { vlans = vlans; pvid = pvid })) (sym same.1))
+      (λ (same : ((q == p) ≡ true) × (q ≡ p)). ap (λ b. cond b port (port_at mid q)) same.0 ∙ port_is ∙ ap (port_wanted d old.dom (record t { vlans = vlans; pvid = pvid })) (sym same.1))
       (λ (apart : ((q == p) ≡ false) × (q ≢ p)).
       ap (λ b. cond b port (port_at mid q)) apart.0 ∙ ap (λ (r : Rows). port_at r q) mid_rest ∙ before.rows.ports q low
-      ∙ ap (λ o. record (port_wanted d t q) { pvid = o }) (sym (change.other q apart.1)))
+      ∙ ap (λ o. record (port_wanted d old.dom t q) { pvid = o }) (sym (change.other q apart.1)))
       (eqb_tells q p))
       (λ q low. ap (λ (ns : List ℕ). has_number ns q) routers_is ∙ before.routers q low)
       (λ i low. ap (λ (r : Rows). trap_at r i) (rest ∙ ap (λ (r : Rows). record r { ports = kept.tables.ports }) mid_rest) ∙ before.rows.traps i low)
@@ -199,7 +199,7 @@ drives_vlan d t vlans pvid p v on plain port old mid kept before change is_kept 
 pub drives_switches : (d : Domains) (t : Table) (queriers : List ℕ) (snoop stp : Bool) (routers : List ℕ) (old : Driven) (new : Rows) (traps_now control_now : List ℕ) → Drives d old t
     → new ≡ record old.rows { traps = traps_now; control = control_now } → routers ≡ old.routers
     → TrapsStand new (record t { queriers = queriers; snoop = snoop; stp = stp }) → ControlStands new (record t { queriers = queriers; snoop = snoop; stp = stp })
-    → Drives d (record { rows = new; routers = routers; groups = old.groups }) (record t { queriers = queriers; snoop = snoop; stp = stp })
+    → Drives d (record { dom = old.dom; rows = new; routers = routers; groups = old.groups }) (record t { queriers = queriers; snoop = snoop; stp = stp })
 drives_switches d t queriers snoop stp routers old new traps_now control_now before rest routers_is traps control = record {
   rows = record {
     vlans = λ vid in_range. ap (λ (r : Rows). vlan_at r vid) rest ∙ before.rows.vlans vid in_range;
@@ -218,9 +218,9 @@ drives_switches d t queriers snoop stp routers old new traps_now control_now bef
 -- The members of a group change, and its row.
 pub drives_groups : (d : Domains) (t : Table) (groups : List groups.Membership) (old : Driven) (kept : Kept) → Drives d old t → IsKept kept → kept.shadow.routers ≡ old.routers
     → kept.tables ≡ record old.rows { groups = kept.tables.groups } → kept.groups ≡ groups
-    → Drives d (driven kept) (record t { groups = groups })
+    → Drives d (driven old.dom kept) (record t { groups = groups })
 drives_groups d t groups old kept before is_kept routers_is rest is = record {
-  rows = stands d _ kept.shadow kept.joined kept.tables is_kept.settled
+  rows = stands d old.dom _ kept.shadow kept.joined kept.tables is_kept.settled
       (λ vid in_range. ap (λ (r : Rows). vlan_at r vid) rest ∙ before.rows.vlans vid in_range)
       (λ q low. ap (λ (r : Rows). port_at r q) rest ∙ before.rows.ports q low)
       (λ q low. ap (λ (ns : List ℕ). has_number ns q) routers_is ∙ before.routers q low)

@@ -10,7 +10,7 @@ use Rattle.port_sets.specs.Numbers.{has_number}
 use Rattle.port_sets.proofs.Numbers.{none_below}
 use Rattle.port_sets.proofs.Words.{no_members}
 use Rattle.br_model.specs.Table.DomainPorts.{IsWordOf}
-use Rattle.br_model.specs.Table.Domains.{Domains, chip, host, port_places}
+use Rattle.br_model.specs.Table.Domains.{Domains, host, port_places}
 use Rattle.br_model.specs.Table.Groups.{Membership}
 use Rattle.br_model.specs.Table.Table.{Table, start}
 use Rattle.br_model.specs.Forward.Targets.{flood, mcast_flood, bcast_flood, isolated}
@@ -221,14 +221,14 @@ first_trap i =
     by false false true e h k l = ap (λ x. cond x false true) (l refl refl)
     by false false false e h k l = ap (λ x. cond x false true) (l refl refl)
 
-pub drives_start : (d : Domains) (word : ℕ) (own : List ℕ) (s : Shadow) (joined : List (List ℕ)) (groups : List Membership) (blank marked trapped rows new : Rows) → IsBlank blank → MarksOwn own port_places blank marked → SwitchesTraps 2 21 true marked trapped
+pub drives_start : (d : Domains) (dom word : ℕ) (own : List ℕ) (s : Shadow) (joined : List (List ℕ)) (groups : List Membership) (blank marked trapped rows new : Rows) → IsBlank blank → MarksOwn own port_places blank marked → SwitchesTraps 2 21 true marked trapped
     → rows ≡ record trapped { control = rows.control } → control_in rows ≡ record { snooping = true; tree = false; four = false; six = false }
-    → own ≡ ports_where (λ n. bit_at word n == 1) → IsWordOf d chip word → s.routers ≡ []
+    → own ≡ ports_where (λ n. bit_at word n == 1) → IsWordOf d dom word → s.routers ≡ []
     → Settled s joined new → WritesVlan rows new 1 (switched_row (vlan_at rows 1) host true true)
     → IsRemade (record rows { vlans = new.vlans }) new
-    → groups ≡ [] → GroupsFollow s groups new → Drives d (record { rows = new; routers = s.routers; groups = groups }) start
-drives_start d word own s joined groups blank marked trapped rows new is_blank marks traps rest control own_is word_is routers_is settled writes new_rest groups_is follow = record {
-  rows = stands d start s joined new settled vlans
+    → groups ≡ [] → GroupsFollow s groups new → Drives d (record { dom = dom; rows = new; routers = s.routers; groups = groups }) start
+drives_start d dom word own s joined groups blank marked trapped rows new is_blank marks traps rest control own_is word_is routers_is settled writes new_rest groups_is follow = record {
+  rows = stands d dom start s joined new settled vlans
       (λ q low.
       ap (λ (r : Rows). port_at r q) new_rest ∙ b.ports q low
       ∙ ap idle (has-where own _ own_is q low ∙ word_is q low))
@@ -260,8 +260,8 @@ drives_start d word own s joined groups blank marked trapped rows new is_blank m
         refl writes
 
 -- the host isn't among the chip's ports
-pub host_off : (d : Domains) (word : ℕ) (own : List ℕ) → own ≡ ports_where (λ n. bit_at word n == 1) → IsWordOf d chip word → is_own d host ≡ false → has_number own host ≡ false
-host_off d word own own_is word_is elsewhere = has-where own _ own_is host (omega arith) ∙ word_is host (omega arith) ∙ elsewhere
+pub host_off : (d : Domains) (dom word : ℕ) (own : List ℕ) → own ≡ ports_where (λ n. bit_at word n == 1) → IsWordOf d dom word → is_own d dom host ≡ false → has_number own host ≡ false
+host_off d dom word own own_is word_is elsewhere = has-where own _ own_is host (omega arith) ∙ word_is host (omega arith) ∙ elsewhere
 
 pub follow_made : (s : Shadow) (own : List ℕ) (groups : List Membership) (blank marked trapped rows : Rows) → IsBlank blank → MarksOwn own port_places blank marked → SwitchesTraps 2 21 true marked trapped
     → rows ≡ record trapped { control = rows.control } → groups ≡ [] → GroupsFollow s groups rows

@@ -105,40 +105,40 @@ has-switched false s k q =
 
 -- ---- the row of a port, after each change
 
-module _ (d : Domains) (t : Table) (p : ℕ) (row : PortRow) (is : row ≡ port_wanted d t p) where
-  pub written_state : (n : ℕ) → record row { state = n } ≡ port_wanted d (apply t (SetState p n)) p
+module _ (d : Domains) (dom : ℕ) (t : Table) (p : ℕ) (row : PortRow) (is : row ≡ port_wanted d dom t p) where
+  pub written_state : (n : ℕ) → record row { state = n } ≡ port_wanted d dom (apply t (SetState p n)) p
   written_state n = ap₂ (λ (r : PortRow) o. record r { state = unwrap_or o 0 }) is (sym (get-put_same t.state p n))
 
-  pub written_flags : (n : ℕ) → record row { flags = n } ≡ port_wanted d (apply t (SetFlags p n)) p
+  pub written_flags : (n : ℕ) → record row { flags = n } ≡ port_wanted d dom (apply t (SetFlags p n)) p
   written_flags n = ap₂ (λ (r : PortRow) o. record r { flags = unwrap_or o 0 }) is (sym (get-put_same t.flags p n))
 
-  pub written_up : record row { up = true; flags = default_flags; state = 0 } ≡ port_wanted d (apply t (PortUp p)) p
+  pub written_up : record row { up = true; flags = default_flags; state = 0 } ≡ port_wanted d dom (apply t (PortUp p)) p
   written_up =
-      let a : row ≡ port_wanted d t p = is in
+      let a : row ≡ port_wanted d dom t p = is in
       let u : has nat_cmp (joined nat_cmp t.up p) p ≡ true = has-joined_same t.up p in
       let f : get nat_cmp (put nat_cmp t.flags p default_flags) p ≡ Some default_flags = get-put_same t.flags p default_flags in
       let s : get nat_cmp (put nat_cmp t.state p 0) p ≡ Some 0 = get-put_same t.state p 0 in
       rw (u, f, s, a) refl
 
-  pub written_down : record row { up = false; flags = 0; state = 0 } ≡ port_wanted d (apply t (PortDown p)) p
+  pub written_down : record row { up = false; flags = 0; state = 0 } ≡ port_wanted d dom (apply t (PortDown p)) p
   written_down =
-      let a : row ≡ port_wanted d t p = is in
+      let a : row ≡ port_wanted d dom t p = is in
       let u : has nat_cmp (parted nat_cmp t.up p) p ≡ false = has-parted_same t.up p in
       let f : get nat_cmp (without nat_cmp t.flags p) p ≡ None = get-without_same t.flags p in
       let s : get nat_cmp (without nat_cmp t.state p) p ≡ None = get-without_same t.state p in
       rw (u, f, s, a) refl
 
-module _ (d : Domains) (t : Table) (p q : ℕ) (other : q ≢ p) where
-  pub unwritten_state : (n : ℕ) → port_wanted d (apply t (SetState p n)) q ≡ port_wanted d t q
-  unwritten_state n = ap (λ o. record (port_wanted d t q) { state = unwrap_or o 0 }) (get-put_other t.state p n q other)
+module _ (d : Domains) (dom : ℕ) (t : Table) (p q : ℕ) (other : q ≢ p) where
+  pub unwritten_state : (n : ℕ) → port_wanted d dom (apply t (SetState p n)) q ≡ port_wanted d dom t q
+  unwritten_state n = ap (λ o. record (port_wanted d dom t q) { state = unwrap_or o 0 }) (get-put_other t.state p n q other)
 
-  pub unwritten_flags : (n : ℕ) → port_wanted d (apply t (SetFlags p n)) q ≡ port_wanted d t q
-  unwritten_flags n = ap (λ o. record (port_wanted d t q) { flags = unwrap_or o 0 }) (get-put_other t.flags p n q other)
+  pub unwritten_flags : (n : ℕ) → port_wanted d dom (apply t (SetFlags p n)) q ≡ port_wanted d dom t q
+  unwritten_flags n = ap (λ o. record (port_wanted d dom t q) { flags = unwrap_or o 0 }) (get-put_other t.flags p n q other)
 
-  pub unwritten_up : port_wanted d (apply t (PortUp p)) q ≡ port_wanted d t q
+  pub unwritten_up : port_wanted d dom (apply t (PortUp p)) q ≡ port_wanted d dom t q
   unwritten_up = rw (has-joined_other t.up p q other, get-put_other t.flags p default_flags q other, get-put_other t.state p 0 q other) refl
 
-  pub unwritten_down : port_wanted d (apply t (PortDown p)) q ≡ port_wanted d t q
+  pub unwritten_down : port_wanted d dom (apply t (PortDown p)) q ≡ port_wanted d dom t q
   unwritten_down = rw (has-parted_other t.up p q other, get-without_other t.flags p q other, get-without_other t.state p q other) refl
 
 -- ---- memberships, and the VLAN of untagged frames

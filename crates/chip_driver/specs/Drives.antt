@@ -1,4 +1,4 @@
--- When a driver stands for a table: its rows do, and it keeps what they don't tell.
+-- When a driver stands for a table: the rows of its chip do, and it keeps what they don't tell.
 use Rattle.std.specs.Prelude.{◌≡◌, ℕ, ◌<◌, ◌≤◌, List, IsTrue, length, Some}
 use Rattle.std.specs.Ordering.{nat_cmp}
 use Rattle.br_model.specs.declared.change.Asks.{Asks}
@@ -18,21 +18,23 @@ use Rattle.chip_driver.specs.declared.kept.Kept.{Kept}
 
 -- what contracts see of a driver
 pub record Driven : Type 0 where
+  -- the domain of the chip
+  pub dom : ℕ
   pub rows : Rows
   -- the ports behind which a multicast router is
   pub routers : List ℕ
   -- the members of groups
   pub groups : List Membership
 
--- what they see of what is kept
-abbrev pub driven : Kept → Driven
-driven kept = record { rows = kept.tables; routers = kept.shadow.routers; groups = kept.groups }
+-- what they see of what is kept for the chip of the domain
+abbrev pub driven : ℕ → Kept → Driven
+driven dom kept = record { dom = dom; rows = kept.tables; routers = kept.shadow.routers; groups = kept.groups }
 
 abbrev pub KeepsRouters : List ℕ → Table → Type 0
 KeepsRouters routers t = (q : ℕ) → q < port_places → has_number routers q ≡ has nat_cmp t.routers q
 
 pub record Drives (domains : Domains) (driver : Driven) (t : Table) : Type 0 where
-  pub rows : Stands domains driver.rows t
+  pub rows : Stands domains driver.dom driver.rows t
   pub routers : KeepsRouters driver.routers t
   pub groups : driver.groups ≡ t.groups
 

@@ -1,6 +1,6 @@
 //! The driver.
-ghost use Rattle.std.specs.Prelude.{◌≡◌, ◌≤◌, IfOk, IsTrue};
-ghost use Rattle.br_model.specs.Table.Domains.{Domains as DomainsValue, chip};
+ghost use Rattle.std.specs.Prelude.{◌≡◌, ◌≢◌, ◌≤◌, IfOk, IsTrue};
+ghost use Rattle.br_model.specs.Table.Domains.{Domains as DomainsValue, software};
 ghost use Rattle.br_model.specs.Table.GroupPairs.{has_room};
 ghost use Rattle.br_model.specs.Table.Table.{Table, apply, start};
 ghost use Rattle.br_model.specs.declared.change.Change.TheVariants as changes;
@@ -20,11 +20,13 @@ use mdb_snoop::Groups;
 use port_sets::Ports;
 use std::alloc::Global;
 use std::marker::Model;
-use switchdev_notify::{Attribute, Object, SwitchOps, deliver, notice_of};
+use switchdev_notify::{Attribute, Object, SwitchOps};
 
-/// A chip's tables, and what the driver keeps beside them. Contracts see the rows, and the ports behind which a router is.
+/// A chip's tables, and what the driver keeps beside them. Contracts see the chip's domain, the rows, the ports behind which a
+/// router is, and the members of groups.
 #[derive(Drop)]
 pub struct Driver {
+    dom: Dom,
     kept: Kept,
 }
 
@@ -34,23 +36,24 @@ impl Model for Driver {
 
     ghost Value = { Driven };
 
-    ghost view = { λ d. driven d.kept };
+    ghost view = { λ d. driven d.dom d.kept };
 
     ghost invariant = { λ d. IsKept d.kept };
 }
 
 impl Driver {
-    /// A chip whose ports are those of the domain, before any change.
+    /// The chip of the domain, which isn't software's, before any change.
     pub fn make(alloc: Global, dom: Dom, d: &Domains) -> Result<Driver, NoMemory>
-        requires { dom ≡ chip }
-        ensures { IfOk result (λ x. Drives d.now x start) }
+        requires { dom ≢ software }
+        ensures domain { IfOk result (λ x. x.dom ≡ dom) }
+        ensures start { IfOk result (λ x. Drives d.now x start) }
     {
         let mut tables = Tables::make(alloc)?;
         let joined = Joined::make(alloc)?;
         let groups = Groups::make(alloc)?;
         let shadow = Shadow::start(Ports::from_word(d.ports_of(dom)));
         // law: the host isn't on the chip
-        making::host_is_elsewhere(d);
+        making::host_is_elsewhere(d, dom);
         making::mark_own(&mut tables, &shadow.own);
         switches::switch_traps(&mut tables, switches::FIRST_RESERVED, true);
         tables.set_control(switches::first_control());
@@ -61,7 +64,14 @@ impl Driver {
             groups,
         };
         kept.write_member(Port::HOST, Vid::DEFAULT, true, true);
-        Ok(Driver { kept })
+        Ok(Driver { dom, kept })
+    }
+
+    /// The chip's domain.
+    pub fn dom(&self) -> Dom
+        ensures { result ≡ self.now.dom }
+    {
+        self.dom
     }
 
     /// The chip's rows.
@@ -71,10 +81,11 @@ impl Driver {
         &self.kept.tables
     }
 
-    /// Applies an update of the queue. Others than those of addresses are told.
+    /// Applies an update of the queue, of whatever is deferred.
     pub fn address(&mut self, u: &Update)
         requires { IsTaken self.old u.now.change }
-        ensures { (d : DomainsValue) (t : Table) → Drives d self.old t → Drives d self.new (apply t u.now.change) }
+        ensures drives { (d : DomainsValue) (t : Table) → Drives d self.old t → Drives d self.new (apply t u.now.change) }
+        ensures dom { self.new.dom ≡ self.old.dom }
     {
         match u.change {
             Change::AddrPut {
@@ -84,24 +95,30 @@ impl Driver {
                 kind,
             } => self.put_address(vid, mac, port, kind),
             Change::AddrDel { vid, mac } => self.del_address(vid, mac),
-            Change::PortUp(_)
-            | Change::PortDown(_)
-            | Change::SetFlags(..)
-            | Change::SetState(..)
-            | Change::VlanAdd { .. }
-            | Change::VlanDel { .. }
-            | Change::GroupJoin { .. }
-            | Change::GroupPart { .. }
-            | Change::Router { .. }
-            | Change::Querier { .. }
-            | Change::Snoop(_)
-            | Change::Stp(_) => deliver(self, &notice_of(&u.change)),
+            Change::GroupJoin { port, vid, group } => self.join_group(port, vid, group),
+            Change::GroupPart { port, vid, group } => self.part_group(port, vid, group),
+            Change::PortUp(port) => self.port_up(port),
+            Change::PortDown(port) => self.port_down(port),
+            Change::SetFlags(port, flags) => self.set_flags(port, flags),
+            Change::SetState(port, state) => self.set_state(port, state),
+            Change::VlanAdd {
+                port,
+                vid,
+                untagged,
+                pvid,
+            } => self.add_vlan(port, vid, untagged, pvid),
+            Change::VlanDel { port, vid } => self.del_vlan(port, vid),
+            Change::Router { port, on } => self.set_router(port, on),
+            Change::Querier { six, on } => self.set_querier(six, on),
+            Change::Snoop(on) => self.set_snoop(on),
+            Change::Stp(on) => self.set_stp(on),
         }
     }
 
     fn put_address(&mut self, v: Vid, m: Mac, p: Port, kind: Kind)
         requires { IsTaken self.old (changes.AddrPut v m p kind) }
-        ensures { (d : DomainsValue) (t : Table) → Drives d self.old t → Drives d self.new (apply t (changes.AddrPut v m p kind)) }
+        ensures drives { (d : DomainsValue) (t : Table) → Drives d self.old t → Drives d self.new (apply t (changes.AddrPut v m p kind)) }
+        ensures dom { self.new.dom ≡ self.old.dom }
     {
         self.kept
             .tables
@@ -109,14 +126,16 @@ impl Driver {
     }
 
     fn del_address(&mut self, v: Vid, m: Mac)
-        ensures { (d : DomainsValue) (t : Table) → Drives d self.old t → Drives d self.new (apply t (changes.AddrDel v m)) }
+        ensures drives { (d : DomainsValue) (t : Table) → Drives d self.old t → Drives d self.new (apply t (changes.AddrDel v m)) }
+        ensures dom { self.new.dom ≡ self.old.dom }
     {
         self.kept.tables.set_address(v, m, None);
     }
 
     fn set_state(&mut self, p: Port, state: u8)
         requires { state ≤ 4 }
-        ensures { (d : DomainsValue) (t : Table) → Drives d self.old t → Drives d self.new (apply t (changes.SetState p state)) }
+        ensures drives { (d : DomainsValue) (t : Table) → Drives d self.old t → Drives d self.new (apply t (changes.SetState p state)) }
+        ensures dom { self.new.dom ≡ self.old.dom }
     {
         let mut row = self.kept.tables.port(p);
         row.state = state;
@@ -124,7 +143,8 @@ impl Driver {
     }
 
     fn set_flags(&mut self, p: Port, flags: Flags)
-        ensures { (d : DomainsValue) (t : Table) → Drives d self.old t → Drives d self.new (apply t (changes.SetFlags p flags)) }
+        ensures drives { (d : DomainsValue) (t : Table) → Drives d self.old t → Drives d self.new (apply t (changes.SetFlags p flags)) }
+        ensures dom { self.new.dom ≡ self.old.dom }
     {
         let mut row = self.kept.tables.port(p);
         row.flags = flags;
@@ -132,7 +152,8 @@ impl Driver {
     }
 
     fn port_up(&mut self, p: Port)
-        ensures { (d : DomainsValue) (t : Table) → Drives d self.old t → Drives d self.new (apply t (changes.PortUp p)) }
+        ensures drives { (d : DomainsValue) (t : Table) → Drives d self.old t → Drives d self.new (apply t (changes.PortUp p)) }
+        ensures dom { self.new.dom ≡ self.old.dom }
     {
         let mut row = self.kept.tables.port(p);
         row.up = true;
@@ -142,7 +163,8 @@ impl Driver {
     }
 
     fn port_down(&mut self, p: Port)
-        ensures { (d : DomainsValue) (t : Table) → Drives d self.old t → Drives d self.new (apply t (changes.PortDown p)) }
+        ensures drives { (d : DomainsValue) (t : Table) → Drives d self.old t → Drives d self.new (apply t (changes.PortDown p)) }
+        ensures dom { self.new.dom ≡ self.old.dom }
     {
         let mut row = self.kept.tables.port(p);
         row.up = false;
@@ -152,7 +174,8 @@ impl Driver {
     }
 
     fn add_vlan(&mut self, p: Port, v: Vid, untagged: bool, pvid: bool)
-        ensures { (d : DomainsValue) (t : Table) → Drives d self.old t → Drives d self.new (apply t (changes.VlanAdd p v untagged pvid)) }
+        ensures drives { (d : DomainsValue) (t : Table) → Drives d self.old t → Drives d self.new (apply t (changes.VlanAdd p v untagged pvid)) }
+        ensures dom { self.new.dom ≡ self.old.dom }
     {
         self.kept.write_member(p, v, true, untagged);
         let pvid = pvids::pvid_with(self.kept.tables.port(p).pvid, v, pvid);
@@ -160,7 +183,8 @@ impl Driver {
     }
 
     fn del_vlan(&mut self, p: Port, v: Vid)
-        ensures { (d : DomainsValue) (t : Table) → Drives d self.old t → Drives d self.new (apply t (changes.VlanDel p v)) }
+        ensures drives { (d : DomainsValue) (t : Table) → Drives d self.old t → Drives d self.new (apply t (changes.VlanDel p v)) }
+        ensures dom { self.new.dom ≡ self.old.dom }
     {
         self.kept.write_member(p, v, false, false);
         let pvid = pvids::pvid_without(self.kept.tables.port(p).pvid, v);
@@ -169,32 +193,37 @@ impl Driver {
 
     fn join_group(&mut self, p: Port, v: Vid, g: Group)
         requires { IsTrue (has_room self.old.groups v g) }
-        ensures { (d : DomainsValue) (t : Table) → Drives d self.old t → Drives d self.new (apply t (changes.GroupJoin p v g)) }
+        ensures drives { (d : DomainsValue) (t : Table) → Drives d self.old t → Drives d self.new (apply t (changes.GroupJoin p v g)) }
+        ensures dom { self.new.dom ≡ self.old.dom }
     {
         self.kept.join(v, g, p);
     }
 
     fn part_group(&mut self, p: Port, v: Vid, g: Group)
-        ensures { (d : DomainsValue) (t : Table) → Drives d self.old t → Drives d self.new (apply t (changes.GroupPart p v g)) }
+        ensures drives { (d : DomainsValue) (t : Table) → Drives d self.old t → Drives d self.new (apply t (changes.GroupPart p v g)) }
+        ensures dom { self.new.dom ≡ self.old.dom }
     {
         self.kept.part(v, g, p);
     }
 
     fn set_router(&mut self, p: Port, on: bool)
-        ensures { (d : DomainsValue) (t : Table) → Drives d self.old t → Drives d self.new (apply t (changes.Router p on)) }
+        ensures drives { (d : DomainsValue) (t : Table) → Drives d self.old t → Drives d self.new (apply t (changes.Router p on)) }
+        ensures dom { self.new.dom ≡ self.old.dom }
     {
         self.kept.write_router(p, on);
     }
 
     fn set_querier(&mut self, six: bool, on: bool)
-        ensures { (d : DomainsValue) (t : Table) → Drives d self.old t → Drives d self.new (apply t (changes.Querier six on)) }
+        ensures drives { (d : DomainsValue) (t : Table) → Drives d self.old t → Drives d self.new (apply t (changes.Querier six on)) }
+        ensures dom { self.new.dom ≡ self.old.dom }
     {
         let control = switches::with_querier(self.kept.tables.control(), six, on);
         self.kept.tables.set_control(control);
     }
 
     fn set_snoop(&mut self, on: bool)
-        ensures { (d : DomainsValue) (t : Table) → Drives d self.old t → Drives d self.new (apply t (changes.Snoop on)) }
+        ensures drives { (d : DomainsValue) (t : Table) → Drives d self.old t → Drives d self.new (apply t (changes.Snoop on)) }
+        ensures dom { self.new.dom ≡ self.old.dom }
     {
         let mut control = self.kept.tables.control();
         control.snooping = on;
@@ -203,7 +232,8 @@ impl Driver {
     }
 
     fn set_stp(&mut self, on: bool)
-        ensures { (d : DomainsValue) (t : Table) → Drives d self.old t → Drives d self.new (apply t (changes.Stp on)) }
+        ensures drives { (d : DomainsValue) (t : Table) → Drives d self.old t → Drives d self.new (apply t (changes.Stp on)) }
+        ensures dom { self.new.dom ≡ self.old.dom }
     {
         let mut control = self.kept.tables.control();
         control.tree = on;
@@ -224,6 +254,8 @@ fn address_row(port: Port, kind: Kind) -> AddressRow
 }
 
 impl SwitchOps for Driver {
+    ghost domain = { λ x. x.dom };
+
     ghost means = { Drives };
 
     ghost takes = { IsTaken };

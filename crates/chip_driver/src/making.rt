@@ -1,12 +1,12 @@
 //! The rows before any change.
-ghost use Rattle.std.specs.Prelude.{◌≡◌, false};
-ghost use Rattle.br_model.specs.Table.Domains.{host, port_places};
+ghost use Rattle.std.specs.Prelude.{◌≡◌, ◌≢◌, false};
+ghost use Rattle.br_model.specs.Table.Domains.{host, port_places, software};
 ghost use Rattle.chip_tables.specs.Stands.{is_own};
 ghost use Rattle.chip_driver.specs.Making.{idle, MarksOwn};
 
 use br_model::change::{DISABLED, Flags};
 use br_model::domains::Domains;
-use br_model::numbers::Port;
+use br_model::numbers::{Dom, Port};
 use chip_tables::{PortRow, Tables};
 use port_sets::Ports;
 
@@ -44,9 +44,10 @@ pub fn mark_own(tables: &mut Tables, own: &Ports)
     }
 }
 
-/// A law, whose body does nothing: the host isn't on the chip.
-pub fn host_is_elsewhere(d: &Domains)
-    ensures { is_own d.now host ≡ false }
+/// A law, whose body does nothing: the host isn't on the chip of a domain that isn't software's.
+pub fn host_is_elsewhere(d: &Domains, dom: Dom)
+    requires { dom ≢ software }
+    ensures { is_own d.now dom host ≡ false }
 {
     // law: the host is in software's domain
     let _domain = d.of(Port::HOST);

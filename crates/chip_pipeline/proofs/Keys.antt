@@ -48,8 +48,8 @@ pinned-is Static = refl
 pinned-is Learned = refl
 pinned-is Extern = refl
 
-pub address-is : (d : Domains) (rows : Rows) (t : Table) (vid mac : ℕ) → Stands d rows t → address_at rows vid mac ≡ entry_wanted t vid mac
-address-is d rows t vid mac stands =
+pub address-is : (d : Domains) (dom : ℕ) (rows : Rows) (t : Table) (vid mac : ℕ) → Stands d dom rows t → address_at rows vid mac ≡ entry_wanted t vid mac
+address-is d dom rows t vid mac stands =
     ap (λ (es : List ((ℕ × ℕ) × AddressRow)). get pair_cmp es (vid, mac)) stands.addresses
     ∙ get-told pair_cmp (λ (e : ℕ × Kind). record { port = e.0; kind = e.1; pinned = is_pinned e.1 }) t.addr (vid, mac)
     ∙ same (get pair_cmp t.addr (vid, mac))
@@ -60,7 +60,7 @@ address-is d rows t vid mac stands =
 
 -- ---- groups
 
-pub group-is : (d : Domains) (rows : Rows) (t : Table) (vid : ℕ) (group : Group) → Stands d rows t → group_at rows vid group ≡ group_wanted d t vid group
-group-is d rows t vid group stands =
+pub group-is : (d : Domains) (dom : ℕ) (rows : Rows) (t : Table) (vid : ℕ) (group : Group) → Stands d dom rows t → group_at rows vid group ≡ group_wanted d dom t vid group
+group-is d dom rows t vid group stands =
     ap (λ (es : List (GroupPair × FanRow)). get group_pair_cmp es (vid, group)) stands.groups
-    ∙ get-made group_pair_cmp (λ k. fan_wanted d t k.0 (is_grouped t k.0 k.1)) (group_pairs t.groups) (vid, group) (λ j e. exact-pairs (vid, group) j e)
+    ∙ get-made group_pair_cmp (λ k. fan_wanted d dom t k.0 (is_grouped t k.0 k.1)) (group_pairs t.groups) (vid, group) (λ j e. exact-pairs (vid, group) j e)

@@ -31,7 +31,7 @@ use Rattle.chip_pipeline.specs.declared.lookup.Way.{Way}
 use Rattle.chip_pipeline.specs.declared.lookup.Way.TheVariants.{Nowhere, One, Many}
 use Rattle.chip_pipeline.specs.Passed.{AtChip}
 use Rattle.chip_pipeline.specs.Ways.{IsMany, IsWay, Leads, entry_wanted, leaves_chip, row_of_entry}
-use Rattle.chip_pipeline.proofs.Reading.{foreign-is, host-elsewhere}
+use Rattle.chip_pipeline.proofs.Reading.{foreign-is}
 
 -- ---- truth values
 
@@ -71,8 +71,8 @@ has-with_flag t flag q =
     any-filter_same (eq_by_cmp nat_cmp q) (λ n. has_flag t n flag) (has_flag t q flag) (λ n tie. ap (λ x. has_flag t x flag) (sym (exact_unsigned q n (equal _ tie)))) t.up
 
 -- the row of the flood to unknown stations
-pub unicast-leads : (d : Domains) (rows : Rows) (t : Table) (p vid : ℕ) (row : FanRow) (goals : List ℕ) → Stands d rows t → IsVid vid → row ≡ flood_at rows vid Unicast → goals ≡ with_flag t flood → Leads d t p vid row goals
-unicast-leads d rows t p vid row goals stands range is flooded = record {
+pub unicast-leads : (d : Domains) (dom : ℕ) (rows : Rows) (t : Table) (p vid : ℕ) (row : FanRow) (goals : List ℕ) → Stands d dom rows t → IsVid vid → row ≡ flood_at rows vid Unicast → goals ≡ with_flag t flood → Leads d dom t p vid row goals
+unicast-leads d dom rows t p vid row goals stands range is flooded = record {
   target = is_flooded t vid Unicast;
   wanted = is ∙ stands.floods vid range Unicast;
   same = λ q low.
@@ -82,9 +82,9 @@ unicast-leads d rows t p vid row goals stands range is flooded = record {
 }
 
 -- those of broadcasts and of other multicast frames, which the host has too
-group-leads : (d : Domains) (rows : Rows) (t : Table) (p vid flag : ℕ) (f : Flood) (row : FanRow) → Stands d rows t → IsVid vid → row ≡ flood_at rows vid f
-    → ((q : ℕ) → is_flooded t vid f q ≡ ((q == host) || (member t q vid && (is_up t q && has_flag t q flag)))) → Leads d t p vid row (host ∷ with_flag t flag)
-group-leads d rows t p vid flag f row stands range is of = record {
+group-leads : (d : Domains) (dom : ℕ) (rows : Rows) (t : Table) (p vid flag : ℕ) (f : Flood) (row : FanRow) → Stands d dom rows t → IsVid vid → row ≡ flood_at rows vid f
+    → ((q : ℕ) → is_flooded t vid f q ≡ ((q == host) || (member t q vid && (is_up t q && has_flag t q flag)))) → Leads d dom t p vid row (host ∷ with_flag t flag)
+group-leads d dom rows t p vid flag f row stands range is of = record {
   target = is_flooded t vid f;
   wanted = is ∙ stands.floods vid range f;
   same = λ q low.
@@ -93,11 +93,11 @@ group-leads d rows t p vid flag f row stands range is of = record {
       ∙ ap₂ (λ a b. (a || b) && may t p q vid) (sym (unsigned_tied q host)) (sym (has-with_flag t flag q));
 }
 
-pub mcast-leads : (d : Domains) (rows : Rows) (t : Table) (p vid : ℕ) (row : FanRow) → Stands d rows t → IsVid vid → row ≡ flood_at rows vid Mcast → Leads d t p vid row (multicast_flood t)
-mcast-leads d rows t p vid row stands range is = group-leads d rows t p vid mcast_flood Mcast row stands range is (λ q. refl)
+pub mcast-leads : (d : Domains) (dom : ℕ) (rows : Rows) (t : Table) (p vid : ℕ) (row : FanRow) → Stands d dom rows t → IsVid vid → row ≡ flood_at rows vid Mcast → Leads d dom t p vid row (multicast_flood t)
+mcast-leads d dom rows t p vid row stands range is = group-leads d dom rows t p vid mcast_flood Mcast row stands range is (λ q. refl)
 
-pub bcast-leads : (d : Domains) (rows : Rows) (t : Table) (p vid : ℕ) (row : FanRow) → Stands d rows t → IsVid vid → row ≡ flood_at rows vid Bcast → Leads d t p vid row (host ∷ with_flag t bcast_flood)
-bcast-leads d rows t p vid row stands range is = group-leads d rows t p vid bcast_flood Bcast row stands range is (λ q. refl)
+pub bcast-leads : (d : Domains) (dom : ℕ) (rows : Rows) (t : Table) (p vid : ℕ) (row : FanRow) → Stands d dom rows t → IsVid vid → row ≡ flood_at rows vid Bcast → Leads d dom t p vid row (host ∷ with_flag t bcast_flood)
+bcast-leads d dom rows t p vid row stands range is = group-leads d dom rows t p vid bcast_flood Bcast row stands range is (λ q. refl)
 
 -- ---- stations
 
@@ -120,9 +120,9 @@ no-entry : (o : Option (ℕ × Kind)) → None ≡ option_map row_of_entry o →
 no-entry None h = refl
 no-entry (Some e) h = absurd (cc)
 
-pub known-way : (d : Domains) (t : Table) (p vid q : ℕ) (head : Head) (msg : McastMsg) (row : AddressRow) → is_multicast head.dst ≡ false → Some row ≡ entry_wanted t vid head.dst
-    → q ≡ port_of (row.port, row.kind) → q < port_places → IsWay d t p vid head msg (One q)
-known-way d t p vid q head msg row station found is low =
+pub known-way : (d : Domains) (dom : ℕ) (t : Table) (p vid q : ℕ) (head : Head) (msg : McastMsg) (row : AddressRow) → is_multicast head.dst ≡ false → Some row ≡ entry_wanted t vid head.dst
+    → q ≡ port_of (row.port, row.kind) → q < port_places → IsWay d dom t p vid head msg (One q)
+known-way d dom t p vid q head msg row station found is low =
     let e = known-entry (get pair_cmp t.addr (vid, head.dst)) row found in
     let same : q ≡ port_of e.0 = is ∙ ap (λ (r : AddressRow). port_of (r.port, r.kind)) e.1.1 in
     record {
@@ -131,11 +131,11 @@ known-way d t p vid q head msg row station found is low =
       alone = station-alone d t p vid head (Some e.0) station e.1.0 ∙ ap (λ n. foreign d p n && may t p n vid) (sym same);
     }
 
-pub unknown-way : (d : Domains) (rows : Rows) (t : Table) (p vid : ℕ) (head : Head) (msg : McastMsg) (row : FanRow) → Stands d rows t → IsVid vid → is_multicast head.dst ≡ false
-    → None ≡ entry_wanted t vid head.dst → row ≡ flood_at rows vid Unicast → IsWay d t p vid head msg (Many row)
-unknown-way d rows t p vid head msg row stands range station none is =
+pub unknown-way : (d : Domains) (dom : ℕ) (rows : Rows) (t : Table) (p vid : ℕ) (head : Head) (msg : McastMsg) (row : FanRow) → Stands d dom rows t → IsVid vid → is_multicast head.dst ≡ false
+    → None ≡ entry_wanted t vid head.dst → row ≡ flood_at rows vid Unicast → IsWay d dom t p vid head msg (Many row)
+unknown-way d dom rows t p vid head msg row stands range station none is =
     let absent = no-entry (get pair_cmp t.addr (vid, head.dst)) none in
-    (unicast-leads d rows t p vid row (targets t vid head msg) stands range is (station-targets t vid head msg None station absent), station-alone d t p vid head None station absent)
+    (unicast-leads d dom rows t p vid row (targets t vid head msg) stands range is (station-targets t vid head msg None station absent), station-alone d t p vid head None station absent)
 
 -- ---- group addresses
 
@@ -157,19 +157,19 @@ nobody-host a stp h = elim (cases_Bool (a == bridge_group_address)) [
   | inr e ↦ ap is_for_the_host (eqb-true a pause_address (sym (ap (λ b. (b && stp) || a == pause_address) e) ∙ h))
 ]
 
-pub nowhere-way : (d : Domains) (t : Table) (p vid : ℕ) (head : Head) (msg : McastMsg) → is_multicast head.dst ≡ true → for_nobody t head ≡ true → IsWay d t p vid head msg Nowhere
-nowhere-way d t p vid head msg group nobody = (by _ (head.dst == bridge_group_address && t.stp) (head.dst == pause_address) nobody, stays d t p vid head group (nobody-host head.dst t.stp nobody))
+pub nowhere-way : (d : Domains) (dom : ℕ) (t : Table) (p vid : ℕ) (head : Head) (msg : McastMsg) → is_multicast head.dst ≡ true → for_nobody t head ≡ true → IsWay d dom t p vid head msg Nowhere
+nowhere-way d dom t p vid head msg group nobody = (by _ (head.dst == bridge_group_address && t.stp) (head.dst == pause_address) nobody, stays d t p vid head group (nobody-host head.dst t.stp nobody))
   where
     by : (rest : List ℕ) (a b : Bool) → (a || b) ≡ true → cond a [] (cond b [] rest) ≡ []
     by rest true b e = refl
     by rest false true e = refl
     by rest false false e = absurd (cc)
 
-pub host-way : (d : Domains) (rows : Rows) (t : Table) (p vid : ℕ) (head : Head) (msg : McastMsg) → AtChip d rows t p → is_multicast head.dst ≡ true → for_nobody t head ≡ false → is_for_the_host head.dst ≡ true
-    → IsWay d t p vid head msg (One host)
-host-way d rows t p vid head msg at group other reserved =
+pub host-way : (d : Domains) (dom : ℕ) (rows : Rows) (t : Table) (p vid : ℕ) (head : Head) (msg : McastMsg) → AtChip d dom rows t p → is_multicast head.dst ≡ true → for_nobody t head ≡ false → is_for_the_host head.dst ≡ true
+    → IsWay d dom t p vid head msg (One host)
+host-way d dom rows t p vid head msg at group other reserved =
     let no = or-false (head.dst == bridge_group_address && t.stp) (head.dst == pause_address) other in
-    let away : foreign d p host ≡ true = foreign-is d p host at.own ∙ ap not (host-elsewhere d at.outside) in
+    let away : foreign d p host ≡ true = foreign-is d dom p host at.own ∙ ap not (at.outside) in
     record {
       below = omega arith;
       goal = simp (no.0, no.1, reserved);
@@ -183,11 +183,11 @@ host-way d rows t p vid head msg at group other reserved =
     or-none true = refl
     or-none false = refl
 
-pub many-way : (d : Domains) (t : Table) (p vid : ℕ) (head : Head) (msg : McastMsg) (goals : List ℕ) (way : Way) → IsMany d t p vid goals way → targets t vid head msg ≡ goals → is_multicast head.dst ≡ true
-    → is_for_the_host head.dst ≡ false → IsWay d t p vid head msg way
-many-way d t p vid head msg goals Nowhere leads is group other = absurd leads
-many-way d t p vid head msg goals (One q) leads is group other = absurd leads
-many-way d t p vid head msg goals (Many row) leads is group other =
+pub many-way : (d : Domains) (dom : ℕ) (t : Table) (p vid : ℕ) (head : Head) (msg : McastMsg) (goals : List ℕ) (way : Way) → IsMany d dom t p vid goals way → targets t vid head msg ≡ goals → is_multicast head.dst ≡ true
+    → is_for_the_host head.dst ≡ false → IsWay d dom t p vid head msg way
+many-way d dom t p vid head msg goals Nowhere leads is group other = absurd leads
+many-way d dom t p vid head msg goals (One q) leads is group other = absurd leads
+many-way d dom t p vid head msg goals (Many row) leads is group other =
     (record { target = leads.target; wanted = leads.wanted; same = λ q low. leads.same q low ∙ ap (λ (xs : List ℕ). has nat_cmp xs q && may t p q vid) (sym is) }, stays d t p vid head group other)
 
 pub broadcast-targets : (t : Table) (vid : ℕ) (head : Head) (msg : McastMsg) → for_nobody t head ≡ false → is_for_the_host head.dst ≡ false → (head.dst == broadcast) ≡ true → targets t vid head msg ≡ host ∷ with_flag t bcast_flood

@@ -138,10 +138,10 @@ one-drop d t p vid x head msg out leads may_not is =
     (ap₂ (λ l c. cond l Trap c) (leads.alone ∙ ap (λ b. foreign d p x && b) may_not ∙ and-none (foreign d p x))
     (class-one d t p vid x head msg leads ∙ ap (λ b. cond (not b) Drop (cond (b && foreign d p x) Copy Forward)) may_not)))
 
-pub one-forward : (d : Domains) (rows : Rows) (t : Table) (p vid x : ℕ) (head : Head) (msg : McastMsg) (ports : List ℕ) → AtChip d rows t p → LeadsTo d t p vid head x (targets t vid head msg) → may t p x vid ≡ true → is_own d x ≡ true
+pub one-forward : (d : Domains) (dom : ℕ) (rows : Rows) (t : Table) (p vid x : ℕ) (head : Head) (msg : McastMsg) (ports : List ℕ) → AtChip d dom rows t p → LeadsTo d t p vid head x (targets t vid head msg) → may t p x vid ≡ true → is_own d dom x ≡ true
     → ports ≡ ports_where (λ q. (q == x) || has_number [] q) → IsOut d t p vid head msg (record { class = Forward; ports = ports })
-one-forward d rows t p vid x head msg ports at leads takes own is =
-    let near : foreign d p x ≡ false = foreign-is d p x at.own ∙ ap not own in
+one-forward d dom rows t p vid x head msg ports at leads takes own is =
+    let near : foreign d p x ≡ false = foreign-is d dom p x at.own ∙ ap not own in
     record {
       class =
           sym
@@ -162,15 +162,15 @@ one-forward d rows t p vid x head msg ports at leads takes own is =
           | inl e ↦
               e.0
               ∙ sym
-              (alone x q (λ m. may t p m vid && not (foreign d p m)) ∙ ap₂ (λ a b. a && b) (eq-eqb x q (sym e.1)) (ap₂ (λ a b. a && not b) takes (foreign-is d p x at.own ∙ ap not own)))
+              (alone x q (λ m. may t p m vid && not (foreign d p m)) ∙ ap₂ (λ a b. a && b) (eq-eqb x q (sym e.1)) (ap₂ (λ a b. a && not b) takes (foreign-is d dom p x at.own ∙ ap not own)))
           | inr e ↦ e.0 ∙ sym (alone x q (λ m. may t p m vid && not (foreign d p m)) ∙ ap (λ a. a && (may t p x vid && not (foreign d p x))) (ne_eqb x q (λ same. e.1 (sym same))))
         ]
 
-pub one-trap : (d : Domains) (rows : Rows) (t : Table) (p vid x : ℕ) (head : Head) (msg : McastMsg) (out : Out) → AtChip d rows t p → LeadsTo d t p vid head x (targets t vid head msg) → may t p x vid ≡ true → is_own d x ≡ false
+pub one-trap : (d : Domains) (dom : ℕ) (rows : Rows) (t : Table) (p vid x : ℕ) (head : Head) (msg : McastMsg) (out : Out) → AtChip d dom rows t p → LeadsTo d t p vid head x (targets t vid head msg) → may t p x vid ≡ true → is_own d dom x ≡ false
     → out ≡ record { class = Trap; ports = [] } → IsOut d t p vid head msg out
-one-trap d rows t p vid x head msg out at leads takes away is =
+one-trap d dom rows t p vid x head msg out at leads takes away is =
     subst (IsOut d t p vid head msg) (sym is) (record {
-      class = sym (ap (λ l. cond l Trap (class_by d p (egress_ports t p vid head msg))) (leads.alone ∙ ap₂ ◌&&◌ (foreign-is d p x at.own ∙ ap not away) takes));
+      class = sym (ap (λ l. cond l Trap (class_by d p (egress_ports t p vid head msg))) (leads.alone ∙ ap₂ ◌&&◌ (foreign-is d dom p x at.own ∙ ap not away) takes));
       ports = refl;
     })
 
@@ -232,18 +232,18 @@ some_split : (own p : ℕ → Bool) → some_port p ≡ (some_port (λ x. own x 
 unfolding some_port
 some_split own p = any_split own p (range_with_len 0 port_places)
 
-module _ (d : Domains) (rows : Rows) (t : Table) (p vid : ℕ) (head : Head) (msg : McastMsg) (row : FanRow)
-    (at : AtChip d rows t p) (low : p < port_places) (range : IsVid vid) (leads : Leads d t p vid row (targets t vid head msg)) where
+module _ (d : Domains) (dom : ℕ) (rows : Rows) (t : Table) (p vid : ℕ) (head : Head) (msg : McastMsg) (row : FanRow)
+    (at : AtChip d dom rows t p) (low : p < port_places) (range : IsVid vid) (leads : Leads d dom t p vid row (targets t vid head msg)) where
   abbrev reaches : ℕ → Bool
   reaches q = leads.target q && may t p q vid
 
   -- a port of the chip
-  takes-is : (q : ℕ) → q < port_places → is_own d q ≡ true → row_takes p (has_flag t p isolated) (vlan_at rows vid) q (port_at rows q) ≡ may t p q vid
+  takes-is : (q : ℕ) → q < port_places → is_own d dom q ≡ true → row_takes p (has_flag t p isolated) (vlan_at rows vid) q (port_at rows q) ≡ may t p q vid
   takes-is q below own =
-      ap₂ (λ m l. m && (not (q == p) && l)) (member-is d t rows at.stands vid q range below)
-      (ap₂ (λ f x. f && not (has_flag t p isolated && x)) (forwards-is d t rows at.stands q below) (flag-is d t rows at.stands q isolated below))
+      ap₂ (λ m l. m && (not (q == p) && l)) (member-is d dom t rows at.stands vid q range below)
+      (ap₂ (λ f x. f && not (has_flag t p isolated && x)) (forwards-is d dom t rows at.stands q below) (flag-is d dom t rows at.stands q isolated below))
       ∙ turn (member t q vid) (not (q == p)) (is_forwarding t q) (not (has_flag t p isolated && has_flag t q isolated))
-      ∙ ap (λ b. cond b (member t q vid) (not (q == p) && (is_forwarding t q && (member t q vid && not (has_flag t p isolated && has_flag t q isolated))))) (sym (not-host d q at.outside own))
+      ∙ ap (λ b. cond b (member t q vid) (not (q == p) && (is_forwarding t q && (member t q vid && not (has_flag t p isolated && has_flag t q isolated))))) (sym (not-host d dom q at.outside own))
     where
       turn : (m o f z : Bool) → (m && (o && (f && z))) ≡ (o && (f && (m && z)))
       turn true o f z = refl
@@ -251,33 +251,33 @@ module _ (d : Domains) (rows : Rows) (t : Table) (p vid : ℕ) (head : Head) (ms
       turn false true false z = refl
       turn false false f z = refl
 
-  reached-is : (q : ℕ) → q < port_places → (has_number row.ports q && row_takes p (has_flag t p isolated) (vlan_at rows vid) q (port_at rows q)) ≡ (is_own d q && reaches q)
+  reached-is : (q : ℕ) → q < port_places → (has_number row.ports q && row_takes p (has_flag t p isolated) (vlan_at rows vid) q (port_at rows q)) ≡ (is_own d dom q && reaches q)
   reached-is q below =
-      ap (λ b. b && row_takes p (has_flag t p isolated) (vlan_at rows vid) q (port_at rows q)) (member-of (λ m. is_own d m && leads.target m) row.ports q (ap (λ (r : FanRow). r.ports) leads.wanted) below)
-      ∙ by (is_own d q) refl
+      ap (λ b. b && row_takes p (has_flag t p isolated) (vlan_at rows vid) q (port_at rows q)) (member-of (λ m. is_own d dom m && leads.target m) row.ports q (ap (λ (r : FanRow). r.ports) leads.wanted) below)
+      ∙ by (is_own d dom q) refl
     where
-      by : (b : Bool) → is_own d q ≡ b → ((b && leads.target q) && row_takes p (has_flag t p isolated) (vlan_at rows vid) q (port_at rows q)) ≡ (b && (leads.target q && may t p q vid))
+      by : (b : Bool) → is_own d dom q ≡ b → ((b && leads.target q) && row_takes p (has_flag t p isolated) (vlan_at rows vid) q (port_at rows q)) ≡ (b && (leads.target q && may t p q vid))
       by true own = ap (λ x. leads.target q && x) (takes-is q below own)
       by false own = refl
 
   -- a port elsewhere
-  may-is : (q : ℕ) (i : Bool) → is_own d q ≡ false → has_flag t p isolated ≡ i → may t p q vid ≡ cond (q == host) (member t q vid) (is_forwarding t q && (member t q vid && not (i && has_flag t q isolated)))
+  may-is : (q : ℕ) (i : Bool) → is_own d dom q ≡ false → has_flag t p isolated ≡ i → may t p q vid ≡ cond (q == host) (member t q vid) (is_forwarding t q && (member t q vid && not (i && has_flag t q isolated)))
   may-is q i elsewhere is_i =
       ap₂ (λ a b. cond (q == host) (member t q vid) (not a && (is_forwarding t q && (member t q vid && not (b && has_flag t q isolated)))))
-      (ne_eqb q p (λ same. contradicts (is_own d p) at.own (sym (ap (is_own d) same) ∙ elsewhere))) is_i
+      (ne_eqb q p (λ same. contradicts (is_own d dom p) at.own (sym (ap (is_own d dom) same) ∙ elsewhere))) is_i
 
   abbrev reaches_elsewhere : ℕ → Bool
-  reaches_elsewhere q = not (is_own d q) && reaches q
+  reaches_elsewhere q = not (is_own d dom q) && reaches q
 
   bit-is : (i : Bool) → has_flag t p isolated ≡ i → cond i row.isolated row.plain ≡ some_port reaches_elsewhere
-  bit-is true is_i = ap (λ (r : FanRow). r.isolated) leads.wanted ∙ same_some _ _ (λ q below. by q (is_own d q) refl)
+  bit-is true is_i = ap (λ (r : FanRow). r.isolated) leads.wanted ∙ same_some _ _ (λ q below. by q (is_own d dom q) refl)
     where
-      by : (q : ℕ) (b : Bool) → is_own d q ≡ b → (not b && (leads.target q && is_free t vid q)) ≡ (not b && (leads.target q && may t p q vid))
+      by : (q : ℕ) (b : Bool) → is_own d dom q ≡ b → (not b && (leads.target q && is_free t vid q)) ≡ (not b && (leads.target q && may t p q vid))
       by q true own = refl
       by q false own = ap (λ x. leads.target q && x) (free_is (q == host) (member t q vid) (is_forwarding t q) (has_flag t q isolated) ∙ sym (may-is q true own is_i))
-  bit-is false is_i = ap (λ (r : FanRow). r.plain) leads.wanted ∙ same_some _ _ (λ q below. by q (is_own d q) refl)
+  bit-is false is_i = ap (λ (r : FanRow). r.plain) leads.wanted ∙ same_some _ _ (λ q below. by q (is_own d dom q) refl)
     where
-      by : (q : ℕ) (b : Bool) → is_own d q ≡ b → (not b && (leads.target q && is_open t vid q)) ≡ (not b && (leads.target q && may t p q vid))
+      by : (q : ℕ) (b : Bool) → is_own d dom q ≡ b → (not b && (leads.target q && is_open t vid q)) ≡ (not b && (leads.target q && may t p q vid))
       by q true own = refl
       by q false own = ap (λ x. leads.target q && x) (open_is (q == host) (member t q vid) (is_forwarding t q) (has_flag t q isolated) ∙ sym (may-is q false own is_i))
 
@@ -285,7 +285,7 @@ module _ (d : Domains) (rows : Rows) (t : Table) (p vid : ℕ) (head : Head) (ms
   many-share ports is =
       is
       ∙ same_below _ _ port_places (λ q below.
-      reached-is q below ∙ ap (λ b. is_own d q && b) (leads.same q below) ∙ by (is_own d q) (goes t p vid head msg q) ∙ ap (λ b. goes t p vid head msg q && not b) (sym (foreign-is d p q at.own)))
+      reached-is q below ∙ ap (λ b. is_own d dom q && b) (leads.same q below) ∙ by (is_own d dom q) (goes t p vid head msg q) ∙ ap (λ b. goes t p vid head msg q && not b) (sym (foreign-is d dom p q at.own)))
       ∙ sym (own-share d t p vid head msg)
     where
       by : (o g : Bool) → (o && g) ≡ (g && not (not o))
@@ -297,13 +297,13 @@ module _ (d : Domains) (rows : Rows) (t : Table) (p vid : ℕ) (head : Head) (ms
   many-class : (ports : List ℕ) (elsewhere nowhere : Bool) → ports ≡ ports_where (λ q. has_number row.ports q && row_takes p (has_flag t p isolated) (vlan_at rows vid) q (port_at rows q))
       → elsewhere ≡ cond (has_flag t p isolated) row.isolated row.plain → IsTrue nowhere ↔ (ports ≡ []) → cond elsewhere Copy (cond nowhere Drop Forward) ≡ class_by d p (egress_ports t p vid head msg)
   many-class ports elsewhere nowhere is bit tells =
-      let own_any : not nowhere ≡ some_port (λ q. is_own d q && reaches q) = some-none ports _ nowhere (is ∙ same_below _ _ port_places reached-is) tells in
+      let own_any : not nowhere ≡ some_port (λ q. is_own d dom q && reaches q) = some-none ports _ nowhere (is ∙ same_below _ _ port_places reached-is) tells in
       let away : some_port (λ q. goes t p vid head msg q && foreign d p q) ≡ some_port reaches_elsewhere =
-      same_some _ _ (λ q below. ap₂ (λ a b. a && b) (sym (leads.same q below)) (foreign-is d p q at.own) ∙ turned (reaches q) (not (is_own d q))) in
-      let any : some_port (goes t p vid head msg) ≡ (some_port (λ q. is_own d q && reaches q) || some_port reaches_elsewhere) =
-      same_some _ _ (λ q below. sym (leads.same q below)) ∙ some_split (is_own d) reaches in
+      same_some _ _ (λ q below. ap₂ (λ a b. a && b) (sym (leads.same q below)) (foreign-is d dom p q at.own) ∙ turned (reaches q) (not (is_own d dom q))) in
+      let any : some_port (goes t p vid head msg) ≡ (some_port (λ q. is_own d dom q && reaches q) || some_port reaches_elsewhere) =
+      same_some _ _ (λ q below. sym (leads.same q below)) ∙ some_split (is_own d dom) reaches in
       ap₂ (λ e n. cond e Copy (cond n Drop Forward)) (bit ∙ bit-is (has_flag t p isolated) refl) (sym (not_not nowhere) ∙ ap not own_any)
-      ∙ class_is (some_port (λ q. is_own d q && reaches q)) (some_port reaches_elsewhere)
+      ∙ class_is (some_port (λ q. is_own d dom q && reaches q)) (some_port reaches_elsewhere)
       ∙ sym (class-of d t p vid head msg ∙ ap₂ (λ a b. cond (not a) Drop (cond b Copy Forward)) any away)
 
   pub many-out : (ports : List ℕ) (cls : Class) (elsewhere nowhere : Bool) → leaves_chip d t p vid head ≡ false

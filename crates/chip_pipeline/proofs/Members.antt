@@ -189,22 +189,22 @@ routed false false m y e = refl
 goals-are : (t : Table) (vid q : ℕ) (group : Group) → has nat_cmp (members_of t vid group ++ t.routers) q ≡ (is_grouped t vid group q || has nat_cmp t.routers q)
 goals-are t vid q group = list_any-append (eq_by_cmp nat_cmp q) (members_of t vid group) t.routers ∙ ap (λ b. b || has nat_cmp t.routers q) (sym (grouped-is vid q group t.groups))
 
-pub members-lead : (d : Domains) (rows : Rows) (t : Table) (p vid : ℕ) (group : Group) (members routers row : FanRow) → Stands d rows t → IsVid vid → Some members ≡ group_wanted d t vid group → routers ≡ router_at rows vid
+pub members-lead : (d : Domains) (dom : ℕ) (rows : Rows) (t : Table) (p vid : ℕ) (group : Group) (members routers row : FanRow) → Stands d dom rows t → IsVid vid → Some members ≡ group_wanted d dom t vid group → routers ≡ router_at rows vid
     → row.ports ≡ ports_where (λ q. has_number members.ports q || has_number routers.ports q) → row.isolated ≡ (members.isolated || routers.isolated) → row.plain ≡ (members.plain || routers.plain)
-    → Leads d t p vid row (members_of t vid group ++ t.routers)
-members-lead d rows t p vid group members routers row stands range found is ports isolated plain = record {
+    → Leads d dom t p vid row (members_of t vid group ++ t.routers)
+members-lead d dom rows t p vid group members routers row stands range found is ports isolated plain = record {
   target = λ q. is_grouped t vid group q || is_routed t vid q;
-  wanted = fan-both (is_own d) (is_grouped t vid group) (is_routed t vid) (is_open t vid) (is_free t vid) members routers row (one (has group_pair_cmp (group_pairs t.groups) (vid, group)) found) (is ∙ stands.routers vid range) ports isolated plain;
+  wanted = fan-both (is_own d dom) (is_grouped t vid group) (is_routed t vid) (is_open t vid) (is_free t vid) members routers row (one (has group_pair_cmp (group_pairs t.groups) (vid, group)) found) (is ∙ stands.routers vid range) ports isolated plain;
   same = λ q low. routed (is_grouped t vid group q) (has nat_cmp t.routers q) (member t q vid) (may t p q vid) (needs-member t p q vid) ∙ ap (λ b. b && may t p q vid) (sym (goals-are t vid q group));
 }
   where
-    one : (b : Bool) → Some members ≡ cond b (Some (fan_wanted d t vid (is_grouped t vid group))) None → members ≡ fan_wanted d t vid (is_grouped t vid group)
+    one : (b : Bool) → Some members ≡ cond b (Some (fan_wanted d dom t vid (is_grouped t vid group))) None → members ≡ fan_wanted d dom t vid (is_grouped t vid group)
     one true h = cc
     one false h = absurd (cc)
 
-pub routers-lead : (d : Domains) (rows : Rows) (t : Table) (p vid : ℕ) (group : Group) (row : FanRow) → Stands d rows t → IsVid vid → None ≡ group_wanted d t vid group → row ≡ router_at rows vid
-    → Leads d t p vid row (members_of t vid group ++ t.routers)
-routers-lead d rows t p vid group row stands range none is = record {
+pub routers-lead : (d : Domains) (dom : ℕ) (rows : Rows) (t : Table) (p vid : ℕ) (group : Group) (row : FanRow) → Stands d dom rows t → IsVid vid → None ≡ group_wanted d dom t vid group → row ≡ router_at rows vid
+    → Leads d dom t p vid row (members_of t vid group ++ t.routers)
+routers-lead d dom rows t p vid group row stands range none is = record {
   target = is_routed t vid;
   wanted = is ∙ stands.routers vid range;
   same = λ q low.
@@ -213,7 +213,7 @@ routers-lead d rows t p vid group row stands range none is = record {
       ∙ ap (λ b. b && may t p q vid) (sym (goals-are t vid q group));
 }
   where
-    empty : (b : Bool) → None ≡ cond b (Some (fan_wanted d t vid (is_grouped t vid group))) None → b ≡ false
+    empty : (b : Bool) → None ≡ cond b (Some (fan_wanted d dom t vid (is_grouped t vid group))) None → b ≡ false
     empty true h = absurd (cc)
     empty false h = refl
 
@@ -281,5 +281,5 @@ flooded t vid (Records x y z) none is = snooped t.snoop _ none
 flooded t vid Unrecognized none is = snooped t.snoop _ none
 
 -- a row leads where equal targets are
-pub lead-alike : (d : Domains) (t : Table) (p vid : ℕ) (row : FanRow) (xs ys : List ℕ) → Leads d t p vid row xs → ys ≡ xs → Leads d t p vid row ys
-lead-alike d t p vid row xs ys leads is = record { target = leads.target; wanted = leads.wanted; same = λ q low. leads.same q low ∙ ap (λ (zs : List ℕ). has nat_cmp zs q && may t p q vid) (sym is) }
+pub lead-alike : (d : Domains) (dom : ℕ) (t : Table) (p vid : ℕ) (row : FanRow) (xs ys : List ℕ) → Leads d dom t p vid row xs → ys ≡ xs → Leads d dom t p vid row ys
+lead-alike d dom t p vid row xs ys leads is = record { target = leads.target; wanted = leads.wanted; same = λ q low. leads.same q low ∙ ap (λ (zs : List ℕ). has nat_cmp zs q && may t p q vid) (sym is) }

@@ -85,10 +85,10 @@ class-is d t p vid head msg out other admitted free is =
     (ap₂ (λ b o. cond (b || is_trapped_in d t p o head msg) Trap (class_by d p (ports_out t p head msg))) other (sym admitted)
     ∙ ap (λ b. cond (b || leaves_chip d t p vid head) Trap (class_by d p (ports_out t p head msg))) free)
 
-pub out-sent : (d : Domains) (rows : Rows) (t : Table) (p vid : ℕ) (head : Head) (msg : McastMsg) (out : Out) (plain both : List ℕ) → Stands d rows t → IsVid vid → to_tree t p head ≡ false → Some vid ≡ admit t p head
+pub out-sent : (d : Domains) (dom : ℕ) (rows : Rows) (t : Table) (p vid : ℕ) (head : Head) (msg : McastMsg) (out : Out) (plain both : List ℕ) → Stands d dom rows t → IsVid vid → to_tree t p head ≡ false → Some vid ≡ admit t p head
     → (t.snoop && is_snooped msg) ≡ false → IsOut d t p vid head msg out → IsSetBelow port_places out.ports → plain ≡ (vlan_at rows vid).untagged
     → both ≡ ports_where (λ q. has_number out.ports q && has_number plain q) → IsSent d t p head msg (record { class = out.class; vid = Some vid; ports = out.ports; untagged = both })
-out-sent d rows t p vid head msg out plain both stands range other admitted free is ascending plain_is both_is =
+out-sent d dom rows t p vid head msg out plain both stands range other admitted free is ascending plain_is both_is =
     let cls = class-is d t p vid head msg out other admitted free is in
     record {
       class = cls;
@@ -96,6 +96,6 @@ out-sent d rows t p vid head msg out plain both stands range other admitted free
       ports = is.ports ∙ ap₂ (λ c (qs : List ℕ). chip_ports_by c d p qs) cls (out-is t p vid head msg other admitted);
       untagged =
           both_is
-          ∙ same_below _ _ port_places (λ q low. ap (λ b. has_number out.ports q && b) (ap (λ (ns : List ℕ). has_number ns q) plain_is ∙ untagged-is d t rows stands vid q range low))
+          ∙ same_below _ _ port_places (λ q low. ap (λ b. has_number out.ports q && b) (ap (λ (ns : List ℕ). has_number ns q) plain_is ∙ untagged-is d dom t rows stands vid q range low))
           ∙ sym (filter-set port_places out.ports (λ q. untagged t q vid) ascending);
     }

@@ -7,7 +7,7 @@ use Rattle.std.proofs.lemmas.Bool.{eqb-true, ne_eqb}
 use Rattle.std.proofs.lemmas.Bool.Decides.{nat_tests}
 use Rattle.port_sets.specs.Numbers.{has_number}
 use Rattle.br_model.specs.Forward.Admission.{learning, forwarding, is_up, is_in_state, is_forwarding, member}
-use Rattle.br_model.specs.Table.Domains.{Domains, chip, domain_of, foreign, host, software, port_places}
+use Rattle.br_model.specs.Table.Domains.{Domains, domain_of, foreign, host, port_places}
 use Rattle.br_model.specs.Forward.Eligible.{untagged}
 use Rattle.br_model.specs.Data.Maps.{get}
 use Rattle.br_model.specs.Table.Table.{Table}
@@ -30,7 +30,7 @@ learning-is : (o : Option ℕ) → (unwrap_or o 0 == learning) ≡ option_eq (λ
 learning-is None = refl
 learning-is (Some n) = refl
 
-module _ (d : Domains) (t : Table) (rows : Rows) (stands : Stands d rows t) where
+module _ (d : Domains) (dom : ℕ) (t : Table) (rows : Rows) (stands : Stands d dom rows t) where
   pub forwards-is : (q : ℕ) → q < port_places → row_is_in (port_at rows q) forwarding ≡ is_forwarding t q
   forwards-is q low = ap (λ r. row_is_in r forwarding) (stands.ports q low) ∙ ap (λ b. is_up t q && b) (forwarding-is (get nat_cmp t.state q))
 
@@ -50,16 +50,13 @@ swapped : (m n : ℕ) → (m == n) ≡ (n == m)
 swapped m n = grind (arith, nat_tests)
 
 -- of a port of the chip the foreign ones are those elsewhere
-pub foreign-is : (d : Domains) (p q : ℕ) → is_own d p ≡ true → foreign d p q ≡ not (is_own d q)
-foreign-is d p q own = ap not (alike (domain_of d p) (domain_of d q) own)
+pub foreign-is : (d : Domains) (dom p q : ℕ) → is_own d dom p ≡ true → foreign d p q ≡ not (is_own d dom q)
+foreign-is d dom p q own = ap not (alike (domain_of d p) (domain_of d q) own)
   where
-    alike : (o r : Option ℕ) → option_eq (λ x y. x == y) o (Some chip) ≡ true → option_eq (λ x y. x == y) o r ≡ option_eq (λ x y. x == y) r (Some chip)
+    alike : (o r : Option ℕ) → option_eq (λ x y. x == y) o (Some dom) ≡ true → option_eq (λ x y. x == y) o r ≡ option_eq (λ x y. x == y) r (Some dom)
     alike None r h = contradicts false h refl
     alike (Some n) None h = refl
-    alike (Some n) (Some m) h = ap (λ k. k == m) (eqb-true n chip h) ∙ swapped chip m
+    alike (Some n) (Some m) h = ap (λ k. k == m) (eqb-true n dom h) ∙ swapped dom m
 
-pub host-elsewhere : (d : Domains) → domain_of d host ≡ Some software → is_own d host ≡ false
-host-elsewhere d is = ap (λ o. option_eq (λ x y. x == y) o (Some chip)) is
-
-pub not-host : (d : Domains) (q : ℕ) → domain_of d host ≡ Some software → is_own d q ≡ true → (q == host) ≡ false
-not-host d q is own = ne_eqb q host (λ same. contradicts (is_own d q) own (ap (is_own d) same ∙ host-elsewhere d is))
+pub not-host : (d : Domains) (dom q : ℕ) → is_own d dom host ≡ false → is_own d dom q ≡ true → (q == host) ≡ false
+not-host d dom q elsewhere own = ne_eqb q host (λ same. contradicts (is_own d dom q) own (ap (is_own d dom) same ∙ elsewhere))

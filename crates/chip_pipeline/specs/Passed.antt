@@ -1,7 +1,7 @@
 -- What a chip decides of a frame at one of its ports, in the words of the bridge's table.
 -- Source: the kernel's switchdev.rst (a chip forwards among its own ports, learns and reports what it learned, and tells which of
 -- its entries are in use); what is reported and what counts as use is this profile's.
-use Rattle.std.specs.Prelude.{ℕ, ◌≡◌, true, not, List, []}
+use Rattle.std.specs.Prelude.{ℕ, ◌≡◌, true, false, not, List, []}
 use Rattle.std.specs.List.{filter}
 use Rattle.std.specs.declared.option.Option.{Option}
 use Rattle.std.specs.declared.option.Option.TheVariants.{None, Some}
@@ -12,7 +12,7 @@ use Rattle.br_model.specs.declared.frame.McastMsg.{McastMsg}
 use Rattle.br_model.specs.Forward.Admission.{admit}
 use Rattle.br_model.specs.Plane.Chip.{report, hit_of}
 use Rattle.br_model.specs.Forward.Class.{class}
-use Rattle.br_model.specs.Table.Domains.{Domains, domain_of, foreign, host, software}
+use Rattle.br_model.specs.Table.Domains.{Domains, foreign, host}
 use Rattle.br_model.specs.Forward.Untagged.{untagged_among}
 use Rattle.br_model.specs.Control.Learning.{Address}
 use Rattle.br_model.specs.Forward.Leave.{ports_out}
@@ -21,11 +21,11 @@ use Rattle.chip_tables.specs.Rows.{Rows}
 use Rattle.chip_pipeline.specs.declared.answer.Sent.{Sent}
 use Rattle.chip_tables.specs.Stands.{Stands, is_own}
 
--- The rows stand for the table, the port is one of the chip's, and the host is in software's domain.
-pub record AtChip (domains : Domains) (rows : Rows) (t : Table) (port : ℕ) : Type 0 where
-  pub stands : Stands domains rows t
-  pub own : is_own domains port ≡ true
-  pub outside : domain_of domains host ≡ Some software
+-- The rows of the chip of the domain stand for the table, and the port is one of the chip's, which the host isn't.
+pub record AtChip (domains : Domains) (dom : ℕ) (rows : Rows) (t : Table) (port : ℕ) : Type 0 where
+  pub stands : Stands domains dom rows t
+  pub own : is_own domains dom port ≡ true
+  pub outside : is_own domains dom host ≡ false
 
 -- what the chip decides
 pub record Passed : Type 0 where

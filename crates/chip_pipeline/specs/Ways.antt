@@ -23,9 +23,9 @@ use Rattle.chip_pipeline.specs.declared.lookup.Way.{Way}
 use Rattle.chip_pipeline.specs.declared.lookup.Way.TheVariants.{Nowhere, One, Many}
 
 -- The row is the one of these targets, as far as they may take the frame.
-pub record Leads (domains : Domains) (t : Table) (port vid : ℕ) (row : FanRow) (goals : List ℕ) : Type 0 where
+pub record Leads (domains : Domains) (dom : ℕ) (t : Table) (port vid : ℕ) (row : FanRow) (goals : List ℕ) : Type 0 where
   pub target : ℕ → Bool
-  pub wanted : row ≡ fan_wanted domains t vid target
+  pub wanted : row ≡ fan_wanted domains dom t vid target
   pub same : (q : ℕ) → q < port_places → (target q && may t port q vid) ≡ (has nat_cmp goals q && may t port q vid)
 
 -- whether the processor alone is to have the frame for where it is to go: a station or the host that the chip doesn't reach
@@ -39,16 +39,16 @@ pub record LeadsTo (domains : Domains) (t : Table) (port vid : ℕ) (head : Head
   pub alone : leaves_chip domains t port vid head ≡ (foreign domains port q && may t port q vid)
 
 -- The way leads where the table says.
-abbrev pub IsWay : Domains → Table → ℕ → ℕ → Head → McastMsg → Way → Type 0
-IsWay domains t port vid head msg Nowhere = (targets t vid head msg ≡ []) × (leaves_chip domains t port vid head ≡ false)
-IsWay domains t port vid head msg (One q) = LeadsTo domains t port vid head q (targets t vid head msg)
-IsWay domains t port vid head msg (Many row) = Leads domains t port vid row (targets t vid head msg) × (leaves_chip domains t port vid head ≡ false)
+abbrev pub IsWay : Domains → ℕ → Table → ℕ → ℕ → Head → McastMsg → Way → Type 0
+IsWay domains dom t port vid head msg Nowhere = (targets t vid head msg ≡ []) × (leaves_chip domains t port vid head ≡ false)
+IsWay domains dom t port vid head msg (One q) = LeadsTo domains t port vid head q (targets t vid head msg)
+IsWay domains dom t port vid head msg (Many row) = Leads domains dom t port vid row (targets t vid head msg) × (leaves_chip domains t port vid head ≡ false)
 
 -- The way is a row that leads to these targets.
-abbrev pub IsMany : Domains → Table → ℕ → ℕ → List ℕ → Way → Type 0
-IsMany domains t port vid goals Nowhere = ⊥
-IsMany domains t port vid goals (One q) = ⊥
-IsMany domains t port vid goals (Many row) = Leads domains t port vid row goals
+abbrev pub IsMany : Domains → ℕ → Table → ℕ → ℕ → List ℕ → Way → Type 0
+IsMany domains dom t port vid goals Nowhere = ⊥
+IsMany domains dom t port vid goals (One q) = ⊥
+IsMany domains dom t port vid goals (Many row) = Leads domains dom t port vid row goals
 
 -- the row of an entry
 abbrev pub row_of_entry : ℕ × Kind → AddressRow
@@ -59,6 +59,6 @@ abbrev pub entry_wanted : Table → ℕ → ℕ → Option AddressRow
 entry_wanted t vid mac = option_map row_of_entry (get pair_cmp t.addr (vid, mac))
 
 -- the row that a table wants for a group: none where the group has no member
-abbrev pub group_wanted : Domains → Table → ℕ → Group → Option FanRow
-group_wanted domains t vid group =
-    if has group_pair_cmp (group_pairs t.groups) (vid, group) then Some (fan_wanted domains t vid (is_grouped t vid group)) else None
+abbrev pub group_wanted : Domains → ℕ → Table → ℕ → Group → Option FanRow
+group_wanted domains dom t vid group =
+    if has group_pair_cmp (group_pairs t.groups) (vid, group) then Some (fan_wanted domains dom t vid (is_grouped t vid group)) else None

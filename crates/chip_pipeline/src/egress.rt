@@ -1,5 +1,5 @@
 //! The way out: which of its ports the chip sends by, and whether the processor is to have the frame too, or alone.
-ghost use Rattle.std.specs.Prelude.{◌≡◌, ◌<◌, ◌&&◌, [], false, if◌then◌else◌};
+ghost use Rattle.std.specs.Prelude.{ℕ, ◌≡◌, ◌<◌, ◌&&◌, [], false, if◌then◌else◌};
 ghost use Rattle.br_model.specs.Table.Domains.{Domains, port_places};
 ghost use Rattle.br_model.specs.Forward.Eligible.{may};
 ghost use Rattle.br_model.specs.Table.Table.{Table};
@@ -67,7 +67,7 @@ pub fn send(tables: &Tables, port: Port, row: &PortRow, vlan: &Vlan, way: &Way) 
     requires row { row.now ≡ port_at tables.now port }
     requires vlan { vlan.now.row ≡ vlan_at tables.now vlan.now.vid }
     requires range { IsVid vlan.now.vid }
-    ensures { (d : Domains) (t : Table) (head : Head) (msg : McastMsg) → AtChip d tables.now t port → IsWay d t port vlan.now.vid head msg way.now → IsOut d t port vlan.now.vid head msg result }
+    ensures { (d : Domains) (dom : ℕ) (t : Table) (head : Head) (msg : McastMsg) → AtChip d dom tables.now t port → IsWay d dom t port vlan.now.vid head msg way.now → IsOut d t port vlan.now.vid head msg result }
 {
     match *way {
         Way::Nowhere => nothing(Class::Drop),
@@ -81,7 +81,7 @@ fn send_to(tables: &Tables, port: Port, row: &PortRow, vlan: &Vlan, goal: Port) 
     requires row { row.now ≡ port_at tables.now port }
     requires vlan { vlan.now.row ≡ vlan_at tables.now vlan.now.vid }
     requires range { IsVid vlan.now.vid }
-    ensures { (d : Domains) (t : Table) (head : Head) (msg : McastMsg) → AtChip d tables.now t port → LeadsTo d t port vlan.now.vid head goal (targets t vlan.now.vid head msg) → IsOut d t port vlan.now.vid head msg result }
+    ensures { (d : Domains) (dom : ℕ) (t : Table) (head : Head) (msg : McastMsg) → AtChip d dom tables.now t port → LeadsTo d t port vlan.now.vid head goal (targets t vlan.now.vid head msg) → IsOut d t port vlan.now.vid head msg result }
 {
     let other = tables.port(goal);
     if !may_take(tables, port, row, vlan, goal, &other) {
@@ -120,7 +120,7 @@ fn may_take(
     requires vlan { vlan.now.row ≡ vlan_at tables.now vlan.now.vid }
     requires range { IsVid vlan.now.vid }
     requires other { other.now ≡ port_at tables.now goal }
-    ensures { (d : Domains) (t : Table) → Stands d tables.now t → result ≡ may t port goal vlan.now.vid }
+    ensures { (d : Domains) (dom : ℕ) (t : Table) → Stands d dom tables.now t → result ≡ may t port goal vlan.now.vid }
 {
     // law: the port is in range
     let _number = port.number();
@@ -141,7 +141,7 @@ fn send_by(tables: &Tables, port: Port, row: &PortRow, vlan: &Vlan, fan: &FanRow
     requires row { row.now ≡ port_at tables.now port }
     requires vlan { vlan.now.row ≡ vlan_at tables.now vlan.now.vid }
     requires range { IsVid vlan.now.vid }
-    ensures { (d : Domains) (t : Table) (head : Head) (msg : McastMsg) → AtChip d tables.now t port → Leads d t port vlan.now.vid fan.now (targets t vlan.now.vid head msg) → leaves_chip d t port vlan.now.vid head ≡ false
+    ensures { (d : Domains) (dom : ℕ) (t : Table) (head : Head) (msg : McastMsg) → AtChip d dom tables.now t port → Leads d dom t port vlan.now.vid fan.now (targets t vlan.now.vid head msg) → leaves_chip d t port vlan.now.vid head ≡ false
         → IsOut d t port vlan.now.vid head msg result }
 {
     let alone = is_isolated(row);

@@ -33,7 +33,7 @@ pub enum Way {
 /// Where an admitted frame that snooping doesn't catch is to go.
 pub fn lookup(tables: &Tables, vid: Vid, head: &Head, msg: &McastMsg) -> Way
     requires { IsVid vid }
-    ensures { (d : Domains) (t : Table) (port : ℕ) → AtChip d tables.now t port → (t.snoop && is_snooped msg.now) ≡ false → IsWay d t port vid head.now msg.now result }
+    ensures { (d : Domains) (dom : ℕ) (t : Table) (port : ℕ) → AtChip d dom tables.now t port → (t.snoop && is_snooped msg.now) ≡ false → IsWay d dom t port vid head.now msg.now result }
 {
     if !head.dst.is_multicast() {
         to_station(tables, vid, head)
@@ -50,7 +50,7 @@ pub fn lookup(tables: &Tables, vid: Vid, head: &Head, msg: &McastMsg) -> Way
 
 /// Whether no port is to have the frame: it is for the spanning tree, or a PAUSE frame.
 fn is_for_nobody(tables: &Tables, head: &Head) -> bool
-    ensures { (d : Domains) (t : Table) → Stands d tables.now t → result ≡ ((head.now.dst == bridge_group_address && t.stp) || head.now.dst == pause_address) }
+    ensures { (d : Domains) (dom : ℕ) (t : Table) → Stands d dom tables.now t → result ≡ ((head.now.dst == bridge_group_address && t.stp) || head.now.dst == pause_address) }
 {
     is_for_bridges(tables, head) || head.dst.number() == Mac::PAUSE_ADDRESS
 }
@@ -59,7 +59,7 @@ fn is_for_nobody(tables: &Tables, head: &Head) -> bool
 fn to_station(tables: &Tables, vid: Vid, head: &Head) -> Way
     requires range { IsVid vid }
     requires station { is_multicast head.now.dst ≡ false }
-    ensures { (d : Domains) (t : Table) (port : ℕ) (m : McastMsg) → AtChip d tables.now t port → IsWay d t port vid head.now m result }
+    ensures { (d : Domains) (dom : ℕ) (t : Table) (port : ℕ) (m : McastMsg) → AtChip d dom tables.now t port → IsWay d dom t port vid head.now m result }
 {
     match address_row(tables, vid, head.dst) {
         Some(entry) => Way::One(port_of(&entry)),
@@ -84,7 +84,7 @@ fn port_of(entry: &AddressRow) -> Port
 /// The flood of broadcasts.
 fn to_all(tables: &Tables, vid: Vid) -> Way
     requires { IsVid vid }
-    ensures { (d : Domains) (t : Table) (port : ℕ) → Stands d tables.now t → IsMany d t port vid (host ∷ with_flag t bcast_flood) result }
+    ensures { (d : Domains) (dom : ℕ) (t : Table) (port : ℕ) → Stands d dom tables.now t → IsMany d dom t port vid (host ∷ with_flag t bcast_flood) result }
 {
     Way::Many(tables.flood(vid, Flood::Bcast))
 }
@@ -92,8 +92,8 @@ fn to_all(tables: &Tables, vid: Vid) -> Way
 /// Where a frame to a group is to go.
 fn to_group(tables: &Tables, vid: Vid, msg: &McastMsg) -> Way
     requires { IsVid vid }
-    ensures { (d : Domains) (t : Table) (port : ℕ) → Stands d tables.now t → (t.snoop && is_snooped msg.now) ≡ false
-        → IsMany d t port vid (if t.snoop then snooped_targets t vid msg.now else multicast_flood t) result }
+    ensures { (d : Domains) (dom : ℕ) (t : Table) (port : ℕ) → Stands d dom tables.now t → (t.snoop && is_snooped msg.now) ≡ false
+        → IsMany d dom t port vid (if t.snoop then snooped_targets t vid msg.now else multicast_flood t) result }
 {
     match *msg {
         McastMsg::Payload(group) => {
@@ -115,14 +115,14 @@ fn to_group(tables: &Tables, vid: Vid, msg: &McastMsg) -> Way
 /// The flood of multicast frames.
 fn multicast_flood(tables: &Tables, vid: Vid) -> FanRow
     requires { IsVid vid }
-    ensures { (d : Domains) (t : Table) (port : ℕ) → Stands d tables.now t → Leads d t port vid result (multicast_flood t) }
+    ensures { (d : Domains) (dom : ℕ) (t : Table) (port : ℕ) → Stands d dom tables.now t → Leads d dom t port vid result (multicast_flood t) }
 {
     tables.flood(vid, Flood::Mcast)
 }
 
 /// Whether packets to the group go to its members and to routers alone.
 fn goes_to_members(tables: &Tables, group: Group) -> bool
-    ensures { (d : Domains) (t : Table) → Stands d tables.now t → result ≡ (t.snoop && (not (is_link_local group) && knows_querier t (is_six group))) }
+    ensures { (d : Domains) (dom : ℕ) (t : Table) → Stands d dom tables.now t → result ≡ (t.snoop && (not (is_link_local group) && knows_querier t (is_six group))) }
 {
     let control = tables.control();
     let knows_querier = if group.is_six() {
@@ -135,7 +135,7 @@ fn goes_to_members(tables: &Tables, group: Group) -> bool
 
 fn to_members(tables: &Tables, vid: Vid, group: Group) -> FanRow
     requires { IsVid vid }
-    ensures { (d : Domains) (t : Table) (port : ℕ) → Stands d tables.now t → Leads d t port vid result (members_of t vid group ++ t.routers) }
+    ensures { (d : Domains) (dom : ℕ) (t : Table) (port : ℕ) → Stands d dom tables.now t → Leads d dom t port vid result (members_of t vid group ++ t.routers) }
 {
     let routers = tables.router(vid);
     match group_row(tables, vid, group) {

@@ -38,8 +38,8 @@ pub fn sight(
 ) -> Sighting
     requires row { row.now ≡ port_at tables.now port }
     requires vlan { IfSome vlan.now (λ (v : Vlan). (v.row ≡ vlan_at tables.now v.vid) × IsVid v.vid) }
-    ensures report { (d : Domains) (t : Table) → Stands d tables.now t → option_map (λ (v : Vlan). v.vid) vlan.now ≡ vlan_of t port head.now → result.report ≡ report t port head.now }
-    ensures hit { (d : Domains) (t : Table) → Stands d tables.now t → option_map (λ (v : Vlan). v.vid) vlan.now ≡ vlan_of t port head.now → result.hit ≡ hit_of t port head.now }
+    ensures report { (d : Domains) (dom : ℕ) (t : Table) → Stands d dom tables.now t → option_map (λ (v : Vlan). v.vid) vlan.now ≡ vlan_of t port head.now → result.report ≡ report t port head.now }
+    ensures hit { (d : Domains) (dom : ℕ) (t : Table) → Stands d dom tables.now t → option_map (λ (v : Vlan). v.vid) vlan.now ≡ vlan_of t port head.now → result.hit ≡ hit_of t port head.now }
 {
     if !head.has_valid_source() {
         return unseen();
@@ -63,8 +63,8 @@ fn sight_in(tables: &Tables, port: Port, row: &PortRow, vlan: &Vlan, head: &Head
     requires row { row.now ≡ port_at tables.now port }
     requires vlan { vlan.now.row ≡ vlan_at tables.now vlan.now.vid }
     requires range { IsVid vlan.now.vid }
-    ensures report { (d : Domains) (t : Table) → Stands d tables.now t → result.report ≡ (if not (is_reserved t head.now) then report_of t port (teach_in t port (Some vlan.now.vid) head.now.src) else None) }
-    ensures hit { (d : Domains) (t : Table) → Stands d tables.now t → result.hit ≡ hit_in t port (Some vlan.now.vid) head.now.src }
+    ensures report { (d : Domains) (dom : ℕ) (t : Table) → Stands d dom tables.now t → result.report ≡ (if not (is_reserved t head.now) then report_of t port (teach_in t port (Some vlan.now.vid) head.now.src) else None) }
+    ensures hit { (d : Domains) (dom : ℕ) (t : Table) → Stands d dom tables.now t → result.hit ≡ hit_in t port (Some vlan.now.vid) head.now.src }
 {
     let entry = address_row(tables, vlan.vid, head.src);
     Sighting {
@@ -89,7 +89,7 @@ fn is_reported(
     requires row { row.now ≡ port_at tables.now port }
     requires vlan { vlan.now.row ≡ vlan_at tables.now vlan.now.vid }
     requires range { IsVid vlan.now.vid }
-    ensures { (d : Domains) (t : Table) → Stands d tables.now t → entry.now ≡ entry_wanted t vlan.now.vid head.now.src
+    ensures { (d : Domains) (dom : ℕ) (t : Table) → Stands d dom tables.now t → entry.now ≡ entry_wanted t vlan.now.vid head.now.src
         → result ≡ (not (is_reserved t head.now) && (may_teach t port vlan.now.vid && is_news t (vlan.now.vid, head.now.src) port)) }
 {
     if is_reserved(tables, head) {
@@ -113,7 +113,7 @@ fn may_teach(tables: &Tables, port: Port, row: &PortRow, vlan: &Vlan) -> bool
     requires row { row.now ≡ port_at tables.now port }
     requires vlan { vlan.now.row ≡ vlan_at tables.now vlan.now.vid }
     requires range { IsVid vlan.now.vid }
-    ensures { (d : Domains) (t : Table) → Stands d tables.now t → result ≡ may_teach t port vlan.now.vid }
+    ensures { (d : Domains) (dom : ℕ) (t : Table) → Stands d dom tables.now t → result ≡ may_teach t port vlan.now.vid }
 {
     let is_member = vlan.row.members.has(port.number());
     sees(row) && is_member

@@ -1,5 +1,5 @@
 //! What the chip hands to the processor alone, by its trap rows.
-ghost use Rattle.std.specs.Prelude.{◌≡◌, ◌==◌, ◌≤◌, ◌<◌, ◌&&◌, ◌||◌, is_some, IfSome};
+ghost use Rattle.std.specs.Prelude.{ℕ, ◌≡◌, ◌==◌, ◌≤◌, ◌<◌, ◌&&◌, ◌||◌, is_some, IfSome};
 ghost use Rattle.br_model.specs.Forward.Admission.{has_valid_source};
 ghost use Rattle.br_model.specs.Forward.Class.{is_snooped};
 ghost use Rattle.br_model.specs.Table.Domains.{Domains};
@@ -30,7 +30,7 @@ const MLD_RECORDS: usize = 20;
 
 /// Whether the destination is 01-80-C2-00-00-00 and trapped.
 pub fn is_for_bridges(tables: &Tables, head: &Head) -> bool
-    ensures { (d : Domains) (t : Table) → Stands d tables.now t → result ≡ ((head.now.dst == bridge_group_address) && t.stp) }
+    ensures { (d : Domains) (dom : ℕ) (t : Table) → Stands d dom tables.now t → result ≡ ((head.now.dst == bridge_group_address) && t.stp) }
 {
     head.dst.number() == Mac::BRIDGE_GROUP_ADDRESS && tables.trap(TREE)
 }
@@ -38,7 +38,7 @@ pub fn is_for_bridges(tables: &Tables, head: &Head) -> bool
 /// Whether the frame is for the spanning tree.
 pub fn is_for_tree(tables: &Tables, port: Port, row: &PortRow, head: &Head) -> bool
     requires { row.now ≡ port_at tables.now port }
-    ensures { (d : Domains) (t : Table) → Stands d tables.now t → result ≡ to_tree t port head.now }
+    ensures { (d : Domains) (dom : ℕ) (t : Table) → Stands d dom tables.now t → result ≡ to_tree t port head.now }
 {
     // law: the port is in range
     let _number = port.number();
@@ -54,7 +54,7 @@ fn speaks(row: &PortRow, head: &Head) -> bool
 
 /// Whether frames to the destination teach nothing.
 pub fn is_reserved(tables: &Tables, head: &Head) -> bool
-    ensures { (d : Domains) (t : Table) → Stands d tables.now t → result ≡ is_reserved t head.now }
+    ensures { (d : Domains) (dom : ℕ) (t : Table) → Stands d dom tables.now t → result ≡ is_reserved t head.now }
 {
     is_for_bridges(tables, head) || is_always_reserved(head)
 }
@@ -68,7 +68,7 @@ fn is_always_reserved(head: &Head) -> bool
 
 /// Whether the destination is one of 01-80-C2-00-00-02 to 0F, all of which are trapped.
 pub fn is_trapped_for_host(tables: &Tables, head: &Head) -> bool
-    ensures { (d : Domains) (t : Table) → Stands d tables.now t → result ≡ is_for_the_host head.now.dst }
+    ensures { (d : Domains) (dom : ℕ) (t : Table) → Stands d dom tables.now t → result ≡ is_for_the_host head.now.dst }
 {
     match host_row(head) {
         Some(place) => tables.trap(place),
@@ -90,7 +90,7 @@ fn host_row(head: &Head) -> Option<usize>
 
 /// Whether snooping is on and wants to see the message.
 pub fn catches(tables: &Tables, msg: &McastMsg) -> bool
-    ensures { (d : Domains) (t : Table) → Stands d tables.now t → result ≡ (t.snoop && is_snooped msg.now) }
+    ensures { (d : Domains) (dom : ℕ) (t : Table) → Stands d dom tables.now t → result ≡ (t.snoop && is_snooped msg.now) }
 {
     match trap_row(msg) {
         Some(place) => tables.trap(place),

@@ -1,5 +1,5 @@
 //! The VLAN of a frame.
-ghost use Rattle.std.specs.Prelude.{◌≡◌, IfSome, Some};
+ghost use Rattle.std.specs.Prelude.{ℕ, ◌≡◌, IfSome, Some};
 ghost use Rattle.std.specs.Option.{option_map};
 ghost use Rattle.br_model.specs.Forward.Admission.{vlan_of, vlan_of_tag};
 ghost use Rattle.br_model.specs.Table.Domains.{Domains};
@@ -22,7 +22,7 @@ pub struct Vlan {
 /// The VLAN that the frame's tag, or its absence, gives at the port.
 pub fn vlan_of(tables: &Tables, port: Port, row: &PortRow, head: &Head) -> Option<Vlan>
     requires { row.now ≡ port_at tables.now port }
-    ensures vid { (d : Domains) (t : Table) → Stands d tables.now t → option_map (λ (v : Vlan). v.vid) result ≡ vlan_of t port head.now }
+    ensures vid { (d : Domains) (dom : ℕ) (t : Table) → Stands d dom tables.now t → option_map (λ (v : Vlan). v.vid) result ≡ vlan_of t port head.now }
     ensures row { IfSome result (λ v. v.row ≡ vlan_at tables.now v.vid) }
     ensures range { IfSome result (λ v. IsVid v.vid) }
 {
@@ -34,7 +34,7 @@ pub fn vlan_of(tables: &Tables, port: Port, row: &PortRow, head: &Head) -> Optio
 
 fn vlan_of_tag(tables: &Tables, port: Port, row: &PortRow, tag: Tag) -> Option<Vlan>
     requires { row.now ≡ port_at tables.now port }
-    ensures vid { (d : Domains) (t : Table) → Stands d tables.now t → option_map (λ (v : Vlan). v.vid) result ≡ vlan_of_tag t port (Some tag) }
+    ensures vid { (d : Domains) (dom : ℕ) (t : Table) → Stands d dom tables.now t → option_map (λ (v : Vlan). v.vid) result ≡ vlan_of_tag t port (Some tag) }
     ensures row { IfSome result (λ v. v.row ≡ vlan_at tables.now v.vid) }
     ensures range { IfSome result (λ v. IsVid v.vid) }
 {

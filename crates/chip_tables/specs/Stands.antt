@@ -1,4 +1,4 @@
--- When the rows of a chip stand for a table: each row is the one that the table wants.
+-- When the rows of the chip of a domain stand for a table: each row is the one that the table wants.
 -- Source: the kernel's switchdev.rst (a driver mirrors the bridge's state in its device); the rows' layout and their two
 -- processor bits are this profile's.
 use Rattle.std.specs.Prelude.{◌≡◌, ℕ, ◌<◌, ◌≤◌, ◌==◌, nat_lt, Bool, true, false, not, ◌&&◌, ◌||◌, if◌then◌else◌, List, map}
@@ -10,7 +10,7 @@ use Rattle.br_model.specs.declared.change.Kind.TheVariants.{Local, Static, Learn
 use Rattle.br_model.specs.declared.group.Group.{Group}
 use Rattle.br_model.specs.Forward.Admission.{is_up, is_forwarding, member}
 use Rattle.br_model.specs.Table.DomainPorts.{is_in_domain}
-use Rattle.br_model.specs.Table.Domains.{Domains, chip, host, port_places}
+use Rattle.br_model.specs.Table.Domains.{Domains, host, port_places}
 use Rattle.br_model.specs.Forward.Eligible.{untagged}
 use Rattle.br_model.specs.Table.GroupPairs.{group_pairs}
 use Rattle.br_model.specs.Table.Groups.{membership_cmp}
@@ -38,9 +38,9 @@ ports_where test = numbers_below port_places test
 unfoldable pub some_port : (ℕ → Bool) → Bool
 some_port test = list_any test (range_with_len 0 port_places)
 
--- whether the port is on the chip
-abbrev pub is_own : Domains → ℕ → Bool
-is_own domains q = is_in_domain domains chip q
+-- whether the port is on the chip of the domain
+abbrev pub is_own : Domains → ℕ → ℕ → Bool
+is_own domains dom q = is_in_domain domains dom q
 
 -- Targets of a VLAN's frames. A port with a flag is up and has it.
 
@@ -80,16 +80,16 @@ fan own target eligible free = record {
 abbrev pub vlan_wanted : Table → ℕ → VlanRow
 vlan_wanted t vid = record { members = ports_where (λ q. member t q vid); untagged = ports_where (λ q. untagged t q vid) }
 
-abbrev pub fan_wanted : Domains → Table → ℕ → (ℕ → Bool) → FanRow
-fan_wanted domains t vid target = fan (is_own domains) target (is_open t vid) (is_free t vid)
+abbrev pub fan_wanted : Domains → ℕ → Table → ℕ → (ℕ → Bool) → FanRow
+fan_wanted domains dom t vid target = fan (is_own domains dom) target (is_open t vid) (is_free t vid)
 
-abbrev pub port_wanted : Domains → Table → ℕ → PortRow
-port_wanted domains t port = record {
+abbrev pub port_wanted : Domains → ℕ → Table → ℕ → PortRow
+port_wanted domains dom t port = record {
   up = is_up t port;
   state = unwrap_or (get nat_cmp t.state port) 0;
   flags = unwrap_or (get nat_cmp t.flags port) 0;
   pvid = get nat_cmp t.pvid port;
-  own = is_own domains port;
+  own = is_own domains dom port;
 }
 
 -- Of 01-80-C2-00-00-00 to 0F the first is trapped for the spanning tree, the second never, the others always. Behind them are
@@ -125,16 +125,16 @@ abbrev pub VlansStand : Rows → Table → Type 0
 VlansStand rows t = (vid : ℕ) → IsVid vid → vlan_at rows vid ≡ vlan_wanted t vid
 
 -- Each flood row has its targets on the chip, and its bits are those of its targets elsewhere.
-abbrev pub FloodsStand : Domains → Rows → Table → Type 0
-FloodsStand domains rows t = (vid : ℕ) → IsVid vid → (f : Flood) → flood_at rows vid f ≡ fan_wanted domains t vid (is_flooded t vid f)
+abbrev pub FloodsStand : Domains → ℕ → Rows → Table → Type 0
+FloodsStand domains dom rows t = (vid : ℕ) → IsVid vid → (f : Flood) → flood_at rows vid f ≡ fan_wanted domains dom t vid (is_flooded t vid f)
 
 -- So has each router row.
-abbrev pub RoutersStand : Domains → Rows → Table → Type 0
-RoutersStand domains rows t = (vid : ℕ) → IsVid vid → router_at rows vid ≡ fan_wanted domains t vid (is_routed t vid)
+abbrev pub RoutersStand : Domains → ℕ → Rows → Table → Type 0
+RoutersStand domains dom rows t = (vid : ℕ) → IsVid vid → router_at rows vid ≡ fan_wanted domains dom t vid (is_routed t vid)
 
 -- Each port row, that of a foreign port too, has the port's life, state, flags and PVID, and whether it is on the chip.
-abbrev pub PortsStand : Domains → Rows → Table → Type 0
-PortsStand domains rows t = (port : ℕ) → port < port_places → port_at rows port ≡ port_wanted domains t port
+abbrev pub PortsStand : Domains → ℕ → Rows → Table → Type 0
+PortsStand domains dom rows t = (port : ℕ) → port < port_places → port_at rows port ≡ port_wanted domains dom t port
 
 -- Each trap is on or off by whether snooping and the spanning tree are on.
 abbrev pub TrapsStand : Rows → Table → Type 0
@@ -149,15 +149,16 @@ abbrev pub AddressesStand : Rows → Table → Type 0
 AddressesStand rows t = rows.addresses ≡ map (λ e. (e.0, address_wanted e.1)) t.addr
 
 -- There is a group row for each VLAN and group with members, which is made of these as a flood row of its targets.
-abbrev pub GroupsStand : Domains → Rows → Table → Type 0
-GroupsStand domains rows t = rows.groups ≡ map (λ k. (k, fan_wanted domains t k.0 (is_grouped t k.0 k.1))) (group_pairs t.groups)
+abbrev pub GroupsStand : Domains → ℕ → Rows → Table → Type 0
+GroupsStand domains dom rows t = rows.groups ≡ map (λ k. (k, fan_wanted domains dom t k.0 (is_grouped t k.0 k.1))) (group_pairs t.groups)
 
-pub record Stands (domains : Domains) (rows : Rows) (t : Table) : Type 0 where
+-- The rows of the chip of the domain stand for the table.
+pub record Stands (domains : Domains) (dom : ℕ) (rows : Rows) (t : Table) : Type 0 where
   pub vlans : VlansStand rows t
-  pub floods : FloodsStand domains rows t
-  pub routers : RoutersStand domains rows t
-  pub ports : PortsStand domains rows t
+  pub floods : FloodsStand domains dom rows t
+  pub routers : RoutersStand domains dom rows t
+  pub ports : PortsStand domains dom rows t
   pub traps : TrapsStand rows t
   pub control : ControlStands rows t
   pub addresses : AddressesStand rows t
-  pub groups : GroupsStand domains rows t
+  pub groups : GroupsStand domains dom rows t

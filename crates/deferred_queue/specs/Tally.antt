@@ -1,7 +1,8 @@
 -- The number of updates that were counted as posted, and its rule: the number is how many posts happened. One view counts and one
 -- looks. Each knows all that happened up to its own last step, so behind what the first knows no post happened, and behind what the
 -- second knows no look.
--- So a look that is added stands behind every post that had happened at its step.
+-- So a look that is added stands behind every post that had happened at its step. Where one view does both for a moment, it knows
+-- all that happened.
 -- Source: this profile.
 use Rattle.std.specs.Prelude.{◌≡◌, ◌≢◌, ℕ, suc, ◌+◌, Bool, true, false, List, [], ◌∷◌, ◌++◌}
 use mathlib.Core.Option.{some}
@@ -23,15 +24,18 @@ looks_in [] = 0
 looks_in (Post ∷ more) = looks_in more
 looks_in (Look ∷ more) = suc (looks_in more)
 
-abbrev pub past : Bool → Bool → List Event → Past
-past a b events = record { posts = a; takes = b; events = events }
+abbrev pub past : Bool → Bool → List Event → List Event → Past
+past a b counted looked = record { posts = a; takes = b; counted = counted; looked = looked }
 
--- the view that counts, and the one that looks
+-- the view that counts, the one that looks, and one that does neither
 abbrev pub counting : List Event → Past
-counting events = past true false events
+counting events = past true false events []
 
 abbrev pub looking : List Event → Past
-looking events = past false true events
+looking events = past false true [] events
+
+abbrev pub spent : Past
+spent = past false false [] []
 
 -- what is known, and then what this counts none of
 abbrev pub KnownBut : (List Event → ℕ) → List Event → List Event → Type 0
@@ -42,8 +46,8 @@ abbrev pub Looked : List Event → List Event → Type 0
 Looked before after = (posts : List Event) × (looks_in posts ≡ 0) × (after ≡ before ++ (posts ++ Look ∷ []))
 
 pub record Knows (counter looker : ℕ) (events : List Event) (place : ℕ) (v : Past) : Type 0 where
-  pub as_counter : v.posts ≡ true → (place ≡ counter) × KnownBut posts_in v.events events
-  pub as_looker : v.takes ≡ true → (place ≡ looker) × KnownBut looks_in v.events events
+  pub as_counter : v.posts ≡ true → (place ≡ counter) × KnownBut posts_in v.counted events
+  pub as_looker : v.takes ≡ true → (place ≡ looker) × KnownBut looks_in v.looked events
 
 pub record Kept {S : Type 0} (s : State S Past) : Type 0 where
   pub counter : ℕ
@@ -59,9 +63,13 @@ module _ {S : Type 0} where
 
   -- one more was counted
   abbrev pub Counted : Me S Past → Me S Past → Type 0
-  Counted before after = (after ≡ (counting after.0.events, [])) × (posts_in after.0.events ≡ posts_in before.0.events + 1)
+  Counted before after = (after ≡ (counting after.0.counted, [])) × (posts_in after.0.counted ≡ posts_in before.0.counted + 1)
 
   -- a number was looked for: where it was found, the look is added behind so many posts
   abbrev pub LookedFor : ℕ → Me S Past → ℕ → Me S Past → Type 0
-  LookedFor number before found after = (found ≡ number → (after ≡ (looking after.0.events, [])) × Looked before.0.events after.0.events × (posts_in after.0.events ≡ number))
+  LookedFor number before found after = (found ≡ number → (after ≡ (looking after.0.looked, [])) × Looked before.0.looked after.0.looked × (posts_in after.0.looked ≡ number))
       × (found ≢ number → after ≡ before)
+
+  -- a view that does both knows all that happened
+  abbrev pub Met : Me S Past → Me S Past → Type 0
+  Met before after = (all : List Event) × (after ≡ (past true true all all, [])) × KnownBut posts_in before.0.counted all × KnownBut looks_in before.0.looked all

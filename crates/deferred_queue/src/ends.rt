@@ -5,7 +5,7 @@ ghost use Rattle.crossbeam_queue.specs.Passes.{view as knows, IsPassOf, ruled_ca
 ghost use Rattle.deferred_queue.specs.Ends.{IsNext, Posting, Taking};
 ghost use Rattle.br_model.specs.declared.limits.TheConstants.{MOST_CHANGES};
 ghost use Rattle.deferred_queue.specs.Rule.{posting, taking};
-ghost use Rattle.deferred_queue.specs.Tally.{counting, looking, posts_in, Looked, Watches};
+ghost use Rattle.deferred_queue.specs.Tally.{counting, looking, posts_in, looks_in, KnownBut, Looked, Watches};
 
 use crate::NoMemory;
 use crate::rule::{Both, Line, Mark, Posted, Taken, Total, TwoEnds, Whole};
@@ -35,13 +35,13 @@ pub struct Poster {
 impl Model for Poster {
     ghost Value = { Posting };
 
-    ghost view = { λ p. record { queue = p.mark.table_id; posted = (knows p.mark).posted } };
+    ghost view = { λ p. record { queue = (p.mark.table_id, p.watch.table_id); posted = (knows p.mark).posted } };
 
-    ghost invariant = { λ p. IsPassOf (arc_value p.queue).line p.mark × (knows p.mark ≡ posting (knows p.mark).posted) × (ruled_capacity (arc_value p.queue).line ≡ MOST_CHANGES) × Watches p.watch (arc_value p.queue).tally.table.shared.table_id (counting p.watch.me.0.events) × (posts_in p.watch.me.0.events ≡ length (knows p.mark).posted) × (p.count ≡ length (knows p.mark).posted) };
+    ghost invariant = { λ p. IsPassOf (arc_value p.queue).line p.mark × (knows p.mark ≡ posting (knows p.mark).posted) × (ruled_capacity (arc_value p.queue).line ≡ MOST_CHANGES) × Watches p.watch (arc_value p.queue).tally.table.shared.table_id (counting p.watch.me.0.counted) × (posts_in p.watch.me.0.counted ≡ length (knows p.mark).posted) × (p.count ≡ length (knows p.mark).posted) };
 }
 
 /// The taking end. Contracts see which queue it is of, all that was taken, what is known to come next, and what had happened when
-/// it last found nothing.
+/// it last found nothing or was told.
 #[derive(Drop)]
 pub struct Taker {
     queue: Arc<Queue, Global>,
@@ -53,9 +53,9 @@ pub struct Taker {
 impl Model for Taker {
     ghost Value = { Taking };
 
-    ghost view = { λ t. record { queue = t.mark.table_id; taken = (knows t.mark).taken; ahead = (knows t.mark).ahead; past = t.watch.me.0.events } };
+    ghost view = { λ t. record { queue = (t.mark.table_id, t.watch.table_id); taken = (knows t.mark).taken; ahead = (knows t.mark).ahead; past = t.watch.me.0.looked } };
 
-    ghost invariant = { λ t. IsPassOf (arc_value t.queue).line t.mark × (knows t.mark ≡ taking (knows t.mark).taken (knows t.mark).ahead) × Watches t.watch (arc_value t.queue).tally.table.shared.table_id (looking t.watch.me.0.events) × (t.count ≡ length (knows t.mark).taken) };
+    ghost invariant = { λ t. IsPassOf (arc_value t.queue).line t.mark × (knows t.mark ≡ taking (knows t.mark).taken (knows t.mark).ahead) × Watches t.watch (arc_value t.queue).tally.table.shared.table_id (looking t.watch.me.0.looked) × (t.count ≡ length (knows t.mark).taken) };
 }
 
 /// The two ends of a queue that has room for as many updates as a run can have: one for each of its changes.
@@ -105,14 +105,18 @@ impl Poster {
         self.count
     }
 
-    /// Tells the taker of this queue all that was posted: what was taken, followed by what lies ahead of the taker, is just that.
+    /// Tells the taker of this queue all that was posted: what was taken, followed by what lies ahead of the taker, is just that. The
+    /// taker's past has just these posts then, and a `take` that answers `None` looks behind them: so they had all been taken.
     pub fn tell(&mut self, taker: &mut Taker)
         requires { taker.old.queue ≡ self.old.queue }
         ensures poster { self.new ≡ self.old }
-        ensures taker { taker.new ≡ record taker.old { ahead = taker.new.ahead } }
+        ensures taker { taker.new ≡ record taker.old { ahead = taker.new.ahead; past = taker.new.past } }
         ensures ahead { self.old.posted ≡ taker.old.taken ++ taker.new.ahead }
+        ensures past { KnownBut looks_in taker.old.past taker.new.past × (posts_in taker.new.past ≡ length self.old.posted) }
     {
-        let line: &Line = &self.queue.line;
+        let queue: &Queue = &self.queue;
+        queue.tally.tell(&mut self.watch, &mut taker.watch);
+        let line = &queue.line;
         let theirs = line.another::<Whole>(&mut taker.mark);
         line.absorb::<Both>(&mut self.mark, theirs);
         line.learn_as::<Total>(&mut self.mark);

@@ -1,10 +1,10 @@
 //! How many updates were counted as posted: one number that both ends step on, and its rule, which exists in proofs alone.
 ghost use Rattle.std.specs.Prelude.{◌≡◌, ◌+◌, ◌≤◌, [], IfOk};
 ghost use Rattle.std.specs.Bool.{OnTrue, OnFalse};
-ghost use Rattle.deferred_queue.specs.Tally.{counting, looking, posts_in, Looked, Watches};
+ghost use Rattle.deferred_queue.specs.Tally.{counting, looking, posts_in, looks_in, KnownBut, Looked, Watches};
 
 use crate::NoMemory;
-use atomic_table::{Play, Seat, Split, Table, TableRule};
+use atomic_table::{Join, Play, Seat, Split, Table, TableRule};
 use std::alloc::Global;
 use std::collections::LinkedList;
 
@@ -14,11 +14,13 @@ pub enum Event {
     Look,
 }
 
-/// What a view may do, and all that happened up to its own last step. No value of it is made.
+/// What a view may do, and all that happened up to its own last step: the last that counted, the last that looked. No value of it
+/// is made.
 pub struct Past {
     pub posts: bool,
     pub takes: bool,
-    pub events: LinkedList<Event>,
+    pub counted: LinkedList<Event>,
+    pub looked: LinkedList<Event>,
 }
 
 pub(crate) struct InTurn;
@@ -29,7 +31,7 @@ impl TableRule<(), Past, ()> for InTurn {
 
     ghost holds = { λ _. Kept };
 
-    ghost first = { λ _. past true true [] };
+    ghost first = { λ _. past true true [] [] };
 }
 
 /// A view that does both is cut in two.
@@ -38,9 +40,32 @@ struct TwoViews;
 impl Split<Past> for TwoViews {
     ghost use Rattle.deferred_queue.specs.Tally.{counting, looking};
 
-    ghost left = { λ v. counting v.events };
+    ghost left = { λ v. counting v.counted };
 
-    ghost right = { λ v. looking v.events };
+    ghost right = { λ v. looking v.looked };
+}
+
+/// A view leaves all that it has to a new one.
+struct WholeView;
+
+impl Split<Past> for WholeView {
+    ghost use Rattle.deferred_queue.specs.Tally.{spent};
+
+    ghost left = { λ _. spent };
+
+    ghost right = { λ v. v };
+}
+
+/// The view that counts takes in the one that looks.
+struct BothViews;
+
+impl Join<Past> for BothViews {
+    ghost use Rattle.std.specs.Prelude.{true};
+    ghost use Rattle.deferred_queue.specs.Tally.{past, spent};
+
+    ghost both = { λ v w. past true true v.counted w.looked };
+
+    ghost spent = { spent };
 }
 
 struct Counts;
@@ -57,6 +82,14 @@ impl Play<(), Past> for Looks {
     ghost use Rattle.deferred_queue.specs.Tally.{LookedFor};
 
     ghost then = { λ step before found after. LookedFor step.first before found after };
+}
+
+struct Meets;
+
+impl Play<(), Past> for Meets {
+    ghost use Rattle.deferred_queue.specs.Tally.{Met};
+
+    ghost then = { λ _ before _ after. Met before after };
 }
 
 /// A view of the number. It has no bytes.
@@ -81,23 +114,38 @@ impl Tally {
 
     /// Counts one more, which makes `number`.
     pub(crate) fn count(&self, watch: &mut Watch, number: u64)
-        requires watch { Watches watch.old self.now.table.shared.table_id (counting watch.old.me.0.events) }
-        requires next { number ≡ posts_in watch.old.me.0.events + 1 }
-        ensures watch { Watches watch.new self.now.table.shared.table_id (counting watch.new.me.0.events) }
-        ensures counted { posts_in watch.new.me.0.events ≡ number }
+        requires watch { Watches watch.old self.now.table.shared.table_id (counting watch.old.me.0.counted) }
+        requires next { number ≡ posts_in watch.old.me.0.counted + 1 }
+        ensures watch { Watches watch.new self.now.table.shared.table_id (counting watch.new.me.0.counted) }
+        ensures counted { posts_in watch.new.me.0.counted ≡ number }
     {
         self.table.shared.store::<Counts>(watch, 0, number);
     }
 
     /// Whether at most so many were counted, at a step that the view then keeps.
     pub(crate) fn is_at_most(&self, watch: &mut Watch, most: u64) -> bool
-        requires { Watches watch.old self.now.table.shared.table_id (looking watch.old.me.0.events) }
-        ensures watch { Watches watch.new self.now.table.shared.table_id (looking watch.new.me.0.events) }
-        ensures yes { OnTrue result (Looked watch.old.me.0.events watch.new.me.0.events × (posts_in watch.new.me.0.events ≤ most)) }
+        requires { Watches watch.old self.now.table.shared.table_id (looking watch.old.me.0.looked) }
+        ensures watch { Watches watch.new self.now.table.shared.table_id (looking watch.new.me.0.looked) }
+        ensures yes { OnTrue result (Looked watch.old.me.0.looked watch.new.me.0.looked × (posts_in watch.new.me.0.looked ≤ most)) }
         ensures no { OnFalse result (watch.new.me ≡ watch.old.me) }
     {
         let shared = &self.table.shared;
         let found = shared.peek(0);
         found <= most && shared.compare_exchange::<Looks>(watch, 0, found, found) == found
+    }
+    /// Tells the view that looks all that was counted.
+    pub(crate) fn tell(&self, watch: &mut Watch, theirs: &mut Watch)
+        requires watch { Watches watch.old self.now.table.shared.table_id (counting watch.old.me.0.counted) }
+        requires theirs { Watches theirs.old self.now.table.shared.table_id (looking theirs.old.me.0.looked) }
+        ensures watch { Watches watch.new self.now.table.shared.table_id (counting watch.new.me.0.counted) }
+        ensures theirs { Watches theirs.new self.now.table.shared.table_id (looking theirs.new.me.0.looked) }
+        ensures counted { posts_in watch.new.me.0.counted ≡ posts_in watch.old.me.0.counted }
+        ensures told { KnownBut looks_in theirs.old.me.0.looked theirs.new.me.0.looked × (posts_in theirs.new.me.0.looked ≡ posts_in watch.old.me.0.counted) }
+    {
+        let shared = &self.table.shared;
+        let whole = shared.split_seat::<WholeView>(theirs);
+        shared.join_seat::<BothViews>(watch, whole);
+        shared.load::<Meets>(watch, 0);
+        *theirs = shared.split_seat::<TwoViews>(watch);
     }
 }

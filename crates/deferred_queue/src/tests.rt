@@ -1,5 +1,7 @@
 //! Two threads at the two ends.
-ghost use Rattle.std.specs.Prelude.{◌≡◌, []};
+ghost use Rattle.std.specs.Prelude.{◌≡◌, ◌≤◌, [], length};
+ghost use Rattle.std.specs.Bool.{OnTrue};
+ghost use Rattle.deferred_queue.specs.Tally.{posts_in};
 
 use crate::{Poster, Taker, make};
 use br_model::change::{Change, Update};
@@ -60,11 +62,38 @@ fn take_all<R: Wait>(rt: &R, mut taker: Taker) -> (Taker, u32, bool) {
 }
 
 /// Whether the next update is there, and is the one with this ticket.
-fn takes<R: Wait>(rt: &R, taker: &mut Taker, ticket: u32) -> bool {
+fn takes<R: Wait>(rt: &R, taker: &mut Taker, ticket: u32) -> bool
+    ensures { taker.new.queue ≡ taker.old.queue }
+{
     match taker.take(rt) {
         Some(update) => is_update(&update, ticket),
         None => false,
     }
+}
+
+/// Takes until nothing is found, so all that the taker had been told of was taken. `false` after as many takes as tell nothing.
+#[tactic(auto, using(crate::proofs::Counts::sees))]
+fn takes_what_was_told<R: Wait>(rt: &R, taker: &mut Taker) -> bool
+    ensures queue { taker.new.queue ≡ taker.old.queue }
+    ensures taken { OnTrue result (posts_in taker.old.past ≤ length taker.new.taken) }
+{
+    for _ in 0..=MANY {
+        if taker.take(rt).is_none() {
+            return true;
+        }
+    }
+    false
+}
+
+/// Takes all that is left. That it then was all that was posted follows from the contracts alone.
+fn takes_all<R: Wait>(rt: &R, poster: &mut Poster, taker: &mut Taker) -> bool
+    requires { taker.old.queue ≡ poster.old.queue }
+    ensures { OnTrue result (taker.new.taken ≡ poster.old.posted) }
+{
+    poster.tell(taker);
+    let found_nothing = takes_what_was_told(rt, taker);
+    poster.tell(taker);
+    found_nothing
 }
 
 #[test]
@@ -93,5 +122,7 @@ fn what_was_told_is_taken(rt: HostRuntime) -> Result<(), Fail> {
     assert!(rt; takes(&rt, &mut taker, 0));
     assert!(rt; takes(&rt, &mut taker, 1));
     assert!(rt; !takes(&rt, &mut taker, 2));
+    poster.post(&rt, update(2));
+    assert!(rt; takes_all(&rt, &mut poster, &mut taker));
     Ok(())
 }

@@ -200,7 +200,7 @@ impl PortTables {
         self.vlans.member(port, vid)
     }
 
-    /// The VLANs of which the port is a member, ascending. It looks at each VLAN.
+    /// The VLANs of which the port is a member, ascending. It looks at no other.
     pub fn vids_of(&self, alloc: Global, port: Port) -> Result<Vids, NoMemory>
         ensures { IfOk result (λ vids. vids ≡ vids_of self.now.vlans port) }
     {

@@ -4,10 +4,10 @@ use br_model::numbers::{Dom, Port};
 use port_sets::Ports;
 use std::test::Fail;
 
-/// The host and port 3 are software's, ports 1 and 2 the chip's, port 63 too, and port 4 isn't declared.
+/// The host and port 3 are software's, ports 1 and 2 are on one chip, ports 5 and 63 on another, and port 4 isn't declared.
 fn declared() -> Result<Domains, Fail> {
     let mut domains = Domains::make();
-    for (number, domain) in [(1, 1), (2, 1), (3, 0), (63, 1)] {
+    for (number, domain) in [(1, 1), (2, 1), (3, 0), (5, 4), (63, 4)] {
         let port = Port::new(number).ok_or("port")?;
         let dom = Dom::new(domain).ok_or("domain")?;
         if !port.is_host() {
@@ -24,6 +24,9 @@ fn software_leaves_out_the_domain_of_the_mark(rt: HostRuntime) -> Result<(), Fai
     let chip = Some(Mark {
         dom: Dom::new(1).ok_or("domain")?,
     });
+    let other = Some(Mark {
+        dom: Dom::new(4).ok_or("domain")?,
+    });
     let software = Some(Mark { dom: Dom::SOFTWARE });
     let last = 1 << 63;
     let rows = [
@@ -32,8 +35,9 @@ fn software_leaves_out_the_domain_of_the_mark(rt: HostRuntime) -> Result<(), Fai
         (0b11111, software, 0b10110),
         (0b00110, chip, 0),
         (0b11000, chip, 0b11000),
-        (last | 0b01100, chip, 0b01000),
-        (last | 0b01100, software, last | 0b00100),
+        (last | 0b101100, chip, last | 0b101000),
+        (last | 0b101100, other, 0b001100),
+        (last | 0b101100, software, last | 0b100100),
         (0, chip, 0),
     ];
     for (ports, mark, left) in rows {

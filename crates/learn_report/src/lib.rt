@@ -2,6 +2,7 @@
 #![tactic(auto)]
 
 pub mod reports;
+mod waiting;
 
 pub use br_model::NoMemory;
 pub use reports::{Report, Reports};

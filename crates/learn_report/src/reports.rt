@@ -5,6 +5,7 @@ ghost use Rattle.br_model.specs.Table.Limits.{most_reports};
 ghost use Rattle.learn_report.specs.Reports.{is_waiting};
 
 use crate::NoMemory;
+use crate::waiting::{Waiting, number_of};
 use br_model::limits::MOST_REPORTS;
 use br_model::numbers::{Mac, Port, Vid};
 use std::alloc::Global;
@@ -19,6 +20,8 @@ pub type Report = (Vid, Mac, Port);
 pub struct Reports {
     // The oldest first. It has its room from the beginning.
     ring: VecDeque<Report>,
+    // The numbers of those in the ring.
+    waiting: Waiting,
     // The numbers of a VLAN and an address each.
     hits: HashSet<(u16, u64)>,
 }
@@ -29,12 +32,13 @@ impl Model for Reports {
     ghost use Rattle.br_model.specs.Table.Limits.{most_reports};
     ghost use Rattle.learn_report.specs.Reports.{Reported};
     ghost use Rattle.learn_report.specs.Hits.{ascending};
+    ghost use Rattle.learn_report.specs.Index.{IsIndex};
 
     ghost Value = { Reported };
 
     ghost view = { λ r. record { reports = r.ring.items; hits = ascending r.hits.keys } };
 
-    ghost invariant = { λ r. most_reports ≤ deque_capacity r.ring };
+    ghost invariant = { λ r. (most_reports ≤ deque_capacity r.ring) × IsIndex r.ring.items r.waiting };
 }
 
 impl Reports {
@@ -43,19 +47,24 @@ impl Reports {
         ensures { IfOk result (λ r. r ≡ record { reports = []; hits = [] }) }
     {
         let ring = VecDeque::with_capacity(alloc, MOST_REPORTS)?;
+        let waiting = Waiting::make(alloc)?;
         Ok(Reports {
             ring,
+            waiting,
             hits: HashSet::new(alloc),
         })
     }
 
-    /// Keeps a report. `false` exactly where the ring is full or an equal report waits.
+    /// Keeps a report. `false` exactly where the ring is full or an equal report waits. It doesn't walk the ring.
     pub fn offer(&mut self, v: Vid, m: Mac, p: Port) -> bool
         ensures value { result ≡ (nat_lt (length self.old.reports) most_reports && not (is_waiting self.old.reports (v, m, p))) }
         ensures kept { self.new ≡ record self.old { reports = if result then self.old.reports ++ (v, m, p) ∷ [] else self.old.reports } }
     {
         let report = (v, m, p);
-        if self.ring.len() >= MOST_REPORTS || self.ring.contains(&report) {
+        if self.ring.len() >= MOST_REPORTS {
+            return false;
+        }
+        if !self.waiting.put(number_of(&report)) {
             return false;
         }
         self.ring.push_back_reserved(report);
@@ -67,7 +76,9 @@ impl Reports {
         ensures oldest { result ≡ slice_get self.old.reports 0 }
         ensures rest { self.new ≡ record self.old { reports = drop 1 self.old.reports } }
     {
-        self.ring.pop_front()
+        let report = self.ring.pop_front()?;
+        self.waiting.take(number_of(&report));
+        Some(report)
     }
 
     /// The oldest report, which stays.

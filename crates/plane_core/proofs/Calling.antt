@@ -1,7 +1,8 @@
 -- What a call of a plane comes to, by what its sides and its frames come to.
-use Rattle.std.proofs.Common.{◌≡◌, ℕ, ◌+◌, ◌==◌, ◌≤◌, nat_le, Bool, true, false, cond, ◌&&◌, not, List, [], ◌∷◌, length, take, drop, slice_get, Option, None, Some, refl, sym, ap, ◌∙◌, subst, arith}
+use Rattle.std.proofs.Common.{◌≡◌, ℕ, ◌+◌, ◌==◌, ◌≤◌, nat_le, true, false, cond, ◌&&◌, not, List, [], ◌∷◌, length, take, drop, slice_get, Option, None, Some, option_map, refl, sym, ap, ◌∙◌, subst, arith}
 use Rattle.std.proofs.lemmas.Bool.{eqb-true}
-use Rattle.std.specs.List.{filter, find}
+use Rattle.std.specs.Option.{is_some}
+use Rattle.std.specs.List.{filter, find, list_any}
 use Rattle.std.specs.Ordering.{nat_cmp}
 use Rattle.br_model.specs.declared.change.Change.{Change}
 use Rattle.br_model.specs.declared.steps.Event.{Event}
@@ -9,18 +10,24 @@ use Rattle.br_model.specs.declared.steps.Event.TheVariants as events
 use Rattle.br_model.specs.declared.steps.Refusal.TheVariants.{NothingPending, NoSuchPoint}
 use Rattle.br_model.specs.declared.transcript.Line.{Line}
 use Rattle.br_model.specs.declared.transcript.Line.TheVariants as lines
-use Rattle.br_model.specs.Plane.Chip.{applies}
-use Rattle.br_model.specs.Table.Cut.{deferred_at}
-use Rattle.br_model.specs.Table.Domains.{chip}
+use Rattle.br_model.specs.declared.change.Update.{Update}
+use Rattle.br_model.specs.Plane.Chip.{Chip, applies, chip_in, put_chip}
+use Rattle.br_model.specs.Table.Change.{updates}
+use Rattle.br_model.specs.Table.Cut.{deferred_at, under_ticket}
 use Rattle.br_model.specs.Data.Maps.{has}
 use Rattle.br_model.specs.Wire.Messages.{message}
-use Rattle.br_model.specs.Plane.ChipSteps.{turns_to}
+use Rattle.br_model.specs.declared.frame.Head.{Head}
+use Rattle.br_model.specs.Table.Domains.{domain_of, has_chip}
+use Rattle.br_model.specs.Plane.Entering.{chip_of}
+use Rattle.chip_pipeline.specs.Passed.{Passed, IsPass}
+use Rattle.br_model.proofs.PlaneChips.{chip-there}
+use Rattle.br_model.specs.Plane.ChipSteps.{turns, turns_to}
 use Rattle.br_model.specs.Theorems.Invariants.{IsWorld}
 use Rattle.br_model.specs.Plane.Serving.{posts, serves, holds, held_with, lets_go, is_point, posts_at}
 use Rattle.br_model.specs.declared.steps.Step.{Step}
 use Rattle.br_model.specs.declared.steps.Step.TheVariants.{Cmd, Now, Serve, Hold, Post, Turn, Publish}
 use Rattle.br_model.specs.Plane.Steps.{publishes, does, world_step}
-use Rattle.br_model.specs.Plane.World.{World, Waiting, Holding, Stepped, answered, reacts, refused, done}
+use Rattle.br_model.specs.Plane.World.{World, Waiting, Holding, Stepped, answered, chip_at, reacts, refused, done, table_of_chip}
 use Rattle.br_model.specs.Table.Setup.{Setup}
 use Rattle.br_model.specs.Table.Table.{table}
 use Rattle.table_publish.specs.Board.{Decides}
@@ -28,10 +35,11 @@ use Rattle.table_publish.specs.Object.{Whose}
 use Rattle.table_publish.specs.declared.seat.Seen.{Seen}
 use Rattle.plane_core.specs.Shown.{shown_by, shown_of}
 use Rattle.plane_core.specs.declared.held.Held.{Held}
+use Rattle.br_model.proofs.Cuts.{updates-at, updates-named}
 use Rattle.br_model.proofs.PlaneKept.{first-world, step-world}
-use Rattle.plane_core.specs.Planes.{PlaneState, Steps, IsDecision, IsNamed}
+use Rattle.plane_core.specs.Planes.{PlaneState, Steps, IsDecision, IsNamed, IsPassOf, next_ticket}
 use Rattle.plane_core.specs.Queued.{Queued, holds_oldest}
-use Rattle.plane_core.specs.Sides.{SidesState, Comes, SideTurns, first_sides, world_of}
+use Rattle.plane_core.specs.Sides.{SidesState, Comes, first_sides, world_of}
 use Rattle.plane_core.proofs.Stepping.{stepped}
 
 -- after a step that comes to these sides and frames
@@ -135,15 +143,34 @@ posts_one old s t q r n m h x f seen lines was found shown same floor is comes l
     let sends : Comes (λ w. posts w x.waiting seen.point) s m t lines = subst (λ (g : Waiting). Comes (λ w. posts w g seen.point) s m t lines) same comes in
     posts_found s t q h.id seen.point x m lines found by.point (omega arith) sends ∙ ap (λ (y : Queued). (world_of t y m, lines)) (sym left)
 
--- The chip turns; all is published.
+-- A chip turns; all is published.
 
-pub stands_turned : (s t : SidesState) (q : Queued) (n m : ℕ) (o : Option Change) (more : Bool) → m ≡ n + 1 → deferred_at s.history s.chip.count ≡ o → SideTurns s t o more
-    → IsWorld (world_of s q n) → IsWorld (world_of t q m)
-stands_turned s t q n m None more e at h k =
-    subst (λ (x : SidesState). IsWorld (world_of x q m)) (sym h.1) (stands_after s s q q n m (Turn chip) (lines.Refused m NothingPending ∷ []) e (ap (turns_to (world_of s q m) s.chip) at) k)
-stands_turned s t q n m (Some d) more e at h k =
-    let now : SidesState = record s { chip = applies s.chip d } in
-    subst (λ (x : SidesState). IsWorld (world_of x q m)) (sym h.1) (stands_after s now q q n m (Turn chip) (lines.Done m 0 ∷ []) e (ap (turns_to (world_of s q m) s.chip) at) k)
+-- none is pending
+pub turns_none : (s : SidesState) (q : Queued) (dom m : ℕ) (c : Chip) → chip_in s.chips dom ≡ Some c → slice_get (updates s.setup.domains.edition s.history) c.count ≡ None
+    → does (world_of s q m) (Turn dom) ≡ (world_of s q m, lines.Refused m NothingPending ∷ [])
+turns_none s q dom m c found none =
+    ap (turns (world_of s q m)) found ∙ ap (turns_to (world_of s q m) c) (by (deferred_at s.setup.domains.edition s.history c.count) (sym (updates-at s.setup.domains.edition s.history c.count) ∙ none))
+  where
+    by : (o : Option Change) → option_map (under_ticket c.count) o ≡ None → o ≡ None
+    by None e = refl
+    by (Some d) e = absurd (cc)
+
+-- this one is
+pub turns_one : (s t : SidesState) (q : Queued) (dom m : ℕ) (c : Chip) (u : Update) → chip_in s.chips dom ≡ Some c → slice_get (updates s.setup.domains.edition s.history) c.count ≡ Some u
+    → t ≡ record s { chips = put_chip s.chips (applies c u.change) } → does (world_of s q m) (Turn dom) ≡ (world_of t q m, lines.Done m 0 ∷ [])
+turns_one s t q dom m c u found next is =
+    ap (turns (world_of s q m)) found ∙ ap (turns_to (world_of s q m) c) (updates-named s.setup.domains.edition s.history c.count u next).1
+    ∙ ap (λ (x : SidesState). (world_of x q m, lines.Done m 0 ∷ [])) (sym is)
+
+-- the ticket of the change that waits for the chip
+pub waits_for : (s : SidesState) (q : Queued) (n dom : ℕ) (c : Chip) (o : Option Update) → chip_in s.chips dom ≡ Some c → slice_get (updates s.setup.domains.edition s.history) c.count ≡ o
+    → next_ticket (world_of s q n) (chip_at (world_of s q n) dom) ≡ option_map (λ u. u.ticket) o
+waits_for s q n dom c o found is =
+    ap (next_ticket (world_of s q n)) found ∙ by (deferred_at s.setup.domains.edition s.history c.count) ∙ ap (option_map (λ (u : Update). u.ticket)) (sym (updates-at s.setup.domains.edition s.history c.count) ∙ is)
+  where
+    by : (d : Option Change) → option_map (λ x. c.count) d ≡ option_map (λ (u : Update). u.ticket) (option_map (under_ticket c.count) d)
+    by None = refl
+    by (Some d) = refl
 
 pub publishes_all : (s t : SidesState) (q : Queued) (m : ℕ) → publishes (world_of s q m) (length s.history) ≡ world_of t q m → does (world_of s q m) Publish ≡ (world_of t q m, lines.Done m 0 ∷ [])
 publishes_all s t q m h = ap (λ (w : World). done w) h
@@ -156,3 +183,17 @@ steps_so old s t q r n m step told lines was e h same board =
       world = subst (λ i. does (world_of s q i) step ≡ (world_of t r m, lines)) e h ∙ ap (λ ls. (world_of t r m, ls)) (sym same);
       board = board;
     })
+
+-- the pass of a frame that the chip of its port's domain decided
+pub passes_by : (w : World) (port dom : ℕ) (bytes : List ℕ) (head : Head) (p : Passed) → domain_of w.setup.domains port ≡ Some dom → is_some (chip_at w dom) ≡ true
+    → ((c : Chip) → chip_at w dom ≡ Some c → IsPass w.setup.domains (table_of_chip w c) port head (message bytes head) p)
+    → IsPassOf w (chip_of w (domain_of w.setup.domains port)) port bytes head (Some p)
+passes_by w port dom bytes head p on there passes = subst (λ o. IsPassOf w (chip_of w o) port bytes head (Some p)) (sym on) (by (chip_at w dom) there passes)
+  where
+    by : (o : Option Chip) → is_some o ≡ true → ((c : Chip) → o ≡ Some c → IsPass w.setup.domains (table_of_chip w c) port head (message bytes head) p) → IsPassOf w o port bytes head (Some p)
+    by None e f = absurd (cc)
+    by (Some c) e f = (p, refl, f c refl)
+
+-- the domain has a chip in a world that stands
+pub chip_there : (w : World) (dom : ℕ) → IsWorld w → has_chip w.setup.domains dom ≡ true → is_some (chip_at w dom) ≡ true
+chip_there w dom k has = chip-there w.chips dom ∙ ap (list_any (λ d. d == dom)) k.doms ∙ has

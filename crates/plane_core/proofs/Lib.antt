@@ -4,10 +4,13 @@ pub mod HeldRows
 pub mod Keeping
 pub mod Leaving
 pub mod Placing
+pub mod Telling
 pub mod Following
 pub mod Noting
 pub mod Sweeping
+pub mod ChipLists
 pub mod Reacting
+pub mod Changing
 pub mod Stepping
 pub mod Calling
 pub mod Entering

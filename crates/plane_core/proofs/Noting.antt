@@ -19,14 +19,14 @@ same_waiting [] x = refl
 same_waiting (y ∷ ys) x = ap₂ ◌||◌ (same_test x y) (same_waiting ys x)
 
 -- an offer that is kept, or not
-pub offered_as : (n : ℕ) (r : Reported) (x : Triple) (kept : Bool) → kept ≡ (nat_lt (length r.reports) most_reports && not (is_waiting r.reports x))
-    → chip_of n (record r { reports = cond kept (r.reports ++ x ∷ []) r.reports }) ≡ offered (chip_of n r) x
-offered_as n r x kept is =
-    ap (λ b. chip_of n (record r { reports = cond b (r.reports ++ x ∷ []) r.reports })) is
+pub offered_as : (dom n : ℕ) (r : Reported) (x : Triple) (kept : Bool) → kept ≡ (nat_lt (length r.reports) most_reports && not (is_waiting r.reports x))
+    → chip_of dom n (record r { reports = cond kept (r.reports ++ x ∷ []) r.reports }) ≡ offered (chip_of dom n r) x
+offered_as dom n r x kept is =
+    ap (λ b. chip_of dom n (record r { reports = cond b (r.reports ++ x ∷ []) r.reports })) is
     ∙ by (nat_lt (length r.reports) most_reports) (is_waiting r.reports x)
-    ∙ ap (λ b. cond (b || not (nat_lt (length r.reports) most_reports)) (chip_of n r) (record (chip_of n r) { reports = r.reports ++ x ∷ [] })) (sym (same_waiting r.reports x))
+    ∙ ap (λ b. cond (b || not (nat_lt (length r.reports) most_reports)) (chip_of dom n r) (record (chip_of dom n r) { reports = r.reports ++ x ∷ [] })) (sym (same_waiting r.reports x))
   where
-    by : (room waits : Bool) → chip_of n (record r { reports = cond (room && not waits) (r.reports ++ x ∷ []) r.reports }) ≡ cond (waits || not room) (chip_of n r) (record (chip_of n r) { reports = r.reports ++ x ∷ [] })
+    by : (room waits : Bool) → chip_of dom n (record r { reports = cond (room && not waits) (r.reports ++ x ∷ []) r.reports }) ≡ cond (waits || not room) (chip_of dom n r) (record (chip_of dom n r) { reports = r.reports ++ x ∷ [] })
     by true true = refl
     by true false = refl
     by false true = refl
@@ -43,3 +43,19 @@ either_order c port (Some key) (Some e) =
         ≡ hits_entry (Some e) (cond b c (record c { reports = c.reports ++ (key.0, key.1, port) ∷ [] }))
     by true = refl
     by false = refl
+
+-- neither tells the domain, or what is applied
+kept_offer : (port : ℕ) (station : Option Address) (c : Chip) → ((offers port station c).dom ≡ c.dom) × ((offers port station c).count ≡ c.count)
+kept_offer port None c = (refl, refl)
+kept_offer port (Some key) c = by (list_any (same_triple (key.0, key.1, port)) c.reports || not (nat_lt (length c.reports) most_reports))
+  where
+    offer : Bool → Chip
+    offer b = cond b c (record c { reports = c.reports ++ (key.0, key.1, port) ∷ [] })
+
+    by : (b : Bool) → ((offer b).dom ≡ c.dom) × ((offer b).count ≡ c.count)
+    by true = (refl, refl)
+    by false = (refl, refl)
+
+pub kept_note : (port : ℕ) (station entry : Option Address) (c : Chip) → ((hits_entry entry (offers port station c)).dom ≡ c.dom) × ((hits_entry entry (offers port station c)).count ≡ c.count)
+kept_note port station None c = kept_offer port station c
+kept_note port station (Some key) c = kept_offer port station c

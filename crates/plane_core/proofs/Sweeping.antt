@@ -47,15 +47,15 @@ triple e = (e.0.0, e.0.1, e.1.port)
 
 module _ (d : Domains) (c : Chip) where
   abbrev pub at_key : Rows → Address → Option Triple
-  at_key rows k = unseen d c.hits k (address_at rows k.0 k.1)
+  at_key rows k = unseen d c.dom c.hits k (address_at rows k.0 k.1)
 
   abbrev passes : Address × AddressRow → Bool
-  passes e = is_unhit d c.hits e.0 e.1
+  passes e = is_unhit d c.dom c.hits e.0 e.1
 
   abbrev swept : Entries → List Triple
   swept es = map triple (filter passes es)
 
-  kept : (e : Address × AddressRow) (es : Entries) → cons_option (unseen d c.hits e.0 (Some e.1)) (swept es) ≡ swept (e ∷ es)
+  kept : (e : Address × AddressRow) (es : Entries) → cons_option (unseen d c.dom c.hits e.0 (Some e.1)) (swept es) ≡ swept (e ∷ es)
   kept e es = by (passes e)
     where
       by : (b : Bool) → cons_option (cond b (Some (triple e)) None) (swept es) ≡ map triple (cond b (e ∷ filter passes es) (filter passes es))
@@ -65,7 +65,7 @@ module _ (d : Domains) (c : Chip) where
   found : (rows : Rows) (es : Entries) → FindOwn rows.addresses es → filter_map (at_key rows) (keys es) ≡ swept es
   found rows [] own = refl
   found rows (e ∷ es) own =
-      ap (λ o. cons_option (unseen d c.hits e.0 o) (filter_map (at_key rows) (keys es))) own.0 ∙ ap (cons_option (unseen d c.hits e.0 (Some e.1))) (found rows es own.1) ∙ kept e es
+      ap (λ o. cons_option (unseen d c.dom c.hits e.0 o) (filter_map (at_key rows) (keys es))) own.0 ∙ ap (cons_option (unseen d c.dom c.hits e.0 (Some e.1))) (found rows es own.1) ∙ kept e es
 
   wanted : (t : Table) (es : List (Address × (ℕ × Kind))) → swept (map row_of es) ≡ unhit d (with_addresses t es) c
   wanted t [] = refl

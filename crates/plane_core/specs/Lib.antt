@@ -4,6 +4,7 @@ pub mod Arrivals
 pub mod Places
 pub mod Sent
 pub mod Chips
+pub mod Lending
 pub mod Sides
 pub mod Shown
 pub mod Planes

@@ -1,8 +1,8 @@
 -- What contracts see of a plane: its world, and the board over which it stands.
-use Rattle.std.specs.Prelude.{◌≡◌, ◌≢◌, ℕ, true, List, IfSome, take, MatchBool, ◌≤◌, ◌<◌, ◌^◌}
+use Rattle.std.specs.Prelude.{◌≡◌, ◌≢◌, ℕ, true, List, IfSome, take, ◌≤◌, ◌<◌, ◌^◌}
 use Rattle.std.specs.Ordering.{nat_cmp}
 use Rattle.br_model.specs.Data.Maps.{has}
-use Rattle.std.specs.Option.{is_some}
+use Rattle.std.specs.Option.{is_some, option_map}
 use Rattle.std.specs.declared.option.Option.{Option}
 use Rattle.std.specs.declared.option.Option.TheVariants.{None, Some}
 use Rattle.std.specs.declared.result.Result.{Result}
@@ -13,15 +13,15 @@ use Rattle.br_model.specs.declared.frame.Head.{Head}
 use Rattle.br_model.specs.declared.steps.Event.{Event}
 use Rattle.br_model.specs.declared.steps.Event.TheVariants as events
 use Rattle.br_model.specs.declared.transcript.Line.{Line}
-use Rattle.br_model.specs.Table.Cut.{deferred_at}
-use Rattle.br_model.specs.Table.DomainPorts.{is_in_domain}
-use Rattle.br_model.specs.Table.Domains.{chip}
+use Rattle.br_model.specs.Table.Domains.{domain_of}
 use Rattle.br_model.specs.Wire.Messages.{message}
+use Rattle.br_model.specs.Plane.Chip.{Chip}
+use Rattle.br_model.specs.Plane.Entering.{chip_of}
 use Rattle.br_model.specs.Plane.Serving.{held_with}
 use Rattle.br_model.specs.declared.steps.Step.{Step}
 use Rattle.br_model.specs.declared.steps.Step.TheVariants.{Cmd, Now, Post, Turn}
 use Rattle.br_model.specs.Plane.Steps.{world_step}
-use Rattle.br_model.specs.Plane.World.{World, Waiting, Holding, table_at, table_of_chip}
+use Rattle.br_model.specs.Plane.World.{World, Waiting, Holding, chip_at, next_of, table_at, table_of_chip}
 use Rattle.chip_pipeline.specs.Passed.{Passed, IsPass}
 use Rattle.table_publish.specs.Board.{Decides}
 use Rattle.table_publish.specs.Object.{Object, Whose}
@@ -72,20 +72,26 @@ Accepts old new (events.Forget stations) lines = ⊥
 abbrev pub arrival_in : World → Waiting → Arrival
 arrival_in w f = arrival (record { waiting = w.waiting; held = w.held; next = w.next }) f
 
--- The pass by which a frame at the port of these bytes was decided: none where the port isn't the chip's or the bytes are no
+-- whether this is the domain of the port, and has a chip; none where the port's domain has no chip, or it has no domain
+abbrev pub IsOnChip : World → ℕ → Option ℕ → Type 0
+IsOnChip w port None = chip_of w (domain_of w.setup.domains port) ≡ None
+IsOnChip w port (Some dom) = (domain_of w.setup.domains port ≡ Some dom) × (is_some (chip_at w dom) ≡ true)
+
+abbrev pub IsPassOf : World → Option Chip → ℕ → List ℕ → Head → Option Passed → Type 0
+IsPassOf w None port bytes head pass = pass ≡ None
+IsPassOf w (Some c) port bytes head pass = (p : Passed) × (pass ≡ Some p) × IsPass w.setup.domains (table_of_chip w c) port head (message bytes head) p
+
+-- The pass by which a frame at the port of these bytes was decided: none where the port isn't a chip's or the bytes are no
 -- frame.
 abbrev pub IsDecidedBy : World → ℕ → List ℕ → Result Head FrameFault → Option Passed → Type 0
 IsDecidedBy w port bytes (Err why) pass = pass ≡ None
-IsDecidedBy w port bytes (Ok head) pass =
-    MatchBool (is_in_domain w.setup.domains chip port)
-    ((p : Passed) × (pass ≡ Some p) × IsPass w.setup.domains (table_of_chip w) port head (message bytes head) p)
-    (pass ≡ None)
+IsDecidedBy w port bytes (Ok head) pass = IsPassOf w (chip_of w (domain_of w.setup.domains port)) port bytes head pass
 
--- what becomes of a frame at the port that the chip has put into this class
+-- what becomes of a frame at the port that the port's chip has put into this class
 abbrev pub arrival_by : Class → World → ℕ → List ℕ → Head → Arrival
 arrival_by Drop w port bytes head = PassesBy
 arrival_by Trap w port bytes head = arrival_in w (record { id = w.next; port = port; bytes = bytes; head = head; mark = None })
-arrival_by Copy w port bytes head = arrival_in w (record { id = w.next; port = port; bytes = bytes; head = head; mark = Some chip })
+arrival_by Copy w port bytes head = arrival_in w (record { id = w.next; port = port; bytes = bytes; head = head; mark = domain_of w.setup.domains port })
 arrival_by Forward w port bytes head = PassesBy
 
 -- A turn.
@@ -94,25 +100,26 @@ abbrev pub ticket_of : Option Update → Option ℕ
 ticket_of None = None
 ticket_of (Some u) = Some u.ticket
 
--- whether a deferred change waits for the chip
-abbrev pub IsPending : World → Type 0
-IsPending w = is_some (deferred_at w.history w.chip.count) ≡ true
+-- the ticket of the deferred change that waits for this chip, where one does: so many the chip has applied
+abbrev pub next_ticket : World → Option Chip → Option ℕ
+next_ticket w None = None
+next_ticket w (Some c) = option_map (λ d. c.count) (next_of w c)
 
 abbrev pub TurnsBy : PlaneState → PlaneState → ℕ → Option Update → List Line → Type 0
-TurnsBy old new dom update lines = Steps old new (Turn dom) lines × (IsPending old.world → ticket_of update ≡ Some old.world.chip.count)
+TurnsBy old new dom update lines = Steps old new (Turn dom) lines × IfSome (next_ticket old.world (chip_at old.world dom)) (λ ticket. ticket_of update ≡ Some ticket)
 
-abbrev pub NotTurned : PlaneState → PlaneState → Option Update → TurnFault → Type 0
-NotTurned old new update turns.NoMemory = new ≡ old
-NotTurned old new update (turns.OutOfTurn expected got) =
-    (new ≡ old) × IsPending old.world × (ticket_of update ≢ Some old.world.chip.count) × (expected ≡ old.world.chip.count) × (got ≡ ticket_of update)
+abbrev pub NotTurned : PlaneState → PlaneState → ℕ → Option Update → TurnFault → Type 0
+NotTurned old new dom update turns.NoMemory = new ≡ old
+NotTurned old new dom update (turns.OutOfTurn expected got) =
+    (new ≡ old) × (next_ticket old.world (chip_at old.world dom) ≡ Some expected) × (ticket_of update ≢ Some expected) × (got ≡ ticket_of update)
 
 abbrev pub Turned : PlaneState → PlaneState → ℕ → Option Update → Result Listed TurnFault → Type 0
 Turned old new dom update (Ok lines) = TurnsBy old new dom update lines.lines
-Turned old new dom update (Err why) = NotTurned old new update why
+Turned old new dom update (Err why) = NotTurned old new dom update why
 
 abbrev pub TurnedTo : PlaneState → PlaneState → ℕ → Option Update → List Line → List Line → Result (Unit {0}) TurnFault → Type 0
 TurnedTo old new dom update before after (Ok done) = Added (TurnsBy old new dom update) before after
-TurnedTo old new dom update before after (Err why) = NotTurned old new update why × (after ≡ before)
+TurnedTo old new dom update before after (Err why) = NotTurned old new dom update why × (after ≡ before)
 
 -- A post.
 

@@ -1,15 +1,13 @@
--- A bridge with the two copies of its table that follow it: the chip's, and the published one.
-use Rattle.std.specs.Prelude.{◌≡◌, ℕ, Bool, true, false, List, [], ◌++◌, length, IsErr}
+-- A bridge with the copies of its table that follow it: one of each chip, and the published one.
+use Rattle.std.specs.Prelude.{◌≡◌, ℕ, List, [], ◌++◌, length, IsErr}
 use Rattle.std.specs.declared.alloc.AllocError.{AllocError}
-use Rattle.std.specs.declared.option.Option.{Option}
-use Rattle.std.specs.declared.option.Option.TheVariants.{None, Some}
 use Rattle.std.specs.declared.result.Result.{Result}
 use Rattle.std.specs.declared.result.Result.TheVariants.{Ok, Err}
 use Rattle.br_model.specs.declared.change.Change.{Change}
 use Rattle.br_model.specs.declared.steps.Refusal.{Refusal}
 use Rattle.br_model.specs.declared.transcript.Line.{Line}
 use Rattle.br_model.specs.declared.transcript.Line.TheVariants as lines
-use Rattle.br_model.specs.Plane.Chip.{Chip, applies, chip_table, first_chip}
+use Rattle.br_model.specs.Plane.Chip.{Chip, first_chips}
 use Rattle.br_model.specs.Control.Control.{Control, first_control}
 use Rattle.br_model.specs.Plane.World.{World, Stepped, control_lines}
 use Rattle.br_model.specs.Control.Reaction.{Reaction}
@@ -20,14 +18,16 @@ use Rattle.bridge_core.specs.declared.faults.EventFault.TheVariants.{Refused, No
 use Rattle.bridge_core.specs.Kept.{Controlled}
 use Rattle.table_publish.specs.Board.{Shelf, all_of}
 use Rattle.table_publish.specs.Object.{Object, Whose, first_object}
-use Rattle.plane_core.specs.Chips.{ChipState, IsChip}
+use Rattle.plane_core.specs.Chips.{ChipState, AreChips}
+use Rattle.plane_core.specs.Places.{places}
 use Rattle.plane_core.specs.Queued.{Queued}
 
 pub record SidesState : Type 0 where
   pub setup : Setup
   pub history : List Change
   pub control : Control
-  pub chip : Chip
+  -- a chip for each domain that has one, ascending
+  pub chips : List Chip
   -- what is published, and over which board
   pub published : Object
   pub board : Whose
@@ -37,14 +37,15 @@ first_sides setup board = record {
   setup = setup;
   history = [];
   control = first_control setup.own;
-  chip = first_chip;
+  chips = first_chips setup.domains;
   published = first_object;
   board = board;
 }
 
--- The chip follows the bridge's history, and the board has it, published or not.
-pub record AreSides (bridge : Controlled) (chip : ChipState) (board : Shelf) : Type 0 where
-  pub follows : IsChip bridge.setup.domains bridge.history chip
+-- The chips follow the bridge's history, the places are those of its deferred changes, and the board has it, published or not.
+pub record AreSides (bridge : Controlled) (chips : List ChipState) (noted : List ℕ) (board : Shelf) : Type 0 where
+  pub follows : AreChips bridge.setup.domains bridge.history chips
+  pub places : noted ≡ places bridge.setup.domains.edition bridge.history
   pub whole : all_of board ≡ bridge.history
   pub domains : board.board.domains ≡ bridge.setup.domains
 
@@ -54,7 +55,7 @@ world_of s q steps = record {
   setup = s.setup;
   history = s.history;
   control = s.control;
-  chip = s.chip;
+  chips = s.chips;
   published = length s.published.changes;
   counts = s.published.counts;
   waiting = q.waiting;
@@ -63,18 +64,15 @@ world_of s q steps = record {
   steps = steps;
 }
 
--- the table by which the chip decides, and that by which software does
-abbrev pub chip_side : SidesState → Table
-chip_side s = chip_table s.history s.chip
-
+-- the table by which software decides
 abbrev pub soft_side : SidesState → Table
 soft_side s = table s.published.changes
 
--- The changes of the reaction were made, and are so many, the chip keeps this, and the lines of the messages were added; or
+-- The changes of the reaction were made, and are so many, the chips are these, and the lines of the messages were added; or
 -- nothing changed.
-abbrev pub Reacted : SidesState → SidesState → Chip → List Line → List Line → Result ℕ EventFault → Result Reaction Refusal → Type 0
+abbrev pub Reacted : SidesState → SidesState → List Chip → List Line → List Line → Result ℕ EventFault → Result Reaction Refusal → Type 0
 Reacted old new kept before after (Ok changes) answer =
-    (r : Reaction) × (answer ≡ Ok r) × (changes ≡ length r.changes) × (new ≡ record old { history = old.history ++ r.changes; control = r.control; chip = kept })
+    (r : Reaction) × (answer ≡ Ok r) × (changes ≡ length r.changes) × (new ≡ record old { history = old.history ++ r.changes; control = r.control; chips = kept })
     × (after ≡ before ++ control_lines old.setup.own r.messages)
 Reacted old new kept before after (Err (Refused why)) answer = (answer ≡ Err why) × (new ≡ old) × (after ≡ before)
 Reacted old new kept before after (Err NoMemory) answer = (new ≡ old) × (after ≡ before)
@@ -84,11 +82,6 @@ abbrev pub Lasts : ℕ → Result ℕ EventFault → Result Line AllocError → 
 Lasts step (Ok changes) last = last ≡ Ok (lines.Done step changes)
 Lasts step (Err (Refused why)) last = last ≡ Ok (lines.Refused step why)
 Lasts step (Err NoMemory) last = IsErr last
-
--- The chip applied the change that was pending, where one was.
-abbrev pub SideTurns : SidesState → SidesState → Option Change → Bool → Type 0
-SideTurns old new None more = (more ≡ false) × (new ≡ old)
-SideTurns old new (Some d) more = (more ≡ true) × (new ≡ record old { chip = applies old.chip d })
 
 -- Whichever frames there are, what is done in a world that has counted this step comes to these sides and these lines.
 abbrev pub Comes : (World → Stepped) → SidesState → ℕ → SidesState → List Line → Type 0

@@ -1,7 +1,8 @@
-//! The core of a bridge with a switch chip: the kernel's side and the chip together, one step of the world a call.
+//! The core of a bridge with switch chips: the kernel's side and the chips together, one step of the world a call.
 #![tactic(auto)]
 
 mod chip;
+mod chips;
 mod faults;
 mod frame;
 mod frames;

@@ -1,28 +1,28 @@
-//! The kernel's side of a bridge and its chip together: each call is one step of the world.
-ghost use Rattle.std.specs.Prelude.{◌≡◌, ℕ, List, ◌+◌, ◌<◌, ◌≤◌, ◌^◌, [], ◌∷◌, length, slice_get, true, false, None, Ok, IfOk, IfSome, IsSome, OnErr, OnOk};
+//! The kernel's side of a bridge and its chips together: each call is one step of the world.
+ghost use Rattle.std.specs.Prelude.{◌≡◌, ℕ, List, ◌+◌, ◌<◌, ◌≤◌, ◌^◌, [], ◌∷◌, length, slice_get, true, false, None, Ok, Some, is_some, IfOk, IfSome, IsSome, OnErr, OnOk};
 ghost use Rattle.std.specs.Option.{option_map};
 ghost use Rattle.br_model.specs.declared.transcript.Line.TheVariants as line;
-ghost use Rattle.br_model.specs.Table.DomainPorts.{is_in_domain};
 ghost use Rattle.chip_pipeline.specs.Passed.{IsPass};
 ghost use Rattle.table_publish.specs.declared.seat.Seen.{Seen as SeenValue};
 ghost use Rattle.br_model.specs.Table.Change.{updates};
-ghost use Rattle.br_model.specs.Table.Domains.{chip};
+ghost use Rattle.br_model.specs.Table.Domains.{domain_of, has_chip};
 ghost use Rattle.br_model.specs.Wire.Frames.{frame as frame_of};
 ghost use Rattle.br_model.specs.Wire.Messages.{message as message_of};
 ghost use Rattle.br_model.specs.Theorems.Invariants.{IsWorld};
-ghost use Rattle.br_model.specs.Plane.Runs.{pending};
+ghost use Rattle.br_model.specs.Plane.Chip.{Chip as ChipValue};
+ghost use Rattle.br_model.specs.Plane.Entering.{chip_of};
+ghost use Rattle.br_model.specs.Plane.Runs.{pending, pending_of};
 ghost use Rattle.br_model.specs.Plane.Serving.{held_with};
 ghost use Rattle.br_model.specs.declared.steps.Step.TheVariants.{Rx, Serve, Hold, Publish, Report, Sweep};
 ghost use Rattle.br_model.specs.Plane.Steps.{world_step};
-ghost use Rattle.br_model.specs.Plane.World.{Holding as HoldingOf, first_world, table_of_chip};
+ghost use Rattle.br_model.specs.Plane.World.{Holding as HoldingOf, chip_at, first_world, table_of_chip};
 ghost use Rattle.table_publish.specs.Object.{Begins, IsPublished, first_object};
-ghost use Rattle.plane_core.specs.Planes.{Accepts, IsCopy, IsDecidedBy, IsDecision, IsNamed, Posted, PostedTo, Steps, Turned, TurnedTo, arrival_by, published_in, ticket_of};
+ghost use Rattle.plane_core.specs.Planes.{Accepts, IsCopy, IsDecidedBy, IsDecision, IsNamed, IsOnChip, Posted, PostedTo, Steps, Turned, TurnedTo, arrival_by, published_in, ticket_of};
 ghost use Rattle.plane_core.specs.Added.{Added};
 ghost use Rattle.plane_core.specs.Seats.{IsTold, Looks};
 ghost use Rattle.plane_core.specs.Shown.{opened, shown_by};
 
 use crate::NoMemory;
-use crate::chip::dom;
 use crate::faults::{PostFault, TurnFault};
 use crate::frames::{Arrival, Frames};
 use crate::held::Held;
@@ -43,7 +43,7 @@ use std::marker::Model;
 use table_publish::{Board, Seat, Seen};
 use transcript_lines::Lines;
 
-/// A bridge with its chip and its published tables, the frames on their way to software, and how many steps there were. Each step is
+/// A bridge with its chips and its published tables, the frames on their way to software, and how many steps there were. Each step is
 /// counted, a refused one too; where a call answers a fault, there was no step, and the plane is as before.
 #[derive(Drop)]
 pub struct Plane {
@@ -136,13 +136,23 @@ impl Plane {
                 self.steps = step;
                 Ok(None)
             }
-            Ok(head) if self.sides.is_on_chip(p) => {
-                Ok(Some(self.enter_chip(alloc, step, p, b, &head, lines)?))
-            }
-            Ok(head) => {
-                self.enter_software(alloc, step, p, b, &head, lines)?;
-                Ok(None)
-            }
+            Ok(head) => match self.chip_of(p) {
+                Some(d) => Ok(Some(self.enter_chip(alloc, step, d, p, b, &head, lines)?)),
+                None => {
+                    self.enter_software(alloc, step, p, b, &head, lines)?;
+                    Ok(None)
+                }
+            },
+        }
+    }
+
+    /// The domain of the port, where it has a chip.
+    fn chip_of(&self, p: Port) -> Option<Dom>
+        ensures { IsOnChip self.now.world p result }
+    {
+        match self.sides.domains().of(p) {
+            Some(d) if self.sides.has_chip(d) => Some(d),
+            _ => None,
         }
     }
 
@@ -159,7 +169,7 @@ impl Plane {
         requires step { step ≡ self.old.world.steps + 1 }
         requires last { self.old.world.next + 1 < 2 ^ 32 }
         requires frame { frame_of b.now ≡ Ok head.now }
-        requires off_chip { is_in_domain self.old.world.setup.domains chip p ≡ false }
+        requires off_chip { chip_of self.old.world (domain_of self.old.world.setup.domains p) ≡ None }
         ensures step { OnOk result (Added (Steps self.old self.new (Rx p b.now)) lines.old.lines lines.new.lines) }
         ensures err { OnErr result (self.new ≡ self.old) }
         ensures lines { OnErr result (lines.new.lines ≡ lines.old.lines) }
@@ -174,11 +184,12 @@ impl Plane {
         Ok(())
     }
 
-    /// What becomes of a frame that the chip has decided so.
+    /// What becomes of a frame that the chip of the domain has decided so.
     fn arrival(
         &self,
         alloc: Global,
         class: Class,
+        d: Dom,
         p: Port,
         b: &[u8],
         head: &Head,
@@ -186,7 +197,7 @@ impl Plane {
     ) -> Result<Arrival, NoMemory>
         requires frame { frame_of b.now ≡ Ok head.now }
         requires message { message.now ≡ message_of b.now head.now }
-        requires on_chip { is_in_domain self.now.world.setup.domains chip p ≡ true }
+        requires port { domain_of self.now.world.setup.domains p ≡ Some d }
         ensures { IfOk result (λ a. a ≡ arrival_by class self.now.world p b.now head.now) }
     {
         match class {
@@ -194,16 +205,17 @@ impl Plane {
             Class::Trap => self.frames.arrive(alloc, p, b, head, message, None),
             Class::Copy => self
                 .frames
-                .arrive(alloc, p, b, head, message, Some(Mark { dom: dom() })),
+                .arrive(alloc, p, b, head, message, Some(Mark { dom: d })),
             Class::Forward => Ok(Arrival::PassesBy),
         }
     }
 
-    /// A frame enters at a port of the chip.
+    /// A frame enters at a port of the domain, which has a chip.
     fn enter_chip(
         &mut self,
         alloc: Global,
         step: u32,
+        d: Dom,
         p: Port,
         b: &[u8],
         head: &Head,
@@ -212,19 +224,21 @@ impl Plane {
         requires step { step ≡ self.old.world.steps + 1 }
         requires last { self.old.world.next + 1 < 2 ^ 32 }
         requires frame { frame_of b.now ≡ Ok head.now }
-        requires on_chip { is_in_domain self.old.world.setup.domains chip p ≡ true }
+        requires port { domain_of self.old.world.setup.domains p ≡ Some d }
+        requires chip { is_some (chip_at self.old.world d) ≡ true }
         ensures step { OnOk result (Added (Steps self.old self.new (Rx p b.now)) lines.old.lines lines.new.lines) }
-        ensures pass { IfOk result (IsPass self.old.world.setup.domains (table_of_chip self.old.world) p head.now (message_of b.now head.now)) }
+        ensures pass { IfOk result (λ pass. (c : ChipValue) → chip_at self.old.world d ≡ Some c
+            → IsPass self.old.world.setup.domains (table_of_chip self.old.world c) p head.now (message_of b.now head.now) pass) }
         ensures err { OnErr result (self.new ≡ self.old) }
         ensures lines { OnErr result (lines.new.lines ≡ lines.old.lines) }
     {
         let id = self.frames.next_id();
         let message = classify(b, head);
-        let pass = self.sides.pass(p, head, &message);
-        let arrival = self.arrival(alloc, pass.class(), p, b, head, &message)?;
-        let decision = self.chip_line(id, pass.class());
+        let pass = self.sides.pass(d, p, head, &message);
+        let arrival = self.arrival(alloc, pass.class(), d, p, b, head, &message)?;
+        let decision = self.chip_line(id, d, pass.class());
         make_room(lines, b)?;
-        self.sides.note(p, &pass)?;
+        self.sides.note(d, p, &pass)?;
         lines.push_reserved(decision);
         send(id, b, head, &Egress::of_pass(&pass), lines);
         arrival.tell(id, lines);
@@ -233,13 +247,15 @@ impl Plane {
         Ok(pass)
     }
 
-    fn chip_line(&self, id: u32, class: Class) -> Line
-        ensures { result ≡ line.Chip id (length self.now.world.history) self.now.world.chip.count class }
+    fn chip_line(&self, id: u32, d: Dom, class: Class) -> Line
+        requires { is_some (chip_at self.now.world d) ≡ true }
+        ensures { (c : ChipValue) → chip_at self.now.world d ≡ Some c
+            → result ≡ line.Chip id (length self.now.world.history) c.count class }
     {
         Line::Chip {
             id,
             changes: self.sides.history().len() as u32,
-            applied: self.sides.applied(),
+            applied: self.sides.applied(d),
             class,
         }
     }
@@ -268,9 +284,9 @@ impl Plane {
         Ok(())
     }
 
-    /// The chip applies the next deferred change of the history, which the update names by its ticket.
+    /// The chip of the domain applies the next deferred change of the history, which the update names by its ticket.
     pub fn turn(&mut self, alloc: Global, d: Dom, u: Option<Update>) -> Result<Lines, TurnFault>
-        requires { d ≡ chip }
+        requires { has_chip self.old.world.setup.domains d ≡ true }
         ensures { Turned self.old self.new d u result }
     {
         let mut lines = Lines::new(alloc);
@@ -280,22 +296,25 @@ impl Plane {
 
     /// As `turn`, with the lines of the step behind these.
     pub fn turn_to(&mut self, d: Dom, u: Option<Update>, lines: &mut Lines) -> Result<(), TurnFault>
-        requires { d ≡ chip }
+        requires { has_chip self.old.world.setup.domains d ≡ true }
         ensures { TurnedTo self.old self.new d u lines.old.lines lines.new.lines result }
     {
         let step = next(self.steps)?;
-        let Some(expected) = self.sides.next_ticket() else {
+        let Some(next) = self.sides.next_update(d) else {
             let refusal = Refusal::NothingPending;
             lines.push(Line::Refused { step, refusal })?;
             self.steps = step;
             return Ok(());
         };
         let got = ticket_of(&u);
-        if got != Some(expected) {
-            return Err(TurnFault::OutOfTurn { expected, got });
+        if got != Some(next.ticket) {
+            return Err(TurnFault::OutOfTurn {
+                expected: next.ticket,
+                got,
+            });
         }
         lines.reserve(1, 0)?;
-        self.sides.turn()?;
+        self.sides.turn(d, &next)?;
         lines.push_reserved(Line::Done { step, changes: 0 });
         self.steps = step;
         Ok(())
@@ -465,9 +484,9 @@ impl Plane {
         Ok(())
     }
 
-    /// The bridge is told the chip's oldest report.
+    /// The bridge is told the oldest report of the domain's chip.
     pub fn report(&mut self, alloc: Global, d: Dom) -> Result<Lines, NoMemory>
-        requires { d ≡ chip }
+        requires { has_chip self.old.world.setup.domains d ≡ true }
         ensures ok { IfOk result (λ lines. Steps self.old self.new (Report d) lines.lines) }
         ensures err { OnErr result (self.new ≡ self.old) }
     {
@@ -478,20 +497,20 @@ impl Plane {
 
     /// As `report`, with the lines of the step behind these.
     pub fn report_to(&mut self, alloc: Global, d: Dom, lines: &mut Lines) -> Result<(), NoMemory>
-        requires { d ≡ chip }
+        requires { has_chip self.old.world.setup.domains d ≡ true }
         ensures ok { OnOk result (Added (Steps self.old self.new (Report d)) lines.old.lines lines.new.lines) }
         ensures err { OnErr result (self.new ≡ self.old) }
         ensures lines { OnErr result (lines.new.lines ≡ lines.old.lines) }
     {
         let step = next(self.steps)?;
-        self.sides.report(alloc, step, lines)?;
+        self.sides.report(alloc, step, d, lines)?;
         self.steps = step;
         Ok(())
     }
 
-    /// The bridge forgets the stations that the chip no longer sees.
+    /// The bridge forgets the stations that the chip of the domain no longer sees.
     pub fn sweep(&mut self, alloc: Global, d: Dom) -> Result<Lines, NoMemory>
-        requires { d ≡ chip }
+        requires { has_chip self.old.world.setup.domains d ≡ true }
         ensures ok { IfOk result (λ lines. Steps self.old self.new (Sweep d) lines.lines) }
         ensures err { OnErr result (self.new ≡ self.old) }
     {
@@ -502,13 +521,13 @@ impl Plane {
 
     /// As `sweep`, with the lines of the step behind these.
     pub fn sweep_to(&mut self, alloc: Global, d: Dom, lines: &mut Lines) -> Result<(), NoMemory>
-        requires { d ≡ chip }
+        requires { has_chip self.old.world.setup.domains d ≡ true }
         ensures ok { OnOk result (Added (Steps self.old self.new (Sweep d)) lines.old.lines lines.new.lines) }
         ensures err { OnErr result (self.new ≡ self.old) }
         ensures lines { OnErr result (lines.new.lines ≡ lines.old.lines) }
     {
         let step = next(self.steps)?;
-        self.sides.sweep(alloc, step, lines)?;
+        self.sides.sweep(alloc, step, d, lines)?;
         self.steps = step;
         Ok(())
     }
@@ -533,12 +552,12 @@ impl Plane {
         self.sides.history()
     }
 
-    /// How many deferred changes the chip has applied.
+    /// How many deferred changes the chip of the domain has applied.
     pub fn applied(&self, d: Dom) -> u32
-        requires { d ≡ chip }
-        ensures { result ≡ self.now.world.chip.count }
+        requires { has_chip self.now.world.setup.domains d ≡ true }
+        ensures { option_map (λ c. c.count) (chip_at self.now.world d) ≡ Some result }
     {
-        self.sides.applied()
+        self.sides.applied(d)
     }
 
     /// How many changes are published.
@@ -548,12 +567,19 @@ impl Plane {
         self.sides.published()
     }
 
-    /// How many deferred changes the chip hasn't applied.
+    /// How many deferred changes the chip of the domain hasn't applied.
     pub fn pending(&self, d: Dom) -> u32
-        requires { d ≡ chip }
+        requires { has_chip self.now.world.setup.domains d ≡ true }
+        ensures { option_map (pending_of self.now.world) (chip_at self.now.world d) ≡ Some result }
+    {
+        self.sides.pending(d)
+    }
+
+    /// And all chips together.
+    pub fn pending_of_all(&self) -> u32
         ensures { result ≡ pending self.now.world }
     {
-        self.sides.pending()
+        self.sides.pending_of_all()
     }
 
     /// How many frames wait.
@@ -579,7 +605,7 @@ impl Plane {
 
     /// The deferred change of the history with this ticket, found at once.
     pub fn update(&self, ticket: u32) -> Option<Update>
-        ensures { result ≡ slice_get (updates self.now.world.history) ticket }
+        ensures { result ≡ slice_get (updates self.now.world.setup.domains.edition self.now.world.history) ticket }
     {
         self.sides.update(ticket)
     }

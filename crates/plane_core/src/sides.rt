@@ -1,16 +1,16 @@
-//! A bridge with the two copies of its table that follow it: the chip's rows, and the published tables.
-ghost use Rattle.std.specs.Prelude.{◌≡◌, ℕ, ◌-◌, ◌<◌, ◌≤◌, ◌++◌, ◌∷◌, [], length, take, drop, slice_get, IfOk, OnOk, OnErr, true};
+//! A bridge with the copies of its table that follow it: the rows of each chip, and the published tables.
+ghost use Rattle.std.specs.Prelude.{◌≡◌, ℕ, ◌-◌, ◌<◌, ◌≤◌, ◌++◌, ◌∷◌, [], length, take, drop, slice_get, is_some, IfOk, OnOk, OnErr, Some, true};
+ghost use Rattle.std.specs.List.{sum_by};
 ghost use Rattle.std.specs.Option.{option_map};
 ghost use Rattle.br_model.specs.Table.Change.{updates};
-ghost use Rattle.br_model.specs.Plane.Chip.{hits_entry, offers};
-ghost use Rattle.br_model.specs.Table.Cut.{deferred_at, deferred_count};
-ghost use Rattle.br_model.specs.Table.DomainPorts.{is_in_domain};
-ghost use Rattle.br_model.specs.Table.Domains.{Domains as DomainsValue, chip};
+ghost use Rattle.br_model.specs.Plane.Chip.{Chip as ChipValue, applies, chip_in, chip_table, hits_entry, offers, put_chip};
+ghost use Rattle.br_model.specs.Table.Cut.{deferred_count};
+ghost use Rattle.br_model.specs.Table.Domains.{domain_of};
 ghost use Rattle.br_model.specs.Wire.Messages.{message as message_of};
 ghost use Rattle.br_model.specs.Plane.ChipSteps.{reports, sweeps};
 ghost use Rattle.br_model.specs.Plane.Serving.{posts};
 ghost use Rattle.br_model.specs.Plane.Steps.{publishes};
-ghost use Rattle.br_model.specs.Plane.World.{answered, reacts, sent};
+ghost use Rattle.br_model.specs.Plane.World.{answered, chip_at, reacts, sent};
 ghost use Rattle.br_model.specs.Control.Reaction.{react as reaction};
 ghost use Rattle.br_model.specs.Forward.Shares.{soft_out};
 ghost use Rattle.br_model.specs.Table.Table.{table};
@@ -21,20 +21,22 @@ ghost use Rattle.chip_pipeline.specs.Passed.{IsPass};
 ghost use Rattle.br_model.specs.Table.Limits.{AreWithin};
 ghost use Rattle.table_publish.specs.Board.{Decides, all_of};
 ghost use Rattle.table_publish.specs.Object.{Begins, IsPublished, first_object};
-ghost use Rattle.plane_core.specs.Chips.{IsChip};
+ghost use Rattle.plane_core.specs.Chips.{AreChips, chips_of};
+ghost use Rattle.plane_core.specs.Places.{places};
 ghost use Rattle.plane_core.specs.Queued.{Queued};
 ghost use Rattle.plane_core.specs.Added.{Added};
 ghost use Rattle.plane_core.specs.Seats.{Looks};
-ghost use Rattle.plane_core.specs.Sides.{Comes, Lasts, Reacted, SideTurns, world_of, chip_side, first_sides, soft_side};
+ghost use Rattle.plane_core.specs.Sides.{Comes, Lasts, Reacted, world_of, first_sides, soft_side};
 
 use crate::NoMemory;
-use crate::chip::{Chip, dom};
+use crate::chips::Chips;
 use crate::frame::Frame;
 use crate::sending::{Egress, make_room, send};
+use crate::updates::Updates;
 use br_model::change::{Change, Update};
 use br_model::domains::Domains;
 use br_model::frame::{Head, McastMsg};
-use br_model::numbers::{Mac, Port};
+use br_model::numbers::{Dom, Mac, Port};
 use br_model::steps::{Event, Refusal};
 use br_model::transcript::Line;
 use bridge_core::{Bridge, EventFault};
@@ -45,16 +47,19 @@ use std::marker::Model;
 use table_publish::{Board, Seat};
 use transcript_lines::Lines;
 
-/// The control plane, the chip and the board, with one history: the chip has applied a part of its deferred changes, the board
+/// The control plane, the chips and the board, with one history: each chip has applied a part of its deferred changes, the board
 /// has published a front of it.
 #[derive(Drop)]
 pub(crate) struct Sides {
     bridge: Bridge,
-    chip: Chip,
+    chips: Chips,
+    // The deferred changes of the history, for all chips.
+    updates: Updates,
     board: Board,
 }
 
 impl Model for Sides {
+    ghost use Rattle.plane_core.specs.Chips.{chips_of};
     ghost use Rattle.plane_core.specs.Sides.{SidesState, AreSides};
 
     ghost Value = { SidesState };
@@ -63,26 +68,36 @@ impl Model for Sides {
       setup = s.bridge.setup;
       history = s.bridge.history;
       control = s.bridge.control;
-      chip = s.chip.chip;
+      chips = chips_of s.chips;
       published = s.board.object;
       board = s.board.board;
     } };
 
-    ghost invariant = { λ s. AreSides s.bridge s.chip s.board };
+    ghost invariant = { λ s. AreSides s.bridge s.chips s.updates s.board };
 }
 
-/// The chip and the board follow the changes that the history got behind its first `from` ones. The answer is how many they are.
-fn follow(bridge: &Bridge, chip: &mut Chip, board: &mut Board, from: usize) -> u32
+/// The chips and the board follow the changes that the history got behind its first `from` ones. The answer is how many they are.
+fn follow(
+    bridge: &Bridge,
+    chips: &mut Chips,
+    updates: &mut Updates,
+    board: &mut Board,
+    from: usize,
+) -> u32
     requires from { from ≤ length bridge.now.history }
-    requires stands { (domains : DomainsValue) × IsChip domains (take from bridge.now.history) chip.old }
+    requires chips { AreChips bridge.now.setup.domains (take from bridge.now.history) chips.old }
+    requires updates { updates.old ≡ places bridge.now.setup.domains.edition (take from bridge.now.history) }
     requires board { all_of board.old ≡ take from bridge.now.history }
-    ensures stands { (domains : DomainsValue) → IsChip domains (take from bridge.now.history) chip.old → IsChip domains bridge.now.history chip.new }
-    ensures chip { chip.new.chip ≡ chip.old.chip }
+    ensures chips { AreChips bridge.now.setup.domains bridge.now.history chips.new }
+    ensures kept { chips_of chips.new ≡ chips_of chips.old }
+    ensures updates { updates.new ≡ places bridge.now.setup.domains.edition bridge.now.history }
     ensures board { board.new ≡ record board.old { pending = board.old.pending ++ drop from bridge.now.history } }
     ensures count { result ≡ length (drop from bridge.now.history) }
 {
     let history = bridge.history();
-    chip.follow(history, from);
+    let domains = bridge.domains();
+    chips.follow(domains, history, from);
+    updates.follow(history, from, domains.edition());
     board.append(&history[from..]);
     (history.len() - from) as u32
 }
@@ -128,10 +143,11 @@ impl Sides {
         requires pending { board.pending ≡ [] }
         ensures { IfOk result (λ s. s ≡ first_sides (record { domains = domains; own = own }) board.board) }
     {
-        let chip = Chip::make(alloc, &domains)?;
+        let chips = Chips::make(alloc, &domains)?;
         Ok(Sides {
             bridge: Bridge::make(alloc, domains, own)?,
-            chip,
+            chips,
+            updates: Updates::make(alloc)?,
             board,
         })
     }
@@ -141,19 +157,25 @@ impl Sides {
     fn react(&mut self, alloc: Global, event: &Event, lines: &mut Lines) -> Result<u32, EventFault>
         requires event { IsEvent event.now }
         requires room { 1 ≤ lines.old.rows }
-        ensures reacted { Reacted self.old self.new self.old.chip lines.old.lines lines.new.lines result
+        ensures reacted { Reacted self.old self.new self.old.chips lines.old.lines lines.new.lines result
             (reaction self.old.setup self.old.history self.old.control event.now) }
         ensures marked { lines.new.marked ≡ lines.old.marked }
         ensures room { 1 ≤ lines.new.rows }
     {
         let from = self.bridge.answer(alloc, event, lines)?;
-        Ok(follow(&self.bridge, &mut self.chip, &mut self.board, from))
+        Ok(follow(
+            &self.bridge,
+            &mut self.chips,
+            &mut self.updates,
+            &mut self.board,
+            from,
+        ))
     }
 
     /// The bridge sees a frame that software sent, as it reacts to an event.
     fn see(&mut self, alloc: Global, frame: &Frame, lines: &mut Lines) -> Result<u32, EventFault>
         requires { 1 ≤ lines.old.rows }
-        ensures reacted { Reacted self.old self.new self.old.chip lines.old.lines lines.new.lines result
+        ensures reacted { Reacted self.old self.new self.old.chips lines.old.lines lines.new.lines result
             (reaction self.old.setup self.old.history self.old.control (Event.Sight frame.now.port frame.now.bytes frame.now.head)) }
         ensures marked { lines.new.marked ≡ lines.old.marked }
         ensures room { 1 ≤ lines.new.rows }
@@ -166,45 +188,58 @@ impl Sides {
             frame.message(),
             lines,
         )?;
-        Ok(follow(&self.bridge, &mut self.chip, &mut self.board, from))
+        Ok(follow(
+            &self.bridge,
+            &mut self.chips,
+            &mut self.updates,
+            &mut self.board,
+            from,
+        ))
     }
 
-    /// The bridge reacts to the chip's oldest report, which leaves unless that is refused.
+    /// The bridge reacts to the oldest report of the domain's chip, which leaves unless that is refused.
     fn react_to_report(
         &mut self,
         alloc: Global,
         event: &Event,
+        d: Dom,
         lines: &mut Lines,
     ) -> Result<u32, EventFault>
         requires event { IsEvent event.now }
+        requires chip { is_some (chip_in self.old.chips d) ≡ true }
         requires room { 1 ≤ lines.old.rows }
-        ensures reacted { Reacted self.old self.new
-            (record self.old.chip { reports = drop 1 self.old.chip.reports }) lines.old.lines lines.new.lines result
+        ensures reacted { (c : ChipValue) → chip_in self.old.chips d ≡ Some c
+            → Reacted self.old self.new (put_chip self.old.chips (record c { reports = drop 1 c.reports })) lines.old.lines lines.new.lines result
             (reaction self.old.setup self.old.history self.old.control event.now) }
         ensures marked { lines.new.marked ≡ lines.old.marked }
         ensures room { 1 ≤ lines.new.rows }
     {
         let changes = self.react(alloc, event, lines)?;
-        self.chip.drop_report();
+        let place = self.chips.place(d);
+        self.chips.at_mut(place).drop_report();
         Ok(changes)
     }
 
-    /// The bridge reacts to a sweep, and no entry is hit, unless that is refused.
+    /// The bridge reacts to a sweep of the domain's chip, and no entry is hit there, unless that is refused.
     fn react_to_sweep(
         &mut self,
         alloc: Global,
         event: &Event,
+        d: Dom,
         lines: &mut Lines,
     ) -> Result<u32, EventFault>
         requires event { IsEvent event.now }
+        requires chip { is_some (chip_in self.old.chips d) ≡ true }
         requires room { 1 ≤ lines.old.rows }
-        ensures reacted { Reacted self.old self.new (record self.old.chip { hits = [] }) lines.old.lines lines.new.lines result
+        ensures reacted { (c : ChipValue) → chip_in self.old.chips d ≡ Some c
+            → Reacted self.old self.new (put_chip self.old.chips (record c { hits = [] })) lines.old.lines lines.new.lines result
             (reaction self.old.setup self.old.history self.old.control event.now) }
         ensures marked { lines.new.marked ≡ lines.old.marked }
         ensures room { 1 ≤ lines.new.rows }
     {
         let changes = self.react(alloc, event, lines)?;
-        self.chip.clear_hits();
+        let place = self.chips.place(d);
+        self.chips.at_mut(place).clear_hits();
         Ok(changes)
     }
 
@@ -332,78 +367,96 @@ impl Sides {
         }
     }
 
-    /// What the chip does with a frame that says this to snooping, at one of its ports.
-    pub(crate) fn pass(&self, port: Port, head: &Head, message: &McastMsg) -> Pass
-        requires { is_in_domain self.now.setup.domains chip port ≡ true }
-        ensures { IsPass self.now.setup.domains (chip_side self.now) port head.now message.now result }
+    /// What the chip of the domain does with a frame that says this to snooping, at one of its ports.
+    pub(crate) fn pass(&self, d: Dom, port: Port, head: &Head, message: &McastMsg) -> Pass
+        requires port { domain_of self.now.setup.domains port ≡ Some d }
+        requires chip { is_some (chip_in self.now.chips d) ≡ true }
+        ensures { (c : ChipValue) → chip_in self.now.chips d ≡ Some c
+            → IsPass self.now.setup.domains (chip_table self.now.setup.domains.edition self.now.history c) port head.now message.now result }
     {
         // law: the host is in software's domain
         let _host = self.bridge.domains().of(Port::HOST);
-        pass(self.chip.tables(), port, head, message)
+        pass(self.chips.at(d).tables(), port, head, message)
     }
 
-    /// Whether the port is one of the chip's.
-    pub(crate) fn is_on_chip(&self, port: Port) -> bool
-        ensures { result ≡ is_in_domain self.now.setup.domains chip port }
+    /// Whether the domain has a chip.
+    pub(crate) fn has_chip(&self, d: Dom) -> bool
+        ensures { result ≡ is_some (chip_in self.now.chips d) }
     {
-        self.bridge.domains().of(port) == Some(dom())
+        self.chips.has(d)
     }
 
-    /// Notes in the chip what a frame at the port leaves there.
-    pub(crate) fn note(&mut self, port: Port, pass: &Pass) -> Result<(), NoMemory>
-        ensures ok { OnOk result (self.new ≡ record self.old { chip = hits_entry pass.now.hit (offers port pass.now.report self.old.chip) }) }
+    /// Notes in the chip of the domain what a frame at the port leaves there.
+    pub(crate) fn note(&mut self, d: Dom, port: Port, pass: &Pass) -> Result<(), NoMemory>
+        requires { is_some (chip_in self.old.chips d) ≡ true }
+        ensures ok { OnOk result ((c : ChipValue) → chip_in self.old.chips d ≡ Some c
+            → self.new ≡ record self.old { chips = put_chip self.old.chips (hits_entry pass.now.hit (offers port pass.now.report c)) }) }
         ensures err { OnErr result (self.new ≡ self.old) }
     {
-        self.chip.note(port, pass.report(), pass.hit())
+        let place = self.chips.place(d);
+        self.chips
+            .at_mut(place)
+            .note(port, pass.report(), pass.hit())
     }
 
-    /// The chip applies the next deferred change. `false` exactly where none is pending.
-    pub(crate) fn turn(&mut self) -> Result<bool, NoMemory>
-        ensures ok { IfOk result (λ more. SideTurns self.old self.new (deferred_at self.old.history self.old.chip.count) more) }
+    /// The chip of the domain applies the next deferred change.
+    pub(crate) fn turn(&mut self, d: Dom, update: &Update) -> Result<(), NoMemory>
+        requires chip { is_some (chip_in self.old.chips d) ≡ true }
+        requires next { (c : ChipValue) → chip_in self.old.chips d ≡ Some c
+            → slice_get (updates self.old.setup.domains.edition self.old.history) c.count ≡ Some update.now }
+        ensures ok { OnOk result ((c : ChipValue) → chip_in self.old.chips d ≡ Some c
+            → self.new ≡ record self.old { chips = put_chip self.old.chips (applies c update.now.change) }) }
         ensures err { OnErr result (self.new ≡ self.old) }
     {
-        self.chip.turn(self.bridge.history())
+        // law: the history is within the limits
+        let _history = self.bridge.history();
+        let place = self.chips.place(d);
+        self.chips.at_mut(place).turn(update)
     }
 
-    /// The bridge is told the chip's oldest report, which leaves unless that is refused.
+    /// The bridge is told the oldest report of the domain's chip, which leaves unless that is refused.
     pub(crate) fn report(
         &mut self,
         alloc: Global,
         step: u32,
+        d: Dom,
         lines: &mut Lines,
     ) -> Result<(), NoMemory>
-        ensures ok { OnOk result (Added (Comes (λ w. reports w (Some w.chip)) self.old step self.new) lines.old.lines lines.new.lines) }
+        requires { is_some (chip_in self.old.chips d) ≡ true }
+        ensures ok { OnOk result (Added (Comes (λ w. reports w (chip_at w d)) self.old step self.new) lines.old.lines lines.new.lines) }
         ensures err { OnErr result (self.new ≡ self.old) }
         ensures lines { OnErr result (lines.new.lines ≡ lines.old.lines) }
         ensures over { self.new.board ≡ self.old.board }
     {
         lines.reserve(1, 0)?;
-        let Some((vid, mac, port)) = self.chip.first_report() else {
+        let Some((vid, mac, port)) = self.chips.at(d).first_report() else {
             let refusal = Refusal::NothingReported;
             lines.push_reserved(Line::Refused { step, refusal });
             return Ok(());
         };
         let event = Event::Told { vid, mac, port };
-        let outcome = self.react_to_report(alloc, &event, lines);
+        let outcome = self.react_to_report(alloc, &event, d, lines);
         lines.push_reserved(last_line(step, outcome)?);
         Ok(())
     }
 
-    /// The bridge forgets what the chip no longer sees, and no entry is hit, unless that is refused.
+    /// The bridge forgets what the chip of the domain no longer sees, and no entry is hit there, unless that is refused.
     pub(crate) fn sweep(
         &mut self,
         alloc: Global,
         step: u32,
+        d: Dom,
         lines: &mut Lines,
     ) -> Result<(), NoMemory>
-        ensures ok { OnOk result (Added (Comes (λ w. sweeps w (Some w.chip)) self.old step self.new) lines.old.lines lines.new.lines) }
+        requires { is_some (chip_in self.old.chips d) ≡ true }
+        ensures ok { OnOk result (Added (Comes (λ w. sweeps w (chip_at w d)) self.old step self.new) lines.old.lines lines.new.lines) }
         ensures err { OnErr result (self.new ≡ self.old) }
         ensures lines { OnErr result (lines.new.lines ≡ lines.old.lines) }
         ensures over { self.new.board ≡ self.old.board }
     {
         lines.reserve(1, 0)?;
-        let event = Event::Forget(self.chip.unhit(alloc)?);
-        let outcome = self.react_to_sweep(alloc, &event, lines);
+        let event = Event::Forget(self.chips.at(d).unhit(alloc)?);
+        let outcome = self.react_to_sweep(alloc, &event, d, lines);
         lines.push_reserved(last_line(step, outcome)?);
         Ok(())
     }
@@ -432,18 +485,27 @@ impl Sides {
         self.bridge.history()
     }
 
-    /// How many deferred changes the chip has applied.
-    pub(crate) fn applied(&self) -> u32
-        ensures { result ≡ self.now.chip.count }
+    /// How many deferred changes the chip of the domain has applied.
+    pub(crate) fn applied(&self, d: Dom) -> u32
+        requires { is_some (chip_in self.now.chips d) ≡ true }
+        ensures { option_map (λ c. c.count) (chip_in self.now.chips d) ≡ Some result }
     {
-        self.chip.count()
+        self.chips.at(d).count()
     }
 
     /// How many deferred changes it hasn't applied.
-    pub(crate) fn pending(&self) -> u32
-        ensures { result ≡ deferred_count self.now.history - self.now.chip.count }
+    pub(crate) fn pending(&self, d: Dom) -> u32
+        requires { is_some (chip_in self.now.chips d) ≡ true }
+        ensures { option_map (λ c. deferred_count self.now.setup.domains.edition self.now.history - c.count) (chip_in self.now.chips d) ≡ Some result }
     {
-        self.chip.pending()
+        self.updates.len() as u32 - self.chips.at(d).count()
+    }
+
+    /// And all chips together.
+    pub(crate) fn pending_of_all(&self) -> u32
+        ensures { result ≡ sum_by (λ c. deferred_count self.now.setup.domains.edition self.now.history - c.count) self.now.chips }
+    {
+        self.chips.pending(self.updates.len() as u32)
     }
 
     /// How many changes are published.
@@ -453,22 +515,20 @@ impl Sides {
         self.board.published()
     }
 
-    /// The ticket of the next deferred change that the chip applies, if one is pending.
-    pub(crate) fn next_ticket(&self) -> Option<u32>
-        ensures { result ≡ option_map (λ d. self.now.chip.count) (deferred_at self.now.history self.now.chip.count) }
+    /// The deferred change that the chip of the domain applies next, if one is pending.
+    pub(crate) fn next_update(&self, d: Dom) -> Option<Update>
+        requires { is_some (chip_in self.now.chips d) ≡ true }
+        ensures { (c : ChipValue) → chip_in self.now.chips d ≡ Some c
+            → result ≡ slice_get (updates self.now.setup.domains.edition self.now.history) c.count }
     {
-        let count = self.chip.count();
-        match self.chip.update(self.bridge.history(), count) {
-            Some(_) => Some(count),
-            None => None,
-        }
+        self.update(self.applied(d))
     }
 
     /// The deferred change with this ticket.
     pub(crate) fn update(&self, ticket: u32) -> Option<Update>
-        ensures { result ≡ slice_get (updates self.now.history) ticket }
+        ensures { result ≡ slice_get (updates self.now.setup.domains.edition self.now.history) ticket }
     {
-        self.chip.update(self.bridge.history(), ticket)
+        self.updates.get(self.bridge.history(), ticket)
     }
 
     /// Tells a seat of the board what is published.

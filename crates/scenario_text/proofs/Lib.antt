@@ -4,6 +4,7 @@ pub mod Generated
 pub mod Joins
 pub mod Listed
 pub mod Pairs
+pub mod PlainCommands
 pub mod PlainLines
 pub mod Splits
 pub mod Written

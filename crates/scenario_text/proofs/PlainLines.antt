@@ -1,22 +1,22 @@
 -- Lines in their plainest spelling.
-use Rattle.std.proofs.Common.{◌≡◌, ℕ, ◌+◌, ◌-◌, ◌*◌, ◌==◌, ◌≤◌, nat_le, Bool, true, false, not, ◌&&◌, if◌then◌else◌, cond, List, [], ◌∷◌, ◌++◌, length, take, drop, map, get_or, codes, Bor, Option, Some, None, Ok, Err, refl, ap, sym, ◌∙◌, arith}
+use Rattle.std.proofs.Common.{◌≡◌, ℕ, ◌+◌, ◌-◌, ◌*◌, ◌==◌, ◌≤◌, nat_le, Bool, true, false, not, ◌&&◌, if◌then◌else◌, cond, List, [], ◌∷◌, ◌++◌, length, take, drop, map, get_or, codes, Option, Some, None, unwrap_or, Ok, Err, refl, ap, sym, ◌∙◌, arith}
 use Rattle.std.specs.Char.{is_ascii}
 use Rattle.std.specs.Cmp.{first_so, second_so}
 use Rattle.std.specs.List.{filter, list_all, slice_split, onto_first}
-use Rattle.std.proofs.lemmas.Bool.{and_from, not-true}
+use Rattle.std.proofs.lemmas.Bool.{and_from, not-true, not_from_false, ne_eqb}
 use Rattle.std.proofs.lemmas.List.{take_all}
 use Rattle.br_model.specs.declared.scenario.LineWhy.TheVariants as why
 use Rattle.br_model.specs.declared.scenario.Said.TheVariants.{Does}
 use Rattle.br_model.specs.declared.steps.Step.TheVariants.{Rx, Serve, Turn, Report, Publish}
-use Rattle.br_model.specs.Data.Digits.{nibble, byte_of, in_front, bytes_from_hex}
-use Rattle.br_model.specs.Table.Domains.{first_chip_domain}
+use Rattle.br_model.specs.Data.Digits.{nibble, byte_of, in_front, bytes_from_hex, is_digit, is_decimal, decimal_from, digits_value}
+use Rattle.br_model.specs.Table.Domains.{first_chip_domain, last_port}
 use Rattle.br_model.specs.Text.CommandForms.{step}
 use Rattle.br_model.specs.Text.Forms.{after}
 use Rattle.br_model.specs.Text.LineForms.{all_say}
-use Rattle.br_model.specs.Text.Operands.{number, chip_domain, port_number, hex, bytes_of}
-use Rattle.br_model.specs.Text.Roster.{Roster}
+use Rattle.br_model.specs.Text.Operands.{number, chip_domain, port_number, hex, bytes_of, found, unless}
+use Rattle.br_model.specs.Text.Roster.{Roster, has_number}
 use Rattle.br_model.specs.Text.Words.{Word, words, is_word, readable, replacement}
-use Rattle.scenario_text.specs.Parts.{is_plain, Splits, enters}
+use Rattle.scenario_text.specs.Parts.{is_plain, Numbered, enters}
 
 abbrev is_space : ℕ → Bool
 is_space c = c == 32
@@ -26,13 +26,13 @@ is_space c = c == 32
 no_space : (c : ℕ) → is_plain c ≡ true → is_space c ≡ false
 no_space c h = not-true _ (first_so _ _ h)
 
-split_plain : (w rest : List ℕ) → list_all is_plain w ≡ true → slice_split is_space (w ++ 32 ∷ rest) ≡ w ∷ slice_split is_space rest
+pub split_plain : (w rest : List ℕ) → list_all is_plain w ≡ true → slice_split is_space (w ++ 32 ∷ rest) ≡ w ∷ slice_split is_space rest
 split_plain [] rest h = refl
 split_plain (c ∷ cs) rest h =
     ap (λ b. cond b ([] ∷ slice_split is_space (cs ++ 32 ∷ rest)) (onto_first c (slice_split is_space (cs ++ 32 ∷ rest)))) (no_space c (first_so _ _ h))
     ∙ ap (onto_first c) (split_plain cs rest (second_so _ _ h))
 
-split_alone : (w : List ℕ) → list_all is_plain w ≡ true → slice_split is_space w ≡ w ∷ []
+pub split_alone : (w : List ℕ) → list_all is_plain w ≡ true → slice_split is_space w ≡ w ∷ []
 split_alone [] h = refl
 split_alone (c ∷ cs) h =
     ap (λ b. cond b ([] ∷ slice_split is_space cs) (onto_first c (slice_split is_space cs))) (no_space c (first_so _ _ h))
@@ -42,7 +42,7 @@ ascii_all : (w : List ℕ) → list_all is_plain w ≡ true → list_all is_asci
 ascii_all [] h = refl
 ascii_all (c ∷ cs) h = and_from _ _ (second_so _ _ (first_so _ _ h)) (ascii_all cs (second_so _ _ h))
 
-readable_plain : (w : List ℕ) → list_all is_plain w ≡ true → readable w ≡ w
+pub readable_plain : (w : List ℕ) → list_all is_plain w ≡ true → readable w ≡ w
 readable_plain w h = ap (λ b. cond b w replacement) (ascii_all w h)
 
 three_words : (w digits : Word) → list_all is_plain w ≡ true → is_word w ≡ true → list_all is_plain digits ≡ true → is_word digits ≡ true
@@ -94,14 +94,45 @@ not_empty : (bytes : List ℕ) → (length bytes ≡ 0 → ⊥) → is_word byte
 not_empty [] h = absurd (h refl)
 not_empty (b ∷ bs) h = refl
 
-pub entered : (r : Roster) (entry : List ℕ) (at : Bor (List ℕ) × Bor (List ℕ)) (number : Word) (port : ℕ) (bytes : List ℕ) → step r.place ≡ true → Splits entry at
-    → number ≡ readable at.0.now → Ok port ≡ port_number r.ports number → bytes_from_hex at.1.now ≡ Some bytes → (length bytes ≡ 0 → ⊥)
+-- a number is a plain word
+
+pub digits_plain : (w : Word) → list_all is_digit w ≡ true → list_all is_plain w ≡ true
+digits_plain [] h = refl
+digits_plain (c ∷ cs) h = and_from _ _ (plain c (first_so _ _ h)) (digits_plain cs (second_so _ _ h))
+  where
+    plain : (c : ℕ) → is_digit c ≡ true → is_plain c ≡ true
+    plain c h = grind arith
+
+pub is_some_word : (w : Word) → is_decimal w ≡ true → is_word w ≡ true
+is_some_word [] h = absurd (cc)
+is_some_word (c ∷ cs) h = refl
+
+is_spelled : (w : Word) (n : ℕ) → decimal_from w ≡ Some n → is_decimal w ≡ true
+is_spelled w n h = by (is_decimal w) h
+  where
+    by : (b : Bool) → (if b then Some (digits_value w) else None) ≡ Some n → b ≡ true
+    by true e = refl
+    by false e = absurd (cc)
+
+known_number : (r : Roster) (w : Word) (number port : ℕ) → decimal_from w ≡ Some number → Some port ≡ (if nat_le number last_port && has_number r.ports number then Some number else None) → port_number r.ports w ≡ Ok port
+unfolding port_number
+known_number r w number port spells known =
+    ap (λ o. unless why.Port (λ n. not (nat_le n last_port && has_number r.ports n)) (found why.Number o)) spells ∙ by (nat_le number last_port && has_number r.ports number) known
+  where
+    by : (b : Bool) → Some port ≡ (if b then Some number else None) → (if not b then Err why.Port else Ok number) ≡ Ok port
+    by true e = sym (ap (λ o. Ok (unwrap_or o number)) e)
+    by false e = absurd (cc)
+
+pub entered : (r : Roster) (entry rest : List ℕ) (number port : ℕ) (bytes : List ℕ) → step r.place ≡ true → Numbered entry number rest
+    → Some port ≡ (if nat_le number last_port && has_number r.ports number then Some number else None) → bytes_from_hex rest ≡ Some bytes → (length bytes ≡ 0 → ⊥)
     → all_say r (words (enters entry)) ≡ Ok (Does (Rx port bytes))
-entered r entry at number port bytes place s same known spelled none =
+entered r entry rest number port bytes place s known spelled none =
     let some : is_word bytes ≡ true = not_empty bytes none in
+    let number_is : is_decimal s.word ≡ true = is_spelled s.word number s.spells in
+    let plain : list_all is_plain s.word ≡ true = digits_plain s.word (first_so _ _ (second_so _ _ number_is)) in
     ap (λ e. all_say r (words (enters e))) s.text_is
-    ∙ ap (all_say r) (three_words at.0.now at.1.now s.plain s.is_a_word (hex_plain at.1.now bytes spelled) (some_digits at.1.now bytes spelled some))
-    ∙ rx_says r at.0.now at.1.now port bytes place (ap (port_number r.ports) (sym (same ∙ readable_plain at.0.now s.plain)) ∙ sym known) (hexed at.1.now bytes spelled some)
+    ∙ ap (all_say r) (three_words s.word rest plain (is_some_word s.word number_is) (hex_plain rest bytes spelled) (some_digits rest bytes spelled some))
+    ∙ rx_says r s.word rest port bytes place (known_number r s.word number port s.spells known) (hexed rest bytes spelled some)
 
 -- words of one digit and of two
 
@@ -116,33 +147,33 @@ front_three (x ∷ []) h = absurd (omega arith)
 front_three (x ∷ y ∷ []) h = absurd (omega arith)
 front_three (x ∷ y ∷ z ∷ xs) h = ap (λ ys. x ∷ y ∷ z ∷ ys) (sym (take_all (length (x ∷ y ∷ z ∷ xs) - 3) xs (omega arith)))
 
-plain_digit : (c : ℕ) → 48 ≤ c → c ≤ 57 → is_plain c ≡ true
-plain_digit c low high = grind arith
+digit_is : (c : ℕ) → 48 ≤ c → c ≤ 57 → is_digit c ≡ true
+digit_is c low high = grind arith
 
-pub one_digit : (text : List ℕ) (at : Bor (List ℕ) × Bor (List ℕ)) → 2 ≤ length text → 48 ≤ get_or text 0 0 → get_or text 0 0 ≤ 57 → get_or text 1 0 ≡ 32
-    → at.0.now ≡ take 1 text → at.1.now ≡ take (length text - 2) (drop 2 text) → Splits text at
-one_digit text at long low high space front rest =
-    let a : ℕ = get_or text 0 0 in
-    let whole : text ≡ a ∷ 32 ∷ at.1.now =
-    front_two text long ∙ ap (λ s. a ∷ s ∷ take (length text - 2) (drop 2 text)) space ∙ ap (λ ys. a ∷ 32 ∷ ys) (sym rest) in
-    let word : at.0.now ≡ a ∷ [] = front ∙ ap (take 1) whole in record {
-      text_is = whole ∙ ap (λ w. w ++ 32 ∷ at.1.now) (sym word);
-      is_a_word = ap is_word word;
-      plain = ap (list_all is_plain) word ∙ and_from _ _ (plain_digit a low high) refl;
-    }
+pub one_spells : (a : ℕ) → 48 ≤ a → a ≤ 57 → decimal_from (a ∷ []) ≡ Some (a - 48)
+one_spells a low high =
+    let value : 0 + (a - 48) ≡ a - 48 = omega arith in
+    ap (λ b. if b then Some (digits_value (a ∷ [])) else None) (and_from _ _ (and_from _ _ (digit_is a low high) refl) refl) ∙ ap Some value
 
-pub two_digits : (text : List ℕ) (at : Bor (List ℕ) × Bor (List ℕ)) → 3 ≤ length text → 48 ≤ get_or text 0 0 → get_or text 0 0 ≤ 57 → 48 ≤ get_or text 1 0 → get_or text 1 0 ≤ 57
-    → get_or text 2 0 ≡ 32 → at.0.now ≡ take 2 text → at.1.now ≡ take (length text - 3) (drop 3 text) → Splits text at
-two_digits text at long low high second most space front rest =
-    let a : ℕ = get_or text 0 0 in
-    let b : ℕ = get_or text 1 0 in
-    let whole : text ≡ a ∷ b ∷ 32 ∷ at.1.now =
-    front_three text long ∙ ap (λ s. a ∷ b ∷ s ∷ take (length text - 3) (drop 3 text)) space ∙ ap (λ ys. a ∷ b ∷ 32 ∷ ys) (sym rest) in
-    let word : at.0.now ≡ a ∷ b ∷ [] = front ∙ ap (take 2) whole in record {
-      text_is = whole ∙ ap (λ w. w ++ 32 ∷ at.1.now) (sym word);
-      is_a_word = ap is_word word;
-      plain = ap (list_all is_plain) word ∙ and_from _ _ (plain_digit a low high) (and_from _ _ (plain_digit b second most) refl);
-    }
+pub two_spell : (a b : ℕ) → 48 ≤ a → a ≤ 57 → (a ≡ 48 → ⊥) → 48 ≤ b → b ≤ 57 → decimal_from (a ∷ b ∷ []) ≡ Some (10 * (a - 48) + (b - 48))
+two_spell a b low high some second most =
+    let value : 10 * (0 + (a - 48)) + (b - 48) ≡ 10 * (a - 48) + (b - 48) = omega arith in
+    ap (λ t. if t then Some (digits_value (a ∷ b ∷ [])) else None) (and_from _ _ (and_from _ _ (digit_is a low high) (and_from _ _ (digit_is b second most) refl)) (not_from_false _ (ne_eqb a 48 some)))
+    ∙ ap Some value
+
+pub one_digit : (text : List ℕ) (n : ℕ) → 2 ≤ length text → get_or text 1 0 ≡ 32 → decimal_from (get_or text 0 0 ∷ []) ≡ Some n → Numbered text n (take (length text - 2) (drop 2 text))
+one_digit text n long space spells = record {
+  word = get_or text 0 0 ∷ [];
+  text_is = front_two text long ∙ ap (λ s. get_or text 0 0 ∷ s ∷ take (length text - 2) (drop 2 text)) space;
+  spells = spells;
+}
+
+pub two_digits : (text : List ℕ) (n : ℕ) → 3 ≤ length text → get_or text 2 0 ≡ 32 → decimal_from (get_or text 0 0 ∷ get_or text 1 0 ∷ []) ≡ Some n → Numbered text n (take (length text - 3) (drop 3 text))
+two_digits text n long space spells = record {
+  word = get_or text 0 0 ∷ get_or text 1 0 ∷ [];
+  text_is = front_three text long ∙ ap (λ s. get_or text 0 0 ∷ get_or text 1 0 ∷ s ∷ take (length text - 3) (drop 3 text)) space;
+  spells = spells;
+}
 
 -- lines that are one text
 

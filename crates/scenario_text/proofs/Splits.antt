@@ -69,6 +69,18 @@ words_at rest part after end h is then =
     ∙ among (take end rest) (slice_split is_space (drop (suc end) rest))
     ∙ (λ j. words_among (sym is j ∷ []) ++ words (sym (after_space rest after end then) j))
 
+-- a word stands before the first space
+pub cut_at : (rest part after : List ℕ) (end : ℕ) → IsFirstByte (is_byte 32) rest (Some end) → part ≡ take end rest → after ≡ drop end rest → (end ≡ 0 → ⊥)
+    → words rest ≡ readable part ∷ words (take (length after - 1) (drop 1 after))
+cut_at rest part after end h is then some =
+    words_at rest part after end h is then
+    ∙ ap (λ b. map readable (cond b (part ∷ []) []) ++ words (take (length after - 1) (drop 1 after))) (ap is_word is ∙ some_word rest end h.0.high some)
+  where
+    some_word : (rest : List ℕ) (end : ℕ) → end < length rest → (end ≡ 0 → ⊥) → is_word (take end rest) ≡ true
+    some_word [] end h some = absurd (omega arith)
+    some_word (c ∷ cs) zero h some = absurd (some refl)
+    some_word (c ∷ cs) (suc end) h some = refl
+
 -- one word more was found
 pub goes_on : (found more : List Word) (rest part after : List ℕ) (end : ℕ) (all : List Word) → IsFirstByte (is_byte 32) rest (Some end) → part ≡ take end rest → after ≡ drop end rest
     → found ++ words rest ≡ all → more ≡ found ++ words_among (part ∷ []) → more ++ words (take (length after - 1) (drop 1 after)) ≡ all

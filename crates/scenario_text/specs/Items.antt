@@ -13,7 +13,7 @@ use Rattle.br_model.specs.declared.scenario.Said.TheVariants.{Blank, Opens, Brid
 use Rattle.br_model.specs.Text.Forms.{after}
 use Rattle.br_model.specs.Text.LineForms.{line_says, opening, header, declaration, comes_by_line}
 use Rattle.br_model.specs.Text.Operands.{new_port, new_name, longest_section}
-use Rattle.br_model.specs.Text.Roster.{Roster}
+use Rattle.br_model.specs.Text.Roster.{Roster, chips_of}
 use Rattle.br_model.specs.Text.Scenario.{declared}
 use Rattle.br_model.specs.Text.Declarations.{fits_beside}
 use Rattle.br_model.specs.Text.Words.{Word}
@@ -51,15 +51,15 @@ comes_in_place place (items.Step step) = true
 comes_in_place place (items.Capture n) = true
 comes_in_place place items.End = true
 
--- whether a step is one that a line can give, and a section as long as a line can say
-abbrev pub is_in_range : Item → Bool
-is_in_range items.Blank = true
-is_in_range (items.Scenario edition) = true
-is_in_range (items.Bridge mac) = true
-is_in_range (items.Declared port) = true
-is_in_range (items.Step step) = comes_by_line step
-is_in_range (items.Capture n) = nat_le n longest_section
-is_in_range items.End = true
+-- whether a step is one that a line can give where these domains have switch chips, and a section as long as a line can say
+abbrev pub is_in_range : List ℕ → Item → Bool
+is_in_range chips items.Blank = true
+is_in_range chips (items.Scenario edition) = true
+is_in_range chips (items.Bridge mac) = true
+is_in_range chips (items.Declared port) = true
+is_in_range chips (items.Step step) = comes_by_line chips step
+is_in_range chips (items.Capture n) = nat_le n longest_section
+is_in_range chips items.End = true
 
 -- the same of what a line says; and the port fits beside the declared ones
 abbrev pub fits_roster : Roster → Said → Bool
@@ -67,6 +67,6 @@ fits_roster roster Blank = true
 fits_roster roster (Opens edition) = opening roster.place
 fits_roster roster (Bridge mac) = header roster.place
 fits_roster roster (Declares port name dom) = declaration roster.place && fits_beside roster.ports (record { name = name; port = port; dom = dom })
-fits_roster roster (Does step) = comes_by_line step
+fits_roster roster (Does step) = comes_by_line (chips_of roster.ports) step
 fits_roster roster (Captures n) = nat_le n longest_section
 fits_roster roster Ends = true

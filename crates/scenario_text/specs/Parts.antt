@@ -1,8 +1,8 @@
 -- The words among what stands between spaces.
-use Rattle.std.specs.Prelude.{◌≡◌, ℕ, ◌==◌, Bool, true, not, ◌&&◌, List, ◌∷◌, ◌++◌, map}
-use Rattle.std.specs.Borrow.{Bor}
+use Rattle.std.specs.Prelude.{◌≡◌, ℕ, ◌==◌, Bool, true, false, not, ◌&&◌, List, ◌∷◌, ◌++◌, map, codes, Some}
 use Rattle.std.specs.Char.{is_ascii}
 use Rattle.std.specs.List.{filter, list_all}
+use Rattle.br_model.specs.Data.Digits.{decimal_from}
 use Rattle.br_model.specs.Text.Words.{Word, is_word, readable}
 
 abbrev pub words_among : List Word → List Word
@@ -12,12 +12,24 @@ words_among parts = map readable (filter is_word parts)
 abbrev pub is_plain : ℕ → Bool
 is_plain c = not (c == 32) && is_ascii c
 
--- a word stands in front of a space and the rest
-pub record Splits (text : List ℕ) (found : Bor (List ℕ) × Bor (List ℕ)) : Type 0 where
-  pub text_is : text ≡ found.0.now ++ 32 ∷ found.1.now
-  pub is_a_word : is_word found.0.now ≡ true
-  pub plain : list_all is_plain found.0.now ≡ true
+-- a word that spells a number stands in front of a space and the rest
+pub record Numbered (text : List ℕ) (number : ℕ) (rest : List ℕ) : Type 0 where
+  pub word : Word
+  pub text_is : text ≡ word ++ 32 ∷ rest
+  pub spells : decimal_from word ≡ Some number
 
 -- the line of a frame that enters
 abbrev pub enters : List ℕ → List ℕ
 enters entry = 114 ∷ 120 ∷ 32 ∷ entry
+
+-- the line of a command of a port's flag
+abbrev pub links : List ℕ → List ℕ
+links text = codes "cmd link " ++ text
+
+-- the line of a moment
+abbrev pub moves : List ℕ → List ℕ
+moves text = codes "now " ++ text
+
+abbrev pub switch_word : Bool → List ℕ
+switch_word true = codes "on"
+switch_word false = codes "off"

@@ -1,7 +1,8 @@
 //! The steps of a generated scenario's frames, one at a time.
 ghost use Rattle.std.specs.Prelude.{◌≡◌, ◌<◌, ◌≤◌, ◌∷◌, ◌++◌, true, IfSome};
-ghost use Rattle.br_model.specs.Program.Generator.{most_frames, steps as all_steps, first_steps};
+ghost use Rattle.br_model.specs.Program.Generator.{most_frames, ports, steps as all_steps, first_steps};
 ghost use Rattle.br_model.specs.Text.LineForms.{comes_by_line};
+ghost use Rattle.br_model.specs.Text.Roster.{chips_of};
 ghost use Rattle.scenario_text.specs.declared.frame_steps.Stage.TheVariants.{Serve as ServeNext, Report as ReportNext, Turn as TurnNext, Publish as PublishNext, Moment as MomentNext};
 ghost use Rattle.scenario_text.specs.Generating.{next_steps, steps_left};
 ghost use Rattle.scenario_text.specs.Stepping.{following, step_of, Gives, GivesMade};
@@ -43,7 +44,7 @@ impl Following {
         requires { self.old.i ≤ most_frames }
         ensures gives { Gives (following MomentNext self.old.i) self.new result }
         ensures i { self.new.i ≡ self.old.i }
-        ensures by_line { IfSome result (λ step. comes_by_line step ≡ true) }
+        ensures by_line { IfSome result (λ step. comes_by_line (chips_of ports) step ≡ true) }
     {
         self.stage = Stage::Frame;
         if self.i % 64 == 0 {
@@ -57,7 +58,7 @@ impl Following {
         requires { self.old.i ≤ most_frames }
         ensures gives { Gives (following PublishNext self.old.i) self.new result }
         ensures i { self.new.i ≡ self.old.i }
-        ensures by_line { IfSome result (λ step. comes_by_line step ≡ true) }
+        ensures by_line { IfSome result (λ step. comes_by_line (chips_of ports) step ≡ true) }
     {
         if self.i % 7 != 0 {
             return self.moment();
@@ -70,7 +71,7 @@ impl Following {
         requires { self.old.i ≤ most_frames }
         ensures gives { Gives (following TurnNext self.old.i) self.new result }
         ensures i { self.new.i ≡ self.old.i }
-        ensures by_line { IfSome result (λ step. comes_by_line step ≡ true) }
+        ensures by_line { IfSome result (λ step. comes_by_line (chips_of ports) step ≡ true) }
     {
         if self.i % 5 != 0 {
             return self.publish();
@@ -83,7 +84,7 @@ impl Following {
         requires { self.old.i ≤ most_frames }
         ensures gives { Gives (following ReportNext self.old.i) self.new result }
         ensures i { self.new.i ≡ self.old.i }
-        ensures by_line { IfSome result (λ step. comes_by_line step ≡ true) }
+        ensures by_line { IfSome result (λ step. comes_by_line (chips_of ports) step ≡ true) }
     {
         if self.i % 3 != 0 {
             return self.turn();
@@ -96,7 +97,7 @@ impl Following {
         requires { self.old.i ≤ most_frames }
         ensures gives { Gives (following self.old.stage self.old.i) self.new result }
         ensures i { self.new.i ≡ self.old.i }
-        ensures by_line { IfSome result (λ step. comes_by_line step ≡ true) }
+        ensures by_line { IfSome result (λ step. comes_by_line (chips_of ports) step ≡ true) }
     {
         match self.stage {
             Stage::Serve => {
@@ -166,7 +167,7 @@ impl FrameSteps {
     /// The next step, or none where none is left.
     pub fn next(&mut self) -> Option<Made>
         ensures gives { GivesMade self.old self.new result }
-        ensures by_line { IfSome result (λ made. comes_by_line (step_of made) ≡ true) }
+        ensures by_line { IfSome result (λ made. comes_by_line (chips_of ports) (step_of made) ≡ true) }
     {
         if let Some(step) = self.coming.next() {
             return Some(Made::Follows(step));

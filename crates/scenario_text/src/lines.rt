@@ -1,8 +1,10 @@
 //! Lines, by their first word.
 ghost use Rattle.std.specs.Prelude.{◌≡◌, ◌<◌, length, true, IfOk};
+ghost use Rattle.br_model.specs.Table.Domains.{first_chip_domain, last_chip};
 ghost use Rattle.br_model.specs.Text.CommandForms.{commands};
 ghost use Rattle.br_model.specs.Text.Forms.{line};
 ghost use Rattle.br_model.specs.Text.LineForms.{declarations, steps, lines, commanded, words_say};
+ghost use Rattle.br_model.specs.Text.Operands.{number as number_of};
 ghost use Rattle.bridge_command.specs.Seen.{word, OrNoMemory};
 ghost use Rattle.scenario_text.specs.Items.{declares, fits_roster};
 
@@ -32,6 +34,20 @@ fn declared(
     Ok(Said::Declares { port, name, dom })
 }
 
+/// The declaration of a port of a switch chip.
+fn declared_on_chip(
+    alloc: Global,
+    number: &str,
+    name: &str,
+    dom: &str,
+    r: &Roster,
+) -> Result<Said, LineWhy>
+    ensures value { OrNoMemory result (declares r.now number.now name.now (number_of first_chip_domain last_chip dom.now)) }
+    ensures fits { IfOk result (λ said. fits_roster r.now said ≡ true) }
+{
+    declared(alloc, number, name, r.chip_domain(dom), r)
+}
+
 /// The first line, and the declarations.
 #[tactic(auto, using(br_model::proofs::Words::words))]
 fn declaration_line(alloc: Global, words: &[&str], r: &Roster) -> Result<Said, LineWhy>
@@ -52,7 +68,7 @@ fn declaration_line(alloc: Global, words: &[&str], r: &Roster) -> Result<Said, L
             Ok(Said::Bridge(mac(address)?))
         }
         ["port", number, name, "soft"] => declared(alloc, number, name, Ok(Dom::SOFTWARE), r),
-        ["port", number, name, "chip", dom] => declared(alloc, number, name, r.chip_domain(dom), r),
+        ["port", number, name, "chip", dom] => declared_on_chip(alloc, number, name, dom, r),
         _ => Err(LineWhy::Word),
     }
 }

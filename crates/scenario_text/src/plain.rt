@@ -1,32 +1,59 @@
 //! The most frequent steps, in their plainest spelling: one space between two words, and none at either end.
-ghost use Rattle.std.specs.Prelude.{◌≡◌, ◌≢◌, length, true, Ok, Some, IfSome};
-ghost use Rattle.br_model.specs.Data.Digits.{bytes_from_hex};
+ghost use Rattle.std.specs.Prelude.{◌≡◌, ◌≢◌, [], ◌∷◌, length, true, Ok, Some, IfSome};
+ghost use Rattle.br_model.specs.Data.Digits.{bytes_from_hex, decimal_from};
 ghost use Rattle.br_model.specs.declared.scenario.Said.TheVariants.{Does};
+ghost use Rattle.br_model.specs.declared.steps.Command.TheVariants.{Link};
 ghost use Rattle.br_model.specs.Text.CommandForms.{step};
 ghost use Rattle.br_model.specs.Text.LineForms.{all_say, comes_by_line};
-ghost use Rattle.br_model.specs.Text.Words.{words};
-ghost use Rattle.scenario_text.specs.Parts.{Splits, enters};
+ghost use Rattle.br_model.specs.Text.Roster.{chips_of};
+ghost use Rattle.br_model.specs.Text.Words.{words, readable as readable_of};
+ghost use Rattle.scenario_text.specs.Parts.{Numbered, enters, links, moves, switch_word};
 
 use crate::digits::decoded;
 use crate::words::readable;
 use br_model::bytes::Bytes;
 use br_model::numbers::Dom;
 use br_model::scenario::Place;
-use br_model::steps::Step;
-use bridge_command::Roster;
+use br_model::steps::{Command, Step};
+use bridge_command::{Roster, flag, milliseconds};
+use memchr::memchr;
 use std::alloc::Global;
 
-/// The first word, if it is one digit or two, and what follows it.
-fn first_word(entry: &[u8]) -> Option<(&[u8], &[u8])>
-    ensures { IfSome result (Splits entry.now) }
+/// The number that a digit spells.
+fn one_digit(a: u8) -> Option<u8>
+    ensures { IfSome result (λ n. decimal_from (a ∷ []) ≡ Some n) }
 {
-    match entry {
-        [a, b' ', rest @ ..] if a.is_ascii_digit() => Some((&entry[..1], rest)),
-        [a, b, b' ', rest @ ..] if a.is_ascii_digit() && b.is_ascii_digit() => {
-            Some((&entry[..2], rest))
-        }
-        _ => None,
+    if a.is_ascii_digit() {
+        Some(a - b'0')
+    } else {
+        None
     }
+}
+
+/// The number that two digits spell.
+fn two_digits(a: u8, b: u8) -> Option<u8>
+    ensures { IfSome result (λ n. decimal_from (a ∷ b ∷ []) ≡ Some n) }
+{
+    if a.is_ascii_digit() && a != b'0' && b.is_ascii_digit() {
+        Some(10 * (a - b'0') + (b - b'0'))
+    } else {
+        None
+    }
+}
+
+/// The number that the first word spells, if it is one digit or two, and what follows the space after that word.
+fn first_number(entry: &[u8]) -> Option<(u8, &[u8])>
+    ensures { IfSome result (λ found. Numbered entry.now found.0 found.1.now) }
+{
+    if let [a, b' ', rest @ ..] = entry {
+        let number = one_digit(*a)?;
+        return Some((number, rest));
+    }
+    if let [a, b, b' ', rest @ ..] = entry {
+        let number = two_digits(*a, *b)?;
+        return Some((number, rest));
+    }
+    None
 }
 
 /// At least one byte, where the digits spell some and there is memory for them.
@@ -45,26 +72,93 @@ fn plain_bytes(alloc: Global, digits: &[u8]) -> Option<Bytes>
 fn plain_entry(alloc: Global, entry: &[u8], r: &Roster) -> Option<Step>
     requires { step r.now.place ≡ true }
     ensures says { IfSome result (λ it. all_say r.now (words (enters entry.now)) ≡ Ok (Does it)) }
-    ensures by_line { IfSome result (λ it. comes_by_line it ≡ true) }
+    ensures by_line { IfSome result (λ it. comes_by_line (chips_of r.now.ports) it ≡ true) }
 {
-    let found = first_word(entry)?;
-    let Ok(port) = r.numbered(readable(found.0)) else {
-        return None;
-    };
+    let found = first_number(entry)?;
+    let port = r.port_of(found.0)?;
     let bytes = plain_bytes(alloc, found.1)?;
     Some(Step::Rx { port, bytes })
+}
+
+/// The word that stands first, and what follows the space after it.
+fn cut(text: &[u8]) -> Option<(&[u8], &[u8])>
+    ensures { IfSome result (λ found. words text.now ≡ readable_of found.0.now ∷ words found.1.now) }
+{
+    let end = memchr(b' ', text)?;
+    if end == 0 {
+        return None;
+    }
+    let (word, after) = text.split_at(end);
+    Some((word, &after[1..]))
+}
+
+/// Whether a flag is to be on.
+fn switch(word: &[u8]) -> Option<bool>
+    ensures { IfSome result (λ on. word.now ≡ switch_word on) }
+{
+    match word {
+        b"on" => Some(true),
+        b"off" => Some(false),
+        _ => None,
+    }
+}
+
+/// The command of a port's flag, by what follows `cmd link`.
+fn plain_link(text: &[u8], r: &Roster) -> Option<Step>
+    requires { step r.now.place ≡ true }
+    ensures says { IfSome result (λ it. all_say r.now (words (links text.now)) ≡ Ok (Does it)) }
+    ensures by_line { IfSome result (λ it. comes_by_line (chips_of r.now.ports) it ≡ true) }
+{
+    let named = cut(text)?;
+    let flagged = cut(named.1)?;
+    let on = switch(flagged.1)?;
+    let flag = flag(readable(flagged.0))?;
+    let Ok(port) = r.named(readable(named.0)) else {
+        return None;
+    };
+    Some(Step::Cmd(Command::Link { port, flag, on }))
+}
+
+/// The step to a moment, by what follows `now`.
+fn plain_moment(text: &[u8], r: &Roster) -> Option<Step>
+    requires { step r.now.place ≡ true }
+    ensures says { IfSome result (λ it. all_say r.now (words (moves text.now)) ≡ Ok (Does it)) }
+    ensures by_line { IfSome result (λ it. comes_by_line (chips_of r.now.ports) it ≡ true) }
+{
+    match milliseconds(readable(text)) {
+        Ok(moment) => Some(Step::Now(moment)),
+        Err(_) => None,
+    }
 }
 
 /// The step of a line that is so spelled. `None` says nothing of a line: it is to be read word by word.
 pub(crate) fn plain_step(alloc: Global, line: &[u8], r: &Roster) -> Option<Step>
     ensures says { IfSome result (λ it. all_say r.now (words line.now) ≡ Ok (Does it)) }
-    ensures by_line { IfSome result (λ it. comes_by_line it ≡ true) }
+    ensures by_line { IfSome result (λ it. comes_by_line (chips_of r.now.ports) it ≡ true) }
 {
     let Ok(()) = r.stands(Place::Steps) else {
         return None;
     };
     if let [b'r', b'x', b' ', entry @ ..] = line {
         return plain_entry(alloc, entry, r);
+    }
+    if let [
+        b'c',
+        b'm',
+        b'd',
+        b' ',
+        b'l',
+        b'i',
+        b'n',
+        b'k',
+        b' ',
+        text @ ..,
+    ] = line
+    {
+        return plain_link(text, r);
+    }
+    if let [b'n', b'o', b'w', b' ', text @ ..] = line {
+        return plain_moment(text, r);
     }
     match line {
         b"serve" => Some(Step::Serve),

@@ -1,5 +1,5 @@
 //! Drivers that are told.
-ghost use Rattle.std.specs.Prelude.{◌≡◌, List, [], ◌∷◌, ◌++◌, None};
+ghost use Rattle.std.specs.Prelude.{◌≡◌, ℕ, List, [], ◌∷◌, ◌++◌, None};
 ghost use Rattle.br_model.specs.Table.Change.{deferred};
 ghost use Rattle.br_model.specs.Table.Cut.{synchronous_of};
 ghost use Rattle.br_model.specs.Table.Domains.{Domains};
@@ -15,6 +15,9 @@ use br_model::domains::Edition;
 ///
 /// These may refuse. Here a driver says beforehand what it `takes`.
 pub trait SwitchOps {
+    /// The domain of the driver's chip, which stays.
+    ghost domain: { Self → ℕ };
+
     /// Whether the driver has a chip with these domains do what the table says.
     ghost means: { Domains → Self → Table → Type 0 };
 
@@ -24,17 +27,20 @@ pub trait SwitchOps {
     /// Answers `SWITCHDEV_PORT_OBJ_ADD`.
     fn obj_add(&mut self, o: &Object)
         requires { takes self.old (change_added o.now) }
-        ensures { (d : Domains) (t : Table) → means d self.old t → means d self.new (apply t (change_added o.now)) };
+        ensures told { (d : Domains) (t : Table) → means d self.old t → means d self.new (apply t (change_added o.now)) }
+        ensures domain { domain self.new ≡ domain self.old };
 
     /// Answers `SWITCHDEV_PORT_OBJ_DEL`.
     fn obj_del(&mut self, o: &Object)
         requires { takes self.old (change_removed o.now) }
-        ensures { (d : Domains) (t : Table) → means d self.old t → means d self.new (apply t (change_removed o.now)) };
+        ensures told { (d : Domains) (t : Table) → means d self.old t → means d self.new (apply t (change_removed o.now)) }
+        ensures domain { domain self.new ≡ domain self.old };
 
     /// Answers `SWITCHDEV_PORT_ATTR_SET`.
     fn attr_set(&mut self, a: &Attribute)
         requires { takes self.old (change_of_attribute a.now) }
-        ensures { (d : Domains) (t : Table) → means d self.old t → means d self.new (apply t (change_of_attribute a.now)) };
+        ensures told { (d : Domains) (t : Table) → means d self.old t → means d self.new (apply t (change_of_attribute a.now)) }
+        ensures domain { domain self.new ≡ domain self.old };
 }
 
 /// Tells a driver of a change, as `switchdev_port_obj_add`, `switchdev_port_obj_del` and `switchdev_port_attr_set` do. What is
@@ -45,6 +51,7 @@ pub fn deliver<D: SwitchOps>(d: &mut D, n: &Notice, e: Edition)
     ensures list { (domains : Domains) (list : List Change) (c : Change) → n.now ≡ notice c
         → D.means domains d.old (table list) → D.means domains d.new (table (list ++ synchronous_of e (c ∷ []))) }
     ensures deferred { told_in e n.now ≡ None → d.new ≡ d.old }
+    ensures domain { D.domain d.new ≡ D.domain d.old }
 {
     match n {
         Notice::ObjAdd(object) => {

@@ -77,6 +77,8 @@ fn changed(a: &Attribute) -> Change
 }
 
 impl SwitchOps for Log {
+    ghost domain = { λ log. 1 };
+
     ghost means = { λ domains log t. t ≡ table log.changes.items };
 
     ghost takes = { λ log c. vec_len log.changes < vec_capacity log.changes };

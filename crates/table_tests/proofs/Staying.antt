@@ -1,12 +1,17 @@
 -- A change that fits the software tables is one that the chip's driver takes, and they stay alike.
+use Rattle.std.proofs.Common.{◌≡◌, false, cond, None, Some, ap}
 use Rattle.std.specs.Prelude.{IsTrue}
 use Rattle.br_model.specs.declared.change.Change.{Change}
+use Rattle.br_model.specs.declared.change.Change.TheVariants as changes
+use Rattle.br_model.specs.declared.domains.Edition.{Edition}
+use Rattle.br_model.specs.Table.Change.{deferred}
 use Rattle.br_model.specs.Table.Domains.{Domains}
 use Rattle.br_model.specs.Table.Limits.{fits}
 use Rattle.br_model.specs.Table.Table.{Table, apply}
 use Rattle.br_model.proofs.AddressRoom.{HasRoom, room-apply}
 use Rattle.chip_driver.specs.Drives.{Driven, Drives, IsTaken}
 use Rattle.chip_driver.proofs.Taking.{taken}
+use Rattle.switchdev_notify.specs.Notices.{notice, told_in}
 use Rattle.table_tests.specs.Alike.{AreAlike}
 
 room : (domains : Domains) (driver : Driven) (t : Table) (c : Change) → AreAlike domains driver t → IsTrue (fits t c) → HasRoom (apply t c).addr
@@ -19,3 +24,20 @@ pub stay : (domains : Domains) (old new : Driven) (t : Table) (c : Change) → A
 stay domains old new t c alike fit stands =
     let after : HasRoom (apply t c).addr = room domains old t c alike fit in
     record { stands = stands; ascend = after.ascend; few = after.few }
+
+-- a change that isn't deferred is told
+pub told-now : (e : Edition) (c : Change) → deferred e c ≡ false → told_in e (notice c) ≡ Some c
+told-now e (changes.PortUp a) now = ap (λ x. cond x None (Some (changes.PortUp a))) now
+told-now e (changes.PortDown a) now = ap (λ x. cond x None (Some (changes.PortDown a))) now
+told-now e (changes.SetFlags a b) now = ap (λ x. cond x None (Some (changes.SetFlags a b))) now
+told-now e (changes.SetState a b) now = ap (λ x. cond x None (Some (changes.SetState a b))) now
+told-now e (changes.VlanAdd a b c d) now = ap (λ x. cond x None (Some (changes.VlanAdd a b c d))) now
+told-now e (changes.VlanDel a b) now = ap (λ x. cond x None (Some (changes.VlanDel a b))) now
+told-now e (changes.GroupJoin a b c) now = ap (λ x. cond x None (Some (changes.GroupJoin a b c))) now
+told-now e (changes.GroupPart a b c) now = ap (λ x. cond x None (Some (changes.GroupPart a b c))) now
+told-now e (changes.Router a b) now = ap (λ x. cond x None (Some (changes.Router a b))) now
+told-now e (changes.Querier a b) now = ap (λ x. cond x None (Some (changes.Querier a b))) now
+told-now e (changes.Snoop a) now = ap (λ x. cond x None (Some (changes.Snoop a))) now
+told-now e (changes.Stp a) now = ap (λ x. cond x None (Some (changes.Stp a))) now
+told-now e (changes.AddrPut a b c d) now = absurd (cc)
+told-now e (changes.AddrDel a b) now = absurd (cc)

@@ -1,10 +1,10 @@
 -- The crate `hex` writes the definition's digits.
-use Rattle.std.proofs.Common.{◌≡◌, ℕ, zero, suc, ◌/◌, ◌%◌, ◌<◌, ◌==◌, Bool, true, ◌&&◌, inl, inr, List, [], ◌∷◌, slice_index, refl, ap, ◌∙◌, arith}
+use Rattle.std.proofs.Common.{◌≡◌, ℕ, zero, suc, ◌/◌, ◌%◌, ◌<◌, ◌==◌, Bool, true, ◌&&◌, inl, inr, List, [], ◌∷◌, slice_index, refl, ap, ◌∙◌, ◌++◌, subst, arith}
 use Rattle.std.specs.Char.{is_ascii}
 use Rattle.std.specs.Cmp.{first_so, second_so}
 use Rattle.std.specs.List.{list_all}
 use Rattle.std.proofs.lemmas.Bool.{and_parts, cases_lt, eqb-true}
-use Rattle.std.proofs.lemmas.Str.{IsUtf8-from_ascii}
+use Rattle.std.proofs.lemmas.Str.{IsUtf8-from_ascii, IsUtf8-append}
 use Rattle.std.specs.Str.{IsAscii, IsUtf8}
 use Rattle.std.proofs.lemmas.Str.Ascii.{IsAscii-cons, IsAscii-nil}
 use Rattle.br_model.specs.Data.Digits.{hex_digit, hex_of}
@@ -52,3 +52,10 @@ digits_ascii = ascii_by_test lower_digits refl
 
 pub encode_lower-IsUtf8 : (bytes : List ℕ) → IsUtf8 (encode_lower bytes)
 encode_lower-IsUtf8 bytes = IsUtf8-from_ascii _ (IsAscii-encode_with lower_digits bytes digits_ascii)
+
+-- digits and a line feed are UTF-8
+pub end_utf8 : (bytes : List ℕ) → IsBytes bytes → IsUtf8 (hex_of bytes ++ 10 ∷ [])
+end_utf8 bytes h = IsUtf8-append _ _ (subst IsUtf8 (encode_lower-is bytes h) (encode_lower-IsUtf8 bytes)) (IsUtf8-from_ascii _ (ascii_by_test (10 ∷ []) refl))
+
+pub space_utf8 : IsUtf8 (32 ∷ [])
+space_utf8 = IsUtf8-from_ascii _ (ascii_by_test (32 ∷ []) refl)

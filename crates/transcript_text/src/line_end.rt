@@ -1,5 +1,6 @@
 //! A short line, put together from its end.
 ghost use Rattle.std.specs.Prelude.{◌≡◌, ◌+◌, ◌≤◌, ◌++◌, [], length, drop, OnOk, OnErr, decimal};
+ghost use Rattle.std.specs.Str.{IsUtf8};
 ghost use Rattle.std.specs.String.{string_bytes};
 
 use br_model::NoMemory;
@@ -9,6 +10,9 @@ use std::str;
 
 /// The most bytes of a line that has no frame.
 const ROOM: usize = 64;
+
+/// Where the bytes begin that are copied with a short line.
+const LAST: usize = 48;
 
 /// What stands at the end of a line. Digits of a number come from the last to the first, so a line is put together from its end.
 #[derive(Drop)]
@@ -30,15 +34,29 @@ impl Model for LineEnd {
 
 /// Puts a word before this place, and answers where it begins.
 #[inline(always)]
-fn put_before(bytes: &mut [u8; ROOM], end: usize, word: &[u8]) -> usize
+pub(crate) fn put_before(bytes: &mut [u8], end: usize, word: &[u8]) -> usize
     requires fits { length word.now ≤ end }
-    requires inside { end ≤ 64 }
+    requires inside { end ≤ length bytes.old }
     ensures from { result + length word.now ≡ end }
     ensures written { drop result bytes.new ≡ word.now ++ drop end bytes.old }
+    ensures len { length bytes.new ≡ length bytes.old }
 {
     let from = end - word.len();
     bytes[from..end].copy_from_slice(word);
     from
+}
+
+/// Puts a number before this place, and answers where it begins.
+#[inline(always)]
+pub(crate) fn put_number(bytes: &mut [u8], end: usize, number: u32) -> usize
+    requires fits { 10 ≤ end }
+    requires inside { end ≤ length bytes.old }
+    ensures start { result + length (decimal number) ≡ end }
+    ensures least { end ≤ result + 10 }
+    ensures written { drop result bytes.new ≡ decimal number ++ drop end bytes.old }
+    ensures len { length bytes.new ≡ length bytes.old }
+{
+    write_digits(u64::from(number), bytes, end)
 }
 
 impl LineEnd {
@@ -69,7 +87,21 @@ impl LineEnd {
         ensures text { self.new ≡ decimal number ++ self.old }
         ensures len { length self.new ≤ 10 + length self.old }
     {
-        self.from = write_digits(u64::from(number), &mut self.bytes, self.from);
+        self.from = put_number(&mut self.bytes, self.from, number);
+    }
+
+    /// Puts it before this place of another text, and answers where it begins. 16 bytes are written there, whatever it is.
+    #[inline(always)]
+    pub(crate) fn copy_before(&self, text: &mut [u8], end: usize) -> usize
+        requires short { length self.now ≤ 16 }
+        requires fits { 16 ≤ end }
+        requires inside { end ≤ length text.old }
+        ensures from { result + length self.now ≡ end }
+        ensures written { drop result text.new ≡ self.now ++ drop end text.old }
+        ensures utf8 { IsUtf8 self.now }
+    {
+        put_before(text, end, &self.bytes[LAST..]);
+        end - (ROOM - self.from)
     }
 
     /// Writes it behind the text.

@@ -5,7 +5,7 @@ ghost use Rattle.br_model.specs.Text.Transcript.{line_text, text, fault_word, cl
 ghost use Rattle.transcript_lines.specs.Rows.{expand_row, sent_lines};
 ghost use Rattle.transcript_text.specs.Extends.{Extends};
 
-use crate::frames::FrameEnd;
+use crate::frames::FrameLine;
 use crate::line_end::LineEnd;
 use br_model::NoMemory;
 use br_model::bytes::Bytes;
@@ -20,16 +20,16 @@ use transcript_lines::{Lines, Row};
 /// Writes lines. The digits of the frame at hand are kept, since it leaves by many ports: without its tag, and with it.
 #[derive(Drop)]
 pub struct Writer {
-    plain: FrameEnd,
-    tagged: FrameEnd,
+    plain: FrameLine,
+    tagged: FrameLine,
 }
 
 impl Writer {
     /// Allocates nothing.
     pub fn new(alloc: Global) -> Writer {
         Writer {
-            plain: FrameEnd::new(alloc),
-            tagged: FrameEnd::new(alloc),
+            plain: FrameLine::new(alloc),
+            tagged: FrameLine::new(alloc),
         }
     }
 
@@ -110,12 +110,12 @@ impl Writer {
     {
         self.plain.forget();
         self.tagged.forget();
+        let start = tx_start(id);
         for number in ports.iter() {
-            append_start(id, number, to)?;
             if untagged.has(number) {
-                self.plain.append(plain, to)?;
+                self.plain.append(&start, number, plain, to)?;
             } else {
-                self.tagged.append(tagged, to)?;
+                self.tagged.append(&start, number, tagged, to)?;
             }
         }
         Ok(())
@@ -131,37 +131,32 @@ impl Writer {
         ensures ok { OnOk result (string_bytes to.new ≡ string_bytes to.old ++ line_text (Line.Tx id port bytes.now)) }
         ensures err { OnErr result (Extends (string_bytes to.old) (string_bytes to.new)) }
     {
-        append_start(id, port.number(), to)?;
         self.plain.forget();
-        self.plain.append(bytes.as_slice(), to)
+        self.plain
+            .append(&tx_start(id), port.number(), bytes.as_slice(), to)
     }
 
     fn append_ctl(&mut self, port: Port, bytes: &[u8], to: &mut String) -> Result<(), NoMemory>
         ensures ok { OnOk result (string_bytes to.new ≡ string_bytes to.old ++ line_text (Line.Ctl port bytes.now)) }
         ensures err { OnErr result (Extends (string_bytes to.old) (string_bytes to.new)) }
     {
-        let mut line = LineEnd::new();
-        line.word(" ");
-        line.number(u32::from(port.number()));
-        line.word("ctl ");
-        line.append_to(to)?;
+        let mut start = LineEnd::new();
+        start.word("ctl ");
         self.plain.forget();
-        self.plain.append(bytes, to)
+        self.plain.append(&start, port.number(), bytes, to)
     }
 }
 
-/// Writes `tx ID PORT `, the start of a line of a frame that leaves.
-fn append_start(id: u32, port: u8, to: &mut String) -> Result<(), NoMemory>
-    ensures ok { OnOk result (string_bytes to.new ≡ string_bytes to.old ++ (codes "tx " ++ (decimal id ++ (32 ∷ (decimal port ++ 32 ∷ []))))) }
-    ensures err { OnErr result (string_bytes to.new ≡ string_bytes to.old) }
+/// `tx ID `, the start of the lines of a frame that leaves.
+fn tx_start(id: u32) -> LineEnd
+    ensures text { result ≡ codes "tx " ++ (decimal id ++ 32 ∷ []) }
+    ensures short { length result ≤ 16 }
 {
-    let mut line = LineEnd::new();
-    line.word(" ");
-    line.number(u32::from(port));
-    line.word(" ");
-    line.number(id);
-    line.word("tx ");
-    line.append_to(to)
+    let mut start = LineEnd::new();
+    start.word(" ");
+    start.number(id);
+    start.word("tx ");
+    start
 }
 
 /// The word with the line feed.

@@ -1,16 +1,17 @@
 -- The memberships that rows tell.
-use Rattle.std.proofs.Common.{◌≡◌, ◌≢◌, ℕ, zero, suc, ◌+◌, ◌<◌, ◌≤◌, Bool, true, false, not, ◌&&◌, ◌||◌, cond, T, List, [], ◌∷◌, ◌++◌, map, length, get_or, set, replicate, take, Option, None, Some, is_some, refl, sym, ap, ap₂, subst, ◌∙◌, arith, inl, inr, get_or-set_same, get_or-set_other, append_assoc}
+use Rattle.std.proofs.Common.{◌≡◌, ◌≢◌, ℕ, zero, suc, ◌+◌, ◌<◌, ◌≤◌, Bool, true, false, not, ◌&&◌, ◌||◌, cond, T, List, [], ◌∷◌, ◌++◌, map, length, get_or, set, replicate, Option, None, Some, is_some, refl, sym, ap, ap₂, subst, ◌∙◌, arith, inl, inr, get_or-set_same, get_or-set_other}
 use Rattle.std.specs.Prelude.{◌==◌, nat_lt}
 use Rattle.std.specs.List.{filter, range_with_len}
 use Rattle.std.specs.Ordering.{nat_cmp, eq_by_cmp, is_lt, ordering_then}
 use Rattle.std.specs.Cmp.{nat_cmp_is}
 use Rattle.std.specs.declared.cmp.Ordering.TheVariants.{Less, Equal}
 use Rattle.std.specs.FinMap.Entries.{below_all, is_sorted, is_sorted-put, is_sorted-where_key, find-put, find-where_key, same_entries}
-use Rattle.std.proofs.Math.Bool.{and-true, and-false}
-use Rattle.std.proofs.lemmas.Bool.{eqb-true, eq-eqb, ne_eqb, cases_lt, lt-ltb}
+use Rattle.std.proofs.Math.Bool.{and-false}
+use Rattle.std.proofs.lemmas.Bool.{eqb-true, eq-eqb, ne_eqb, cases_lt}
 use Rattle.std.proofs.lemmas.Bool.Decides.{eqb_tells}
-use Rattle.std.proofs.lemmas.List.{map-append, get_or_default, take_more, length-take-le}
+use Rattle.std.proofs.lemmas.List.{map-append, map-id, append-nil, get_or_default}
 use Rattle.std.proofs.lemmas.List.Elements.{filter-append}
+use Rattle.std.proofs.lemmas.List.FromFn.{filter_of_map_range_with_len_more}
 use Rattle.br_model.specs.Data.Maps.{pair_cmp, get, put, without}
 use Rattle.port_sets.specs.Numbers.{numbers_below, has_number}
 use Rattle.port_sets.proofs.Numbers.{numbers_below-filter, none_below}
@@ -135,7 +136,7 @@ sorted-memberships (row ∷ rows) n =
 
 -- ---- a new row at place k, which differs at port p alone
 
-get-set : (rows : List Row) (k : ℕ) (row : Row) (p : ℕ) (o : Option Bool) → k < length rows
+pub get-set : (rows : List Row) (k : ℕ) (row : Row) (p : ℕ) (o : Option Bool) → k < length rows
     → ((q : ℕ) → at_port row q ≡ cond (q == p) o (at_port (get_or rows k no_ports) q))
     → (v q : ℕ) → get pair_cmp (memberships_from 1 (set rows k row)) (v, q) ≡ cond (eq_by_cmp pair_cmp (v, q) (1 + k, p)) o (get pair_cmp (memberships_from 1 rows) (v, q))
 get-set rows k row p o within h zero q =
@@ -249,31 +250,38 @@ vids-row n p row =
           ∙ ap (λ (o : Option Bool). cond (is_some o) (n ∷ []) []) (sym (at-high row p (omega arith)))
     ]
 
--- one row more
-vids-more : (rows : List Row) (n p : ℕ) (row : Row)
-    → vids_of (memberships_from n (rows ++ row ∷ [])) p ≡ vids_of (memberships_from n rows) p ++ cond (is_some (at_port row p)) ((n + length rows) ∷ []) []
-vids-more [] n p row =
-    let e : n ≡ n + 0 = omega arith in
-    vids-append (memberships n row) [] p ∙ none (vids_of (memberships n row) p) ∙ vids-row n p row ∙ ap (λ m. cond (is_some (at_port row p)) (m ∷ []) []) e
+-- the VLANs of a port are those of whose rows it is a member
+pub vids-from : (rows : List Row) (n p : ℕ) (test : ℕ → Bool) → ((k : ℕ) → k < length rows → test (n + k) ≡ is_some (at_port (get_or rows k no_ports) p))
+    → vids_of (memberships_from n rows) p ≡ filter test (range_with_len n (length rows))
+vids-from [] n p test h = refl
+vids-from (row ∷ rows) n p test h =
+    let rest : vids_of (memberships_from (n + 1) rows) p ≡ filter test (range_with_len (n + 1) (length rows)) =
+    vids-from rows (n + 1) p test (λ k low. let e : (n + 1) + k ≡ n + suc k = omega arith in ap test e ∙ h (suc k) (omega arith)) in
+    let here : is_some (at_port row p) ≡ test n = sym (h zero (omega arith)) ∙ ap test (let e : n + 0 ≡ n = omega arith in e) in
+    vids-append (memberships n row) (memberships_from (n + 1) rows) p
+    ∙ ap₂ (λ (xs ys : List ℕ). xs ++ ys) (vids-row n p row ∙ ap (λ b. cond b (n ∷ []) []) here) rest
+    ∙ by (test n)
   where
-    none : (xs : List ℕ) → xs ++ [] ≡ xs
-    none [] = refl
-    none (x ∷ xs) = ap (λ ys. x ∷ ys) (none xs)
-vids-more (first ∷ rows) n p row =
-    let e : (n + 1) + length rows ≡ n + suc (length rows) = omega arith in
-    vids-append (memberships n first) (memberships_from (n + 1) (rows ++ row ∷ [])) p
-    ∙ ap (λ (vs : List ℕ). vids_of (memberships n first) p ++ vs) (vids-more rows (n + 1) p row ∙ ap (λ m. vids_of (memberships_from (n + 1) rows) p ++ cond (is_some (at_port row p)) (m ∷ []) []) e)
-    ∙ sym (append_assoc (vids_of (memberships n first) p) (vids_of (memberships_from (n + 1) rows) p) (cond (is_some (at_port row p)) ((n + suc (length rows)) ∷ []) []))
-    ∙ ap (λ (vs : List ℕ). vs ++ cond (is_some (at_port row p)) ((n + suc (length rows)) ∷ []) []) (sym (vids-append (memberships n first) (memberships_from (n + 1) rows) p))
+    by : (b : Bool) → cond b (n ∷ []) [] ++ filter test (range_with_len (n + 1) (length rows)) ≡ cond b (n ∷ filter test (range_with_len (n + 1) (length rows))) (filter test (range_with_len (n + 1) (length rows)))
+    by true = refl
+    by false = refl
 
--- the VLANs among the first k rows, and the next one
-pub vids-next : (rows : List Row) (k p : ℕ) (row : Row) (xs : List ℕ) (b : Bool) → k < length rows → row ≡ get_or rows k row → b ≡ is_some (at_port row p) → xs ≡ vids_of (memberships_from 1 (take k rows)) p
-    → xs ++ cond b ((k + 1) ∷ []) [] ≡ vids_of (memberships_from 1 (take (k + 1) rows)) p
-vids-next rows k p row xs b within is test so_far =
-    let place : k + 1 ≡ 1 + length (take k rows) = omega (arith, length-take-le k rows (omega arith)) in
-    ap₂ (λ (ys : List ℕ) t. ys ++ cond t ((k + 1) ∷ []) []) so_far test
-    ∙ ap (λ m. vids_of (memberships_from 1 (take k rows)) p ++ cond (is_some (at_port row p)) (m ∷ []) []) place
-    ∙ sym (ap (λ (rs : List Row). vids_of (memberships_from 1 rs) p) (take_more rows k row within ∙ ap (λ (r : Row). take k rows ++ r ∷ []) (sym is)) ∙ vids-more (take k rows) 1 p row)
+-- neither the first number nor the last passes
+pub between : (m most : ℕ) (test : ℕ → Bool) → m + 2 ≡ most → test 0 ≡ false → test (m + 1) ≡ false → filter test (range_with_len 1 m) ≡ numbers_below most test
+between m most test sized first last =
+    let place : 1 + m ≡ m + 1 = omega arith in
+    sym (append-nil (filter test (range_with_len 1 m)))
+    ∙ ap (λ b. filter test (range_with_len 1 m) ++ cond b ((m + 1) ∷ []) []) (sym last)
+    ∙ sym (one_more test 1 m (m + 1) place)
+    ∙ ap (λ b. cond b (0 ∷ filter test (range_with_len 1 (m + 1))) (filter test (range_with_len 1 (m + 1)))) (sym first)
+    ∙ ap (λ n. filter test (range_with_len 0 n)) (let e : suc (m + 1) ≡ most = omega (arith, sized) in e)
+    ∙ sym (numbers_below-filter test most)
+  where
+    one_more : (t : ℕ → Bool) (a n j : ℕ) → a + n ≡ j → filter t (range_with_len a (n + 1)) ≡ filter t (range_with_len a n) ++ cond (t j) (j ∷ []) []
+    one_more t a n j e =
+        ap (filter t) (sym (map-id (range_with_len a (n + 1))))
+        ∙ filter_of_map_range_with_len_more t (λ x. x) a n j e
+        ∙ ap (λ (xs : List ℕ). filter t xs ++ cond (t j) (j ∷ []) []) (map-id (range_with_len a n))
 
 -- ---- the row of a VLAN in a table
 

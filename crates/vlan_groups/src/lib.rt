@@ -1,6 +1,7 @@
 //! The memberships of a bridge's VLANs, and the PVIDs of its ports.
 #![tactic(auto)]
 
+pub mod joined;
 mod row;
 pub mod table;
 pub mod vid_list;

@@ -9,6 +9,7 @@ ghost use Rattle.vlan_groups.specs.Vlans.{parts, after, is_member, is_untagged, 
 ghost use Rattle.vlan_groups.specs.Rows.{ports_where, memberships_from};
 
 use crate::NoMemory;
+use crate::joined::Joined;
 use crate::row::Row;
 use crate::vid_list::Vids;
 use br_model::numbers::{Port, Vid};
@@ -34,20 +35,21 @@ const VLANS: usize = 4094;
 pub struct VlanTable {
     // The row of VLAN v at place v - 1.
     rows: Vec<Row>,
+    joined: Joined,
     pvids: [Option<Vid>; Port::PLACES],
 }
 
 impl Model for VlanTable {
-    ghost use Rattle.std.specs.Prelude.{◌≡◌, length};
     ghost use Rattle.br_model.specs.Table.Domains.{entries_from};
     ghost use Rattle.vlan_groups.specs.Vlans.{Vlans};
     ghost use Rattle.vlan_groups.specs.Rows.{memberships_from};
+    ghost use Rattle.vlan_groups.specs.Tied.{AreTied};
 
     ghost Value = { Vlans };
 
     ghost view = { λ t. record { vlans = memberships_from 1 t.rows.items; pvid = entries_from 0 t.pvids } };
 
-    ghost invariant = { λ t. length t.rows.items ≡ 4094 };
+    ghost invariant = { λ t. AreTied t.rows.items t.joined };
 }
 
 impl VlanTable {
@@ -58,8 +60,11 @@ impl VlanTable {
         let mut rows = empty_rows(alloc)?;
         let place = place_of(Vid::DEFAULT);
         rows[place] = rows[place].with(Port::HOST, true);
+        let mut joined = Joined::make(alloc)?;
+        joined.switch(Port::HOST, Vid::DEFAULT, true);
         Ok(VlanTable {
             rows,
+            joined,
             pvids: no_pvids(),
         })
     }
@@ -83,6 +88,7 @@ impl VlanTable {
     {
         let place = place_of(v);
         self.rows[place] = self.rows[place].with(p, untagged);
+        self.joined.switch(p, v, true);
         if pvid {
             set_pvid(&mut self.pvids, p, v);
         }
@@ -107,6 +113,7 @@ impl VlanTable {
     {
         let place = place_of(v);
         self.rows[place] = self.rows[place].without(p);
+        self.joined.switch(p, v, false);
         unset_pvid(&mut self.pvids, p, v);
     }
 
@@ -145,17 +152,13 @@ impl VlanTable {
         self.rows[place_of(v)].untagged()
     }
 
-    /// The VLANs of which the port is a member, ascending. It looks at each VLAN.
+    /// The VLANs of which the port is a member, ascending. It looks at no other.
     pub fn vids_of(&self, alloc: Global, p: Port) -> Result<Vids, NoMemory>
         ensures { IfOk result (λ vids. vids ≡ vids_of self.now.vlans p) }
     {
-        let mut vids = Vec::new(alloc);
-        for place in 0..VLANS {
-            if self.rows[place].has(p) {
-                vids.push(vid_at(place))?;
-            }
-        }
-        Ok(Vids::of(vids))
+        // law: the blocks have what the rows have
+        let _rows = &self.rows;
+        Ok(Vids::of(self.joined.vids_of(alloc, p)?))
     }
 }
 
@@ -198,14 +201,4 @@ fn place_of(v: Vid) -> usize
     ensures within { result < 4094 }
 {
     usize::from(v.number()) - 1
-}
-
-fn vid_at(place: usize) -> Vid
-    requires { place < 4094 }
-    ensures { result ≡ place + 1 }
-{
-    match Vid::new(place as u16 + 1) {
-        Some(vid) => vid,
-        None => unreachable!(),
-    }
 }

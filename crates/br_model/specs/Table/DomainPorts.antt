@@ -1,6 +1,6 @@
 -- The ports of a domain, and the software's share of a frame that a chip has forwarded in its own domain.
 -- Source: the kernel's nbp_switchdev_allowed_egress (software doesn't send to the domain that the frame is marked with).
-use Rattle.std.specs.Prelude.{ℕ, ◌≡◌, ◌<◌, ◌/◌, ◌%◌, ◌==◌, Bool, false, List, slice_index}
+use Rattle.std.specs.Prelude.{ℕ, ◌≡◌, ◌<◌, ◌==◌, Bool, false}
 use Rattle.std.specs.declared.option.Option.{Option}
 use Rattle.std.specs.declared.option.Option.TheVariants.{None, Some}
 use Rattle.std.specs.Int.{bit_at}

@@ -1,6 +1,7 @@
 -- The lines of a scenario, a row a form, and the commands behind `cmd`; and the form of each step.
 -- Source: this profile.
-use Rattle.std.specs.Prelude.{ℕ, ◌+◌, ◌-◌, nat_le, Bool, true, false, ◌&&◌, if◌then◌else◌, List, [], ◌∷◌, ◌++◌, length, codes, slice_index_or}
+use Rattle.std.specs.Prelude.{ℕ, ◌+◌, ◌-◌, ◌==◌, nat_le, Bool, true, false, if◌then◌else◌, List, [], ◌∷◌, ◌++◌, length, codes, slice_index_or}
+use Rattle.std.specs.List.{list_any}
 use Rattle.std.specs.Option.{option_map}
 use Rattle.std.specs.declared.option.Option.{Option}
 use Rattle.std.specs.declared.option.Option.TheVariants.{None, Some}
@@ -17,7 +18,7 @@ use Rattle.br_model.specs.declared.steps.Command.{Command}
 use Rattle.br_model.specs.declared.steps.Step.{Step}
 use Rattle.br_model.specs.declared.steps.Step.TheVariants.{Rx, Cmd, Now, Serve, Hold, Post, Turn, Report, Sweep, Publish}
 use Rattle.br_model.specs.Text.CommandForms.{commands, command_form, step}
-use Rattle.br_model.specs.Table.Domains.{software, first_chip_domain, last_chip}
+use Rattle.br_model.specs.Table.Domains.{software}
 use Rattle.br_model.specs.Text.Forms.{Row, row, line, Form, Fixed, fills}
 use Rattle.br_model.specs.Text.Operands.{last_moment}
 use Rattle.br_model.specs.Text.Roster.{Roster}
@@ -119,20 +120,16 @@ step_form (Report dom) = Some (fills report dom)
 step_form (Sweep dom) = Some (fills sweep dom)
 step_form Publish = Some (fills publish)
 
--- whether a domain is one that a switch chip can have
-abbrev pub of_chip : ℕ → Bool
-of_chip dom = nat_le first_chip_domain dom && nat_le dom last_chip
-
--- Whether a line can give the step, whatever ports are declared: no line holds or posts a frame yet, or names a domain that no
--- chip can have.
-abbrev pub comes_by_line : Step → Bool
-comes_by_line (Rx port bytes) = true
-comes_by_line (Cmd command) = true
-comes_by_line (Now moment) = nat_le moment last_moment
-comes_by_line Serve = true
-comes_by_line Hold = false
-comes_by_line (Post id point) = false
-comes_by_line (Turn dom) = of_chip dom
-comes_by_line (Report dom) = of_chip dom
-comes_by_line (Sweep dom) = of_chip dom
-comes_by_line Publish = true
+-- Whether a line can give the step where these domains have switch chips, whatever port it names: no line holds or posts a frame
+-- yet, or names the chip of another domain.
+abbrev pub comes_by_line : List ℕ → Step → Bool
+comes_by_line chips (Rx port bytes) = true
+comes_by_line chips (Cmd command) = true
+comes_by_line chips (Now moment) = nat_le moment last_moment
+comes_by_line chips Serve = true
+comes_by_line chips Hold = false
+comes_by_line chips (Post id point) = false
+comes_by_line chips (Turn dom) = list_any (λ d. d == dom) chips
+comes_by_line chips (Report dom) = list_any (λ d. d == dom) chips
+comes_by_line chips (Sweep dom) = list_any (λ d. d == dom) chips
+comes_by_line chips Publish = true

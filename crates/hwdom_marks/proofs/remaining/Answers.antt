@@ -1,17 +1,18 @@
 use Rattle.std.proofs.Common.{◌≡◌, ℕ, Bool, true, not, ◌&&◌, List, [], ◌∷◌, Option, refl, sym, ap, ◌∙◌}
 use Rattle.std.specs.List.{filter}
 use Rattle.br_model.specs.Table.DomainPorts.{is_in_domain, is_marked}
+use Rattle.br_model.specs.Table.Domains.{port_places}
 use Rattle.port_sets.specs.Numbers.{numbers_below, has_number, IsSetBelow}
 use Rattle.port_sets.proofs.Numbers.{same_below, has-below, filter-set}
 use Rattle.hwdom_marks.specs.declared.Mark.{Mark}
 use Rattle.hwdom_marks.specs.Marks.{domain_marked}
 use Rattle.hwdom_marks.proofs.remaining.Goals as goal
 
-without_marked : (ports marked : List ℕ) (test : ℕ → Bool) → IsSetBelow 64 ports → marked ≡ numbers_below 64 test
-    → numbers_below 64 (λ m. has_number ports m && not (has_number marked m)) ≡ filter (λ m. not (test m)) ports
+without_marked : (ports marked : List ℕ) (test : ℕ → Bool) → IsSetBelow port_places ports → marked ≡ numbers_below port_places test
+    → numbers_below port_places (λ m. has_number ports m && not (has_number marked m)) ≡ filter (λ m. not (test m)) ports
 without_marked ports marked test set e =
-    same_below _ _ 64 (λ m low. ap (λ b. has_number ports m && not b) (ap (λ (ns : List ℕ). has_number ns m) e ∙ has-below test 64 m low))
-    ∙ sym (filter-set 64 ports (λ m. not (test m)) set)
+    same_below _ _ port_places (λ m low. ap (λ b. has_number ports m && not b) (ap (λ (ns : List ℕ). has_number ns m) e ∙ has-below test port_places m low))
+    ∙ sym (filter-set port_places ports (λ m. not (test m)) set)
 
 all : (ports : List ℕ) → ports ≡ filter (λ _. true) ports
 all [] = refl

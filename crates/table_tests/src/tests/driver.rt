@@ -1,6 +1,6 @@
 //! The driver of a chip with one port, beside a port of software.
 use br_model::change::Change;
-use br_model::domains::Domains;
+use br_model::domains::{Domains, Edition};
 use br_model::numbers::{Dom, Port, Vid};
 use chip_driver::Driver;
 use chip_tables::Flood;
@@ -20,7 +20,7 @@ fn bits_follow_a_foreign_port(rt: HostRuntime) -> Result<(), Fail> {
     let mut driver = Driver::make(rt.alloc(), chip, &domains)?;
     assert!(rt; driver.tables().flood(Vid::DEFAULT, Flood::Mcast).plain);
     for port in [own, foreign] {
-        deliver(&mut driver, &notice_of(&Change::PortUp(port)));
+        deliver(&mut driver, &notice_of(&Change::PortUp(port)), Edition::One);
         deliver(
             &mut driver,
             &notice_of(&Change::VlanAdd {
@@ -29,11 +29,16 @@ fn bits_follow_a_foreign_port(rt: HostRuntime) -> Result<(), Fail> {
                 untagged: true,
                 pvid: true,
             }),
+            Edition::One,
         );
     }
     assert!(rt; !driver.tables().flood(vid, Flood::Unicast).plain);
     assert!(rt; driver.tables().flood(vid, Flood::Unicast).ports.has(1));
-    deliver(&mut driver, &notice_of(&Change::SetState(foreign, 3)));
+    deliver(
+        &mut driver,
+        &notice_of(&Change::SetState(foreign, 3)),
+        Edition::One,
+    );
     assert!(rt; driver.tables().flood(vid, Flood::Unicast).plain);
     assert!(rt; driver.tables().flood(vid, Flood::Unicast).isolated);
     Ok(())

@@ -4,8 +4,7 @@ use capture_runner::Status;
 use std::test::Fail;
 
 /// An empty line stands between two runs.
-const RUNS: &str =
-    "# In edition 1 the member of a group reaches the chip at once,
+const RUNS: &str = "# In edition 1 the member of a group reaches the chip at once,
 scenario 1
 port 1 c1 chip 1
 port 2 c2 chip 1

@@ -1,8 +1,10 @@
-use Rattle.std.proofs.Common.{[], ◌∷◌, ◌++◌, List, sym, ap, ◌∙◌, append_assoc, arith}
-use Rattle.std.specs.Cmp.{second_so}
+use Rattle.std.proofs.Common.{[], ◌∷◌, ◌++◌, List, ℕ, sym, ap, ◌∙◌, subst, append_assoc, arith}
+use Rattle.std.specs.Cmp.{first_so, second_so}
 use Rattle.std.specs.List.{list_all}
 use Rattle.br_model.specs.declared.steps.Step.{Step}
 use Rattle.br_model.specs.Text.LineForms.{comes_by_line}
+use Rattle.br_model.specs.Text.Roster.{Roster, chips_of}
+use Rattle.capture_runner.specs.Session.{IsBehindDeclarations}
 use Rattle.capture_runner.proofs.Doing.{does_more}
 use Rattle.capture_runner.proofs.replay.do_steps.Goals as goal
 
@@ -11,7 +13,22 @@ loop-step-preserved g c =
     let so_far = c.loop-step.invariant in
     let next = (rw c.in-Some.is at c.next.ensures.steps).0 in record {
       parts = so_far.parts ∙ ap (λ (l : List Step). c.loop-step.yielded ++ l) next ∙ sym (append_assoc c.loop-step.yielded (c.in-Some.step ∷ []) c.next.new.self.rest.items);
-      by_line = second_so _ _ (ap (list_all comes_by_line) (sym next) ∙ so_far.by_line);
+      by_line = second_so _ _ (ap (list_all (comes_by_line (chips_of c.args.session.now.roster.ports))) (sym next) ∙ so_far.by_line);
+      roster = c.in_ok-step.ensures.does.roster ∙ so_far.roster;
+      ready = c.in_ok-step.ensures.ready;
       does = does_more _ _ _ _ _ _ _ _ _ _ _ _ so_far.does c.in_ok-put_if_full.ensures.moved c.in_ok-step.ensures.does;
       later = omega (arith, so_far.later, c.put_if_full.ensures.cause.later);
     }
+
+pub step-requires-clause-by_line : goal.step-requires-clause-by_line
+step-requires-clause-by_line g c =
+    let so_far = c.loop-step.invariant in
+    let next = (rw c.in-Some.is at c.next.ensures.steps).0 in
+    let chips = λ (r : Roster). chips_of r.ports in
+    ap (λ (l : List ℕ). comes_by_line l c.in-Some.step) (ap chips so_far.roster)
+    ∙ first_so _ _ (ap (list_all (comes_by_line (chips_of c.args.session.now.roster.ports))) (sym next) ∙ so_far.by_line)
+
+pub step-requires-clause-behind : goal.step-requires-clause-behind
+step-requires-clause-behind g c =
+    let so_far = c.loop-step.invariant in
+    subst IsBehindDeclarations (sym so_far.roster) c.requires.behind

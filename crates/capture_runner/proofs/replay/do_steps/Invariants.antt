@@ -2,12 +2,16 @@ use Rattle.std.proofs.Common.{◌≡◌, ◌≤◌, ◌++◌, true, string_bytes
 use Rattle.std.specs.List.{list_all}
 use Rattle.capture_runner.specs.Halting.{DoesAll}
 use Rattle.br_model.specs.Text.LineForms.{comes_by_line}
+use Rattle.br_model.specs.Text.Roster.{chips_of}
+use Rattle.capture_runner.specs.Session.{IsReady}
 use Rattle.capture_runner.proofs.replay.do_steps.Given as goal
 
 abbrev pub invariant-loop-step : goal.invariant-loop-step
 invariant-loop-step g l = record {
   parts : l.fn.steps.items ≡ l.yielded ++ l.step-iterator.rest.items;
-  by_line : list_all comes_by_line l.step-iterator.rest.items ≡ true;
+  by_line : list_all (comes_by_line (chips_of l.fn.session.roster.ports)) l.step-iterator.rest.items ≡ true;
+  roster : l.session.roster ≡ l.fn.session.roster;
+  ready : IsReady l.session.roster l.session.world;
   does : DoesAll l.fn.session l.yielded l.session (g.K.Sink.taken l.fn.sink) (g.K.Sink.taken l.sink) (string_bytes l.fn.output.text) (string_bytes l.output.text);
   later : g.K.Sink.faults l.fn.sink ≤ g.K.Sink.faults l.sink;
 }

@@ -1,5 +1,6 @@
 use Rattle.std.proofs.Common.{Err, ap, ◌∙◌, arith}
 use Rattle.std.proofs.lemmas.Result.{err_from_is_err_and}
+use Rattle.capture_runner.proofs.Ready.{behind_section, ready_at_first}
 use Rattle.capture_runner.proofs.Telling.{started, started_written, moved, grown, split_all, play_ends, play_stops, section_ends, section_halts}
 use Rattle.capture_runner.proofs.replay.play.Goals as goal
 
@@ -12,6 +13,7 @@ loop-reader-init g c =
         started_written _ _,
         started _ _ _ _ reader.held reader.taken reader.limit reader.fault session.follows session.lines (rw session.text at c.in_ok-push_str.ensures.bytes),
       );
+      ready = ready_at_first c.args.session.now session.follows;
       reads = omega arith;
       writes = omega arith;
     }
@@ -30,6 +32,7 @@ loop-reader-preserved-in-Line g c =
     let w = moved _ _ _ _ _ _ plays.1 c.in_ok-put_before_read.ensures.moved in
     let goes = rw c.in-Line.is at (c.in_ok-advance.ensures.advances _ _ w.gone (split_all _ _ _ _ w _ _ _ _ plays.2)) in record {
       plays = (_, grown _ _ _ _ _ w, goes);
+      ready = c.in_ok-advance.ensures.ready;
       reads = omega (arith, c.loop-reader.invariant.reads, c.advance.ensures.later);
       writes = omega (arith, c.loop-reader.invariant.writes, c.put_before_read.ensures.cause.later);
     }
@@ -45,6 +48,13 @@ play_section-requires-clause-most g c =
     let plays = c.loop-reader.invariant.plays in
     let w = moved _ _ _ _ _ _ plays.1 c.in_ok-put_before_read.ensures.moved in
     (rw c.in-Section.is at (c.in_ok-advance.ensures.advances _ _ w.gone (split_all _ _ _ _ w _ _ _ _ plays.2))).most
+
+pub play_section-requires-clause-behind : goal.play_section-requires-clause-behind
+play_section-requires-clause-behind g c =
+    let plays = c.loop-reader.invariant.plays in
+    let w = moved _ _ _ _ _ _ plays.1 c.in_ok-put_before_read.ensures.moved in
+    let at = rw c.in-Section.is at (c.in_ok-advance.ensures.advances _ _ w.gone (split_all _ _ _ _ w _ _ _ _ plays.2)) in
+    behind_section at.scenario c.advance.new.session c.in-Section.length at.follows
 
 pub returns-in_err-last-in-Section-clause-plays : goal.returns-in_err-last-in-Section-clause-plays
 returns-in_err-last-in-Section-clause-plays g c =
@@ -69,6 +79,7 @@ loop-reader-preserved g c =
     let w = moved _ _ _ _ _ _ plays.1 c.in_ok-put_before_read.ensures.moved in
     let at = rw c.in-Section.is at (c.in_ok-advance.ensures.advances _ _ w.gone (split_all _ _ _ _ w _ _ _ _ plays.2)) in record {
       plays = rw c.in_default.is at (c.in_ok-last-in-Section.ensures.plays _ _ _ (grown _ _ _ _ _ w) at);
+      ready = c.in_ok-last-in-Section.ensures.ready;
       reads = omega (arith, c.loop-reader.invariant.reads, c.advance.ensures.later, c.play_section.ensures.later);
       writes = omega (arith, c.loop-reader.invariant.writes, c.put_before_read.ensures.cause.later, c.play_section.ensures.later_sink);
     }

@@ -13,15 +13,15 @@ use Rattle.chip_pipeline.proofs.egress.send_by.Goals as goal
 use Rattle.chip_pipeline.proofs.egress.send_by.Goals.{then-alone, else-alone}
 
 pub returns : goal.returns
-returns c d t head msg at leads stays =
+returns c d dom t head msg at leads stays =
     let alone : c.is_isolated-alone.result ≡ has_flag t c.args.port isolated =
-    c.is_isolated-alone.ensures ∙ ap (λ (r : PortRow). row_has_flag r isolated) c.requires.row ∙ flag-is d t c.args.tables.now at.stands c.args.port isolated c.number-number.ensures.below in
+    c.is_isolated-alone.ensures ∙ ap (λ (r : PortRow). row_has_flag r isolated) c.requires.row ∙ flag-is d dom t c.args.tables.now at.stands c.args.port isolated c.number-number.ensures.below in
     let bit : c.if-alone.elsewhere ≡ cond c.is_isolated-alone.result c.args.fan.now.isolated c.args.fan.now.plain =
     elim c.if-alone.branch [
       | then-alone w ↦ w.elsewhere-is ∙ sym (ap (λ b. cond b c.args.fan.now.isolated c.args.fan.now.plain) w.if-alone.true)
       | else-alone w ↦ w.elsewhere-is ∙ sym (ap (λ b. cond b c.args.fan.now.isolated c.args.fan.now.plain) w.if-alone.false)
     ] in
-    many-out d c.args.tables.now t c.args.port c.args.vlan.now.vid head msg c.args.fan.now at c.number-number.ensures.below c.requires.range leads
+    many-out d dom c.args.tables.now t c.args.port c.args.vlan.now.vid head msg c.args.fan.now at c.number-number.ensures.below c.requires.range leads
     c.reached-ports.result c.class_by.result c.if-alone.elsewhere c.is_empty.result stays
     (c.reached-ports.ensures ∙ ap₂ (λ a (v : VlanRow). ports_where (λ q. has_number c.args.fan.now.ports q && row_takes c.args.port a v q (port_at c.args.tables.now q))) alone c.requires.vlan)
     (bit ∙ ap (λ b. cond b c.args.fan.now.isolated c.args.fan.now.plain) alone) c.is_empty.ensures c.class_by.ensures

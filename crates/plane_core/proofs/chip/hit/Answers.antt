@@ -12,7 +12,7 @@ where_ok (Err e) f h = h
 
 pub returns-in-Some-clause-ok : goal.returns-in-Some-clause-ok
 returns-in-Some-clause-ok c =
-    where_ok c.hit.result (λ e n. ap (chip_of n) e ∙ ap (λ o. hits_entry o (chip_of n c.args.reports.now)) (sym c.in-Some.is)) c.hit.ensures.ok
+    where_ok c.hit.result (λ e dom n. ap (chip_of dom n) e ∙ ap (λ o. hits_entry o (chip_of dom n c.args.reports.now)) (sym c.in-Some.is)) c.hit.ensures.ok
 
 pub returns-in-None-clause-ok : goal.returns-in-None-clause-ok
-returns-in-None-clause-ok c n = ap (λ o. hits_entry o (chip_of n c.args.reports.now)) (sym c.in-None.is)
+returns-in-None-clause-ok c dom n = ap (λ o. hits_entry o (chip_of dom n c.args.reports.now)) (sym c.in-None.is)

@@ -4,7 +4,7 @@ use Rattle.plane_core.specs.Chips.{chip_of}
 use Rattle.plane_core.proofs.chip.offer.Goals as goal
 
 pub returns-in-Some : goal.returns-in-Some
-returns-in-Some c n = c.offer_report.ensures n ∙ ap (λ o. offers c.args.port o (chip_of n c.args.reports.now)) (sym c.in-Some.is)
+returns-in-Some c dom n = c.offer_report.ensures dom n ∙ ap (λ o. offers c.args.port o (chip_of dom n c.args.reports.now)) (sym c.in-Some.is)
 
 pub returns-in-None : goal.returns-in-None
-returns-in-None c n = ap (λ o. offers c.args.port o (chip_of n c.args.reports.now)) (sym c.in-None.is)
+returns-in-None c dom n = ap (λ o. offers c.args.port o (chip_of dom n c.args.reports.now)) (sym c.in-None.is)

@@ -4,6 +4,6 @@ use Rattle.plane_core.proofs.Noting.{offered_as}
 use Rattle.plane_core.proofs.chip.offer_report.Goals as goal
 
 pub returns : goal.returns
-returns c n =
-    ap (chip_of n) c.offer-kept.ensures.kept
-    ∙ offered_as n c.args.reports.now (c.args.vid, c.args.mac, c.args.port) c.offer-kept.result c.offer-kept.ensures.value
+returns c dom n =
+    ap (chip_of dom n) c.offer-kept.ensures.kept
+    ∙ offered_as dom n c.args.reports.now (c.args.vid, c.args.mac, c.args.port) c.offer-kept.result c.offer-kept.ensures.value

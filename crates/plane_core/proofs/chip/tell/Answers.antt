@@ -1,17 +1,11 @@
-use Rattle.std.proofs.Common.{◌≡◌, Bool, true, false, None, Some, if◌then◌else◌, refl, ap, ◌∙◌, subst}
-use Rattle.br_model.specs.declared.change.Change.{Change}
-use Rattle.br_model.specs.Table.Change.{deferred}
-use Rattle.br_model.specs.Table.Table.{Table, apply}
-use Rattle.switchdev_notify.specs.Notices.{after_told}
-use Rattle.chip_driver.specs.Drives.{Drives}
+use Rattle.std.proofs.Common.{subst}
+use Rattle.chip_driver.specs.Drives.{Drives, IsTaken}
+use Rattle.plane_core.proofs.Telling.{asked, told}
 use Rattle.plane_core.proofs.chip.tell.Goals as goal
 
-told : (t : Table) (c : Change) (b : Bool) → after_told t (if b then None else Some c) ≡ (if b then t else apply t c)
-told t c true = refl
-told t c false = refl
+pub deliver-requires : goal.deliver-requires
+deliver-requires c = asked c.args.edition c.args.change.now c.notice_of.result c.notice_of.ensures.change (IsTaken c.args.driver.now) c.requires
 
-pub returns : goal.returns
-returns c domains t stands =
-    subst (Drives domains c.deliver.new.d)
-    (ap (after_told t) c.notice_of.ensures.change ∙ told t c.args.change.now (deferred c.args.change.now))
-    (c.deliver.ensures.told domains t stands)
+pub returns-clause-told : goal.returns-clause-told
+returns-clause-told c domains t stands =
+    subst (Drives domains c.deliver.new.d) (told c.args.edition c.args.change.now c.notice_of.result c.notice_of.ensures.change t) (c.deliver.ensures.told domains t stands)

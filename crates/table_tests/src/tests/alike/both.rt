@@ -1,7 +1,9 @@
 //! A chip and software after the same changes.
+ghost use Rattle.std.specs.Prelude.{◌≢◌};
+ghost use Rattle.br_model.specs.Table.Domains.{software};
 
 use br_model::change::{Change, Update};
-use br_model::domains::Domains;
+use br_model::domains::{Domains, Edition};
 use br_model::frame::{Class, Head, McastMsg};
 use br_model::numbers::{Dom, Port};
 use chip_driver::Driver;
@@ -9,21 +11,25 @@ use chip_pipeline::pass;
 use forward_rules::{SoftTables, Verdict};
 use port_sets::Ports;
 use std::alloc::Global;
+use std::collections::VecDeque;
 use std::marker::Model;
 use std::process::Abort;
+use switchdev_notify::{deliver, notice_of};
 
-/// The chip's ports.
-const CHIP: [u8; 3] = [1, 2, 3];
+/// The ports of each chip, and the domain that they are in.
+pub(crate) const CHIPS: [(u8, [u8; 3]); 2] = [(1, [1, 2, 3]), (4, [4, 5, 6])];
 
-/// The ports of software, besides the host.
-const SOFTWARE: [u8; 2] = [4, 5];
+/// The port of software, besides the host.
+const SOFTWARE: [u8; 1] = [7];
 
-/// The chip's rows and the software tables. Both are large, so they stand on the heap.
+/// The rows of one chip, the software tables that took the same changes, and those that wait for the chip's turns. Rows and
+/// tables are large, so they stand on the heap.
 #[derive(Drop)]
 pub(crate) struct Both {
     domains: Domains,
     driver: Box<Driver>,
     soft: Box<SoftTables>,
+    waiting: VecDeque<Change>,
 }
 
 impl Model for Both {
@@ -45,22 +51,58 @@ fn declare(rt: &impl Abort, domains: &mut Domains, numbers: &[u8], dom: Dom) {
     }
 }
 
+/// The domain of this number, which isn't software's.
+fn domain(rt: &impl Abort, number: u8) -> Dom
+    ensures { result ≢ software }
+{
+    let dom = Dom::new(number).expect(rt, "a domain");
+    assert!(rt; dom != Dom::SOFTWARE);
+    dom
+}
+
+fn declared(rt: &impl Abort, edition: Edition) -> Domains {
+    let mut domains = Domains::make().with_edition(edition);
+    for (number, ports) in &CHIPS {
+        declare(rt, &mut domains, ports, domain(rt, *number));
+    }
+    declare(rt, &mut domains, &SOFTWARE, Dom::SOFTWARE);
+    domains
+}
+
 impl Both {
-    pub(crate) fn make(rt: &impl Abort, alloc: Global) -> Both {
-        let mut domains = Domains::make();
-        declare(rt, &mut domains, &CHIP, Dom::CHIP);
-        declare(rt, &mut domains, &SOFTWARE, Dom::SOFTWARE);
-        let driver = Driver::make(alloc, Dom::CHIP, &domains).expect(rt, "memory");
+    /// The chip of the domain of this number, before any change.
+    pub(crate) fn make(rt: &impl Abort, alloc: Global, edition: Edition, number: u8) -> Both {
+        let domains = declared(rt, edition);
+        let driver = Driver::make(alloc, domain(rt, number), &domains).expect(rt, "memory");
         let soft = SoftTables::make(alloc).expect(rt, "memory");
         Both {
             domains,
             driver: Box::new(alloc, driver).expect(rt, "memory"),
             soft: Box::new(alloc, soft).expect(rt, "memory"),
+            waiting: VecDeque::new(alloc),
         }
     }
 
-    /// Both make the change, where it fits.
-    pub(crate) fn take(&mut self, change: &Change) {
+    /// The change was accepted: both make it where it fits, the chip as it is told, or it waits where it is deferred.
+    pub(crate) fn accept(&mut self, rt: &impl Abort, change: &Change) {
+        let edition = self.domains.edition();
+        if change.is_deferred(edition) {
+            self.waiting.push_back(*change).expect(rt, "memory");
+        } else if self.soft.fits(change) {
+            deliver(&mut *self.driver, &notice_of(change), edition);
+            self.soft.apply(change);
+        }
+    }
+
+    /// Both make the next change that waits.
+    pub(crate) fn turn(&mut self) {
+        if let Some(change) = self.waiting.pop_front() {
+            self.take(&change);
+        }
+    }
+
+    /// Both make the change, which the chip gets as an update, where it fits.
+    fn take(&mut self, change: &Change) {
         if self.soft.fits(change) {
             let update = Update {
                 ticket: 0,
@@ -96,7 +138,7 @@ impl Both {
             Class::Drop | Class::Trap => Ports::empty(),
             Class::Copy | Class::Forward => verdict
                 .ports
-                .and(Ports::from_word(self.domains.ports_of(Dom::CHIP))),
+                .and(Ports::from_word(self.domains.ports_of(self.driver.dom()))),
         }
     }
 }

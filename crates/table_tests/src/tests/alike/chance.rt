@@ -7,8 +7,8 @@ use br_model::group::Group;
 use br_model::numbers::{Mac, Port, Vid};
 use std::process::Abort;
 
-/// The host, the chip's ports and those of software, most often the chip's.
-const PORTS: [u8; 12] = [0, 1, 1, 1, 2, 2, 2, 3, 3, 3, 4, 5];
+/// The host, the ports of two chips and one of software, most often the chips'.
+const PORTS: [u8; 16] = [0, 1, 1, 1, 2, 2, 2, 3, 3, 4, 4, 4, 5, 5, 6, 7];
 
 /// Stations, groups of both IP versions, reserved addresses, and none.
 const ADDRESSES: [u64; 13] = [
@@ -79,17 +79,17 @@ impl Chance {
         (self.state >> 33) % most
     }
 
-    fn coin(&mut self) -> bool {
+    pub(crate) fn coin(&mut self) -> bool {
         self.below(2) == 1
     }
 
     fn port(&mut self, rt: &impl Abort) -> Port {
-        Port::new(PORTS[self.below(12) as usize]).expect(rt, "a port")
+        Port::new(PORTS[self.below(16) as usize]).expect(rt, "a port")
     }
 
-    /// A port of the chip.
-    pub(crate) fn chip_port(&mut self, rt: &impl Abort) -> Port {
-        Port::new(self.below(3) as u8 + 1).expect(rt, "a port")
+    /// One of these ports.
+    pub(crate) fn port_of(&mut self, rt: &impl Abort, numbers: &[u8; 3]) -> Port {
+        Port::new(numbers[self.below(3) as usize]).expect(rt, "a port")
     }
 
     fn vid(&mut self, rt: &impl Abort) -> Vid {

@@ -11,8 +11,8 @@ use Rattle.bridge_core.specs.Standing.{clocked}
 use Rattle.bridge_core.proofs.Seeing.{sees-told, sound-alone, tells_alone}
 use Rattle.bridge_core.proofs.bridge.Bridge.take_frame.Goals as goal
 
-pub accept-requires-clause-sound : goal.accept-requires-clause-sound
-accept-requires-clause-sound c =
+pub accept_told-requires-clause-sound : goal.accept_told-requires-clause-sound
+accept_told-requires-clause-sound c =
     let old = c.args.self.now in
     let p = c.telling-plan.result in
     let is = c.telling-plan.ensures in
@@ -32,7 +32,7 @@ returns-in-Some-clause-carries_out c =
     let at = c.self.invariant.0 ∙ ap (λ (b : Controlled). table b.history) c.self.view_is in
     let heard_so = ap (λ (t : Table). heard t c.args.port c.args.bytes.now c.args.head.now) (sym at) ∙ sym c.heard.ensures ∙ c.in-Some.is in
     let comes = sym (tells_alone old p c.in-Some.event early clock is.renewed is.changes is.told) ∙ sees-told old.setup (standing old) c.args.port c.args.bytes.now c.args.head.now c.in-Some.event heard_so in
-    subst (λ (x : Course). CarriesOut old c.accept.new.self c.args.lines.now.lines c.accept.new.lines.lines c.accept.result (Ok x)) comes c.accept.ensures.carries_out
+    subst (λ (x : Course). CarriesOut old c.accept_told.new.self c.args.lines.now.lines c.accept_told.new.lines.lines c.accept_told.result (Ok x)) comes c.accept_told.ensures.carries_out
 
 pub take_untold-requires-clause-untold : goal.take_untold-requires-clause-untold
 take_untold-requires-clause-untold c =

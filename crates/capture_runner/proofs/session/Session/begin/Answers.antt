@@ -3,7 +3,27 @@ use Rattle.br_model.specs.declared.transcript.Line.{Line}
 use Rattle.br_model.specs.Plane.Steps.{world_step}
 use Rattle.br_model.specs.Plane.World.{World, Stepped, first_world}
 use Rattle.br_model.specs.Program.Runs.{setup_of}
+use Rattle.br_model.specs.Table.Domains.{chip_domains}
+use Rattle.br_model.specs.Text.Roster.{chips_of}
+use Rattle.br_model.proofs.DeclaredChips.{declared-chips}
+use Rattle.capture_runner.proofs.Ready.{comes_here, ready_after}
 use Rattle.capture_runner.proofs.session.Session.begin.Goals as goal
+
+pub step-requires : goal.step-requires
+step-requires c =
+    let roster = c.args.self.now.roster in
+    let chips =
+    ap (λ (w : World). chip_domains w.setup.domains) c.in_ok-world.ensures ∙ ap chip_domains c.domains.ensures.value
+    ∙ declared-chips roster.edition roster.ports c.domains.ensures.declared in
+    comes_here _ (chips_of roster.ports) c.args.step chips c.requires.by_line
+
+pub returns-clause-ready : goal.returns-clause-ready
+returns-clause-ready c =
+    let roster = c.args.self.now.roster in
+    let chips =
+    ap (λ (w : World). chip_domains w.setup.domains) c.in_ok-world.ensures ∙ ap chip_domains c.domains.ensures.value
+    ∙ declared-chips roster.edition roster.ports c.domains.ensures.declared in
+    ready_after roster c.in_ok-world.world c.step.new.self c.args.step chips c.requires.behind (ap (λ (x : Stepped). x.0) c.in_ok-step.ensures.so)
 
 pub returns-clause-does : goal.returns-clause-does
 returns-clause-does c =

@@ -1,6 +1,5 @@
 use Rattle.std.proofs.Common.{◌≡◌, List, ℕ, [], replicate, rules, ap, subst, ◌∙◌}
-use Rattle.br_model.specs.Table.DomainPorts.{IsWordOf}
-use Rattle.br_model.specs.Table.Domains.{chip, port_places}
+use Rattle.br_model.specs.Table.Domains.{port_places}
 use Rattle.br_model.specs.Table.Groups.{Membership}
 use Rattle.chip_tables.specs.Writing.{IsBlank}
 use Rattle.chip_driver.specs.declared.shadow.Shadow.{Shadow}
@@ -14,23 +13,21 @@ write_member-requires c =
     let blank : IsBlank c.in_ok-tables.tables = search rules in
     let joined : ◌≡◌ {A = List (List ℕ)} c.in_ok-joined.joined (replicate block_count []) = search rules in
     let own : c.start-shadow.result.own ≡ c.from_word.result = ap (λ (s : Shadow). s.own) c.start-shadow.ensures in
-    let word : IsWordOf c.args.d.now chip c.ports_of.result = subst (λ n. IsWordOf c.args.d.now n c.ports_of.result) c.requires c.ports_of.ensures in
     let groups : ◌≡◌ {A = List Membership} c.in_ok-groups.groups [] = search rules in
     record {
       settled = settled_start c.from_word.result _ _ c.in_ok-tables.tables _ _ _ blank
           (subst (λ o. MarksOwn o port_places c.in_ok-tables.tables c.mark_own.new.tables) own c.mark_own.ensures) c.switch_traps.ensures c.set_control.ensures.rest
-          c.start-shadow.ensures joined (host_off c.args.d.now c.ports_of.result c.from_word.result c.from_word.ensures word c.host_is_elsewhere.ensures);
+          c.start-shadow.ensures joined (host_off c.args.d.now c.args.dom c.ports_of.result c.from_word.result c.from_word.ensures c.ports_of.ensures c.host_is_elsewhere.ensures);
       follow = follow_made c.start-shadow.result c.start-shadow.result.own c.in_ok-groups.groups c.in_ok-tables.tables _ _ _ blank c.mark_own.ensures c.switch_traps.ensures c.set_control.ensures.rest groups;
     }
 
-pub returns : goal.returns
-returns c =
+pub returns-clause-start : goal.returns-clause-start
+returns-clause-start c =
     let blank : IsBlank c.in_ok-tables.tables = search rules in
     let own : c.start-shadow.result.own ≡ c.from_word.result = ap (λ (s : Shadow). s.own) c.start-shadow.ensures in
-    let word : IsWordOf c.args.d.now chip c.ports_of.result = subst (λ n. IsWordOf c.args.d.now n c.ports_of.result) c.requires c.ports_of.ensures in
     let groups : ◌≡◌ {A = List Membership} c.in_ok-groups.groups [] = search rules in
     let kept = c.write_member.new.self in
-    drives_start c.args.d.now c.ports_of.result c.from_word.result kept.shadow kept.joined kept.groups c.in_ok-tables.tables _ _ _ kept.tables blank
+    drives_start c.args.d.now c.args.dom c.ports_of.result c.from_word.result kept.shadow kept.joined kept.groups c.in_ok-tables.tables _ _ _ kept.tables blank
     (subst (λ o. MarksOwn o port_places c.in_ok-tables.tables c.mark_own.new.tables) own c.mark_own.ensures) c.switch_traps.ensures c.set_control.ensures.rest
-    (c.set_control.ensures.row ∙ c.first_control.ensures) c.from_word.ensures word (ap (λ (s : Shadow). s.routers) (c.write_member.ensures.shadow ∙ c.start-shadow.ensures))
+    (c.set_control.ensures.row ∙ c.first_control.ensures) c.from_word.ensures c.ports_of.ensures (ap (λ (s : Shadow). s.routers) (c.write_member.ensures.shadow ∙ c.start-shadow.ensures))
     c.write_member.ensures.kept.settled c.write_member.ensures.row c.write_member.ensures.rest (c.write_member.ensures.members ∙ groups) c.write_member.ensures.kept.follow

@@ -4,8 +4,8 @@ use Rattle.switchdev_notify.specs.Notices.{change_removed}
 use Rattle.chip_driver.specs.Drives.{Drives}
 use Rattle.chip_driver.proofs.driver.DriverSwitchOps.obj_del.Goals as goal
 
-pub returns-in-Vlan : goal.returns-in-Vlan
-returns-in-Vlan c d t before = subst (λ o. Drives d c.del_vlan.new.self (apply t (change_removed o))) (sym c.in-Vlan.is) (c.del_vlan.ensures d t before)
+pub returns-in-Vlan-clause-told : goal.returns-in-Vlan-clause-told
+returns-in-Vlan-clause-told c d t before = subst (λ o. Drives d c.del_vlan.new.self (apply t (change_removed o))) (sym c.in-Vlan.is) (c.del_vlan.ensures.drives d t before)
 
-pub returns-in-Group : goal.returns-in-Group
-returns-in-Group c d t before = subst (λ o. Drives d c.part_group.new.self (apply t (change_removed o))) (sym c.in-Group.is) (c.part_group.ensures d t before)
+pub returns-in-Group-clause-told : goal.returns-in-Group-clause-told
+returns-in-Group-clause-told c d t before = subst (λ o. Drives d c.part_group.new.self (apply t (change_removed o))) (sym c.in-Group.is) (c.part_group.ensures.drives d t before)

@@ -6,7 +6,8 @@ use Rattle.plane_core.proofs.chip.Chip.note.Goals as goal
 
 pub returns-clause-ok : goal.returns-clause-ok
 returns-clause-ok c =
+    let dom = c.self.inside.driver.dom in
     let k = c.self.inside.count in
-    ap (λ (x : Chip). record { driver = c.self.inside.driver; places = c.self.inside.updates; chip = x })
-    (c.offer.ensures k ∙ ap (offers c.args.port c.args.station) (c.in_ok-hit.ensures.ok k) ∙ either_order (chip_of k c.self.inside.reports) c.args.port c.args.station c.args.entry)
+    ap (λ (x : Chip). record { driver = c.self.inside.driver; chip = x })
+    (c.offer.ensures dom k ∙ ap (offers c.args.port c.args.station) (c.in_ok-hit.ensures.ok dom k) ∙ either_order (chip_of dom k c.self.inside.reports) c.args.port c.args.station c.args.entry)
     ∙ ap (λ (s : ChipState). record s { chip = hits_entry c.args.entry (offers c.args.port c.args.station s.chip) }) c.self.view_is

@@ -1,6 +1,6 @@
-use Rattle.std.proofs.Common.{◌+◌, sym, ap, ◌∙◌}
-use Rattle.br_model.specs.Table.DomainPorts.{is_in_domain}
-use Rattle.br_model.specs.Table.Domains.{chip}
+use Rattle.std.proofs.Common.{◌≡◌, ◌+◌, None, sym, ap, subst, ◌∙◌}
+use Rattle.br_model.specs.Plane.Entering.{chip_of}
+use Rattle.br_model.specs.Table.Domains.{domain_of}
 use Rattle.br_model.specs.declared.steps.Step.TheVariants.{Rx}
 use Rattle.plane_core.specs.Arrivals.{settled}
 use Rattle.plane_core.specs.Planes.{PlaneState}
@@ -12,4 +12,4 @@ pub invariant_of-self : goal.invariant_of-self
 invariant_of-self c =
     rw (c.settle.ensures ∙ ap (settled c.self.inside.frames) c.in_ok-arrival.ensures, c.requires.step ∙ sym (ap (λ (p : PlaneState). p.world.steps + 1) c.self.view_is))
     (stepped _ _ (Rx c.args.p c.args.b.now) _ (enters_software c.self.inside.sides c.self.inside.frames c.self.inside.steps c.args.p c.args.b.now c.args.head.now c.requires.frame
-    (ap (λ (p : PlaneState). is_in_domain p.world.setup.domains chip c.args.p) c.self.view_is ∙ c.requires.off_chip)) c.self.invariant)
+    (subst (λ (p : PlaneState). chip_of p.world (domain_of p.world.setup.domains c.args.p) ≡ None) (sym c.self.view_is) c.requires.off_chip)) c.self.invariant)

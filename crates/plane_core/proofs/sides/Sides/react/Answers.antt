@@ -1,13 +1,18 @@
-use Rattle.plane_core.proofs.Reacting.{stands_before, sides_after}
+use Rattle.plane_core.proofs.Reacting.{chips_before, places_before, sides_after}
 use Rattle.plane_core.proofs.sides.Sides.react.Goals as goal
 
-pub follow-requires-clause-stands : goal.follow-requires-clause-stands
-follow-requires-clause-stands c =
+pub follow-requires-clause-chips : goal.follow-requires-clause-chips
+follow-requires-clause-chips c =
     let e = c.in_ok-from.ensures in
-    (c.self.inside.bridge.setup.domains, stands_before c.self.inside.bridge c.answer.new.self c.self.inside.chip c.self.inside.board e.reacts.0 c.in_ok-from.from c.self.invariant e.reacts.2 e.from)
+    chips_before c.self.inside.bridge c.answer.new.self c.self.inside.chips c.self.inside.updates c.self.inside.board e.reacts.0 c.in_ok-from.from c.self.invariant e.reacts.2 e.from
+
+pub follow-requires-clause-updates : goal.follow-requires-clause-updates
+follow-requires-clause-updates c =
+    let e = c.in_ok-from.ensures in
+    places_before c.self.inside.bridge c.answer.new.self c.self.inside.chips c.self.inside.updates c.self.inside.board e.reacts.0 c.in_ok-from.from c.self.invariant e.reacts.2 e.from
 
 pub invariant_of-self-2 : goal.invariant_of-self-2
 invariant_of-self-2 c =
     let e = c.in_ok-from.ensures in
-    sides_after c.self.inside.bridge c.answer.new.self c.self.inside.chip c.follow.new.chip c.self.inside.board c.follow.new.board e.reacts.0 c.in_ok-from.from
-    c.self.invariant e.reacts.2 e.from c.follow.ensures.stands c.follow.ensures.board
+    sides_after c.self.inside.bridge c.answer.new.self c.self.inside.chips c.self.inside.updates c.self.inside.board e.reacts.0 c.in_ok-from.from c.self.invariant e.reacts.2 e.from
+    c.follow.new.chips c.follow.new.updates c.follow.new.board c.follow.ensures.chips c.follow.ensures.updates c.follow.ensures.board

@@ -1,15 +1,31 @@
-use Rattle.std.proofs.Common.{[], List, slice_get, ap, ◌∙◌}
-use Rattle.br_model.specs.Control.Learning.{Triple}
-use Rattle.br_model.specs.Plane.ChipSteps.{tells}
-use Rattle.plane_core.specs.Sides.{SidesState, world_of}
+use Rattle.std.proofs.Common.{[], ◌∷◌, ◌++◌, sym, ap, ◌∙◌}
+use Rattle.br_model.specs.declared.steps.Refusal.TheVariants.{NothingReported}
+use Rattle.br_model.specs.declared.transcript.Line.TheVariants.{Refused}
+use Rattle.plane_core.specs.Sides.{SidesState}
 use Rattle.plane_core.proofs.Adding.{added_as, from_none}
-use Rattle.plane_core.proofs.Reacting.{ended_behind, first_of_all}
+use Rattle.plane_core.proofs.Changing.{found_at, there_at}
+use Rattle.plane_core.proofs.Reacting.{ended_behind, reports_first, reports_none}
 use Rattle.plane_core.proofs.sides.Sides.report.Goals as goal
+
+pub at-requires : goal.at-requires
+at-requires c = there_at c.self.inside.chips c.args.self.now.chips c.args.d (ap (λ (s : SidesState). s.chips) c.self.view_is) c.requires
+
+pub returns-in_default-clause-ok : goal.returns-in_default-clause-ok
+returns-in_default-clause-ok c =
+    let s = c.args.self.now in
+    let x = c.at.result.now in
+    let here = found_at c.self.inside.chips s.chips c.args.d x (ap (λ (t : SidesState). t.chips) c.self.view_is) c.at.ensures in
+    record {
+      lines = Refused c.args.step NothingReported ∷ [];
+      so = λ q. reports_none s c.args.d x.chip here q c.args.step (sym c.in_default.is ∙ c.first_report.ensures);
+      added = c.push_reserved.ensures.lines ∙ ap (λ ls. ls ++ Refused c.args.step NothingReported ∷ []) c.in_ok-reserve.ensures.lines;
+    }
 
 pub returns-clause-ok : goal.returns-clause-ok
 returns-clause-ok c =
     let s = c.args.self.now in
-    let oldest = c.in-Some.ensures ∙ ap (λ (x : SidesState). slice_get x.chip.reports 0) c.self.view_is in
-    added_as _ _ _ _ (λ ls h q. ap (λ (rs : List Triple). tells (world_of s q c.args.step) s.chip rs) (first_of_all s.chip.reports _ oldest) ∙ h q)
+    let x = c.at.result.now in
+    let here = found_at c.self.inside.chips s.chips c.args.d x (ap (λ (t : SidesState). t.chips) c.self.view_is) c.at.ensures in
+    added_as _ _ _ _ (λ ls h q. reports_first s c.args.d x.chip here q c.args.step _ c.in-Some.ensures ∙ h q)
     (ended_behind s c.react_to_report-outcome.new.self _ c.args.lines.now.lines [] _ _ _ c.args.step c.react_to_report-outcome.result _ _ _
-    (from_none _ _ c.in_ok-reserve.ensures.lines) c.react_to_report-outcome.ensures.reacted c.last_line.ensures c.in_ok-last_line.was c.push_reserved-2.ensures.lines)
+    (from_none _ _ c.in_ok-reserve.ensures.lines) (c.react_to_report-outcome.ensures.reacted x.chip here) c.last_line.ensures c.in_ok-last_line.was c.push_reserved-2.ensures.lines)

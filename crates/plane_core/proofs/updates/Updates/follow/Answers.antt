@@ -9,12 +9,12 @@ pub note-requires : goal.note-requires
 note-requires c =
     let at = c.loop-place.place in
     let h = c.args.history.now in
-    let noted : length c.loop-place.self ≤ length (take at h) = rw c.loop-place.invariant (few (take at h)) in
+    let noted : length c.loop-place.self ≤ length (take at h) = rw c.loop-place.invariant (few c.args.edition (take at h)) in
     let long : length (take at h) ≡ at = length-take-le at h (omega (arith, c.loop-place-test.true)) in
     omega (arith, c.requires.few, c.loop-place-test.true)
 
 pub loop-place-preserved : goal.loop-place-preserved
 loop-place-preserved c = c.note.ensures
-    ∙ ap (λ ps. cond (deferred c.index-history-place.result) (ps ++ c.loop-place.place ∷ []) ps) c.loop-place.invariant
-    ∙ (ap (λ d. cond (deferred d) (places (take c.loop-place.place c.args.history.now) ++ c.loop-place.place ∷ []) (places (take c.loop-place.place c.args.history.now))) c.index-history-place.is
-    ∙ sym (more c.args.history.now c.loop-place.place c.index-history-place.result c.loop-place-test.true))
+    ∙ ap (λ ps. cond (deferred c.args.edition c.index-history-place.result) (ps ++ c.loop-place.place ∷ []) ps) c.loop-place.invariant
+    ∙ (ap (λ d. cond (deferred c.args.edition d) (places c.args.edition (take c.loop-place.place c.args.history.now) ++ c.loop-place.place ∷ []) (places c.args.edition (take c.loop-place.place c.args.history.now))) c.index-history-place.is
+    ∙ sym (more c.args.edition c.args.history.now c.loop-place.place c.index-history-place.result c.loop-place-test.true))

@@ -3,4 +3,4 @@ use Rattle.plane_core.specs.Places.{places}
 use Rattle.plane_core.proofs.updates.Updates.follow.Given as goal
 
 abbrev pub invariant-loop-place : goal.invariant-loop-place
-invariant-loop-place l = l.self ≡ places (take l.place l.history)
+invariant-loop-place l = l.self ≡ places l.edition (take l.place l.history)

@@ -1,8 +1,5 @@
-use Rattle.std.proofs.Common.{◌≡◌, ℕ, ◌<◌, Bool, List, true, false, not, cond, length, is_some, sym, ap, ap₂, ◌∙◌, arith}
-use Rattle.br_model.specs.Data.Maps.{pair_cmp, get, put, without}
-use Rattle.vlan_groups.specs.declared.row.Row.{Row}
-use Rattle.vlan_groups.specs.Rows.{at_port, memberships_from}
-use Rattle.vlan_groups.specs.Vlans.{Vlans, is_member}
+use Rattle.std.proofs.Common.{is_some, ap, ◌∙◌, arith}
+use Rattle.vlan_groups.specs.Vlans.{Vlans}
 use Rattle.port_sets.proofs.Numbers.{same_below}
 use Rattle.vlan_groups.proofs.Memberships.{at-key}
 use Rattle.vlan_groups.proofs.table.VlanTable.ports_of.Goals as goal
@@ -10,4 +7,4 @@ use Rattle.vlan_groups.proofs.table.VlanTable.ports_of.Goals as goal
 pub returns : goal.returns
 returns c =
     c.members.ensures
-    ∙ same_below _ _ 64 (λ p low. ap is_some (at-key c.self.inside.rows.items c.place_of.result c.args.v p c.index.result.now c.args.self.now.vlans (omega (arith, c.self.invariant)) c.place_of.ensures.place c.index.ensures (ap (λ (s : Vlans). s.vlans) c.self.view_is)))
+    ∙ same_below _ _ 64 (λ p low. ap is_some (at-key c.self.inside.rows.items c.place_of.result c.args.v p c.index.result.now c.args.self.now.vlans (omega (arith, c.self.invariant.sized)) c.place_of.ensures.place c.index.ensures (ap (λ (s : Vlans). s.vlans) c.self.view_is)))

@@ -21,4 +21,4 @@ invariant_of-self c =
     let fit = ap (λ (t : Table). fits t change) (sym c.deref.ensures) ∙ (sym c.fits.ensures ∙ c.if-fits.true) in
     let before = subst (λ (driver : Driven). Drives domains driver old) (sym c.deref_mut.ensures.value) c.self.invariant.stands in
     subst (AreAlike domains c.address.new.self) (sym (c.apply.ensures ∙ ap (λ (t : Table). apply t change) c.deref_mut-then-fits.ensures.value))
-    (stay domains c.self.inside.driver.value c.address.new.self old change c.self.invariant fit (c.address.ensures domains old before))
+    (stay domains c.self.inside.driver.value c.address.new.self old change c.self.invariant fit (c.address.ensures.drives domains old before))

@@ -1,0 +1,60 @@
+-- A session's world has the chips of its ports.
+use Rattle.std.proofs.Common.{◌≡◌, ℕ, true, false, List, Option, None, Some, Result, Ok, Err, OnOk, refl, sym, ◌∙◌, ap, subst}
+use Rattle.br_model.specs.declared.scenario.Said.{Said}
+use Rattle.br_model.specs.declared.scenario.Said.TheVariants.{Blank, Opens, Bridge, Declares, Does, Captures, Ends}
+use Rattle.br_model.specs.declared.steps.Step.{Step}
+use Rattle.br_model.specs.declared.transcript.Line.{Line}
+use Rattle.br_model.specs.Plane.Steps.{world_step}
+use Rattle.br_model.specs.Plane.World.{World, Stepped}
+use Rattle.br_model.specs.Table.Domains.{chip_domains}
+use Rattle.br_model.specs.Table.Setup.{Setup}
+use Rattle.br_model.specs.Text.LineForms.{comes_by_line}
+use Rattle.br_model.specs.Text.Roster.{Roster, chips_of}
+use Rattle.br_model.specs.Text.Scenario.{Scenario, declared, opened}
+use Rattle.br_model.proofs.PlaneApplied.{step-setup}
+use Rattle.plane_core.specs.Added.{Added}
+use Rattle.capture_runner.specs.declared.session.Session.{Session}
+use Rattle.capture_runner.specs.Session.{Follows, IsBehindDeclarations, IsReady, IsWorld, Tells, captures}
+use Rattle.capture_runner.proofs.Following.{past}
+use Rattle.scenario_text.specs.Items.{item_of, comes_in_place}
+
+-- it stays so when a line is read
+pub ready_on : (r q : Roster) (said : Said) (w : Option World) → IsReady r w → q ≡ declared r said → comes_in_place r.place (item_of said) ≡ true → IsReady q w
+ready_on r q said None h e place = tt
+ready_on r q said (Some w) h e place =
+    subst (λ (p : Roster). IsReady p (Some w)) (sym e) (h.0 ∙ sym (same said place), past r said h.1.0 h.1.1 place)
+  where
+    same : (said : Said) → comes_in_place r.place (item_of said) ≡ true → chips_of (declared r said).ports ≡ chips_of r.ports
+    same Blank place = refl
+    same (Opens edition) place = refl
+    same (Bridge mac) place = refl
+    same (Declares port name dom) place = let e : true ≡ false = sym place ∙ h.1.0 in absurd (cc)
+    same (Does step) place = refl
+    same (Captures n) place = refl
+    same Ends place = refl
+
+-- and when a step is done
+pub ready_after : (r : Roster) (w v : World) (step : Step) → chip_domains w.setup.domains ≡ chips_of r.ports → IsBehindDeclarations r → v ≡ (world_step w step).0 → IsReady r (Some v)
+ready_after r w v step h behind e =
+    (ap (λ (x : World). chip_domains x.setup.domains) e ∙ ap (λ (s : Setup). chip_domains s.domains) (step-setup w step) ∙ h, behind)
+
+-- the same steps come by a line
+pub comes_here : (chips others : List ℕ) (step : Step) → chips ≡ others → comes_by_line others step ≡ true → comes_by_line chips step ≡ true
+comes_here chips others step e h = ap (λ (l : List ℕ). comes_by_line l step) e ∙ h
+
+-- before the first line there is no world
+pub ready_at_first : (x : Session) → Follows (opened false) x → IsReady x.roster x.world
+ready_at_first x f = none x.world f.stands.world
+  where
+    none : (w : Option World) → IsWorld (opened false) w → IsReady x.roster w
+    none None h = tt
+    none (Some w) h = let e : true ≡ false = h.1.1 in absurd (cc)
+
+pub ready_told : {A E : Type 0} (r : Result A E) (roster : Roster) (w v : World) (step : Step) (before after : List Line) → IsReady roster (Some w)
+    → OnOk r (Added (Tells w step v) before after) → OnOk r (IsReady roster (Some v))
+ready_told (Ok x) roster w v step before after h told = ready_after roster w v step h.0 h.1 (ap (λ (y : Stepped). y.0) told.so)
+ready_told (Err e) roster w v step before after h told = told
+
+-- behind a line `capture`
+pub behind_section : (s : Scenario) (x : Session) (n : ℕ) → Follows (captures s n) x → IsBehindDeclarations x.roster
+behind_section s x n f = subst IsBehindDeclarations (sym f.stands.roster) (refl, refl)

@@ -1,0 +1,116 @@
+//! The VLANs of each port.
+ghost use Rattle.std.specs.Prelude.{◌≡◌, ◌<◌, ◌↔◌, ◌++◌, ◌&&◌, ℕ, false, IfOk, OnOk, [], replicate};
+ghost use Rattle.std.specs.List.{All};
+ghost use Rattle.port_sets.specs.Numbers.{has_number, numbers_below, IsSetBelow};
+ghost use Rattle.vlan_groups.specs.Joined.{block_at, block_count, block_switched, has_vlan, is_vlan, vids_in, Switches};
+
+use crate::NoMemory;
+use br_model::numbers::{Port, Vid};
+use port_sets::PortSet;
+use std::alloc::Global;
+use std::marker::Model;
+
+/// A set of numbers below 64: VLANs by their places in a block of 64, or the blocks of a port.
+pub type VlanBlock = PortSet<1>;
+
+/// How many blocks there are, 64 a port.
+const BLOCKS: usize = 64 * Port::PLACES;
+
+/// The VLANs of each port in blocks: block i of a port has the number n for VLAN 64 i + n.
+#[derive(Drop, Debug)]
+pub struct Joined {
+    blocks: Vec<VlanBlock>,
+    // Of each port the numbers of its blocks that aren't empty.
+    used: Vec<VlanBlock>,
+}
+
+impl Model for Joined {
+    ghost use Rattle.std.specs.Prelude.{List, ℕ};
+    ghost use Rattle.vlan_groups.specs.UsedSets.{AreUsed};
+
+    ghost Value = { List (List ℕ) };
+
+    ghost view = { λ j. j.blocks.items };
+
+    ghost invariant = { λ j. AreUsed j.blocks.items j.used.items };
+}
+
+impl Joined {
+    /// No port is in a VLAN.
+    pub fn make(alloc: Global) -> Result<Joined, NoMemory>
+        ensures { IfOk result (λ j. j ≡ replicate block_count []) }
+    {
+        let blocks = no_sets(alloc, BLOCKS)?;
+        let used = no_sets(alloc, Port::PLACES)?;
+        Ok(Joined { blocks, used })
+    }
+
+    /// Block i of the port.
+    pub fn block(&self, p: Port, i: u8) -> VlanBlock
+        requires { i < 64 }
+        ensures { result ≡ block_at self.now p i }
+    {
+        self.blocks[64 * usize::from(p.number()) + usize::from(i)]
+    }
+
+    /// The numbers of the port's blocks that aren't empty.
+    pub fn used(&self, p: Port) -> VlanBlock
+        ensures { (i : ℕ) → i < 64 → (has_number result i ≡ false) ↔ (block_at self.now p i ≡ []) }
+    {
+        self.used[usize::from(p.number())]
+    }
+
+    /// Puts the port into the VLAN or out of it.
+    pub fn switch(&mut self, p: Port, v: Vid, on: bool)
+        ensures vlan { Switches self.old self.new p v on }
+        ensures below { v < 4096 }
+    {
+        let vid = v.number();
+        let port = usize::from(p.number());
+        let place = 64 * port + usize::from(vid / 64);
+        let block = switched(self.blocks[place], (vid % 64) as u8, on);
+        self.blocks[place] = block;
+        self.used[port] = switched(self.used[port], (vid / 64) as u8, !block.is_empty());
+    }
+
+    /// The VLANs of which the port is a member, ascending. It looks at no other.
+    pub fn vids_of(&self, alloc: Global, p: Port) -> Result<Vec<Vid>, NoMemory>
+        ensures { IfOk result (λ vids. vids.items ≡ numbers_below 4096 (λ v. is_vlan v && has_vlan self.now p v)) }
+    {
+        let mut vids = Vec::new(alloc);
+        for i in self.used(p).iter() {
+            push_block(&mut vids, self.block(p, i), i)?;
+        }
+        Ok(vids)
+    }
+}
+
+/// So many empty sets.
+fn no_sets(alloc: Global, count: usize) -> Result<Vec<VlanBlock>, NoMemory>
+    ensures { IfOk result (λ v. v.items ≡ replicate count []) }
+{
+    let none = VlanBlock::empty();
+    vec![in alloc; none; count]
+}
+
+/// The set with the number or without it.
+fn switched(set: VlanBlock, n: u8, on: bool) -> VlanBlock
+    requires { n < 64 }
+    ensures { result ≡ block_switched set n on }
+{
+    if on { set.with(n) } else { set.without(n) }
+}
+
+/// Adds the VLANs of block i of a port.
+fn push_block(vids: &mut Vec<Vid>, block: VlanBlock, i: u8) -> Result<(), NoMemory>
+    requires { i < 64 }
+    ensures added { OnOk result (vids.new.items ≡ vids.old.items ++ vids_in i block) }
+    ensures ordered { IsSetBelow 64 block }
+{
+    for n in block.iter() {
+        if let Some(vid) = Vid::new(64 * u16::from(i) + u16::from(n)) {
+            vids.push(vid)?;
+        }
+    }
+    Ok(())
+}
