@@ -26,17 +26,17 @@ members-put old lost p d domain new within h made low = elim (eqb_tells domain d
       ∙ get_or-set_same lost d new [] within
       ∙ made
       ∙ same_below _ _ port_places (λ q below.
-          ap (λ (ns : List ℕ). (q == p) || has_number ns q) (h d within)
-          ∙ ap (λ b. (q == p) || b) (has-below (λ m. has_number (get_or old d []) m && not (m == p)) port_places q below)
-          ∙ given (q == p) (has_number (get_or old d []) q)
-          ∙ ap (λ i. cond (q == p) true (has_number (get_or old i []) q)) (sym e.1)
-          ∙ sym (ap (λ b. cond (q == p) b (has_number (get_or old domain []) q)) (eq-eqb d domain (sym e.1))))
+      ap (λ (ns : List ℕ). (q == p) || has_number ns q) (h d within)
+      ∙ ap (λ b. (q == p) || b) (has-below (λ m. has_number (get_or old d []) m && not (m == p)) port_places q below)
+      ∙ given (q == p) (has_number (get_or old d []) q)
+      ∙ ap (λ i. cond (q == p) true (has_number (get_or old i []) q)) (sym e.1)
+      ∙ sym (ap (λ b. cond (q == p) b (has_number (get_or old domain []) q)) (eq-eqb d domain (sym e.1))))
   | inr e ↦
       get_or-set_other lost d domain new [] e.1
       ∙ h domain low
       ∙ same_below _ _ port_places (λ q below.
-          kept (q == p) (has_number (get_or old domain []) q)
-          ∙ sym (ap (λ b. cond (q == p) b (has_number (get_or old domain []) q)) (ne_eqb d domain (λ x. e.1 (sym x)))))
+      kept (q == p) (has_number (get_or old domain []) q)
+      ∙ sym (ap (λ b. cond (q == p) b (has_number (get_or old domain []) q)) (ne_eqb d domain (λ x. e.1 (sym x)))))
 ]
   where
     given : (b c : Bool) → (b || (c && not b)) ≡ cond b true c
