@@ -1,23 +1,20 @@
 -- The parts of a decision, over a table of ports and addresses.
-use Rattle.std.proofs.Common.{◌≡◌, ℕ, ◌/◌, ◌%◌, ◌^◌, ◌<◌, ◌≤◌, Bool, true, false, not, ◌&&◌, ◌||◌, cond, List, [], ◌∷◌, length, map, Option, None, Some, is_some, option_map, refl, sym, ap, ap₂, subst, ◌∙◌, arith, inl, inr}
+use Rattle.std.proofs.Common.{◌≡◌, ℕ, ◌<◌, Bool, true, false, not, ◌&&◌, ◌||◌, cond, List, [], length, Option, None, Some, is_some, option_map, refl, sym, ap, ap₂, subst, ◌∙◌, arith}
 use Rattle.std.specs.Prelude.{◌==◌, nat_lt, IfSome}
-use Rattle.std.specs.List.{filter, list_any}
 use Rattle.std.specs.Option.{option_map_or}
 use Rattle.std.specs.Ordering.{nat_cmp}
-use Rattle.std.specs.Cmp.{first_so, second_so}
-use Rattle.std.proofs.lemmas.Bool.{cases_Bool, ne_eqb}
-use borrow.Author.Tests.{ltb-true, leb-true}
+use borrow.Author.Tests.{ltb-true}
 use Rattle.std.proofs.lemmas.List.{length-map}
 use Rattle.br_model.specs.Forward.Admission.{admit}
-use Rattle.br_model.specs.Forward.Class.{class, class_by, is_snooped, is_trapped, is_trapped_in, reaches_host, crosses}
-use Rattle.br_model.specs.Table.Domains.{Domains, host, foreign, port_places}
+use Rattle.br_model.specs.Forward.Class.{class, class_by, is_trapped_in, crosses}
+use Rattle.br_model.specs.Table.Domains.{Domains, foreign, port_places}
 use Rattle.br_model.specs.Forward.Eligible.{may, untagged}
 use Rattle.br_model.specs.Forward.Leave.{all_ports, egress_ports, ports_in, ports_out}
 use Rattle.br_model.specs.Table.Limits.{most_addresses}
 use Rattle.br_model.specs.Data.Maps.{pair_cmp, get, has}
 use Rattle.br_model.specs.Data.Numbers.{is_multicast, broadcast}
 use Rattle.br_model.specs.Table.Table.{Table, with_addresses}
-use Rattle.br_model.specs.Forward.Targets.{bridge_group_address, pause_address, port_of, targets, to_tree, is_for_the_host, with_flag, flood}
+use Rattle.br_model.specs.Forward.Targets.{bridge_group_address, pause_address, port_of, targets, to_tree, with_flag, flood}
 use Rattle.br_model.specs.declared.change.Kind.{Kind}
 use Rattle.br_model.specs.declared.frame.Class.{Class}
 use Rattle.br_model.specs.declared.frame.Class.TheVariants.{Drop, Trap}

@@ -1,5 +1,5 @@
 -- Ports with something each, kept in a list with a place for each port: after one place is written.
-use Rattle.std.proofs.Common.{◌≡◌, ℕ, ◌+◌, ◌<◌, Bool, true, false, not, ◌&&◌, ◌||◌, cond, List, [], ◌∷◌, length, set, get_or, Option, None, Some, refl, sym, ap, ap₂, ◌∙◌, arith, inl, inr, get_or-set_same, get_or-set_other, zero-add, ◌≤◌}
+use Rattle.std.proofs.Common.{◌≡◌, ℕ, ◌<◌, Bool, true, false, ◌&&◌, cond, List, length, set, get_or, Option, None, Some, refl, sym, ap, ◌∙◌, arith, inl, inr, get_or-set_same, get_or-set_other, zero-add, ◌≤◌}
 use Rattle.std.specs.Prelude.{◌==◌, nat_lt}
 use Rattle.std.specs.Ordering.{nat_cmp}
 use Rattle.std.proofs.Math.Bool.{and-false}
@@ -9,7 +9,7 @@ use Rattle.br_model.specs.Table.Domains.{entries_from, last_port, port_places}
 use Rattle.br_model.specs.Data.Maps.{get, put, without}
 use Rattle.br_model.proofs.DomainLaws.{get-entries, entries-set}
 use Rattle.vlan_groups.proofs.Pvids.{entries-clear}
-use Rattle.port_sets.specs.Numbers.{numbers_below, has_number}
+use Rattle.port_sets.specs.Numbers.{has_number}
 use Rattle.port_sets.proofs.Numbers.{same_below, has-below}
 use Rattle.vlan_groups.specs.Rows.{ports_where}
 use Rattle.vlan_groups.proofs.RowLaws.{has-ports_where}

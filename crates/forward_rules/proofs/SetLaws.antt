@@ -2,8 +2,8 @@
 use Rattle.std.proofs.Common.{◌≡◌, ℕ, ◌<◌, ◌≤◌, arith, Bool, true, false, not, ◌&&◌, ◌||◌, cond, List, [], ◌∷◌, ◌++◌, refl, sym, ap, ap₂, ◌∙◌, inl, inr}
 use Rattle.std.specs.Prelude.{◌==◌, nat_lt}
 use Rattle.std.proofs.Math.Bool.{and-false}
-use Rattle.std.specs.List.{filter, list_any, range_with_len}
-use Rattle.std.specs.Ordering.{nat_cmp, eq_by_cmp}
+use Rattle.std.specs.List.{filter, list_any}
+use Rattle.std.specs.Ordering.{nat_cmp}
 use Rattle.std.specs.Cmp.{unsigned_tied}
 use Rattle.std.proofs.lemmas.Bool.{eq-eqb, eqb-true, cases_Bool, cases_lt, false≢true}
 use Rattle.std.proofs.lemmas.List.Folds.{list_any-append}
@@ -13,7 +13,7 @@ use Rattle.port_sets.specs.Numbers.{numbers_below, has_number, IsSetBelow}
 use Rattle.port_sets.proofs.Numbers.{same_below, has-below, has-filter}
 use Rattle.vlan_groups.specs.Rows.{ports_where}
 use Rattle.vlan_groups.proofs.RowLaws.{has-ports_where}
-use Rattle.forward_rules.specs.PortSets.{ArePorts, flag_is_set, flagged, placed, set_of}
+use Rattle.forward_rules.specs.PortSets.{ArePorts, flag_is_set, flagged, set_of}
 
 -- a list as a set of numbers has what the list has
 pub has-is : (xs : List ℕ) (n : ℕ) → has nat_cmp xs n ≡ has_number xs n

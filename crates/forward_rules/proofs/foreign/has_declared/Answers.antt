@@ -1,7 +1,6 @@
 use Rattle.std.proofs.Common.{◌≤◌, ◌&&◌, ap, arith, ◌∙◌, sym}
 use Rattle.std.specs.Prelude.{is_some}
 use Rattle.br_model.specs.Table.Domains.{domain_of, last_port}
-use Rattle.port_sets.specs.Numbers.{has_number}
 use Rattle.forward_rules.proofs.SetLaws.{any-found, any-none, member-within}
 use Rattle.forward_rules.proofs.foreign.has_declared.Goals as goal
 

@@ -1,4 +1,4 @@
-use Rattle.std.proofs.Common.{◌∙◌, ap, sym}
+use Rattle.std.proofs.Common.{◌∙◌, sym}
 use Rattle.br_model.specs.Table.Domains.{foreign}
 use Rattle.forward_rules.proofs.ForeignPorts.{not-own}
 use Rattle.forward_rules.proofs.SetLaws.{any-filter}

@@ -1,15 +1,12 @@
-use Rattle.std.proofs.Common.{◌≡◌, ℕ, Bool, true, false, ◌&&◌, ◌||◌, cond, List, Some, ap, sym, ◌∙◌, arith}
+use Rattle.std.proofs.Common.{◌≡◌, ℕ, Bool, ◌&&◌, ◌||◌, cond, Some, ap, sym, ◌∙◌, arith}
 use Rattle.br_model.specs.Forward.Class.{class_by, crosses, is_snooped, is_trapped_in, reaches_host}
 use Rattle.br_model.specs.Table.Domains.{host}
 use Rattle.br_model.specs.Forward.Eligible.{may, untagged}
 use Rattle.br_model.specs.Table.Table.{Table}
 use Rattle.br_model.specs.Forward.Targets.{is_for_the_host}
-use Rattle.br_model.specs.declared.frame.Class.{Class}
 use Rattle.br_model.specs.declared.frame.Class.TheVariants.{Trap}
-use Rattle.br_model.specs.Forward.Leave.{ports_out}
 use Rattle.vlan_groups.specs.Rows.{ports_where}
 use Rattle.port_sets.specs.Numbers.{has_number}
-use Rattle.forward_rules.specs.contracts.soft_tables.SoftTables.{the_view}
 use Rattle.forward_rules.proofs.Deciding.{class-is, crosses-is, or-assoc, ports-are, untagged-are}
 use Rattle.forward_rules.proofs.SetLaws.{both-within, member-of}
 use Rattle.forward_rules.proofs.soft_tables.SoftTables.decide_in.Goals as goal
