@@ -10,15 +10,14 @@ use br_model::limits::MOST_ADDRESSES;
 use br_model::numbers::{Dom, Mac, Port, Vid};
 use br_model::plain::table::Table;
 use forward_rules::SoftTables;
-use port_sets::Ports;
 use std::alloc::{AllocError, Global};
 use std::io;
 use std::time::Instant;
 
 const ADDRESSES: u64 = MOST_ADDRESSES as u64;
 
-/// The ports other than the host.
-const PORTS: u64 = 63;
+/// All ports but the host.
+const PORTS: u64 = Port::LAST as u64;
 
 const VLANS: u64 = 100;
 
@@ -85,7 +84,7 @@ fn keys(alloc: Global) -> Result<Vec<Key>, AllocError> {
     Ok(keys)
 }
 
-/// The ports are up and forwarding, and each is a member of two VLANs of three, half of them untagged. Each third port is a member
+/// All ports are up and forwarding, and each is a member of two VLANs of three, half of them untagged. Each third port is a member
 /// of the group in each VLAN, port 1 is a router port, and a querier is known.
 fn first_changes(alloc: Global, keys: &[Key]) -> Result<Vec<Change>, AllocError> {
     let mut changes = Vec::new(alloc);
@@ -158,15 +157,6 @@ fn frame(keys: &[Key], sort: Frames, state: u64) -> (Port, Head, McastMsg) {
     (port(state >> 20), head, message)
 }
 
-/// A sum over the words of the set.
-fn sum_of(ports: Ports) -> u64 {
-    let mut sum = 0u64;
-    for word in ports.words() {
-        sum = next(sum).wrapping_add(word);
-    }
-    sum
-}
-
 /// Decides frames of the sort, and answers a sum over the verdicts.
 fn decide(table: &SoftTables, domains: &Domains, keys: &[Key], sort: Frames) -> u64 {
     let mut state = 2;
@@ -175,9 +165,11 @@ fn decide(table: &SoftTables, domains: &Domains, keys: &[Key], sort: Frames) -> 
         state = next(state);
         let (port, head, message) = frame(keys, sort, state);
         let verdict = table.decide(port, &head, &message, domains);
+        let [ports] = verdict.ports.words();
+        let [untagged] = verdict.untagged.words();
         sum = next(sum)
-            .wrapping_add(sum_of(verdict.ports))
-            .wrapping_add(next(sum_of(verdict.untagged)))
+            .wrapping_add(ports)
+            .wrapping_add(next(untagged))
             .wrapping_add(verdict.class as u64);
     }
     sum
