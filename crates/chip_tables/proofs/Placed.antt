@@ -1,6 +1,7 @@
 -- Keys in use and their places.
 use Rattle.std.proofs.Common.{◌≡◌, ◌≢◌, ℕ, zero, suc, ◌^◌, ◌<◌, true, cond, Option, None, Some, List, [], ◌∷◌, length, get_or, set, is_some, find, refl, sym, ap, subst, ◌∙◌, ⊎_elim, arith}
-use Rattle.std.specs.Prelude.{slice_get}
+use Rattle.std.specs.Prelude.{slice_get, filter_map, map, IsPermutation}
+use Rattle.std.specs.List.Sorted.{IsStrictlySortedBy}
 use Rattle.std.specs.Ordering.{nat_cmp, is_eq}
 use Rattle.std.specs.declared.cmp.Ordering.TheVariants.{Less, Equal, Greater}
 use Rattle.std.specs.FinMap.Entries as entries
@@ -12,14 +13,17 @@ use Rattle.br_model.proofs.PairKeys.{same_cmp}
 use Rattle.open_addressing.specs.Finite.{entries_of, in_cell, value_at}
 use Rattle.open_addressing.specs.Lookups.{has, IsApart}
 use Rattle.open_addressing.specs.Pairs.{unpacked, packed as pair, by_pair}
-use Rattle.open_addressing.specs.Zipped.{cell_of, key_of}
+use Rattle.open_addressing.specs.Zipped.{cell_of, key_of, value_of}
 use Rattle.open_addressing.proofs.Entries.{find-entries_of, find-zero}
 use Rattle.open_addressing.proofs.Finite.{value-found, is_some-found}
 use Rattle.open_addressing.proofs.Lookups.{found, count-set, count-pos}
+use Rattle.open_addressing.proofs.Zipped.{key_of-cell, value_of-cell}
 use Rattle.open_addressing.proofs.Pairs.{get-by_pair, packed-unpacked, low-lt, unpacked-packed}
 use Rattle.chip_tables.specs.declared.rows.AddressRow.{AddressRow}
-use Rattle.chip_tables.specs.Rows.{Rows, address_rows, IsPlaced}
-use Rattle.chip_tables.specs.AddressCells.{address_cell, address_cells, place_in, places_of}
+use Rattle.chip_tables.specs.Rows.{Rows, key_of as number_of, address_of, extern_if, extern_at, address_rows, IsPlaced}
+use Rattle.chip_tables.specs.AddressCells.{ordered, address_cell, address_cells, place_in, places_of, extern_in}
+use Rattle.chip_tables.proofs.AddressKeys.{keys-moved, keys-rise}
+use Rattle.chip_tables.proofs.AddressRows.{cell-at, place-at}
 
 abbrev Cells : Type 0
 Cells = List (Option (ℕ × AddressRow))
@@ -94,19 +98,49 @@ found-fits k (e ∷ es) is =
       | Greater ↦ λ o h. found-fits k es h
     ] refl is
 
+-- what stands in the map at the key of a cell
+value-at : (rows : List ℕ) (es : List (ℕ × AddressRow)) → entries_of (address_cells rows) ≡ es → IsApart key_of (address_cells rows) → (i : ℕ) → i < length (address_cells rows)
+    → key_of (get_or (address_cells rows) i None) ≢ 0 → get pair_cmp (by_pair es) (unpacked (key_of (get_or (address_cells rows) i None))) ≡ value_of (get_or (address_cells rows) i None)
+value-at rows es listed apart i within some =
+    let cs : Cells = address_cells rows in
+    let q : ℕ = key_of (get_or cs i None) in
+    get-by_pair (unpacked q) (low-lt q) es ∙ ap (λ n. entries.find nat_cmp n es) (packed-unpacked q) ∙ ap (entries.find nat_cmp q) (sym listed)
+    ∙ find-entries_of cs q some ∙ value-found cs apart q i some within refl
+
+extern-own : (n : ℕ) (r : AddressRow) (t : Rows) → (n ≢ 0 → get pair_cmp t.addresses (unpacked n) ≡ Some r) → extern_in (cell_of n r) ≡ extern_at t (place_in (cell_of n r))
+extern-own zero r t own = refl
+extern-own (suc n) r t own = ap (extern_if (unpacked (suc n))) (sym (own (λ none. omega arith)))
+
+-- the entry at a place is that of its cell
+pub extern-placed : (rows : List ℕ) (es : List (ℕ × AddressRow)) → entries_of (address_cells rows) ≡ es → IsApart key_of (address_cells rows)
+    → (t : Rows) → t.addresses ≡ by_pair es → t.places ≡ places_of (address_cells rows) → (i : ℕ) → i < length rows → (place : Option (ℕ × ℕ)) → slice_get t.places i ≡ Some place
+    → extern_in (get_or (address_cells rows) i None) ≡ extern_at t place
+extern-placed rows es listed apart t addresses places i within place at =
+    let cs : Cells = address_cells rows in
+    let row : ℕ = get_or rows i 0 in
+    let n : ℕ = ordered (number_of row) in
+    let cell : address_cell row ≡ get_or cs i None = cell-at rows i row within refl in
+    let key : key_of (get_or cs i None) ≡ n = ap key_of (sym cell) ∙ key_of-cell n (address_of row) in
+    let inside : i < length cs = omega (arith, length-map rows address_cell) in
+    let own : n ≢ 0 → get pair_cmp t.addresses (unpacked n) ≡ Some (address_of row) = λ some.
+    ap (λ (xs : List ((ℕ × ℕ) × AddressRow)). get pair_cmp xs (unpacked n)) addresses ∙ ap (λ m. get pair_cmp (by_pair es) (unpacked m)) (sym key)
+    ∙ value-at rows es listed apart i inside (λ none. some (sym key ∙ none)) ∙ ap value_of (sym cell) ∙ value_of-cell n (address_of row) some in
+    let here : Some (place_in (address_cell row)) ≡ Some place = sym (place-at rows i row within refl) ∙ ap (λ (ps : List (Option (ℕ × ℕ))). slice_get ps i) (sym places) ∙ at in
+    ap extern_in (sym cell) ∙ extern-own n (address_of row) t own ∙ ap (extern_at t) (cc (here))
+
 pub is_placed : (rows : List ℕ) (es : List (ℕ × AddressRow)) → length rows ≡ address_rows → entries_of (address_cells rows) ≡ es → IsApart key_of (address_cells rows)
     → (t : Rows) → t.addresses ≡ by_pair es → t.places ≡ places_of (address_cells rows) → IsPlaced t
 is_placed rows es long listed apart t addresses places =
     let cs : Cells = address_cells rows in
     record {
+      moved = subst (λ (ks : List (ℕ × ℕ)). IsPermutation ks (map (λ e. e.0) t.addresses)) (ap (filter_map (λ place. place)) (sym places))
+          (subst (λ (xs : List ((ℕ × ℕ) × AddressRow)). IsPermutation (filter_map (λ place. place) (places_of cs)) (map (λ e. e.0) xs)) (sym addresses) (keys-moved rows es listed apart));
+      ascending = subst (λ (xs : List ((ℕ × ℕ) × AddressRow)). IsStrictlySortedBy pair_cmp (map (λ e. e.0) xs)) (sym addresses) (keys-rise rows es listed);
       sized = ap length places ∙ length-map cs place_in ∙ length-map rows address_cell ∙ long;
       used = λ i k e.
           (let p = place-key rows i k (ap (λ (ps : List (Option (ℕ × ℕ))). slice_get ps i) (sym places) ∙ e) in
           let q : ℕ = key_of (get_or cs i None) in
-          let fits : k.1 < 2 ^ 48 = subst (λ (x : ℕ × ℕ). x.1 < 2 ^ 48) p.2 (low-lt q) in
-          let number : pair k ≡ q = ap pair (sym p.2) ∙ packed-unpacked q in
-          ap is_some (ap (λ (xs : List ((ℕ × ℕ) × AddressRow)). get pair_cmp xs k) addresses ∙ get-by_pair k fits es ∙ ap (λ n. entries.find nat_cmp n es) number
-          ∙ ap (entries.find nat_cmp q) (sym listed) ∙ find-entries_of cs q p.1 ∙ value-found cs apart q i p.1 p.0 refl)
+          ap is_some (ap (λ (xs : List ((ℕ × ℕ) × AddressRow)). get pair_cmp xs k) addresses ∙ ap (get pair_cmp (by_pair es)) (sym p.2) ∙ value-at rows es listed apart i p.0 p.1)
           ∙ is_some-found (get_or cs i None) p.1);
       placed = λ v m is.
           (let k : ℕ × ℕ = (v, m) in

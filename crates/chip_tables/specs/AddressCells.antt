@@ -5,7 +5,7 @@ use Rattle.std.specs.declared.option.Option.TheVariants.{None, Some}
 use Rattle.open_addressing.specs.Zipped.{cell_of}
 use Rattle.open_addressing.specs.Pairs.{unpacked}
 use Rattle.chip_tables.specs.declared.rows.AddressRow.{AddressRow}
-use Rattle.chip_tables.specs.Rows.{key_of, address_of}
+use Rattle.chip_tables.specs.Rows.{key_of, address_of, extern_if}
 
 -- the VLAN above the 48 bits of the address, of a key as its row has it
 unfoldable pub ordered : ℕ → ℕ
@@ -28,3 +28,8 @@ place_in (Some e) = Some (unpacked e.0)
 
 abbrev pub places_of : List (Option (ℕ × AddressRow)) → List (Option (ℕ × ℕ))
 places_of cells = map place_in cells
+
+-- the entry in a cell, if a chip learned it
+abbrev pub extern_in : Option (ℕ × AddressRow) → Option ((ℕ × ℕ) × AddressRow)
+extern_in None = None
+extern_in (Some e) = extern_if (unpacked e.0) (Some e.1)

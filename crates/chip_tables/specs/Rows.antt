@@ -1,12 +1,14 @@
 -- What the chip's tables hold: for each bank the list of its rows, as numbers, and how their fields are read.
 -- Source: the layout is this program's own; what the rows tell is what the kernel tells a switchdev driver (switchdev.rst).
-use Rattle.std.specs.Prelude.{◌≡◌, ℕ, zero, suc, ◌+◌, ◌*◌, ◌≤◌, ◌==◌, ◌&&◌, nat_le, Bool, true, false, cond, if◌then◌else◌, List, [], ◌∷◌, length, slice_index, slice_get, is_some}
+use Rattle.std.specs.Prelude.{◌≡◌, ℕ, zero, suc, ◌+◌, ◌*◌, ◌≤◌, ◌==◌, ◌&&◌, nat_le, Bool, true, false, cond, if◌then◌else◌, List, [], ◌∷◌, length, map, filter_map, slice_index, slice_get, is_some, IsPermutation}
+use Rattle.std.specs.List.Sorted.{IsStrictlySortedBy}
 use Rattle.std.specs.declared.cmp.Ordering.{Ordering}
 use Rattle.br_model.specs.declared.group.Group.{Group}
 use Rattle.std.specs.declared.option.Option.{Option}
 use Rattle.std.specs.declared.option.Option.TheVariants.{None, Some}
 use Rattle.br_model.specs.declared.change.Kind.{Kind}
 use Rattle.br_model.specs.declared.change.Kind.TheVariants.{Local, Static, Learned, Extern}
+use Rattle.br_model.specs.Control.Learning.{is_extern}
 use Rattle.port_sets.specs.Words.{members}
 use Rattle.chip_regs.specs.Rows.{field}
 use Rattle.br_model.specs.Data.Maps.{pair_cmp, get, put, without}
@@ -160,6 +162,15 @@ abbrev pub set_at : {K X : Type 0} → (K → K → Ordering) → List (K × X) 
 set_at R rows k None = without R rows k
 set_at R rows k (Some row) = put R rows k row
 
+-- the entry at a place, if a chip learned it
+abbrev pub extern_if : ℕ × ℕ → Option AddressRow → Option ((ℕ × ℕ) × AddressRow)
+extern_if key None = None
+extern_if key (Some row) = if is_extern row.kind then Some (key, row) else None
+
+abbrev pub extern_at : Rows → Option (ℕ × ℕ) → Option ((ℕ × ℕ) × AddressRow)
+extern_at rows None = None
+extern_at rows (Some key) = extern_if key (address_at rows key.0 key.1)
+
 abbrev pub addresses_with : Rows → ℕ → ℕ → Option AddressRow → List ((ℕ × ℕ) × AddressRow)
 addresses_with rows vid mac row = set_at pair_cmp rows.addresses (vid, mac) row
 
@@ -175,3 +186,6 @@ pub record IsPlaced (rows : Rows) : Type 0 where
   pub used : (i : ℕ) (k : ℕ × ℕ) → slice_get rows.places i ≡ Some (Some k) → is_some (address_at rows k.0 k.1) ≡ true
   pub placed : (vid mac : ℕ) → is_some (address_at rows vid mac) ≡ true → (i : ℕ) × (slice_get rows.places i ≡ Some (Some (vid, mac)))
   pub once : (i j : ℕ) (k : ℕ × ℕ) → slice_get rows.places i ≡ Some (Some k) → slice_get rows.places j ≡ Some (Some k) → i ≡ j
+  -- so the keys at all places are those of the used rows in another order
+  pub moved : IsPermutation (filter_map (λ place. place) rows.places) (map (λ e. e.0) rows.addresses)
+  pub ascending : IsStrictlySortedBy pair_cmp (map (λ e. e.0) rows.addresses)

@@ -1,15 +1,15 @@
 //! The address rows as the cells of a map.
-ghost use Rattle.std.specs.Prelude.{◌≡◌, ◌≢◌, ◌<◌, ◌^◌, IfOk, None, Some, [], filter_map, length, replicate, slice_get};
+ghost use Rattle.std.specs.Prelude.{◌≡◌, ◌≢◌, ◌<◌, ◌^◌, IfOk, None, Some, [], length, replicate, slice_get, slice_index_or};
 ghost use Rattle.std.specs.List.{All};
 ghost use Rattle.br_model.specs.Table.Limits.{most_addresses};
 ghost use Rattle.open_addressing.specs.Circle.{mix};
 ghost use Rattle.open_addressing.specs.Hashes.{mix-lt};
 ghost use Rattle.open_addressing.specs.Pairs.{packed};
 ghost use Rattle.chip_tables.specs.Rows.{key_of};
-ghost use Rattle.chip_tables.specs.AddressCells.{ordered, address_cells, places_of, IsKept};
+ghost use Rattle.chip_tables.specs.AddressCells.{ordered, address_cells, extern_in, places_of, IsKept};
 
 use crate::NoMemory;
-use crate::rows::{AddressRow, address_row, key_in, pack_address, pack_key};
+use crate::rows::{AddressRow, address_row, is_extern, key_in, pack_address, pack_key};
 use br_model::limits::MOST_ADDRESSES;
 use br_model::numbers::{Mac, Vid};
 use chip_regs::{Bank, Row};
@@ -25,6 +25,9 @@ pub type Addresses = Map<Key, AddressRow, AddressCells>;
 
 /// There are 2 to this power of address rows.
 const BITS: u32 = 15;
+
+/// So many.
+pub const ROWS: usize = 1 << BITS;
 
 /// How far apart the numbers of one address in two VLANs that follow one another are.
 const VLAN_STEP: u64 = 1 << 48;
@@ -137,17 +140,17 @@ impl AddressCells {
         Some((vid, mac))
     }
 
-    /// The keys in the rows that are used, in the order of the rows.
-    pub fn keys(&self, alloc: Global) -> Result<Vec<Key>, NoMemory>
-        ensures { IfOk result (λ keys. keys.items ≡ filter_map (λ place. place) (places_of (address_cells self.now.bank))) }
+    /// The key and what a row says of it, where a chip learned the entry.
+    pub fn extern_in(&self, i: usize) -> Option<(Key, AddressRow)>
+        requires { i < 32768 }
+        ensures { result ≡ extern_in (slice_index_or (address_cells self.now.bank) i None) }
     {
-        let mut keys = Vec::new(alloc);
-        for i in 0..32768 {
-            if let Some(key) = self.key(i) {
-                keys.push(key)?;
-            }
+        let row = self.bank.row(i);
+        if !is_extern(&row) {
+            return None;
         }
-        Ok(keys)
+        let key = self.key(i)?;
+        Some((key, address_row(&row)))
     }
 }
 

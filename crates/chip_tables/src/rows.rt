@@ -1,5 +1,6 @@
 //! The rows, and how they are packed.
 ghost use Rattle.std.specs.Prelude.{◌≡◌, ◌≢◌, ◌==◌, ◌<◌, ◌≤◌, ◌+◌, ◌*◌, ◌^◌, nat_lt};
+ghost use Rattle.br_model.specs.Control.Learning.{is_extern};
 ghost use Rattle.chip_tables.specs.Rows.{ports_from, vlan_of, fan_of, pvid_from, port_of, is_on, port_from, kind_of, address_of, control_of, key_of, packed, KeepsBefore};
 
 use br_model::change::{Flags, Kind};
@@ -311,6 +312,13 @@ fn number_of(kind: Kind) -> u64
         Kind::Learned => 2,
         Kind::Extern => 3,
     }
+}
+
+/// Whether a chip learned the entry of an address row.
+pub fn is_extern(row: &Row<9>) -> bool
+    ensures { result ≡ is_extern (address_of row.now).kind }
+{
+    kind_of(get!(row, 68, 2)) == Kind::Extern
 }
 
 /// A row as `key_in` and `address_row` read it. Bit 71, which neither reads, is set.

@@ -1,10 +1,8 @@
 //! The tables.
-ghost use Rattle.std.specs.Prelude.{◌≡◌, ◌<◌, ◌≤◌, IfOk, IfSome, Some, length, map, slice_get};
-ghost use Rattle.std.specs.List.Sorted.{IsStrictlySortedBy};
-ghost use Rattle.br_model.specs.Data.Maps.{pair_cmp};
+ghost use Rattle.std.specs.Prelude.{◌≡◌, ◌<◌, ◌≤◌, ℕ, IfOk, IfSome, Option, Some, length, slice_get};
 ghost use Rattle.br_model.specs.Table.GroupPairs.{max_pairs};
 ghost use Rattle.br_model.specs.Table.Limits.{most_addresses};
-ghost use Rattle.chip_tables.specs.Rows.{vlan_at, flood_at, router_at, port_at, trap_at, control_in, address_at, addresses_with, address_rows, group_at, groups_with, IsPlaced, WritesVlan, WritesFlood, WritesRouter, WritesPort, WritesTrap};
+ghost use Rattle.chip_tables.specs.Rows.{vlan_at, flood_at, router_at, port_at, trap_at, control_in, address_at, addresses_with, address_rows, extern_at, group_at, groups_with, IsPlaced, WritesVlan, WritesFlood, WritesRouter, WritesPort, WritesTrap};
 ghost use Rattle.chip_tables.specs.Writing.{WritesFan, IsBlank};
 
 use crate::NoMemory;
@@ -210,6 +208,16 @@ impl Tables {
         }
     }
 
+    /// How many address rows there are: 32,768.
+    pub fn address_rows(&self) -> usize
+        ensures count { result ≡ address_rows }
+        ensures placed { IsPlaced self.now }
+    {
+        // law: each key that is used stands at one place
+        let _ = self.addresses.cells();
+        addresses::ROWS
+    }
+
     /// The key of an address row, below 32,768. `None` exactly where it isn't used.
     pub fn address_at(&self, i: usize) -> Option<(Vid, Mac)>
         requires { i < address_rows }
@@ -219,14 +227,12 @@ impl Tables {
         self.addresses.cells().key(i)
     }
 
-    /// The keys of the used address rows, ascending by VLAN and address.
-    pub fn address_keys(&self, alloc: Global) -> Result<Vec<(Vid, Mac)>, NoMemory>
-        ensures keys { IfOk result (λ keys. keys.items ≡ map (λ e. e.0) self.now.addresses) }
-        ensures ascending { IfOk result (λ keys. IsStrictlySortedBy pair_cmp keys.items) }
+    /// The key of an address row, below 32,768, and what the row says, if a chip learned the entry.
+    pub fn extern_at(&self, i: usize) -> Option<((Vid, Mac), AddressRow)>
+        requires { i < address_rows }
+        ensures { (place : Option (ℕ × ℕ)) → slice_get self.now.places i ≡ Some place → result ≡ extern_at self.now place }
     {
-        let mut keys = self.addresses.cells().keys(alloc)?;
-        keys.sort_unstable();
-        Ok(keys)
+        self.addresses.cells().extern_in(i)
     }
 
     /// `None` exactly where no used row has that key.

@@ -7,6 +7,7 @@ pub mod Placing
 pub mod Telling
 pub mod Following
 pub mod Noting
+pub mod Arranged
 pub mod Sweeping
 pub mod ChipLists
 pub mod Reacting
