@@ -23,11 +23,11 @@ use std::marker::Model;
 /// The chip's tables. Contracts see the rows of each bank as numbers.
 #[derive(Drop)]
 pub struct Tables {
-    vlans: Bank<4096, 16>,
-    unicast: Bank<4096, 9>,
-    mcast: Bank<4096, 9>,
-    bcast: Bank<4096, 9>,
-    routers: Bank<4096, 9>,
+    vlans: Bank<4096, 64>,
+    unicast: Bank<4096, 33>,
+    mcast: Bank<4096, 33>,
+    bcast: Bank<4096, 33>,
+    routers: Bank<4096, 33>,
     ports: Bank<{ Port::PLACES }, 3>,
     traps: Bank<21, 1>,
     control: Bank<1, 1>,
@@ -52,7 +52,7 @@ impl Model for Tables {
 }
 
 /// Writes the row of a VLAN.
-fn put_fan(bank: &mut Bank<4096, 9>, v: Vid, r: &FanRow)
+fn put_fan(bank: &mut Bank<4096, 33>, v: Vid, r: &FanRow)
     ensures { WritesFan bank.old bank.new v r.now }
 {
     bank.put(usize::from(v.number()), pack_fan(r));
