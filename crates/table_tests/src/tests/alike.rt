@@ -18,18 +18,16 @@ const ROUNDS: u32 = 20_000;
 fn assert_alike(rt: &impl Abort, alloc: Global, edition: Edition) {
     let mut first = Both::make(rt, alloc, edition, CHIPS[0].0);
     let mut second = Both::make(rt, alloc, edition, CHIPS[1].0);
-    let mut third = Both::make(rt, alloc, edition, CHIPS[2].0);
     let mut chance = Chance::first();
     let mut tally = Tally::first();
     for _ in 0..ROUNDS {
         let change = chance.change(rt);
         first.accept(rt, &change);
         second.accept(rt, &change);
-        third.accept(rt, &change);
-        let (both, ports) = match chance.chip() {
-            0 => (&mut first, &CHIPS[0].1),
-            1 => (&mut second, &CHIPS[1].1),
-            _ => (&mut third, &CHIPS[2].1),
+        let (both, ports) = if chance.coin() {
+            (&mut first, &CHIPS[0].1)
+        } else {
+            (&mut second, &CHIPS[1].1)
         };
         both.turn();
         let port = chance.port_of(rt, ports);

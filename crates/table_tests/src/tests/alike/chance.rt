@@ -7,10 +7,8 @@ use br_model::group::Group;
 use br_model::numbers::{Mac, Port, Vid};
 use std::process::Abort;
 
-/// The host, the ports of three chips and one of software, most often the chips'.
-const PORTS: [u8; 16] = [
-    0, 1, 1, 64, 64, 130, 2, 2, 65, 199, 3, 3, 128, 254, 254, 200,
-];
+/// The host, the ports of two chips and one of software, most often the chips'.
+const PORTS: [u8; 16] = [0, 1, 1, 1, 2, 2, 2, 3, 3, 4, 4, 4, 5, 5, 6, 7];
 
 /// Stations, groups of both IP versions, reserved addresses, and none.
 const ADDRESSES: [u64; 13] = [
@@ -81,14 +79,7 @@ impl Chance {
         (self.state >> 33) % most
     }
 
-    /// The place of one of three chips.
-    pub(crate) fn chip(&mut self) -> usize
-        ensures { result < 3 }
-    {
-        self.below(3) as usize
-    }
-
-    fn coin(&mut self) -> bool {
+    pub(crate) fn coin(&mut self) -> bool {
         self.below(2) == 1
     }
 
