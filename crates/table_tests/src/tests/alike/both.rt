@@ -17,7 +17,7 @@ use std::process::Abort;
 use switchdev_notify::{deliver, notice_of};
 
 /// The ports of each chip, and the domain that they are in.
-pub(crate) const CHIPS: [(u8, [u8; 3]); 3] = [(1, [1, 64, 130]), (2, [2, 65, 199]), (4, [3, 128, 254])];
+pub(crate) const CHIPS: [(u8, [u8; 3]); 2] = [(1, [1, 64, 130]), (4, [65, 199, 254])];
 
 /// The port of software, besides the host.
 const SOFTWARE: [u8; 1] = [200];
