@@ -11,7 +11,7 @@ use Rattle.chip_driver.proofs.driver.Driver.make.Goals as goal
 pub write_member-requires : goal.write_member-requires
 write_member-requires c =
     let blank : IsBlank c.in_ok-tables.tables = search rules in
-    let joined : ◌≡◌ {A = List (List ℕ)} c.in_ok-joined.joined (replicate block_count []) = search rules in
+    let joined : ◌≡◌ {A = List (List ℕ)} c.in_ok-joined.joined (replicate block_count []) = c.in_ok-joined.ensures in
     let own : c.start-shadow.result.own ≡ c.ports_of.result = ap (λ (s : Shadow). s.own) c.start-shadow.ensures in
     let groups : ◌≡◌ {A = List Membership} c.in_ok-groups.groups [] = search rules in
     record {
