@@ -32,16 +32,7 @@ pub fn tells(state: &State, command: &Command) -> Option<TreeEvent>
         Command::PortPriority { port, n } => Some(TreeEvent::PortPriority(port, n)),
         Command::Stp(on) if on != state.ports.stp() => Some(TreeEvent::Switch(on)),
         Command::Priority(n) => Some(TreeEvent::Priority(n)),
-        Command::Link { .. }
-        | Command::VlanAdd { .. }
-        | Command::VlanDel { .. }
-        | Command::FdbAdd { .. }
-        | Command::FdbDel { .. }
-        | Command::MdbAdd { .. }
-        | Command::MdbDel { .. }
-        | Command::Snooping(_)
-        | Command::Stp(_)
-        | Command::Ageing(_) => None,
+        _ => None,
     }
 }
 
