@@ -7,11 +7,11 @@ use chip_tables::Flood;
 use std::test::Fail;
 use switchdev_notify::{deliver, notice_of};
 
-/// Port 1 is on the chip, port 5 isn't.
+/// Port 130 is on the chip, port 200 isn't.
 #[test]
 fn bits_follow_a_foreign_port(rt: HostRuntime) -> Result<(), Fail> {
-    let own = Port::new(1).ok_or("port")?;
-    let foreign = Port::new(5).ok_or("port")?;
+    let own = Port::new(130).ok_or("port")?;
+    let foreign = Port::new(200).ok_or("port")?;
     let vid = Vid::new(4094).ok_or("vid")?;
     let chip = Dom::new(1).ok_or("domain")?;
     let mut domains = Domains::make();
@@ -33,7 +33,7 @@ fn bits_follow_a_foreign_port(rt: HostRuntime) -> Result<(), Fail> {
         );
     }
     assert!(rt; !driver.tables().flood(vid, Flood::Unicast).plain);
-    assert!(rt; driver.tables().flood(vid, Flood::Unicast).ports.has(1));
+    assert!(rt; driver.tables().flood(vid, Flood::Unicast).ports.has(130));
     deliver(
         &mut driver,
         &notice_of(&Change::SetState(foreign, 3)),

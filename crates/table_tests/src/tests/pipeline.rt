@@ -88,7 +88,7 @@ fn set_ports(rt: &impl Abort, tables: &mut Tables) {
 /// The row with the chip's ports, and one with those elsewhere.
 fn fan(elsewhere: bool) -> FanRow {
     FanRow {
-        ports: Ports::from_word(6),
+        ports: Ports::from_words([6, 0, 0, 0]),
         isolated: elsewhere,
         plain: elsewhere,
     }
@@ -97,8 +97,8 @@ fn fan(elsewhere: bool) -> FanRow {
 /// The rows of a VLAN, whose frames leave port 1 untagged.
 fn set_vlan(tables: &mut Tables, vid: Vid, members: u64, elsewhere: bool) {
     let row = VlanRow {
-        members: Ports::from_word(members),
-        untagged: Ports::from_word(2),
+        members: Ports::from_words([members, 0, 0, 0]),
+        untagged: Ports::from_words([2, 0, 0, 0]),
     };
     tables.set_vlan(vid, row);
     tables.set_flood(vid, Flood::Unicast, fan(elsewhere));

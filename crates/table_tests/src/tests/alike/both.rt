@@ -17,10 +17,10 @@ use std::process::Abort;
 use switchdev_notify::{deliver, notice_of};
 
 /// The ports of each chip, and the domain that they are in.
-pub(crate) const CHIPS: [(u8, [u8; 3]); 2] = [(1, [1, 2, 3]), (4, [4, 5, 6])];
+pub(crate) const CHIPS: [(u8, [u8; 3]); 2] = [(1, [1, 64, 130]), (4, [65, 199, 254])];
 
 /// The port of software, besides the host.
-const SOFTWARE: [u8; 1] = [7];
+const SOFTWARE: [u8; 1] = [200];
 
 /// The rows of one chip, the software tables that took the same changes, and those that wait for the chip's turns. Rows and
 /// tables are large, so they stand on the heap.
@@ -138,7 +138,7 @@ impl Both {
             Class::Drop | Class::Trap => Ports::empty(),
             Class::Copy | Class::Forward => verdict
                 .ports
-                .and(Ports::from_word(self.domains.ports_of(self.driver.dom()))),
+                .and(self.domains.ports_of(self.driver.dom())),
         }
     }
 }

@@ -8,7 +8,9 @@ use br_model::numbers::{Mac, Port, Vid};
 use std::process::Abort;
 
 /// The host, the ports of two chips and one of software, most often the chips'.
-const PORTS: [u8; 16] = [0, 1, 1, 1, 2, 2, 2, 3, 3, 4, 4, 4, 5, 5, 6, 7];
+const PORTS: [u8; 16] = [
+    0, 1, 1, 1, 64, 64, 64, 130, 130, 65, 65, 65, 199, 199, 254, 200,
+];
 
 /// Stations, groups of both IP versions, reserved addresses, and none.
 const ADDRESSES: [u64; 13] = [
