@@ -98,9 +98,9 @@ fn declarations(rt: HostRuntime) -> Result<(), Fail> {
         ("2", "host", Err(LineWhy::Port)),
         ("2", "", Err(LineWhy::Port)),
         ("2", "sixteen-letters.", Err(LineWhy::Port)),
-        ("63", "fifteen_letters", Ok(())),
+        ("254", "fifteen_letters", Ok(())),
         ("0", "x", Err(LineWhy::Number)),
-        ("64", "x", Err(LineWhy::Number)),
+        ("255", "x", Err(LineWhy::Number)),
         ("02", "x", Err(LineWhy::Number)),
     ];
     for (number, name, expected) in lines {
@@ -114,7 +114,7 @@ fn declarations(rt: HostRuntime) -> Result<(), Fail> {
     assert_eq!(rt; r.place(), Place::Declarations);
     assert!(rt; !r.is_check());
     let last = r.port(1).expect(&rt, "two ports are declared");
-    assert_eq!(rt; last.number(), 63);
+    assert_eq!(rt; last.number(), 254);
     assert_eq!(rt; r.port(2), None);
     assert_eq!(rt; r.name(last), Some("fifteen_letters"));
     assert_eq!(rt; r.name(Port::HOST), None);
@@ -124,7 +124,7 @@ fn declarations(rt: HostRuntime) -> Result<(), Fail> {
     let port = r.port(2).expect(&rt, "a third port is declared");
     assert_eq!(rt; r.domains().of(port), Some(Dom::CHIP));
     assert_eq!(rt; r.domains().of(last), Some(Dom::SOFTWARE));
-    assert_eq!(rt; r.numbered("63"), Ok(last));
+    assert_eq!(rt; r.numbered("254"), Ok(last));
     assert_eq!(rt; r.numbered("2"), Err(LineWhy::Port));
     assert_eq!(rt; r.chip("1"), Ok(Dom::CHIP));
     assert_eq!(rt; r.chip("4"), Err(LineWhy::Port));

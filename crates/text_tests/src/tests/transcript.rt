@@ -29,7 +29,7 @@ fn the_text_of_rows(rt: HostRuntime) -> Result<(), Fail> {
     lines.reserve(3, 20)?;
     lines.push_sent(
         7,
-        none.with(1).with(2).with(63),
+        none.with(1).with(2).with(200).with(254),
         none.with(2),
         &[0x02, 0xAB],
         &[0x81, 0x00],
@@ -43,7 +43,8 @@ fn the_text_of_rows(rt: HostRuntime) -> Result<(), Fail> {
     lines.clear();
     lines.push(Line::Overrun { id: 9 })?;
     writer.append_lines(&lines, &mut text)?;
-    let want = "soft 7 at 0\ntx 7 1 02ab81000f\ntx 7 2 02ab0f\ntx 7 63 02ab81000f\nctl 5 0180\n\
+    let want =
+        "soft 7 at 0\ntx 7 1 02ab81000f\ntx 7 2 02ab0f\ntx 7 200 02ab81000f\ntx 7 254 02ab81000f\nctl 5 0180\n\
                 tx 8 2 0481\ntx 8 3 04\noverrun 9\n";
     assert_eq!(rt; text.as_str(), want);
     Ok(())
@@ -98,7 +99,7 @@ fn lines_and_their_texts(rt: HostRuntime) -> Result<(), Fail> {
     lines.push(Line::Soft { id: 7, point: 0 })?;
     lines.push(sent(alloc, 7, 1, &[0x02, 0xAB, 0x0F])?)?;
     lines.push(sent(alloc, 7, 2, &[0x02, 0xAB, 0x0F, 0x81])?)?;
-    lines.push(sent(alloc, 7, 63, &[0x02, 0xAB, 0x0F])?)?;
+    lines.push(sent(alloc, 7, 254, &[0x02, 0xAB, 0x0F])?)?;
     lines.push(Line::Ctl {
         port: Port::new(5).ok_or("port")?,
         bytes: Bytes::copy_of(alloc, &[0x01, 0x80, 0xC2])?,
@@ -136,7 +137,7 @@ fn lines_and_their_texts(rt: HostRuntime) -> Result<(), Fail> {
         "soft 7 at 0\n",
         "tx 7 1 02ab0f\n",
         "tx 7 2 02ab0f81\n",
-        "tx 7 63 02ab0f\n",
+        "tx 7 254 02ab0f\n",
         "ctl 5 0180c2\n",
         "end 4294967295 10 0 2\n",
     ];
@@ -190,7 +191,7 @@ fn texts_that_are_lines(rt: HostRuntime) -> Result<(), Fail> {
         "unread 1 tagshort\n",
         "soft 7 at 0\n",
         "held 8 2\n",
-        "tx 7 63 02ab0f\n",
+        "tx 7 254 02ab0f\n",
         "ctl 0 ff\n",
         "overrun 4097\n",
         "ok 1 3\n",
@@ -232,7 +233,7 @@ fn texts_that_are_no_lines(rt: HostRuntime) -> Result<(), Fail> {
         "chip 1 at 2 0 Drop\n",
         "refused 3 0\n",
         "refused 3 16\n",
-        "tx 7 64 02\n",
+        "tx 7 255 02\n",
         "tx 7 1 \n",
         "tx 7 1 0\n",
         "tx 7 1 0g\n",

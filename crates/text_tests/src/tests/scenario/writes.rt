@@ -11,11 +11,11 @@ use scenario_text::{read_line, write_line};
 use std::alloc::Global;
 use std::test::Fail;
 
-const DECLARATIONS: [&str; 3] = ["scenario 1", "port 63 p-1 soft", "port 62 p-2 chip 4"];
+const DECLARATIONS: [&str; 3] = ["scenario 1", "port 254 p-1 soft", "port 62 p-2 chip 4"];
 
 /// Each step is written as it was read.
 const STEPS: &str = "\
-rx 63 ffffffffffff02000000000a88b50102
+rx 254 ffffffffffff02000000000a88b50102
 cmd port up p-1
 cmd port down p-1
 cmd link p-1 mcast_flood on
@@ -50,8 +50,8 @@ publish
 
 /// The bytes of frames, with their lines.
 const FRAMES: &[(&[u8], &str)] = &[
-    (&[], "rx 63 00\n"),
-    (&[0xFF, 0x02, 0x00, 0x0A, 0xB5], "rx 63 ff02000ab5\n"),
+    (&[], "rx 254 00\n"),
+    (&[0xFF, 0x02, 0x00, 0x0A, 0xB5], "rx 254 ff02000ab5\n"),
 ];
 
 /// Whether a line gives the step, and the ports that it names are declared.
@@ -102,7 +102,7 @@ fn is_written_back(alloc: Global, line: &str, roster: &mut Roster) -> bool {
     }
 }
 
-/// A roster with the port `p-1`, whose number is 63, and a port of the fourth chip.
+/// A roster with the port `p-1`, whose number is 254, and a port of the fourth chip.
 fn roster(alloc: Global) -> Result<Roster, Fail> {
     let mut roster = Roster::make(alloc, false)?;
     for line in DECLARATIONS {
