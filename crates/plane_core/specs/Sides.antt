@@ -43,11 +43,11 @@ first_sides setup board = record {
 }
 
 -- a bridge in which nothing has happened, its chips, and no deferred changes
-pub record HasBegun (setup : Setup) (begun : Controlled × List ChipState × List ℕ) : Type 0 where
-  pub bridge : begun.0 ≡ record { setup = setup; history = []; control = first_control setup.own }
-  pub follows : AreChips setup.domains [] begun.1
-  pub chips : chips_of begun.1 ≡ first_chips setup.domains
-  pub places : begun.2 ≡ []
+pub record HasBegun (setup : Setup) (bridge : Controlled) (chips : List ChipState) (noted : List ℕ) : Type 0 where
+  pub bridge_is : bridge ≡ record { setup = setup; history = []; control = first_control setup.own }
+  pub follows : AreChips setup.domains [] chips
+  pub chips_are : chips_of chips ≡ first_chips setup.domains
+  pub places_are : noted ≡ []
 
 -- The chips follow the bridge's history, the places are those of its deferred changes, and the board has it, published or not.
 pub record AreSides (bridge : Controlled) (chips : List ChipState) (noted : List ℕ) (board : Shelf) : Type 0 where

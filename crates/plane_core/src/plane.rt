@@ -91,7 +91,7 @@ fn ticket_of(update: &Option<Update>) -> Option<u32>
 
 /// What a plane over a board begins with, beside the board.
 fn parts(alloc: Global, d: Domains, own: Mac) -> Result<(Begun, Frames), NoMemory>
-    ensures begun { IfOk result (λ t. HasBegun (record { domains = d; own = own }) t.0) }
+    ensures begun { IfOk result (λ t. HasBegun (record { domains = d; own = own }) t.0.0 t.0.1 t.0.2) }
     ensures frames { IfOk result (λ t. t.1 ≡ record { waiting = []; held = []; next = 1 }) }
 {
     let begun = begin(alloc, d, own)?;

@@ -135,7 +135,7 @@ pub(crate) type Begun = (Bridge, Chips, Updates);
 
 /// Makes all that stands beside a board.
 pub(crate) fn begin(alloc: Global, domains: Domains, own: Mac) -> Result<Begun, NoMemory>
-    ensures { IfOk result (HasBegun (record { domains = domains; own = own })) }
+    ensures { IfOk result (λ t. HasBegun (record { domains = domains; own = own }) t.0 t.1 t.2) }
 {
     let chips = Chips::make(alloc, &domains)?;
     let updates = Updates::make(alloc)?;
@@ -145,7 +145,7 @@ pub(crate) fn begin(alloc: Global, domains: Domains, own: Mac) -> Result<Begun, 
 impl Sides {
     /// Those of a bridge in which nothing has happened, and its board.
     pub(crate) fn over(begun: Begun, board: Board) -> Sides
-        requires begun { HasBegun (record { domains = board.board.domains; own = begun.0.setup.own }) begun }
+        requires begun { HasBegun (record { domains = board.board.domains; own = begun.0.setup.own }) begun.0 begun.1 begun.2 }
         requires object { board.object ≡ first_object }
         requires pending { board.pending ≡ [] }
         ensures { result ≡ first_sides begun.0.setup board.board }
