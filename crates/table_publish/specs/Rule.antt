@@ -33,6 +33,6 @@ pub record Keeps (p : Published) (views : List View) : Type 0 where
 abbrev pub Sees : View → Published → Published → View → Type 0
 Sees v x y w = (w ≡ v) × IsTable y × IsOf v y.seen.book
 
--- a step after which the book of the value y is known
+-- a step after which the value y is a table of its book, which is known
 abbrev pub Names : View → Published → Published → View → Type 0
-Names v x y w = w ≡ knower y.seen.book
+Names v x y w = (w ≡ knower y.seen.book) × IsTable y

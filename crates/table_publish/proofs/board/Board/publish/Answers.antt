@@ -20,8 +20,8 @@ returns-then-is_empty-clause-published g c = subst (λ (o : Object). IsPublished
 pub returns-in_err-changes-clause-published : goal.returns-in_err-changes-clause-published
 returns-in_err-changes-clause-published g c = subst (λ (o : Object). IsPublished o) (ap (λ (k : Shelf). k.object) c.self.view_is) (shelved_published c.self.inside c.self.invariant)
 
-pub enter_batch-requires-clause-batches : goal.enter_batch-requires-clause-batches
-enter_batch-requires-clause-batches g c = (c.self.invariant.batches, shelved_batches c.self.inside c.self.invariant)
+pub enter_batch-seen-requires-clause-batches : goal.enter_batch-seen-requires-clause-batches
+enter_batch-seen-requires-clause-batches g c = (c.self.invariant.batches, shelved_batches c.self.inside c.self.invariant)
 
 pub replace_with-requires : goal.replace_with-requires
 replace_with-requires g c =
@@ -39,8 +39,8 @@ replace_with-requires g c =
 pub overflow_add-self : goal.overflow_add-self
 overflow_add-self g c = let b = shelved_batches c.self.inside c.self.invariant in omega arith
 
-pub invariant_of-self-2 : goal.invariant_of-self-2
-invariant_of-self-2 g c =
+pub invariant_of-self : goal.invariant_of-self
+invariant_of-self g c =
     let h = c.replace_with.ensures in
     let i = c.self.invariant in
     let b = c.enter_batch-seen.ensures in
@@ -55,7 +55,7 @@ invariant_of-self-2 g c =
     let within : AreWithin (changes_of log ++ items) = subst (λ (l : List Change). AreWithin (changes_of log ++ l)) (sym all) i.fit in
     let shown : c.replace_with.new.dest.desk.shown.value ≡ after before op = h.0 in
     let table : IsTable (after before op) = table_after before op log i.table same is (let e : c.self.inside.batches + 1 ≡ length log + 1 = omega (arith, i.batches) in e) some within in
-    let count : c.len-count.result ≡ length items = search rules in
+    let count : c.len.result ≡ length items = omega (arith, c.len.ensures, ap length all) in
     let whole : changes_of c.enter_batch-seen.result.log ≡ changes_of log ++ items = ap changes_of b.log ∙ changes_of-push log items in
     let changes : length (changes_of c.enter_batch-seen.result.log) ≡ length (changes_of log) + length items = ap length whole ∙ length-append (changes_of log) items in
     let longer : length c.enter_batch-seen.result.log ≡ length log + 1 = ap length b.log ∙ length-append log (items ∷ []) in
@@ -94,7 +94,8 @@ returns-clause-count g c =
     let b = c.enter_batch-seen.ensures in
     let log = c.self.inside.seen.log in
     let items = c.in_ok-changes.changes.items in
-    let count : c.len-count.result ≡ length items = search rules in
+    let all : items ≡ c.self.inside.pending.items = c.in_ok-changes.ensures.items ∙ c.as_slice.ensures.value in
+    let count : c.len.result ≡ length items = omega (arith, c.len.ensures, ap length all) in
     let changes : length (changes_of c.enter_batch-seen.result.log) ≡ length (changes_of log) + length items = ap (λ (l : List (List Change)). length (changes_of l)) b.log ∙ (ap length (changes_of-push log items) ∙ length-append (changes_of log) items) in
     omega (arith, i.len, changes, count)
 
