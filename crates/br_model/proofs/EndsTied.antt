@@ -94,17 +94,8 @@ module _ (t : Table) (e : Ends) (tied : IsTied t e) where
 
 -- what a change does to the table, `keeps_up` does to its ends
 pub tied-apply : (t : Table) (k : Control) (c : Change) → IsTied t k.ends → IsTied (apply t c) (keeps_up k c).ends
-tied-apply t k (PortUp port) tied = tied-elsewhere t _ k.ends tied refl refl refl
-tied-apply t k (PortDown port) tied = tied-elsewhere t _ k.ends tied refl refl refl
-tied-apply t k (SetFlags port flags) tied = tied-elsewhere t _ k.ends tied refl refl refl
-tied-apply t k (SetState port state) tied = tied-elsewhere t _ k.ends tied refl refl refl
-tied-apply t k (VlanAdd port vid untagged pvid) tied = tied-elsewhere t _ k.ends tied refl refl refl
-tied-apply t k (VlanDel port vid) tied = tied-elsewhere t _ k.ends tied refl refl refl
 tied-apply t k (GroupJoin port vid group) tied = tied-lasts t k.ends tied (vid, group, port) None
 tied-apply t k (GroupPart port vid group) tied = tied-parts t k.ends tied (vid, group, port)
 tied-apply t k (Router port on) tied = tied-routes t k.ends tied on k.now port
 tied-apply t k (Querier six on) tied = tied-queries t k.ends tied on k.now six
-tied-apply t k (Snoop on) tied = tied-elsewhere t _ k.ends tied refl refl refl
-tied-apply t k (Stp on) tied = tied-elsewhere t _ k.ends tied refl refl refl
-tied-apply t k (AddrPut vid mac port kind) tied = tied-elsewhere t _ k.ends tied refl refl refl
-tied-apply t k (AddrDel vid mac) tied = tied-elsewhere t _ k.ends tied refl refl refl
+tied-apply t k c tied = tied-elsewhere t _ k.ends tied refl refl refl

@@ -13,7 +13,7 @@ pub mod DomainLaws
 pub mod DomainChips
 pub mod Endings
 pub mod DomainRows
-pub mod DomainWords
+pub mod DomainMembers
 pub mod EndsTied
 pub mod FrameFacts
 pub mod Fronts

@@ -41,21 +41,8 @@ makes-table h r c is =
     ]
 
 sets-ends : (k : Control) (c : Command) → (sets k c).ends ≡ k.ends
-sets-ends k (commands.PortUp port) = refl
-sets-ends k (commands.PortDown port) = refl
-sets-ends k (commands.Link port flag on) = refl
-sets-ends k (commands.Cost port n) = refl
-sets-ends k (commands.PortPriority port n) = refl
-sets-ends k (commands.VlanAdd port vid untagged pvid) = refl
-sets-ends k (commands.VlanDel port vid) = refl
-sets-ends k (commands.FdbAdd vid mac port kind) = refl
-sets-ends k (commands.FdbDel vid mac) = refl
-sets-ends k (commands.MdbAdd port vid group) = refl
-sets-ends k (commands.MdbDel port vid group) = refl
-sets-ends k (commands.Stp on) = refl
-sets-ends k (commands.Priority n) = refl
 sets-ends k (commands.Ageing seconds) = refl
-sets-ends k (commands.Snooping on) = refl
+sets-ends k c = refl
 
 -- what is refused has no course
 abbrev pub IsKept : (Course → Type 0) → Result Course Refusal → Type 0

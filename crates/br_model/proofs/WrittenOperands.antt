@@ -8,7 +8,7 @@ use Rattle.std.specs.declared.result.Result.TheVariants.{Ok, Err}
 use Rattle.std.proofs.lemmas.Bool.{eqb-true, not-true}
 use Rattle.br_model.specs.declared.scenario.LineWhy.TheVariants as why
 use Rattle.br_model.specs.Data.Digits.{hex_of}
-use Rattle.br_model.specs.Table.Domains.{first_chip_domain, last_chip}
+use Rattle.br_model.specs.Table.Domains.{first_chip_domain, last_chip, last_port}
 use Rattle.br_model.specs.Text.Declarations.{are_declared}
 use Rattle.br_model.specs.Text.FlagWords.{flags, flag_named, name_of_flag}
 use Rattle.br_model.specs.Text.Operands.{Operand, Number, Chip, NewPort, NewName, PortNumber, PortName, Device, Station, GroupAddress, Hex, Flag, Value, read, spelled, in_range, can_stand, number, chip_domain, new_port, new_name, unless, mac, hex, flag, bytes_of, is_station, is_byte, is_flag}
@@ -81,10 +81,10 @@ chip_proper ports dom h =
     let few : dom < 2 ^ 64 = by_chip (λ n. n < 2 ^ 64) (omega arith) (omega arith) (omega arith) (omega arith) ports dom h in
     decimal_proper dom few
 
-new_port_read : (ports : List Entry) (port : ℕ) → (nat_le 1 port && nat_le port 63) ≡ true → has_number ports port ≡ false → new_port ports (decimal port) ≡ Ok port
+new_port_read : (ports : List Entry) (port : ℕ) → (nat_le 1 port && nat_le port last_port) ≡ true → has_number ports port ≡ false → new_port ports (decimal port) ≡ Ok port
 unfolding new_port
 new_port_read ports port h free =
-    ap (unless why.Port (λ n. has_number ports n)) (in_number 1 63 port refl h) ∙ ap (λ (b : Bool). if b then Err why.Port else Ok port) free
+    ap (unless why.Port (λ n. has_number ports n)) (in_number 1 last_port port refl h) ∙ ap (λ (b : Bool). if b then Err why.Port else Ok port) free
 
 new_name_read : (ports : List Entry) (name : Word) → (is_name name && not (is_some (port_named ports name))) ≡ true → new_name ports name ≡ Ok name
 unfolding new_name
@@ -127,7 +127,7 @@ pub operand_read : (ports : List Entry) (o : Operand) (value : Value o) → are_
     → read ports o (spelled ports o value) ≡ Ok value
 operand_read ports (Number low high) n all narrow h = in_number low high n narrow h
 operand_read ports Chip dom all narrow h = chip_read ports dom h
-operand_read ports NewPort port all narrow h = new_port_read ports port (first_so _ _ h) (not-true _ (second_so (nat_le 1 port && nat_le port 63) _ h))
+operand_read ports NewPort port all narrow h = new_port_read ports port (first_so _ _ h) (not-true _ (second_so (nat_le 1 port && nat_le port last_port) _ h))
 operand_read ports NewName name all narrow h = new_name_read ports name h
 operand_read ports PortNumber port all narrow h = port_number_read ports port all h
 operand_read ports PortName port all narrow h = port_name_read ports port all h
@@ -141,7 +141,7 @@ pub operand_proper : (ports : List Entry) (o : Operand) (value : Value o) → ar
     → is_proper (spelled ports o value) ≡ true
 operand_proper ports (Number low high) n all narrow h = decimal_proper n (below high n narrow (second_so (nat_le low n) _ h))
 operand_proper ports Chip dom all narrow h = chip_proper ports dom h
-operand_proper ports NewPort port all narrow h = decimal_proper port (below 63 port refl (second_so (nat_le 1 port) _ (first_so _ _ h)))
+operand_proper ports NewPort port all narrow h = decimal_proper port (below last_port port refl (second_so (nat_le 1 port) _ (first_so _ _ h)))
 operand_proper ports NewName name all narrow h = given_name_proper name (first_so _ _ h)
 operand_proper ports PortNumber port all narrow h = decimal_proper port (port_small ports port all h)
 operand_proper ports PortName port all narrow h = name_proper ports port all h

@@ -1,7 +1,6 @@
 //! What is accepted: the changes of the bridge's table.
 ghost use Rattle.std.specs.Prelude.{◌≡◌, ◌<◌, ◌↔◌, IsSome, IfSome};
-ghost use Rattle.br_model.specs.Table.Change.{deferred};
-ghost use Rattle.br_model.specs.Table.Limits.{asks};
+ghost use Rattle.br_model.specs.Table.Change.{asks, deferred};
 
 use crate::domains::Edition;
 use crate::group::Group;

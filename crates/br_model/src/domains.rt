@@ -1,15 +1,16 @@
 //! The domains of the declared ports, and the edition of the profile.
-ghost use Rattle.std.specs.Prelude.{◌≡◌, ◌≢◌, ◌==◌, ◌<◌, ◌≤◌, ℕ, false, [], ◌∷◌, if◌then◌else◌, get_or, map, slice_index, None, Some};
+ghost use Rattle.std.specs.Prelude.{◌≡◌, ◌≢◌, ◌==◌, ◌≤◌, ℕ, not, ◌&&◌, [], ◌∷◌, if◌then◌else◌, get_or, map, slice_index_or, None, Some};
 ghost use Rattle.std.specs.List.{list_any};
-ghost use Rattle.std.specs.Int.{bit_at};
 ghost use Rattle.std.specs.Ordering.{nat_cmp};
 ghost use Rattle.br_model.specs.declared.domains.Edition.TheVariants.{One};
 ghost use Rattle.br_model.specs.Table.Change.{groups_deferred};
 ghost use Rattle.br_model.specs.Table.Domains.{domain_of, entries_from, has_chip, host, last_chip, port_places};
-ghost use Rattle.br_model.specs.Table.DomainPorts.{IsWordOf};
+ghost use Rattle.br_model.specs.Table.DomainPorts.{ports_in};
 ghost use Rattle.br_model.specs.Data.Maps.{put};
+ghost use Rattle.port_sets.specs.Numbers.{has_number, numbers_below};
 
 use crate::numbers::{Dom, Port};
+use port_sets::Ports;
 use std::marker::Model;
 
 /// Which changes reach a chip through its queue.
@@ -39,21 +40,21 @@ impl Edition {
 pub struct Domains {
     edition: Edition,
     by_port: [Option<Dom>; Port::PLACES],
-    // A word for each domain, with a bit for each of its ports.
-    words: [u64; Dom::PLACES],
+    // The ports of each domain.
+    members: [Ports; Dom::PLACES],
 }
 
 impl Model for Domains {
-    ghost use Rattle.std.specs.Prelude.{◌≡◌, ℕ, ◌≤◌, Some, None, get_or, slice_index};
+    ghost use Rattle.std.specs.Prelude.{◌≡◌, ℕ, ◌≤◌, [], Some, None, get_or, slice_index_or};
     ghost use Rattle.br_model.specs.Table.Domains.{Domains, entries_from, last_chip};
-    ghost use Rattle.br_model.specs.Table.DomainPorts.{IsWordOf};
+    ghost use Rattle.br_model.specs.Table.DomainPorts.{ports_in};
 
     ghost Value = { Domains };
 
     ghost view = { λ d. record { edition = d.edition; ports = entries_from 0 d.by_port } };
 
     ghost invariant = { λ d. (get_or d.by_port 0 None ≡ Some 0)
-        × ((domain : ℕ) → domain ≤ last_chip → IsWordOf (record { edition = d.edition; ports = entries_from 0 d.by_port }) domain (slice_index d.words domain)) };
+        × ((domain : ℕ) → domain ≤ last_chip → slice_index_or d.members domain [] ≡ ports_in (record { edition = d.edition; ports = entries_from 0 d.by_port }) domain) };
 }
 
 impl Domains {
@@ -61,12 +62,12 @@ impl Domains {
     pub fn make() -> Domains
         ensures { result ≡ record { edition = One; ports = (host, 0) ∷ [] } }
     {
-        let mut words = [0; Dom::PLACES];
-        put_bit(&mut words, Port::HOST, Dom::SOFTWARE);
+        let mut members = [Ports::empty(); Dom::PLACES];
+        move_port(&mut members, Port::HOST, Dom::SOFTWARE);
         Domains {
             edition: Edition::One,
             by_port: host_alone(),
-            words,
+            members,
         }
     }
 
@@ -89,7 +90,7 @@ impl Domains {
         requires { p ≢ host }
         ensures { self.new ≡ record self.old { ports = put nat_cmp self.old.ports p d } }
     {
-        put_bit(&mut self.words, p, d);
+        move_port(&mut self.members, p, d);
         self.by_port[usize::from(p.number())] = Some(d);
     }
 
@@ -100,7 +101,7 @@ impl Domains {
         Domains {
             edition: self.edition,
             by_port: copy_of(&self.by_port),
-            words: self.words,
+            members: self.members,
         }
     }
 
@@ -121,11 +122,11 @@ impl Domains {
         d == Dom::CHIP || (d != Dom::SOFTWARE && is_declared(&self.by_port, d))
     }
 
-    /// The ports of the domain: bit n of the word stands for port n.
-    pub fn ports_of(&self, d: Dom) -> u64
-        ensures { IsWordOf self.now d result }
+    /// The ports of the domain.
+    pub fn ports_of(&self, d: Dom) -> Ports
+        ensures { result ≡ ports_in self.now d }
     {
-        self.words[usize::from(d.number())]
+        self.members[usize::from(d.number())]
     }
 }
 
@@ -155,20 +156,21 @@ fn host_alone() -> [Option<Dom>; Port::PLACES]
     by_port
 }
 
-/// Sets the port's bit in the domain's word, and in no other one.
-fn put_bit(words: &mut [u64; Dom::PLACES], p: Port, d: Dom)
-    ensures { (domain port : ℕ) → domain ≤ last_chip → port < port_places
-        → (bit_at (slice_index words.new domain) port == 1) ≡ (if port == p then d == domain else bit_at (slice_index words.old domain) port == 1) }
+/// Makes the port a member of this domain, and of no other one.
+fn move_port(members: &mut [Ports; Dom::PLACES], p: Port, d: Dom)
+    ensures { (domain : ℕ) → domain ≤ last_chip
+        → slice_index_or members.new domain [] ≡ numbers_below port_places (λ q. if q == p then d == domain else has_number (slice_index_or members.old domain []) q) }
 {
-    clear_bit(words, p);
-    words[usize::from(d.number())] |= 1 << p.number();
+    remove_port(members, p);
+    let place = usize::from(d.number());
+    members[place] = members[place].with(p.number());
 }
 
-fn clear_bit(words: &mut [u64; Dom::PLACES], p: Port)
-    ensures { (domain port : ℕ) → domain ≤ last_chip → port < port_places
-        → (bit_at (slice_index words.new domain) port == 1) ≡ (if port == p then false else bit_at (slice_index words.old domain) port == 1) }
+fn remove_port(members: &mut [Ports; Dom::PLACES], p: Port)
+    ensures { (domain : ℕ) → domain ≤ last_chip
+        → slice_index_or members.new domain [] ≡ numbers_below port_places (λ q. has_number (slice_index_or members.old domain []) q && not (q == p)) }
 {
     for domain in 0..Dom::PLACES {
-        words[domain] &= !(1 << p.number());
+        members[domain] = members[domain].without(p.number());
     }
 }

@@ -29,10 +29,10 @@ impl Port {
     pub const HOST: Port = Port { number: 0 };
 
     /// The number of the last port.
-    pub const LAST: u8 = 63;
+    pub const LAST: u8 = 254;
 
     /// How many places a set of ports and a table by port have, from 0 on: as many at least as there are ports.
-    pub const PLACES: usize = 64;
+    pub const PLACES: usize = 256;
 
     /// `None` exactly above `LAST`.
     pub fn new(number: u8) -> Option<Port>

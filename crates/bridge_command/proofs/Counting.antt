@@ -1,11 +1,11 @@
 -- No more ports are declared than the last one's number says, since each has a number of its own.
-use Rattle.std.proofs.Common.{◌≡◌, ℕ, suc, ◌<◌, ◌≤◌, ◌==◌, ◌||◌, Bool, true, false, List, [], ◌∷◌, length, map, nat_le, refl, sym, ap, ◌∙◌, arith, eqb}
+use Rattle.std.proofs.Common.{◌≡◌, ℕ, suc, ◌+◌, ◌<◌, ◌≤◌, ◌==◌, ◌||◌, Bool, true, false, List, [], ◌∷◌, length, map, nat_le, refl, sym, ap, ◌∙◌, arith, eqb}
 use Rattle.std.specs.List.{AllByRecursion, IsDistinct, list_any}
 use Rattle.std.proofs.lemmas.Bool.{and_parts, or_parts, eqb-true, eqb-false, ne_eqb, leb-true}
 use Rattle.std.proofs.lemmas.List.{length-map}
 use Rattle.std.proofs.lemmas.Map.Keys.{IsDistinct-cons}
 use Rattle.std.proofs.lemmas.Map.Steps.{length-le_from_distinct_below}
-use Rattle.br_model.specs.Table.Domains.{last_port, port_places}
+use Rattle.br_model.specs.Table.Domains.{last_port}
 use Rattle.br_model.specs.Text.Declarations.{fits_beside, are_declared}
 use Rattle.br_model.specs.Text.Roster.{Entry, has_number}
 use Rattle.bridge_command.proofs.Declaring.{Fits, parts}
@@ -39,7 +39,7 @@ in_range (e ∷ ports) n all here =
 
 pub most_ports : (ports : List Entry) → are_declared ports ≡ true → length ports ≤ last_port
 most_ports ports all =
-    let with_host = length-le_from_distinct_below (0 ∷ numbers ports) port_places (IsDistinct-cons eqb 0 (numbers ports) (no_host ports all) (distinct ports all)) below in
+    let with_host = length-le_from_distinct_below (0 ∷ numbers ports) (last_port + 1) (IsDistinct-cons eqb 0 (numbers ports) (no_host ports all) (distinct ports all)) below in
     omega (arith, with_host, length-map ports (λ (e : Entry). e.port))
   where
     no_host : (ports : List Entry) → are_declared ports ≡ true → AllByRecursion (λ m. eqb 0 m ≡ false) (numbers ports)
@@ -48,9 +48,9 @@ most_ports ports all =
         let each = and_parts (fits_beside ports e) (are_declared ports) all in
         (ne_eqb 0 e.port (λ same. omega (arith, same, leb-true 1 e.port (parts ports e each.0).low)), no_host ports each.1)
 
-    below : (n : ℕ) → list_any (eqb n) (0 ∷ numbers ports) ≡ true → n < port_places
+    below : (n : ℕ) → list_any (eqb n) (0 ∷ numbers ports) ≡ true → n < last_port + 1
     below n here = by (eqb n 0) refl here
       where
-        by : (b : Bool) → eqb n 0 ≡ b → (b || list_any (eqb n) (numbers ports)) ≡ true → n < port_places
+        by : (b : Bool) → eqb n 0 ≡ b → (b || list_any (eqb n) (numbers ports)) ≡ true → n < last_port + 1
         by true is here = omega (arith, eqb-true n 0 is)
         by false is here = omega (arith, (in_range ports n all here).1)

@@ -34,36 +34,14 @@ fit_endings t now e =
 -- changes of addresses
 
 leaves_ends : (c : Control) (d : Change) → is_of_address d ≡ true → (keeps_up c d).ends ≡ c.ends
-leaves_ends c (PortUp port) h = absurd (cc)
-leaves_ends c (PortDown port) h = absurd (cc)
-leaves_ends c (SetFlags port flags) h = absurd (cc)
-leaves_ends c (SetState port state) h = absurd (cc)
-leaves_ends c (VlanAdd port vid untagged pvid) h = absurd (cc)
-leaves_ends c (VlanDel port vid) h = absurd (cc)
-leaves_ends c (GroupJoin port vid group) h = absurd (cc)
-leaves_ends c (GroupPart port vid group) h = absurd (cc)
-leaves_ends c (Router port on) h = absurd (cc)
-leaves_ends c (Querier six on) h = absurd (cc)
-leaves_ends c (Snoop on) h = absurd (cc)
-leaves_ends c (Stp on) h = absurd (cc)
 leaves_ends c (AddrPut vid mac port kind) h = refl
 leaves_ends c (AddrDel vid mac) h = refl
+leaves_ends c d h = absurd (cc)
 
 leaves_ports : (t : Table) (d : Change) → is_of_address d ≡ true → with_addresses (apply t d) [] ≡ with_addresses t []
-leaves_ports t (PortUp port) h = absurd (cc)
-leaves_ports t (PortDown port) h = absurd (cc)
-leaves_ports t (SetFlags port flags) h = absurd (cc)
-leaves_ports t (SetState port state) h = absurd (cc)
-leaves_ports t (VlanAdd port vid untagged pvid) h = absurd (cc)
-leaves_ports t (VlanDel port vid) h = absurd (cc)
-leaves_ports t (GroupJoin port vid group) h = absurd (cc)
-leaves_ports t (GroupPart port vid group) h = absurd (cc)
-leaves_ports t (Router port on) h = absurd (cc)
-leaves_ports t (Querier six on) h = absurd (cc)
-leaves_ports t (Snoop on) h = absurd (cc)
-leaves_ports t (Stp on) h = absurd (cc)
 leaves_ports t (AddrPut vid mac port kind) h = refl
 leaves_ports t (AddrDel vid mac) h = refl
+leaves_ports t d h = absurd (cc)
 
 pub same_ends : (c : Control) (cs : List Change) → list_all is_of_address cs ≡ true → (fold keeps_up c cs).ends ≡ c.ends
 same_ends c [] h = refl

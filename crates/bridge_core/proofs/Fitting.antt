@@ -9,7 +9,8 @@ use Rattle.br_model.specs.declared.change.Asks.TheVariants.{Nothing, State, Grou
 use Rattle.br_model.specs.declared.change.Change.{Change}
 use Rattle.br_model.specs.Control.Control.{keeps_up}
 use Rattle.br_model.specs.Control.Course.{Course, makes, makes_all}
-use Rattle.br_model.specs.Table.Limits.{asks, grants, fits, all_fit}
+use Rattle.br_model.specs.Table.Change.{asks}
+use Rattle.br_model.specs.Table.Limits.{grants, fits, all_fit}
 use Rattle.br_model.specs.Table.Table.{Table, apply}
 
 both : (a b : Bool) → a ≡ true → b ≡ true → (a && b) ≡ true

@@ -18,20 +18,8 @@ abbrev pub with_tree : Tree → Control → Control
 with_tree tree c = record c { tree = tree }
 
 beside : (tree : Tree) (c : Control) (d : Change) → keeps_up (with_tree tree c) d ≡ with_tree tree (keeps_up c d)
-beside tree c (changes.PortUp port) = refl
-beside tree c (changes.PortDown port) = refl
-beside tree c (changes.SetFlags port flags) = refl
-beside tree c (changes.SetState port state) = refl
-beside tree c (changes.VlanAdd port vid untagged pvid) = refl
-beside tree c (changes.VlanDel port vid) = refl
-beside tree c (changes.GroupJoin port vid group) = refl
-beside tree c (changes.GroupPart port vid group) = refl
-beside tree c (changes.Router port on) = refl
-beside tree c (changes.Querier six on) = refl
-beside tree c (changes.Snoop on) = refl
-beside tree c (changes.Stp on) = refl
 beside tree c (changes.AddrPut vid mac port kind) = refl
-beside tree c (changes.AddrDel vid mac) = refl
+beside tree c d = refl
 
 -- what is kept up beside a tree
 pub all_beside : (tree : Tree) (c : Control) (cs : List Change) → fold keeps_up (with_tree tree c) cs ≡ with_tree tree (fold keeps_up c cs)

@@ -102,20 +102,9 @@ places-prompt c (d ∷ ds) h =
     places-prompt (places c d) ds (second_so (not (is_of_address d)) (list_all (λ e. not (is_of_address e)) ds) h) ∙ one d (first_so (not (is_of_address d)) (list_all (λ e. not (is_of_address e)) ds) h)
   where
     one : (d : Change) → not (is_of_address d) ≡ true → places c d ≡ c
-    one (PortUp port) e = refl
-    one (PortDown port) e = refl
-    one (SetFlags port flags) e = refl
-    one (SetState port state) e = refl
-    one (VlanAdd port vid untagged pvid) e = refl
-    one (VlanDel port vid) e = refl
-    one (GroupJoin port vid group) e = refl
-    one (GroupPart port vid group) e = refl
-    one (Router port on) e = refl
-    one (Querier six on) e = refl
-    one (Snoop on) e = refl
-    one (Stp on) e = refl
     one (AddrPut vid mac port kind) e = absurd (cc)
     one (AddrDel vid mac) e = absurd (cc)
+    one d e = refl
 
 -- what stands behind the first ones
 pub behind : (xs ys all : List Change) (from count : ℕ) → all ≡ xs ++ ys → from ≡ length xs → count ≡ length all → take (count - from) (drop from all) ≡ ys

@@ -105,40 +105,9 @@ turned true e = refl
 turned false e = absurd (cc)
 
 pub fit_command : (t : Table) (asked : Command) (cs : List Change) → command t asked ≡ Ok cs → all_fit t cs ≡ true
-fit_command t (PortUp port) cs e = fit_along t _ cs refl (tested _ refusals.PortIsUp _ cs e).1
 fit_command t (PortDown port) cs e = fit_along t _ cs (all_fit_any t (goes_down t port) (drops_down t port)) (tested _ refusals.PortNotUp _ cs e).1
-fit_command t (Link port flag on) cs e = fit_along t _ cs (flags (flags_of t port == flags_with on (flags_of t port) flag)) (tested _ refusals.PortNotUp _ cs e).1
-  where
-    flags : (b : Bool) → all_fit t (if b then [] else changes.SetFlags port (flags_with on (flags_of t port) flag) ∷ []) ≡ true
-    flags true = refl
-    flags false = refl
-fit_command t (Cost port n) cs e = fit_along t _ cs refl (tested _ refusals.PortNotUp _ cs e).1
-fit_command t (PortPriority port n) cs e = fit_along t _ cs refl (tested _ refusals.PortNotUp _ cs e).1
-fit_command t (VlanAdd port vid untagged pvid) cs e = fit_along t _ cs refl (tested _ refusals.Exists _ cs (tested _ refusals.PortNotUp _ cs e).1).1
 fit_command t (VlanDel port vid) cs e = fit_along t _ cs (all_fit_any t (leaves_vlan t port vid) (drops_vlan t port vid)) (tested _ refusals.Absent _ cs (tested _ refusals.PortNotUp _ cs e).1).1
-fit_command t (FdbAdd vid mac port kind) cs e =
-    let last = tested (not (fits t (changes.AddrPut vid mac port kind))) refusals.FdbFull _ cs (tested _ refusals.Exists _ cs (tested _ refusals.NotMember _ cs (tested _ refusals.PortNotUp _ cs e).1).1).1 in
-    fit_along t _ cs (both _ _ (turned (fits t (changes.AddrPut vid mac port kind)) last.0) refl) last.1
-fit_command t (FdbDel vid mac) cs e = fit_along t _ cs refl (tested _ refusals.Absent _ cs e).1
-fit_command t (MdbAdd port vid address) cs e =
-    let join = changes.GroupJoin port vid (group_of address) in
-    let new = tested _ refusals.Exists _ cs (tested _ refusals.NotMember _ cs (tested _ refusals.NotAGroup _ cs (tested _ refusals.PortNotUp _ cs e).1).1).1 in
-    let last = tested (not (fits t join)) refusals.GroupsFull _ cs new.1 in
-    fit_along t _ cs (both _ _ (turned (fits t join) last.0) refl) last.1
-fit_command t (MdbDel port vid address) cs e =
-    fit_along t _ cs refl (tested _ refusals.Absent _ cs (tested _ refusals.NotAGroup _ cs (tested _ refusals.PortNotUp _ cs e).1).1).1
-fit_command t (Snooping on) cs e = fit_along t _ cs (switched (is_snooping t on)) e
-  where
-    switched : (b : Bool) → all_fit t (if b then [] else changes.Snoop on ∷ []) ≡ true
-    switched true = refl
-    switched false = refl
-fit_command t (Stp on) cs e = fit_along t _ cs (switched (is_switched t on)) e
-  where
-    switched : (b : Bool) → all_fit t (if b then [] else changes.Stp on ∷ []) ≡ true
-    switched true = refl
-    switched false = refl
-fit_command t (Priority n) cs e = fit_along t [] cs refl e
-fit_command t (Ageing seconds) cs e = fit_along t [] cs refl e
+fit_command t asked cs e = grind arith
 
 -- the deletions of a moment fit
 pub fit_forgets : (t : Table) (keys : List Address) → all_fit t (forgets keys) ≡ true
@@ -294,20 +263,8 @@ same c (d ∷ ds) =
     (later.0 ∙ here.0, later.1 ∙ here.1)
   where
     one : (c : Control) (d : Change) → ((keeps_up c d).now ≡ c.now) × ((keeps_up c d).tree ≡ c.tree)
-    one c (changes.PortUp port) = (refl, refl)
-    one c (changes.PortDown port) = (refl, refl)
-    one c (changes.SetFlags port flags) = (refl, refl)
-    one c (changes.SetState port state) = (refl, refl)
-    one c (changes.VlanAdd port vid untagged pvid) = (refl, refl)
-    one c (changes.VlanDel port vid) = (refl, refl)
-    one c (changes.GroupJoin port vid group) = (refl, refl)
-    one c (changes.GroupPart port vid group) = (refl, refl)
-    one c (changes.Router port on) = (refl, refl)
-    one c (changes.Querier six on) = (refl, refl)
-    one c (changes.Snoop on) = (refl, refl)
-    one c (changes.Stp on) = (refl, refl)
     one c (changes.AddrPut vid mac port kind) = (refl, refl)
-    one c (changes.AddrDel vid mac) = (refl, refl)
+    one c d = (refl, refl)
 
 pub same_clock : (c : Control) (cs : List Change) → (fold keeps_up c cs).now ≡ c.now
 same_clock c cs = (same c cs).0
@@ -317,21 +274,8 @@ same_tree c cs = (same c cs).1
 
 -- no command sets the moment
 pub sets_no_clock : (c : Control) (asked : Command) → (sets c asked).now ≡ c.now
-sets_no_clock c (PortUp port) = refl
-sets_no_clock c (PortDown port) = refl
-sets_no_clock c (Link port flag on) = refl
-sets_no_clock c (Cost port n) = refl
-sets_no_clock c (PortPriority port n) = refl
-sets_no_clock c (VlanAdd port vid untagged pvid) = refl
-sets_no_clock c (VlanDel port vid) = refl
-sets_no_clock c (FdbAdd vid mac port kind) = refl
-sets_no_clock c (FdbDel vid mac) = refl
-sets_no_clock c (MdbAdd port vid group) = refl
-sets_no_clock c (MdbDel port vid group) = refl
-sets_no_clock c (Snooping on) = refl
-sets_no_clock c (Stp on) = refl
-sets_no_clock c (Priority n) = refl
 sets_no_clock c (Ageing seconds) = refl
+sets_no_clock c asked = refl
 
 -- the lines of the messages that went out on these ports
 pub frames_of : (own : ℕ) (t : Tree) (ports : List ℕ)

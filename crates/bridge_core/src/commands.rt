@@ -76,23 +76,10 @@ fn sets(state: &State, command: &Command) -> Clock
     ensures { clocked result (control_of state.now) ≡ what_is_set (control_of state.now) command.now }
 {
     match *command {
-        Command::PortUp(_)
-        | Command::PortDown(_)
-        | Command::Link { .. }
-        | Command::Cost { .. }
-        | Command::PortPriority { .. }
-        | Command::VlanAdd { .. }
-        | Command::VlanDel { .. }
-        | Command::FdbAdd { .. }
-        | Command::FdbDel { .. }
-        | Command::Stp(_)
-        | Command::MdbAdd { .. }
-        | Command::MdbDel { .. }
-        | Command::Snooping(_)
-        | Command::Priority(_) => state.clock,
         Command::Ageing(seconds) => Clock {
             now: state.clock.now,
             ageing: 1000 * u64::from(seconds),
         },
+        _ => state.clock,
     }
 }

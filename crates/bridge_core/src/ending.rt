@@ -1,6 +1,8 @@
 //! What snooping learned ends: memberships, router ports, queriers.
-ghost use Rattle.std.specs.Prelude.{◌≡◌, ◌++◌, map, OnOk};
+ghost use Rattle.std.specs.Prelude.{◌≡◌, ◌≤◌, ◌++◌, map, OnOk};
+ghost use Rattle.std.specs.List.{All};
 ghost use Rattle.br_model.specs.Control.Ends.{endings};
+ghost use Rattle.br_model.specs.Table.Domains.{last_port};
 ghost use Rattle.bridge_core.specs.Ending.{part, router_off, queriers_off};
 
 use br_model::NoMemory;
@@ -40,6 +42,7 @@ fn add_parts(changes: &mut Vec<Change>, members: &[(Vid, Group, Port)]) -> Resul
 }
 
 fn add_routers(changes: &mut Vec<Change>, routers: Ports) -> Result<(), NoMemory>
+    requires { All (λ n. n ≤ last_port) routers }
     ensures { OnOk result (changes.new.items ≡ changes.old.items ++ map router_off routers) }
 {
     for number in routers.iter() {

@@ -1,6 +1,7 @@
 //! How the spanning tree takes part: what it is told, the states that follow it, and the frames that carry its messages.
 ghost use Rattle.std.specs.Prelude.{◌≡◌, ◌+◌, ◌++◌, ◌∷◌, [], ◌<◌, ◌≤◌, length, map, OnOk, vec_len, vec_capacity};
-ghost use Rattle.br_model.specs.Table.Domains.{port_places};
+ghost use Rattle.std.specs.List.{All};
+ghost use Rattle.br_model.specs.Table.Domains.{last_port, port_places};
 ghost use Rattle.br_model.specs.Control.Commands.SpanningTree.{tells};
 ghost use Rattle.br_model.specs.Plane.World.{control_line, control_lines};
 ghost use Rattle.br_model.specs.Control.TreeReaction.{heard};
@@ -32,16 +33,7 @@ pub fn tells(state: &State, command: &Command) -> Option<TreeEvent>
         Command::PortPriority { port, n } => Some(TreeEvent::PortPriority(port, n)),
         Command::Stp(on) if on != state.ports.stp() => Some(TreeEvent::Switch(on)),
         Command::Priority(n) => Some(TreeEvent::Priority(n)),
-        Command::Link { .. }
-        | Command::VlanAdd { .. }
-        | Command::VlanDel { .. }
-        | Command::FdbAdd { .. }
-        | Command::FdbDel { .. }
-        | Command::MdbAdd { .. }
-        | Command::MdbDel { .. }
-        | Command::Snooping(_)
-        | Command::Stp(_)
-        | Command::Ageing(_) => None,
+        _ => None,
     }
 }
 
@@ -60,7 +52,8 @@ pub fn heard(state: &State, port: Port, bytes: &[u8], head: &Head) -> Option<Tre
 
 /// Adds the state of each port that has another one than before, for which there is room.
 pub fn add_states(changes: &mut Vec<Change>, tree: &Tree, moved: Ports)
-    requires { vec_len changes.old + port_places ≤ vec_capacity changes.old }
+    requires ports { All (λ n. n ≤ last_port) moved }
+    requires room { vec_len changes.old + port_places ≤ vec_capacity changes.old }
     ensures states { changes.new.items ≡ changes.old.items ++ map (state_change tree.now) moved }
     ensures few { length changes.new.items ≤ length changes.old.items + port_places }
 {
@@ -99,7 +92,7 @@ fn add_frame(own: Mac, port: Port, message: &BpduMsg, lines: &mut Lines)
 
 /// Adds the line of the configuration message that went out last on the port of this number.
 fn add_config(own: Mac, tree: &Tree, number: u8, lines: &mut Lines)
-    requires number { number < port_places }
+    requires number { number ≤ last_port }
     requires rows { 1 ≤ lines.old.rows }
     requires bytes { 60 ≤ lines.old.bytes }
     ensures lines { lines.new.lines ≡ lines.old.lines ++ config_lines own tree.now number }
@@ -117,7 +110,8 @@ fn add_config(own: Mac, tree: &Tree, number: u8, lines: &mut Lines)
 
 /// Adds the lines of the frames that go out, for which there is room: configuration messages by port, and then the notification.
 pub fn add_frames(own: Mac, tree: &Tree, out: &TreeOut, lines: &mut Lines)
-    requires { HasFrameRoom lines.old }
+    requires ports { All (λ n. n ≤ last_port) out.now.config }
+    requires room { HasFrameRoom lines.old }
     ensures lines { lines.new.lines ≡ lines.old.lines ++ control_lines own (sent (acted_by tree.now out.now)) }
     ensures marked { lines.new.marked ≡ lines.old.marked }
     ensures room { 1 ≤ lines.new.rows }

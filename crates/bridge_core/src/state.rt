@@ -5,7 +5,8 @@ ghost use Rattle.br_model.specs.Control.Ageing.{stay};
 ghost use Rattle.br_model.specs.declared.bpdu.BpduMsg.{BpduMsg};
 ghost use Rattle.br_model.specs.Control.Control.{Control, first_control, keeps_up, renewed};
 ghost use Rattle.br_model.specs.Theorems.EndsTied.{IsTied};
-ghost use Rattle.br_model.specs.Table.Limits.{asks, fits, all_fit};
+ghost use Rattle.br_model.specs.Table.Change.{asks};
+ghost use Rattle.br_model.specs.Table.Limits.{fits, all_fit};
 ghost use Rattle.br_model.specs.Table.Table.{Table, start, apply};
 ghost use Rattle.br_model.specs.Data.Maps.{pair_cmp, get};
 ghost use Rattle.br_model.specs.Wire.Messages.{RecordsStand};
@@ -121,18 +122,7 @@ impl State {
                 kind,
             } => self.addresses.put(vid, mac, port, kind, self.clock.now),
             Change::AddrDel { vid, mac } => self.addresses.take(vid, mac),
-            Change::PortUp(_)
-            | Change::PortDown(_)
-            | Change::SetFlags(..)
-            | Change::SetState(..)
-            | Change::VlanAdd { .. }
-            | Change::VlanDel { .. }
-            | Change::GroupJoin { .. }
-            | Change::GroupPart { .. }
-            | Change::Router { .. }
-            | Change::Querier { .. }
-            | Change::Snoop(_)
-            | Change::Stp(_) => self.ports.apply(change),
+            _ => self.ports.apply(change),
         }
     }
 
@@ -224,15 +214,6 @@ fn follow_ends(groups: &mut Mdb, now: u64, change: &Change)
         Change::Querier { six, on: false } => {
             groups.querier_gone(six);
         }
-        Change::PortUp(_)
-        | Change::PortDown(_)
-        | Change::SetFlags(..)
-        | Change::SetState(..)
-        | Change::VlanAdd { .. }
-        | Change::VlanDel { .. }
-        | Change::Snoop(_)
-        | Change::Stp(_)
-        | Change::AddrPut { .. }
-        | Change::AddrDel { .. } => {}
+        _ => {}
     }
 }

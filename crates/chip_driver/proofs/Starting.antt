@@ -1,7 +1,6 @@
 -- The rows before any change stand for the start table.
 use Rattle.std.proofs.Common.{◌≡◌, ◌≢◌, ℕ, zero, suc, ◌+◌, ◌*◌, ◌/◌, ◌%◌, ◌^◌, ◌<◌, ◌≤◌, Bool, true, false, not, ◌&&◌, ◌||◌, cond, ⊎_elim, List, [], ◌∷◌, get_or, replicate, refl, sym, ap, ap₂, subst, ◌∙◌, arith}
 use Rattle.std.specs.Prelude.{◌==◌, nat_lt}
-use Rattle.std.specs.Int.{bit_at}
 use Rattle.std.specs.List.{list_any, range_with_len}
 use Rattle.std.proofs.Math.Nat.{zero-div, zero-mod}
 use Rattle.std.proofs.lemmas.Bool.{eqb-true}
@@ -9,7 +8,8 @@ use Rattle.std.proofs.lemmas.Bool.Decides.{eqb_tells, nat_tests}
 use Rattle.port_sets.specs.Numbers.{has_number}
 use Rattle.port_sets.proofs.Numbers.{none_below}
 use Rattle.port_sets.proofs.Words.{no_members}
-use Rattle.br_model.specs.Table.DomainPorts.{IsWordOf}
+use Rattle.port_sets.specs.Words.{members}
+use Rattle.br_model.specs.Table.DomainPorts.{ports_in}
 use Rattle.br_model.specs.Table.Domains.{Domains, host, port_places}
 use Rattle.br_model.specs.Table.Groups.{Membership}
 use Rattle.br_model.specs.Table.Table.{Table, start}
@@ -20,7 +20,7 @@ use Rattle.chip_tables.specs.declared.rows.PortRow.{PortRow}
 use Rattle.chip_tables.specs.declared.rows.VlanRow.{VlanRow}
 use Rattle.chip_tables.specs.declared.rows.Flood.{Flood}
 use Rattle.chip_tables.specs.declared.rows.Flood.TheVariants.{Unicast, Mcast, Bcast}
-use Rattle.chip_tables.specs.Rows.{Rows, members_of, vlan_of, fan_of, is_on, vlan_at, flood_at, router_at, port_at, trap_at, control_in, WritesVlan, WritesPort}
+use Rattle.chip_tables.specs.Rows.{Rows, ports_from, vlan_of, fan_of, is_on, vlan_at, flood_at, router_at, port_at, trap_at, control_in, WritesVlan, WritesPort}
 use Rattle.chip_tables.specs.Stands.{ports_where, some_port, trap_count, trap_wanted, is_own, VlansStand}
 use Rattle.chip_tables.specs.Writing.{IsBlank}
 use Rattle.chip_driver.specs.declared.fans.Fan.{Fan}
@@ -53,31 +53,27 @@ blank_field : (at w : ℕ) → field 0 at w ≡ 0
 unfolding field
 blank_field at w = ap (λ x. x % 2 ^ w) (zero-div (2 ^ at)) ∙ zero-mod (2 ^ w)
 
-no_bits : members_of 0 ≡ []
-no_bits = no_members 1 (0 ∷ []) zeros
-  where
-    zeros : (j : ℕ) → j < 1 → ◌≡◌ {A = ℕ} (get_or (0 ∷ []) j 0) 0
-    zeros zero low = refl
-    zeros (suc j) low = refl
+same_all : {A : Type 0} (n i : ℕ) (a : A) → get_or (replicate n a) i a ≡ a
+same_all zero i a = refl
+same_all (suc n) zero a = refl
+same_all (suc n) (suc i) a = same_all n i a
 
-blank_members : (at : ℕ) → members_of (field 0 at 64) ≡ []
-blank_members at = ap members_of (blank_field at 64) ∙ no_bits
+no_bits : members 4 (0 ∷ 0 ∷ 0 ∷ 0 ∷ []) ≡ []
+no_bits = no_members 4 (0 ∷ 0 ∷ 0 ∷ 0 ∷ []) (λ j low. same_all 4 j 0)
+
+blank_ports : (at : ℕ) → ports_from 0 at ≡ []
+blank_ports at = (λ i. members 4 (blank_field at 64 i ∷ blank_field (at + 64) 64 i ∷ blank_field (at + 128) 64 i ∷ blank_field (at + 192) 64 i ∷ [])) ∙ no_bits
 
 blank_bit : (at : ℕ) → is_on 0 at ≡ false
 blank_bit at = ap (λ n. n == 1) (blank_field at 1)
 
 blank_vlan : vlan_of 0 ≡ no_vlan
-blank_vlan = ap₂ (λ m u. record { members = m; untagged = u }) (blank_members 0) (blank_members 64)
+blank_vlan = ap₂ (λ m u. record { members = m; untagged = u }) (blank_ports 0) (blank_ports 256)
 
 blank_fan : fan_of 0 ≡ no_fan
 blank_fan =
-    ap (λ m. record { ports = m; isolated = is_on 0 64; plain = is_on 0 65 }) (blank_members 0)
-    ∙ ap₂ (λ i l. record { ports = []; isolated = i; plain = l }) (blank_bit 64) (blank_bit 65)
-
-same_all : {A : Type 0} (n i : ℕ) (a : A) → get_or (replicate n a) i a ≡ a
-same_all zero i a = refl
-same_all (suc n) zero a = refl
-same_all (suc n) (suc i) a = same_all n i a
+    ap (λ m. record { ports = m; isolated = is_on 0 256; plain = is_on 0 257 }) (blank_ports 0)
+    ∙ ap₂ (λ i l. record { ports = []; isolated = i; plain = l }) (blank_bit 256) (blank_bit 257)
 
 -- ---- the rows of ports and the traps
 
@@ -221,17 +217,17 @@ first_trap i =
     by false false true e h k l = ap (λ x. cond x false true) (l refl refl)
     by false false false e h k l = ap (λ x. cond x false true) (l refl refl)
 
-pub drives_start : (d : Domains) (dom word : ℕ) (own : List ℕ) (s : Shadow) (joined : List (List ℕ)) (groups : List Membership) (blank marked trapped rows new : Rows) → IsBlank blank → MarksOwn own port_places blank marked → SwitchesTraps 2 21 true marked trapped
+pub drives_start : (d : Domains) (dom : ℕ) (own : List ℕ) (s : Shadow) (joined : List (List ℕ)) (groups : List Membership) (blank marked trapped rows new : Rows) → IsBlank blank → MarksOwn own port_places blank marked → SwitchesTraps 2 21 true marked trapped
     → rows ≡ record trapped { control = rows.control } → control_in rows ≡ record { snooping = true; tree = false; four = false; six = false }
-    → own ≡ ports_where (λ n. bit_at word n == 1) → IsWordOf d dom word → s.routers ≡ []
+    → own ≡ ports_in d dom → s.routers ≡ []
     → Settled s joined new → WritesVlan rows new 1 (switched_row (vlan_at rows 1) host true true)
     → IsRemade (record rows { vlans = new.vlans }) new
     → groups ≡ [] → GroupsFollow s groups new → Drives d (record { dom = dom; rows = new; routers = s.routers; groups = groups }) start
-drives_start d dom word own s joined groups blank marked trapped rows new is_blank marks traps rest control own_is word_is routers_is settled writes new_rest groups_is follow = record {
+drives_start d dom own s joined groups blank marked trapped rows new is_blank marks traps rest control own_is routers_is settled writes new_rest groups_is follow = record {
   rows = stands d dom start s joined new settled vlans
       (λ q low.
       ap (λ (r : Rows). port_at r q) new_rest ∙ b.ports q low
-      ∙ ap idle (has-where own _ own_is q low ∙ word_is q low))
+      ∙ ap idle (has-where own _ own_is q low))
       (λ q low. ap (λ (ns : List ℕ). has_number ns q) routers_is)
       (λ i low. ap (λ (r : Rows). trap_at r i) new_rest ∙ b.traps i low ∙ first_trap i)
       (ap control_in new_rest ∙ control)
@@ -260,8 +256,8 @@ drives_start d dom word own s joined groups blank marked trapped rows new is_bla
         refl writes
 
 -- the host isn't among the chip's ports
-pub host_off : (d : Domains) (dom word : ℕ) (own : List ℕ) → own ≡ ports_where (λ n. bit_at word n == 1) → IsWordOf d dom word → is_own d dom host ≡ false → has_number own host ≡ false
-host_off d dom word own own_is word_is elsewhere = has-where own _ own_is host (omega arith) ∙ word_is host (omega arith) ∙ elsewhere
+pub host_off : (d : Domains) (dom : ℕ) (own : List ℕ) → own ≡ ports_in d dom → is_own d dom host ≡ false → has_number own host ≡ false
+host_off d dom own own_is elsewhere = has-where own _ own_is host (omega arith) ∙ elsewhere
 
 pub follow_made : (s : Shadow) (own : List ℕ) (groups : List Membership) (blank marked trapped rows : Rows) → IsBlank blank → MarksOwn own port_places blank marked → SwitchesTraps 2 21 true marked trapped
     → rows ≡ record trapped { control = rows.control } → groups ≡ [] → GroupsFollow s groups rows

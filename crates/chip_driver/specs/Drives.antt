@@ -8,7 +8,8 @@ use Rattle.br_model.specs.Table.Domains.{Domains, port_places}
 use Rattle.br_model.specs.Table.GroupPairs.{has_room}
 use Rattle.br_model.specs.Table.Groups.{Membership}
 use Rattle.br_model.specs.Data.Maps.{has}
-use Rattle.br_model.specs.Table.Limits.{asks, most_addresses}
+use Rattle.br_model.specs.Table.Change.{asks}
+use Rattle.br_model.specs.Table.Limits.{most_addresses}
 use Rattle.br_model.specs.Table.Table.{Table}
 use Rattle.port_sets.specs.Numbers.{has_number}
 use Rattle.chip_tables.specs.declared.rows.AddressRow.{AddressRow}

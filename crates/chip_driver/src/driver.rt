@@ -17,7 +17,6 @@ use br_model::group::Group;
 use br_model::numbers::{Dom, Mac, Port, Vid};
 use chip_tables::{AddressRow, NoMemory, Tables};
 use mdb_snoop::Groups;
-use port_sets::Ports;
 use std::alloc::Global;
 use std::marker::Model;
 use switchdev_notify::{Attribute, Object, SwitchOps};
@@ -51,7 +50,7 @@ impl Driver {
         let mut tables = Tables::make(alloc)?;
         let joined = Joined::make(alloc)?;
         let groups = Groups::make(alloc)?;
-        let shadow = Shadow::start(Ports::from_word(d.ports_of(dom)));
+        let shadow = Shadow::start(d.ports_of(dom));
         // law: the host isn't on the chip
         making::host_is_elsewhere(d, dom);
         making::mark_own(&mut tables, &shadow.own);

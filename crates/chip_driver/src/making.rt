@@ -38,9 +38,7 @@ pub fn mark_own(tables: &mut Tables, own: &Ports)
     ensures { MarksOwn own.now port_places tables.old tables.new }
 {
     for n in 0..Port::PLACES {
-        if let Some(p) = Port::new(n as u8) {
-            tables.set_port(p, idle(own.has(n as u8)));
-        }
+        tables.set_port_numbered(n as u8, idle(own.has(n as u8)));
     }
 }
 

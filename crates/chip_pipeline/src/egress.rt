@@ -1,6 +1,6 @@
 //! The way out: which of its ports the chip sends by, and whether the processor is to have the frame too, or alone.
-ghost use Rattle.std.specs.Prelude.{ℕ, ◌≡◌, ◌<◌, ◌&&◌, [], false, if◌then◌else◌};
-ghost use Rattle.br_model.specs.Table.Domains.{Domains, port_places};
+ghost use Rattle.std.specs.Prelude.{ℕ, ◌≡◌, ◌&&◌, [], false, if◌then◌else◌};
+ghost use Rattle.br_model.specs.Table.Domains.{Domains};
 ghost use Rattle.br_model.specs.Forward.Eligible.{may};
 ghost use Rattle.br_model.specs.Table.Table.{Table};
 ghost use Rattle.br_model.specs.Forward.Targets.{targets};
@@ -31,21 +31,11 @@ pub fn reached(tables: &Tables, port: Port, alone: bool, vlan: &VlanRow, fan: &F
     let others = fan.ports.and(vlan.members).without(port.number());
     let mut ports = Ports::empty();
     for number in others.iter() {
-        if lets_number(tables, alone, number) {
+        if lets(alone, &tables.port_numbered(number)) {
             ports = ports.with(number);
         }
     }
     ports
-}
-
-fn lets_number(tables: &Tables, alone: bool, number: u8) -> bool
-    requires { number < port_places }
-    ensures { result ≡ row_lets alone (port_at tables.now number) }
-{
-    match Port::new(number) {
-        Some(port) => lets(alone, &tables.port(port)),
-        None => false,
-    }
 }
 
 /// Whether a port with this row forwards, and isn't isolated from the ingress port.

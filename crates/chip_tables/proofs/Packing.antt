@@ -1,7 +1,8 @@
 -- Rows read as they were packed, field after field.
-use Rattle.std.proofs.Common.{◌≡◌, ℕ, ◌+◌, ◌^◌, ◌<◌, ◌≤◌, Bool, cond, le-leb, ap, ◌∙◌, arith, nat_lt}
+use Rattle.std.proofs.Common.{◌≡◌, ℕ, ◌+◌, ◌^◌, ◌<◌, ◌≤◌, Bool, cond, List, [], ◌∷◌, length, get_or, le-leb, refl, ap, ◌∙◌, arith, nat_lt}
 use Rattle.std.specs.Prelude.{◌==◌}
 use Rattle.br_model.specs.Table.Domains.{last_port}
+use Rattle.port_sets.specs.Words.{members}
 use Rattle.chip_regs.specs.Rows.{field, with_field}
 use Rattle.chip_regs.proofs.Fields.{field-same, field-before}
 use Rattle.chip_tables.specs.declared.rows.VlanRow.{VlanRow}
@@ -9,7 +10,7 @@ use Rattle.chip_tables.specs.declared.rows.FanRow.{FanRow}
 use Rattle.chip_tables.specs.declared.rows.PortRow.{PortRow}
 use Rattle.chip_tables.specs.declared.rows.AddressRow.{AddressRow}
 use Rattle.chip_tables.specs.declared.rows.Control.{Control}
-use Rattle.chip_tables.specs.Rows.{members_of, vlan_of, fan_of, pvid_from, port_of, is_on, port_from, kind_of, address_of, control_of, key_of}
+use Rattle.chip_tables.specs.Rows.{words_from, ports_from, KeepsBefore, vlan_of, fan_of, pvid_from, port_of, is_on, port_from, kind_of, address_of, control_of, key_of}
 
 pub wrote : (r r' at w n : ℕ) → r' ≡ with_field r at w n → n < 2 ^ w → field r' at w ≡ n
 wrote r r' at w n is small = ap (λ x. field x at w) is ∙ field-same r at w n small
@@ -21,20 +22,46 @@ keep r r' at w n a v x is before e = ap (λ y. field y a v) is ∙ field-before 
 on : (r at n : ℕ) (b : Bool) → field r at 1 ≡ n → (n == 1) ≡ b → is_on r at ≡ b
 on r at n b e is = ap (λ x. x == 1) e ∙ is
 
-pub vlan-packed : (r0 r1 r2 x y : ℕ) (row : VlanRow) → r1 ≡ with_field r0 0 64 x → r2 ≡ with_field r1 64 64 y → x < 2 ^ 64 → y < 2 ^ 64 → members_of x ≡ row.members → members_of y ≡ row.untagged → vlan_of r2 ≡ row
-vlan-packed r0 r1 r2 x y row e1 e2 fx fy mx my =
-    λ t. record {
-      members = (ap members_of (keep r1 r2 64 64 y 0 64 x e2 (omega arith) (wrote r0 r1 0 64 x e1 fx)) ∙ mx) t;
-      untagged = (ap members_of (wrote r1 r2 64 64 y e2 fy) ∙ my) t;
-    }
+-- the words of a set read as they were written one after the other
+pub words-written : (r0 r1 r2 r3 r4 at a b c d : ℕ) → r1 ≡ with_field r0 at 64 a → r2 ≡ with_field r1 (at + 64) 64 b → r3 ≡ with_field r2 (at + 128) 64 c → r4 ≡ with_field r3 (at + 192) 64 d
+    → a < 2 ^ 64 → b < 2 ^ 64 → c < 2 ^ 64 → d < 2 ^ 64 → words_from r4 at ≡ a ∷ b ∷ c ∷ d ∷ []
+words-written r0 r1 r2 r3 r4 at a b c d e1 e2 e3 e4 fa fb fc fd =
+    let wa = keep r3 r4 (at + 192) 64 d at 64 a e4 (omega arith) (keep r2 r3 (at + 128) 64 c at 64 a e3 (omega arith) (keep r1 r2 (at + 64) 64 b at 64 a e2 (omega arith) (wrote r0 r1 at 64 a e1 fa))) in
+    let wb = keep r3 r4 (at + 192) 64 d (at + 64) 64 b e4 (omega arith) (keep r2 r3 (at + 128) 64 c (at + 64) 64 b e3 (omega arith) (wrote r1 r2 (at + 64) 64 b e2 fb)) in
+    let wc = keep r3 r4 (at + 192) 64 d (at + 128) 64 c e4 (omega arith) (wrote r2 r3 (at + 128) 64 c e3 fc) in
+    let wd = wrote r3 r4 (at + 192) 64 d e4 fd in
+    λ i. wa i ∷ wb i ∷ wc i ∷ wd i ∷ []
 
-pub fan-packed : (r0 r1 r2 r3 x i p : ℕ) (row : FanRow) → r1 ≡ with_field r0 0 64 x → r2 ≡ with_field r1 64 1 i → r3 ≡ with_field r2 65 1 p → x < 2 ^ 64 → i < 2 → p < 2 → members_of x ≡ row.ports → (i == 1) ≡ row.isolated → (p == 1) ≡ row.plain
-    → fan_of r3 ≡ row
-fan-packed r0 r1 r2 r3 x i p row e1 e2 e3 fx fi fp mx bi bp =
+pub four : (words : List ℕ) → length words ≡ 4 → (get_or words 0 0 ∷ get_or words 1 0 ∷ get_or words 2 0 ∷ get_or words 3 0 ∷ []) ≡ words
+four (a ∷ b ∷ c ∷ d ∷ []) long = refl
+four [] long = absurd (omega (arith, long))
+four (a ∷ []) long = absurd (omega (arith, long))
+four (a ∷ b ∷ []) long = absurd (omega (arith, long))
+four (a ∷ b ∷ c ∷ []) long = absurd (omega (arith, long))
+four (a ∷ b ∷ c ∷ d ∷ e ∷ more) long = absurd (omega (arith, long))
+
+-- and what is before them stays
+pub before-words : (r0 r1 r2 r3 r4 at a b c d : ℕ) → r1 ≡ with_field r0 at 64 a → r2 ≡ with_field r1 (at + 64) 64 b → r3 ≡ with_field r2 (at + 128) 64 c → r4 ≡ with_field r3 (at + 192) 64 d
+    → KeepsBefore at r0 r4
+before-words r0 r1 r2 r3 r4 at a b c d e1 e2 e3 e4 p w h =
+    keep r3 r4 (at + 192) 64 d p w (field r0 p w) e4 (omega arith) (keep r2 r3 (at + 128) 64 c p w (field r0 p w) e3 (omega arith) (keep r1 r2 (at + 64) 64 b p w (field r0 p w) e2 (omega arith) (keep r0 r1 at 64 a p w (field r0 p w) e1 h refl)))
+
+before-field : (r r' at w n : ℕ) → r' ≡ with_field r at w n → KeepsBefore at r r'
+before-field r r' at w n is a v h = keep r r' at w n a v (field r a v) is h refl
+
+-- a set stays where only what is behind it is written
+ports-kept : (r r' at place : ℕ) → KeepsBefore place r r' → at + 256 ≤ place → ports_from r' at ≡ ports_from r at
+ports-kept r r' at place kept h = λ i. members 4 (kept at 64 (omega arith) i ∷ kept (at + 64) 64 (omega arith) i ∷ kept (at + 128) 64 (omega arith) i ∷ kept (at + 192) 64 (omega arith) i ∷ [])
+
+pub vlan-packed : (r1 r2 : ℕ) (row : VlanRow) → ports_from r1 0 ≡ row.members → ports_from r2 256 ≡ row.untagged → KeepsBefore 256 r1 r2 → vlan_of r2 ≡ row
+vlan-packed r1 r2 row first second kept = λ t. record { members = (ports-kept r1 r2 0 256 kept (omega arith) ∙ first) t; untagged = second t }
+
+pub fan-packed : (r1 r2 r3 i p : ℕ) (row : FanRow) → ports_from r1 0 ≡ row.ports → r2 ≡ with_field r1 256 1 i → r3 ≡ with_field r2 257 1 p → i < 2 → p < 2 → (i == 1) ≡ row.isolated → (p == 1) ≡ row.plain → fan_of r3 ≡ row
+fan-packed r1 r2 r3 i p row first e2 e3 fi fp bi bp =
     λ t. record {
-      ports = (ap members_of (keep r2 r3 65 1 p 0 64 x e3 (omega arith) (keep r1 r2 64 1 i 0 64 x e2 (omega arith) (wrote r0 r1 0 64 x e1 fx))) ∙ mx) t;
-      isolated = on r3 64 i row.isolated (keep r2 r3 65 1 p 64 1 i e3 (omega arith) (wrote r1 r2 64 1 i e2 fi)) bi t;
-      plain = on r3 65 p row.plain (wrote r2 r3 65 1 p e3 fp) bp t;
+      ports = (ports-kept r2 r3 0 257 (before-field r2 r3 257 1 p e3) (omega arith) ∙ ports-kept r1 r2 0 256 (before-field r1 r2 256 1 i e2) (omega arith) ∙ first) t;
+      isolated = on r3 256 i row.isolated (keep r2 r3 257 1 p 256 1 i e3 (omega arith) (wrote r1 r2 256 1 i e2 fi)) bi t;
+      plain = on r3 257 p row.plain (wrote r2 r3 257 1 p e3 fp) bp t;
     }
 
 pub trap-packed : (r0 r1 n : ℕ) (b : Bool) → r1 ≡ with_field r0 0 1 n → n < 2 → (n == 1) ≡ b → is_on r1 0 ≡ b
@@ -79,12 +106,12 @@ address-fields r0 r1 r2 r3 r4 r5 k po ki pin us e1 e2 e3 e4 e5 f1 f2 f3 f4 = (
   keep r4 r5 71 1 us 70 1 pin e5 (omega arith) (wrote r3 r4 70 1 pin e4 f4),
 )
 
-port-below : (p : ℕ) → p < 64 → port_from p ≡ p
-port-below p h = ap (λ b. cond b p 0) (le-leb p last_port (omega arith))
+port-below : (p : ℕ) → p ≤ last_port → port_from p ≡ p
+port-below p h = ap (λ b. cond b p 0) (le-leb p last_port h)
 
 pub address-packed : (r0 r1 r2 r3 r4 r5 k po ki pin us : ℕ) (row : AddressRow)
     → r1 ≡ with_field r0 0 60 k → r2 ≡ with_field r1 60 8 po → r3 ≡ with_field r2 68 2 ki → r4 ≡ with_field r3 70 1 pin → r5 ≡ with_field r4 71 1 us
-    → k < 2 ^ 60 → po < 64 → ki < 4 → pin < 2 → po ≡ row.port → kind_of ki ≡ row.kind → (pin == 1) ≡ row.pinned
+    → k < 2 ^ 60 → po ≤ last_port → ki < 4 → pin < 2 → po ≡ row.port → kind_of ki ≡ row.kind → (pin == 1) ≡ row.pinned
     → (key_of r5 ≡ k) × (address_of r5 ≡ row)
 address-packed r0 r1 r2 r3 r4 r5 k po ki pin us row e1 e2 e3 e4 e5 f1 f2 f3 f4 ip ik ii =
     let f = address-fields r0 r1 r2 r3 r4 r5 k po ki pin us e1 e2 e3 e4 e5 f1 (omega arith) f3 f4 in

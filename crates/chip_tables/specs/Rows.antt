@@ -1,6 +1,6 @@
 -- What the chip's tables hold: for each bank the list of its rows, as numbers, and how their fields are read.
 -- Source: the layout is this program's own; what the rows tell is what the kernel tells a switchdev driver (switchdev.rst).
-use Rattle.std.specs.Prelude.{◌≡◌, ℕ, zero, suc, ◌+◌, ◌*◌, ◌==◌, ◌&&◌, nat_lt, nat_le, Bool, true, false, cond, if◌then◌else◌, List, [], ◌∷◌, length, slice_index, slice_get, is_some}
+use Rattle.std.specs.Prelude.{◌≡◌, ℕ, zero, suc, ◌+◌, ◌*◌, ◌≤◌, ◌==◌, ◌&&◌, nat_le, Bool, true, false, cond, if◌then◌else◌, List, [], ◌∷◌, length, slice_index, slice_get, is_some}
 use Rattle.std.specs.declared.cmp.Ordering.{Ordering}
 use Rattle.br_model.specs.declared.group.Group.{Group}
 use Rattle.std.specs.declared.option.Option.{Option}
@@ -25,15 +25,23 @@ use Rattle.chip_tables.specs.declared.rows.Flood.TheVariants.{Unicast, Mcast, Bc
 abbrev pub is_on : ℕ → ℕ → Bool
 is_on row at = field row at 1 == 1
 
--- the ports whose bits are set
-abbrev pub members_of : ℕ → List ℕ
-members_of word = members 1 (word ∷ [])
+-- the four words from a place on, the first the least
+abbrev pub words_from : ℕ → ℕ → List ℕ
+words_from row at = field row at 64 ∷ field row (at + 64) 64 ∷ field row (at + 128) 64 ∷ field row (at + 192) 64 ∷ []
+
+-- the ports whose bits are set in the words from a place on
+abbrev pub ports_from : ℕ → ℕ → List ℕ
+ports_from row at = members 4 (words_from row at)
+
+-- the fields that end at a place or before it stay
+abbrev pub KeepsBefore : ℕ → ℕ → ℕ → Type 0
+KeepsBefore place old new = (at width : ℕ) → at + width ≤ place → field new at width ≡ field old at width
 
 abbrev pub vlan_of : ℕ → VlanRow
-vlan_of row = record { members = members_of (field row 0 64); untagged = members_of (field row 64 64) }
+vlan_of row = record { members = ports_from row 0; untagged = ports_from row 256 }
 
 abbrev pub fan_of : ℕ → FanRow
-fan_of row = record { ports = members_of (field row 0 64); isolated = is_on row 64; plain = is_on row 65 }
+fan_of row = record { ports = ports_from row 0; isolated = is_on row 256; plain = is_on row 257 }
 
 -- a VLAN, which is from 1 to 4094
 abbrev pub pvid_from : Bool → ℕ → Option ℕ

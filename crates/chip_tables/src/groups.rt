@@ -42,7 +42,7 @@ const HALF: u32 = 64;
 #[derive(Drop)]
 pub struct GroupCells {
     keys: Bank<1024, 18>,
-    rows: Bank<1024, 9>,
+    rows: Bank<1024, 33>,
     ghost sized_keys: { length keys ≡ 1024 },
     ghost sized_rows: { length rows ≡ 1024 },
 }

@@ -1,6 +1,6 @@
 //! The rows, and how they are packed.
-ghost use Rattle.std.specs.Prelude.{◌≡◌, ◌≢◌, ◌==◌, ◌<◌, ◌≤◌, ◌^◌, nat_lt};
-ghost use Rattle.chip_tables.specs.Rows.{members_of, vlan_of, fan_of, pvid_from, port_of, is_on, port_from, kind_of, address_of, control_of, key_of, packed};
+ghost use Rattle.std.specs.Prelude.{◌≡◌, ◌≢◌, ◌==◌, ◌<◌, ◌≤◌, ◌+◌, ◌*◌, ◌^◌, nat_lt};
+ghost use Rattle.chip_tables.specs.Rows.{ports_from, vlan_of, fan_of, pvid_from, port_of, is_on, port_from, kind_of, address_of, control_of, key_of, packed, KeepsBefore};
 
 use br_model::change::{Flags, Kind};
 use br_model::numbers::{Mac, Port, Vid};
@@ -60,7 +60,7 @@ pub struct Control {
 
 /// A field by the place of its first bit and how many bits it has.
 macro_rules! bits {
-    ($at:literal, $width:literal) => {
+    ($at:expr, $width:literal) => {
         Field {
             at: $at,
             width: $width,
@@ -78,16 +78,32 @@ macro_rules! get {
     };
 }
 
-fn ports_of(word: u64) -> Ports
-    ensures { result ≡ members_of word }
+/// The set in the 256 bits from `at` on: bit n of them is port n.
+fn ports_from<const BYTES: usize>(row: &Row<BYTES>, at: u16) -> Ports
+    requires low { at ≤ 256 }
+    requires within { at + 256 ≤ 8 * BYTES }
+    ensures { result ≡ ports_from row.now at }
 {
-    Ports::from_words([word])
+    Ports::from_words([
+        row.get(bits!(at, 64)),
+        row.get(bits!(at + 64, 64)),
+        row.get(bits!(at + 128, 64)),
+        row.get(bits!(at + 192, 64)),
+    ])
 }
 
-fn word_of(ports: &Ports) -> u64
-    ensures { members_of result ≡ ports.now }
+/// Writes a set as `ports_from` reads it. The bits before it stay.
+fn write_ports<const BYTES: usize>(row: &mut Row<BYTES>, at: u16, ports: &Ports)
+    requires low { at ≤ 256 }
+    requires within { at + 256 ≤ 8 * BYTES }
+    ensures ports { ports_from row.new at ≡ ports.now }
+    ensures before { KeepsBefore at row.old row.new }
 {
-    ports.words()[0]
+    let [first, second, third, fourth] = ports.words();
+    row.set(bits!(at, 64), first);
+    row.set(bits!(at + 64, 64), second);
+    row.set(bits!(at + 128, 64), third);
+    row.set(bits!(at + 192, 64), fourth);
 }
 
 /// A bit as a number.
@@ -98,43 +114,43 @@ fn bit(on: bool) -> u64
     if on { 1 } else { 0 }
 }
 
-/// Bits 0 to 63: the members; 64 to 127: those that its frames leave without a tag. Bit n of each is port n.
-pub fn vlan_row(row: &Row<16>) -> VlanRow
+/// Bits 0 to 255: the members; 256 to 511: those that its frames leave without a tag.
+pub fn vlan_row(row: &Row<64>) -> VlanRow
     ensures { result ≡ vlan_of row.now }
 {
     VlanRow {
-        members: ports_of(get!(row, 0, 64)),
-        untagged: ports_of(get!(row, 64, 64)),
+        members: ports_from(row, 0),
+        untagged: ports_from(row, 256),
     }
 }
 
-pub fn pack_vlan(r: &VlanRow) -> Row<16>
+pub fn pack_vlan(r: &VlanRow) -> Row<64>
     ensures { vlan_of result ≡ r.now }
 {
     let mut row = Row::zero();
-    row.set(bits!(0, 64), word_of(&r.members));
-    row.set(bits!(64, 64), word_of(&r.untagged));
+    write_ports(&mut row, 0, &r.members);
+    write_ports(&mut row, 256, &r.untagged);
     row
 }
 
-/// Bits 0 to 63: the ports, bit n for port n; 64 and 65: a target elsewhere for an isolated, and for a plain ingress port.
-pub fn fan_row(row: &Row<9>) -> FanRow
+/// Bits 0 to 255: the ports; 256 and 257: a target elsewhere for an isolated, and for a plain ingress port.
+pub fn fan_row(row: &Row<33>) -> FanRow
     ensures { result ≡ fan_of row.now }
 {
     FanRow {
-        ports: ports_of(get!(row, 0, 64)),
-        isolated: get!(row, 64),
-        plain: get!(row, 65),
+        ports: ports_from(row, 0),
+        isolated: get!(row, 256),
+        plain: get!(row, 257),
     }
 }
 
-pub fn pack_fan(r: &FanRow) -> Row<9>
+pub fn pack_fan(r: &FanRow) -> Row<33>
     ensures { fan_of result ≡ r.now }
 {
     let mut row = Row::zero();
-    row.set(bits!(0, 64), word_of(&r.ports));
-    row.set(bits!(64, 1), bit(r.isolated));
-    row.set(bits!(65, 1), bit(r.plain));
+    write_ports(&mut row, 0, &r.ports);
+    row.set(bits!(256, 1), bit(r.isolated));
+    row.set(bits!(257, 1), bit(r.plain));
     row
 }
 

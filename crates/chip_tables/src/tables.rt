@@ -23,11 +23,11 @@ use std::marker::Model;
 /// The chip's tables. Contracts see the rows of each bank as numbers.
 #[derive(Drop)]
 pub struct Tables {
-    vlans: Bank<4096, 16>,
-    unicast: Bank<4096, 9>,
-    mcast: Bank<4096, 9>,
-    bcast: Bank<4096, 9>,
-    routers: Bank<4096, 9>,
+    vlans: Bank<4096, 64>,
+    unicast: Bank<4096, 33>,
+    mcast: Bank<4096, 33>,
+    bcast: Bank<4096, 33>,
+    routers: Bank<4096, 33>,
     ports: Bank<{ Port::PLACES }, 3>,
     traps: Bank<21, 1>,
     control: Bank<1, 1>,
@@ -52,7 +52,7 @@ impl Model for Tables {
 }
 
 /// Writes the row of a VLAN.
-fn put_fan(bank: &mut Bank<4096, 9>, v: Vid, r: &FanRow)
+fn put_fan(bank: &mut Bank<4096, 33>, v: Vid, r: &FanRow)
     ensures { WritesFan bank.old bank.new v r.now }
 {
     bank.put(usize::from(v.number()), pack_fan(r));
@@ -130,7 +130,14 @@ impl Tables {
     pub fn port(&self, p: Port) -> PortRow
         ensures { result ≡ port_at self.now p }
     {
-        port_row(&self.ports.row(usize::from(p.number())))
+        self.port_numbered(p.number())
+    }
+
+    /// The row of a number, as a set of ports has it: that of a port, or the one behind the last port's.
+    pub fn port_numbered(&self, number: u8) -> PortRow
+        ensures { result ≡ port_at self.now number }
+    {
+        port_row(&self.ports.row(usize::from(number)))
     }
 
     /// The state is at most 4.
@@ -139,7 +146,16 @@ impl Tables {
         ensures row { WritesPort self.old self.new p r }
         ensures rest { self.new ≡ record self.old { ports = self.new.ports } }
     {
-        self.ports.put(usize::from(p.number()), pack_port(&r));
+        self.set_port_numbered(p.number(), r);
+    }
+
+    /// Writes the row that `port_numbered` reads. The state is at most 4.
+    pub fn set_port_numbered(&mut self, number: u8, r: PortRow)
+        requires { r.state ≤ 4 }
+        ensures row { WritesPort self.old self.new number r }
+        ensures rest { self.new ≡ record self.old { ports = self.new.ports } }
+    {
+        self.ports.put(usize::from(number), pack_port(&r));
     }
 
     /// Whether a trap row, below 21, is on.

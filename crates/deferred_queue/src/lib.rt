@@ -8,8 +8,6 @@ mod tally;
 #[cfg(test)]
 mod tests;
 
+pub use br_model::NoMemory;
 pub use br_model::limits::MOST_CHANGES as MOST_UPDATES;
 pub use ends::{Poster, Taker, make};
-
-/// Want of memory.
-pub type NoMemory = std::alloc::AllocError;

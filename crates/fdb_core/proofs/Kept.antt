@@ -4,6 +4,7 @@ use Rattle.std.specs.Ordering.{eq_by_cmp, nat_cmp}
 use Rattle.std.specs.FinMap.Entries.{find, put, where_key, is_sorted}
 use Rattle.std.proofs.Math.ListN.{length-set}
 use Rattle.std.proofs.lemmas.Bool.{eqb-true, eq-eqb}
+use Rattle.br_model.specs.Table.Domains.{port_places}
 use Rattle.fdb_core.specs.declared.entries.Entry.{Entry}
 use Rattle.fdb_core.specs.Counts.{one_at, one_if, count_at, less_one, one_more, AreCounts}
 use Rattle.fdb_core.specs.Kept.{AreKept}
@@ -20,10 +21,10 @@ zeros zero i = refl
 zeros (suc n) zero = refl
 zeros (suc n) (suc i) = zeros n i
 
-pub counted-none : (cs : List ℕ) → cs ≡ replicate 64 0 → AreCounts cs []
+pub counted-none : (cs : List ℕ) → cs ≡ replicate port_places 0 → AreCounts cs []
 counted-none cs is = record {
   sized = ap length is;
-  counted = λ port. ap (λ (l : List ℕ). get_or l port 0) is ∙ zeros 64 port;
+  counted = λ port. ap (λ (l : List ℕ). get_or l port 0) is ∙ zeros port_places port;
 }
 
 one_self : (e : Entry) → one_at e.port e ≡ 1
@@ -80,7 +81,7 @@ module _ (cs : List ℕ) (es : List (ℕ × Entry)) (a : AreCounts cs es) (sorte
         let most = count-most x.port (put nat_cmp k x es) in
         omega arith
 
-    pub counted-put : x.port < 64 → AreCounts (one_more x.port (less_one o cs)) (put nat_cmp k x es)
+    pub counted-put : x.port < port_places → AreCounts (one_more x.port (less_one o cs)) (put nat_cmp k x es)
     counted-put lt = record {
       sized = length-set (less_one o cs) x.port (get_or (less_one o cs) x.port 0 + 1) ∙ length-less o ∙ a.sized;
       counted = λ p.
@@ -91,7 +92,7 @@ module _ (cs : List ℕ) (es : List (ℕ × Entry)) (a : AreCounts cs es) (sorte
     }
 
 -- at the beginning
-pub kept-none : (es : List (ℕ × Entry)) (cs : List ℕ) (complete : Bool) (latest : ℕ) (ps : List Place) → es ≡ [] → cs ≡ replicate 64 0 → ps ≡ [] → AreKept es cs complete latest ps
+pub kept-none : (es : List (ℕ × Entry)) (cs : List ℕ) (complete : Bool) (latest : ℕ) (ps : List Place) → es ≡ [] → cs ≡ replicate port_places 0 → ps ≡ [] → AreKept es cs complete latest ps
 kept-none es cs complete latest ps e counts p =
     subst (λ (l : List (ℕ × Entry)). AreKept l cs complete latest ps) (sym e)
     (subst (λ (l : List Place). AreKept [] cs complete latest l) (sym p) (record {

@@ -23,7 +23,7 @@ fn entries_by_vlan_and_address(rt: HostRuntime) -> Result<(), Fail> {
         updated: 7,
     };
     let new = Entry {
-        port: Port::new(63).ok_or("port")?,
+        port: Port::new(Port::LAST).ok_or("port")?,
         kind: Kind::Extern,
         updated: u64::MAX,
     };

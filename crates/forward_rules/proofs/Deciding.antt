@@ -1,23 +1,20 @@
 -- The parts of a decision, over a table of ports and addresses.
-use Rattle.std.proofs.Common.{◌≡◌, ℕ, ◌/◌, ◌%◌, ◌^◌, ◌<◌, ◌≤◌, Bool, true, false, not, ◌&&◌, ◌||◌, cond, List, [], ◌∷◌, length, map, Option, None, Some, is_some, option_map, refl, sym, ap, ap₂, subst, ◌∙◌, arith, inl, inr}
+use Rattle.std.proofs.Common.{◌≡◌, ℕ, ◌<◌, Bool, true, false, not, ◌&&◌, ◌||◌, cond, List, [], length, Option, None, Some, is_some, option_map, refl, sym, ap, ap₂, subst, ◌∙◌, arith}
 use Rattle.std.specs.Prelude.{◌==◌, nat_lt, IfSome}
-use Rattle.std.specs.List.{filter, list_any}
 use Rattle.std.specs.Option.{option_map_or}
 use Rattle.std.specs.Ordering.{nat_cmp}
-use Rattle.std.specs.Cmp.{first_so, second_so}
-use Rattle.std.proofs.lemmas.Bool.{cases_Bool, ne_eqb}
-use borrow.Author.Tests.{ltb-true, leb-true}
+use borrow.Author.Tests.{ltb-true}
 use Rattle.std.proofs.lemmas.List.{length-map}
 use Rattle.br_model.specs.Forward.Admission.{admit}
-use Rattle.br_model.specs.Forward.Class.{class, class_by, is_snooped, is_trapped, is_trapped_in, reaches_host, crosses}
-use Rattle.br_model.specs.Table.Domains.{Domains, host, foreign}
+use Rattle.br_model.specs.Forward.Class.{class, class_by, is_trapped_in, crosses}
+use Rattle.br_model.specs.Table.Domains.{Domains, foreign, port_places}
 use Rattle.br_model.specs.Forward.Eligible.{may, untagged}
 use Rattle.br_model.specs.Forward.Leave.{all_ports, egress_ports, ports_in, ports_out}
 use Rattle.br_model.specs.Table.Limits.{most_addresses}
 use Rattle.br_model.specs.Data.Maps.{pair_cmp, get, has}
 use Rattle.br_model.specs.Data.Numbers.{is_multicast, broadcast}
 use Rattle.br_model.specs.Table.Table.{Table, with_addresses}
-use Rattle.br_model.specs.Forward.Targets.{bridge_group_address, pause_address, port_of, targets, to_tree, is_for_the_host, with_flag, flood}
+use Rattle.br_model.specs.Forward.Targets.{bridge_group_address, pause_address, port_of, targets, to_tree, with_flag, flood}
 use Rattle.br_model.specs.declared.change.Kind.{Kind}
 use Rattle.br_model.specs.declared.frame.Class.{Class}
 use Rattle.br_model.specs.declared.frame.Class.TheVariants.{Drop, Trap}
@@ -96,14 +93,14 @@ unknown-targets t vid head msg station none =
 
 -- ---- the class
 
-pub crosses-is : (d : Domains) (t : Table) (p vid : ℕ) (head : Head) (msg : McastMsg) (known : Option ℕ) (eligible : List ℕ) → IfSome known (λ q. q < 64)
+pub crosses-is : (d : Domains) (t : Table) (p vid : ℕ) (head : Head) (msg : McastMsg) (known : Option ℕ) (eligible : List ℕ) → IfSome known (λ q. q < port_places)
     → known ≡ known_port t vid head.dst → eligible ≡ ports_where (λ q. may t p q vid)
     → option_map_or (λ q. foreign d p q && has_number eligible q) known false ≡ crosses d t p vid head
 crosses-is d t p vid head msg known eligible below is e =
     ap (λ o. option_map_or (λ q. foreign d p q && has_number eligible q) o false) is
-    ∙ by (is_multicast head.dst) (get pair_cmp t.addr (vid, head.dst)) (subst (λ o. IfSome o (λ q. q < 64)) is below)
+    ∙ by (is_multicast head.dst) (get pair_cmp t.addr (vid, head.dst)) (subst (λ o. IfSome o (λ q. q < port_places)) is below)
   where
-    by : (group : Bool) (o : Option (ℕ × Kind)) → IfSome (cond group None (option_map port_of o)) (λ q. q < 64)
+    by : (group : Bool) (o : Option (ℕ × Kind)) → IfSome (cond group None (option_map port_of o)) (λ q. q < port_places)
         → option_map_or (λ q. foreign d p q && has_number eligible q) (cond group None (option_map port_of o)) false
         ≡ (not group && option_map_or (λ x. foreign d p (port_of x) && may t p (port_of x) vid) o false)
     by true o low = refl
@@ -128,15 +125,15 @@ pub ports-are : (t : Table) (p vid : ℕ) (head : Head) (msg : McastMsg) (goal e
 unfolding numbers_below ports_out egress_ports all_ports
 ports-are t p vid head msg goal eligible ports other admitted g e made =
     made
-    ∙ same_below _ _ 64 (λ q low. ap₂ ◌&&◌ (member-of (has nat_cmp (targets t vid head msg)) goal q g low) (member-of (λ m. may t p m vid) eligible q e low))
+    ∙ same_below _ _ port_places (λ q low. ap₂ ◌&&◌ (member-of (has nat_cmp (targets t vid head msg)) goal q g low) (member-of (λ m. may t p m vid) eligible q e low))
     ∙ sym (ap₂ (λ b o. cond b [] (ports_in t p o head msg)) other admitted)
 
 pub untagged-are : (t : Table) (vid : ℕ) (f : ℕ → Bool) (ports plain both : List ℕ) → ports ≡ ports_where f → plain ≡ ports_where (λ q. untagged t q vid)
     → both ≡ ports_where (λ q. has_number ports q && has_number plain q) → both ≡ untagged_among t (Some vid) ports
 untagged-are t vid f ports plain both p u made =
     made
-    ∙ same_below _ _ 64 (λ q low. ap (λ b. has_number ports q && b) (member-of (λ m. untagged t m vid) plain q u low))
-    ∙ sym (filter-set 64 ports (λ q. untagged t q vid) (p ∙ IsSetBelow-numbers_below f 64 ∙ ap (λ (ns : List ℕ). numbers_below 64 (has_number ns)) (sym p)))
+    ∙ same_below _ _ port_places (λ q low. ap (λ b. has_number ports q && b) (member-of (λ m. untagged t m vid) plain q u low))
+    ∙ sym (filter-set port_places ports (λ q. untagged t q vid) (p ∙ IsSetBelow-numbers_below f port_places ∙ ap (λ (ns : List ℕ). numbers_below port_places (has_number ns)) (sym p)))
 
 -- a frame for the tree, or one that isn't admitted
 pub tree-out : (t : Table) (p : ℕ) (head : Head) (msg : McastMsg) → to_tree t p head ≡ true → [] ≡ ports_out t p head msg

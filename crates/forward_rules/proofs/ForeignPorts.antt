@@ -1,13 +1,12 @@
 -- The ports of other domains.
-use Rattle.std.proofs.Common.{◌≡◌, ℕ, ◌<◌, Bool, true, false, not, ◌&&◌, List, Option, None, Some, refl, sym, ap, ap₂, ◌∙◌, inl, inr}
+use Rattle.std.proofs.Common.{◌≡◌, ℕ, not, ◌&&◌, List, Option, None, Some, refl, sym, ap, ◌∙◌, inl, inr}
 use Rattle.std.specs.Prelude.{◌==◌}
-use Rattle.std.specs.Int.{bit_at}
 use Rattle.std.specs.List.{filter}
 use Rattle.std.specs.Option.{option_eq}
 use Rattle.std.proofs.lemmas.Bool.{eq-eqb, ne_eqb}
 use Rattle.std.proofs.lemmas.Bool.Decides.{eqb_tells}
-use Rattle.br_model.specs.Table.DomainPorts.{is_in_domain, IsWordOf}
-use Rattle.br_model.specs.Table.Domains.{Domains, domain_of, foreign}
+use Rattle.br_model.specs.Table.DomainPorts.{ports_in}
+use Rattle.br_model.specs.Table.Domains.{Domains, domain_of, foreign, port_places}
 use Rattle.port_sets.specs.Numbers.{has_number, IsSetBelow}
 use Rattle.port_sets.proofs.Numbers.{filter-set, same_below}
 use Rattle.vlan_groups.specs.Rows.{ports_where}
@@ -24,14 +23,13 @@ same_option own None = refl
 same_option own (Some d) = turned d own
 
 -- those of the set that aren't in the port's own domain
-pub not-own : (domains : Domains) (p own word : ℕ) (ports same others : List ℕ) → IsSetBelow 64 ports → domain_of domains p ≡ Some own → IsWordOf domains own word
-    → same ≡ ports_where (λ q. bit_at word q == 1) → others ≡ ports_where (λ q. has_number ports q && not (has_number same q))
+pub not-own : (domains : Domains) (p own : ℕ) (ports same others : List ℕ) → IsSetBelow port_places ports → domain_of domains p ≡ Some own
+    → same ≡ ports_in domains own → others ≡ ports_where (λ q. has_number ports q && not (has_number same q))
     → others ≡ filter (λ q. foreign domains p q) ports
-not-own domains p own word ports same others set own_is word_is s o =
+not-own domains p own ports same others set own_is s o =
     o
-    ∙ same_below _ _ 64 (λ q low. ap (λ b. has_number ports q && not b)
+    ∙ same_below _ _ port_places (λ q low. ap (λ b. has_number ports q && not b)
     (member-of _ same q s low
-    ∙ word_is q low
     ∙ same_option own (domain_of domains q)
     ∙ ap (λ d. option_eq (λ x y. x == y) d (domain_of domains q)) (sym own_is)))
-    ∙ sym (filter-set 64 ports (λ q. foreign domains p q) set)
+    ∙ sym (filter-set port_places ports (λ q. foreign domains p q) set)

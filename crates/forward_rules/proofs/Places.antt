@@ -1,17 +1,19 @@
 -- Ports with something each, kept in a list with a place for each port: after one place is written.
-use Rattle.std.proofs.Common.{◌≡◌, ℕ, ◌+◌, ◌<◌, Bool, true, false, not, ◌&&◌, ◌||◌, cond, List, [], ◌∷◌, length, set, get_or, Option, None, Some, refl, sym, ap, ap₂, ◌∙◌, arith, inl, inr, get_or-set_same, get_or-set_other, zero-add}
-use Rattle.std.specs.Prelude.{◌==◌}
+use Rattle.std.proofs.Common.{◌≡◌, ℕ, ◌<◌, Bool, true, false, ◌&&◌, cond, List, length, set, get_or, Option, None, Some, refl, sym, ap, ◌∙◌, arith, inl, inr, get_or-set_same, get_or-set_other, zero-add, ◌≤◌}
+use Rattle.std.specs.Prelude.{◌==◌, nat_lt}
 use Rattle.std.specs.Ordering.{nat_cmp}
+use Rattle.std.proofs.Math.Bool.{and-false}
 use Rattle.std.proofs.lemmas.Bool.{eq-eqb, ne_eqb}
 use Rattle.std.proofs.lemmas.Bool.Decides.{eqb_tells}
-use Rattle.br_model.specs.Table.Domains.{entries_from}
+use Rattle.br_model.specs.Table.Domains.{entries_from, last_port, port_places}
 use Rattle.br_model.specs.Data.Maps.{get, put, without}
 use Rattle.br_model.proofs.DomainLaws.{get-entries, entries-set}
 use Rattle.vlan_groups.proofs.Pvids.{entries-clear}
-use Rattle.port_sets.specs.Numbers.{numbers_below, has_number}
+use Rattle.port_sets.specs.Numbers.{has_number}
 use Rattle.port_sets.proofs.Numbers.{same_below, has-below}
 use Rattle.vlan_groups.specs.Rows.{ports_where}
-use Rattle.forward_rules.specs.PortSets.{placed}
+use Rattle.vlan_groups.proofs.RowLaws.{has-ports_where}
+use Rattle.forward_rules.specs.PortSets.{ArePorts, placed}
 
 abbrev Places : Type 0
 Places = List (Option ℕ)
@@ -39,8 +41,8 @@ pub placed-is : (test : Option ℕ → Bool) (places : Places) (k p : ℕ) (o : 
     → old ≡ ports_where (λ q. test (get nat_cmp (entries_from 0 places) q)) → on ≡ test o → new ≡ placed old p on
     → new ≡ ports_where (λ q. test (get nat_cmp (entries_from 0 (set places k o)) q))
 placed-is test places k p o on old new within at e t made =
-    made ∙ same_below _ _ 64 (λ q low.
-    ap (λ b. cond (q == p) on b) (ap (λ (ns : List ℕ). has_number ns q) e ∙ has-below _ 64 q low)
+    made ∙ same_below _ _ port_places (λ q low.
+    ap (λ b. cond (q == p) on b) (ap (λ (ns : List ℕ). has_number ns q) e ∙ has-below _ port_places q low)
     ∙ ap (λ b. cond (q == p) b (test (get nat_cmp (entries_from 0 places) q))) t
     ∙ inside (get nat_cmp (entries_from 0 places) q) (q == p)
     ∙ ap (λ i. test (cond (q == i) o (get nat_cmp (entries_from 0 places) q))) (sym at)
@@ -49,6 +51,15 @@ placed-is test places k p o on old new within at e t made =
     inside : (x : Option ℕ) (b : Bool) → cond b (test o) (test x) ≡ test (cond b o x)
     inside x true = refl
     inside x false = refl
+
+-- no number behind the last port comes in
+pub placed-within : (old new : List ℕ) (p : ℕ) (on : Bool) → ArePorts old → p ≤ last_port → new ≡ placed old p on → ArePorts new
+placed-within old new p on within low made n behind =
+    ap (λ (ns : List ℕ). has_number ns n) made
+    ∙ has-ports_where (λ m. cond (m == p) on (has_number old m)) n
+    ∙ ap (λ b. nat_lt n port_places && cond b on (has_number old n)) (ne_eqb n p (omega (arith, low, behind)))
+    ∙ ap (λ b. nat_lt n port_places && b) (within n behind)
+    ∙ and-false (nat_lt n port_places)
 
 pub put-is : (places : Places) (k p n : ℕ) (o : Option ℕ) → k < length places → k ≡ p → o ≡ Some n → entries_from 0 (set places k o) ≡ put nat_cmp (entries_from 0 places) p n
 put-is places k p n o within at e =

@@ -1,16 +1,19 @@
 -- Sets of ports, told by what they have.
-use Rattle.std.proofs.Common.{◌≡◌, ℕ, ◌<◌, Bool, true, false, not, ◌&&◌, ◌||◌, cond, List, [], ◌∷◌, ◌++◌, refl, sym, ap, ap₂, ◌∙◌, inl, inr}
-use Rattle.std.specs.Prelude.{◌==◌}
-use Rattle.std.specs.List.{filter, list_any, range_with_len}
-use Rattle.std.specs.Ordering.{nat_cmp, eq_by_cmp}
+use Rattle.std.proofs.Common.{◌≡◌, ℕ, ◌<◌, ◌≤◌, arith, Bool, true, false, not, ◌&&◌, ◌||◌, cond, List, [], ◌∷◌, ◌++◌, refl, sym, ap, ap₂, ◌∙◌, inl, inr}
+use Rattle.std.specs.Prelude.{◌==◌, nat_lt}
+use Rattle.std.proofs.Math.Bool.{and-false}
+use Rattle.std.specs.List.{filter, list_any}
+use Rattle.std.specs.Ordering.{nat_cmp}
 use Rattle.std.specs.Cmp.{unsigned_tied}
-use Rattle.std.proofs.lemmas.Bool.{eq-eqb, eqb-true, cases_Bool}
+use Rattle.std.proofs.lemmas.Bool.{eq-eqb, eqb-true, cases_Bool, cases_lt, false≢true}
 use Rattle.std.proofs.lemmas.List.Folds.{list_any-append}
 use Rattle.br_model.specs.Data.Maps.{get, has}
+use Rattle.br_model.specs.Table.Domains.{last_port, port_places}
 use Rattle.port_sets.specs.Numbers.{numbers_below, has_number, IsSetBelow}
 use Rattle.port_sets.proofs.Numbers.{same_below, has-below, has-filter}
 use Rattle.vlan_groups.specs.Rows.{ports_where}
-use Rattle.forward_rules.specs.PortSets.{flag_is_set, flagged, placed, set_of}
+use Rattle.vlan_groups.proofs.RowLaws.{has-ports_where}
+use Rattle.forward_rules.specs.PortSets.{ArePorts, flag_is_set, flagged, set_of}
 
 -- a list as a set of numbers has what the list has
 pub has-is : (xs : List ℕ) (n : ℕ) → has nat_cmp xs n ≡ has_number xs n
@@ -18,19 +21,19 @@ has-is [] n = refl
 has-is (x ∷ xs) n = ap₂ ◌||◌ (unsigned_tied n x) (has-is xs n)
 
 -- what a set has, told by its test
-pub member-of : (f : ℕ → Bool) (set : List ℕ) (q : ℕ) → set ≡ ports_where f → q < 64 → has_number set q ≡ f q
-member-of f set q e low = ap (λ (ns : List ℕ). has_number ns q) e ∙ has-below f 64 q low
+pub member-of : (f : ℕ → Bool) (set : List ℕ) (q : ℕ) → set ≡ ports_where f → q < port_places → has_number set q ≡ f q
+member-of f set q e low = ap (λ (ns : List ℕ). has_number ns q) e ∙ has-below f port_places q low
 
 -- a set is told by what it has
-pub set-is : (f : ℕ → Bool) (set : List ℕ) (g : ℕ → Bool) → set ≡ ports_where g → ((q : ℕ) → q < 64 → has_number set q ≡ f q) → set ≡ ports_where f
-set-is f set g e h = e ∙ same_below _ _ 64 (λ q low. sym (member-of g set q e low) ∙ h q low)
+pub set-is : (f : ℕ → Bool) (set : List ℕ) (g : ℕ → Bool) → set ≡ ports_where g → ((q : ℕ) → q < port_places → has_number set q ≡ f q) → set ≡ ports_where f
+set-is f set g e h = e ∙ same_below _ _ port_places (λ q low. sym (member-of g set q e low) ∙ h q low)
 
 -- a set is that of a list with the same members
-pub is-set_of : (f : ℕ → Bool) (xs set : List ℕ) → set ≡ ports_where f → ((q : ℕ) → q < 64 → f q ≡ has_number xs q) → set ≡ set_of xs
-is-set_of f xs set e h = e ∙ same_below _ _ 64 (λ q low. h q low ∙ sym (has-is xs q))
+pub is-set_of : (f : ℕ → Bool) (xs set : List ℕ) → set ≡ ports_where f → ((q : ℕ) → q < port_places → f q ≡ has_number xs q) → set ≡ set_of xs
+is-set_of f xs set e h = e ∙ same_below _ _ port_places (λ q low. h q low ∙ sym (has-is xs q))
 
 -- a set that ascends is that of its own list
-pub set_of-set : (set : List ℕ) → IsSetBelow 64 set → set ≡ set_of set
+pub set_of-set : (set : List ℕ) → IsSetBelow port_places set → set ≡ set_of set
 set_of-set set h = is-set_of (has_number set) set set h (λ q low. refl)
 
 pub set_of-none : [] ≡ set_of []
@@ -61,6 +64,23 @@ set_of-flagged up flags flag a set ea e =
     turn true false = refl
     turn false true = refl
     turn false false = refl
+
+-- ---- sets of ports
+
+pub member-within : (set : List ℕ) (k : ℕ) → ArePorts set → has_number set k ≡ true → k ≤ last_port
+member-within set k within there = elim (cases_lt last_port k) [
+  | inl behind ↦ absurd (false≢true (sym (within k behind) ∙ there))
+  | inr few ↦ omega (arith, few)
+]
+
+-- those that are in both
+pub both-within : (old others both : List ℕ) → ArePorts old → both ≡ ports_where (λ m. has_number others m && has_number old m) → ArePorts both
+both-within old others both within made n behind =
+    ap (λ (ns : List ℕ). has_number ns n) made
+    ∙ has-ports_where (λ m. has_number others m && has_number old m) n
+    ∙ ap (λ b. nat_lt n port_places && (has_number others n && b)) (within n behind)
+    ∙ ap (λ b. nat_lt n port_places && b) (and-false (has_number others n))
+    ∙ and-false (nat_lt n port_places)
 
 -- ---- tests of a set
 

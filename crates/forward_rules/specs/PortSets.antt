@@ -1,5 +1,5 @@
 -- Parts of the bridge's table as sets of ports: those that have a flag, those in a state, those of a list of targets.
-use Rattle.std.specs.Prelude.{ℕ, ◌≡◌, ◌/◌, ◌%◌, ◌^◌, ◌==◌, Bool, if◌then◌else◌, List}
+use Rattle.std.specs.Prelude.{ℕ, ◌≡◌, ◌<◌, ◌/◌, ◌%◌, ◌^◌, ◌==◌, Bool, false, if◌then◌else◌, List}
 use Rattle.std.specs.declared.option.Option.{Option}
 use Rattle.std.specs.declared.option.Option.TheVariants.{Some}
 use Rattle.std.specs.Option.{option_eq, unwrap_or}
@@ -8,6 +8,7 @@ use Rattle.br_model.specs.Forward.Admission.{learning, forwarding}
 use Rattle.br_model.specs.Control.Learning.{learning_flag}
 use Rattle.br_model.specs.Data.Maps.{get, has}
 use Rattle.br_model.specs.Forward.Targets.{flood, mcast_flood, bcast_flood, isolated}
+use Rattle.br_model.specs.Table.Domains.{last_port}
 use Rattle.port_sets.specs.Numbers.{has_number}
 use Rattle.vlan_groups.specs.Rows.{ports_where}
 
@@ -34,6 +35,10 @@ placed set port on = ports_where (λ q. if q == port then on else has_number set
 abbrev pub set_of : List ℕ → List ℕ
 set_of ports = ports_where (has nat_cmp ports)
 
+-- no number behind the last port is among these
+abbrev pub ArePorts : List ℕ → Type 0
+ArePorts numbers = (n : ℕ) → last_port < n → has_number numbers n ≡ false
+
 -- these are the ports that have each flag
 pub record AreFlagged (flags : List (ℕ × ℕ)) (learns floods mcast_floods bcast_floods isolates : List ℕ) : Type 0 where
   pub learn : learns ≡ flagged flags learning_flag
@@ -46,3 +51,4 @@ pub record AreFlagged (flags : List (ℕ × ℕ)) (learns floods mcast_floods bc
 pub record AreInState (states : List (ℕ × ℕ)) (learns forwards : List ℕ) : Type 0 where
   pub learn : learns ≡ in_state states learning
   pub forward : forwards ≡ in_state states forwarding
+  pub within : ArePorts forwards

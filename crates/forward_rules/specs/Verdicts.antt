@@ -2,7 +2,7 @@
 -- Source: IEEE 802.1Q-2018 section 8.6 (the forwarding process).
 use Rattle.std.specs.Prelude.{ℕ, if◌then◌else◌}
 use Rattle.std.specs.declared.option.Option.{Option}
-use Rattle.std.specs.declared.option.Option.TheVariants.{None, Some}
+use Rattle.std.specs.declared.option.Option.TheVariants.{None}
 use Rattle.std.specs.Option.{option_map}
 use Rattle.br_model.specs.declared.change.Change.{Change}
 use Rattle.br_model.specs.Data.Maps.{pair_cmp, get}

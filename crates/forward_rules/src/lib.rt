@@ -1,6 +1,6 @@
 //! The software tables of a bridge: what a list of changes comes to, and what it decides of a frame.
 //!
-//! A decision looks up one address, and asks the rest of words with a bit for each port. Memory is taken at the making alone.
+//! A decision looks up one address, and asks the rest of sets of ports. Memory is taken at the making alone.
 #![tactic(auto)]
 
 mod flag_table;

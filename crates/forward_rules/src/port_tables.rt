@@ -17,7 +17,7 @@ ghost use Rattle.br_model.specs.declared.change.Change.TheVariants as Change;
 ghost use Rattle.mdb_snoop.specs.Database.{pairs_of_port};
 ghost use Rattle.vlan_groups.specs.Rows.{ports_where};
 ghost use Rattle.vlan_groups.specs.Vlans.{vids_of};
-ghost use Rattle.forward_rules.specs.PortSets.{set_of};
+ghost use Rattle.forward_rules.specs.PortSets.{ArePorts, set_of};
 ghost use Rattle.forward_rules.specs.Verdicts.{ports_after};
 
 use crate::NoMemory;
@@ -319,7 +319,8 @@ impl PortTables {
 
     /// The ports that may take a frame of the VLAN that came by this port.
     pub fn eligible(&self, port: Port, vid: Vid) -> Ports
-        ensures { result ≡ ports_where (λ q. may self.now port q vid) }
+        ensures value { result ≡ ports_where (λ q. may self.now port q vid) }
+        ensures ports { ArePorts result }
     {
         let members = self.vlans.ports_of(vid);
         let forwarding = self.up.and(self.states.forwarding());

@@ -109,18 +109,7 @@ impl SoftTables {
             Change::AddrDel { vid, mac } => {
                 self.fdb.take(vid, mac);
             }
-            Change::PortUp(_)
-            | Change::PortDown(_)
-            | Change::SetFlags(..)
-            | Change::SetState(..)
-            | Change::VlanAdd { .. }
-            | Change::VlanDel { .. }
-            | Change::GroupJoin { .. }
-            | Change::GroupPart { .. }
-            | Change::Router { .. }
-            | Change::Querier { .. }
-            | Change::Snoop(_)
-            | Change::Stp(_) => self.ports.apply(c),
+            _ => self.ports.apply(c),
         }
     }
 

@@ -4,7 +4,7 @@ ghost use Rattle.std.specs.Ordering.{nat_cmp};
 ghost use Rattle.br_model.specs.Forward.Admission.{learning, forwarding};
 ghost use Rattle.br_model.specs.Table.Domains.{entries_from};
 ghost use Rattle.br_model.specs.Data.Maps.{get, put, without};
-ghost use Rattle.forward_rules.specs.PortSets.{in_state};
+ghost use Rattle.forward_rules.specs.PortSets.{ArePorts, in_state};
 
 use crate::place::placed;
 use br_model::change::FORWARDING;
@@ -87,7 +87,8 @@ impl StateTable {
 
     /// The ports in the state `forwarding`.
     pub fn forwarding(&self) -> Ports
-        ensures { result ≡ in_state self.now forwarding }
+        ensures value { result ≡ in_state self.now forwarding }
+        ensures ports { ArePorts result }
     {
         self.forwarding
     }

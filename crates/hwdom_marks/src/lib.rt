@@ -5,9 +5,7 @@
 
 ghost use Rattle.std.specs.Prelude.{◌≡◌, not};
 ghost use Rattle.std.specs.List.{filter};
-ghost use Rattle.br_model.specs.Table.DomainPorts.{is_in_domain, is_marked};
-ghost use Rattle.br_model.specs.Table.Domains.{port_places};
-ghost use Rattle.port_sets.specs.Numbers.{numbers_below};
+ghost use Rattle.br_model.specs.Table.DomainPorts.{is_marked};
 ghost use Rattle.hwdom_marks.specs.Marks.{domain_marked};
 
 use br_model::domains::Domains;
@@ -29,16 +27,10 @@ pub fn remaining(ports: Ports, mark: Option<Mark>, d: &Domains) -> Ports
         Some(mark) => {
             // law: the members ascend
             ports.members_ascend();
-            ports.minus(ports_of(d, mark.dom))
+            ports.minus(d.ports_of(mark.dom))
         }
         None => ports,
     }
-}
-
-fn ports_of(d: &Domains, dom: Dom) -> Ports
-    ensures { result ≡ numbers_below port_places (is_in_domain d.now dom) }
-{
-    Ports::from_word(d.ports_of(dom))
 }
 
 #[cfg(test)]

@@ -4,10 +4,10 @@ use br_model::numbers::{Dom, Port};
 use port_sets::Ports;
 use std::test::Fail;
 
-/// The host and port 3 are software's, ports 1 and 2 are on one chip, ports 5 and 63 on another, and port 4 isn't declared.
+/// The host and port 3 are software's, ports 1 and 2 are on one chip, ports 5 and 254 on another, and port 4 isn't declared.
 fn declared() -> Result<Domains, Fail> {
     let mut domains = Domains::make();
-    for (number, domain) in [(1, 1), (2, 1), (3, 0), (5, 4), (63, 4)] {
+    for (number, domain) in [(1, 1), (2, 1), (3, 0), (5, 4), (Port::LAST, 4)] {
         let port = Port::new(number).ok_or("port")?;
         let dom = Dom::new(domain).ok_or("domain")?;
         if !port.is_host() {
@@ -17,7 +17,11 @@ fn declared() -> Result<Domains, Fail> {
     Ok(domains)
 }
 
-/// Bit n stands for port n.
+/// Bit n of the first word stands for port n, and bit n of the second for port 192 + n.
+fn set(words: [u64; 2]) -> Ports {
+    Ports::from_words([words[0], 0, 0, words[1]])
+}
+
 #[test]
 fn software_leaves_out_the_domain_of_the_mark(rt: HostRuntime) -> Result<(), Fail> {
     let domains = declared()?;
@@ -28,23 +32,20 @@ fn software_leaves_out_the_domain_of_the_mark(rt: HostRuntime) -> Result<(), Fai
         dom: Dom::new(4).ok_or("domain")?,
     });
     let software = Some(Mark { dom: Dom::SOFTWARE });
-    let last = 1 << 63;
+    let last = 1 << 62;
     let rows = [
-        (0b11111, None, 0b11111),
-        (0b11111, chip, 0b11001),
-        (0b11111, software, 0b10110),
-        (0b00110, chip, 0),
-        (0b11000, chip, 0b11000),
-        (last | 0b101100, chip, last | 0b101000),
-        (last | 0b101100, other, 0b001100),
-        (last | 0b101100, software, last | 0b100100),
-        (0, chip, 0),
+        ([0b11111, 0], None, [0b11111, 0]),
+        ([0b11111, 0], chip, [0b11001, 0]),
+        ([0b11111, 0], software, [0b10110, 0]),
+        ([0b00110, 0], chip, [0, 0]),
+        ([0b11000, 0], chip, [0b11000, 0]),
+        ([0b101100, last], chip, [0b101000, last]),
+        ([0b101100, last], other, [0b001100, 0]),
+        ([0b101100, last], software, [0b100100, last]),
+        ([0, 0], chip, [0, 0]),
     ];
     for (ports, mark, left) in rows {
-        assert_eq!(rt;
-            remaining(Ports::from_word(ports), mark, &domains),
-            Ports::from_word(left)
-        );
+        assert_eq!(rt; remaining(set(ports), mark, &domains), set(left));
     }
     Ok(())
 }

@@ -1,5 +1,5 @@
 -- Of how many groups each port is a member, through a join and a part.
-use Rattle.std.proofs.Common.{◌≡◌, ◌≢◌, ℕ, zero, suc, ◌+◌, ◌-◌, ◌<◌, ◌≤◌, Bool, true, false, cond, not, eqb, Option, Some, None, List, [], ◌∷◌, length, map, get_or, set, replicate, refl, sym, ap, ap₂, subst, ◌∙◌, arith, get_or-set_same, get_or-set_other}
+use Rattle.std.proofs.Common.{◌≡◌, ◌≢◌, ℕ, zero, suc, ◌+◌, ◌-◌, ◌<◌, ◌≤◌, Bool, true, false, cond, not, Option, Some, None, List, [], ◌∷◌, length, map, get_or, set, replicate, refl, sym, ap, ap₂, subst, ◌∙◌, arith, get_or-set_same, get_or-set_other}
 use Rattle.std.specs.Prelude.{◌==◌, ◌&&◌, ◌||◌, is_some}
 use Rattle.std.specs.List.{filter}
 use Rattle.std.specs.Ordering.{nat_cmp, is_eq, eq_by_cmp, ordering_then}
@@ -10,6 +10,7 @@ use Rattle.std.specs.FinMap.{nat_cmp-IsAntisymmetric}
 use Rattle.std.specs.FinMap.Entries.{by_order}
 use Rattle.std.proofs.Math.ListN.{length-set}
 use Rattle.std.proofs.lemmas.Bool.{eqb-true, eq-eqb}
+use Rattle.br_model.specs.Table.Domains.{port_places}
 use Rattle.br_model.specs.declared.group.Group.{Group}
 use Rattle.br_model.specs.Table.GroupPairs.{GroupPair, max_pairs}
 use Rattle.br_model.specs.Table.Groups.{Membership, membership_cmp, group_cmp}
@@ -19,7 +20,7 @@ use Rattle.br_model.proofs.GroupOrders.{membership_total, equal_pairs, by_pair}
 use Rattle.port_sets.specs.Numbers.{has_number}
 use Rattle.mdb_snoop.specs.Counts.{AreCounts}
 use Rattle.mdb_snoop.specs.Database.{pairs_of_port, ports_in}
-use Rattle.mdb_snoop.specs.Places.{Section, Sections, flat, has_some, IsSound}
+use Rattle.mdb_snoop.specs.Places.{Sections, flat, has_some, IsSound}
 use Rattle.mdb_snoop.proofs.Cuts.{get_above, above_from}
 use Rattle.mdb_snoop.proofs.Questions.{pairs-flat}
 use Rattle.std.specs.Ordering.{nat_cmp}
@@ -100,10 +101,10 @@ zeros zero i = refl
 zeros (suc n) zero = refl
 zeros (suc n) (suc i) = zeros n i
 
-pub counted-none : (counts : List ℕ) → counts ≡ replicate 64 0 → AreCounts counts []
+pub counted-none : (counts : List ℕ) → counts ≡ replicate port_places 0 → AreCounts counts []
 counted-none counts is = record {
   sized = ap length is;
-  counted = λ p. ap (λ (l : List ℕ). get_or l p 0) is ∙ zeros 64 p;
+  counted = λ p. ap (λ (l : List ℕ). get_or l p 0) is ∙ zeros port_places p;
 }
 
 -- what is written at one port, and read at another
@@ -130,7 +131,7 @@ module _ (counts : List ℕ) (m after : Members) (k : Membership) (are : AreCoun
   there = is_some (get membership_cmp m k)
 
   pub counted-join : (new : List ℕ) (x : Option ℕ) (b : Bool) → after ≡ put membership_cmp m k x → b ≡ not (is_some (get membership_cmp m k))
-      → new ≡ cond b (set counts k.2 (get_or counts k.2 0 + 1)) counts → k.2 < 64 → AreCounts new (keys after)
+      → new ≡ cond b (set counts k.2 (get_or counts k.2 0 + 1)) counts → k.2 < port_places → AreCounts new (keys after)
   counted-join new x b put_is new_is is low = subst (λ l. AreCounts l (keys after)) (sym is) (by b new_is)
     where
       grows : (p : ℕ) → count p after ≡ cond (is_some (get membership_cmp m k)) 0 (one p k) + count p m
@@ -154,7 +155,7 @@ module _ (counts : List ℕ) (m after : Members) (k : Membership) (are : AreCoun
           }
 
   pub counted-part : (new : List ℕ) (b : Bool) → after ≡ without membership_cmp m k → b ≡ is_some (get membership_cmp m k)
-      → new ≡ cond b (set counts k.2 (get_or counts k.2 0 - 1)) counts → k.2 < 64 → AreCounts new (keys after)
+      → new ≡ cond b (set counts k.2 (get_or counts k.2 0 - 1)) counts → k.2 < port_places → AreCounts new (keys after)
   counted-part new b without_is was is low = subst (λ l. AreCounts l (keys after)) (sym is) (by b was)
     where
       shrinks : (p : ℕ) → count p after + cond (is_some (get membership_cmp m k)) (one p k) 0 ≡ count p m

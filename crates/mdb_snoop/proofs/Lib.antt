@@ -2,6 +2,7 @@ pub mod Counts
 pub mod Cuts
 pub mod Flat
 pub mod Mapped
+pub mod PortNumbers
 pub mod Questions
 pub mod Search
 pub mod Soonest

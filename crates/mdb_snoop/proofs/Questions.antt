@@ -1,7 +1,7 @@
 -- What questions find in the sections.
 use Rattle.std.proofs.Common.{◌≡◌, ℕ, zero, suc, ◌+◌, ◌<◌, Bool, true, false, cond, ◌&&◌, ◌||◌, Option, Some, None, List, [], ◌∷◌, ◌++◌, length, map, take, drop, get_or, refl, sym, ap, ◌∙◌, arith}
 use Rattle.std.specs.Prelude.{◌==◌, nat_lt, is_some, slice_get}
-use Rattle.std.specs.List.{filter, list_all, range_with_len}
+use Rattle.std.specs.List.{filter, list_all}
 use Rattle.std.specs.Ordering.{nat_cmp, is_eq, is_lt, eq_by_cmp, match_ordering, ordering_reverse}
 use Rattle.std.specs.declared.cmp.Ordering.TheVariants.{Less}
 use Rattle.std.specs.Cmp.{tied_itself, first_so, second_so, nat_cmp_total, unsigned_ties}
@@ -16,8 +16,7 @@ use Rattle.br_model.specs.Data.Maps.{get, has, joined, is_ascending}
 use Rattle.br_model.specs.Control.Ends.{due_members, is_over, keys}
 use Rattle.mdb_snoop.specs.Database.{ports_in, pairs_of_port}
 use Rattle.mdb_snoop.specs.Places.{Section, Sections, section, flat, all_below, all_above, has_some, is_fit, IsSound, IsAt, IsGap}
-use Rattle.port_sets.specs.Numbers.{numbers_below, has_number, IsSetBelow}
-use Rattle.br_model.proofs.Ranges.{filter-range_more}
+use Rattle.port_sets.specs.Numbers.{has_number}
 use Rattle.mdb_snoop.proofs.Cuts.{is_Less, is_Greater}
 use Rattle.mdb_snoop.proofs.Flat.{at_port, flat-append}
 use Rattle.mdb_snoop.proofs.Mapped.{tied_back}

@@ -1,14 +1,19 @@
 -- Members by their VLAN and group, in the order of these keys, and where a key stands.
 use Rattle.std.specs.Prelude.{◌≡◌, ℕ, ◌+◌, ◌<◌, ◌≤◌, Bool, true, false, ◌&&◌, List, [], ◌∷◌, ◌++◌, length, map, take, drop, slice_index_or, slice_set}
-use Rattle.std.specs.List.{list_all}
+use Rattle.std.specs.List.{All, list_all}
 use Rattle.std.specs.declared.option.Option.{Option}
 use Rattle.std.specs.declared.option.Option.TheVariants.{None, Some}
 use Rattle.std.specs.declared.cmp.Ordering.{Ordering}
 use Rattle.std.specs.Ordering.{nat_cmp, is_lt, is_gt}
+use Rattle.br_model.specs.Table.Domains.{last_port}
 use Rattle.br_model.specs.Table.GroupPairs.{GroupPair, group_pair_cmp, max_pairs}
 use Rattle.br_model.specs.Table.Groups.{Membership}
 use Rattle.br_model.specs.Data.Maps.{is_ascending}
 use Rattle.br_model.specs.Table.Table.{ip_version}
+
+-- each number is that of a port
+abbrev pub ArePorts : List ℕ → Type 0
+ArePorts numbers = All (λ n. n ≤ last_port) numbers
 
 -- the members of one group in one VLAN, each with its end
 abbrev pub Section : Type 0

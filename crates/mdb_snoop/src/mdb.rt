@@ -1,7 +1,9 @@
 //! The multicast database.
 ghost use Rattle.std.specs.Prelude.{◌≡◌, ◌+◌, ◌≤◌, min, ℕ, IsTrue, IfOk, None, Some, [], false, true, is_some, length, not, slice_get};
+ghost use Rattle.std.specs.List.{All};
 ghost use Rattle.std.specs.List.Sorted.{IsStrictlySortedBy};
 ghost use Rattle.std.specs.Ordering.{nat_cmp};
+ghost use Rattle.br_model.specs.Table.Domains.{last_port};
 ghost use Rattle.br_model.specs.Table.GroupPairs.{group_pairs, has_room, max_pairs};
 ghost use Rattle.br_model.specs.Table.Groups.{membership_cmp};
 ghost use Rattle.br_model.specs.Data.Maps.{get, has, put, without, joined, parted, is_ascending};
@@ -226,6 +228,7 @@ impl Mdb {
     pub fn expire(&self, alloc: Global, now: u64) -> Result<Ended, NoMemory>
         ensures groups { IfOk result (λ e. e.groups ≡ due_members now self.now.groups) }
         ensures routers { IfOk result (λ e. e.routers ≡ due now self.now.routers) }
+        ensures ports { IfOk result (λ e. All (λ n. n ≤ last_port) e.routers) }
         ensures four { IfOk result (λ e. e.four ≡ has nat_cmp (due now self.now.queriers) (ip_version false)) }
         ensures six { IfOk result (λ e. e.six ≡ has nat_cmp (due now self.now.queriers) (ip_version true)) }
         ensures queriers { IfOk result (λ e. due now self.now.queriers ≡ versions e.four e.six) }

@@ -4,7 +4,7 @@ ghost use Rattle.std.specs.Ordering.{nat_cmp};
 ghost use Rattle.br_model.specs.Data.Maps.{get, put, without};
 ghost use Rattle.br_model.specs.Control.Ends.{due_members, end_of, keys};
 ghost use Rattle.mdb_snoop.specs.Database.{end_joined, ending_soon, is_dynamic, joined_until};
-ghost use Rattle.mdb_snoop.specs.Places.{has_some};
+ghost use Rattle.mdb_snoop.specs.Places.{ArePorts, has_some};
 ghost use Rattle.mdb_snoop.specs.Soonest.{soonest_member};
 
 use crate::ends::Ends;
@@ -24,10 +24,13 @@ impl<E: Ends> Model for Members<E> {
     ghost use Rattle.std.specs.Prelude.{ℕ, Option, List, map};
     ghost use Rattle.std.specs.Ordering.{nat_cmp};
     ghost use Rattle.br_model.specs.Data.Maps.{get};
+    ghost use Rattle.mdb_snoop.specs.Places.{ArePorts};
 
     ghost Value = { List (ℕ × Option ℕ) };
 
     ghost view = { λ m. map (λ port. (port, get nat_cmp (E.moments m.ends) port)) m.ports };
+
+    ghost invariant = { λ m. ArePorts m.ports };
 }
 
 impl<E: Ends> Members<E> {
@@ -150,7 +153,8 @@ impl Members<Moments> {
 
     /// The members that end at `now` or before.
     pub fn due(&self, now: u64) -> Ports
-        ensures { result ≡ due_members now self.now }
+        ensures value { result ≡ due_members now self.now }
+        ensures ports { ArePorts result }
     {
         // law: the members ascend
         self.ports.members_ascend();

@@ -4,6 +4,7 @@ ghost use Rattle.std.specs.Ordering.{nat_cmp};
 ghost use Rattle.br_model.specs.Table.Domains.{port_places};
 ghost use Rattle.br_model.specs.Data.Maps.{get, put, without, is_ascending};
 ghost use Rattle.br_model.specs.Control.Ends.{due, is_over, keys};
+ghost use Rattle.mdb_snoop.specs.Places.{ArePorts};
 ghost use Rattle.mdb_snoop.specs.Soonest.{moment_of, soonest_member, soonest_moment};
 ghost use Rattle.port_sets.specs.Numbers.{has_number, numbers_below};
 
@@ -21,10 +22,13 @@ pub struct Moments {
 
 impl Model for Moments {
     ghost use Rattle.std.specs.Prelude.{ℕ, List, map, slice_index};
+    ghost use Rattle.mdb_snoop.specs.Places.{ArePorts};
 
     ghost Value = { List (ℕ × ℕ) };
 
     ghost view = { λ m. map (λ port. (port, slice_index m.moments port)) m.ports };
+
+    ghost invariant = { λ m. ArePorts m.ports };
 }
 
 impl Moments {
@@ -126,6 +130,7 @@ impl Moments {
     pub fn due(&self, now: u64) -> Ports
         ensures value { result ≡ due now self.now }
         ensures members { (n : ℕ) → has_number result n ≡ is_over now (get nat_cmp self.now n) }
+        ensures ports { ArePorts result }
     {
         // law: the members ascend
         self.ports.members_ascend();

@@ -3,13 +3,13 @@ ghost use Rattle.std.specs.Prelude.{◌≡◌, ℕ, ◌+◌, ◌++◌, ◌∷◌
 ghost use Rattle.std.specs.Prelude.{length, map, vec_capacity, slice_get};
 ghost use Rattle.std.specs.List.{filter, insert};
 ghost use Rattle.std.specs.Ordering.{nat_cmp};
-ghost use Rattle.br_model.specs.Table.Domains.{port_places};
+ghost use Rattle.br_model.specs.Table.Domains.{last_port};
 ghost use Rattle.br_model.specs.Table.GroupPairs.{group_pair_cmp, has_room, max_pairs};
 ghost use Rattle.br_model.specs.Table.Groups.{membership_cmp};
 ghost use Rattle.br_model.specs.Data.Maps.{get, without, is_ascending};
 ghost use Rattle.br_model.specs.Control.Ends.{due_members, keys};
 ghost use Rattle.mdb_snoop.specs.Database.{ending_soon, is_dynamic, joined_until, ports_in};
-ghost use Rattle.mdb_snoop.specs.Places.{IsAt, IsGap, IsSound, Section as SectionValue, changed_at, flat, section};
+ghost use Rattle.mdb_snoop.specs.Places.{ArePorts, IsAt, IsGap, IsSound, Section as SectionValue, changed_at, flat, section};
 ghost use Rattle.mdb_snoop.specs.Soonest.{soonest_member};
 
 use crate::NoMemory;
@@ -295,6 +295,7 @@ fn push_all(
     group: Group,
     ports: Ports,
 ) -> Result<(), NoMemory>
+    requires { ArePorts ports }
     ensures { IfOk result (λ _. out.new.items ≡ out.old.items ++ map (λ port. (vid, group, port)) ports) }
 {
     for number in ports.iter() {
@@ -310,7 +311,7 @@ fn push_member(
     group: Group,
     number: u8,
 ) -> Result<(), NoMemory>
-    requires { number < port_places }
+    requires { number ≤ last_port }
     ensures { IfOk result (λ _. out.new.items ≡ out.old.items ++ (vid, group, number) ∷ []) }
 {
     let Some(port) = Port::new(number) else {

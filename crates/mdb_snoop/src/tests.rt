@@ -133,7 +133,7 @@ fn ends_of_memberships(rt: HostRuntime) -> Result<(), Fail> {
 fn lists_ascend(rt: HostRuntime) -> Result<(), Fail> {
     let alloc = rt.alloc();
     let mut mdb = Mdb::make(alloc)?;
-    let (host, last) = (Port::HOST, port(63)?);
+    let (host, last) = (Port::HOST, port(Port::LAST)?);
     let (low, high) = (vid(1)?, vid(4094)?);
     for (v, g, p) in [
         (high, FOUR, last),
@@ -162,7 +162,10 @@ fn lists_ascend(rt: HostRuntime) -> Result<(), Fail> {
         [(low, SIX)].as_slice()
     );
     assert_eq!(rt; mdb.pairs(), 3);
-    assert_eq!(rt; mdb.members(low, SIX), Ports::empty().with(0).with(63));
+    assert_eq!(rt;
+        mdb.members(low, SIX),
+        Ports::empty().with(0).with(Port::LAST)
+    );
     assert!(rt; mdb.members(high, SIX).is_empty());
     Ok(())
 }
@@ -229,35 +232,36 @@ fn copies_stand_alone(rt: HostRuntime) -> Result<(), Fail> {
     Ok(())
 }
 
-/// There is room for 1,024 pairs of 63 members each, and for no more pairs.
+/// There is room for 1,024 pairs, for each port in one of them, and for no more pairs.
 #[test]
 fn room_for_pairs(rt: HostRuntime) -> Result<(), Fail> {
     let mut mdb = Mdb::make(rt.alloc())?;
     let v = vid(1)?;
-    for number in 1..64 {
-        let p = port(number)?;
-        for group in 0..1024 {
-            assert!(rt; join(&mut mdb, v, Group::V4(0xefff_0000 - group), p, Some(9)));
-        }
+    let last = port(Port::LAST)?;
+    for group in 0..1024 {
+        assert!(rt; join(&mut mdb, v, Group::V4(0xefff_0000 - group), last, Some(9)));
+    }
+    for number in 1..Port::LAST {
+        assert!(rt; join(&mut mdb, v, Group::V4(0xefff_0000), port(number)?, Some(9)));
     }
     assert_eq!(rt; mdb.pairs(), 1024);
     assert!(rt; !join(&mut mdb, v, FOUR, Port::HOST, Some(9)));
     assert!(rt; join(&mut mdb, v, Group::V4(0xefff_0000), Port::HOST, None));
     assert_eq!(rt;
         mdb.expire(rt.alloc(), 9)?.groups.as_slice().len(),
-        1024 * 63
+        1023 + usize::from(Port::LAST)
     );
     assert!(rt; mdb.part(v, Group::V4(0xefff_0000), Port::HOST));
     assert_eq!(rt; mdb.pairs(), 1024);
     Ok(())
 }
 
-/// All that there can be takes less than 2 MB.
+/// All that there can be takes less than 2.4 MB.
 #[test]
 fn sections_are_small(rt: HostRuntime) {
-    assert_eq!(rt; size_of::<Section<Moments>>(), 576);
-    assert!(rt; size_of::<Section<NoEnds>>() <= 64);
-    assert!(rt; size_of::<Section<Moments>>() * MOST_PAIRS < 2_000_000);
+    assert_eq!(rt; size_of::<Section<Moments>>(), 2160);
+    assert!(rt; size_of::<Section<NoEnds>>() <= 80);
+    assert!(rt; size_of::<Section<Moments>>() * MOST_PAIRS < 2_400_000);
 }
 
 /// Members without ends: how many pairs there are, who is a member at a place, and of any.

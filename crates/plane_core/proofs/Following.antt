@@ -23,20 +23,11 @@ use Rattle.chip_driver.proofs.Taking.{taken}
 
 -- what fits the table of a driver is taken, unless it is of an address
 taken_by : (domains : Domains) (driver : Driven) (t : Table) (edition : Edition) (c : Change) → Drives domains driver t → deferred edition c ≡ false → IsTrue (fits t c) → IsTaken driver c
-taken_by domains driver t edition (PortUp port) stands now fit = tt
-taken_by domains driver t edition (PortDown port) stands now fit = tt
-taken_by domains driver t edition (SetFlags port flags) stands now fit = tt
 taken_by domains driver t edition (SetState port number) stands now fit = leb-true number 4 fit
-taken_by domains driver t edition (VlanAdd port vid untagged pvid) stands now fit = tt
-taken_by domains driver t edition (VlanDel port vid) stands now fit = tt
 taken_by domains driver t edition (GroupJoin port vid group) stands now fit = subst (λ (ms : List Membership). IsTrue (has_room ms vid group)) (sym stands.groups) fit
-taken_by domains driver t edition (GroupPart port vid group) stands now fit = tt
-taken_by domains driver t edition (Router port on) stands now fit = tt
-taken_by domains driver t edition (Querier six on) stands now fit = tt
-taken_by domains driver t edition (Snoop on) stands now fit = tt
-taken_by domains driver t edition (Stp on) stands now fit = tt
 taken_by domains driver t edition (AddrPut vid mac port kind) stands now fit = absurd (cc)
 taken_by domains driver t edition (AddrDel vid mac) stands now fit = absurd (cc)
+taken_by domains driver t edition c stands now fit = tt
 
 module _ (edition : Edition) where
   -- what fits the table of a history fits a driver that stands for a cut of it

@@ -10,20 +10,8 @@ use Rattle.switchdev_notify.specs.declared.notice.Notice.{Notice}
 use Rattle.switchdev_notify.specs.Notices.{after, after_told, change_of, told_in, unless_deferred, Takes, TakesTold}
 
 unless_as : (edition : Edition) (c : Change) → unless_deferred edition (if is_of_address c then None else Some c) ≡ (if deferred edition c then None else Some c)
-unless_as edition (PortUp port) = refl
-unless_as edition (PortDown port) = refl
-unless_as edition (SetFlags port flags) = refl
-unless_as edition (SetState port number) = refl
-unless_as edition (VlanAdd port vid untagged pvid) = refl
-unless_as edition (VlanDel port vid) = refl
-unless_as edition (GroupJoin port vid group) = refl
-unless_as edition (GroupPart port vid group) = refl
-unless_as edition (Router port on) = refl
-unless_as edition (Querier six on) = refl
-unless_as edition (Snoop on) = refl
-unless_as edition (Stp on) = refl
 unless_as edition (AddrPut vid mac port kind) = refl
-unless_as edition (AddrDel vid mac) = refl
+unless_as edition c = refl
 
 module _ (edition : Edition) (c : Change) (n : Notice) (tells : change_of n ≡ (if is_of_address c then None else Some c)) where
   told_as : told_in edition n ≡ (if deferred edition c then None else Some c)

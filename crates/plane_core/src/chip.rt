@@ -67,19 +67,7 @@ fn entry_put(change: &Change) -> Option<(Vid, Mac)>
 {
     match *change {
         Change::AddrPut { vid, mac, .. } => Some((vid, mac)),
-        Change::PortUp(_)
-        | Change::PortDown(_)
-        | Change::SetFlags(..)
-        | Change::SetState(..)
-        | Change::VlanAdd { .. }
-        | Change::VlanDel { .. }
-        | Change::GroupJoin { .. }
-        | Change::GroupPart { .. }
-        | Change::Router { .. }
-        | Change::Querier { .. }
-        | Change::Snoop(_)
-        | Change::Stp(_)
-        | Change::AddrDel { .. } => None,
+        _ => None,
     }
 }
 

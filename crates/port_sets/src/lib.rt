@@ -21,8 +21,8 @@ pub struct PortSet<const W: usize> {
     words: [u64; W],
 }
 
-/// A set of the ports of a bridge, whose numbers are below 64.
-pub type Ports = PortSet<1>;
+/// A set of the ports of a bridge, whose numbers are below 256.
+pub type Ports = PortSet<4>;
 
 impl<const W: usize> Model for PortSet<W> {
     ghost use Rattle.std.specs.Prelude.{List, ℕ};

@@ -6,6 +6,7 @@ use Rattle.std.proofs.lemmas.List.{append-nil}
 use Rattle.std.proofs.lemmas.List.FromFn.{map-range_with_len_more}
 use Rattle.std.proofs.lemmas.List.Folds.{flat_map-map}
 use Rattle.br_model.specs.Forward.Leave.{all_ports}
+use Rattle.br_model.specs.Table.Domains.{port_places}
 use Rattle.br_model.specs.Text.Roster.{Entry, has_number, host_name}
 use Rattle.br_model.specs.Text.Spelling.{name_of, device_text}
 
@@ -53,6 +54,6 @@ port_more line at s0 s1 s2 n port e g is =
     ∙ ap (λ (t : List ℕ). s0 ++ t) (sym (flat_map-append line (flat_map at (range_with_len 0 n)) (at n)))
     ∙ ap (λ (xs : List _). s0 ++ flat_map line xs) (sym (range_more at n))
 
-pub all_numbers : {A : Type 0} (at : ℕ → List A) (n : ℕ) → n ≡ 64 → flat_map at (range_with_len 0 n) ≡ flat_map at all_ports
+pub all_numbers : {A : Type 0} (at : ℕ → List A) (n : ℕ) → n ≡ port_places → flat_map at (range_with_len 0 n) ≡ flat_map at all_ports
 unfolding all_ports
 all_numbers at n e = ap (λ (k : ℕ). flat_map at (range_with_len 0 k)) e

@@ -1,9 +1,9 @@
 -- Lines in their plainest spelling.
-use Rattle.std.proofs.Common.{◌≡◌, ℕ, ◌+◌, ◌-◌, ◌*◌, ◌==◌, ◌≤◌, nat_le, Bool, true, false, not, ◌&&◌, if◌then◌else◌, cond, List, [], ◌∷◌, ◌++◌, length, take, drop, map, get_or, codes, Option, Some, None, unwrap_or, Ok, Err, refl, ap, sym, ◌∙◌, arith}
+use Rattle.std.proofs.Common.{◌≡◌, ℕ, ◌+◌, ◌-◌, ◌==◌, ◌≤◌, nat_le, Bool, true, false, not, ◌&&◌, if◌then◌else◌, cond, List, [], ◌∷◌, ◌++◌, length, take, drop, map, get_or, codes, Option, Some, None, unwrap_or, Ok, Err, refl, ap, sym, ◌∙◌, arith}
 use Rattle.std.specs.Char.{is_ascii}
 use Rattle.std.specs.Cmp.{first_so, second_so}
 use Rattle.std.specs.List.{filter, list_all, slice_split, onto_first}
-use Rattle.std.proofs.lemmas.Bool.{and_from, not-true, not_from_false, ne_eqb}
+use Rattle.std.proofs.lemmas.Bool.{and_from, not-true}
 use Rattle.std.proofs.lemmas.List.{take_all}
 use Rattle.br_model.specs.declared.scenario.LineWhy.TheVariants as why
 use Rattle.br_model.specs.declared.scenario.Said.TheVariants.{Does}
@@ -134,7 +134,7 @@ entered r entry rest number port bytes place s known spelled none =
     ∙ ap (all_say r) (three_words s.word rest plain (is_some_word s.word number_is) (hex_plain rest bytes spelled) (some_digits rest bytes spelled some))
     ∙ rx_says r s.word rest port bytes place (known_number r s.word number port s.spells known) (hexed rest bytes spelled some)
 
--- words of one digit and of two
+-- words of one digit to three
 
 front_two : (xs : List ℕ) → 2 ≤ length xs → xs ≡ get_or xs 0 0 ∷ get_or xs 1 0 ∷ take (length xs - 2) (drop 2 xs)
 front_two [] h = absurd (omega arith)
@@ -147,19 +147,12 @@ front_three (x ∷ []) h = absurd (omega arith)
 front_three (x ∷ y ∷ []) h = absurd (omega arith)
 front_three (x ∷ y ∷ z ∷ xs) h = ap (λ ys. x ∷ y ∷ z ∷ ys) (sym (take_all (length (x ∷ y ∷ z ∷ xs) - 3) xs (omega arith)))
 
-digit_is : (c : ℕ) → 48 ≤ c → c ≤ 57 → is_digit c ≡ true
-digit_is c low high = grind arith
-
-pub one_spells : (a : ℕ) → 48 ≤ a → a ≤ 57 → decimal_from (a ∷ []) ≡ Some (a - 48)
-one_spells a low high =
-    let value : 0 + (a - 48) ≡ a - 48 = omega arith in
-    ap (λ b. if b then Some (digits_value (a ∷ [])) else None) (and_from _ _ (and_from _ _ (digit_is a low high) refl) refl) ∙ ap Some value
-
-pub two_spell : (a b : ℕ) → 48 ≤ a → a ≤ 57 → (a ≡ 48 → ⊥) → 48 ≤ b → b ≤ 57 → decimal_from (a ∷ b ∷ []) ≡ Some (10 * (a - 48) + (b - 48))
-two_spell a b low high some second most =
-    let value : 10 * (0 + (a - 48)) + (b - 48) ≡ 10 * (a - 48) + (b - 48) = omega arith in
-    ap (λ t. if t then Some (digits_value (a ∷ b ∷ [])) else None) (and_from _ _ (and_from _ _ (digit_is a low high) (and_from _ _ (digit_is b second most) refl)) (not_from_false _ (ne_eqb a 48 some)))
-    ∙ ap Some value
+front_four : (xs : List ℕ) → 4 ≤ length xs → xs ≡ get_or xs 0 0 ∷ get_or xs 1 0 ∷ get_or xs 2 0 ∷ get_or xs 3 0 ∷ take (length xs - 4) (drop 4 xs)
+front_four [] h = absurd (omega arith)
+front_four (x ∷ []) h = absurd (omega arith)
+front_four (x ∷ y ∷ []) h = absurd (omega arith)
+front_four (x ∷ y ∷ z ∷ []) h = absurd (omega arith)
+front_four (w ∷ x ∷ y ∷ z ∷ xs) h = ap (λ ys. w ∷ x ∷ y ∷ z ∷ ys) (sym (take_all (length (w ∷ x ∷ y ∷ z ∷ xs) - 4) xs (omega arith)))
 
 pub one_digit : (text : List ℕ) (n : ℕ) → 2 ≤ length text → get_or text 1 0 ≡ 32 → decimal_from (get_or text 0 0 ∷ []) ≡ Some n → Numbered text n (take (length text - 2) (drop 2 text))
 one_digit text n long space spells = record {
@@ -172,6 +165,14 @@ pub two_digits : (text : List ℕ) (n : ℕ) → 3 ≤ length text → get_or te
 two_digits text n long space spells = record {
   word = get_or text 0 0 ∷ get_or text 1 0 ∷ [];
   text_is = front_three text long ∙ ap (λ s. get_or text 0 0 ∷ get_or text 1 0 ∷ s ∷ take (length text - 3) (drop 3 text)) space;
+  spells = spells;
+}
+
+pub three_digits : (text : List ℕ) (n : ℕ) → 4 ≤ length text → get_or text 3 0 ≡ 32 → decimal_from (get_or text 0 0 ∷ get_or text 1 0 ∷ get_or text 2 0 ∷ []) ≡ Some n
+    → Numbered text n (take (length text - 4) (drop 4 text))
+three_digits text n long space spells = record {
+  word = get_or text 0 0 ∷ get_or text 1 0 ∷ get_or text 2 0 ∷ [];
+  text_is = front_four text long ∙ ap (λ s. get_or text 0 0 ∷ get_or text 1 0 ∷ get_or text 2 0 ∷ s ∷ take (length text - 4) (drop 4 text)) space;
   spells = spells;
 }
 

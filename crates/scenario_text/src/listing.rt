@@ -75,17 +75,17 @@ fn is_pvid(table: &Table, port: Port, vid: Vid) -> bool
 }
 
 fn append_memberships_of(
-    port: Port,
+    number: u8,
     table: &Table,
     roster: &Roster,
     to: &mut String,
 ) -> Result<(), NoMemory>
-    ensures { OnOk result (string_bytes to.new ≡ string_bytes to.old ++ flat_map (vlan_line roster.now.ports table.now.pvid) (filter (λ e. e.0.1 == port) table.now.vlans)) }
+    ensures { OnOk result (string_bytes to.new ≡ string_bytes to.old ++ flat_map (vlan_line roster.now.ports table.now.pvid) (filter (λ e. e.0.1 == number) table.now.vlans)) }
 {
-    for ((vid, member), untagged) in table.memberships() {
-        if *member == port {
-            let pvid = is_pvid(table, port, *vid);
-            append_membership(device(roster, port), *vid, pvid, *untagged, to)?;
+    for ((vid, port), untagged) in table.memberships() {
+        if port.number() == number {
+            let pvid = is_pvid(table, *port, *vid);
+            append_membership(device(roster, *port), *vid, pvid, *untagged, to)?;
         }
     }
     Ok(())
@@ -95,10 +95,7 @@ fn append_memberships(table: &Table, roster: &Roster, to: &mut String) -> Result
     ensures { OnOk result (string_bytes to.new ≡ string_bytes to.old ++ flat_map (vlan_line roster.now.ports table.now.pvid) (by_port table.now.vlans)) }
 {
     for number in 0..Port::PLACES {
-        let Some(port) = Port::new(number as u8) else {
-            unreachable!();
-        };
-        append_memberships_of(port, table, roster, to)?;
+        append_memberships_of(number as u8, table, roster, to)?;
     }
     Ok(())
 }

@@ -41,7 +41,17 @@ fn two_digits(a: u8, b: u8) -> Option<u8>
     }
 }
 
-/// The number that the first word spells, if it is one digit or two, and what follows the space after that word.
+/// The number that three digits spell, if it is below 256.
+fn three_digits(a: u8, b: u8, c: u8) -> Option<u8>
+    ensures { IfSome result (λ n. decimal_from (a ∷ b ∷ c ∷ []) ≡ Some n) }
+{
+    if !c.is_ascii_digit() {
+        return None;
+    }
+    two_digits(a, b)?.checked_mul(10)?.checked_add(c - b'0')
+}
+
+/// The number that the first word spells, if it is below 256, and what follows the space after that word.
 fn first_number(entry: &[u8]) -> Option<(u8, &[u8])>
     ensures { IfSome result (λ found. Numbered entry.now found.0 found.1.now) }
 {
@@ -51,6 +61,10 @@ fn first_number(entry: &[u8]) -> Option<(u8, &[u8])>
     }
     if let [a, b, b' ', rest @ ..] = entry {
         let number = two_digits(*a, *b)?;
+        return Some((number, rest));
+    }
+    if let [a, b, c, b' ', rest @ ..] = entry {
+        let number = three_digits(*a, *b, *c)?;
         return Some((number, rest));
     }
     None

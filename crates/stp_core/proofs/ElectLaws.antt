@@ -1,9 +1,10 @@
 -- The election, one place after another.
-use Rattle.std.proofs.Common.{◌≡◌, ℕ, suc, ◌+◌, ◌<◌, List, [], ◌∷◌, ◌++◌, length, take, get_or, Option, None, Some, Bool, true, false, cond, subst, append-nil, refl, ap, ◌∙◌, arith}
+use Rattle.std.proofs.Common.{◌≡◌, ℕ, suc, ◌+◌, ◌<◌, ◌≤◌, List, [], ◌∷◌, ◌++◌, length, take, get_or, Option, None, Some, Bool, true, false, cond, subst, append-nil, refl, ap, ◌∙◌, arith}
 use Rattle.std.specs.List.{fold, filter_map, cons_option}
 use Rattle.std.specs.Option.{ForSome, option_map_or, option_and_then}
 use Rattle.std.specs.Ordering.{ord_min, is_lt}
 use Rattle.std.proofs.lemmas.List.Elements.{filter_map-append}
+use Rattle.br_model.specs.Table.Domains.{last_port}
 use Rattle.br_model.specs.declared.tree.Candidate.{Candidate}
 use Rattle.br_model.specs.declared.tree.TreePort.{TreePort}
 use Rattle.br_model.specs.Tree.Vectors.{candidate_cmp, candidate, least}
@@ -39,10 +40,10 @@ least-more id i ps h =
     ∙ least-push (filter_map (candidate id) (entries_at 0 (take i ps))) (option_and_then (λ x. candidate id (i, x)) (get_or ps i None))
 
 -- the lesser of two candidates is at one of their ports
-pub below-added : (m : Option Candidate) (c : Candidate) → ForSome m (λ b. b.port < 64) → c.port < 64 → ForSome (added m (Some c)) (λ b. b.port < 64)
-below-added None c before here x e = let same : c ≡ x = cc in subst (λ (y : Candidate). y.port < 64) same here
-below-added (Some b) c before here x e = either (is_lt (candidate_cmp c b)) x e
+pub last-added : (m : Option Candidate) (c : Candidate) → ForSome m (λ b. b.port ≤ last_port) → c.port ≤ last_port → ForSome (added m (Some c)) (λ b. b.port ≤ last_port)
+last-added None c before here x e = let same : c ≡ x = cc in subst (λ (y : Candidate). y.port ≤ last_port) same here
+last-added (Some b) c before here x e = either (is_lt (candidate_cmp c b)) x e
   where
-    either : (t : Bool) (x : Candidate) → Some (cond t c b) ≡ Some x → x.port < 64
-    either true x e = let same : c ≡ x = cc in subst (λ (y : Candidate). y.port < 64) same here
-    either false x e = let same : b ≡ x = cc in subst (λ (y : Candidate). y.port < 64) same (before b refl)
+    either : (t : Bool) (x : Candidate) → Some (cond t c b) ≡ Some x → x.port ≤ last_port
+    either true x e = let same : c ≡ x = cc in subst (λ (y : Candidate). y.port ≤ last_port) same here
+    either false x e = let same : b ≡ x = cc in subst (λ (y : Candidate). y.port ≤ last_port) same (before b refl)

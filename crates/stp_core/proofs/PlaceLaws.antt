@@ -1,6 +1,7 @@
 -- Ports that are kept in a list with a place for each: what a change at places does to the entries.
 use Rattle.std.proofs.Common.{◌≡◌, ℕ, zero, suc, ◌+◌, ◌<◌, ◌≤◌, ◌==◌, nat_lt, ◌&&◌, ◌||◌, ◌⊎◌, inl, inr, Bool, true, false, cond, not, List, [], ◌∷◌, ◌++◌, length, map, set, take, get_or, Option, None, Some, refl, sym, ap, ap₂, ◌∙◌, arith}
-use Rattle.std.specs.List.{filter, list_any, range_with_len}
+use Rattle.std.specs.List.{All, filter, list_any, range_with_len}
+use Rattle.std.proofs.lemmas.List.Elements.{All-cons, All-nil}
 use Rattle.std.specs.Prelude.{IsTrue, ◌↔◌}
 use Rattle.std.specs.Option.{option_map, option_map_or}
 use Rattle.std.specs.declared.cmp.Ordering.TheVariants.{Less, Equal, Greater}
@@ -9,13 +10,14 @@ use Rattle.std.specs.FinMap.Entries.{by_order}
 use Rattle.std.proofs.lemmas.Bool.Decides.{nat_tests}
 use Rattle.std.proofs.lemmas.List.Folds.{list_any-append}
 use Rattle.std.proofs.lemmas.List.{get_or-set_same, get_or-set_other, length-set}
-use Rattle.std.proofs.lemmas.Bool.{cases_eq, eq-eqb, ne_eqb, lt-ltb, le-ltb, and_right, or_parts, cases_Bool, false≢true}
+use Rattle.std.proofs.lemmas.Bool.{cases_eq, eq-eqb, ne_eqb, lt-ltb, le-ltb, and_right, or_parts, cases_Bool, cases_lt, false≢true}
+use Rattle.br_model.specs.Table.Domains.{port_places}
 use Rattle.br_model.specs.declared.tree.TreePort.{TreePort}
 use Rattle.br_model.specs.Data.Maps.{get, put, without}
 use Rattle.br_model.specs.Tree.Tree.{each, numbers}
 use Rattle.port_sets.specs.Numbers.{numbers_below, has_number, IsSetBelow}
 use Rattle.port_sets.specs.WordsOfMembers.{has-below}
-use Rattle.stp_core.specs.Places.{entries_at}
+use Rattle.stp_core.specs.Places.{AreEmptyFrom, entries_at}
 
 -- how a port compares with those before and after it
 
@@ -48,6 +50,29 @@ module _ {X : Type 0} where
   entries-more n (suc i) (Some x ∷ ps) h =
       let e : (n + 1) + i ≡ n + suc i = omega arith in
       ap (λ (es : List (ℕ × X)). (n, x) ∷ es) (entries-more (n + 1) i ps (omega arith) ∙ ap (λ m. entries_at (n + 1) (take i ps) ++ entry_at m (get_or ps i None)) e)
+
+  none-here : (n : ℕ) (ps : List (Option X)) → AreEmptyFrom 0 ps → entries_at n ps ≡ []
+  none-here n [] h = refl
+  none-here n (None ∷ ps) h = none-here (n + 1) ps (λ k low. h (suc k) (omega arith))
+  none-here n (Some x ∷ ps) h = absurd (let e : Some x ≡ None = h 0 (omega arith) in cc)
+
+  -- the entries of the places before empty ones are all
+  pub entries-before : (n i : ℕ) (ps : List (Option X)) → AreEmptyFrom i ps → entries_at n (take i ps) ≡ entries_at n ps
+  entries-before n zero ps h = sym (none-here n ps h)
+  entries-before n (suc i) [] h = refl
+  entries-before n (suc i) (None ∷ ps) h = entries-before (n + 1) i ps (λ k low. h (suc k) (omega arith))
+  entries-before n (suc i) (Some x ∷ ps) h = ap (λ (es : List (ℕ × X)). (n, x) ∷ es) (entries-before (n + 1) i ps (λ k low. h (suc k) (omega arith)))
+
+  -- the numbers of places before empty ones
+  pub numbers-before : (m n : ℕ) (ps : List (Option X)) → ((k : ℕ) → m < n + k → get_or ps k None ≡ None) → All (λ p. p ≤ m) (map (λ e. e.0) (entries_at n ps))
+  numbers-before m n [] h = All-nil (λ p. p ≤ m)
+  numbers-before m n (None ∷ ps) h = numbers-before m (n + 1) ps (λ k up. h (suc k) (omega arith))
+  numbers-before m n (Some x ∷ ps) h =
+      All-cons (λ p. p ≤ m) n (map (λ e. e.0) (entries_at (n + 1) ps)) (low (cases_lt m n)) (numbers-before m (n + 1) ps (λ k up. h (suc k) (omega arith)))
+    where
+      low : (m < n) ⊎ (n ≤ m) → n ≤ m
+      low (inl up) = absurd (let e : Some x ≡ None = h 0 (omega arith) in cc)
+      low (inr few) = few
 
   -- what stands at a port
 
@@ -198,13 +223,24 @@ module _ (f : ℕ × TreePort → TreePort) (old : List (Option TreePort)) where
           ∙ before k
           ∙ ap (λ b. cond b (option_map (λ x. f (k, x)) (get_or old k None)) (get_or old k None)) (later k i apart)
 
-  -- all places
-  pub passed-all : (ps : List (Option TreePort)) → length ps ≡ length old → (n : ℕ) → length old ≤ n → Passed ps n → entries_at 0 ps ≡ each f (entries_at 0 old)
-  passed-all ps size n high all =
+  nothing : (k n : ℕ) → n ≤ k → AreEmptyFrom n old → (b : Bool) → cond b (option_map (λ x. f (k, x)) (get_or old k None)) (get_or old k None) ≡ None
+  nothing k n up empty true = ap (option_map (λ (x : TreePort). f (k, x))) (empty k up)
+  nothing k n up empty false = empty k up
+
+  -- all places, where those behind are empty
+  pub passed-all : (ps : List (Option TreePort)) → length ps ≡ length old → (n i : ℕ) → n ≤ i → AreEmptyFrom n old → Passed ps i → entries_at 0 ps ≡ each f (entries_at 0 old)
+  passed-all ps size n i high empty all =
       entries-each f 0 old ps size
-      (λ k m e low. all k
-      ∙ ap (λ b. cond b (option_map (λ x. f (k, x)) (get_or old k None)) (get_or old k None)) (lt-ltb k n (omega arith))
-      ∙ ap (λ j. option_map (λ x. f (j, x)) (get_or old k None)) (let g : k ≡ m = omega arith in g))
+      (λ k m e low. all k ∙ by k (cases_lt k n) ∙ ap (λ j. option_map (λ x. f (j, x)) (get_or old k None)) (let g : k ≡ m = omega arith in g))
+    where
+      by : (k : ℕ) → (k < n) ⊎ (n ≤ k)
+          → cond (nat_lt k i) (option_map (λ x. f (k, x)) (get_or old k None)) (get_or old k None) ≡ option_map (λ x. f (k, x)) (get_or old k None)
+      by k (inl low) = ap (λ b. cond b (option_map (λ x. f (k, x)) (get_or old k None)) (get_or old k None)) (lt-ltb k i (omega arith))
+      by k (inr up) = nothing k n up empty (nat_lt k i) ∙ sym (nothing k n up empty true)
+
+  -- those behind stay empty
+  pub passed-empty : (ps : List (Option TreePort)) (n i : ℕ) → AreEmptyFrom n old → Passed ps i → AreEmptyFrom n ps
+  passed-empty ps n i empty all k up = all k ∙ nothing k n up empty (nat_lt k i)
 
 -- A pass that collects: the members are the ports below i that pass.
 
@@ -213,7 +249,7 @@ module _ (t : ℕ × TreePort → Bool) (ps : List (Option TreePort)) where
   passes_at k = option_map_or (λ x. t (k, x)) (get_or ps k None) false
 
   abbrev pub Found : List ℕ → ℕ → Type 0
-  Found s i = (k : ℕ) → k < 64 → has_number s k ≡ (nat_lt k i && passes_at k)
+  Found s i = (k : ℕ) → k < port_places → has_number s k ≡ (nat_lt k i && passes_at k)
 
   pub found-none : (s : List ℕ) → s ≡ [] → Found s 0
   found-none s none k below = ap (λ (l : List ℕ). has_number l k) none ∙ sym (ap (λ b. b && passes_at k) (le-ltb k 0 (omega arith)))
@@ -228,10 +264,10 @@ module _ (t : ℕ × TreePort → Bool) (ps : List (Option TreePort)) where
       by (inr apart) = ap (λ b. b && passes_at k) (later k i apart)
 
   pub found-more : (s new : List ℕ) (i : ℕ) → Found s i → passes_at i ≡ true
-      → new ≡ numbers_below 64 (λ m. (m == i) || has_number s m)
+      → new ≡ numbers_below port_places (λ m. (m == i) || has_number s m)
       → Found new (i + 1)
   found-more s new i before passes is k below =
-      ap (λ (l : List ℕ). has_number l k) is ∙ has-below (λ m. (m == i) || has_number s m) 64 k below ∙ by (cases_eq k i)
+      ap (λ (l : List ℕ). has_number l k) is ∙ has-below (λ m. (m == i) || has_number s m) port_places k below ∙ by (cases_eq k i)
     where
       by : (k ≡ i) ⊎ (k ≡ i → ⊥) → ((k == i) || has_number s k) ≡ (nat_lt k (i + 1) && passes_at k)
       by (inl here) =
@@ -240,16 +276,22 @@ module _ (t : ℕ × TreePort → Bool) (ps : List (Option TreePort)) where
       by (inr apart) =
           ap (λ b. b || has_number s k) (ne_eqb k i apart) ∙ before k below ∙ ap (λ b. b && passes_at k) (later k i apart)
 
-  pub found-all : (s : List ℕ) (n : ℕ) → length ps ≡ 64 → 64 ≤ n → IsSetBelow 64 s → Found s n → s ≡ numbers (filter t (entries_at 0 ps))
+  pub found-all : (s : List ℕ) (n i : ℕ) → n ≤ i → length ps ≡ port_places → AreEmptyFrom n ps → IsSetBelow port_places s → Found s i → s ≡ numbers (filter t (entries_at 0 ps))
   unfolding numbers_below
-  found-all s n size high set all =
+  found-all s n i high size empty set all =
       set
       ∙ ap (λ m. filter (has_number s) (range_with_len 0 m)) (sym size)
       ∙ sym (numbers-filter t (has_number s) 0 ps (λ k m e low. at k m (omega arith) (omega arith)))
     where
-      at : (k m : ℕ) → k ≡ m → m < 64 → has_number s m ≡ option_map_or (λ x. t (m, x)) (get_or ps k None) false
+      by : (m : ℕ) → (m < n) ⊎ (n ≤ m) → (nat_lt m i && passes_at m) ≡ passes_at m
+      by m (inl low) = ap (λ b. b && passes_at m) (lt-ltb m i (omega arith))
+      by m (inr up) =
+          let none : passes_at m ≡ false = ap (λ (o : Option TreePort). option_map_or (λ x. t (m, x)) o false) (empty m up) in
+          and_right (nat_lt m i) (passes_at m) none ∙ sym none
+
+      at : (k m : ℕ) → k ≡ m → m < port_places → has_number s m ≡ option_map_or (λ x. t (m, x)) (get_or ps k None) false
       at k m e low =
-          all m low ∙ ap (λ b. b && passes_at m) (lt-ltb m n (omega arith)) ∙ ap (λ j. option_map_or (λ x. t (m, x)) (get_or ps j None) false) (sym e)
+          all m low ∙ by m (cases_lt m n) ∙ ap (λ j. option_map_or (λ x. t (m, x)) (get_or ps j None) false) (sym e)
 
 -- whether some port passes
 

@@ -6,6 +6,7 @@ use Rattle.std.specs.declared.cmp.Ordering.TheVariants.{Less, Equal, Greater}
 use Rattle.std.specs.Ordering.{nat_cmp, eq_by_cmp, match_ordering}
 use Rattle.std.proofs.lemmas.Bool.{cases_eq, cases_Bool, eq-eqb, ne_eqb}
 use Rattle.std.proofs.lemmas.Bool.Decides.{nat_tests}
+use Rattle.br_model.specs.Table.Domains.{port_places}
 use Rattle.br_model.specs.Data.Maps.{has, joined}
 use Rattle.br_model.specs.Tree.Sending.{union}
 use Rattle.port_sets.specs.Numbers.{numbers_below, has_number, IsSetBelow}
@@ -77,9 +78,9 @@ insert-range p k a (suc n) low high = by (λ apart. insert-range p k (a + 1) n (
         ∙ rest apart
         ∙ sym (ap₂ (λ b c. cond (b || c) (a ∷ filter (λ m. (m == k) || p m) (range_with_len (a + 1) n)) (filter (λ m. (m == k) || p m) (range_with_len (a + 1) n))) (ne_eqb a k apart) fails)
 
-insert-set : (p : ℕ → Bool) (k : ℕ) → k < 64 → joined nat_cmp (numbers_below 64 p) k ≡ numbers_below 64 (λ m. (m == k) || p m)
+insert-set : (p : ℕ → Bool) (k : ℕ) → k < port_places → joined nat_cmp (numbers_below port_places p) k ≡ numbers_below port_places (λ m. (m == k) || p m)
 unfolding numbers_below
-insert-set p k low = insert-range p k 0 64 (omega arith) (omega arith)
+insert-set p k low = insert-range p k 0 port_places (omega arith) (omega arith)
 
 exchange : (a b c : Bool) → ((a || b) || c) ≡ (b || (a || c))
 exchange true true c = refl
@@ -90,19 +91,19 @@ or_none : (b : Bool) → b ≡ (b || false)
 or_none true = refl
 or_none false = refl
 
-union-from : (p : ℕ → Bool) (q : List ℕ) → All (λ n. n < 64) q → union (numbers_below 64 p) q ≡ numbers_below 64 (λ m. p m || has_number q m)
-union-from p [] below = λ i. numbers_below 64 (λ m. or_none (p m) i)
+union-from : (p : ℕ → Bool) (q : List ℕ) → All (λ n. n < port_places) q → union (numbers_below port_places p) q ≡ numbers_below port_places (λ m. p m || has_number q m)
+union-from p [] below = λ i. numbers_below port_places (λ m. or_none (p m) i)
 union-from p (k ∷ q) below =
-    ap (λ s. union s q) (insert-set p k (All-head (λ n. n < 64) k q below))
-    ∙ union-from (λ m. (m == k) || p m) q (All-tail (λ n. n < 64) k q below)
-    ∙ (λ i. numbers_below 64 (λ m. exchange (m == k) (p m) (has_number q m) i))
+    ap (λ s. union s q) (insert-set p k (All-head (λ n. n < port_places) k q below))
+    ∙ union-from (λ m. (m == k) || p m) q (All-tail (λ n. n < port_places) k q below)
+    ∙ (λ i. numbers_below port_places (λ m. exchange (m == k) (p m) (has_number q m) i))
 
 -- the members of both
-pub union-is : (s q : List ℕ) → IsSetBelow 64 s → All (λ n. n < 64) q → numbers_below 64 (λ m. has_number s m || has_number q m) ≡ union s q
+pub union-is : (s q : List ℕ) → IsSetBelow port_places s → All (λ n. n < port_places) q → numbers_below port_places (λ m. has_number s m || has_number q m) ≡ union s q
 union-is s q set below = sym (union-from (has_number s) q below) ∙ ap (λ l. union l q) (sym set)
 
 -- the set of one
-pub alone : (p : ℕ) (none : List ℕ) → none ≡ [] → p < 64 → numbers_below 64 (λ m. (m == p) || has_number none m) ≡ p ∷ []
+pub alone : (p : ℕ) (none : List ℕ) → none ≡ [] → p < port_places → numbers_below port_places (λ m. (m == p) || has_number none m) ≡ p ∷ []
 unfolding numbers_below
 alone p none empty low =
-    ap (λ l. numbers_below 64 (λ m. (m == p) || has_number l m)) empty ∙ sym (insert-set (λ m. false) p low)
+    ap (λ l. numbers_below port_places (λ m. (m == p) || has_number l m)) empty ∙ sym (insert-set (λ m. false) p low)

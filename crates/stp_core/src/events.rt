@@ -1,6 +1,6 @@
 //! The events of the tree, as the control plane tells them.
 ghost use Rattle.std.specs.Prelude.{◌≡◌, ◌/◌, ◌%◌, ◌==◌, ◌<◌, ◌≤◌, ◌^◌, [], ◌∷◌, Some, None, true, IsSome, if◌then◌else◌};
-ghost use Rattle.br_model.specs.Table.Domains.{port_places};
+ghost use Rattle.br_model.specs.Table.Domains.{last_port};
 ghost use Rattle.br_model.specs.Tree.Tree.{Tree as TreeValue, fresh, bpdu_of};
 ghost use Rattle.br_model.specs.declared.tree.TreeEvent.TheVariants.{Switch, Up, Down, Message, Cost};
 ghost use Rattle.br_model.specs.Tree.Step.{settled, with_kept, passed_on, config_received, tcn_received, received_at, tree_step, message};
@@ -11,7 +11,7 @@ ghost use Rattle.stp_core.specs.Settling.{AreStates, follows_by, out_of, ranked,
 
 use crate::messages::Sent;
 use crate::parameters::Parameters;
-use crate::places::{States, change_at, put_port, take_port};
+use crate::places::States;
 use crate::rules::{BLOCKING, Costing, FORWARDING, Keeping, Owing, Ranking};
 use crate::steps::{Before, nothing_sent};
 use crate::tree::TreeOut;
@@ -23,7 +23,7 @@ use port_sets::Ports;
 
 // The set of this port alone.
 fn only(p: u8) -> Ports
-    requires { p < port_places }
+    requires { p ≤ last_port }
     ensures { result ≡ p ∷ [] }
 {
     Ports::empty().with(p)
@@ -116,7 +116,7 @@ impl Parameters {
     #[tactic(auto, using(crate::proofs::Settlements::settled_is))]
     fn keep(&mut self, p: u8, m: &ConfigMsg, now: u64) -> Sent
         requires early { now < 2 ^ 53 }
-        requires port { p < port_places }
+        requires port { p ≤ last_port }
         ensures { acted self.new result ≡ passed_on now p m.now (settled true self.old now (with_kept self.old now p m.now)) }
     {
         let before = self.before();
@@ -124,7 +124,7 @@ impl Parameters {
             message: *m,
             moment: now,
         };
-        change_at(&Keeping { kept }, p, &mut self.places);
+        self.places.change_at(&Keeping { kept }, p);
         let mut sent = self.settle(true, before, now);
         self.pass_on(p, m, now, &mut sent);
         sent
@@ -132,7 +132,7 @@ impl Parameters {
 
     fn receive_config(&mut self, p: u8, x: &TreePort, m: &ConfigMsg, now: u64) -> Sent
         requires early { now < 2 ^ 53 }
-        requires port { p < port_places }
+        requires port { p ≤ last_port }
         ensures { acted self.new result ≡ config_received self.old now (p, x.now) m.now }
     {
         if m.max <= m.age {
@@ -151,14 +151,14 @@ impl Parameters {
 
     fn receive_tcn(&mut self, p: u8, x: &TreePort, now: u64) -> Sent
         requires early { now < 2 ^ 53 }
-        requires port { p < port_places }
+        requires port { p ≤ last_port }
         ensures { acted self.new result ≡ tcn_received self.old now (p, x.now) }
     {
         let mut sent = nothing_sent();
         let election = self.election();
         if is_designated(election.id, &election.root, p, x) {
             self.detect(now, &mut sent);
-            change_at(&Owing, p, &mut self.places);
+            self.places.change_at(&Owing, p);
             self.transmit(only(p), now, &mut sent);
         }
         sent
@@ -166,7 +166,7 @@ impl Parameters {
 
     fn receive_at(&mut self, p: u8, x: &TreePort, m: &BpduMsg, now: u64) -> Sent
         requires early { now < 2 ^ 53 }
-        requires port { p < port_places }
+        requires port { p ≤ last_port }
         ensures { acted self.new result ≡ received_at self.old now (p, x.now) m.now }
     {
         match *m {
@@ -201,7 +201,7 @@ impl Parameters {
     #[tactic(auto, unfolding(br_model::specs::Tree::Step::tree_step))]
     pub(crate) fn receive(&mut self, p: u8, m: &BpduMsg, now: u64) -> Sent
         requires early { now < 2 ^ 53 }
-        requires port { p < port_places }
+        requires port { p ≤ last_port }
         ensures { acted self.new result ≡ tree_step self.old now (Message p m.now) }
     {
         match self.port(p) {
@@ -213,34 +213,34 @@ impl Parameters {
     #[tactic(auto, using(crate::proofs::Settlements::follows_is), unfolding(br_model::specs::Tree::Step::tree_step))]
     pub(crate) fn bring_up(&mut self, p: u8, now: u64) -> Sent
         requires early { now < 2 ^ 53 }
-        requires port { p < port_places }
+        requires port { p ≤ last_port }
         ensures { acted self.new result ≡ tree_step self.old now (Up p) }
     {
         let before = self.before();
         let state = first_state(self.on);
-        put_port(&mut self.places, p, fresh_port(state, now));
+        self.places.put(p, fresh_port(state, now));
         self.follow(before, now)
     }
 
     #[tactic(auto, using(crate::proofs::Settlements::follows_is), unfolding(br_model::specs::Tree::Step::tree_step))]
     pub(crate) fn take_down(&mut self, p: u8, now: u64) -> Sent
         requires early { now < 2 ^ 53 }
-        requires port { p < port_places }
+        requires port { p ≤ last_port }
         ensures { acted self.new result ≡ tree_step self.old now (Down p) }
     {
         let before = self.before();
-        take_port(&mut self.places, p);
+        self.places.take(p);
         self.follow(before, now)
     }
 
     #[tactic(auto, using(crate::proofs::Settlements::follows_is), unfolding(br_model::specs::Tree::Step::tree_step))]
     pub(crate) fn set_cost_at(&mut self, p: u8, n: u16, now: u64) -> Sent
         requires early { now < 2 ^ 53 }
-        requires port { p < port_places }
+        requires port { p ≤ last_port }
         ensures { acted self.new result ≡ tree_step self.old now (Cost p n) }
     {
         let before = self.before();
-        change_at(&Costing { cost: n }, p, &mut self.places);
+        self.places.change_at(&Costing { cost: n }, p);
         self.follow(before, now)
     }
 
@@ -251,7 +251,7 @@ impl Parameters {
         match p {
             Some(p) => {
                 let priority = n as u8;
-                change_at(&Ranking { priority }, p.number(), &mut self.places);
+                self.places.change_at(&Ranking { priority }, p.number());
             }
             None => self.priority = n,
         }

@@ -4,15 +4,14 @@ ghost use Rattle.std.specs.List.{list_any};
 ghost use Rattle.br_model.specs.Tree.Timers.{is_tcn_due};
 ghost use Rattle.br_model.specs.Tree.Sending.{is_put_off};
 ghost use Rattle.stp_core.specs.Due.{IsFirst, is_age_over, is_delay_over, is_unsettled, is_due_at, is_change_over, says_hello, is_timer_due, is_any_due};
-ghost use Rattle.stp_core.specs.Places.{entries_at};
+ghost use Rattle.stp_core.specs.Places.{AreEmptyFrom, entries_at};
 
 use crate::parameters::Parameters;
-use crate::places::Places;
+use crate::places::{Places, Slots};
 use crate::rules::{BLOCKING, LEARNING, LISTENING, is_active};
 use crate::steps::{HELLO_TIME, TCN_TIME};
 use crate::timers::{HOLD_TIME, milliseconds};
 use crate::vectors::{Election, is_designated};
-use br_model::numbers::Port;
 use br_model::tree::TreePort;
 
 // For what is never due.
@@ -79,16 +78,26 @@ fn port_due(election: &Election, delay: u64, p: u8, x: &TreePort) -> u64
         .min(hold_expiry(x))
 }
 
-fn ports_due(election: &Election, delay: u64, places: &Places) -> u64
+fn ports_due(election: &Election, delay: u64, places: &Slots, used: u8) -> u64
+    requires { AreEmptyFrom used places.now }
     ensures { IsFirst result (λ now. list_any (is_due_at election.now delay now) (entries_at 0 places.now)) }
 {
     let mut due = NEVER;
-    for p in 0..Port::PLACES as u8 {
+    for p in 0..used {
         if let Some(x) = &places[usize::from(p)] {
             due = due.min(port_due(election, delay, p, x));
         }
     }
     due
+}
+
+impl Places {
+    /// The first moment at which something is due at a port.
+    fn due(&self, election: &Election, delay: u64) -> u64
+        ensures { IsFirst result (λ now. list_any (is_due_at election.now delay now) self.now) }
+    {
+        ports_due(election, delay, &self.slots, self.used)
+    }
 }
 
 impl Parameters {
@@ -130,7 +139,8 @@ impl Parameters {
         ensures { IsFirst result (is_any_due self.now) }
     {
         if self.on {
-            self.timers_due().min(ports_due(&self.election(), self.forward_delay(), &self.places))
+            self.timers_due()
+                .min(self.places.due(&self.election(), self.forward_delay()))
         } else {
             NEVER
         }

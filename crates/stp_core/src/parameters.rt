@@ -1,15 +1,16 @@
 //! What a bridge keeps of itself and of each port, and what can be read of it (IEEE 802.1D-1998 section 8.5).
-ghost use Rattle.std.specs.Prelude.{◌≡◌, ◌<◌};
+ghost use Rattle.std.specs.Prelude.{◌≡◌, ◌≤◌, ◌<◌};
+ghost use Rattle.std.specs.List.{All};
 ghost use Rattle.std.specs.Option.{ForSome};
-ghost use Rattle.br_model.specs.Table.Domains.{port_places};
-ghost use Rattle.br_model.specs.Tree.Tree.{first_tree, bridge_id, port_at, state_at};
+ghost use Rattle.br_model.specs.Table.Domains.{last_port};
+ghost use Rattle.br_model.specs.Tree.Tree.{first_tree, bridge_id, numbers, port_at, state_at};
 ghost use Rattle.br_model.specs.Tree.Vectors.{root_of, root_kept, is_root};
 ghost use Rattle.br_model.specs.Tree.Timers.{times, forward_delay, is_changing, hold};
 ghost use Rattle.stp_core.specs.Settling.{AreStates};
 
-use crate::places::{Places, States, states_of};
+use crate::places::{Places, States};
 use crate::timers::{milliseconds, times_of};
-use crate::vectors::{Election, elect};
+use crate::vectors::Election;
 use br_model::numbers::{Mac, Port};
 use br_model::tree::{Root, Stamped, Times, TreePort};
 use std::marker::Model;
@@ -31,11 +32,10 @@ pub(crate) struct Parameters {
 
 impl Model for Parameters {
     ghost use Rattle.br_model.specs.Tree.Tree as tree;
-    ghost use Rattle.stp_core.specs.Places.{entries_at};
 
     ghost Value = { tree.Tree };
 
-    ghost view = { λ t. record { own = t.own; priority = t.priority; on = t.on; ports = entries_at 0 t.places; change_end = t.change_end; notified = t.notified; hello = t.hello } };
+    ghost view = { λ t. record { own = t.own; priority = t.priority; on = t.on; ports = t.places; change_end = t.change_end; notified = t.notified; hello = t.hello } };
 }
 
 impl Parameters {
@@ -46,7 +46,7 @@ impl Parameters {
             own,
             priority: 32768,
             on: false,
-            places: [None; Port::PLACES],
+            places: Places::empty(),
             change_end: None,
             notified: None,
             hello: 0,
@@ -60,18 +60,26 @@ impl Parameters {
             own: self.own,
             priority: self.priority,
             on: self.on,
-            places: self.places,
+            places: self.places.copy(),
             change_end: self.change_end,
             notified: self.notified,
             hello: self.hello,
         }
     }
 
+    /// A law, whose body does nothing: each number is that of a port.
+    pub(crate) fn numbers_are_of_ports(&self)
+        ensures { All (λ n. n ≤ last_port) (numbers self.now.ports) }
+    {
+        // law: the places say it
+        self.places.numbers_are_of_ports();
+    }
+
     /// The state of each port.
     pub(crate) fn states(&self) -> States
         ensures { AreStates result self.now }
     {
-        states_of(&self.places)
+        self.places.states()
     }
 
     /// The identifier of the bridge: its priority, then its address.
@@ -84,9 +92,9 @@ impl Parameters {
     #[tactic(auto, unfolding(br_model::specs::Tree::Vectors::root_of))]
     pub(crate) fn root(&self) -> Root
         ensures value { result ≡ root_of self.now }
-        ensures below { ForSome result.port (λ p. p < port_places) }
+        ensures last { ForSome result.port (λ p. p ≤ last_port) }
     {
-        elect(self.bridge_id(), &self.places)
+        self.places.elect(self.bridge_id())
     }
 
     pub(crate) fn election(&self) -> Election
@@ -104,12 +112,11 @@ impl Parameters {
         self.root().port.is_none()
     }
 
-    #[tactic(auto, using(crate::proofs::Reading::get_at))]
     pub(crate) fn port(&self, p: u8) -> Option<TreePort>
-        requires { p < port_places }
+        requires { p ≤ last_port }
         ensures { result ≡ port_at self.now p }
     {
-        self.places[usize::from(p)]
+        self.places.get(p)
     }
 
     /// What the root port has kept.

@@ -1,17 +1,18 @@
 //! The rules that change each port on its own: what is forgotten, roles, and states.
 ghost use Rattle.std.specs.Prelude.{◌≡◌, ◌+◌, ◌==◌, ◌&&◌, ◌||◌, None, Some, true, false, get_or, nat_le, not, if◌then◌else◌};
+ghost use Rattle.std.specs.List.{filter};
 ghost use Rattle.std.specs.Option.{option_map_or};
 ghost use Rattle.br_model.specs.Tree.Vectors.{without_kept, is_designated_by, is_port_of, roles, designated_ports};
 ghost use Rattle.br_model.specs.Tree.Timers.{is_aged_out, forgets};
 ghost use Rattle.br_model.specs.Tree.States.{by_role, enters, is_open, states_follow, states_move, listening, learning, is_blocked_by_roles, is_opened_by_time};
 ghost use Rattle.br_model.specs.Tree.Sending.{is_put_off, drops_put_off};
 ghost use Rattle.br_model.specs.Tree.Step.{moved, restarted, on_at, off_at};
-ghost use Rattle.br_model.specs.Tree.Tree.{Tree as TreeValue};
+ghost use Rattle.br_model.specs.Tree.Tree.{Tree as TreeValue, numbers, state_at};
 ghost use Rattle.br_model.specs.Table.Table.{disabled};
-ghost use Rattle.stp_core.specs.Settling.{AreStates};
+ghost use Rattle.stp_core.specs.Settling.{AreStates, state_in};
 
 use crate::parameters::Parameters;
-use crate::places::{Rule, States, Test, any_port, change_each, ports_where};
+use crate::places::{Places, Rule, States, Test, ports_where};
 use crate::timers::{has_passed, is_aged_out, is_held};
 use crate::vectors::{Election, is_designated, is_root_port};
 use br_model::tree::{Stamped, TreePort};
@@ -292,13 +293,22 @@ impl Test for Moved<'_> {
     }
 }
 
+impl Places {
+    /// The ports whose state isn't as it was.
+    fn moved_from(&self, before: &States) -> Ports
+        ensures { (old : TreeValue) → AreStates before.now old → result ≡ filter (λ p. not (state_at old p == state_in self.now p)) (numbers self.now) }
+    {
+        ports_where(&Moved { before }, &self.slots, self.used)
+    }
+}
+
 impl Parameters {
     /// Restarts every port, with the tree on.
     pub(crate) fn start(&mut self, now: u64)
         ensures { self.new ≡ on_at now self.old }
     {
         let state = BLOCKING;
-        change_each(&Restarting { state, now }, &mut self.places);
+        self.places.change_each(&Restarting { state, now });
         self.on = true;
         self.change_end = None;
         self.notified = None;
@@ -310,7 +320,7 @@ impl Parameters {
         ensures { self.new ≡ off_at now self.old }
     {
         let state = FORWARDING;
-        change_each(&Restarting { state, now }, &mut self.places);
+        self.places.change_each(&Restarting { state, now });
         self.on = false;
         self.change_end = None;
         self.notified = None;
@@ -320,7 +330,7 @@ impl Parameters {
     pub(crate) fn moved_from(&self, before: &States) -> Ports
         ensures { (old : TreeValue) → AreStates before.now old → result ≡ moved old self.now }
     {
-        ports_where(&Moved { before }, &self.places)
+        self.places.moved_from(before)
     }
 
     /// Forgets the messages that have aged out.
@@ -328,7 +338,7 @@ impl Parameters {
     pub(crate) fn forget(&mut self, now: u64)
         ensures { self.new ≡ forgets now self.old }
     {
-        change_each(&Forgetting { now }, &mut self.places);
+        self.places.change_each(&Forgetting { now });
     }
 
     /// Takes roles anew.
@@ -337,7 +347,7 @@ impl Parameters {
         ensures { self.new ≡ roles self.old }
     {
         let election = self.election();
-        change_each(&TakingRoles { election }, &mut self.places);
+        self.places.change_each(&TakingRoles { election });
     }
 
     /// Lets states follow the roles.
@@ -346,7 +356,7 @@ impl Parameters {
         ensures { self.new ≡ states_follow now self.old }
     {
         let election = self.election();
-        change_each(&FollowingRoles { election, now }, &mut self.places);
+        self.places.change_each(&FollowingRoles { election, now });
     }
 
     /// Moves the states that are due.
@@ -355,7 +365,7 @@ impl Parameters {
         ensures { self.new ≡ states_move now self.old }
     {
         let delay = self.forward_delay();
-        change_each(&MovingStates { delay, now }, &mut self.places);
+        self.places.change_each(&MovingStates { delay, now });
     }
 
     /// Drops the messages that were put off on ports that aren't designated.
@@ -364,14 +374,14 @@ impl Parameters {
         ensures { self.new ≡ drops_put_off now self.old }
     {
         let election = self.election();
-        change_each(&DroppingPutOff { election, now }, &mut self.places);
+        self.places.change_each(&DroppingPutOff { election, now });
     }
 
     pub(crate) fn designated_ports(&self) -> Ports
         ensures { result ≡ designated_ports self.now }
     {
         let election = self.election();
-        ports_where(&Designated { election }, &self.places)
+        self.places.ports_where(&Designated { election })
     }
 
     /// Whether the roles make a learning or forwarding port blocking.
@@ -379,7 +389,7 @@ impl Parameters {
         ensures { result ≡ is_blocked_by_roles self.now }
     {
         let election = self.election();
-        any_port(&BlockedByRoles { election }, &self.places)
+        self.places.any(&BlockedByRoles { election })
     }
 
     /// Whether a port is due to forward while some port is designated.
@@ -388,7 +398,6 @@ impl Parameters {
     {
         let delay = self.forward_delay();
         let election = self.election();
-        any_port(&DueToForward { delay, now }, &self.places)
-            && any_port(&Designated { election }, &self.places)
+        self.places.any(&DueToForward { delay, now }) && self.places.any(&Designated { election })
     }
 }

@@ -1,13 +1,12 @@
 //! Sending: configuration messages, those that were put off, and notifications of topology changes.
-ghost use Rattle.std.specs.Prelude.{◌≡◌, ◌<◌, ◌^◌};
+ghost use Rattle.std.specs.Prelude.{◌≡◌, ◌≤◌, ◌<◌, ◌^◌};
 ghost use Rattle.std.specs.declared.option.Option.TheVariants.{Some};
-ghost use Rattle.br_model.specs.Table.Domains.{port_places};
+ghost use Rattle.br_model.specs.Table.Domains.{last_port};
 ghost use Rattle.br_model.specs.Tree.Sending.{transmit, generate, sends_put_off, notify, detected, detected_if, union};
 ghost use Rattle.stp_core.specs.Acting.{acted, voice_of};
 
 use crate::messages::{GoingOut, Sent, Transmitting, Voice};
 use crate::parameters::Parameters;
-use crate::places::{change_each, ports_where};
 use crate::rules::PutOff;
 use crate::timers::age_at;
 use br_model::numbers::Port;
@@ -37,8 +36,8 @@ impl Parameters {
         ensures { acted self.new sent.new ≡ transmit ports now (acted self.old sent.old) }
     {
         let voice = self.voice(now);
-        let going = ports_where(&GoingOut { voice, ports }, &self.places);
-        change_each(&Transmitting { voice, ports }, &mut self.places);
+        let going = self.places.ports_where(&GoingOut { voice, ports });
+        self.places.change_each(&Transmitting { voice, ports });
         sent.config = union(sent.config, going);
     }
 
@@ -57,13 +56,13 @@ impl Parameters {
         ensures { acted self.new sent.new ≡ sends_put_off now (acted self.old sent.old) }
     {
         self.drop_put_off(now);
-        let ports = ports_where(&PutOff { now }, &self.places);
+        let ports = self.places.ports_where(&PutOff { now });
         self.transmit(ports, now, sent);
     }
 
     /// A notification goes out on the root port.
     pub(crate) fn notify(&mut self, p: u8, now: u64, sent: &mut Sent)
-        requires { p < port_places }
+        requires { p ≤ last_port }
         ensures { acted self.new sent.new ≡ notify now (Some p) (acted self.old sent.old) }
     {
         self.notified = Some(now);
@@ -101,7 +100,7 @@ fn union(a: Ports, b: Ports) -> Ports
 }
 
 fn port_of(p: u8) -> Port
-    requires { p < port_places }
+    requires { p ≤ last_port }
     ensures { result ≡ p }
 {
     match Port::new(p) {

@@ -1,5 +1,7 @@
 //! The spanning tree, as the control plane tells it events and reads it.
 ghost use Rattle.std.specs.Prelude.{◌≡◌, ◌<◌, ◌≤◌, ◌^◌, true, Some, IsSome, IsTrue};
+ghost use Rattle.std.specs.List.{All};
+ghost use Rattle.br_model.specs.Table.Domains.{last_port};
 ghost use Rattle.br_model.specs.Tree.Tree.{first_tree, state_at};
 ghost use Rattle.br_model.specs.Tree.Timers.{hold};
 ghost use Rattle.br_model.specs.Tree.Sending.{quiet};
@@ -75,6 +77,8 @@ impl Tree {
         ensures out { result ≡ out_of self.old (tree_step self.old now event.now) }
         ensures spoken { HaveSent self.new result.config }
         ensures known { knows_states self.new ≡ true }
+        ensures moved { All (λ n. n ≤ last_port) result.moved }
+        ensures config { All (λ n. n ≤ last_port) result.config }
     {
         // law: the states are Linux's numbers
         self.states_are_known();
@@ -82,6 +86,17 @@ impl Tree {
         known_states();
         // law: what went out can be read
         messages_went_out();
+        let out = self.take_event(event, now);
+        // law: each number is that of a port
+        self.parameters.numbers_are_of_ports();
+        out
+    }
+
+    fn take_event(&mut self, event: &TreeEvent, now: u64) -> TreeOut
+        requires { now < 2 ^ 53 }
+        ensures tree { self.new ≡ (tree_step self.old now event.now).tree }
+        ensures out { result ≡ out_of self.old (tree_step self.old now event.now) }
+    {
         match event {
             TreeEvent::Switch(on) => self.switch(*on, now),
             TreeEvent::Up(p) => self.port_up(*p, now),

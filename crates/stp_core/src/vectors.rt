@@ -1,17 +1,16 @@
 //! Priority vectors, the election of the root, and roles (IEEE 802.1D-1998 sections 8.6.2 and 8.6.7 to 8.6.10).
-ghost use Rattle.std.specs.Prelude.{◌≡◌, ◌<◌};
+ghost use Rattle.std.specs.Prelude.{◌≡◌, ◌≤◌};
 ghost use Rattle.std.specs.Option.{ForSome, option_map_or};
 ghost use Rattle.std.specs.List.{filter_map};
 ghost use Rattle.std.specs.declared.option.Option.TheVariants.{Some};
 ghost use Rattle.std.specs.Ordering.{is_lt, is_le, is_eq, ord_min};
-ghost use Rattle.br_model.specs.Table.Domains.{port_places};
+ghost use Rattle.br_model.specs.Table.Domains.{last_port};
 ghost use Rattle.br_model.specs.Tree.Tree.{port_id};
 ghost use Rattle.br_model.specs.Tree.Vectors.{vector_cmp, bridge_cmp, vector_of, candidate_cmp, candidate, least, root_by, is_port_of, own_vector, is_best, is_designated_by, supersedes};
-ghost use Rattle.stp_core.specs.Places.{entries_at};
+ghost use Rattle.stp_core.specs.Places.{AreEmptyFrom, entries_at};
 ghost use Rattle.stp_core.specs.Acting.{held_by};
 
-use crate::places::Places;
-use br_model::numbers::Port;
+use crate::places::{Places, Slots};
 use br_model::tree::{Candidate, ConfigMsg, Root, TreePort, Vector};
 use std::cmp::Ordering;
 
@@ -95,31 +94,42 @@ fn lesser(best: Option<Candidate>, c: Candidate) -> Option<Candidate>
     }
 }
 
-/// The root, by the least of what the ports offer.
-pub(crate) fn elect(id: u64, places: &Places) -> Root
-    ensures value { result ≡ root_by id (least (filter_map (candidate id) (entries_at 0 places.now))) }
-    ensures below { ForSome result.port (λ p. p < port_places) }
+impl Places {
+    /// The root, by the least of what the ports offer.
+    pub(crate) fn elect(&self, id: u64) -> Root
+        ensures value { result ≡ root_by id (least (filter_map (candidate id) self.now)) }
+        ensures last { ForSome result.port (λ p. p ≤ last_port) }
+    {
+        match best_offer(id, &self.slots, self.used) {
+            None => Root {
+                id,
+                cost: 0,
+                port: None,
+            },
+            Some(c) => Root {
+                id: c.vector.root,
+                cost: c.vector.cost,
+                port: Some(c.port),
+            },
+        }
+    }
+}
+
+// The least of what the ports offer.
+fn best_offer(id: u64, places: &Slots, used: u8) -> Option<Candidate>
+    requires { AreEmptyFrom used places.now }
+    ensures value { result ≡ least (filter_map (candidate id) (entries_at 0 places.now)) }
+    ensures last { ForSome result (λ c. c.port ≤ last_port) }
 {
     let mut best: Option<Candidate> = None;
-    for p in 0..Port::PLACES as u8 {
+    for p in 0..used {
         if let Some(x) = &places[usize::from(p)] {
             if let Some(c) = candidate(id, p, x) {
                 best = lesser(best, c);
             }
         }
     }
-    match best {
-        None => Root {
-            id,
-            cost: 0,
-            port: None,
-        },
-        Some(c) => Root {
-            id: c.vector.root,
-            cost: c.vector.cost,
-            port: Some(c.port),
-        },
-    }
+    best
 }
 
 fn own_vector(id: u64, root: &Root, p: u8, x: &TreePort) -> Vector

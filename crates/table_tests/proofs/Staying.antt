@@ -27,17 +27,6 @@ stay domains old new t c alike fit stands =
 
 -- a change that isn't deferred is told
 pub told-now : (e : Edition) (c : Change) → deferred e c ≡ false → told_in e (notice c) ≡ Some c
-told-now e (changes.PortUp a) now = ap (λ x. cond x None (Some (changes.PortUp a))) now
-told-now e (changes.PortDown a) now = ap (λ x. cond x None (Some (changes.PortDown a))) now
-told-now e (changes.SetFlags a b) now = ap (λ x. cond x None (Some (changes.SetFlags a b))) now
-told-now e (changes.SetState a b) now = ap (λ x. cond x None (Some (changes.SetState a b))) now
-told-now e (changes.VlanAdd a b c d) now = ap (λ x. cond x None (Some (changes.VlanAdd a b c d))) now
-told-now e (changes.VlanDel a b) now = ap (λ x. cond x None (Some (changes.VlanDel a b))) now
-told-now e (changes.GroupJoin a b c) now = ap (λ x. cond x None (Some (changes.GroupJoin a b c))) now
-told-now e (changes.GroupPart a b c) now = ap (λ x. cond x None (Some (changes.GroupPart a b c))) now
-told-now e (changes.Router a b) now = ap (λ x. cond x None (Some (changes.Router a b))) now
-told-now e (changes.Querier a b) now = ap (λ x. cond x None (Some (changes.Querier a b))) now
-told-now e (changes.Snoop a) now = ap (λ x. cond x None (Some (changes.Snoop a))) now
-told-now e (changes.Stp a) now = ap (λ x. cond x None (Some (changes.Stp a))) now
 told-now e (changes.AddrPut a b c d) now = absurd (cc)
 told-now e (changes.AddrDel a b) now = absurd (cc)
+told-now e c now = ap (λ x. cond x None (Some c)) now

@@ -13,6 +13,7 @@ use Rattle.std.proofs.lemmas.List.{map-append, map-id, append-nil, get_or_defaul
 use Rattle.std.proofs.lemmas.List.Elements.{filter-append}
 use Rattle.std.proofs.lemmas.List.FromFn.{filter_of_map_range_with_len_more}
 use Rattle.br_model.specs.Data.Maps.{pair_cmp, get, put, without}
+use Rattle.br_model.specs.Table.Domains.{port_places}
 use Rattle.port_sets.specs.Numbers.{numbers_below, has_number}
 use Rattle.port_sets.proofs.Numbers.{numbers_below-filter, none_below}
 use Rattle.vlan_groups.specs.declared.row.Row.{Row}
@@ -28,7 +29,7 @@ abbrev pub no_ports : Row
 no_ports = record { members = []; untagged = [] }
 
 at-no_ports : (p : ℕ) → at_port no_ports p ≡ None
-at-no_ports p = ap (λ b. cond b (Some false) None) (and-false (nat_lt p 64))
+at-no_ports p = ap (λ b. cond b (Some false) None) (and-false (nat_lt p port_places))
 
 -- ---- at a key
 
@@ -46,7 +47,7 @@ get-block n v p u (x ∷ xs) rest =
     by false same e = refl
 
 get-row : (n v p : ℕ) (row : Row) (rest : Memberships) → get pair_cmp (memberships n row ++ rest) (v, p)
-    ≡ cond ((v == n) && (nat_lt p 64 && has_number row.members p)) (Some (has_number row.untagged p)) (get pair_cmp rest (v, p))
+    ≡ cond ((v == n) && (nat_lt p port_places && has_number row.members p)) (Some (has_number row.untagged p)) (get pair_cmp rest (v, p))
 get-row n v p row rest =
     get-block n v p (has_number row.untagged) (ports_where (has_number row.members)) rest
     ∙ ap (λ b. cond ((v == n) && b) (Some (has_number row.untagged p)) (get pair_cmp rest (v, p))) (has-ports_where (has_number row.members) p)
@@ -55,7 +56,7 @@ get-before : (rows : List Row) (n v p : ℕ) → v < n → get pair_cmp (members
 get-before [] n v p h = refl
 get-before (row ∷ rows) n v p h =
     get-row n v p row (memberships_from (n + 1) rows)
-    ∙ ap (λ b. cond (b && (nat_lt p 64 && has_number row.members p)) (Some (has_number row.untagged p)) (get pair_cmp (memberships_from (n + 1) rows) (v, p))) (ne_eqb v n (omega arith))
+    ∙ ap (λ b. cond (b && (nat_lt p port_places && has_number row.members p)) (Some (has_number row.untagged p)) (get pair_cmp (memberships_from (n + 1) rows) (v, p))) (ne_eqb v n (omega arith))
     ∙ get-before rows (n + 1) v p (omega arith)
 
 pub get-memberships : (rows : List Row) (n k p : ℕ) → get pair_cmp (memberships_from n rows) (n + k, p) ≡ at_port (get_or rows k no_ports) p
@@ -63,11 +64,11 @@ get-memberships [] n zero p = sym (at-no_ports p)
 get-memberships [] n (suc k) p = sym (at-no_ports p)
 get-memberships (row ∷ rows) n zero p =
     get-row n (n + 0) p row (memberships_from (n + 1) rows)
-    ∙ ap₂ (λ b o. cond (b && (nat_lt p 64 && has_number row.members p)) (Some (has_number row.untagged p)) o) (eq-eqb (n + 0) n (omega arith)) (get-before rows (n + 1) (n + 0) p (omega arith))
+    ∙ ap₂ (λ b o. cond (b && (nat_lt p port_places && has_number row.members p)) (Some (has_number row.untagged p)) o) (eq-eqb (n + 0) n (omega arith)) (get-before rows (n + 1) (n + 0) p (omega arith))
 get-memberships (row ∷ rows) n (suc k) p =
     let e : n + suc k ≡ (n + 1) + k = omega arith in
     get-row n (n + suc k) p row (memberships_from (n + 1) rows)
-    ∙ ap (λ b. cond (b && (nat_lt p 64 && has_number row.members p)) (Some (has_number row.untagged p)) (get pair_cmp (memberships_from (n + 1) rows) (n + suc k, p))) (ne_eqb (n + suc k) n (λ x. omega arith))
+    ∙ ap (λ b. cond (b && (nat_lt p port_places && has_number row.members p)) (Some (has_number row.untagged p)) (get pair_cmp (memberships_from (n + 1) rows) (n + suc k, p))) (ne_eqb (n + suc k) n (λ x. omega arith))
     ∙ ap (λ v. get pair_cmp (memberships_from (n + 1) rows) (v, p)) e
     ∙ get-memberships rows (n + 1) k p
 
@@ -131,8 +132,8 @@ pub sorted-memberships : (rows : List Row) (n : ℕ) → T (is_sorted pair_cmp (
 sorted-memberships [] n = tt
 sorted-memberships (row ∷ rows) n =
     subst (λ (ns : List ℕ). T (is_sorted pair_cmp (map (λ q. ((n, q), has_number row.untagged q)) ns ++ memberships_from (n + 1) rows)))
-    (sym (numbers_below-filter (has_number row.members) 64))
-    (sorted_ports n (has_number row.members) (has_number row.untagged) 0 64 (memberships_from (n + 1) rows) (λ q. below_later rows n (n + 1) q (omega arith)) (sorted-memberships rows (n + 1)))
+    (sym (numbers_below-filter (has_number row.members) port_places))
+    (sorted_ports n (has_number row.members) (has_number row.untagged) 0 port_places (memberships_from (n + 1) rows) (λ q. below_later rows n (n + 1) q (omega arith)) (sorted-memberships rows (n + 1)))
 
 -- ---- a new row at place k, which differs at port p alone
 
@@ -199,7 +200,7 @@ pub memberships-none : (n m : ℕ) (row : Row) → row.members ≡ [] → member
 memberships-none n zero row e = refl
 memberships-none n (suc m) row e =
     ap₂ (λ (ns : List ℕ) (es : Memberships). map (λ q. ((n, q), has_number row.untagged q)) ns ++ es)
-    (none_below (has_number row.members) 64 (λ q low. ap (λ (ns : List ℕ). has_number ns q) e))
+    (none_below (has_number row.members) port_places (λ q low. ap (λ (ns : List ℕ). has_number ns q) e))
     (memberships-none (n + 1) m row e)
 
 -- ---- the VLANs of a port
@@ -240,13 +241,13 @@ is_some-cond false x = refl
 
 vids-row : (n p : ℕ) (row : Row) → vids_of (memberships n row) p ≡ cond (is_some (at_port row p)) (n ∷ []) []
 vids-row n p row =
-    ap (λ (ns : List ℕ). vids_of (map (λ q. ((n, q), has_number row.untagged q)) ns) p) (numbers_below-filter (has_number row.members) 64)
-    ∙ elim (cases_lt p 64) [
+    ap (λ (ns : List ℕ). vids_of (map (λ q. ((n, q), has_number row.untagged q)) ns) p) (numbers_below-filter (has_number row.members) port_places)
+    ∙ elim (cases_lt p port_places) [
       | inl low ↦
-          vids_at n p (has_number row.members) (has_number row.untagged) 0 64 (omega arith) (omega arith)
+          vids_at n p (has_number row.members) (has_number row.untagged) 0 port_places (omega arith) (omega arith)
           ∙ ap (λ b. cond b (n ∷ []) []) (sym (ap is_some (at-low row p low) ∙ is_some-cond (has_number row.members p) (has_number row.untagged p)))
       | inr high ↦
-          vids_none n p (has_number row.members) (has_number row.untagged) 0 64 (λ q low below same. absurd (omega arith))
+          vids_none n p (has_number row.members) (has_number row.untagged) 0 port_places (λ q low below same. absurd (omega arith))
           ∙ ap (λ (o : Option Bool). cond (is_some o) (n ∷ []) []) (sym (at-high row p (omega arith)))
     ]
 

@@ -3,22 +3,23 @@ use Rattle.std.proofs.Common.{◌≡◌, ℕ, ◌<◌, ◌≤◌, Bool, true, fa
 use Rattle.std.specs.Prelude.{◌==◌, nat_lt}
 use Rattle.std.specs.Option.{unwrap_or}
 use Rattle.std.proofs.lemmas.Bool.{lt-ltb, le-ltb, cases_lt, ne_eqb}
+use Rattle.br_model.specs.Table.Domains.{port_places}
 use Rattle.port_sets.specs.Numbers.{numbers_below, has_number, IsSetBelow}
 use Rattle.port_sets.proofs.Numbers.{has-below, has-above, same_below}
 use Rattle.vlan_groups.specs.declared.row.Row.{Row}
 use Rattle.vlan_groups.specs.Rows.{ports_where, at_port}
 
-pub has-ports_where : (f : ℕ → Bool) (q : ℕ) → has_number (ports_where f) q ≡ (nat_lt q 64 && f q)
-has-ports_where f q = elim (cases_lt q 64) [
-  | inl low ↦ has-below f 64 q low ∙ sym (ap (λ b. b && f q) (lt-ltb q 64 low))
-  | inr high ↦ has-above f 64 q (omega arith) ∙ sym (ap (λ b. b && f q) (le-ltb q 64 (omega arith)))
+pub has-ports_where : (f : ℕ → Bool) (q : ℕ) → has_number (ports_where f) q ≡ (nat_lt q port_places && f q)
+has-ports_where f q = elim (cases_lt q port_places) [
+  | inl low ↦ has-below f port_places q low ∙ sym (ap (λ b. b && f q) (lt-ltb q port_places low))
+  | inr high ↦ has-above f port_places q (omega arith) ∙ sym (ap (λ b. b && f q) (le-ltb q port_places (omega arith)))
 ]
 
-pub at-low : (row : Row) (q : ℕ) → q < 64 → at_port row q ≡ cond (has_number row.members q) (Some (has_number row.untagged q)) None
-at-low row q low = ap (λ b. cond (b && has_number row.members q) (Some (has_number row.untagged q)) None) (lt-ltb q 64 low)
+pub at-low : (row : Row) (q : ℕ) → q < port_places → at_port row q ≡ cond (has_number row.members q) (Some (has_number row.untagged q)) None
+at-low row q low = ap (λ b. cond (b && has_number row.members q) (Some (has_number row.untagged q)) None) (lt-ltb q port_places low)
 
-pub at-high : (row : Row) (q : ℕ) → 64 ≤ q → at_port row q ≡ None
-at-high row q high = ap (λ b. cond (b && has_number row.members q) (Some (has_number row.untagged q)) None) (le-ltb q 64 high)
+pub at-high : (row : Row) (q : ℕ) → port_places ≤ q → at_port row q ≡ None
+at-high row q high = ap (λ b. cond (b && has_number row.members q) (Some (has_number row.untagged q)) None) (le-ltb q port_places high)
 
 is_some-cond : (b : Bool) (x : Bool) → is_some (cond b (Some x) None) ≡ b
 is_some-cond true x = refl
@@ -28,19 +29,19 @@ unwrap-cond : (b : Bool) (x : Bool) → unwrap_or (cond b (Some x) None) false �
 unwrap-cond true x = refl
 unwrap-cond false x = refl
 
-pub members-row : (row : Row) → IsSetBelow 64 row.members → row.members ≡ ports_where (λ q. is_some (at_port row q))
-members-row row set = set ∙ same_below _ _ 64 (λ q low. sym (ap is_some (at-low row q low) ∙ is_some-cond (has_number row.members q) (has_number row.untagged q)))
+pub members-row : (row : Row) → IsSetBelow port_places row.members → row.members ≡ ports_where (λ q. is_some (at_port row q))
+members-row row set = set ∙ same_below _ _ port_places (λ q low. sym (ap is_some (at-low row q low) ∙ is_some-cond (has_number row.members q) (has_number row.untagged q)))
 
-pub untagged-row : (row : Row) (both : List ℕ) → both ≡ numbers_below 64 (λ q. has_number row.members q && has_number row.untagged q) → both ≡ ports_where (λ q. unwrap_or (at_port row q) false)
-untagged-row row both e = e ∙ same_below _ _ 64 (λ q low. sym (ap (λ o. unwrap_or o false) (at-low row q low) ∙ unwrap-cond (has_number row.members q) (has_number row.untagged q)))
+pub untagged-row : (row : Row) (both : List ℕ) → both ≡ numbers_below port_places (λ q. has_number row.members q && has_number row.untagged q) → both ≡ ports_where (λ q. unwrap_or (at_port row q) false)
+untagged-row row both e = e ∙ same_below _ _ port_places (λ q low. sym (ap (λ o. unwrap_or o false) (at-low row q low) ∙ unwrap-cond (has_number row.members q) (has_number row.untagged q)))
 
-pub at-with : (row new : Row) (p : ℕ) (u : Bool) → p < 64 → new.members ≡ numbers_below 64 (λ q. (q == p) || has_number row.members q)
-    → ((q : ℕ) → q < 64 → has_number new.untagged q ≡ cond (q == p) u (has_number row.untagged q))
+pub at-with : (row new : Row) (p : ℕ) (u : Bool) → p < port_places → new.members ≡ numbers_below port_places (λ q. (q == p) || has_number row.members q)
+    → ((q : ℕ) → q < port_places → has_number new.untagged q ≡ cond (q == p) u (has_number row.untagged q))
     → (q : ℕ) → at_port new q ≡ cond (q == p) (Some u) (at_port row q)
-at-with row new p u small members untagged q = elim (cases_lt q 64) [
+at-with row new p u small members untagged q = elim (cases_lt q port_places) [
   | inl low ↦
       at-low new q low
-      ∙ ap₂ (λ a b. cond a (Some b) None) (ap (λ (ns : List ℕ). has_number ns q) members ∙ has-below _ 64 q low) (untagged q low)
+      ∙ ap₂ (λ a b. cond a (Some b) None) (ap (λ (ns : List ℕ). has_number ns q) members ∙ has-below _ port_places q low) (untagged q low)
       ∙ by (q == p)
       ∙ ap (cond (q == p) (Some u)) (sym (at-low row q low))
   | inr high ↦
@@ -53,12 +54,12 @@ at-with row new p u small members untagged q = elim (cases_lt q 64) [
     by true = refl
     by false = refl
 
-pub at-without : (row new : Row) (p : ℕ) → p < 64 → new.members ≡ numbers_below 64 (λ q. has_number row.members q && not (q == p)) → new.untagged ≡ row.untagged
+pub at-without : (row new : Row) (p : ℕ) → p < port_places → new.members ≡ numbers_below port_places (λ q. has_number row.members q && not (q == p)) → new.untagged ≡ row.untagged
     → (q : ℕ) → at_port new q ≡ cond (q == p) None (at_port row q)
-at-without row new p small members untagged q = elim (cases_lt q 64) [
+at-without row new p small members untagged q = elim (cases_lt q port_places) [
   | inl low ↦
       at-low new q low
-      ∙ ap₂ (λ a (ns : List ℕ). cond a (Some (has_number ns q)) None) (ap (λ (ns : List ℕ). has_number ns q) members ∙ has-below _ 64 q low) untagged
+      ∙ ap₂ (λ a (ns : List ℕ). cond a (Some (has_number ns q)) None) (ap (λ (ns : List ℕ). has_number ns q) members ∙ has-below _ port_places q low) untagged
       ∙ by (has_number row.members q) (q == p)
       ∙ ap (cond (q == p) None) (sym (at-low row q low))
   | inr high ↦
@@ -73,15 +74,15 @@ at-without row new p small members untagged q = elim (cases_lt q 64) [
     by false false = refl
 
 -- what `with` or `without` gives of the untagged ports
-pub untagged-with : (p : ℕ) (old new : List ℕ) → new ≡ numbers_below 64 (λ q. (q == p) || has_number old q) → (q : ℕ) → q < 64 → has_number new q ≡ cond (q == p) true (has_number old q)
-untagged-with p old new e q low = ap (λ (ns : List ℕ). has_number ns q) e ∙ has-below _ 64 q low ∙ by (q == p)
+pub untagged-with : (p : ℕ) (old new : List ℕ) → new ≡ numbers_below port_places (λ q. (q == p) || has_number old q) → (q : ℕ) → q < port_places → has_number new q ≡ cond (q == p) true (has_number old q)
+untagged-with p old new e q low = ap (λ (ns : List ℕ). has_number ns q) e ∙ has-below _ port_places q low ∙ by (q == p)
   where
     by : (same : Bool) → (same || has_number old q) ≡ cond same true (has_number old q)
     by true = refl
     by false = refl
 
-pub untagged-without : (p : ℕ) (old new : List ℕ) → new ≡ numbers_below 64 (λ q. has_number old q && not (q == p)) → (q : ℕ) → q < 64 → has_number new q ≡ cond (q == p) false (has_number old q)
-untagged-without p old new e q low = ap (λ (ns : List ℕ). has_number ns q) e ∙ has-below _ 64 q low ∙ by (has_number old q) (q == p)
+pub untagged-without : (p : ℕ) (old new : List ℕ) → new ≡ numbers_below port_places (λ q. has_number old q && not (q == p)) → (q : ℕ) → q < port_places → has_number new q ≡ cond (q == p) false (has_number old q)
+untagged-without p old new e q low = ap (λ (ns : List ℕ). has_number ns q) e ∙ has-below _ port_places q low ∙ by (has_number old q) (q == p)
   where
     by : (there same : Bool) → (there && not same) ≡ cond same false there
     by true true = refl

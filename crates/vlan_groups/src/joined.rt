@@ -60,6 +60,14 @@ impl Joined {
         self.used[usize::from(p.number())]
     }
 
+    /// Whether the port is in the VLAN.
+    pub fn has(&self, p: Port, v: Vid) -> bool
+        ensures { result ≡ has_vlan self.now p v }
+    {
+        let vid = v.number();
+        self.block(p, (vid / 64) as u8).has((vid % 64) as u8)
+    }
+
     /// Puts the port into the VLAN or out of it.
     pub fn switch(&mut self, p: Port, v: Vid, on: bool)
         ensures vlan { Switches self.old self.new p v on }

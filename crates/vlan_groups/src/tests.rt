@@ -1,4 +1,5 @@
 //! Memberships by hand, and the same calls in the plain table of br_model.
+use crate::joined::Joined;
 use crate::{Absent, Exists, VlanTable};
 use br_model::change::Change;
 use br_model::numbers::{Port, Vid};
@@ -39,7 +40,7 @@ fn the_host_is_in_vlan_1(rt: HostRuntime) -> Result<(), Fail> {
     Ok(())
 }
 
-/// Ports 1 and 63 are in VLANs 1 and 4094. The PVID of port 1 is 1, that of port 63 is 4094.
+/// Ports 1 and 254 are in VLANs 1 and 4094. The PVID of port 1 is 1, that of port 254 is 4094.
 fn of_two_ports(alloc: Global, low: Port, high: Port, last: Vid) -> Result<VlanTable, Fail> {
     let mut table = VlanTable::make(alloc)?;
     table.add(low, Vid::DEFAULT, true, true)?;
@@ -51,10 +52,10 @@ fn of_two_ports(alloc: Global, low: Port, high: Port, last: Vid) -> Result<VlanT
 
 #[test]
 fn memberships_come(rt: HostRuntime) -> Result<(), Fail> {
-    let (low, high, last) = (port(1)?, port(63)?, vid(4094)?);
+    let (low, high, last) = (port(1)?, port(254)?, vid(4094)?);
     let table = of_two_ports(rt.alloc(), low, high, last)?;
-    assert_ports(&rt, table.ports_of(Vid::DEFAULT), &[0, 1, 63]);
-    assert_ports(&rt, table.ports_of(last), &[1, 63]);
+    assert_ports(&rt, table.ports_of(Vid::DEFAULT), &[0, 1, 254]);
+    assert_ports(&rt, table.ports_of(last), &[1, 254]);
     assert_ports(&rt, table.untagged_of(last), &[1]);
     assert!(rt; table.member(high, last) && !table.untagged(high, last));
     assert_eq!(rt; table.pvid(low), Some(Vid::DEFAULT));
@@ -68,7 +69,7 @@ fn memberships_come(rt: HostRuntime) -> Result<(), Fail> {
 
 #[test]
 fn a_membership_that_is_there_stays(rt: HostRuntime) -> Result<(), Fail> {
-    let (low, high, last) = (port(1)?, port(63)?, vid(4094)?);
+    let (low, high, last) = (port(1)?, port(254)?, vid(4094)?);
     let mut table = of_two_ports(rt.alloc(), low, high, last)?;
     assert_eq!(rt; table.add(high, last, true, true), Err(Exists));
     assert_eq!(rt; table.add(high, Vid::DEFAULT, false, true), Err(Exists));
@@ -79,7 +80,7 @@ fn a_membership_that_is_there_stays(rt: HostRuntime) -> Result<(), Fail> {
 
 #[test]
 fn memberships_go(rt: HostRuntime) -> Result<(), Fail> {
-    let (low, high, last) = (port(1)?, port(63)?, vid(4094)?);
+    let (low, high, last) = (port(1)?, port(254)?, vid(4094)?);
     let mut table = of_two_ports(rt.alloc(), low, high, last)?;
     assert_eq!(rt; table.del(high, Vid::DEFAULT), Ok(()));
     assert_eq!(rt; table.pvid(high), Some(last));
@@ -92,11 +93,30 @@ fn memberships_go(rt: HostRuntime) -> Result<(), Fail> {
 
 #[test]
 fn an_untagged_membership_leaves_nothing(rt: HostRuntime) -> Result<(), Fail> {
-    let (low, high, last) = (port(1)?, port(63)?, vid(4094)?);
+    let (low, high, last) = (port(1)?, port(254)?, vid(4094)?);
     let mut table = of_two_ports(rt.alloc(), low, high, last)?;
     assert_eq!(rt; table.del(low, last), Ok(()));
     assert_eq!(rt; table.add(low, last, false, false), Ok(()));
     assert_ports(&rt, table.untagged_of(last), &[]);
+    Ok(())
+}
+
+#[test]
+fn blocks_have_the_vlans_of_each_port(rt: HostRuntime) -> Result<(), Fail> {
+    let (low, high, last) = (port(1)?, port(254)?, vid(4094)?);
+    let mut joined = Joined::make(rt.alloc())?;
+    joined.switch(high, last, true);
+    joined.switch(low, vid(63)?, true);
+    joined.switch(low, vid(64)?, true);
+    joined.switch(low, vid(64)?, false);
+    assert!(rt; joined.has(high, last) && !joined.has(low, last));
+    assert!(rt; joined.has(low, vid(63)?) && !joined.has(low, vid(64)?));
+    assert!(rt; joined.used(high).has(63) && !joined.used(low).has(1));
+    assert!(rt; joined.block(high, 63).has(62) && joined.block(high, 0).is_empty());
+    assert_eq!(rt;
+        joined.vids_of(rt.alloc(), low)?.as_slice(),
+        [vid(63)?].as_slice()
+    );
     Ok(())
 }
 
@@ -137,7 +157,7 @@ fn both_tables_agree(rt: HostRuntime) -> Result<(), Fail> {
         state = state
             .wrapping_mul(6364136223846793005)
             .wrapping_add(1442695040888963407);
-        let port = port((state >> 33 & 7) as u8)?;
+        let port = port((state >> 33 & 7) as u8 * 36)?;
         let vid = vid((state >> 40 & 7) as u16 + 1)?;
         let call = call_from(state, port, vid);
         let expected = plain.is_member(port, vid) == (state >> 62 == 0);

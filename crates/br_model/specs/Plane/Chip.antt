@@ -6,11 +6,13 @@ use Rattle.std.specs.List.{filter, find, list_any}
 use Rattle.std.specs.declared.option.Option.{Option}
 use Rattle.std.specs.declared.option.Option.TheVariants.{None, Some}
 use Rattle.std.specs.Option.{option_map_or}
+use Rattle.br_model.specs.declared.change.Asks.{Asks}
+use Rattle.br_model.specs.declared.change.Asks.TheVariants.{Nothing, State, GroupRoom, AddressRoom}
 use Rattle.br_model.specs.declared.change.Change.{Change}
-use Rattle.br_model.specs.declared.change.Change.TheVariants.{PortUp, PortDown, SetFlags, SetState, VlanAdd, VlanDel, GroupJoin, GroupPart, Router, Querier, Snoop, Stp, AddrPut, AddrDel}
 use Rattle.br_model.specs.declared.domains.Edition.{Edition}
 use Rattle.br_model.specs.declared.frame.Head.{Head}
 use Rattle.br_model.specs.Forward.Admission.{has_valid_source, vlan_of}
+use Rattle.br_model.specs.Table.Change.{asks}
 use Rattle.br_model.specs.Table.Cut.{cut}
 use Rattle.br_model.specs.Table.DomainPorts.{is_in_domain}
 use Rattle.br_model.specs.Table.Domains.{Domains, chip_domains}
@@ -51,22 +53,16 @@ chip_table edition history c = table (cut edition history c.count)
 abbrev pub hit : Chip → Address → Chip
 hit c key = record c { hits = joined pair_cmp c.hits key }
 
+-- the address that comes, if one does, is hit
+abbrev pub hit_asked : Chip → Asks → Chip
+hit_asked c Nothing = c
+hit_asked c (State state) = c
+hit_asked c (GroupRoom vid group) = c
+hit_asked c (AddressRoom vid mac) = hit c (vid, mac)
+
 -- an entry that is put is hit
 abbrev pub hit_by : Chip → Change → Chip
-hit_by c (PortUp port) = c
-hit_by c (PortDown port) = c
-hit_by c (SetFlags port flags) = c
-hit_by c (SetState port state) = c
-hit_by c (VlanAdd port vid untagged pvid) = c
-hit_by c (VlanDel port vid) = c
-hit_by c (GroupJoin port vid group) = c
-hit_by c (GroupPart port vid group) = c
-hit_by c (Router port on) = c
-hit_by c (Querier six on) = c
-hit_by c (Snoop on) = c
-hit_by c (Stp on) = c
-hit_by c (AddrPut vid mac port kind) = hit c (vid, mac)
-hit_by c (AddrDel vid mac) = c
+hit_by c d = hit_asked c (asks d)
 
 -- It applies this deferred change, the next one.
 abbrev pub applies : Chip → Change → Chip

@@ -1,8 +1,11 @@
--- Changes of the table: which of them are of address entries, which reach a chip later, and the tickets under which they do.
+-- Changes of the table: which of them are of address entries, what they ask for, which reach a chip later, and the tickets
+-- under which they do.
 -- Source: the kernel's switchdev.rst (address entries are offloaded by deferred work) and net/bridge/br_switchdev.c
 -- (br_switchdev_mdb_notify offloads members of groups with SWITCHDEV_F_DEFER, as edition 2 does); the queue is this profile's.
 use Rattle.std.specs.Prelude.{Bool, true, false, List, map}
 use Rattle.std.specs.List.{filter, enumerate_from}
+use Rattle.br_model.specs.declared.change.Asks.{Asks}
+use Rattle.br_model.specs.declared.change.Asks.TheVariants.{Nothing, State, GroupRoom, AddressRoom}
 use Rattle.br_model.specs.declared.change.Change.{Change}
 use Rattle.br_model.specs.declared.change.Change.TheVariants.{PortUp, PortDown, SetFlags, SetState, VlanAdd, VlanDel, GroupJoin, GroupPart, Router, Querier, Snoop, Stp, AddrPut, AddrDel}
 use Rattle.br_model.specs.declared.change.Update.{Update}
@@ -25,6 +28,24 @@ is_of_address (Snoop on) = false
 is_of_address (Stp on) = false
 is_of_address (AddrPut vid mac port kind) = true
 is_of_address (AddrDel vid mac) = true
+
+-- What a change asks for: a state that it sets is to be one of Linux's, and a pair of VLAN and group or an address that comes
+-- wants room.
+abbrev pub asks : Change → Asks
+asks (PortUp port) = Nothing
+asks (PortDown port) = Nothing
+asks (SetFlags port flags) = Nothing
+asks (SetState port state) = State state
+asks (VlanAdd port vid untagged pvid) = Nothing
+asks (VlanDel port vid) = Nothing
+asks (GroupJoin port vid group) = GroupRoom vid group
+asks (GroupPart port vid group) = Nothing
+asks (Router port on) = Nothing
+asks (Querier six on) = Nothing
+asks (Snoop on) = Nothing
+asks (Stp on) = Nothing
+asks (AddrPut vid mac port kind) = AddressRoom vid mac
+asks (AddrDel vid mac) = Nothing
 
 -- whether the members of groups reach a chip through the queue
 abbrev pub groups_deferred : Edition → Bool

@@ -21,11 +21,11 @@ host = 0
 
 -- the last port
 abbrev pub last_port : ℕ
-last_port = 63
+last_port = 254
 
 -- a set of ports, and a table by port, has a place for each number below this one
 abbrev pub port_places : ℕ
-port_places = 64
+port_places = 256
 
 -- the domain of software ports
 abbrev pub software : ℕ

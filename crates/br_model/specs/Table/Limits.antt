@@ -5,7 +5,7 @@ use Rattle.std.specs.Option.{is_some}
 use Rattle.br_model.specs.declared.change.Asks.{Asks}
 use Rattle.br_model.specs.declared.change.Asks.TheVariants.{Nothing, State, GroupRoom, AddressRoom}
 use Rattle.br_model.specs.declared.change.Change.{Change}
-use Rattle.br_model.specs.declared.change.Change.TheVariants.{PortUp, PortDown, SetFlags, SetState, VlanAdd, VlanDel, GroupJoin, GroupPart, Router, Querier, Snoop, Stp, AddrPut, AddrDel}
+use Rattle.br_model.specs.Table.Change.{asks}
 use Rattle.br_model.specs.Table.GroupPairs.{has_room}
 use Rattle.br_model.specs.Data.Maps.{pair_cmp, get}
 use Rattle.br_model.specs.Table.Table.{Table, apply, table}
@@ -29,24 +29,6 @@ most_reports = 256
 -- address entries
 abbrev pub most_addresses : ℕ
 most_addresses = 16384
-
--- What a change asks for: a state that it sets is to be one of Linux's, and a pair of VLAN and group or an address that comes
--- wants room.
-abbrev pub asks : Change → Asks
-asks (PortUp port) = Nothing
-asks (PortDown port) = Nothing
-asks (SetFlags port flags) = Nothing
-asks (SetState port state) = State state
-asks (VlanAdd port vid untagged pvid) = Nothing
-asks (VlanDel port vid) = Nothing
-asks (GroupJoin port vid group) = GroupRoom vid group
-asks (GroupPart port vid group) = Nothing
-asks (Router port on) = Nothing
-asks (Querier six on) = Nothing
-asks (Snoop on) = Nothing
-asks (Stp on) = Nothing
-asks (AddrPut vid mac port kind) = AddressRoom vid mac
-asks (AddrDel vid mac) = Nothing
 
 -- Whether the table has what is asked for: a group that is there may have more members, and an address that is there may move;
 -- a new one wants room. The states are 0 to 4.

@@ -91,7 +91,7 @@ two_chips_text = lines_text (
     codes "scenario 1" ∷
     codes "port 1 a1 chip 1" ∷
     codes "port 2 b2 chip 2" ∷
-    codes "port 60 f3 soft" ∷
+    codes "port 200 f3 soft" ∷
     codes "cmd port up a1" ∷
     codes "cmd port up b2" ∷
     codes "cmd port up f3" ∷
@@ -137,7 +137,7 @@ one_turn_less_text = lines_text (
     codes "scenario 1" ∷
     codes "port 1 a1 chip 1" ∷
     codes "port 2 b2 chip 2" ∷
-    codes "port 60 f3 soft" ∷
+    codes "port 200 f3 soft" ∷
     codes "cmd port up a1" ∷
     codes "cmd port up b2" ∷
     codes "cmd port up f3" ∷

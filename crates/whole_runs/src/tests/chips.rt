@@ -48,7 +48,7 @@ end => end 13 13 0 1
 scenario 1
 port 1 a1 chip 1
 port 2 b2 chip 2
-port 60 f3 soft
+port 200 f3 soft
 cmd port up a1 => ok 1 3
 cmd port up b2 => ok 2 3
 cmd port up f3 => ok 3 3
@@ -68,7 +68,7 @@ end => end 13 10 0 0
 scenario 1
 port 1 a1 chip 1
 port 2 b2 chip 2
-port 60 f3 soft
+port 200 f3 soft
 cmd port up a1 => ok 1 3
 cmd port up b2 => ok 2 3
 cmd port up f3 => ok 3 3

@@ -294,7 +294,7 @@ fn causes_of_bad_lines(rt: HostRuntime) -> Result<(), Fail> {
         ("sweep 01\n", "number"),
         ("turn 2\n", "port"),
         ("port 0 p2 soft\n", "number"),
-        ("port 64 p2 soft\n", "number"),
+        ("port 255 p2 soft\n", "number"),
         ("port 02 host soft\n", "number"),
         ("port 1 p2 soft\n", "port"),
         ("port 2 p1 soft\n", "port"),

@@ -1,9 +1,7 @@
-use Rattle.std.proofs.Common.{◌<◌, ◌&&◌, ap, arith, ◌∙◌, sym}
+use Rattle.std.proofs.Common.{◌≤◌, ◌&&◌, ap, arith, ◌∙◌, sym}
 use Rattle.std.specs.Prelude.{is_some}
-use Rattle.br_model.specs.Table.Domains.{domain_of}
-use Rattle.port_sets.specs.Numbers.{has_number}
-use Rattle.port_sets.proofs.Numbers.{has-set_below}
-use Rattle.forward_rules.proofs.SetLaws.{any-found, any-none}
+use Rattle.br_model.specs.Table.Domains.{domain_of, last_port}
+use Rattle.forward_rules.proofs.SetLaws.{any-found, any-none, member-within}
 use Rattle.forward_rules.proofs.foreign.has_declared.Goals as goal
 
 pub returns-then-is_declared : goal.returns-then-is_declared
@@ -13,5 +11,5 @@ returns-then-is_declared c =
 pub returns : goal.returns
 returns c =
     sym (any-none (λ q. is_some (domain_of c.args.domains.now q)) c.args.ports (λ k there.
-    let low : k < 64 = has-set_below 64 c.args.ports k c.members_ascend.ensures.ordered there in
+    let low : k ≤ last_port = member-within c.args.ports k c.requires there in
     sym (ap (λ b. b && is_some (domain_of c.args.domains.now k)) there) ∙ c.loop-number.invariant k (omega arith)))

@@ -6,5 +6,5 @@ pub returns : goal.returns
 returns c =
     let key = c.args.members.now.0 in
     c.in_ok-push_all.ensures
-    ∙ ap (λ l. c.args.out.now.items ++ map (λ p. (key.0, key.1, p)) l) c.due.ensures
+    ∙ ap (λ l. c.args.out.now.items ++ map (λ p. (key.0, key.1, p)) l) c.due.ensures.value
     ∙ ap (λ l. c.args.out.now.items ++ l) (sym (due-section c.args.now key c.args.members.now.1))

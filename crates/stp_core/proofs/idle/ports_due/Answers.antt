@@ -1,11 +1,11 @@
-use Rattle.std.proofs.Common.{◌≡◌, ◌∙◌, ◌||◌, ℕ, Bool, Option, None, true, false, get_or, take, refl, sym, ap, arith}
+use Rattle.std.proofs.Common.{◌≡◌, ◌∙◌, ◌||◌, ℕ, List, Bool, Option, None, true, false, get_or, take, refl, sym, ap, arith}
 use Rattle.std.specs.Option.{option_map_or}
 use Rattle.std.specs.List.{list_any}
 use Rattle.br_model.specs.declared.tree.TreePort.{TreePort}
 use Rattle.stp_core.specs.Due.{is_due_at}
-use Rattle.stp_core.specs.Places.{entries_at}
+use Rattle.stp_core.specs.Places.{AreEmptyFrom, entries_at}
 use Rattle.stp_core.proofs.Firsts.{first_either, first_same}
-use Rattle.stp_core.proofs.PlaceLaws.{any-more}
+use Rattle.stp_core.proofs.PlaceLaws.{any-more, entries-before}
 use Rattle.stp_core.proofs.idle.ports_due.Goals as goal
 use Rattle.stp_core.proofs.idle.ports_due.Goals.{in-Some, in_default}
 
@@ -32,3 +32,11 @@ loop-p-preserved c =
           (λ now. or_none (before now) ∙ sym (more now ∙ ap (λ b. before now || b) (ap (at now) (here ∙ w.in_default.is))))
           c.loop-p.invariant
     ]
+
+pub returns : goal.returns
+returns c =
+    let due = λ (now : ℕ) (e : ℕ × TreePort). is_due_at c.args.election.now c.args.delay now e in
+    let end : AreEmptyFrom c.loop-p.p c.args.places.now = λ k high. c.requires k (omega (arith, c.loop-p-test.false, high)) in
+    let all = entries-before 0 c.loop-p.p c.args.places.now end in
+    first_same c.loop-p.due c.loop-p.due (λ now. list_any (due now) (entries_at 0 (take c.loop-p.p c.args.places.now))) (λ now. list_any (due now) (entries_at 0 c.args.places.now)) refl
+    (λ now. ap (λ (es : List (ℕ × TreePort)). list_any (due now) es) all) c.loop-p.invariant

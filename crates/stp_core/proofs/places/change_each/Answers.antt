@@ -2,7 +2,7 @@ use Rattle.std.proofs.Common.{◌≡◌, ◌∙◌, ℕ, Option, Some, None, len
 use Rattle.std.specs.Option.{option_map}
 use Rattle.std.proofs.lemmas.List.{length-set}
 use Rattle.br_model.specs.declared.tree.TreePort.{TreePort}
-use Rattle.stp_core.proofs.PlaceLaws.{passed-none, passed-more, passed-all}
+use Rattle.stp_core.proofs.PlaceLaws.{passed-none, passed-more, passed-all, passed-empty}
 use Rattle.stp_core.proofs.places.change_each.Goals as goal
 use Rattle.stp_core.proofs.places.change_each.Goals.{in-Some, in_default}
 
@@ -33,7 +33,11 @@ loop-p-preserved g c =
           }
     ]
 
-pub returns : goal.returns
-returns g c =
-    passed-all (g.R.Rule.changed c.args.rule.now) c.args.places.now c.loop-p.places (c.loop-p.invariant.sized ∙ sym c.told-places) c.loop-p.p
-    (omega (arith, c.told-places, c.loop-p-test.false)) c.loop-p.invariant.passed
+pub returns-clause-entries : goal.returns-clause-entries
+returns-clause-entries g c =
+    passed-all (g.R.Rule.changed c.args.rule.now) c.args.places.now c.loop-p.places (c.loop-p.invariant.sized ∙ sym c.told-places) c.args.used c.loop-p.p
+    (omega (arith, c.loop-p-test.false)) c.requires c.loop-p.invariant.passed
+
+pub returns-clause-empty : goal.returns-clause-empty
+returns-clause-empty g c =
+    passed-empty (g.R.Rule.changed c.args.rule.now) c.args.places.now c.loop-p.places c.args.used c.loop-p.p c.requires c.loop-p.invariant.passed

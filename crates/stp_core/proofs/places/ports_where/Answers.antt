@@ -1,4 +1,4 @@
-use Rattle.std.proofs.Common.{◌≡◌, ◌∙◌, ℕ, Option, None, true, false, get_or, sym, ap}
+use Rattle.std.proofs.Common.{◌≡◌, ◌∙◌, ℕ, Option, None, true, false, get_or, sym, ap, arith}
 use Rattle.std.specs.Option.{option_map_or}
 use Rattle.br_model.specs.declared.tree.TreePort.{TreePort}
 use Rattle.port_sets.specs.Numbers.{has_number}
@@ -29,5 +29,5 @@ loop-p-preserved g c =
 
 pub returns : goal.returns
 returns g c =
-    found-all (g.T.Test.holds c.args.test.now) c.args.places.now c.loop-p.ports c.loop-p.p c.told-places c.loop-p-test.false
+    found-all (g.T.Test.holds c.args.test.now) c.args.places.now c.loop-p.ports c.args.used c.loop-p.p (omega (arith, c.loop-p-test.false)) c.told-places c.requires
     c.members_ascend.ensures.ordered c.loop-p.invariant

@@ -1,6 +1,7 @@
-use Rattle.std.proofs.Common.{◌≡◌, ◌∙◌, ℕ, List, length, Option, None, set, get_or, sym, ap, arith}
+use Rattle.std.proofs.Common.{◌∙◌, ℕ, List, length, Option, None, set, get_or, sym, ap, arith}
 use Rattle.std.specs.Option.{option_map_or}
 use Rattle.std.proofs.lemmas.List.{length-replicate, length-set}
+use Rattle.br_model.specs.Table.Domains.{port_places}
 use Rattle.br_model.specs.Table.Table.{disabled}
 use Rattle.br_model.specs.declared.tree.TreePort.{TreePort}
 use Rattle.stp_core.proofs.Reading.{known-none, known-more, known-same, known-all}
@@ -8,7 +9,7 @@ use Rattle.stp_core.proofs.places.states_of.Goals as goal
 use Rattle.stp_core.proofs.places.states_of.Goals.{in-Some, in_default}
 
 pub loop-p-init : goal.loop-p-init
-loop-p-init c = record { known = known-none c.args.places.now 64; size = length-replicate 64 disabled }
+loop-p-init c = record { known = known-none c.args.places.now port_places; size = length-replicate port_places disabled }
 
 pub loop-p-preserved : goal.loop-p-preserved
 loop-p-preserved c =
@@ -32,4 +33,4 @@ loop-p-preserved c =
     ]
 
 pub returns : goal.returns
-returns c = known-all c.args.places.now c.loop-p.states c.loop-p.p (omega (arith, c.told-places, c.loop-p-test.false)) c.loop-p.invariant.known
+returns c = known-all c.args.places.now c.loop-p.states c.args.used c.loop-p.p (omega (arith, c.loop-p-test.false)) c.requires c.loop-p.invariant.known

@@ -1,10 +1,10 @@
-use Rattle.std.proofs.Common.{rules, ℕ, List, ◌≡◌, ◌+◌, ◌<◌, length, get_or, set, Some, sym, ap, subst, ◌∙◌, arith}
+use Rattle.std.proofs.Common.{rules, ℕ, List, ◌≡◌, ◌+◌, ◌<◌, length, [], get_or, set, Some, sym, ap, subst, ◌∙◌, arith}
 use Rattle.std.specs.Ordering.{nat_cmp}
 use Rattle.br_model.specs.Table.Domains.{Domains, entries_from}
 use Rattle.br_model.specs.Data.Maps.{put}
-use Rattle.br_model.specs.Table.DomainPorts.{IsWordOf}
+use Rattle.br_model.specs.Table.DomainPorts.{ports_in}
 use Rattle.br_model.proofs.DomainLaws.{entries-set}
-use Rattle.br_model.proofs.DomainWords.{word-put}
+use Rattle.br_model.proofs.DomainMembers.{ports_in-put}
 use Rattle.br_model.proofs.domains.Domains.set.Goals as goal
 
 -- the entries with the new one
@@ -25,6 +25,6 @@ invariant_of-self c = (
   search rules,
   λ domain low.
       let m : Domains = record { edition = c.self.inside.edition; ports = entries_from 0 c.self.inside.by_port } in
-      subst (λ (es : List (ℕ × ℕ)). IsWordOf (record m { ports = es }) domain (get_or c.put_bit.new.words domain 0)) (sym (entries-put c))
-      (word-put m c.args.p c.args.d domain (get_or c.self.inside.words domain 0) (get_or c.put_bit.new.words domain 0) (c.self.invariant.1 domain low) (λ n fits. c.put_bit.ensures domain n low fits)),
+      subst (λ (es : List (ℕ × ℕ)). get_or c.move_port.new.members domain [] ≡ ports_in (record m { ports = es }) domain) (sym (entries-put c))
+      (ports_in-put m c.args.p c.args.d domain _ _ (c.self.invariant.1 domain low) (c.move_port.ensures domain low)),
 )

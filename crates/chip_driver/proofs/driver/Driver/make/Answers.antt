@@ -11,23 +11,23 @@ use Rattle.chip_driver.proofs.driver.Driver.make.Goals as goal
 pub write_member-requires : goal.write_member-requires
 write_member-requires c =
     let blank : IsBlank c.in_ok-tables.tables = search rules in
-    let joined : ◌≡◌ {A = List (List ℕ)} c.in_ok-joined.joined (replicate block_count []) = search rules in
-    let own : c.start-shadow.result.own ≡ c.from_word.result = ap (λ (s : Shadow). s.own) c.start-shadow.ensures in
+    let joined : ◌≡◌ {A = List (List ℕ)} c.in_ok-joined.joined (replicate block_count []) = c.in_ok-joined.ensures in
+    let own : c.start-shadow.result.own ≡ c.ports_of.result = ap (λ (s : Shadow). s.own) c.start-shadow.ensures in
     let groups : ◌≡◌ {A = List Membership} c.in_ok-groups.groups [] = search rules in
     record {
-      settled = settled_start c.from_word.result _ _ c.in_ok-tables.tables _ _ _ blank
+      settled = settled_start c.ports_of.result _ _ c.in_ok-tables.tables _ _ _ blank
           (subst (λ o. MarksOwn o port_places c.in_ok-tables.tables c.mark_own.new.tables) own c.mark_own.ensures) c.switch_traps.ensures c.set_control.ensures.rest
-          c.start-shadow.ensures joined (host_off c.args.d.now c.args.dom c.ports_of.result c.from_word.result c.from_word.ensures c.ports_of.ensures c.host_is_elsewhere.ensures);
+          c.start-shadow.ensures joined (host_off c.args.d.now c.args.dom c.ports_of.result c.ports_of.ensures c.host_is_elsewhere.ensures);
       follow = follow_made c.start-shadow.result c.start-shadow.result.own c.in_ok-groups.groups c.in_ok-tables.tables _ _ _ blank c.mark_own.ensures c.switch_traps.ensures c.set_control.ensures.rest groups;
     }
 
 pub returns-clause-start : goal.returns-clause-start
 returns-clause-start c =
     let blank : IsBlank c.in_ok-tables.tables = search rules in
-    let own : c.start-shadow.result.own ≡ c.from_word.result = ap (λ (s : Shadow). s.own) c.start-shadow.ensures in
+    let own : c.start-shadow.result.own ≡ c.ports_of.result = ap (λ (s : Shadow). s.own) c.start-shadow.ensures in
     let groups : ◌≡◌ {A = List Membership} c.in_ok-groups.groups [] = search rules in
     let kept = c.write_member.new.self in
-    drives_start c.args.d.now c.args.dom c.ports_of.result c.from_word.result kept.shadow kept.joined kept.groups c.in_ok-tables.tables _ _ _ kept.tables blank
+    drives_start c.args.d.now c.args.dom c.ports_of.result kept.shadow kept.joined kept.groups c.in_ok-tables.tables _ _ _ kept.tables blank
     (subst (λ o. MarksOwn o port_places c.in_ok-tables.tables c.mark_own.new.tables) own c.mark_own.ensures) c.switch_traps.ensures c.set_control.ensures.rest
-    (c.set_control.ensures.row ∙ c.first_control.ensures) c.from_word.ensures c.ports_of.ensures (ap (λ (s : Shadow). s.routers) (c.write_member.ensures.shadow ∙ c.start-shadow.ensures))
+    (c.set_control.ensures.row ∙ c.first_control.ensures) c.ports_of.ensures (ap (λ (s : Shadow). s.routers) (c.write_member.ensures.shadow ∙ c.start-shadow.ensures))
     c.write_member.ensures.kept.settled c.write_member.ensures.row c.write_member.ensures.rest (c.write_member.ensures.members ∙ groups) c.write_member.ensures.kept.follow

@@ -1,5 +1,5 @@
-use Rattle.std.proofs.Common.{◌&&◌, ap, ap₂, ◌∙◌}
-use Rattle.std.specs.Prelude.{Some}
+use Rattle.std.proofs.Common.{◌≡◌, ◌&&◌, cond, ap, ap₂, ◌∙◌}
+use Rattle.std.specs.Prelude.{◌==◌, Some}
 use Rattle.port_sets.specs.Numbers.{has_number}
 use Rattle.chip_tables.specs.declared.rows.VlanRow.{VlanRow}
 use Rattle.chip_tables.specs.Rows.{Rows, vlan_at}
@@ -33,3 +33,13 @@ returns-clause-kept c =
           (λ vid. ap (λ (r : Rows). vlan_at r vid) c.refresh_vlan.ensures.rest ∙ c.set_vlan.ensures.row vid))
           c.refresh.ensures;
     }
+
+pub returns-clause-row : goal.returns-clause-row
+returns-clause-row c vid =
+    let old = c.args.self.now.tables in
+    let members : c.switched-members.result ≡ switched (vlan_at old c.args.v).members c.args.p c.args.on =
+    c.switched-members.ensures ∙ ap₂ (λ (r : VlanRow) n. switched r.members n c.args.on) c.vlan-row.ensures c.number-n.ensures.value in
+    let untagged : c.switched-untagged.result ≡ switched (vlan_at old c.args.v).untagged c.args.p c.args.untagged =
+    c.switched-untagged.ensures ∙ ap₂ (λ (r : VlanRow) n. switched r.untagged n c.args.untagged) c.vlan-row.ensures c.number-n.ensures.value in
+    ap (λ (r : Rows). vlan_at r vid) c.refresh.ensures.rest ∙ ap (λ (r : Rows). vlan_at r vid) c.refresh_vlan.ensures.rest ∙ c.set_vlan.ensures.row vid
+    ∙ ap₂ (λ m u. cond (vid == c.args.v) (record { members = m; untagged = u }) (vlan_at old vid)) members untagged

@@ -1,11 +1,6 @@
-use Rattle.std.proofs.Common.{◌<◌, length, set, ap, ◌∙◌, subst, List, ℕ, arith}
-use Rattle.chip_tables.specs.Rows.{Rows, port_of}
-use Rattle.chip_tables.proofs.Banks.{reads-set}
+use Rattle.std.proofs.Common.{ℕ, subst}
+use Rattle.chip_tables.specs.Rows.{WritesPort}
 use Rattle.chip_tables.proofs.tables.Tables.set_port.Goals as goal
 
 pub returns-clause-row : goal.returns-clause-row
-returns-clause-row c =
-    let same = ap (λ (t : Rows). t.ports) c.self.view_is in
-    reads-set port_of c.args.self.now.ports c.put.new.self c.from.result c.args.p c.pack_port.result c.args.r (c.from.ensures ∙ c.number.ensures.value)
-    (subst (λ (xs : List ℕ). c.from.result < length xs) same (omega (arith, c.put.ensures.len, c.from.ensures, c.number.ensures.value, c.number.ensures.below)))
-    (c.put.ensures.value ∙ ap (λ (xs : List ℕ). set xs c.from.result c.pack_port.result) same) c.pack_port.ensures
+returns-clause-row c = subst (λ (n : ℕ). WritesPort c.args.self.now c.set_port_numbered.new.self n c.args.r) c.number.ensures.value c.set_port_numbered.ensures.row

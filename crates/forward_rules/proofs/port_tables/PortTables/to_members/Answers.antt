@@ -1,4 +1,4 @@
-use Rattle.std.proofs.Common.{◌≡◌, Bool, true, false, not, ◌||◌, cond, ◌++◌, refl, ap, ap₂, sym, ◌∙◌}
+use Rattle.std.proofs.Common.{◌≡◌, false, not, ◌||◌, cond, ◌++◌, refl, ap, ap₂, sym, ◌∙◌}
 use Rattle.br_model.specs.Table.Groups.{is_link_local, is_six}
 use Rattle.br_model.specs.Table.Table.{Table}
 use Rattle.br_model.specs.Forward.Targets.{knows_querier, members_of, multicast_flood, to_members}

@@ -1,6 +1,6 @@
-use Rattle.std.proofs.Common.{◌≡◌, true, cond, refl, ap, sym, ◌∙◌}
+use Rattle.std.proofs.Common.{cond, refl, ap, sym, ◌∙◌}
 use Rattle.br_model.specs.Table.Table.{Table}
-use Rattle.br_model.specs.Forward.Targets.{knows_querier, multicast_flood, to_routers}
+use Rattle.br_model.specs.Forward.Targets.{multicast_flood, to_routers}
 use Rattle.forward_rules.specs.PortSets.{set_of}
 use Rattle.forward_rules.specs.contracts.port_tables.PortTables.{the_view}
 use Rattle.forward_rules.proofs.SetLaws.{set_of-set}

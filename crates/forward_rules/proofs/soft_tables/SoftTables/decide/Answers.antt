@@ -2,7 +2,6 @@ use Rattle.std.proofs.Common.{ap, sym, ◌∙◌}
 use Rattle.br_model.specs.Table.Table.{Table}
 use Rattle.br_model.specs.Forward.Admission.{admit}
 use Rattle.br_model.specs.Forward.Targets.{to_tree}
-use Rattle.br_model.specs.declared.frame.Class.{Class}
 use Rattle.forward_rules.specs.declared.soft_tables.Verdict.{Verdict}
 use Rattle.forward_rules.proofs.Deciding.{tree-out, none-out, none-class}
 use Rattle.forward_rules.proofs.soft_tables.SoftTables.decide.Goals as goal

@@ -1,8 +1,7 @@
-use Rattle.std.proofs.Common.{ap, sym, subst, ◌∙◌}
+use Rattle.std.proofs.Common.{ap, ◌∙◌}
 use Rattle.br_model.specs.Table.Table.{Table, apply, with_addresses}
 use Rattle.br_model.specs.Table.Limits.{fits}
 use Rattle.br_model.specs.declared.change.Change.TheVariants.{AddrPut}
-use Rattle.forward_rules.specs.contracts.soft_tables.SoftTables.{the_view}
 use Rattle.forward_rules.proofs.Deciding.{room-left}
 use Rattle.forward_rules.proofs.soft_tables.SoftTables.put_address.Goals as goal
 

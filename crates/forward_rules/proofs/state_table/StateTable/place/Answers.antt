@@ -1,18 +1,21 @@
-use Rattle.std.proofs.Common.{◌≡◌, ◌<◌, length, ap, ◌∙◌, arith}
+use Rattle.std.proofs.Common.{◌≡◌, ◌<◌, ◌≤◌, length, ap, ◌∙◌, arith}
 use Rattle.std.specs.Ordering.{nat_cmp}
 use Rattle.br_model.specs.Forward.Admission.{learning, forwarding}
 use Rattle.br_model.specs.Data.Maps.{put, without}
+use Rattle.br_model.specs.Table.Domains.{last_port}
 use Rattle.forward_rules.specs.PortSets.{state_is}
-use Rattle.forward_rules.proofs.Places.{placed-is, put-is, without-is}
+use Rattle.forward_rules.proofs.Places.{placed-is, placed-within, put-is, without-is}
 use Rattle.forward_rules.proofs.state_table.StateTable.place.Goals as goal
 
 pub invariant_of-self : goal.invariant_of-self
 invariant_of-self c =
     let port : c.from.result ≡ c.args.port = omega arith in
     let within : c.from.result < length c.self.inside.by_port = omega arith in
+    let low : c.args.port ≤ last_port = omega arith in
     record {
       learn = placed-is (λ o. state_is o learning) c.self.inside.by_port c.from.result c.args.port c.args.state c.eq.result c.self.inside.learning c.placed-self-inside.result within port c.self.invariant.learn c.eq.ensures c.placed-self-inside.ensures;
       forward = placed-is (λ o. state_is o forwarding) c.self.inside.by_port c.from.result c.args.port c.args.state c.eq-2.result c.self.inside.forwarding c.placed-self-inside-2.result within port c.self.invariant.forward c.eq-2.ensures c.placed-self-inside-2.ensures;
+      within = placed-within c.self.inside.forwarding c.placed-self-inside-2.result c.args.port c.eq-2.result c.self.invariant.within low c.placed-self-inside-2.ensures;
     }
 
 pub returns : goal.returns

@@ -1,4 +1,4 @@
-use Rattle.std.proofs.Common.{◌∙◌, ap, sym, slice_get, Some}
+use Rattle.std.proofs.Common.{◌∙◌, ap, slice_get}
 use Rattle.br_model.specs.Table.GroupPairs.{group_pairs}
 use Rattle.mdb_snoop.specs.Database.{ports_in}
 use Rattle.port_sets.specs.Numbers.{has_number}

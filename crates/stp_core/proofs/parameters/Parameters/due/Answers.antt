@@ -4,7 +4,6 @@ use Rattle.br_model.specs.declared.tree.TreePort.{TreePort}
 use Rattle.br_model.specs.Tree.Timers.{forward_delay}
 use Rattle.stp_core.specs.declared.vectors.Election.{Election}
 use Rattle.stp_core.specs.Due.{election_of, is_any_due, is_due_at, is_timer_due}
-use Rattle.stp_core.specs.Places.{entries_at}
 use Rattle.stp_core.proofs.Firsts.{first_either, first_same, first_none}
 use Rattle.stp_core.proofs.parameters.Parameters.due.Goals as goal
 
@@ -12,7 +11,7 @@ pub returns-then-self : goal.returns-then-self
 unfolding is_any_due
 returns-then-self c =
     let t = c.args.self.now in
-    let es = entries_at 0 c.self.inside.places in
+    let es = c.self.inside.places in
     let on : t.on ≡ true = ap (λ u. u.on) (sym c.self.view_is) ∙ c.if-self.true in
     let timer = λ (now : ℕ). is_timer_due now t in
     let ports = λ (now : ℕ). list_any (is_due_at c.election.result c.forward_delay.result now) es in
@@ -21,7 +20,7 @@ returns-then-self c =
     ap₂ (λ (el : Election) (delay : ℕ). timer now || list_any (is_due_at el delay now) es) c.election.ensures c.forward_delay.ensures
     ∙ ap (λ (xs : List (ℕ × TreePort)). timer now || list_any (is_due_at (election_of t) (forward_delay t) now) xs) (ap (λ u. u.ports) c.self.view_is)
     ∙ sym (ap (λ b. b && (timer now || list_any (is_due_at (election_of t) (forward_delay t) now) t.ports)) on))
-    (first_either c.timers_due.result c.ports_due.result timer ports c.timers_due.ensures c.ports_due.ensures)
+    (first_either c.timers_due.result c.due.result timer ports c.timers_due.ensures c.due.ensures)
 
 pub returns-else-self : goal.returns-else-self
 unfolding is_any_due

@@ -1,5 +1,6 @@
 use Rattle.std.proofs.Common.{◌≡◌, ℕ, ◌<◌, cond, List, Some, sym, ap, subst, ◌∙◌, arith}
 use Rattle.std.specs.Prelude.{◌==◌}
+use Rattle.br_model.specs.Table.Domains.{port_places}
 use Rattle.port_sets.specs.Numbers.{has_number}
 use Rattle.vlan_groups.specs.declared.row.Row.{Row}
 use Rattle.vlan_groups.specs.Rows.{at_port}
@@ -12,7 +13,7 @@ returns c =
     let row : Row = c.args.self.now in
     let n : ℕ = c.number-number.result in
     let made : Row = record { members = c.with.result; untagged = c.if-untagged.result } in
-    let untagged : (q : ℕ) → q < 64 → has_number made.untagged q ≡ cond (q == n) c.args.untagged (has_number row.untagged q) = λ q low. elim c.if-untagged.branch [
+    let untagged : (q : ℕ) → q < port_places → has_number made.untagged q ≡ cond (q == n) c.args.untagged (has_number row.untagged q) = λ q low. elim c.if-untagged.branch [
       | then-untagged w ↦
           ap (λ (ns : List ℕ). has_number ns q) w.result-is
           ∙ untagged-with n row.untagged _ w.with-then-untagged.ensures q low
