@@ -55,7 +55,8 @@ invariant_of-self g c =
     let within : AreWithin (changes_of log ++ items) = subst (λ (l : List Change). AreWithin (changes_of log ++ l)) (sym all) i.fit in
     let shown : c.replace_with.new.dest.desk.shown.value ≡ after before op = h.0 in
     let table : IsTable (after before op) = table_after before op log i.table same is (let e : c.self.inside.batches + 1 ≡ length log + 1 = omega (arith, i.batches) in e) some within in
-    let count : c.len.result ≡ length items = omega (arith, c.len.ensures, ap length all) in
+    let held : c.len.result ≡ length c.self.inside.pending.items = search rules in
+    let count : c.len.result ≡ length items = held ∙ ap length (sym all) in
     let whole : changes_of c.enter_batch-seen.result.log ≡ changes_of log ++ items = ap changes_of b.log ∙ changes_of-push log items in
     let changes : length (changes_of c.enter_batch-seen.result.log) ≡ length (changes_of log) + length items = ap length whole ∙ length-append (changes_of log) items in
     let longer : length c.enter_batch-seen.result.log ≡ length log + 1 = ap length b.log ∙ length-append log (items ∷ []) in
@@ -95,7 +96,8 @@ returns-clause-count g c =
     let log = c.self.inside.seen.log in
     let items = c.in_ok-changes.changes.items in
     let all : items ≡ c.self.inside.pending.items = c.in_ok-changes.ensures.items ∙ c.as_slice.ensures.value in
-    let count : c.len.result ≡ length items = omega (arith, c.len.ensures, ap length all) in
+    let held : c.len.result ≡ length c.self.inside.pending.items = search rules in
+    let count : c.len.result ≡ length items = held ∙ ap length (sym all) in
     let changes : length (changes_of c.enter_batch-seen.result.log) ≡ length (changes_of log) + length items = ap (λ (l : List (List Change)). length (changes_of l)) b.log ∙ (ap length (changes_of-push log items) ∙ length-append (changes_of log) items) in
     omega (arith, i.len, changes, count)
 
