@@ -1,14 +1,16 @@
 //! What each command does, to its last line.
-ghost use Rattle.std.specs.Prelude.{◌≡◌, ℕ, ◌≤◌, [], List, Option, OnOk, string_bytes};
+ghost use Rattle.std.specs.Prelude.{◌≡◌, ℕ, ◌≤◌, [], List, Option, OnOk, false, string_bytes};
 ghost use Rattle.br_model.specs.Program.Generator.{made, most_frames};
 ghost use Rattle.br_model.specs.Program.Listings.{listed};
 ghost use Rattle.br_model.specs.Program.Runs.{body, told};
 ghost use Rattle.br_model.specs.Program.Summary.{summary as summary_of};
+ghost use Rattle.br_model.specs.Text.Scenario.{opened};
 ghost use Rattle.run_io.specs.Causes.{HasCause};
 ghost use Rattle.capture_runner.specs.Advancing.{Caused as StopsBy};
 ghost use Rattle.capture_runner.specs.Generating.{HasRoom, PutsAll};
 ghost use Rattle.capture_runner.specs.Halting.{Lists};
 ghost use Rattle.capture_runner.specs.Outcome.{Caused, Reads, Writes, nothing, anything, alone};
+ghost use Rattle.capture_runner.specs.Session.{Follows};
 
 use crate::demo::summary;
 use crate::replay::{Halt, Stop, play, put_if_full};
@@ -20,26 +22,78 @@ use run_io::sinks::{Nowhere, Sink, WriteFault};
 use run_io::sources::Source;
 use scenario_text::{Generator, append_opening};
 use std::alloc::Global;
+use std::sync::Wait;
 
-/// `replay`: the transcript is written while the scenario is read.
-pub(crate) fn replay<S: Source, K: Sink>(alloc: Global, source: &mut S, sink: &mut K) -> Status
+/// `replay` in this new session.
+fn replay_in<R: Wait, S: Source, K: Sink>(
+    rt: &R,
+    alloc: Global,
+    session: &mut Session,
+    source: &mut S,
+    sink: &mut K,
+) -> Status
+    requires follows { Follows (opened false) session.old }
+    requires lines { session.old.lines ≡ 0 }
     ensures outcome { Reads told body anything result
         (record { left_before = S.left source.old; left_now = S.left source.new; taken_before = K.taken sink.old; taken_now = K.taken sink.new }) }
     ensures cause { Caused result (S.faults source.old) (S.faults source.new) (K.faults sink.old) (K.faults sink.new) }
 {
-    let (Ok(mut output), Ok(mut session)) = (Output::make(alloc), Session::new(alloc)) else {
+    let Ok(mut output) = Output::make(alloc) else {
         return end_without_memory(sink);
     };
-    match play(alloc, &mut session, source, sink, &mut output) {
+    match play(rt, alloc, session, source, sink, &mut output) {
         Ok(last) => end_with(sink, &mut output, b"", last.status()),
         Err(Halt::Stopped(stop)) => end_with(sink, &mut output, stop.line(), stop.status()),
         Err(Halt::WriteFault) => Status::WriteFault,
     }
 }
 
-/// Runs a scenario, and answers how it ends, with the listing of its whole history's table or with the bad line. The run is a
-/// replay's over a sink that keeps nothing, so there is one loop for both.
-fn listing_of<S: Source>(
+/// `replay`: the transcript is written while the scenario is read.
+pub(crate) fn replay<R: Wait, S: Source, K: Sink>(
+    rt: &R,
+    alloc: Global,
+    source: &mut S,
+    sink: &mut K,
+) -> Status
+    ensures outcome { Reads told body anything result
+        (record { left_before = S.left source.old; left_now = S.left source.new; taken_before = K.taken sink.old; taken_now = K.taken sink.new }) }
+    ensures cause { Caused result (S.faults source.old) (S.faults source.new) (K.faults sink.old) (K.faults sink.new) }
+{
+    match Session::new(alloc) {
+        Ok(mut session) => {
+            let status = replay_in(rt, alloc, &mut session, source, sink);
+            session.finish(rt);
+            status
+        }
+        Err(_) => end_without_memory(sink),
+    }
+}
+
+/// Runs a scenario in this new session, and answers how it ends, with the listing of its whole history's table or with the bad line.
+/// The run is a replay's over a sink that keeps nothing, so there is one loop for both.
+fn listing_in<R: Wait, S: Source>(
+    rt: &R,
+    alloc: Global,
+    session: &mut Session,
+    listing: Listing,
+    source: &mut S,
+) -> Result<(Last, String), Stop>
+    requires follows { Follows (opened false) session.old }
+    requires lines { session.old.lines ≡ 0 }
+    ensures lists { Lists listing (S.left source.old) (S.left source.new) result }
+    ensures cause { StopsBy (S.faults source.old) (S.faults source.new) result }
+{
+    let mut output = Output::make(alloc)?;
+    match play(rt, alloc, session, source, &mut Nowhere, &mut output) {
+        Ok(last) => Ok((last, session.list(alloc, listing, last)?)),
+        Err(Halt::Stopped(stop)) => Err(stop),
+        Err(Halt::WriteFault) => unreachable!(),
+    }
+}
+
+/// The same in a session of its own.
+fn listing_of<R: Wait, S: Source>(
+    rt: &R,
     alloc: Global,
     listing: Listing,
     source: &mut S,
@@ -47,17 +101,15 @@ fn listing_of<S: Source>(
     ensures lists { Lists listing (S.left source.old) (S.left source.new) result }
     ensures cause { StopsBy (S.faults source.old) (S.faults source.new) result }
 {
-    let mut output = Output::make(alloc)?;
     let mut session = Session::new(alloc)?;
-    match play(alloc, &mut session, source, &mut Nowhere, &mut output) {
-        Ok(last) => Ok((last, session.list(alloc, listing, last)?)),
-        Err(Halt::Stopped(stop)) => Err(stop),
-        Err(Halt::WriteFault) => unreachable!(),
-    }
+    let listed = listing_in(rt, alloc, &mut session, listing, source);
+    session.finish(rt);
+    listed
 }
 
 /// `show`: the listing is written when the scenario has ended.
-pub(crate) fn show<S: Source, K: Sink>(
+pub(crate) fn show<R: Wait, S: Source, K: Sink>(
+    rt: &R,
     alloc: Global,
     listing: Listing,
     source: &mut S,
@@ -67,7 +119,7 @@ pub(crate) fn show<S: Source, K: Sink>(
         (record { left_before = S.left source.old; left_now = S.left source.new; taken_before = K.taken sink.old; taken_now = K.taken sink.new }) }
     ensures cause { Caused result (S.faults source.old) (S.faults source.new) (K.faults sink.old) (K.faults sink.new) }
 {
-    match listing_of(alloc, listing, source) {
+    match listing_of(rt, alloc, listing, source) {
         Ok((last, text)) => put_last(sink, text.as_bytes(), last.status()),
         Err(stop) => put_last(sink, stop.line(), stop.status()),
     }
@@ -114,13 +166,19 @@ pub(crate) fn generate<K: Sink>(alloc: Global, number: u64, count: u32, sink: &m
 }
 
 /// `demo`: the summary is written when the run is over.
-pub(crate) fn demo<K: Sink>(alloc: Global, number: u64, count: u32, sink: &mut K) -> Status
+pub(crate) fn demo<R: Wait, K: Sink>(
+    rt: &R,
+    alloc: Global,
+    number: u64,
+    count: u32,
+    sink: &mut K,
+) -> Status
     requires { count ≤ most_frames }
     ensures outcome { (left : Option (List ℕ)) → Writes (summary_of number count) result
         (record { left_before = left; left_now = left; taken_before = K.taken sink.old; taken_now = K.taken sink.new }) }
     ensures cause { (reads : ℕ) → Caused result reads reads (K.faults sink.old) (K.faults sink.new) }
 {
-    match summary(alloc, number, count) {
+    match summary(rt, alloc, number, count) {
         Ok(text) => put_last(sink, text.as_bytes(), Status::Ok),
         Err(_) => end_without_memory(sink),
     }

@@ -1,8 +1,10 @@
 //! The run of a generated scenario, of which lines are counted alone.
 ghost use Rattle.std.specs.Prelude.{◌≡◌, ◌+◌, ◌≤◌, ◌∷◌, ◌++◌, [], true, IfOk, OnOk, codes, decimal, string_bytes};
 ghost use Rattle.std.specs.List.{list_all};
-ghost use Rattle.br_model.specs.Program.Generator.{most_frames};
+ghost use Rattle.br_model.specs.Program.Generator.{made_scenario, most_frames};
+ghost use Rattle.br_model.specs.Program.Runs.{setup_of};
 ghost use Rattle.br_model.specs.Program.Summary.{summary as summary_of};
+ghost use Rattle.br_model.specs.Plane.World.{first_world};
 ghost use Rattle.transcript_lines.specs.Rows.{expand_row};
 ghost use Rattle.capture_runner.specs.Counting.{Adds, AddsSent, RunsOn};
 ghost use Rattle.br_model.specs.Table.Domains.{chip_domains};
@@ -16,6 +18,7 @@ use br_model::transcript::Line;
 use port_sets::Ports;
 use scenario_text::{Generator, domains, first_steps};
 use std::alloc::{AllocError, Global};
+use std::sync::Wait;
 use transcript_lines::{Lines, Row};
 
 /// How many lines begin with each of these words.
@@ -122,7 +125,8 @@ impl Tally {
 }
 
 /// Does these steps, and counts their lines.
-fn do_steps(
+fn do_steps<R: Wait>(
+    rt: &R,
     alloc: Global,
     steps: Vec<Step>,
     world: &mut World,
@@ -134,31 +138,54 @@ fn do_steps(
 {
     for step in steps {
         lines.clear();
-        world.step(alloc, step, lines)?;
+        world.step(rt, alloc, step, lines)?;
         tally.add_all(lines)?;
     }
     Ok(())
 }
 
-/// The line that tells the run of so many frames from this state on, with its line feed.
-pub(crate) fn summary(alloc: Global, number: u64, count: u32) -> Result<String, NoMemory>
-    requires { count ≤ most_frames }
+/// The line that tells the run of so many frames from this state on, in this new world, with its line feed.
+fn summary_in<R: Wait>(
+    rt: &R,
+    alloc: Global,
+    world: &mut World,
+    number: u64,
+    count: u32,
+) -> Result<String, NoMemory>
+    requires count { count ≤ most_frames }
+    requires world { world.old ≡ first_world (setup_of (made_scenario number count).roster) }
     ensures { IfOk result (λ text. string_bytes text ≡ summary_of number count) }
 {
-    let mut world = World::make(alloc, domains(), Mac::FIRST_OWN)?;
     let mut lines = Lines::new(alloc);
     let mut tally = Tally::NONE;
     do_steps(
+        rt,
         alloc,
         first_steps(alloc)?,
-        &mut world,
+        world,
         &mut lines,
         &mut tally,
     )?;
     let mut frames = Generator::new(number, count);
     while frames.left() > 0 {
         let steps = frames.frame_steps(alloc)?;
-        do_steps(alloc, steps, &mut world, &mut lines, &mut tally)?;
+        do_steps(rt, alloc, steps, world, &mut lines, &mut tally)?;
     }
     tally.line(alloc, count, world.changes(), world.pending())
+}
+
+/// The same in a world of its own.
+pub(crate) fn summary<R: Wait>(
+    rt: &R,
+    alloc: Global,
+    number: u64,
+    count: u32,
+) -> Result<String, NoMemory>
+    requires { count ≤ most_frames }
+    ensures { IfOk result (λ text. string_bytes text ≡ summary_of number count) }
+{
+    let mut world = World::make(rt, alloc, domains(), Mac::FIRST_OWN)?;
+    let text = summary_in(rt, alloc, &mut world, number, count);
+    world.end(rt);
+    text
 }

@@ -24,6 +24,7 @@ use run_io::output::Output;
 use run_io::sinks::{Sink, WriteFault};
 use run_io::sources::Source;
 use std::alloc::{AllocError, Global};
+use std::sync::Wait;
 
 /// Why a run stopped before its scenario ended.
 #[derive(Clone, Copy, PartialEq, Eq)]
@@ -67,7 +68,8 @@ impl From<AllocError> for Stop {
 }
 
 /// Reads the next line, does its step and writes the step's lines after the text.
-pub(crate) fn advance<S: Source>(
+pub(crate) fn advance<R: Wait, S: Source>(
+    rt: &R,
     alloc: Global,
     reader: &mut LineReader,
     session: &mut Session,
@@ -87,7 +89,7 @@ pub(crate) fn advance<S: Source>(
     match reader.next(alloc, source) {
         Ok(Some(got)) => {
             if got.whole {
-                Ok(session.take(alloc, got.bytes, text)?)
+                Ok(session.take(rt, alloc, got.bytes, text)?)
             } else {
                 Ok(Next::End(session.close(got.bytes)))
             }
@@ -198,7 +200,8 @@ fn put_before_read<K: Sink>(
 }
 
 /// Does the steps of a section. The output is written where it is full.
-fn do_steps<K: Sink>(
+fn do_steps<R: Wait, K: Sink>(
+    rt: &R,
     alloc: Global,
     session: &mut Session,
     sink: &mut K,
@@ -216,14 +219,15 @@ fn do_steps<K: Sink>(
 {
     for step in steps {
         put_if_full(output, sink)?;
-        session.step(alloc, step, &mut output.text)?;
+        session.step(rt, alloc, step, &mut output.text)?;
     }
     Ok(())
 }
 
 /// Reads the section of the line before, of so many bytes, and does its steps. The answer is how the scenario ends with it,
 /// if so.
-fn play_section<S: Source, K: Sink>(
+fn play_section<R: Wait, S: Source, K: Sink>(
+    rt: &R,
     alloc: Global,
     reader: &mut LineReader,
     session: &mut Session,
@@ -247,7 +251,7 @@ fn play_section<S: Source, K: Sink>(
     output.flush(sink)?;
     match read_section(alloc, reader, session, source, length)? {
         Captured::Steps(steps) => {
-            do_steps(alloc, session, sink, output, steps)?;
+            do_steps(rt, alloc, session, sink, output, steps)?;
             Ok(None)
         }
         Captured::End(last) => Ok(Some(last)),
@@ -256,7 +260,8 @@ fn play_section<S: Source, K: Sink>(
 
 /// Reads a scenario to its end or to its first bad line, in a new session. The output takes its transcript, the last line too, and
 /// is written before each read that may wait, before each section, and where it is full.
-pub(crate) fn play<S: Source, K: Sink>(
+pub(crate) fn play<R: Wait, S: Source, K: Sink>(
+    rt: &R,
     alloc: Global,
     session: &mut Session,
     source: &mut S,
@@ -275,12 +280,12 @@ pub(crate) fn play<S: Source, K: Sink>(
     loop {
         put_before_read(&reader, output, sink)?;
         let text = &mut output.text;
-        match advance(alloc, &mut reader, session, source, text)? {
+        match advance(rt, alloc, &mut reader, session, source, text)? {
             Next::Line => {}
             Next::Section(length) => {
                 let reader = &mut reader;
                 if let Some(last) = play_section(
-                    alloc, reader, session, source, sink, output, length,
+                    rt, alloc, reader, session, source, sink, output, length,
                 )? {
                     session.end(last, &mut output.text)?;
                     return Ok(last);

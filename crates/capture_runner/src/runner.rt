@@ -10,13 +10,15 @@ use crate::words::read_words;
 use run_io::sinks::Sink;
 use run_io::sources::Source;
 use std::alloc::Global;
+use std::sync::Wait;
 
 /// Does all that the words ask, over this source and sink. `replay` reads a scenario of at most 2^28 bytes and writes its
 /// transcript, `show TABLE` (`fdb`, `vlan` or `mdb`) the table at its end. `gen NUMBER COUNT` reads nothing and writes a scenario,
 /// `demo NUMBER COUNT` a summary of its run: NUMBER is below 2^64, COUNT at most 100,000. `show` and `demo` write nothing before
 /// their work is over; `gen` has all its memory before its first write. Each status has its last line: that of the transcript or of
 /// the other output, `bad N WHY`, `usage`, `read fault`, `no memory` or `too long`; after a fault of writing none.
-pub fn run<S: Source, K: Sink>(
+pub fn run<R: Wait, S: Source, K: Sink>(
+    rt: &R,
     alloc: Global,
     words: &[String],
     source: &mut S,
@@ -26,10 +28,10 @@ pub fn run<S: Source, K: Sink>(
     ensures cause { Caused result (S.faults source.old) (S.faults source.new) (K.faults sink.old) (K.faults sink.new) }
 {
     match read_words(alloc, words) {
-        Ok(Some(Asked::Replay)) => replay(alloc, source, sink),
-        Ok(Some(Asked::Show(listing))) => show(alloc, listing, source, sink),
+        Ok(Some(Asked::Replay)) => replay(rt, alloc, source, sink),
+        Ok(Some(Asked::Show(listing))) => show(rt, alloc, listing, source, sink),
         Ok(Some(Asked::Gen { number, count })) => generate(alloc, number, count, sink),
-        Ok(Some(Asked::Demo { number, count })) => demo(alloc, number, count, sink),
+        Ok(Some(Asked::Demo { number, count })) => demo(rt, alloc, number, count, sink),
         Ok(None) => put_last(sink, b"usage\n", Status::Usage),
         Err(_) => end_without_memory(sink),
     }

@@ -22,6 +22,8 @@ use bridge_command::Roster;
 use pcapng_read::CapFault;
 use scenario_text::{list, read_line, says_end};
 use std::alloc::{AllocError, Global};
+use std::mem;
+use std::sync::Wait;
 use transcript_lines::Lines;
 use transcript_text::{Writer, append_bad};
 
@@ -63,8 +65,8 @@ pub(crate) enum Next {
     End(Last),
 }
 
-/// What the lines so far have said, how many they are, and the world after their steps, which is made at the first one.
-#[derive(Drop)]
+/// What the lines so far have said, how many they are, and the world after their steps, which is made at the first one. It isn't
+/// `Drop`, since a world isn't: end it by `finish`.
 pub(crate) struct Session {
     lines: u32,
     roster: Roster,
@@ -90,8 +92,9 @@ impl Session {
 
     /// Reads a whole line, without its line feed, does its step, and writes the step's lines after the text. After want of
     /// memory the session isn't used again.
-    pub(crate) fn take(
+    pub(crate) fn take<R: Wait>(
         &mut self,
+        rt: &R,
         alloc: Global,
         line: &[u8],
         text: &mut String,
@@ -116,7 +119,7 @@ impl Session {
             Item::Bridge(_) => Ok(Next::Line),
             Item::Declared(_) => Ok(Next::Line),
             Item::Step(step) => {
-                self.step(alloc, step, text)?;
+                self.step(rt, alloc, step, text)?;
                 Ok(Next::Line)
             }
             Item::Capture(length) => Ok(Next::Section(length)),
@@ -148,7 +151,7 @@ impl Session {
 
     /// Does the first step, in a new world. A world is large, so its making has a function of its own: each call pays for the room
     /// of its locals.
-    fn begin(&mut self, alloc: Global, step: Step) -> Result<(), NoMemory>
+    fn begin<R: Wait>(&mut self, rt: &R, alloc: Global, step: Step) -> Result<(), NoMemory>
         requires first { self.old.world ≡ None }
         requires by_line { comes_by_line (chips_of self.old.roster.ports) step ≡ true }
         requires behind { IsBehindDeclarations self.old.roster }
@@ -158,14 +161,24 @@ impl Session {
         ensures ready { OnOk result (IsReady self.new.roster self.new.world) }
         ensures does { OnOk result (IsAfter (world_of self.old.roster None) step self.new) }
     {
-        let mut world = World::make(alloc, self.roster.domains(), self.roster.own())?;
-        world.step(alloc, step, &mut self.told)?;
-        self.world = Some(world);
-        Ok(())
+        let mut world = World::make(rt, alloc, self.roster.domains(), self.roster.own())?;
+        match world.step(rt, alloc, step, &mut self.told) {
+            Ok(()) => {
+                match mem::replace(&mut self.world, Some(world)) {
+                    None => {}
+                    Some(_) => unreachable!(),
+                }
+                Ok(())
+            }
+            Err(error) => {
+                world.end(rt);
+                Err(error)
+            }
+        }
     }
 
     /// Does a step in the world that is there, or in a new one.
-    fn go_on(&mut self, alloc: Global, step: Step) -> Result<(), NoMemory>
+    fn go_on<R: Wait>(&mut self, rt: &R, alloc: Global, step: Step) -> Result<(), NoMemory>
         requires by_line { comes_by_line (chips_of self.old.roster.ports) step ≡ true }
         requires ready { IsReady self.old.roster self.old.world }
         requires behind { IsBehindDeclarations self.old.roster }
@@ -176,14 +189,15 @@ impl Session {
         ensures does { OnOk result (IsAfter (world_of self.old.roster self.old.world) step self.new) }
     {
         match &mut self.world {
-            Some(world) => world.step(alloc, step, &mut self.told),
-            None => self.begin(alloc, step),
+            Some(world) => world.step(rt, alloc, step, &mut self.told),
+            None => self.begin(rt, alloc, step),
         }
     }
 
     /// Does a step, and writes its lines.
-    pub(crate) fn step(
+    pub(crate) fn step<R: Wait>(
         &mut self,
+        rt: &R,
         alloc: Global,
         step: Step,
         text: &mut String,
@@ -196,7 +210,7 @@ impl Session {
         ensures err { OnErr result (string_bytes text.new ≡ string_bytes text.old) }
     {
         self.told.clear();
-        self.go_on(alloc, step)?;
+        self.go_on(rt, alloc, step)?;
         let whole = text.as_bytes().len();
         let appended = self.writer.append_lines(&self.told, text);
         cut_if_torn(appended, whole, text)
@@ -293,6 +307,21 @@ impl Session {
         let whole = text.as_bytes().len();
         let appended = self.append_last(last, text);
         cut_if_torn(appended, whole, text)
+    }
+
+    /// Ends the session and its world.
+    pub(crate) fn finish<R: Wait>(self, rt: &R) {
+        let Session {
+            lines: _,
+            roster: _,
+            world,
+            told: _,
+            writer: _,
+        } = self;
+        match world {
+            Some(world) => world.end(rt),
+            None => {}
+        }
     }
 }
 

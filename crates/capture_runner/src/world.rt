@@ -18,14 +18,15 @@ use br_model::transcript::Line;
 use plane_core::{Plane, TurnFault};
 use std::alloc::{AllocError, Global};
 use std::marker::Model;
+use std::sync::Wait;
 use table_publish::{Board, Seat};
 use transcript_lines::Lines;
 
-/// The plane, and the one seat at its board. Both are large, so they stand on the heap: a call pays for the room of its locals.
-#[derive(Drop)]
+/// The plane, and the one seat at its board. The plane is large, so it stands on the heap: a call pays for the room of its locals.
+/// It isn't `Drop`, since the board isn't: end it by `end`.
 pub(crate) struct World {
     plane: Box<Plane>,
-    seat: Box<Seat>,
+    seat: Seat,
 }
 
 impl Model for World {
@@ -36,7 +37,7 @@ impl Model for World {
 
     ghost view = { λ w. w.plane.value.world };
 
-    ghost invariant = { λ w. w.seat.value.board ≡ w.plane.value.board };
+    ghost invariant = { λ w. w.seat.board ≡ w.plane.value.board };
 }
 
 /// The chip of the domain applies the update whose turn it is.
@@ -56,24 +57,39 @@ fn turn(plane: &mut Plane, dom: Dom, lines: &mut Lines) -> Result<(), NoMemory>
 
 // After want of memory a world isn't used again.
 impl World {
-    pub(crate) fn make(alloc: Global, domains: Domains, own: Mac) -> Result<World, NoMemory>
+    pub(crate) fn make<R: Wait>(
+        rt: &R,
+        alloc: Global,
+        domains: Domains,
+        own: Mac,
+    ) -> Result<World, NoMemory>
         ensures { IfOk result (λ w. w ≡ first_world (record { domains = domains; own = own })) }
     {
-        let (board, mut seats) = Board::make(alloc, &domains, 1)?;
+        let (board, mut seats) = Board::make(rt, alloc, &domains, 1)?;
         let Some(seat) = seats.next() else {
             unreachable!();
         };
-        let plane = Plane::make(alloc, domains, own, board)?;
-        Ok(World {
-            plane: Box::new(alloc, plane)?,
-            seat: Box::new(alloc, seat)?,
-        })
+        let plane = Plane::make(rt, alloc, domains, own, board)?;
+        match Box::new(alloc, plane) {
+            Ok(plane) => Ok(World { plane, seat }),
+            Err(failed) => {
+                failed.value.end(rt);
+                Err(AllocError)
+            }
+        }
+    }
+
+    /// Ends the world.
+    pub(crate) fn end<R: Wait>(self, rt: &R) {
+        let World { plane, seat: _ } = self;
+        Box::into_inner(plane).end(rt);
     }
 
     /// Does a step that a line can give. Its lines are added.
     #[tactic(auto, using(crate::proofs::Worlds::world_told, crate::proofs::Worlds::world_tells))]
-    pub(crate) fn step(
+    pub(crate) fn step<R: Wait>(
         &mut self,
+        rt: &R,
         alloc: Global,
         step: Step,
         lines: &mut Lines,
@@ -93,7 +109,7 @@ impl World {
             Step::Turn(dom) => turn(&mut self.plane, dom, lines),
             Step::Report(dom) => self.plane.report_to(alloc, dom, lines),
             Step::Sweep(dom) => self.plane.sweep_to(alloc, dom, lines),
-            Step::Publish => self.plane.publish_to(alloc, lines),
+            Step::Publish => self.plane.publish_to(rt, alloc, lines),
         }
     }
 

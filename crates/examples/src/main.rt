@@ -9,6 +9,7 @@ use run_io::sinks::MemSink;
 use run_io::sources::MemSource;
 use std::alloc::Global;
 use std::rt::{Env, Files};
+use std::sync::Wait;
 use std::{env, fs, io};
 
 /// The room of a sink: no example writes as much.
@@ -26,19 +27,24 @@ fn command_of(ending: &str) -> Option<&'static [&'static str]> {
 }
 
 /// What these words write of a scenario.
-fn written(alloc: Global, words: &[&str], scenario: Vec<u8>) -> io::Result<Vec<u8>> {
+fn written(
+    rt: &impl Wait,
+    alloc: Global,
+    words: &[&str],
+    scenario: Vec<u8>,
+) -> io::Result<Vec<u8>> {
     let mut owned = Vec::new(alloc);
     for word in words {
         owned.push(String::from_str(alloc, *word)?)?;
     }
     let mut source = MemSource::make(scenario, Vec::new(alloc));
     let mut sink = MemSink::make(alloc, ROOM, Vec::new(alloc))?;
-    let _status = run(alloc, &owned, &mut source, &mut sink);
+    let _status = run(rt, alloc, &owned, &mut source, &mut sink);
     Ok(Vec::from_slice(alloc, sink.bytes())?)
 }
 
 /// Whether the file holds what its command writes of the scenario beside it.
-fn is_written<R: Files + Alloc<A = Global>>(rt: &R, file: &str) -> io::Result<bool> {
+fn is_written<R: Files + Wait + Alloc<A = Global>>(rt: &R, file: &str) -> io::Result<bool> {
     let Some((name, ending)) = file.split_once('.') else {
         return Ok(false);
     };
@@ -47,7 +53,7 @@ fn is_written<R: Files + Alloc<A = Global>>(rt: &R, file: &str) -> io::Result<bo
     };
     let scenario = fs::read(rt, format!(in rt.alloc(); "{name}.scenario")?)?;
     let wanted = fs::read(rt, file)?;
-    Ok(written(rt.alloc(), words, scenario)? == wanted)
+    Ok(written(rt, rt.alloc(), words, scenario)? == wanted)
 }
 
 fn main(rt: HostRuntime) -> io::Result<()> {

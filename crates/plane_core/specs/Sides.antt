@@ -18,7 +18,7 @@ use Rattle.bridge_core.specs.declared.faults.EventFault.TheVariants.{Refused, No
 use Rattle.bridge_core.specs.Kept.{Controlled}
 use Rattle.table_publish.specs.Board.{Shelf, all_of}
 use Rattle.table_publish.specs.Object.{Object, Whose, first_object}
-use Rattle.plane_core.specs.Chips.{ChipState, AreChips}
+use Rattle.plane_core.specs.Chips.{ChipState, AreChips, chips_of}
 use Rattle.plane_core.specs.Places.{places}
 use Rattle.plane_core.specs.Queued.{Queued}
 
@@ -41,6 +41,13 @@ first_sides setup board = record {
   published = first_object;
   board = board;
 }
+
+-- a bridge in which nothing has happened, its chips, and no deferred changes
+pub record HasBegun (setup : Setup) (bridge : Controlled) (chips : List ChipState) (noted : List ℕ) : Type 0 where
+  pub bridge_is : bridge ≡ record { setup = setup; history = []; control = first_control setup.own }
+  pub follows : AreChips setup.domains [] chips
+  pub chips_are : chips_of chips ≡ first_chips setup.domains
+  pub places_are : noted ≡ []
 
 -- The chips follow the bridge's history, the places are those of its deferred changes, and the board has it, published or not.
 pub record AreSides (bridge : Controlled) (chips : List ChipState) (noted : List ℕ) (board : Shelf) : Type 0 where

@@ -21,13 +21,14 @@ ghost use Rattle.plane_core.specs.Planes.{Accepts, IsCopy, IsDecidedBy, IsDecisi
 ghost use Rattle.plane_core.specs.Added.{Added};
 ghost use Rattle.plane_core.specs.Seats.{IsTold, Looks};
 ghost use Rattle.plane_core.specs.Shown.{opened, shown_by};
+ghost use Rattle.plane_core.specs.Sides.{HasBegun};
 
 use crate::NoMemory;
 use crate::faults::{PostFault, TurnFault};
 use crate::frames::{Arrival, Frames};
 use crate::held::Held;
 use crate::sending::{Egress, make_room, send};
-use crate::sides::Sides;
+use crate::sides::{Begun, Sides, begin};
 use br_model::change::{Change, Update};
 use br_model::domains::Domains;
 use br_model::frame::{Class, Head, McastMsg};
@@ -40,12 +41,13 @@ use hwdom_marks::Mark;
 use igmp_mld::classify;
 use std::alloc::{AllocError, Global};
 use std::marker::Model;
+use std::sync::Wait;
 use table_publish::{Board, Seat, Seen};
 use transcript_lines::Lines;
 
 /// A bridge with its chips and its published tables, the frames on their way to software, and how many steps there were. Each step is
-/// counted, a refused one too; where a call answers a fault, there was no step, and the plane is as before.
-#[derive(Drop)]
+/// counted, a refused one too; where a call answers a fault, there was no step, and the plane is as before. It isn't `Drop`: end it by
+/// `end`.
 pub struct Plane {
     sides: Sides,
     frames: Frames,
@@ -87,19 +89,51 @@ fn ticket_of(update: &Option<Update>) -> Option<u32>
     }
 }
 
+/// What a plane over a board begins with, beside the board.
+fn parts(alloc: Global, d: Domains, own: Mac) -> Result<(Begun, Frames), NoMemory>
+    ensures begun { IfOk result (λ t. HasBegun (record { domains = d; own = own }) t.0.0 t.0.1 t.0.2) }
+    ensures frames { IfOk result (λ t. t.1 ≡ record { waiting = []; held = []; next = 1 }) }
+{
+    let begun = begin(alloc, d, own)?;
+    Ok((begun, Frames::make(alloc)?))
+}
+
 impl Plane {
     /// A plane over this board, in which nothing has happened. It takes all its room but that of the history, of hits and of frames.
-    pub fn make(alloc: Global, d: Domains, own: Mac, b: Board) -> Result<Plane, NoMemory>
+    /// After want of memory the board is ended.
+    pub fn make<R: Wait>(
+        rt: &R,
+        alloc: Global,
+        d: Domains,
+        own: Mac,
+        b: Board,
+    ) -> Result<Plane, NoMemory>
         requires domains { b.board.domains ≡ d }
         requires object { b.object ≡ first_object }
         requires pending { b.pending ≡ [] }
         ensures { IfOk result (λ p. p ≡ record { world = first_world (record { domains = d; own = own }); board = b.board }) }
     {
-        Ok(Plane {
-            sides: Sides::make(alloc, d, own, b)?,
-            frames: Frames::make(alloc)?,
-            steps: 0,
-        })
+        match parts(alloc, d, own) {
+            Ok((begun, frames)) => Ok(Plane {
+                sides: Sides::over(begun, b),
+                frames,
+                steps: 0,
+            }),
+            Err(error) => {
+                b.end(rt);
+                Err(error)
+            }
+        }
+    }
+
+    /// Ends the plane and its board.
+    pub fn end<R: Wait>(self, rt: &R) {
+        let Plane {
+            sides,
+            frames: _,
+            steps: _,
+        } = self;
+        sides.end(rt);
     }
 
     /// A frame of these bytes enters at the port. At a port of the chip the chip decides it, by its rows alone.
@@ -461,24 +495,29 @@ impl Plane {
     }
 
     /// All accepted changes are published.
-    pub fn publish(&mut self, alloc: Global) -> Result<Lines, NoMemory>
+    pub fn publish<R: Wait>(&mut self, rt: &R, alloc: Global) -> Result<Lines, NoMemory>
         ensures ok { IfOk result (λ lines. Steps self.old self.new Publish lines.lines) }
         ensures err { OnErr result (self.new ≡ self.old) }
     {
         let mut lines = Lines::new(alloc);
-        self.publish_to(alloc, &mut lines)?;
+        self.publish_to(rt, alloc, &mut lines)?;
         Ok(lines)
     }
 
     /// As `publish`, with the lines of the step behind these.
-    pub fn publish_to(&mut self, alloc: Global, lines: &mut Lines) -> Result<(), NoMemory>
+    pub fn publish_to<R: Wait>(
+        &mut self,
+        rt: &R,
+        alloc: Global,
+        lines: &mut Lines,
+    ) -> Result<(), NoMemory>
         ensures ok { OnOk result (Added (Steps self.old self.new Publish) lines.old.lines lines.new.lines) }
         ensures err { OnErr result (self.new ≡ self.old) }
         ensures lines { OnErr result (lines.new.lines ≡ lines.old.lines) }
     {
         let step = next(self.steps)?;
         lines.reserve(1, 0)?;
-        self.sides.publish(alloc)?;
+        self.sides.publish(rt, alloc)?;
         lines.push_reserved(Line::Done { step, changes: 0 });
         self.steps = step;
         Ok(())

@@ -26,7 +26,7 @@ ghost use Rattle.plane_core.specs.Places.{places};
 ghost use Rattle.plane_core.specs.Queued.{Queued};
 ghost use Rattle.plane_core.specs.Added.{Added};
 ghost use Rattle.plane_core.specs.Seats.{Looks};
-ghost use Rattle.plane_core.specs.Sides.{Comes, Lasts, Reacted, world_of, first_sides, soft_side};
+ghost use Rattle.plane_core.specs.Sides.{Comes, HasBegun, Lasts, Reacted, world_of, first_sides, soft_side};
 
 use crate::NoMemory;
 use crate::chips::Chips;
@@ -44,12 +44,12 @@ use chip_pipeline::{Pass, pass};
 use forward_rules::{SoftTables, Verdict};
 use std::alloc::{AllocError, Global};
 use std::marker::Model;
+use std::sync::Wait;
 use table_publish::{Board, Seat};
 use transcript_lines::Lines;
 
 /// The control plane, the chips and the board, with one history: each chip has applied a part of its deferred changes, the board
-/// has published a front of it.
-#[derive(Drop)]
+/// has published a front of it. It isn't `Drop`, since the board isn't: end it by `end`.
 pub(crate) struct Sides {
     bridge: Bridge,
     chips: Chips,
@@ -130,26 +130,44 @@ fn decide_anew(
     Ok(tables.decide(frame.port(), frame.head(), frame.message(), domains))
 }
 
+/// The control plane of a bridge in which nothing has happened, its chips, and the places of no deferred changes.
+pub(crate) type Begun = (Bridge, Chips, Updates);
+
+/// Makes all that stands beside a board.
+pub(crate) fn begin(alloc: Global, domains: Domains, own: Mac) -> Result<Begun, NoMemory>
+    ensures { IfOk result (λ t. HasBegun (record { domains = domains; own = own }) t.0 t.1 t.2) }
+{
+    let chips = Chips::make(alloc, &domains)?;
+    let updates = Updates::make(alloc)?;
+    Ok((Bridge::make(alloc, domains, own)?, chips, updates))
+}
+
 impl Sides {
-    /// Those of a bridge in which nothing has happened.
-    pub(crate) fn make(
-        alloc: Global,
-        domains: Domains,
-        own: Mac,
-        board: Board,
-    ) -> Result<Sides, NoMemory>
-        requires domains { board.board.domains ≡ domains }
+    /// Those of a bridge in which nothing has happened, and its board.
+    pub(crate) fn over(begun: Begun, board: Board) -> Sides
+        requires begun { HasBegun (record { domains = board.board.domains; own = begun.0.setup.own }) begun.0 begun.1 begun.2 }
         requires object { board.object ≡ first_object }
         requires pending { board.pending ≡ [] }
-        ensures { IfOk result (λ s. s ≡ first_sides (record { domains = domains; own = own }) board.board) }
+        ensures { result ≡ first_sides begun.0.setup board.board }
     {
-        let chips = Chips::make(alloc, &domains)?;
-        Ok(Sides {
-            bridge: Bridge::make(alloc, domains, own)?,
+        let (bridge, chips, updates) = begun;
+        Sides {
+            bridge,
             chips,
-            updates: Updates::make(alloc)?,
+            updates,
             board,
-        })
+        }
+    }
+
+    /// Ends the board.
+    pub(crate) fn end<R: Wait>(self, rt: &R) {
+        let Sides {
+            bridge: _,
+            chips: _,
+            updates: _,
+            board,
+        } = self;
+        board.end(rt);
     }
 
     /// The bridge reacts to an event, and the lines of the control frames that leave are added, with room for another line behind
@@ -462,12 +480,12 @@ impl Sides {
     }
 
     /// All changes are published.
-    pub(crate) fn publish(&mut self, alloc: Global) -> Result<(), NoMemory>
+    pub(crate) fn publish<R: Wait>(&mut self, rt: &R, alloc: Global) -> Result<(), NoMemory>
         ensures ok { OnOk result ((q : Queued) (step : ℕ) → publishes (world_of self.old q step) (length self.old.history) ≡ world_of self.new q step) }
         ensures err { OnErr result (self.new ≡ self.old) }
         ensures over { self.new.board ≡ self.old.board }
     {
-        self.board.publish(alloc)?;
+        self.board.publish(rt, alloc)?;
         Ok(())
     }
 

@@ -22,10 +22,10 @@ fn main(rt: HostRuntime) -> ExitCode {
     let mut source = StdSource::make(rt.reader());
     let mut sink = StdSink::make(io::writer(&rt));
     let status = match words_of(&rt) {
-        Ok(words) => run(rt.alloc(), &words, &mut source, &mut sink),
+        Ok(words) => run(&rt, rt.alloc(), &words, &mut source, &mut sink),
         Err(error) if error.kind() == io::ErrorKind::OutOfMemory => end_without_memory(&mut sink),
         // Words that aren't UTF-8 are none that are known.
-        Err(_) => run(rt.alloc(), &[], &mut source, &mut sink),
+        Err(_) => run(&rt, rt.alloc(), &[], &mut source, &mut sink),
     };
     ExitCode::from(status.code())
 }

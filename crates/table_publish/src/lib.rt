@@ -1,11 +1,14 @@
-//! Tables that are published as a whole: one board publishes, and each seat looks up in tables of its own.
+//! Tables that are published as a whole: one board publishes, and seats look up without waiting.
 //!
-//! A seat's tables are those of the changes that it was told of last. A publication costs what was appended since the last one.
+//! There are two copies of the tables: readers take one of them, and the board changes the other and then swaps them. So a
+//! publication costs what was appended since the last one, twice, and a seat has no tables of its own.
 #![tactic(auto)]
 
 mod board;
+mod content;
 mod law;
 mod name;
+mod rule;
 mod seat;
 #[cfg(test)]
 mod tests;

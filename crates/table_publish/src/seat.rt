@@ -1,14 +1,18 @@
-//! A seat, which looks up in its own tables.
-ghost use Rattle.std.specs.Prelude.{◌≡◌, length, IfSome, IfNone};
+//! A seat, which looks up without waiting.
+ghost use Rattle.std.specs.Prelude.{◌≡◌, length, IfSome, IfNone, None};
+ghost use Rattle.left_right.specs.Sides.{view as place_view};
 ghost use Rattle.br_model.specs.Table.Table.{table};
 ghost use Rattle.table_publish.specs.Board.{Decides, Rises};
+ghost use Rattle.table_publish.specs.Look.{IsLook};
+ghost use Rattle.table_publish.specs.Rule.{IsOf};
 ghost use Rattle.table_publish.specs.Object.{Begins, IsPublished};
 
 use crate::law::Shown;
+use crate::rule::{See, TableReader};
 use br_model::domains::Domains;
 use br_model::frame::{Head, McastMsg};
 use br_model::numbers::Port;
-use forward_rules::{SoftTables, Verdict};
+use forward_rules::Verdict;
 use std::marker::Model;
 
 /// What a lookup answers: the decision, and by how many changes.
@@ -21,11 +25,11 @@ pub struct Seen {
 /// A seat at a board. Contracts see which board, the published object that it knows, and its misses.
 #[derive(Drop)]
 pub struct Seat {
-    pub(crate) tables: SoftTables,
+    // It is always there: a lookup takes it out and puts it back.
+    pub(crate) reader: Option<TableReader>,
     pub(crate) domains: Domains,
     pub(crate) seen: Shown,
     pub(crate) batches: u64,
-    pub(crate) len: u32,
     pub(crate) misses: u64,
 }
 
@@ -41,7 +45,69 @@ impl Model for Seat {
     ghost invariant = { IsSeated };
 }
 
+/// What was read.
+#[derive(Drop)]
+struct Look {
+    verdict: Verdict,
+    len: u64,
+    batches: u64,
+    seen: Shown,
+}
+
+/// Reads what is published.
+fn read(
+    reader: TableReader,
+    domains: &Domains,
+    p: Port,
+    h: &Head,
+    m: &McastMsg,
+) -> (TableReader, Option<Look>)
+    ensures same { place_view result.0.place ≡ place_view reader.place }
+    ensures look { IfSome result.1 (IsLook domains.now p h.now m.now) }
+    ensures book { IfSome result.1 (λ k. IsOf (place_view reader.place) k.seen.book) }
+{
+    match reader.enter_as::<See>() {
+        Ok(reading) => {
+            let published = reading.get();
+            let look = Look {
+                verdict: published.tables.decide(p, h, m, domains),
+                len: published.len,
+                batches: published.batches,
+                seen: published.seen.again(),
+            };
+            (reading.leave(), Some(look))
+        }
+        Err(reader) => (reader, None),
+    }
+}
+
 impl Seat {
+    /// Reads what is published, which may be older than what the seat knows.
+    fn ask(&mut self, p: Port, h: &Head, m: &McastMsg) -> Option<Look>
+        ensures same { self.new ≡ self.old }
+        ensures look { IfSome result (IsLook self.old.board.domains p h.now m.now) }
+        ensures book { IfSome result (λ k. k.seen.book ≡ self.old.board.book) }
+    {
+        let Some(reader) = self.reader.take() else {
+            unreachable!();
+        };
+        let (reader, look) = read(reader, &self.domains, p, h, m);
+        self.reader = Some(reader);
+        look
+    }
+
+    /// No reading was got.
+    fn miss(&mut self) -> Option<Seen>
+        ensures board { self.new.board ≡ self.old.board }
+        ensures object { self.new.object ≡ self.old.object }
+        ensures published { IsPublished self.new.object }
+        ensures misses { Rises self.old.misses self.new.misses }
+        ensures none { result ≡ None }
+    {
+        self.misses = self.misses.saturating_add(1);
+        None
+    }
+
     /// The decision by the tables of the object that is then known, which begins with all that was known before. `None` only
     /// where the misses rose.
     pub fn lookup(&mut self, p: Port, h: &Head, m: &McastMsg) -> Option<Seen>
@@ -53,10 +119,20 @@ impl Seat {
         ensures read { IfSome result (λ s. self.new.misses ≡ self.old.misses) }
         ensures missed { IfNone result ((self.new.object ≡ self.old.object) × Rises self.old.misses self.new.misses) }
     {
-        let verdict = self.tables.decide(p, h, m, &self.domains);
+        let Some(look) = self.ask(p, h, m) else {
+            return self.miss();
+        };
+        if look.batches < self.batches {
+            return self.miss();
+        }
+        // Both are beginnings of one history, and the new one is no shorter.
+        let mut both = self.seen.again();
+        both.learn(&look.seen);
+        self.batches = look.batches;
+        self.seen = look.seen.again();
         Some(Seen {
-            verdict,
-            point: self.len,
+            verdict: look.verdict,
+            point: look.len as u32,
         })
     }
 

@@ -13,6 +13,7 @@ use run_io::sinks::MemSink;
 use run_io::sources::MemSource;
 use std::alloc::Global;
 use std::process::Abort;
+use std::sync::Wait;
 use std::test::Fail;
 
 /// The room of a sink.
@@ -27,6 +28,7 @@ struct Outcome {
 
 /// Runs these words, where the reads and writes of these numbers fail.
 fn ran(
+    rt: &impl Wait,
     alloc: Global,
     words: &[&str],
     input: &[u8],
@@ -42,20 +44,20 @@ fn ran(
         Vec::from_slice(alloc, read_fails)?,
     );
     let mut sink = MemSink::make(alloc, ROOM, Vec::from_slice(alloc, write_fails)?)?;
-    let status = run(alloc, &owned, &mut source, &mut sink);
+    let status = run(rt, alloc, &owned, &mut source, &mut sink);
     let wrote = Vec::from_slice(alloc, sink.bytes())?;
     Ok(Outcome { status, wrote })
 }
 
 /// Runs a scenario. `told` is what its transcript has after the line `transcript 1`.
 fn is_told(
-    rt: &impl Abort,
+    rt: &(impl Abort + Wait),
     alloc: Global,
     input: &[u8],
     status: Status,
     told: &str,
 ) -> Result<(), Fail> {
-    let outcome = ran(alloc, &["replay"], input, &[], &[])?;
+    let outcome = ran(rt, alloc, &["replay"], input, &[], &[])?;
     assert_eq!(rt; outcome.status, status, "at {told}");
     let (head, rest) = outcome.wrote.split_at(outcome.wrote.len().min(13));
     assert_eq!(rt; head, b"transcript 1\n".as_slice(), "at {told}");
@@ -65,13 +67,13 @@ fn is_told(
 
 /// Runs a scenario whose transcript ends in this.
 fn ends_in(
-    rt: &impl Abort,
+    rt: &(impl Abort + Wait),
     alloc: Global,
     input: &[u8],
     status: Status,
     told: &str,
 ) -> Result<(), Fail> {
-    let outcome = ran(alloc, &["replay"], input, &[], &[])?;
+    let outcome = ran(rt, alloc, &["replay"], input, &[], &[])?;
     assert_eq!(rt; outcome.status, status, "at {told}");
     let wrote = outcome.wrote.as_slice();
     let (_, end) = wrote.split_at(wrote.len() - told.len().min(wrote.len()));

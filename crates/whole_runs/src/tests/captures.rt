@@ -219,7 +219,7 @@ fn section_is_cut_off(rt: HostRuntime) -> Result<(), Fail> {
         (5, Status::BadLine, "transcript 1\nok 1 3\nbad 4 unended\n"),
     ];
     for (call, status, wrote) in rows {
-        let outcome = ran(alloc, &["replay"], &input, &[call], &[])?;
+        let outcome = ran(&rt, alloc, &["replay"], &input, &[call], &[])?;
         assert_eq!(rt; outcome.status, status, "at {call}");
         assert_eq!(rt; outcome.wrote.as_slice(), wrote.as_bytes(), "at {call}");
     }

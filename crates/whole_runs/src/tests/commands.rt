@@ -6,6 +6,7 @@ use run_io::sinks::MemSink;
 use run_io::sources::{MemSource, Source};
 use std::alloc::Global;
 use std::process::Abort;
+use std::sync::Wait;
 use std::test::Fail;
 
 fn source_of(rt: &impl Abort, alloc: Global, input: &[u8], fails: &[u32]) -> MemSource {
@@ -16,7 +17,7 @@ fn source_of(rt: &impl Abort, alloc: Global, input: &[u8], fails: &[u32]) -> Mem
 
 /// Runs the words of this line over a sink of so much room.
 fn ran_line(
-    rt: &impl Abort,
+    rt: &(impl Abort + Wait),
     alloc: Global,
     line: &str,
     source: &mut MemSource,
@@ -28,14 +29,14 @@ fn ran_line(
         words.push(word).expect(rt, "memory for the words");
     }
     let mut sink = MemSink::make(alloc, room, Vec::new(alloc)).expect(rt, "memory for a sink");
-    let status = run(alloc, &words, source, &mut sink);
+    let status = run(rt, alloc, &words, source, &mut sink);
     let wrote = Vec::from_slice(alloc, sink.bytes()).expect(rt, "memory for what was written");
     Outcome { status, wrote }
 }
 
 /// Runs a line of words over an input, where the reads of these numbers fail. It writes just this.
 fn writes(
-    rt: &impl Abort,
+    rt: &(impl Abort + Wait),
     alloc: Global,
     line: &str,
     (input, fails): (&[u8], &[u32]),
@@ -51,7 +52,7 @@ fn writes(
 const UNREAD: &[u8] = b"scenario 1\nend\n";
 
 /// Runs a line of words that leaves its input unread. It writes just this.
-fn writes_unread(rt: &impl Abort, alloc: Global, line: &str, status: Status, wrote: &str) {
+fn writes_unread(rt: &(impl Abort + Wait), alloc: Global, line: &str, status: Status, wrote: &str) {
     let mut source = source_of(rt, alloc, UNREAD, &[]);
     let outcome = ran_line(rt, alloc, line, &mut source, ROOM);
     assert_eq!(rt; outcome.status, status, "at {line}");

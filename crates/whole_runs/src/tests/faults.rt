@@ -20,18 +20,18 @@ rx 1 0200 => unread 1 short
 end => end 2 3 0 0
 ";
     row_is_told(&rt, alloc, ended, Status::Ok)?;
-    let usage = ran(alloc, &[], b"", &[], &[])?;
+    let usage = ran(&rt, alloc, &[], b"", &[], &[])?;
     assert_eq!(rt; usage.status, Status::Usage);
     assert_eq!(rt; usage.wrote.as_slice(), b"usage\n".as_slice());
     let first = read_row(alloc, FIRST_FRAME)?;
     let input = first.input.as_bytes();
-    let read = ran(alloc, &["replay"], input, &[1], &[])?;
+    let read = ran(&rt, alloc, &["replay"], input, &[1], &[])?;
     assert_eq!(rt; read.status, Status::ReadFault);
     assert_eq!(rt;
         read.wrote.as_slice(),
         b"transcript 1\nread fault\n".as_slice()
     );
-    let write = ran(alloc, &["replay"], input, &[], &[1])?;
+    let write = ran(&rt, alloc, &["replay"], input, &[], &[1])?;
     assert_eq!(rt; write.status, Status::WriteFault);
     assert!(rt; write.wrote.is_empty());
     Ok(())
@@ -46,7 +46,7 @@ fn second_read_fails(rt: HostRuntime) -> Result<(), Fail> {
         (3, Status::BadLine, "transcript 1\nok 1 3\nbad 4 unended\n"),
     ];
     for (call, status, wrote) in rows {
-        let outcome = ran(rt.alloc(), &["replay"], input, &[call], &[])?;
+        let outcome = ran(&rt, rt.alloc(), &["replay"], input, &[call], &[])?;
         assert_eq!(rt; outcome.status, status, "at {call}");
         assert_eq!(rt; outcome.wrote.as_slice(), wrote.as_bytes(), "at {call}");
     }
@@ -65,7 +65,7 @@ fn second_write_fails(rt: HostRuntime) -> Result<(), Fail> {
         (unended, 3, Status::WriteFault, "transcript 1\nok 1 3\n"),
     ];
     for (input, call, status, wrote) in rows {
-        let outcome = ran(rt.alloc(), &["replay"], input, &[], &[call])?;
+        let outcome = ran(&rt, rt.alloc(), &["replay"], input, &[], &[call])?;
         assert_eq!(rt; outcome.status, status, "at {call}");
         assert_eq!(rt; outcome.wrote.as_slice(), wrote.as_bytes(), "at {call}");
     }
@@ -76,11 +76,11 @@ fn second_write_fails(rt: HostRuntime) -> Result<(), Fail> {
 fn other_words_are_usage(rt: HostRuntime) -> Result<(), Fail> {
     let commands: [&[&str]; 4] = [&["Replay"], &["replay", "now"], &["replay "], &[""]];
     for words in commands {
-        let outcome = ran(rt.alloc(), words, b"scenario 1\nend\n", &[], &[])?;
+        let outcome = ran(&rt, rt.alloc(), words, b"scenario 1\nend\n", &[], &[])?;
         assert_eq!(rt; outcome.status, Status::Usage);
         assert_eq!(rt; outcome.wrote.as_slice(), b"usage\n".as_slice());
     }
-    let outcome = ran(rt.alloc(), &["now"], b"", &[], &[1])?;
+    let outcome = ran(&rt, rt.alloc(), &["now"], b"", &[], &[1])?;
     assert_eq!(rt; outcome.status, Status::WriteFault);
     Ok(())
 }

@@ -3,6 +3,7 @@ use super::{is_told, read_row};
 use capture_runner::Status;
 use std::alloc::Global;
 use std::process::Abort;
+use std::sync::Wait;
 use std::test::Fail;
 
 /// A frame to a known station.
@@ -20,7 +21,7 @@ end => end 7 8 2 0
 ";
 
 pub(super) fn row_is_told(
-    rt: &impl Abort,
+    rt: &(impl Abort + Wait),
     alloc: Global,
     text: &str,
     status: Status,

@@ -13,10 +13,10 @@ use Rattle.capture_runner.proofs.Counting.{runs_none, runs_more}
 use Rattle.capture_runner.proofs.demo.do_steps.Goals as goal
 
 pub loop-step-init : goal.loop-step-init
-loop-step-init c = record { parts = search rules; by_line = search rules; setup = refl; runs = runs_none _ _ }
+loop-step-init g c = record { parts = search rules; by_line = search rules; setup = refl; runs = runs_none _ _ }
 
 pub loop-step-preserved : goal.loop-step-preserved
-loop-step-preserved c =
+loop-step-preserved g c =
     let so_far = c.loop-step.invariant in
     let told = c.in_ok-step.ensures in
     let same = told.added ∙ ap (λ (l : List Line). l ++ told.lines) c.clear.ensures.lines in
@@ -28,7 +28,7 @@ loop-step-preserved c =
     }
 
 pub step-requires : goal.step-requires
-step-requires c =
+step-requires g c =
     let so_far = c.loop-step.invariant in
     let next = (rw c.in-Some.is at c.next.ensures.steps).0 in
     ap (λ (s : Setup). comes_by_line (chip_domains s.domains) c.in-Some.step) so_far.setup

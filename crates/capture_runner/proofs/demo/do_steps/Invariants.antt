@@ -6,7 +6,7 @@ use Rattle.br_model.specs.Text.LineForms.{comes_by_line}
 use Rattle.capture_runner.proofs.demo.do_steps.Given as goal
 
 abbrev pub invariant-loop-step : goal.invariant-loop-step
-invariant-loop-step l = record {
+invariant-loop-step g l = record {
   parts : l.fn.steps.items ≡ l.yielded ++ l.step-iterator.rest.items;
   by_line : list_all (comes_by_line (chip_domains l.fn.world.setup.domains)) l.step-iterator.rest.items ≡ true;
   setup : l.world.setup ≡ l.fn.world.setup;

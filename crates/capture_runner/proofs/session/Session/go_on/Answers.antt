@@ -2,5 +2,5 @@ use Rattle.capture_runner.proofs.Ready.{ready_told}
 use Rattle.capture_runner.proofs.session.Session.go_on.Goals as goal
 
 pub returns-in-Some-clause-ready : goal.returns-in-Some-clause-ready
-returns-in-Some-clause-ready c =
+returns-in-Some-clause-ready g c =
     ready_told c.step.result c.args.self.now.roster c.in-Some.world c.step.new.self c.args.step _ _ (rw c.in-Some.is at c.requires.ready) c.step.ensures

@@ -4,7 +4,7 @@ use Rattle.capture_runner.proofs.Cutting.{torn}
 use Rattle.capture_runner.proofs.session.Session.step.Goals as goal
 
 pub cut_if_torn-requires : goal.cut_if_torn-requires
-cut_if_torn-requires c =
+cut_if_torn-requires g c =
     let before = c.args.text.now in
     let after = c.append_lines-appended.new.to in
     let whole = ap (λ (bytes : List ℕ). length bytes) c.as_bytes-whole.ensures.value in

@@ -4,4 +4,4 @@ use Rattle.plane_core.proofs.Adding.{whole}
 use Rattle.plane_core.proofs.plane.Plane.publish.Goals as goal
 
 pub returns-clause-ok : goal.returns-clause-ok
-returns-clause-ok c = whole _ _ _ (ap (λ (l : Listed). l.lines) c.new-lines.ensures) c.in_ok-publish_to.ensures.ok
+returns-clause-ok g c = whole _ _ _ (ap (λ (l : Listed). l.lines) c.new-lines.ensures) c.in_ok-publish_to.ensures.ok

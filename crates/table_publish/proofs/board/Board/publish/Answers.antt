@@ -1,83 +1,113 @@
-use Rattle.std.proofs.Common.{◌≡◌, ◌+◌, ◌-◌, ◌<◌, ℕ, List, [], ◌∷◌, ◌++◌, length, take, drop, sym, ap, ◌∙◌, subst, arith, length-append}
-use Rattle.std.proofs.lemmas.List.{take-append-drop, take_all, drop_all, length-drop}
+use Rattle.std.proofs.Common.{◌≡◌, ◌+◌, ◌<◌, ◌≤◌, List, [], ◌∷◌, ◌++◌, length, sym, ap, ◌∙◌, subst, arith, rules, length-append}
+use Rattle.std.proofs.lemmas.Grind.{common_steps}
+use Rattle.std.proofs.lemmas.List.{append-nil}
 use Rattle.br_model.specs.declared.change.Change.{Change}
+use Rattle.br_model.specs.Table.Limits.{AreWithin}
 use Rattle.table_publish.specs.Object.{Object, IsPublished, changes_of, object_of, published, AllFull}
 use Rattle.table_publish.specs.Law.{head_of}
+use Rattle.table_publish.specs.Content.{after, IsTable}
+use Rattle.table_publish.specs.Rule.{book_of}
 use Rattle.table_publish.specs.Board.{Shelf}
+use Rattle.table_publish.specs.declared.content.Published.{Published}
+use Rattle.table_publish.specs.declared.content.Operation.{Operation}
 use Rattle.table_publish.proofs.Objects.{changes_of-push, object_of-push, full_push, published_of}
-use Rattle.table_publish.proofs.Keeping.{published_some, shelved_published, shelved_batches}
+use Rattle.table_publish.proofs.Publishing.{table_after, published_some, shelved_full, shelved_published, shelved_batches, shelved_few}
 use Rattle.table_publish.proofs.board.Board.publish.Goals as goal
 
-pub returns-then-self-len-clause-published : goal.returns-then-self-len-clause-published
-returns-then-self-len-clause-published c = subst (λ (o : Object). IsPublished o) (ap (λ (k : Shelf). k.object) c.self.view_is) (shelved_published c.self.inside c.self.invariant)
+pub returns-then-is_empty-clause-published : goal.returns-then-is_empty-clause-published
+returns-then-is_empty-clause-published g c = subst (λ (o : Object). IsPublished o) (ap (λ (k : Shelf). k.object) c.self.view_is) (shelved_published c.self.inside c.self.invariant)
 
-pub returns-in_err-batch-clause-published : goal.returns-in_err-batch-clause-published
-returns-in_err-batch-clause-published c = subst (λ (o : Object). IsPublished o) (ap (λ (k : Shelf). k.object) c.self.view_is) (shelved_published c.self.inside c.self.invariant)
+pub returns-in_err-changes-clause-published : goal.returns-in_err-changes-clause-published
+returns-in_err-changes-clause-published g c = subst (λ (o : Object). IsPublished o) (ap (λ (k : Shelf). k.object) c.self.view_is) (shelved_published c.self.inside c.self.invariant)
 
-pub returns-in_default-clause-published : goal.returns-in_default-clause-published
-returns-in_default-clause-published c = subst (λ (o : Object). IsPublished o) (ap (λ (k : Shelf). k.object) c.self.view_is) (shelved_published c.self.inside c.self.invariant)
+pub enter_batch-seen-requires-clause-batches : goal.enter_batch-seen-requires-clause-batches
+enter_batch-seen-requires-clause-batches g c = (c.self.invariant.batches, shelved_batches c.self.inside c.self.invariant)
 
-pub enter_batch-requires-clause-batches : goal.enter_batch-requires-clause-batches
-enter_batch-requires-clause-batches c = (c.self.invariant.batches, shelved_batches c.self.inside c.self.invariant)
+pub replace_with-requires : goal.replace_with-requires
+replace_with-requires g c =
+    let i = c.self.invariant in
+    let log = c.self.inside.seen.log in
+    let items = c.in_ok-changes.changes.items in
+    let same = ap (λ s. s.log) i.shown in
+    let is : c.again.result.log ≡ log ++ items ∷ [] = ap (λ s. s.log) c.again.ensures ∙ c.enter_batch-seen.ensures.log in
+    let all : items ≡ c.self.inside.pending.items = c.in_ok-changes.ensures.items ∙ c.as_slice.ensures.value in
+    let some : 0 < length items = grind (arith, common_steps) in
+    let within : AreWithin (changes_of log ++ items) = subst (λ (l : List Change). AreWithin (changes_of log ++ l)) (sym all) i.fit in
+    let op : Operation = record { changes = c.in_ok-changes.changes; batches = c.self.inside.batches + 1; seen = c.again.result } in
+    (i.idle, (table_after c.self.inside.writer.desk.shown.value op log i.table same is (let e : c.self.inside.batches + 1 ≡ length log + 1 = omega (arith, i.batches) in e) some within, ap (λ s. s.book) c.again.ensures ∙ (c.enter_batch-seen.ensures.book ∙ sym (ap (λ s. s.book) i.shown))))
 
 pub overflow_add-self : goal.overflow_add-self
-overflow_add-self c = let b = shelved_batches c.self.inside c.self.invariant in omega arith
-
-rest : (cs : List Change) (n : ℕ) → take (length cs - n) (drop n cs) ≡ drop n cs
-rest cs n = take_all (length cs - n) (drop n cs) (omega (arith, length-drop n cs))
-
-module _ (c : goal.After-drop-batch-2) where
-  -- what is pending
-  items : List Change
-  items = c.in_ok-batch.batch.items
-
-  pending : items ≡ drop c.self.inside.published c.self.inside.changes.items
-  unfolding items
-  pending = c.in_ok-batch.ensures.items ∙ (rest c.deref.result.now c.self.inside.published ∙ ap (drop c.self.inside.published) c.deref.ensures.value)
-
-  some : 0 < length items
-  some = omega (arith, ap length pending, length-drop c.self.inside.published c.self.inside.changes.items, c.self.invariant.within, c.len.ensures, c.if-self-len.false, c.self.inside.changes.ok.0)
-
-  len : c.len-self-inside.result ≡ length c.self.inside.changes.items
-  len = omega (arith, c.len-self-inside.ensures, c.self.inside.changes.ok.0)
-
-  whole : changes_of c.in-Some.seen.log ≡ c.self.inside.changes.items
-  unfolding items
-  whole = ap changes_of c.in-Some.ensures.1
-      ∙ (changes_of-push c.self.inside.seen.log items
-      ∙ (ap (λ (cs : List Change). cs ++ items) (sym c.self.invariant.published)
-      ∙ (ap (λ (cs : List Change). take c.self.inside.published c.self.inside.changes.items ++ cs) pending
-      ∙ take-append-drop c.self.inside.published c.self.inside.changes.items)))
+overflow_add-self g c = let b = shelved_batches c.self.inside c.self.invariant in omega arith
 
 pub invariant_of-self : goal.invariant_of-self
-unfolding items
-invariant_of-self c =
+invariant_of-self g c =
+    let h = c.replace_with.ensures in
     let i = c.self.invariant in
-    let b = c.in-Some.ensures in
+    let b = c.enter_batch-seen.ensures in
+    let log = c.self.inside.seen.log in
+    let items = c.in_ok-changes.changes.items in
+    let op : Operation = record { changes = c.in_ok-changes.changes; batches = c.self.inside.batches + 1; seen = c.again.result } in
+    let before = c.self.inside.writer.desk.shown.value in
+    let same = ap (λ s. s.log) i.shown in
+    let is : c.again.result.log ≡ log ++ items ∷ [] = ap (λ s. s.log) c.again.ensures ∙ b.log in
+    let all : items ≡ c.self.inside.pending.items = c.in_ok-changes.ensures.items ∙ c.as_slice.ensures.value in
+    let some : 0 < length items = grind (arith, common_steps) in
+    let within : AreWithin (changes_of log ++ items) = subst (λ (l : List Change). AreWithin (changes_of log ++ l)) (sym all) i.fit in
+    let shown : c.replace_with.new.dest.desk.shown.value ≡ after before op = h.0 in
+    let table : IsTable (after before op) = table_after before op log i.table same is (let e : c.self.inside.batches + 1 ≡ length log + 1 = omega (arith, i.batches) in e) some within in
+    let held : c.len.result ≡ length c.self.inside.pending.items = search rules in
+    let count : c.len.result ≡ length items = held ∙ ap length (sym all) in
+    let whole : changes_of c.enter_batch-seen.result.log ≡ changes_of log ++ items = ap changes_of b.log ∙ changes_of-push log items in
+    let changes : length (changes_of c.enter_batch-seen.result.log) ≡ length (changes_of log) + length items = ap length whole ∙ length-append (changes_of log) items in
+    let longer : length c.enter_batch-seen.result.log ≡ length log + 1 = ap length b.log ∙ length-append log (items ∷ []) in
+    let none : c.clear.new.self.items ≡ [] = c.clear.ensures.items in
+    let all_now : changes_of log ++ items ≡ changes_of c.enter_batch-seen.result.log ++ c.clear.new.self.items =
+    sym (ap (λ (l : List Change). changes_of c.enter_batch-seen.result.log ++ l) none ∙ (append-nil (changes_of c.enter_batch-seen.result.log) ∙ whole)) in
     record {
-      word = i.word ∙ ap head_of (sym b.0);
-      batches = ap (λ n. n + 1) i.batches ∙ sym (ap length b.1 ∙ length-append c.self.inside.seen.log (c.in_ok-batch.batch.items ∷ []));
-      full = subst AllFull (sym b.1) (full_push c.self.inside.seen.log c.in_ok-batch.batch.items i.full (some c));
-      within = omega (arith, len c);
-      published = take_all c.len-self-inside.result c.self.inside.changes.items (omega (arith, len c)) ∙ sym (whole c);
-      fit = i.fit;
-      room = i.room;
+      word = i.word ∙ ap head_of (sym b.book);
+      batches = omega (arith, i.batches, longer);
+      len = omega (arith, i.len, changes, count);
+      shown = ap (λ (p : Published). p.seen) shown ∙ c.again.ensures;
+      table = subst IsTable (sym shown) table;
+      idle = h.1.0;
+      named = (ap (λ v. v.named) h.1.1 ∙ i.named.0, ap book_of h.1.1 ∙ (i.named.1 ∙ sym b.book));
+      fit = subst AreWithin all_now within;
+      room = omega (arith, i.room, c.clear.ensures.capacity);
     }
 
 pub returns-clause-ok : goal.returns-clause-ok
-unfolding items
-returns-clause-ok c =
+returns-clause-ok g c =
+    let b = c.enter_batch-seen.ensures in
     let log = c.self.inside.seen.log in
-    let now : object_of c.in-Some.seen.log ≡ published (object_of log) (drop c.self.inside.published c.self.inside.changes.items) =
-    ap object_of c.in-Some.ensures.1 ∙ (object_of-push log (items c) ∙ (published_some (object_of log) (items c) (some c) ∙ ap (published (object_of log)) (pending c))) in
-    let none : drop c.len-self-inside.result c.self.inside.changes.items ≡ [] = drop_all c.len-self-inside.result c.self.inside.changes.items (omega (arith, len c)) in
-    (λ k. record { board = record { book = c.in-Some.ensures.0 k; domains = c.self.inside.domains }; object = now k; pending = none k })
-    ∙ ap (λ (s : Shelf). record { board = s.board; object = published s.object s.pending; pending = [] }) c.self.view_is
+    let items = c.in_ok-changes.changes.items in
+    let all : items ≡ c.self.inside.pending.items = c.in_ok-changes.ensures.items ∙ c.as_slice.ensures.value in
+    let some : 0 < length items = grind (arith, common_steps) in
+    let view = c.self.view_is in
+    let now : object_of c.enter_batch-seen.result.log ≡ published (object_of log) c.self.inside.pending.items =
+    ap object_of b.log ∙ (object_of-push log items ∙ (published_some (object_of log) items some ∙ ap (published (object_of log)) all)) in
+    let none : c.clear.new.self.items ≡ [] = c.clear.ensures.items in
+    (λ k. record { board = record { book = b.book k; domains = c.self.inside.domains }; object = now k; pending = none k })
+    ∙ ap (λ (s : Shelf). record { board = s.board; object = published s.object s.pending; pending = [] }) view
 
 pub returns-clause-count : goal.returns-clause-count
-returns-clause-count c = len c ∙ ap length (sym (whole c))
+returns-clause-count g c =
+    let i = c.self.invariant in
+    let b = c.enter_batch-seen.ensures in
+    let log = c.self.inside.seen.log in
+    let items = c.in_ok-changes.changes.items in
+    let all : items ≡ c.self.inside.pending.items = c.in_ok-changes.ensures.items ∙ c.as_slice.ensures.value in
+    let held : c.len.result ≡ length c.self.inside.pending.items = search rules in
+    let count : c.len.result ≡ length items = held ∙ ap length (sym all) in
+    let changes : length (changes_of c.enter_batch-seen.result.log) ≡ length (changes_of log) + length items = ap (λ (l : List (List Change)). length (changes_of l)) b.log ∙ (ap length (changes_of-push log items) ∙ length-append (changes_of log) items) in
+    omega (arith, i.len, changes, count)
 
 pub returns-clause-published : goal.returns-clause-published
-unfolding items
-returns-clause-published c =
-    published_of c.in-Some.seen.log (subst AllFull (sym c.in-Some.ensures.1) (full_push c.self.inside.seen.log c.in_ok-batch.batch.items c.self.invariant.full (some c)))
+returns-clause-published g c =
+    let b = c.enter_batch-seen.ensures in
+    let items = c.in_ok-changes.changes.items in
+    let some : 0 < length items = grind (arith, common_steps) in
+    let full : AllFull c.enter_batch-seen.result.log = subst AllFull (sym b.log) (full_push c.self.inside.seen.log items (shelved_full c.self.inside c.self.invariant) some) in
+    published_of c.enter_batch-seen.result.log full
+
+pub overflow_add-operation : goal.overflow_add-operation
+overflow_add-operation g c = let b = shelved_batches c.self.inside c.self.invariant in omega arith

@@ -11,20 +11,19 @@ use Rattle.br_model.specs.Text.LineForms.{comes_by_line}
 use Rattle.br_model.proofs.PlaneApplied.{run-setup}
 use Rattle.std.specs.List.{list_all}
 use Rattle.capture_runner.proofs.Counting.{chips, frame_by_line, ran_none, summary_is}
-use Rattle.capture_runner.proofs.demo.summary.Goals as goal
+use Rattle.capture_runner.proofs.demo.summary_in.Goals as goal
 
 pub loop-frames-init : goal.loop-frames-init
-loop-frames-init c =
+loop-frames-init g c =
     let setup = setup_of (made_scenario c.args.number c.args.count).roster in
-    let begun = c.in_ok-world.ensures ∙ ap (λ (d : Domains). first_world (record { domains = d; own = first_own })) c.domains.ensures in
-    let ran = c.in_ok-do_steps.ensures setup [] (ran_none setup _ _ begun (record { chip = refl; soft = refl; tx = refl; overrun = refl })) in
+    let ran = c.in_ok-do_steps.ensures setup [] (ran_none setup _ _ c.requires.world (record { chip = refl; soft = refl; tx = refl; overrun = refl })) in
     let first = c.new-frames.ensures.first in record {
       ran = (c.in_ok-first_steps.field-0.items, ran, ap (λ (l : List Step). l ++ steps_left c.new-frames.result) c.in_ok-first_steps.ensures ∙ c.new-frames.ensures.steps);
-      few = omega (arith, ap (λ (f : At). f.i) first, ap (λ (f : At). f.left) first, c.requires);
+      few = omega (arith, ap (λ (f : At). f.i) first, ap (λ (f : At). f.left) first, c.requires.count);
     }
 
 pub loop-frames-preserved : goal.loop-frames-preserved
-loop-frames-preserved c =
+loop-frames-preserved g c =
     let so_far = c.loop-frames.invariant in
     let steps = c.in_ok-steps.ensures in
     let done : List Step = so_far.ran.0 in
@@ -38,10 +37,10 @@ loop-frames-preserved c =
     }
 
 pub returns : goal.returns
-returns c =
+returns g c =
     let so_far = c.loop-frames.invariant in
     subst (λ (whole : List ℕ). IfOk c.line.result (λ (t : String Global). string_bytes t ≡ whole))
-    (summary_is c.args.number c.args.count _ _ _ _ so_far.ran.0 c.loop-frames.frames c.requires so_far.ran.1 so_far.ran.2 (omega (arith, c.left.ensures, c.loop-frames-test.false)) c.changes.ensures c.pending.ensures)
+    (summary_is c.args.number c.args.count _ _ _ _ so_far.ran.0 c.loop-frames.frames c.requires.count so_far.ran.1 so_far.ran.2 (omega (arith, c.left.ensures, c.loop-frames-test.false)) c.changes.ensures c.pending.ensures)
     c.line.ensures
 
 pub do_steps-requires-in-loop-frames : goal.do_steps-requires-in-loop-frames
