@@ -12,7 +12,6 @@ use Rattle.br_model.specs.Plane.Steps.{world_step}
 use Rattle.br_model.specs.Plane.World.{World, Stepped, first_world}
 use Rattle.br_model.specs.Program.Runs.{run_of, setup_of}
 use Rattle.br_model.specs.Text.Scenario.{Scenario}
-use Rattle.br_model.specs.Table.Domains.{first_chip_domain}
 use Rattle.br_model.specs.Table.Setup.{Setup}
 use Rattle.br_model.specs.Program.Summary.{kind_of, count_of, summary, summary_text}
 use Rattle.br_model.proofs.MadeRead.{made_read}

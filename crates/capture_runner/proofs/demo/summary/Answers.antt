@@ -7,7 +7,6 @@ use Rattle.br_model.specs.Plane.World.{World, first_world}
 use Rattle.br_model.specs.Program.Runs.{setup_of}
 use Rattle.br_model.specs.Table.Setup.{Setup, first_own}
 use Rattle.br_model.proofs.PlaneApplied.{run-setup}
-use Rattle.capture_runner.specs.Counting.{Ran}
 use Rattle.capture_runner.proofs.Counting.{ran_none, summary_is}
 use Rattle.capture_runner.proofs.demo.summary.Goals as goal
 
