@@ -1,22 +1,17 @@
 -- Lines are counted, step by step.
-use Rattle.std.proofs.Common.{◌≡◌, ℕ, suc, ◌+◌, ◌*◌, ◌%◌, ◌==◌, ◌≤◌, nat_le, Bool, true, false, if◌then◌else◌, cond, length, List, [], ◌∷◌, ◌++◌, codes, refl, sym, ◌∙◌, ap, subst, arith, append_assoc, append-nil}
+use Rattle.std.proofs.Common.{◌≡◌, ℕ, ◌+◌, ◌≤◌, false, cond, length, List, [], ◌∷◌, ◌++◌, codes, refl, sym, ◌∙◌, ap, subst, arith, append_assoc, append-nil}
 use Rattle.std.specs.Fmt.{decimal}
-use Rattle.std.specs.List.{list_all}
 use Rattle.std.specs.Str.{bytes_eq}
-use Rattle.std.proofs.lemmas.List.Folds.{list_all-append}
 use Rattle.std.proofs.lemmas.Grind.{flat_map-append}
 use Rattle.std.proofs.lemmas.List.Sums.{sum_by-append}
 use Rattle.br_model.specs.declared.steps.Step.{Step}
-use Rattle.br_model.specs.declared.steps.Step.TheVariants.{Now, Turn, Report, Publish}
 use Rattle.br_model.specs.declared.transcript.Line.{Line}
-use Rattle.br_model.specs.Program.Generator.{made_scenario, most_frames, each, frame_steps, frames_from, steps}
-use Rattle.br_model.specs.Text.Operands.{last_moment}
+use Rattle.br_model.specs.Program.Generator.{made_scenario, most_frames, each, steps}
 use Rattle.br_model.specs.Plane.Runs.{run, then_step, pending}
 use Rattle.br_model.specs.Plane.Steps.{world_step}
 use Rattle.br_model.specs.Plane.World.{World, Stepped, first_world}
 use Rattle.br_model.specs.Program.Runs.{run_of, setup_of}
 use Rattle.br_model.specs.Text.Scenario.{Scenario}
-use Rattle.br_model.specs.Table.Domains.{first_chip_domain}
 use Rattle.br_model.specs.Table.Setup.{Setup}
 use Rattle.br_model.specs.Program.Summary.{kind_of, count_of, summary, summary_text}
 use Rattle.br_model.proofs.MadeRead.{made_read}
@@ -25,8 +20,6 @@ use Rattle.capture_runner.specs.declared.demo.Tally.{Tally}
 use Rattle.transcript_lines.specs.declared.row.Row.{Row}
 use Rattle.transcript_lines.specs.Rows.{expand, expand_row, sent_lines}
 use Rattle.capture_runner.specs.Counting.{Tallies, Adds, AddsSent, Ran, RunsOn}
-use Rattle.scenario_text.specs.Generating.{At, steps_left}
-use Rattle.br_model.specs.Text.LineForms.{comes_by_line}
 
 -- the tally of lines more, by how many of each kind they are
 pub adds : (old new : Tally) (lines : List Line) → new.chip ≡ old.chip + count_of (codes "chip") lines → new.soft ≡ old.soft + count_of (codes "soft") lines
@@ -77,17 +70,19 @@ adds_sent old new ports chip soft tx overrun id untagged plain tagged =
 pub runs_none : (w : World) (t : Tally) → RunsOn w t [] w t
 runs_none w t setup before h = subst (λ (done : List Step). Ran setup done w t) (sym (append-nil before)) h
 
-pub runs_more : (w v u : World) (a b c : Tally) (done : List Step) (step : Step) (lines : List Line) → RunsOn w a done v b → (u, lines) ≡ world_step v step → Adds b lines c
-    → RunsOn w a (done ++ step ∷ []) u c
-runs_more w v u a b c done step lines h stepped added setup before ran =
-    let r = h setup before ran in
-    let x : Stepped = run setup (before ++ done) in
-    let next : (u, lines) ≡ world_step x.0 step = stepped ∙ ap (λ (w : World). world_step w step) r.world_is in
-    let all : run setup (before ++ (done ++ step ∷ [])) ≡ then_step x step =
-    ap (run setup) (sym (append_assoc before done (step ∷ []))) ∙ run_push setup (before ++ done) step in record {
+-- one step more
+pub runs_step : (w u : World) (a c : Tally) (step : Step) (lines : List Line) → (u, lines) ≡ world_step w step → Adds a lines c → RunsOn w a (step ∷ []) u c
+runs_step w u a c step lines stepped added setup before ran =
+    let x : Stepped = run setup before in
+    let next : (u, lines) ≡ world_step x.0 step = stepped ∙ ap (λ (w : World). world_step w step) ran.world_is in
+    let all : run setup (before ++ step ∷ []) ≡ then_step x step = run_push setup before step in record {
       world_is = ap (λ (y : Stepped). y.0) next ∙ sym (ap (λ (y : Stepped). y.0) all);
-      tallies = subst (λ (l : List Line). Tallies l c) (ap (λ (y : Stepped). x.1 ++ y.1) next ∙ sym (ap (λ (y : Stepped). y.1) all)) (added x.1 r.tallies);
+      tallies = subst (λ (l : List Line). Tallies l c) (ap (λ (y : Stepped). x.1 ++ y.1) next ∙ sym (ap (λ (y : Stepped). y.1) all)) (added x.1 ran.tallies);
     }
+
+pub runs_more : (w v u : World) (a b c : Tally) (done more : List Step) → RunsOn w a done v b → RunsOn v b more u c → RunsOn w a (done ++ more) u c
+runs_more w v u a b c done more h k setup before ran =
+    subst (λ (all : List Step). Ran setup all u c) (append_assoc before done more) (k setup (before ++ done) (h setup before ran))
 
 -- before the first step
 pub ran_none : (setup : Setup) (w : World) (t : Tally) → w ≡ first_world setup → Tallies [] t → Ran setup [] w t
@@ -95,28 +90,6 @@ ran_none setup w t e h = record {
   world_is = e ∙ sym (ap (λ (x : Stepped). x.0) (run_none setup));
   tallies = subst (λ (l : List Line). Tallies l t) (sym (ap (λ (x : Stepped). x.1) (run_none setup))) h;
 }
-
--- the chips of a generated scenario
-abbrev pub chips : List ℕ
-chips = first_chip_domain ∷ []
-
--- generated steps come by lines
-pub frame_by_line : (i n : ℕ) → i ≤ most_frames → list_all (comes_by_line chips) (frame_steps i n) ≡ true
-frame_by_line i n few =
-    joined (each 3 i (Report first_chip_domain)) _ (one (i % 3 == 0) (Report first_chip_domain) refl)
-    (joined (each 5 i (Turn first_chip_domain)) _ (one (i % 5 == 0) (Turn first_chip_domain) refl)
-    (joined (each 7 i Publish) _ (one (i % 7 == 0) Publish refl)
-    (one (i % 64 == 0) (Now (1000 * i)) (early (1000 * i) (omega arith)))))
-  where
-    one : (b : Bool) (s : Step) → comes_by_line chips s ≡ true → list_all (comes_by_line chips) (if b then s ∷ [] else []) ≡ true
-    one true s h = rw h refl
-    one false s h = refl
-
-    joined : (l m : List Step) → list_all (comes_by_line chips) l ≡ true → list_all (comes_by_line chips) m ≡ true → list_all (comes_by_line chips) (l ++ m) ≡ true
-    joined l m h k = list_all-append (comes_by_line chips) l m ∙ rw (h, k) refl
-
-    early : (moment : ℕ) → moment ≤ last_moment → nat_le moment last_moment ≡ true
-    early moment h = grind arith
 
 -- the line of these counts
 pub line_is : (frames : ℕ) (w : World) (t : Tally) (lines : List Line) → Tallies lines t
@@ -133,17 +106,12 @@ summed x count w t few r =
     ap (λ (s : Scenario). summary_text count (run_of s)) (made_read x count few)
     ∙ ap (λ (v : World). summary_text count (v, (run_of (made_scenario x count)).1)) (sym r.world_is)
 
-none_left : (g : At) → g.left ≡ 0 → steps_left g ≡ []
-unfolding frames_from
-none_left g e = ap (λ n. frames_from n g.i g.x) e
-
 -- the line of a run that is over
-pub summary_is : (x count changes waiting : ℕ) (w : World) (t : Tally) (done : List Step) (g : At) → count ≤ most_frames → Ran (setup_of (made_scenario x count).roster) done w t
-    → done ++ steps_left g ≡ steps x count → g.left ≡ 0 → changes ≡ length w.history → waiting ≡ pending w
+pub summary_is : (x count changes waiting : ℕ) (w : World) (t : Tally) (done : List Step) → count ≤ most_frames → Ran (setup_of (made_scenario x count).roster) done w t
+    → done ≡ steps x count → changes ≡ length w.history → waiting ≡ pending w
     → codes "demo frames " ++ (decimal count ++ (codes " chip " ++ (decimal t.chip ++ (codes " soft " ++ (decimal t.soft ++ (codes " tx " ++ (decimal t.tx ++ (codes " overrun " ++ (decimal t.overrun ++ (codes " changes " ++ (decimal changes ++ (codes " pending " ++ (decimal waiting ++ 10 ∷ [])))))))))))))
     ≡ summary x count
-summary_is x count changes waiting w t done g few r all over c p =
-    let whole : done ≡ steps x count = sym (append-nil done) ∙ ap (λ (l : List Step). done ++ l) (sym (none_left g over)) ∙ all in
+summary_is x count changes waiting w t done few r whole c p =
     let ran = subst (λ (l : List Step). Ran (setup_of (made_scenario x count).roster) l w t) whole r in
     (λ i. codes "demo frames " ++ (decimal count ++ (codes " chip " ++ (decimal t.chip ++ (codes " soft " ++ (decimal t.soft ++ (codes " tx " ++ (decimal t.tx ++ (codes " overrun " ++ (decimal t.overrun ++ (codes " changes " ++ (decimal (c i) ++ (codes " pending " ++ (decimal (p i) ++ 10 ∷ []))))))))))))))
     ∙ line_is count w t (run_of (made_scenario x count)).1 ran.tallies

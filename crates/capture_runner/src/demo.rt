@@ -1,14 +1,18 @@
 //! The run of a generated scenario, of which lines are counted alone.
 ghost use Rattle.std.specs.Prelude.{◌≡◌, ◌+◌, ◌≤◌, ◌∷◌, ◌++◌, [], true, IfOk, OnOk, codes, decimal, string_bytes};
 ghost use Rattle.std.specs.List.{list_all};
-ghost use Rattle.br_model.specs.Program.Generator.{made_scenario, most_frames};
+ghost use Rattle.br_model.specs.Program.Generator.{made_scenario, most_frames, ports as made_ports};
 ghost use Rattle.br_model.specs.Program.Runs.{setup_of};
+ghost use Rattle.br_model.specs.Text.Roster.{chips_of};
 ghost use Rattle.br_model.specs.Program.Summary.{summary as summary_of};
 ghost use Rattle.br_model.specs.Plane.World.{first_world};
 ghost use Rattle.transcript_lines.specs.Rows.{expand_row};
 ghost use Rattle.capture_runner.specs.Counting.{Adds, AddsSent, RunsOn};
 ghost use Rattle.br_model.specs.Table.Domains.{chip_domains};
 ghost use Rattle.br_model.specs.Text.LineForms.{comes_by_line};
+ghost use Rattle.plane_core.specs.Added.{Added};
+ghost use Rattle.scenario_text.specs.Stepping.{step_of};
+ghost use Rattle.capture_runner.specs.Session.{Tells};
 
 use crate::NoMemory;
 use crate::world::World;
@@ -16,7 +20,7 @@ use br_model::numbers::Mac;
 use br_model::steps::Step;
 use br_model::transcript::Line;
 use port_sets::Ports;
-use scenario_text::{Generator, domains, first_steps};
+use scenario_text::{FrameSteps, Made, domains, first_steps};
 use std::alloc::{AllocError, Global};
 use std::sync::Wait;
 use transcript_lines::{Lines, Row};
@@ -124,6 +128,42 @@ impl Tally {
     }
 }
 
+/// Does this step. Its lines are added.
+fn do_made<R: Wait>(
+    rt: &R,
+    alloc: Global,
+    made: Made,
+    world: &mut World,
+    lines: &mut Lines,
+) -> Result<(), NoMemory>
+    requires { comes_by_line (chip_domains world.old.setup.domains) (step_of made) ≡ true }
+    ensures { OnOk result (Added (Tells world.old (step_of made) world.new) lines.old.lines lines.new.lines) }
+{
+    match made {
+        Made::Enters { port, bytes } => world.enter(alloc, port, &bytes, lines),
+        Made::Follows(step) => world.step(rt, alloc, step, lines),
+    }
+}
+
+/// Does this step, and counts its lines.
+fn do_step<R: Wait>(
+    rt: &R,
+    alloc: Global,
+    made: Made,
+    world: &mut World,
+    lines: &mut Lines,
+    tally: &mut Tally,
+) -> Result<(), NoMemory>
+    requires { comes_by_line (chip_domains world.old.setup.domains) (step_of made) ≡ true }
+    ensures runs { OnOk result (RunsOn world.old tally.old (step_of made ∷ []) world.new tally.new) }
+    ensures setup { OnOk result (world.new.setup ≡ world.old.setup) }
+{
+    lines.clear();
+    do_made(rt, alloc, made, world, lines)?;
+    tally.add_all(lines)?;
+    Ok(())
+}
+
 /// Does these steps, and counts their lines.
 fn do_steps<R: Wait>(
     rt: &R,
@@ -137,9 +177,25 @@ fn do_steps<R: Wait>(
     ensures { OnOk result (RunsOn world.old tally.old steps.items world.new tally.new) }
 {
     for step in steps {
-        lines.clear();
-        world.step(rt, alloc, step, lines)?;
-        tally.add_all(lines)?;
+        do_step(rt, alloc, Made::Follows(step), world, lines, tally)?;
+    }
+    Ok(())
+}
+
+/// Does all steps that are left of generated frames, and counts their lines.
+fn do_frames<R: Wait>(
+    rt: &R,
+    alloc: Global,
+    mut frames: FrameSteps,
+    world: &mut World,
+    lines: &mut Lines,
+    tally: &mut Tally,
+) -> Result<(), NoMemory>
+    requires { chip_domains world.old.setup.domains ≡ chips_of made_ports }
+    ensures { OnOk result (RunsOn world.old tally.old frames world.new tally.new) }
+{
+    while let Some(made) = frames.next() {
+        do_step(rt, alloc, made, world, lines, tally)?;
     }
     Ok(())
 }
@@ -158,19 +214,10 @@ fn summary_in<R: Wait>(
 {
     let mut lines = Lines::new(alloc);
     let mut tally = Tally::NONE;
-    do_steps(
-        rt,
-        alloc,
-        first_steps(alloc)?,
-        world,
-        &mut lines,
-        &mut tally,
-    )?;
-    let mut frames = Generator::new(number, count);
-    while frames.left() > 0 {
-        let steps = frames.frame_steps(alloc)?;
-        do_steps(rt, alloc, steps, world, &mut lines, &mut tally)?;
-    }
+    let first = first_steps(alloc)?;
+    do_steps(rt, alloc, first, world, &mut lines, &mut tally)?;
+    let frames = FrameSteps::new(number, count);
+    do_frames(rt, alloc, frames, world, &mut lines, &mut tally)?;
     tally.line(alloc, count, world.changes(), world.pending())
 }
 

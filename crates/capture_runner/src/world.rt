@@ -1,7 +1,7 @@
 //! The world of a run: a bridge with its chips, and the seat by which its software looks up.
 ghost use Rattle.std.specs.Prelude.{◌≡◌, length, true, IfOk, OnOk, OnErr};
 ghost use Rattle.br_model.specs.Plane.Runs.{end_line, pending};
-ghost use Rattle.br_model.specs.declared.steps.Step.TheVariants.{Turn};
+ghost use Rattle.br_model.specs.declared.steps.Step.TheVariants.{Rx, Turn};
 ghost use Rattle.br_model.specs.Plane.World.{first_world};
 ghost use Rattle.br_model.specs.Table.Domains.{chip_domains, has_chip};
 ghost use Rattle.plane_core.specs.Added.{Added};
@@ -12,7 +12,7 @@ ghost use Rattle.br_model.specs.Text.LineForms.{comes_by_line};
 use crate::NoMemory;
 use br_model::change::Change;
 use br_model::domains::Domains;
-use br_model::numbers::{Dom, Mac};
+use br_model::numbers::{Dom, Mac, Port};
 use br_model::steps::{Event, Step};
 use br_model::transcript::Line;
 use plane_core::{Plane, TurnFault};
@@ -85,6 +85,21 @@ impl World {
         Box::into_inner(plane).end(rt);
     }
 
+    /// A frame enters by this port. The lines of the step are added.
+    #[tactic(auto, using(crate::proofs::Worlds::world_told, crate::proofs::Worlds::world_tells))]
+    pub(crate) fn enter(
+        &mut self,
+        alloc: Global,
+        port: Port,
+        bytes: &[u8],
+        lines: &mut Lines,
+    ) -> Result<(), NoMemory>
+        ensures { OnOk result (Added (Tells self.old (Rx port bytes.now) self.new) lines.old.lines lines.new.lines) }
+    {
+        self.plane.enter_to(alloc, port, bytes, lines)?;
+        Ok(())
+    }
+
     /// Does a step that a line can give. Its lines are added.
     #[tactic(auto, using(crate::proofs::Worlds::world_told, crate::proofs::Worlds::world_tells))]
     pub(crate) fn step<R: Wait>(
@@ -98,10 +113,7 @@ impl World {
         ensures { OnOk result (Added (Tells self.old step self.new) lines.old.lines lines.new.lines) }
     {
         match step {
-            Step::Rx { port, bytes } => {
-                self.plane.enter_to(alloc, port, bytes.as_slice(), lines)?;
-                Ok(())
-            }
+            Step::Rx { port, bytes } => self.enter(alloc, port, bytes.as_slice(), lines),
             Step::Cmd(command) => self.plane.accept_to(alloc, &Event::Cmd(command), lines),
             Step::Now(moment) => self.plane.accept_to(alloc, &Event::Moment(moment), lines),
             Step::Serve => self.plane.serve_to(alloc, &mut self.seat, lines),

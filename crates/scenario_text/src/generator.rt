@@ -1,10 +1,10 @@
 //! The scenario that `gen` writes and `demo` runs.
-ghost use Rattle.std.specs.Prelude.{◌≡◌, ◌+◌, ◌*◌, ◌%◌, ◌==◌, ◌<◌, ◌≤◌, if◌then◌else◌, [], ◌∷◌, ◌++◌, length, codes, decimal, IfOk, OnOk, OnErr};
+ghost use Rattle.std.specs.Prelude.{◌≡◌, ◌+◌, ◌*◌, ◌%◌, ◌==◌, ◌<◌, ◌≤◌, if◌then◌else◌, [], ◌∷◌, ◌++◌, length, codes, decimal, IfOk};
 ghost use Rattle.std.specs.String.{string_bytes, string_len, string_capacity};
 ghost use Rattle.br_model.specs.declared.domains.Edition.TheVariants.{One};
 ghost use Rattle.br_model.specs.Table.Domains.{first_chip_domain, last_port};
 ghost use Rattle.br_model.specs.Data.Digits.{hex_of};
-ghost use Rattle.br_model.specs.Program.Generator.{drawn as drawn_of, number_of, station as station_of, destination as destination_of, frame as frame_of, frame_steps as steps_of_frame, each, most_frames, made, steps as all_steps, ports, first_steps as steps_at_first};
+ghost use Rattle.br_model.specs.Program.Generator.{drawn as drawn_of, number_of, station as station_of, destination as destination_of, frame as frame_of, each, most_frames, made, steps as all_steps, ports, first_steps as steps_at_first};
 ghost use Rattle.br_model.specs.Text.Roster.{domains_of};
 ghost use Rattle.scenario_text.specs.Generating.{first, after_frame, next_steps, steps_left, lines_of, opening_text, text_left};
 
@@ -140,22 +140,6 @@ impl Generator {
         ensures capacity { string_capacity text.old ≤ string_capacity text.new }
     {
         put(text, "end\n");
-    }
-
-    /// The steps of the next frame.
-    pub fn frame_steps(&mut self, alloc: Global) -> Result<Vec<Step>, NoMemory>
-        requires { 0 < self.old.left }
-        ensures steps { IfOk result (λ steps. steps.items ≡ next_steps self.old) }
-        ensures next { OnOk result (self.new ≡ after_frame self.old) }
-        ensures rest { OnOk result (steps_left self.old ≡ next_steps self.old ++ steps_left self.new) }
-        ensures err { OnErr result (self.new ≡ self.old) }
-    {
-        let mut steps = Vec::with_capacity(alloc, 6)?;
-        steps.push(entry(alloc, self.number())?)?;
-        steps.push(Step::Serve)?;
-        push_others(self.i, &mut steps)?;
-        self.go_on();
-        Ok(steps)
     }
 }
 
@@ -327,39 +311,6 @@ pub(crate) fn port(number: u8) -> Port
         Some(port) => port,
         None => unreachable!(),
     }
-}
-
-/// The frame of this number enters.
-fn entry(alloc: Global, n: u32) -> Result<Step, NoMemory>
-    ensures { IfOk result (λ step. step ≡ Step.Rx (n % 6 + 1) (frame_of n)) }
-{
-    let bytes = Bytes::copy_of(alloc, &frame(n))?;
-    Ok(Step::Rx {
-        port: port((n % 6 + 1) as u8),
-        bytes,
-    })
-}
-
-/// Adds a step where i is a multiple.
-fn push_each(d: u32, i: u32, step: Step, steps: &mut Vec<Step>) -> Result<(), NoMemory>
-    requires { 0 < d }
-    ensures { OnOk result (steps.new.items ≡ steps.old.items ++ each d i step) }
-{
-    if i % d == 0 {
-        steps.push(step)?;
-    }
-    Ok(())
-}
-
-/// Adds what else happens with frame i.
-fn push_others(i: u32, steps: &mut Vec<Step>) -> Result<(), NoMemory>
-    requires { i ≤ most_frames }
-    ensures { OnOk result (steps.new.items ≡ steps.old.items ++ (each 3 i (Step.Report first_chip_domain) ++ (each 5 i (Step.Turn first_chip_domain) ++ (each 7 i Step.Publish ++ each 64 i (Step.Now (1000 * i)))))) }
-{
-    push_each(3, i, Step::Report(Dom::CHIP), steps)?;
-    push_each(5, i, Step::Turn(Dom::CHIP), steps)?;
-    push_each(7, i, Step::Publish, steps)?;
-    push_each(64, i, Step::Now(u64::from(1000 * i)), steps)
 }
 
 fn up(number: u8) -> Step
