@@ -38,9 +38,6 @@ pub struct Field {
     pub width: u8,
 }
 
-/// How many bytes a field of 64 bits may lie in.
-const WINDOW: usize = 9;
-
 /// The shift and mask code of a field: its number, or with one more argument the whole with another number in the field.
 macro_rules! field {
     ($whole:expr, $at:expr, $width:expr) => {
@@ -69,6 +66,16 @@ fn window_with(window: u128, at: u16, width: u16, number: u64) -> u128
     ensures { result ≡ with_field window at width number }
 {
     field!(window, at, width, u128::from(number))
+}
+
+/// How many bytes a field lies in.
+fn byte_count(f: Field) -> usize
+    requires { f.width ≤ 64 }
+    ensures covers { f.at % 8 + f.width ≤ 8 * result }
+    ensures few { result ≤ 9 }
+    ensures within { 8 * (f.at / 8 + result) < f.at + f.width + 8 }
+{
+    usize::from((f.at % 8 + u16::from(f.width) + 7) / 8)
 }
 
 impl<const BYTES: usize> Row<BYTES> {
@@ -120,7 +127,7 @@ impl<const BYTES: usize> Row<BYTES> {
         ensures below { result < 2 ^ f.width }
     {
         let first = usize::from(f.at / 8);
-        let window = self.window(first, (BYTES - first).min(WINDOW));
+        let window = self.window(first, byte_count(f));
         field_in(window, f.at % 8, u16::from(f.width))
     }
 
@@ -132,7 +139,7 @@ impl<const BYTES: usize> Row<BYTES> {
         ensures { self.new ≡ with_field self.old f.at f.width n }
     {
         let first = usize::from(f.at / 8);
-        let count = (BYTES - first).min(WINDOW);
+        let count = byte_count(f);
         let window = self.window(first, count);
         let changed = window_with(window, f.at % 8, u16::from(f.width), n);
         self.write(first, count, changed);

@@ -7,9 +7,9 @@ pub returns-clause-value : goal.returns-clause-value
 returns-clause-value g c =
     let row : ℕ = c.args.self.now in
     let at : ℕ = c.args.f.at in
-    let count : ℕ = c.min.result in
+    let count : ℕ = c.byte_count.result in
     let window : c.window-window.result ≡ row / 2 ^ (8 * (at / 8)) % 2 ^ (8 * count) = c.window-window.ensures ∙ ap (λ k. row / 2 ^ (8 * k) % 2 ^ (8 * count)) c.from-first.ensures in
-    let fits : at % 8 + c.args.f.width ≤ 8 * count = omega (arith, c.min.ensures, c.from-first.ensures) in
+    let fits : at % 8 + c.args.f.width ≤ 8 * count = omega (arith, c.byte_count.ensures.covers) in
     c.field_in.ensures ∙ (λ t. window t / 2 ^ (at % 8) % 2 ^ (c.from.ensures t)) ∙ get_is row at c.args.f.width (8 * count) (at % 8) refl fits
 
 pub returns-clause-below : goal.returns-clause-below
