@@ -1,5 +1,5 @@
 -- The bits of words, and the numbers that they stand for.
-use Rattle.std.proofs.Common.{◌≡◌, ◌≢◌, ℕ, zero, suc, ◌+◌, ◌*◌, ◌/◌, ◌%◌, ◌^◌, ◌<◌, ◌≤◌, Bool, true, false, not, ◌&&◌, ◌||◌, cond, List, [], Some, length, refl, sym, ap, ap₂, ◌∙◌, arith, get_or, set, replicate, inl, inr, bit_or, bit_and, w64, get_or-set_same, get_or-set_other, length-set}
+use Rattle.std.proofs.Common.{◌≡◌, ◌≢◌, ℕ, zero, suc, ◌+◌, ◌*◌, ◌/◌, ◌%◌, ◌^◌, ◌<◌, ◌≤◌, Bool, true, false, not, ◌&&◌, ◌||◌, cond, List, [], ◌∷◌, Some, length, refl, sym, ap, ap₂, ◌∙◌, arith, get_or, set, replicate, inl, inr, bit_or, bit_and, w64, get_or-set_same, get_or-set_other, length-set}
 use Rattle.std.specs.Prelude.{◌==◌, slice_get, nat_eq}
 use Rattle.std.specs.Cmp.Lexicographic.{pointwise}
 use Rattle.std.specs.Int.{bit_at, bit_not, trailing_zeros}
@@ -14,7 +14,7 @@ use Rattle.std.proofs.lemmas.Bool.{eq-eqb, ne_eqb, cases_lt}
 use Rattle.port_sets.specs.Numbers.{numbers_below, has_number}
 use Rattle.port_sets.specs.Words.{is_set, members, words_with, AreWords}
 use Rattle.port_sets.specs.WordsOfMembers.{has-below, words_with-members}
-use Rattle.port_sets.proofs.Numbers.{same_below, none_below, first-numbers_below}
+use Rattle.port_sets.proofs.Numbers.{same_below, none_below, first-numbers_below, first-others, IsSetBelow-numbers_below}
 
 -- below 64 w a member is a number whose bit is set
 pub has-members : (w : ℕ) (words : List ℕ) (m : ℕ) → m < 64 * w → has_number (members w words) m ≡ is_set words m
@@ -169,6 +169,24 @@ first-members w words i within zero_below some fits =
     ] in
     first-numbers_below (is_set words) (64 * w) n (omega arith) set_at none
 
+-- a word of words fits
+pub word_fits : (w : ℕ) (words : List ℕ) (j : ℕ) → AreWords w words → j < w → get_or words j 0 < 2 ^ 64
+word_fits w words j h low = h.2 j 0 (omega (arith, h.0))
+
+-- the members where the lowest bit of the first word that has one is cleared
+pub rest-members : (w : ℕ) (words : List ℕ) (i : ℕ) → AreWords w words → i < w → ((j : ℕ) → j < i → get_or words j 0 ≡ 0) → 0 < get_or words i 0
+    → members w words ≡ (64 * i + trailing_zeros w64 (get_or words i 0)) ∷ members w (set words i (bit_and (get_or words i 0) (bit_not w64 (1 * 2 ^ trailing_zeros w64 (get_or words i 0) % 2 ^ 64))))
+rest-members w words i h within zero_below some =
+    let fits : get_or words i 0 < 2 ^ 64 = word_fits w words i h within in
+    let t : ℕ = trailing_zeros w64 (get_or words i 0) in
+    let n : ℕ = 64 * i + t in
+    let small : t < 64 = (bit_at-trailing_zeros w64 (get_or words i 0) some fits).0 in
+    let place : n / 64 ≡ i = omega arith in
+    let rest : n % 64 ≡ t = omega arith in
+    first-others (64 * w) (members w words) n (IsSetBelow-numbers_below (is_set words) (64 * w)) (first-members w words i within zero_below some fits)
+    ∙ ap (λ (ns : List ℕ). n ∷ ns) (sym (members-without w words n (omega (arith, h.0))))
+    ∙ ap₂ (λ j b. n ∷ members w (set words j (bit_and (get_or words j 0) (bit_not w64 (1 * 2 ^ b % 2 ^ 64))))) place rest
+
 -- words after a write to one of the first four
 pub AreWords-set : (w : ℕ) (words : List ℕ) (i v : ℕ) → AreWords w words → i < 4 → v < 2 ^ 64 → AreWords w (set words i v)
 AreWords-set w words i v h low fits = (
@@ -177,9 +195,10 @@ AreWords-set w words i v h low fits = (
   All-set (λ x. x < 2 ^ 64) words i v fits h.2,
 )
 
--- a word of words fits
-pub word_fits : (w : ℕ) (words : List ℕ) (j : ℕ) → AreWords w words → j < w → get_or words j 0 < 2 ^ 64
-word_fits w words j h low = h.2 j 0 (omega (arith, h.0))
+-- words of which one that is not 0 loses some of its bits
+pub AreWords-clear : (w : ℕ) (words : List ℕ) (i m : ℕ) → AreWords w words → i < w → 0 < get_or words i 0 → AreWords w (set words i (bit_and (get_or words i 0) m))
+AreWords-clear w words i m h within some =
+    AreWords-set w words i _ h (elim (cases_lt i 4) [ inl low ↦ low | inr high ↦ absurd (omega (arith, h.1 i high)) ]) (omega (arith, and_le_l (get_or words i 0) m, word_fits w words i h within))
 
 -- of words that were made one by one, those from the fourth on as 0
 made : (w : ℕ) (words : List ℕ) → length words ≡ w → ((j : ℕ) → j < w → get_or words j 0 < 2 ^ 64) → ((j : ℕ) → j < w → 4 ≤ j → get_or words j 0 ≡ 0) → AreWords w words

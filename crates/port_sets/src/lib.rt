@@ -163,6 +163,21 @@ impl<const W: usize> PortSet<W> {
         None
     }
 
+    /// Takes the least member out.
+    fn take_first(&mut self) -> Option<u8>
+        ensures { YieldsFirst (λ s. s) self.old result self.new }
+    {
+        for i in 0..W {
+            let word = self.words[i];
+            if word != 0 {
+                let bit = word.trailing_zeros();
+                self.words[i] = word & !(1 << bit);
+                return Some((64 * i as u32 + bit) as u8);
+            }
+        }
+        None
+    }
+
     /// The members, ascending.
     pub fn iter(&self) -> Members<W>
         ensures members { result ≡ self.now }
@@ -218,9 +233,7 @@ impl<const W: usize> Iterator for Members<W> {
     ghost remaining = { item_count (λ s. s) };
 
     fn next(&mut self) -> Option<u8> {
-        let n = self.left.first()?;
-        self.left = self.left.without(n);
-        Some(n)
+        self.left.take_first()
     }
 }
 
