@@ -26,6 +26,7 @@ pub mod Least
 pub mod MadeRead
 pub mod MapLaws
 pub mod MessageRows
+pub mod OneList
 pub mod PairKeys
 pub mod PlaneAgreement
 pub mod PlaneApplied
@@ -36,6 +37,7 @@ pub mod PlaneOnce
 pub mod PlaneKept
 pub mod PlaneLists
 pub mod PlaneShares
+pub mod PlaneStays
 pub mod Ranges
 pub mod ReactionSteps
 pub mod Reading

@@ -17,9 +17,9 @@ use Rattle.br_model.specs.declared.steps.Step.TheVariants.{Rx, Cmd, Now, Turn, R
 use Rattle.br_model.specs.Data.Digits.{hex_digit, hex_of, is_digit}
 use Rattle.br_model.specs.Table.Domains.{first_chip_domain, software}
 use Rattle.br_model.specs.Program.Generator.{most_frames, station, broadcast, destination, frame, each, frame_steps, frames_from, number_of, drawn, ports, steps, port_line, head, made, made_scenario}
-use Rattle.br_model.specs.Text.LineForms.{line_says}
+use Rattle.br_model.specs.Text.LineForms.{comes_by_line, line_says}
 use Rattle.br_model.specs.Text.Operands.{last_moment, is_byte}
-use Rattle.br_model.specs.Text.Roster.{Entry, Roster, first_roster, has_number}
+use Rattle.br_model.specs.Text.Roster.{Entry, Roster, chips_of, first_roster, has_number}
 use Rattle.br_model.specs.Text.Scenario.{Scenario, Going, Ended, opened, read, scenario, whole_says, longest_line}
 use Rattle.br_model.specs.Text.ScenarioText.{has_line, step_words, step_text}
 use Rattle.br_model.specs.Text.Spelling.{shown}
@@ -39,6 +39,7 @@ record IsGood (s : Step) : Type 0 where
   feedless : is_line (step_words ports s) ≡ true
   short : length (step_words ports s) ≤ longest_line
   line : has_line ports s ≡ true
+  comes : comes_by_line false (chips_of ports) s ≡ true
   whole : is_whole s ≡ true
 
 abbrev AreGood : List Step → Type 0
@@ -58,7 +59,7 @@ unfolding computing
 says r s is h =
     ap (λ (r : Roster). whole_says r (step_words ports s)) is
     ∙ ap (λ b. if b then Err Long else line_says (at 0 []).roster (step_words ports s)) (not_below longest_line (length (step_words ports s)) h.short)
-    ∙ step_read (at 0 []).roster s refl refl h.line
+    ∙ step_read (at 0 []).roster s refl h.comes refl h.line
     ∙ ap (λ (t : Step). Ok (Does t)) (given_whole s h.whole)
 
 one_read : (s : Step) (n : ℕ) (done : List Step) (more : List ℕ) → IsGood s → read 0 (at n done) (step_text ports s ++ more) ≡ read 0 (at (n + 1) (done ++ s ∷ [])) more
@@ -147,6 +148,7 @@ entry_good port bytes few declared sized are =
           let in_range : (is_word (shown bytes) && list_all is_byte (shown bytes)) ≡ true =
           ap (λ (shown : List ℕ). is_word shown && list_all is_byte shown) as_is ∙ both (is_word bytes) _ (some_word bytes sized) are in
           both (has_number ports port) _ declared (both (is_word (shown bytes) && list_all is_byte (shown bytes)) true in_range refl);
+      comes = refl;
       whole = both _ _ (some (length bytes) sized) (not_long (length bytes) sized);
     }
   where
@@ -161,11 +163,15 @@ moment_good moment h = record {
   feedless = decimal_feedless moment (omega arith);
   short = let digits : length (decimal moment) ≤ 20 = length-decimal-le 20 moment (omega arith) (omega arith) (omega arith) in omega (arith, digits);
   line = small moment h;
+  comes = early moment h;
   whole = refl;
 }
   where
     small : (n : ℕ) → n ≤ last_moment → ((nat_le 0 n && nat_le n last_moment) && true) ≡ true
     small n h = grind arith
+
+    early : (n : ℕ) → n ≤ last_moment → nat_le n last_moment ≡ true
+    early n h = grind arith
 
 each_good : (b : Bool) (s : Step) → IsGood s → AreGood (if b then s ∷ [] else [])
 each_good true s h = (h, tt)
@@ -179,10 +185,10 @@ unfolding digits
 frame_good i n few = (
   entry_good (n % 6 + 1) (frame n) (omega arith) (is_port (n % 6) (omega arith)) (frame_length n) (frame_bytes n),
   (
-    record { feedless = refl; short = omega arith; line = refl; whole = refl },
-    good_append (each 3 i (Report first_chip_domain)) _ (each_good (i % 3 == 0) (Report first_chip_domain) (record { feedless = refl; short = omega arith; line = refl; whole = refl }))
-        (good_append (each 5 i (Turn first_chip_domain)) _ (each_good (i % 5 == 0) (Turn first_chip_domain) (record { feedless = refl; short = omega arith; line = refl; whole = refl }))
-        (good_append (each 7 i Publish) _ (each_good (i % 7 == 0) Publish (record { feedless = refl; short = omega arith; line = refl; whole = refl }))
+    record { feedless = refl; short = omega arith; line = refl; comes = refl; whole = refl },
+    good_append (each 3 i (Report first_chip_domain)) _ (each_good (i % 3 == 0) (Report first_chip_domain) (record { feedless = refl; short = omega arith; line = refl; comes = refl; whole = refl }))
+        (good_append (each 5 i (Turn first_chip_domain)) _ (each_good (i % 5 == 0) (Turn first_chip_domain) (record { feedless = refl; short = omega arith; line = refl; comes = refl; whole = refl }))
+        (good_append (each 7 i Publish) _ (each_good (i % 7 == 0) Publish (record { feedless = refl; short = omega arith; line = refl; comes = refl; whole = refl }))
         (each_good (i % 64 == 0) (Now (1000 * i)) (moment_good (1000 * i) (omega arith))))),
   ),
 )
@@ -262,18 +268,18 @@ later x count = Cmd (PortUp 2) ∷ Cmd (PortUp 3) ∷ Cmd (PortUp 4) ∷ Cmd (Po
 later_good : (x count : ℕ) → count ≤ most_frames → AreGood (later x count)
 unfolding later digits
 later_good x count few =
-    let good : (s : Step) → is_line (step_words ports s) ≡ true → length (step_words ports s) ≤ longest_line → has_line ports s ≡ true → is_whole s ≡ true → IsGood s =
-    λ s a b c d. record { feedless = a; short = b; line = c; whole = d } in (
-      good _ refl (omega arith) refl refl,
+    let good : (s : Step) → is_line (step_words ports s) ≡ true → length (step_words ports s) ≤ longest_line → has_line ports s ≡ true → comes_by_line false (chips_of ports) s ≡ true → is_whole s ≡ true → IsGood s =
+    λ s a b c d e. record { feedless = a; short = b; line = c; comes = d; whole = e } in (
+      good _ refl (omega arith) refl refl refl,
       (
-        good _ refl (omega arith) refl refl,
+        good _ refl (omega arith) refl refl refl,
         (
-          good _ refl (omega arith) refl refl,
+          good _ refl (omega arith) refl refl refl,
           (
-            good _ refl (omega arith) refl refl,
+            good _ refl (omega arith) refl refl refl,
             (
-              good _ refl (omega arith) refl refl,
-              (good _ refl (omega arith) refl refl, frames_good count 1 x (omega arith)),
+              good _ refl (omega arith) refl refl refl,
+              (good _ refl (omega arith) refl refl refl, frames_good count 1 x (omega arith)),
             ),
           ),
         ),

@@ -21,7 +21,7 @@ use Rattle.br_model.specs.Text.Declarations.{are_declared}
 use Rattle.br_model.specs.Text.Forms.{Form, Row, Values, words_of, all_values, fills, line}
 use Rattle.br_model.specs.Text.LineForms as lines
 use Rattle.br_model.specs.Text.Operands.{in_range}
-use Rattle.br_model.specs.Text.Roster.{Roster}
+use Rattle.br_model.specs.Text.Roster.{Roster, chips_of}
 use Rattle.br_model.specs.Text.ScenarioText.{fits_in, has_line, step_words}
 use Rattle.br_model.specs.Text.Spelling.{shown}
 use Rattle.br_model.specs.Text.Words.{Word, is_word, is_comment, joined, words}
@@ -38,7 +38,7 @@ says r ws proper line =
     ap (λ (b : Bool). if b then Ok Blank else lines.all_say r (words (joined ws))) line ∙ ap (lines.all_say r) (words_joined ws proper)
 
 -- a line that a row writes of values in range
-pub line_read : (r : Roster) (q : Row Said) (values : Values q.shape) → are_declared r.ports ≡ true → q.place r.place ≡ true → is_sound q.shape ≡ true
+pub line_read : (r : Roster) (q : Row Said) (values : Values q.shape) → are_declared r.ports ≡ true → q.place r ≡ true → is_sound q.shape ≡ true
     → first_near lines.lines q.shape ≡ Some q → is_comment (joined (words_of r.ports q.shape values)) ≡ false
     → lines.all_say r (words_of r.ports q.shape values) ≡ line lines.lines r (length (words_of r.ports q.shape values)) (λ i. slice_index_or (words_of r.ports q.shape values) i [])
     → all_values (in_range r.ports) q.shape values ≡ true
@@ -51,7 +51,7 @@ line_read r q values all place sound first text other h =
     ∙ row_read r lines.lines q values (λ i. slice_index_or ws i []) place all sound first h (own_stand ws)
 
 -- the line of a command that a row writes
-command_line : (r : Roster) (q : Row Command) (values : Values q.shape) → are_declared r.ports ≡ true → q.place r.place ≡ true → is_sound q.shape ≡ true
+command_line : (r : Roster) (q : Row Command) (values : Values q.shape) → are_declared r.ports ≡ true → q.place r ≡ true → is_sound q.shape ≡ true
     → first_near forms.commands q.shape ≡ Some q → all_values (in_range r.ports) q.shape values ≡ true
     → lines.line_says r (joined (codes "cmd" ∷ words_of r.ports q.shape values)) ≡ Ok (Does (Cmd (makes 0 q.shape q.says values)))
 command_line r q values all place sound first h =
@@ -132,18 +132,19 @@ command_read r (commands.Snooping false) place all = command_line r forms.snoopi
 abbrev IsRead : Roster → Step → Type 0
 IsRead r s = lines.line_says r (step_words r.ports s) ≡ Ok (Does (given s))
 
-pub step_read : (r : Roster) (s : Step) → forms.step r.place ≡ true → are_declared r.ports ≡ true → has_line r.ports s ≡ true
-    → IsRead r s
-step_read r (Rx port bytes) place all = line_read r lines.rx (port, (shown bytes, tt)) all place refl refl refl refl
-step_read r (Cmd command) place all = command_read r command place all
-step_read r (Now moment) place all = line_read r lines.now (moment, tt) all place refl refl refl refl
-step_read r Serve place all = line_read r lines.serve tt all place refl refl refl refl
-step_read r Hold place all = λ h. absurd (cc)
-step_read r (Post id point) place all = λ h. absurd (cc)
-step_read r (Turn dom) place all = line_read r lines.turn (dom, tt) all place refl refl refl refl
-step_read r (Report dom) place all = line_read r lines.report (dom, tt) all place refl refl refl refl
-step_read r (Sweep dom) place all = line_read r lines.sweep (dom, tt) all place refl refl refl refl
-step_read r Publish place all = line_read r lines.publish tt all place refl refl refl refl
+pub step_read : (r : Roster) (s : Step) → forms.step r.place ≡ true → lines.comes_by_line r.check (chips_of r.ports) s ≡ true → are_declared r.ports ≡ true
+    → has_line r.ports s ≡ true → IsRead r s
+step_read r (Rx port bytes) place comes all = line_read r lines.rx (port, (shown bytes, tt)) all place refl refl refl refl
+step_read r (Cmd command) place comes all = command_read r command place all
+step_read r (Now moment) place comes all = line_read r lines.now (moment, tt) all place refl refl refl refl
+step_read r Serve place comes all = line_read r lines.serve tt all place refl refl refl refl
+step_read r Hold place comes all = line_read r lines.hold tt all place refl refl refl refl
+step_read r (Post id None) place comes all = line_read r lines.post (id, tt) all place refl refl refl refl
+step_read r (Post id (Some point)) place comes all = line_read r lines.post_at (id, (point, tt)) all (both r.check (forms.step r.place) comes place) refl refl refl refl
+step_read r (Turn dom) place comes all = line_read r lines.turn (dom, tt) all place refl refl refl refl
+step_read r (Report dom) place comes all = line_read r lines.report (dom, tt) all place refl refl refl refl
+step_read r (Sweep dom) place comes all = line_read r lines.sweep (dom, tt) all place refl refl refl refl
+step_read r Publish place comes all = line_read r lines.publish tt all place refl refl refl refl
 
 -- frames that a line shows whole, and those that it doesn't
 

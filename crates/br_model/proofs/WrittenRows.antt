@@ -169,7 +169,7 @@ picks ports (q ∷ rows) r values word h stand first =
     (others_fit ports 0 q.shape r.shape values word stand) (picks ports rows r values word h stand) first
 
 -- a line that is written by the row says what the row says of the values
-pub row_read : {A : Type 0} (roster : Roster) (rows : List (Row A)) (r : Row A) (values : Values r.shape) (word : ℕ → Word) → r.place roster.place ≡ true
+pub row_read : {A : Type 0} (roster : Roster) (rows : List (Row A)) (r : Row A) (values : Values r.shape) (word : ℕ → Word) → r.place roster ≡ true
     → are_declared roster.ports ≡ true → is_sound r.shape ≡ true → first_near rows r.shape ≡ Some r → all_values (in_range roster.ports) r.shape values ≡ true
     → Stand (words_of roster.ports r.shape values) 0 word → line rows roster (length r.shape) word ≡ Ok (makes 0 r.shape r.says values)
 row_read roster rows r values word place all sound first h stand =

@@ -7,7 +7,7 @@ ghost use Rattle.br_model.specs.declared.scenario.Said.TheVariants.{Does};
 ghost use Rattle.br_model.specs.declared.steps.Step.{Step};
 ghost use Rattle.br_model.specs.Text.CommandForms.{step};
 ghost use Rattle.br_model.specs.Wire.Frames.{frame};
-ghost use Rattle.br_model.specs.Text.LineForms.{line_says};
+ghost use Rattle.br_model.specs.Text.LineForms.{comes_by_line, line_says};
 ghost use Rattle.br_model.specs.Table.Domains.{chip_domains};
 ghost use Rattle.br_model.specs.Text.Roster.{Entry, Roster, chips_of, domains_of};
 ghost use Rattle.br_model.specs.Theorems.WrittenSteps.{given, is_whole};
@@ -40,10 +40,10 @@ pub fn group_is_read()
 
 /// The line of a step is read back to the step. Of a frame that is too long, or has no byte, it keeps what tells so.
 pub fn step_is_read()
-    ensures any { (r : Roster) (s : Step) → step r.place ≡ true → are_declared r.ports ≡ true → has_line r.ports s ≡ true
-        → line_says r (step_words r.ports s) ≡ Ok (Does (given s)) }
-    ensures whole { (r : Roster) (s : Step) → step r.place ≡ true → are_declared r.ports ≡ true → has_line r.ports s ≡ true → is_whole s ≡ true
-        → line_says r (step_words r.ports s) ≡ Ok (Does s) }
+    ensures any { (r : Roster) (s : Step) → step r.place ≡ true → comes_by_line r.check (chips_of r.ports) s ≡ true → are_declared r.ports ≡ true
+        → has_line r.ports s ≡ true → line_says r (step_words r.ports s) ≡ Ok (Does (given s)) }
+    ensures whole { (r : Roster) (s : Step) → step r.place ≡ true → comes_by_line r.check (chips_of r.ports) s ≡ true → are_declared r.ports ≡ true
+        → has_line r.ports s ≡ true → is_whole s ≡ true → line_says r (step_words r.ports s) ≡ Ok (Does s) }
 {}
 
 /// What is kept of a frame is refused as the frame is.

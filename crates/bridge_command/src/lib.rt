@@ -15,5 +15,5 @@ mod vlans;
 pub use br_model::NoMemory;
 pub use command::read_command;
 pub use flags::flag;
-pub use operands::{mac, milliseconds, number_up_to, section_length};
+pub use operands::{frame_number, mac, milliseconds, number_up_to, section_length};
 pub use roster::Roster;

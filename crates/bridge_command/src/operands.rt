@@ -3,7 +3,7 @@ ghost use Rattle.std.specs.Prelude.{◌≡◌, length, ◌≤◌, nat_le, true, 
 ghost use Rattle.std.specs.List.{list_all};
 ghost use Rattle.br_model.specs.declared.scenario.LineWhy.TheVariants.{Address};
 ghost use Rattle.br_model.specs.Data.Digits.{is_decimal as is_a_decimal, is_digit, station as station_of, bytes_from_hex};
-ghost use Rattle.br_model.specs.Text.Operands.{number as number_of, mac as mac_of, has_colons as has_colons_at, twelve, found, most_cost, most_port_priority, most_priority, most_seconds, last_moment, longest_section};
+ghost use Rattle.br_model.specs.Text.Operands.{number as number_of, mac as mac_of, has_colons as has_colons_at, twelve, found, most_cost, most_port_priority, most_priority, most_seconds, last_id, last_moment, last_point, longest_section};
 ghost use Rattle.br_model.specs.Text.Roster.{is_name as is_a_name, is_name_byte as is_a_name_byte};
 ghost use Rattle.br_model.specs.Data.Digits.{number_up_to as number_up_to_of};
 
@@ -109,6 +109,14 @@ pub fn milliseconds(word: &str) -> Result<u64, LineWhy>
     ensures most { IfOk result (λ n. nat_le n last_moment ≡ true) }
 {
     number(word, 0, LAST_MOMENT)
+}
+
+/// The id of a frame, or a point: a number of 32 bits.
+pub fn frame_number(word: &str) -> Result<u32, LineWhy>
+    ensures id { result ≡ number_of 0 last_id word.now }
+    ensures point { result ≡ number_of 0 last_point word.now }
+{
+    Ok(number(word, 0, u64::from(u32::MAX))? as u32)
 }
 
 /// The bytes of the longest section: 2^24.

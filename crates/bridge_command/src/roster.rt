@@ -6,6 +6,7 @@ ghost use Rattle.br_model.specs.declared.scenario.LineWhy.TheVariants.{Port as P
 ghost use Rattle.br_model.specs.declared.scenario.Said.TheVariants.{Opens, Bridge, Declares};
 ghost use Rattle.br_model.specs.Data.Digits.{is_decimal as is_a_decimal};
 ghost use Rattle.br_model.specs.Table.Domains.{first_chip_domain, host, last_chip, last_port};
+ghost use Rattle.br_model.specs.Text.CommandForms.{step};
 ghost use Rattle.br_model.specs.Text.Operands.{number as number_of, chip_domain, port_name, device as device_of, new_port as new_port_of, new_name as new_name_of, port_number as port_number_of};
 ghost use Rattle.br_model.specs.Text.Roster.{first_roster, domains_of, is_chip, has_number, port_named, is_name as is_a_name};
 ghost use Rattle.br_model.specs.Text.Scenario.{declared};
@@ -197,6 +198,17 @@ impl Roster {
             Place::Steps => self.place != Place::Opening,
         };
         if stands { Ok(()) } else { Err(LineWhy::Place) }
+    }
+
+    /// The same of a step's form that stands for the command `check` alone.
+    pub fn stands_in_check(&self) -> Result<(), LineWhy>
+        ensures { result ≡ in_place (self.now.check && step self.now.place) }
+    {
+        if self.check {
+            self.stands(Place::Steps)
+        } else {
+            Err(LineWhy::Place)
+        }
     }
 
     /// The port that the word names.

@@ -51,15 +51,15 @@ comes_in_place place (items.Step step) = true
 comes_in_place place (items.Capture n) = true
 comes_in_place place items.End = true
 
--- whether a step is one that a line can give where these domains have switch chips, and a section as long as a line can say
-abbrev pub is_in_range : List ℕ → Item → Bool
-is_in_range chips items.Blank = true
-is_in_range chips (items.Scenario edition) = true
-is_in_range chips (items.Bridge mac) = true
-is_in_range chips (items.Declared port) = true
-is_in_range chips (items.Step step) = comes_by_line chips step
-is_in_range chips (items.Capture n) = nat_le n longest_section
-is_in_range chips items.End = true
+-- whether a step is one that a line can give behind what the scenario has said, and a section as long as a line can say
+abbrev pub is_in_range : Roster → Item → Bool
+is_in_range roster items.Blank = true
+is_in_range roster (items.Scenario edition) = true
+is_in_range roster (items.Bridge mac) = true
+is_in_range roster (items.Declared port) = true
+is_in_range roster (items.Step step) = comes_by_line roster.check (chips_of roster.ports) step
+is_in_range roster (items.Capture n) = nat_le n longest_section
+is_in_range roster items.End = true
 
 -- the same of what a line says; and the port fits beside the declared ones
 abbrev pub fits_roster : Roster → Said → Bool
@@ -67,6 +67,6 @@ fits_roster roster Blank = true
 fits_roster roster (Opens edition) = opening roster.place
 fits_roster roster (Bridge mac) = header roster.place
 fits_roster roster (Declares port name dom) = declaration roster.place && fits_beside roster.ports (record { name = name; port = port; dom = dom })
-fits_roster roster (Does step) = comes_by_line (chips_of roster.ports) step
+fits_roster roster (Does step) = comes_by_line roster.check (chips_of roster.ports) step
 fits_roster roster (Captures n) = nat_le n longest_section
 fits_roster roster Ends = true

@@ -44,7 +44,7 @@ impl Following {
         requires { self.old.i ≤ most_frames }
         ensures gives { Gives (following MomentNext self.old.i) self.new result }
         ensures i { self.new.i ≡ self.old.i }
-        ensures by_line { IfSome result (λ step. comes_by_line (chips_of ports) step ≡ true) }
+        ensures by_line { IfSome result (λ step. comes_by_line false (chips_of ports) step ≡ true) }
     {
         self.stage = Stage::Frame;
         if self.i % 64 == 0 {
@@ -58,7 +58,7 @@ impl Following {
         requires { self.old.i ≤ most_frames }
         ensures gives { Gives (following PublishNext self.old.i) self.new result }
         ensures i { self.new.i ≡ self.old.i }
-        ensures by_line { IfSome result (λ step. comes_by_line (chips_of ports) step ≡ true) }
+        ensures by_line { IfSome result (λ step. comes_by_line false (chips_of ports) step ≡ true) }
     {
         if self.i % 7 != 0 {
             return self.moment();
@@ -71,7 +71,7 @@ impl Following {
         requires { self.old.i ≤ most_frames }
         ensures gives { Gives (following TurnNext self.old.i) self.new result }
         ensures i { self.new.i ≡ self.old.i }
-        ensures by_line { IfSome result (λ step. comes_by_line (chips_of ports) step ≡ true) }
+        ensures by_line { IfSome result (λ step. comes_by_line false (chips_of ports) step ≡ true) }
     {
         if self.i % 5 != 0 {
             return self.publish();
@@ -84,7 +84,7 @@ impl Following {
         requires { self.old.i ≤ most_frames }
         ensures gives { Gives (following ReportNext self.old.i) self.new result }
         ensures i { self.new.i ≡ self.old.i }
-        ensures by_line { IfSome result (λ step. comes_by_line (chips_of ports) step ≡ true) }
+        ensures by_line { IfSome result (λ step. comes_by_line false (chips_of ports) step ≡ true) }
     {
         if self.i % 3 != 0 {
             return self.turn();
@@ -97,7 +97,7 @@ impl Following {
         requires { self.old.i ≤ most_frames }
         ensures gives { Gives (following self.old.stage self.old.i) self.new result }
         ensures i { self.new.i ≡ self.old.i }
-        ensures by_line { IfSome result (λ step. comes_by_line (chips_of ports) step ≡ true) }
+        ensures by_line { IfSome result (λ step. comes_by_line false (chips_of ports) step ≡ true) }
     {
         match self.stage {
             Stage::Serve => {
@@ -167,7 +167,7 @@ impl FrameSteps {
     /// The next step, or none where none is left.
     pub fn next(&mut self) -> Option<Made>
         ensures gives { GivesMade self.old self.new result }
-        ensures by_line { IfSome result (λ made. comes_by_line (chips_of ports) (step_of made) ≡ true) }
+        ensures by_line { IfSome result (λ made. comes_by_line false (chips_of ports) (step_of made) ≡ true) }
     {
         if let Some(step) = self.coming.next() {
             return Some(Made::Follows(step));

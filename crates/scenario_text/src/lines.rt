@@ -3,7 +3,7 @@ ghost use Rattle.std.specs.Prelude.{◌≡◌, ◌<◌, length, true, IfOk};
 ghost use Rattle.br_model.specs.Table.Domains.{first_chip_domain, last_chip};
 ghost use Rattle.br_model.specs.Text.CommandForms.{commands};
 ghost use Rattle.br_model.specs.Text.Forms.{line};
-ghost use Rattle.br_model.specs.Text.LineForms.{declarations, steps, lines, commanded, words_say};
+ghost use Rattle.br_model.specs.Text.LineForms.{declarations, frames, steps, lines, commanded, words_say};
 ghost use Rattle.br_model.specs.Text.Operands.{number as number_of};
 ghost use Rattle.bridge_command.specs.Seen.{word, OrNoMemory};
 ghost use Rattle.scenario_text.specs.Items.{declares, fits_roster};
@@ -13,7 +13,7 @@ use br_model::domains::Edition;
 use br_model::numbers::Dom;
 use br_model::scenario::{LineWhy, Place, Said};
 use br_model::steps::Step;
-use bridge_command::{Roster, mac, milliseconds, read_command, section_length};
+use bridge_command::{Roster, frame_number, mac, milliseconds, read_command, section_length};
 use std::alloc::Global;
 
 /// The declaration of a port of this domain, where it is one.
@@ -73,10 +73,10 @@ fn declaration_line(alloc: Global, words: &[&str], r: &Roster) -> Result<Said, L
     }
 }
 
-/// The steps but for commands, captures, and the last line.
+/// The steps of a frame on its way through software.
 #[tactic(auto, using(br_model::proofs::Words::words))]
-fn step_line(alloc: Global, words: &[&str], r: &Roster) -> Result<Said, LineWhy>
-    ensures value { OrNoMemory result (line steps r.now (length words.now) (word words.now)) }
+fn frame_line(alloc: Global, words: &[&str], r: &Roster) -> Result<Said, LineWhy>
+    ensures value { OrNoMemory result (line frames r.now (length words.now) (word words.now)) }
     ensures fits { IfOk result (λ said. fits_roster r.now said ≡ true) }
 {
     match *words {
@@ -86,13 +86,39 @@ fn step_line(alloc: Global, words: &[&str], r: &Roster) -> Result<Said, LineWhy>
             let bytes = hex_bytes(alloc, digits)?;
             Ok(Said::Does(Step::Rx { port, bytes }))
         }
-        ["now", moment] => {
-            r.stands(Place::Steps)?;
-            Ok(Said::Does(Step::Now(milliseconds(moment)?)))
-        }
         ["serve"] => {
             r.stands(Place::Steps)?;
             Ok(Said::Does(Step::Serve))
+        }
+        ["hold"] => {
+            r.stands(Place::Steps)?;
+            Ok(Said::Does(Step::Hold))
+        }
+        ["post", id] => {
+            r.stands(Place::Steps)?;
+            let id = frame_number(id)?;
+            Ok(Said::Does(Step::Post { id, point: None }))
+        }
+        ["post", id, "at", point] => {
+            r.stands_in_check()?;
+            let id = frame_number(id)?;
+            let point = Some(frame_number(point)?);
+            Ok(Said::Does(Step::Post { id, point }))
+        }
+        _ => Err(LineWhy::Word),
+    }
+}
+
+/// The other steps but for commands; captures, and the last line.
+#[tactic(auto, using(br_model::proofs::Words::words))]
+fn step_line(words: &[&str], r: &Roster) -> Result<Said, LineWhy>
+    ensures value { result ≡ line steps r.now (length words.now) (word words.now) }
+    ensures fits { IfOk result (λ said. fits_roster r.now said ≡ true) }
+{
+    match *words {
+        ["now", moment] => {
+            r.stands(Place::Steps)?;
+            Ok(Said::Does(Step::Now(milliseconds(moment)?)))
         }
         ["turn", dom] => {
             r.stands(Place::Steps)?;
@@ -132,7 +158,11 @@ fn other_line(alloc: Global, words: &[&str], r: &Roster) -> Result<Said, LineWhy
         ["scenario", ..] => declaration_line(alloc, words, r),
         ["bridge", ..] => declaration_line(alloc, words, r),
         ["port", ..] => declaration_line(alloc, words, r),
-        _ => step_line(alloc, words, r),
+        ["rx", ..] => frame_line(alloc, words, r),
+        ["serve", ..] => frame_line(alloc, words, r),
+        ["hold", ..] => frame_line(alloc, words, r),
+        ["post", ..] => frame_line(alloc, words, r),
+        _ => step_line(words, r),
     }
 }
 

@@ -2,7 +2,6 @@
 ghost use Rattle.std.specs.Prelude.{◌≡◌, ◌⊎◌, true, Err, IfOk, IfErr, OnErr};
 ghost use Rattle.br_model.specs.declared.scenario.LineWhy.TheVariants.{NoMemory as NoMemoryLeft};
 ghost use Rattle.br_model.specs.Text.LineForms.{line_says, all_say};
-ghost use Rattle.br_model.specs.Text.Roster.{chips_of};
 ghost use Rattle.br_model.specs.Text.Scenario.{is_end};
 ghost use Rattle.br_model.specs.Text.Words.{words};
 ghost use Rattle.bridge_command.specs.Seen.{OrNoMemory};
@@ -22,7 +21,7 @@ use std::alloc::Global;
 pub fn read_line(alloc: Global, b: &[u8], r: &mut Roster) -> Result<Item, LineWhy>
     ensures read { IfOk result (Reads r.old r.new b.now) }
     ensures early { IfOk result (λ item. comes_in_place r.old.place item ≡ true) }
-    ensures range { IfOk result (λ item. is_in_range (chips_of r.old.ports) item ≡ true) }
+    ensures range { IfOk result (λ item. is_in_range r.old item ≡ true) }
     ensures bad { IfErr result (λ why. (why ≡ NoMemoryLeft) ⊎ (line_says r.old b.now ≡ Err why)) }
     ensures unchanged { OnErr result (r.new ≡ r.old) }
 {

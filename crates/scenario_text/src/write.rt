@@ -358,7 +358,12 @@ fn append_step(s: &Step, roster: &Roster, to: &mut String) -> Result<(), NoMemor
         Step::Cmd(command) => append_command(*command, roster, to),
         Step::Now(moment) => write!(to, "now {moment}"),
         Step::Serve => to.push_str("serve"),
-        Step::Hold | Step::Post { .. } => unreachable!(),
+        Step::Hold => to.push_str("hold"),
+        Step::Post { id, point: None } => write!(to, "post {id}"),
+        Step::Post {
+            id,
+            point: Some(point),
+        } => write!(to, "post {id} at {point}"),
         Step::Turn(dom) => append_of_chip("turn", *dom, to),
         Step::Report(dom) => append_of_chip("report", *dom, to),
         Step::Sweep(dom) => append_of_chip("sweep", *dom, to),

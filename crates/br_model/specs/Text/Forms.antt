@@ -50,11 +50,15 @@ Makes A (p ∷ ps) = Value p.0 → Makes A ps
 pub record Row (A : Type 0) : Type 0 where
   pub shape : List Token
   -- where the form may stand
-  pub place : Place → Bool
+  pub place : Roster → Bool
   pub says : Makes A (operands_from 0 shape)
 
+-- a form that stands in this place, and one that stands there for the command `check` alone
 abbrev pub row : {A : Type 0} → (text : List ℕ) → (Place → Bool) → Makes A (operands_from 0 (tokens text)) → Row A
-row text place says = record { shape = tokens text; place = place; says = says }
+row text place says = record { shape = tokens text; place = λ roster. place roster.place; says = says }
+
+abbrev pub check_row : {A : Type 0} → (text : List ℕ) → (Place → Bool) → Makes A (operands_from 0 (tokens text)) → Row A
+check_row text place says = record { shape = tokens text; place = λ roster. roster.check && place roster.place; says = says }
 
 -- reading
 
@@ -82,7 +86,7 @@ pick (r ∷ rows) n word = if n == length r.shape && fits r.shape 0 word then So
 -- first the words are tested, then the place, then the operands
 abbrev pub said : {A : Type 0} → Roster → Option (Row A) → (ℕ → Word) → Result A LineWhy
 said roster None word = Err why.Word
-said roster (Some r) word = if r.place roster.place then reads roster.ports (operands_from 0 r.shape) r.says word else Err why.Place
+said roster (Some r) word = if r.place roster then reads roster.ports (operands_from 0 r.shape) r.says word else Err why.Place
 
 -- what a line of n words says
 abbrev pub line : {A : Type 0} → List (Row A) → Roster → ℕ → (ℕ → Word) → Result A LineWhy

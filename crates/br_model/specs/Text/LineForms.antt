@@ -19,7 +19,7 @@ use Rattle.br_model.specs.declared.steps.Step.{Step}
 use Rattle.br_model.specs.declared.steps.Step.TheVariants.{Rx, Cmd, Now, Serve, Hold, Post, Turn, Report, Sweep, Publish}
 use Rattle.br_model.specs.Text.CommandForms.{commands, command_form, step}
 use Rattle.br_model.specs.Table.Domains.{software}
-use Rattle.br_model.specs.Text.Forms.{Row, row, line, Form, Fixed, fills}
+use Rattle.br_model.specs.Text.Forms.{Row, row, check_row, line, Form, Fixed, fills}
 use Rattle.br_model.specs.Text.Operands.{last_moment}
 use Rattle.br_model.specs.Text.Roster.{Roster}
 use Rattle.br_model.specs.Text.Spelling.{shown}
@@ -64,6 +64,16 @@ now = row (codes "now MS") step (λ moment. Does (Now moment))
 abbrev pub serve : Row Said
 serve = row (codes "serve") step (Does Serve)
 
+abbrev pub hold : Row Said
+hold = row (codes "hold") step (Does Hold)
+
+abbrev pub post : Row Said
+post = row (codes "post ID") step (λ id. Does (Post id None))
+
+-- A replay posts by the floor; what `check` reads says by which point.
+abbrev pub post_at : Row Said
+post_at = check_row (codes "post ID at POINT") step (λ id point. Does (Post id (Some point)))
+
 abbrev pub turn : Row Said
 turn = row (codes "turn CHIP") step (λ dom. Does (Turn dom))
 
@@ -76,15 +86,19 @@ sweep = row (codes "sweep CHIP") step (λ dom. Does (Sweep dom))
 abbrev pub publish : Row Said
 publish = row (codes "publish") step (Does Publish)
 
+-- a frame on its way through software
+abbrev pub frames : List (Row Said)
+frames = rx ∷ serve ∷ hold ∷ post ∷ post_at ∷ []
+
 abbrev pub steps : List (Row Said)
 steps =
-    rx ∷ now ∷ serve ∷ turn ∷ report ∷ sweep ∷ publish ∷
+    now ∷ turn ∷ report ∷ sweep ∷ publish ∷
     row (codes "capture LENGTH") step (λ n. Captures n) ∷
     row (codes "end") step Ends ∷
     []
 
 abbrev pub lines : List (Row Said)
-lines = declarations ++ steps
+lines = declarations ++ (frames ++ steps)
 
 abbrev pub commanded : Result Command LineWhy → Result Said LineWhy
 commanded (Err why) = Err why
@@ -107,29 +121,31 @@ line_says roster bytes = if is_comment bytes then Ok Blank else all_say roster (
 abbrev pub behind_cmd : Form → Form
 behind_cmd f = record { shape = Fixed (codes "cmd") ∷ f.shape; values = f.values }
 
--- The form that gives a step. No line holds or posts a frame yet.
+-- the form that gives a step
 abbrev pub step_form : Step → Option Form
 step_form (Rx port bytes) = Some (fills rx port (shown bytes))
 step_form (Cmd command) = option_map behind_cmd (command_form command)
 step_form (Now moment) = Some (fills now moment)
 step_form Serve = Some (fills serve)
-step_form Hold = None
-step_form (Post id point) = None
+step_form Hold = Some (fills hold)
+step_form (Post id None) = Some (fills post id)
+step_form (Post id (Some point)) = Some (fills post_at id point)
 step_form (Turn dom) = Some (fills turn dom)
 step_form (Report dom) = Some (fills report dom)
 step_form (Sweep dom) = Some (fills sweep dom)
 step_form Publish = Some (fills publish)
 
--- Whether a line can give the step where these domains have switch chips, whatever port it names: no line holds or posts a frame
--- yet, or names the chip of another domain.
-abbrev pub comes_by_line : List ℕ → Step → Bool
-comes_by_line chips (Rx port bytes) = true
-comes_by_line chips (Cmd command) = true
-comes_by_line chips (Now moment) = nat_le moment last_moment
-comes_by_line chips Serve = true
-comes_by_line chips Hold = false
-comes_by_line chips (Post id point) = false
-comes_by_line chips (Turn dom) = list_any (λ d. d == dom) chips
-comes_by_line chips (Report dom) = list_any (λ d. d == dom) chips
-comes_by_line chips (Sweep dom) = list_any (λ d. d == dom) chips
-comes_by_line chips Publish = true
+-- Whether a line can give the step, for `check` or not, where these domains have switch chips, whatever port it names: no line
+-- names the chip of another domain, and only `check` reads one that names a point.
+abbrev pub comes_by_line : Bool → List ℕ → Step → Bool
+comes_by_line check chips (Rx port bytes) = true
+comes_by_line check chips (Cmd command) = true
+comes_by_line check chips (Now moment) = nat_le moment last_moment
+comes_by_line check chips Serve = true
+comes_by_line check chips Hold = true
+comes_by_line check chips (Post id None) = true
+comes_by_line check chips (Post id (Some point)) = check
+comes_by_line check chips (Turn dom) = list_any (λ d. d == dom) chips
+comes_by_line check chips (Report dom) = list_any (λ d. d == dom) chips
+comes_by_line check chips (Sweep dom) = list_any (λ d. d == dom) chips
+comes_by_line check chips Publish = true

@@ -63,6 +63,13 @@ most_seconds = 1000000
 abbrev pub last_moment : ℕ
 last_moment = 9007199254740991
 
+-- the last id of a frame, and the last point: 2^32 - 1
+abbrev pub last_id : ℕ
+last_id = 4294967295
+
+abbrev pub last_point : ℕ
+last_point = 4294967295
+
 -- the bytes of the longest section: 2^24
 abbrev pub longest_section : ℕ
 longest_section = 16777216
@@ -87,6 +94,8 @@ operands =
     (codes "PRIORITY", Number 0 most_priority) ∷
     (codes "SECONDS", Number 1 most_seconds) ∷
     (codes "MS", Number 0 last_moment) ∷
+    (codes "ID", Number 0 last_id) ∷
+    (codes "POINT", Number 0 last_point) ∷
     (codes "LENGTH", Number 0 longest_section) ∷
     []
 

@@ -9,4 +9,4 @@ pub returns-clause-any : goal.returns-clause-any
 returns-clause-any c = step_read
 
 pub returns-clause-whole : goal.returns-clause-whole
-returns-clause-whole c = λ r s place declared line whole. step_read r s place declared line ∙ ap (λ (t : Step). Ok (Does t)) (given_whole s whole)
+returns-clause-whole c = λ r s place comes declared line whole. step_read r s place comes declared line ∙ ap (λ (t : Step). Ok (Does t)) (given_whole s whole)
