@@ -10,9 +10,8 @@ use Rattle.br_model.specs.declared.change.Change.TheVariants.{GroupJoin, AddrPut
 use Rattle.br_model.specs.declared.change.Kind.{Kind}
 use Rattle.br_model.specs.declared.domains.Edition.{Edition}
 use Rattle.br_model.specs.declared.domains.Edition.TheVariants.{One, Two}
-use Rattle.br_model.specs.declared.group.Group.{Group}
 use Rattle.br_model.specs.Table.Change.{deferred}
-use Rattle.br_model.specs.Table.Cut.{deferred_of, synchronous_of, deferred_count, deferred_at, cut, reach}
+use Rattle.br_model.specs.Table.Cut.{deferred_of, synchronous_of, deferred_count, deferred_at, cut}
 use Rattle.br_model.specs.Table.GroupPairs.{has_room}
 use Rattle.br_model.specs.Table.Groups.{Membership}
 use Rattle.br_model.specs.Table.Limits.{AreWithin, fits, most_addresses}

@@ -3,7 +3,7 @@ use Rattle.std.proofs.Common.{◌≡◌, ℕ, Bool, true, false, List, Option, N
 use Rattle.std.specs.Ordering.{nat_cmp}
 use Rattle.std.proofs.lemmas.Cmp.{nat_cmp_total}
 use Rattle.br_model.specs.declared.change.Change.{Change}
-use Rattle.br_model.specs.declared.change.Change.TheVariants.{PortUp, PortDown, SetFlags, SetState, VlanAdd, VlanDel, GroupJoin, GroupPart, Router, Querier, Snoop, Stp, AddrPut, AddrDel}
+use Rattle.br_model.specs.declared.change.Change.TheVariants.{GroupJoin, GroupPart, Router, Querier}
 use Rattle.br_model.specs.Control.Control.{Control, keeps_up}
 use Rattle.br_model.specs.Control.Ends.{Ends, no_ends, lasts, parts, routes, queries, keys}
 use Rattle.br_model.specs.Theorems.EndsTied.{IsTied}

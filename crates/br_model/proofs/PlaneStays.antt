@@ -1,8 +1,9 @@
 -- What a step leaves of what was accepted, published and held.
-use Rattle.std.proofs.Common.{◌≡◌, ℕ, ◌+◌, Bool, true, false, cond, List, [], ◌∷◌, ◌++◌, length, Option, None, Some, refl, sym, ap, ◌∙◌}
+use Rattle.std.proofs.Common.{◌≡◌, ℕ, ◌+◌, true, false, cond, List, [], ◌∷◌, ◌++◌, length, Option, None, Some, refl, sym, ap, ◌∙◌}
+use Rattle.std.proofs.lemmas.Bool.{or_left}
 use Rattle.std.proofs.lemmas.List.{append-nil}
+use Rattle.std.proofs.lemmas.List.Folds.{list_any-append}
 use Rattle.std.specs.Prelude.{◌==◌, nat_lt}
-use Rattle.std.specs.List.{list_any}
 use Rattle.std.specs.Ordering.{nat_cmp, eq_by_cmp}
 use Rattle.std.specs.declared.result.Result.{Result}
 use Rattle.std.specs.declared.result.Result.TheVariants.{Ok, Err}
@@ -163,12 +164,7 @@ step-accepts w Publish = ([], sym (append-nil w.history))
 
 -- a count that was published stays one
 has-more : (counts more : List ℕ) (p : ℕ) → has nat_cmp counts p ≡ true → has nat_cmp (counts ++ more) p ≡ true
-has-more [] more p h = absurd (cc)
-has-more (n ∷ counts) more p h =
-    elim (eq_by_cmp nat_cmp p n) as (λ b. cond b true (has nat_cmp counts p) ≡ true → cond b true (has nat_cmp (counts ++ more) p) ≡ true) [
-      | true ↦ λ is. refl
-      | false ↦ λ is. has-more counts more p is
-    ] h
+has-more counts more p h = list_any-append (eq_by_cmp nat_cmp p) counts more ∙ or_left (has nat_cmp counts p) (has nat_cmp more p) h
 
 publishes-counts : (w : World) (n p : ℕ) → has nat_cmp w.counts p ≡ true → has nat_cmp (publishes w n).counts p ≡ true
 publishes-counts w n p h =
