@@ -1,5 +1,6 @@
 -- The line that a step is written as is read back to the step.
-use Rattle.std.proofs.Common.{◌≡◌, ℕ, zero, suc, ◌+◌, ◌-◌, ◌<◌, ◌≤◌, ◌==◌, nat_lt, nat_le, Bool, true, false, if◌then◌else◌, List, [], ◌∷◌, length, take, length-take, inl, inr, refl, sym, ◌∙◌, ap, subst, arith, Some, slice_index_or}
+use mathlib.Core.Path.{path_j, subst_refl}
+use Rattle.std.proofs.Common.{◌≡◌, ℕ, zero, suc, ◌+◌, ◌-◌, ◌<◌, ◌≤◌, ◌==◌, nat_lt, nat_le, Bool, true, false, if◌then◌else◌, List, [], ◌∷◌, length, take, length-take, inl, inr, refl, sym, ◌∙◌, ap, subst, arith, Option, Some, slice_index_or}
 use Rattle.std.specs.Prelude.{codes}
 use Rattle.std.specs.Cmp.{first_so, second_so}
 use Rattle.std.specs.List.{list_all}
@@ -7,7 +8,7 @@ use Rattle.std.specs.Option.{option_map}
 use Rattle.std.specs.declared.option.Option.TheVariants.{None}
 use Rattle.std.specs.declared.result.Result.TheVariants.{Ok, Err}
 use Rattle.std.proofs.lemmas.Bool.{cases_lt, eqb-true}
-use Rattle.br_model.specs.declared.change.Kind.TheVariants.{Local, Static, Learned, Extern}
+use Rattle.br_model.specs.declared.change.Kind.TheVariants.{Local, Learned}
 use Rattle.br_model.specs.declared.frame.FrameFault.TheVariants as faults
 use Rattle.br_model.specs.declared.scenario.Said.{Said}
 use Rattle.br_model.specs.declared.scenario.Said.TheVariants.{Blank, Does}
@@ -18,11 +19,11 @@ use Rattle.br_model.specs.declared.steps.Step.TheVariants.{Rx, Cmd, Now, Serve, 
 use Rattle.br_model.specs.Table.Domains.{host}
 use Rattle.br_model.specs.Text.CommandForms as forms
 use Rattle.br_model.specs.Text.Declarations.{are_declared}
-use Rattle.br_model.specs.Text.Forms.{Form, Row, Values, words_of, all_values, fills, line}
+use Rattle.br_model.specs.Text.Forms.{Form, Row, Token, Values, words_of, all_values, fills, line}
 use Rattle.br_model.specs.Text.LineForms as lines
 use Rattle.br_model.specs.Text.Operands.{in_range}
 use Rattle.br_model.specs.Text.Roster.{Roster, chips_of}
-use Rattle.br_model.specs.Text.ScenarioText.{fits_in, has_line, step_words}
+use Rattle.br_model.specs.Text.ScenarioText.{fits_in, has_line, step_words, words_in}
 use Rattle.br_model.specs.Text.Spelling.{shown}
 use Rattle.br_model.specs.Text.Words.{Word, is_word, is_comment, joined, words}
 use Rattle.br_model.specs.Theorems.WrittenSteps.{given, is_whole}
@@ -74,59 +75,52 @@ shown_some : (bytes : List ℕ) → is_word (shown bytes) ≡ true
 shown_some [] = refl
 shown_some (b ∷ bytes) = refl
 
--- the rows of all commands and steps
+-- the form of each command and step
 
--- the command's line is read back
-abbrev Reads : Roster → Command → Type 0
-Reads r c = lines.line_says r (step_words r.ports (Cmd c)) ≡ Ok (Does (Cmd c))
+-- The row that reads the form's words says the command; where the command has no form, nothing is said.
+abbrev MadeBy : Command → (ts : List Token) → Values ts → Option (Row Command) → Type 0
+MadeBy command ts values None = ⊥
+MadeBy command ts values (Some q) =
+    (same : ts ≡ q.shape) × (is_sound q.shape ≡ true) × ((r : Roster) → q.place r ≡ forms.step r.place) × (makes 0 q.shape q.says (subst Values same values) ≡ command)
 
-abbrev HasLine : Roster → Command → Type 0
-HasLine r c = has_line r.ports (Cmd c) ≡ true
+abbrev Made : Command → Option Form → Type 0
+Made command None = Unit {0}
+Made command (Some f) = MadeBy command f.shape f.values (first_near forms.commands f.shape)
 
--- a form that stands for one number alone
-only_at : (P : ℕ → Type 0) (m n : ℕ) → P m → ((n == m) ≡ false → P n) → P n
-only_at P m n here there = by (n == m) refl
+-- A case stands here alone where a Bool or a kind decides on the form.
+made : (command : Command) → Made command (forms.command_form command)
+made (commands.Link port flag true) = (refl, refl, (λ r. refl), refl)
+made (commands.VlanAdd port vid true true) = (refl, refl, (λ r. refl), refl)
+made (commands.VlanAdd port vid false true) = (refl, refl, (λ r. refl), refl)
+made (commands.FdbAdd vid address port Local) = by (port == host) refl
   where
-    by : (b : Bool) → (n == m) ≡ b → P n
-    by true is = subst P (sym (eqb-true _ _ is)) here
-    by false is = there is
+    by : (b : Bool) → (port == host) ≡ b → Made (commands.FdbAdd vid address port Local) (if b then Some (fills forms.fdb_add_local address vid) else None)
+    by true is = (refl, refl, (λ r. refl), ap (λ (p : ℕ). commands.FdbAdd vid address p Local) (sym (eqb-true _ _ is)))
+    by false is = tt
+made (commands.FdbAdd vid address port Learned) = tt
+made (commands.Stp true) = (refl, refl, (λ r. refl), refl)
+made (commands.Snooping true) = (refl, refl, (λ r. refl), refl)
+made command = (refl, refl, (λ r. refl), refl)
 
-local_read : (r : Roster) (vid address port : ℕ) → forms.step r.place ≡ true → are_declared r.ports ≡ true → HasLine r (commands.FdbAdd vid address port Local)
-    → Reads r (commands.FdbAdd vid address port Local)
-local_read r vid address port place all =
-    only_at (λ (p : ℕ). HasLine r (commands.FdbAdd vid address p Local) → Reads r (commands.FdbAdd vid address p Local)) host port
-    (command_line r forms.fdb_add_local (address, (vid, tt)) all place refl refl)
-    (elsewhere (port == host) (fills forms.fdb_add_local address vid))
-  where
-    elsewhere : (b : Bool) (f : Form) → b ≡ false → fits_in r.ports (option_map lines.behind_cmd (if b then Some f else None)) ≡ true → Reads r (commands.FdbAdd vid address port Local)
-    elsewhere true f is h = absurd (cc)
-    elsewhere false f is h = absurd (cc)
+-- what is made of the words of a form, along an equation
+along : {B : Type 0} (f : (ts : List Token) → Values ts → B) (ts us : List Token) (same : ts ≡ us) (values : Values ts) → f us (subst Values same values) ≡ f ts values
+along f ts us same values = path_j (λ (us : List Token) (same : ts ≡ us). f us (subst Values same values) ≡ f ts values) (ap (f ts) (subst_refl Values {x = ts} values)) same
 
-command_read : (r : Roster) (command : Command) → forms.step r.place ≡ true → are_declared r.ports ≡ true → HasLine r command → Reads r command
-command_read r (commands.PortUp port) place all = command_line r forms.port_up (port, tt) all place refl refl
-command_read r (commands.PortDown port) place all = command_line r forms.port_down (port, tt) all place refl refl
-command_read r (commands.Link port flag true) place all = command_line r forms.link_on (port, (flag, tt)) all place refl refl
-command_read r (commands.Link port flag false) place all = command_line r forms.link_off (port, (flag, tt)) all place refl refl
-command_read r (commands.Cost port n) place all = command_line r forms.link_cost (port, (n, tt)) all place refl refl
-command_read r (commands.PortPriority port n) place all = command_line r forms.link_priority (port, (n, tt)) all place refl refl
-command_read r (commands.VlanAdd port vid false false) place all = command_line r forms.vlan_add (vid, (port, tt)) all place refl refl
-command_read r (commands.VlanAdd port vid false true) place all = command_line r forms.vlan_add_pvid (vid, (port, tt)) all place refl refl
-command_read r (commands.VlanAdd port vid true false) place all = command_line r forms.vlan_add_untagged (vid, (port, tt)) all place refl refl
-command_read r (commands.VlanAdd port vid true true) place all = command_line r forms.vlan_add_both (vid, (port, tt)) all place refl refl
-command_read r (commands.VlanDel port vid) place all = command_line r forms.vlan_del (vid, (port, tt)) all place refl refl
-command_read r (commands.FdbAdd vid address port Local) place all = local_read r vid address port place all
-command_read r (commands.FdbAdd vid address port Static) place all = command_line r forms.fdb_add_static (address, (port, (vid, tt))) all place refl refl
-command_read r (commands.FdbAdd vid address port Learned) place all = λ h. absurd (cc)
-command_read r (commands.FdbAdd vid address port Extern) place all = command_line r forms.fdb_add_extern (address, (port, (vid, tt))) all place refl refl
-command_read r (commands.FdbDel vid address) place all = command_line r forms.fdb_del (address, (vid, tt)) all place refl refl
-command_read r (commands.MdbAdd port vid group) place all = command_line r forms.mdb_add (group, (port, (vid, tt))) all place refl refl
-command_read r (commands.MdbDel port vid group) place all = command_line r forms.mdb_del (group, (port, (vid, tt))) all place refl refl
-command_read r (commands.Stp true) place all = command_line r forms.stp_on tt all place refl refl
-command_read r (commands.Stp false) place all = command_line r forms.stp_off tt all place refl refl
-command_read r (commands.Priority n) place all = command_line r forms.stp_priority (n, tt) all place refl refl
-command_read r (commands.Ageing seconds) place all = command_line r forms.ageing (seconds, tt) all place refl refl
-command_read r (commands.Snooping true) place all = command_line r forms.snooping_on tt all place refl refl
-command_read r (commands.Snooping false) place all = command_line r forms.snooping_off tt all place refl refl
+row_said : (r : Roster) (command : Command) (ts : List Token) (values : Values ts) (found : Option (Row Command)) → first_near forms.commands ts ≡ found
+    → forms.step r.place ≡ true → are_declared r.ports ≡ true → MadeBy command ts values found → all_values (in_range r.ports) ts values ≡ true
+    → lines.line_says r (joined (codes "cmd" ∷ words_of r.ports ts values)) ≡ Ok (Does (Cmd command))
+row_said r command ts values None first place all made h = absurd made
+row_said r command ts values (Some q) first place all (same, sound, at, says) h =
+    ap (λ (ws : List Word). lines.line_says r (joined (codes "cmd" ∷ ws))) (sym (along (words_of r.ports) ts q.shape same values))
+    ∙ command_line r q (subst Values same values) all (at r ∙ place) sound (subst (λ (us : List Token). first_near forms.commands us ≡ Some q) same first)
+    (along (all_values (in_range r.ports)) ts q.shape same values ∙ h)
+    ∙ ap (λ (c : Command). Ok (Does (Cmd c))) says
+
+form_said : (r : Roster) (command : Command) (form : Option Form) → forms.step r.place ≡ true → are_declared r.ports ≡ true → Made command form
+    → fits_in r.ports (option_map lines.behind_cmd form) ≡ true
+    → lines.line_says r (joined (words_in r.ports (option_map lines.behind_cmd form))) ≡ Ok (Does (Cmd command))
+form_said r command None place all made h = absurd (cc)
+form_said r command (Some f) place all made h = row_said r command f.shape f.values (first_near forms.commands f.shape) refl place all made h
 
 -- the step's line is read back
 abbrev IsRead : Roster → Step → Type 0
@@ -135,7 +129,7 @@ IsRead r s = lines.line_says r (step_words r.ports s) ≡ Ok (Does (given s))
 pub step_read : (r : Roster) (s : Step) → forms.step r.place ≡ true → lines.comes_by_line r.check (chips_of r.ports) s ≡ true → are_declared r.ports ≡ true
     → has_line r.ports s ≡ true → IsRead r s
 step_read r (Rx port bytes) place comes all = line_read r lines.rx (port, (shown bytes, tt)) all place refl refl refl refl
-step_read r (Cmd command) place comes all = command_read r command place all
+step_read r (Cmd command) place comes all = form_said r command (forms.command_form command) place all (made command)
 step_read r (Now moment) place comes all = line_read r lines.now (moment, tt) all place refl refl refl refl
 step_read r Serve place comes all = line_read r lines.serve tt all place refl refl refl refl
 step_read r Hold place comes all = line_read r lines.hold tt all place refl refl refl refl
