@@ -8,7 +8,7 @@ ghost use Rattle.mdb_snoop.specs.Database.{memberships};
 use crate::ends::NoEnds;
 use crate::moments::Moments;
 use crate::sections::Section;
-use crate::{Groups, Mdb};
+use crate::Mdb;
 use br_model::group::Group;
 use br_model::limits::MOST_PAIRS;
 use br_model::numbers::{Port, Vid};
@@ -170,25 +170,6 @@ fn lists_ascend(rt: HostRuntime) -> Result<(), Fail> {
     Ok(())
 }
 
-#[test]
-fn routers_and_queriers(rt: HostRuntime) -> Result<(), Fail> {
-    let alloc = rt.alloc();
-    let mut mdb = Mdb::make(alloc)?;
-    let (one, two) = (port(1)?, port(2)?);
-    assert!(rt; mdb.router_seen(one, 10) && mdb.router_seen(two, 20) && !mdb.router_seen(one, 30));
-    assert!(rt; mdb.querier_seen(true, 15) && !mdb.querier_seen(true, 25));
-    assert!(rt; mdb.querier(true) && !mdb.querier(false));
-    assert_eq!(rt; mdb.routers(), Ports::empty().with(1).with(2));
-    let ended = mdb.expire(alloc, 24)?;
-    assert_eq!(rt; ended.routers, Ports::empty().with(2));
-    assert!(rt; !ended.four && !ended.six);
-    assert!(rt; mdb.expire(alloc, 25)?.six);
-    assert!(rt; mdb.router_gone(two) && !mdb.router_gone(two));
-    assert!(rt; mdb.querier_gone(true) && !mdb.querier_gone(true) && !mdb.querier_gone(false));
-    assert_eq!(rt; mdb.routers(), Ports::empty().with(1));
-    Ok(())
-}
-
 /// What may end is known without a look at it, and exactly once settled.
 #[test]
 fn first_end(rt: HostRuntime) -> Result<(), Fail> {
@@ -210,25 +191,6 @@ fn first_end(rt: HostRuntime) -> Result<(), Fail> {
     mdb.leave_soon(v, FOUR, one, 100);
     mdb.settle();
     assert!(rt; mdb.may_end(100) && !mdb.may_end(99));
-    Ok(())
-}
-
-#[test]
-fn copies_stand_alone(rt: HostRuntime) -> Result<(), Fail> {
-    let alloc = rt.alloc();
-    let mut mdb = Mdb::make(alloc)?;
-    let (one, two, v) = (port(1)?, port(2)?, vid(10)?);
-    assert!(rt; join(&mut mdb, v, FOUR, one, Some(300)));
-    mdb.querier_seen(false, 400);
-    let mut copy = mdb.copy(alloc)?;
-    assert!(rt; copy.part(v, FOUR, one) && join(&mut copy, v, SIX, two, None));
-    assert!(rt; mdb.has(v, FOUR, one) && !mdb.has(v, SIX, two));
-    assert!(rt; !copy.has(v, FOUR, one) && copy.has(v, SIX, two));
-    assert_eq!(rt;
-        mdb.expire(alloc, 300)?.groups.as_slice(),
-        [(v, FOUR, one)].as_slice()
-    );
-    assert!(rt; copy.expire(alloc, 400)?.four);
     Ok(())
 }
 
@@ -262,30 +224,4 @@ fn sections_are_small(rt: HostRuntime) {
     assert_eq!(rt; size_of::<Section<Moments>>(), 2160);
     assert!(rt; size_of::<Section<NoEnds>>() <= 80);
     assert!(rt; size_of::<Section<Moments>>() * MOST_PAIRS < 2_400_000);
-}
-
-/// Members without ends: how many pairs there are, who is a member at a place, and of any.
-#[test]
-fn members_of_groups(rt: HostRuntime) -> Result<(), Fail> {
-    let mut groups = Groups::make(rt.alloc())?;
-    let (one, two, v) = (port(1)?, port(2)?, vid(10)?);
-    assert!(rt; !groups.is_member(one) && groups.pairs() == 0);
-    for (g, p) in [(SIX, two), (FOUR, one), (SIX, one), (SIX, two)] {
-        assert!(rt; groups.has_room(v, g));
-        if groups.has_room(v, g) {
-            groups.join(v, g, p);
-        }
-    }
-    assert_eq!(rt; groups.pairs(), 2);
-    assert_eq!(rt; groups.pair(0), Some((v, FOUR)));
-    assert_eq!(rt; groups.pair(1), Some((v, SIX)));
-    assert_eq!(rt; groups.pair(2), None);
-    assert!(rt; groups.member_at(0, one) && !groups.member_at(0, two));
-    assert!(rt; groups.member_at(1, one) && groups.member_at(1, two) && !groups.member_at(2, one));
-    assert_eq!(rt; groups.members(v, SIX), Ports::empty().with(1).with(2));
-    assert!(rt; groups.part(v, FOUR, one) && !groups.part(v, FOUR, one));
-    assert!(rt; groups.is_member(one) && groups.is_member(two) && groups.pairs() == 1);
-    assert!(rt; groups.part(v, SIX, two) && !groups.is_member(two) && groups.is_member(one));
-    assert!(rt; groups.part(v, SIX, one) && !groups.is_member(one) && groups.pairs() == 0);
-    Ok(())
 }
