@@ -86,7 +86,7 @@ fn plain_bytes(alloc: Global, digits: &[u8]) -> Option<Bytes>
 fn plain_entry(alloc: Global, entry: &[u8], r: &Roster) -> Option<Step>
     requires { step r.now.place ≡ true }
     ensures says { IfSome result (λ it. all_say r.now (words (enters entry.now)) ≡ Ok (Does it)) }
-    ensures by_line { IfSome result (λ it. comes_by_line (chips_of r.now.ports) it ≡ true) }
+    ensures by_line { IfSome result (λ it. comes_by_line r.now.check (chips_of r.now.ports) it ≡ true) }
 {
     let found = first_number(entry)?;
     let port = r.port_of(found.0)?;
@@ -121,7 +121,7 @@ fn switch(word: &[u8]) -> Option<bool>
 fn plain_link(text: &[u8], r: &Roster) -> Option<Step>
     requires { step r.now.place ≡ true }
     ensures says { IfSome result (λ it. all_say r.now (words (links text.now)) ≡ Ok (Does it)) }
-    ensures by_line { IfSome result (λ it. comes_by_line (chips_of r.now.ports) it ≡ true) }
+    ensures by_line { IfSome result (λ it. comes_by_line r.now.check (chips_of r.now.ports) it ≡ true) }
 {
     let named = cut(text)?;
     let flagged = cut(named.1)?;
@@ -137,7 +137,7 @@ fn plain_link(text: &[u8], r: &Roster) -> Option<Step>
 fn plain_moment(text: &[u8], r: &Roster) -> Option<Step>
     requires { step r.now.place ≡ true }
     ensures says { IfSome result (λ it. all_say r.now (words (moves text.now)) ≡ Ok (Does it)) }
-    ensures by_line { IfSome result (λ it. comes_by_line (chips_of r.now.ports) it ≡ true) }
+    ensures by_line { IfSome result (λ it. comes_by_line r.now.check (chips_of r.now.ports) it ≡ true) }
 {
     match milliseconds(readable(text)) {
         Ok(moment) => Some(Step::Now(moment)),
@@ -148,7 +148,7 @@ fn plain_moment(text: &[u8], r: &Roster) -> Option<Step>
 /// The step of a line that is so spelled. `None` says nothing of a line: it is to be read word by word.
 pub(crate) fn plain_step(alloc: Global, line: &[u8], r: &Roster) -> Option<Step>
     ensures says { IfSome result (λ it. all_say r.now (words line.now) ≡ Ok (Does it)) }
-    ensures by_line { IfSome result (λ it. comes_by_line (chips_of r.now.ports) it ≡ true) }
+    ensures by_line { IfSome result (λ it. comes_by_line r.now.check (chips_of r.now.ports) it ≡ true) }
 {
     let Ok(()) = r.stands(Place::Steps) else {
         return None;
