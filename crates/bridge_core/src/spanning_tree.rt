@@ -2,7 +2,7 @@
 ghost use Rattle.std.specs.Prelude.{◌≡◌, ◌+◌, ◌++◌, ◌∷◌, [], ◌<◌, ◌≤◌, length, map, OnOk, vec_len, vec_capacity};
 ghost use Rattle.std.specs.List.{All};
 ghost use Rattle.br_model.specs.Table.Domains.{last_port, port_places};
-ghost use Rattle.br_model.specs.Control.Commands.SpanningTree.{tells};
+ghost use Rattle.br_model.specs.Control.Commands.{tells};
 ghost use Rattle.br_model.specs.Plane.World.{control_line, control_lines};
 ghost use Rattle.br_model.specs.Control.TreeReaction.{heard};
 ghost use Rattle.br_model.specs.Tree.Step.{sent};

@@ -1,18 +1,22 @@
 -- What a command is answered: its first refusal that holds, or its changes in order, before those of the spanning tree, which
--- follow where a command tells it something (`Commands.SpanningTree`). That the history is full is the last refusal of every
+-- follow where a command tells it something. That the history is full is the last refusal of every
 -- event, and stands with the reaction.
 -- Source: the kernel's net/bridge and iproute2's `bridge` command; the order of refusals is this profile's.
-use Rattle.std.specs.Prelude.{List, []}
+use Rattle.std.specs.Prelude.{if◌then◌else◌, List, []}
+use Rattle.std.specs.declared.option.Option.{Option}
+use Rattle.std.specs.declared.option.Option.TheVariants.{None, Some}
 use Rattle.std.specs.declared.result.Result.{Result}
 use Rattle.std.specs.declared.result.Result.TheVariants.{Ok}
 use Rattle.br_model.specs.declared.change.Change.{Change}
 use Rattle.br_model.specs.declared.steps.Command.{Command}
 use Rattle.br_model.specs.declared.steps.Command.TheVariants.{PortUp, PortDown, Link, Cost, PortPriority, VlanAdd, VlanDel, FdbAdd, FdbDel, MdbAdd, MdbDel, Stp, Priority, Ageing, Snooping}
 use Rattle.br_model.specs.declared.steps.Refusal.{Refusal}
+use Rattle.br_model.specs.declared.tree.TreeEvent.{TreeEvent}
+use Rattle.br_model.specs.declared.tree.TreeEvent.TheVariants as events
 use Rattle.br_model.specs.Control.Commands.Addresses.{fdb_add, fdb_del}
 use Rattle.br_model.specs.Control.Commands.Groups.{mdb_add, mdb_del, snooping}
 use Rattle.br_model.specs.Control.Commands.Ports.{port_up, port_down, link}
-use Rattle.br_model.specs.Control.Commands.SpanningTree.{stp, rank}
+use Rattle.br_model.specs.Control.Commands.SpanningTree.{is_switched, stp, rank}
 use Rattle.br_model.specs.Control.Commands.Vlans.{vlan_add, vlan_del}
 use Rattle.br_model.specs.Control.Control.{Control, milliseconds}
 use Rattle.br_model.specs.Table.Table.{Table}
@@ -56,3 +60,21 @@ sets c (Stp on) = c
 sets c (Priority n) = c
 sets c (Ageing seconds) = record c { ageing = milliseconds seconds }
 sets c (Snooping on) = c
+
+-- what the command tells the spanning tree, by the table before it
+abbrev pub tells : Table → Command → Option TreeEvent
+tells t (PortUp port) = Some (events.Up port)
+tells t (PortDown port) = Some (events.Down port)
+tells t (Link port flag on) = None
+tells t (Cost port n) = Some (events.Cost port n)
+tells t (PortPriority port n) = Some (events.PortPriority port n)
+tells t (VlanAdd port vid untagged pvid) = None
+tells t (VlanDel port vid) = None
+tells t (FdbAdd vid mac port kind) = None
+tells t (FdbDel vid mac) = None
+tells t (MdbAdd port vid group) = None
+tells t (MdbDel port vid group) = None
+tells t (Stp on) = if is_switched t on then None else Some (events.Switch on)
+tells t (Priority n) = Some (events.Priority n)
+tells t (Ageing seconds) = None
+tells t (Snooping on) = None

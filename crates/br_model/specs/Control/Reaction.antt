@@ -16,8 +16,7 @@ use Rattle.br_model.specs.declared.steps.Refusal.{Refusal}
 use Rattle.br_model.specs.declared.steps.Refusal.TheVariants.{HistoryFull, Backward}
 use Rattle.br_model.specs.declared.tree.TreeEvent.TheVariants as tree_events
 use Rattle.br_model.specs.Control.Ageing.{expired, forgets, forgotten}
-use Rattle.br_model.specs.Control.Commands.{command, sets}
-use Rattle.br_model.specs.Control.Commands.SpanningTree.{tells}
+use Rattle.br_model.specs.Control.Commands.{command, sets, tells}
 use Rattle.br_model.specs.Control.Control.{Control, renewed}
 use Rattle.br_model.specs.Control.Course.{Course, from, makes_all}
 use Rattle.br_model.specs.Control.Ends.{endings}
