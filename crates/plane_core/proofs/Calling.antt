@@ -30,6 +30,7 @@ use Rattle.br_model.specs.Plane.Steps.{publishes, does, world_step}
 use Rattle.br_model.specs.Plane.World.{World, Waiting, Holding, Stepped, answered, chip_at, reacts, refused, done, table_of_chip}
 use Rattle.br_model.specs.Table.Setup.{Setup}
 use Rattle.br_model.specs.Table.Table.{table}
+use Rattle.forward_rules.specs.declared.soft_tables.Verdict.{Verdict}
 use Rattle.table_publish.specs.Board.{Decides}
 use Rattle.table_publish.specs.Object.{Whose}
 use Rattle.table_publish.specs.declared.seat.Seen.{Seen}
@@ -37,8 +38,8 @@ use Rattle.plane_core.specs.Shown.{shown_by, shown_of}
 use Rattle.plane_core.specs.declared.held.Held.{Held}
 use Rattle.br_model.proofs.Cuts.{updates-at, updates-named}
 use Rattle.br_model.proofs.PlaneKept.{first-world, step-world}
-use Rattle.plane_core.specs.Planes.{PlaneState, Steps, IsDecision, IsNamed, IsPassOf, next_ticket}
-use Rattle.plane_core.specs.Queued.{Queued, holds_oldest}
+use Rattle.plane_core.specs.Planes.{PlaneState, Steps, DecidesFloor, DecidesOldest, IsDecision, IsNamed, IsPassOf, next_ticket}
+use Rattle.plane_core.specs.Queued.{Queued, hold_line, holds_oldest}
 use Rattle.plane_core.specs.Sides.{SidesState, Comes, first_sides, world_of}
 use Rattle.plane_core.proofs.Stepping.{stepped}
 
@@ -80,12 +81,33 @@ stands_served s t q r n m f lines e oldest comes left k =
     subst (λ (x : Queued). IsWorld (world_of t x m)) (sym left)
     (stands_after s t q (record q { waiting = drop 1 q.waiting }) n m Serve lines e (serves_oldest s t q f m lines oldest comes) k)
 
-holds_front : (s : SidesState) (q : Queued) (waiting : List Waiting) (m : ℕ) → (holds (world_of s q m) waiting).0 ≡ world_of s (holds_oldest q (length s.published.changes) waiting) m
+-- what is decided of it
+pub oldest_decided : (old : PlaneState) (s : SidesState) (q : Queued) (n id : ℕ) (f : Waiting) (verdict : Verdict) → record { world = world_of s q n; board = s.board } ≡ old → Some f ≡ slice_get q.waiting 0
+    → id ≡ f.id → Decides s.setup.domains (table (take (length s.published.changes) s.history)) f.port f.head (message f.bytes f.head) verdict → DecidesOldest old.world old.world.waiting (Some (id, verdict))
+oldest_decided old s q n id f verdict was first named is =
+    subst (λ (o : PlaneState). DecidesOldest o.world o.world.waiting (Some (id, verdict))) was (by q.waiting first)
+  where
+    by : (fs : List Waiting) → Some f ≡ slice_get fs 0 → DecidesOldest (world_of s q n) fs (Some (id, verdict))
+    by [] e = absurd (cc)
+    by (g ∷ later) e =
+        let same : f ≡ g = cc in
+        subst (λ (h : Waiting). DecidesOldest (world_of s q n) (h ∷ later) (Some (id, verdict))) same (verdict, ap (λ i. Some (i, verdict)) named, is)
+
+holds_front : (s : SidesState) (q : Queued) (waiting : List Waiting) (m : ℕ)
+    → holds (world_of s q m) waiting ≡ (world_of s (holds_oldest q (length s.published.changes) waiting) m, hold_line m (length s.published.changes) waiting ∷ [])
 holds_front s q [] m = refl
 holds_front s q (f ∷ later) m = refl
 
 pub holds_as : (s : SidesState) (q : Queued) (m : ℕ) → (does (world_of s q m) Hold).0 ≡ world_of s (holds_oldest q (length s.published.changes) q.waiting) m
-holds_as s q m = holds_front s q q.waiting m
+holds_as s q m = ap (λ (x : Stepped). x.0) (holds_front s q q.waiting m)
+
+pub holds_one : (s : SidesState) (q r : Queued) (m floor : ℕ) (line : Line) → floor ≡ length s.published.changes → r ≡ holds_oldest q floor q.waiting → line ≡ hold_line m floor q.waiting
+    → does (world_of s q m) Hold ≡ (world_of s r m, line ∷ [])
+holds_one s q r m floor line e left is =
+    holds_front s q q.waiting m
+    ∙ ap (λ i. (world_of s (holds_oldest q i q.waiting) m, hold_line m i q.waiting ∷ [])) (sym e)
+    ∙ ap (λ (x : Queued). (world_of s x m, hold_line m floor q.waiting ∷ [])) (sym left)
+    ∙ ap (λ (l : Line). (world_of s r m, l ∷ [])) (sym is)
 
 pub stands_held : (s : SidesState) (q r : Queued) (n m floor : ℕ) → m ≡ n + 1 → floor ≡ length s.published.changes → r ≡ holds_oldest q floor q.waiting → IsWorld (world_of s q n)
     → IsWorld (world_of s r m)
@@ -142,6 +164,26 @@ posts_one old s t q r n m h x f seen lines was found shown same floor is comes l
     let floors : h.floor ≡ x.floor = ap (λ v. v.floor) shown in
     let sends : Comes (λ w. posts w x.waiting seen.point) s m t lines = subst (λ (g : Waiting). Comes (λ w. posts w g seen.point) s m t lines) same comes in
     posts_found s t q h.id seen.point x m lines found by.point (omega arith) sends ∙ ap (λ (y : Queued). (world_of t y m, lines)) (sym left)
+
+-- by its floor
+
+pub decided_floor : (old : PlaneState) (s : SidesState) (q : Queued) (n floor : ℕ) (x : Holding) (f : Waiting) (verdict : Verdict) → record { world = world_of s q n; board = s.board } ≡ old → f ≡ x.waiting
+    → floor ≡ x.floor → DecidesFloor old.world x (Some verdict) → Decides s.setup.domains (table (take floor s.history)) f.port f.head (message f.bytes f.head) verdict
+decided_floor old s q n floor x f verdict was same at is =
+    let by : DecidesFloor (world_of s q n) x (Some verdict) = subst (λ (o : PlaneState). DecidesFloor o.world x (Some verdict)) (sym was) is in
+    subst (λ (g : Waiting). Decides s.setup.domains (table (take floor s.history)) g.port g.head (message g.bytes g.head) verdict) (sym same)
+    (subst (λ i. Decides s.setup.domains (table (take i s.history)) x.waiting.port x.waiting.head (message x.waiting.bytes x.waiting.head) verdict) (sym at) by)
+
+pub posts_floor : (s t : SidesState) (q r : Queued) (id m floor : ℕ) (x : Holding) (f : Waiting) (lines : List Line) → find (λ h. h.waiting.id == id) q.held ≡ Some x → f ≡ x.waiting → floor ≡ x.floor
+    → Comes (λ w. posts w f floor) s m t lines → r ≡ record q { held = filter (λ h. not (h.waiting.id == id)) q.held } → does (world_of s q m) (Post id None) ≡ (world_of t r m, lines)
+posts_floor s t q r id m floor x f lines e same at comes left =
+    let w = world_of s q m in
+    ap (λ o. posts_at w o None) e
+    ∙ ap (λ i. posts (lets_go w i) x.waiting x.floor) (eqb-true x.waiting.id id (found_id id q.held x e))
+    ∙ ap (λ (g : Waiting). posts (lets_go w id) g x.floor) (sym same)
+    ∙ ap (posts (lets_go w id) f) (sym at)
+    ∙ comes (record q { held = filter (λ g. not (g.waiting.id == id)) q.held })
+    ∙ ap (λ (y : Queued). (world_of t y m, lines)) (sym left)
 
 -- A chip turns; all is published.
 

@@ -1,5 +1,5 @@
 -- What contracts see of a plane: its world, and the board over which it stands.
-use Rattle.std.specs.Prelude.{◌≡◌, ◌≢◌, ℕ, true, List, IfSome, take, ◌≤◌, ◌<◌, ◌^◌}
+use Rattle.std.specs.Prelude.{◌≡◌, ◌≢◌, ℕ, true, List, [], ◌∷◌, IfSome, take, ◌≤◌, ◌<◌, ◌^◌}
 use Rattle.std.specs.Ordering.{nat_cmp}
 use Rattle.br_model.specs.Data.Maps.{has}
 use Rattle.std.specs.Option.{is_some, option_map}
@@ -23,6 +23,7 @@ use Rattle.br_model.specs.declared.steps.Step.TheVariants.{Cmd, Now, Post, Turn}
 use Rattle.br_model.specs.Plane.Steps.{world_step}
 use Rattle.br_model.specs.Plane.World.{World, Waiting, Holding, chip_at, next_of, table_at, table_of_chip}
 use Rattle.chip_pipeline.specs.Passed.{Passed, IsPass}
+use Rattle.forward_rules.specs.declared.soft_tables.Verdict.{Verdict}
 use Rattle.table_publish.specs.Board.{Decides}
 use Rattle.table_publish.specs.Object.{Object, Whose}
 use Rattle.table_publish.specs.declared.seat.Seen.{Seen}
@@ -132,6 +133,20 @@ pub record IsCopy (w : World) (h : Held) (x : Holding) : Type 0 where
 pub record IsDecision (w : World) (x : Holding) (seen : Seen) : Type 0 where
   pub point : has nat_cmp w.counts seen.point ≡ true
   pub verdict : Decides w.setup.domains (table_at w seen.point) x.waiting.port x.waiting.head (message x.waiting.bytes x.waiting.head) seen.verdict
+
+-- the verdict of a frame by the table of this point
+abbrev pub DecidesAt : World → Waiting → ℕ → Verdict → Type 0
+DecidesAt w f point verdict = Decides w.setup.domains (table_at w point) f.port f.head (message f.bytes f.head) verdict
+
+-- of the oldest frame that waits, by what is published, with its id
+abbrev pub DecidesOldest : World → List Waiting → Option (ℕ × Verdict) → Type 0
+DecidesOldest w [] decided = decided ≡ None
+DecidesOldest w (f ∷ later) decided = (verdict : Verdict) × (decided ≡ Some (f.id, verdict)) × DecidesAt w f w.published verdict
+
+-- of a held frame, by its floor
+abbrev pub DecidesFloor : World → Holding → Option Verdict → Type 0
+DecidesFloor w x None = ⊥
+DecidesFloor w x (Some verdict) = DecidesAt w x.waiting x.floor verdict
 
 -- what was held is handed back, and all is as before
 pub record IsBack (old new : PlaneState) (h given : Held) : Type 0 where

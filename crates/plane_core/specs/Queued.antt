@@ -1,6 +1,9 @@
 -- Frames on their way to software: those that wait, those that it holds, and the id of the next one.
 use Rattle.std.specs.Prelude.{◌≡◌, ℕ, ◌+◌, ◌≤◌, nat_lt, Bool, true, ◌&&◌, List, [], ◌∷◌, ◌++◌, length, map}
 use Rattle.std.specs.List.{list_all}
+use Rattle.br_model.specs.declared.steps.Refusal.TheVariants.{NothingWaiting}
+use Rattle.br_model.specs.declared.transcript.Line.{Line}
+use Rattle.br_model.specs.declared.transcript.Line.TheVariants.{Held, Refused}
 use Rattle.br_model.specs.Table.Limits.{most_waiting}
 use Rattle.br_model.specs.Plane.World.{Waiting, Holding}
 
@@ -42,3 +45,8 @@ IsKeyed entries = entries ≡ under_ids (held_in entries)
 abbrev pub holds_oldest : Queued → ℕ → List Waiting → Queued
 holds_oldest q floor [] = q
 holds_oldest q floor (f ∷ later) = record q { waiting = later; held = q.held ++ record { waiting = f; floor = floor } ∷ [] }
+
+-- the line of that step
+abbrev pub hold_line : ℕ → ℕ → List Waiting → Line
+hold_line step floor [] = Refused step NothingWaiting
+hold_line step floor (f ∷ later) = Held f.id floor

@@ -12,7 +12,6 @@ use Rattle.br_model.specs.Control.Control.{Control, first_control}
 use Rattle.br_model.specs.Plane.World.{World, Stepped, control_lines}
 use Rattle.br_model.specs.Control.Reaction.{Reaction}
 use Rattle.br_model.specs.Table.Setup.{Setup}
-use Rattle.br_model.specs.Table.Table.{Table, table}
 use Rattle.bridge_core.specs.declared.faults.EventFault.{EventFault}
 use Rattle.bridge_core.specs.declared.faults.EventFault.TheVariants.{Refused, NoMemory}
 use Rattle.bridge_core.specs.Kept.{Controlled}
@@ -70,10 +69,6 @@ world_of s q steps = record {
   next = q.next;
   steps = steps;
 }
-
--- the table by which software decides
-abbrev pub soft_side : SidesState → Table
-soft_side s = table s.published.changes
 
 -- The changes of the reaction were made, and are so many, the chips are these, and the lines of the messages were added; or
 -- nothing changed.

@@ -6,7 +6,7 @@ ghost use Rattle.br_model.specs.Table.Limits.{most_waiting};
 ghost use Rattle.br_model.specs.Wire.Frames.{frame as frame_of};
 ghost use Rattle.br_model.specs.Wire.Messages.{message as message_of};
 ghost use Rattle.hwdom_marks.specs.Marks.{domain_marked};
-ghost use Rattle.plane_core.specs.Queued.{Queued, holds_oldest};
+ghost use Rattle.plane_core.specs.Queued.{Queued, hold_line, holds_oldest};
 ghost use Rattle.plane_core.specs.Arrivals.{arrival, arrival_lines, settled, IsArrival};
 
 use crate::NoMemory;
@@ -15,6 +15,7 @@ use br_model::bytes::Bytes;
 use br_model::frame::{Head, McastMsg};
 use br_model::limits::MOST_WAITING;
 use br_model::numbers::Port;
+use br_model::steps::Refusal;
 use br_model::transcript::Line;
 use hwdom_marks::Mark;
 use std::alloc::{AllocError, Global};
@@ -162,6 +163,22 @@ impl Frames {
         ensures rest { self.new ≡ record self.old { waiting = drop 1 self.old.waiting } }
     {
         self.waiting.pop_front()
+    }
+
+    /// The line of the step that holds the frame that waits longest with this floor.
+    pub(crate) fn hold_line(&self, step: u32, floor: u32) -> Line
+        ensures { result ≡ hold_line step floor self.now.waiting }
+    {
+        match self.oldest() {
+            Some(frame) => Line::Held {
+                id: frame.id(),
+                floor,
+            },
+            None => Line::Refused {
+                step,
+                refusal: Refusal::NothingWaiting,
+            },
+        }
     }
 
     /// The frame that waits longest is held with this floor; `false` where none waits. After want of memory all is as before.

@@ -13,11 +13,11 @@ ghost use Rattle.br_model.specs.Plane.Chip.{Chip as ChipValue};
 ghost use Rattle.br_model.specs.Plane.Entering.{chip_of};
 ghost use Rattle.br_model.specs.Plane.Runs.{pending, pending_of};
 ghost use Rattle.br_model.specs.Plane.Serving.{held_with};
-ghost use Rattle.br_model.specs.declared.steps.Step.TheVariants.{Rx, Serve, Hold, Publish, Report, Sweep};
+ghost use Rattle.br_model.specs.declared.steps.Step.TheVariants.{Rx, Serve, Hold, Post, Publish, Report, Sweep};
 ghost use Rattle.br_model.specs.Plane.Steps.{world_step};
 ghost use Rattle.br_model.specs.Plane.World.{Holding as HoldingOf, chip_at, first_world, table_of_chip};
 ghost use Rattle.table_publish.specs.Object.{Begins, IsPublished, first_object};
-ghost use Rattle.plane_core.specs.Planes.{Accepts, IsCopy, IsDecidedBy, IsDecision, IsNamed, IsOnChip, Posted, PostedTo, Steps, Turned, TurnedTo, arrival_by, published_in, ticket_of};
+ghost use Rattle.plane_core.specs.Planes.{Accepts, DecidesFloor, DecidesOldest, IsCopy, IsDecidedBy, IsDecision, IsNamed, IsOnChip, Posted, PostedTo, Steps, Turned, TurnedTo, arrival_by, published_in, ticket_of};
 ghost use Rattle.plane_core.specs.Added.{Added};
 ghost use Rattle.plane_core.specs.Seats.{IsTold, Looks};
 ghost use Rattle.plane_core.specs.Shown.{opened, shown_by};
@@ -37,6 +37,7 @@ use br_model::steps::{Event, Refusal};
 use br_model::transcript::Line;
 use chip_pipeline::Pass;
 use ether_frames::parse;
+use forward_rules::Verdict;
 use hwdom_marks::Mark;
 use igmp_mld::classify;
 use std::alloc::{AllocError, Global};
@@ -371,6 +372,84 @@ impl Plane {
         self.frames.hold(floor)?;
         self.steps = step;
         Ok(held)
+    }
+
+    /// The id of the oldest frame that waits, and its decision by what is published. The seat is told of that first, whatever the
+    /// answer. It is no step.
+    pub fn decide_oldest(
+        &mut self,
+        alloc: Global,
+        s: &mut Seat,
+    ) -> Result<Option<(u32, Verdict)>, NoMemory>
+        requires { s.old.board ≡ self.old.board }
+        ensures decides { IfOk result (DecidesOldest self.old.world self.old.world.waiting) }
+        ensures same { self.new ≡ self.old }
+        ensures seat { IsTold s.old s.new (published_in self.old.world) }
+    {
+        self.tell(s);
+        self.decide_told(alloc, s)
+    }
+
+    /// The same of a seat that was told.
+    fn decide_told(&self, alloc: Global, s: &mut Seat) -> Result<Option<(u32, Verdict)>, NoMemory>
+        requires board { s.old.board ≡ self.now.board }
+        requires told { Begins s.old.object (published_in self.now.world) }
+        requires published { IsPublished s.old.object }
+        ensures decides { IfOk result (DecidesOldest self.now.world self.now.world.waiting) }
+        ensures seat { Looks s.old s.new }
+    {
+        match self.frames.oldest() {
+            Some(frame) => Ok(Some((frame.id(), self.sides.decide(alloc, s, frame)?))),
+            None => Ok(None),
+        }
+    }
+
+    /// The oldest frame that waits is held, with what is published now as its floor. The line of the step is added.
+    pub fn hold_to(&mut self, lines: &mut Lines) -> Result<(), NoMemory>
+        ensures ok { OnOk result (Added (Steps self.old self.new Hold) lines.old.lines lines.new.lines) }
+        ensures err { OnErr result (self.new ≡ self.old) }
+        ensures lines { OnErr result (lines.new.lines ≡ lines.old.lines) }
+    {
+        let step = next(self.steps)?;
+        let floor = self.sides.published();
+        let line = self.frames.hold_line(step, floor);
+        lines.reserve(1, 0)?;
+        self.frames.hold(floor)?;
+        lines.push_reserved(line);
+        self.steps = step;
+        Ok(())
+    }
+
+    /// The frame that is held under this id is sent by the verdict of its floor. The step is refused where none is held. The lines
+    /// of the step are added.
+    pub fn post_floor_to(
+        &mut self,
+        alloc: Global,
+        id: u32,
+        verdict: Option<Verdict>,
+        lines: &mut Lines,
+    ) -> Result<(), NoMemory>
+        requires { (x : HoldingOf) → held_with self.old.world id ≡ Some x → DecidesFloor self.old.world x verdict }
+        ensures ok { OnOk result (Added (Steps self.old self.new (Post id None)) lines.old.lines lines.new.lines) }
+        ensures err { OnErr result (self.new ≡ self.old) }
+        ensures lines { OnErr result (lines.new.lines ≡ lines.old.lines) }
+    {
+        let step = next(self.steps)?;
+        let Some(holding) = self.frames.find(id) else {
+            let refusal = Refusal::NothingToPost;
+            lines.push(Line::Refused { step, refusal })?;
+            self.steps = step;
+            return Ok(());
+        };
+        let Some(verdict) = verdict else {
+            unreachable!();
+        };
+        let floor = holding.floor();
+        self.sides
+            .post(alloc, step, holding.frame(), &verdict, floor, lines)?;
+        let _holding = self.frames.release(id);
+        self.steps = step;
+        Ok(())
     }
 
     /// A held frame is sent by this decision of it. The step is refused where no frame with its id is held.

@@ -26,7 +26,7 @@ ghost use Rattle.plane_core.specs.Places.{places};
 ghost use Rattle.plane_core.specs.Queued.{Queued};
 ghost use Rattle.plane_core.specs.Added.{Added};
 ghost use Rattle.plane_core.specs.Seats.{Looks};
-ghost use Rattle.plane_core.specs.Sides.{Comes, HasBegun, Lasts, Reacted, world_of, first_sides, soft_side};
+ghost use Rattle.plane_core.specs.Sides.{Comes, HasBegun, Lasts, Reacted, world_of, first_sides};
 
 use crate::NoMemory;
 use crate::chips::Chips;
@@ -283,15 +283,20 @@ impl Sides {
 
     /// The decision of a frame by what is published, by a seat that was told of it. Where the seat has no reading of just that, it is
     /// made anew.
-    fn decide(&self, alloc: Global, seat: &mut Seat, frame: &Frame) -> Result<Verdict, NoMemory>
+    pub(crate) fn decide(
+        &self,
+        alloc: Global,
+        seat: &mut Seat,
+        frame: &Frame,
+    ) -> Result<Verdict, NoMemory>
         requires board { seat.old.board ≡ self.now.board }
         requires told { Begins seat.old.object (record {
           changes = take (length self.now.published.changes) self.now.history;
           counts = self.now.published.counts;
         }) }
         ensures seat { Looks seat.old seat.new }
-        ensures verdict { IfOk result (Decides self.now.setup.domains (soft_side self.now) frame.now.port frame.now.head
-            (message_of frame.now.bytes frame.now.head)) }
+        ensures verdict { IfOk result (Decides self.now.setup.domains (table (take (length self.now.published.changes) self.now.history))
+            frame.now.port frame.now.head (message_of frame.now.bytes frame.now.head)) }
     {
         let published = self.board.published();
         match seat.lookup(frame.port(), frame.head(), frame.message()) {
