@@ -1,5 +1,5 @@
 //! The board, which publishes, and the seats that it is made with.
-ghost use Rattle.std.specs.Prelude.{◌≡◌, ◌+◌, ◌-◌, ◌<◌, ◌≤◌, ◌++◌, ◌∷◌, ◌↔◌, [], drop, length, replicate, IfOk, OnOk, OnErr, IfSome, IsSome, IsTrue};
+ghost use Rattle.std.specs.Prelude.{◌≡◌, ◌+◌, ◌-◌, ◌<◌, ◌≤◌, ◌++◌, ◌∷◌, ◌↔◌, [], drop, length, replicate, IfOk, OnOk, OnErr, IfSome, IsSome, IsTrue, vec_capacity};
 ghost use Rattle.left_right.specs.Sides.{view as place_view};
 ghost use Rattle.br_model.specs.Table.Limits.{AreWithin, most_changes};
 ghost use Rattle.table_publish.specs.Board.{all_of, newcomer};
@@ -21,6 +21,7 @@ use forward_rules::SoftTables;
 use logbook::{Offer, Start};
 use std::alloc::{AllocError, Global};
 use std::marker::Model;
+use std::mem;
 use std::sync::Wait;
 
 /// The one who publishes. Contracts see which board it is, its published object and its pending changes. It isn't `Drop`: end it by
@@ -80,6 +81,26 @@ fn enter_batch<R: Wait>(
         }
     }
     unreachable!()
+}
+
+/// So many pending changes are copied into their publication at most.
+const MOST_COPIED: usize = 4096;
+
+/// Takes all changes out of a list that keeps its room. A few are copied: room for a whole history costs two calls of the system.
+fn take_pending(alloc: Global, pending: &mut Vec<Change>) -> Result<Vec<Change>, NoMemory>
+    requires { most_changes ≤ vec_capacity pending.old }
+    ensures items { IfOk result (λ taken. taken.items ≡ pending.old.items) }
+    ensures empty { OnOk result (pending.new.items ≡ []) }
+    ensures room { most_changes ≤ vec_capacity pending.new }
+    ensures err { OnErr result (pending.new ≡ pending.old) }
+{
+    if pending.len() > MOST_COPIED {
+        let empty = Vec::with_capacity(alloc, MOST_CHANGES)?;
+        return Ok(mem::replace(pending, empty));
+    }
+    let taken = Vec::from_slice(alloc, pending.as_slice())?;
+    pending.clear();
+    Ok(taken)
 }
 
 /// Gives the writer an operation. Its log has had room since the board was made, so the operation goes in at once.
@@ -308,7 +329,8 @@ impl Board {
         if self.pending.is_empty() {
             return Ok(self.len);
         }
-        let changes = Vec::from_slice(alloc, self.pending.as_slice())?;
+        let count = self.pending.len() as u32;
+        let changes = take_pending(alloc, &mut self.pending)?;
         let seen = enter_batch(rt, &self.word, &self.seen, self.batches, &changes);
         let operation = Operation {
             changes,
@@ -318,8 +340,7 @@ impl Board {
         replace_with(&mut self.writer, (rt, operation), show::<R>);
         self.seen = seen;
         self.batches += 1;
-        self.len += self.pending.len() as u32;
-        self.pending.clear();
+        self.len += count;
         Ok(self.len)
     }
 
