@@ -1,5 +1,5 @@
 //! All parts of the table but the addresses.
-ghost use Rattle.std.specs.Prelude.{◌≡◌, ◌==◌, ◌&&◌, ◌||◌, [], ◌∷◌, true, IfOk, IsTrue, Some};
+ghost use Rattle.std.specs.Prelude.{◌≡◌, ◌==◌, ◌&&◌, ◌||◌, ◌∷◌, true, IfOk, IsTrue, Some};
 ghost use Rattle.std.specs.Ordering.{nat_cmp};
 ghost use Rattle.br_model.specs.Forward.Admission.{is_up, is_forwarding, member, vlan_of_tag, vlan_of, admit};
 ghost use Rattle.br_model.specs.Forward.Class.{is_snooped};
@@ -156,14 +156,6 @@ impl PortTables {
         } else {
             self.mdb.querier_gone(six);
         }
-    }
-
-    /// A law, whose body does nothing: there are no addresses.
-    pub fn has_no_addresses(&self)
-        ensures { self.now.addr ≡ [] }
-    {
-        // law: the view has no addresses
-        let _up = &self.up;
     }
 
     /// Whether a member of the group in the VLAN can be joined: there is one already, or the pair would be no 1,025th.

@@ -15,7 +15,7 @@ use Rattle.br_model.specs.Data.Maps.{get, has, put, without, is_ascending}
 use Rattle.br_model.proofs.KeySets.{keys-put_there, ascending-put, ascending-without}
 use Rattle.br_model.specs.Control.Ends.{Ends, end_of, keys, lasts}
 use Rattle.mdb_snoop.specs.Database.{joined_until, ending_soon, ended_sooner, end_joined, memberships}
-use Rattle.mdb_snoop.specs.Places.{Sections, flat, queriers_of, has_some, is_fit, IsSound, IsAt, IsGap}
+use Rattle.mdb_snoop.specs.Places.{Sections, flat, has_some, is_fit, IsSound, IsAt, IsGap}
 use Rattle.mdb_snoop.proofs.Cuts.{put_front, put_above, without_front, without_above}
 use Rattle.mdb_snoop.proofs.Flat.{with_at, with_before, without_at, flat-ascends}
 use Rattle.br_model.proofs.GroupOrders.{pair_total, membership_total}
@@ -158,9 +158,3 @@ made e k end moment is new =
     absent : (o : Option (Option ℕ)) → is_some o ≡ false → o ≡ None
     absent None h = refl
     absent (Some end) h = absurd (cc (h))
-
-pub queriers-ascend : (four six : Option ℕ) → is_ascending nat_cmp (queriers_of four six) ≡ true
-queriers-ascend None None = refl
-queriers-ascend None (Some m) = refl
-queriers-ascend (Some n) None = refl
-queriers-ascend (Some n) (Some m) = refl

@@ -1,12 +1,11 @@
 //! The multicast database.
 ghost use Rattle.std.specs.Prelude.{◌≡◌, ◌+◌, ◌≤◌, min, ℕ, IsTrue, IfOk, None, Some, [], false, true, is_some, length, not, slice_get};
 ghost use Rattle.std.specs.List.{All};
-ghost use Rattle.std.specs.List.Sorted.{IsStrictlySortedBy};
 ghost use Rattle.std.specs.Ordering.{nat_cmp};
 ghost use Rattle.br_model.specs.Table.Domains.{last_port};
-ghost use Rattle.br_model.specs.Table.GroupPairs.{group_pairs, has_room, max_pairs};
+ghost use Rattle.br_model.specs.Table.GroupPairs.{group_pairs, has_room};
 ghost use Rattle.br_model.specs.Table.Groups.{membership_cmp};
-ghost use Rattle.br_model.specs.Data.Maps.{get, has, put, without, joined, parted, is_ascending};
+ghost use Rattle.br_model.specs.Data.Maps.{get, has, put, without, joined, parted};
 ghost use Rattle.br_model.specs.Table.Table.{Table, ip_version, switched};
 ghost use Rattle.br_model.specs.Forward.Targets.{members_of, knows_querier};
 ghost use Rattle.br_model.specs.Control.Ends.{due, due_members, end_of, is_over, keys, lasts, no_ends, parts, queries, querier_time, routes};
@@ -270,21 +269,6 @@ impl Mdb {
         } else {
             self.four.is_some()
         }
-    }
-
-    /// A law, whose body does nothing: groups, router ports and queriers ascend, with their ends and without them, and there
-    /// is no 1,025th pair of VLAN and group.
-    pub fn parts_ascend(&self)
-        ensures groups { is_ascending membership_cmp self.now.groups ≡ true }
-        ensures routers { is_ascending nat_cmp self.now.routers ≡ true }
-        ensures queriers { is_ascending nat_cmp self.now.queriers ≡ true }
-        ensures memberships { IsStrictlySortedBy membership_cmp (memberships self.now) }
-        ensures ports { IsStrictlySortedBy nat_cmp (keys self.now.routers) }
-        ensures versions { IsStrictlySortedBy nat_cmp (keys self.now.queriers) }
-        ensures few { length (group_pairs (memberships self.now)) ≤ max_pairs }
-    {
-        // law: the router ports ascend
-        self.routers.ports_ascend();
     }
 
     /// The pair of VLAN and group at a place in their order, if there are so many.

@@ -2,7 +2,7 @@
 ghost use Rattle.std.specs.Prelude.{◌≡◌, ◌<◌, ◌==◌, ◌||◌, ℕ, [], cond, map, nat_le, refl, slice_index, slice_set, true};
 ghost use Rattle.std.specs.Ordering.{nat_cmp};
 ghost use Rattle.br_model.specs.Table.Domains.{port_places};
-ghost use Rattle.br_model.specs.Data.Maps.{get, put, without, is_ascending};
+ghost use Rattle.br_model.specs.Data.Maps.{get, put, without};
 ghost use Rattle.br_model.specs.Control.Ends.{due, is_over, keys};
 ghost use Rattle.mdb_snoop.specs.Places.{ArePorts};
 ghost use Rattle.mdb_snoop.specs.Soonest.{moment_of, soonest_member, soonest_moment};
@@ -73,14 +73,6 @@ impl Moments {
         ensures { result ≡ keys self.now }
     {
         self.ports
-    }
-
-    /// A law, whose body does nothing: the ports ascend.
-    pub fn ports_ascend(&self)
-        ensures { is_ascending nat_cmp self.now ≡ true }
-    {
-        // law: the members ascend
-        self.ports.members_ascend();
     }
 
     pub fn copy(&self) -> Moments
