@@ -5,10 +5,10 @@ ghost use Rattle.br_model.specs.declared.change.Change.TheVariants.{GroupJoin, R
 ghost use Rattle.br_model.specs.Control.Ends.{keys};
 ghost use Rattle.mdb_snoop.specs.Database.{memberships};
 
+use crate::Mdb;
 use crate::ends::NoEnds;
 use crate::moments::Moments;
 use crate::sections::Section;
-use crate::Mdb;
 use br_model::group::Group;
 use br_model::limits::MOST_PAIRS;
 use br_model::numbers::{Port, Vid};
