@@ -1,5 +1,6 @@
 pub mod Counting
 pub mod Cutting
+pub mod Deciding
 pub mod Doing
 pub mod Following
 pub mod Generating

@@ -27,7 +27,7 @@ pub record SoFar (ports : List Entry) (section : List ℕ) (steps : List Step) (
   pub read : List Packet
   pub parts : capture (length ports) section ≡ record { packets = read ++ left.packets; fault = left.fault }
   pub are_steps : steps ≡ map (entered ports) read
-  pub by_line : list_all (comes_by_line (chips_of ports)) steps ≡ true
+  pub by_line : list_all (comes_by_line false (chips_of ports)) steps ≡ true
   pub have_ports : list_all (has_port (length ports)) left.packets ≡ true
 
 pub begun : (ports : List Entry) (section : List ℕ) (left : Capture) → left ≡ capture (length ports) section → list_all (has_port (length ports)) left.packets ≡ true → SoFar ports section [] left
@@ -48,7 +48,7 @@ module _ (ports : List Entry) (section : List ℕ) (steps : List Step) (left : C
           ∙ ap (λ (c : Capture). record { packets = s.read ++ c.packets; fault = c.fault }) next
           ∙ ap (λ (ps : List Packet). record { packets = ps; fault = new.fault }) (sym (append_assoc s.read (packet ∷ []) new.packets));
       are_steps = ap (λ (l : List Step). l ++ entered ports packet ∷ []) s.are_steps ∙ sym (map-append (entered ports) s.read (packet ∷ []));
-      by_line = list_all-append (comes_by_line (chips_of ports)) steps (entered ports packet ∷ []) ∙ rw s.by_line refl;
+      by_line = list_all-append (comes_by_line false (chips_of ports)) steps (entered ports packet ∷ []) ∙ rw s.by_line refl;
       have_ports = second_so _ _ these;
     }
 

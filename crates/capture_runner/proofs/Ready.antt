@@ -14,15 +14,26 @@ use Rattle.br_model.specs.Text.Scenario.{Scenario, declared, opened}
 use Rattle.br_model.proofs.PlaneApplied.{step-setup}
 use Rattle.plane_core.specs.Added.{Added}
 use Rattle.capture_runner.specs.declared.session.Session.{Session}
-use Rattle.capture_runner.specs.Session.{Follows, IsBehindDeclarations, IsReady, IsWorld, Tells, captures}
+use Rattle.capture_runner.specs.Session.{Follows, HasChips, IsBehindDeclarations, IsReady, IsWorld, Tells, captures}
 use Rattle.capture_runner.proofs.Following.{past}
 use Rattle.scenario_text.specs.Items.{item_of, comes_in_place}
 
+-- no line makes the command another one
+same_check : (r : Roster) (said : Said) → (declared r said).check ≡ r.check
+same_check r Blank = refl
+same_check r (Opens edition) = refl
+same_check r (Bridge mac) = refl
+same_check r (Declares port name dom) = refl
+same_check r (Does step) = refl
+same_check r (Captures n) = refl
+same_check r Ends = refl
+
 -- it stays so when a line is read
-pub ready_on : (r q : Roster) (said : Said) (w : Option World) → IsReady r w → q ≡ declared r said → comes_in_place r.place (item_of said) ≡ true → IsReady q w
-ready_on r q said None h e place = tt
-ready_on r q said (Some w) h e place =
-    subst (λ (p : Roster). IsReady p (Some w)) (sym e) (h.0 ∙ sym (same said place), past r said h.1.0 h.1.1 place)
+
+chips_on : (r q : Roster) (said : Said) (w : Option World) → HasChips r w → q ≡ declared r said → comes_in_place r.place (item_of said) ≡ true → HasChips q w
+chips_on r q said None h e place = tt
+chips_on r q said (Some w) h e place =
+    subst (λ (p : Roster). HasChips p (Some w)) (sym e) (h.0 ∙ sym (same said place), past r said h.1.0 h.1.1 place)
   where
     same : (said : Said) → comes_in_place r.place (item_of said) ≡ true → chips_of (declared r said).ports ≡ chips_of r.ports
     same Blank place = refl
@@ -33,26 +44,33 @@ ready_on r q said (Some w) h e place =
     same (Captures n) place = refl
     same Ends place = refl
 
+pub ready_on : (r q : Roster) (said : Said) (w : Option World) → IsReady r w → q ≡ declared r said → comes_in_place r.place (item_of said) ≡ true → IsReady q w
+ready_on r q said w h e place = (ap (λ (p : Roster). p.check) e ∙ same_check r said ∙ h.0, chips_on r q said w h.1 e place)
+
 -- and when a step is done
-pub ready_after : (r : Roster) (w v : World) (step : Step) → chip_domains w.setup.domains ≡ chips_of r.ports → IsBehindDeclarations r → v ≡ (world_step w step).0 → IsReady r (Some v)
+pub ready_after : (r : Roster) (w v : World) (step : Step) → chip_domains w.setup.domains ≡ chips_of r.ports → IsBehindDeclarations r → v ≡ (world_step w step).0 → HasChips r (Some v)
 ready_after r w v step h behind e =
     (ap (λ (x : World). chip_domains x.setup.domains) e ∙ ap (λ (s : Setup). chip_domains s.domains) (step-setup w step) ∙ h, behind)
 
 -- the same steps come by a line
-pub comes_here : (chips others : List ℕ) (step : Step) → chips ≡ others → comes_by_line others step ≡ true → comes_by_line chips step ≡ true
-comes_here chips others step e h = ap (λ (l : List ℕ). comes_by_line l step) e ∙ h
+pub comes_here : (chips others : List ℕ) (step : Step) → chips ≡ others → comes_by_line false others step ≡ true → comes_by_line false chips step ≡ true
+comes_here chips others step e h = ap (λ (l : List ℕ). comes_by_line false l step) e ∙ h
+
+-- and that a line gave
+pub comes_said : (r q : Roster) (step : Step) → r.check ≡ false → q ≡ declared r (Does step) → comes_by_line r.check (chips_of r.ports) step ≡ true → comes_by_line false (chips_of q.ports) step ≡ true
+comes_said r q step check e h = ap (λ (p : Roster). comes_by_line false (chips_of p.ports) step) e ∙ (ap (λ b. comes_by_line b (chips_of r.ports) step) (sym check) ∙ h)
 
 -- before the first line there is no world
 pub ready_at_first : (x : Session) → Follows (opened false) x → IsReady x.roster x.world
-ready_at_first x f = none x.world f.stands.world
+ready_at_first x f = (ap (λ (r : Roster). r.check) f.stands.roster, none x.world f.stands.world)
   where
-    none : (w : Option World) → IsWorld (opened false) w → IsReady x.roster w
+    none : (w : Option World) → IsWorld (opened false) w → HasChips x.roster w
     none None h = tt
     none (Some w) h = let e : true ≡ false = h.1.1 in absurd (cc)
 
 pub ready_told : {A E : Type 0} (r : Result A E) (roster : Roster) (w v : World) (step : Step) (before after : List Line) → IsReady roster (Some w)
     → OnOk r (Added (Tells w step v) before after) → OnOk r (IsReady roster (Some v))
-ready_told (Ok x) roster w v step before after h told = ready_after roster w v step h.0 h.1 (ap (λ (y : Stepped). y.0) told.so)
+ready_told (Ok x) roster w v step before after h told = (h.0, ready_after roster w v step h.1.0 h.1.1 (ap (λ (y : Stepped). y.0) told.so))
 ready_told (Err e) roster w v step before after h told = told
 
 -- behind a line `capture`

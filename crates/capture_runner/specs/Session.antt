@@ -42,9 +42,13 @@ abbrev pub IsBehindDeclarations : Roster → Type 0
 IsBehindDeclarations roster = (declaration roster.place ≡ false) × (opening roster.place ≡ false)
 
 -- where there is a world, it has the chips of the declared ports, and no port can be declared any more
+abbrev pub HasChips : Roster → Option World → Type 0
+HasChips roster None = Unit {0}
+HasChips roster (Some w) = (chip_domains w.setup.domains ≡ chips_of roster.ports) × IsBehindDeclarations roster
+
+-- and the command isn't `check`
 abbrev pub IsReady : Roster → Option World → Type 0
-IsReady roster None = Unit {0}
-IsReady roster (Some w) = (chip_domains w.setup.domains ≡ chips_of roster.ports) × IsBehindDeclarations roster
+IsReady roster w = (roster.check ≡ false) × HasChips roster w
 
 -- after the declarations
 abbrev pub IsAmongSteps : Scenario → Type 0
@@ -120,7 +124,7 @@ IsCaptured x section (sections.End last) =
 
 -- each step is one that a line can give where these domains have switch chips
 abbrev pub ComeByLine : List ℕ → Captured → Type 0
-ComeByLine chips (sections.Steps steps) = list_all (comes_by_line chips) steps.items ≡ true
+ComeByLine chips (sections.Steps steps) = list_all (comes_by_line false chips) steps.items ≡ true
 ComeByLine chips (sections.End last) = Unit {0}
 
 -- the world of a session before a step

@@ -136,7 +136,7 @@ fn do_made<R: Wait>(
     world: &mut World,
     lines: &mut Lines,
 ) -> Result<(), NoMemory>
-    requires { comes_by_line (chip_domains world.old.setup.domains) (step_of made) ≡ true }
+    requires { comes_by_line false (chip_domains world.old.setup.domains) (step_of made) ≡ true }
     ensures { OnOk result (Added (Tells world.old (step_of made) world.new) lines.old.lines lines.new.lines) }
 {
     match made {
@@ -154,7 +154,7 @@ fn do_step<R: Wait>(
     lines: &mut Lines,
     tally: &mut Tally,
 ) -> Result<(), NoMemory>
-    requires { comes_by_line (chip_domains world.old.setup.domains) (step_of made) ≡ true }
+    requires { comes_by_line false (chip_domains world.old.setup.domains) (step_of made) ≡ true }
     ensures runs { OnOk result (RunsOn world.old tally.old (step_of made ∷ []) world.new tally.new) }
     ensures setup { OnOk result (world.new.setup ≡ world.old.setup) }
 {
@@ -173,7 +173,7 @@ fn do_steps<R: Wait>(
     lines: &mut Lines,
     tally: &mut Tally,
 ) -> Result<(), NoMemory>
-    requires { list_all (comes_by_line (chip_domains world.old.setup.domains)) steps.items ≡ true }
+    requires { list_all (comes_by_line false (chip_domains world.old.setup.domains)) steps.items ≡ true }
     ensures { OnOk result (RunsOn world.old tally.old steps.items world.new tally.new) }
 {
     for step in steps {

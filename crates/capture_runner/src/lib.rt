@@ -5,6 +5,7 @@
 mod asked;
 mod commands;
 mod demo;
+mod held;
 mod replay;
 mod runner;
 mod section;

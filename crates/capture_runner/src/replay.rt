@@ -208,7 +208,7 @@ fn do_steps<R: Wait, K: Sink>(
     output: &mut Output,
     steps: Vec<Step>,
 ) -> Result<(), Halt>
-    requires by_line { list_all (comes_by_line (chips_of session.old.roster.ports)) steps.items ≡ true }
+    requires by_line { list_all (comes_by_line false (chips_of session.old.roster.ports)) steps.items ≡ true }
     requires ready { IsReady session.old.roster session.old.world }
     requires behind { IsBehindDeclarations session.old.roster }
     ensures ready { OnOk result (IsReady session.new.roster session.new.world) }

@@ -36,7 +36,7 @@ pub(crate) fn captured_steps(
 ) -> Result<Vec<Step>, CapFault>
     requires { length section.now ≤ longest_section }
     ensures gives { Gives roster.now.ports section.now result }
-    ensures by_line { IfOk result (λ steps. list_all (comes_by_line (chips_of roster.now.ports)) steps.items ≡ true) }
+    ensures by_line { IfOk result (λ steps. list_all (comes_by_line false (chips_of roster.now.ports)) steps.items ≡ true) }
 {
     let mut blocks = Blocks::of(alloc, section, roster.len() as u32);
     let mut steps = Vec::new(alloc);

@@ -153,7 +153,8 @@ impl Session {
     /// of its locals.
     fn begin<R: Wait>(&mut self, rt: &R, alloc: Global, step: Step) -> Result<(), NoMemory>
         requires first { self.old.world ≡ None }
-        requires by_line { comes_by_line (chips_of self.old.roster.ports) step ≡ true }
+        requires replays { self.old.roster.check ≡ false }
+        requires by_line { comes_by_line false (chips_of self.old.roster.ports) step ≡ true }
         requires behind { IsBehindDeclarations self.old.roster }
         requires empty { self.old.told.lines ≡ [] }
         ensures lines { OnOk result (self.new.lines ≡ self.old.lines) }
@@ -179,7 +180,7 @@ impl Session {
 
     /// Does a step in the world that is there, or in a new one.
     fn go_on<R: Wait>(&mut self, rt: &R, alloc: Global, step: Step) -> Result<(), NoMemory>
-        requires by_line { comes_by_line (chips_of self.old.roster.ports) step ≡ true }
+        requires by_line { comes_by_line false (chips_of self.old.roster.ports) step ≡ true }
         requires ready { IsReady self.old.roster self.old.world }
         requires behind { IsBehindDeclarations self.old.roster }
         requires empty { self.old.told.lines ≡ [] }
@@ -202,7 +203,7 @@ impl Session {
         step: Step,
         text: &mut String,
     ) -> Result<(), NoMemory>
-        requires by_line { comes_by_line (chips_of self.old.roster.ports) step ≡ true }
+        requires by_line { comes_by_line false (chips_of self.old.roster.ports) step ≡ true }
         requires ready { IsReady self.old.roster self.old.world }
         requires behind { IsBehindDeclarations self.old.roster }
         ensures ready { OnOk result (IsReady self.new.roster self.new.world) }

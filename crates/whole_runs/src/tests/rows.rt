@@ -97,6 +97,33 @@ end => end 16 12 0 0
     row_is_told(&rt, rt.alloc(), text, Status::Ok)
 }
 
+/// Frames that are held are posted as it was published then, whatever was accepted and published since, in any order.
+#[test]
+fn held_frames(rt: HostRuntime) -> Result<(), Fail> {
+    let text = "scenario 1
+port 1 p1 soft
+port 2 p2 soft
+port 3 p3 soft
+cmd port up p1 => ok 1 3
+cmd port up p2 => ok 2 3
+cmd port up p3 => ok 3 3
+publish => ok 4 0
+hold => refused 5 10
+rx 1 02000000000b02000000000a88b50102
+rx 2 02000000000d02000000000c88b50102
+hold => held 1 9
+cmd fdb add 02:00:00:00:00:0b dev p2 vlan 1 static => ok 9 1
+publish => ok 10 0
+hold => held 2 10
+post 2 => soft 2 at 10; tx 2 1 02000000000d02000000000c88b50102; tx 2 3 02000000000d02000000000c88b50102; ok 12 1
+post 1 => soft 1 at 9; tx 1 2 02000000000b02000000000a88b50102; tx 1 3 02000000000b02000000000a88b50102; ok 13 1
+post 1 => refused 14 14
+post 4294967295 => refused 15 14
+end => end 15 12 3 0
+";
+    row_is_told(&rt, rt.alloc(), text, Status::Ok)
+}
+
 /// Memberships by command, and snooping switched off and on.
 #[test]
 fn groups_by_command(rt: HostRuntime) -> Result<(), Fail> {
@@ -339,6 +366,11 @@ fn causes_of_bad_lines(rt: HostRuntime) -> Result<(), Fail> {
         ("cmd mdb del 239.1.2.3 dev p2 vlan 0\n", "port"),
         ("cmd mdb del 239.1.2.3 dev p1 vlan 0\n", "number"),
         ("cmd snooping\n", "word"),
+        ("hold 1\n", "word"),
+        ("post\n", "word"),
+        ("post 01\n", "number"),
+        ("post 4294967296\n", "number"),
+        ("post 1 at 0\n", "place"),
         ("rx one 0g\n", "number"),
         ("rx 2 0g\n", "port"),
         ("rx 300 00\n", "port"),

@@ -31,8 +31,8 @@ loop-made-smaller g c = omega (arith, ap length c.in-Some.ensures.gives)
 pub do_step-requires : goal.do_step-requires
 do_step-requires g c =
     let step : Step = step_of c.in-Some.made in
-    ap (λ (s : Setup). comes_by_line (chip_domains s.domains) step) c.loop-made.invariant.setup
-    ∙ ap (λ (chips : List ℕ). comes_by_line chips step) c.requires
+    ap (λ (s : Setup). comes_by_line false (chip_domains s.domains) step) c.loop-made.invariant.setup
+    ∙ ap (λ (chips : List ℕ). comes_by_line false chips step) c.requires
     ∙ c.in-Some.ensures.by_line
 
 pub returns : goal.returns

@@ -16,7 +16,7 @@ loop-step-preserved g c =
     let so_far = c.loop-step.invariant in
     let next = (rw c.in-Some.is at c.next.ensures.steps).0 in record {
       parts = so_far.parts ∙ ap (λ (l : List Step). c.loop-step.yielded ++ l) next ∙ sym (append_assoc c.loop-step.yielded (c.in-Some.step ∷ []) c.next.new.self.rest.items);
-      by_line = second_so _ _ (ap (list_all (comes_by_line (chip_domains c.args.world.now.setup.domains))) (sym next) ∙ so_far.by_line);
+      by_line = second_so _ _ (ap (list_all (comes_by_line false (chip_domains c.args.world.now.setup.domains))) (sym next) ∙ so_far.by_line);
       setup = c.in_ok-do_step.ensures.setup ∙ so_far.setup;
       runs = runs_more _ _ _ _ _ _ _ _ so_far.runs c.in_ok-do_step.ensures.runs;
     }
@@ -25,5 +25,5 @@ pub do_step-requires : goal.do_step-requires
 do_step-requires g c =
     let so_far = c.loop-step.invariant in
     let next = (rw c.in-Some.is at c.next.ensures.steps).0 in
-    ap (λ (s : Setup). comes_by_line (chip_domains s.domains) c.in-Some.step) so_far.setup
-    ∙ first_so _ _ (ap (list_all (comes_by_line (chip_domains c.args.world.now.setup.domains))) (sym next) ∙ so_far.by_line)
+    ap (λ (s : Setup). comes_by_line false (chip_domains s.domains) c.in-Some.step) so_far.setup
+    ∙ first_so _ _ (ap (list_all (comes_by_line false (chip_domains c.args.world.now.setup.domains))) (sym next) ∙ so_far.by_line)

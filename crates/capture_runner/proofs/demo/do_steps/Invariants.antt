@@ -8,7 +8,7 @@ use Rattle.capture_runner.proofs.demo.do_steps.Given as goal
 abbrev pub invariant-loop-step : goal.invariant-loop-step
 invariant-loop-step g l = record {
   parts : l.fn.steps.items ≡ l.yielded ++ l.step-iterator.rest.items;
-  by_line : list_all (comes_by_line (chip_domains l.fn.world.setup.domains)) l.step-iterator.rest.items ≡ true;
+  by_line : list_all (comes_by_line false (chip_domains l.fn.world.setup.domains)) l.step-iterator.rest.items ≡ true;
   setup : l.world.setup ≡ l.fn.world.setup;
   runs : RunsOn l.fn.world l.fn.tally l.yielded l.world l.tally;
 }

@@ -13,7 +13,7 @@ loop-step-preserved g c =
     let so_far = c.loop-step.invariant in
     let next = (rw c.in-Some.is at c.next.ensures.steps).0 in record {
       parts = so_far.parts ∙ ap (λ (l : List Step). c.loop-step.yielded ++ l) next ∙ sym (append_assoc c.loop-step.yielded (c.in-Some.step ∷ []) c.next.new.self.rest.items);
-      by_line = second_so _ _ (ap (list_all (comes_by_line (chips_of c.args.session.now.roster.ports))) (sym next) ∙ so_far.by_line);
+      by_line = second_so _ _ (ap (list_all (comes_by_line false (chips_of c.args.session.now.roster.ports))) (sym next) ∙ so_far.by_line);
       roster = c.in_ok-step.ensures.does.roster ∙ so_far.roster;
       ready = c.in_ok-step.ensures.ready;
       does = does_more _ _ _ _ _ _ _ _ _ _ _ _ so_far.does c.in_ok-put_if_full.ensures.moved c.in_ok-step.ensures.does;
@@ -25,8 +25,8 @@ step-requires-clause-by_line g c =
     let so_far = c.loop-step.invariant in
     let next = (rw c.in-Some.is at c.next.ensures.steps).0 in
     let chips = λ (r : Roster). chips_of r.ports in
-    ap (λ (l : List ℕ). comes_by_line l c.in-Some.step) (ap chips so_far.roster)
-    ∙ first_so _ _ (ap (list_all (comes_by_line (chips_of c.args.session.now.roster.ports))) (sym next) ∙ so_far.by_line)
+    ap (λ (l : List ℕ). comes_by_line false l c.in-Some.step) (ap chips so_far.roster)
+    ∙ first_so _ _ (ap (list_all (comes_by_line false (chips_of c.args.session.now.roster.ports))) (sym next) ∙ so_far.by_line)
 
 pub step-requires-clause-behind : goal.step-requires-clause-behind
 step-requires-clause-behind g c =

@@ -9,7 +9,7 @@ use Rattle.capture_runner.proofs.replay.do_steps.Given as goal
 abbrev pub invariant-loop-step : goal.invariant-loop-step
 invariant-loop-step g l = record {
   parts : l.fn.steps.items ≡ l.yielded ++ l.step-iterator.rest.items;
-  by_line : list_all (comes_by_line (chips_of l.fn.session.roster.ports)) l.step-iterator.rest.items ≡ true;
+  by_line : list_all (comes_by_line false (chips_of l.fn.session.roster.ports)) l.step-iterator.rest.items ≡ true;
   roster : l.session.roster ≡ l.fn.session.roster;
   ready : IsReady l.session.roster l.session.world;
   does : DoesAll l.fn.session l.yielded l.session (g.K.Sink.taken l.fn.sink) (g.K.Sink.taken l.sink) (string_bytes l.fn.output.text) (string_bytes l.output.text);

@@ -6,7 +6,7 @@ use Rattle.br_model.specs.Program.Runs.{setup_of}
 use Rattle.br_model.specs.Table.Domains.{chip_domains}
 use Rattle.br_model.specs.Text.Roster.{chips_of}
 use Rattle.br_model.proofs.DeclaredChips.{declared-chips}
-use Rattle.capture_runner.specs.Session.{IsReady}
+use Rattle.capture_runner.specs.Session.{HasChips}
 use Rattle.capture_runner.proofs.Ready.{comes_here, ready_after}
 use Rattle.capture_runner.proofs.session.Session.begin.Goals as goal
 
@@ -25,7 +25,7 @@ returns-in-None-clause-ready g c =
     ap (λ (w : World). chip_domains w.setup.domains) c.in_ok-world.ensures ∙ ap chip_domains c.domains.ensures.value
     ∙ declared-chips roster.edition roster.ports c.domains.ensures.declared in
     let ready = ready_after roster c.in_ok-world.world c.step.new.self c.args.step chips c.requires.behind (ap (λ (x : Stepped). x.0) c.in-Ok.ensures.so) in
-    subst (λ (o : Option World). IsReady roster o) (sym c.replace.ensures.after) ready
+    (c.requires.replays, subst (λ (o : Option World). HasChips roster o) (sym c.replace.ensures.after) ready)
 
 pub returns-in-None-clause-does : goal.returns-in-None-clause-does
 returns-in-None-clause-does g c =
