@@ -151,6 +151,7 @@ impl Session {
 
     /// Does the first step, in a new world. A world is large, so its making has a function of its own: each call pays for the room
     /// of its locals.
+    #[inline(never)]
     fn begin<R: Wait>(&mut self, rt: &R, alloc: Global, step: Step) -> Result<(), NoMemory>
         requires first { self.old.world ≡ None }
         requires replays { self.old.roster.check ≡ false }
