@@ -1,5 +1,5 @@
 //! The run of a generated scenario, of which lines are counted alone.
-ghost use Rattle.std.specs.Prelude.{◌≡◌, ◌+◌, ◌≤◌, ◌∷◌, ◌++◌, [], true, IfOk, OnOk, codes, decimal, string_bytes};
+ghost use Rattle.std.specs.Prelude.{◌≡◌, ◌+◌, ◌≤◌, ◌∷◌, ◌++◌, [], true, false, IfOk, OnOk, codes, decimal, string_bytes};
 ghost use Rattle.std.specs.List.{list_all};
 ghost use Rattle.br_model.specs.Program.Generator.{made_scenario, most_frames, ports as made_ports};
 ghost use Rattle.br_model.specs.Program.Runs.{setup_of};

@@ -1,4 +1,4 @@
-use Rattle.std.proofs.Common.{[], ◌∷◌, ◌++◌, List, refl, sym, ap, ◌∙◌, append_assoc, rules}
+use Rattle.std.proofs.Common.{false, [], ◌∷◌, ◌++◌, List, refl, sym, ap, ◌∙◌, append_assoc, rules}
 use Rattle.std.specs.Cmp.{first_so, second_so}
 use Rattle.std.specs.List.{list_all}
 use Rattle.br_model.specs.declared.steps.Step.{Step}

@@ -1,4 +1,4 @@
-use Rattle.std.proofs.Common.{◌≡◌, ◌++◌, true}
+use Rattle.std.proofs.Common.{◌≡◌, ◌++◌, true, false}
 use Rattle.std.specs.List.{list_all}
 use Rattle.capture_runner.specs.Counting.{RunsOn}
 use Rattle.br_model.specs.Table.Domains.{chip_domains}

@@ -1,4 +1,4 @@
-use Rattle.std.proofs.Common.{◌≡◌, ◌≤◌, ◌++◌, true, string_bytes}
+use Rattle.std.proofs.Common.{◌≡◌, ◌≤◌, ◌++◌, true, false, string_bytes}
 use Rattle.std.specs.List.{list_all}
 use Rattle.capture_runner.specs.Halting.{DoesAll}
 use Rattle.br_model.specs.Text.LineForms.{comes_by_line}
