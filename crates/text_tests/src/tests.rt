@@ -1,0 +1,4 @@
+//! Tests by crate.
+mod commands;
+mod scenario;
+mod transcript;
