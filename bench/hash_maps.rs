@@ -1,4 +1,4 @@
-//! The loops of `bench/fdb` over Rust's own `HashMap`, with its default hasher (SipHash) and with the hash of
+//! The loops of `bench/fdb.patch` over Rust's own `HashMap`, with its default hasher (SipHash) and with the hash of
 //! `open_addressing`, and over the same open addressing by hand:
 //! `rustc -C opt-level=3 -C target-cpu=x86-64-v2 bench/hash_maps.rs -o /tmp/hash_maps && /tmp/hash_maps`
 use std::collections::HashMap;
