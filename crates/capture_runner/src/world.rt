@@ -226,10 +226,20 @@ impl World {
 
     /// The frame that is held under this id is sent as it was decided. The lines of the step are added.
     #[tactic(auto, using(crate::proofs::Worlds::world_told, crate::proofs::Worlds::world_tells))]
-    fn post(&mut self, alloc: Global, id: u32, lines: &mut Lines) -> Result<(), NoMemory>
-        ensures { OnOk result (Added (Tells self.old (Post id None) self.new) lines.old.lines lines.new.lines) }
+    fn post(
+        &mut self,
+        alloc: Global,
+        id: u32,
+        point: Option<u32>,
+        lines: &mut Lines,
+    ) -> Result<(), NoMemory>
+        requires { comes_by_line false (chip_domains self.old.setup.domains) (Post id point) ≡ true }
+        ensures { OnOk result (Added (Tells self.old (Post id point) self.new) lines.old.lines lines.new.lines) }
     {
-        post(alloc, &mut self.plane, &mut self.verdicts, id, lines)
+        match point {
+            None => post(alloc, &mut self.plane, &mut self.verdicts, id, lines),
+            Some(_) => unreachable!(),
+        }
     }
 
     /// The chip of the domain applies the update whose turn it is. The lines of the step are added.
@@ -292,8 +302,7 @@ impl World {
             Step::Now(moment) => self.moment(alloc, moment, lines),
             Step::Serve => self.serve(alloc, lines),
             Step::Hold => self.hold(alloc, lines),
-            Step::Post { id, point: None } => self.post(alloc, id, lines),
-            Step::Post { point: Some(_), .. } => unreachable!(),
+            Step::Post { id, point } => self.post(alloc, id, point, lines),
             Step::Turn(dom) => self.turn(dom, lines),
             Step::Report(dom) => self.report(alloc, dom, lines),
             Step::Sweep(dom) => self.sweep(alloc, dom, lines),
