@@ -27,6 +27,8 @@ impl Log {
         requires { vec_len self.old.notices < vec_capacity self.old.notices }
         ensures { self.new.notices.items ≡ self.old.notices.items ++ n ∷ [] }
     {
+        // The check of `push` wants these types named here.
+        let _none: Option<(Object, Attribute)> = None;
         match self.notices.push(n) {
             Ok(()) => {}
             Err(_) => unreachable!(),
