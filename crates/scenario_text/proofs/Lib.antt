@@ -2,7 +2,6 @@ pub mod Bounded
 pub mod Commands
 pub mod Generated
 pub mod Joins
-pub mod Known
 pub mod Listed
 pub mod Pairs
 pub mod PlainCommands

@@ -1,10 +1,8 @@
 //! A line as an item, and the roster after it.
-ghost use Rattle.std.specs.Prelude.{◌≡◌, ◌⊎◌, true, Ok, Err, IfOk, IfErr, OnErr};
+ghost use Rattle.std.specs.Prelude.{◌≡◌, ◌⊎◌, true, Err, IfOk, IfErr, OnErr};
 ghost use Rattle.br_model.specs.declared.scenario.LineWhy.TheVariants.{NoMemory as NoMemoryLeft};
-ghost use Rattle.br_model.specs.declared.steps.Step.{Step};
 ghost use Rattle.br_model.specs.Text.LineForms.{line_says, all_say};
 ghost use Rattle.br_model.specs.Text.Scenario.{is_end};
-ghost use Rattle.br_model.specs.Text.ScenarioText.{names_declared};
 ghost use Rattle.br_model.specs.Text.Words.{words};
 ghost use Rattle.bridge_command.specs.Seen.{OrNoMemory};
 ghost use Rattle.scenario_text.specs.Items.{Reads, comes_in_place, fits_roster, is_in_range};
@@ -19,12 +17,11 @@ use std::alloc::Global;
 
 /// Reads one line, without its line feed and within the limit of its length, and takes the roster on.
 ///
-/// `LineWhy::NoMemory` is no cause: there was no memory for a frame's bytes or a port's name. A step names only declared ports.
+/// `LineWhy::NoMemory` is no cause: there was no memory for a frame's bytes or a port's name.
 pub fn read_line(alloc: Global, b: &[u8], r: &mut Roster) -> Result<Item, LineWhy>
     ensures read { IfOk result (Reads r.old r.new b.now) }
     ensures early { IfOk result (λ item. comes_in_place r.old.place item ≡ true) }
     ensures range { IfOk result (λ item. is_in_range r.old item ≡ true) }
-    ensures known { (step : Step) → result ≡ Ok (Item.Step step) → names_declared r.new.ports step ≡ true }
     ensures bad { IfErr result (λ why. (why ≡ NoMemoryLeft) ⊎ (line_says r.old b.now ≡ Err why)) }
     ensures unchanged { OnErr result (r.new ≡ r.old) }
 {
