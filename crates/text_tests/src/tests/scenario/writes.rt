@@ -1,10 +1,11 @@
 //! Steps with their lines.
-ghost use Rattle.std.specs.Prelude.{◌≡◌, true};
+ghost use Rattle.std.specs.Prelude.{◌≡◌};
 ghost use Rattle.br_model.specs.Text.ScenarioText.{names_declared};
 
 use br_model::bytes::Bytes;
+use br_model::change::Kind;
 use br_model::scenario::Item;
-use br_model::steps::Step;
+use br_model::steps::{Command, Step};
 use bridge_command::Roster;
 use scenario_text::{read_line, write_line};
 use std::alloc::Global;
@@ -55,14 +56,63 @@ const FRAMES: &[(&[u8], &str)] = &[
     (&[0xFF, 0x02, 0x00, 0x0A, 0xB5], "rx 254 ff02000ab5\n"),
 ];
 
-/// Whether the step is written so.
-fn is_written(alloc: Global, step: &Step, roster: &Roster, line: &str) -> bool
-    requires { names_declared roster.now.ports step.now ≡ true }
+/// Whether a line gives the step, and the ports that it names are declared.
+fn are_declared(step: &Step, roster: &Roster) -> bool
+    ensures { result ≡ names_declared roster.now.ports step.now }
 {
-    match write_line(alloc, step, roster) {
-        Ok(written) => written.as_slice() == line.as_bytes(),
-        Err(_) => false,
+    match step {
+        Step::Rx { port, bytes: _ } => roster.name(*port).is_some(),
+        Step::Cmd(command) => match *command {
+            Command::PortUp(port)
+            | Command::PortDown(port)
+            | Command::Link { port, .. }
+            | Command::Cost { port, .. }
+            | Command::PortPriority { port, .. } => roster.name(port).is_some(),
+            Command::VlanAdd { port, .. }
+            | Command::VlanDel { port, .. }
+            | Command::MdbAdd { port, .. }
+            | Command::MdbDel { port, .. } => port.is_host() || roster.name(port).is_some(),
+            Command::FdbAdd { port, kind, .. } => match kind {
+                Kind::Local => port.is_host(),
+                Kind::Static | Kind::Extern => roster.name(port).is_some(),
+                Kind::Learned => false,
+            },
+            Command::FdbDel { .. } | Command::Ageing(_) => true,
+            Command::Stp(_) | Command::Priority(_) | Command::Snooping(_) => true,
+        },
+        Step::Now(_) | Step::Serve | Step::Publish => true,
+        Step::Hold | Step::Post { .. } => true,
+        Step::Turn(_) | Step::Report(_) | Step::Sweep(_) => true,
     }
+}
+
+/// Whether the step is written so; a line gives it, and the ports that it names are declared.
+fn is_written(alloc: Global, step: &Step, roster: &Roster, line: &str) -> bool {
+    are_declared(step, roster)
+        && match write_line(alloc, step, roster) {
+            Ok(written) => written.as_slice() == line.as_bytes(),
+            Err(_) => false,
+        }
+}
+
+/// Whether the step that the line says is written as the line.
+fn is_written_back(alloc: Global, line: &str, roster: &mut Roster) -> bool {
+    let read = line.strip_suffix('\n').unwrap_or(line);
+    match read_line(alloc, read.as_bytes(), roster) {
+        Ok(Item::Step(step)) => is_written(alloc, &step, roster, line),
+        _ => false,
+    }
+}
+
+/// A roster with the port `p-1`, whose number is 254, and a port of the fourth chip.
+fn roster(alloc: Global) -> Result<Roster, Fail> {
+    let mut roster = Roster::make(alloc, false)?;
+    for line in DECLARATIONS {
+        if read_line(alloc, line.as_bytes(), &mut roster).is_err() {
+            return Err(Fail::new(line));
+        }
+    }
+    Ok(roster)
 }
 
 /// Whether the step that the line says is written as the line.
