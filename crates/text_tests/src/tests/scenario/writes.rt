@@ -115,26 +115,6 @@ fn roster(alloc: Global) -> Result<Roster, Fail> {
     Ok(roster)
 }
 
-/// Whether the step that the line says is written as the line.
-fn is_written_back(alloc: Global, line: &str, roster: &mut Roster) -> bool {
-    let read = line.strip_suffix('\n').unwrap_or(line);
-    match read_line(alloc, read.as_bytes(), roster) {
-        Ok(Item::Step(step)) => is_written(alloc, &step, roster, line),
-        _ => false,
-    }
-}
-
-/// A roster with the port `p-1`, whose number is 254, and a port of the fourth chip.
-fn roster(alloc: Global) -> Result<Roster, Fail> {
-    let mut roster = Roster::make(alloc, false)?;
-    for line in DECLARATIONS {
-        if read_line(alloc, line.as_bytes(), &mut roster).is_err() {
-            return Err(Fail::new(line));
-        }
-    }
-    Ok(roster)
-}
-
 #[test]
 fn steps_as_they_were_read(rt: HostRuntime) -> Result<(), Fail> {
     let alloc = rt.alloc();
