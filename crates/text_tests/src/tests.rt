@@ -1,4 +1,0 @@
-//! Tests by crate.
-mod commands;
-mod scenario;
-mod transcript;
