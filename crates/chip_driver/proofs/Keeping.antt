@@ -15,7 +15,7 @@ use Rattle.chip_driver.specs.declared.fans.Fan.{Fan}
 use Rattle.chip_driver.specs.declared.shadow.Shadow.{Shadow}
 use Rattle.chip_driver.specs.declared.shares.Shares.{Shares}
 use Rattle.chip_driver.specs.declared.shares.Told.{Told}
-use Rattle.chip_driver.specs.Joined.{has_vlan, Switches}
+use Rattle.vlan_groups.specs.Joined.{has_vlan, Switches}
 use Rattle.chip_tables.specs.Flags.{row_has_flag}
 use Rattle.chip_driver.specs.Shadows.{Has, switched, row_forwards, row_floods, is_target, share_of, fan_to, fan_made}
 use Rattle.chip_driver.specs.Shares.{shares_of, told_of, Tells}

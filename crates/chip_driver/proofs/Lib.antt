@@ -4,7 +4,6 @@ pub mod FanRows
 pub mod Refreshing
 pub mod Keeping
 pub mod TableLaws
-pub mod Places
 pub mod Starting
 pub mod GroupRows
 pub mod GroupLoop

@@ -4,14 +4,11 @@ use Rattle.std.specs.Prelude.{◌==◌}
 use Rattle.std.proofs.lemmas.Bool.{ne_eqb}
 use Rattle.std.proofs.lemmas.Bool.Decides.{eqb_tells}
 use Rattle.br_model.specs.Table.Domains.{port_places}
-use Rattle.port_sets.specs.Numbers.{has_number, numbers_below}
-use Rattle.port_sets.proofs.Numbers.{has-below, same_below}
+use Rattle.port_sets.specs.Numbers.{has_number}
+use Rattle.port_sets.proofs.Numbers.{same_below}
+use Rattle.vlan_groups.proofs.UsedSets.{has-numbers}
 use Rattle.chip_tables.specs.Stands.{ports_where}
 use Rattle.chip_driver.specs.Shadows.{Has}
-
--- a set of the numbers that pass has just these
-pub has-numbers : (most : ℕ) (set : List ℕ) (test : ℕ → Bool) → set ≡ numbers_below most test → (n : ℕ) → n < most → has_number set n ≡ test n
-has-numbers most set test is n low = ap (λ (ns : List ℕ). has_number ns n) is ∙ has-below test most n low
 
 -- a set of the ports that pass has just these
 pub has-where : (set : List ℕ) (test : ℕ → Bool) → set ≡ ports_where test → Has set test

@@ -27,7 +27,7 @@ use Rattle.chip_driver.specs.declared.fans.Fan.{Fan}
 use Rattle.chip_driver.specs.declared.fans.Fan.TheVariants.{Floods, Routers}
 use Rattle.chip_driver.specs.declared.shadow.Shadow.{Shadow}
 use Rattle.chip_driver.specs.Drives.{Drives}
-use Rattle.chip_driver.specs.Joined.{block_count}
+use Rattle.vlan_groups.specs.Joined.{block_count}
 use Rattle.chip_driver.specs.Making.{idle, MarksOwn, SwitchesTraps}
 use Rattle.chip_tables.specs.Flags.{row_has_flag}
 use Rattle.chip_driver.specs.Shadows.{row_forwards, row_floods, floods_to, routes_to, opens, frees, fan_to, fan_made, switched_row}

@@ -1,9 +1,7 @@
-pub mod Joined
 pub mod Shadows
 pub mod Settled
 pub mod Making
 pub mod GroupRows
 pub mod Drives
-pub mod UsedSets
 pub mod Shares
 pub mod Keeping

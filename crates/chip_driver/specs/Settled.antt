@@ -10,7 +10,7 @@ use Rattle.chip_tables.specs.Stands.{IsVid}
 use Rattle.chip_driver.specs.declared.fans.Fan.{Fan}
 use Rattle.chip_driver.specs.declared.fans.Fan.TheVariants.{Floods, Routers}
 use Rattle.chip_driver.specs.declared.shadow.Shadow.{Shadow}
-use Rattle.chip_driver.specs.Joined.{has_vlan}
+use Rattle.vlan_groups.specs.Joined.{has_vlan}
 use Rattle.chip_tables.specs.Flags.{row_has_flag}
 use Rattle.chip_driver.specs.Shadows.{Has, switched, row_forwards, row_floods, fan_made}
 

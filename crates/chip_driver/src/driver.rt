@@ -7,7 +7,6 @@ ghost use Rattle.br_model.specs.declared.change.Change.TheVariants as changes;
 ghost use Rattle.chip_tables.specs.Stands.{address_wanted};
 ghost use Rattle.chip_driver.specs.Drives.{Drives, IsTaken};
 
-use crate::joined::Joined;
 use crate::kept::Kept;
 use crate::shadow::Shadow;
 use crate::{making, pvids, switches};
@@ -20,6 +19,7 @@ use mdb_snoop::Groups;
 use std::alloc::Global;
 use std::marker::Model;
 use switchdev_notify::{Attribute, Object, SwitchOps};
+use vlan_groups::joined::Joined;
 
 /// A chip's tables, and what the driver keeps beside them. Contracts see the chip's domain, the rows, the ports behind which a
 /// router is, and the members of groups.

@@ -1,17 +1,17 @@
 //! The rows of floods and of routers.
 ghost use Rattle.std.specs.Prelude.{◌≡◌, ◌==◌, ◌<◌, ◌/◌, ◌%◌, ◌&&◌};
 ghost use Rattle.port_sets.specs.Numbers.{has_number};
-ghost use Rattle.chip_driver.specs.Joined.{has_vlan};
+ghost use Rattle.vlan_groups.specs.Joined.{has_vlan};
 ghost use Rattle.chip_driver.specs.Shadows.{floods_to, routes_to, fan_to, fan_made};
 ghost use Rattle.chip_driver.specs.Shares.{told_of};
 ghost use Rattle.chip_driver.specs.Settled.{same_fan, WritesFan, Refreshes};
 
-use crate::joined::{Joined, VlanBlock};
 use crate::shadow::Shadow;
 use crate::shares::Told;
 use br_model::numbers::{Port, Vid};
 use chip_tables::{FanRow, Flood, Tables};
 use port_sets::Ports;
+use vlan_groups::joined::{Joined, VlanBlock};
 
 /// A row that each VLAN has: where a flood goes, or what goes to the routers.
 #[derive(Clone, Copy, Debug)]

@@ -8,7 +8,6 @@ ghost use Rattle.chip_tables.specs.Rows.{vlan_at, port_at, WritesPort, WritesVla
 ghost use Rattle.chip_driver.specs.Shadows.{switched, switched_row};
 ghost use Rattle.chip_driver.specs.Keeping.{IsKept, IsRemade};
 
-use crate::joined::Joined;
 use crate::shadow::{Shadow, switched};
 use crate::shares::Shares;
 use crate::{fans, groups};
@@ -16,6 +15,7 @@ use br_model::group::Group;
 use br_model::numbers::{Port, Vid};
 use chip_tables::{PortRow, Tables, VlanRow};
 use mdb_snoop::Groups;
+use vlan_groups::joined::Joined;
 
 /// The chip's tables, and what the driver keeps beside them.
 #[derive(Drop)]

@@ -4,7 +4,6 @@
 pub mod driver;
 pub mod fans;
 mod groups;
-pub mod joined;
 pub mod kept;
 mod making;
 mod pvids;

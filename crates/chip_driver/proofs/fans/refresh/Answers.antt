@@ -1,4 +1,4 @@
-use Rattle.chip_driver.specs.Joined.{has_vlan}
+use Rattle.vlan_groups.specs.Joined.{has_vlan}
 use Rattle.chip_driver.specs.Shares.{told_of}
 use Rattle.chip_driver.proofs.Refreshing.{refreshed_none, none_told}
 use Rattle.chip_driver.proofs.fans.refresh.Goals as goal

@@ -3,7 +3,7 @@ use Rattle.br_model.specs.Table.Domains.{port_places}
 use Rattle.br_model.specs.Table.Groups.{Membership}
 use Rattle.chip_tables.specs.Writing.{IsBlank}
 use Rattle.chip_driver.specs.declared.shadow.Shadow.{Shadow}
-use Rattle.chip_driver.specs.Joined.{block_count}
+use Rattle.vlan_groups.specs.Joined.{block_count}
 use Rattle.chip_driver.specs.Making.{MarksOwn}
 use Rattle.chip_driver.proofs.Starting.{settled_start, drives_start, follow_made, host_off}
 use Rattle.chip_driver.proofs.driver.Driver.make.Goals as goal

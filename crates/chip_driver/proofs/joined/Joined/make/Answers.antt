@@ -1,5 +1,0 @@
-use Rattle.chip_driver.proofs.Seen.{none_used}
-use Rattle.chip_driver.proofs.joined.Joined.make.Goals as goal
-
-pub invariant_of-result : goal.invariant_of-result
-invariant_of-result c = none_used c.in_ok-blocks.blocks.items c.in_ok-used.used.items c.in_ok-blocks.ensures c.in_ok-used.ensures
