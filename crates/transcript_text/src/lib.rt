@@ -2,6 +2,7 @@
 #![tactic(auto)]
 
 mod causes;
+mod digits;
 mod fields;
 mod frames;
 mod line_end;

@@ -3,9 +3,11 @@ ghost use Rattle.std.specs.Prelude.{◌≡◌, ◌+◌, ◌≤◌, ◌++◌, [],
 ghost use Rattle.std.specs.Str.{IsUtf8};
 ghost use Rattle.std.specs.String.{string_bytes};
 
+use crate::digits::Digits;
 use br_model::NoMemory;
 use itoa::write_digits;
 use std::marker::Model;
+use std::simd::Simd;
 use std::str;
 
 /// The most bytes of a line that has no frame.
@@ -43,6 +45,21 @@ pub(crate) fn put_before(bytes: &mut [u8], end: usize, word: &[u8]) -> usize
 {
     let from = end - word.len();
     bytes[from..end].copy_from_slice(word);
+    from
+}
+
+/// The same for a word whose length is known, in one store.
+#[inline(always)]
+pub(crate) fn put_chunk<const N: usize>(bytes: &mut [u8], end: usize, word: &[u8]) -> usize
+    requires whole { length word.now ≡ N }
+    requires fits { N ≤ end }
+    requires inside { end ≤ length bytes.old }
+    ensures from { result + N ≡ end }
+    ensures written { drop result bytes.new ≡ word.now ++ drop end bytes.old }
+    ensures len { length bytes.new ≡ length bytes.old }
+{
+    let from = end - N;
+    Simd::<u8, N>::from_slice(word).copy_to_slice(&mut bytes[from..]);
     from
 }
 
@@ -90,6 +107,16 @@ impl LineEnd {
         self.from = put_number(&mut self.bytes, self.from, number);
     }
 
+    /// A number in front of what stands there, by the digits of those near it.
+    #[inline(always)]
+    pub(crate) fn number_near(&mut self, number: u32, digits: &mut Digits)
+        requires { 10 + length self.old ≤ 64 }
+        ensures text { self.new ≡ decimal number ++ self.old }
+        ensures len { length self.new ≤ 10 + length self.old }
+    {
+        self.from = digits.put(&mut self.bytes, self.from, number);
+    }
+
     /// Puts it before this place of another text, and answers where it begins. 16 bytes are written there, whatever it is.
     #[inline(always)]
     pub(crate) fn copy_before(&self, text: &mut [u8], end: usize) -> usize
@@ -100,7 +127,7 @@ impl LineEnd {
         ensures written { drop result text.new ≡ self.now ++ drop end text.old }
         ensures utf8 { IsUtf8 self.now }
     {
-        put_before(text, end, &self.bytes[LAST..]);
+        put_chunk::<16>(text, end, &self.bytes[LAST..]);
         end - (ROOM - self.from)
     }
 

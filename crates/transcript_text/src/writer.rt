@@ -5,6 +5,7 @@ ghost use Rattle.br_model.specs.Text.Transcript.{line_text, text, fault_word, cl
 ghost use Rattle.transcript_lines.specs.Rows.{expand_row, sent_lines};
 ghost use Rattle.transcript_text.specs.Extends.{Extends};
 
+use crate::digits::Digits;
 use crate::frames::FrameLine;
 use crate::line_end::LineEnd;
 use br_model::NoMemory;
@@ -17,11 +18,16 @@ use port_sets::Ports;
 use std::alloc::Global;
 use transcript_lines::{Lines, Row};
 
-/// Writes lines. The digits of the frame at hand are kept, since it leaves by many ports: without its tag, and with it.
+/// Writes lines. The digits of the frame at hand are kept, since it leaves by many ports: without its tag, and with it. Those of
+/// numbers are kept for the numbers near them.
 #[derive(Drop)]
 pub struct Writer {
     plain: FrameLine,
     tagged: FrameLine,
+    ids: Digits,
+    steps: Digits,
+    changes: Digits,
+    applied: Digits,
 }
 
 impl Writer {
@@ -30,6 +36,10 @@ impl Writer {
         Writer {
             plain: FrameLine::new(alloc),
             tagged: FrameLine::new(alloc),
+            ids: Digits::new(),
+            steps: Digits::new(),
+            changes: Digits::new(),
+            applied: Digits::new(),
         }
     }
 
@@ -44,15 +54,15 @@ impl Writer {
                 changes,
                 applied,
                 class,
-            } => append_chip(*id, *changes, *applied, *class, to),
+            } => self.append_chip(*id, *changes, *applied, *class, to),
             Line::Unread { id, why } => append_unread(*id, *why, to),
-            Line::Soft { id, point } => append_soft(*id, *point, to),
+            Line::Soft { id, point } => self.append_soft(*id, *point, to),
             Line::Held { id, floor } => append_held(*id, *floor, to),
             Line::Tx { id, port, bytes } => self.append_tx(*id, *port, bytes, to),
             Line::Ctl { port, bytes } => self.append_ctl(*port, bytes.as_slice(), to),
             Line::Overrun { id } => append_overrun(*id, to),
-            Line::Done { step, changes } => append_done(*step, *changes, to),
-            Line::Refused { step, refusal } => append_refused(*step, *refusal, to),
+            Line::Done { step, changes } => self.append_done(*step, *changes, to),
+            Line::Refused { step, refusal } => self.append_refused(*step, *refusal, to),
             Line::End {
                 steps,
                 changes,
@@ -110,7 +120,7 @@ impl Writer {
     {
         self.plain.forget();
         self.tagged.forget();
-        let start = tx_start(id);
+        let start = tx_start(id, &mut self.ids);
         for number in ports.iter() {
             if untagged.has(number) {
                 self.plain.append(&start, number, plain, to)?;
@@ -119,6 +129,73 @@ impl Writer {
             }
         }
         Ok(())
+    }
+
+    fn append_chip(
+        &mut self,
+        id: u32,
+        changes: u32,
+        applied: u32,
+        class: Class,
+        to: &mut String,
+    ) -> Result<(), NoMemory>
+        ensures ok { OnOk result (string_bytes to.new ≡ string_bytes to.old ++ line_text (Line.Chip id changes applied class)) }
+        ensures err { OnErr result (string_bytes to.new ≡ string_bytes to.old) }
+    {
+        let mut line = LineEnd::new();
+        put_class(class, &mut line);
+        line.word(" ");
+        line.number_near(applied, &mut self.applied);
+        line.word(" ");
+        line.number_near(changes, &mut self.changes);
+        line.word(" at ");
+        line.number_near(id, &mut self.ids);
+        line.word("chip ");
+        line.append_to(to)
+    }
+
+    fn append_soft(&mut self, id: u32, point: u32, to: &mut String) -> Result<(), NoMemory>
+        ensures ok { OnOk result (string_bytes to.new ≡ string_bytes to.old ++ line_text (Line.Soft id point)) }
+        ensures err { OnErr result (string_bytes to.new ≡ string_bytes to.old) }
+    {
+        let mut line = LineEnd::new();
+        line.word("\n");
+        line.number_near(point, &mut self.changes);
+        line.word(" at ");
+        line.number_near(id, &mut self.ids);
+        line.word("soft ");
+        line.append_to(to)
+    }
+
+    fn append_done(&mut self, step: u32, changes: u32, to: &mut String) -> Result<(), NoMemory>
+        ensures ok { OnOk result (string_bytes to.new ≡ string_bytes to.old ++ line_text (Line.Done step changes)) }
+        ensures err { OnErr result (string_bytes to.new ≡ string_bytes to.old) }
+    {
+        let mut line = LineEnd::new();
+        line.word("\n");
+        line.number(changes);
+        line.word(" ");
+        line.number_near(step, &mut self.steps);
+        line.word("ok ");
+        line.append_to(to)
+    }
+
+    fn append_refused(
+        &mut self,
+        step: u32,
+        refusal: Refusal,
+        to: &mut String,
+    ) -> Result<(), NoMemory>
+        ensures ok { OnOk result (string_bytes to.new ≡ string_bytes to.old ++ line_text (Line.Refused step refusal)) }
+        ensures err { OnErr result (string_bytes to.new ≡ string_bytes to.old) }
+    {
+        let mut line = LineEnd::new();
+        line.word("\n");
+        line.number(refusal.number());
+        line.word(" ");
+        line.number_near(step, &mut self.steps);
+        line.word("refused ");
+        line.append_to(to)
     }
 
     fn append_tx(
@@ -131,9 +208,10 @@ impl Writer {
         ensures ok { OnOk result (string_bytes to.new ≡ string_bytes to.old ++ line_text (Line.Tx id port bytes.now)) }
         ensures err { OnErr result (Extends (string_bytes to.old) (string_bytes to.new)) }
     {
+        let start = tx_start(id, &mut self.ids);
         self.plain.forget();
         self.plain
-            .append(&tx_start(id), port.number(), bytes.as_slice(), to)
+            .append(&start, port.number(), bytes.as_slice(), to)
     }
 
     fn append_ctl(&mut self, port: Port, bytes: &[u8], to: &mut String) -> Result<(), NoMemory>
@@ -148,50 +226,29 @@ impl Writer {
 }
 
 /// `tx ID `, the start of the lines of a frame that leaves.
-fn tx_start(id: u32) -> LineEnd
+fn tx_start(id: u32, ids: &mut Digits) -> LineEnd
     ensures text { result ≡ codes "tx " ++ (decimal id ++ 32 ∷ []) }
     ensures short { length result ≤ 16 }
 {
     let mut start = LineEnd::new();
     start.word(" ");
-    start.number(id);
+    start.number_near(id, ids);
     start.word("tx ");
     start
 }
 
 /// The word with the line feed.
-fn class_text(class: Class) -> &'static str
-    ensures text { result.now ≡ class_word class ++ 10 ∷ [] }
-    ensures short { length result.now ≤ 8 }
+fn put_class(class: Class, line: &mut LineEnd)
+    requires { line.old ≡ [] }
+    ensures text { line.new ≡ class_word class ++ 10 ∷ [] }
+    ensures short { length line.new ≤ 8 }
 {
     match class {
-        Class::Drop => "drop\n",
-        Class::Trap => "trap\n",
-        Class::Copy => "copy\n",
-        Class::Forward => "forward\n",
+        Class::Drop => line.word("drop\n"),
+        Class::Trap => line.word("trap\n"),
+        Class::Copy => line.word("copy\n"),
+        Class::Forward => line.word("forward\n"),
     }
-}
-
-fn append_chip(
-    id: u32,
-    changes: u32,
-    applied: u32,
-    class: Class,
-    to: &mut String,
-) -> Result<(), NoMemory>
-    ensures ok { OnOk result (string_bytes to.new ≡ string_bytes to.old ++ line_text (Line.Chip id changes applied class)) }
-    ensures err { OnErr result (string_bytes to.new ≡ string_bytes to.old) }
-{
-    let mut line = LineEnd::new();
-    line.word(class_text(class));
-    line.word(" ");
-    line.number(applied);
-    line.word(" ");
-    line.number(changes);
-    line.word(" at ");
-    line.number(id);
-    line.word("chip ");
-    line.append_to(to)
 }
 
 /// The word with the line feed.
@@ -218,19 +275,6 @@ fn append_unread(id: u32, why: FrameFault, to: &mut String) -> Result<(), NoMemo
     line.append_to(to)
 }
 
-fn append_soft(id: u32, point: u32, to: &mut String) -> Result<(), NoMemory>
-    ensures ok { OnOk result (string_bytes to.new ≡ string_bytes to.old ++ line_text (Line.Soft id point)) }
-    ensures err { OnErr result (string_bytes to.new ≡ string_bytes to.old) }
-{
-    let mut line = LineEnd::new();
-    line.word("\n");
-    line.number(point);
-    line.word(" at ");
-    line.number(id);
-    line.word("soft ");
-    line.append_to(to)
-}
-
 fn append_held(id: u32, floor: u32, to: &mut String) -> Result<(), NoMemory>
     ensures ok { OnOk result (string_bytes to.new ≡ string_bytes to.old ++ line_text (Line.Held id floor)) }
     ensures err { OnErr result (string_bytes to.new ≡ string_bytes to.old) }
@@ -252,32 +296,6 @@ fn append_overrun(id: u32, to: &mut String) -> Result<(), NoMemory>
     line.word("\n");
     line.number(id);
     line.word("overrun ");
-    line.append_to(to)
-}
-
-fn append_done(step: u32, changes: u32, to: &mut String) -> Result<(), NoMemory>
-    ensures ok { OnOk result (string_bytes to.new ≡ string_bytes to.old ++ line_text (Line.Done step changes)) }
-    ensures err { OnErr result (string_bytes to.new ≡ string_bytes to.old) }
-{
-    let mut line = LineEnd::new();
-    line.word("\n");
-    line.number(changes);
-    line.word(" ");
-    line.number(step);
-    line.word("ok ");
-    line.append_to(to)
-}
-
-fn append_refused(step: u32, refusal: Refusal, to: &mut String) -> Result<(), NoMemory>
-    ensures ok { OnOk result (string_bytes to.new ≡ string_bytes to.old ++ line_text (Line.Refused step refusal)) }
-    ensures err { OnErr result (string_bytes to.new ≡ string_bytes to.old) }
-{
-    let mut line = LineEnd::new();
-    line.word("\n");
-    line.number(refusal.number());
-    line.word(" ");
-    line.number(step);
-    line.word("refused ");
     line.append_to(to)
 }
 

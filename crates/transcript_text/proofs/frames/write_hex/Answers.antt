@@ -1,4 +1,4 @@
-use Rattle.std.proofs.Common.{◌*◌, ap, arith, sym, ◌∙◌, refl}
+use Rattle.std.proofs.Common.{◌*◌, ap, arith, ◌∙◌}
 use Rattle.std.proofs.Math.ListN.{length-set}
 use Rattle.transcript_text.proofs.HexPairs.{goes_on}
 use Rattle.transcript_text.proofs.frames.write_hex.Goals as goal

@@ -1,4 +1,4 @@
-use Rattle.std.proofs.Common.{◌≤◌, length, drop, ap, arith, length-drop}
+use Rattle.std.proofs.Common.{arith}
 use Rattle.std.proofs.lemmas.Str.{IsUtf8-append}
 use Rattle.transcript_text.proofs.Decimals.{decimal_utf8}
 use Rattle.transcript_text.proofs.line_end.LineEnd.number.Goals as goal
