@@ -3,7 +3,7 @@ mod both;
 mod chance;
 mod tally;
 
-use both::{Both, CHIPS};
+use both::Both;
 use br_model::domains::Edition;
 use chance::Chance;
 use std::alloc::Global;
@@ -13,24 +13,18 @@ use tally::Tally;
 /// How many changes and frames there are.
 const ROUNDS: u32 = 20_000;
 
-/// A change, and a frame that comes by a port of a chip, again and again. Of what is deferred each chip has as much as its turns
-/// have brought.
+/// A change, which each chip and its software get, and a frame that comes by a port of one of the chips, again and again. Of what
+/// is deferred each chip has as much as its turns have brought.
 fn assert_alike(rt: &impl Abort, alloc: Global, edition: Edition) {
-    let mut first = Both::make(rt, alloc, edition, CHIPS[0].0);
-    let mut second = Both::make(rt, alloc, edition, CHIPS[1].0);
+    let mut chips = both::each_chip(rt, alloc, edition);
+    both::open(rt, &mut chips);
     let mut chance = Chance::first();
     let mut tally = Tally::first();
     for _ in 0..ROUNDS {
-        let change = chance.change(rt);
-        first.accept(rt, &change);
-        second.accept(rt, &change);
-        let (both, ports) = if chance.coin() {
-            (&mut first, &CHIPS[0].1)
-        } else {
-            (&mut second, &CHIPS[1].1)
-        };
+        both::accept(rt, &mut chips, &chance.change(rt));
+        let port = chance.chip_port(rt);
+        let both = &mut chips[both::place_of(port)];
         both.turn();
-        let port = chance.port_of(rt, ports);
         let head = chance.head(rt);
         let class = both.assert_alike(rt, port, &head, &chance.message());
         tally.count(class, &head);
@@ -39,7 +33,7 @@ fn assert_alike(rt: &impl Abort, alloc: Global, edition: Edition) {
 }
 
 #[test]
-fn chips_and_software_decide_alike(rt: HostRuntime) {
+fn four_chips_and_software_decide_alike(rt: HostRuntime) {
     assert_alike(&rt, rt.alloc(), Edition::One);
     assert_alike(&rt, rt.alloc(), Edition::Two);
 }

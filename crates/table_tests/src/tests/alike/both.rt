@@ -1,11 +1,11 @@
 //! A chip and software after the same changes.
-ghost use Rattle.std.specs.Prelude.{◌≢◌};
-ghost use Rattle.br_model.specs.Table.Domains.{software};
+ghost use Rattle.std.specs.Prelude.{◌≢◌, ◌<◌};
+ghost use Rattle.br_model.specs.Table.Domains.{host, software};
 
-use br_model::change::{Change, Update};
+use br_model::change::{Change, FORWARDING, Update};
 use br_model::domains::{Domains, Edition};
 use br_model::frame::{Class, Head, McastMsg};
-use br_model::numbers::{Dom, Port};
+use br_model::numbers::{Dom, Port, Vid};
 use chip_driver::Driver;
 use chip_pipeline::pass;
 use forward_rules::{SoftTables, Verdict};
@@ -16,11 +16,14 @@ use std::marker::Model;
 use std::process::Abort;
 use switchdev_notify::{deliver, notice_of};
 
-/// The ports of each chip, and the domain that they are in.
-pub(crate) const CHIPS: [(u8, [u8; 3]); 2] = [(1, [1, 64, 130]), (4, [65, 199, 254])];
+/// The last of the chips' ports, which go to the four chips in turn.
+pub(crate) const LAST: u8 = 200;
 
 /// The port of software, besides the host.
-const SOFTWARE: [u8; 1] = [200];
+pub(crate) const SOFTWARE: u8 = 254;
+
+/// How many chips there are.
+const CHIPS: u8 = 4;
 
 /// The rows of one chip, the software tables that took the same changes, and those that wait for the chip's turns. Rows and
 /// tables are large, so they stand on the heap.
@@ -43,14 +46,6 @@ impl Model for Both {
     ghost invariant = { λ b. AreAlike b.domains b.driver.value b.soft.value };
 }
 
-fn declare(rt: &impl Abort, domains: &mut Domains, numbers: &[u8], dom: Dom) {
-    for number in numbers {
-        let port = Port::new(*number).expect(rt, "a port");
-        assert!(rt; !port.is_host());
-        domains.set(port, dom);
-    }
-}
-
 /// The domain of this number, which isn't software's.
 fn domain(rt: &impl Abort, number: u8) -> Dom
     ensures { result ≢ software }
@@ -60,13 +55,66 @@ fn domain(rt: &impl Abort, number: u8) -> Dom
     dom
 }
 
+/// The port of this number isn't the host.
+fn port(rt: &impl Abort, number: u8) -> Port
+    ensures { result ≢ host }
+{
+    let port = Port::new(number).expect(rt, "a port");
+    assert!(rt; !port.is_host());
+    port
+}
+
+/// The place of the chip that this one of the chips' ports is on.
+pub(crate) fn place_of(port: Port) -> usize
+    ensures { result < 4 }
+{
+    usize::from(port.number() % CHIPS)
+}
+
 fn declared(rt: &impl Abort, edition: Edition) -> Domains {
     let mut domains = Domains::make().with_edition(edition);
-    for (number, ports) in &CHIPS {
-        declare(rt, &mut domains, ports, domain(rt, *number));
+    for number in 1..=LAST {
+        domains.set(port(rt, number), domain(rt, number % CHIPS + 1));
     }
-    declare(rt, &mut domains, &SOFTWARE, Dom::SOFTWARE);
+    domains.set(port(rt, SOFTWARE), Dom::SOFTWARE);
     domains
+}
+
+/// The chips and what software has beside each, before any change.
+pub(crate) fn each_chip(rt: &impl Abort, alloc: Global, edition: Edition) -> [Both; 4] {
+    [
+        Both::make(rt, alloc, edition, 1),
+        Both::make(rt, alloc, edition, 2),
+        Both::make(rt, alloc, edition, 3),
+        Both::make(rt, alloc, edition, 4),
+    ]
+}
+
+/// Each port of a chip comes up, and VLAN 1 is that of its frames without a tag.
+pub(crate) fn open(rt: &impl Abort, chips: &mut [Both; 4]) {
+    let vid = Vid::new(1).expect(rt, "a VLAN");
+    for number in 1..=LAST {
+        let port = port(rt, number);
+        accept(rt, chips, &Change::PortUp(port));
+        accept(rt, chips, &Change::SetState(port, FORWARDING));
+        accept(
+            rt,
+            chips,
+            &Change::VlanAdd {
+                port,
+                vid,
+                untagged: true,
+                pvid: true,
+            },
+        );
+    }
+}
+
+/// Each chip and its software get the change.
+pub(crate) fn accept(rt: &impl Abort, chips: &mut [Both; 4], change: &Change) {
+    for both in chips {
+        both.accept(rt, change);
+    }
 }
 
 impl Both {

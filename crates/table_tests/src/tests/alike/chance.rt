@@ -1,16 +1,12 @@
 //! Changes and frames by chance. Ports, VLANs and addresses are few, so that they meet.
 ghost use Rattle.std.specs.Prelude.{◌<◌, ◌≤◌};
 
+use super::both::{LAST, SOFTWARE};
 use br_model::change::{Change, FORWARDING, Flags, Kind};
 use br_model::frame::{Head, McastMsg, Tag};
 use br_model::group::Group;
 use br_model::numbers::{Mac, Port, Vid};
 use std::process::Abort;
-
-/// The host, the ports of two chips and one of software, most often the chips'.
-const PORTS: [u8; 16] = [
-    0, 1, 1, 1, 64, 64, 64, 130, 130, 65, 65, 65, 199, 199, 254, 200,
-];
 
 /// Stations, groups of both IP versions, reserved addresses, and none.
 const ADDRESSES: [u64; 13] = [
@@ -85,13 +81,17 @@ impl Chance {
         self.below(2) == 1
     }
 
+    /// A port of a chip, most often, the host, or the port of software.
     fn port(&mut self, rt: &impl Abort) -> Port {
-        Port::new(PORTS[self.below(16) as usize]).expect(rt, "a port")
+        match self.below(16) {
+            0 => Port::HOST,
+            1 => Port::new(SOFTWARE).expect(rt, "a port"),
+            _ => self.chip_port(rt),
+        }
     }
 
-    /// One of these ports.
-    pub(crate) fn port_of(&mut self, rt: &impl Abort, numbers: &[u8; 3]) -> Port {
-        Port::new(numbers[self.below(3) as usize]).expect(rt, "a port")
+    pub(crate) fn chip_port(&mut self, rt: &impl Abort) -> Port {
+        Port::new(self.below(u64::from(LAST)) as u8 + 1).expect(rt, "a port")
     }
 
     fn vid(&mut self, rt: &impl Abort) -> Vid {
