@@ -93,18 +93,18 @@ fn ports_from<const BYTES: usize>(row: &Row<BYTES>, at: u16) -> Ports
     ])
 }
 
-/// Writes a set as `ports_from` reads it. The bits before it stay.
-fn write_ports<const BYTES: usize>(row: &mut Row<BYTES>, at: u16, ports: &Ports)
-    requires low { at ≤ 256 }
-    requires within { at + 256 ≤ 8 * BYTES }
-    ensures ports { ports_from row.new at ≡ ports.now }
-    ensures before { KeepsBefore at row.old row.new }
+/// Writes a set as `ports_from` reads it from bit `AT` on. The bits before it stay.
+fn write_ports<const BYTES: usize, const AT: u16>(row: &mut Row<BYTES>, ports: &Ports)
+    requires low { AT ≤ 256 }
+    requires within { AT + 256 ≤ 8 * BYTES }
+    ensures ports { ports_from row.new AT ≡ ports.now }
+    ensures before { KeepsBefore AT row.old row.new }
 {
     let [first, second, third, fourth] = ports.words();
-    row.set(bits!(at, 64), first);
-    row.set(bits!(at + 64, 64), second);
-    row.set(bits!(at + 128, 64), third);
-    row.set(bits!(at + 192, 64), fourth);
+    row.set(bits!(AT, 64), first);
+    row.set(bits!(AT + 64, 64), second);
+    row.set(bits!(AT + 128, 64), third);
+    row.set(bits!(AT + 192, 64), fourth);
 }
 
 /// A bit as a number.
@@ -129,8 +129,8 @@ pub fn pack_vlan(r: &VlanRow) -> Row<64>
     ensures { vlan_of result ≡ r.now }
 {
     let mut row = Row::zero();
-    write_ports(&mut row, 0, &r.members);
-    write_ports(&mut row, 256, &r.untagged);
+    write_ports::<64, 0>(&mut row, &r.members);
+    write_ports::<64, 256>(&mut row, &r.untagged);
     row
 }
 
@@ -149,7 +149,7 @@ pub fn pack_fan(r: &FanRow) -> Row<33>
     ensures { fan_of result ≡ r.now }
 {
     let mut row = Row::zero();
-    write_ports(&mut row, 0, &r.ports);
+    write_ports::<33, 0>(&mut row, &r.ports);
     row.set(bits!(256, 1), bit(r.isolated));
     row.set(bits!(257, 1), bit(r.plain));
     row

@@ -108,6 +108,8 @@ impl Reports {
     pub fn clear(&mut self)
         ensures { self.new ≡ record self.old { hits = [] } }
     {
-        self.hits.clear();
+        if !self.hits.is_empty() {
+            self.hits.clear();
+        }
     }
 }
