@@ -1,7 +1,8 @@
 #!/usr/bin/env python3
-"""failing_allocations.py PROGRAM [PORTS]: `replay` of frames that leave so many ports (60), where the Nth allocation fails, for N from
-1 until a run in which none fails. It tells how many runs ended with each status, and which left a torn line: each must write whole
-lines of the transcript, and then the line `no memory`, or the whole transcript, where it could do without that memory."""
+"""failing_allocations.py PROGRAM [PORTS [ROUNDS]]: `replay` of frames that leave so many ports (60), of which each third is a chip's,
+and of so many rounds (300) of frames that wait, are held, teach and are swept, where the Nth allocation fails, for N from 1 until a
+run in which none fails. It tells how many runs ended with each status, and which left a torn line: each must write whole lines of the
+transcript, and then the line `no memory`, or the whole transcript, where it could do without that memory."""
 import collections
 import os
 import subprocess
@@ -24,10 +25,10 @@ void *realloc(void *p, unsigned long n) { return fails() ? 0 : __libc_realloc(p,
 """
 
 
-def scenario(ports):
+def scenario(ports, rounds):
     yield "scenario 1"
     for i in range(1, ports + 1):
-        yield f"port {i} p{i} soft"
+        yield f"port {i} p{i} " + ("soft" if i % 3 else "chip 1")
     for i in range(1, ports + 1):
         yield f"cmd port up p{i}"
     yield "cmd vlan add vid 5 dev p1 pvid untagged"
@@ -36,9 +37,19 @@ def scenario(ports):
     yield "publish"
     for length in 14, 60, 1500:
         for _ in range(2):
-            yield "rx 1 ffffffffffff02000000000a88b5" + "5a" * (length - 14)
-            yield "serve"
-    yield "bad line"
+            for port in 1, 3:
+                yield f"rx {port} ffffffffffff02000000000a88b5" + "5a" * (length - 14)
+                yield "serve"
+    for i in range(rounds):
+        station, port = f"0200000{i:05x}", i % ports + 1
+        # back to the station itself, which no port gets; the last two are held, and go in the other order
+        for _ in range(4):
+            yield f"rx {port} {station}{station}88b5{i:04x}"
+        yield from ("serve", "serve", "hold", "hold")
+        yield from (f"post {4 * i + 16}", f"post {4 * i + 15}")
+        yield f"cmd mdb add 239.1.{i // 250}.{i % 250} dev p{port} vlan 5"
+        yield from ("report 1", "turn 1", "publish")
+    yield from ("sweep 1", "now 400000", "bad line")
 
 
 def preload(folder):
@@ -50,8 +61,8 @@ def preload(folder):
 
 
 def main():
-    program, ports = os.path.abspath(sys.argv[1]), int(sys.argv[2]) if len(sys.argv) > 2 else 60
-    text = "".join(line + "\n" for line in scenario(ports)).encode()
+    program, ports, rounds = os.path.abspath(sys.argv[1]), *[int(n) for n in sys.argv[2:] + ["60", "300"][len(sys.argv) - 2 :]]
+    text = "".join(line + "\n" for line in scenario(ports, rounds)).encode()
     statuses, torn, number = collections.Counter(), [], 0
     with tempfile.TemporaryDirectory() as folder:
         library = preload(folder)

@@ -16,6 +16,7 @@ ghost use Rattle.capture_runner.specs.Session.{Tells};
 
 use crate::NoMemory;
 use crate::world::World;
+use br_model::bytes::Bytes;
 use br_model::numbers::Mac;
 use br_model::steps::Step;
 use br_model::transcript::Line;
@@ -140,7 +141,10 @@ fn do_made<R: Wait>(
     ensures { OnOk result (Added (Tells world.old (step_of made) world.new) lines.old.lines lines.new.lines) }
 {
     match made {
-        Made::Enters { port, bytes } => world.enter(alloc, port, &bytes, lines),
+        Made::Enters { port, bytes } => {
+            let bytes = Bytes::copy_of(alloc, &bytes)?;
+            world.enter(port, bytes, lines)
+        }
         Made::Follows(step) => world.step(rt, alloc, step, lines),
     }
 }

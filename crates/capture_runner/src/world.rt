@@ -12,6 +12,7 @@ ghost use Rattle.br_model.specs.Text.LineForms.{comes_by_line};
 
 use crate::NoMemory;
 use crate::held::Verdicts;
+use br_model::bytes::Bytes;
 use br_model::change::Change;
 use br_model::domains::Domains;
 use br_model::numbers::{Dom, Mac, Port};
@@ -161,16 +162,15 @@ impl World {
     #[tactic(auto, using(crate::proofs::Worlds::world_told, crate::proofs::Worlds::world_tells))]
     pub(crate) fn enter(
         &mut self,
-        alloc: Global,
         port: Port,
-        bytes: &[u8],
+        bytes: Bytes,
         lines: &mut Lines,
     ) -> Result<(), NoMemory>
-        ensures { OnOk result (Added (Tells self.old (Rx port bytes.now) self.new) lines.old.lines lines.new.lines) }
+        ensures { OnOk result (Added (Tells self.old (Rx port bytes) self.new) lines.old.lines lines.new.lines) }
     {
         // law: what holds of every plane
         self.plane.stands();
-        self.plane.enter_to(alloc, port, bytes, lines)?;
+        self.plane.enter_to(port, bytes, lines)?;
         Ok(())
     }
 
@@ -297,7 +297,7 @@ impl World {
         ensures { OnOk result (Added (Tells self.old step self.new) lines.old.lines lines.new.lines) }
     {
         match step {
-            Step::Rx { port, bytes } => self.enter(alloc, port, bytes.as_slice(), lines),
+            Step::Rx { port, bytes } => self.enter(port, bytes, lines),
             Step::Cmd(command) => self.command(alloc, command, lines),
             Step::Now(moment) => self.moment(alloc, moment, lines),
             Step::Serve => self.serve(alloc, lines),

@@ -111,31 +111,30 @@ impl Frames {
         self.waiting.len() + self.held.len() >= MOST_WAITING
     }
 
-    /// A frame that goes on to software, with the next id and a copy of its bytes.
+    /// A frame that goes on to software, with the next id. It keeps its bytes.
     pub(crate) fn arrive(
         &self,
-        alloc: Global,
         port: Port,
-        bytes: &[u8],
+        bytes: Bytes,
         head: &Head,
         message: &McastMsg,
         mark: Option<Mark>,
-    ) -> Result<Arrival, NoMemory>
-        requires frame { frame_of bytes.now ≡ Ok head.now }
-        requires message { message.now ≡ message_of bytes.now head.now }
-        ensures { IfOk result (λ a. a ≡ arrival self.now (record {
+    ) -> Arrival
+        requires frame { frame_of bytes ≡ Ok head.now }
+        requires message { message.now ≡ message_of bytes head.now }
+        ensures value { result ≡ arrival self.now (record {
           id = self.now.next;
           port = port;
-          bytes = bytes.now;
+          bytes = bytes;
           head = head.now;
           mark = domain_marked mark;
-        })) }
+        }) }
+        ensures room { IsArrival self.now result }
     {
         if self.is_full() {
-            return Ok(Arrival::Overruns);
+            return Arrival::Overruns;
         }
-        let bytes = Bytes::copy_of(alloc, bytes)?;
-        Ok(Arrival::Waits(Frame::of(self.next, port, bytes, *head, *message, mark)))
+        Arrival::Waits(Frame::of(self.next, port, bytes, *head, *message, mark))
     }
 
     /// The next id is taken by a frame that arrived.

@@ -19,9 +19,10 @@ ghost use Rattle.br_model.specs.Plane.World.{Holding as HoldingOf, chip_at, firs
 ghost use Rattle.table_publish.specs.Object.{Begins, IsPublished, first_object};
 ghost use Rattle.plane_core.specs.Planes.{Accepts, DecidesFloor, DecidesOldest, IsCopy, IsDecidedBy, IsDecision, IsNamed, IsOnChip, Posted, PostedTo, Steps, Turned, TurnedTo, arrival_by, published_in, ticket_of};
 ghost use Rattle.plane_core.specs.Added.{Added};
+ghost use Rattle.plane_core.specs.Arrivals.{IsArrival};
 ghost use Rattle.plane_core.specs.Seats.{IsTold, Looks};
 ghost use Rattle.plane_core.specs.Shown.{opened, shown_by};
-ghost use Rattle.plane_core.specs.Sides.{HasBegun};
+ghost use Rattle.plane_core.specs.Sides.{HasBegun, SidesState, world_of};
 
 use crate::NoMemory;
 use crate::faults::{PostFault, TurnFault};
@@ -29,6 +30,7 @@ use crate::frames::{Arrival, Frames};
 use crate::held::Held;
 use crate::sending::{Egress, make_room, send};
 use crate::sides::{Begun, Sides, begin};
+use br_model::bytes::Bytes;
 use br_model::change::{Change, Update};
 use br_model::domains::Domains;
 use br_model::frame::{Class, Head, McastMsg};
@@ -99,6 +101,33 @@ fn parts(alloc: Global, d: Domains, own: Mac) -> Result<(Begun, Frames), NoMemor
     Ok((begun, Frames::make(alloc)?))
 }
 
+/// What becomes of a frame that the chip of the domain has decided so.
+fn arrival(
+    frames: &Frames,
+    class: Class,
+    d: Dom,
+    p: Port,
+    b: Bytes,
+    head: &Head,
+    message: &McastMsg,
+) -> Arrival
+    requires frame { frame_of b ≡ Ok head.now }
+    requires message { message.now ≡ message_of b head.now }
+    ensures value { (s : SidesState) (steps : ℕ) → domain_of s.setup.domains p ≡ Some d
+        → result ≡ arrival_by class (world_of s frames.now steps) p b head.now }
+    ensures room { IsArrival frames.now result }
+{
+    match class {
+        Class::Drop => Arrival::PassesBy,
+        Class::Trap => frames.arrive(p, b, head, message, None),
+        Class::Copy => {
+            let mark = Some(Mark { dom: d });
+            frames.arrive(p, b, head, message, mark)
+        }
+        Class::Forward => Arrival::PassesBy,
+    }
+}
+
 impl Plane {
     /// A plane over this board, in which nothing has happened. It takes all its room but that of the history, of hits and of frames.
     /// After want of memory the board is ended.
@@ -144,27 +173,27 @@ impl Plane {
         ensures err { OnErr result (self.new ≡ self.old) }
     {
         let mut lines = Lines::new(alloc);
-        let pass = self.enter_to(alloc, p, b, &mut lines)?;
+        let bytes = Bytes::copy_of(alloc, b)?;
+        let pass = self.enter_to(p, bytes, &mut lines)?;
         Ok(Entered { lines, pass })
     }
 
-    /// As `enter`, with the lines of the step behind these.
+    /// As `enter`, with the lines of the step behind these. Where the frame waits, these bytes wait; nothing is copied.
     pub fn enter_to(
         &mut self,
-        alloc: Global,
         p: Port,
-        b: &[u8],
+        b: Bytes,
         lines: &mut Lines,
     ) -> Result<Option<Pass>, NoMemory>
-        ensures step { OnOk result (Added (Steps self.old self.new (Rx p b.now)) lines.old.lines lines.new.lines) }
-        ensures pass { IfOk result (IsDecidedBy self.old.world p b.now (frame_of b.now)) }
+        ensures step { OnOk result (Added (Steps self.old self.new (Rx p b)) lines.old.lines lines.new.lines) }
+        ensures pass { IfOk result (IsDecidedBy self.old.world p b (frame_of b)) }
         ensures err { OnErr result (self.new ≡ self.old) }
         ensures lines { OnErr result (lines.new.lines ≡ lines.old.lines) }
     {
         let step = next(self.steps)?;
         let id = self.frames.next_id();
         next(id)?;
-        match parse(b) {
+        match parse(b.as_slice()) {
             Err(why) => {
                 lines.push(Line::Unread { id, why })?;
                 self.frames.settle(Arrival::PassesBy);
@@ -172,9 +201,9 @@ impl Plane {
                 Ok(None)
             }
             Ok(head) => match self.chip_of(p) {
-                Some(d) => Ok(Some(self.enter_chip(alloc, step, d, p, b, &head, lines)?)),
+                Some(d) => Ok(Some(self.enter_chip(step, d, p, b, &head, lines)?)),
                 None => {
-                    self.enter_software(alloc, step, p, b, &head, lines)?;
+                    self.enter_software(step, p, b, &head, lines)?;
                     Ok(None)
                 }
             },
@@ -194,88 +223,62 @@ impl Plane {
     /// A frame enters at a port of software.
     fn enter_software(
         &mut self,
-        alloc: Global,
         step: u32,
         p: Port,
-        b: &[u8],
+        b: Bytes,
         head: &Head,
         lines: &mut Lines,
     ) -> Result<(), NoMemory>
         requires step { step ≡ self.old.world.steps + 1 }
         requires last { self.old.world.next + 1 < 2 ^ 32 }
-        requires frame { frame_of b.now ≡ Ok head.now }
+        requires frame { frame_of b ≡ Ok head.now }
         requires off_chip { chip_of self.old.world (domain_of self.old.world.setup.domains p) ≡ None }
-        ensures step { OnOk result (Added (Steps self.old self.new (Rx p b.now)) lines.old.lines lines.new.lines) }
+        ensures step { OnOk result (Added (Steps self.old self.new (Rx p b)) lines.old.lines lines.new.lines) }
         ensures err { OnErr result (self.new ≡ self.old) }
         ensures lines { OnErr result (lines.new.lines ≡ lines.old.lines) }
     {
-        let id = self.frames.next_id();
-        let message = classify(b, head);
-        let arrival = self.frames.arrive(alloc, p, b, head, &message, None)?;
         lines.reserve(1, 0)?;
+        let id = self.frames.next_id();
+        let message = classify(b.as_slice(), head);
+        let arrival = self.frames.arrive(p, b, head, &message, None);
         arrival.tell(id, lines);
         self.frames.settle(arrival);
         self.steps = step;
         Ok(())
     }
 
-    /// What becomes of a frame that the chip of the domain has decided so.
-    fn arrival(
-        &self,
-        alloc: Global,
-        class: Class,
-        d: Dom,
-        p: Port,
-        b: &[u8],
-        head: &Head,
-        message: &McastMsg,
-    ) -> Result<Arrival, NoMemory>
-        requires frame { frame_of b.now ≡ Ok head.now }
-        requires message { message.now ≡ message_of b.now head.now }
-        requires port { domain_of self.now.world.setup.domains p ≡ Some d }
-        ensures { IfOk result (λ a. a ≡ arrival_by class self.now.world p b.now head.now) }
-    {
-        match class {
-            Class::Drop => Ok(Arrival::PassesBy),
-            Class::Trap => self.frames.arrive(alloc, p, b, head, message, None),
-            Class::Copy => self
-                .frames
-                .arrive(alloc, p, b, head, message, Some(Mark { dom: d })),
-            Class::Forward => Ok(Arrival::PassesBy),
-        }
-    }
-
     /// A frame enters at a port of the domain, which has a chip.
     fn enter_chip(
         &mut self,
-        alloc: Global,
         step: u32,
         d: Dom,
         p: Port,
-        b: &[u8],
+        b: Bytes,
         head: &Head,
         lines: &mut Lines,
     ) -> Result<Pass, NoMemory>
         requires step { step ≡ self.old.world.steps + 1 }
         requires last { self.old.world.next + 1 < 2 ^ 32 }
-        requires frame { frame_of b.now ≡ Ok head.now }
+        requires frame { frame_of b ≡ Ok head.now }
         requires port { domain_of self.old.world.setup.domains p ≡ Some d }
         requires chip { is_some (chip_at self.old.world d) ≡ true }
-        ensures step { OnOk result (Added (Steps self.old self.new (Rx p b.now)) lines.old.lines lines.new.lines) }
+        ensures step { OnOk result (Added (Steps self.old self.new (Rx p b)) lines.old.lines lines.new.lines) }
         ensures pass { IfOk result (λ pass. (c : ChipValue) → chip_at self.old.world d ≡ Some c
-            → IsPass self.old.world.setup.domains (table_of_chip self.old.world c) p head.now (message_of b.now head.now) pass) }
+            → IsPass self.old.world.setup.domains (table_of_chip self.old.world c) p head.now (message_of b head.now) pass) }
         ensures err { OnErr result (self.new ≡ self.old) }
         ensures lines { OnErr result (lines.new.lines ≡ lines.old.lines) }
     {
         let id = self.frames.next_id();
-        let message = classify(b, head);
+        let bytes = b.as_slice();
+        let message = classify(bytes, head);
         let pass = self.sides.pass(d, p, head, &message);
-        let arrival = self.arrival(alloc, pass.class(), d, p, b, head, &message)?;
-        let decision = self.chip_line(id, d, pass.class());
-        make_room(lines, b)?;
+        let class = pass.class();
+        let decision = self.chip_line(id, d, class);
+        make_room(lines, bytes)?;
         self.sides.note(d, p, &pass)?;
         lines.push_reserved(decision);
-        send(id, b, head, &Egress::of_pass(&pass), lines);
+        send(id, bytes, head, &Egress::of_pass(&pass), lines);
+        let arrival = arrival(&self.frames, class, d, p, b, head, &message);
         arrival.tell(id, lines);
         self.frames.settle(arrival);
         self.steps = step;

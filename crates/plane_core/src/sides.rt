@@ -95,6 +95,9 @@ fn follow(
     ensures count { result ≡ length (drop from bridge.now.history) }
 {
     let history = bridge.history();
+    if from == history.len() {
+        return 0;
+    }
     let domains = bridge.domains();
     chips.follow(domains, history, from);
     updates.follow(history, from, domains.edition());
@@ -113,7 +116,9 @@ fn last_line(step: u32, outcome: Result<u32, EventFault>) -> Result<Line, NoMemo
     }
 }
 
-/// The decision of a frame by these changes.
+/// The decision of a frame by these changes. Tables are large, so it has a function of its own: each call pays for the room of its
+/// locals.
+#[inline(never)]
 fn decide_anew(
     alloc: Global,
     domains: &Domains,
@@ -298,16 +303,24 @@ impl Sides {
         ensures verdict { IfOk result (Decides self.now.setup.domains (table (take (length self.now.published.changes) self.now.history))
             frame.now.port frame.now.head (message_of frame.now.bytes frame.now.head)) }
     {
-        let published = self.board.published();
         match seat.lookup(frame.port(), frame.head(), frame.message()) {
-            Some(seen) if seen.point == published => Ok(seen.verdict),
-            _ => decide_anew(
-                alloc,
-                self.bridge.domains(),
-                &self.bridge.history()[..published as usize],
-                frame,
-            ),
+            Some(seen) if seen.point == self.board.published() => Ok(seen.verdict),
+            _ => self.decide_anew(alloc, frame),
         }
+    }
+
+    /// The same by tables that are made anew.
+    fn decide_anew(&self, alloc: Global, frame: &Frame) -> Result<Verdict, NoMemory>
+        ensures { IfOk result (Decides self.now.setup.domains (table (take (length self.now.published.changes) self.now.history))
+            frame.now.port frame.now.head (message_of frame.now.bytes frame.now.head)) }
+    {
+        let published = self.board.published() as usize;
+        decide_anew(
+            alloc,
+            self.bridge.domains(),
+            &self.bridge.history()[..published],
+            frame,
+        )
     }
 
     /// Adds the lines of a frame that is sent by a decision of the table at this point, with room for another line behind them.
@@ -384,9 +397,14 @@ impl Sides {
         ensures seat { Looks seat.old seat.new }
     {
         let point = self.board.published();
-        match self.decide(alloc, seat, frame) {
-            Ok(verdict) => self.post(alloc, step, frame, &verdict, point, lines),
-            Err(_) => Err(AllocError),
+        match seat.lookup(frame.port(), frame.head(), frame.message()) {
+            Some(seen) if seen.point == point => {
+                self.post(alloc, step, frame, &seen.verdict, point, lines)
+            }
+            _ => {
+                let verdict = self.decide_anew(alloc, frame)?;
+                self.post(alloc, step, frame, &verdict, point, lines)
+            }
         }
     }
 

@@ -17,6 +17,7 @@ use Rattle.plane_core.specs.declared.frames.Arrival.{Arrival}
 use Rattle.plane_core.specs.Arrivals.{settled, arrival_lines}
 use Rattle.plane_core.specs.Planes.{PlaneState, Steps, arrival_by}
 use Rattle.plane_core.specs.Queued.{Queued}
+use Rattle.plane_core.specs.Sent.{lines_of}
 use Rattle.plane_core.specs.Sides.{SidesState, world_of}
 use Rattle.plane_core.proofs.Adding.{behind}
 use Rattle.plane_core.proofs.Changing.{some_is}
@@ -41,21 +42,22 @@ module _ (c : goal.After-self-1) where
 
   -- what becomes of the frame
   abbrev goes : Arrival
-  goes = arrival_by c.pass-pass.result.class was c.args.p c.args.b.now c.args.head.now
+  goes = arrival_by c.pass-pass.result.class was c.args.p c.args.b c.args.head.now
 
   -- what the chip says of it, and what it sends
   abbrev decision : Line
   decision = lines.Chip c.self.inside.frames.next (length c.self.inside.sides.history) found.0.count c.pass-pass.result.class
 
   abbrev leaves : List Line
-  leaves = sent c.self.inside.frames.next (chip_out c.self.inside.sides.setup.domains decides c.args.p c.args.b.now c.args.head.now)
+  leaves = sent c.self.inside.frames.next (chip_out c.self.inside.sides.setup.domains decides c.args.p c.args.b c.args.head.now)
 
   -- the sides after it
   abbrev after : SidesState
   after = record c.self.inside.sides { chips = put_chip chips (hits_entry c.pass-pass.result.hit (offers c.args.p c.pass-pass.result.report found.0)) }
 
-  arrived : c.in_ok-arrival.arrival ≡ goes
-  arrived = c.in_ok-arrival.ensures ∙ ap₂ (λ (k : Class) (p : PlaneState). arrival_by k p.world c.args.p c.args.b.now c.args.head.now) c.class.ensures (sym c.self.view_is)
+  arrived : c.arrival-arrival.result ≡ goes
+  arrived = c.arrival-arrival.ensures.value c.self.inside.sides c.self.inside.steps (ap (λ (p : PlaneState). domain_of p.world.setup.domains c.args.p) c.self.view_is ∙ c.requires.port)
+      ∙ ap (λ (k : Class). arrival_by k was c.args.p c.args.b c.args.head.now) c.class-class.ensures
 
   sides-are : c.note.new.self ≡ after
   sides-are = c.in_ok-note.ensures.ok found.0 found.1
@@ -74,43 +76,46 @@ module _ (c : goal.After-self-1) where
 
   first-line : c.chip_line-decision.result ≡ decision
   first-line = c.chip_line-decision.ensures found.0 (ap (λ (p : PlaneState). chip_at p.world c.args.d) (sym c.self.view_is) ∙ found.1)
-      ∙ ap (λ (p : PlaneState). lines.Chip c.next_id-id.result (length p.world.history) found.0.count c.class-2.result) (sym c.self.view_is)
-      ∙ ap₂ (λ (id : ℕ) (k : Class). lines.Chip id (length c.self.inside.sides.history) found.0.count k) id-is c.class-2.ensures
+      ∙ ap (λ (p : PlaneState). lines.Chip c.next_id-id.result (length p.world.history) found.0.count c.class-class.result) (sym c.self.view_is)
+      ∙ ap₂ (λ (id : ℕ) (k : Class). lines.Chip id (length c.self.inside.sides.history) found.0.count k) id-is c.class-class.ensures
 
-  passed : IsPass c.self.inside.sides.setup.domains decides c.args.p c.args.head.now (message c.args.b.now c.args.head.now) c.pass-pass.result
-  passed = subst (λ (m : McastMsg). IsPass c.self.inside.sides.setup.domains decides c.args.p c.args.head.now m c.pass-pass.result) c.classify-message.ensures.value (c.pass-pass.ensures found.0 found.1)
+  said : message c.as_slice-bytes.result.now c.args.head.now ≡ message c.args.b c.args.head.now
+  said = ap (λ (b : List ℕ). message b c.args.head.now) c.as_slice-bytes.ensures
+
+  passed : IsPass c.self.inside.sides.setup.domains decides c.args.p c.args.head.now (message c.args.b c.args.head.now) c.pass-pass.result
+  passed = subst (λ (m : McastMsg). IsPass c.self.inside.sides.setup.domains decides c.args.p c.args.head.now m c.pass-pass.result) (c.classify-message.ensures.value ∙ said) (c.pass-pass.ensures found.0 found.1)
 
   all-lines : c.tell.new.lines.lines ≡ c.args.lines.now.lines ++ ((decision ∷ leaves) ++ arrival_lines c.self.inside.frames.next goes)
   all-lines = c.tell.ensures
       ∙ ap₂ (λ (before : List Line) (after : List Line). before ++ after)
       (c.send.ensures.lines ∙ ap₂ (λ (before : List Line) (after : List Line). before ++ after)
       (c.push_reserved.ensures.lines ∙ ap₂ (λ (before : List Line) (l : Line). before ++ l ∷ []) c.in_ok-make_room.ensures.lines first-line)
-      (c.of_pass.ensures _ _ _ _ _ passed c.next_id-id.result
-      ∙ ap (λ (id : ℕ). sent id (chip_out c.self.inside.sides.setup.domains decides c.args.p c.args.b.now c.args.head.now)) id-is))
+      (ap (λ (b : List ℕ). lines_of c.next_id-id.result b c.args.head.now c.of_pass.result) c.as_slice-bytes.ensures ∙ c.of_pass.ensures _ _ _ _ _ passed c.next_id-id.result
+      ∙ ap (λ (id : ℕ). sent id (chip_out c.self.inside.sides.setup.domains decides c.args.p c.args.b c.args.head.now)) id-is))
       (ap₂ arrival_lines id-is arrived)
       ∙ behind c.args.lines.now.lines leaves (arrival_lines c.self.inside.frames.next goes) decision
 
   abbrev told : List Line
   told = (decision ∷ leaves) ++ arrival_lines c.self.inside.frames.next goes
 
-  made : world_step was (Rx c.args.p c.args.b.now) ≡ (world_of c.note.new.self c.settle.new.self c.args.step, told)
-  made = enters_by_chip c.self.inside.sides c.self.inside.frames c.self.inside.steps c.args.p c.args.b.now c.args.head.now c.requires.frame
+  made : world_step was (Rx c.args.p c.args.b) ≡ (world_of c.note.new.self c.settle.new.self c.args.step, told)
+  made = enters_by_chip c.self.inside.sides c.self.inside.frames c.self.inside.steps c.args.p c.args.b c.args.head.now c.requires.frame
       c.args.d found.0 (ap (λ (p : PlaneState). domain_of p.world.setup.domains c.args.p) c.self.view_is ∙ c.requires.port) found.1 c.pass-pass.result passed
       ∙ sym (ap (λ (v : World). (v, told)) world-is)
 
 pub invariant_of-self-2 : goal.invariant_of-self-2
-invariant_of-self-2 c = stepped (was c) _ (Rx c.args.p c.args.b.now) _ (made c) c.self.invariant
+invariant_of-self-2 c = stepped (was c) _ (Rx c.args.p c.args.b) _ (made c) c.self.invariant
 
 pub returns-clause-step : goal.returns-clause-step
 returns-clause-step c = record {
   lines = told c;
-  so = subst (λ (p : PlaneState). Steps p (record { world = world_of c.note.new.self c.settle.new.self c.args.step; board = c.note.new.self.board }) (Rx c.args.p c.args.b.now) (told c)) c.self.view_is
+  so = subst (λ (p : PlaneState). Steps p (record { world = world_of c.note.new.self c.settle.new.self c.args.step; board = c.note.new.self.board }) (Rx c.args.p c.args.b) (told c)) c.self.view_is
       (record { world = made c; board = ap (λ (s : SidesState). s.board) (sides-are c) });
   added = all-lines c;
 }
 
 pub returns-clause-pass : goal.returns-clause-pass
 returns-clause-pass c x at =
-    subst (λ (p : PlaneState). IsPass p.world.setup.domains (table_of_chip p.world x) c.args.p c.args.head.now (message c.args.b.now c.args.head.now) c.pass-pass.result) c.self.view_is
-    (subst (λ (m : McastMsg). IsPass c.self.inside.sides.setup.domains (chip_table c.self.inside.sides.setup.domains.edition c.self.inside.sides.history x) c.args.p c.args.head.now m c.pass-pass.result) c.classify-message.ensures.value
+    subst (λ (p : PlaneState). IsPass p.world.setup.domains (table_of_chip p.world x) c.args.p c.args.head.now (message c.args.b c.args.head.now) c.pass-pass.result) c.self.view_is
+    (subst (λ (m : McastMsg). IsPass c.self.inside.sides.setup.domains (chip_table c.self.inside.sides.setup.domains.edition c.self.inside.sides.history x) c.args.p c.args.head.now m c.pass-pass.result) (c.classify-message.ensures.value ∙ said c)
     (c.pass-pass.ensures x (ap (λ (p : PlaneState). chip_at p.world c.args.d) c.self.view_is ∙ at)))

@@ -10,6 +10,6 @@ use Rattle.plane_core.proofs.plane.Plane.enter_software.Goals as goal
 
 pub invariant_of-self : goal.invariant_of-self
 invariant_of-self c =
-    rw (c.settle.ensures ∙ ap (settled c.self.inside.frames) c.in_ok-arrival.ensures, c.requires.step ∙ sym (ap (λ (p : PlaneState). p.world.steps + 1) c.self.view_is))
-    (stepped _ _ (Rx c.args.p c.args.b.now) _ (enters_software c.self.inside.sides c.self.inside.frames c.self.inside.steps c.args.p c.args.b.now c.args.head.now c.requires.frame
+    rw (c.settle.ensures ∙ ap (settled c.self.inside.frames) c.arrive-arrival.ensures.value, c.requires.step ∙ sym (ap (λ (p : PlaneState). p.world.steps + 1) c.self.view_is))
+    (stepped _ _ (Rx c.args.p c.args.b) _ (enters_software c.self.inside.sides c.self.inside.frames c.self.inside.steps c.args.p c.args.b c.args.head.now c.requires.frame
     (subst (λ (p : PlaneState). chip_of p.world (domain_of p.world.setup.domains c.args.p) ≡ None) (sym c.self.view_is) c.requires.off_chip)) c.self.invariant)
