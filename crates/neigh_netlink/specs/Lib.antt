@@ -1,0 +1,6 @@
+pub mod Messages
+pub mod Reading
+pub mod Neighbours
+pub mod Places
+pub mod Monitor
+pub mod Worked
