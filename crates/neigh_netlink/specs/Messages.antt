@@ -107,5 +107,5 @@ abbrev pub vlan_attribute : ℕ → List ℕ
 vlan_attribute vid = to_le_bytes w16 6 ++ (to_le_bytes w16 nda_vlan ++ (to_le_bytes w16 vid ++ (0 ∷ 0 ∷ [])))
 
 -- the 48 bytes of a message
-abbrev pub written : Neigh → List ℕ
+unfoldable pub written : Neigh → List ℕ
 written m = nlmsghdr m ++ (ndmsg m ++ (address_attribute m.mac ++ vlan_attribute m.vid))

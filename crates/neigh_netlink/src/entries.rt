@@ -34,18 +34,18 @@ impl Entry {
 }
 
 // Where the key is, or where it would go.
-fn search(entries: &[(Key, Entry)], key: Key) -> Result<usize, usize>
+fn search(entries: &[(Key, Entry)], key: &Key) -> Result<usize, usize>
     requires { IsTrue (is_ascending pair_cmp entries.now) }
-    ensures found { IfOk result (IsAt entries.now key) }
-    ensures gap { IfErr result (IsGap entries.now key) }
+    ensures found { IfOk result (IsAt entries.now key.now) }
+    ensures gap { IfErr result (IsGap entries.now key.now) }
 {
-    entries.binary_search_by_key(&key, |&(k, _)| k)
+    entries.binary_search_by_key(key, |&(k, _)| k)
 }
 
 /// What stands at the key.
-pub fn find_in(entries: &[(Key, Entry)], key: Key) -> Option<Entry>
+pub fn find_in(entries: &[(Key, Entry)], key: &Key) -> Option<Entry>
     requires { IsTrue (is_ascending pair_cmp entries.now) }
-    ensures { result ≡ get pair_cmp entries.now key }
+    ensures { result ≡ get pair_cmp entries.now key.now }
 {
     match search(entries, key) {
         Ok(at) => Some(entries[at].1),
@@ -61,7 +61,7 @@ pub fn put_in(entries: &mut Vec<(Key, Entry)>, key: Key, entry: Entry)
     ensures capacity { vec_capacity entries.old ≤ vec_capacity entries.new }
     ensures sorted { IsTrue (is_ascending pair_cmp entries.new.items) }
 {
-    match search(entries, key) {
+    match search(entries, &key) {
         Ok(at) => entries[at] = (key, entry),
         Err(at) => insert_at(entries, at, (key, entry)),
     }
@@ -81,9 +81,9 @@ fn insert_at(entries: &mut Vec<(Key, Entry)>, at: usize, pair: (Key, Entry))
 }
 
 /// Takes out the entry at the key, if one is there.
-pub fn take_from(entries: &mut Vec<(Key, Entry)>, key: Key)
+pub fn take_from(entries: &mut Vec<(Key, Entry)>, key: &Key)
     requires { IsTrue (is_ascending pair_cmp entries.old.items) }
-    ensures items { entries.new.items ≡ without pair_cmp entries.old.items key }
+    ensures items { entries.new.items ≡ without pair_cmp entries.old.items key.now }
     ensures capacity { vec_capacity entries.old ≤ vec_capacity entries.new }
     ensures sorted { IsTrue (is_ascending pair_cmp entries.new.items) }
 {

@@ -5,10 +5,10 @@ ghost use Rattle.neigh_netlink.specs.Messages.{has_ranges, is_message, message_l
 ghost use Rattle.neigh_netlink.specs.Reading.{address_at, four_at, has_flag, kind_by, read, said, two_at};
 ghost use Rattle.neigh_netlink.specs.declared.neigh.Neigh.{Neigh};
 
+use crate::neigh::Neigh;
 use crate::writing::{
     LENGTH, NTF_EXT_LEARNED, NTF_OFFLOADED, NUD_NOARP, NUD_PERMANENT, RTM_NEWNEIGH, written,
 };
-use crate::neigh::Neigh;
 use br_model::change::Kind;
 use br_model::numbers::{Mac, Port, Vid};
 
@@ -95,12 +95,5 @@ fn address_at(b: &[u8], at: usize) -> Mac
     requires { at + 6 ≤ length b.now }
     ensures { result ≡ address_at b.now at }
 {
-    Mac::new([
-        b[at],
-        b[at + 1],
-        b[at + 2],
-        b[at + 3],
-        b[at + 4],
-        b[at + 5],
-    ])
+    Mac::new([b[at], b[at + 1], b[at + 2], b[at + 3], b[at + 4], b[at + 5]])
 }

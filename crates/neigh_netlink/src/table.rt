@@ -3,8 +3,8 @@ ghost use Rattle.std.specs.Prelude.{◌≡◌, [], None, Some, IfOk, IfErr, OnOk
 ghost use Rattle.neigh_netlink.specs.Neighbours.{after_message, fault_of, is_of, row, rows};
 
 use crate::NoMemory;
-use crate::neigh::Neigh;
 use crate::entries::{Entry, Key, find_in, put_in, take_from};
+use crate::neigh::Neigh;
 use br_model::change::Kind;
 use br_model::limits::MOST_ADDRESSES;
 use br_model::numbers::{Mac, Port, Vid};
@@ -61,6 +61,15 @@ fn row(pair: &(Key, Entry)) -> (Vid, Mac, Port, Kind, bool)
     (vid, mac, entry.port, entry.kind, entry.offload)
 }
 
+fn rows(
+    alloc: Global,
+    entries: &[(Key, Entry)],
+) -> Result<Vec<(Vid, Mac, Port, Kind, bool)>, NoMemory>
+    ensures { IfOk result (λ v. v.items ≡ rows entries.now) }
+{
+    entries.iter().map(|e| row(e)).collect(alloc)
+}
+
 impl Table {
     /// No entry. It takes the memory for all that may come.
     pub fn make(alloc: Global) -> Result<Table, NoMemory>
@@ -77,7 +86,7 @@ impl Table {
         ensures fault { IfErr result (λ why. fault_of self.old m.now ≡ Some why) }
     {
         let key = (m.vid, m.mac);
-        let there = find_in(&self.entries, key);
+        let there = find_in(&self.entries, &key);
         if m.new {
             if there.is_none() && self.entries.len() >= MOST_ADDRESSES {
                 return Err(TakeFault::Full);
@@ -87,7 +96,7 @@ impl Table {
             if !is_of(m.port, m.kind, there) {
                 return Err(TakeFault::Absent);
             }
-            take_from(&mut self.entries, key);
+            take_from(&mut self.entries, &key);
         }
         Ok(())
     }
@@ -96,7 +105,7 @@ impl Table {
     pub fn list(&self, alloc: Global) -> Result<Listing, NoMemory>
         ensures { IfOk result (λ l. l ≡ rows self.now) }
     {
-        let rows = self.entries.iter().map(row).collect(alloc)?;
-        Ok(Listing::of(rows))
+        let listed = rows(alloc, &self.entries)?;
+        Ok(Listing::of(listed))
     }
 }

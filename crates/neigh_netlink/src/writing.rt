@@ -50,6 +50,7 @@ pub fn write(alloc: Global, m: &Neigh) -> Result<Bytes, NoMemory>
 }
 
 /// The same, on the stack.
+#[tactic(auto, unfolding(crate::specs::Messages::written))]
 pub(crate) fn written(m: &Neigh) -> [u8; LENGTH]
     ensures { result ≡ written m.now }
 {
@@ -114,11 +115,11 @@ fn ndm_flags(kind: Kind, offload: bool) -> u8
 fn address_attribute(mac: Mac) -> [u8; 12]
     ensures { result ≡ address_attribute mac }
 {
-    let [_, _, address @ ..] = mac.number().to_be_bytes();
+    let address = mac.number().to_be_bytes();
     let mut attribute = [0; 12];
     attribute[..2].copy_from_slice(&LLADDR_LENGTH.to_le_bytes());
     attribute[2..4].copy_from_slice(&NDA_LLADDR.to_le_bytes());
-    attribute[4..10].copy_from_slice(&address);
+    attribute[4..10].copy_from_slice(&address[2..]);
     attribute
 }
 
