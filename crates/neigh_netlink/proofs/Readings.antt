@@ -111,10 +111,11 @@ module _ (b : List ℕ) (n : Neigh) (r : Option Neigh) (there : r ≡ Some n) wh
       by true e h = (e, cc)
       by false e h = absurd (cc)
 
-  pub accepted : r ≡ (if has_ranges (said b) then Some (said b) else None) → is_message n ≡ true → bytes_eq (written n) b ≡ true → Some n ≡ read b
-  accepted is message same =
+  pub accepted : r ≡ (if has_ranges (said b) then Some (said b) else None) → (is_message n && bytes_eq (written n) b) ≡ true → Some n ≡ read b
+  accepted is on =
       let s = ranged (said b) is in
-      sym (ap (λ (k : Neigh). if is_written b k then Some k else None) s.1 ∙ accepts b n (ap has_ranges (sym s.1) ∙ s.0) message same)
+      let parts = accepts b n (ap has_ranges (sym s.1) ∙ s.0) (first_so (is_message n) _ on) (second_so (is_message n) _ on) in
+      sym (ap (λ (k : Neigh). if is_written b k then Some k else None) s.1 ∙ parts)
 
   pub refused : r ≡ (if has_ranges (said b) then Some (said b) else None) → (is_message n && bytes_eq (written n) b) ≡ false → None ≡ read b
   refused is off =

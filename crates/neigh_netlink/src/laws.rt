@@ -1,11 +1,12 @@
 //! Laws about neighbour messages. A law is a function that does nothing: its contract says it.
 ghost use Rattle.std.specs.Prelude.{◌≡◌, ◌<◌, ◌^◌, ℕ, List, Some, true};
+ghost use Rattle.br_model.specs.Worked.Chip.{moved_to_a_foreign_port_text};
 ghost use Rattle.br_model.specs.Worked.Rows.{first_frame_text};
 ghost use Rattle.neigh_netlink.specs.declared.neigh.Neigh.{Neigh};
 ghost use Rattle.neigh_netlink.specs.Messages.{has_ranges, is_message, written};
 ghost use Rattle.neigh_netlink.specs.Reading.{read};
 ghost use Rattle.neigh_netlink.specs.Monitor.{monitored};
-ghost use Rattle.neigh_netlink.specs.Worked.{static_entries_told};
+ghost use Rattle.neigh_netlink.specs.Worked.{monitor_and_follow_told, moved_entry_told};
 
 /// Each message that is written is read back.
 pub fn messages_are_read()
@@ -18,6 +19,11 @@ pub fn read_is_written()
 {}
 
 /// Two static entries come, at ports of software: a message each.
-pub fn static_entries()
-    ensures { monitored first_frame_text ≡ static_entries_told }
+pub fn monitor_and_follow()
+    ensures { monitored first_frame_text ≡ monitor_and_follow_told }
+{}
+
+/// A chip learns an entry and has it; then its station moves to a port of software.
+pub fn moved_entry()
+    ensures { monitored moved_to_a_foreign_port_text ≡ moved_entry_told }
 {}

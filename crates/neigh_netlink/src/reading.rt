@@ -1,5 +1,5 @@
 //! What a message says.
-ghost use Rattle.std.specs.Prelude.{◌≡◌, ◌+◌, ◌-◌, ◌≤◌, ◌<◌, ◌^◌, length, IfSome, if◌then◌else◌, nat_le, true};
+ghost use Rattle.std.specs.Prelude.{◌≡◌, ◌&&◌, bytes_eq, ◌+◌, ◌-◌, ◌≤◌, ◌<◌, ◌^◌, length, IfSome, if◌then◌else◌, nat_le, true};
 ghost use Rattle.br_model.specs.Table.Domains.{last_port};
 ghost use Rattle.neigh_netlink.specs.Messages.{has_ranges, is_message, message_length, written};
 ghost use Rattle.neigh_netlink.specs.Reading.{address_at, four_at, has_flag, kind_by, read, said, two_at};
@@ -22,11 +22,14 @@ pub fn read(b: &[u8]) -> Option<Neigh>
         return None;
     }
     let m = said(b)?;
-    if m.is_message() && written(&m).as_slice() == b {
-        Some(m)
-    } else {
-        None
-    }
+    if is_written(b, &m) { Some(m) } else { None }
+}
+
+// Whether the bytes are just those of the message.
+fn is_written(b: &[u8], m: &Neigh) -> bool
+    ensures { result ≡ (is_message m.now && bytes_eq (written m.now) b.now) }
+{
+    m.is_message() && written(m).as_slice() == b
 }
 
 // What the bytes say where they are a message: each part by its own place. `None` exactly where a VLAN or a port is out of range.
