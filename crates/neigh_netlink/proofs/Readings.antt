@@ -1,8 +1,7 @@
 -- What is read is what is written.
-use Rattle.std.proofs.Common.{◌≡◌, ℕ, ◌+◌, ◌-◌, ◌*◌, ◌/◌, ◌%◌, ◌<◌, ◌≤◌, ◌^◌, Bool, true, false, ◌&&◌, List, [], ◌∷◌, length, Option, Some, None, refl, sym, ap, subst, ◌∙◌, arith}
+use Rattle.std.proofs.Common.{◌≡◌, ℕ, ◌+◌, ◌-◌, ◌<◌, ◌≤◌, ◌^◌, Bool, true, false, ◌&&◌, List, length, Option, Some, None, refl, sym, ap, subst, ◌∙◌, arith}
 use Rattle.std.specs.Prelude.{bytes_eq, if◌then◌else◌, nat_le, nat_lt, ◌==◌}
 use Rattle.std.specs.Int.{w16, w32, to_le_bytes, from_le_bytes, bytes_high_first}
-use Rattle.std.specs.Bool.{Decides}
 use Rattle.std.specs.Cmp.{first_so, second_so}
 use Rattle.std.proofs.lemmas.Bool.{ltb-true, leb-true}
 use Rattle.std.proofs.lemmas.Nat.{from_le_bytes-to_le_bytes_2, from_le_bytes-to_le_bytes_4}
@@ -14,7 +13,7 @@ use Rattle.br_model.specs.declared.change.Kind.TheVariants.{Local, Static, Learn
 use Rattle.br_model.specs.Data.Numbers.{number}
 use Rattle.neigh_netlink.specs.declared.neigh.Neigh.{Neigh}
 use Rattle.neigh_netlink.specs.Messages.{has_ranges, is_message, message_length, ndm_flags, ndm_state, nlmsg_type, ntf_offloaded, rtm_newneigh, written}
-use Rattle.neigh_netlink.specs.Reading.{address_at, has_flag, is_written, kind_by, read, said, two_at}
+use Rattle.neigh_netlink.specs.Reading.{has_flag, is_written, kind_by, read, said}
 
 -- bytes that are those of what they say
 

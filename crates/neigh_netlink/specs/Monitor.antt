@@ -1,7 +1,7 @@
 -- The messages of a run: one for each change of an address entry, and one more where a chip has applied the last such change.
 -- Source: the kernel's net/bridge/br_fdb.c (fdb_notify: RTM_NEWNEIGH and RTM_DELNEIGH of each change) and switchdev.rst
 -- (SWITCHDEV_FDB_OFFLOADED, by which a driver tells that the chip has the entry); the lines and the tickets are this profile's.
-use Rattle.std.specs.Prelude.{ℕ, ◌+◌, ◌==◌, Bool, true, false, not, ◌&&◌, if◌then◌else◌, List, [], ◌∷◌, ◌++◌, length, drop, codes}
+use Rattle.std.specs.Prelude.{ℕ, ◌+◌, ◌==◌, Bool, true, false, not, ◌&&◌, if◌then◌else◌, List, [], ◌∷◌, ◌++◌, drop, codes}
 use Rattle.std.specs.List.{flat_map, fold, list_all}
 use Rattle.std.specs.declared.option.Option.{Option}
 use Rattle.std.specs.declared.option.Option.TheVariants.{None, Some}

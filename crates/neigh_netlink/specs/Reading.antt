@@ -1,6 +1,6 @@
 -- Which bytes are a message, and what it says: just those that are written for it.
 -- Source: as of the bytes; that nothing else is accepted is this profile's.
-use Rattle.std.specs.Prelude.{ℕ, ◌+◌, ◌-◌, ◌==◌, Bool, ◌&&◌, if◌then◌else◌, bit_and, bytes_eq, List, [], ◌∷◌, slice_index, take, drop}
+use Rattle.std.specs.Prelude.{ℕ, ◌+◌, ◌-◌, ◌==◌, Bool, ◌&&◌, if◌then◌else◌, bit_and, bytes_eq, List, [], ◌∷◌, slice_index}
 use Rattle.std.specs.Int.{w16, w32, from_le_bytes}
 use Rattle.std.specs.declared.option.Option.{Option}
 use Rattle.std.specs.declared.option.Option.TheVariants.{None, Some}

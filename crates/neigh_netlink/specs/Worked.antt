@@ -1,6 +1,6 @@
 -- Worked runs: messages as text, and what is told of them.
 -- Source: this profile; the messages were worked out by hand.
-use Rattle.std.specs.Prelude.{ℕ, List, [], ◌∷◌, ◌++◌, codes}
+use Rattle.std.specs.Prelude.{ℕ, List, [], ◌∷◌, codes}
 use Rattle.br_model.specs.Theorems.WholeLines.{lines_text}
 
 -- Two static entries come.
