@@ -76,8 +76,8 @@ is_of_key vid mac (Router port on) = false
 is_of_key vid mac (Querier six on) = false
 is_of_key vid mac (Snoop on) = false
 is_of_key vid mac (Stp on) = false
-is_of_key vid mac (AddrPut v m port kind) = v == vid && m == mac
-is_of_key vid mac (AddrDel v m) = v == vid && m == mac
+is_of_key vid mac (AddrPut v m port kind) = vid == v && mac == m
+is_of_key vid mac (AddrDel v m) = vid == v && mac == m
 
 -- whether no deferred change behind that of the ticket is of this address
 abbrev pub is_last : World → ℕ → ℕ → ℕ → Bool

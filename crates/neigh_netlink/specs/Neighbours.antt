@@ -81,3 +81,10 @@ row e = (e.0.0, e.0.1, e.1.port, e.1.kind, e.1.offload)
 
 abbrev pub rows : Neighbours → List Row
 rows t = map row t
+
+-- the port and the kind alone, as the bridge's table has them
+abbrev pub place : Entry → ℕ × Kind
+place e = (e.port, e.kind)
+
+abbrev pub addresses : Neighbours → List (Key × (ℕ × Kind))
+addresses t = map (λ e. (e.0, place e.1)) t

@@ -1,11 +1,16 @@
 //! Laws about neighbour messages. A law is a function that does nothing: its contract says it.
 ghost use Rattle.std.specs.Prelude.{◌≡◌, ◌<◌, ◌^◌, ℕ, List, Some, true};
+ghost use Rattle.br_model.specs.declared.steps.Step.{Step};
+ghost use Rattle.br_model.specs.Plane.Runs.{run};
+ghost use Rattle.br_model.specs.Table.Setup.{Setup};
+ghost use Rattle.br_model.specs.Table.Table.{table};
 ghost use Rattle.br_model.specs.Worked.Chip.{moved_to_a_foreign_port_text};
 ghost use Rattle.br_model.specs.Worked.Rows.{first_frame_text};
 ghost use Rattle.neigh_netlink.specs.declared.neigh.Neigh.{Neigh};
 ghost use Rattle.neigh_netlink.specs.Messages.{has_ranges, is_message, written};
 ghost use Rattle.neigh_netlink.specs.Reading.{read};
-ghost use Rattle.neigh_netlink.specs.Monitor.{monitored};
+ghost use Rattle.neigh_netlink.specs.Monitor.{messages, monitored};
+ghost use Rattle.neigh_netlink.specs.Neighbours.{addresses, table_of};
 ghost use Rattle.neigh_netlink.specs.Worked.{monitor_and_follow_told, moved_entry_told};
 
 /// Each message that is written is read back.
@@ -16,6 +21,11 @@ pub fn messages_are_read()
 /// What is read is what is written for it.
 pub fn read_is_written()
     ensures { (b : List ℕ) (m : Neigh) → read b ≡ Some m → (is_message m ≡ true) × (written m ≡ b) }
+{}
+
+/// The messages of a run come to the address entries of all accepted changes.
+pub fn messages_are_the_entries()
+    ensures { (setup : Setup) (steps : List Step) → addresses (table_of (messages setup steps)) ≡ (table (run setup steps).0.history).addr }
 {}
 
 /// Two static entries come, at ports of software: a message each.
