@@ -1,10 +1,9 @@
 -- The messages of a run come to the address entries of its table.
-use Rattle.std.proofs.Common.{◌≡◌, ℕ, zero, suc, ◌+◌, Bool, true, false, T, not, cond, ◌&&◌, Some, None, Option, List, [], ◌∷◌, ◌++◌, length, map, drop, slice_get, refl, sym, ap, ap₂, subst, ◌∙◌, append_assoc, append-nil, arith}
-use Rattle.std.specs.Prelude.{◌==◌, if◌then◌else◌}
-use Rattle.std.specs.List.{fold, filter, list_all}
-use Rattle.std.specs.Bool.{passes}
+use Rattle.std.proofs.Common.{◌≡◌, ℕ, zero, suc, ◌+◌, Bool, true, false, T, not, cond, ◌&&◌, Some, None, Option, List, [], ◌∷◌, ◌++◌, length, drop, slice_get, refl, sym, ap, subst, ◌∙◌, append_assoc, append-nil, arith}
+use Rattle.std.specs.Prelude.{if◌then◌else◌}
+use Rattle.std.specs.List.{fold, list_all}
 use Rattle.std.specs.Cmp.{first_so, second_so, tied_itself}
-use Rattle.std.specs.Ordering.{is_eq, is_lt, eq_by_cmp, ordering_reverse}
+use Rattle.std.specs.Ordering.{is_eq, eq_by_cmp, ordering_reverse}
 use Rattle.std.specs.declared.cmp.Ordering.{Ordering}
 use Rattle.std.specs.declared.cmp.Ordering.TheVariants.{Less, Equal, Greater}
 use Rattle.std.specs.FinMap.Entries.{by_order, is_sorted, is_sorted-put, is_sorted-where_key, find-put, find-where_key, same_entries}
@@ -31,7 +30,7 @@ use Rattle.br_model.proofs.PairKeys.{pair_total, same_cmp, eq-pair}
 use Rattle.br_model.proofs.PlaneStays.{step-accepts}
 use Rattle.neigh_netlink.specs.declared.entries.Entry.{Entry}
 use Rattle.neigh_netlink.specs.declared.neigh.Neigh.{Neigh}
-use Rattle.neigh_netlink.specs.Neighbours.{Key, Neighbours, after_message, addresses, entry_of, place, table_of}
+use Rattle.neigh_netlink.specs.Neighbours.{Key, Neighbours, after_message, addresses, place, table_of}
 use Rattle.neigh_netlink.specs.Monitor.{accepted, applies_next, gone_message, is_last, is_of_key, message_of, messages, messages_in, messages_of, monitors, offloads, put_message, turned}
 
 abbrev Places : Type 0
