@@ -1,0 +1,5 @@
+//! Nothing but tests of the texts: commands, lines of a scenario and of a transcript.
+#![tactic(auto)]
+
+#[cfg(test)]
+mod tests;

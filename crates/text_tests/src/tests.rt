@@ -1,0 +1,3 @@
+//! Tests by crate.
+mod scenario;
+mod transcript;
