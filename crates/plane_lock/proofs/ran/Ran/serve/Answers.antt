@@ -1,0 +1,22 @@
+use Rattle.std.proofs.Common.{◌≡◌, List, [], ◌∷◌, ◌++◌, sym, ap, ◌∙◌, subst}
+use Rattle.br_model.specs.declared.steps.Step.{Step}
+use Rattle.br_model.specs.declared.steps.Step.TheVariants.{Serve}
+use Rattle.plane_core.specs.Added.{Added}
+use Rattle.plane_core.specs.Planes.{Steps}
+use Rattle.plane_lock.specs.Pasts.{after}
+use Rattle.plane_lock.proofs.Recording.{past-more, ran-more}
+use Rattle.plane_lock.proofs.ran.Ran.serve.Goals as goal
+
+steps-are : (c : goal.After-push_reserved) → c.push_reserved.new.self.items ≡ c.self.inside.steps.items ++ Serve ∷ []
+steps-are c = c.push_reserved.ensures.items ∙ ap (λ (l : List Step). l ++ Serve ∷ []) c.reserve.ensures.items
+
+told : (c : goal.After-push_reserved) → Added (Steps c.self.inside.plane c.serve_to.new.self Serve) c.self.inside.lines.lines c.serve_to.new.lines.lines
+told c = c.in_ok-serve_to.ensures.ok
+
+pub invariant_of-self-2 : goal.invariant_of-self-2
+invariant_of-self-2 c = ran-more c.self.inside.plane c.serve_to.new.self c.self.inside.steps.items c.push_reserved.new.self.items Serve c.self.inside.lines.lines c.serve_to.new.lines.lines c.self.invariant (told c) (steps-are c)
+
+pub returns-clause-ok : goal.returns-clause-ok
+returns-clause-ok c =
+    past-more c.self.inside.plane c.serve_to.new.self c.self.inside.steps.items c.push_reserved.new.self.items Serve c.self.inside.lines.lines c.serve_to.new.lines.lines c.self.invariant (told c) (steps-are c)
+    c.args.self.now c.self.view_is

@@ -1,0 +1,11 @@
+use Rattle.std.proofs.Common.{◌≡◌, List, sym, subst}
+use Rattle.std.proofs.lemmas.List.Elements.{All-map}
+use Rattle.deferred_queue.specs.Ends.{Posting}
+use Rattle.plane_lock.specs.Posted.{HavePosted, updates_of}
+use Rattle.plane_lock.specs.declared.queues.Queue.{Queue}
+use Rattle.plane_lock.proofs.shared.Shared.make.Goals as goal
+
+pub new-requires-clause-posted : goal.new-requires-clause-posted
+new-requires-clause-posted g c =
+    subst (λ (ps : List Posting). HavePosted (updates_of c.args.r) ps) (sym c.in-Ok.ensures.posters)
+    (All-map (λ (x : Posting). x.posted ≡ updates_of c.args.r) (λ (q : Queue). q.poster) c.args.q c.requires.posted)

@@ -1,0 +1,44 @@
+-- What a call under the lock makes of the past.
+use Rattle.std.specs.Prelude.{◌≡◌, ◌≢◌, ℕ, ◌==◌, if◌then◌else◌, length}
+use Rattle.std.specs.declared.result.Result.{Result}
+use Rattle.std.specs.declared.result.Result.TheVariants.{Ok, Err}
+use Rattle.br_model.specs.declared.steps.Step.{Step}
+use Rattle.br_model.specs.declared.steps.Step.TheVariants.{Publish}
+use Rattle.plane_core.specs.Planes.{NotPosted}
+use Rattle.plane_core.specs.declared.faults.PostFault.{PostFault}
+use Rattle.plane_core.specs.declared.faults.PostFault.TheVariants as posts
+use Rattle.plane_core.specs.declared.held.Held.{Held}
+use Rattle.table_publish.specs.declared.seat.Seen.{Seen}
+use Rattle.plane_lock.specs.Pasts.{Past, after, state_of, world_of}
+use Rattle.plane_lock.specs.declared.locked.ActFault.{ActFault}
+use Rattle.plane_lock.specs.declared.locked.ActFault.TheVariants.{NoMemory, Unpublished}
+
+-- how many changes were accepted
+abbrev pub changes_of : Past → ℕ
+changes_of p = length (world_of p).history
+
+-- what has another number of changes than this one is published
+abbrev pub published_after : ℕ → Past → Past
+published_after n p = if changes_of p == n then p else after p Publish
+
+-- The step is taken, and what it accepted is published.
+abbrev pub acted : Past → Step → Past
+acted p step = published_after (changes_of p) (after p step)
+
+-- The step stands, and what it accepted isn't published.
+abbrev pub IsUnpublished : Past → Past → Step → Type 0
+IsUnpublished old new step = (new ≡ after old step) × (changes_of new ≢ changes_of old)
+
+-- The step and its publication; the step without it; or nothing.
+abbrev pub Acted : Past → Past → Step → Result (Unit {0}) ActFault → Type 0
+Acted old new step (Ok done) = new ≡ acted old step
+Acted old new step (Err NoMemory) = new ≡ old
+Acted old new step (Err Unpublished) = IsUnpublished old new step
+
+-- Why a post came to nothing, in the order of the plane's tests; or its publication did.
+abbrev pub PostFails : Past → Past → Step → Held → Seen → PostFault → Type 0
+PostFails old new step h n (posts.NoMemory back) = (new ≡ old) × NotPosted (state_of old) (state_of new) h n (posts.NoMemory back)
+PostFails old new step h n (posts.Stranger back) = (new ≡ old) × NotPosted (state_of old) (state_of new) h n (posts.Stranger back)
+PostFails old new step h n (posts.Ahead back point published) =
+    (new ≡ old) × NotPosted (state_of old) (state_of new) h n (posts.Ahead back point published)
+PostFails old new step h n (posts.Unpublished lines) = IsUnpublished old new step

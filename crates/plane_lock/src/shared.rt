@@ -1,0 +1,180 @@
+//! The locks.
+ghost use Rattle.std.specs.Prelude.{◌≡◌, ◌<◌, ◌≤◌, ◌==◌, length, map, true, IfOk, IfSome};
+ghost use Rattle.std.specs.List.{All, list_any};
+ghost use Rattle.br_model.specs.Table.Domains.{chip_domains, has_chip};
+ghost use Rattle.plane_core.specs.Planes.{IsNamed};
+ghost use Rattle.table_publish.specs.Object.{Begins};
+ghost use Rattle.plane_lock.specs.Posted.{updates_of};
+ghost use Rattle.plane_lock.specs.Posts.{IsSeen};
+
+use crate::NoMemory;
+use crate::chair::Chair;
+use crate::locked::{ActFault, Locked};
+use crate::queues::{Driver, Queues};
+use crate::ran::Ran;
+use br_model::numbers::{Dom, Port};
+use br_model::steps::Event;
+use chip_pipeline::Pass;
+use plane_core::{Held, PostFault};
+use std::alloc::Global;
+use std::sync::{Mutex, MutexGuard, Wait};
+use table_publish::{Name, Seen};
+
+/// The plane behind its lock, and a driver lock for each domain that has a chip, which is always taken first. It isn't `Drop`: end the
+/// run that `close` gives.
+///
+/// Each call makes the call of its name of what the lock keeps, once it has the lock.
+pub struct Shared<N: Name> {
+    core: Mutex<Locked<N>>,
+    drivers: Vec<Driver>,
+    ghost doms: { map (λ d. d.dom) drivers.items ≡ chip_domains N.board.domains },
+}
+
+/// Where the driver of the domain stands.
+fn place_of(drivers: &[Driver], d: Dom) -> usize
+    requires { list_any (λ k. k == d) (map (λ d. d.dom) drivers.now) ≡ true }
+    ensures { result < length drivers.now }
+{
+    for place in 0..drivers.len() {
+        if drivers[place].dom == d {
+            return place;
+        }
+    }
+    unreachable!()
+}
+
+impl<N: Name> Shared<N> {
+    /// The run behind the lock. Its queues are those of the domains that have a chip, ascending, and each has been posted the updates
+    /// of the run. After want of memory the run and the queues are ended.
+    pub fn make<R: Wait>(rt: &R, alloc: Global, r: Ran, q: Queues) -> Result<Shared<N>, NoMemory>
+        requires board { r.board ≡ N.board }
+        requires setup { r.setup ≡ record { domains = N.board.domains; own = N.own } }
+        requires doms { map (λ x. x.dom) q ≡ chip_domains N.board.domains }
+        requires posted { All (λ x. x.poster.posted ≡ updates_of r) q }
+    {
+        match q.split(alloc) {
+            Ok((posters, drivers)) => Ok(Shared {
+                core: Mutex::new(Locked::new(r, posters)),
+                drivers,
+            }),
+            Err(error) => {
+                let _book = r.book(rt);
+                Err(error)
+            }
+        }
+    }
+
+    /// A frame of these bytes enters at the port. The answer is the chip's, where it decided the frame.
+    pub fn enter<R: Wait>(
+        &self,
+        rt: &R,
+        alloc: Global,
+        p: Port,
+        b: &[u8],
+    ) -> Result<Option<Pass>, NoMemory> {
+        let mut core = self.core.lock(rt);
+        let pass = core.enter(alloc, p, b);
+        MutexGuard::unlock(core);
+        pass
+    }
+
+    /// An event that a scenario names.
+    pub fn accept<R: Wait>(&self, rt: &R, alloc: Global, e: &Event) -> Result<(), ActFault>
+        requires { IsNamed e.now }
+    {
+        let mut core = self.core.lock(rt);
+        let done = core.accept(rt, alloc, e);
+        MutexGuard::unlock(core);
+        done
+    }
+
+    /// The chip of the domain applies the next deferred change, once the queue has told of one: `false`, and no step, where no update
+    /// was kept from an earlier turn and the queue was empty at its take.
+    pub fn turn<R: Wait>(&self, rt: &R, d: Dom) -> Result<bool, NoMemory>
+        requires { has_chip N.board.domains d ≡ true }
+    {
+        let driver = &self.drivers[place_of(&self.drivers, d)];
+        let mut desk = driver.desk.lock(rt);
+        let Some(update) = desk.next(rt) else {
+            return Ok(false);
+        };
+        let mut core = self.core.lock(rt);
+        let turned = core.turn(d, update);
+        let applied = core.applied(d);
+        MutexGuard::unlock(core);
+        desk.done(applied);
+        turned?;
+        Ok(true)
+    }
+
+    /// The bridge is told the oldest report of the domain's chip.
+    pub fn report<R: Wait>(&self, rt: &R, alloc: Global, d: Dom) -> Result<(), ActFault>
+        requires { has_chip N.board.domains d ≡ true }
+    {
+        let mut core = self.core.lock(rt);
+        let done = core.report(rt, alloc, d);
+        MutexGuard::unlock(core);
+        done
+    }
+
+    /// The bridge forgets the stations that the chip of the domain no longer sees.
+    pub fn sweep<R: Wait>(&self, rt: &R, alloc: Global, d: Dom) -> Result<(), ActFault>
+        requires { has_chip N.board.domains d ≡ true }
+    {
+        let mut core = self.core.lock(rt);
+        let done = core.sweep(rt, alloc, d);
+        MutexGuard::unlock(core);
+        done
+    }
+
+    /// All accepted changes are published.
+    pub fn publish<R: Wait>(&self, rt: &R, alloc: Global) -> Result<(), NoMemory> {
+        let mut core = self.core.lock(rt);
+        let done = core.publish(rt, alloc);
+        MutexGuard::unlock(core);
+        done
+    }
+
+    /// The oldest frame that waits is held, and the chair is told of all that is published. No step where no frame waits.
+    pub fn open_as<R: Wait>(
+        &self,
+        rt: &R,
+        alloc: Global,
+        c: &mut Chair<N>,
+    ) -> Result<Option<Held>, NoMemory>
+        ensures kept { Begins c.new.object c.old.object }
+        ensures floor { IfOk result (λ held. IfSome held (λ h. h.floor ≤ length c.new.object.changes)) }
+    {
+        let mut core = self.core.lock(rt);
+        let held = core.open_as(alloc, c);
+        MutexGuard::unlock(core);
+        held
+    }
+
+    /// A held frame is posted by a decision that the chair looked up.
+    pub fn post_as<R: Wait>(
+        &self,
+        rt: &R,
+        alloc: Global,
+        c: &mut Chair<N>,
+        h: Held,
+        n: Seen,
+    ) -> Result<(), PostFault>
+        requires { IsSeen N.board.domains c.old.object h n }
+        ensures { Begins c.new.object c.old.object }
+    {
+        let mut core = self.core.lock(rt);
+        let done = core.post_as(rt, alloc, c, h, n);
+        MutexGuard::unlock(core);
+        done
+    }
+
+    /// The run, once no call is under way.
+    pub fn close(self) -> Ran
+        ensures board { result.board ≡ N.board }
+        ensures setup { result.setup ≡ record { domains = N.board.domains; own = N.own } }
+    {
+        let Shared { core, drivers: _ } = self;
+        core.into_inner().into_ran()
+    }
+}
