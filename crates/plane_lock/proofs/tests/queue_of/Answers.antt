@@ -1,0 +1,23 @@
+use Rattle.std.proofs.Common.{◌≡◌, List, [], ◌++◌, ap, sym, subst, ◌∙◌}
+use Rattle.std.proofs.lemmas.List.Elements.{All-nil, All-push, All-same}
+use Rattle.std.specs.List.{All}
+use Rattle.br_model.specs.declared.change.Update.{Update}
+use Rattle.br_model.specs.Table.Change.{updates}
+use Rattle.plane_lock.specs.declared.queues.Queue.{Queue}
+use Rattle.plane_lock.specs.Posted.{updates_of}
+use Rattle.plane_lock.proofs.Settling.{updates-there}
+use Rattle.plane_lock.proofs.tests.queue_of.Goals as goal
+
+-- nothing was posted yet
+pub post_updates-requires : goal.post_updates-requires
+post_updates-requires g c =
+    let us = updates c.plane.result.now.world.setup.domains.edition c.plane.result.now.world.history in (us, ap (λ (l : List Update). l ++ us) c.in_ok-poster.ensures.empty.0)
+
+pub loop-init : goal.loop-init
+loop-init g c = c.post_updates.ensures ∙ updates-there c.args.ran.now c.plane.result.now c.plane.ensures
+
+pub returns-clause-posted : goal.returns-clause-posted
+returns-clause-posted g c =
+    let P : Queue → Type 0 = λ x. x.poster.posted ≡ updates_of c.args.ran.now in
+    subst (λ (q : List Queue). All P q) (sym c.in_ok-push.ensures.ok)
+    (All-push P c.new-queues.result _ (All-same P c.new-queues.result [] c.new-queues.ensures (All-nil P)) c.loop.invariant)

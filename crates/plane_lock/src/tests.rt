@@ -1,0 +1,271 @@
+//! The queue's use, and each call of the locks where it has work.
+ghost use Rattle.std.specs.Prelude.{◌≡◌, ◌≢◌, ◌<◌, ◌≤◌, [], ◌∷◌, map, true, length, IfOk, IfSome, OnOk};
+ghost use Rattle.std.specs.List.{All};
+ghost use Rattle.br_model.specs.Table.Domains.{chip_domains, has_chip, host};
+ghost use Rattle.plane_lock.specs.Posted.{updates_of};
+ghost use Rattle.plane_lock.specs.Posts.{IsSeen};
+ghost use Rattle.table_publish.specs.Board.{newcomer};
+
+use crate::chair::Chair;
+use crate::locked::post_updates;
+use crate::queues::{Queue, Queues};
+use crate::ran::Ran;
+use crate::shared::Shared;
+use br_model::change::Kind;
+use br_model::domains::Domains;
+use br_model::numbers::{Dom, Mac, Port, Vid};
+use br_model::steps::{Command, Event};
+use ether_frames::parse;
+use igmp_mld::classify;
+use plane_core::{Held, Plane};
+use std::alloc::Global;
+use std::marker::Brand;
+use std::process::Abort;
+use std::sync::Wait;
+use std::test::Fail;
+use table_publish::{Board, Name, Seat, Seen};
+
+fn port(number: u8) -> Result<Port, Fail>
+    ensures { IfOk result (λ p. p ≡ number) }
+{
+    Ok(Port::new(number).ok_or("port")?)
+}
+
+/// Two ports of the chip, and one of software.
+fn domains() -> Result<Domains, Fail>
+    ensures { IfOk result (λ d. chip_domains d ≡ 1 ∷ []) }
+{
+    let mut domains = Domains::make();
+    domains.set(port(1)?, Dom::CHIP);
+    domains.set(port(2)?, Dom::CHIP);
+    domains.set(port(3)?, Dom::SOFTWARE);
+    Ok(domains)
+}
+
+/// The address of station `number`.
+fn station(number: u8) -> Mac {
+    Mac::new([2, 0, 0, 0, 0, number])
+}
+
+/// A static address of station `number` at port 2.
+fn address(number: u8) -> Result<Command, Fail> {
+    Ok(Command::FdbAdd {
+        vid: Vid::DEFAULT,
+        mac: station(number),
+        port: port(2)?,
+        kind: Kind::Static,
+    })
+}
+
+/// A frame of station 10 to station 11.
+const FRAME: [u8; 16] = [2, 0, 0, 0, 0, 11, 2, 0, 0, 0, 0, 10, 0x88, 0xB5, 0, 0];
+
+fn command(alloc: Global, ran: &mut Ran, command: Command) -> Result<(), Fail>
+    ensures board { ran.new.board ≡ ran.old.board }
+    ensures setup { ran.new.setup ≡ ran.old.setup }
+{
+    ran.accept(alloc, &Event::Cmd(command))?;
+    Ok(())
+}
+
+/// The three ports come up, and that is published.
+fn begin<R: Wait>(rt: &R, alloc: Global, ran: &mut Ran) -> Result<(), Fail>
+    ensures board { ran.new.board ≡ ran.old.board }
+    ensures setup { ran.new.setup ≡ ran.old.setup }
+{
+    command(alloc, ran, Command::PortUp(port(1)?))?;
+    command(alloc, ran, Command::PortUp(port(2)?))?;
+    command(alloc, ran, Command::PortUp(port(3)?))?;
+    ran.publish(rt, alloc)?;
+    Ok(())
+}
+
+/// The queue of the chip, which has been posted the updates of the run, of which so many were taken.
+fn queue_of<R: Wait>(rt: &R, alloc: Global, ran: &Ran, taken: u32) -> Result<Queues, Fail>
+    ensures doms { IfOk result (λ q. map (λ x. x.dom) q ≡ 1 ∷ []) }
+    ensures posted { IfOk result (λ q. All (λ x. x.poster.posted ≡ updates_of ran.now) q) }
+{
+    let (mut poster, mut taker) = deferred_queue::make(alloc)?;
+    post_updates(rt, &mut poster, ran.plane());
+    for _ in 0..taken {
+        let _update = taker.take(rt);
+    }
+    let mut queues = Queues::new(alloc);
+    queues.push(Queue {
+        dom: Dom::CHIP,
+        poster,
+        taker,
+    })?;
+    Ok(queues)
+}
+
+/// A run of two static addresses whose updates were posted and taken.
+fn emptied_queue<R: Wait>(rt: &R, alloc: Global, ran: &mut Ran) -> Result<Queues, Fail>
+    ensures board { ran.new.board ≡ ran.old.board }
+    ensures setup { ran.new.setup ≡ ran.old.setup }
+    ensures doms { IfOk result (λ q. map (λ x. x.dom) q ≡ 1 ∷ []) }
+    ensures posted { IfOk result (λ q. All (λ x. x.poster.posted ≡ updates_of ran.new) q) }
+{
+    begin(rt, alloc, ran)?;
+    command(alloc, ran, address(11)?)?;
+    command(alloc, ran, address(12)?)?;
+    queue_of(rt, alloc, ran, 2)
+}
+
+/// A run whose ports are up, with its queue.
+fn begun_queue<R: Wait>(rt: &R, alloc: Global, ran: &mut Ran) -> Result<Queues, Fail>
+    ensures board { ran.new.board ≡ ran.old.board }
+    ensures setup { ran.new.setup ≡ ran.old.setup }
+    ensures doms { IfOk result (λ q. map (λ x. x.dom) q ≡ 1 ∷ []) }
+    ensures posted { IfOk result (λ q. All (λ x. x.poster.posted ≡ updates_of ran.new) q) }
+{
+    begin(rt, alloc, ran)?;
+    queue_of(rt, alloc, ran, 0)
+}
+
+/// No step before the third address. Then a step for each update, the third of which is kept meanwhile.
+fn turn_by_the_queue<N: Name, R: Wait + Abort>(
+    rt: &R,
+    alloc: Global,
+    shared: &Shared<N>,
+) -> Result<(), Fail>
+    requires { has_chip N.board.domains 1 ≡ true }
+{
+    assert!(rt; !shared.turn(rt, Dom::CHIP)?);
+    shared.accept(rt, alloc, &Event::Cmd(address(13)?))?;
+    for _ in 0..3 {
+        assert!(rt; shared.turn(rt, Dom::CHIP)?);
+    }
+    assert!(rt; !shared.turn(rt, Dom::CHIP)?);
+    Ok(())
+}
+
+fn use_queue<N: Name, R: Wait + Abort>(rt: &R, alloc: Global, ran: Ran) -> Result<(), Fail>
+    requires board { ran.board ≡ N.board }
+    requires setup { ran.setup ≡ record { domains = N.board.domains; own = N.own } }
+    requires chips { chip_domains N.board.domains ≡ 1 ∷ [] }
+{
+    let mut ran = ran;
+    match emptied_queue(rt, alloc, &mut ran) {
+        Ok(queues) => {
+            let shared = Shared::<N>::make(rt, alloc, ran, queues)?;
+            let turned = turn_by_the_queue(rt, alloc, &shared);
+            let ran = shared.close();
+            let applied = ran.plane().applied(Dom::CHIP);
+            let book = ran.book(rt);
+            turned?;
+            assert_eq!(rt; applied, 3);
+            // Four steps before the first address, three addresses, a publication and three turns.
+            assert_eq!(rt; book.steps.len(), 11);
+            Ok(())
+        }
+        Err(error) => {
+            let _book = ran.book(rt);
+            Err(error)
+        }
+    }
+}
+
+#[test]
+fn turns_go_by_the_queue(rt: HostRuntime) -> Result<(), Fail> {
+    let alloc = rt.alloc();
+    let domains = domains()?;
+    let (board, _seats) = Board::make(&rt, alloc, &domains, 1)?;
+    let plane = Plane::make(&rt, alloc, domains, Mac::FIRST_OWN, board)?;
+    use_queue::<Brand, HostRuntime>(&rt, alloc, Ran::make(alloc, plane))
+}
+
+fn is_sent<T: Send>() {}
+
+fn is_shared<T: Sync>() {}
+
+/// Threads share the locks, and a chair, a held frame and a decision of it go from one to another.
+fn serve_threads<N: Name + Send + Sync>() {
+    is_shared::<Shared<N>>();
+    is_sent::<Chair<N>>();
+    is_sent::<Held>();
+    is_sent::<Seen>();
+}
+
+/// The chair's decision of a held frame.
+fn decide<N: Name>(chair: &mut Chair<N>, held: &Held) -> Result<Seen, Fail>
+    requires { held.now.floor ≤ length chair.old.object.changes }
+    ensures { IfOk result (IsSeen N.board.domains chair.new.object held.now) }
+{
+    let head = parse(held.bytes.as_slice())?;
+    let message = classify(held.bytes.as_slice(), &head);
+    Ok(
+        chair
+            .lookup(held.port, &head, &message)
+            .ok_or("no reading")?,
+    )
+}
+
+/// Each call but `turn` once, where it has work: a frame at a port of the chip is held, posted and reported, and then the bridge
+/// forgets its station.
+fn use_each_call<N: Name, R: Wait + Abort>(
+    rt: &R,
+    alloc: Global,
+    shared: &Shared<N>,
+    chair: &mut Chair<N>,
+) -> Result<(), Fail>
+    requires { has_chip N.board.domains 1 ≡ true }
+{
+    assert!(rt; shared.enter(rt, alloc, port(1)?, &FRAME)?.is_some());
+    let Some(held) = shared.open_as(rt, alloc, chair)? else {
+        return Err(Fail::new("no frame"));
+    };
+    let seen = decide(chair, &held)?;
+    match shared.post_as(rt, alloc, chair, held, seen) {
+        Ok(()) => {}
+        Err(_) => return Err(Fail::new("not posted")),
+    }
+    shared.report(rt, alloc, Dom::CHIP)?;
+    assert!(rt; shared.turn(rt, Dom::CHIP)?);
+    shared.sweep(rt, alloc, Dom::CHIP)?;
+    shared.publish(rt, alloc)?;
+    Ok(())
+}
+
+fn use_locks<N: Name, R: Wait + Abort>(
+    rt: &R,
+    alloc: Global,
+    ran: Ran,
+    seat: Seat,
+) -> Result<(), Fail>
+    requires board { ran.board ≡ N.board }
+    requires setup { ran.setup ≡ record { domains = N.board.domains; own = N.own } }
+    requires chips { chip_domains N.board.domains ≡ 1 ∷ [] }
+    requires seat { seat ≡ newcomer N.board }
+{
+    let mut ran = ran;
+    let mut chair = Chair::<N>::new(seat);
+    match begun_queue(rt, alloc, &mut ran) {
+        Ok(queues) => {
+            let shared = Shared::<N>::make(rt, alloc, ran, queues)?;
+            let used = use_each_call(rt, alloc, &shared, &mut chair);
+            let book = shared.close().book(rt);
+            used?;
+            // The post and the sweep change nothing, so of the calls the report alone is followed by a publication.
+            assert_eq!(rt; book.steps.len(), 12);
+            Ok(())
+        }
+        Err(error) => {
+            let _book = ran.book(rt);
+            Err(error)
+        }
+    }
+}
+
+#[test]
+fn each_call_has_work(rt: HostRuntime) -> Result<(), Fail> {
+    serve_threads::<Brand>();
+    let alloc = rt.alloc();
+    let domains = domains()?;
+    let (board, mut seats) = Board::make(&rt, alloc, &domains, 1)?;
+    let Some(seat) = seats.next() else {
+        unreachable!()
+    };
+    let plane = Plane::make(&rt, alloc, domains, Mac::FIRST_OWN, board)?;
+    use_locks::<Brand, HostRuntime>(&rt, alloc, Ran::make(alloc, plane), seat)
+}
