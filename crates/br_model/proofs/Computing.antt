@@ -8,9 +8,12 @@ use Rattle.br_model.specs.Wire.Messages.{message}
 use Rattle.br_model.specs.Text.Operands.{number, chip_domain, new_port, new_name, port_number, port_name, device, mac, group, hex, flag}
 use Rattle.br_model.specs.Plane.Runs.{run}
 use Rattle.br_model.specs.Control.Reaction.{react}
-use Rattle.br_model.specs.Program.Runs.{told}
+use Rattle.br_model.specs.Program.Checks.{checked, check_answer}
+use Rattle.br_model.specs.Program.LiveRun.{is_live_run}
+use Rattle.br_model.specs.Program.Runs.{told, told_by}
+use Rattle.br_model.specs.Program.LiveText.{steps_scenario}
 use Rattle.br_model.specs.Wire.Captures.{cut, read as read_blocks}
-use Rattle.br_model.specs.Text.Scenario.{front, read, scenario_by}
+use Rattle.br_model.specs.Text.Scenario.{behind_end, front, read, scenario_by}
 use Rattle.br_model.specs.Program.Summary.{summary}
 use Rattle.br_model.specs.Tree.Sending.{transmit, drops_put_off}
 use Rattle.br_model.specs.Tree.States.{states_follow, states_move}
@@ -37,3 +40,13 @@ computing_captures = tt
 unfoldable pub computing_commands : Unit {0}
 unfolding computing listed made frames_from summary
 computing_commands = tt
+
+-- and this one those of `check`
+unfoldable pub computing_checks : Unit {0}
+unfolding computing told_by behind_end checked check_answer
+computing_checks = tt
+
+-- and these those of `live`
+unfoldable pub computing_live : Unit {0}
+unfolding computing is_live_run steps_scenario
+computing_live = tt

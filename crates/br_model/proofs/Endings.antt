@@ -1,5 +1,5 @@
 -- What has ended stays, and every scenario ends.
-use Rattle.std.proofs.Common.{◌≡◌, ℕ, ◌+◌, Bool, true, false, if◌then◌else◌, List, [], ◌∷◌, refl, sym, ◌∙◌}
+use Rattle.std.proofs.Common.{◌≡◌, ℕ, ◌+◌, Bool, true, false, if◌then◌else◌, List, [], ◌∷◌, refl, sym, ◌∙◌, ap}
 use Rattle.br_model.specs.declared.scenario.LineWhy.TheVariants.{Place, Unended}
 use Rattle.br_model.specs.Text.CommandForms.{step}
 use Rattle.br_model.specs.Text.Words.{words}
@@ -11,15 +11,27 @@ has_ended Going = false
 has_ended Ended = true
 has_ended (Bad n why) = true
 
-stays : (d : Ending) (s : Scenario) (bytes : List ℕ) (go_on : ℕ → Scenario → Progress) → has_ended d ≡ true → reads_at d s bytes go_on ≡ record { scenario = s; line = [] }
+-- what stands behind the end
+abbrev pub behind_at : Ending → List ℕ → List ℕ
+behind_at Going bytes = []
+behind_at Ended bytes = bytes
+behind_at (Bad n why) bytes = []
+
+stays : (d : Ending) (s : Scenario) (bytes : List ℕ) (go_on : ℕ → Scenario → Progress) → has_ended d ≡ true
+    → reads_at d s bytes go_on ≡ record { scenario = s; line = []; behind = behind_at d bytes }
 stays Going s bytes go_on h = absurd (cc)
 stays Ended s bytes go_on h = refl
 stays (Bad n why) s bytes go_on h = refl
 
 -- what has ended takes no more lines
-pub read_ended : (s : Scenario) (bytes : List ℕ) → has_ended s.ending ≡ true → read 0 s bytes ≡ record { scenario = s; line = [] }
+nothing_behind : (d : Ending) → behind_at d [] ≡ []
+nothing_behind Going = refl
+nothing_behind Ended = refl
+nothing_behind (Bad n why) = refl
+
+pub read_ended : (s : Scenario) (bytes : List ℕ) → has_ended s.ending ≡ true → read 0 s bytes ≡ record { scenario = s; line = []; behind = behind_at s.ending bytes }
 unfolding read
-read_ended s [] e = refl
+read_ended s [] e = ap (λ (b : List ℕ). record { scenario = s; line = []; behind = b }) (sym (nothing_behind s.ending))
 read_ended s (byte ∷ bytes) e = stays s.ending s (byte ∷ bytes) (λ n t. read n t bytes) e
 
 closes_by : (d : Ending) (s : Scenario) (line : List ℕ) → has_ended d ≡ true → closes_at d s line ≡ s

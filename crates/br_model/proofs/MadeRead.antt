@@ -255,11 +255,11 @@ says_first = refl
 first_read : (more : List ℕ) → read 0 (begun 7 ports) (step_text ports (Cmd (PortUp 1)) ++ more) ≡ read 0 (at 8 (Cmd (PortUp 1) ∷ [])) more
 first_read more = read_line (begun 7 ports) (Does (Cmd (PortUp 1))) (codes "cmd port up g1") [] more refl refl says_first refl
 
-end_read : (n : ℕ) (done : List Step) → read 0 (at n done) (codes "end" ++ 10 ∷ []) ≡ record { scenario = record (at (n + 1) done) { ending = Ended }; line = [] }
+end_read : (n : ℕ) (done : List Step) → read 0 (at n done) (codes "end" ++ 10 ∷ []) ≡ record { scenario = record (at (n + 1) done) { ending = Ended }; line = []; behind = [] }
 unfolding computing
 end_read n done =
     read_line (at n done) Ends (codes "end") [] [] refl refl refl refl
-    ∙ ap (λ (all : List Step). record { scenario = record (at (n + 1) all) { ending = Ended }; line = [] }) (append-nil done)
+    ∙ ap (λ (all : List Step). record { scenario = record (at (n + 1) all) { ending = Ended }; line = []; behind = [] }) (append-nil done)
 
 -- the steps behind the first
 later : ℕ → ℕ → List Step

@@ -67,7 +67,7 @@ read_line s said line section more going h says sized =
     let rest : List ℕ = section ++ more in
     let n : ℕ = section_length said in
     says_so s line rest (Ok said) going h says
-    ∙ ap (λ b. if b then record { scenario = s; line = [] } else read (length line + n) (takes s said (take n rest)) (tail_of line rest))
+    ∙ ap (λ b. if b then record { scenario = s; line = []; behind = [] } else read (length line + n) (takes s said (take n rest)) (tail_of line rest))
     (not_below (length rest) n (omega (arith, sized, length-append section more)))
     ∙ behind_line (takes s said (take n rest)) line rest n
     ∙ ap (λ k. read k (takes s said (take k rest)) rest) (sym sized)
@@ -77,24 +77,24 @@ read_line s said line section more going h says sized =
 
 -- with a part of its section
 pub read_part : (s : Scenario) (said : Said) (line part : List ℕ) → s.ending ≡ Going → is_line line ≡ true → whole_says s.roster line ≡ Ok said → length part < section_length said
-    → read 0 s (line ++ 10 ∷ part) ≡ record { scenario = s; line = [] }
+    → read 0 s (line ++ 10 ∷ part) ≡ record { scenario = s; line = []; behind = [] }
 read_part s said line part going h says short =
     says_so s line part (Ok said) going h says
-    ∙ ap (λ b. if b then record { scenario = s; line = [] } else read (length line + section_length said) (takes s said (take (section_length said) part)) (tail_of line part))
+    ∙ ap (λ b. if b then record { scenario = s; line = []; behind = [] } else read (length line + section_length said) (takes s said (take (section_length said) part)) (tail_of line part))
     (below (length part) (section_length said) short)
 
 -- a bad line
 pub read_bad : (s : Scenario) (why : LineWhy) (line more : List ℕ) → s.ending ≡ Going → is_line line ≡ true → whole_says s.roster line ≡ Err why
-    → read 0 s (line ++ 10 ∷ more) ≡ record { scenario = bad s why; line = [] }
+    → read 0 s (line ++ 10 ∷ more) ≡ record { scenario = bad s why; line = []; behind = [] }
 read_bad s why line more going h says = says_so s line more (Err why) going h says
 
 -- a line without its line feed, which isn't too long
-pub read_rest : (s : Scenario) (rest : List ℕ) → s.ending ≡ Going → is_line rest ≡ true → length rest ≤ longest_line → read 0 s rest ≡ record { scenario = s; line = rest }
+pub read_rest : (s : Scenario) (rest : List ℕ) → s.ending ≡ Going → is_line rest ≡ true → length rest ≤ longest_line → read 0 s rest ≡ record { scenario = s; line = rest; behind = [] }
 unfolding read
 read_rest s [] going h short = refl
 read_rest s (byte ∷ bytes) going h short =
     reads_so s byte bytes None going (front_none (byte ∷ bytes) h)
-    ∙ ap (λ b. record { scenario = if b then bad s Long else s; line = byte ∷ bytes }) (not_below longest_line (length (byte ∷ bytes)) short)
+    ∙ ap (λ b. record { scenario = if b then bad s Long else s; line = byte ∷ bytes; behind = [] }) (not_below longest_line (length (byte ∷ bytes)) short)
 
 -- a line that is too long
 

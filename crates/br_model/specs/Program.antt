@@ -4,3 +4,7 @@ pub mod Listings
 pub mod Generator
 pub mod Summary
 pub mod Outcomes
+pub mod Checks
+pub mod SameSteps
+pub mod LiveRun
+pub mod LiveText

@@ -6,5 +6,6 @@ pub mod Agreement
 pub mod Applying
 pub mod EndsTied
 pub mod TreeLaws
+pub mod LiveRuns
 pub mod WholeLines
 pub mod WrittenSteps

@@ -5,6 +5,7 @@ pub mod Vlans
 pub mod Addresses
 pub mod Chip
 pub mod Hold
+pub mod Endings
 pub mod Domains
 pub mod Tree
 pub mod TreeRows
@@ -12,4 +13,6 @@ pub mod Groups
 pub mod Snooping
 pub mod Captures
 pub mod Commands
+pub mod Checks
+pub mod LiveRuns
 pub mod Frames

@@ -120,7 +120,7 @@ module _ (left : Option (List ℕ)) (limit : ℕ) where
           within = not_too_long left now p.input t p.given (omega (arith, p.counts, p.within)) finished k;
         }
 
-    module _ (line : List ℕ) (is : read 0 s (ahead ++ r.held) ≡ record { scenario = s; line = line }) where
+    module _ (line : List ℕ) (is : read 0 s (ahead ++ r.held) ≡ record { scenario = s; line = line; behind = [] }) where
       closed_so : scenario p.input ≡ closes s line
       closed_so = scenario_is p.input ∙ ap closed (here ∙ is)
 

@@ -5,8 +5,9 @@ use Rattle.std.specs.declared.option.Option.TheVariants.{None, Some}
 use Rattle.run_io.specs.Causes.{Rose}
 use Rattle.br_model.specs.Program.Generator.{made}
 use Rattle.br_model.specs.Program.Listings.{listed}
-use Rattle.br_model.specs.Program.Outcomes.{Call, Wrote, Makes, Answers, AnswersBad, IsNotTooLong, StopsAfter, StopsFullAfter}
+use Rattle.br_model.specs.Program.Outcomes.{Call, Wrote, Makes, Answers, AnswersBad, GoesOn, IsNotTooLong, StopsAfter, StopsFull}
 use Rattle.br_model.specs.Program.Runs.{body, told}
+use Rattle.br_model.specs.Table.Limits.{most_bytes}
 use Rattle.br_model.specs.Text.Scenario.{Ended}
 use Rattle.br_model.specs.Program.Summary.{summary}
 use Rattle.capture_runner.specs.declared.asked.Asked.{Asked}
@@ -31,13 +32,13 @@ last_line text = text ++ 10 ∷ []
 -- What a command does that reads a scenario: `answer` is what it writes for its bytes, `before` what stands before the last line
 -- where it stops on its way, and `lacking` holds where it lacks memory. Of a failed write nothing is said.
 abbrev pub Reads : (List ℕ → List ℕ) → (List ℕ → List ℕ) → (Call → Type 0) → Status → Call → Type 0
-Reads answer before lacking statuses.Ok call = Answers answer call Ended × IsNotTooLong call
+Reads answer before lacking statuses.Ok call = Answers answer call Ended × IsNotTooLong most_bytes call
 Reads answer before lacking statuses.Usage call = ⊥
-Reads answer before lacking statuses.BadLine call = AnswersBad answer call × IsNotTooLong call
-Reads answer before lacking statuses.ReadFault call = StopsAfter before call (last_line (codes "read fault"))
+Reads answer before lacking statuses.BadLine call = AnswersBad answer call × IsNotTooLong most_bytes call
+Reads answer before lacking statuses.ReadFault call = StopsAfter GoesOn before call (last_line (codes "read fault"))
 Reads answer before lacking statuses.WriteFault call = Unit {0}
 Reads answer before lacking statuses.NoMemory call = lacking call
-Reads answer before lacking statuses.TooLong call = StopsFullAfter before call (last_line (codes "too long"))
+Reads answer before lacking statuses.TooLong call = StopsFull most_bytes GoesOn before call (last_line (codes "too long"))
 
 -- What a command does that reads nothing: this is what it writes, whole or not at all.
 abbrev pub Writes : List ℕ → Status → Call → Type 0

@@ -1,12 +1,11 @@
 -- How a run may end, by what it saw of its source and did to its sink. A source or a sink may tell its bytes or not. Of a
 -- sink that doesn't, nothing is said; of a source that doesn't, that the output is that of some input.
 -- Source: this profile.
-use Rattle.std.specs.Prelude.{◌≡◌, ℕ, ◌≤◌, false, List, [], ◌++◌, length, take, IfSome}
+use Rattle.std.specs.Prelude.{◌≡◌, ℕ, ◌<◌, ◌≤◌, false, List, [], ◌++◌, length, take, IfSome, IsSomeAnd}
 use Rattle.std.specs.declared.option.Option.{Option}
-use Rattle.std.specs.Io.KnownBytes.{Appends, Consumes}
+use Rattle.std.specs.Io.KnownBytes.{Appends, Consumes, append_known}
 use Rattle.br_model.specs.declared.scenario.LineWhy.{LineWhy}
-use Rattle.br_model.specs.Table.Limits.{most_bytes}
-use Rattle.br_model.specs.Text.Scenario.{Ending, Going, Bad, opened, reads, scenario}
+use Rattle.br_model.specs.Text.Scenario.{Ending, Going, Ended, Bad, opened, reads, scenario}
 
 -- what a call saw and did
 pub record Call : Type 0 where
@@ -51,18 +50,52 @@ GoesOn bytes = (reads (opened false) bytes).ending ≡ Going
 abbrev pub HoldsNoEnd : ℕ → List ℕ → Type 0
 HoldsNoEnd limit bytes = (limit ≤ length bytes) × GoesOn (take limit bytes)
 
-abbrev pub IsNotTooLong : Call → Type 0
-IsNotTooLong call = IfSome call.left_before (λ bytes. ¬ HoldsNoEnd most_bytes bytes)
+-- What the source had left isn't so, if it tells it.
+abbrev pub IsNotTooLong : ℕ → Call → Type 0
+IsNotTooLong limit call = IfSome call.left_before (λ bytes. ¬ HoldsNoEnd limit bytes)
 
--- The run stops on its way: the bytes that were read neither end the scenario nor hold a bad line, and the output is what stands
--- before the last line for them, and then this last line.
-pub record StopsAfter (before : List ℕ → List ℕ) (call : Call) (last : List ℕ) : Type 0 where
+-- The run stops on its way: the bytes that were read are such that it goes on, and the output is what stands before the last line for
+-- them, and then this last line.
+pub record StopsAfter (OnItsWay : List ℕ → Type 0) (before : List ℕ → List ℕ) (call : Call) (last : List ℕ) : Type 0 where
   pub input : List ℕ
   pub read : Read call input
-  pub going : GoesOn input
+  pub going : OnItsWay input
   pub wrote : Wrote call (before input ++ last)
 
+-- The same where fewer bytes were read than may be.
+pub record StopsBelow (limit : ℕ) (OnItsWay : List ℕ → Type 0) (before : List ℕ → List ℕ) (call : Call) (last : List ℕ) : Type 0 where
+  pub stops : StopsAfter OnItsWay before call last
+  pub below : length stops.input < limit
+
 -- The same where as many bytes were read as may be.
-pub record StopsFullAfter (before : List ℕ → List ℕ) (call : Call) (last : List ℕ) : Type 0 where
-  pub stops : StopsAfter before call last
-  pub full : length stops.input ≡ most_bytes
+pub record StopsFull (limit : ℕ) (OnItsWay : List ℕ → Type 0) (before : List ℕ → List ℕ) (call : Call) (last : List ℕ) : Type 0 where
+  pub stops : StopsAfter OnItsWay before call last
+  pub full : length stops.input ≡ limit
+
+-- The run lacks memory on its way: the output is the first parts of what stands before the last line for the bytes that were
+-- read, so many of them and each of them whole, and then this last line.
+pub record Lacks (parts : ℕ → List ℕ → List ℕ) (call : Call) (last : List ℕ) : Type 0 where
+  pub input : List ℕ
+  pub read : Read call input
+  pub count : ℕ
+  pub wrote : Wrote call (parts count input ++ last)
+
+-- A write fails: the output is a front of what a run writes that ends otherwise, and not all of it.
+pub record BreaksOff (Otherwise : Call → Type 0) (call : Call) : Type 0 where
+  pub output : List ℕ
+  pub wrote : Wrote call output
+  pub missing : List ℕ
+  pub some : 0 < length missing
+  -- so would this run, had the sink taken the missing bytes too
+  pub otherwise : Otherwise (record call { taken_now = append_known call.taken_now missing })
+
+-- When a run has to succeed, but for want of memory.
+
+-- The scenario ends well, and is seen to by a reader of so many bytes: they hold its line `end`, or are more than there are.
+pub record EndsWithin (limit : ℕ) (bytes : List ℕ) : Type 0 where
+  pub ended : (scenario bytes).ending ≡ Ended
+  pub seen : limit ≤ length bytes → (reads (opened false) (take limit bytes)).ending ≡ Ended
+
+-- The source tells what it has left, and that is such a scenario.
+abbrev pub HasScenario : ℕ → Call → Type 0
+HasScenario limit call = IsSomeAnd call.left_before (EndsWithin limit)

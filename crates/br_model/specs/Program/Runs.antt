@@ -1,10 +1,10 @@
 -- What a replay writes for the bytes of a scenario: the run of the world with chips.
 -- Source: this profile.
-use Rattle.std.specs.Prelude.{ℕ, List, [], ◌∷◌, ◌++◌, codes}
+use Rattle.std.specs.Prelude.{ℕ, zero, suc, Bool, List, [], ◌∷◌, ◌++◌, take, codes}
 use Rattle.br_model.specs.Plane.Runs.{run, end_line}
 use Rattle.br_model.specs.Plane.World.{World, Stepped}
 use Rattle.br_model.specs.Text.Roster.{Roster, domains_of}
-use Rattle.br_model.specs.Text.Scenario.{Scenario, Ending, Going, Ended, Bad, scenario}
+use Rattle.br_model.specs.Text.Scenario.{Scenario, Ending, Going, Ended, Bad, scenario, scenario_by}
 use Rattle.br_model.specs.Table.Setup.{Setup}
 use Rattle.br_model.specs.Text.Transcript.{text, line_text, bad_text}
 
@@ -31,6 +31,15 @@ told_of s = body_of (run_of s) ++ last_text s.ending (run_of s).0
 unfoldable pub body : List ℕ → List ℕ
 body bytes = body_of (run_of (scenario bytes))
 
+-- The first parts of it, so many: its first line is one, and the lines of a step are one.
+unfoldable pub body_parts : ℕ → List ℕ → List ℕ
+body_parts zero bytes = []
+body_parts (suc n) bytes = let s = scenario bytes in body_of (run (setup_of s.roster) (take n s.steps))
+
 -- all that is written
 unfoldable pub told : List ℕ → List ℕ
 told bytes = told_of (scenario bytes)
+
+-- the same where the command is `check`, or isn't
+unfoldable pub told_by : Bool → List ℕ → List ℕ
+told_by check bytes = told_of (scenario_by check bytes)

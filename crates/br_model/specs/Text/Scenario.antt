@@ -125,10 +125,11 @@ unfoldable pub front : List ℕ → Option Front
 front [] = None
 front (byte ∷ bytes) = if byte == 10 then Some (record { line = []; behind = bytes }) else in_front byte (front bytes)
 
--- what the lines so far have said, and the last line where it lacks its line feed
+-- what the lines so far have said, the last line where it lacks its line feed, and what stands behind the line `end`
 pub record Progress : Type 0 where
   pub scenario : Scenario
   pub line : List ℕ
+  pub behind : List ℕ
 
 -- A line that may not come to its end is too long already.
 abbrev pub begins : Scenario → List ℕ → Scenario
@@ -137,24 +138,24 @@ begins s line = if nat_lt longest_line (length line) then bad s Long else s
 -- The line at the front says this. It isn't taken before its section is whole; then reading goes on so many bytes behind the
 -- line's first byte.
 abbrev pub reads_line : Scenario → Front → Result Said LineWhy → (ℕ → Scenario → Progress) → Progress
-reads_line s f (Err why) go_on = record { scenario = bad s why; line = [] }
+reads_line s f (Err why) go_on = record { scenario = bad s why; line = []; behind = [] }
 reads_line s f (Ok said) go_on =
-    if nat_lt (length f.behind) (section_length said) then record { scenario = s; line = [] } else
+    if nat_lt (length f.behind) (section_length said) then record { scenario = s; line = []; behind = [] } else
     go_on (length f.line + section_length said) (takes s said (take (section_length said) f.behind))
 
 abbrev pub reads_front : Scenario → List ℕ → Option Front → (ℕ → Scenario → Progress) → Progress
-reads_front s bytes None go_on = record { scenario = begins s bytes; line = bytes }
+reads_front s bytes None go_on = record { scenario = begins s bytes; line = bytes; behind = [] }
 reads_front s bytes (Some f) go_on = reads_line s f (whole_says s.roster f.line) go_on
 
 -- nothing is read behind the end or a bad line
 abbrev pub reads_at : Ending → Scenario → List ℕ → (ℕ → Scenario → Progress) → Progress
 reads_at Going s bytes go_on = reads_front s bytes (front bytes) go_on
-reads_at Ended s bytes go_on = record { scenario = s; line = [] }
-reads_at (Bad n why) s bytes go_on = record { scenario = s; line = [] }
+reads_at Ended s bytes go_on = record { scenario = s; line = []; behind = bytes }
+reads_at (Bad n why) s bytes go_on = record { scenario = s; line = []; behind = [] }
 
 -- the lines of these bytes, of which so many at first were read with the line before
 unfoldable pub read : ℕ → Scenario → List ℕ → Progress
-read ahead s [] = record { scenario = s; line = [] }
+read ahead s [] = record { scenario = s; line = []; behind = [] }
 read (suc ahead) s (byte ∷ bytes) = read ahead s bytes
 read zero s (byte ∷ bytes) = reads_at s.ending s (byte ∷ bytes) (λ n t. read n t bytes)
 
@@ -186,6 +187,10 @@ closes s line = closes_at s.ending s line
 -- what the whole bytes say
 unfoldable pub scenario_by : Bool → List ℕ → Scenario
 scenario_by check bytes = let p = read 0 (opened check) bytes in closes p.scenario p.line
+
+-- what stands behind its line `end`
+unfoldable pub behind_end : Bool → List ℕ → List ℕ
+behind_end check bytes = (read 0 (opened check) bytes).behind
 
 -- for every command but `check`
 abbrev pub scenario : List ℕ → Scenario

@@ -1,0 +1,5 @@
+use Rattle.br_model.proofs.CheckRows.{checks}
+use Rattle.br_model.proofs.check_laws.worked_checks.Goals as goal
+
+pub returns : goal.returns
+returns c = checks

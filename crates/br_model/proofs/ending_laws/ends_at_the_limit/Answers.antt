@@ -1,0 +1,5 @@
+use Rattle.br_model.proofs.EndingRows.{within, beyond, unfed_within, unfed_beyond}
+use Rattle.br_model.proofs.ending_laws.ends_at_the_limit.Goals as goal
+
+pub returns : goal.returns
+returns c = record { within = within; beyond = beyond; unfed = unfed_within; unfed_beyond = unfed_beyond }

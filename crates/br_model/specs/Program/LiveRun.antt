@@ -1,0 +1,229 @@
+-- A run by workers: which steps may have happened where this scenario was given.
+-- Source: this profile.
+use Rattle.std.specs.Prelude.{ℕ, ◌==◌, nat_lt, Bool, true, false, not, ◌&&◌, ◌||◌, if◌then◌else◌, List, [], ◌∷◌, ◌++◌, length}
+use Rattle.std.specs.List.{filter, list_all, list_any}
+use Rattle.std.specs.declared.option.Option.{Option}
+use Rattle.std.specs.declared.option.Option.TheVariants.{None, Some}
+use Rattle.br_model.specs.declared.steps.Refusal.TheVariants.{HistoryFull}
+use Rattle.br_model.specs.declared.steps.Step.{Step}
+use Rattle.br_model.specs.declared.steps.Step.TheVariants.{Rx, Cmd, Now, Serve, Hold, Post, Turn, Report, Sweep, Publish}
+use Rattle.br_model.specs.declared.transcript.Line.{Line}
+use Rattle.br_model.specs.declared.transcript.Line.TheVariants as lines
+use Rattle.br_model.specs.Control.Refusals.{refusal_number}
+use Rattle.br_model.specs.Plane.Chip.{Chip}
+use Rattle.br_model.specs.Plane.Runs.{run, pending}
+use Rattle.br_model.specs.Plane.Steps.{world_step}
+use Rattle.br_model.specs.Plane.World.{World, first_world}
+use Rattle.br_model.specs.Program.Runs.{setup_of}
+use Rattle.br_model.specs.Program.SameSteps.{same_step, same_steps}
+use Rattle.br_model.specs.Table.Setup.{Setup}
+use Rattle.br_model.specs.Text.Scenario.{Scenario}
+
+-- bytes that are read of its input: 2^22
+abbrev pub most_live_bytes : ℕ
+most_live_bytes = 4194304
+
+-- Steps.
+
+-- a frame enters
+abbrev pub is_frame : Step → Bool
+is_frame (Rx port bytes) = true
+is_frame (Cmd command) = false
+is_frame (Now moment) = false
+is_frame Serve = false
+is_frame Hold = false
+is_frame (Post id point) = false
+is_frame (Turn dom) = false
+is_frame (Report dom) = false
+is_frame (Sweep dom) = false
+is_frame Publish = false
+
+-- a frame enters at this port
+abbrev pub is_frame_at : ℕ → Step → Bool
+is_frame_at q (Rx port bytes) = port == q
+is_frame_at q (Cmd command) = false
+is_frame_at q (Now moment) = false
+is_frame_at q Serve = false
+is_frame_at q Hold = false
+is_frame_at q (Post id point) = false
+is_frame_at q (Turn dom) = false
+is_frame_at q (Report dom) = false
+is_frame_at q (Sweep dom) = false
+is_frame_at q Publish = false
+
+-- the other steps that workers take from the scenario
+abbrev pub is_ordered : Step → Bool
+is_ordered (Rx port bytes) = false
+is_ordered (Cmd command) = true
+is_ordered (Now moment) = true
+is_ordered Serve = false
+is_ordered Hold = false
+is_ordered (Post id point) = false
+is_ordered (Turn dom) = false
+is_ordered (Report dom) = false
+is_ordered (Sweep dom) = true
+is_ordered Publish = false
+
+-- what is left to do once the workers have returned
+abbrev pub may_drain : Step → Bool
+may_drain (Rx port bytes) = false
+may_drain (Cmd command) = false
+may_drain (Now moment) = false
+may_drain Serve = true
+may_drain Hold = false
+may_drain (Post id point) = false
+may_drain (Turn dom) = true
+may_drain (Report dom) = true
+may_drain (Sweep dom) = false
+may_drain Publish = true
+
+abbrev pub is_publish : Step → Bool
+is_publish (Rx port bytes) = false
+is_publish (Cmd command) = false
+is_publish (Now moment) = false
+is_publish Serve = false
+is_publish Hold = false
+is_publish (Post id point) = false
+is_publish (Turn dom) = false
+is_publish (Report dom) = false
+is_publish (Sweep dom) = false
+is_publish Publish = true
+
+-- The steps before the first frame.
+
+abbrev pub until_frame : List Step → List Step
+until_frame [] = []
+until_frame (s ∷ steps) = if is_frame s then [] else s ∷ until_frame steps
+
+-- and those from it on
+abbrev pub from_frame : List Step → List Step
+from_frame [] = []
+from_frame (s ∷ steps) = if is_frame s then s ∷ steps else from_frame steps
+
+-- a first part, and the steps behind it
+pub record Parts : Type 0 where
+  pub first : List Step
+  pub later : List Step
+
+abbrev pub with_first : Step → Option Parts → Option Parts
+with_first s None = None
+with_first s (Some p) = Some (record { first = s ∷ p.first; later = p.later })
+
+-- The first part of the steps that becomes `opening` when some publications are taken out of it, if there is one: the shortest.
+-- Another such part goes on with publications.
+abbrev pub parts_at : List Step → List Step → Option Parts
+parts_at [] steps = Some (record { first = []; later = steps })
+parts_at (o ∷ opening) [] = None
+parts_at (o ∷ opening) (s ∷ steps) =
+    if same_step s o then with_first s (parts_at opening steps) else
+    if is_publish s then with_first s (parts_at (o ∷ opening) steps) else
+    None
+
+-- The steps behind them: those that the scenario gives.
+
+abbrev pub frames_at : ℕ → List Step → List Step
+frames_at q steps = filter (is_frame_at q) steps
+
+-- the frames of the port at which this step is one
+abbrev pub same_frames_at : List Step → List Step → Step → Bool
+same_frames_at xs ys (Rx port bytes) = same_steps (frames_at port xs) (frames_at port ys)
+same_frames_at xs ys (Cmd command) = true
+same_frames_at xs ys (Now moment) = true
+same_frames_at xs ys Serve = true
+same_frames_at xs ys Hold = true
+same_frames_at xs ys (Post id point) = true
+same_frames_at xs ys (Turn dom) = true
+same_frames_at xs ys (Report dom) = true
+same_frames_at xs ys (Sweep dom) = true
+same_frames_at xs ys Publish = true
+
+-- Each port has the same frames in both, in the same order: each port that has one in either.
+abbrev pub same_frames : List Step → List Step → Bool
+same_frames xs ys = list_all (same_frames_at xs ys) (xs ++ ys)
+
+-- and the other steps have one order
+abbrev pub same_order : List Step → List Step → Bool
+same_order xs ys = same_steps (filter is_ordered xs) (filter is_ordered ys)
+
+-- What is accepted is published at once.
+
+abbrev pub accepts_changes : World → Step → Bool
+accepts_changes w s = nat_lt (length w.history) (length (world_step w s).0.history)
+
+abbrev pub begins_with_publish : List Step → Bool
+begins_with_publish [] = false
+begins_with_publish (s ∷ steps) = is_publish s
+
+-- The drain: no step comes but serves, turns, reports and publications. From this world on, each step before it that accepts changes is
+-- directly followed by a publication.
+abbrev pub publishes_at_once : World → List Step → Bool
+publishes_at_once w [] = true
+publishes_at_once w (s ∷ steps) =
+    list_all may_drain (s ∷ steps)
+    || ((not (accepts_changes w s) || begins_with_publish steps) && publishes_at_once (world_step w s).0 steps)
+
+-- The end.
+
+abbrev pub ends_with_publish : List Step → Bool
+ends_with_publish [] = false
+ends_with_publish (s ∷ []) = is_publish s
+ends_with_publish (s ∷ t ∷ steps) = ends_with_publish (t ∷ steps)
+
+-- the history has no room for what the step would change
+abbrev pub says_full : Line → Bool
+says_full (lines.Chip id changes applied class) = false
+says_full (lines.Unread id why) = false
+says_full (lines.Soft id point) = false
+says_full (lines.Held id floor) = false
+says_full (lines.Tx id port bytes) = false
+says_full (lines.Ctl port bytes) = false
+says_full (lines.Overrun id) = false
+says_full (lines.Done step changes) = false
+says_full (lines.Refused step why) = refusal_number why == refusal_number HistoryFull
+says_full (lines.End steps changes pending waiting) = false
+
+-- whether the last report of this domain's chip is refused so, after a step with these lines, where the one before was or wasn't
+abbrev pub report_refused : ℕ → Bool → Step → List Line → Bool
+report_refused dom before (Rx port bytes) told = before
+report_refused dom before (Cmd command) told = before
+report_refused dom before (Now moment) told = before
+report_refused dom before Serve told = before
+report_refused dom before Hold told = before
+report_refused dom before (Post id point) told = before
+report_refused dom before (Turn d) told = before
+report_refused dom before (Report d) told = if d == dom then list_any says_full told else before
+report_refused dom before (Sweep d) told = before
+report_refused dom before Publish told = before
+
+-- the same after all steps
+abbrev pub last_refused : ℕ → World → Bool → List Step → Bool
+last_refused dom w before [] = before
+last_refused dom w before (s ∷ steps) = let y = world_step w s in last_refused dom y.0 (report_refused dom before s y.1) steps
+
+abbrev pub is_none : {A : Type 0} → List A → Bool
+is_none [] = true
+is_none (x ∷ xs) = false
+
+-- no report is left, unless the last one was refused for want of room
+abbrev pub has_reported : Setup → List Step → Chip → Bool
+has_reported setup steps c = is_none c.reports || last_refused c.dom (first_world setup) false steps
+
+-- nothing waits, is held or is pending, and the chips have reported
+abbrev pub is_drained : Setup → List Step → World → Bool
+is_drained setup steps w = is_none w.waiting && (is_none w.held && (pending w == 0 && list_all (has_reported setup steps) w.chips))
+
+-- Together.
+
+abbrev pub is_live_by : Scenario → List Step → Option Parts → Bool
+is_live_by sc steps None = false
+is_live_by sc steps (Some p) =
+    same_frames p.later (from_frame sc.steps)
+    && (same_order p.later (from_frame sc.steps)
+    && (publishes_at_once (run (setup_of sc.roster) p.first).0 p.later
+    && (ends_with_publish steps && is_drained (setup_of sc.roster) steps (run (setup_of sc.roster) steps).0)))
+
+-- Whether workers may have taken these steps: at first the scenario's own before its first frame, maybe with publications among them;
+-- then its frames in the order of each port, its commands, moments and sweeps in theirs, and holds, posts, serves, turns, reports and
+-- publications of their own, so that what is accepted is published at once; and at the end nothing is left to do.
+unfoldable pub is_live_run : List Step → Scenario → Bool
+is_live_run steps sc = is_live_by sc steps (parts_at (until_frame sc.steps) steps)
