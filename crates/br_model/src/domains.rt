@@ -54,7 +54,8 @@ impl Model for Domains {
     ghost view = { λ d. record { edition = d.edition; ports = entries_from 0 d.by_port } };
 
     ghost invariant = { λ d. (get_or d.by_port 0 None ≡ Some 0)
-        × ((domain : ℕ) → domain ≤ last_chip → slice_index_or d.members domain [] ≡ ports_in (record { edition = d.edition; ports = entries_from 0 d.by_port }) domain) };
+        × ((domain : ℕ) → domain ≤ last_chip
+        → slice_index_or d.members domain [] ≡ ports_in (record { edition = d.edition; ports = entries_from 0 d.by_port }) domain) };
 }
 
 impl Domains {
@@ -159,7 +160,8 @@ fn host_alone() -> [Option<Dom>; Port::PLACES]
 /// Makes the port a member of this domain, and of no other one.
 fn move_port(members: &mut [Ports; Dom::PLACES], p: Port, d: Dom)
     ensures { (domain : ℕ) → domain ≤ last_chip
-        → slice_index_or members.new domain [] ≡ numbers_below port_places (λ q. if q == p then d == domain else has_number (slice_index_or members.old domain []) q) }
+        → slice_index_or members.new domain []
+        ≡ numbers_below port_places (λ q. if q == p then d == domain else has_number (slice_index_or members.old domain []) q) }
 {
     remove_port(members, p);
     let place = usize::from(d.number());

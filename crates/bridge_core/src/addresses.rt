@@ -72,7 +72,8 @@ impl Addresses {
     /// Puts an entry at the address at the moment `now`, in place of the one that is there.
     pub fn put(&mut self, vid: Vid, mac: Mac, port: Port, kind: Kind, now: u64)
         requires { IsTrue (is_some (get pair_cmp self.old.addr (vid, mac)) || nat_lt (length self.old.addr) most_addresses) }
-        ensures { self.new ≡ record { addr = put pair_cmp self.old.addr (vid, mac) (port, kind); updated = put pair_cmp self.old.updated (vid, mac) now; oldest = min self.old.oldest now } }
+        ensures { self.new
+            ≡ record { addr = put pair_cmp self.old.addr (vid, mac) (port, kind); updated = put pair_cmp self.old.updated (vid, mac) now; oldest = min self.old.oldest now } }
     {
         self.oldest = self.oldest.min(now);
         let entry = Entry {
@@ -85,7 +86,8 @@ impl Addresses {
 
     /// Forgets the entry at the address.
     pub fn take(&mut self, vid: Vid, mac: Mac)
-        ensures { self.new ≡ record { addr = without pair_cmp self.old.addr (vid, mac); updated = without pair_cmp self.old.updated (vid, mac); oldest = self.old.oldest } }
+        ensures { self.new
+            ≡ record { addr = without pair_cmp self.old.addr (vid, mac); updated = without pair_cmp self.old.updated (vid, mac); oldest = self.old.oldest } }
     {
         self.fdb.take(vid, mac);
     }

@@ -107,7 +107,8 @@ fn forgets_reported(
 /// What it comes to that a chip no longer sees these stations.
 pub fn loses(alloc: Global, state: &State, stations: &Triples) -> Result<Plan, EventFault>
     requires { state.now.clock.now < 2 ^ 53 }
-    ensures { Plans (table_of state.now) (control_of state.now) result (Ok (makes_all (from (table_of state.now) (control_of state.now)) (forgets (forgotten (table_of state.now) stations.now)))) }
+    ensures { Plans (table_of state.now) (control_of state.now) result (Ok (makes_all (from (table_of state.now) (control_of state.now))
+        (forgets (forgotten (table_of state.now) stations.now)))) }
 {
     Ok(Plan {
         clock: state.clock,

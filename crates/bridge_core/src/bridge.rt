@@ -74,7 +74,8 @@ impl Model for Bridge {
 
     ghost view = { λ b. record { setup = record { domains = b.domains; own = b.own }; history = b.history.items; control = control_of b.state } };
 
-    ghost invariant = { λ b. (table_of b.state ≡ table b.history.items) × (length b.history.items ≤ most_changes) × IsTrue (all_fit start b.history.items) × (b.state.clock.now < 2 ^ 53) × IsTied (table_of b.state) b.state.groups };
+    ghost invariant = { λ b. (table_of b.state ≡ table b.history.items) × (length b.history.items ≤ most_changes)
+        × IsTrue (all_fit start b.history.items) × (b.state.clock.now < 2 ^ 53) × IsTied (table_of b.state) b.state.groups };
 }
 
 /// Appends the changes within the room that is there.
@@ -495,7 +496,8 @@ impl Bridge {
         requires frame { frame bytes.now ≡ Ok head.now }
         requires message { message.now ≡ message_in bytes.now head.now }
         requires room { 1 ≤ lines.old.rows }
-        ensures reacts { Reacts self.old self.new lines.old.lines lines.new.lines result (reaction self.old.setup self.old.history self.old.control (Event.Sight port bytes.now head.now)) }
+        ensures reacts { Reacts self.old self.new lines.old.lines lines.new.lines result
+            (reaction self.old.setup self.old.history self.old.control (Event.Sight port bytes.now head.now)) }
         ensures from { IfOk result (λ from. from ≡ length self.old.history) }
         ensures room { 1 ≤ lines.new.rows }
         ensures marked { lines.new.marked ≡ lines.old.marked }

@@ -31,7 +31,8 @@ use vlans::{vlan_add, vlan_del};
 /// What the command comes to.
 pub fn obey(alloc: Global, state: &State, asked: &Command) -> Result<Plan, EventFault>
     requires { state.now.clock.now < 2 ^ 53 }
-    ensures { Plans (table_of state.now) (control_of state.now) result (commanded (from (table_of state.now) (control_of state.now)) asked.now (answer (table_of state.now) asked.now)) }
+    ensures { Plans (table_of state.now) (control_of state.now) result
+        (commanded (from (table_of state.now) (control_of state.now)) asked.now (answer (table_of state.now) asked.now)) }
 {
     Ok(Plan {
         clock: sets(state, asked),

@@ -58,7 +58,8 @@ fn leaves_fast(state: &State, port: Port) -> bool
 
 /// Who says the frame's message, where the port admits it, snooping is on, and the message may change something.
 pub fn who_speaks(state: &State, port: Port, head: &Head, message: &McastMsg) -> Option<Speaker>
-    ensures heard { (r : Course) → (bytes : List ℕ) → message.now ≡ message_in bytes head.now → with_addresses r.table [] ≡ with_addresses (table_of state.now) [] → snoops port bytes head.now r ≡ snoops_by result bytes message.now r }
+    ensures heard { (r : Course) → (bytes : List ℕ) → message.now ≡ message_in bytes head.now
+        → with_addresses r.table [] ≡ with_addresses (table_of state.now) [] → snoops port bytes head.now r ≡ snoops_by result bytes message.now r }
     ensures speaker { IfSome result (λ s. IsHeard state.now s) }
     ensures port { IfSome result (λ s. s.port ≡ port) }
     ensures something { IfSome result (λ s. 0 < most message.now) }

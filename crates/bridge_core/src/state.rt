@@ -178,9 +178,11 @@ impl State {
         requires early { self.old.clock.now < 2 ^ 53 }
         requires records { RecordsStand bytes.now message.now }
         requires room { vec_len changes.old + most message.now ≤ vec_capacity changes.old }
-        ensures course { (out : List (ℕ × BpduMsg)) → said speaker.now.port speaker.now.vid bytes.now message.now (course_of self.old changes.old.items out) ≡ course_of self.new changes.new.items out }
+        ensures course { (out : List (ℕ × BpduMsg)) → said speaker.now.port speaker.now.vid bytes.now message.now
+            (course_of self.old changes.old.items out) ≡ course_of self.new changes.new.items out }
         ensures table { (t : Table) → fold apply t changes.old.items ≡ table_of self.old → fold apply t changes.new.items ≡ table_of self.new }
-        ensures fits { (t : Table) → fold apply t changes.old.items ≡ table_of self.old → all_fit t changes.old.items ≡ true → all_fit t changes.new.items ≡ true }
+        ensures fits { (t : Table) → fold apply t changes.old.items ≡ table_of self.old → all_fit t changes.old.items ≡ true
+            → all_fit t changes.new.items ≡ true }
         ensures tied { IsTied (table_of self.new) self.new.groups }
         ensures now { self.new.clock.now ≡ self.old.clock.now }
         ensures count { length changes.new.items ≤ length changes.old.items + most message.now }

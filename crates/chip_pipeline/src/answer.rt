@@ -37,7 +37,8 @@ impl Model for Pass {
 
 impl Pass {
     pub(crate) fn of(sent: Sent, sighting: Sighting) -> Pass
-        ensures { result ≡ record { class = sent.class; vid = sent.vid; ports = sent.ports; untagged = sent.untagged; report = sighting.report; hit = sighting.hit } }
+        ensures { result
+            ≡ record { class = sent.class; vid = sent.vid; ports = sent.ports; untagged = sent.untagged; report = sighting.report; hit = sighting.hit } }
     {
         Pass {
             class: sent.class,

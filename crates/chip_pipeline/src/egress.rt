@@ -57,7 +57,8 @@ pub fn send(tables: &Tables, port: Port, row: &PortRow, vlan: &Vlan, way: &Way) 
     requires row { row.now ≡ port_at tables.now port }
     requires vlan { vlan.now.row ≡ vlan_at tables.now vlan.now.vid }
     requires range { IsVid vlan.now.vid }
-    ensures { (d : Domains) (dom : ℕ) (t : Table) (head : Head) (msg : McastMsg) → AtChip d dom tables.now t port → IsWay d dom t port vlan.now.vid head msg way.now → IsOut d t port vlan.now.vid head msg result }
+    ensures { (d : Domains) (dom : ℕ) (t : Table) (head : Head) (msg : McastMsg) → AtChip d dom tables.now t port
+        → IsWay d dom t port vlan.now.vid head msg way.now → IsOut d t port vlan.now.vid head msg result }
 {
     match *way {
         Way::Nowhere => nothing(Class::Drop),
@@ -71,7 +72,8 @@ fn send_to(tables: &Tables, port: Port, row: &PortRow, vlan: &Vlan, goal: Port) 
     requires row { row.now ≡ port_at tables.now port }
     requires vlan { vlan.now.row ≡ vlan_at tables.now vlan.now.vid }
     requires range { IsVid vlan.now.vid }
-    ensures { (d : Domains) (dom : ℕ) (t : Table) (head : Head) (msg : McastMsg) → AtChip d dom tables.now t port → LeadsTo d t port vlan.now.vid head goal (targets t vlan.now.vid head msg) → IsOut d t port vlan.now.vid head msg result }
+    ensures { (d : Domains) (dom : ℕ) (t : Table) (head : Head) (msg : McastMsg) → AtChip d dom tables.now t port
+        → LeadsTo d t port vlan.now.vid head goal (targets t vlan.now.vid head msg) → IsOut d t port vlan.now.vid head msg result }
 {
     let other = tables.port(goal);
     if !may_take(tables, port, row, vlan, goal, &other) {
@@ -131,7 +133,8 @@ fn send_by(tables: &Tables, port: Port, row: &PortRow, vlan: &Vlan, fan: &FanRow
     requires row { row.now ≡ port_at tables.now port }
     requires vlan { vlan.now.row ≡ vlan_at tables.now vlan.now.vid }
     requires range { IsVid vlan.now.vid }
-    ensures { (d : Domains) (dom : ℕ) (t : Table) (head : Head) (msg : McastMsg) → AtChip d dom tables.now t port → Leads d dom t port vlan.now.vid fan.now (targets t vlan.now.vid head msg) → leaves_chip d t port vlan.now.vid head ≡ false
+    ensures { (d : Domains) (dom : ℕ) (t : Table) (head : Head) (msg : McastMsg) → AtChip d dom tables.now t port
+        → Leads d dom t port vlan.now.vid fan.now (targets t vlan.now.vid head msg) → leaves_chip d t port vlan.now.vid head ≡ false
         → IsOut d t port vlan.now.vid head msg result }
 {
     let alone = is_isolated(row);

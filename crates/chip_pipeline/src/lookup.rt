@@ -33,7 +33,8 @@ pub enum Way {
 /// Where an admitted frame that snooping doesn't catch is to go.
 pub fn lookup(tables: &Tables, vid: Vid, head: &Head, msg: &McastMsg) -> Way
     requires { IsVid vid }
-    ensures { (d : Domains) (dom : ℕ) (t : Table) (port : ℕ) → AtChip d dom tables.now t port → (t.snoop && is_snooped msg.now) ≡ false → IsWay d dom t port vid head.now msg.now result }
+    ensures { (d : Domains) (dom : ℕ) (t : Table) (port : ℕ) → AtChip d dom tables.now t port → (t.snoop && is_snooped msg.now) ≡ false
+        → IsWay d dom t port vid head.now msg.now result }
 {
     if !head.dst.is_multicast() {
         to_station(tables, vid, head)
@@ -50,7 +51,8 @@ pub fn lookup(tables: &Tables, vid: Vid, head: &Head, msg: &McastMsg) -> Way
 
 /// Whether no port is to have the frame: it is for the spanning tree, or a PAUSE frame.
 fn is_for_nobody(tables: &Tables, head: &Head) -> bool
-    ensures { (d : Domains) (dom : ℕ) (t : Table) → Stands d dom tables.now t → result ≡ ((head.now.dst == bridge_group_address && t.stp) || head.now.dst == pause_address) }
+    ensures { (d : Domains) (dom : ℕ) (t : Table) → Stands d dom tables.now t
+        → result ≡ ((head.now.dst == bridge_group_address && t.stp) || head.now.dst == pause_address) }
 {
     is_for_bridges(tables, head) || head.dst.number() == Mac::PAUSE_ADDRESS
 }
@@ -122,7 +124,8 @@ fn multicast_flood(tables: &Tables, vid: Vid) -> FanRow
 
 /// Whether packets to the group go to its members and to routers alone.
 fn goes_to_members(tables: &Tables, group: Group) -> bool
-    ensures { (d : Domains) (dom : ℕ) (t : Table) → Stands d dom tables.now t → result ≡ (t.snoop && (not (is_link_local group) && knows_querier t (is_six group))) }
+    ensures { (d : Domains) (dom : ℕ) (t : Table) → Stands d dom tables.now t
+        → result ≡ (t.snoop && (not (is_link_local group) && knows_querier t (is_six group))) }
 {
     let control = tables.control();
     let knows_querier = if group.is_six() {

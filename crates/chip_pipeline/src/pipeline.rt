@@ -38,7 +38,8 @@ pub fn pass(t: &Tables, p: Port, h: &Head, m: &McastMsg) -> Pass
 fn forward(t: &Tables, p: Port, row: &PortRow, vlan: &Option<Vlan>, h: &Head, m: &McastMsg) -> Sent
     requires row { row.now ≡ port_at t.now p }
     requires vlan { IfSome vlan.now (λ (v : Vlan). (v.row ≡ vlan_at t.now v.vid) × IsVid v.vid) }
-    ensures { (d : Domains) (dom : ℕ) (table : Table) → AtChip d dom t.now table p → option_map (λ (v : Vlan). v.vid) vlan.now ≡ vlan_of table p h.now → IsSent d table p h.now m.now result }
+    ensures { (d : Domains) (dom : ℕ) (table : Table) → AtChip d dom t.now table p → option_map (λ (v : Vlan). v.vid) vlan.now ≡ vlan_of table p h.now
+        → IsSent d table p h.now m.now result }
 {
     let admitted = admitted(t, p, row, vlan, h);
     if is_for_tree(t, p, row, h) {
@@ -54,7 +55,8 @@ fn forward(t: &Tables, p: Port, row: &PortRow, vlan: &Option<Vlan>, h: &Head, m:
 fn admitted(t: &Tables, p: Port, row: &PortRow, vlan: &Option<Vlan>, h: &Head) -> Option<Vlan>
     requires row { row.now ≡ port_at t.now p }
     ensures same { IfSome result (λ v. vlan.now ≡ Some v) }
-    ensures vid { (d : Domains) (dom : ℕ) (table : Table) → Stands d dom t.now table → option_map (λ (v : Vlan). v.vid) result ≡ (if is_forwarding table p && has_valid_source h.now then option_map (λ (v : Vlan). v.vid) vlan.now else None) }
+    ensures vid { (d : Domains) (dom : ℕ) (table : Table) → Stands d dom t.now table → option_map (λ (v : Vlan). v.vid) result
+        ≡ (if is_forwarding table p && has_valid_source h.now then option_map (λ (v : Vlan). v.vid) vlan.now else None) }
 {
     // law: the port is in range
     let _number = p.number();
@@ -91,7 +93,8 @@ fn forward_in(t: &Tables, p: Port, row: &PortRow, vlan: &Vlan, h: &Head, m: &Mca
     requires row { row.now ≡ port_at t.now p }
     requires vlan { vlan.now.row ≡ vlan_at t.now vlan.now.vid }
     requires range { IsVid vlan.now.vid }
-    ensures { (d : Domains) (dom : ℕ) (table : Table) → AtChip d dom t.now table p → to_tree table p h.now ≡ false → Some vlan.now.vid ≡ admit table p h.now → IsSent d table p h.now m.now result }
+    ensures { (d : Domains) (dom : ℕ) (table : Table) → AtChip d dom t.now table p → to_tree table p h.now ≡ false
+        → Some vlan.now.vid ≡ admit table p h.now → IsSent d table p h.now m.now result }
 {
     if catches(t, m) {
         return nowhere(Class::Trap, Some(vlan.vid));

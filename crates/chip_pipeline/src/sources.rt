@@ -38,8 +38,10 @@ pub fn sight(
 ) -> Sighting
     requires row { row.now ≡ port_at tables.now port }
     requires vlan { IfSome vlan.now (λ (v : Vlan). (v.row ≡ vlan_at tables.now v.vid) × IsVid v.vid) }
-    ensures report { (d : Domains) (dom : ℕ) (t : Table) → Stands d dom tables.now t → option_map (λ (v : Vlan). v.vid) vlan.now ≡ vlan_of t port head.now → result.report ≡ report t port head.now }
-    ensures hit { (d : Domains) (dom : ℕ) (t : Table) → Stands d dom tables.now t → option_map (λ (v : Vlan). v.vid) vlan.now ≡ vlan_of t port head.now → result.hit ≡ hit_of t port head.now }
+    ensures report { (d : Domains) (dom : ℕ) (t : Table) → Stands d dom tables.now t
+        → option_map (λ (v : Vlan). v.vid) vlan.now ≡ vlan_of t port head.now → result.report ≡ report t port head.now }
+    ensures hit { (d : Domains) (dom : ℕ) (t : Table) → Stands d dom tables.now t
+        → option_map (λ (v : Vlan). v.vid) vlan.now ≡ vlan_of t port head.now → result.hit ≡ hit_of t port head.now }
 {
     if !head.has_valid_source() {
         return unseen();
@@ -63,7 +65,8 @@ fn sight_in(tables: &Tables, port: Port, row: &PortRow, vlan: &Vlan, head: &Head
     requires row { row.now ≡ port_at tables.now port }
     requires vlan { vlan.now.row ≡ vlan_at tables.now vlan.now.vid }
     requires range { IsVid vlan.now.vid }
-    ensures report { (d : Domains) (dom : ℕ) (t : Table) → Stands d dom tables.now t → result.report ≡ (if not (is_reserved t head.now) then report_of t port (teach_in t port (Some vlan.now.vid) head.now.src) else None) }
+    ensures report { (d : Domains) (dom : ℕ) (t : Table) → Stands d dom tables.now t
+        → result.report ≡ (if not (is_reserved t head.now) then report_of t port (teach_in t port (Some vlan.now.vid) head.now.src) else None) }
     ensures hit { (d : Domains) (dom : ℕ) (t : Table) → Stands d dom tables.now t → result.hit ≡ hit_in t port (Some vlan.now.vid) head.now.src }
 {
     let entry = address_row(tables, vlan.vid, head.src);

@@ -44,7 +44,19 @@ impl Model for Tables {
 
     ghost Value = { Rows };
 
-    ghost view = { λ t. record { vlans = t.vlans; unicast = t.unicast; mcast = t.mcast; bcast = t.bcast; routers = t.routers; ports = t.ports; traps = t.traps; control = t.control; addresses = by_pair t.addresses.entries; places = places_of t.addresses.cells; groups = by_group t.groups.entries } };
+    ghost view = { λ t. record {
+      vlans = t.vlans;
+      unicast = t.unicast;
+      mcast = t.mcast;
+      bcast = t.bcast;
+      routers = t.routers;
+      ports = t.ports;
+      traps = t.traps;
+      control = t.control;
+      addresses = by_pair t.addresses.entries;
+      places = places_of t.addresses.cells;
+      groups = by_group t.groups.entries;
+    } };
 
     ghost invariant = { λ t. (t.addresses.room ≡ most_addresses) × (t.groups.room ≡ max_pairs) };
 }

@@ -37,7 +37,8 @@ impl Model for Poster {
 
     ghost view = { λ p. record { queue = (p.mark.table_id, p.watch.table_id); posted = (knows p.mark).posted } };
 
-    ghost invariant = { λ p. IsPassOf (arc_value p.queue).line p.mark × (knows p.mark ≡ posting (knows p.mark).posted) × (ruled_capacity (arc_value p.queue).line ≡ MOST_CHANGES) × Watches p.watch (arc_value p.queue).tally.table.shared.table_id (counting p.watch.me.0.counted) × (posts_in p.watch.me.0.counted ≡ length (knows p.mark).posted) × (p.count ≡ length (knows p.mark).posted) };
+    ghost invariant = { λ p. IsPassOf (arc_value p.queue).line p.mark × (knows p.mark ≡ posting (knows p.mark).posted) × (ruled_capacity (arc_value p.queue).line ≡ MOST_CHANGES)
+        × Watches p.watch (arc_value p.queue).tally.table.shared.table_id (counting p.watch.me.0.counted) × (posts_in p.watch.me.0.counted ≡ length (knows p.mark).posted) × (p.count ≡ length (knows p.mark).posted) };
 }
 
 /// The taking end. Contracts see which queue it is of, all that was taken, what is known to come next, and what had happened when
@@ -53,9 +54,15 @@ pub struct Taker {
 impl Model for Taker {
     ghost Value = { Taking };
 
-    ghost view = { λ t. record { queue = (t.mark.table_id, t.watch.table_id); taken = (knows t.mark).taken; ahead = (knows t.mark).ahead; past = t.watch.me.0.looked } };
+    ghost view = { λ t. record {
+      queue = (t.mark.table_id, t.watch.table_id);
+      taken = (knows t.mark).taken;
+      ahead = (knows t.mark).ahead;
+      past = t.watch.me.0.looked;
+    } };
 
-    ghost invariant = { λ t. IsPassOf (arc_value t.queue).line t.mark × (knows t.mark ≡ taking (knows t.mark).taken (knows t.mark).ahead) × Watches t.watch (arc_value t.queue).tally.table.shared.table_id (looking t.watch.me.0.looked) × (t.count ≡ length (knows t.mark).taken) };
+    ghost invariant = { λ t. IsPassOf (arc_value t.queue).line t.mark × (knows t.mark ≡ taking (knows t.mark).taken (knows t.mark).ahead)
+        × Watches t.watch (arc_value t.queue).tally.table.shared.table_id (looking t.watch.me.0.looked) × (t.count ≡ length (knows t.mark).taken) };
 }
 
 /// The two ends of a queue that has room for as many updates as a run can have: one for each of its changes.
@@ -147,7 +154,8 @@ impl Taker {
         ensures again { IfNone result (self.new ≡ self.old) }
         ensures ticket { IfSome result (λ answer. IfSome answer (λ u. u.ticket ≡ length self.old.taken)) }
         ensures next { IfSome result (λ answer. IfSome answer (IsNext self.old.ahead)) }
-        ensures taken { IfSome result (λ answer. IfSome answer (λ u. self.new ≡ record self.old { taken = self.old.taken ++ u ∷ []; ahead = drop 1 self.old.ahead })) }
+        ensures taken { IfSome result (λ answer. IfSome answer (λ u.
+            self.new ≡ record self.old { taken = self.old.taken ++ u ∷ []; ahead = drop 1 self.old.ahead })) }
         ensures empty { IfSome result (λ answer. IfNone answer ((self.old.ahead ≡ []) × (self.new ≡ record self.old { past = self.new.past }))) }
         ensures looked { IfSome result (λ answer. IfNone answer (Looked self.old.past self.new.past × (posts_in self.new.past ≤ length self.old.taken))) }
     {

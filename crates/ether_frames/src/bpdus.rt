@@ -156,7 +156,8 @@ pub fn bpdu_write(alloc: Global, own: Mac, m: &BpduMsg) -> Result<Bytes, NoMemor
 
 // A frame of this type, with zeros behind the type.
 fn frame_from(own: Mac, length: u16, kind: u8) -> [u8; BPDU_LENGTH]
-    ensures { result ≡ padded (bytes_high_first 6 bridge_group_address ++ (bytes_high_first 6 own ++ (bytes_high_first 2 length ++ (llc_and_protocol ++ 0 ∷ kind ∷ [])))) }
+    ensures { result
+        ≡ padded (bytes_high_first 6 bridge_group_address ++ (bytes_high_first 6 own ++ (bytes_high_first 2 length ++ (llc_and_protocol ++ 0 ∷ kind ∷ [])))) }
 {
     let mut frame = [0; BPDU_LENGTH];
     BigEndian::write_u48(&mut frame, Mac::BRIDGE_GROUP_ADDRESS);

@@ -148,7 +148,8 @@ impl<K, V, C: Cells<K, V>> Map<K, V, C> {
     pub fn take(&mut self, key: &K) -> Option<V>
         requires { C.number key.now ≢ 0 }
         ensures value { result ≡ find nat_cmp (C.number key.now) self.old.entries }
-        ensures rest { self.new ≡ record self.old { entries = where_key nat_cmp (λ q. not (eq_by_cmp nat_cmp (C.number key.now) q)) self.old.entries; cells = self.new.cells } }
+        ensures rest { self.new
+            ≡ record self.old { entries = where_key nat_cmp (λ q. not (eq_by_cmp nat_cmp (C.number key.now) q)) self.old.entries; cells = self.new.cells } }
     {
         let i = find_cell(&self.cells, self.bits, key)?;
         let value = self.cells.value(i);

@@ -36,7 +36,8 @@ fn is_unhit(tables: &Tables, reports: &Reports, vid: Vid, mac: Mac, port: Port) 
 /// The station in an address row and its port, if a chip learned it and no longer sees it there.
 fn unseen(tables: &Tables, reports: &Reports, i: usize) -> Option<(Vid, Mac, Port)>
     requires { i < address_rows }
-    ensures { (domains : Domains) (dom : ℕ) (t : Table) (place : Option Address) → PortsStand domains dom tables.now t → slice_get tables.now.places i ≡ Some place
+    ensures { (domains : Domains) (dom : ℕ) (t : Table) (place : Option Address) → PortsStand domains dom tables.now t
+        → slice_get tables.now.places i ≡ Some place
         → result ≡ unseen domains dom reports.now.hits (extern_at tables.now place) }
 {
     let ((vid, mac), row) = tables.extern_at(i)?;

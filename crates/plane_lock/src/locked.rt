@@ -69,7 +69,8 @@ impl<N: Name> Model for Locked<N> {
 
     ghost view = { λ l. l.ran };
 
-    ghost invariant = { λ l. (l.ran.board ≡ N.board) × (l.ran.setup ≡ record { domains = N.board.domains; own = N.own }) × HavePosted (updates_of l.ran) l.posters.items };
+    ghost invariant = { λ l. (l.ran.board ≡ N.board)
+        × (l.ran.setup ≡ record { domains = N.board.domains; own = N.own }) × HavePosted (updates_of l.ran) l.posters.items };
 }
 
 /// Posts the updates that the plane has and the end hasn't posted.
@@ -105,7 +106,8 @@ fn settle<R: Wait>(
     posters: &mut Vec<Poster>,
     changes: usize,
 ) -> Result<(), ActFault>
-    requires { (h : List ChangeValue) × HavePosted (updates ran.old.setup.domains.edition h) posters.old.items × (changes ≡ length h) × IsPrefix h (world_of ran.old).history }
+    requires { (h : List ChangeValue)
+        × HavePosted (updates ran.old.setup.domains.edition h) posters.old.items × (changes ≡ length h) × IsPrefix h (world_of ran.old).history }
     ensures posted { HavePosted (updates_of ran.new) posters.new.items }
     ensures done { OnOk result (ran.new ≡ published_after changes ran.old) }
     ensures undone { IfErr result (λ fault. (fault ≡ act_faults.Unpublished) × (ran.new ≡ ran.old) × (changes_of ran.old ≢ changes)) }

@@ -263,7 +263,8 @@ fn append_moment(i: u32, text: &mut String)
 fn append_others(i: u32, text: &mut String)
     requires few { i ≤ most_frames }
     requires room { string_len text.old + 39 ≤ string_capacity text.old }
-    ensures text { string_bytes text.new ≡ string_bytes text.old ++ lines_of (each 3 i (Step.Report first_chip_domain) ++ (each 5 i (Step.Turn first_chip_domain) ++ (each 7 i Step.Publish ++ each 64 i (Step.Now (1000 * i))))) }
+    ensures text { string_bytes text.new ≡ string_bytes text.old ++ lines_of (each 3 i (Step.Report first_chip_domain)
+        ++ (each 5 i (Step.Turn first_chip_domain) ++ (each 7 i Step.Publish ++ each 64 i (Step.Now (1000 * i))))) }
     ensures len { string_len text.new ≤ string_len text.old + 39 }
     ensures capacity { string_capacity text.old ≤ string_capacity text.new }
 {

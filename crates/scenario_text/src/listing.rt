@@ -38,7 +38,8 @@ fn append_address(
     kind: Kind,
     to: &mut String,
 ) -> Result<(), NoMemory>
-    ensures { OnOk result (string_bytes to.new ≡ string_bytes to.old ++ (mac_text mac ++ (codes " dev " ++ (device.now ++ (codes " vlan " ++ (decimal vid ++ (32 ∷ (word_of_kind kind ++ 10 ∷ [])))))))) }
+    ensures { OnOk result (string_bytes to.new ≡ string_bytes to.old
+        ++ (mac_text mac ++ (codes " dev " ++ (device.now ++ (codes " vlan " ++ (decimal vid ++ (32 ∷ (word_of_kind kind ++ 10 ∷ [])))))))) }
 {
     append_mac(mac, to)?;
     let (vid, kind) = (vid.number(), kind_word(kind));
@@ -61,7 +62,8 @@ fn append_membership(
     untagged: bool,
     to: &mut String,
 ) -> Result<(), NoMemory>
-    ensures { OnOk result (string_bytes to.new ≡ string_bytes to.old ++ (device.now ++ (32 ∷ (decimal vid ++ (further pvid (codes "pvid") ++ (further untagged (codes "untagged") ++ 10 ∷ [])))))) }
+    ensures { OnOk result (string_bytes to.new
+        ≡ string_bytes to.old ++ (device.now ++ (32 ∷ (decimal vid ++ (further pvid (codes "pvid") ++ (further untagged (codes "untagged") ++ 10 ∷ [])))))) }
 {
     let (vid, marks) = (vid.number(), marks(untagged, pvid));
     writeln!(to, "{device} {vid}{marks}")
@@ -80,7 +82,8 @@ fn append_memberships_of(
     roster: &Roster,
     to: &mut String,
 ) -> Result<(), NoMemory>
-    ensures { OnOk result (string_bytes to.new ≡ string_bytes to.old ++ flat_map (vlan_line roster.now.ports table.now.pvid) (filter (λ e. e.0.1 == number) table.now.vlans)) }
+    ensures { OnOk result (string_bytes to.new
+        ≡ string_bytes to.old ++ flat_map (vlan_line roster.now.ports table.now.pvid) (filter (λ e. e.0.1 == number) table.now.vlans)) }
 {
     for ((vid, port), untagged) in table.memberships() {
         if port.number() == number {
@@ -110,7 +113,8 @@ fn append_group(group: Group, to: &mut String) -> Result<(), NoMemory>
 }
 
 fn append_member(vid: Vid, group: Group, device: &str, to: &mut String) -> Result<(), NoMemory>
-    ensures { OnOk result (string_bytes to.new ≡ string_bytes to.old ++ (codes "dev " ++ (device.now ++ (codes " grp " ++ (group_text group ++ (codes " vlan " ++ (decimal vid ++ 10 ∷ []))))))) }
+    ensures { OnOk result (string_bytes to.new
+        ≡ string_bytes to.old ++ (codes "dev " ++ (device.now ++ (codes " grp " ++ (group_text group ++ (codes " vlan " ++ (decimal vid ++ 10 ∷ []))))))) }
 {
     write!(to, "dev {device} grp ")?;
     append_group(group, to)?;

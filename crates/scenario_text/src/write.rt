@@ -231,7 +231,8 @@ fn append_entry(
     kind: &str,
     to: &mut String,
 ) -> Result<(), NoMemory>
-    ensures { OnOk result (string_bytes to.new ≡ string_bytes to.old ++ joined (codes "cmd" ∷ codes "fdb" ∷ codes "add" ∷ mac_text mac ∷ codes "dev" ∷ device.now ∷ codes "vlan" ∷ decimal vid ∷ kind.now ∷ [])) }
+    ensures { OnOk result (string_bytes to.new ≡ string_bytes to.old
+        ++ joined (codes "cmd" ∷ codes "fdb" ∷ codes "add" ∷ mac_text mac ∷ codes "dev" ∷ device.now ∷ codes "vlan" ∷ decimal vid ∷ kind.now ∷ [])) }
 {
     to.push_str("cmd fdb add ")?;
     append_mac(mac, to)?;

@@ -35,7 +35,15 @@ impl Model for Parameters {
 
     ghost Value = { tree.Tree };
 
-    ghost view = { λ t. record { own = t.own; priority = t.priority; on = t.on; ports = t.places; change_end = t.change_end; notified = t.notified; hello = t.hello } };
+    ghost view = { λ t. record {
+      own = t.own;
+      priority = t.priority;
+      on = t.on;
+      ports = t.places;
+      change_end = t.change_end;
+      notified = t.notified;
+      hello = t.hello;
+    } };
 }
 
 impl Parameters {

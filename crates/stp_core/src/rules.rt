@@ -106,7 +106,8 @@ struct MovingStates {
 }
 
 impl Rule for MovingStates {
-    ghost changed = { λ r e. if (e.1.state == listening || e.1.state == learning) && nat_le (e.1.since + r.delay) r.now then enters (e.1.state + 1) r.now e.1 else e.1 };
+    ghost changed = { λ r e. if (e.1.state == listening || e.1.state == learning) && nat_le (e.1.since + r.delay) r.now
+        then enters (e.1.state + 1) r.now e.1 else e.1 };
 
     fn change(&self, _p: u8, x: &mut TreePort) {
         if is_due(self.delay, self.now, x) {
@@ -123,7 +124,8 @@ struct DroppingPutOff {
 }
 
 impl Rule for DroppingPutOff {
-    ghost changed = { λ r e. if is_put_off r.now e.1 && not (is_designated_by r.election.id r.election.root e) then record e.1 { put_off = false; owed = false } else e.1 };
+    ghost changed = { λ r e. if is_put_off r.now e.1 && not (is_designated_by r.election.id r.election.root e)
+        then record e.1 { put_off = false; owed = false } else e.1 };
 
     fn change(&self, p: u8, x: &mut TreePort) {
         if is_put_off(self.now, x) && !is_designated(self.election.id, &self.election.root, p, x) {

@@ -2,12 +2,15 @@
 -- under which they do.
 -- Source: the kernel's switchdev.rst (address entries are offloaded by deferred work) and net/bridge/br_switchdev.c
 -- (br_switchdev_mdb_notify offloads members of groups with SWITCHDEV_F_DEFER, as edition 2 does); the queue is this profile's.
-use Rattle.std.specs.Prelude.{Bool, true, false, List, map}
+use Rattle.std.specs.Prelude.{ℕ, Bool, true, false, List, map}
 use Rattle.std.specs.List.{filter, enumerate_from}
+use Rattle.std.specs.declared.option.Option.{Option}
+use Rattle.std.specs.declared.option.Option.TheVariants.{None, Some}
 use Rattle.br_model.specs.declared.change.Asks.{Asks}
 use Rattle.br_model.specs.declared.change.Asks.TheVariants.{Nothing, State, GroupRoom, AddressRoom}
 use Rattle.br_model.specs.declared.change.Change.{Change}
 use Rattle.br_model.specs.declared.change.Change.TheVariants.{PortUp, PortDown, SetFlags, SetState, VlanAdd, VlanDel, GroupJoin, GroupPart, Router, Querier, Snoop, Stp, AddrPut, AddrDel}
+use Rattle.br_model.specs.declared.change.Kind.{Kind}
 use Rattle.br_model.specs.declared.change.Update.{Update}
 use Rattle.br_model.specs.declared.domains.Edition.{Edition}
 use Rattle.br_model.specs.declared.domains.Edition.TheVariants.{One, Two}
@@ -28,6 +31,24 @@ is_of_address (Snoop on) = false
 is_of_address (Stp on) = false
 is_of_address (AddrPut vid mac port kind) = true
 is_of_address (AddrDel vid mac) = true
+
+-- The address entry that a change is of, by VLAN and address; and the port and the kind that it puts there, none where it deletes
+-- the entry.
+abbrev pub address_part : Change → Option ((ℕ × ℕ) × Option (ℕ × Kind))
+address_part (PortUp port) = None
+address_part (PortDown port) = None
+address_part (SetFlags port flags) = None
+address_part (SetState port state) = None
+address_part (VlanAdd port vid untagged pvid) = None
+address_part (VlanDel port vid) = None
+address_part (GroupJoin port vid group) = None
+address_part (GroupPart port vid group) = None
+address_part (Router port on) = None
+address_part (Querier six on) = None
+address_part (Snoop on) = None
+address_part (Stp on) = None
+address_part (AddrPut vid mac port kind) = Some ((vid, mac), Some (port, kind))
+address_part (AddrDel vid mac) = Some ((vid, mac), None)
 
 -- What a change asks for: a state that it sets is to be one of Linux's, and a pair of VLAN and group or an address that comes
 -- wants room.
