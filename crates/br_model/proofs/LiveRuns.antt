@@ -9,7 +9,7 @@ use Rattle.br_model.specs.declared.steps.Step.TheVariants.{Rx, Cmd, Now, Serve, 
 use Rattle.br_model.specs.Plane.Runs.{run, then_step}
 use Rattle.br_model.specs.Plane.Steps.{world_step}
 use Rattle.br_model.specs.Plane.World.{World, Stepped, first_world}
-use Rattle.br_model.specs.Program.LiveRun.{Parts, accepts_changes, begins_with_publish, ends_with_publish, frames_at, from_frame, is_drained, is_frame_at, is_live_by, is_live_run, is_none, is_ordered, is_publish, may_drain, parts_at, publishes_at_once, same_frames, same_frames_at, same_order, until_frame, with_first}
+use Rattle.br_model.specs.Program.LiveRun.{Parts, accepts_changes, begins_with_publish, ends_with_publish, frames_at, from_frame, is_drained, is_frame_at, is_live_by, is_live_run, is_empty, is_ordered, is_publish, may_drain, parts_at, publishes_at_once, same_frames, same_frames_at, same_order, until_frame, with_first}
 use Rattle.br_model.specs.Program.Runs.{setup_of}
 use Rattle.br_model.specs.Program.SameSteps.{same_step, same_steps}
 use Rattle.br_model.specs.Table.Setup.{Setup}
@@ -144,7 +144,7 @@ find (s ∷ first) later (o ∷ opening) b = elim (inverse b) as (λ _. Found (s
 
 -- frames and other steps of the scenario
 
-both_none : (xs ys : List Step) → is_none (xs ++ ys) ≡ true → (xs ≡ []) × (ys ≡ [])
+both_none : (xs ys : List Step) → is_empty (xs ++ ys) ≡ true → (xs ≡ []) × (ys ≡ [])
 both_none [] [] h = (refl, refl)
 both_none [] (y ∷ ys) h = absurd (cc)
 both_none (x ∷ xs) ys h = absurd (cc)
@@ -168,25 +168,25 @@ module _ (q : ℕ) (xs ys : List Step) where
   abbrev Same : Type 0
   Same = same_steps (frames_at q xs) (frames_at q ys) ≡ true
 
-  by_step : (s : Step) (steps : List Step) (b : Bool) → is_frame_at q s ≡ b → same_frames_at xs ys s ≡ true → is_none (cond b (s ∷ frames_at q steps) (frames_at q steps)) ≡ false
-      → (is_none (frames_at q steps) ≡ false → Same) → Same
+  by_step : (s : Step) (steps : List Step) (b : Bool) → is_frame_at q s ≡ b → same_frames_at xs ys s ≡ true → is_empty (cond b (s ∷ frames_at q steps) (frames_at q steps)) ≡ false
+      → (is_empty (frames_at q steps) ≡ false → Same) → Same
   by_step s steps true e same h later = at_port q xs ys s e same
   by_step s steps false e same h later = later h
 
   -- one of these is a frame at the port
-  at_some : (steps : List Step) → list_all (same_frames_at xs ys) steps ≡ true → is_none (frames_at q steps) ≡ false → Same
+  at_some : (steps : List Step) → list_all (same_frames_at xs ys) steps ≡ true → is_empty (frames_at q steps) ≡ false → Same
   at_some [] all h = absurd (cc)
   at_some (s ∷ steps) all h =
       by_step s steps (is_frame_at q s) refl (first_so (same_frames_at xs ys s) (list_all (same_frames_at xs ys) steps) all) h
       (at_some steps (second_so (same_frames_at xs ys s) (list_all (same_frames_at xs ys) steps) all))
 
-  by_frames : (b : Bool) → is_none (frames_at q (xs ++ ys)) ≡ b → same_frames xs ys ≡ true → frames_at q xs ≡ frames_at q ys
+  by_frames : (b : Bool) → is_empty (frames_at q (xs ++ ys)) ≡ b → same_frames xs ys ≡ true → frames_at q xs ≡ frames_at q ys
   by_frames true e h =
-      let none = both_none (frames_at q xs) (frames_at q ys) (ap is_none (sym (filter-append (is_frame_at q) xs ys)) ∙ e) in none.0 ∙ sym none.1
+      let none = both_none (frames_at q xs) (frames_at q ys) (ap is_empty (sym (filter-append (is_frame_at q) xs ys)) ∙ e) in none.0 ∙ sym none.1
   by_frames false e h = (steps_decide (frames_at q xs) (frames_at q ys)).0 (at_some (xs ++ ys) h e)
 
   frames_same : same_frames xs ys ≡ true → frames_at q xs ≡ frames_at q ys
-  frames_same h = by_frames (is_none (frames_at q (xs ++ ys))) refl h
+  frames_same h = by_frames (is_empty (frames_at q (xs ++ ys))) refl h
 
 -- and the other way round
 

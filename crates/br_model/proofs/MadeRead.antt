@@ -16,7 +16,8 @@ use Rattle.br_model.specs.declared.steps.Step.{Step}
 use Rattle.br_model.specs.declared.steps.Step.TheVariants.{Rx, Cmd, Now, Turn, Report, Publish}
 use Rattle.br_model.specs.Data.Digits.{hex_digit, hex_of, is_digit}
 use Rattle.br_model.specs.Table.Domains.{first_chip_domain, software}
-use Rattle.br_model.specs.Program.Generator.{most_frames, station, broadcast, destination, frame, each, frame_steps, frames_from, number_of, drawn, ports, steps, port_line, head, made, made_scenario}
+use Rattle.br_model.specs.Program.Generator.{most_frames, station, broadcast, destination, frame, each, frame_steps, frames_from, number_of, drawn, ports, steps, head, made, made_scenario}
+use Rattle.br_model.specs.Text.Head.{port_line}
 use Rattle.br_model.specs.Text.LineForms.{comes_by_line, line_says}
 use Rattle.br_model.specs.Text.Operands.{last_moment, is_byte}
 use Rattle.br_model.specs.Text.Roster.{Entry, Roster, chips_of, first_roster, has_number}

@@ -10,5 +10,6 @@ pub mod Forms
 pub mod CommandForms
 pub mod LineForms
 pub mod Scenario
+pub mod Head
 pub mod ScenarioText
 pub mod Transcript

@@ -6,7 +6,7 @@ ghost use Rattle.br_model.specs.Program.Runs.{told, told_by};
 ghost use Rattle.br_model.specs.Theorems.WholeLines.{with_feed};
 ghost use Rattle.br_model.specs.Worked.Checks.{answered, answers, points_scenario, points_elsewhere};
 
-/// No line of a text differs from those of another exactly where they are the same, a line feed at the end aside.
+/// No line of a text differs from those of another exactly where they are the same once each has a line feed at its end.
 pub fn no_difference()
     ensures only { (expected found : List ℕ) → difference expected found ≡ None → with_feed found ≡ with_feed expected }
     ensures always { (expected found : List ℕ) → with_feed found ≡ with_feed expected → difference expected found ≡ None }

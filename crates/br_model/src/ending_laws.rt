@@ -27,7 +27,7 @@ pub fn parts_of_a_transcript()
     ensures { parts_of_first_frame ≡ first_frame_parts }
 {}
 
-/// A scenario of 15 bytes ends within 15, and not within 14. Without its last line feed it has 14, and ends within 15 alone.
+/// A scenario of 15 bytes ends within 15, and not within 14. Without its last line feed it has 14, and ends within 15 and not within 14.
 pub fn ends_at_the_limit()
     ensures within { EndsWithin 15 ended_text }
     ensures beyond { EndsWithin 14 ended_text → ⊥ }

@@ -39,15 +39,20 @@ difference_from n (x ∷ xs) (y ∷ ys) =
 abbrev pub difference : List ℕ → List ℕ → Option Difference
 difference expected found = difference_from 1 (lines_in expected) (lines_in found)
 
--- A scenario, and behind its line `end` the transcript that is compared with what is told of it.
+-- where a transcript differs from what is told of this scenario
+abbrev pub differs : List ℕ → List ℕ → Option Difference
+differs scenario transcript = difference (told_by true scenario) transcript
+
+-- the same where the transcript stands behind the scenario's line `end`
 unfoldable pub checked : List ℕ → Option Difference
-checked bytes = difference (told_by true bytes) (behind_end true bytes)
+checked bytes = differs bytes (behind_end true bytes)
 
 -- the word, and the text behind it if there is any
 abbrev pub with_text : List ℕ → List ℕ → List ℕ
 with_text word [] = word ++ 10 ∷ []
 with_text word (byte ∷ text) = word ++ (32 ∷ ((byte ∷ text) ++ 10 ∷ []))
 
+-- the answer's lines
 abbrev pub answer_text : Option Difference → List ℕ
 answer_text None = codes "yes" ++ 10 ∷ []
 answer_text (Some d) =
@@ -74,7 +79,11 @@ IsNotBad (Bad n why) = ⊥
 abbrev pub ReadsOn : List ℕ → Type 0
 ReadsOn bytes = IsNotBad (reads (opened true) bytes).ending
 
--- All that the source had left was read, fewer bytes than may be; the scenario in it ends well, and this was found and is told.
+-- A reader of so many bytes sees that the scenario is bad.
+abbrev pub SeesBad : ℕ → List ℕ → Type 0
+SeesBad limit bytes = limit ≤ length bytes → ¬ ReadsOn (take limit bytes)
+
+-- All that the source had left was read, fewer bytes than may be; the scenario in it ends well, and this was found.
 pub record Finds (limit : ℕ) (call : Call) (found : Option Difference) : Type 0 where
   pub input : List ℕ
   pub read : Read call input
@@ -82,7 +91,7 @@ pub record Finds (limit : ℕ) (call : Call) (found : Option Difference) : Type 
   pub below : length input < limit
   pub ends : (scenario_by true input).ending ≡ Ended
   pub finds : checked input ≡ found
-  pub wrote : Wrote call (answer_text found)
+  pub wrote : Wrote call (check_answer input)
 
 -- the transcript differs
 abbrev pub FindsSome : ℕ → Call → Type 0
@@ -96,9 +105,10 @@ pub record FindsBad (limit : ℕ) (call : Call) : Type 0 where
   pub line : ℕ
   pub why : LineWhy
   pub ends : (scenario_by true input).ending ≡ Bad line why
-  pub wrote : Wrote call (bad_text line why)
+  pub wrote : Wrote call (check_answer input)
   pub whole : IfSome call.left_before (λ bytes. (scenario_by true bytes).ending ≡ Bad line why)
-  pub seen : IfSome call.left_before (λ bytes. limit ≤ length bytes → ¬ ReadsOn (take limit bytes))
+  pub seen_here : SeesBad limit input
+  pub seen : IfSome call.left_before (SeesBad limit)
 
 -- a whole input of fewer bytes, whose scenario ends well
 pub record ChecksWithin (limit : ℕ) (bytes : List ℕ) : Type 0 where

@@ -1,8 +1,7 @@
 -- The scenario that `gen NUMBER COUNT` writes and `demo NUMBER COUNT` runs: so many frames among eight stations, the numbers of
 -- which a linear congruential generator gives.
 -- Source: this profile; the multiplier is one that Knuth tests (The Art of Computer Programming, volume 2, 3.3.4, table 1).
-use Rattle.std.specs.Prelude.{ℕ, zero, suc, ◌+◌, ◌*◌, ◌/◌, ◌%◌, ◌^◌, ◌==◌, false, if◌then◌else◌, List, [], ◌∷◌, ◌++◌, map, length, codes}
-use Rattle.std.specs.Fmt.{decimal}
+use Rattle.std.specs.Prelude.{ℕ, zero, suc, ◌+◌, ◌*◌, ◌/◌, ◌%◌, ◌^◌, false, List, [], ◌∷◌, ◌++◌, map, length, codes}
 use Rattle.std.specs.List.{flat_map}
 use Rattle.br_model.specs.declared.domains.Edition.TheVariants.{One}
 use Rattle.br_model.specs.declared.scenario.Place.TheVariants.{Steps}
@@ -10,6 +9,7 @@ use Rattle.br_model.specs.declared.steps.Command.TheVariants.{PortUp}
 use Rattle.br_model.specs.declared.steps.Step.{Step}
 use Rattle.br_model.specs.declared.steps.Step.TheVariants.{Rx, Cmd, Now, Serve, Turn, Report, Publish}
 use Rattle.br_model.specs.Table.Domains.{first_chip_domain, software}
+use Rattle.br_model.specs.Text.Head.{port_line}
 use Rattle.br_model.specs.Text.Roster.{Entry}
 use Rattle.br_model.specs.Text.Scenario.{Scenario, Ended}
 use Rattle.br_model.specs.Text.ScenarioText.{step_text}
@@ -71,12 +71,6 @@ ports =
     entry (codes "g5") 5 software ∷
     entry (codes "g6") 6 software ∷
     []
-
-abbrev pub domain_words : ℕ → List ℕ
-domain_words dom = if dom == software then codes "soft" else codes "chip " ++ decimal dom
-
-abbrev pub port_line : Entry → List ℕ
-port_line e = codes "port " ++ (decimal e.port ++ (32 ∷ (e.name ++ (32 ∷ (domain_words e.dom ++ 10 ∷ [])))))
 
 -- all ports come up, which is published
 abbrev pub first_steps : List Step

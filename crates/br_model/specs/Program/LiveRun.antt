@@ -19,10 +19,6 @@ use Rattle.br_model.specs.Program.SameSteps.{same_step, same_steps}
 use Rattle.br_model.specs.Table.Setup.{Setup}
 use Rattle.br_model.specs.Text.Scenario.{Scenario}
 
--- bytes that are read of its input: 2^22
-abbrev pub most_live_bytes : ℕ
-most_live_bytes = 4194304
-
 -- Steps.
 
 -- a frame enters
@@ -64,7 +60,7 @@ is_ordered (Report dom) = false
 is_ordered (Sweep dom) = true
 is_ordered Publish = false
 
--- what is left to do once the workers have returned
+-- a step that may stand in the drain, the longest end of the steps that has none but these
 abbrev pub may_drain : Step → Bool
 may_drain (Rx port bytes) = false
 may_drain (Cmd command) = false
@@ -77,6 +73,7 @@ may_drain (Report dom) = true
 may_drain (Sweep dom) = false
 may_drain Publish = true
 
+-- what is accepted is published
 abbrev pub is_publish : Step → Bool
 is_publish (Rx port bytes) = false
 is_publish (Cmd command) = false
@@ -137,7 +134,8 @@ same_frames_at xs ys (Report dom) = true
 same_frames_at xs ys (Sweep dom) = true
 same_frames_at xs ys Publish = true
 
--- Each port has the same frames in both, in the same order: each port that has one in either.
+-- Each port has the same frames in both, in the same order: each port that has one in either. A port without a frame in either has none
+-- in both.
 abbrev pub same_frames : List Step → List Step → Bool
 same_frames xs ys = list_all (same_frames_at xs ys) (xs ++ ys)
 
@@ -150,6 +148,7 @@ same_order xs ys = same_steps (filter is_ordered xs) (filter is_ordered ys)
 abbrev pub accepts_changes : World → Step → Bool
 accepts_changes w s = nat_lt (length w.history) (length (world_step w s).0.history)
 
+-- a publication comes next
 abbrev pub begins_with_publish : List Step → Bool
 begins_with_publish [] = false
 begins_with_publish (s ∷ steps) = is_publish s
@@ -182,35 +181,36 @@ says_full (lines.Done step changes) = false
 says_full (lines.Refused step why) = refusal_number why == refusal_number HistoryFull
 says_full (lines.End steps changes pending waiting) = false
 
--- whether the last report of this domain's chip is refused so, after a step with these lines, where the one before was or wasn't
-abbrev pub report_refused : ℕ → Bool → Step → List Line → Bool
-report_refused dom before (Rx port bytes) told = before
-report_refused dom before (Cmd command) told = before
-report_refused dom before (Now moment) told = before
-report_refused dom before Serve told = before
-report_refused dom before Hold told = before
-report_refused dom before (Post id point) told = before
-report_refused dom before (Turn d) told = before
-report_refused dom before (Report d) told = if d == dom then list_any says_full told else before
-report_refused dom before (Sweep d) told = before
-report_refused dom before Publish told = before
+-- the chip of this domain reports
+abbrev pub is_report_at : ℕ → Step → Bool
+is_report_at dom (Rx port bytes) = false
+is_report_at dom (Cmd command) = false
+is_report_at dom (Now moment) = false
+is_report_at dom Serve = false
+is_report_at dom Hold = false
+is_report_at dom (Post id point) = false
+is_report_at dom (Turn d) = false
+is_report_at dom (Report d) = d == dom
+is_report_at dom (Sweep d) = false
+is_report_at dom Publish = false
 
--- the same after all steps
+-- Whether the last report of this domain's chip, from this world on, is refused for want of room; without one, as before.
 abbrev pub last_refused : ℕ → World → Bool → List Step → Bool
 last_refused dom w before [] = before
-last_refused dom w before (s ∷ steps) = let y = world_step w s in last_refused dom y.0 (report_refused dom before s y.1) steps
+last_refused dom w before (s ∷ steps) =
+    let y = world_step w s in last_refused dom y.0 (if is_report_at dom s then list_any says_full y.1 else before) steps
 
-abbrev pub is_none : {A : Type 0} → List A → Bool
-is_none [] = true
-is_none (x ∷ xs) = false
+abbrev pub is_empty : {A : Type 0} → List A → Bool
+is_empty [] = true
+is_empty (x ∷ xs) = false
 
 -- no report is left, unless the last one was refused for want of room
 abbrev pub has_reported : Setup → List Step → Chip → Bool
-has_reported setup steps c = is_none c.reports || last_refused c.dom (first_world setup) false steps
+has_reported setup steps c = is_empty c.reports || last_refused c.dom (first_world setup) false steps
 
 -- nothing waits, is held or is pending, and the chips have reported
 abbrev pub is_drained : Setup → List Step → World → Bool
-is_drained setup steps w = is_none w.waiting && (is_none w.held && (pending w == 0 && list_all (has_reported setup steps) w.chips))
+is_drained setup steps w = is_empty w.waiting && (is_empty w.held && (pending w == 0 && list_all (has_reported setup steps) w.chips))
 
 -- Together.
 

@@ -1,7 +1,7 @@
 -- How a run may end, by what it saw of its source and did to its sink. A source or a sink may tell its bytes or not. Of a
 -- sink that doesn't, nothing is said; of a source that doesn't, that the output is that of some input.
 -- Source: this profile.
-use Rattle.std.specs.Prelude.{◌≡◌, ℕ, ◌<◌, ◌≤◌, false, List, [], ◌++◌, length, take, IfSome, IsSomeAnd}
+use Rattle.std.specs.Prelude.{◌≡◌, ◌⊎◌, ℕ, ◌<◌, ◌≤◌, false, List, [], ◌++◌, length, take, IfSome, IsSomeAnd}
 use Rattle.std.specs.declared.option.Option.{Option}
 use Rattle.std.specs.Io.KnownBytes.{Appends, Consumes, append_known}
 use Rattle.br_model.specs.declared.scenario.LineWhy.{LineWhy}
@@ -46,7 +46,8 @@ Makes call output = Read call [] × Wrote call output
 abbrev pub GoesOn : List ℕ → Type 0
 GoesOn bytes = (reads (opened false) bytes).ending ≡ Going
 
--- At least so many bytes were left, and the first of them hold neither a whole `end` line nor a bad line.
+-- At least so many bytes were left, and the first of them hold neither a whole `end` line nor a bad line other than one that only lacks
+-- its end.
 abbrev pub HoldsNoEnd : ℕ → List ℕ → Type 0
 HoldsNoEnd limit bytes = (limit ≤ length bytes) × GoesOn (take limit bytes)
 
@@ -86,12 +87,20 @@ pub record BreaksOff (Otherwise : Call → Type 0) (call : Call) : Type 0 where
   pub wrote : Wrote call output
   pub missing : List ℕ
   pub some : 0 < length missing
-  -- so would this run, had the sink taken the missing bytes too
+  -- had the sink taken the missing bytes too, the run would have ended in another way
   pub otherwise : Otherwise (record call { taken_now = append_known call.taken_now missing })
 
--- When a run has to succeed, but for want of memory.
+-- Nothing was read, or the output begins with this.
+pub record ReadsBehind (first : List ℕ) (call : Call) : Type 0 where
+  pub input : List ℕ
+  pub read : Read call input
+  pub output : List ℕ
+  pub wrote : Wrote call output
+  pub behind : (input ≡ []) ⊎ ((rest : List ℕ) × (output ≡ first ++ rest))
 
--- The scenario ends well, and is seen to by a reader of so many bytes: they hold its line `end`, or are more than there are.
+-- Completeness: a run succeeds, but for want of memory, where its words are in the grammar, no fault came, and the source is such:
+
+-- The scenario ends well, and a reader of so many bytes can know it: they hold its line `end` with its line feed, or the input has fewer.
 pub record EndsWithin (limit : ℕ) (bytes : List ℕ) : Type 0 where
   pub ended : (scenario bytes).ending ≡ Ended
   pub seen : limit ≤ length bytes → (reads (opened false) (take limit bytes)).ending ≡ Ended

@@ -24,6 +24,11 @@ last_text Going w = []
 last_text Ended w = line_text (end_line w)
 last_text (Bad n why) w = bad_text n why
 
+abbrev pub bad_alone : Ending → List ℕ
+bad_alone Going = []
+bad_alone Ended = []
+bad_alone (Bad n why) = bad_text n why
+
 abbrev pub told_of : Scenario → List ℕ
 told_of s = body_of (run_of s) ++ last_text s.ending (run_of s).0
 
@@ -40,6 +45,10 @@ body_parts (suc n) bytes = let s = scenario bytes in body_of (run (setup_of s.ro
 unfoldable pub told : List ℕ → List ℕ
 told bytes = told_of (scenario bytes)
 
--- the same where the command is `check`, or isn't
+-- the same, where `check` says whether the command is `check`, which alone reads posts that name a point
 unfoldable pub told_by : Bool → List ℕ → List ℕ
 told_by check bytes = told_of (scenario_by check bytes)
+
+-- what is written where the scenario is bad and nothing stands before the cause
+unfoldable pub bad_told : List ℕ → List ℕ
+bad_told bytes = bad_alone (scenario bytes).ending

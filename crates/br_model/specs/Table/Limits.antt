@@ -14,6 +14,10 @@ use Rattle.br_model.specs.Table.Table.{Table, apply, table}
 abbrev pub most_bytes : ℕ
 most_bytes = 268435456
 
+-- and in a run by workers: 2^22
+abbrev pub most_live_bytes : ℕ
+most_live_bytes = 4194304
+
 -- changes of a run
 abbrev pub most_changes : ℕ
 most_changes = 1048576

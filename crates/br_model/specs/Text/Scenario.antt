@@ -188,7 +188,7 @@ closes s line = closes_at s.ending s line
 unfoldable pub scenario_by : Bool → List ℕ → Scenario
 scenario_by check bytes = let p = read 0 (opened check) bytes in closes p.scenario p.line
 
--- what stands behind its line `end`
+-- what stands behind its line `end` and that line's line feed; nothing where the line feed is missing or the scenario is bad
 unfoldable pub behind_end : Bool → List ℕ → List ℕ
 behind_end check bytes = (read 0 (opened check) bytes).behind
 

@@ -84,8 +84,9 @@ split_input = lines_text (
     codes "end 7 10 1 0" ∷
     [])
 
--- A transcript that is right; one with an empty line behind it, with a line, and without its last line. Nothing behind `end`; a number
--- that differs; and a bad line before a transcript.
+-- A transcript that is right, without and with its last line feed; with an empty line behind it, with a line behind it. One without its
+-- last line; none; one with a number that differs; with an empty line in place of its first; a bad scenario before one; and one in
+-- which a frame leaves a port twice.
 abbrev pub inputs : List (List ℕ)
 inputs =
     (points_scenario ++ points_told) ∷

@@ -5,7 +5,8 @@ use Rattle.br_model.specs.Program.Runs.{body_parts}
 use Rattle.br_model.specs.Theorems.WholeLines.{lines_text}
 use Rattle.br_model.specs.Worked.Rows.{first_frame_text}
 
--- the parts of a transcript: nothing, its first line, the lines of four steps; a frame enters without a line, and is served with three
+-- the parts of a transcript: nothing; its first line; that of one step; those of five steps, and of a frame that enters without a line;
+-- those of the serve; and no more
 abbrev pub parts_of_first_frame : List (List ℕ)
 parts_of_first_frame = map (λ n. body_parts n first_frame_text) (0 ∷ 1 ∷ 2 ∷ 7 ∷ 8 ∷ 9 ∷ [])
 
