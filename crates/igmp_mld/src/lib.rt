@@ -22,4 +22,5 @@ mod numbers;
 mod records;
 
 pub use crate::acts::Records;
+pub use crate::checksum::sum_behind;
 pub use crate::message::classify;
