@@ -1,7 +1,7 @@
 -- The scenario that `gen NUMBER COUNT` writes and `demo NUMBER COUNT` runs: so many frames among eight stations, the numbers of
 -- which a linear congruential generator gives.
 -- Source: this profile; the multiplier is one that Knuth tests (The Art of Computer Programming, volume 2, 3.3.4, table 1).
-use Rattle.std.specs.Prelude.{ℕ, zero, suc, ◌+◌, ◌*◌, ◌/◌, ◌%◌, ◌^◌, false, List, [], ◌∷◌, ◌++◌, map, length, codes}
+use Rattle.std.specs.Prelude.{ℕ, zero, suc, ◌+◌, ◌*◌, ◌/◌, ◌%◌, ◌^◌, ◌==◌, false, if◌then◌else◌, List, [], ◌∷◌, ◌++◌, map, length, codes}
 use Rattle.std.specs.List.{flat_map}
 use Rattle.br_model.specs.declared.domains.Edition.TheVariants.{One}
 use Rattle.br_model.specs.declared.scenario.Place.TheVariants.{Steps}
