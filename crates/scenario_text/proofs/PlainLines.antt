@@ -1,5 +1,5 @@
 -- Lines in their plainest spelling.
-use Rattle.std.proofs.Common.{◌≡◌, ℕ, ◌+◌, ◌-◌, ◌==◌, ◌≤◌, nat_le, Bool, true, false, not, ◌&&◌, if◌then◌else◌, cond, List, [], ◌∷◌, ◌++◌, length, take, drop, map, get_or, codes, Option, Some, None, unwrap_or, Ok, Err, refl, ap, sym, ◌∙◌, arith}
+use Rattle.std.proofs.Common.{◌≡◌, ℕ, ◌-◌, ◌==◌, ◌≤◌, nat_le, Bool, true, false, not, ◌&&◌, if◌then◌else◌, cond, List, [], ◌∷◌, ◌++◌, length, take, drop, map, get_or, codes, Option, Some, None, unwrap_or, Ok, Err, refl, ap, sym, ◌∙◌, arith}
 use Rattle.std.specs.Char.{is_ascii}
 use Rattle.std.specs.Cmp.{first_so, second_so}
 use Rattle.std.specs.List.{filter, list_all, slice_split, onto_first}
@@ -175,6 +175,32 @@ three_digits text n long space spells = record {
   text_is = front_four text long ∙ ap (λ s. get_or text 0 0 ∷ get_or text 1 0 ∷ get_or text 2 0 ∷ s ∷ take (length text - 4) (drop 4 text)) space;
   spells = spells;
 }
+
+front_five : (xs : List ℕ) → 5 ≤ length xs → xs ≡ get_or xs 0 0 ∷ get_or xs 1 0 ∷ get_or xs 2 0 ∷ get_or xs 3 0 ∷ get_or xs 4 0 ∷ take (length xs - 5) (drop 5 xs)
+front_five [] h = absurd (omega arith)
+front_five (x ∷ []) h = absurd (omega arith)
+front_five (x ∷ y ∷ []) h = absurd (omega arith)
+front_five (x ∷ y ∷ z ∷ []) h = absurd (omega arith)
+front_five (w ∷ x ∷ y ∷ z ∷ []) h = absurd (omega arith)
+front_five (v ∷ w ∷ x ∷ y ∷ z ∷ xs) h = ap (λ ys. v ∷ w ∷ x ∷ y ∷ z ∷ ys) (sym (take_all (length (v ∷ w ∷ x ∷ y ∷ z ∷ xs) - 5) xs (omega arith)))
+
+pub four_digits : (text : List ℕ) (n : ℕ) → 5 ≤ length text → get_or text 4 0 ≡ 32 → decimal_from (get_or text 0 0 ∷ get_or text 1 0 ∷ get_or text 2 0 ∷ get_or text 3 0 ∷ []) ≡ Some n
+    → Numbered text n (take (length text - 5) (drop 5 text))
+four_digits text n long space spells = record {
+  word = get_or text 0 0 ∷ get_or text 1 0 ∷ get_or text 2 0 ∷ get_or text 3 0 ∷ [];
+  text_is = front_five text long ∙ ap (λ s. get_or text 0 0 ∷ get_or text 1 0 ∷ get_or text 2 0 ∷ get_or text 3 0 ∷ s ∷ take (length text - 5) (drop 5 text)) space;
+  spells = spells;
+}
+
+-- a number stands in front of other words
+pub number_first : (text rest : List ℕ) (n : ℕ) → (s : Numbered text n rest) → words text ≡ s.word ∷ words rest
+number_first text rest n s =
+    let is : is_decimal s.word ≡ true = is_spelled s.word n s.spells in
+    let plain : list_all is_plain s.word ≡ true = digits_plain s.word (first_so _ _ (second_so _ _ is)) in
+    ap words s.text_is
+    ∙ ap (λ parts. map readable (filter is_word parts)) (split_plain s.word rest plain)
+    ∙ ap (λ b. map readable (cond b (s.word ∷ filter is_word (slice_split is_space rest)) (filter is_word (slice_split is_space rest)))) (is_some_word s.word is)
+    ∙ ap (λ w. w ∷ words rest) (readable_plain s.word plain)
 
 -- lines that are one text
 

@@ -1,7 +1,8 @@
 -- The words of a line, as it is cut at its spaces.
-use Rattle.std.proofs.Common.{◌≡◌, ℕ, zero, suc, ◌-◌, ◌<◌, ◌≤◌, ◌==◌, Bool, true, false, cond, List, [], ◌∷◌, ◌++◌, length, take, drop, map, slice_index, Option, Some, None, IfNone, refl, ap, sym, ◌∙◌, add-one, append_assoc, arith}
+use Rattle.std.proofs.Common.{◌≡◌, true≢false, ℕ, zero, suc, ◌-◌, ◌<◌, ◌≤◌, ◌==◌, Bool, true, false, not, cond, List, [], ◌∷◌, ◌++◌, length, take, drop, map, slice_index, Option, Some, None, IfNone, refl, ap, sym, ◌∙◌, add-one, append_assoc, arith}
 use Rattle.std.specs.Char.{is_ascii}
 use Rattle.std.specs.List.{filter, list_all, slice_split, onto_first}
+use Rattle.std.specs.Option.{is_some}
 use Rattle.std.specs.Str.{IsAscii, IsNotAscii}
 use Rattle.std.proofs.lemmas.Bool.{and_from, and_left, and_right, lt-ltb, le-ltb, false_from_ne_true}
 use Rattle.std.proofs.lemmas.List.{length-append, length-drop, drop-drop}
@@ -88,12 +89,26 @@ goes_on found more rest part after end all h is then before e =
     let next : List Word = words (take (length after - 1) (drop 1 after)) in
     ap (λ ws. ws ++ next) e ∙ append_assoc found (words_among (part ∷ [])) next ∙ ap (λ ws. found ++ ws) (sym (words_at rest part after end h is then)) ∙ before
 
+-- no space
+words_none : (rest : List ℕ) → IsFirstByte (is_byte 32) rest None → words rest ≡ words_among (rest ∷ [])
+words_none rest h = ap words_among (split_none rest (λ k below. h k (omega arith) below))
+
+-- a word stands alone
+pub one_word : (text : List ℕ) → IsFirstByte (is_byte 32) text None → (length text ≡ 0 → ⊥) → words text ≡ readable text ∷ []
+one_word [] h some = absurd (some refl)
+one_word (c ∷ cs) h some = words_none (c ∷ cs) h
+
+pub some_if : (text : List ℕ) (is : Bool) → is ≡ (length text == 0) → is ≡ false → length text ≡ 0 → ⊥
+some_if [] is e t none = true≢false (sym e ∙ t)
+some_if (c ∷ cs) is e t none = absurd (omega (arith, none))
+
+pub one_word_if : (text : List ℕ) (end : Option ℕ) (is : Bool) → IsFirstByte (is_byte 32) text end → is_some end ≡ not is → (length text ≡ 0 → ⊥) → is ≡ true → words text ≡ readable text ∷ []
+one_word_if text None is h e some t = one_word text h some
+one_word_if text (Some n) is h e some t = absurd (true≢false (e ∙ ap not t))
+
 -- the last word was found
 pub is_all : (found more : List Word) (rest : List ℕ) (all : List Word) → IsFirstByte (is_byte 32) rest None → found ++ words rest ≡ all → more ≡ found ++ words_among (rest ∷ []) → more ≡ all
 is_all found more rest all h before e = e ∙ ap (λ ws. found ++ ws) (sym (words_none rest h)) ∙ before
-  where
-    words_none : (rest : List ℕ) → IsFirstByte (is_byte 32) rest None → words rest ≡ words_among (rest ∷ [])
-    words_none rest h = ap words_among (split_none rest (λ k below. h k (omega arith) below))
 
 -- a part of the words is no longer than all
 longer : (found part rest all : List Word) (n : ℕ) → found ++ (part ++ rest) ≡ all → n < length (found ++ part) → n < length all

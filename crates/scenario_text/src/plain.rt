@@ -1,5 +1,5 @@
 //! The most frequent steps, in their plainest spelling: one space between two words, and none at either end.
-ghost use Rattle.std.specs.Prelude.{◌≡◌, ◌≢◌, [], ◌∷◌, length, true, Ok, Some, IfSome};
+ghost use Rattle.std.specs.Prelude.{◌≡◌, ◌≢◌, ◌≤◌, [], ◌∷◌, length, true, Ok, Some, IfSome};
 ghost use Rattle.br_model.specs.Data.Digits.{bytes_from_hex, decimal_from};
 ghost use Rattle.br_model.specs.declared.scenario.Said.TheVariants.{Does};
 ghost use Rattle.br_model.specs.declared.steps.Command.TheVariants.{Link};
@@ -7,12 +7,12 @@ ghost use Rattle.br_model.specs.Text.CommandForms.{step};
 ghost use Rattle.br_model.specs.Text.LineForms.{all_say, comes_by_line};
 ghost use Rattle.br_model.specs.Text.Roster.{chips_of};
 ghost use Rattle.br_model.specs.Text.Words.{words, readable as readable_of};
-ghost use Rattle.scenario_text.specs.Parts.{Numbered, enters, links, moves, switch_word};
+ghost use Rattle.scenario_text.specs.Parts.{Member, Numbered, enters, joins, links, moves, switch_word};
 
 use crate::digits::decoded;
 use crate::words::readable;
 use br_model::bytes::Bytes;
-use br_model::numbers::Dom;
+use br_model::numbers::{Dom, Port, Vid};
 use br_model::scenario::Place;
 use br_model::steps::{Command, Step};
 use bridge_command::{Roster, flag, milliseconds};
@@ -20,39 +20,56 @@ use memchr::memchr;
 use std::alloc::Global;
 
 /// The number that a digit spells.
-fn one_digit(a: u8) -> Option<u8>
+fn one_digit(a: u8) -> Option<u16>
     ensures { IfSome result (λ n. decimal_from (a ∷ []) ≡ Some n) }
 {
     if a.is_ascii_digit() {
-        Some(a - b'0')
+        Some(u16::from(a - b'0'))
     } else {
         None
     }
 }
 
 /// The number that two digits spell.
-fn two_digits(a: u8, b: u8) -> Option<u8>
-    ensures { IfSome result (λ n. decimal_from (a ∷ b ∷ []) ≡ Some n) }
+fn two_digits(a: u8, b: u8) -> Option<u16>
+    ensures spelled { IfSome result (λ n. decimal_from (a ∷ b ∷ []) ≡ Some n) }
+    ensures most { IfSome result (λ n. n ≤ 99) }
 {
     if a.is_ascii_digit() && a != b'0' && b.is_ascii_digit() {
-        Some(10 * (a - b'0') + (b - b'0'))
+        Some(10 * u16::from(a - b'0') + u16::from(b - b'0'))
     } else {
         None
     }
 }
 
-/// The number that three digits spell, if it is below 256.
-fn three_digits(a: u8, b: u8, c: u8) -> Option<u8>
-    ensures { IfSome result (λ n. decimal_from (a ∷ b ∷ c ∷ []) ≡ Some n) }
+/// The number that three digits spell.
+fn three_digits(a: u8, b: u8, c: u8) -> Option<u16>
+    ensures spelled { IfSome result (λ n. decimal_from (a ∷ b ∷ c ∷ []) ≡ Some n) }
+    ensures most { IfSome result (λ n. n ≤ 999) }
 {
-    if !c.is_ascii_digit() {
-        return None;
+    let front = two_digits(a, b)?;
+    if c.is_ascii_digit() {
+        Some(10 * front + u16::from(c - b'0'))
+    } else {
+        None
     }
-    two_digits(a, b)?.checked_mul(10)?.checked_add(c - b'0')
 }
 
-/// The number that the first word spells, if it is below 256, and what follows the space after that word.
-fn first_number(entry: &[u8]) -> Option<(u8, &[u8])>
+/// The number that four digits spell.
+fn four_digits(a: u8, b: u8, c: u8, d: u8) -> Option<u16>
+    ensures { IfSome result (λ n. decimal_from (a ∷ b ∷ c ∷ d ∷ []) ≡ Some n) }
+{
+    let front = three_digits(a, b, c)?;
+    if d.is_ascii_digit() {
+        Some(10 * front + u16::from(d - b'0'))
+    } else {
+        None
+    }
+}
+
+/// The number of at most four digits that the first word spells, and what follows the space after that word.
+#[inline(always)]
+fn first_number(entry: &[u8]) -> Option<(u16, &[u8])>
     ensures { IfSome result (λ found. Numbered entry.now found.0 found.1.now) }
 {
     if let [a, b' ', rest @ ..] = entry {
@@ -65,6 +82,10 @@ fn first_number(entry: &[u8]) -> Option<(u8, &[u8])>
     }
     if let [a, b, c, b' ', rest @ ..] = entry {
         let number = three_digits(*a, *b, *c)?;
+        return Some((number, rest));
+    }
+    if let [a, b, c, d, b' ', rest @ ..] = entry {
+        let number = four_digits(*a, *b, *c, *d)?;
         return Some((number, rest));
     }
     None
@@ -89,7 +110,10 @@ fn plain_entry(alloc: Global, entry: &[u8], r: &Roster) -> Option<Step>
     ensures by_line { IfSome result (λ it. comes_by_line r.now.check (chips_of r.now.ports) it ≡ true) }
 {
     let found = first_number(entry)?;
-    let port = r.port_of(found.0)?;
+    let Ok(number) = u8::try_from(found.0) else {
+        return None;
+    };
+    let port = r.port_of(number)?;
     let bytes = plain_bytes(alloc, found.1)?;
     Some(Step::Rx { port, bytes })
 }
@@ -133,6 +157,57 @@ fn plain_link(text: &[u8], r: &Roster) -> Option<Step>
     Some(Step::Cmd(Command::Link { port, flag, on }))
 }
 
+/// Whether the text is one word.
+fn is_one_word(text: &[u8]) -> bool
+    ensures { result ≡ true → words text.now ≡ readable_of text.now ∷ [] }
+{
+    !text.is_empty() && memchr(b' ', text).is_none()
+}
+
+/// The VLAN and the port that `VID dev NAME` names.
+fn member(entry: &[u8], r: &Roster) -> Option<(Vid, Port)>
+    ensures { IfSome result (λ m. Member r.now.ports entry.now m.0 m.1) }
+{
+    let found = first_number(entry)?;
+    let vid = Vid::new(found.0)?;
+    let [b'd', b'e', b'v', b' ', word @ ..] = found.1 else {
+        return None;
+    };
+    if !is_one_word(word) {
+        return None;
+    }
+    let name = readable(word);
+    if name == "host" {
+        return None;
+    }
+    let Ok(port) = r.named(name) else {
+        return None;
+    };
+    Some((vid, port))
+}
+
+/// The command of a VLAN's member, by what follows `cmd vlan`.
+fn plain_vlan(text: &[u8], r: &Roster) -> Option<Step>
+    requires { step r.now.place ≡ true }
+    ensures says { IfSome result (λ it. all_say r.now (words (joins text.now)) ≡ Ok (Does it)) }
+    ensures by_line { IfSome result (λ it. comes_by_line r.now.check (chips_of r.now.ports) it ≡ true) }
+{
+    if let [b'a', b'd', b'd', b' ', b'v', b'i', b'd', b' ', entry @ ..] = text {
+        let (vid, port) = member(entry, r)?;
+        return Some(Step::Cmd(Command::VlanAdd {
+            port,
+            vid,
+            untagged: false,
+            pvid: false,
+        }));
+    }
+    if let [b'd', b'e', b'l', b' ', b'v', b'i', b'd', b' ', entry @ ..] = text {
+        let (vid, port) = member(entry, r)?;
+        return Some(Step::Cmd(Command::VlanDel { port, vid }));
+    }
+    None
+}
+
 /// The step to a moment, by what follows `now`.
 fn plain_moment(text: &[u8], r: &Roster) -> Option<Step>
     requires { step r.now.place ≡ true }
@@ -170,6 +245,21 @@ pub(crate) fn plain_step(alloc: Global, line: &[u8], r: &Roster) -> Option<Step>
     ] = line
     {
         return plain_link(text, r);
+    }
+    if let [
+        b'c',
+        b'm',
+        b'd',
+        b' ',
+        b'v',
+        b'l',
+        b'a',
+        b'n',
+        b' ',
+        text @ ..,
+    ] = line
+    {
+        return plain_vlan(text, r);
     }
     if let [b'n', b'o', b'w', b' ', text @ ..] = line {
         return plain_moment(text, r);

@@ -2,7 +2,7 @@ use Rattle.std.proofs.Common.{◌≡◌, ℕ, List, Ok, IfSome, subst, sym, rule
 use Rattle.br_model.specs.declared.scenario.Said.TheVariants.{Does}
 use Rattle.br_model.specs.Text.LineForms.{all_say}
 use Rattle.br_model.specs.Text.Words.{words}
-use Rattle.scenario_text.proofs.PlainCommands.{link_line, now_line}
+use Rattle.scenario_text.proofs.PlainCommands.{link_line, now_line, vlan_line}
 use Rattle.std.specs.Prelude.{codes}
 use Rattle.std.proofs.lemmas.Slice.Eq.{text_from_reads}
 use Rattle.scenario_text.proofs.PlainLines.{serve_says, turn_says, report_says, publish_says}
@@ -11,6 +11,10 @@ use Rattle.scenario_text.proofs.plain.plain_step.Goals as goal
 pub returns-in-99-clause-says : goal.returns-in-99-clause-says
 returns-in-99-clause-says c =
     subst (λ (l : List ℕ). IfSome c.plain_link.result (λ it. all_say c.args.r.now (words l) ≡ Ok (Does it))) (sym (link_line c.args.line.now (omega arith) (omega arith) (omega arith) (omega arith) (omega arith) (omega arith) (omega arith) (omega arith) (omega arith) (omega arith))) c.plain_link.ensures.says
+
+pub returns-in-99-line-clause-says : goal.returns-in-99-line-clause-says
+returns-in-99-line-clause-says c =
+    subst (λ (l : List ℕ). IfSome c.plain_vlan.result (λ it. all_say c.args.r.now (words l) ≡ Ok (Does it))) (sym (vlan_line c.args.line.now (omega arith) (omega arith) (omega arith) (omega arith) (omega arith) (omega arith) (omega arith) (omega arith) (omega arith) (omega arith))) c.plain_vlan.ensures.says
 
 pub returns-in-110-clause-says : goal.returns-in-110-clause-says
 returns-in-110-clause-says c =
