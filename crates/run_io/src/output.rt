@@ -1,5 +1,5 @@
 //! Text on its way to a sink, in large pieces.
-ghost use Rattle.std.specs.Prelude.{◌≡◌, ℕ, ◌*◌, ◌≤◌, ◌↔◌, [], take, IfOk, OnOk, OnErr, IsTrue};
+ghost use Rattle.std.specs.Prelude.{◌≡◌, ℕ, ◌*◌, ◌<◌, ◌≤◌, ◌↔◌, [], length, take, IfOk, OnOk, OnErr, IsTrue};
 ghost use Rattle.std.specs.String.{string_bytes, string_capacity, string_len};
 ghost use Rattle.std.specs.Io.KnownBytes.{Appends};
 ghost use Rattle.run_io.specs.Causes.{HasCause};
@@ -42,7 +42,8 @@ impl Output {
         ensures all { OnOk result (Appends (K.taken sink.old) (K.taken sink.new) (string_bytes self.old.text)) }
         ensures empty { OnOk result (string_bytes self.new.text ≡ []) }
         ensures room { OnOk result (string_capacity self.old.text ≤ string_capacity self.new.text) }
-        ensures prefix { OnErr result ((n : ℕ) × Appends (K.taken sink.old) (K.taken sink.new) (take n (string_bytes self.old.text))) }
+        ensures prefix { OnErr result ((n : ℕ) × (n < length (string_bytes self.old.text))
+            × Appends (K.taken sink.old) (K.taken sink.new) (take n (string_bytes self.old.text))) }
         ensures kept { OnErr result (self.new ≡ self.old) }
         ensures cause { HasCause (K.faults sink.old) (K.faults sink.new) result }
     {

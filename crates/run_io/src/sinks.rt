@@ -40,14 +40,14 @@ pub trait Sink {
         ensures zero { ZeroHasCause (faults self.old) (faults self.new) result from.now };
 }
 
-/// Writes the whole piece, in as many writes as it needs. After a fault a prefix of it was taken.
+/// Writes the whole piece, in as many writes as it needs. After a fault a prefix of it was taken, and not all of it.
 ///
 /// # Errors
 ///
 /// `WriteFault` where a write failed or took nothing.
 pub fn put<K: Sink>(sink: &mut K, from: &[u8]) -> Result<(), WriteFault>
     ensures all { OnOk result (Appends (K.taken sink.old) (K.taken sink.new) from.now) }
-    ensures prefix { OnErr result ((n : ℕ) × Appends (K.taken sink.old) (K.taken sink.new) (take n from.now)) }
+    ensures prefix { OnErr result ((n : ℕ) × (n < length from.now) × Appends (K.taken sink.old) (K.taken sink.new) (take n from.now)) }
     ensures cause { HasCause (K.faults sink.old) (K.faults sink.new) result }
 {
     let mut at = 0;
