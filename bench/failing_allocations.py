@@ -1,8 +1,9 @@
 #!/usr/bin/env python3
-"""failing_allocations.py PROGRAM [PORTS [ROUNDS]]: `replay` of frames that leave so many ports (60), of which each third is a chip's,
-and of so many rounds (300) of frames that wait, are held, teach and are swept, where the Nth allocation fails, for N from 1 until a
-run in which none fails. It tells how many runs ended with each status, and which left a torn line: each must write whole lines of the
-transcript, and then the line `no memory`, or the whole transcript, where it could do without that memory."""
+"""failing_allocations.py PROGRAM [PORTS [ROUNDS]]: each command, where the Nth allocation fails, for N from 1 until a run in which
+none fails. `replay` and `show` read frames that leave so many ports (60), of which each third is a chip's, and so many rounds (300) of
+frames that wait, are held, teach and are swept. It tells how many runs ended with each status, and which left a torn line: `replay` must
+write whole lines of the transcript, and then the line `no memory`, the others that line alone, or each its whole output, where it could
+do without that memory."""
 import collections
 import os
 import subprocess
@@ -60,34 +61,41 @@ def preload(folder):
     return library
 
 
+def failing(command, text, library):
+    """Runs a command until no allocation fails. Whether some failed, and each left what it should."""
+    statuses, torn, number = collections.Counter(), [], 0
+
+    def run(number):
+        environment = {**os.environ, "LD_PRELOAD": library, "FAILING_ALLOCATION": str(number)}
+        return subprocess.run(command, input=text, capture_output=True, env=environment)
+
+    whole = run(0)
+    lines = whole.stdout.splitlines(keepends=True)
+    while True:
+        number += 1
+        ran = run(number)
+        if not ran.stderr:
+            break
+        written = ran.stdout.splitlines(keepends=True)
+        statuses[ran.returncode] += 1
+        if (ran.returncode, ran.stdout) == (whole.returncode, whole.stdout):
+            continue
+        before = lines[: len(written) - 1] if command[1] == "replay" else []
+        if ran.returncode != 6 or written != before + [b"no memory\n"]:
+            torn.append(number)
+            print(f"allocation {number}: status {ran.returncode}, {ran.stdout[-60:]!r}")
+    told = ", ".join(f"{count} of status {status}" for status, count in sorted(statuses.items()))
+    print(f"{' '.join(command[1:])}: {len(lines)} lines; {number - 1} runs with a failed allocation: {told}; torn lines in {len(torn)}")
+    return bool(statuses) and not torn
+
+
 def main():
     program, ports, rounds = os.path.abspath(sys.argv[1]), *[int(n) for n in sys.argv[2:] + ["60", "300"][len(sys.argv) - 2 :]]
     text = "".join(line + "\n" for line in scenario(ports, rounds)).encode()
-    statuses, torn, number = collections.Counter(), [], 0
     with tempfile.TemporaryDirectory() as folder:
         library = preload(folder)
-
-        def run(number):
-            environment = {**os.environ, "LD_PRELOAD": library, "FAILING_ALLOCATION": str(number)}
-            return subprocess.run([program, "replay"], input=text, capture_output=True, env=environment)
-
-        whole = run(0)
-        lines = whole.stdout.splitlines(keepends=True)
-        while True:
-            number += 1
-            ran = run(number)
-            if not ran.stderr:
-                break
-            written = ran.stdout.splitlines(keepends=True)
-            statuses[ran.returncode] += 1
-            if (ran.returncode, ran.stdout) == (whole.returncode, whole.stdout):
-                continue
-            if ran.returncode != 6 or written[-1:] != [b"no memory\n"] or written[:-1] != lines[: len(written) - 1]:
-                torn.append(number)
-                print(f"allocation {number}: status {ran.returncode}, {ran.stdout[-60:]!r}")
-    told = ", ".join(f"{count} of status {status}" for status, count in sorted(statuses.items()))
-    print(f"{len(lines)} lines; {number - 1} runs with a failed allocation: {told}; torn lines in {len(torn)}")
-    return bool(torn) or not statuses
+        commands = [["replay"], ["show", "fdb"], ["gen", "8", "20"], ["demo", "8", "20"]]
+        return not all([failing([program, *words], text, library) for words in commands])
 
 
 if __name__ == "__main__":

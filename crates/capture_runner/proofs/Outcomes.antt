@@ -1,22 +1,27 @@
 -- How a run ends, once its last line is written.
-use Rattle.std.proofs.Common.{◌≡◌, ℕ, List, [], ◌++◌, Option, None, Some, Ok, Err, IfSome, String, string_bytes, refl, sym, ◌∙◌, ap, subst, codes, append_assoc}
+use Rattle.std.proofs.Common.{◌≡◌, ℕ, ◌<◌, List, [], ◌++◌, length, take, drop, Option, None, Some, Ok, Err, IfSome, String, string_bytes, inl, inr, refl, sym, ◌∙◌, ap, subst, arith, codes, append_assoc, length-append, length-drop}
 use Rattle.std.specs.declared.alloc.Global.{Global}
-use Rattle.std.specs.Io.KnownBytes.{Appends, Consumes}
-use Rattle.std.proofs.KnownBytes.{Appends-trans}
-use Rattle.std.proofs.lemmas.List.{append-nil}
+use Rattle.std.specs.Io.KnownBytes.{Appends, Consumes, append_known}
+use Rattle.std.proofs.KnownBytes.{Appends-trans, Consumes-nil}
+use Rattle.std.proofs.lemmas.List.{append-nil, take-append-drop}
 use Rattle.run_io.specs.Causes.{Rose}
 use Rattle.br_model.specs.declared.listing.Listing.{Listing}
 use Rattle.br_model.specs.declared.change.Change.{Change}
 use Rattle.br_model.specs.Table.Limits.{most_bytes}
 use Rattle.br_model.specs.Program.Listings.{listed, listed_at, listing_text}
-use Rattle.br_model.specs.Program.Outcomes.{Call, Answers, Makes}
+use Rattle.br_model.specs.Program.Generator.{made}
+use Rattle.br_model.specs.Program.Outcomes.{Call, Answers, HasScenario, Read, ReadsBehind, Wrote}
+use Rattle.br_model.specs.Program.Summary.{summary}
 use Rattle.br_model.specs.Plane.Runs.{run}
 use Rattle.br_model.specs.Plane.World.{World, Stepped}
 use Rattle.br_model.specs.Text.Roster.{Entry}
-use Rattle.br_model.specs.Program.Runs.{body, told, told_of, run_of, setup_of}
+use Rattle.br_model.specs.Program.Runs.{body, body_parts, told, told_of, run_of, setup_of}
 use Rattle.br_model.specs.Text.Scenario.{Scenario, Ending, scenario}
 use Rattle.br_model.specs.Table.Table.{table}
+use Rattle.br_model.proofs.Completing.{never_bad, never_full}
 use Rattle.br_model.proofs.Running.{run_none}
+use Rattle.capture_runner.specs.declared.asked.Asked.{Asked}
+use Rattle.capture_runner.specs.declared.asked.Asked.TheVariants as asks
 use Rattle.capture_runner.specs.declared.replay.Halt.TheVariants as halts
 use Rattle.capture_runner.specs.declared.replay.Stop.{Stop}
 use Rattle.capture_runner.specs.declared.replay.Stop.TheVariants as stops
@@ -25,25 +30,55 @@ use Rattle.capture_runner.specs.declared.session.Last.TheVariants as lasts
 use Rattle.capture_runner.specs.declared.session.Session.{Session}
 use Rattle.capture_runner.specs.declared.status.Status.{Status}
 use Rattle.capture_runner.specs.declared.status.Status.TheVariants as statuses
-use Rattle.capture_runner.specs.Halting.{Written, Answered, Told, Plays, Lists}
-use Rattle.capture_runner.specs.Outcome.{Reads, Writes, Refuses, Caused, last_line, nothing, anything, alone}
-use Rattle.capture_runner.specs.Playing.{Filled, Stopped}
+use Rattle.capture_runner.specs.Advancing.{Caused as StopsBy}
+use Rattle.capture_runner.specs.Halting.{Answered, Breaks, Grows, Halted, Halts, IsBehind, Lists, Plays, Told, Written}
+use Rattle.capture_runner.specs.Outcome.{Asks, Caused, EndsWell, OrBreaksOff, Outcome, Reads, Refuses, Replays, Whole, WholeRefuses, WholeWrites, Writes, call_of, first_line, last_line, no_parts, nothing}
+use Rattle.capture_runner.specs.Playing.{Below, Filled}
 use Rattle.capture_runner.specs.Session as session
 use Rattle.capture_runner.specs.Stopping as stopping
+use Rattle.capture_runner.proofs.Telling.{breaks_behind, opened_more}
 
 -- no fault of writing
 abbrev pub Went : Status → Type 0
 Went r = r ≡ statuses.WriteFault → ⊥
 
+-- then a front was written, and not all
+abbrev pub Broke : Status → Option (List ℕ) → Option (List ℕ) → List ℕ → Type 0
+Broke r before now text = r ≡ statuses.WriteFault → Breaks before now text
+
+-- had the sink taken the rest, too
+with_rest : (before now : Option (List ℕ)) (front rest : List ℕ) → Appends before now front → Appends before (append_known now rest) (front ++ rest)
+with_rest None now front rest a = tt
+with_rest (Some xs) None front rest a = absurd a
+with_rest (Some xs) (Some ys) front rest a = ap (λ (b : List ℕ). b ++ rest) a ∙ append_assoc xs front rest
+
 -- a status that is this one, unless the sink failed
-by_status : (P : Status → Type 0) (s r : Status) → (Went r → P s) → P statuses.WriteFault → (Went r → r ≡ s) → P r
-by_status P s statuses.WriteFault p q h = q
-by_status P s statuses.Ok p q h = let n : statuses.Ok ≡ statuses.WriteFault → ⊥ = λ e. absurd (cc) in subst P (sym (h n)) (p n)
-by_status P s statuses.Usage p q h = let n : statuses.Usage ≡ statuses.WriteFault → ⊥ = λ e. absurd (cc) in subst P (sym (h n)) (p n)
-by_status P s statuses.BadLine p q h = let n : statuses.BadLine ≡ statuses.WriteFault → ⊥ = λ e. absurd (cc) in subst P (sym (h n)) (p n)
-by_status P s statuses.ReadFault p q h = let n : statuses.ReadFault ≡ statuses.WriteFault → ⊥ = λ e. absurd (cc) in subst P (sym (h n)) (p n)
-by_status P s statuses.NoMemory p q h = let n : statuses.NoMemory ≡ statuses.WriteFault → ⊥ = λ e. absurd (cc) in subst P (sym (h n)) (p n)
-by_status P s statuses.TooLong p q h = let n : statuses.TooLong ≡ statuses.WriteFault → ⊥ = λ e. absurd (cc) in subst P (sym (h n)) (p n)
+module _ (W : Status → Call → Type 0) (left left_now before now : Option (List ℕ)) (output : List ℕ) (s : Status) (whole : (after : Option (List ℕ)) → Appends before after output → W s (call_of left left_now before after)) where
+  went : (r : Status) → Went r → (Went r → r ≡ s) → (Went r → Appends before now output) → W r (call_of left left_now before now)
+  went r n is a = subst (λ (r : Status). W r (call_of left left_now before now)) (sym (is n)) (whole now (a n))
+
+  broke : Breaks before now output → OrBreaksOff W statuses.WriteFault (call_of left left_now before now)
+  broke b =
+      let rest : List ℕ = drop b.0 output in record {
+        output = take b.0 output;
+        wrote = b.2;
+        missing = rest;
+        some = omega (arith, b.1, length-drop b.0 output);
+        otherwise = (
+          s,
+          whole (append_known now rest)
+              (subst (λ (o : List ℕ). Appends before (append_known now rest) o) (take-append-drop b.0 output) (with_rest before now (take b.0 output) rest b.2)),
+        );
+      }
+
+  by_status : (r : Status) → (Went r → r ≡ s) → (Went r → Appends before now output) → Broke r before now output → OrBreaksOff W r (call_of left left_now before now)
+  by_status statuses.WriteFault is a b = broke (b refl)
+  by_status statuses.Ok is a b = went statuses.Ok (λ e. absurd (cc)) is a
+  by_status statuses.Usage is a b = went statuses.Usage (λ e. absurd (cc)) is a
+  by_status statuses.BadLine is a b = went statuses.BadLine (λ e. absurd (cc)) is a
+  by_status statuses.ReadFault is a b = went statuses.ReadFault (λ e. absurd (cc)) is a
+  by_status statuses.NoMemory is a b = went statuses.NoMemory (λ e. absurd (cc)) is a
+  by_status statuses.TooLong is a b = went statuses.TooLong (λ e. absurd (cc)) is a
 
 -- what was written, with the last piece
 all_wrote : (before mid now : Option (List ℕ)) (text all last : List ℕ) → Written before mid text all → Appends mid now (text ++ last) → Appends before now (all ++ last)
@@ -51,6 +86,13 @@ all_wrote before mid now text all last w a =
     subst (λ (b : List ℕ). Appends before now b)
     (sym (append_assoc w.gone text last) ∙ ap (λ (b : List ℕ). b ++ last) (sym w.together))
     (Appends-trans _ _ _ _ _ w.wrote a)
+
+-- or with a front of it
+all_broke : (before mid now : Option (List ℕ)) (text all last : List ℕ) → Written before mid text all → Breaks mid now (text ++ last) → Breaks before now (all ++ last)
+all_broke before mid now text all last w b =
+    subst (λ (o : List ℕ). Breaks before now o)
+    (sym (append_assoc w.gone text last) ∙ ap (λ (b : List ℕ). b ++ last) (sym w.together))
+    (breaks_behind before mid now w.gone (text ++ last) w.wrote b)
 
 -- what the answer to some bytes depends on
 
@@ -71,74 +113,172 @@ unfolding Same
 whole_same answer None input ending same e h = tt
 whole_same answer (Some bytes) input ending same e h = (ap (λ (s : Scenario). s.ending) h ∙ e, same bytes input h)
 
-module _ (left left_now before now : Option (List ℕ)) (r : Status) where
-  abbrev call : Call
-  call = record { left_before = left; left_now = left_now; taken_before = before; taken_now = now }
-
-  answers : (answer : List ℕ → List ℕ) (text : List ℕ) (last : Last) → Same answer → Answered answer left left_now text last → Appends before now text → Answers answer call (session.ending_of last)
-  answers answer text last same t a = record {
+module _ (failed : Type 0) (left left_now before now : Option (List ℕ)) (r : Status) where
+  answers : (answer : List ℕ → List ℕ) (text : List ℕ) (last : Last) (after : Option (List ℕ)) → Same answer → Answered answer left left_now text last → Appends before after text
+      → Answers answer (call_of left left_now before after) (session.ending_of last)
+  answers answer text last after same t a = record {
     input = t.input;
     read = t.read;
     ends = t.ends;
-    wrote = subst (λ (b : List ℕ). Appends before now b) t.answers a;
+    wrote = subst (λ (b : List ℕ). Appends before after b) t.answers a;
     whole = whole_same answer left t.input (session.ending_of last) same t.ends t.whole;
   }
 
-  -- the scenario has ended
-  ends : (answer opening : List ℕ → List ℕ) (lacking : Call → Type 0) (text : List ℕ) (last : Last) → Same answer → Answered answer left left_now text last
-      → (Went r → r ≡ session.status_of last) → (Went r → Appends before now text) → Reads answer opening lacking r call
-  ends answer opening lacking text lasts.Ended same t s a =
-      by_status (λ r. Reads answer opening lacking r call) statuses.Ok r (λ n. (answers answer text lasts.Ended same t (a n), t.within)) tt s
-  ends answer opening lacking text (lasts.Bad n why) same t s a =
-      by_status (λ r. Reads answer opening lacking r call) statuses.BadLine r (λ m. ((n, why, answers answer text (lasts.Bad n why) same t (a m)), t.within)) tt s
+  module _ (answer opening : List ℕ → List ℕ) (parts : ℕ → List ℕ → List ℕ) where
+    abbrev W : Status → Call → Type 0
+    W = Whole failed answer opening parts
 
-  -- the run stops
-  stops_at : (answer opening : List ℕ → List ℕ) (lacking : Call → Type 0) (all : List ℕ) (f : Stopped left left_now all) → (Went r → r ≡ statuses.ReadFault)
-      → (Went r → Appends before now (opening f.input ++ last_line (codes "read fault"))) → Reads answer opening lacking r call
-  stops_at answer opening lacking all f s a =
-      by_status (λ r. Reads answer opening lacking r call) statuses.ReadFault r (λ n. record { input = f.input; read = f.read; going = f.going; wrote = a n }) tt s
+    abbrev Ends : Type 0
+    Ends = Reads failed answer opening parts r (call_of left left_now before now)
 
-  fills : (answer opening : List ℕ → List ℕ) (lacking : Call → Type 0) (all : List ℕ) (f : Filled left most_bytes left_now all) → (Went r → r ≡ statuses.TooLong)
-      → (Went r → Appends before now (opening f.stops.input ++ last_line (codes "too long"))) → Reads answer opening lacking r call
-  fills answer opening lacking all f s a =
-      by_status (λ r. Reads answer opening lacking r call) statuses.TooLong r
-      (λ n. record { stops = record { input = f.stops.input; read = f.stops.read; going = f.stops.going; wrote = a n }; full = f.full }) tt s
+    -- the scenario has ended
+    ends : (text : List ℕ) (last : Last) → Same answer → Answered answer left left_now text last → (Went r → r ≡ session.status_of last) → (Went r → Appends before now text) → Broke r before now text → Ends
+    ends text lasts.Ended same t =
+        by_status W left left_now before now text statuses.Ok (λ after a. (answers answer text lasts.Ended after same t a, t.within)) r
+    ends text (lasts.Bad n why) same t =
+        by_status W left left_now before now text statuses.BadLine (λ after a. ((n, why, answers answer text (lasts.Bad n why) after same t a), t.within)) r
 
-  lacks : (answer opening : List ℕ → List ℕ) (lacking : Call → Type 0) → (Went r → r ≡ statuses.NoMemory) → (Went r → lacking call) → Reads answer opening lacking r call
-  lacks answer opening lacking s l = by_status (λ r. Reads answer opening lacking r call) statuses.NoMemory r l tt s
+    -- the run stops
+    stops_at : (all : List ℕ) (f : Below left most_bytes left_now all) → failed → (Went r → r ≡ statuses.ReadFault)
+        → (Went r → Appends before now (opening f.stops.input ++ last_line (codes "read fault"))) → Broke r before now (opening f.stops.input ++ last_line (codes "read fault")) → Ends
+    stops_at all f fault =
+        by_status W left left_now before now (opening f.stops.input ++ last_line (codes "read fault")) statuses.ReadFault
+        (λ after a. (fault, record { stops = record { input = f.stops.input; read = f.stops.read; going = f.stops.going; wrote = a }; below = f.below })) r
+
+    fills : (all : List ℕ) (f : Filled left most_bytes left_now all) → (Went r → r ≡ statuses.TooLong)
+        → (Went r → Appends before now (opening f.stops.input ++ last_line (codes "too long"))) → Broke r before now (opening f.stops.input ++ last_line (codes "too long")) → Ends
+    fills all f =
+        by_status W left left_now before now (opening f.stops.input ++ last_line (codes "too long")) statuses.TooLong
+        (λ after a. record { stops = record { input = f.stops.input; read = f.stops.read; going = f.stops.going; wrote = a }; full = f.full }) r
+
+    lacks : (input : List ℕ) (n : ℕ) → Consumes left left_now input → (Went r → r ≡ statuses.NoMemory) → (Went r → Appends before now (parts n input ++ last_line (codes "no memory")))
+        → Broke r before now (parts n input ++ last_line (codes "no memory")) → Ends
+    lacks input n read =
+        by_status W left left_now before now (parts n input ++ last_line (codes "no memory")) statuses.NoMemory
+        (λ after a. record { input = input; read = read; count = n; wrote = a }) r
 
   -- a replay
 
-  pub replay_ends : (mid : Option (List ℕ)) (text : List ℕ) (x : Session) (last : Last) → Plays left left_now x before mid text (Ok last)
-      → (Went r → r ≡ session.status_of last) → (Went r → Appends mid now (text ++ [])) → Reads told body anything r call
-  replay_ends mid text x last p s a =
-      ends told body anything p.0 last told_same p.2.answered s
-      (λ n. subst (λ (b : List ℕ). Appends before now b) (append-nil p.0) (all_wrote before mid now text p.0 [] p.1 (a n)))
+  abbrev Replayed : Type 0
+  Replayed = Reads failed told body body_parts r (call_of left left_now before now)
 
-  pub replay_stops : (mid : Option (List ℕ)) (text : List ℕ) (x : Session) (stop : Stop) → Plays left left_now x before mid text (Err (halts.Stopped stop))
-      → (Went r → r ≡ stopping.stop_status stop) → (Went r → Appends mid now (text ++ stopping.stop_line stop)) → Reads told body anything r call
-  replay_stops mid text x stops.ReadFault p s a =
-      let last : List ℕ = last_line (codes "read fault") in
-      stops_at told body anything p.0 p.2 s (λ n. subst (λ (b : List ℕ). Appends before now (b ++ last)) p.2.told (all_wrote before mid now text p.0 last p.1 (a n)))
-  replay_stops mid text x stops.TooLong p s a =
-      let last : List ℕ = last_line (codes "too long") in
-      fills told body anything p.0 p.2 s (λ n. subst (λ (b : List ℕ). Appends before now (b ++ last)) p.2.stops.told (all_wrote before mid now text p.0 last p.1 (a n)))
-  replay_stops mid text x stops.NoMemory p s a = lacks told body anything s (λ n. tt)
+  replay_ends : (mid : Option (List ℕ)) (text : List ℕ) (x : Session) (last : Last) → Plays left left_now x before mid text (Ok last)
+      → (Went r → r ≡ session.status_of last) → (Went r → Appends mid now (text ++ [])) → Broke r mid now (text ++ []) → Replayed
+  replay_ends mid text x last p s a b =
+      ends told body body_parts p.0 last told_same p.2.answered s
+      (λ n. subst (λ (o : List ℕ). Appends before now o) (append-nil p.0) (all_wrote before mid now text p.0 [] p.1 (a n)))
+      (λ e. subst (λ (o : List ℕ). Breaks before now o) (append-nil p.0) (all_broke before mid now text p.0 [] p.1 (b e)))
 
-  pub replay_lacks : (Went r → r ≡ statuses.NoMemory) → Reads told body anything r call
-  replay_lacks s = lacks told body anything s (λ n. tt)
+  -- with its last line
+  all_lasts : (mid : Option (List ℕ)) (text all whole last : List ℕ) → Written before mid text all → all ≡ whole → (Went r → Appends mid now (text ++ last)) → Went r → Appends before now (whole ++ last)
+  all_lasts mid text all whole last w is a n = subst (λ (o : List ℕ). Appends before now (o ++ last)) is (all_wrote before mid now text all last w (a n))
+
+  breaks : (mid : Option (List ℕ)) (text all whole last : List ℕ) → Written before mid text all → all ≡ whole → Broke r mid now (text ++ last) → Broke r before now (whole ++ last)
+  breaks mid text all whole last w is b e = subst (λ (o : List ℕ). Breaks before now (o ++ last)) is (all_broke before mid now text all last w (b e))
+
+  replay_stops : (mid : Option (List ℕ)) (text : List ℕ) (stop : Stop) → Halted left left_now before mid text (halts.Stopped stop) → (stop ≡ stops.ReadFault → failed)
+      → (Went r → r ≡ stopping.stop_status stop) → (Went r → Appends mid now (text ++ stopping.stop_line stop)) → Broke r mid now (text ++ stopping.stop_line stop) → Replayed
+  replay_stops mid text stops.ReadFault p f s a b =
+      stops_at told body body_parts p.0 p.2 (f refl) s (all_lasts mid text p.0 _ _ p.1 p.2.stops.told a) (breaks mid text p.0 _ _ p.1 p.2.stops.told b)
+  replay_stops mid text stops.TooLong p f s a b =
+      fills told body body_parts p.0 p.2 s (all_lasts mid text p.0 _ _ p.1 p.2.stops.told a) (breaks mid text p.0 _ _ p.1 p.2.stops.told b)
+  replay_stops mid text stops.NoMemory p f s a b =
+      lacks told body body_parts p.2.input p.2.count p.2.read s (all_lasts mid text p.0 _ _ p.1 p.2.told a) (breaks mid text p.0 _ _ p.1 p.2.told b)
 
   -- a listing
 
   pub show_ends : (listing : Listing) (x : Last × String Global) → Lists listing left left_now (Ok x) → (Went r → r ≡ session.status_of x.0) → (Went r → Appends before now (string_bytes x.1))
-      → Reads (listed listing) nothing alone r call
-  show_ends listing x p s a = ends (listed listing) nothing alone (string_bytes x.1) x.0 (listed_same listing) p s a
+      → Broke r before now (string_bytes x.1) → Reads failed (listed listing) nothing no_parts r (call_of left left_now before now)
+  show_ends listing x p = ends (listed listing) nothing no_parts (string_bytes x.1) x.0 (listed_same listing) p
 
-  pub show_stops : (listing : Listing) (stop : Stop) → Lists listing left left_now (Err stop) → (Went r → r ≡ stopping.stop_status stop) → (Went r → Appends before now (stopping.stop_line stop))
-      → Reads (listed listing) nothing alone r call
-  show_stops listing stops.ReadFault p s a = stops_at (listed listing) nothing alone p.0 p.1 s a
-  show_stops listing stops.TooLong p s a = fills (listed listing) nothing alone p.0 p.1 s a
-  show_stops listing stops.NoMemory p s a = lacks (listed listing) nothing alone s a
+  pub show_stops : (listing : Listing) (stop : Stop) → Lists listing left left_now (Err stop) → (stop ≡ stops.ReadFault → failed) → (Went r → r ≡ stopping.stop_status stop)
+      → (Went r → Appends before now (stopping.stop_line stop)) → Broke r before now (stopping.stop_line stop) → Reads failed (listed listing) nothing no_parts r (call_of left left_now before now)
+  show_stops listing stops.ReadFault p f = stops_at (listed listing) nothing no_parts p.0 p.1 (f refl)
+  show_stops listing stops.TooLong p f = fills (listed listing) nothing no_parts p.0 p.1
+  show_stops listing stops.NoMemory p f = lacks (listed listing) nothing no_parts p.0 0 p.1
+
+-- what any status says of what was read and written
+
+module _ (failed : Type 0) (answer opening : List ℕ → List ℕ) (parts : ℕ → List ℕ → List ℕ) where
+  abbrev Seen : Call → Type 0
+  Seen c = (input : List ℕ) × Read c input × (output : List ℕ) × Wrote c output
+
+  whole_seen : (r : Status) (c : Call) → Whole failed answer opening parts r c → Seen c
+  whole_seen statuses.Ok c h = (h.0.input, h.0.read, _, h.0.wrote)
+  whole_seen statuses.Usage c h = absurd h
+  whole_seen statuses.BadLine c h = (h.0.2.input, h.0.2.read, _, h.0.2.wrote)
+  whole_seen statuses.ReadFault c h = (h.1.stops.input, h.1.stops.read, _, h.1.stops.wrote)
+  whole_seen statuses.WriteFault c h = absurd h
+  whole_seen statuses.NoMemory c h = (h.input, h.read, _, h.wrote)
+  whole_seen statuses.TooLong c h = (h.stops.input, h.stops.read, _, h.stops.wrote)
+
+  seen : (r : Status) (c : Call) → Reads failed answer opening parts r c → Seen c
+  seen statuses.Ok c h = whole_seen statuses.Ok c h
+  seen statuses.Usage c h = absurd h
+  seen statuses.BadLine c h = whole_seen statuses.BadLine c h
+  seen statuses.ReadFault c h = whole_seen statuses.ReadFault c h
+  seen statuses.WriteFault c h = let o = whole_seen h.otherwise.0 (record c { taken_now = append_known c.taken_now h.missing }) h.otherwise.1 in (o.0, o.1, h.output, h.wrote)
+  seen statuses.NoMemory c h = whole_seen statuses.NoMemory c h
+  seen statuses.TooLong c h = whole_seen statuses.TooLong c h
+
+-- what the sink took since then, by the status
+grew : (mid now : Option (List ℕ)) (text : List ℕ) (r : Status) → (Went r → Appends mid now text) → Broke r mid now text → Grows mid now
+grew mid now text statuses.WriteFault a b = let c = b refl in (take c.0 text, c.2)
+grew mid now text statuses.Ok a b = (text, a (λ e. absurd (cc)))
+grew mid now text statuses.Usage a b = (text, a (λ e. absurd (cc)))
+grew mid now text statuses.BadLine a b = (text, a (λ e. absurd (cc)))
+grew mid now text statuses.ReadFault a b = (text, a (λ e. absurd (cc)))
+grew mid now text statuses.NoMemory a b = (text, a (λ e. absurd (cc)))
+grew mid now text statuses.TooLong a b = (text, a (λ e. absurd (cc)))
+
+-- a replay with its first line
+
+module _ (failed : Type 0) (left left_now before now : Option (List ℕ)) (r : Status) where
+  replays : IsBehind left left_now before now → Reads failed told body body_parts r (call_of left left_now before now) → Replays failed r (call_of left left_now before now)
+  replays b h = let s = seen failed told body body_parts r (call_of left left_now before now) h in (h, first b s)
+    where
+      first : IsBehind left left_now before now → Seen failed told body body_parts (call_of left left_now before now) → ReadsBehind first_line (call_of left left_now before now)
+      first (inl none) s = record { input = []; read = none; output = s.2; wrote = s.3; behind = inl refl }
+      first (inr o) s = record { input = s.0; read = s.1; output = first_line ++ o.0; wrote = o.1; behind = inr (o.0, refl) }
+
+  still_behind : (mid : Option (List ℕ)) → IsBehind left left_now before mid → Grows mid now → IsBehind left left_now before now
+  still_behind mid (inl none) g = inl none
+  still_behind mid (inr o) g = inr (opened_more before mid now o g)
+
+  pub replays_end : (mid : Option (List ℕ)) (text : List ℕ) (x : Session) (last : Last) → Plays left left_now x before mid text (Ok last) → IsBehind left left_now before mid
+      → (Went r → r ≡ session.status_of last) → (Went r → Appends mid now (text ++ [])) → Broke r mid now (text ++ []) → Replays failed r (call_of left left_now before now)
+  replays_end mid text x last p first s a b =
+      replays (still_behind mid first (grew mid now (text ++ []) r a b)) (replay_ends failed left left_now before now r mid text x last p s a b)
+
+  pub replays_stop : (mid : Option (List ℕ)) (text : List ℕ) (stop : Stop) → Halted left left_now before mid text (halts.Stopped stop) → IsBehind left left_now before mid
+      → (stop ≡ stops.ReadFault → failed) → (Went r → r ≡ stopping.stop_status stop) → (Went r → Appends mid now (text ++ stopping.stop_line stop)) → Broke r mid now (text ++ stopping.stop_line stop)
+      → Replays failed r (call_of left left_now before now)
+  replays_stop mid text stop p first f s a b =
+      replays (still_behind mid first (grew mid now (text ++ stopping.stop_line stop) r a b)) (replay_stops failed left left_now before now r mid text stop p f s a b)
+
+-- a write failed on the way
+pub replays_break : (failed : Type 0) (left left_now before now : Option (List ℕ)) (text : List ℕ) → Halted left left_now before now text halts.WriteFault → IsBehind left left_now before now
+    → Replays failed statuses.WriteFault (call_of left left_now before now)
+replays_break failed left left_now before now text p first =
+    let last : List ℕ = last_line (codes "no memory") in
+    let missing : List ℕ = p.1 ++ last in
+    replays failed left left_now before now statuses.WriteFault first (record {
+      output = p.2.gone;
+      wrote = p.2.wrote;
+      missing = missing;
+      some = omega (arith, length-append p.1 last);
+      otherwise = (
+        statuses.NoMemory,
+        record {
+          input = p.3.input;
+          read = p.3.read;
+          count = p.3.count;
+          wrote =
+              subst (λ (o : List ℕ). Appends before (append_known now missing) o)
+              (sym (append_assoc p.2.gone p.1 last) ∙ ap (λ (o : List ℕ). o ++ last) (sym p.2.together ∙ p.3.told)) (with_rest before now p.2.gone missing p.2.wrote);
+        },
+      );
+    })
 
 history_is : (s : Scenario) (w : Option World) → session.IsWorld s w → session.history_of w ≡ (run_of s).0.history
 history_is s None h =
@@ -169,28 +309,87 @@ listed_by left now listing x all text last t is = record {
 
 -- nothing is read
 
-nothing_read : (left : Option (List ℕ)) → Consumes left left []
-nothing_read None = tt
-nothing_read (Some bytes) = refl
-
 module _ (before now : Option (List ℕ)) (r : Status) (left : Option (List ℕ)) where
   abbrev unread : Call
-  unread = record { left_before = left; left_now = left; taken_before = before; taken_now = now }
+  unread = call_of left left before now
 
-  makes : (output : List ℕ) → Appends before now output → Makes unread output
-  makes output a = (nothing_read left, a)
+  pub writes : (output : List ℕ) → (Went r → r ≡ statuses.Ok) → (Went r → Appends before now output) → Broke r before now output → Writes output r unread
+  writes output = by_status (WholeWrites output) left left before now output statuses.Ok (λ after a. (Consumes-nil left, a)) r
 
-  pub writes : (output : List ℕ) → (Went r → r ≡ statuses.Ok) → (Went r → Appends before now output) → Writes output r unread
-  writes output s a = by_status (λ r. Writes output r unread) statuses.Ok r (λ n. makes output (a n)) tt s
+  pub writes_nothing : (output : List ℕ) → (Went r → r ≡ statuses.NoMemory) → (Went r → Appends before now (last_line (codes "no memory"))) → Broke r before now (last_line (codes "no memory"))
+      → Writes output r unread
+  writes_nothing output = by_status (WholeWrites output) left left before now (last_line (codes "no memory")) statuses.NoMemory (λ after a. (Consumes-nil left, a)) r
 
-  pub writes_nothing : (output : List ℕ) → (Went r → r ≡ statuses.NoMemory) → (Went r → Appends before now (last_line (codes "no memory"))) → Writes output r unread
-  writes_nothing output s a = by_status (λ r. Writes output r unread) statuses.NoMemory r (λ n. makes (last_line (codes "no memory")) (a n)) tt s
+  pub refuses : (Went r → r ≡ statuses.Usage) → (Went r → Appends before now (last_line (codes "usage"))) → Broke r before now (last_line (codes "usage")) → Refuses r unread
+  refuses = by_status WholeRefuses left left before now (last_line (codes "usage")) statuses.Usage (λ after a. (Consumes-nil left, a)) r
 
-  pub refuses : (Went r → r ≡ statuses.Usage) → (Went r → Appends before now (last_line (codes "usage"))) → Refuses r unread
-  refuses s a = by_status (λ r. Refuses r unread) statuses.Usage r (λ n. makes (last_line (codes "usage")) (a n)) tt s
+  -- there is no memory at first
+  module _ (s : Went r → r ≡ statuses.NoMemory) (a : Went r → Appends before now (last_line (codes "no memory"))) (b : Broke r before now (last_line (codes "no memory"))) where
+    refuses_nothing : Refuses r unread
+    refuses_nothing = by_status WholeRefuses left left before now (last_line (codes "no memory")) statuses.NoMemory (λ after a. (Consumes-nil left, a)) r s a b
 
-  pub refuses_nothing : (Went r → r ≡ statuses.NoMemory) → (Went r → Appends before now (last_line (codes "no memory"))) → Refuses r unread
-  refuses_nothing s a = by_status (λ r. Refuses r unread) statuses.NoMemory r (λ n. makes (last_line (codes "no memory")) (a n)) tt s
+    pub replays_nothing : (failed : Type 0) → Replays failed r unread
+    unfolding body_parts
+    replays_nothing failed =
+        replays failed left left before now r (inl (Consumes-nil left)) (lacks failed left left before now r told body body_parts [] 0 (Consumes-nil left) s a b)
+
+    shows_nothing : (failed : Type 0) (listing : Listing) → Reads failed (listed listing) nothing no_parts r unread
+    shows_nothing failed listing = lacks failed left left before now r (listed listing) nothing no_parts [] 0 (Consumes-nil left) s a b
+
+    pub lacks_at_first : (failed : Type 0) (a : Option Asked) → Outcome failed a r unread
+    lacks_at_first failed None = refuses_nothing
+    lacks_at_first failed (Some asks.Replay) = replays_nothing failed
+    lacks_at_first failed (Some (asks.Show listing)) = shows_nothing failed listing
+    lacks_at_first failed (Some (asks.Gen number count)) = writes_nothing (made number count) s a b
+    lacks_at_first failed (Some (asks.Demo number count)) = writes_nothing (summary number count) s a b
+
+pub outcome_by : (failed : Type 0) (c : Call) (a b : Option Asked) (r : Status) → a ≡ b → Outcome failed b r c → Outcome failed a r c
+outcome_by failed c a b r is o = subst (λ (a : Option Asked). Outcome failed a r c) (sym is) o
+
+-- a write failed before all was written
+pub writes_front : (before now : Option (List ℕ)) (output missing : List ℕ) (left : Option (List ℕ)) → Written before now missing output → 0 < length missing
+    → Writes output statuses.WriteFault (call_of left left before now)
+writes_front before now output missing left w some = record {
+  output = w.gone;
+  wrote = w.wrote;
+  missing = missing;
+  some = some;
+  otherwise = (
+    statuses.Ok,
+    (Consumes-nil left, subst (λ (o : List ℕ). Appends before (append_known now missing) o) (sym w.together) (with_rest before now w.gone missing w.wrote)),
+  );
+}
+
+-- completeness
+
+module _ (failed : Type 0) (c : Call) (reads reads_now writes writes_now : ℕ) (read_well : Rose reads reads_now → ⊥) (wrote_well : Rose writes writes_now → ⊥) where
+  reading : (answer opening : List ℕ → List ℕ) (parts : ℕ → List ℕ → List ℕ) (r : Status) → HasScenario most_bytes c → Reads failed answer opening parts r c → Caused r reads reads_now writes writes_now → EndsWell r
+  reading answer opening parts statuses.Ok has o cause = tt
+  reading answer opening parts statuses.Usage has o cause = o
+  reading answer opening parts statuses.BadLine has o cause = never_bad answer c most_bytes has o.0
+  reading answer opening parts statuses.ReadFault has o cause = read_well cause
+  reading answer opening parts statuses.WriteFault has o cause = wrote_well cause
+  reading answer opening parts statuses.NoMemory has o cause = tt
+  reading answer opening parts statuses.TooLong has o cause = never_full most_bytes opening c (last_line (codes "too long")) has o
+
+  writing : (output : List ℕ) (r : Status) → Writes output r c → Caused r reads reads_now writes writes_now → EndsWell r
+  writing output statuses.Ok o cause = tt
+  writing output statuses.Usage o cause = o
+  writing output statuses.BadLine o cause = o
+  writing output statuses.ReadFault o cause = o
+  writing output statuses.WriteFault o cause = wrote_well cause
+  writing output statuses.NoMemory o cause = tt
+  writing output statuses.TooLong o cause = o
+
+  completes : (a : Option Asked) (r : Status) → Outcome failed a r c → Caused r reads reads_now writes writes_now → Asks a c → EndsWell r
+  completes None r o cause has = absurd has
+  completes (Some asks.Replay) r o cause has = reading told body body_parts r has o.0 cause
+  completes (Some (asks.Show listing)) r o cause has = reading (listed listing) nothing no_parts r has o cause
+  completes (Some (asks.Gen number count)) r o cause has = writing (made number count) r o cause
+  completes (Some (asks.Demo number count)) r o cause has = writing (summary number count) r o cause
+
+  pub completes_by : (a b : Option Asked) (r : Status) → a ≡ b → Outcome failed b r c → Caused r reads reads_now writes writes_now → Asks a c → EndsWell r
+  completes_by a b r is o cause has = completes b r o cause (subst (λ (b : Option Asked). Asks b c) is has)
 
 -- when faults come
 
@@ -204,3 +403,27 @@ caused s statuses.ReadFault reads reads_now writes writes_now h w c =
     subst (λ (r : Status). Caused r reads reads_now writes writes_now) (sym (h (λ e. absurd (cc)))) c
 caused s statuses.NoMemory reads reads_now writes writes_now h w c = tt
 caused s statuses.TooLong reads reads_now writes writes_now h w c = tt
+
+pub calm_ends : (last : Last) (s : Status) → s ≡ session.status_of last → Went s
+calm_ends lasts.Ended s e = λ f. let g : statuses.Ok ≡ statuses.WriteFault = sym e ∙ f in absurd (cc)
+calm_ends (lasts.Bad n why) s e = λ f. let g : statuses.BadLine ≡ statuses.WriteFault = sym e ∙ f in absurd (cc)
+
+pub calm_stops : (stop : Stop) (s : Status) → s ≡ stopping.stop_status stop → Went s
+calm_stops stops.ReadFault s e = λ f. let g : statuses.ReadFault ≡ statuses.WriteFault = sym e ∙ f in absurd (cc)
+calm_stops stops.NoMemory s e = λ f. let g : statuses.NoMemory ≡ statuses.WriteFault = sym e ∙ f in absurd (cc)
+calm_stops stops.TooLong s e = λ f. let g : statuses.TooLong ≡ statuses.WriteFault = sym e ∙ f in absurd (cc)
+
+pub read_failed : (T : Type 0) (reads reads_now writes writes_now : ℕ) (stop : Stop) → Halts {T = T} reads reads_now writes writes_now (Err (halts.Stopped stop)) → stop ≡ stops.ReadFault → Rose reads reads_now
+read_failed T reads reads_now writes writes_now stops.ReadFault h e = h
+read_failed T reads reads_now writes writes_now stops.NoMemory h e = absurd (cc)
+read_failed T reads reads_now writes writes_now stops.TooLong h e = absurd (cc)
+
+pub read_stopped : (T : Type 0) (reads reads_now : ℕ) (stop : Stop) → StopsBy {T = T} reads reads_now (Err stop) → stop ≡ stops.ReadFault → Rose reads reads_now
+read_stopped T reads reads_now stops.ReadFault h e = h
+read_stopped T reads reads_now stops.NoMemory h e = absurd (cc)
+read_stopped T reads reads_now stops.TooLong h e = absurd (cc)
+
+pub lists_stop : (left now before after : Option (List ℕ)) (text : List ℕ) (listing : Listing) (stop : Stop) → Halted left now before after text (halts.Stopped stop) → Lists listing left now (Err stop)
+lists_stop left now before after text listing stops.ReadFault h = (h.0, h.2)
+lists_stop left now before after text listing stops.NoMemory h = (h.2.input, h.2.read)
+lists_stop left now before after text listing stops.TooLong h = (h.0, h.2)

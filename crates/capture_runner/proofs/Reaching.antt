@@ -1,21 +1,24 @@
 -- The bytes that were read, and what the reader has reached in them.
-use Rattle.std.proofs.Common.{◌≡◌, ℕ, ◌+◌, ◌-◌, ◌<◌, ◌≤◌, true, List, [], ◌++◌, take, length, false, None, Some, Option, IfSome, refl, sym, ◌∙◌, ap, subst, arith, append_assoc, length-append}
+use Rattle.std.proofs.Common.{◌≡◌, ℕ, suc, ◌+◌, ◌-◌, ◌<◌, ◌≤◌, true, List, [], ◌++◌, take, length, false, None, Some, Option, IfSome, refl, sym, ◌∙◌, ap, subst, arith, append_assoc, length-append}
 use Rattle.std.specs.Io.KnownBytes.{Consumes, IsAtEnd}
 use Rattle.std.proofs.KnownBytes.{Consumes-trans}
-use Rattle.std.proofs.Math.Seq.{take-append-add}
+use Rattle.std.proofs.Math.Seq.{take-append-add, take-append_seam}
 use Rattle.std.proofs.lemmas.Bool.{true≢false}
 use Rattle.std.proofs.lemmas.List.{append-nil}
 use Rattle.run_io.specs.Reading.{Reading, Reads, IsEnd}
+use Rattle.br_model.specs.declared.steps.Step.{Step}
 use Rattle.br_model.specs.Text.LineForms.{declaration, opening}
 use Rattle.br_model.specs.Text.Roster.{Roster}
 use Rattle.br_model.specs.Program.Outcomes.{HoldsNoEnd}
-use Rattle.br_model.specs.Program.Runs.{run_of, setup_of, body_of, body}
+use Rattle.br_model.specs.Plane.Runs.{run}
+use Rattle.br_model.specs.Program.Runs.{run_of, setup_of, body_of, body, body_parts}
 use Rattle.br_model.specs.Text.Scenario.{Scenario, Going, Progress, opened, closes, read, reads, scenario}
 use Rattle.br_model.proofs.Endings.{has_ended, closes_ended}
+use Rattle.br_model.proofs.MoreBytes.{all_parts, parts_stay}
 use Rattle.br_model.proofs.Reading.{closed, closes_keeps, scenario_is}
 use Rattle.capture_runner.specs.declared.session.Last.{Last}
 use Rattle.capture_runner.specs.declared.session.Session.{Session}
-use Rattle.capture_runner.specs.Playing.{Reached, Played, Stopped}
+use Rattle.capture_runner.specs.Playing.{Reached, Played, Stopped, Lacked}
 use Rattle.capture_runner.specs.Session.{Agrees, ending_of}
 use Rattle.capture_runner.proofs.Following.{same_run, quiet}
 
@@ -23,6 +26,23 @@ use Rattle.capture_runner.proofs.Following.{same_run, quiet}
 body_by : (bytes : List ℕ) (s : Scenario) → scenario bytes ≡ s → body bytes ≡ body_of (run_of s)
 unfolding body
 body_by bytes s e = ap (λ (t : Scenario). body_of (run_of t)) e
+
+-- bytes that say this begin with the first steps of it
+first_parts : (bytes : List ℕ) (s : Scenario) (done undone : List Step) → (scenario bytes).roster ≡ s.roster → (scenario bytes).steps ≡ s.steps → s.steps ≡ done ++ undone
+    → body_parts (suc (length done)) bytes ≡ body_of (run (setup_of s.roster) done)
+unfolding body_parts
+first_parts bytes s done undone roster steps parts =
+    ap (λ (q : Roster). body_of (run (setup_of q) (take (length done) (scenario bytes).steps))) roster
+    ∙ ap (λ (l : List Step). body_of (run (setup_of s.roster) l)) (ap (take (length done)) (steps ∙ parts) ∙ take-append_seam done undone)
+
+-- no byte is no line
+nothing_read : (s : Scenario) → read 0 s [] ≡ record { scenario = s; line = []; behind = [] }
+unfolding read
+nothing_read s = refl
+
+-- all of it is told
+pub lacks_none : (left now : Option (List ℕ)) (input text : List ℕ) → Consumes left now input → text ≡ body input → Lacked left now text
+lacks_none left now input text given told = record { input = input; read = given; count = length (scenario input).steps + 1; told = told ∙ sym (all_parts input) }
 
 parts_more : (lines ahead held given input handed held' : List ℕ) → input ≡ lines ++ (ahead ++ held) → held ++ given ≡ handed ++ held' → input ++ given ≡ lines ++ ((ahead ++ handed) ++ held')
 parts_more lines ahead held given input handed held' p m =
@@ -75,6 +95,30 @@ module _ (left : Option (List ℕ)) (limit : ℕ) where
 
     here : read 0 (opened false) p.input ≡ read 0 s (ahead ++ r.held)
     here = ap (read 0 (opened false)) p.parts ∙ p.reads (ahead ++ r.held)
+
+    -- the lines that the scenario has read say just what it says
+    lines_say : ((scenario p.lines).roster ≡ s.roster) × ((scenario p.lines).steps ≡ s.steps)
+    lines_say =
+        let read_so : read 0 (opened false) p.lines ≡ record { scenario = s; line = []; behind = [] } =
+        ap (read 0 (opened false)) (sym (append-nil p.lines)) ∙ p.reads [] ∙ nothing_read s in
+        let is : scenario p.lines ≡ closes s [] = scenario_is p.lines ∙ ap closed read_so in
+        let keeps = closes_keeps s [] in
+        (ap (λ (u : Scenario). u.roster) is ∙ keeps.0, ap (λ (u : Scenario). u.steps) is ∙ keeps.1)
+
+    -- the first of its steps are told
+    pub lacked : (done undone : List Step) (text : List ℕ) → s.steps ≡ done ++ undone → text ≡ body_of (run (setup_of s.roster) done) → Lacked left now text
+    lacked done undone text parts told =
+        let say = lines_say in
+        let few : suc (length done) ≤ length (scenario p.lines).steps + 1 = omega (arith, ap length (say.1 ∙ parts), length-append done undone) in record {
+          input = p.input;
+          read = p.given;
+          count = suc (length done);
+          told = told ∙ sym (ap (body_parts (suc (length done))) p.parts ∙ parts_stay (suc (length done)) p.lines (ahead ++ r.held) few ∙ first_parts p.lines s done undone say.0 say.1 parts);
+        }
+
+    -- all of them are
+    pub lacked_all : (text : List ℕ) → text ≡ body_of (run_of s) → Lacked left now text
+    lacked_all text told = lacked s.steps [] text (sym (append-nil s.steps)) told
 
     -- the scenario has ended in what was read
 

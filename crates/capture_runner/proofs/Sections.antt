@@ -1,5 +1,5 @@
 -- A section is read, and its steps are done.
-use Rattle.std.proofs.Common.{◌≡◌, ℕ, ◌+◌, ◌<◌, ◌≤◌, List, [], ◌∷◌, ◌++◌, length, Option, None, Ok, Err, refl, sym, ◌∙◌, ap, subst, arith, append_assoc, length-append}
+use Rattle.std.proofs.Common.{◌≡◌, ℕ, ◌+◌, ◌<◌, ◌≤◌, List, [], ◌∷◌, ◌++◌, length, Option, None, Result, Ok, Err, refl, sym, ◌∙◌, ap, subst, arith, append_assoc, length-append}
 use Rattle.std.proofs.lemmas.List.{append-nil}
 use Rattle.run_io.specs.Reading.{Reading, Reads, IsEnd}
 use Rattle.br_model.specs.declared.scenario.LineWhy.{LineWhy}
@@ -16,15 +16,17 @@ use Rattle.capture_runner.specs.declared.session.Captured.{Captured}
 use Rattle.capture_runner.specs.declared.session.Captured.TheVariants as sections
 use Rattle.capture_runner.specs.declared.session.Last.{Last}
 use Rattle.capture_runner.specs.declared.session.Last.TheVariants as lasts
+use Rattle.capture_runner.specs.declared.replay.Stop.{Stop}
+use Rattle.capture_runner.specs.declared.replay.Stop.TheVariants.{NoMemory}
 use Rattle.capture_runner.specs.declared.session.Session.{Session}
 use Rattle.capture_runner.specs.Advancing.{Sectioned}
-use Rattle.capture_runner.specs.Playing.{Reached, AtSection, AtSteps, Played, Stopped, Filled}
+use Rattle.capture_runner.specs.Playing.{Reached, AtSection, AtSteps, Played, Stopped, Below, Filled}
 use Rattle.capture_runner.specs.Session.{Agrees, IsCaptured, captures, with_steps}
 use Rattle.capture_runner.proofs.Following.{same_run, agrees_badly}
-use Rattle.capture_runner.proofs.Reaching.{reached_more, reached_line, ended, stops, at_end}
+use Rattle.capture_runner.proofs.Reaching.{reached_more, reached_line, lacked_all, ended, stops, at_end}
 
 -- a line `capture` without its section has no steps
-none_more : (s : Scenario) (n : ℕ) → body_of (run_of (captures s n)) ≡ body_of (run_of s)
+pub none_more : (s : Scenario) (n : ℕ) → body_of (run_of (captures s n)) ≡ body_of (run_of s)
 none_more s n = ap body_of (same_run s (captures s n) refl (append-nil s.steps))
 
 with_section : (s : Scenario) (n : ℕ) (section : List ℕ) (steps : List Step) → captured s.roster.ports (packets section (length s.roster.ports)) ≡ Ok steps → takes s (Captures n) section ≡ with_steps (captures s n) steps
@@ -116,9 +118,16 @@ module _ (left now now' : Option (List ℕ)) (limit : ℕ) (r r' : Reading) (x :
       let w = stops left limit now' r' s (front ++ []) q [] is text p.going told_before in
       (q, w.0, w.1)
 
-  pub stopped : Reads r r' now now' [] → r'.taken ≤ r'.limit → length r'.held < n → Stopped left now' text
-  stopped m within short = (waits m within short).1
+  pub stopped : Reads r r' now now' [] → r'.taken ≤ r'.limit → length r'.held < n → r'.taken < r'.limit → Below left limit now' text
+  stopped m within short below =
+      let w = waits m within short in record { stops = w.1; below = omega (arith, ap length w.2, w.0.counts, below, w.0.limited) }
 
   pub filled : Reads r r' now now' [] → r'.taken ≤ r'.limit → length r'.held < n → r'.taken ≡ r'.limit → Filled left limit now' text
   filled m within short full =
       let w = waits m within short in record { stops = w.1; full = ap length w.2 ∙ omega (arith, w.0.counts, full, w.0.limited) }
+
+  -- memory is lacking, for the bytes that were handed out or for others
+  pub lacking : (handed : List ℕ) (result : Result Captured Stop) → Reads r r' now now' handed → r'.taken ≤ r'.limit → result ≡ Err NoMemory → Sectioned left limit r' now' x text result
+  lacking handed result m within is =
+      subst (λ (o : Result Captured Stop). Sectioned left limit r' now' x text o) (sym is)
+      (lacked_all left limit now' r' s (front ++ handed) (reached_more left limit now now' r r' s front handed p.reached m within).0 text told_before)

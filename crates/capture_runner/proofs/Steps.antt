@@ -1,5 +1,5 @@
 -- A line is read, and the run goes on, stops or ends.
-use Rattle.std.proofs.Common.{◌≡◌, ℕ, ◌+◌, ◌<◌, ◌≤◌, true, List, [], ◌∷◌, ◌++◌, take, drop, length, None, Option, Result, Ok, Err, refl, sym, ◌∙◌, ap, arith, append_assoc, length-append}
+use Rattle.std.proofs.Common.{◌≡◌, ℕ, ◌+◌, ◌<◌, ◌≤◌, true, List, [], ◌∷◌, ◌++◌, take, drop, length, None, Option, Result, Ok, Err, refl, sym, ◌∙◌, ap, subst, arith, append_assoc, length-append}
 use Rattle.std.proofs.lemmas.List.{append-nil, take-append-drop, length-take-le}
 use Rattle.run_io.specs.Reading.{Reading, Reads, HasNoFeed, IsEnd, WantsLine, HoldsLongLine, HoldsAllOfLimit, max_line}
 use Rattle.br_model.specs.declared.scenario.LineWhy.{LineWhy}
@@ -13,12 +13,14 @@ use Rattle.capture_runner.specs.declared.session.Last.{Last}
 use Rattle.capture_runner.specs.declared.session.Last.TheVariants as lasts
 use Rattle.capture_runner.specs.declared.session.Next.{Next}
 use Rattle.capture_runner.specs.declared.session.Next.TheVariants as nexts
+use Rattle.capture_runner.specs.declared.replay.Stop.{Stop}
+use Rattle.capture_runner.specs.declared.replay.Stop.TheVariants.{NoMemory}
 use Rattle.capture_runner.specs.declared.session.Session.{Session}
 use Rattle.capture_runner.specs.Advancing.{Advanced, Lessens}
-use Rattle.capture_runner.specs.Playing.{Reached, Playing, AtSection, Played, Stopped, Filled}
+use Rattle.capture_runner.specs.Playing.{Reached, Playing, AtSection, Played, Below, Filled, Lacked}
 use Rattle.capture_runner.specs.Session.{Follows, EndsBy, Takes, Went, captures, ending_of}
 use Rattle.capture_runner.proofs.Following.{same_run, agrees, agrees_badly}
-use Rattle.capture_runner.proofs.Reaching.{reached_more, reached_line, ended, stops, at_end}
+use Rattle.capture_runner.proofs.Reaching.{reached_more, reached_line, lacked_all, ended, stops, at_end}
 
 pub ends_so : (l : Last) → has_ended (ending_of l) ≡ true
 ends_so lasts.Ended = refl
@@ -121,16 +123,27 @@ module _ (left now now' : Option (List ℕ)) (limit : ℕ) (r r' : Reading) (x :
 
     -- the run stops
 
-    pub stopped : Reads r r' now now' [] → r'.taken ≤ r'.limit → WantsLine r' → Stopped left now' text
+    pub stopped : Reads r r' now now' [] → r'.taken ≤ r'.limit → WantsLine r' → Below left limit now' text
     stopped m within h =
-        (stops left limit now' r' p.scenario [] (reached_more left limit now now' r r' p.scenario [] [] p.reached m within).0 r'.held (read_rest p.scenario r'.held p.follows.going h.feedless h.short)
-        text p.follows.going p.told).0
+        let q = (reached_more left limit now now' r r' p.scenario [] [] p.reached m within).0 in
+        let w = stops left limit now' r' p.scenario [] q r'.held (read_rest p.scenario r'.held p.follows.going h.feedless h.short) text p.follows.going p.told in
+        record { stops = w.0; below = omega (arith, ap length w.1, q.counts, h.before_limit, q.limited) }
 
     pub filled : Reads r r' now now' [] → r'.taken ≤ r'.limit → HoldsAllOfLimit r' → Filled left limit now' text
     filled m within h =
         let q = (reached_more left limit now now' r r' p.scenario [] [] p.reached m within).0 in
         let w = stops left limit now' r' p.scenario [] q r'.held (read_rest p.scenario r'.held p.follows.going h.feedless h.short) text p.follows.going p.told in
         record { stops = w.0; full = ap length w.1 ∙ omega (arith, q.counts, h.at_limit, q.limited) }
+
+    -- it lacks memory, for the bytes that were handed out or for others
+    lacked_behind : (handed : List ℕ) → Reads r r' now now' handed → r'.taken ≤ r'.limit → Lacked left now' text
+    lacked_behind handed m within =
+        lacked_all left limit now' r' p.scenario handed (reached_more left limit now now' r r' p.scenario [] handed p.reached m within).0 text p.told
+
+    pub lacking : (y : Session) (handed after : List ℕ) (result : Result Next Stop) → Reads r r' now now' handed → r'.taken ≤ r'.limit → after ≡ text → result ≡ Err NoMemory
+        → Advanced left limit r' now' y after result
+    lacking y handed after result m within same is =
+        subst (λ (o : Result Next Stop). Advanced left limit r' now' y after o) (sym is) (subst (Lacked left now') (sym same) (lacked_behind handed m within))
 
 -- a line takes bytes away
 pub lessens : (before now : ℕ) → now < before → (next : Next) → Lessens before now next

@@ -1,10 +1,12 @@
 -- The text of a run, from its first line to its last.
-use Rattle.std.proofs.Common.{◌≡◌, ℕ, ◌≤◌, false, List, [], ◌∷◌, ◌++◌, length, map, None, Some, Option, Result, Ok, Err, refl, sym, ◌∙◌, ap, subst, arith, codes, append_assoc, length-append}
+use Rattle.std.proofs.Common.{◌≡◌, ◌⊎◌, ℕ, ◌+◌, ◌≤◌, ◌==◌, ◌||◌, false, not, nat_lt, is_some, List, [], ◌∷◌, ◌++◌, length, take, drop, map, None, Some, Option, Result, Ok, Err, inl, inr, refl, sym, ◌∙◌, ap, subst, arith, codes, append_assoc, length-append}
 use Rattle.std.specs.Io.KnownBytes.{Appends, Consumes}
-use Rattle.std.specs.List.{sum_by}
+use Rattle.std.specs.List.{list_all, sum_by}
 use Rattle.std.proofs.KnownBytes.{Appends-trans}
-use Rattle.std.proofs.lemmas.List.{append-nil}
-use Rattle.run_io.specs.Reading.{Reading}
+use Rattle.std.proofs.Math.Seq.{take-append-add}
+use Rattle.std.proofs.lemmas.List.{append-nil, take-append-drop, take-append-le}
+use Rattle.run_io.specs.declared.lines.LineFault.{LineFault}
+use Rattle.run_io.specs.Reading.{Reading, holds_next, is_no_feed, max_line}
 use Rattle.br_model.specs.Table.Limits.{most_bytes}
 use Rattle.br_model.specs.Plane.Chip.{first_chip}
 use Rattle.br_model.specs.Plane.Runs.{run, end_line, pending_of}
@@ -13,9 +15,9 @@ use Rattle.br_model.specs.Table.Domains.{chip_domains}
 use Rattle.br_model.specs.Table.Setup.{Setup}
 use Rattle.br_model.specs.declared.transcript.Line.TheVariants.{End}
 use Rattle.br_model.specs.Text.Roster.{Roster}
-use Rattle.br_model.specs.Program.Runs.{run_of, body_of, body, told, last_text, setup_of}
+use Rattle.br_model.specs.Program.Runs.{run_of, body_of, body, body_parts, told, last_text, setup_of}
 use Rattle.br_model.specs.Text.Scenario.{Scenario, Ending, opened, scenario}
-use Rattle.br_model.specs.Text.Transcript.{line_text}
+use Rattle.br_model.specs.Text.Transcript.{line_text, text as lines_text}
 use Rattle.br_model.proofs.Running.{run_none}
 use Rattle.capture_runner.specs.declared.replay.Halt.{Halt}
 use Rattle.capture_runner.specs.declared.replay.Halt.TheVariants.{Stopped, WriteFault}
@@ -25,10 +27,12 @@ use Rattle.capture_runner.specs.declared.session.Last.{Last}
 use Rattle.capture_runner.specs.declared.session.Last.TheVariants as lasts
 use Rattle.capture_runner.specs.declared.session.Session.{Session}
 use Rattle.capture_runner.specs.Advancing.{Advanced}
-use Rattle.capture_runner.specs.Halting.{Moves, Written, Told, Plays, PlayedSection}
+use Rattle.capture_runner.specs.Halting.{Breaks, Grows, IsBehind, IsOpened, Moves, Written, Told, Plays, PlayedSection}
+use Rattle.capture_runner.specs.Outcome.{first_line}
 use Rattle.capture_runner.specs.Playing.{Playing, Played}
 use Rattle.capture_runner.specs.Session.{Follows, IsWorld, ending_of, end_line_of, last_line}
 use Rattle.capture_runner.proofs.Following.{no_steps}
+use Rattle.capture_runner.proofs.Reaching.{lacked_all, lacks_none}
 
 nothing_read : (left : Option (List ℕ)) (held : List ℕ) → held ≡ [] → Consumes left left held
 nothing_read None held h = tt
@@ -69,6 +73,31 @@ moved before mid after old new all w m = record {
   wrote = Appends-trans _ _ _ _ _ w.wrote m.wrote;
   together = w.together ∙ ap (λ (b : List ℕ). w.gone ++ b) m.held ∙ sym (append_assoc w.gone m.moved new);
 }
+
+-- a front of it does
+pub broken : (before mid after : Option (List ℕ)) (text all : List ℕ) → Written before mid text all → (b : Breaks mid after text) → Written before after (drop b.0 text) all
+broken before mid after text all w b = record {
+  gone = w.gone ++ take b.0 text;
+  wrote = Appends-trans _ _ _ _ _ w.wrote b.2;
+  together =
+      w.together ∙ ap (λ (l : List ℕ). w.gone ++ l) (sym (take-append-drop b.0 text)) ∙ sym (append_assoc w.gone (take b.0 text) (drop b.0 text));
+}
+
+-- behind what went there before
+pub breaks_behind : (before mid after : Option (List ℕ)) (gone text : List ℕ) → Appends before mid gone → Breaks mid after text → Breaks before after (gone ++ text)
+breaks_behind before mid after gone text a b = (
+  length gone + b.0,
+  omega (arith, b.1, length-append gone text),
+  subst (λ (o : List ℕ). Appends before after o) (sym (take-append-add gone text b.0)) (Appends-trans _ _ _ _ _ a b.2),
+)
+
+-- before more that was to go
+pub breaks_before : (before after : Option (List ℕ)) (text more : List ℕ) → Breaks before after text → Breaks before after (text ++ more)
+breaks_before before after text more b = (
+  b.0,
+  omega (arith, b.1, length-append text more),
+  subst (λ (o : List ℕ). Appends before after o) (sym (take-append-le b.0 text more (omega (arith, b.1)))) b.2,
+)
 
 -- and more is held
 pub grown : (before after : Option (List ℕ)) (old new : List ℕ) (all : List ℕ) (w : Written before after old all) → Written before after new (w.gone ++ new)
@@ -137,7 +166,32 @@ play_stops left now before after reader x held all text w ReadFault result is a 
     subst (Plays left now x before after text) (sym is) (w.gone ++ text, record { gone = w.gone; wrote = w.wrote; together = refl }, a)
 play_stops left now before after reader x held all text w TooLong result is a =
     subst (Plays left now x before after text) (sym is) (w.gone ++ text, record { gone = w.gone; wrote = w.wrote; together = refl }, a)
-play_stops left now before after reader x held all text w NoMemory result is a = subst (Plays left now x before after text) (sym is) tt
+play_stops left now before after reader x held all text w NoMemory result is a =
+    subst (Plays left now x before after text) (sym is) (w.gone ++ text, record { gone = w.gone; wrote = w.wrote; together = refl }, a)
+
+-- there is no memory for the first line
+pub first_lacks : (left taken : Option (List ℕ)) (x : Session) (text : List ℕ) (result : Result Last Halt) → text ≡ [] → result ≡ Err (Stopped NoMemory) → Plays left left x taken taken text result
+unfolding body_parts
+first_lacks left taken x text result none is =
+    subst (Plays left left x taken taken text) (sym is) (
+      [],
+      record { gone = []; wrote = nothing_wrote taken; together = sym none },
+      record { input = []; read = nothing_read left [] refl; count = 0; told = refl },
+    )
+
+-- a write fails between two lines
+pub play_breaks : (left now before mid after : Option (List ℕ)) (reader : Reading) (x y : Session) (text text' all : List ℕ) (result : Result Last Halt) → Written before mid text all
+    → Playing left most_bytes reader now x all → Breaks mid after text → result ≡ Err WriteFault → Plays left now y before after text' result
+play_breaks left now before mid after reader x y text text' all result w p b is =
+    subst (Plays left now y before after text') (sym is)
+    (all, drop b.0 text, broken before mid after text all w b, lacked_all left most_bytes now reader p.scenario [] p.reached all p.told)
+
+-- there is no memory for the last line
+pub end_lacks : (left now before after : Option (List ℕ)) (x y : Session) (text text' all : List ℕ) (last : Last) (result : Result Last Halt) → Written before after text all
+    → Played left most_bytes now x all last → text' ≡ text → result ≡ Err (Stopped NoMemory) → Plays left now y before after text' result
+end_lacks left now before after x y text text' all last result w p same is =
+    subst (Plays left now y before after text') (sym is)
+    (all, subst (λ (b : List ℕ). Written before after b all) (sym same) w, lacks_none left now p.input all p.read p.told)
 
 -- a section was read, and perhaps its steps done
 
@@ -146,9 +200,60 @@ pub section_ends : (left now before after : Option (List ℕ)) (reader : Reading
 section_ends left now before after reader x y text text' last roster world p e =
     play_ends left now before after x y text p.0 text text' p.1 last roster world (subst (λ (b : List ℕ). Played left most_bytes now x b last) p.1.together p.2) e
 
-pub section_halts : (left now before after : Option (List ℕ)) (reader : Reading) (x : Session) (text : List ℕ) (halt : Halt) (result : Result Last Halt) → result ≡ Err halt
-    → PlayedSection left reader now x before after text (Err halt) → Plays left now x before after text result
-section_halts left now before after reader x text (Stopped ReadFault) result is p = subst (Plays left now x before after text) (sym is) p
-section_halts left now before after reader x text (Stopped TooLong) result is p = subst (Plays left now x before after text) (sym is) p
-section_halts left now before after reader x text (Stopped NoMemory) result is p = subst (Plays left now x before after text) (sym is) p
-section_halts left now before after reader x text WriteFault result is p = subst (Plays left now x before after text) (sym is) p
+pub section_halts : (left now before after : Option (List ℕ)) (reader : Reading) (x y : Session) (text : List ℕ) (halt : Halt) (result : Result Last Halt) → result ≡ Err halt
+    → PlayedSection left reader now x before after text (Err halt) → Plays left now y before after text result
+section_halts left now before after reader x y text halt result is p = subst (Plays left now y before after text) (sym is) p
+
+-- what the sink took
+
+pub grows_none : (taken : Option (List ℕ)) → Grows taken taken
+grows_none taken = ([], nothing_wrote taken)
+
+pub grows_by : (before mid after : Option (List ℕ)) (more : List ℕ) → Grows before mid → Appends mid after more → Grows before after
+grows_by before mid after more g a = (g.0 ++ more, Appends-trans _ _ _ _ _ g.1 a)
+
+pub grows_on : (before mid after : Option (List ℕ)) → Grows before mid → Grows mid after → Grows before after
+grows_on before mid after g h = grows_by before mid after h.0 g h.1
+
+-- and the first line was there before
+pub opened_more : (begun mid after : Option (List ℕ)) → IsOpened begun mid → Grows mid after → IsOpened begun after
+opened_more begun mid after o g =
+    (o.0 ++ g.0, subst (λ (b : List ℕ). Appends begun after b) (append_assoc first_line o.0 g.0) (Appends-trans _ _ _ _ _ o.1 g.1))
+
+-- before a line: nothing was read, so that a reader holds none, or the first line is written
+abbrev pub StandsBehind : Reading → Option (List ℕ) → Option (List ℕ) → Option (List ℕ) → Option (List ℕ) → Type 0
+StandsBehind reader left now before after = ((holds_next reader ≡ false) × Consumes left now []) ⊎ IsOpened before after
+
+-- at first
+none_held : (r : Reading) → r.held ≡ [] → r.taken ≡ 0 → r.limit ≡ most_bytes → r.fault ≡ None → holds_next r ≡ false
+none_held r held taken limit fault =
+    ap (λ (o : Option LineFault). is_some o || not (list_all is_no_feed r.held) || nat_lt max_line (length r.held) || (r.taken == r.limit)) fault
+    ∙ ap (λ (bytes : List ℕ). not (list_all is_no_feed bytes) || nat_lt max_line (length bytes) || (r.taken == r.limit)) held
+    ∙ ap (λ n. n == r.limit) taken
+    ∙ ap (λ n. 0 == n) limit
+
+pub first_unread : (left before : Option (List ℕ)) (r : Reading) → r.held ≡ [] → r.taken ≡ 0 → r.limit ≡ most_bytes → r.fault ≡ None → StandsBehind r left left before before
+first_unread left before r held taken limit fault = inl (none_held r held taken limit fault, nothing_read left [] refl)
+
+-- what a body begins with
+first_of : (s : Scenario) → body_of (run_of s) ≡ first_line ++ lines_text (run_of s).1
+first_of s = sym (append_assoc (codes "transcript 1") (10 ∷ []) (lines_text (run_of s).1))
+
+-- all goes to the sink before the first read
+pub opens : (left now begun mid after : Option (List ℕ)) (reader : Reading) (x : Session) (text text' all : List ℕ) → Written begun mid text all → Playing left most_bytes reader now x all
+    → Moves mid after text text' → (holds_next reader ≡ false → text' ≡ []) → StandsBehind reader left now begun mid → IsOpened begun after
+opens left now begun mid after reader x text text' all w p m empty (inl h) =
+    let v = moved begun mid after text text' all w m in (
+      lines_text (run_of p.scenario).1,
+      subst (λ (b : List ℕ). Appends begun after b)
+          (sym (append-nil v.gone) ∙ ap (λ (b : List ℕ). v.gone ++ b) (sym (empty h.0)) ∙ sym v.together ∙ p.told ∙ first_of p.scenario) v.wrote,
+    )
+opens left now begun mid after reader x text text' all w p m empty (inr o) = opened_more begun mid after o (m.moved, m.wrote)
+
+-- or some of it does
+pub behind_broken : (left now begun mid after : Option (List ℕ)) (reader : Reading) (text : List ℕ) → Breaks mid after text → StandsBehind reader left now begun mid → IsBehind left now begun after
+behind_broken left now begun mid after reader text b (inl h) = inl h.1
+behind_broken left now begun mid after reader text b (inr o) = inr (opened_more begun mid after o (take b.0 text, b.2))
+
+pub unread_behind : (left taken : Option (List ℕ)) → IsBehind left left taken taken
+unread_behind left taken = inl (nothing_read left [] refl)

@@ -12,16 +12,16 @@ use Rattle.capture_runner.specs.declared.session.Captured.TheVariants as section
 use Rattle.capture_runner.specs.declared.session.Next.{Next}
 use Rattle.capture_runner.specs.declared.session.Next.TheVariants as nexts
 use Rattle.capture_runner.specs.declared.session.Session.{Session}
-use Rattle.capture_runner.specs.Playing.{Playing, AtSection, AtSteps, Played, Stopped, Filled}
+use Rattle.capture_runner.specs.Playing.{Playing, AtSection, AtSteps, Played, Below, Filled, Lacked}
 
 -- what is known then, by the answer
 abbrev pub Advanced : Option (List ℕ) → ℕ → Reading → Option (List ℕ) → Session → List ℕ → Result Next Stop → Type 0
 Advanced left limit reader now session text (Ok nexts.Line) = Playing left limit reader now session text
 Advanced left limit reader now session text (Ok (nexts.Section n)) = AtSection left limit reader now session text n
 Advanced left limit reader now session text (Ok (nexts.End last)) = Played left limit now session text last
-Advanced left limit reader now session text (Err ReadFault) = Stopped left now text
+Advanced left limit reader now session text (Err ReadFault) = Below left limit now text
 Advanced left limit reader now session text (Err TooLong) = Filled left limit now text
-Advanced left limit reader now session text (Err NoMemory) = Unit {0}
+Advanced left limit reader now session text (Err NoMemory) = Lacked left now text
 
 -- a fault of reading comes only where the count of faults rose
 abbrev pub Caused : {T : Type 0} → ℕ → ℕ → Result T Stop → Type 0
@@ -46,9 +46,9 @@ Lessens before now (nexts.End last) = Unit {0}
 abbrev pub Sectioned : Option (List ℕ) → ℕ → Reading → Option (List ℕ) → Session → List ℕ → Result Captured Stop → Type 0
 Sectioned left limit reader now session text (Ok (sections.Steps steps)) = AtSteps left limit reader now session text steps.items
 Sectioned left limit reader now session text (Ok (sections.End last)) = Played left limit now session text last
-Sectioned left limit reader now session text (Err ReadFault) = Stopped left now text
+Sectioned left limit reader now session text (Err ReadFault) = Below left limit now text
 Sectioned left limit reader now session text (Err TooLong) = Filled left limit now text
-Sectioned left limit reader now session text (Err NoMemory) = Unit {0}
+Sectioned left limit reader now session text (Err NoMemory) = Lacked left now text
 
 -- whatever was written before it
 abbrev pub Sections : ℕ → Reading → Reading → Option (List ℕ) → Option (List ℕ) → Session → ℕ → Result Captured Stop → Type 0

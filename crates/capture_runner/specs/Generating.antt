@@ -1,5 +1,5 @@
 -- Frames that are written as lines.
-use Rattle.std.specs.Prelude.{◌≡◌, ℕ, ◌+◌, ◌*◌, ◌≤◌, List, ◌++◌}
+use Rattle.std.specs.Prelude.{◌≡◌, ℕ, ◌+◌, ◌*◌, ◌<◌, ◌≤◌, List, ◌++◌, length}
 use Rattle.std.specs.String.{string_len, string_capacity}
 use Rattle.std.specs.declared.option.Option.{Option}
 use Rattle.run_io.specs.declared.output.Output.{Output}
@@ -22,3 +22,8 @@ pub record Together (before now : Option (List ℕ)) (text : List ℕ) (frames :
 pub record PutsAll (old frames : At) (taken_before taken_now : Option (List ℕ)) (old_text text : List ℕ) : Type 0 where
   pub none : frames.left ≡ 0
   pub goes_on : (before : Option (List ℕ)) (whole : List ℕ) → Together before taken_before old_text old whole → Together before taken_now text frames whole
+
+-- a write failed: some of it is missing
+abbrev pub PutsSome : At → Option (List ℕ) → Option (List ℕ) → List ℕ → Type 0
+PutsSome old taken_before taken_now old_text =
+    (before : Option (List ℕ)) (whole : List ℕ) → Together before taken_before old_text old whole → (missing : List ℕ) × Written before taken_now missing whole × (0 < length missing)

@@ -1,6 +1,6 @@
 -- How the reading of a scenario ends. The source had `left` and has `now`; the sink had taken `before` and has taken `after`;
 -- `text` is held by the output.
-use Rattle.std.specs.Prelude.{◌≡◌, ℕ, List, ◌++◌, IfSome, String, string_bytes}
+use Rattle.std.specs.Prelude.{◌≡◌, ◌⊎◌, ℕ, ◌<◌, List, [], ◌++◌, length, take, IfSome, String, string_bytes}
 use Rattle.std.specs.declared.alloc.Global.{Global}
 use Rattle.std.specs.Io.KnownBytes.{Appends, Consumes}
 use Rattle.std.specs.declared.option.Option.{Option}
@@ -22,6 +22,7 @@ use Rattle.capture_runner.specs.declared.replay.Stop.{Stop}
 use Rattle.capture_runner.specs.declared.replay.Stop.TheVariants.{ReadFault, NoMemory, TooLong}
 use Rattle.capture_runner.specs.declared.session.Last.{Last}
 use Rattle.capture_runner.specs.declared.session.Session.{Session}
+use Rattle.capture_runner.specs.Outcome.{first_line}
 use Rattle.capture_runner.specs.Playing as playing
 use Rattle.capture_runner.specs.Session.{Agrees, Follows, IsAmongSteps, ending_of, with_steps}
 
@@ -30,6 +31,22 @@ pub record Moves (before after : Option (List ℕ)) (old new : List ℕ) : Type 
   pub moved : List ℕ
   pub wrote : Appends before after moved
   pub held : old ≡ moved ++ new
+
+-- a front of it went to the sink, and not all of it
+abbrev pub Breaks : Option (List ℕ) → Option (List ℕ) → List ℕ → Type 0
+Breaks before after text = (n : ℕ) × (n < length text) × Appends before after (take n text)
+
+-- something may have gone to the sink
+abbrev pub Grows : Option (List ℕ) → Option (List ℕ) → Type 0
+Grows before after = (more : List ℕ) × Appends before after more
+
+-- the first line went to the sink
+abbrev pub IsOpened : Option (List ℕ) → Option (List ℕ) → Type 0
+IsOpened before after = (rest : List ℕ) × Appends before after (first_line ++ rest)
+
+-- before anything was read
+abbrev pub IsBehind : Option (List ℕ) → Option (List ℕ) → Option (List ℕ) → Option (List ℕ) → Type 0
+IsBehind left now before after = Consumes left now [] ⊎ IsOpened before after
 
 -- what was written since then, and what is held
 pub record Written (before after : Option (List ℕ)) (text all : List ℕ) : Type 0 where
@@ -51,19 +68,23 @@ pub record Told (left now : Option (List ℕ)) (session : Session) (all : List �
   pub answered : Answered told left now all last
   pub agrees : Agrees (scenario answered.input) session
 
--- its listing is the answer
+-- Its listing is the answer. After want of memory only what was read is known.
 abbrev pub Lists : Listing → Option (List ℕ) → Option (List ℕ) → Result (Last × String Global) Stop → Type 0
 Lists listing left now (Ok x) = Answered (listed listing) left now (string_bytes x.1) x.0
-Lists listing left now (Err ReadFault) = (text : List ℕ) × playing.Stopped left now text
+Lists listing left now (Err ReadFault) = (text : List ℕ) × playing.Below left most_bytes now text
 Lists listing left now (Err TooLong) = (text : List ℕ) × playing.Filled left most_bytes now text
-Lists listing left now (Err NoMemory) = Unit {0}
+Lists listing left now (Err NoMemory) = (input : List ℕ) × Consumes left now input
+
+-- A run halts. After a failed write the sink lacks what is missing.
+abbrev pub Halted : Option (List ℕ) → Option (List ℕ) → Option (List ℕ) → Option (List ℕ) → List ℕ → Halt → Type 0
+Halted left now before after text (Stopped ReadFault) = (all : List ℕ) × Written before after text all × playing.Below left most_bytes now all
+Halted left now before after text (Stopped TooLong) = (all : List ℕ) × Written before after text all × playing.Filled left most_bytes now all
+Halted left now before after text (Stopped NoMemory) = (all : List ℕ) × Written before after text all × playing.Lacked left now all
+Halted left now before after text WriteFault = (all missing : List ℕ) × Written before after missing all × playing.Lacked left now all
 
 abbrev pub Plays : Option (List ℕ) → Option (List ℕ) → Session → Option (List ℕ) → Option (List ℕ) → List ℕ → Result Last Halt → Type 0
 Plays left now session before after text (Ok last) = (all : List ℕ) × Written before after text all × Told left now session all last
-Plays left now session before after text (Err (Stopped ReadFault)) = (all : List ℕ) × Written before after text all × playing.Stopped left now all
-Plays left now session before after text (Err (Stopped TooLong)) = (all : List ℕ) × Written before after text all × playing.Filled left most_bytes now all
-Plays left now session before after text (Err (Stopped NoMemory)) = Unit {0}
-Plays left now session before after text (Err WriteFault) = Unit {0}
+Plays left now session before after text (Err halt) = Halted left now before after text halt
 
 -- what is known after a section and its steps, by the answer
 abbrev pub PlayedSection : Option (List ℕ) → Reading → Option (List ℕ) → Session → Option (List ℕ) → Option (List ℕ) → List ℕ → Result (Option Last) Halt → Type 0
@@ -71,10 +92,7 @@ PlayedSection left reader now session before after text (Ok None) =
     (all : List ℕ) × Written before after text all × playing.Playing left most_bytes reader now session all
 PlayedSection left reader now session before after text (Ok (Some last)) =
     (all : List ℕ) × Written before after text all × playing.Played left most_bytes now session all last
-PlayedSection left reader now session before after text (Err (Stopped ReadFault)) = (all : List ℕ) × Written before after text all × playing.Stopped left now all
-PlayedSection left reader now session before after text (Err (Stopped TooLong)) = (all : List ℕ) × Written before after text all × playing.Filled left most_bytes now all
-PlayedSection left reader now session before after text (Err (Stopped NoMemory)) = Unit {0}
-PlayedSection left reader now session before after text (Err WriteFault) = Unit {0}
+PlayedSection left reader now session before after text (Err halt) = Halted left now before after text halt
 
 -- whatever was read and written before it
 abbrev pub PlaysSection : Reading → Reading → Option (List ℕ) → Option (List ℕ) → Session → Session → Option (List ℕ) → Option (List ℕ) → List ℕ → List ℕ → ℕ → Result (Option Last) Halt → Type 0
@@ -88,6 +106,24 @@ pub record Did (t : Scenario) (session : Session) (before after : Option (List �
   pub written : Written before after text all
   pub follows : Follows t session
   pub told : all ≡ body_of (run_of t)
+
+-- the first of these steps were done, and all is told of them
+pub record DidSome (s : Scenario) (steps : List Step) (all : List ℕ) : Type 0 where
+  pub done : List Step
+  pub undone : List Step
+  pub parts : steps ≡ done ++ undone
+  pub told : all ≡ body_of (run_of (with_steps s done))
+
+-- steps halt
+abbrev pub HaltedIn : Scenario → List Step → Option (List ℕ) → Option (List ℕ) → List ℕ → Halt → Type 0
+HaltedIn s steps before after text (Stopped ReadFault) = ⊥
+HaltedIn s steps before after text (Stopped TooLong) = ⊥
+HaltedIn s steps before after text (Stopped NoMemory) = (all : List ℕ) × Written before after text all × DidSome s steps all
+HaltedIn s steps before after text WriteFault = (all missing : List ℕ) × Written before after missing all × DidSome s steps all
+
+abbrev pub DoesSome : Session → List Step → Option (List ℕ) → Option (List ℕ) → List ℕ → List ℕ → Halt → Type 0
+DoesSome old steps taken_before taken_now old_text text halt =
+    (s : Scenario) (before : Option (List ℕ)) → IsAmongSteps s → Did s old before taken_before old_text → HaltedIn s steps before taken_now text halt
 
 abbrev pub DoesAll : Session → List Step → Session → Option (List ℕ) → Option (List ℕ) → List ℕ → List ℕ → Type 0
 DoesAll old steps session taken_before taken_now old_text text =

@@ -1,12 +1,13 @@
 -- How a run may end, by what its words ask for and by what it saw and did.
+-- Source: this profile.
 use Rattle.std.specs.Prelude.{ℕ, List, [], ◌∷◌, ◌++◌, codes}
 use Rattle.std.specs.declared.option.Option.{Option}
 use Rattle.std.specs.declared.option.Option.TheVariants.{None, Some}
 use Rattle.run_io.specs.Causes.{Rose}
 use Rattle.br_model.specs.Program.Generator.{made}
 use Rattle.br_model.specs.Program.Listings.{listed}
-use Rattle.br_model.specs.Program.Outcomes.{Call, Wrote, Makes, Answers, AnswersBad, GoesOn, IsNotTooLong, StopsAfter, StopsFull}
-use Rattle.br_model.specs.Program.Runs.{body, told}
+use Rattle.br_model.specs.Program.Outcomes.{Call, Makes, Answers, AnswersBad, BreaksOff, GoesOn, HasScenario, IsNotTooLong, Lacks, ReadsBehind, StopsBelow, StopsFull}
+use Rattle.br_model.specs.Program.Runs.{body, body_parts, told}
 use Rattle.br_model.specs.Table.Limits.{most_bytes}
 use Rattle.br_model.specs.Text.Scenario.{Ended}
 use Rattle.br_model.specs.Program.Summary.{summary}
@@ -29,56 +30,88 @@ status_code statuses.TooLong = 7
 abbrev pub last_line : List ℕ → List ℕ
 last_line text = text ++ 10 ∷ []
 
--- What a command does that reads a scenario: `answer` is what it writes for its bytes, `before` what stands before the last line
--- where it stops on its way, and `lacking` holds where it lacks memory. Of a failed write nothing is said.
-abbrev pub Reads : (List ℕ → List ℕ) → (List ℕ → List ℕ) → (Call → Type 0) → Status → Call → Type 0
-Reads answer before lacking statuses.Ok call = Answers answer call Ended × IsNotTooLong most_bytes call
-Reads answer before lacking statuses.Usage call = ⊥
-Reads answer before lacking statuses.BadLine call = AnswersBad answer call × IsNotTooLong most_bytes call
-Reads answer before lacking statuses.ReadFault call = StopsAfter GoesOn before call (last_line (codes "read fault"))
-Reads answer before lacking statuses.WriteFault call = Unit {0}
-Reads answer before lacking statuses.NoMemory call = lacking call
-Reads answer before lacking statuses.TooLong call = StopsFull most_bytes GoesOn before call (last_line (codes "too long"))
+-- what a run saw and did: what its source had left when it began and has left now, and what its sink had taken and has taken
+abbrev pub call_of : Option (List ℕ) → Option (List ℕ) → Option (List ℕ) → Option (List ℕ) → Call
+call_of left_before left_now taken_before taken_now =
+    record { left_before = left_before; left_now = left_now; taken_before = taken_before; taken_now = taken_now }
 
--- What a command does that reads nothing: this is what it writes, whole or not at all.
+-- Each status says what `Whole` says of it, but that of a failed write: then the output breaks off on its way to another one.
+abbrev pub OrBreaksOff : (Status → Call → Type 0) → Status → Call → Type 0
+OrBreaksOff Whole statuses.Ok call = Whole statuses.Ok call
+OrBreaksOff Whole statuses.Usage call = Whole statuses.Usage call
+OrBreaksOff Whole statuses.BadLine call = Whole statuses.BadLine call
+OrBreaksOff Whole statuses.ReadFault call = Whole statuses.ReadFault call
+OrBreaksOff Whole statuses.WriteFault call = BreaksOff (λ c. (status : Status) × Whole status c) call
+OrBreaksOff Whole statuses.NoMemory call = Whole statuses.NoMemory call
+OrBreaksOff Whole statuses.TooLong call = Whole statuses.TooLong call
+
+-- What a command does that reads a scenario, where no write fails: `answer` is what it writes for its bytes, `before` what stands
+-- before the last line where it stops on its way, and `parts` the parts of that, of which it may lack some for want of memory. A
+-- read has failed only where `failed` holds.
+abbrev pub Whole : Type 0 → (List ℕ → List ℕ) → (List ℕ → List ℕ) → (ℕ → List ℕ → List ℕ) → Status → Call → Type 0
+Whole failed answer before parts statuses.Ok call = Answers answer call Ended × IsNotTooLong most_bytes call
+Whole failed answer before parts statuses.Usage call = ⊥
+Whole failed answer before parts statuses.BadLine call = AnswersBad answer call × IsNotTooLong most_bytes call
+Whole failed answer before parts statuses.ReadFault call = failed × StopsBelow most_bytes GoesOn before call (last_line (codes "read fault"))
+Whole failed answer before parts statuses.WriteFault call = ⊥
+Whole failed answer before parts statuses.NoMemory call = Lacks parts call (last_line (codes "no memory"))
+Whole failed answer before parts statuses.TooLong call = StopsFull most_bytes GoesOn before call (last_line (codes "too long"))
+
+-- what it does, a front of that where a write fails
+abbrev pub Reads : Type 0 → (List ℕ → List ℕ) → (List ℕ → List ℕ) → (ℕ → List ℕ → List ℕ) → Status → Call → Type 0
+Reads failed answer before parts = OrBreaksOff (Whole failed answer before parts)
+
+-- What a command does that reads nothing: this is what it writes;
+abbrev pub WholeWrites : List ℕ → Status → Call → Type 0
+WholeWrites output statuses.Ok call = Makes call output
+WholeWrites output statuses.Usage call = ⊥
+WholeWrites output statuses.BadLine call = ⊥
+WholeWrites output statuses.ReadFault call = ⊥
+WholeWrites output statuses.WriteFault call = ⊥
+WholeWrites output statuses.NoMemory call = Makes call (last_line (codes "no memory"))
+WholeWrites output statuses.TooLong call = ⊥
+
+-- a front of it where a write fails.
 abbrev pub Writes : List ℕ → Status → Call → Type 0
-Writes output statuses.Ok call = Makes call output
-Writes output statuses.Usage call = ⊥
-Writes output statuses.BadLine call = ⊥
-Writes output statuses.ReadFault call = ⊥
-Writes output statuses.WriteFault call = Unit {0}
-Writes output statuses.NoMemory call = Makes call (last_line (codes "no memory"))
-Writes output statuses.TooLong call = ⊥
+Writes output = OrBreaksOff (WholeWrites output)
 
--- what other words are answered
+-- what other words are answered;
+abbrev pub WholeRefuses : Status → Call → Type 0
+WholeRefuses statuses.Ok call = ⊥
+WholeRefuses statuses.Usage call = Makes call (last_line (codes "usage"))
+WholeRefuses statuses.BadLine call = ⊥
+WholeRefuses statuses.ReadFault call = ⊥
+WholeRefuses statuses.WriteFault call = ⊥
+WholeRefuses statuses.NoMemory call = Makes call (last_line (codes "no memory"))
+WholeRefuses statuses.TooLong call = ⊥
+
+-- a front of it where a write fails.
 abbrev pub Refuses : Status → Call → Type 0
-Refuses statuses.Ok call = ⊥
-Refuses statuses.Usage call = Makes call (last_line (codes "usage"))
-Refuses statuses.BadLine call = ⊥
-Refuses statuses.ReadFault call = ⊥
-Refuses statuses.WriteFault call = Unit {0}
-Refuses statuses.NoMemory call = Makes call (last_line (codes "no memory"))
-Refuses statuses.TooLong call = ⊥
+Refuses = OrBreaksOff WholeRefuses
 
 -- nothing stands before the last line
 abbrev pub nothing : List ℕ → List ℕ
 nothing bytes = []
 
--- nothing is said
-abbrev pub anything : Call → Type 0
-anything call = Unit {0}
+-- nothing has parts
+abbrev pub no_parts : ℕ → List ℕ → List ℕ
+no_parts n bytes = []
 
--- the last line stands alone
-abbrev pub alone : Call → Type 0
-alone call = Wrote call (last_line (codes "no memory"))
+-- the first line of every transcript
+abbrev pub first_line : List ℕ
+first_line = last_line (codes "transcript 1")
 
--- what the run read and wrote, by what the words ask for and by its status
-abbrev pub Outcome : Option Asked → Status → Call → Type 0
-Outcome None = Refuses
-Outcome (Some Replay) = Reads told body anything
-Outcome (Some (Show listing)) = Reads (listed listing) nothing alone
-Outcome (Some (Gen number count)) = Writes (made number count)
-Outcome (Some (Demo number count)) = Writes (summary number count)
+-- a replay writes its first line before it reads
+abbrev pub Replays : Type 0 → Status → Call → Type 0
+Replays failed status call = Reads failed told body body_parts status call × ReadsBehind first_line call
+
+-- What the run read and wrote, by what the words ask for and by its status. A read has failed only where `failed` holds.
+abbrev pub Outcome : Type 0 → Option Asked → Status → Call → Type 0
+Outcome failed None = Refuses
+Outcome failed (Some Replay) = Replays failed
+Outcome failed (Some (Show listing)) = Reads failed (listed listing) nothing no_parts
+Outcome failed (Some (Gen number count)) = Writes (made number count)
+Outcome failed (Some (Demo number count)) = Writes (summary number count)
 
 -- a fault only where its count rose
 abbrev pub Caused : Status → ℕ → ℕ → ℕ → ℕ → Type 0
@@ -89,3 +122,21 @@ Caused statuses.ReadFault reads reads_now writes writes_now = Rose reads reads_n
 Caused statuses.WriteFault reads reads_now writes writes_now = Rose writes writes_now
 Caused statuses.NoMemory reads reads_now writes writes_now = Unit {0}
 Caused statuses.TooLong reads reads_now writes writes_now = Unit {0}
+
+-- Completeness: the words ask for what can be done, of a source that has a scenario which ends well where one is read;
+abbrev pub Asks : Option Asked → Call → Type 0
+Asks None call = ⊥
+Asks (Some Replay) call = HasScenario most_bytes call
+Asks (Some (Show listing)) call = HasScenario most_bytes call
+Asks (Some (Gen number count)) call = Unit {0}
+Asks (Some (Demo number count)) call = Unit {0}
+
+-- then the run succeeds, or lacks memory.
+abbrev pub EndsWell : Status → Type 0
+EndsWell statuses.Ok = Unit {0}
+EndsWell statuses.Usage = ⊥
+EndsWell statuses.BadLine = ⊥
+EndsWell statuses.ReadFault = ⊥
+EndsWell statuses.WriteFault = ⊥
+EndsWell statuses.NoMemory = Unit {0}
+EndsWell statuses.TooLong = ⊥

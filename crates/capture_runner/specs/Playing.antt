@@ -1,6 +1,6 @@
 -- What a replay has done so far, and how it ends. The source had `left` when the run began and has `now`; `text` is what was
 -- written since then, that which a buffer still holds included.
-use Rattle.std.specs.Prelude.{◌≡◌, ℕ, ◌+◌, ◌≤◌, true, false, List, [], ◌∷◌, ◌++◌, length, IfSome}
+use Rattle.std.specs.Prelude.{◌≡◌, ℕ, ◌+◌, ◌<◌, ◌≤◌, true, false, List, [], ◌∷◌, ◌++◌, length, IfSome}
 use Rattle.std.specs.declared.option.Option.{Option}
 use Rattle.std.specs.declared.option.Option.TheVariants.{None}
 use Rattle.std.specs.declared.result.Result.TheVariants.{Ok}
@@ -10,7 +10,7 @@ use Rattle.br_model.specs.declared.scenario.Said.TheVariants.{Captures}
 use Rattle.br_model.specs.declared.steps.Step.{Step}
 use Rattle.br_model.specs.Text.Operands.{longest_section}
 use Rattle.br_model.specs.Program.Outcomes.{GoesOn, HoldsNoEnd}
-use Rattle.br_model.specs.Program.Runs.{run_of, body_of, body}
+use Rattle.br_model.specs.Program.Runs.{run_of, body_of, body, body_parts}
 use Rattle.br_model.specs.Text.Scenario.{Scenario, Going, opened, read, scenario, whole_says}
 use Rattle.br_model.specs.Theorems.WholeLines.{is_line}
 use Rattle.capture_runner.specs.declared.session.Last.{Last}
@@ -80,7 +80,19 @@ pub record Stopped (left : Option (List ℕ)) (now : Option (List ℕ)) (text : 
   pub going : GoesOn input
   pub told : text ≡ body input
 
+-- fewer bytes were read than may be
+pub record Below (left : Option (List ℕ)) (limit : ℕ) (now : Option (List ℕ)) (text : List ℕ) : Type 0 where
+  pub stops : Stopped left now text
+  pub below : length stops.input < limit
+
 -- as many bytes as may be were read
 pub record Filled (left : Option (List ℕ)) (limit : ℕ) (now : Option (List ℕ)) (text : List ℕ) : Type 0 where
   pub stops : Stopped left now text
   pub full : length stops.input ≡ limit
+
+-- Memory is lacking: what is written is the first parts of the body of what the source gave, so many of them.
+pub record Lacked (left now : Option (List ℕ)) (text : List ℕ) : Type 0 where
+  pub input : List ℕ
+  pub read : Consumes left now input
+  pub count : ℕ
+  pub told : text ≡ body_parts count input

@@ -1,15 +1,14 @@
 //! What each command does, to its last line.
-ghost use Rattle.std.specs.Prelude.{◌≡◌, ℕ, ◌≤◌, [], List, Option, OnOk, false, string_bytes};
+ghost use Rattle.std.specs.Prelude.{◌≡◌, ℕ, ◌≤◌, [], List, Option, OnOk, OnErr, false, string_bytes};
 ghost use Rattle.br_model.specs.Program.Generator.{made, most_frames};
 ghost use Rattle.br_model.specs.Program.Listings.{listed};
-ghost use Rattle.br_model.specs.Program.Runs.{body, told};
 ghost use Rattle.br_model.specs.Program.Summary.{summary as summary_of};
 ghost use Rattle.br_model.specs.Text.Scenario.{opened};
-ghost use Rattle.run_io.specs.Causes.{HasCause};
+ghost use Rattle.run_io.specs.Causes.{HasCause, Rose};
 ghost use Rattle.capture_runner.specs.Advancing.{Caused as StopsBy};
-ghost use Rattle.capture_runner.specs.Generating.{HasRoom, PutsAll};
+ghost use Rattle.capture_runner.specs.Generating.{HasRoom, PutsAll, PutsSome};
 ghost use Rattle.capture_runner.specs.Halting.{Lists};
-ghost use Rattle.capture_runner.specs.Outcome.{Caused, Reads, Writes, nothing, anything, alone};
+ghost use Rattle.capture_runner.specs.Outcome.{Caused, Reads, Replays, Writes, call_of, no_parts, nothing};
 ghost use Rattle.capture_runner.specs.Session.{Follows};
 
 use crate::demo::summary;
@@ -34,8 +33,8 @@ fn replay_in<R: Wait, S: Source, K: Sink>(
 ) -> Status
     requires follows { Follows (opened false) session.old }
     requires lines { session.old.lines ≡ 0 }
-    ensures outcome { Reads told body anything result
-        (record { left_before = S.left source.old; left_now = S.left source.new; taken_before = K.taken sink.old; taken_now = K.taken sink.new }) }
+    ensures outcome { Replays (Rose (S.faults source.old) (S.faults source.new)) result
+        (call_of (S.left source.old) (S.left source.new) (K.taken sink.old) (K.taken sink.new)) }
     ensures cause { Caused result (S.faults source.old) (S.faults source.new) (K.faults sink.old) (K.faults sink.new) }
 {
     let Ok(mut output) = Output::make(alloc) else {
@@ -55,8 +54,8 @@ pub(crate) fn replay<R: Wait, S: Source, K: Sink>(
     source: &mut S,
     sink: &mut K,
 ) -> Status
-    ensures outcome { Reads told body anything result
-        (record { left_before = S.left source.old; left_now = S.left source.new; taken_before = K.taken sink.old; taken_now = K.taken sink.new }) }
+    ensures outcome { Replays (Rose (S.faults source.old) (S.faults source.new)) result
+        (call_of (S.left source.old) (S.left source.new) (K.taken sink.old) (K.taken sink.new)) }
     ensures cause { Caused result (S.faults source.old) (S.faults source.new) (K.faults sink.old) (K.faults sink.new) }
 {
     match Session::new(alloc) {
@@ -115,8 +114,8 @@ pub(crate) fn show<R: Wait, S: Source, K: Sink>(
     source: &mut S,
     sink: &mut K,
 ) -> Status
-    ensures outcome { Reads (listed listing) nothing alone result
-        (record { left_before = S.left source.old; left_now = S.left source.new; taken_before = K.taken sink.old; taken_now = K.taken sink.new }) }
+    ensures outcome { Reads (Rose (S.faults source.old) (S.faults source.new)) (listed listing) nothing no_parts result
+        (call_of (S.left source.old) (S.left source.new) (K.taken sink.old) (K.taken sink.new)) }
     ensures cause { Caused result (S.faults source.old) (S.faults source.new) (K.faults sink.old) (K.faults sink.new) }
 {
     match listing_of(rt, alloc, listing, source) {
@@ -135,6 +134,7 @@ fn put_frames<K: Sink>(
     ensures puts { OnOk result (PutsAll frames.old frames.new (K.taken sink.old) (K.taken sink.new)
         (string_bytes output.old.text) (string_bytes output.new.text)) }
     ensures room { OnOk result (HasRoom output.new) }
+    ensures breaks { OnErr result (PutsSome frames.old (K.taken sink.old) (K.taken sink.new) (string_bytes output.old.text)) }
     ensures cause { HasCause (K.faults sink.old) (K.faults sink.new) result }
 {
     while frames.left() > 0 {
@@ -148,7 +148,7 @@ fn put_frames<K: Sink>(
 pub(crate) fn generate<K: Sink>(alloc: Global, number: u64, count: u32, sink: &mut K) -> Status
     requires { count ≤ most_frames }
     ensures outcome { (left : Option (List ℕ)) → Writes (made number count) result
-        (record { left_before = left; left_now = left; taken_before = K.taken sink.old; taken_now = K.taken sink.new }) }
+        (call_of left left (K.taken sink.old) (K.taken sink.new)) }
     ensures cause { (reads : ℕ) → Caused result reads reads (K.faults sink.old) (K.faults sink.new) }
 {
     let Ok(mut output) = Output::make(alloc) else {
@@ -175,7 +175,7 @@ pub(crate) fn demo<R: Wait, K: Sink>(
 ) -> Status
     requires { count ≤ most_frames }
     ensures outcome { (left : Option (List ℕ)) → Writes (summary_of number count) result
-        (record { left_before = left; left_now = left; taken_before = K.taken sink.old; taken_now = K.taken sink.new }) }
+        (call_of left left (K.taken sink.old) (K.taken sink.new)) }
     ensures cause { (reads : ℕ) → Caused result reads reads (K.faults sink.old) (K.faults sink.new) }
 {
     match summary(rt, alloc, number, count) {

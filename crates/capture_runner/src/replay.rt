@@ -1,14 +1,14 @@
 //! A scenario is read from a source, line by line, and its transcript is written to a sink.
-ghost use Rattle.std.specs.Prelude.{◌≡◌, ℕ, false, ◌-◌, ◌<◌, ◌≤◌, ◌^◌, [], true, None, IfOk, OnOk, string_bytes};
+ghost use Rattle.std.specs.Prelude.{◌≡◌, ℕ, false, ◌-◌, ◌<◌, ◌≤◌, ◌^◌, [], true, None, IfOk, IfErr, OnOk, OnErr, string_bytes};
 ghost use Rattle.std.specs.List.{list_all};
 ghost use Rattle.std.specs.String.{string_capacity, string_len};
 ghost use Rattle.br_model.specs.Text.Operands.{longest_section};
 ghost use Rattle.br_model.specs.Text.Scenario.{opened};
 ghost use Rattle.run_io.specs.Causes.{HasCause};
-ghost use Rattle.run_io.specs.Reading.{max_line, room};
+ghost use Rattle.run_io.specs.Reading.{holds_next, max_line, room};
 ghost use Rattle.run_io.specs.Writing.{full_length};
 ghost use Rattle.capture_runner.specs.Advancing.{Advances, Caused, Lessens, Sections};
-ghost use Rattle.capture_runner.specs.Halting.{DoesAll, Halts, Moves, Plays, PlaysSection, Stalls};
+ghost use Rattle.capture_runner.specs.Halting.{Breaks, DoesAll, DoesSome, Grows, Halts, IsBehind, Moves, Plays, PlaysSection, Stalls};
 ghost use Rattle.capture_runner.specs.Session.{ComeByLine, Follows, IsBehindDeclarations, IsReady};
 ghost use Rattle.capture_runner.specs.Stopping.{stop_line, stop_status};
 ghost use Rattle.br_model.specs.Text.LineForms.{comes_by_line};
@@ -176,6 +176,7 @@ pub(crate) fn put_if_full<K: Sink>(output: &mut Output, sink: &mut K) -> Result<
     ensures moved { OnOk result (Moves (K.taken sink.old) (K.taken sink.new) (string_bytes output.old.text) (string_bytes output.new.text)) }
     ensures small { OnOk result (string_len output.new.text < full_length) }
     ensures room { OnOk result (string_capacity output.old.text ≤ string_capacity output.new.text) }
+    ensures breaks { OnErr result (Breaks (K.taken sink.old) (K.taken sink.new) (string_bytes output.old.text)) }
     ensures cause { HasCause (K.faults sink.old) (K.faults sink.new) result }
 {
     if output.is_full() {
@@ -191,6 +192,8 @@ fn put_before_read<K: Sink>(
     sink: &mut K,
 ) -> Result<(), WriteFault>
     ensures moved { OnOk result (Moves (K.taken sink.old) (K.taken sink.new) (string_bytes output.old.text) (string_bytes output.new.text)) }
+    ensures all { holds_next reader.now ≡ false → OnOk result (string_bytes output.new.text ≡ []) }
+    ensures breaks { OnErr result (Breaks (K.taken sink.old) (K.taken sink.new) (string_bytes output.old.text)) }
     ensures cause { HasCause (K.faults sink.old) (K.faults sink.new) result }
 {
     if reader.holds_line() {
@@ -214,6 +217,9 @@ fn do_steps<R: Wait, K: Sink>(
     ensures ready { OnOk result (IsReady session.new.roster session.new.world) }
     ensures does { OnOk result (DoesAll session.old steps.items session.new
         (K.taken sink.old) (K.taken sink.new) (string_bytes output.old.text) (string_bytes output.new.text)) }
+    ensures halts { IfErr result (DoesSome session.old steps.items
+        (K.taken sink.old) (K.taken sink.new) (string_bytes output.old.text) (string_bytes output.new.text)) }
+    ensures grows { Grows (K.taken sink.old) (K.taken sink.new) }
     ensures cause { Stalls (K.faults sink.old) (K.faults sink.new) result }
     ensures later { K.faults sink.old ≤ K.faults sink.new }
 {
@@ -243,6 +249,7 @@ fn play_section<R: Wait, S: Source, K: Sink>(
     ensures ready { OnOk result (IsReady session.new.roster session.new.world) }
     ensures plays { PlaysSection reader.old reader.new (S.left source.old) (S.left source.new)
         session.old session.new (K.taken sink.old) (K.taken sink.new) (string_bytes output.old.text) (string_bytes output.new.text) length result }
+    ensures grows { Grows (K.taken sink.old) (K.taken sink.new) }
     ensures less { OnOk result (room reader.new ≤ room reader.old) }
     ensures cause { Halts (S.faults source.old) (S.faults source.new) (K.faults sink.old) (K.faults sink.new) result }
     ensures later { S.faults source.old ≤ S.faults source.new }
@@ -272,6 +279,7 @@ pub(crate) fn play<R: Wait, S: Source, K: Sink>(
     requires lines { session.old.lines ≡ 0 }
     requires text { string_bytes output.old.text ≡ [] }
     ensures plays { Plays (S.left source.old) (S.left source.new) session.new (K.taken sink.old) (K.taken sink.new) (string_bytes output.new.text) result }
+    ensures behind { IsBehind (S.left source.old) (S.left source.new) (K.taken sink.old) (K.taken sink.new) }
     ensures cause { Halts (S.faults source.old) (S.faults source.new) (K.faults sink.old) (K.faults sink.new) result }
     ensures later { K.faults sink.old ≤ K.faults sink.new }
 {

@@ -1,6 +1,7 @@
 //! The top call.
 ghost use Rattle.std.specs.Prelude.{map, string_bytes};
-ghost use Rattle.capture_runner.specs.Outcome.{Outcome, Caused};
+ghost use Rattle.run_io.specs.Causes.{Rose};
+ghost use Rattle.capture_runner.specs.Outcome.{Asks, Caused, EndsWell, Outcome, call_of};
 ghost use Rattle.capture_runner.specs.Words.{asked};
 
 use crate::asked::Asked;
@@ -16,7 +17,7 @@ use std::sync::Wait;
 /// transcript, `show TABLE` (`fdb`, `vlan` or `mdb`) the table at its end. `gen NUMBER COUNT` reads nothing and writes a scenario,
 /// `demo NUMBER COUNT` a summary of its run: NUMBER is below 2^64, COUNT at most 100,000. `show` and `demo` write nothing before
 /// their work is over; `gen` has all its memory before its first write. Each status has its last line: that of the transcript or of
-/// the other output, `bad N WHY`, `usage`, `read fault`, `no memory` or `too long`; after a fault of writing none.
+/// the other output, `bad N WHY`, `usage`, `read fault`, `no memory` or `too long`; after a fault of writing nothing more is written.
 pub fn run<R: Wait, S: Source, K: Sink>(
     rt: &R,
     alloc: Global,
@@ -24,9 +25,12 @@ pub fn run<R: Wait, S: Source, K: Sink>(
     source: &mut S,
     sink: &mut K,
 ) -> Status
-    ensures outcome { Outcome (asked (map string_bytes words.now)) result
-        (record { left_before = S.left source.old; left_now = S.left source.new; taken_before = K.taken sink.old; taken_now = K.taken sink.new }) }
+    ensures outcome { Outcome (Rose (S.faults source.old) (S.faults source.new)) (asked (map string_bytes words.now)) result
+        (call_of (S.left source.old) (S.left source.new) (K.taken sink.old) (K.taken sink.new)) }
     ensures cause { Caused result (S.faults source.old) (S.faults source.new) (K.faults sink.old) (K.faults sink.new) }
+    ensures complete { ¬ Rose (S.faults source.old) (S.faults source.new) → ¬ Rose (K.faults sink.old) (K.faults sink.new)
+        → Asks (asked (map string_bytes words.now)) (call_of (S.left source.old) (S.left source.new) (K.taken sink.old) (K.taken sink.new))
+        → EndsWell result }
 {
     match read_words(alloc, words) {
         Ok(Some(Asked::Replay)) => replay(rt, alloc, source, sink),

@@ -2,6 +2,7 @@
 ghost use Rattle.std.specs.Prelude.{◌≡◌, ◌≢◌, ◌≤◌, ◌∷◌, ◌++◌, [], codes, string_bytes};
 ghost use Rattle.std.specs.Io.KnownBytes.{Appends};
 ghost use Rattle.run_io.specs.Causes.{Rose};
+ghost use Rattle.capture_runner.specs.Halting.{Breaks};
 ghost use Rattle.capture_runner.specs.Outcome.{status_code};
 
 use run_io::output::Output;
@@ -47,6 +48,7 @@ impl Status {
 pub(crate) fn put_last<K: Sink>(sink: &mut K, last: &[u8], status: Status) -> Status
     ensures status { result ≢ Status.WriteFault → result ≡ status }
     ensures whole { result ≢ Status.WriteFault → Appends (K.taken sink.old) (K.taken sink.new) last.now }
+    ensures front { result ≡ Status.WriteFault → status ≢ Status.WriteFault → Breaks (K.taken sink.old) (K.taken sink.new) last.now }
     ensures write { result ≡ Status.WriteFault → status ≢ Status.WriteFault → Rose (K.faults sink.old) (K.faults sink.new) }
     ensures later { K.faults sink.old ≤ K.faults sink.new }
 {
@@ -65,6 +67,8 @@ pub(crate) fn end_with<K: Sink>(
 ) -> Status
     ensures status { result ≢ Status.WriteFault → result ≡ status }
     ensures whole { result ≢ Status.WriteFault → Appends (K.taken sink.old) (K.taken sink.new) (string_bytes output.old.text ++ last.now) }
+    ensures front { result ≡ Status.WriteFault → status ≢ Status.WriteFault
+        → Breaks (K.taken sink.old) (K.taken sink.new) (string_bytes output.old.text ++ last.now) }
     ensures write { result ≡ Status.WriteFault → status ≢ Status.WriteFault → Rose (K.faults sink.old) (K.faults sink.new) }
     ensures later { K.faults sink.old ≤ K.faults sink.new }
 {
@@ -79,6 +83,7 @@ pub fn end_without_memory<K: Sink>(sink: &mut K) -> Status
     ensures status { result ≢ Status.WriteFault → result ≡ Status.NoMemory }
     ensures write { result ≡ Status.WriteFault → Rose (K.faults sink.old) (K.faults sink.new) }
     ensures whole { result ≢ Status.WriteFault → Appends (K.taken sink.old) (K.taken sink.new) (codes "no memory" ++ 10 ∷ []) }
+    ensures front { result ≡ Status.WriteFault → Breaks (K.taken sink.old) (K.taken sink.new) (codes "no memory" ++ 10 ∷ []) }
 {
     put_last(sink, b"no memory\n", Status::NoMemory)
 }

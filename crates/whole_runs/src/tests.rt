@@ -2,6 +2,7 @@
 mod captures;
 mod chips;
 mod commands;
+mod failing_calls;
 mod faults;
 mod limits;
 mod rows;

@@ -9,14 +9,14 @@ use std::process::Abort;
 use std::sync::Wait;
 use std::test::Fail;
 
-fn source_of(rt: &impl Abort, alloc: Global, input: &[u8], fails: &[u32]) -> MemSource {
+pub(super) fn source_of(rt: &impl Abort, alloc: Global, input: &[u8], fails: &[u32]) -> MemSource {
     let bytes = Vec::from_slice(alloc, input).expect(rt, "memory for the input");
     let fails = Vec::from_slice(alloc, fails).expect(rt, "memory for the numbers");
     MemSource::make(bytes, fails)
 }
 
 /// Runs the words of this line over a sink of so much room.
-fn ran_line(
+pub(super) fn ran_line(
     rt: &(impl Abort + Wait),
     alloc: Global,
     line: &str,

@@ -48,6 +48,23 @@ fn longest_input(rt: HostRuntime) -> Result<(), Fail> {
     Ok(())
 }
 
+/// A frame has at most 9,022 bytes.
+#[test]
+fn longest_frame(rt: HostRuntime) -> Result<(), Fail> {
+    let alloc = rt.alloc();
+    let mut input = String::from_str(alloc, THREE_UP)?;
+    for count in [9022, 9023] {
+        input.push_str("rx 1 ")?;
+        for _ in 0..count {
+            input.push_str("00")?;
+        }
+        input.push('\n')?;
+    }
+    input.push_str("end\n")?;
+    let told = "ok 1 3\nok 2 3\nok 3 3\nok 4 0\nunread 2 long\nend 6 9 0 1\n";
+    is_told(&rt, alloc, input.as_bytes(), Status::Ok, told)
+}
+
 const ONE_UP: &str = "scenario 1\nport 1 p1 soft\ncmd port up p1\n";
 
 const THREE_UP: &str = "scenario 1

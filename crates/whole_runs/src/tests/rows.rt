@@ -163,7 +163,7 @@ publish => ok 4 0
 ";
 
 /// What follows on that in each run. An empty line stands between two runs.
-const CHIP_RUNS: &str =
+pub(super) const CHIP_RUNS: &str =
     "# Chip and software share a frame to an unknown station, and the chip reports its source.
 rx 1 02000000000b02000000000a88b50102 => chip 1 at 9 0 copy; tx 1 2 02000000000b02000000000a88b50102
 serve => soft 1 at 9; tx 1 3 02000000000b02000000000a88b50102; ok 6 0

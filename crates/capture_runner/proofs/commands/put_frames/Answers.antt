@@ -1,6 +1,6 @@
 use Rattle.std.proofs.Common.{arith, ap}
 use Rattle.scenario_text.specs.Generating.{At}
-use Rattle.capture_runner.proofs.Generating.{together_more}
+use Rattle.capture_runner.proofs.Generating.{on_err, together_breaks, together_more}
 use Rattle.capture_runner.proofs.commands.put_frames.Goals as goal
 
 pub loop-output-init : goal.loop-output-init
@@ -30,3 +30,7 @@ returns-clause-puts g c = record { none = omega (arith, c.left.ensures, c.loop-o
 
 pub returns-clause-room : goal.returns-clause-room
 returns-clause-room g c = c.loop-output.invariant.room
+
+pub returns-in_err-put_if_full-clause-breaks : goal.returns-in_err-put_if_full-clause-breaks
+returns-in_err-put_if_full-clause-breaks g c =
+    on_err c.from_residual.result _ (λ before whole t. together_breaks before _ _ _ whole _ (c.loop-output.invariant.goes_on before whole t) c.in_err-put_if_full.ensures.breaks)

@@ -1,6 +1,7 @@
-use Rattle.std.proofs.Common.{[], ◌∷◌, refl, arith, length-append}
+use Rattle.std.proofs.Common.{List, ℕ, [], ◌∷◌, ◌++◌, Err, ap, ◌∙◌, refl, arith, length-append}
 use Rattle.std.proofs.lemmas.List.{append-nil}
-use Rattle.capture_runner.proofs.Steps.{long, closed, stopped, filled, taken_line, lessens}
+use Rattle.std.proofs.lemmas.Result.{err_from_is_err_and}
+use Rattle.capture_runner.proofs.Steps.{long, closed, stopped, filled, lacking, taken_line, lessens}
 use Rattle.capture_runner.proofs.replay.advance.Goals as goal
 
 pub returns-in_ok-take-in-Ok-Some-clause-advances : goal.returns-in_ok-take-in-Ok-Some-clause-advances
@@ -51,3 +52,16 @@ returns-in-Err-TooLong-clause-advances g c = λ limit left written p.
     let cause = rw (c.in-Err-TooLong.is, c.in-Err-TooLong.field-0-is) at (next.cause c.requires.sound) in
     let reads = rw c.in-Err-TooLong.is at next.calls.reads in
     filled left _ _ limit _ _ _ _ p reads next.calls.within cause
+
+pub returns-in_err-take-in-Ok-Some-clause-advances : goal.returns-in_err-take-in-Ok-Some-clause-advances
+returns-in_err-take-in-Ok-Some-clause-advances g c = λ limit left written p.
+    let next = c.next.follows.holds-at-none in
+    let reads = rw (c.in-Ok-Some.is, c.in-Ok-Some.field-0-is, c.if-got.true) at next.calls.reads in
+    let err = err_from_is_err_and c.from_residual.result c.from_residual.ensures.1 in
+    lacking left _ _ limit _ _ _ _ p _ _ _ _ reads next.calls.within (ap (λ (b : List ℕ). written ++ b) c.in_err-take-in-Ok-Some.ensures.err) (err.1 ∙ ap Err err.2)
+
+pub returns-in-Err-NoMemory-clause-advances : goal.returns-in-Err-NoMemory-clause-advances
+returns-in-Err-NoMemory-clause-advances g c = λ limit left written p.
+    let next = c.next.follows.holds-at-none in
+    let reads = rw c.in-Err-NoMemory.is at next.calls.reads in
+    lacking left _ _ limit _ _ _ _ p c.args.session.now [] _ _ reads next.calls.within refl refl

@@ -1,11 +1,13 @@
-use Rattle.std.proofs.Common.{false, [], ◌∷◌, ◌++◌, List, ℕ, sym, ap, ◌∙◌, subst, append_assoc, arith}
+use Rattle.std.proofs.Common.{false, [], ◌∷◌, ◌++◌, List, ℕ, sym, ap, ◌∙◌, subst, Err, append_assoc, arith}
+use Rattle.std.proofs.lemmas.Result.{err_from_is_err_and}
 use Rattle.std.specs.Cmp.{first_so, second_so}
 use Rattle.std.specs.List.{list_all}
 use Rattle.br_model.specs.declared.steps.Step.{Step}
 use Rattle.br_model.specs.Text.LineForms.{comes_by_line}
 use Rattle.br_model.specs.Text.Roster.{Roster, chips_of}
 use Rattle.capture_runner.specs.Session.{IsBehindDeclarations}
-use Rattle.capture_runner.proofs.Doing.{does_more}
+use Rattle.capture_runner.proofs.Doing.{breaks_off, does_more, lacks_step}
+use Rattle.capture_runner.proofs.Telling.{grows_by}
 use Rattle.capture_runner.proofs.replay.do_steps.Goals as goal
 
 pub loop-step-preserved : goal.loop-step-preserved
@@ -17,6 +19,7 @@ loop-step-preserved g c =
       roster = c.in_ok-step.ensures.does.roster ∙ so_far.roster;
       ready = c.in_ok-step.ensures.ready;
       does = does_more _ _ _ _ _ _ _ _ _ _ _ _ so_far.does c.in_ok-put_if_full.ensures.moved c.in_ok-step.ensures.does;
+      grows = grows_by _ _ _ _ so_far.grows c.in_ok-put_if_full.ensures.moved.wrote;
       later = omega (arith, so_far.later, c.put_if_full.ensures.cause.later);
     }
 
@@ -32,3 +35,21 @@ pub step-requires-clause-behind : goal.step-requires-clause-behind
 step-requires-clause-behind g c =
     let so_far = c.loop-step.invariant in
     subst IsBehindDeclarations (sym so_far.roster) c.requires.behind
+
+pub returns-in_err-put_if_full-clause-halts : goal.returns-in_err-put_if_full-clause-halts
+returns-in_err-put_if_full-clause-halts g c =
+    let so_far = c.loop-step.invariant in
+    let err = err_from_is_err_and c.from_residual.result c.from_residual.ensures.1 in
+    breaks_off _ _ _ _ _ _ _ _ _ _ _ _ so_far.parts so_far.does c.in_err-put_if_full.ensures.breaks (err.1 ∙ ap Err err.2)
+
+pub returns-in_err-put_if_full-clause-grows : goal.returns-in_err-put_if_full-clause-grows
+returns-in_err-put_if_full-clause-grows g c = grows_by _ _ _ _ c.loop-step.invariant.grows c.in_err-put_if_full.ensures.breaks.2
+
+pub returns-in_err-step-clause-halts : goal.returns-in_err-step-clause-halts
+returns-in_err-step-clause-halts g c =
+    let so_far = c.loop-step.invariant in
+    let err = err_from_is_err_and c.from_residual-in_err-step.result c.from_residual-in_err-step.ensures.1 in
+    lacks_step _ _ _ _ _ _ _ _ _ _ _ _ _ so_far.parts so_far.does c.in_ok-put_if_full.ensures.moved c.in_err-step.ensures.err (err.1 ∙ ap Err err.2)
+
+pub returns-in_err-step-clause-grows : goal.returns-in_err-step-clause-grows
+returns-in_err-step-clause-grows g c = grows_by _ _ _ _ c.loop-step.invariant.grows c.in_ok-put_if_full.ensures.moved.wrote

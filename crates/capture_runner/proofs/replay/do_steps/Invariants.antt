@@ -1,6 +1,6 @@
 use Rattle.std.proofs.Common.{◌≡◌, ◌≤◌, ◌++◌, true, false, string_bytes}
 use Rattle.std.specs.List.{list_all}
-use Rattle.capture_runner.specs.Halting.{DoesAll}
+use Rattle.capture_runner.specs.Halting.{DoesAll, Grows}
 use Rattle.br_model.specs.Text.LineForms.{comes_by_line}
 use Rattle.br_model.specs.Text.Roster.{chips_of}
 use Rattle.capture_runner.specs.Session.{IsReady}
@@ -13,5 +13,6 @@ invariant-loop-step g l = record {
   roster : l.session.roster ≡ l.fn.session.roster;
   ready : IsReady l.session.roster l.session.world;
   does : DoesAll l.fn.session l.yielded l.session (g.K.Sink.taken l.fn.sink) (g.K.Sink.taken l.sink) (string_bytes l.fn.output.text) (string_bytes l.output.text);
+  grows : Grows (g.K.Sink.taken l.fn.sink) (g.K.Sink.taken l.sink);
   later : g.K.Sink.faults l.fn.sink ≤ g.K.Sink.faults l.sink;
 }

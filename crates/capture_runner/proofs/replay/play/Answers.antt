@@ -1,7 +1,7 @@
-use Rattle.std.proofs.Common.{Err, ap, ◌∙◌, arith}
+use Rattle.std.proofs.Common.{Err, inr, ap, ◌∙◌, arith}
 use Rattle.std.proofs.lemmas.Result.{err_from_is_err_and}
 use Rattle.capture_runner.proofs.Ready.{behind_section, ready_at_first}
-use Rattle.capture_runner.proofs.Telling.{started, started_written, moved, grown, split_all, play_ends, play_stops, section_ends, section_halts}
+use Rattle.capture_runner.proofs.Telling.{behind_broken, end_lacks, first_lacks, first_unread, grown, moved, opened_more, opens, play_breaks, play_ends, play_stops, section_ends, section_halts, split_all, started, started_written, unread_behind}
 use Rattle.capture_runner.proofs.replay.play.Goals as goal
 
 pub loop-reader-init : goal.loop-reader-init
@@ -13,6 +13,7 @@ loop-reader-init g c =
         started_written _ _,
         started _ _ _ _ reader.held reader.taken reader.limit reader.fault session.follows session.lines (rw session.text at c.in_ok-push_str.ensures.bytes),
       );
+      behind = first_unread _ _ _ reader.held reader.taken reader.limit reader.fault;
       ready = ready_at_first c.args.session.now session.follows;
       reads = omega arith;
       writes = omega arith;
@@ -32,6 +33,7 @@ loop-reader-preserved-in-Line g c =
     let w = moved _ _ _ _ _ _ plays.1 c.in_ok-put_before_read.ensures.moved in
     let goes = rw c.in-Line.is at (c.in_ok-advance.ensures.advances _ _ w.gone (split_all _ _ _ _ w _ _ _ _ plays.2)) in record {
       plays = (_, grown _ _ _ _ _ w, goes);
+      behind = inr (opens _ _ _ _ _ _ _ _ _ _ plays.1 plays.2 c.in_ok-put_before_read.ensures.moved c.in_ok-put_before_read.ensures.all c.loop-reader.invariant.behind);
       ready = c.in_ok-advance.ensures.ready;
       reads = omega (arith, c.loop-reader.invariant.reads, c.advance.ensures.later);
       writes = omega (arith, c.loop-reader.invariant.writes, c.put_before_read.ensures.cause.later);
@@ -62,7 +64,7 @@ returns-in_err-last-in-Section-clause-plays g c =
     let w = moved _ _ _ _ _ _ plays.1 c.in_ok-put_before_read.ensures.moved in
     let at = rw c.in-Section.is at (c.in_ok-advance.ensures.advances _ _ w.gone (split_all _ _ _ _ w _ _ _ _ plays.2)) in
     let err = err_from_is_err_and c.from_residual-in_err-last-in-Section.result c.from_residual-in_err-last-in-Section.ensures.1 in
-    section_halts _ _ _ _ c.play_section.new.reader c.play_section.new.session _ c.in_err-last-in-Section.field-0.0 _ (err.1 ∙ ap Err err.2)
+    section_halts _ _ _ _ c.play_section.new.reader c.play_section.new.session _ _ c.in_err-last-in-Section.field-0.0 _ (err.1 ∙ ap Err err.2)
     (c.in_err-last-in-Section.ensures.plays _ _ _ (grown _ _ _ _ _ w) at)
 
 pub returns-in-Some-clause-plays : goal.returns-in-Some-clause-plays
@@ -79,6 +81,10 @@ loop-reader-preserved g c =
     let w = moved _ _ _ _ _ _ plays.1 c.in_ok-put_before_read.ensures.moved in
     let at = rw c.in-Section.is at (c.in_ok-advance.ensures.advances _ _ w.gone (split_all _ _ _ _ w _ _ _ _ plays.2)) in record {
       plays = rw c.in_default.is at (c.in_ok-last-in-Section.ensures.plays _ _ _ (grown _ _ _ _ _ w) at);
+      behind =
+          inr (opened_more _ _ _
+          (opens _ _ _ _ _ _ _ _ _ _ plays.1 plays.2 c.in_ok-put_before_read.ensures.moved c.in_ok-put_before_read.ensures.all c.loop-reader.invariant.behind)
+          c.play_section.ensures.grows);
       ready = c.in_ok-last-in-Section.ensures.ready;
       reads = omega (arith, c.loop-reader.invariant.reads, c.advance.ensures.later, c.play_section.ensures.later);
       writes = omega (arith, c.loop-reader.invariant.writes, c.put_before_read.ensures.cause.later, c.play_section.ensures.later_sink);
@@ -90,3 +96,75 @@ returns-in-End-clause-plays g c =
     let w = moved _ _ _ _ _ _ plays.1 c.in_ok-put_before_read.ensures.moved in
     let ended = rw c.in-End.is at (c.in_ok-advance.ensures.advances _ _ w.gone (split_all _ _ _ _ w _ _ _ _ plays.2)) in
     play_ends _ _ _ _ _ _ _ _ _ _ w _ c.in_ok-end-in-End.ensures.roster c.in_ok-end-in-End.ensures.world ended c.in_ok-end-in-End.ensures.ok
+
+pub returns-in_err-push_str-clause-plays : goal.returns-in_err-push_str-clause-plays
+returns-in_err-push_str-clause-plays g c =
+    let err = err_from_is_err_and c.from_residual.result c.from_residual.ensures.1 in
+    first_lacks _ _ _ _ _ (c.in_err-push_str.ensures.bytes ∙ c.requires.text) (err.1 ∙ ap Err err.2)
+
+pub returns-in_err-push_str-clause-behind : goal.returns-in_err-push_str-clause-behind
+returns-in_err-push_str-clause-behind g c =
+    unread_behind _ _
+
+pub returns-in_err-put_before_read-clause-plays : goal.returns-in_err-put_before_read-clause-plays
+returns-in_err-put_before_read-clause-plays g c =
+    let plays = c.loop-reader.invariant.plays in
+    let err = err_from_is_err_and c.from_residual-in_err-put_before_read.result c.from_residual-in_err-put_before_read.ensures.1 in
+    play_breaks _ _ _ _ _ _ _ _ _ _ _ _ plays.1 plays.2 c.in_err-put_before_read.ensures.breaks (err.1 ∙ ap Err err.2)
+
+pub returns-in_err-put_before_read-clause-behind : goal.returns-in_err-put_before_read-clause-behind
+returns-in_err-put_before_read-clause-behind g c =
+    behind_broken _ _ _ _ _ c.loop-reader.reader _ c.in_err-put_before_read.ensures.breaks c.loop-reader.invariant.behind
+
+pub returns-in_err-advance-clause-behind : goal.returns-in_err-advance-clause-behind
+returns-in_err-advance-clause-behind g c =
+    let plays = c.loop-reader.invariant.plays in
+    let opened = opens _ _ _ _ _ _ _ _ _ _ plays.1 plays.2 c.in_ok-put_before_read.ensures.moved c.in_ok-put_before_read.ensures.all c.loop-reader.invariant.behind in
+    inr opened
+
+pub returns-in_err-last-in-Section-clause-behind : goal.returns-in_err-last-in-Section-clause-behind
+returns-in_err-last-in-Section-clause-behind g c =
+    let plays = c.loop-reader.invariant.plays in
+    let opened = opens _ _ _ _ _ _ _ _ _ _ plays.1 plays.2 c.in_ok-put_before_read.ensures.moved c.in_ok-put_before_read.ensures.all c.loop-reader.invariant.behind in
+    inr (opened_more _ _ _ opened c.play_section.ensures.grows)
+
+pub returns-in_err-end-in-Section-clause-plays : goal.returns-in_err-end-in-Section-clause-plays
+returns-in_err-end-in-Section-clause-plays g c =
+    let plays = c.loop-reader.invariant.plays in
+    let w = moved _ _ _ _ _ _ plays.1 c.in_ok-put_before_read.ensures.moved in
+    let at = rw c.in-Section.is at (c.in_ok-advance.ensures.advances _ _ w.gone (split_all _ _ _ _ w _ _ _ _ plays.2)) in
+    let ends = rw c.in-Some.is at (c.in_ok-last-in-Section.ensures.plays _ _ _ (grown _ _ _ _ _ w) at) in
+    let err = err_from_is_err_and c.from_residual-in_err-end-in-Section.result c.from_residual-in_err-end-in-Section.ensures.1 in
+    end_lacks _ _ _ _ _ _ _ _ _ _ _ ends.1 ends.2 c.in_err-end-in-Section.ensures.err (err.1 ∙ ap Err err.2)
+
+pub returns-in_err-end-in-Section-clause-behind : goal.returns-in_err-end-in-Section-clause-behind
+returns-in_err-end-in-Section-clause-behind g c =
+    let plays = c.loop-reader.invariant.plays in
+    let opened = opens _ _ _ _ _ _ _ _ _ _ plays.1 plays.2 c.in_ok-put_before_read.ensures.moved c.in_ok-put_before_read.ensures.all c.loop-reader.invariant.behind in
+    inr (opened_more _ _ _ opened c.play_section.ensures.grows)
+
+pub returns-in-Some-clause-behind : goal.returns-in-Some-clause-behind
+returns-in-Some-clause-behind g c =
+    let plays = c.loop-reader.invariant.plays in
+    let opened = opens _ _ _ _ _ _ _ _ _ _ plays.1 plays.2 c.in_ok-put_before_read.ensures.moved c.in_ok-put_before_read.ensures.all c.loop-reader.invariant.behind in
+    inr (opened_more _ _ _ opened c.play_section.ensures.grows)
+
+pub returns-in_err-end-in-End-clause-plays : goal.returns-in_err-end-in-End-clause-plays
+returns-in_err-end-in-End-clause-plays g c =
+    let plays = c.loop-reader.invariant.plays in
+    let w = moved _ _ _ _ _ _ plays.1 c.in_ok-put_before_read.ensures.moved in
+    let ended = rw c.in-End.is at (c.in_ok-advance.ensures.advances _ _ w.gone (split_all _ _ _ _ w _ _ _ _ plays.2)) in
+    let err = err_from_is_err_and c.from_residual-in_err-end-in-End.result c.from_residual-in_err-end-in-End.ensures.1 in
+    end_lacks _ _ _ _ _ _ _ _ _ _ _ (grown _ _ _ _ _ w) ended c.in_err-end-in-End.ensures.err (err.1 ∙ ap Err err.2)
+
+pub returns-in_err-end-in-End-clause-behind : goal.returns-in_err-end-in-End-clause-behind
+returns-in_err-end-in-End-clause-behind g c =
+    let plays = c.loop-reader.invariant.plays in
+    let opened = opens _ _ _ _ _ _ _ _ _ _ plays.1 plays.2 c.in_ok-put_before_read.ensures.moved c.in_ok-put_before_read.ensures.all c.loop-reader.invariant.behind in
+    inr opened
+
+pub returns-in-End-clause-behind : goal.returns-in-End-clause-behind
+returns-in-End-clause-behind g c =
+    let plays = c.loop-reader.invariant.plays in
+    let opened = opens _ _ _ _ _ _ _ _ _ _ plays.1 plays.2 c.in_ok-put_before_read.ensures.moved c.in_ok-put_before_read.ensures.all c.loop-reader.invariant.behind in
+    inr opened

@@ -4,12 +4,14 @@ use Rattle.br_model.specs.Table.Limits.{most_bytes}
 use Rattle.capture_runner.specs.Halting.{Written}
 use Rattle.capture_runner.specs.Playing.{Playing}
 use Rattle.capture_runner.specs.Session.{IsReady}
+use Rattle.capture_runner.proofs.Telling.{StandsBehind}
 use Rattle.capture_runner.proofs.replay.play.Given as goal
 
 abbrev pub invariant-loop-reader : goal.invariant-loop-reader
 invariant-loop-reader g l = record {
   plays : (all : List ℕ) × Written (g.K.Sink.taken l.fn.sink) (g.K.Sink.taken l.sink) (string_bytes l.output.text) all
       × Playing (g.S.Source.left l.fn.source) most_bytes l.reader (g.S.Source.left l.source) l.session all;
+  behind : StandsBehind l.reader (g.S.Source.left l.fn.source) (g.S.Source.left l.source) (g.K.Sink.taken l.fn.sink) (g.K.Sink.taken l.sink);
   ready : IsReady l.session.roster l.session.world;
   reads : g.S.Source.faults l.fn.source ≤ g.S.Source.faults l.source;
   writes : g.K.Sink.faults l.fn.sink ≤ g.K.Sink.faults l.sink;
