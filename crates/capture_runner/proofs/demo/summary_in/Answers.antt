@@ -1,11 +1,11 @@
 use Rattle.std.proofs.Common.{◌≡◌, ◌++◌, [], IfOk, List, ℕ, String, string_bytes, refl, ap, ◌∙◌, subst}
 use Rattle.std.specs.declared.alloc.Global.{Global}
 use Rattle.br_model.specs.declared.steps.Step.{Step}
-use Rattle.br_model.specs.Table.Domains.{Domains, chip_domains}
+use Rattle.br_model.specs.Table.Domains.{chip_domains}
 use Rattle.br_model.specs.Program.Generator.{made_scenario}
-use Rattle.br_model.specs.Plane.World.{World, first_world}
+use Rattle.br_model.specs.Plane.World.{World}
 use Rattle.br_model.specs.Program.Runs.{setup_of}
-use Rattle.br_model.specs.Table.Setup.{Setup, first_own}
+use Rattle.br_model.specs.Table.Setup.{Setup}
 use Rattle.br_model.proofs.PlaneApplied.{run-setup}
 use Rattle.capture_runner.proofs.Counting.{ran_none, summary_is}
 use Rattle.capture_runner.proofs.demo.summary_in.Goals as goal
