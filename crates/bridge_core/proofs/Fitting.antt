@@ -1,6 +1,7 @@
 -- Changes that all fit are all made.
-use Rattle.std.proofs.Common.{◌≡◌, Bool, true, false, cond, ◌&&◌, List, [], ◌∷◌, ◌++◌, map, refl, sym, ap, ◌∙◌, append_assoc}
+use Rattle.std.proofs.Common.{◌≡◌, ◌+◌, ◌≤◌, Bool, true, false, cond, ◌&&◌, List, [], ◌∷◌, ◌++◌, map, length, refl, sym, ap, ◌∙◌, arith, append_assoc, length-append}
 use Rattle.std.proofs.lemmas.List.{append-nil}
+use Rattle.std.proofs.lemmas.List.Sums.{fold-append}
 use Rattle.std.specs.Prelude.{nat_le}
 use Rattle.std.specs.List.{fold, list_all}
 use Rattle.std.specs.Cmp.{first_so, second_so}
@@ -10,8 +11,8 @@ use Rattle.br_model.specs.declared.change.Change.{Change}
 use Rattle.br_model.specs.Control.Control.{keeps_up}
 use Rattle.br_model.specs.Control.Course.{Course, makes, makes_all}
 use Rattle.br_model.specs.Table.Change.{asks}
-use Rattle.br_model.specs.Table.Limits.{grants, fits, all_fit}
-use Rattle.br_model.specs.Table.Table.{Table, apply}
+use Rattle.br_model.specs.Table.Limits.{grants, fits, all_fit, most_changes}
+use Rattle.br_model.specs.Table.Table.{Table, table, start, apply}
 
 both : (a b : Bool) → a ≡ true → b ≡ true → (a && b) ≡ true
 both a b p q = λ i. p i && q i
@@ -43,6 +44,15 @@ fit_behind t [] ds h k = k
 fit_behind t (c ∷ cs) ds h k =
     both (fits t c) (all_fit (apply t c) (cs ++ ds)) (first_so (fits t c) (all_fit (apply t c) cs) h)
     (fit_behind (apply t c) cs ds (second_so (fits t c) (all_fit (apply t c) cs) h) k)
+
+-- a history with changes behind it that fit is one, and its table is theirs behind that of the history
+pub grown : (before added after : List Change) (t : Table) → after ≡ before ++ added → t ≡ fold apply (table before) added → length before + length added ≤ most_changes
+    → all_fit start before ≡ true → all_fit (table before) added ≡ true → (t ≡ table after) × (length after ≤ most_changes) × (all_fit start after ≡ true)
+grown before added after t is comes few fits fit = (
+  comes ∙ sym (ap table is ∙ fold-append apply start before added),
+  omega (arith, few, ap (λ (l : List Change). length l) is, length-append before added),
+  ap (all_fit start) is ∙ fit_behind start before added fits fit,
+)
 
 -- what every table grants
 abbrev pub always : Asks → Bool

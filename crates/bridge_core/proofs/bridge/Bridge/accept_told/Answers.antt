@@ -1,128 +1,112 @@
-use Rattle.std.proofs.Common.{ℕ, ◌≡◌, ◌+◌, ◌<◌, ◌≤◌, ◌^◌, true, List, ◌++◌, fold, length, map, refl, sym, ap, subst, ◌∙◌, arith, append_assoc, length-append}
+use Rattle.std.proofs.Common.{ℕ, ◌≡◌, ◌+◌, ◌<◌, ◌≤◌, ◌^◌, true, List, ◌++◌, fold, length, map, refl, sym, ap, subst, ◌∙◌, arith}
 use Rattle.std.specs.declared.result.Result.TheVariants.{Ok}
 use Rattle.std.proofs.lemmas.Bool.{le-leb}
-use Rattle.std.proofs.lemmas.List.Sums.{fold-append}
 use Rattle.br_model.specs.declared.change.Change.{Change}
-use Rattle.br_model.specs.declared.transcript.Line.{Line}
 use Rattle.br_model.specs.Control.Control.{Control, keeps_up}
-use Rattle.br_model.specs.Control.Ends.{Ends}
 use Rattle.br_model.specs.Plane.World.{control_lines}
 use Rattle.br_model.specs.Table.Limits.{all_fit, most_changes}
-use Rattle.br_model.specs.Table.Table.{Table, table, start, apply}
-use Rattle.br_model.specs.Theorems.EndsTied.{IsTied}
+use Rattle.br_model.specs.Table.Table.{table, apply}
 use Rattle.br_model.specs.Theorems.TreeLaws.{knows_states}
 use Rattle.br_model.specs.Tree.Sending.{Acted}
-use Rattle.br_model.specs.Tree.Step.{tree_step, moved, sent}
-use Rattle.br_model.specs.Tree.Tree.{Tree}
-use Rattle.stp_core.specs.declared.tree.TreeOut.{TreeOut}
-use Rattle.bridge_core.specs.Following.{state_change}
+use Rattle.br_model.specs.Tree.Step.{tree_step, sent}
+use Rattle.stp_core.specs.Settling.{out_of}
+use Rattle.bridge_core.specs.declared.plan.Plan.{Plan}
+use Rattle.bridge_core.specs.Following.{acted_by, state_change}
 use Rattle.bridge_core.specs.Kept.{Controlled}
 use Rattle.bridge_core.specs.Plans.{prepared, renewed_at}
 use Rattle.bridge_core.specs.Standing.{clocked, control_of, table_of}
 use Rattle.bridge_core.proofs.Accepting.{all_changes, all_changes_fit, told_reacts}
-use Rattle.bridge_core.proofs.Fitting.{fit_behind}
+use Rattle.bridge_core.proofs.Fitting.{grown}
 use Rattle.bridge_core.proofs.Following.{all_beside, renewed_beside, with_tree}
-use Rattle.bridge_core.proofs.Reactions.{same_clock, renewed_clock, renewed_ends}
+use Rattle.bridge_core.proofs.Reactions.{same_clock, renewed_clock}
+use Rattle.bridge_core.proofs.bridge.Bridge.accept_told.Goals.{After-deref}
 use Rattle.bridge_core.proofs.bridge.Bridge.accept_told.Goals as goal
 
+-- Once the tree has acted, and the state is prepared.
+
+module _ (c : After-deref) where
+  abbrev old : Controlled
+  old = c.args.self.now
+
+  abbrev p : Plan
+  p = c.args.plan
+
+  abbrev acted : Acted
+  acted = tree_step old.control.tree p.clock.now c.args.event.now
+
+  abbrev whole : List Change
+  whole = all_changes (table old.history) old.control p c.requires.sound c.args.event.now
+
+  history_is : c.self.inside.history.items ≡ old.history
+  history_is = ap (λ (b : Controlled). b.history) c.self.view_is
+
+  out_is : c.act-out.result ≡ out_of old.control.tree acted
+  out_is = c.act-out.ensures.out ∙ ap (λ (b : Controlled). out_of b.control.tree (tree_step b.control.tree p.clock.now c.args.event.now)) c.self.view_is
+
+  tree_is : c.act-out.new.self ≡ acted.tree
+  tree_is = c.act-out.ensures.tree ∙ ap (λ (b : Controlled). (tree_step b.control.tree p.clock.now c.args.event.now).tree) c.self.view_is
+
+  -- what is made: the plan's changes, and those of the tree's states
+  made : c.add_states.new.changes.items ≡ whole
+  made = c.add_states.ensures.states ∙ (λ i. c.in_ok-reserve.ensures.items i ++ map (state_change (tree_is i)) (out_is i).moved)
+
+  followed : c.deref.result.now ≡ whole
+  followed = c.deref.ensures.value ∙ made
+
+  known : knows_states acted.tree ≡ true
+  known = ap knows_states (sym tree_is) ∙ c.act-out.ensures.known
+
+  fit : all_fit (table old.history) whole ≡ true
+  fit = all_changes_fit (table old.history) old.control p c.requires.sound c.args.event.now known
+
+  few : length old.history + length whole ≤ most_changes
+  few = omega (
+    arith,
+    c.add_states.ensures.few,
+    ap (λ (l : List Change). length l) made,
+    ap (λ (l : List Change). length l) c.in_ok-reserve.ensures.items,
+    c.if-most-len.false,
+    c.len-most.ensures,
+    c.len.ensures,
+    ap (λ (l : List Change). length l) history_is,
+    c.self.invariant.1,
+    p.changes.ok.0,
+    c.self.inside.history.ok.0,
+  )
+
 pub follow-requires-clause-fits : goal.follow-requires-clause-fits
-follow-requires-clause-fits c =
-    let old = c.args.self.now in
-    let p = c.args.plan in
-    let view = c.self.view_is in
-    let begin = ap (λ (b : Controlled). b.control.tree) view in
-    let history = ap (λ (b : Controlled). b.history) view in
-    let at = c.self.invariant.0 ∙ ap table history in
-    let acts = tree_step old.control.tree p.clock.now c.args.event.now in
-    let tree = c.act-out.ensures.tree ∙ (λ i. (tree_step (begin i) p.clock.now c.args.event.now).tree) in
-    let goes = ap (λ (o : TreeOut). o.moved) c.act-out.ensures.out ∙ (λ i. moved (begin i) (tree_step (begin i) p.clock.now c.args.event.now).tree) in
-    let known = ap knows_states (sym tree) ∙ c.act-out.ensures.known in
-    let whole = all_changes (table old.history) old.control p c.requires.sound c.args.event.now in
-    let made : c.add_states.new.changes.items ≡ whole = c.add_states.ensures.states ∙ (λ i. c.in_ok-reserve.ensures.items i ++ map (state_change (tree i)) (goes i)) in
-    let tables : table_of c.prepare.new.self ≡ table old.history = c.prepare.ensures.table ∙ at in
-    (λ i. all_fit (tables i) ((c.deref.ensures.value ∙ made) i)) ∙ all_changes_fit (table old.history) old.control p c.requires.sound c.args.event.now known
+follow-requires-clause-fits c = (λ i. all_fit ((c.prepare.ensures.table ∙ c.self.invariant.0 ∙ ap table (history_is c)) i) (followed c i)) ∙ fit c
 
 pub invariant_of-self-2 : goal.invariant_of-self-2
 invariant_of-self-2 c =
-    let old = c.args.self.now in
-    let p = c.args.plan in
-    let view = c.self.view_is in
-    let begin = ap (λ (b : Controlled). b.control.tree) view in
-    let history = ap (λ (b : Controlled). b.history) view in
-    let at = c.self.invariant.0 ∙ ap table history in
-    let acts = tree_step old.control.tree p.clock.now c.args.event.now in
-    let tree = c.act-out.ensures.tree ∙ (λ i. (tree_step (begin i) p.clock.now c.args.event.now).tree) in
-    let goes = ap (λ (o : TreeOut). o.moved) c.act-out.ensures.out ∙ (λ i. moved (begin i) (tree_step (begin i) p.clock.now c.args.event.now).tree) in
-    let known = ap knows_states (sym tree) ∙ c.act-out.ensures.known in
-    let whole = all_changes (table old.history) old.control p c.requires.sound c.args.event.now in
-    let made : c.add_states.new.changes.items ≡ whole = c.add_states.ensures.states ∙ (λ i. c.in_ok-reserve.ensures.items i ++ map (state_change (tree i)) (goes i)) in
-    let tables : table_of c.prepare.new.self ≡ table old.history = c.prepare.ensures.table ∙ at in
-    let fit = all_changes_fit (table old.history) old.control p c.requires.sound c.args.event.now known in
-    let few : length old.history + length whole ≤ most_changes = omega (
-      arith,
-      c.add_states.ensures.few,
-      ap (λ (l : List Change). length l) made,
-      ap (λ (l : List Change). length l) c.in_ok-reserve.ensures.items,
-      c.if-most-len.false,
-      c.len-most.ensures,
-      c.len.ensures,
-      ap (λ (l : List Change). length l) history,
-      c.self.invariant.1,
-      p.changes.ok.0,
-      c.self.inside.history.ok.0,
-    )
-    in
+    let d = (goal.at.invariant_of-self-2 c).After-deref in
     let before = c.self.inside.history.items in
-    let grown : c.append.new.history.items ≡ before ++ whole = c.append.ensures ∙ (λ i. c.in_ok-reserve-2.ensures.items i ++ (c.deref-2.ensures.value ∙ made) i) in (
-      c.follow.ensures.table ∙ (λ i. fold apply ((c.prepare.ensures.table ∙ c.self.invariant.0) i) ((c.deref.ensures.value ∙ made) i)) ∙ sym (ap table grown ∙ fold-append apply start before whole),
-      omega (arith, few, ap (λ (l : List Change). length l) history, ap (λ (l : List Change). length l) grown, length-append before whole),
-      ap (all_fit start) grown ∙ fit_behind start before whole c.self.invariant.2 (ap (λ (l : List Change). all_fit (table l) whole) history ∙ fit),
-      subst (λ (n : ℕ). n < 2 ^ 53) (sym (ap (λ (x : Control). x.now) c.follow.ensures.control ∙ same_clock _ c.deref.result.now ∙ ap (λ (x : Control). x.now) c.prepare.ensures.control ∙ renewed_clock _ p.renewed)) c.requires.sound.early,
-      c.follow.ensures.tied,
-    )
+    let g = grown before (whole d) c.append.new.history.items (table_of c.follow.new.self)
+    (c.append.ensures ∙ (λ i. c.in_ok-reserve-2.ensures.items i ++ (c.deref-2.ensures.value ∙ made d) i))
+    (c.follow.ensures.table ∙ (λ i. fold apply ((c.prepare.ensures.table ∙ c.self.invariant.0) i) (followed d i)))
+    (subst (λ (h : List Change). length h + length (whole d) ≤ most_changes) (sym (history_is d)) (few d))
+    c.self.invariant.2 (ap (λ (h : List Change). all_fit (table h) (whole d)) (history_is d) ∙ fit d)
+    in
+    let now = ap (λ (x : Control). x.now) c.follow.ensures.control ∙ same_clock _ c.deref.result.now ∙ ap (λ (x : Control). x.now) c.prepare.ensures.control ∙ renewed_clock _ c.args.plan.renewed in
+    (g.0, g.1, g.2, subst (λ (n : ℕ). n < 2 ^ 53) (sym now) c.requires.sound.early, c.follow.ensures.tied)
 
 pub returns-clause-carries_out : goal.returns-clause-carries_out
 returns-clause-carries_out c =
+    let d = (goal.at.returns-clause-carries_out c).After-deref in
     let old = c.args.self.now in
     let p = c.args.plan in
     let view = c.self.view_is in
-    let begin = ap (λ (b : Controlled). b.control.tree) view in
-    let history = ap (λ (b : Controlled). b.history) view in
-    let at = c.self.invariant.0 ∙ ap table history in
-    let acts = tree_step old.control.tree p.clock.now c.args.event.now in
-    let tree = c.act-out.ensures.tree ∙ (λ i. (tree_step (begin i) p.clock.now c.args.event.now).tree) in
-    let goes = ap (λ (o : TreeOut). o.moved) c.act-out.ensures.out ∙ (λ i. moved (begin i) (tree_step (begin i) p.clock.now c.args.event.now).tree) in
-    let known = ap knows_states (sym tree) ∙ c.act-out.ensures.known in
-    let whole = all_changes (table old.history) old.control p c.requires.sound c.args.event.now in
-    let made : c.add_states.new.changes.items ≡ whole = c.add_states.ensures.states ∙ (λ i. c.in_ok-reserve.ensures.items i ++ map (state_change (tree i)) (goes i)) in
-    let tables : table_of c.prepare.new.self ≡ table old.history = c.prepare.ensures.table ∙ at in
-    let config = ap (λ (o : TreeOut). o.config) c.act-out.ensures.out ∙ (λ i. (tree_step (begin i) p.clock.now c.args.event.now).config) in
-    let tcn = ap (λ (o : TreeOut). o.tcn) c.act-out.ensures.out ∙ (λ i. (tree_step (begin i) p.clock.now c.args.event.now).tcn) in
     let own = ap (λ (b : Controlled). b.setup.own) view in
-    let lines = c.add_frames.ensures.lines ∙ (λ i. c.in_ok-reserve_frames.ensures.lines i ++ control_lines (own i) (sent (record { tree = tree i; config = config i; tcn = tcn i }))) in
-    let few : length old.history + length whole ≤ most_changes = omega (
-      arith,
-      c.add_states.ensures.few,
-      ap (λ (l : List Change). length l) made,
-      ap (λ (l : List Change). length l) c.in_ok-reserve.ensures.items,
-      c.if-most-len.false,
-      c.len-most.ensures,
-      c.len.ensures,
-      ap (λ (l : List Change). length l) history,
-      c.self.invariant.1,
-      p.changes.ok.0,
-      c.self.inside.history.ok.0,
-    )
-    in
-    let mid : Controlled = record old { history = old.history ++ whole; control = fold keeps_up (prepared old.control p) whole } in
-    let grown : c.append.new.history.items ≡ old.history ++ whole = c.append.ensures ∙ (λ i. (c.in_ok-reserve-2.ensures.items ∙ history) i ++ (c.deref-2.ensures.value ∙ made) i) in
-    let control : control_of c.follow.new.self ≡ with_tree acts.tree (fold keeps_up (prepared old.control p) whole) =
+    let lines = c.add_frames.ensures.lines ∙ (λ i. c.in_ok-reserve_frames.ensures.lines i ++ control_lines (own i) (sent (acted_by (tree_is d i) (out_is d i)))) in
+    let mid : Controlled = record old { history = old.history ++ whole d; control = fold keeps_up (prepared old.control p) (whole d) } in
+    let grows : c.append.new.history.items ≡ mid.history = c.append.ensures ∙ (λ i. (c.in_ok-reserve-2.ensures.items ∙ history_is d) i ++ (c.deref-2.ensures.value ∙ made d) i) in
+    let control : control_of c.follow.new.self ≡ with_tree (acted d).tree mid.control =
     c.follow.ensures.control
-    ∙ (λ i. fold keeps_up ((c.prepare.ensures.control ∙ (λ j. renewed_at (clocked p.clock (with_tree (tree j) (ap (λ (b : Controlled). b.control) view j))) p.renewed)) i) ((c.deref.ensures.value ∙ made) i))
-    ∙ ap (λ (x : Control). fold keeps_up x whole) (renewed_beside acts.tree (clocked p.clock old.control) p.renewed)
-    ∙ all_beside acts.tree (prepared old.control p) whole
+    ∙ (λ i. fold keeps_up ((c.prepare.ensures.control ∙ (λ j. renewed_at (clocked p.clock (with_tree (tree_is d j) (ap (λ (b : Controlled). b.control) view j))) p.renewed)) i) (followed d i))
+    ∙ ap (λ (x : Control). fold keeps_up x (whole d)) (renewed_beside (acted d).tree (clocked p.clock old.control) p.renewed)
+    ∙ all_beside (acted d).tree (prepared old.control p) (whole d)
     in
-    told_reacts old p c.requires.sound _ _ c.args.event.now c.requires.told known mid _ (Ok tt) refl
-    (le-leb _ _ few, refl)
-    (λ i. record { setup = ap (λ (b : Controlled). b.setup) view i; history = grown i; control = control i })
+    told_reacts old p c.requires.sound _ _ c.args.event.now c.requires.told (known d) mid _ (Ok tt) refl
+    (le-leb _ _ (few d), refl)
+    (λ i. record { setup = ap (λ (b : Controlled). b.setup) view i; history = grows i; control = control i })
     lines

@@ -1,19 +1,18 @@
-use Rattle.std.proofs.Common.{◌≡◌, ◌<◌, ◌^◌, ℕ, true, subst, List, ◌++◌, length, sym, ap, ◌∙◌, arith, length-append}
+use Rattle.std.proofs.Common.{◌≡◌, ◌<◌, ◌^◌, ℕ, true, subst, List, ◌++◌, length, sym, ap, ◌∙◌, arith}
 use Rattle.std.specs.Prelude.{IfSome, IsSome}
 use Rattle.std.specs.List.{fold}
 use Rattle.std.proofs.lemmas.Bool.{le-leb}
-use Rattle.std.proofs.lemmas.List.Sums.{fold-append}
 use Rattle.br_model.specs.declared.change.Change.{Change}
 use Rattle.br_model.specs.Control.Control.{Control, keeps_up}
 use Rattle.br_model.specs.Table.Limits.{all_fit}
-use Rattle.br_model.specs.Table.Table.{Table, table, start, apply}
+use Rattle.br_model.specs.Table.Table.{Table, table, apply}
 use Rattle.bridge_core.specs.Kept.{Controlled}
 use Rattle.br_model.specs.Data.Maps.{pair_cmp, get}
 use Rattle.bridge_core.specs.Plans.{renewed_at}
 use Rattle.br_model.specs.Control.Ends.{Ends}
 use Rattle.br_model.specs.Theorems.EndsTied.{IsTied}
 use Rattle.bridge_core.specs.Standing.{clocked, table_of}
-use Rattle.bridge_core.proofs.Fitting.{fit_behind}
+use Rattle.bridge_core.proofs.Fitting.{grown}
 use Rattle.bridge_core.proofs.Reactions.{same_clock, renewed_clock, renewed_ends}
 use Rattle.bridge_core.proofs.bridge.Bridge.make_changes.Goals as goal
 
@@ -57,11 +56,8 @@ invariant_of-self-2 c =
     let old = c.self.inside.history.items in
     let new = c.args.changes.now in
     let grows = c.in_ok-extend_from_slice.ensures.items in
-    let h = ap (λ (b : Controlled). b.history) c.self.view_is in
-    let fit : all_fit (table old) new ≡ true = ap (λ (l : List Change). all_fit (table l) new) h ∙ c.requires.fits in (
-      c.follow.ensures.table ∙ ap (λ (t : Table). fold apply t new) (c.prepare.ensures.table ∙ kept.0) ∙ sym (ap table grows ∙ fold-append apply start old new),
-      omega (arith, c.if-changes-len.false, kept.1, c.len.ensures, ap length grows, length-append old new),
-      ap (all_fit start) grows ∙ fit_behind start old new kept.2 fit,
-      subst (λ (n : ℕ). n < 2 ^ 53) (sym (ap (λ (x : Control). x.now) c.follow.ensures.control ∙ same_clock _ new ∙ ap (λ (x : Control). x.now) c.prepare.ensures.control ∙ renewed_clock _ c.args.renewed)) c.requires.early,
-      c.follow.ensures.tied,
-    )
+    let fit : all_fit (table old) new ≡ true = ap (λ (b : Controlled). all_fit (table b.history) new) c.self.view_is ∙ c.requires.fits in
+    let table_is = c.follow.ensures.table ∙ ap (λ (t : Table). fold apply t new) (c.prepare.ensures.table ∙ kept.0) in
+    let g = grown old new _ (table_of c.follow.new.self) grows table_is (omega (arith, c.if-changes-len.false, kept.1, c.len.ensures)) kept.2 fit in
+    let now = ap (λ (x : Control). x.now) c.follow.ensures.control ∙ same_clock _ new ∙ ap (λ (x : Control). x.now) c.prepare.ensures.control ∙ renewed_clock _ c.args.renewed in
+    (g.0, g.1, g.2, subst (λ (n : ℕ). n < 2 ^ 53) (sym now) c.requires.early, c.follow.ensures.tied)
