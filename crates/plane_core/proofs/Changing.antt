@@ -11,6 +11,9 @@ use Rattle.std.specs.declared.result.Result.TheVariants.{Ok, Err}
 use Rattle.std.specs.List.{list_any}
 use Rattle.std.specs.Option.{option_eq}
 use Rattle.br_model.specs.declared.change.Update.{Update}
+use Rattle.br_model.specs.declared.steps.Refusal.{Refusal}
+use Rattle.br_model.specs.declared.transcript.Line.{Line}
+use Rattle.br_model.specs.Control.Reaction.{Reaction}
 use Rattle.br_model.specs.Plane.Chip.{Chip, applies, chip_in, chip_table, put_chip}
 use Rattle.br_model.specs.Table.Change.{updates}
 use Rattle.br_model.specs.Table.Cut.{cut, deferred_count}
@@ -27,7 +30,7 @@ use Rattle.chip_tables.specs.Stands.{Stands}
 use Rattle.bridge_core.specs.Kept.{Controlled}
 use Rattle.table_publish.specs.Board.{Shelf}
 use Rattle.plane_core.specs.Chips.{ChipState, IsChip, IsPlace, chips_of, state_in}
-use Rattle.plane_core.specs.Sides.{AreSides, SidesState}
+use Rattle.plane_core.specs.Sides.{AreSides, Reacted, SidesState}
 use Rattle.plane_core.specs.Places.{places}
 use Rattle.plane_core.proofs.Placing.{count}
 use Rattle.plane_core.proofs.ChipLists.{apart, apart-chips, chip-found, not-software, put-place, some-found}
@@ -149,6 +152,27 @@ module _ (b : Controlled) (states : List ChipState) (noted : List ℕ) (board : 
       let there : state_in states dom ≡ Some old = at.1 ∙ sym at.2 ∙ here in
       let same = same_chip s.chips dom x old.chip found (found_at states s.chips dom old (ap (λ (t : SidesState). t.chips) was) there) in
       ap (seen b board) (put_here own ∙ ap (put_chip (chips_of states)) (is ∙ ap f (sym same))) ∙ ap (λ (t : SidesState). record t { chips = put_chip t.chips (f x) }) was
+
+  -- one of which only what it reports is another
+  module _ (f : Chip → Chip) (keeps : (x : Chip) → ((f x).dom ≡ x.dom) × ((f x).count ≡ x.count)) (is : new ≡ record old { chip = f old.chip }) where
+    same_dom : new.chip.dom ≡ old.chip.dom
+    same_dom = ap (λ (s : ChipState). s.chip.dom) is ∙ (keeps old.chip).0
+
+    pub sides_told : AreSides b (set states place new) noted board
+    sides_told = sides_with same_dom (kept_chip b.setup.domains b.history old new chip_here (ap (λ (s : ChipState). s.driver) is) same_dom (ap (λ (s : ChipState). s.chip.count) is ∙ (keeps old.chip).1))
+
+    -- and so it is for contracts, behind a reaction
+    pub reacted_told : (s mid : SidesState) (dom : ℕ) (x : Chip) (before after : List Line) (changes : ℕ) (answer : Result Reaction Refusal) → Reacted s mid s.chips before after (Ok changes) answer
+        → seen b board (chips_of states) ≡ mid → IsPlace states dom (Some place) → chip_in s.chips dom ≡ Some x
+        → Reacted s (seen b board (chips_of (set states place new))) (put_chip s.chips (f x)) before after (Ok changes) answer
+    reacted_told s mid dom x before after changes answer did was at found = (
+      did.0,
+      did.1,
+      did.2,
+      changed mid dom x f was at (ap (λ (t : SidesState). chip_in t.chips dom) did.3 ∙ found) same_dom (ap (λ (t : ChipState). t.chip) is)
+          ∙ ap (λ (t : SidesState). record t { chips = put_chip t.chips (f x) }) did.3,
+      did.4,
+    )
 
   -- or none
   pub unchanged : (s : SidesState) → seen b board (chips_of states) ≡ s → new ≡ old → seen b board (chips_of (set states place new)) ≡ s

@@ -1,10 +1,9 @@
-use Rattle.std.proofs.Common.{drop, ap, ◌∙◌}
+use Rattle.std.proofs.Common.{drop, refl, ap, ◌∙◌}
 use Rattle.std.specs.Prelude.{is_some}
 use Rattle.std.proofs.lemmas.Option.{slice_get_within}
-use Rattle.br_model.specs.Plane.Chip.{Chip, chip_in, put_chip}
-use Rattle.plane_core.specs.Chips.{ChipState}
+use Rattle.br_model.specs.Plane.Chip.{Chip, chip_in}
 use Rattle.plane_core.specs.Sides.{SidesState}
-use Rattle.plane_core.proofs.Changing.{changed, chip_here, kept_chip, sides_with, there_at}
+use Rattle.plane_core.proofs.Changing.{reacted_told, sides_told, there_at}
 use Rattle.plane_core.proofs.sides.Sides.react_to_report.Goals as goal
 
 pub place-place-requires : goal.place-place-requires
@@ -15,27 +14,16 @@ place-place-requires c =
 pub at_mut-requires : goal.at_mut-requires
 at_mut-requires c = slice_get_within c.self.inside.chips c.place-place.result c.place-place.ensures.0 c.place-place.ensures.2
 
+-- what is left of the chip
+abbrev left : Chip → Chip
+left x = record x { reports = drop 1 x.reports }
+
 pub invariant_of-self : goal.invariant_of-self
 invariant_of-self c =
-    let b = c.self.inside.bridge in
-    let old = c.at_mut.result.now in
-    let new = c.drop_report.new.self in
-    let is = c.drop_report.ensures in
-    let was = chip_here b c.self.inside.chips c.self.inside.updates c.self.inside.board c.self.invariant c.place-place.result old new c.at_mut.ensures.value in
-    let dom = ap (λ (s : ChipState). s.chip.dom) is in
-    sides_with b c.self.inside.chips c.self.inside.updates c.self.inside.board c.self.invariant c.place-place.result old new c.at_mut.ensures.value dom
-    (kept_chip b.setup.domains b.history old new was (ap (λ (s : ChipState). s.driver) is) dom (ap (λ (s : ChipState). s.chip.count) is))
+    sides_told c.self.inside.bridge c.self.inside.chips c.self.inside.updates c.self.inside.board c.self.invariant c.place-place.result c.at_mut.result.now c.drop_report.new.self c.at_mut.ensures.value
+    left (λ x. (refl, refl)) c.drop_report.ensures
 
 pub returns-clause-reacted : goal.returns-clause-reacted
 returns-clause-reacted c x at =
-    let did = c.in_ok-changes.ensures.reacted in
-    let f = λ (x : Chip). record x { reports = drop 1 x.reports } in
-    let is = c.drop_report.ensures in (
-      did.0,
-      did.1,
-      did.2,
-      changed c.self.inside.bridge c.self.inside.chips c.self.inside.updates c.self.inside.board c.self.invariant c.place-place.result c.at_mut.result.now c.drop_report.new.self c.at_mut.ensures.value
-          c.react.new.self c.args.d x f c.self.view_is c.place-place.ensures (ap (λ (s : SidesState). chip_in s.chips c.args.d) did.3 ∙ at) (ap (λ (s : ChipState). s.chip.dom) is) (ap (λ (s : ChipState). s.chip) is)
-          ∙ ap (λ (s : SidesState). record s { chips = put_chip s.chips (f x) }) did.3,
-      did.4,
-    )
+    reacted_told c.self.inside.bridge c.self.inside.chips c.self.inside.updates c.self.inside.board c.self.invariant c.place-place.result c.at_mut.result.now c.drop_report.new.self c.at_mut.ensures.value
+    left (λ y. (refl, refl)) c.drop_report.ensures c.args.self.now c.react.new.self c.args.d x _ _ _ _ c.in_ok-changes.ensures.reacted c.self.view_is c.place-place.ensures at
