@@ -1,4 +1,6 @@
 pub mod Cuts
 pub mod Rows
 pub mod Readings
+pub mod Mapped
+pub mod LastUpdates
 pub mod Told

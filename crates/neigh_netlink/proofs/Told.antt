@@ -1,307 +1,415 @@
--- The messages of a run come to the address entries of its table.
-use Rattle.std.proofs.Common.{◌≡◌, ℕ, zero, suc, ◌+◌, Bool, true, false, T, not, cond, ◌&&◌, Some, None, Option, List, [], ◌∷◌, ◌++◌, length, drop, slice_get, refl, sym, ap, subst, ◌∙◌, append_assoc, append-nil, arith}
-use Rattle.std.specs.Prelude.{if◌then◌else◌}
-use Rattle.std.specs.List.{fold, list_all}
-use Rattle.std.specs.Cmp.{first_so, second_so, tied_itself}
-use Rattle.std.specs.Ordering.{is_eq, eq_by_cmp, ordering_reverse}
-use Rattle.std.specs.declared.cmp.Ordering.{Ordering}
-use Rattle.std.specs.declared.cmp.Ordering.TheVariants.{Less, Equal, Greater}
-use Rattle.std.specs.FinMap.Entries.{by_order, is_sorted, is_sorted-put, is_sorted-where_key, find-put, find-where_key, same_entries}
+-- The messages of a run come to the address entries of its table, each with whether a chip has it.
+use Rattle.std.proofs.Common.{◌≡◌, ℕ, ◌+◌, ◌<◌, ◌≤◌, Bool, true, false, T, not, cond, ◌&&◌, Some, None, Option, List, [], ◌∷◌, ◌++◌, length, drop, take, refl, sym, ap, subst, ◌∙◌, append_assoc, append-nil, ⊎_elim, arith}
+use Rattle.std.specs.Prelude.{if◌then◌else◌, nat_lt, ◌==◌}
+use Rattle.std.specs.List.{fold, list_any}
+use Rattle.std.specs.Option.{is_some, option_and_then, option_eq, option_map, option_map_or, option_to_list}
+use Rattle.std.specs.Cmp.{second_so}
+use Rattle.std.specs.Ordering.{eq_by_cmp}
+use Rattle.std.specs.FinMap.Entries.{is_sorted, is_sorted-put, is_sorted-where_key, find-put, find-where_key, same_entries}
+use Rattle.std.proofs.lemmas.Bool.{cases_lt, eqb-true, eqb-false, ne_eqb, lt-ltb, le-ltb}
+use Rattle.std.proofs.lemmas.List.{length-take}
 use Rattle.std.proofs.lemmas.List.Sums.{fold-append}
 use Rattle.br_model.specs.declared.change.Change.{Change}
-use Rattle.br_model.specs.declared.change.Change.TheVariants.{PortUp, PortDown, SetFlags, SetState, VlanAdd, VlanDel, GroupJoin, GroupPart, Router, Querier, Snoop, Stp, AddrPut, AddrDel}
 use Rattle.br_model.specs.declared.change.Kind.{Kind}
+use Rattle.br_model.specs.declared.change.Update.{Update}
 use Rattle.br_model.specs.declared.domains.Edition.{Edition}
 use Rattle.br_model.specs.declared.steps.Step.{Step}
 use Rattle.br_model.specs.declared.steps.Step.TheVariants.{Rx, Cmd, Now, Serve, Hold, Post, Turn, Report, Sweep, Publish}
 use Rattle.br_model.specs.Data.Maps.{pair_cmp, get, put, without}
-use Rattle.br_model.specs.Plane.Chip.{Chip}
+use Rattle.br_model.specs.Plane.Chip.{Chip, applies, chip_in, put_chip}
 use Rattle.br_model.specs.Plane.ChipSteps.{turns, turns_to}
+use Rattle.br_model.specs.Plane.Entering.{chip_of}
 use Rattle.br_model.specs.Plane.Runs.{run, then_step}
 use Rattle.br_model.specs.Plane.Steps.{world_step}
-use Rattle.br_model.specs.Plane.World.{World, Stepped, chip_at, first_world, next_of}
-use Rattle.br_model.specs.Table.Change.{deferred}
-use Rattle.br_model.specs.Table.Cut.{deferred_of}
+use Rattle.br_model.specs.Plane.World.{World, Stepped, chip_at, first_world, next_of, with_chip}
+use Rattle.br_model.specs.Table.Change.{address_part}
+use Rattle.br_model.specs.Table.Cut.{cut, deferred_at, deferred_count, deferred_of, synchronous_of, under_ticket}
 use Rattle.br_model.specs.Table.DomainPorts.{is_in_domain}
-use Rattle.br_model.specs.Table.Domains.{Domains}
+use Rattle.br_model.specs.Table.Domains.{domain_of, chip_domains}
 use Rattle.br_model.specs.Table.Setup.{Setup}
-use Rattle.br_model.specs.Table.Table.{Table, apply, start, table}
-use Rattle.br_model.proofs.PairKeys.{pair_total, same_cmp, eq-pair}
+use Rattle.br_model.specs.Table.Table.{start, table}
+use Rattle.br_model.specs.Theorems.Applied.{applied_in, synchronous_in}
+use Rattle.br_model.specs.Theorems.Invariants.{IsWorld}
+use Rattle.br_model.proofs.ApplyingLaws.{deferred_count-append, once_after_accept}
+use Rattle.br_model.proofs.Cuts.{deferred_of-cut, synchronous_of-cut}
+use Rattle.br_model.proofs.PairKeys.{pair_total, same_cmp}
+use Rattle.br_model.proofs.PlaneApplied.{Applies, AppliesAt, step-applies, step-setup}
+use Rattle.br_model.proofs.PlaneChips.{chip-own, chip-there, put-same, put-other}
+use Rattle.br_model.proofs.PlaneKept.{ChipKeeps, chip-stands, first-world, hit_by-keeps, step-world}
+use Rattle.br_model.proofs.PlaneLists.{same-some}
 use Rattle.br_model.proofs.PlaneStays.{step-accepts}
 use Rattle.neigh_netlink.specs.declared.entries.Entry.{Entry}
 use Rattle.neigh_netlink.specs.declared.neigh.Neigh.{Neigh}
-use Rattle.neigh_netlink.specs.Neighbours.{Key, Neighbours, after_message, addresses, place, table_of}
-use Rattle.neigh_netlink.specs.Monitor.{accepted, applies_next, gone_message, is_last, is_of_key, message_of, messages, messages_in, messages_of, monitors, offloads, put_message, turned}
+use Rattle.neigh_netlink.specs.Neighbours.{Key, Neighbours, addresses, after_message, table_of}
+use Rattle.neigh_netlink.specs.Monitor.{accepted, entry_message, is_last, message_of, messages, messages_in, messages_of, monitors, offload_message, offloads, put_message, turned}
+use Rattle.neigh_netlink.specs.Offloaded.{applied_at, entries_of, is_of_key, last_update, offloaded, put_by, puts_among}
+use Rattle.neigh_netlink.proofs.LastUpdates.{all-ascend, get-push, get-table, last_update-push, puts, update-there}
+use Rattle.neigh_netlink.proofs.Mapped.{ascending-mapped, eq-turned, get-mapped, map-same, mapped, same-key}
 
 abbrev Places : Type 0
 Places = List (Key × (ℕ × Kind))
 
--- puts and takes are the same without the offloads
+-- the entry of a place where the chips of ports have applied so many deferred changes
+abbrev entry_at : Edition → List Change → (ℕ → Option ℕ) → Key → ℕ × Kind → Entry
+entry_at edition h counts q x = record { port = x.0; kind = x.1; offload = option_map_or (λ k. offloaded edition h k q) (counts x.0) false }
 
-addresses-put : (es : Neighbours) (k : Key) (x : Entry) → addresses (put pair_cmp es k x) ≡ put pair_cmp (addresses es) k (place x)
-addresses-put [] k x = refl
-addresses-put (e ∷ es) k x =
-    elim (pair_cmp k e.0) as (λ r. addresses (by_order r ((k, x) ∷ e ∷ es) ((e.0, x) ∷ es) (e ∷ put pair_cmp es k x)) ≡ by_order r ((k, place x) ∷ addresses (e ∷ es)) ((e.0, place x) ∷ addresses es) ((e.0, place e.1) ∷ put pair_cmp (addresses es) k (place x))) [
-      | Less ↦ refl
-      | Equal ↦ refl
-      | Greater ↦ ap (λ (rest : Places). (e.0, place e.1) ∷ rest) (addresses-put es k x)
-    ]
+-- the entries are those of the history's table
+abbrev Tells : Edition → List Change → (ℕ → Option ℕ) → Neighbours → Type 0
+Tells edition h counts t = (q : Key) → get pair_cmp t q ≡ option_map (entry_at edition h counts q) (get pair_cmp (table h).addr q)
 
-addresses-without : (es : Neighbours) (k : Key) → addresses (without pair_cmp es k) ≡ without pair_cmp (addresses es) k
-addresses-without [] k = refl
-addresses-without (e ∷ es) k =
-    elim (eq_by_cmp pair_cmp k e.0) as (λ b. addresses (cond (not b) (e ∷ without pair_cmp es k) (without pair_cmp es k)) ≡ cond (not b) ((e.0, place e.1) ∷ without pair_cmp (addresses es) k) (without pair_cmp (addresses es) k)) [
-      | true ↦ addresses-without es k
-      | false ↦ ap (λ (rest : Places). (e.0, place e.1) ∷ rest) (addresses-without es k)
-    ]
+-- the entries after a message, if there is one
+abbrev taken : Neighbours → Option Neigh → Neighbours
+taken t m = fold after_message t (option_to_list m)
 
--- what isn't there needn't go
-without-none : (m : Places) (k : Key) → get pair_cmp m k ≡ None → without pair_cmp m k ≡ m
-without-none [] k h = refl
-without-none (e ∷ m) k h = by (without-none m k) (eq_by_cmp pair_cmp k e.0) h
-  where
-    by : (get pair_cmp m k ≡ None → without pair_cmp m k ≡ m) → (b : Bool) → cond b (Some e.1) (get pair_cmp m k) ≡ None → cond (not b) (e ∷ without pair_cmp m k) (without pair_cmp m k) ≡ e ∷ m
-    by rest true h = absurd (cc)
-    by rest false h = ap (λ (l : Places). e ∷ l) (rest h)
+-- A change is accepted.
 
--- what is there is put again
-put-same : (m : Places) (k : Key) (v : ℕ × Kind) → T (is_sorted pair_cmp m) → get pair_cmp m k ≡ Some v → put pair_cmp m k v ≡ m
-put-same m k v up is =
-    same_entries pair_cmp pair_total same_cmp (put pair_cmp m k v) m (is_sorted-put pair_cmp pair_total k v m up) up
-    (λ q. find-put pair_cmp pair_total q k v m ∙ by q (eq_by_cmp pair_cmp q k) refl)
-  where
-    tied : (r : Ordering) → is_eq r ≡ true → r ≡ Equal
-    tied Less h = absurd (cc)
-    tied Equal h = refl
-    tied Greater h = absurd (cc)
+-- an entry that no chip has yet
+abbrev fresh : ℕ × Kind → Entry
+fresh x = record { port = x.0; kind = x.1; offload = false }
 
-    by : (q : Key) (b : Bool) → eq_by_cmp pair_cmp q k ≡ b → cond b (Some v) (get pair_cmp m q) ≡ get pair_cmp m q
-    by q true e = sym (ap (get pair_cmp m) (same_cmp q k (tied _ e)) ∙ is)
-    by q false e = refl
+abbrev is_of_part : Key → Option (Key × Option (ℕ × Kind)) → Bool
+is_of_part q part = option_map_or (λ p. eq_by_cmp pair_cmp q p.0) part false
 
--- changes that are accepted
-
-gone-told : (t : Neighbours) (m : Places) (ticket v a : ℕ) (o : Option (ℕ × Kind)) → addresses t ≡ m → get pair_cmp m (v, a) ≡ o
-    → addresses (fold after_message t (gone_message ticket v a o)) ≡ without pair_cmp m (v, a)
-gone-told t m ticket v a None e none = e ∙ sym (without-none m (v, a) none)
-gone-told t m ticket v a (Some x) e some = addresses-without t (v, a) ∙ ap (λ (l : Places). without pair_cmp l (v, a)) e
-
-change-told : (domains : Domains) (h : List Change) (t : Neighbours) (c : Change) → addresses t ≡ (table h).addr
-    → addresses (fold after_message t (message_of domains h c)) ≡ (apply (table h) c).addr
-change-told domains h t (PortUp p) e = e
-change-told domains h t (PortDown p) e = e
-change-told domains h t (SetFlags p s) e = e
-change-told domains h t (SetState p n) e = e
-change-told domains h t (VlanAdd p v untagged pvid) e = e
-change-told domains h t (VlanDel p v) e = e
-change-told domains h t (GroupJoin p v g) e = e
-change-told domains h t (GroupPart p v g) e = e
-change-told domains h t (Router p on) e = e
-change-told domains h t (Querier six on) e = e
-change-told domains h t (Snoop on) e = e
-change-told domains h t (Stp on) e = e
-change-told domains h t (AddrPut v a p kind) e = addresses-put t (v, a) (record { port = p; kind = kind; offload = false }) ∙ ap (λ (l : Places). put pair_cmp l (v, a) (p, kind)) e
-change-told domains h t (AddrDel v a) e = gone-told t (table h).addr _ v a (get pair_cmp (table h).addr (v, a)) e refl
-
-changes-told : (domains : Domains) (cs h : List Change) (t : Neighbours) → addresses t ≡ (table h).addr
-    → addresses (fold after_message t (messages_of domains h cs)) ≡ (table (h ++ cs)).addr
-changes-told domains [] h t e = e ∙ ap (λ l. (table l).addr) (sym (append-nil h))
-changes-told domains (c ∷ later) h t e =
-    ap addresses (fold-append after_message t (message_of domains h c) (messages_of domains (h ++ c ∷ []) later))
-    ∙ changes-told domains later (h ++ c ∷ []) (fold after_message t (message_of domains h c))
-    (change-told domains h t c e ∙ ap (λ (x : Table). x.addr) (sym (fold-append apply start h (c ∷ []))))
-    ∙ ap (λ l. (table l).addr) (append_assoc h (c ∷ []) later)
-
--- a change that a chip applies
-
-ascends : (t : Table) (c : Change) → T (is_sorted pair_cmp t.addr) → T (is_sorted pair_cmp (apply t c).addr)
-ascends t (PortUp p) h = h
-ascends t (PortDown p) h = h
-ascends t (SetFlags p s) h = h
-ascends t (SetState p n) h = h
-ascends t (VlanAdd p v untagged pvid) h = h
-ascends t (VlanDel p v) h = h
-ascends t (GroupJoin p v g) h = h
-ascends t (GroupPart p v g) h = h
-ascends t (Router p on) h = h
-ascends t (Querier six on) h = h
-ascends t (Snoop on) h = h
-ascends t (Stp on) h = h
-ascends t (AddrPut v a p kind) h = is_sorted-put pair_cmp pair_total (v, a) (p, kind) t.addr h
-ascends t (AddrDel v a) h = is_sorted-where_key pair_cmp (λ q. not (eq_by_cmp pair_cmp (v, a) q)) t.addr h
-
-all-ascend : (t : Table) (cs : List Change) → T (is_sorted pair_cmp t.addr) → T (is_sorted pair_cmp (fold apply t cs).addr)
-all-ascend t [] h = h
-all-ascend t (c ∷ cs) h = all-ascend (apply t c) cs (ascends t c h)
-
-not-true : (b : Bool) → not b ≡ true → b ≡ false
-not-true true h = absurd (cc)
-not-true false h = refl
-
-module _ (v a : ℕ) where
-  -- a change of another address leaves what is there
-  other-keeps : (t : Table) (c : Change) → is_of_key v a c ≡ false → get pair_cmp (apply t c).addr (v, a) ≡ get pair_cmp t.addr (v, a)
-  other-keeps t (PortUp p) h = refl
-  other-keeps t (PortDown p) h = refl
-  other-keeps t (SetFlags p s) h = refl
-  other-keeps t (SetState p n) h = refl
-  other-keeps t (VlanAdd p w untagged pvid) h = refl
-  other-keeps t (VlanDel p w) h = refl
-  other-keeps t (GroupJoin p w g) h = refl
-  other-keeps t (GroupPart p w g) h = refl
-  other-keeps t (Router p on) h = refl
-  other-keeps t (Querier six on) h = refl
-  other-keeps t (Snoop on) h = refl
-  other-keeps t (Stp on) h = refl
-  other-keeps t (AddrPut w b p kind) h =
-      find-put pair_cmp pair_total (v, a) (w, b) (p, kind) t.addr ∙ ap (λ x. cond x (Some (p, kind)) (get pair_cmp t.addr (v, a))) (eq-pair v a w b ∙ h)
-  other-keeps t (AddrDel w b) h =
-      find-where_key pair_cmp (λ q. not (eq_by_cmp pair_cmp (w, b) q)) (v, a) (λ x tie. ap (λ q. not (eq_by_cmp pair_cmp (w, b) q)) (sym (same_cmp (v, a) x tie))) t.addr
-      ∙ ap (λ x. cond (not x) (get pair_cmp t.addr (v, a)) None) (turned-pair ∙ eq-pair v a w b ∙ h)
+module _ (ticket : ℕ) (m : Places) (t : Neighbours) (none : (q : Key) → get pair_cmp m q ≡ None → get pair_cmp t q ≡ None) where
+  gone-get : (k q : Key) (there : Option (ℕ × Kind)) → get pair_cmp m k ≡ there
+      → get pair_cmp (taken t (entry_message ticket k there None)) q ≡ cond (eq_by_cmp pair_cmp q k) None (get pair_cmp t q)
+  gone-get k q None is = by (eq_by_cmp pair_cmp q k) refl
     where
-      turned-eq : (r : Ordering) → is_eq (ordering_reverse r) ≡ is_eq r
-      turned-eq Less = refl
-      turned-eq Equal = refl
-      turned-eq Greater = refl
-
-      turned-pair : eq_by_cmp pair_cmp (w, b) (v, a) ≡ eq_by_cmp pair_cmp (v, a) (w, b)
-      turned-pair = ap is_eq (pair_total.antisymm (w, b) (v, a)) ∙ turned-eq (pair_cmp (v, a) (w, b))
-
-  -- what reaches a chip at once is of no address
-  synchronous-other : (edition : Edition) (c : Change) → deferred edition c ≡ false → is_of_key v a c ≡ false
-  synchronous-other edition (PortUp p) h = refl
-  synchronous-other edition (PortDown p) h = refl
-  synchronous-other edition (SetFlags p s) h = refl
-  synchronous-other edition (SetState p n) h = refl
-  synchronous-other edition (VlanAdd p w untagged pvid) h = refl
-  synchronous-other edition (VlanDel p w) h = refl
-  synchronous-other edition (GroupJoin p w g) h = refl
-  synchronous-other edition (GroupPart p w g) h = refl
-  synchronous-other edition (Router p on) h = refl
-  synchronous-other edition (Querier six on) h = refl
-  synchronous-other edition (Snoop on) h = refl
-  synchronous-other edition (Stp on) h = refl
-  synchronous-other edition (AddrPut w b p kind) h = absurd (cc)
-  synchronous-other edition (AddrDel w b) h = absurd (cc)
-
-  abbrev are-others : List Change → Bool
-  are-others cs = list_all (λ c. not (is_of_key v a c)) cs
-
-  others-keep : (edition : Edition) (h : List Change) (t : Table) → are-others (deferred_of edition h) ≡ true → get pair_cmp (fold apply t h).addr (v, a) ≡ get pair_cmp t.addr (v, a)
-  others-keep edition [] t e = refl
-  others-keep edition (c ∷ h) t e = by (others-keep edition h (apply t c)) (deferred edition c) refl e
+      by : (b : Bool) → eq_by_cmp pair_cmp q k ≡ b → get pair_cmp t q ≡ cond b None (get pair_cmp t q)
+      by true same = none q (ap (get pair_cmp m) (same-key q k same) ∙ is)
+      by false other = refl
+  gone-get k q (Some x) is =
+      find-where_key pair_cmp (λ p. not (eq_by_cmp pair_cmp k p)) q (λ p tie. ap (λ r. not (eq_by_cmp pair_cmp k r)) (sym (same_cmp q p tie))) t
+      ∙ ap (λ b. cond (not b) (get pair_cmp t q) None) (eq-turned q k)
+      ∙ flipped (eq_by_cmp pair_cmp q k)
     where
-      by : (are-others (deferred_of edition h) ≡ true → get pair_cmp (fold apply (apply t c) h).addr (v, a) ≡ get pair_cmp (apply t c).addr (v, a))
-          → (b : Bool) → deferred edition c ≡ b → are-others (cond b (c ∷ deferred_of edition h) (deferred_of edition h)) ≡ true → get pair_cmp (fold apply (apply t c) h).addr (v, a) ≡ get pair_cmp t.addr (v, a)
-      by rest true late e =
-          rest (second_so (not (is_of_key v a c)) _ e) ∙ other-keeps t c (not-true _ (first_so (not (is_of_key v a c)) _ e))
-      by rest false now e = rest e ∙ other-keeps t c (synchronous-other edition c now)
+      flipped : (b : Bool) → cond (not b) (get pair_cmp t q) None ≡ cond b None (get pair_cmp t q)
+      flipped true = refl
+      flipped false = refl
 
-  -- the last deferred change of an address puts what is there
-  module _ (p : ℕ) (kind : Kind) where
-    put-there : (t : Table) → get pair_cmp (apply t (AddrPut v a p kind)).addr (v, a) ≡ Some (p, kind)
-    put-there t = find-put pair_cmp pair_total (v, a) (v, a) (p, kind) t.addr ∙ ap (λ x. cond x (Some (p, kind)) (get pair_cmp t.addr (v, a))) (ap is_eq itself)
+  entry-get : (k q : Key) (e : Option (ℕ × Kind))
+      → get pair_cmp (taken t (entry_message ticket k (get pair_cmp m k) e)) q ≡ cond (eq_by_cmp pair_cmp q k) (option_map fresh e) (get pair_cmp t q)
+  entry-get k q (Some x) = find-put pair_cmp pair_total q k (fresh x) t
+  entry-get k q None = gone-get k q (get pair_cmp m k) refl
+
+  part-get : (part : Option (Key × Option (ℕ × Kind))) (q : Key)
+      → get pair_cmp (taken t (option_and_then (λ p. entry_message ticket p.0 (get pair_cmp m p.0) p.1) part)) q
+      ≡ cond (is_of_part q part) (option_map fresh (option_and_then (λ p. p.1) part)) (get pair_cmp t q)
+  part-get None q = refl
+  part-get (Some p) q = entry-get p.0 q p.1
+
+-- no chip has applied more than was accepted
+abbrev Bounds : Edition → List Change → (ℕ → Option ℕ) → Type 0
+Bounds edition h counts = (p k : ℕ) → counts p ≡ Some k → k ≤ deferred_count edition h
+
+module _ (edition : Edition) (counts : ℕ → Option ℕ) where
+  change-tells : (h : List Change) (c : Change) (t : Neighbours) → Bounds edition h counts → Tells edition h counts t
+      → Tells edition (h ++ c ∷ []) counts (taken t (message_of edition h c))
+  change-tells h c t bounds tells q =
+      part-get (deferred_count edition h) (table h).addr t (λ k e. tells k ∙ ap (option_map (entry_at edition h counts k)) e) (address_part c) q
+      ∙ by (is_of_key q c) refl
+      ∙ ap (option_map (entry_at edition (h ++ c ∷ []) counts q)) (sym (get-push h c q))
+    where
+      -- the chip hasn't applied what was accepted just now
+      new : is_of_key q c ≡ true → (k : Option ℕ) → ((n : ℕ) → k ≡ Some n → n ≤ deferred_count edition h) → false ≡ option_map_or (λ n. offloaded edition (h ++ c ∷ []) n q) k false
+      new its None bound = refl
+      new its (Some n) bound =
+          let last : last_update edition (h ++ c ∷ []) q ≡ Some (under_ticket (deferred_count edition h) c) =
+          last_update-push edition h c q ∙ ap (λ b. cond b (Some (under_ticket (deferred_count edition h) c)) (last_update edition h q)) its in
+          let late : nat_lt (deferred_count edition h) n ≡ false = le-ltb (deferred_count edition h) n (bound n refl) in
+          sym (ap (λ o. option_map_or (puts_among n) o false) last ∙ ap (λ b. is_some (put_by (under_ticket (deferred_count edition h) c)) && b) late ∙ neither (is_some (puts c)))
+        where
+          neither : (b : Bool) → (b && false) ≡ false
+          neither true = refl
+          neither false = refl
+
+      old : is_of_key q c ≡ false → last_update edition h q ≡ last_update edition (h ++ c ∷ []) q
+      old other = sym (last_update-push edition h c q ∙ ap (λ b. cond b (Some (under_ticket (deferred_count edition h) c)) (last_update edition h q)) other)
+
+      by : (b : Bool) → is_of_key q c ≡ b → cond b (option_map fresh (puts c)) (get pair_cmp t q)
+          ≡ option_map (entry_at edition (h ++ c ∷ []) counts q) (cond b (puts c) (get pair_cmp (table h).addr q))
+      by true its = map-same fresh (entry_at edition (h ++ c ∷ []) counts q) (puts c)
+          (λ x i. record { port = x.0; kind = x.1; offload = new its (counts x.0) (bounds x.0) i })
+      by false other = tells q ∙ map-same (entry_at edition h counts q) (entry_at edition (h ++ c ∷ []) counts q) (get pair_cmp (table h).addr q)
+          (λ x i. record { port = x.0; kind = x.1; offload = option_map_or (λ k. option_map_or (puts_among k) (old other i) false) (counts x.0) false })
+
+  changes-tell : (cs h : List Change) (t : Neighbours) → Bounds edition h counts → Tells edition h counts t
+      → Tells edition (h ++ cs) counts (fold after_message t (messages_of edition h cs))
+  changes-tell [] h t bounds tells = subst (λ l. Tells edition l counts t) (sym (append-nil h)) tells
+  changes-tell (c ∷ later) h t bounds tells =
+      let further : Bounds edition (h ++ c ∷ []) counts = λ p k e. omega (arith, bounds p k e, deferred_count-append edition h (c ∷ [])) in
+      subst (λ (l : Neighbours). Tells edition (h ++ c ∷ later) counts l) (sym (fold-append after_message t (option_to_list (message_of edition h c)) (messages_of edition (h ++ c ∷ []) later)))
+      (subst (λ l. Tells edition l counts (fold after_message (taken t (message_of edition h c)) (messages_of edition (h ++ c ∷ []) later))) (append_assoc h (c ∷ []) later)
+      (changes-tell later (h ++ c ∷ []) (taken t (message_of edition h c)) further (change-tells h c t bounds tells)))
+
+-- A chip applies a deferred change.
+
+-- a ticket that isn't this one is below the next where it is below this one
+below-next : (a n : ℕ) → (a == n) ≡ false → nat_lt a (n + 1) ≡ nat_lt a n
+below-next a n other = ⊎_elim
+    (λ (l : a < n). let up : a < n + 1 = omega arith in lt-ltb a (n + 1) up ∙ sym (lt-ltb a n l))
+    (λ (l : n ≤ a).
+    let apart : (a ≡ n → ⊥) = eqb-false a n other in
+    let past : n + 1 ≤ a = omega arith in
+    le-ltb a (n + 1) past ∙ sym (le-ltb a n l))
+    (cases_lt a n)
+
+abbrev edition_of : World → Edition
+edition_of w = w.setup.domains.edition
+
+module _ (w : World) (chip : Chip) (old new : ℕ → Option ℕ) (c : Change) (next : next_of w chip ≡ Some c)
+    (own : (p : ℕ) → is_in_domain w.setup.domains chip.dom p ≡ true → (old p ≡ Some chip.count) × (new p ≡ Some (chip.count + 1)))
+    (foreign : (p : ℕ) → is_in_domain w.setup.domains chip.dom p ≡ false → new p ≡ old p)
+    (t : Neighbours) (tells : Tells (edition_of w) w.history old t) where
+  abbrev by_part : Option (Key × Option (ℕ × Kind)) → Neighbours
+  by_part part = taken t (option_and_then (λ p. offload_message w chip p.0 p.1) part)
+
+  -- an entry with another last change stays
+  untouched : (part : Option (Key × Option (ℕ × Kind))) (q : Key) → is_last w q chip.count ≡ false → get pair_cmp (by_part part) q ≡ get pair_cmp t q
+  untouched None q other = refl
+  untouched (Some p) q other = by p.0 p.1
+    where
+      if_told : (k : Key) (e : ℕ × Kind) (b : Bool) → (is_in_domain w.setup.domains chip.dom e.0 && is_last w k chip.count) ≡ b
+          → get pair_cmp (taken t (if b then Some (put_message chip.count k e true) else None)) q ≡ get pair_cmp t q
+      if_told k e false off = refl
+      if_told k e true on = find-put pair_cmp pair_total q k (record { port = e.0; kind = e.1; offload = true }) t ∙ apart (eq_by_cmp pair_cmp q k) refl
+        where
+          apart : (b : Bool) → eq_by_cmp pair_cmp q k ≡ b → cond b (Some (record { port = e.0; kind = e.1; offload = true })) (get pair_cmp t q) ≡ get pair_cmp t q
+          apart true same =
+              let its : is_last w q chip.count ≡ true = ap (λ p. is_last w p chip.count) (same-key q k same) ∙ second_so (is_in_domain w.setup.domains chip.dom e.0) _ on in
+              absurd (cc)
+          apart false same = refl
+
+      by : (k : Key) (o : Option (ℕ × Kind)) → get pair_cmp (taken t (offload_message w chip k o)) q ≡ get pair_cmp t q
+      by k None = refl
+      by k (Some e) = if_told k e (is_in_domain w.setup.domains chip.dom e.0 && is_last w k chip.count) refl
+
+  -- and so does what the chip of its port has of it
+  same-offload : (q : Key) → is_last w q chip.count ≡ false → (p : ℕ)
+      → option_map_or (λ k. offloaded (edition_of w) w.history k q) (old p) false ≡ option_map_or (λ k. offloaded (edition_of w) w.history k q) (new p) false
+  same-offload q other p = by (is_in_domain w.setup.domains chip.dom p) refl
+    where
+      count : (o : Option Update) → option_map_or (λ u. u.ticket == chip.count) o false ≡ false → option_map_or (puts_among chip.count) o false ≡ option_map_or (puts_among (chip.count + 1)) o false
+      count None e = refl
+      count (Some u) e = ap (λ b. is_some (put_by u) && b) (sym (below-next u.ticket chip.count e))
+
+      by : (b : Bool) → is_in_domain w.setup.domains chip.dom p ≡ b
+          → option_map_or (λ k. offloaded (edition_of w) w.history k q) (old p) false ≡ option_map_or (λ k. offloaded (edition_of w) w.history k q) (new p) false
+      by true is =
+          let both = own p is in
+          ap (λ o. option_map_or (λ k. offloaded (edition_of w) w.history k q) o false) both.0
+          ∙ count (last_update (edition_of w) w.history q) other
+          ∙ sym (ap (λ o. option_map_or (λ k. offloaded (edition_of w) w.history k q) o false) both.1)
+      by false is = ap (λ o. option_map_or (λ k. offloaded (edition_of w) w.history k q) o false) (sym (foreign p is))
+
+  -- the entry whose last change it is
+  module _ (q : Key) (u : Update) (last : last_update (edition_of w) w.history q ≡ Some u) (its : (u.ticket == chip.count) ≡ true) where
+    is_its : is_last w q chip.count ≡ true
+    is_its = ap (λ o. option_map_or (λ u. u.ticket == chip.count) o false) last ∙ its
+
+    in_time : nat_lt u.ticket (chip.count + 1) ≡ true
+    in_time = let e : u.ticket ≡ chip.count = eqb-true u.ticket chip.count its in let up : u.ticket < chip.count + 1 = omega arith in lt-ltb u.ticket (chip.count + 1) up
+
+    abbrev now_at : ℕ × Kind → Entry
+    now_at = entry_at (edition_of w) w.history new q
+
+    put-tells : (k : Key) (o : Option (ℕ × Kind)) → eq_by_cmp pair_cmp q k ≡ true → get pair_cmp (table w.history).addr q ≡ o → put_by u ≡ o
+        → get pair_cmp (taken t (offload_message w chip k o)) q ≡ option_map now_at o
+    put-tells k None same there by_u = tells q ∙ ap (option_map (entry_at (edition_of w) w.history old q)) there
+    put-tells k (Some e) same there by_u = by (is_in_domain w.setup.domains chip.dom e.0) refl
       where
-        itself : pair_cmp (v, a) (v, a) ≡ Equal
-        itself = tied_itself pair_total (v, a)
+        had : get pair_cmp t q ≡ Some (entry_at (edition_of w) w.history old q e)
+        had = tells q ∙ ap (option_map (entry_at (edition_of w) w.history old q)) there
 
-    last-there : (edition : Edition) (h : List Change) (n : ℕ) (t : Table) → slice_get (deferred_of edition h) n ≡ Some (AddrPut v a p kind)
-        → are-others (drop (n + 1) (deferred_of edition h)) ≡ true → get pair_cmp (fold apply t h).addr (v, a) ≡ Some (p, kind)
-    last-there edition [] n t there e = absurd (cc)
-    last-there edition (c ∷ h) n t there e = by (λ i. last-there edition h i (apply t c)) n (deferred edition c) there e
-      where
-        next : (n : ℕ) → suc n + 1 ≡ suc (n + 1)
-        next n = omega arith
+        by : (b : Bool) → is_in_domain w.setup.domains chip.dom e.0 ≡ b
+            → get pair_cmp (taken t (if b && is_last w k chip.count then Some (put_message chip.count k e true) else None)) q ≡ Some (now_at e)
+        by true is =
+            let of_k : is_last w k chip.count ≡ true = ap (λ p. is_last w p chip.count) (sym (same-key q k same)) ∙ is_its in
+            let has : offloaded (edition_of w) w.history (chip.count + 1) q ≡ true =
+            ap (λ o. option_map_or (puts_among (chip.count + 1)) o false) last ∙ (λ i. is_some (by_u i) && in_time i) in
+            let flag : true ≡ option_map_or (λ n. offloaded (edition_of w) w.history n q) (new e.0) false =
+            sym (ap (λ o. option_map_or (λ n. offloaded (edition_of w) w.history n q) o false) (own e.0 is).1 ∙ has) in
+            ap (λ b. get pair_cmp (taken t (if b then Some (put_message chip.count k e true) else None)) q) of_k
+            ∙ find-put pair_cmp pair_total q k (record { port = e.0; kind = e.1; offload = true }) t
+            ∙ ap (λ b. cond b (Some (record { port = e.0; kind = e.1; offload = true })) (get pair_cmp t q)) same
+            ∙ (λ i. Some (record { port = e.0; kind = e.1; offload = flag i }))
+        by false is = had ∙ ap (λ o. Some (record { port = e.0; kind = e.1; offload = option_map_or (λ n. offloaded (edition_of w) w.history n q) o false })) (sym (foreign e.0 is))
 
-        by : ((i : ℕ) → slice_get (deferred_of edition h) i ≡ Some (AddrPut v a p kind) → are-others (drop (i + 1) (deferred_of edition h)) ≡ true
-            → get pair_cmp (fold apply (apply t c) h).addr (v, a) ≡ Some (p, kind))
-            → (n : ℕ) (b : Bool) → slice_get (cond b (c ∷ deferred_of edition h) (deferred_of edition h)) n ≡ Some (AddrPut v a p kind)
-            → are-others (drop (n + 1) (cond b (c ∷ deferred_of edition h) (deferred_of edition h))) ≡ true → get pair_cmp (fold apply (apply t c) h).addr (v, a) ≡ Some (p, kind)
-        by rest zero true there e =
-            let is : c ≡ AddrPut v a p kind = cc in
-            others-keep edition h (apply t c) e ∙ ap (λ d. get pair_cmp (apply t d).addr (v, a)) is ∙ put-there t
-        by rest (suc n) true there e = rest n there (subst (λ i. are-others (drop i (c ∷ deferred_of edition h)) ≡ true) (next n) e)
-        by rest n false there e = rest n there e
+    touched : (part : Option (Key × Option (ℕ × Kind))) → is_of_part q part ≡ true → option_and_then (λ p. p.1) part ≡ put_by u
+        → get pair_cmp (by_part part) q ≡ option_map now_at (put_by u)
+    touched None of_q same = absurd (cc)
+    touched (Some p) of_q same =
+        put-tells p.0 p.1 of_q (get-table (edition_of w) w.history q ∙ ap (option_and_then put_by) last ∙ sym same) (sym same) ∙ ap (option_map now_at) same
 
-offloads-told : (w : World) (chip : Chip) (c : Change) (t : Neighbours) → next_of w chip ≡ Some c → addresses t ≡ (table w.history).addr
-    → addresses (fold after_message t (offloads w chip c)) ≡ (table w.history).addr
-offloads-told w chip (PortUp p) t next e = e
-offloads-told w chip (PortDown p) t next e = e
-offloads-told w chip (SetFlags p s) t next e = e
-offloads-told w chip (SetState p n) t next e = e
-offloads-told w chip (VlanAdd p v untagged pvid) t next e = e
-offloads-told w chip (VlanDel p v) t next e = e
-offloads-told w chip (GroupJoin p v g) t next e = e
-offloads-told w chip (GroupPart p v g) t next e = e
-offloads-told w chip (Router p on) t next e = e
-offloads-told w chip (Querier six on) t next e = e
-offloads-told w chip (Snoop on) t next e = e
-offloads-told w chip (Stp on) t next e = e
-offloads-told w chip (AddrPut v a p kind) t next e = by (is_in_domain w.setup.domains chip.dom p && is_last w chip.count v a) refl
+  abbrev TellsAt : Key → Type 0
+  TellsAt q = get pair_cmp (taken t (offloads w chip c)) q ≡ option_map (entry_at (edition_of w) w.history new q) (get pair_cmp (table w.history).addr q)
+
+  turn-tells : Tells (edition_of w) w.history new (taken t (offloads w chip c))
+  turn-tells q = by (is_last w q chip.count) refl
+    where
+      its : (o : Option Update) → last_update (edition_of w) w.history q ≡ o → option_map_or (λ u. u.ticket == chip.count) o false ≡ true → TellsAt q
+      its None last e = absurd (cc)
+      its (Some u) last e =
+          let there = update-there (edition_of w) w.history q u last in
+          let same : u.change ≡ c = same-some u.change c (sym there.0 ∙ ap (deferred_at (edition_of w) w.history) (eqb-true u.ticket chip.count e) ∙ next) in
+          touched q u last e (address_part c) (ap (is_of_key q) (sym same) ∙ there.1) (ap puts (sym same))
+          ∙ ap (option_map (entry_at (edition_of w) w.history new q)) (sym (get-table (edition_of w) w.history q ∙ ap (option_and_then put_by) last))
+
+      by : (b : Bool) → is_last w q chip.count ≡ b → TellsAt q
+      by true e = its (last_update (edition_of w) w.history q) refl e
+      by false e =
+          untouched (address_part c) q e
+          ∙ tells q
+          ∙ map-same (entry_at (edition_of w) w.history old q) (entry_at (edition_of w) w.history new q) (get pair_cmp (table w.history).addr q)
+          (λ x i. record { port = x.0; kind = x.1; offload = same-offload q e x.0 i })
+
+-- The world's own counts.
+
+abbrev TellsWorld : World → Neighbours → Type 0
+TellsWorld w t = Tells w.setup.domains.edition w.history (applied_at w) t
+
+counts-tell : (edition : Edition) (h : List Change) (old new : ℕ → Option ℕ) (t : Neighbours) → ((p : ℕ) → new p ≡ old p) → Tells edition h old t → Tells edition h new t
+counts-tell edition h old new t same tells q =
+    tells q
+    ∙ map-same (entry_at edition h old q) (entry_at edition h new q) (get pair_cmp (table h).addr q)
+    (λ x. ap (λ (o : Option ℕ). record { port = x.0; kind = x.1; offload = option_map_or (λ k. offloaded edition h k q) o false }) (sym (same x.0)))
+
+bounds : (w : World) → IsWorld w → Bounds w.setup.domains.edition w.history (applied_at w)
+bounds w k p n e = by (domain_of w.setup.domains p) e
   where
-    by : (b : Bool) → (is_in_domain w.setup.domains chip.dom p && is_last w chip.count v a) ≡ b
-        → addresses (fold after_message t (if b then put_message chip.count v a p kind true ∷ [] else [])) ≡ (table w.history).addr
-    by false off = e
-    by true on =
-        let there = last-there v a p kind w.setup.domains.edition w.history chip.count start next (second_so (is_in_domain w.setup.domains chip.dom p) _ on) in
-        addresses-put t (v, a) (record { port = p; kind = kind; offload = true })
-        ∙ ap (λ (l : Places). put pair_cmp l (v, a) (p, kind)) e
-        ∙ put-same (table w.history).addr (v, a) (p, kind) (all-ascend start w.history tt) there
-offloads-told w chip (AddrDel v a) t next e = e
+    at : (d : ℕ) (o : Option Chip) → chip_at w d ≡ o → option_map (λ (c : Chip). c.count) o ≡ Some n → n ≤ deferred_count w.setup.domains.edition w.history
+    at d None there e = absurd (cc)
+    at d (Some c) there e = let same = same-some c.count n e in omega (arith, same, (chip-stands w d c k there).applied)
 
-applies-told : (w : World) (chip : Chip) (o : Option Change) (t : Neighbours) → next_of w chip ≡ o → addresses t ≡ (table w.history).addr
-    → addresses (fold after_message t (applies_next w chip o)) ≡ (table w.history).addr
-applies-told w chip None t next e = e
-applies-told w chip (Some c) t next e = offloads-told w chip c t next e
+    by : (o : Option ℕ) → option_map (λ (c : Chip). c.count) (chip_of w o) ≡ Some n → n ≤ deferred_count w.setup.domains.edition w.history
+    by None e = absurd (cc)
+    by (Some d) e = at d (chip_at w d) refl e
 
-turned-told : (w : World) (o : Option Chip) (t : Neighbours) → addresses t ≡ (table w.history).addr
-    → addresses (fold after_message t (turned w o)) ≡ (table w.history).addr
-turned-told w None t e = e
-turned-told w (Some chip) t e = applies-told w chip (next_of w chip) t refl e
+-- a turn
 
-turns-history : (w : World) (o : Option Chip) → (turns w o).0.history ≡ w.history
-turns-history w None = refl
-turns-history w (Some c) = elim (next_of w c) as (λ o. (turns_to w c o).0.history ≡ w.history) [ None ↦ refl | Some x ↦ refl ]
+module _ (w : World) (dom : ℕ) (c : Chip) (there : chip_at w dom ≡ Some c) (x : Change) where
+  abbrev after : World
+  after = with_chip (record w { steps = w.steps + 1 }) (applies c x)
 
--- Each step.
+  own-count : (p : ℕ) → is_in_domain w.setup.domains c.dom p ≡ true → (applied_at w p ≡ Some c.count) × (applied_at after p ≡ Some (c.count + 1))
+  own-count p is = by (domain_of w.setup.domains p) is
+    where
+      keep : ChipKeeps (record c { count = c.count + 1 }) (applies c x)
+      keep = hit_by-keeps (record c { count = c.count + 1 }) x
+
+      by : (o : Option ℕ) → option_eq (λ d e. d == e) o (Some c.dom) ≡ true
+          → (option_map (λ (y : Chip). y.count) (chip_of w o) ≡ Some c.count) × (option_map (λ (y : Chip). y.count) (chip_of after o) ≡ Some (c.count + 1))
+      by None e = absurd (cc)
+      by (Some d) e =
+          let same : d ≡ c.dom = eqb-true d c.dom e in
+          let its = chip-own w.chips dom c there in (
+            ap (λ n. option_map (λ (y : Chip). y.count) (chip_in w.chips n)) same ∙ ap (option_map (λ (y : Chip). y.count)) its,
+            ap (λ n. option_map (λ (y : Chip). y.count) (chip_in (put_chip w.chips (applies c x)) n)) same
+                ∙ ap (option_map (λ (y : Chip). y.count)) (put-same w.chips (applies c x) c.dom c keep.dom its)
+                ∙ ap (λ n. Some n) keep.count,
+          )
+
+  foreign-count : (p : ℕ) → is_in_domain w.setup.domains c.dom p ≡ false → applied_at after p ≡ applied_at w p
+  foreign-count p is = by (domain_of w.setup.domains p) is
+    where
+      keep : ChipKeeps (record c { count = c.count + 1 }) (applies c x)
+      keep = hit_by-keeps (record c { count = c.count + 1 }) x
+
+      by : (o : Option ℕ) → option_eq (λ d e. d == e) o (Some c.dom) ≡ false → option_map (λ (y : Chip). y.count) (chip_of after o) ≡ option_map (λ (y : Chip). y.count) (chip_of w o)
+      by None e = refl
+      by (Some d) e =
+          ap (option_map (λ (y : Chip). y.count))
+          (put-other w.chips (applies c x) d (ne_eqb (applies c x).dom d (λ same. eqb-false d c.dom e (sym same ∙ keep.dom))))
+
+turns-tell : (w : World) (dom : ℕ) (o : Option Chip) (t : Neighbours) → chip_at w dom ≡ o → TellsWorld w t → TellsWorld (turns (record w { steps = w.steps + 1 }) o).0 (taken t (turned w o))
+turns-tell w dom None t there tells = tells
+turns-tell w dom (Some c) t there tells = by (next_of w c) refl
+  where
+    by : (o : Option Change) → next_of w c ≡ o → TellsWorld (turns_to (record w { steps = w.steps + 1 }) c o).0 (taken t (option_and_then (offloads w c) o))
+    by None next = tells
+    by (Some x) next = turn-tells w c (applied_at w) (applied_at (after w dom c there x)) x next (own-count w dom c there x) (foreign-count w dom c there x) t tells
+
+-- Another step leaves what chips have applied.
 
 drop-length : {X : Type 0} (xs ys : List X) → drop (length xs) (xs ++ ys) ≡ ys
 drop-length [] ys = refl
 drop-length (x ∷ xs) ys = drop-length xs ys
 
-abbrev Tells : World × List Neigh → Type 0
-Tells x = addresses (table_of x.1) ≡ (table x.0.history).addr
+same-front : (xs : List Change) (m n : ℕ) → m ≤ length xs → n ≤ length xs → take m xs ≡ take n xs → m ≡ n
+same-front xs m n short less e = omega (arith, ap length e, length-take m xs, length-take n xs)
 
-accepted-tells : (w v : World) (ms : List Neigh) → Tells (w, ms) → (cs : List Change) → v.history ≡ w.history ++ cs
-    → Tells (v, ms ++ messages_of w.setup.domains w.history (drop (length w.history) v.history))
-accepted-tells w v ms e cs grows =
-    let domains = w.setup.domains in
-    let new : drop (length w.history) v.history ≡ cs = ap (drop (length w.history)) grows ∙ drop-length w.history cs in
-    ap (λ l. addresses (table_of (ms ++ messages_of domains w.history l))) new
-    ∙ ap addresses (fold-append after_message [] ms (messages_of domains w.history cs))
-    ∙ changes-told domains cs w.history (table_of ms) e
-    ∙ ap (λ l. (table l).addr) (sym grows)
+module _ (w : World) (step : Step) (k : IsWorld w) (is : (dom : ℕ) → applied_in dom w step ≡ synchronous_in w step) where
+  abbrev next_world : World
+  next_world = (world_step w step).0
 
-turn-tells : (w : World) (ms : List Neigh) (dom : ℕ) → Tells (w, ms) → Tells (monitors (w, ms) (Turn dom))
-turn-tells w ms dom e =
-    ap addresses (fold-append after_message [] ms (turned w (chip_at w dom)))
-    ∙ turned-told w (chip_at w dom) (table_of ms) e
-    ∙ ap (λ l. (table l).addr) (sym (turns-history (record w { steps = w.steps + 1 }) (chip_at w dom)))
+  same-chips : (dom : ℕ) → is_some (chip_at next_world dom) ≡ is_some (chip_at w dom)
+  same-chips dom =
+      chip-there next_world.chips dom
+      ∙ ap (list_any (λ d. d == dom)) ((step-world w step k).doms ∙ ap (λ (s : Setup). chip_domains s.domains) (step-setup w step) ∙ sym k.doms)
+      ∙ sym (chip-there w.chips dom)
 
-accepts-tells : (w : World) (ms : List Neigh) (step : Step) → Tells (w, ms) → Tells ((world_step w step).0, ms ++ accepted w step)
-accepts-tells w ms step e = let grows = step-accepts w step in accepted-tells w (world_step w step).0 ms e grows.0 grows.1
+  same-count : (dom : ℕ) (b c : Chip) → chip_at w dom ≡ Some b → chip_at next_world dom ≡ Some c → c.count ≡ b.count
+  same-count dom b c before after =
+      let grows = step-accepts w step in
+      let cs = grows.0 in
+      let front = cut (edition_of w) w.history b.count in
+      let applies : AppliesAt dom w front = λ x at. subst (λ (y : Chip). Applies (edition_of w) w.history y.count front) (same-some b x (sym before ∙ at))
+      (record { table = refl; synchronous = synchronous_of-cut (edition_of w) w.history b.count; deferred = deferred_of-cut (edition_of w) w.history b.count }) in
+      let changes : applied_in dom w step ≡ synchronous_of (edition_of w) cs = is dom ∙ ap (synchronous_of (edition_of w)) (ap (drop (length w.history)) grows.1 ∙ drop-length w.history cs) in
+      let now = subst (λ (s : Setup). Applies s.domains.edition next_world.history c.count (front ++ applied_in dom w step)) (step-setup w step)
+      (step-applies w dom front step k applies c after) in
+      let stands = chip-stands w dom b k before in
+      let once = once_after_accept (edition_of w) w.history front cs b.count stands.applied (synchronous_of-cut (edition_of w) w.history b.count) (deferred_of-cut (edition_of w) w.history b.count) in
+      let same : take c.count (deferred_of (edition_of w) next_world.history) ≡ take b.count (deferred_of (edition_of w) next_world.history) =
+      sym now.deferred
+      ∙ ap (λ (l : List Change). deferred_of (edition_of w) (front ++ l)) changes
+      ∙ once.1
+      ∙ ap (λ (l : List Change). take b.count (deferred_of (edition_of w) l)) (sym grows.1) in
+      let later = subst (λ (s : Setup). c.count ≤ deferred_count s.domains.edition next_world.history) (step-setup w step) (chip-stands next_world dom c (step-world w step k) after).applied in
+      let longer : b.count ≤ deferred_count (edition_of w) next_world.history =
+      omega (arith, stands.applied, deferred_count-append (edition_of w) w.history cs, ap (deferred_count (edition_of w)) grows.1) in
+      same-front (deferred_of (edition_of w) next_world.history) c.count b.count later longer same
 
-step-tells : (w : World) (ms : List Neigh) (step : Step) → Tells (w, ms) → Tells (monitors (w, ms) step)
-step-tells w ms (Rx port bytes) e = accepts-tells w ms (Rx port bytes) e
-step-tells w ms (Cmd c) e = accepts-tells w ms (Cmd c) e
-step-tells w ms (Now moment) e = accepts-tells w ms (Now moment) e
-step-tells w ms Serve e = accepts-tells w ms Serve e
-step-tells w ms Hold e = accepts-tells w ms Hold e
-step-tells w ms (Post id point) e = accepts-tells w ms (Post id point) e
-step-tells w ms (Turn dom) e = turn-tells w ms dom e
-step-tells w ms (Report dom) e = accepts-tells w ms (Report dom) e
-step-tells w ms (Sweep dom) e = accepts-tells w ms (Sweep dom) e
-step-tells w ms Publish e = accepts-tells w ms Publish e
+  counts-stay : (dom : ℕ) (o p : Option Chip) → chip_at w dom ≡ o → chip_at next_world dom ≡ p → option_map (λ (c : Chip). c.count) p ≡ option_map (λ (c : Chip). c.count) o
+  counts-stay dom None None before after = refl
+  counts-stay dom None (Some c) before after = let e = ap is_some (sym after) ∙ same-chips dom ∙ ap is_some before in absurd (cc)
+  counts-stay dom (Some b) None before after = let e = ap is_some (sym after) ∙ same-chips dom ∙ ap is_some before in absurd (cc)
+  counts-stay dom (Some b) (Some c) before after = ap (λ n. Some n) (same-count dom b c before after)
+
+  same-applied : (p : ℕ) → applied_at next_world p ≡ applied_at w p
+  same-applied p =
+      ap (λ (s : Setup). option_map (λ (c : Chip). c.count) (chip_of next_world (domain_of s.domains p))) (step-setup w step) ∙ by (domain_of w.setup.domains p)
+    where
+      by : (o : Option ℕ) → option_map (λ (c : Chip). c.count) (chip_of next_world o) ≡ option_map (λ (c : Chip). c.count) (chip_of w o)
+      by None = refl
+      by (Some d) = counts-stay d (chip_at w d) (chip_at next_world d) refl refl
+
+  accepted-tells : (t : Neighbours) → TellsWorld w t → TellsWorld next_world (fold after_message t (accepted w step))
+  accepted-tells t tells =
+      let grows = step-accepts w step in
+      let cs = grows.0 in
+      let new = ap (drop (length w.history)) grows.1 ∙ drop-length w.history cs in
+      let there = changes-tell (edition_of w) (applied_at w) cs w.history t (bounds w k) tells in
+      let messages : List Neigh = messages_of (edition_of w) w.history cs in
+      let come : Tells (edition_of w) next_world.history (applied_at w) (fold after_message t messages) =
+      subst (λ l. Tells (edition_of w) l (applied_at w) (fold after_message t messages)) (sym grows.1) there in
+      subst (λ (l : List Change). TellsWorld next_world (fold after_message t (messages_of (edition_of w) w.history l))) (sym new)
+      (subst (λ (s : Setup). Tells s.domains.edition next_world.history (applied_at next_world) (fold after_message t messages)) (sym (step-setup w step))
+      (counts-tell (edition_of w) next_world.history (applied_at w) (applied_at next_world) (fold after_message t messages) same-applied come))
+
+-- Each step.
+
+step-tells : (w : World) (t : Neighbours) (step : Step) → IsWorld w → TellsWorld w t → TellsWorld (world_step w step).0 (fold after_message t (messages_in w step))
+step-tells w t (Rx port bytes) k e = accepted-tells w (Rx port bytes) k (λ dom. refl) t e
+step-tells w t (Cmd c) k e = accepted-tells w (Cmd c) k (λ dom. refl) t e
+step-tells w t (Now moment) k e = accepted-tells w (Now moment) k (λ dom. refl) t e
+step-tells w t Serve k e = accepted-tells w Serve k (λ dom. refl) t e
+step-tells w t Hold k e = accepted-tells w Hold k (λ dom. refl) t e
+step-tells w t (Post id point) k e = accepted-tells w (Post id point) k (λ dom. refl) t e
+step-tells w t (Turn dom) k e = turns-tell w dom (chip_at w dom) t refl e
+step-tells w t (Report dom) k e = accepted-tells w (Report dom) k (λ dom. refl) t e
+step-tells w t (Sweep dom) k e = accepted-tells w (Sweep dom) k (λ dom. refl) t e
+step-tells w t Publish k e = accepted-tells w Publish k (λ dom. refl) t e
 
 -- Runs.
 
@@ -310,11 +418,46 @@ same-world w ms x [] e = e
 same-world w ms x (step ∷ steps) e =
     same-world (world_step w step).0 (ms ++ messages_in w step) (then_step x step) steps (ap (λ (v : World). (world_step v step).0) e)
 
-all-tell : (x : World × List Neigh) (steps : List Step) → Tells x → Tells (fold monitors x steps)
-all-tell x [] e = e
-all-tell x (step ∷ steps) e = all-tell (monitors x step) steps (step-tells x.0 x.1 step e)
+all-tell : (x : World × List Neigh) (steps : List Step) → IsWorld x.0 → TellsWorld x.0 (table_of x.1)
+    → TellsWorld (fold monitors x steps).0 (table_of (fold monitors x steps).1)
+all-tell x [] k e = e
+all-tell x (step ∷ steps) k e =
+    all-tell (monitors x step) steps (step-world x.0 step k)
+    (subst (TellsWorld (world_step x.0 step).0) (sym (fold-append after_message [] x.1 (messages_in x.0 step))) (step-tells x.0 (table_of x.1) step k e))
+
+message-ascends : (t : Neighbours) (m : Neigh) → T (is_sorted pair_cmp t) → T (is_sorted pair_cmp (after_message t m))
+message-ascends t m up =
+    elim m.new as (λ b. T (is_sorted pair_cmp (cond b (put pair_cmp t (m.vid, m.mac) (record { port = m.port; kind = m.kind; offload = m.offload })) (without pair_cmp t (m.vid, m.mac))))) [
+      | true ↦ is_sorted-put pair_cmp pair_total (m.vid, m.mac) (record { port = m.port; kind = m.kind; offload = m.offload }) t up
+      | false ↦ is_sorted-where_key pair_cmp (λ q. not (eq_by_cmp pair_cmp (m.vid, m.mac) q)) t up
+    ]
+
+messages-ascend : (t : Neighbours) (ms : List Neigh) → T (is_sorted pair_cmp t) → T (is_sorted pair_cmp (fold after_message t ms))
+messages-ascend t [] up = up
+messages-ascend t (m ∷ ms) up = messages-ascend (after_message t m) ms (message-ascends t m up)
+
+world-told : (w : World) (t : Neighbours) → T (is_sorted pair_cmp t) → TellsWorld w t → t ≡ entries_of w
+world-told w t up tells =
+    let at : Key → ℕ × Kind → Entry = entry_at w.setup.domains.edition w.history (applied_at w) in
+    let all : Places = (table w.history).addr in
+    same_entries pair_cmp pair_total same_cmp t (entries_of w) up (subst T (sym (ascending-mapped at all)) (all-ascend start w.history tt))
+    (λ q. tells q ∙ sym (get-mapped at all q))
+
+pub entries-told : (setup : Setup) (steps : List Step) → table_of (messages setup steps) ≡ entries_of (run setup steps).0
+unfolding messages run
+entries-told setup steps =
+    let first = first_world setup in
+    let told = fold monitors (first, []) steps in
+    world-told told.0 (table_of told.1) (messages-ascend [] told.1 tt) (all-tell (first, []) steps (first-world setup) (λ q. refl))
+    ∙ ap entries_of (same-world first [] (first, []) steps refl)
+
+-- and without the chips
+places-told : (at : Key → ℕ × Kind → Entry) → ((q : Key) (x : ℕ × Kind) → ((at q x).port, (at q x).kind) ≡ x) → (m : Places) → addresses (mapped at m) ≡ m
+places-told at same [] = refl
+places-told at same (e ∷ m) = λ i. (e.0, same e.0 e.1 i) ∷ places-told at same m i
 
 pub messages-tell : (setup : Setup) (steps : List Step) → addresses (table_of (messages setup steps)) ≡ (table (run setup steps).0.history).addr
-unfolding messages run
 messages-tell setup steps =
-    all-tell (first_world setup, []) steps refl ∙ ap (λ (w : World). (table w.history).addr) (same-world (first_world setup) [] (first_world setup, []) steps refl)
+    let w = (run setup steps).0 in
+    ap addresses (entries-told setup steps)
+    ∙ places-told (entry_at w.setup.domains.edition w.history (applied_at w)) (λ q x. refl) (table w.history).addr

@@ -2,5 +2,6 @@ pub mod Messages
 pub mod Reading
 pub mod Neighbours
 pub mod Places
+pub mod Offloaded
 pub mod Monitor
 pub mod Worked

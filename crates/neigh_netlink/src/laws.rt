@@ -11,6 +11,7 @@ ghost use Rattle.neigh_netlink.specs.Messages.{has_ranges, is_message, written};
 ghost use Rattle.neigh_netlink.specs.Reading.{read};
 ghost use Rattle.neigh_netlink.specs.Monitor.{messages, monitored};
 ghost use Rattle.neigh_netlink.specs.Neighbours.{addresses, table_of};
+ghost use Rattle.neigh_netlink.specs.Offloaded.{entries_of};
 ghost use Rattle.neigh_netlink.specs.Worked.{monitor_and_follow_told, moved_entry_told};
 
 /// Each message that is written is read back.
@@ -26,6 +27,12 @@ pub fn read_is_written()
 /// The messages of a run come to the address entries of all accepted changes.
 pub fn messages_are_the_entries()
     ensures { (setup : Setup) (steps : List Step) → addresses (table_of (messages setup steps)) ≡ (table (run setup steps).0.history).addr }
+{}
+
+/// And each of them is offloaded exactly where its port is in the domain of a chip, and the last deferred change of its address puts it
+/// and is one that this chip has applied.
+pub fn offloads_are_told()
+    ensures { (setup : Setup) (steps : List Step) → table_of (messages setup steps) ≡ entries_of (run setup steps).0 }
 {}
 
 /// Two static entries come, at ports of software: a message each.
