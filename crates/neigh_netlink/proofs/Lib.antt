@@ -4,3 +4,5 @@ pub mod Readings
 pub mod Mapped
 pub mod LastUpdates
 pub mod Told
+pub mod Kept
+pub mod HexDigits

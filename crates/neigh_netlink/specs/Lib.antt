@@ -4,4 +4,5 @@ pub mod Neighbours
 pub mod Places
 pub mod Offloaded
 pub mod Monitor
+pub mod Stream
 pub mod Worked

@@ -14,14 +14,19 @@
 #![tactic(auto)]
 
 mod entries;
+mod lasts;
 pub mod laws;
+mod line;
 mod neigh;
 mod reading;
+mod stream;
 mod table;
 mod writing;
 
+pub use crate::line::append_line;
 pub use crate::neigh::Neigh;
 pub use crate::reading::read;
+pub use crate::stream::Stream;
 pub use crate::table::{Listing, Table, TakeFault};
 pub use crate::writing::write;
 pub use br_model::NoMemory;

@@ -1,0 +1,9 @@
+use Rattle.std.proofs.Common.{arith, ◌∙◌}
+use Rattle.neigh_netlink.proofs.HexDigits.{encode_lower-is}
+use Rattle.neigh_netlink.proofs.line.write_hex.Goals as goal
+
+pub returns-clause-bytes : goal.returns-clause-bytes
+returns-clause-bytes c = λ k. omega (arith, c.type_inv.bytes k)
+
+pub returns-clause-value : goal.returns-clause-value
+returns-clause-value c = c.in-Ok.ensures.written ∙ encode_lower-is c.args.bytes.now (returns-clause-bytes c)
