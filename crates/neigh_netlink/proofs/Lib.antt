@@ -6,3 +6,5 @@ pub mod LastUpdates
 pub mod Told
 pub mod Kept
 pub mod HexDigits
+pub mod LineWords
+pub mod FollowedLines

@@ -5,4 +5,6 @@ pub mod Places
 pub mod Offloaded
 pub mod Monitor
 pub mod Stream
+pub mod Follow
+pub mod Lines
 pub mod Worked

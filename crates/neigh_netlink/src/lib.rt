@@ -14,6 +14,7 @@
 #![tactic(auto)]
 
 mod entries;
+mod follow;
 mod lasts;
 pub mod laws;
 mod line;
@@ -23,6 +24,7 @@ mod stream;
 mod table;
 mod writing;
 
+pub use crate::follow::{LineFault, Said, read_line, says_end};
 pub use crate::line::append_line;
 pub use crate::neigh::Neigh;
 pub use crate::reading::read;
