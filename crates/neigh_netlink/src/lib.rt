@@ -11,6 +11,8 @@
 //! | 40 to 47 | an attribute: length 2, type 2, VLAN 2, padding 2 | 6; 5 (`NDA_VLAN`); the VLAN; 0 |
 //!
 //! The further attributes of the kernel's messages are left out.
+//!
+//! A `Stream` gives the messages of a run as it goes on, and a `Table` follows lines of them.
 #![tactic(auto)]
 
 mod entries;

@@ -23,7 +23,7 @@ use std::alloc::Global;
 use std::marker::Model;
 
 /// What is kept of the changes so far: how many deferred ones there were, and each entry of their table with the ticket of its last
-/// change. An entry that was deleted needs none: a turn that puts it comes before the one that deletes it.
+/// change. An entry that was deleted needs none: no turn that puts it is of its last change.
 #[derive(Drop)]
 pub struct Stream {
     domains: Domains,

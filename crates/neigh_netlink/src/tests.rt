@@ -1,7 +1,12 @@
+ghost use Rattle.std.specs.Prelude.{◌≡◌, ℕ};
+ghost use Rattle.br_model.specs.declared.change.Change.TheVariants.{AddrPut};
+ghost use Rattle.br_model.specs.declared.change.Kind.TheVariants.{Extern};
+
 use super::*;
-use br_model::change::Kind;
+use br_model::change::{Change, Kind, Update};
+use br_model::domains::Domains;
 use br_model::limits::MOST_ADDRESSES;
-use br_model::numbers::{Mac, Port, Vid};
+use br_model::numbers::{Dom, Mac, Port, Vid};
 use std::test::Fail;
 
 // 02:00:00:00:00:0a at port 1 and 02:00:00:00:00:0b at port 2, static, in VLAN 1.
@@ -125,5 +130,75 @@ fn full_at_16384(rt: HostRuntime) -> Result<(), Fail> {
     assert_eq!(rt; table.take(&entry(count, 0)?), Err(TakeFault::Full));
     assert_eq!(rt; table.take(&entry(0, 1)?), Ok(()));
     assert_eq!(rt; table.list(rt.alloc())?.len(), MOST_ADDRESSES);
+    Ok(())
+}
+
+// 02:00:00:00:00:0b in VLAN 1: a chip has learned it at this port.
+fn learned(port: Port) -> Change
+    ensures { (address : ℕ) × (result ≡ AddrPut 1 address port Extern) }
+{
+    Change::AddrPut {
+        vid: Vid::DEFAULT,
+        mac: mac(11),
+        port,
+        kind: Kind::Extern,
+    }
+}
+
+// The update with this ticket.
+fn update(ticket: u32, port: Port) -> Option<Update> {
+    Some(Update {
+        ticket,
+        change: learned(port),
+    })
+}
+
+/// An entry is learned twice: the turn of the first change is no offload, and that of the second one is.
+#[test]
+fn superseded_update(rt: HostRuntime) -> Result<(), Fail> {
+    let two = Port::new(2).ok_or("port")?;
+    let mut domains = Domains::make();
+    domains.set(two, Dom::CHIP);
+    let mut stream = Stream::make(rt.alloc(), domains)?;
+    let history = [learned(two), learned(two)];
+    let mut messages = Vec::new(rt.alloc());
+    stream.follow(&history, 0, &mut messages)?;
+    assert_eq!(rt; messages.len(), 2);
+    assert_eq!(rt; messages.first().copied(), read(&LEARNED));
+    assert_eq!(rt; stream.turn(Dom::CHIP, update(0, two)), None);
+    let offload = stream.turn(Dom::CHIP, update(1, two)).ok_or("offload")?;
+    let mut text = String::new(rt.alloc());
+    append_line(&offload, &mut text)?;
+    assert_eq!(rt;
+        text.as_str(),
+        "nl 300000001c00000001000000000000000700000003000000020030000a00020002000000000b00000600050001000000\n"
+    );
+    assert_eq!(rt; stream.turn(Dom::CHIP, None), None);
+    Ok(())
+}
+
+#[test]
+fn lines_are_followed(rt: HostRuntime) -> Result<(), Fail> {
+    let mut table = Table::make(rt.alloc())?;
+    assert_eq!(rt; table.follow(b"# nothing yet"), Ok(false));
+    assert_eq!(rt; table.follow(b"nl 30"), Err(LineFault::Message));
+    assert_eq!(rt; table.follow(b"nl 3"), Err(LineFault::Hex));
+    assert_eq!(rt; table.follow(b"nl"), Err(LineFault::Word));
+    let line =
+        b"nl 300000001C00000000000000000000000700000003000000020030000A00020002000000000B00000600050001000000 ";
+    assert_eq!(rt; table.follow(line), Ok(false));
+    assert_eq!(rt; table.follow(b" end"), Ok(true));
+    assert!(rt; says_end(b"end") && !says_end(b"end end"));
+    assert_eq!(rt;
+        table.list(rt.alloc())?.as_slice(),
+        [(
+            Vid::DEFAULT,
+            mac(11),
+            Port::new(2).ok_or("port")?,
+            Kind::Extern,
+            true
+        )]
+        .as_slice()
+    );
     Ok(())
 }
