@@ -4,7 +4,7 @@ use Rattle.std.proofs.lemmas.List.Sums.{fold-append}
 use Rattle.std.specs.Cmp.{first_so, second_so}
 use Rattle.std.specs.List.{list_all}
 use Rattle.br_model.specs.declared.change.Change.{Change}
-use Rattle.br_model.specs.declared.change.Change.TheVariants.{PortUp, PortDown, SetFlags, SetState, VlanAdd, VlanDel, GroupJoin, GroupPart, Router, Querier, Snoop, Stp, AddrPut, AddrDel}
+use Rattle.br_model.specs.declared.change.Change.TheVariants.{GroupPart, Router, Querier, AddrPut, AddrDel}
 use Rattle.br_model.specs.Control.Ageing.{forgets}
 use Rattle.br_model.specs.Table.Change.{is_of_address}
 use Rattle.br_model.specs.Control.Control.{Control, keeps_up}

@@ -1,5 +1,5 @@
 -- Loops over members, and the tree beside what a control state keeps up.
-use Rattle.std.proofs.Common.{◌≡◌, ◌<◌, ℕ, List, [], ◌∷◌, fold, length, Option, None, Some, refl, sym, ap, ◌∙◌}
+use Rattle.std.proofs.Common.{◌≡◌, ◌<◌, ℕ, List, [], ◌∷◌, fold, length, Option, None, Some, refl, ap, ◌∙◌}
 use Rattle.std.specs.Iterator.{Yields, YieldsFirst}
 use Rattle.std.proofs.lemmas.Iterator.Consumers.{YieldsList-turn, YieldsList-from_first}
 use Rattle.br_model.specs.declared.change.Change.{Change}

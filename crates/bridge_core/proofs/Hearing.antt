@@ -12,7 +12,7 @@ use Rattle.std.proofs.Math.Seq.{drop-append_seam}
 use Rattle.std.proofs.lemmas.List.{append-nil, take_all}
 use Rattle.std.proofs.lemmas.List.Sums.{fold-append}
 use Rattle.br_model.specs.declared.change.Change.{Change}
-use Rattle.br_model.specs.declared.change.Change.TheVariants.{PortUp, PortDown, SetFlags, SetState, VlanAdd, VlanDel, GroupJoin, GroupPart, Router, Querier, Snoop, Stp, AddrPut, AddrDel}
+use Rattle.br_model.specs.declared.change.Change.TheVariants.{GroupJoin, GroupPart, Router, Querier, AddrPut, AddrDel}
 use Rattle.br_model.specs.declared.group.Group.{Group}
 use Rattle.std.specs.Cmp.{first_so, second_so}
 use Rattle.std.specs.List.{list_all}

@@ -14,7 +14,7 @@ use Rattle.br_model.specs.declared.change.Kind.{Kind}
 use Rattle.br_model.specs.declared.change.Kind.TheVariants.{Learned, Extern}
 use Rattle.br_model.specs.declared.frame.Head.{Head}
 use Rattle.br_model.specs.declared.steps.Command.{Command}
-use Rattle.br_model.specs.declared.steps.Command.TheVariants.{PortUp, PortDown, Link, Cost, PortPriority, VlanAdd, VlanDel, FdbAdd, FdbDel, MdbAdd, MdbDel, Stp, Priority, Ageing, Snooping}
+use Rattle.br_model.specs.declared.steps.Command.TheVariants.{PortDown, VlanDel, Ageing}
 use Rattle.br_model.specs.declared.steps.Refusal.{Refusal}
 use Rattle.br_model.specs.declared.steps.Refusal.TheVariants as refusals
 use Rattle.br_model.specs.declared.transcript.Line.{Line}
@@ -24,9 +24,7 @@ use Rattle.br_model.specs.Forward.Admission.{is_up, vlan_of, has_valid_source}
 use Rattle.br_model.specs.Control.Ageing.{forgets}
 use Rattle.br_model.specs.Wire.Bpdus.{bpdu}
 use Rattle.br_model.specs.Control.Commands.{command, sets}
-use Rattle.br_model.specs.Control.Commands.Groups.{group_of, is_snooping}
-use Rattle.br_model.specs.Control.Commands.Ports.{goes_down, drops_addresses, drops_groups, drops_vlans, flags_of, flags_with}
-use Rattle.br_model.specs.Control.Commands.SpanningTree.{is_switched}
+use Rattle.br_model.specs.Control.Commands.Ports.{goes_down, drops_addresses, drops_groups, drops_vlans}
 use Rattle.br_model.specs.Control.Commands.Vlans.{leaves_vlan}
 use Rattle.br_model.specs.Control.Control.{Control, keeps_up, renewed}
 use Rattle.br_model.specs.Control.Course.{Course, from, makes_all}

@@ -1,22 +1,17 @@
 -- What a plan comes to, by the definitions.
-use Rattle.std.specs.Prelude.{ℕ, ◌≡◌, ◌<◌, ◌^◌, true, List, [], IfSome, IsSome}
+use Rattle.std.specs.Prelude.{◌≡◌, ◌<◌, ◌^◌, true, [], IfSome, IsSome}
 use Rattle.std.specs.declared.option.Option.{Option}
 use Rattle.std.specs.declared.option.Option.TheVariants.{None, Some}
 use Rattle.std.specs.declared.result.Result.{Result}
 use Rattle.std.specs.declared.result.Result.TheVariants.{Ok, Err}
-use Rattle.br_model.specs.declared.frame.Head.{Head}
-use Rattle.br_model.specs.declared.steps.Event.{Event}
-use Rattle.br_model.specs.declared.steps.Event.TheVariants.{Cmd, Moment, Sight, Told, Forget}
 use Rattle.br_model.specs.declared.steps.Refusal.{Refusal}
 use Rattle.br_model.specs.Control.Control.{Control, renewed}
 use Rattle.br_model.specs.Control.Course.{Course, makes_all}
 use Rattle.br_model.specs.Control.Learning.{Address}
 use Rattle.br_model.specs.Table.Limits.{all_fit}
 use Rattle.br_model.specs.Data.Maps.{pair_cmp, get}
-use Rattle.br_model.specs.Control.Reaction.{happens, learns_of}
-use Rattle.br_model.specs.Table.Setup.{Setup}
 use Rattle.br_model.specs.Table.Table.{Table, table}
-use Rattle.br_model.specs.Control.TreeReaction.{told, heard}
+use Rattle.br_model.specs.Control.TreeReaction.{told}
 use Rattle.bridge_core.specs.declared.faults.EventFault.{EventFault}
 use Rattle.bridge_core.specs.declared.faults.EventFault.TheVariants.{Refused, NoMemory}
 use Rattle.bridge_core.specs.declared.plan.Plan.{Plan}

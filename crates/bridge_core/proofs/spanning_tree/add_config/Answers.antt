@@ -1,4 +1,4 @@
-use Rattle.std.proofs.Common.{[], ◌∷◌, ◌++◌, Option, ap, sym, ◌∙◌}
+use Rattle.std.proofs.Common.{◌++◌, Option, ap, sym, ◌∙◌}
 use Rattle.br_model.specs.declared.bpdu.BpduMsg.{BpduMsg}
 use Rattle.bridge_core.specs.Following.{line_of, config_lines}
 use Rattle.bridge_core.proofs.spanning_tree.add_config.Goals as goal

@@ -1,7 +1,7 @@
-use Rattle.std.proofs.Common.{ap, is_some, min, sym, subst, true, ◌≡◌, ◌∙◌}
+use Rattle.std.proofs.Common.{ap, is_some, min, true, ◌≡◌, ◌∙◌}
 use Rattle.br_model.specs.Control.Learning.{Address}
 use Rattle.br_model.specs.Data.Maps.{pair_cmp, get, put}
-use Rattle.bridge_core.specs.Entries.{Entries, IsKept}
+use Rattle.bridge_core.specs.Entries.{Entries}
 use Rattle.bridge_core.proofs.Moments.{renewed-kept, there-told}
 use Rattle.bridge_core.proofs.addresses.Addresses.renew.Goals as goal
 

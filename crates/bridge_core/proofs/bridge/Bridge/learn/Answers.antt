@@ -1,14 +1,11 @@
-use Rattle.std.proofs.Common.{◌≡◌, ◌≤◌, length, Some, None, refl, sym, ap, subst, ◌∙◌}
+use Rattle.std.proofs.Common.{◌≤◌, length, refl, sym, ap, subst, ◌∙◌}
 use Rattle.std.specs.declared.option.Option.{Option}
-use Rattle.br_model.specs.Control.Course.{from}
 use Rattle.br_model.specs.Control.Learning.{Address}
-use Rattle.br_model.specs.Control.Reaction.{learns, learns_of}
+use Rattle.br_model.specs.Control.Reaction.{learns}
 use Rattle.br_model.specs.Table.Limits.{most_changes}
-use Rattle.br_model.specs.Table.Setup.{Setup}
-use Rattle.br_model.specs.Table.Table.{Table, table}
+use Rattle.br_model.specs.Table.Table.{table}
 use Rattle.bridge_core.specs.Answers.{standing}
 use Rattle.bridge_core.specs.Kept.{Controlled}
-use Rattle.bridge_core.specs.Lessons.{of_bridge}
 use Rattle.bridge_core.proofs.Accepting.{carried_as, carried_still}
 use Rattle.bridge_core.proofs.Seeing.{taught_so}
 use Rattle.bridge_core.proofs.bridge.Bridge.learn.Goals as goal

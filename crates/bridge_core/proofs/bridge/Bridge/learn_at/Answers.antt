@@ -1,10 +1,8 @@
 use Rattle.std.proofs.Common.{◌≡◌, ◌≤◌, length, refl, sym, ap, subst, ◌∙◌}
 use Rattle.br_model.specs.Control.Control.{renewed}
-use Rattle.br_model.specs.Control.Course.{from}
 use Rattle.br_model.specs.Control.Learning.{Address}
 use Rattle.br_model.specs.Table.Limits.{most_changes}
 use Rattle.br_model.specs.Table.Table.{Table, table}
-use Rattle.bridge_core.specs.declared.learning.Lesson.{Lesson}
 use Rattle.bridge_core.specs.declared.learning.Lesson.TheVariants.{Known, Renewed, News}
 use Rattle.bridge_core.specs.Kept.{Controlled}
 use Rattle.bridge_core.specs.Lessons.{lesson_of}

@@ -1,7 +1,7 @@
-use Rattle.std.proofs.Common.{◌≡◌, List, [], refl, sym, ap, subst, ◌∙◌}
+use Rattle.std.proofs.Common.{[], sym, ap, subst, ◌∙◌}
 use Rattle.br_model.specs.declared.frame.McastMsg.{McastMsg}
 use Rattle.br_model.specs.Control.Course.{Course}
-use Rattle.br_model.specs.Control.Reaction.{learns_of, sees}
+use Rattle.br_model.specs.Control.Reaction.{learns_of}
 use Rattle.br_model.specs.Table.Table.{Table, table, with_addresses}
 use Rattle.br_model.specs.Wire.Messages.{RecordsStand}
 use Rattle.br_model.proofs.RecordsFit.{message-stands}

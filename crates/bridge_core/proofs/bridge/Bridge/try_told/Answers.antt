@@ -1,6 +1,5 @@
-use Rattle.std.proofs.Common.{ℕ, ◌≡◌, List, ◌++◌, map, sym, ap, subst, ◌∙◌}
+use Rattle.std.proofs.Common.{List, ◌++◌, map, sym, ap, subst, ◌∙◌}
 use Rattle.br_model.specs.declared.change.Change.{Change}
-use Rattle.br_model.specs.declared.transcript.Line.{Line}
 use Rattle.br_model.specs.Table.Limits.{all_fit}
 use Rattle.br_model.specs.Plane.World.{control_lines}
 use Rattle.br_model.specs.Table.Table.{table}
