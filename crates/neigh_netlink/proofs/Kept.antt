@@ -216,9 +216,6 @@ module _ (w : World) (chip : Chip) where
       (get-mapped (last_at edition w.history) (table w.history).addr k ∙ ap (option_map (last_at edition w.history k)) (get-table edition w.history k))
       ∙ by (last_update edition w.history k) refl
     where
-      abbrev_if : Bool → Option Neigh
-      abbrev_if b = if is_in_domain w.setup.domains chip.dom x.0 && b then Some (put_message chip.count k x true) else None
-
       none : (b : Bool) → None ≡ (if b && false then Some (put_message chip.count k x true) else None)
       none true = refl
       none false = refl
