@@ -128,6 +128,10 @@ why_text fault.Message = codes "message"
 why_text fault.Absent = codes "absent"
 why_text fault.Full = codes "full"
 
+-- the last line where this line is bad
+abbrev pub bad_text : ℕ → LineFault → List ℕ
+bad_text n why = codes "bad " ++ (decimal n ++ (32 ∷ (why_text why ++ 10 ∷ [])))
+
 -- an entry: address, port, VLAN and kind, and whether a chip has it
 abbrev pub row_line : Row → List ℕ
 row_line e =
@@ -137,7 +141,7 @@ row_line e =
 abbrev pub followed_at : Ending → Neighbours → List ℕ
 followed_at Going t = []
 followed_at Ended t = flat_map row_line (rows t) ++ (codes "end" ++ 10 ∷ [])
-followed_at (Bad n why) t = codes "bad " ++ (decimal n ++ (32 ∷ (why_text why ++ 10 ∷ [])))
+followed_at (Bad n why) t = bad_text n why
 
 -- what `follow` writes for the bytes of its input
 unfoldable pub followed : List ℕ → List ℕ

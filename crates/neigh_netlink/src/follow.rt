@@ -1,12 +1,14 @@
 //! Lines of messages, as they are read.
-ghost use Rattle.std.specs.Prelude.{◌≡◌, ◌≢◌, ◌≤◌, Err, ℕ, true, false, length, take, drop, is_some, ◌∷◌};
+ghost use Rattle.std.specs.Prelude.{◌≡◌, ◌++◌, OnOk, ◌≢◌, ◌≤◌, Err, ℕ, true, false, length, take, drop, is_some, ◌∷◌};
 ghost use Rattle.std.specs.List.{list_all};
 ghost use Rattle.std.specs.Option.{option_map};
+ghost use Rattle.std.specs.String.{string_bytes};
 ghost use Rattle.br_model.specs.Data.Digits.{bytes_from_hex, nibble};
 ghost use Rattle.br_model.specs.Text.Scenario.{is_end};
-ghost use Rattle.neigh_netlink.specs.Follow.{bytes_say, line_says, takes, why_taken, words, words_say, Going};
+ghost use Rattle.neigh_netlink.specs.Follow.{bad_text, bytes_say, line_says, takes, why_taken, why_text, words, words_say, Going};
 ghost use Rattle.neigh_netlink.specs.Lines.{after_line, begins_with_space, is_cut, is_no_space, with_first};
 
+use crate::NoMemory;
 use crate::neigh::Neigh;
 use crate::reading::read;
 use crate::table::{Table, TakeFault};
@@ -43,6 +45,31 @@ pub enum Said {
     Tells(Neigh),
     /// It is the last line.
     Ends,
+}
+
+impl LineFault {
+    /// Its word in the last line.
+    pub fn word(self) -> &'static str
+        ensures { result.now ≡ why_text self }
+    {
+        match self {
+            LineFault::Long => "long",
+            LineFault::Unended => "unended",
+            LineFault::Word => "word",
+            LineFault::Hex => "hex",
+            LineFault::Message => "message",
+            LineFault::Absent => "absent",
+            LineFault::Full => "full",
+        }
+    }
+}
+
+/// Writes the last line behind the text, where this line, counted from 1, is bad. After want of memory a part of it may stand there.
+pub fn append_bad(line: u32, why: LineFault, text: &mut String) -> Result<(), NoMemory>
+    ensures { OnOk result (string_bytes text.new ≡ string_bytes text.old ++ bad_text line why) }
+{
+    let why = why.word();
+    writeln!(text, "bad {line} {why}")
 }
 
 impl From<TakeFault> for LineFault {

@@ -26,7 +26,7 @@ mod stream;
 mod table;
 mod writing;
 
-pub use crate::follow::{LineFault, Said, read_line, says_end};
+pub use crate::follow::{LineFault, Said, append_bad, read_line, says_end};
 pub use crate::line::append_line;
 pub use crate::neigh::Neigh;
 pub use crate::reading::read;
