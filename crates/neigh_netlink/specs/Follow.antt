@@ -135,7 +135,8 @@ bad_text n why = codes "bad " ++ (decimal n ++ (32 ∷ (why_text why ++ 10 ∷ [
 -- an entry: address, port, VLAN and kind, and whether a chip has it
 abbrev pub row_line : Row → List ℕ
 row_line e =
-    mac_text e.1 ++ (codes " port " ++ (decimal e.2 ++ (codes " vlan " ++ (decimal e.0 ++ (32 ∷ kind_word e.3 ++ (further e.4 (codes "offload") ++ 10 ∷ []))))))
+    mac_text e.1
+    ++ (codes " port " ++ (decimal e.2 ++ (codes " vlan " ++ (decimal e.0 ++ (32 ∷ kind_word e.3 ++ (further e.4 (codes "offload") ++ 10 ∷ []))))))
 
 -- the entries, ascending by VLAN and address, and a last line, where the lines end well
 abbrev pub followed_at : Ending → Neighbours → List ℕ
