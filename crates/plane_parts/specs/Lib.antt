@@ -1,0 +1,6 @@
+pub mod Added
+pub mod Queued
+pub mod Arrivals
+pub mod Places
+pub mod Sent
+pub mod Decided
