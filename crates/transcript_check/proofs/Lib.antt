@@ -1,0 +1,13 @@
+pub mod Cutting
+pub mod Passing
+pub mod CutSteps
+pub mod Noting
+pub mod CutLists
+pub mod Reacting
+pub mod CutChanges
+pub mod Turning
+pub mod Worlds
+pub mod Entering
+pub mod Searching
+pub mod Texts
+pub mod Besides

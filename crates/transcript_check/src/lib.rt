@@ -1,0 +1,13 @@
+//! Another program's word on a transcript: whether it is what is told of a scenario.
+#![tactic(auto)]
+
+mod beside;
+mod cursor;
+mod cut;
+mod cuts;
+mod lines;
+mod point;
+mod sides;
+mod world;
+
+pub use br_model::NoMemory;
