@@ -31,7 +31,7 @@ does_more x y z steps step taken mid now old text held after does moves done s b
     let t : Scenario = with_steps s (steps ++ step ∷ []) in
     let did = does s before place d in
     let w = moved before mid now text held did.all did.written moves in
-    let went = did_step u t y z held after step did.follows.stands.world did.follows.stands.roster did.follows.stands.lines did.follows.going (sym (append_assoc s.steps steps (step ∷ []))) refl place done in record {
+    let went = did_step u t y z held after step did.follows.stands.world did.follows.stands.said did.follows.stands.roster did.follows.stands.lines did.follows.going (sym (append_assoc s.steps steps (step ∷ []))) refl place done in record {
       all = w.gone ++ after;
       written = record { gone = w.gone; wrote = w.wrote; together = refl };
       follows = went.follows;

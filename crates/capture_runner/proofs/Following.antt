@@ -24,8 +24,12 @@ use Rattle.br_model.proofs.Running.{run_push, run_none, text-append}
 use Rattle.capture_runner.specs.declared.session.Last.TheVariants as lasts
 use Rattle.capture_runner.specs.declared.session.Next.TheVariants as nexts
 use Rattle.capture_runner.specs.declared.session.Session.{Session}
+use Rattle.capture_runner.specs.declared.voice.Voice.{Voice}
+use Rattle.capture_runner.specs.declared.voice.Voice.TheVariants.{Silent, Monitor}
 use Rattle.capture_runner.specs.Session as session
-use Rattle.capture_runner.specs.Session.{Agrees, IsWorld, IsAmongSteps, Follows, Took, Went, EndsBy, world_of}
+use Rattle.capture_runner.specs.Session.{Agrees, IsSaid, IsWorld, IsAmongSteps, Follows, Took, Went, EndsBy, world_of}
+use Rattle.capture_runner.specs.Voices.{Says}
+use Rattle.neigh_netlink.specs.Monitor.{messages}
 use Rattle.scenario_text.specs.Items.{item_of, comes_in_place}
 
 not_long : (n : ℕ) → n ≤ longest_line → nat_lt longest_line n ≡ false
@@ -70,6 +74,32 @@ quiet s t (Some w) h e p later = (h.0 ∙ sym (ap (λ (x : Stepped). x.0) (same_
 pub unmade : (s t : Scenario) (w : Option World) → IsWorld s w → t.steps ≡ s.steps → declaration s.roster.place ≡ true → IsWorld t w
 unmade s t None h e d = e ∙ h
 unmade s t (Some w) h e d = let e : true ≡ false = sym d ∙ h.1.0 in absurd (cc)
+
+-- what was said stays said
+
+pub says_on : (v : Voice) (a b : Setup) (steps more : List Step) → b ≡ a → more ≡ steps → Says v a steps → Says v b more
+says_on v a b steps more p e h = subst (λ (x : Setup). Says v x more) (sym p) (subst (λ (l : List Step). Says v a l) (sym e) h)
+
+pub said_on : (s t : Scenario) (v : Voice) → IsSaid s v → t.steps ≡ s.steps → setup_of t.roster ≡ setup_of s.roster → IsSaid t v
+said_on s t v h e p = says_on v (setup_of s.roster) (setup_of t.roster) s.steps t.steps p e h
+
+-- whatever the setup, where there was no step
+says_none : (v : Voice) (a b : Setup) → Says v a [] → Says v b []
+unfolding messages
+says_none Silent a b h = tt
+says_none (Monitor m) a b h = h
+
+unmade_said : (s t : Scenario) (w : Option World) (v : Voice) → IsWorld s w → IsSaid s v → t.steps ≡ s.steps → declaration s.roster.place ≡ true → IsSaid t v
+unmade_said s t None v h k e d =
+    says_on v (setup_of t.roster) (setup_of t.roster) [] t.steps refl (e ∙ h)
+    (says_none v (setup_of s.roster) (setup_of t.roster) (says_on v (setup_of s.roster) (setup_of s.roster) s.steps [] refl (sym h) k))
+unmade_said s t (Some w) v h k e d = let f : true ≡ false = sym d ∙ h.1.0 in absurd (cc)
+
+unopened_said : (s t : Scenario) (w : Option World) (v : Voice) → IsWorld s w → IsSaid s v → t.steps ≡ s.steps → opening s.roster.place ≡ true → IsSaid t v
+unopened_said s t None v h k e o =
+    says_on v (setup_of t.roster) (setup_of t.roster) [] t.steps refl (e ∙ h)
+    (says_none v (setup_of s.roster) (setup_of t.roster) (says_on v (setup_of s.roster) (setup_of s.roster) s.steps [] refl (sym h) k))
+unopened_said s t (Some w) v h k e o = let f : true ≡ false = sym o ∙ h.1.1 in absurd (cc)
 
 -- nor where the first line may stand
 unopened : (s t : Scenario) (w : Option World) → IsWorld s w → t.steps ≡ s.steps → opening s.roster.place ≡ true → IsWorld t w
@@ -123,7 +153,7 @@ pub quietly : (s : Scenario) (x : Session) (r : Roster) (before : List ℕ) (sai
 quietly s x r before said f moved place going =
     let steps : s.steps ++ [] ≡ s.steps = append-nil s.steps in record {
       follows = record {
-        stands = record { lines = ap (λ n. n + 1) f.stands.lines; roster = moved ∙ ap (λ (q : Roster). declared q said) f.stands.roster; world = stays said (place_of s x said f place) steps };
+        stands = record { lines = ap (λ n. n + 1) f.stands.lines; roster = moved ∙ ap (λ (q : Roster). declared q said) f.stands.roster; world = stays said (place_of s x said f place) steps; said = keeps said (place_of s x said f place) steps };
         going = going;
       };
       added = [];
@@ -142,6 +172,15 @@ quietly s x r before said f moved place going =
     stays (Does step) h e = quiet s (after (Does step)) x.world f.stands.world e refl (λ d o. past s.roster (Does step) d o h)
     stays (Captures n) h e = quiet s (after (Captures n)) x.world f.stands.world e refl (λ d o. past s.roster (Captures n) d o h)
     stays Ends h e = quiet s (after Ends) x.world f.stands.world e refl (λ d o. past s.roster Ends d o h)
+
+    keeps : (said : Said) → comes_in_place s.roster.place (item_of said) ≡ true → (after said).steps ≡ s.steps → IsSaid (after said) x.voice
+    keeps Blank h e = said_on s (after Blank) x.voice f.stands.said e refl
+    keeps (Opens edition) h e = unopened_said s (after (Opens edition)) x.world x.voice f.stands.world f.stands.said e h
+    keeps (Bridge mac) h e = unmade_said s (after (Bridge mac)) x.world x.voice f.stands.world f.stands.said e (begins s.roster.place h)
+    keeps (Declares port name dom) h e = unmade_said s (after (Declares port name dom)) x.world x.voice f.stands.world f.stands.said e h
+    keeps (Does step) h e = said_on s (after (Does step)) x.voice f.stands.said e refl
+    keeps (Captures n) h e = said_on s (after (Captures n)) x.voice f.stands.said e refl
+    keeps Ends h e = said_on s (after Ends) x.voice f.stands.said e refl
 
     same_body : (said : Said) → comes_in_place s.roster.place (item_of said) ≡ true → (after said).steps ≡ s.steps → body_of (run_of (after said)) ≡ body_of (run_of s)
     same_body Blank h e = ap body_of (same_run s (after Blank) refl e)
@@ -210,7 +249,7 @@ ended s line x r before f short says moved =
     subst (λ (o : Result Said LineWhy). EndsBy s o before (record x { lines = x.lines + 1; roster = r }) before lasts.Ended) (sym (said_here s line x (Ok Ends) f short says)) (
       refl,
       record {
-        agrees = record { ports = ap (λ (q : Roster). q.ports) (moved ∙ f.stands.roster); world = quiet s t x.world f.stands.world steps refl (λ d o. (d, o)) };
+        agrees = record { ports = ap (λ (q : Roster). q.ports) (moved ∙ f.stands.roster); world = quiet s t x.world f.stands.world steps refl (λ d o. (d, o)); said = said_on s t x.voice f.stands.said steps refl };
         ends = refl;
         text = refl;
         body = ap body_of (same_run s t refl steps);
@@ -218,10 +257,10 @@ ended s line x r before f short says moved =
     )
 
 pub agrees : (s : Scenario) (x : Session) → Follows s x → Agrees s x
-agrees s x f = record { ports = ap (λ (q : Roster). q.ports) f.stands.roster; world = f.stands.world }
+agrees s x f = record { ports = ap (λ (q : Roster). q.ports) f.stands.roster; world = f.stands.world; said = f.stands.said }
 
 pub agrees_badly : (s : Scenario) (x : Session) (why : LineWhy) → Agrees s x → Agrees (bad s why) x
-agrees_badly s x why h = record { ports = h.ports; world = quiet s (bad s why) x.world h.world refl refl (λ d o. (d, o)) }
+agrees_badly s x why h = record { ports = h.ports; world = quiet s (bad s why) x.world h.world refl refl (λ d o. (d, o)); said = h.said }
 
 -- a bad line
 pub refused : (s : Scenario) (line : List ℕ) (x : Session) (before : List ℕ) (fault : LineWhy) → Follows s x → length line ≤ longest_line
@@ -237,15 +276,16 @@ refused s line x before fault f short says =
 -- a step
 
 -- done after a line, or after others of a section
-pub did_step : (s t : Scenario) (x y : Session) (before after : List ℕ) (step : Step) → IsWorld s x.world → x.roster ≡ t.roster → x.lines ≡ t.lines → t.ending ≡ Going
+pub did_step : (s t : Scenario) (x y : Session) (before after : List ℕ) (step : Step) → IsWorld s x.world → IsSaid s x.voice → x.roster ≡ t.roster → x.lines ≡ t.lines → t.ending ≡ Going
     → t.steps ≡ s.steps ++ step ∷ [] → setup_of t.roster ≡ setup_of s.roster → IsAmongSteps t → session.Does x step before y after → Went s t before y after
-did_step s t x y before after step world roster lines going steps same place does =
+did_step s t x y before after step world said roster lines going steps same place does =
     let setup : world_of x.roster x.world ≡ world_of s.roster x.world = setup_only x.world (ap setup_of roster ∙ same) in record {
       follows = record {
         stands = record {
           lines = does.lines ∙ lines;
           roster = does.roster ∙ roster;
           world = subst (λ (w : Option World). IsWorld t w) (sym (does.world ∙ ap (λ (v : World). Some (world_step v step).0) setup)) (world_after s t x.world step world steps same place);
+          said = says_on y.voice (setup_of s.roster) (setup_of t.roster) (s.steps ++ step ∷ []) t.steps same steps (does.says s world (ap setup_of roster ∙ same) said);
         };
         going = going;
       };
@@ -265,6 +305,6 @@ stepped s line x y r before after step f short says moved does = (
   Does step,
   said_here s line x (Ok (Does step)) f short says,
   refl,
-  did_step s (takes s (Does step) []) (record x { lines = x.lines + 1; roster = r }) y before after step f.stands.world
+  did_step s (takes s (Does step) []) (record x { lines = x.lines + 1; roster = r }) y before after step f.stands.world f.stands.said
       (moved ∙ ap (λ (q : Roster). declared q (Does step)) f.stands.roster) (ap (λ n. n + 1) f.stands.lines) refl refl refl (refl, refl) does,
 )

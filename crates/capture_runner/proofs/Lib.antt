@@ -4,11 +4,13 @@ pub mod Deciding
 pub mod Doing
 pub mod Following
 pub mod Generating
+pub mod Monitoring
 pub mod Outcomes
 pub mod Packets
 pub mod Reaching
 pub mod Ready
 pub mod Sections
+pub mod Speaking
 pub mod Steps
 pub mod Telling
 pub mod Worlds

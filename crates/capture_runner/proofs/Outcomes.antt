@@ -16,7 +16,7 @@ use Rattle.br_model.specs.Plane.Runs.{run}
 use Rattle.br_model.specs.Plane.World.{World, Stepped}
 use Rattle.br_model.specs.Text.Roster.{Entry}
 use Rattle.br_model.specs.Program.Runs.{body, body_parts, told, told_of, run_of, setup_of}
-use Rattle.br_model.specs.Text.Scenario.{Scenario, Ending, scenario}
+use Rattle.br_model.specs.Text.Scenario.{Scenario, Ending, Going, Ended, Bad, scenario}
 use Rattle.br_model.specs.Table.Table.{table}
 use Rattle.br_model.proofs.Completing.{never_bad, never_full}
 use Rattle.br_model.proofs.Running.{run_none}
@@ -31,11 +31,18 @@ use Rattle.capture_runner.specs.declared.session.Session.{Session}
 use Rattle.capture_runner.specs.declared.status.Status.{Status}
 use Rattle.capture_runner.specs.declared.status.Status.TheVariants as statuses
 use Rattle.capture_runner.specs.Advancing.{Caused as StopsBy}
-use Rattle.capture_runner.specs.Halting.{Answered, Breaks, Grows, Halted, Halts, IsBehind, Lists, Plays, Told, Written}
+use Rattle.capture_runner.specs.Halting.{Answered, Breaks, Grows, Halted, Halts, IsBehind, Plays, Told, Written, Yields}
 use Rattle.capture_runner.specs.Outcome.{Asks, Caused, EndsWell, OrBreaksOff, Outcome, Reads, Refuses, Replays, Whole, WholeRefuses, WholeWrites, Writes, call_of, first_line, last_line, no_parts, nothing}
 use Rattle.capture_runner.specs.Playing.{Below, Filled}
 use Rattle.capture_runner.specs.Session as session
 use Rattle.capture_runner.specs.Stopping as stopping
+use Rattle.br_model.specs.declared.steps.Step.{Step}
+use Rattle.br_model.specs.Table.Setup.{Setup}
+use Rattle.neigh_netlink.specs.Monitor.{monitored, monitored_at}
+use Rattle.capture_runner.specs.declared.monitor.Monitor.{Monitor as MonitorOf}
+use Rattle.capture_runner.specs.declared.voice.Voice.{Voice}
+use Rattle.capture_runner.specs.declared.voice.Voice.TheVariants.{Silent, Monitor}
+use Rattle.capture_runner.specs.Voices.{answer_at, answer_by, lines_of, said_by}
 use Rattle.capture_runner.proofs.Telling.{breaks_behind, opened_more}
 
 -- no fault of writing
@@ -96,16 +103,20 @@ all_broke before mid now text all last w b =
 
 -- what the answer to some bytes depends on
 
-Same : (List ℕ → List ℕ) → Type 0
+pub Same : (List ℕ → List ℕ) → Type 0
 Same answer = (a b : List ℕ) → scenario a ≡ scenario b → answer a ≡ answer b
 
 told_same : Same told
 unfolding told Same
 told_same a b e = ap told_of e
 
-listed_same : (listing : Listing) → Same (listed listing)
+pub listed_same : (listing : Listing) → Same (listed listing)
 unfolding listed Same
 listed_same listing a b e = ap (λ (s : Scenario). listed_at s.ending listing s) e
+
+pub answered_same : (voice : Voice) → Same (answer_by voice)
+unfolding answer_by Same
+answered_same voice a b e = ap (λ (s : Scenario). answer_at s.ending (lines_of voice (setup_of s.roster) s.steps)) e
 
 whole_same : (answer : List ℕ → List ℕ) (left : Option (List ℕ)) (input : List ℕ) (ending : Ending) → Same answer → (scenario input).ending ≡ ending → IfSome left (λ bytes. scenario bytes ≡ scenario input)
     → IfSome left (λ bytes. ((scenario bytes).ending ≡ ending) × (answer bytes ≡ answer input))
@@ -185,17 +196,17 @@ module _ (failed : Type 0) (left left_now before now : Option (List ℕ)) (r : S
   replay_stops mid text stops.NoMemory p f s a b =
       lacks told body body_parts p.2.input p.2.count p.2.read s (all_lasts mid text p.0 _ _ p.1 p.2.told a) (breaks mid text p.0 _ _ p.1 p.2.told b)
 
-  -- a listing
+  -- a text that is written when the scenario has ended
 
-  pub show_ends : (listing : Listing) (x : Last × String Global) → Lists listing left left_now (Ok x) → (Went r → r ≡ session.status_of x.0) → (Went r → Appends before now (string_bytes x.1))
-      → Broke r before now (string_bytes x.1) → Reads failed (listed listing) nothing no_parts r (call_of left left_now before now)
-  show_ends listing x p = ends (listed listing) nothing no_parts (string_bytes x.1) x.0 (listed_same listing) p
+  pub yield_ends : (answer : List ℕ → List ℕ) → Same answer → (x : Last × String Global) → Yields answer left left_now (Ok x) → (Went r → r ≡ session.status_of x.0) → (Went r → Appends before now (string_bytes x.1))
+      → Broke r before now (string_bytes x.1) → Reads failed answer nothing no_parts r (call_of left left_now before now)
+  yield_ends answer same x p = ends answer nothing no_parts (string_bytes x.1) x.0 same p
 
-  pub show_stops : (listing : Listing) (stop : Stop) → Lists listing left left_now (Err stop) → (stop ≡ stops.ReadFault → failed) → (Went r → r ≡ stopping.stop_status stop)
-      → (Went r → Appends before now (stopping.stop_line stop)) → Broke r before now (stopping.stop_line stop) → Reads failed (listed listing) nothing no_parts r (call_of left left_now before now)
-  show_stops listing stops.ReadFault p f = stops_at (listed listing) nothing no_parts p.0 p.1 (f refl)
-  show_stops listing stops.TooLong p f = fills (listed listing) nothing no_parts p.0 p.1
-  show_stops listing stops.NoMemory p f = lacks (listed listing) nothing no_parts p.0 0 p.1
+  pub yield_stops : (answer : List ℕ → List ℕ) (stop : Stop) → Yields answer left left_now (Err stop) → (stop ≡ stops.ReadFault → failed) → (Went r → r ≡ stopping.stop_status stop)
+      → (Went r → Appends before now (stopping.stop_line stop)) → Broke r before now (stopping.stop_line stop) → Reads failed answer nothing no_parts r (call_of left left_now before now)
+  yield_stops answer stops.ReadFault p f = stops_at answer nothing no_parts p.0 p.1 (f refl)
+  yield_stops answer stops.TooLong p f = fills answer nothing no_parts p.0 p.1
+  yield_stops answer stops.NoMemory p f = lacks answer nothing no_parts p.0 0 p.1
 
 -- what any status says of what was read and written
 
@@ -307,6 +318,40 @@ listed_by left now listing x all text last t is = record {
   within = t.answered.within;
 }
 
+-- what was said of the run, at its end
+
+said_is : (s : Scenario) (v : Voice) → session.IsSaid s v → said_by v ≡ lines_of v (setup_of s.roster) s.steps
+said_is s Silent h = refl
+said_is s (Monitor m) h = h
+
+answered_is : (v : Voice) (input : List ℕ) (d : Ending) → (scenario input).ending ≡ d → answer_at d (lines_of v (setup_of (scenario input).roster) (scenario input).steps) ≡ answer_by v input
+unfolding answer_by
+answered_is v input d e = ap (λ (d : Ending). answer_at d (lines_of v (setup_of (scenario input).roster) (scenario input).steps)) (sym e)
+
+pub said_at_end : (left now : Option (List ℕ)) (v : Voice) (x : Session) (all text : List ℕ) (last : Last) → Told left now x all last → lines_of x.voice ≡ lines_of v
+    → text ≡ answer_at (session.ending_of last) (said_by x.voice) → Answered (answer_by v) left now text last
+said_at_end left now v x all text last t same is =
+    let s = scenario t.answered.input in
+    let lines : said_by x.voice ≡ lines_of v (setup_of s.roster) s.steps =
+    said_is s x.voice t.agrees.said ∙ ap (λ (l : Setup → List Step → List ℕ). l (setup_of s.roster) s.steps) same in record {
+      input = t.answered.input;
+      read = t.answered.read;
+      ends = t.answered.ends;
+      answers = is ∙ ap (λ (l : List ℕ). answer_at (session.ending_of last) l) lines ∙ answered_is v t.answered.input (session.ending_of last) t.answered.ends;
+      whole = t.answered.whole;
+      within = t.answered.within;
+    }
+
+-- of a monitor
+pub monitored_is : (m : MonitorOf) → answer_by (Monitor m) ≡ monitored
+unfolding answer_by monitored
+monitored_is m = λ i bytes. at (scenario bytes) (scenario bytes).ending i
+  where
+    at : (s : Scenario) (d : Ending) → answer_at d (lines_of (Monitor m) (setup_of s.roster) s.steps) ≡ monitored_at d s
+    at s Going = refl
+    at s Ended = refl
+    at s (Bad n why) = refl
+
 -- nothing is read
 
 module _ (before now : Option (List ℕ)) (r : Status) (left : Option (List ℕ)) where
@@ -333,13 +378,14 @@ module _ (before now : Option (List ℕ)) (r : Status) (left : Option (List ℕ)
     replays_nothing failed =
         replays failed left left before now r (inl (Consumes-nil left)) (lacks failed left left before now r told body body_parts [] 0 (Consumes-nil left) s a b)
 
-    shows_nothing : (failed : Type 0) (listing : Listing) → Reads failed (listed listing) nothing no_parts r unread
-    shows_nothing failed listing = lacks failed left left before now r (listed listing) nothing no_parts [] 0 (Consumes-nil left) s a b
+    reads_nothing : (failed : Type 0) (answer : List ℕ → List ℕ) → Reads failed answer nothing no_parts r unread
+    reads_nothing failed answer = lacks failed left left before now r answer nothing no_parts [] 0 (Consumes-nil left) s a b
 
     pub lacks_at_first : (failed : Type 0) (a : Option Asked) → Outcome failed a r unread
     lacks_at_first failed None = refuses_nothing
     lacks_at_first failed (Some asks.Replay) = replays_nothing failed
-    lacks_at_first failed (Some (asks.Show listing)) = shows_nothing failed listing
+    lacks_at_first failed (Some (asks.Show listing)) = reads_nothing failed (listed listing)
+    lacks_at_first failed (Some asks.Monitor) = reads_nothing failed monitored
     lacks_at_first failed (Some (asks.Gen number count)) = writes_nothing (made number count) s a b
     lacks_at_first failed (Some (asks.Demo number count)) = writes_nothing (summary number count) s a b
 
@@ -385,6 +431,7 @@ module _ (failed : Type 0) (c : Call) (reads reads_now writes writes_now : ℕ) 
   completes None r o cause has = absurd has
   completes (Some asks.Replay) r o cause has = reading told body body_parts r has o.0 cause
   completes (Some (asks.Show listing)) r o cause has = reading (listed listing) nothing no_parts r has o cause
+  completes (Some asks.Monitor) r o cause has = reading monitored nothing no_parts r has o cause
   completes (Some (asks.Gen number count)) r o cause has = writing (made number count) r o cause
   completes (Some (asks.Demo number count)) r o cause has = writing (summary number count) r o cause
 
@@ -423,7 +470,7 @@ read_stopped T reads reads_now stops.ReadFault h e = h
 read_stopped T reads reads_now stops.NoMemory h e = absurd (cc)
 read_stopped T reads reads_now stops.TooLong h e = absurd (cc)
 
-pub lists_stop : (left now before after : Option (List ℕ)) (text : List ℕ) (listing : Listing) (stop : Stop) → Halted left now before after text (halts.Stopped stop) → Lists listing left now (Err stop)
-lists_stop left now before after text listing stops.ReadFault h = (h.0, h.2)
-lists_stop left now before after text listing stops.NoMemory h = (h.2.input, h.2.read)
-lists_stop left now before after text listing stops.TooLong h = (h.0, h.2)
+pub yields_stop : (left now before after : Option (List ℕ)) (text : List ℕ) (answer : List ℕ → List ℕ) (stop : Stop) → Halted left now before after text (halts.Stopped stop) → Yields answer left now (Err stop)
+yields_stop left now before after text answer stops.ReadFault h = (h.0, h.2)
+yields_stop left now before after text answer stops.NoMemory h = (h.2.input, h.2.read)
+yields_stop left now before after text answer stops.TooLong h = (h.0, h.2)

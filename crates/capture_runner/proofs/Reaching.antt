@@ -20,7 +20,7 @@ use Rattle.capture_runner.specs.declared.session.Last.{Last}
 use Rattle.capture_runner.specs.declared.session.Session.{Session}
 use Rattle.capture_runner.specs.Playing.{Reached, Played, Stopped, Lacked}
 use Rattle.capture_runner.specs.Session.{Agrees, ending_of}
-use Rattle.capture_runner.proofs.Following.{same_run, quiet}
+use Rattle.capture_runner.proofs.Following.{same_run, quiet, said_on}
 
 -- what the body of bytes is, by what they say
 body_by : (bytes : List ℕ) (s : Scenario) → scenario bytes ≡ s → body bytes ≡ body_of (run_of s)
@@ -195,7 +195,7 @@ module _ (left : Option (List ℕ)) (limit : ℕ) where
             input = p.input;
             read = p.given;
             ends = ap (λ (u : Scenario). u.ending) closed_so ∙ ends;
-            agrees = subst (λ (u : Scenario). Agrees u x) (sym closed_so) (record { ports = agrees.ports ∙ sym (ap (λ (q : Roster). q.ports) keeps.0); world = quiet s t x.world agrees.world keeps.1 setup place });
+            agrees = subst (λ (u : Scenario). Agrees u x) (sym closed_so) (record { ports = agrees.ports ∙ sym (ap (λ (q : Roster). q.ports) keeps.0); world = quiet s t x.world agrees.world keeps.1 setup place; said = said_on s t x.voice agrees.said keeps.1 setup });
             told = told ∙ sym same;
             whole = all_of left now p.input p.given end.none_left;
             within = below left now p.input p.given end.none_left (omega (arith, p.counts, end.before_limit, p.limited));

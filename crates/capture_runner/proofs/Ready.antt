@@ -14,7 +14,10 @@ use Rattle.br_model.specs.Text.Scenario.{Scenario, declared, opened}
 use Rattle.br_model.proofs.PlaneApplied.{step-setup}
 use Rattle.plane_core.specs.Added.{Added}
 use Rattle.capture_runner.specs.declared.session.Session.{Session}
+use Rattle.capture_runner.specs.declared.voice.Voice.{Voice}
+use Rattle.capture_runner.specs.declared.voice.Voice.TheVariants.{Silent, Monitor}
 use Rattle.capture_runner.specs.Session.{Follows, HasChips, IsBehindDeclarations, IsReady, IsWorld, Tells, captures}
+use Rattle.capture_runner.specs.Voices.{IsTuned}
 use Rattle.capture_runner.proofs.Following.{past}
 use Rattle.scenario_text.specs.Items.{item_of, comes_in_place}
 
@@ -44,8 +47,8 @@ chips_on r q said (Some w) h e place =
     same (Captures n) place = refl
     same Ends place = refl
 
-pub ready_on : (r q : Roster) (said : Said) (w : Option World) → IsReady r w → q ≡ declared r said → comes_in_place r.place (item_of said) ≡ true → IsReady q w
-ready_on r q said w h e place = (ap (λ (p : Roster). p.check) e ∙ same_check r said ∙ h.0, chips_on r q said w h.1 e place)
+pub ready_on : (r q : Roster) (said : Said) (w : Option World) (v : Voice) → IsReady r w v → q ≡ declared r said → comes_in_place r.place (item_of said) ≡ true → IsReady q w v
+ready_on r q said w v h e place = (ap (λ (p : Roster). p.check) e ∙ same_check r said ∙ h.0, chips_on r q said w h.1 e place, h.2)
 
 -- and when a step is done
 pub ready_after : (r : Roster) (w v : World) (step : Step) → chip_domains w.setup.domains ≡ chips_of r.ports → IsBehindDeclarations r → v ≡ (world_step w step).0 → HasChips r (Some v)
@@ -61,17 +64,22 @@ pub comes_said : (r q : Roster) (step : Step) → r.check ≡ false → q ≡ de
 comes_said r q step check e h = ap (λ (p : Roster). comes_by_line false (chips_of p.ports) step) e ∙ (ap (λ b. comes_by_line b (chips_of r.ports) step) (sym check) ∙ h)
 
 -- before the first line there is no world
-pub ready_at_first : (x : Session) → Follows (opened false) x → IsReady x.roster x.world
-ready_at_first x f = (ap (λ (r : Roster). r.check) f.stands.roster, none x.world f.stands.world)
+pub ready_at_first : (x : Session) → Follows (opened false) x → IsReady x.roster x.world x.voice
+ready_at_first x f = (ap (λ (r : Roster). r.check) f.stands.roster, none x.world f.stands.world, tuned x.world x.voice f.stands.world)
   where
+    tuned : (w : Option World) (v : Voice) → IsWorld (opened false) w → IsTuned w v
+    tuned None Silent h = tt
+    tuned None (Monitor m) h = tt
+    tuned (Some w) v h = let e : true ≡ false = h.1.1 in absurd (cc)
+
     none : (w : Option World) → IsWorld (opened false) w → HasChips x.roster w
     none None h = tt
     none (Some w) h = let e : true ≡ false = h.1.1 in absurd (cc)
 
-pub ready_told : {A E : Type 0} (r : Result A E) (roster : Roster) (w v : World) (step : Step) (before after : List Line) → IsReady roster (Some w)
-    → OnOk r (Added (Tells w step v) before after) → OnOk r (IsReady roster (Some v))
-ready_told (Ok x) roster w v step before after h told = (h.0, ready_after roster w v step h.1.0 h.1.1 (ap (λ (y : Stepped). y.0) told.so))
-ready_told (Err e) roster w v step before after h told = told
+pub ready_told : {A E : Type 0} (r : Result A E) (roster : Roster) (w v : World) (a b : Voice) (step : Step) (before after : List Line) → IsReady roster (Some w) a
+    → OnOk r (Added (Tells w step v) before after) → OnOk r (IsTuned (Some v) b) → OnOk r (IsReady roster (Some v) b)
+ready_told (Ok x) roster w v a b step before after h told tuned = (h.0, ready_after roster w v step h.1.0 h.1.1 (ap (λ (y : Stepped). y.0) told.so), tuned)
+ready_told (Err e) roster w v a b step before after h told tuned = told
 
 -- behind a line `capture`
 pub behind_section : (s : Scenario) (x : Session) (n : ℕ) → Follows (captures s n) x → IsBehindDeclarations x.roster

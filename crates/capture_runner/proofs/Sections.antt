@@ -22,7 +22,7 @@ use Rattle.capture_runner.specs.declared.session.Session.{Session}
 use Rattle.capture_runner.specs.Advancing.{Sectioned}
 use Rattle.capture_runner.specs.Playing.{Reached, AtSection, AtSteps, Played, Stopped, Below, Filled}
 use Rattle.capture_runner.specs.Session.{Agrees, IsCaptured, captures, with_steps}
-use Rattle.capture_runner.proofs.Following.{same_run, agrees_badly}
+use Rattle.capture_runner.proofs.Following.{same_run, agrees_badly, said_on}
 use Rattle.capture_runner.proofs.Reaching.{reached_more, reached_line, lacked_all, ended, stops, at_end}
 
 -- a line `capture` without its section has no steps
@@ -41,7 +41,7 @@ module _ (left now now' : Option (List ℕ)) (limit : ℕ) (r r' : Reading) (x :
   front = p.line ++ 10 ∷ []
 
   agrees : Agrees s x
-  agrees = record { ports = ap (λ (q : Roster). q.ports) p.follows.stands.roster; world = p.world }
+  agrees = record { ports = ap (λ (q : Roster). q.ports) p.follows.stands.roster; world = p.world; said = said_on (captures s n) s x.voice p.follows.stands.said (sym (append-nil s.steps)) refl }
 
   told_before : text ≡ body_of (run_of s)
   told_before = p.told ∙ none_more s n

@@ -26,11 +26,12 @@ use Rattle.capture_runner.specs.declared.replay.Stop.TheVariants.{ReadFault, NoM
 use Rattle.capture_runner.specs.declared.session.Last.{Last}
 use Rattle.capture_runner.specs.declared.session.Last.TheVariants as lasts
 use Rattle.capture_runner.specs.declared.session.Session.{Session}
+use Rattle.capture_runner.specs.declared.voice.Voice.{Voice}
 use Rattle.capture_runner.specs.Advancing.{Advanced}
 use Rattle.capture_runner.specs.Halting.{Breaks, Grows, IsBehind, IsOpened, Moves, Written, Told, Plays, PlayedSection}
 use Rattle.capture_runner.specs.Outcome.{first_line}
 use Rattle.capture_runner.specs.Playing.{Playing, Played}
-use Rattle.capture_runner.specs.Session.{Follows, IsWorld, ending_of, end_line_of, last_line}
+use Rattle.capture_runner.specs.Session.{Follows, IsSaid, IsWorld, ending_of, end_line_of, last_line}
 use Rattle.capture_runner.proofs.Following.{no_steps}
 use Rattle.capture_runner.proofs.Reaching.{lacked_all, lacks_none}
 
@@ -124,9 +125,9 @@ told_by input text w last ends world body_is =
     ∙ ap (λ (b : List ℕ). body_of (run_of (scenario input)) ++ b) (last_is (scenario input) w last world ∙ ap (λ (d : Ending). last_text d (run_of (scenario input)).0) (sym ends))
 
 -- Its writer may be another one then.
-pub finished : (left now : Option (List ℕ)) (x y : Session) (text : List ℕ) (last : Last) → y.roster ≡ x.roster → y.world ≡ x.world → Played left most_bytes now x text last
+pub finished : (left now : Option (List ℕ)) (x y : Session) (text : List ℕ) (last : Last) → y.roster ≡ x.roster → y.world ≡ x.world → y.voice ≡ x.voice → Played left most_bytes now x text last
     → Told left now y (text ++ last_line last x.world) last
-finished left now x y text last roster world p = record {
+finished left now x y text last roster world voice p = record {
   answered = record {
     input = p.input;
     read = p.read;
@@ -138,6 +139,7 @@ finished left now x y text last roster world p = record {
   agrees = record {
     ports = ap (λ (q : Roster). q.ports) roster ∙ p.agrees.ports;
     world = subst (λ (w : Option World). IsWorld (scenario p.input) w) (sym world) p.agrees.world;
+    said = subst (λ (v : Voice). IsSaid (scenario p.input) v) (sym voice) p.agrees.said;
   };
 }
 
@@ -152,12 +154,12 @@ pub split_all : (before after : Option (List ℕ)) (text all : List ℕ) (w : Wr
     → Playing left most_bytes reader now session all → Playing left most_bytes reader now session (w.gone ++ text)
 split_all before after text all w left now reader session p = subst (λ (b : List ℕ). Playing left most_bytes reader now session b) w.together p
 
-pub play_ends : (left now before after : Option (List ℕ)) (x y : Session) (held all text text' : List ℕ) (w : Written before after held all) (last : Last) → y.roster ≡ x.roster → y.world ≡ x.world
+pub play_ends : (left now before after : Option (List ℕ)) (x y : Session) (held all text text' : List ℕ) (w : Written before after held all) (last : Last) → y.roster ≡ x.roster → y.world ≡ x.world → y.voice ≡ x.voice
     → Played left most_bytes now x (w.gone ++ text) last → text' ≡ text ++ last_line last x.world → (whole : List ℕ) × Written before after text' whole × Told left now y whole last
-play_ends left now before after x y held all text text' w last roster world p e = (
+play_ends left now before after x y held all text text' w last roster world voice p e = (
   w.gone ++ text',
   record { gone = w.gone; wrote = w.wrote; together = refl },
-  subst (λ (b : List ℕ). Told left now y b last) (append_assoc w.gone text (last_line last x.world) ∙ ap (λ (b : List ℕ). w.gone ++ b) (sym e)) (finished left now x y (w.gone ++ text) last roster world p),
+  subst (λ (b : List ℕ). Told left now y b last) (append_assoc w.gone text (last_line last x.world) ∙ ap (λ (b : List ℕ). w.gone ++ b) (sym e)) (finished left now x y (w.gone ++ text) last roster world voice p),
 )
 
 pub play_stops : (left now before after : Option (List ℕ)) (reader : Reading) (x : Session) (held all text : List ℕ) (w : Written before after held all) (stop : Stop) (result : Result Last Halt)
@@ -195,10 +197,10 @@ end_lacks left now before after x y text text' all last result w p same is =
 
 -- a section was read, and perhaps its steps done
 
-pub section_ends : (left now before after : Option (List ℕ)) (reader : Reading) (x y : Session) (text text' : List ℕ) (last : Last) → y.roster ≡ x.roster → y.world ≡ x.world → PlayedSection left reader now x before after text (Ok (Some last))
+pub section_ends : (left now before after : Option (List ℕ)) (reader : Reading) (x y : Session) (text text' : List ℕ) (last : Last) → y.roster ≡ x.roster → y.world ≡ x.world → y.voice ≡ x.voice → PlayedSection left reader now x before after text (Ok (Some last))
     → text' ≡ text ++ last_line last x.world → (whole : List ℕ) × Written before after text' whole × Told left now y whole last
-section_ends left now before after reader x y text text' last roster world p e =
-    play_ends left now before after x y text p.0 text text' p.1 last roster world (subst (λ (b : List ℕ). Played left most_bytes now x b last) p.1.together p.2) e
+section_ends left now before after reader x y text text' last roster world voice p e =
+    play_ends left now before after x y text p.0 text text' p.1 last roster world voice (subst (λ (b : List ℕ). Played left most_bytes now x b last) p.1.together p.2) e
 
 pub section_halts : (left now before after : Option (List ℕ)) (reader : Reading) (x y : Session) (text : List ℕ) (halt : Halt) (result : Result Last Halt) → result ≡ Err halt
     → PlayedSection left reader now x before after text (Err halt) → Plays left now y before after text result

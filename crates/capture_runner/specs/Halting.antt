@@ -9,10 +9,8 @@ use Rattle.std.specs.declared.result.Result.{Result}
 use Rattle.std.specs.declared.result.Result.TheVariants.{Ok, Err}
 use Rattle.run_io.specs.Causes.{Rose}
 use Rattle.run_io.specs.Reading.{Reading}
-use Rattle.br_model.specs.declared.listing.Listing.{Listing}
 use Rattle.br_model.specs.declared.steps.Step.{Step}
 use Rattle.br_model.specs.Table.Limits.{most_bytes}
-use Rattle.br_model.specs.Program.Listings.{listed}
 use Rattle.br_model.specs.Program.Outcomes.{HoldsNoEnd}
 use Rattle.br_model.specs.Program.Runs.{run_of, body_of, told}
 use Rattle.br_model.specs.Text.Scenario.{Scenario, scenario}
@@ -68,12 +66,12 @@ pub record Told (left now : Option (List ℕ)) (session : Session) (all : List �
   pub answered : Answered told left now all last
   pub agrees : Agrees (scenario answered.input) session
 
--- Its listing is the answer. After want of memory only what was read is known.
-abbrev pub Lists : Listing → Option (List ℕ) → Option (List ℕ) → Result (Last × String Global) Stop → Type 0
-Lists listing left now (Ok x) = Answered (listed listing) left now (string_bytes x.1) x.0
-Lists listing left now (Err ReadFault) = (text : List ℕ) × playing.Below left most_bytes now text
-Lists listing left now (Err TooLong) = (text : List ℕ) × playing.Filled left most_bytes now text
-Lists listing left now (Err NoMemory) = (input : List ℕ) × Consumes left now input
+-- The text is the answer. After want of memory only what was read is known.
+abbrev pub Yields : (List ℕ → List ℕ) → Option (List ℕ) → Option (List ℕ) → Result (Last × String Global) Stop → Type 0
+Yields answer left now (Ok x) = Answered answer left now (string_bytes x.1) x.0
+Yields answer left now (Err ReadFault) = (text : List ℕ) × playing.Below left most_bytes now text
+Yields answer left now (Err TooLong) = (text : List ℕ) × playing.Filled left most_bytes now text
+Yields answer left now (Err NoMemory) = (input : List ℕ) × Consumes left now input
 
 -- A run halts. After a failed write the sink lacks what is missing.
 abbrev pub Halted : Option (List ℕ) → Option (List ℕ) → Option (List ℕ) → Option (List ℕ) → List ℕ → Halt → Type 0

@@ -8,4 +8,5 @@ pub mod Playing
 pub mod Section
 pub mod Session
 pub mod Stopping
+pub mod Voices
 pub mod Words

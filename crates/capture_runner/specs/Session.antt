@@ -1,5 +1,5 @@
 -- A session has read the lines of a scenario up to here.
-use Rattle.std.specs.Prelude.{◌≡◌, ℕ, ◌≤◌, List, [], ◌++◌, length, true, false}
+use Rattle.std.specs.Prelude.{◌≡◌, ℕ, ◌≤◌, List, [], ◌∷◌, ◌++◌, length, true, false}
 use Rattle.std.specs.List.{list_all}
 use Rattle.std.specs.declared.option.Option.{Option}
 use Rattle.std.specs.declared.option.Option.TheVariants.{None, Some}
@@ -23,7 +23,7 @@ use Rattle.br_model.specs.Plane.World.{World, first_world}
 use Rattle.br_model.specs.Table.Domains.{chip_domains}
 use Rattle.br_model.specs.Text.Roster.{Entry, Roster, chips_of}
 use Rattle.br_model.specs.Program.Runs.{run_of, body_of, setup_of}
-use Rattle.br_model.specs.Text.Scenario.{Scenario, Ending, Going, Ended, Bad, bad, captured, section_length, takes, takes_steps, whole_says}
+use Rattle.br_model.specs.Text.Scenario.{Scenario, opened, Ending, Going, Ended, Bad, bad, captured, section_length, takes, takes_steps, whole_says}
 use Rattle.br_model.specs.Table.Table.{table}
 use Rattle.br_model.specs.Text.Transcript.{text, line_text, bad_text}
 use Rattle.capture_runner.specs.declared.session.Captured.{Captured}
@@ -34,8 +34,10 @@ use Rattle.capture_runner.specs.declared.session.Next.{Next}
 use Rattle.capture_runner.specs.declared.session.Next.TheVariants.{Line as NextLine, Section, End as NoMore}
 use Rattle.capture_runner.specs.declared.session.Session.{Session}
 use Rattle.capture_runner.specs.declared.status.Status.{Status}
+use Rattle.capture_runner.specs.declared.voice.Voice.{Voice}
 use Rattle.capture_runner.specs.declared.status.Status.TheVariants as statuses
 use Rattle.br_model.specs.Text.LineForms.{comes_by_line}
+use Rattle.capture_runner.specs.Voices.{IsTuned, Says}
 
 -- no port can be declared any more
 abbrev pub IsBehindDeclarations : Roster → Type 0
@@ -46,9 +48,9 @@ abbrev pub HasChips : Roster → Option World → Type 0
 HasChips roster None = Unit {0}
 HasChips roster (Some w) = (chip_domains w.setup.domains ≡ chips_of roster.ports) × IsBehindDeclarations roster
 
--- and the command isn't `check`
-abbrev pub IsReady : Roster → Option World → Type 0
-IsReady roster w = (roster.check ≡ false) × HasChips roster w
+-- the command isn't `check`, and whoever says something of the run can go on
+abbrev pub IsReady : Roster → Option World → Voice → Type 0
+IsReady roster w voice = (roster.check ≡ false) × HasChips roster w × IsTuned w voice
 
 -- after the declarations
 abbrev pub IsAmongSteps : Scenario → Type 0
@@ -59,10 +61,15 @@ abbrev pub IsWorld : Scenario → Option World → Type 0
 IsWorld s None = s.steps ≡ []
 IsWorld s (Some w) = (w ≡ (run_of s).0) × IsAmongSteps s
 
--- the session's ports and world are those of the scenario
+-- what was said is that of the scenario's run
+abbrev pub IsSaid : Scenario → Voice → Type 0
+IsSaid s voice = Says voice (setup_of s.roster) s.steps
+
+-- the session's ports and world are those of the scenario, and so is what was said
 pub record Agrees (s : Scenario) (x : Session) : Type 0 where
   pub ports : x.roster.ports ≡ s.roster.ports
   pub world : IsWorld s x.world
+  pub said : IsSaid s x.voice
 
 -- and these steps more
 abbrev pub with_steps : Scenario → List Step → Scenario
@@ -73,6 +80,7 @@ pub record Stands (s : Scenario) (x : Session) : Type 0 where
   pub lines : x.lines ≡ s.lines
   pub roster : x.roster ≡ s.roster
   pub world : IsWorld s x.world
+  pub said : IsSaid s x.voice
 
 -- and the scenario goes on
 pub record Follows (s : Scenario) (x : Session) : Type 0 where
@@ -140,12 +148,22 @@ Tells old step new lines = (new, lines) ≡ world_step old step
 abbrev pub IsAfter : World → Step → Session → Type 0
 IsAfter w step x = (x.world ≡ Some (world_step w step).0) × (x.told.lines ≡ (world_step w step).1)
 
+-- it is said, whatever steps were before
+abbrev pub SaysOn : Session → Step → Session → Type 0
+SaysOn old step new = (s : Scenario) → IsWorld s old.world → setup_of old.roster ≡ setup_of s.roster → IsSaid s old.voice
+    → Says new.voice (setup_of s.roster) (s.steps ++ step ∷ [])
+
+-- nothing was said
+abbrev pub SaysNothing : Voice → Type 0
+SaysNothing voice = IsSaid (opened false) voice
+
 -- a step was done
 pub record Does (old : Session) (step : Step) (before : List ℕ) (new : Session) (after : List ℕ) : Type 0 where
   pub lines : new.lines ≡ old.lines
   pub roster : new.roster ≡ old.roster
   pub world : new.world ≡ Some (world_step (world_of old.roster old.world) step).0
   pub text : after ≡ before ++ text (world_step (world_of old.roster old.world) step).1
+  pub says : SaysOn old step new
 
 abbrev pub end_line_of : Option World → Line
 end_line_of None = End 0 0 0 0

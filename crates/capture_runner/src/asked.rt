@@ -8,6 +8,8 @@ pub enum Asked {
     Replay,
     /// To run the scenario of the input, and write a table at its end.
     Show(Listing),
+    /// To run the scenario of the input, and write the messages of its address changes.
+    Monitor,
     /// To write a scenario of generated frames.
     Gen {
         /// The generator's first state.

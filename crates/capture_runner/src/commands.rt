@@ -7,14 +7,18 @@ ghost use Rattle.br_model.specs.Text.Scenario.{opened};
 ghost use Rattle.run_io.specs.Causes.{HasCause, Rose};
 ghost use Rattle.capture_runner.specs.Advancing.{Caused as StopsBy};
 ghost use Rattle.capture_runner.specs.Generating.{HasRoom, PutsAll, PutsSome};
-ghost use Rattle.capture_runner.specs.Halting.{Lists};
+ghost use Rattle.capture_runner.specs.Halting.{Yields};
 ghost use Rattle.capture_runner.specs.Outcome.{Caused, Reads, Replays, Writes, call_of, no_parts, nothing};
-ghost use Rattle.capture_runner.specs.Session.{Follows};
+ghost use Rattle.capture_runner.specs.Session.{Follows, SaysNothing};
+ghost use Rattle.capture_runner.specs.Voices.{answer_by};
+ghost use Rattle.neigh_netlink.specs.Monitor.{monitored};
 
 use crate::demo::summary;
+use crate::monitor::Monitor;
 use crate::replay::{Halt, Stop, play, put_if_full};
 use crate::session::{Last, Session};
 use crate::status::{Status, end_with, end_without_memory, put_last};
+use crate::voice::Voice;
 use br_model::listing::Listing;
 use run_io::output::Output;
 use run_io::sinks::{Nowhere, Sink, WriteFault};
@@ -58,7 +62,7 @@ pub(crate) fn replay<R: Wait, S: Source, K: Sink>(
         (call_of (S.left source.old) (S.left source.new) (K.taken sink.old) (K.taken sink.new)) }
     ensures cause { Caused result (S.faults source.old) (S.faults source.new) (K.faults sink.old) (K.faults sink.new) }
 {
-    match Session::new(alloc) {
+    match Session::new(alloc, Voice::Silent) {
         Ok(mut session) => {
             let status = replay_in(rt, alloc, &mut session, source, sink);
             session.finish(rt);
@@ -79,7 +83,7 @@ fn listing_in<R: Wait, S: Source>(
 ) -> Result<(Last, String), Stop>
     requires follows { Follows (opened false) session.old }
     requires lines { session.old.lines ≡ 0 }
-    ensures lists { Lists listing (S.left source.old) (S.left source.new) result }
+    ensures lists { Yields (listed listing) (S.left source.old) (S.left source.new) result }
     ensures cause { StopsBy (S.faults source.old) (S.faults source.new) result }
 {
     let mut output = Output::make(alloc)?;
@@ -97,10 +101,10 @@ fn listing_of<R: Wait, S: Source>(
     listing: Listing,
     source: &mut S,
 ) -> Result<(Last, String), Stop>
-    ensures lists { Lists listing (S.left source.old) (S.left source.new) result }
+    ensures lists { Yields (listed listing) (S.left source.old) (S.left source.new) result }
     ensures cause { StopsBy (S.faults source.old) (S.faults source.new) result }
 {
-    let mut session = Session::new(alloc)?;
+    let mut session = Session::new(alloc, Voice::Silent)?;
     let listed = listing_in(rt, alloc, &mut session, listing, source);
     session.finish(rt);
     listed
@@ -122,6 +126,76 @@ pub(crate) fn show<R: Wait, S: Source, K: Sink>(
         Ok((last, text)) => put_last(sink, text.as_bytes(), last.status()),
         Err(stop) => put_last(sink, stop.line(), stop.status()),
     }
+}
+
+/// Runs a scenario in this new session, and answers how it ends, with all that was said of it or with the bad line.
+fn said_in<R: Wait, S: Source>(
+    rt: &R,
+    alloc: Global,
+    session: &mut Session,
+    source: &mut S,
+) -> Result<(Last, String), Stop>
+    requires follows { Follows (opened false) session.old }
+    requires lines { session.old.lines ≡ 0 }
+    ensures says { Yields (answer_by session.old.voice) (S.left source.old) (S.left source.new) result }
+    ensures cause { StopsBy (S.faults source.old) (S.faults source.new) result }
+{
+    let mut output = Output::make(alloc)?;
+    match play(rt, alloc, session, source, &mut Nowhere, &mut output) {
+        Ok(last) => Ok((last, session.take_said(alloc, last)?)),
+        Err(Halt::Stopped(stop)) => Err(stop),
+        Err(Halt::WriteFault) => unreachable!(),
+    }
+}
+
+/// The same in a session of its own.
+fn said_of<R: Wait, S: Source>(
+    rt: &R,
+    alloc: Global,
+    voice: Voice,
+    source: &mut S,
+) -> Result<(Last, String), Stop>
+    requires { SaysNothing voice }
+    ensures says { Yields (answer_by voice) (S.left source.old) (S.left source.new) result }
+    ensures cause { StopsBy (S.faults source.old) (S.faults source.new) result }
+{
+    let mut session = Session::new(alloc, voice)?;
+    let said = said_in(rt, alloc, &mut session, source);
+    session.finish(rt);
+    said
+}
+
+/// What the voice says is written when the scenario has ended.
+fn speak<R: Wait, S: Source, K: Sink>(
+    rt: &R,
+    alloc: Global,
+    voice: Voice,
+    source: &mut S,
+    sink: &mut K,
+) -> Status
+    requires { SaysNothing voice }
+    ensures outcome { Reads (Rose (S.faults source.old) (S.faults source.new)) (answer_by voice) nothing no_parts result
+        (call_of (S.left source.old) (S.left source.new) (K.taken sink.old) (K.taken sink.new)) }
+    ensures cause { Caused result (S.faults source.old) (S.faults source.new) (K.faults sink.old) (K.faults sink.new) }
+{
+    match said_of(rt, alloc, voice, source) {
+        Ok((last, text)) => put_last(sink, text.as_bytes(), last.status()),
+        Err(stop) => put_last(sink, stop.line(), stop.status()),
+    }
+}
+
+/// `monitor`: the messages of the address changes.
+pub(crate) fn monitor<R: Wait, S: Source, K: Sink>(
+    rt: &R,
+    alloc: Global,
+    source: &mut S,
+    sink: &mut K,
+) -> Status
+    ensures outcome { Reads (Rose (S.faults source.old) (S.faults source.new)) monitored nothing no_parts result
+        (call_of (S.left source.old) (S.left source.new) (K.taken sink.old) (K.taken sink.new)) }
+    ensures cause { Caused result (S.faults source.old) (S.faults source.new) (K.faults sink.old) (K.faults sink.new) }
+{
+    speak(rt, alloc, Voice::Monitor(Monitor::new(alloc)), source, sink)
 }
 
 /// Writes frames as lines while any is left. The last ones are held.

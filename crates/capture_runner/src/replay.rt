@@ -10,6 +10,7 @@ ghost use Rattle.run_io.specs.Writing.{full_length};
 ghost use Rattle.capture_runner.specs.Advancing.{Advances, Caused, Lessens, Sections};
 ghost use Rattle.capture_runner.specs.Halting.{Breaks, DoesAll, DoesSome, Grows, Halts, IsBehind, Moves, Plays, PlaysSection, Stalls};
 ghost use Rattle.capture_runner.specs.Session.{ComeByLine, Follows, IsBehindDeclarations, IsReady};
+ghost use Rattle.capture_runner.specs.Voices.{lines_of};
 ghost use Rattle.capture_runner.specs.Stopping.{stop_line, stop_status};
 ghost use Rattle.br_model.specs.Text.LineForms.{comes_by_line};
 ghost use Rattle.br_model.specs.Text.Roster.{chips_of};
@@ -78,8 +79,9 @@ pub(crate) fn advance<R: Wait, S: Source>(
 ) -> Result<Next, Stop>
     requires sound { reader.old.fault ≡ None }
     requires few { session.old.lines < 2 ^ 32 - 1 }
-    requires ready { IsReady session.old.roster session.old.world }
-    ensures ready { OnOk result (IsReady session.new.roster session.new.world) }
+    requires ready { IsReady session.old.roster session.old.world session.old.voice }
+    ensures ready { OnOk result (IsReady session.new.roster session.new.world session.new.voice) }
+    ensures same { OnOk result (lines_of session.new.voice ≡ lines_of session.old.voice) }
     ensures advances { (limit : ℕ) → Advances limit reader.old reader.new (S.left source.old) (S.left source.new)
         session.old session.new (string_bytes text.old) (string_bytes text.new) result }
     ensures less { IfOk result (Lessens (room reader.old) (room reader.new)) }
@@ -212,9 +214,10 @@ fn do_steps<R: Wait, K: Sink>(
     steps: Vec<Step>,
 ) -> Result<(), Halt>
     requires by_line { list_all (comes_by_line false (chips_of session.old.roster.ports)) steps.items ≡ true }
-    requires ready { IsReady session.old.roster session.old.world }
+    requires ready { IsReady session.old.roster session.old.world session.old.voice }
     requires behind { IsBehindDeclarations session.old.roster }
-    ensures ready { OnOk result (IsReady session.new.roster session.new.world) }
+    ensures ready { OnOk result (IsReady session.new.roster session.new.world session.new.voice) }
+    ensures same { OnOk result (lines_of session.new.voice ≡ lines_of session.old.voice) }
     ensures does { OnOk result (DoesAll session.old steps.items session.new
         (K.taken sink.old) (K.taken sink.new) (string_bytes output.old.text) (string_bytes output.new.text)) }
     ensures halts { IfErr result (DoesSome session.old steps.items
@@ -244,9 +247,10 @@ fn play_section<R: Wait, S: Source, K: Sink>(
 ) -> Result<Option<Last>, Halt>
     requires sound { reader.old.fault ≡ None }
     requires most { length ≤ longest_section }
-    requires ready { IsReady session.old.roster session.old.world }
+    requires ready { IsReady session.old.roster session.old.world session.old.voice }
     requires behind { IsBehindDeclarations session.old.roster }
-    ensures ready { OnOk result (IsReady session.new.roster session.new.world) }
+    ensures ready { OnOk result (IsReady session.new.roster session.new.world session.new.voice) }
+    ensures same { OnOk result (lines_of session.new.voice ≡ lines_of session.old.voice) }
     ensures plays { PlaysSection reader.old reader.new (S.left source.old) (S.left source.new)
         session.old session.new (K.taken sink.old) (K.taken sink.new) (string_bytes output.old.text) (string_bytes output.new.text) length result }
     ensures grows { Grows (K.taken sink.old) (K.taken sink.new) }
@@ -279,6 +283,7 @@ pub(crate) fn play<R: Wait, S: Source, K: Sink>(
     requires lines { session.old.lines ≡ 0 }
     requires text { string_bytes output.old.text ≡ [] }
     ensures plays { Plays (S.left source.old) (S.left source.new) session.new (K.taken sink.old) (K.taken sink.new) (string_bytes output.new.text) result }
+    ensures same { OnOk result (lines_of session.new.voice ≡ lines_of session.old.voice) }
     ensures behind { IsBehind (S.left source.old) (S.left source.new) (K.taken sink.old) (K.taken sink.new) }
     ensures cause { Halts (S.faults source.old) (S.faults source.new) (K.faults sink.old) (K.faults sink.new) result }
     ensures later { K.faults sink.old ≤ K.faults sink.new }

@@ -3,15 +3,17 @@ ghost use Rattle.std.specs.Prelude.{◌≡◌, ℕ, ◌+◌, ◌-◌, ◌<◌, �
 ghost use Rattle.br_model.specs.Text.Operands.{longest_section};
 ghost use Rattle.br_model.specs.Text.Scenario.{Scenario, opened, longest_line, closes};
 ghost use Rattle.br_model.specs.Table.Table.{table};
-ghost use Rattle.capture_runner.specs.Session.{Follows, Takes, IsAfter, IsBehindDeclarations, IsCaptured, IsReady, ComeByLine, Does, ending_of, world_of, end_line_of, last_line, history_of, listing_or_bad, status_of};
+ghost use Rattle.capture_runner.specs.Session.{Follows, SaysNothing, SaysOn, Takes, IsAfter, IsBehindDeclarations, IsCaptured, IsReady, ComeByLine, Does, ending_of, world_of, end_line_of, last_line, history_of, listing_or_bad, status_of};
 ghost use Rattle.br_model.specs.Text.LineForms.{comes_by_line};
 ghost use Rattle.br_model.specs.Text.Roster.{chips_of};
 ghost use Rattle.std.specs.String.Boundary.{IsSplitPoint};
 ghost use Rattle.transcript_text.specs.Extends.{Extends};
+ghost use Rattle.capture_runner.specs.Voices.{answer_at, lines_of, said_by};
 
 use crate::NoMemory;
 use crate::section::captured_steps;
 use crate::status::Status;
+use crate::voice::{Voice, begin, do_step, take_text};
 use crate::world::World;
 use br_model::listing::Listing;
 use br_model::plain::table::Table;
@@ -74,11 +76,14 @@ pub(crate) struct Session {
     // Those of the last step, in the memory of those before.
     told: Lines,
     writer: Writer,
+    voice: Voice,
 }
 
 impl Session {
-    pub(crate) fn new(alloc: Global) -> Result<Session, NoMemory>
+    pub(crate) fn new(alloc: Global, voice: Voice) -> Result<Session, NoMemory>
+        requires { SaysNothing voice }
         ensures follows { IfOk result (Follows (opened false)) }
+        ensures voice { IfOk result (λ x. x.voice ≡ voice) }
         ensures lines { IfOk result (λ x. x.lines ≡ 0) }
     {
         Ok(Session {
@@ -87,6 +92,7 @@ impl Session {
             world: None,
             told: Lines::new(alloc),
             writer: Writer::new(alloc),
+            voice,
         })
     }
 
@@ -101,10 +107,11 @@ impl Session {
     ) -> Result<Next, NoMemory>
         requires short { length line.now ≤ longest_line }
         requires few { self.old.lines < 2 ^ 32 - 1 }
-        requires ready { IsReady self.old.roster self.old.world }
-        ensures ready { OnOk result (IsReady self.new.roster self.new.world) }
+        requires ready { IsReady self.old.roster self.old.world self.old.voice }
+        ensures ready { OnOk result (IsReady self.new.roster self.new.world self.new.voice) }
         ensures takes { IfOk result (Takes self.old line.now (string_bytes text.old) self.new (string_bytes text.new)) }
         ensures lines { OnOk result (self.new.lines ≤ self.old.lines + 1) }
+        ensures same { OnOk result (lines_of self.new.voice ≡ lines_of self.old.voice) }
         ensures err { OnErr result (string_bytes text.new ≡ string_bytes text.old) }
     {
         let item = match read_line(alloc, line, &mut self.roster) {
@@ -160,11 +167,16 @@ impl Session {
         requires empty { self.old.told.lines ≡ [] }
         ensures lines { OnOk result (self.new.lines ≡ self.old.lines) }
         ensures roster { OnOk result (self.new.roster ≡ self.old.roster) }
-        ensures ready { OnOk result (IsReady self.new.roster self.new.world) }
+        ensures ready { OnOk result (IsReady self.new.roster self.new.world self.new.voice) }
         ensures does { OnOk result (IsAfter (world_of self.old.roster None) step self.new) }
+        ensures says { OnOk result (SaysOn self.old step self.new) }
+        ensures same { OnOk result (lines_of self.new.voice ≡ lines_of self.old.voice) }
     {
-        let mut world = World::make(rt, alloc, self.roster.domains(), self.roster.own())?;
-        match world.step(rt, alloc, step, &mut self.told) {
+        let own = self.roster.own();
+        begin(alloc, &mut self.voice, self.roster.domains(), own)?;
+        let domains = self.roster.domains();
+        let mut world = World::make(rt, alloc, domains, own)?;
+        match do_step(rt, alloc, &mut self.voice, &mut world, step, &mut self.told) {
             Ok(()) => {
                 match mem::replace(&mut self.world, Some(world)) {
                     None => {}
@@ -182,16 +194,18 @@ impl Session {
     /// Does a step in the world that is there, or in a new one.
     fn go_on<R: Wait>(&mut self, rt: &R, alloc: Global, step: Step) -> Result<(), NoMemory>
         requires by_line { comes_by_line false (chips_of self.old.roster.ports) step ≡ true }
-        requires ready { IsReady self.old.roster self.old.world }
+        requires ready { IsReady self.old.roster self.old.world self.old.voice }
         requires behind { IsBehindDeclarations self.old.roster }
         requires empty { self.old.told.lines ≡ [] }
         ensures lines { OnOk result (self.new.lines ≡ self.old.lines) }
         ensures roster { OnOk result (self.new.roster ≡ self.old.roster) }
-        ensures ready { OnOk result (IsReady self.new.roster self.new.world) }
+        ensures ready { OnOk result (IsReady self.new.roster self.new.world self.new.voice) }
         ensures does { OnOk result (IsAfter (world_of self.old.roster self.old.world) step self.new) }
+        ensures says { OnOk result (SaysOn self.old step self.new) }
+        ensures same { OnOk result (lines_of self.new.voice ≡ lines_of self.old.voice) }
     {
         match &mut self.world {
-            Some(world) => world.step(rt, alloc, step, &mut self.told),
+            Some(world) => do_step(rt, alloc, &mut self.voice, world, step, &mut self.told),
             None => self.begin(rt, alloc, step),
         }
     }
@@ -205,9 +219,10 @@ impl Session {
         text: &mut String,
     ) -> Result<(), NoMemory>
         requires by_line { comes_by_line false (chips_of self.old.roster.ports) step ≡ true }
-        requires ready { IsReady self.old.roster self.old.world }
+        requires ready { IsReady self.old.roster self.old.world self.old.voice }
         requires behind { IsBehindDeclarations self.old.roster }
-        ensures ready { OnOk result (IsReady self.new.roster self.new.world) }
+        ensures ready { OnOk result (IsReady self.new.roster self.new.world self.new.voice) }
+        ensures same { OnOk result (lines_of self.new.voice ≡ lines_of self.old.voice) }
         ensures does { OnOk result (Does self.old step (string_bytes text.old) self.new (string_bytes text.new)) }
         ensures err { OnErr result (string_bytes text.new ≡ string_bytes text.old) }
     {
@@ -269,6 +284,24 @@ impl Session {
         }
     }
 
+    /// All that was said, with its last line, or the bad line. Nothing of it is kept.
+    pub(crate) fn take_said(&mut self, alloc: Global, last: Last) -> Result<String, NoMemory>
+        ensures { IfOk result (λ text. string_bytes text ≡ answer_at (ending_of last) (said_by self.old.voice)) }
+    {
+        match last {
+            Last::Ended => {
+                let mut text = take_text(alloc, &mut self.voice);
+                text.push_str("end\n")?;
+                Ok(text)
+            }
+            Last::Bad(number, why) => {
+                let mut text = String::new(alloc);
+                append_bad(number, why, &mut text)?;
+                Ok(text)
+            }
+        }
+    }
+
     fn end_line(&self) -> Line
         ensures { result ≡ end_line_of self.now.world }
     {
@@ -287,6 +320,7 @@ impl Session {
     fn append_last(&mut self, last: Last, text: &mut String) -> Result<(), NoMemory>
         ensures roster { self.new.roster ≡ self.old.roster }
         ensures world { self.new.world ≡ self.old.world }
+        ensures voice { self.new.voice ≡ self.old.voice }
         ensures ok { OnOk result (string_bytes text.new ≡ string_bytes text.old ++ last_line last self.old.world) }
         ensures err { OnErr result (Extends (string_bytes text.old) (string_bytes text.new)) }
     {
@@ -303,6 +337,7 @@ impl Session {
     pub(crate) fn end(&mut self, last: Last, text: &mut String) -> Result<(), NoMemory>
         ensures roster { self.new.roster ≡ self.old.roster }
         ensures world { self.new.world ≡ self.old.world }
+        ensures voice { self.new.voice ≡ self.old.voice }
         ensures ok { OnOk result (string_bytes text.new ≡ string_bytes text.old ++ last_line last self.old.world) }
         ensures err { OnErr result (string_bytes text.new ≡ string_bytes text.old) }
     {
@@ -319,6 +354,7 @@ impl Session {
             world,
             told: _,
             writer: _,
+            voice: _,
         } = self;
         match world {
             Some(world) => world.end(rt),

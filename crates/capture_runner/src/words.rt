@@ -44,6 +44,7 @@ fn whole_command<'a>(alloc: Global) -> Result<Command<'a>, NoMemory>
         .subcommand_required(true)
         .subcommand(Command::new(alloc, "replay"))?
         .subcommand(show_command(alloc)?)?
+        .subcommand(Command::new(alloc, "monitor"))?
         .subcommand(generating_command(alloc, "gen")?)?
         .subcommand(generating_command(alloc, "demo")?)
 }
@@ -91,6 +92,7 @@ fn asked_of(name: &str, found: &ArgMatches) -> Option<Asked>
     match name {
         "replay" => Some(Asked::Replay),
         "show" => Some(Asked::Show(listing_from(found)?)),
+        "monitor" => Some(Asked::Monitor),
         "gen" => {
             let (number, count) = numbers_from(found)?;
             Some(Asked::Gen { number, count })

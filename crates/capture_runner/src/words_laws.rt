@@ -2,7 +2,7 @@
 ghost use Rattle.std.specs.Prelude.{◌≡◌, [], codes, None, Some};
 ghost use Rattle.br_model.specs.Text.Words.{words};
 ghost use Rattle.br_model.specs.declared.listing.Listing.TheVariants.{Fdb, Vlan, Mdb};
-ghost use Rattle.capture_runner.specs.declared.asked.Asked.TheVariants.{Replay, Show, Gen, Demo};
+ghost use Rattle.capture_runner.specs.declared.asked.Asked.TheVariants.{Replay, Show, Monitor, Gen, Demo};
 ghost use Rattle.capture_runner.specs.Words.{asked};
 
 /// Each command, with the largest numbers.
@@ -11,6 +11,7 @@ pub fn commands_are_read()
     ensures fdb { asked (words (codes "show fdb")) ≡ Some (Show Fdb) }
     ensures vlan { asked (words (codes "show vlan")) ≡ Some (Show Vlan) }
     ensures mdb { asked (words (codes "show mdb")) ≡ Some (Show Mdb) }
+    ensures monitor { asked (words (codes "monitor")) ≡ Some Monitor }
     ensures least { asked (words (codes "gen 0 0")) ≡ Some (Gen 0 0) }
     ensures most { asked (words (codes "gen 18446744073709551615 100000")) ≡ Some (Gen 18446744073709551615 100000) }
     ensures demo { asked (words (codes "demo 7 20")) ≡ Some (Demo 7 20) }
@@ -24,6 +25,7 @@ pub fn operands_are_tested()
     ensures zero { asked (words (codes "gen 07 1")) ≡ None }
     ensures number { asked (words (codes "gen 18446744073709551616 1")) ≡ None }
     ensures count { asked (words (codes "gen 0 100001")) ≡ None }
+    ensures none { asked (words (codes "monitor x")) ≡ None }
     ensures sign { asked (words (codes "demo 1 -1")) ≡ None }
 {}
 

@@ -4,6 +4,8 @@ ghost use Rattle.br_model.specs.Plane.Runs.{end_line, pending};
 ghost use Rattle.br_model.specs.declared.steps.Step.TheVariants.{Cmd, Hold, Now, Post, Publish, Report, Rx, Serve, Sweep, Turn};
 ghost use Rattle.br_model.specs.Plane.World.{first_world};
 ghost use Rattle.br_model.specs.Table.Domains.{chip_domains, has_chip};
+ghost use Rattle.br_model.specs.Table.Limits.{AreWithin};
+ghost use Rattle.capture_runner.specs.Voices.{IsNext};
 ghost use Rattle.plane_core.specs.Added.{Added};
 ghost use Rattle.plane_core.specs.Planes.{Steps as IsStep};
 ghost use Rattle.capture_runner.specs.Held.{AreDecided, AreSame, KeepsOldest};
@@ -13,7 +15,7 @@ ghost use Rattle.br_model.specs.Text.LineForms.{comes_by_line};
 use crate::NoMemory;
 use crate::held::Verdicts;
 use br_model::bytes::Bytes;
-use br_model::change::Change;
+use br_model::change::{Change, Update};
 use br_model::domains::Domains;
 use br_model::numbers::{Dom, Mac, Port};
 use br_model::steps::{Command, Event, Step};
@@ -59,6 +61,24 @@ fn turn(plane: &mut Plane, dom: Dom, lines: &mut Lines) -> Result<(), NoMemory>
         Err(TurnFault::NoMemory) => Err(AllocError),
         Err(TurnFault::OutOfTurn { .. }) => unreachable!(),
     }
+}
+
+/// All accepted changes.
+fn history(plane: &Plane) -> &[Change]
+    ensures value { result.now ≡ plane.now.world.history }
+    ensures within { AreWithin result.now }
+{
+    // law: what holds of every plane
+    plane.stands();
+    plane.history()
+}
+
+/// The change that the domain's chip applies next, if there is one.
+fn next_update(plane: &Plane, dom: Dom) -> Option<Update>
+    requires { has_chip plane.now.world.setup.domains dom ≡ true }
+    ensures { IsNext plane.now.world dom result }
+{
+    plane.update(plane.applied(dom))
 }
 
 /// The verdict of the oldest frame that waits is kept, by what is published.
@@ -312,9 +332,18 @@ impl World {
 
     /// All accepted changes.
     pub(crate) fn history(&self) -> &[Change]
-        ensures { result.now ≡ self.now.history }
+        ensures value { result.now ≡ self.now.history }
+        ensures within { AreWithin result.now }
     {
-        self.plane.history()
+        history(&self.plane)
+    }
+
+    /// The change that the domain's chip applies next, if there is one.
+    pub(crate) fn next_update(&self, dom: Dom) -> Option<Update>
+        requires { has_chip self.now.setup.domains dom ≡ true }
+        ensures { IsNext self.now dom result }
+    {
+        next_update(&self.plane, dom)
     }
 
     /// How many they are.

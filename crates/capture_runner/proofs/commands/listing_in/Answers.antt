@@ -1,4 +1,5 @@
-use Rattle.capture_runner.proofs.Outcomes.{lists_stop, listed_by}
+use Rattle.br_model.specs.Program.Listings.{listed}
+use Rattle.capture_runner.proofs.Outcomes.{yields_stop, listed_by}
 use Rattle.capture_runner.proofs.commands.listing_in.Goals as goal
 
 pub returns-in-Ok-clause-lists : goal.returns-in-Ok-clause-lists
@@ -7,4 +8,4 @@ returns-in-Ok-clause-lists g c = listed_by _ _ c.args.listing _ _ _ _ c.in-Ok.en
 pub returns-in-Err-Stopped-clause-lists : goal.returns-in-Err-Stopped-clause-lists
 returns-in-Err-Stopped-clause-lists g c =
     let plays = rw c.in-Err-Stopped.field-0-is at c.in-Err-Stopped.ensures.plays in
-    rw c.in-Err-Stopped.stop-is (lists_stop (g.S.Source.left c.args.source.now) (g.S.Source.left c.play.new.source) _ _ _ c.args.listing c.in-Err-Stopped.stop plays)
+    rw c.in-Err-Stopped.stop-is (yields_stop (g.S.Source.left c.args.source.now) (g.S.Source.left c.play.new.source) _ _ _ (listed c.args.listing) c.in-Err-Stopped.stop plays)

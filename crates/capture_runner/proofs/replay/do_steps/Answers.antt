@@ -17,6 +17,7 @@ loop-step-preserved g c =
       parts = so_far.parts ∙ ap (λ (l : List Step). c.loop-step.yielded ++ l) next ∙ sym (append_assoc c.loop-step.yielded (c.in-Some.step ∷ []) c.next.new.self.rest.items);
       by_line = second_so _ _ (ap (list_all (comes_by_line false (chips_of c.args.session.now.roster.ports))) (sym next) ∙ so_far.by_line);
       roster = c.in_ok-step.ensures.does.roster ∙ so_far.roster;
+      same = c.in_ok-step.ensures.same ∙ so_far.same;
       ready = c.in_ok-step.ensures.ready;
       does = does_more _ _ _ _ _ _ _ _ _ _ _ _ so_far.does c.in_ok-put_if_full.ensures.moved c.in_ok-step.ensures.does;
       grows = grows_by _ _ _ _ so_far.grows c.in_ok-put_if_full.ensures.moved.wrote;

@@ -1,4 +1,4 @@
-use Rattle.std.proofs.Common.{Err, inr, ap, ◌∙◌, arith}
+use Rattle.std.proofs.Common.{Err, inr, refl, ap, ◌∙◌, arith}
 use Rattle.std.proofs.lemmas.Result.{err_from_is_err_and}
 use Rattle.capture_runner.proofs.Ready.{behind_section, ready_at_first}
 use Rattle.capture_runner.proofs.Telling.{behind_broken, end_lacks, first_lacks, first_unread, grown, moved, opened_more, opens, play_breaks, play_ends, play_stops, section_ends, section_halts, split_all, started, started_written, unread_behind}
@@ -14,6 +14,7 @@ loop-reader-init g c =
         started _ _ _ _ reader.held reader.taken reader.limit reader.fault session.follows session.lines (rw session.text at c.in_ok-push_str.ensures.bytes),
       );
       behind = first_unread _ _ _ reader.held reader.taken reader.limit reader.fault;
+      same = refl;
       ready = ready_at_first c.args.session.now session.follows;
       reads = omega arith;
       writes = omega arith;
@@ -34,6 +35,7 @@ loop-reader-preserved-in-Line g c =
     let goes = rw c.in-Line.is at (c.in_ok-advance.ensures.advances _ _ w.gone (split_all _ _ _ _ w _ _ _ _ plays.2)) in record {
       plays = (_, grown _ _ _ _ _ w, goes);
       behind = inr (opens _ _ _ _ _ _ _ _ _ _ plays.1 plays.2 c.in_ok-put_before_read.ensures.moved c.in_ok-put_before_read.ensures.all c.loop-reader.invariant.behind);
+      same = c.in_ok-advance.ensures.same ∙ c.loop-reader.invariant.same;
       ready = c.in_ok-advance.ensures.ready;
       reads = omega (arith, c.loop-reader.invariant.reads, c.advance.ensures.later);
       writes = omega (arith, c.loop-reader.invariant.writes, c.put_before_read.ensures.cause.later);
@@ -73,7 +75,7 @@ returns-in-Some-clause-plays g c =
     let w = moved _ _ _ _ _ _ plays.1 c.in_ok-put_before_read.ensures.moved in
     let at = rw c.in-Section.is at (c.in_ok-advance.ensures.advances _ _ w.gone (split_all _ _ _ _ w _ _ _ _ plays.2)) in
     let ends = rw c.in-Some.is at (c.in_ok-last-in-Section.ensures.plays _ _ _ (grown _ _ _ _ _ w) at) in
-    section_ends _ _ _ _ c.play_section.new.reader _ _ _ _ _ c.in_ok-end-in-Section.ensures.roster c.in_ok-end-in-Section.ensures.world ends c.in_ok-end-in-Section.ensures.ok
+    section_ends _ _ _ _ c.play_section.new.reader _ _ _ _ _ c.in_ok-end-in-Section.ensures.roster c.in_ok-end-in-Section.ensures.world c.in_ok-end-in-Section.ensures.voice ends c.in_ok-end-in-Section.ensures.ok
 
 pub loop-reader-preserved : goal.loop-reader-preserved
 loop-reader-preserved g c =
@@ -85,6 +87,7 @@ loop-reader-preserved g c =
           inr (opened_more _ _ _
           (opens _ _ _ _ _ _ _ _ _ _ plays.1 plays.2 c.in_ok-put_before_read.ensures.moved c.in_ok-put_before_read.ensures.all c.loop-reader.invariant.behind)
           c.play_section.ensures.grows);
+      same = c.in_ok-last-in-Section.ensures.same ∙ c.in_ok-advance.ensures.same ∙ c.loop-reader.invariant.same;
       ready = c.in_ok-last-in-Section.ensures.ready;
       reads = omega (arith, c.loop-reader.invariant.reads, c.advance.ensures.later, c.play_section.ensures.later);
       writes = omega (arith, c.loop-reader.invariant.writes, c.put_before_read.ensures.cause.later, c.play_section.ensures.later_sink);
@@ -95,7 +98,7 @@ returns-in-End-clause-plays g c =
     let plays = c.loop-reader.invariant.plays in
     let w = moved _ _ _ _ _ _ plays.1 c.in_ok-put_before_read.ensures.moved in
     let ended = rw c.in-End.is at (c.in_ok-advance.ensures.advances _ _ w.gone (split_all _ _ _ _ w _ _ _ _ plays.2)) in
-    play_ends _ _ _ _ _ _ _ _ _ _ w _ c.in_ok-end-in-End.ensures.roster c.in_ok-end-in-End.ensures.world ended c.in_ok-end-in-End.ensures.ok
+    play_ends _ _ _ _ _ _ _ _ _ _ w _ c.in_ok-end-in-End.ensures.roster c.in_ok-end-in-End.ensures.world c.in_ok-end-in-End.ensures.voice ended c.in_ok-end-in-End.ensures.ok
 
 pub returns-in_err-push_str-clause-plays : goal.returns-in_err-push_str-clause-plays
 returns-in_err-push_str-clause-plays g c =

@@ -10,6 +10,7 @@ returns c = record {
   fdb = refl;
   vlan = refl;
   mdb = refl;
+  monitor = refl;
   least = refl;
   most = refl;
   demo = refl;

@@ -12,5 +12,6 @@ returns c = record {
   zero = refl;
   number = refl;
   count = refl;
+  none = refl;
   sign = refl;
 }
