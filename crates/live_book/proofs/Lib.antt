@@ -1,0 +1,11 @@
+pub mod BookLines
+pub mod Drains
+pub mod Following
+pub mod Judging
+pub mod Linking
+pub mod Openings
+pub mod Places
+pub mod Reporting
+pub mod Rows
+pub mod SameLanes
+pub mod StepLines

@@ -1,0 +1,260 @@
+-- The lines of a step tell whether it accepted changes, and whether it was refused for want of room.
+use Rattle.std.proofs.Common.{◌≡◌, ℕ, ◌+◌, ◌==◌, nat_lt, Bool, true, false, not, ◌&&◌, ◌||◌, cond, if◌then◌else◌, List, [], ◌∷◌, ◌++◌, length, Option, None, Some, refl, sym, ap, ap₂, ◌∙◌, arith, length-append}
+use Rattle.std.proofs.Math.Bool.{and-true}
+use Rattle.std.specs.List.{fold, list_all, list_any}
+use Rattle.std.specs.declared.result.Result.{Result}
+use Rattle.std.specs.declared.result.Result.TheVariants.{Ok, Err}
+use Rattle.std.proofs.lemmas.List.Folds.{list_all-append, list_any-append}
+use Rattle.std.proofs.lemmas.List.Sums.{fold-append}
+use Rattle.br_model.specs.declared.bpdu.BpduMsg.{BpduMsg}
+use Rattle.br_model.specs.declared.change.Change.{Change}
+use Rattle.br_model.specs.declared.frame.Class.{Class}
+use Rattle.br_model.specs.declared.frame.Class.TheVariants.{Drop, Trap, Copy, Forward}
+use Rattle.br_model.specs.declared.frame.FrameFault.{FrameFault}
+use Rattle.br_model.specs.declared.frame.Head.{Head}
+use Rattle.br_model.specs.declared.steps.Event.TheVariants as events
+use Rattle.br_model.specs.declared.steps.Refusal.{Refusal}
+use Rattle.br_model.specs.declared.steps.Refusal.TheVariants.{HistoryFull, NothingWaiting, NothingToPost, NoSuchPoint, NothingPending, NothingReported}
+use Rattle.br_model.specs.declared.steps.Step.{Step}
+use Rattle.br_model.specs.declared.steps.Step.TheVariants.{Rx, Cmd, Now, Serve, Hold, Post, Turn, Report, Sweep, Publish}
+use Rattle.br_model.specs.declared.transcript.Line.{Line}
+use Rattle.br_model.specs.declared.transcript.Line.TheVariants as lines
+use Rattle.br_model.specs.Control.Learning.{Triple}
+use Rattle.br_model.specs.Control.Reaction.{Reaction}
+use Rattle.br_model.specs.Control.Refusals.{refusal_number}
+use Rattle.br_model.specs.Forward.Shares.{chip_out, mark_of, soft_out}
+use Rattle.br_model.specs.Plane.Chip.{Chip, notes}
+use Rattle.br_model.specs.Plane.ChipSteps.{tells, reports, sweeps, swept, turns, turns_to}
+use Rattle.br_model.specs.Plane.Entering.{chip_of, class_of, enters_as, enters_by, goes_on, waits}
+use Rattle.br_model.specs.Plane.Serving.{held_with, holds, is_point, lets_go, posts, posts_at, posts_held, serves}
+use Rattle.br_model.specs.Plane.Steps.{publishes, world_step}
+use Rattle.br_model.specs.Plane.World.{World, Waiting, Holding, Stepped, accepts, after_lines, answered, chip_at, control_lines, done, next_of, reacts, refused, sent, table_at, table_of_chip, with_chip}
+use Rattle.br_model.specs.Program.LiveRun.{is_report_at, says_full}
+use Rattle.br_model.specs.Table.Domains.{domain_of}
+use Rattle.br_model.specs.Table.Limits.{most_waiting}
+use Rattle.br_model.specs.Wire.Frames.{frame}
+use Rattle.live_book.specs.Reading.{is_published, refused_after}
+
+-- lines that tell of no step
+record Quiet (told : List Line) : Type 0 where
+  all : (may : ℕ → Bool) → list_all (is_published may) told ≡ true
+  same : (is_report : ℕ → Bool) (b : Bool) → fold (refused_after is_report) b told ≡ b
+
+nothing : Quiet []
+nothing = record { all = λ may. refl; same = λ is_report b. refl }
+
+quiet_sent : (id : ℕ) (out : List (ℕ × List ℕ)) → Quiet (sent id out)
+quiet_sent id [] = record { all = λ may. refl; same = λ is_report b. refl }
+quiet_sent id (x ∷ out) = let q = quiet_sent id out in record { all = q.all; same = q.same }
+
+quiet_control : (own : ℕ) (messages : List (ℕ × BpduMsg)) → Quiet (control_lines own messages)
+quiet_control own [] = record { all = λ may. refl; same = λ is_report b. refl }
+quiet_control own (x ∷ messages) = let q = quiet_control own messages in record { all = q.all; same = q.same }
+
+-- What a step leaves that began with so many steps and this history: its lines tell whether it accepted changes, and change nothing of
+-- what is known of a chip's reports unless it is one of them.
+pub record Told (number : ℕ) (history : List Change) (y : Stepped) : Type 0 where
+  pub steps : y.0.steps ≡ number
+  pub published : (may : ℕ → Bool) → list_all (is_published may) y.1 ≡ (not (nat_lt (length history) (length y.0.history)) || may number)
+  pub kept : (is_report : ℕ → Bool) (b : Bool) → is_report number ≡ false → fold (refused_after is_report) b y.1 ≡ b
+
+not_less : (n : ℕ) → nat_lt n n ≡ false
+not_less n = grind arith
+
+grown : (a b : ℕ) → (b == 0) ≡ not (nat_lt a (a + b))
+grown a b = grind arith
+
+-- where nothing is accepted
+unchanged : (history after : List Change) (c : Bool) → after ≡ history → (not (nat_lt (length history) (length after)) || c) ≡ true
+unchanged history after c same =
+    ap (λ (h : List Change). not (nat_lt (length history) (length h)) || c) same ∙ ap (λ b. not b || c) (not_less (length history))
+
+silent : (number : ℕ) (history : List Change) (y : Stepped) → y.0.steps ≡ number → y.0.history ≡ history → Quiet y.1 → Told number history y
+silent number history y steps same q = record {
+  steps = steps;
+  published = λ may. q.all may ∙ sym (unchanged history y.0.history (may number) same);
+  kept = λ is_report b none. q.same is_report b;
+}
+
+behind : (number : ℕ) (history : List Change) (before : List Line) (y : Stepped) → Quiet before → Told number history y → Told number history (after_lines before y)
+behind number history before y q t = record {
+  steps = t.steps;
+  published = λ may. list_all-append (is_published may) before y.1 ∙ ap (λ b. b && list_all (is_published may) y.1) (q.all may) ∙ t.published may;
+  kept = λ is_report b none. fold-append (refused_after is_report) b before y.1 ∙ ap (λ c. fold (refused_after is_report) c y.1) (q.same is_report b) ∙ t.kept is_report b none;
+}
+
+by_refused : (w : World) (why : Refusal) → Told w.steps w.history (refused w why)
+by_refused w why = record {
+  steps = refl;
+  published = λ may. sym (unchanged w.history w.history (may w.steps) refl);
+  kept = λ is_report b none. ap (λ c. cond c (refusal_number why == refusal_number HistoryFull) b) none;
+}
+
+by_done : (w : World) → Told w.steps w.history (done w)
+by_done w = record {
+  steps = refl;
+  published = λ may. sym (unchanged w.history w.history (may w.steps) refl);
+  kept = λ is_report b none. ap (λ c. cond c false b) none;
+}
+
+ended : (w : World) (r : Reaction) → Told w.steps w.history (accepts w r, lines.Done w.steps (length r.changes) ∷ [])
+ended w r = record {
+  steps = refl;
+  published = λ may.
+      and-true ((length r.changes == 0) || may w.steps)
+      ∙ ap (λ b. b || may w.steps) (grown (length w.history) (length r.changes) ∙ ap (λ n. not (nat_lt (length w.history) n)) (sym (length-append w.history r.changes)));
+  kept = λ is_report b none. ap (λ c. cond c false b) none;
+}
+
+by_answered : (w v : World) (r : Result Reaction Refusal) → v.steps ≡ w.steps → v.history ≡ w.history → Told w.steps w.history (answered w v r)
+by_answered w v (Err why) steps history = by_refused w why
+by_answered w v (Ok r) steps history =
+    let t = behind v.steps v.history (control_lines v.setup.own r.messages) (accepts v r, lines.Done v.steps (length r.changes) ∷ []) (quiet_control v.setup.own r.messages) (ended v r) in record {
+      steps = t.steps ∙ steps;
+      published = λ may. t.published may ∙ ap₂ (λ (h : List Change) n. not (nat_lt (length h) (length (v.history ++ r.changes))) || may n) history steps;
+      kept = λ is_report b none. t.kept is_report b (ap is_report steps ∙ none);
+    }
+
+by_waits : (w : World) (f : Waiting) → Told w.steps w.history (waits w f)
+by_waits w f = elim (nat_lt (length w.waiting + length w.held) most_waiting) as (λ b. Told w.steps w.history (cond {A = Stepped} b (record w { waiting = w.waiting ++ f ∷ [] }, []) (w, lines.Overrun f.id ∷ []))) [
+  | true ↦ silent w.steps w.history (record w { waiting = w.waiting ++ f ∷ [] }, []) refl refl nothing
+  | false ↦ silent w.steps w.history (w, lines.Overrun f.id ∷ []) refl refl (record { all = λ may. refl; same = λ is_report b. refl })
+]
+
+by_goes_on : (c : Class) (w : World) (f : Waiting) → Told w.steps w.history (goes_on c w f)
+by_goes_on Drop w f = silent w.steps w.history (w, []) refl refl nothing
+by_goes_on Trap w f = by_waits w f
+by_goes_on Copy w f = by_waits w f
+by_goes_on Forward w f = silent w.steps w.history (w, []) refl refl nothing
+
+decided : (id changes applied : ℕ) (class : Class) (out : List (ℕ × List ℕ)) → Quiet (lines.Chip id changes applied class ∷ sent id out)
+decided id changes applied class out = let q = quiet_sent id out in record { all = q.all; same = q.same }
+
+by_enters_by : (w : World) (f : Waiting) (o : Option Chip) → Told w.steps w.history (enters_by w o f)
+by_enters_by w f None = by_waits w f
+by_enters_by w f (Some c) =
+    behind w.steps w.history _ _ (decided f.id (length w.history) c.count (class_of w c f) (chip_out w.setup.domains (table_of_chip w c) f.port f.bytes f.head))
+    (by_goes_on (class_of w c f) (with_chip w (notes (table_of_chip w c) f.port f.head c)) (record f { mark = mark_of (class_of w c f) w.setup.domains f.port }))
+
+by_enters : (w : World) (id port : ℕ) (bytes : List ℕ) (r : Result Head FrameFault) → Told w.steps w.history (enters_as w id port bytes r)
+by_enters w id port bytes (Err why) = silent w.steps w.history (w, lines.Unread id why ∷ []) refl refl (record { all = λ may. refl; same = λ is_report b. refl })
+by_enters w id port bytes (Ok head) =
+    by_enters_by w (record { id = id; port = port; bytes = bytes; head = head; mark = None }) (chip_of w (domain_of w.setup.domains port))
+
+by_posts : (w : World) (f : Waiting) (point : ℕ) → Told w.steps w.history (posts w f point)
+by_posts w f point =
+    let q = quiet_sent f.id (soft_out w.setup.domains (table_at w point) f.port f.bytes f.head f.mark) in
+    behind w.steps w.history (lines.Soft f.id point ∷ sent f.id (soft_out w.setup.domains (table_at w point) f.port f.bytes f.head f.mark)) _ (record { all = q.all; same = q.same })
+    (by_answered w w (reacts w (events.Sight f.port f.bytes f.head)) refl refl)
+
+by_serves : (w : World) (fs : List Waiting) → Told w.steps w.history (serves w fs)
+by_serves w [] = by_refused w NothingWaiting
+by_serves w (f ∷ later) = by_posts (record w { waiting = later }) f w.published
+
+by_holds : (w : World) (fs : List Waiting) → Told w.steps w.history (holds w fs)
+by_holds w [] = by_refused w NothingWaiting
+by_holds w (f ∷ later) = silent w.steps w.history (holds w (f ∷ later)) refl refl (record { all = λ may. refl; same = λ is_report b. refl })
+
+by_posts_held : (w : World) (h : Holding) (point : Option ℕ) → Told w.steps w.history (posts_held w h point)
+by_posts_held w h None = by_posts (lets_go w h.waiting.id) h.waiting h.floor
+by_posts_held w h (Some point) =
+    elim (is_point w h point) as (λ b. Told w.steps w.history (cond {A = Stepped} b (posts (lets_go w h.waiting.id) h.waiting point) (refused w NoSuchPoint))) [
+      | true ↦ by_posts (lets_go w h.waiting.id) h.waiting point
+      | false ↦ by_refused w NoSuchPoint
+    ]
+
+by_posts_at : (w : World) (o : Option Holding) (point : Option ℕ) → Told w.steps w.history (posts_at w o point)
+by_posts_at w None point = by_refused w NothingToPost
+by_posts_at w (Some h) point = by_posts_held w h point
+
+by_turns_to : (w : World) (c : Chip) (o : Option Change) → Told w.steps w.history (turns_to w c o)
+by_turns_to w c None = by_refused w NothingPending
+by_turns_to w c (Some d) = by_done (turns_to w c (Some d)).0
+
+by_turns : (w : World) (o : Option Chip) → Told w.steps w.history (turns w o)
+by_turns w None = by_refused w NothingPending
+by_turns w (Some c) = by_turns_to w c (next_of w c)
+
+by_tells : (w : World) (c : Chip) (rs : List Triple) → Told w.steps w.history (tells w c rs)
+by_tells w c [] = by_refused w NothingReported
+by_tells w c (x ∷ later) = by_answered w (with_chip w (record c { reports = later })) (reacts w (events.Told x.0 x.1 x.2)) refl refl
+
+by_reports : (w : World) (o : Option Chip) → Told w.steps w.history (reports w o)
+by_reports w None = by_refused w NothingReported
+by_reports w (Some c) = by_tells w c c.reports
+
+by_sweeps : (w : World) (o : Option Chip) → Told w.steps w.history (sweeps w o)
+by_sweeps w None = by_done w
+by_sweeps w (Some c) = by_answered w (with_chip w (record c { hits = [] })) (reacts w (swept w c)) refl refl
+
+abbrev counted : World → World
+counted w = record w { steps = w.steps + 1 }
+
+pub step_told : (w : World) (s : Step) → Told (w.steps + 1) w.history (world_step w s)
+step_told w (Rx port bytes) = by_enters (record w { steps = w.steps + 1; next = w.next + 1 }) w.next port bytes (frame bytes)
+step_told w (Cmd c) = by_answered (counted w) (counted w) (reacts (counted w) (events.Cmd c)) refl refl
+step_told w (Now moment) = by_answered (counted w) (counted w) (reacts (counted w) (events.Moment moment)) refl refl
+step_told w Serve = by_serves (counted w) w.waiting
+step_told w Hold = by_holds (counted w) w.waiting
+step_told w (Post id point) = by_posts_at (counted w) (held_with w id) point
+step_told w (Turn dom) = by_turns (counted w) (chip_at w dom)
+step_told w (Report dom) = by_reports (counted w) (chip_at w dom)
+step_told w (Sweep dom) = by_sweeps (counted w) (chip_at w dom)
+step_told w Publish = by_done (publishes (counted w) (length w.history))
+
+-- A report's lines tell how it ended.
+
+none_full : (own : ℕ) (messages : List (ℕ × BpduMsg)) → list_any says_full (control_lines own messages) ≡ false
+none_full own [] = refl
+none_full own (x ∷ messages) = none_full own messages
+
+abbrev Says : ℕ → List Line → Type 0
+Says number told = (is_report : ℕ → Bool) (b : Bool) → is_report number ≡ true → fold (refused_after is_report) b told ≡ list_any says_full told
+
+or_nothing : (b : Bool) → b ≡ (b || false)
+or_nothing true = refl
+or_nothing false = refl
+
+says_refused : (w : World) (why : Refusal) → Says w.steps (refused w why).1
+says_refused w why is_report b own =
+    ap (λ c. cond c (refusal_number why == refusal_number HistoryFull) b) own ∙ or_nothing (refusal_number why == refusal_number HistoryFull)
+
+says_answered : (w v : World) (r : Result Reaction Refusal) → v.steps ≡ w.steps → Says w.steps (answered w v r).1
+says_answered w v (Err why) steps = says_refused w why
+says_answered w v (Ok r) steps = λ is_report b own.
+    let control = control_lines v.setup.own r.messages in
+    let last : List Line = lines.Done v.steps (length r.changes) ∷ [] in
+    fold-append (refused_after is_report) b control last
+    ∙ ap (λ c. fold (refused_after is_report) c last) ((quiet_control v.setup.own r.messages).same is_report b)
+    ∙ ap (λ c. cond c false b) (ap is_report steps ∙ own)
+    ∙ sym (list_any-append says_full control last ∙ ap (λ c. c || list_any says_full last) (none_full v.setup.own r.messages))
+
+says_tells : (w : World) (c : Chip) (rs : List Triple) → Says w.steps (tells w c rs).1
+says_tells w c [] = says_refused w NothingReported
+says_tells w c (x ∷ later) = says_answered w (with_chip w (record c { reports = later })) (reacts w (events.Told x.0 x.1 x.2)) refl
+
+says_reports : (w : World) (o : Option Chip) → Says w.steps (reports w o).1
+says_reports w None = says_refused w NothingReported
+says_reports w (Some c) = says_tells w c c.reports
+
+-- whether the step's report, if it is this chip's, was refused for want of room
+abbrev Reported : World → ℕ → Step → Type 0
+Reported w dom s = (is_report : ℕ → Bool) (b : Bool) → is_report (w.steps + 1) ≡ is_report_at dom s
+    → fold (refused_after is_report) b (world_step w s).1 ≡ (if is_report_at dom s then list_any says_full (world_step w s).1 else b)
+
+report_step : (w : World) (dom d : ℕ) (c : Bool) → (d == dom) ≡ c → (is_report : ℕ → Bool) (b : Bool) → is_report (w.steps + 1) ≡ c
+    → fold (refused_after is_report) b (world_step w (Report d)).1 ≡ cond c (list_any says_full (world_step w (Report d)).1) b
+report_step w dom d true is is_report b own = says_reports (counted w) (chip_at w d) is_report b own
+report_step w dom d false is is_report b none = (step_told w (Report d)).kept is_report b none
+
+pub step_reported : (w : World) (dom : ℕ) (s : Step) → Reported w dom s
+step_reported w dom (Rx port bytes) is_report b none = (step_told w (Rx port bytes)).kept is_report b none
+step_reported w dom (Cmd c) is_report b none = (step_told w (Cmd c)).kept is_report b none
+step_reported w dom (Now moment) is_report b none = (step_told w (Now moment)).kept is_report b none
+step_reported w dom Serve is_report b none = (step_told w Serve).kept is_report b none
+step_reported w dom Hold is_report b none = (step_told w Hold).kept is_report b none
+step_reported w dom (Post id point) is_report b none = (step_told w (Post id point)).kept is_report b none
+step_reported w dom (Turn d) is_report b none = (step_told w (Turn d)).kept is_report b none
+step_reported w dom (Report d) is_report b is = report_step w dom d (d == dom) refl is_report b is
+step_reported w dom (Sweep d) is_report b none = (step_told w (Sweep d)).kept is_report b none
+step_reported w dom Publish is_report b none = (step_told w Publish).kept is_report b none
