@@ -46,6 +46,7 @@ pub mod PlaneKept
 pub mod PlaneLists
 pub mod PlaneShares
 pub mod PlaneStays
+pub mod PlaneWaiting
 pub mod Ranges
 pub mod ReactionSteps
 pub mod Reading

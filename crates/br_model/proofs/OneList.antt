@@ -1,16 +1,16 @@
 -- Published lists and their counts that begin one list.
-use Rattle.std.proofs.Common.{◌≡◌, ℕ, ◌<◌, ◌≤◌, Bool, true, false, cond, List, [], ◌∷◌, ◌++◌, length, take, None, Some, refl, sym, ap, ◌∙◌, subst, arith}
-use Rattle.std.proofs.lemmas.Bool.{eqb-true, ltb-true, or_left}
+use Rattle.std.proofs.Common.{◌≡◌, ℕ, ◌≤◌, true, false, List, [], ◌∷◌, ◌++◌, length, take, None, Some, refl, sym, ap, ◌∙◌, subst, arith}
+use Rattle.std.proofs.lemmas.Bool.{eqb-true, or_left}
 use Rattle.std.proofs.lemmas.List.{take-append-le}
 use Rattle.std.proofs.lemmas.List.Folds.{list_any-append}
-use Rattle.std.specs.Prelude.{◌==◌, ◌||◌, nat_lt}
+use Rattle.std.specs.Prelude.{◌||◌}
 use Rattle.std.specs.List.{AllByRecursion, last_or}
 use Rattle.std.specs.List.Sorted.{IsStrictlySortedBy}
 use Rattle.std.specs.Ordering.{nat_cmp, eq_by_cmp}
-use Rattle.std.specs.declared.cmp.Ordering.TheVariants.{Less, Equal, Greater}
+use Rattle.std.specs.declared.cmp.Ordering.TheVariants.{Less}
 use Rattle.std.specs.Cmp.{unsigned_tied}
 use Rattle.br_model.specs.Data.Maps.{has}
-use Rattle.br_model.proofs.PlaneLists.{has-up-to}
+use Rattle.br_model.proofs.PlaneLists.{has-up-to, less-than}
 use mathlib.Core.List.{IsPrefix}
 
 -- those behind the last one of a beginning are above it
@@ -36,17 +36,6 @@ each P c (x ∷ xs) all e =
   where
     alike : (c x : ℕ) → eq_by_cmp nat_cmp c x ≡ true → c ≡ x
     alike c x e = eqb-true c x (sym (unsigned_tied c x) ∙ e)
-
-less-than : (x y : ℕ) → nat_cmp x y ≡ Less → x < y
-less-than x y e = by (nat_lt x y) refl e
-  where
-    later : (b : Bool) → cond b Equal Greater ≡ Less → ⊥
-    later true h = absurd (cc)
-    later false h = absurd (cc)
-
-    by : (b : Bool) → nat_lt x y ≡ b → cond b Less (cond (x == y) Equal Greater) ≡ Less → x < y
-    by true is h = ltb-true x y is
-    by false is h = absurd (later (x == y) h)
 
 less : (e c : ℕ) → nat_cmp e c ≡ Less → c ≤ e → ⊥
 less e c h le = omega (arith, less-than e c h, le)

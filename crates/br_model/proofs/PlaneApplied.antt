@@ -3,26 +3,23 @@ use Rattle.std.proofs.Common.{◌≡◌, ℕ, ◌+◌, true, false, cond, List, 
 use Rattle.std.proofs.lemmas.Bool.{eqb-true}
 use Rattle.std.proofs.lemmas.List.{append-nil}
 use Rattle.std.specs.List.{fold, AllByRecursion, list_any}
-use Rattle.std.specs.Prelude.{◌==◌, nat_lt, if◌then◌else◌, is_some}
+use Rattle.std.specs.Prelude.{◌==◌, if◌then◌else◌, is_some}
 use Rattle.std.specs.Option.{option_to_list, option_map}
 use Rattle.std.specs.declared.result.Result.{Result}
 use Rattle.std.specs.declared.result.Result.TheVariants.{Ok, Err}
 use Rattle.br_model.specs.declared.change.Change.{Change}
 use Rattle.br_model.specs.declared.domains.Edition.{Edition}
 use Rattle.br_model.specs.declared.frame.Class.{Class}
-use Rattle.br_model.specs.declared.frame.Class.TheVariants.{Drop, Trap, Copy, Forward}
 use Rattle.br_model.specs.declared.frame.FrameFault.{FrameFault}
 use Rattle.br_model.specs.declared.frame.Head.{Head}
 use Rattle.br_model.specs.declared.steps.Event.TheVariants as events
 use Rattle.br_model.specs.declared.steps.Refusal.{Refusal}
 use Rattle.br_model.specs.declared.steps.Refusal.TheVariants.{NoSuchPoint}
-use Rattle.br_model.specs.declared.transcript.Line.TheVariants.{Overrun}
 use Rattle.br_model.specs.Plane.Chip.{notes, Chip, first_chip, first_chips, applies}
 use Rattle.br_model.specs.Table.Cut.{cut, deferred_of, synchronous_of}
 use Rattle.br_model.specs.Table.Domains.{domain_of, chip_domains, has_chip}
 use Rattle.br_model.specs.Wire.Frames.{frame}
 use Rattle.br_model.specs.Control.Learning.{Triple}
-use Rattle.br_model.specs.Table.Limits.{most_waiting}
 use Rattle.br_model.specs.Control.Reaction.{Reaction}
 use Rattle.br_model.specs.Table.Setup.{Setup}
 use Rattle.br_model.specs.Forward.Shares.{mark_of}
@@ -41,6 +38,7 @@ use Rattle.br_model.proofs.ApplyingLaws.{after_accept, after_turn, once_after_ac
 use Rattle.br_model.proofs.PlaneChips.{chip-dom, chip-own, chip-there, put-same, put-other, CountsStay, put-counts, counts-same, counted-before, chip_of-at}
 use Rattle.br_model.proofs.PlaneKept.{first-world, step-world, notes-keeps, hit_by-keeps, chip-stands}
 use Rattle.br_model.proofs.PlaneLists.{same-some, find-each}
+use Rattle.br_model.proofs.PlaneWaiting.{goes_on-either, waits-either}
 
 -- Changes are accepted behind those that were, and no chip applies a deferred one.
 abbrev Grows : World → World → Type 0
@@ -57,17 +55,10 @@ answered-grows before after (Err why) setup same counts = idle before
 answered-grows before after (Ok r) setup same counts = (r.changes, setup, ap (λ (h : List Change). h ++ r.changes) same, counts)
 
 waits-grows : (w : World) (f : Waiting) → Grows w (waits w f).0
-waits-grows w f =
-    elim (nat_lt (length w.waiting + length w.held) most_waiting) as (λ b. Grows w (cond {A = Stepped} b (record w { waiting = w.waiting ++ f ∷ [] }, []) (w, Overrun f.id ∷ [])).0) [
-      | true ↦ stays w (record w { waiting = w.waiting ++ f ∷ [] }) refl refl (counts-same w.chips)
-      | false ↦ idle w
-    ]
+waits-grows w f = waits-either (λ s. Grows w s.0) w f (stays w (record w { waiting = w.waiting ++ f ∷ [] }) refl refl (counts-same w.chips)) (idle w)
 
 goes_on-grows : (c : Class) (w : World) (f : Waiting) → Grows w (goes_on c w f).0
-goes_on-grows Drop w f = idle w
-goes_on-grows Trap w f = waits-grows w f
-goes_on-grows Copy w f = waits-grows w f
-goes_on-grows Forward w f = idle w
+goes_on-grows c w f = goes_on-either (λ s. Grows w s.0) c w f (idle w) (waits-grows w f)
 
 enters_by-grows : (w : World) (f : Waiting) (o : Option Chip) → chip_of w (domain_of w.setup.domains f.port) ≡ o → Grows w (enters_by w o f).0
 enters_by-grows w f None on = waits-grows w f

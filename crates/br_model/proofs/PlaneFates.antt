@@ -4,7 +4,7 @@ use Rattle.std.proofs.lemmas.Bool.{eqb-true, eqb-false, ne_eqb, cases_lt, and_pa
 use Rattle.std.proofs.lemmas.List.{append-nil, map-append, length-map}
 use Rattle.std.proofs.lemmas.List.Elements.{filter-append, recursion_from_All, All-weaker}
 use Rattle.std.proofs.lemmas.Grind.{flat_map-append}
-use Rattle.std.specs.Prelude.{◌==◌, nat_le, nat_lt, is_some}
+use Rattle.std.specs.Prelude.{◌==◌, nat_le, is_some}
 use Rattle.std.specs.List.{AllByRecursion, IsDistinct, filter, find}
 use Rattle.std.specs.Ordering.{nat_cmp}
 use Rattle.std.specs.declared.result.Result.{Result}
@@ -19,13 +19,12 @@ use Rattle.br_model.specs.declared.steps.Event.TheVariants as events
 use Rattle.br_model.specs.declared.steps.Refusal.{Refusal}
 use Rattle.br_model.specs.declared.steps.Refusal.TheVariants.{NoSuchPoint}
 use Rattle.br_model.specs.declared.bpdu.BpduMsg.{BpduMsg}
-use Rattle.br_model.specs.declared.transcript.Line.TheVariants.{Overrun, Done}
+use Rattle.br_model.specs.declared.transcript.Line.TheVariants.{Done}
 use Rattle.br_model.specs.Plane.Chip.{Chip, applies, notes}
 use Rattle.br_model.specs.Table.DomainPorts.{is_marked}
 use Rattle.br_model.specs.Table.Domains.{Domains, domain_of, foreign}
 use Rattle.br_model.specs.Wire.Frames.{frame}
 use Rattle.br_model.specs.Control.Learning.{Triple}
-use Rattle.br_model.specs.Table.Limits.{most_waiting}
 use Rattle.br_model.specs.Data.Maps.{has}
 use Rattle.br_model.specs.Control.Reaction.{Reaction}
 use Rattle.br_model.specs.Table.Setup.{Setup}
@@ -36,6 +35,7 @@ use Rattle.br_model.proofs.PlaneChips.{chip_of-declared}
 use Rattle.br_model.proofs.PlaneKept.{counted-world}
 use Rattle.br_model.proofs.PlaneLists.{same-some, find-passes, find-each}
 use Rattle.br_model.proofs.PlaneShares.{ascends-filter, ascends-leave, times-ascends, times-within}
+use Rattle.br_model.proofs.PlaneWaiting.{goes_on-either, waits-either}
 use Rattle.br_model.specs.Plane.ChipSteps.{turns_to, turns, tells, reports, swept, sweeps}
 use Rattle.br_model.specs.Plane.Entering.{waits, goes_on, enters_chip, enters_as, class_of, enters_by, chip_of}
 use Rattle.br_model.specs.Plane.Serving.{posts, serves, holds, held_with, lets_go, is_point, posts_held, posts_at}
@@ -232,16 +232,12 @@ pub record Joins (id : ℕ) (u : World) (f : Waiting) (y : Stepped) : Type 0 whe
 
 waits-joins : (id : ℕ) (u : World) (f : Waiting) → Joins id u f (waits u f)
 waits-joins id u f =
-    elim (nat_lt (length u.waiting + length u.held) most_waiting) as (λ b. Joins id u f (cond {A = Stepped} b (record u { waiting = u.waiting ++ f ∷ [] }, []) (u, Overrun f.id ∷ []))) [
-      | true ↦ record { setup = refl; next = refl; published = refl; silent = refl; found = inr (found-push id u.held u.waiting f) }
-      | false ↦ record { setup = refl; next = refl; published = refl; silent = refl; found = inl refl }
-    ]
+    waits-either (Joins id u f) u f
+    (record { setup = refl; next = refl; published = refl; silent = refl; found = inr (found-push id u.held u.waiting f) })
+    (record { setup = refl; next = refl; published = refl; silent = refl; found = inl refl })
 
 pub goes_on-joins : (c : Class) (id : ℕ) (u : World) (f : Waiting) → Joins id u f (goes_on c u f)
-goes_on-joins Drop id u f = record { setup = refl; next = refl; published = refl; silent = refl; found = inl refl }
-goes_on-joins Trap id u f = waits-joins id u f
-goes_on-joins Copy id u f = waits-joins id u f
-goes_on-joins Forward id u f = record { setup = refl; next = refl; published = refl; silent = refl; found = inl refl }
+goes_on-joins c id u f = goes_on-either (Joins id u f) c u f (record { setup = refl; next = refl; published = refl; silent = refl; found = inl refl }) (waits-joins id u f)
 
 -- it waits now, sent to ports of its mark's domain alone, or the frames that were there are all
 abbrev Settled : ℕ → World → Waiting → Stepped → Sent → Type 0

@@ -52,6 +52,7 @@ use Rattle.br_model.proofs.PairKeys.{pair_total}
 use Rattle.br_model.proofs.PlaneChips.{doms, chip-each, has-chip, put-doms, put-all, chip_of-at}
 use Rattle.br_model.proofs.PlaneHistory.{Accepts, react-accepts}
 use Rattle.br_model.proofs.PlaneLists.{Part, all-part, map-part, distinct-part, part-middle, part-filter, ascend-insert, ascend-push, last-push, first-push, has-push, last-has}
+use Rattle.br_model.proofs.PlaneWaiting.{goes_on-either}
 
 doms-first : (ds : List ℕ) → doms (map first_chip ds) ≡ ds
 doms-first [] = refl
@@ -247,10 +248,7 @@ waits-world w f k is fresh =
     ]) refl
 
 goes_on-world : (c : Class) (w : World) (f : Waiting) → IsWorld w → IsFrame w.setup.domains w.next f → All (λ g. g.id < f.id) (frames_of w.held w.waiting) → IsWorld (goes_on c w f).0
-goes_on-world Drop w f k is fresh = k
-goes_on-world Trap w f k is fresh = waits-world w f k is fresh
-goes_on-world Copy w f k is fresh = waits-world w f k is fresh
-goes_on-world Forward w f k is fresh = k
+goes_on-world c w f k is fresh = goes_on-either (λ s. IsWorld s.0) c w f k (waits-world w f k is fresh)
 
 class-mark : (class : Class) (domains : Domains) (f : Waiting) (dom : ℕ) → domain_of domains f.port ≡ Some dom → has_chip domains dom ≡ true → has_own_mark domains (record f { mark = mark_of class domains f.port }) ≡ true
 class-mark Drop domains f dom on there = refl

@@ -65,7 +65,7 @@ distinct-part e (kept y p) h = (each-part (λ x. e y x ≡ false) p h.0, distinc
 same_last : (x m : ℕ) → Some x ≡ Some m → x ≤ m
 same_last x m e = let is : x ≡ m = cc in omega arith
 
-less-than : (x y : ℕ) → nat_cmp x y ≡ Less → x < y
+pub less-than : (x y : ℕ) → nat_cmp x y ≡ Less → x < y
 less-than x y e = by (nat_lt x y) refl e
   where
     later : (b : Bool) → cond b Equal Greater ≡ Less → ⊥

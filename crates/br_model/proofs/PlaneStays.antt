@@ -3,13 +3,12 @@ use Rattle.std.proofs.Common.{◌≡◌, ℕ, ◌+◌, true, false, cond, List, 
 use Rattle.std.proofs.lemmas.Bool.{or_left}
 use Rattle.std.proofs.lemmas.List.{append-nil}
 use Rattle.std.proofs.lemmas.List.Folds.{list_any-append}
-use Rattle.std.specs.Prelude.{◌==◌, nat_lt}
+use Rattle.std.specs.Prelude.{◌==◌}
 use Rattle.std.specs.Ordering.{nat_cmp, eq_by_cmp}
 use Rattle.std.specs.declared.result.Result.{Result}
 use Rattle.std.specs.declared.result.Result.TheVariants.{Ok, Err}
 use Rattle.br_model.specs.declared.change.Change.{Change}
 use Rattle.br_model.specs.declared.frame.Class.{Class}
-use Rattle.br_model.specs.declared.frame.Class.TheVariants.{Drop, Trap, Copy, Forward}
 use Rattle.br_model.specs.declared.frame.FrameFault.{FrameFault}
 use Rattle.br_model.specs.declared.frame.Head.{Head}
 use Rattle.br_model.specs.declared.steps.Event.TheVariants as events
@@ -17,7 +16,6 @@ use Rattle.br_model.specs.declared.steps.Refusal.{Refusal}
 use Rattle.br_model.specs.declared.steps.Refusal.TheVariants.{NoSuchPoint}
 use Rattle.br_model.specs.declared.steps.Step.{Step}
 use Rattle.br_model.specs.declared.steps.Step.TheVariants.{Rx, Cmd, Now, Serve, Hold, Post, Turn, Report, Sweep, Publish}
-use Rattle.br_model.specs.declared.transcript.Line.TheVariants.{Overrun}
 use Rattle.br_model.specs.Control.Learning.{Triple}
 use Rattle.br_model.specs.Control.Reaction.{Reaction}
 use Rattle.br_model.specs.Data.Maps.{has}
@@ -29,8 +27,8 @@ use Rattle.br_model.specs.Plane.Serving.{posts, serves, holds, held_with, lets_g
 use Rattle.br_model.specs.Plane.Steps.{world_step, publishes}
 use Rattle.br_model.specs.Plane.World.{World, Waiting, Holding, Stepped, chip_at, next_of, table_of_chip, answered, reacts, refused, with_chip}
 use Rattle.br_model.specs.Table.Domains.{domain_of}
-use Rattle.br_model.specs.Table.Limits.{most_waiting}
 use Rattle.br_model.specs.Wire.Frames.{frame}
+use Rattle.br_model.proofs.PlaneWaiting.{goes_on-either, waits-either}
 
 -- Changes are accepted behind those that were; what is published and held stays.
 record Stays (w v : World) : Type 0 where
@@ -56,17 +54,10 @@ answered-stays before after (Ok r) history counts held = record {
 }
 
 waits-stays : (w : World) (f : Waiting) → Stays w (waits w f).0
-waits-stays w f =
-    elim (nat_lt (length w.waiting + length w.held) most_waiting) as (λ b. Stays w (cond {A = Stepped} b (record w { waiting = w.waiting ++ f ∷ [] }, []) (w, Overrun f.id ∷ [])).0) [
-      | true ↦ stays w (record w { waiting = w.waiting ++ f ∷ [] }) refl refl refl
-      | false ↦ idle w
-    ]
+waits-stays w f = waits-either (λ s. Stays w s.0) w f (stays w (record w { waiting = w.waiting ++ f ∷ [] }) refl refl refl) (idle w)
 
 goes_on-stays : (c : Class) (w : World) (f : Waiting) → Stays w (goes_on c w f).0
-goes_on-stays Drop w f = idle w
-goes_on-stays Trap w f = waits-stays w f
-goes_on-stays Copy w f = waits-stays w f
-goes_on-stays Forward w f = idle w
+goes_on-stays c w f = goes_on-either (λ s. Stays w s.0) c w f (idle w) (waits-stays w f)
 
 -- the same of a world that differs in its chips alone
 of-chips : (w x v : World) → x.history ≡ w.history → x.counts ≡ w.counts → x.held ≡ w.held → Stays x v → Stays w v
