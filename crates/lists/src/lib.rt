@@ -50,6 +50,14 @@ impl<T> Items<T> {
         })
     }
 
+    /// The items, which move.
+    pub fn into_vec(self) -> Vec<T>
+        ensures { result.items ≡ self }
+    {
+        let Items { items } = self;
+        items
+    }
+
     pub fn push(&mut self, item: T) -> Result<(), AllocError>
     where
         T: Drop,
@@ -93,7 +101,7 @@ mod tests {
         );
         let mut lists = Items::<Items<u8>>::new(alloc);
         assert!(rt; lists.is_empty());
-        lists.push(bytes)?;
+        lists.push(Items::of(bytes.into_vec()))?;
         lists.push(Items::of(vec![in alloc; 7u8]?))?;
         assert!(rt;
             lists.len() == 2
