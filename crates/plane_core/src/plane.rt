@@ -42,6 +42,7 @@ use ether_frames::parse;
 use forward_rules::Verdict;
 use hwdom_marks::Mark;
 use igmp_mld::classify;
+use learn_report::Report;
 use std::alloc::{AllocError, Global};
 use std::marker::Model;
 use std::sync::Wait;
@@ -694,6 +695,14 @@ impl Plane {
         ensures { option_map (pending_of self.now.world) (chip_at self.now.world d) ≡ Some result }
     {
         self.sides.pending(d)
+    }
+
+    /// The oldest report of the domain's chip, which stays.
+    pub fn first_report(&self, d: Dom) -> Option<Report>
+        requires { has_chip self.now.world.setup.domains d ≡ true }
+        ensures { option_map (λ c. slice_get c.reports 0) (chip_at self.now.world d) ≡ Some result }
+    {
+        self.sides.first_report(d)
     }
 
     /// And all chips together.

@@ -42,6 +42,7 @@ use br_model::transcript::Line;
 use bridge_core::{Bridge, EventFault};
 use chip_pipeline::{Pass, pass};
 use forward_rules::{SoftTables, Verdict};
+use learn_report::Report;
 use std::alloc::{AllocError, Global};
 use std::marker::Model;
 use std::sync::Wait;
@@ -532,6 +533,14 @@ impl Sides {
         ensures { option_map (λ c. c.count) (chip_in self.now.chips d) ≡ Some result }
     {
         self.chips.at(d).count()
+    }
+
+    /// The oldest report of the chip of the domain.
+    pub(crate) fn first_report(&self, d: Dom) -> Option<Report>
+        requires { is_some (chip_in self.now.chips d) ≡ true }
+        ensures { option_map (λ c. slice_get c.reports 0) (chip_in self.now.chips d) ≡ Some result }
+    {
+        self.chips.at(d).first_report()
     }
 
     /// How many deferred changes it hasn't applied.
