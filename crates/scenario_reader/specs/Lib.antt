@@ -1,2 +1,3 @@
 pub mod Section
 pub mod Reading
+pub mod Whole
