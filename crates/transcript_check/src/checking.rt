@@ -1,5 +1,5 @@
 //! Whether a transcript is what is told of a scenario.
-ghost use Rattle.std.specs.Prelude.{◌≡◌, ◌++◌, ◌<◌, ◌≤◌, ◌^◌, List, ℕ, IfOk, OnOk, true, length};
+ghost use Rattle.std.specs.Prelude.{◌≡◌, ◌<◌, ◌≤◌, ◌^◌, List, ℕ, IfOk, OnOk, true, length};
 ghost use Rattle.std.specs.List.{list_all};
 ghost use Rattle.br_model.specs.declared.steps.Step.{Step as StepValue};
 ghost use Rattle.br_model.specs.Program.Checks.{differs};
@@ -7,11 +7,10 @@ ghost use Rattle.br_model.specs.Table.Domains.{chip_domains};
 ghost use Rattle.br_model.specs.Table.Limits.{most_bytes};
 ghost use Rattle.br_model.specs.Table.Setup.{Setup};
 ghost use Rattle.br_model.specs.Text.LineForms.{comes_by_line};
-ghost use Rattle.br_model.specs.Theorems.Invariants.{IsWorld};
 ghost use Rattle.scenario_reader.specs.declared.reader.Last.TheVariants as Last;
 ghost use Rattle.scenario_reader.specs.Whole.{SaysWhole};
 ghost use Rattle.transcript_check.specs.Besides.{IsBeside};
-ghost use Rattle.transcript_check.specs.Checking.{Checks, difference_of};
+ghost use Rattle.transcript_check.specs.Checking.{Checks, ComparesSteps, difference_of};
 
 use crate::NoMemory;
 use crate::beside::Beside;
@@ -54,12 +53,10 @@ impl From<AllocError> for CheckFault {
 
 /// Does these steps, and compares their lines.
 fn compare_steps(alloc: Global, steps: Vec<Step>, beside: &mut Beside<'_>) -> Result<(), NoMemory>
-    requires world { IsWorld beside.old.world }
+    requires stands { (transcript : List ℕ) × (setup : Setup) × (before : List StepValue)
+        × IsBeside transcript setup before beside.old.world beside.old.cursor beside.old.differs }
     requires by_line { list_all (comes_by_line true (chip_domains beside.old.world.setup.domains)) steps.items ≡ true }
-    ensures world { OnOk result (IsWorld beside.new.world) }
-    ensures compares { OnOk result ((transcript : List ℕ) (setup : Setup) (before : List StepValue)
-        → IsBeside transcript setup before beside.old.world beside.old.cursor beside.old.differs
-        → IsBeside transcript setup (before ++ steps.items) beside.new.world beside.new.cursor beside.new.differs) }
+    ensures { OnOk result (ComparesSteps beside.old steps.items beside.new) }
 {
     for step in steps {
         beside.step(alloc, step)?;
@@ -69,7 +66,7 @@ fn compare_steps(alloc: Global, steps: Vec<Step>, beside: &mut Beside<'_>) -> Re
 
 /// Compares a transcript with what is told of a scenario that ends well: it is run by the control plane and tables of software alone.
 pub fn compare(alloc: Global, scenario: Whole, transcript: &[u8]) -> Result<Answer, NoMemory>
-    requires by_line { (bytes : List ℕ) × SaysWhole true bytes scenario }
+    requires says { (bytes : List ℕ) × SaysWhole true bytes scenario }
     requires few { length transcript.now < 2 ^ 28 }
     ensures { IfOk result (λ answer. (bytes : List ℕ) → SaysWhole true bytes scenario → scenario.close ≡ Last.Ended
         → differs bytes transcript.now ≡ difference_of answer) }
