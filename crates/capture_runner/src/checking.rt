@@ -35,10 +35,12 @@ fn add_line(word: &[u8], text: &[u8], to: &mut Vec<u8>) -> Result<(), NoMemory>
     ensures { OnOk result (to.new.items ≡ to.old.items ++ with_text word.now text.now) }
 {
     to.extend_from_slice(word)?;
-    if !text.is_empty() {
-        to.push(b' ')?;
-        to.extend_from_slice(text)?;
+    if text.is_empty() {
+        to.push(b'\n')?;
+        return Ok(());
     }
+    to.push(b' ')?;
+    to.extend_from_slice(text)?;
     to.push(b'\n')?;
     Ok(())
 }
@@ -141,7 +143,7 @@ pub(crate) fn check_all<S: Source, K: Sink>(
     ensures cause { Caused result (S.faults source.old) (S.faults source.new) (K.faults sink.old) (K.faults sink.new) }
 {
     match find_in(alloc, source) {
-        Ok(found) => put_last(sink, &found.text, found.status),
+        Ok(found) => put_last(sink, found.text.as_slice(), found.status),
         Err(stop) => put_last(sink, stop.line(), stop.status()),
     }
 }

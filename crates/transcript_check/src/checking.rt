@@ -14,6 +14,7 @@ ghost use Rattle.transcript_check.specs.Checking.{Checks, ComparesSteps, differe
 
 use crate::NoMemory;
 use crate::beside::Beside;
+use crate::cursor::Difference;
 use br_model::bytes::Bytes;
 use br_model::scenario::LineWhy;
 use br_model::steps::Step;
@@ -64,6 +65,19 @@ fn compare_steps(alloc: Global, steps: Vec<Step>, beside: &mut Beside<'_>) -> Re
     Ok(())
 }
 
+fn answer_of(difference: Option<Difference>) -> Answer
+    ensures { difference_of result ≡ difference }
+{
+    match difference {
+        None => Answer::Yes,
+        Some(difference) => Answer::No {
+            line: difference.line,
+            expected: difference.expected,
+            found: difference.found,
+        },
+    }
+}
+
 /// Compares a transcript with what is told of a scenario that ends well: it is run by the control plane and tables of software alone.
 pub fn compare(alloc: Global, scenario: Whole, transcript: &[u8]) -> Result<Answer, NoMemory>
     requires says { (bytes : List ℕ) × SaysWhole true bytes scenario }
@@ -74,14 +88,8 @@ pub fn compare(alloc: Global, scenario: Whole, transcript: &[u8]) -> Result<Answ
     let roster = scenario.roster();
     let mut beside = Beside::make(alloc, roster.domains(), roster.own(), transcript)?;
     compare_steps(alloc, scenario.into_steps(), &mut beside)?;
-    match beside.end(alloc)? {
-        None => Ok(Answer::Yes),
-        Some(difference) => Ok(Answer::No {
-            line: difference.line,
-            expected: difference.expected,
-            found: difference.found,
-        }),
-    }
+    let difference = beside.end(alloc)?;
+    Ok(answer_of(difference))
 }
 
 /// Reads the scenario, and compares the transcript with what is told of it. A bad line of the scenario comes before everything.
