@@ -1,8 +1,8 @@
 -- How a check ends, once what it found is written.
-use Rattle.std.proofs.Common.{◌≡◌, ℕ, ◌<◌, ◌≤◌, true, List, length, Option, None, Some, Result, Ok, Err, codes, refl, sym, ◌∙◌, ap, subst}
+use Rattle.std.proofs.Common.{◌≡◌, ℕ, ◌<◌, ◌≤◌, ◌==◌, true, false, List, [], ◌∷◌, ◌++◌, length, Option, None, Some, Result, Ok, Err, IfOk, refl, sym, ◌∙◌, ap, subst}
 use Rattle.std.specs.Io.KnownBytes.{Appends, Consumes, IsAtEnd}
 use Rattle.br_model.specs.declared.scenario.LineWhy.{LineWhy}
-use Rattle.br_model.specs.Program.Checks.{Difference, IsNotBad, ReadsOn, answer_at, answer_text, check_answer, checked, differs}
+use Rattle.br_model.specs.Program.Checks.{Difference, IsNotBad, ReadsOn, answer_at, answer_text, check_answer, checked, differs, with_text}
 use Rattle.br_model.specs.Table.Limits.{most_bytes}
 use Rattle.br_model.specs.Text.Scenario.{Ending, Ended, Bad, behind_end, opened, reads, scenario_by}
 use Rattle.scenario_reader.specs.declared.reader.Last.{Last}
@@ -14,11 +14,21 @@ use Rattle.capture_runner.specs.declared.replay.Stop.{Stop}
 use Rattle.capture_runner.specs.declared.replay.Stop.TheVariants as stops
 use Rattle.capture_runner.specs.declared.status.Status.{Status}
 use Rattle.capture_runner.specs.declared.status.Status.TheVariants as statuses
-use Rattle.capture_runner.specs.Checking.{ChecksSo, EndsSo, HasNoBad, IsFound, IsFoundBad, IsSaid, SeesBadOr, answer_status, found_status}
-use Rattle.capture_runner.specs.Outcome.{Caused, Checks, WholeChecks, call_of, last_line}
+use Rattle.capture_runner.specs.Checking.{ChecksSo, EndsSo, IsFound, IsFoundBad, IsSaid, SeesBadOr, answer_status, found_status}
+use Rattle.capture_runner.specs.Outcome.{Caused, Checks, WholeChecks, call_of}
 use Rattle.capture_runner.specs.Stopping.{stop_line, stop_status}
 use Rattle.capture_runner.proofs.Finding.{answer_bad, finds, finds_bad, sees_bad}
 use Rattle.capture_runner.proofs.Outcomes.{Broke, Went, by_status}
+
+-- a line of an answer
+
+pub with_none : (word text : List ℕ) → (length text == 0) ≡ true → with_text word text ≡ word ++ 10 ∷ []
+with_none word [] h = refl
+with_none word (byte ∷ text) h = absurd (cc)
+
+pub with_some : (word text : List ℕ) → (length text == 0) ≡ false → with_text word text ≡ word ++ (32 ∷ (text ++ 10 ∷ []))
+with_some word [] h = absurd (cc)
+with_some word (byte ∷ text) h = refl
 
 -- all bytes were taken, and this is found in them
 
@@ -68,11 +78,6 @@ module _ (failed : Type 0) (left now : Option (List ℕ)) (input : List ℕ) (gi
       named found.status statuses.BadLine before after f.1
       (sees_bad left now before after input given most_bytes line why few is (subst (λ (text : List ℕ). Appends before after text) f.0 a))
 
-  reads_on : (last : Option Last) → (reads (opened true) input).ending ≡ ending_or_going last → HasNoBad last → ReadsOn input
-  reads_on None is h = subst IsNotBad (sym is) tt
-  reads_on (Some lasts.Ended) is h = subst IsNotBad (sym is) tt
-  reads_on (Some (lasts.Bad line why)) is h = absurd h
-
   pub ends_failed : failed → length input < most_bytes → ReadsOn input → EndsSo failed left now (stop_line stops.ReadFault) (stop_status stops.ReadFault)
   ends_failed fault below on = λ before after a. (fault, record { stops = record { input = input; read = given; going = on; wrote = a }; below = below })
 
@@ -82,14 +87,29 @@ module _ (failed : Type 0) (left now : Option (List ℕ)) (input : List ℕ) (gi
   pub ends_lacking : EndsSo failed left now (stop_line stops.NoMemory) (stop_status stops.NoMemory)
   ends_lacking = λ before after a. record { input = input; read = given; count = 0; wrote = a }
 
-  pub ends_stopped : (last : Option Last) (stop : Stop) (result : Result Found Stop) → (reads (opened true) input).ending ≡ ending_or_going last → length input ≤ most_bytes
-      → (ReadsOn input → EndsSo failed left now (stop_line stop) (stop_status stop)) → SeesBadOr last stop result → ChecksSo failed left now result
-  ends_stopped last stop (Ok found) is few ends h = ends_bad found h.0 h.1 few (is ∙ ap ending_or_going h.2) h.3
-  ends_stopped last stop (Err stops.NoMemory) is few ends h = ends_lacking
-  ends_stopped last stop (Err stops.ReadFault) is few ends h =
-      subst (λ (s : Stop). EndsSo failed left now (stop_line s) (stop_status s)) h.0 (ends (reads_on last is h.1))
-  ends_stopped last stop (Err stops.TooLong) is few ends h =
-      subst (λ (s : Stop). EndsSo failed left now (stop_line s) (stop_status s)) h.0 (ends (reads_on last is h.1))
+  pub ends_stopped : (stop : Stop) (result : Result Found Stop) → length input ≤ most_bytes → (ReadsOn input → EndsSo failed left now (stop_line stop) (stop_status stop)) → SeesBadOr input stop result
+      → ChecksSo failed left now result
+  ends_stopped stop (Ok found) few ends h = ends_bad found h.0 h.1 few h.2 h.3
+  ends_stopped stop (Err stops.NoMemory) few ends h = ends_lacking
+  ends_stopped stop (Err stops.ReadFault) few ends h = subst (λ (s : Stop). EndsSo failed left now (stop_line s) (stop_status s)) h.0 (ends h.1)
+  ends_stopped stop (Err stops.TooLong) few ends h = subst (λ (s : Stop). EndsSo failed left now (stop_line s) (stop_status s)) h.0 (ends h.1)
+
+-- bytes whose whole lines end in no bad one
+pub reads_on : (bytes : List ℕ) (last : Option Last) (d : Last) → (reads (opened true) bytes).ending ≡ ending_or_going last → last ≡ Some d → d ≡ lasts.Ended → ReadsOn bytes
+reads_on bytes last d is some ended = subst IsNotBad (sym (is ∙ ap ending_or_going (some ∙ ap Some ended))) tt
+
+pub reads_further : (bytes : List ℕ) (last : Option Last) → (reads (opened true) bytes).ending ≡ ending_or_going last → last ≡ None → ReadsOn bytes
+reads_further bytes last is none = subst IsNotBad (sym (is ∙ ap ending_or_going none)) tt
+
+pub sees_none : (bytes : List ℕ) (stop : Stop) → ReadsOn bytes → SeesBadOr bytes stop (Err stop)
+sees_none bytes stops.NoMemory on = tt
+sees_none bytes stops.ReadFault on = (refl, on)
+sees_none bytes stops.TooLong on = (refl, on)
+
+-- the statuses and causes of a check that stopped
+pub said_stopped : (bytes : List ℕ) (stop : Stop) (result : Result Found Stop) → SeesBadOr bytes stop result → IfOk result (λ found. IsSaid found.status)
+said_stopped bytes stop (Ok found) h = subst IsSaid (sym h.3.1) tt
+said_stopped bytes stop (Err e) h = tt
 
 -- what was found is written, or a write fails
 pub check_ends : (failed : Type 0) (left left_now before now : Option (List ℕ)) (text : List ℕ) (s r : Status) → EndsSo failed left left_now text s → (Went r → r ≡ s)

@@ -6,8 +6,8 @@ use Rattle.std.specs.declared.result.Result.{Result}
 use Rattle.std.specs.declared.result.Result.TheVariants.{Ok, Err}
 use Rattle.std.specs.Io.KnownBytes.{Appends}
 use Rattle.br_model.specs.declared.scenario.LineWhy.{LineWhy}
-use Rattle.br_model.specs.Program.Checks.{Difference, check_answer, checked}
-use Rattle.br_model.specs.Text.Scenario.{scenario_by}
+use Rattle.br_model.specs.Program.Checks.{Difference, ReadsOn, check_answer, checked}
+use Rattle.br_model.specs.Text.Scenario.{Bad, opened, reads, scenario_by}
 use Rattle.br_model.specs.Text.Transcript.{bad_text}
 use Rattle.scenario_reader.specs.declared.reader.Last.{Last}
 use Rattle.scenario_reader.specs.declared.reader.Last.TheVariants as lasts
@@ -51,18 +51,12 @@ pub record IsFound (bytes : List ℕ) (found : Found) : Type 0 where
 abbrev pub IsFoundBad : ℕ → LineWhy → Found → Type 0
 IsFoundBad line why found = (found.text.items ≡ bad_text line why) × (found.status ≡ statuses.BadLine)
 
--- the scenario's whole lines end it with no bad one
-abbrev pub HasNoBad : Option Last → Type 0
-HasNoBad None = Unit {0}
-HasNoBad (Some lasts.Ended) = Unit {0}
-HasNoBad (Some (lasts.Bad line why)) = ⊥
-
--- The scenario's whole lines end it with a bad one, and that is found; else the check stops for this cause, if memory doesn't lack.
-abbrev pub SeesBadOr : Option Last → Stop → Result Found Stop → Type 0
-SeesBadOr last stop (Ok found) = (line : ℕ) × (why : LineWhy) × (last ≡ Some (lasts.Bad line why)) × IsFoundBad line why found
-SeesBadOr last stop (Err stops.NoMemory) = Unit {0}
-SeesBadOr last stop (Err stops.ReadFault) = (stop ≡ stops.ReadFault) × HasNoBad last
-SeesBadOr last stop (Err stops.TooLong) = (stop ≡ stops.TooLong) × HasNoBad last
+-- The whole lines of these bytes end the scenario with a bad one, and that is found; else the check stops for this cause.
+abbrev pub SeesBadOr : List ℕ → Stop → Result Found Stop → Type 0
+SeesBadOr bytes stop (Ok found) = (line : ℕ) × (why : LineWhy) × ((reads (opened true) bytes).ending ≡ Bad line why) × IsFoundBad line why found
+SeesBadOr bytes stop (Err stops.NoMemory) = Unit {0}
+SeesBadOr bytes stop (Err stops.ReadFault) = (stop ≡ stops.ReadFault) × ReadsOn bytes
+SeesBadOr bytes stop (Err stops.TooLong) = (stop ≡ stops.TooLong) × ReadsOn bytes
 
 -- Once this text is written, the check has ended with this status.
 abbrev pub EndsSo : Type 0 → Option (List ℕ) → Option (List ℕ) → List ℕ → Status → Type 0

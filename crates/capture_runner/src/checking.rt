@@ -1,6 +1,7 @@
 //! `check`: a scenario, and the transcript behind it, which is compared with what is told of the scenario.
-ghost use Rattle.std.specs.Prelude.{◌≡◌, ◌++◌, ◌<◌, ◌^◌, List, ℕ, IfOk, OnOk, length, true};
+ghost use Rattle.std.specs.Prelude.{◌≡◌, ◌++◌, ◌<◌, ◌≤◌, ◌^◌, List, ℕ, IfOk, OnOk, length, true};
 ghost use Rattle.br_model.specs.Program.Checks.{answer_text, with_text};
+ghost use Rattle.br_model.specs.Table.Limits.{most_bytes};
 ghost use Rattle.br_model.specs.Text.Scenario.{behind_end};
 ghost use Rattle.br_model.specs.Text.Transcript.{bad_text};
 ghost use Rattle.run_io.specs.Causes.{Rose};
@@ -17,7 +18,7 @@ use br_model::limits::MOST_BYTES;
 use br_model::scenario::LineWhy;
 use run_io::sinks::Sink;
 use run_io::sources::Source;
-use run_io::whole::{Stop as TakingStop, Whole as Taken, take_all};
+use run_io::whole::{Stop as TakingStop, take_all};
 use scenario_reader::{Last, Whole, read_scenario};
 use std::alloc::Global;
 use transcript_check::{Answer, compare};
@@ -85,7 +86,7 @@ fn found_bad(alloc: Global, line: u32, why: LineWhy) -> Result<Found, NoMemory>
     })
 }
 
-/// What is found where all bytes were taken: the scenario's, and behind its end those of the transcript.
+/// What is found in a scenario and the transcript behind its end.
 fn find(alloc: Global, scenario: Whole, transcript: &[u8]) -> Result<Found, NoMemory>
     requires says { (bytes : List ℕ) × SaysWhole true bytes scenario }
     requires few { length transcript.now < 2 ^ 28 }
@@ -104,13 +105,26 @@ fn find(alloc: Global, scenario: Whole, transcript: &[u8]) -> Result<Found, NoMe
     }
 }
 
-/// What is found where no more bytes are taken for this cause: a bad line that is so whatever comes, or nothing.
-fn find_bad(alloc: Global, scenario: &Whole, stop: Stop) -> Result<Found, Stop>
-    ensures { SeesBadOr scenario.now.last stop result }
+/// What is found in these bytes, which are all.
+fn find_whole(alloc: Global, bytes: &[u8]) -> Result<Found, NoMemory>
+    requires { length bytes.now < most_bytes }
+    ensures { IfOk result (IsFound bytes.now) }
 {
+    let scenario = read_scenario(alloc, true, bytes)?;
+    let behind = scenario.behind();
+    find(alloc, scenario, &bytes[behind..])
+}
+
+/// What is found in the first bytes of an input, of which no more are taken for this cause: a bad line, whatever follows, or nothing.
+fn find_bad(alloc: Global, bytes: &[u8], stop: Stop) -> Result<Found, Stop>
+    requires { length bytes.now ≤ most_bytes }
+    ensures { SeesBadOr bytes.now stop result }
+{
+    let scenario = read_scenario(alloc, true, bytes)?;
     match scenario.last() {
         Some(Last::Bad(line, why)) => Ok(found_bad(alloc, line, why)?),
-        Some(Last::Ended) | None => Err(stop),
+        Some(Last::Ended) => Err(stop),
+        None => Err(stop),
     }
 }
 
@@ -120,15 +134,12 @@ fn find_in<S: Source>(alloc: Global, source: &mut S) -> Result<Found, Stop>
     ensures said { IfOk result (λ found. IsSaid found.status) }
     ensures cause { StopsBy (S.faults source.old) (S.faults source.new) result }
 {
-    let Taken { bytes, stop } = take_all(alloc, source, MOST_BYTES)?;
-    let scenario = read_scenario(alloc, true, &bytes)?;
-    match stop {
-        TakingStop::Ended => {
-            let behind = scenario.behind();
-            Ok(find(alloc, scenario, &bytes[behind..])?)
-        }
-        TakingStop::Full => find_bad(alloc, &scenario, Stop::TooLong),
-        TakingStop::ReadFault => find_bad(alloc, &scenario, Stop::ReadFault),
+    let taken = take_all(alloc, source, MOST_BYTES)?;
+    let bytes = taken.bytes.as_slice();
+    match taken.stop {
+        TakingStop::Ended => Ok(find_whole(alloc, bytes)?),
+        TakingStop::Full => find_bad(alloc, bytes, Stop::TooLong),
+        TakingStop::ReadFault => find_bad(alloc, bytes, Stop::ReadFault),
     }
 }
 
