@@ -1,4 +1,4 @@
-pub mod Checking
+pub mod CheckEnds
 pub mod Counting
 pub mod Cutting
 pub mod Deciding

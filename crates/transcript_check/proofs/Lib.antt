@@ -11,4 +11,4 @@ pub mod Entering
 pub mod Searching
 pub mod Texts
 pub mod Besides
-pub mod Checking
+pub mod Comparisons

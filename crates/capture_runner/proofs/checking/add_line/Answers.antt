@@ -1,5 +1,5 @@
 use Rattle.std.proofs.Common.{◌≡◌, ◌∷◌, ◌++◌, [], List, ℕ, sym, ap, ◌∙◌, append_assoc}
-use Rattle.capture_runner.proofs.Checking.{with_none, with_some}
+use Rattle.capture_runner.proofs.CheckEnds.{with_none, with_some}
 use Rattle.capture_runner.proofs.checking.add_line.Goals as goal
 
 pub returns-then-is_empty : goal.returns-then-is_empty

@@ -1,5 +1,5 @@
 use Rattle.std.proofs.Common.{◌∙◌}
-use Rattle.capture_runner.proofs.Checking.{calm_said, caused_said, check_ends}
+use Rattle.capture_runner.proofs.CheckEnds.{calm_said, caused_said, check_ends}
 use Rattle.capture_runner.proofs.Outcomes.{calm_stops, caused}
 use Rattle.capture_runner.proofs.checking.check_all.Goals as goal
 

@@ -1,7 +1,7 @@
 use Rattle.std.proofs.Common.{sym, ap, ◌∙◌}
 use Rattle.std.proofs.lemmas.Result.{IfOk-weaker}
 use Rattle.scenario_reader.specs.Reading.{ending_of}
-use Rattle.capture_runner.proofs.Checking.{found_answer, found_bad_line}
+use Rattle.capture_runner.proofs.CheckEnds.{found_answer, found_bad_line}
 use Rattle.capture_runner.proofs.checking.find.Goals as goal
 
 pub returns-in-Bad : goal.returns-in-Bad

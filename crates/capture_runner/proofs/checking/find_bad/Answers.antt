@@ -1,6 +1,6 @@
 use Rattle.std.proofs.Common.{Some, sym, ap, ◌∙◌}
 use Rattle.scenario_reader.specs.Whole.{ending_or_going}
-use Rattle.capture_runner.proofs.Checking.{reads_further, reads_on, sees_none}
+use Rattle.capture_runner.proofs.CheckEnds.{reads_further, reads_on, sees_none}
 use Rattle.capture_runner.proofs.checking.find_bad.Goals as goal
 
 pub returns-in-Some-Bad : goal.returns-in-Some-Bad

@@ -3,7 +3,7 @@ use Rattle.run_io.specs.Taking.{StopCause}
 use Rattle.run_io.specs.declared.whole.Stop.{Stop as TakingStop}
 use Rattle.br_model.specs.Table.Limits.{most_bytes}
 use Rattle.capture_runner.specs.Checking.{IsFound, SeesBadOr}
-use Rattle.capture_runner.proofs.Checking.{ends_failed, ends_found, ends_full, ends_lacking, ends_stopped, said_found, said_stopped}
+use Rattle.capture_runner.proofs.CheckEnds.{ends_failed, ends_found, ends_full, ends_lacking, ends_stopped, said_found, said_stopped}
 use Rattle.capture_runner.proofs.checking.find_in.Goals as goal
 
 pub returns-in-Ended-clause-checks : goal.returns-in-Ended-clause-checks

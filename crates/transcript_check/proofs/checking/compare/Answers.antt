@@ -9,7 +9,7 @@ use Rattle.br_model.specs.Text.Declarations.{are_declared}
 use Rattle.br_model.specs.Text.LineForms.{comes_by_line}
 use Rattle.br_model.specs.Text.Roster.{Roster}
 use Rattle.transcript_check.specs.Besides.{IsBeside}
-use Rattle.transcript_check.proofs.Checking.{lines_give, told_whole}
+use Rattle.transcript_check.proofs.Comparisons.{lines_give, told_whole}
 use Rattle.transcript_check.proofs.checking.compare.Goals as goal
 
 pub compare_steps-requires-clause-stands : goal.compare_steps-requires-clause-stands

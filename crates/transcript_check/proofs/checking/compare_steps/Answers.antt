@@ -5,7 +5,7 @@ use Rattle.br_model.specs.declared.steps.Step.{Step}
 use Rattle.br_model.specs.Table.Domains.{chip_domains}
 use Rattle.br_model.specs.Table.Setup.{Setup}
 use Rattle.br_model.specs.Text.LineForms.{comes_by_line}
-use Rattle.transcript_check.proofs.Checking.{compares_more, compares_none}
+use Rattle.transcript_check.proofs.Comparisons.{compares_more, compares_none}
 use Rattle.transcript_check.proofs.checking.compare_steps.Goals as goal
 
 pub loop-step-init : goal.loop-step-init
