@@ -60,7 +60,8 @@ SeesBadOr bytes stop (Err stops.TooLong) = (stop ≡ stops.TooLong) × ReadsOn b
 
 -- Once this text is written, the check has ended with this status.
 abbrev pub EndsSo : Type 0 → Option (List ℕ) → Option (List ℕ) → List ℕ → Status → Type 0
-EndsSo failed left now text status = (before after : Option (List ℕ)) → Appends before after text → WholeChecks failed status (call_of left now before after)
+EndsSo failed left now text status =
+    (before after : Option (List ℕ)) → Appends before after text → WholeChecks failed status (call_of left now before after)
 
 -- the same of its answer, or of the last line where it stops
 abbrev pub ChecksSo : Type 0 → Option (List ℕ) → Option (List ℕ) → Result Found Stop → Type 0

@@ -15,10 +15,11 @@ use std::alloc::Global;
 use std::sync::Wait;
 
 /// Does all that the words ask, over this source and sink. `replay` reads a scenario of at most 2^28 bytes and writes its
-/// transcript, `check` a scenario with a transcript behind it and writes whether that is the scenario's, `show TABLE` (`fdb`, `vlan`
-/// or `mdb`) the table at its end, `monitor` the messages of its address changes. `gen NUMBER COUNT` reads nothing and writes a
-/// scenario, `demo NUMBER COUNT` a summary of its run: NUMBER is below 2^64, COUNT at most 100,000. `check`, `show`, `monitor` and
-/// `demo` write nothing before their work is over; `gen` has all its memory before its first write. Each status has its last line: that of the transcript or of the other output, `bad N WHY`, `usage`, `read fault`,
+/// transcript, `check` a scenario and the transcript behind it, together fewer bytes, and writes whether this is the scenario's.
+/// `show TABLE` (`fdb`, `vlan` or `mdb`) writes the table at a scenario's end, `monitor` the messages of its address changes.
+/// `gen NUMBER COUNT` reads nothing and writes a scenario, `demo NUMBER COUNT` a summary of its run: NUMBER is below 2^64, COUNT at
+/// most 100,000. `check`, `show`, `monitor` and `demo` write nothing before their work is over; `gen` has all its memory before its
+/// first write. Each status has its last line: that of the transcript or of the other output, `bad N WHY`, `usage`, `read fault`,
 /// `no memory` or `too long`; after a fault of writing nothing more is written.
 pub fn run<R: Wait, S: Source, K: Sink>(
     rt: &R,

@@ -1,4 +1,4 @@
-use Rattle.std.proofs.Common.{◌≡◌, true, List, ℕ, [], ◌++◌, sym, ap, ap₂, ◌∙◌, subst}
+use Rattle.std.proofs.Common.{◌≡◌, true, List, ℕ, [], ◌++◌, sym, ap, ◌∙◌, subst}
 use Rattle.std.specs.List.{list_all}
 use Rattle.br_model.specs.declared.steps.Step.{Step}
 use Rattle.br_model.specs.Program.Checks.{difference}
@@ -19,8 +19,8 @@ pub compare_steps-requires-clause-by_line : goal.compare_steps-requires-clause-b
 compare_steps-requires-clause-by_line c =
     let beside = c.in_ok-beside.beside in
     let says = c.requires.says in
-    let declares : record { domains = c.domains.result; own = c.own.result } ≡ setup_of c.roster-roster.result.now =
-    ap₂ (λ d o. record { domains = d; own = o }) c.domains.ensures.value c.own.ensures in
+    let own : Setup = record { domains = c.domains.result; own = c.own.result } in
+    let declares : own ≡ setup_of c.roster-roster.result.now = λ i. record { domains = c.domains.ensures.value i; own = c.own.ensures i } in
     ap (λ (l : List Step). list_all (comes_by_line true (chip_domains beside.world.setup.domains)) l) c.into_steps.ensures
     ∙ lines_give beside.world.setup c.args.scenario says.0 (c.in_ok-beside.ensures.setup_is ∙ declares ∙ ap setup_of c.roster-roster.ensures)
     (ap (λ (r : Roster). are_declared r.ports) (sym c.roster-roster.ensures) ∙ c.domains.ensures.declared) says.1
@@ -35,7 +35,7 @@ returns c = λ bytes says ended.
     let t = c.args.transcript.now in
     let b = c.compare_steps.new.beside in
     let own : Setup = record { domains = c.domains.result; own = c.own.result } in
-    let declares : own ≡ setup_of c.roster-roster.result.now = ap₂ (λ d o. record { domains = d; own = o }) c.domains.ensures.value c.own.ensures in
+    let declares : own ≡ setup_of c.roster-roster.result.now = λ i. record { domains = c.domains.ensures.value i; own = c.own.ensures i } in
     let there : IsBeside t own c.into_steps.result.items b.world b.cursor b.differs = c.in_ok-compare_steps.ensures t own [] c.in_ok-beside.ensures in
     let here : IsBeside t (setup_of x.roster) x.steps b.world b.cursor b.differs =
     subst (λ (s : Setup). IsBeside t s x.steps b.world b.cursor b.differs) (declares ∙ ap setup_of c.roster-roster.ensures)
