@@ -65,13 +65,13 @@ check_declared s Ends (Ok steps) = refl
 -- nothing was declared behind the steps
 sound_on : (check : Bool) (old new : Roster) (steps : List Step) → AreSound check old steps → new.check ≡ old.check → KeepsSetup old new → (steps ≡ []) ⊎ IsBehindDeclarations old → AreSound check new steps
 sound_on check old new steps h same keeps (inl none) = record {
-  check = same ∙ h.check;
+  its_check = same ∙ h.its_check;
   by_line = ap (λ (l : List Step). list_all (comes_by_line check (chips_of new.ports)) l) none;
   declared = inl none;
 }
 sound_on check old new steps h same keeps (inr behind) =
     let kept = keeps behind in record {
-      check = same ∙ h.check;
+      its_check = same ∙ h.its_check;
       by_line = ap (λ ports. list_all (comes_by_line check (chips_of ports)) steps) kept.1.1 ∙ h.by_line;
       declared = inr kept.0;
     }
@@ -80,7 +80,7 @@ sound_on check old new steps h same keeps (inr behind) =
 sound_more : (check : Bool) (r : Roster) (steps more : List Step) → AreSound check r steps → IsBehindDeclarations r → list_all (comes_by_line check (chips_of r.ports)) more ≡ true
     → AreSound check r (steps ++ more)
 sound_more check r steps more h behind comes = record {
-  check = h.check;
+  its_check = h.its_check;
   by_line = list_all-append (comes_by_line check (chips_of r.ports)) steps more ∙ ap (λ b. b && list_all (comes_by_line check (chips_of r.ports)) more) h.by_line ∙ comes;
   declared = inr behind;
 }
@@ -93,7 +93,7 @@ module _ (check : Bool) (s : Scenario) (bytes : List ℕ) (x : ReaderState) (ste
       → end.last ≡ Some (lasts.Bad (s.lines + 1) why) → end.close ≡ lasts.Bad (s.lines + 1) why → end.left ≡ 0 → Finishes check bytes (read 0 s bytes) x steps end
   ends_badly why line same is last close left =
       subst (λ (p : Progress). Finishes check bytes p x steps end) (sym is) (record {
-        steps = same;
+        all_steps = same;
         close = sym (ap ending_of close);
         roster = λ h. let over : lasts.Bad (s.lines + 1) why ≡ lasts.Ended = sym close ∙ h in absurd (cc);
         last = sym (ap ending_or_going last);
@@ -108,7 +108,7 @@ module _ (check : Bool) (s : Scenario) (bytes : List ℕ) (x : ReaderState) (ste
       → end.last ≡ None → (closes s line).ending ≡ ending_of end.close → (end.close ≡ lasts.Ended → x.roster ≡ s.roster) → end.left ≡ 0 → Finishes check bytes (read 0 s bytes) x steps end
   ends_within line same going is last close roster left =
       subst (λ (p : Progress). Finishes check bytes p x steps end) (sym is) (record {
-        steps = same ∙ sym (closes_keeps s line).1;
+        all_steps = same ∙ sym (closes_keeps s line).1;
         close = close;
         roster = λ h. roster h ∙ sym (closes_keeps s line).0;
         last = going ∙ sym (ap ending_or_going last);
@@ -126,7 +126,7 @@ module _ (check : Bool) (s : Scenario) (bytes : List ℕ) (x : ReaderState) (ste
       read_ended t behind (ap has_ended over) ∙ ap (λ (d : Ending). record { scenario = t; line = []; behind = behind_at d behind }) over in
       let stays : closes t [] ≡ t = ap (λ (d : Ending). closes_at d t []) over in
       subst (λ (p : Progress). Finishes check bytes p x steps end) (sym (is ∙ e)) (record {
-        steps = same ∙ ap (λ (u : Scenario). u.steps) (sym stays);
+        all_steps = same ∙ ap (λ (u : Scenario). u.steps) (sym stays);
         close = ap (λ (u : Scenario). u.ending) stays ∙ over ∙ sym (ap ending_of close);
         roster = λ h. roster ∙ ap (λ (u : Scenario). u.roster) (sym stays);
         last = over ∙ sym (ap ending_or_going last);
@@ -146,7 +146,7 @@ module _ (check : Bool) (s : Scenario) (line behind : List ℕ) (x : ReaderState
   going = h.follows.going
 
   its_own : AreSound check s.roster steps
-  its_own = subst (λ (l : List Step). AreSound check s.roster l) (sym h.steps) h.sound
+  its_own = subst (λ (l : List Step). AreSound check s.roster l) (sym h.all_steps) h.sound
 
   -- after which nothing is to be done
   pub quietly : (new : ReaderState) (said : Said) → whole_says s.roster line ≡ Ok said → section_length said ≡ 0 → (takes s said []).steps ≡ s.steps → Follows (takes s said []) new
@@ -157,7 +157,7 @@ module _ (check : Bool) (s : Scenario) (line behind : List ℕ) (x : ReaderState
       sound_on check s.roster t.roster s.steps h.sound (check_declared s said (steps_of s.roster.ports said [])) (subst (KeepsSetup s.roster) follows.roster keeps) h.sound.declared in record {
         scenario = t;
         reads = read_line s said line [] behind going feed says (sym sized);
-        stands = record { follows = follows; steps = h.steps ∙ sym same; sound = subst (λ (l : List Step). AreSound check t.roster l) (sym same) all };
+        stands = record { follows = follows; all_steps = h.all_steps ∙ sym same; sound = subst (λ (l : List Step). AreSound check t.roster l) (sym same) all };
         part = behind_it line behind;
       }
 
@@ -166,56 +166,56 @@ module _ (check : Bool) (s : Scenario) (line behind : List ℕ) (x : ReaderState
       → GoesOn check s (line ++ 10 ∷ behind) new (steps ++ step ∷ []) behind
   stepped new step says follows comes =
       let t : Scenario = takes s (Does step) [] in
-      let here : AreSound check t.roster s.steps = record { check = h.sound.check; by_line = h.sound.by_line; declared = inr (refl, refl) } in
+      let here : AreSound check t.roster s.steps = record { its_check = h.sound.its_check; by_line = h.sound.by_line; declared = inr (refl, refl) } in
       let one : list_all (comes_by_line check (chips_of t.roster.ports)) (step ∷ []) ≡ true =
-      ap (λ b. b && true) (subst (λ c. comes_by_line c (chips_of s.roster.ports) step ≡ true) h.sound.check comes) in record {
+      ap (λ b. b && true) (subst (λ c. comes_by_line c (chips_of s.roster.ports) step ≡ true) h.sound.its_check comes) in record {
         scenario = t;
         reads = read_line s (Does step) line [] behind going feed says refl;
-        stands = record { follows = follows; steps = ap (λ (l : List Step). l ++ step ∷ []) h.steps; sound = sound_more check t.roster s.steps (step ∷ []) here (refl, refl) one };
+        stands = record { follows = follows; all_steps = ap (λ (l : List Step). l ++ step ∷ []) h.all_steps; sound = sound_more check t.roster s.steps (step ∷ []) here (refl, refl) one };
         part = behind_it line behind;
       }
 
   -- the last one
   last_by : (r : Result Said LineWhy) (last : Last) (new : ReaderState) (end : End) → whole_says s.roster line ≡ r → EndsBy s r last → new.roster ≡ s.roster
       → end.last ≡ Some last → end.close ≡ last → end.left ≡ left_by last (length behind) → Finishes check (line ++ 10 ∷ behind) (read 0 s (line ++ 10 ∷ behind)) new steps end
-  last_by (Err why) last new end says is roster by close left =
-      ends_badly check s (line ++ 10 ∷ behind) new steps (subst (λ (q : Roster). AreSound check q steps) (sym roster) its_own) end why [] h.steps (read_bad s why line behind going feed says)
-      (by ∙ ap Some is) (close ∙ is) (left ∙ ap (λ l. left_by l (length behind)) is)
-  last_by (Ok what) last new end says is roster by close left =
+  last_by (Err why) last new end says is roster told close left =
+      ends_badly check s (line ++ 10 ∷ behind) new steps (subst (λ (q : Roster). AreSound check q steps) (sym roster) its_own) end why [] h.all_steps (read_bad s why line behind going feed says)
+      (told ∙ ap Some is) (close ∙ is) (left ∙ ap (λ l. left_by l (length behind)) is)
+  last_by (Ok what) last new end says is roster told close left =
       let so : whole_says s.roster line ≡ Ok Ends = says ∙ ap Ok is.0 in
-      ends_well check s (line ++ 10 ∷ behind) new steps (subst (λ (q : Roster). AreSound check q steps) (sym roster) its_own) end (takes s Ends []) behind (h.steps ∙ sym (append-nil s.steps)) roster refl
-      (behind_it line behind) (read_line s Ends line [] behind going feed so refl) (by ∙ ap Some is.1) (close ∙ is.1) (left ∙ ap (λ l. left_by l (length behind)) is.1)
+      ends_well check s (line ++ 10 ∷ behind) new steps (subst (λ (q : Roster). AreSound check q steps) (sym roster) its_own) end (takes s Ends []) behind (h.all_steps ∙ sym (append-nil s.steps)) roster refl
+      (behind_it line behind) (read_line s Ends line [] behind going feed so refl) (told ∙ ap Some is.1) (close ∙ is.1) (left ∙ ap (λ l. left_by l (length behind)) is.1)
 
   pub last_one : (last : Last) (new : ReaderState) (end : End) → EndsBy s (whole_says s.roster line) last → new.roster ≡ s.roster
       → end.last ≡ Some last → end.close ≡ last → end.left ≡ left_by last (length behind) → Finishes check (line ++ 10 ∷ behind) (read 0 s (line ++ 10 ∷ behind)) new steps end
-  last_one last new end is roster by close left = last_by (whole_says s.roster line) last new end refl is roster by close left
+  last_one last new end is roster told close left = last_by (whole_says s.roster line) last new end refl is roster told close left
 
   -- one that is too long
   pub too_long : (end : End) → longest_line < length line → end.last ≡ Some (lasts.Bad (x.lines + 1) Long) → end.close ≡ lasts.Bad (x.lines + 1) Long → end.left ≡ 0
       → Finishes check (line ++ 10 ∷ behind) (read 0 s (line ++ 10 ∷ behind)) x steps end
-  too_long end long by close left =
+  too_long end long told close left =
       let number : lasts.Bad (x.lines + 1) Long ≡ lasts.Bad (s.lines + 1) Long = ap (λ n. lasts.Bad (n + 1) Long) h.follows.lines in
-      ends_badly check s (line ++ 10 ∷ behind) x steps (subst (λ (q : Roster). AreSound check q steps) (sym h.follows.roster) its_own) end Long [] h.steps
-      (read_bad s Long line behind going feed (says_long s.roster line long)) (by ∙ ap Some number) (close ∙ number) left
+      ends_badly check s (line ++ 10 ∷ behind) x steps (subst (λ (q : Roster). AreSound check q steps) (sym h.follows.roster) its_own) end Long [] h.all_steps
+      (read_bad s Long line behind going feed (says_long s.roster line long)) (told ∙ ap Some number) (close ∙ number) left
 
   -- one whose section is next
   pub at_section : (new : ReaderState) (n : ℕ) → whole_says s.roster line ≡ Ok (Captures n) → Follows (captures s n) new → AtSection check s line n new steps
-  at_section new n says follows = record { feedless = feed; says = says; follows = follows; going = going; steps = h.steps; sound = h.sound }
+  at_section new n says follows = record { feedless = feed; says = says; follows = follows; going = going; all_steps = h.all_steps; sound = h.sound }
 
 -- the last line, without its line feed
 module _ (check : Bool) (s : Scenario) (rest : List ℕ) (x : ReaderState) (steps : List Step) (h : Stands check s x steps) (feed : is_line rest ≡ true) (end : End) where
   its_sound : AreSound check x.roster steps
-  its_sound = subst (λ (q : Roster). AreSound check q steps) (sym h.follows.roster) (subst (λ (l : List Step). AreSound check s.roster l) (sym h.steps) h.sound)
+  its_sound = subst (λ (q : Roster). AreSound check q steps) (sym h.follows.roster) (subst (λ (l : List Step). AreSound check s.roster l) (sym h.all_steps) h.sound)
 
   pub rest_too_long : longest_line < length rest → end.last ≡ Some (lasts.Bad (x.lines + 1) Long) → end.close ≡ lasts.Bad (x.lines + 1) Long → end.left ≡ 0 → Finishes check rest (read 0 s rest) x steps end
-  rest_too_long long by close left =
+  rest_too_long long told close left =
       let number : lasts.Bad (x.lines + 1) Long ≡ lasts.Bad (s.lines + 1) Long = ap (λ n. lasts.Bad (n + 1) Long) h.follows.lines in
-      ends_badly check s rest x steps its_sound end Long rest h.steps (read_long_rest s rest h.follows.going feed long) (by ∙ ap Some number) (close ∙ number) left
+      ends_badly check s rest x steps its_sound end Long rest h.all_steps (read_long_rest s rest h.follows.going feed long) (told ∙ ap Some number) (close ∙ number) left
 
   pub closed : length rest ≤ longest_line → (close : Last) → ((t : Scenario) → Follows t x → (closes t rest).ending ≡ ending_of close) → end.last ≡ None → end.close ≡ close → end.left ≡ 0
       → Finishes check rest (read 0 s rest) x steps end
-  closed short close closes_so by is left =
-      ends_within check s rest x steps its_sound end rest h.steps h.follows.going (read_rest s rest h.follows.going feed short) by (closes_so s h.follows ∙ sym (ap ending_of is)) (λ e. h.follows.roster) left
+  closed short close closes_so told is left =
+      ends_within check s rest x steps its_sound end rest h.all_steps h.follows.going (read_rest s rest h.follows.going feed short) told (closes_so s h.follows ∙ sym (ap ending_of is)) (λ e. h.follows.roster) left
 
 -- a section
 
@@ -224,7 +224,7 @@ module _ (check : Bool) (s : Scenario) (line : List ℕ) (n : ℕ) (x : ReaderSt
   sound_there : AreSound check x.roster steps
   sound_there =
       let here : AreSound check (captures s n).roster steps =
-      record { check = h.sound.check; by_line = subst (λ (l : List Step). list_all (comes_by_line check (chips_of s.roster.ports)) l ≡ true) (sym h.steps) h.sound.by_line; declared = inr (refl, refl) } in
+      record { its_check = h.sound.its_check; by_line = subst (λ (l : List Step). list_all (comes_by_line check (chips_of s.roster.ports)) l ≡ true) (sym h.all_steps) h.sound.by_line; declared = inr (refl, refl) } in
       subst (λ (q : Roster). AreSound check q steps) (sym h.follows.roster) here
 
   closes_so : (d : Ending) → d ≡ Going → (closes_at d s []).ending ≡ Bad (s.lines + 1) Unended
@@ -235,8 +235,8 @@ module _ (check : Bool) (s : Scenario) (line : List ℕ) (n : ℕ) (x : ReaderSt
   -- which is cut off
   pub cut_off : (part : List ℕ) (end : End) → length part < n → end.last ≡ None → end.close ≡ lasts.Bad x.lines Unended → end.left ≡ 0
       → Finishes check (line ++ 10 ∷ part) (read 0 s (line ++ 10 ∷ part)) x steps end
-  cut_off part end short by close left =
-      ends_within check s (line ++ 10 ∷ part) x steps sound_there end [] h.steps h.going (read_part s (Captures n) line part h.going h.feedless h.says short) by
+  cut_off part end short told close left =
+      ends_within check s (line ++ 10 ∷ part) x steps sound_there end [] h.all_steps h.going (read_part s (Captures n) line part h.going h.feedless h.says short) told
       (closes_so s.ending h.going ∙ ap (λ k. Bad k Unended) (sym h.follows.lines) ∙ sym (ap ending_of close))
       (λ e. let over : lasts.Bad x.lines Unended ≡ lasts.Ended = sym close ∙ e in absurd (cc))
       left
@@ -254,14 +254,14 @@ module _ (check : Bool) (s : Scenario) (line : List ℕ) (n : ℕ) (x : ReaderSt
         → GoesOn check s (line ++ 10 ∷ (section ++ more)) x (steps ++ its) more
     section_taken its gives comes =
         let t : Scenario = takes_steps s (Captures n) (Ok its) in
-        let first : AreSound check t.roster s.steps = record { check = h.sound.check; by_line = h.sound.by_line; declared = inr (refl, refl) } in
+        let first : AreSound check t.roster s.steps = record { its_check = h.sound.its_check; by_line = h.sound.by_line; declared = inr (refl, refl) } in
         let these : list_all (comes_by_line check (chips_of t.roster.ports)) its ≡ true =
         subst (λ (q : Roster). list_all (comes_by_line check (chips_of q.ports)) its ≡ true) h.follows.roster (comes check) in record {
           scenario = t;
           reads = reads_it (Ok its) gives;
           stands = record {
             follows = record { lines = h.follows.lines; roster = h.follows.roster; going = refl };
-            steps = ap (λ (l : List Step). l ++ its) h.steps;
+            all_steps = ap (λ (l : List Step). l ++ its) h.all_steps;
             sound = sound_more check t.roster s.steps its first (refl, refl) these;
           };
           part =
@@ -271,9 +271,9 @@ module _ (check : Bool) (s : Scenario) (line : List ℕ) (n : ℕ) (x : ReaderSt
     -- a block of which is broken
     pub section_broken : (why : LineWhy) (end : End) → captured x.roster.ports (packets section (length x.roster.ports)) ≡ Err why → end.last ≡ Some (lasts.Bad x.lines why) → end.close ≡ lasts.Bad x.lines why
         → end.left ≡ 0 → Finishes check (line ++ 10 ∷ (section ++ more)) (read 0 s (line ++ 10 ∷ (section ++ more))) x steps end
-    section_broken why end gives by close left =
+    section_broken why end gives told close left =
         let number : lasts.Bad x.lines why ≡ lasts.Bad (s.lines + 1) why = ap (λ k. lasts.Bad k why) h.follows.lines in
-        ends_badly check s (line ++ 10 ∷ (section ++ more)) x steps sound_there end why [] h.steps (reads_it (Err why) gives ∙ read_ended (bad s why) more refl) (by ∙ ap Some number) (close ∙ number) left
+        ends_badly check s (line ++ 10 ∷ (section ++ more)) x steps sound_there end why [] h.all_steps (reads_it (Err why) gives ∙ read_ended (bad s why) more refl) (told ∙ ap Some number) (close ∙ number) left
 
 -- one line after another
 
@@ -290,12 +290,21 @@ pub goes_to_end : (check : Bool) (s : Scenario) (bytes : List ℕ) (x y : Reader
 goes_to_end check s bytes x y steps more rest end h k =
     let part : EndWith rest (read 0 s bytes).behind = subst (λ (p : Progress). EndWith rest p.behind) (sym h.reads) k.part in
     let all : Finishes check rest (read 0 s bytes) y more end = subst (λ (p : Progress). Finishes check rest p y more end) (sym h.reads) k in
-    record all { part = then_part bytes rest _ h.part part }
+    record {
+      all_steps = all.all_steps;
+      close = all.close;
+      roster = all.roster;
+      last = all.last;
+      same = all.same;
+      part = then_part bytes rest _ h.part part;
+      left = all.left;
+      sound = all.sound;
+    }
 
 -- the whole
 
 pub begins : (check : Bool) → Stands check (opened check) (record { lines = 0; roster = first_roster check }) []
-begins check = record { follows = record { lines = refl; roster = refl; going = refl }; steps = refl; sound = record { check = refl; by_line = refl; declared = inl refl } }
+begins its_check = record { follows = record { lines = refl; roster = refl; going = refl }; all_steps = refl; sound = record { its_check = refl; by_line = refl; declared = inl refl } }
 
 dropped : (bytes past behind : List ℕ) (n : ℕ) → bytes ≡ past ++ behind → n ≡ length behind → drop (length bytes - n) bytes ≡ behind
 dropped bytes past behind n joined is =
@@ -313,14 +322,14 @@ behind_its check bytes = refl
 pub says_whole : (check : Bool) (bytes : List ℕ) (x : ReaderState) (steps : List Step) (end : End) → Finishes check bytes (read 0 (opened check) bytes) x steps end
     → SaysWhole check bytes (record { roster = x.roster; steps = steps; last = end.last; close = end.close; behind = length bytes - end.left })
 says_whole check bytes x steps end h = record {
-  steps = h.steps ∙ ap (λ (s : Scenario). s.steps) (sym (by_its check bytes));
+  steps = h.all_steps ∙ ap (λ (s : Scenario). s.steps) (sym (by_its check bytes));
   close = ap (λ (s : Scenario). s.ending) (by_its check bytes) ∙ h.close;
   roster = λ e. h.roster e ∙ ap (λ (s : Scenario). s.roster) (sym (by_its check bytes));
   last = h.last;
   same = h.same;
   behind = dropped bytes h.part.0 _ end.left h.part.1 h.left ∙ sym (behind_its check bytes);
   within = omega arith;
-  check = h.sound.check;
+  its_check = h.sound.its_check;
   by_line = h.sound.by_line;
   declared = h.sound.declared;
 }

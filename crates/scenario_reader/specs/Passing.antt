@@ -31,14 +31,14 @@ CutsFront bytes (Some line) = IsFront bytes line
 
 -- The steps are such as a line gives where these ports are declared; where there are any, no port can be declared any more.
 pub record AreSound (check : Bool) (roster : Roster) (steps : List Step) : Type 0 where
-  pub check : roster.check ≡ check
+  pub its_check : roster.check ≡ check
   pub by_line : list_all (comes_by_line check (chips_of roster.ports)) steps ≡ true
   pub declared : (steps ≡ []) ⊎ IsBehindDeclarations roster
 
 -- The scenario goes on, and was read so far.
 pub record Stands (check : Bool) (s : Scenario) (x : ReaderState) (steps : List Step) : Type 0 where
   pub follows : Follows s x
-  pub steps : steps ≡ s.steps
+  pub all_steps : steps ≡ s.steps
   pub sound : AreSound check s.roster s.steps
 
 -- A line `capture` of so many bytes was read, its section is next.
@@ -47,7 +47,7 @@ pub record AtSection (check : Bool) (s : Scenario) (line : List ℕ) (n : ℕ) (
   pub says : whole_says s.roster line ≡ Ok (Captures n)
   pub follows : Follows (captures s n) x
   pub going : s.ending ≡ Going
-  pub steps : steps ≡ s.steps
+  pub all_steps : steps ≡ s.steps
   pub sound : AreSound check s.roster s.steps
 
 -- bytes end with these
@@ -63,7 +63,7 @@ pub record GoesOn (check : Bool) (s : Scenario) (bytes : List ℕ) (x : ReaderSt
 
 -- The bytes come to this, and so the scenario ends.
 pub record Finishes (check : Bool) (bytes : List ℕ) (p : Progress) (x : ReaderState) (steps : List Step) (end : End) : Type 0 where
-  pub steps : steps ≡ (closes p.scenario p.line).steps
+  pub all_steps : steps ≡ (closes p.scenario p.line).steps
   pub close : (closes p.scenario p.line).ending ≡ ending_of end.close
   pub roster : end.close ≡ lasts.Ended → x.roster ≡ (closes p.scenario p.line).roster
   pub last : p.scenario.ending ≡ ending_or_going end.last

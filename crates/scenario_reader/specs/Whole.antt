@@ -42,6 +42,6 @@ pub record SaysWhole (check : Bool) (bytes : List ℕ) (x : WholeState) : Type 0
   pub behind : drop x.behind bytes ≡ behind_end check bytes
   pub within : x.behind ≤ length bytes
   -- what the steps stand on
-  pub check : x.roster.check ≡ check
+  pub its_check : x.roster.check ≡ check
   pub by_line : list_all (comes_by_line check (chips_of x.roster.ports)) x.steps ≡ true
   pub declared : (x.steps ≡ []) ⊎ IsBehindDeclarations x.roster

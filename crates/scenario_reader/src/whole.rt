@@ -189,9 +189,9 @@ impl Reading {
         requires few { self.old.reader.lines < 2 ^ 32 - 1 }
         requires feedless { is_line line.bytes.now ≡ true }
         ensures lines { OnOk result (self.new.reader.lines ≤ self.old.reader.lines + 1) }
-        ensures left { IfOk result (IsLeft line.behind.now) }
+        ensures left { IfOk result (IsLeft line.entry.behind.now) }
         ensures goes { IfOk result (λ went. (check : Bool) (s : Scenario) → Stands check s self.old.reader self.old.steps.items
-            → Goes check s (line.bytes.now ++ 10 ∷ line.behind.now) self.new.reader self.new.steps.items went) }
+            → Goes check s (line.entry.bytes.now ++ 10 ∷ line.entry.behind.now) self.new.reader self.new.steps.items went) }
     {
         if line.bytes.len() > LONGEST_LINE {
             let last = self.reader.bad(LineWhy::Long);
