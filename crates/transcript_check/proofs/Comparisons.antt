@@ -1,5 +1,5 @@
 -- Steps are compared one after another, from the first one on.
-use Rattle.std.proofs.Common.{◌≡◌, ℕ, true, List, [], ◌∷◌, ◌++◌, sym, ap, ap₂, ◌∙◌, subst, append_assoc}
+use Rattle.std.proofs.Common.{◌≡◌, ℕ, true, List, [], ◌∷◌, ◌++◌, length, arith, refl, sym, ap, ap₂, ◌∙◌, subst, append_assoc}
 use Rattle.std.specs.List.{list_all}
 use Rattle.std.proofs.lemmas.List.{append-nil}
 use Rattle.br_model.specs.declared.steps.Step.{Step}
@@ -20,6 +20,10 @@ use Rattle.scenario_reader.specs.Whole.{SaysWhole, WholeState}
 use Rattle.transcript_check.specs.declared.beside.Beside.{Beside}
 use Rattle.transcript_check.specs.Besides.{IsBeside}
 use Rattle.transcript_check.specs.Checking.{ComparesSteps}
+
+pub nothing_left : (steps : List Step) → length steps ≡ 0 → steps ≡ []
+nothing_left [] h = refl
+nothing_left (step ∷ steps) h = absurd (omega (arith, h))
 
 pub compares_none : (x : Beside) → ComparesSteps x [] x
 compares_none x = λ transcript setup before b. subst (λ (steps : List Step). IsBeside transcript setup steps x.world x.cursor x.differs) (sym (append-nil before)) b

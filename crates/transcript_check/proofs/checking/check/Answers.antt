@@ -8,7 +8,7 @@ compare-requires-clause-says c = (c.args.scenario.now, c.in_ok-whole.ensures)
 pub returns-in-Bad : goal.returns-in-Bad
 returns-in-Bad c = c.in_ok-whole.ensures.close ∙ ap ending_of (sym c.in-Bad.ensures)
 
-pub returns-in-Ended : goal.returns-in-Ended
-returns-in-Ended c =
+pub returns-in_ok-compare-in-Ended : goal.returns-in_ok-compare-in-Ended
+returns-in_ok-compare-in-Ended c =
     let ended = sym c.in-Ended.ensures in
     (c.in_ok-whole.ensures.close ∙ ap ending_of ended, c.in_ok-compare.ensures c.args.scenario.now c.in_ok-whole.ensures ended)
