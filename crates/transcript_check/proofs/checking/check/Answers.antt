@@ -11,4 +11,4 @@ returns-in-Bad c = c.in_ok-whole.ensures.close ∙ ap ending_of (sym c.in-Bad.en
 pub returns-in_ok-compare-in-Ended : goal.returns-in_ok-compare-in-Ended
 returns-in_ok-compare-in-Ended c =
     let ended = sym c.in-Ended.ensures in
-    (c.in_ok-whole.ensures.close ∙ ap ending_of ended, c.in_ok-compare.ensures c.args.scenario.now c.in_ok-whole.ensures ended)
+    (c.in_ok-whole.ensures.close ∙ ap ending_of ended, c.in_ok-compare-in-Ended.ensures c.args.scenario.now c.in_ok-whole.ensures ended)
