@@ -1,5 +1,8 @@
 -- How a check ends, once what it found is written.
-use Rattle.std.proofs.Common.{◌≡◌, ℕ, ◌<◌, ◌≤◌, ◌==◌, true, false, List, [], ◌∷◌, ◌++◌, length, Option, None, Some, Result, Ok, Err, IfOk, refl, sym, ◌∙◌, ap, subst}
+use Rattle.std.proofs.Common.{◌≡◌, ℕ, ◌<◌, ◌≤◌, ◌==◌, true, false, List, [], ◌∷◌, ◌++◌, length, Option, None, Some, Result, Ok, Err, IfOk, refl, sym, ◌∙◌, ap, subst, append_assoc, arith}
+use Rattle.std.proofs.lemmas.Bool.{eqb-true}
+use Rattle.run_io.specs.Causes.{Rose}
+use Rattle.capture_runner.specs.Advancing.{Caused as StopsBy}
 use Rattle.std.specs.Io.KnownBytes.{Appends, Consumes, IsAtEnd}
 use Rattle.br_model.specs.declared.scenario.LineWhy.{LineWhy}
 use Rattle.br_model.specs.Program.Checks.{Difference, IsNotBad, ReadsOn, answer_at, answer_text, check_answer, checked, differs, with_text}
@@ -24,11 +27,19 @@ use Rattle.capture_runner.proofs.Outcomes.{Broke, Went, by_status}
 
 pub with_none : (word text : List ℕ) → (length text == 0) ≡ true → with_text word text ≡ word ++ 10 ∷ []
 with_none word [] h = refl
-with_none word (byte ∷ text) h = absurd (cc)
+with_none word (byte ∷ text) h = absurd (omega (arith, eqb-true (length (byte ∷ text)) 0 h))
 
 pub with_some : (word text : List ℕ) → (length text == 0) ≡ false → with_text word text ≡ word ++ (32 ∷ (text ++ 10 ∷ []))
 with_some word [] h = absurd (cc)
 with_some word (byte ∷ text) h = refl
+
+pub joined : (old word text : List ℕ) → (((old ++ word) ++ 32 ∷ []) ++ text) ++ 10 ∷ [] ≡ old ++ (word ++ (32 ∷ (text ++ 10 ∷ [])))
+joined old word text =
+    append_assoc ((old ++ word) ++ 32 ∷ []) text (10 ∷ []) ∙ append_assoc (old ++ word) (32 ∷ []) (text ++ 10 ∷ []) ∙ append_assoc old word (32 ∷ (text ++ 10 ∷ []))
+
+pub three : (no line a b : List ℕ) → ((no ++ (line ++ 10 ∷ [])) ++ a) ++ b ≡ no ++ (line ++ (10 ∷ (a ++ b)))
+three no line a b =
+    append_assoc (no ++ (line ++ 10 ∷ [])) a b ∙ append_assoc no (line ++ 10 ∷ []) (a ++ b) ∙ ap (λ (x : List ℕ). no ++ x) (append_assoc line (10 ∷ []) (a ++ b))
 
 -- all bytes were taken, and this is found in them
 
@@ -93,6 +104,15 @@ module _ (failed : Type 0) (left now : Option (List ℕ)) (input : List ℕ) (gi
   ends_stopped stop (Err stops.NoMemory) few ends h = ends_lacking
   ends_stopped stop (Err stops.ReadFault) few ends h = subst (λ (s : Stop). EndsSo failed left now (stop_line s) (stop_status s)) h.0 (ends h.1)
   ends_stopped stop (Err stops.TooLong) few ends h = subst (λ (s : Stop). EndsSo failed left now (stop_line s) (stop_status s)) h.0 (ends h.1)
+
+pub lacks_memory : (failed : Type 0) (left now : Option (List ℕ)) (input : List ℕ) → Consumes left now input → (result : Result Found Stop) → result ≡ Err stops.NoMemory → ChecksSo failed left now result
+lacks_memory failed left now input given result is = subst (λ (r : Result Found Stop). ChecksSo failed left now r) (sym is) (ends_lacking failed left now input given)
+
+pub caused_stopped : (bytes : List ℕ) (stop : Stop) (result : Result Found Stop) (before now : ℕ) → SeesBadOr bytes stop result → (stop ≡ stops.ReadFault → Rose before now) → StopsBy before now result
+caused_stopped bytes stop (Ok found) before now h f = tt
+caused_stopped bytes stop (Err stops.NoMemory) before now h f = tt
+caused_stopped bytes stop (Err stops.ReadFault) before now h f = f h.0
+caused_stopped bytes stop (Err stops.TooLong) before now h f = tt
 
 -- bytes whose whole lines end in no bad one
 pub reads_on : (bytes : List ℕ) (last : Option Last) (d : Last) → (reads (opened true) bytes).ending ≡ ending_or_going last → last ≡ Some d → d ≡ lasts.Ended → ReadsOn bytes

@@ -1,5 +1,5 @@
 //! `check`: a scenario, and the transcript behind it, which is compared with what is told of the scenario.
-ghost use Rattle.std.specs.Prelude.{◌≡◌, ◌++◌, ◌<◌, ◌≤◌, ◌^◌, List, ℕ, IfOk, OnOk, length, true};
+ghost use Rattle.std.specs.Prelude.{◌≡◌, ◌∷◌, ◌++◌, ◌<◌, ◌≤◌, ◌^◌, [], List, ℕ, IfOk, OnOk, Some, codes, decimal, length, true};
 ghost use Rattle.br_model.specs.Program.Checks.{answer_text, with_text};
 ghost use Rattle.br_model.specs.Table.Limits.{most_bytes};
 ghost use Rattle.br_model.specs.Text.Scenario.{behind_end};
@@ -46,6 +46,28 @@ fn add_line(word: &[u8], text: &[u8], to: &mut Vec<u8>) -> Result<(), NoMemory>
     Ok(())
 }
 
+/// The first line where a line differs.
+fn line_of_no(alloc: Global, line: u32) -> Result<Vec<u8>, NoMemory>
+    ensures { IfOk result (λ text. text.items ≡ codes "no " ++ (decimal line ++ 10 ∷ [])) }
+{
+    Ok(format!(in alloc; "no {line}\n")?.into_bytes())
+}
+
+/// The lines where this line differs.
+fn lines_of_no(
+    alloc: Global,
+    line: u32,
+    expected: &[u8],
+    found: &[u8],
+) -> Result<Vec<u8>, NoMemory>
+    ensures { IfOk result (λ lines. lines.items ≡ answer_text (Some (record { line = line; expected = expected.now; found = found.now }))) }
+{
+    let mut lines = line_of_no(alloc, line)?;
+    add_line(b"expected", expected, &mut lines)?;
+    add_line(b"found", found, &mut lines)?;
+    Ok(lines)
+}
+
 /// The lines of an answer.
 fn lines_of_answer(alloc: Global, answer: &Answer) -> Result<Vec<u8>, NoMemory>
     ensures { IfOk result (λ lines. lines.items ≡ answer_text (difference_of answer.now)) }
@@ -56,12 +78,7 @@ fn lines_of_answer(alloc: Global, answer: &Answer) -> Result<Vec<u8>, NoMemory>
             line,
             expected,
             found,
-        } => {
-            let mut lines = format!(in alloc; "no {line}\n")?.into_bytes();
-            add_line(b"expected", expected.as_slice(), &mut lines)?;
-            add_line(b"found", found.as_slice(), &mut lines)?;
-            Ok(lines)
-        }
+        } => lines_of_no(alloc, *line, expected.as_slice(), found.as_slice()),
     }
 }
 

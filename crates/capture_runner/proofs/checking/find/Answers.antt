@@ -9,7 +9,7 @@ returns-in-Bad c =
     IfOk-weaker c.found_bad.result _ _
     (λ found f bytes says behind. found_bad_line bytes found c.in-Bad.line c.in-Bad.why (says.close ∙ ap ending_of (sym c.in-Bad.ensures)) f) c.found_bad.ensures
 
-pub returns-in-Ended : goal.returns-in-Ended
-returns-in-Ended c = λ bytes says behind.
+pub returns-in_ok-lines_of_answer-in-Ended : goal.returns-in_ok-lines_of_answer-in-Ended
+returns-in_ok-lines_of_answer-in-Ended c = λ bytes says behind.
     let ended = sym c.in-Ended.ensures in
-    found_answer bytes c.args.transcript.now _ _ (says.close ∙ ap ending_of ended) behind (c.in_ok-answer.ensures bytes says ended) c.in_ok-lines_of_answer.ensures c.status_of_answer.ensures
+    found_answer bytes c.args.transcript.now _ _ (says.close ∙ ap ending_of ended) behind (c.in_ok-answer-in-Ended.ensures bytes says ended) c.in_ok-lines_of_answer-in-Ended.ensures c.status_of_answer.ensures

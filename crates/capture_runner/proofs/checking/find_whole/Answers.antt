@@ -3,9 +3,9 @@ use Rattle.std.proofs.lemmas.Result.{IfOk-weaker}
 use Rattle.capture_runner.proofs.checking.find_whole.Goals as goal
 
 pub find-requires-clause-says : goal.find-requires-clause-says
-find-requires-clause-says c = (c.args.bytes.now, c.in_ok-scenario.ensures)
+find-requires-clause-says c = (c.args.bytes.now, c.in_ok-scenario.ensures.says)
 
 pub returns : goal.returns
 returns c =
-    let behind = ap (λ k. drop k c.args.bytes.now) c.behind-behind.ensures ∙ c.in_ok-scenario.ensures.behind in
-    IfOk-weaker c.find.result _ _ (λ found f. f c.args.bytes.now c.in_ok-scenario.ensures behind) c.find.ensures
+    let behind = ap (λ k. drop k c.args.bytes.now) c.behind-behind.ensures ∙ c.in_ok-scenario.ensures.says.behind in
+    IfOk-weaker c.find.result _ _ (λ found f. f c.args.bytes.now c.in_ok-scenario.ensures.says behind) c.find.ensures
