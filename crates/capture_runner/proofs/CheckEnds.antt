@@ -37,9 +37,9 @@ pub joined : (old word text : List ℕ) → (((old ++ word) ++ 32 ∷ []) ++ tex
 joined old word text =
     append_assoc ((old ++ word) ++ 32 ∷ []) text (10 ∷ []) ∙ append_assoc (old ++ word) (32 ∷ []) (text ++ 10 ∷ []) ∙ append_assoc old word (32 ∷ (text ++ 10 ∷ []))
 
-pub three : (no line a b : List ℕ) → ((no ++ (line ++ 10 ∷ [])) ++ a) ++ b ≡ no ++ (line ++ (10 ∷ (a ++ b)))
-three no line a b =
-    append_assoc (no ++ (line ++ 10 ∷ [])) a b ∙ append_assoc no (line ++ 10 ∷ []) (a ++ b) ∙ ap (λ (x : List ℕ). no ++ x) (append_assoc line (10 ∷ []) (a ++ b))
+pub three : (front line a b : List ℕ) → ((front ++ (line ++ 10 ∷ [])) ++ a) ++ b ≡ front ++ (line ++ (10 ∷ (a ++ b)))
+three front line a b =
+    append_assoc (front ++ (line ++ 10 ∷ [])) a b ∙ append_assoc front (line ++ 10 ∷ []) (a ++ b) ∙ ap (λ (x : List ℕ). front ++ x) (append_assoc line (10 ∷ []) (a ++ b))
 
 -- all bytes were taken, and this is found in them
 

@@ -1,4 +1,5 @@
 use Rattle.std.proofs.Common.{List, ℕ, Err, ap, ◌∙◌, subst}
+use Rattle.run_io.specs.Causes.{Rose}
 use Rattle.std.proofs.lemmas.Result.{err_from_is_err_and}
 use Rattle.capture_runner.specs.Checking.{IsFound, SeesBadOr}
 use Rattle.capture_runner.proofs.CheckEnds.{caused_stopped, ends_failed, ends_found, ends_full, ends_stopped, lacks_memory, said_found, said_stopped}
@@ -17,7 +18,8 @@ pub returns-in-Full-clause-checks : goal.returns-in-Full-clause-checks
 returns-in-Full-clause-checks g c =
     let t = c.in_ok-taken.ensures.takes in
     let cause = rw c.in-Full.is at t.cause in
-    ends_stopped _ _ _ _ t.consumed _ _ t.within (ends_full _ _ _ _ t.consumed cause)
+    let failed = Rose (g.S.Source.faults c.args.source.now) (g.S.Source.faults c.take_all.new.source) in
+    ends_stopped failed _ _ _ t.consumed _ _ t.within (ends_full failed _ _ _ t.consumed cause)
     (subst (λ (b : List ℕ). SeesBadOr b _ c.find_bad.result) c.as_slice-bytes.ensures.value c.find_bad.ensures)
 
 pub returns-in-Full-clause-said : goal.returns-in-Full-clause-said
