@@ -1,9 +1,10 @@
 -- A whole scenario is read, line by line.
-use Rattle.std.proofs.Common.{◌≡◌, ℕ, ◌+◌, ◌-◌, ◌<◌, ◌≤◌, ◌⊎◌, inl, inr, Bool, true, ◌&&◌, if◌then◌else◌, List, [], ◌∷◌, ◌++◌, length, drop, Option, None, Some, Result, Ok, Err, refl, sym, ◌∙◌, ap, subst, arith, append_assoc, length-append, nat_lt}
-use Rattle.std.specs.Prelude.{IfSome}
+use Rattle.std.proofs.Common.{◌≡◌, ℕ, ◌+◌, ◌-◌, ◌<◌, ◌≤◌, ◌⊎◌, inl, inr, Bool, true, ◌&&◌, if◌then◌else◌, List, [], ◌∷◌, ◌++◌, length, drop, take, Option, None, Some, Result, Ok, Err, Vec, refl, sym, ◌∙◌, ap, subst, arith, append_assoc, length-append, length-drop, length-take-le, nat_lt}
+use Rattle.std.specs.Prelude.{IfOk, IfSome}
+use Rattle.std.specs.declared.alloc.Global.{Global}
 use Rattle.std.specs.List.{list_all}
 use Rattle.std.proofs.Math.Seq.{drop-append_seam}
-use Rattle.std.proofs.lemmas.List.{append-nil}
+use Rattle.std.proofs.lemmas.List.{append-nil, take-append-drop, take_all}
 use Rattle.std.proofs.lemmas.List.Folds.{list_all-append}
 use Rattle.br_model.specs.declared.scenario.LineWhy.{LineWhy}
 use Rattle.br_model.specs.declared.scenario.LineWhy.TheVariants.{Long, Unended}
@@ -23,10 +24,11 @@ use Rattle.scenario_reader.specs.declared.reader.Captured.{Captured as Gave}
 use Rattle.scenario_reader.specs.declared.reader.Captured.TheVariants as sections
 use Rattle.scenario_reader.specs.declared.reader.Last.{Last}
 use Rattle.scenario_reader.specs.declared.reader.Last.TheVariants as lasts
+use Rattle.scenario_reader.specs.declared.reader.Next.{Next}
+use Rattle.scenario_reader.specs.declared.reader.Next.TheVariants as nexts
 use Rattle.scenario_reader.specs.declared.whole.End.{End}
-use Rattle.scenario_reader.specs.declared.whole.Went.{Went}
-use Rattle.scenario_reader.specs.Passing.{AreSound, AtSection, EndWith, Finishes, GoesOn, Goes, IsLeft, Stands, left_by}
-use Rattle.scenario_reader.specs.Reading.{EndsBy, Follows, IsBehindDeclarations, IsCaptured, KeepsSetup, ReaderState, captures, ending_of}
+use Rattle.scenario_reader.specs.Passing.{AreSound, AtSection, EndWith, Finishes, GoesOn, Stands, left_by}
+use Rattle.scenario_reader.specs.Reading.{EndsBy, Follows, IsBehindDeclarations, IsCaptured, KeepsSetup, ReaderState, Takes, Took, captures, ending_of}
 use Rattle.scenario_reader.specs.Section.{ComeByLine}
 use Rattle.scenario_reader.specs.Whole.{SaysWhole, WholeState, ending_or_going}
 
@@ -202,6 +204,38 @@ module _ (check : Bool) (s : Scenario) (line behind : List ℕ) (x : ReaderState
   pub at_section : (new : ReaderState) (n : ℕ) → whole_says s.roster line ≡ Ok (Captures n) → Follows (captures s n) new → AtSection check s line n new steps
   at_section new n says follows = record { feedless = feed; says = says; follows = follows; going = going; all_steps = h.all_steps; sound = h.sound }
 
+  -- what a reader says of it
+
+  module _ (y : ReaderState) (next : Next) (takes_it : Takes x line y next) where
+    took : (n : Next) → next ≡ n → Took s line y n
+    took n is = subst (λ (m : Next). Took s line y m) is (takes_it s h.follows)
+
+    pub goes_quietly : next ≡ nexts.Line → GoesOn check s (line ++ 10 ∷ behind) y steps behind
+    goes_quietly is = let t = took nexts.Line is in quietly y t.0 t.1 t.2 t.3 t.4 t.5
+
+    pub goes_by_step : (step : Step) (all : List Step) → next ≡ nexts.Step step → all ≡ steps ++ step ∷ [] → GoesOn check s (line ++ 10 ∷ behind) y all behind
+    goes_by_step step all is same =
+        let t = took (nexts.Step step) is in
+        subst (λ (l : List Step). GoesOn check s (line ++ 10 ∷ behind) y l behind) (sym same) (stepped y step t.0 t.1 t.2)
+
+    pub to_section : (n : ℕ) → next ≡ nexts.Section n → AtSection check s line n y steps
+    to_section n is = let t = took (nexts.Section n) is in at_section y n t.0 t.2
+
+    pub ends_line : (last : Last) (end : End) → next ≡ nexts.End last → end.last ≡ Some last → end.close ≡ last → end.left ≡ left_by last (length behind)
+        → Finishes check (line ++ 10 ∷ behind) (read 0 s (line ++ 10 ∷ behind)) y steps end
+    ends_line last end is told close left = let t = took (nexts.End last) is in last_one last y end t.0 t.1 told close left
+
+-- no section is longer than may be
+pub section_short : (x y : ReaderState) (line : List ℕ) (n : ℕ) (next : Next) → Takes x line y next → next ≡ nexts.Section n → n ≤ longest_section
+section_short x y line n next takes_it is =
+    let s : Scenario = record { lines = x.lines; roster = x.roster; steps = []; ending = Going } in
+    let t : Took s line y (nexts.Section n) = subst (λ (m : Next). Took s line y m) is (takes_it s (record { lines = refl; roster = refl; going = refl })) in
+    t.1
+
+pub if_ok : {T E : Type 0} (r : Result T E) (P Q : T → Type 0) → ((x : T) → P x → Q x) → IfOk r P → IfOk r Q
+if_ok (Ok x) P Q f h = f x h
+if_ok (Err e) P Q f h = h
+
 -- the last line, without its line feed
 module _ (check : Bool) (s : Scenario) (rest : List ℕ) (x : ReaderState) (steps : List Step) (h : Stands check s x steps) (feed : is_line rest ≡ true) (end : End) where
   its_sound : AreSound check x.roster steps
@@ -275,7 +309,31 @@ module _ (check : Bool) (s : Scenario) (line : List ℕ) (n : ℕ) (x : ReaderSt
         let number : lasts.Bad x.lines why ≡ lasts.Bad (s.lines + 1) why = ap (λ k. lasts.Bad k why) h.follows.lines in
         ends_badly check s (line ++ 10 ∷ (section ++ more)) x steps sound_there end why [] h.all_steps (reads_it (Err why) gives ∙ read_ended (bad s why) more refl) (told ∙ ap Some number) (close ∙ number) left
 
+  module _ (behind : List ℕ) (within : n ≤ length behind) (gave : Gave) (captures_it : IsCaptured x (take n behind) gave) where
+    cut : take n behind ++ drop n behind ≡ behind
+    cut = take-append-drop n behind
+
+    pub goes_by_section : (its : Vec Step Global) (all : List Step) → gave ≡ sections.Steps its → all ≡ steps ++ its.items
+        → GoesOn check s (line ++ 10 ∷ behind) x all (take (length behind - n) (drop n behind))
+    goes_by_section its all is same =
+        let got : IsCaptured x (take n behind) (sections.Steps its) = subst (λ (c : Gave). IsCaptured x (take n behind) c) is captures_it in
+        let first : GoesOn check s (line ++ 10 ∷ (take n behind ++ drop n behind)) x (steps ++ its.items) (drop n behind) =
+        section_taken (take n behind) (drop n behind) (length-take-le n behind within) its.items got.0 got.1 in
+        let rest : take (length behind - n) (drop n behind) ≡ drop n behind = take_all _ _ (omega (arith, length-drop n behind)) in
+        subst (λ (l : List ℕ). GoesOn check s (line ++ 10 ∷ behind) x all l) (sym rest)
+        (subst (λ (l : List Step). GoesOn check s (line ++ 10 ∷ behind) x l (drop n behind)) (sym same) (subst (λ (l : List ℕ). GoesOn check s (line ++ 10 ∷ l) x (steps ++ its.items) (drop n behind)) cut first))
+
+    pub ends_in_section : (last : Last) (end : End) → gave ≡ sections.End last → end.last ≡ Some last → end.close ≡ last → end.left ≡ left_by last 0
+        → Finishes check (line ++ 10 ∷ behind) (read 0 s (line ++ 10 ∷ behind)) x steps end
+    ends_in_section last end is told close left =
+        let got : IsCaptured x (take n behind) (sections.End last) = subst (λ (c : Gave). IsCaptured x (take n behind) c) is captures_it in
+        subst (λ (l : List ℕ). Finishes check (line ++ 10 ∷ l) (read 0 s (line ++ 10 ∷ l)) x steps end) cut
+        (section_broken (take n behind) (drop n behind) (length-take-le n behind within) got.0 end got.1 (told ∙ ap Some got.2) (close ∙ got.2) (left ∙ ap (λ (l : Last). left_by l 0) got.2))
+
 -- one line after another
+
+pub stays_at : (check : Bool) (s : Scenario) (bytes : List ℕ) (x : ReaderState) (steps : List Step) → Stands check s x steps → GoesOn check s bytes x steps bytes
+stays_at check s bytes x steps h = record { scenario = s; reads = refl; stands = h; part = ([], refl) }
 
 then_part : (bytes rest later : List ℕ) → EndWith bytes rest → EndWith rest later → EndWith bytes later
 then_part bytes rest later h k = (h.0 ++ k.0, h.1 ∙ ap (λ (l : List ℕ). h.0 ++ l) k.1 ∙ sym (append_assoc h.0 k.0 later))
@@ -301,10 +359,28 @@ goes_to_end check s bytes x y steps more rest end h k =
       sound = all.sound;
     }
 
+-- by the first line of what is left
+pub line_on : (check : Bool) (s : Scenario) (bytes : List ℕ) (x y : ReaderState) (steps more : List Step) (rest line behind later : List ℕ) → GoesOn check s bytes x steps rest → rest ≡ line ++ 10 ∷ behind
+    → ((t : Scenario) → Stands check t x steps → GoesOn check t (line ++ 10 ∷ behind) y more later) → GoesOn check s bytes y more later
+line_on check s bytes x y steps more rest line behind later h joined k =
+    goes_on check s bytes x y steps more rest later h (subst (λ (b : List ℕ). GoesOn check h.scenario b y more later) (sym joined) (k h.scenario h.stands))
+
+pub line_ends : (check : Bool) (s : Scenario) (bytes : List ℕ) (x y : ReaderState) (steps more : List Step) (rest line behind : List ℕ) (end : End) → GoesOn check s bytes x steps rest → rest ≡ line ++ 10 ∷ behind
+    → ((t : Scenario) → Stands check t x steps → Finishes check (line ++ 10 ∷ behind) (read 0 t (line ++ 10 ∷ behind)) y more end) → Finishes check bytes (read 0 s bytes) y more end
+line_ends check s bytes x y steps more rest line behind end h joined k =
+    goes_to_end check s bytes x y steps more rest end h (subst (λ (b : List ℕ). Finishes check b (read 0 h.scenario b) y more end) (sym joined) (k h.scenario h.stands))
+
 -- the whole
 
-pub begins : (check : Bool) → Stands check (opened check) (record { lines = 0; roster = first_roster check }) []
-begins its_check = record { follows = record { lines = refl; roster = refl; going = refl }; all_steps = refl; sound = record { its_check = refl; by_line = refl; declared = inl refl } }
+first : (check : Bool) → Stands check (opened check) (record { lines = 0; roster = first_roster check }) []
+first check = record { follows = record { lines = refl; roster = refl; going = refl }; all_steps = refl; sound = record { its_check = refl; by_line = refl; declared = inl refl } }
+
+pub begins : (check : Bool) (x : ReaderState) (steps : List Step) → x ≡ record { lines = 0; roster = first_roster check } → steps ≡ [] → Stands check (opened check) x steps
+begins check x steps is none =
+    subst (λ (y : ReaderState). Stands check (opened check) y steps) (sym is) (subst (λ (l : List Step). Stands check (opened check) (record { lines = 0; roster = first_roster check }) l) (sym none) (first check))
+
+pub left_within : (check : Bool) (bytes : List ℕ) (p : Progress) (x : ReaderState) (steps : List Step) (end : End) → Finishes check bytes p x steps end → end.left ≤ length bytes
+left_within check bytes p x steps end h = omega (arith, h.left, ap length h.part.1, length-append h.part.0 p.behind)
 
 dropped : (bytes past behind : List ℕ) (n : ℕ) → bytes ≡ past ++ behind → n ≡ length behind → drop (length bytes - n) bytes ≡ behind
 dropped bytes past behind n joined is =
