@@ -1,7 +1,9 @@
+pub mod CheckEnds
 pub mod Counting
 pub mod Cutting
 pub mod Deciding
 pub mod Doing
+pub mod Finding
 pub mod Following
 pub mod Generating
 pub mod Monitoring
@@ -11,6 +13,7 @@ pub mod Reaching
 pub mod Ready
 pub mod Sections
 pub mod Speaking
+pub mod StaysBad
 pub mod Steps
 pub mod Telling
 pub mod Worlds

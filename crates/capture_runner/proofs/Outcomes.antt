@@ -9,6 +9,7 @@ use Rattle.br_model.specs.declared.listing.Listing.{Listing}
 use Rattle.br_model.specs.declared.change.Change.{Change}
 use Rattle.br_model.specs.Table.Limits.{most_bytes}
 use Rattle.br_model.specs.Program.Listings.{listed, listed_at, listing_text}
+use Rattle.br_model.specs.Program.Checks.{HasChecked}
 use Rattle.br_model.specs.Program.Generator.{made}
 use Rattle.br_model.specs.Program.Outcomes.{Call, Answers, HasScenario, Read, ReadsBehind, Wrote}
 use Rattle.br_model.specs.Program.Summary.{summary}
@@ -18,7 +19,7 @@ use Rattle.br_model.specs.Text.Roster.{Entry}
 use Rattle.br_model.specs.Program.Runs.{body, body_parts, told, told_of, run_of, setup_of}
 use Rattle.br_model.specs.Text.Scenario.{Scenario, Ending, Going, Ended, Bad, scenario}
 use Rattle.br_model.specs.Table.Table.{table}
-use Rattle.br_model.proofs.Completing.{never_bad, never_full}
+use Rattle.br_model.proofs.Completing.{never_bad, never_filled, never_found_bad, never_full}
 use Rattle.br_model.proofs.Running.{run_none}
 use Rattle.capture_runner.specs.declared.asked.Asked.{Asked}
 use Rattle.capture_runner.specs.declared.asked.Asked.TheVariants as asks
@@ -32,7 +33,7 @@ use Rattle.capture_runner.specs.declared.status.Status.{Status}
 use Rattle.capture_runner.specs.declared.status.Status.TheVariants as statuses
 use Rattle.capture_runner.specs.Advancing.{Caused as StopsBy}
 use Rattle.capture_runner.specs.Halting.{Answered, Breaks, Grows, Halted, Halts, IsBehind, Plays, Told, Written, Yields}
-use Rattle.capture_runner.specs.Outcome.{Asks, Caused, EndsWell, OrBreaksOff, Outcome, Reads, Refuses, Replays, Whole, WholeRefuses, WholeWrites, Writes, call_of, first_line, last_line, no_parts, nothing}
+use Rattle.capture_runner.specs.Outcome.{Asks, Caused, Checks, EndsWell, OrBreaksOff, Outcome, Reads, Refuses, Replays, Whole, WholeChecks, WholeRefuses, WholeWrites, Writes, call_of, first_line, last_line, no_parts, nothing}
 use Rattle.capture_runner.specs.Playing.{Below, Filled}
 use Rattle.capture_runner.specs.Session as session
 use Rattle.capture_runner.specs.Stopping as stopping
@@ -78,9 +79,10 @@ module _ (W : Status → Call → Type 0) (left left_now before now : Option (Li
         );
       }
 
-  by_status : (r : Status) → (Went r → r ≡ s) → (Went r → Appends before now output) → Broke r before now output → OrBreaksOff W r (call_of left left_now before now)
+  pub by_status : (r : Status) → (Went r → r ≡ s) → (Went r → Appends before now output) → Broke r before now output → OrBreaksOff W r (call_of left left_now before now)
   by_status statuses.WriteFault is a b = broke (b refl)
   by_status statuses.Ok is a b = went statuses.Ok (λ e. absurd (cc)) is a
+  by_status statuses.No is a b = went statuses.No (λ e. absurd (cc)) is a
   by_status statuses.Usage is a b = went statuses.Usage (λ e. absurd (cc)) is a
   by_status statuses.BadLine is a b = went statuses.BadLine (λ e. absurd (cc)) is a
   by_status statuses.ReadFault is a b = went statuses.ReadFault (λ e. absurd (cc)) is a
@@ -216,6 +218,7 @@ module _ (failed : Type 0) (answer opening : List ℕ → List ℕ) (parts : ℕ
 
   whole_seen : (r : Status) (c : Call) → Whole failed answer opening parts r c → Seen c
   whole_seen statuses.Ok c h = (h.0.input, h.0.read, _, h.0.wrote)
+  whole_seen statuses.No c h = absurd h
   whole_seen statuses.Usage c h = absurd h
   whole_seen statuses.BadLine c h = (h.0.2.input, h.0.2.read, _, h.0.2.wrote)
   whole_seen statuses.ReadFault c h = (h.1.stops.input, h.1.stops.read, _, h.1.stops.wrote)
@@ -225,6 +228,7 @@ module _ (failed : Type 0) (answer opening : List ℕ → List ℕ) (parts : ℕ
 
   seen : (r : Status) (c : Call) → Reads failed answer opening parts r c → Seen c
   seen statuses.Ok c h = whole_seen statuses.Ok c h
+  seen statuses.No c h = absurd h
   seen statuses.Usage c h = absurd h
   seen statuses.BadLine c h = whole_seen statuses.BadLine c h
   seen statuses.ReadFault c h = whole_seen statuses.ReadFault c h
@@ -236,6 +240,7 @@ module _ (failed : Type 0) (answer opening : List ℕ → List ℕ) (parts : ℕ
 grew : (mid now : Option (List ℕ)) (text : List ℕ) (r : Status) → (Went r → Appends mid now text) → Broke r mid now text → Grows mid now
 grew mid now text statuses.WriteFault a b = let c = b refl in (take c.0 text, c.2)
 grew mid now text statuses.Ok a b = (text, a (λ e. absurd (cc)))
+grew mid now text statuses.No a b = (text, a (λ e. absurd (cc)))
 grew mid now text statuses.Usage a b = (text, a (λ e. absurd (cc)))
 grew mid now text statuses.BadLine a b = (text, a (λ e. absurd (cc)))
 grew mid now text statuses.ReadFault a b = (text, a (λ e. absurd (cc)))
@@ -381,9 +386,15 @@ module _ (before now : Option (List ℕ)) (r : Status) (left : Option (List ℕ)
     reads_nothing : (failed : Type 0) (answer : List ℕ → List ℕ) → Reads failed answer nothing no_parts r unread
     reads_nothing failed answer = lacks failed left left before now r answer nothing no_parts [] 0 (Consumes-nil left) s a b
 
+    checks_nothing : (failed : Type 0) → Checks failed r unread
+    checks_nothing failed =
+        by_status (WholeChecks failed) left left before now (last_line (codes "no memory")) statuses.NoMemory
+        (λ after a. record { input = []; read = Consumes-nil left; count = 0; wrote = a }) r s a b
+
     pub lacks_at_first : (failed : Type 0) (a : Option Asked) → Outcome failed a r unread
     lacks_at_first failed None = refuses_nothing
     lacks_at_first failed (Some asks.Replay) = replays_nothing failed
+    lacks_at_first failed (Some asks.Check) = checks_nothing failed
     lacks_at_first failed (Some (asks.Show listing)) = reads_nothing failed (listed listing)
     lacks_at_first failed (Some asks.Monitor) = reads_nothing failed monitored
     lacks_at_first failed (Some (asks.Gen number count)) = writes_nothing (made number count) s a b
@@ -409,34 +420,48 @@ writes_front before now output missing left w some = record {
 -- completeness
 
 module _ (failed : Type 0) (c : Call) (reads reads_now writes writes_now : ℕ) (read_well : Rose reads reads_now → ⊥) (wrote_well : Rose writes writes_now → ⊥) where
-  reading : (answer opening : List ℕ → List ℕ) (parts : ℕ → List ℕ → List ℕ) (r : Status) → HasScenario most_bytes c → Reads failed answer opening parts r c → Caused r reads reads_now writes writes_now → EndsWell r
-  reading answer opening parts statuses.Ok has o cause = tt
-  reading answer opening parts statuses.Usage has o cause = o
-  reading answer opening parts statuses.BadLine has o cause = never_bad answer c most_bytes has o.0
-  reading answer opening parts statuses.ReadFault has o cause = read_well cause
-  reading answer opening parts statuses.WriteFault has o cause = wrote_well cause
-  reading answer opening parts statuses.NoMemory has o cause = tt
-  reading answer opening parts statuses.TooLong has o cause = never_full most_bytes opening c (last_line (codes "too long")) has o
+  reading : (a : Option Asked) (answer opening : List ℕ → List ℕ) (parts : ℕ → List ℕ → List ℕ) (r : Status) → HasScenario most_bytes c → Reads failed answer opening parts r c → Caused r reads reads_now writes writes_now → EndsWell a r
+  reading a answer opening parts statuses.Ok has o cause = tt
+  reading a answer opening parts statuses.No has o cause = absurd o
+  reading a answer opening parts statuses.Usage has o cause = o
+  reading a answer opening parts statuses.BadLine has o cause = never_bad answer c most_bytes has o.0
+  reading a answer opening parts statuses.ReadFault has o cause = read_well cause
+  reading a answer opening parts statuses.WriteFault has o cause = wrote_well cause
+  reading a answer opening parts statuses.NoMemory has o cause = tt
+  reading a answer opening parts statuses.TooLong has o cause = never_full most_bytes opening c (last_line (codes "too long")) has o
 
-  writing : (output : List ℕ) (r : Status) → Writes output r c → Caused r reads reads_now writes writes_now → EndsWell r
-  writing output statuses.Ok o cause = tt
-  writing output statuses.Usage o cause = o
-  writing output statuses.BadLine o cause = o
-  writing output statuses.ReadFault o cause = o
-  writing output statuses.WriteFault o cause = wrote_well cause
-  writing output statuses.NoMemory o cause = tt
-  writing output statuses.TooLong o cause = o
+  checking : (r : Status) → HasChecked most_bytes c → Checks failed r c → Caused r reads reads_now writes writes_now → EndsWell (Some asks.Check) r
+  checking statuses.Ok has o cause = tt
+  checking statuses.No has o cause = tt
+  checking statuses.Usage has o cause = o
+  checking statuses.BadLine has o cause = never_found_bad most_bytes c has o
+  checking statuses.ReadFault has o cause = read_well cause
+  checking statuses.WriteFault has o cause = wrote_well cause
+  checking statuses.NoMemory has o cause = tt
+  checking statuses.TooLong has o cause = never_filled most_bytes nothing c (last_line (codes "too long")) has o
 
-  completes : (a : Option Asked) (r : Status) → Outcome failed a r c → Caused r reads reads_now writes writes_now → Asks a c → EndsWell r
+  writing : (a : Option Asked) (output : List ℕ) (r : Status) → Writes output r c → Caused r reads reads_now writes writes_now → EndsWell a r
+  writing a output statuses.Ok o cause = tt
+  writing a output statuses.No o cause = absurd o
+  writing a output statuses.Usage o cause = o
+  writing a output statuses.BadLine o cause = o
+  writing a output statuses.ReadFault o cause = o
+  writing a output statuses.WriteFault o cause = wrote_well cause
+  writing a output statuses.NoMemory o cause = tt
+  writing a output statuses.TooLong o cause = o
+
+  completes : (a : Option Asked) (r : Status) → Outcome failed a r c → Caused r reads reads_now writes writes_now → Asks a c → EndsWell a r
   completes None r o cause has = absurd has
-  completes (Some asks.Replay) r o cause has = reading told body body_parts r has o.0 cause
-  completes (Some (asks.Show listing)) r o cause has = reading (listed listing) nothing no_parts r has o cause
-  completes (Some asks.Monitor) r o cause has = reading monitored nothing no_parts r has o cause
-  completes (Some (asks.Gen number count)) r o cause has = writing (made number count) r o cause
-  completes (Some (asks.Demo number count)) r o cause has = writing (summary number count) r o cause
+  completes (Some asks.Replay) r o cause has = reading (Some asks.Replay) told body body_parts r has o.0 cause
+  completes (Some asks.Check) r o cause has = checking r has o cause
+  completes (Some (asks.Show listing)) r o cause has = reading (Some (asks.Show listing)) (listed listing) nothing no_parts r has o cause
+  completes (Some asks.Monitor) r o cause has = reading (Some asks.Monitor) monitored nothing no_parts r has o cause
+  completes (Some (asks.Gen number count)) r o cause has = writing (Some (asks.Gen number count)) (made number count) r o cause
+  completes (Some (asks.Demo number count)) r o cause has = writing (Some (asks.Demo number count)) (summary number count) r o cause
 
-  pub completes_by : (a b : Option Asked) (r : Status) → a ≡ b → Outcome failed b r c → Caused r reads reads_now writes writes_now → Asks a c → EndsWell r
-  completes_by a b r is o cause has = completes b r o cause (subst (λ (b : Option Asked). Asks b c) is has)
+  pub completes_by : (a b : Option Asked) (r : Status) → a ≡ b → Outcome failed b r c → Caused r reads reads_now writes writes_now → Asks a c → EndsWell a r
+  completes_by a b r is o cause has =
+      subst (λ (x : Option Asked). EndsWell x r) (sym is) (completes b r o cause (subst (λ (b : Option Asked). Asks b c) is has))
 
 -- when faults come
 
@@ -444,6 +469,7 @@ pub caused : (s r : Status) (reads reads_now writes writes_now : ℕ) → (Went 
     → Caused r reads reads_now writes writes_now
 caused s statuses.WriteFault reads reads_now writes writes_now h w c = w refl
 caused s statuses.Ok reads reads_now writes writes_now h w c = tt
+caused s statuses.No reads reads_now writes writes_now h w c = tt
 caused s statuses.Usage reads reads_now writes writes_now h w c = tt
 caused s statuses.BadLine reads reads_now writes writes_now h w c = tt
 caused s statuses.ReadFault reads reads_now writes writes_now h w c =

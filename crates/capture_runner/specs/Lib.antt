@@ -1,4 +1,5 @@
 pub mod Advancing
+pub mod Checking
 pub mod Counting
 pub mod Generating
 pub mod Halting

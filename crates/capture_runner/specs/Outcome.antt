@@ -4,6 +4,7 @@ use Rattle.std.specs.Prelude.{ℕ, List, [], ◌∷◌, ◌++◌, codes}
 use Rattle.std.specs.declared.option.Option.{Option}
 use Rattle.std.specs.declared.option.Option.TheVariants.{None, Some}
 use Rattle.run_io.specs.Causes.{Rose}
+use Rattle.br_model.specs.Program.Checks.{Finds, FindsBad, FindsSome, HasChecked, ReadsOn}
 use Rattle.br_model.specs.Program.Generator.{made}
 use Rattle.br_model.specs.Program.Listings.{listed}
 use Rattle.br_model.specs.Program.Outcomes.{Call, Makes, Answers, AnswersBad, BreaksOff, GoesOn, HasScenario, IsNotTooLong, Lacks, ReadsBehind, StopsBelow, StopsFull}
@@ -13,13 +14,14 @@ use Rattle.br_model.specs.Text.Scenario.{Ended}
 use Rattle.br_model.specs.Program.Summary.{summary}
 use Rattle.neigh_netlink.specs.Monitor.{monitored}
 use Rattle.capture_runner.specs.declared.asked.Asked.{Asked}
-use Rattle.capture_runner.specs.declared.asked.Asked.TheVariants.{Replay, Show, Monitor, Gen, Demo}
+use Rattle.capture_runner.specs.declared.asked.Asked.TheVariants.{Replay, Check, Show, Monitor, Gen, Demo}
 use Rattle.capture_runner.specs.declared.status.Status.{Status}
 use Rattle.capture_runner.specs.declared.status.Status.TheVariants as statuses
 
 -- the number with which the program ends
 abbrev pub status_code : Status → ℕ
 status_code statuses.Ok = 0
+status_code statuses.No = 1
 status_code statuses.Usage = 2
 status_code statuses.BadLine = 3
 status_code statuses.ReadFault = 4
@@ -39,6 +41,7 @@ call_of left_before left_now taken_before taken_now =
 -- Each status says what `Whole` says of it, but that of a failed write: then the output breaks off on its way to another one.
 abbrev pub OrBreaksOff : (Status → Call → Type 0) → Status → Call → Type 0
 OrBreaksOff Whole statuses.Ok call = Whole statuses.Ok call
+OrBreaksOff Whole statuses.No call = Whole statuses.No call
 OrBreaksOff Whole statuses.Usage call = Whole statuses.Usage call
 OrBreaksOff Whole statuses.BadLine call = Whole statuses.BadLine call
 OrBreaksOff Whole statuses.ReadFault call = Whole statuses.ReadFault call
@@ -51,6 +54,7 @@ OrBreaksOff Whole statuses.TooLong call = Whole statuses.TooLong call
 -- read has failed only where `failed` holds.
 abbrev pub Whole : Type 0 → (List ℕ → List ℕ) → (List ℕ → List ℕ) → (ℕ → List ℕ → List ℕ) → Status → Call → Type 0
 Whole failed answer before parts statuses.Ok call = Answers answer call Ended × IsNotTooLong most_bytes call
+Whole failed answer before parts statuses.No call = ⊥
 Whole failed answer before parts statuses.Usage call = ⊥
 Whole failed answer before parts statuses.BadLine call = AnswersBad answer call × IsNotTooLong most_bytes call
 Whole failed answer before parts statuses.ReadFault call = failed × StopsBelow most_bytes GoesOn before call (last_line (codes "read fault"))
@@ -65,6 +69,7 @@ Reads failed answer before parts = OrBreaksOff (Whole failed answer before parts
 -- What a command does that reads nothing: this is what it writes;
 abbrev pub WholeWrites : List ℕ → Status → Call → Type 0
 WholeWrites output statuses.Ok call = Makes call output
+WholeWrites output statuses.No call = ⊥
 WholeWrites output statuses.Usage call = ⊥
 WholeWrites output statuses.BadLine call = ⊥
 WholeWrites output statuses.ReadFault call = ⊥
@@ -79,6 +84,7 @@ Writes output = OrBreaksOff (WholeWrites output)
 -- what other words are answered;
 abbrev pub WholeRefuses : Status → Call → Type 0
 WholeRefuses statuses.Ok call = ⊥
+WholeRefuses statuses.No call = ⊥
 WholeRefuses statuses.Usage call = Makes call (last_line (codes "usage"))
 WholeRefuses statuses.BadLine call = ⊥
 WholeRefuses statuses.ReadFault call = ⊥
@@ -106,10 +112,26 @@ first_line = last_line (codes "transcript 1")
 abbrev pub Replays : Type 0 → Status → Call → Type 0
 Replays failed status call = Reads failed told body body_parts status call × ReadsBehind first_line call
 
+-- What a check does, where no write fails: it finds no difference, or one, or a bad line. A read has failed only where `failed` holds.
+abbrev pub WholeChecks : Type 0 → Status → Call → Type 0
+WholeChecks failed statuses.Ok call = Finds most_bytes call None
+WholeChecks failed statuses.No call = FindsSome most_bytes call
+WholeChecks failed statuses.Usage call = ⊥
+WholeChecks failed statuses.BadLine call = FindsBad most_bytes call
+WholeChecks failed statuses.ReadFault call = failed × StopsBelow most_bytes ReadsOn nothing call (last_line (codes "read fault"))
+WholeChecks failed statuses.WriteFault call = ⊥
+WholeChecks failed statuses.NoMemory call = Lacks no_parts call (last_line (codes "no memory"))
+WholeChecks failed statuses.TooLong call = StopsFull most_bytes ReadsOn nothing call (last_line (codes "too long"))
+
+-- what it does, a front of that where a write fails
+abbrev pub Checks : Type 0 → Status → Call → Type 0
+Checks failed = OrBreaksOff (WholeChecks failed)
+
 -- What the run read and wrote, by what the words ask for and by its status. A read has failed only where `failed` holds.
 abbrev pub Outcome : Type 0 → Option Asked → Status → Call → Type 0
 Outcome failed None = Refuses
 Outcome failed (Some Replay) = Replays failed
+Outcome failed (Some Check) = Checks failed
 Outcome failed (Some (Show listing)) = Reads failed (listed listing) nothing no_parts
 Outcome failed (Some Monitor) = Reads failed monitored nothing no_parts
 Outcome failed (Some (Gen number count)) = Writes (made number count)
@@ -118,6 +140,7 @@ Outcome failed (Some (Demo number count)) = Writes (summary number count)
 -- a fault only where its count rose
 abbrev pub Caused : Status → ℕ → ℕ → ℕ → ℕ → Type 0
 Caused statuses.Ok reads reads_now writes writes_now = Unit {0}
+Caused statuses.No reads reads_now writes writes_now = Unit {0}
 Caused statuses.Usage reads reads_now writes writes_now = Unit {0}
 Caused statuses.BadLine reads reads_now writes writes_now = Unit {0}
 Caused statuses.ReadFault reads reads_now writes writes_now = Rose reads reads_now
@@ -129,17 +152,29 @@ Caused statuses.TooLong reads reads_now writes writes_now = Unit {0}
 abbrev pub Asks : Option Asked → Call → Type 0
 Asks None call = ⊥
 Asks (Some Replay) call = HasScenario most_bytes call
+Asks (Some Check) call = HasChecked most_bytes call
 Asks (Some (Show listing)) call = HasScenario most_bytes call
 Asks (Some Monitor) call = HasScenario most_bytes call
 Asks (Some (Gen number count)) call = Unit {0}
 Asks (Some (Demo number count)) call = Unit {0}
 
--- then the run succeeds, or lacks memory.
-abbrev pub EndsWell : Status → Type 0
-EndsWell statuses.Ok = Unit {0}
-EndsWell statuses.Usage = ⊥
-EndsWell statuses.BadLine = ⊥
-EndsWell statuses.ReadFault = ⊥
-EndsWell statuses.WriteFault = ⊥
-EndsWell statuses.NoMemory = Unit {0}
-EndsWell statuses.TooLong = ⊥
+-- which words ask for an answer that may be no
+abbrev pub MaySayNo : Option Asked → Type 0
+MaySayNo None = ⊥
+MaySayNo (Some Replay) = ⊥
+MaySayNo (Some Check) = Unit {0}
+MaySayNo (Some (Show listing)) = ⊥
+MaySayNo (Some Monitor) = ⊥
+MaySayNo (Some (Gen number count)) = ⊥
+MaySayNo (Some (Demo number count)) = ⊥
+
+-- then the run succeeds, or lacks memory. A check may say no.
+abbrev pub EndsWell : Option Asked → Status → Type 0
+EndsWell asked statuses.Ok = Unit {0}
+EndsWell asked statuses.No = MaySayNo asked
+EndsWell asked statuses.Usage = ⊥
+EndsWell asked statuses.BadLine = ⊥
+EndsWell asked statuses.ReadFault = ⊥
+EndsWell asked statuses.WriteFault = ⊥
+EndsWell asked statuses.NoMemory = Unit {0}
+EndsWell asked statuses.TooLong = ⊥

@@ -13,7 +13,7 @@ use Rattle.br_model.specs.Text.Words.{Word}
 use Rattle.clap.specs.Words.{App, Kinds, Row, Rule, first_of, fault_of, new_app, new_rule, subcommand_of, with_rule, with_subcommand}
 use Rattle.clap.specs.Simple.{on_top}
 use Rattle.capture_runner.specs.declared.asked.Asked.{Asked}
-use Rattle.capture_runner.specs.declared.asked.Asked.TheVariants.{Replay, Show, Monitor, Gen, Demo}
+use Rattle.capture_runner.specs.declared.asked.Asked.TheVariants.{Replay, Check, Show, Monitor, Gen, Demo}
 
 -- what an operand's word spells
 
@@ -68,6 +68,7 @@ form word operands asks = record { word = word; operands = operands; asks = asks
 abbrev pub forms : List Form
 forms =
     form (codes "replay") [] (λ rows. Some Replay) ∷
+    form (codes "check") [] (λ rows. Some Check) ∷
     form (codes "show") table (λ rows. option_map Show (table_of rows)) ∷
     form (codes "monitor") [] (λ rows. Some Monitor) ∷
     form (codes "gen") number_count (λ rows. option_map (λ p. Gen p.0 p.1) (number_count_of rows)) ∷
@@ -104,6 +105,7 @@ asked words = unless_fault (fault_of command words) (option_and_then asked_with 
 -- it asks for no more frames than are generated
 abbrev pub IsWithin : Asked → Type 0
 IsWithin Replay = ⊤
+IsWithin Check = ⊤
 IsWithin (Show _) = ⊤
 IsWithin Monitor = ⊤
 IsWithin (Gen number count) = count ≤ most_frames

@@ -6,6 +6,8 @@ use br_model::listing::Listing;
 pub enum Asked {
     /// To run the scenario of the input, and write its transcript.
     Replay,
+    /// To compare the transcript behind the scenario of the input with what is told of it.
+    Check,
     /// To run the scenario of the input, and write a table at its end.
     Show(Listing),
     /// To run the scenario of the input, and write the messages of its address changes.

@@ -5,6 +5,7 @@ ghost use Rattle.capture_runner.specs.Outcome.{Asks, Caused, EndsWell, Outcome, 
 ghost use Rattle.capture_runner.specs.Words.{asked};
 
 use crate::asked::Asked;
+use crate::checking::check_all;
 use crate::commands::{demo, generate, monitor, replay, show};
 use crate::status::{Status, end_without_memory, put_last};
 use crate::words::read_words;
@@ -14,10 +15,11 @@ use std::alloc::Global;
 use std::sync::Wait;
 
 /// Does all that the words ask, over this source and sink. `replay` reads a scenario of at most 2^28 bytes and writes its
-/// transcript, `show TABLE` (`fdb`, `vlan` or `mdb`) the table at its end, `monitor` the messages of its address changes.
+/// transcript, `check` a scenario and the transcript behind it, together fewer bytes, and writes whether this is the scenario's.
+/// `show TABLE` (`fdb`, `vlan` or `mdb`) writes the table at a scenario's end, `monitor` the messages of its address changes.
 /// `gen NUMBER COUNT` reads nothing and writes a scenario, `demo NUMBER COUNT` a summary of its run: NUMBER is below 2^64, COUNT at
-/// most 100,000. `show`, `monitor` and `demo` write nothing before their work is over; `gen` has all its memory before its first
-/// write. Each status has its last line: that of the transcript or of the other output, `bad N WHY`, `usage`, `read fault`,
+/// most 100,000. `check`, `show`, `monitor` and `demo` write nothing before their work is over; `gen` has all its memory before its
+/// first write. Each status has its last line: that of the transcript or of the other output, `bad N WHY`, `usage`, `read fault`,
 /// `no memory` or `too long`; after a fault of writing nothing more is written.
 pub fn run<R: Wait, S: Source, K: Sink>(
     rt: &R,
@@ -31,10 +33,11 @@ pub fn run<R: Wait, S: Source, K: Sink>(
     ensures cause { Caused result (S.faults source.old) (S.faults source.new) (K.faults sink.old) (K.faults sink.new) }
     ensures complete { ¬ Rose (S.faults source.old) (S.faults source.new) → ¬ Rose (K.faults sink.old) (K.faults sink.new)
         → Asks (asked (map string_bytes words.now)) (call_of (S.left source.old) (S.left source.new) (K.taken sink.old) (K.taken sink.new))
-        → EndsWell result }
+        → EndsWell (asked (map string_bytes words.now)) result }
 {
     match read_words(alloc, words) {
         Ok(Some(Asked::Replay)) => replay(rt, alloc, source, sink),
+        Ok(Some(Asked::Check)) => check_all(alloc, source, sink),
         Ok(Some(Asked::Show(listing))) => show(rt, alloc, listing, source, sink),
         Ok(Some(Asked::Monitor)) => monitor(rt, alloc, source, sink),
         Ok(Some(Asked::Gen { number, count })) => generate(alloc, number, count, sink),

@@ -8,11 +8,13 @@ ghost use Rattle.capture_runner.specs.Outcome.{status_code};
 use run_io::output::Output;
 use run_io::sinks::{Sink, put};
 
-/// What a run answers. The program ends with its number: 0, 2, 3, 4, 5, 6 or 7 in this order.
+/// What a run answers. The program ends with its number: 0 to 7 in this order.
 #[derive(Clone, Copy, Debug, PartialEq, Eq)]
 pub enum Status {
     /// The scenario ends in a valid `end` line, or there is none to read.
     Ok,
+    /// The transcript isn't what is told of its scenario.
+    No,
     /// The words aren't in the grammar.
     Usage,
     /// A line isn't a line of the grammar in its place.
@@ -23,7 +25,7 @@ pub enum Status {
     WriteFault,
     /// Want of memory.
     NoMemory,
-    /// 2^28 bytes were taken, and hold neither a whole `end` line nor a bad line other than one that only lacks its end.
+    /// 2^28 bytes were taken, and hold no bad line other than one that only lacks its end, nor, but for a check, a whole `end` line.
     TooLong,
 }
 
@@ -34,6 +36,7 @@ impl Status {
     {
         match self {
             Status::Ok => 0,
+            Status::No => 1,
             Status::Usage => 2,
             Status::BadLine => 3,
             Status::ReadFault => 4,

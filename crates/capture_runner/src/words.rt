@@ -43,6 +43,7 @@ fn whole_command<'a>(alloc: Global) -> Result<Command<'a>, NoMemory>
         .no_binary_name(true)
         .subcommand_required(true)
         .subcommand(Command::new(alloc, "replay"))?
+        .subcommand(Command::new(alloc, "check"))?
         .subcommand(show_command(alloc)?)?
         .subcommand(Command::new(alloc, "monitor"))?
         .subcommand(generating_command(alloc, "gen")?)?
@@ -91,6 +92,7 @@ fn asked_of(name: &str, found: &ArgMatches) -> Option<Asked>
 {
     match name {
         "replay" => Some(Asked::Replay),
+        "check" => Some(Asked::Check),
         "show" => Some(Asked::Show(listing_from(found)?)),
         "monitor" => Some(Asked::Monitor),
         "gen" => {

@@ -2,12 +2,13 @@
 ghost use Rattle.std.specs.Prelude.{◌≡◌, [], codes, None, Some};
 ghost use Rattle.br_model.specs.Text.Words.{words};
 ghost use Rattle.br_model.specs.declared.listing.Listing.TheVariants.{Fdb, Vlan, Mdb};
-ghost use Rattle.capture_runner.specs.declared.asked.Asked.TheVariants.{Replay, Show, Monitor, Gen, Demo};
+ghost use Rattle.capture_runner.specs.declared.asked.Asked.TheVariants.{Replay, Check, Show, Monitor, Gen, Demo};
 ghost use Rattle.capture_runner.specs.Words.{asked};
 
 /// Each command, with the largest numbers.
 pub fn commands_are_read()
     ensures replay { asked (words (codes "replay")) ≡ Some Replay }
+    ensures check { asked (words (codes "check")) ≡ Some Check }
     ensures fdb { asked (words (codes "show fdb")) ≡ Some (Show Fdb) }
     ensures vlan { asked (words (codes "show vlan")) ≡ Some (Show Vlan) }
     ensures mdb { asked (words (codes "show mdb")) ≡ Some (Show Mdb) }

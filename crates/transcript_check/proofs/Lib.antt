@@ -11,3 +11,4 @@ pub mod Entering
 pub mod Searching
 pub mod Texts
 pub mod Besides
+pub mod Comparisons

@@ -5,3 +5,4 @@ pub mod Points
 pub mod Sides
 pub mod Worlds
 pub mod Besides
+pub mod Checking

@@ -2,6 +2,7 @@
 #![tactic(auto)]
 
 mod beside;
+mod checking;
 mod cursor;
 mod cut;
 mod cuts;
@@ -11,3 +12,4 @@ mod sides;
 mod world;
 
 pub use br_model::NoMemory;
+pub use checking::{Answer, CheckFault, check, compare};

@@ -1,5 +1,6 @@
 //! Runs over memory: what they answer, and what they write.
 mod captures;
+mod checks;
 mod chips;
 mod commands;
 mod failing_calls;

@@ -120,6 +120,8 @@ fn words_outside_the_grammar(rt: HostRuntime) {
         "rep",
         "replay x",
         "replay replay",
+        "check x",
+        "checks",
         "show",
         "show ports",
         "show fdb vlan",

@@ -99,6 +99,7 @@ fn no_memory_for_the_words(rt: HostRuntime) -> Result<(), Fail> {
 fn numbers_of_statuses(rt: HostRuntime) {
     let rows = [
         (Status::Ok, 0),
+        (Status::No, 1),
         (Status::Usage, 2),
         (Status::BadLine, 3),
         (Status::ReadFault, 4),

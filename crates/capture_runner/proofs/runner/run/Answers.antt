@@ -18,6 +18,11 @@ returns-in-Ok-Some-Replay-clause-complete g c = λ reads writes has.
     let is = sym c.in-Ok-Some-Replay.ensures.value ∙ c.in-Ok-Some-Replay.field-0-is ∙ ap Some c.in-Ok-Some-Replay.field-0-0-is in
     completes_by _ _ _ _ _ _ reads writes _ _ _ is c.replay.ensures.outcome c.replay.ensures.cause has
 
+pub returns-in-Ok-Some-Check-clause-complete : goal.returns-in-Ok-Some-Check-clause-complete
+returns-in-Ok-Some-Check-clause-complete g c = λ reads writes has.
+    let is = sym c.in-Ok-Some-Check.ensures.value ∙ c.in-Ok-Some-Check.field-0-is ∙ ap Some c.in-Ok-Some-Check.field-0-0-is in
+    completes_by _ _ _ _ _ _ reads writes _ _ _ is c.check_all.ensures.outcome c.check_all.ensures.cause has
+
 pub returns-in-Ok-Some-Show-clause-complete : goal.returns-in-Ok-Some-Show-clause-complete
 returns-in-Ok-Some-Show-clause-complete g c = λ reads writes has.
     let is = sym c.in-Ok-Some-Show.ensures.value ∙ c.in-Ok-Some-Show.field-0-is ∙ ap Some c.in-Ok-Some-Show.field-0-0-is in

@@ -7,6 +7,7 @@ pub returns : goal.returns
 unfolding clap_on_literals asked
 returns c = record {
   replay = refl;
+  check = refl;
   fdb = refl;
   vlan = refl;
   mdb = refl;

@@ -1,0 +1,174 @@
+//! Transcripts behind their scenarios: what `check` says of them.
+use super::commands::{ran_line, source_of};
+use super::rows::FIRST_FRAME;
+use super::{ran, read_row};
+use capture_runner::Status;
+use std::alloc::Global;
+use std::process::Abort;
+use std::sync::Wait;
+use std::test::Fail;
+
+/// Checks this input, where the reads of these numbers fail. It writes just this.
+fn checked(
+    rt: &(impl Abort + Wait),
+    alloc: Global,
+    input: &[u8],
+    read_fails: &[u32],
+    (status, wrote): (Status, &str),
+) -> Result<(), Fail> {
+    let outcome = ran(rt, alloc, &["check"], input, read_fails, &[])?;
+    assert_eq!(rt; outcome.status, status, "at {wrote}");
+    assert_eq!(rt; outcome.wrote.as_slice(), wrote.as_bytes());
+    Ok(())
+}
+
+/// A line feed more or less, a line too few, one too many, and bytes behind the transcript.
+#[test]
+fn check_no_and_yes(rt: HostRuntime) -> Result<(), Fail> {
+    let rows = [
+        ("transcript 1\nend 0 0 0 0\n", Status::Ok, "yes\n"),
+        ("transcript 1\nend 0 0 0 0", Status::Ok, "yes\n"),
+        (
+            "transcript 1\nend 0 0 0 1\n",
+            Status::No,
+            "no 2\nexpected end 0 0 0 0\nfound end 0 0 0 1\n",
+        ),
+        (
+            "transcript 1\n",
+            Status::No,
+            "no 2\nexpected end 0 0 0 0\nfound\n",
+        ),
+        ("", Status::No, "no 1\nexpected transcript 1\nfound\n"),
+        (
+            "transcript 1\nend 0 0 0 0\nend 0 0 0 0\n",
+            Status::No,
+            "no 3\nexpected\nfound end 0 0 0 0\n",
+        ),
+        (
+            "transcript 1\nend 0 0 0 0\n\n",
+            Status::No,
+            "no 3\nexpected\nfound\n",
+        ),
+    ];
+    for (transcript, status, wrote) in rows {
+        let input = format!(in rt.alloc(); "scenario 1\nend\n{transcript}")?;
+        checked(&rt, rt.alloc(), input.as_bytes(), &[], (status, wrote))?;
+    }
+    Ok(())
+}
+
+/// A line of a chip's share, again in place of the software's.
+#[test]
+fn first_difference(rt: HostRuntime) -> Result<(), Fail> {
+    let input = b"scenario 1
+port 1 c1 chip 1
+port 2 c2 chip 1
+port 3 f3 soft
+cmd port up c1
+cmd port up c2
+cmd port up f3
+publish
+rx 1 02000000000b02000000000a88b50102
+serve
+report 1
+end
+transcript 1
+ok 1 3
+ok 2 3
+ok 3 3
+ok 4 0
+chip 1 at 9 0 copy
+tx 1 2 02000000000b02000000000a88b50102
+soft 1 at 9
+tx 1 2 02000000000b02000000000a88b50102
+tx 1 3 02000000000b02000000000a88b50102
+ok 6 0
+ok 7 1
+end 7 10 1 0
+";
+    let wrote = "no 9
+expected tx 1 3 02000000000b02000000000a88b50102
+found tx 1 2 02000000000b02000000000a88b50102
+";
+    checked(&rt, rt.alloc(), input, &[], (Status::No, wrote))
+}
+
+/// Posts that name a point: two are refused.
+#[test]
+fn points_and_refusals_in_check(rt: HostRuntime) -> Result<(), Fail> {
+    let input = b"scenario 1
+port 1 p1 soft
+port 2 p2 soft
+port 3 p3 soft
+cmd port up p1
+cmd port up p2
+cmd port up p3
+publish
+rx 1 02000000000b02000000000a88b50102
+hold
+post 1 at 5
+post 1 at 0
+post 1 at 9
+end
+transcript 1
+ok 1 3
+ok 2 3
+ok 3 3
+ok 4 0
+held 1 9
+refused 7 15
+refused 8 15
+soft 1 at 9
+tx 1 2 02000000000b02000000000a88b50102
+tx 1 3 02000000000b02000000000a88b50102
+ok 9 1
+end 9 10 1 0
+";
+    checked(&rt, rt.alloc(), input, &[], (Status::Ok, "yes\n"))
+}
+
+/// A bad line comes before a fault of reading, and this before a difference; a scenario that only lacks its end may go on.
+#[test]
+fn bad_lines_and_faults_in_check(rt: HostRuntime) -> Result<(), Fail> {
+    let differs = b"scenario 1\nend\ntranscript 2\n".as_slice();
+    let bad = b"scenario 1\nport 1 host soft\nend\n".as_slice();
+    let unended = b"scenario 1\nport 1 p1 soft\n".as_slice();
+    let fault = (Status::ReadFault, "read fault\n");
+    let rows = [
+        (differs, [2].as_slice(), fault),
+        (bad, [].as_slice(), (Status::BadLine, "bad 2 port\n")),
+        (bad, [2].as_slice(), (Status::BadLine, "bad 2 port\n")),
+        (unended, [].as_slice(), (Status::BadLine, "bad 3 unended\n")),
+        (unended, [2].as_slice(), fault),
+    ];
+    for (input, read_fails, answer) in rows {
+        checked(&rt, rt.alloc(), input, read_fails, answer)?;
+    }
+    Ok(())
+}
+
+/// What a run writes is what is told, of generated frames too.
+#[test]
+fn what_replay_writes_is_told(rt: HostRuntime) -> Result<(), Fail> {
+    let alloc = rt.alloc();
+    let generated = ran(&rt, alloc, &["gen", "7", "2000"], b"", &[], &[])?.wrote;
+    let worked = read_row(alloc, FIRST_FRAME)?.input;
+    for scenario in [generated.as_slice(), worked.as_bytes()] {
+        let transcript = ran(&rt, alloc, &["replay"], scenario, &[], &[])?.wrote;
+        let mut input = Vec::from_slice(alloc, scenario)?;
+        input.extend_from_slice(&transcript)?;
+        checked(&rt, alloc, &input, &[], (Status::Ok, "yes\n"))?;
+    }
+    Ok(())
+}
+
+/// The answer can't be written, or not all of it.
+#[test]
+fn writes_of_check_that_fail(rt: HostRuntime) {
+    let input = b"scenario 1\nend\ntranscript 1\nend 0 0 0 0\n";
+    for room in [0, 3] {
+        let mut source = source_of(&rt, rt.alloc(), input, &[]);
+        let outcome = ran_line(&rt, rt.alloc(), "check", &mut source, room);
+        assert_eq!(rt; outcome.status, Status::WriteFault);
+    }
+}
