@@ -3,7 +3,7 @@ ghost use Rattle.std.specs.Prelude.{◌≡◌, ℕ, ◌+◌, ◌-◌, ◌<◌, �
 ghost use Rattle.br_model.specs.Text.Operands.{longest_section};
 ghost use Rattle.br_model.specs.Text.Scenario.{Scenario, opened, longest_line, closes};
 ghost use Rattle.br_model.specs.Table.Table.{table};
-ghost use Rattle.capture_runner.specs.Session.{Follows, SaysNothing, SaysOn, Takes, IsAfter, IsBehindDeclarations, IsCaptured, IsReady, ComeByLine, Does, ending_of, world_of, end_line_of, last_line, history_of, listing_or_bad, status_of};
+ghost use Rattle.capture_runner.specs.Session.{Follows, SaysNothing, SaysOn, Takes, IsAfter, IsBehindDeclarations, IsCaptured, IsReady, ComeByLine, Does, ending_of, world_of, end_line_of, last_line, history_of, listing_or_bad, audit_or_bad, status_of};
 ghost use Rattle.br_model.specs.Text.LineForms.{comes_by_line};
 ghost use Rattle.br_model.specs.Text.Roster.{chips_of};
 ghost use Rattle.std.specs.String.Boundary.{IsSplitPoint};
@@ -11,6 +11,7 @@ ghost use Rattle.transcript_text.specs.Extends.{Extends};
 ghost use Rattle.capture_runner.specs.Voices.{answer_at, lines_of, said_by};
 
 use crate::NoMemory;
+use crate::audit::append_audit_of;
 use crate::section::captured_steps;
 use crate::status::Status;
 use crate::voice::{Voice, begin, do_step, take_text};
@@ -282,6 +283,23 @@ impl Session {
                 Ok(text)
             }
         }
+    }
+
+    /// The audit of the chips as the run has left them, or the bad line.
+    pub(crate) fn audit<R: Wait>(
+        &self,
+        rt: &R,
+        alloc: Global,
+        last: Last,
+    ) -> Result<String, NoMemory>
+        ensures { IfOk result (λ text. string_bytes text ≡ audit_or_bad last self.now.roster self.now.world) }
+    {
+        let mut text = String::new(alloc);
+        match last {
+            Last::Ended => append_audit_of(rt, alloc, &self.roster, &self.world, &mut text)?,
+            Last::Bad(number, why) => append_bad(number, why, &mut text)?,
+        }
+        Ok(text)
     }
 
     /// All that was said, with its last line, or the bad line. Nothing of it is kept.

@@ -1,0 +1,81 @@
+//! What an audit finds.
+ghost use Rattle.std.specs.Prelude.{◌≡◌, ◌==◌, Bool, IfOk, map};
+ghost use Rattle.std.specs.List.{filter};
+ghost use Rattle.chip_audit.specs.Audits.{offloaded_keys, pending_keys, stale_keys};
+
+use crate::NoMemory;
+use crate::entries::Entries;
+use crate::rows::Row;
+use fdb_core::{Key, Keys};
+use std::alloc::Global;
+use std::marker::Model;
+
+/// The bridge's entries, the stale ones of a chip, and how many updates wait for it. All ascend by VLAN and address.
+#[derive(Drop)]
+pub struct Comparison {
+    pub(crate) entries: Entries,
+    pub(crate) stale: Vec<Row>,
+    pub(crate) waiting: u32,
+}
+
+impl Model for Comparison {
+    ghost use Rattle.chip_audit.specs.Audits.{Audited};
+
+    ghost Value = { Audited };
+
+    ghost view = { λ c. record { entries = c.entries.entries; stale = c.stale.items; waiting = c.waiting } };
+}
+
+/// The keys of an audit, ascending by VLAN and address, and how many updates wait.
+#[derive(Drop, Debug)]
+pub struct Audit {
+    /// Of the bridge's entries that the chip has.
+    pub offloaded: Keys,
+    /// Of its other entries.
+    pub pending: Keys,
+    /// Of the entries of the chip that the bridge hasn't so.
+    pub stale: Keys,
+    /// Updates that the chip hasn't applied.
+    pub waiting: u32,
+}
+
+/// The keys of the entries that the chip has, or of the others.
+fn keys_of(alloc: Global, entries: &Entries, offloaded: bool) -> Result<Keys, NoMemory>
+    ensures { IfOk result (λ keys. keys ≡ map (λ e. e.0) (filter (λ e. e.1.offloaded == offloaded) entries.now.entries)) }
+{
+    let mut keys = Vec::new(alloc);
+    for (key, found) in entries {
+        if found.offloaded == offloaded {
+            keys.push(*key)?;
+        }
+    }
+    Ok(Keys::of(keys))
+}
+
+/// The keys of rows.
+fn keys_of_rows(alloc: Global, rows: &[Row]) -> Result<Keys, NoMemory>
+    ensures { IfOk result (λ keys. keys ≡ map (λ e. e.0) rows.now) }
+{
+    let mut keys = Vec::with_capacity(alloc, rows.len())?;
+    for row in rows {
+        keys.push(row.0)?;
+    }
+    Ok(Keys::of(keys))
+}
+
+impl Comparison {
+    /// The keys alone.
+    pub fn audit(&self, alloc: Global) -> Result<Audit, NoMemory>
+        ensures offloaded { IfOk result (λ a. a.offloaded ≡ offloaded_keys self.now) }
+        ensures pending { IfOk result (λ a. a.pending ≡ pending_keys self.now) }
+        ensures stale { IfOk result (λ a. a.stale ≡ stale_keys self.now) }
+        ensures waiting { IfOk result (λ a. a.waiting ≡ self.now.waiting) }
+    {
+        Ok(Audit {
+            offloaded: keys_of(alloc, &self.entries, true)?,
+            pending: keys_of(alloc, &self.entries, false)?,
+            stale: keys_of_rows(alloc, &self.stale)?,
+            waiting: self.waiting,
+        })
+    }
+}

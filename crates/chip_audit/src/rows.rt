@@ -1,0 +1,50 @@
+//! The address entries of a chip, read from its rows.
+ghost use Rattle.std.specs.Prelude.{◌≡◌, ℕ, IfOk, map};
+ghost use Rattle.br_model.specs.Table.Table.{Table};
+ghost use Rattle.chip_tables.specs.Stands.{AddressesStand};
+ghost use Rattle.chip_audit.specs.Marks.{row_of};
+
+use crate::NoMemory;
+use br_model::change::Kind;
+use br_model::numbers::Port;
+use chip_tables::Tables;
+use fdb_core::Key;
+use std::alloc::Global;
+
+/// An address entry: its VLAN and address, its port and its kind.
+pub type Row = (Key, (Port, Kind));
+
+/// The keys of the used address rows, ascending.
+fn keys(alloc: Global, tables: &Tables) -> Result<Vec<Key>, NoMemory>
+    ensures { IfOk result (λ keys. keys.items ≡ map (λ e. e.0) tables.now.addresses) }
+{
+    let mut keys = Vec::new(alloc);
+    for i in 0..tables.address_rows() {
+        if let Some(key) = tables.address_at(i) {
+            keys.push(key)?;
+        }
+    }
+    keys.sort_unstable();
+    Ok(keys)
+}
+
+/// What the used address rows say, ascending by VLAN and address.
+fn used_rows(alloc: Global, tables: &Tables) -> Result<Vec<Row>, NoMemory>
+    ensures { IfOk result (λ rows. rows.items ≡ map row_of tables.now.addresses) }
+{
+    let keys = keys(alloc, tables)?;
+    let mut rows = Vec::with_capacity(alloc, keys.len())?;
+    for (vid, mac) in &keys {
+        if let Some(row) = tables.address(*vid, *mac) {
+            rows.push(((*vid, *mac), (row.port, row.kind)))?;
+        }
+    }
+    Ok(rows)
+}
+
+/// The address entries of a chip whose rows stand for a table: those of the table.
+pub(crate) fn rows(alloc: Global, tables: &Tables) -> Result<Vec<Row>, NoMemory>
+    ensures { IfOk result (λ rows. (t : Table) → AddressesStand tables.now t → rows.items ≡ t.addr) }
+{
+    used_rows(alloc, tables)
+}
