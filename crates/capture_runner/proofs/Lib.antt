@@ -1,3 +1,4 @@
+pub mod Auditing
 pub mod Counting
 pub mod Cutting
 pub mod Deciding

@@ -1,3 +1,6 @@
+pub mod Own
 pub mod Marking
 pub mod UsedRows
+pub mod Filling
+pub mod Calm
 pub mod Rows

@@ -1,14 +1,17 @@
 -- The entries after a chip's rows and updates that it hasn't applied, and which of them the chip has.
 use Rattle.std.proofs.Common.{◌≡◌, ℕ, zero, suc, ◌+◌, ◌<◌, ◌≤◌, Bool, true, false, T, not, cond, ◌||◌, ◌&&◌, Some, None, Option, List, [], ◌∷◌, ◌++◌, length, map, take, drop, refl, sym, ap, subst, ◌∙◌, append-nil, arith}
 use Rattle.std.specs.Prelude.{nat_lt}
-use Rattle.std.specs.List.{filter, list_any, slice_get}
+use Rattle.std.specs.List.{filter, fold, list_any, slice_get}
 use Rattle.std.specs.Option.{is_some, option_and_then, option_map, option_map_or}
 use Rattle.std.specs.Ordering.{eq_by_cmp}
 use Rattle.std.specs.FinMap.Entries.{is_sorted, is_sorted-put, is_sorted-where_key, find-put, find-where_key, same_entries}
-use Rattle.std.proofs.lemmas.Bool.{ltb-true}
-use Rattle.std.proofs.lemmas.List.{drop-append-le, take_all, take_more}
+use Rattle.std.proofs.Math.Bool.{or-false}
+use Rattle.std.proofs.Math.Seq.{drop-nil}
+use Rattle.std.proofs.lemmas.Bool.{ltb-false, ltb-true}
+use Rattle.std.proofs.lemmas.List.{drop-append-le, take-append-drop, take_all, take_more}
 use Rattle.std.proofs.lemmas.List.Elements.{filter-append}
 use Rattle.std.proofs.lemmas.List.Folds.{list_any-append}
+use Rattle.std.proofs.lemmas.List.Sums.{fold-append}
 use Rattle.std.proofs.lemmas.Option.{get_or_from_slice_get, slice_get_within}
 use Rattle.br_model.specs.declared.change.Change.{Change}
 use Rattle.br_model.specs.declared.change.Change.TheVariants.{AddrPut, AddrDel}
@@ -17,9 +20,9 @@ use Rattle.br_model.specs.declared.change.Update.{Update}
 use Rattle.br_model.specs.declared.domains.Edition.{Edition}
 use Rattle.br_model.specs.Data.Maps.{pair_cmp, get, put}
 use Rattle.br_model.specs.Table.Change.{address_part, deferred}
-use Rattle.br_model.specs.Table.Cut.{cut, deferred_at, deferred_count, deferred_of, under_ticket}
+use Rattle.br_model.specs.Table.Cut.{cut, deferred_at, deferred_count, deferred_of, synchronous_of, under_ticket}
 use Rattle.br_model.specs.Table.Table.{Table, apply, start, table}
-use Rattle.br_model.proofs.Cuts.{cut-all, cut-turn}
+use Rattle.br_model.proofs.Cuts.{cut-all, cut-turn, deferred_of-cut, synchronous_of-cut, table-sorted}
 use Rattle.br_model.proofs.PairKeys.{pair_total, same_cmp}
 use Rattle.neigh_netlink.specs.Neighbours.{Key}
 use Rattle.neigh_netlink.specs.Offloaded.{is_of_key, last_update, offloaded, put_by, puts_among}
@@ -27,13 +30,9 @@ use Rattle.neigh_netlink.proofs.LastUpdates.{all-ascend, by-changes, get-apply, 
 use Rattle.neigh_netlink.proofs.Mapped.{ascending-mapped, eq-turned, get-mapped, map-same, mapped}
 use Rattle.chip_audit.specs.declared.entries.Found.{Found}
 use Rattle.chip_audit.specs.Audits.{Row, entries_of, found, is_stale, same_place, stale}
-use Rattle.chip_audit.specs.Marks.{Entries, all_offloaded, entries_after, entries_at, is_gone, is_named, marked, place_of, stands_after, updates_from}
+use Rattle.chip_audit.specs.Marks.{Entries, all_offloaded, entries_after, entries_at, is_at, is_gone, is_named, marked, stands_after, updates_from}
 
 -- Names of updates.
-
-or-false : (b : Bool) → (b || false) ≡ b
-or-false true = refl
-or-false false = refl
 
 or-true : (b : Bool) → (b || true) ≡ true
 or-true true = refl
@@ -48,10 +47,6 @@ synchronous-other edition q (AddrPut v a p kind) h = absurd (cc)
 synchronous-other edition q (AddrDel v a) h = absurd (cc)
 synchronous-other edition q c h = refl
 
-drop-none : (k : ℕ) → drop k {A = Change} [] ≡ []
-drop-none zero = refl
-drop-none (suc k) = refl
-
 -- a change more, where it is among those from a place on, and where it isn't
 
 drop-within : (k : ℕ) (xs : List Change) (c : Change) → k ≤ length xs → drop k (xs ++ c ∷ []) ≡ drop k xs ++ c ∷ []
@@ -59,15 +54,12 @@ drop-within k xs c within = drop-append-le k xs (c ∷ []) within
 
 drop-past : (k : ℕ) (xs : List Change) (c : Change) → length xs < k → (drop k (xs ++ c ∷ []) ≡ []) × (drop k xs ≡ [])
 drop-past zero xs c past = absurd (omega (arith, past))
-drop-past (suc k) [] c past = (drop-none k, refl)
+drop-past (suc k) [] c past = (drop-nil k, refl)
 drop-past (suc k) (x ∷ xs) c past = drop-past k xs c (omega (arith, past))
 
 by_test : {A : Type 0} (b : Bool) → (b ≡ true → A) → (b ≡ false → A) → A
 by_test true f g = f refl
 by_test false f g = g refl
-
-not_less : (n k : ℕ) → k ≤ n → nat_lt n k ≡ false
-not_less n k h = by_test (nat_lt n k) (λ yes. (let less : n < k = ltb-true n k yes in absurd (omega (arith, h, less)))) (λ no. no)
 
 module _ (edition : Edition) (k : ℕ) where
   abbrev later : List Change → List Change
@@ -81,7 +73,7 @@ module _ (edition : Edition) (k : ℕ) where
 
   -- the last update of an entry is one of those from the k-th on exactly where one of these is of the entry
   named-late : (q : Key) (h : List Change) → is_named (later h) q ≡ is_late (last_update edition h q)
-  named-late q h = by-changes (λ h. is_named (later h) q ≡ is_late (last_update edition h q)) (ap (λ l. is_named l q) (drop-none k)) next h
+  named-late q h = by-changes (λ h. is_named (later h) q ≡ is_late (last_update edition h q)) (ap (λ (l : List Change). is_named l q) (drop-nil k)) next h
     where
       next : (h : List Change) (c : Change) → is_named (later h) q ≡ is_late (last_update edition h q) → is_named (later (h ++ c ∷ [])) q ≡ is_late (last_update edition (h ++ c ∷ []) q)
       next h c before =
@@ -96,17 +88,14 @@ module _ (edition : Edition) (k : ℕ) where
           there its = by_test (nat_lt n k)
               (λ less. (let past : n < k = ltb-true n k less in
               ap (λ l. is_named l q) (drop-past k (deferred_of edition h) c past).0 ∙ sym (ap not less)))
-              (λ no. (let within : k ≤ n = by_within no in
+              (λ no. (let within : k ≤ n = ltb-false n k no in
               ap (λ l. is_named l q) (drop-within k (deferred_of edition h) c within) ∙ named-more (later h) c q ∙ ap (λ b. is_named (later h) q || b) its ∙ or-true (is_named (later h) q) ∙ sym (ap not no)))
-            where
-              by_within : nat_lt n k ≡ false → k ≤ n
-              by_within no = omega (arith, no)
 
           elsewhere : is_of_key q c ≡ false → is_named (drop k (deferred_of edition h ++ c ∷ [])) q ≡ is_named (later h) q
           elsewhere other = by_test (nat_lt n k)
               (λ less. (let past : n < k = ltb-true n k less in
               ap (λ l. is_named l q) ((drop-past k (deferred_of edition h) c past).0 ∙ sym (drop-past k (deferred_of edition h) c past).1)))
-              (λ no. (let within : k ≤ n = omega (arith, no) in
+              (λ no. (let within : k ≤ n = ltb-false n k no in
               ap (λ l. is_named l q) (drop-within k (deferred_of edition h) c within) ∙ named-more (later h) c q ∙ ap (λ b. is_named (later h) q || b) other ∙ or-false (is_named (later h) q)))
 
           by : (late its : Bool) → deferred edition c ≡ late → is_of_key q c ≡ its
@@ -128,6 +117,30 @@ module _ (edition : Edition) (k : ℕ) where
       by : (o : Option Update) → option_and_then put_by o ≡ Some x → option_map_or (puts_among k) o false ≡ not (is_late o)
       by None none = absurd (cc)
       by (Some u) puts_it = ap (λ o. is_some o && nat_lt u.ticket k) puts_it ∙ not-not (nat_lt u.ticket k)
+
+  pub offloaded-named : (h : List Change) (q : Key) → is_some (get pair_cmp (table h).addr q) ≡ true → offloaded edition h k q ≡ not (is_named (later h) q)
+  offloaded-named h q there = by (get pair_cmp (table h).addr q) refl there
+    where
+      by : (o : Option (ℕ × Kind)) → get pair_cmp (table h).addr q ≡ o → is_some o ≡ true → offloaded edition h k q ≡ not (is_named (later h) q)
+      by None is some = absurd (cc)
+      by (Some x) is some = offloaded-unnamed h q x is
+
+-- a chip's table, changed by the updates that it hasn't applied
+pub updates-lead : (edition : Edition) (h : List Change) (k : ℕ) → (fold apply (table (cut edition h k)) (drop k (deferred_of edition h))).addr ≡ (table h).addr
+updates-lead edition h k = ap (λ (t : Table). t.addr) (
+    ap (λ t. fold apply t (drop k ds)) (
+    table-sorted edition (cut edition h k) ∙ fold-append apply start (synchronous_of edition (cut edition h k)) (deferred_of edition (cut edition h k))
+    ∙ (λ i. fold apply (fold apply start (synchronous_of-cut edition h k i)) (deferred_of-cut edition h k i)))
+    ∙ sym (fold-append apply at_once (take k ds) (drop k ds))
+    ∙ ap (fold apply at_once) (take-append-drop k ds)
+    ∙ sym (fold-append apply start (synchronous_of edition h) ds)
+    ∙ sym (table-sorted edition h))
+  where
+    ds : List Change
+    ds = deferred_of edition h
+
+    at_once : Table
+    at_once = fold apply start (synchronous_of edition h)
 
 -- An update more.
 
@@ -240,10 +253,9 @@ module _ (edition : Edition) (h : List Change) (k : ℕ) where
 
   gone-stale : (e : Row) → is_gone (entries_of edition h k) e ≡ is_stale (table h) e
   gone-stale e =
-      ap (λ o. not (option_map_or (λ (f : Found). same_place e.1 (place_of f)) o false)) (get-mapped (found edition h k) (table h).addr e.0)
-      ∙ by (get pair_cmp (table h).addr e.0)
+      ap (λ o. not (is_at e.1 o)) (get-mapped (found edition h k) (table h).addr e.0) ∙ by (get pair_cmp (table h).addr e.0)
     where
-      by : (o : Option (ℕ × Kind)) → not (option_map_or (λ (f : Found). same_place e.1 (place_of f)) (option_map (found edition h k e.0) o) false) ≡ not (option_map_or (same_place e.1) o false)
+      by : (o : Option (ℕ × Kind)) → not (is_at e.1 (option_map (found edition h k e.0) o)) ≡ not (option_map_or (λ place. same_place place e.1) o false)
       by None = refl
       by (Some x) = refl
 

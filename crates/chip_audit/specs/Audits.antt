@@ -34,7 +34,7 @@ same_place x y = x.0 == y.0 && same_kind x.1 y.1
 
 -- whether the table has none at the entry's VLAN and address, or one with another port or kind
 abbrev pub is_stale : Table → Row → Bool
-is_stale t e = not (option_map_or (same_place e.1) (get pair_cmp t.addr e.0) false)
+is_stale t e = not (option_map_or (λ place. same_place place e.1) (get pair_cmp t.addr e.0) false)
 
 -- the entries of the chip's table that are stale by the bridge's
 abbrev pub stale : Table → Table → List Row

@@ -2,7 +2,7 @@
 -- Source: this profile.
 use Rattle.std.specs.Prelude.{ℕ, ◌+◌, Bool, true, false, not, List, map, take, drop}
 use Rattle.std.specs.List.{list_any}
-use Rattle.std.specs.Option.{option_map_or}
+use Rattle.std.specs.Option.{option_map, option_map_or}
 use Rattle.std.specs.declared.option.Option.{Option}
 use Rattle.std.specs.declared.option.Option.TheVariants.{None, Some}
 use Rattle.br_model.specs.declared.change.Change.{Change}
@@ -12,6 +12,7 @@ use Rattle.br_model.specs.Data.Maps.{pair_cmp, get, put, without}
 use Rattle.br_model.specs.Table.Cut.{cut, deferred_of}
 use Rattle.br_model.specs.Table.Table.{table}
 use Rattle.chip_tables.specs.declared.rows.AddressRow.{AddressRow}
+use Rattle.chip_tables.specs.Rows.{Rows, address_at}
 use Rattle.neigh_netlink.specs.Neighbours.{Key}
 use Rattle.neigh_netlink.specs.Offloaded.{is_of_key}
 use Rattle.chip_audit.specs.declared.entries.Found.{Found}
@@ -23,6 +24,10 @@ Entries = List (Key × Found)
 -- an entry of a chip, as an address row has it
 abbrev pub row_of : Key × AddressRow → Row
 row_of e = (e.0, (e.1.port, e.1.kind))
+
+-- what the row of a key says, if one is used for it
+abbrev pub row_at : Rows → Key → Option Row
+row_at rows key = option_map (λ row. row_of (key, row)) (address_at rows key.0 key.1)
 
 abbrev pub marked : Bool → ℕ × Kind → Found
 marked offloaded place = record { port = place.0; kind = place.1; offloaded = offloaded }
@@ -56,6 +61,10 @@ entries_at edition history count more =
 abbrev pub place_of : Found → ℕ × Kind
 place_of e = (e.port, e.kind)
 
+-- whether an entry is there with this port and kind
+abbrev pub is_at : ℕ × Kind → Option Found → Bool
+is_at place there = option_map_or (λ e. same_place (place_of e) place) there false
+
 -- whether no entry is at the row's VLAN and address, or one with another port or kind
 abbrev pub is_gone : Entries → Row → Bool
-is_gone entries row = not (option_map_or (λ e. same_place row.1 (place_of e)) (get pair_cmp entries row.0) false)
+is_gone entries row = not (is_at row.1 (get pair_cmp entries row.0))

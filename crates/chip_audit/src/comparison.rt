@@ -1,7 +1,7 @@
 //! What an audit finds.
-ghost use Rattle.std.specs.Prelude.{◌≡◌, ◌==◌, Bool, IfOk, map};
+ghost use Rattle.std.specs.Prelude.{◌≡◌, IfOk, map, not};
 ghost use Rattle.std.specs.List.{filter};
-ghost use Rattle.chip_audit.specs.Audits.{offloaded_keys, pending_keys, stale_keys};
+ghost use Rattle.chip_audit.specs.Audits.{offloaded_keys as offloaded_in, pending_keys as pending_in, stale_keys as stale_in};
 
 use crate::NoMemory;
 use crate::entries::Entries;
@@ -39,13 +39,26 @@ pub struct Audit {
     pub waiting: u32,
 }
 
-/// The keys of the entries that the chip has, or of the others.
-fn keys_of(alloc: Global, entries: &Entries, offloaded: bool) -> Result<Keys, NoMemory>
-    ensures { IfOk result (λ keys. keys ≡ map (λ e. e.0) (filter (λ e. e.1.offloaded == offloaded) entries.now.entries)) }
+/// The keys of the entries that the chip has.
+fn offloaded_keys(alloc: Global, entries: &Entries) -> Result<Keys, NoMemory>
+    ensures { IfOk result (λ keys. keys ≡ map (λ e. e.0) (filter (λ e. e.1.offloaded) entries.now.entries)) }
 {
     let mut keys = Vec::new(alloc);
     for (key, found) in entries {
-        if found.offloaded == offloaded {
+        if found.offloaded {
+            keys.push(*key)?;
+        }
+    }
+    Ok(Keys::of(keys))
+}
+
+/// The keys of the others.
+fn pending_keys(alloc: Global, entries: &Entries) -> Result<Keys, NoMemory>
+    ensures { IfOk result (λ keys. keys ≡ map (λ e. e.0) (filter (λ e. not e.1.offloaded) entries.now.entries)) }
+{
+    let mut keys = Vec::new(alloc);
+    for (key, found) in entries {
+        if !found.offloaded {
             keys.push(*key)?;
         }
     }
@@ -53,7 +66,7 @@ fn keys_of(alloc: Global, entries: &Entries, offloaded: bool) -> Result<Keys, No
 }
 
 /// The keys of rows.
-fn keys_of_rows(alloc: Global, rows: &[Row]) -> Result<Keys, NoMemory>
+fn stale_keys(alloc: Global, rows: &[Row]) -> Result<Keys, NoMemory>
     ensures { IfOk result (λ keys. keys ≡ map (λ e. e.0) rows.now) }
 {
     let mut keys = Vec::with_capacity(alloc, rows.len())?;
@@ -66,15 +79,15 @@ fn keys_of_rows(alloc: Global, rows: &[Row]) -> Result<Keys, NoMemory>
 impl Comparison {
     /// The keys alone.
     pub fn audit(&self, alloc: Global) -> Result<Audit, NoMemory>
-        ensures offloaded { IfOk result (λ a. a.offloaded ≡ offloaded_keys self.now) }
-        ensures pending { IfOk result (λ a. a.pending ≡ pending_keys self.now) }
-        ensures stale { IfOk result (λ a. a.stale ≡ stale_keys self.now) }
+        ensures offloaded { IfOk result (λ a. a.offloaded ≡ offloaded_in self.now) }
+        ensures pending { IfOk result (λ a. a.pending ≡ pending_in self.now) }
+        ensures stale { IfOk result (λ a. a.stale ≡ stale_in self.now) }
         ensures waiting { IfOk result (λ a. a.waiting ≡ self.now.waiting) }
     {
         Ok(Audit {
-            offloaded: keys_of(alloc, &self.entries, true)?,
-            pending: keys_of(alloc, &self.entries, false)?,
-            stale: keys_of_rows(alloc, &self.stale)?,
+            offloaded: offloaded_keys(alloc, &self.entries)?,
+            pending: pending_keys(alloc, &self.entries)?,
+            stale: stale_keys(alloc, &self.stale)?,
             waiting: self.waiting,
         })
     }

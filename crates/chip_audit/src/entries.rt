@@ -3,7 +3,7 @@ ghost use Rattle.std.specs.Prelude.{◌≡◌, IfOk, OnOk, IsTrue};
 ghost use Rattle.std.specs.List.{filter};
 ghost use Rattle.br_model.specs.Data.Maps.{pair_cmp, get, is_ascending};
 ghost use Rattle.br_model.specs.Table.Change.{address_part};
-ghost use Rattle.chip_audit.specs.Marks.{all_offloaded, entries_after, is_gone};
+ghost use Rattle.chip_audit.specs.Marks.{all_offloaded, entries_after, is_at, is_gone};
 
 use crate::NoMemory;
 use crate::rows::Row;
@@ -31,13 +31,14 @@ pub(crate) fn of_rows(alloc: Global, rows: &[Row]) -> Result<Entries, NoMemory>
     ensures { IfOk result (λ entries. entries.entries ≡ all_offloaded rows.now) }
 {
     let mut entries = BTreeMap::new(alloc);
-    for (key, (port, kind)) in rows {
+    for row in rows {
+        let (key, (port, kind)) = *row;
         let found = Found {
-            port: *port,
-            kind: *kind,
+            port,
+            kind,
             offloaded: true,
         };
-        put(&mut entries, *key, found)?;
+        put(&mut entries, key, found)?;
     }
     Ok(entries)
 }
@@ -68,15 +69,21 @@ pub(crate) fn follow(entries: &mut Entries, change: &Change) -> Result<(), NoMem
     }
 }
 
+/// Whether an entry is there with this port and kind.
+fn is_at(place: &(Port, Kind), there: Option<Found>) -> bool
+    ensures { result ≡ is_at place.now there }
+{
+    match there {
+        Some(found) => found.port == place.0 && found.kind == place.1,
+        None => false,
+    }
+}
+
 /// Whether none of them is at the row's VLAN and address, or one with another port or kind.
 fn is_gone(entries: &Entries, row: &Row) -> bool
     ensures { result ≡ is_gone entries.now.entries row.now }
 {
-    let (key, (port, kind)) = *row;
-    match find(entries, &key) {
-        Some(found) => found.port != port || found.kind != kind,
-        None => true,
-    }
+    !is_at(&row.1, find(entries, &row.0))
 }
 
 /// The rows of a chip that are gone.

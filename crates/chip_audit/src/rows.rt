@@ -2,7 +2,7 @@
 ghost use Rattle.std.specs.Prelude.{◌≡◌, ℕ, IfOk, map};
 ghost use Rattle.br_model.specs.Table.Table.{Table};
 ghost use Rattle.chip_tables.specs.Stands.{AddressesStand};
-ghost use Rattle.chip_audit.specs.Marks.{row_of};
+ghost use Rattle.chip_audit.specs.Marks.{row_at, row_of};
 
 use crate::NoMemory;
 use br_model::change::Kind;
@@ -28,15 +28,23 @@ fn keys(alloc: Global, tables: &Tables) -> Result<Vec<Key>, NoMemory>
     Ok(keys)
 }
 
+/// What the row of a key says, if one is used for it.
+fn row_at(tables: &Tables, key: &Key) -> Option<Row>
+    ensures { result ≡ row_at tables.now key.now }
+{
+    let row = tables.address(key.0, key.1)?;
+    Some((*key, (row.port, row.kind)))
+}
+
 /// What the used address rows say, ascending by VLAN and address.
 fn used_rows(alloc: Global, tables: &Tables) -> Result<Vec<Row>, NoMemory>
     ensures { IfOk result (λ rows. rows.items ≡ map row_of tables.now.addresses) }
 {
     let keys = keys(alloc, tables)?;
     let mut rows = Vec::with_capacity(alloc, keys.len())?;
-    for (vid, mac) in &keys {
-        if let Some(row) = tables.address(*vid, *mac) {
-            rows.push(((*vid, *mac), (row.port, row.kind)))?;
+    for key in &keys {
+        if let Some(row) = row_at(tables, key) {
+            rows.push(row)?;
         }
     }
     Ok(rows)
