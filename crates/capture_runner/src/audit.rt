@@ -1,5 +1,5 @@
 //! `audit`: what the chips have at the end of a run, beside what the bridge has.
-ghost use Rattle.std.specs.Prelude.{◌≡◌, ◌++◌, OnOk, string_bytes};
+ghost use Rattle.std.specs.Prelude.{◌≡◌, ◌++◌, None, IfOk, OnOk, string_bytes};
 ghost use Rattle.br_model.specs.Text.Scenario.{opened};
 ghost use Rattle.run_io.specs.Causes.{Rose};
 ghost use Rattle.chip_audit.specs.Lines.{audited, audited_text, world_lines};
@@ -39,21 +39,35 @@ fn append_first<R: Wait>(
     appended
 }
 
-/// Appends the audit of this world, or of that of a run without steps, with its last line.
-pub(crate) fn append_audit_of<R: Wait>(
+/// Appends the audit of this world, or of that of a run without steps.
+fn append_chips<R: Wait>(
     rt: &R,
     alloc: Global,
     roster: &Roster,
     world: &Option<World>,
     to: &mut String,
 ) -> Result<(), NoMemory>
-    ensures { OnOk result (string_bytes to.new ≡ string_bytes to.old ++ audited_text roster.now.ports (world_of roster.now world.now)) }
+    ensures { OnOk result (string_bytes to.new ≡ string_bytes to.old ++ world_lines roster.now.ports (world_of roster.now world.now)) }
 {
     match world {
-        Some(world) => append_audit(alloc, world.plane(), roster, to)?,
-        None => append_first(rt, alloc, roster, to)?,
+        Some(world) => append_audit(alloc, world.plane(), roster, to),
+        None => append_first(rt, alloc, roster, to),
     }
-    to.push_str("end\n")
+}
+
+/// The same, with its last line.
+pub(crate) fn audit_text<R: Wait>(
+    rt: &R,
+    alloc: Global,
+    roster: &Roster,
+    world: &Option<World>,
+) -> Result<String, NoMemory>
+    ensures { IfOk result (λ text. string_bytes text ≡ audited_text roster.now.ports (world_of roster.now world.now)) }
+{
+    let mut text = String::new(alloc);
+    append_chips(rt, alloc, roster, world, &mut text)?;
+    text.push_str("end\n")?;
+    Ok(text)
 }
 
 /// Runs a scenario in this new session, as a replay over a sink that keeps nothing, and answers how it ends, with the audit of its

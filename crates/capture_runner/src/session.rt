@@ -11,7 +11,7 @@ ghost use Rattle.transcript_text.specs.Extends.{Extends};
 ghost use Rattle.capture_runner.specs.Voices.{answer_at, lines_of, said_by};
 
 use crate::NoMemory;
-use crate::audit::append_audit_of;
+use crate::audit::audit_text;
 use crate::section::captured_steps;
 use crate::status::Status;
 use crate::voice::{Voice, begin, do_step, take_text};
@@ -294,12 +294,14 @@ impl Session {
     ) -> Result<String, NoMemory>
         ensures { IfOk result (λ text. string_bytes text ≡ audit_or_bad last self.now.roster self.now.world) }
     {
-        let mut text = String::new(alloc);
         match last {
-            Last::Ended => append_audit_of(rt, alloc, &self.roster, &self.world, &mut text)?,
-            Last::Bad(number, why) => append_bad(number, why, &mut text)?,
+            Last::Ended => audit_text(rt, alloc, &self.roster, &self.world),
+            Last::Bad(number, why) => {
+                let mut text = String::new(alloc);
+                append_bad(number, why, &mut text)?;
+                Ok(text)
+            }
         }
-        Ok(text)
     }
 
     /// All that was said, with its last line, or the bad line. Nothing of it is kept.

@@ -31,7 +31,7 @@ same-kind Extern = refl
 same-place : (x : ℕ × Kind) → same_place x x ≡ true
 same-place x = λ i. eq-eqb x.0 x.0 refl i && same-kind x.1 i
 
-true-of : (b : Bool) → T b → b ≡ true
+pub true-of : (b : Bool) → T b → b ≡ true
 true-of true h = refl
 true-of false h = absurd h
 

@@ -3,4 +3,5 @@ pub mod Marking
 pub mod UsedRows
 pub mod Filling
 pub mod Calm
-pub mod Rows
+pub mod Computed
+pub mod Waiting

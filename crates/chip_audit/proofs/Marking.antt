@@ -81,25 +81,22 @@ module _ (edition : Edition) (k : ℕ) where
           ∙ by (deferred edition c) (is_of_key q c) refl refl
           ∙ ap is_late (sym (last_update-push edition h c q))
         where
-          n : ℕ
-          n = deferred_count edition h
-
-          there : is_of_key q c ≡ true → is_named (drop k (deferred_of edition h ++ c ∷ [])) q ≡ not (nat_lt n k)
-          there its = by_test (nat_lt n k)
-              (λ less. (let past : n < k = ltb-true n k less in
+          there : is_of_key q c ≡ true → is_named (drop k (deferred_of edition h ++ c ∷ [])) q ≡ not (nat_lt (deferred_count edition h) k)
+          there its = by_test (nat_lt (deferred_count edition h) k)
+              (λ less. (let past : deferred_count edition h < k = ltb-true (deferred_count edition h) k less in
               ap (λ l. is_named l q) (drop-past k (deferred_of edition h) c past).0 ∙ sym (ap not less)))
-              (λ no. (let within : k ≤ n = ltb-false n k no in
+              (λ no. (let within : k ≤ deferred_count edition h = ltb-false (deferred_count edition h) k no in
               ap (λ l. is_named l q) (drop-within k (deferred_of edition h) c within) ∙ named-more (later h) c q ∙ ap (λ b. is_named (later h) q || b) its ∙ or-true (is_named (later h) q) ∙ sym (ap not no)))
 
           elsewhere : is_of_key q c ≡ false → is_named (drop k (deferred_of edition h ++ c ∷ [])) q ≡ is_named (later h) q
-          elsewhere other = by_test (nat_lt n k)
-              (λ less. (let past : n < k = ltb-true n k less in
+          elsewhere other = by_test (nat_lt (deferred_count edition h) k)
+              (λ less. (let past : deferred_count edition h < k = ltb-true (deferred_count edition h) k less in
               ap (λ l. is_named l q) ((drop-past k (deferred_of edition h) c past).0 ∙ sym (drop-past k (deferred_of edition h) c past).1)))
-              (λ no. (let within : k ≤ n = ltb-false n k no in
+              (λ no. (let within : k ≤ deferred_count edition h = ltb-false (deferred_count edition h) k no in
               ap (λ l. is_named l q) (drop-within k (deferred_of edition h) c within) ∙ named-more (later h) c q ∙ ap (λ b. is_named (later h) q || b) other ∙ or-false (is_named (later h) q)))
 
           by : (late its : Bool) → deferred edition c ≡ late → is_of_key q c ≡ its
-              → is_named (drop k (deferred_of edition h ++ cond late (c ∷ []) [])) q ≡ is_late (cond its (Some (under_ticket n c)) (last_update edition h q))
+              → is_named (drop k (deferred_of edition h ++ cond late (c ∷ []) [])) q ≡ is_late (cond its (Some (under_ticket (deferred_count edition h) c)) (last_update edition h q))
           by true true d its = there its
           by true false d other = elsewhere other ∙ before
           by false true d its = (let none : is_of_key q c ≡ false = synchronous-other edition q c d in let both : true ≡ false = sym its ∙ none in absurd (cc))
@@ -127,20 +124,16 @@ module _ (edition : Edition) (k : ℕ) where
 
 -- a chip's table, changed by the updates that it hasn't applied
 pub updates-lead : (edition : Edition) (h : List Change) (k : ℕ) → (fold apply (table (cut edition h k)) (drop k (deferred_of edition h))).addr ≡ (table h).addr
-updates-lead edition h k = ap (λ (t : Table). t.addr) (
-    ap (λ t. fold apply t (drop k ds)) (
-    table-sorted edition (cut edition h k) ∙ fold-append apply start (synchronous_of edition (cut edition h k)) (deferred_of edition (cut edition h k))
-    ∙ (λ i. fold apply (fold apply start (synchronous_of-cut edition h k i)) (deferred_of-cut edition h k i)))
-    ∙ sym (fold-append apply at_once (take k ds) (drop k ds))
-    ∙ ap (fold apply at_once) (take-append-drop k ds)
-    ∙ sym (fold-append apply start (synchronous_of edition h) ds)
-    ∙ sym (table-sorted edition h))
-  where
-    ds : List Change
-    ds = deferred_of edition h
-
-    at_once : Table
-    at_once = fold apply start (synchronous_of edition h)
+updates-lead edition h k =
+    let ds : List Change = deferred_of edition h in
+    let at_once : Table = fold apply start (synchronous_of edition h) in
+    let cut_is : table (cut edition h k) ≡ fold apply at_once (take k ds) =
+        table-sorted edition (cut edition h k) ∙ fold-append apply start (synchronous_of edition (cut edition h k)) (deferred_of edition (cut edition h k))
+        ∙ (λ i. fold apply (fold apply start (synchronous_of-cut edition h k i)) (deferred_of-cut edition h k i)) in
+    let whole : table h ≡ fold apply at_once ds = table-sorted edition h ∙ fold-append apply start (synchronous_of edition h) ds in
+    let same : fold apply (table (cut edition h k)) (drop k ds) ≡ table h =
+        ap (λ t. fold apply t (drop k ds)) cut_is ∙ sym (fold-append apply at_once (take k ds) (drop k ds)) ∙ ap (fold apply at_once) (take-append-drop k ds) ∙ sym whole in
+    ap (λ (t : Table). t.addr) same
 
 -- An update more.
 

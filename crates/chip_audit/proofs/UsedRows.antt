@@ -1,10 +1,12 @@
 -- The used address rows of a chip, in order.
-use Rattle.std.proofs.Common.{◌≡◌, ℕ, ◌<◌, true, Option, None, Some, List, [], ◌∷◌, map, filter_map, IsPermutation, IsSorted, refl, sym, ap, ◌∙◌}
+use Rattle.std.proofs.Common.{◌≡◌, ℕ, ◌<◌, true, Option, None, Some, List, [], ◌∷◌, ◌++◌, ◌+◌, length, get_or, map, filter_map, take, IsPermutation, IsSorted, refl, sym, ap, subst, ◌∙◌, arith}
 use Rattle.std.specs.List.{cons_option, AllByRecursion}
 use Rattle.std.specs.List.Sorted.{IsStrictlySortedBy}
 use Rattle.std.specs.Option.{option_map}
 use Rattle.std.specs.Ordering.{is_gt}
 use Rattle.std.specs.declared.cmp.Ordering.TheVariants.{Less}
+use Rattle.std.proofs.lemmas.List.{take_more}
+use Rattle.std.proofs.lemmas.List.Elements.{filter_map-append}
 use Rattle.std.proofs.lemmas.List.Sorted.{IsPermutation-sym, IsPermutation-trans}
 use Rattle.br_model.specs.declared.change.Kind.{Kind}
 use Rattle.br_model.specs.Data.Maps.{pair_cmp, get}
@@ -19,6 +21,11 @@ use Rattle.chip_audit.specs.Audits.{Row}
 use Rattle.chip_audit.specs.Marks.{row_at, row_of}
 use Rattle.chip_audit.proofs.Own.{FindOwn, find-own, rises}
 
+-- one place more
+pub place-next : {X Y : Type 0} (h : X → Option Y) (xs : List X) (i : ℕ) (d : X) → i < length xs → filter_map h (take (i + 1) xs) ≡ filter_map h (take i xs) ++ cons_option (h (get_or xs i d)) []
+place-next h xs i d within =
+    ap (filter_map h) (take_more xs i d within) ∙ filter_map-append h (take i xs) (get_or xs i d ∷ [])
+
 low : (k : Key) (ks : List Key) → AllByRecursion (λ q. pair_cmp k q ≡ Less) ks → Low pair_cmp k ks
 low k [] below = λ q there. absurd (omega arith)
 low k (x ∷ ks) below = low_more pair_cmp pair_total same_cmp k x ks (ap is_gt below.0) (low k ks below.1)
@@ -32,12 +39,10 @@ ascends (k ∷ ks) rise = (low k ks rise.0, ascends ks rise.1)
 pub sorted-keys : (rows : Rows) (found sorted : List Key) → IsPlaced rows → found ≡ filter_map (λ place. place) rows.places → IsPermutation found sorted → IsSorted pair_cmp sorted
     → sorted ≡ map (λ e. e.0) rows.addresses
 sorted-keys rows found sorted placed are moved in_order =
+    let keys : List Key = map (λ e. e.0) rows.addresses in
     arranged pair_cmp pair_total same_cmp keys sorted keys
-    (IsPermutation-trans keys found sorted (IsPermutation-sym found keys (rw are placed.moved)) moved)
+    (IsPermutation-trans keys found sorted (IsPermutation-sym found keys (subst (λ (l : List Key). IsPermutation l keys) (sym are) placed.moved)) moved)
     in_order (ascends keys placed.ascending) (λ q. refl)
-  where
-    keys : List Key
-    keys = map (λ e. e.0) rows.addresses
 
 -- what the rows of all of them say
 pub all-rows : (rows : Rows) → IsPlaced rows → filter_map (row_at rows) (map (λ e. e.0) rows.addresses) ≡ map row_of rows.addresses

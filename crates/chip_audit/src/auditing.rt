@@ -1,9 +1,13 @@
 //! The audit of a plane's chip.
-ghost use Rattle.std.specs.Prelude.{◌≡◌, true, IfOk, Some};
+ghost use Rattle.std.specs.Prelude.{◌≡◌, true, IfOk, OnOk, Some};
+ghost use Rattle.br_model.specs.declared.change.Change.{Change};
+ghost use Rattle.br_model.specs.Table.Change.{address_part};
+ghost use Rattle.br_model.specs.Table.Cut.{deferred_at};
 ghost use Rattle.br_model.specs.Plane.Chip.{Chip};
 ghost use Rattle.br_model.specs.Plane.World.{chip_at, table_of_chip};
 ghost use Rattle.br_model.specs.Table.Domains.{has_chip};
 ghost use Rattle.chip_audit.specs.Audits.{audit_of, entries_of, offloaded_keys, pending_keys, stale_keys};
+ghost use Rattle.chip_audit.specs.Marks.{entries_after};
 
 use crate::NoMemory;
 use crate::comparison::{Audit, Comparison};
@@ -12,6 +16,17 @@ use crate::rows::{Row, rows};
 use br_model::numbers::Dom;
 use plane_core::Plane;
 use std::alloc::Global;
+
+/// The entries after the update with this ticket. After want of memory nothing is known of them.
+fn follow_update(entries: &mut Entries, p: &Plane, ticket: u32) -> Result<(), NoMemory>
+    ensures { OnOk result ((c : Change) → deferred_at p.now.world.setup.domains.edition p.now.world.history ticket ≡ Some c
+        → entries.new.entries ≡ entries_after entries.old.entries (address_part c)) }
+{
+    match p.update(ticket) {
+        Some(update) => follow(entries, &update.change),
+        None => Ok(()),
+    }
+}
 
 /// The bridge's entries: those of the domain's chip, which are these rows, changed by each update that it hasn't applied.
 fn entries(alloc: Global, p: &Plane, d: Dom, rows: &[Row]) -> Result<Entries, NoMemory>
@@ -25,9 +40,7 @@ fn entries(alloc: Global, p: &Plane, d: Dom, rows: &[Row]) -> Result<Entries, No
     let mut entries = of_rows(alloc, rows)?;
     let applied = p.applied(d);
     for ticket in applied..applied + p.pending(d) {
-        if let Some(update) = p.update(ticket) {
-            follow(&mut entries, &update.change)?;
-        }
+        follow_update(&mut entries, p, ticket)?;
     }
     Ok(entries)
 }
@@ -41,11 +54,8 @@ pub fn compare(alloc: Global, p: &Plane, d: Dom) -> Result<Comparison, NoMemory>
     let rows = rows(alloc, p.tables(d))?;
     let entries = entries(alloc, p, d, &rows)?;
     let stale = gone(alloc, &entries, &rows)?;
-    Ok(Comparison {
-        entries,
-        stale,
-        waiting: p.pending(d),
-    })
+    let waiting = p.pending(d);
+    Ok(Comparison::of(entries, stale, waiting))
 }
 
 /// The same, as keys.

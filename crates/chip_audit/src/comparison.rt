@@ -13,9 +13,9 @@ use std::marker::Model;
 /// The bridge's entries, the stale ones of a chip, and how many updates wait for it. All ascend by VLAN and address.
 #[derive(Drop)]
 pub struct Comparison {
-    pub(crate) entries: Entries,
-    pub(crate) stale: Vec<Row>,
-    pub(crate) waiting: u32,
+    entries: Entries,
+    stale: Vec<Row>,
+    waiting: u32,
 }
 
 impl Model for Comparison {
@@ -77,6 +77,37 @@ fn stale_keys(alloc: Global, rows: &[Row]) -> Result<Keys, NoMemory>
 }
 
 impl Comparison {
+    pub(crate) fn of(entries: Entries, stale: Vec<Row>, waiting: u32) -> Comparison
+        ensures { result ≡ record { entries = entries.entries; stale = stale.items; waiting = waiting } }
+    {
+        Comparison {
+            entries,
+            stale,
+            waiting,
+        }
+    }
+
+    /// The bridge's entries.
+    pub fn entries(&self) -> &Entries
+        ensures { result.now.entries ≡ self.now.entries }
+    {
+        &self.entries
+    }
+
+    /// The stale entries of the chip.
+    pub fn stale(&self) -> &[Row]
+        ensures { result.now ≡ self.now.stale }
+    {
+        self.stale.as_slice()
+    }
+
+    /// How many updates wait for the chip.
+    pub fn waiting(&self) -> u32
+        ensures { result ≡ self.now.waiting }
+    {
+        self.waiting
+    }
+
     /// The keys alone.
     pub fn audit(&self, alloc: Global) -> Result<Audit, NoMemory>
         ensures offloaded { IfOk result (λ a. a.offloaded ≡ offloaded_in self.now) }

@@ -1,7 +1,7 @@
 //! An audit as lines.
-ghost use Rattle.std.specs.Prelude.{◌≡◌, ◌++◌, true, OnOk, Some, string_bytes};
-ghost use Rattle.std.specs.List.{flat_map};
-ghost use Rattle.br_model.specs.Table.Domains.{has_chip};
+ghost use Rattle.std.specs.Prelude.{◌≡◌, ◌++◌, ◌∷◌, ◌≤◌, [], true, OnOk, Some, string_bytes};
+ghost use Rattle.std.specs.List.{filter, flat_map};
+ghost use Rattle.br_model.specs.Table.Domains.{has_chip, last_chip};
 ghost use Rattle.chip_audit.specs.Lines.{audit_lines, domain_lines, entry_line, entry_text, offload_word as word_of, stale_line, world_lines};
 
 use crate::NoMemory;
@@ -85,10 +85,10 @@ fn append_comparison(
 ) -> Result<(), NoMemory>
     ensures { OnOk result (string_bytes to.new ≡ string_bytes to.old ++ audit_lines roster.now.ports d comparison.now) }
 {
-    let (domain, waiting) = (d.number(), comparison.waiting);
+    let (domain, waiting) = (d.number(), comparison.waiting());
     writeln!(to, "domain {domain}")?;
-    append_entries(&comparison.entries, roster, to)?;
-    append_stale_ones(&comparison.stale, roster, to)?;
+    append_entries(comparison.entries(), roster, to)?;
+    append_stale_ones(comparison.stale(), roster, to)?;
     writeln!(to, "pending {waiting}")
 }
 
@@ -109,6 +109,24 @@ fn append_domain(
     append_comparison(&comparison, d, roster, to)
 }
 
+/// The lines of the domain with this number, where it has a chip.
+fn append_numbered(
+    alloc: Global,
+    p: &Plane,
+    number: usize,
+    roster: &Roster,
+    to: &mut String,
+) -> Result<(), NoMemory>
+    requires { number ≤ last_chip }
+    ensures { OnOk result (string_bytes to.new ≡ string_bytes to.old
+        ++ flat_map (domain_lines roster.now.ports p.now.world) (filter (λ k. has_chip p.now.world.setup.domains k) (number ∷ []))) }
+{
+    match Dom::new(number as u8) {
+        Some(d) if p.domains().has_chip(d) => append_domain(alloc, p, d, roster, to),
+        _ => Ok(()),
+    }
+}
+
 /// Appends the audit of each domain that has a chip, ascending.
 pub fn append_audit(
     alloc: Global,
@@ -119,10 +137,7 @@ pub fn append_audit(
     ensures { OnOk result (string_bytes to.new ≡ string_bytes to.old ++ world_lines roster.now.ports p.now.world) }
 {
     for number in 1..Dom::PLACES {
-        match Dom::new(number as u8) {
-            Some(d) if p.domains().has_chip(d) => append_domain(alloc, p, d, roster, to)?,
-            _ => {}
-        }
+        append_numbered(alloc, p, number, roster, to)?;
     }
     Ok(())
 }

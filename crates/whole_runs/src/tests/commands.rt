@@ -91,9 +91,9 @@ fn worked_tables(rt: HostRuntime) -> Result<(), Fail> {
     Ok(())
 }
 
-/// Two ports of a chip beside one of software come up, and that is published: how each of these scenarios begins.
-const CHIP: &str = "scenario 1
-port 1 c1 chip 1
+/// Two ports of a chip beside one of software come up, and that is published: how each of these scenarios goes on behind its first
+/// line.
+const CHIP: &str = "port 1 c1 chip 1
 port 2 c2 chip 1
 port 3 f3 soft
 cmd port up c1
@@ -102,12 +102,14 @@ cmd port up f3
 publish
 ";
 
-/// A station whose chip has its entry moves to a port of software; the chip is told; and an entry is deleted and put again.
+/// A station whose chip has its entry moves to a port of software; the chip is told; an entry is deleted and put again; and in edition
+/// 2 a member of a group waits.
 #[test]
 fn worked_audits(rt: HostRuntime) -> Result<(), Fail> {
     let alloc = rt.alloc();
     let rows = [
         (
+            1,
             "cmd fdb add 02:00:00:00:00:0b dev c2 vlan 1 extern
 turn 1
 publish
@@ -123,6 +125,7 @@ end
 ",
         ),
         (
+            1,
             "cmd fdb add 02:00:00:00:00:0b dev c2 vlan 1 extern
 turn 1
 publish
@@ -138,6 +141,7 @@ end
 ",
         ),
         (
+            1,
             "cmd fdb add 02:00:00:00:00:0b dev c2 vlan 1 static
 turn 1
 cmd fdb del 02:00:00:00:00:0b vlan 1
@@ -150,9 +154,19 @@ pending 2
 end
 ",
         ),
+        (
+            2,
+            "cmd mdb add 239.1.2.3 dev c2 vlan 1
+end
+",
+            "domain 1
+pending 1
+end
+",
+        ),
     ];
-    for (steps, wrote) in rows {
-        let input = format!(in alloc; "{CHIP}{steps}")?;
+    for (edition, steps, wrote) in rows {
+        let input = format!(in alloc; "scenario {edition}\n{CHIP}{steps}")?;
         writes(
             &rt,
             alloc,
