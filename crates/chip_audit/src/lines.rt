@@ -34,8 +34,8 @@ fn append_entry(
     ensures { OnOk result (string_bytes to.new ≡ string_bytes to.old ++ entry_text roster.now.ports (key.now, (port, kind))) }
 {
     append_mac(key.1, to)?;
-    let (vid, device, kind) = (key.0.number(), device(roster, port), kind_word(kind));
-    write!(to, " dev {device} vlan {vid} {kind}")
+    let (vid, name, kind) = (key.0.number(), device(roster, port), kind_word(kind));
+    write!(to, " dev {name} vlan {vid} {kind}")
 }
 
 /// The line of an entry of the bridge.

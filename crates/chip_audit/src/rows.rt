@@ -1,6 +1,7 @@
 //! The address entries of a chip, read from its rows.
 ghost use Rattle.std.specs.Prelude.{◌≡◌, ℕ, IfOk, map};
 ghost use Rattle.br_model.specs.Table.Table.{Table};
+ghost use Rattle.chip_tables.specs.Rows.{IsPlaced};
 ghost use Rattle.chip_tables.specs.Stands.{AddressesStand};
 ghost use Rattle.chip_audit.specs.Marks.{row_at, row_of};
 
@@ -16,7 +17,8 @@ pub type Row = (Key, (Port, Kind));
 
 /// The keys of the used address rows, ascending.
 fn keys(alloc: Global, tables: &Tables) -> Result<Vec<Key>, NoMemory>
-    ensures { IfOk result (λ keys. keys.items ≡ map (λ e. e.0) tables.now.addresses) }
+    ensures keys { IfOk result (λ keys. keys.items ≡ map (λ e. e.0) tables.now.addresses) }
+    ensures placed { IsPlaced tables.now }
 {
     let mut keys = Vec::new(alloc);
     for i in 0..tables.address_rows() {

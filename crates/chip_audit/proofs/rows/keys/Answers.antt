@@ -20,8 +20,8 @@ loop-i-preserved c =
       | in_default w ↦ ap (λ (v : Vec Key Global). v.items) w.keys-is ∙ c.loop-i.invariant ∙ sym (append-nil _) ∙ ap made (sym w.in_default.is) ∙ sym next
     ]
 
-pub returns : goal.returns
-returns c =
+pub returns-clause-keys : goal.returns-clause-keys
+returns-clause-keys c =
     let places : List (Option Key) = c.args.tables.now.places in
     let past : length places ≤ c.loop-i.i = omega (arith, c.loop-i-test.false, c.address_rows-i-end.ensures.count, c.address_rows-i-end.ensures.placed.sized) in
     sorted-keys c.args.tables.now c.loop-i.keys.items c.sort_unstable.new.self.items c.address_rows-i-end.ensures.placed
