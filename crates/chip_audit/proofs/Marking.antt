@@ -128,11 +128,11 @@ updates-lead edition h k =
     let ds : List Change = deferred_of edition h in
     let at_once : Table = fold apply start (synchronous_of edition h) in
     let cut_is : table (cut edition h k) ≡ fold apply at_once (take k ds) =
-        table-sorted edition (cut edition h k) ∙ fold-append apply start (synchronous_of edition (cut edition h k)) (deferred_of edition (cut edition h k))
-        ∙ (λ i. fold apply (fold apply start (synchronous_of-cut edition h k i)) (deferred_of-cut edition h k i)) in
+    table-sorted edition (cut edition h k) ∙ fold-append apply start (synchronous_of edition (cut edition h k)) (deferred_of edition (cut edition h k))
+    ∙ (λ i. fold apply (fold apply start (synchronous_of-cut edition h k i)) (deferred_of-cut edition h k i)) in
     let whole : table h ≡ fold apply at_once ds = table-sorted edition h ∙ fold-append apply start (synchronous_of edition h) ds in
     let same : fold apply (table (cut edition h k)) (drop k ds) ≡ table h =
-        ap (λ t. fold apply t (drop k ds)) cut_is ∙ sym (fold-append apply at_once (take k ds) (drop k ds)) ∙ ap (fold apply at_once) (take-append-drop k ds) ∙ sym whole in
+    ap (λ t. fold apply t (drop k ds)) cut_is ∙ sym (fold-append apply at_once (take k ds) (drop k ds)) ∙ ap (fold apply at_once) (take-append-drop k ds) ∙ sym whole in
     ap (λ (t : Table). t.addr) same
 
 -- An update more.
