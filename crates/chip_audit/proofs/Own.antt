@@ -23,20 +23,17 @@ pub above : (k q : Key) → is_lt (pair_cmp k q) ≡ true → pair_cmp q k ≡ G
 above k q h = pair_total.antisymm q k ∙ ap ordering_reverse (less (pair_cmp k q) h)
 
 module _ {X : Type 0} where
-  abbrev Entries : Type 0
-  Entries = List (Key × X)
-
-  abbrev pub FindOwn : Entries → Entries → Type 0
+  abbrev pub FindOwn : List (Key × X) → List (Key × X) → Type 0
   FindOwn es fs = AllByRecursion (λ f. get pair_cmp es f.0 ≡ Some f.1) fs
 
-  behind : (e : Key × X) (es fs : Entries) → below_all pair_cmp e.0 fs ≡ true → FindOwn es fs → FindOwn (e ∷ es) fs
+  behind : (e : Key × X) (es fs : List (Key × X)) → below_all pair_cmp e.0 fs ≡ true → FindOwn es fs → FindOwn (e ∷ es) fs
   behind e es [] below own = tt
   behind e es (f ∷ fs) below own = (
     ap (λ r. cond (is_eq r) (Some e.1) (get pair_cmp es f.0)) (above e.0 f.0 (first_so _ _ below)) ∙ own.0,
     behind e es fs (second_so _ _ below) own.1,
   )
 
-  pub find-own : (es : Entries) → is_sorted pair_cmp es ≡ true → FindOwn es es
+  pub find-own : (es : List (Key × X)) → is_sorted pair_cmp es ≡ true → FindOwn es es
   find-own [] rise = tt
   find-own (e ∷ es) rise = (
     ap (λ r. cond (is_eq r) (Some e.1) (get pair_cmp es e.0)) (tied_itself pair_total e.0),
@@ -45,11 +42,11 @@ module _ {X : Type 0} where
 
   -- entries whose keys ascend
 
-  below : (k : Key) (es : Entries) → AllByRecursion (λ q. pair_cmp k q ≡ Less) (map (λ e. e.0) es) → below_all pair_cmp k es ≡ true
+  below : (k : Key) (es : List (Key × X)) → AllByRecursion (λ q. pair_cmp k q ≡ Less) (map (λ e. e.0) es) → below_all pair_cmp k es ≡ true
   below k [] low = refl
   below k (e ∷ es) low = ap (λ r. is_lt r && below_all pair_cmp k es) low.0 ∙ below k es low.1
 
-  pub rises : (es : Entries) → IsStrictlySortedBy pair_cmp (map (λ e. e.0) es) → is_sorted pair_cmp es ≡ true
+  pub rises : (es : List (Key × X)) → IsStrictlySortedBy pair_cmp (map (λ e. e.0) es) → is_sorted pair_cmp es ≡ true
   unfolding IsStrictlySortedBy
   rises [] rise = refl
   rises (e ∷ es) rise = ap (λ b. b && is_sorted pair_cmp es) (below e.0 es rise.0) ∙ rises es rise.1

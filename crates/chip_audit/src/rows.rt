@@ -1,9 +1,9 @@
 //! The address entries of a chip, read from its rows.
-ghost use Rattle.std.specs.Prelude.{◌≡◌, ℕ, IfOk, map};
+ghost use Rattle.std.specs.Prelude.{◌≡◌, IfOk, map, filter_map};
 ghost use Rattle.br_model.specs.Table.Table.{Table};
 ghost use Rattle.chip_tables.specs.Rows.{IsPlaced};
 ghost use Rattle.chip_tables.specs.Stands.{AddressesStand};
-ghost use Rattle.chip_audit.specs.Marks.{row_at, row_of};
+ghost use Rattle.chip_audit.specs.Marks.{row_at};
 
 use crate::NoMemory;
 use br_model::change::Kind;
@@ -38,13 +38,12 @@ fn row_at(tables: &Tables, key: &Key) -> Option<Row>
     Some((*key, (row.port, row.kind)))
 }
 
-/// What the used address rows say, ascending by VLAN and address.
-fn used_rows(alloc: Global, tables: &Tables) -> Result<Vec<Row>, NoMemory>
-    ensures { IfOk result (λ rows. rows.items ≡ map row_of tables.now.addresses) }
+/// What the rows of these keys say, in their order.
+fn rows_of(alloc: Global, tables: &Tables, keys: &[Key]) -> Result<Vec<Row>, NoMemory>
+    ensures { IfOk result (λ rows. rows.items ≡ filter_map (row_at tables.now) keys.now) }
 {
-    let keys = keys(alloc, tables)?;
     let mut rows = Vec::with_capacity(alloc, keys.len())?;
-    for key in &keys {
+    for key in keys {
         if let Some(row) = row_at(tables, key) {
             rows.push(row)?;
         }
@@ -56,5 +55,6 @@ fn used_rows(alloc: Global, tables: &Tables) -> Result<Vec<Row>, NoMemory>
 pub(crate) fn rows(alloc: Global, tables: &Tables) -> Result<Vec<Row>, NoMemory>
     ensures { IfOk result (λ rows. (t : Table) → AddressesStand tables.now t → rows.items ≡ t.addr) }
 {
-    used_rows(alloc, tables)
+    let keys = keys(alloc, tables)?;
+    rows_of(alloc, tables, keys.as_slice())
 }
