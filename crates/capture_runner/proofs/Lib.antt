@@ -1,3 +1,4 @@
+pub mod Auditing
 pub mod CheckEnds
 pub mod Counting
 pub mod Cutting

@@ -21,6 +21,7 @@ use Rattle.br_model.specs.Text.Scenario.{Scenario, Ending, Going, Ended, Bad, sc
 use Rattle.br_model.specs.Table.Table.{table}
 use Rattle.br_model.proofs.Completing.{never_bad, never_filled, never_found_bad, never_full}
 use Rattle.br_model.proofs.Running.{run_none}
+use Rattle.chip_audit.specs.Lines.{audited}
 use Rattle.capture_runner.specs.declared.asked.Asked.{Asked}
 use Rattle.capture_runner.specs.declared.asked.Asked.TheVariants as asks
 use Rattle.capture_runner.specs.declared.replay.Halt.TheVariants as halts
@@ -397,6 +398,7 @@ module _ (before now : Option (List ℕ)) (r : Status) (left : Option (List ℕ)
     lacks_at_first failed (Some asks.Check) = checks_nothing failed
     lacks_at_first failed (Some (asks.Show listing)) = reads_nothing failed (listed listing)
     lacks_at_first failed (Some asks.Monitor) = reads_nothing failed monitored
+    lacks_at_first failed (Some asks.Audit) = reads_nothing failed audited
     lacks_at_first failed (Some (asks.Gen number count)) = writes_nothing (made number count) s a b
     lacks_at_first failed (Some (asks.Demo number count)) = writes_nothing (summary number count) s a b
 
@@ -456,6 +458,7 @@ module _ (failed : Type 0) (c : Call) (reads reads_now writes writes_now : ℕ) 
   completes (Some asks.Check) r o cause has = checking r has o cause
   completes (Some (asks.Show listing)) r o cause has = reading (Some (asks.Show listing)) (listed listing) nothing no_parts r has o cause
   completes (Some asks.Monitor) r o cause has = reading (Some asks.Monitor) monitored nothing no_parts r has o cause
+  completes (Some asks.Audit) r o cause has = reading (Some asks.Audit) audited nothing no_parts r has o cause
   completes (Some (asks.Gen number count)) r o cause has = writing (Some (asks.Gen number count)) (made number count) r o cause
   completes (Some (asks.Demo number count)) r o cause has = writing (Some (asks.Demo number count)) (summary number count) r o cause
 

@@ -13,8 +13,9 @@ use Rattle.br_model.specs.Table.Limits.{most_bytes}
 use Rattle.br_model.specs.Text.Scenario.{Ended}
 use Rattle.br_model.specs.Program.Summary.{summary}
 use Rattle.neigh_netlink.specs.Monitor.{monitored}
+use Rattle.chip_audit.specs.Lines.{audited}
 use Rattle.capture_runner.specs.declared.asked.Asked.{Asked}
-use Rattle.capture_runner.specs.declared.asked.Asked.TheVariants.{Replay, Check, Show, Monitor, Gen, Demo}
+use Rattle.capture_runner.specs.declared.asked.Asked.TheVariants.{Replay, Check, Show, Monitor, Audit, Gen, Demo}
 use Rattle.capture_runner.specs.declared.status.Status.{Status}
 use Rattle.capture_runner.specs.declared.status.Status.TheVariants as statuses
 
@@ -134,6 +135,7 @@ Outcome failed (Some Replay) = Replays failed
 Outcome failed (Some Check) = Checks failed
 Outcome failed (Some (Show listing)) = Reads failed (listed listing) nothing no_parts
 Outcome failed (Some Monitor) = Reads failed monitored nothing no_parts
+Outcome failed (Some Audit) = Reads failed audited nothing no_parts
 Outcome failed (Some (Gen number count)) = Writes (made number count)
 Outcome failed (Some (Demo number count)) = Writes (summary number count)
 
@@ -155,6 +157,7 @@ Asks (Some Replay) call = HasScenario most_bytes call
 Asks (Some Check) call = HasChecked most_bytes call
 Asks (Some (Show listing)) call = HasScenario most_bytes call
 Asks (Some Monitor) call = HasScenario most_bytes call
+Asks (Some Audit) call = HasScenario most_bytes call
 Asks (Some (Gen number count)) call = Unit {0}
 Asks (Some (Demo number count)) call = Unit {0}
 

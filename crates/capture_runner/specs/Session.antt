@@ -26,6 +26,7 @@ use Rattle.br_model.specs.Program.Runs.{run_of, body_of, setup_of}
 use Rattle.br_model.specs.Text.Scenario.{Scenario, opened, Ending, Going, Ended, Bad, bad, captured, section_length, takes, takes_steps, whole_says}
 use Rattle.br_model.specs.Table.Table.{table}
 use Rattle.br_model.specs.Text.Transcript.{text, line_text, bad_text}
+use Rattle.chip_audit.specs.Lines.{audited_text}
 use Rattle.capture_runner.specs.declared.session.Captured.{Captured}
 use Rattle.capture_runner.specs.declared.session.Captured.TheVariants as sections
 use Rattle.capture_runner.specs.declared.session.Last.{Last}
@@ -177,6 +178,11 @@ history_of (Some w) = w.history
 abbrev pub listing_or_bad : Listing → Last → List Entry → Option World → List ℕ
 listing_or_bad listing lasts.Ended ports w = listing_text listing ports (table (history_of w))
 listing_or_bad listing (lasts.Bad n why) ports w = bad_text n why
+
+-- the audit of the chips of a scenario that has ended so
+abbrev pub audit_or_bad : Last → Roster → Option World → List ℕ
+audit_or_bad lasts.Ended roster w = audited_text roster.ports (world_of roster w)
+audit_or_bad (lasts.Bad n why) roster w = bad_text n why
 
 abbrev pub status_of : Last → Status
 status_of lasts.Ended = statuses.Ok

@@ -12,6 +12,8 @@ pub enum Asked {
     Show(Listing),
     /// To run the scenario of the input, and write the messages of its address changes.
     Monitor,
+    /// To run the scenario of the input, and write the audit of its chips at its end.
+    Audit,
     /// To write a scenario of generated frames.
     Gen {
         /// The generator's first state.

@@ -3,6 +3,7 @@
 #![tactic(auto)]
 
 mod asked;
+mod audit;
 mod checking;
 mod commands;
 mod demo;

@@ -3,7 +3,7 @@ ghost use Rattle.std.specs.Prelude.{◌≡◌, ℕ, ◌+◌, ◌-◌, ◌<◌, �
 ghost use Rattle.br_model.specs.Text.Operands.{longest_section};
 ghost use Rattle.br_model.specs.Text.Scenario.{Scenario, opened, longest_line, closes};
 ghost use Rattle.br_model.specs.Table.Table.{table};
-ghost use Rattle.capture_runner.specs.Session.{Follows, SaysNothing, SaysOn, Takes, IsAfter, IsBehindDeclarations, IsCaptured, IsReady, ComeByLine, Does, ending_of, world_of, end_line_of, last_line, history_of, listing_or_bad, status_of};
+ghost use Rattle.capture_runner.specs.Session.{Follows, SaysNothing, SaysOn, Takes, IsAfter, IsBehindDeclarations, IsCaptured, IsReady, ComeByLine, Does, ending_of, world_of, end_line_of, last_line, history_of, listing_or_bad, audit_or_bad, status_of};
 ghost use Rattle.br_model.specs.Text.LineForms.{comes_by_line};
 ghost use Rattle.br_model.specs.Text.Roster.{chips_of};
 ghost use Rattle.std.specs.String.Boundary.{IsSplitPoint};
@@ -11,6 +11,7 @@ ghost use Rattle.transcript_text.specs.Extends.{Extends};
 ghost use Rattle.capture_runner.specs.Voices.{answer_at, lines_of, said_by};
 
 use crate::NoMemory;
+use crate::audit::audit_text;
 use crate::section::captured_steps;
 use crate::status::Status;
 use crate::voice::{Voice, begin, do_step, take_text};
@@ -276,6 +277,25 @@ impl Session {
     {
         match last {
             Last::Ended => list(alloc, listing, &self.table(alloc)?, &self.roster),
+            Last::Bad(number, why) => {
+                let mut text = String::new(alloc);
+                append_bad(number, why, &mut text)?;
+                Ok(text)
+            }
+        }
+    }
+
+    /// The audit of the chips as the run has left them, or the bad line.
+    pub(crate) fn audit<R: Wait>(
+        &self,
+        rt: &R,
+        alloc: Global,
+        last: Last,
+    ) -> Result<String, NoMemory>
+        ensures { IfOk result (λ text. string_bytes text ≡ audit_or_bad last self.now.roster self.now.world) }
+    {
+        match last {
+            Last::Ended => audit_text(rt, alloc, &self.roster, &self.world),
             Last::Bad(number, why) => {
                 let mut text = String::new(alloc);
                 append_bad(number, why, &mut text)?;

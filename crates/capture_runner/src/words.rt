@@ -46,6 +46,7 @@ fn whole_command<'a>(alloc: Global) -> Result<Command<'a>, NoMemory>
         .subcommand(Command::new(alloc, "check"))?
         .subcommand(show_command(alloc)?)?
         .subcommand(Command::new(alloc, "monitor"))?
+        .subcommand(Command::new(alloc, "audit"))?
         .subcommand(generating_command(alloc, "gen")?)?
         .subcommand(generating_command(alloc, "demo")?)
 }
@@ -95,6 +96,7 @@ fn asked_of(name: &str, found: &ArgMatches) -> Option<Asked>
         "check" => Some(Asked::Check),
         "show" => Some(Asked::Show(listing_from(found)?)),
         "monitor" => Some(Asked::Monitor),
+        "audit" => Some(Asked::Audit),
         "gen" => {
             let (number, count) = numbers_from(found)?;
             Some(Asked::Gen { number, count })

@@ -338,6 +338,13 @@ impl World {
         history(&self.plane)
     }
 
+    /// The bridge with its chips.
+    pub(crate) fn plane(&self) -> &Plane
+        ensures { result.now.world ≡ self.now }
+    {
+        &self.plane
+    }
+
     /// The change that the domain's chip applies next, if there is one.
     pub(crate) fn next_update(&self, dom: Dom) -> Option<Update>
         requires { has_chip self.now.setup.domains dom ≡ true }

@@ -17,6 +17,6 @@ pub use generator::{
     END_BYTES, Generator, MOST_FRAME_BYTES, OPENING_BYTES, append_opening, domains, first_steps,
     generate,
 };
-pub use listing::list;
+pub use listing::{device, list};
 pub use reading::{read_line, says_end};
-pub use write::write_line;
+pub use write::{append_mac, kind_word, write_line};

@@ -19,7 +19,7 @@ use bridge_command::Roster;
 use std::alloc::Global;
 
 /// The name of the port, or of the host. A port that isn't declared has none.
-fn device(roster: &Roster, port: Port) -> &str
+pub fn device(roster: &Roster, port: Port) -> &str
     ensures { result.now ≡ device_text roster.now.ports port }
 {
     if port.is_host() {

@@ -76,7 +76,8 @@ fn append_three(a: u8, b: u8, c: u8, to: &mut String) -> Result<(), NoMemory>
     append_hex(&[c], to)
 }
 
-pub(crate) fn append_mac(mac: Mac, to: &mut String) -> Result<(), NoMemory>
+/// Six pairs of digits in lower case, joined by colons.
+pub fn append_mac(mac: Mac, to: &mut String) -> Result<(), NoMemory>
     ensures { OnOk result (string_bytes to.new ≡ string_bytes to.old ++ mac_text mac) }
 {
     append_three(byte(mac, 40), byte(mac, 32), byte(mac, 24), to)?;
@@ -132,7 +133,8 @@ fn append_ip(address: Ip, to: &mut String) -> Result<(), NoMemory>
     }
 }
 
-pub(crate) fn kind_word(kind: Kind) -> &'static str
+/// The word of a kind in a line.
+pub fn kind_word(kind: Kind) -> &'static str
     ensures { result.now ≡ word_of_kind kind }
 {
     match kind {

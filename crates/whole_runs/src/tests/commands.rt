@@ -91,6 +91,93 @@ fn worked_tables(rt: HostRuntime) -> Result<(), Fail> {
     Ok(())
 }
 
+/// Two ports of a chip beside one of software come up, and that is published: how each of these scenarios goes on behind its first
+/// line.
+const CHIP: &str = "port 1 c1 chip 1
+port 2 c2 chip 1
+port 3 f3 soft
+cmd port up c1
+cmd port up c2
+cmd port up f3
+publish
+";
+
+/// A station whose chip has its entry moves to a port of software; the chip is told; an entry is deleted and put again; and in edition
+/// 2 a member of a group waits.
+#[test]
+fn worked_audits(rt: HostRuntime) -> Result<(), Fail> {
+    let alloc = rt.alloc();
+    let rows = [
+        (
+            1,
+            "cmd fdb add 02:00:00:00:00:0b dev c2 vlan 1 extern
+turn 1
+publish
+rx 3 02000000000a02000000000b88b50102
+serve
+end
+",
+            "domain 1
+entry 02:00:00:00:00:0b dev f3 vlan 1 learned pending
+stale 02:00:00:00:00:0b dev c2 vlan 1 extern
+pending 1
+end
+",
+        ),
+        (
+            1,
+            "cmd fdb add 02:00:00:00:00:0b dev c2 vlan 1 extern
+turn 1
+publish
+rx 3 02000000000a02000000000b88b50102
+serve
+turn 1
+end
+",
+            "domain 1
+entry 02:00:00:00:00:0b dev f3 vlan 1 learned offload
+pending 0
+end
+",
+        ),
+        (
+            1,
+            "cmd fdb add 02:00:00:00:00:0b dev c2 vlan 1 static
+turn 1
+cmd fdb del 02:00:00:00:00:0b vlan 1
+cmd fdb add 02:00:00:00:00:0b dev c2 vlan 1 static
+end
+",
+            "domain 1
+entry 02:00:00:00:00:0b dev c2 vlan 1 static pending
+pending 2
+end
+",
+        ),
+        (
+            2,
+            "cmd mdb add 239.1.2.3 dev c2 vlan 1
+end
+",
+            "domain 1
+pending 1
+end
+",
+        ),
+    ];
+    for (edition, steps, wrote) in rows {
+        let input = format!(in alloc; "scenario {edition}\n{CHIP}{steps}")?;
+        writes(
+            &rt,
+            alloc,
+            "audit",
+            (input.as_bytes(), &[]),
+            (Status::Ok, wrote),
+        );
+    }
+    Ok(())
+}
+
 /// What the host has before the first step, and words behind `--`.
 #[test]
 fn scenario_without_steps(rt: HostRuntime) {
@@ -100,6 +187,7 @@ fn scenario_without_steps(rt: HostRuntime) {
         ("show -- fdb", "end\n"),
         ("show vlan", "host 1 untagged\nend\n"),
         ("show mdb", "end\n"),
+        ("audit", "domain 1\npending 0\nend\n"),
     ];
     for (line, wrote) in rows {
         writes(&rt, rt.alloc(), line, (UNREAD, &[]), (Status::Ok, wrote));
@@ -135,6 +223,7 @@ fn words_outside_the_grammar(rt: HostRuntime) {
         "demo 7",
         "demo 0 100001",
         "demo 1 -1",
+        "audit 1",
         "live --workers 2",
     ];
     for line in rows {

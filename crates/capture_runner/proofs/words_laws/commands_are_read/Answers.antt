@@ -12,6 +12,7 @@ returns c = record {
   vlan = refl;
   mdb = refl;
   monitor = refl;
+  audit = refl;
   least = refl;
   most = refl;
   demo = refl;

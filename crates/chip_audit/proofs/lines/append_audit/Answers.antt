@@ -1,0 +1,16 @@
+use Rattle.std.proofs.Common.{ℕ, List, [], ◌∷◌, ◌++◌, ap, string_bytes, ◌∙◌, arith}
+use Rattle.std.specs.List.{filter, flat_map}
+use Rattle.std.proofs.lemmas.List.{take_all}
+use Rattle.br_model.specs.Table.Domains.{has_chip}
+use Rattle.chip_audit.specs.Lines.{domain_lines}
+use Rattle.plane_core.proofs.ChipLists.{existing}
+use Rattle.chip_audit.proofs.lines.append_audit.Goals as goal
+
+pub returns : goal.returns
+returns c =
+    let domains = c.args.p.now.world.setup.domains in
+    let old = string_bytes c.args.to.now in
+    let lines : ℕ → List ℕ = domain_lines c.args.roster.now.ports c.args.p.now.world in
+    c.loop-number.invariant.1
+    ∙ ap (λ (ks : List ℕ). old ++ flat_map lines (filter (λ k. has_chip domains k) ks)) (take_all _ (1 ∷ 2 ∷ 3 ∷ 4 ∷ []) (omega (arith, c.loop-number-test.false)))
+    ∙ ap (λ (ks : List ℕ). old ++ flat_map lines ks) (existing domains)

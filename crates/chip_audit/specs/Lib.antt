@@ -1,0 +1,4 @@
+pub mod Audits
+pub mod Marks
+pub mod Lines
+pub mod Worked
