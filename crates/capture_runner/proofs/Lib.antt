@@ -2,6 +2,7 @@ pub mod Counting
 pub mod Cutting
 pub mod Deciding
 pub mod Doing
+pub mod Followed
 pub mod Following
 pub mod Generating
 pub mod Monitoring

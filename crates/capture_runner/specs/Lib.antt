@@ -1,5 +1,6 @@
 pub mod Advancing
 pub mod Counting
+pub mod Following
 pub mod Generating
 pub mod Halting
 pub mod Held

@@ -13,7 +13,7 @@ use Rattle.br_model.specs.Text.Words.{Word}
 use Rattle.clap.specs.Words.{App, Kinds, Row, Rule, first_of, fault_of, new_app, new_rule, subcommand_of, with_rule, with_subcommand}
 use Rattle.clap.specs.Simple.{on_top}
 use Rattle.capture_runner.specs.declared.asked.Asked.{Asked}
-use Rattle.capture_runner.specs.declared.asked.Asked.TheVariants.{Replay, Show, Monitor, Gen, Demo}
+use Rattle.capture_runner.specs.declared.asked.Asked.TheVariants.{Replay, Show, Monitor, Follow, Gen, Demo}
 
 -- what an operand's word spells
 
@@ -70,6 +70,7 @@ forms =
     form (codes "replay") [] (λ rows. Some Replay) ∷
     form (codes "show") table (λ rows. option_map Show (table_of rows)) ∷
     form (codes "monitor") [] (λ rows. Some Monitor) ∷
+    form (codes "follow") [] (λ rows. Some Follow) ∷
     form (codes "gen") number_count (λ rows. option_map (λ p. Gen p.0 p.1) (number_count_of rows)) ∷
     form (codes "demo") number_count (λ rows. option_map (λ p. Demo p.0 p.1) (number_count_of rows)) ∷
     []
@@ -106,5 +107,6 @@ abbrev pub IsWithin : Asked → Type 0
 IsWithin Replay = ⊤
 IsWithin (Show _) = ⊤
 IsWithin Monitor = ⊤
+IsWithin Follow = ⊤
 IsWithin (Gen number count) = count ≤ most_frames
 IsWithin (Demo number count) = count ≤ most_frames

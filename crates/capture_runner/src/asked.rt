@@ -10,6 +10,8 @@ pub enum Asked {
     Show(Listing),
     /// To run the scenario of the input, and write the messages of its address changes.
     Monitor,
+    /// To read messages as `Monitor` writes them, and write the table that they give.
+    Follow,
     /// To write a scenario of generated frames.
     Gen {
         /// The generator's first state.

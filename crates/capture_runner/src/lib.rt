@@ -5,6 +5,7 @@
 mod asked;
 mod commands;
 mod demo;
+mod follow;
 mod held;
 mod monitor;
 mod replay;

@@ -6,6 +6,7 @@ ghost use Rattle.capture_runner.specs.Words.{asked};
 
 use crate::asked::Asked;
 use crate::commands::{demo, generate, monitor, replay, show};
+use crate::follow::follow;
 use crate::status::{Status, end_without_memory, put_last};
 use crate::words::read_words;
 use run_io::sinks::Sink;
@@ -15,8 +16,9 @@ use std::sync::Wait;
 
 /// Does all that the words ask, over this source and sink. `replay` reads a scenario of at most 2^28 bytes and writes its
 /// transcript, `show TABLE` (`fdb`, `vlan` or `mdb`) the table at its end, `monitor` the messages of its address changes.
+/// `follow` reads such messages, of as many bytes, and writes the table that they give.
 /// `gen NUMBER COUNT` reads nothing and writes a scenario, `demo NUMBER COUNT` a summary of its run: NUMBER is below 2^64, COUNT at
-/// most 100,000. `show`, `monitor` and `demo` write nothing before their work is over; `gen` has all its memory before its first
+/// most 100,000. `show`, `monitor`, `follow` and `demo` write nothing before their work is over; `gen` has all its memory before its first
 /// write. Each status has its last line: that of the transcript or of the other output, `bad N WHY`, `usage`, `read fault`,
 /// `no memory` or `too long`; after a fault of writing nothing more is written.
 pub fn run<R: Wait, S: Source, K: Sink>(
@@ -37,6 +39,7 @@ pub fn run<R: Wait, S: Source, K: Sink>(
         Ok(Some(Asked::Replay)) => replay(rt, alloc, source, sink),
         Ok(Some(Asked::Show(listing))) => show(rt, alloc, listing, source, sink),
         Ok(Some(Asked::Monitor)) => monitor(rt, alloc, source, sink),
+        Ok(Some(Asked::Follow)) => follow(alloc, source, sink),
         Ok(Some(Asked::Gen { number, count })) => generate(alloc, number, count, sink),
         Ok(Some(Asked::Demo { number, count })) => demo(rt, alloc, number, count, sink),
         Ok(None) => put_last(sink, b"usage\n", Status::Usage),

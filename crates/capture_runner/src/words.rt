@@ -45,6 +45,7 @@ fn whole_command<'a>(alloc: Global) -> Result<Command<'a>, NoMemory>
         .subcommand(Command::new(alloc, "replay"))?
         .subcommand(show_command(alloc)?)?
         .subcommand(Command::new(alloc, "monitor"))?
+        .subcommand(Command::new(alloc, "follow"))?
         .subcommand(generating_command(alloc, "gen")?)?
         .subcommand(generating_command(alloc, "demo")?)
 }
@@ -93,6 +94,7 @@ fn asked_of(name: &str, found: &ArgMatches) -> Option<Asked>
         "replay" => Some(Asked::Replay),
         "show" => Some(Asked::Show(listing_from(found)?)),
         "monitor" => Some(Asked::Monitor),
+        "follow" => Some(Asked::Follow),
         "gen" => {
             let (number, count) = numbers_from(found)?;
             Some(Asked::Gen { number, count })

@@ -11,6 +11,7 @@ returns c = record {
   vlan = refl;
   mdb = refl;
   monitor = refl;
+  follow = refl;
   least = refl;
   most = refl;
   demo = refl;
