@@ -5,6 +5,7 @@ pub mod Cutting
 pub mod Deciding
 pub mod Doing
 pub mod Finding
+pub mod Followed
 pub mod Following
 pub mod Generating
 pub mod Monitoring

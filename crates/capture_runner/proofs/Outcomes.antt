@@ -34,17 +34,23 @@ use Rattle.capture_runner.specs.declared.status.Status.{Status}
 use Rattle.capture_runner.specs.declared.status.Status.TheVariants as statuses
 use Rattle.capture_runner.specs.Advancing.{Caused as StopsBy}
 use Rattle.capture_runner.specs.Halting.{Answered, Breaks, Grows, Halted, Halts, IsBehind, Plays, Told, Written, Yields}
-use Rattle.capture_runner.specs.Outcome.{Asks, Caused, Checks, EndsWell, OrBreaksOff, Outcome, Reads, Refuses, Replays, Whole, WholeChecks, WholeRefuses, WholeWrites, Writes, call_of, first_line, last_line, no_parts, nothing}
+use Rattle.capture_runner.specs.Outcome.{Asks, Caused, Checks, EndsWell, Follows, OrBreaksOff, Outcome, Reads, Refuses, Replays, Whole, WholeChecks, WholeFollows, WholeRefuses, WholeWrites, Writes, call_of, first_line, last_line, no_parts, nothing}
 use Rattle.capture_runner.specs.Playing.{Below, Filled}
+use Rattle.capture_runner.specs.Following as following
 use Rattle.capture_runner.specs.Session as session
 use Rattle.capture_runner.specs.Stopping as stopping
 use Rattle.br_model.specs.declared.steps.Step.{Step}
 use Rattle.br_model.specs.Table.Setup.{Setup}
+use Rattle.neigh_follow.specs.declared.follower.FollowEnd.{FollowEnd}
+use Rattle.neigh_follow.specs.declared.follower.FollowEnd.TheVariants as follow_lasts
+use Rattle.neigh_netlink.specs.Follow.{Ending as FollowEnding, Following as FollowingLines, followed, followed_at, follows}
+use Rattle.neigh_follow.specs.Calls.{Answers as FollowAnswers, HasMessages, ending_of as follow_ending}
 use Rattle.neigh_netlink.specs.Monitor.{monitored, monitored_at}
 use Rattle.capture_runner.specs.declared.monitor.Monitor.{Monitor as MonitorOf}
 use Rattle.capture_runner.specs.declared.voice.Voice.{Voice}
 use Rattle.capture_runner.specs.declared.voice.Voice.TheVariants.{Silent, Monitor}
 use Rattle.capture_runner.specs.Voices.{answer_at, answer_by, lines_of, said_by}
+use Rattle.capture_runner.proofs.Followed.{never_bad as lines_never_bad, never_full as lines_never_full}
 use Rattle.capture_runner.proofs.Telling.{breaks_behind, opened_more}
 
 -- no fault of writing
@@ -392,6 +398,11 @@ module _ (before now : Option (List ℕ)) (r : Status) (left : Option (List ℕ)
         by_status (WholeChecks failed) left left before now (last_line (codes "no memory")) statuses.NoMemory
         (λ after a. record { input = []; read = Consumes-nil left; count = 0; wrote = a }) r s a b
 
+    follows_nothing : (failed : Type 0) → Follows failed r unread
+    follows_nothing failed =
+        by_status (WholeFollows failed) left left before now (last_line (codes "no memory")) statuses.NoMemory
+        (λ after a. record { input = []; read = Consumes-nil left; count = 0; wrote = a }) r s a b
+
     pub lacks_at_first : (failed : Type 0) (a : Option Asked) → Outcome failed a r unread
     lacks_at_first failed None = refuses_nothing
     lacks_at_first failed (Some asks.Replay) = replays_nothing failed
@@ -399,6 +410,7 @@ module _ (before now : Option (List ℕ)) (r : Status) (left : Option (List ℕ)
     lacks_at_first failed (Some (asks.Show listing)) = reads_nothing failed (listed listing)
     lacks_at_first failed (Some asks.Monitor) = reads_nothing failed monitored
     lacks_at_first failed (Some asks.Audit) = reads_nothing failed audited
+    lacks_at_first failed (Some asks.Follow) = follows_nothing failed
     lacks_at_first failed (Some (asks.Gen number count)) = writes_nothing (made number count) s a b
     lacks_at_first failed (Some (asks.Demo number count)) = writes_nothing (summary number count) s a b
 
@@ -442,6 +454,16 @@ module _ (failed : Type 0) (c : Call) (reads reads_now writes writes_now : ℕ) 
   checking statuses.NoMemory has o cause = tt
   checking statuses.TooLong has o cause = never_filled most_bytes nothing c (last_line (codes "too long")) has o
 
+  following_lines : (r : Status) → HasMessages most_bytes c → Follows failed r c → Caused r reads reads_now writes writes_now → EndsWell (Some asks.Follow) r
+  following_lines statuses.Ok has o cause = tt
+  following_lines statuses.No has o cause = absurd o
+  following_lines statuses.Usage has o cause = o
+  following_lines statuses.BadLine has o cause = lines_never_bad c most_bytes has o.0
+  following_lines statuses.ReadFault has o cause = read_well cause
+  following_lines statuses.WriteFault has o cause = wrote_well cause
+  following_lines statuses.NoMemory has o cause = tt
+  following_lines statuses.TooLong has o cause = lines_never_full most_bytes nothing c (last_line (codes "too long")) has o
+
   writing : (a : Option Asked) (output : List ℕ) (r : Status) → Writes output r c → Caused r reads reads_now writes writes_now → EndsWell a r
   writing a output statuses.Ok o cause = tt
   writing a output statuses.No o cause = absurd o
@@ -459,6 +481,7 @@ module _ (failed : Type 0) (c : Call) (reads reads_now writes writes_now : ℕ) 
   completes (Some (asks.Show listing)) r o cause has = reading (Some (asks.Show listing)) (listed listing) nothing no_parts r has o cause
   completes (Some asks.Monitor) r o cause has = reading (Some asks.Monitor) monitored nothing no_parts r has o cause
   completes (Some asks.Audit) r o cause has = reading (Some asks.Audit) audited nothing no_parts r has o cause
+  completes (Some asks.Follow) r o cause has = following_lines r has o cause
   completes (Some (asks.Gen number count)) r o cause has = writing (Some (asks.Gen number count)) (made number count) r o cause
   completes (Some (asks.Demo number count)) r o cause has = writing (Some (asks.Demo number count)) (summary number count) r o cause
 
@@ -503,3 +526,51 @@ pub yields_stop : (left now before after : Option (List ℕ)) (text : List ℕ) 
 yields_stop left now before after text answer stops.ReadFault h = (h.0, h.2)
 yields_stop left now before after text answer stops.NoMemory h = (h.2.input, h.2.read)
 yields_stop left now before after text answer stops.TooLong h = (h.0, h.2)
+
+-- lines of messages
+
+module _ (failed : Type 0) (left left_now before now : Option (List ℕ)) (r : Status) where
+  abbrev Followed : Type 0
+  Followed = Follows failed r (call_of left left_now before now)
+
+  followed_same : (left : Option (List ℕ)) (input : List ℕ) (ending : FollowEnding) → (follows input).ending ≡ ending → IfSome left (λ bytes. follows bytes ≡ follows input)
+      → IfSome left (λ bytes. ((follows bytes).ending ≡ ending) × (followed bytes ≡ followed input))
+  unfolding followed
+  followed_same None input ending e h = tt
+  followed_same (Some bytes) input ending e h = (ap (λ (f : FollowingLines). f.ending) h ∙ e, ap (λ (f : FollowingLines). followed_at f.ending f.table) h)
+
+  follow_answers : (text : List ℕ) (end : FollowEnd) (after : Option (List ℕ)) → following.Answered left left_now text end → Appends before after text → FollowAnswers (call_of left left_now before after) (follow_ending end)
+  follow_answers text end after t a = record {
+    input = t.input;
+    read = t.read;
+    ends = t.ends;
+    wrote = subst (λ (b : List ℕ). Appends before after b) t.answers a;
+    whole = followed_same left t.input (follow_ending end) t.ends t.whole;
+  }
+
+  -- the lines have ended
+  pub follow_ends : (x : FollowEnd × String Global) → following.Yields left left_now (Ok x) → (Went r → r ≡ following.status_of x.0) → (Went r → Appends before now (string_bytes x.1)) → Broke r before now (string_bytes x.1) → Followed
+  follow_ends x = by (string_bytes x.1) x.0
+    where
+      by : (text : List ℕ) (end : FollowEnd) → following.Answered left left_now text end → (Went r → r ≡ following.status_of end) → (Went r → Appends before now text) → Broke r before now text → Followed
+      by text follow_lasts.Ended t =
+          by_status (WholeFollows failed) left left_now before now text statuses.Ok (λ after a. (follow_answers text follow_lasts.Ended after t a, t.within)) r
+      by text (follow_lasts.Bad n why) t =
+          by_status (WholeFollows failed) left left_now before now text statuses.BadLine (λ after a. ((n, why, follow_answers text (follow_lasts.Bad n why) after t a), t.within)) r
+
+  -- the reading stops
+  pub follow_stops : (stop : Stop) → following.Yields left left_now (Err stop) → (stop ≡ stops.ReadFault → failed) → (Went r → r ≡ stopping.stop_status stop)
+      → (Went r → Appends before now (stopping.stop_line stop)) → Broke r before now (stopping.stop_line stop) → Followed
+  follow_stops stops.ReadFault p f =
+      by_status (WholeFollows failed) left left_now before now (last_line (codes "read fault")) statuses.ReadFault
+      (λ after a. (f refl, record { stops = record { input = p.stops.input; read = p.stops.read; going = p.stops.going; wrote = a }; below = p.below })) r
+  follow_stops stops.TooLong p f =
+      by_status (WholeFollows failed) left left_now before now (last_line (codes "too long")) statuses.TooLong
+      (λ after a. record { stops = record { input = p.stops.input; read = p.stops.read; going = p.stops.going; wrote = a }; full = p.full }) r
+  follow_stops stops.NoMemory p f =
+      by_status (WholeFollows failed) left left_now before now (last_line (codes "no memory")) statuses.NoMemory
+      (λ after a. record { input = p.0; read = p.1; count = 0; wrote = a }) r
+
+pub calm_follow : (end : FollowEnd) (s : Status) → s ≡ following.status_of end → Went s
+calm_follow follow_lasts.Ended s e = λ f. let g : statuses.Ok ≡ statuses.WriteFault = sym e ∙ f in absurd (cc)
+calm_follow (follow_lasts.Bad n why) s e = λ f. let g : statuses.BadLine ≡ statuses.WriteFault = sym e ∙ f in absurd (cc)

@@ -1,6 +1,7 @@
 pub mod Advancing
 pub mod Checking
 pub mod Counting
+pub mod Following
 pub mod Generating
 pub mod Halting
 pub mod Held

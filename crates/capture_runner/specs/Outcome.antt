@@ -14,8 +14,10 @@ use Rattle.br_model.specs.Text.Scenario.{Ended}
 use Rattle.br_model.specs.Program.Summary.{summary}
 use Rattle.neigh_netlink.specs.Monitor.{monitored}
 use Rattle.chip_audit.specs.Lines.{audited}
+use Rattle.neigh_netlink.specs.Follow as follow
+use Rattle.neigh_follow.specs.Calls as follows
 use Rattle.capture_runner.specs.declared.asked.Asked.{Asked}
-use Rattle.capture_runner.specs.declared.asked.Asked.TheVariants.{Replay, Check, Show, Monitor, Audit, Gen, Demo}
+use Rattle.capture_runner.specs.declared.asked.Asked.TheVariants.{Replay, Check, Show, Monitor, Audit, Follow, Gen, Demo}
 use Rattle.capture_runner.specs.declared.status.Status.{Status}
 use Rattle.capture_runner.specs.declared.status.Status.TheVariants as statuses
 
@@ -67,6 +69,30 @@ Whole failed answer before parts statuses.TooLong call = StopsFull most_bytes Go
 abbrev pub Reads : Type 0 → (List ℕ → List ℕ) → (List ℕ → List ℕ) → (ℕ → List ℕ → List ℕ) → Status → Call → Type 0
 Reads failed answer before parts = OrBreaksOff (Whole failed answer before parts)
 
+-- nothing stands before the last line
+abbrev pub nothing : List ℕ → List ℕ
+nothing bytes = []
+
+-- nothing has parts
+abbrev pub no_parts : ℕ → List ℕ → List ℕ
+no_parts n bytes = []
+
+-- What `follow` does, where no write fails: it reads lines of messages, and writes nothing before its last line but their table. A read
+-- has failed only where `failed` holds.
+abbrev pub WholeFollows : Type 0 → Status → Call → Type 0
+WholeFollows failed statuses.Ok call = follows.Answers call follow.Ended × follows.IsNotTooLong most_bytes call
+WholeFollows failed statuses.No call = ⊥
+WholeFollows failed statuses.Usage call = ⊥
+WholeFollows failed statuses.BadLine call = follows.AnswersBad call × follows.IsNotTooLong most_bytes call
+WholeFollows failed statuses.ReadFault call = failed × StopsBelow most_bytes follows.GoesOn nothing call (last_line (codes "read fault"))
+WholeFollows failed statuses.WriteFault call = ⊥
+WholeFollows failed statuses.NoMemory call = Lacks no_parts call (last_line (codes "no memory"))
+WholeFollows failed statuses.TooLong call = StopsFull most_bytes follows.GoesOn nothing call (last_line (codes "too long"))
+
+-- a front of that where a write fails.
+abbrev pub Follows : Type 0 → Status → Call → Type 0
+Follows failed = OrBreaksOff (WholeFollows failed)
+
 -- What a command does that reads nothing: this is what it writes;
 abbrev pub WholeWrites : List ℕ → Status → Call → Type 0
 WholeWrites output statuses.Ok call = Makes call output
@@ -96,14 +122,6 @@ WholeRefuses statuses.TooLong call = ⊥
 -- a front of it where a write fails.
 abbrev pub Refuses : Status → Call → Type 0
 Refuses = OrBreaksOff WholeRefuses
-
--- nothing stands before the last line
-abbrev pub nothing : List ℕ → List ℕ
-nothing bytes = []
-
--- nothing has parts
-abbrev pub no_parts : ℕ → List ℕ → List ℕ
-no_parts n bytes = []
 
 -- the first line of every transcript
 abbrev pub first_line : List ℕ
@@ -136,6 +154,7 @@ Outcome failed (Some Check) = Checks failed
 Outcome failed (Some (Show listing)) = Reads failed (listed listing) nothing no_parts
 Outcome failed (Some Monitor) = Reads failed monitored nothing no_parts
 Outcome failed (Some Audit) = Reads failed audited nothing no_parts
+Outcome failed (Some Follow) = Follows failed
 Outcome failed (Some (Gen number count)) = Writes (made number count)
 Outcome failed (Some (Demo number count)) = Writes (summary number count)
 
@@ -158,6 +177,7 @@ Asks (Some Check) call = HasChecked most_bytes call
 Asks (Some (Show listing)) call = HasScenario most_bytes call
 Asks (Some Monitor) call = HasScenario most_bytes call
 Asks (Some Audit) call = HasScenario most_bytes call
+Asks (Some Follow) call = follows.HasMessages most_bytes call
 Asks (Some (Gen number count)) call = Unit {0}
 Asks (Some (Demo number count)) call = Unit {0}
 

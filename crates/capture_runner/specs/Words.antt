@@ -13,7 +13,7 @@ use Rattle.br_model.specs.Text.Words.{Word}
 use Rattle.clap.specs.Words.{App, Kinds, Row, Rule, first_of, fault_of, new_app, new_rule, subcommand_of, with_rule, with_subcommand}
 use Rattle.clap.specs.Simple.{on_top}
 use Rattle.capture_runner.specs.declared.asked.Asked.{Asked}
-use Rattle.capture_runner.specs.declared.asked.Asked.TheVariants.{Replay, Check, Show, Monitor, Audit, Gen, Demo}
+use Rattle.capture_runner.specs.declared.asked.Asked.TheVariants.{Replay, Check, Show, Monitor, Audit, Follow, Gen, Demo}
 
 -- what an operand's word spells
 
@@ -72,6 +72,7 @@ forms =
     form (codes "show") table (λ rows. option_map Show (table_of rows)) ∷
     form (codes "monitor") [] (λ rows. Some Monitor) ∷
     form (codes "audit") [] (λ rows. Some Audit) ∷
+    form (codes "follow") [] (λ rows. Some Follow) ∷
     form (codes "gen") number_count (λ rows. option_map (λ p. Gen p.0 p.1) (number_count_of rows)) ∷
     form (codes "demo") number_count (λ rows. option_map (λ p. Demo p.0 p.1) (number_count_of rows)) ∷
     []
@@ -110,5 +111,6 @@ IsWithin Check = ⊤
 IsWithin (Show _) = ⊤
 IsWithin Monitor = ⊤
 IsWithin Audit = ⊤
+IsWithin Follow = ⊤
 IsWithin (Gen number count) = count ≤ most_frames
 IsWithin (Demo number count) = count ≤ most_frames

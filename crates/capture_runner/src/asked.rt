@@ -14,6 +14,8 @@ pub enum Asked {
     Monitor,
     /// To run the scenario of the input, and write the audit of its chips at its end.
     Audit,
+    /// To read messages as `Monitor` writes them, and write the table that they give.
+    Follow,
     /// To write a scenario of generated frames.
     Gen {
         /// The generator's first state.

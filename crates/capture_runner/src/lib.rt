@@ -7,6 +7,7 @@ mod audit;
 mod checking;
 mod commands;
 mod demo;
+mod follow;
 mod held;
 mod monitor;
 mod replay;

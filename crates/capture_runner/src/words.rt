@@ -47,6 +47,7 @@ fn whole_command<'a>(alloc: Global) -> Result<Command<'a>, NoMemory>
         .subcommand(show_command(alloc)?)?
         .subcommand(Command::new(alloc, "monitor"))?
         .subcommand(Command::new(alloc, "audit"))?
+        .subcommand(Command::new(alloc, "follow"))?
         .subcommand(generating_command(alloc, "gen")?)?
         .subcommand(generating_command(alloc, "demo")?)
 }
@@ -97,6 +98,7 @@ fn asked_of(name: &str, found: &ArgMatches) -> Option<Asked>
         "show" => Some(Asked::Show(listing_from(found)?)),
         "monitor" => Some(Asked::Monitor),
         "audit" => Some(Asked::Audit),
+        "follow" => Some(Asked::Follow),
         "gen" => {
             let (number, count) = numbers_from(found)?;
             Some(Asked::Gen { number, count })

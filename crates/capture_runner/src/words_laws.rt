@@ -2,7 +2,7 @@
 ghost use Rattle.std.specs.Prelude.{◌≡◌, [], codes, None, Some};
 ghost use Rattle.br_model.specs.Text.Words.{words};
 ghost use Rattle.br_model.specs.declared.listing.Listing.TheVariants.{Fdb, Vlan, Mdb};
-ghost use Rattle.capture_runner.specs.declared.asked.Asked.TheVariants.{Replay, Check, Show, Monitor, Audit, Gen, Demo};
+ghost use Rattle.capture_runner.specs.declared.asked.Asked.TheVariants.{Replay, Check, Show, Monitor, Audit, Follow, Gen, Demo};
 ghost use Rattle.capture_runner.specs.Words.{asked};
 
 /// Each command, with the largest numbers.
@@ -14,6 +14,7 @@ pub fn commands_are_read()
     ensures mdb { asked (words (codes "show mdb")) ≡ Some (Show Mdb) }
     ensures monitor { asked (words (codes "monitor")) ≡ Some Monitor }
     ensures audit { asked (words (codes "audit")) ≡ Some Audit }
+    ensures follow { asked (words (codes "follow")) ≡ Some Follow }
     ensures least { asked (words (codes "gen 0 0")) ≡ Some (Gen 0 0) }
     ensures most { asked (words (codes "gen 18446744073709551615 100000")) ≡ Some (Gen 18446744073709551615 100000) }
     ensures demo { asked (words (codes "demo 7 20")) ≡ Some (Demo 7 20) }

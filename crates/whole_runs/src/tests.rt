@@ -6,6 +6,7 @@ mod commands;
 mod failing_calls;
 mod faults;
 mod limits;
+mod messages;
 mod rows;
 mod snooping;
 mod trees;

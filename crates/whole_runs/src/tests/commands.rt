@@ -35,7 +35,7 @@ pub(super) fn ran_line(
 }
 
 /// Runs a line of words over an input, where the reads of these numbers fail. It writes just this.
-fn writes(
+pub(super) fn writes(
     rt: &(impl Abort + Wait),
     alloc: Global,
     line: &str,

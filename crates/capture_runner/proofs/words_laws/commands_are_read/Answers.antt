@@ -13,6 +13,7 @@ returns c = record {
   mdb = refl;
   monitor = refl;
   audit = refl;
+  follow = refl;
   least = refl;
   most = refl;
   demo = refl;

@@ -1,0 +1,4 @@
+pub mod Followers
+pub mod Lines
+pub mod Messages
+pub mod RowTexts

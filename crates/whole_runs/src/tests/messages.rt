@@ -1,0 +1,118 @@
+//! Neighbour messages: what `monitor` writes of a run, and the table that `follow` reads of it.
+use super::commands::{ran_line, source_of, writes};
+use super::read_row;
+use super::rows::FIRST_FRAME;
+use capture_runner::Status;
+use std::alloc::Global;
+use std::process::Abort;
+use std::sync::Wait;
+use std::test::Fail;
+
+/// Those of two static entries, and the end.
+const TWO_ENTRIES: &str =
+    "nl 300000001c00000000000000000000000700000002000000400000000a00020002000000000a00000600050001000000
+nl 300000001c00000001000000000000000700000003000000400000000a00020002000000000b00000600050001000000
+end
+";
+
+const TWO_ROWS: &str = "02:00:00:00:00:0a port 1 vlan 1 static
+02:00:00:00:00:0b port 2 vlan 1 static
+end
+";
+
+/// The first of them with another type, and with another last byte.
+const ABSENT: &str =
+    "nl 300000001d00000000000000000000000700000002000000400000000a00020002000000000a00000600050001000000\n";
+
+const OTHER_PADDING: &str =
+    "nl 300000001c00000000000000000000000700000002000000400000000a00020002000000000a00000600050001000001\n";
+
+/// A chip has an entry, whose station then moves to a port of software.
+const MOVED: &str = "scenario 1
+port 1 c1 chip 1
+port 2 c2 chip 1
+port 3 f3 soft
+cmd port up c1
+cmd port up c2
+cmd port up f3
+publish
+cmd fdb add 02:00:00:00:00:0b dev c2 vlan 1 extern
+turn 1
+publish
+rx 3 02000000000a02000000000b88b50102
+serve
+publish
+rx 1 02000000000b02000000000a88b50102
+turn 1
+rx 1 02000000000b02000000000a88b50102
+serve
+end
+";
+
+const MOVED_TOLD: &str =
+    "nl 300000001c00000000000000000000000700000003000000020010000a00020002000000000b00000600050001000000
+nl 300000001c00000000000000000000000700000003000000020030000a00020002000000000b00000600050001000000
+nl 300000001c00000001000000000000000700000004000000020000000a00020002000000000b00000600050001000000
+end
+";
+
+/// What `monitor` writes of a scenario, and what `follow` writes of that.
+fn is_monitored(rt: &(impl Abort + Wait), alloc: Global, scenario: &str, told: &str, rows: &str) {
+    let ok = Status::Ok;
+    writes(rt, alloc, "monitor", (scenario.as_bytes(), &[]), (ok, told));
+    writes(rt, alloc, "follow", (told.as_bytes(), &[]), (ok, rows));
+}
+
+#[test]
+fn monitor_and_follow(rt: HostRuntime) -> Result<(), Fail> {
+    let alloc = rt.alloc();
+    let scenario = read_row(alloc, FIRST_FRAME)?.input;
+    is_monitored(&rt, alloc, scenario.as_str(), TWO_ENTRIES, TWO_ROWS);
+    let row = "02:00:00:00:00:0b port 3 vlan 1 learned\nend\n";
+    is_monitored(&rt, alloc, MOVED, MOVED_TOLD, row);
+    Ok(())
+}
+
+#[test]
+fn bad_lines_of_messages(rt: HostRuntime) -> Result<(), Fail> {
+    let alloc = rt.alloc();
+    let (bad, ok) = (Status::BadLine, Status::Ok);
+    let rows = [
+        (ABSENT, bad, "bad 1 absent\n"),
+        (OTHER_PADDING, bad, "bad 1 message\n"),
+        ("", bad, "bad 1 unended\n"),
+        ("# none\n\nnl 30", bad, "bad 3 unended\n"),
+        ("nl 30\n", bad, "bad 1 message\n"),
+        ("nl 3\n", bad, "bad 1 hex\n"),
+        ("nl\n", bad, "bad 1 word\n"),
+        (" #\n", bad, "bad 1 word\n"),
+        ("# none\n end", ok, "end\n"),
+        ("end\nnl\n", ok, "end\n"),
+    ];
+    for (input, status, wrote) in rows {
+        writes(
+            &rt,
+            alloc,
+            "follow",
+            (input.as_bytes(), &[]),
+            (status, wrote),
+        );
+    }
+    let long = vec![in alloc; b'#'; 20_001]?;
+    writes(&rt, alloc, "follow", (long.as_slice(), &[]), (bad, "bad 1 long\n"));
+    Ok(())
+}
+
+/// A read fails; the sink is full.
+#[test]
+fn faults_of_follow(rt: HostRuntime) {
+    let alloc = rt.alloc();
+    writes(&rt, alloc, "follow", (TWO_ENTRIES.as_bytes(), &[1]), (Status::ReadFault, "read fault\n"));
+    let mut source = source_of(&rt, alloc, TWO_ENTRIES.as_bytes(), &[]);
+    let outcome = ran_line(&rt, alloc, "follow", &mut source, 20);
+    assert_eq!(rt; outcome.status, Status::WriteFault);
+    assert_eq!(rt;
+        outcome.wrote.as_slice(),
+        b"02:00:00:00:00:0a po".as_slice()
+    );
+}
