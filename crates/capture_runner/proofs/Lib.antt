@@ -1,9 +1,12 @@
+pub mod Asking
 pub mod Counting
 pub mod Cutting
 pub mod Deciding
 pub mod Doing
 pub mod Following
 pub mod Generating
+pub mod Hearing
+pub mod Moments
 pub mod Monitoring
 pub mod Outcomes
 pub mod Packets

@@ -2,6 +2,7 @@ pub mod Advancing
 pub mod Counting
 pub mod Generating
 pub mod Halting
+pub mod Hearing
 pub mod Held
 pub mod Outcome
 pub mod Playing

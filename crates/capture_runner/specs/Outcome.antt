@@ -11,9 +11,10 @@ use Rattle.br_model.specs.Program.Runs.{body, body_parts, told}
 use Rattle.br_model.specs.Table.Limits.{most_bytes}
 use Rattle.br_model.specs.Text.Scenario.{Ended}
 use Rattle.br_model.specs.Program.Summary.{summary}
+use Rattle.mcast_querier.specs.Runs.{queried}
 use Rattle.neigh_netlink.specs.Monitor.{monitored}
 use Rattle.capture_runner.specs.declared.asked.Asked.{Asked}
-use Rattle.capture_runner.specs.declared.asked.Asked.TheVariants.{Replay, Show, Monitor, Gen, Demo}
+use Rattle.capture_runner.specs.declared.asked.Asked.TheVariants.{Replay, Show, Monitor, Querier, Gen, Demo}
 use Rattle.capture_runner.specs.declared.status.Status.{Status}
 use Rattle.capture_runner.specs.declared.status.Status.TheVariants as statuses
 
@@ -112,6 +113,7 @@ Outcome failed None = Refuses
 Outcome failed (Some Replay) = Replays failed
 Outcome failed (Some (Show listing)) = Reads failed (listed listing) nothing no_parts
 Outcome failed (Some Monitor) = Reads failed monitored nothing no_parts
+Outcome failed (Some (Querier four six)) = Reads failed (queried four six) nothing no_parts
 Outcome failed (Some (Gen number count)) = Writes (made number count)
 Outcome failed (Some (Demo number count)) = Writes (summary number count)
 
@@ -131,6 +133,7 @@ Asks None call = ⊥
 Asks (Some Replay) call = HasScenario most_bytes call
 Asks (Some (Show listing)) call = HasScenario most_bytes call
 Asks (Some Monitor) call = HasScenario most_bytes call
+Asks (Some (Querier four six)) call = HasScenario most_bytes call
 Asks (Some (Gen number count)) call = Unit {0}
 Asks (Some (Demo number count)) call = Unit {0}
 

@@ -3,8 +3,10 @@
 #![tactic(auto)]
 
 mod asked;
+mod asking;
 mod commands;
 mod demo;
+mod entered;
 mod held;
 mod monitor;
 mod replay;

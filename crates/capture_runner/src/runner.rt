@@ -5,7 +5,7 @@ ghost use Rattle.capture_runner.specs.Outcome.{Asks, Caused, EndsWell, Outcome, 
 ghost use Rattle.capture_runner.specs.Words.{asked};
 
 use crate::asked::Asked;
-use crate::commands::{demo, generate, monitor, replay, show};
+use crate::commands::{demo, generate, monitor, querier, replay, show};
 use crate::status::{Status, end_without_memory, put_last};
 use crate::words::read_words;
 use run_io::sinks::Sink;
@@ -14,9 +14,10 @@ use std::alloc::Global;
 use std::sync::Wait;
 
 /// Does all that the words ask, over this source and sink. `replay` reads a scenario of at most 2^28 bytes and writes its
-/// transcript, `show TABLE` (`fdb`, `vlan` or `mdb`) the table at its end, `monitor` the messages of its address changes.
+/// transcript, `show TABLE` (`fdb`, `vlan` or `mdb`) the table at its end, `monitor` the messages of its address changes, `querier A4 A6`
+/// the general queries of a querier at these addresses, of IP version 4 and link-local ones of version 6.
 /// `gen NUMBER COUNT` reads nothing and writes a scenario, `demo NUMBER COUNT` a summary of its run: NUMBER is below 2^64, COUNT at
-/// most 100,000. `show`, `monitor` and `demo` write nothing before their work is over; `gen` has all its memory before its first
+/// most 100,000. `show`, `monitor`, `querier` and `demo` write nothing before their work is over; `gen` has all its memory before its first
 /// write. Each status has its last line: that of the transcript or of the other output, `bad N WHY`, `usage`, `read fault`,
 /// `no memory` or `too long`; after a fault of writing nothing more is written.
 pub fn run<R: Wait, S: Source, K: Sink>(
@@ -37,6 +38,7 @@ pub fn run<R: Wait, S: Source, K: Sink>(
         Ok(Some(Asked::Replay)) => replay(rt, alloc, source, sink),
         Ok(Some(Asked::Show(listing))) => show(rt, alloc, listing, source, sink),
         Ok(Some(Asked::Monitor)) => monitor(rt, alloc, source, sink),
+        Ok(Some(Asked::Querier { four, six })) => querier(rt, alloc, four, six, source, sink),
         Ok(Some(Asked::Gen { number, count })) => generate(alloc, number, count, sink),
         Ok(Some(Asked::Demo { number, count })) => demo(rt, alloc, number, count, sink),
         Ok(None) => put_last(sink, b"usage\n", Status::Usage),
