@@ -1,4 +1,3 @@
-pub mod Asking
 pub mod Counting
 pub mod Cutting
 pub mod Deciding
@@ -10,6 +9,7 @@ pub mod Moments
 pub mod Monitoring
 pub mod Outcomes
 pub mod Packets
+pub mod Querying
 pub mod Reaching
 pub mod Ready
 pub mod Sections

@@ -1,19 +1,22 @@
 //! The general queries that a querier on the host sends in a run, as it goes on.
 ghost use Rattle.std.specs.Prelude.{◌≡◌, ℕ, ◌<◌, ◌^◌, ◌++◌, [], List, true, false, OnOk, IfSome, None, is_some, map, string_bytes};
 ghost use Rattle.std.specs.List.{flat_map, list_any};
-ghost use Rattle.br_model.specs.Table.Domains.{chip_domains};
+ghost use Rattle.br_model.specs.Plane.World.{first_world};
+ghost use Rattle.br_model.specs.Table.Domains.{Domains, chip_domains};
+ghost use Rattle.br_model.specs.Table.Setup.{Setup};
 ghost use Rattle.br_model.specs.Text.LineForms.{comes_by_line};
 ghost use Rattle.mcast_querier.specs.Querier.{first_querier};
 ghost use Rattle.mcast_querier.specs.Queries.{is_host_four, is_link_local_six};
 ghost use Rattle.mcast_querier.specs.Runs.{is_done, query_line as query_line_of};
-ghost use Rattle.plane_core.specs.Added.{Added};
+ghost use Rattle.plane_parts.specs.Added.{Added};
 ghost use Rattle.transcript_lines.specs.Rows.{expand_row};
 ghost use Rattle.capture_runner.specs.Hearing.{HearsStep, IsHost, Keeps, coming_by, moment_named as moment_named_of, queries_by, ticked_by};
 ghost use Rattle.capture_runner.specs.Session.{Tells};
-ghost use Rattle.capture_runner.specs.Voices.{HostIn, SaysBy};
+ghost use Rattle.capture_runner.specs.Voices.{HeardBy, HostIn, SaysBy, lines_of};
 ghost use Rattle.capture_runner.specs.declared.voice.Voice.TheVariants as Voice;
 
 use crate::NoMemory;
+use crate::addresses::Addresses;
 use crate::entered::Entered;
 use crate::world::World;
 use br_model::bytes::Bytes;
@@ -25,15 +28,6 @@ use std::alloc::Global;
 use std::mem;
 use std::sync::Wait;
 use transcript_lines::{Lines, Row};
-
-/// The addresses at which a querier asks, in each IP version.
-#[derive(Clone, Copy)]
-struct Addresses {
-    four: u32,
-    six: u128,
-    ghost host: { is_host_four four ≡ true },
-    ghost link_local: { is_link_local_six six ≡ true },
-}
 
 /// A querier on the host, and what it has to know of the run.
 #[derive(Drop)]
@@ -224,10 +218,10 @@ impl Asking {
 
     /// Before the first step of a run of a bridge with this address.
     pub(crate) fn begin(&mut self, alloc: Global, own: Mac)
-        ensures host { IfSome self.new.host (λ h. (h.querier ≡ first_querier own self.new.addresses.four self.new.addresses.six) × (h.now ≡ 0) × Keeps h.entered []) }
-        ensures there { is_some self.new.host ≡ true }
-        ensures addresses { self.new.addresses ≡ self.old.addresses }
+        ensures here { (domains : Domains) → HostIn self.new.host (first_world (record { domains = domains; own = own })) }
+        ensures heard { (setup : Setup) → setup.own ≡ own → HeardBy self.new.host self.new.addresses.four self.new.addresses.six setup [] }
         ensures text { string_bytes self.new.text ≡ string_bytes self.old.text }
+        ensures same { lines_of (Voice.Querier self.new) ≡ lines_of (Voice.Querier self.old) }
     {
         self.host = Some(Host::make(alloc, own, &self.addresses));
     }
@@ -246,7 +240,7 @@ impl Asking {
         requires here { HostIn self.old.host world.old }
         ensures tells { OnOk result (Added (Tells world.old step world.new) lines.old.lines lines.new.lines) }
         ensures here { OnOk result (HostIn self.new.host world.new) }
-        ensures addresses { OnOk result (self.new.addresses ≡ self.old.addresses) }
+        ensures same { OnOk result (lines_of (Voice.Querier self.new) ≡ lines_of (Voice.Querier self.old)) }
         ensures says { OnOk result (SaysBy (Voice.Querier self.old) world.old step (Voice.Querier self.new)) }
     {
         let Some(host) = &mut self.host else {

@@ -2,6 +2,7 @@
 //! transcript or a table is written; or a scenario is generated, and written or run.
 #![tactic(auto)]
 
+mod addresses;
 mod asked;
 mod asking;
 mod commands;

@@ -5,6 +5,7 @@ mod commands;
 mod failing_calls;
 mod faults;
 mod limits;
+mod queriers;
 mod rows;
 mod snooping;
 mod trees;

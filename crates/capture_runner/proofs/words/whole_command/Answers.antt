@@ -16,7 +16,8 @@ returns c =
     let replay_in = c.in_ok-subcommand.ensures.shape c.new-2.ensures.local ∙ ap₂ with_subcommand top_is (ap of_top c.new-2.ensures.app) in
     let show_in = c.in_ok-subcommand-2.ensures.shape c.in_ok-show_command.ensures.local ∙ ap₂ with_subcommand replay_in (ap of_top c.in_ok-show_command.ensures.app) in
     let monitor_in = c.in_ok-subcommand-3.ensures.shape c.new-3.ensures.local ∙ ap₂ with_subcommand show_in (ap of_top c.new-3.ensures.app) in
-    let gen_in = c.in_ok-subcommand-4.ensures.shape c.in_ok-generating_command.ensures.local ∙ ap₂ with_subcommand monitor_in (ap of_top c.in_ok-generating_command.ensures.app) in
-    let demo_in : (all : Command) → AddsSubcommand c.in_ok-subcommand-4.field-0 c.in_ok-generating_command-2.field-0 all → app_of all ≡ command =
+    let querier_in = c.in_ok-subcommand-4.ensures.shape c.in_ok-querier_command.ensures.local ∙ ap₂ with_subcommand monitor_in (ap of_top c.in_ok-querier_command.ensures.app) in
+    let gen_in = c.in_ok-subcommand-5.ensures.shape c.in_ok-generating_command.ensures.local ∙ ap₂ with_subcommand querier_in (ap of_top c.in_ok-generating_command.ensures.app) in
+    let demo_in : (all : Command) → AddsSubcommand c.in_ok-subcommand-5.field-0 c.in_ok-generating_command-2.field-0 all → app_of all ≡ command =
     λ all added. added.shape c.in_ok-generating_command-2.ensures.local ∙ ap₂ with_subcommand gen_in (ap of_top c.in_ok-generating_command-2.ensures.app) in
-    record { app = IfOk-weaker _ _ _ demo_in c.subcommand-5.ensures }
+    record { app = IfOk-weaker _ _ _ demo_in c.subcommand-6.ensures }

@@ -1,5 +1,5 @@
 -- A querier on the host hears a run and asks in it, step by step.
-use Rattle.std.proofs.Common.{◌≡◌, ℕ, ◌<◌, ◌^◌, true, false, cond, List, [], ◌∷◌, ◌++◌, Option, None, Some, map, refl, sym, ◌∙◌, ap, subst, append-nil, arith}
+use Rattle.std.proofs.Common.{◌≡◌, ℕ, ◌<◌, ◌^◌, true, false, cond, List, [], ◌∷◌, ◌++◌, Option, None, Some, map, refl, sym, ◌∙◌, ap, subst, append-nil, lit<, arith}
 use Rattle.std.specs.Prelude.{nat_le}
 use Rattle.std.specs.List.{flat_map, fold, list_any}
 use Rattle.std.proofs.lemmas.Grind.{flat_map-append}
@@ -10,15 +10,18 @@ use Rattle.br_model.specs.declared.transcript.Line.{Line}
 use Rattle.br_model.specs.Plane.Runs.{run, then_step}
 use Rattle.br_model.specs.Plane.Steps.{world_step}
 use Rattle.br_model.specs.Plane.World.{World, Stepped, first_world}
+use Rattle.br_model.specs.Table.Domains.{Domains}
 use Rattle.br_model.specs.Table.Setup.{Setup}
 use Rattle.br_model.specs.Text.LineForms.{comes_by_line}
 use Rattle.br_model.specs.Text.Operands.{last_moment}
 use Rattle.br_model.proofs.PlaneApplied.{run-setup, step-setup}
+use Rattle.mcast_querier.specs.Election.{hears}
 use Rattle.mcast_querier.specs.Hearing.{Asker}
 use Rattle.mcast_querier.specs.Querier.{Act, Comes, Hears as HearsAct, Queried, QuerierState, acted, after, first_querier, heard_from}
 use Rattle.mcast_querier.specs.Runs.{Listening, acts, acts_of, comes_by, entered, first_listening, heard_in, is_done, listens, query_line, sent}
 use Rattle.capture_runner.specs.declared.asking.Host.{Host}
 use Rattle.capture_runner.specs.Hearing.{HasHeard, Hears, HearsStep, IsAsked, IsHost, Keeps, acts_by, coming_by, listening, moment_after, moment_named, queries_by, ticked_by}
+use Rattle.capture_runner.specs.Voices.{HeardBy}
 use Rattle.capture_runner.proofs.Moments.{step-moment}
 
 -- the run as the querier hears it, with one step more
@@ -85,7 +88,8 @@ ticked_own q None = refl
 ticked_own q (Some moment) = refl
 
 heard_own : (q : QuerierState) (asker : Asker) (now : ℕ) → (heard_from q asker now).own ≡ q.own
-heard_own q asker now = grind
+heard_own q asker now =
+    elim (asker.0) as (λ b. (cond b (record q { six = hears q.six asker.1 now }) (record q { four = hears q.four asker.1 now })).own ≡ q.own) [ true ↦ refl | false ↦ refl ]
 
 acted_own : (x : Queried) (act : Act) → (acted x act).0.own ≡ x.0.own
 acted_own x (HearsAct asker now) = heard_own x.0 asker now
@@ -97,6 +101,39 @@ acts_own (act ∷ acts) x = acts_own acts (acted x act) ∙ acted_own x act
 
 hears_own : (a : QuerierState) (acts : List Act) (b : QuerierState) → Hears a acts b → b.own ≡ a.own
 hears_own a acts b h = sym (ap (λ (x : Queried). x.0.own) (h [])) ∙ acts_own acts (a, [])
+
+-- before the first step
+
+pub first_host : (h : Host) (own four six : ℕ) → h.querier ≡ first_querier own four six → h.now ≡ 0 → Keeps h.entered [] → (domains : Domains) → IsHost h (first_world (record { domains = domains; own = own }))
+first_host h own four six querier now keeps domains = record {
+  own = ap (λ (q : QuerierState). q.own) querier;
+  now = now;
+  early = subst (λ n. n < 2 ^ 53) (sym now) (lit< tt);
+  askers = [];
+  keeps = keeps;
+}
+
+pub first_heard : (h : Host) (own four six : ℕ) → h.querier ≡ first_querier own four six → Keeps h.entered [] → (setup : Setup) → setup.own ≡ own → HasHeard h four six setup []
+first_heard h own four six querier keeps setup same = record {
+  askers = keeps;
+  querier = ap (λ (q : QuerierState). record q { own = setup.own }) querier;
+}
+
+-- whatever the bridge
+pub heard_none : (o : Option Host) (four six : ℕ) (a b : Setup) → HeardBy o four six a [] → HeardBy o four six b []
+heard_none None four six a b h = tt
+heard_none (Some host) four six a b h = record { askers = h.askers; querier = ap (λ (q : QuerierState). record q { own = b.own }) h.querier }
+
+pub asked_none : (text : List ℕ) (four six : ℕ) (a b : Setup) → IsAsked text four six a [] → IsAsked text four six b []
+unfolding sent
+asked_none text four six a b h = h
+
+pub asked_nothing : (text : List ℕ) (four six : ℕ) (setup : Setup) → text ≡ [] → IsAsked text four six setup []
+unfolding sent
+asked_nothing text four six setup h = h
+
+pub unheard : (o : Option Host) (four six : ℕ) (setup : Setup) → o ≡ None → HeardBy o four six setup []
+unheard o four six setup h = subst (λ (o : Option Host). HeardBy o four six setup []) (sym h) tt
 
 -- a step of the host: the frame that enters is kept, the world does its step, what left for the host is heard, and the moment comes
 pub record Goes (old : Host) (w : World) (step : Step) (lines : List Line) (v : World) (heard : QuerierState) (new : Host) : Type 0 where
@@ -120,7 +157,7 @@ module _ (old : Host) (w : World) (step : Step) (lines : List Line) (v : World) 
   new_own =
       ap (λ (q : QuerierState). q.own) g.ticks
       ∙ ticked_own heard (coming_by (moment_named step) lines)
-      ∙ hears_own old.querier _ heard (g.hears (g.here.askers ++ entered step) (g.enters g.here.askers g.here.keeps))
+      ∙ hears_own old.querier (flat_map (heard_in (g.here.askers ++ entered step) new.now) lines) heard (g.hears (g.here.askers ++ entered step) (g.enters g.here.askers g.here.keeps))
 
   pub here_after : (chips : List ℕ) → comes_by_line false chips step ≡ true → IsHost new v
   here_after chips by_line = record {
