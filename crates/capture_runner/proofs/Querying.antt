@@ -1,5 +1,5 @@
 -- A querier on the host hears a run and asks in it, step by step.
-use Rattle.std.proofs.Common.{◌≡◌, ℕ, ◌<◌, ◌^◌, true, false, cond, List, [], ◌∷◌, ◌++◌, Option, None, Some, map, refl, sym, ◌∙◌, ap, subst, append-nil, lit<, arith}
+use Rattle.std.proofs.Common.{◌≡◌, ℕ, ◌<◌, ◌^◌, true, false, cond, List, [], ◌∷◌, ◌++◌, Option, None, Some, IfSome, OnOk, Result, Ok, Err, map, refl, sym, ◌∙◌, ap, subst, append-nil, lit<, string_bytes, arith}
 use Rattle.std.specs.Prelude.{nat_le}
 use Rattle.std.specs.List.{flat_map, fold, list_any}
 use Rattle.std.proofs.lemmas.Grind.{flat_map-append}
@@ -19,9 +19,15 @@ use Rattle.mcast_querier.specs.Election.{hears}
 use Rattle.mcast_querier.specs.Hearing.{Asker}
 use Rattle.mcast_querier.specs.Querier.{Act, Comes, Hears as HearsAct, Queried, QuerierState, acted, after, first_querier, heard_from}
 use Rattle.mcast_querier.specs.Runs.{Listening, acts, acts_of, comes_by, entered, first_listening, heard_in, is_done, listens, query_line, sent}
+use Rattle.capture_runner.specs.declared.addresses.Addresses.{Addresses}
+use Rattle.capture_runner.specs.declared.asking.Asking.{Asking}
 use Rattle.capture_runner.specs.declared.asking.Host.{Host}
+use Rattle.capture_runner.specs.declared.entered.Entered.{Entered}
+use Rattle.capture_runner.specs.declared.voice.Voice.TheVariants.{Querier}
 use Rattle.capture_runner.specs.Hearing.{HasHeard, Hears, HearsStep, IsAsked, IsHost, Keeps, acts_by, coming_by, listening, moment_after, moment_named, queries_by, ticked_by}
-use Rattle.capture_runner.specs.Voices.{HeardBy}
+use Rattle.plane_parts.specs.Added.{Added}
+use Rattle.capture_runner.specs.Session.{Tells}
+use Rattle.capture_runner.specs.Voices.{HeardBy, SaysBy}
 use Rattle.capture_runner.proofs.Moments.{step-moment}
 
 -- the run as the querier hears it, with one step more
@@ -54,8 +60,7 @@ comes_is Publish lines = refl
 
 -- it is early
 abbrev IsEarly : Option ℕ → Type 0
-IsEarly None = Unit {0}
-IsEarly (Some moment) = moment < 2 ^ 53
+IsEarly o = IfSome o (λ n. n < 2 ^ 53)
 
 at_most : (moment : ℕ) → nat_le moment last_moment ≡ true → moment < 2 ^ 53
 at_most moment h = grind arith
@@ -75,6 +80,15 @@ named_early chips Publish lines h = tt
 pub after_early : (o : Option ℕ) (now : ℕ) → IsEarly o → now < 2 ^ 53 → moment_after o now < 2 ^ 53
 after_early None now h e = e
 after_early (Some moment) now h e = h
+
+-- a step's lines, where there were none before
+pub told_is : (w v : World) (step : Step) (before after : List Line) → Added (Tells w step v) before after → before ≡ [] → (v, after) ≡ world_step w step
+told_is w v step before after t none = ap (λ (l : List Line). (v, l)) (t.added ∙ ap (λ (l : List Line). l ++ t.lines) none) ∙ t.so
+
+-- of two that hold of an answer
+pub on_ok_both : {A E P Q R : Type 0} (r : Result A E) → OnOk r P → OnOk r Q → (P → Q → R) → OnOk r R
+on_ok_both (Ok x) p q f = f p q
+on_ok_both (Err e) p q f = tt
 
 -- what is said at it
 ticks_is : (q : QuerierState) (out : List (ℕ × List ℕ)) (o : Option ℕ) → fold acted (q, out) (acts_by o) ≡ (ticked_by q o, out ++ queries_by q o)
@@ -143,6 +157,34 @@ pub record Goes (old : Host) (w : World) (step : Step) (lines : List Line) (v : 
   pub now : new.now ≡ moment_after (coming_by (moment_named step) lines) old.now
   pub hears : (askers : List (Option Asker)) → Keeps new.entered askers → Hears old.querier (flat_map (heard_in askers new.now) lines) heard
   pub ticks : new.querier ≡ ticked_by heard (coming_by (moment_named step) lines)
+
+-- a moment that comes by the step is early
+pub early_by : (chips : List ℕ) (step : Step) (lines : List Line) (named comes : Option ℕ) → comes_by_line false chips step ≡ true → named ≡ moment_named step → comes ≡ coming_by named lines
+    → IfSome comes (λ n. n < 2 ^ 53)
+early_by chips step lines named comes by_line names is =
+    subst (λ (o : Option ℕ). IfSome o (λ n. n < 2 ^ 53)) (sym (is ∙ ap (λ (o : Option ℕ). coming_by o lines) names)) (named_early chips step lines by_line)
+
+pub goes : (old : Host) (w v : World) (step : Step) (before lines : List Line) (named comes : Option ℕ) (kept : Entered) (now : ℕ) (heard asked : QuerierState)
+    → IsHost old w → Added (Tells w step v) before lines → before ≡ [] → named ≡ moment_named step → comes ≡ coming_by named lines
+    → ((askers : List (Option Asker)) → Keeps old.entered askers → Keeps kept (askers ++ entered step))
+    → now ≡ moment_after comes old.now
+    → ((askers : List (Option Asker)) → Keeps kept askers → Hears old.querier (flat_map (heard_in askers now) lines) heard)
+    → asked ≡ ticked_by heard comes
+    → Goes old w step lines v heard (record { querier = asked; entered = kept; now = now })
+goes old w v step before lines named comes kept now heard asked here told none names is enters later hears ticks =
+    let comes_as : comes ≡ coming_by (moment_named step) lines = is ∙ ap (λ (o : Option ℕ). coming_by o lines) names in record {
+      stepped = told_is w v step before lines told none;
+      here = here;
+      enters = enters;
+      now = later ∙ ap (λ (o : Option ℕ). moment_after o old.now) comes_as;
+      hears = hears;
+      ticks = ticks ∙ ap (ticked_by heard) comes_as;
+    }
+
+pub asked_as : (step : Step) (lines : List Line) (named comes : Option ℕ) (heard : QuerierState) (text more : List ℕ) → named ≡ moment_named step → comes ≡ coming_by named lines
+    → more ≡ text ++ flat_map query_line (queries_by heard comes) → more ≡ text ++ flat_map query_line (queries_by heard (coming_by (moment_named step) lines))
+asked_as step lines named comes heard text more names is grew =
+    grew ∙ ap (λ (o : Option ℕ). text ++ flat_map query_line (queries_by heard o)) (is ∙ ap (λ (o : Option ℕ). coming_by o lines) names)
 
 module _ (old : Host) (w : World) (step : Step) (lines : List Line) (v : World) (heard : QuerierState) (new : Host) (g : Goes old w step lines v heard new) where
   new_now : new.now ≡ v.control.now
@@ -228,3 +270,13 @@ module _ (old : Host) (w : World) (step : Step) (lines : List Line) (v : World) 
   pub hears_step : (text more : List ℕ) → more ≡ text ++ flat_map query_line (queries_by heard (coming_by (moment_named step) lines)) → HearsStep old text w step new more
   hears_step text more grew = λ four six setup steps at has is.
       (has_more four six setup steps at has, asks_more four six setup steps at has text more is grew)
+
+-- the same of who says the queries
+pub said_more : (a : Asking) (old new : Host) (more : List ℕ) (w : World) (step : Step) (b : Asking) → a.host ≡ Some old → HearsStep old (string_bytes a.text) w step new more
+    → b.addresses ≡ a.addresses → b.host ≡ Some new → string_bytes b.text ≡ more → SaysBy (Querier a) w step (Querier b)
+said_more a old new more w step b here hears same there text = λ setup steps at says.
+    let four = a.addresses.four in
+    let six = a.addresses.six in
+    let next = hears four six setup steps at (subst (λ (o : Option Host). HeardBy o four six setup steps) here says.0) says.1 in
+    subst (λ (x : Addresses). HeardBy b.host x.four x.six setup (steps ++ step ∷ []) × IsAsked (string_bytes b.text) x.four x.six setup (steps ++ step ∷ [])) (sym same)
+    (subst (λ (o : Option Host). HeardBy o four six setup (steps ++ step ∷ [])) (sym there) next.0, subst (λ (l : List ℕ). IsAsked l four six setup (steps ++ step ∷ [])) (sym text) next.1)

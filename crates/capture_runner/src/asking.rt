@@ -10,7 +10,7 @@ ghost use Rattle.mcast_querier.specs.Queries.{is_host_four, is_link_local_six};
 ghost use Rattle.mcast_querier.specs.Runs.{is_done, query_line as query_line_of};
 ghost use Rattle.plane_parts.specs.Added.{Added};
 ghost use Rattle.transcript_lines.specs.Rows.{expand_row};
-ghost use Rattle.capture_runner.specs.Hearing.{HearsStep, IsHost, Keeps, coming_by, moment_named as moment_named_of, queries_by, ticked_by};
+ghost use Rattle.capture_runner.specs.Hearing.{HearsStep, IsHost, Keeps, coming_by, moment_after, moment_named as moment_named_of, queries_by, ticked_by};
 ghost use Rattle.capture_runner.specs.Session.{Tells};
 ghost use Rattle.capture_runner.specs.Voices.{HeardBy, HostIn, SaysBy, lines_of};
 ghost use Rattle.capture_runner.specs.declared.voice.Voice.TheVariants as Voice;
@@ -117,6 +117,16 @@ fn coming(named: Option<u64>, lines: &Lines) -> Option<u64>
     }
 }
 
+/// The last moment of the run then.
+fn later(comes: Option<u64>, now: u64) -> u64
+    ensures { result ≡ moment_after comes now }
+{
+    match comes {
+        Some(moment) => moment,
+        None => now,
+    }
+}
+
 /// Writes a query's line behind the text.
 fn append_query(alloc: Global, moment: u64, query: &[u8], text: &mut String) -> Result<(), NoMemory>
     ensures { OnOk result (string_bytes text.new ≡ string_bytes text.old ++ query_line_of (moment, query.now)) }
@@ -193,7 +203,7 @@ impl Host {
         self.entered.enter(alloc, &step)?;
         world.step(rt, alloc, step, lines)?;
         let comes = coming(named, lines);
-        self.now = comes.unwrap_or(self.now);
+        self.now = later(comes, self.now);
         self.entered.hear_all(lines, self.now, &mut self.querier);
         pass(alloc, comes, &mut self.querier, text)
     }
