@@ -1,6 +1,7 @@
 -- A querier on the host hears a run and asks in it, step by step.
-use Rattle.std.proofs.Common.{◌≡◌, ℕ, ◌<◌, ◌^◌, true, false, cond, List, [], ◌∷◌, ◌++◌, Option, None, Some, IfSome, OnOk, Result, Ok, Err, map, refl, sym, ◌∙◌, ap, subst, append-nil, lit<, string_bytes, arith}
-use Rattle.std.specs.Prelude.{nat_le}
+use Rattle.std.proofs.Common.{◌≡◌, ℕ, ◌<◌, ◌^◌, Bool, true, false, cond, List, [], ◌∷◌, ◌++◌, Option, None, Some, IfSome, OnOk, Result, Ok, Err, map, refl, sym, ◌∙◌, ap, subst, append-nil, lit<, string_bytes, arith}
+use Rattle.std.specs.Prelude.{nat_le, ◌||◌}
+use Rattle.std.proofs.lemmas.List.Folds.{list_any-append}
 use Rattle.std.specs.List.{flat_map, fold, list_any}
 use Rattle.std.proofs.lemmas.Grind.{flat_map-append}
 use Rattle.std.proofs.lemmas.List.Sums.{fold-append}
@@ -19,15 +20,18 @@ use Rattle.mcast_querier.specs.Election.{hears}
 use Rattle.mcast_querier.specs.Hearing.{Asker}
 use Rattle.mcast_querier.specs.Querier.{Act, Comes, Hears as HearsAct, Queried, QuerierState, acted, after, first_querier, heard_from}
 use Rattle.mcast_querier.specs.Runs.{Listening, acts, acts_of, comes_by, entered, first_listening, heard_in, is_done, listens, query_line, sent}
+use Rattle.transcript_lines.specs.declared.row.Row.{Row}
+use Rattle.transcript_lines.specs.declared.row.Row.TheVariants.{One, Sent, Ctl}
+use Rattle.transcript_lines.specs.Rows.{at, expand, expand_row, sent_lines}
 use Rattle.capture_runner.specs.declared.addresses.Addresses.{Addresses}
 use Rattle.capture_runner.specs.declared.asking.Asking.{Asking}
 use Rattle.capture_runner.specs.declared.asking.Host.{Host}
 use Rattle.capture_runner.specs.declared.entered.Entered.{Entered}
 use Rattle.capture_runner.specs.declared.voice.Voice.TheVariants.{Querier}
-use Rattle.capture_runner.specs.Hearing.{HasHeard, Hears, HearsStep, IsAsked, IsHost, Keeps, acts_by, coming_by, listening, moment_after, moment_named, queries_by, ticked_by}
+use Rattle.capture_runner.specs.Hearing.{HasHeard, Hears, HearsStep, IsAsked, IsHost, Keeps, acts_by, coming_by, listening, moment_after, moment_named, queries_by, row_is_done, ticked_by}
 use Rattle.plane_parts.specs.Added.{Added}
 use Rattle.capture_runner.specs.Session.{Tells}
-use Rattle.capture_runner.specs.Voices.{HeardBy, SaysBy}
+use Rattle.capture_runner.specs.Voices.{BeginsBy, HeardBy, SaysBy, lines_of}
 use Rattle.capture_runner.proofs.Moments.{step-moment}
 
 -- the run as the querier hears it, with one step more
@@ -84,6 +88,33 @@ after_early (Some moment) now h e = h
 -- a step's lines, where there were none before
 pub told_is : (w v : World) (step : Step) (before after : List Line) → Added (Tells w step v) before after → before ≡ [] → (v, after) ≡ world_step w step
 told_is w v step before after t none = ap (λ (l : List Line). (v, l)) (t.added ∙ ap (λ (l : List Line). l ++ t.lines) none) ∙ t.so
+
+-- whether rows say that a step was done
+
+none_done : (id : ℕ) (ports untagged plain tagged : List ℕ) → list_any is_done (sent_lines id ports untagged plain tagged) ≡ false
+none_done id [] untagged plain tagged = refl
+none_done id (port ∷ ports) untagged plain tagged = none_done id ports untagged plain tagged
+
+or-false : (b : Bool) → b || false ≡ b
+or-false true = refl
+or-false false = refl
+
+row_done : (arena : List ℕ) (row : Row) → row_is_done row ≡ list_any is_done (expand_row arena row)
+row_done arena (One line) = sym (or-false (is_done line))
+row_done arena (Sent id ports untagged plain tagged) = sym (none_done id ports untagged (at arena plain) (at arena tagged))
+row_done arena (Ctl port bytes) = refl
+
+pub rows_done : (arena : List ℕ) (rows : List Row) → list_any row_is_done rows ≡ list_any is_done (expand arena rows)
+rows_done arena [] = refl
+rows_done arena (row ∷ rows) =
+    ap (λ b. b || list_any row_is_done rows) (row_done arena row)
+    ∙ ap (λ b. list_any is_done (expand_row arena row) || b) (rows_done arena rows)
+    ∙ sym (list_any-append is_done (expand_row arena row) (expand arena rows))
+
+-- the lines of queries, each with this moment
+pub with_moment : (moment : ℕ) (queries : List (List ℕ)) → flat_map (λ query. query_line (moment, query)) queries ≡ flat_map query_line (map (λ query. (moment, query)) queries)
+with_moment moment [] = refl
+with_moment moment (query ∷ queries) = ap (λ (l : List ℕ). query_line (moment, query) ++ l) (with_moment moment queries)
 
 -- of two that hold of an answer
 pub on_ok_both : {A E P Q R : Type 0} (r : Result A E) → OnOk r P → OnOk r Q → (P → Q → R) → OnOk r R
@@ -280,3 +311,8 @@ said_more a old new more w step b here hears same there text = λ setup steps at
     let next = hears four six setup steps at (subst (λ (o : Option Host). HeardBy o four six setup steps) here says.0) says.1 in
     subst (λ (x : Addresses). HeardBy b.host x.four x.six setup (steps ++ step ∷ []) × IsAsked (string_bytes b.text) x.four x.six setup (steps ++ step ∷ [])) (sym same)
     (subst (λ (o : Option Host). HeardBy o four six setup (steps ++ step ∷ [])) (sym there) next.0, subst (λ (l : List ℕ). IsAsked l four six setup (steps ++ step ∷ [])) (sym text) next.1)
+
+-- and before the first step
+pub begun : (a b : Asking) (setup : Setup) → HeardBy b.host b.addresses.four b.addresses.six setup [] → string_bytes b.text ≡ string_bytes a.text → lines_of (Querier b) ≡ lines_of (Querier a)
+    → BeginsBy (Querier a) setup (Querier b)
+begun a b setup heard text same = λ says. (heard, text ∙ says.1 ∙ sym (ap (λ (l : Setup → List Step → List ℕ). l setup []) same))

@@ -1,6 +1,7 @@
 //! The general queries that a querier on the host sends in a run, as it goes on.
-ghost use Rattle.std.specs.Prelude.{◌≡◌, ℕ, ◌<◌, ◌^◌, ◌++◌, [], List, true, false, OnOk, IfSome, None, is_some, map, string_bytes};
+ghost use Rattle.std.specs.Prelude.{◌≡◌, ℕ, ◌<◌, ◌^◌, ◌++◌, [], List, true, false, IfOk, OnOk, IfSome, None, map, string_bytes};
 ghost use Rattle.std.specs.List.{flat_map, list_any};
+ghost use Rattle.br_model.specs.Data.Digits.{hex_of};
 ghost use Rattle.br_model.specs.Plane.World.{first_world};
 ghost use Rattle.br_model.specs.Table.Domains.{Domains, chip_domains};
 ghost use Rattle.br_model.specs.Table.Setup.{Setup};
@@ -9,8 +10,7 @@ ghost use Rattle.mcast_querier.specs.Querier.{first_querier};
 ghost use Rattle.mcast_querier.specs.Queries.{is_host_four, is_link_local_six};
 ghost use Rattle.mcast_querier.specs.Runs.{is_done, query_line as query_line_of};
 ghost use Rattle.plane_parts.specs.Added.{Added};
-ghost use Rattle.transcript_lines.specs.Rows.{expand_row};
-ghost use Rattle.capture_runner.specs.Hearing.{HearsStep, IsHost, Keeps, coming_by, moment_after, moment_named as moment_named_of, queries_by, ticked_by};
+ghost use Rattle.capture_runner.specs.Hearing.{HearsStep, IsHost, Keeps, coming_by, moment_after, moment_named as moment_named_of, queries_by, row_is_done, ticked_by};
 ghost use Rattle.capture_runner.specs.Session.{Tells};
 ghost use Rattle.capture_runner.specs.Voices.{HeardBy, HostIn, SaysBy, lines_of};
 ghost use Rattle.capture_runner.specs.declared.voice.Voice.TheVariants as Voice;
@@ -86,7 +86,7 @@ fn says_done(line: &Line) -> bool
 
 /// The same of the lines of a row.
 fn row_says_done(row: &Row) -> bool
-    ensures { (arena : List ℕ) → result ≡ list_any is_done (expand_row arena row.now) }
+    ensures { result ≡ row_is_done row.now }
 {
     match row {
         Row::One(line) => says_done(line),
@@ -94,17 +94,19 @@ fn row_says_done(row: &Row) -> bool
     }
 }
 
+/// The same of the lines of these rows.
+fn rows_say_done(rows: &[Row]) -> bool
+    ensures { result ≡ list_any row_is_done rows.now }
+{
+    rows.iter().any(|row| row_says_done(row))
+}
+
 /// The same of these lines.
 fn say_done(lines: &Lines) -> bool
     ensures { result ≡ list_any is_done lines.now.lines }
 {
     let (rows, _) = lines.parts();
-    for row in rows {
-        if row_says_done(row) {
-            return true;
-        }
-    }
-    false
+    rows_say_done(rows)
 }
 
 /// The moment that a step names, if these lines say that it was done.
@@ -127,11 +129,17 @@ fn later(comes: Option<u64>, now: u64) -> u64
     }
 }
 
+fn digits_of(alloc: Global, bytes: &[u8]) -> Result<String, NoMemory>
+    ensures { IfOk result (λ text. string_bytes text ≡ hex_of bytes.now) }
+{
+    hex::encode(alloc, bytes)
+}
+
 /// Writes a query's line behind the text.
 fn append_query(alloc: Global, moment: u64, query: &[u8], text: &mut String) -> Result<(), NoMemory>
     ensures { OnOk result (string_bytes text.new ≡ string_bytes text.old ++ query_line_of (moment, query.now)) }
 {
-    let digits = hex::encode(alloc, query)?;
+    let digits = digits_of(alloc, query)?;
     write!(text, "query {moment} {digits}\n")
 }
 
