@@ -44,7 +44,7 @@ const OCTETS: usize = 4;
 const GROUPS: usize = 8;
 
 /// The address of version 4 in dotted decimal.
-fn address_four(word: &str) -> Option<u32>
+pub fn address_four(word: &str) -> Option<u32>
     ensures { result ≡ address_four word.now }
 {
     let mut address = 0;
@@ -60,7 +60,7 @@ fn address_four(word: &str) -> Option<u32>
 }
 
 /// The address of version 6, of which no part is left out.
-fn address_six(word: &str) -> Option<u128>
+pub fn address_six(word: &str) -> Option<u128>
     ensures { result ≡ address_six word.now }
 {
     let mut address = 0;

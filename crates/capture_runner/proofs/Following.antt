@@ -25,12 +25,13 @@ use Rattle.capture_runner.specs.declared.session.Last.TheVariants as lasts
 use Rattle.capture_runner.specs.declared.session.Next.TheVariants as nexts
 use Rattle.capture_runner.specs.declared.session.Session.{Session}
 use Rattle.capture_runner.specs.declared.voice.Voice.{Voice}
-use Rattle.capture_runner.specs.declared.voice.Voice.TheVariants.{Silent, Monitor}
+use Rattle.capture_runner.specs.declared.voice.Voice.TheVariants.{Silent, Monitor, Querier}
 use Rattle.capture_runner.specs.Session as session
 use Rattle.capture_runner.specs.Session.{Agrees, IsSaid, IsWorld, IsAmongSteps, Follows, Took, Went, EndsBy, world_of}
 use Rattle.capture_runner.specs.Voices.{Says}
 use Rattle.neigh_netlink.specs.Monitor.{messages}
 use Rattle.scenario_text.specs.Items.{item_of, comes_in_place}
+use Rattle.capture_runner.proofs.Querying.{asked_none, heard_none}
 
 not_long : (n : ℕ) → n ≤ longest_line → nat_lt longest_line n ≡ false
 not_long n h = grind arith
@@ -88,6 +89,8 @@ says_none : (v : Voice) (a b : Setup) → Says v a [] → Says v b []
 unfolding messages
 says_none Silent a b h = tt
 says_none (Monitor m) a b h = h
+says_none (Querier q) a b h =
+    (heard_none q.host q.addresses.four q.addresses.six a b h.0, asked_none (string_bytes q.text) q.addresses.four q.addresses.six a b h.1)
 
 unmade_said : (s t : Scenario) (w : Option World) (v : Voice) → IsWorld s w → IsSaid s v → t.steps ≡ s.steps → declaration s.roster.place ≡ true → IsSaid t v
 unmade_said s t None v h k e d =

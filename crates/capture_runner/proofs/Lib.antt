@@ -8,9 +8,12 @@ pub mod Finding
 pub mod Followed
 pub mod Following
 pub mod Generating
+pub mod Hearing
+pub mod Moments
 pub mod Monitoring
 pub mod Outcomes
 pub mod Packets
+pub mod Querying
 pub mod Reaching
 pub mod Ready
 pub mod Sections

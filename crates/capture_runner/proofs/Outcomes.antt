@@ -45,10 +45,12 @@ use Rattle.neigh_follow.specs.declared.follower.FollowEnd.{FollowEnd}
 use Rattle.neigh_follow.specs.declared.follower.FollowEnd.TheVariants as follow_lasts
 use Rattle.neigh_netlink.specs.Follow.{Ending as FollowEnding, Following as FollowingLines, followed, followed_at, follows}
 use Rattle.neigh_follow.specs.Calls.{Answers as FollowAnswers, HasMessages, ending_of as follow_ending}
+use Rattle.mcast_querier.specs.Runs.{queried, queried_at}
 use Rattle.neigh_netlink.specs.Monitor.{monitored, monitored_at}
+use Rattle.capture_runner.specs.declared.asking.Asking.{Asking as AskingOf}
 use Rattle.capture_runner.specs.declared.monitor.Monitor.{Monitor as MonitorOf}
 use Rattle.capture_runner.specs.declared.voice.Voice.{Voice}
-use Rattle.capture_runner.specs.declared.voice.Voice.TheVariants.{Silent, Monitor}
+use Rattle.capture_runner.specs.declared.voice.Voice.TheVariants.{Silent, Monitor, Querier}
 use Rattle.capture_runner.specs.Voices.{answer_at, answer_by, lines_of, said_by}
 use Rattle.capture_runner.proofs.Followed.{never_bad as lines_never_bad, never_full as lines_never_full}
 use Rattle.capture_runner.proofs.Telling.{breaks_behind, opened_more}
@@ -335,6 +337,7 @@ listed_by left now listing x all text last t is = record {
 said_is : (s : Scenario) (v : Voice) → session.IsSaid s v → said_by v ≡ lines_of v (setup_of s.roster) s.steps
 said_is s Silent h = refl
 said_is s (Monitor m) h = h
+said_is s (Querier a) h = h.1
 
 answered_is : (v : Voice) (input : List ℕ) (d : Ending) → (scenario input).ending ≡ d → answer_at d (lines_of v (setup_of (scenario input).roster) (scenario input).steps) ≡ answer_by v input
 unfolding answer_by
@@ -360,6 +363,16 @@ unfolding answer_by monitored
 monitored_is m = λ i bytes. at (scenario bytes) (scenario bytes).ending i
   where
     at : (s : Scenario) (d : Ending) → answer_at d (lines_of (Monitor m) (setup_of s.roster) s.steps) ≡ monitored_at d s
+    at s Going = refl
+    at s Ended = refl
+    at s (Bad n why) = refl
+
+-- of a querier
+pub queried_is : (a : AskingOf) → answer_by (Querier a) ≡ queried a.addresses.four a.addresses.six
+unfolding answer_by queried
+queried_is a = λ i bytes. at (scenario bytes) (scenario bytes).ending i
+  where
+    at : (s : Scenario) (d : Ending) → answer_at d (lines_of (Querier a) (setup_of s.roster) s.steps) ≡ queried_at d a.addresses.four a.addresses.six s
     at s Going = refl
     at s Ended = refl
     at s (Bad n why) = refl
@@ -411,6 +424,7 @@ module _ (before now : Option (List ℕ)) (r : Status) (left : Option (List ℕ)
     lacks_at_first failed (Some asks.Monitor) = reads_nothing failed monitored
     lacks_at_first failed (Some asks.Audit) = reads_nothing failed audited
     lacks_at_first failed (Some asks.Follow) = follows_nothing failed
+    lacks_at_first failed (Some (asks.Querier four six)) = reads_nothing failed (queried four six)
     lacks_at_first failed (Some (asks.Gen number count)) = writes_nothing (made number count) s a b
     lacks_at_first failed (Some (asks.Demo number count)) = writes_nothing (summary number count) s a b
 
@@ -481,6 +495,7 @@ module _ (failed : Type 0) (c : Call) (reads reads_now writes writes_now : ℕ) 
   completes (Some (asks.Show listing)) r o cause has = reading (Some (asks.Show listing)) (listed listing) nothing no_parts r has o cause
   completes (Some asks.Monitor) r o cause has = reading (Some asks.Monitor) monitored nothing no_parts r has o cause
   completes (Some asks.Audit) r o cause has = reading (Some asks.Audit) audited nothing no_parts r has o cause
+  completes (Some (asks.Querier four six)) r o cause has = reading (Some (asks.Querier four six)) (queried four six) nothing no_parts r has o cause
   completes (Some asks.Follow) r o cause has = following_lines r has o cause
   completes (Some (asks.Gen number count)) r o cause has = writing (Some (asks.Gen number count)) (made number count) r o cause
   completes (Some (asks.Demo number count)) r o cause has = writing (Some (asks.Demo number count)) (summary number count) r o cause

@@ -15,7 +15,7 @@ use Rattle.br_model.proofs.PlaneApplied.{step-setup}
 use Rattle.plane_parts.specs.Added.{Added}
 use Rattle.capture_runner.specs.declared.session.Session.{Session}
 use Rattle.capture_runner.specs.declared.voice.Voice.{Voice}
-use Rattle.capture_runner.specs.declared.voice.Voice.TheVariants.{Silent, Monitor}
+use Rattle.capture_runner.specs.declared.voice.Voice.TheVariants.{Silent, Monitor, Querier}
 use Rattle.capture_runner.specs.Session.{Follows, HasChips, IsBehindDeclarations, IsReady, IsWorld, Tells, captures}
 use Rattle.capture_runner.specs.Voices.{IsTuned}
 use Rattle.capture_runner.proofs.Following.{past}
@@ -70,6 +70,7 @@ ready_at_first x f = (ap (λ (r : Roster). r.check) f.stands.roster, none x.worl
     tuned : (w : Option World) (v : Voice) → IsWorld (opened false) w → IsTuned w v
     tuned None Silent h = tt
     tuned None (Monitor m) h = tt
+    tuned None (Querier a) h = tt
     tuned (Some w) v h = let e : true ≡ false = h.1.1 in absurd (cc)
 
     none : (w : Option World) → IsWorld (opened false) w → HasChips x.roster w

@@ -4,6 +4,7 @@ pub mod Counting
 pub mod Following
 pub mod Generating
 pub mod Halting
+pub mod Hearing
 pub mod Held
 pub mod Outcome
 pub mod Playing

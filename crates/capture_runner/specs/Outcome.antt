@@ -12,12 +12,13 @@ use Rattle.br_model.specs.Program.Runs.{body, body_parts, told}
 use Rattle.br_model.specs.Table.Limits.{most_bytes}
 use Rattle.br_model.specs.Text.Scenario.{Ended}
 use Rattle.br_model.specs.Program.Summary.{summary}
+use Rattle.mcast_querier.specs.Runs.{queried}
 use Rattle.neigh_netlink.specs.Monitor.{monitored}
 use Rattle.chip_audit.specs.Lines.{audited}
 use Rattle.neigh_netlink.specs.Follow as follow
 use Rattle.neigh_follow.specs.Calls as follows
 use Rattle.capture_runner.specs.declared.asked.Asked.{Asked}
-use Rattle.capture_runner.specs.declared.asked.Asked.TheVariants.{Replay, Check, Show, Monitor, Audit, Follow, Gen, Demo}
+use Rattle.capture_runner.specs.declared.asked.Asked.TheVariants.{Replay, Check, Show, Monitor, Audit, Querier, Follow, Gen, Demo}
 use Rattle.capture_runner.specs.declared.status.Status.{Status}
 use Rattle.capture_runner.specs.declared.status.Status.TheVariants as statuses
 
@@ -155,6 +156,7 @@ Outcome failed (Some (Show listing)) = Reads failed (listed listing) nothing no_
 Outcome failed (Some Monitor) = Reads failed monitored nothing no_parts
 Outcome failed (Some Audit) = Reads failed audited nothing no_parts
 Outcome failed (Some Follow) = Follows failed
+Outcome failed (Some (Querier four six)) = Reads failed (queried four six) nothing no_parts
 Outcome failed (Some (Gen number count)) = Writes (made number count)
 Outcome failed (Some (Demo number count)) = Writes (summary number count)
 
@@ -178,6 +180,7 @@ Asks (Some (Show listing)) call = HasScenario most_bytes call
 Asks (Some Monitor) call = HasScenario most_bytes call
 Asks (Some Audit) call = HasScenario most_bytes call
 Asks (Some Follow) call = follows.HasMessages most_bytes call
+Asks (Some (Querier four six)) call = HasScenario most_bytes call
 Asks (Some (Gen number count)) call = Unit {0}
 Asks (Some (Demo number count)) call = Unit {0}
 
@@ -188,6 +191,9 @@ MaySayNo (Some Replay) = ⊥
 MaySayNo (Some Check) = Unit {0}
 MaySayNo (Some (Show listing)) = ⊥
 MaySayNo (Some Monitor) = ⊥
+MaySayNo (Some Audit) = ⊥
+MaySayNo (Some Follow) = ⊥
+MaySayNo (Some (Querier four six)) = ⊥
 MaySayNo (Some (Gen number count)) = ⊥
 MaySayNo (Some (Demo number count)) = ⊥
 

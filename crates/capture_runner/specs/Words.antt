@@ -1,7 +1,7 @@
 -- The grammar of the command line, and what the words after the program's name ask for. How words are matched with a command, and
 -- so what `--` or `--help` does, is clap's own definition.
 -- Source: this profile.
-use Rattle.std.specs.Prelude.{ℕ, ◌-◌, ◌^◌, ◌≤◌, ⊤, true, List, [], ◌∷◌, Option, Some, None, codes, find, if◌then◌else◌}
+use Rattle.std.specs.Prelude.{◌≡◌, ℕ, ◌-◌, ◌^◌, ◌≤◌, ⊤, true, List, [], ◌∷◌, Option, Some, None, codes, find, if◌then◌else◌}
 use Rattle.std.specs.List.{fold}
 use Rattle.std.specs.Option.{option_and_then, option_map}
 use Rattle.std.specs.Str.{bytes_eq}
@@ -9,11 +9,13 @@ use Rattle.br_model.specs.declared.listing.Listing.{Listing}
 use Rattle.br_model.specs.declared.listing.Listing.TheVariants.{Fdb, Vlan, Mdb}
 use Rattle.br_model.specs.Data.Digits.{number_up_to}
 use Rattle.br_model.specs.Program.Generator.{most_frames}
+use Rattle.br_model.specs.Text.IpWords.{address_four, address_six}
 use Rattle.br_model.specs.Text.Words.{Word}
+use Rattle.mcast_querier.specs.Queries.{is_host_four, is_link_local_six}
 use Rattle.clap.specs.Words.{App, Kinds, Row, Rule, first_of, fault_of, new_app, new_rule, subcommand_of, with_rule, with_subcommand}
 use Rattle.clap.specs.Simple.{on_top}
 use Rattle.capture_runner.specs.declared.asked.Asked.{Asked}
-use Rattle.capture_runner.specs.declared.asked.Asked.TheVariants.{Replay, Check, Show, Monitor, Audit, Follow, Gen, Demo}
+use Rattle.capture_runner.specs.declared.asked.Asked.TheVariants.{Replay, Check, Show, Monitor, Audit, Querier, Follow, Gen, Demo}
 
 -- what an operand's word spells
 
@@ -41,6 +43,22 @@ abbrev pub pair : Option ℕ → Option ℕ → Option (ℕ × ℕ)
 pair None k = None
 pair (Some n) None = None
 pair (Some n) (Some k) = Some (n, k)
+
+-- the addresses of a querier
+
+-- the address of a host of version 4, in dotted decimal
+abbrev pub host_four : Word → Option ℕ
+host_four word = option_and_then (λ n. if is_host_four n then Some n else None) (address_four word)
+
+-- a link-local address of version 6, in eight groups of four hexadecimal digits
+abbrev pub link_local_six : Word → Option ℕ
+link_local_six word = option_and_then (λ n. if is_link_local_six n then Some n else None) (address_six word)
+
+abbrev pub addresses : List Word
+addresses = codes "four" ∷ codes "six" ∷ []
+
+abbrev pub addresses_of : List Row → Option (ℕ × ℕ)
+addresses_of rows = pair (operand (codes "four") host_four rows) (operand (codes "six") link_local_six rows)
 
 abbrev pub table : List Word
 table = codes "table" ∷ []
@@ -73,6 +91,7 @@ forms =
     form (codes "monitor") [] (λ rows. Some Monitor) ∷
     form (codes "audit") [] (λ rows. Some Audit) ∷
     form (codes "follow") [] (λ rows. Some Follow) ∷
+    form (codes "querier") addresses (λ rows. option_map (λ p. Querier p.0 p.1) (addresses_of rows)) ∷
     form (codes "gen") number_count (λ rows. option_map (λ p. Gen p.0 p.1) (number_count_of rows)) ∷
     form (codes "demo") number_count (λ rows. option_map (λ p. Demo p.0 p.1) (number_count_of rows)) ∷
     []
@@ -104,7 +123,7 @@ unless_fault (kind ∷ kinds) found = None
 unfoldable pub asked : List Word → Option Asked
 asked words = unless_fault (fault_of command words) (option_and_then asked_with (subcommand_of command words))
 
--- it asks for no more frames than are generated
+-- it asks for no more frames than are generated, and for a querier at such addresses
 abbrev pub IsWithin : Asked → Type 0
 IsWithin Replay = ⊤
 IsWithin Check = ⊤
@@ -112,5 +131,6 @@ IsWithin (Show _) = ⊤
 IsWithin Monitor = ⊤
 IsWithin Audit = ⊤
 IsWithin Follow = ⊤
+IsWithin (Querier four six) = (is_host_four four ≡ true) × (is_link_local_six six ≡ true)
 IsWithin (Gen number count) = count ≤ most_frames
 IsWithin (Demo number count) = count ≤ most_frames

@@ -16,6 +16,13 @@ pub enum Asked {
     Audit,
     /// To read messages as `Monitor` writes them, and write the table that they give.
     Follow,
+    /// To run the scenario of the input, and write the general queries that a querier on the host sends.
+    Querier {
+        /// Its address of version 4: neither zero nor multicast.
+        four: u32,
+        /// Its address of version 6: in fe80::/10.
+        six: u128,
+    },
     /// To write a scenario of generated frames.
     Gen {
         /// The generator's first state.

@@ -1,9 +1,11 @@
 //! What each command does, to its last line.
-ghost use Rattle.std.specs.Prelude.{◌≡◌, ℕ, ◌≤◌, [], List, Option, OnOk, OnErr, false, string_bytes};
+ghost use Rattle.std.specs.Prelude.{◌≡◌, ℕ, ◌≤◌, [], List, Option, OnOk, OnErr, true, false, string_bytes};
 ghost use Rattle.br_model.specs.Program.Generator.{made, most_frames};
 ghost use Rattle.br_model.specs.Program.Listings.{listed};
 ghost use Rattle.br_model.specs.Program.Summary.{summary as summary_of};
 ghost use Rattle.br_model.specs.Text.Scenario.{opened};
+ghost use Rattle.mcast_querier.specs.Queries.{is_host_four, is_link_local_six};
+ghost use Rattle.mcast_querier.specs.Runs.{queried};
 ghost use Rattle.run_io.specs.Causes.{HasCause, Rose};
 ghost use Rattle.capture_runner.specs.Advancing.{Caused as StopsBy};
 ghost use Rattle.capture_runner.specs.Generating.{HasRoom, PutsAll, PutsSome};
@@ -13,6 +15,7 @@ ghost use Rattle.capture_runner.specs.Session.{Follows, SaysNothing};
 ghost use Rattle.capture_runner.specs.Voices.{answer_by};
 ghost use Rattle.neigh_netlink.specs.Monitor.{monitored};
 
+use crate::asking::Asking;
 use crate::demo::summary;
 use crate::monitor::Monitor;
 use crate::replay::{Halt, Stop, play, put_if_full};
@@ -196,6 +199,25 @@ pub(crate) fn monitor<R: Wait, S: Source, K: Sink>(
     ensures cause { Caused result (S.faults source.old) (S.faults source.new) (K.faults sink.old) (K.faults sink.new) }
 {
     speak(rt, alloc, Voice::Monitor(Monitor::new(alloc)), source, sink)
+}
+
+/// `querier`: the general queries of a querier at these addresses.
+pub(crate) fn querier<R: Wait, S: Source, K: Sink>(
+    rt: &R,
+    alloc: Global,
+    four: u32,
+    six: u128,
+    source: &mut S,
+    sink: &mut K,
+) -> Status
+    requires four { is_host_four four ≡ true }
+    requires six { is_link_local_six six ≡ true }
+    ensures outcome { Reads (Rose (S.faults source.old) (S.faults source.new)) (queried four six) nothing no_parts result
+        (call_of (S.left source.old) (S.left source.new) (K.taken sink.old) (K.taken sink.new)) }
+    ensures cause { Caused result (S.faults source.old) (S.faults source.new) (K.faults sink.old) (K.faults sink.new) }
+{
+    let asking = Asking::new(alloc, four, six);
+    speak(rt, alloc, Voice::Querier(asking), source, sink)
 }
 
 /// Writes frames as lines while any is left. The last ones are held.

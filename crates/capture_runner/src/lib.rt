@@ -2,11 +2,14 @@
 //! transcript or a table is written; or a scenario is generated, and written or run.
 #![tactic(auto)]
 
+mod addresses;
 mod asked;
+mod asking;
 mod audit;
 mod checking;
 mod commands;
 mod demo;
+mod entered;
 mod follow;
 mod held;
 mod monitor;

@@ -7,6 +7,7 @@ ghost use Rattle.capture_runner.specs.Words.{asked};
 use crate::asked::Asked;
 use crate::audit::audit;
 use crate::checking::check_all;
+use crate::commands::{demo, generate, monitor, querier, replay, show};
 use crate::commands::{demo, generate, monitor, replay, show};
 use crate::follow::follow;
 use crate::status::{Status, end_without_memory, put_last};
@@ -20,7 +21,8 @@ use std::sync::Wait;
 /// transcript, `check` a scenario and the transcript behind it, together fewer bytes, and writes whether this is the scenario's.
 /// `show TABLE` (`fdb`, `vlan` or `mdb`) writes the table at a scenario's end, `monitor` the messages of its address changes, `audit`
 /// what each chip has of the bridge's entries at its end. `follow` reads the lines that `monitor` writes, and writes the table that they
-/// give.
+/// give. `querier A4 A6` writes the general queries that a querier at these addresses would send, of IP version 4 and
+/// link-local ones of version 6.
 /// `gen NUMBER COUNT` reads nothing and writes a scenario, `demo NUMBER COUNT` a summary of its run: NUMBER is below 2^64, COUNT at
 /// most 100,000. All but `replay` and `gen` write nothing before their work is over; `gen` has all its memory before its
 /// first write. Each status has its last line: that of the transcript or of the other output, `bad N WHY`, `usage`, `read fault`,
@@ -46,6 +48,7 @@ pub fn run<R: Wait, S: Source, K: Sink>(
         Ok(Some(Asked::Monitor)) => monitor(rt, alloc, source, sink),
         Ok(Some(Asked::Audit)) => audit(rt, alloc, source, sink),
         Ok(Some(Asked::Follow)) => follow(alloc, source, sink),
+        Ok(Some(Asked::Querier { four, six })) => querier(rt, alloc, four, six, source, sink),
         Ok(Some(Asked::Gen { number, count })) => generate(alloc, number, count, sink),
         Ok(Some(Asked::Demo { number, count })) => demo(rt, alloc, number, count, sink),
         Ok(None) => put_last(sink, b"usage\n", Status::Usage),

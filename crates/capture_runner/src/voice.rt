@@ -1,5 +1,5 @@
 //! What is made of the steps of a run besides its transcript.
-ghost use Rattle.std.specs.Prelude.{◌≡◌, true, false, OnOk, Some, string_bytes};
+ghost use Rattle.std.specs.Prelude.{◌≡◌, [], true, false, OnOk, Some, string_bytes};
 ghost use Rattle.br_model.specs.Plane.World.{first_world};
 ghost use Rattle.br_model.specs.Table.Domains.{chip_domains};
 ghost use Rattle.br_model.specs.Text.LineForms.{comes_by_line};
@@ -8,6 +8,7 @@ ghost use Rattle.capture_runner.specs.Session.{Tells};
 ghost use Rattle.capture_runner.specs.Voices.{BeginsBy, IsTuned, SaysBy, lines_of, said_by};
 
 use crate::NoMemory;
+use crate::asking::Asking;
 use crate::monitor::Monitor;
 use crate::world::World;
 use br_model::domains::Domains;
@@ -24,6 +25,8 @@ pub(crate) enum Voice {
     Silent,
     /// The messages of its address changes.
     Monitor(Monitor),
+    /// The general queries of a querier on the host.
+    Querier(Asking),
 }
 
 /// Before the first step of a run of a bridge with these domains and this address.
@@ -40,6 +43,10 @@ pub(crate) fn begin(
     match voice {
         Voice::Silent => Ok(()),
         Voice::Monitor(monitor) => monitor.begin(alloc, domains),
+        Voice::Querier(asking) => {
+            asking.begin(alloc, own);
+            Ok(())
+        }
     }
 }
 
@@ -53,6 +60,7 @@ pub(crate) fn do_step<R: Wait>(
     lines: &mut Lines,
 ) -> Result<(), NoMemory>
     requires by_line { comes_by_line false (chip_domains world.old.setup.domains) step ≡ true }
+    requires empty { lines.old.lines ≡ [] }
     requires tuned { IsTuned (Some world.old) voice.old }
     ensures tells { OnOk result (Added (Tells world.old step world.new) lines.old.lines lines.new.lines) }
     ensures tuned { OnOk result (IsTuned (Some world.new) voice.new) }
@@ -62,6 +70,7 @@ pub(crate) fn do_step<R: Wait>(
     match voice {
         Voice::Silent => world.step(rt, alloc, step, lines),
         Voice::Monitor(monitor) => monitor.step(rt, alloc, world, step, lines),
+        Voice::Querier(asking) => asking.step(rt, alloc, world, step, lines),
     }
 }
 
@@ -72,5 +81,6 @@ pub(crate) fn take_text(alloc: Global, voice: &mut Voice) -> String
     match voice {
         Voice::Silent => String::new(alloc),
         Voice::Monitor(monitor) => monitor.take_text(alloc),
+        Voice::Querier(asking) => asking.take_text(alloc),
     }
 }

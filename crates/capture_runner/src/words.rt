@@ -1,15 +1,16 @@
 //! The words of the command line.
-ghost use Rattle.std.specs.Prelude.{◌≡◌, ◌≤◌, IfOk, IfSome, map, string_bytes, option_map, codes, false};
+ghost use Rattle.std.specs.Prelude.{◌≡◌, ◌≤◌, IfOk, IfSome, map, string_bytes, option_map, codes, true, false};
 ghost use Rattle.std.specs.Option.{option_and_then};
 ghost use Rattle.br_model.specs.Program.Generator.{most_frames};
 ghost use Rattle.clap.specs.Words.{app_of, first_of, found_of, rows_of, subcommand_rows_of};
 ghost use Rattle.clap.specs.declared.builder.Command.TheViews.{out-Command as fields_of};
-ghost use Rattle.capture_runner.specs.Words.{IsWithin, asked, asked_with, command, listing, number_count, number_count_of, subcommand, table, table_of};
+ghost use Rattle.mcast_querier.specs.Queries.{is_host_four, is_link_local_six};
+ghost use Rattle.capture_runner.specs.Words.{IsWithin, addresses, addresses_of, asked, asked_with, command, host_four, link_local_six, listing, number_count, number_count_of, subcommand, table, table_of};
 
 use crate::asked::Asked;
 use br_model::NoMemory;
 use br_model::listing::Listing;
-use bridge_command::number_up_to;
+use bridge_command::{address_four, address_six, number_up_to};
 use clap::error::ErrorKind;
 use clap::{Arg, ArgMatches, Command};
 use std::alloc::{AllocError, Global};
@@ -23,6 +24,16 @@ fn show_command<'a>(alloc: Global) -> Result<Command<'a>, NoMemory>
 {
     let table = Arg::new(alloc, "table").required(true);
     Command::new(alloc, "show").arg(table)
+}
+
+/// `querier`, with its two addresses.
+fn querier_command<'a>(alloc: Global) -> Result<Command<'a>, NoMemory>
+    ensures app { IfOk result (λ c. app_of c ≡ subcommand (codes "querier") addresses) }
+    ensures local { IfOk result (λ c. (fields_of c).has_globals ≡ false) }
+{
+    let four = Arg::new(alloc, "four").required(true);
+    let six = Arg::new(alloc, "six").required(true);
+    Command::new(alloc, "querier").arg(four)?.arg(six)
 }
 
 /// `gen` or `demo`, with its two numbers.
@@ -48,6 +59,7 @@ fn whole_command<'a>(alloc: Global) -> Result<Command<'a>, NoMemory>
         .subcommand(Command::new(alloc, "monitor"))?
         .subcommand(Command::new(alloc, "audit"))?
         .subcommand(Command::new(alloc, "follow"))?
+        .subcommand(querier_command(alloc)?)?
         .subcommand(generating_command(alloc, "gen")?)?
         .subcommand(generating_command(alloc, "demo")?)
 }
@@ -87,6 +99,43 @@ fn numbers_from(found: &ArgMatches) -> Option<(u64, u32)>
     Some((number, count as u32))
 }
 
+/// The address of a host of version 4: neither zero nor multicast.
+fn host_four(word: &str) -> Option<u32>
+    ensures value { result ≡ host_four word.now }
+    ensures host { IfSome result (λ n. is_host_four n ≡ true) }
+{
+    let address = address_four(word)?;
+    if address == 0 || address >> 28 == 14 {
+        None
+    } else {
+        Some(address)
+    }
+}
+
+/// A link-local address of version 6: in fe80::/10.
+fn link_local_six(word: &str) -> Option<u128>
+    ensures value { result ≡ link_local_six word.now }
+    ensures link_local { IfSome result (λ n. is_link_local_six n ≡ true) }
+{
+    let address = address_six(word)?;
+    if address >> 118 == 0x3FA {
+        Some(address)
+    } else {
+        None
+    }
+}
+
+/// The addresses of a querier.
+fn addresses_from(found: &ArgMatches) -> Option<(u32, u128)>
+    ensures value { result ≡ addresses_of (rows_of (found_of found.now)) }
+    ensures host { IfSome result (λ p. is_host_four p.0 ≡ true) }
+    ensures link_local { IfSome result (λ p. is_link_local_six p.1 ≡ true) }
+{
+    let four = host_four(word_of(found, "four")?)?;
+    let six = link_local_six(word_of(found, "six")?)?;
+    Some((four, six))
+}
+
 /// What the command of this name asks for.
 fn asked_of(name: &str, found: &ArgMatches) -> Option<Asked>
     ensures value { result ≡ asked_with (name.now, rows_of (found_of found.now)) }
@@ -99,6 +148,10 @@ fn asked_of(name: &str, found: &ArgMatches) -> Option<Asked>
         "monitor" => Some(Asked::Monitor),
         "audit" => Some(Asked::Audit),
         "follow" => Some(Asked::Follow),
+        "querier" => {
+            let (four, six) = addresses_from(found)?;
+            Some(Asked::Querier { four, six })
+        }
         "gen" => {
             let (number, count) = numbers_from(found)?;
             Some(Asked::Gen { number, count })

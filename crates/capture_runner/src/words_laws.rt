@@ -2,7 +2,7 @@
 ghost use Rattle.std.specs.Prelude.{◌≡◌, [], codes, None, Some};
 ghost use Rattle.br_model.specs.Text.Words.{words};
 ghost use Rattle.br_model.specs.declared.listing.Listing.TheVariants.{Fdb, Vlan, Mdb};
-ghost use Rattle.capture_runner.specs.declared.asked.Asked.TheVariants.{Replay, Check, Show, Monitor, Audit, Follow, Gen, Demo};
+ghost use Rattle.capture_runner.specs.declared.asked.Asked.TheVariants.{Replay, Check, Show, Monitor, Audit, Querier, Follow, Gen, Demo};
 ghost use Rattle.capture_runner.specs.Words.{asked};
 
 /// Each command, with the largest numbers.
@@ -15,6 +15,10 @@ pub fn commands_are_read()
     ensures monitor { asked (words (codes "monitor")) ≡ Some Monitor }
     ensures audit { asked (words (codes "audit")) ≡ Some Audit }
     ensures follow { asked (words (codes "follow")) ≡ Some Follow }
+    ensures querier { asked (words (codes "querier 10.0.0.9 fe80:0000:0000:0000:0000:0000:0000:0009"))
+        ≡ Some (Querier 0x0A000009 0xFE800000000000000000000000000009) }
+    ensures greatest { asked (words (codes "querier 255.255.255.255 FEBF:FFFF:FFFF:FFFF:FFFF:FFFF:FFFF:FFFF"))
+        ≡ Some (Querier 0xFFFFFFFF 0xFEBFFFFFFFFFFFFFFFFFFFFFFFFFFFFF) }
     ensures least { asked (words (codes "gen 0 0")) ≡ Some (Gen 0 0) }
     ensures most { asked (words (codes "gen 18446744073709551615 100000")) ≡ Some (Gen 18446744073709551615 100000) }
     ensures demo { asked (words (codes "demo 7 20")) ≡ Some (Demo 7 20) }
@@ -30,6 +34,16 @@ pub fn operands_are_tested()
     ensures count { asked (words (codes "gen 0 100001")) ≡ None }
     ensures none { asked (words (codes "monitor x")) ≡ None }
     ensures sign { asked (words (codes "demo 1 -1")) ≡ None }
+{}
+
+/// No host's addresses: zero, a group's, one that isn't link-local, and one that is shortened.
+pub fn addresses_are_tested()
+    ensures zero { asked (words (codes "querier 0.0.0.0 fe80:0000:0000:0000:0000:0000:0000:0009")) ≡ None }
+    ensures group { asked (words (codes "querier 224.0.0.1 fe80:0000:0000:0000:0000:0000:0000:0009")) ≡ None }
+    ensures low { asked (words (codes "querier 10.0.0.9 fe7f:0000:0000:0000:0000:0000:0000:0009")) ≡ None }
+    ensures high { asked (words (codes "querier 10.0.0.9 fec0:0000:0000:0000:0000:0000:0000:0009")) ≡ None }
+    ensures short { asked (words (codes "querier 10.0.0.9 fe80::9")) ≡ None }
+    ensures few { asked (words (codes "querier 10.0.0.9")) ≡ None }
 {}
 
 /// No word, an unknown one, words for help and for the version, a command's first letters and two commands.

@@ -7,6 +7,7 @@ mod failing_calls;
 mod faults;
 mod limits;
 mod messages;
+mod queriers;
 mod rows;
 mod snooping;
 mod trees;

@@ -224,6 +224,14 @@ fn words_outside_the_grammar(rt: HostRuntime) {
         "demo 0 100001",
         "demo 1 -1",
         "audit 1",
+        "querier",
+        "querier 10.0.0.9",
+        "querier 0.0.0.0 fe80:0000:0000:0000:0000:0000:0000:0009",
+        "querier 224.0.0.1 fe80:0000:0000:0000:0000:0000:0000:0009",
+        "querier 10.0.0.09 fe80:0000:0000:0000:0000:0000:0000:0009",
+        "querier 10.0.0.9 fe80::9",
+        "querier 10.0.0.9 fe7f:0000:0000:0000:0000:0000:0000:0009",
+        "querier 10.0.0.9 fec0:0000:0000:0000:0000:0000:0000:0009",
         "live --workers 2",
     ];
     for line in rows {

@@ -1,0 +1,98 @@
+//! The general queries of a querier on the host.
+use super::commands::writes;
+use capture_runner::Status;
+use std::test::Fail;
+
+/// The queries of hosts at 10.0.0.9, at 10.0.0.10 and at fe80::9, with checksums that were worked out by hand.
+const BY_NINE: &str = "01005e000001020000000001080046c00020000040000102fa0d0a000009e0000001940400001164ee9b00000000";
+
+const BY_TEN: &str = "01005e000001020000000001080046c00020000040000102fa0c0a00000ae0000001940400001164ee9b00000000";
+
+const BY_SIX: &str = "33330000000102000000000186dd6000000000200001fe800000000000000000000000000009ff0200000000000000000000000000013a000502000001008200590f2710000000000000000000000000000000000000";
+
+/// Nobody else asks: two queries a quarter of an interval apart, and the next one a whole interval later.
+#[test]
+fn queries_are_due(rt: HostRuntime) -> Result<(), Fail> {
+    let alloc = rt.alloc();
+    let wrote = format!(in alloc;
+        "query 0 {BY_NINE}\nquery 0 {BY_SIX}\nquery 31250 {BY_NINE}\nquery 31250 {BY_SIX}\nquery 156250 {BY_NINE}\nquery 156250 {BY_SIX}\nend\n"
+    )?;
+    writes(
+        &rt,
+        alloc,
+        "querier 10.0.0.9 FE80:0000:0000:0000:0000:0000:0000:0009",
+        (
+            b"scenario 1\nnow 0\nnow 31249\nnow 31250\nnow 156249\nnow 156250\nend\n",
+            &[],
+        ),
+        (Status::Ok, wrote.as_str()),
+    );
+    Ok(())
+}
+
+/// Three ports of software, and a query from 10.0.0.9.
+const HEARD_NINE: &str = "scenario 1
+port 1 p1 soft
+port 2 p2 soft
+port 3 p3 soft
+cmd port up p1
+cmd port up p2
+cmd port up p3
+publish
+rx 1 01005e00000102000000000e08004500001c000000000102cfd60a000009e00000011164ee9b00000000
+serve
+";
+
+/// The host at 10.0.0.10 yields to 10.0.0.9 until it hasn't heard it for 255 seconds; at an equal or a lower address it doesn't.
+#[test]
+fn a_lower_address_asks(rt: HostRuntime) -> Result<(), Fail> {
+    let alloc = rt.alloc();
+    let input = format!(in alloc; "{HEARD_NINE}now 1000\nnow 255000\nend\n")?;
+    let ten = format!(in alloc; "query 1000 {BY_SIX}\nquery 255000 {BY_TEN}\nquery 255000 {BY_SIX}\nend\n")?;
+    let nine = format!(in alloc;
+        "query 1000 {BY_NINE}\nquery 1000 {BY_SIX}\nquery 255000 {BY_NINE}\nquery 255000 {BY_SIX}\nend\n"
+    )?;
+    let rows = [
+        (
+            "querier 10.0.0.10 fe80:0000:0000:0000:0000:0000:0000:0009",
+            ten.as_str(),
+        ),
+        (
+            "querier 10.0.0.9 fe80:0000:0000:0000:0000:0000:0000:0009",
+            nine.as_str(),
+        ),
+    ];
+    for (line, wrote) in rows {
+        writes(
+            &rt,
+            alloc,
+            line,
+            (input.as_bytes(), &[]),
+            (Status::Ok, wrote),
+        );
+    }
+    Ok(())
+}
+
+/// A refused moment brings no query, and behind a bad line nothing is written but it.
+#[test]
+fn moments_that_do_not_come(rt: HostRuntime) -> Result<(), Fail> {
+    let alloc = rt.alloc();
+    let line = "querier 10.0.0.9 fe80:0000:0000:0000:0000:0000:0000:0009";
+    let back = format!(in alloc; "query 40000 {BY_NINE}\nquery 40000 {BY_SIX}\nend\n")?;
+    writes(
+        &rt,
+        alloc,
+        line,
+        (b"scenario 1\nnow 40000\nnow 39999\nend\n", &[]),
+        (Status::Ok, back.as_str()),
+    );
+    writes(
+        &rt,
+        alloc,
+        line,
+        (b"scenario 1\nnow 0\nbogus\nend\n", &[]),
+        (Status::BadLine, "bad 3 word\n"),
+    );
+    Ok(())
+}
