@@ -33,6 +33,11 @@ returns-in-Ok-Some-Monitor-clause-complete g c = λ reads writes has.
     let is = sym c.in-Ok-Some-Monitor.ensures.value ∙ c.in-Ok-Some-Monitor.field-0-is ∙ ap Some c.in-Ok-Some-Monitor.field-0-0-is in
     completes_by _ _ _ _ _ _ reads writes _ _ _ is c.monitor.ensures.outcome c.monitor.ensures.cause has
 
+pub returns-in-Ok-Some-Audit-clause-complete : goal.returns-in-Ok-Some-Audit-clause-complete
+returns-in-Ok-Some-Audit-clause-complete g c = λ reads writes has.
+    let is = sym c.in-Ok-Some-Audit.ensures.value ∙ c.in-Ok-Some-Audit.field-0-is ∙ ap Some c.in-Ok-Some-Audit.field-0-0-is in
+    completes_by _ _ _ _ _ _ reads writes _ _ _ is c.audit.ensures.outcome c.audit.ensures.cause has
+
 pub returns-in-Ok-Some-Follow-clause-complete : goal.returns-in-Ok-Some-Follow-clause-complete
 returns-in-Ok-Some-Follow-clause-complete g c = λ reads writes has.
     let is = sym c.in-Ok-Some-Follow.ensures.value ∙ c.in-Ok-Some-Follow.field-0-is ∙ ap Some c.in-Ok-Some-Follow.field-0-0-is in
