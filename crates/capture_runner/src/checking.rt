@@ -54,12 +54,7 @@ fn line_of_no(alloc: Global, line: u32) -> Result<Vec<u8>, NoMemory>
 }
 
 /// The lines where this line differs.
-fn lines_of_no(
-    alloc: Global,
-    line: u32,
-    expected: &[u8],
-    found: &[u8],
-) -> Result<Vec<u8>, NoMemory>
+fn lines_of_no(alloc: Global, line: u32, expected: &[u8], found: &[u8]) -> Result<Vec<u8>, NoMemory>
     ensures { IfOk result (λ lines. lines.items ≡ answer_text (Some (record { line = line; expected = expected.now; found = found.now }))) }
 {
     let mut lines = line_of_no(alloc, line)?;
@@ -161,11 +156,7 @@ fn find_in<S: Source>(alloc: Global, source: &mut S) -> Result<Found, Stop>
 }
 
 /// `check`: a bad line comes before everything, and a fault of reading or too many bytes before a difference.
-pub(crate) fn check_all<S: Source, K: Sink>(
-    alloc: Global,
-    source: &mut S,
-    sink: &mut K,
-) -> Status
+pub(crate) fn check_all<S: Source, K: Sink>(alloc: Global, source: &mut S, sink: &mut K) -> Status
     ensures outcome { Checks (Rose (S.faults source.old) (S.faults source.new)) result
         (call_of (S.left source.old) (S.left source.new) (K.taken sink.old) (K.taken sink.new)) }
     ensures cause { Caused result (S.faults source.old) (S.faults source.new) (K.faults sink.old) (K.faults sink.new) }

@@ -8,7 +8,6 @@ use crate::asked::Asked;
 use crate::audit::audit;
 use crate::checking::check_all;
 use crate::commands::{demo, generate, monitor, querier, replay, show};
-use crate::commands::{demo, generate, monitor, replay, show};
 use crate::follow::follow;
 use crate::status::{Status, end_without_memory, put_last};
 use crate::words::read_words;

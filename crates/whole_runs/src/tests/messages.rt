@@ -99,7 +99,13 @@ fn bad_lines_of_messages(rt: HostRuntime) -> Result<(), Fail> {
         );
     }
     let long = vec![in alloc; b'#'; 20_001]?;
-    writes(&rt, alloc, "follow", (long.as_slice(), &[]), (bad, "bad 1 long\n"));
+    writes(
+        &rt,
+        alloc,
+        "follow",
+        (long.as_slice(), &[]),
+        (bad, "bad 1 long\n"),
+    );
     Ok(())
 }
 
@@ -107,7 +113,13 @@ fn bad_lines_of_messages(rt: HostRuntime) -> Result<(), Fail> {
 #[test]
 fn faults_of_follow(rt: HostRuntime) {
     let alloc = rt.alloc();
-    writes(&rt, alloc, "follow", (TWO_ENTRIES.as_bytes(), &[1]), (Status::ReadFault, "read fault\n"));
+    writes(
+        &rt,
+        alloc,
+        "follow",
+        (TWO_ENTRIES.as_bytes(), &[1]),
+        (Status::ReadFault, "read fault\n"),
+    );
     let mut source = source_of(&rt, alloc, TWO_ENTRIES.as_bytes(), &[]);
     let outcome = ran_line(&rt, alloc, "follow", &mut source, 20);
     assert_eq!(rt; outcome.status, Status::WriteFault);

@@ -4,11 +4,14 @@ use capture_runner::Status;
 use std::test::Fail;
 
 /// The queries of hosts at 10.0.0.9, at 10.0.0.10 and at fe80::9, with checksums that were worked out by hand.
-const BY_NINE: &str = "01005e000001020000000001080046c00020000040000102fa0d0a000009e0000001940400001164ee9b00000000";
+const BY_NINE: &str =
+    "01005e000001020000000001080046c00020000040000102fa0d0a000009e0000001940400001164ee9b00000000";
 
-const BY_TEN: &str = "01005e000001020000000001080046c00020000040000102fa0c0a00000ae0000001940400001164ee9b00000000";
+const BY_TEN: &str =
+    "01005e000001020000000001080046c00020000040000102fa0c0a00000ae0000001940400001164ee9b00000000";
 
-const BY_SIX: &str = "33330000000102000000000186dd6000000000200001fe800000000000000000000000000009ff0200000000000000000000000000013a000502000001008200590f2710000000000000000000000000000000000000";
+const BY_SIX: &str =
+    "33330000000102000000000186dd6000000000200001fe800000000000000000000000000009ff0200000000000000000000000000013a000502000001008200590f2710000000000000000000000000000000000000";
 
 /// Nobody else asks: two queries a quarter of an interval apart, and the next one a whole interval later.
 #[test]
@@ -48,7 +51,9 @@ serve
 fn a_lower_address_asks(rt: HostRuntime) -> Result<(), Fail> {
     let alloc = rt.alloc();
     let input = format!(in alloc; "{HEARD_NINE}now 1000\nnow 255000\nend\n")?;
-    let ten = format!(in alloc; "query 1000 {BY_SIX}\nquery 255000 {BY_TEN}\nquery 255000 {BY_SIX}\nend\n")?;
+    let ten = format!(in alloc;
+        "query 1000 {BY_SIX}\nquery 255000 {BY_TEN}\nquery 255000 {BY_SIX}\nend\n"
+    )?;
     let nine = format!(in alloc;
         "query 1000 {BY_NINE}\nquery 1000 {BY_SIX}\nquery 255000 {BY_NINE}\nquery 255000 {BY_SIX}\nend\n"
     )?;
