@@ -30,11 +30,7 @@ pub struct Whole {
 /// # Errors
 ///
 /// `NoMemory` where the bytes find no room.
-pub fn take_all<S: Source>(
-    alloc: Global,
-    source: &mut S,
-    limit: u32,
-) -> Result<Whole, NoMemory>
+pub fn take_all<S: Source>(alloc: Global, source: &mut S, limit: u32) -> Result<Whole, NoMemory>
     ensures takes { MatchResult result
         (TakesWhole (S.left source.old) (S.left source.new) (S.faults source.old) (S.faults source.new) limit)
         (λ _. TakesSome (S.left source.old) (S.left source.new) limit) }
