@@ -1,8 +1,6 @@
 -- All of a source is taken, up to a limit of bytes.
 use Rattle.std.specs.Prelude.{◌≡◌, ℕ, ◌<◌, ◌≤◌, List, length}
 use Rattle.std.specs.declared.option.Option.{Option}
-use Rattle.std.specs.declared.result.Result.{Result}
-use Rattle.std.specs.declared.result.Result.TheVariants.{Ok, Err}
 use Rattle.std.specs.Io.KnownBytes.{Consumes, IsAtEnd}
 use Rattle.run_io.specs.declared.whole.Stop.{Stop}
 use Rattle.run_io.specs.declared.whole.Stop.TheVariants.{Ended, Full, ReadFault}

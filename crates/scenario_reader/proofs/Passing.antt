@@ -1,5 +1,5 @@
 -- A whole scenario is read, line by line.
-use Rattle.std.proofs.Common.{◌≡◌, ℕ, ◌+◌, ◌-◌, ◌<◌, ◌≤◌, ◌⊎◌, inl, inr, Bool, true, ◌&&◌, if◌then◌else◌, List, [], ◌∷◌, ◌++◌, length, drop, take, Option, None, Some, Result, Ok, Err, Vec, refl, sym, ◌∙◌, ap, subst, arith, append_assoc, length-append, length-drop, length-take-le, nat_lt}
+use Rattle.std.proofs.Common.{◌≡◌, ℕ, ◌+◌, ◌-◌, ◌<◌, ◌≤◌, ◌⊎◌, inl, inr, Bool, true, ◌&&◌, if◌then◌else◌, List, [], ◌∷◌, ◌++◌, length, drop, take, Option, None, Some, Result, Ok, Err, Vec, refl, sym, ◌∙◌, ap, subst, arith, append_assoc, length-append, length-drop, length-take-le}
 use Rattle.std.specs.Prelude.{IfOk, IfSome}
 use Rattle.std.specs.declared.alloc.Global.{Global}
 use Rattle.std.specs.List.{list_all}
@@ -14,7 +14,7 @@ use Rattle.br_model.specs.declared.steps.Step.{Step}
 use Rattle.br_model.specs.Text.LineForms.{comes_by_line, line_says}
 use Rattle.br_model.specs.Text.Operands.{longest_section}
 use Rattle.br_model.specs.Text.Roster.{Roster, chips_of, first_roster}
-use Rattle.br_model.specs.Text.Scenario.{Scenario, Ending, Going, Ended, Bad, Front, front, Progress, bad, behind_end, captured, closes, closes_at, longest_line, opened, read, reads, reads_at, reads_front, scenario_by, section_length, steps_of, takes, takes_steps, whole_says}
+use Rattle.br_model.specs.Text.Scenario.{Scenario, Ending, Going, Ended, Bad, Front, front, Progress, bad, behind_end, captured, closes, closes_at, longest_line, opened, read, reads_at, reads_front, scenario_by, section_length, steps_of, takes, takes_steps, whole_says}
 use Rattle.br_model.specs.Theorems.WholeLines.{is_line}
 use Rattle.br_model.specs.Wire.Captures.{packets}
 use Rattle.br_model.proofs.Endings.{behind_at, has_ended, read_ended}
@@ -30,7 +30,7 @@ use Rattle.scenario_reader.specs.declared.whole.End.{End}
 use Rattle.scenario_reader.specs.Passing.{AreSound, AtSection, EndWith, Finishes, GoesOn, Stands, left_by}
 use Rattle.scenario_reader.specs.Reading.{EndsBy, Follows, IsBehindDeclarations, IsCaptured, KeepsSetup, ReaderState, Takes, Took, captures, ending_of}
 use Rattle.scenario_reader.specs.Section.{ComeByLine}
-use Rattle.scenario_reader.specs.Whole.{SaysWhole, WholeState, ending_or_going}
+use Rattle.scenario_reader.specs.Whole.{SaysWhole, ending_or_going}
 
 -- what the bytes come to
 

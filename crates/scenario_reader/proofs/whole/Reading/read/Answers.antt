@@ -1,7 +1,6 @@
 use Rattle.std.proofs.Common.{◌∷◌, ◌++◌, length, ap, subst, arith, length-append}
-use Rattle.br_model.specs.Text.Scenario.{Scenario}
 use Rattle.scenario_reader.specs.declared.whole.Went.{Went}
-use Rattle.scenario_reader.specs.Passing.{Goes, IsLeft, Stands}
+use Rattle.scenario_reader.specs.Passing.{Goes, IsLeft}
 use Rattle.scenario_reader.proofs.Passing.{goes_to_end, line_ends, line_on}
 use Rattle.scenario_reader.proofs.whole.Reading.read.Goals as goal
 
