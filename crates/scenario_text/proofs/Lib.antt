@@ -1,10 +1,15 @@
 pub mod Bounded
 pub mod Commands
+pub mod Declared
 pub mod Generated
+pub mod HeadRead
 pub mod Joins
 pub mod Listed
+pub mod OperandsRead
 pub mod Pairs
 pub mod PlainCommands
 pub mod PlainLines
 pub mod Splits
+pub mod StepsRead
+pub mod Walks
 pub mod Written

@@ -1,4 +1,5 @@
 pub mod Generating
+pub mod Heads
 pub mod Items
 pub mod Parts
 pub mod Stepping

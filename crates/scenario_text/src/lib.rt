@@ -4,6 +4,8 @@
 mod digits;
 mod frame_steps;
 mod generator;
+mod head;
+pub mod laws;
 mod lines;
 mod listing;
 mod plain;
@@ -17,6 +19,7 @@ pub use generator::{
     END_BYTES, Generator, MOST_FRAME_BYTES, OPENING_BYTES, append_opening, domains, first_steps,
     generate,
 };
+pub use head::{append_head, append_scenario, write_head};
 pub use listing::{device, list};
 pub use reading::{read_line, says_end};
-pub use write::{append_mac, kind_word, write_line};
+pub use write::{append_line, append_mac, kind_word, write_line};

@@ -145,7 +145,8 @@ pub fn kind_word(kind: Kind) -> &'static str
     }
 }
 
-fn name(roster: &Roster, port: Port) -> &str
+/// The name of a declared port.
+pub(crate) fn name(roster: &Roster, port: Port) -> &str
     requires { has_number roster.now.ports port ≡ true }
     ensures { result.now ≡ name_of roster.now.ports port }
 {
@@ -374,6 +375,15 @@ fn append_step(s: &Step, roster: &Roster, to: &mut String) -> Result<(), NoMemor
     }
 }
 
+/// Writes the line of a step with its line feed behind the text. After want of memory a part of it may stand there.
+pub fn append_line(s: &Step, r: &Roster, to: &mut String) -> Result<(), NoMemory>
+    requires { names_declared r.now.ports s.now ≡ true }
+    ensures { OnOk result (string_bytes to.new ≡ string_bytes to.old ++ step_text r.now.ports s.now) }
+{
+    append_step(s, r, to)?;
+    to.push('\n')
+}
+
 /// The line of a step with its line feed. Of a frame without bytes it shows one byte, of one that is too long only enough to
 /// tell so.
 pub fn write_line(alloc: Global, s: &Step, r: &Roster) -> Result<Bytes, NoMemory>
@@ -381,7 +391,6 @@ pub fn write_line(alloc: Global, s: &Step, r: &Roster) -> Result<Bytes, NoMemory
     ensures { IfOk result (λ line. line ≡ step_text r.now.ports s.now) }
 {
     let mut line = String::new(alloc);
-    append_step(s, r, &mut line)?;
-    line.push('\n')?;
+    append_line(s, r, &mut line)?;
     Ok(Bytes::of(line.into_bytes()))
 }

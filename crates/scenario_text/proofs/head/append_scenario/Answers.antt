@@ -1,0 +1,15 @@
+use Rattle.std.proofs.Common.{ℕ, List, ◌∷◌, ◌++◌}
+use Rattle.std.specs.Prelude.{codes}
+use Rattle.std.specs.List.{flat_map}
+use Rattle.std.specs.String.{string_bytes}
+use Rattle.br_model.specs.Program.LiveText.{steps_scenario}
+use Rattle.br_model.specs.Text.Head.{head_text}
+use Rattle.br_model.specs.Text.ScenarioText.{step_text}
+use Rattle.scenario_text.proofs.Joins.{three_parts}
+use Rattle.scenario_text.proofs.head.append_scenario.Goals as goal
+
+pub returns : goal.returns
+unfolding steps_scenario
+returns c =
+    three_parts (string_bytes c.args.to.now) _ _ _ (head_text c.args.r.now) (flat_map (step_text c.args.r.now.ports) c.args.steps.now) (codes "end\n")
+    (rw c.own.ensures at c.in_ok-append_head.ensures) c.in_ok-append_steps.ensures c.in_ok-push_str.ensures.bytes
