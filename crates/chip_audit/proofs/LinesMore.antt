@@ -10,8 +10,8 @@ pub line-more : {X : Type 0} (f : X → List ℕ) (xs : List X) (i : ℕ) (x : X
 line-more f xs i x old mid new within is was more =
     more ∙ ap (λ (s : List ℕ). s ++ f x) was ∙ append_assoc old (flat_map f (take i xs)) (f x)
     ∙ ap (λ (s : List ℕ). old ++ s) (
-      ap (λ (s : List ℕ). flat_map f (take i xs) ++ s) (sym (append-nil (f x))) ∙ sym (flat_map-append f (take i xs) (x ∷ []))
-      ∙ ap (flat_map f) (sym (take_more xs i x within ∙ ap (λ y. take i xs ++ y ∷ []) (sym is))))
+    ap (λ (s : List ℕ). flat_map f (take i xs) ++ s) (sym (append-nil (f x))) ∙ sym (flat_map-append f (take i xs) (x ∷ []))
+    ∙ ap (flat_map f) (sym (take_more xs i x within ∙ ap (λ y. take i xs ++ y ∷ []) (sym is))))
 
 -- the numbers of the domains of chips
 
@@ -30,4 +30,4 @@ numbers-more f p n old mid new from to was more =
     more ∙ ap (λ (s : List ℕ). s ++ flat_map f (filter p (n ∷ []))) was
     ∙ append_assoc old (flat_map f (filter p before)) (flat_map f (filter p (n ∷ [])))
     ∙ ap (λ (s : List ℕ). old ++ s) (
-      sym (flat_map-append f (filter p before) (filter p (n ∷ []))) ∙ ap (flat_map f) (sym (filter-append p before (n ∷ []))) ∙ ap (λ (l : List ℕ). flat_map f (filter p l)) (sym (next n from to)))
+    sym (flat_map-append f (filter p before) (filter p (n ∷ []))) ∙ ap (flat_map f) (sym (filter-append p before (n ∷ []))) ∙ ap (λ (l : List ℕ). flat_map f (filter p l)) (sym (next n from to)))

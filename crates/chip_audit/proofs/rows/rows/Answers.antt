@@ -12,5 +12,5 @@ returns c =
     let tables = c.args.tables.now in
     let used = ap (filter_map (row_at tables)) (c.as_slice.ensures.value ∙ c.in_ok-keys.ensures.keys) ∙ all-rows tables c.in_ok-keys.ensures.placed in
     let f : (rows : Vec Row Global) → rows.items ≡ filter_map (row_at tables) c.as_slice.result.now → (t : Table) → AddressesStand tables t → rows.items ≡ t.addr =
-        λ rows e t stand. e ∙ used ∙ rows-stand tables t stand in
+    λ rows e t stand. e ∙ used ∙ rows-stand tables t stand in
     IfOk-weaker _ _ _ f c.rows_of.ensures
