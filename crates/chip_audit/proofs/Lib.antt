@@ -5,3 +5,4 @@ pub mod Filling
 pub mod Calm
 pub mod Computed
 pub mod Waiting
+pub mod LinesMore

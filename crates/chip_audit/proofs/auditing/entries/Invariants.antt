@@ -7,4 +7,4 @@ use Rattle.chip_audit.proofs.auditing.entries.Given as goal
 abbrev pub invariant-loop-ticket : goal.invariant-loop-ticket
 invariant-loop-ticket l =
     (l.applied ≤ l.ticket)
-    × ((c : Chip) → chip_at l.p.world l.d ≡ Some c → l.entries.entries ≡ entries_at l.p.world.setup.domains.edition l.p.world.history c.count (l.ticket - l.applied))
+    × ((c : Chip) → chip_at l.p.world l.fn.d ≡ Some c → l.entries.entries ≡ entries_at l.p.world.setup.domains.edition l.p.world.history c.count (l.ticket - l.applied))

@@ -14,5 +14,5 @@ returns c =
     let old = string_bytes c.args.to.now in
     let lines : Audited → List ℕ = audit_lines c.args.roster.now.ports c.args.d in
     on_ok_weaker c.append_comparison.result
-    (λ e. e ∙ ap (λ (a : Audited). old ++ lines a) (c.in_ok-compare.ensures x.0 x.1) ∙ ap (λ (o : Option Chip). old ++ option_map_or (λ y. lines (audit_of w y)) o []) (sym x.1))
+    (λ e. e ∙ ap (λ (a : Audited). old ++ lines a) (c.in_ok-comparison.ensures x.0 x.1) ∙ ap (λ (o : Option Chip). old ++ option_map_or (λ y. lines (audit_of w y)) o []) (sym x.1))
     c.append_comparison.ensures
