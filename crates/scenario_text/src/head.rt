@@ -38,12 +38,7 @@ fn append_port(port: Port, name: &str, dom: Dom, to: &mut String) -> Result<(), 
 }
 
 /// The line of the port that was declared in that place.
-fn append_entry(
-    r: &Roster,
-    domains: &Domains,
-    i: usize,
-    to: &mut String,
-) -> Result<(), NoMemory>
+fn append_entry(r: &Roster, domains: &Domains, i: usize, to: &mut String) -> Result<(), NoMemory>
     requires { domains.now ≡ domains_of r.now.edition r.now.ports }
     ensures { IfSome (slice_get r.now.ports i) (λ e. OnOk result (string_bytes to.new ≡ string_bytes to.old ++ port_line e)) }
 {
