@@ -1,7 +1,8 @@
 //! Runs the examples beside it (`data/`), and tells of each whether what is written is what stands there.
 //!
 //! The words are names of files there, each with what one command writes: `NAME.transcript` is what `replay` writes of
-//! `NAME.scenario`, and `NAME.fdb`, `NAME.vlan` and `NAME.mdb` what `show` writes of it with that word.
+//! `NAME.scenario`, `NAME.fdb`, `NAME.vlan` and `NAME.mdb` what `show` writes of it with that word, `NAME.audit` what `audit` does, and
+//! `NAME.checked` what `check` writes of it with the transcript behind it.
 #![tactic(auto)]
 
 use capture_runner::run;
@@ -22,22 +23,19 @@ fn command_of(ending: &str) -> Option<&'static [&'static str]> {
         "fdb" => Some(&["show", "fdb"]),
         "vlan" => Some(&["show", "vlan"]),
         "mdb" => Some(&["show", "mdb"]),
+        "audit" => Some(&["audit"]),
+        "checked" => Some(&["check"]),
         _ => None,
     }
 }
 
-/// What these words write of a scenario.
-fn written(
-    rt: &impl Wait,
-    alloc: Global,
-    words: &[&str],
-    scenario: Vec<u8>,
-) -> io::Result<Vec<u8>> {
+/// What these words write of this input.
+fn written(rt: &impl Wait, alloc: Global, words: &[&str], input: Vec<u8>) -> io::Result<Vec<u8>> {
     let mut owned = Vec::new(alloc);
     for word in words {
         owned.push(String::from_str(alloc, *word)?)?;
     }
-    let mut source = MemSource::make(scenario, Vec::new(alloc));
+    let mut source = MemSource::make(input, Vec::new(alloc));
     let mut sink = MemSink::make(alloc, ROOM, Vec::new(alloc))?;
     let _status = run(rt, alloc, &owned, &mut source, &mut sink);
     Ok(Vec::from_slice(alloc, sink.bytes())?)
@@ -51,9 +49,13 @@ fn is_written<R: Files + Wait + Alloc<A = Global>>(rt: &R, file: &str) -> io::Re
     let Some(words) = command_of(ending) else {
         return Ok(false);
     };
-    let scenario = fs::read(rt, format!(in rt.alloc(); "{name}.scenario")?)?;
+    let mut input = fs::read(rt, format!(in rt.alloc(); "{name}.scenario")?)?;
+    if ending == "checked" {
+        let transcript = fs::read(rt, format!(in rt.alloc(); "{name}.transcript")?)?;
+        input.extend_from_slice(&transcript)?;
+    }
     let wanted = fs::read(rt, file)?;
-    Ok(written(rt, rt.alloc(), words, scenario)? == wanted)
+    Ok(written(rt, rt.alloc(), words, input)? == wanted)
 }
 
 fn main(rt: HostRuntime) -> io::Result<()> {
