@@ -45,7 +45,8 @@ fn append_found(key: &Key, found: &Found, roster: &Roster, to: &mut String) -> R
     to.push_str("entry ")?;
     append_entry(key, found.port, found.kind, roster, to)?;
     to.push_str(offload_word(found.offloaded))?;
-    to.push('\n')
+    to.push('\n')?;
+    Ok(())
 }
 
 fn append_entries(entries: &Entries, roster: &Roster, to: &mut String) -> Result<(), NoMemory>
@@ -64,7 +65,8 @@ fn append_stale(row: &Row, roster: &Roster, to: &mut String) -> Result<(), NoMem
     let (key, (port, kind)) = *row;
     to.push_str("stale ")?;
     append_entry(&key, port, kind, roster, to)?;
-    to.push('\n')
+    to.push('\n')?;
+    Ok(())
 }
 
 fn append_stale_ones(rows: &[Row], roster: &Roster, to: &mut String) -> Result<(), NoMemory>

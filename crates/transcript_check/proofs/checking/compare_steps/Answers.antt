@@ -11,7 +11,7 @@ use Rattle.transcript_check.proofs.Comparisons.{compares_more, compares_none, no
 use Rattle.transcript_check.proofs.checking.compare_steps.Goals as goal
 
 pub loop-step-init : goal.loop-step-init
-loop-step-init c = record { parts = search rules; by_line = search rules; compares = compares_none _ }
+loop-step-init c = record { parts = search rules; by_line = search rules; compares = compares_none c.args.beside.now }
 
 pub loop-step-preserved : goal.loop-step-preserved
 loop-step-preserved c =
@@ -19,7 +19,7 @@ loop-step-preserved c =
     let next = (rw c.in-Some.is at c.next.ensures.steps).0 in record {
       parts = so_far.parts ∙ ap (λ (l : List Step). c.loop-step.yielded ++ l) next ∙ sym (append_assoc c.loop-step.yielded (c.in-Some.step ∷ []) c.next.new.self.rest.items);
       by_line = second_so _ _ (ap (list_all (comes_by_line true (chip_domains c.args.beside.now.world.setup.domains))) (sym next) ∙ so_far.by_line);
-      compares = compares_more _ _ _ _ _ so_far.compares c.in_ok-step.ensures;
+      compares = compares_more c.args.beside.now c.loop-step.beside c.step.new.self _ _ so_far.compares c.in_ok-step.ensures;
     }
 
 pub step-requires-clause-world : goal.step-requires-clause-world
