@@ -3,6 +3,7 @@ use Rattle.chip_audit.specs.Lines.{entry_text, offload_word}
 use Rattle.chip_audit.proofs.lines.append_found.Goals as goal
 
 pub returns : goal.returns
+unfolding lib.Utf8.encode
 returns c =
     let old = string_bytes c.args.to.now in
     let found = c.args.found.now in

@@ -3,6 +3,7 @@ use Rattle.chip_audit.specs.Lines.{entry_text}
 use Rattle.chip_audit.proofs.lines.append_stale.Goals as goal
 
 pub returns : goal.returns
+unfolding lib.Utf8.encode
 returns c =
     let old = string_bytes c.args.to.now in
     let text : List ℕ = entry_text c.args.roster.now.ports c.args.row.now in
