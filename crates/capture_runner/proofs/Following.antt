@@ -1,5 +1,5 @@
 -- A session goes on with a line.
-use Rattle.std.proofs.Common.{◌≡◌, ℕ, ◌+◌, ◌≤◌, true, false, if◌then◌else◌, List, [], ◌∷◌, ◌++◌, length, arith, None, Some, Option, Result, Ok, Err, refl, sym, ◌∙◌, ap, subst, codes, nat_lt, nat_le}
+use Rattle.std.proofs.Common.{◌≡◌, ℕ, ◌+◌, ◌≤◌, true, false, if◌then◌else◌, List, [], ◌∷◌, ◌++◌, length, arith, None, Some, Option, Result, Ok, Err, refl, sym, ◌∙◌, ap, subst, codes, nat_lt, nat_le, string_bytes}
 use Rattle.std.proofs.lemmas.List.{append-nil}
 use Rattle.br_model.specs.declared.scenario.Item.{Item}
 use Rattle.br_model.specs.declared.scenario.Item.TheVariants as items

@@ -114,7 +114,7 @@ all_broke before mid now text all last w b =
 
 -- what the answer to some bytes depends on
 
-pub Same : (List ℕ → List ℕ) → Type 0
+unfoldable pub Same : (List ℕ → List ℕ) → Type 0
 Same answer = (a b : List ℕ) → scenario a ≡ scenario b → answer a ≡ answer b
 
 told_same : Same told

@@ -1,5 +1,5 @@
 //! `audit`: what the chips have at the end of a run, beside what the bridge has.
-ghost use Rattle.std.specs.Prelude.{◌≡◌, ◌++◌, None, IfOk, OnOk, string_bytes};
+ghost use Rattle.std.specs.Prelude.{◌≡◌, ◌++◌, None, IfOk, OnOk, false, string_bytes};
 ghost use Rattle.br_model.specs.Text.Scenario.{opened};
 ghost use Rattle.run_io.specs.Causes.{Rose};
 ghost use Rattle.chip_audit.specs.Lines.{audited, audited_text, world_lines};
