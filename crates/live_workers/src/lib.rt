@@ -6,5 +6,8 @@ mod alone;
 mod drain;
 mod opening;
 
+#[cfg(test)]
+mod tests;
+
 pub use alone::{Taken, run_alone, take_alone};
 pub use br_model::NoMemory;
