@@ -7,3 +7,4 @@ pub mod Lives
 pub mod Chips
 pub mod Telling
 pub mod Drains
+pub mod Loops

@@ -232,7 +232,7 @@ one_applied p dom n more e =
     let history : (world_of (after p (Turn dom))).history ≡ (world_of p).history = ap (λ (w : World). w.history) (world-after p (Turn dom)) ∙ turn_history (world_of p) dom in
     let setup : (world_of (after p (Turn dom))).setup ≡ (world_of p).setup = world-setup (after p (Turn dom)) ∙ sym (world-setup p) in
     let now : pending_left (after p (Turn dom)) dom ≡ pending_of (world_of p) a.chip =
-        ap (pending_in (world_of (after p (Turn dom)))) at ∙ ap₂ (λ (s : Setup) hs. pending_of (record (world_of p) { setup = s; history = hs }) a.chip) setup history in
+    ap (pending_in (world_of (after p (Turn dom)))) at ∙ ap₂ (λ (s : Setup) hs. pending_of (record (world_of p) { setup = s; history = hs }) a.chip) setup history in
     let before : pending_left p dom ≡ pending_of (world_of p) there.0 = ap (pending_in (world_of p)) there.1 in
     less (pending_left (after p (Turn dom)) dom) (pending_left p dom) _ there.0.count a.chip.count now before a.count some
   where

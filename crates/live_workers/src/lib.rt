@@ -5,7 +5,6 @@
 mod alone;
 mod drain;
 mod opening;
-
 #[cfg(test)]
 mod tests;
 

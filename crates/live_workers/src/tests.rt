@@ -91,7 +91,12 @@ fn frames_are_served_at_once(rt: HostRuntime) -> Result<(), Fail> {
         assert!(rt; same_step(step, &wanted[place]));
     }
     assert!(rt; steps.len() == wanted.len());
-    let Line::End { pending, waiting, .. } = taken.end else {
+    let Line::End {
+        pending,
+        waiting,
+        ..
+    } = taken.end
+    else {
         return Err("end")?;
     };
     assert!(rt; pending == 0 && waiting == 0);
