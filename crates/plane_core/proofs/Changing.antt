@@ -114,11 +114,15 @@ module _ (b : Controlled) (states : List ChipState) (noted : List ℕ) (board : 
   has = ap (list_any (λ k. k == dom)) (sym (map-map (λ (x : Chip). x.dom) (λ (s : ChipState). s.chip) states ∙ are.follows.doms))
       ∙ sym (chip-there (chips_of states) dom) ∙ ap is_some (found_at states (chips_of states) dom c refl found)
 
+  -- its rows stand for the table by which it decides
+  pub stands_at : Stands b.setup.domains dom c.driver.rows (chip_table b.setup.domains.edition b.history c.chip)
+  stands_at = subst (λ n. Stands b.setup.domains n c.driver.rows (chip_table b.setup.domains.edition b.history c.chip)) own_dom chip_found.rows.rows
+
   -- at a port of its domain
   pub at_chip : (port : ℕ) → domain_of b.setup.domains port ≡ Some dom → domain_of b.setup.domains host ≡ Some software
       → AtChip b.setup.domains dom c.driver.rows (chip_table b.setup.domains.edition b.history c.chip) port
   at_chip port on outside = record {
-    stands = subst (λ n. Stands b.setup.domains n c.driver.rows (chip_table b.setup.domains.edition b.history c.chip)) own_dom chip_found.rows.rows;
+    stands = stands_at;
     own = ap (λ o. option_eq (λ x y. x == y) o (Some dom)) on ∙ eq-eqb dom dom refl;
     outside = ap (λ o. option_eq (λ x y. x == y) o (Some dom)) outside ∙ ne_eqb software dom (λ same. not-software b.setup.domains dom has (sym same));
   }

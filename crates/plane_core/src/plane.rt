@@ -3,6 +3,7 @@ ghost use Rattle.std.specs.Prelude.{◌≡◌, ℕ, List, ◌+◌, ◌<◌, ◌�
 ghost use Rattle.std.specs.Option.{option_map};
 ghost use Rattle.br_model.specs.declared.transcript.Line.TheVariants as line;
 ghost use Rattle.chip_pipeline.specs.Passed.{IsPass};
+ghost use Rattle.chip_tables.specs.Stands.{Stands};
 ghost use Rattle.table_publish.specs.declared.seat.Seen.{Seen as SeenValue};
 ghost use Rattle.br_model.specs.Table.Change.{updates};
 ghost use Rattle.br_model.specs.Table.Domains.{domain_of, has_chip};
@@ -37,6 +38,7 @@ use br_model::numbers::{Dom, Mac, Port};
 use br_model::steps::{Event, Refusal};
 use br_model::transcript::Line;
 use chip_pipeline::Pass;
+use chip_tables::Tables;
 use ether_frames::parse;
 use forward_rules::Verdict;
 use hwdom_marks::Mark;
@@ -695,6 +697,22 @@ impl Plane {
         ensures { option_map (pending_of self.now.world) (chip_at self.now.world d) ≡ Some result }
     {
         self.sides.pending(d)
+    }
+
+    /// The declared ports with their domains, and the edition.
+    pub fn domains(&self) -> &Domains
+        ensures { result.now ≡ self.now.world.setup.domains }
+    {
+        self.sides.domains()
+    }
+
+    /// The tables of the domain's chip. Its rows stand for the table by which it decides.
+    pub fn tables(&self, d: Dom) -> &Tables
+        requires { has_chip self.now.world.setup.domains d ≡ true }
+        ensures { (c : ChipValue) → chip_at self.now.world d ≡ Some c
+            → Stands self.now.world.setup.domains d result.now (table_of_chip self.now.world c) }
+    {
+        self.sides.tables(d)
     }
 
     /// The oldest report of the domain's chip, which stays.

@@ -18,6 +18,7 @@ ghost use Rattle.br_model.specs.declared.steps.Event.TheVariants as Event;
 ghost use Rattle.br_model.specs.declared.transcript.Line.TheVariants as line;
 ghost use Rattle.bridge_core.specs.Answers.{IsEvent};
 ghost use Rattle.chip_pipeline.specs.Passed.{IsPass};
+ghost use Rattle.chip_tables.specs.Stands.{Stands};
 ghost use Rattle.br_model.specs.Table.Limits.{AreWithin};
 ghost use Rattle.forward_rules.specs.Decided.{Decides};
 ghost use Rattle.table_publish.specs.Board.{all_of};
@@ -39,6 +40,7 @@ use br_model::steps::{Event, Refusal};
 use br_model::transcript::Line;
 use bridge_core::{Bridge, EventFault};
 use chip_pipeline::{Pass, pass};
+use chip_tables::Tables;
 use forward_rules::{SoftTables, Verdict};
 use learn_report::Report;
 use plane_parts::{Egress, Frame, Updates, make_room, send};
@@ -532,6 +534,15 @@ impl Sides {
         ensures { option_map (λ c. c.count) (chip_in self.now.chips d) ≡ Some result }
     {
         self.chips.at(d).count()
+    }
+
+    /// The tables of the chip of the domain, by which it decides.
+    pub(crate) fn tables(&self, d: Dom) -> &Tables
+        requires { is_some (chip_in self.now.chips d) ≡ true }
+        ensures { (c : ChipValue) → chip_in self.now.chips d ≡ Some c
+            → Stands self.now.setup.domains d result.now (chip_table self.now.setup.domains.edition self.now.history c) }
+    {
+        self.chips.at(d).tables()
     }
 
     /// The oldest report of the chip of the domain.

@@ -1,5 +1,5 @@
 -- Calls of a reader, one after another.
-use Rattle.std.proofs.Common.{◌≡◌, ℕ, ◌+◌, ◌<◌, ◌≤◌, List, [], ◌++◌, take, drop, length, slice_range, arith, refl, sym, ap, ◌∙◌, Option, Some, append_assoc, length-append, length-drop, length-take-le, None, true, false, true≢false, eq-or-lt_of_le, inl, inr, le-ltb, ne_eqb, ◌≢◌, MatchOption}
+use Rattle.std.proofs.Common.{◌≡◌, ℕ, ◌+◌, ◌<◌, ◌≤◌, List, [], ◌++◌, take, drop, length, slice_range, arith, refl, sym, ap, ◌∙◌, Option, Some, append_assoc, length-append, length-drop, length-take-le, take-add, subst, None, true, false, true≢false, eq-or-lt_of_le, inl, inr, le-ltb, ne_eqb, ◌≢◌, MatchOption}
 use Rattle.std.specs.Io.KnownBytes.{Consumes}
 use Rattle.std.proofs.KnownBytes.{Consumes-trans}
 use Rattle.run_io.specs.Finding.{IsFirstFeed, WantsMore}
@@ -28,6 +28,13 @@ reads_more r xs used n before now held within consumed =
       counted = omega (arith, length-take-le n (drop used xs) behind);
       limit = refl;
     }
+
+-- behind the first bytes of a room, which stay as they are while it grows
+pub takes_on : (first mid last : Option (List ℕ)) (old grown new : List ℕ) (used n : ℕ) → Consumes first mid (take used old) → take used grown ≡ take used old → take used new ≡ take used grown
+    → Consumes mid last (take n (drop used new)) → Consumes first last (take (used + n) new)
+takes_on first mid last old grown new used n before kept stays given =
+    subst (Consumes first last) (sym (take-add used n new ∙ ap (λ xs. xs ++ take n (drop used new)) (stays ∙ kept)))
+    (Consumes-trans first mid last (take used old) (take n (drop used new)) before given)
 
 -- ---- a line that is too long
 

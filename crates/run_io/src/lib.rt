@@ -7,6 +7,7 @@ pub mod sinks;
 pub mod sources;
 #[cfg(test)]
 mod tests;
+pub mod whole;
 
 /// An allocation was refused.
 pub type NoMemory = std::alloc::AllocError;

@@ -151,7 +151,7 @@ fn zeroes(alloc: Global, len: usize) -> Result<Vec<u8>, NoMemory>
 }
 
 /// Takes room for the first bytes, and more where all of it is used.
-fn make_room(alloc: Global, buffer: &mut Vec<u8>, used: usize) -> Result<(), NoMemory>
+pub(crate) fn make_room(alloc: Global, buffer: &mut Vec<u8>, used: usize) -> Result<(), NoMemory>
     requires within { used ≤ vec_len buffer.old }
     ensures kept { take used buffer.new.items ≡ take used buffer.old.items }
     ensures room { OnOk result (used < vec_len buffer.new) }
@@ -169,7 +169,7 @@ fn make_room(alloc: Global, buffer: &mut Vec<u8>, used: usize) -> Result<(), NoM
 }
 
 /// Reads after the bytes that are used, at most `most` of them, and says how many came.
-fn read_after<S: Source>(
+pub(crate) fn read_after<S: Source>(
     src: &mut S,
     buffer: &mut Vec<u8>,
     used: usize,

@@ -3,6 +3,7 @@ use crate::lines::{Got, LineFault, LineReader};
 use crate::output::Output;
 use crate::sinks::{MemSink, StdSink, put};
 use crate::sources::{MemSource, Source, StdSource};
+use crate::whole::{Stop, take_all};
 use std::alloc::Global;
 use std::process::Abort;
 use std::test::Fail;
@@ -177,6 +178,44 @@ fn pieces_between_lines(rt: HostRuntime) -> Result<(), Fail> {
     assert_eq!(rt; piece.bytes, b"cd\ne".as_slice());
     let fault = reader.take(alloc, &mut source, 2).err();
     assert_eq!(rt; fault, Some(LineFault::TooLong));
+    Ok(())
+}
+
+#[test]
+fn sources_taken_whole(rt: HostRuntime) -> Result<(), Fail> {
+    let alloc = rt.alloc();
+    let table = [
+        (4, "abc", Stop::Ended),
+        (3, "abc", Stop::Full),
+        (2, "ab", Stop::Full),
+        (0, "", Stop::Full),
+    ];
+    for (limit, want, stop) in table {
+        let mut source = source_of(alloc, b"abc", &[])?;
+        let whole = take_all(alloc, &mut source, limit)?;
+        assert_eq!(rt; whole.bytes.as_slice(), want.as_bytes());
+        assert_eq!(rt; whole.stop, stop);
+    }
+    Ok(())
+}
+
+/// The second read takes the last bytes, and the third sees that none is left.
+#[test]
+fn whole_sources_that_fail(rt: HostRuntime) -> Result<(), Fail> {
+    let alloc = rt.alloc();
+    let table = [
+        (1, 0, Stop::ReadFault),
+        (2, 65_536, Stop::ReadFault),
+        (3, 70_000, Stop::ReadFault),
+        (4, 70_000, Stop::Ended),
+    ];
+    for (call, len, stop) in table {
+        let text = vec![in alloc; b'a'; 70_000]?;
+        let mut source = MemSource::make(text, Vec::from_slice(alloc, &[call])?);
+        let whole = take_all(alloc, &mut source, 1 << 28)?;
+        assert_eq!(rt; whole.bytes.len(), len);
+        assert_eq!(rt; whole.stop, stop);
+    }
     Ok(())
 }
 

@@ -1,2 +1,4 @@
 pub mod Packets
 pub mod Following
+pub mod Cutting
+pub mod Passing

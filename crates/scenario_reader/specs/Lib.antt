@@ -1,2 +1,4 @@
 pub mod Section
 pub mod Reading
+pub mod Whole
+pub mod Passing

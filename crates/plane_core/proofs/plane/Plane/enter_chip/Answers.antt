@@ -90,7 +90,7 @@ module _ (c : goal.After-self-1) where
       ∙ ap₂ (λ (before : List Line) (after : List Line). before ++ after)
       (c.send.ensures.lines ∙ ap₂ (λ (before : List Line) (after : List Line). before ++ after)
       (c.push_reserved.ensures.lines ∙ ap₂ (λ (before : List Line) (l : Line). before ++ l ∷ []) c.in_ok-make_room.ensures.lines first-line)
-      (ap (λ (b : List ℕ). lines_of c.next_id-id.result b c.args.head.now c.of_pass.result) c.as_slice-bytes.ensures ∙ c.of_pass.ensures _ _ _ _ _ passed c.next_id-id.result
+      (ap (λ (b : List ℕ). lines_of c.next_id-id.result b c.args.head.now c.egress_of.result) c.as_slice-bytes.ensures ∙ c.egress_of.ensures _ _ _ _ _ passed c.next_id-id.result
       ∙ ap (λ (id : ℕ). sent id (chip_out c.self.inside.sides.setup.domains decides c.args.p c.args.b c.args.head.now)) id-is))
       (ap₂ arrival_lines id-is arrived)
       ∙ behind c.args.lines.now.lines leaves (arrival_lines c.self.inside.frames.next goes) decision
