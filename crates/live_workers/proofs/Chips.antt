@@ -1,5 +1,5 @@
 -- What reports, turns and publications leave of the chips.
-use Rattle.std.proofs.Common.{◌≡◌, ℕ, ◌+◌, ◌-◌, ◌<◌, ◌≤◌, ◌==◌, Bool, true, false, ◌&&◌, ◌||◌, cond, if◌then◌else◌, List, [], ◌∷◌, map, length, Option, None, Some, IfSome, Result, Ok, Err, slice_get, refl, sym, ◌∙◌, ap, ap₂, subst, arith, true≢false, is_some, option_map}
+use Rattle.std.proofs.Common.{◌≡◌, ℕ, ◌+◌, ◌-◌, ◌<◌, ◌≤◌, ◌==◌, Bool, true, false, ◌&&◌, ◌||◌, cond, if◌then◌else◌, List, [], ◌∷◌, map, Option, None, Some, IfSome, Result, Ok, Err, refl, sym, ◌∙◌, ap, ap₂, subst, arith, is_some, option_map}
 use Rattle.std.proofs.lemmas.Bool.{eqb-true, eq-eqb, false≢true}
 use Rattle.std.specs.List.{filter, list_all, list_any, sum_by}
 use Rattle.br_model.specs.declared.change.Asks.{Asks}
@@ -14,11 +14,11 @@ use Rattle.br_model.specs.declared.transcript.Line.TheVariants.{Refused}
 use Rattle.br_model.specs.Control.Course.{Course, from, makes_all}
 use Rattle.br_model.specs.Control.Learning.{Triple, told as reported}
 use Rattle.br_model.specs.Control.Reaction.{Reaction, has_room, in_room, react}
-use Rattle.br_model.specs.Plane.Chip.{Chip, applies, chip_in, hit_asked, put_chip}
+use Rattle.br_model.specs.Plane.Chip.{Chip, applies, chip_in, hit_asked}
 use Rattle.br_model.specs.Plane.ChipSteps.{reports, tells, turns, turns_to}
 use Rattle.br_model.specs.Plane.Runs.{pending_of}
 use Rattle.br_model.specs.Plane.Steps.{world_step}
-use Rattle.br_model.specs.Plane.World.{World, Stepped, accepts, answered, chip_at, next_of, reacts, with_chip}
+use Rattle.br_model.specs.Plane.World.{World, Stepped, answered, chip_at, next_of, reacts, with_chip}
 use Rattle.br_model.specs.Table.Change.{asks}
 use Rattle.br_model.specs.Table.Table.{table}
 use Rattle.br_model.specs.Table.Cut.{deferred_count}

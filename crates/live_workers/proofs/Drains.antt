@@ -1,5 +1,5 @@
 -- The end of a run, step by step.
-use Rattle.std.proofs.Common.{◌≡◌, ℕ, ◌+◌, ◌<◌, ◌==◌, Bool, true, false, ◌&&◌, cond, List, [], ◌∷◌, ◌++◌, length, IfSome, Option, None, Some, refl, sym, ◌∙◌, ap, ap₂, subst, append_assoc, append-nil, arith, is_some}
+use Rattle.std.proofs.Common.{◌≡◌, ℕ, ◌+◌, ◌<◌, ◌==◌, Bool, true, false, ◌&&◌, List, [], ◌∷◌, ◌++◌, length, IfSome, Option, None, Some, refl, sym, ◌∙◌, ap, ap₂, subst, append-nil, arith, is_some}
 use Rattle.std.proofs.lemmas.Bool.{eq-eqb}
 use Rattle.std.specs.List.{list_all}
 use Rattle.std.proofs.lemmas.List.Folds.{list_all-append}
@@ -7,11 +7,10 @@ use Rattle.br_model.specs.declared.steps.Step.{Step}
 use Rattle.br_model.specs.declared.steps.Step.TheVariants.{Publish, Report, Serve, Turn}
 use Rattle.br_model.specs.Plane.Chip.{Chip}
 use Rattle.br_model.specs.Plane.Runs.{pending, pending_of}
-use Rattle.br_model.specs.Plane.Serving.{posts, serves}
+use Rattle.br_model.specs.Plane.Serving.{serves}
 use Rattle.br_model.specs.Plane.Steps.{world_step}
-use Rattle.br_model.specs.Plane.World.{World, Waiting, answered, chip_at, reacts}
-use Rattle.br_model.specs.Program.LiveRun.{ends_with_publish, has_reported, is_drained, is_empty, is_publish, may_drain}
-use Rattle.br_model.specs.Control.Reaction.{Reaction}
+use Rattle.br_model.specs.Plane.World.{World, Waiting, chip_at, reacts}
+use Rattle.br_model.specs.Program.LiveRun.{ends_with_publish, has_reported, is_drained, is_empty, may_drain}
 use Rattle.br_model.specs.Table.Domains.{Domains, chip_domains, has_chip}
 use Rattle.br_model.specs.Table.Setup.{Setup}
 use Rattle.br_model.specs.declared.steps.Event.TheVariants as events
@@ -21,9 +20,8 @@ use Rattle.br_model.proofs.PlaneStays.{step-held}
 use Rattle.plane_lock.specs.Pasts.{Past, after, world_of}
 use Rattle.plane_lock.proofs.Recording.{world-after, world-setup, world-stands}
 use Rattle.live_workers.specs.Draining.{Drained, Drains, HasTold, HasTurned, Keeps}
-use Rattle.live_workers.specs.Taking.{behind}
 use Rattle.live_workers.specs.Worlds.{IsIdle}
-use Rattle.live_workers.proofs.Chips.{Differ, all_chips, all_differ, answered_waiting, no_chip, no_chip_there, report_waiting, sum_none, turn_waiting}
+use Rattle.live_workers.proofs.Chips.{Differ, all_chips, all_differ, answered_waiting, no_chip_there, report_waiting, sum_none, turn_waiting}
 use Rattle.live_workers.proofs.Takings.{behind_both}
 use Rattle.live_workers.proofs.Telling.{told_by_publish, turned_by_publish}
 

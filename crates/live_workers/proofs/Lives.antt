@@ -6,7 +6,7 @@ use Rattle.br_model.specs.declared.steps.Step.{Step}
 use Rattle.br_model.specs.declared.steps.Step.TheVariants.{Rx, Cmd, Now, Serve, Hold, Post, Turn, Report, Sweep, Publish}
 use Rattle.br_model.specs.Plane.Runs.{run}
 use Rattle.br_model.specs.Plane.World.{World}
-use Rattle.br_model.specs.Program.LiveRun.{accepts_changes, begins_with_publish, ends_with_publish, frames_at, from_frame, is_drained, is_frame_at, is_live_run, is_ordered, may_drain, until_frame}
+use Rattle.br_model.specs.Program.LiveRun.{accepts_changes, frames_at, from_frame, is_drained, is_frame_at, is_live_run, is_ordered, may_drain, until_frame}
 use Rattle.br_model.specs.Program.Runs.{setup_of}
 use Rattle.br_model.specs.Table.Setup.{Setup}
 use Rattle.br_model.specs.Text.Scenario.{Scenario}
@@ -112,3 +112,10 @@ module _ (p q r t : Past) (sc : Scenario) (none : p.steps ≡ []) (opened : q �
 
   pub is_live_alone : is_live_run t.steps sc ≡ true
   is_live_alone = is_live t.steps sc live_rules
+
+-- the same by the scenario's steps, of which these are the later ones
+pub live_alone : (p q r t : Past) (steps later : List Step) → p.steps ≡ [] → q ≡ behind p (until_frame steps) → later ≡ from_frame steps → Takes q r later → Drained r t
+    → (sc : Scenario) → setup_of sc.roster ≡ p.setup → sc.steps ≡ steps → is_live_run t.steps sc ≡ true
+live_alone p q r t steps later none opened those takes drained sc setup own =
+    is_live_alone p q r t sc none (subst (λ (l : List Step). q ≡ behind p (until_frame l)) (sym own) opened)
+    (subst (λ (l : List Step). Takes q r l) (those ∙ ap from_frame (sym own)) takes) drained setup

@@ -1,8 +1,7 @@
 -- What the loops keep, and how one time more of each keeps it.
-use Rattle.std.proofs.Common.{◌≡◌, ◌≢◌, ℕ, ◌+◌, ◌<◌, ◌≤◌, Bool, true, false, List, [], ◌∷◌, ◌++◌, refl, sym, ◌∙◌, ap, subst, arith, nat_lt}
+use Rattle.std.proofs.Common.{◌≡◌, ◌≢◌, ℕ, ◌+◌, ◌<◌, ◌≤◌, Bool, true, false, List, [], ◌∷◌, refl, sym, ◌∙◌, ap, subst, arith, nat_lt}
 use Rattle.br_model.specs.declared.steps.Step.{Step}
 use Rattle.br_model.specs.declared.steps.Step.TheVariants.{Report, Serve, Turn}
-use Rattle.br_model.specs.Plane.World.{World}
 use Rattle.br_model.specs.Program.LiveRun.{from_frame, is_frame, until_frame}
 use Rattle.br_model.specs.Table.Domains.{Domains, has_chip}
 use Rattle.plane_lock.specs.Pasts.{Past, after, world_of}

@@ -1,5 +1,5 @@
 -- The steps before the first frame, step by step.
-use Rattle.std.proofs.Common.{◌≡◌, ℕ, Bool, true, false, if◌then◌else◌, List, [], ◌∷◌, ◌++◌, refl, sym, ◌∙◌, ap, append_assoc, append-nil}
+use Rattle.std.proofs.Common.{◌≡◌, Bool, true, false, if◌then◌else◌, List, [], ◌∷◌, ap, append_assoc, append-nil}
 use Rattle.br_model.specs.declared.steps.Step.{Step}
 use Rattle.br_model.specs.Program.LiveRun.{from_frame, is_frame, until_frame}
 use Rattle.br_model.specs.Theorems.LiveRuns.{Becomes, Empty, Kept}

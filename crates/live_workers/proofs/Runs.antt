@@ -1,10 +1,9 @@
 -- Worlds of a run, step by step, and what is published in them.
-use Rattle.std.proofs.Common.{◌≡◌, ℕ, Bool, true, false, List, [], ◌∷◌, ◌++◌, refl, sym, ◌∙◌, ap, subst, length, nat_lt, true≢false, arith}
+use Rattle.std.proofs.Common.{◌≡◌, ℕ, zero, suc, drop, Bool, true, false, List, [], ◌∷◌, ◌++◌, refl, sym, ◌∙◌, ap, subst, length, nat_lt, true≢false, arith}
 use Rattle.std.specs.Cmp.{second_so}
 use Rattle.std.specs.List.{fold, list_all}
 use Rattle.std.proofs.lemmas.List.Sums.{fold-append}
 use Rattle.br_model.specs.declared.steps.Step.{Step}
-use Rattle.br_model.specs.declared.steps.Step.TheVariants.{Publish}
 use Rattle.br_model.specs.Plane.Runs.{run, then_step}
 use Rattle.br_model.specs.Plane.Steps.{world_step}
 use Rattle.br_model.specs.Plane.World.{World, Stepped, first_world}
@@ -65,3 +64,9 @@ same_history w s e = not_less (length w.history) (length (world_step w s).0.hist
 -- a step that accepts nothing needs no publication
 pub nothing_to_publish : (w : World) (s : Step) → (world_step w s).0.history ≡ w.history → ArePublished w (s ∷ [])
 nothing_to_publish w s e = ((λ accepts. absurd (true≢false (sym accepts ∙ same_history w s e))), tt)
+
+-- what holds of each of these steps holds of each later one
+pub all_later : (f : Step → Bool) (n : ℕ) (steps : List Step) → list_all f steps ≡ true → list_all f (drop n steps) ≡ true
+all_later f zero steps h = h
+all_later f (suc n) [] h = refl
+all_later f (suc n) (s ∷ steps) h = all_later f n steps (second_so (f s) (list_all f steps) h)

@@ -1,28 +1,26 @@
 -- What chips have reported, and what they have applied, as a run goes on.
-use Rattle.std.proofs.Common.{◌≡◌, ◌≢◌, ℕ, ◌+◌, ◌-◌, ◌<◌, ◌==◌, Bool, true, false, ◌&&◌, ◌||◌, cond, if◌then◌else◌, List, [], ◌∷◌, ◌++◌, length, Option, None, Some, IfSome, slice_get, refl, sym, ◌∙◌, ap, ap₂, subst, arith, true≢false, is_some, option_map}
+use Rattle.std.proofs.Common.{◌≡◌, ◌≢◌, ℕ, ◌+◌, ◌-◌, ◌<◌, ◌==◌, Bool, true, false, ◌&&◌, ◌||◌, if◌then◌else◌, List, [], ◌∷◌, ◌++◌, length, Option, None, Some, IfSome, slice_get, refl, sym, ◌∙◌, ap, ap₂, subst, arith, option_map}
 use Rattle.std.proofs.lemmas.Bool.{eqb-true, eq-eqb, false≢true}
 use Rattle.std.proofs.lemmas.Map.Keys.{IsDistinct-head}
-use Rattle.std.specs.List.{IsDistinct, list_all, list_any, sum_by}
+use Rattle.std.specs.List.{IsDistinct, list_any}
 use Rattle.br_model.specs.declared.steps.Refusal.TheVariants.{HistoryFull}
 use Rattle.br_model.specs.declared.steps.Step.{Step}
-use Rattle.br_model.specs.declared.steps.Step.TheVariants.{Publish, Report, Serve, Turn}
-use Rattle.br_model.specs.declared.transcript.Line.{Line}
+use Rattle.br_model.specs.declared.steps.Step.TheVariants.{Publish, Report, Turn}
 use Rattle.br_model.specs.declared.transcript.Line.TheVariants.{Refused}
 use Rattle.br_model.specs.Control.Learning.{Triple}
 use Rattle.br_model.specs.Plane.Chip.{Chip, same_triple}
-use Rattle.br_model.specs.Plane.Runs.{pending, pending_of, run, then_step}
+use Rattle.br_model.specs.Plane.Runs.{pending_of, run}
 use Rattle.br_model.specs.Plane.Steps.{world_step}
 use Rattle.br_model.specs.Plane.World.{World, Stepped, chip_at, first_world}
 use Rattle.br_model.specs.Program.LiveRun.{has_reported, is_empty, is_report_at, last_refused, says_full}
 use Rattle.br_model.specs.Table.Setup.{Setup}
-use Rattle.br_model.specs.Theorems.Invariants.{ChipStands, IsWorld}
 use Rattle.br_model.proofs.PlaneChips.{chip-dom}
 use Rattle.br_model.proofs.PlaneKept.{chip-stands}
 use Rattle.br_model.proofs.Running.{run_none}
 use Rattle.plane_lock.specs.Pasts.{Past, after, world_of}
 use Rattle.plane_lock.proofs.Recording.{world-after, world-setup, world-stands}
 use Rattle.live_workers.specs.Draining.{HasTold, HasTurned}
-use Rattle.live_workers.proofs.Chips.{Applied, Gone, Reported, Stays, report_done, report_other, reports_in, turn_applied, turn_history, turn_other, turn_reports}
+use Rattle.live_workers.proofs.Chips.{Gone, Stays, report_done, report_other, reports_in, turn_applied, turn_history, turn_other, turn_reports}
 use Rattle.live_workers.proofs.Runs.{run_more, worlds}
 
 -- Whether the last report was refused, a step later.
