@@ -114,8 +114,8 @@ module _ (p q r t : Past) (sc : Scenario) (none : p.steps ≡ []) (opened : q �
   is_live_alone = is_live t.steps sc live_rules
 
 -- the same by the scenario's steps, of which these are the later ones
-pub live_alone : (p q r t : Past) (steps later : List Step) → p.steps ≡ [] → q ≡ behind p (until_frame steps) → later ≡ from_frame steps → Takes q r later → Drained r t
+pub live_alone : (p q r t : Past) (steps rest : List Step) → p.steps ≡ [] → q ≡ behind p (until_frame steps) → rest ≡ from_frame steps → Takes q r rest → Drained r t
     → (sc : Scenario) → setup_of sc.roster ≡ p.setup → sc.steps ≡ steps → is_live_run t.steps sc ≡ true
-live_alone p q r t steps later none opened those takes drained sc setup own =
+live_alone p q r t steps rest none opened those takes drained sc setup own =
     is_live_alone p q r t sc none (subst (λ (l : List Step). q ≡ behind p (until_frame l)) (sym own) opened)
     (subst (λ (l : List Step). Takes q r l) (those ∙ ap from_frame (sym own)) takes) drained setup

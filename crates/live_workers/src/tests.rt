@@ -1,5 +1,5 @@
 //! A scenario on one thread.
-ghost use Rattle.std.specs.Prelude.{◌≡◌, true, IfOk};
+ghost use Rattle.std.specs.Prelude.{◌≡◌, [], ◌∷◌, true, false, IfOk};
 ghost use Rattle.std.specs.List.{list_all};
 ghost use Rattle.br_model.specs.Table.Domains.{chip_domains};
 ghost use Rattle.br_model.specs.Text.LineForms.{comes_by_line};
@@ -23,7 +23,9 @@ fn port(number: u8) -> Result<Port, Fail>
 }
 
 /// A frame between the stations 10 and 11, which enters at the port.
-fn frame(alloc: Global, number: u8, to: u8, from: u8) -> Result<Step, Fail> {
+fn frame(alloc: Global, number: u8, to: u8, from: u8) -> Result<Step, Fail>
+    ensures { IfOk result (λ s. comes_by_line false (1 ∷ []) s ≡ true) }
+{
     let bytes = [2, 0, 0, 0, 0, to, 2, 0, 0, 0, 0, from, 0x88, 0xB5, 1, 2];
     Ok(Step::Rx {
         port: port(number)?,
@@ -32,7 +34,9 @@ fn frame(alloc: Global, number: u8, to: u8, from: u8) -> Result<Step, Fail> {
 }
 
 /// One port of the chip, and two of software.
-fn domains() -> Result<Domains, Fail> {
+fn domains() -> Result<Domains, Fail>
+    ensures { IfOk result (λ d. chip_domains d ≡ 1 ∷ []) }
+{
     let mut domains = Domains::make();
     domains.set(port(1)?, Dom::CHIP);
     domains.set(port(2)?, Dom::SOFTWARE);
@@ -41,7 +45,9 @@ fn domains() -> Result<Domains, Fail> {
 }
 
 /// The steps before the first frame, among them a post of a frame that isn't held.
-fn opening(alloc: Global) -> Result<Vec<Step>, Fail> {
+fn opening(alloc: Global) -> Result<Vec<Step>, Fail>
+    ensures { IfOk result (λ v. list_all (comes_by_line false (1 ∷ [])) v.items ≡ true) }
+{
     let mut steps = Vec::new(alloc);
     steps.push(Step::Cmd(Command::PortUp(port(1)?)))?;
     steps.push(Step::Cmd(Command::PortUp(port(2)?)))?;
@@ -51,7 +57,9 @@ fn opening(alloc: Global) -> Result<Vec<Step>, Fail> {
     Ok(steps)
 }
 
-fn given(alloc: Global) -> Result<Vec<Step>, Fail> {
+fn given(alloc: Global) -> Result<Vec<Step>, Fail>
+    ensures { IfOk result (λ v. list_all (comes_by_line false (1 ∷ [])) v.items ≡ true) }
+{
     let mut steps = opening(alloc)?;
     steps.push(frame(alloc, 2, 11, 10)?)?;
     steps.push(Step::Hold)?;
@@ -87,7 +95,6 @@ fn frames_are_served_at_once(rt: HostRuntime) -> Result<(), Fail> {
     let steps = taken.book.steps.as_slice();
     for place in 0..wanted.len() {
         let step = steps.get(place).ok_or("another step")?;
-        println!(rt; "{}", place)?;
         assert!(rt; same_step(step, &wanted[place]));
     }
     assert!(rt; steps.len() == wanted.len());
