@@ -1,6 +1,7 @@
 //! What the plane lock keeps, and the calls that are made under it.
 ghost use Rattle.std.specs.Prelude.{◌≡◌, ◌≢◌, ◌≤◌, length, true, List, IfOk, IfErr, IfSome, OnErr, OnOk, Some};
-ghost use Rattle.std.specs.Option.{option_map};
+ghost use Rattle.std.specs.List.{slice_get};
+ghost use Rattle.std.specs.Option.{is_some, option_map};
 ghost use mathlib.Core.List.{IsPrefix};
 ghost use Rattle.br_model.specs.declared.change.Change.{Change as ChangeValue};
 ghost use Rattle.br_model.specs.declared.change.Update.{Update as UpdateValue};
@@ -209,6 +210,14 @@ impl<N: Name> Locked<N> {
         ensures { option_map (λ c. c.count) (chip_at (world_of self.now) d) ≡ Some result }
     {
         self.ran.plane().applied(d)
+    }
+
+    /// Whether a report of the domain's chip waits.
+    pub fn has_report(&self, d: Dom) -> bool
+        requires { has_chip N.board.domains d ≡ true }
+        ensures { option_map (λ c. is_some (slice_get c.reports 0)) (chip_at (world_of self.now) d) ≡ Some result }
+    {
+        self.ran.plane().first_report(d).is_some()
     }
 
     /// The chair is told what is published, and the oldest frame that waits is held, with that as its floor: the chair's next point

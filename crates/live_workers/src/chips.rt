@@ -1,0 +1,100 @@
+//! The chips of a bridge, their queues, and what they leave to do.
+ghost use Rattle.std.specs.Prelude.{◌≡◌, [], ◌∷◌, ◌++◌, ◌≤◌, map, IfOk, OnOk};
+ghost use Rattle.std.specs.List.{All, filter};
+ghost use Rattle.br_model.specs.Table.Domains.{chip_domains, has_chip, last_chip};
+ghost use Rattle.live_book.specs.Ends.{IsLeft, reporting};
+ghost use Rattle.live_workers.specs.Results.{IsChipOf};
+ghost use Rattle.plane_lock.specs.Pasts.{world_of};
+ghost use Rattle.plane_lock.specs.Posted.{updates_of};
+
+use crate::NoMemory;
+use br_model::domains::Domains;
+use br_model::numbers::Dom;
+use live_book::Remains;
+use lists::Items;
+use plane_lock::{Queue, Queues, Ran, post_updates};
+use std::alloc::Global;
+use std::sync::Wait;
+
+/// The domains that have a chip, ascending.
+pub(crate) type Chips = Items<Dom>;
+
+/// The domain of this number, if it has a chip.
+fn chip_at(domains: &Domains, number: u8) -> Option<Dom>
+    requires { number ≤ last_chip }
+    ensures { IsChipOf domains.now number result }
+{
+    Dom::new(number).filter(|dom| domains.has_chip(*dom))
+}
+
+pub(crate) fn chips_of(alloc: Global, domains: &Domains) -> Result<Chips, NoMemory>
+    ensures { IfOk result (λ chips. chips ≡ chip_domains domains.now) }
+{
+    let mut chips = Items::new(alloc);
+    for number in 1..Dom::LAST + 1 {
+        if let Some(dom) = chip_at(domains, number) {
+            chips.push(dom)?;
+        }
+    }
+    Ok(chips)
+}
+
+/// The queue of the domain's chip. It has been posted the updates of the run, and those that the chip has applied were taken.
+fn queue_of<R: Wait>(rt: &R, alloc: Global, ran: &Ran, dom: Dom) -> Result<Queue, NoMemory>
+    requires { has_chip ran.now.setup.domains dom ≡ true }
+    ensures dom { IfOk result (λ q. q.dom ≡ dom) }
+    ensures posted { IfOk result (λ q. q.poster.posted ≡ updates_of ran.now) }
+{
+    let (mut poster, mut taker) = deferred_queue::make(alloc)?;
+    let plane = ran.plane();
+    post_updates(rt, &mut poster, plane);
+    for _ in 0..plane.applied(dom) {
+        let _applied = taker.take(rt);
+    }
+    Ok(Queue { dom, poster, taker })
+}
+
+pub(crate) fn queues_of<R: Wait>(
+    rt: &R,
+    alloc: Global,
+    ran: &Ran,
+    chips: &[Dom],
+) -> Result<Queues, NoMemory>
+    requires { chips.now ≡ chip_domains ran.now.setup.domains }
+    ensures doms { IfOk result (λ q. map (λ x. x.dom) q ≡ chips.now) }
+    ensures posted { IfOk result (λ q. All (λ x. x.poster.posted ≡ updates_of ran.now) q) }
+{
+    let mut queues = Queues::new(alloc);
+    for dom in chips {
+        queues.push(queue_of(rt, alloc, ran, *dom)?)?;
+    }
+    Ok(queues)
+}
+
+/// The chips that have reports left.
+fn reporting(alloc: Global, ran: &Ran, chips: &[Dom]) -> Result<Items<Dom>, NoMemory>
+    requires { chips.now ≡ chip_domains ran.now.setup.domains }
+    ensures { IfOk result (λ doms. doms ≡ reporting (world_of ran.now)) }
+{
+    let mut doms = Items::new(alloc);
+    for dom in chips {
+        if ran.plane().first_report(*dom).is_some() {
+            doms.push(*dom)?;
+        }
+    }
+    Ok(doms)
+}
+
+/// What is left to do.
+pub(crate) fn left_of(alloc: Global, ran: &Ran, chips: &[Dom]) -> Result<Remains, NoMemory>
+    requires { chips.now ≡ chip_domains ran.now.setup.domains }
+    ensures { IfOk result (λ left. IsLeft left (world_of ran.now)) }
+{
+    let plane = ran.plane();
+    Ok(Remains {
+        waiting: plane.waiting(),
+        held: plane.held(),
+        pending: plane.pending_of_all(),
+        reporting: reporting(alloc, ran, chips)?,
+    })
+}
