@@ -24,9 +24,9 @@ use Rattle.br_model.proofs.PlaneStays.{post-held, post-none-held, step-accepts, 
 use Rattle.capture_runner.specs.declared.held.Verdicts.{Verdicts}
 use Rattle.capture_runner.specs.Held.{AreDecided, AreSame, KeepsOldest, Puts, verdict_of}
 use Rattle.forward_rules.specs.declared.soft_tables.Verdict.{Verdict}
-use Rattle.plane_core.specs.Added.{Added}
+use Rattle.plane_parts.specs.Added.{Added}
 use Rattle.plane_core.specs.Planes.{DecidesAt, DecidesFloor, PlaneState, Steps}
-use Rattle.table_publish.specs.Board.{Decides}
+use Rattle.forward_rules.specs.Decided.{Decides}
 use Rattle.table_publish.specs.Object.{Whose}
 
 -- What is found by its id.

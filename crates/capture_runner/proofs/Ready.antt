@@ -12,7 +12,7 @@ use Rattle.br_model.specs.Text.LineForms.{comes_by_line}
 use Rattle.br_model.specs.Text.Roster.{Roster, chips_of}
 use Rattle.br_model.specs.Text.Scenario.{Scenario, declared, opened}
 use Rattle.br_model.proofs.PlaneApplied.{step-setup}
-use Rattle.plane_core.specs.Added.{Added}
+use Rattle.plane_parts.specs.Added.{Added}
 use Rattle.capture_runner.specs.declared.session.Session.{Session}
 use Rattle.capture_runner.specs.declared.voice.Voice.{Voice}
 use Rattle.capture_runner.specs.declared.voice.Voice.TheVariants.{Silent, Monitor}

@@ -2,7 +2,7 @@
 use Rattle.std.proofs.Common.{ℕ, List, Option, Result, Ok, Err, OnOk, sym}
 use Rattle.br_model.specs.declared.steps.Step.{Step}
 use Rattle.br_model.specs.declared.transcript.Line.{Line}
-use Rattle.plane_core.specs.Added.{Added}
+use Rattle.plane_parts.specs.Added.{Added}
 use Rattle.br_model.specs.declared.change.Update.{Update}
 use Rattle.br_model.specs.declared.steps.Step.TheVariants.{Turn}
 use Rattle.plane_core.specs.Planes.{PlaneState, Steps, TurnsBy}

@@ -10,7 +10,7 @@ ghost use Rattle.transcript_lines.specs.Rows.{expand_row};
 ghost use Rattle.capture_runner.specs.Counting.{Adds, AddsSent, RunsOn};
 ghost use Rattle.br_model.specs.Table.Domains.{chip_domains};
 ghost use Rattle.br_model.specs.Text.LineForms.{comes_by_line};
-ghost use Rattle.plane_core.specs.Added.{Added};
+ghost use Rattle.plane_parts.specs.Added.{Added};
 ghost use Rattle.scenario_text.specs.Stepping.{step_of};
 ghost use Rattle.capture_runner.specs.Session.{Tells};
 

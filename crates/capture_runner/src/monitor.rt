@@ -6,7 +6,7 @@ ghost use Rattle.br_model.specs.Table.Domains.{chip_domains, has_chip};
 ghost use Rattle.br_model.specs.Text.LineForms.{comes_by_line};
 ghost use Rattle.neigh_netlink.specs.Monitor.{message_line, messages_in};
 ghost use Rattle.neigh_netlink.specs.Stream.{kept_of};
-ghost use Rattle.plane_core.specs.Added.{Added};
+ghost use Rattle.plane_parts.specs.Added.{Added};
 ghost use Rattle.capture_runner.specs.Session.{Tells};
 ghost use Rattle.capture_runner.specs.Voices.{turn_of as turn_of_step};
 

@@ -3,7 +3,7 @@ ghost use Rattle.std.specs.Prelude.{◌≡◌, true, false, OnOk, Some, string_b
 ghost use Rattle.br_model.specs.Plane.World.{first_world};
 ghost use Rattle.br_model.specs.Table.Domains.{chip_domains};
 ghost use Rattle.br_model.specs.Text.LineForms.{comes_by_line};
-ghost use Rattle.plane_core.specs.Added.{Added};
+ghost use Rattle.plane_parts.specs.Added.{Added};
 ghost use Rattle.capture_runner.specs.Session.{Tells};
 ghost use Rattle.capture_runner.specs.Voices.{BeginsBy, IsTuned, SaysBy, lines_of, said_by};
 

@@ -6,7 +6,7 @@ ghost use Rattle.br_model.specs.Plane.World.{first_world};
 ghost use Rattle.br_model.specs.Table.Domains.{chip_domains, has_chip};
 ghost use Rattle.br_model.specs.Table.Limits.{AreWithin};
 ghost use Rattle.capture_runner.specs.Voices.{IsNext};
-ghost use Rattle.plane_core.specs.Added.{Added};
+ghost use Rattle.plane_parts.specs.Added.{Added};
 ghost use Rattle.plane_core.specs.Planes.{Steps as IsStep};
 ghost use Rattle.capture_runner.specs.Held.{AreDecided, AreSame, KeepsOldest};
 ghost use Rattle.capture_runner.specs.Session.{Tells};

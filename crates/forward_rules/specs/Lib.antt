@@ -1,2 +1,3 @@
 pub mod PortSets
 pub mod Verdicts
+pub mod Decided

@@ -1,10 +1,8 @@
 -- What a run's past becomes when what is left to do is done.
 -- Source: this profile.
-use Rattle.std.specs.Prelude.{◌≡◌, ℕ, true, List, IfSome, length}
+use Rattle.std.specs.Prelude.{◌≡◌, ℕ, true, List, IfSome}
 use Rattle.std.specs.List.{list_all}
-use Rattle.std.specs.Option.{option_map_or}
 use Rattle.br_model.specs.declared.steps.Step.{Step}
-use Rattle.br_model.specs.Plane.Chip.{Chip}
 use Rattle.br_model.specs.Plane.Runs.{pending_of}
 use Rattle.br_model.specs.Plane.World.{chip_at}
 use Rattle.br_model.specs.Program.LiveRun.{ends_with_publish, has_reported, is_drained, may_drain}
@@ -17,7 +15,7 @@ pub record Drains (old new : Past) : Type 0 where
   pub so : new ≡ behind old rest
   pub drains : list_all may_drain rest ≡ true
 
--- as many changes, frames that wait and frames that are held: none came or went
+-- no frame came or went: those that wait, and those that are held, are the same
 pub record Keeps (old new : Past) : Type 0 where
   pub waiting : (world_of new).waiting ≡ (world_of old).waiting
   pub held : (world_of new).held ≡ (world_of old).held

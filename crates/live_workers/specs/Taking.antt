@@ -1,26 +1,15 @@
 -- What a run's past becomes when the steps of a scenario are taken.
 -- Source: this profile.
-use Rattle.std.specs.Prelude.{◌≡◌, ℕ, true, List, [], ◌∷◌, ◌++◌}
+use Rattle.std.specs.Prelude.{◌≡◌, ℕ, List, ◌++◌}
 use Rattle.std.specs.List.{filter}
 use Rattle.br_model.specs.declared.steps.Step.{Step}
-use Rattle.br_model.specs.Plane.Steps.{world_step}
-use Rattle.br_model.specs.Plane.World.{World}
-use Rattle.br_model.specs.Program.LiveRun.{accepts_changes, begins_with_publish, frames_at, is_ordered}
+use Rattle.br_model.specs.Program.LiveRun.{frames_at, is_ordered}
 use Rattle.plane_lock.specs.Pasts.{Past, world_of}
+use Rattle.live_workers.specs.Worlds.{ArePublished}
 
 -- the past with these steps behind its own
 abbrev pub behind : Past → List Step → Past
 behind p steps = record p { steps = p.steps ++ steps }
-
--- no frame waits or is held
-pub record IsIdle (w : World) : Type 0 where
-  pub waiting : w.waiting ≡ []
-  pub held : w.held ≡ []
-
--- From this world on, each of the steps that accepts changes is directly followed by a publication.
-abbrev pub ArePublished : World → List Step → Type 0
-ArePublished w [] = Unit {0}
-ArePublished w (s ∷ steps) = (accepts_changes w s ≡ true → begins_with_publish steps ≡ true) × ArePublished (world_step w s).0 steps
 
 -- Steps were taken: among them the given ones' frames in each port's order, and their commands, moments and sweeps in theirs. What
 -- they accepted is published at once, and none of them held a frame.

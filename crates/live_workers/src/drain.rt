@@ -4,7 +4,7 @@ ghost use Rattle.br_model.specs.declared.steps.Step.TheVariants.{Turn};
 ghost use Rattle.br_model.specs.Table.Domains.{has_chip};
 ghost use Rattle.plane_lock.specs.Pasts.{after, world_of};
 ghost use Rattle.live_workers.specs.Draining.{Drained, Drains, HasTold, HasTurned, Keeps, reports_of};
-ghost use Rattle.live_workers.specs.Taking.{IsIdle};
+ghost use Rattle.live_workers.specs.Worlds.{IsIdle};
 
 use crate::NoMemory;
 use br_model::domains::Domains;

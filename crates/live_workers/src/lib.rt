@@ -3,10 +3,11 @@
 #![tactic(auto)]
 
 mod alone;
-mod chips;
 mod drain;
 mod frames;
 mod opening;
+mod queues;
+mod remains;
 mod run;
 mod stop;
 mod workers;

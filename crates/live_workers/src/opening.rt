@@ -7,7 +7,8 @@ ghost use Rattle.br_model.specs.Program.LiveRun.{from_frame, until_frame};
 ghost use Rattle.br_model.specs.Table.Domains.{chip_domains};
 ghost use Rattle.br_model.specs.Text.LineForms.{comes_by_line};
 ghost use Rattle.plane_lock.specs.Pasts.{after, world_of};
-ghost use Rattle.live_workers.specs.Taking.{IsIdle, behind};
+ghost use Rattle.live_workers.specs.Taking.{behind};
+ghost use Rattle.live_workers.specs.Worlds.{IsIdle};
 
 use crate::NoMemory;
 use crate::drain::turn;

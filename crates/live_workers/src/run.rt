@@ -15,9 +15,10 @@ ghost use Rattle.live_workers.specs.Results.{IsSameBridge, IsTaken, is_taken};
 
 use crate::NoMemory;
 use crate::alone::{Taken, end_line, run_alone};
-use crate::chips::{chips_of, left_of, queues_of};
 use crate::drain::drain;
 use crate::opening::open;
+use crate::queues::{chips_of, queues_of};
+use crate::remains::left_of;
 use crate::stop::Stop;
 use crate::workers::{Worker, work};
 use br_model::domains::Domains;

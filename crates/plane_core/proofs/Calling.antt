@@ -31,7 +31,7 @@ use Rattle.br_model.specs.Plane.World.{World, Waiting, Holding, Stepped, answere
 use Rattle.br_model.specs.Table.Setup.{Setup}
 use Rattle.br_model.specs.Table.Table.{table}
 use Rattle.forward_rules.specs.declared.soft_tables.Verdict.{Verdict}
-use Rattle.table_publish.specs.Board.{Decides}
+use Rattle.forward_rules.specs.Decided.{Decides}
 use Rattle.table_publish.specs.Object.{Whose}
 use Rattle.table_publish.specs.declared.seat.Seen.{Seen}
 use Rattle.plane_core.specs.Shown.{shown_by, shown_of}
@@ -39,7 +39,7 @@ use Rattle.plane_core.specs.declared.held.Held.{Held}
 use Rattle.br_model.proofs.Cuts.{updates-at, updates-named}
 use Rattle.br_model.proofs.PlaneKept.{first-world, step-world}
 use Rattle.plane_core.specs.Planes.{PlaneState, Steps, DecidesFloor, DecidesOldest, IsDecision, IsNamed, IsPassOf, next_ticket}
-use Rattle.plane_core.specs.Queued.{Queued, hold_line, holds_oldest}
+use Rattle.plane_parts.specs.Queued.{Queued, hold_line, holds_oldest}
 use Rattle.plane_core.specs.Sides.{SidesState, Comes, first_sides, world_of}
 use Rattle.plane_core.proofs.Stepping.{stepped}
 

@@ -31,8 +31,8 @@ use Rattle.bridge_core.specs.Kept.{Controlled}
 use Rattle.table_publish.specs.Board.{Shelf}
 use Rattle.plane_core.specs.Chips.{ChipState, IsChip, IsPlace, chips_of, state_in}
 use Rattle.plane_core.specs.Sides.{AreSides, Reacted, SidesState}
-use Rattle.plane_core.specs.Places.{places}
-use Rattle.plane_core.proofs.Placing.{count}
+use Rattle.plane_parts.specs.Places.{places}
+use Rattle.plane_parts.proofs.Placing.{count}
 use Rattle.plane_core.proofs.ChipLists.{apart, apart-chips, chip-found, not-software, put-place, some-found}
 
 -- what is there for the definitions is there for the states

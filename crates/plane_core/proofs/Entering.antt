@@ -19,10 +19,10 @@ use Rattle.br_model.specs.Plane.Steps.{world_step}
 use Rattle.br_model.specs.Plane.World.{World, Waiting, Stepped, sent, after_lines}
 use Rattle.br_model.specs.Forward.Shares.{chip_out, mark_of}
 use Rattle.chip_pipeline.specs.Passed.{Passed, IsPass}
-use Rattle.plane_core.specs.declared.frames.Arrival.TheVariants.{Waits, Overruns}
-use Rattle.plane_core.specs.Arrivals.{arrival, arrival_lines, settled}
+use Rattle.plane_parts.specs.declared.frames.Arrival.TheVariants.{Waits, Overruns}
+use Rattle.plane_parts.specs.Arrivals.{arrival, arrival_lines, settled}
 use Rattle.plane_core.specs.Planes.{arrival_by}
-use Rattle.plane_core.specs.Queued.{Queued}
+use Rattle.plane_parts.specs.Queued.{Queued}
 use Rattle.plane_core.specs.Sides.{SidesState, world_of}
 
 -- where the next id is taken

@@ -1,9 +1,4 @@
-pub mod Adding
-pub mod Ordered
-pub mod HeldRows
-pub mod Keeping
 pub mod Leaving
-pub mod Placing
 pub mod Telling
 pub mod Following
 pub mod Noting

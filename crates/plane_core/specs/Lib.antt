@@ -1,8 +1,3 @@
-pub mod Added
-pub mod Queued
-pub mod Arrivals
-pub mod Places
-pub mod Sent
 pub mod Chips
 pub mod Lending
 pub mod Sides

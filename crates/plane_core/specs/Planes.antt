@@ -24,16 +24,16 @@ use Rattle.br_model.specs.Plane.Steps.{world_step}
 use Rattle.br_model.specs.Plane.World.{World, Waiting, Holding, chip_at, next_of, table_at, table_of_chip}
 use Rattle.chip_pipeline.specs.Passed.{Passed, IsPass}
 use Rattle.forward_rules.specs.declared.soft_tables.Verdict.{Verdict}
-use Rattle.table_publish.specs.Board.{Decides}
+use Rattle.forward_rules.specs.Decided.{Decides}
 use Rattle.table_publish.specs.Object.{Object, Whose}
 use Rattle.table_publish.specs.declared.seat.Seen.{Seen}
 use Rattle.br_model.specs.declared.frame.Class.{Class}
 use Rattle.br_model.specs.declared.frame.Class.TheVariants.{Drop, Trap, Copy, Forward}
-use Rattle.plane_core.specs.declared.frames.Arrival.{Arrival}
-use Rattle.plane_core.specs.declared.frames.Arrival.TheVariants.{PassesBy}
-use Rattle.plane_core.specs.Arrivals.{arrival}
+use Rattle.plane_parts.specs.declared.frames.Arrival.{Arrival}
+use Rattle.plane_parts.specs.declared.frames.Arrival.TheVariants.{PassesBy}
+use Rattle.plane_parts.specs.Arrivals.{arrival}
 use Rattle.transcript_lines.specs.Rows.{Listed}
-use Rattle.plane_core.specs.Added.{Added}
+use Rattle.plane_parts.specs.Added.{Added}
 use Rattle.plane_core.specs.declared.held.Held.{Held}
 use Rattle.plane_core.specs.Shown.{shown_by, shown_of}
 use Rattle.plane_core.specs.declared.faults.PostFault.{PostFault}

@@ -18,8 +18,8 @@ use Rattle.bridge_core.specs.Kept.{Controlled}
 use Rattle.table_publish.specs.Board.{Shelf, all_of}
 use Rattle.table_publish.specs.Object.{Object, Whose, first_object}
 use Rattle.plane_core.specs.Chips.{ChipState, AreChips, chips_of}
-use Rattle.plane_core.specs.Places.{places}
-use Rattle.plane_core.specs.Queued.{Queued}
+use Rattle.plane_parts.specs.Places.{places}
+use Rattle.plane_parts.specs.Queued.{Queued}
 
 pub record SidesState : Type 0 where
   pub setup : Setup

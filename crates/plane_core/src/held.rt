@@ -1,12 +1,12 @@
 //! What a caller gets of a frame that is held.
-ghost use Rattle.std.specs.Prelude.{◌≡◌, IfOk};
+ghost use Rattle.std.specs.Prelude.{◌≡◌, ◌↔◌, IfOk, IsTrue};
 ghost use Rattle.plane_core.specs.Shown.{shown_by, shown_of};
 
 use crate::NoMemory;
-use crate::frame::Frame;
 use br_model::bytes::Bytes;
 use br_model::numbers::Port;
 use hwdom_marks::Mark;
+use plane_parts::{Frame, Holding};
 use std::alloc::Global;
 
 /// A copy of a held frame, which the plane keeps. It is decided by no fewer changes than `floor`.
@@ -31,5 +31,17 @@ impl Held {
             mark: frame.mark(),
             floor,
         })
+    }
+
+    /// Whether it is a copy of this frame, with its floor.
+    pub(crate) fn is_of(&self, holding: &Holding) -> bool
+        ensures { IsTrue result ↔ (shown_by self.now ≡ shown_of holding.now) }
+    {
+        let frame = holding.frame();
+        frame.id() == self.id
+            && frame.port() == self.port
+            && frame.bytes() == self.bytes.as_slice()
+            && frame.mark() == self.mark
+            && holding.floor() == self.floor
     }
 }

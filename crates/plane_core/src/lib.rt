@@ -4,14 +4,11 @@
 mod chip;
 mod chips;
 mod faults;
-mod frame;
-mod frames;
 mod held;
 pub mod plane;
 mod sending;
 mod sides;
 mod sweep;
-mod updates;
 
 pub use br_model::NoMemory;
 pub use faults::{PostFault, TurnFault};

@@ -18,17 +18,16 @@ ghost use Rattle.br_model.specs.Plane.Steps.{world_step};
 ghost use Rattle.br_model.specs.Plane.World.{Holding as HoldingOf, chip_at, first_world, table_of_chip};
 ghost use Rattle.table_publish.specs.Object.{Begins, IsPublished, first_object};
 ghost use Rattle.plane_core.specs.Planes.{Accepts, DecidesFloor, DecidesOldest, IsCopy, IsDecidedBy, IsDecision, IsNamed, IsOnChip, Posted, PostedTo, Steps, Turned, TurnedTo, arrival_by, published_in, ticket_of};
-ghost use Rattle.plane_core.specs.Added.{Added};
-ghost use Rattle.plane_core.specs.Arrivals.{IsArrival};
+ghost use Rattle.plane_parts.specs.Added.{Added};
+ghost use Rattle.plane_parts.specs.Arrivals.{IsArrival};
 ghost use Rattle.plane_core.specs.Seats.{IsTold, Looks};
 ghost use Rattle.plane_core.specs.Shown.{opened, shown_by};
 ghost use Rattle.plane_core.specs.Sides.{HasBegun, SidesState, world_of};
 
 use crate::NoMemory;
 use crate::faults::{PostFault, TurnFault};
-use crate::frames::{Arrival, Frames};
 use crate::held::Held;
-use crate::sending::{Egress, make_room, send};
+use crate::sending::egress_of;
 use crate::sides::{Begun, Sides, begin};
 use br_model::bytes::Bytes;
 use br_model::change::{Change, Update};
@@ -43,6 +42,7 @@ use forward_rules::Verdict;
 use hwdom_marks::Mark;
 use igmp_mld::classify;
 use learn_report::Report;
+use plane_parts::{Arrival, Frames, make_room, send};
 use std::alloc::{AllocError, Global};
 use std::marker::Model;
 use std::sync::Wait;
@@ -278,7 +278,7 @@ impl Plane {
         make_room(lines, bytes)?;
         self.sides.note(d, p, &pass)?;
         lines.push_reserved(decision);
-        send(id, bytes, head, &Egress::of_pass(&pass), lines);
+        send(id, bytes, head, &egress_of(&pass), lines);
         let arrival = arrival(&self.frames, class, d, p, b, head, &message);
         arrival.tell(id, lines);
         self.frames.settle(arrival);
@@ -485,7 +485,7 @@ impl Plane {
         let Some(holding) = self.frames.find(h.id) else {
             return self.post_none(step, h, lines);
         };
-        if !holding.is_shown_by(&h) {
+        if !h.is_of(holding) {
             return Err(PostFault::Stranger(h));
         }
         let published = self.sides.published();

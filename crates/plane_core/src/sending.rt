@@ -1,92 +1,21 @@
-//! The lines of a frame that the chip or software sends.
-ghost use Rattle.std.specs.Prelude.{◌≡◌, ℕ, ◌+◌, ◌*◌, ◌≤◌, ◌++◌, List, length, OnOk, Ok};
-ghost use Rattle.br_model.specs.Table.Domains.{Domains as DomainsValue};
-ghost use Rattle.br_model.specs.Wire.Frames.{frame as frame_of};
-ghost use Rattle.br_model.specs.Wire.Messages.{message};
+//! By which ports the chip sends a frame.
+ghost use Rattle.std.specs.Prelude.{◌≡◌, ℕ, List};
+ghost use Rattle.br_model.specs.Forward.Shares.{chip_out};
 ghost use Rattle.br_model.specs.Plane.World.{sent};
-ghost use Rattle.br_model.specs.Forward.Shares.{chip_out, soft_out};
+ghost use Rattle.br_model.specs.Table.Domains.{Domains};
 ghost use Rattle.br_model.specs.Table.Table.{Table};
-ghost use Rattle.br_model.specs.declared.frame.Head.{Head as HeadValue};
+ghost use Rattle.br_model.specs.Wire.Messages.{message};
+ghost use Rattle.br_model.specs.declared.frame.Head.{Head};
 ghost use Rattle.chip_pipeline.specs.Passed.{IsPass};
-ghost use Rattle.hwdom_marks.specs.Marks.{domain_marked};
-ghost use Rattle.plane_core.specs.Sent.{lines_of};
-ghost use Rattle.table_publish.specs.Board.{Decides};
+ghost use Rattle.plane_parts.specs.Sent.{lines_of};
 
-use crate::NoMemory;
-use br_model::domains::Domains;
-use br_model::frame::Head;
-use br_model::numbers::Vid;
 use chip_pipeline::Pass;
-use ether_frames::{parts, tag_bytes};
-use forward_rules::Verdict;
-use hwdom_marks::{Mark, remaining};
-use port_sets::Ports;
-use std::alloc::AllocError;
-use transcript_lines::Lines;
+use plane_parts::Egress;
 
-/// By which ports a frame leaves: those of its VLAN, and those of them that it leaves without a tag.
-#[derive(Clone, Copy, Debug)]
-pub(crate) struct Egress {
-    pub(crate) vid: Option<Vid>,
-    pub(crate) ports: Ports,
-    pub(crate) untagged: Ports,
-}
-
-impl Egress {
-    /// That of the frame at the chip.
-    pub(crate) fn of_pass(pass: &Pass) -> Egress
-        ensures { (domains : DomainsValue) (t : Table) (port : ℕ) (bytes : List ℕ) (head : HeadValue)
-            → IsPass domains t port head (message bytes head) pass.now
-            → (id : ℕ) → lines_of id bytes head result ≡ sent id (chip_out domains t port bytes head) }
-    {
-        Egress {
-            vid: pass.vid(),
-            ports: pass.ports(),
-            untagged: pass.untagged(),
-        }
-    }
-
-    /// That of the frame in software, which leaves out the domain that the frame is marked with.
-    pub(crate) fn of_verdict(verdict: &Verdict, mark: Option<Mark>, domains: &Domains) -> Egress
-        ensures { (t : Table) (port : ℕ) (bytes : List ℕ) (head : HeadValue) → Decides domains.now t port head (message bytes head) verdict.now
-            → (id : ℕ) → lines_of id bytes head result ≡ sent id (soft_out domains.now t port bytes head (domain_marked mark)) }
-    {
-        Egress {
-            vid: verdict.vid,
-            ports: remaining(verdict.ports, mark, domains),
-            untagged: verdict.untagged,
-        }
-    }
-}
-
-/// Takes the room for the lines of a step by which a frame of these bytes leaves: its two forms, and three rows, for its lines, the
-/// one before and the one behind them.
-pub(crate) fn make_room(lines: &mut Lines, bytes: &[u8]) -> Result<(), NoMemory>
-    ensures lines { lines.new.lines ≡ lines.old.lines }
-    ensures marked { lines.new.marked ≡ lines.old.marked }
-    ensures rows { OnOk result (3 ≤ lines.new.rows) }
-    ensures bytes { OnOk result (2 * length bytes.now + 4 ≤ lines.new.bytes) }
+/// The ports by which the chip that answered so sends the frame.
+pub(crate) fn egress_of(pass: &Pass) -> Egress
+    ensures { (domains : Domains) (t : Table) (port : ℕ) (bytes : List ℕ) (head : Head) → IsPass domains t port head (message bytes head) pass.now
+        → (id : ℕ) → lines_of id bytes head result ≡ sent id (chip_out domains t port bytes head) }
 {
-    let twice = bytes.len().checked_mul(2).ok_or(AllocError)?;
-    lines.reserve(3, twice.checked_add(4).ok_or(AllocError)?)
-}
-
-/// Adds the lines of the ports by which the frame leaves, for which there is room.
-pub(crate) fn send(id: u32, bytes: &[u8], head: &Head, out: &Egress, lines: &mut Lines)
-    requires frame { frame_of bytes.now ≡ Ok head.now }
-    requires rows { 1 ≤ lines.old.rows }
-    requires bytes { 2 * length bytes.now + 4 ≤ lines.old.bytes }
-    ensures lines { lines.new.lines ≡ lines.old.lines ++ lines_of id bytes.now head.now out.now }
-    ensures marked { lines.new.marked ≡ lines.old.marked }
-    ensures rows { lines.old.rows ≤ lines.new.rows + 1 }
-{
-    let Some(vid) = out.vid else {
-        return;
-    };
-    if out.ports.is_empty() {
-        return;
-    }
-    let (front, rest) = parts(bytes, head);
-    let tag = tag_bytes(bytes, head, vid);
-    lines.push_sent(id, out.ports, out.untagged, front, &tag, rest);
+    Egress::at_chip(pass.vid(), pass.ports(), pass.untagged())
 }

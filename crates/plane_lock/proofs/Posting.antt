@@ -35,11 +35,11 @@ use Rattle.br_model.specs.Wire.Messages.{message}
 use Rattle.br_model.proofs.OneList.{one-list}
 use Rattle.br_model.proofs.PlaneLists.{last-has}
 use Rattle.hwdom_marks.specs.Marks.{domain_marked}
-use Rattle.plane_core.specs.Added.{Added}
+use Rattle.plane_parts.specs.Added.{Added}
 use Rattle.plane_core.specs.Planes.{PlaneState, Steps, Posts, IsCopy, IsDecision, published_in}
 use Rattle.plane_core.specs.Shown.{Shown, opened, shown_by, shown_of}
 use Rattle.plane_core.specs.declared.held.Held.{Held}
-use Rattle.table_publish.specs.Board.{Decides}
+use Rattle.forward_rules.specs.Decided.{Decides}
 use Rattle.table_publish.specs.Object.{Object, Begins, Ascends, AscendsFrom, IsPublished}
 use Rattle.table_publish.specs.declared.seat.Seen.{Seen}
 use Rattle.plane_lock.specs.Pasts.{Past, world_of, said_by, post_step}

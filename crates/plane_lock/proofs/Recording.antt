@@ -15,7 +15,7 @@ use Rattle.br_model.specs.Theorems.Invariants.{IsWorld}
 use Rattle.br_model.proofs.PlaneApplied.{run-world, run-setup, step-setup}
 use Rattle.br_model.proofs.Running.{run_push, run_none}
 use Rattle.std.specs.declared.option.Option.{Option}
-use Rattle.plane_core.specs.Added.{Added}
+use Rattle.plane_parts.specs.Added.{Added}
 use Rattle.plane_core.specs.Planes.{PlaneState, Steps, Accepts}
 use Rattle.plane_core.specs.Shown.{Shown, opened}
 use Rattle.plane_lock.specs.Holds.{held_line}

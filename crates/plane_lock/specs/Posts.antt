@@ -17,7 +17,7 @@ use Rattle.br_model.specs.Wire.Frames.{frame}
 use Rattle.br_model.specs.Wire.Messages.{message}
 use Rattle.hwdom_marks.specs.Marks.{domain_marked}
 use Rattle.plane_core.specs.declared.held.Held.{Held}
-use Rattle.table_publish.specs.Board.{Decides}
+use Rattle.forward_rules.specs.Decided.{Decides}
 use Rattle.table_publish.specs.Object.{Object}
 use Rattle.table_publish.specs.declared.seat.Seen.{Seen}
 

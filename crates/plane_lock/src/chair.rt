@@ -3,7 +3,8 @@ ghost use Rattle.std.specs.Prelude.{◌≡◌, length, take, true, IfSome, IfNon
 ghost use Rattle.std.specs.Ordering.{nat_cmp};
 ghost use Rattle.br_model.specs.Data.Maps.{has};
 ghost use Rattle.br_model.specs.Table.Table.{table};
-ghost use Rattle.table_publish.specs.Board.{Decides, Rises};
+ghost use Rattle.forward_rules.specs.Decided.{Decides};
+ghost use Rattle.table_publish.specs.Board.{Rises};
 ghost use Rattle.table_publish.specs.Object.{Begins, IsPublished};
 
 use br_model::frame::{Head, McastMsg};

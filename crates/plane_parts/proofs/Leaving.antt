@@ -12,13 +12,14 @@ use Rattle.br_model.specs.declared.frame.Class.TheVariants.{Drop, Trap, Copy, Fo
 use Rattle.br_model.specs.declared.frame.Head.{Head}
 use Rattle.br_model.specs.declared.transcript.Line.{Line}
 use Rattle.br_model.specs.declared.transcript.Line.TheVariants.{Tx}
+use Rattle.br_model.specs.Forward.Admission.{admit}
 use Rattle.br_model.specs.Forward.Class.{class}
 use Rattle.br_model.specs.Table.DomainPorts as DomainPorts
 use Rattle.br_model.specs.Table.DomainPorts.{is_in_domain, is_marked}
 use Rattle.br_model.specs.Table.Domains.{Domains, domain_of, foreign, port_places}
 use Rattle.br_model.specs.Forward.Eligible.{untagged}
 use Rattle.br_model.specs.Wire.Frames.{dressed}
-use Rattle.br_model.specs.Forward.Leave.{leave, dressed_in, tag_at}
+use Rattle.br_model.specs.Forward.Leave.{leave, ports_out, dressed_in, tag_at}
 use Rattle.br_model.specs.Wire.Messages.{message}
 use Rattle.br_model.specs.Plane.World.{sent}
 use Rattle.br_model.specs.Forward.Shares.{chip_out, chip_out_by, soft_out, remaining}
@@ -28,7 +29,7 @@ use Rattle.forward_rules.specs.declared.soft_tables.Verdict.{Verdict}
 use Rattle.port_sets.specs.Numbers.{IsSetBelow, has_number, numbers_below}
 use Rattle.port_sets.proofs.Numbers.{same_below, has-below, filter-set}
 use Rattle.plane_parts.specs.Sent.{line_at, lines_in, share_of}
-use Rattle.plane_parts.specs.Decided.{Decides}
+use Rattle.forward_rules.specs.Decided.{Decides}
 
 -- a number that is in a list is in its filter where it passes
 has_passed : (p : ℕ → Bool) (q : ℕ) (xs : List ℕ) → has_number xs q ≡ true → has_number (filter p xs) q ≡ p q
@@ -113,6 +114,12 @@ module _ (t : Table) (id : ℕ) (bytes : List ℕ) (head : Head) where
   soft_lines o p whole = sent_lines o p whole (untagged_among t o whole) (λ vid q some within.
       ap (λ (v : Option ℕ). has_number (untagged_among t v whole) q) (sym some) ∙ has_passed (λ k. untagged t k vid) q whole (in_whole p q whole within))
 
+  -- where the set is of the chip's share alone
+  share_lines : (o : Option ℕ) (p : ℕ → Bool) (whole : List ℕ)
+      → lines_in id bytes head o (filter p whole) (untagged_among t o (filter p whole)) ≡ sent id (filter (λ x. p x.0) (dressed_in t o whole bytes head))
+  share_lines o p whole = sent_lines o p whole (untagged_among t o (filter p whole)) (λ vid q some within.
+      ap (λ (v : Option ℕ). has_number (untagged_among t v (filter p whole)) q) (sym some) ∙ has_passed (λ k. untagged t k vid) q (filter p whole) within)
+
   no_lines : (o : Option ℕ) (set : List ℕ) → lines_in id bytes head o [] set ≡ []
   no_lines None set = refl
   no_lines (Some vid) set = refl
@@ -123,6 +130,14 @@ module _ (t : Table) (id : ℕ) (bytes : List ℕ) (head : Head) where
   chip_lines domains port Trap o whole = no_lines o (untagged_among t o whole)
   chip_lines domains port Copy o whole = soft_lines o (λ q. not (foreign domains port q)) whole
   chip_lines domains port Forward o whole = soft_lines o (λ q. not (foreign domains port q)) whole
+
+  own_lines : (domains : Domains) (port : ℕ) (c : Class) (o : Option ℕ) (whole : List ℕ)
+      → lines_in id bytes head o (share_of domains port c whole) (untagged_among t o (share_of domains port c whole))
+      ≡ sent id (chip_out_by c domains port (dressed_in t o whole bytes head))
+  own_lines domains port Drop o whole = no_lines o (untagged_among t o [])
+  own_lines domains port Trap o whole = no_lines o (untagged_among t o [])
+  own_lines domains port Copy o whole = share_lines o (λ q. not (foreign domains port q)) whole
+  own_lines domains port Forward o whole = share_lines o (λ q. not (foreign domains port q)) whole
 
 module _ (domains : Domains) (t : Table) (port id : ℕ) (bytes : List ℕ) (head : Head) where
   pub sent_by : (v : Verdict) (mark : Option ℕ) (ports : List ℕ) → Decides domains t port head (message bytes head) v → ports ≡ filter (λ q. not (is_marked domains mark q)) v.ports
@@ -141,3 +156,12 @@ module _ (domains : Domains) (t : Table) (port id : ℕ) (bytes : List ℕ) (hea
       ∙ chip_lines t id bytes head domains port v.class v.vid v.ports
       ∙ ap (λ c. sent id (chip_out_by c domains port (dressed_in t v.vid v.ports bytes head))) d.class
       ∙ ap₂ (λ (o : Option ℕ) ps. sent id (chip_out_by (class domains t port head (message bytes head)) domains port (dressed_in t o ps bytes head))) d.vid d.ports
+
+  pub sent_at_chip : (vid : Option ℕ) (ports set : List ℕ) → vid ≡ admit t port head
+      → ports ≡ share_of domains port (class domains t port head (message bytes head)) (ports_out t port head (message bytes head)) → set ≡ untagged_among t vid ports
+      → lines_in id bytes head vid ports set ≡ sent id (chip_out domains t port bytes head)
+  unfolding leave
+  sent_at_chip vid ports set is_vid is_ports is_set =
+      ap (λ xs. lines_in id bytes head vid ports xs) is_set
+      ∙ ap₂ (λ (o : Option ℕ) ps. lines_in id bytes head o ps (untagged_among t o ps)) is_vid is_ports
+      ∙ own_lines t id bytes head domains port (class domains t port head (message bytes head)) (admit t port head) (ports_out t port head (message bytes head))

@@ -3,4 +3,3 @@ pub mod Queued
 pub mod Arrivals
 pub mod Places
 pub mod Sent
-pub mod Decided

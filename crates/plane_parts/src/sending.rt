@@ -1,6 +1,10 @@
 //! The lines of a frame that the chip or software sends.
 ghost use Rattle.std.specs.Prelude.{◌≡◌, ℕ, ◌+◌, ◌*◌, ◌≤◌, ◌++◌, List, length, OnOk, Ok, Some};
-ghost use Rattle.br_model.specs.Table.Domains.{domain_of};
+ghost use Rattle.br_model.specs.Forward.Admission.{admit};
+ghost use Rattle.br_model.specs.Forward.Class.{class};
+ghost use Rattle.br_model.specs.Forward.Leave.{ports_out};
+ghost use Rattle.br_model.specs.Forward.Untagged.{untagged_among};
+ghost use Rattle.br_model.specs.Table.Domains.{Domains as DomainsValue, domain_of};
 ghost use Rattle.br_model.specs.Wire.Frames.{frame as frame_of};
 ghost use Rattle.br_model.specs.Wire.Messages.{message};
 ghost use Rattle.br_model.specs.Plane.World.{sent};
@@ -9,7 +13,7 @@ ghost use Rattle.br_model.specs.Table.Table.{Table};
 ghost use Rattle.br_model.specs.declared.frame.Head.{Head as HeadValue};
 ghost use Rattle.hwdom_marks.specs.Marks.{domain_marked};
 ghost use Rattle.plane_parts.specs.Sent.{lines_of, share_of};
-ghost use Rattle.plane_parts.specs.Decided.{Decides};
+ghost use Rattle.forward_rules.specs.Decided.{Decides};
 
 use crate::NoMemory;
 use br_model::domains::Domains;
@@ -55,6 +59,20 @@ impl Egress {
             vid: verdict.vid,
             ports: share(verdict, own, domains),
             untagged: verdict.untagged,
+        }
+    }
+
+    /// That of a frame that a chip sends by these ports of its share, of which those are the untagged ones.
+    pub fn at_chip(vid: Option<Vid>, ports: Ports, untagged: Ports) -> Egress
+        ensures { (domains : DomainsValue) (t : Table) (port : ℕ) (bytes : List ℕ) (head : HeadValue) → vid ≡ admit t port head
+            → ports ≡ share_of domains port (class domains t port head (message bytes head)) (ports_out t port head (message bytes head))
+            → untagged ≡ untagged_among t vid ports
+            → (id : ℕ) → lines_of id bytes head result ≡ sent id (chip_out domains t port bytes head) }
+    {
+        Egress {
+            vid,
+            ports,
+            untagged,
         }
     }
 

@@ -5,7 +5,7 @@ use Rattle.br_model.specs.Table.Limits.{most_changes}
 use Rattle.br_model.specs.Table.Table.{table}
 use Rattle.br_model.specs.declared.frame.Head.{Head}
 use Rattle.br_model.specs.declared.frame.McastMsg.{McastMsg}
-use Rattle.table_publish.specs.Board.{Decides}
+use Rattle.forward_rules.specs.Decided.{Decides}
 use Rattle.table_publish.specs.Object.{changes_of, AllFull}
 use Rattle.table_publish.specs.declared.seat.Look.{Look}
 

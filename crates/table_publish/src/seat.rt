@@ -2,7 +2,8 @@
 ghost use Rattle.std.specs.Prelude.{◌≡◌, length, IfSome, IfNone, None};
 ghost use Rattle.left_right.specs.Sides.{view as place_view};
 ghost use Rattle.br_model.specs.Table.Table.{table};
-ghost use Rattle.table_publish.specs.Board.{Decides, Rises};
+ghost use Rattle.forward_rules.specs.Decided.{Decides};
+ghost use Rattle.table_publish.specs.Board.{Rises};
 ghost use Rattle.table_publish.specs.Look.{IsLook};
 ghost use Rattle.table_publish.specs.Rule.{IsOf};
 ghost use Rattle.table_publish.specs.Object.{Begins, IsPublished};

@@ -24,7 +24,7 @@ use Rattle.br_model.proofs.PlaneKept.{hit_by-keeps}
 use Rattle.br_model.proofs.PlaneLists.{find-each}
 use Rattle.bridge_core.specs.Kept.{Controlled}
 use Rattle.forward_rules.specs.declared.soft_tables.Verdict.{Verdict}
-use Rattle.plane_parts.specs.Decided.{Decides}
+use Rattle.forward_rules.specs.Decided.{Decides}
 use Rattle.transcript_check.specs.Cuts.{AreCuts, Changed, CutState, IsCut, KeepsTable, chips_of, noted, state_in, turned}
 use Rattle.transcript_check.specs.Points.{PointState}
 use Rattle.transcript_check.specs.Sides.{AreSides, SidesState, table_of}

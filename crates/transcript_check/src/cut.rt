@@ -7,7 +7,7 @@ ghost use Rattle.br_model.specs.Table.DomainPorts.{is_in_domain};
 ghost use Rattle.br_model.specs.Table.Limits.{AreWithin, fits, most_changes};
 ghost use Rattle.br_model.specs.Data.Maps.{get, has, pair_cmp, put};
 ghost use Rattle.br_model.specs.Table.Table.{Table, apply, start};
-ghost use Rattle.plane_parts.specs.Decided.{Decides};
+ghost use Rattle.forward_rules.specs.Decided.{Decides};
 ghost use Rattle.transcript_check.specs.Cuts.{IsCut, KeepsTable, chip_of, noted, told_first, turned, without_hits};
 
 use crate::NoMemory;

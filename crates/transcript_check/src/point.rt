@@ -3,7 +3,7 @@ ghost use Rattle.std.specs.Prelude.{◌≡◌, ◌≤◌, IfOk, OnErr, OnOk, len
 ghost use Rattle.br_model.specs.Table.Limits.{AreWithin};
 ghost use Rattle.br_model.specs.Table.Table.{start, table};
 ghost use Rattle.br_model.specs.Wire.Messages.{message as message_of};
-ghost use Rattle.plane_parts.specs.Decided.{Decides};
+ghost use Rattle.forward_rules.specs.Decided.{Decides};
 ghost use Rattle.transcript_check.specs.Points.{IsPoint, point_at};
 
 use crate::NoMemory;

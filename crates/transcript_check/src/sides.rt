@@ -20,7 +20,7 @@ ghost use Rattle.br_model.specs.declared.steps.Event.TheVariants as Event;
 ghost use Rattle.br_model.specs.declared.transcript.Line.TheVariants as line;
 ghost use Rattle.bridge_core.specs.Answers.{IsEvent};
 ghost use Rattle.plane_parts.specs.Added.{Added};
-ghost use Rattle.plane_parts.specs.Decided.{Decides};
+ghost use Rattle.forward_rules.specs.Decided.{Decides};
 ghost use Rattle.plane_parts.specs.Places.{places};
 ghost use Rattle.transcript_check.specs.Cuts.{AreCuts, chips_of};
 ghost use Rattle.plane_parts.specs.Queued.{Queued};

@@ -1,9 +1,9 @@
 use Rattle.std.proofs.Common.{List, ℕ, ap, subst}
 use Rattle.br_model.specs.declared.steps.Step.TheVariants.{Rx}
 use Rattle.transcript_lines.specs.Rows.{Listed}
-use Rattle.plane_core.specs.Added.{Added}
+use Rattle.plane_parts.specs.Added.{Added}
 use Rattle.plane_core.specs.Planes.{Steps}
-use Rattle.plane_core.proofs.Adding.{whole}
+use Rattle.plane_parts.proofs.Adding.{whole}
 use Rattle.plane_core.proofs.plane.Plane.enter.Goals as goal
 
 pub returns-clause-step : goal.returns-clause-step

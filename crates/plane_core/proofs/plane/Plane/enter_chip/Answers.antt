@@ -13,13 +13,13 @@ use Rattle.br_model.specs.Plane.Steps.{world_step}
 use Rattle.br_model.specs.Plane.World.{World, chip_at, sent, table_of_chip}
 use Rattle.br_model.specs.Forward.Shares.{chip_out}
 use Rattle.chip_pipeline.specs.Passed.{IsPass}
-use Rattle.plane_core.specs.declared.frames.Arrival.{Arrival}
-use Rattle.plane_core.specs.Arrivals.{settled, arrival_lines}
+use Rattle.plane_parts.specs.declared.frames.Arrival.{Arrival}
+use Rattle.plane_parts.specs.Arrivals.{settled, arrival_lines}
 use Rattle.plane_core.specs.Planes.{PlaneState, Steps, arrival_by}
-use Rattle.plane_core.specs.Queued.{Queued}
-use Rattle.plane_core.specs.Sent.{lines_of}
+use Rattle.plane_parts.specs.Queued.{Queued}
+use Rattle.plane_parts.specs.Sent.{lines_of}
 use Rattle.plane_core.specs.Sides.{SidesState, world_of}
-use Rattle.plane_core.proofs.Adding.{behind}
+use Rattle.plane_parts.proofs.Adding.{behind}
 use Rattle.plane_core.proofs.Changing.{some_is}
 use Rattle.plane_core.proofs.Entering.{enters_by_chip}
 use Rattle.plane_core.proofs.Stepping.{stepped}

@@ -2,7 +2,7 @@ use Rattle.std.proofs.Common.{◌≡◌, ◌+◌, None, sym, ap, subst, ◌∙�
 use Rattle.br_model.specs.Plane.Entering.{chip_of}
 use Rattle.br_model.specs.Table.Domains.{domain_of}
 use Rattle.br_model.specs.declared.steps.Step.TheVariants.{Rx}
-use Rattle.plane_core.specs.Arrivals.{settled}
+use Rattle.plane_parts.specs.Arrivals.{settled}
 use Rattle.plane_core.specs.Planes.{PlaneState}
 use Rattle.plane_core.proofs.Entering.{enters_software}
 use Rattle.plane_core.proofs.Stepping.{stepped}

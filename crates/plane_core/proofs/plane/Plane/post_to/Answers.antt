@@ -12,18 +12,18 @@ use Rattle.plane_core.proofs.plane.Plane.post_to.Goals as goal
 pub returns-in_default-find : goal.returns-in_default-find
 returns-in_default-find c = c.post_none.ensures c.args.s
 
-pub returns-then-not-is_shown_by : goal.returns-then-not-is_shown_by
-returns-then-not-is_shown_by c =
+pub returns-then-not-is_of : goal.returns-then-not-is_of
+returns-then-not-is_of c =
     let x = c.in-Some.holding.now in
     let held = held_there c.args.self.now c.self.inside.sides c.self.inside.frames c.self.inside.steps c.args.h.id x c.self.view_is c.in-Some.ensures in
-    ((record { same = refl; back = refl }, (x, held, λ e. absurd (cc (c.if-not-is_shown_by.ensures.1 e)))), refl)
+    ((record { same = refl; back = refl }, (x, held, λ e. absurd (cc (c.if-not-is_of.ensures.1 e)))), refl)
 
 pub post-requires : goal.post-requires
 post-requires c =
     let x = c.in-Some.holding.now in
     let held = held_there c.args.self.now c.self.inside.sides c.self.inside.frames c.self.inside.steps c.args.h.id x c.self.view_is c.in-Some.ensures in
     decided c.args.self.now c.self.inside.sides c.self.inside.frames c.self.inside.steps x c.frame.result.now c.args.s c.self.view_is c.frame.ensures
-    (c.requires.decision x (record { held = held; same = c.if-not-is_shown_by.ensures.0 refl })
+    (c.requires.decision x (record { held = held; same = c.if-not-is_of.ensures.0 refl })
     (omega (arith, c.if-s-published.false, c.published-published.ensures, ap (λ (o : PlaneState). o.world.published) c.self.view_is)))
 
 module _ (c : goal.After-drop-h) where
@@ -34,7 +34,7 @@ module _ (c : goal.After-drop-h) where
   held = held_there c.args.self.now c.self.inside.sides c.self.inside.frames c.self.inside.steps c.args.h.id x c.self.view_is c.in-Some.ensures
 
   shown : shown_by c.args.h ≡ shown_of x
-  shown = c.if-not-is_shown_by.ensures.0 refl
+  shown = c.if-not-is_of.ensures.0 refl
 
   published : c.args.s.point ≤ c.args.self.now.world.published
   published = omega (arith, c.if-s-published.false, c.published-published.ensures, ap (λ (o : PlaneState). o.world.published) c.self.view_is)

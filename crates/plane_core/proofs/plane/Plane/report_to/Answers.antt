@@ -3,7 +3,7 @@ use Rattle.br_model.specs.declared.steps.Step.TheVariants.{Report}
 use Rattle.br_model.specs.Table.Domains.{has_chip}
 use Rattle.plane_core.specs.Planes.{PlaneState}
 use Rattle.plane_core.specs.Sides.{world_of}
-use Rattle.plane_core.proofs.Adding.{added_as}
+use Rattle.plane_parts.proofs.Adding.{added_as}
 use Rattle.plane_core.proofs.Calling.{chip_there, stands_after, steps_so}
 use Rattle.plane_core.proofs.plane.Plane.report_to.Goals as goal
 

@@ -1,6 +1,6 @@
 use Rattle.std.proofs.Common.{ap}
 use Rattle.transcript_lines.specs.Rows.{Listed}
-use Rattle.plane_core.proofs.Adding.{whole}
+use Rattle.plane_parts.proofs.Adding.{whole}
 use Rattle.plane_core.proofs.plane.Plane.serve.Goals as goal
 
 pub returns-clause-ok : goal.returns-clause-ok

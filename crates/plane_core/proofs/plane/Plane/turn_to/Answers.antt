@@ -11,7 +11,7 @@ use Rattle.br_model.specs.declared.steps.Refusal.TheVariants.{NothingPending}
 use Rattle.br_model.specs.declared.steps.Step.TheVariants.{Turn}
 use Rattle.br_model.specs.declared.transcript.Line.TheVariants.{Done, Refused}
 use Rattle.plane_core.specs.Planes.{PlaneState, next_ticket, ticket_of}
-use Rattle.plane_core.specs.Queued.{Queued}
+use Rattle.plane_parts.specs.Queued.{Queued}
 use Rattle.plane_core.specs.Sides.{SidesState, world_of}
 use Rattle.plane_core.proofs.Calling.{chip_there, stands_after, steps_so, turns_none, turns_one, waits_for}
 use Rattle.plane_core.proofs.Changing.{some_is}

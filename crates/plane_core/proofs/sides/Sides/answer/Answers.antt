@@ -1,4 +1,4 @@
-use Rattle.plane_core.proofs.Adding.{from_none}
+use Rattle.plane_parts.proofs.Adding.{from_none}
 use Rattle.plane_core.proofs.Reacting.{ended_behind}
 use Rattle.std.proofs.Common.{[]}
 use Rattle.plane_core.proofs.sides.Sides.answer.Goals as goal

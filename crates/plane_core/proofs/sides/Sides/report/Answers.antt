@@ -2,7 +2,7 @@ use Rattle.std.proofs.Common.{[], ◌∷◌, ◌++◌, sym, ap, ◌∙◌}
 use Rattle.br_model.specs.declared.steps.Refusal.TheVariants.{NothingReported}
 use Rattle.br_model.specs.declared.transcript.Line.TheVariants.{Refused}
 use Rattle.plane_core.specs.Sides.{SidesState}
-use Rattle.plane_core.proofs.Adding.{added_as, from_none}
+use Rattle.plane_parts.proofs.Adding.{added_as, from_none}
 use Rattle.plane_core.proofs.Changing.{found_at, there_at}
 use Rattle.plane_core.proofs.Reacting.{ended_behind, reports_first, reports_none}
 use Rattle.plane_core.proofs.sides.Sides.report.Goals as goal

@@ -5,7 +5,7 @@ use Rattle.br_model.specs.Plane.ChipSteps.{sweeps}
 use Rattle.br_model.specs.Control.Learning.{Triple}
 use Rattle.br_model.specs.Plane.World.{World, Stepped, answered, reacts, with_chip}
 use Rattle.plane_core.specs.Sides.{SidesState, world_of}
-use Rattle.plane_core.proofs.Adding.{added_as, from_none}
+use Rattle.plane_parts.proofs.Adding.{added_as, from_none}
 use Rattle.plane_core.proofs.Changing.{chip_found, found_at, on_err, there_at}
 use Rattle.plane_core.proofs.Reacting.{ended_behind, not_ended, same_board}
 use Rattle.plane_core.proofs.sides.Sides.sweep.Goals as goal

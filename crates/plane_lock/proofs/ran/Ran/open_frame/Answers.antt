@@ -3,7 +3,7 @@ use Rattle.std.specs.Option.{option_map}
 use Rattle.br_model.specs.declared.steps.Step.{Step}
 use Rattle.br_model.specs.declared.steps.Step.TheVariants.{Hold}
 use Rattle.br_model.specs.declared.transcript.Line.{Line}
-use Rattle.plane_core.specs.Added.{Added}
+use Rattle.plane_parts.specs.Added.{Added}
 use Rattle.plane_core.specs.Planes.{Steps}
 use Rattle.plane_core.specs.Shown.{shown_by}
 use Rattle.plane_lock.specs.Holds.{held_line}

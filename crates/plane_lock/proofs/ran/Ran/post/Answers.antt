@@ -4,7 +4,7 @@ use Rattle.br_model.specs.declared.steps.Step.{Step}
 use Rattle.br_model.specs.declared.steps.Step.TheVariants.{Post}
 use Rattle.br_model.specs.Plane.Serving.{held_with}
 use Rattle.br_model.specs.Plane.World.{Holding}
-use Rattle.plane_core.specs.Added.{Added}
+use Rattle.plane_parts.specs.Added.{Added}
 use Rattle.plane_core.specs.Planes.{PlaneState, Steps, IsCopy, IsDecision}
 use Rattle.plane_lock.specs.Pasts.{after, post_step, state_of}
 use Rattle.plane_lock.proofs.Posting.{post-recorded}

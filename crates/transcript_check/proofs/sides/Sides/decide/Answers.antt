@@ -1,6 +1,6 @@
 use Rattle.std.proofs.Common.{subst}
 use Rattle.br_model.specs.Table.Domains.{Domains}
-use Rattle.plane_parts.specs.Decided.{Decides}
+use Rattle.forward_rules.specs.Decided.{Decides}
 use Rattle.transcript_check.proofs.CutChanges.{are_chips, decides_for, there_at}
 use Rattle.transcript_check.proofs.sides.Sides.decide.Goals as goal
 

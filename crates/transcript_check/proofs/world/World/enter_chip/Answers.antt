@@ -9,7 +9,7 @@ use Rattle.br_model.specs.Forward.Shares.{chip_out}
 use Rattle.br_model.specs.Table.Domains.{Domains, domain_of}
 use Rattle.br_model.specs.Wire.Messages.{message}
 use Rattle.plane_parts.specs.Arrivals.{arrival_lines}
-use Rattle.plane_parts.specs.Decided.{Decides}
+use Rattle.forward_rules.specs.Decided.{Decides}
 use Rattle.plane_parts.specs.Sent.{lines_of}
 use Rattle.plane_parts.proofs.Adding.{behind}
 use Rattle.transcript_check.specs.Sides.{SidesState, table_of}

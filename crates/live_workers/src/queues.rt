@@ -1,16 +1,13 @@
-//! The chips of a bridge, their queues, and what they leave to do.
+//! The chips of a bridge and their queues.
 ghost use Rattle.std.specs.Prelude.{◌≡◌, [], ◌∷◌, ◌++◌, ◌≤◌, map, IfOk, OnOk};
 ghost use Rattle.std.specs.List.{All, filter};
 ghost use Rattle.br_model.specs.Table.Domains.{chip_domains, has_chip, last_chip};
-ghost use Rattle.live_book.specs.Ends.{IsLeft, reporting};
 ghost use Rattle.live_workers.specs.Results.{IsChipOf};
-ghost use Rattle.plane_lock.specs.Pasts.{world_of};
 ghost use Rattle.plane_lock.specs.Posted.{updates_of};
 
 use crate::NoMemory;
 use br_model::domains::Domains;
 use br_model::numbers::Dom;
-use live_book::Remains;
 use lists::Items;
 use plane_lock::{Queue, Queues, Ran, post_updates};
 use std::alloc::Global;
@@ -69,32 +66,4 @@ pub(crate) fn queues_of<R: Wait>(
         queues.push(queue_of(rt, alloc, ran, *dom)?)?;
     }
     Ok(queues)
-}
-
-/// The chips that have reports left.
-fn reporting(alloc: Global, ran: &Ran, chips: &[Dom]) -> Result<Items<Dom>, NoMemory>
-    requires { chips.now ≡ chip_domains ran.now.setup.domains }
-    ensures { IfOk result (λ doms. doms ≡ reporting (world_of ran.now)) }
-{
-    let mut doms = Items::new(alloc);
-    for dom in chips {
-        if ran.plane().first_report(*dom).is_some() {
-            doms.push(*dom)?;
-        }
-    }
-    Ok(doms)
-}
-
-/// What is left to do.
-pub(crate) fn left_of(alloc: Global, ran: &Ran, chips: &[Dom]) -> Result<Remains, NoMemory>
-    requires { chips.now ≡ chip_domains ran.now.setup.domains }
-    ensures { IfOk result (λ left. IsLeft left (world_of ran.now)) }
-{
-    let plane = ran.plane();
-    Ok(Remains {
-        waiting: plane.waiting(),
-        held: plane.held(),
-        pending: plane.pending_of_all(),
-        reporting: reporting(alloc, ran, chips)?,
-    })
 }
