@@ -14,6 +14,8 @@ mod workers;
 
 #[cfg(test)]
 mod tests;
+#[cfg(test)]
+mod worker_tests;
 
 pub use alone::{Taken, run_alone, take_alone};
 pub use br_model::NoMemory;

@@ -21,7 +21,10 @@ fn chip_at(domains: &Domains, number: u8) -> Option<Dom>
     requires { number ≤ last_chip }
     ensures { IsChipOf domains.now number result }
 {
-    Dom::new(number).filter(|dom| domains.has_chip(*dom))
+    match Dom::new(number) {
+        Some(dom) if domains.has_chip(dom) => Some(dom),
+        _ => None,
+    }
 }
 
 pub(crate) fn chips_of(alloc: Global, domains: &Domains) -> Result<Chips, NoMemory>

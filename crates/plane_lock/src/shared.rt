@@ -122,7 +122,7 @@ impl<N: Name> Shared<N> {
         requires { has_chip N.board.domains d ≡ true }
     {
         let mut core = self.core.lock(rt);
-        let waits = core.has_report(d);
+        let waits = core.first_report(d).is_some();
         let done = if waits {
             core.report(rt, alloc, d)
         } else {
