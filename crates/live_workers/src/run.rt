@@ -56,7 +56,7 @@ fn seat_all<N: Name>(
     ensures { IfOk result (λ all. length all.items ≡ workers) }
 {
     let mut all = Vec::new(alloc);
-    for _ in 0..workers {
+    for number in 0..workers {
         let Some(seat) = seats.next() else {
             unreachable!();
         };
