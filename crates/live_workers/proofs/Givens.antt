@@ -106,6 +106,6 @@ taken-given p steps sc live all =
     ap (list_all (λ s. not (is_taken s) || p s)) r.parts
     ∙ (list_all-append (λ s. not (is_taken s) || p s) r.first r.later
     ∙ both (list_all (λ s. not (is_taken s) || p s) r.first) (list_all (λ s. not (is_taken s) || p s) r.later)
-      (kept p r.opening (opening p sc.steps all))
-      (rest p r.later (λ port. ap (list_all p) (r.frames port) ∙ picked p (is_frame_at port) (from_frame sc.steps) behind)
-      (ap (list_all p) r.ordered ∙ picked p is_ordered (from_frame sc.steps) behind)))
+    (kept p r.opening (opening p sc.steps all))
+    (rest p r.later (λ port. ap (list_all p) (r.frames port) ∙ picked p (is_frame_at port) (from_frame sc.steps) behind)
+    (ap (list_all p) r.ordered ∙ picked p is_ordered (from_frame sc.steps) behind)))

@@ -73,12 +73,7 @@ fn sweep<R: Wait>(rt: &R, alloc: Global, ran: &mut Ran, dom: Dom) -> Result<(), 
 }
 
 /// The oldest frame that waits is sent, and what it taught is published.
-fn serve<R: Wait>(
-    rt: &R,
-    alloc: Global,
-    ran: &mut Ran,
-    seat: &mut Seat,
-) -> Result<(), NoMemory>
+fn serve<R: Wait>(rt: &R, alloc: Global, ran: &mut Ran, seat: &mut Seat) -> Result<(), NoMemory>
     requires { seat.old.board ≡ ran.old.board }
     ensures ok { OnOk result (ran.new ≡ acted ran.old Serve) }
     ensures board { seat.new.board ≡ seat.old.board }

@@ -10,12 +10,11 @@ mod queues;
 mod remains;
 mod run;
 mod stop;
-mod workers;
-
 #[cfg(test)]
 mod tests;
 #[cfg(test)]
 mod worker_tests;
+mod workers;
 
 pub use alone::{Taken, run_alone, take_alone};
 pub use br_model::NoMemory;

@@ -6,8 +6,8 @@ ghost use Rattle.plane_lock.specs.Pasts.{world_of};
 
 use crate::NoMemory;
 use br_model::numbers::Dom;
-use live_book::Remains;
 use lists::Items;
+use live_book::Remains;
 use plane_lock::Ran;
 use std::alloc::Global;
 

@@ -152,7 +152,9 @@ fn close<R: Wait>(
     let Some(left) = ended? else {
         return Ok(None);
     };
-    if is_live(alloc, book.steps.as_slice(), &book.lines, given.steps, &left)? {
+    let taken = book.steps.as_slice();
+    let passes = is_live(alloc, taken, &book.lines, given.steps, &left)?;
+    if passes {
         Ok(Some(Taken { book, end }))
     } else {
         Ok(None)
@@ -251,7 +253,15 @@ fn take_by_workers<R: Threads + Wait + Sync, G: Gate + Sync>(
         chips: chips.as_slice(),
         steps,
     };
-    take_named::<Brand, R, G>(rt, alloc, gate, Ran::make(alloc, plane), seats, workers, &given)
+    take_named::<Brand, R, G>(
+        rt,
+        alloc,
+        gate,
+        Ran::make(alloc, plane),
+        seats,
+        workers,
+        &given,
+    )
 }
 
 /// Takes a scenario's steps as a live run of a bridge of its own, by so many workers.

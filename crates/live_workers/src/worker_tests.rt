@@ -137,7 +137,12 @@ fn workers_leave_no_frame(rt: HostRuntime) -> Result<(), Fail> {
         let domains = domains(Dom::SOFTWARE)?;
         let taken = take_steps(&rt, alloc, &Open, workers, domains, Mac::FIRST_OWN, &given)?;
         assert!(rt; counts(taken.book.steps.as_slice()) == [40, 40, 40, 0]);
-        let Line::End { pending, waiting, .. } = taken.end else {
+        let Line::End {
+            pending,
+            waiting,
+            ..
+        } = taken.end
+        else {
             return Err(Fail::new("end"));
         };
         assert!(rt; pending == 0 && waiting == 0);
@@ -154,7 +159,12 @@ fn workers_serve_the_chip(rt: HostRuntime) -> Result<(), Fail> {
     let taken = take_steps(&rt, alloc, &Open, 2, domains, Mac::FIRST_OWN, &given)?;
     let counts = counts(taken.book.steps.as_slice());
     assert!(rt; counts[0] == 6 && counts[1] == counts[2] && counts[1] > 0 && counts[3] == 0);
-    let Line::End { pending, waiting, .. } = taken.end else {
+    let Line::End {
+        pending,
+        waiting,
+        ..
+    } = taken.end
+    else {
         return Err(Fail::new("end"));
     };
     assert!(rt; pending == 0 && waiting == 0);

@@ -110,8 +110,7 @@ impl<'a, N: Name, R: Wait, G: Gate> Work<'a, N, R, G> {
         };
         self.gate.held(held.id);
         let seen = decide(chair, &held).ok_or(Stop::GivenUp)?;
-        self.shared
-            .post_as(self.rt, self.alloc, chair, held, seen)?;
+        self.shared.post_as(self.rt, self.alloc, chair, held, seen)?;
         worker.posted = worker.posted.wrapping_add(1);
         if worker.posted % FRAMES_A_PUBLICATION == 1 {
             self.shared.publish(self.rt, self.alloc)?;
