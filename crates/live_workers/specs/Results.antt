@@ -1,19 +1,17 @@
 -- What a run comes to.
 -- Source: this profile.
-use Rattle.std.specs.Prelude.{◌≡◌, ℕ, ◌==◌, ◌||◌, Bool, true, false, List}
+use Rattle.std.specs.Prelude.{◌≡◌, ◌||◌, Bool, true, List}
 use Rattle.std.specs.List.{list_all}
 use Rattle.br_model.specs.declared.steps.Step.{Step}
 use Rattle.br_model.specs.Plane.Runs.{end_line, run}
 use Rattle.br_model.specs.Program.LiveRun.{is_frame, is_live_run, is_ordered}
 use Rattle.br_model.specs.Program.Runs.{setup_of}
-use Rattle.br_model.specs.Table.Domains.{Domains, chip_domains, has_chip}
+use Rattle.br_model.specs.Table.Domains.{chip_domains}
 use Rattle.br_model.specs.Table.Setup.{Setup}
 use Rattle.br_model.specs.Text.LineForms.{comes_by_line}
 use Rattle.br_model.specs.Text.Scenario.{Scenario}
 use Rattle.plane_lock.specs.Pasts.{Past}
 use Rattle.live_workers.specs.declared.alone.Taken.{Taken}
-use Rattle.std.specs.declared.option.Option.{Option}
-use Rattle.std.specs.declared.option.Option.TheVariants.{None, Some}
 
 -- a step that is taken from the scenario
 abbrev pub is_taken : Step → Bool
@@ -31,8 +29,3 @@ pub record IsTaken (setup : Setup) (given : List Step) (taken : Taken) : Type 0 
   pub lines : taken.book.lines.lines ≡ (run setup taken.book.steps).1
   pub end : taken.end ≡ end_line (run setup taken.book.steps).0
   pub by_line : list_all (comes_by_line true (chip_domains setup.domains)) taken.book.steps ≡ true
-
--- of these domains the one with this number, if it has a chip
-abbrev pub IsChipOf : Domains → ℕ → Option ℕ → Type 0
-IsChipOf domains number None = has_chip domains number ≡ false
-IsChipOf domains number (Some dom) = (dom ≡ number) × (has_chip domains number ≡ true)

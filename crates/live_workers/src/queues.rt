@@ -2,7 +2,6 @@
 ghost use Rattle.std.specs.Prelude.{◌≡◌, [], ◌∷◌, ◌++◌, ◌≤◌, map, IfOk, OnOk};
 ghost use Rattle.std.specs.List.{All, filter};
 ghost use Rattle.br_model.specs.Table.Domains.{chip_domains, has_chip, last_chip};
-ghost use Rattle.live_workers.specs.Results.{IsChipOf};
 ghost use Rattle.plane_lock.specs.Posted.{updates_of};
 
 use crate::NoMemory;
@@ -16,14 +15,14 @@ use std::sync::Wait;
 /// The domains that have a chip, ascending.
 pub(crate) type Chips = Items<Dom>;
 
-/// The domain of this number, if it has a chip.
-fn chip_at(domains: &Domains, number: u8) -> Option<Dom>
+/// Adds the domain of this number, if it has a chip.
+fn add(chips: &mut Chips, number: u8, domains: &Domains) -> Result<(), NoMemory>
     requires { number ≤ last_chip }
-    ensures { IsChipOf domains.now number result }
+    ensures { OnOk result (chips.new ≡ chips.old ++ filter (λ d. has_chip domains.now d) (number ∷ [])) }
 {
     match Dom::new(number) {
-        Some(dom) if domains.has_chip(dom) => Some(dom),
-        _ => None,
+        Some(dom) if domains.has_chip(dom) => chips.push(dom),
+        _ => Ok(()),
     }
 }
 
@@ -32,9 +31,7 @@ pub(crate) fn chips_of(alloc: Global, domains: &Domains) -> Result<Chips, NoMemo
 {
     let mut chips = Items::new(alloc);
     for number in 1..Dom::LAST + 1 {
-        if let Some(dom) = chip_at(domains, number) {
-            chips.push(dom)?;
-        }
+        add(&mut chips, number, domains)?;
     }
     Ok(chips)
 }
