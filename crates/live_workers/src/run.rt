@@ -20,7 +20,7 @@ use crate::opening::open;
 use crate::queues::{chips_of, queues_of};
 use crate::remains::left_of;
 use crate::stop::Stop;
-use crate::workers::{Worker, work};
+use crate::workers::{Worker, drive_all};
 use br_model::domains::Domains;
 use br_model::numbers::{Dom, Mac};
 use br_model::steps::Step;
@@ -191,7 +191,7 @@ where
     } = made;
     let shared = Shared::<N>::make(rt, alloc, ran, queues)?;
     let later = &given.steps[opening..];
-    let stop = work(rt, alloc, gate, &shared, &workers, given.chips, later);
+    let stop = drive_all(rt, alloc, gate, &shared, &workers, given.chips, later);
     close(rt, alloc, shared.close(), seat, stop, given)
 }
 

@@ -1,5 +1,5 @@
 //! The workers. They share the locks of the plane, and take what comes next of the scenario.
-ghost use Rattle.std.specs.Prelude.{◌≡◌, ◌<◌, ◌≤◌, true};
+ghost use Rattle.std.specs.Prelude.{◌≡◌, ◌<◌, ◌≤◌, length, true};
 ghost use Rattle.std.specs.List.{list_all};
 ghost use Rattle.br_model.specs.Table.Domains.{chip_domains};
 ghost use Rattle.br_model.specs.Text.LineForms.{comes_by_line};
@@ -160,7 +160,7 @@ impl<'a, N: Name, R: Wait, G: Gate> Task for Work<'a, N, R, G> {
 }
 
 /// Runs the workers, one for each of these. The answer is why they stopped before all was done, where they did.
-pub(crate) fn work<N: Name + Send + Sync, R: Threads + Wait + Sync, G: Gate + Sync>(
+pub(crate) fn drive_all<N: Name + Send + Sync, R: Threads + Wait + Sync, G: Gate + Sync>(
     rt: &R,
     alloc: Global,
     gate: &G,
