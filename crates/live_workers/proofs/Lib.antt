@@ -8,3 +8,4 @@ pub mod Chips
 pub mod Telling
 pub mod Drains
 pub mod Loops
+pub mod Givens

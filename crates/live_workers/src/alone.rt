@@ -178,7 +178,7 @@ pub fn take_alone<R: Wait>(
 }
 
 /// The last line of a run that ends here.
-fn end_line(ran: &Ran) -> Line
+pub(crate) fn end_line(ran: &Ran) -> Line
     ensures { result ≡ end_line (world_of ran.now) }
 {
     let plane = ran.plane();
@@ -205,6 +205,7 @@ pub fn run_alone<R: Wait>(
         → is_live_run t.book.steps sc ≡ true) }
     ensures lines { IfOk result (λ t. t.book.lines.lines ≡ (run (record { domains = domains; own = own }) t.book.steps).1) }
     ensures end { IfOk result (λ t. t.end ≡ end_line (run (record { domains = domains; own = own }) t.book.steps).0) }
+    ensures by_line { IfOk result (λ t. list_all (comes_by_line true (chip_domains domains)) t.book.steps ≡ true) }
 {
     let (board, mut seats) = Board::make(rt, alloc, &domains, 1)?;
     let Some(mut seat) = seats.next() else {
