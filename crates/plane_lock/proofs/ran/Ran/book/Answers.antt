@@ -7,6 +7,6 @@ use Rattle.plane_lock.specs.Pasts.{Past}
 use Rattle.plane_lock.proofs.ran.Ran.book.Goals as goal
 
 pub returns-clause-by_line : goal.returns-clause-by_line
-returns-clause-by_line c =
+returns-clause-by_line g c =
     ap (λ (steps : List Step). list_all (comes_by_line true (chip_domains c.args.self.setup.domains)) steps) c.of.ensures
     ∙ (ap (λ (p : Past). list_all (comes_by_line true (chip_domains p.setup.domains)) c.self.inside.steps.items) (sym c.self.view_is) ∙ c.self.invariant.1)
