@@ -8,4 +8,6 @@ pub mod Chips
 pub mod Telling
 pub mod Drains
 pub mod Loops
+pub mod Does
+pub mod Standing
 pub mod Givens

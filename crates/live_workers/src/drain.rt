@@ -1,14 +1,15 @@
 //! What is left to do at the end of a run is done.
-ghost use Rattle.std.specs.Prelude.{◌≡◌, ◌≢◌, ℕ, [], IsTrue, true, OnOk, Some};
+ghost use Rattle.std.specs.Prelude.{◌≡◌, ◌≢◌, ℕ, [], true, false, OnOk, Some};
 ghost use Rattle.br_model.specs.declared.steps.Step.TheVariants.{Turn};
 ghost use Rattle.br_model.specs.Table.Domains.{has_chip};
 ghost use Rattle.plane_lock.specs.Pasts.{after, world_of};
-ghost use Rattle.live_workers.specs.Draining.{Drained, Drains, HasTold, HasTurned, Keeps, reports_of};
+ghost use Rattle.live_workers.specs.Draining.{Drained, Drains, HasTold, HasTurned, Keeps};
 ghost use Rattle.live_workers.specs.Worlds.{IsIdle};
 
 use crate::NoMemory;
 use br_model::domains::Domains;
 use br_model::numbers::Dom;
+use learn_report::Report;
 use plane_core::TurnFault;
 use plane_lock::Ran;
 use std::alloc::{AllocError, Global};
@@ -43,6 +44,17 @@ fn serve_all(alloc: Global, ran: &mut Ran, seat: &mut Seat) -> Result<(), NoMemo
     Ok(())
 }
 
+/// Whether the oldest report is this one.
+fn is_same(oldest: &Option<Report>, report: &Report) -> bool
+    ensures same { result ≡ true → oldest.now ≡ Some report.now }
+    ensures another { result ≡ false → oldest.now ≢ Some report.now }
+{
+    match oldest {
+        Some(oldest) => oldest.0 == report.0 && oldest.1 == report.1 && oldest.2 == report.2,
+        None => false,
+    }
+}
+
 /// Takes the reports of the domain's chip, until it has none or its report is refused for a full history. A report that is refused
 /// stays the oldest one, and no report is there twice.
 fn report_all(alloc: Global, ran: &mut Ran, dom: Dom) -> Result<(), NoMemory>
@@ -54,7 +66,8 @@ fn report_all(alloc: Global, ran: &mut Ran, dom: Dom) -> Result<(), NoMemory>
 {
     while let Some(report) = ran.plane().first_report(dom) {
         ran.report(alloc, dom)?;
-        if ran.plane().first_report(dom) == Some(report) {
+        let next = ran.plane().first_report(dom);
+        if is_same(&next, &report) {
             return Ok(());
         }
     }

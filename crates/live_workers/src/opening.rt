@@ -1,9 +1,9 @@
 //! The steps before a scenario's first frame, done as they are given.
-ghost use Rattle.std.specs.Prelude.{◌≡◌, ◌≤◌, [], length, drop, true, None, IfOk, OnOk};
+ghost use Rattle.std.specs.Prelude.{◌≡◌, ◌≤◌, [], length, drop, true, false, None, IfOk, OnOk};
 ghost use Rattle.std.specs.List.{list_all};
 ghost use Rattle.br_model.specs.declared.steps.Step.TheVariants.{Post};
 ghost use Rattle.br_model.specs.Plane.Serving.{held_with};
-ghost use Rattle.br_model.specs.Program.LiveRun.{from_frame, until_frame};
+ghost use Rattle.br_model.specs.Program.LiveRun.{from_frame, is_frame, until_frame};
 ghost use Rattle.br_model.specs.Table.Domains.{chip_domains};
 ghost use Rattle.br_model.specs.Text.LineForms.{comes_by_line};
 ghost use Rattle.plane_lock.specs.Pasts.{after, world_of};
@@ -82,6 +82,12 @@ pub(crate) fn do_step<R: Wait>(
     }
 }
 
+fn is_frame(step: &Step) -> bool
+    ensures { result ≡ is_frame step.now }
+{
+    matches!(step, Step::Rx { .. })
+}
+
 /// Does the steps before the first frame. The answer is how many they are: there the others begin.
 pub(crate) fn open<R: Wait>(
     rt: &R,
@@ -99,10 +105,11 @@ pub(crate) fn open<R: Wait>(
     ensures board { seat.new.board ≡ seat.old.board }
 {
     for place in 0..steps.len() {
-        if matches!(&steps[place], Step::Rx { .. }) {
+        let step = &steps[place];
+        if is_frame(step) {
             return Ok(place);
         }
-        do_step(rt, alloc, ran, seat, &steps[place])?;
+        do_step(rt, alloc, ran, seat, step)?;
     }
     Ok(steps.len())
 }

@@ -1,5 +1,5 @@
 //! A run by workers, and the run on one thread that stands in its place where its book isn't a live run.
-ghost use Rattle.std.specs.Prelude.{◌≡◌, ◌<◌, ◌≤◌, ◌+◌, ◌||◌, Bool, [], true, not, length, map, IfOk, IfSome};
+ghost use Rattle.std.specs.Prelude.{◌≡◌, ◌<◌, ◌≤◌, ◌+◌, ◌||◌, Bool, [], true, false, not, length, map, IfOk, IfSome};
 ghost use Rattle.std.specs.List.{All, list_all};
 ghost use Rattle.br_model.specs.declared.steps.Step.{Step as StepValue};
 ghost use Rattle.br_model.specs.Plane.Runs.{end_line, run};
