@@ -1,6 +1,7 @@
 -- What calls say of the plane of a past, of the past itself.
 use Rattle.std.proofs.Common.{◌≡◌, ◌≢◌, ℕ, ◌+◌, ◌<◌, Bool, true, false, List, [], length, Option, Some, refl, sym, ◌∙◌, ap, subst, option_map}
-use Rattle.std.proofs.Common.{◌∷◌, drop, get_or, slice_get}
+use Rattle.std.proofs.Common.{◌∷◌, ◌-◌, ◌≤◌, arith, drop, get_or, length-drop, slice_get, take}
+use Rattle.std.proofs.Math.ListN.{take_of_length-le}
 use Rattle.std.proofs.lemmas.List.{drop_more}
 use Rattle.std.specs.Cmp.{first_so, second_so}
 use Rattle.std.specs.List.{list_all}
@@ -78,3 +79,14 @@ module _ {X : Type 0} (f : X → Bool) (xs : List X) (i : ℕ) (x : X) (there : 
 -- before the first step
 pub idle_first : (p : Past) → p.steps ≡ [] → IsIdle (world_of p)
 idle_first p none = subst IsIdle (sym (ap (λ (l : List Step). (run p.setup l).0) none ∙ ap (λ (x : Stepped). x.0) (run_none p.setup))) (record { waiting = refl; held = refl })
+
+-- the slice behind a place
+pub behind_place : {X : Type 0} (n : ℕ) (xs : List X) → take (length xs - n) (drop n xs) ≡ drop n xs
+behind_place n xs = take_of_length-le (drop n xs) (let e = length-drop n xs in omega (arith, e))
+
+-- all domains were gone through
+pub reports_five : (start now : Past) (n : ℕ) → 5 ≤ n → ReportsBelow start now n → ReportsBelow start now 5
+reports_five start now n far r = record { drains = r.drains; keeps = r.keeps; told = λ d less. r.told d (omega (arith, less, far)) }
+
+pub turns_five : (start now : Past) (n : ℕ) → 5 ≤ n → TurnsBelow start now n → TurnsBelow start now 5
+turns_five start now n far r = record { drains = r.drains; keeps = r.keeps; told = r.told; turned = λ d less. r.turned d (omega (arith, less, far)) }

@@ -11,7 +11,7 @@ use Rattle.br_model.proofs.Running.{run_none}
 use Rattle.plane_lock.specs.Pasts.{Past, world_of}
 use Rattle.live_workers.proofs.Lives.{live_alone}
 use Rattle.live_workers.proofs.Runs.{all_later}
-use Rattle.live_workers.proofs.Standing.{idle_first}
+use Rattle.live_workers.proofs.Standing.{behind_place, idle_first}
 use Rattle.live_workers.proofs.alone.take_alone.Given as given
 use Rattle.live_workers.proofs.alone.take_alone.Goals as goal
 
@@ -27,9 +27,10 @@ take_steps-requires-clause-seat g c = c.in_ok-later.ensures.board ∙ (c.require
 
 pub take_steps-requires-clause-by_line : goal.take_steps-requires-clause-by_line
 take_steps-requires-clause-by_line g c =
-    ap (λ (p : Past). list_all (comes_by_line false (chip_domains p.setup.domains)) (drop c.in_ok-later.later c.args.steps.now)) c.in_ok-later.ensures.opened
+    subst (λ (l : List Step). list_all (comes_by_line false (chip_domains c.open.new.ran.setup.domains)) l ≡ true) (sym (behind_place c.in_ok-later.later c.args.steps.now))
+    (ap (λ (p : Past). list_all (comes_by_line false (chip_domains p.setup.domains)) (drop c.in_ok-later.later c.args.steps.now)) c.in_ok-later.ensures.opened
     ∙ (ap (λ (d : Domains). list_all (comes_by_line false (chip_domains d)) (drop c.in_ok-later.later c.args.steps.now)) c.requires.domains
-    ∙ all_later (comes_by_line false (chip_domains c.args.domains.now)) c.in_ok-later.later c.args.steps.now c.requires.by_line)
+    ∙ all_later (comes_by_line false (chip_domains c.args.domains.now)) c.in_ok-later.later c.args.steps.now c.requires.by_line))
 
 pub drain-requires-clause-seat : goal.drain-requires-clause-seat
 drain-requires-clause-seat g c =
@@ -46,8 +47,8 @@ drain-requires-clause-held g c = c.in_ok-take_steps.ensures.ok.held ∙ c.in_ok-
 pub returns-clause-live : goal.returns-clause-live
 returns-clause-live g c =
     on_ok_weaker c.drain.result
-    (λ d. live_alone c.args.ran.now c.open.new.ran c.take_steps.new.ran c.drain.new.ran c.args.steps.now (drop c.in_ok-later.later c.args.steps.now) c.requires.none c.in_ok-later.ensures.opened
-    c.in_ok-later.ensures.later.1 c.in_ok-take_steps.ensures.ok d)
+    (λ d. live_alone c.args.ran.now c.open.new.ran c.take_steps.new.ran c.drain.new.ran c.args.steps.now _ c.requires.none c.in_ok-later.ensures.opened
+    (behind_place c.in_ok-later.later c.args.steps.now ∙ c.in_ok-later.ensures.later.1) c.in_ok-take_steps.ensures.ok d)
     c.drain.ensures.ok
 
 pub returns-clause-setup : goal.returns-clause-setup
