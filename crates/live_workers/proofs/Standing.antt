@@ -1,8 +1,7 @@
 -- What calls say of the plane of a past, of the past itself.
 use Rattle.std.proofs.Common.{◌≡◌, ◌≢◌, ℕ, ◌+◌, ◌<◌, Bool, true, false, List, [], length, Option, Some, refl, sym, ◌∙◌, ap, subst, option_map}
 use Rattle.std.proofs.Common.{◌∷◌, ◌-◌, ◌≤◌, arith, drop, get_or, length-drop, slice_get, take}
-use Rattle.std.proofs.Math.ListN.{take_of_length-le}
-use Rattle.std.proofs.lemmas.List.{drop_more}
+use Rattle.std.proofs.lemmas.List.{drop_more, take_all}
 use Rattle.std.specs.Cmp.{first_so, second_so}
 use Rattle.std.specs.List.{list_all}
 use Rattle.br_model.specs.Control.Learning.{Triple}
@@ -82,7 +81,7 @@ idle_first p none = subst IsIdle (sym (ap (λ (l : List Step). (run p.setup l).0
 
 -- the slice behind a place
 pub behind_place : {X : Type 0} (n : ℕ) (xs : List X) → take (length xs - n) (drop n xs) ≡ drop n xs
-behind_place n xs = take_of_length-le (drop n xs) (let e = length-drop n xs in omega (arith, e))
+behind_place n xs = take_all (length xs - n) (drop n xs) (let e = length-drop n xs in omega (arith, e))
 
 -- all domains were gone through
 pub reports_five : (start now : Past) (n : ℕ) → 5 ≤ n → ReportsBelow start now n → ReportsBelow start now 5
