@@ -10,4 +10,3 @@ pub mod Drains
 pub mod Loops
 pub mod Does
 pub mod Standing
-pub mod Givens
