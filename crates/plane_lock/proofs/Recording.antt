@@ -1,22 +1,28 @@
 -- One step more of a run.
-use Rattle.std.proofs.Common.{◌≡◌, ℕ, ◌+◌, true, List, [], ◌∷◌, ◌++◌, sym, ap, ◌∙◌, subst}
+use Rattle.std.proofs.Common.{◌≡◌, ℕ, ◌+◌, ◌<◌, Bool, ◌&&◌, true, List, [], ◌∷◌, ◌++◌, refl, sym, ap, ap₂, ◌∙◌, subst, arith}
+use Rattle.std.proofs.lemmas.List.Folds.{list_all-append}
+use Rattle.std.specs.List.{list_all}
+use Rattle.std.specs.Prelude.{nat_le}
 use Rattle.br_model.specs.declared.steps.Event.{Event}
 use Rattle.br_model.specs.declared.steps.Event.TheVariants as events
 use Rattle.br_model.specs.declared.steps.Step.{Step}
-use Rattle.br_model.specs.declared.steps.Step.TheVariants.{Hold}
+use Rattle.br_model.specs.declared.steps.Step.TheVariants.{Hold, Post}
 use Rattle.br_model.specs.declared.transcript.Line.{Line}
 use Rattle.br_model.specs.Plane.Runs.{run, then_step}
 use Rattle.br_model.specs.Plane.Serving.{holds}
 use Rattle.br_model.specs.Plane.Steps.{world_step}
 use Rattle.br_model.specs.Plane.World.{World, Waiting, Stepped, first_world}
-use Rattle.br_model.specs.Table.Domains.{Domains, has_chip}
+use Rattle.br_model.specs.Table.Domains.{Domains, chip_domains, has_chip}
 use Rattle.br_model.specs.Table.Setup.{Setup}
+use Rattle.br_model.specs.Text.LineForms.{comes_by_line}
+use Rattle.br_model.specs.Text.Operands.{last_moment}
 use Rattle.br_model.specs.Theorems.Invariants.{IsWorld}
 use Rattle.br_model.proofs.PlaneApplied.{run-world, run-setup, step-setup}
 use Rattle.br_model.proofs.Running.{run_push, run_none}
 use Rattle.std.specs.declared.option.Option.{Option}
+use Rattle.std.specs.declared.option.Option.TheVariants.{None, Some}
 use Rattle.plane_parts.specs.Added.{Added}
-use Rattle.plane_core.specs.Planes.{PlaneState, Steps, Accepts}
+use Rattle.plane_core.specs.Planes.{PlaneState, Steps, Accepts, IsNamed}
 use Rattle.plane_core.specs.Shown.{Shown, opened}
 use Rattle.plane_lock.specs.Holds.{held_line}
 use Rattle.plane_lock.specs.Pasts.{Past, world_of, state_of, after, event_step}
@@ -25,39 +31,72 @@ use Rattle.plane_lock.specs.Pasts.{Past, world_of, state_of, after, event_step}
 abbrev pub past : PlaneState → List Step → Past
 past p steps = record { board = p.board; setup = p.world.setup; steps = steps }
 
--- The steps led to the plane's world, and wrote these lines.
+-- a line can give each of the steps, for `check`
+abbrev pub ComeByLine : Setup → List Step → Type 0
+ComeByLine setup steps = list_all (comes_by_line true (chip_domains setup.domains)) steps ≡ true
+
+-- The steps led to the plane's world, and wrote these lines; and lines can give them.
 abbrev pub IsRan : PlaneState → List Step → List Line → Type 0
-IsRan p steps lines = run p.world.setup steps ≡ (p.world, lines)
+IsRan p steps lines = (run p.world.setup steps ≡ (p.world, lines)) × ComeByLine p.world.setup steps
 
 pub ran-world : (p : PlaneState) (ss : List Step) (ls : List Line) → IsRan p ss ls → IsWorld p.world
-ran-world p ss ls h = subst IsWorld (ap (λ (x : Stepped). x.0) h) (run-world p.world.setup ss)
+ran-world p ss ls h = subst IsWorld (ap (λ (x : Stepped). x.0) h.0) (run-world p.world.setup ss)
 
 -- the plane of the past
 pub stands : (p : PlaneState) (ss : List Step) (ls : List Line) → IsRan p ss ls → state_of (past p ss) ≡ p
-stands p ss ls h = ap (λ (x : Stepped). record { world = x.0; board = p.board }) h
+stands p ss ls h = ap (λ (x : Stepped). record { world = x.0; board = p.board }) h.0
 
 -- the same of what contracts saw before
 pub stood : (p : PlaneState) (ss : List Step) (ls : List Line) (old : Past) → IsRan p ss ls → past p ss ≡ old → p ≡ state_of old
 stood p ss ls old h is = sym (stands p ss ls h) ∙ ap state_of is
 
+-- one more of what passes
+all-push : {A : Type 0} (f : A → Bool) (xs : List A) (x : A) → list_all f xs ≡ true → f x ≡ true → list_all f (xs ++ x ∷ []) ≡ true
+all-push f xs x all is = list_all-append f xs (x ∷ []) ∙ ap₂ (λ (a b : Bool). a && (b && true)) all is
+
+-- a line of `check` gives each post
+pub post-comes : (chips : List ℕ) (id : ℕ) (point : Option ℕ) → comes_by_line true chips (Post id point) ≡ true
+post-comes chips id None = refl
+post-comes chips id (Some point) = refl
+
+below : (a b : ℕ) → a < b + 1 → nat_le a b ≡ true
+below a b l = grind arith
+
+-- and each event that a scenario names
+pub event-comes : (chips : List ℕ) (e : Event) → IsNamed e → comes_by_line true chips (event_step e) ≡ true
+event-comes chips (events.Cmd c) named = refl
+event-comes chips (events.Moment now) named = below now last_moment named
+event-comes chips (events.Sight port bytes head) named = absurd named
+event-comes chips (events.Told vid mac port) named = absurd named
+event-comes chips (events.Forget stations) named = absurd named
+
 module _ (p q : PlaneState) (ss ss' : List Step) (s : Step) (ls ls' : List Line) (h : IsRan p ss ls) (a : Added (Steps p q s) ls ls') (is : ss' ≡ ss ++ s ∷ []) where
   same : q.world.setup ≡ p.world.setup
   same = ap (λ (x : Stepped). x.0.setup) (sym a.so.world) ∙ step-setup p.world s
 
-  pub ran-more : IsRan q ss' ls'
-  ran-more =
+  ran-on : run q.world.setup ss' ≡ (q.world, ls')
+  ran-on =
       ap (λ (st : Setup). run st ss') same
       ∙ (ap (run p.world.setup) is
       ∙ (run_push p.world.setup ss s
-      ∙ (ap (λ (x : Stepped). then_step x s) h
+      ∙ (ap (λ (x : Stepped). then_step x s) h.0
       ∙ (ap (λ (y : Stepped). (y.0, ls ++ y.1)) a.so.world
       ∙ ap (λ (l : List Line). (q.world, l)) (sym a.added)))))
+
+  come-on : comes_by_line true (chip_domains p.world.setup.domains) s ≡ true → ComeByLine q.world.setup ss'
+  come-on by =
+      ap (λ (st : Setup). list_all (comes_by_line true (chip_domains st.domains)) ss') same
+      ∙ (ap (list_all (comes_by_line true (chip_domains p.world.setup.domains))) is
+      ∙ all-push (comes_by_line true (chip_domains p.world.setup.domains)) ss s h.1 by)
+
+  pub ran-more : comes_by_line true (chip_domains p.world.setup.domains) s ≡ true → IsRan q ss' ls'
+  ran-more by = (ran-on, come-on by)
 
   pub past-more : (old : Past) → past p ss ≡ old → past q ss' ≡ after old s
   past-more old was = (λ i. record { board = a.so.board i; setup = same i; steps = is i }) ∙ ap (λ (x : Past). after x s) was
 
 pub ran-first : (p : PlaneState) → p.world ≡ first_world p.world.setup → IsRan p [] []
-ran-first p e = run_none p.world.setup ∙ ap (λ (w : World). (w, [])) (sym e)
+ran-first p e = (run_none p.world.setup ∙ ap (λ (w : World). (w, [])) (sym e), refl)
 
 -- an event that was accepted is a step
 pub accepted : (e : Event) (p q : PlaneState) (ls ls' : List Line) → Added (Accepts p q e) ls ls' → Added (Steps p q (event_step e)) ls ls'

@@ -1,5 +1,6 @@
 //! What the plane lock keeps, and the calls that are made under it.
 ghost use Rattle.std.specs.Prelude.{◌≡◌, ◌≢◌, ◌≤◌, length, true, List, IfOk, IfErr, IfSome, OnErr, OnOk, Some};
+ghost use Rattle.std.specs.List.{slice_get};
 ghost use Rattle.std.specs.Option.{option_map};
 ghost use mathlib.Core.List.{IsPrefix};
 ghost use Rattle.br_model.specs.declared.change.Change.{Change as ChangeValue};
@@ -28,6 +29,7 @@ use br_model::numbers::{Dom, Port};
 use br_model::steps::Event;
 use chip_pipeline::Pass;
 use deferred_queue::Poster;
+use learn_report::Report;
 use plane_core::{Held, Plane, PostFault, TurnFault};
 use std::alloc::{AllocError, Global};
 use std::marker::{Model, PhantomData};
@@ -209,6 +211,14 @@ impl<N: Name> Locked<N> {
         ensures { option_map (λ c. c.count) (chip_at (world_of self.now) d) ≡ Some result }
     {
         self.ran.plane().applied(d)
+    }
+
+    /// The oldest report of the domain's chip, which stays.
+    pub fn first_report(&self, d: Dom) -> Option<Report>
+        requires { has_chip N.board.domains d ≡ true }
+        ensures { option_map (λ c. slice_get c.reports 0) (chip_at (world_of self.now) d) ≡ Some result }
+    {
+        self.ran.plane().first_report(d)
     }
 
     /// The chair is told what is published, and the oldest frame that waits is held, with that as its floor: the chair's next point

@@ -1,10 +1,12 @@
 //! A plane with the book that led to it.
 ghost use Rattle.std.specs.Prelude.{◌≡◌, ◌≤◌, [], IfOk, IfErr, IfSome, OnErr, OnOk, Some, true};
+ghost use Rattle.std.specs.List.{list_all};
 ghost use Rattle.std.specs.Option.{option_map};
 ghost use Rattle.br_model.specs.declared.steps.Step.TheVariants as steps;
 ghost use Rattle.br_model.specs.Plane.Serving.{held_with};
 ghost use Rattle.br_model.specs.Plane.World.{Holding as HoldingOf, chip_at, first_world};
-ghost use Rattle.br_model.specs.Table.Domains.{has_chip};
+ghost use Rattle.br_model.specs.Table.Domains.{chip_domains, has_chip};
+ghost use Rattle.br_model.specs.Text.LineForms.{comes_by_line};
 ghost use Rattle.br_model.specs.Wire.Frames.{frame as frame_of};
 ghost use Rattle.plane_core.specs.Planes.{IsCopy, IsDecidedBy, IsDecision, IsNamed, NotPosted, NotTurned, next_ticket, published_in, ticket_of};
 ghost use Rattle.plane_core.specs.Seats.{IsTold};
@@ -39,7 +41,7 @@ pub struct Book {
 }
 
 /// A plane with the steps that led to it, and their lines: the lines of a step stand behind those of the steps before. Contracts see
-/// its board, its setup and its steps. It isn't `Drop`, since the plane isn't: end it by `book`.
+/// its board, its setup and its steps, each of which a line for `check` can give. It isn't `Drop`, since the plane isn't: end it by `book`.
 ///
 /// Each call that takes a step records it, and takes the room for that before the plane's first change: where it answers a fault, all
 /// is as before.
@@ -50,15 +52,19 @@ pub struct Ran {
 }
 
 impl Model for Ran {
-    ghost use Rattle.std.specs.Prelude.{◌≡◌};
+    ghost use Rattle.std.specs.Prelude.{◌≡◌, true};
+    ghost use Rattle.std.specs.List.{list_all};
     ghost use Rattle.br_model.specs.Plane.Runs.{run};
+    ghost use Rattle.br_model.specs.Table.Domains.{chip_domains};
+    ghost use Rattle.br_model.specs.Text.LineForms.{comes_by_line};
     ghost use Rattle.plane_lock.specs.Pasts.{Past};
 
     ghost Value = { Past };
 
     ghost view = { λ r. record { board = r.plane.board; setup = r.plane.world.setup; steps = r.steps.items } };
 
-    ghost invariant = { λ r. run r.plane.world.setup r.steps.items ≡ (r.plane.world, r.lines.lines) };
+    ghost invariant = { λ r. (run r.plane.world.setup r.steps.items ≡ (r.plane.world, r.lines.lines))
+        × (list_all (comes_by_line true (chip_domains r.plane.world.setup.domains)) r.steps.items ≡ true) };
 }
 
 /// The step that an event is.
@@ -261,6 +267,7 @@ impl Ran {
     pub fn book<R: Wait>(self, rt: &R) -> Book
         ensures steps { result.steps ≡ self.steps }
         ensures lines { result.lines.lines ≡ lines_of self }
+        ensures by_line { list_all (comes_by_line true (chip_domains self.setup.domains)) result.steps ≡ true }
     {
         let Ran {
             plane,

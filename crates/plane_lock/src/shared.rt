@@ -117,6 +117,22 @@ impl<N: Name> Shared<N> {
         done
     }
 
+    /// The same where a report waits: `false`, and no step, where none does.
+    pub fn report_next<R: Wait>(&self, rt: &R, alloc: Global, d: Dom) -> Result<bool, ActFault>
+        requires { has_chip N.board.domains d ≡ true }
+    {
+        let mut core = self.core.lock(rt);
+        let waits = core.first_report(d).is_some();
+        let done = if waits {
+            core.report(rt, alloc, d)
+        } else {
+            Ok(())
+        };
+        MutexGuard::unlock(core);
+        done?;
+        Ok(waits)
+    }
+
     /// The bridge forgets the stations that the chip of the domain no longer sees.
     pub fn sweep<R: Wait>(&self, rt: &R, alloc: Global, d: Dom) -> Result<(), ActFault>
         requires { has_chip N.board.domains d ≡ true }

@@ -220,7 +220,8 @@ fn use_each_call<N: Name, R: Wait + Abort>(
         Ok(()) => {}
         Err(_) => return Err(Fail::new("not posted")),
     }
-    shared.report(rt, alloc, Dom::CHIP)?;
+    assert!(rt; shared.report_next(rt, alloc, Dom::CHIP)?);
+    assert!(rt; !shared.report_next(rt, alloc, Dom::CHIP)?);
     assert!(rt; shared.turn(rt, Dom::CHIP)?);
     shared.sweep(rt, alloc, Dom::CHIP)?;
     shared.publish(rt, alloc)?;

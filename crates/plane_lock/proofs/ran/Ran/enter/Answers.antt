@@ -1,4 +1,4 @@
-use Rattle.std.proofs.Common.{◌≡◌, ℕ, List, [], ◌∷◌, ◌++◌, sym, ap, ◌∙◌, subst}
+use Rattle.std.proofs.Common.{◌≡◌, ℕ, List, [], ◌∷◌, ◌++◌, sym, ap, ◌∙◌, subst, refl}
 use Rattle.br_model.specs.declared.steps.Step.{Step}
 use Rattle.br_model.specs.declared.steps.Step.TheVariants.{Rx}
 use Rattle.plane_parts.specs.Added.{Added}
@@ -14,7 +14,7 @@ told : (c : goal.After-push_reserved) → Added (Steps c.self.inside.plane c.ent
 told c = subst (λ (b : List ℕ). Added (Steps c.self.inside.plane c.enter_to.new.self (Rx c.args.p b)) c.self.inside.lines.lines c.enter_to.new.lines.lines) (c.in_ok-frame.ensures ∙ sym c.in_ok-bytes.ensures) c.in_ok-pass.ensures.step
 
 pub invariant_of-self-2 : goal.invariant_of-self-2
-invariant_of-self-2 c = ran-more c.self.inside.plane c.enter_to.new.self c.self.inside.steps.items c.push_reserved.new.self.items (Rx c.args.p c.in_ok-bytes.bytes) c.self.inside.lines.lines c.enter_to.new.lines.lines c.self.invariant (told c) (steps-are c)
+invariant_of-self-2 c = ran-more c.self.inside.plane c.enter_to.new.self c.self.inside.steps.items c.push_reserved.new.self.items (Rx c.args.p c.in_ok-bytes.bytes) c.self.inside.lines.lines c.enter_to.new.lines.lines c.self.invariant (told c) (steps-are c) refl
 
 pub returns-clause-ok : goal.returns-clause-ok
 returns-clause-ok c =

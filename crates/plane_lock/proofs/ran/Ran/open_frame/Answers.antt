@@ -1,4 +1,4 @@
-use Rattle.std.proofs.Common.{◌≡◌, List, [], ◌∷◌, ◌++◌, sym, ap, ◌∙◌}
+use Rattle.std.proofs.Common.{◌≡◌, List, [], ◌∷◌, ◌++◌, sym, ap, ◌∙◌, refl}
 use Rattle.std.specs.Option.{option_map}
 use Rattle.br_model.specs.declared.steps.Step.{Step}
 use Rattle.br_model.specs.declared.steps.Step.TheVariants.{Hold}
@@ -21,7 +21,7 @@ told c =
     (c.push_reserved.ensures.lines ∙ (ap (λ (l : List Line). l ++ c.held_line-line.result ∷ []) c.reserve-2.ensures.lines ∙ ap (λ (l : Line). c.self.inside.lines.lines ++ l ∷ []) c.held_line-line.ensures))
 
 pub invariant_of-self-2 : goal.invariant_of-self-2
-invariant_of-self-2 c = ran-more c.self.inside.plane c.open_frame.new.self c.self.inside.steps.items c.push_reserved-2.new.self.items Hold c.self.inside.lines.lines c.push_reserved.new.self.lines c.self.invariant (told c) (steps-are c)
+invariant_of-self-2 c = ran-more c.self.inside.plane c.open_frame.new.self c.self.inside.steps.items c.push_reserved-2.new.self.items Hold c.self.inside.lines.lines c.push_reserved.new.self.lines c.self.invariant (told c) (steps-are c) refl
 
 pub returns-clause-ok : goal.returns-clause-ok
 returns-clause-ok c =

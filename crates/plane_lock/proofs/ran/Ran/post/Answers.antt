@@ -4,11 +4,12 @@ use Rattle.br_model.specs.declared.steps.Step.{Step}
 use Rattle.br_model.specs.declared.steps.Step.TheVariants.{Post}
 use Rattle.br_model.specs.Plane.Serving.{held_with}
 use Rattle.br_model.specs.Plane.World.{Holding}
+use Rattle.br_model.specs.Table.Domains.{chip_domains}
 use Rattle.plane_parts.specs.Added.{Added}
 use Rattle.plane_core.specs.Planes.{PlaneState, Steps, IsCopy, IsDecision}
 use Rattle.plane_lock.specs.Pasts.{after, post_step, state_of}
 use Rattle.plane_lock.proofs.Posting.{post-recorded}
-use Rattle.plane_lock.proofs.Recording.{past-more, ran-more, stood}
+use Rattle.plane_lock.proofs.Recording.{past-more, post-comes, ran-more, stood}
 use Rattle.plane_lock.proofs.ran.Ran.post.Goals as goal
 use Rattle.plane_lock.proofs.ran.Ran.post.Goals.{then-is_released, else-is_released}
 
@@ -51,7 +52,7 @@ module _ (c : goal.After-push_reserved) where
 pub invariant_of-self-2 : goal.invariant_of-self-2
 invariant_of-self-2 c =
     ran-more c.self.inside.plane c.post_to.new.self c.self.inside.steps.items c.push_reserved.new.self.items (Post c.args.h.id c.if-is_released.point) c.self.inside.lines.lines c.post_to.new.lines.lines
-    c.self.invariant (recorded c).1 (steps-are c)
+    c.self.invariant (recorded c).1 (steps-are c) (post-comes (chip_domains c.self.inside.plane.world.setup.domains) c.args.h.id c.if-is_released.point)
 
 pub returns-clause-ok : goal.returns-clause-ok
 returns-clause-ok c =

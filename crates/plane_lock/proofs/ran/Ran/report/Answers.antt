@@ -3,7 +3,8 @@ use Rattle.br_model.specs.declared.steps.Step.{Step}
 use Rattle.br_model.specs.declared.steps.Step.TheVariants.{Report}
 use Rattle.plane_parts.specs.Added.{Added}
 use Rattle.plane_core.specs.Planes.{Steps}
-use Rattle.plane_lock.specs.Pasts.{after}
+use Rattle.br_model.specs.Table.Domains.{has_chip}
+use Rattle.plane_lock.specs.Pasts.{Past, after}
 use Rattle.plane_lock.proofs.Recording.{past-more, ran-more}
 use Rattle.plane_lock.proofs.ran.Ran.report.Goals as goal
 
@@ -14,7 +15,7 @@ told : (c : goal.After-push_reserved) → Added (Steps c.self.inside.plane c.rep
 told c = c.in_ok-report_to.ensures.ok
 
 pub invariant_of-self-2 : goal.invariant_of-self-2
-invariant_of-self-2 c = ran-more c.self.inside.plane c.report_to.new.self c.self.inside.steps.items c.push_reserved.new.self.items (Report c.args.d) c.self.inside.lines.lines c.report_to.new.lines.lines c.self.invariant (told c) (steps-are c)
+invariant_of-self-2 c = ran-more c.self.inside.plane c.report_to.new.self c.self.inside.steps.items c.push_reserved.new.self.items (Report c.args.d) c.self.inside.lines.lines c.report_to.new.lines.lines c.self.invariant (told c) (steps-are c) (ap (λ (x : Past). has_chip x.setup.domains c.args.d) c.self.view_is ∙ c.requires)
 
 pub returns-clause-ok : goal.returns-clause-ok
 returns-clause-ok c =

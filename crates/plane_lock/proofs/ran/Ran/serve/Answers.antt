@@ -1,4 +1,4 @@
-use Rattle.std.proofs.Common.{◌≡◌, List, [], ◌∷◌, ◌++◌, sym, ap, ◌∙◌, subst}
+use Rattle.std.proofs.Common.{◌≡◌, List, [], ◌∷◌, ◌++◌, sym, ap, ◌∙◌, subst, refl}
 use Rattle.br_model.specs.declared.steps.Step.{Step}
 use Rattle.br_model.specs.declared.steps.Step.TheVariants.{Serve}
 use Rattle.plane_parts.specs.Added.{Added}
@@ -14,7 +14,7 @@ told : (c : goal.After-push_reserved) → Added (Steps c.self.inside.plane c.ser
 told c = c.in_ok-serve_to.ensures.ok
 
 pub invariant_of-self-2 : goal.invariant_of-self-2
-invariant_of-self-2 c = ran-more c.self.inside.plane c.serve_to.new.self c.self.inside.steps.items c.push_reserved.new.self.items Serve c.self.inside.lines.lines c.serve_to.new.lines.lines c.self.invariant (told c) (steps-are c)
+invariant_of-self-2 c = ran-more c.self.inside.plane c.serve_to.new.self c.self.inside.steps.items c.push_reserved.new.self.items Serve c.self.inside.lines.lines c.serve_to.new.lines.lines c.self.invariant (told c) (steps-are c) refl
 
 pub returns-clause-ok : goal.returns-clause-ok
 returns-clause-ok c =

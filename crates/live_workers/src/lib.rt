@@ -1,0 +1,12 @@
+//! A scenario whose frames, commands, moments and sweeps are taken as a live run: what is accepted is published at once, and at the end
+//! nothing is left to do.
+#![tactic(auto)]
+
+mod alone;
+mod drain;
+mod opening;
+#[cfg(test)]
+mod tests;
+
+pub use alone::{Taken, run_alone, take_alone};
+pub use br_model::NoMemory;
