@@ -10,3 +10,4 @@ pub mod Drains
 pub mod Loops
 pub mod Does
 pub mod Standing
+pub mod Givens

@@ -1,3 +1,4 @@
 pub mod Worlds
 pub mod Taking
 pub mod Draining
+pub mod Results

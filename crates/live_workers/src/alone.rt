@@ -178,7 +178,7 @@ pub fn take_alone<R: Wait>(
 }
 
 /// The last line of a run that ends here.
-fn end_line(ran: &Ran) -> Line
+pub(crate) fn end_line(ran: &Ran) -> Line
     ensures { result ≡ end_line (world_of ran.now) }
 {
     let plane = ran.plane();

@@ -4,9 +4,18 @@
 
 mod alone;
 mod drain;
+mod frames;
 mod opening;
+mod queues;
+mod remains;
+mod run;
+mod stop;
 #[cfg(test)]
 mod tests;
+#[cfg(test)]
+mod worker_tests;
+mod workers;
 
 pub use alone::{Taken, run_alone, take_alone};
 pub use br_model::NoMemory;
+pub use run::take_steps;

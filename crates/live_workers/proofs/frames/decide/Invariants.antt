@@ -1,0 +1,6 @@
+use Rattle.std.proofs.Common.{◌≤◌, length}
+use Rattle.live_workers.proofs.frames.decide.Given as goal
+
+-- what the chair knows reaches up to the floor
+abbrev pub invariant-loop : goal.invariant-loop
+invariant-loop g l = l.held.floor ≤ length l.chair.object.changes

@@ -1,0 +1,172 @@
+//! Scenarios by several workers.
+ghost use Rattle.std.specs.Prelude.{◌≡◌, ℕ, List, true, IfOk};
+ghost use Rattle.std.specs.List.{list_all};
+ghost use Rattle.br_model.specs.Text.LineForms.{comes_by_line};
+
+use crate::take_steps;
+use br_model::bytes::Bytes;
+use br_model::domains::Domains;
+use br_model::numbers::{Dom, Mac, Port};
+use br_model::steps::{Command, Step};
+use br_model::transcript::Line;
+use port_workers::{Gate, Open};
+use std::alloc::Global;
+use std::sync::atomic::{AtomicBool, AtomicU64, Ordering};
+use std::test::Fail;
+
+/// The gate of two frames. Each looks whether the other has come.
+#[derive(Drop)]
+struct Meet {
+    first: AtomicBool,
+    second: AtomicBool,
+    met: AtomicU64,
+}
+
+impl Gate for Meet {
+    fn held(&self, id: u32) {
+        let (own, other) = if id == 1 {
+            (&self.first, &self.second)
+        } else {
+            (&self.second, &self.first)
+        };
+        own.store(true, Ordering::SeqCst);
+        for _ in 0..134_217_728u64 {
+            if other.load(Ordering::SeqCst) {
+                self.met.fetch_add(1, Ordering::SeqCst);
+                return;
+            }
+        }
+    }
+}
+
+fn port(number: u8) -> Result<Port, Fail> {
+    Ok(Port::new(number).ok_or("port")?)
+}
+
+/// Two ports, of this domain and of software.
+fn domains(dom: Dom) -> Result<Domains, Fail> {
+    let mut domains = Domains::make();
+    domains.set(port(1)?, dom);
+    domains.set(port(2)?, Dom::SOFTWARE);
+    Ok(domains)
+}
+
+/// A frame between the stations 10 and 11, which enters at the port.
+fn frame(alloc: Global, number: u8, to: u8, from: u8) -> Result<Step, Fail>
+    ensures { IfOk result (λ s. (chips : List ℕ) → comes_by_line false chips s ≡ true) }
+{
+    let bytes = [2, 0, 0, 0, 0, to, 2, 0, 0, 0, 0, from, 0x88, 0xB5, 1, 2];
+    Ok(Step::Rx {
+        port: port(number)?,
+        bytes: Bytes::copy_of(alloc, &bytes)?,
+    })
+}
+
+/// The ports come up, and then a frame enters at each of them, so many times.
+fn given(alloc: Global, times: usize) -> Result<Vec<Step>, Fail>
+    ensures { IfOk result (λ steps. (chips : List ℕ) → list_all (comes_by_line false chips) steps.items ≡ true) }
+{
+    let mut steps = Vec::new(alloc);
+    steps.push(Step::Cmd(Command::PortUp(port(1)?)))?;
+    steps.push(Step::Cmd(Command::PortUp(port(2)?)))?;
+    steps.push(Step::Publish)?;
+    for _ in 0..times {
+        steps.push(frame(alloc, 1, 11, 10)?)?;
+        steps.push(frame(alloc, 2, 10, 11)?)?;
+    }
+    Ok(steps)
+}
+
+/// How many frames entered, were held, were posted and were served.
+fn counts(steps: &[Step]) -> [usize; 4] {
+    let mut counts = [0; 4];
+    for step in steps {
+        match step {
+            Step::Rx { .. } => counts[0] += 1,
+            Step::Hold => counts[1] += 1,
+            Step::Post { .. } => counts[2] += 1,
+            Step::Serve => counts[3] += 1,
+            Step::Cmd(_)
+            | Step::Now(_)
+            | Step::Turn(_)
+            | Step::Report(_)
+            | Step::Sweep(_)
+            | Step::Publish => {}
+        }
+    }
+    counts
+}
+
+/// How many frames were held before the first was posted.
+fn held_first(steps: &[Step]) -> usize {
+    let mut held = 0;
+    for step in steps {
+        match step {
+            Step::Hold => held += 1,
+            Step::Post { .. } => return held,
+            _ => {}
+        }
+    }
+    held
+}
+
+#[test]
+fn two_workers_meet_at_the_gate(rt: HostRuntime) -> Result<(), Fail> {
+    let alloc = rt.alloc();
+    let gate = Meet {
+        first: AtomicBool::new(false),
+        second: AtomicBool::new(false),
+        met: AtomicU64::new(0),
+    };
+    let given = given(alloc, 1)?;
+    let domains = domains(Dom::SOFTWARE)?;
+    let taken = take_steps(&rt, alloc, &gate, 2, domains, Mac::FIRST_OWN, &given)?;
+    let steps = taken.book.steps.as_slice();
+    assert_eq!(rt; gate.met.load(Ordering::SeqCst), 2);
+    assert_eq!(rt; held_first(steps), 2);
+    assert!(rt; counts(steps) == [2, 2, 2, 0]);
+    Ok(())
+}
+
+/// Frames of software, and those that the chip hands on, are all posted by workers.
+#[test]
+fn workers_leave_no_frame(rt: HostRuntime) -> Result<(), Fail> {
+    let alloc = rt.alloc();
+    for workers in [1, 2, 16] {
+        let given = given(alloc, 20)?;
+        let domains = domains(Dom::SOFTWARE)?;
+        let taken = take_steps(&rt, alloc, &Open, workers, domains, Mac::FIRST_OWN, &given)?;
+        assert!(rt; counts(taken.book.steps.as_slice()) == [40, 40, 40, 0]);
+        let Line::End {
+            pending,
+            waiting,
+            ..
+        } = taken.end
+        else {
+            return Err(Fail::new("end"));
+        };
+        assert!(rt; pending == 0 && waiting == 0);
+    }
+    Ok(())
+}
+
+/// A chip reports, and takes its turns.
+#[test]
+fn workers_serve_the_chip(rt: HostRuntime) -> Result<(), Fail> {
+    let alloc = rt.alloc();
+    let given = given(alloc, 3)?;
+    let domains = domains(Dom::CHIP)?;
+    let taken = take_steps(&rt, alloc, &Open, 2, domains, Mac::FIRST_OWN, &given)?;
+    let counts = counts(taken.book.steps.as_slice());
+    assert!(rt; counts[0] == 6 && counts[1] == counts[2] && counts[1] > 0 && counts[3] == 0);
+    let Line::End {
+        pending,
+        waiting,
+        ..
+    } = taken.end
+    else {
+        return Err(Fail::new("end"));
+    };
+    assert!(rt; pending == 0 && waiting == 0);
+    Ok(())
+}
