@@ -2,3 +2,5 @@ pub mod Packets
 pub mod Following
 pub mod Cutting
 pub mod Passing
+pub mod SectionLines
+pub mod ScenarioLines
