@@ -105,6 +105,7 @@ fn first_feed(bytes: &[u8]) -> Option<usize>
 
 /// The length of the first line once the first `past` bytes are gone. It was `line`. No byte is
 /// searched again.
+#[inline(always)]
 fn line_after(held: &[u8], line: Option<usize>, past: usize) -> Option<usize>
     requires past { past ≤ length held.now }
     requires line { IsFirstFeed held.now line }
@@ -221,6 +222,7 @@ impl LineReader {
     }
 
     /// Takes more bytes from the source, and says how many.
+    #[inline(never)]
     fn fill<S: Source>(&mut self, alloc: Global, src: &mut S) -> Result<usize, LineFault>
         ensures reads { Reads self.old self.new (S.left src.old) (S.left src.new) [] }
         ensures count { IfOk result (λ n. self.new.taken ≡ self.old.taken + n) }
@@ -260,6 +262,7 @@ impl LineReader {
     }
 
     /// The first line, where a whole one is held.
+    #[inline(always)]
     fn held_line(&self) -> Result<Option<Span>, LongLine>
         ensures line { IfOk result (λ o. MatchOption o (WantsMore self.now) (LineStands self.now true)) }
         ensures long { OnErr result (HoldsLongLine self.now) }
@@ -292,6 +295,7 @@ impl LineReader {
     }
 
     /// Hands out the bytes of a span, and lets go of what is past.
+    #[inline(always)]
     fn hand_out<'a>(&'a mut self, span: Span) -> Got<'a>
         requires len { span.len ≤ span.past }
         requires past { span.past ≤ length self.old.held }
@@ -318,6 +322,7 @@ impl LineReader {
     }
 
     /// Reads until a whole line is held, and gives it. At the end what is left is the last line.
+    #[inline(always)]
     fn find_line<S: Source>(
         &mut self,
         alloc: Global,
@@ -373,6 +378,7 @@ impl LineReader {
     }
 
     /// The same as `find_line`, and after a fault this fault.
+    #[inline(always)]
     fn seek_line<S: Source>(
         &mut self,
         alloc: Global,
@@ -422,6 +428,7 @@ impl LineReader {
     /// # Errors
     ///
     /// Each `LineFault`, and the same one from then on.
+    #[inline(always)]
     pub fn next<'a, S: Source>(
         &'a mut self,
         alloc: Global,
