@@ -18,6 +18,7 @@ use std::alloc::Global;
 /// Reads one line, without its line feed and within the limit of its length, and takes the roster on.
 ///
 /// `LineWhy::NoMemory` is no cause: there was no memory for a frame's bytes or a port's name.
+#[inline(always)]
 pub fn read_line(alloc: Global, b: &[u8], r: &mut Roster) -> Result<Item, LineWhy>
     ensures read { IfOk result (Reads r.old r.new b.now) }
     ensures early { IfOk result (λ item. comes_in_place r.old.place item ≡ true) }
@@ -53,6 +54,7 @@ pub fn read_line(alloc: Global, b: &[u8], r: &mut Roster) -> Result<Item, LineWh
 
 /// What a line says to a roster that stays as it is.
 #[tactic(auto, unfolding(br_model::specs::Text::LineForms::line_says))]
+#[inline(always)]
 fn what_says(alloc: Global, line: &[u8], r: &Roster) -> Result<Said, LineWhy>
     ensures value { OrNoMemory result (line_says r.now line.now) }
     ensures fits { IfOk result (λ said. fits_roster r.now said ≡ true) }
@@ -64,6 +66,7 @@ fn what_says(alloc: Global, line: &[u8], r: &Roster) -> Result<Said, LineWhy>
 }
 
 /// The same of a line that is no comment: a frequent step in its plainest spelling, or word by word.
+#[inline(always)]
 fn what_steps_say(alloc: Global, line: &[u8], r: &Roster) -> Result<Said, LineWhy>
     ensures value { OrNoMemory result (all_say r.now (words line.now)) }
     ensures fits { IfOk result (λ said. fits_roster r.now said ≡ true) }
