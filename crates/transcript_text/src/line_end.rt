@@ -132,6 +132,7 @@ impl LineEnd {
     }
 
     /// Writes it behind the text.
+    #[inline(always)]
     pub(crate) fn append_to(&self, to: &mut String) -> Result<(), NoMemory>
         ensures ok { OnOk result (string_bytes to.new ≡ string_bytes to.old ++ self.now) }
         ensures err { OnErr result (string_bytes to.new ≡ string_bytes to.old) }

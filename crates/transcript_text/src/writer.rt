@@ -44,6 +44,7 @@ impl Writer {
     }
 
     /// Writes the line with its line feed behind the text. After want of memory a part of it may stand there.
+    #[inline(always)]
     pub fn append(&mut self, line: &Line, to: &mut String) -> Result<(), NoMemory>
         ensures ok { OnOk result (string_bytes to.new ≡ string_bytes to.old ++ line_text line.now) }
         ensures err { OnErr result (Extends (string_bytes to.old) (string_bytes to.new)) }
