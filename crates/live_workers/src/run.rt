@@ -1,5 +1,5 @@
 //! A run by workers, and the run on one thread that stands in its place where its book isn't a live run.
-ghost use Rattle.std.specs.Prelude.{◌≡◌, ◌<◌, ◌≤◌, ◌+◌, ◌||◌, Bool, [], true, false, not, length, map, IfOk, IfSome};
+ghost use Rattle.std.specs.Prelude.{◌≡◌, ◌<◌, ◌≤◌, ◌+◌, ◌||◌, Bool, [], true, false, not, length, map, IfOk, IfSome, OnOk};
 ghost use Rattle.std.specs.List.{All, list_all};
 ghost use Rattle.br_model.specs.declared.steps.Step.{Step as StepValue};
 ghost use Rattle.br_model.specs.Plane.Runs.{end_line, run};
@@ -89,9 +89,10 @@ fn make<N: Name, R: Wait>(
     requires seats { workers ≤ seats.old.left }
     requires domains { ran.old.setup.domains ≡ given.now.domains }
     requires none { ran.old.steps ≡ [] }
-    ensures past { IsSameBridge ran.old ran.new }
+    ensures past { OnOk result (IsSameBridge ran.old ran.new) }
     ensures board { seat.new.board ≡ seat.old.board }
     ensures workers { IfOk result (λ made. length made.workers.items ≡ workers) }
+    ensures opening { IfOk result (λ made. made.opening ≤ length given.now.steps) }
     ensures doms { IfOk result (λ made. map (λ x. x.dom) made.queues ≡ given.now.chips) }
     ensures posted { IfOk result (λ made. All (λ x. x.poster.posted ≡ updates_of ran.new) made.queues) }
 {
@@ -116,7 +117,7 @@ fn end_run<R: Wait>(
 ) -> Result<Option<Remains>, NoMemory>
     requires seat { seat.old.board ≡ ran.old.board }
     requires domains { ran.old.setup.domains ≡ given.now.domains }
-    ensures setup { ran.new.setup ≡ ran.old.setup }
+    ensures setup { OnOk result (ran.new.setup ≡ ran.old.setup) }
     ensures left { IfOk result (λ left. IfSome left (λ r. IsLeft r (world_of ran.new))) }
 {
     match stop {
@@ -180,6 +181,7 @@ where
     requires setup { ran.setup ≡ record { domains = N.board.domains; own = N.own } }
     requires domains { N.board.domains ≡ given.now.domains }
     requires workers { (0 < length made.workers.items) × (length made.workers.items ≤ 16) }
+    requires opening { made.opening ≤ length given.now.steps }
     requires doms { map (λ x. x.dom) made.queues ≡ given.now.chips }
     requires posted { All (λ x. x.poster.posted ≡ updates_of ran) made.queues }
     ensures { IfOk result (λ taken. IfSome taken (IsTaken ran.setup given.now.steps)) }

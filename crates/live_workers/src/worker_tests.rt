@@ -1,5 +1,5 @@
 //! Scenarios by several workers.
-ghost use Rattle.std.specs.Prelude.{◌≡◌, ℕ, List, true, IfOk};
+ghost use Rattle.std.specs.Prelude.{◌≡◌, ◌<◌, ◌≤◌, ℕ, List, true, false, IfOk};
 ghost use Rattle.std.specs.List.{list_all};
 ghost use Rattle.br_model.specs.Text.LineForms.{comes_by_line};
 
@@ -11,8 +11,10 @@ use br_model::steps::{Command, Step};
 use br_model::transcript::Line;
 use port_workers::{Gate, Open};
 use std::alloc::Global;
+use std::sync::Wait;
 use std::sync::atomic::{AtomicBool, AtomicU64, Ordering};
 use std::test::Fail;
+use std::thread::Threads;
 
 /// The gate of two frames. Each looks whether the other has come.
 #[derive(Drop)]
@@ -79,35 +81,21 @@ fn given(alloc: Global, times: usize) -> Result<Vec<Step>, Fail>
 
 /// How many frames entered, were held, were posted and were served.
 fn counts(steps: &[Step]) -> [usize; 4] {
-    let mut counts = [0; 4];
-    for step in steps {
-        match step {
-            Step::Rx { .. } => counts[0] += 1,
-            Step::Hold => counts[1] += 1,
-            Step::Post { .. } => counts[2] += 1,
-            Step::Serve => counts[3] += 1,
-            Step::Cmd(_)
-            | Step::Now(_)
-            | Step::Turn(_)
-            | Step::Report(_)
-            | Step::Sweep(_)
-            | Step::Publish => {}
-        }
-    }
-    counts
+    [
+        steps.iter().filter(|step| matches!(step, Step::Rx { .. })).count(),
+        steps.iter().filter(|step| matches!(step, Step::Hold)).count(),
+        steps.iter().filter(|step| matches!(step, Step::Post { .. })).count(),
+        steps.iter().filter(|step| matches!(step, Step::Serve)).count(),
+    ]
 }
 
 /// How many frames were held before the first was posted.
 fn held_first(steps: &[Step]) -> usize {
-    let mut held = 0;
-    for step in steps {
-        match step {
-            Step::Hold => held += 1,
-            Step::Post { .. } => return held,
-            _ => {}
-        }
-    }
-    held
+    steps
+        .iter()
+        .take_while(|step| !matches!(step, Step::Post { .. }))
+        .filter(|step| matches!(step, Step::Hold))
+        .count()
 }
 
 #[test]
@@ -128,25 +116,34 @@ fn two_workers_meet_at_the_gate(rt: HostRuntime) -> Result<(), Fail> {
     Ok(())
 }
 
-/// Frames of software, and those that the chip hands on, are all posted by workers.
+/// Whether nothing waits or is pending at the end.
+fn is_done(end: &Line) -> bool {
+    matches!(end, Line::End { pending, waiting, .. } if *pending == 0 && *waiting == 0)
+}
+
+/// Whether so many workers post all of these frames.
+fn post_all<R: Threads + Wait + Sync>(
+    rt: &R,
+    alloc: Global,
+    workers: usize,
+    steps: &[Step],
+) -> Result<bool, Fail>
+    requires workers { (0 < workers) × (workers ≤ 16) }
+    requires by_line { (chips : List ℕ) → list_all (comes_by_line false chips) steps.now ≡ true }
+{
+    let domains = domains(Dom::SOFTWARE)?;
+    let taken = take_steps(rt, alloc, &Open, workers, domains, Mac::FIRST_OWN, steps)?;
+    Ok(counts(taken.book.steps.as_slice()) == [40, 40, 40, 0] && is_done(&taken.end))
+}
+
+/// No frame is left to the thread that ends the run.
 #[test]
 fn workers_leave_no_frame(rt: HostRuntime) -> Result<(), Fail> {
     let alloc = rt.alloc();
-    for workers in [1, 2, 16] {
-        let given = given(alloc, 20)?;
-        let domains = domains(Dom::SOFTWARE)?;
-        let taken = take_steps(&rt, alloc, &Open, workers, domains, Mac::FIRST_OWN, &given)?;
-        assert!(rt; counts(taken.book.steps.as_slice()) == [40, 40, 40, 0]);
-        let Line::End {
-            pending,
-            waiting,
-            ..
-        } = taken.end
-        else {
-            return Err(Fail::new("end"));
-        };
-        assert!(rt; pending == 0 && waiting == 0);
-    }
+    let given = given(alloc, 20)?;
+    assert!(rt; post_all(&rt, alloc, 1, &given)?);
+    assert!(rt; post_all(&rt, alloc, 2, &given)?);
+    assert!(rt; post_all(&rt, alloc, 16, &given)?);
     Ok(())
 }
 
@@ -159,14 +156,6 @@ fn workers_serve_the_chip(rt: HostRuntime) -> Result<(), Fail> {
     let taken = take_steps(&rt, alloc, &Open, 2, domains, Mac::FIRST_OWN, &given)?;
     let counts = counts(taken.book.steps.as_slice());
     assert!(rt; counts[0] == 6 && counts[1] == counts[2] && counts[1] > 0 && counts[3] == 0);
-    let Line::End {
-        pending,
-        waiting,
-        ..
-    } = taken.end
-    else {
-        return Err(Fail::new("end"));
-    };
-    assert!(rt; pending == 0 && waiting == 0);
+    assert!(rt; is_done(&taken.end));
     Ok(())
 }
