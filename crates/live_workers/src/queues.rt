@@ -1,5 +1,5 @@
 //! The chips of a bridge and their queues.
-ghost use Rattle.std.specs.Prelude.{◌≡◌, [], ◌∷◌, ◌++◌, ◌≤◌, map, IfOk, OnOk};
+ghost use Rattle.std.specs.Prelude.{◌≡◌, [], ◌∷◌, ◌++◌, ◌≤◌, true, map, IfOk, OnOk};
 ghost use Rattle.std.specs.List.{All, filter};
 ghost use Rattle.br_model.specs.Table.Domains.{chip_domains, has_chip, last_chip};
 ghost use Rattle.plane_lock.specs.Posted.{updates_of};

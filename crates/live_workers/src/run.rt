@@ -87,13 +87,13 @@ fn make<N: Name, R: Wait>(
     requires seat { seat.old.board ≡ ran.old.board }
     requires board { seats.old.board ≡ N.board }
     requires seats { workers ≤ seats.old.left }
-    requires domains { ran.old.setup.domains ≡ given.now.domains }
+    requires domains { ran.old.setup.domains ≡ given.now.domains.now }
     requires none { ran.old.steps ≡ [] }
     ensures past { OnOk result (IsSameBridge ran.old ran.new) }
     ensures board { seat.new.board ≡ seat.old.board }
     ensures workers { IfOk result (λ made. length made.workers.items ≡ workers) }
-    ensures opening { IfOk result (λ made. made.opening ≤ length given.now.steps) }
-    ensures doms { IfOk result (λ made. map (λ x. x.dom) made.queues ≡ given.now.chips) }
+    ensures opening { IfOk result (λ made. made.opening ≤ length given.now.steps.now) }
+    ensures doms { IfOk result (λ made. map (λ x. x.dom) made.queues ≡ given.now.chips.now) }
     ensures posted { IfOk result (λ made. All (λ x. x.poster.posted ≡ updates_of ran.new) made.queues) }
 {
     let workers = seat_all(alloc, seats, workers)?;
@@ -116,7 +116,7 @@ fn end_run<R: Wait>(
     given: &Given,
 ) -> Result<Option<Remains>, NoMemory>
     requires seat { seat.old.board ≡ ran.old.board }
-    requires domains { ran.old.setup.domains ≡ given.now.domains }
+    requires domains { ran.old.setup.domains ≡ given.now.domains.now }
     ensures setup { OnOk result (ran.new.setup ≡ ran.old.setup) }
     ensures left { IfOk result (λ left. IfSome left (λ r. IsLeft r (world_of ran.new))) }
 {
@@ -142,8 +142,8 @@ fn close<R: Wait>(
     given: &Given,
 ) -> Result<Option<Taken>, NoMemory>
     requires seat { seat.board ≡ ran.board }
-    requires domains { ran.setup.domains ≡ given.now.domains }
-    ensures { IfOk result (λ taken. IfSome taken (IsTaken ran.setup given.now.steps)) }
+    requires domains { ran.setup.domains ≡ given.now.domains.now }
+    ensures { IfOk result (λ taken. IfSome taken (IsTaken ran.setup given.now.steps.now)) }
 {
     let mut ran = ran;
     let mut seat = seat;
@@ -179,12 +179,12 @@ where
     requires seat { seat.board ≡ N.board }
     requires board { ran.board ≡ N.board }
     requires setup { ran.setup ≡ record { domains = N.board.domains; own = N.own } }
-    requires domains { N.board.domains ≡ given.now.domains }
+    requires domains { N.board.domains ≡ given.now.domains.now }
     requires workers { (0 < length made.workers.items) × (length made.workers.items ≤ 16) }
-    requires opening { made.opening ≤ length given.now.steps }
-    requires doms { map (λ x. x.dom) made.queues ≡ given.now.chips }
+    requires opening { made.opening ≤ length given.now.steps.now }
+    requires doms { map (λ x. x.dom) made.queues ≡ given.now.chips.now }
     requires posted { All (λ x. x.poster.posted ≡ updates_of ran) made.queues }
-    ensures { IfOk result (λ taken. IfSome taken (IsTaken ran.setup given.now.steps)) }
+    ensures { IfOk result (λ taken. IfSome taken (IsTaken ran.setup given.now.steps.now)) }
 {
     let Made {
         workers,
@@ -215,9 +215,9 @@ where
     requires seats { seats ≡ record { board = N.board; left = workers + 1 } }
     requires board { ran.board ≡ N.board }
     requires setup { ran.setup ≡ record { domains = N.board.domains; own = N.own } }
-    requires domains { N.board.domains ≡ given.now.domains }
+    requires domains { N.board.domains ≡ given.now.domains.now }
     requires none { ran.steps ≡ [] }
-    ensures { IfOk result (λ taken. IfSome taken (IsTaken ran.setup given.now.steps)) }
+    ensures { IfOk result (λ taken. IfSome taken (IsTaken ran.setup given.now.steps.now)) }
 {
     let mut ran = ran;
     let mut seats = seats;

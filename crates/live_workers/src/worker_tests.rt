@@ -41,7 +41,9 @@ impl Gate for Meet {
     }
 }
 
-fn port(number: u8) -> Result<Port, Fail> {
+fn port(number: u8) -> Result<Port, Fail>
+    ensures { IfOk result (λ p. p ≡ number) }
+{
     Ok(Port::new(number).ok_or("port")?)
 }
 

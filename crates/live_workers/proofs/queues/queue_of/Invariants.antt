@@ -1,0 +1,6 @@
+use Rattle.std.proofs.Common.{◌≡◌}
+use Rattle.plane_lock.specs.Posted.{updates_of}
+use Rattle.live_workers.proofs.queues.queue_of.Given as goal
+
+abbrev pub invariant-loop : goal.invariant-loop
+invariant-loop g l = l.poster.posted ≡ updates_of l.ran
