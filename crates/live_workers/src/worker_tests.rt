@@ -84,10 +84,22 @@ fn given(alloc: Global, times: usize) -> Result<Vec<Step>, Fail>
 /// How many frames entered, were held, were posted and were served.
 fn counts(steps: &[Step]) -> [usize; 4] {
     [
-        steps.iter().filter(|step| matches!(step, Step::Rx { .. })).count(),
-        steps.iter().filter(|step| matches!(step, Step::Hold)).count(),
-        steps.iter().filter(|step| matches!(step, Step::Post { .. })).count(),
-        steps.iter().filter(|step| matches!(step, Step::Serve)).count(),
+        steps
+            .iter()
+            .filter(|step| matches!(step, Step::Rx { .. }))
+            .count(),
+        steps
+            .iter()
+            .filter(|step| matches!(step, Step::Hold))
+            .count(),
+        steps
+            .iter()
+            .filter(|step| matches!(step, Step::Post { .. }))
+            .count(),
+        steps
+            .iter()
+            .filter(|step| matches!(step, Step::Serve))
+            .count(),
     ]
 }
 

@@ -13,8 +13,8 @@ report_chips-requires g c =
 pub turn_chips-requires : goal.turn_chips-requires
 turn_chips-requires g c = record {
   domains = ap (λ (s : Setup). s.domains)
-    (drains_setup c.args.ran.now c.report_chips.new.ran (drains_both c.args.ran.now c.serve_all.new.ran c.report_chips.new.ran c.in_ok-serve_all.ensures.ok c.in_ok-report_chips.ensures.ok))
-    ∙ c.requires.domains;
+      (drains_setup c.args.ran.now c.report_chips.new.ran (drains_both c.args.ran.now c.serve_all.new.ran c.report_chips.new.ran c.in_ok-serve_all.ensures.ok c.in_ok-report_chips.ensures.ok))
+      ∙ c.requires.domains;
 }
 
 pub returns-clause-ok : goal.returns-clause-ok
