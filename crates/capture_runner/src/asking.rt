@@ -245,6 +245,7 @@ impl Asking {
     }
 
     /// Does a step in the world of the run. Its lines are added.
+    #[inline(never)]
     pub(crate) fn step<R: Wait>(
         &mut self,
         rt: &R,

@@ -130,6 +130,7 @@ impl Tally {
 }
 
 /// Does this step. Its lines are added.
+#[inline(always)]
 fn do_made<R: Wait>(
     rt: &R,
     alloc: Global,
@@ -150,6 +151,7 @@ fn do_made<R: Wait>(
 }
 
 /// Does this step, and counts its lines.
+#[inline(always)]
 fn do_step<R: Wait>(
     rt: &R,
     alloc: Global,

@@ -149,6 +149,7 @@ impl Monitor {
     }
 
     /// Does a step in the world whose changes are followed. Its lines are added.
+    #[inline(never)]
     pub(crate) fn step<R: Wait>(
         &mut self,
         rt: &R,

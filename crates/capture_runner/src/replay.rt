@@ -69,6 +69,7 @@ impl From<AllocError> for Stop {
 }
 
 /// Reads the next line, does its step and writes the step's lines after the text.
+#[inline(always)]
 pub(crate) fn advance<R: Wait, S: Source>(
     rt: &R,
     alloc: Global,

@@ -99,6 +99,7 @@ impl Session {
 
     /// Reads a whole line, without its line feed, does its step, and writes the step's lines after the text. After want of
     /// memory the session isn't used again.
+    #[inline(always)]
     pub(crate) fn take<R: Wait>(
         &mut self,
         rt: &R,
@@ -193,6 +194,7 @@ impl Session {
     }
 
     /// Does a step in the world that is there, or in a new one.
+    #[inline(always)]
     fn go_on<R: Wait>(&mut self, rt: &R, alloc: Global, step: Step) -> Result<(), NoMemory>
         requires by_line { comes_by_line false (chips_of self.old.roster.ports) step ≡ true }
         requires ready { IsReady self.old.roster self.old.world self.old.voice }
@@ -212,6 +214,7 @@ impl Session {
     }
 
     /// Does a step, and writes its lines.
+    #[inline(always)]
     pub(crate) fn step<R: Wait>(
         &mut self,
         rt: &R,

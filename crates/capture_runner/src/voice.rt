@@ -51,6 +51,7 @@ pub(crate) fn begin(
 }
 
 /// Does a step, and says what is to be said of it. Its lines are added. After want of memory neither is used again.
+#[inline(always)]
 pub(crate) fn do_step<R: Wait>(
     rt: &R,
     alloc: Global,

@@ -306,6 +306,7 @@ impl World {
     }
 
     /// Does a step that a line can give. The lines of the step are added.
+    #[inline(always)]
     pub(crate) fn step<R: Wait>(
         &mut self,
         rt: &R,
