@@ -4,11 +4,13 @@ pub mod Counting
 pub mod Cutting
 pub mod Deciding
 pub mod Doing
+pub mod EndedStays
 pub mod Finding
 pub mod Followed
 pub mod Following
 pub mod Generating
 pub mod Hearing
+pub mod Living
 pub mod Moments
 pub mod Monitoring
 pub mod Outcomes

@@ -7,7 +7,7 @@ use Rattle.std.proofs.lemmas.List.{append-nil, take-append-drop}
 use Rattle.run_io.specs.Causes.{Rose}
 use Rattle.br_model.specs.declared.listing.Listing.{Listing}
 use Rattle.br_model.specs.declared.change.Change.{Change}
-use Rattle.br_model.specs.Table.Limits.{most_bytes}
+use Rattle.br_model.specs.Table.Limits.{most_bytes, most_live_bytes}
 use Rattle.br_model.specs.Program.Listings.{listed, listed_at, listing_text}
 use Rattle.br_model.specs.Program.Checks.{HasChecked}
 use Rattle.br_model.specs.Program.Generator.{made}
@@ -16,12 +16,14 @@ use Rattle.br_model.specs.Program.Summary.{summary}
 use Rattle.br_model.specs.Plane.Runs.{run}
 use Rattle.br_model.specs.Plane.World.{World, Stepped}
 use Rattle.br_model.specs.Text.Roster.{Entry}
-use Rattle.br_model.specs.Program.Runs.{body, body_parts, told, told_of, run_of, setup_of}
+use Rattle.br_model.specs.Program.Runs.{bad_alone, bad_told, body, body_parts, told, told_of, run_of, setup_of}
 use Rattle.br_model.specs.Text.Scenario.{Scenario, Ending, Going, Ended, Bad, scenario}
 use Rattle.br_model.specs.Table.Table.{table}
 use Rattle.br_model.proofs.Completing.{never_bad, never_filled, never_found_bad, never_full}
 use Rattle.br_model.proofs.Running.{run_none}
 use Rattle.chip_audit.specs.Lines.{audited}
+use Rattle.scenario_reader.specs.declared.reader.Last.{Last as LastRead}
+use Rattle.scenario_reader.specs.declared.reader.Last.TheVariants as read_lasts
 use Rattle.capture_runner.specs.declared.asked.Asked.{Asked}
 use Rattle.capture_runner.specs.declared.asked.Asked.TheVariants as asks
 use Rattle.capture_runner.specs.declared.replay.Halt.TheVariants as halts
@@ -34,7 +36,8 @@ use Rattle.capture_runner.specs.declared.status.Status.{Status}
 use Rattle.capture_runner.specs.declared.status.Status.TheVariants as statuses
 use Rattle.capture_runner.specs.Advancing.{Caused as StopsBy}
 use Rattle.capture_runner.specs.Halting.{Answered, Breaks, Grows, Halted, Halts, IsBehind, Plays, Told, Written, Yields}
-use Rattle.capture_runner.specs.Outcome.{Asks, Caused, Checks, EndsWell, Follows, OrBreaksOff, Outcome, Reads, Refuses, Replays, Whole, WholeChecks, WholeFollows, WholeRefuses, WholeWrites, Writes, call_of, first_line, last_line, no_parts, nothing}
+use Rattle.capture_runner.specs.Living.{AnsweredLive, StopsLiving, status_of}
+use Rattle.capture_runner.specs.Outcome.{Asks, Caused, Checks, EndsWell, Follows, Lives, OrBreaksOff, Outcome, Reads, Refuses, Replays, Whole, WholeChecks, WholeFollows, WholeLives, WholeRefuses, WholeWrites, Writes, call_of, first_line, last_line, no_parts, nothing}
 use Rattle.capture_runner.specs.Playing.{Below, Filled}
 use Rattle.capture_runner.specs.Following as following
 use Rattle.capture_runner.specs.Session as session
@@ -218,6 +221,59 @@ module _ (failed : Type 0) (left left_now before now : Option (List ℕ)) (r : S
   yield_stops answer stops.ReadFault p f = stops_at answer nothing no_parts p.0 p.1 (f refl)
   yield_stops answer stops.TooLong p f = fills answer nothing no_parts p.0 p.1
   yield_stops answer stops.NoMemory p f = lacks answer nothing no_parts p.0 0 p.1
+
+-- a run by workers
+
+bad_same : Same bad_told
+unfolding bad_told Same
+bad_same a b e = ap (λ (s : Scenario). bad_alone s.ending) e
+
+module _ (failed : Type 0) (left left_now before now : Option (List ℕ)) (r : Status) where
+  abbrev Living : Type 0
+  Living = Lives failed r (call_of left left_now before now)
+
+  pub live_ends : (last : LastRead) (text : List ℕ) → AnsweredLive left left_now text last → (Went r → r ≡ status_of last) → (Went r → Appends before now text) → Broke r before now text → Living
+  live_ends read_lasts.Ended text p =
+      by_status (WholeLives failed) left left_now before now text statuses.Ok (λ after a. (
+        record {
+          input = p.input;
+          read = p.read;
+          ends = p.ends;
+          steps = p.steps;
+          live = p.live;
+          written = p.written;
+          wrote = subst (λ (b : List ℕ). Appends before after b) p.text_is a;
+          whole = p.whole;
+        },
+        p.within,
+      )) r
+  live_ends (read_lasts.Bad n why) text p =
+      by_status (WholeLives failed) left left_now before now text statuses.BadLine (λ after a. (
+        (
+          n,
+          why,
+          record {
+            input = p.input;
+            read = p.read;
+            ends = p.ends;
+            wrote = subst (λ (b : List ℕ). Appends before after b) p.text_is a;
+            whole = whole_same bad_told left p.input (Bad n why) bad_same p.ends p.whole;
+          },
+        ),
+        p.within,
+      )) r
+
+  pub live_stops : (stop : Stop) → StopsLiving left left_now stop → (stop ≡ stops.ReadFault → failed) → (Went r → r ≡ stopping.stop_status stop) → (Went r → Appends before now (stopping.stop_line stop))
+      → Broke r before now (stopping.stop_line stop) → Living
+  live_stops stops.ReadFault p f =
+      by_status (WholeLives failed) left left_now before now (last_line (codes "read fault")) statuses.ReadFault
+      (λ after a. (f refl, record { stops = record { input = p.1.stops.input; read = p.1.stops.read; going = p.1.stops.going; wrote = a }; below = p.1.below })) r
+  live_stops stops.TooLong p f =
+      by_status (WholeLives failed) left left_now before now (last_line (codes "too long")) statuses.TooLong
+      (λ after a. record { stops = record { input = p.1.stops.input; read = p.1.stops.read; going = p.1.stops.going; wrote = a }; full = p.1.full }) r
+  live_stops stops.NoMemory p f =
+      by_status (WholeLives failed) left left_now before now (last_line (codes "no memory")) statuses.NoMemory
+      (λ after a. record { input = p.0; read = p.1; count = 0; wrote = a }) r
 
 -- what any status says of what was read and written
 
@@ -416,6 +472,9 @@ module _ (before now : Option (List ℕ)) (r : Status) (left : Option (List ℕ)
         by_status (WholeFollows failed) left left before now (last_line (codes "no memory")) statuses.NoMemory
         (λ after a. record { input = []; read = Consumes-nil left; count = 0; wrote = a }) r s a b
 
+    lives_nothing : (failed : Type 0) → Lives failed r unread
+    lives_nothing failed = live_stops failed left left before now r stops.NoMemory ([], Consumes-nil left) (λ e. absurd (cc)) s a b
+
     pub lacks_at_first : (failed : Type 0) (a : Option Asked) → Outcome failed a r unread
     lacks_at_first failed None = refuses_nothing
     lacks_at_first failed (Some asks.Replay) = replays_nothing failed
@@ -425,6 +484,7 @@ module _ (before now : Option (List ℕ)) (r : Status) (left : Option (List ℕ)
     lacks_at_first failed (Some asks.Audit) = reads_nothing failed audited
     lacks_at_first failed (Some asks.Follow) = follows_nothing failed
     lacks_at_first failed (Some (asks.Querier four six)) = reads_nothing failed (queried four six)
+    lacks_at_first failed (Some (asks.Live workers)) = lives_nothing failed
     lacks_at_first failed (Some (asks.Gen number count)) = writes_nothing (made number count) s a b
     lacks_at_first failed (Some (asks.Demo number count)) = writes_nothing (summary number count) s a b
 
@@ -478,6 +538,16 @@ module _ (failed : Type 0) (c : Call) (reads reads_now writes writes_now : ℕ) 
   following_lines statuses.NoMemory has o cause = tt
   following_lines statuses.TooLong has o cause = lines_never_full most_bytes nothing c (last_line (codes "too long")) has o
 
+  living : (workers : ℕ) (r : Status) → HasScenario most_live_bytes c → Lives failed r c → Caused r reads reads_now writes writes_now → EndsWell (Some (asks.Live workers)) r
+  living workers statuses.Ok has o cause = tt
+  living workers statuses.No has o cause = o
+  living workers statuses.Usage has o cause = o
+  living workers statuses.BadLine has o cause = never_bad bad_told c most_live_bytes has o.0
+  living workers statuses.ReadFault has o cause = read_well cause
+  living workers statuses.WriteFault has o cause = wrote_well cause
+  living workers statuses.NoMemory has o cause = tt
+  living workers statuses.TooLong has o cause = never_full most_live_bytes nothing c (last_line (codes "too long")) has o
+
   writing : (a : Option Asked) (output : List ℕ) (r : Status) → Writes output r c → Caused r reads reads_now writes writes_now → EndsWell a r
   writing a output statuses.Ok o cause = tt
   writing a output statuses.No o cause = absurd o
@@ -497,6 +567,7 @@ module _ (failed : Type 0) (c : Call) (reads reads_now writes writes_now : ℕ) 
   completes (Some asks.Audit) r o cause has = reading (Some asks.Audit) audited nothing no_parts r has o cause
   completes (Some (asks.Querier four six)) r o cause has = reading (Some (asks.Querier four six)) (queried four six) nothing no_parts r has o cause
   completes (Some asks.Follow) r o cause has = following_lines r has o cause
+  completes (Some (asks.Live workers)) r o cause has = living workers r has o cause
   completes (Some (asks.Gen number count)) r o cause has = writing (Some (asks.Gen number count)) (made number count) r o cause
   completes (Some (asks.Demo number count)) r o cause has = writing (Some (asks.Demo number count)) (summary number count) r o cause
 
@@ -521,6 +592,10 @@ caused s statuses.TooLong reads reads_now writes writes_now h w c = tt
 pub calm_ends : (last : Last) (s : Status) → s ≡ session.status_of last → Went s
 calm_ends lasts.Ended s e = λ f. let g : statuses.Ok ≡ statuses.WriteFault = sym e ∙ f in absurd (cc)
 calm_ends (lasts.Bad n why) s e = λ f. let g : statuses.BadLine ≡ statuses.WriteFault = sym e ∙ f in absurd (cc)
+
+pub calm_lives : (last : LastRead) (s : Status) → s ≡ status_of last → Went s
+calm_lives read_lasts.Ended s e = λ f. let g : statuses.Ok ≡ statuses.WriteFault = sym e ∙ f in absurd (cc)
+calm_lives (read_lasts.Bad n why) s e = λ f. let g : statuses.BadLine ≡ statuses.WriteFault = sym e ∙ f in absurd (cc)
 
 pub calm_stops : (stop : Stop) (s : Status) → s ≡ stopping.stop_status stop → Went s
 calm_stops stops.ReadFault s e = λ f. let g : statuses.ReadFault ≡ statuses.WriteFault = sym e ∙ f in absurd (cc)

@@ -6,6 +6,7 @@ pub mod Generating
 pub mod Halting
 pub mod Hearing
 pub mod Held
+pub mod Living
 pub mod Outcome
 pub mod Playing
 pub mod Section

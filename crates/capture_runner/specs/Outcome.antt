@@ -7,9 +7,10 @@ use Rattle.run_io.specs.Causes.{Rose}
 use Rattle.br_model.specs.Program.Checks.{Finds, FindsBad, FindsSome, HasChecked, ReadsOn}
 use Rattle.br_model.specs.Program.Generator.{made}
 use Rattle.br_model.specs.Program.Listings.{listed}
+use Rattle.br_model.specs.Program.LiveText.{AnswersLive}
 use Rattle.br_model.specs.Program.Outcomes.{Call, Makes, Answers, AnswersBad, BreaksOff, GoesOn, HasScenario, IsNotTooLong, Lacks, ReadsBehind, StopsBelow, StopsFull}
-use Rattle.br_model.specs.Program.Runs.{body, body_parts, told}
-use Rattle.br_model.specs.Table.Limits.{most_bytes}
+use Rattle.br_model.specs.Program.Runs.{bad_told, body, body_parts, told}
+use Rattle.br_model.specs.Table.Limits.{most_bytes, most_live_bytes}
 use Rattle.br_model.specs.Text.Scenario.{Ended}
 use Rattle.br_model.specs.Program.Summary.{summary}
 use Rattle.mcast_querier.specs.Runs.{queried}
@@ -18,7 +19,7 @@ use Rattle.chip_audit.specs.Lines.{audited}
 use Rattle.neigh_netlink.specs.Follow as follow
 use Rattle.neigh_follow.specs.Calls as follows
 use Rattle.capture_runner.specs.declared.asked.Asked.{Asked}
-use Rattle.capture_runner.specs.declared.asked.Asked.TheVariants.{Replay, Check, Show, Monitor, Audit, Querier, Follow, Gen, Demo}
+use Rattle.capture_runner.specs.declared.asked.Asked.TheVariants.{Replay, Check, Show, Monitor, Audit, Querier, Follow, Live, Gen, Demo}
 use Rattle.capture_runner.specs.declared.status.Status.{Status}
 use Rattle.capture_runner.specs.declared.status.Status.TheVariants as statuses
 
@@ -94,6 +95,22 @@ WholeFollows failed statuses.TooLong call = StopsFull most_bytes follows.GoesOn 
 abbrev pub Follows : Type 0 → Status → Call → Type 0
 Follows failed = OrBreaksOff (WholeFollows failed)
 
+-- What `live` does, where no write fails: where its scenario ends well, it writes the steps as workers took them and their transcript; else
+-- the last line alone. It reads fewer bytes. A read has failed only where `failed` holds.
+abbrev pub WholeLives : Type 0 → Status → Call → Type 0
+WholeLives failed statuses.Ok call = AnswersLive call × IsNotTooLong most_live_bytes call
+WholeLives failed statuses.No call = ⊥
+WholeLives failed statuses.Usage call = ⊥
+WholeLives failed statuses.BadLine call = AnswersBad bad_told call × IsNotTooLong most_live_bytes call
+WholeLives failed statuses.ReadFault call = failed × StopsBelow most_live_bytes GoesOn nothing call (last_line (codes "read fault"))
+WholeLives failed statuses.WriteFault call = ⊥
+WholeLives failed statuses.NoMemory call = Lacks no_parts call (last_line (codes "no memory"))
+WholeLives failed statuses.TooLong call = StopsFull most_live_bytes GoesOn nothing call (last_line (codes "too long"))
+
+-- a front of that where a write fails.
+abbrev pub Lives : Type 0 → Status → Call → Type 0
+Lives failed = OrBreaksOff (WholeLives failed)
+
 -- What a command does that reads nothing: this is what it writes;
 abbrev pub WholeWrites : List ℕ → Status → Call → Type 0
 WholeWrites output statuses.Ok call = Makes call output
@@ -157,6 +174,7 @@ Outcome failed (Some Monitor) = Reads failed monitored nothing no_parts
 Outcome failed (Some Audit) = Reads failed audited nothing no_parts
 Outcome failed (Some Follow) = Follows failed
 Outcome failed (Some (Querier four six)) = Reads failed (queried four six) nothing no_parts
+Outcome failed (Some (Live workers)) = Lives failed
 Outcome failed (Some (Gen number count)) = Writes (made number count)
 Outcome failed (Some (Demo number count)) = Writes (summary number count)
 
@@ -181,6 +199,7 @@ Asks (Some Monitor) call = HasScenario most_bytes call
 Asks (Some Audit) call = HasScenario most_bytes call
 Asks (Some Follow) call = follows.HasMessages most_bytes call
 Asks (Some (Querier four six)) call = HasScenario most_bytes call
+Asks (Some (Live workers)) call = HasScenario most_live_bytes call
 Asks (Some (Gen number count)) call = Unit {0}
 Asks (Some (Demo number count)) call = Unit {0}
 
@@ -194,6 +213,7 @@ MaySayNo (Some Monitor) = ⊥
 MaySayNo (Some Audit) = ⊥
 MaySayNo (Some Follow) = ⊥
 MaySayNo (Some (Querier four six)) = ⊥
+MaySayNo (Some (Live workers)) = ⊥
 MaySayNo (Some (Gen number count)) = ⊥
 MaySayNo (Some (Demo number count)) = ⊥
 

@@ -23,6 +23,11 @@ pub enum Asked {
         /// Its address of version 6: in fe80::/10.
         six: u128,
     },
+    /// To run the scenario of the input by workers, and write the scenario of the steps as they happened and its transcript.
+    Live {
+        /// From 1 to 16.
+        workers: usize,
+    },
     /// To write a scenario of generated frames.
     Gen {
         /// The generator's first state.

@@ -12,6 +12,7 @@ mod demo;
 mod entered;
 mod follow;
 mod held;
+mod live;
 mod monitor;
 mod replay;
 mod runner;

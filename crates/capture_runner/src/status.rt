@@ -25,7 +25,8 @@ pub enum Status {
     WriteFault,
     /// Want of memory.
     NoMemory,
-    /// 2^28 bytes were taken, and hold no bad line other than one that only lacks its end, nor, but for a check, a whole `end` line.
+    /// 2^28 bytes were taken, by `live` 2^22, and hold no bad line other than one that only lacks its end, nor, but for a check, a whole
+    /// `end` line.
     TooLong,
 }
 

@@ -1,11 +1,11 @@
 //! The words of the command line.
-ghost use Rattle.std.specs.Prelude.{◌≡◌, ◌≤◌, IfOk, IfSome, map, string_bytes, option_map, codes, true, false};
+ghost use Rattle.std.specs.Prelude.{◌≡◌, ◌<◌, ◌≤◌, [], IfOk, IfSome, map, string_bytes, option_map, codes, true, false};
 ghost use Rattle.std.specs.Option.{option_and_then};
 ghost use Rattle.br_model.specs.Program.Generator.{most_frames};
 ghost use Rattle.clap.specs.Words.{app_of, first_of, found_of, rows_of, subcommand_rows_of};
 ghost use Rattle.clap.specs.declared.builder.Command.TheViews.{out-Command as fields_of};
 ghost use Rattle.mcast_querier.specs.Queries.{is_host_four, is_link_local_six};
-ghost use Rattle.capture_runner.specs.Words.{IsWithin, addresses, addresses_of, asked, asked_with, command, host_four, link_local_six, listing, number_count, number_count_of, subcommand, table, table_of};
+ghost use Rattle.capture_runner.specs.Words.{IsWithin, addresses, addresses_of, asked, asked_with, command, host_four, link_local_six, listing, most_workers, number_count, number_count_of, subcommand, table, table_of, with_options, worker_count, worker_count_of};
 
 use crate::asked::Asked;
 use br_model::NoMemory;
@@ -13,6 +13,7 @@ use br_model::listing::Listing;
 use bridge_command::{address_four, address_six, number_up_to};
 use clap::error::ErrorKind;
 use clap::{Arg, ArgMatches, Command};
+use port_workers::MOST_WORKERS;
 use std::alloc::{AllocError, Global};
 
 /// The most frames that are generated.
@@ -34,6 +35,15 @@ fn querier_command<'a>(alloc: Global) -> Result<Command<'a>, NoMemory>
     let four = Arg::new(alloc, "four").required(true);
     let six = Arg::new(alloc, "six").required(true);
     Command::new(alloc, "querier").arg(four)?.arg(six)
+}
+
+/// `live`, with the number of its workers.
+fn live_command<'a>(alloc: Global) -> Result<Command<'a>, NoMemory>
+    ensures app { IfOk result (λ c. app_of c ≡ with_options (subcommand (codes "live") []) worker_count) }
+    ensures local { IfOk result (λ c. (fields_of c).has_globals ≡ false) }
+{
+    let workers = Arg::new(alloc, "workers").long("workers").required(true);
+    Command::new(alloc, "live").arg(workers)
 }
 
 /// `gen` or `demo`, with its two numbers.
@@ -60,6 +70,7 @@ fn whole_command<'a>(alloc: Global) -> Result<Command<'a>, NoMemory>
         .subcommand(Command::new(alloc, "audit"))?
         .subcommand(Command::new(alloc, "follow"))?
         .subcommand(querier_command(alloc)?)?
+        .subcommand(live_command(alloc)?)?
         .subcommand(generating_command(alloc, "gen")?)?
         .subcommand(generating_command(alloc, "demo")?)
 }
@@ -136,6 +147,17 @@ fn addresses_from(found: &ArgMatches) -> Option<(u32, u128)>
     Some((four, six))
 }
 
+/// How many workers `live` is given.
+fn workers_from(found: &ArgMatches) -> Option<usize>
+    ensures value { result ≡ worker_count_of (rows_of (found_of found.now)) }
+    ensures within { IfSome result (λ n. (0 < n) × (n ≤ most_workers)) }
+{
+    match number_up_to(word_of(found, "workers")?, MOST_WORKERS as u64)? {
+        0 => None,
+        workers => Some(workers as usize),
+    }
+}
+
 /// What the command of this name asks for.
 fn asked_of(name: &str, found: &ArgMatches) -> Option<Asked>
     ensures value { result ≡ asked_with (name.now, rows_of (found_of found.now)) }
@@ -152,6 +174,9 @@ fn asked_of(name: &str, found: &ArgMatches) -> Option<Asked>
             let (four, six) = addresses_from(found)?;
             Some(Asked::Querier { four, six })
         }
+        "live" => Some(Asked::Live {
+            workers: workers_from(found)?,
+        }),
         "gen" => {
             let (number, count) = numbers_from(found)?;
             Some(Asked::Gen { number, count })

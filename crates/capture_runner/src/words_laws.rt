@@ -2,7 +2,7 @@
 ghost use Rattle.std.specs.Prelude.{◌≡◌, [], codes, None, Some};
 ghost use Rattle.br_model.specs.Text.Words.{words};
 ghost use Rattle.br_model.specs.declared.listing.Listing.TheVariants.{Fdb, Vlan, Mdb};
-ghost use Rattle.capture_runner.specs.declared.asked.Asked.TheVariants.{Replay, Check, Show, Monitor, Audit, Querier, Follow, Gen, Demo};
+ghost use Rattle.capture_runner.specs.declared.asked.Asked.TheVariants.{Replay, Check, Show, Monitor, Audit, Querier, Follow, Live, Gen, Demo};
 ghost use Rattle.capture_runner.specs.Words.{asked};
 
 /// Each command, with the largest numbers.
@@ -19,6 +19,8 @@ pub fn commands_are_read()
         ≡ Some (Querier 0x0A000009 0xFE800000000000000000000000000009) }
     ensures greatest { asked (words (codes "querier 255.255.255.255 FEBF:FFFF:FFFF:FFFF:FFFF:FFFF:FFFF:FFFF"))
         ≡ Some (Querier 0xFFFFFFFF 0xFEBFFFFFFFFFFFFFFFFFFFFFFFFFFFFF) }
+    ensures workers { asked (words (codes "live --workers 16")) ≡ Some (Live 16) }
+    ensures joined { asked (words (codes "live --workers=1")) ≡ Some (Live 1) }
     ensures least { asked (words (codes "gen 0 0")) ≡ Some (Gen 0 0) }
     ensures most { asked (words (codes "gen 18446744073709551615 100000")) ≡ Some (Gen 18446744073709551615 100000) }
     ensures demo { asked (words (codes "demo 7 20")) ≡ Some (Demo 7 20) }
@@ -33,6 +35,11 @@ pub fn operands_are_tested()
     ensures number { asked (words (codes "gen 18446744073709551616 1")) ≡ None }
     ensures count { asked (words (codes "gen 0 100001")) ≡ None }
     ensures none { asked (words (codes "monitor x")) ≡ None }
+    ensures no_workers { asked (words (codes "live")) ≡ None }
+    ensures zero_workers { asked (words (codes "live --workers 0")) ≡ None }
+    ensures most_workers { asked (words (codes "live --workers 17")) ≡ None }
+    ensures workers { asked (words (codes "live --workers 04")) ≡ None }
+    ensures bare { asked (words (codes "live 4")) ≡ None }
     ensures sign { asked (words (codes "demo 1 -1")) ≡ None }
 {}
 

@@ -48,6 +48,11 @@ returns-in-Ok-Some-Querier-clause-complete g c = λ reads writes has.
     let is = sym c.in-Ok-Some-Querier.ensures.value ∙ c.in-Ok-Some-Querier.field-0-is ∙ ap Some c.in-Ok-Some-Querier.field-0-0-is in
     completes_by _ _ _ _ _ _ reads writes _ _ _ is c.querier.ensures.outcome c.querier.ensures.cause has
 
+pub returns-in-Ok-Some-Live-clause-complete : goal.returns-in-Ok-Some-Live-clause-complete
+returns-in-Ok-Some-Live-clause-complete g c = λ reads writes has.
+    let is = sym c.in-Ok-Some-Live.ensures.value ∙ c.in-Ok-Some-Live.field-0-is ∙ ap Some c.in-Ok-Some-Live.field-0-0-is in
+    completes_by _ _ _ _ _ _ reads writes _ _ _ is c.live.ensures.outcome c.live.ensures.cause has
+
 pub returns-in-Ok-Some-Gen-clause-outcome : goal.returns-in-Ok-Some-Gen-clause-outcome
 returns-in-Ok-Some-Gen-clause-outcome g c =
     let is = sym c.in-Ok-Some-Gen.ensures.value ∙ c.in-Ok-Some-Gen.field-0-is ∙ ap Some c.in-Ok-Some-Gen.field-0-0-is in

@@ -20,7 +20,8 @@ returns c =
     let audit_in = c.in_ok-subcommand-5.ensures.shape c.new-5.ensures.local ∙ ap₂ with_subcommand monitor_in (ap of_top c.new-5.ensures.app) in
     let follow_in = c.in_ok-subcommand-6.ensures.shape c.new-6.ensures.local ∙ ap₂ with_subcommand audit_in (ap of_top c.new-6.ensures.app) in
     let querier_in = c.in_ok-subcommand-7.ensures.shape c.in_ok-querier_command.ensures.local ∙ ap₂ with_subcommand follow_in (ap of_top c.in_ok-querier_command.ensures.app) in
-    let gen_in = c.in_ok-subcommand-8.ensures.shape c.in_ok-generating_command.ensures.local ∙ ap₂ with_subcommand querier_in (ap of_top c.in_ok-generating_command.ensures.app) in
-    let demo_in : (all : Command) → AddsSubcommand c.in_ok-subcommand-8.field-0 c.in_ok-generating_command-2.field-0 all → app_of all ≡ command =
+    let live_in = c.in_ok-subcommand-8.ensures.shape c.in_ok-live_command.ensures.local ∙ ap₂ with_subcommand querier_in (ap of_top c.in_ok-live_command.ensures.app) in
+    let gen_in = c.in_ok-subcommand-9.ensures.shape c.in_ok-generating_command.ensures.local ∙ ap₂ with_subcommand live_in (ap of_top c.in_ok-generating_command.ensures.app) in
+    let demo_in : (all : Command) → AddsSubcommand c.in_ok-subcommand-9.field-0 c.in_ok-generating_command-2.field-0 all → app_of all ≡ command =
     λ all added. added.shape c.in_ok-generating_command-2.ensures.local ∙ ap₂ with_subcommand gen_in (ap of_top c.in_ok-generating_command-2.ensures.app) in
-    record { app = IfOk-weaker _ _ _ demo_in c.subcommand-9.ensures }
+    record { app = IfOk-weaker _ _ _ demo_in c.subcommand-10.ensures }

@@ -13,5 +13,10 @@ returns c = record {
   number = refl;
   count = refl;
   none = refl;
+  no_workers = refl;
+  zero_workers = refl;
+  most_workers = refl;
+  workers = refl;
+  bare = refl;
   sign = refl;
 }
