@@ -6,11 +6,13 @@
 #![tactic(auto)]
 
 use capture_runner::run;
+use port_workers::Open;
 use run_io::sinks::MemSink;
 use run_io::sources::MemSource;
 use std::alloc::Global;
 use std::rt::{Env, Files};
 use std::sync::Wait;
+use std::thread::Threads;
 use std::{env, fs, io};
 
 /// The room of a sink: no example writes as much.
@@ -30,19 +32,27 @@ fn command_of(ending: &str) -> Option<&'static [&'static str]> {
 }
 
 /// What these words write of this input.
-fn written(rt: &impl Wait, alloc: Global, words: &[&str], input: Vec<u8>) -> io::Result<Vec<u8>> {
+fn written(
+    rt: &(impl Threads + Wait + Sync),
+    alloc: Global,
+    words: &[&str],
+    input: Vec<u8>,
+) -> io::Result<Vec<u8>> {
     let mut owned = Vec::new(alloc);
     for word in words {
         owned.push(String::from_str(alloc, *word)?)?;
     }
     let mut source = MemSource::make(input, Vec::new(alloc));
     let mut sink = MemSink::make(alloc, ROOM, Vec::new(alloc))?;
-    let _status = run(rt, alloc, &owned, &mut source, &mut sink);
+    let _status = run(rt, alloc, &owned, &mut source, &mut sink, &Open);
     Ok(Vec::from_slice(alloc, sink.bytes())?)
 }
 
 /// Whether the file holds what its command writes of the scenario beside it.
-fn is_written<R: Files + Wait + Alloc<A = Global>>(rt: &R, file: &str) -> io::Result<bool> {
+fn is_written<R: Files + Threads + Wait + Sync + Alloc<A = Global>>(
+    rt: &R,
+    file: &str,
+) -> io::Result<bool> {
     let Some((name, ending)) = file.split_once('.') else {
         return Ok(false);
     };

@@ -2,6 +2,7 @@
 #![tactic(auto)]
 
 use capture_runner::{end_without_memory, run};
+use port_workers::Open;
 use run_io::sinks::StdSink;
 use run_io::sources::StdSource;
 use std::alloc::Global;
@@ -22,10 +23,10 @@ fn main(rt: HostRuntime) -> ExitCode {
     let mut source = StdSource::make(rt.reader());
     let mut sink = StdSink::make(io::writer(&rt));
     let status = match words_of(&rt) {
-        Ok(words) => run(&rt, rt.alloc(), &words, &mut source, &mut sink),
+        Ok(words) => run(&rt, rt.alloc(), &words, &mut source, &mut sink, &Open),
         Err(error) if error.kind() == io::ErrorKind::OutOfMemory => end_without_memory(&mut sink),
         // Words that aren't UTF-8 are none that are known.
-        Err(_) => run(&rt, rt.alloc(), &[], &mut source, &mut sink),
+        Err(_) => run(&rt, rt.alloc(), &[], &mut source, &mut sink, &Open),
     };
     ExitCode::from(status.code())
 }
