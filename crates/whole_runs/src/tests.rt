@@ -6,6 +6,7 @@ mod commands;
 mod failing_calls;
 mod faults;
 mod limits;
+mod live;
 mod messages;
 mod queriers;
 mod rows;
@@ -13,12 +14,14 @@ mod snooping;
 mod trees;
 
 use capture_runner::{Status, run};
+use port_workers::{Gate, Open};
 use run_io::sinks::MemSink;
 use run_io::sources::MemSource;
 use std::alloc::Global;
 use std::process::Abort;
 use std::sync::Wait;
 use std::test::Fail;
+use std::thread::Threads;
 
 /// The room of a sink.
 const ROOM: u32 = 1 << 25;
@@ -32,12 +35,24 @@ struct Outcome {
 
 /// Runs these words, where the reads and writes of these numbers fail.
 fn ran(
-    rt: &impl Wait,
+    rt: &(impl Threads + Wait + Sync),
     alloc: Global,
     words: &[&str],
     input: &[u8],
     read_fails: &[u32],
     write_fails: &[u32],
+) -> Result<Outcome, Fail> {
+    ran_at(rt, alloc, words, input, (read_fails, write_fails), &Open)
+}
+
+/// The same with this gate.
+fn ran_at(
+    rt: &(impl Threads + Wait + Sync),
+    alloc: Global,
+    words: &[&str],
+    input: &[u8],
+    (read_fails, write_fails): (&[u32], &[u32]),
+    gate: &(impl Gate + Sync),
 ) -> Result<Outcome, Fail> {
     let mut owned = Vec::new(alloc);
     for word in words {
@@ -48,14 +63,14 @@ fn ran(
         Vec::from_slice(alloc, read_fails)?,
     );
     let mut sink = MemSink::make(alloc, ROOM, Vec::from_slice(alloc, write_fails)?)?;
-    let status = run(rt, alloc, &owned, &mut source, &mut sink);
+    let status = run(rt, alloc, &owned, &mut source, &mut sink, gate);
     let wrote = Vec::from_slice(alloc, sink.bytes())?;
     Ok(Outcome { status, wrote })
 }
 
 /// Runs a scenario. `told` is what its transcript has after the line `transcript 1`.
 fn is_told(
-    rt: &(impl Abort + Wait),
+    rt: &(impl Abort + Threads + Wait + Sync),
     alloc: Global,
     input: &[u8],
     status: Status,
@@ -71,7 +86,7 @@ fn is_told(
 
 /// Runs a scenario whose transcript ends in this.
 fn ends_in(
-    rt: &(impl Abort + Wait),
+    rt: &(impl Abort + Threads + Wait + Sync),
     alloc: Global,
     input: &[u8],
     status: Status,

@@ -7,10 +7,11 @@ use std::alloc::Global;
 use std::process::Abort;
 use std::sync::Wait;
 use std::test::Fail;
+use std::thread::Threads;
 
 /// Checks this input, where the reads of these numbers fail. It writes just this.
 fn checked(
-    rt: &(impl Abort + Wait),
+    rt: &(impl Abort + Threads + Wait + Sync),
     alloc: Global,
     input: &[u8],
     read_fails: &[u32],

@@ -2,12 +2,14 @@
 use super::rows::FIRST_FRAME;
 use super::{Outcome, ROOM, read_row};
 use capture_runner::{Status, run};
+use port_workers::Open;
 use run_io::sinks::MemSink;
 use run_io::sources::{MemSource, Source};
 use std::alloc::Global;
 use std::process::Abort;
 use std::sync::Wait;
 use std::test::Fail;
+use std::thread::Threads;
 
 pub(super) fn source_of(rt: &impl Abort, alloc: Global, input: &[u8], fails: &[u32]) -> MemSource {
     let bytes = Vec::from_slice(alloc, input).expect(rt, "memory for the input");
@@ -17,7 +19,7 @@ pub(super) fn source_of(rt: &impl Abort, alloc: Global, input: &[u8], fails: &[u
 
 /// Runs the words of this line over a sink of so much room.
 pub(super) fn ran_line(
-    rt: &(impl Abort + Wait),
+    rt: &(impl Abort + Threads + Wait + Sync),
     alloc: Global,
     line: &str,
     source: &mut MemSource,
@@ -29,14 +31,14 @@ pub(super) fn ran_line(
         words.push(word).expect(rt, "memory for the words");
     }
     let mut sink = MemSink::make(alloc, room, Vec::new(alloc)).expect(rt, "memory for a sink");
-    let status = run(rt, alloc, &words, source, &mut sink);
+    let status = run(rt, alloc, &words, source, &mut sink, &Open);
     let wrote = Vec::from_slice(alloc, sink.bytes()).expect(rt, "memory for what was written");
     Outcome { status, wrote }
 }
 
 /// Runs a line of words over an input, where the reads of these numbers fail. It writes just this.
 pub(super) fn writes(
-    rt: &(impl Abort + Wait),
+    rt: &(impl Abort + Threads + Wait + Sync),
     alloc: Global,
     line: &str,
     (input, fails): (&[u8], &[u32]),
@@ -52,7 +54,13 @@ pub(super) fn writes(
 const UNREAD: &[u8] = b"scenario 1\nend\n";
 
 /// Runs a line of words that leaves its input unread. It writes just this.
-fn writes_unread(rt: &(impl Abort + Wait), alloc: Global, line: &str, status: Status, wrote: &str) {
+fn writes_unread(
+    rt: &(impl Abort + Threads + Wait + Sync),
+    alloc: Global,
+    line: &str,
+    status: Status,
+    wrote: &str,
+) {
     let mut source = source_of(rt, alloc, UNREAD, &[]);
     let outcome = ran_line(rt, alloc, line, &mut source, ROOM);
     assert_eq!(rt; outcome.status, status, "at {line}");
@@ -232,7 +240,14 @@ fn words_outside_the_grammar(rt: HostRuntime) {
         "querier 10.0.0.9 fe80::9",
         "querier 10.0.0.9 fe7f:0000:0000:0000:0000:0000:0000:0009",
         "querier 10.0.0.9 fec0:0000:0000:0000:0000:0000:0000:0009",
-        "live --workers 2",
+        "live",
+        "live 2",
+        "live --workers",
+        "live --workers 0",
+        "live --workers 17",
+        "live --workers 02",
+        "live --workers +2",
+        "live --workers 2 3",
     ];
     for line in rows {
         writes_unread(&rt, rt.alloc(), line, Status::Usage, "usage\n");

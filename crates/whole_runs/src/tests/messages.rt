@@ -7,6 +7,7 @@ use std::alloc::Global;
 use std::process::Abort;
 use std::sync::Wait;
 use std::test::Fail;
+use std::thread::Threads;
 
 /// Those of two static entries, and the end.
 const TWO_ENTRIES: &str =
@@ -57,7 +58,13 @@ end
 ";
 
 /// What `monitor` writes of a scenario, and what `follow` writes of that.
-fn is_monitored(rt: &(impl Abort + Wait), alloc: Global, scenario: &str, told: &str, rows: &str) {
+fn is_monitored(
+    rt: &(impl Abort + Threads + Wait + Sync),
+    alloc: Global,
+    scenario: &str,
+    told: &str,
+    rows: &str,
+) {
     let ok = Status::Ok;
     writes(rt, alloc, "monitor", (scenario.as_bytes(), &[]), (ok, told));
     writes(rt, alloc, "follow", (told.as_bytes(), &[]), (ok, rows));

@@ -5,6 +5,7 @@ use std::alloc::Global;
 use std::process::Abort;
 use std::sync::Wait;
 use std::test::Fail;
+use std::thread::Threads;
 
 /// A frame to a known station.
 pub(super) const FIRST_FRAME: &str = "scenario 1
@@ -21,7 +22,7 @@ end => end 7 8 2 0
 ";
 
 pub(super) fn row_is_told(
-    rt: &(impl Abort + Wait),
+    rt: &(impl Abort + Threads + Wait + Sync),
     alloc: Global,
     text: &str,
     status: Status,
