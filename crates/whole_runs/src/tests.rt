@@ -12,6 +12,7 @@ mod queriers;
 mod rows;
 mod snooping;
 mod trees;
+mod trunks;
 
 use capture_runner::{Status, run};
 use port_workers::{Gate, Open};

@@ -5,11 +5,11 @@ use std::alloc::Global;
 use std::test::Fail;
 
 /// A section header: type, total length, magic, version 1.0, an unknown section length, total length.
-const HEADER: &[u8] =
+pub(super) const HEADER: &[u8] =
     b"\x0a\x0d\x0d\x0a\x1c\x00\x00\x00\x4d\x3c\x2b\x1a\x01\x00\x00\x00\xff\xff\xff\xff\xff\xff\xff\xff\x1c\x00\x00\x00";
 
 /// An Ethernet interface: type, total length, link type 1, reserved, snap length, total length.
-const INTERFACE: &[u8] =
+pub(super) const INTERFACE: &[u8] =
     b"\x01\x00\x00\x00\x14\x00\x00\x00\x01\x00\x00\x00\x00\x00\x04\x00\x14\x00\x00\x00";
 
 /// A packet by interface 0: type, total length, interface, time, captured and original length 16, the frame, total length.

@@ -67,9 +67,9 @@ impl Gate for Meeting {
     }
 }
 
-/// The lines of a text, which is ASCII.
-fn lines_of<'a>(rt: &impl Abort, wrote: &'a [u8]) -> &'a str {
-    str::from_utf8(wrote).expect(rt, "what is written is text")
+/// How many lines of a text begin so.
+pub(super) fn count_lines(text: &str, begins: &str) -> usize {
+    text.lines().filter(|line| line.starts_with(begins)).count()
 }
 
 /// Each of two workers holds a frame and finds that the other does, before either is posted.
@@ -87,17 +87,9 @@ fn two_workers_meet_at_the_gate(rt: HostRuntime) -> Result<(), Fail> {
     )?;
     assert_eq!(rt; outcome.status, Status::Ok);
     assert_eq!(rt; gate.met.load(Ordering::SeqCst), 2);
-    let text = lines_of(&rt, outcome.wrote.as_slice());
-    let mut held = 0;
-    for line in text.lines() {
-        if line == "hold" {
-            held += 1;
-        }
-        if line.starts_with("post ") {
-            break;
-        }
-    }
-    assert_eq!(rt; held, 2);
+    let text = str::from_utf8(outcome.wrote.as_slice())?;
+    let (before, _) = text.split_once("\npost ").ok_or("a post")?;
+    assert_eq!(rt; count_lines(before, "hold"), 2);
     Ok(())
 }
 
@@ -109,7 +101,7 @@ fn one_worker_ends_as_one_runs_alone(rt: HostRuntime) -> Result<(), Fail> {
     for words in [["live", "--workers", "1"], ["live", "--workers", "16"]] {
         let outcome = ran(&rt, alloc, &words, scenario.as_bytes(), &[], &[])?;
         assert_eq!(rt; outcome.status, Status::Ok);
-        let text = lines_of(&rt, outcome.wrote.as_slice());
+        let text = str::from_utf8(outcome.wrote.as_slice())?;
         let last = text.lines().last().ok_or("a last line")?;
         assert!(rt;
             last.starts_with("end ") && last.ends_with(" 8 0 0"),
