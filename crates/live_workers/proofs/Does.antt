@@ -1,6 +1,6 @@
 -- A step that a line of a scenario gives, where no frame is held.
-use Rattle.std.proofs.Common.{◌≡◌, ℕ, ◌+◌, ◌<◌, ◌^◌, true, false, List, Option, None, Some, refl, sym, ◌∙◌, ap, subst, arith, nat_le}
-use Rattle.br_model.specs.declared.steps.Step.TheVariants.{Now, Post}
+use Rattle.std.proofs.Common.{◌≡◌, ℕ, ◌+◌, ◌<◌, ◌^◌, true, false, List, Option, None, Some, refl, ◌∙◌, ap, arith, nat_le}
+use Rattle.br_model.specs.declared.steps.Step.TheVariants.{Post}
 use Rattle.br_model.specs.Table.Domains.{has_chip}
 use Rattle.br_model.specs.Table.Setup.{Setup}
 use Rattle.br_model.specs.Text.LineForms.{comes_by_line}

@@ -1,5 +1,5 @@
 -- What holds of each step of a scenario holds of each one that a live run takes from it.
-use Rattle.std.proofs.Common.{◌≡◌, ℕ, ◌==◌, Bool, true, false, not, ◌&&◌, ◌||◌, if◌then◌else◌, List, [], ◌∷◌, ◌++◌, refl, sym, ap, ap₂, ◌∙◌, arith}
+use Rattle.std.proofs.Common.{◌≡◌, ℕ, ◌==◌, Bool, true, false, not, ◌&&◌, ◌||◌, if◌then◌else◌, List, [], ◌∷◌, refl, sym, ap, ap₂, ◌∙◌, arith}
 use Rattle.std.proofs.lemmas.Bool.{true≢false}
 use Rattle.std.proofs.lemmas.List.Folds.{list_all-append}
 use Rattle.std.specs.List.{filter, list_all}
@@ -7,7 +7,7 @@ use Rattle.br_model.specs.declared.steps.Step.{Step}
 use Rattle.br_model.specs.declared.steps.Step.TheVariants.{Rx, Cmd, Now, Serve, Hold, Post, Turn, Report, Sweep, Publish}
 use Rattle.br_model.specs.Program.LiveRun.{frames_at, from_frame, is_frame, is_frame_at, is_live_run, is_ordered, until_frame}
 use Rattle.br_model.specs.Text.Scenario.{Scenario}
-use Rattle.br_model.specs.Theorems.LiveRuns.{Becomes, Empty, Kept, Taken, IsLiveRun}
+use Rattle.br_model.specs.Theorems.LiveRuns.{Becomes, Empty, Kept, Taken}
 use Rattle.br_model.proofs.LiveRuns.{live_is}
 use Rattle.live_workers.specs.Results.{is_taken}
 

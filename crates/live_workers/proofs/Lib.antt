@@ -11,5 +11,5 @@ pub mod Loops
 pub mod Does
 pub mod Standing
 pub mod Givens
-pub mod Working
+pub mod Places
 pub mod Testing

@@ -6,7 +6,7 @@ use Rattle.std.specs.Cmp.{first_so, second_so}
 use Rattle.std.specs.List.{list_all}
 use Rattle.br_model.specs.Control.Learning.{Triple}
 use Rattle.br_model.specs.Plane.Runs.{pending_of, run}
-use Rattle.br_model.specs.Plane.World.{Stepped, chip_at, first_world}
+use Rattle.br_model.specs.Plane.World.{Stepped, chip_at}
 use Rattle.br_model.specs.declared.steps.Step.{Step}
 use Rattle.br_model.proofs.Running.{run_none}
 use Rattle.br_model.specs.Table.Domains.{Domains, has_chip}
@@ -17,8 +17,8 @@ use Rattle.plane_lock.specs.Pasts.{Past, state_of, world_of}
 use Rattle.live_workers.specs.Draining.{Drains, HasTold, HasTurned, Keeps}
 use Rattle.live_workers.specs.Worlds.{IsIdle}
 use Rattle.live_workers.proofs.Drains.{drains_setup}
-use Rattle.live_workers.proofs.Loops.{Reports, ReportsBelow, Turns, TurnsBelow, reports_chip, reports_past, turns_chip, turns_past}
-use Rattle.live_workers.proofs.Telling.{first_of, pending_left}
+use Rattle.live_workers.proofs.Loops.{ReportsBelow, TurnsBelow, reports_chip, reports_past, turns_chip, turns_past}
+use Rattle.live_workers.proofs.Telling.{first_of}
 
 -- so many frames wait
 pub waits : (p : Past) (plane : PlaneState) (n : ℕ) → plane ≡ state_of p → n ≡ length plane.world.waiting → n ≡ length (world_of p).waiting

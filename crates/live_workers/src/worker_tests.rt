@@ -1,6 +1,7 @@
 //! Scenarios by several workers.
-ghost use Rattle.std.specs.Prelude.{◌≡◌, ◌<◌, ◌≤◌, ℕ, List, true, false, IfOk};
+ghost use Rattle.std.specs.Prelude.{◌≡◌, ◌<◌, ◌≤◌, [], ◌∷◌, true, false, IfOk};
 ghost use Rattle.std.specs.List.{list_all};
+ghost use Rattle.br_model.specs.Table.Domains.{chip_domains};
 ghost use Rattle.br_model.specs.Text.LineForms.{comes_by_line};
 
 use crate::take_steps;
@@ -47,17 +48,29 @@ fn port(number: u8) -> Result<Port, Fail>
     Ok(Port::new(number).ok_or("port")?)
 }
 
-/// Two ports, of this domain and of software.
-fn domains(dom: Dom) -> Result<Domains, Fail> {
+/// Two ports of software.
+fn software() -> Result<Domains, Fail>
+    ensures { IfOk result (λ d. chip_domains d ≡ 1 ∷ []) }
+{
     let mut domains = Domains::make();
-    domains.set(port(1)?, dom);
+    domains.set(port(1)?, Dom::SOFTWARE);
+    domains.set(port(2)?, Dom::SOFTWARE);
+    Ok(domains)
+}
+
+/// One port of the chip, and one of software.
+fn with_chip() -> Result<Domains, Fail>
+    ensures { IfOk result (λ d. chip_domains d ≡ 1 ∷ []) }
+{
+    let mut domains = Domains::make();
+    domains.set(port(1)?, Dom::CHIP);
     domains.set(port(2)?, Dom::SOFTWARE);
     Ok(domains)
 }
 
 /// A frame between the stations 10 and 11, which enters at the port.
 fn frame(alloc: Global, number: u8, to: u8, from: u8) -> Result<Step, Fail>
-    ensures { IfOk result (λ s. (chips : List ℕ) → comes_by_line false chips s ≡ true) }
+    ensures { IfOk result (λ s. comes_by_line false (1 ∷ []) s ≡ true) }
 {
     let bytes = [2, 0, 0, 0, 0, to, 2, 0, 0, 0, 0, from, 0x88, 0xB5, 1, 2];
     Ok(Step::Rx {
@@ -68,7 +81,7 @@ fn frame(alloc: Global, number: u8, to: u8, from: u8) -> Result<Step, Fail>
 
 /// The ports come up, and then a frame enters at each of them, so many times.
 fn given(alloc: Global, times: usize) -> Result<Vec<Step>, Fail>
-    ensures { IfOk result (λ steps. (chips : List ℕ) → list_all (comes_by_line false chips) steps.items ≡ true) }
+    ensures { IfOk result (λ v. list_all (comes_by_line false (1 ∷ [])) v.items ≡ true) }
 {
     let mut steps = Vec::new(alloc);
     steps.push(Step::Cmd(Command::PortUp(port(1)?)))?;
@@ -121,7 +134,7 @@ fn two_workers_meet_at_the_gate(rt: HostRuntime) -> Result<(), Fail> {
         met: AtomicU64::new(0),
     };
     let given = given(alloc, 1)?;
-    let domains = domains(Dom::SOFTWARE)?;
+    let domains = software()?;
     let taken = take_steps(&rt, alloc, &gate, 2, domains, Mac::FIRST_OWN, &given)?;
     let steps = taken.book.steps.as_slice();
     assert_eq!(rt; gate.met.load(Ordering::SeqCst), 2);
@@ -143,9 +156,9 @@ fn post_all<R: Threads + Wait + Sync>(
     steps: &[Step],
 ) -> Result<bool, Fail>
     requires workers { (0 < workers) × (workers ≤ 16) }
-    requires by_line { (chips : List ℕ) → list_all (comes_by_line false chips) steps.now ≡ true }
+    requires by_line { list_all (comes_by_line false (1 ∷ [])) steps.now ≡ true }
 {
-    let domains = domains(Dom::SOFTWARE)?;
+    let domains = software()?;
     let taken = take_steps(rt, alloc, &Open, workers, domains, Mac::FIRST_OWN, steps)?;
     Ok(counts(taken.book.steps.as_slice()) == [40, 40, 40, 0] && is_done(&taken.end))
 }
@@ -166,7 +179,7 @@ fn workers_leave_no_frame(rt: HostRuntime) -> Result<(), Fail> {
 fn workers_serve_the_chip(rt: HostRuntime) -> Result<(), Fail> {
     let alloc = rt.alloc();
     let given = given(alloc, 3)?;
-    let domains = domains(Dom::CHIP)?;
+    let domains = with_chip()?;
     let taken = take_steps(&rt, alloc, &Open, 2, domains, Mac::FIRST_OWN, &given)?;
     let counts = counts(taken.book.steps.as_slice());
     assert!(rt; counts[0] == 6 && counts[1] == counts[2] && counts[1] > 0 && counts[3] == 0);

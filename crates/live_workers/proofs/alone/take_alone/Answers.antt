@@ -1,18 +1,13 @@
-use Rattle.std.proofs.Common.{◌≡◌, true, false, drop, List, [], sym, ap, subst, ◌∙◌}
+use Rattle.std.proofs.Common.{◌≡◌, true, false, drop, List, sym, ap, subst, ◌∙◌}
 use Rattle.std.specs.List.{list_all}
 use Rattle.std.proofs.lemmas.Result.{on_ok_weaker}
 use Rattle.br_model.specs.declared.steps.Step.{Step}
-use Rattle.br_model.specs.Plane.Runs.{run}
-use Rattle.br_model.specs.Plane.World.{Stepped}
 use Rattle.br_model.specs.Table.Domains.{Domains, chip_domains}
-use Rattle.br_model.specs.Table.Setup.{Setup}
 use Rattle.br_model.specs.Text.LineForms.{comes_by_line}
-use Rattle.br_model.proofs.Running.{run_none}
-use Rattle.plane_lock.specs.Pasts.{Past, world_of}
+use Rattle.plane_lock.specs.Pasts.{Past}
 use Rattle.live_workers.proofs.Lives.{live_alone}
 use Rattle.live_workers.proofs.Runs.{all_later}
 use Rattle.live_workers.proofs.Standing.{behind_place, idle_first}
-use Rattle.live_workers.proofs.alone.take_alone.Given as given
 use Rattle.live_workers.proofs.alone.take_alone.Goals as goal
 
 pub open-requires-clause-by_line : goal.open-requires-clause-by_line

@@ -1,15 +1,12 @@
-use Rattle.std.proofs.Common.{◌≡◌, ◌<◌, ◌≤◌, ◌+◌, true, false, List, [], ◌∷◌, length, drop, refl, sym, ap, subst, ◌∙◌, arith}
-use Rattle.std.specs.Cmp.{first_so, second_so}
+use Rattle.std.proofs.Common.{◌+◌, false, List, drop, refl, sym, ap, subst, ◌∙◌, arith}
 use Rattle.std.specs.List.{list_all}
 use Rattle.std.proofs.Math.ListN.{drop_of_length-le}
 use Rattle.br_model.specs.declared.steps.Step.{Step}
 use Rattle.br_model.specs.Table.Domains.{chip_domains}
 use Rattle.br_model.specs.Text.LineForms.{comes_by_line}
 use Rattle.plane_lock.specs.Pasts.{Past}
-use Rattle.live_workers.specs.Taking.{Takes}
 use Rattle.live_workers.proofs.Loops.{Goes, goes_more, goes_all}
 use Rattle.live_workers.proofs.Standing.{dropped_at, first_from, rest_from}
-use Rattle.live_workers.proofs.alone.take_steps.Given as given
 use Rattle.live_workers.proofs.alone.take_steps.Goals as goal
 
 pub loop-place-init : goal.loop-place-init

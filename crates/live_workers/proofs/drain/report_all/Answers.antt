@@ -1,6 +1,6 @@
-use Rattle.std.proofs.Common.{◌≡◌, ◌<◌, ℕ, None, Some, sym, ap, subst, ◌∙◌}
+use Rattle.std.proofs.Common.{◌≡◌, ◌<◌, None, Some, sym, ap, subst, ◌∙◌}
 use Rattle.plane_lock.specs.Pasts.{Past}
-use Rattle.live_workers.proofs.Loops.{Reports, reports_first, reports_more}
+use Rattle.live_workers.proofs.Loops.{reports_first, reports_more}
 use Rattle.live_workers.proofs.Standing.{first_is, still_has, still_there}
 use Rattle.live_workers.proofs.Telling.{first_of, one_less, reports_left, told_all, told_refused}
 use Rattle.live_workers.specs.Draining.{HasTold}

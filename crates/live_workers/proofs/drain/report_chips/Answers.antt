@@ -1,4 +1,4 @@
-use Rattle.std.proofs.Common.{◌≡◌, ◌+◌, ℕ, sym, ap, subst, ◌∙◌, arith}
+use Rattle.std.proofs.Common.{◌+◌, sym, subst, ◌∙◌, arith}
 use Rattle.plane_lock.specs.Pasts.{Past}
 use Rattle.live_workers.proofs.Loops.{ReportsBelow, all_reported, reports_none}
 use Rattle.live_workers.proofs.Standing.{has_own, reports_five, reports_next, reports_none_there}

@@ -1,4 +1,4 @@
-use Rattle.std.proofs.Common.{◌≡◌, ◌<◌, ℕ, length, refl, sym, ap, subst, ◌∙◌, arith}
+use Rattle.std.proofs.Common.{◌<◌, length, refl, sym, ap, subst, ◌∙◌, arith}
 use Rattle.plane_lock.specs.Pasts.{Past, world_of}
 use Rattle.live_workers.proofs.Drains.{idle_now, one_served}
 use Rattle.live_workers.proofs.Loops.{serves_first, serves_more}

@@ -1,4 +1,4 @@
-use Rattle.std.proofs.Common.{◌≡◌, inr}
+use Rattle.std.proofs.Common.{inr}
 use Rattle.plane_lock.specs.Pasts.{state_of}
 use Rattle.plane_lock.proofs.Turning.{in-turn}
 use Rattle.live_workers.proofs.Does.{chip_there}

@@ -1,4 +1,4 @@
-use Rattle.std.proofs.Common.{◌≡◌, ◌<◌, ℕ, sym, ap, subst, ◌∙◌, arith}
+use Rattle.std.proofs.Common.{◌<◌, sym, subst, arith}
 use Rattle.plane_lock.specs.Pasts.{Past}
 use Rattle.live_workers.proofs.Loops.{turns_first, turns_more}
 use Rattle.live_workers.proofs.Standing.{counted, still_has, still_there}

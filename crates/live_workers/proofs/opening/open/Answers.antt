@@ -1,5 +1,4 @@
-use Rattle.std.proofs.Common.{◌≡◌, ◌<◌, ◌+◌, true, false, List, [], ◌∷◌, length, drop, refl, sym, ap, subst, ◌∙◌, arith}
-use Rattle.std.specs.Cmp.{first_so, second_so}
+use Rattle.std.proofs.Common.{◌≡◌, ◌<◌, ◌+◌, false, List, [], length, drop, refl, sym, ap, subst, ◌∙◌, arith}
 use Rattle.std.specs.List.{list_all}
 use Rattle.std.proofs.Math.ListN.{drop_of_length-le}
 use Rattle.br_model.specs.declared.steps.Step.{Step}
@@ -8,7 +7,6 @@ use Rattle.br_model.specs.Text.LineForms.{comes_by_line}
 use Rattle.plane_lock.specs.Pasts.{Past}
 use Rattle.live_workers.proofs.Loops.{Opens, opens_first, opens_more, opens_here, opens_all}
 use Rattle.live_workers.proofs.Standing.{dropped_at, first_from, rest_from}
-use Rattle.live_workers.proofs.opening.open.Given as given
 use Rattle.live_workers.proofs.opening.open.Goals as goal
 
 pub loop-place-init : goal.loop-place-init

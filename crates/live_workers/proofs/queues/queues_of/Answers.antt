@@ -3,7 +3,7 @@ use Rattle.std.proofs.lemmas.List.Elements.{All-push}
 use Rattle.std.specs.List.{All}
 use Rattle.plane_lock.specs.declared.queues.Queue.{Queue}
 use Rattle.plane_lock.specs.Posted.{updates_of}
-use Rattle.live_workers.proofs.Working.{one_queued}
+use Rattle.live_workers.proofs.Places.{one_queued}
 use Rattle.live_workers.proofs.queues.queues_of.Goals as goal
 
 pub loop-dom-preserved : goal.loop-dom-preserved

@@ -1,11 +1,11 @@
-use Rattle.std.proofs.Common.{◌≡◌, ℕ, sym, ap, ◌∙◌, arith}
+use Rattle.std.proofs.Common.{ℕ, sym, ap, ◌∙◌, arith}
 use Rattle.std.specs.List.{filter}
 use Rattle.br_model.specs.Plane.World.{chip_at}
 use Rattle.live_book.specs.Ends.{has_reports_at}
 use Rattle.live_book.proofs.Reporting.{reporting_is}
 use Rattle.plane_lock.specs.Pasts.{world_of}
 use Rattle.live_workers.proofs.Does.{chip_there}
-use Rattle.live_workers.proofs.Working.{all_found, chip_of_place}
+use Rattle.live_workers.proofs.Places.{all_found, chip_of_place}
 use Rattle.live_workers.proofs.remains.reporting.Goals as goal
 
 pub first_report-requires : goal.first_report-requires

