@@ -4,13 +4,16 @@ use Rattle.std.specs.Prelude.{codes}
 use Rattle.std.specs.Cmp.{first_so, second_so}
 use Rattle.std.specs.Io.KnownBytes.{Consumes, IsAtEnd}
 use Rattle.std.specs.List.{list_all, list_any}
+use Rattle.std.specs.Option.{is_some}
 use Rattle.std.specs.declared.option.Option.{Option}
 use Rattle.std.specs.declared.option.Option.TheVariants.{None, Some}
 use Rattle.std.specs.declared.result.Result.{Result}
 use Rattle.std.specs.declared.result.Result.TheVariants.{Ok, Err}
+use Rattle.std.proofs.lemmas.Bool.{false≢true, true≢false}
 use Rattle.br_model.specs.declared.scenario.LineWhy.{LineWhy}
 use Rattle.br_model.specs.declared.steps.Step.{Step}
 use Rattle.br_model.specs.declared.steps.Step.TheVariants.{Rx, Cmd, Now, Serve, Hold, Post, Turn, Report, Sweep, Publish}
+use Rattle.br_model.specs.declared.transcript.Line.{Line}
 use Rattle.br_model.specs.Program.LiveRun.{is_live_run}
 use Rattle.br_model.specs.Program.LiveText.{live_text, steps_scenario}
 use Rattle.br_model.specs.Program.Outcomes.{GoesOn, HoldsNoEnd}
@@ -116,6 +119,10 @@ module _ (left now : Option (List ℕ)) (input : List ℕ) (x : WholeState) (rea
       let e : has_ended (reads (opened false) input).ending ≡ true = ap has_ended (says.last ∙ ap ending_or_going is) ∙ ends_so last in
       record { input = input; read = read; says = says; lines = lines; whole = whole_of_ended left now input read e; within = within_of_ended most_live_bytes left now input read few e }
 
+  pub read_some : (o : Option Last) → o ≡ x.last → is_some o ≡ true → length input ≤ most_live_bytes → IsRead left now x
+  read_some None is some few = absurd (false≢true some)
+  read_some (Some last) is some few = read_ended last (sym is) few
+
   -- they were all that there was
   pub read_all : IsAtEnd now → length input < most_live_bytes → IsRead left now x
   read_all none few = record { input = input; read = read; says = says; lines = lines; whole = whole_of_all left now input read none; within = within_of_all most_live_bytes left now input read none few }
@@ -129,6 +136,11 @@ module _ (left now : Option (List ℕ)) (input : List ℕ) (x : WholeState) (rea
 
   pub stops_full : x.last ≡ None → length input ≡ most_live_bytes → (t : List ℕ) × Filled left most_live_bytes now t
   stops_full is full = (body input, record { stops = record { input = input; read = read; going = goes_on is; told = refl }; full = full })
+
+-- they haven't
+pub reads_on : (x : WholeState) (o : Option Last) → o ≡ x.last → is_some o ≡ false → x.last ≡ None
+reads_on x None is none = sym is
+reads_on x (Some last) is none = absurd (true≢false none)
 
 -- what is written of it
 
@@ -183,7 +195,10 @@ lines_of_whole bytes x says are is =
 -- what workers take of a scenario
 
 module _ (roster : Roster) (domains : Domains) (own : ℕ) (steps : List Step) (same : domains ≡ domains_of roster.edition roster.ports) (its : own ≡ roster.own) (all : are_declared roster.ports ≡ true) where
-  setup_is : setup_of roster ≡ record { domains = domains; own = own }
+  abbrev setup : Setup
+  setup = record { domains = domains; own = own }
+
+  setup_is : setup_of roster ≡ setup
   setup_is = ap₂ (λ (d : Domains) (o : ℕ). record { domains = d; own = o }) (sym same) (sym its)
 
   chips_are : chip_domains domains ≡ chips_of roster.ports
@@ -193,19 +208,20 @@ module _ (roster : Roster) (domains : Domains) (own : ℕ) (steps : List Step) (
   pub comes_so : (given : List Step) → given ≡ steps → list_all (comes_by_line false (chips_of roster.ports)) steps ≡ true → list_all (comes_by_line false (chip_domains domains)) given ≡ true
   comes_so given is h = ap (list_all (comes_by_line false (chip_domains domains))) is ∙ ap (λ (chips : List ℕ). list_all (comes_by_line false chips) steps) chips_are ∙ h
 
-  module _ (taken : List Step) where
+  module _ (given taken : List Step) (is : given ≡ steps) where
     -- and those that were taken
     pub lines_taken : list_all (has_line roster.ports) steps ≡ true → list_all (comes_by_line true (chip_domains domains)) taken ≡ true
-        → ((sc : Scenario) → setup_of sc.roster ≡ record { domains = domains; own = own } → sc.steps ≡ steps → (p : Step → Bool) → list_all p steps ≡ true → list_all (λ s. not (is_taken s) || p s) taken ≡ true)
+        → ((sc : Scenario) → setup_of sc.roster ≡ setup → sc.steps ≡ given → (p : Step → Bool) → list_all p given ≡ true → list_all (λ s. not (is_taken s) || p s) taken ≡ true)
         → list_all is_numbered taken ≡ true → list_all (has_line roster.ports) taken ≡ true
-    lines_taken lines by_line given numbers =
+    lines_taken lines by_line keeps numbers =
         let sc : Scenario = record { lines = 0; roster = roster; steps = steps; ending = Ended } in
-        all_lined roster.ports (chip_domains domains) taken chips_are by_line (given sc setup_is refl (has_line roster.ports) lines) numbers
+        all_lined roster.ports (chip_domains domains) taken chips_are by_line (keeps sc setup_is (sym is) (has_line roster.ports) (ap (list_all (has_line roster.ports)) is ∙ lines)) numbers
 
     -- their text
-    pub text_taken : (out : List ℕ) → list_all (has_line roster.ports) taken ≡ true
-        → ((sc : Scenario) → setup_of sc.roster ≡ record { domains = domains; own = own } → sc.steps ≡ steps → is_live_run taken sc ≡ true)
-        → out ≡ steps_scenario roster taken ++ (codes "transcript 1" ++ 10 ∷ (text (run (record { domains = domains; own = own }) taken).1 ++ line_text (end_line (run (record { domains = domains; own = own }) taken).0)))
-        → IsLiveText roster steps out
-    text_taken out lines live h =
-        λ sc r s. (taken, live sc (ap setup_of r ∙ setup_is) s, lines, told_so sc roster (record { domains = domains; own = own }) taken out r (sym setup_is) h)
+    pub text_taken : (out : List ℕ) (told : List Line) (end : Line) → list_all (has_line roster.ports) taken ≡ true
+        → ((sc : Scenario) → setup_of sc.roster ≡ setup → sc.steps ≡ given → is_live_run taken sc ≡ true) → told ≡ (run setup taken).1 → end ≡ end_line (run setup taken).0
+        → out ≡ steps_scenario roster taken ++ (codes "transcript 1" ++ 10 ∷ (text told ++ line_text end)) → IsLiveText roster steps out
+    text_taken out told end lines live told_is end_is h =
+        let out_is : out ≡ steps_scenario roster taken ++ (codes "transcript 1" ++ 10 ∷ (text (run setup taken).1 ++ line_text (end_line (run setup taken).0))) =
+        h ∙ ap₂ (λ (l : List Line) (e : Line). steps_scenario roster taken ++ (codes "transcript 1" ++ 10 ∷ (text l ++ line_text e))) told_is end_is in
+        λ sc r s. (taken, live sc (ap setup_of r ∙ setup_is) (s ∙ sym is), lines, told_so sc roster setup taken out r (sym setup_is) out_is)

@@ -1,9 +1,10 @@
 //! `live`: a whole scenario is read, workers take its steps, and the steps as they happened are written with their transcript.
-ghost use Rattle.std.specs.Prelude.{◌≡◌, ◌∷◌, ◌++◌, ◌<◌, ◌≤◌, true, false, codes, length, IfOk, string_bytes};
+ghost use Rattle.std.specs.Prelude.{◌≡◌, ◌∷◌, ◌++◌, ◌<◌, ◌≤◌, true, false, codes, length, nat_le, IfOk, string_bytes};
 ghost use Rattle.std.specs.List.{list_all};
 ghost use Rattle.br_model.specs.Program.LiveText.{steps_scenario};
 ghost use Rattle.br_model.specs.Table.Limits.{most_bytes};
 ghost use Rattle.br_model.specs.Text.LineForms.{comes_by_line};
+ghost use Rattle.br_model.specs.Text.Operands.{last_id};
 ghost use Rattle.br_model.specs.Text.Roster.{chips_of};
 ghost use Rattle.br_model.specs.Text.ScenarioText.{has_line, names_declared};
 ghost use Rattle.br_model.specs.Text.Transcript.{bad_text, line_text, text as text_of};
@@ -78,13 +79,23 @@ fn text_of(alloc: Global, roster: &Roster, taken: &Taken) -> Result<String, NoMe
     Ok(text)
 }
 
-/// A law: the numbers of a post have 32 bits.
+/// A law: this number has no more than 32 bits.
+fn number_fits(number: u32)
+    ensures { nat_le number last_id ≡ true }
+{}
+
+/// A law: so have the numbers of a post.
 fn numbers_fit(step: &Step)
     ensures { is_numbered step.now ≡ true }
 {
     match step {
-        Step::Post { id, point } => {
-            let (_id, _point) = (*id, *point);
+        Step::Post { id, point: None } => number_fits(*id),
+        Step::Post {
+            id,
+            point: Some(point),
+        } => {
+            number_fits(*id);
+            number_fits(*point);
         }
         Step::Rx { .. }
         | Step::Cmd(_)
