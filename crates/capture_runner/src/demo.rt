@@ -94,6 +94,7 @@ impl Tally {
         }
     }
 
+    #[inline(always)]
     fn add_all(&mut self, lines: &Lines) -> Result<(), NoMemory>
         ensures { OnOk result (Adds self.old lines.now.lines self.new) }
     {
