@@ -57,6 +57,21 @@ def learned():
             yield "publish"
 
 
+def audit():
+    """16,384 addresses at ports of four chips, each of which has applied all updates but the last 1,000."""
+    yield "scenario 1"
+    for i in range(1, 17):
+        yield f"port {i} p{i} chip {(i + 3) // 4}"
+    for i in range(1, 17):
+        yield f"cmd port up p{i}"
+    for station in range(16384):
+        address = ":".join(f"{byte:02x}" for byte in (0x020000000000 + station).to_bytes(6, "big"))
+        yield f"cmd fdb add {address} dev p{station % 16 + 1} vlan 1 static"
+    for i in range(1, 5):
+        for _ in range(15384):
+            yield f"turn {i}"
+
+
 def mixed():
     """100,000 frames among eight stations behind four ports of the chip and two of software, with reports, turns, publications and
     moments."""
@@ -166,7 +181,7 @@ def snooping():
 
 
 SCENARIOS = {f.__name__: f for f in (
-    large, blank, frames, links, learned, mixed, known, sights, no_sights, moments, snooping)}
+    large, blank, frames, links, learned, mixed, audit, known, sights, no_sights, moments, snooping)}
 
 if __name__ == "__main__":
     for line in SCENARIOS[sys.argv[1]]():
