@@ -207,32 +207,24 @@ fn reads_that_fail(rt: HostRuntime) -> Result<(), Fail> {
     Ok(())
 }
 
-/// 2^22 bytes without an end are too many, and so are those whose end lacks its line feed.
+/// 2^22 bytes without an end are too many, and so are those whose end lacks its line feed. Blank lines stand before the last line.
 #[test]
 fn inputs_at_the_limit(rt: HostRuntime) -> Result<(), Fail> {
     let alloc = rt.alloc();
     let rows = [
-        ("end\n", 0, Status::Ok),
-        ("end", 0, Status::TooLong),
-        ("#\n", 0, Status::TooLong),
-        ("end", 1, Status::Ok),
-        ("#\n", 1, Status::BadLine),
+        (4_194_289, "end\n", 4_194_304, Status::Ok),
+        (4_194_290, "end", 4_194_304, Status::TooLong),
+        (4_194_291, "#\n", 4_194_304, Status::TooLong),
+        (4_194_289, "end", 4_194_303, Status::Ok),
+        (4_194_290, "#\n", 4_194_303, Status::BadLine),
     ];
-    for (last, fewer, status) in rows {
-        let mut input = Vec::with_capacity(alloc, 4_194_304)?;
-        input.extend_from_slice(b"scenario 1\n")?;
-        while input.len() + fewer + last.len() < 4_194_304 {
-            input.push(b'\n')?;
-        }
+    for (blank, last, length, status) in rows {
+        let mut input = Vec::from_slice(alloc, b"scenario 1\n")?;
+        input.extend_from_slice(&vec![in alloc; b'\n'; blank]?)?;
         input.extend_from_slice(last.as_bytes())?;
-        let outcome = ran(
-            &rt,
-            alloc,
-            &["live", "--workers", "2"],
-            input.as_slice(),
-            &[],
-            &[],
-        )?;
+        assert_eq!(rt; input.len(), length, "at {last}");
+        let words = ["live", "--workers", "2"];
+        let outcome = ran(&rt, alloc, &words, input.as_slice(), &[], &[])?;
         assert_eq!(rt; outcome.status, status, "at {last}");
     }
     Ok(())
