@@ -2,7 +2,8 @@
 //!
 //! The words are names of files there, each with what one command writes: `NAME.transcript` is what `replay` writes of
 //! `NAME.scenario`, `NAME.fdb`, `NAME.vlan` and `NAME.mdb` what `show` writes of it with that word, `NAME.audit` what `audit` does, and
-//! `NAME.checked` what `check` writes of it with the transcript behind it.
+//! `NAME.checked` what `check` writes of it with the transcript behind it. `NAME.live` is what one run of `live` wrote of it, and
+//! `NAME.live_checked` what `check` writes of that.
 #![tactic(auto)]
 
 use capture_runner::run;
@@ -26,7 +27,7 @@ fn command_of(ending: &str) -> Option<&'static [&'static str]> {
         "vlan" => Some(&["show", "vlan"]),
         "mdb" => Some(&["show", "mdb"]),
         "audit" => Some(&["audit"]),
-        "checked" => Some(&["check"]),
+        "checked" | "live_checked" => Some(&["check"]),
         _ => None,
     }
 }
@@ -48,7 +49,20 @@ fn written(
     Ok(Vec::from_slice(alloc, sink.bytes())?)
 }
 
-/// Whether the file holds what its command writes of the scenario beside it.
+/// The input of the command whose output has this ending.
+fn input_of<R: Files + Alloc<A = Global>>(rt: &R, name: &str, ending: &str) -> io::Result<Vec<u8>> {
+    if ending == "live_checked" {
+        return fs::read(rt, format!(in rt.alloc(); "{name}.live")?);
+    }
+    let mut input = fs::read(rt, format!(in rt.alloc(); "{name}.scenario")?)?;
+    if ending == "checked" {
+        let transcript = fs::read(rt, format!(in rt.alloc(); "{name}.transcript")?)?;
+        input.extend_from_slice(&transcript)?;
+    }
+    Ok(input)
+}
+
+/// Whether the file holds what its command writes of what stands beside it.
 fn is_written<R: Files + Threads + Wait + Sync + Alloc<A = Global>>(
     rt: &R,
     file: &str,
@@ -59,11 +73,7 @@ fn is_written<R: Files + Threads + Wait + Sync + Alloc<A = Global>>(
     let Some(words) = command_of(ending) else {
         return Ok(false);
     };
-    let mut input = fs::read(rt, format!(in rt.alloc(); "{name}.scenario")?)?;
-    if ending == "checked" {
-        let transcript = fs::read(rt, format!(in rt.alloc(); "{name}.transcript")?)?;
-        input.extend_from_slice(&transcript)?;
-    }
+    let input = input_of(rt, name, ending)?;
     let wanted = fs::read(rt, file)?;
     Ok(written(rt, rt.alloc(), words, input)? == wanted)
 }
