@@ -1,3 +1,4 @@
 pub mod Ends
+pub mod Parcels
 pub mod Rule
 pub mod Tally

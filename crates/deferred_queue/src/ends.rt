@@ -8,6 +8,7 @@ ghost use Rattle.deferred_queue.specs.Rule.{posting, taking};
 ghost use Rattle.deferred_queue.specs.Tally.{counting, looking, posts_in, looks_in, KnownBut, Looked, Watches};
 
 use crate::NoMemory;
+use crate::parcel::Parcel;
 use crate::rule::{Both, Line, Mark, Posted, Taken, Total, TwoEnds, Whole};
 use crate::tally::{Tally, Watch};
 use br_model::change::Update;
@@ -97,7 +98,8 @@ impl Poster {
         ensures { self.new ≡ record self.old { posted = self.old.posted ++ update ∷ [] } }
     {
         let queue: &Queue = &self.queue;
-        match queue.line.push_as::<Posted, R>(rt, &mut self.mark, update) {
+        let parcel = Parcel::of(update);
+        match queue.line.push_as::<Posted, R>(rt, &mut self.mark, parcel) {
             Ok(()) => {}
             Err(_) => unreachable!(),
         }
@@ -160,7 +162,8 @@ impl Taker {
         ensures looked { IfSome result (λ answer. IfNone answer (Looked self.old.past self.new.past × (posts_in self.new.past ≤ length self.old.taken))) }
     {
         let queue: &Queue = &self.queue;
-        if let Some(update) = queue.line.pop_as::<Taken, R>(rt, &mut self.mark) {
+        if let Some(parcel) = queue.line.pop_as::<Taken, R>(rt, &mut self.mark) {
+            let update = parcel.update();
             self.count = u64::from(update.ticket) + 1;
             return Some(Some(update));
         }

@@ -3,6 +3,7 @@
 #![tactic(auto)]
 
 mod ends;
+mod parcel;
 mod rule;
 mod tally;
 #[cfg(test)]

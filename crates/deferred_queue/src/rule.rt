@@ -1,4 +1,5 @@
 //! The rule of the queue, which exists in proofs alone: what was taken, followed by what the queue holds, is what was posted.
+use crate::parcel::Parcel;
 use br_model::change::Update;
 use crossbeam_queue::protocol::{Join, Lesson, Outcome, Protocol, Split};
 use crossbeam_queue::{Pass, RuledArrayQueue};
@@ -15,7 +16,7 @@ pub struct Log {
 
 pub(crate) struct InOrder;
 
-impl Protocol<Update, Log> for InOrder {
+impl Protocol<Parcel, Log> for InOrder {
     ghost use Rattle.std.specs.Prelude.{true, []};
     ghost use Rattle.deferred_queue.specs.Rule.{log, Carries};
 
@@ -61,14 +62,14 @@ impl Join<Log> for Both {
 
 pub(crate) struct Posted;
 
-impl Outcome<Update, Log> for Posted {
+impl Outcome<Parcel, Log> for Posted {
     ghost use Rattle.std.specs.Prelude.{◌≡◌, [], ◌∷◌, ◌++◌};
 
     ghost then = { λ v x w. w ≡ record v { posted = v.posted ++ x ∷ [] } };
 }
 
 /// A full queue holds no more than was posted.
-impl Lesson<Update, Log> for Posted {
+impl Lesson<Parcel, Log> for Posted {
     ghost use Rattle.std.specs.Prelude.{◌≤◌, length};
 
     ghost fact = { λ v items. length items ≤ length v.posted };
@@ -76,7 +77,7 @@ impl Lesson<Update, Log> for Posted {
 
 pub(crate) struct Taken;
 
-impl Outcome<Update, Log> for Taken {
+impl Outcome<Parcel, Log> for Taken {
     ghost use Rattle.std.specs.Prelude.{◌≡◌, [], ◌∷◌, ◌++◌, drop, length};
     ghost use Rattle.deferred_queue.specs.Ends.{IsNext};
 
@@ -84,7 +85,7 @@ impl Outcome<Update, Log> for Taken {
 }
 
 /// An empty queue has nothing ahead.
-impl Lesson<Update, Log> for Taken {
+impl Lesson<Parcel, Log> for Taken {
     ghost use Rattle.std.specs.Prelude.{◌≤◌, length};
 
     ghost fact = { λ v items. length v.ahead ≤ length items };
@@ -93,12 +94,12 @@ impl Lesson<Update, Log> for Taken {
 /// What was taken, followed by what the queue holds, is what was posted.
 pub(crate) struct Total;
 
-impl Lesson<Update, Log> for Total {
+impl Lesson<Parcel, Log> for Total {
     ghost use Rattle.std.specs.Prelude.{◌≡◌, ◌++◌};
 
     ghost fact = { λ v items. v.posted ≡ v.taken ++ items };
 }
 
-pub(crate) type Line = RuledArrayQueue<Update, Log, InOrder>;
+pub(crate) type Line = RuledArrayQueue<Parcel, Log, InOrder>;
 
-pub(crate) type Mark = Pass<Update, Log>;
+pub(crate) type Mark = Pass<Parcel, Log>;
