@@ -1,5 +1,5 @@
 -- What has ended in some bytes has ended so where more bytes follow.
-use Rattle.std.proofs.Common.{◌≡◌, ℕ, zero, suc, ◌+◌, ◌-◌, ◌<◌, ◌≤◌, ◌==◌, Bool, true, false, ◌&&◌, not, if◌then◌else◌, List, [], ◌∷◌, ◌++◌, length, take, Option, None, Some, IfSome, Result, Ok, Err, refl, sym, ◌∙◌, ap, arith, nat_lt, length-append}
+use Rattle.std.proofs.Common.{◌≡◌, ℕ, zero, suc, ◌+◌, ◌-◌, ◌<◌, ◌≤◌, ◌==◌, Bool, true, false, not, if◌then◌else◌, List, [], ◌∷◌, ◌++◌, length, take, Option, None, Some, IfSome, Result, Ok, Err, refl, sym, ◌∙◌, ap, arith, nat_lt, length-append}
 use Rattle.std.specs.Io.KnownBytes.{Consumes, IsAtEnd}
 use Rattle.std.proofs.Math.Seq.{take-append-add}
 use Rattle.std.proofs.lemmas.Bool.{true≢false}
@@ -7,11 +7,11 @@ use Rattle.std.proofs.lemmas.List.{append-nil, take-append-le}
 use Rattle.br_model.specs.declared.scenario.LineWhy.{LineWhy}
 use Rattle.br_model.specs.declared.scenario.LineWhy.TheVariants.{Long}
 use Rattle.br_model.specs.declared.scenario.Said.{Said}
-use Rattle.br_model.specs.Program.Outcomes.{GoesOn, HoldsNoEnd}
-use Rattle.br_model.specs.Text.Scenario.{Scenario, Ending, Going, Ended, Bad, Front, Progress, bad, begins, closes, front, in_front, longest_line, opened, read, reads, reads_at, reads_front, reads_line, scenario, section_length, takes, whole_says}
-use Rattle.br_model.specs.Theorems.WholeLines.{is_line, is_no_feed}
+use Rattle.br_model.specs.Program.Outcomes.{HoldsNoEnd}
+use Rattle.br_model.specs.Text.Scenario.{Scenario, Ending, Going, Ended, Bad, Front, Progress, bad, front, in_front, longest_line, opened, read, reads, reads_at, reads_front, reads_line, scenario, section_length, takes, whole_says}
+use Rattle.br_model.specs.Theorems.WholeLines.{is_line}
 use Rattle.br_model.proofs.Endings.{has_ended, closes_ended, read_ended}
-use Rattle.br_model.proofs.Reading.{closed, not_below, read_long, scenario_is}
+use Rattle.br_model.proofs.Reading.{not_below, read_long, scenario_is}
 use Rattle.br_model.proofs.WrittenWords.{both}
 
 -- what has ended takes no more

@@ -1,10 +1,10 @@
 -- What a check finds that has read these bytes and written what it says of them.
-use Rattle.std.proofs.Common.{◌≡◌, ℕ, ◌+◌, ◌-◌, ◌<◌, ◌≤◌, true, List, [], ◌++◌, length, take, Option, None, Some, IfSome, refl, sym, ◌∙◌, ap, subst, arith, take_all}
+use Rattle.std.proofs.Common.{◌≡◌, ℕ, ◌+◌, ◌-◌, ◌<◌, ◌≤◌, true, List, [], ◌++◌, length, take, Option, None, Some, IfSome, sym, ◌∙◌, ap, subst, arith}
 use Rattle.std.specs.Io.KnownBytes.{Appends, Consumes, IsAtEnd}
 use Rattle.std.proofs.Math.Seq.{take-append-add}
 use Rattle.std.proofs.lemmas.List.{append-nil}
 use Rattle.br_model.specs.declared.scenario.LineWhy.{LineWhy}
-use Rattle.br_model.specs.Program.Checks.{Difference, Finds, FindsBad, IsNotBad, ReadsOn, SeesBad, answer_at, check_answer, checked}
+use Rattle.br_model.specs.Program.Checks.{Difference, Finds, FindsBad, IsNotBad, SeesBad, answer_at, check_answer, checked}
 use Rattle.br_model.specs.Program.Outcomes.{Call}
 use Rattle.br_model.specs.Text.Scenario.{Scenario, Ending, Ended, Bad, Progress, opened, read, reads, scenario_by}
 use Rattle.br_model.specs.Text.Transcript.{bad_text}

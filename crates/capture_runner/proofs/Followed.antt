@@ -1,7 +1,7 @@
 -- Lines of messages are read, and the reading goes on, stops or ends.
-use Rattle.std.proofs.Common.{◌≡◌, ℕ, ◌+◌, ◌-◌, ◌<◌, ◌≤◌, Bool, true, false, true≢false, cond, List, [], ◌∷◌, ◌++◌, length, take, drop, Option, None, Some, Result, Ok, Err, IfSome, IsSomeAnd, String, string_bytes, refl, sym, ◌∙◌, ap, subst, arith, codes, append_assoc, append-nil, length-append}
+use Rattle.std.proofs.Common.{◌≡◌, ℕ, ◌+◌, ◌-◌, ◌<◌, ◌≤◌, Bool, true, false, true≢false, cond, List, [], ◌∷◌, ◌++◌, length, take, drop, Option, None, Some, Result, Ok, Err, IfSome, IsSomeAnd, String, refl, sym, ◌∙◌, ap, subst, arith, append_assoc, append-nil, length-append}
 use Rattle.std.specs.declared.alloc.Global.{Global}
-use Rattle.std.specs.Io.KnownBytes.{Appends, Consumes, IsAtEnd}
+use Rattle.std.specs.Io.KnownBytes.{Consumes, IsAtEnd}
 use Rattle.std.specs.List.{fold}
 use Rattle.std.proofs.KnownBytes.{Consumes-nil, Consumes-trans}
 use Rattle.std.proofs.Math.Seq.{take-append-add, take-append_seam}
@@ -16,14 +16,13 @@ use Rattle.neigh_netlink.specs.declared.follow.LineFault.TheVariants.{Long, Unen
 use Rattle.neigh_follow.specs.declared.follower.FollowEnd.{FollowEnd}
 use Rattle.neigh_follow.specs.declared.follower.FollowEnd.TheVariants as lasts
 use Rattle.neigh_netlink.specs.Follow.{Ending, Following, Going, Ended, Bad, Reading as LinesRead, bad, closes, closes_at, followed, followed_at, follows, line_says, opened, reads, takes, words}
-use Rattle.neigh_follow.specs.Calls.{Answers, AnswersBad, EndsWithin, GoesOn, HasMessages, HoldsNoEnd, ended_by, ending_of}
+use Rattle.neigh_follow.specs.Calls.{AnswersBad, EndsWithin, GoesOn, HasMessages, HoldsNoEnd, ended_by, ending_of}
 use Rattle.neigh_netlink.specs.Neighbours.{Neighbours}
 use Rattle.neigh_follow.proofs.Lines.{follows-is, follows-over, has_ended, line-more, long-line, over-stays, rest-goes}
 use Rattle.capture_runner.specs.declared.replay.Stop.{Stop}
 use Rattle.capture_runner.specs.declared.replay.Stop.TheVariants as stops
-use Rattle.capture_runner.specs.declared.status.Status.{Status}
 use Rattle.capture_runner.specs.declared.status.Status.TheVariants as statuses
-use Rattle.capture_runner.specs.Following.{Advanced, Answered, Below, Closed, Ends, Filled, Follows, HasRead, Lessens, Stopped, Yields, status_of}
+use Rattle.capture_runner.specs.Following.{Advanced, Answered, Below, Closed, Ends, Filled, Follows, HasRead, Lessens, Stopped, Yields}
 
 ends_so : (end : FollowEnd) → has_ended (ending_of end) ≡ true
 ends_so lasts.Ended = refl

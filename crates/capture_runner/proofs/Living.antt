@@ -1,5 +1,5 @@
 -- What is read for a run by workers, and what they give.
-use Rattle.std.proofs.Common.{◌≡◌, ℕ, suc, ◌<◌, ◌≤◌, ◌==◌, nat_lt, nat_le, Bool, true, false, not, ◌&&◌, ◌||◌, if◌then◌else◌, List, [], ◌∷◌, ◌++◌, length, get_or, IfSome, refl, sym, ◌∙◌, ap, ap₂, subst, arith}
+use Rattle.std.proofs.Common.{◌≡◌, ℕ, suc, ◌<◌, ◌≤◌, ◌==◌, nat_lt, nat_le, Bool, true, false, not, ◌||◌, List, [], ◌∷◌, ◌++◌, length, get_or, refl, sym, ◌∙◌, ap, ap₂, subst, arith}
 use Rattle.std.specs.Prelude.{codes}
 use Rattle.std.specs.Cmp.{first_so, second_so}
 use Rattle.std.specs.Io.KnownBytes.{Consumes, IsAtEnd}
@@ -8,7 +8,7 @@ use Rattle.std.specs.Option.{is_some}
 use Rattle.std.specs.declared.option.Option.{Option}
 use Rattle.std.specs.declared.option.Option.TheVariants.{None, Some}
 use Rattle.std.specs.declared.result.Result.{Result}
-use Rattle.std.specs.declared.result.Result.TheVariants.{Ok, Err}
+use Rattle.std.specs.declared.result.Result.TheVariants.{Err}
 use Rattle.std.proofs.lemmas.Bool.{false≢true, true≢false}
 use Rattle.br_model.specs.declared.scenario.LineWhy.{LineWhy}
 use Rattle.br_model.specs.declared.steps.Step.{Step}
@@ -16,7 +16,7 @@ use Rattle.br_model.specs.declared.steps.Step.TheVariants.{Rx, Cmd, Now, Serve, 
 use Rattle.br_model.specs.declared.transcript.Line.{Line}
 use Rattle.br_model.specs.Program.LiveRun.{is_live_run}
 use Rattle.br_model.specs.Program.LiveText.{live_text, steps_scenario}
-use Rattle.br_model.specs.Program.Outcomes.{GoesOn, HoldsNoEnd}
+use Rattle.br_model.specs.Program.Outcomes.{GoesOn}
 use Rattle.br_model.specs.Program.Runs.{bad_alone, bad_told, body, setup_of}
 use Rattle.br_model.specs.Plane.Runs.{end_line, run}
 use Rattle.br_model.specs.Table.Domains.{Domains, chip_domains}
@@ -27,7 +27,7 @@ use Rattle.br_model.specs.Text.Forms.{Form, Token, Fixed, Has, Values, all_value
 use Rattle.br_model.specs.Text.LineForms.{comes_by_line, step_form}
 use Rattle.br_model.specs.Text.Operands.{Operand, Number, Chip, NewPort, NewName, PortNumber, PortName, Device, Station, GroupAddress, Hex, Flag, Value, in_range, is_byte, is_known}
 use Rattle.br_model.specs.Text.Roster.{Entry, Roster, chips_of, domains_of}
-use Rattle.br_model.specs.Text.Scenario.{Scenario, Ending, Ended, Bad, Going, opened, reads, scenario}
+use Rattle.br_model.specs.Text.Scenario.{Scenario, Ended, opened, reads, scenario}
 use Rattle.br_model.specs.Text.ScenarioText.{fits_in, has_line, knows_in, names_declared}
 use Rattle.br_model.specs.Text.Transcript.{bad_text, line_text, text}
 use Rattle.br_model.proofs.DeclaredChips.{declared-chips}
@@ -41,7 +41,7 @@ use Rattle.scenario_reader.specs.Whole.{SaysWhole, WholeState, ending_or_going}
 use Rattle.scenario_reader.proofs.ScenarioLines.{steps_have_lines}
 use Rattle.capture_runner.specs.declared.replay.Stop.{Stop}
 use Rattle.capture_runner.specs.declared.replay.Stop.TheVariants as stops
-use Rattle.capture_runner.specs.Living.{AnsweredLive, IsLiveText, IsRead, Lived, ReadsLive, ToldBad, is_numbered}
+use Rattle.capture_runner.specs.Living.{AnsweredLive, IsLiveText, IsRead, ReadsLive, is_numbered}
 use Rattle.capture_runner.specs.Playing.{Below, Filled}
 use Rattle.capture_runner.proofs.EndedStays.{within_of_all, within_of_ended, whole_of_all, whole_of_ended}
 

@@ -1,5 +1,5 @@
 -- What is said of a run, at its first step and later.
-use Rattle.std.proofs.Common.{◌≡◌, Option, None, List, [], ◌∷◌, ◌++◌, string_bytes, sym, ◌∙◌, ap}
+use Rattle.std.proofs.Common.{◌≡◌, None, List, [], ◌∷◌, ◌++◌, string_bytes, sym, ◌∙◌, ap}
 use Rattle.br_model.specs.declared.steps.Step.{Step}
 use Rattle.br_model.specs.Plane.World.{World, Stepped, first_world}
 use Rattle.br_model.specs.Program.Runs.{setup_of}
@@ -8,7 +8,6 @@ use Rattle.br_model.specs.Text.Scenario.{Scenario}
 use Rattle.br_model.proofs.Running.{run_none}
 use Rattle.neigh_netlink.specs.Monitor.{messages}
 use Rattle.capture_runner.specs.declared.asking.Asking.{Asking as AskingOf}
-use Rattle.capture_runner.specs.declared.asking.Host.{Host}
 use Rattle.capture_runner.specs.declared.monitor.Monitor.{Monitor as MonitorOf}
 use Rattle.capture_runner.specs.declared.voice.Voice.{Voice}
 use Rattle.capture_runner.specs.declared.voice.Voice.TheVariants.{Monitor, Querier}

@@ -1,22 +1,19 @@
 -- Histories grow, and their updates with them.
-use Rattle.std.proofs.Common.{◌≡◌, ℕ, zero, suc, ◌+◌, ◌<◌, ◌≤◌, true, false, cond, List, [], ◌∷◌, ◌++◌, map, length, take, slice_get, Option, None, Some, refl, sym, ap, ap₂, ◌∙◌, subst, arith}
+use Rattle.std.proofs.Common.{◌≡◌, ℕ, zero, suc, ◌+◌, ◌<◌, ◌≤◌, true, false, cond, List, [], ◌∷◌, ◌++◌, map, length, take, slice_get, None, Some, refl, sym, ap, ap₂, ◌∙◌, arith}
 use Rattle.std.proofs.lemmas.List.{map-append}
 use Rattle.std.proofs.lemmas.List.Elements.{filter-append}
 use Rattle.std.specs.List.{filter, enumerate_from}
-use Rattle.std.specs.Option.{is_some, option_map}
 use mathlib.Core.List.{IsPrefix}
 use Rattle.br_model.specs.declared.change.Change.{Change}
 use Rattle.br_model.specs.declared.change.Update.{Update}
 use Rattle.br_model.specs.declared.domains.Edition.{Edition}
 use Rattle.br_model.specs.declared.steps.Step.{Step}
-use Rattle.br_model.specs.Plane.Steps.{world_step}
 use Rattle.br_model.specs.Plane.World.{World}
 use Rattle.br_model.specs.Table.Change.{deferred, updates}
-use Rattle.br_model.specs.Table.Cut.{under_ticket, deferred_of, deferred_count, deferred_at}
-use Rattle.br_model.proofs.Cuts.{updates-at, deferred_at-there, length-updates, updates-named}
+use Rattle.br_model.specs.Table.Cut.{under_ticket, deferred_count}
+use Rattle.br_model.proofs.Cuts.{length-updates, updates-named}
 use Rattle.br_model.proofs.PlaneStays.{step-accepts}
 use Rattle.plane_lock.specs.Pasts.{Past, world_of, after}
-use Rattle.plane_lock.specs.Posted.{updates_of}
 use Rattle.plane_lock.proofs.Recording.{world-after}
 
 -- a step's history begins with the old one

@@ -1,5 +1,5 @@
 -- A decision that a seat gave is one of the plane's.
-use Rattle.std.proofs.Common.{◌≡◌, ℕ, zero, suc, ◌+◌, ◌<◌, ◌≤◌, nat_le, Bool, true, false, cond, ◌==◌, List, [], ◌∷◌, ◌++◌, map, length, take, Option, None, Some, Ok, refl, sym, ap, ◌∙◌, subst, arith, length-append}
+use Rattle.std.proofs.Common.{◌≡◌, ℕ, zero, suc, ◌+◌, ◌<◌, ◌≤◌, nat_le, Bool, true, false, cond, ◌==◌, List, [], ◌∷◌, ◌++◌, length, take, Option, None, Some, Ok, refl, sym, ap, ◌∙◌, subst, arith, length-append}
 use Rattle.std.specs.Prelude.{◌&&◌, not, nat_lt, IfSome, IfOk, if◌then◌else◌}
 use Rattle.std.proofs.lemmas.Bool.{eqb-true}
 use Rattle.std.proofs.lemmas.List.{length-take-le}
@@ -13,7 +13,6 @@ use Rattle.std.specs.declared.cmp.Ordering.TheVariants.{Less}
 use Rattle.std.specs.declared.result.Result.{Result}
 use Rattle.std.specs.declared.result.Result.TheVariants.{Err}
 use mathlib.Core.List.{IsPrefix}
-use Rattle.br_model.specs.declared.frame.Head.{Head}
 use Rattle.br_model.specs.declared.steps.Event.TheVariants.{Sight}
 use Rattle.br_model.specs.declared.steps.Refusal.{Refusal}
 use Rattle.br_model.specs.declared.steps.Refusal.TheVariants.{NoSuchPoint}
@@ -23,7 +22,7 @@ use Rattle.br_model.specs.declared.transcript.Line.TheVariants.{Soft}
 use Rattle.br_model.specs.Control.Reaction.{Reaction}
 use Rattle.br_model.specs.Data.Maps.{has}
 use Rattle.br_model.specs.Forward.Shares.{soft_out}
-use Rattle.br_model.specs.Plane.Serving.{posts, posts_at, posts_held, lets_go, is_point, held_with}
+use Rattle.br_model.specs.Plane.Serving.{posts, posts_at, lets_go, is_point, held_with}
 use Rattle.br_model.specs.Plane.Steps.{world_step}
 use Rattle.br_model.specs.Plane.World.{World, Waiting, Holding, Stepped, table_at, sent, refused, answered, reacts}
 use Rattle.br_model.specs.Table.Domains.{Domains}
@@ -34,7 +33,6 @@ use Rattle.br_model.specs.Wire.Frames.{frame}
 use Rattle.br_model.specs.Wire.Messages.{message}
 use Rattle.br_model.proofs.OneList.{one-list}
 use Rattle.br_model.proofs.PlaneLists.{last-has}
-use Rattle.hwdom_marks.specs.Marks.{domain_marked}
 use Rattle.plane_parts.specs.Added.{Added}
 use Rattle.plane_core.specs.Planes.{PlaneState, Steps, Posts, IsCopy, IsDecision, published_in}
 use Rattle.plane_core.specs.Shown.{Shown, opened, shown_by, shown_of}
@@ -42,8 +40,8 @@ use Rattle.plane_core.specs.declared.held.Held.{Held}
 use Rattle.forward_rules.specs.Decided.{Decides}
 use Rattle.table_publish.specs.Object.{Object, Begins, Ascends, AscendsFrom, IsPublished}
 use Rattle.table_publish.specs.declared.seat.Seen.{Seen}
-use Rattle.plane_lock.specs.Pasts.{Past, world_of, said_by, post_step}
-use Rattle.plane_lock.specs.Posts.{IsSeen, IsSent, Tells}
+use Rattle.plane_lock.specs.Pasts.{Past, world_of, post_step}
+use Rattle.plane_lock.specs.Posts.{IsSeen, Tells}
 use Rattle.plane_lock.proofs.Recording.{world-setup, world-stands}
 
 -- Counts of a published object.

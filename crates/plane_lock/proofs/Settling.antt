@@ -17,7 +17,7 @@ use Rattle.deferred_queue.specs.Ends.{Posting}
 use Rattle.plane_core.specs.Planes.{PlaneState}
 use Rattle.plane_lock.specs.declared.locked.ActFault.{ActFault}
 use Rattle.plane_lock.specs.declared.locked.ActFault.TheVariants.{Unpublished}
-use Rattle.plane_lock.specs.Acts.{Acted, changes_of, published_after, acted}
+use Rattle.plane_lock.specs.Acts.{Acted, changes_of, published_after}
 use Rattle.plane_lock.specs.Pasts.{Past, state_of, world_of, after}
 use Rattle.plane_lock.specs.Posted.{HavePosted, updates_of}
 use Rattle.plane_lock.proofs.Growing.{no-more, step-grows, updates-prefix}

@@ -1,4 +1,4 @@
-use Rattle.std.proofs.Common.{List, ℕ, [], ◌∷◌, ◌++◌, refl, arith, append-nil, length-append}
+use Rattle.std.proofs.Common.{[], ◌∷◌, refl, arith, append-nil, length-append}
 use Rattle.capture_runner.proofs.Followed.{closed, filled, lacking, lessens, long, stopped, taken}
 use Rattle.capture_runner.proofs.follow.advance.Goals as goal
 

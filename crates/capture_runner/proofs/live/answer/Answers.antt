@@ -1,4 +1,4 @@
-use Rattle.std.proofs.Common.{string_bytes, subst, sym, ◌∙◌}
+use Rattle.std.proofs.Common.{string_bytes, subst, sym}
 use Rattle.scenario_reader.specs.declared.reader.Last.{Last}
 use Rattle.capture_runner.specs.Living.{AnsweredLive}
 use Rattle.capture_runner.proofs.Living.{lived, told_bad}

@@ -1,4 +1,4 @@
-use Rattle.std.proofs.Common.{List, ℕ, String, false, string_bytes, ap, ◌∙◌, subst, sym}
+use Rattle.std.proofs.Common.{false, string_bytes, ap, ◌∙◌, subst, sym}
 use Rattle.std.proofs.lemmas.Result.{IfOk-weaker}
 use Rattle.std.specs.List.{list_all}
 use Rattle.br_model.specs.Text.LineForms.{comes_by_line}

@@ -1,7 +1,7 @@
 use Rattle.std.proofs.Common.{Err, List, ℕ, ap, false, subst, sym, ◌∙◌}
 use Rattle.std.proofs.lemmas.Result.{err_from_is_err_and}
 use Rattle.scenario_reader.specs.Whole.{SaysWhole}
-use Rattle.capture_runner.proofs.Living.{read_all, read_some, reads_lacking, reads_on, stops_below, stops_full}
+use Rattle.capture_runner.proofs.Living.{read_some, reads_lacking, reads_on, stops_below, stops_full}
 use Rattle.capture_runner.proofs.live.read_live.Goals as goal
 
 pub returns-then-is_some-clause-reads : goal.returns-then-is_some-clause-reads

@@ -1,4 +1,4 @@
-use Rattle.std.proofs.Common.{ℕ, ◌<◌, ◌^◌, List, sym, subst, string_bytes}
+use Rattle.std.proofs.Common.{◌<◌, ◌^◌, sym, subst, string_bytes}
 use Rattle.std.proofs.lemmas.Result.{on_ok_weaker}
 use Rattle.br_model.specs.Table.Domains.{chip_domains}
 use Rattle.capture_runner.proofs.Querying.{after_early, asked_as, early_by, goes, hears_step, here_after, on_ok_both}

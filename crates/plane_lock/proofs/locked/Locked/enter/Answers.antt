@@ -1,5 +1,3 @@
-use Rattle.std.proofs.Common.{List, sym, subst}
-use Rattle.br_model.specs.declared.change.Update.{Update}
 use Rattle.br_model.specs.declared.steps.Step.TheVariants.{Rx}
 use Rattle.plane_lock.specs.Pasts.{world_of}
 use Rattle.plane_lock.proofs.Settling.{keeps}

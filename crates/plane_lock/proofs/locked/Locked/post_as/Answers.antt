@@ -11,7 +11,7 @@ use Rattle.plane_lock.specs.Posted.{HavePosted, updates_of}
 use Rattle.plane_lock.specs.Posts.{Tells}
 use Rattle.plane_lock.proofs.Posting.{may-post, tells}
 use Rattle.plane_lock.proofs.Recording.{world-stands}
-use Rattle.plane_lock.proofs.Settling.{counted, may-settle, settled-either, settles}
+use Rattle.plane_lock.proofs.Settling.{counted, may-settle}
 use Rattle.plane_lock.proofs.locked.Locked.post_as.Goals as goal
 
 pub post-requires-clause-decision : goal.post-requires-clause-decision

@@ -1,4 +1,4 @@
-use Rattle.std.proofs.Common.{◌≡◌, List, [], ◌∷◌, ◌++◌, sym, ap, ◌∙◌, refl}
+use Rattle.std.proofs.Common.{◌≡◌, List, [], ◌∷◌, ◌++◌, ap, ◌∙◌, refl}
 use Rattle.std.specs.Option.{option_map}
 use Rattle.br_model.specs.declared.steps.Step.{Step}
 use Rattle.br_model.specs.declared.steps.Step.TheVariants.{Hold}
@@ -6,7 +6,6 @@ use Rattle.br_model.specs.declared.transcript.Line.{Line}
 use Rattle.plane_parts.specs.Added.{Added}
 use Rattle.plane_core.specs.Planes.{Steps}
 use Rattle.plane_core.specs.Shown.{shown_by}
-use Rattle.plane_lock.specs.Holds.{held_line}
 use Rattle.plane_lock.proofs.Recording.{past-more, ran-more, holds-so}
 use Rattle.plane_lock.proofs.ran.Ran.open_frame.Goals as goal
 

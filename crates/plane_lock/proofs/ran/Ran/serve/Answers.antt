@@ -1,9 +1,8 @@
-use Rattle.std.proofs.Common.{◌≡◌, List, [], ◌∷◌, ◌++◌, sym, ap, ◌∙◌, subst, refl}
+use Rattle.std.proofs.Common.{◌≡◌, List, [], ◌∷◌, ◌++◌, ap, ◌∙◌, refl}
 use Rattle.br_model.specs.declared.steps.Step.{Step}
 use Rattle.br_model.specs.declared.steps.Step.TheVariants.{Serve}
 use Rattle.plane_parts.specs.Added.{Added}
 use Rattle.plane_core.specs.Planes.{Steps}
-use Rattle.plane_lock.specs.Pasts.{after}
 use Rattle.plane_lock.proofs.Recording.{past-more, ran-more}
 use Rattle.plane_lock.proofs.ran.Ran.serve.Goals as goal
 

@@ -1,10 +1,10 @@
-use Rattle.std.proofs.Common.{◌≡◌, List, [], ◌∷◌, ◌++◌, sym, ap, ◌∙◌, subst}
+use Rattle.std.proofs.Common.{◌≡◌, List, [], ◌∷◌, ◌++◌, ap, ◌∙◌}
 use Rattle.br_model.specs.declared.steps.Step.{Step}
 use Rattle.br_model.specs.declared.steps.Step.TheVariants.{Sweep}
 use Rattle.plane_parts.specs.Added.{Added}
 use Rattle.plane_core.specs.Planes.{Steps}
 use Rattle.br_model.specs.Table.Domains.{has_chip}
-use Rattle.plane_lock.specs.Pasts.{Past, after}
+use Rattle.plane_lock.specs.Pasts.{Past}
 use Rattle.plane_lock.proofs.Recording.{past-more, ran-more}
 use Rattle.plane_lock.proofs.ran.Ran.sweep.Goals as goal
 
