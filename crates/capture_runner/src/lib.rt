@@ -1,5 +1,6 @@
 //! What the words of the command line ask for is done: a scenario is read line by line and run against the bridge, and its
-//! transcript or a table is written; or a scenario is generated, and written or run.
+//! transcript or a table is written; a whole one is read, and compared with its transcript or run by workers; messages are followed; or
+//! a scenario is generated, and written or run.
 #![tactic(auto)]
 
 mod addresses;
