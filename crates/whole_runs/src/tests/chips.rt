@@ -1,6 +1,9 @@
-//! Worked runs of both editions, and of several chips.
+//! Worked runs of both editions, and of several chips: run alone, and by workers.
+use super::live::count_lines;
 use super::rows::row_is_told;
+use super::{ran, read_row};
 use capture_runner::Status;
+use std::str;
 use std::test::Fail;
 
 /// An empty line stands between two runs.
@@ -105,5 +108,27 @@ fn runs_of_editions_and_chips(rt: HostRuntime) -> Result<(), Fail> {
     for text in RUNS.split("\n\n") {
         row_is_told(&rt, rt.alloc(), text, Status::Ok)?;
     }
+    Ok(())
+}
+
+/// Four workers take two chips' run, with a moment and a sweep behind its frames. Their drain leaves neither chip an update.
+#[test]
+fn two_chips_by_four_workers(rt: HostRuntime) -> Result<(), Fail> {
+    let alloc = rt.alloc();
+    let run = RUNS.split("\n\n").nth(2).ok_or("two chips")?;
+    let input = read_row(alloc, run)?.input;
+    let steps = input.as_str().strip_suffix("end").ok_or("an end")?;
+    let input = format!(in alloc; "{steps}now 1000\nsweep 1\nend\n")?;
+    let words = ["live", "--workers", "4"];
+    let outcome = ran(&rt, alloc, &words, input.as_bytes(), &[], &[])?;
+    assert_eq!(rt; outcome.status, Status::Ok);
+    let checked = ran(&rt, alloc, &["check"], outcome.wrote.as_slice(), &[], &[])?;
+    assert_eq!(rt; checked.wrote.as_slice(), b"yes\n".as_slice());
+    let text = str::from_utf8(outcome.wrote.as_slice())?;
+    let last = text.lines().last().ok_or("a last line")?;
+    assert!(rt; last.ends_with(" 0 0"), "at {last}");
+    assert_eq!(rt; count_lines(text, "now 1000"), 1);
+    assert_eq!(rt; count_lines(text, "sweep 1"), 1);
+    assert_eq!(rt; count_lines(text, "serve"), 0);
     Ok(())
 }

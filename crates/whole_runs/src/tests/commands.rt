@@ -402,6 +402,7 @@ fn sink_is_full(rt: HostRuntime) -> Result<(), Fail> {
         ("show fdb", "02:00:00:00:00:0a de"),
         ("gen 7 20", "scenario 1\nport 1 g1"),
         ("demo 7 20", "demo frames 20 chip "),
+        ("live --workers 1", "scenario 1\nbridge 02"),
     ];
     for (line, wrote) in rows {
         let mut source = source_of(&rt, alloc, scenario.as_bytes(), &[]);

@@ -18,18 +18,20 @@ fn scenario(alloc: Global) -> Result<String, Fail> {
 fn each_read_fails(rt: HostRuntime) -> Result<(), Fail> {
     let alloc = rt.alloc();
     let input = scenario(alloc)?;
-    let failing: [(&[&str], &str); 2] = [
+    let failing: [(&[&str], &str); 3] = [
         (&["replay"], "transcript 1\nread fault\n"),
         (&["show", "fdb"], "read fault\n"),
+        (&["live", "--workers", "1"], "read fault\n"),
     ];
     for (words, wrote) in failing {
         let outcome = ran(&rt, alloc, words, input.as_bytes(), &[1], &[])?;
         assert_eq!(rt; outcome.status, Status::ReadFault, "at {wrote}");
         assert_eq!(rt; outcome.wrote.as_slice(), wrote.as_bytes());
     }
-    let ending: [(&[&str], u32); 4] = [
+    let ending: [(&[&str], u32); 5] = [
         (&["replay"], 2),
         (&["show", "fdb"], 2),
+        (&["live", "--workers", "1"], 2),
         (&["gen", "8", "20"], 1),
         (&["demo", "8", "20"], 1),
     ];
@@ -45,10 +47,11 @@ fn each_read_fails(rt: HostRuntime) -> Result<(), Fail> {
 fn each_write_fails(rt: HostRuntime) -> Result<(), Fail> {
     let alloc = rt.alloc();
     let input = scenario(alloc)?;
-    let failing: [(&[&str], u32, &str); 5] = [
+    let failing: [(&[&str], u32, &str); 6] = [
         (&["replay"], 1, ""),
         (&["replay"], 2, "transcript 1\n"),
         (&["show", "fdb"], 1, ""),
+        (&["live", "--workers", "1"], 1, ""),
         (&["gen", "8", "20"], 1, ""),
         (&["demo", "8", "20"], 1, ""),
     ];
@@ -57,9 +60,10 @@ fn each_write_fails(rt: HostRuntime) -> Result<(), Fail> {
         assert_eq!(rt; outcome.status, Status::WriteFault, "at {call}");
         assert_eq!(rt; outcome.wrote.as_slice(), wrote.as_bytes(), "at {call}");
     }
-    let ending: [(&[&str], u32); 4] = [
+    let ending: [(&[&str], u32); 5] = [
         (&["replay"], 3),
         (&["show", "fdb"], 2),
+        (&["live", "--workers", "1"], 2),
         (&["gen", "8", "20"], 2),
         (&["demo", "8", "20"], 2),
     ];
