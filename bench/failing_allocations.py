@@ -1,9 +1,10 @@
 #!/usr/bin/env python3
 """failing_allocations.py PROGRAM [PORTS [ROUNDS]]: each command, where the Nth allocation fails, for N from 1 until a run in which
 none fails. `replay` and `show` read frames that leave so many ports (60), of which each third is a chip's, and so many rounds (300) of
-frames that wait, are held, teach and are swept. It tells how many runs ended with each status, and which left a torn line: `replay` must
-write whole lines of the transcript, and then the line `no memory`, the others that line alone, or each its whole output, where it could
-do without that memory."""
+frames that wait, are held, teach and are swept; commands that write at the end a tenth of these rounds. It tells how many runs ended with
+each status, and which left a torn line: `replay` must write whole lines of the transcript, and then the line `no memory`, the others that
+line alone, or each its whole output, where it could do without that memory. What `live` writes may differ, and must be what `check`
+accepts."""
 import collections
 import os
 import subprocess
@@ -26,7 +27,7 @@ void *realloc(void *p, unsigned long n) { return fails() ? 0 : __libc_realloc(p,
 """
 
 
-def scenario(ports, rounds):
+def scenario(ports, rounds, last):
     yield "scenario 1"
     for i in range(1, ports + 1):
         yield f"port {i} p{i} " + ("soft" if i % 3 else "chip 1")
@@ -50,7 +51,7 @@ def scenario(ports, rounds):
         yield from (f"post {4 * i + 16}", f"post {4 * i + 15}")
         yield f"cmd mdb add 239.1.{i // 250}.{i % 250} dev p{port} vlan 5"
         yield from ("report 1", "turn 1", "publish")
-    yield from ("sweep 1", "now 400000", "bad line")
+    yield from ("sweep 1", "now 400000", last)
 
 
 def preload(folder):
@@ -80,6 +81,9 @@ def failing(command, text, library):
         statuses[ran.returncode] += 1
         if (ran.returncode, ran.stdout) == (whole.returncode, whole.stdout):
             continue
+        if command[1] == "live" and ran.returncode == 0:
+            if subprocess.run([command[0], "check"], input=ran.stdout, capture_output=True).stdout == b"yes\n":
+                continue
         before = lines[: len(written) - 1] if command[1] == "replay" else []
         if ran.returncode != 6 or written != before + [b"no memory\n"]:
             torn.append(number)
@@ -91,11 +95,23 @@ def failing(command, text, library):
 
 def main():
     program, ports, rounds = os.path.abspath(sys.argv[1]), *[int(n) for n in sys.argv[2:] + ["60", "300"][len(sys.argv) - 2 :]]
-    text = "".join(line + "\n" for line in scenario(ports, rounds)).encode()
+
+    def text(rounds, last):
+        return "".join(line + "\n" for line in scenario(ports, rounds, last)).encode()
+
+    def written(words, text):
+        return subprocess.run([program, *words], input=text, capture_output=True).stdout
+
+    broken, whole, short = text(rounds, "bad line"), text(rounds // 10, "end"), text(rounds // 30, "end")
+    commands = [
+        (["replay"], broken), (["show", "fdb"], broken), (["gen", "8", "20"], b""), (["demo", "8", "20"], b""),
+        (["audit"], whole), (["monitor"], whole), (["follow"], written(["monitor"], whole)),
+        (["querier", "10.0.0.1", "fe80:0000:0000:0000:0000:0000:0000:0001"], whole),
+        (["check"], whole + written(["replay"], whole)), (["live", "--workers", "1"], short), (["live", "--workers", "4"], short),
+    ]
     with tempfile.TemporaryDirectory() as folder:
         library = preload(folder)
-        commands = [["replay"], ["show", "fdb"], ["gen", "8", "20"], ["demo", "8", "20"]]
-        return not all([failing([program, *words], text, library) for words in commands])
+        return not all([failing([program, *words], text, library) for words, text in commands])
 
 
 if __name__ == "__main__":
