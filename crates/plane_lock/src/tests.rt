@@ -270,3 +270,83 @@ fn each_call_has_work(rt: HostRuntime) -> Result<(), Fail> {
     let plane = Plane::make(&rt, alloc, domains, Mac::FIRST_OWN, board)?;
     use_locks::<Brand, HostRuntime>(&rt, alloc, Ran::make(alloc, plane), seat)
 }
+
+/// The host's port, and two of software.
+fn soft_domains() -> Result<Domains, Fail>
+    ensures { IfOk result (λ d. chip_domains d ≡ []) }
+{
+    let mut domains = Domains::make();
+    domains.set(port(1)?, Dom::SOFTWARE);
+    domains.set(port(2)?, Dom::SOFTWARE);
+    Ok(domains)
+}
+
+/// A frame of station 11 to station 10.
+const ANSWER: [u8; 16] = [2, 0, 0, 0, 0, 10, 2, 0, 0, 0, 0, 11, 0x88, 0xB5, 0, 0];
+
+/// A frame of a new station enters at port 2 and is posted. The answer is how many changes it was decided by.
+fn post_frame<N: Name, R: Wait + Abort>(
+    rt: &R,
+    alloc: Global,
+    shared: &Shared<N>,
+    chair: &mut Chair<N>,
+) -> Result<u32, Fail> {
+    assert!(rt; shared.enter(rt, alloc, port(2)?, &FRAME)?.is_none());
+    let Some(held) = shared.open_as(rt, alloc, chair)? else {
+        return Err(Fail::new("no frame"));
+    };
+    let seen = decide(chair, &held)?;
+    match shared.post_as(rt, alloc, chair, held, seen) {
+        Ok(()) => Ok(seen.point),
+        Err(_) => Err(Fail::new("not posted")),
+    }
+}
+
+/// Before the post the chair knows no station, and its next lookup after it knows where station 10 is.
+fn use_taught_address<N: Name, R: Wait + Abort>(
+    rt: &R,
+    alloc: Global,
+    shared: &Shared<N>,
+    chair: &mut Chair<N>,
+) -> Result<(), Fail> {
+    shared.accept(rt, alloc, &Event::Cmd(Command::PortUp(port(1)?)))?;
+    shared.accept(rt, alloc, &Event::Cmd(Command::PortUp(port(2)?)))?;
+    let point = post_frame(rt, alloc, shared, chair)?;
+    let head = parse(&ANSWER)?;
+    let message = classify(&ANSWER, &head);
+    let seen = chair.lookup(port(1)?, &head, &message).ok_or("no reading")?;
+    assert_eq!(rt; seen.verdict.ports.first(), Some(2));
+    assert!(rt; seen.verdict.ports.without(2).is_empty());
+    assert!(rt; seen.point > point);
+    Ok(())
+}
+
+fn use_soft_locks<N: Name, R: Wait + Abort>(
+    rt: &R,
+    alloc: Global,
+    ran: Ran,
+    seat: Seat,
+) -> Result<(), Fail>
+    requires board { ran.board ≡ N.board }
+    requires setup { ran.setup ≡ record { domains = N.board.domains; own = N.own } }
+    requires chips { chip_domains N.board.domains ≡ [] }
+    requires seat { seat ≡ newcomer N.board }
+{
+    let mut chair = Chair::<N>::new(seat);
+    let shared = Shared::<N>::make(rt, alloc, ran, Queues::new(alloc))?;
+    let used = use_taught_address(rt, alloc, &shared, &mut chair);
+    let _book = shared.close().book(rt);
+    used
+}
+
+#[test]
+fn a_posted_frame_teaches_its_worker(rt: HostRuntime) -> Result<(), Fail> {
+    let alloc = rt.alloc();
+    let domains = soft_domains()?;
+    let (board, mut seats) = Board::make(&rt, alloc, &domains, 1)?;
+    let Some(seat) = seats.next() else {
+        unreachable!()
+    };
+    let plane = Plane::make(&rt, alloc, domains, Mac::FIRST_OWN, board)?;
+    use_soft_locks::<Brand, HostRuntime>(&rt, alloc, Ran::make(alloc, plane), seat)
+}
