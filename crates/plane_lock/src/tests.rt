@@ -60,6 +60,12 @@ fn address(number: u8) -> Result<Command, Fail> {
 /// A frame of station 10 to station 11.
 const FRAME: [u8; 16] = [2, 0, 0, 0, 0, 11, 2, 0, 0, 0, 0, 10, 0x88, 0xB5, 0, 0];
 
+/// A frame of station 12 to station 10.
+const FIRST_OF_TWELVE: [u8; 16] = [2, 0, 0, 0, 0, 10, 2, 0, 0, 0, 0, 12, 0x88, 0xB5, 0, 0];
+
+/// A frame of station 10 to station 12.
+const ANSWER: [u8; 16] = [2, 0, 0, 0, 0, 12, 2, 0, 0, 0, 0, 10, 0x88, 0xB5, 0, 0];
+
 fn command(alloc: Global, ran: &mut Ran, command: Command) -> Result<(), Fail>
     ensures board { ran.new.board ≡ ran.old.board }
     ensures setup { ran.new.setup ≡ ran.old.setup }
@@ -201,8 +207,58 @@ fn decide<N: Name>(chair: &mut Chair<N>, held: &Held) -> Result<Seen, Fail>
     )
 }
 
+/// The oldest frame that waits is posted by the chair's decision. The answer is by how many changes that was.
+fn post_frame<N: Name, R: Wait + Abort>(
+    rt: &R,
+    alloc: Global,
+    shared: &Shared<N>,
+    chair: &mut Chair<N>,
+) -> Result<u32, Fail> {
+    let Some(held) = shared.open_as(rt, alloc, chair)? else {
+        return Err(Fail::new("no frame"));
+    };
+    let seen = decide(chair, &held)?;
+    let point = seen.point;
+    match shared.post_as(rt, alloc, chair, held, seen) {
+        Ok(()) => Ok(point),
+        Err(_) => Err(Fail::new("not posted")),
+    }
+}
+
+/// The chair's decision of the answer to station 12, at port 1.
+fn decide_answer<N: Name>(chair: &mut Chair<N>) -> Result<Seen, Fail> {
+    let head = parse(&ANSWER)?;
+    let message = classify(&ANSWER, &head);
+    Ok(chair.lookup(port(1)?, &head, &message).ok_or("no reading")?)
+}
+
+/// The answer to station 12 leaves port 3 alone, by more changes than so many.
+fn assert_taught<R: Abort>(rt: &R, seen: Seen, point: u32) -> Result<(), Fail> {
+    assert!(rt; seen.point > point);
+    assert_eq!(rt; seen.verdict.ports.first(), Some(3));
+    assert!(rt; seen.verdict.ports.without(3).is_empty());
+    Ok(())
+}
+
+/// A frame of a new station is posted, and the next lookup of the chair that posted it knows where that station is.
+fn use_taught_address<N: Name, R: Wait + Abort>(
+    rt: &R,
+    alloc: Global,
+    shared: &Shared<N>,
+    chair: &mut Chair<N>,
+) -> Result<(), Fail> {
+    assert!(rt;
+        shared
+            .enter(rt, alloc, port(3)?, &FIRST_OF_TWELVE)?
+            .is_none()
+    );
+    let point = post_frame(rt, alloc, shared, chair)?;
+    let seen = decide_answer(chair)?;
+    assert_taught(rt, seen, point)
+}
+
 /// Each call but `turn` once, where it has work: a frame at a port of the chip is held, posted and reported, and then the bridge
-/// forgets its station.
+/// forgets its station. Then a frame of a new station is posted.
 fn use_each_call<N: Name, R: Wait + Abort>(
     rt: &R,
     alloc: Global,
@@ -212,20 +268,13 @@ fn use_each_call<N: Name, R: Wait + Abort>(
     requires { has_chip N.board.domains 1 ≡ true }
 {
     assert!(rt; shared.enter(rt, alloc, port(1)?, &FRAME)?.is_some());
-    let Some(held) = shared.open_as(rt, alloc, chair)? else {
-        return Err(Fail::new("no frame"));
-    };
-    let seen = decide(chair, &held)?;
-    match shared.post_as(rt, alloc, chair, held, seen) {
-        Ok(()) => {}
-        Err(_) => return Err(Fail::new("not posted")),
-    }
+    let _point = post_frame(rt, alloc, shared, chair)?;
     assert!(rt; shared.report_next(rt, alloc, Dom::CHIP)?);
     assert!(rt; !shared.report_next(rt, alloc, Dom::CHIP)?);
     assert!(rt; shared.turn(rt, Dom::CHIP)?);
     shared.sweep(rt, alloc, Dom::CHIP)?;
     shared.publish(rt, alloc)?;
-    Ok(())
+    use_taught_address(rt, alloc, shared, chair)
 }
 
 fn use_locks<N: Name, R: Wait + Abort>(
@@ -247,8 +296,9 @@ fn use_locks<N: Name, R: Wait + Abort>(
             let used = use_each_call(rt, alloc, &shared, &mut chair);
             let book = shared.close().book(rt);
             used?;
-            // The post and the sweep change nothing, so of the calls the report alone is followed by a publication.
-            assert_eq!(rt; book.steps.len(), 12);
+            // The first post and the sweep change nothing, so of the calls the report and the second post alone are followed by a
+            // publication.
+            assert_eq!(rt; book.steps.len(), 16);
             Ok(())
         }
         Err(error) => {
@@ -269,84 +319,4 @@ fn each_call_has_work(rt: HostRuntime) -> Result<(), Fail> {
     };
     let plane = Plane::make(&rt, alloc, domains, Mac::FIRST_OWN, board)?;
     use_locks::<Brand, HostRuntime>(&rt, alloc, Ran::make(alloc, plane), seat)
-}
-
-/// The host's port, and two of software.
-fn soft_domains() -> Result<Domains, Fail>
-    ensures { IfOk result (λ d. chip_domains d ≡ []) }
-{
-    let mut domains = Domains::make();
-    domains.set(port(1)?, Dom::SOFTWARE);
-    domains.set(port(2)?, Dom::SOFTWARE);
-    Ok(domains)
-}
-
-/// A frame of station 11 to station 10.
-const ANSWER: [u8; 16] = [2, 0, 0, 0, 0, 10, 2, 0, 0, 0, 0, 11, 0x88, 0xB5, 0, 0];
-
-/// A frame of a new station enters at port 2 and is posted. The answer is how many changes it was decided by.
-fn post_frame<N: Name, R: Wait + Abort>(
-    rt: &R,
-    alloc: Global,
-    shared: &Shared<N>,
-    chair: &mut Chair<N>,
-) -> Result<u32, Fail> {
-    assert!(rt; shared.enter(rt, alloc, port(2)?, &FRAME)?.is_none());
-    let Some(held) = shared.open_as(rt, alloc, chair)? else {
-        return Err(Fail::new("no frame"));
-    };
-    let seen = decide(chair, &held)?;
-    match shared.post_as(rt, alloc, chair, held, seen) {
-        Ok(()) => Ok(seen.point),
-        Err(_) => Err(Fail::new("not posted")),
-    }
-}
-
-/// Before the post the chair knows no station, and its next lookup after it knows where station 10 is.
-fn use_taught_address<N: Name, R: Wait + Abort>(
-    rt: &R,
-    alloc: Global,
-    shared: &Shared<N>,
-    chair: &mut Chair<N>,
-) -> Result<(), Fail> {
-    shared.accept(rt, alloc, &Event::Cmd(Command::PortUp(port(1)?)))?;
-    shared.accept(rt, alloc, &Event::Cmd(Command::PortUp(port(2)?)))?;
-    let point = post_frame(rt, alloc, shared, chair)?;
-    let head = parse(&ANSWER)?;
-    let message = classify(&ANSWER, &head);
-    let seen = chair.lookup(port(1)?, &head, &message).ok_or("no reading")?;
-    assert_eq!(rt; seen.verdict.ports.first(), Some(2));
-    assert!(rt; seen.verdict.ports.without(2).is_empty());
-    assert!(rt; seen.point > point);
-    Ok(())
-}
-
-fn use_soft_locks<N: Name, R: Wait + Abort>(
-    rt: &R,
-    alloc: Global,
-    ran: Ran,
-    seat: Seat,
-) -> Result<(), Fail>
-    requires board { ran.board ≡ N.board }
-    requires setup { ran.setup ≡ record { domains = N.board.domains; own = N.own } }
-    requires chips { chip_domains N.board.domains ≡ [] }
-    requires seat { seat ≡ newcomer N.board }
-{
-    let mut chair = Chair::<N>::new(seat);
-    let shared = Shared::<N>::make(rt, alloc, ran, Queues::new(alloc))?;
-    let used = use_taught_address(rt, alloc, &shared, &mut chair);
-    let _book = shared.close().book(rt);
-    used
-}
-
-#[test]
-fn a_posted_frame_teaches_its_worker(rt: HostRuntime) -> Result<(), Fail> {
-    let alloc = rt.alloc();
-    let domains = soft_domains()?;
-    let (board, mut seats) = Board::make(&rt, alloc, &domains, 1)?;
-    let Some(seat) = seats.next() else {
-        unreachable!()
-    };
-    let plane = Plane::make(&rt, alloc, domains, Mac::FIRST_OWN, board)?;
-    use_soft_locks::<Brand, HostRuntime>(&rt, alloc, Ran::make(alloc, plane), seat)
 }
