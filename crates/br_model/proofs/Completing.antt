@@ -1,5 +1,5 @@
 -- A scenario that ends well within so many bytes is neither bad nor too long.
-use Rattle.std.proofs.Common.{◌≡◌, ℕ, ◌≤◌, Bool, true, false, true≢false, List, ◌++◌, length, take, Option, None, Some, IfSome, IsSomeAnd, refl, sym, ◌∙◌, ap, subst, arith, length-append}
+use Rattle.std.proofs.Common.{◌≡◌, ℕ, ◌≤◌, Bool, true, false, true≢false, List, ◌++◌, length, take, Option, None, Some, IfSome, IsSomeAnd, sym, ◌∙◌, ap, arith, length-append}
 use Rattle.std.proofs.Math.Seq.{take-append_seam}
 use Rattle.std.specs.Io.KnownBytes.{Consumes}
 use Rattle.br_model.specs.declared.scenario.LineWhy.{LineWhy}

@@ -1,8 +1,8 @@
 -- No line differs where texts are the same, a last line feed aside, and only there.
-use Rattle.std.proofs.Common.{◌≡◌, ℕ, ◌+◌, ◌==◌, Bool, true, false, if◌then◌else◌, List, [], ◌∷◌, ◌++◌, Option, None, Some, refl, sym, ◌∙◌, ap, arith}
+use Rattle.std.proofs.Common.{◌≡◌, ℕ, ◌+◌, ◌==◌, Bool, true, false, if◌then◌else◌, List, [], ◌∷◌, None, Some, refl, sym, ◌∙◌, ap, arith}
 use Rattle.std.specs.Str.{bytes_eq}
 use Rattle.std.proofs.lemmas.Slice.Eq.{bytes_eq-Decides}
-use Rattle.br_model.specs.Program.Checks.{Difference, difference, difference_from, in_first, lines_in}
+use Rattle.br_model.specs.Program.Checks.{difference, difference_from, in_first, lines_in}
 use Rattle.br_model.specs.Theorems.WholeLines.{lines_text, with_feed}
 use Rattle.br_model.proofs.Words.{equal}
 

@@ -1,5 +1,5 @@
 -- What is so of a step whether or not a frame finds room to wait.
-use Rattle.std.proofs.Common.{ℕ, ◌+◌, true, false, cond, List, [], ◌∷◌, ◌++◌, length}
+use Rattle.std.proofs.Common.{◌+◌, true, false, cond, [], ◌∷◌, ◌++◌, length}
 use Rattle.std.specs.Prelude.{nat_lt}
 use Rattle.br_model.specs.declared.frame.Class.{Class}
 use Rattle.br_model.specs.declared.frame.Class.TheVariants.{Drop, Trap, Copy, Forward}

@@ -16,7 +16,8 @@ use br_model::steps::Command;
 /// `fdb add` of an address behind a port.
 fn added(address: &str, name: &str, vid: &str, kind: Kind, r: &Roster) -> Result<Command, LineWhy>
     ensures { result
-        ≡ placed r.now (after (mac_of address.now) (λ a. after (port_name r.now.ports name.now) (λ p. after (number_of 1 4094 vid.now) (λ v. Ok (FdbAdd v a p kind))))) }
+        ≡ placed r.now (after (mac_of address.now) (λ a. after (port_name r.now.ports name.now)
+        (λ p. after (number_of 1 4094 vid.now) (λ v. Ok (FdbAdd v a p kind))))) }
 {
     r.stands(Place::Steps)?;
     let mac = mac(address)?;

@@ -1,6 +1,5 @@
 //! The addresses of a bridge's table, with their moments.
-ghost use Rattle.std.specs.Prelude.{◌≡◌, ◌||◌, not, nat_lt, Bool, false, min, IfOk, IsSome, IsTrue, [], length, is_some, map, option_map};
-ghost use Rattle.std.specs.List.{filter};
+ghost use Rattle.std.specs.Prelude.{◌≡◌, ◌||◌, not, nat_lt, false, min, IfOk, IsSome, IsTrue, [], length, is_some, option_map};
 ghost use Rattle.br_model.specs.Table.Limits.{most_addresses};
 ghost use Rattle.br_model.specs.Data.Maps.{pair_cmp, get, put, without};
 ghost use Rattle.fdb_core.specs.Fdb.{place};
@@ -73,7 +72,11 @@ impl Addresses {
     pub fn put(&mut self, vid: Vid, mac: Mac, port: Port, kind: Kind, now: u64)
         requires { IsTrue (is_some (get pair_cmp self.old.addr (vid, mac)) || nat_lt (length self.old.addr) most_addresses) }
         ensures { self.new
-            ≡ record { addr = put pair_cmp self.old.addr (vid, mac) (port, kind); updated = put pair_cmp self.old.updated (vid, mac) now; oldest = min self.old.oldest now } }
+            ≡ record {
+              addr = put pair_cmp self.old.addr (vid, mac) (port, kind);
+              updated = put pair_cmp self.old.updated (vid, mac) now;
+              oldest = min self.old.oldest now;
+            } }
     {
         self.oldest = self.oldest.min(now);
         let entry = Entry {

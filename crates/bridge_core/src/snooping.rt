@@ -3,7 +3,6 @@ ghost use Rattle.std.specs.Prelude.{ℕ, ◌≡◌, ◌+◌, ◌++◌, ◌≤◌
 ghost use Rattle.std.specs.List.{fold};
 ghost use Rattle.br_model.specs.Control.Course.{Course};
 ghost use Rattle.br_model.specs.Wire.Messages.{message as message_in, RecordsStand};
-ghost use Rattle.br_model.specs.Wire.Records.{acts};
 ghost use Rattle.br_model.specs.Control.Snooping.{acted, fastleave, joins, leaves, querier_heard, queried, router_heard, said, snoops};
 ghost use Rattle.br_model.specs.Table.Table.{with_addresses};
 ghost use Rattle.br_model.specs.Forward.Targets.{has_flag};

@@ -1,5 +1,5 @@
 //! Where a bridge stands: its table, its moments, and its spanning tree.
-ghost use Rattle.std.specs.Prelude.{ℕ, ◌≡◌, ◌≤◌, ◌<◌, ◌+◌, ◌++◌, true, List, length, ◌^◌, IfOk, IfSome, IsSome, IsTrue, vec_len, vec_capacity};
+ghost use Rattle.std.specs.Prelude.{ℕ, ◌≡◌, ◌≤◌, ◌<◌, ◌+◌, true, List, length, ◌^◌, IfOk, IfSome, IsSome, IsTrue, vec_len, vec_capacity};
 ghost use Rattle.std.specs.List.{fold};
 ghost use Rattle.br_model.specs.Control.Ageing.{stay};
 ghost use Rattle.br_model.specs.declared.bpdu.BpduMsg.{BpduMsg};

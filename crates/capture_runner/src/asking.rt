@@ -1,5 +1,5 @@
 //! The general queries that a querier on the host sends in a run, as it goes on.
-ghost use Rattle.std.specs.Prelude.{◌≡◌, ℕ, ◌<◌, ◌^◌, ◌++◌, [], List, true, false, IfOk, OnOk, IfSome, None, map, string_bytes};
+ghost use Rattle.std.specs.Prelude.{◌≡◌, ◌<◌, ◌^◌, ◌++◌, [], true, false, IfOk, OnOk, IfSome, None, map, string_bytes};
 ghost use Rattle.std.specs.List.{flat_map, list_any};
 ghost use Rattle.br_model.specs.Data.Digits.{hex_of};
 ghost use Rattle.br_model.specs.Plane.World.{first_world};

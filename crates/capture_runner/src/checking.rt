@@ -3,7 +3,6 @@ ghost use Rattle.std.specs.Prelude.{◌≡◌, ◌∷◌, ◌++◌, ◌<◌, ◌
 ghost use Rattle.br_model.specs.Program.Checks.{answer_text, with_text};
 ghost use Rattle.br_model.specs.Table.Limits.{most_bytes};
 ghost use Rattle.br_model.specs.Text.Scenario.{behind_end};
-ghost use Rattle.br_model.specs.Text.Transcript.{bad_text};
 ghost use Rattle.run_io.specs.Causes.{Rose};
 ghost use Rattle.scenario_reader.specs.Whole.{SaysWhole};
 ghost use Rattle.transcript_check.specs.Checking.{difference_of};

@@ -1,5 +1,5 @@
 //! What each command does, to its last line.
-ghost use Rattle.std.specs.Prelude.{◌≡◌, ℕ, ◌≤◌, [], List, Option, OnOk, OnErr, true, false, string_bytes};
+ghost use Rattle.std.specs.Prelude.{◌≡◌, ℕ, ◌≤◌, List, Option, OnOk, OnErr, true, false, string_bytes};
 ghost use Rattle.br_model.specs.Program.Generator.{made, most_frames};
 ghost use Rattle.br_model.specs.Program.Listings.{listed};
 ghost use Rattle.br_model.specs.Program.Summary.{summary as summary_of};

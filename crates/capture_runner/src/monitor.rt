@@ -1,8 +1,8 @@
 //! The messages of the address changes of a run, as it goes on.
-ghost use Rattle.std.specs.Prelude.{◌≡◌, ◌++◌, [], true, false, IfOk, OnOk, None, Some, string_bytes};
+ghost use Rattle.std.specs.Prelude.{◌≡◌, ◌++◌, [], true, false, OnOk, None, Some, string_bytes};
 ghost use Rattle.std.specs.List.{flat_map};
 ghost use Rattle.br_model.specs.declared.steps.Step.TheVariants.{Turn};
-ghost use Rattle.br_model.specs.Table.Domains.{chip_domains, has_chip};
+ghost use Rattle.br_model.specs.Table.Domains.{chip_domains};
 ghost use Rattle.br_model.specs.Text.LineForms.{comes_by_line};
 ghost use Rattle.neigh_netlink.specs.Monitor.{message_line, messages_in};
 ghost use Rattle.neigh_netlink.specs.Stream.{kept_of};

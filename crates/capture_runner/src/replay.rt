@@ -5,7 +5,7 @@ ghost use Rattle.std.specs.String.{string_capacity, string_len};
 ghost use Rattle.br_model.specs.Text.Operands.{longest_section};
 ghost use Rattle.br_model.specs.Text.Scenario.{opened};
 ghost use Rattle.run_io.specs.Causes.{HasCause};
-ghost use Rattle.run_io.specs.Reading.{holds_next, max_line, room};
+ghost use Rattle.run_io.specs.Reading.{holds_next, room};
 ghost use Rattle.run_io.specs.Writing.{full_length};
 ghost use Rattle.capture_runner.specs.Advancing.{Advances, Caused, Lessens, Sections};
 ghost use Rattle.capture_runner.specs.Halting.{Breaks, DoesAll, DoesSome, Grows, Halts, IsBehind, Moves, Plays, PlaysSection, Stalls};

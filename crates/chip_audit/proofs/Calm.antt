@@ -1,14 +1,12 @@
 -- Where no update is pending all entries are offloaded, and none is stale.
-use Rattle.std.proofs.Common.{◌≡◌, ℕ, ◌+◌, ◌-◌, ◌≤◌, Bool, true, false, ◌&&◌, T, not, cond, Some, List, [], ◌∷◌, length, drop, map, refl, sym, ap, ◌∙◌, arith}
-use Rattle.std.specs.List.{filter, fold, list_all, AllByRecursion}
+use Rattle.std.proofs.Common.{◌≡◌, ℕ, ◌+◌, ◌-◌, ◌≤◌, Bool, true, false, ◌&&◌, T, not, cond, List, [], ◌∷◌, refl, sym, ap, ◌∙◌, arith}
+use Rattle.std.specs.List.{filter, list_all}
 use Rattle.std.specs.Option.{option_map_or}
-use Rattle.std.specs.FinMap.Entries.{is_sorted}
 use Rattle.std.proofs.lemmas.Bool.{eq-eqb}
 use Rattle.br_model.specs.declared.change.Change.{Change}
 use Rattle.br_model.specs.declared.change.Kind.{Kind}
 use Rattle.br_model.specs.declared.change.Kind.TheVariants.{Local, Static, Learned, Extern}
 use Rattle.br_model.specs.declared.domains.Edition.{Edition}
-use Rattle.br_model.specs.Data.Maps.{pair_cmp, get}
 use Rattle.br_model.specs.Plane.Chip.{Chip}
 use Rattle.br_model.specs.Plane.Runs.{pending_of}
 use Rattle.br_model.specs.Plane.World.{World}
@@ -17,8 +15,8 @@ use Rattle.br_model.specs.Table.Table.{Table, table}
 use Rattle.br_model.proofs.Cuts.{cut-all}
 use Rattle.neigh_netlink.specs.Neighbours.{Key, same_kind}
 use Rattle.chip_audit.specs.declared.entries.Found.{Found}
-use Rattle.chip_audit.specs.Audits.{Row, audit_of, entries_of, is_stale, same_place, stale}
-use Rattle.chip_audit.specs.Marks.{Entries, all_offloaded, marked}
+use Rattle.chip_audit.specs.Audits.{Row, audit_of, is_stale, same_place, stale}
+use Rattle.chip_audit.specs.Marks.{all_offloaded}
 use Rattle.chip_audit.proofs.Marking.{entries-first, entries-last, table-ascends}
 use Rattle.chip_audit.proofs.Own.{FindOwn, find-own}
 

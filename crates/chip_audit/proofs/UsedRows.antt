@@ -1,5 +1,5 @@
 -- The used address rows of a chip, in order.
-use Rattle.std.proofs.Common.{◌≡◌, ℕ, ◌<◌, true, Option, None, Some, List, [], ◌∷◌, ◌++◌, ◌+◌, length, get_or, map, filter_map, take, IsPermutation, IsSorted, refl, sym, ap, subst, ◌∙◌, arith}
+use Rattle.std.proofs.Common.{◌≡◌, ℕ, ◌<◌, Option, List, [], ◌∷◌, ◌++◌, ◌+◌, length, get_or, map, filter_map, take, IsPermutation, IsSorted, refl, sym, ap, subst, ◌∙◌, arith}
 use Rattle.std.specs.List.{cons_option, AllByRecursion}
 use Rattle.std.specs.List.Sorted.{IsStrictlySortedBy}
 use Rattle.std.specs.Option.{option_map}
@@ -8,12 +8,11 @@ use Rattle.std.specs.declared.cmp.Ordering.TheVariants.{Less}
 use Rattle.std.proofs.lemmas.List.{take_more}
 use Rattle.std.proofs.lemmas.List.Elements.{filter_map-append}
 use Rattle.std.proofs.lemmas.List.Sorted.{IsPermutation-sym, IsPermutation-trans}
-use Rattle.br_model.specs.declared.change.Kind.{Kind}
-use Rattle.br_model.specs.Data.Maps.{pair_cmp, get}
+use Rattle.br_model.specs.Data.Maps.{pair_cmp}
 use Rattle.br_model.specs.Table.Table.{Table}
 use Rattle.br_model.proofs.PairKeys.{pair_total, same_cmp}
 use Rattle.chip_tables.specs.declared.rows.AddressRow.{AddressRow}
-use Rattle.chip_tables.specs.Rows.{Rows, IsPlaced, address_at}
+use Rattle.chip_tables.specs.Rows.{Rows, IsPlaced}
 use Rattle.chip_tables.specs.Stands.{AddressesStand, address_wanted}
 use Rattle.neigh_netlink.specs.Neighbours.{Key}
 use Rattle.plane_core.proofs.Arranged.{Ascends, Low, arranged, low_more}

@@ -1,7 +1,7 @@
 //! The bridge's address entries, each with whether a chip has it.
 ghost use Rattle.std.specs.Prelude.{◌≡◌, IfOk, OnOk, IsTrue};
 ghost use Rattle.std.specs.List.{filter};
-ghost use Rattle.br_model.specs.Data.Maps.{pair_cmp, get, is_ascending};
+ghost use Rattle.br_model.specs.Data.Maps.{pair_cmp, is_ascending};
 ghost use Rattle.br_model.specs.Table.Change.{address_part};
 ghost use Rattle.chip_audit.specs.Marks.{all_offloaded, entries_after, is_at, is_gone};
 

@@ -1,6 +1,5 @@
 //! The traps and the control row.
 ghost use Rattle.std.specs.Prelude.{◌≡◌, ◌≤◌, true, false, if◌then◌else◌};
-ghost use Rattle.chip_tables.specs.Rows.{control_in};
 ghost use Rattle.chip_driver.specs.Making.{SwitchesTraps};
 
 use chip_tables::{Control, Tables};

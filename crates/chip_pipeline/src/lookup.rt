@@ -1,5 +1,5 @@
 //! The lookup: where an admitted frame is to go.
-ghost use Rattle.std.specs.Prelude.{◌≡◌, ℕ, ◌<◌, ◌==◌, ◌&&◌, ◌||◌, ◌∷◌, ◌++◌, not, true, false, if◌then◌else◌};
+ghost use Rattle.std.specs.Prelude.{◌≡◌, ℕ, ◌<◌, ◌==◌, ◌&&◌, ◌||◌, ◌∷◌, ◌++◌, not, false, if◌then◌else◌};
 ghost use Rattle.br_model.specs.Forward.Class.{is_snooped};
 ghost use Rattle.br_model.specs.Table.Domains.{Domains, host, port_places};
 ghost use Rattle.br_model.specs.Table.Groups.{is_link_local, is_six};

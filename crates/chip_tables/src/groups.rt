@@ -1,6 +1,6 @@
 //! The group rows as the cells of a map.
 ghost use Rattle.std.specs.Prelude.{◌≡◌, ◌≢◌, ◌<◌, ◌*◌, ◌+◌, ◌^◌, IfOk, None, [], length, replicate};
-ghost use Rattle.chip_tables.specs.GroupCells.{version_bit, address_bits, numbered, head_of, number_of, head_in, bits_in, group_key_of, group_cells, folded, group_hash};
+ghost use Rattle.chip_tables.specs.GroupCells.{version_bit, address_bits, head_of, number_of, head_in, bits_in, group_key_of, group_cells, folded, group_hash};
 ghost use Rattle.br_model.specs.Table.GroupPairs.{max_pairs};
 ghost use Rattle.chip_tables.specs.GroupHash.{group_hash-lt};
 ghost use Rattle.open_addressing.specs.Circle.{mix};

@@ -34,7 +34,7 @@ pub struct Tables {
 }
 
 impl Model for Tables {
-    ghost use Rattle.std.specs.Prelude.{◌≡◌, []};
+    ghost use Rattle.std.specs.Prelude.{◌≡◌};
     ghost use Rattle.br_model.specs.Table.GroupPairs.{max_pairs};
     ghost use Rattle.br_model.specs.Table.Limits.{most_addresses};
     ghost use Rattle.open_addressing.specs.Pairs.{by_pair};

@@ -38,8 +38,10 @@ impl Model for Poster {
 
     ghost view = { λ p. record { queue = (p.mark.table_id, p.watch.table_id); posted = (knows p.mark).posted } };
 
-    ghost invariant = { λ p. IsPassOf (arc_value p.queue).line p.mark × (knows p.mark ≡ posting (knows p.mark).posted) × (ruled_capacity (arc_value p.queue).line ≡ MOST_CHANGES)
-        × Watches p.watch (arc_value p.queue).tally.table.shared.table_id (counting p.watch.me.0.counted) × (posts_in p.watch.me.0.counted ≡ length (knows p.mark).posted) × (p.count ≡ length (knows p.mark).posted) };
+    ghost invariant = { λ p. IsPassOf (arc_value p.queue).line p.mark × (knows p.mark ≡ posting (knows p.mark).posted)
+        × (ruled_capacity (arc_value p.queue).line ≡ MOST_CHANGES)
+        × Watches p.watch (arc_value p.queue).tally.table.shared.table_id (counting p.watch.me.0.counted)
+        × (posts_in p.watch.me.0.counted ≡ length (knows p.mark).posted) × (p.count ≡ length (knows p.mark).posted) };
 }
 
 /// The taking end. Contracts see which queue it is of, all that was taken, what is known to come next, and what had happened when

@@ -1,5 +1,5 @@
 //! The forwarding database.
-ghost use Rattle.std.specs.Prelude.{◌≡◌, ℕ, ◌+◌, ◌<◌, ◌≤◌, ◌↔◌, [], None, Some, IfOk, IsSome, IsTrue, length, map, option_map};
+ghost use Rattle.std.specs.Prelude.{◌≡◌, ℕ, ◌<◌, ◌≤◌, ◌↔◌, [], None, Some, IfOk, IsSome, IsTrue, length, map, option_map};
 ghost use Rattle.br_model.specs.Data.Maps.{pair_cmp, get, put, without, is_ascending};
 ghost use Rattle.fdb_core.specs.Fdb.{addresses, moments, place, keys_where, is_at_port, is_expired, learned_moment, oldest, all_from};
 ghost use Rattle.fdb_core.specs.Places.{news_of};

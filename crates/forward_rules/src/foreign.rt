@@ -1,5 +1,5 @@
 //! Ports of other domains.
-ghost use Rattle.std.specs.Prelude.{◌≡◌, ℕ, ◌≤◌, is_some};
+ghost use Rattle.std.specs.Prelude.{◌≡◌, ◌≤◌, is_some};
 ghost use Rattle.std.specs.List.{list_any};
 ghost use Rattle.br_model.specs.Forward.Class.{class_by};
 ghost use Rattle.br_model.specs.Table.Domains.{domain_of, foreign, last_port};

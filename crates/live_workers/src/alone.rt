@@ -1,9 +1,8 @@
 //! A live run on one thread.
-ghost use Rattle.std.specs.Prelude.{◌≡◌, ℕ, [], ◌∷◌, true, false, IfOk, OnOk};
+ghost use Rattle.std.specs.Prelude.{◌≡◌, [], ◌∷◌, true, false, IfOk, OnOk};
 ghost use Rattle.std.specs.List.{list_all};
 ghost use Rattle.br_model.specs.declared.steps.Step.TheVariants.{Rx, Serve, Sweep};
 ghost use Rattle.br_model.specs.Plane.Runs.{end_line, run};
-ghost use Rattle.br_model.specs.Plane.World.{World as WorldOf};
 ghost use Rattle.br_model.specs.Program.LiveRun.{is_live_run};
 ghost use Rattle.br_model.specs.Program.Runs.{setup_of};
 ghost use Rattle.br_model.specs.Table.Domains.{chip_domains, has_chip};

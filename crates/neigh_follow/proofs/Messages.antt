@@ -1,11 +1,10 @@
 -- Lines of messages that are taken give the table of these messages.
-use Rattle.std.proofs.Common.{◌≡◌, ℕ, zero, suc, ◌+◌, ◌*◌, ◌/◌, ◌%◌, ◌^◌, ◌<◌, ◌≤◌, ◌==◌, Bool, true, false, not, cond, List, [], ◌∷◌, ◌++◌, length, Option, None, Some, Ok, Err, refl, sym, ap, ◌∙◌, append_assoc, append-nil, length-append, arith}
+use Rattle.std.proofs.Common.{◌≡◌, ℕ, zero, suc, ◌+◌, ◌*◌, ◌/◌, ◌%◌, ◌^◌, ◌<◌, ◌≤◌, ◌==◌, Bool, true, false, not, cond, List, [], ◌∷◌, ◌++◌, length, Option, None, Some, Ok, Err, refl, ap, ◌∙◌, append_assoc, length-append, arith}
 use Rattle.std.specs.Prelude.{codes, nat_lt, if◌then◌else◌}
 use Rattle.std.specs.Cmp.{first_so, second_so}
 use Rattle.std.specs.Int.{Width, w16, w32, byte_at, byte_len, bytes_high_first, bytes_low_first, to_le_bytes}
 use Rattle.std.specs.List.{filter, flat_map, fold, list_all, onto_first, slice_split}
 use Rattle.std.specs.Option.{is_some}
-use Rattle.std.specs.Str.{bytes_eq}
 use Rattle.std.proofs.lemmas.Bool.{and_from, ltb-true, lt-ltb}
 use Rattle.std.proofs.lemmas.List.Folds.{list_all-append}
 use Rattle.br_model.specs.declared.change.Kind.{Kind}
@@ -20,7 +19,7 @@ use Rattle.neigh_netlink.specs.declared.follow.LineFault.TheVariants as fault
 use Rattle.neigh_netlink.specs.declared.follow.Said.TheVariants.{Ends, Tells}
 use Rattle.neigh_netlink.specs.declared.neigh.Neigh.{Neigh}
 use Rattle.neigh_netlink.specs.declared.table.TakeFault.{TakeFault}
-use Rattle.neigh_netlink.specs.Follow.{Following, Going, Ended, Reading, bytes_say, follows, line_says, message_says, opened, reads, takes, takes_message, words, words_say}
+use Rattle.neigh_netlink.specs.Follow.{Following, Going, Ended, Reading, bytes_say, follows, line_says, message_says, reads, takes, takes_message, words, words_say}
 use Rattle.neigh_follow.specs.Messages.{are_taken, is_whole, text_of}
 use Rattle.neigh_netlink.specs.Lines.{is_no_space}
 use Rattle.neigh_netlink.specs.Messages.{address_attribute, has_ranges, is_message, ndm_flags, ndm_state, ndmsg, nlmsg_type, nlmsghdr, vlan_attribute, written}

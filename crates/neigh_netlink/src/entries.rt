@@ -1,8 +1,8 @@
 //! Entries in a vector, ascending by VLAN and address.
-ghost use Rattle.std.specs.Prelude.{◌≡◌, ℕ, ◌+◌, ◌<◌, ◌≤◌, None, IfOk, IfErr, IsTrue, length, vec_capacity, slice_set, slice_index_or};
+ghost use Rattle.std.specs.Prelude.{◌≡◌, ◌<◌, ◌≤◌, None, IfOk, IfErr, IsTrue, length, vec_capacity};
 ghost use Rattle.std.specs.List.{insert};
 ghost use Rattle.br_model.specs.Data.Maps.{pair_cmp, get, put, without, is_ascending};
-ghost use Rattle.neigh_netlink.specs.Neighbours.{Key as KeyOf, entry_of};
+ghost use Rattle.neigh_netlink.specs.Neighbours.{entry_of};
 ghost use Rattle.neigh_netlink.specs.Places.{IsAt, IsGap};
 
 use crate::neigh::Neigh;

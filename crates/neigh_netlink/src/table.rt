@@ -32,7 +32,7 @@ pub struct Table {
 }
 
 impl Model for Table {
-    ghost use Rattle.std.specs.Prelude.{◌≤◌, IsTrue, length, vec_capacity};
+    ghost use Rattle.std.specs.Prelude.{◌≤◌, IsTrue, vec_capacity};
     ghost use Rattle.br_model.specs.Data.Maps.{pair_cmp, is_ascending};
     ghost use Rattle.br_model.specs.Table.Limits.{most_addresses};
     ghost use Rattle.neigh_netlink.specs.Neighbours.{Neighbours};

@@ -1,6 +1,6 @@
 //! Keys in an array of their own, and values beside them.
-ghost use Rattle.std.specs.Prelude.{◌≡◌, ◌≢◌, ℕ, ◌+◌, ◌^◌, ◌<◌, ◌≤◌, IfOk, IfSome, List, Option, None, Some, length, replicate, filter_map, slice_index_or, slice_set, refl};
-ghost use Rattle.open_addressing.specs.Zipped.{key_of, value_of, cell_of, AreFree};
+ghost use Rattle.std.specs.Prelude.{◌≡◌, ℕ, ◌+◌, ◌^◌, ◌<◌, ◌≤◌, IfOk, IfSome, List, Option, None, Some, length, replicate, filter_map, slice_index_or};
+ghost use Rattle.open_addressing.specs.Zipped.{AreFree};
 ghost use Rattle.open_addressing.specs.Circle.{mix};
 ghost use Rattle.open_addressing.specs.Finite.{key_if};
 ghost use Rattle.open_addressing.specs.Hashes.{mix-lt};

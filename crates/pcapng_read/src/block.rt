@@ -1,6 +1,6 @@
 //! The block at the front of bytes.
 ghost use Rattle.std.specs.Prelude.{◌≡◌, ◌≤◌, ◌+◌, length, IfOk};
-ghost use Rattle.br_model.specs.Wire.Captures.{front, is_length, least_length, order_by_magic, order_of, whole, whole_in};
+ghost use Rattle.br_model.specs.Wire.Captures.{front, is_length, least_length, order_by_magic, order_of, whole};
 
 use crate::numbers::four_at;
 use br_model::capture::{CapKind, Order};

@@ -1,5 +1,5 @@
 //! A chip that follows the history of a bridge.
-ghost use Rattle.std.specs.Prelude.{◌≡◌, ◌≢◌, ◌+◌, ◌<◌, ◌≤◌, ℕ, [], IfOk, OnOk, OnErr, true, false, length, take, drop, slice_get, if◌then◌else◌};
+ghost use Rattle.std.specs.Prelude.{◌≡◌, ◌≢◌, ◌+◌, ◌<◌, ◌≤◌, ℕ, [], IfOk, OnOk, OnErr, false, length, take, drop, slice_get, if◌then◌else◌};
 ghost use Rattle.br_model.specs.Table.Change.{deferred};
 ghost use Rattle.br_model.specs.Plane.Chip.{Chip as ChipValue, applies, first_chip, hit_by, offered, offers, hits_entry, unhit};
 ghost use Rattle.br_model.specs.Table.Cut.{cut, deferred_count};

@@ -1,10 +1,9 @@
 //! The chips of a bridge, by their domains.
-ghost use Rattle.std.specs.Prelude.{◌≡◌, ◌+◌, ◌-◌, ◌*◌, ◌<◌, ◌≤◌, ◌==◌, ℕ, [], ◌∷◌, ◌++◌, map, true, IfOk, OnOk, OnErr, length, take, is_some, slice_get, Some};
+ghost use Rattle.std.specs.Prelude.{◌≡◌, ◌+◌, ◌-◌, ◌*◌, ◌<◌, ◌≤◌, ◌==◌, [], ◌∷◌, ◌++◌, map, true, IfOk, OnOk, length, take, is_some, slice_get, Some};
 ghost use Rattle.std.specs.Borrow.{sem};
 ghost use Rattle.std.specs.List.{All, filter, sum_by};
 ghost use Rattle.br_model.specs.Plane.Chip.{first_chip, first_chips};
-ghost use Rattle.br_model.specs.Table.Cut.{deferred_count};
-ghost use Rattle.br_model.specs.Table.Domains.{chip_domains, has_chip, last_chip};
+ghost use Rattle.br_model.specs.Table.Domains.{has_chip, last_chip};
 ghost use Rattle.br_model.specs.Table.Limits.{AreWithin, most_changes};
 ghost use Rattle.plane_core.specs.Chips.{AreChips, IsChip, IsPlace, chips_of, state_in};
 ghost use Rattle.plane_core.specs.Lending.{LendsChip};

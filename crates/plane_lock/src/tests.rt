@@ -1,7 +1,7 @@
 //! The queue's use, and each call of the locks where it has work.
-ghost use Rattle.std.specs.Prelude.{◌≡◌, ◌≢◌, ◌<◌, ◌≤◌, [], ◌∷◌, map, true, length, IfOk, IfSome, OnOk};
+ghost use Rattle.std.specs.Prelude.{◌≡◌, ◌<◌, ◌≤◌, [], ◌∷◌, map, true, length, IfOk};
 ghost use Rattle.std.specs.List.{All};
-ghost use Rattle.br_model.specs.Table.Domains.{chip_domains, has_chip, host};
+ghost use Rattle.br_model.specs.Table.Domains.{chip_domains, has_chip};
 ghost use Rattle.plane_lock.specs.Posted.{updates_of};
 ghost use Rattle.plane_lock.specs.Posts.{IsSeen};
 ghost use Rattle.table_publish.specs.Board.{newcomer};

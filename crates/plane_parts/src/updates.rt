@@ -2,7 +2,6 @@
 ghost use Rattle.std.specs.Prelude.{◌≡◌, ◌++◌, ◌∷◌, ◌<◌, ◌≤◌, [], length, take, IfOk, slice_get, ◌==◌, if◌then◌else◌};
 ghost use Rattle.br_model.specs.declared.domains.Edition.{Edition as EditionValue};
 ghost use Rattle.br_model.specs.Table.Change.{deferred, updates};
-ghost use Rattle.br_model.specs.Table.Cut.{deferred_count};
 ghost use Rattle.br_model.specs.Table.Limits.{most_changes};
 ghost use Rattle.plane_parts.specs.Places.{places};
 

@@ -1,5 +1,5 @@
 //! Lines and pieces, cut out of the bytes of a source as they come.
-ghost use Rattle.std.specs.Prelude.{◌≡◌, ◌+◌, ◌-◌, ◌<◌, ◌≤◌, [], None, Some, take, drop, length, vec_len, slice_range, IfOk, IfErr, IfSome, IfNone, IsSome, OnOk, OnErr, MatchOption, true, false};
+ghost use Rattle.std.specs.Prelude.{◌≡◌, ◌+◌, ◌-◌, ◌<◌, ◌≤◌, [], None, Some, take, drop, length, vec_len, slice_range, IfOk, IfErr, IfSome, IsSome, OnOk, OnErr, MatchOption, true, false};
 ghost use Rattle.std.specs.Borrow.{sem};
 ghost use Rattle.std.specs.Io.BufRead.{Rests};
 ghost use Rattle.std.specs.Io.KnownBytes.{Consumes, Keeps, IsAtEnd};
@@ -437,7 +437,8 @@ impl LineReader {
         ensures again { IfSome self.old.fault (λ f. result ≡ Err f) }
         ensures unread { holds_next self.old ≡ true → src.new ≡ src.old }
         ensures later { S.faults src.old ≤ S.faults src.new }
-        ensures* reads { sem 𝓛 (Rests the_row self.entry (λ new. ReadsLine self.old new (S.left src.old) (S.left src.new) (S.faults src.old) (S.faults src.new) result)) }
+        ensures* reads { sem 𝓛 (Rests the_row self.entry
+            (λ new. ReadsLine self.old new (S.left src.old) (S.left src.new) (S.faults src.old) (S.faults src.new) result)) }
     {
         match self.seek_line(alloc, src) {
             Ok(Some(span)) => Ok(Some(self.hand_out(span))),
@@ -460,7 +461,8 @@ impl LineReader {
         ensures again { IfSome self.old.fault (λ f. result ≡ Err f) }
         ensures still { IsSome self.old.fault → src.new ≡ src.old }
         ensures later { S.faults src.old ≤ S.faults src.new }
-        ensures* reads { sem 𝓛 (Rests the_row self.entry (λ new. ReadsPiece self.old new (S.left src.old) (S.left src.new) (S.faults src.old) (S.faults src.new) n result)) }
+        ensures* reads { sem 𝓛 (Rests the_row self.entry
+            (λ new. ReadsPiece self.old new (S.left src.old) (S.left src.new) (S.faults src.old) (S.faults src.new) n result)) }
     {
         match self.seek_piece(alloc, src, n as usize) {
             Ok(span) => Ok(self.hand_out(span)),

@@ -1,5 +1,5 @@
 //! All of a source, up to a limit of bytes.
-ghost use Rattle.std.specs.Prelude.{◌≤◌, ◌≡◌, MatchResult, take, length};
+ghost use Rattle.std.specs.Prelude.{◌≤◌, ◌≡◌, MatchResult, take};
 ghost use Rattle.run_io.specs.Taking.{TakesSome, TakesWhole};
 
 use crate::NoMemory;

@@ -1,5 +1,5 @@
 -- The packets of a section are steps that have lines.
-use Rattle.std.proofs.Common.{◌≡◌, ℕ, zero, suc, ◌+◌, ◌-◌, ◌<◌, ◌==◌, nat_lt, Bool, true, false, not, ◌&&◌, ◌||◌, if◌then◌else◌, List, [], ◌∷◌, map, length, take, drop, slice_get, slice_index_or, IfOk, IfSome, refl, arith}
+use Rattle.std.proofs.Common.{◌≡◌, ℕ, zero, suc, ◌+◌, ◌-◌, ◌<◌, ◌==◌, nat_lt, Bool, true, false, not, ◌||◌, if◌then◌else◌, List, [], ◌∷◌, map, length, take, drop, slice_get, slice_index_or, IfOk, IfSome, refl, arith}
 use Rattle.std.specs.Cmp.{first_so, second_so}
 use Rattle.std.specs.List.{list_all}
 use Rattle.std.specs.declared.option.Option.{Option}
@@ -8,10 +8,9 @@ use Rattle.std.specs.declared.result.Result.{Result}
 use Rattle.std.specs.declared.result.Result.TheVariants.{Ok, Err}
 use Rattle.std.proofs.lemmas.Bool.{eq-eqb}
 use Rattle.br_model.specs.declared.capture.CapKind.{CapKind}
-use Rattle.br_model.specs.declared.capture.CapKind.TheVariants.{Short, Length, Captured, Link, Version}
+use Rattle.br_model.specs.declared.capture.CapKind.TheVariants.{Short, Length, Captured, Link}
 use Rattle.br_model.specs.declared.capture.Order.{Order}
 use Rattle.br_model.specs.declared.capture.Packet.{Packet}
-use Rattle.br_model.specs.declared.steps.Step.{Step}
 use Rattle.br_model.specs.Text.Operands.{is_byte}
 use Rattle.br_model.specs.Text.Roster.{Entry, has_number}
 use Rattle.br_model.specs.Text.Scenario.{captured, entered}

@@ -5,7 +5,7 @@ ghost use Rattle.br_model.specs.Text.Operands.{is_byte};
 ghost use Rattle.br_model.specs.Text.Scenario.{scenario_by};
 ghost use Rattle.br_model.specs.Text.ScenarioText.{has_line};
 
-/// Each step of a scenario has a line, where its ports are declared.
+/// Each step of a scenario has a line, by the ports that the scenario declares.
 pub fn scenario_steps_have_lines()
     ensures { (check : Bool) (bytes : List ℕ) → list_all is_byte bytes ≡ true
         → list_all (has_line (scenario_by check bytes).roster.ports) (scenario_by check bytes).steps ≡ true }

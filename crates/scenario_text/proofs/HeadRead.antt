@@ -1,5 +1,5 @@
 -- The lines before the first step are read back.
-use Rattle.std.proofs.Common.{◌≡◌, ℕ, suc, ◌+◌, ◌/◌, ◌%◌, ◌^◌, ◌<◌, ◌≤◌, ◌==◌, nat_lt, nat_le, Bool, true, false, not, ◌&&◌, ◌||◌, if◌then◌else◌, List, [], ◌∷◌, ◌++◌, length, refl, sym, ◌∙◌, ap, arith, Option, Some, Result, Ok, Err, append_assoc, append-nil, length-append}
+use Rattle.std.proofs.Common.{◌≡◌, ℕ, suc, ◌+◌, ◌/◌, ◌%◌, ◌^◌, ◌<◌, ◌≤◌, ◌==◌, nat_lt, nat_le, Bool, true, false, not, ◌&&◌, ◌||◌, if◌then◌else◌, List, [], ◌∷◌, ◌++◌, length, refl, sym, ◌∙◌, ap, arith, Some, Ok, Err, append_assoc, append-nil, length-append}
 use Rattle.std.specs.Prelude.{codes}
 use Rattle.std.specs.Cmp.{first_so, second_so}
 use Rattle.std.specs.Fmt.{decimal}
@@ -13,8 +13,7 @@ use Rattle.std.proofs.lemmas.Slice.Eq.{bytes_eq-Decides}
 use Rattle.br_model.specs.declared.domains.Edition.{Edition}
 use Rattle.br_model.specs.declared.domains.Edition.TheVariants.{One, Two}
 use Rattle.br_model.specs.declared.scenario.LineWhy.TheVariants.{Long}
-use Rattle.br_model.specs.declared.scenario.Place.TheVariants.{Header, Declarations}
-use Rattle.br_model.specs.declared.scenario.Said.{Said}
+use Rattle.br_model.specs.declared.scenario.Place.TheVariants.{Header}
 use Rattle.br_model.specs.declared.scenario.Said.TheVariants.{Opens, Bridge, Declares}
 use Rattle.br_model.specs.Data.Digits.{hex_digit, hex_of, is_digit}
 use Rattle.br_model.specs.Table.Domains.{last_chip, last_port, software}

@@ -1,5 +1,5 @@
 -- A step that a line gives has a line.
-use Rattle.std.proofs.Common.{◌≡◌, ℕ, zero, suc, ◌-◌, ◌+◌, ◌==◌, Bool, true, false, ◌&&◌, if◌then◌else◌, List, [], ◌∷◌, length, take, refl, sym, ◌∙◌, ap, subst, nat_lt, slice_index_or, Option, Some, None, Result, Ok, Err, IfOk, IfSome}
+use Rattle.std.proofs.Common.{◌≡◌, ℕ, zero, suc, ◌-◌, ◌+◌, ◌==◌, Bool, true, false, ◌&&◌, if◌then◌else◌, List, [], ◌∷◌, length, take, refl, subst, nat_lt, slice_index_or, Option, Some, None, Result, Ok, Err, IfOk, IfSome}
 use Rattle.std.specs.Prelude.{codes}
 use Rattle.std.specs.Cmp.{first_so, second_so}
 use Rattle.std.specs.List.{AllByRecursion, list_all}
@@ -19,7 +19,7 @@ use Rattle.br_model.specs.Text.Forms.{Row, Makes, after, fits, line, operands_fr
 use Rattle.br_model.specs.Text.LineForms as lines
 use Rattle.br_model.specs.Text.LineForms.{all_say, commanded, declaration, header, line_says, opening, words_say}
 use Rattle.br_model.specs.Text.Operands.{Operand, PortNumber, Hex, Value, in_range, is_byte, read}
-use Rattle.br_model.specs.Text.Roster.{Entry, Roster}
+use Rattle.br_model.specs.Text.Roster.{Roster}
 use Rattle.br_model.specs.Text.Scenario.{longest_line, whole_says}
 use Rattle.br_model.specs.Text.ScenarioText.{has_line}
 use Rattle.br_model.specs.Text.Spelling.{shown}

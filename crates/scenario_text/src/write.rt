@@ -3,7 +3,6 @@ ghost use Rattle.std.specs.Prelude.{◌≡◌, ◌++◌, ◌+◌, ◌<◌, [], �
 ghost use Rattle.std.specs.String.{string_bytes};
 ghost use Rattle.br_model.specs.Data.Digits.{hex_digit, hex_of};
 ghost use Rattle.br_model.specs.Text.FlagWords.{flags, name_of_flag};
-ghost use Rattle.br_model.specs.Wire.Frames.{longest_frame};
 ghost use Rattle.br_model.specs.Text.Roster.{has_number};
 ghost use Rattle.br_model.specs.declared.steps.Command.TheVariants.{Link, VlanAdd, FdbAdd, FdbDel};
 ghost use Rattle.br_model.specs.Text.Operands.{is_device};

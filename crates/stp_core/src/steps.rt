@@ -1,7 +1,6 @@
 //! What happens in the tree: each event is a composition of the rules, in their order.
-ghost use Rattle.std.specs.Prelude.{◌≡◌, ◌<◌, ◌≤◌, ◌^◌, ◌&&◌, ◌||◌, [], ◌∷◌, None, Some, true, false, not, if◌then◌else◌};
+ghost use Rattle.std.specs.Prelude.{◌≡◌, ◌<◌, ◌^◌, ◌&&◌, ◌||◌, [], None, Some, false};
 ghost use Rattle.std.specs.Option.{is_some};
-ghost use Rattle.br_model.specs.Tree.Tree.{Tree as TreeValue};
 ghost use Rattle.br_model.specs.Tree.Vectors.{is_root};
 ghost use Rattle.br_model.specs.Tree.Timers.{is_hello_due, change_ends};
 ghost use Rattle.br_model.specs.declared.tree.TreeEvent.TheVariants.{Moment};

@@ -1,5 +1,5 @@
 //! Moments in milliseconds, and times in 1/256 s.
-ghost use Rattle.std.specs.Prelude.{◌≡◌, ◌+◌, ◌<◌, ◌^◌, ◌≤◌, nat_le};
+ghost use Rattle.std.specs.Prelude.{◌≡◌, ◌+◌, ◌<◌, ◌^◌, nat_le};
 ghost use Rattle.br_model.specs.Tree.Timers.{is_aged_out, is_held, milliseconds, ticks, times_of};
 ghost use Rattle.br_model.specs.Tree.Sending.{age_at};
 

@@ -3,10 +3,10 @@ ghost use Rattle.std.specs.Prelude.{◌≡◌, ◌≤◌};
 ghost use Rattle.std.specs.Option.{ForSome, option_map_or};
 ghost use Rattle.std.specs.List.{filter_map};
 ghost use Rattle.std.specs.declared.option.Option.TheVariants.{Some};
-ghost use Rattle.std.specs.Ordering.{is_lt, is_le, is_eq, ord_min};
+ghost use Rattle.std.specs.Ordering.{is_lt, is_le, ord_min};
 ghost use Rattle.br_model.specs.Table.Domains.{last_port};
 ghost use Rattle.br_model.specs.Tree.Tree.{port_id};
-ghost use Rattle.br_model.specs.Tree.Vectors.{vector_cmp, bridge_cmp, vector_of, candidate_cmp, candidate, least, root_by, is_port_of, own_vector, is_best, is_designated_by, supersedes};
+ghost use Rattle.br_model.specs.Tree.Vectors.{vector_cmp, bridge_cmp, vector_of, candidate_cmp, candidate, least, root_by, is_port_of, own_vector, is_designated_by, supersedes};
 ghost use Rattle.stp_core.specs.Places.{AreEmptyFrom, entries_at};
 ghost use Rattle.stp_core.specs.Acting.{held_by};
 

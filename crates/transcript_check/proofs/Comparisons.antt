@@ -10,7 +10,7 @@ use Rattle.br_model.specs.Table.Domains.{chip_domains}
 use Rattle.br_model.specs.Table.Setup.{Setup}
 use Rattle.br_model.specs.Text.Declarations.{are_declared}
 use Rattle.br_model.specs.Text.LineForms.{comes_by_line}
-use Rattle.br_model.specs.Text.Roster.{Roster, chips_of}
+use Rattle.br_model.specs.Text.Roster.{Roster}
 use Rattle.br_model.specs.Text.Scenario.{Ending, Scenario, scenario_by}
 use Rattle.br_model.specs.Text.Transcript.{line_text}
 use Rattle.br_model.proofs.DeclaredChips.{declared-chips}

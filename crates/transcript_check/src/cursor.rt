@@ -1,5 +1,5 @@
 //! A transcript beside what is told, which comes in pieces of whole lines.
-ghost use Rattle.std.specs.Prelude.{◌≡◌, ◌+◌, ◌<◌, ◌≤◌, ◌^◌, ◌∷◌, [], true, length, IfOk};
+ghost use Rattle.std.specs.Prelude.{◌≡◌, ◌+◌, ◌<◌, ◌≤◌, ◌^◌, [], true, length, IfOk};
 ghost use Rattle.br_model.specs.Program.Checks.{lines_in};
 ghost use Rattle.transcript_check.specs.Lines.{is_whole};
 ghost use Rattle.transcript_check.specs.Comparing.{Advances, Compares, EndsThere, PassesLine, first_in};

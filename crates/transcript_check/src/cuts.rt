@@ -1,5 +1,5 @@
 //! The chips of a bridge, by their domains, as their cuts tell them.
-ghost use Rattle.std.specs.Prelude.{◌≡◌, ◌+◌, ◌-◌, ◌*◌, ◌<◌, ◌≤◌, ◌==◌, ℕ, [], ◌∷◌, ◌++◌, map, true, IfOk, IsTrue, OnErr, OnOk, length, take, is_some, Some};
+ghost use Rattle.std.specs.Prelude.{◌≡◌, ◌+◌, ◌-◌, ◌<◌, ◌≤◌, ◌==◌, [], ◌∷◌, ◌++◌, map, true, IfOk, IsTrue, OnErr, OnOk, length, take, is_some, Some};
 ghost use Rattle.std.specs.List.{All, filter, sum_by};
 ghost use Rattle.br_model.specs.Plane.Chip.{first_chip, first_chips};
 ghost use Rattle.br_model.specs.Table.Domains.{has_chip, last_chip};

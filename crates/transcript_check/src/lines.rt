@@ -1,5 +1,5 @@
 //! The first line of some bytes.
-ghost use Rattle.std.specs.Prelude.{◌<◌, ◌≤◌, length};
+ghost use Rattle.std.specs.Prelude.{◌<◌};
 ghost use Rattle.transcript_check.specs.Lines.{CutsFront, CutsFirst};
 
 use memchr::memchr;

@@ -1,5 +1,5 @@
 //! What single words spell.
-ghost use Rattle.std.specs.Prelude.{◌≡◌, ◌<◌, IfSome, IfOk};
+ghost use Rattle.std.specs.Prelude.{◌≡◌, ◌<◌, IfOk};
 ghost use Rattle.std.specs.List.{list_all};
 ghost use Rattle.transcript_text.specs.Reading.{number as number_of, port as port_of, frame as frame_of, is_lower as is_a_lower, class as class_of, fault as fault_of, refusal as refusal_of};
 

@@ -130,6 +130,7 @@ impl FrameLine {
     }
 
     /// Writes the frame's line behind the text: its start, the port and a space, the digits and the line feed.
+    #[inline(always)]
     pub(crate) fn append(
         &mut self,
         start: &LineEnd,

@@ -107,6 +107,7 @@ impl Writer {
     }
 
     /// Writes a line for each of the ports. The digits of each form are made once, where some port wants it.
+    #[inline(never)]
     fn append_sent(
         &mut self,
         id: u32,

@@ -1,6 +1,5 @@
 //! The VLANs of each port.
 ghost use Rattle.std.specs.Prelude.{◌≡◌, ◌<◌, ◌↔◌, ◌++◌, ◌&&◌, ℕ, false, IfOk, OnOk, [], replicate};
-ghost use Rattle.std.specs.List.{All};
 ghost use Rattle.port_sets.specs.Numbers.{has_number, numbers_below, IsSetBelow};
 ghost use Rattle.vlan_groups.specs.Joined.{block_at, block_count, block_switched, has_vlan, is_vlan, vids_in, Switches};
 

@@ -1,6 +1,5 @@
 //! Finite maps and sets by std's ordered ones, in the definitions' words.
 ghost use Rattle.std.specs.Prelude.{◌≡◌, OnOk};
-ghost use Rattle.std.specs.Option.{option_copied};
 ghost use Rattle.br_model.specs.Data.Maps.{get, put as with_entry, without, joined, parted};
 
 use crate::NoMemory;

@@ -1,5 +1,5 @@
 //! What goes with a port, or with its membership of a VLAN.
-ghost use Rattle.std.specs.Prelude.{◌≡◌, ◌++◌, OnOk, OnErr};
+ghost use Rattle.std.specs.Prelude.{◌≡◌, ◌++◌, OnOk};
 ghost use Rattle.br_model.specs.Control.Commands.Ports.{drops_addresses, drops_groups, drops_vlans, drops_router};
 ghost use Rattle.bridge_core.specs.Dropping.{is_meant};
 ghost use Rattle.bridge_core.specs.Standing.{table_of};

@@ -1,9 +1,9 @@
-use Rattle.std.proofs.Common.{◌≡◌, ℕ, ◌≤◌, ◌<◌, ◌+◌, true, List, [], ◌∷◌, ◌++◌, length, refl, sym, ap, ◌∙◌, subst, arith, append_assoc, length-append}
+use Rattle.std.proofs.Common.{◌≡◌, ℕ, ◌+◌, true, List, [], ◌∷◌, ◌++◌, length, refl, sym, ap, ◌∙◌, arith, append_assoc, length-append}
 use Rattle.std.proofs.lemmas.Bool.{and_from}
 use Rattle.std.proofs.lemmas.List.{append-nil}
 use Rattle.br_model.specs.declared.change.Change.{Change}
 use Rattle.br_model.specs.declared.change.Change.TheVariants.{SetFlags}
-use Rattle.br_model.specs.Table.Limits.{AreWithin, all_fit}
+use Rattle.br_model.specs.Table.Limits.{all_fit}
 use Rattle.br_model.specs.Table.Table.{start}
 use Rattle.br_model.proofs.PlaneHistory.{fit-append}
 use Rattle.br_model.proofs.Within.{within_of}

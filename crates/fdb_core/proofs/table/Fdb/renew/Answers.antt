@@ -1,5 +1,5 @@
 use Rattle.std.proofs.Common.{◌≡◌, ap, sym, Some, option_map, ◌∙◌}
-use Rattle.br_model.specs.Data.Maps.{pair_cmp, get, put}
+use Rattle.br_model.specs.Data.Maps.{pair_cmp, put}
 use Rattle.fdb_core.specs.declared.entries.Entry.{Entry}
 use Rattle.fdb_core.specs.Fdb.{Table, place}
 use Rattle.fdb_core.proofs.Addresses.{told, told-put, told-same}

@@ -1,4 +1,4 @@
-use Rattle.std.proofs.Common.{◌≡◌, ℕ, List, Option, None, length, get_or, ap, sym, subst, ◌∙◌, arith}
+use Rattle.std.proofs.Common.{◌≡◌, ℕ, List, Option, length, get_or, ap, sym, subst, ◌∙◌, arith}
 use Rattle.std.specs.Ordering.{nat_cmp}
 use Rattle.std.specs.FinMap.Entries as entries
 use Rattle.std.specs.FinMap.Entries.{is_sorted, is_sorted-put}
@@ -6,7 +6,7 @@ use Rattle.std.proofs.lemmas.Cmp.{nat_cmp_total}
 use Rattle.br_model.specs.Data.Maps.{pair_cmp, get, put}
 use Rattle.open_addressing.specs.Finite as numbers
 use Rattle.fdb_core.specs.declared.entries.Entry.{Entry}
-use Rattle.fdb_core.specs.Fdb.{Table, place}
+use Rattle.fdb_core.specs.Fdb.{Table}
 use Rattle.fdb_core.specs.Packing.{by_address, AreKeys}
 use Rattle.open_addressing.proofs.Pairs.{get-by_pair, put-by_pair, length-by_pair}
 use Rattle.open_addressing.proofs.Entries.{true_of}
@@ -15,7 +15,7 @@ use Rattle.fdb_core.specs.Places.{IsTold, news_of}
 use Rattle.fdb_core.proofs.ByAddress.{Key, keys-put}
 use Rattle.fdb_core.proofs.Kept.{found-some, fewer, counted-put}
 use Rattle.fdb_core.proofs.Lookups.{as_T}
-use Rattle.fdb_core.proofs.Addresses.{told, told-put}
+use Rattle.fdb_core.proofs.Addresses.{told}
 use Rattle.fdb_core.proofs.table.Fdb.replace.Goals as goal
 
 pub insert-requires-clause-room : goal.insert-requires-clause-room

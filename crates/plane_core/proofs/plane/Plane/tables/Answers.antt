@@ -1,4 +1,4 @@
-use Rattle.std.proofs.Common.{sym, subst, ap, ◌∙◌}
+use Rattle.std.proofs.Common.{subst, ap, ◌∙◌}
 use Rattle.br_model.specs.Plane.World.{chip_at, table_of_chip}
 use Rattle.br_model.specs.Table.Domains.{has_chip}
 use Rattle.chip_tables.specs.Stands.{Stands}

@@ -1,4 +1,4 @@
-use Rattle.std.proofs.Common.{Some, sym, ap, ◌∙◌, subst}
+use Rattle.std.proofs.Common.{sym, ap, subst}
 use Rattle.br_model.specs.Plane.Chip.{Chip, chip_table}
 use Rattle.chip_tables.specs.Rows.{Rows}
 use Rattle.chip_tables.specs.Stands.{Stands}

@@ -1,6 +1,6 @@
 use Rattle.std.specs.Prelude.{Vec}
 use Rattle.std.specs.declared.alloc.Global.{Global}
-use Rattle.std.proofs.Common.{◌≡◌, ◌+◌, ◌<◌, ◌≤◌, List, [], ◌∷◌, ◌++◌, length, sym, ap, ◌∙◌, subst, arith, rules, length-append}
+use Rattle.std.proofs.Common.{◌≡◌, ◌+◌, ◌<◌, List, [], ◌∷◌, ◌++◌, length, sym, ap, ◌∙◌, subst, arith, rules, length-append}
 use Rattle.std.proofs.lemmas.Grind.{common_steps}
 use Rattle.std.proofs.lemmas.List.{append-nil}
 use Rattle.br_model.specs.declared.change.Change.{Change}
@@ -13,7 +13,7 @@ use Rattle.table_publish.specs.Board.{Shelf}
 use Rattle.table_publish.specs.declared.content.Published.{Published}
 use Rattle.table_publish.specs.declared.content.Operation.{Operation}
 use Rattle.table_publish.proofs.Objects.{changes_of-push, object_of-push, full_push, published_of}
-use Rattle.table_publish.proofs.Publishing.{table_after, published_some, shelved_full, shelved_published, shelved_batches, shelved_few}
+use Rattle.table_publish.proofs.Publishing.{table_after, published_some, shelved_full, shelved_published, shelved_batches}
 use Rattle.table_publish.proofs.board.Board.publish.Goals as goal
 
 pub returns-then-is_empty-clause-published : goal.returns-then-is_empty-clause-published
