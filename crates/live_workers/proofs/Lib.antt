@@ -13,3 +13,4 @@ pub mod Standing
 pub mod Givens
 pub mod Places
 pub mod Testing
+pub mod Known

@@ -55,6 +55,13 @@ impl<N: Name> Chair<N> {
         self.seat.lookup(p, h, m)
     }
 
+    /// What the chair knows was published as a whole: the law does nothing.
+    pub fn stands(&self)
+        ensures { IsPublished self.now.object }
+    {
+        let _seat = &self.seat;
+    }
+
     /// How often a lookup got no reading. It never falls.
     pub fn misses(&self) -> u64
         ensures { result ≡ self.now.misses }

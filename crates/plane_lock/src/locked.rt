@@ -205,6 +205,13 @@ impl<N: Name> Locked<N> {
         }
     }
 
+    /// How many frames wait.
+    pub fn waiting(&self) -> usize
+        ensures { result ≡ length (world_of self.now).waiting }
+    {
+        self.ran.plane().waiting()
+    }
+
     /// How many deferred changes the chip of the domain has applied.
     pub fn applied(&self, d: Dom) -> u32
         requires { has_chip N.board.domains d ≡ true }

@@ -9,6 +9,7 @@ ghost use Rattle.plane_lock.specs.Posts.{IsSeen};
 
 use crate::NoMemory;
 use crate::chair::Chair;
+use crate::desk::Desk;
 use crate::locked::{ActFault, Locked};
 use crate::queues::{Driver, Queues};
 use crate::ran::Ran;
@@ -43,6 +44,26 @@ fn place_of(drivers: &[Driver], d: Dom) -> usize
     unreachable!()
 }
 
+/// The chip of the domain applies the updates that the desk gives, at most so many.
+fn apply_next<N: Name, R: Wait>(
+    rt: &R,
+    desk: &mut Desk,
+    core: &mut Locked<N>,
+    d: Dom,
+    most: usize,
+) -> Result<(), NoMemory>
+    requires { has_chip N.board.domains d ≡ true }
+{
+    for _ in 0..most {
+        let Some(update) = desk.next(rt) else {
+            break;
+        };
+        core.turn(d, update)?;
+        desk.done(core.applied(d));
+    }
+    Ok(())
+}
+
 impl<N: Name> Shared<N> {
     /// The run behind the lock. Its queues are those of the domains that have a chip, ascending, and each has been posted the updates
     /// of the run. After want of memory the run and the queues are ended.
@@ -62,6 +83,11 @@ impl<N: Name> Shared<N> {
                 Err(error)
             }
         }
+    }
+
+    /// What the lock keeps, for calls between which no other worker's come.
+    pub fn lock<'a, R: Wait>(&'a self, rt: &R) -> MutexGuard<'a, Locked<N>> {
+        self.core.lock(rt)
     }
 
     /// A frame of these bytes enters at the port. The answer is the chip's, where it decided the frame.
@@ -107,6 +133,24 @@ impl<N: Name> Shared<N> {
         Ok(true)
     }
 
+    /// The same of updates one after another, at most so many, without the plane's lock where the queue tells of none. Nothing where
+    /// another call has the driver's lock.
+    pub fn turns<R: Wait>(&self, rt: &R, d: Dom, most: usize) -> Result<(), NoMemory>
+        requires { has_chip N.board.domains d ≡ true }
+    {
+        let driver = &self.drivers[place_of(&self.drivers, d)];
+        let Some(mut desk) = driver.desk.try_lock() else {
+            return Ok(());
+        };
+        if desk.next(rt).is_none() {
+            return Ok(());
+        }
+        let mut core = self.core.lock(rt);
+        let done = apply_next(rt, &mut desk, &mut core, d, most);
+        MutexGuard::unlock(core);
+        done
+    }
+
     /// The bridge is told the oldest report of the domain's chip.
     pub fn report<R: Wait>(&self, rt: &R, alloc: Global, d: Dom) -> Result<(), ActFault>
         requires { has_chip N.board.domains d ≡ true }
@@ -115,22 +159,6 @@ impl<N: Name> Shared<N> {
         let done = core.report(rt, alloc, d);
         MutexGuard::unlock(core);
         done
-    }
-
-    /// The same where a report waits: `false`, and no step, where none does.
-    pub fn report_next<R: Wait>(&self, rt: &R, alloc: Global, d: Dom) -> Result<bool, ActFault>
-        requires { has_chip N.board.domains d ≡ true }
-    {
-        let mut core = self.core.lock(rt);
-        let waits = core.first_report(d).is_some();
-        let done = if waits {
-            core.report(rt, alloc, d)
-        } else {
-            Ok(())
-        };
-        MutexGuard::unlock(core);
-        done?;
-        Ok(waits)
     }
 
     /// The bridge forgets the stations that the chip of the domain no longer sees.

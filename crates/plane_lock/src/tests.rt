@@ -257,7 +257,7 @@ fn use_taught_address<N: Name, R: Wait + Abort>(
     assert_taught(rt, seen, point)
 }
 
-/// Each call but `turn` once, where it has work: a frame at a port of the chip is held, posted and reported, and then the bridge
+/// Each call but `turn` once, where it has work (the one update is applied by `turns`): a frame at a port of the chip is held, posted and reported, and then the bridge
 /// forgets its station. Then a frame of a new station is posted.
 fn use_each_call<N: Name, R: Wait + Abort>(
     rt: &R,
@@ -269,9 +269,8 @@ fn use_each_call<N: Name, R: Wait + Abort>(
 {
     assert!(rt; shared.enter(rt, alloc, port(1)?, &FRAME)?.is_some());
     let _point = post_frame(rt, alloc, shared, chair)?;
-    assert!(rt; shared.report_next(rt, alloc, Dom::CHIP)?);
-    assert!(rt; !shared.report_next(rt, alloc, Dom::CHIP)?);
-    assert!(rt; shared.turn(rt, Dom::CHIP)?);
+    shared.report(rt, alloc, Dom::CHIP)?;
+    shared.turns(rt, Dom::CHIP, 2)?;
     shared.sweep(rt, alloc, Dom::CHIP)?;
     shared.publish(rt, alloc)?;
     use_taught_address(rt, alloc, shared, chair)
