@@ -146,8 +146,8 @@ fn answer(alloc: Global, bridge: &mut Bridge, event: &Event) -> Result<Result<us
     }
 }
 
-/// A bridge with the ports 1 to 3. The chip has those up to `chips`.
-fn of_three_ports(alloc: Global, chips: u8) -> Result<Bridge, Fail> {
+/// A bridge with the ports 1 to 3, which come up. The chip has those up to `chips`.
+fn of_three_ports(rt: &impl Abort, alloc: Global, chips: u8) -> Result<Bridge, Fail> {
     let mut domains = Domains::make();
     let chip = Dom::new(1).ok_or("domain")?;
     for number in 1..4u8 {
@@ -157,12 +157,14 @@ fn of_three_ports(alloc: Global, chips: u8) -> Result<Bridge, Fail> {
             Some(_) | None => return Err(Fail::from("port")),
         }
     }
-    Ok(Bridge::make(alloc, domains, Mac::FIRST_OWN)?)
+    let mut bridge = Bridge::make(alloc, domains, Mac::FIRST_OWN)?;
+    play(rt, alloc, &mut bridge, UP)?;
+    Ok(bridge)
 }
 
 type Step = (Happening, Result<usize, Refusal>);
 
-const UP: [Step; 3] = [
+const UP: &[Step] = &[
     (Happening::Up(1), Ok(3)),
     (Happening::Up(2), Ok(3)),
     (Happening::Up(3), Ok(3)),
@@ -177,185 +179,183 @@ fn play(rt: &impl Abort, alloc: Global, bridge: &mut Bridge, steps: &[Step]) -> 
     Ok(())
 }
 
-#[test]
-fn first_refusals(rt: HostRuntime) -> Result<(), Fail> {
-    let mut bridge = of_three_ports(rt.alloc(), 0)?;
-    play(&rt, rt.alloc(), &mut bridge, &UP)?;
-    let steps = [
-        (Happening::Up(1), Err(Refusal::PortIsUp)),
-        (
-            Happening::Added(11, 2, 7, Kind::Static),
-            Err(Refusal::NotMember),
-        ),
-        (Happening::Added(11, 2, 1, Kind::Static), Ok(1)),
-        (
-            Happening::Added(11, 3, 1, Kind::Static),
-            Err(Refusal::Exists),
-        ),
-        (Happening::Deleted(10), Err(Refusal::Absent)),
-        (Happening::Down(3), Ok(2)),
-        (Happening::Flood(3, false), Err(Refusal::PortNotUp)),
-    ];
-    play(&rt, rt.alloc(), &mut bridge, &steps)?;
-    assert!(rt; bridge.history().len() == 12);
-    Ok(())
-}
+const REFUSALS: &[Step] = &[
+    (Happening::Up(1), Err(Refusal::PortIsUp)),
+    (
+        Happening::Added(11, 2, 7, Kind::Static),
+        Err(Refusal::NotMember),
+    ),
+    (Happening::Added(11, 2, 1, Kind::Static), Ok(1)),
+    (
+        Happening::Added(11, 3, 1, Kind::Static),
+        Err(Refusal::Exists),
+    ),
+    (Happening::Deleted(10), Err(Refusal::Absent)),
+    (Happening::Down(3), Ok(2)),
+    (Happening::Flood(3, false), Err(Refusal::PortNotUp)),
+];
 
 /// The extern entry stays, the learned one is over 300 s after it was learned.
-#[test]
-fn ageing(rt: HostRuntime) -> Result<(), Fail> {
-    let mut bridge = of_three_ports(rt.alloc(), 0)?;
-    play(&rt, rt.alloc(), &mut bridge, &UP)?;
-    let steps = [
-        (Happening::Added(12, 2, 1, Kind::Extern), Ok(1)),
-        (Happening::Seen(10, 1), Ok(1)),
-        (Happening::Waited(299_999), Ok(0)),
-        (Happening::Waited(300_000), Ok(1)),
-        (Happening::Waited(299_999), Err(Refusal::Backward)),
-    ];
-    play(&rt, rt.alloc(), &mut bridge, &steps)?;
-    assert!(rt; bridge.history().len() == 12);
-    Ok(())
-}
+const AGEING: &[Step] = &[
+    (Happening::Added(12, 2, 1, Kind::Extern), Ok(1)),
+    (Happening::Seen(10, 1), Ok(1)),
+    (Happening::Waited(299_999), Ok(0)),
+    (Happening::Waited(300_000), Ok(1)),
+    (Happening::Waited(299_999), Err(Refusal::Backward)),
+];
 
 /// A frame that comes by another port moves its source, and one that comes by the same renews it.
-#[test]
-fn moves_and_renewals(rt: HostRuntime) -> Result<(), Fail> {
-    let mut bridge = of_three_ports(rt.alloc(), 0)?;
-    play(&rt, rt.alloc(), &mut bridge, &UP)?;
-    let steps = [
-        (Happening::Seen(10, 1), Ok(1)),
-        (Happening::Seen(10, 2), Ok(1)),
-        (Happening::Waited(1000), Ok(0)),
-        (Happening::Seen(10, 2), Ok(0)),
-        (Happening::Waited(300_999), Ok(0)),
-        (Happening::Waited(301_000), Ok(1)),
-        (Happening::Seen(10, 1), Ok(1)),
-        (Happening::Aged(1), Ok(0)),
-        (Happening::Waited(302_000), Ok(1)),
-    ];
-    play(&rt, rt.alloc(), &mut bridge, &steps)
-}
+const MOVES: &[Step] = &[
+    (Happening::Seen(10, 1), Ok(1)),
+    (Happening::Seen(10, 2), Ok(1)),
+    (Happening::Waited(1000), Ok(0)),
+    (Happening::Seen(10, 2), Ok(0)),
+    (Happening::Waited(300_999), Ok(0)),
+    (Happening::Waited(301_000), Ok(1)),
+    (Happening::Seen(10, 1), Ok(1)),
+    (Happening::Aged(1), Ok(0)),
+    (Happening::Waited(302_000), Ok(1)),
+];
 
 /// A chip's port teaches nothing here, and what a port has goes with it or with its VLAN.
-#[test]
-fn chip_ports_and_what_goes(rt: HostRuntime) -> Result<(), Fail> {
-    let mut bridge = of_three_ports(rt.alloc(), 2)?;
-    play(&rt, rt.alloc(), &mut bridge, &UP)?;
-    let steps = [
-        (Happening::Seen(10, 1), Ok(0)),
-        (Happening::Added(11, 2, 1, Kind::Static), Ok(1)),
-        (Happening::Down(2), Ok(3)),
-        (Happening::Up(2), Ok(3)),
-        (Happening::Joined(2, 10), Ok(1)),
-        (Happening::Joined(2, 10), Err(Refusal::Exists)),
-        (Happening::Added(12, 2, 10, Kind::Static), Ok(1)),
-        (Happening::Left(2, 10), Ok(2)),
-        (Happening::Left(2, 10), Err(Refusal::Absent)),
-    ];
-    play(&rt, rt.alloc(), &mut bridge, &steps)
-}
+const CHIP_PORTS: &[Step] = &[
+    (Happening::Seen(10, 1), Ok(0)),
+    (Happening::Added(11, 2, 1, Kind::Static), Ok(1)),
+    (Happening::Down(2), Ok(3)),
+    (Happening::Up(2), Ok(3)),
+    (Happening::Joined(2, 10), Ok(1)),
+    (Happening::Joined(2, 10), Err(Refusal::Exists)),
+    (Happening::Added(12, 2, 10, Kind::Static), Ok(1)),
+    (Happening::Left(2, 10), Ok(2)),
+    (Happening::Left(2, 10), Err(Refusal::Absent)),
+];
 
 /// 239.0.0.0 and the number.
 fn group(number: u16) -> Ip {
     Ip::V4(0xEF00_0000 + u32::from(number))
 }
 
+const STATION: Ip = Ip::V4(0x0A00_0001);
+
+const ALL_NODES: Ip = Ip::V6(0xFF02_0000_0000_0000_0000_0000_0000_0001);
+
+/// Groups by their numbers.
+const GROUP_0: Ip = Ip::V4(0xEF00_0000);
+
+const GROUP_1023: Ip = Ip::V4(0xEF00_03FF);
+
+const GROUP_1024: Ip = Ip::V4(0xEF00_0400);
+
 /// Members of groups by command: which addresses are groups', and the order of refusals.
+const GROUPS: &[Step] = &[
+    (Happening::Grouped(1, 1, GROUP_0), Ok(1)),
+    (Happening::Grouped(1, 1, GROUP_0), Err(Refusal::Exists)),
+    (Happening::Grouped(2, 7, STATION), Err(Refusal::NotAGroup)),
+    (
+        Happening::Grouped(1, 1, Ip::V4(0xE000_00FF)),
+        Err(Refusal::NotAGroup),
+    ),
+    (Happening::Grouped(1, 1, Ip::V4(0xE000_0100)), Ok(1)),
+    (Happening::Grouped(0, 1, ALL_NODES), Err(Refusal::NotAGroup)),
+    (Happening::Grouped(2, 7, GROUP_0), Err(Refusal::NotMember)),
+    (Happening::Ungrouped(2, 7, STATION), Err(Refusal::NotAGroup)),
+    (Happening::Ungrouped(2, 7, GROUP_0), Err(Refusal::Absent)),
+    (Happening::Ungrouped(1, 1, GROUP_0), Ok(1)),
+    (Happening::Ungrouped(1, 1, GROUP_0), Err(Refusal::Absent)),
+    (Happening::Snooped(true), Ok(0)),
+    (Happening::Snooped(false), Ok(1)),
+    (Happening::Waited(4_000_000), Ok(0)),
+    (Happening::Down(3), Ok(2)),
+    (Happening::Grouped(3, 1, STATION), Err(Refusal::PortNotUp)),
+    (Happening::Ungrouped(3, 1, STATION), Err(Refusal::PortNotUp)),
+    (Happening::Down(1), Ok(3)),
+];
+
+/// How many ports the chip has, what happens once the ports are up, and how many changes there are then, where that is looked at.
+const RUNS: &[(u8, &[Step], Option<usize>)] = &[
+    (0, REFUSALS, Some(12)),
+    (0, AGEING, Some(12)),
+    (0, MOVES, None),
+    (2, CHIP_PORTS, None),
+    (0, GROUPS, Some(18)),
+];
+
 #[test]
-fn groups_by_command(rt: HostRuntime) -> Result<(), Fail> {
-    let mut bridge = of_three_ports(rt.alloc(), 0)?;
-    play(&rt, rt.alloc(), &mut bridge, &UP)?;
-    let station = Ip::V4(0x0A00_0001);
-    let all_nodes = Ip::V6(0xFF02_0000_0000_0000_0000_0000_0000_0001);
-    let steps = [
-        (Happening::Grouped(1, 1, group(0)), Ok(1)),
-        (Happening::Grouped(1, 1, group(0)), Err(Refusal::Exists)),
-        (Happening::Grouped(2, 7, station), Err(Refusal::NotAGroup)),
-        (
-            Happening::Grouped(1, 1, Ip::V4(0xE000_00FF)),
-            Err(Refusal::NotAGroup),
-        ),
-        (Happening::Grouped(1, 1, Ip::V4(0xE000_0100)), Ok(1)),
-        (Happening::Grouped(0, 1, all_nodes), Err(Refusal::NotAGroup)),
-        (Happening::Grouped(2, 7, group(0)), Err(Refusal::NotMember)),
-        (Happening::Ungrouped(2, 7, station), Err(Refusal::NotAGroup)),
-        (Happening::Ungrouped(2, 7, group(0)), Err(Refusal::Absent)),
-        (Happening::Ungrouped(1, 1, group(0)), Ok(1)),
-        (Happening::Ungrouped(1, 1, group(0)), Err(Refusal::Absent)),
-        (Happening::Snooped(true), Ok(0)),
-        (Happening::Snooped(false), Ok(1)),
-        (Happening::Waited(4_000_000), Ok(0)),
-        (Happening::Down(3), Ok(2)),
-        (Happening::Grouped(3, 1, station), Err(Refusal::PortNotUp)),
-        (Happening::Ungrouped(3, 1, station), Err(Refusal::PortNotUp)),
-        (Happening::Down(1), Ok(3)),
-    ];
-    play(&rt, rt.alloc(), &mut bridge, &steps)?;
-    assert!(rt; bridge.history().len() == 18);
+fn worked_runs(rt: HostRuntime) -> Result<(), Fail> {
+    let alloc = rt.alloc();
+    for (chips, steps, changes) in RUNS {
+        let mut bridge = of_three_ports(&rt, alloc, *chips)?;
+        play(&rt, alloc, &mut bridge, steps)?;
+        if let Some(changes) = changes {
+            assert!(rt; bridge.history().len() == *changes);
+        }
+    }
     Ok(())
 }
+
+/// What follows on 1,024 pairs.
+const MANY_PAIRS: &[Step] = &[
+    (
+        Happening::Grouped(1, 1, GROUP_1024),
+        Err(Refusal::GroupsFull),
+    ),
+    (Happening::Grouped(2, 1, GROUP_1023), Ok(1)),
+    (Happening::Ungrouped(1, 1, GROUP_0), Ok(1)),
+    (Happening::Grouped(1, 1, GROUP_1024), Ok(1)),
+];
 
 /// The 1,025th pair of VLAN and group is refused; a pair that is there may have more members.
 #[test]
 fn no_more_than_1024_pairs(rt: HostRuntime) -> Result<(), Fail> {
     let alloc = rt.alloc();
-    let mut bridge = of_three_ports(alloc, 0)?;
-    play(&rt, alloc, &mut bridge, &UP)?;
+    let mut bridge = of_three_ports(&rt, alloc, 0)?;
     for number in 0..1024u16 {
         let joined = Event::Cmd(grouped(1, 1, group(number))?);
         assert!(rt; answer(alloc, &mut bridge, &joined)? == Ok(1));
     }
-    let steps = [
-        (
-            Happening::Grouped(1, 1, group(1024)),
-            Err(Refusal::GroupsFull),
-        ),
-        (Happening::Grouped(2, 1, group(1023)), Ok(1)),
-        (Happening::Ungrouped(1, 1, group(0)), Ok(1)),
-        (Happening::Grouped(1, 1, group(1024)), Ok(1)),
-    ];
-    play(&rt, alloc, &mut bridge, &steps)
+    play(&rt, alloc, &mut bridge, MANY_PAIRS)
 }
+
+/// What follows on 16,384 addresses.
+const MANY_ADDRESSES: &[Step] = &[
+    (
+        Happening::Added(11, 1, 1, Kind::Static),
+        Err(Refusal::FdbFull),
+    ),
+    (Happening::Seen(10, 1), Ok(0)),
+];
 
 #[test]
 fn no_more_than_16384_addresses(rt: HostRuntime) -> Result<(), Fail> {
     let alloc = rt.alloc();
-    let mut bridge = of_three_ports(alloc, 0)?;
-    play(&rt, alloc, &mut bridge, &UP)?;
+    let mut bridge = of_three_ports(&rt, alloc, 0)?;
     for number in 0..16384u16 {
         let [high, low] = number.to_be_bytes();
         let mac = Mac::new([2, 0, 0, 1, high, low]);
         let entry = Event::Cmd(added(mac, 1, 1, Kind::Static)?);
         assert!(rt; answer(alloc, &mut bridge, &entry)? == Ok(1));
     }
-    let steps = [
-        (
-            Happening::Added(11, 1, 1, Kind::Static),
-            Err(Refusal::FdbFull),
-        ),
-        (Happening::Seen(10, 1), Ok(0)),
-    ];
-    play(&rt, alloc, &mut bridge, &steps)
+    play(&rt, alloc, &mut bridge, MANY_ADDRESSES)
 }
+
+/// What follows on 1,048,576 changes.
+const MANY_CHANGES: &[Step] = &[
+    (Happening::Flood(1, false), Ok(0)),
+    (Happening::Flood(1, true), Err(Refusal::HistoryFull)),
+    (Happening::Waited(5), Ok(0)),
+];
 
 #[test]
 fn no_more_than_1048576_changes(rt: HostRuntime) -> Result<(), Fail> {
     let alloc = rt.alloc();
-    let mut bridge = of_three_ports(alloc, 0)?;
-    play(&rt, alloc, &mut bridge, &UP)?;
+    let mut bridge = of_three_ports(&rt, alloc, 0)?;
     let mut on = false;
     for _ in 0..1_048_567u32 {
         let link = Event::Cmd(flood(1, on)?);
         assert!(rt; answer(alloc, &mut bridge, &link)? == Ok(1));
         on = !on;
     }
-    let steps = [
-        (Happening::Flood(1, false), Ok(0)),
-        (Happening::Flood(1, true), Err(Refusal::HistoryFull)),
-        (Happening::Waited(5), Ok(0)),
-    ];
-    play(&rt, alloc, &mut bridge, &steps)
+    play(&rt, alloc, &mut bridge, MANY_CHANGES)
 }
 
 /// A station of the plain list.
@@ -476,8 +476,7 @@ fn happens(plain: &mut Plain, number: u64) -> Step {
 #[test]
 fn a_hundred_thousand_events(rt: HostRuntime) -> Result<(), Fail> {
     let alloc = rt.alloc();
-    let mut bridge = of_three_ports(alloc, 0)?;
-    play(&rt, alloc, &mut bridge, &UP)?;
+    let mut bridge = of_three_ports(&rt, alloc, 0)?;
     let mut plain = Plain {
         stations: [None; 32],
         now: 0,

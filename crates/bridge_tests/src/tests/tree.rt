@@ -13,7 +13,7 @@ const BRIDGE: u64 = 0x8000_0200_0000_0000;
 
 const PORT: u16 = 0x8000;
 
-#[derive(Clone, Copy, Debug)]
+#[derive(Clone, Copy)]
 enum Event {
     On(bool),
     Up(u8),
@@ -30,7 +30,7 @@ enum Event {
 }
 
 // The moment, the event, and the ports that move, that send a configuration message, and the one that notifies.
-type Row<'a> = (u64, Event, &'a [u8], &'a [u8], Option<u8>);
+type Row = (u64, Event, &'static [u8], &'static [u8], Option<u8>);
 
 fn says(flags: u8, root: u8, cost: u32, sender: u8, port: u8) -> BpduMsg {
     BpduMsg::Config {
@@ -99,38 +99,37 @@ fn assert_rows(rt: &impl Abort, tree: &mut Tree, rows: &[Row]) {
     }
 }
 
+const TWO_PORTS: &[Row] = &[
+    (0, Event::Up(1), &[1], &[], None),
+    (0, Event::Up(2), &[2], &[], None),
+    (0, Event::On(true), &[1, 2], &[1, 2], None),
+];
+
 fn tree_of_two_ports(rt: &impl Abort) -> Tree {
     let mut tree = Tree::make(Mac::new([2, 0, 0, 0, 0, 1]));
-    assert_rows(
-        rt,
-        &mut tree,
-        &[
-            (0, Event::Up(1), &[1], &[], None),
-            (0, Event::Up(2), &[2], &[], None),
-            (0, Event::On(true), &[1, 2], &[1, 2], None),
-        ],
-    );
+    assert_rows(rt, &mut tree, TWO_PORTS);
     tree
 }
+
+// The sender's port decides. Then the root falls silent, and this bridge is the root again.
+const ONE_ROOT: &[Row] = &[
+    (0, Event::SaysRoot(1, 0, 0, 2), &[], &[], None),
+    (0, Event::SaysRoot(2, 0, 0, 1), &[1], &[], None),
+    (15_000, Event::Now, &[2], &[], None),
+    (20_000, Event::Now, &[1], &[1, 2], None),
+];
 
 #[test]
 fn ports_of_one_root(rt: HostRuntime) {
     let mut tree = tree_of_two_ports(&rt);
-    // The sender's port decides. Then the root falls silent, and this bridge is the root again.
-    let rows: [Row; 4] = [
-        (0, Event::SaysRoot(1, 0, 0, 2), &[], &[], None),
-        (0, Event::SaysRoot(2, 0, 0, 1), &[1], &[], None),
-        (15_000, Event::Now, &[2], &[], None),
-        (20_000, Event::Now, &[1], &[1, 2], None),
-    ];
     let mut copy = tree.copy();
-    assert_rows(&rt, &mut copy, &rows);
-    assert_rows(&rt, &mut tree, &rows);
+    assert_rows(&rt, &mut copy, ONE_ROOT);
+    assert_rows(&rt, &mut tree, ONE_ROOT);
     assert_eq!(rt; tree.last_message(port(&rt, 2)), Some(says(1, 1, 0, 1, 2)));
 }
 
 // What a port of a bridge in a network comes to.
-#[derive(Clone, Copy, Debug)]
+#[derive(Clone, Copy)]
 enum Role {
     Root,
     /// It says that the root is this bridge at this cost.
@@ -206,102 +205,90 @@ fn assert_network(rt: &impl Abort, rows: &[PortRow]) {
     }
 }
 
+const NETWORKS: &[&[PortRow]] = &[
+    // At the third bridge the root decides, the cost, the bridge, its port; and then the own port, where both are on one LAN.
+    &[
+        (3, 1, 100, Some((2, 0, 2, 1)), Role::Designated(1, 110)),
+        (3, 2, 100, Some((1, 10, 4, 1)), Role::Root),
+    ],
+    &[
+        (3, 1, 100, Some((1, 10, 2, 1)), Role::Blocked),
+        (3, 2, 89, Some((1, 20, 2, 2)), Role::Root),
+    ],
+    &[
+        (3, 1, 100, Some((1, 10, 4, 1)), Role::Blocked),
+        (3, 2, 90, Some((1, 20, 2, 1)), Role::Root),
+    ],
+    &[
+        (3, 1, 100, Some((1, 10, 2, 2)), Role::Blocked),
+        (3, 2, 100, Some((1, 10, 2, 1)), Role::Root),
+    ],
+    &[
+        (3, 1, 100, Some((1, 10, 2, 1)), Role::Root),
+        (3, 2, 100, Some((1, 10, 2, 1)), Role::Blocked),
+    ],
+    // Each bridge is on a first LAN; bridges 1 and 2 are on a second one; bridge 2 is on a third one, and bridge 3 twice.
+    &[
+        (1, 1, 100, Some((1, 100, 3, 1)), Role::Designated(1, 0)),
+        (1, 2, 100, None, Role::Designated(1, 0)),
+        (2, 1, 100, Some((1, 0, 1, 1)), Role::Root),
+        (2, 2, 100, Some((1, 0, 1, 2)), Role::Blocked),
+        (2, 3, 100, Some((1, 100, 3, 2)), Role::Designated(1, 100)),
+        (3, 1, 100, Some((1, 0, 1, 1)), Role::Root),
+        (3, 2, 100, Some((1, 100, 2, 3)), Role::Blocked),
+        (3, 3, 100, Some((1, 100, 2, 3)), Role::Blocked),
+    ],
+    // Of the LANs, A has bridges 1 and 2; B 1, 3 and 4; C 2, 3 and 5; D and E both 4 and 5. The near path of bridge 3 makes
+    // it the designated bridge of C.
+    &[
+        (1, 1, 100, None, Role::Designated(1, 0)),
+        (1, 2, 100, None, Role::Designated(1, 0)),
+        (2, 1, 100, Some((1, 0, 1, 1)), Role::Root),
+        (2, 2, 100, Some((1, 19, 3, 2)), Role::Blocked),
+        (3, 1, 19, Some((1, 0, 1, 2)), Role::Root),
+        (3, 2, 100, Some((1, 100, 2, 2)), Role::Designated(1, 19)),
+        (4, 1, 100, Some((1, 0, 1, 2)), Role::Root),
+        (4, 2, 100, Some((1, 119, 5, 2)), Role::Designated(1, 100)),
+        (4, 3, 100, None, Role::Designated(1, 100)),
+        (5, 1, 100, Some((1, 19, 3, 2)), Role::Root),
+        (5, 2, 100, Some((1, 100, 4, 2)), Role::Blocked),
+        (5, 3, 100, Some((1, 100, 4, 3)), Role::Blocked),
+    ],
+];
+
 #[test]
-fn ties_at_the_third_bridge(rt: HostRuntime) {
-    // The root decides, the cost, the bridge, its port; and then the own port, where both are on one LAN.
-    let networks: [[PortRow; 2]; 5] = [
-        [
-            (3, 1, 100, Some((2, 0, 2, 1)), Role::Designated(1, 110)),
-            (3, 2, 100, Some((1, 10, 4, 1)), Role::Root),
-        ],
-        [
-            (3, 1, 100, Some((1, 10, 2, 1)), Role::Blocked),
-            (3, 2, 89, Some((1, 20, 2, 2)), Role::Root),
-        ],
-        [
-            (3, 1, 100, Some((1, 10, 4, 1)), Role::Blocked),
-            (3, 2, 90, Some((1, 20, 2, 1)), Role::Root),
-        ],
-        [
-            (3, 1, 100, Some((1, 10, 2, 2)), Role::Blocked),
-            (3, 2, 100, Some((1, 10, 2, 1)), Role::Root),
-        ],
-        [
-            (3, 1, 100, Some((1, 10, 2, 1)), Role::Root),
-            (3, 2, 100, Some((1, 10, 2, 1)), Role::Blocked),
-        ],
-    ];
-    for rows in &networks {
+fn roles_in_networks(rt: HostRuntime) {
+    for rows in NETWORKS {
         assert_network(&rt, rows);
     }
 }
 
-#[test]
-fn three_bridges(rt: HostRuntime) {
-    // Each bridge is on a first LAN; bridges 1 and 2 are on a second one; bridge 2 is on a third one, and bridge 3 twice.
-    assert_network(
-        &rt,
-        &[
-            (1, 1, 100, Some((1, 100, 3, 1)), Role::Designated(1, 0)),
-            (1, 2, 100, None, Role::Designated(1, 0)),
-            (2, 1, 100, Some((1, 0, 1, 1)), Role::Root),
-            (2, 2, 100, Some((1, 0, 1, 2)), Role::Blocked),
-            (2, 3, 100, Some((1, 100, 3, 2)), Role::Designated(1, 100)),
-            (3, 1, 100, Some((1, 0, 1, 1)), Role::Root),
-            (3, 2, 100, Some((1, 100, 2, 3)), Role::Blocked),
-            (3, 3, 100, Some((1, 100, 2, 3)), Role::Blocked),
-        ],
-    );
-}
-
-#[test]
-fn active_topology_of_five_bridges(rt: HostRuntime) {
-    // Of the LANs, A has bridges 1 and 2; B 1, 3 and 4; C 2, 3 and 5; D and E both 4 and 5. The near path of bridge 3 makes
-    // it the designated bridge of C.
-    assert_network(
-        &rt,
-        &[
-            (1, 1, 100, None, Role::Designated(1, 0)),
-            (1, 2, 100, None, Role::Designated(1, 0)),
-            (2, 1, 100, Some((1, 0, 1, 1)), Role::Root),
-            (2, 2, 100, Some((1, 19, 3, 2)), Role::Blocked),
-            (3, 1, 19, Some((1, 0, 1, 2)), Role::Root),
-            (3, 2, 100, Some((1, 100, 2, 2)), Role::Designated(1, 19)),
-            (4, 1, 100, Some((1, 0, 1, 2)), Role::Root),
-            (4, 2, 100, Some((1, 119, 5, 2)), Role::Designated(1, 100)),
-            (4, 3, 100, None, Role::Designated(1, 100)),
-            (5, 1, 100, Some((1, 19, 3, 2)), Role::Root),
-            (5, 2, 100, Some((1, 100, 4, 2)), Role::Blocked),
-            (5, 3, 100, Some((1, 100, 4, 3)), Role::Blocked),
-        ],
-    );
-}
+const ACKNOWLEDGED: &[Row] = &[
+    (0, Event::SaysRoot(1, 0, 0, 1), &[], &[], None),
+    (1000, Event::Now, &[], &[2], None),
+    (10_000, Event::SaysRoot(1, 0, 0, 1), &[], &[2], None),
+    (15_000, Event::Now, &[1, 2], &[], None),
+    (25_000, Event::SaysRoot(1, 0, 0, 1), &[], &[2], None),
+    (30_000, Event::Now, &[1, 2], &[], Some(1)),
+    (31_999, Event::Now, &[], &[], None),
+    (32_000, Event::Now, &[], &[], Some(1)),
+    (33_000, Event::SaysRoot(1, 129, 0, 1), &[], &[2], None),
+    (35_000, Event::Now, &[], &[], None),
+    (35_500, Event::Notifies(2), &[], &[2], Some(1)),
+    (35_500, Event::Notifies(1), &[], &[], None),
+];
 
 #[test]
 fn acknowledged_change(rt: HostRuntime) {
     let mut tree = tree_of_two_ports(&rt);
-    let rows: [Row; 12] = [
-        (0, Event::SaysRoot(1, 0, 0, 1), &[], &[], None),
-        (1000, Event::Now, &[], &[2], None),
-        (10_000, Event::SaysRoot(1, 0, 0, 1), &[], &[2], None),
-        (15_000, Event::Now, &[1, 2], &[], None),
-        (25_000, Event::SaysRoot(1, 0, 0, 1), &[], &[2], None),
-        (30_000, Event::Now, &[1, 2], &[], Some(1)),
-        (31_999, Event::Now, &[], &[], None),
-        (32_000, Event::Now, &[], &[], Some(1)),
-        (33_000, Event::SaysRoot(1, 129, 0, 1), &[], &[2], None),
-        (35_000, Event::Now, &[], &[], None),
-        (35_500, Event::Notifies(2), &[], &[2], Some(1)),
-        (35_500, Event::Notifies(1), &[], &[], None),
-    ];
-    assert_rows(&rt, &mut tree, &rows);
+    assert_rows(&rt, &mut tree, ACKNOWLEDGED);
     assert_eq!(rt; tree.hold(), Some(15_000));
 }
 
-#[test]
-fn put_off_message(rt: HostRuntime) {
-    let mut tree = tree_of_two_ports(&rt);
-    let rows: [Row; 7] = [
+/// Each run is of two ports.
+const RUNS: &[&[Row]] = &[
+    // A message is put off.
+    &[
         (0, Event::SaysRoot(1, 0, 0, 1), &[], &[], None),
         (500, Event::SaysRoot(1, 1, 0, 1), &[], &[], None),
         (999, Event::Now, &[], &[], None),
@@ -309,48 +296,45 @@ fn put_off_message(rt: HostRuntime) {
         (1999, Event::SaysRoot(1, 0, 0, 1), &[], &[], None),
         (1999, Event::SaysRoot(2, 0, 0, 2), &[2], &[], None),
         (2000, Event::Now, &[], &[], None),
-    ];
-    assert_rows(&rt, &mut tree, &rows);
-}
-
-#[test]
-fn own_message_returns(rt: HostRuntime) {
-    let mut tree = tree_of_two_ports(&rt);
-    let rows: [Row; 4] = [
+    ],
+    // The bridge's own message returns.
+    &[
         (0, Event::SaysRoot(1, 0, 0, 1), &[], &[], None),
         (2000, Event::Says(2, 0, 50, 1, 1), &[2], &[], None),
         (20_000, Event::Now, &[1], &[1], None),
         (22_000, Event::Now, &[2], &[1, 2], None),
-    ];
-    assert_rows(&rt, &mut tree, &rows);
-}
-
-#[test]
-fn ports_of_one_lan(rt: HostRuntime) {
-    let mut tree = tree_of_two_ports(&rt);
+    ],
     // Both ports hear the same: the lower number wins, and then the lower priority.
-    let rows: [Row; 3] = [
+    &[
         (0, Event::Says(2, 0, 10, 2, 1), &[], &[], None),
         (0, Event::Says(1, 0, 10, 2, 1), &[2], &[], None),
         (0, Event::PortPriority(2, 64), &[1, 2], &[], None),
-    ];
-    assert_rows(&rt, &mut tree, &rows);
+    ],
+];
+
+#[test]
+fn runs_of_two_ports(rt: HostRuntime) {
+    for rows in RUNS {
+        let mut tree = tree_of_two_ports(&rt);
+        assert_rows(&rt, &mut tree, rows);
+    }
 }
+
+const MANAGED: &[Row] = &[
+    (0, Event::SaysRoot(1, 0, 0, 1), &[], &[], None),
+    (0, Event::Says(2, 0, 10, 3, 1), &[2], &[], None),
+    (3000, Event::Cost(1, 200), &[1, 2], &[], None),
+    (4000, Event::Priority(4096), &[1], &[1, 2], None),
+    (6000, Event::SaysRoot(1, 0, 0, 1), &[], &[1], None),
+    (6000, Event::Down(2), &[], &[], None),
+    (6000, Event::On(false), &[1], &[], None),
+    (6000, Event::Up(2), &[2], &[], None),
+];
 
 #[test]
 fn managed_tree(rt: HostRuntime) {
     let mut tree = tree_of_two_ports(&rt);
-    let rows: [Row; 8] = [
-        (0, Event::SaysRoot(1, 0, 0, 1), &[], &[], None),
-        (0, Event::Says(2, 0, 10, 3, 1), &[2], &[], None),
-        (3000, Event::Cost(1, 200), &[1, 2], &[], None),
-        (4000, Event::Priority(4096), &[1], &[1, 2], None),
-        (6000, Event::SaysRoot(1, 0, 0, 1), &[], &[1], None),
-        (6000, Event::Down(2), &[], &[], None),
-        (6000, Event::On(false), &[1], &[], None),
-        (6000, Event::Up(2), &[2], &[], None),
-    ];
-    assert_rows(&rt, &mut tree, &rows);
+    assert_rows(&rt, &mut tree, MANAGED);
     assert_eq!(rt; tree.last_message(port(&rt, 1)), None);
     assert_eq!(rt; tree.hold(), None);
 }

@@ -163,25 +163,23 @@ fn assert_rows(rt: &impl Abort, alloc: Global, rows: &[Row]) {
     }
 }
 
-#[test]
-fn frames_to_one_station(rt: HostRuntime) {
-    let rows: [Row; 4] = [
-        (1, STATIC, LEARNED, 1, "Forward 2, hit"),
-        (1, LEARNED, NEW, 1, "Drop, reported"),
-        (1, ELSEWHERE, NEW, 1, "Trap, reported"),
-        (1, STATIC, NEW, 3, "Drop"),
-    ];
-    assert_rows(&rt, rt.alloc(), &rows);
-}
+const TO_ONE_STATION: &[Row] = &[
+    (1, STATIC, LEARNED, 1, "Forward 2, hit"),
+    (1, LEARNED, NEW, 1, "Drop, reported"),
+    (1, ELSEWHERE, NEW, 1, "Trap, reported"),
+    (1, STATIC, NEW, 3, "Drop"),
+];
+
+const TO_MANY: &[Row] = &[
+    // VLAN 2 doesn't know the station, and has no port elsewhere.
+    (1, STATIC, LEARNED, 2, "Forward 2, reported"),
+    (2, NEW, STATIC, 1, "Copy 1u, hit"),
+    (1, Mac::BROADCAST_ADDRESS, STATIC, 1, "Copy 2"),
+    (1, RESERVED, NEW, 1, "Trap"),
+];
 
 #[test]
-fn frames_to_many(rt: HostRuntime) {
-    let rows: [Row; 4] = [
-        // VLAN 2 doesn't know the station, and has no port elsewhere.
-        (1, STATIC, LEARNED, 2, "Forward 2, reported"),
-        (2, NEW, STATIC, 1, "Copy 1u, hit"),
-        (1, Mac::BROADCAST_ADDRESS, STATIC, 1, "Copy 2"),
-        (1, RESERVED, NEW, 1, "Trap"),
-    ];
-    assert_rows(&rt, rt.alloc(), &rows);
+fn frames_by_hand(rt: HostRuntime) {
+    assert_rows(&rt, rt.alloc(), TO_ONE_STATION);
+    assert_rows(&rt, rt.alloc(), TO_MANY);
 }
