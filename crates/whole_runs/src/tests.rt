@@ -69,6 +69,12 @@ fn ran_at(
     Ok(Outcome { status, wrote })
 }
 
+/// What a run answered, and all that it wrote. `at` names the run.
+fn comes_to(rt: &impl Abort, outcome: &Outcome, at: &str, (status, wrote): (Status, &str)) {
+    assert_eq!(rt; outcome.status, status, "at {at}");
+    assert_eq!(rt; outcome.wrote.as_slice(), wrote.as_bytes(), "at {at}");
+}
+
 /// Runs a scenario. `told` is what its transcript has after the line `transcript 1`.
 fn is_told(
     rt: &(impl Abort + Threads + Wait + Sync),

@@ -1,5 +1,5 @@
 //! Lines `capture`, with their sections.
-use super::{ends_in, is_told, ran, read_row};
+use super::{comes_to, ends_in, is_told, ran, read_row};
 use capture_runner::Status;
 use std::alloc::Global;
 use std::test::Fail;
@@ -45,88 +45,102 @@ fn section(alloc: Global, at: usize, byte: u8) -> Result<Vec<u8>, Fail> {
 
 /// A changed byte, the length in the line, how many bytes of the section stand there, what follows them, and what is told
 /// behind the steps before.
+type Capture = (
+    (usize, u8),
+    &'static str,
+    usize,
+    &'static str,
+    Status,
+    &'static str,
+);
+
+const SERVE: &str = "serve\nend\n";
+
+const SENT: &str = "soft 1 at 9
+tx 1 2 02000000000b02000000000a88b50102
+tx 1 3 02000000000b02000000000a88b50102
+ok 6 1
+end 6 10 1 0
+";
+
+const CAPTURES: &[Capture] = &[
+    ((0, 0x0a), "96", 96, SERVE, Status::Ok, SENT),
+    ((0, 0x0a), "96", 95, "", Status::BadLine, "bad 9 unended\n"),
+    (
+        (0, 0x0a),
+        "95",
+        95,
+        SERVE,
+        Status::BadLine,
+        "bad 9 capture 48\n",
+    ),
+    (
+        (56, 1),
+        "96",
+        96,
+        SERVE,
+        Status::BadLine,
+        "bad 9 capture 48\n",
+    ),
+    (
+        (8, 0x4e),
+        "96",
+        96,
+        SERVE,
+        Status::BadLine,
+        "bad 9 capture 0\n",
+    ),
+    (
+        (36, 2),
+        "96",
+        96,
+        SERVE,
+        Status::BadLine,
+        "bad 9 capture 48\n",
+    ),
+    ((0, 0x0a), "96", 96, "", Status::BadLine, "bad 10 unended\n"),
+    ((0, 0x0a), "96", 96, "end", Status::Ok, "end 5 9 0 1\n"),
+    (
+        (0, 0x0a),
+        "96",
+        96,
+        "port 4 p4 soft\n",
+        Status::BadLine,
+        "bad 10 place\n",
+    ),
+    (
+        (0, 0x0a),
+        "16777217",
+        96,
+        SERVE,
+        Status::BadLine,
+        "bad 9 number\n",
+    ),
+    ((0, 0x0a), "0", 0, "end\n", Status::Ok, "end 4 9 0 0\n"),
+    (
+        (0, 0x0a),
+        "0",
+        0,
+        "capture 0\nend\n",
+        Status::Ok,
+        "end 4 9 0 0\n",
+    ),
+];
+
 #[test]
 fn captures(rt: HostRuntime) -> Result<(), Fail> {
     let alloc = rt.alloc();
-    let frame = "02000000000b02000000000a88b50102";
-    let sent = format!(in alloc;
-        "soft 1 at 9\ntx 1 2 {frame}\ntx 1 3 {frame}\nok 6 1\nend 6 10 1 0\n"
-    )?;
-    let serve = "serve\nend\n";
-    let rows = [
-        ((0, 0x0a), "96", 96, serve, Status::Ok, sent.as_str()),
-        ((0, 0x0a), "96", 95, "", Status::BadLine, "bad 9 unended\n"),
-        (
-            (0, 0x0a),
-            "95",
-            95,
-            serve,
-            Status::BadLine,
-            "bad 9 capture 48\n",
-        ),
-        (
-            (56, 1),
-            "96",
-            96,
-            serve,
-            Status::BadLine,
-            "bad 9 capture 48\n",
-        ),
-        (
-            (8, 0x4e),
-            "96",
-            96,
-            serve,
-            Status::BadLine,
-            "bad 9 capture 0\n",
-        ),
-        (
-            (36, 2),
-            "96",
-            96,
-            serve,
-            Status::BadLine,
-            "bad 9 capture 48\n",
-        ),
-        ((0, 0x0a), "96", 96, "", Status::BadLine, "bad 10 unended\n"),
-        ((0, 0x0a), "96", 96, "end", Status::Ok, "end 5 9 0 1\n"),
-        (
-            (0, 0x0a),
-            "96",
-            96,
-            "port 4 p4 soft\n",
-            Status::BadLine,
-            "bad 10 place\n",
-        ),
-        (
-            (0, 0x0a),
-            "16777217",
-            96,
-            serve,
-            Status::BadLine,
-            "bad 9 number\n",
-        ),
-        ((0, 0x0a), "0", 0, "end\n", Status::Ok, "end 4 9 0 0\n"),
-        (
-            (0, 0x0a),
-            "0",
-            0,
-            "capture 0\nend\n",
-            Status::Ok,
-            "end 4 9 0 0\n",
-        ),
-    ];
-    for ((at, byte), length, count, rest, status, told) in rows {
+    for ((at, byte), length, count, rest, status, told) in CAPTURES {
         let before = read_row(alloc, THREE_UP)?;
         let line = format!(in alloc; "capture {length}\n")?;
-        let section = section(alloc, at, byte)?;
-        let (section, _) = section.split_at(count.min(section.len()));
+        let section = section(alloc, *at, *byte)?;
+        let (section, _) = section.split_at((*count).min(section.len()));
         let mut input = Vec::from_slice(alloc, before.input.as_bytes())?;
         input.extend_from_slice(line.as_bytes())?;
         input.extend_from_slice(section)?;
         input.extend_from_slice(rest.as_bytes())?;
         let told = format!(in alloc; "{}{told}", before.told.as_str())?;
-        is_told(&rt, alloc, &input, status, told.as_str())?;
+        is_told(&rt, alloc, &input, *status, told.as_str())?;
     }
     Ok(())
 }
@@ -201,6 +215,12 @@ fn longest_capture(rt: HostRuntime) -> Result<(), Fail> {
     ends_in(&rt, alloc, &input, Status::Ok, told)
 }
 
+const CUT_OFF: &[(u32, Status, &str)] = &[
+    (2, Status::ReadFault, "transcript 1\nok 1 3\nread fault\n"),
+    (4, Status::ReadFault, "transcript 1\nok 1 3\nread fault\n"),
+    (5, Status::BadLine, "transcript 1\nok 1 3\nbad 4 unended\n"),
+];
+
 /// Reads that fail in a section, and one that finds the end there: the first takes 65,536 bytes, the second as many as the lines
 /// had, the third what is left, and the fourth finds the end.
 #[test]
@@ -213,15 +233,9 @@ fn section_is_cut_off(rt: HostRuntime) -> Result<(), Fail> {
         b"scenario 1\nport 1 p1 soft\ncmd port up p1\ncapture 100001\n",
     )?;
     input.extend_from_slice(part)?;
-    let rows = [
-        (2, Status::ReadFault, "transcript 1\nok 1 3\nread fault\n"),
-        (4, Status::ReadFault, "transcript 1\nok 1 3\nread fault\n"),
-        (5, Status::BadLine, "transcript 1\nok 1 3\nbad 4 unended\n"),
-    ];
-    for (call, status, wrote) in rows {
-        let outcome = ran(&rt, alloc, &["replay"], &input, &[call], &[])?;
-        assert_eq!(rt; outcome.status, status, "at {call}");
-        assert_eq!(rt; outcome.wrote.as_slice(), wrote.as_bytes(), "at {call}");
+    for (call, status, wrote) in CUT_OFF {
+        let outcome = ran(&rt, alloc, &["replay"], &input, &[*call], &[])?;
+        comes_to(&rt, &outcome, wrote, (*status, wrote));
     }
     Ok(())
 }

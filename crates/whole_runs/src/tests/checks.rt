@@ -1,7 +1,7 @@
 //! Transcripts behind their scenarios: what `check` says of them.
 use super::commands::{ran_line, source_of};
 use super::rows::FIRST_FRAME;
-use super::{ran, read_row};
+use super::{comes_to, ran, read_row};
 use capture_runner::Status;
 use std::alloc::Global;
 use std::process::Abort;
@@ -18,42 +18,42 @@ fn checked(
     (status, wrote): (Status, &str),
 ) -> Result<(), Fail> {
     let outcome = ran(rt, alloc, &["check"], input, read_fails, &[])?;
-    assert_eq!(rt; outcome.status, status, "at {wrote}");
-    assert_eq!(rt; outcome.wrote.as_slice(), wrote.as_bytes());
+    comes_to(rt, &outcome, wrote, (status, wrote));
     Ok(())
 }
+
+const NO_AND_YES: &[(&str, Status, &str)] = &[
+    ("transcript 1\nend 0 0 0 0\n", Status::Ok, "yes\n"),
+    ("transcript 1\nend 0 0 0 0", Status::Ok, "yes\n"),
+    (
+        "transcript 1\nend 0 0 0 1\n",
+        Status::No,
+        "no 2\nexpected end 0 0 0 0\nfound end 0 0 0 1\n",
+    ),
+    (
+        "transcript 1\n",
+        Status::No,
+        "no 2\nexpected end 0 0 0 0\nfound\n",
+    ),
+    ("", Status::No, "no 1\nexpected transcript 1\nfound\n"),
+    (
+        "transcript 1\nend 0 0 0 0\nend 0 0 0 0\n",
+        Status::No,
+        "no 3\nexpected\nfound end 0 0 0 0\n",
+    ),
+    (
+        "transcript 1\nend 0 0 0 0\n\n",
+        Status::No,
+        "no 3\nexpected\nfound\n",
+    ),
+];
 
 /// A line feed more or less, a line too few, one too many, and bytes behind the transcript.
 #[test]
 fn check_no_and_yes(rt: HostRuntime) -> Result<(), Fail> {
-    let rows = [
-        ("transcript 1\nend 0 0 0 0\n", Status::Ok, "yes\n"),
-        ("transcript 1\nend 0 0 0 0", Status::Ok, "yes\n"),
-        (
-            "transcript 1\nend 0 0 0 1\n",
-            Status::No,
-            "no 2\nexpected end 0 0 0 0\nfound end 0 0 0 1\n",
-        ),
-        (
-            "transcript 1\n",
-            Status::No,
-            "no 2\nexpected end 0 0 0 0\nfound\n",
-        ),
-        ("", Status::No, "no 1\nexpected transcript 1\nfound\n"),
-        (
-            "transcript 1\nend 0 0 0 0\nend 0 0 0 0\n",
-            Status::No,
-            "no 3\nexpected\nfound end 0 0 0 0\n",
-        ),
-        (
-            "transcript 1\nend 0 0 0 0\n\n",
-            Status::No,
-            "no 3\nexpected\nfound\n",
-        ),
-    ];
-    for (transcript, status, wrote) in rows {
+    for (transcript, status, wrote) in NO_AND_YES {
         let input = format!(in rt.alloc(); "scenario 1\nend\n{transcript}")?;
-        checked(&rt, rt.alloc(), input.as_bytes(), &[], (status, wrote))?;
+        checked(&rt, rt.alloc(), input.as_bytes(), &[], (*status, wrote))?;
     }
     Ok(())
 }
@@ -128,22 +128,27 @@ end 9 10 1 0
     checked(&rt, rt.alloc(), input, &[], (Status::Ok, "yes\n"))
 }
 
+const DIFFERS: &[u8] = b"scenario 1\nend\ntranscript 2\n";
+
+const BAD: &[u8] = b"scenario 1\nport 1 host soft\nend\n";
+
+const UNENDED: &[u8] = b"scenario 1\nport 1 p1 soft\n";
+
+const FAULT: (Status, &str) = (Status::ReadFault, "read fault\n");
+
+const BAD_AND_FAULTS: &[(&[u8], &[u32], (Status, &str))] = &[
+    (DIFFERS, &[2], FAULT),
+    (BAD, &[], (Status::BadLine, "bad 2 port\n")),
+    (BAD, &[2], (Status::BadLine, "bad 2 port\n")),
+    (UNENDED, &[], (Status::BadLine, "bad 3 unended\n")),
+    (UNENDED, &[2], FAULT),
+];
+
 /// A bad line comes before a fault of reading, and this before a difference; a scenario that only lacks its end may go on.
 #[test]
 fn bad_lines_and_faults_in_check(rt: HostRuntime) -> Result<(), Fail> {
-    let differs = b"scenario 1\nend\ntranscript 2\n".as_slice();
-    let bad = b"scenario 1\nport 1 host soft\nend\n".as_slice();
-    let unended = b"scenario 1\nport 1 p1 soft\n".as_slice();
-    let fault = (Status::ReadFault, "read fault\n");
-    let rows = [
-        (differs, [2].as_slice(), fault),
-        (bad, [].as_slice(), (Status::BadLine, "bad 2 port\n")),
-        (bad, [2].as_slice(), (Status::BadLine, "bad 2 port\n")),
-        (unended, [].as_slice(), (Status::BadLine, "bad 3 unended\n")),
-        (unended, [2].as_slice(), fault),
-    ];
-    for (input, read_fails, answer) in rows {
-        checked(&rt, rt.alloc(), input, read_fails, answer)?;
+    for (input, read_fails, answer) in BAD_AND_FAULTS {
+        checked(&rt, rt.alloc(), input, read_fails, *answer)?;
     }
     Ok(())
 }

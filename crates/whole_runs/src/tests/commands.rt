@@ -1,6 +1,6 @@
 //! Whole lines of words: what each command writes, and that only `replay` and `show` read.
 use super::rows::FIRST_FRAME;
-use super::{Outcome, ROOM, read_row};
+use super::{Outcome, ROOM, comes_to, read_row};
 use capture_runner::{Status, run};
 use port_workers::Open;
 use run_io::sinks::MemSink;
@@ -46,8 +46,7 @@ pub(super) fn writes(
 ) {
     let mut source = source_of(rt, alloc, input, fails);
     let outcome = ran_line(rt, alloc, line, &mut source, ROOM);
-    assert_eq!(rt; outcome.status, status, "at {line}");
-    assert_eq!(rt; outcome.wrote.as_slice(), wrote.as_bytes(), "at {line}");
+    comes_to(rt, &outcome, line, (status, wrote));
 }
 
 /// A scenario without steps.
@@ -63,31 +62,31 @@ fn writes_unread(
 ) {
     let mut source = source_of(rt, alloc, UNREAD, &[]);
     let outcome = ran_line(rt, alloc, line, &mut source, ROOM);
-    assert_eq!(rt; outcome.status, status, "at {line}");
-    assert_eq!(rt; outcome.wrote.as_slice(), wrote.as_bytes(), "at {line}");
+    comes_to(rt, &outcome, line, (status, wrote));
     let mut left = [0u8; 32];
     let count = source.read(&mut left).expect(rt, "no read fails");
     let (left, _) = left.split_at(count);
     assert_eq!(rt; left, UNREAD, "at {line}");
 }
 
+const TABLES: &[(&str, &str)] = &[
+    (
+        "show fdb",
+        "02:00:00:00:00:0a dev p1 vlan 1 static\n02:00:00:00:00:0b dev p2 vlan 1 static\nend\n",
+    ),
+    (
+        "show vlan",
+        "host 1 untagged\np1 1 pvid untagged\np2 1 pvid untagged\nend\n",
+    ),
+    ("show mdb", "end\n"),
+];
+
 /// The tables at the end of the run of a frame to a known station.
 #[test]
 fn worked_tables(rt: HostRuntime) -> Result<(), Fail> {
     let alloc = rt.alloc();
     let scenario = read_row(alloc, FIRST_FRAME)?.input;
-    let rows = [
-        (
-            "show fdb",
-            "02:00:00:00:00:0a dev p1 vlan 1 static\n02:00:00:00:00:0b dev p2 vlan 1 static\nend\n",
-        ),
-        (
-            "show vlan",
-            "host 1 untagged\np1 1 pvid untagged\np2 1 pvid untagged\nend\n",
-        ),
-        ("show mdb", "end\n"),
-    ];
-    for (line, wrote) in rows {
+    for (line, wrote) in TABLES {
         writes(
             &rt,
             alloc,
@@ -110,31 +109,26 @@ cmd port up f3
 publish
 ";
 
-/// A station whose chip has its entry moves to a port of software; the chip is told; an entry is deleted and put again; and in edition
-/// 2 a member of a group waits.
-#[test]
-fn worked_audits(rt: HostRuntime) -> Result<(), Fail> {
-    let alloc = rt.alloc();
-    let rows = [
-        (
-            1,
-            "cmd fdb add 02:00:00:00:00:0b dev c2 vlan 1 extern
+const AUDITS: &[(u8, &str, &str)] = &[
+    (
+        1,
+        "cmd fdb add 02:00:00:00:00:0b dev c2 vlan 1 extern
 turn 1
 publish
 rx 3 02000000000a02000000000b88b50102
 serve
 end
 ",
-            "domain 1
+        "domain 1
 entry 02:00:00:00:00:0b dev f3 vlan 1 learned pending
 stale 02:00:00:00:00:0b dev c2 vlan 1 extern
 pending 1
 end
 ",
-        ),
-        (
-            1,
-            "cmd fdb add 02:00:00:00:00:0b dev c2 vlan 1 extern
+    ),
+    (
+        1,
+        "cmd fdb add 02:00:00:00:00:0b dev c2 vlan 1 extern
 turn 1
 publish
 rx 3 02000000000a02000000000b88b50102
@@ -142,38 +136,44 @@ serve
 turn 1
 end
 ",
-            "domain 1
+        "domain 1
 entry 02:00:00:00:00:0b dev f3 vlan 1 learned offload
 pending 0
 end
 ",
-        ),
-        (
-            1,
-            "cmd fdb add 02:00:00:00:00:0b dev c2 vlan 1 static
+    ),
+    (
+        1,
+        "cmd fdb add 02:00:00:00:00:0b dev c2 vlan 1 static
 turn 1
 cmd fdb del 02:00:00:00:00:0b vlan 1
 cmd fdb add 02:00:00:00:00:0b dev c2 vlan 1 static
 end
 ",
-            "domain 1
+        "domain 1
 entry 02:00:00:00:00:0b dev c2 vlan 1 static pending
 pending 2
 end
 ",
-        ),
-        (
-            2,
-            "cmd mdb add 239.1.2.3 dev c2 vlan 1
+    ),
+    (
+        2,
+        "cmd mdb add 239.1.2.3 dev c2 vlan 1
 end
 ",
-            "domain 1
+        "domain 1
 pending 1
 end
 ",
-        ),
-    ];
-    for (edition, steps, wrote) in rows {
+    ),
+];
+
+/// A station whose chip has its entry moves to a port of software; the chip is told; an entry is deleted and put again; and in edition
+/// 2 a member of a group waits.
+#[test]
+fn worked_audits(rt: HostRuntime) -> Result<(), Fail> {
+    let alloc = rt.alloc();
+    for (edition, steps, wrote) in AUDITS {
         let input = format!(in alloc; "scenario {edition}\n{CHIP}{steps}")?;
         writes(
             &rt,
@@ -186,87 +186,90 @@ end
     Ok(())
 }
 
+const WITHOUT_STEPS: &[(&str, &str)] = &[
+    ("replay", "transcript 1\nend 0 0 0 0\n"),
+    ("show fdb", "end\n"),
+    ("show -- fdb", "end\n"),
+    ("show vlan", "host 1 untagged\nend\n"),
+    ("show mdb", "end\n"),
+    ("audit", "domain 1\npending 0\nend\n"),
+];
+
 /// What the host has before the first step, and words behind `--`.
 #[test]
 fn scenario_without_steps(rt: HostRuntime) {
-    let rows = [
-        ("replay", "transcript 1\nend 0 0 0 0\n"),
-        ("show fdb", "end\n"),
-        ("show -- fdb", "end\n"),
-        ("show vlan", "host 1 untagged\nend\n"),
-        ("show mdb", "end\n"),
-        ("audit", "domain 1\npending 0\nend\n"),
-    ];
-    for (line, wrote) in rows {
+    for (line, wrote) in WITHOUT_STEPS {
         writes(&rt, rt.alloc(), line, (UNREAD, &[]), (Status::Ok, wrote));
     }
 }
 
+const OTHER_WORDS: &[&str] = &[
+    "",
+    "help",
+    "help show",
+    "--help",
+    "-h",
+    "-V",
+    "--version",
+    "gen -h",
+    "rep",
+    "replay x",
+    "replay replay",
+    "check x",
+    "checks",
+    "show",
+    "show ports",
+    "show fdb vlan",
+    "gen",
+    "gen 7",
+    "gen 7 20 1",
+    "gen 07 1",
+    "gen +7 1",
+    "gen 0 100001",
+    "gen 18446744073709551616 1",
+    "demo 7",
+    "demo 0 100001",
+    "demo 1 -1",
+    "audit 1",
+    "querier",
+    "querier 10.0.0.9",
+    "querier 0.0.0.0 fe80:0000:0000:0000:0000:0000:0000:0009",
+    "querier 224.0.0.1 fe80:0000:0000:0000:0000:0000:0000:0009",
+    "querier 10.0.0.09 fe80:0000:0000:0000:0000:0000:0000:0009",
+    "querier 10.0.0.9 fe80::9",
+    "querier 10.0.0.9 fe7f:0000:0000:0000:0000:0000:0000:0009",
+    "querier 10.0.0.9 fec0:0000:0000:0000:0000:0000:0000:0009",
+    "live",
+    "live 2",
+    "live --workers",
+    "live --workers 0",
+    "live --workers 17",
+    "live --workers 02",
+    "live --workers +2",
+    "live --workers 2 3",
+];
+
 #[test]
 fn words_outside_the_grammar(rt: HostRuntime) {
-    let rows = [
-        "",
-        "help",
-        "help show",
-        "--help",
-        "-h",
-        "-V",
-        "--version",
-        "gen -h",
-        "rep",
-        "replay x",
-        "replay replay",
-        "check x",
-        "checks",
-        "show",
-        "show ports",
-        "show fdb vlan",
-        "gen",
-        "gen 7",
-        "gen 7 20 1",
-        "gen 07 1",
-        "gen +7 1",
-        "gen 0 100001",
-        "gen 18446744073709551616 1",
-        "demo 7",
-        "demo 0 100001",
-        "demo 1 -1",
-        "audit 1",
-        "querier",
-        "querier 10.0.0.9",
-        "querier 0.0.0.0 fe80:0000:0000:0000:0000:0000:0000:0009",
-        "querier 224.0.0.1 fe80:0000:0000:0000:0000:0000:0000:0009",
-        "querier 10.0.0.09 fe80:0000:0000:0000:0000:0000:0000:0009",
-        "querier 10.0.0.9 fe80::9",
-        "querier 10.0.0.9 fe7f:0000:0000:0000:0000:0000:0000:0009",
-        "querier 10.0.0.9 fec0:0000:0000:0000:0000:0000:0000:0009",
-        "live",
-        "live 2",
-        "live --workers",
-        "live --workers 0",
-        "live --workers 17",
-        "live --workers 02",
-        "live --workers +2",
-        "live --workers 2 3",
-    ];
-    for line in rows {
+    for line in OTHER_WORDS {
         writes_unread(&rt, rt.alloc(), line, Status::Usage, "usage\n");
     }
 }
 
+const SUMMARIES: &[(&str, &str)] = &[
+    (
+        "demo 0 0",
+        "demo frames 0 chip 0 soft 0 tx 0 overrun 0 changes 18 pending 0\n",
+    ),
+    (
+        "demo 0 1",
+        "demo frames 1 chip 0 soft 1 tx 5 overrun 0 changes 19 pending 1\n",
+    ),
+];
+
 #[test]
 fn worked_summaries(rt: HostRuntime) {
-    let rows = [
-        (
-            "demo 0 0",
-            "demo frames 0 chip 0 soft 0 tx 0 overrun 0 changes 18 pending 0\n",
-        ),
-        (
-            "demo 0 1",
-            "demo frames 1 chip 0 soft 1 tx 5 overrun 0 changes 19 pending 1\n",
-        ),
-    ];
-    for (line, wrote) in rows {
+    for (line, wrote) in SUMMARIES {
         writes_unread(&rt, rt.alloc(), line, Status::Ok, wrote);
     }
 }
@@ -344,19 +347,20 @@ turn 1
 end
 ";
 
+const GENERATED: &[(&str, &str)] = &[
+    ("gen 0 0", "end\n"),
+    ("gen 18446744073709551615 0", "end\n"),
+    (
+        "gen 0 1",
+        "rx 6 02000000001202000000001788b50000\nserve\nend\n",
+    ),
+    ("gen 7 20", TWENTY_FRAMES),
+];
+
 #[test]
 fn generated_scenarios(rt: HostRuntime) -> Result<(), Fail> {
     let alloc = rt.alloc();
-    let rows = [
-        ("gen 0 0", "end\n"),
-        ("gen 18446744073709551615 0", "end\n"),
-        (
-            "gen 0 1",
-            "rx 6 02000000001202000000001788b50000\nserve\nend\n",
-        ),
-        ("gen 7 20", TWENTY_FRAMES),
-    ];
-    for (line, rest) in rows {
+    for (line, rest) in GENERATED {
         let wrote = format!(in alloc; "{OPENING}{rest}")?;
         writes_unread(&rt, alloc, line, Status::Ok, wrote.as_str());
     }
@@ -373,42 +377,45 @@ fn generated_moment(rt: HostRuntime) {
     assert!(rt; outcome.wrote.ends_with(end.as_bytes()));
 }
 
+const BAD: &[u8] = b"scenario 1\nport 1 p1 soft\ncmd port up p1\nbogus\nend\n";
+
+const CUT: &[u8] = b"scenario 1\nport 1 p1 soft\ncmd port up p1\nen";
+
+const STOPS: &[(&[u8], u32, Status, &str)] = &[
+    (BAD, 9, Status::BadLine, "bad 4 word\n"),
+    (CUT, 9, Status::BadLine, "bad 4 unended\n"),
+    (b"", 9, Status::BadLine, "bad 1 unended\n"),
+    (BAD, 1, Status::ReadFault, "read fault\n"),
+    (CUT, 2, Status::ReadFault, "read fault\n"),
+];
+
 /// A table is written at the end alone: a bad line or a read that fails behind a step leaves just that line.
 #[test]
 fn show_stops(rt: HostRuntime) {
-    let bad = b"scenario 1\nport 1 p1 soft\ncmd port up p1\nbogus\nend\n".as_slice();
-    let cut = b"scenario 1\nport 1 p1 soft\ncmd port up p1\nen".as_slice();
-    let rows = [
-        (bad, 9, Status::BadLine, "bad 4 word\n"),
-        (cut, 9, Status::BadLine, "bad 4 unended\n"),
-        (b"".as_slice(), 9, Status::BadLine, "bad 1 unended\n"),
-        (bad, 1, Status::ReadFault, "read fault\n"),
-        (cut, 2, Status::ReadFault, "read fault\n"),
-    ];
     for line in ["show fdb", "show vlan", "show mdb"] {
-        for (input, call, status, wrote) in rows {
-            writes(&rt, rt.alloc(), line, (input, &[call]), (status, wrote));
+        for (input, call, status, wrote) in STOPS {
+            writes(&rt, rt.alloc(), line, (input, &[*call]), (*status, wrote));
         }
     }
 }
+
+const FULL: &[(&str, &str)] = &[
+    ("replay", "transcript 1\nok 1 3\n"),
+    ("show fdb", "02:00:00:00:00:0a de"),
+    ("gen 7 20", "scenario 1\nport 1 g1"),
+    ("demo 7 20", "demo frames 20 chip "),
+    ("live --workers 1", "scenario 1\nbridge 02"),
+];
 
 /// Of each output the first 20 bytes are taken.
 #[test]
 fn sink_is_full(rt: HostRuntime) -> Result<(), Fail> {
     let alloc = rt.alloc();
     let scenario = read_row(alloc, FIRST_FRAME)?.input;
-    let rows = [
-        ("replay", "transcript 1\nok 1 3\n"),
-        ("show fdb", "02:00:00:00:00:0a de"),
-        ("gen 7 20", "scenario 1\nport 1 g1"),
-        ("demo 7 20", "demo frames 20 chip "),
-        ("live --workers 1", "scenario 1\nbridge 02"),
-    ];
-    for (line, wrote) in rows {
+    for (line, wrote) in FULL {
         let mut source = source_of(&rt, alloc, scenario.as_bytes(), &[]);
         let outcome = ran_line(&rt, alloc, line, &mut source, 20);
-        assert_eq!(rt; outcome.status, Status::WriteFault, "at {line}");
-        assert_eq!(rt; outcome.wrote.as_slice(), wrote.as_bytes(), "at {line}");
+        comes_to(&rt, &outcome, line, (Status::WriteFault, wrote));
     }
     Ok(())
 }

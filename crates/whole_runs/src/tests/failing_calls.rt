@@ -1,7 +1,7 @@
 //! Each call of a source and of a sink fails in turn, until a run ends without it. An unknown station is sent to.
 use super::commands::{ran_line, source_of};
 use super::rows::{CHIP_RUNS, CHIP_START};
-use super::{ROOM, ran, read_row};
+use super::{ROOM, comes_to, ran, read_row};
 use capture_runner::Status;
 use std::alloc::Global;
 use std::test::Fail;
@@ -13,62 +13,68 @@ fn scenario(alloc: Global) -> Result<String, Fail> {
     Ok(read_row(alloc, text.as_str())?.input)
 }
 
+/// A run whose first read fails, and what it writes.
+const FIRST_READS: &[(&[&str], &str)] = &[
+    (&["replay"], "transcript 1\nread fault\n"),
+    (&["show", "fdb"], "read fault\n"),
+    (&["live", "--workers", "1"], "read fault\n"),
+];
+
+/// A run without a read of this number.
+const NO_READS: &[(&[&str], u32)] = &[
+    (&["replay"], 2),
+    (&["show", "fdb"], 2),
+    (&["live", "--workers", "1"], 2),
+    (&["gen", "8", "20"], 1),
+    (&["demo", "8", "20"], 1),
+];
+
 /// All of the input comes with the first read.
 #[test]
 fn each_read_fails(rt: HostRuntime) -> Result<(), Fail> {
     let alloc = rt.alloc();
     let input = scenario(alloc)?;
-    let failing: [(&[&str], &str); 3] = [
-        (&["replay"], "transcript 1\nread fault\n"),
-        (&["show", "fdb"], "read fault\n"),
-        (&["live", "--workers", "1"], "read fault\n"),
-    ];
-    for (words, wrote) in failing {
+    for (words, wrote) in FIRST_READS {
         let outcome = ran(&rt, alloc, words, input.as_bytes(), &[1], &[])?;
-        assert_eq!(rt; outcome.status, Status::ReadFault, "at {wrote}");
-        assert_eq!(rt; outcome.wrote.as_slice(), wrote.as_bytes());
+        comes_to(&rt, &outcome, wrote, (Status::ReadFault, wrote));
     }
-    let ending: [(&[&str], u32); 5] = [
-        (&["replay"], 2),
-        (&["show", "fdb"], 2),
-        (&["live", "--workers", "1"], 2),
-        (&["gen", "8", "20"], 1),
-        (&["demo", "8", "20"], 1),
-    ];
-    for (words, call) in ending {
-        let outcome = ran(&rt, alloc, words, input.as_bytes(), &[call], &[])?;
+    for (words, call) in NO_READS {
+        let outcome = ran(&rt, alloc, words, input.as_bytes(), &[*call], &[])?;
         assert_eq!(rt; outcome.status, Status::Ok, "at {call}");
     }
     Ok(())
 }
+
+/// A run whose write of this number fails, and what it has written by then.
+const WRITES: &[(&[&str], u32, &str)] = &[
+    (&["replay"], 1, ""),
+    (&["replay"], 2, "transcript 1\n"),
+    (&["show", "fdb"], 1, ""),
+    (&["live", "--workers", "1"], 1, ""),
+    (&["gen", "8", "20"], 1, ""),
+    (&["demo", "8", "20"], 1, ""),
+];
+
+/// A run without a write of this number.
+const NO_WRITES: &[(&[&str], u32)] = &[
+    (&["replay"], 3),
+    (&["show", "fdb"], 2),
+    (&["live", "--workers", "1"], 2),
+    (&["gen", "8", "20"], 2),
+    (&["demo", "8", "20"], 2),
+];
 
 /// The first write of a replay is before its first read. Nothing is written behind a write that fails.
 #[test]
 fn each_write_fails(rt: HostRuntime) -> Result<(), Fail> {
     let alloc = rt.alloc();
     let input = scenario(alloc)?;
-    let failing: [(&[&str], u32, &str); 6] = [
-        (&["replay"], 1, ""),
-        (&["replay"], 2, "transcript 1\n"),
-        (&["show", "fdb"], 1, ""),
-        (&["live", "--workers", "1"], 1, ""),
-        (&["gen", "8", "20"], 1, ""),
-        (&["demo", "8", "20"], 1, ""),
-    ];
-    for (words, call, wrote) in failing {
-        let outcome = ran(&rt, alloc, words, input.as_bytes(), &[], &[call])?;
-        assert_eq!(rt; outcome.status, Status::WriteFault, "at {call}");
-        assert_eq!(rt; outcome.wrote.as_slice(), wrote.as_bytes(), "at {call}");
+    for (words, call, wrote) in WRITES {
+        let outcome = ran(&rt, alloc, words, input.as_bytes(), &[], &[*call])?;
+        comes_to(&rt, &outcome, wrote, (Status::WriteFault, wrote));
     }
-    let ending: [(&[&str], u32); 5] = [
-        (&["replay"], 3),
-        (&["show", "fdb"], 2),
-        (&["live", "--workers", "1"], 2),
-        (&["gen", "8", "20"], 2),
-        (&["demo", "8", "20"], 2),
-    ];
-    for (words, call) in ending {
-        let outcome = ran(&rt, alloc, words, input.as_bytes(), &[], &[call])?;
+    for (words, call) in NO_WRITES {
+        let outcome = ran(&rt, alloc, words, input.as_bytes(), &[], &[*call])?;
         assert_eq!(rt; outcome.status, Status::Ok, "at {call}");
     }
     Ok(())

@@ -1,6 +1,6 @@
 //! Faults of reading and writing, other words, and the numbers of the answers.
 use super::rows::{FIRST_FRAME, row_is_told};
-use super::{ran, read_row};
+use super::{comes_to, ran, read_row};
 use capture_runner::{Status, end_without_memory};
 use run_io::sinks::MemSink;
 use std::test::Fail;
@@ -21,64 +21,61 @@ end => end 2 3 0 0
 ";
     row_is_told(&rt, alloc, ended, Status::Ok)?;
     let usage = ran(&rt, alloc, &[], b"", &[], &[])?;
-    assert_eq!(rt; usage.status, Status::Usage);
-    assert_eq!(rt; usage.wrote.as_slice(), b"usage\n".as_slice());
+    comes_to(&rt, &usage, "no words", (Status::Usage, "usage\n"));
     let first = read_row(alloc, FIRST_FRAME)?;
     let input = first.input.as_bytes();
     let read = ran(&rt, alloc, &["replay"], input, &[1], &[])?;
-    assert_eq!(rt; read.status, Status::ReadFault);
-    assert_eq!(rt;
-        read.wrote.as_slice(),
-        b"transcript 1\nread fault\n".as_slice()
-    );
+    let wrote = "transcript 1\nread fault\n";
+    comes_to(&rt, &read, "a read", (Status::ReadFault, wrote));
     let write = ran(&rt, alloc, &["replay"], input, &[], &[1])?;
-    assert_eq!(rt; write.status, Status::WriteFault);
-    assert!(rt; write.wrote.is_empty());
+    comes_to(&rt, &write, "a write", (Status::WriteFault, ""));
     Ok(())
 }
+
+const SECOND_READS: &[(u32, Status, &str)] = &[
+    (2, Status::ReadFault, "transcript 1\nok 1 3\nread fault\n"),
+    (3, Status::BadLine, "transcript 1\nok 1 3\nbad 4 unended\n"),
+];
 
 /// The first read takes two whole lines and a part of the third. The second one finds the end, or fails.
 #[test]
 fn second_read_fails(rt: HostRuntime) -> Result<(), Fail> {
     let input = b"scenario 1\nport 1 p1 soft\ncmd port up p1\nen";
-    let rows = [
-        (2, Status::ReadFault, "transcript 1\nok 1 3\nread fault\n"),
-        (3, Status::BadLine, "transcript 1\nok 1 3\nbad 4 unended\n"),
-    ];
-    for (call, status, wrote) in rows {
-        let outcome = ran(&rt, rt.alloc(), &["replay"], input, &[call], &[])?;
-        assert_eq!(rt; outcome.status, status, "at {call}");
-        assert_eq!(rt; outcome.wrote.as_slice(), wrote.as_bytes(), "at {call}");
+    for (call, status, wrote) in SECOND_READS {
+        let outcome = ran(&rt, rt.alloc(), &["replay"], input, &[*call], &[])?;
+        comes_to(&rt, &outcome, wrote, (*status, wrote));
     }
     Ok(())
 }
+
+const ENDED: &[u8] = b"scenario 1\nport 1 p1 soft\ncmd port up p1\nend\n";
+
+const UNENDED: &[u8] = b"scenario 1\nport 1 p1 soft\ncmd port up p1\n";
+
+const SECOND_WRITES: &[(&[u8], u32, Status, &str)] = &[
+    (ENDED, 2, Status::WriteFault, "transcript 1\n"),
+    (ENDED, 3, Status::Ok, "transcript 1\nok 1 3\nend 1 3 0 0\n"),
+    (UNENDED, 2, Status::WriteFault, "transcript 1\n"),
+    (UNENDED, 3, Status::WriteFault, "transcript 1\nok 1 3\n"),
+];
 
 /// The first write is before the first read, and the second one before the second read, or of the end.
 #[test]
 fn second_write_fails(rt: HostRuntime) -> Result<(), Fail> {
-    let ended = b"scenario 1\nport 1 p1 soft\ncmd port up p1\nend\n".as_slice();
-    let unended = b"scenario 1\nport 1 p1 soft\ncmd port up p1\n".as_slice();
-    let rows = [
-        (ended, 2, Status::WriteFault, "transcript 1\n"),
-        (ended, 3, Status::Ok, "transcript 1\nok 1 3\nend 1 3 0 0\n"),
-        (unended, 2, Status::WriteFault, "transcript 1\n"),
-        (unended, 3, Status::WriteFault, "transcript 1\nok 1 3\n"),
-    ];
-    for (input, call, status, wrote) in rows {
-        let outcome = ran(&rt, rt.alloc(), &["replay"], input, &[], &[call])?;
-        assert_eq!(rt; outcome.status, status, "at {call}");
-        assert_eq!(rt; outcome.wrote.as_slice(), wrote.as_bytes(), "at {call}");
+    for (input, call, status, wrote) in SECOND_WRITES {
+        let outcome = ran(&rt, rt.alloc(), &["replay"], input, &[], &[*call])?;
+        comes_to(&rt, &outcome, wrote, (*status, wrote));
     }
     Ok(())
 }
 
+const OTHER_WORDS: &[&[&str]] = &[&["Replay"], &["replay", "now"], &["replay "], &[""]];
+
 #[test]
 fn other_words_are_usage(rt: HostRuntime) -> Result<(), Fail> {
-    let commands: [&[&str]; 4] = [&["Replay"], &["replay", "now"], &["replay "], &[""]];
-    for words in commands {
+    for words in OTHER_WORDS {
         let outcome = ran(&rt, rt.alloc(), words, b"scenario 1\nend\n", &[], &[])?;
-        assert_eq!(rt; outcome.status, Status::Usage);
-        assert_eq!(rt; outcome.wrote.as_slice(), b"usage\n".as_slice());
+        comes_to(&rt, &outcome, "other words", (Status::Usage, "usage\n"));
     }
     let outcome = ran(&rt, rt.alloc(), &["now"], b"", &[], &[1])?;
     assert_eq!(rt; outcome.status, Status::WriteFault);
@@ -95,19 +92,20 @@ fn no_memory_for_the_words(rt: HostRuntime) -> Result<(), Fail> {
     Ok(())
 }
 
+const NUMBERS: &[(Status, u8)] = &[
+    (Status::Ok, 0),
+    (Status::No, 1),
+    (Status::Usage, 2),
+    (Status::BadLine, 3),
+    (Status::ReadFault, 4),
+    (Status::WriteFault, 5),
+    (Status::NoMemory, 6),
+    (Status::TooLong, 7),
+];
+
 #[test]
 fn numbers_of_statuses(rt: HostRuntime) {
-    let rows = [
-        (Status::Ok, 0),
-        (Status::No, 1),
-        (Status::Usage, 2),
-        (Status::BadLine, 3),
-        (Status::ReadFault, 4),
-        (Status::WriteFault, 5),
-        (Status::NoMemory, 6),
-        (Status::TooLong, 7),
-    ];
-    for (status, number) in rows {
-        assert_eq!(rt; status.code(), number);
+    for (status, number) in NUMBERS {
+        assert_eq!(rt; status.code(), *number);
     }
 }

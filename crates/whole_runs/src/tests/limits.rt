@@ -2,48 +2,52 @@
 use super::rows::CHIP_START;
 use super::{ends_in, is_told, read_row};
 use capture_runner::Status;
+use std::alloc::Global;
 use std::test::Fail;
+
+const LONG_LINES: &[(usize, &str, Status, &str)] = &[
+    (20_000, "\nend\n", Status::Ok, "end 0 0 0 0\n"),
+    (20_001, "\nend\n", Status::BadLine, "bad 2 long\n"),
+    (20_000, "", Status::BadLine, "bad 2 unended\n"),
+    (20_001, "", Status::BadLine, "bad 2 long\n"),
+];
 
 /// A line has at most 20,000 bytes before its line feed, a comment too.
 #[test]
 fn longest_line(rt: HostRuntime) -> Result<(), Fail> {
     let alloc = rt.alloc();
-    let rows = [
-        (20_000, "\nend\n", Status::Ok, "end 0 0 0 0\n"),
-        (20_001, "\nend\n", Status::BadLine, "bad 2 long\n"),
-        (20_000, "", Status::BadLine, "bad 2 unended\n"),
-        (20_001, "", Status::BadLine, "bad 2 long\n"),
-    ];
-    for (count, rest, status, told) in rows {
+    for (count, rest, status, told) in LONG_LINES {
         let mut input = Vec::from_slice(alloc, b"scenario 1\n")?;
-        input.extend_from_slice(&vec![in alloc; b'#'; count]?)?;
+        input.extend_from_slice(&vec![in alloc; b'#'; *count]?)?;
         input.extend_from_slice(rest.as_bytes())?;
-        is_told(&rt, alloc, &input, status, told)?;
+        is_told(&rt, alloc, &input, *status, told)?;
     }
     Ok(())
 }
+
+const MOST: usize = 1 << 28;
+
+const LONG_INPUTS: &[(usize, &str, Status, &str)] = &[
+    (MOST, "end\n", Status::Ok, "end 0 0 0 0\n"),
+    (MOST, "end", Status::TooLong, "too long\n"),
+    (MOST + 1, "end\n", Status::TooLong, "too long\n"),
+];
 
 /// At most 2^28 bytes are taken. Nobody knows then whether the input ends.
 #[test]
 fn longest_input(rt: HostRuntime) -> Result<(), Fail> {
     let alloc = rt.alloc();
-    let most = 1 << 28;
-    let rows = [
-        (most, "end\n", Status::Ok, "end 0 0 0 0\n"),
-        (most, "end", Status::TooLong, "too long\n"),
-        (most + 1, "end\n", Status::TooLong, "too long\n"),
-    ];
     let mut comment = vec![in alloc; b'#'; 16_383]?;
     comment.push(b'\n')?;
-    for (count, last, status, told) in rows {
+    for (count, last, status, told) in LONG_INPUTS {
         let mut input = Vec::from_slice(alloc, b"scenario 1\n")?;
-        for _ in 0..most / 16_384 - 1 {
+        for _ in 0..MOST / 16_384 - 1 {
             input.extend_from_slice(&comment)?;
         }
-        input.resize(count - last.len().min(count), b'\n')?;
+        input.resize(*count - last.len().min(*count), b'\n')?;
         input.extend_from_slice(last.as_bytes())?;
-        assert_eq!(rt; input.len(), count);
-        is_told(&rt, alloc, &input, status, told)?;
+        assert_eq!(rt; input.len(), *count);
+        is_told(&rt, alloc, &input, *status, told)?;
     }
     Ok(())
 }
@@ -77,11 +81,8 @@ cmd port up p3
 publish
 ";
 
-/// The 16,385th address is refused, an address that is there still moves, and room that was freed is used.
-#[test]
-fn address_limit(rt: HostRuntime) -> Result<(), Fail> {
-    let alloc = rt.alloc();
-    let mut input = String::from_str(alloc, ONE_UP)?;
+/// One address more than there may be.
+fn add_addresses(alloc: Global, input: &mut String) -> Result<(), Fail> {
     for number in 0..16_385u32 {
         let [low, high, ..] = number.to_le_bytes();
         let line = format!(in alloc;
@@ -89,6 +90,15 @@ fn address_limit(rt: HostRuntime) -> Result<(), Fail> {
         )?;
         input.push_str(line.as_str())?;
     }
+    Ok(())
+}
+
+/// The 16,385th address is refused, an address that is there still moves, and room that was freed is used.
+#[test]
+fn address_limit(rt: HostRuntime) -> Result<(), Fail> {
+    let alloc = rt.alloc();
+    let mut input = String::from_str(alloc, ONE_UP)?;
+    add_addresses(alloc, &mut input)?;
     input.push_str("cmd fdb del 02:00:00:01:00:00 vlan 1\n")?;
     input.push_str("cmd fdb add 02:00:00:01:40:00 dev p1 vlan 1 static\nend\n")?;
     let told = "ok 16385 1\nrefused 16386 6\nok 16387 1\nok 16388 1\nend 16388 16389 16386 0\n";
@@ -100,13 +110,7 @@ fn address_limit(rt: HostRuntime) -> Result<(), Fail> {
 fn address_and_group_limits(rt: HostRuntime) -> Result<(), Fail> {
     let alloc = rt.alloc();
     let mut input = String::from_str(alloc, THREE_UP)?;
-    for number in 0..16_385u32 {
-        let [low, high, ..] = number.to_le_bytes();
-        let line = format!(in alloc;
-            "cmd fdb add 02:00:00:01:{high:02x}:{low:02x} dev p1 vlan 1 static\n"
-        )?;
-        input.push_str(line.as_str())?;
-    }
+    add_addresses(alloc, &mut input)?;
     for number in 0..1025u32 {
         let [low, high, ..] = number.to_le_bytes();
         let line = format!(in alloc; "cmd mdb add 239.0.{high}.{low} dev p1 vlan 1\n")?;

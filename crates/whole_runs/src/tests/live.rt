@@ -1,6 +1,6 @@
 //! Runs by workers: what they write, where they meet, and the last line alone.
 use super::rows::FIRST_FRAME;
-use super::{ran, ran_at, read_row};
+use super::{comes_to, ran, ran_at, read_row};
 use capture_runner::Status;
 use port_workers::Gate;
 use std::alloc::Global;
@@ -144,8 +144,7 @@ end 2 0 0 0
         &[],
         &[],
     )?;
-    assert_eq!(rt; outcome.status, Status::Ok);
-    assert_eq!(rt; outcome.wrote.as_slice(), wrote.as_bytes());
+    comes_to(&rt, &outcome, "no frames", (Status::Ok, wrote));
     Ok(())
 }
 
@@ -157,27 +156,27 @@ fn ends_alone(
     (status, wrote): (Status, &str),
 ) -> Result<(), Fail> {
     let outcome = ran(rt, alloc, &["live", "--workers", "2"], input, fails, &[])?;
-    assert_eq!(rt; outcome.status, status, "at {wrote}");
-    assert_eq!(rt; outcome.wrote.as_slice(), wrote.as_bytes(), "at {wrote}");
+    comes_to(rt, &outcome, wrote, (status, wrote));
     Ok(())
 }
 
+const BAD_SCENARIOS: &[(&str, &str)] = &[
+    ("", "bad 1 unended\n"),
+    (
+        "scenario 1\nport 1 p1 soft\ncmd port up p1\nrx 1 0200",
+        "bad 4 unended\n",
+    ),
+    ("scenario 1\nport 1 p1 soft\nrx 2 00\nend\n", "bad 3 port\n"),
+    ("scenario 1\npost 1 at 2\nend\n", "bad 2 place\n"),
+    (
+        "scenario 1\ncapture 4\n\x00\x00\x00\x00end\n",
+        "bad 2 capture 0\n",
+    ),
+];
+
 #[test]
 fn bad_scenarios_are_told_alone(rt: HostRuntime) -> Result<(), Fail> {
-    let rows = [
-        ("", "bad 1 unended\n"),
-        (
-            "scenario 1\nport 1 p1 soft\ncmd port up p1\nrx 1 0200",
-            "bad 4 unended\n",
-        ),
-        ("scenario 1\nport 1 p1 soft\nrx 2 00\nend\n", "bad 3 port\n"),
-        ("scenario 1\npost 1 at 2\nend\n", "bad 2 place\n"),
-        (
-            "scenario 1\ncapture 4\n\x00\x00\x00\x00end\n",
-            "bad 2 capture 0\n",
-        ),
-    ];
-    for (input, wrote) in rows {
+    for (input, wrote) in BAD_SCENARIOS {
         ends_alone(
             &rt,
             rt.alloc(),
@@ -207,25 +206,26 @@ fn reads_that_fail(rt: HostRuntime) -> Result<(), Fail> {
     Ok(())
 }
 
+const AT_THE_LIMIT: &[(usize, &str, usize, Status)] = &[
+    (4_194_289, "end\n", 4_194_304, Status::Ok),
+    (4_194_290, "end", 4_194_304, Status::TooLong),
+    (4_194_291, "#\n", 4_194_304, Status::TooLong),
+    (4_194_289, "end", 4_194_303, Status::Ok),
+    (4_194_290, "#\n", 4_194_303, Status::BadLine),
+];
+
 /// 2^22 bytes without an end are too many, and so are those whose end lacks its line feed. Blank lines stand before the last line.
 #[test]
 fn inputs_at_the_limit(rt: HostRuntime) -> Result<(), Fail> {
     let alloc = rt.alloc();
-    let rows = [
-        (4_194_289, "end\n", 4_194_304, Status::Ok),
-        (4_194_290, "end", 4_194_304, Status::TooLong),
-        (4_194_291, "#\n", 4_194_304, Status::TooLong),
-        (4_194_289, "end", 4_194_303, Status::Ok),
-        (4_194_290, "#\n", 4_194_303, Status::BadLine),
-    ];
-    for (blank, last, length, status) in rows {
+    for (blank, last, length, status) in AT_THE_LIMIT {
         let mut input = Vec::from_slice(alloc, b"scenario 1\n")?;
-        input.extend_from_slice(&vec![in alloc; b'\n'; blank]?)?;
+        input.extend_from_slice(&vec![in alloc; b'\n'; *blank]?)?;
         input.extend_from_slice(last.as_bytes())?;
-        assert_eq!(rt; input.len(), length, "at {last}");
+        assert_eq!(rt; input.len(), *length, "at {last}");
         let words = ["live", "--workers", "2"];
         let outcome = ran(&rt, alloc, &words, input.as_slice(), &[], &[])?;
-        assert_eq!(rt; outcome.status, status, "at {last}");
+        assert_eq!(rt; outcome.status, *status, "at {last}");
     }
     Ok(())
 }

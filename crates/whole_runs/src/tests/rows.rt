@@ -42,16 +42,17 @@ fn first_frame(rt: HostRuntime) -> Result<(), Fail> {
     row_is_told(&rt, rt.alloc(), FIRST_FRAME, Status::Ok)
 }
 
+const EMPTY: &[&str] = &[
+    "scenario 1\nend => end 0 0 0 0\n",
+    "scenario 1\nend => end 0 0 0 0",
+    "# first\n\n  scenario  1 \n   end   => end 0 0 0 0",
+    "scenario 1\nend => end 0 0 0 0\nbogus\n",
+];
+
 /// What stands after the line `end` isn't looked at, and this line may lack its line feed.
 #[test]
 fn empty_scenario(rt: HostRuntime) -> Result<(), Fail> {
-    let rows = [
-        "scenario 1\nend => end 0 0 0 0\n",
-        "scenario 1\nend => end 0 0 0 0",
-        "# first\n\n  scenario  1 \n   end   => end 0 0 0 0",
-        "scenario 1\nend => end 0 0 0 0\nbogus\n",
-    ];
-    for text in rows {
+    for text in EMPTY {
         row_is_told(&rt, rt.alloc(), text, Status::Ok)?;
     }
     Ok(())
@@ -292,93 +293,94 @@ end => end 17 11 0 0
     row_is_told(&rt, rt.alloc(), text, Status::Ok)
 }
 
+const CAUSES: &[(&str, &str)] = &[
+    ("", "unended"),
+    ("serve", "unended"),
+    ("# a comment", "unended"),
+    ("  ", "unended"),
+    ("bogus", "unended"),
+    ("bogus\n", "word"),
+    ("Serve\n", "word"),
+    ("serve\r\n", "word"),
+    ("serve now\n", "word"),
+    (" # a space first\n", "word"),
+    ("cmd\n", "word"),
+    ("rx 1\n", "word"),
+    ("port 2 p2 chip\n", "word"),
+    ("scenario 3\n", "word"),
+    ("scenario 1 1\n", "word"),
+    ("scenario 1\n", "place"),
+    ("scenario 2\n", "place"),
+    ("port 2 p2 chip 5\n", "number"),
+    ("port 2 p2 chip 0\n", "number"),
+    ("port 1 p2 chip 5\n", "port"),
+    ("report 0\n", "number"),
+    ("turn 5\n", "number"),
+    ("sweep 01\n", "number"),
+    ("turn 2\n", "port"),
+    ("port 0 p2 soft\n", "number"),
+    ("port 255 p2 soft\n", "number"),
+    ("port 02 host soft\n", "number"),
+    ("port 1 p2 soft\n", "port"),
+    ("port 2 p1 soft\n", "port"),
+    ("port 2 host soft\n", "port"),
+    ("port 2 sixteen-letters. soft\n", "port"),
+    ("cmd port up p2\n", "port"),
+    ("bridge 02:00:00:00:00:02\n", "place"),
+    ("cmd stp\n", "word"),
+    ("cmd link p1 cost 0\n", "number"),
+    ("cmd link p1 priority 256\n", "number"),
+    ("cmd stp priority 65536\n", "number"),
+    ("cmd port up host\n", "port"),
+    (
+        "cmd fdb add 03:00:00:00:00:0a dev p2 vlan 0 static\n",
+        "address",
+    ),
+    (
+        "cmd fdb add 00:00:00:00:00:00 dev p1 vlan 1 static\n",
+        "address",
+    ),
+    (
+        "cmd fdb add 02:00:00:00:0a dev p1 vlan 1 static\n",
+        "address",
+    ),
+    (
+        "cmd fdb add 02:00:00:00:00:0a dev p2 vlan 0 static\n",
+        "port",
+    ),
+    (
+        "cmd fdb add 02:00:00:00:00:0a dev p1 vlan 0 static\n",
+        "number",
+    ),
+    (
+        "cmd fdb add 02:00:00:00:00:0a dev p1 vlan 4095 static\n",
+        "number",
+    ),
+    ("cmd mdb add 239.1.2.3 dev p1\n", "word"),
+    ("cmd mdb add 256.1.2.3 dev p2 vlan 0\n", "address"),
+    ("cmd mdb add 239.1.02.3 dev p1 vlan 1\n", "address"),
+    ("cmd mdb add 239.1.2 dev p1 vlan 1\n", "address"),
+    ("cmd mdb add ff05::1234 dev p1 vlan 1\n", "address"),
+    ("cmd mdb del 239.1.2.3 dev p2 vlan 0\n", "port"),
+    ("cmd mdb del 239.1.2.3 dev p1 vlan 0\n", "number"),
+    ("cmd snooping\n", "word"),
+    ("hold 1\n", "word"),
+    ("post\n", "word"),
+    ("post 01\n", "number"),
+    ("post 4294967296\n", "number"),
+    ("post 1 at 0\n", "place"),
+    ("rx one 0g\n", "number"),
+    ("rx 2 0g\n", "port"),
+    ("rx 300 00\n", "port"),
+    ("rx 1 0g\n", "hex"),
+    ("rx 1 000\n", "hex"),
+];
+
 /// A bad third line after the declaration of port 1, and its cause.
 #[test]
 fn causes_of_bad_lines(rt: HostRuntime) -> Result<(), Fail> {
     let alloc = rt.alloc();
-    let rows = [
-        ("", "unended"),
-        ("serve", "unended"),
-        ("# a comment", "unended"),
-        ("  ", "unended"),
-        ("bogus", "unended"),
-        ("bogus\n", "word"),
-        ("Serve\n", "word"),
-        ("serve\r\n", "word"),
-        ("serve now\n", "word"),
-        (" # a space first\n", "word"),
-        ("cmd\n", "word"),
-        ("rx 1\n", "word"),
-        ("port 2 p2 chip\n", "word"),
-        ("scenario 3\n", "word"),
-        ("scenario 1 1\n", "word"),
-        ("scenario 1\n", "place"),
-        ("scenario 2\n", "place"),
-        ("port 2 p2 chip 5\n", "number"),
-        ("port 2 p2 chip 0\n", "number"),
-        ("port 1 p2 chip 5\n", "port"),
-        ("report 0\n", "number"),
-        ("turn 5\n", "number"),
-        ("sweep 01\n", "number"),
-        ("turn 2\n", "port"),
-        ("port 0 p2 soft\n", "number"),
-        ("port 255 p2 soft\n", "number"),
-        ("port 02 host soft\n", "number"),
-        ("port 1 p2 soft\n", "port"),
-        ("port 2 p1 soft\n", "port"),
-        ("port 2 host soft\n", "port"),
-        ("port 2 sixteen-letters. soft\n", "port"),
-        ("cmd port up p2\n", "port"),
-        ("bridge 02:00:00:00:00:02\n", "place"),
-        ("cmd stp\n", "word"),
-        ("cmd link p1 cost 0\n", "number"),
-        ("cmd link p1 priority 256\n", "number"),
-        ("cmd stp priority 65536\n", "number"),
-        ("cmd port up host\n", "port"),
-        (
-            "cmd fdb add 03:00:00:00:00:0a dev p2 vlan 0 static\n",
-            "address",
-        ),
-        (
-            "cmd fdb add 00:00:00:00:00:00 dev p1 vlan 1 static\n",
-            "address",
-        ),
-        (
-            "cmd fdb add 02:00:00:00:0a dev p1 vlan 1 static\n",
-            "address",
-        ),
-        (
-            "cmd fdb add 02:00:00:00:00:0a dev p2 vlan 0 static\n",
-            "port",
-        ),
-        (
-            "cmd fdb add 02:00:00:00:00:0a dev p1 vlan 0 static\n",
-            "number",
-        ),
-        (
-            "cmd fdb add 02:00:00:00:00:0a dev p1 vlan 4095 static\n",
-            "number",
-        ),
-        ("cmd mdb add 239.1.2.3 dev p1\n", "word"),
-        ("cmd mdb add 256.1.2.3 dev p2 vlan 0\n", "address"),
-        ("cmd mdb add 239.1.02.3 dev p1 vlan 1\n", "address"),
-        ("cmd mdb add 239.1.2 dev p1 vlan 1\n", "address"),
-        ("cmd mdb add ff05::1234 dev p1 vlan 1\n", "address"),
-        ("cmd mdb del 239.1.2.3 dev p2 vlan 0\n", "port"),
-        ("cmd mdb del 239.1.2.3 dev p1 vlan 0\n", "number"),
-        ("cmd snooping\n", "word"),
-        ("hold 1\n", "word"),
-        ("post\n", "word"),
-        ("post 01\n", "number"),
-        ("post 4294967296\n", "number"),
-        ("post 1 at 0\n", "place"),
-        ("rx one 0g\n", "number"),
-        ("rx 2 0g\n", "port"),
-        ("rx 300 00\n", "port"),
-        ("rx 1 0g\n", "hex"),
-        ("rx 1 000\n", "hex"),
-    ];
-    for (rest, why) in rows {
+    for (rest, why) in CAUSES {
         let input = format!(in alloc; "scenario 1\nport 1 p1 soft\n{rest}")?;
         let told = format!(in alloc; "bad 3 {why}\n")?;
         is_told(&rt, alloc, input.as_bytes(), Status::BadLine, told.as_str())?;
@@ -386,29 +388,30 @@ fn causes_of_bad_lines(rt: HostRuntime) -> Result<(), Fail> {
     Ok(())
 }
 
+const PLACES: &[(&str, &str)] = &[
+    ("", "bad 1 unended\n"),
+    ("end", "bad 1 place\n"),
+    ("port 0 host soft\n", "bad 1 place\n"),
+    ("scenario 1\n", "bad 2 unended\n"),
+    ("scenario 1\nbridge 01:00:5e:00:00:01\n", "bad 2 address\n"),
+    (
+        "scenario 1\nbridge 02:00:00:00:00:02\n\nbridge 02:00:00:00:00:02\n",
+        "bad 4 place\n",
+    ),
+    (
+        "scenario 1\n\n  \n# a comment\nport 1 p1 soft\nport 2 p1 soft\n",
+        "bad 6 port\n",
+    ),
+    (
+        "scenario 1\nserve\nport 0 host soft\n",
+        "refused 1 10\nbad 3 place\n",
+    ),
+];
+
 /// Skipped lines count, and each line has its place.
 #[test]
 fn numbers_and_places_of_bad_lines(rt: HostRuntime) -> Result<(), Fail> {
-    let rows = [
-        ("", "bad 1 unended\n"),
-        ("end", "bad 1 place\n"),
-        ("port 0 host soft\n", "bad 1 place\n"),
-        ("scenario 1\n", "bad 2 unended\n"),
-        ("scenario 1\nbridge 01:00:5e:00:00:01\n", "bad 2 address\n"),
-        (
-            "scenario 1\nbridge 02:00:00:00:00:02\n\nbridge 02:00:00:00:00:02\n",
-            "bad 4 place\n",
-        ),
-        (
-            "scenario 1\n\n  \n# a comment\nport 1 p1 soft\nport 2 p1 soft\n",
-            "bad 6 port\n",
-        ),
-        (
-            "scenario 1\nserve\nport 0 host soft\n",
-            "refused 1 10\nbad 3 place\n",
-        ),
-    ];
-    for (input, told) in rows {
+    for (input, told) in PLACES {
         is_told(&rt, rt.alloc(), input.as_bytes(), Status::BadLine, told)?;
     }
     Ok(())
