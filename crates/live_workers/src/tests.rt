@@ -16,14 +16,14 @@ use std::process::Abort;
 use std::sync::Wait;
 use std::test::Fail;
 
-fn port(number: u8) -> Result<Port, Fail>
+pub(crate) fn port(number: u8) -> Result<Port, Fail>
     ensures { IfOk result (λ p. p ≡ number) }
 {
     Ok(Port::new(number).ok_or("port")?)
 }
 
 /// A frame between the stations 10 and 11, which enters at the port.
-fn frame(alloc: Global, number: u8, to: u8, from: u8) -> Result<Step, Fail>
+pub(crate) fn frame(alloc: Global, number: u8, to: u8, from: u8) -> Result<Step, Fail>
     ensures { IfOk result (λ s. comes_by_line false (1 ∷ []) s ≡ true) }
 {
     let bytes = [2, 0, 0, 0, 0, to, 2, 0, 0, 0, 0, from, 0x88, 0xB5, 1, 2];

@@ -5,9 +5,9 @@ ghost use Rattle.br_model.specs.Table.Domains.{chip_domains};
 ghost use Rattle.br_model.specs.Text.LineForms.{comes_by_line};
 
 use crate::take_steps;
-use br_model::bytes::Bytes;
+use crate::tests::{frame, port};
 use br_model::domains::Domains;
-use br_model::numbers::{Dom, Mac, Port};
+use br_model::numbers::{Dom, Mac};
 use br_model::steps::{Command, Step};
 use br_model::transcript::Line;
 use port_workers::{Gate, Open};
@@ -42,12 +42,6 @@ impl Gate for Meet {
     }
 }
 
-fn port(number: u8) -> Result<Port, Fail>
-    ensures { IfOk result (λ p. p ≡ number) }
-{
-    Ok(Port::new(number).ok_or("port")?)
-}
-
 /// Two ports of software.
 fn software() -> Result<Domains, Fail>
     ensures { IfOk result (λ d. chip_domains d ≡ 1 ∷ []) }
@@ -68,17 +62,6 @@ fn with_chip() -> Result<Domains, Fail>
     Ok(domains)
 }
 
-/// A frame between the stations 10 and 11, which enters at the port.
-fn frame(alloc: Global, number: u8, to: u8, from: u8) -> Result<Step, Fail>
-    ensures { IfOk result (λ s. comes_by_line false (1 ∷ []) s ≡ true) }
-{
-    let bytes = [2, 0, 0, 0, 0, to, 2, 0, 0, 0, 0, from, 0x88, 0xB5, 1, 2];
-    Ok(Step::Rx {
-        port: port(number)?,
-        bytes: Bytes::copy_of(alloc, &bytes)?,
-    })
-}
-
 /// The ports come up, and then a frame enters at each of them, so many times.
 fn given(alloc: Global, times: usize) -> Result<Vec<Step>, Fail>
     ensures { IfOk result (λ v. list_all (comes_by_line false (1 ∷ [])) v.items ≡ true) }
@@ -96,33 +79,30 @@ fn given(alloc: Global, times: usize) -> Result<Vec<Step>, Fail>
 
 /// How many frames entered, were held, were posted and were served.
 fn counts(steps: &[Step]) -> [usize; 4] {
-    [
-        steps
-            .iter()
-            .filter(|step| matches!(step, Step::Rx { .. }))
-            .count(),
-        steps
-            .iter()
-            .filter(|step| matches!(step, Step::Hold))
-            .count(),
-        steps
-            .iter()
-            .filter(|step| matches!(step, Step::Post { .. }))
-            .count(),
-        steps
-            .iter()
-            .filter(|step| matches!(step, Step::Serve))
-            .count(),
-    ]
+    let (mut entered, mut held, mut posted, mut served) = (0usize, 0usize, 0usize, 0usize);
+    for step in steps {
+        match step {
+            Step::Rx { .. } => entered = entered.wrapping_add(1),
+            Step::Hold => held = held.wrapping_add(1),
+            Step::Post { .. } => posted = posted.wrapping_add(1),
+            Step::Serve => served = served.wrapping_add(1),
+            _ => {}
+        }
+    }
+    [entered, held, posted, served]
 }
 
 /// How many frames were held before the first was posted.
 fn held_first(steps: &[Step]) -> usize {
-    steps
-        .iter()
-        .take_while(|step| !matches!(step, Step::Post { .. }))
-        .filter(|step| matches!(step, Step::Hold))
-        .count()
+    let mut held = 0usize;
+    for step in steps {
+        match step {
+            Step::Hold => held = held.wrapping_add(1),
+            Step::Post { .. } => return held,
+            _ => {}
+        }
+    }
+    held
 }
 
 #[test]
