@@ -1,7 +1,8 @@
 """Random scenarios, of steps in which no difference of docs/KERNEL.md shows.
 
 What they keep off is said where they do. Everything else that a line of software ports can say is in them. Where ports are the
-chip's, it reports each frame that it has to report directly behind the frame, and takes its turns there and behind `fdb del`.
+chip's, it reports each frame that it has to report directly behind the frame, and takes all its turns there and behind each command and
+moment by which addresses or groups may go; each third scenario of these is of edition 2, where members of groups wait for turns, too.
 """
 import random
 
@@ -15,6 +16,7 @@ V6_GROUPS = ["ff05::1234", "ff05::99", "ff02::1", "ff02::2"]
 FLAGS = ["learning", "flood", "mcast_flood", "bcast_flood", "isolated", "fastleave"]
 EARLY = 200000  # ms; before this no entry or membership ends by itself, and the kernel's late timers don't show
 LATE = 2000000  # ms; by then all have ended
+TURNS = 16  # more than ever are pending: the rest is refused, and isn't compared
 
 
 def mac(station):
@@ -25,7 +27,8 @@ class Maker:
     def __init__(self, seed, number, has_chip):
         self.random = random.Random("%s/%d" % (seed, number))
         self.chip_ports = CHIP_PORTS if has_chip else []
-        self.lines = ["scenario 1"] + ["port %d p%d %s" % (port, port, "chip 1" if port in self.chip_ports else "soft") for port in PORTS]
+        self.lines = ["scenario 2" if has_chip and number % 3 == 2 else "scenario 1"]
+        self.lines += ["port %d p%d %s" % (port, port, "chip 1" if port in self.chip_ports else "soft") for port in PORTS]
         self.clock = 0
         self.member = {port: {} for port in PORTS}  # of each port that is up, its VLANs: whether untagged
         self.member[0] = {1: True}
@@ -50,10 +53,11 @@ class Maker:
     def wait(self, milliseconds):
         self.clock += milliseconds
         self.lines.append("now %d" % self.clock)
+        self.turns()
 
     def turns(self):
         if self.chip_ports:
-            self.lines += ["turn 1"] * 2
+            self.lines += ["turn 1"] * TURNS
 
     def rx(self, port, data):
         self.lines.append("rx %d %s" % (port, data))
@@ -70,6 +74,7 @@ class Maker:
 
     def port_down(self, port):
         self.command("port down p%d" % port)
+        self.turns()
         self.member[port] = {}
         self.pvid.pop(port, None)
 
@@ -92,6 +97,7 @@ class Maker:
         elif vlan == 20:
             del self.member[port][vlan]
             self.command("vlan del vid 20 dev %s" % self.device(port))
+            self.turns()
 
     def address(self):
         port, vlan = self.random.choice([0] + list(PORTS)), self.random.choice([1, 1, 10])
@@ -100,6 +106,7 @@ class Maker:
             self.turns()
         else:
             self.command("fdb add %s dev %s vlan %d %s" % (mac("f"), self.device(port), vlan, "static" if port else "local"))
+            self.turns()
 
     def group(self):
         """Linux takes `mdb add` outside of the port's VLANs, refuses `mdb` while snooping is off, and ends the host's
@@ -110,6 +117,7 @@ class Maker:
         if self.snooping and (self.chance(.3) or vlan in self.member[port]):
             what = "add" if vlan in self.member[port] and self.chance(.7) else "del"
             self.command("mdb %s %s dev %s vlan %d" % (what, group, self.device(port), vlan))
+            self.turns()
 
     def age(self):
         """Every learned entry ends."""
