@@ -41,62 +41,79 @@ fn source_of(alloc: Global, text: &[u8], fails: &[u32]) -> Result<MemSource, Fai
     Ok(MemSource::make(bytes, fails))
 }
 
+/// A reader gives this of a source.
+fn is_told<R: Abort, S: Source>(
+    rt: &R,
+    alloc: Global,
+    limit: u32,
+    source: &mut S,
+    want: &str,
+) -> Result<(), Fail> {
+    let got = told(alloc, limit, source)?;
+    assert_eq!(rt; got.as_str(), want);
+    Ok(())
+}
+
+/// Texts, the limits of their readers, and what these give.
+const TEXTS: &[(&str, u32, &str)] = &[
+    ("", 64, "end"),
+    ("a\nbc\n", 64, "a|+bc|end"),
+    ("a\nbc", 64, "a|bc.end"),
+    ("\n\nc", 64, "|+|c.end"),
+    ("\n\nc", 3, "|+|+too long"),
+    ("\n\nc", 2, "|+|+too long"),
+    ("", 0, "+too long"),
+];
+
 #[test]
 fn lines_of_a_text(rt: HostRuntime) -> Result<(), Fail> {
     let alloc = rt.alloc();
-    let table = [
-        ("", 64, "end"),
-        ("a\nbc\n", 64, "a|+bc|end"),
-        ("a\nbc", 64, "a|bc.end"),
-        ("\n\nc", 64, "|+|c.end"),
-        ("\n\nc", 3, "|+|+too long"),
-        ("\n\nc", 2, "|+|+too long"),
-        ("", 0, "+too long"),
-    ];
-    for (text, limit, want) in table {
+    for (text, limit, want) in TEXTS {
         let mut source = source_of(alloc, text.as_bytes(), &[])?;
-        let got = told(alloc, limit, &mut source)?;
-        assert_eq!(rt; got.as_str(), want);
-        let got = told(alloc, limit, &mut StdSource::make(text.as_bytes()))?;
-        assert_eq!(rt; got.as_str(), want);
+        is_told(&rt, alloc, *limit, &mut source, want)?;
+        let mut source = StdSource::make(text.as_bytes());
+        is_told(&rt, alloc, *limit, &mut source, want)?;
     }
     Ok(())
 }
+
+/// The read that fails, and what a reader gives.
+const FAILING_READS: &[(u32, &str)] = &[
+    (1, "read fault"),
+    (2, "a|read fault"),
+    (3, "a|b.read fault"),
+    (4, "a|b.end"),
+];
 
 #[test]
 fn reads_that_fail(rt: HostRuntime) -> Result<(), Fail> {
     let alloc = rt.alloc();
-    let table = [
-        (1, "read fault"),
-        (2, "a|read fault"),
-        (3, "a|b.read fault"),
-        (4, "a|b.end"),
-    ];
-    for (call, want) in table {
-        let mut source = source_of(alloc, b"a\nb", &[call])?;
-        let got = told(alloc, 64, &mut source)?;
-        assert_eq!(rt; got.as_str(), want);
+    for (call, want) in FAILING_READS {
+        let mut source = source_of(alloc, b"a\nb", &[*call])?;
+        is_told(&rt, alloc, 64, &mut source, want)?;
     }
     Ok(())
 }
 
+const LENGTHS: &[usize] = &[20_000, 20_001];
+
 #[test]
 fn longest_line(rt: HostRuntime) -> Result<(), Fail> {
     let alloc = rt.alloc();
-    for len in [20_000, 20_001] {
-        let mut text = vec![in alloc; b'a'; len]?;
+    for len in LENGTHS {
+        let mut text = vec![in alloc; b'a'; *len]?;
         text.push(b'\n')?;
         let mut source = MemSource::make(text, Vec::new(alloc));
         let mut reader = LineReader::make(alloc, 1 << 28);
         match reader.next(alloc, &mut source) {
             Ok(Some(line)) => {
                 assert_eq!(rt; line.bytes.len(), 20_000);
-                assert!(rt; line.whole && len == 20_000);
+                assert!(rt; line.whole && *len == 20_000);
             }
             Ok(None) => assert!(rt; false),
             Err(fault) => {
                 assert_eq!(rt; fault, LineFault::LineTooLong);
-                assert_eq!(rt; len, 20_001);
+                assert_eq!(rt; *len, 20_001);
             }
         }
     }
@@ -143,95 +160,117 @@ fn check_piece(rt: &impl Abort, got: &Got, len: usize, whole: bool) {
     assert!(rt; got.bytes.iter().all(|b| *b == b'a'));
 }
 
+/// The lengths that are asked for, the pieces' own, and whether these are whole.
+const PIECES: &[(u32, usize, bool)] = &[
+    (65_535, 65_535, true),
+    (3, 3, true),
+    (0, 0, true),
+    (70_000, 70_000, true),
+    (20_000, 14_462, false),
+    (1, 0, false),
+    (0, 0, true),
+];
+
 #[test]
 fn pieces_over_the_buffer(rt: HostRuntime) -> Result<(), Fail> {
     let alloc = rt.alloc();
     let text = vec![in alloc; b'a'; 150_000]?;
     let mut source = MemSource::make(text, Vec::new(alloc));
     let mut reader = LineReader::make(alloc, 1 << 28);
-    let table = [
-        (65_535, 65_535, true),
-        (3, 3, true),
-        (0, 0, true),
-        (70_000, 70_000, true),
-        (20_000, 14_462, false),
-        (1, 0, false),
-        (0, 0, true),
-    ];
-    for (asked, len, whole) in table {
-        let got = reader.take(alloc, &mut source, asked)?;
-        check_piece(&rt, &got, len, whole);
+    for (asked, len, whole) in PIECES {
+        let got = reader.take(alloc, &mut source, *asked)?;
+        check_piece(&rt, &got, *len, *whole);
     }
     Ok(())
 }
+
+/// A piece or a line of these bytes.
+fn check_text(rt: &impl Abort, got: &Got, want: &str) {
+    assert_eq!(rt; got.bytes, want.as_bytes());
+}
+
+/// The next piece of this length, or the next line where there is none.
+const PIECES_AND_LINES: &[(Option<u32>, &str)] = &[(Some(1), "a"), (None, "b"), (Some(4), "cd\ne")];
 
 #[test]
 fn pieces_between_lines(rt: HostRuntime) -> Result<(), Fail> {
     let alloc = rt.alloc();
     let mut source = source_of(alloc, b"ab\ncd\nef", &[])?;
     let mut reader = LineReader::make(alloc, 8);
-    let piece = reader.take(alloc, &mut source, 1)?;
-    assert_eq!(rt; piece.bytes, b"a".as_slice());
-    let line = reader.next(alloc, &mut source)?.ok_or("a line")?;
-    assert_eq!(rt; line.bytes, b"b".as_slice());
-    let piece = reader.take(alloc, &mut source, 4)?;
-    assert_eq!(rt; piece.bytes, b"cd\ne".as_slice());
+    for (asked, want) in PIECES_AND_LINES {
+        match *asked {
+            Some(len) => {
+                let piece = reader.take(alloc, &mut source, len)?;
+                check_text(&rt, &piece, want);
+            }
+            None => {
+                let line = reader.next(alloc, &mut source)?.ok_or("a line")?;
+                check_text(&rt, &line, want);
+            }
+        }
+    }
     let fault = reader.take(alloc, &mut source, 2).err();
     assert_eq!(rt; fault, Some(LineFault::TooLong));
     Ok(())
 }
 
+/// Limits, the bytes that are taken, and why no more are.
+const LIMITS: &[(u32, &str, Stop)] = &[
+    (4, "abc", Stop::Ended),
+    (3, "abc", Stop::Full),
+    (2, "ab", Stop::Full),
+    (0, "", Stop::Full),
+];
+
 #[test]
 fn sources_taken_whole(rt: HostRuntime) -> Result<(), Fail> {
     let alloc = rt.alloc();
-    let table = [
-        (4, "abc", Stop::Ended),
-        (3, "abc", Stop::Full),
-        (2, "ab", Stop::Full),
-        (0, "", Stop::Full),
-    ];
-    for (limit, want, stop) in table {
+    for (limit, want, stop) in LIMITS {
         let mut source = source_of(alloc, b"abc", &[])?;
-        let whole = take_all(alloc, &mut source, limit)?;
+        let whole = take_all(alloc, &mut source, *limit)?;
         assert_eq!(rt; whole.bytes.as_slice(), want.as_bytes());
-        assert_eq!(rt; whole.stop, stop);
+        assert_eq!(rt; whole.stop, *stop);
     }
     Ok(())
 }
 
-/// The second read takes the last bytes, and the third sees that none is left.
+/// The read that fails, how many bytes are taken, and why no more are. The second read takes the last bytes, and the third sees
+/// that none is left.
+const FAILING_WHOLE: &[(u32, usize, Stop)] = &[
+    (1, 0, Stop::ReadFault),
+    (2, 65_536, Stop::ReadFault),
+    (3, 70_000, Stop::ReadFault),
+    (4, 70_000, Stop::Ended),
+];
+
 #[test]
 fn whole_sources_that_fail(rt: HostRuntime) -> Result<(), Fail> {
     let alloc = rt.alloc();
-    let table = [
-        (1, 0, Stop::ReadFault),
-        (2, 65_536, Stop::ReadFault),
-        (3, 70_000, Stop::ReadFault),
-        (4, 70_000, Stop::Ended),
-    ];
-    for (call, len, stop) in table {
+    for (call, len, stop) in FAILING_WHOLE {
         let text = vec![in alloc; b'a'; 70_000]?;
-        let mut source = MemSource::make(text, Vec::from_slice(alloc, &[call])?);
+        let mut source = MemSource::make(text, Vec::from_slice(alloc, &[*call])?);
         let whole = take_all(alloc, &mut source, 1 << 28)?;
-        assert_eq!(rt; whole.bytes.len(), len);
-        assert_eq!(rt; whole.stop, stop);
+        assert_eq!(rt; whole.bytes.len(), *len);
+        assert_eq!(rt; whole.stop, *stop);
     }
     Ok(())
 }
+
+/// The write that fails, the room, and what is taken of two pieces.
+const FAILING_WRITES: &[(u32, u32, &str)] = &[
+    (1, 8, "cd"),
+    (2, 8, "ab"),
+    (3, 8, "abcd"),
+    (3, 3, "abc"),
+    (3, 0, ""),
+];
 
 #[test]
 fn writes_that_fail(rt: HostRuntime) -> Result<(), Fail> {
     let alloc = rt.alloc();
-    let table = [
-        (1, 8, "cd"),
-        (2, 8, "ab"),
-        (3, 8, "abcd"),
-        (3, 3, "abc"),
-        (3, 0, ""),
-    ];
-    for (call, room, want) in table {
-        let fails = Vec::from_slice(alloc, &[call])?;
-        let mut sink = MemSink::make(alloc, room, fails)?;
+    for (call, room, want) in FAILING_WRITES {
+        let fails = Vec::from_slice(alloc, &[*call])?;
+        let mut sink = MemSink::make(alloc, *room, fails)?;
         let first = put(&mut sink, b"ab");
         let second = put(&mut sink, b"cd");
         assert_eq!(rt; sink.bytes(), want.as_bytes());
@@ -249,21 +288,37 @@ fn writes_to_a_writer(rt: HostRuntime) -> Result<(), Fail> {
     Ok(())
 }
 
+/// Two lines.
+fn write_lines(output: &mut Output) -> Result<(), Fail> {
+    output.text.push_str("a\n")?;
+    write!(output.text, "{}\n", 7)?;
+    Ok(())
+}
+
+/// So many letters.
+fn write_letters(output: &mut Output, count: u32) -> Result<(), Fail> {
+    for _ in 0..count {
+        output.text.push('a')?;
+    }
+    Ok(())
+}
+
+/// How many letters come, and whether the output is full then.
+const LETTERS: &[(u32, bool)] = &[(65_535, false), (1, true)];
+
+/// The second write fails.
 #[test]
 fn output_in_one_piece(rt: HostRuntime) -> Result<(), Fail> {
     let alloc = rt.alloc();
     let mut sink = MemSink::make(alloc, 100_000, Vec::from_slice(alloc, &[2])?)?;
     let mut output = Output::make(alloc)?;
-    output.text.push_str("a\n")?;
-    write!(output.text, "{}\n", 7)?;
+    write_lines(&mut output)?;
     output.flush(&mut sink)?;
     assert_eq!(rt; sink.bytes(), b"a\n7\n".as_slice());
-    for _ in 0..65_535 {
-        output.text.push('a')?;
+    for (count, full) in LETTERS {
+        write_letters(&mut output, *count)?;
+        assert_eq!(rt; output.is_full(), *full);
     }
-    assert!(rt; !output.is_full());
-    output.text.push('a')?;
-    assert!(rt; output.is_full());
     assert!(rt; output.flush(&mut sink).is_err());
     output.flush(&mut sink)?;
     assert_eq!(rt; sink.bytes().len(), 65_540);
