@@ -1,5 +1,6 @@
-use crate::{Blocks, CapFault, CapKind};
+use crate::{Blocks, CapFault, CapKind, Packet};
 use std::alloc::{AllocError, Global};
+use std::process::Abort;
 use std::test::Fail;
 
 /// Section headers of both byte orders: type, total length, magic, version 1.0, an unknown section length, total length.
@@ -25,6 +26,10 @@ const FRAME: &[u8] = b"\x02\x00\x00\x00\x00\x0b\x02\x00\x00\x00\x00\x0a\x88\xb5\
 /// Packets: type, total length, interface 0, time, captured and original length 16, the frame, total length.
 const PACKET: &[u8] =
     b"\x06\x00\x00\x00\x30\x00\x00\x00\x00\x00\x00\x00\x00\x00\x00\x00\x00\x00\x00\x00\x10\x00\x00\x00\x10\x00\x00\x00\x02\x00\x00\x00\x00\x0b\x02\x00\x00\x00\x00\x0a\x88\xb5\x01\x02\x30\x00\x00\x00";
+
+/// The packet of the lowest byte first without its last byte.
+const CUT_PACKET: &[u8] =
+    b"\x06\x00\x00\x00\x30\x00\x00\x00\x00\x00\x00\x00\x00\x00\x00\x00\x00\x00\x00\x00\x10\x00\x00\x00\x10\x00\x00\x00\x02\x00\x00\x00\x00\x0b\x02\x00\x00\x00\x00\x0a\x88\xb5\x01\x02\x30\x00\x00";
 
 const PACKET_HIGH: &[u8] =
     b"\x00\x00\x00\x06\x00\x00\x00\x30\x00\x00\x00\x00\x00\x00\x00\x00\x00\x00\x00\x00\x00\x00\x00\x10\x00\x00\x00\x10\x02\x00\x00\x00\x00\x0b\x02\x00\x00\x00\x00\x0a\x88\xb5\x01\x02\x00\x00\x00\x30";
@@ -87,7 +92,7 @@ const REQUEST: &[u8] =
 /// What is read of a capture: its packets, and the fault behind them.
 #[derive(Drop)]
 struct Outcome {
-    packets: Vec<crate::Packet>,
+    packets: Vec<Packet>,
     fault: Option<(u32, CapKind)>,
 }
 
@@ -126,218 +131,235 @@ fn joined(alloc: Global, pieces: &[&[u8]]) -> Result<Vec<u8>, AllocError> {
     Ok(bytes)
 }
 
-/// Captures of three ports.
+fn assert_packets(rt: &impl Abort, packets: &[Packet], expected: &[(u32, &[u8])], what: &str) {
+    assert_eq!(rt; packets.len(), expected.len(), "{what}");
+    for (packet, (interface, bytes)) in packets.iter().zip(expected) {
+        assert!(rt;
+            packet.interface == *interface && packet.bytes.as_slice() == *bytes,
+            "{what}"
+        );
+    }
+}
+
+/// What the capture of three ports is, its pieces, and the packets with their interfaces.
+const CAPTURES: &[(&str, &[&[u8]], &[(u32, &[u8])])] = &[
+    ("nothing", &[], &[]),
+    (
+        "the lowest byte first",
+        &[SECTION, ETHERNET, PACKET],
+        &[(0, FRAME)],
+    ),
+    (
+        "the highest byte first",
+        &[SECTION_HIGH, ETHERNET_HIGH, PACKET_HIGH],
+        &[(0, FRAME)],
+    ),
+    (
+        "padding, options, other blocks",
+        &[
+            SECTION, BARE, ETHERNET, ETHERNET, SHORTENED, NO_BYTES, STATISTICS, PACKET, BARE,
+        ],
+        &[(1, b"\x01\x02\x03"), (1, b""), (0, FRAME)],
+    ),
+    (
+        "an interface of another link type, without a packet",
+        &[SECTION, ETHERNET, RAW_IP, PACKET],
+        &[(0, FRAME)],
+    ),
+    (
+        "two sections, each with its byte order and its interfaces",
+        &[
+            SECTION,
+            RAW_IP,
+            ETHERNET,
+            SHORTENED,
+            SECTION_HIGH,
+            ETHERNET_HIGH,
+            PACKET_HIGH,
+        ],
+        &[(1, b"\x01\x02\x03"), (0, FRAME)],
+    ),
+    (
+        "more interfaces than ports",
+        &[SECTION, ETHERNET, ETHERNET, RAW_IP, RAW_IP, PACKET],
+        &[(0, FRAME)],
+    ),
+    (
+        "a file of dumpcap",
+        &[
+            FILE_HEADER,
+            FILE_ETH0,
+            FILE_ETH1,
+            FILE_CUSTOM,
+            FILE_BY_ETH1,
+            FILE_BY_ETH0,
+            FILE_STATISTICS_ETH0,
+            FILE_STATISTICS_ETH1,
+        ],
+        &[(1, PADDED_REQUEST), (0, REQUEST)],
+    ),
+];
+
 #[test]
 fn packets_of_captures(rt: HostRuntime) -> Result<(), Fail> {
     let alloc = rt.alloc();
-    let cases: [(&str, &[&[u8]], &[(u32, &[u8])]); 8] = [
-        ("nothing", &[], &[]),
-        (
-            "the lowest byte first",
-            &[SECTION, ETHERNET, PACKET],
-            &[(0, FRAME)],
-        ),
-        (
-            "the highest byte first",
-            &[SECTION_HIGH, ETHERNET_HIGH, PACKET_HIGH],
-            &[(0, FRAME)],
-        ),
-        (
-            "padding, options, other blocks",
-            &[
-                SECTION, BARE, ETHERNET, ETHERNET, SHORTENED, NO_BYTES, STATISTICS, PACKET, BARE,
-            ],
-            &[(1, b"\x01\x02\x03"), (1, b""), (0, FRAME)],
-        ),
-        (
-            "an interface of another link type, without a packet",
-            &[SECTION, ETHERNET, RAW_IP, PACKET],
-            &[(0, FRAME)],
-        ),
-        (
-            "two sections, each with its byte order and its interfaces",
-            &[
-                SECTION,
-                RAW_IP,
-                ETHERNET,
-                SHORTENED,
-                SECTION_HIGH,
-                ETHERNET_HIGH,
-                PACKET_HIGH,
-            ],
-            &[(1, b"\x01\x02\x03"), (0, FRAME)],
-        ),
-        (
-            "more interfaces than ports",
-            &[SECTION, ETHERNET, ETHERNET, RAW_IP, RAW_IP, PACKET],
-            &[(0, FRAME)],
-        ),
-        (
-            "a file of dumpcap",
-            &[
-                FILE_HEADER,
-                FILE_ETH0,
-                FILE_ETH1,
-                FILE_CUSTOM,
-                FILE_BY_ETH1,
-                FILE_BY_ETH0,
-                FILE_STATISTICS_ETH0,
-                FILE_STATISTICS_ETH1,
-            ],
-            &[(1, PADDED_REQUEST), (0, REQUEST)],
-        ),
-    ];
-    for (what, pieces, expected) in cases {
+    for (what, pieces, expected) in CAPTURES {
         let bytes = joined(alloc, pieces)?;
         let read = read(alloc, &bytes, 3)?;
         assert_eq!(rt; read.fault, None, "{what}");
-        assert_eq!(rt; read.packets.len(), expected.len(), "{what}");
-        for (packet, (interface, bytes)) in read.packets.iter().zip(expected) {
-            assert!(rt;
-                packet.interface == *interface && packet.bytes.as_slice() == *bytes,
-                "{what}"
-            );
-        }
+        assert_packets(&rt, &read.packets, expected, what);
     }
     Ok(())
 }
 
 /// The worked capture with some bytes changed.
+fn changed(alloc: Global, changes: &[(usize, u8)]) -> Result<Vec<u8>, AllocError> {
+    let mut bytes = joined(alloc, &[SECTION, ETHERNET, PACKET])?;
+    for (at, byte) in changes {
+        if let Some(place) = bytes.get_mut(*at) {
+            *place = *byte;
+        }
+    }
+    Ok(bytes)
+}
+
+/// Where the fault is, and which.
+fn assert_fault(rt: &impl Abort, outcome: &Outcome, fault: (u32, CapKind), what: &str) {
+    assert_eq!(rt; outcome.fault, Some(fault), "{what}");
+}
+
+const CHANGES: &[(&str, &[(usize, u8)], u32, CapKind)] = &[
+    ("no section header", &[(0, 0x01)], 0, CapKind::First),
+    ("magic", &[(11, 0x1b)], 0, CapKind::Magic),
+    (
+        "magic before length",
+        &[(11, 0x1b), (4, 0x08)],
+        0,
+        CapKind::Magic,
+    ),
+    ("section header of 24", &[(4, 0x18)], 0, CapKind::Length),
+    ("unlike its repetition", &[(24, 0x20)], 0, CapKind::Length),
+    (
+        "length before version",
+        &[(24, 0x20), (12, 0x02)],
+        0,
+        CapKind::Length,
+    ),
+    ("version 2", &[(12, 0x02)], 0, CapKind::Version),
+    ("no multiple of 4", &[(32, 0x15)], 28, CapKind::Length),
+    ("interface of 16", &[(32, 0x10)], 28, CapKind::Length),
+    (
+        "another block of 8",
+        &[(28, 0x05), (32, 0x08)],
+        28,
+        CapKind::Length,
+    ),
+    ("above 2^20", &[(34, 0x10)], 28, CapKind::Length),
+    ("2^20", &[(32, 0x00), (34, 0x10)], 28, CapKind::Short),
+    ("interface 1", &[(56, 0x01)], 48, CapKind::Interface),
+    ("raw IP", &[(36, 0x65)], 48, CapKind::Link),
+    ("link type 0", &[(36, 0x00)], 48, CapKind::Link),
+    ("captured 17", &[(68, 0x11)], 48, CapKind::Captured),
+    (
+        "captured 2^32 - 1",
+        &[(68, 0xff), (69, 0xff), (70, 0xff), (71, 0xff)],
+        48,
+        CapKind::Captured,
+    ),
+    (
+        "interface before captured",
+        &[(56, 0x01), (68, 0x11)],
+        48,
+        CapKind::Interface,
+    ),
+    (
+        "link type before captured",
+        &[(36, 0x65), (68, 0x11)],
+        48,
+        CapKind::Link,
+    ),
+];
+
 #[test]
 fn changed_bytes(rt: HostRuntime) -> Result<(), Fail> {
     let alloc = rt.alloc();
-    let cases: [(&str, &[(usize, u8)], u32, CapKind); 19] = [
-        ("no section header", &[(0, 0x01)], 0, CapKind::First),
-        ("magic", &[(11, 0x1b)], 0, CapKind::Magic),
-        (
-            "magic before length",
-            &[(11, 0x1b), (4, 0x08)],
-            0,
-            CapKind::Magic,
-        ),
-        ("section header of 24", &[(4, 0x18)], 0, CapKind::Length),
-        ("unlike its repetition", &[(24, 0x20)], 0, CapKind::Length),
-        (
-            "length before version",
-            &[(24, 0x20), (12, 0x02)],
-            0,
-            CapKind::Length,
-        ),
-        ("version 2", &[(12, 0x02)], 0, CapKind::Version),
-        ("no multiple of 4", &[(32, 0x15)], 28, CapKind::Length),
-        ("interface of 16", &[(32, 0x10)], 28, CapKind::Length),
-        (
-            "another block of 8",
-            &[(28, 0x05), (32, 0x08)],
-            28,
-            CapKind::Length,
-        ),
-        ("above 2^20", &[(34, 0x10)], 28, CapKind::Length),
-        ("2^20", &[(32, 0x00), (34, 0x10)], 28, CapKind::Short),
-        ("interface 1", &[(56, 0x01)], 48, CapKind::Interface),
-        ("raw IP", &[(36, 0x65)], 48, CapKind::Link),
-        ("link type 0", &[(36, 0x00)], 48, CapKind::Link),
-        ("captured 17", &[(68, 0x11)], 48, CapKind::Captured),
-        (
-            "captured 2^32 - 1",
-            &[(68, 0xff), (69, 0xff), (70, 0xff), (71, 0xff)],
-            48,
-            CapKind::Captured,
-        ),
-        (
-            "interface before captured",
-            &[(56, 0x01), (68, 0x11)],
-            48,
-            CapKind::Interface,
-        ),
-        (
-            "link type before captured",
-            &[(36, 0x65), (68, 0x11)],
-            48,
-            CapKind::Link,
-        ),
-    ];
-    for (what, changes, offset, kind) in cases {
-        let mut bytes = joined(alloc, &[SECTION, ETHERNET, PACKET])?;
-        for (at, byte) in changes {
-            if let Some(place) = bytes.get_mut(*at) {
-                *place = *byte;
-            }
-        }
+    for (what, changes, offset, kind) in CHANGES {
+        let bytes = changed(alloc, changes)?;
         let read = read(alloc, &bytes, 3)?;
-        assert_eq!(rt; read.fault, Some((offset, kind)), "{what}");
+        assert_fault(&rt, &read, (*offset, *kind), what);
         assert!(rt; read.packets.is_empty(), "{what}");
     }
     Ok(())
 }
 
 /// Of two sections, for so many ports: how many packets come, and where the fault is.
+const FAULTS: &[(&str, &[&[u8]], u32, usize, u32, CapKind)] = &[
+    (
+        "no port",
+        &[SECTION, ETHERNET, PACKET],
+        0,
+        0,
+        48,
+        CapKind::Interface,
+    ),
+    (
+        "one port",
+        &[SECTION, ETHERNET, ETHERNET, PACKET, SHORTENED],
+        1,
+        1,
+        116,
+        CapKind::Interface,
+    ),
+    (
+        "three bytes are left",
+        &[SECTION, ETHERNET, PACKET, b"\x0a\x0d\x0d"],
+        3,
+        1,
+        96,
+        CapKind::Short,
+    ),
+    (
+        "a byte lacks",
+        &[SECTION, ETHERNET, PACKET, CUT_PACKET],
+        3,
+        1,
+        96,
+        CapKind::Short,
+    ),
+    (
+        "interface of the section before",
+        &[SECTION, ETHERNET, PACKET, SECTION_HIGH, PACKET_HIGH],
+        3,
+        1,
+        124,
+        CapKind::Interface,
+    ),
+    (
+        "byte order of the section before",
+        &[SECTION, ETHERNET, PACKET, SECTION_HIGH, ETHERNET],
+        3,
+        1,
+        124,
+        CapKind::Length,
+    ),
+    (
+        "the second section's link type",
+        &[SECTION, ETHERNET, PACKET, SECTION, RAW_IP, PACKET],
+        3,
+        1,
+        156,
+        CapKind::Link,
+    ),
+];
+
 #[test]
 fn faults_behind_packets(rt: HostRuntime) -> Result<(), Fail> {
     let alloc = rt.alloc();
-    let cases: [(&str, &[&[u8]], u32, usize, u32, CapKind); 7] = [
-        (
-            "no port",
-            &[SECTION, ETHERNET, PACKET],
-            0,
-            0,
-            48,
-            CapKind::Interface,
-        ),
-        (
-            "one port",
-            &[SECTION, ETHERNET, ETHERNET, PACKET, SHORTENED],
-            1,
-            1,
-            116,
-            CapKind::Interface,
-        ),
-        (
-            "three bytes are left",
-            &[SECTION, ETHERNET, PACKET, b"\x0a\x0d\x0d"],
-            3,
-            1,
-            96,
-            CapKind::Short,
-        ),
-        (
-            "a byte lacks",
-            &[SECTION, ETHERNET, PACKET, &PACKET[..47]],
-            3,
-            1,
-            96,
-            CapKind::Short,
-        ),
-        (
-            "interface of the section before",
-            &[SECTION, ETHERNET, PACKET, SECTION_HIGH, PACKET_HIGH],
-            3,
-            1,
-            124,
-            CapKind::Interface,
-        ),
-        (
-            "byte order of the section before",
-            &[SECTION, ETHERNET, PACKET, SECTION_HIGH, ETHERNET],
-            3,
-            1,
-            124,
-            CapKind::Length,
-        ),
-        (
-            "the second section's link type",
-            &[SECTION, ETHERNET, PACKET, SECTION, RAW_IP, PACKET],
-            3,
-            1,
-            156,
-            CapKind::Link,
-        ),
-    ];
-    for (what, pieces, ports, packets, offset, kind) in cases {
+    for (what, pieces, ports, packets, offset, kind) in FAULTS {
         let bytes = joined(alloc, pieces)?;
-        let read = read(alloc, &bytes, ports)?;
-        assert_eq!(rt; read.fault, Some((offset, kind)), "{what}");
-        assert_eq!(rt; read.packets.len(), packets, "{what}");
+        let read = read(alloc, &bytes, *ports)?;
+        assert_fault(&rt, &read, (*offset, *kind), what);
+        assert_eq!(rt; read.packets.len(), *packets, "{what}");
     }
     Ok(())
 }
