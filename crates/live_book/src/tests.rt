@@ -10,7 +10,7 @@ use std::test::Fail;
 use transcript_lines::Lines;
 
 /// The numbers of the steps that end in a line `ok`, and how many changes each accepted.
-const DONE: [(u32, u32); 10] = [
+const DONE: &[(u32, u32)] = &[
     (1, 3),
     (2, 3),
     (3, 0),
@@ -36,51 +36,89 @@ fn frame(alloc: Global, number: u8, to: u8, from: u8) -> Result<Step, Fail> {
     })
 }
 
-/// The steps before the first frame.
-fn opening(alloc: Global) -> Result<Vec<Step>, Fail> {
+/// A step, with its ports and ids as numbers.
+#[derive(Clone, Copy)]
+enum Row {
+    PortUp(u8),
+    /// A frame to a station from another, which enters at the port.
+    Frame(u8, u8, u8),
+    Serve,
+    Hold,
+    Post(u32, u32),
+    Turn,
+    Publish,
+}
+
+fn step_of(alloc: Global, row: Row) -> Result<Step, Fail> {
+    match row {
+        Row::PortUp(number) => Ok(Step::Cmd(Command::PortUp(port(number)?))),
+        Row::Frame(number, to, from) => frame(alloc, number, to, from),
+        Row::Serve => Ok(Step::Serve),
+        Row::Hold => Ok(Step::Hold),
+        Row::Post(id, point) => Ok(Step::Post {
+            id,
+            point: Some(point),
+        }),
+        Row::Turn => Ok(Step::Turn(Dom::CHIP)),
+        Row::Publish => Ok(Step::Publish),
+    }
+}
+
+fn steps_of(alloc: Global, parts: &[&[Row]]) -> Result<Vec<Step>, Fail> {
     let mut steps = Vec::new(alloc);
-    steps.push(Step::Cmd(Command::PortUp(port(1)?)))?;
-    steps.push(Step::Cmd(Command::PortUp(port(2)?)))?;
-    steps.push(Step::Publish)?;
+    for part in parts {
+        push_part(alloc, &mut steps, part)?;
+    }
     Ok(steps)
 }
 
-/// The steps of the scenario.
-fn given(alloc: Global) -> Result<Vec<Step>, Fail> {
-    let mut steps = opening(alloc)?;
-    steps.push(frame(alloc, 1, 11, 10)?)?;
-    steps.push(Step::Serve)?;
-    steps.push(frame(alloc, 2, 10, 11)?)?;
-    Ok(steps)
+fn push_part(alloc: Global, steps: &mut Vec<Step>, part: &[Row]) -> Result<(), Fail> {
+    for row in part {
+        steps.push(step_of(alloc, *row)?)?;
+    }
+    Ok(())
 }
 
-/// Both frames are held before the first is posted, and this follows that post.
-fn taken(alloc: Global, next: Step) -> Result<Vec<Step>, Fail> {
-    let mut steps = opening(alloc)?;
-    steps.push(frame(alloc, 1, 11, 10)?)?;
-    steps.push(frame(alloc, 2, 10, 11)?)?;
-    steps.push(Step::Hold)?;
-    steps.push(Step::Hold)?;
-    steps.push(Step::Post {
-        id: 1,
-        point: Some(6),
-    })?;
-    steps.push(next)?;
-    steps.push(Step::Post {
-        id: 2,
-        point: Some(7),
-    })?;
-    steps.push(Step::Publish)?;
-    steps.push(Step::Turn(Dom::CHIP))?;
-    steps.push(Step::Turn(Dom::CHIP))?;
-    steps.push(Step::Publish)?;
-    Ok(steps)
-}
+/// The steps before the first frame.
+const OPENING: &[Row] = &[Row::PortUp(1), Row::PortUp(2), Row::Publish];
+
+/// The steps of the scenario from the first frame on.
+const SCENARIO: &[Row] = &[Row::Frame(1, 11, 10), Row::Serve, Row::Frame(2, 10, 11)];
+
+const FRAMELESS: &[&[Row]] = &[OPENING];
+
+const GIVEN: &[&[Row]] = &[OPENING, SCENARIO];
+
+/// Both frames are held before the first is posted.
+const FIRST_POST: &[Row] = &[
+    Row::Frame(1, 11, 10),
+    Row::Frame(2, 10, 11),
+    Row::Hold,
+    Row::Hold,
+    Row::Post(1, 6),
+];
+
+/// From the second post on.
+const SECOND_POST: &[Row] = &[
+    Row::Post(2, 7),
+    Row::Publish,
+    Row::Turn,
+    Row::Turn,
+    Row::Publish,
+];
+
+const TAKEN: &[&[Row]] = &[OPENING, FIRST_POST, &[Row::Publish], SECOND_POST];
+
+/// The first post isn't followed by a publication.
+const HELD: &[&[Row]] = &[OPENING, FIRST_POST, &[Row::Hold], SECOND_POST];
 
 fn lines(alloc: Global) -> Result<Lines, Fail> {
     let mut lines = Lines::new(alloc);
     for (step, changes) in DONE {
-        lines.push(Line::Done { step, changes })?;
+        lines.push(Line::Done {
+            step: *step,
+            changes: *changes,
+        })?;
     }
     Ok(lines)
 }
@@ -95,18 +133,24 @@ fn left(alloc: Global, waiting: usize) -> Remains {
     }
 }
 
+/// The steps of the book, those of the scenario, how many frames wait at the end, and whether the book is live.
+const BOOKS: &[(&[&[Row]], &[&[Row]], usize, bool)] = &[
+    (TAKEN, GIVEN, 0, true),
+    (TAKEN, GIVEN, 1, false),
+    (TAKEN, FRAMELESS, 0, false),
+    (GIVEN, TAKEN, 0, false),
+    (HELD, GIVEN, 0, false),
+];
+
 #[test]
 fn a_book_of_two_workers_is_live(rt: HostRuntime) -> Result<(), Fail> {
     let alloc = rt.alloc();
     let lines = lines(alloc)?;
-    let given = given(alloc)?;
-    let steps = taken(alloc, Step::Publish)?;
-    assert!(rt; is_live(alloc, &steps, &lines, &given, &left(alloc, 0))?);
-    assert!(rt; !is_live(alloc, &steps, &lines, &given, &left(alloc, 1))?);
-    let frameless = opening(alloc)?;
-    assert!(rt; !is_live(alloc, &steps, &lines, &frameless, &left(alloc, 0))?);
-    assert!(rt; !is_live(alloc, &given, &lines, &steps, &left(alloc, 0))?);
-    let steps = taken(alloc, Step::Hold)?;
-    assert!(rt; !is_live(alloc, &steps, &lines, &given, &left(alloc, 0))?);
+    for (taken, given, waiting, live) in BOOKS {
+        let taken = steps_of(alloc, taken)?;
+        let given = steps_of(alloc, given)?;
+        let left = left(alloc, *waiting);
+        assert!(rt; is_live(alloc, &taken, &lines, &given, &left)? == *live);
+    }
     Ok(())
 }
