@@ -94,7 +94,25 @@ fn assert_published<R: Wait + Abort>(
     Ok(())
 }
 
-/// Port 1 comes up. What waits to be published is in no answer, and what is published is in the next one of each seat.
+/// Port 1 comes up. What waits to be published is in no answer.
+fn assert_waiting(
+    rt: &impl Abort,
+    board: &mut Board,
+    told: &mut Seat,
+    untold: &mut Seat,
+) -> Result<(), Fail>
+    requires empty { all_of board.old ≡ [] }
+    requires told { told.old.board ≡ board.old.board }
+    ensures board { board.new.board ≡ board.old.board }
+    ensures told { told.new.board ≡ told.old.board }
+    ensures untold { untold.new.board ≡ untold.old.board }
+{
+    append_port(board, port(1)?);
+    assert_told(rt, board, told, 0, None)?;
+    assert_answer(rt, untold, 0, None)
+}
+
+/// The same, and what is published then is in the next answer of each seat.
 fn assert_answers<R: Wait + Abort>(
     rt: &R,
     alloc: Global,
@@ -106,9 +124,7 @@ fn assert_answers<R: Wait + Abort>(
     requires told { told.old.board ≡ board.old.board }
     requires untold { untold.old.board ≡ board.old.board }
 {
-    append_port(board, port(1)?);
-    assert_told(rt, board, told, 0, None)?;
-    assert_answer(rt, untold, 0, None)?;
+    assert_waiting(rt, board, told, untold)?;
     assert_published(rt, alloc, board, 3)?;
     assert_told(rt, board, told, 3, Some(0))?;
     assert_answer(rt, untold, 3, Some(0))?;
