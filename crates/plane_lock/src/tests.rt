@@ -58,13 +58,13 @@ fn address(number: u8) -> Result<Command, Fail> {
 }
 
 /// A frame of station 10 to station 11.
-const FRAME: [u8; 16] = [2, 0, 0, 0, 0, 11, 2, 0, 0, 0, 0, 10, 0x88, 0xB5, 0, 0];
+const FRAME: &[u8] = &[2, 0, 0, 0, 0, 11, 2, 0, 0, 0, 0, 10, 0x88, 0xB5, 0, 0];
 
 /// A frame of station 12 to station 10.
-const FIRST_OF_TWELVE: [u8; 16] = [2, 0, 0, 0, 0, 10, 2, 0, 0, 0, 0, 12, 0x88, 0xB5, 0, 0];
+const FIRST_OF_TWELVE: &[u8] = &[2, 0, 0, 0, 0, 10, 2, 0, 0, 0, 0, 12, 0x88, 0xB5, 0, 0];
 
 /// A frame of station 10 to station 12.
-const ANSWER: [u8; 16] = [2, 0, 0, 0, 0, 12, 2, 0, 0, 0, 0, 10, 0x88, 0xB5, 0, 0];
+const ANSWER: &[u8] = &[2, 0, 0, 0, 0, 12, 2, 0, 0, 0, 0, 10, 0x88, 0xB5, 0, 0];
 
 fn command(alloc: Global, ran: &mut Ran, command: Command) -> Result<(), Fail>
     ensures board { ran.new.board ≡ ran.old.board }
@@ -74,14 +74,28 @@ fn command(alloc: Global, ran: &mut Ran, command: Command) -> Result<(), Fail>
     Ok(())
 }
 
+fn bring_up(alloc: Global, ran: &mut Ran, number: u8) -> Result<(), Fail>
+    ensures board { ran.new.board ≡ ran.old.board }
+    ensures setup { ran.new.setup ≡ ran.old.setup }
+{
+    command(alloc, ran, Command::PortUp(port(number)?))
+}
+
+fn add_address(alloc: Global, ran: &mut Ran, number: u8) -> Result<(), Fail>
+    ensures board { ran.new.board ≡ ran.old.board }
+    ensures setup { ran.new.setup ≡ ran.old.setup }
+{
+    command(alloc, ran, address(number)?)
+}
+
 /// The three ports come up, and that is published.
 fn begin<R: Wait>(rt: &R, alloc: Global, ran: &mut Ran) -> Result<(), Fail>
     ensures board { ran.new.board ≡ ran.old.board }
     ensures setup { ran.new.setup ≡ ran.old.setup }
 {
-    command(alloc, ran, Command::PortUp(port(1)?))?;
-    command(alloc, ran, Command::PortUp(port(2)?))?;
-    command(alloc, ran, Command::PortUp(port(3)?))?;
+    bring_up(alloc, ran, 1)?;
+    bring_up(alloc, ran, 2)?;
+    bring_up(alloc, ran, 3)?;
     ran.publish(rt, alloc)?;
     Ok(())
 }
@@ -113,8 +127,8 @@ fn emptied_queue<R: Wait>(rt: &R, alloc: Global, ran: &mut Ran) -> Result<Queues
     ensures posted { IfOk result (λ q. All (λ x. x.poster.posted ≡ updates_of ran.new) q) }
 {
     begin(rt, alloc, ran)?;
-    command(alloc, ran, address(11)?)?;
-    command(alloc, ran, address(12)?)?;
+    add_address(alloc, ran, 11)?;
+    add_address(alloc, ran, 12)?;
     queue_of(rt, alloc, ran, 2)
 }
 
@@ -227,8 +241,8 @@ fn post_frame<N: Name, R: Wait + Abort>(
 
 /// The chair's decision of the answer to station 12, at port 1.
 fn decide_answer<N: Name>(chair: &mut Chair<N>) -> Result<Seen, Fail> {
-    let head = parse(&ANSWER)?;
-    let message = classify(&ANSWER, &head);
+    let head = parse(ANSWER)?;
+    let message = classify(ANSWER, &head);
     Ok(chair.lookup(port(1)?, &head, &message).ok_or("no reading")?)
 }
 
@@ -249,12 +263,24 @@ fn use_taught_address<N: Name, R: Wait + Abort>(
 ) -> Result<(), Fail> {
     assert!(rt;
         shared
-            .enter(rt, alloc, port(3)?, &FIRST_OF_TWELVE)?
+            .enter(rt, alloc, port(3)?, FIRST_OF_TWELVE)?
             .is_none()
     );
     let point = post_frame(rt, alloc, shared, chair)?;
     let seen = decide_answer(chair)?;
     assert_taught(rt, seen, point)
+}
+
+/// A frame at a port of the chip is held and posted.
+fn use_frame<N: Name, R: Wait + Abort>(
+    rt: &R,
+    alloc: Global,
+    shared: &Shared<N>,
+    chair: &mut Chair<N>,
+) -> Result<(), Fail> {
+    assert!(rt; shared.enter(rt, alloc, port(1)?, FRAME)?.is_some());
+    let _point = post_frame(rt, alloc, shared, chair)?;
+    Ok(())
 }
 
 /// Each call but `turn` once, where it has work (the one update is applied by `turns`): a frame at a port of the chip is held, posted and reported, and then the bridge
@@ -267,8 +293,7 @@ fn use_each_call<N: Name, R: Wait + Abort>(
 ) -> Result<(), Fail>
     requires { has_chip N.board.domains 1 ≡ true }
 {
-    assert!(rt; shared.enter(rt, alloc, port(1)?, &FRAME)?.is_some());
-    let _point = post_frame(rt, alloc, shared, chair)?;
+    use_frame(rt, alloc, shared, chair)?;
     shared.report(rt, alloc, Dom::CHIP)?;
     shared.turns(rt, Dom::CHIP, 2)?;
     shared.sweep(rt, alloc, Dom::CHIP)?;
