@@ -71,6 +71,13 @@ fn takes<R: Wait>(rt: &R, taker: &mut Taker, ticket: u32) -> bool
     }
 }
 
+/// Whether the first two updates are there, and no third one.
+fn takes_two<R: Wait>(rt: &R, taker: &mut Taker) -> bool
+    ensures { taker.new.queue ≡ taker.old.queue }
+{
+    takes(rt, taker, 0) && takes(rt, taker, 1) && !takes(rt, taker, 2)
+}
+
 /// Takes until nothing is found, so all that the taker had been told of was taken. `false` after as many takes as tell nothing.
 #[tactic(auto, using(crate::proofs::Counts::sees))]
 fn takes_what_was_told<R: Wait>(rt: &R, taker: &mut Taker) -> bool
@@ -119,9 +126,7 @@ fn what_was_told_is_taken(rt: HostRuntime) -> Result<(), Fail> {
     poster.post(&rt, update(1));
     assert_eq!(rt; poster.posted(), 2);
     poster.tell(&mut taker);
-    assert!(rt; takes(&rt, &mut taker, 0));
-    assert!(rt; takes(&rt, &mut taker, 1));
-    assert!(rt; !takes(&rt, &mut taker, 2));
+    assert!(rt; takes_two(&rt, &mut taker));
     poster.post(&rt, update(2));
     assert!(rt; takes_all(&rt, &mut poster, &mut taker));
     Ok(())
