@@ -1,4 +1,3 @@
 pub mod Ends
-pub mod Parcels
 pub mod Rule
 pub mod Tally

@@ -8,10 +8,9 @@ ghost use Rattle.deferred_queue.specs.Rule.{posting, taking};
 ghost use Rattle.deferred_queue.specs.Tally.{counting, looking, posts_in, looks_in, KnownBut, Looked, Watches};
 
 use crate::NoMemory;
-use crate::parcel::Parcel;
 use crate::rule::{Both, Line, Mark, Posted, Taken, Total, TwoEnds, Whole};
 use crate::tally::{Tally, Watch};
-use br_model::change::Update;
+use br_model::change::{Parcel, Update};
 use br_model::limits::MOST_CHANGES as MOST_UPDATES;
 use std::alloc::Global;
 use std::marker::Model;

@@ -3,7 +3,6 @@
 #![tactic(auto)]
 
 mod ends;
-mod parcel;
 mod rule;
 mod tally;
 #[cfg(test)]

@@ -1,6 +1,5 @@
 //! The rule of the queue, which exists in proofs alone: what was taken, followed by what the queue holds, is what was posted.
-use crate::parcel::Parcel;
-use br_model::change::Update;
+use br_model::change::{Parcel, Update};
 use crossbeam_queue::protocol::{Join, Lesson, Outcome, Protocol, Split};
 use crossbeam_queue::{Pass, RuledArrayQueue};
 use std::collections::LinkedList;
