@@ -14,6 +14,3 @@ pub use br_model::NoMemory;
 pub use entries::{Entry, Key};
 pub use key_list::Keys;
 pub use table::Fdb;
-
-#[cfg(test)]
-mod tests;

@@ -1,4 +1,5 @@
 //! Tests by crate, and of the chip beside software.
+mod addresses;
 mod alike;
 mod driver;
 mod pipeline;

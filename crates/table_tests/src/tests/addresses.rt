@@ -1,6 +1,7 @@
-use crate::{Entry, Fdb};
+//! The forwarding database: entries by hand, their ageing at its limit, and 16,384 of them.
 use br_model::change::Kind;
 use br_model::numbers::{Mac, Port, Vid};
+use fdb_core::{Entry, Fdb};
 use std::process::Abort;
 use std::test::Fail;
 
