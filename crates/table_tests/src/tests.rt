@@ -2,5 +2,6 @@
 mod addresses;
 mod alike;
 mod driver;
+mod memberships;
 mod pipeline;
 mod soft_tables;

@@ -9,6 +9,3 @@ pub mod vid_list;
 pub use br_model::NoMemory;
 pub use table::{Absent, Exists, VlanTable};
 pub use vid_list::Vids;
-
-#[cfg(test)]
-mod tests;

@@ -1,6 +1,4 @@
 //! Memberships by hand, and the same calls in the plain table of br_model.
-use crate::VlanTable;
-use crate::joined::Joined;
 use br_model::change::Change;
 use br_model::numbers::{Port, Vid};
 use br_model::plain::table::Table;
@@ -8,6 +6,8 @@ use port_sets::Ports;
 use std::alloc::Global;
 use std::process::Abort;
 use std::test::Fail;
+use vlan_groups::VlanTable;
+use vlan_groups::joined::Joined;
 
 fn assert_ports(rt: &impl Abort, set: Ports, expected: &[u8]) {
     let mut left = set.iter();
