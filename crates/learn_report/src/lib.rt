@@ -6,6 +6,3 @@ mod waiting;
 
 pub use br_model::NoMemory;
 pub use reports::{Report, Reports};
-
-#[cfg(test)]
-mod tests;

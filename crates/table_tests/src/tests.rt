@@ -4,4 +4,5 @@ mod alike;
 mod driver;
 mod memberships;
 mod pipeline;
+mod reports;
 mod soft_tables;

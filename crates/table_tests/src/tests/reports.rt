@@ -1,5 +1,6 @@
-use crate::{Report, Reports};
+//! Reports and hits by hand.
 use br_model::numbers::{Mac, Port, Vid};
+use learn_report::{Report, Reports};
 use std::test::Fail;
 
 /// The address 02:00:00:00:00 and the number.
