@@ -32,6 +32,3 @@ pub fn remaining(ports: Ports, mark: Option<Mark>, d: &Domains) -> Ports
         None => ports,
     }
 }
-
-#[cfg(test)]
-mod tests;

@@ -2,6 +2,7 @@
 mod addresses;
 mod alike;
 mod driver;
+mod marks;
 mod memberships;
 mod pipeline;
 mod reports;

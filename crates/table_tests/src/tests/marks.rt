@@ -1,6 +1,7 @@
-use crate::{Mark, remaining};
+//! What software sends to of a marked frame, by hand.
 use br_model::domains::Domains;
 use br_model::numbers::{Dom, Port};
+use hwdom_marks::{Mark, remaining};
 use port_sets::Ports;
 use std::test::Fail;
 
