@@ -9,6 +9,3 @@ pub mod ops;
 
 pub use notice::{Attribute, Notice, Object, notice_of};
 pub use ops::{SwitchOps, deliver};
-
-#[cfg(test)]
-mod tests;

@@ -4,6 +4,7 @@ mod alike;
 mod driver;
 mod marks;
 mod memberships;
+mod notices;
 mod pipeline;
 mod reports;
 mod soft_tables;

@@ -1,14 +1,15 @@
+//! A driver that logs what it is told.
 ghost use Rattle.std.specs.Prelude.{◌≡◌, ◌<◌, ◌++◌, ◌∷◌, [], ◌↔◌, IsTrue, vec_len, vec_capacity};
 ghost use Rattle.std.specs.List.{fold};
 ghost use Rattle.br_model.specs.Table.Table.{start};
 ghost use Rattle.switchdev_notify.specs.Notices.{after_told, change_of};
 
-use crate::{Attribute, Notice, Object, SwitchOps, deliver, notice_of};
 use br_model::change::{Change, Kind};
 use br_model::domains::Edition;
 use br_model::group::Group;
 use br_model::numbers::{Mac, Port, Vid};
 use std::test::Fail;
+use switchdev_notify::{Attribute, Notice, Object, SwitchOps, deliver, notice_of};
 
 /// A driver that keeps what it was told, as far as its room goes.
 #[derive(Drop)]
