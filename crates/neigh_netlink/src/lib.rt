@@ -34,6 +34,3 @@ pub use crate::stream::Stream;
 pub use crate::table::{Listing, Table, TakeFault};
 pub use crate::writing::write;
 pub use br_model::NoMemory;
-
-#[cfg(test)]
-mod tests;

@@ -1,4 +1,4 @@
-//! Nothing but tests of the texts: commands, lines of a scenario and of a transcript.
+//! Nothing but tests of the texts: commands, lines of a scenario and of a transcript, neighbour messages.
 #![tactic(auto)]
 
 #[cfg(test)]

@@ -1,3 +1,4 @@
 //! Tests by crate.
+mod neighbours;
 mod scenario;
 mod transcript;

@@ -1,12 +1,15 @@
+//! Neighbour messages: written, read and followed.
 ghost use Rattle.std.specs.Prelude.{◌≡◌, ℕ};
 ghost use Rattle.br_model.specs.declared.change.Change.TheVariants.{AddrPut};
 ghost use Rattle.br_model.specs.declared.change.Kind.TheVariants.{Extern};
 
-use super::*;
 use br_model::change::{Change, Kind, Update};
 use br_model::domains::Domains;
 use br_model::limits::MOST_ADDRESSES;
 use br_model::numbers::{Dom, Mac, Port, Vid};
+use neigh_netlink::{
+    LineFault, Neigh, Stream, Table, TakeFault, append_line, read, says_end, write,
+};
 use std::alloc::Global;
 use std::process::Abort;
 use std::test::Fail;
