@@ -5,8 +5,6 @@ pub mod lines;
 pub mod output;
 pub mod sinks;
 pub mod sources;
-#[cfg(test)]
-mod tests;
 pub mod whole;
 
 /// An allocation was refused.

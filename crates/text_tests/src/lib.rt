@@ -1,4 +1,5 @@
-//! Nothing but tests of the texts: commands, lines of a scenario and of a transcript, neighbour messages.
+//! Nothing but tests of the texts: commands, lines of a scenario and of a transcript, neighbour messages; and of how bytes and lines
+//! are transferred.
 #![tactic(auto)]
 
 #[cfg(test)]

@@ -2,3 +2,4 @@
 mod neighbours;
 mod scenario;
 mod transcript;
+mod transfers;

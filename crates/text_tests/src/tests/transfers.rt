@@ -1,9 +1,9 @@
 //! Texts and faults by table, and pieces over the borders of the buffer.
-use crate::lines::{Got, LineFault, LineReader};
-use crate::output::Output;
-use crate::sinks::{MemSink, StdSink, put};
-use crate::sources::{MemSource, Source, StdSource};
-use crate::whole::{Stop, take_all};
+use run_io::lines::{Got, LineFault, LineReader};
+use run_io::output::Output;
+use run_io::sinks::{MemSink, StdSink, put};
+use run_io::sources::{MemSource, Source, StdSource};
+use run_io::whole::{Stop, take_all};
 use std::alloc::Global;
 use std::process::Abort;
 use std::test::Fail;
