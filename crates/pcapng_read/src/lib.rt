@@ -23,6 +23,3 @@ mod section;
 pub use crate::blocks::Blocks;
 pub use crate::fault::CapFault;
 pub use br_model::capture::{CapKind, Packet};
-
-#[cfg(test)]
-mod tests;

@@ -1,4 +1,5 @@
 //! Tests by crate.
+mod captures;
 mod neighbours;
 mod scenario;
 mod transcript;

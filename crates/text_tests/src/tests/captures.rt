@@ -1,4 +1,5 @@
-use crate::{Blocks, CapFault, CapKind, Packet};
+//! Packets of captures, and faults in them.
+use pcapng_read::{Blocks, CapFault, CapKind, Packet};
 use std::alloc::{AllocError, Global};
 use std::process::Abort;
 use std::test::Fail;
