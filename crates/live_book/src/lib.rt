@@ -12,8 +12,6 @@ mod live;
 mod parts;
 mod published;
 mod same;
-#[cfg(test)]
-mod tests;
 
 pub use br_model::NoMemory;
 pub use drained::Remains;

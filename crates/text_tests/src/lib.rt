@@ -1,5 +1,5 @@
-//! Nothing but tests of the texts: commands, lines of a scenario and of a transcript, neighbour messages, captures; and of how bytes and lines
-//! are transferred.
+//! Nothing but tests of what a run reads and writes: commands, lines of a scenario and of a transcript, neighbour messages, captures,
+//! the book of a live run; and of how bytes and lines are transferred.
 #![tactic(auto)]
 
 #[cfg(test)]

@@ -1,4 +1,5 @@
 //! Tests by crate.
+mod books;
 mod captures;
 mod neighbours;
 mod scenario;

@@ -1,10 +1,10 @@
 //! A book of two workers, and others that differ from it.
-use crate::{Remains, is_live};
 use br_model::bytes::Bytes;
 use br_model::numbers::{Dom, Port};
 use br_model::steps::{Command, Step};
 use br_model::transcript::Line;
 use lists::Items;
+use live_book::{Remains, is_live};
 use std::alloc::Global;
 use std::test::Fail;
 use transcript_lines::Lines;
