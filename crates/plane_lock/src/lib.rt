@@ -8,8 +8,6 @@ mod locked;
 mod queues;
 mod ran;
 mod shared;
-#[cfg(test)]
-mod tests;
 
 pub use br_model::NoMemory;
 pub use chair::Chair;

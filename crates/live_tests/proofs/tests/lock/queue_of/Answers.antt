@@ -6,7 +6,7 @@ use Rattle.br_model.specs.Table.Change.{updates}
 use Rattle.plane_lock.specs.declared.queues.Queue.{Queue}
 use Rattle.plane_lock.specs.Posted.{updates_of}
 use Rattle.plane_lock.proofs.Settling.{updates-there}
-use Rattle.plane_lock.proofs.tests.queue_of.Goals as goal
+use Rattle.live_tests.proofs.tests.lock.queue_of.Goals as goal
 
 -- nothing was posted yet
 pub post_updates-requires : goal.post_updates-requires

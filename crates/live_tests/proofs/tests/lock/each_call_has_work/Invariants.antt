@@ -1,4 +1,4 @@
-use Rattle.plane_lock.proofs.tests.each_call_has_work.Given as goal
+use Rattle.live_tests.proofs.tests.lock.each_call_has_work.Given as goal
 
 -- the board that was just made
 abbrev pub ghosts-use_locks : goal.ghosts-use_locks

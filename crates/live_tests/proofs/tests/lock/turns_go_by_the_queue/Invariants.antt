@@ -1,4 +1,4 @@
-use Rattle.plane_lock.proofs.tests.turns_go_by_the_queue.Given as goal
+use Rattle.live_tests.proofs.tests.lock.turns_go_by_the_queue.Given as goal
 
 -- the board that was just made
 abbrev pub ghosts-use_queue : goal.ghosts-use_queue

@@ -1,0 +1,5 @@
+//! Nothing but tests of the plane's lock.
+#![tactic(auto)]
+
+#[cfg(test)]
+mod tests;

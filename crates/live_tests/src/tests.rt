@@ -1,0 +1,2 @@
+//! Tests of the lock.
+mod lock;
