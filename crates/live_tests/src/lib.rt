@@ -1,4 +1,4 @@
-//! Nothing but tests of the plane's lock.
+//! Nothing but tests of the plane's lock and of live runs.
 #![tactic(auto)]
 
 #[cfg(test)]

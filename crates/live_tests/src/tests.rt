@@ -1,2 +1,4 @@
-//! Tests of the lock.
+//! Tests of the lock, and of runs on one thread and by workers.
+mod alone;
 mod lock;
+mod workers;

@@ -10,10 +10,6 @@ mod queues;
 mod remains;
 mod run;
 mod stop;
-#[cfg(test)]
-mod tests;
-#[cfg(test)]
-mod worker_tests;
 mod workers;
 
 pub use alone::{Taken, run_alone, take_alone};

@@ -4,13 +4,13 @@ ghost use Rattle.std.specs.List.{list_all};
 ghost use Rattle.br_model.specs.Table.Domains.{chip_domains};
 ghost use Rattle.br_model.specs.Text.LineForms.{comes_by_line};
 
-use crate::run_alone;
 use br_model::bytes::Bytes;
 use br_model::domains::Domains;
 use br_model::numbers::{Dom, Mac, Port};
 use br_model::steps::{Command, Step};
 use br_model::transcript::Line;
 use live_book::same_step;
+use live_workers::run_alone;
 use std::alloc::Global;
 use std::process::Abort;
 use std::sync::Wait;

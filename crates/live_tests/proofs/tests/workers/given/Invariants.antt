@@ -1,7 +1,7 @@
 use Rattle.std.proofs.Common.{◌≡◌, [], ◌∷◌, true, false}
 use Rattle.std.specs.List.{list_all}
 use Rattle.br_model.specs.Text.LineForms.{comes_by_line}
-use Rattle.live_workers.proofs.worker_tests.given.Given as goal
+use Rattle.live_tests.proofs.tests.workers.given.Given as goal
 
 -- a line gives each of them
 abbrev pub invariant-loop : goal.invariant-loop

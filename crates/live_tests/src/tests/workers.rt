@@ -4,12 +4,12 @@ ghost use Rattle.std.specs.List.{list_all};
 ghost use Rattle.br_model.specs.Table.Domains.{chip_domains};
 ghost use Rattle.br_model.specs.Text.LineForms.{comes_by_line};
 
-use crate::take_steps;
-use crate::tests::{frame, port};
+use super::alone::{frame, port};
 use br_model::domains::Domains;
 use br_model::numbers::{Dom, Mac};
 use br_model::steps::{Command, Step};
 use br_model::transcript::Line;
+use live_workers::take_steps;
 use port_workers::{Gate, Open};
 use std::alloc::Global;
 use std::sync::Wait;
