@@ -279,8 +279,8 @@ fn use_frame<N: Name, R: Wait + Abort>(
     Ok(())
 }
 
-/// Each call but `turn` once, where it has work (the one update is applied by `turns`): a frame at a port of the chip is held, posted and reported, and then the bridge
-/// forgets its station. Then a frame of a new station is posted.
+/// Each call but `lock`, `accept` and `turn`, where it has work (the one update is applied by `turns`): a frame at a port of the chip is
+/// held, posted and reported, and then the bridge forgets its station. Then a frame of a new station is posted.
 fn use_each_call<N: Name, R: Wait + Abort>(
     rt: &R,
     alloc: Global,
