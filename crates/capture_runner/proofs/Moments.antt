@@ -59,20 +59,8 @@ use Rattle.br_model.proofs.SnoopSteps.{snoops-keeps}
 -- what a reaction leaves of the moment
 
 keeps_up-now : (k : Control) (c : Change) → (keeps_up k c).now ≡ k.now
-keeps_up-now k (changes.PortUp port) = refl
-keeps_up-now k (changes.PortDown port) = refl
-keeps_up-now k (changes.SetFlags port flags) = refl
-keeps_up-now k (changes.SetState port state) = refl
-keeps_up-now k (changes.VlanAdd port vid untagged pvid) = refl
-keeps_up-now k (changes.VlanDel port vid) = refl
-keeps_up-now k (changes.GroupJoin port vid group) = refl
-keeps_up-now k (changes.GroupPart port vid group) = refl
-keeps_up-now k (changes.Router port on) = refl
-keeps_up-now k (changes.Querier six on) = refl
-keeps_up-now k (changes.Snoop on) = refl
-keeps_up-now k (changes.Stp on) = refl
-keeps_up-now k (changes.AddrPut vid mac port kind) = refl
 keeps_up-now k (changes.AddrDel vid mac) = refl
+keeps_up-now k c = refl
 
 sets-now : (k : Control) (c : Command) → (sets k c).now ≡ k.now
 sets-now k (commands.Ageing seconds) = refl
