@@ -54,6 +54,7 @@ pub mod RecordsFit
 pub mod Refusals
 pub mod Rows
 pub mod Running
+pub mod SameFrames
 pub mod SameSteps
 pub mod SnoopRows
 pub mod SnoopSteps

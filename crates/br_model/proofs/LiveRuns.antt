@@ -1,20 +1,20 @@
 -- The shortest first part of a live run is as good as any.
-use Rattle.std.proofs.Common.{◌≡◌, ℕ, ◌==◌, Bool, true, false, not, ◌&&◌, ◌||◌, ◌⊎◌, cond, if◌then◌else◌, List, [], ◌∷◌, ◌++◌, length, Option, None, Some, IfSome, refl, sym, ◌∙◌, ap, subst, arith, nat_lt, inl, inr, true≢false}
+use Rattle.std.proofs.Common.{◌≡◌, ℕ, Bool, true, false, not, ◌&&◌, ◌||◌, ◌⊎◌, cond, if◌then◌else◌, List, [], ◌∷◌, ◌++◌, length, Option, None, Some, IfSome, refl, sym, ◌∙◌, ap, subst, arith, nat_lt, inl, inr, true≢false}
 use Rattle.std.specs.Cmp.{first_so, second_so}
 use Rattle.std.specs.List.{AllByRecursion, filter, fold, list_all}
-use Rattle.std.proofs.lemmas.List.Elements.{filter-append}
 use Rattle.std.proofs.lemmas.List.Sums.{fold-append}
 use Rattle.br_model.specs.declared.steps.Step.{Step}
 use Rattle.br_model.specs.declared.steps.Step.TheVariants.{Rx, Cmd, Now, Serve, Hold, Post, Turn, Report, Sweep, Publish}
 use Rattle.br_model.specs.Plane.Runs.{run, then_step}
 use Rattle.br_model.specs.Plane.Steps.{world_step}
 use Rattle.br_model.specs.Plane.World.{World, Stepped, first_world}
-use Rattle.br_model.specs.Program.LiveRun.{Parts, accepts_changes, begins_with_publish, ends_with_publish, frames_at, from_frame, is_drained, is_frame_at, is_live_by, is_live_run, is_empty, is_ordered, is_publish, may_drain, parts_at, publishes_at_once, same_frames, same_frames_at, same_order, until_frame, with_first}
+use Rattle.br_model.specs.Program.LiveRun.{Parts, accepts_changes, begins_with_publish, ends_with_publish, frames_at, from_frame, is_drained, is_frame_at, is_live_by, is_live_run, is_ordered, is_publish, may_drain, parts_at, publishes_at_once, same_frames, same_order, until_frame, with_first}
 use Rattle.br_model.specs.Program.Runs.{setup_of}
-use Rattle.br_model.specs.Program.SameSteps.{same_step, same_steps}
+use Rattle.br_model.specs.Program.SameSteps.{same_step}
 use Rattle.br_model.specs.Table.Setup.{Setup}
 use Rattle.br_model.specs.Text.Scenario.{Scenario}
 use Rattle.br_model.specs.Theorems.LiveRuns.{Becomes, Empty, Kept, Taken, IsLiveRun}
+use Rattle.br_model.proofs.SameFrames.{both, frames_in, frames_same}
 use Rattle.br_model.proofs.SameSteps.{step_decides, steps_decide}
 
 -- publications
@@ -141,74 +141,6 @@ find (s ∷ first) later (o ∷ opening) b = elim (inverse b) as (λ _. Found (s
   | inl h ↦ matched s o first opening later ((step_decides s o).1 h.0) h.1 (find first later)
   | inr h ↦ skipped s o first opening later (same_step s o) refl h.0 h.1 (find first later)
 ]
-
--- frames and other steps of the scenario
-
-both_none : (xs ys : List Step) → is_empty (xs ++ ys) ≡ true → (xs ≡ []) × (ys ≡ [])
-both_none [] [] h = (refl, refl)
-both_none [] (y ∷ ys) h = absurd (cc)
-both_none (x ∷ xs) ys h = absurd (cc)
-
-port_is : (p q : ℕ) → (p == q) ≡ true → p ≡ q
-port_is p q h = grind arith
-
-at_port : (q : ℕ) (xs ys : List Step) (s : Step) → is_frame_at q s ≡ true → same_frames_at xs ys s ≡ true → same_steps (frames_at q xs) (frames_at q ys) ≡ true
-at_port q xs ys (Rx port bytes) e h = subst (λ (p : ℕ). same_steps (frames_at p xs) (frames_at p ys) ≡ true) (port_is port q e) h
-at_port q xs ys (Cmd command) e h = absurd (cc)
-at_port q xs ys (Now moment) e h = absurd (cc)
-at_port q xs ys Serve e h = absurd (cc)
-at_port q xs ys Hold e h = absurd (cc)
-at_port q xs ys (Post id point) e h = absurd (cc)
-at_port q xs ys (Turn dom) e h = absurd (cc)
-at_port q xs ys (Report dom) e h = absurd (cc)
-at_port q xs ys (Sweep dom) e h = absurd (cc)
-at_port q xs ys Publish e h = absurd (cc)
-
-module _ (q : ℕ) (xs ys : List Step) where
-  abbrev Same : Type 0
-  Same = same_steps (frames_at q xs) (frames_at q ys) ≡ true
-
-  by_step : (s : Step) (steps : List Step) (b : Bool) → is_frame_at q s ≡ b → same_frames_at xs ys s ≡ true → is_empty (cond b (s ∷ frames_at q steps) (frames_at q steps)) ≡ false
-      → (is_empty (frames_at q steps) ≡ false → Same) → Same
-  by_step s steps true e same h later = at_port q xs ys s e same
-  by_step s steps false e same h later = later h
-
-  -- one of these is a frame at the port
-  at_some : (steps : List Step) → list_all (same_frames_at xs ys) steps ≡ true → is_empty (frames_at q steps) ≡ false → Same
-  at_some [] all h = absurd (cc)
-  at_some (s ∷ steps) all h =
-      by_step s steps (is_frame_at q s) refl (first_so (same_frames_at xs ys s) (list_all (same_frames_at xs ys) steps) all) h
-      (at_some steps (second_so (same_frames_at xs ys s) (list_all (same_frames_at xs ys) steps) all))
-
-  by_frames : (b : Bool) → is_empty (frames_at q (xs ++ ys)) ≡ b → same_frames xs ys ≡ true → frames_at q xs ≡ frames_at q ys
-  by_frames true e h =
-      let none = both_none (frames_at q xs) (frames_at q ys) (ap is_empty (sym (filter-append (is_frame_at q) xs ys)) ∙ e) in none.0 ∙ sym none.1
-  by_frames false e h = (steps_decide (frames_at q xs) (frames_at q ys)).0 (at_some (xs ++ ys) h e)
-
-  frames_same : same_frames xs ys ≡ true → frames_at q xs ≡ frames_at q ys
-  frames_same h = by_frames (is_empty (frames_at q (xs ++ ys))) refl h
-
--- and the other way round
-
-frames_at_step : (xs ys : List Step) (s : Step) → ((q : ℕ) → frames_at q xs ≡ frames_at q ys) → same_frames_at xs ys s ≡ true
-frames_at_step xs ys (Rx port bytes) h = (steps_decide (frames_at port xs) (frames_at port ys)).1 (h port)
-frames_at_step xs ys (Cmd command) h = refl
-frames_at_step xs ys (Now moment) h = refl
-frames_at_step xs ys Serve h = refl
-frames_at_step xs ys Hold h = refl
-frames_at_step xs ys (Post id point) h = refl
-frames_at_step xs ys (Turn dom) h = refl
-frames_at_step xs ys (Report dom) h = refl
-frames_at_step xs ys (Sweep dom) h = refl
-frames_at_step xs ys Publish h = refl
-
-both : (b c : Bool) → b ≡ true → c ≡ true → (b && c) ≡ true
-both true c e f = f
-both false c e f = absurd (cc)
-
-frames_in : (xs ys steps : List Step) → ((q : ℕ) → frames_at q xs ≡ frames_at q ys) → list_all (same_frames_at xs ys) steps ≡ true
-frames_in xs ys [] h = refl
-frames_in xs ys (s ∷ steps) h = both (same_frames_at xs ys s) (list_all (same_frames_at xs ys) steps) (frames_at_step xs ys s h) (frames_in xs ys steps h)
 
 -- publications add nothing
 
