@@ -3,6 +3,7 @@ pub mod ApplyingLaws
 pub mod BpduFacts
 pub mod CaptureRows
 pub mod CheckRows
+pub mod ChipLists
 pub mod ChipRows
 pub mod CommandRows
 pub mod Completing

@@ -33,14 +33,14 @@ use Rattle.plane_core.specs.Chips.{ChipState, IsChip, IsPlace, chips_of, state_i
 use Rattle.plane_core.specs.Sides.{AreSides, Reacted, SidesState}
 use Rattle.plane_parts.specs.Places.{places}
 use Rattle.plane_parts.proofs.Placing.{count}
-use Rattle.plane_core.proofs.ChipLists.{apart, apart-chips, chip-found, not-software, put-place, some-found}
+use Rattle.br_model.proofs.ChipLists.{apart, apart-chips, chip-found, not-software, put-place, some-found}
 
 -- what is there for the definitions is there for the states
 pub there_at : (states : List ChipState) (chips : List Chip) (dom : ℕ) → chips_of states ≡ chips → is_some (chip_in chips dom) ≡ true → is_some (state_in states dom) ≡ true
-there_at states chips dom are some = sym (some-found states dom) ∙ ap (λ (cs : List Chip). is_some (chip_in cs dom)) are ∙ some
+there_at states chips dom are some = sym (some-found (λ (s : ChipState). s.chip) states dom) ∙ ap (λ (cs : List Chip). is_some (chip_in cs dom)) are ∙ some
 
 pub found_at : (states : List ChipState) (chips : List Chip) (dom : ℕ) (c : ChipState) → chips_of states ≡ chips → state_in states dom ≡ Some c → chip_in chips dom ≡ Some c.chip
-found_at states chips dom c are found = ap (λ (cs : List Chip). chip_in cs dom) (sym are) ∙ chip-found states dom ∙ ap (option_map (λ (s : ChipState). s.chip)) found
+found_at states chips dom c are found = ap (λ (cs : List Chip). chip_in cs dom) (sym are) ∙ chip-found (λ (s : ChipState). s.chip) states dom ∙ ap (option_map (λ (s : ChipState). s.chip)) found
 
 pub some_is : {X : Type 0} (o : Option X) → is_some o ≡ true → (x : X) × (o ≡ Some x)
 some_is None e = absurd (cc)
@@ -136,7 +136,7 @@ module _ (b : Controlled) (states : List ChipState) (noted : List ℕ) (board : 
   chip_here = subst (IsChip b.setup.domains b.history) (get_or_from_slice_get states place old old here) (are.follows.each place old (slice_get_within states place old here))
 
   pub put_here : new.chip.dom ≡ old.chip.dom → chips_of (set states place new) ≡ put_chip (chips_of states) new.chip
-  put_here own = put-place states place old new (ap apart are.follows.doms ∙ apart-chips b.setup.domains) here own
+  put_here own = put-place (λ (s : ChipState). s.chip) states place old new (ap apart are.follows.doms ∙ apart-chips b.setup.domains) here own
 
   pub sides_with : new.chip.dom ≡ old.chip.dom → IsChip b.setup.domains b.history new → AreSides b (set states place new) noted board
   sides_with own k = record {

@@ -4,7 +4,6 @@ pub mod Following
 pub mod Noting
 pub mod Arranged
 pub mod Sweeping
-pub mod ChipLists
 pub mod Reacting
 pub mod Changing
 pub mod Stepping

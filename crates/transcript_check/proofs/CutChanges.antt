@@ -28,15 +28,15 @@ use Rattle.forward_rules.specs.Decided.{Decides}
 use Rattle.transcript_check.specs.Cuts.{AreCuts, Changed, CutState, IsCut, KeepsTable, chips_of, noted, state_in, turned}
 use Rattle.transcript_check.specs.Points.{PointState}
 use Rattle.transcript_check.specs.Sides.{AreSides, SidesState, table_of}
-use Rattle.transcript_check.proofs.CutLists.{apart, apart-chips, chip-found, put-place, some-found}
+use Rattle.br_model.proofs.ChipLists.{apart, apart-chips, chip-found, put-place, some-found}
 use Rattle.transcript_check.proofs.Noting.{kept_note}
 
 -- what is there for the definitions is there for the states
 pub there_at : (states : List CutState) (chips : List Chip) (dom : ℕ) → chips_of states ≡ chips → is_some (chip_in chips dom) ≡ true → is_some (state_in states dom) ≡ true
-there_at states chips dom are some = sym (some-found states dom) ∙ ap (λ (cs : List Chip). is_some (chip_in cs dom)) are ∙ some
+there_at states chips dom are some = sym (some-found (λ (s : CutState). s.chip) states dom) ∙ ap (λ (cs : List Chip). is_some (chip_in cs dom)) are ∙ some
 
 pub found_at : (states : List CutState) (chips : List Chip) (dom : ℕ) (c : CutState) → chips_of states ≡ chips → state_in states dom ≡ Some c → chip_in chips dom ≡ Some c.chip
-found_at states chips dom c are found = ap (λ (cs : List Chip). chip_in cs dom) (sym are) ∙ chip-found states dom ∙ ap (option_map (λ (s : CutState). s.chip)) found
+found_at states chips dom c are found = ap (λ (cs : List Chip). chip_in cs dom) (sym are) ∙ chip-found (λ (s : CutState). s.chip) states dom ∙ ap (option_map (λ (s : CutState). s.chip)) found
 
 pub some_is : {X : Type 0} (o : Option X) → is_some o ≡ true → (x : X) × (o ≡ Some x)
 some_is None e = absurd (cc)
@@ -93,7 +93,7 @@ module _ (domains : Domains) (H : List Change) (old new : List CutState) (dom : 
   was_cut = subst (IsCut domains.edition H) (get_or_from_slice_get old ch.place ch.was ch.was ch.at) (are.each ch.place ch.was (slice_get_within old ch.place ch.was ch.at))
 
   put_chips : ch.now.chip.dom ≡ ch.was.chip.dom → chips_of new ≡ put_chip (chips_of old) ch.now.chip
-  put_chips own = ap chips_of ch.put ∙ put-place old ch.place ch.was ch.now (ap apart are.doms ∙ apart-chips domains) ch.at own
+  put_chips own = ap chips_of ch.put ∙ put-place (λ (s : CutState). s.chip) old ch.place ch.was ch.now (ap apart are.doms ∙ apart-chips domains) ch.at own
 
   pub cuts_with : ch.now.chip.dom ≡ ch.was.chip.dom → IsCut domains.edition H ch.now → AreCuts domains H new
   cuts_with own k = subst (AreCuts domains H) (sym ch.put) (record {

@@ -2,7 +2,6 @@ pub mod Cutting
 pub mod Passing
 pub mod CutSteps
 pub mod Noting
-pub mod CutLists
 pub mod Reacting
 pub mod CutChanges
 pub mod Turning

@@ -2,7 +2,7 @@ use Rattle.std.proofs.Common.{List, [], sym, subst, ◌∙◌}
 use Rattle.std.proofs.lemmas.List.Elements.{All-push}
 use Rattle.std.specs.List.{All}
 use Rattle.plane_core.specs.Chips.{ChipState, IsChip}
-use Rattle.plane_core.proofs.ChipLists.{not-software}
+use Rattle.br_model.proofs.ChipLists.{not-software}
 use Rattle.plane_core.proofs.chips.add.Goals as goal
 
 pub make-requires : goal.make-requires

@@ -1,7 +1,7 @@
 use Rattle.std.proofs.Common.{◌≡◌, List, drop, Some, sym, ap, ◌∙◌, subst, arith}
 use Rattle.std.specs.Prelude.{◌==◌}
 use Rattle.plane_core.specs.Chips.{ChipState, IsPlace, state_in}
-use Rattle.plane_core.proofs.ChipLists.{found-here}
+use Rattle.br_model.proofs.ChipLists.{found-here}
 use Rattle.plane_core.proofs.chips.Chips.find.Goals as goal
 
 pub returns-then-eq : goal.returns-then-eq
@@ -9,7 +9,7 @@ returns-then-eq c =
     let place = c.loop-place.place in
     let d = c.args.d in
     subst (λ (xs : List ChipState). IsPlace xs d (Some place)) c.self.view_is
-    (found-here c.self.inside.chips.items d place c.index.result.now
+    (found-here (λ (s : ChipState). s.chip) c.self.inside.chips.items d place c.index.result.now
     (subst (λ (xs : List ChipState). state_in (drop place xs) d ≡ state_in xs d) (sym c.self.view_is) c.loop-place.invariant)
     (omega (arith, c.loop-place-test.true, c.len-place-end.ensures)) (sym c.index.ensures)
     (sym (ap (λ n. n == d) c.dom.ensures) ∙ sym c.eq.ensures ∙ c.if-eq.true))

@@ -3,7 +3,7 @@ use Rattle.std.proofs.Math.Seq.{map-set_same}
 use Rattle.std.proofs.lemmas.List.{length-map}
 use Rattle.std.proofs.lemmas.List.Elements.{AllWithin-more_set}
 use Rattle.plane_core.specs.Chips.{AreChips, ChipState, IsChip}
-use Rattle.plane_core.proofs.ChipLists.{rest-set, same-rest}
+use Rattle.br_model.proofs.ChipLists.{rest-set, same-rest}
 use Rattle.plane_core.proofs.chips.Chips.follow.Goals as goal
 
 pub follow-requires-clause-stands : goal.follow-requires-clause-stands

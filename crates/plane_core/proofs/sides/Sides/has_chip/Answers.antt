@@ -1,9 +1,10 @@
 use Rattle.std.proofs.Common.{sym, ap, ◌∙◌}
 use Rattle.std.specs.Prelude.{is_some}
 use Rattle.br_model.specs.Plane.Chip.{chip_in}
+use Rattle.plane_core.specs.Chips.{ChipState}
 use Rattle.plane_core.specs.Sides.{SidesState}
-use Rattle.plane_core.proofs.ChipLists.{some-found}
+use Rattle.br_model.proofs.ChipLists.{some-found}
 use Rattle.plane_core.proofs.sides.Sides.has_chip.Goals as goal
 
 pub returns : goal.returns
-returns c = c.has.ensures ∙ sym (some-found c.self.inside.chips c.args.d) ∙ ap (λ (s : SidesState). is_some (chip_in s.chips c.args.d)) c.self.view_is
+returns c = c.has.ensures ∙ sym (some-found (λ (s : ChipState). s.chip) c.self.inside.chips c.args.d) ∙ ap (λ (s : SidesState). is_some (chip_in s.chips c.args.d)) c.self.view_is

@@ -4,7 +4,7 @@ use Rattle.br_model.specs.Plane.Chip.{Chip}
 use Rattle.br_model.specs.Table.Cut.{deferred_count}
 use Rattle.plane_core.specs.Chips.{ChipState}
 use Rattle.plane_core.specs.Sides.{SidesState}
-use Rattle.plane_core.proofs.ChipLists.{sum-chips}
+use Rattle.br_model.proofs.ChipLists.{sum-chips}
 use Rattle.plane_core.proofs.Changing.{counted}
 use Rattle.plane_core.proofs.sides.Sides.pending_of_all.Goals as goal
 
@@ -15,5 +15,5 @@ pub returns : goal.returns
 returns c =
     c.pending.ensures
     ∙ ap (λ (n : ℕ). sum_by (λ (s : ChipState). n - s.chip.count) c.self.inside.chips) (c.len.ensures.value ∙ counted c.self.inside.bridge c.self.inside.updates c.self.invariant.places)
-    ∙ sum-chips (λ (x : Chip). deferred_count c.self.inside.bridge.setup.domains.edition c.self.inside.bridge.history - x.count) c.self.inside.chips
+    ∙ sum-chips (λ (s : ChipState). s.chip) (λ (x : Chip). deferred_count c.self.inside.bridge.setup.domains.edition c.self.inside.bridge.history - x.count) c.self.inside.chips
     ∙ ap (λ (s : SidesState). sum_by (λ (x : Chip). deferred_count s.setup.domains.edition s.history - x.count) s.chips) c.self.view_is

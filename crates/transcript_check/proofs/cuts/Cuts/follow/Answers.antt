@@ -4,7 +4,7 @@ use Rattle.std.proofs.lemmas.List.{length-map}
 use Rattle.std.proofs.lemmas.List.Elements.{AllWithin-more_set}
 use Rattle.br_model.specs.declared.domains.Edition.{Edition}
 use Rattle.transcript_check.specs.Cuts.{AreCuts, CutState, IsCut}
-use Rattle.transcript_check.proofs.CutLists.{rest-set, same-rest}
+use Rattle.br_model.proofs.ChipLists.{rest-set, same-rest}
 use Rattle.transcript_check.proofs.cuts.Cuts.follow.Goals as goal
 
 pub follow-requires-clause-cut : goal.follow-requires-clause-cut

@@ -3,8 +3,8 @@ use Rattle.std.proofs.lemmas.List.{take_all}
 use Rattle.std.specs.List.{filter}
 use Rattle.br_model.specs.Plane.Chip.{first_chip, first_chips}
 use Rattle.br_model.specs.Table.Domains.{has_chip}
-use Rattle.transcript_check.specs.Cuts.{chips_of}
-use Rattle.transcript_check.proofs.CutLists.{doms-first, existing}
+use Rattle.transcript_check.specs.Cuts.{CutState, chips_of}
+use Rattle.br_model.proofs.ChipLists.{doms-first, existing}
 use Rattle.transcript_check.proofs.cuts.Cuts.make.Goals as goal
 
 -- all of them
@@ -14,7 +14,7 @@ whole c = c.loop-number.invariant.2
     ∙ ap (map first_chip) (existing c.args.d.now)
 
 pub returns-clause-stand : goal.returns-clause-stand
-returns-clause-stand c = record { each = c.loop-number.invariant.1; doms = doms-first c.loop-number.cuts.items _ (whole c) }
+returns-clause-stand c = record { each = c.loop-number.invariant.1; doms = doms-first (λ (s : CutState). s.chip) c.loop-number.cuts.items _ (whole c) }
 
 pub returns-clause-first : goal.returns-clause-first
 returns-clause-first c = whole c

@@ -1,9 +1,10 @@
 use Rattle.std.proofs.Common.{sym, ap, ◌∙◌}
 use Rattle.std.specs.Prelude.{is_some}
 use Rattle.br_model.specs.Plane.Chip.{chip_in}
+use Rattle.transcript_check.specs.Cuts.{CutState}
 use Rattle.transcript_check.specs.Sides.{SidesState}
-use Rattle.transcript_check.proofs.CutLists.{some-found}
+use Rattle.br_model.proofs.ChipLists.{some-found}
 use Rattle.transcript_check.proofs.sides.Sides.has_chip.Goals as goal
 
 pub returns : goal.returns
-returns c = c.has.ensures ∙ sym (some-found c.self.inside.cuts c.args.d) ∙ ap (λ (s : SidesState). is_some (chip_in s.chips c.args.d)) c.self.view_is
+returns c = c.has.ensures ∙ sym (some-found (λ (s : CutState). s.chip) c.self.inside.cuts c.args.d) ∙ ap (λ (s : SidesState). is_some (chip_in s.chips c.args.d)) c.self.view_is

@@ -5,7 +5,7 @@ use Rattle.br_model.specs.Table.Cut.{deferred_count}
 use Rattle.plane_parts.proofs.Placing.{count}
 use Rattle.transcript_check.specs.Cuts.{CutState}
 use Rattle.transcript_check.specs.Sides.{SidesState}
-use Rattle.transcript_check.proofs.CutLists.{sum-chips}
+use Rattle.br_model.proofs.ChipLists.{sum-chips}
 use Rattle.transcript_check.proofs.sides.Sides.pending.Goals as goal
 
 pub pending-requires-clause-applied : goal.pending-requires-clause-applied
@@ -18,5 +18,5 @@ returns c =
     let b = c.self.inside.bridge in
     c.pending.ensures
     ∙ ap (λ (n : ℕ). sum_by (λ (s : CutState). n - s.chip.count) c.self.inside.cuts) (c.len.ensures.value ∙ ap length c.self.invariant.places ∙ count b.setup.domains.edition b.history)
-    ∙ sum-chips (λ (x : Chip). deferred_count b.setup.domains.edition b.history - x.count) c.self.inside.cuts
+    ∙ sum-chips (λ (s : CutState). s.chip) (λ (x : Chip). deferred_count b.setup.domains.edition b.history - x.count) c.self.inside.cuts
     ∙ ap (λ (s : SidesState). sum_by (λ (x : Chip). deferred_count s.setup.domains.edition s.history - x.count) s.chips) c.self.view_is
