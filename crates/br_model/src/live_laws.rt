@@ -7,7 +7,7 @@ ghost use Rattle.br_model.specs.Text.Scenario.{Scenario};
 ghost use Rattle.br_model.specs.Theorems.LiveRuns.{IsLiveRun};
 ghost use Rattle.br_model.specs.Worked.LiveRuns.{judged, may_be, may_not_be, six_times, twelve_times_not, workers_written, workers_lines};
 
-/// Steps with the same numbers are the same.
+/// Steps are the same where `==` says so.
 pub fn steps_are_told_apart()
     ensures only { (a b : Step) → same_step a b ≡ true → a ≡ b }
     ensures always { (a b : Step) → a ≡ b → same_step a b ≡ true }

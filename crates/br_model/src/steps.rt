@@ -97,7 +97,7 @@ pub enum Event {
 pub type Triples = Items<(Vid, Mac, Port)>;
 
 /// A step of the world.
-#[derive(Drop)]
+#[derive(PartialEq, Eq, Drop)]
 pub enum Step {
     /// A frame enters at a port.
     Rx { port: Port, bytes: Bytes },

@@ -5,7 +5,6 @@ ghost use Rattle.br_model.specs.Program.LiveRun.{same_frames, same_order};
 ghost use Rattle.live_book.specs.Lanes.{AreHeads, AreLinks, is_in_lane};
 
 use crate::NoMemory;
-use crate::same::same_step;
 use br_model::numbers::Port;
 use br_model::steps::Step;
 use std::alloc::Global;
@@ -75,7 +74,7 @@ fn follow(later: &[Step], given: &[Step], heads: &mut [usize], links: &[usize]) 
     for step in later {
         if let Some(lane) = lane_of(step) {
             let place = heads[lane];
-            if place == given.len() || !same_step(step, &given[place]) {
+            if place == given.len() || *step != given[place] {
                 return false;
             }
             heads[lane] = links[place];

@@ -11,9 +11,7 @@ pub mod laws;
 mod live;
 mod parts;
 mod published;
-mod same;
 
 pub use br_model::NoMemory;
 pub use drained::Remains;
 pub use live::is_live;
-pub use same::same_step;

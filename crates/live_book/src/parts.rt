@@ -5,7 +5,6 @@ ghost use Rattle.std.specs.Option.{option_map};
 ghost use Rattle.br_model.specs.Program.LiveRun.{is_frame, may_drain, parts_at, ends_with_publish};
 
 use crate::kinds;
-use crate::same::same_step;
 use br_model::steps::Step;
 
 /// How many steps stand before the first frame.
@@ -31,7 +30,7 @@ pub(crate) fn first_part(opening: &[Step], steps: &[Step]) -> Option<usize>
         if taken == opening.len() {
             return Some(place);
         }
-        if same_step(&steps[place], &opening[taken]) {
+        if steps[place] == opening[taken] {
             taken += 1;
         } else if !kinds::is_publish(&steps[place]) {
             return None;

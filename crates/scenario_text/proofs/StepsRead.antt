@@ -100,7 +100,7 @@ module _ (r : Roster) where
   CommandHasLine c = has_line r.ports (Cmd c) ≡ true
 
   commands_say : (word : ℕ → Word) → AllByRecursion (SaysSo CommandHasLine word) forms.commands
-  commands_say word = (row_says CommandHasLine word forms.port_up (λ p h. one _ h), (row_says CommandHasLine word forms.port_down (λ p h. one _ h), (row_says CommandHasLine word forms.link_on (λ p h f g. two _ _ h g), (row_says CommandHasLine word forms.link_off (λ p h f g. two _ _ h g), (row_says CommandHasLine word forms.link_cost (λ p h n g. two _ _ h g), (row_says CommandHasLine word forms.link_priority (λ p h n g. two _ _ h g), (row_says CommandHasLine word forms.vlan_add (λ v h p g. two _ _ h g), (row_says CommandHasLine word forms.vlan_add_pvid (λ v h p g. two _ _ h g), (row_says CommandHasLine word forms.vlan_add_untagged (λ v h p g. two _ _ h g), (row_says CommandHasLine word forms.vlan_add_both (λ v h p g. two _ _ h g), (row_says CommandHasLine word forms.vlan_del (λ v h p g. two _ _ h g), (row_says CommandHasLine word forms.fdb_add_local (λ m h v g. two _ _ h g), (row_says CommandHasLine word forms.fdb_add_static (λ m f p g v h. three _ _ _ f g h), (row_says CommandHasLine word forms.fdb_add_extern (λ m f p g v h. three _ _ _ f g h), (row_says CommandHasLine word forms.fdb_del (λ m h v g. two _ _ h g), (row_says CommandHasLine word forms.mdb_add (λ a f p g v h. three _ _ _ f g h), (row_says CommandHasLine word forms.mdb_del (λ a f p g v h. three _ _ _ f g h), (row_says CommandHasLine word forms.stp_on refl, (row_says CommandHasLine word forms.stp_off refl, (row_says CommandHasLine word forms.stp_priority (λ n h. one _ h), (row_says CommandHasLine word forms.ageing (λ n h. one _ h), (row_says CommandHasLine word forms.snooping_on refl, (row_says CommandHasLine word forms.snooping_off refl, tt)))))))))))))))))))))))
+  commands_say word = search (row_says CommandHasLine word, one, two, three)
 
   -- lines
 

@@ -9,7 +9,6 @@ use br_model::domains::Domains;
 use br_model::numbers::{Dom, Mac, Port};
 use br_model::steps::{Command, Step};
 use br_model::transcript::Line;
-use live_book::same_step;
 use live_workers::run_alone;
 use std::alloc::Global;
 use std::process::Abort;
@@ -95,7 +94,7 @@ fn frames_are_served_at_once(rt: HostRuntime) -> Result<(), Fail> {
     let steps = taken.book.steps.as_slice();
     for place in 0..wanted.len() {
         let step = steps.get(place).ok_or("another step")?;
-        assert!(rt; same_step(step, &wanted[place]));
+        assert!(rt; *step == wanted[place]);
     }
     assert!(rt; steps.len() == wanted.len());
     let Line::End {
