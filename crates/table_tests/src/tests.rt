@@ -7,4 +7,5 @@ mod memberships;
 mod notices;
 mod pipeline;
 mod reports;
+mod sets;
 mod soft_tables;
