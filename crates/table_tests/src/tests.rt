@@ -7,5 +7,6 @@ mod memberships;
 mod notices;
 mod pipeline;
 mod reports;
+mod rows;
 mod sets;
 mod soft_tables;
