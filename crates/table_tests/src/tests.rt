@@ -9,4 +9,5 @@ mod pipeline;
 mod reports;
 mod rows;
 mod sets;
+mod snooped;
 mod soft_tables;
