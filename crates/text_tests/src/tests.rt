@@ -1,6 +1,7 @@
 //! Tests by crate.
 mod books;
 mod captures;
+mod items;
 mod neighbours;
 mod scenario;
 mod transcript;
