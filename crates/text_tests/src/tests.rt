@@ -1,4 +1,5 @@
 //! Tests by crate.
+mod arena;
 mod books;
 mod captures;
 mod items;
