@@ -1,4 +1,6 @@
 //! Tests by crate.
+mod bpdus;
 mod bridge;
+mod frames;
 mod messages;
 mod tree;
