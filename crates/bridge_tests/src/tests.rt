@@ -3,4 +3,5 @@ mod bpdus;
 mod bridge;
 mod frames;
 mod messages;
+mod querier;
 mod tree;
