@@ -2,4 +2,5 @@
 mod alone;
 mod lock;
 mod queue;
+mod seats;
 mod workers;
