@@ -3,4 +3,5 @@ mod alone;
 mod lock;
 mod queue;
 mod seats;
+mod turns;
 mod workers;
