@@ -9,6 +9,3 @@ pub mod tables;
 pub use br_model::NoMemory;
 pub use rows::{AddressRow, Control, FanRow, Flood, PortRow, VlanRow};
 pub use tables::Tables;
-
-#[cfg(test)]
-mod tests;

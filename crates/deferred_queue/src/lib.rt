@@ -5,8 +5,6 @@
 mod ends;
 mod rule;
 mod tally;
-#[cfg(test)]
-mod tests;
 
 pub use br_model::NoMemory;
 pub use br_model::limits::MOST_CHANGES as MOST_UPDATES;

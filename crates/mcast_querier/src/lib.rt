@@ -15,6 +15,3 @@ mod queries;
 pub use crate::hearing::asker;
 pub use crate::querier::{Querier, Queries};
 pub use br_model::NoMemory;
-
-#[cfg(test)]
-mod tests;

@@ -16,6 +16,3 @@ pub use crate::ended::{Ended, Memberships, Pairs};
 pub use crate::groups::Groups;
 pub use crate::mdb::Mdb;
 pub use br_model::NoMemory;
-
-#[cfg(test)]
-mod tests;

@@ -13,7 +13,7 @@ ghost use Rattle.mdb_snoop.specs.Places.{ArePorts, IsAt, IsGap, IsSound, Section
 ghost use Rattle.mdb_snoop.specs.Soonest.{soonest_member};
 
 use crate::NoMemory;
-use crate::ends::Ends;
+use crate::ends::{Ends, NoEnds};
 use crate::members::Members;
 use crate::moments::Moments;
 use br_model::group::Group;
@@ -22,10 +22,18 @@ use br_model::numbers::{Port, Vid};
 use port_sets::Ports;
 use std::alloc::Global;
 use std::cmp::Ordering;
+use std::mem::size_of;
 
 pub type Key = (Vid, Group);
 
 pub type Section<E> = (Key, Members<E>);
+
+// All that there can be takes less than 2.4 MB.
+const _: () = prove!(size_of::<Section<Moments>>() == 2160);
+
+const _: () = prove!(size_of::<Section<NoEnds>>() <= 80);
+
+const _: () = prove!(size_of::<Section<Moments>>() * MOST_PAIRS < 2_400_000);
 
 /// Which of two keys comes first.
 fn order(a: &Key, b: &Key) -> Ordering

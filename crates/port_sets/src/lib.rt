@@ -236,6 +236,3 @@ impl<const W: usize> Iterator for Members<W> {
         self.left.take_first()
     }
 }
-
-#[cfg(test)]
-mod tests;

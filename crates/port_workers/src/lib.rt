@@ -5,8 +5,6 @@ ghost use Rattle.std.specs.Prelude.{ℕ, ◌<◌, ◌≤◌};
 ghost use Rattle.std.specs.Bool.{OnFalse};
 
 mod gate;
-#[cfg(test)]
-mod tests;
 
 pub use gate::{Gate, Open};
 use std::sync::Wait;

@@ -10,8 +10,6 @@ mod law;
 mod name;
 mod rule;
 mod seat;
-#[cfg(test)]
-mod tests;
 
 pub use board::{Board, Seats};
 pub use br_model::NoMemory;

@@ -7,4 +7,7 @@ mod memberships;
 mod notices;
 mod pipeline;
 mod reports;
+mod rows;
+mod sets;
+mod snooped;
 mod soft_tables;

@@ -1,6 +1,8 @@
 //! Tests by crate.
+mod arena;
 mod books;
 mod captures;
+mod items;
 mod neighbours;
 mod scenario;
 mod transcript;

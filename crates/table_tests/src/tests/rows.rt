@@ -1,6 +1,7 @@
-use crate::rows::{AddressRow, pack_address, pack_key};
+//! The bytes of a row of the chip.
 use br_model::change::Kind;
 use br_model::numbers::{Mac, Port, Vid};
+use chip_tables::rows::{AddressRow, pack_address, pack_key};
 
 /// VLAN 1, 02:00:00:00:00:0b, port 2, static, pinned, used.
 const ROW: [u8; 9] = [0x01, 0xb0, 0, 0, 0, 0, 0x20, 0x20, 0xd0];

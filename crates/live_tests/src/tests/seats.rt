@@ -4,7 +4,6 @@ ghost use Rattle.br_model.specs.Table.Limits.{all_fit};
 ghost use Rattle.br_model.specs.Table.Table.{start};
 ghost use Rattle.table_publish.specs.Board.{all_of};
 
-use crate::{Board, Seat};
 use br_model::change::{Change, FORWARDING, Flags};
 use br_model::domains::Domains;
 use br_model::frame::{Head, McastMsg};
@@ -14,6 +13,7 @@ use std::process::Abort;
 use std::sync::Wait;
 use std::test::Fail;
 use std::thread::{Threads, join_mut};
+use table_publish::{Board, Seat};
 
 fn port(number: u8) -> Result<Port, Fail> {
     Ok(Port::new(number).ok_or("port")?)

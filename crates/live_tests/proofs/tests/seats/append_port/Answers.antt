@@ -3,7 +3,7 @@ use Rattle.br_model.specs.declared.change.Change.{Change}
 use Rattle.br_model.specs.declared.change.Change.TheVariants.{PortUp, SetState, VlanAdd}
 use Rattle.br_model.specs.Table.Limits.{AreWithin}
 use Rattle.br_model.proofs.Within.{within_of}
-use Rattle.table_publish.proofs.tests.append_port.Goals as goal
+use Rattle.live_tests.proofs.tests.seats.append_port.Goals as goal
 
 pub append-requires : goal.append-requires
 append-requires c =

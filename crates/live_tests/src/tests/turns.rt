@@ -1,4 +1,5 @@
-use crate::{Gate, Open, Task, drive};
+//! Workers that take turns at a task.
+use port_workers::{Gate, Open, Task, drive};
 use std::sync::atomic::{AtomicU64, Ordering};
 use std::sync::{Mutex, Wait};
 use std::test::Fail;

@@ -9,7 +9,7 @@ use Rattle.br_model.proofs.PlaneHistory.{fit-append}
 use Rattle.br_model.proofs.Within.{within_of}
 use Rattle.table_publish.specs.Board.{Shelf, all_of}
 use Rattle.table_publish.specs.Object.{Object, published}
-use Rattle.table_publish.proofs.tests.publish_flags.Goals as goal
+use Rattle.live_tests.proofs.tests.seats.publish_flags.Goals as goal
 
 -- a change of flags always fits
 more_fit : (h : List Change) (port flags : ℕ) → all_fit start h ≡ true → all_fit start (h ++ SetFlags port flags ∷ []) ≡ true

@@ -1,11 +1,11 @@
-//! Two threads at the two ends.
+//! Two threads at the two ends of a queue, and what a taker was told.
 ghost use Rattle.std.specs.Prelude.{◌≡◌, ◌≤◌, [], length};
 ghost use Rattle.std.specs.Bool.{OnTrue};
 ghost use Rattle.deferred_queue.specs.Tally.{posts_in};
 
-use crate::{Poster, Taker, make};
 use br_model::change::{Change, Update};
 use br_model::numbers::{Mac, Vid};
+use deferred_queue::{Poster, Taker, make};
 use std::sync::Wait;
 use std::test::Fail;
 use std::thread::join;
@@ -79,7 +79,7 @@ fn takes_two<R: Wait>(rt: &R, taker: &mut Taker) -> bool
 }
 
 /// Takes until nothing is found, so all that the taker had been told of was taken. `false` after as many takes as tell nothing.
-#[tactic(auto, using(crate::proofs::Counts::sees))]
+#[tactic(auto, using(deferred_queue::proofs::Counts::sees))]
 fn takes_what_was_told<R: Wait>(rt: &R, taker: &mut Taker) -> bool
     ensures queue { taker.new.queue ≡ taker.old.queue }
     ensures taken { OnTrue result (posts_in taker.old.past ≤ length taker.new.taken) }

@@ -1,6 +1,7 @@
-use super::*;
+//! The queries that a querier sends, when it sends them, and to whom it yields.
 use br_model::numbers::Mac;
 use ether_frames::parse;
+use mcast_querier::{Querier, asker};
 use std::process::Abort;
 use std::test::Fail;
 

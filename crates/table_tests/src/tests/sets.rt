@@ -1,6 +1,7 @@
+//! Sets of one word, of four and of five.
 ghost use Rattle.std.specs.Prelude.{◌≤◌};
 
-use crate::PortSet;
+use port_sets::PortSet;
 use std::process::Abort;
 
 fn assert_members<const W: usize>(rt: &impl Abort, set: PortSet<W>, expected: &[u8]) {

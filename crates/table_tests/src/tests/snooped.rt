@@ -1,3 +1,4 @@
+//! What snooping learned, with its ends.
 ghost use Rattle.std.specs.Prelude.{◌≡◌, IsTrue};
 ghost use Rattle.br_model.specs.Table.GroupPairs.{has_room};
 ghost use Rattle.br_model.specs.Table.Table.{Table, apply};
@@ -5,16 +6,11 @@ ghost use Rattle.br_model.specs.declared.change.Change.TheVariants.{GroupJoin, R
 ghost use Rattle.br_model.specs.Control.Ends.{keys};
 ghost use Rattle.mdb_snoop.specs.Database.{memberships};
 
-use crate::Mdb;
-use crate::ends::NoEnds;
-use crate::moments::Moments;
-use crate::sections::Section;
 use br_model::group::Group;
-use br_model::limits::MOST_PAIRS;
 use br_model::numbers::{Port, Vid};
+use mdb_snoop::Mdb;
 use port_sets::Ports;
 use std::alloc::Global;
-use std::mem::size_of;
 use std::process::Abort;
 use std::test::Fail;
 
@@ -377,12 +373,4 @@ fn room_for_pairs(rt: HostRuntime) -> Result<(), Fail> {
     assert!(rt; mdb.part(v, MANY, Port::HOST));
     assert_eq!(rt; mdb.pairs(), 1024);
     Ok(())
-}
-
-/// All that there can be takes less than 2.4 MB.
-#[test]
-fn sections_are_small(rt: HostRuntime) {
-    assert_eq!(rt; size_of::<Section<Moments>>(), 2160);
-    assert!(rt; size_of::<Section<NoEnds>>() <= 80);
-    assert!(rt; size_of::<Section<Moments>>() * MOST_PAIRS < 2_400_000);
 }
