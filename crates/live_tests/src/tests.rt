@@ -1,4 +1,4 @@
-//! Tests of the lock, and of runs on one thread and by workers.
+//! Tests of the lock, of the queue, the seats and the turns below it, and of runs on one thread and by workers.
 mod alone;
 mod lock;
 mod queue;
