@@ -1,9 +1,11 @@
 -- Calls of a reader, one after another.
-use Rattle.std.proofs.Common.{◌≡◌, ℕ, ◌+◌, ◌<◌, ◌≤◌, List, [], ◌++◌, take, drop, length, slice_range, arith, refl, sym, ap, ◌∙◌, Option, Some, append_assoc, length-append, length-drop, length-take-le, take-add, subst, None, true, false, true≢false, eq-or-lt_of_le, inl, inr, le-ltb, ne_eqb, ◌≢◌, MatchOption}
-use Rattle.std.specs.Io.KnownBytes.{Consumes}
-use Rattle.std.proofs.KnownBytes.{Consumes-trans}
-use Rattle.run_io.specs.Finding.{IsFirstFeed, WantsMore}
-use Rattle.run_io.specs.Reading.{Reading, Reads, HasNoFeed, HoldsLongLine, holds_next, max_line}
+use Rattle.std.proofs.Common.{◌≡◌, ℕ, ◌+◌, ◌<◌, ◌≤◌, List, [], ◌++◌, take, drop, length, slice_range, arith, refl, sym, ap, ◌∙◌, Option, Some, append_assoc, length-append, length-drop, length-take-le, take-add, subst, None, true, false, true≢false, eq-or-lt_of_le, inl, inr, le-ltb, ne_eqb, ◌≢◌, MatchOption, append-nil, ◌-◌}
+use Rattle.std.specs.Io.KnownBytes.{Consumes, Keeps, IsAtEnd}
+use Rattle.std.proofs.KnownBytes.{Consumes-nil, Consumes-kept, Consumes-trans, Keeps-refl}
+use Rattle.std.proofs.lemmas.List.{nil_from_length}
+use Rattle.run_io.specs.declared.lines.Span.{Span}
+use Rattle.run_io.specs.Finding.{IsFirstFeed, WantsMore, EndsThere, LineStands, FindsLine}
+use Rattle.run_io.specs.Reading.{Reading, Reads, HasNoFeed, IsEnd, HoldsLongLine, holds_next, max_line}
 use Rattle.run_io.proofs.Feeds.{feedless_prefix, feedless_shorter}
 use Rattle.run_io.proofs.Pieces.{range_grown}
 
@@ -15,6 +17,26 @@ reads_then a b c one two three handed h k = record {
   counted = omega (arith, h.counted, k.counted, length-append h.given k.given);
   limit = k.limit ∙ h.limit;
 }
+
+-- ---- nothing was read
+
+pub reads_kept : (r : Reading) (before now : Option (List ℕ)) → Keeps before now → Reads r r before now []
+reads_kept r before now kept = record {
+  given = [];
+  consumed = Consumes-kept before before now [] (Consumes-nil before) kept;
+  moved = append-nil r.held;
+  counted = omega arith;
+  limit = refl;
+}
+
+pub reads_none : (r : Reading) (left : Option (List ℕ)) → Reads r r left left []
+reads_none r left = reads_kept r left left (Keeps-refl left)
+
+-- what is held stands at the front of the room now
+pub same_at_front : (r : Reading) (xs : List ℕ) (used : ℕ) → r.held ≡ take used xs → record r { held = slice_range xs 0 used } ≡ r
+same_at_front r xs used held =
+    let whole : used - 0 ≡ used = omega arith in
+    ap (λ (l : List ℕ). record r { held = l }) (ap (λ k. take k xs) whole ∙ sym held)
 
 -- ---- more was read behind what is held
 
@@ -46,6 +68,34 @@ long_line r n h long = record {
 
 pub long_rest : (r : Reading) → HasNoFeed r.held → max_line < length r.held → HoldsLongLine r
 long_rest r h long = record { long = long; feedless = feedless_prefix (max_line + 1) r.held h }
+
+-- ---- what is held at the end
+
+pub end_of_rest : (old new : Reading) (now : Option (List ℕ)) (len : ℕ) → IsAtEnd now × (new ≡ old) → old.taken < old.limit → len ≡ length new.held → len ≡ 0 → IsEnd new now
+end_of_rest old new now len ended below is none = record {
+  none_held = nil_from_length new.held (sym is ∙ none);
+  none_left = ended.0;
+  before_limit = subst (λ (r : Reading). r.taken < r.limit) (sym ended.1) below;
+}
+
+pub ends_there : (old new : Reading) (now : Option (List ℕ)) (span : Span) → IsAtEnd now × (new ≡ old) → old.taken < old.limit → span.past ≡ length new.held → EndsThere new now span
+ends_there old new now span ended below past = record { past = past; none_left = ended.0; before_limit = subst (λ (r : Reading). r.taken < r.limit) (sym ended.1) below }
+
+-- all that is held is the last line
+pub last_line : (old new : Reading) (now : Option (List ℕ)) (span : Span) → WantsMore old → IsAtEnd now × (new ≡ old) → old.taken < old.limit → span.len ≡ length new.held → span.past ≡ length new.held
+    → span.whole ≡ false → 0 < span.len → FindsLine new now span
+last_line old new now span before ended below len past whole some =
+    let wants : WantsMore new = subst WantsMore (sym ended.1) before in record {
+      stands = record {
+        is_whole = refl;
+        prefix = rw (past, len, whole) (sym (append-nil (take (length new.held) new.held)));
+        within = omega (arith, past);
+        before = omega (arith, past, len);
+        feedless = feedless_prefix span.len new.held wants.feedless;
+        short = omega (arith, len, wants.short);
+      };
+      last = λ _. (some, ends_there old new now span ended below past);
+    }
 
 -- ---- a reader that wants more hasn't the next answer
 

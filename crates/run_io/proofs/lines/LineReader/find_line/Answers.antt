@@ -1,6 +1,41 @@
-use Rattle.std.proofs.Common.{[], ◌∙◌, arith}
-use Rattle.run_io.proofs.ReadSteps.{none_of, reads_then, wants_unread, wants_unheld}
+use Rattle.std.proofs.Common.{[], ◌<◌, refl, ◌∙◌, arith}
+use Rattle.run_io.proofs.ReadSteps.{none_of, reads_none, reads_then, end_of_rest, last_line, wants_unread, wants_unheld}
 use Rattle.run_io.proofs.lines.LineReader.find_line.Goals as goal
+
+pub loop-held-init : goal.loop-held-init
+loop-held-init g c = record {
+  reads = reads_none c.args.self.now (g.S.Source.left c.args.src.now);
+  fault = refl;
+  unread = λ _. (refl, refl);
+  later = omega arith;
+}
+
+pub returns-in_default-clause-reads : goal.returns-in_default-clause-reads
+returns-in_default-clause-reads g c = c.loop-held.invariant.reads
+
+pub returns-in-Some-clause-reads : goal.returns-in-Some-clause-reads
+returns-in-Some-clause-reads g c = c.loop-held.invariant.reads
+
+pub returns-in_err-fill-clause-reads : goal.returns-in_err-fill-clause-reads
+returns-in_err-fill-clause-reads g c = reads_then c.args.self.now c.loop-held.self c.fill.new.self _ _ _ [] c.loop-held.invariant.reads c.fill.ensures.reads
+
+pub returns-then-rest-eq0-clause-reads : goal.returns-then-rest-eq0-clause-reads
+returns-then-rest-eq0-clause-reads g c = reads_then c.args.self.now c.loop-held.self c.fill.new.self _ _ _ [] c.loop-held.invariant.reads c.fill.ensures.reads
+
+pub returns-else-rest-eq0-clause-reads : goal.returns-else-rest-eq0-clause-reads
+returns-else-rest-eq0-clause-reads g c = reads_then c.args.self.now c.loop-held.self c.fill.new.self _ _ _ [] c.loop-held.invariant.reads c.fill.ensures.reads
+
+pub returns-then-rest-eq0-clause-line : goal.returns-then-rest-eq0-clause-line
+returns-then-rest-eq0-clause-line g c =
+    let ended = c.in_ok-fill.ensures.end c.if-branch-eq0.true in
+    end_of_rest c.loop-held.self c.fill.new.self _ c.rest-rest.result.len ended c.in_ok-fill.ensures.ok c.rest-rest.ensures.len c.if-rest-eq0.true
+
+pub returns-else-rest-eq0-clause-line : goal.returns-else-rest-eq0-clause-line
+returns-else-rest-eq0-clause-line g c =
+    let wants = none_of c.in-Ok.held _ _ c.in-Ok.ensures.line c.in_default-held.not-Some in
+    let ended = c.in_ok-fill.ensures.end c.if-branch-eq0.true in
+    let some : 0 < c.rest-rest.result.len = omega (arith, c.if-rest-eq0.false) in
+    last_line c.loop-held.self c.fill.new.self _ c.rest-rest.result wants ended c.in_ok-fill.ensures.ok c.rest-rest.ensures.len c.rest-rest.ensures.past c.rest-rest.ensures.whole some
 
 pub returns-in_err-fill-clause-unread : goal.returns-in_err-fill-clause-unread
 returns-in_err-fill-clause-unread g c =
