@@ -363,12 +363,7 @@ impl World {
 
     /// Does a step that a line of a check can give. The lines of the step are added.
     #[tactic(auto, using(crate::proofs::Worlds::chip_there))]
-    pub fn step(
-        &mut self,
-        alloc: Global,
-        step: Step,
-        lines: &mut Lines,
-    ) -> Result<(), NoMemory>
+    pub fn step(&mut self, alloc: Global, step: Step, lines: &mut Lines) -> Result<(), NoMemory>
         requires world { IsWorld self.old }
         requires by_line { comes_by_line true (chip_domains self.old.setup.domains) step ≡ true }
         ensures { OnOk result (Added (Tells self.old step self.new) lines.old.lines lines.new.lines) }

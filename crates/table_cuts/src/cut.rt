@@ -192,13 +192,7 @@ impl Cut {
     }
 
     /// What the chip decides of a frame that says this to snooping.
-    pub fn decide(
-        &self,
-        port: Port,
-        head: &Head,
-        message: &McastMsg,
-        domains: &Domains,
-    ) -> Verdict
+    pub fn decide(&self, port: Port, head: &Head, message: &McastMsg, domains: &Domains) -> Verdict
         ensures { Decides domains.now self.now.table port head.now message.now result }
     {
         self.tables.decide(port, head, message, domains)

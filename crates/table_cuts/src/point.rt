@@ -65,12 +65,7 @@ impl Point {
     }
 
     /// Goes to this point.
-    pub fn go_to(
-        &mut self,
-        alloc: Global,
-        history: &[Change],
-        point: u32,
-    ) -> Result<(), NoMemory>
+    pub fn go_to(&mut self, alloc: Global, history: &[Change], point: u32) -> Result<(), NoMemory>
         requires within { point ≤ length history.now }
         requires history { AreWithin history.now }
         requires point { IsPoint history.now self.old }
