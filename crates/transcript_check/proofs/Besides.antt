@@ -18,7 +18,7 @@ use Rattle.br_model.proofs.Running.{run_none, run_push, text-append}
 use Rattle.transcript_check.specs.Besides.{IsBeside, start_of}
 use Rattle.transcript_check.specs.Comparing.{Compares, EndsThere, Standing, differs_at}
 use Rattle.transcript_check.specs.Lines.{is_whole}
-use Rattle.transcript_check.specs.Worlds.{Tells}
+use Rattle.check_world.specs.Worlds.{Tells}
 use Rattle.transcript_check.proofs.Cutting.{whole_append, whole_lines}
 use Rattle.transcript_check.proofs.Texts.{whole_text}
 

@@ -1,13 +1,5 @@
 pub mod Cutting
 pub mod Passing
-pub mod CutSteps
-pub mod Noting
-pub mod Reacting
-pub mod CutChanges
-pub mod Turning
-pub mod Worlds
-pub mod Entering
-pub mod Searching
 pub mod Texts
 pub mod Besides
 pub mod Comparisons

@@ -13,10 +13,10 @@ ghost use Rattle.transcript_check.specs.Besides.{IsBeside};
 
 use crate::NoMemory;
 use crate::cursor::{Cursor, Difference};
-use crate::world::World;
 use br_model::domains::Domains;
 use br_model::numbers::Mac;
 use br_model::steps::Step;
+use check_world::World;
 use std::alloc::Global;
 use transcript_lines::Lines;
 use transcript_text::Writer;

@@ -4,12 +4,7 @@
 mod beside;
 mod checking;
 mod cursor;
-mod cut;
-mod cuts;
 mod lines;
-mod point;
-mod sides;
-mod world;
 
 pub use br_model::NoMemory;
 pub use checking::{Answer, CheckFault, check, compare};

@@ -1,0 +1,6 @@
+pub mod Reacting
+pub mod CutChanges
+pub mod Turning
+pub mod Worlds
+pub mod Entering
+pub mod Searching
