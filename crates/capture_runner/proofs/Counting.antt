@@ -40,9 +40,6 @@ adds_none t before h = subst (λ (lines : List Line). Tallies lines t) (sym (app
 pub adds_more : (a b c : Tally) (lines more : List Line) → Adds a lines b → Adds b more c → Adds a (lines ++ more) c
 adds_more a b c lines more h k before t = subst (λ (all : List Line). Tallies all c) (append_assoc before lines more) (k (before ++ lines) (h before t))
 
-pub one_row_more : (arena : List ℕ) (rows : List Row) (row : Row) → expand arena (rows ++ row ∷ []) ≡ expand arena rows ++ expand_row arena row
-one_row_more arena rows row = flat_map-append (expand_row arena) rows (row ∷ []) ∙ ap (λ l. expand arena rows ++ l) (append-nil (expand_row arena row))
-
 -- the lines of a frame that leaves these ports, of each kind
 
 one_more : (word : List ℕ) (lines more : List Line) → count_of word (lines ++ more) ≡ count_of word lines + count_of word more

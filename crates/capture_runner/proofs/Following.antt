@@ -1,5 +1,5 @@
 -- A session goes on with a line.
-use Rattle.std.proofs.Common.{◌≡◌, ℕ, ◌+◌, ◌≤◌, true, false, if◌then◌else◌, List, [], ◌∷◌, ◌++◌, length, arith, None, Some, Option, Result, Ok, Err, refl, sym, ◌∙◌, ap, subst, codes, nat_lt, nat_le, string_bytes}
+use Rattle.std.proofs.Common.{◌≡◌, ℕ, ◌+◌, ◌≤◌, true, false, if◌then◌else◌, List, [], ◌∷◌, ◌++◌, length, arith, None, Some, Option, Result, Ok, Err, refl, sym, ◌∙◌, ap, subst, codes, nat_lt, nat_le}
 use Rattle.std.proofs.lemmas.List.{append-nil}
 use Rattle.br_model.specs.declared.scenario.Item.{Item}
 use Rattle.br_model.specs.declared.scenario.Item.TheVariants as items
@@ -24,14 +24,11 @@ use Rattle.br_model.proofs.Running.{run_push, run_none, text-append}
 use Rattle.capture_runner.specs.declared.session.Last.TheVariants as lasts
 use Rattle.capture_runner.specs.declared.session.Next.TheVariants as nexts
 use Rattle.capture_runner.specs.declared.session.Session.{Session}
-use Rattle.capture_runner.specs.declared.voice.Voice.{Voice}
-use Rattle.capture_runner.specs.declared.voice.Voice.TheVariants.{Silent, Monitor, Querier}
+use Rattle.run_world.specs.declared.voice.Voice.{Voice}
 use Rattle.capture_runner.specs.Session as session
 use Rattle.capture_runner.specs.Session.{Agrees, IsSaid, IsWorld, IsAmongSteps, Follows, Took, Went, EndsBy, world_of}
-use Rattle.capture_runner.specs.Voices.{Says}
-use Rattle.neigh_netlink.specs.Monitor.{messages}
 use Rattle.scenario_text.specs.Items.{item_of, comes_in_place}
-use Rattle.capture_runner.proofs.Querying.{asked_none, heard_none}
+use Rattle.run_world.proofs.Saying.{says_none, says_on}
 
 not_long : (n : ℕ) → n ≤ longest_line → nat_lt longest_line n ≡ false
 not_long n h = grind arith
@@ -77,20 +74,8 @@ unmade s t None h e d = e ∙ h
 unmade s t (Some w) h e d = let e : true ≡ false = sym d ∙ h.1.0 in absurd (cc)
 
 -- what was said stays said
-
-pub says_on : (v : Voice) (a b : Setup) (steps more : List Step) → b ≡ a → more ≡ steps → Says v a steps → Says v b more
-says_on v a b steps more p e h = subst (λ (x : Setup). Says v x more) (sym p) (subst (λ (l : List Step). Says v a l) (sym e) h)
-
 pub said_on : (s t : Scenario) (v : Voice) → IsSaid s v → t.steps ≡ s.steps → setup_of t.roster ≡ setup_of s.roster → IsSaid t v
 said_on s t v h e p = says_on v (setup_of s.roster) (setup_of t.roster) s.steps t.steps p e h
-
--- whatever the setup, where there was no step
-says_none : (v : Voice) (a b : Setup) → Says v a [] → Says v b []
-unfolding messages
-says_none Silent a b h = tt
-says_none (Monitor m) a b h = h
-says_none (Querier q) a b h =
-    (heard_none q.host q.addresses.four q.addresses.six a b h.0, asked_none (string_bytes q.text) q.addresses.four q.addresses.six a b h.1)
 
 unmade_said : (s t : Scenario) (w : Option World) (v : Voice) → IsWorld s w → IsSaid s v → t.steps ≡ s.steps → declaration s.roster.place ≡ true → IsSaid t v
 unmade_said s t None v h k e d =

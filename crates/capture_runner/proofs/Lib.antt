@@ -2,20 +2,15 @@ pub mod Auditing
 pub mod CheckEnds
 pub mod Counting
 pub mod Cutting
-pub mod Deciding
 pub mod Doing
 pub mod EndedStays
 pub mod Finding
 pub mod Followed
 pub mod Following
 pub mod Generating
-pub mod Hearing
 pub mod Living
-pub mod Moments
-pub mod Monitoring
 pub mod Outcomes
 pub mod Packets
-pub mod Querying
 pub mod Reaching
 pub mod Ready
 pub mod Sections
@@ -23,4 +18,3 @@ pub mod Speaking
 pub mod StaysBad
 pub mod Steps
 pub mod Telling
-pub mod Worlds

@@ -50,11 +50,12 @@ use Rattle.neigh_netlink.specs.Follow.{Ending as FollowEnding, Following as Foll
 use Rattle.neigh_follow.specs.Calls.{Answers as FollowAnswers, HasMessages, ending_of as follow_ending}
 use Rattle.mcast_querier.specs.Runs.{queried, queried_at}
 use Rattle.neigh_netlink.specs.Monitor.{monitored, monitored_at}
-use Rattle.capture_runner.specs.declared.asking.Asking.{Asking as AskingOf}
-use Rattle.capture_runner.specs.declared.monitor.Monitor.{Monitor as MonitorOf}
-use Rattle.capture_runner.specs.declared.voice.Voice.{Voice}
-use Rattle.capture_runner.specs.declared.voice.Voice.TheVariants.{Silent, Monitor, Querier}
-use Rattle.capture_runner.specs.Voices.{answer_at, answer_by, lines_of, said_by}
+use Rattle.run_world.specs.declared.asking.Asking.{Asking as AskingOf}
+use Rattle.run_world.specs.declared.monitor.Monitor.{Monitor as MonitorOf}
+use Rattle.run_world.specs.declared.voice.Voice.{Voice}
+use Rattle.run_world.specs.declared.voice.Voice.TheVariants.{Silent, Monitor, Querier}
+use Rattle.capture_runner.specs.Speaking.{answer_at, answer_by}
+use Rattle.run_world.specs.Voices.{lines_of, said_by}
 use Rattle.capture_runner.proofs.Followed.{never_bad as lines_never_bad, never_full as lines_never_full}
 use Rattle.capture_runner.proofs.Telling.{breaks_behind, opened_more}
 

@@ -14,10 +14,11 @@ use Rattle.br_model.specs.Text.Scenario.{Scenario, declared, opened}
 use Rattle.br_model.proofs.PlaneApplied.{step-setup}
 use Rattle.plane_parts.specs.Added.{Added}
 use Rattle.capture_runner.specs.declared.session.Session.{Session}
-use Rattle.capture_runner.specs.declared.voice.Voice.{Voice}
-use Rattle.capture_runner.specs.declared.voice.Voice.TheVariants.{Silent, Monitor, Querier}
-use Rattle.capture_runner.specs.Session.{Follows, HasChips, IsBehindDeclarations, IsReady, IsWorld, Tells, captures}
-use Rattle.capture_runner.specs.Voices.{IsTuned}
+use Rattle.run_world.specs.declared.voice.Voice.{Voice}
+use Rattle.run_world.specs.declared.voice.Voice.TheVariants.{Silent, Monitor, Querier}
+use Rattle.capture_runner.specs.Session.{Follows, HasChips, IsBehindDeclarations, IsReady, IsWorld, captures}
+use Rattle.run_world.specs.Voices.{IsTuned}
+use Rattle.run_world.specs.Worlds.{Tells}
 use Rattle.capture_runner.proofs.Following.{past}
 use Rattle.scenario_text.specs.Items.{item_of, comes_in_place}
 

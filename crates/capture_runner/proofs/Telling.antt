@@ -26,7 +26,7 @@ use Rattle.capture_runner.specs.declared.replay.Stop.TheVariants.{ReadFault, NoM
 use Rattle.capture_runner.specs.declared.session.Last.{Last}
 use Rattle.capture_runner.specs.declared.session.Last.TheVariants as lasts
 use Rattle.capture_runner.specs.declared.session.Session.{Session}
-use Rattle.capture_runner.specs.declared.voice.Voice.{Voice}
+use Rattle.run_world.specs.declared.voice.Voice.{Voice}
 use Rattle.capture_runner.specs.Advancing.{Advanced}
 use Rattle.capture_runner.specs.Halting.{Breaks, Grows, IsBehind, IsOpened, Moves, Written, Told, Plays, PlayedSection}
 use Rattle.capture_runner.specs.Outcome.{first_line}

@@ -4,13 +4,11 @@ pub mod Counting
 pub mod Following
 pub mod Generating
 pub mod Halting
-pub mod Hearing
-pub mod Held
 pub mod Living
 pub mod Outcome
 pub mod Playing
 pub mod Section
 pub mod Session
+pub mod Speaking
 pub mod Stopping
-pub mod Voices
 pub mod Words

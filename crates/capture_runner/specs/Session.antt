@@ -35,10 +35,10 @@ use Rattle.capture_runner.specs.declared.session.Next.{Next}
 use Rattle.capture_runner.specs.declared.session.Next.TheVariants.{Line as NextLine, Section, End as NoMore}
 use Rattle.capture_runner.specs.declared.session.Session.{Session}
 use Rattle.capture_runner.specs.declared.status.Status.{Status}
-use Rattle.capture_runner.specs.declared.voice.Voice.{Voice}
+use Rattle.run_world.specs.declared.voice.Voice.{Voice}
 use Rattle.capture_runner.specs.declared.status.Status.TheVariants as statuses
 use Rattle.br_model.specs.Text.LineForms.{comes_by_line}
-use Rattle.capture_runner.specs.Voices.{IsTuned, Says}
+use Rattle.run_world.specs.Voices.{IsTuned, Says}
 
 -- no port can be declared any more
 abbrev pub IsBehindDeclarations : Roster → Type 0
@@ -140,10 +140,6 @@ ComeByLine chips (sections.End last) = Unit {0}
 abbrev pub world_of : Roster → Option World → World
 world_of roster None = first_world (setup_of roster)
 world_of roster (Some w) = w
-
--- a step was done in a world, and these are its lines
-abbrev pub Tells : World → Step → World → List Line → Type 0
-Tells old step new lines = (new, lines) ≡ world_step old step
 
 -- the session after the step in that world
 abbrev pub IsAfter : World → Step → Session → Type 0

@@ -12,13 +12,13 @@ use crate::NoMemory;
 use crate::replay::{Halt, Stop, play};
 use crate::session::{Last, Session};
 use crate::status::{Status, put_last};
-use crate::voice::Voice;
-use crate::world::World;
 use bridge_command::Roster;
 use chip_audit::append_audit;
 use run_io::output::Output;
 use run_io::sinks::{Nowhere, Sink};
 use run_io::sources::Source;
+use run_world::World;
+use run_world::voice::Voice;
 use std::alloc::Global;
 use std::sync::Wait;
 

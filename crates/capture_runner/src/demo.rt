@@ -12,15 +12,15 @@ ghost use Rattle.br_model.specs.Table.Domains.{chip_domains};
 ghost use Rattle.br_model.specs.Text.LineForms.{comes_by_line};
 ghost use Rattle.plane_parts.specs.Added.{Added};
 ghost use Rattle.scenario_text.specs.Stepping.{step_of};
-ghost use Rattle.capture_runner.specs.Session.{Tells};
+ghost use Rattle.run_world.specs.Worlds.{Tells};
 
 use crate::NoMemory;
-use crate::world::World;
 use br_model::bytes::Bytes;
 use br_model::numbers::Mac;
 use br_model::steps::Step;
 use br_model::transcript::Line;
 use port_sets::Ports;
+use run_world::World;
 use scenario_text::{FrameSteps, Made, domains, first_steps};
 use std::alloc::{AllocError, Global};
 use std::sync::Wait;

@@ -3,27 +3,20 @@
 //! a scenario is generated, and written or run.
 #![tactic(auto)]
 
-mod addresses;
 mod asked;
-mod asking;
 mod audit;
 mod checking;
 mod commands;
 mod demo;
-mod entered;
 mod follow;
-mod held;
 mod live;
-mod monitor;
 mod replay;
 mod runner;
 mod section;
 mod session;
 mod status;
-mod voice;
 mod words;
 pub mod words_laws;
-mod world;
 
 pub use asked::Asked;
 pub use br_model::NoMemory;

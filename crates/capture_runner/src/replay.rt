@@ -10,7 +10,7 @@ ghost use Rattle.run_io.specs.Writing.{full_length};
 ghost use Rattle.capture_runner.specs.Advancing.{Advances, Caused, Lessens, Sections};
 ghost use Rattle.capture_runner.specs.Halting.{Breaks, DoesAll, DoesSome, Grows, Halts, IsBehind, Moves, Plays, PlaysSection, Stalls};
 ghost use Rattle.capture_runner.specs.Session.{ComeByLine, Follows, IsBehindDeclarations, IsReady};
-ghost use Rattle.capture_runner.specs.Voices.{lines_of};
+ghost use Rattle.run_world.specs.Voices.{lines_of};
 ghost use Rattle.capture_runner.specs.Stopping.{stop_line, stop_status};
 ghost use Rattle.br_model.specs.Text.LineForms.{comes_by_line};
 ghost use Rattle.br_model.specs.Text.Roster.{chips_of};

@@ -1,11 +1,11 @@
 use Rattle.std.proofs.Common.{ap₂, ◌∙◌}
 use Rattle.mcast_querier.specs.Runs.{queried}
 use Rattle.capture_runner.proofs.Outcomes.{queried_is}
-use Rattle.capture_runner.proofs.Speaking.{silent_querier}
+use Rattle.run_world.proofs.Saying.{silent_querier}
 use Rattle.capture_runner.proofs.commands.querier.Goals as goal
 
 pub speak-requires : goal.speak-requires
-speak-requires g c = silent_querier c.new-asking.result c.new-asking.ensures.host c.new-asking.ensures.text
+speak-requires g c = silent_querier c.new-asking.result _ c.new-asking.ensures.host c.new-asking.ensures.text
 
 pub returns-clause-outcome : goal.returns-clause-outcome
 returns-clause-outcome g c =

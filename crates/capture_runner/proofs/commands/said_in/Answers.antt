@@ -1,4 +1,4 @@
-use Rattle.capture_runner.specs.Voices.{answer_by}
+use Rattle.capture_runner.specs.Speaking.{answer_by}
 use Rattle.capture_runner.proofs.Outcomes.{said_at_end, yields_stop}
 use Rattle.capture_runner.proofs.commands.said_in.Goals as goal
 

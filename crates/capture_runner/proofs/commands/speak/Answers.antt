@@ -1,7 +1,7 @@
 use Rattle.std.proofs.Common.{◌∙◌, String}
 use Rattle.std.specs.declared.alloc.Global.{Global}
 use Rattle.capture_runner.specs.declared.session.Last.{Last}
-use Rattle.capture_runner.specs.Voices.{answer_by}
+use Rattle.capture_runner.specs.Speaking.{answer_by}
 use Rattle.capture_runner.proofs.Outcomes.{calm_ends, calm_stops, answered_same, read_stopped, yield_ends, yield_stops}
 use Rattle.capture_runner.proofs.commands.speak.Goals as goal
 

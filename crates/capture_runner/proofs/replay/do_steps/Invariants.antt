@@ -4,7 +4,7 @@ use Rattle.capture_runner.specs.Halting.{DoesAll, Grows}
 use Rattle.br_model.specs.Text.LineForms.{comes_by_line}
 use Rattle.br_model.specs.Text.Roster.{chips_of}
 use Rattle.capture_runner.specs.Session.{IsReady}
-use Rattle.capture_runner.specs.Voices.{lines_of}
+use Rattle.run_world.specs.Voices.{lines_of}
 use Rattle.capture_runner.proofs.replay.do_steps.Given as goal
 
 abbrev pub invariant-loop-step : goal.invariant-loop-step

@@ -4,7 +4,7 @@ use Rattle.br_model.specs.Table.Limits.{most_bytes}
 use Rattle.capture_runner.specs.Halting.{Written}
 use Rattle.capture_runner.specs.Playing.{Playing}
 use Rattle.capture_runner.specs.Session.{IsReady}
-use Rattle.capture_runner.specs.Voices.{lines_of}
+use Rattle.run_world.specs.Voices.{lines_of}
 use Rattle.capture_runner.proofs.Telling.{StandsBehind}
 use Rattle.capture_runner.proofs.replay.play.Given as goal
 

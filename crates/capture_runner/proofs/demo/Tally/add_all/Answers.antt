@@ -4,7 +4,8 @@ use Rattle.br_model.specs.declared.transcript.Line.{Line}
 use Rattle.transcript_lines.specs.declared.row.Row.{Row}
 use Rattle.transcript_lines.specs.Rows.{expand}
 use Rattle.capture_runner.specs.Counting.{Adds}
-use Rattle.capture_runner.proofs.Counting.{adds_none, adds_more, one_row_more}
+use Rattle.capture_runner.proofs.Counting.{adds_none, adds_more}
+use Rattle.run_world.proofs.Hearing.{one_row_more}
 use Rattle.capture_runner.proofs.demo.Tally.add_all.Goals as goal
 
 pub loop-row-init : goal.loop-row-init

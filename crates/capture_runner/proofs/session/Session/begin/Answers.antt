@@ -8,7 +8,7 @@ use Rattle.br_model.specs.Table.Setup.{Setup}
 use Rattle.br_model.specs.Text.Roster.{chips_of}
 use Rattle.br_model.proofs.DeclaredChips.{declared-chips}
 use Rattle.capture_runner.specs.Session.{HasChips}
-use Rattle.capture_runner.specs.Voices.{IsTuned}
+use Rattle.run_world.specs.Voices.{IsTuned}
 use Rattle.capture_runner.proofs.Ready.{comes_here, ready_after}
 use Rattle.capture_runner.proofs.Speaking.{says_first}
 use Rattle.capture_runner.proofs.session.Session.begin.Goals as goal

@@ -1,0 +1,4 @@
+pub mod Hearing
+pub mod Held
+pub mod Voices
+pub mod Worlds
