@@ -24,6 +24,7 @@ ghost use Rattle.forward_rules.specs.Decided.{Decides};
 ghost use Rattle.plane_parts.specs.Places.{places};
 ghost use Rattle.table_cuts.specs.Cuts.{AreCuts, chips_of};
 ghost use Rattle.plane_parts.specs.Queued.{Queued};
+ghost use Rattle.transcript_lines.specs.Rows.{IsPlain};
 ghost use Rattle.check_world.specs.Sides.{Comes, Lasts, Reacted, first_sides, table_of, world_of};
 
 use crate::NoMemory;
@@ -95,7 +96,8 @@ fn follow(bridge: &Bridge, cuts: &mut Cuts, updates: &mut Updates, from: usize) 
 
 /// The last line of a step in which an event came to so many changes, or to a refusal.
 fn last_line(step: u32, outcome: Result<u32, EventFault>) -> Result<Line, NoMemory>
-    ensures { Lasts step outcome result }
+    ensures lasts { Lasts step outcome result }
+    ensures plain { IfOk result (λ line. IsPlain line) }
 {
     match outcome {
         Ok(changes) => Ok(Line::Done { step, changes }),

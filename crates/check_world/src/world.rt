@@ -17,6 +17,7 @@ ghost use Rattle.br_model.specs.declared.steps.Step.TheVariants.{Cmd, Hold, Now,
 ghost use Rattle.br_model.specs.declared.transcript.Line.TheVariants as line;
 ghost use Rattle.plane_parts.specs.Added.{Added};
 ghost use Rattle.plane_parts.specs.Arrivals.{IsArrival};
+ghost use Rattle.transcript_lines.specs.Rows.{IsPlain};
 ghost use Rattle.check_world.specs.Worlds.{IsOnChip, PostsHeld, Tells, arrival_by, point_of};
 
 use crate::NoMemory;
@@ -190,7 +191,8 @@ impl World {
 
     fn chip_line(&self, id: u32, d: Dom, class: Class) -> Line
         requires { is_some (chip_at self.now d) ≡ true }
-        ensures { (c : ChipValue) → chip_at self.now d ≡ Some c → result ≡ line.Chip id (length self.now.history) c.count class }
+        ensures line { (c : ChipValue) → chip_at self.now d ≡ Some c → result ≡ line.Chip id (length self.now.history) c.count class }
+        ensures plain { IsPlain result }
     {
         Line::Chip {
             id,

@@ -44,11 +44,10 @@ fn publish_since<R: Wait>(
 ) -> Result<(), NoMemory>
     ensures { OnOk result (ran.new ≡ published_after changes ran.old) }
 {
-    if ran.plane().history().len() == changes {
-        Ok(())
-    } else {
-        ran.publish(rt, alloc)
+    if ran.plane().history().len() != changes {
+        ran.publish(rt, alloc)?;
     }
+    Ok(())
 }
 
 /// An event that a scenario names, and what it changed is published.

@@ -17,14 +17,14 @@ use std::sync::Wait;
 use table_publish::Seat;
 
 /// The chip of the domain applies the update whose turn it is.
-pub(crate) fn turn(ran: &mut Ran, dom: Dom) -> Result<(), NoMemory>
+pub(crate) fn turn(alloc: Global, ran: &mut Ran, dom: Dom) -> Result<(), NoMemory>
     requires { has_chip ran.old.setup.domains dom ≡ true }
     ensures { OnOk result (ran.new ≡ after ran.old (Turn dom)) }
 {
     let plane = ran.plane();
     let update = plane.update(plane.applied(dom));
-    match ran.turn(dom, update) {
-        Ok(()) => Ok(()),
+    match ran.turn(alloc, dom, update) {
+        Ok(_lines) => Ok(()),
         Err(TurnFault::NoMemory) => Err(AllocError),
         Err(TurnFault::OutOfTurn { .. }) => unreachable!(),
     }
@@ -75,7 +75,7 @@ fn report_all(alloc: Global, ran: &mut Ran, dom: Dom) -> Result<(), NoMemory>
 }
 
 /// Takes the turns of the domain's chip.
-fn turn_all(ran: &mut Ran, dom: Dom) -> Result<(), NoMemory>
+fn turn_all(alloc: Global, ran: &mut Ran, dom: Dom) -> Result<(), NoMemory>
     requires chip { has_chip ran.old.setup.domains dom ≡ true }
     ensures ok { OnOk result (Drains ran.old ran.new) }
     ensures keeps { OnOk result (Keeps ran.old ran.new) }
@@ -84,7 +84,7 @@ fn turn_all(ran: &mut Ran, dom: Dom) -> Result<(), NoMemory>
     ensures others { OnOk result ((d : ℕ) → d ≢ dom → HasTurned ran.old d → HasTurned ran.new d) }
 {
     while ran.plane().pending(dom) > 0 {
-        turn(ran, dom)?;
+        turn(alloc, ran, dom)?;
     }
     Ok(())
 }
@@ -108,7 +108,7 @@ fn report_chips(alloc: Global, ran: &mut Ran, domains: &Domains) -> Result<(), N
 }
 
 /// Takes the turns of all chips.
-fn turn_chips(ran: &mut Ran, domains: &Domains) -> Result<(), NoMemory>
+fn turn_chips(alloc: Global, ran: &mut Ran, domains: &Domains) -> Result<(), NoMemory>
     requires domains { ran.old.setup.domains ≡ domains.now }
     ensures ok { OnOk result (Drains ran.old ran.new) }
     ensures keeps { OnOk result (Keeps ran.old ran.new) }
@@ -120,7 +120,7 @@ fn turn_chips(ran: &mut Ran, domains: &Domains) -> Result<(), NoMemory>
             unreachable!();
         };
         if domains.has_chip(dom) {
-            turn_all(ran, dom)?;
+            turn_all(alloc, ran, dom)?;
         }
     }
     Ok(())
@@ -143,6 +143,7 @@ pub(crate) fn drain<R: Wait>(
 {
     serve_all(alloc, ran, seat)?;
     report_chips(alloc, ran, domains)?;
-    turn_chips(ran, domains)?;
-    ran.publish(rt, alloc)
+    turn_chips(alloc, ran, domains)?;
+    ran.publish(rt, alloc)?;
+    Ok(())
 }

@@ -43,7 +43,7 @@ fn post_nothing(alloc: Global, ran: &mut Ran, id: u32) -> Result<(), NoMemory>
         untagged: Ports::empty(),
     };
     match ran.post(alloc, held, Seen { verdict, point: 0 }) {
-        Ok(()) => Ok(()),
+        Ok(_lines) => Ok(()),
         Err(_) => Err(AllocError),
     }
 }
@@ -65,21 +65,32 @@ pub(crate) fn do_step<R: Wait>(
     match step {
         Step::Rx { port, bytes } => {
             ran.enter(alloc, *port, bytes.as_slice())?;
-            Ok(())
         }
-        Step::Cmd(command) => ran.accept(alloc, &Event::Cmd(*command)),
-        Step::Now(moment) => ran.accept(alloc, &Event::Moment(*moment)),
-        Step::Serve => ran.serve(alloc, seat),
+        Step::Cmd(command) => {
+            ran.accept(alloc, &Event::Cmd(*command))?;
+        }
+        Step::Now(moment) => {
+            ran.accept(alloc, &Event::Moment(*moment))?;
+        }
+        Step::Serve => {
+            ran.serve(alloc, seat)?;
+        }
         Step::Hold => {
             ran.open_frame(alloc)?;
-            Ok(())
         }
-        Step::Post { id, .. } => post_nothing(alloc, ran, *id),
-        Step::Turn(dom) => turn(ran, *dom),
-        Step::Report(dom) => ran.report(alloc, *dom),
-        Step::Sweep(dom) => ran.sweep(alloc, *dom),
-        Step::Publish => ran.publish(rt, alloc),
+        Step::Post { id, .. } => post_nothing(alloc, ran, *id)?,
+        Step::Turn(dom) => turn(alloc, ran, *dom)?,
+        Step::Report(dom) => {
+            ran.report(alloc, *dom)?;
+        }
+        Step::Sweep(dom) => {
+            ran.sweep(alloc, *dom)?;
+        }
+        Step::Publish => {
+            ran.publish(rt, alloc)?;
+        }
     }
+    Ok(())
 }
 
 fn is_frame(step: &Step) -> bool

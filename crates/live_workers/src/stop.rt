@@ -21,7 +21,7 @@ impl From<AllocError> for Stop {
 impl From<ActFault> for Stop {
     fn from(fault: ActFault) -> Stop {
         match fault {
-            ActFault::NoMemory | ActFault::Unpublished => Stop::NoMemory,
+            ActFault::NoMemory | ActFault::Unpublished(_) => Stop::NoMemory,
         }
     }
 }

@@ -103,7 +103,9 @@ impl<'a, N: Name, R: Wait, G: Gate> Work<'a, N, R, G> {
                 let event = Event::Moment(*moment);
                 core.accept(self.rt, self.alloc, &event)?;
             }
-            Step::Sweep(dom) => core.sweep(self.rt, self.alloc, *dom)?,
+            Step::Sweep(dom) => {
+                core.sweep(self.rt, self.alloc, *dom)?;
+            }
             Step::Serve
             | Step::Hold
             | Step::Post { .. }
@@ -194,7 +196,7 @@ impl<'a, N: Name, R: Wait, G: Gate> Work<'a, N, R, G> {
         let told = report(self.rt, self.alloc, &mut core, dom);
         MutexGuard::unlock(core);
         told?;
-        self.shared.turns(self.rt, dom, MOST_AT_ONCE)?;
+        self.shared.turns(self.rt, self.alloc, dom, MOST_AT_ONCE)?;
         Ok(())
     }
 

@@ -19,7 +19,8 @@ ghost use Rattle.br_model.specs.Plane.Steps.{world_step};
 ghost use Rattle.br_model.specs.Plane.World.{Holding as HoldingOf, chip_at, first_world, table_of_chip};
 ghost use Rattle.table_publish.specs.Object.{Begins, IsPublished, first_object};
 ghost use Rattle.plane_core.specs.Planes.{Accepts, DecidesFloor, DecidesOldest, IsCopy, IsDecidedBy, IsDecision, IsNamed, IsOnChip, Posted, PostedTo, Steps, Turned, TurnedTo, arrival_by, published_in, ticket_of};
-ghost use Rattle.plane_parts.specs.Added.{Added};
+ghost use Rattle.plane_parts.specs.Added.{Added, KeepsMark};
+ghost use Rattle.transcript_lines.specs.Rows.{IsPlain};
 ghost use Rattle.plane_parts.specs.Arrivals.{IsArrival};
 ghost use Rattle.plane_core.specs.Seats.{IsTold, Looks};
 ghost use Rattle.plane_core.specs.Shown.{opened, shown_by};
@@ -192,6 +193,7 @@ impl Plane {
         ensures pass { IfOk result (IsDecidedBy self.old.world p b (frame_of b)) }
         ensures err { OnErr result (self.new ≡ self.old) }
         ensures lines { OnErr result (lines.new.lines ≡ lines.old.lines) }
+        ensures marked { OnOk result (KeepsMark lines.old lines.new) }
     {
         let step = next(self.steps)?;
         let id = self.frames.next_id();
@@ -239,6 +241,7 @@ impl Plane {
         ensures step { OnOk result (Added (Steps self.old self.new (Rx p b)) lines.old.lines lines.new.lines) }
         ensures err { OnErr result (self.new ≡ self.old) }
         ensures lines { OnErr result (lines.new.lines ≡ lines.old.lines) }
+        ensures marked { lines.new.marked ≡ lines.old.marked }
     {
         lines.reserve(1, 0)?;
         let id = self.frames.next_id();
@@ -270,6 +273,7 @@ impl Plane {
             → IsPass self.old.world.setup.domains (table_of_chip self.old.world c) p head.now (message_of b head.now) pass) }
         ensures err { OnErr result (self.new ≡ self.old) }
         ensures lines { OnErr result (lines.new.lines ≡ lines.old.lines) }
+        ensures marked { lines.new.marked ≡ lines.old.marked }
     {
         let id = self.frames.next_id();
         let bytes = b.as_slice();
@@ -290,8 +294,9 @@ impl Plane {
 
     fn chip_line(&self, id: u32, d: Dom, class: Class) -> Line
         requires { is_some (chip_at self.now.world d) ≡ true }
-        ensures { (c : ChipValue) → chip_at self.now.world d ≡ Some c
+        ensures line { (c : ChipValue) → chip_at self.now.world d ≡ Some c
             → result ≡ line.Chip id (length self.now.world.history) c.count class }
+        ensures plain { IsPlain result }
     {
         Line::Chip {
             id,
@@ -318,6 +323,7 @@ impl Plane {
         ensures ok { OnOk result (Added (Accepts self.old self.new e.now) lines.old.lines lines.new.lines) }
         ensures err { OnErr result (self.new ≡ self.old) }
         ensures lines { OnErr result (lines.new.lines ≡ lines.old.lines) }
+        ensures marked { OnOk result (KeepsMark lines.old lines.new) }
     {
         let step = next(self.steps)?;
         self.sides.answer(alloc, step, e, lines)?;
@@ -338,7 +344,8 @@ impl Plane {
     /// As `turn`, with the lines of the step behind these.
     pub fn turn_to(&mut self, d: Dom, u: Option<Update>, lines: &mut Lines) -> Result<(), TurnFault>
         requires { has_chip self.old.world.setup.domains d ≡ true }
-        ensures { TurnedTo self.old self.new d u lines.old.lines lines.new.lines result }
+        ensures turned { TurnedTo self.old self.new d u lines.old.lines lines.new.lines result }
+        ensures marked { OnOk result (KeepsMark lines.old lines.new) }
     {
         let step = next(self.steps)?;
         let Some(next) = self.sides.next_update(d) else {
@@ -415,6 +422,7 @@ impl Plane {
         ensures ok { OnOk result (Added (Steps self.old self.new Hold) lines.old.lines lines.new.lines) }
         ensures err { OnErr result (self.new ≡ self.old) }
         ensures lines { OnErr result (lines.new.lines ≡ lines.old.lines) }
+        ensures marked { OnOk result (KeepsMark lines.old lines.new) }
     {
         let step = next(self.steps)?;
         let floor = self.sides.published();
@@ -439,6 +447,7 @@ impl Plane {
         ensures ok { OnOk result (Added (Steps self.old self.new (Post id None)) lines.old.lines lines.new.lines) }
         ensures err { OnErr result (self.new ≡ self.old) }
         ensures lines { OnErr result (lines.new.lines ≡ lines.old.lines) }
+        ensures marked { OnOk result (KeepsMark lines.old lines.new) }
     {
         let step = next(self.steps)?;
         let Some(holding) = self.frames.find(id) else {
@@ -479,7 +488,8 @@ impl Plane {
     ) -> Result<(), PostFault>
         requires floor { h.floor ≤ s.point }
         requires decision { (x : HoldingOf) → IsCopy self.old.world h x → s.point ≤ self.old.world.published → IsDecision self.old.world x s }
-        ensures { PostedTo self.old self.new h s lines.old.lines lines.new.lines result }
+        ensures posted { PostedTo self.old self.new h s lines.old.lines lines.new.lines result }
+        ensures marked { OnOk result (KeepsMark lines.old lines.new) }
     {
         let Ok(step) = next(self.steps) else {
             return Err(PostFault::NoMemory(h));
@@ -515,7 +525,8 @@ impl Plane {
     fn post_none(&mut self, step: u32, h: Held, lines: &mut Lines) -> Result<(), PostFault>
         requires step { step ≡ self.old.world.steps + 1 }
         requires none { held_with self.old.world h.id ≡ None }
-        ensures { (s : SeenValue) → PostedTo self.old self.new h s lines.old.lines lines.new.lines result }
+        ensures posted { (s : SeenValue) → PostedTo self.old self.new h s lines.old.lines lines.new.lines result }
+        ensures marked { lines.new.marked ≡ lines.old.marked }
     {
         let refusal = Refusal::NothingToPost;
         match lines.push(Line::Refused { step, refusal }) {
@@ -535,6 +546,7 @@ impl Plane {
         ensures ok { OnOk result (Added (Steps self.old self.new Serve) lines.old.lines lines.new.lines) }
         ensures err { OnErr result (self.new ≡ self.old) }
         ensures lines { OnErr result (lines.new.lines ≡ lines.old.lines) }
+        ensures marked { OnOk result (KeepsMark lines.old lines.new) }
         ensures seat { Looks s.old s.new }
     {
         let step = next(self.steps)?;
@@ -573,6 +585,7 @@ impl Plane {
         ensures ok { OnOk result (Added (Steps self.old self.new Serve) lines.old.lines lines.new.lines) }
         ensures err { OnErr result (self.new ≡ self.old) }
         ensures lines { OnErr result (lines.new.lines ≡ lines.old.lines) }
+        ensures marked { OnOk result (KeepsMark lines.old lines.new) }
         ensures seat { IsTold s.old s.new (published_in self.old.world) }
     {
         self.tell(s);
@@ -599,6 +612,7 @@ impl Plane {
         ensures ok { OnOk result (Added (Steps self.old self.new Publish) lines.old.lines lines.new.lines) }
         ensures err { OnErr result (self.new ≡ self.old) }
         ensures lines { OnErr result (lines.new.lines ≡ lines.old.lines) }
+        ensures marked { OnOk result (KeepsMark lines.old lines.new) }
     {
         let step = next(self.steps)?;
         lines.reserve(1, 0)?;
@@ -625,6 +639,7 @@ impl Plane {
         ensures ok { OnOk result (Added (Steps self.old self.new (Report d)) lines.old.lines lines.new.lines) }
         ensures err { OnErr result (self.new ≡ self.old) }
         ensures lines { OnErr result (lines.new.lines ≡ lines.old.lines) }
+        ensures marked { OnOk result (KeepsMark lines.old lines.new) }
     {
         let step = next(self.steps)?;
         self.sides.report(alloc, step, d, lines)?;
@@ -649,6 +664,7 @@ impl Plane {
         ensures ok { OnOk result (Added (Steps self.old self.new (Sweep d)) lines.old.lines lines.new.lines) }
         ensures err { OnErr result (self.new ≡ self.old) }
         ensures lines { OnErr result (lines.new.lines ≡ lines.old.lines) }
+        ensures marked { OnOk result (KeepsMark lines.old lines.new) }
     {
         let step = next(self.steps)?;
         self.sides.sweep(alloc, step, d, lines)?;

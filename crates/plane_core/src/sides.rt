@@ -27,6 +27,7 @@ ghost use Rattle.plane_core.specs.Chips.{AreChips, chips_of};
 ghost use Rattle.plane_parts.specs.Places.{places};
 ghost use Rattle.plane_parts.specs.Queued.{Queued};
 ghost use Rattle.plane_parts.specs.Added.{Added};
+ghost use Rattle.transcript_lines.specs.Rows.{IsPlain};
 ghost use Rattle.plane_core.specs.Seats.{Looks};
 ghost use Rattle.plane_core.specs.Sides.{Comes, HasBegun, Lasts, Reacted, world_of, first_sides};
 
@@ -109,7 +110,8 @@ fn follow(
 
 /// The last line of a step in which an event came to so many changes, or to a refusal.
 fn last_line(step: u32, outcome: Result<u32, EventFault>) -> Result<Line, NoMemory>
-    ensures { Lasts step outcome result }
+    ensures lasts { Lasts step outcome result }
+    ensures plain { IfOk result (λ line. IsPlain line) }
 {
     match outcome {
         Ok(changes) => Ok(Line::Done { step, changes }),
@@ -280,6 +282,7 @@ impl Sides {
         ensures ok { OnOk result (Added (Comes (λ w. answered w w (reacts w event.now)) self.old step self.new) lines.old.lines lines.new.lines) }
         ensures err { OnErr result (self.new ≡ self.old) }
         ensures lines { OnErr result (lines.new.lines ≡ lines.old.lines) }
+        ensures marked { lines.new.marked ≡ lines.old.marked }
         ensures over { self.new.board ≡ self.old.board }
     {
         lines.reserve(1, 0)?;
@@ -365,6 +368,7 @@ impl Sides {
         ensures ok { OnOk result (Added (Comes (λ w. posts w frame.now point) self.old step self.new) lines.old.lines lines.new.lines) }
         ensures err { OnErr result (self.new ≡ self.old) }
         ensures lines { OnErr result (lines.new.lines ≡ lines.old.lines) }
+        ensures marked { lines.new.marked ≡ lines.old.lines }
         ensures over { self.new.board ≡ self.old.board }
     {
         lines.mark();
@@ -395,6 +399,7 @@ impl Sides {
         ensures ok { OnOk result (Added (Comes (λ w. posts w frame.now w.published) self.old step self.new) lines.old.lines lines.new.lines) }
         ensures err { OnErr result (self.new ≡ self.old) }
         ensures lines { OnErr result (lines.new.lines ≡ lines.old.lines) }
+        ensures marked { OnOk result (lines.new.marked ≡ lines.old.lines) }
         ensures over { self.new.board ≡ self.old.board }
         ensures seat { Looks seat.old seat.new }
     {
@@ -469,6 +474,7 @@ impl Sides {
         ensures ok { OnOk result (Added (Comes (λ w. reports w (chip_at w d)) self.old step self.new) lines.old.lines lines.new.lines) }
         ensures err { OnErr result (self.new ≡ self.old) }
         ensures lines { OnErr result (lines.new.lines ≡ lines.old.lines) }
+        ensures marked { lines.new.marked ≡ lines.old.marked }
         ensures over { self.new.board ≡ self.old.board }
     {
         lines.reserve(1, 0)?;
@@ -495,6 +501,7 @@ impl Sides {
         ensures ok { OnOk result (Added (Comes (λ w. sweeps w (chip_at w d)) self.old step self.new) lines.old.lines lines.new.lines) }
         ensures err { OnErr result (self.new ≡ self.old) }
         ensures lines { OnErr result (lines.new.lines ≡ lines.old.lines) }
+        ensures marked { lines.new.marked ≡ lines.old.marked }
         ensures over { self.new.board ≡ self.old.board }
     {
         lines.reserve(1, 0)?;

@@ -1,5 +1,6 @@
 -- One step more of a run.
 use Rattle.std.proofs.Common.{◌≡◌, ℕ, ◌+◌, ◌<◌, Bool, ◌&&◌, true, List, [], ◌∷◌, ◌++◌, refl, sym, ap, ap₂, ◌∙◌, subst, arith}
+use Rattle.std.proofs.lemmas.List.{append_cancel_left}
 use Rattle.std.proofs.lemmas.List.Folds.{list_all-append}
 use Rattle.std.specs.List.{list_all}
 use Rattle.std.specs.Prelude.{nat_le}
@@ -21,11 +22,12 @@ use Rattle.br_model.proofs.PlaneApplied.{run-world, run-setup, step-setup}
 use Rattle.br_model.proofs.Running.{run_push, run_none}
 use Rattle.std.specs.declared.option.Option.{Option}
 use Rattle.std.specs.declared.option.Option.TheVariants.{None, Some}
-use Rattle.plane_parts.specs.Added.{Added}
+use Rattle.transcript_lines.specs.Rows.{Listed}
+use Rattle.plane_parts.specs.Added.{Added, KeepsMark}
 use Rattle.plane_core.specs.Planes.{PlaneState, Steps, Accepts, IsNamed}
 use Rattle.plane_core.specs.Shown.{Shown, opened}
 use Rattle.plane_lock.specs.Holds.{held_line}
-use Rattle.plane_lock.specs.Pasts.{Past, world_of, state_of, after, event_step}
+use Rattle.plane_lock.specs.Pasts.{Past, world_of, state_of, after, event_step, said_by}
 
 -- the past that contracts see of a plane and the recorded steps
 abbrev pub past : PlaneState → List Step → Past
@@ -94,6 +96,21 @@ module _ (p q : PlaneState) (ss ss' : List Step) (s : Step) (ls ls' : List Line)
 
   pub past-more : (old : Past) → past p ss ≡ old → past q ss' ≡ after old s
   past-more old was = (λ i. record { board = a.so.board i; setup = same i; steps = is i }) ∙ ap (λ (x : Past). after x s) was
+
+-- the same lines before and after
+pub carried : (are : List Line → Type 0) (before was after now : List Line) → was ≡ before → now ≡ after → Added are was after → Added are before now
+carried are before was after now same is a = record { lines = a.lines; so = a.so; added = is ∙ (a.added ∙ ap (λ (l : List Line). l ++ a.lines) same) }
+
+-- where the mark stands after a call, which was set before it
+pub mark-at : (old mid new : Listed) → mid.marked ≡ old.lines → mid.lines ≡ old.lines → KeepsMark mid new → new.marked ≡ old.lines
+mark-at old mid new marked lines keeps = keeps (marked ∙ sym lines) ∙ lines
+
+-- a copy of the lines behind the mark is what the step said
+pub copied-said : (p q : PlaneState) (ss : List Step) (s : Step) (ls ls' marked more : List Line) (old : Past) → IsRan p ss ls → past p ss ≡ old → Added (Steps p q s) ls ls' → marked ≡ ls
+    → ls' ≡ marked ++ more → more ≡ said_by old s
+copied-said p q ss s ls ls' marked more old h was a at copied =
+    append_cancel_left ls more a.lines (ap (λ (l : List Line). l ++ more) (sym at) ∙ (sym copied ∙ a.added))
+    ∙ (sym (ap (λ (x : Stepped). x.1) a.so.world) ∙ ap (λ (st : PlaneState). (world_step st.world s).1) (stood p ss ls old h was))
 
 pub ran-first : (p : PlaneState) → p.world ≡ first_world p.world.setup → IsRan p [] []
 ran-first p e = (run_none p.world.setup ∙ ap (λ (w : World). (w, [])) (sym e), refl)

@@ -1,6 +1,6 @@
 -- What a step accepted is posted and published.
 use Rattle.std.proofs.Common.{◌≡◌, ℕ, ◌==◌, true, false, cond, Bool, List, length, refl, sym, ap, ◌∙◌, subst, inl, inr, arith}
-use Rattle.std.specs.Prelude.{◌≢◌, ◌⊎◌, OnOk, OnErr, IfErr}
+use Rattle.std.specs.Prelude.{◌≢◌, ◌⊎◌, OnOk, OnErr, IfOk, IfErr}
 use Rattle.std.specs.declared.result.Result.{Result}
 use Rattle.std.specs.declared.result.Result.TheVariants.{Ok, Err}
 use Rattle.table_publish.specs.Object.{Whose}
@@ -15,10 +15,11 @@ use Rattle.br_model.specs.Table.Change.{updates}
 use Rattle.br_model.specs.Table.Setup.{Setup}
 use Rattle.deferred_queue.specs.Ends.{Posting}
 use Rattle.plane_core.specs.Planes.{PlaneState}
+use Rattle.transcript_lines.specs.Rows.{Listed}
 use Rattle.plane_lock.specs.declared.locked.ActFault.{ActFault}
 use Rattle.plane_lock.specs.declared.locked.ActFault.TheVariants.{Unpublished}
 use Rattle.plane_lock.specs.Acts.{Acted, changes_of, published_after}
-use Rattle.plane_lock.specs.Pasts.{Past, state_of, world_of, after}
+use Rattle.plane_lock.specs.Pasts.{Past, state_of, world_of, after, said_by}
 use Rattle.plane_lock.specs.Posted.{HavePosted, updates_of}
 use Rattle.plane_lock.proofs.Growing.{no-more, step-grows, updates-prefix}
 use Rattle.plane_lock.proofs.Recording.{world-after, world-setup}
@@ -96,17 +97,17 @@ pub counted-other : (p : Past) (plane : PlaneState) (h : List Change) (n : ℕ) 
 counted-other p plane h n other is same e = other (ap length (is ∙ ap (λ (s : PlaneState). s.world.history) same) ∙ e)
 
 -- what is answered once what a step accepted is settled
-pub acts : (r : Result (Unit {0}) ActFault) (old mid new : Past) (s : Step) (n : ℕ) → mid ≡ after old s → n ≡ changes_of old → OnOk r (new ≡ published_after n mid)
-    → IfErr r (λ f. (f ≡ Unpublished) × (new ≡ mid) × (changes_of mid ≢ n)) → Acted old new s r
-acts (Ok done) old mid new s n is many ok err = ok ∙ (λ i. published_after (many i) (is i))
-acts (Err f) old mid new s n is many ok err =
-    subst (λ (x : ActFault). Acted old new s (Err x)) (sym err.0) (err.1 ∙ is, λ same. err.2 (ap changes_of (sym err.1) ∙ same ∙ sym many))
+pub acts : (r : Result Listed ActFault) (old mid new : Past) (s : Step) (n : ℕ) (said : Listed) → mid ≡ after old s → said.lines ≡ said_by old s → n ≡ changes_of old → OnOk r (new ≡ published_after n mid)
+    → IfOk r (λ l. l ≡ said) → IfErr r (λ f. (f ≡ Unpublished said) × (new ≡ mid) × (changes_of mid ≢ n)) → Acted old new s r
+acts (Ok l) old mid new s n said is lines many ok same err = (ok ∙ (λ i. published_after (many i) (is i)), ap (λ (x : Listed). x.lines) same ∙ lines)
+acts (Err f) old mid new s n said is lines many ok same err =
+    subst (λ (x : ActFault). Acted old new s (Err x)) (sym err.0) ((err.1 ∙ is, λ same. err.2 (ap changes_of (sym err.1) ∙ same ∙ sym many)), lines)
 
 -- either way the run is the one that was published, or the one before
-pub settled-either : (r : Result (Unit {0}) ActFault) (mid new : Past) (n : ℕ) → OnOk r (new ≡ published_after n mid) → IfErr r (λ f. (f ≡ Unpublished) × (new ≡ mid) × (changes_of mid ≢ n))
-    → (new ≡ published_after n mid) ⊎ (new ≡ mid)
-settled-either (Ok done) mid new n ok err = inl ok
-settled-either (Err f) mid new n ok err = inr err.1
+pub settled-either : (r : Result Listed ActFault) (mid new : Past) (n : ℕ) (said : Listed) → OnOk r (new ≡ published_after n mid)
+    → IfErr r (λ f. (f ≡ Unpublished said) × (new ≡ mid) × (changes_of mid ≢ n)) → (new ≡ published_after n mid) ⊎ (new ≡ mid)
+settled-either (Ok l) mid new n said ok err = inl ok
+settled-either (Err f) mid new n said ok err = inr err.1
 
 -- the updates of the plane of a past
 pub updates-there : (p : Past) (plane : PlaneState) → plane ≡ state_of p → updates plane.world.setup.domains.edition plane.world.history ≡ updates_of p

@@ -9,7 +9,8 @@ use Rattle.plane_core.specs.declared.faults.PostFault.{PostFault}
 use Rattle.plane_core.specs.declared.faults.PostFault.TheVariants as posts
 use Rattle.plane_core.specs.declared.held.Held.{Held}
 use Rattle.table_publish.specs.declared.seat.Seen.{Seen}
-use Rattle.plane_lock.specs.Pasts.{Past, after, state_of, world_of}
+use Rattle.transcript_lines.specs.Rows.{Listed}
+use Rattle.plane_lock.specs.Pasts.{Past, after, said_by, state_of, world_of}
 use Rattle.plane_lock.specs.declared.locked.ActFault.{ActFault}
 use Rattle.plane_lock.specs.declared.locked.ActFault.TheVariants.{NoMemory, Unpublished}
 
@@ -29,11 +30,11 @@ acted p step = published_after (changes_of p) (after p step)
 abbrev pub IsUnpublished : Past → Past → Step → Type 0
 IsUnpublished old new step = (new ≡ after old step) × (changes_of new ≢ changes_of old)
 
--- The step and its publication; the step without it; or nothing.
-abbrev pub Acted : Past → Past → Step → Result (Unit {0}) ActFault → Type 0
-Acted old new step (Ok done) = new ≡ acted old step
+-- The step and its publication; the step without it; or nothing. What stands is answered with the step's lines.
+abbrev pub Acted : Past → Past → Step → Result Listed ActFault → Type 0
+Acted old new step (Ok lines) = (new ≡ acted old step) × (lines.lines ≡ said_by old step)
 Acted old new step (Err NoMemory) = new ≡ old
-Acted old new step (Err Unpublished) = IsUnpublished old new step
+Acted old new step (Err (Unpublished lines)) = IsUnpublished old new step × (lines.lines ≡ said_by old step)
 
 -- Why a post came to nothing, in the order of the plane's tests; or its publication did.
 abbrev pub PostFails : Past → Past → Step → Held → Seen → PostFault → Type 0
@@ -41,4 +42,4 @@ PostFails old new step h n (posts.NoMemory back) = (new ≡ old) × NotPosted (s
 PostFails old new step h n (posts.Stranger back) = (new ≡ old) × NotPosted (state_of old) (state_of new) h n (posts.Stranger back)
 PostFails old new step h n (posts.Ahead back point published) =
     (new ≡ old) × NotPosted (state_of old) (state_of new) h n (posts.Ahead back point published)
-PostFails old new step h n (posts.Unpublished lines) = IsUnpublished old new step
+PostFails old new step h n (posts.Unpublished lines) = IsUnpublished old new step × (lines.lines ≡ said_by old step)

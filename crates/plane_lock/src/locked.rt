@@ -27,10 +27,9 @@ use br_model::change::Update;
 use br_model::limits::MOST_CHANGES;
 use br_model::numbers::{Dom, Port};
 use br_model::steps::Event;
-use chip_pipeline::Pass;
 use deferred_queue::Poster;
 use learn_report::Report;
-use plane_core::{Held, Plane, PostFault, TurnFault};
+use plane_core::{Entered, Held, Plane, PostFault, TurnFault};
 use std::alloc::{AllocError, Global};
 use std::marker::{Model, PhantomData};
 use std::sync::Wait;
@@ -38,12 +37,12 @@ use table_publish::{Name, Seen};
 use transcript_lines::Lines;
 
 /// Why an event came to nothing, or its publication.
-#[derive(Clone, Copy, PartialEq, Eq, Debug)]
+#[derive(Drop)]
 pub enum ActFault {
     /// All is as before.
     NoMemory,
-    /// The event stands, and what it changed isn't published.
-    Unpublished,
+    /// The event stands and wrote these lines, and what it changed isn't published.
+    Unpublished(Lines),
 }
 
 impl From<AllocError> for ActFault {
@@ -100,27 +99,29 @@ fn post_all<R: Wait>(rt: &R, posters: &mut Vec<Poster>, plane: &Plane)
     }
 }
 
-/// What a step accepted behind so many changes is posted, and then published.
+/// What a step that wrote these lines accepted behind so many changes is posted, and then published.
 fn settle<R: Wait>(
     rt: &R,
     alloc: Global,
     ran: &mut Ran,
     posters: &mut Vec<Poster>,
     changes: usize,
-) -> Result<(), ActFault>
+    lines: Lines,
+) -> Result<Lines, ActFault>
     requires { (h : List ChangeValue)
         × HavePosted (updates ran.old.setup.domains.edition h) posters.old.items × (changes ≡ length h) × IsPrefix h (world_of ran.old).history }
     ensures posted { HavePosted (updates_of ran.new) posters.new.items }
     ensures done { OnOk result (ran.new ≡ published_after changes ran.old) }
-    ensures undone { IfErr result (λ fault. (fault ≡ act_faults.Unpublished) × (ran.new ≡ ran.old) × (changes_of ran.old ≢ changes)) }
+    ensures said { IfOk result (λ said. said ≡ lines) }
+    ensures undone { IfErr result (λ fault. (fault ≡ act_faults.Unpublished lines) × (ran.new ≡ ran.old) × (changes_of ran.old ≢ changes)) }
 {
     if ran.plane().history().len() == changes {
-        return Ok(());
+        return Ok(lines);
     }
     post_all(rt, posters, ran.plane());
-    match ran.publish(rt, alloc) {
-        Ok(()) => Ok(()),
-        Err(_) => Err(ActFault::Unpublished),
+    match ran.record_publish(rt, alloc) {
+        Ok(()) => Ok(lines),
+        Err(_) => Err(ActFault::Unpublished(lines)),
     }
 }
 
@@ -139,56 +140,59 @@ impl<N: Name> Locked<N> {
     }
 
     /// A frame of these bytes enters at the port. The answer is the chip's, where it decided the frame.
-    pub fn enter(&mut self, alloc: Global, p: Port, b: &[u8]) -> Result<Option<Pass>, NoMemory>
+    pub fn enter(&mut self, alloc: Global, p: Port, b: &[u8]) -> Result<Entered, NoMemory>
         ensures ok { OnOk result (self.new ≡ after self.old (Rx p b.now)) }
-        ensures pass { IfOk result (IsDecidedBy (world_of self.old) p b.now (frame_of b.now)) }
+        ensures lines { IfOk result (λ e. e.lines.lines ≡ said_by self.old (Rx p b.now)) }
+        ensures pass { IfOk result (λ e. IsDecidedBy (world_of self.old) p b.now (frame_of b.now) e.pass) }
         ensures err { OnErr result (self.new ≡ self.old) }
     {
         self.ran.enter(alloc, p, b)
     }
 
     /// All accepted changes are published.
-    pub fn publish<R: Wait>(&mut self, rt: &R, alloc: Global) -> Result<(), NoMemory>
+    pub fn publish<R: Wait>(&mut self, rt: &R, alloc: Global) -> Result<Lines, NoMemory>
         ensures ok { OnOk result (self.new ≡ after self.old Publish) }
+        ensures lines { IfOk result (λ lines. lines.lines ≡ said_by self.old Publish) }
         ensures err { OnErr result (self.new ≡ self.old) }
     {
         self.ran.publish(rt, alloc)
     }
 
     /// An event that a scenario names. What it changes is posted and published.
-    pub fn accept<R: Wait>(&mut self, rt: &R, alloc: Global, e: &Event) -> Result<(), ActFault>
+    pub fn accept<R: Wait>(&mut self, rt: &R, alloc: Global, e: &Event) -> Result<Lines, ActFault>
         requires { IsNamed e.now }
         ensures { Acted self.old self.new (event_step e.now) result }
     {
         let changes = self.ran.plane().history().len();
-        self.ran.accept(alloc, e)?;
-        settle(rt, alloc, &mut self.ran, &mut self.posters, changes)
+        let lines = self.ran.accept(alloc, e)?;
+        settle(rt, alloc, &mut self.ran, &mut self.posters, changes, lines)
     }
 
     /// The bridge is told the oldest report of the domain's chip. What that changes is posted and published.
-    pub fn report<R: Wait>(&mut self, rt: &R, alloc: Global, d: Dom) -> Result<(), ActFault>
+    pub fn report<R: Wait>(&mut self, rt: &R, alloc: Global, d: Dom) -> Result<Lines, ActFault>
         requires { has_chip N.board.domains d ≡ true }
         ensures { Acted self.old self.new (Report d) result }
     {
         let changes = self.ran.plane().history().len();
-        self.ran.report(alloc, d)?;
-        settle(rt, alloc, &mut self.ran, &mut self.posters, changes)
+        let lines = self.ran.report(alloc, d)?;
+        settle(rt, alloc, &mut self.ran, &mut self.posters, changes, lines)
     }
 
     /// The bridge forgets the stations that the chip of the domain no longer sees. What that changes is posted and published.
-    pub fn sweep<R: Wait>(&mut self, rt: &R, alloc: Global, d: Dom) -> Result<(), ActFault>
+    pub fn sweep<R: Wait>(&mut self, rt: &R, alloc: Global, d: Dom) -> Result<Lines, ActFault>
         requires { has_chip N.board.domains d ≡ true }
         ensures { Acted self.old self.new (Sweep d) result }
     {
         let changes = self.ran.plane().history().len();
-        self.ran.sweep(alloc, d)?;
-        settle(rt, alloc, &mut self.ran, &mut self.posters, changes)
+        let lines = self.ran.sweep(alloc, d)?;
+        settle(rt, alloc, &mut self.ran, &mut self.posters, changes, lines)
     }
 
     /// The chip of the domain applies the next deferred change. Where this update isn't the one, the history names it.
-    pub fn turn(&mut self, d: Dom, u: Update) -> Result<(), NoMemory>
+    pub fn turn(&mut self, alloc: Global, d: Dom, u: Update) -> Result<Lines, NoMemory>
         requires { has_chip N.board.domains d ≡ true }
         ensures ok { OnOk result (self.new ≡ after self.old (Turn d)) }
+        ensures lines { IfOk result (λ lines. lines.lines ≡ said_by self.old (Turn d)) }
         ensures err { OnErr result (self.new ≡ self.old) }
     {
         let plane = self.ran.plane();
@@ -198,8 +202,8 @@ impl<N: Name> Locked<N> {
         } else {
             plane.update(applied)
         };
-        match self.ran.turn(d, next) {
-            Ok(()) => Ok(()),
+        match self.ran.turn(alloc, d, next) {
+            Ok(lines) => Ok(lines),
             Err(TurnFault::NoMemory) => Err(AllocError),
             Err(TurnFault::OutOfTurn { .. }) => unreachable!(),
         }
@@ -254,11 +258,11 @@ impl<N: Name> Locked<N> {
         c: &mut Chair<N>,
         h: Held,
         n: Seen,
-    ) -> Result<(), PostFault>
+    ) -> Result<Lines, PostFault>
         requires { IsSeen N.board.domains c.old.object h n }
         ensures ok { OnOk result (self.new ≡ acted self.old (post_step (held_with (world_of self.old) h.id) h.id n.point)) }
-        ensures lines { OnOk result (Tells (world_of self.old) (held_with (world_of self.old) h.id) h n.point
-            (said_by self.old (post_step (held_with (world_of self.old) h.id) h.id n.point))) }
+        ensures said { IfOk result (λ lines. lines.lines ≡ said_by self.old (post_step (held_with (world_of self.old) h.id) h.id n.point)) }
+        ensures lines { IfOk result (λ lines. Tells (world_of self.old) (held_with (world_of self.old) h.id) h n.point lines.lines) }
         ensures err { IfErr result (PostFails self.old self.new (post_step (held_with (world_of self.old) h.id) h.id n.point) h n) }
         ensures kept { Begins c.new.object c.old.object }
         ensures told_before { Begins c.new.object (published_in (world_of self.old)) }
@@ -266,13 +270,14 @@ impl<N: Name> Locked<N> {
     {
         let changes = self.ran.plane().history().len();
         self.ran.tell(&mut c.seat);
-        self.ran.post(alloc, h, n)?;
-        match settle(rt, alloc, &mut self.ran, &mut self.posters, changes) {
-            Ok(()) => {
+        let lines = self.ran.post(alloc, h, n)?;
+        match settle(rt, alloc, &mut self.ran, &mut self.posters, changes, lines) {
+            Ok(lines) => {
                 self.ran.tell(&mut c.seat);
-                Ok(())
+                Ok(lines)
             }
-            Err(_) => Err(PostFault::Unpublished(Lines::new(alloc))),
+            Err(ActFault::Unpublished(lines)) => Err(PostFault::Unpublished(lines)),
+            Err(ActFault::NoMemory) => unreachable!(),
         }
     }
 

@@ -12,8 +12,9 @@ ghost use Rattle.plane_core.specs.Planes.{IsCopy, IsDecidedBy, IsDecision, IsNam
 ghost use Rattle.plane_core.specs.Seats.{IsTold};
 ghost use Rattle.plane_core.specs.Shown.{opened, shown_by, shown_of};
 ghost use Rattle.table_publish.specs.Object.{Begins, IsPublished};
+ghost use Rattle.transcript_lines.specs.Rows.{IsPlain};
 ghost use Rattle.plane_lock.specs.Holds.{held_line};
-ghost use Rattle.plane_lock.specs.Pasts.{after, event_step, lines_of, post_step, state_of, world_of};
+ghost use Rattle.plane_lock.specs.Pasts.{after, event_step, lines_of, post_step, said_by, state_of, world_of};
 
 use crate::NoMemory;
 use br_model::bytes::Bytes;
@@ -21,9 +22,8 @@ use br_model::change::Update;
 use br_model::numbers::{Dom, Port};
 use br_model::steps::{Event, Refusal, Step};
 use br_model::transcript::Line;
-use chip_pipeline::Pass;
 use lists::Items;
-use plane_core::{Held, Plane, PostFault, TurnFault};
+use plane_core::{Entered, Held, Plane, PostFault, TurnFault};
 use std::alloc::Global;
 use std::marker::Model;
 use std::sync::Wait;
@@ -43,8 +43,8 @@ pub struct Book {
 /// A plane with the steps that led to it, and their lines: the lines of a step stand behind those of the steps before. Contracts see
 /// its board, its setup and its steps, each of which a line for `check` can give. It isn't `Drop`, since the plane isn't: end it by `book`.
 ///
-/// Each call that takes a step records it, and takes the room for that before the plane's first change: where it answers a fault, all
-/// is as before.
+/// Each call that takes a step records it and answers the lines that it wrote. It takes the room for that before the plane's first
+/// change: where it answers a fault, all is as before.
 pub struct Ran {
     plane: Plane,
     steps: Vec<Step>,
@@ -83,7 +83,8 @@ fn step_of(e: &Event) -> Step
 
 /// The line of a frame that is held, or of the refusal.
 fn held_line(held: &Option<Held>, step: u32) -> Line
-    ensures { result ≡ held_line (option_map shown_by held.now) step }
+    ensures line { result ≡ held_line (option_map shown_by held.now) step }
+    ensures plain { IsPlain result }
 {
     match held {
         Some(held) => Line::Held {
@@ -124,44 +125,51 @@ impl Ran {
     }
 
     /// A frame of these bytes enters at the port. The answer is the chip's, where it decided the frame.
-    pub fn enter(&mut self, alloc: Global, p: Port, b: &[u8]) -> Result<Option<Pass>, NoMemory>
+    pub fn enter(&mut self, alloc: Global, p: Port, b: &[u8]) -> Result<Entered, NoMemory>
         ensures ok { OnOk result (self.new ≡ after self.old (steps.Rx p b.now)) }
-        ensures pass { IfOk result (IsDecidedBy (world_of self.old) p b.now (frame_of b.now)) }
+        ensures lines { IfOk result (λ e. e.lines.lines ≡ said_by self.old (steps.Rx p b.now)) }
+        ensures pass { IfOk result (λ e. IsDecidedBy (world_of self.old) p b.now (frame_of b.now) e.pass) }
         ensures err { OnErr result (self.new ≡ self.old) }
     {
         self.steps.reserve(1)?;
         let bytes = Bytes::copy_of(alloc, b)?;
         let frame = Bytes::copy_of(alloc, b)?;
+        self.lines.mark();
         let pass = self.plane.enter_to(p, frame, &mut self.lines)?;
         self.steps.push_reserved(Step::Rx { port: p, bytes });
-        Ok(pass)
+        let lines = self.lines.copy_out(alloc);
+        Ok(Entered { lines, pass })
     }
 
     /// An event that a scenario names, a command or a moment before 2^53.
-    pub fn accept(&mut self, alloc: Global, e: &Event) -> Result<(), NoMemory>
+    pub fn accept(&mut self, alloc: Global, e: &Event) -> Result<Lines, NoMemory>
         requires { IsNamed e.now }
         ensures ok { OnOk result (self.new ≡ after self.old (event_step e.now)) }
+        ensures lines { IfOk result (λ lines. lines.lines ≡ said_by self.old (event_step e.now)) }
         ensures err { OnErr result (self.new ≡ self.old) }
     {
         self.steps.reserve(1)?;
         let step = step_of(e);
+        self.lines.mark();
         self.plane.accept_to(alloc, e, &mut self.lines)?;
         self.steps.push_reserved(step);
-        Ok(())
+        Ok(self.lines.copy_out(alloc))
     }
 
     /// The chip of the domain applies the next deferred change, which the update names by its ticket.
-    pub fn turn(&mut self, d: Dom, u: Option<Update>) -> Result<(), TurnFault>
+    pub fn turn(&mut self, alloc: Global, d: Dom, u: Option<Update>) -> Result<Lines, TurnFault>
         requires { has_chip self.old.setup.domains d ≡ true }
         ensures ok { OnOk result (self.new ≡ after self.old (steps.Turn d)) }
+        ensures lines { IfOk result (λ lines. lines.lines ≡ said_by self.old (steps.Turn d)) }
         ensures named { OnOk result (IfSome (next_ticket (world_of self.old) (chip_at (world_of self.old) d)) (λ ticket. ticket_of u ≡ Some ticket)) }
         ensures err { OnErr result (self.new ≡ self.old) }
         ensures fault { IfErr result (NotTurned (state_of self.old) (state_of self.new) d u) }
     {
         self.steps.reserve(1)?;
+        self.lines.mark();
         self.plane.turn_to(d, u, &mut self.lines)?;
         self.steps.push_reserved(Step::Turn(d));
-        Ok(())
+        Ok(self.lines.copy_out(alloc))
     }
 
     /// The oldest frame that waits is held, and the answer is a copy of it. `None` exactly where none waits, which is a refused step.
@@ -180,10 +188,11 @@ impl Ran {
     }
 
     /// A held frame is sent by this decision of it. The step is recorded without its point where no frame with the id is held.
-    pub fn post(&mut self, alloc: Global, h: Held, s: Seen) -> Result<(), PostFault>
+    pub fn post(&mut self, alloc: Global, h: Held, s: Seen) -> Result<Lines, PostFault>
         requires floor { h.floor ≤ s.point }
         requires decision { (x : HoldingOf) → IsCopy (world_of self.old) h x → s.point ≤ (world_of self.old).published → IsDecision (world_of self.old) x s }
         ensures ok { OnOk result (self.new ≡ after self.old (post_step (held_with (world_of self.old) h.id) h.id s.point)) }
+        ensures lines { IfOk result (λ lines. lines.lines ≡ said_by self.old (post_step (held_with (world_of self.old) h.id) h.id s.point)) }
         ensures held { OnOk result (IfSome (held_with (world_of self.old) h.id) (λ x. (shown_by h ≡ shown_of x) × (s.point ≤ (world_of self.old).published))) }
         ensures err { OnErr result (self.new ≡ self.old) }
         ensures fault { IfErr result (NotPosted (state_of self.old) (state_of self.new) h s) }
@@ -194,53 +203,73 @@ impl Ran {
         let id = h.id;
         let point = s.point;
         let held = self.plane.held();
+        self.lines.mark();
         self.plane.post_to(alloc, h, s, &mut self.lines)?;
         let is_released = self.plane.held() < held;
         let point = if is_released { Some(point) } else { None };
         self.steps.push_reserved(Step::Post { id, point });
-        Ok(())
+        Ok(self.lines.copy_out(alloc))
     }
 
     /// The oldest frame that waits is sent by what is published, of which the seat is told first.
-    pub fn serve(&mut self, alloc: Global, s: &mut Seat) -> Result<(), NoMemory>
+    pub fn serve(&mut self, alloc: Global, s: &mut Seat) -> Result<Lines, NoMemory>
         requires { s.old.board ≡ self.old.board }
         ensures ok { OnOk result (self.new ≡ after self.old steps.Serve) }
+        ensures lines { IfOk result (λ lines. lines.lines ≡ said_by self.old steps.Serve) }
         ensures err { OnErr result (self.new ≡ self.old) }
         ensures board { s.new.board ≡ s.old.board }
         ensures seat { OnOk result (IsTold s.old s.new (published_in (world_of self.old))) }
     {
         self.steps.reserve(1)?;
+        self.lines.mark();
         self.plane.serve_to(alloc, s, &mut self.lines)?;
         self.steps.push_reserved(Step::Serve);
-        Ok(())
+        Ok(self.lines.copy_out(alloc))
     }
 
     /// The bridge is told the oldest report of the domain's chip.
-    pub fn report(&mut self, alloc: Global, d: Dom) -> Result<(), NoMemory>
+    pub fn report(&mut self, alloc: Global, d: Dom) -> Result<Lines, NoMemory>
         requires { has_chip self.old.setup.domains d ≡ true }
         ensures ok { OnOk result (self.new ≡ after self.old (steps.Report d)) }
+        ensures lines { IfOk result (λ lines. lines.lines ≡ said_by self.old (steps.Report d)) }
         ensures err { OnErr result (self.new ≡ self.old) }
     {
         self.steps.reserve(1)?;
+        self.lines.mark();
         self.plane.report_to(alloc, d, &mut self.lines)?;
         self.steps.push_reserved(Step::Report(d));
-        Ok(())
+        Ok(self.lines.copy_out(alloc))
     }
 
     /// The bridge forgets the stations that the chip of the domain no longer sees.
-    pub fn sweep(&mut self, alloc: Global, d: Dom) -> Result<(), NoMemory>
+    pub fn sweep(&mut self, alloc: Global, d: Dom) -> Result<Lines, NoMemory>
         requires { has_chip self.old.setup.domains d ≡ true }
         ensures ok { OnOk result (self.new ≡ after self.old (steps.Sweep d)) }
+        ensures lines { IfOk result (λ lines. lines.lines ≡ said_by self.old (steps.Sweep d)) }
         ensures err { OnErr result (self.new ≡ self.old) }
     {
         self.steps.reserve(1)?;
+        self.lines.mark();
         self.plane.sweep_to(alloc, d, &mut self.lines)?;
         self.steps.push_reserved(Step::Sweep(d));
-        Ok(())
+        Ok(self.lines.copy_out(alloc))
     }
 
     /// All accepted changes are published.
-    pub fn publish<R: Wait>(&mut self, rt: &R, alloc: Global) -> Result<(), NoMemory>
+    pub fn publish<R: Wait>(&mut self, rt: &R, alloc: Global) -> Result<Lines, NoMemory>
+        ensures ok { OnOk result (self.new ≡ after self.old steps.Publish) }
+        ensures lines { IfOk result (λ lines. lines.lines ≡ said_by self.old steps.Publish) }
+        ensures err { OnErr result (self.new ≡ self.old) }
+    {
+        self.steps.reserve(1)?;
+        self.lines.mark();
+        self.plane.publish_to(rt, alloc, &mut self.lines)?;
+        self.steps.push_reserved(Step::Publish);
+        Ok(self.lines.copy_out(alloc))
+    }
+
+    /// The same, where nobody asks for the lines.
+    pub(crate) fn record_publish<R: Wait>(&mut self, rt: &R, alloc: Global) -> Result<(), NoMemory>
         ensures ok { OnOk result (self.new ≡ after self.old steps.Publish) }
         ensures err { OnErr result (self.new ≡ self.old) }
     {

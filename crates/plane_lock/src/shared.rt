@@ -15,11 +15,11 @@ use crate::queues::{Driver, Queues};
 use crate::ran::Ran;
 use br_model::numbers::{Dom, Port};
 use br_model::steps::Event;
-use chip_pipeline::Pass;
-use plane_core::{Held, PostFault};
+use plane_core::{Entered, Held, PostFault};
 use std::alloc::Global;
 use std::sync::{Mutex, MutexGuard, Wait};
 use table_publish::{Name, Seen};
+use transcript_lines::Lines;
 
 /// The plane behind its lock, and a driver lock for each domain that has a chip, which is always taken first. It isn't `Drop`: end the
 /// run that `close` gives.
@@ -47,6 +47,7 @@ fn place_of(drivers: &[Driver], d: Dom) -> usize
 /// The chip of the domain applies the updates that the desk gives, at most so many.
 fn apply_next<N: Name, R: Wait>(
     rt: &R,
+    alloc: Global,
     desk: &mut Desk,
     core: &mut Locked<N>,
     d: Dom,
@@ -58,7 +59,7 @@ fn apply_next<N: Name, R: Wait>(
         let Some(update) = desk.next(rt) else {
             break;
         };
-        core.turn(d, update)?;
+        core.turn(alloc, d, update)?;
         desk.done(core.applied(d));
     }
     Ok(())
@@ -97,15 +98,15 @@ impl<N: Name> Shared<N> {
         alloc: Global,
         p: Port,
         b: &[u8],
-    ) -> Result<Option<Pass>, NoMemory> {
+    ) -> Result<Entered, NoMemory> {
         let mut core = self.core.lock(rt);
-        let pass = core.enter(alloc, p, b);
+        let entered = core.enter(alloc, p, b);
         MutexGuard::unlock(core);
-        pass
+        entered
     }
 
     /// An event that a scenario names.
-    pub fn accept<R: Wait>(&self, rt: &R, alloc: Global, e: &Event) -> Result<(), ActFault>
+    pub fn accept<R: Wait>(&self, rt: &R, alloc: Global, e: &Event) -> Result<Lines, ActFault>
         requires { IsNamed e.now }
     {
         let mut core = self.core.lock(rt);
@@ -114,28 +115,27 @@ impl<N: Name> Shared<N> {
         done
     }
 
-    /// The chip of the domain applies the next deferred change, once the queue has told of one: `false`, and no step, where no update
+    /// The chip of the domain applies the next deferred change, once the queue has told of one. No lines, and no step, where no update
     /// was kept from an earlier turn and the queue was empty at its take.
-    pub fn turn<R: Wait>(&self, rt: &R, d: Dom) -> Result<bool, NoMemory>
+    pub fn turn<R: Wait>(&self, rt: &R, alloc: Global, d: Dom) -> Result<Lines, NoMemory>
         requires { has_chip N.board.domains d ≡ true }
     {
         let driver = &self.drivers[place_of(&self.drivers, d)];
         let mut desk = driver.desk.lock(rt);
         let Some(update) = desk.next(rt) else {
-            return Ok(false);
+            return Ok(Lines::new(alloc));
         };
         let mut core = self.core.lock(rt);
-        let turned = core.turn(d, update);
+        let turned = core.turn(alloc, d, update);
         let applied = core.applied(d);
         MutexGuard::unlock(core);
         desk.done(applied);
-        turned?;
-        Ok(true)
+        turned
     }
 
     /// The same of updates one after another, at most so many, without the plane's lock where the queue tells of none. Nothing where
     /// another call has the driver's lock.
-    pub fn turns<R: Wait>(&self, rt: &R, d: Dom, most: usize) -> Result<(), NoMemory>
+    pub fn turns<R: Wait>(&self, rt: &R, alloc: Global, d: Dom, most: usize) -> Result<(), NoMemory>
         requires { has_chip N.board.domains d ≡ true }
     {
         let driver = &self.drivers[place_of(&self.drivers, d)];
@@ -146,13 +146,13 @@ impl<N: Name> Shared<N> {
             return Ok(());
         }
         let mut core = self.core.lock(rt);
-        let done = apply_next(rt, &mut desk, &mut core, d, most);
+        let done = apply_next(rt, alloc, &mut desk, &mut core, d, most);
         MutexGuard::unlock(core);
         done
     }
 
     /// The bridge is told the oldest report of the domain's chip.
-    pub fn report<R: Wait>(&self, rt: &R, alloc: Global, d: Dom) -> Result<(), ActFault>
+    pub fn report<R: Wait>(&self, rt: &R, alloc: Global, d: Dom) -> Result<Lines, ActFault>
         requires { has_chip N.board.domains d ≡ true }
     {
         let mut core = self.core.lock(rt);
@@ -162,7 +162,7 @@ impl<N: Name> Shared<N> {
     }
 
     /// The bridge forgets the stations that the chip of the domain no longer sees.
-    pub fn sweep<R: Wait>(&self, rt: &R, alloc: Global, d: Dom) -> Result<(), ActFault>
+    pub fn sweep<R: Wait>(&self, rt: &R, alloc: Global, d: Dom) -> Result<Lines, ActFault>
         requires { has_chip N.board.domains d ≡ true }
     {
         let mut core = self.core.lock(rt);
@@ -172,7 +172,7 @@ impl<N: Name> Shared<N> {
     }
 
     /// All accepted changes are published.
-    pub fn publish<R: Wait>(&self, rt: &R, alloc: Global) -> Result<(), NoMemory> {
+    pub fn publish<R: Wait>(&self, rt: &R, alloc: Global) -> Result<Lines, NoMemory> {
         let mut core = self.core.lock(rt);
         let done = core.publish(rt, alloc);
         MutexGuard::unlock(core);
@@ -203,7 +203,7 @@ impl<N: Name> Shared<N> {
         c: &mut Chair<N>,
         h: Held,
         n: Seen,
-    ) -> Result<(), PostFault>
+    ) -> Result<Lines, PostFault>
         requires { IsSeen N.board.domains c.old.object h n }
         ensures { Begins c.new.object c.old.object }
     {

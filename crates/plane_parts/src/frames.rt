@@ -8,6 +8,7 @@ ghost use Rattle.br_model.specs.Wire.Messages.{message as message_of};
 ghost use Rattle.hwdom_marks.specs.Marks.{domain_marked};
 ghost use Rattle.plane_parts.specs.Queued.{Queued, hold_line, holds_oldest};
 ghost use Rattle.plane_parts.specs.Arrivals.{arrival, arrival_lines, settled, IsArrival};
+ghost use Rattle.transcript_lines.specs.Rows.{IsPlain};
 
 use crate::NoMemory;
 use crate::frame::{Frame, Holding};
@@ -37,7 +38,8 @@ impl Arrival {
     /// Adds the line that says of the frame with this id that it doesn't wait for want of room, if so. There is room for the line.
     pub fn tell(&self, id: u32, lines: &mut Lines)
         requires { 1 ≤ lines.old.rows }
-        ensures { lines.new.lines ≡ lines.old.lines ++ arrival_lines id self.now }
+        ensures lines { lines.new.lines ≡ lines.old.lines ++ arrival_lines id self.now }
+        ensures marked { lines.new.marked ≡ lines.old.marked }
     {
         match self {
             Arrival::Overruns => lines.push_reserved(Line::Overrun { id }),
@@ -166,7 +168,8 @@ impl Frames {
 
     /// The line of the step that holds the frame that waits longest with this floor.
     pub fn hold_line(&self, step: u32, floor: u32) -> Line
-        ensures { result ≡ hold_line step floor self.now.waiting }
+        ensures line { result ≡ hold_line step floor self.now.waiting }
+        ensures plain { IsPlain result }
     {
         match self.oldest() {
             Some(frame) => Line::Held {

@@ -1,14 +1,14 @@
 -- Bytes that come to the arena leave what stands in it.
-use Rattle.std.proofs.Common.{arith, ◌≡◌, ℕ, zero, suc, ◌+◌, ◌≤◌, List, [], ◌∷◌, ◌++◌, length, take, drop, refl, sym, ap, ap₂, ◌∙◌, subst}
+use Rattle.std.proofs.Common.{arith, ◌≡◌, ℕ, zero, suc, ◌+◌, ◌-◌, ◌<◌, ◌≤◌, min, List, [], ◌∷◌, ◌++◌, map, length, get_or, take, drop, refl, sym, ap, ap₂, ◌∙◌, subst}
 use Rattle.std.proofs.Math.Seq.{take-length, drop-append_seam}
-use Rattle.std.proofs.lemmas.List.{append-nil, length-append, take-append-le, drop-append-le, length-drop}
+use Rattle.std.proofs.lemmas.List.{append-nil, drop_all, drop-drop, length-append, length-take-le, take-append-drop, take-append-le, drop-append-le, length-drop}
 use Rattle.std.proofs.lemmas.Grind.{flat_map-append}
 use Rattle.br_model.specs.declared.transcript.Line.{Line}
 use Rattle.br_model.specs.declared.transcript.Line.TheVariants as lines
 use Rattle.transcript_lines.specs.declared.row.Row.{Row}
 use Rattle.transcript_lines.specs.declared.row.Row.TheVariants.{One, Sent, Ctl}
 use Rattle.transcript_lines.specs.declared.row.Span.{Span}
-use Rattle.transcript_lines.specs.Rows.{at, sent_lines, expand_row, expand, IsInside, AreInside}
+use Rattle.transcript_lines.specs.Rows.{at, sent_lines, expand_row, expand, moved, moved_row, room, IsInside, AreInside, IsBehind, AreBehind, AreMarked, Fit}
 
 pub at-more : (arena more : List ℕ) (s : Span) → s.from + s.len ≤ length arena → at (arena ++ more) s ≡ at arena s
 at-more arena more s inside =
@@ -106,3 +106,105 @@ mark_low mark rows now row low more_rows = omega (arith, low, ap length more_row
 
 pub inside_cut : (n mark : ℕ) (rows now : List Row) → AreInside n rows → now ≡ take mark rows → AreInside n now
 inside_cut n mark rows now inside is = subst (AreInside n) (sym is) (inside-take n mark rows inside)
+
+-- Rows behind the mark.
+
+behind-append : (least : ℕ) (rows : List Row) (row : Row) → AreBehind least rows → IsBehind least row → AreBehind least (rows ++ row ∷ [])
+behind-append least [] row behind last = (last, tt)
+behind-append least (r ∷ rows) row behind last = (behind.0, behind-append least rows row behind.1 last)
+
+behind-pushed : (least mark : ℕ) (rows : List Row) (row : Row) → mark ≤ length rows → AreBehind least (drop mark rows) → IsBehind least row → AreBehind least (drop mark (rows ++ row ∷ []))
+behind-pushed least mark rows row low behind last = subst (AreBehind least) (sym (drop-append-le mark rows (row ∷ []) low)) (behind-append least (drop mark rows) row behind last)
+
+pub behind-at : (least : ℕ) (rows : List Row) (i : ℕ) (d : Row) → AreBehind least rows → i < length rows → IsBehind least (get_or rows i d)
+behind-at least [] i d behind low = absurd (omega (arith, low))
+behind-at least (row ∷ rows) zero d behind low = behind.0
+behind-at least (row ∷ rows) (suc i) d behind low = behind-at least rows i d behind.1 (omega (arith, low))
+
+-- a row that comes to marked rows, with what comes to the arena
+pub marked_more : (arena more after : List ℕ) (rows now : List Row) (row : Row) (mark bytes : ℕ) → AreMarked arena rows mark bytes → after ≡ arena ++ more → now ≡ rows ++ row ∷ []
+    → IsInside (length after) row → IsBehind bytes row → AreMarked after now mark bytes
+marked_more arena more after rows now row mark bytes m grown more_rows inside behind = record {
+  inside = kept (length arena) (length after) rows now row m.inside (grows arena after more grown) inside more_rows;
+  behind = subst (λ (r : List Row). AreBehind bytes (drop mark r)) (sym more_rows) (behind-pushed bytes mark rows row m.rows_before m.behind behind);
+  rows_before = mark_low mark rows now row m.rows_before more_rows;
+  bytes_before = omega (arith, m.bytes_before, grows arena after more grown);
+}
+
+-- none is behind a mark at the end
+pub marked_all : (arena : List ℕ) (rows : List Row) (mark bytes : ℕ) → AreInside (length arena) rows → mark ≡ length rows → bytes ≡ length arena → AreMarked arena rows mark bytes
+marked_all arena rows mark bytes inside last end = record {
+  inside = inside;
+  behind = subst (AreBehind bytes) (sym (drop_all mark rows (omega (arith, last)))) tt;
+  rows_before = omega (arith, last);
+  bytes_before = omega (arith, end);
+}
+
+-- nor behind a cut
+pub marked_cut : (arena : List ℕ) (rows now : List Row) (mark bytes : ℕ) → AreMarked arena rows mark bytes → now ≡ take mark rows → AreMarked arena now mark bytes
+marked_cut arena rows now mark bytes m is =
+    let few : length now ≡ mark = ap length is ∙ length-take-le mark rows m.rows_before in
+    record {
+      inside = inside_cut (length arena) mark rows now m.inside is;
+      behind = subst (AreBehind bytes) (sym (drop_all mark now (omega (arith, few)))) tt;
+      rows_before = omega (arith, few);
+      bytes_before = m.bytes_before;
+    }
+
+-- A copy of the rows behind the mark.
+
+at-moved : (front : ℕ) (arena : List ℕ) (s : Span) → front ≤ s.from → at (drop front arena) (moved front s) ≡ at arena s
+at-moved front arena s low =
+    let e : front + (s.from - front) ≡ s.from = omega (arith, low) in
+    ap (take s.len) (drop-drop (s.from - front) front arena ∙ ap (λ m. drop m arena) e)
+
+expand_row-moved : (front : ℕ) (arena : List ℕ) (row : Row) → IsBehind front row → expand_row (drop front arena) (moved_row front row) ≡ expand_row arena row
+expand_row-moved front arena (One line) behind = refl
+expand_row-moved front arena (Sent id ports untagged plain tagged) behind =
+    ap₂ (sent_lines id ports untagged) (at-moved front arena plain behind.0) (at-moved front arena tagged behind.1)
+expand_row-moved front arena (Ctl port bytes) behind = ap (λ b. lines.Ctl port b ∷ []) (at-moved front arena bytes behind)
+
+expand-moved : (front : ℕ) (arena : List ℕ) (rows : List Row) → AreBehind front rows → expand (drop front arena) (map (moved_row front) rows) ≡ expand arena rows
+expand-moved front arena [] behind = refl
+expand-moved front arena (row ∷ rows) behind = ap₂ (λ a b. a ++ b) (expand_row-moved front arena row behind.0) (expand-moved front arena rows behind.1)
+
+expand-split : (arena : List ℕ) (rows : List Row) (mark : ℕ) → expand arena rows ≡ expand arena (take mark rows) ++ expand arena (drop mark rows)
+expand-split arena rows mark = ap (expand arena) (sym (take-append-drop mark rows)) ∙ flat_map-append (expand_row arena) (take mark rows) (drop mark rows)
+
+-- the lines of the copy stand behind those before the mark
+pub copied : (front mark : ℕ) (arena bytes : List ℕ) (rows now : List Row) → AreBehind front (drop mark rows) → bytes ≡ drop front arena → now ≡ map (moved_row front) (drop mark rows)
+    → expand arena rows ≡ expand arena (take mark rows) ++ expand bytes now
+copied front mark arena bytes rows now behind bytes_are are =
+    expand-split arena rows mark
+    ∙ ap (λ l. expand arena (take mark rows) ++ l) (sym (ap₂ expand bytes_are are ∙ expand-moved front arena (drop mark rows) behind))
+
+inside_row-moved : (front most : ℕ) (row : Row) → IsInside most row → IsBehind front row → IsInside (most - front) (moved_row front row)
+inside_row-moved front most (One line) inside behind = tt
+inside_row-moved front most (Sent id ports untagged plain tagged) inside behind = (omega (arith, inside.0, behind.0), omega (arith, inside.1, behind.1))
+inside_row-moved front most (Ctl port bytes) inside behind = omega (arith, inside, behind)
+
+inside-moved : (front most : ℕ) (rows : List Row) → AreInside most rows → AreBehind front rows → AreInside (most - front) (map (moved_row front) rows)
+inside-moved front most [] inside behind = tt
+inside-moved front most (row ∷ rows) inside behind = (inside_row-moved front most row inside.0 behind.0, inside-moved front most rows inside.1 behind.1)
+
+inside-drop : (n k : ℕ) (rows : List Row) → AreInside n rows → AreInside n (drop k rows)
+inside-drop n zero rows inside = inside
+inside-drop n (suc k) [] inside = tt
+inside-drop n (suc k) (row ∷ rows) inside = inside-drop n k rows inside.1
+
+-- and stand within their own arena
+pub copied_inside : (front mark : ℕ) (arena bytes : List ℕ) (rows now : List Row) → AreMarked arena rows mark front → bytes ≡ drop front arena → now ≡ map (moved_row front) (drop mark rows)
+    → AreInside (length bytes) now
+copied_inside front mark arena bytes rows now m bytes_are are =
+    subst (AreInside (length bytes)) (sym are)
+    (subst (λ n. AreInside n (map (moved_row front) (drop mark rows))) (sym (ap length bytes_are ∙ length-drop front arena))
+    (inside-moved front (length arena) (drop mark rows) (inside-drop (length arena) mark rows m.inside) m.behind))
+
+-- Room.
+
+-- so many more in it
+pub fit_more : (len capacity mark copied more len2 capacity2 there : ℕ) → Fit len capacity mark copied → room len capacity mark copied ≡ there → more ≤ there → len2 ≡ len + more → capacity ≤ capacity2
+    → Fit len2 capacity2 mark copied
+fit_more len capacity mark copied more len2 capacity2 there fit is low len_is grows =
+    let e : min (capacity - len) (mark + copied - len) ≡ there = is in
+    record { all = omega (arith, fit.all, e, low, len_is, grows); copy = omega (arith, fit.copy, e, low, len_is) }

@@ -1,5 +1,5 @@
 -- Rows of lines over an arena of bytes, and the lines that they stand for.
-use Rattle.std.specs.Prelude.{ℕ, ◌+◌, ◌≤◌, if◌then◌else◌, List, [], ◌∷◌, map, take, drop}
+use Rattle.std.specs.Prelude.{ℕ, ◌+◌, ◌-◌, ◌≤◌, min, if◌then◌else◌, List, [], ◌∷◌, map, take, drop, length}
 use Rattle.std.specs.List.{flat_map}
 use Rattle.br_model.specs.declared.transcript.Line.{Line}
 use Rattle.br_model.specs.declared.transcript.Line.TheVariants as lines
@@ -36,7 +36,55 @@ abbrev pub AreInside : ℕ → List Row → Type 0
 AreInside most [] = Unit
 AreInside most (row ∷ rows) = IsInside most row × AreInside most rows
 
--- Lines, those of them before the mark, and the room beside them: how many more rows and bytes they have place for.
+-- the line has no bytes of its own
+abbrev pub IsPlain : Line → Type 0
+IsPlain (lines.Chip id changes applied class) = Unit
+IsPlain (lines.Unread id why) = Unit
+IsPlain (lines.Soft id point) = Unit
+IsPlain (lines.Held id floor) = Unit
+IsPlain (lines.Tx id port bytes) = ⊥
+IsPlain (lines.Ctl port bytes) = ⊥
+IsPlain (lines.Overrun id) = Unit
+IsPlain (lines.Done step changes) = Unit
+IsPlain (lines.Refused step refusal) = Unit
+IsPlain (lines.End steps changes pending waiting) = Unit
+
+-- the row's bytes stand behind so many
+abbrev pub IsBehind : ℕ → Row → Type 0
+IsBehind least (One line) = IsPlain line
+IsBehind least (Sent id ports untagged plain tagged) = (least ≤ plain.from) × (least ≤ tagged.from)
+IsBehind least (Ctl port bytes) = least ≤ bytes.from
+
+abbrev pub AreBehind : ℕ → List Row → Type 0
+AreBehind least [] = Unit
+AreBehind least (row ∷ rows) = IsBehind least row × AreBehind least rows
+
+-- the same row over an arena without its first bytes, which are so many
+abbrev pub moved : ℕ → Span → Span
+moved front s = record s { from = s.from - front }
+
+abbrev pub moved_row : ℕ → Row → Row
+moved_row front (One line) = One line
+moved_row front (Sent id ports untagged plain tagged) = Sent id ports untagged (moved front plain) (moved front tagged)
+moved_row front (Ctl port bytes) = Ctl port (moved front bytes)
+
+-- Rows over an arena, and how many rows and bytes there were when the mark was set.
+pub record AreMarked (arena : List ℕ) (rows : List Row) (mark bytes : ℕ) : Type 0 where
+  pub inside : AreInside (length arena) rows
+  pub behind : AreBehind bytes (drop mark rows)
+  pub rows_before : mark ≤ length rows
+  pub bytes_before : bytes ≤ length arena
+
+-- So many have place, and so does a copy of those behind the mark.
+pub record Fit (len capacity mark copied : ℕ) : Type 0 where
+  pub all : len ≤ capacity
+  pub copy : len ≤ mark + copied
+
+-- for how many more there is room, and for a copy of them
+abbrev pub room : ℕ → ℕ → ℕ → ℕ → ℕ
+room len capacity mark copied = min (capacity - len) (mark + copied - len)
+
+-- Lines, those of them before the mark, and the room beside them: how many more rows and bytes they and a copy have place for.
 pub record Listed : Type 0 where
   pub lines : List Line
   pub marked : List Line

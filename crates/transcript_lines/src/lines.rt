@@ -1,42 +1,57 @@
 //! Lines, with room for more.
-ghost use Rattle.std.specs.Prelude.{◌≡◌, ◌+◌, ◌-◌, ◌*◌, ◌<◌, ◌≤◌, ◌++◌, ◌∷◌, [], length, vec_len, vec_capacity, OnOk, OnErr};
+ghost use Rattle.std.specs.Prelude.{◌≡◌, ◌+◌, ◌-◌, ◌*◌, ◌<◌, ◌≤◌, ◌++◌, ◌∷◌, [], length, map, vec_len, vec_capacity, IfOk, OnOk, OnErr};
 ghost use Rattle.br_model.specs.declared.transcript.Line.TheVariants as line;
-ghost use Rattle.transcript_lines.specs.Rows.{at, expand, sent_lines};
+ghost use Rattle.transcript_lines.specs.Rows.{at, expand, moved_row, sent_lines, AreBehind, IsPlain};
 
 use crate::row::{Row, Span};
 use br_model::NoMemory;
 use br_model::numbers::Port;
 use br_model::transcript::Line;
 use port_sets::Ports;
-use std::alloc::Global;
+use std::alloc::{AllocError, Global};
 use std::marker::Model;
+use std::mem;
 
-/// Lines in the order in which they are written, and room for more. Room is taken first; what is pushed into it can't fail.
+/// Lines in the order in which they are written, and room for more. Room is taken first; what is pushed into it can't fail, and
+/// neither can a copy of what stands behind the mark.
 ///
 /// Contracts see the list of the lines, those before the mark, and how many more rows and bytes there is room for.
 #[derive(Drop)]
 pub struct Lines {
     rows: Vec<Row>,
     bytes: Vec<u8>,
-    // How many rows there were when the mark was set.
+    // How many rows and bytes there were when the mark was set.
     mark: usize,
+    bytes_mark: usize,
+    // The room for a copy of what stands behind the mark.
+    copied_rows: Vec<Row>,
+    copied_bytes: Vec<u8>,
 }
 
 impl Model for Lines {
-    ghost use Rattle.std.specs.Prelude.{◌-◌, ◌≤◌, length, take, vec_len, vec_capacity};
-    ghost use Rattle.transcript_lines.specs.Rows.{Listed, AreInside, expand};
+    ghost use Rattle.std.specs.Prelude.{◌≡◌, [], take, vec_len, vec_capacity};
+    ghost use Rattle.transcript_lines.specs.Rows.{Listed, AreMarked, Fit, expand, room};
 
     ghost Value = { Listed };
 
     ghost view = { λ l. record {
       lines = expand l.bytes.items l.rows.items;
       marked = expand l.bytes.items (take l.mark l.rows.items);
-      rows = vec_capacity l.rows - vec_len l.rows;
-      bytes = vec_capacity l.bytes - vec_len l.bytes;
+      rows = room (vec_len l.rows) (vec_capacity l.rows) l.mark (vec_capacity l.copied_rows);
+      bytes = room (vec_len l.bytes) (vec_capacity l.bytes) l.bytes_mark (vec_capacity l.copied_bytes);
     } };
 
-    ghost invariant = { λ l. AreInside (length l.bytes.items) l.rows.items × (l.mark ≤ length l.rows.items)
-        × (vec_len l.rows ≤ vec_capacity l.rows) × (vec_len l.bytes ≤ vec_capacity l.bytes) };
+    ghost invariant = { λ l. AreMarked l.bytes.items l.rows.items l.mark l.bytes_mark
+        × Fit (vec_len l.rows) (vec_capacity l.rows) l.mark (vec_capacity l.copied_rows)
+        × Fit (vec_len l.bytes) (vec_capacity l.bytes) l.bytes_mark (vec_capacity l.copied_bytes)
+        × (l.copied_rows.items ≡ []) × (l.copied_bytes.items ≡ []) };
+}
+
+/// Past the greatest number there is no memory for so many.
+fn sum(count: usize, more: usize) -> Result<usize, NoMemory>
+    ensures { IfOk result (λ n. n ≡ count + more) }
+{
+    count.checked_add(more).ok_or(AllocError)
 }
 
 /// Adds bytes, for which there is room.
@@ -71,6 +86,19 @@ fn store(arena: &mut Vec<u8>, front: &[u8], tag: &[u8], rest: &[u8]) -> Span
     }
 }
 
+/// Adds copies of rows, for which there is room, over an arena without the first bytes, which are so many.
+fn add_moved(rows: &mut Vec<Row>, of: &[Row], front: usize)
+    requires room { vec_len rows.old + length of.now ≤ vec_capacity rows.old }
+    requires behind { AreBehind front of.now }
+    ensures items { rows.new.items ≡ rows.old.items ++ map (moved_row front) of.now }
+    ensures len { vec_len rows.new ≡ vec_len rows.old + length of.now }
+    ensures capacity { vec_capacity rows.new ≡ vec_capacity rows.old }
+{
+    for place in 0..of.len() {
+        rows.push_reserved(of[place].moved(front));
+    }
+}
+
 impl Lines {
     /// No line, and no room: it takes no memory.
     pub fn new(alloc: Global) -> Lines
@@ -80,6 +108,9 @@ impl Lines {
             rows: Vec::new(alloc),
             bytes: Vec::new(alloc),
             mark: 0,
+            bytes_mark: 0,
+            copied_rows: Vec::new(alloc),
+            copied_bytes: Vec::new(alloc),
         }
     }
 
@@ -91,6 +122,7 @@ impl Lines {
         ensures bytes { self.old.bytes ≤ self.new.bytes }
     {
         self.mark = 0;
+        self.bytes_mark = 0;
         self.rows.clear();
         self.bytes.clear();
     }
@@ -104,29 +136,35 @@ impl Lines {
         ensures kept_rows { self.old.rows ≤ self.new.rows }
         ensures kept_bytes { self.old.bytes ≤ self.new.bytes }
     {
+        let behind = self.rows.len() - self.mark;
+        let bytes_behind = self.bytes.len() - self.bytes_mark;
         self.rows.reserve(rows)?;
         self.bytes.reserve(bytes)?;
+        self.copied_rows.reserve(sum(behind, rows)?)?;
+        self.copied_bytes.reserve(sum(bytes_behind, bytes)?)?;
         Ok(())
     }
 
-    /// Adds a line.
+    /// Adds a line without bytes.
     pub fn push(&mut self, line: Line) -> Result<(), NoMemory>
+        requires { IsPlain line }
         ensures ok { OnOk result (self.new.lines ≡ self.old.lines ++ line ∷ []) }
-        ensures err { OnErr result (self.new ≡ self.old) }
+        ensures err { OnErr result (self.new.lines ≡ self.old.lines) }
         ensures marked { self.new.marked ≡ self.old.marked }
-        ensures bytes { self.new.bytes ≡ self.old.bytes }
+        ensures bytes { self.old.bytes ≤ self.new.bytes }
     {
-        self.rows.reserve(1)?;
-        self.rows.push_reserved(Row::One(line));
+        self.reserve(1, 0)?;
+        self.push_reserved(line);
         Ok(())
     }
 
-    /// Adds a line, for which there is room.
+    /// Adds a line without bytes, for which there is room.
     pub fn push_reserved(&mut self, line: Line)
-        requires { 1 ≤ self.old.rows }
+        requires room { 1 ≤ self.old.rows }
+        requires plain { IsPlain line }
         ensures lines { self.new.lines ≡ self.old.lines ++ line ∷ [] }
         ensures marked { self.new.marked ≡ self.old.marked }
-        ensures rows { self.new.rows + 1 ≡ self.old.rows }
+        ensures rows { self.old.rows ≤ self.new.rows + 1 }
         ensures bytes { self.new.bytes ≡ self.old.bytes }
     {
         self.rows.push_reserved(Row::One(line));
@@ -138,7 +176,7 @@ impl Lines {
         requires bytes { length bytes.now ≤ self.old.bytes }
         ensures lines { self.new.lines ≡ self.old.lines ++ line.Ctl port bytes.now ∷ [] }
         ensures marked { self.new.marked ≡ self.old.marked }
-        ensures rows { self.new.rows + 1 ≡ self.old.rows }
+        ensures rows { self.old.rows ≤ self.new.rows + 1 }
         ensures bytes { self.old.bytes ≤ self.new.bytes + length bytes.now }
     {
         let bytes = store(&mut self.bytes, &[], &[], bytes);
@@ -160,7 +198,7 @@ impl Lines {
         requires bytes { (length front.now + length rest.now) + (length front.now + (length tag.now + length rest.now)) ≤ self.old.bytes }
         ensures lines { self.new.lines ≡ self.old.lines ++ sent_lines id ports untagged (front.now ++ rest.now) (front.now ++ (tag.now ++ rest.now)) }
         ensures marked { self.new.marked ≡ self.old.marked }
-        ensures rows { self.new.rows + 1 ≡ self.old.rows }
+        ensures rows { self.old.rows ≤ self.new.rows + 1 }
         ensures bytes { self.old.bytes ≤ self.new.bytes + ((length front.now + length rest.now) + (length front.now + (length tag.now + length rest.now))) }
     {
         let plain = store(&mut self.bytes, front, &[], rest);
@@ -178,10 +216,33 @@ impl Lines {
     pub fn mark(&mut self)
         ensures marked { self.new.marked ≡ self.old.lines }
         ensures lines { self.new.lines ≡ self.old.lines }
-        ensures rows { self.new.rows ≡ self.old.rows }
-        ensures bytes { self.new.bytes ≡ self.old.bytes }
+        ensures rows { self.old.rows ≤ self.new.rows }
+        ensures bytes { self.old.bytes ≤ self.new.bytes }
     {
         self.mark = self.rows.len();
+        self.bytes_mark = self.bytes.len();
+    }
+
+    /// The lines behind the mark, copied into the room that is kept for that. The mark is set behind them.
+    pub fn copy_out(&mut self, alloc: Global) -> Lines
+        ensures copy { self.old.lines ≡ self.old.marked ++ result.lines }
+        ensures lines { self.new.lines ≡ self.old.lines }
+        ensures marked { self.new.marked ≡ self.old.lines }
+    {
+        let mut rows = mem::replace(&mut self.copied_rows, Vec::new(alloc));
+        let mut bytes = mem::replace(&mut self.copied_bytes, Vec::new(alloc));
+        add_moved(&mut rows, &self.rows[self.mark..], self.bytes_mark);
+        add(&mut bytes, &self.bytes[self.bytes_mark..]);
+        self.mark = self.rows.len();
+        self.bytes_mark = self.bytes.len();
+        Lines {
+            mark: rows.len(),
+            bytes_mark: bytes.len(),
+            rows,
+            bytes,
+            copied_rows: Vec::new(alloc),
+            copied_bytes: Vec::new(alloc),
+        }
     }
 
     /// Takes back the lines behind the mark.

@@ -1,6 +1,6 @@
 //! Rows of lines, and where their bytes stand.
-ghost use Rattle.std.specs.Prelude.{◌≡◌};
-ghost use Rattle.transcript_lines.specs.Rows.{at};
+ghost use Rattle.std.specs.Prelude.{◌≡◌, ◌≤◌};
+ghost use Rattle.transcript_lines.specs.Rows.{at, moved, moved_row, IsBehind, IsPlain};
 
 use br_model::numbers::Port;
 use br_model::transcript::Line;
@@ -16,7 +16,7 @@ pub struct Span {
 /// One line, or those of a frame that leaves by several ports.
 #[derive(Drop)]
 pub enum Row {
-    /// A line that has no bytes in the arena.
+    /// A line that has no bytes.
     One(Line),
     /// A `tx` line for each of the ports, ascending: with the plain bytes at the untagged ports, else with the tagged ones.
     Sent {
@@ -43,5 +43,83 @@ impl Span {
     {
         let rest = &arena[self.from.min(arena.len())..];
         &rest[..self.len.min(rest.len())]
+    }
+
+    /// Where the same bytes stand in an arena without the first ones, which are so many.
+    fn moved(self, front: usize) -> Span
+        requires { front ≤ self.from }
+        ensures { result ≡ moved front self }
+    {
+        Span {
+            from: self.from - front,
+            len: self.len,
+        }
+    }
+}
+
+/// A copy of a line that has no bytes.
+fn copy_of(line: &Line) -> Line
+    requires { IsPlain line.now }
+    ensures { result ≡ line.now }
+{
+    match *line {
+        Line::Chip {
+            id,
+            changes,
+            applied,
+            class,
+        } => Line::Chip {
+            id,
+            changes,
+            applied,
+            class,
+        },
+        Line::Unread { id, why } => Line::Unread { id, why },
+        Line::Soft { id, point } => Line::Soft { id, point },
+        Line::Held { id, floor } => Line::Held { id, floor },
+        Line::Tx { .. } | Line::Ctl { .. } => unreachable!(),
+        Line::Overrun { id } => Line::Overrun { id },
+        Line::Done { step, changes } => Line::Done { step, changes },
+        Line::Refused { step, refusal } => Line::Refused { step, refusal },
+        Line::End {
+            steps,
+            changes,
+            pending,
+            waiting,
+        } => Line::End {
+            steps,
+            changes,
+            pending,
+            waiting,
+        },
+    }
+}
+
+impl Row {
+    /// The same row over an arena without the first bytes, which are so many.
+    pub(crate) fn moved(&self, front: usize) -> Row
+        requires { IsBehind front self.now }
+        ensures { result ≡ moved_row front self.now }
+    {
+        match self {
+            Row::One(line) => Row::One(copy_of(line)),
+            Row::Sent {
+                id,
+                ports,
+                untagged,
+                plain,
+                tagged,
+            } => Row::Sent {
+                id: *id,
+                ports: *ports,
+                untagged: *untagged,
+                plain: plain.moved(front),
+                tagged: tagged.moved(front),
+            },
+            Row::Ctl { port, bytes } => Row::Ctl {
+                port: *port,
+                bytes: bytes.moved(front),
+            },
+        }
     }
 }

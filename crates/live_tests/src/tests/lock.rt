@@ -10,16 +10,18 @@ use br_model::change::Kind;
 use br_model::domains::Domains;
 use br_model::numbers::{Dom, Mac, Port, Vid};
 use br_model::steps::{Command, Event};
+use br_model::transcript::Line;
 use ether_frames::parse;
 use igmp_mld::classify;
 use plane_core::{Held, Plane};
-use plane_lock::{Chair, Queue, Queues, Ran, Shared, post_updates};
+use plane_lock::{ActFault, Chair, Queue, Queues, Ran, Shared, post_updates};
 use std::alloc::Global;
 use std::marker::Brand;
 use std::process::Abort;
 use std::sync::Wait;
 use std::test::Fail;
 use table_publish::{Board, Name, Seat, Seen};
+use transcript_lines::{Lines, Row};
 
 fn port(number: u8) -> Result<Port, Fail>
     ensures { IfOk result (λ p. p ≡ number) }
@@ -139,6 +141,22 @@ fn begun_queue<R: Wait>(rt: &R, alloc: Global, ran: &mut Ran) -> Result<Queues, 
     queue_of(rt, alloc, ran, 0)
 }
 
+fn wrote(lines: &Lines) -> bool {
+    !lines.parts().0.is_empty()
+}
+
+/// Whether the one line says that a step was done.
+fn is_done(lines: &Lines) -> bool {
+    matches!(lines.parts().0, [Row::One(Line::Done { .. })])
+}
+
+fn acted(done: Result<Lines, ActFault>) -> Result<Lines, Fail> {
+    match done {
+        Ok(lines) => Ok(lines),
+        Err(_) => Err(Fail::new("no memory")),
+    }
+}
+
 /// No step before the third address. Then a step for each update, the third of which is kept meanwhile.
 fn turn_by_the_queue<N: Name, R: Wait + Abort>(
     rt: &R,
@@ -147,12 +165,12 @@ fn turn_by_the_queue<N: Name, R: Wait + Abort>(
 ) -> Result<(), Fail>
     requires { has_chip N.board.domains 1 ≡ true }
 {
-    assert!(rt; !shared.turn(rt, Dom::CHIP)?);
-    shared.accept(rt, alloc, &Event::Cmd(address(13)?))?;
+    assert!(rt; !wrote(&shared.turn(rt, alloc, Dom::CHIP)?));
+    assert!(rt; is_done(&acted(shared.accept(rt, alloc, &Event::Cmd(address(13)?)))?));
     for _ in 0..3 {
-        assert!(rt; shared.turn(rt, Dom::CHIP)?);
+        assert!(rt; is_done(&shared.turn(rt, alloc, Dom::CHIP)?));
     }
-    assert!(rt; !shared.turn(rt, Dom::CHIP)?);
+    assert!(rt; !wrote(&shared.turn(rt, alloc, Dom::CHIP)?));
     Ok(())
 }
 
@@ -230,7 +248,10 @@ fn post_frame<N: Name, R: Wait + Abort>(
     let seen = decide(chair, &held)?;
     let point = seen.point;
     match shared.post_as(rt, alloc, chair, held, seen) {
-        Ok(()) => Ok(point),
+        Ok(lines) => {
+            assert!(rt; wrote(&lines));
+            Ok(point)
+        }
         Err(_) => Err(Fail::new("not posted")),
     }
 }
@@ -257,11 +278,8 @@ fn use_taught_address<N: Name, R: Wait + Abort>(
     shared: &Shared<N>,
     chair: &mut Chair<N>,
 ) -> Result<(), Fail> {
-    assert!(rt;
-        shared
-            .enter(rt, alloc, port(3)?, FIRST_OF_TWELVE)?
-            .is_none()
-    );
+    let entered = shared.enter(rt, alloc, port(3)?, FIRST_OF_TWELVE)?;
+    assert!(rt; entered.pass.is_none() && !wrote(&entered.lines));
     let point = post_frame(rt, alloc, shared, chair)?;
     let seen = decide_answer(chair)?;
     assert_taught(rt, seen, point)
@@ -274,7 +292,8 @@ fn use_frame<N: Name, R: Wait + Abort>(
     shared: &Shared<N>,
     chair: &mut Chair<N>,
 ) -> Result<(), Fail> {
-    assert!(rt; shared.enter(rt, alloc, port(1)?, FRAME)?.is_some());
+    let entered = shared.enter(rt, alloc, port(1)?, FRAME)?;
+    assert!(rt; entered.pass.is_some() && wrote(&entered.lines));
     let _point = post_frame(rt, alloc, shared, chair)?;
     Ok(())
 }
@@ -290,10 +309,10 @@ fn use_each_call<N: Name, R: Wait + Abort>(
     requires { has_chip N.board.domains 1 ≡ true }
 {
     use_frame(rt, alloc, shared, chair)?;
-    shared.report(rt, alloc, Dom::CHIP)?;
-    shared.turns(rt, Dom::CHIP, 2)?;
-    shared.sweep(rt, alloc, Dom::CHIP)?;
-    shared.publish(rt, alloc)?;
+    assert!(rt; is_done(&acted(shared.report(rt, alloc, Dom::CHIP))?));
+    shared.turns(rt, alloc, Dom::CHIP, 2)?;
+    assert!(rt; is_done(&acted(shared.sweep(rt, alloc, Dom::CHIP))?));
+    assert!(rt; is_done(&shared.publish(rt, alloc)?));
     use_taught_address(rt, alloc, shared, chair)
 }
 

@@ -58,6 +58,28 @@ fn a_frame_is_one_row_over_the_arena(rt: HostRuntime) -> Result<(), Fail> {
     Ok(())
 }
 
+/// The rows of the copy name the same bytes in an arena of their own.
+#[test]
+fn a_copy_is_what_stands_behind_the_mark(rt: HostRuntime) -> Result<(), Fail> {
+    let alloc = rt.alloc();
+    let mut lines = Lines::new(alloc);
+    lines.reserve(3, 64)?;
+    lines.push_ctl(Port::HOST, &[6, 6]);
+    lines.mark();
+    lines.push_ctl(Port::HOST, &[7, 7, 7]);
+    lines.push_reserved(Line::Soft { id: 7, point: 3 });
+    let copy = lines.copy_out(alloc);
+    let (rows, arena) = copy.parts();
+    assert!(rt; rows.len() == 2 && arena == [7, 7, 7].as_slice());
+    assert!(rt;
+        matches!(rows[0], Row::Ctl { bytes, .. } if bytes.of(arena) == [7, 7, 7].as_slice())
+    );
+    assert!(rt; matches!(rows[1], Row::One(Line::Soft { id: 7, point: 3 })));
+    assert!(rt; lines.parts().0.len() == 3);
+    assert!(rt; lines.copy_out(alloc).parts().0.is_empty());
+    Ok(())
+}
+
 #[test]
 fn a_span_ends_with_the_arena(rt: HostRuntime) {
     let arena = [1, 2, 3];

@@ -1,5 +1,4 @@
 use Rattle.std.proofs.Common.{sym, ap, subst, ◌∙◌}
-use Rattle.std.proofs.lemmas.Result.{on_ok_weaker}
 use Rattle.br_model.specs.Table.Setup.{Setup}
 use Rattle.plane_lock.specs.Pasts.{Past}
 use Rattle.live_workers.specs.Draining.{Drained}
@@ -26,7 +25,6 @@ returns-clause-ok g c =
     let one = c.in_ok-serve_all.ensures in
     let two = c.in_ok-report_chips.ensures in
     let three = c.in_ok-turn_chips.ensures in
-    on_ok_weaker c.publish.result
-    (λ e. subst (λ (p : Past). Drained start p) (sym e)
+    subst (λ (p : Past). Drained start p) (sym c.in_ok-publish.ensures.ok)
     (drained_now start turned (drains_both start told turned (drains_both start served told one.ok two.ok) three.ok) (idle_kept told turned three.keeps (idle_kept served told two.keeps one.idle))
-    (λ d. three.told d (two.told d)) three.turned)) c.publish.ensures.ok
+    (λ d. three.told d (two.told d)) three.turned)

@@ -30,5 +30,5 @@ named_next w (Some c) n expected update counts next is =
 pub unreachable-requires : goal.unreachable-requires
 unreachable-requires c =
     let w = c.args.plane.now.world in
-    let refused = rw (c.in-Err-OutOfTurn.is, c.in-Err-OutOfTurn.field-0-is) at c.turn_to.ensures in
+    let refused = rw (c.in-Err-OutOfTurn.is, c.in-Err-OutOfTurn.field-0-is) at c.turn_to.ensures.turned in
     refused.0.2 (named_next w (chip_at w c.args.dom) _ _ _ c.applied.ensures refused.0.1 c.update-update.ensures)

@@ -18,4 +18,4 @@ returns c =
     let did = subst (λ (x : SidesState). Reacted x c.see-outcome.new.self x.chips c.send_at.new.lines.lines c.see-outcome.new.lines.lines c.see-outcome.result
     (react x.setup x.history x.control (Sight f.port f.bytes f.head))) c.in_ok-send_at.ensures.same c.see-outcome.ensures.reacted in
     ended_behind s c.see-outcome.new.self s.chips c.args.lines.now.lines first _ _ _ c.args.step c.see-outcome.result _ _ _
-    c.in_ok-send_at.ensures.lines did c.last_line.ensures c.in_ok-last_line.was c.push_reserved.ensures.lines
+    c.in_ok-send_at.ensures.lines did c.last_line.ensures.lasts c.in_ok-last_line.was c.push_reserved.ensures.lines

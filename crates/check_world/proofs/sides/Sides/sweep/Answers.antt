@@ -32,4 +32,4 @@ returns c =
     ∙ ap (λ (t : SidesState). unhit t.setup.domains (chip_table t.setup.domains.edition t.history x.chip) x.chip) c.self.view_is in
     added_as _ _ _ _ (λ ls h q. ap (sweeps (world_of s q c.args.step)) here ∙ ap (swept x.chip (world_of s q c.args.step)) (sym gone) ∙ h q)
     (ended_behind s c.react_to_sweep-outcome.new.self _ c.args.lines.now.lines [] _ _ _ c.args.step c.react_to_sweep-outcome.result _ _ _
-    (from_none _ _ c.in_ok-reserve.ensures.lines) (c.react_to_sweep-outcome.ensures.reacted x.chip here) c.last_line.ensures c.in_ok-last_line.was c.push_reserved.ensures.lines)
+    (from_none _ _ c.in_ok-reserve.ensures.lines) (c.react_to_sweep-outcome.ensures.reacted x.chip here) c.last_line.ensures.lasts c.in_ok-last_line.was c.push_reserved.ensures.lines)

@@ -46,13 +46,13 @@ module _ (c : goal.After-self-1) where
   decision = lines.Chip id (length s.history) found.0.count c.decide-verdict.result.class
 
   first-line : c.chip_line-decision.result ≡ decision
-  first-line = c.chip_line-decision.ensures found.0 (ap (λ (o : World). chip_at o c.args.d) (sym c.self.view_is) ∙ found.1)
+  first-line = c.chip_line-decision.ensures.line found.0 (ap (λ (o : World). chip_at o c.args.d) (sym c.self.view_is) ∙ found.1)
       ∙ ap (λ (o : World). lines.Chip c.next_id-id.result (length o.history) found.0.count c.decide-verdict.result.class) (sym c.self.view_is)
       ∙ ap (λ n. lines.Chip n (length s.history) found.0.count c.decide-verdict.result.class) c.next_id-id.ensures
 
   all-lines : c.tell.new.lines.lines ≡ c.args.lines.now.lines ++ told c.args.self.now s c.note.new.self c.self.inside.frames c.settle.new.self c.self.inside.steps c.args.step c.args.port c.args.d
       c.args.b c.args.head.now found.0 c.decide-verdict.result.class c.arrival-arrival.result
-  all-lines = c.tell.ensures
+  all-lines = c.tell.ensures.lines
       ∙ ap₂ (λ (before : List Line) (n : ℕ). before ++ arrival_lines n c.arrival-arrival.result)
       (c.send.ensures.lines ∙ ap₂ (λ (before : List Line) (after : List Line). before ++ after)
       (c.push_reserved.ensures.lines ∙ ap₂ (λ (before : List Line) (l : Line). before ++ l ∷ []) c.in_ok-make_room.ensures.lines first-line)

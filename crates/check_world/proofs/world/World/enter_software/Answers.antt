@@ -12,5 +12,5 @@ returns c =
       lines = arrival_lines x.frames.next a;
       so = tells_software c.args.self.now x.sides x.frames c.settle.new.self x.steps c.args.step c.args.port c.args.bytes c.args.head.now a
           c.requires.frame c.self.view_is c.requires.off_chip c.requires.step c.arrive-arrival.ensures.value c.settle.ensures;
-      added = c.tell.ensures ∙ ap₂ (λ (before : List Line) (id : ℕ). before ++ arrival_lines id a) c.in_ok-reserve.ensures.lines c.next_id-id.ensures;
+      added = c.tell.ensures.lines ∙ ap₂ (λ (before : List Line) (id : ℕ). before ++ arrival_lines id a) c.in_ok-reserve.ensures.lines c.next_id-id.ensures;
     }

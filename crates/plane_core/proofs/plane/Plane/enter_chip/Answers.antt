@@ -75,7 +75,7 @@ module _ (c : goal.After-self-1) where
   id-is = c.next_id-id.ensures
 
   first-line : c.chip_line-decision.result ≡ decision
-  first-line = c.chip_line-decision.ensures found.0 (ap (λ (p : PlaneState). chip_at p.world c.args.d) (sym c.self.view_is) ∙ found.1)
+  first-line = c.chip_line-decision.ensures.line found.0 (ap (λ (p : PlaneState). chip_at p.world c.args.d) (sym c.self.view_is) ∙ found.1)
       ∙ ap (λ (p : PlaneState). lines.Chip c.next_id-id.result (length p.world.history) found.0.count c.class-class.result) (sym c.self.view_is)
       ∙ ap₂ (λ (id : ℕ) (k : Class). lines.Chip id (length c.self.inside.sides.history) found.0.count k) id-is c.class-class.ensures
 
@@ -86,7 +86,7 @@ module _ (c : goal.After-self-1) where
   passed = subst (λ (m : McastMsg). IsPass c.self.inside.sides.setup.domains decides c.args.p c.args.head.now m c.pass-pass.result) (c.classify-message.ensures.value ∙ said) (c.pass-pass.ensures found.0 found.1)
 
   all-lines : c.tell.new.lines.lines ≡ c.args.lines.now.lines ++ ((decision ∷ leaves) ++ arrival_lines c.self.inside.frames.next goes)
-  all-lines = c.tell.ensures
+  all-lines = c.tell.ensures.lines
       ∙ ap₂ (λ (before : List Line) (after : List Line). before ++ after)
       (c.send.ensures.lines ∙ ap₂ (λ (before : List Line) (after : List Line). before ++ after)
       (c.push_reserved.ensures.lines ∙ ap₂ (λ (before : List Line) (l : Line). before ++ l ∷ []) c.in_ok-make_room.ensures.lines first-line)

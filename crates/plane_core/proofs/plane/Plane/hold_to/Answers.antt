@@ -16,6 +16,6 @@ returns-clause-ok c =
     record {
       lines = c.hold_line-line.result ∷ [];
       so = steps_so c.args.self.now s s q c.hold.new.self c.self.inside.steps m Hold _ _ c.self.view_is c.in_ok-step.ensures
-          (holds_one s q c.hold.new.self m c.published-floor.result c.hold_line-line.result c.published-floor.ensures c.in_ok-hold.ensures.ok c.hold_line-line.ensures) refl refl;
+          (holds_one s q c.hold.new.self m c.published-floor.result c.hold_line-line.result c.published-floor.ensures c.in_ok-hold.ensures.ok c.hold_line-line.ensures.line) refl refl;
       added = c.push_reserved.ensures.lines ∙ ap (λ ls. ls ++ c.hold_line-line.result ∷ []) c.in_ok-reserve.ensures.lines;
     }

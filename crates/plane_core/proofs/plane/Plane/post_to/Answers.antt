@@ -9,11 +9,11 @@ use Rattle.plane_core.specs.Sides.{world_of}
 use Rattle.plane_core.proofs.Calling.{decided, held_there, posts_one, stands_after, steps_so}
 use Rattle.plane_core.proofs.plane.Plane.post_to.Goals as goal
 
-pub returns-in_default-find : goal.returns-in_default-find
-returns-in_default-find c = c.post_none.ensures c.args.s
+pub returns-in_default-find-clause-posted : goal.returns-in_default-find-clause-posted
+returns-in_default-find-clause-posted c = c.post_none.ensures.posted c.args.s
 
-pub returns-then-not-is_of : goal.returns-then-not-is_of
-returns-then-not-is_of c =
+pub returns-then-not-is_of-clause-posted : goal.returns-then-not-is_of-clause-posted
+returns-then-not-is_of-clause-posted c =
     let x = c.in-Some.holding.now in
     let held = held_there c.args.self.now c.self.inside.sides c.self.inside.frames c.self.inside.steps c.args.h.id x c.self.view_is c.in-Some.ensures in
     ((record { same = refl; back = refl }, (x, held, λ e. absurd (cc (c.if-not-is_of.ensures.1 e)))), refl)
@@ -50,8 +50,8 @@ invariant_of-self c =
     stands_after c.self.inside.sides c.post.new.self c.self.inside.frames c.release-holding.new.self c.self.inside.steps c.in-Ok.step (Post c.args.h.id (Some c.args.s.point)) c.in-Ok-post.ensures.ok.lines
     c.in-Ok.ensures (does_so c) c.self.invariant
 
-pub returns-in-Ok-post : goal.returns-in-Ok-post
-returns-in-Ok-post c = record {
+pub returns-in-Ok-post-clause-posted : goal.returns-in-Ok-post-clause-posted
+returns-in-Ok-post-clause-posted c = record {
   lines = c.in-Ok-post.ensures.ok.lines;
   so = (
     steps_so c.args.self.now c.self.inside.sides c.post.new.self c.self.inside.frames c.release-holding.new.self c.self.inside.steps c.in-Ok.step (Post c.args.h.id (Some c.args.s.point))

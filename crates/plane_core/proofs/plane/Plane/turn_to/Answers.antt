@@ -42,8 +42,8 @@ next_update-requires c = there c.args.self.now c.self.inside.sides c.self.inside
 pub turn-requires-clause-chip : goal.turn-requires-clause-chip
 turn-requires-clause-chip c = there c.args.self.now c.self.inside.sides c.self.inside.frames c.self.inside.steps c.args.d c.self.view_is c.self.invariant c.requires
 
-pub returns-in_default : goal.returns-in_default
-returns-in_default c =
+pub returns-in_default-clause-turned : goal.returns-in_default-clause-turned
+returns-in_default-clause-turned c =
     let s = c.self.inside.sides in
     let q = c.self.inside.frames in
     let n = c.self.inside.steps in
@@ -59,8 +59,8 @@ returns-in_default c =
       added = c.in_ok-push.ensures.ok;
     }
 
-pub returns-then-ne : goal.returns-then-ne
-returns-then-ne c =
+pub returns-then-ne-clause-turned : goal.returns-then-ne-clause-turned
+returns-then-ne-clause-turned c =
     let s = c.self.inside.sides in
     let q = c.self.inside.frames in
     let n = c.self.inside.steps in
@@ -78,8 +78,8 @@ invariant_of-self-2 c =
     stands_after s c.turn.new.self q q n m (Turn c.args.d) (Done m 0 ∷ []) c.in_ok-step.ensures
     (turns_one s c.turn.new.self q c.args.d m x.0 c.in-Some.next x.1 (sym (c.next_update.ensures x.0 x.1) ∙ c.in-Some.is) (c.in_ok-turn.ensures.ok x.0 x.1)) c.self.invariant
 
-pub returns : goal.returns
-returns c =
+pub returns-clause-turned : goal.returns-clause-turned
+returns-clause-turned c =
     let s = c.self.inside.sides in
     let q = c.self.inside.frames in
     let n = c.self.inside.steps in

@@ -28,4 +28,4 @@ returns-clause-ok c =
     let here = found_at c.self.inside.chips s.chips c.args.d x (ap (λ (t : SidesState). t.chips) c.self.view_is) c.at.ensures in
     added_as _ _ _ _ (λ ls h q. reports_first s c.args.d x.chip here q c.args.step _ c.in-Some.ensures ∙ h q)
     (ended_behind s c.react_to_report-outcome.new.self _ c.args.lines.now.lines [] _ _ _ c.args.step c.react_to_report-outcome.result _ _ _
-    (from_none _ _ c.in_ok-reserve.ensures.lines) (c.react_to_report-outcome.ensures.reacted x.chip here) c.last_line.ensures c.in_ok-last_line.was c.push_reserved-2.ensures.lines)
+    (from_none _ _ c.in_ok-reserve.ensures.lines) (c.react_to_report-outcome.ensures.reacted x.chip here) c.last_line.ensures.lasts c.in_ok-last_line.was c.push_reserved-2.ensures.lines)

@@ -17,7 +17,7 @@ told c =
     let o = option_map shown_by c.in_ok-held.held in
     holds-so c.self.inside.plane c.open_frame.new.self o c.steps.result c.self.inside.lines.lines c.push_reserved.new.self.lines c.in_ok-held.ensures.step c.in_ok-held.ensures.board c.in_ok-held.ensures.held
     c.steps.ensures
-    (c.push_reserved.ensures.lines ∙ (ap (λ (l : List Line). l ++ c.held_line-line.result ∷ []) c.reserve-2.ensures.lines ∙ ap (λ (l : Line). c.self.inside.lines.lines ++ l ∷ []) c.held_line-line.ensures))
+    (c.push_reserved.ensures.lines ∙ (ap (λ (l : List Line). l ++ c.held_line-line.result ∷ []) c.reserve-2.ensures.lines ∙ ap (λ (l : Line). c.self.inside.lines.lines ++ l ∷ []) c.held_line-line.ensures.line))
 
 pub invariant_of-self-2 : goal.invariant_of-self-2
 invariant_of-self-2 c = ran-more c.self.inside.plane c.open_frame.new.self c.self.inside.steps.items c.push_reserved-2.new.self.items Hold c.self.inside.lines.lines c.push_reserved.new.self.lines c.self.invariant (told c) (steps-are c) refl
