@@ -1,14 +1,14 @@
 //! Lines, with room for more.
-ghost use Rattle.std.specs.Prelude.{◌≡◌, ◌+◌, ◌-◌, ◌*◌, ◌<◌, ◌≤◌, ◌++◌, ◌∷◌, [], length, map, vec_len, vec_capacity, IfOk, OnOk, OnErr};
+ghost use Rattle.std.specs.Prelude.{◌≡◌, ◌+◌, ◌-◌, ◌*◌, ◌<◌, ◌≤◌, ◌++◌, ◌∷◌, [], length, map, vec_len, vec_capacity, OnOk, OnErr};
 ghost use Rattle.br_model.specs.declared.transcript.Line.TheVariants as line;
-ghost use Rattle.transcript_lines.specs.Rows.{at, expand, moved_row, sent_lines, AreBehind, IsPlain};
+ghost use Rattle.transcript_lines.specs.Rows.{at, expand, moved_row, room, sent_lines, AreBehind, Fit, IsPlain};
 
 use crate::row::{Row, Span};
 use br_model::NoMemory;
 use br_model::numbers::Port;
 use br_model::transcript::Line;
 use port_sets::Ports;
-use std::alloc::{AllocError, Global};
+use std::alloc::Global;
 use std::marker::Model;
 use std::mem;
 
@@ -47,11 +47,26 @@ impl Model for Lines {
         × (l.copied_rows.items ≡ []) × (l.copied_bytes.items ≡ []) };
 }
 
-/// Past the greatest number there is no memory for so many.
-fn sum(count: usize, more: usize) -> Result<usize, NoMemory>
-    ensures { IfOk result (λ n. n ≡ count + more) }
+/// Room for so many more, and for them in a copy of those behind the mark.
+fn reserve_twice<T>(
+    all: &mut Vec<T>,
+    copied: &mut Vec<T>,
+    mark: usize,
+    more: usize,
+) -> Result<(), NoMemory>
+    requires mark { mark ≤ vec_len all.old }
+    requires fit { Fit (vec_len all.old) (vec_capacity all.old) mark (vec_capacity copied.old) }
+    requires empty { copied.old.items ≡ [] }
+    ensures all { all.new.items ≡ all.old.items }
+    ensures empty { copied.new.items ≡ [] }
+    ensures fit { Fit (vec_len all.new) (vec_capacity all.new) mark (vec_capacity copied.new) }
+    ensures kept { room (vec_len all.old) (vec_capacity all.old) mark (vec_capacity copied.old) ≤ room (vec_len all.new) (vec_capacity all.new) mark (vec_capacity copied.new) }
+    ensures ok { OnOk result (more ≤ room (vec_len all.new) (vec_capacity all.new) mark (vec_capacity copied.new)) }
+    ensures err { OnErr result (room (vec_len all.new) (vec_capacity all.new) mark (vec_capacity copied.new) < more) }
 {
-    count.checked_add(more).ok_or(AllocError)
+    let behind = all.len() - mark;
+    all.reserve(more)?;
+    copied.reserve(behind + more)
 }
 
 /// Adds bytes, for which there is room.
@@ -136,24 +151,36 @@ impl Lines {
         ensures kept_rows { self.old.rows ≤ self.new.rows }
         ensures kept_bytes { self.old.bytes ≤ self.new.bytes }
     {
-        let behind = self.rows.len() - self.mark;
-        let bytes_behind = self.bytes.len() - self.bytes_mark;
-        self.rows.reserve(rows)?;
-        self.bytes.reserve(bytes)?;
-        self.copied_rows.reserve(sum(behind, rows)?)?;
-        self.copied_bytes.reserve(sum(bytes_behind, bytes)?)?;
-        Ok(())
+        self.reserve_rows(rows)?;
+        reserve_twice(
+            &mut self.bytes,
+            &mut self.copied_bytes,
+            self.bytes_mark,
+            bytes,
+        )
+    }
+
+    /// Room for so many more rows.
+    fn reserve_rows(&mut self, rows: usize) -> Result<(), NoMemory>
+        ensures lines { self.new.lines ≡ self.old.lines }
+        ensures marked { self.new.marked ≡ self.old.marked }
+        ensures bytes { self.new.bytes ≡ self.old.bytes }
+        ensures kept { self.old.rows ≤ self.new.rows }
+        ensures ok { OnOk result (rows ≤ self.new.rows) }
+        ensures err { OnErr result (self.new.rows < rows) }
+    {
+        reserve_twice(&mut self.rows, &mut self.copied_rows, self.mark, rows)
     }
 
     /// Adds a line without bytes.
     pub fn push(&mut self, line: Line) -> Result<(), NoMemory>
         requires { IsPlain line }
         ensures ok { OnOk result (self.new.lines ≡ self.old.lines ++ line ∷ []) }
-        ensures err { OnErr result (self.new.lines ≡ self.old.lines) }
+        ensures err { OnErr result (self.new ≡ self.old) }
         ensures marked { self.new.marked ≡ self.old.marked }
-        ensures bytes { self.old.bytes ≤ self.new.bytes }
+        ensures bytes { self.new.bytes ≡ self.old.bytes }
     {
-        self.reserve(1, 0)?;
+        self.reserve_rows(1)?;
         self.push_reserved(line);
         Ok(())
     }
@@ -164,7 +191,7 @@ impl Lines {
         requires plain { IsPlain line }
         ensures lines { self.new.lines ≡ self.old.lines ++ line ∷ [] }
         ensures marked { self.new.marked ≡ self.old.marked }
-        ensures rows { self.old.rows ≤ self.new.rows + 1 }
+        ensures rows { self.new.rows + 1 ≡ self.old.rows }
         ensures bytes { self.new.bytes ≡ self.old.bytes }
     {
         self.rows.push_reserved(Row::One(line));
@@ -176,7 +203,7 @@ impl Lines {
         requires bytes { length bytes.now ≤ self.old.bytes }
         ensures lines { self.new.lines ≡ self.old.lines ++ line.Ctl port bytes.now ∷ [] }
         ensures marked { self.new.marked ≡ self.old.marked }
-        ensures rows { self.old.rows ≤ self.new.rows + 1 }
+        ensures rows { self.new.rows + 1 ≡ self.old.rows }
         ensures bytes { self.old.bytes ≤ self.new.bytes + length bytes.now }
     {
         let bytes = store(&mut self.bytes, &[], &[], bytes);
@@ -198,7 +225,7 @@ impl Lines {
         requires bytes { (length front.now + length rest.now) + (length front.now + (length tag.now + length rest.now)) ≤ self.old.bytes }
         ensures lines { self.new.lines ≡ self.old.lines ++ sent_lines id ports untagged (front.now ++ rest.now) (front.now ++ (tag.now ++ rest.now)) }
         ensures marked { self.new.marked ≡ self.old.marked }
-        ensures rows { self.old.rows ≤ self.new.rows + 1 }
+        ensures rows { self.new.rows + 1 ≡ self.old.rows }
         ensures bytes { self.old.bytes ≤ self.new.bytes + ((length front.now + length rest.now) + (length front.now + (length tag.now + length rest.now))) }
     {
         let plain = store(&mut self.bytes, front, &[], rest);

@@ -1,6 +1,5 @@
-use Rattle.std.proofs.Common.{arith, length, take, sym, ap, ◌∙◌, subst}
-use Rattle.std.proofs.lemmas.List.{length-take-le}
-use Rattle.transcript_lines.proofs.RowLaws.{inside_cut, marked_cut}
+use Rattle.std.proofs.Common.{arith}
+use Rattle.transcript_lines.proofs.RowLaws.{marked_cut}
 use Rattle.transcript_lines.proofs.lines.Lines.cut.Goals as goal
 
 pub invariant_of-self : goal.invariant_of-self
