@@ -1,5 +1,5 @@
 //! Lines, with room for more.
-ghost use Rattle.std.specs.Prelude.{◌≡◌, ◌+◌, ◌-◌, ◌*◌, ◌<◌, ◌≤◌, ◌++◌, ◌∷◌, [], length, map, vec_len, vec_capacity, OnOk, OnErr};
+ghost use Rattle.std.specs.Prelude.{◌≡◌, ◌⊎◌, ◌+◌, ◌-◌, ◌*◌, ◌<◌, ◌≤◌, ◌++◌, ◌∷◌, [], length, map, vec_len, vec_capacity, OnOk, OnErr};
 ghost use Rattle.br_model.specs.declared.transcript.Line.TheVariants as line;
 ghost use Rattle.transcript_lines.specs.Rows.{at, expand, moved_row, room, sent_lines, AreBehind, Fit, IsPlain};
 
@@ -148,6 +148,7 @@ impl Lines {
         ensures marked { self.new.marked ≡ self.old.marked }
         ensures rows { OnOk result (rows ≤ self.new.rows) }
         ensures bytes { OnOk result (bytes ≤ self.new.bytes) }
+        ensures err { OnErr result ((self.new.rows < rows) ⊎ (self.new.bytes < bytes)) }
         ensures kept_rows { self.old.rows ≤ self.new.rows }
         ensures kept_bytes { self.old.bytes ≤ self.new.bytes }
     {
