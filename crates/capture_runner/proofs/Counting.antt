@@ -2,7 +2,6 @@
 use Rattle.std.proofs.Common.{◌≡◌, ℕ, ◌+◌, ◌≤◌, false, cond, length, List, [], ◌∷◌, ◌++◌, codes, refl, sym, ◌∙◌, ap, subst, arith, append_assoc, append-nil}
 use Rattle.std.specs.Fmt.{decimal}
 use Rattle.std.specs.Str.{bytes_eq}
-use Rattle.std.proofs.lemmas.Grind.{flat_map-append}
 use Rattle.std.proofs.lemmas.List.Sums.{sum_by-append}
 use Rattle.br_model.specs.declared.steps.Step.{Step}
 use Rattle.br_model.specs.declared.transcript.Line.{Line}
@@ -17,8 +16,7 @@ use Rattle.br_model.specs.Program.Summary.{kind_of, count_of, summary, summary_t
 use Rattle.br_model.proofs.MadeRead.{made_read}
 use Rattle.br_model.proofs.Running.{run_push, run_none}
 use Rattle.capture_runner.specs.declared.demo.Tally.{Tally}
-use Rattle.transcript_lines.specs.declared.row.Row.{Row}
-use Rattle.transcript_lines.specs.Rows.{expand, expand_row, sent_lines}
+use Rattle.transcript_lines.specs.Rows.{sent_lines}
 use Rattle.capture_runner.specs.Counting.{Tallies, Adds, AddsSent, Ran, RunsOn}
 
 -- the tally of lines more, by how many of each kind they are

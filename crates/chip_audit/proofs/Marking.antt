@@ -1,7 +1,7 @@
 -- The entries after a chip's rows and updates that it hasn't applied, and which of them the chip has.
-use Rattle.std.proofs.Common.{◌≡◌, ℕ, zero, suc, ◌+◌, ◌<◌, ◌≤◌, Bool, true, false, T, not, cond, ◌||◌, ◌&&◌, Some, None, Option, List, [], ◌∷◌, ◌++◌, length, map, take, drop, refl, sym, ap, subst, ◌∙◌, append-nil, arith}
+use Rattle.std.proofs.Common.{◌≡◌, ℕ, zero, suc, ◌+◌, ◌<◌, ◌≤◌, Bool, true, false, T, not, cond, ◌||◌, ◌&&◌, Some, None, Option, List, [], ◌∷◌, ◌++◌, length, take, drop, refl, sym, ap, subst, ◌∙◌, append-nil, arith}
 use Rattle.std.specs.Prelude.{nat_lt}
-use Rattle.std.specs.List.{filter, fold, list_any, slice_get}
+use Rattle.std.specs.List.{filter, fold, slice_get}
 use Rattle.std.specs.Option.{is_some, option_and_then, option_map, option_map_or}
 use Rattle.std.specs.Ordering.{eq_by_cmp}
 use Rattle.std.specs.FinMap.Entries.{is_sorted, is_sorted-put, is_sorted-where_key, find-put, find-where_key, same_entries}
@@ -18,7 +18,7 @@ use Rattle.br_model.specs.declared.change.Change.TheVariants.{AddrPut, AddrDel}
 use Rattle.br_model.specs.declared.change.Kind.{Kind}
 use Rattle.br_model.specs.declared.change.Update.{Update}
 use Rattle.br_model.specs.declared.domains.Edition.{Edition}
-use Rattle.br_model.specs.Data.Maps.{pair_cmp, get, put}
+use Rattle.br_model.specs.Data.Maps.{pair_cmp, get}
 use Rattle.br_model.specs.Table.Change.{address_part, deferred}
 use Rattle.br_model.specs.Table.Cut.{cut, deferred_at, deferred_count, deferred_of, synchronous_of, under_ticket}
 use Rattle.br_model.specs.Table.Table.{Table, apply, start, table}
@@ -27,7 +27,7 @@ use Rattle.br_model.proofs.PairKeys.{pair_total, same_cmp}
 use Rattle.neigh_netlink.specs.Neighbours.{Key}
 use Rattle.neigh_netlink.specs.Offloaded.{is_of_key, last_update, offloaded, put_by, puts_among}
 use Rattle.neigh_netlink.proofs.LastUpdates.{all-ascend, by-changes, get-apply, get-table, last_update-push, puts}
-use Rattle.neigh_netlink.proofs.Mapped.{ascending-mapped, eq-turned, get-mapped, map-same, mapped}
+use Rattle.neigh_netlink.proofs.Mapped.{ascending-mapped, eq-turned, get-mapped, map-same}
 use Rattle.chip_audit.specs.declared.entries.Found.{Found}
 use Rattle.chip_audit.specs.Audits.{Row, entries_of, found, is_stale, same_place, stale}
 use Rattle.chip_audit.specs.Marks.{Entries, all_offloaded, entries_after, entries_at, is_at, is_gone, is_named, marked, stands_after, updates_from}
