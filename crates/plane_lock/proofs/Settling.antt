@@ -12,6 +12,7 @@ use Rattle.br_model.specs.declared.steps.Step.TheVariants.{Publish}
 use Rattle.br_model.specs.Plane.Steps.{world_step}
 use Rattle.br_model.specs.Plane.World.{World}
 use Rattle.br_model.specs.Table.Change.{updates}
+use Rattle.br_model.specs.Table.Domains.{chip_domains}
 use Rattle.br_model.specs.Table.Setup.{Setup}
 use Rattle.deferred_queue.specs.Ends.{Posting}
 use Rattle.plane_core.specs.Planes.{PlaneState}
@@ -59,7 +60,9 @@ may-settle p s q posters n is posted many = (
 
 -- what the lock keeps of a run and the ends of its queues
 abbrev pub IsLocked : Whose → ℕ → Past → List Posting → Type 0
-IsLocked board own p posters = (p.board ≡ board) × (p.setup ≡ record { domains = board.domains; own = own }) × HavePosted (updates_of p) posters
+IsLocked board own p posters =
+    (p.board ≡ board) × (p.setup ≡ record { domains = board.domains; own = own }) × HavePosted (updates_of p) posters
+    × (length posters ≡ length (chip_domains board.domains))
 
 -- a call that took a step which accepted nothing, or none
 pub keeps : {E F : Type 0} (r : Result E F) (old new : Past) (s : Step) (board : Whose) (own : ℕ) (posters : List Posting) → OnOk r (new ≡ after old s) → OnErr r (new ≡ old)
@@ -68,13 +71,14 @@ keeps (Ok e) old new s board own posters ok err same k = (
   ap (λ (p : Past). p.board) ok ∙ k.0,
   ap (λ (p : Past). p.setup) ok ∙ k.1,
   subst (λ (us : List Update). HavePosted us posters) (sym (ap updates_of ok ∙ still old s same)) k.2,
+  k.3,
 )
 keeps (Err e) old new s board own posters ok err same k = subst (λ (p : Past). IsLocked board own p posters) (sym err) k
 
 -- a call that took a step and settled what it accepted
 pub settles : (old mid new : Past) (s : Step) (n : ℕ) (board : Whose) (own : ℕ) (before after_ : List Posting) → mid ≡ after old s → (new ≡ published_after n mid) ⊎ (new ≡ mid) → HavePosted (updates_of new) after_
-    → IsLocked board own old before → IsLocked board own new after_
-settles old mid new s n board own before after_ is got posted k = (over got ∙ k.0, set got ∙ k.1, posted)
+    → length after_ ≡ length before → IsLocked board own old before → IsLocked board own new after_
+settles old mid new s n board own before after_ is got posted ends k = (over got ∙ k.0, set got ∙ k.1, posted, ends ∙ k.3)
   where
     kept : (b : Bool) → ((cond b mid (after mid Publish)).board ≡ mid.board) × ((cond b mid (after mid Publish)).setup ≡ mid.setup)
     kept true = (refl, refl)

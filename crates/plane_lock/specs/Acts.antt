@@ -11,6 +11,7 @@ use Rattle.plane_core.specs.declared.held.Held.{Held}
 use Rattle.table_publish.specs.declared.seat.Seen.{Seen}
 use Rattle.transcript_lines.specs.Rows.{Listed}
 use Rattle.plane_lock.specs.Pasts.{Past, after, said_by, state_of, world_of}
+use Rattle.plane_lock.specs.Posts.{IsTheHeld}
 use Rattle.plane_lock.specs.declared.locked.ActFault.{ActFault}
 use Rattle.plane_lock.specs.declared.locked.ActFault.TheVariants.{NoMemory, Unpublished}
 
@@ -42,4 +43,4 @@ PostFails old new step h n (posts.NoMemory back) = (new ≡ old) × NotPosted (s
 PostFails old new step h n (posts.Stranger back) = (new ≡ old) × NotPosted (state_of old) (state_of new) h n (posts.Stranger back)
 PostFails old new step h n (posts.Ahead back point published) =
     (new ≡ old) × NotPosted (state_of old) (state_of new) h n (posts.Ahead back point published)
-PostFails old new step h n (posts.Unpublished lines) = IsUnpublished old new step × (lines.lines ≡ said_by old step)
+PostFails old new step h n (posts.Unpublished lines) = IsUnpublished old new step × (lines.lines ≡ said_by old step) × IsTheHeld (world_of old) h n.point

@@ -9,7 +9,7 @@ ghost use Rattle.br_model.specs.declared.steps.Step.TheVariants.{Publish, Report
 ghost use Rattle.br_model.specs.Plane.Serving.{held_with};
 ghost use Rattle.br_model.specs.Plane.World.{chip_at};
 ghost use Rattle.br_model.specs.Table.Change.{updates};
-ghost use Rattle.br_model.specs.Table.Domains.{has_chip};
+ghost use Rattle.br_model.specs.Table.Domains.{chip_domains, has_chip};
 ghost use Rattle.br_model.specs.Wire.Frames.{frame as frame_of};
 ghost use Rattle.plane_core.specs.Planes.{IsDecidedBy, IsNamed, published_in};
 ghost use Rattle.plane_core.specs.Shown.{opened, shown_by};
@@ -18,7 +18,7 @@ ghost use Rattle.plane_lock.specs.declared.locked.ActFault.TheVariants as act_fa
 ghost use Rattle.plane_lock.specs.Acts.{Acted, PostFails, acted, changes_of, published_after};
 ghost use Rattle.plane_lock.specs.Pasts.{after, event_step, held_after, post_step, said_by, world_of};
 ghost use Rattle.plane_lock.specs.Posted.{HavePosted, updates_of};
-ghost use Rattle.plane_lock.specs.Posts.{IsSeen, Tells};
+ghost use Rattle.plane_lock.specs.Posts.{IsSeen, IsTheHeld, Tells};
 
 use crate::NoMemory;
 use crate::chair::Chair;
@@ -53,8 +53,8 @@ impl From<AllocError> for ActFault {
     }
 }
 
-/// The run behind the lock, and the ends that post its updates. Contracts see the run. It has N's board, domains and address, and
-/// each end has posted just the updates of the accepted changes. It isn't `Drop`: end the run that `into_ran` gives.
+/// The run behind the lock, and the ends that post its updates, one for each domain that has a chip. Contracts see the run. It has N's
+/// board, domains and address, and each end has posted just the updates of the accepted changes. It isn't `Drop`: end the run that `into_ran` gives.
 pub struct Locked<N: Name> {
     ran: Ran,
     posters: Vec<Poster>,
@@ -62,7 +62,8 @@ pub struct Locked<N: Name> {
 }
 
 impl<N: Name> Model for Locked<N> {
-    ghost use Rattle.std.specs.Prelude.{◌≡◌};
+    ghost use Rattle.std.specs.Prelude.{◌≡◌, length};
+    ghost use Rattle.br_model.specs.Table.Domains.{chip_domains};
     ghost use Rattle.plane_lock.specs.Pasts.{Past};
     ghost use Rattle.plane_lock.specs.Posted.{HavePosted, updates_of};
 
@@ -71,7 +72,8 @@ impl<N: Name> Model for Locked<N> {
     ghost view = { λ l. l.ran };
 
     ghost invariant = { λ l. (l.ran.board ≡ N.board)
-        × (l.ran.setup ≡ record { domains = N.board.domains; own = N.own }) × HavePosted (updates_of l.ran) l.posters.items };
+        × (l.ran.setup ≡ record { domains = N.board.domains; own = N.own }) × HavePosted (updates_of l.ran) l.posters.items
+        × (length l.posters.items ≡ length (chip_domains N.board.domains)) };
 }
 
 /// Posts the updates that the plane has and the end hasn't posted.
@@ -92,7 +94,8 @@ pub fn post_updates<R: Wait>(rt: &R, poster: &mut Poster, plane: &Plane)
 /// The same for each end.
 fn post_all<R: Wait>(rt: &R, posters: &mut Vec<Poster>, plane: &Plane)
     requires { (us : List UpdateValue) × HavePosted us posters.old.items × IsPrefix us (updates plane.now.world.setup.domains.edition plane.now.world.history) }
-    ensures { HavePosted (updates plane.now.world.setup.domains.edition plane.now.world.history) posters.new.items }
+    ensures posted { HavePosted (updates plane.now.world.setup.domains.edition plane.now.world.history) posters.new.items }
+    ensures ends { length posters.new.items ≡ length posters.old.items }
 {
     for place in 0..posters.len() {
         post_updates(rt, &mut posters[place], plane);
@@ -111,6 +114,7 @@ fn settle<R: Wait>(
     requires { (h : List ChangeValue)
         × HavePosted (updates ran.old.setup.domains.edition h) posters.old.items × (changes ≡ length h) × IsPrefix h (world_of ran.old).history }
     ensures posted { HavePosted (updates_of ran.new) posters.new.items }
+    ensures ends { length posters.new.items ≡ length posters.old.items }
     ensures done { OnOk result (ran.new ≡ published_after changes ran.old) }
     ensures said { IfOk result (λ said. said ≡ lines) }
     ensures undone { IfErr result (λ fault. (fault ≡ act_faults.Unpublished lines) × (ran.new ≡ ran.old) × (changes_of ran.old ≢ changes)) }
@@ -130,6 +134,7 @@ impl<N: Name> Locked<N> {
         requires board { ran.board ≡ N.board }
         requires setup { ran.setup ≡ record { domains = N.board.domains; own = N.own } }
         requires posted { HavePosted (updates_of ran) posters.items }
+        requires ends { length posters.items ≡ length (chip_domains N.board.domains) }
         ensures { result ≡ ran }
     {
         Locked {
@@ -241,6 +246,7 @@ impl<N: Name> Locked<N> {
         ensures err { OnErr result (self.new ≡ self.old) }
         ensures kept { Begins c.new.object c.old.object }
         ensures told { Begins c.new.object (published_in (world_of self.old)) }
+        ensures misses { c.new.misses ≡ c.old.misses }
     {
         self.ran.tell(&mut c.seat);
         if self.ran.plane().waiting() == 0 {
@@ -263,10 +269,12 @@ impl<N: Name> Locked<N> {
         ensures ok { OnOk result (self.new ≡ acted self.old (post_step (held_with (world_of self.old) h.id) h.id n.point)) }
         ensures said { IfOk result (λ lines. lines.lines ≡ said_by self.old (post_step (held_with (world_of self.old) h.id) h.id n.point)) }
         ensures lines { IfOk result (λ lines. Tells (world_of self.old) (held_with (world_of self.old) h.id) h n.point lines.lines) }
+        ensures held { OnOk result (IsTheHeld (world_of self.old) h n.point) }
         ensures err { IfErr result (PostFails self.old self.new (post_step (held_with (world_of self.old) h.id) h.id n.point) h n) }
         ensures kept { Begins c.new.object c.old.object }
         ensures told_before { Begins c.new.object (published_in (world_of self.old)) }
         ensures told { OnOk result (Begins c.new.object (published_in (world_of self.new))) }
+        ensures misses { c.new.misses ≡ c.old.misses }
     {
         let changes = self.ran.plane().history().len();
         self.ran.tell(&mut c.seat);

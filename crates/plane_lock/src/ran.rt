@@ -10,11 +10,12 @@ ghost use Rattle.br_model.specs.Text.LineForms.{comes_by_line};
 ghost use Rattle.br_model.specs.Wire.Frames.{frame as frame_of};
 ghost use Rattle.plane_core.specs.Planes.{IsCopy, IsDecidedBy, IsDecision, IsNamed, NotPosted, NotTurned, next_ticket, published_in, ticket_of};
 ghost use Rattle.plane_core.specs.Seats.{IsTold};
-ghost use Rattle.plane_core.specs.Shown.{opened, shown_by, shown_of};
+ghost use Rattle.plane_core.specs.Shown.{opened, shown_by};
 ghost use Rattle.table_publish.specs.Object.{Begins, IsPublished};
 ghost use Rattle.transcript_lines.specs.Rows.{IsPlain};
 ghost use Rattle.plane_lock.specs.Holds.{held_line};
 ghost use Rattle.plane_lock.specs.Pasts.{after, event_step, lines_of, post_step, said_by, state_of, world_of};
+ghost use Rattle.plane_lock.specs.Posts.{IsTheHeld};
 
 use crate::NoMemory;
 use br_model::bytes::Bytes;
@@ -193,7 +194,7 @@ impl Ran {
         requires decision { (x : HoldingOf) → IsCopy (world_of self.old) h x → s.point ≤ (world_of self.old).published → IsDecision (world_of self.old) x s }
         ensures ok { OnOk result (self.new ≡ after self.old (post_step (held_with (world_of self.old) h.id) h.id s.point)) }
         ensures lines { IfOk result (λ lines. lines.lines ≡ said_by self.old (post_step (held_with (world_of self.old) h.id) h.id s.point)) }
-        ensures held { OnOk result (IfSome (held_with (world_of self.old) h.id) (λ x. (shown_by h ≡ shown_of x) × (s.point ≤ (world_of self.old).published))) }
+        ensures held { OnOk result (IsTheHeld (world_of self.old) h s.point) }
         ensures err { OnErr result (self.new ≡ self.old) }
         ensures fault { IfErr result (NotPosted (state_of self.old) (state_of self.new) h s) }
     {
@@ -218,6 +219,8 @@ impl Ran {
         ensures lines { IfOk result (λ lines. lines.lines ≡ said_by self.old steps.Serve) }
         ensures err { OnErr result (self.new ≡ self.old) }
         ensures board { s.new.board ≡ s.old.board }
+        ensures kept { Begins s.new.object s.old.object }
+        ensures misses { s.old.misses ≤ s.new.misses }
         ensures seat { OnOk result (IsTold s.old s.new (published_in (world_of self.old))) }
     {
         self.steps.reserve(1)?;

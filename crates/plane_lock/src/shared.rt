@@ -187,6 +187,7 @@ impl<N: Name> Shared<N> {
         c: &mut Chair<N>,
     ) -> Result<Option<Held>, NoMemory>
         ensures kept { Begins c.new.object c.old.object }
+        ensures misses { c.new.misses ≡ c.old.misses }
         ensures floor { IfOk result (λ held. IfSome held (λ h. h.floor ≤ length c.new.object.changes)) }
     {
         let mut core = self.core.lock(rt);
@@ -205,7 +206,8 @@ impl<N: Name> Shared<N> {
         n: Seen,
     ) -> Result<Lines, PostFault>
         requires { IsSeen N.board.domains c.old.object h n }
-        ensures { Begins c.new.object c.old.object }
+        ensures kept { Begins c.new.object c.old.object }
+        ensures misses { c.new.misses ≡ c.old.misses }
     {
         let mut core = self.core.lock(rt);
         let done = core.post_as(rt, alloc, c, h, n);

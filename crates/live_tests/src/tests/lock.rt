@@ -299,7 +299,7 @@ fn use_frame<N: Name, R: Wait + Abort>(
 }
 
 /// Each call but `lock`, `accept` and `turn`, where it has work (the one update is applied by `turns`): a frame at a port of the chip is
-/// held, posted and reported, and then the bridge forgets its station. Then a frame of a new station is posted.
+/// held, posted and reported; one sweep finds its station used, the next forgets it. Then a frame of a new station is posted.
 fn use_each_call<N: Name, R: Wait + Abort>(
     rt: &R,
     alloc: Global,
@@ -311,6 +311,7 @@ fn use_each_call<N: Name, R: Wait + Abort>(
     use_frame(rt, alloc, shared, chair)?;
     assert!(rt; is_done(&acted(shared.report(rt, alloc, Dom::CHIP))?));
     shared.turns(rt, alloc, Dom::CHIP, 2)?;
+    assert!(rt; is_done(&acted(shared.sweep(rt, alloc, Dom::CHIP))?));
     assert!(rt; is_done(&acted(shared.sweep(rt, alloc, Dom::CHIP))?));
     assert!(rt; is_done(&shared.publish(rt, alloc)?));
     use_taught_address(rt, alloc, shared, chair)
@@ -335,9 +336,9 @@ fn use_locks<N: Name, R: Wait + Abort>(
             let used = use_each_call(rt, alloc, &shared, &mut chair);
             let book = shared.close().book(rt);
             used?;
-            // The first post and the sweep change nothing, so of the calls the report and the second post alone are followed by a
-            // publication.
-            assert_eq!(rt; book.steps.len(), 16);
+            // The first post and the first sweep change nothing, so of the calls the report, the second sweep and the second post alone
+            // are followed by a publication.
+            assert_eq!(rt; book.steps.len(), 18);
             Ok(())
         }
         Err(error) => {

@@ -36,8 +36,8 @@ loop-place-preserved g c =
       AllWithin-more_set ys place poster there (λ (x : Posting). x.posted ≡ all) c.loop-place.invariant.2 c.post_updates.ensures,
     )
 
-pub returns : goal.returns
-returns g c =
+pub returns-clause-posted : goal.returns-clause-posted
+returns-clause-posted g c =
     let all = updates c.args.plane.now.world.setup.domains.edition c.args.plane.now.world.history in
     let ys = c.loop-place.posters.items in
     let end : length ys ≤ c.loop-place.place = omega (arith, c.loop-place-test.false, c.len-place-end.ensures, c.loop-place.invariant.0) in

@@ -50,5 +50,5 @@ invariant_of-self-in-Ok g c =
     let p = c.tell.new.self in
     subst (λ (x : Past). IsLocked g.N.Name.board g.N.Name.own x c.settle.new.posters.items) (sym c.tell-in-Ok.ensures.same)
     (settles p c.post.new.self c.settle.new.ran (post_step (held_with (world_of p) c.args.h.id) c.args.h.id c.args.n.point) (length c.history-changes.result.now) g.N.Name.board g.N.Name.own c.self.inside.posters.items c.settle.new.posters.items
-    c.in_ok-lines.ensures.ok (inl c.in-Ok.ensures.done) c.settle.ensures.posted
+    c.in_ok-lines.ensures.ok (inl c.in-Ok.ensures.done) c.settle.ensures.posted c.settle.ensures.ends
     (subst (λ (x : Past). IsLocked g.N.Name.board g.N.Name.own x c.self.inside.posters.items) (sym c.tell.ensures.same) c.self.invariant))

@@ -16,7 +16,7 @@ settle-requires g c = may-settle c.self.inside.ran (Report c.args.d) c.report.ne
 pub invariant_of-self-2 : goal.invariant_of-self-2
 invariant_of-self-2 g c =
     settles c.self.inside.ran c.report.new.self c.settle.new.ran (Report c.args.d) (length c.history-changes.result.now) g.N.Name.board g.N.Name.own c.self.inside.posters.items c.settle.new.posters.items c.in_ok-lines.ensures.ok
-    (settled-either c.settle.result c.report.new.self c.settle.new.ran (length c.history-changes.result.now) c.in_ok-lines.lines c.settle.ensures.done c.settle.ensures.undone) c.settle.ensures.posted c.self.invariant
+    (settled-either c.settle.result c.report.new.self c.settle.new.ran (length c.history-changes.result.now) c.in_ok-lines.lines c.settle.ensures.done c.settle.ensures.undone) c.settle.ensures.posted c.settle.ensures.ends c.self.invariant
 
 pub returns : goal.returns
 returns g c =

@@ -1,4 +1,5 @@
-use Rattle.std.proofs.Common.{◌≡◌, List, sym, subst}
+use Rattle.std.proofs.Common.{◌≡◌, List, length, sym, ap, ◌∙◌, subst}
+use Rattle.std.proofs.lemmas.List.{length-map}
 use Rattle.std.proofs.lemmas.List.Elements.{All-map}
 use Rattle.deferred_queue.specs.Ends.{Posting}
 use Rattle.plane_lock.specs.Posted.{HavePosted, updates_of}
@@ -9,3 +10,9 @@ pub new-requires-clause-posted : goal.new-requires-clause-posted
 new-requires-clause-posted g c =
     subst (λ (ps : List Posting). HavePosted (updates_of c.args.r) ps) (sym c.in-Ok.ensures.posters)
     (All-map (λ (x : Posting). x.posted ≡ updates_of c.args.r) (λ (q : Queue). q.poster) c.args.q c.requires.posted)
+
+pub new-requires-clause-ends : goal.new-requires-clause-ends
+new-requires-clause-ends g c =
+    ap (λ (ps : List Posting). length ps) c.in-Ok.ensures.posters
+    ∙ (length-map c.args.q (λ (q : Queue). q.poster)
+    ∙ (sym (length-map c.args.q (λ (q : Queue). q.dom)) ∙ ap length c.requires.doms))
