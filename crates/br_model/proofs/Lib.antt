@@ -26,6 +26,7 @@ pub mod GroupOrders
 pub mod GroupPairs
 pub mod GroupRoom
 pub mod GroupRows
+pub mod Growing
 pub mod KeySets
 pub mod Least
 pub mod LiveRows

@@ -22,7 +22,8 @@ use Rattle.plane_lock.specs.declared.locked.ActFault.TheVariants.{Unpublished}
 use Rattle.plane_lock.specs.Acts.{Acted, changes_of, published_after}
 use Rattle.plane_lock.specs.Pasts.{Past, state_of, world_of, after, said_by}
 use Rattle.plane_lock.specs.Posted.{HavePosted, updates_of}
-use Rattle.plane_lock.proofs.Growing.{no-more, step-grows, updates-prefix}
+use Rattle.br_model.proofs.Growing.{step-grows, updates-prefix}
+use Rattle.plane_lock.proofs.Growing.{no-more}
 use Rattle.plane_lock.proofs.Recording.{world-after, world-setup}
 use Rattle.plane_lock.proofs.Still.{publish-history}
 
@@ -55,7 +56,7 @@ may-settle p s q posters n is posted many = (
   (world_of p).history,
   subst (λ (x : Past). HavePosted (updates x.setup.domains.edition (world_of p).history) posters) (sym is) posted,
   many,
-  subst (λ (x : Past). IsPrefix (world_of p).history (world_of x).history) (sym is) (step-grows p s),
+  subst (λ (x : Past). IsPrefix (world_of p).history (world_of x).history) (sym is) (subst (λ (w : World). IsPrefix (world_of p).history w.history) (sym (world-after p s)) (step-grows (world_of p) s)),
 )
 
 -- what the lock keeps of a run and the ends of its queues

@@ -3,7 +3,8 @@ use Rattle.std.proofs.lemmas.List.{length-take-le}
 use Rattle.br_model.specs.declared.change.Update.{Update}
 use Rattle.br_model.specs.Table.Change.{updates}
 use Rattle.deferred_queue.specs.Ends.{Posting}
-use Rattle.plane_lock.proofs.Growing.{few-updates, none-there, one-there, prefix-take, take-beyond, take-one, ticket-there}
+use Rattle.br_model.proofs.Growing.{few-updates, ticket-there}
+use Rattle.plane_lock.proofs.Growing.{none-there, one-there, prefix-take, take-beyond, take-one}
 use Rattle.plane_lock.proofs.locked.post_updates.Goals as goal
 
 pub loop-ticket-init : goal.loop-ticket-init
