@@ -1,6 +1,6 @@
 pub mod Recording
 pub mod Still
-pub mod Growing
+pub mod Prefixes
 pub mod Posting
 pub mod Settling
 pub mod Turning

@@ -23,7 +23,7 @@ use Rattle.plane_lock.specs.Acts.{Acted, changes_of, published_after}
 use Rattle.plane_lock.specs.Pasts.{Past, state_of, world_of, after, said_by}
 use Rattle.plane_lock.specs.Posted.{HavePosted, updates_of}
 use Rattle.br_model.proofs.Growing.{step-grows, updates-prefix}
-use Rattle.plane_lock.proofs.Growing.{no-more}
+use Rattle.plane_lock.proofs.Prefixes.{no-more}
 use Rattle.plane_lock.proofs.Recording.{world-after, world-setup}
 use Rattle.plane_lock.proofs.Still.{publish-history}
 

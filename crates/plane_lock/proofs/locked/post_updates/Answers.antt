@@ -1,10 +1,11 @@
 use Rattle.std.proofs.Common.{◌≡◌, ◌≤◌, ◌<◌, List, [], ◌∷◌, ◌++◌, length, take, slice_get, Some, sym, ap, ◌∙◌, arith}
-use Rattle.std.proofs.lemmas.List.{length-take-le}
+use Rattle.std.proofs.lemmas.List.{length-take-le, take_all}
+use Rattle.std.proofs.lemmas.Option.{slice_get_within}
 use Rattle.br_model.specs.declared.change.Update.{Update}
 use Rattle.br_model.specs.Table.Change.{updates}
 use Rattle.deferred_queue.specs.Ends.{Posting}
 use Rattle.br_model.proofs.Growing.{few-updates, ticket-there}
-use Rattle.plane_lock.proofs.Growing.{none-there, one-there, prefix-take, take-beyond, take-one}
+use Rattle.plane_lock.proofs.Prefixes.{none-there, prefix-take, take-one}
 use Rattle.plane_lock.proofs.locked.post_updates.Goals as goal
 
 pub loop-ticket-init : goal.loop-ticket-init
@@ -18,7 +19,7 @@ post-requires-clause-ticket g c =
     let p = c.args.plane.now.world in
     let us = updates p.setup.domains.edition p.history in
     let at : slice_get us c.loop-ticket.ticket ≡ Some c.in-Some.update = sym c.update.ensures ∙ c.in-Some.is in
-    let below : c.loop-ticket.ticket ≤ length us = omega (arith, one-there us c.loop-ticket.ticket c.in-Some.update at) in
+    let below : c.loop-ticket.ticket ≤ length us = omega (arith, slice_get_within us c.loop-ticket.ticket c.in-Some.update at) in
     ticket-there p.setup.domains.edition p.history c.loop-ticket.ticket c.in-Some.update at
     ∙ (sym (length-take-le c.loop-ticket.ticket us below) ∙ sym (ap length c.loop-ticket.invariant))
 
@@ -27,7 +28,7 @@ post-requires-clause-room g c =
     let p = c.args.plane.now.world in
     let us = updates p.setup.domains.edition p.history in
     let at : slice_get us c.loop-ticket.ticket ≡ Some c.in-Some.update = sym c.update.ensures ∙ c.in-Some.is in
-    let there : c.loop-ticket.ticket < length us = one-there us c.loop-ticket.ticket c.in-Some.update at in
+    let there : c.loop-ticket.ticket < length us = slice_get_within us c.loop-ticket.ticket c.in-Some.update at in
     let below : c.loop-ticket.ticket ≤ length us = omega (arith, there) in
     let long : length c.loop-ticket.poster.posted ≡ c.loop-ticket.ticket = ap length c.loop-ticket.invariant ∙ length-take-le c.loop-ticket.ticket us below in
     omega (arith, long, there, few-updates p.setup.domains.edition p.history, c.stands.ensures.world.history.few)
@@ -43,11 +44,11 @@ pub returns-in-None : goal.returns-in-None
 returns-in-None g c =
     let p = c.args.plane.now.world in
     let us = updates p.setup.domains.edition p.history in
-    c.loop-ticket.invariant ∙ take-beyond c.loop-ticket.ticket us (none-there us c.loop-ticket.ticket (sym c.update.ensures ∙ c.in-None.is))
+    c.loop-ticket.invariant ∙ take_all c.loop-ticket.ticket us (none-there us c.loop-ticket.ticket (sym c.update.ensures ∙ c.in-None.is))
 
 pub returns : goal.returns
 returns g c =
     let p = c.args.plane.now.world in
     let us = updates p.setup.domains.edition p.history in
     c.loop-ticket.invariant
-    ∙ take-beyond c.loop-ticket.ticket us (omega (arith, c.loop-ticket-test.false, few-updates p.setup.domains.edition p.history, c.stands.ensures.world.history.few))
+    ∙ take_all c.loop-ticket.ticket us (omega (arith, c.loop-ticket-test.false, few-updates p.setup.domains.edition p.history, c.stands.ensures.world.history.few))
