@@ -19,7 +19,7 @@ use Rattle.br_model.proofs.PlaneStays.{step-accepts}
 pub step-grows : (w : World) (s : Step) → IsPrefix w.history (world_step w s).0.history
 step-grows w s = let a = step-accepts w s in (a.0, sym a.1)
 
-enumerate-append : (n : ℕ) (xs ys : List Change) → enumerate_from n (xs ++ ys) ≡ enumerate_from n xs ++ enumerate_from (n + length xs) ys
+pub enumerate-append : (n : ℕ) (xs ys : List Change) → enumerate_from n (xs ++ ys) ≡ enumerate_from n xs ++ enumerate_from (n + length xs) ys
 enumerate-append n [] ys = let e : n ≡ n + 0 = omega arith in ap (λ m. enumerate_from m ys) e
 enumerate-append n (x ∷ xs) ys =
     let e : n + 1 + length xs ≡ n + suc (length xs) = omega arith in
@@ -36,16 +36,16 @@ updates-prefix edition h H p =
           ∙ (ap (map f) (sym (enumerate-append 0 ds (filter (deferred edition) p.0)) ∙ ap (enumerate_from 0) (sym (filter-append (deferred edition) h p.0))) ∙ ap (updates edition) p.1),
     )
 
-few-kept : (edition : Edition) (h : List Change) → deferred_count edition h ≤ length h
-few-kept edition [] = omega arith
-few-kept edition (c ∷ h) =
+pub few-deferred : (edition : Edition) (h : List Change) → deferred_count edition h ≤ length h
+few-deferred edition [] = omega arith
+few-deferred edition (c ∷ h) =
     elim (deferred edition c) as (λ b. length (cond b (c ∷ filter (deferred edition) h) (filter (deferred edition) h)) ≤ suc (length h)) [
-      | true ↦ omega (arith, few-kept edition h)
-      | false ↦ omega (arith, few-kept edition h)
+      | true ↦ omega (arith, few-deferred edition h)
+      | false ↦ omega (arith, few-deferred edition h)
     ]
 
 pub few-updates : (edition : Edition) (h : List Change) → length (updates edition h) ≤ length h
-few-updates edition h = omega (arith, length-updates edition h, few-kept edition h)
+few-updates edition h = omega (arith, length-updates edition h, few-deferred edition h)
 
 -- the update that stands there has the ticket of its place
 pub ticket-there : (edition : Edition) (h : List Change) (k : ℕ) (u : Update) → slice_get (updates edition h) k ≡ Some u → u.ticket ≡ k

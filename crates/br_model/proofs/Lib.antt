@@ -61,6 +61,7 @@ pub mod SameSteps
 pub mod SnoopRows
 pub mod SnoopSteps
 pub mod Stations
+pub mod Still
 pub mod TreeKept
 pub mod TreeRoots
 pub mod TreeRuns

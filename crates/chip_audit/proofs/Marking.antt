@@ -14,7 +14,6 @@ use Rattle.std.proofs.lemmas.List.Folds.{list_any-append}
 use Rattle.std.proofs.lemmas.List.Sums.{fold-append}
 use Rattle.std.proofs.lemmas.Option.{get_or_from_slice_get, slice_get_within}
 use Rattle.br_model.specs.declared.change.Change.{Change}
-use Rattle.br_model.specs.declared.change.Change.TheVariants.{AddrPut, AddrDel}
 use Rattle.br_model.specs.declared.change.Kind.{Kind}
 use Rattle.br_model.specs.declared.change.Update.{Update}
 use Rattle.br_model.specs.declared.domains.Edition.{Edition}
@@ -26,7 +25,7 @@ use Rattle.br_model.proofs.Cuts.{cut-all, cut-turn, deferred_of-cut, synchronous
 use Rattle.br_model.proofs.PairKeys.{pair_total, same_cmp}
 use Rattle.neigh_netlink.specs.Neighbours.{Key}
 use Rattle.neigh_netlink.specs.Offloaded.{is_of_key, last_update, offloaded, put_by, puts_among}
-use Rattle.neigh_netlink.proofs.LastUpdates.{all-ascend, by-changes, get-apply, get-table, last_update-push, puts}
+use Rattle.neigh_netlink.proofs.LastUpdates.{all-ascend, by-changes, get-apply, get-table, last_update-push, puts, synchronous-other}
 use Rattle.neigh_netlink.proofs.Mapped.{ascending-mapped, eq-turned, get-mapped, map-same}
 use Rattle.chip_audit.specs.declared.entries.Found.{Found}
 use Rattle.chip_audit.specs.Audits.{Row, entries_of, found, is_stale, same_place, stale}
@@ -40,12 +39,6 @@ or-true false = refl
 
 named-more : (cs : List Change) (c : Change) (q : Key) → is_named (cs ++ c ∷ []) q ≡ (is_named cs q || is_of_key q c)
 named-more cs c q = list_any-append (is_of_key q) cs (c ∷ []) ∙ ap (λ b. is_named cs q || b) (or-false (is_of_key q c))
-
--- what reaches a chip at once is of no entry
-synchronous-other : (edition : Edition) (q : Key) (c : Change) → deferred edition c ≡ false → is_of_key q c ≡ false
-synchronous-other edition q (AddrPut v a p kind) h = absurd (cc)
-synchronous-other edition q (AddrDel v a) h = absurd (cc)
-synchronous-other edition q c h = refl
 
 -- a change more, where it is among those from a place on, and where it isn't
 

@@ -1,5 +1,5 @@
 -- The updates for which a chip waits, as a plane tells of them.
-use Rattle.std.proofs.Common.{◌≡◌, ℕ, ◌+◌, ◌-◌, ◌<◌, ◌≤◌, true, false, cond, Some, None, List, [], ◌∷◌, length, sym, ap, ◌∙◌, arith}
+use Rattle.std.proofs.Common.{◌≡◌, ℕ, ◌+◌, ◌-◌, ◌<◌, ◌≤◌, true, Some, None, List, sym, ap, ◌∙◌, arith}
 use Rattle.std.specs.Prelude.{◌==◌, IsTrue}
 use Rattle.std.specs.List.{slice_get}
 use Rattle.std.specs.Option.{option_map}
@@ -11,12 +11,13 @@ use Rattle.br_model.specs.Data.Maps.{pair_cmp, is_ascending}
 use Rattle.br_model.specs.Plane.Chip.{Chip}
 use Rattle.br_model.specs.Plane.Runs.{pending_of}
 use Rattle.br_model.specs.Plane.World.{World, chip_at, table_of_chip}
-use Rattle.br_model.specs.Table.Change.{address_part, deferred, updates}
-use Rattle.br_model.specs.Table.Cut.{cut, deferred_at, deferred_count, deferred_of, under_ticket}
+use Rattle.br_model.specs.Table.Change.{address_part, updates}
+use Rattle.br_model.specs.Table.Cut.{cut, deferred_at, deferred_count, under_ticket}
 use Rattle.br_model.specs.Table.Domains.{has_chip}
 use Rattle.br_model.specs.Table.Limits.{most_changes}
 use Rattle.br_model.specs.Theorems.Invariants.{ChipStands, IsWorld}
 use Rattle.br_model.proofs.Cuts.{deferred_at-there, updates-at, updates-named}
+use Rattle.br_model.proofs.Growing.{few-deferred}
 use Rattle.br_model.proofs.PlaneLists.{find-each, same-some}
 use Rattle.plane_core.proofs.Calling.{chip_there}
 use Rattle.plane_core.proofs.Changing.{some_is}
@@ -24,12 +25,6 @@ use Rattle.chip_audit.specs.Audits.{Row, entries_of}
 use Rattle.chip_audit.specs.Marks.{Entries, all_offloaded, entries_after, entries_at}
 use Rattle.chip_audit.proofs.Calm.{true-of}
 use Rattle.chip_audit.proofs.Marking.{entries-first, entries-last, entries-next, table-ascends}
-
-few-deferred : (edition : Edition) (h : List Change) → deferred_count edition h ≤ length h
-few-deferred edition [] = omega arith
-few-deferred edition (c ∷ h) =
-    let rest : deferred_count edition h ≤ length h = few-deferred edition h in
-    elim (deferred edition c) as (λ b. length (cond b (c ∷ deferred_of edition h) (deferred_of edition h)) ≤ length (c ∷ h)) [ true ↦ omega arith | false ↦ omega arith ]
 
 -- as many wait as the plane says
 pub waits : (w : World) (d : ℕ) (c : Chip) (n : ℕ) → chip_at w d ≡ Some c → option_map (pending_of w) (chip_at w d) ≡ Some n → n ≡ pending_of w c

@@ -212,17 +212,6 @@ turns_waiting w (Some c) = turns_to_waiting w c (next_of w c)
 pub turn_waiting : (w : World) (dom : ℕ) → (world_step w (Turn dom)).0.waiting ≡ w.waiting
 turn_waiting w dom = turns_waiting (record w { steps = w.steps + 1 }) (chip_at w dom)
 
-turns_to_history : (w : World) (c : Chip) (o : Option Change) → (turns_to w c o).0.history ≡ w.history
-turns_to_history w c None = refl
-turns_to_history w c (Some x) = refl
-
-turns_history : (w : World) (o : Option Chip) → (turns w o).0.history ≡ w.history
-turns_history w None = refl
-turns_history w (Some c) = turns_to_history w c (next_of w c)
-
-pub turn_history : (w : World) (dom : ℕ) → (world_step w (Turn dom)).0.history ≡ w.history
-turn_history w dom = turns_history (record w { steps = w.steps + 1 }) (chip_at w dom)
-
 turns_to_other : (w : World) (c : Chip) (o : Option Change) (d : ℕ) → (c.dom == d) ≡ false → chip_at (turns_to w c o).0 d ≡ chip_at w d
 turns_to_other w c None d h = refl
 turns_to_other w c (Some x) d h =

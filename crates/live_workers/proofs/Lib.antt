@@ -1,6 +1,5 @@
 pub mod Runs
 pub mod Idle
-pub mod Entering
 pub mod Takings
 pub mod Openings
 pub mod Lives

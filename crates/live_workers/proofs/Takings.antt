@@ -9,12 +9,12 @@ use Rattle.br_model.specs.Plane.Steps.{world_step}
 use Rattle.br_model.specs.Plane.World.{World}
 use Rattle.br_model.specs.Program.LiveRun.{accepts_changes, frames_at, is_frame_at, is_ordered}
 use Rattle.br_model.proofs.PlaneStays.{step-held}
+use Rattle.br_model.proofs.Still.{rx-history}
 use Rattle.plane_lock.specs.Acts.{acted, changes_of}
 use Rattle.plane_lock.specs.Pasts.{Past, after, world_of}
 use Rattle.plane_lock.proofs.Recording.{world-after}
 use Rattle.live_workers.specs.Taking.{Takes, behind}
 use Rattle.live_workers.specs.Worlds.{ArePublished}
-use Rattle.live_workers.proofs.Entering.{entering_same}
 use Rattle.live_workers.proofs.Runs.{nothing_to_publish, not_less, published_both, run_more, worlds}
 
 -- the world behind more steps
@@ -87,7 +87,7 @@ entered p port bytes = record {
   so = refl;
   frames = λ q. refl;
   ordered = refl;
-  published = nothing_to_publish (world_of p) (Rx port bytes) (entering_same (world_of p) port bytes);
+  published = nothing_to_publish (world_of p) (Rx port bytes) (rx-history (world_of p) port bytes);
   held = ap (λ (w : World). w.held) (world-after p (Rx port bytes)) ∙ step-held (world_of p) (Rx port bytes);
 }
 

@@ -17,10 +17,11 @@ use Rattle.br_model.specs.Table.Setup.{Setup}
 use Rattle.br_model.proofs.PlaneChips.{chip-dom}
 use Rattle.br_model.proofs.PlaneKept.{chip-stands}
 use Rattle.br_model.proofs.Running.{run_none}
+use Rattle.br_model.proofs.Still.{turn-history}
 use Rattle.plane_lock.specs.Pasts.{Past, after, world_of}
 use Rattle.plane_lock.proofs.Recording.{world-after, world-setup, world-stands}
 use Rattle.live_workers.specs.Draining.{HasTold, HasTurned}
-use Rattle.live_workers.proofs.Chips.{Gone, Stays, report_done, report_other, reports_in, turn_applied, turn_history, turn_other, turn_reports}
+use Rattle.live_workers.proofs.Chips.{Gone, Stays, report_done, report_other, reports_in, turn_applied, turn_other, turn_reports}
 use Rattle.live_workers.proofs.Runs.{run_more, worlds}
 
 -- Whether the last report was refused, a step later.
@@ -213,7 +214,7 @@ still_pending w v (Some c) b setup history e h =
 pub turned_by_turn : (p : Past) (dom d : ℕ) → d ≢ dom → HasTurned p d → HasTurned (after p (Turn dom)) d
 turned_by_turn p dom d other h =
     still_pending (world_of p) (world_of (after p (Turn dom))) (chip_at (world_of p) d) (chip_at (world_of (after p (Turn dom))) d) (world-setup (after p (Turn dom)) ∙ sym (world-setup p))
-    (ap (λ (w : World). w.history) (world-after p (Turn dom)) ∙ turn_history (world_of p) dom)
+    (ap (λ (w : World). w.history) (world-after p (Turn dom)) ∙ turn-history (world_of p) dom)
     (ap (λ (w : World). chip_at w d) (world-after p (Turn dom)) ∙ turn_other (world_of p) dom d (differ d dom other)) h
 
 pub turned_by_publish : (p : Past) (d : ℕ) → HasTurned p d → HasTurned (after p Publish) d
@@ -227,7 +228,7 @@ one_applied p dom n more e =
     let some : 0 < pending_of (world_of p) there.0 = subst (λ k. 0 < k) (sym there.2) more in
     let a = turn_applied (world_of p) dom there.0 there.1 some in
     let at : chip_at (world_of (after p (Turn dom))) dom ≡ Some a.chip = ap (λ (w : World). chip_at w dom) (world-after p (Turn dom)) ∙ a.at in
-    let history : (world_of (after p (Turn dom))).history ≡ (world_of p).history = ap (λ (w : World). w.history) (world-after p (Turn dom)) ∙ turn_history (world_of p) dom in
+    let history : (world_of (after p (Turn dom))).history ≡ (world_of p).history = ap (λ (w : World). w.history) (world-after p (Turn dom)) ∙ turn-history (world_of p) dom in
     let setup : (world_of (after p (Turn dom))).setup ≡ (world_of p).setup = world-setup (after p (Turn dom)) ∙ sym (world-setup p) in
     let now : pending_left (after p (Turn dom)) dom ≡ pending_of (world_of p) a.chip =
     ap (pending_in (world_of (after p (Turn dom)))) at ∙ ap₂ (λ (s : Setup) hs. pending_of (record (world_of p) { setup = s; history = hs }) a.chip) setup history in

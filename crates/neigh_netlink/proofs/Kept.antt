@@ -17,13 +17,14 @@ use Rattle.br_model.specs.Data.Maps.{pair_cmp, get, put}
 use Rattle.br_model.specs.Plane.Chip.{Chip}
 use Rattle.br_model.specs.Plane.World.{World, chip_at, next_of}
 use Rattle.br_model.specs.Table.Change.{address_part, deferred, updates}
-use Rattle.br_model.specs.Table.Cut.{deferred_at, deferred_count, deferred_of, under_ticket}
+use Rattle.br_model.specs.Table.Cut.{deferred_at, deferred_count, under_ticket}
 use Rattle.br_model.specs.Table.DomainPorts.{is_in_domain}
 use Rattle.br_model.specs.Table.Domains.{Domains}
 use Rattle.br_model.specs.Table.Limits.{AreWithin, fits, most_addresses, most_changes}
 use Rattle.br_model.specs.Table.Table.{Table, start, table}
 use Rattle.br_model.proofs.ApplyingLaws.{deferred_count-append}
 use Rattle.br_model.proofs.Cuts.{updates-at}
+use Rattle.br_model.proofs.Growing.{few-deferred}
 use Rattle.br_model.proofs.PairKeys.{pair_total, same_cmp}
 use Rattle.br_model.proofs.PlaneChips.{chip-dom}
 use Rattle.br_model.proofs.PlaneLists.{same-some}
@@ -124,12 +125,6 @@ fits-room t (AddrDel v a) k x fit is none =
     let stands : None ≡ Some x = ap (λ (part : Key × Option (ℕ × Kind)). part.1) (same-some ((v, a), None) (k, Some x) is) in
     absurd (cc)
 fits-room t c k x fit is none = absurd (cc)
-
-few-deferred : (edition : Edition) (h : List Change) → deferred_count edition h ≤ length h
-few-deferred edition [] = omega arith
-few-deferred edition (c ∷ h) =
-    let rest : deferred_count edition h ≤ length h = few-deferred edition h in
-    elim (deferred edition c) as (λ b. length (cond b (c ∷ deferred_of edition h) (deferred_of edition h)) ≤ length (c ∷ h)) [ true ↦ omega arith | false ↦ omega arith ]
 
 module _ (domains : Domains) (history : List Change) (limits : AreWithin history) (at : ℕ) (within : at < length history)
     (count : ℕ) (es : Lasts) (kept : record { domains = domains; count = count; entries = es } ≡ kept_of domains (take at history)) where

@@ -1,5 +1,5 @@
 -- The last deferred change of an address entry, and what the table has at its key.
-use Rattle.std.proofs.Common.{◌≡◌, ℕ, zero, suc, ◌+◌, Bool, true, false, T, not, cond, Some, None, Option, List, [], ◌∷◌, ◌++◌, length, map, slice_get, ◌⊎◌, inl, inr, refl, sym, ap, subst, ◌∙◌, append_assoc, append-nil, ⊎_elim, arith}
+use Rattle.std.proofs.Common.{◌≡◌, ℕ, zero, suc, ◌+◌, Bool, true, false, T, not, cond, Some, None, Option, List, [], ◌∷◌, ◌++◌, map, slice_get, ◌⊎◌, inl, inr, refl, sym, ap, subst, ◌∙◌, append_assoc, append-nil, ⊎_elim, arith}
 use Rattle.std.specs.List.{filter, fold, enumerate_from, last_or}
 use Rattle.std.specs.Option.{option_and_then}
 use Rattle.std.specs.Ordering.{eq_by_cmp}
@@ -17,6 +17,7 @@ use Rattle.br_model.specs.Table.Change.{address_part, deferred, updates}
 use Rattle.br_model.specs.Table.Cut.{deferred_at, deferred_count, deferred_of, under_ticket}
 use Rattle.br_model.specs.Table.Table.{Table, apply, start, table}
 use Rattle.br_model.proofs.Cuts.{updates-named}
+use Rattle.br_model.proofs.Growing.{enumerate-append}
 use Rattle.br_model.proofs.PairKeys.{pair_total, same_cmp}
 use Rattle.br_model.proofs.PlaneLists.{last-push}
 use Rattle.neigh_netlink.specs.Neighbours.{Key}
@@ -59,18 +60,12 @@ all-ascend t [] h = h
 all-ascend t (c ∷ cs) h = all-ascend (apply t c) cs (ascends t c h)
 
 -- what reaches a chip at once is of no entry
-synchronous-other : (edition : Edition) (q : Key) (c : Change) → deferred edition c ≡ false → is_of_key q c ≡ false
+pub synchronous-other : (edition : Edition) (q : Key) (c : Change) → deferred edition c ≡ false → is_of_key q c ≡ false
 synchronous-other edition q (AddrPut v a p kind) h = absurd (cc)
 synchronous-other edition q (AddrDel v a) h = absurd (cc)
 synchronous-other edition q c h = refl
 
 -- A history with a change more.
-
-numbered-append : (n : ℕ) (xs ys : List Change) → enumerate_from n (xs ++ ys) ≡ enumerate_from n xs ++ enumerate_from (n + length xs) ys
-numbered-append n [] ys = let e : n ≡ n + 0 = omega arith in ap (λ m. enumerate_from m ys) e
-numbered-append n (x ∷ xs) ys =
-    let e : n + 1 + length xs ≡ n + suc (length xs) = omega arith in
-    ap (λ (l : List (ℕ × Change)). (n, x) ∷ l) (numbered-append (n + 1) xs ys ∙ ap (λ m. enumerate_from (n + 1) xs ++ enumerate_from m ys) e)
 
 module _ (edition : Edition) where
   update : ℕ × Change → Update
@@ -80,7 +75,7 @@ module _ (edition : Edition) where
   unfolding update
   updates-push h c =
       ap (λ l. map update (enumerate_from 0 l)) (filter-append (deferred edition) h (c ∷ []))
-      ∙ ap (map update) (numbered-append 0 (deferred_of edition h) (filter (deferred edition) (c ∷ [])))
+      ∙ ap (map update) (enumerate-append 0 (deferred_of edition h) (filter (deferred edition) (c ∷ [])))
       ∙ map-append update (enumerate_from 0 (deferred_of edition h)) _
       ∙ ap (λ (l : List Update). updates edition h ++ l) (by (deferred edition c))
     where

@@ -1,5 +1,4 @@
 pub mod Recording
-pub mod Still
 pub mod Prefixes
 pub mod Posting
 pub mod Settling

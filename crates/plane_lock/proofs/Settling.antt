@@ -14,6 +14,8 @@ use Rattle.br_model.specs.Plane.World.{World}
 use Rattle.br_model.specs.Table.Change.{updates}
 use Rattle.br_model.specs.Table.Domains.{chip_domains}
 use Rattle.br_model.specs.Table.Setup.{Setup}
+use Rattle.br_model.proofs.Growing.{step-grows, updates-prefix}
+use Rattle.br_model.proofs.Still.{publish-history}
 use Rattle.deferred_queue.specs.Ends.{Posting}
 use Rattle.plane_core.specs.Planes.{PlaneState}
 use Rattle.transcript_lines.specs.Rows.{Listed}
@@ -22,10 +24,8 @@ use Rattle.plane_lock.specs.declared.locked.ActFault.TheVariants.{Unpublished}
 use Rattle.plane_lock.specs.Acts.{Acted, changes_of, published_after}
 use Rattle.plane_lock.specs.Pasts.{Past, state_of, world_of, after, said_by}
 use Rattle.plane_lock.specs.Posted.{HavePosted, updates_of}
-use Rattle.br_model.proofs.Growing.{step-grows, updates-prefix}
 use Rattle.plane_lock.proofs.Prefixes.{no-more}
 use Rattle.plane_lock.proofs.Recording.{world-after, world-setup}
-use Rattle.plane_lock.proofs.Still.{publish-history}
 
 -- a step that accepts nothing leaves nothing to post
 pub still : (p : Past) (s : Step) → (world_step (world_of p) s).0.history ≡ (world_of p).history → updates_of (after p s) ≡ updates_of p

@@ -11,15 +11,15 @@ use Rattle.br_model.specs.declared.steps.Step.{Step}
 use Rattle.br_model.specs.declared.steps.Step.TheVariants.{Rx, Cmd, Now, Serve, Hold, Post, Turn, Report, Sweep, Publish}
 use Rattle.br_model.specs.declared.transcript.Line.{Line}
 use Rattle.br_model.specs.Plane.Chip.{Chip}
-use Rattle.br_model.specs.Plane.ChipSteps.{turns, turns_to}
 use Rattle.br_model.specs.Plane.Runs.{run, then_step}
 use Rattle.br_model.specs.Plane.Steps.{world_step}
-use Rattle.br_model.specs.Plane.World.{World, Stepped, chip_at, first_world, next_of}
+use Rattle.br_model.specs.Plane.World.{World, Stepped, chip_at, first_world}
 use Rattle.br_model.specs.Table.Change.{updates}
 use Rattle.br_model.specs.Table.Domains.{Domains}
 use Rattle.br_model.specs.Table.Setup.{Setup}
 use Rattle.br_model.proofs.PlaneApplied.{step-setup}
 use Rattle.br_model.proofs.PlaneStays.{step-accepts}
+use Rattle.br_model.proofs.Still.{turn-history}
 use Rattle.neigh_netlink.specs.declared.neigh.Neigh.{Neigh}
 use Rattle.neigh_netlink.specs.Monitor.{accepted, message_line, messages, messages_in, messages_of, monitors, turned}
 use Rattle.neigh_netlink.specs.Stream.{Kept, kept_of}
@@ -86,18 +86,10 @@ module _ (w v : World) (step : Step) (lines : List Line) (is : (v, lines) ≡ wo
 
 -- a turn accepts nothing
 
-turns_to-history : (w : World) (c : Chip) (o : Option Change) → (turns_to w c o).0.history ≡ w.history
-turns_to-history w c None = refl
-turns_to-history w c (Some d) = refl
-
-turns-history : (w : World) (o : Option Chip) → (turns w o).0.history ≡ w.history
-turns-history w None = refl
-turns-history w (Some c) = turns_to-history w c (next_of w c)
-
 pub kept_by_turn : (w v : World) (dom : ℕ) (lines : List Line) (k : Kept) → (v, lines) ≡ world_step w (Turn dom) → k ≡ kept_of w.setup.domains w.history → k ≡ kept_of v.setup.domains v.history
 kept_by_turn w v dom lines k is h =
     h ∙ ap (λ (d : Domains). kept_of d w.history) (sym (same_domains w v (Turn dom) lines is))
-    ∙ ap (kept_of v.setup.domains) (sym (ap (λ (x : Stepped). x.0.history) is ∙ turns-history (record w { steps = w.steps + 1 }) (chip_at w dom)))
+    ∙ ap (kept_of v.setup.domains) (sym (ap (λ (x : Stepped). x.0.history) is ∙ turn-history w dom))
 
 -- the chip of a domain, by what it applied
 pub next_is : (w : World) (dom n : ℕ) (update : Option Update) → option_map (λ c. c.count) (chip_at w dom) ≡ Some n

@@ -1,7 +1,7 @@
 use Rattle.br_model.specs.declared.steps.Step.TheVariants.{Publish}
+use Rattle.br_model.proofs.Still.{publish-history}
 use Rattle.plane_lock.specs.Pasts.{world_of}
 use Rattle.plane_lock.proofs.Settling.{keeps}
-use Rattle.plane_lock.proofs.Still.{publish-history}
 use Rattle.plane_lock.proofs.locked.Locked.publish.Goals as goal
 
 pub invariant_of-self : goal.invariant_of-self

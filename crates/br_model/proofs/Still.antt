@@ -1,38 +1,28 @@
 -- Steps that accept nothing: a frame enters or is held, a chip applies a change, the tables are published.
-use Rattle.std.proofs.Common.{◌≡◌, ℕ, ◌+◌, true, false, cond, List, [], ◌∷◌, ◌++◌, length, Option, None, Some, refl}
-use Rattle.std.specs.Prelude.{nat_lt}
+use Rattle.std.proofs.Common.{◌≡◌, ℕ, ◌+◌, List, [], ◌∷◌, Option, None, Some, refl}
 use Rattle.std.specs.declared.result.Result.{Result}
 use Rattle.std.specs.declared.result.Result.TheVariants.{Ok, Err}
 use Rattle.br_model.specs.declared.change.Change.{Change}
 use Rattle.br_model.specs.declared.frame.Class.{Class}
-use Rattle.br_model.specs.declared.frame.Class.TheVariants.{Drop, Trap, Copy, Forward}
 use Rattle.br_model.specs.declared.frame.FrameFault.{FrameFault}
 use Rattle.br_model.specs.declared.frame.Head.{Head}
 use Rattle.br_model.specs.declared.steps.Step.TheVariants.{Rx, Hold, Turn, Publish}
-use Rattle.br_model.specs.declared.transcript.Line.TheVariants.{Overrun}
 use Rattle.br_model.specs.Forward.Shares.{mark_of}
 use Rattle.br_model.specs.Plane.Chip.{notes, Chip}
 use Rattle.br_model.specs.Plane.ChipSteps.{turns_to, turns}
 use Rattle.br_model.specs.Plane.Entering.{waits, goes_on, enters_as, class_of, enters_by, chip_of}
 use Rattle.br_model.specs.Plane.Serving.{holds}
 use Rattle.br_model.specs.Plane.Steps.{world_step}
-use Rattle.br_model.specs.Plane.World.{World, Waiting, Stepped, chip_at, next_of, table_of_chip, with_chip}
+use Rattle.br_model.specs.Plane.World.{World, Waiting, chip_at, next_of, table_of_chip, with_chip}
 use Rattle.br_model.specs.Table.Domains.{domain_of}
-use Rattle.br_model.specs.Table.Limits.{most_waiting}
 use Rattle.br_model.specs.Wire.Frames.{frame}
+use Rattle.br_model.proofs.PlaneWaiting.{waits-either, goes_on-either}
 
 waits-history : (w : World) (f : Waiting) → (waits w f).0.history ≡ w.history
-waits-history w f =
-    elim (nat_lt (length w.waiting + length w.held) most_waiting) as (λ b. (cond {A = Stepped} b (record w { waiting = w.waiting ++ f ∷ [] }, []) (w, Overrun f.id ∷ [])).0.history ≡ w.history) [
-      | true ↦ refl
-      | false ↦ refl
-    ]
+waits-history w f = waits-either (λ s. s.0.history ≡ w.history) w f refl refl
 
 goes_on-history : (c : Class) (w : World) (f : Waiting) → (goes_on c w f).0.history ≡ w.history
-goes_on-history Drop w f = refl
-goes_on-history Trap w f = waits-history w f
-goes_on-history Copy w f = waits-history w f
-goes_on-history Forward w f = refl
+goes_on-history c w f = goes_on-either (λ s. s.0.history ≡ w.history) c w f refl (waits-history w f)
 
 enters_by-history : (w : World) (f : Waiting) (o : Option Chip) → (enters_by w o f).0.history ≡ w.history
 enters_by-history w f None = waits-history w f
