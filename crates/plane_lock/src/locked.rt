@@ -79,7 +79,7 @@ impl<N: Name> Model for Locked<N> {
 /// Posts the updates that the plane has and the end hasn't posted.
 pub fn post_updates<R: Wait>(rt: &R, poster: &mut Poster, plane: &Plane)
     requires { IsPrefix poster.old.posted (updates plane.now.world.setup.domains.edition plane.now.world.history) }
-    ensures { poster.new.posted ≡ updates plane.now.world.setup.domains.edition plane.now.world.history }
+    ensures { poster.new ≡ record poster.old { posted = updates plane.now.world.setup.domains.edition plane.now.world.history } }
 {
     // law: the history is within its limit
     plane.stands();

@@ -1,6 +1,7 @@
 use Rattle.std.proofs.Common.{List, ◌++◌, ap, ◌∙◌}
 use Rattle.br_model.specs.declared.change.Update.{Update}
 use Rattle.br_model.specs.Table.Change.{updates}
+use Rattle.deferred_queue.specs.Ends.{Posting}
 use Rattle.plane_lock.proofs.Settling.{updates-there}
 use Rattle.live_workers.proofs.Does.{chip_there}
 use Rattle.live_workers.proofs.queues.queue_of.Goals as goal
@@ -14,4 +15,4 @@ pub applied-end-requires : goal.applied-end-requires
 applied-end-requires g c = chip_there c.args.ran.now c.plane-plane.result.now c.args.dom c.plane-plane.ensures c.requires
 
 pub loop-init : goal.loop-init
-loop-init g c = c.post_updates.ensures ∙ updates-there c.args.ran.now c.plane-plane.result.now c.plane-plane.ensures
+loop-init g c = ap (λ (x : Posting). x.posted) c.post_updates.ensures ∙ updates-there c.args.ran.now c.plane-plane.result.now c.plane-plane.ensures

@@ -1,4 +1,4 @@
-use Rattle.std.proofs.Common.{◌≡◌, ◌<◌, ◌≤◌, List, [], length, refl, sym, subst, ◌∙◌, arith, append-nil, length-set}
+use Rattle.std.proofs.Common.{◌≡◌, ◌<◌, ◌≤◌, List, [], length, refl, sym, ap, subst, ◌∙◌, arith, append-nil, length-set}
 use Rattle.std.proofs.lemmas.List.Elements.{All-from_all_within, All-get_or, All-set, All-weaker, AllWithin-more_set, AllWithin-none, AllWithin-upto}
 use mathlib.Core.List.{IsPrefix}
 use Rattle.br_model.specs.declared.change.Update.{Update}
@@ -30,10 +30,11 @@ loop-place-preserved g c =
     let place = c.loop-place.place in
     let poster = c.post_updates.new.poster in
     let there : place < length ys = omega (arith, c.loop-place-test.true, c.len-place-end.ensures, c.loop-place.invariant.0) in
-    let whole : IsPrefix poster.posted all = subst (λ (us : List Update). IsPrefix us all) (sym c.post_updates.ensures) ([], append-nil all) in (
+    let posted : poster.posted ≡ all = ap (λ (x : Posting). x.posted) c.post_updates.ensures in
+    let whole : IsPrefix poster.posted all = subst (λ (us : List Update). IsPrefix us all) (sym posted) ([], append-nil all) in (
       length-set ys place poster ∙ c.loop-place.invariant.0,
       All-set (λ (x : Posting). IsPrefix x.posted all) ys place poster whole c.loop-place.invariant.1,
-      AllWithin-more_set ys place poster there (λ (x : Posting). x.posted ≡ all) c.loop-place.invariant.2 c.post_updates.ensures,
+      AllWithin-more_set ys place poster there (λ (x : Posting). x.posted ≡ all) c.loop-place.invariant.2 posted,
     )
 
 pub returns-clause-posted : goal.returns-clause-posted

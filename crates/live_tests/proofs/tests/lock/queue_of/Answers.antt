@@ -3,6 +3,7 @@ use Rattle.std.proofs.lemmas.List.Elements.{All-nil, All-push, All-same}
 use Rattle.std.specs.List.{All}
 use Rattle.br_model.specs.declared.change.Update.{Update}
 use Rattle.br_model.specs.Table.Change.{updates}
+use Rattle.deferred_queue.specs.Ends.{Posting}
 use Rattle.plane_lock.specs.declared.queues.Queue.{Queue}
 use Rattle.plane_lock.specs.Posted.{updates_of}
 use Rattle.plane_lock.proofs.Settling.{updates-there}
@@ -14,7 +15,7 @@ post_updates-requires g c =
     let us = updates c.plane.result.now.world.setup.domains.edition c.plane.result.now.world.history in (us, ap (λ (l : List Update). l ++ us) c.in_ok-poster.ensures.empty.0)
 
 pub loop-init : goal.loop-init
-loop-init g c = c.post_updates.ensures ∙ updates-there c.args.ran.now c.plane.result.now c.plane.ensures
+loop-init g c = ap (λ (x : Posting). x.posted) c.post_updates.ensures ∙ updates-there c.args.ran.now c.plane.result.now c.plane.ensures
 
 pub returns-clause-posted : goal.returns-clause-posted
 returns-clause-posted g c =
