@@ -40,6 +40,23 @@ fn domains() -> Result<Domains, Fail>
     Ok(domains)
 }
 
+fn second_chip() -> Result<Dom, Fail>
+    ensures { IfOk result (λ d. d ≡ 2) }
+{
+    Ok(Dom::new(2).ok_or("domain")?)
+}
+
+/// A port of each of two chips, and one of software.
+fn domains_of_two() -> Result<Domains, Fail>
+    ensures { IfOk result (λ d. chip_domains d ≡ 1 ∷ 2 ∷ []) }
+{
+    let mut domains = Domains::make();
+    domains.set(port(1)?, Dom::CHIP);
+    domains.set(port(2)?, second_chip()?);
+    domains.set(port(3)?, Dom::SOFTWARE);
+    Ok(domains)
+}
+
 /// The address of station `number`.
 fn station(number: u8) -> Mac {
     Mac::new([2, 0, 0, 0, 0, number])
@@ -98,22 +115,35 @@ fn begin<R: Wait>(rt: &R, alloc: Global, ran: &mut Ran) -> Result<(), Fail>
     Ok(())
 }
 
-/// The queue of the chip, which has been posted the updates of the run, of which so many were taken.
-fn queue_of<R: Wait>(rt: &R, alloc: Global, ran: &Ran, taken: u32) -> Result<Queues, Fail>
-    ensures doms { IfOk result (λ q. map (λ x. x.dom) q ≡ 1 ∷ []) }
-    ensures posted { IfOk result (λ q. All (λ x. x.poster.posted ≡ updates_of ran.now) q) }
+/// The queue of a chip, which has been posted the updates of the run, of which so many were taken.
+fn queue_of<R: Wait>(rt: &R, alloc: Global, ran: &Ran, dom: Dom, taken: u32) -> Result<Queue, Fail>
+    ensures dom { IfOk result (λ q. q.dom ≡ dom) }
+    ensures posted { IfOk result (λ q. q.poster.posted ≡ updates_of ran.now) }
 {
     let (mut poster, mut taker) = deferred_queue::make(alloc)?;
     post_updates(rt, &mut poster, ran.plane());
     for _ in 0..taken {
         let _update = taker.take(rt);
     }
+    Ok(Queue { dom, poster, taker })
+}
+
+fn one_queue<R: Wait>(rt: &R, alloc: Global, ran: &Ran, taken: u32) -> Result<Queues, Fail>
+    ensures doms { IfOk result (λ q. map (λ x. x.dom) q ≡ 1 ∷ []) }
+    ensures posted { IfOk result (λ q. All (λ x. x.poster.posted ≡ updates_of ran.now) q) }
+{
     let mut queues = Queues::new(alloc);
-    queues.push(Queue {
-        dom: Dom::CHIP,
-        poster,
-        taker,
-    })?;
+    queues.push(queue_of(rt, alloc, ran, Dom::CHIP, taken)?)?;
+    Ok(queues)
+}
+
+/// The queues of two chips, of the first of which so many updates were taken.
+fn two_queues<R: Wait>(rt: &R, alloc: Global, ran: &Ran, taken: u32) -> Result<Queues, Fail>
+    ensures doms { IfOk result (λ q. map (λ x. x.dom) q ≡ 1 ∷ 2 ∷ []) }
+    ensures posted { IfOk result (λ q. All (λ x. x.poster.posted ≡ updates_of ran.now) q) }
+{
+    let mut queues = one_queue(rt, alloc, ran, taken)?;
+    queues.push(queue_of(rt, alloc, ran, second_chip()?, 0)?)?;
     Ok(queues)
 }
 
@@ -127,7 +157,20 @@ fn emptied_queue<R: Wait>(rt: &R, alloc: Global, ran: &mut Ran) -> Result<Queues
     begin(rt, alloc, ran)?;
     add_address(alloc, ran, 11)?;
     add_address(alloc, ran, 12)?;
-    queue_of(rt, alloc, ran, 2)
+    one_queue(rt, alloc, ran, 2)
+}
+
+/// A run of two static addresses, whose updates were taken from the first chip's queue alone.
+fn one_of_two_emptied<R: Wait>(rt: &R, alloc: Global, ran: &mut Ran) -> Result<Queues, Fail>
+    ensures board { ran.new.board ≡ ran.old.board }
+    ensures setup { ran.new.setup ≡ ran.old.setup }
+    ensures doms { IfOk result (λ q. map (λ x. x.dom) q ≡ 1 ∷ 2 ∷ []) }
+    ensures posted { IfOk result (λ q. All (λ x. x.poster.posted ≡ updates_of ran.new) q) }
+{
+    begin(rt, alloc, ran)?;
+    add_address(alloc, ran, 11)?;
+    add_address(alloc, ran, 12)?;
+    two_queues(rt, alloc, ran, 2)
 }
 
 /// A run whose ports are up, with its queue.
@@ -138,7 +181,7 @@ fn begun_queue<R: Wait>(rt: &R, alloc: Global, ran: &mut Ran) -> Result<Queues, 
     ensures posted { IfOk result (λ q. All (λ x. x.poster.posted ≡ updates_of ran.new) q) }
 {
     begin(rt, alloc, ran)?;
-    queue_of(rt, alloc, ran, 0)
+    one_queue(rt, alloc, ran, 0)
 }
 
 fn wrote(lines: &Lines) -> bool {
@@ -207,6 +250,51 @@ fn turns_go_by_the_queue(rt: HostRuntime) -> Result<(), Fail> {
     let (board, _seats) = Board::make(&rt, alloc, &domains, 1)?;
     let plane = Plane::make(&rt, alloc, domains, Mac::FIRST_OWN, board)?;
     use_queue::<Brand, HostRuntime>(&rt, alloc, Ran::make(alloc, plane))
+}
+
+/// The first chip's queue was emptied; the second chip's has two updates.
+fn turn_by_own_queue<N: Name, R: Wait + Abort>(
+    rt: &R,
+    alloc: Global,
+    shared: &Shared<N>,
+) -> Result<(), Fail>
+    requires { chip_domains N.board.domains ≡ 1 ∷ 2 ∷ [] }
+{
+    let second = second_chip()?;
+    assert!(rt; !wrote(&shared.turn(rt, alloc, Dom::CHIP)?));
+    assert!(rt; is_done(&shared.turn(rt, alloc, second)?));
+    assert!(rt; is_done(&shared.turn(rt, alloc, second)?));
+    assert!(rt; !wrote(&shared.turn(rt, alloc, second)?));
+    Ok(())
+}
+
+fn use_own_queues<N: Name, R: Wait + Abort>(rt: &R, alloc: Global, ran: Ran) -> Result<(), Fail>
+    requires board { ran.board ≡ N.board }
+    requires setup { ran.setup ≡ record { domains = N.board.domains; own = N.own } }
+    requires chips { chip_domains N.board.domains ≡ 1 ∷ 2 ∷ [] }
+{
+    let mut ran = ran;
+    match one_of_two_emptied(rt, alloc, &mut ran) {
+        Ok(queues) => {
+            let shared = Shared::<N>::make(rt, alloc, ran, queues)?;
+            let turned = turn_by_own_queue(rt, alloc, &shared);
+            let _book = shared.close().book(rt);
+            turned
+        }
+        Err(error) => {
+            let _book = ran.book(rt);
+            Err(error)
+        }
+    }
+}
+
+#[test]
+fn each_chip_has_its_own_queue(rt: HostRuntime) -> Result<(), Fail> {
+    let alloc = rt.alloc();
+    let domains = domains_of_two()?;
+    let (board, _seats) = Board::make(&rt, alloc, &domains, 1)?;
+    let plane = Plane::make(&rt, alloc, domains, Mac::FIRST_OWN, board)?;
+    use_own_queues::<Brand, HostRuntime>(&rt, alloc, Ran::make(alloc, plane))
 }
 
 fn is_sent<T: Send>() {}

@@ -1,11 +1,7 @@
-use Rattle.std.proofs.Common.{◌≡◌, List, [], ◌++◌, ap, sym, subst, ◌∙◌}
-use Rattle.std.proofs.lemmas.List.Elements.{All-nil, All-push, All-same}
-use Rattle.std.specs.List.{All}
+use Rattle.std.proofs.Common.{List, ◌++◌, ap, ◌∙◌}
 use Rattle.br_model.specs.declared.change.Update.{Update}
 use Rattle.br_model.specs.Table.Change.{updates}
 use Rattle.deferred_queue.specs.Ends.{Posting}
-use Rattle.plane_lock.specs.declared.queues.Queue.{Queue}
-use Rattle.plane_lock.specs.Posted.{updates_of}
 use Rattle.plane_lock.proofs.Settling.{updates-there}
 use Rattle.live_tests.proofs.tests.lock.queue_of.Goals as goal
 
@@ -16,9 +12,3 @@ post_updates-requires g c =
 
 pub loop-init : goal.loop-init
 loop-init g c = ap (λ (x : Posting). x.posted) c.post_updates.ensures ∙ updates-there c.args.ran.now c.plane.result.now c.plane.ensures
-
-pub returns-clause-posted : goal.returns-clause-posted
-returns-clause-posted g c =
-    let P : Queue → Type 0 = λ x. x.poster.posted ≡ updates_of c.args.ran.now in
-    subst (λ (q : List Queue). All P q) (sym c.in_ok-push.ensures.ok)
-    (All-push P c.new-queues.result _ (All-same P c.new-queues.result [] c.new-queues.ensures (All-nil P)) c.loop.invariant)
