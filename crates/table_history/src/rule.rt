@@ -17,7 +17,7 @@ pub struct View {
 pub struct Shows;
 
 impl Protocol<Published, View> for Shows {
-    ghost use Rattle.table_publish.specs.Rule.{Keeps, stranger};
+    ghost use Rattle.table_history.specs.Rule.{Keeps, stranger};
 
     ghost holds = { λ p views. Keeps p views };
 
@@ -28,7 +28,7 @@ impl Protocol<Published, View> for Shows {
 pub struct See;
 
 impl Outcome<Published, View> for See {
-    ghost use Rattle.table_publish.specs.Rule.{Sees};
+    ghost use Rattle.table_history.specs.Rule.{Sees};
 
     ghost then = { Sees };
 }
@@ -37,7 +37,7 @@ impl Outcome<Published, View> for See {
 pub struct Naming;
 
 impl Outcome<Published, View> for Naming {
-    ghost use Rattle.table_publish.specs.Rule.{Names};
+    ghost use Rattle.table_history.specs.Rule.{Names};
 
     ghost then = { Names };
 }
@@ -52,7 +52,7 @@ impl Split<View> for Note {
 }
 
 impl Join<View> for Note {
-    ghost use Rattle.table_publish.specs.Rule.{stranger};
+    ghost use Rattle.table_history.specs.Rule.{stranger};
 
     ghost both = { λ v w. w };
 

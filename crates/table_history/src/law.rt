@@ -13,7 +13,7 @@ pub struct Law;
 impl Rule<Batch, u64> for Law {
     ghost use Rattle.std.specs.Prelude.{[]};
     ghost use base.Fml.{ftrue};
-    ghost use Rattle.table_publish.specs.Law.{IsKept};
+    ghost use Rattle.table_history.specs.Law.{IsKept};
 
     ghost holds = { λ cells log. IsKept cells log };
 
@@ -41,7 +41,7 @@ impl Gain<Batch, u64> for Nothing {
 pub struct Add;
 
 impl Play<Batch, u64> for Add {
-    ghost use Rattle.table_publish.specs.Law.{Adds};
+    ghost use Rattle.table_history.specs.Law.{Adds};
 
     ghost then = { Adds };
 }

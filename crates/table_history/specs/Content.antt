@@ -3,9 +3,9 @@ use Rattle.std.specs.Prelude.{◌≡◌, ◌+◌, ◌%◌, length, fold, if◌th
 use Rattle.br_model.specs.declared.change.Change.{Change}
 use Rattle.br_model.specs.Table.Limits.{fits, AreWithin}
 use Rattle.br_model.specs.Table.Table.{Table, apply, table}
-use Rattle.table_publish.specs.Object.{changes_of, AllFull}
-use Rattle.table_publish.specs.declared.content.Published.{Published}
-use Rattle.table_publish.specs.declared.content.Operation.{Operation}
+use Rattle.table_history.specs.Object.{changes_of, AllFull}
+use Rattle.table_history.specs.declared.content.Published.{Published}
+use Rattle.table_history.specs.declared.content.Operation.{Operation}
 
 -- the table after a change; a change that doesn't fit is left out
 abbrev pub taken : Table → Change → Table

@@ -2,7 +2,7 @@
 use Rattle.std.specs.Prelude.{ℕ, ◌≡◌, ◌==◌, true, List, [], ◌∷◌, ◌++◌, length, MatchBool}
 use Rattle.logbook.specs.Pages.{Cell, Step, View, Book, Named}
 use Rattle.br_model.specs.declared.change.Change.{Change}
-use Rattle.table_publish.specs.Object.{AllFull}
+use Rattle.table_history.specs.Object.{AllFull}
 
 -- the first word is the number of batches. A book has two words, of which this one leaves the second at 0
 pub record IsKept (cells : List Cell) (log : List (List Change)) : Type 0 where

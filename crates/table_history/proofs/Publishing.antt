@@ -4,15 +4,13 @@ use Rattle.std.proofs.lemmas.List.{append-nil}
 use Rattle.std.proofs.lemmas.List.Sums.{fold-append}
 use Rattle.std.proofs.Math.Seq.{take-append_seam, get_or-append_seam}
 use Rattle.br_model.specs.declared.change.Change.{Change}
-use Rattle.br_model.specs.Table.Limits.{fits, most_changes, AreWithin}
+use Rattle.br_model.specs.Table.Limits.{fits, AreWithin}
 use Rattle.br_model.specs.Table.Table.{Table, apply, table, start}
-use Rattle.table_publish.specs.Object.{Object, with_batch, published, changes_of, AllFull, IsPublished, object_of}
-use Rattle.table_publish.specs.Shelved.{IsShelved}
-use Rattle.table_publish.specs.declared.board.Board.TheInside.{Inside}
-use Rattle.table_publish.specs.Content.{taken, after, IsTable}
-use Rattle.table_publish.specs.declared.content.Published.{Published}
-use Rattle.table_publish.specs.declared.content.Operation.{Operation}
-use Rattle.table_publish.proofs.Objects.{changes_of-push, full_push, published_of}
+use Rattle.table_history.specs.Object.{Object, with_batch, published, changes_of, AllFull}
+use Rattle.table_history.specs.Content.{taken, after, IsTable}
+use Rattle.table_history.specs.declared.content.Published.{Published}
+use Rattle.table_history.specs.declared.content.Operation.{Operation}
+use Rattle.table_history.proofs.Objects.{changes_of-push, full_push}
 
 pub length-full : (xs : List (List Change)) → AllFull xs → length xs ≤ length (changes_of xs)
 length-full [] f = omega arith
@@ -62,18 +60,6 @@ table_after p o log t same is number some within =
       full = subst AllFull (sym is) (full_push log items full some);
       within = subst AreWithin (sym more) within;
     }
-
-pub shelved_full : (b : Inside) → IsShelved b → AllFull b.seen.log
-shelved_full b h = subst AllFull (ap (λ s. s.log) h.shown) h.table.full
-
-pub shelved_published : (b : Inside) → IsShelved b → IsPublished (object_of b.seen.log)
-shelved_published b h = published_of b.seen.log (shelved_full b h)
-
-pub shelved_few : (b : Inside) → IsShelved b → length b.pending.items + b.len ≤ most_changes
-shelved_few b h = omega (arith, h.fit.few, h.len, length-append (changes_of b.seen.log) b.pending.items)
-
-pub shelved_batches : (b : Inside) → IsShelved b → b.batches ≤ most_changes
-shelved_batches b h = omega (arith, h.batches, h.len, shelved_few b h, length-full b.seen.log (shelved_full b h))
 
 -- what is pending makes a batch, where it isn't empty
 pub published_some : (o : Object) (b : List Change) → 0 < length b → with_batch o b ≡ published o b

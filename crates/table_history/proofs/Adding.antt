@@ -6,9 +6,9 @@ use mathlib.Core.List.{IsPrefix}
 use prog.Atomic.{either}
 use Rattle.logbook.specs.Pages.{Cell, cell, keeps, no_nib, step, Moves, Goes}
 use Rattle.br_model.specs.declared.change.Change.{Change}
-use Rattle.table_publish.specs.Object.{AllFull}
-use Rattle.table_publish.specs.Law.{IsKept, Adds}
-use Rattle.table_publish.proofs.Objects.{prefix_whole, full_push}
+use Rattle.table_history.specs.Object.{AllFull}
+use Rattle.table_history.specs.Law.{IsKept, Adds}
+use Rattle.table_history.proofs.Objects.{prefix_whole, full_push}
 
 abbrev pub shown : List (List Change) → List (List Change)
 shown log = []

@@ -3,7 +3,7 @@ use Rattle.std.proofs.Common.{◌≡◌, ℕ, ◌+◌, ◌<◌, ◌≤◌, List,
 use Rattle.std.proofs.lemmas.List.{append-nil}
 use mathlib.Core.List.{IsPrefix}
 use Rattle.br_model.specs.declared.change.Change.{Change}
-use Rattle.table_publish.specs.Object.{Object, Begins, changes_of, counts_from, object_of, AllFull, Ascends, AscendsFrom, IsPublished, with_batch}
+use Rattle.table_history.specs.Object.{Object, Begins, changes_of, counts_from, object_of, AllFull, Ascends, AscendsFrom, IsPublished, with_batch}
 
 pub prefix_self : {A : Type 0} (xs : List A) → IsPrefix xs xs
 prefix_self xs = ([], append-nil xs)

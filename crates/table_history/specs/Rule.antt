@@ -3,9 +3,9 @@ use Rattle.std.specs.Prelude.{◌≡◌, ℕ, true, false, List}
 use mathlib.Core.Option.{some}
 use lib.ListN.{get_elem?}
 use Rattle.logbook.specs.Pages.{Book}
-use Rattle.table_publish.specs.declared.content.Published.{Published}
-use Rattle.table_publish.specs.declared.rule.View.{View}
-use Rattle.table_publish.specs.Content.{IsTable}
+use Rattle.table_history.specs.declared.content.Published.{Published}
+use Rattle.table_history.specs.declared.rule.View.{View}
+use Rattle.table_history.specs.Content.{IsTable}
 
 abbrev pub book_of : View → Book
 book_of v = record { number = v.number; log_name = v.log_name; cells_name = v.cells_name }

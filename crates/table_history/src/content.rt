@@ -1,6 +1,6 @@
 //! What readers take: the tables, beside what they are the tables of.
 ghost use Rattle.std.specs.Prelude.{◌≡◌};
-ghost use Rattle.table_publish.specs.Content.{taken};
+ghost use Rattle.table_history.specs.Content.{taken};
 
 use crate::NoMemory;
 use crate::law::Shown;
@@ -35,7 +35,7 @@ fn take_in(tables: &mut SoftTables, change: &Change)
 }
 
 impl Absorb<Operation> for Published {
-    ghost use Rattle.table_publish.specs.Content.{after};
+    ghost use Rattle.table_history.specs.Content.{after};
 
     type State = Published;
 
