@@ -200,8 +200,8 @@ class Bridge:
         self.deferred += [("g", *change) for change in groups]
 
 
-class Teller:
-    """The lines of each step, and what its probes are to tell."""
+class Transcript:
+    """The lines of each step, and the frames that entered."""
 
     def __init__(self, steps, lines):
         # entered: the port and the bytes of each frame; told: lines, changes made, and the frame, of each step
@@ -216,21 +216,21 @@ class Teller:
             self.told.append((told, made, len(self.entered) if step.frame else decided[0] if decided else None))
 
 
-def begin_probes(steps, teller, probes):
+def begin_probes(steps, transcript, probes):
     """Begins the runs that will be asked for in any case, so that they go side by side."""
-    for number, (step, (_, made, frame)) in enumerate(zip(steps, teller.told)):
+    for number, (step, (_, made, frame)) in enumerate(zip(steps, transcript.told)):
         if made and step.words[0] == "now":
             probes.begin(number, "replay")
-        if made and step.words[0] in ("serve", "post") and teller.entered[frame][1][:1] in (b"\x01", b"\x33"):
+        if made and step.words[0] in ("serve", "post") and transcript.entered[frame][1][:1] in (b"\x01", b"\x33"):
             probes.begin(number, "show mdb")
 
 
-def follow(bridge, steps, teller):
+def follow(bridge, steps, transcript):
     """The steps with all that they do."""
     accepted = published = 0
-    for number, (step, (lines, made, frame)) in enumerate(zip(steps, teller.told)):
+    for number, (step, (lines, made, frame)) in enumerate(zip(steps, transcript.told)):
         words, taken = step.words, bool(lines) and lines[-1].startswith("ok ")
-        addresses = bridge.change_addresses(bridge.taken(number, words, made, teller.entered.get(frame)))
+        addresses = bridge.change_addresses(bridge.taken(number, words, made, transcript.entered.get(frame)))
         groups = bridge.change_groups(number, words, made - len(addresses))
         vlans = bridge.change_vlans(words) if taken else []
         bridge.defer(addresses, groups)
@@ -239,7 +239,7 @@ def follow(bridge, steps, teller):
             published = accepted
         if taken and words[0] == "turn":
             bridge.turns[int(words[1])] += 1
-        yield Step(step, lines, accepted, published, len(bridge.deferred), dict(bridge.turns), frame and (frame, teller.entered[frame][0]),
+        yield Step(step, lines, accepted, published, len(bridge.deferred), dict(bridge.turns), frame and (frame, transcript.entered[frame][0]),
                    [change[1:] for change in addresses], groups, vlans)
 
 
@@ -254,9 +254,9 @@ def run(data):
         raise Failed(f"the run ends before its first step: {lines[-1]}")
     steps = list(given(scenario))
     messages = [found for line in listings["monitor"][:-1] if (found := message(line, scenario.ports))]
-    teller, probes = Teller(steps, lines), Probes(scenario, steps)
-    begin_probes(steps, teller, probes)
+    transcript, probes = Transcript(steps, lines), Probes(scenario, steps)
+    begin_probes(steps, transcript, probes)
     bridge = Bridge(scenario, messages, probes)
-    followed = list(follow(bridge, steps, teller))
+    followed = list(follow(bridge, steps, transcript))
     probes.pool.shutdown()
     return Run(scenario, lines[-1], followed, bridge.deferred, listings)
