@@ -1,8 +1,8 @@
 """What a run does at each step, from what the program prints: one run of the program for each listing.
 
 Address changes come from `monitor`, whose messages have an order and a ticket but no step: each step takes as many of them as its line
-allows (`Bridge.taken`). Members of groups have no such listing. So behind each step by which a message or time may have changed them, or
-by which addresses may have expired, the program is run on the steps up to there (`Probes`). Other scenarios need no probe.
+allows (`Bridge.taken`). Members of groups have no such listing. So where a message or time may have changed them, or addresses may have
+expired, the program is run on the steps up to there (`Probes`). Other scenarios need no probe.
 """
 import collections
 import concurrent.futures
@@ -97,6 +97,8 @@ class Probes:
     def __init__(self, scenario, steps):
         self.head, self.body, self.steps = scenario.head, b"".join(line for _, line in scenario.steps), steps
         self.pool, self.futures = concurrent.futures.ThreadPoolExecutor(os.cpu_count()), {}
+        # at each step that sends what may be a message: the step of the run that tells what it changed
+        self.messages = {}
 
     def begin(self, step, words):
         if (step, words) not in self.futures:
@@ -150,7 +152,7 @@ class Bridge:
                 self.addresses[change.key] = change.value
         return changes
 
-    def groups_behind(self, number, words, made):
+    def groups_behind(self, number, words, made, frame):
         """The members of groups behind this step, which made so many changes besides those of addresses."""
         if not made:
             return self.groups
@@ -161,10 +163,14 @@ class Bridge:
             return {key for key in self.groups if key[2] != words[3]}
         if words[:3] == ["cmd", "vlan", "del"]:
             return {key for key in self.groups if (key[0], key[2]) != (int(words[4]), words[6])}
-        return self.probes.groups(number) if words[0] in ("serve", "post", "now") else self.groups
+        if number in self.probes.messages:
+            port = self.names[frame[0]]
+            found = self.probes.groups(self.probes.messages[number])
+            return {key for key in self.groups if key[2] != port} | {key for key in found if key[2] == port}
+        return self.probes.groups(number) if words[0] == "now" else self.groups
 
-    def change_groups(self, number, words, made):
-        before, self.groups = self.groups, self.groups_behind(number, words, made)
+    def change_groups(self, number, words, made, frame):
+        before, self.groups = self.groups, self.groups_behind(number, words, made, frame)
         return [(key, "member") for key in sorted(self.groups - before)] + [(key, None) for key in sorted(before - self.groups)]
 
     def change_vlans(self, words):
@@ -216,13 +222,29 @@ class Transcript:
             self.told.append((told, made, len(self.entered) if step.frame else decided[0] if decided else None))
 
 
+def shared(steps, transcript):
+    """At each step that sends what may be a message, the step behind which the members of groups tell what it changed. A message changes
+    members at its own port alone, so one run of the program serves messages of several ports."""
+    places, ports = {}, {}
+    for number, (step, (_, made, frame)) in enumerate(zip(steps, transcript.told)):
+        port, data = transcript.entered.get(frame, (0, b""))
+        is_message = step.words[0] in ("serve", "post") and data[:1] in (b"\x01", b"\x33")
+        if made and (port in ports if is_message else step.words[0] in ("cmd", "now")):
+            ports = {}
+        if made and is_message:
+            ports[port] = number
+            places.update(dict.fromkeys(ports.values(), number))
+    return places
+
+
 def begin_probes(steps, transcript, probes):
     """Begins the runs that will be asked for in any case, so that they go side by side."""
-    for number, (step, (_, made, frame)) in enumerate(zip(steps, transcript.told)):
+    probes.messages = shared(steps, transcript)
+    for number in sorted(set(probes.messages.values())):
+        probes.begin(number, "show mdb")
+    for number, (step, (_, made, _)) in enumerate(zip(steps, transcript.told)):
         if made and step.words[0] == "now":
             probes.begin(number, "replay")
-        if made and step.words[0] in ("serve", "post") and transcript.entered[frame][1][:1] in (b"\x01", b"\x33"):
-            probes.begin(number, "show mdb")
 
 
 def follow(bridge, steps, transcript):
@@ -230,8 +252,9 @@ def follow(bridge, steps, transcript):
     accepted = published = 0
     for number, (step, (lines, made, frame)) in enumerate(zip(steps, transcript.told)):
         words, taken = step.words, bool(lines) and lines[-1].startswith("ok ")
-        addresses = bridge.change_addresses(bridge.taken(number, words, made, transcript.entered.get(frame)))
-        groups = bridge.change_groups(number, words, made - len(addresses))
+        entered = transcript.entered.get(frame)
+        addresses = bridge.change_addresses(bridge.taken(number, words, made, entered))
+        groups = bridge.change_groups(number, words, made - len(addresses), entered)
         vlans = bridge.change_vlans(words) if taken else []
         bridge.defer(addresses, groups)
         accepted += made
