@@ -1,6 +1,8 @@
 //! The commands of the forwarding database: `fdb` and `ageing`.
 ghost use Rattle.std.specs.Prelude.{◌≡◌, length, Ok};
+ghost use Rattle.br_model.specs.declared.change.Kind.TheVariants.{Local};
 ghost use Rattle.br_model.specs.declared.steps.Command.TheVariants.{FdbAdd};
+ghost use Rattle.br_model.specs.Table.Domains.{host};
 ghost use Rattle.br_model.specs.Text.CommandForms.{fdbs, ageings};
 ghost use Rattle.br_model.specs.Text.Forms.{line, after};
 ghost use Rattle.br_model.specs.Text.Operands.{number as number_of, port_name, mac as mac_of};
@@ -31,22 +33,28 @@ fn added(address: &str, name: &str, vid: &str, kind: Kind, r: &Roster) -> Result
     })
 }
 
+/// `fdb add` of an address of the host's own.
+fn local(address: &str, vid: &str, r: &Roster) -> Result<Command, LineWhy>
+    ensures { result
+        ≡ placed r.now (after (mac_of address.now) (λ a. after (number_of 1 4094 vid.now) (λ v. Ok (FdbAdd v a host Local)))) }
+{
+    r.stands(Place::Steps)?;
+    let mac = mac(address)?;
+    let vid = vlan(vid)?;
+    Ok(Command::FdbAdd {
+        vid,
+        mac,
+        port: Port::HOST,
+        kind: Kind::Local,
+    })
+}
+
 #[tactic(auto, using(br_model::proofs::Words::words))]
 fn fdb_add(words: &[&str], r: &Roster) -> Result<Command, LineWhy>
     ensures { result ≡ line fdb_adds r.now (length words.now) (word words.now) }
 {
     match *words {
-        ["fdb", "add", address, "dev", "host", "vlan", vid, "local"] => {
-            r.stands(Place::Steps)?;
-            let mac = mac(address)?;
-            let vid = vlan(vid)?;
-            Ok(Command::FdbAdd {
-                vid,
-                mac,
-                port: Port::HOST,
-                kind: Kind::Local,
-            })
-        }
+        ["fdb", "add", address, "dev", "host", "vlan", vid, "local"] => local(address, vid, r),
         ["fdb", "add", address, "dev", name, "vlan", vid, "static"] => {
             added(address, name, vid, Kind::Static, r)
         }

@@ -1,6 +1,6 @@
 //! The commands of VLANs: `vlan`.
 ghost use Rattle.std.specs.Prelude.{◌≡◌, length, Ok};
-ghost use Rattle.br_model.specs.declared.steps.Command.TheVariants.{VlanAdd};
+ghost use Rattle.br_model.specs.declared.steps.Command.TheVariants.{VlanAdd, VlanDel};
 ghost use Rattle.br_model.specs.Text.CommandForms.{vlans};
 ghost use Rattle.br_model.specs.Text.Forms.{line, after};
 ghost use Rattle.br_model.specs.Text.Operands.{number as number_of, device as device_of};
@@ -70,17 +70,22 @@ fn vlan_add(words: &[&str], r: &Roster) -> Result<Command, LineWhy>
     }
 }
 
+/// `vlan del` of a device.
+fn deleted(vid: &str, name: &str, r: &Roster) -> Result<Command, LineWhy>
+    ensures { result ≡ placed r.now (after (number_of 1 4094 vid.now) (λ v. after (device_of r.now.ports name.now) (λ p. Ok (VlanDel p v)))) }
+{
+    r.stands(Place::Steps)?;
+    let vid = vlan(vid)?;
+    let port = r.device(name)?;
+    Ok(Command::VlanDel { port, vid })
+}
+
 #[tactic(auto, using(br_model::proofs::Words::words))]
 fn vlan_del(words: &[&str], r: &Roster) -> Result<Command, LineWhy>
     ensures { result ≡ line vlan_dels r.now (length words.now) (word words.now) }
 {
     match *words {
-        ["vlan", "del", "vid", vid, "dev", name] => {
-            r.stands(Place::Steps)?;
-            let vid = vlan(vid)?;
-            let port = r.device(name)?;
-            Ok(Command::VlanDel { port, vid })
-        }
+        ["vlan", "del", "vid", vid, "dev", name] => deleted(vid, name, r),
         _ => Err(LineWhy::Word),
     }
 }

@@ -1,11 +1,3 @@
-pub mod Drops
-pub mod Fitting
-pub mod Moments
 pub mod Accepting
-pub mod Following
-pub mod Reactions
-pub mod Hearing
-pub mod Speaking
-pub mod Endings
 pub mod Saying
 pub mod Seeing

@@ -1,7 +1,6 @@
 -- What the bridge answers an event, by what its definition says.
-use Rattle.std.specs.Prelude.{ℕ, ◌≡◌, ◌≤◌, ◌<◌, ◌+◌, ◌^◌, true, false, List, [], ◌++◌, length, Vec}
+use Rattle.std.specs.Prelude.{ℕ, ◌≡◌, ◌≤◌, ◌<◌, ◌+◌, ◌^◌, true, false, List, [], ◌++◌, length}
 use Rattle.std.specs.List.{fold}
-use Rattle.std.specs.declared.alloc.Global.{Global}
 use Rattle.std.specs.declared.result.Result.{Result}
 use Rattle.std.specs.declared.result.Result.TheVariants.{Ok, Err}
 use Rattle.br_model.specs.declared.change.Change.{Change}
@@ -19,13 +18,13 @@ use Rattle.br_model.specs.Control.Reaction.{Reaction, happens, has_room, in_room
 use Rattle.br_model.specs.Table.Limits.{most_changes}
 use Rattle.br_model.specs.Table.Table.{table}
 use Rattle.bridge_core.specs.declared.bridge.Reaction.{Reaction as Reacted}
-use Rattle.bridge_core.specs.declared.faults.EventFault.{EventFault}
-use Rattle.bridge_core.specs.declared.faults.EventFault.TheVariants.{Refused, NoMemory}
-use Rattle.bridge_core.specs.declared.plan.Plan.{Plan}
-use Rattle.bridge_core.specs.declared.snooping.Speaker.{Speaker}
-use Rattle.bridge_core.specs.Hearing.{Hears, most, says}
+use Rattle.bridge_plans.specs.declared.faults.EventFault.{EventFault}
+use Rattle.bridge_plans.specs.declared.faults.EventFault.TheVariants.{Refused, NoMemory}
+use Rattle.bridge_plans.specs.declared.plan.Plan.{Plan}
+use Rattle.bridge_plans.specs.declared.snooping.Speaker.{Speaker}
+use Rattle.bridge_plans.specs.Hearing.{Hears, most, says}
 use Rattle.bridge_core.specs.Kept.{Controlled}
-use Rattle.bridge_core.specs.Plans.{planned}
+use Rattle.bridge_plans.specs.Plans.{Plans, planned}
 
 -- Each moment is before 2^53, and what a sight says of its frame is what the frame says.
 abbrev pub IsEvent : Event → Type 0
@@ -34,12 +33,6 @@ IsEvent (Moment now) = now < 2 ^ 53
 IsEvent (Sight port bytes head) = frame bytes ≡ Ok head
 IsEvent (Told vid mac port) = Unit {0}
 IsEvent (Forget stations) = Unit {0}
-
--- a command's answer
-abbrev pub Answers : Result (Vec Change Global) EventFault → Result (List Change) Refusal → Type 0
-Answers (Ok changes) answer = answer ≡ Ok changes.items
-Answers (Err (Refused why)) answer = answer ≡ Err why
-Answers (Err NoMemory) answer = Unit {0}
 
 -- The changes were made and are the history's last ones, from this control state on; or there was no room for them, or no memory.
 abbrev pub Makes : {A : Type 0} → Controlled → Controlled → Control → List Change → Result A EventFault → Type 0
@@ -68,6 +61,10 @@ comes_to b event = happens b.setup (standing b) event
 -- The answer was carried out, and the lines of its messages were added; or it was refused.
 abbrev pub CarriesOut : Controlled → Controlled → List Line → List Line → Result (Unit {0}) EventFault → Result Course Refusal → Type 0
 CarriesOut old new before after result answer = Reacts old new before after result (in_room old.history answer)
+
+-- A sound plan for what the definition says, where this bridge stands, or the refusal that it says.
+abbrev pub PlansOf : Controlled → Result Plan EventFault → Result Course Refusal → Type 0
+PlansOf b answer course = Plans (table b.history) b.control answer course
 
 -- what carrying out the plan comes to
 abbrev pub carried_out : Controlled → Plan → Course

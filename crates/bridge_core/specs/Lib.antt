@@ -1,10 +1,2 @@
-pub mod Entries
-pub mod Standing
 pub mod Kept
-pub mod Plans
-pub mod Following
-pub mod Lessons
-pub mod Dropping
-pub mod Hearing
-pub mod Ending
 pub mod Answers

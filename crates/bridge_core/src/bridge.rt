@@ -16,20 +16,12 @@ ghost use Rattle.br_model.specs.Wire.Frames.{frame};
 ghost use Rattle.br_model.specs.Wire.Messages.{RecordsStand, message as message_in};
 ghost use Rattle.br_model.specs.declared.steps.Event.TheVariants as Event;
 ghost use Rattle.br_model.specs.declared.steps.Event.TheVariants.{Cmd, Forget, Moment, Sight};
-ghost use Rattle.bridge_core.specs.Answers.{CarriesOut, CarriesQuietly, HasRoomFor, IsEvent, LacksRoomFor, Makes, Reacts, carried_out, comes_to, ctl_of, standing};
-ghost use Rattle.bridge_core.specs.Hearing.{most, says};
-ghost use Rattle.bridge_core.specs.Plans.{IsSound, PlansOf, renewed_at};
-ghost use Rattle.bridge_core.specs.Standing.{clocked};
+ghost use Rattle.bridge_core.specs.Answers.{CarriesOut, CarriesQuietly, HasRoomFor, IsEvent, LacksRoomFor, Makes, PlansOf, Reacts, carried_out, comes_to, ctl_of, standing};
+ghost use Rattle.bridge_plans.specs.Hearing.{most, says};
+ghost use Rattle.bridge_plans.specs.Plans.{IsSound, renewed_at};
+ghost use Rattle.bridge_plans.specs.Standing.{clocked};
 ghost use Rattle.fdb_core.specs.Fdb.{place};
 
-use crate::ageing::{loses, passes_to};
-use crate::commands::obey;
-use crate::faults::EventFault;
-use crate::learning::{Lesson, is_taken, lesson_of, taught, teaches};
-use crate::plan::Plan;
-use crate::snooping::{Speaker, most_changes, who_speaks};
-use crate::spanning_tree::{add_frames, add_states, heard, reserve_frames};
-use crate::state::{Clock, State};
 use br_model::NoMemory;
 use br_model::change::{Change, Kind};
 use br_model::domains::Domains;
@@ -38,6 +30,14 @@ use br_model::limits::MOST_CHANGES;
 use br_model::numbers::{Mac, Port, Vid};
 use br_model::steps::{Command, Event, Refusal, Triples};
 use br_model::tree::TreeEvent;
+use bridge_plans::EventFault;
+use bridge_plans::ageing::{loses, passes_to};
+use bridge_plans::commands::obey;
+use bridge_plans::learning::{Lesson, is_taken, lesson_of, taught, teaches};
+use bridge_plans::plan::Plan;
+use bridge_plans::snooping::{Speaker, most_changes, who_speaks};
+use bridge_plans::spanning_tree::{add_frames, add_states, heard, reserve_frames};
+use bridge_plans::state::{Clock, State};
 use fdb_core::{Entry, Key};
 use igmp_mld::classify;
 use std::alloc::Global;
@@ -70,7 +70,7 @@ impl Model for Bridge {
     ghost use Rattle.br_model.specs.Theorems.EndsTied.{IsTied};
     ghost use Rattle.br_model.specs.Table.Limits.{most_changes, all_fit};
     ghost use Rattle.br_model.specs.Table.Table.{table, start};
-    ghost use Rattle.bridge_core.specs.Standing.{table_of, control_of};
+    ghost use Rattle.bridge_plans.specs.Standing.{table_of, control_of};
 
     ghost view = { λ b. record { setup = record { domains = b.domains; own = b.own }; history = b.history.items; control = control_of b.state } };
 
@@ -150,6 +150,7 @@ impl Bridge {
 
     /// Near the end of the history, where the states that follow may be too many: the event happens in a copy of the tree, which
     /// takes its place unless that is so.
+    #[inline(never)]
     fn try_told(
         &mut self,
         plan: Plan,
@@ -181,6 +182,7 @@ impl Bridge {
 
     /// Carries out a plan in which the spanning tree is told this. Room is taken first, so that nothing is refused once the event
     /// happened.
+    #[inline(never)]
     fn accept_told(
         &mut self,
         plan: Plan,
@@ -253,6 +255,7 @@ impl Bridge {
     }
 
     /// Carries out the plan of a frame, and what its message says.
+    #[inline(never)]
     fn accept_said(
         &mut self,
         alloc: Global,
@@ -410,6 +413,7 @@ impl Bridge {
     }
 
     /// What comes of the loss of these stations.
+    #[inline(never)]
     fn take_loss(
         &mut self,
         alloc: Global,
@@ -426,6 +430,7 @@ impl Bridge {
     }
 
     /// The moment comes.
+    #[inline(never)]
     fn pass_to(&mut self, alloc: Global, now: u64, lines: &mut Lines) -> Result<(), EventFault>
         requires early { now < 2 ^ 53 }
         requires room { 1 ≤ lines.old.rows }

@@ -16,8 +16,8 @@ use Rattle.br_model.specs.Plane.World.{World, accepts, after_lines, answered, ch
 use Rattle.br_model.specs.Control.Reaction.{Reaction}
 use Rattle.br_model.specs.Table.Setup.{Setup}
 use Rattle.br_model.specs.Table.Table.{table}
-use Rattle.bridge_core.specs.declared.faults.EventFault.{EventFault}
-use Rattle.bridge_core.specs.declared.faults.EventFault.TheVariants.{Refused, NoMemory}
+use Rattle.bridge_plans.specs.declared.faults.EventFault.{EventFault}
+use Rattle.bridge_plans.specs.declared.faults.EventFault.TheVariants.{Refused, NoMemory}
 use Rattle.bridge_core.specs.Kept.{Controlled}
 use Rattle.table_cuts.specs.Points.{IsPoint, PointState}
 use Rattle.plane_parts.specs.Added.{Added}

@@ -13,8 +13,8 @@ use Rattle.br_model.specs.Control.Reaction.{Reaction}
 use Rattle.br_model.specs.Plane.World.{World, Stepped, control_lines}
 use Rattle.br_model.specs.Table.Setup.{Setup}
 use Rattle.br_model.specs.Table.Table.{Table}
-use Rattle.bridge_core.specs.declared.faults.EventFault.{EventFault}
-use Rattle.bridge_core.specs.declared.faults.EventFault.TheVariants.{Refused, NoMemory}
+use Rattle.bridge_plans.specs.declared.faults.EventFault.{EventFault}
+use Rattle.bridge_plans.specs.declared.faults.EventFault.TheVariants.{Refused, NoMemory}
 use Rattle.bridge_core.specs.Kept.{Controlled}
 use Rattle.plane_parts.specs.Places.{places}
 use Rattle.plane_parts.specs.Queued.{Queued}

@@ -16,8 +16,8 @@ use Rattle.br_model.specs.Control.Control.{first_control}
 use Rattle.br_model.specs.Plane.World.{World, accepts, after_lines, answered, chip_at, control_lines, reacts, refused, with_chip}
 use Rattle.br_model.specs.Control.Reaction.{Reaction}
 use Rattle.br_model.specs.Table.Setup.{Setup}
-use Rattle.bridge_core.specs.declared.faults.EventFault.{EventFault}
-use Rattle.bridge_core.specs.declared.faults.EventFault.TheVariants.{Refused, NoMemory}
+use Rattle.bridge_plans.specs.declared.faults.EventFault.{EventFault}
+use Rattle.bridge_plans.specs.declared.faults.EventFault.TheVariants.{Refused, NoMemory}
 use Rattle.bridge_core.specs.Kept.{Controlled}
 use Rattle.table_publish.specs.Board.{Shelf, all_of}
 use Rattle.table_publish.specs.Object.{first_object}

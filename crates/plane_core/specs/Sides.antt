@@ -12,8 +12,8 @@ use Rattle.br_model.specs.Control.Control.{Control, first_control}
 use Rattle.br_model.specs.Plane.World.{World, Stepped, control_lines}
 use Rattle.br_model.specs.Control.Reaction.{Reaction}
 use Rattle.br_model.specs.Table.Setup.{Setup}
-use Rattle.bridge_core.specs.declared.faults.EventFault.{EventFault}
-use Rattle.bridge_core.specs.declared.faults.EventFault.TheVariants.{Refused, NoMemory}
+use Rattle.bridge_plans.specs.declared.faults.EventFault.{EventFault}
+use Rattle.bridge_plans.specs.declared.faults.EventFault.TheVariants.{Refused, NoMemory}
 use Rattle.bridge_core.specs.Kept.{Controlled}
 use Rattle.table_publish.specs.Board.{Shelf, all_of}
 use Rattle.table_publish.specs.Object.{Object, Whose, first_object}

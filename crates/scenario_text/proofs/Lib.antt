@@ -1,7 +1,6 @@
 pub mod Bounded
 pub mod Commands
 pub mod Declared
-pub mod Generated
 pub mod HeadRead
 pub mod Joins
 pub mod Listed

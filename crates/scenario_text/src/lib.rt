@@ -1,9 +1,7 @@
-//! The lines of a scenario: read as items, written from steps, and generated. The lines of a listing.
+//! The lines of a scenario: read as items, and written from steps. The lines of a listing.
 #![tactic(auto)]
 
 mod digits;
-mod frame_steps;
-mod generator;
 mod head;
 pub mod laws;
 mod lines;
@@ -14,12 +12,11 @@ mod words;
 mod write;
 
 pub use br_model::NoMemory;
-pub use frame_steps::{FrameSteps, Made};
-pub use generator::{
-    END_BYTES, Generator, MOST_FRAME_BYTES, OPENING_BYTES, append_opening, domains, first_steps,
-    generate,
-};
 pub use head::{append_head, append_scenario, write_head};
 pub use listing::{device, list};
 pub use reading::{read_line, says_end};
+pub use scenario_generator::{
+    END_BYTES, FrameSteps, Generator, MOST_FRAME_BYTES, Made, OPENING_BYTES, append_opening,
+    domains, first_steps, generate,
+};
 pub use write::{append_line, append_mac, kind_word, write_line};

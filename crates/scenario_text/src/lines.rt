@@ -1,11 +1,12 @@
 //! Lines, by their first word.
-ghost use Rattle.std.specs.Prelude.{◌≡◌, ◌<◌, length, true, IfOk};
+ghost use Rattle.std.specs.Prelude.{◌≡◌, ◌<◌, ◌&&◌, if◌then◌else◌, length, true, None, Some, Ok, Err, IfOk};
 ghost use Rattle.br_model.specs.Table.Domains.{first_chip_domain, last_chip};
-ghost use Rattle.br_model.specs.Text.CommandForms.{commands};
-ghost use Rattle.br_model.specs.Text.Forms.{line};
-ghost use Rattle.br_model.specs.Text.LineForms.{declarations, frames, steps, lines, commanded, words_say};
-ghost use Rattle.br_model.specs.Text.Operands.{number as number_of};
-ghost use Rattle.bridge_command.specs.Seen.{word, OrNoMemory};
+ghost use Rattle.br_model.specs.Text.CommandForms.{commands, step};
+ghost use Rattle.br_model.specs.Text.Forms.{line, after};
+ghost use Rattle.br_model.specs.Text.LineForms.{declarations, frames, steps, lines, commanded, words_say, opening, header, comes_by_line};
+ghost use Rattle.br_model.specs.Text.Operands.{number as number_of, mac as mac_of, hex as hex_of, port_number, chip_domain, last_id, last_point, last_moment, longest_section};
+ghost use Rattle.br_model.specs.Text.Roster.{chips_of, is_chip};
+ghost use Rattle.bridge_command.specs.Seen.{word, placed, OrNoMemory};
 ghost use Rattle.scenario_text.specs.Items.{declares, fits_roster};
 
 use crate::digits::hex_bytes;
@@ -48,6 +49,25 @@ fn declared_on_chip(
     declared(alloc, number, name, r.chip_domain(dom), r)
 }
 
+/// The first line of a scenario of this edition.
+fn opened(edition: Edition, r: &Roster) -> Result<Said, LineWhy>
+    ensures value { result ≡ (if opening r.now.place then Ok (Said.Opens edition) else Err LineWhy.Place) }
+    ensures fits { IfOk result (λ said. fits_roster r.now said ≡ true) }
+{
+    r.stands(Place::Opening)?;
+    Ok(Said::Opens(edition))
+}
+
+/// The declaration of the bridge's address.
+fn addressed(address: &str, r: &Roster) -> Result<Said, LineWhy>
+    ensures value { result ≡ (if header r.now.place then after (mac_of address.now) (λ own. Ok (Said.Bridge own)) else Err LineWhy.Place) }
+    ensures fits { IfOk result (λ said. fits_roster r.now said ≡ true) }
+{
+    r.stands(Place::Header)?;
+    let own = mac(address)?;
+    Ok(Said::Bridge(own))
+}
+
 /// The first line, and the declarations.
 #[tactic(auto, using(br_model::proofs::Words::words))]
 fn declaration_line(alloc: Global, words: &[&str], r: &Roster) -> Result<Said, LineWhy>
@@ -55,22 +75,56 @@ fn declaration_line(alloc: Global, words: &[&str], r: &Roster) -> Result<Said, L
     ensures fits { IfOk result (λ said. fits_roster r.now said ≡ true) }
 {
     match *words {
-        ["scenario", "1"] => {
-            r.stands(Place::Opening)?;
-            Ok(Said::Opens(Edition::One))
-        }
-        ["scenario", "2"] => {
-            r.stands(Place::Opening)?;
-            Ok(Said::Opens(Edition::Two))
-        }
-        ["bridge", address] => {
-            r.stands(Place::Header)?;
-            Ok(Said::Bridge(mac(address)?))
-        }
+        ["scenario", "1"] => opened(Edition::One, r),
+        ["scenario", "2"] => opened(Edition::Two, r),
+        ["bridge", address] => addressed(address, r),
         ["port", number, name, "soft"] => declared(alloc, number, name, Ok(Dom::SOFTWARE), r),
         ["port", number, name, "chip", dom] => declared_on_chip(alloc, number, name, dom, r),
         _ => Err(LineWhy::Word),
     }
+}
+
+/// A step without operands.
+fn alone(step: Step, r: &Roster) -> Result<Said, LineWhy>
+    requires { comes_by_line r.now.check (chips_of r.now.ports) step ≡ true }
+    ensures value { result ≡ placed r.now (Ok (Said.Does step)) }
+    ensures fits { IfOk result (λ said. fits_roster r.now said ≡ true) }
+{
+    r.stands(Place::Steps)?;
+    Ok(Said::Does(step))
+}
+
+/// The step by which a frame enters.
+fn entered(alloc: Global, port: &str, digits: &str, r: &Roster) -> Result<Said, LineWhy>
+    ensures value { OrNoMemory result (placed r.now (after (port_number r.now.ports port.now) (λ p. after (hex_of digits.now) (λ bytes. Ok (Said.Does (Step.Rx p bytes)))))) }
+    ensures fits { IfOk result (λ said. fits_roster r.now said ≡ true) }
+{
+    r.stands(Place::Steps)?;
+    let port = r.numbered(port)?;
+    let bytes = hex_bytes(alloc, digits)?;
+    Ok(Said::Does(Step::Rx { port, bytes }))
+}
+
+/// The step by which a frame is posted.
+fn posted(id: &str, r: &Roster) -> Result<Said, LineWhy>
+    ensures value { result ≡ placed r.now (after (number_of 0 last_id id.now) (λ n. Ok (Said.Does (Step.Post n None)))) }
+    ensures fits { IfOk result (λ said. fits_roster r.now said ≡ true) }
+{
+    r.stands(Place::Steps)?;
+    let id = frame_number(id)?;
+    Ok(Said::Does(Step::Post { id, point: None }))
+}
+
+/// The same with its point, in a check.
+fn posted_at(id: &str, point: &str, r: &Roster) -> Result<Said, LineWhy>
+    ensures value { result ≡ (if r.now.check && step r.now.place
+        then after (number_of 0 last_id id.now) (λ n. after (number_of 0 last_point point.now) (λ at. Ok (Said.Does (Step.Post n (Some at))))) else Err LineWhy.Place) }
+    ensures fits { IfOk result (λ said. fits_roster r.now said ≡ true) }
+{
+    r.stands_in_check()?;
+    let id = frame_number(id)?;
+    let point = Some(frame_number(point)?);
+    Ok(Said::Does(Step::Post { id, point }))
 }
 
 /// The steps of a frame on its way through software.
@@ -80,33 +134,42 @@ fn frame_line(alloc: Global, words: &[&str], r: &Roster) -> Result<Said, LineWhy
     ensures fits { IfOk result (λ said. fits_roster r.now said ≡ true) }
 {
     match *words {
-        ["rx", port, digits] => {
-            r.stands(Place::Steps)?;
-            let port = r.numbered(port)?;
-            let bytes = hex_bytes(alloc, digits)?;
-            Ok(Said::Does(Step::Rx { port, bytes }))
-        }
-        ["serve"] => {
-            r.stands(Place::Steps)?;
-            Ok(Said::Does(Step::Serve))
-        }
-        ["hold"] => {
-            r.stands(Place::Steps)?;
-            Ok(Said::Does(Step::Hold))
-        }
-        ["post", id] => {
-            r.stands(Place::Steps)?;
-            let id = frame_number(id)?;
-            Ok(Said::Does(Step::Post { id, point: None }))
-        }
-        ["post", id, "at", point] => {
-            r.stands_in_check()?;
-            let id = frame_number(id)?;
-            let point = Some(frame_number(point)?);
-            Ok(Said::Does(Step::Post { id, point }))
-        }
+        ["rx", port, digits] => entered(alloc, port, digits, r),
+        ["serve"] => alone(Step::Serve, r),
+        ["hold"] => alone(Step::Hold, r),
+        ["post", id] => posted(id, r),
+        ["post", id, "at", point] => posted_at(id, point, r),
         _ => Err(LineWhy::Word),
     }
+}
+
+/// The step to a moment.
+fn moved(moment: &str, r: &Roster) -> Result<Said, LineWhy>
+    ensures value { result ≡ placed r.now (after (number_of 0 last_moment moment.now) (λ ms. Ok (Said.Does (Step.Now ms)))) }
+    ensures fits { IfOk result (λ said. fits_roster r.now said ≡ true) }
+{
+    r.stands(Place::Steps)?;
+    let moment = milliseconds(moment)?;
+    Ok(Said::Does(Step::Now(moment)))
+}
+
+/// The chip that the word names, where a step stands.
+fn chip(dom: &str, r: &Roster) -> Result<Dom, LineWhy>
+    ensures value { result ≡ placed r.now (chip_domain r.now.ports dom.now) }
+    ensures exists { IfOk result (λ dom. is_chip r.now.ports dom ≡ true) }
+{
+    r.stands(Place::Steps)?;
+    r.chip(dom)
+}
+
+/// A section of a capture, of so many bytes.
+fn captured(length: &str, r: &Roster) -> Result<Said, LineWhy>
+    ensures value { result ≡ placed r.now (after (number_of 0 longest_section length.now) (λ n. Ok (Said.Captures n))) }
+    ensures fits { IfOk result (λ said. fits_roster r.now said ≡ true) }
+{
+    r.stands(Place::Steps)?;
+    let length = section_length(length)?;
+    Ok(Said::Captures(length))
 }
 
 /// The other steps but for commands; captures, and the last line.
@@ -116,30 +179,12 @@ fn step_line(words: &[&str], r: &Roster) -> Result<Said, LineWhy>
     ensures fits { IfOk result (λ said. fits_roster r.now said ≡ true) }
 {
     match *words {
-        ["now", moment] => {
-            r.stands(Place::Steps)?;
-            Ok(Said::Does(Step::Now(milliseconds(moment)?)))
-        }
-        ["turn", dom] => {
-            r.stands(Place::Steps)?;
-            Ok(Said::Does(Step::Turn(r.chip(dom)?)))
-        }
-        ["report", dom] => {
-            r.stands(Place::Steps)?;
-            Ok(Said::Does(Step::Report(r.chip(dom)?)))
-        }
-        ["sweep", dom] => {
-            r.stands(Place::Steps)?;
-            Ok(Said::Does(Step::Sweep(r.chip(dom)?)))
-        }
-        ["publish"] => {
-            r.stands(Place::Steps)?;
-            Ok(Said::Does(Step::Publish))
-        }
-        ["capture", length] => {
-            r.stands(Place::Steps)?;
-            Ok(Said::Captures(section_length(length)?))
-        }
+        ["now", moment] => moved(moment, r),
+        ["turn", dom] => Ok(Said::Does(Step::Turn(chip(dom, r)?))),
+        ["report", dom] => Ok(Said::Does(Step::Report(chip(dom, r)?))),
+        ["sweep", dom] => Ok(Said::Does(Step::Sweep(chip(dom, r)?))),
+        ["publish"] => alone(Step::Publish, r),
+        ["capture", length] => captured(length, r),
         ["end"] => {
             r.stands(Place::Steps)?;
             Ok(Said::Ends)
@@ -155,13 +200,8 @@ fn other_line(alloc: Global, words: &[&str], r: &Roster) -> Result<Said, LineWhy
     ensures fits { IfOk result (λ said. fits_roster r.now said ≡ true) }
 {
     match *words {
-        ["scenario", ..] => declaration_line(alloc, words, r),
-        ["bridge", ..] => declaration_line(alloc, words, r),
-        ["port", ..] => declaration_line(alloc, words, r),
-        ["rx", ..] => frame_line(alloc, words, r),
-        ["serve", ..] => frame_line(alloc, words, r),
-        ["hold", ..] => frame_line(alloc, words, r),
-        ["post", ..] => frame_line(alloc, words, r),
+        ["scenario" | "bridge" | "port", ..] => declaration_line(alloc, words, r),
+        ["rx" | "serve" | "hold" | "post", ..] => frame_line(alloc, words, r),
         _ => step_line(words, r),
     }
 }

@@ -1,7 +1,4 @@
-pub mod Object
-pub mod Law
-pub mod Content
-pub mod Rule
 pub mod Board
 pub mod Look
 pub mod Shelved
+pub use Rattle.table_history.specs.Object

@@ -6,7 +6,7 @@ use Rattle.br_model.specs.Table.Table.{table}
 use Rattle.br_model.specs.declared.frame.Head.{Head}
 use Rattle.br_model.specs.declared.frame.McastMsg.{McastMsg}
 use Rattle.forward_rules.specs.Decided.{Decides}
-use Rattle.table_publish.specs.Object.{changes_of, AllFull}
+use Rattle.table_history.specs.Object.{changes_of, AllFull}
 use Rattle.table_publish.specs.declared.seat.Look.{Look}
 
 -- the decision and the numbers are those of the history that was read

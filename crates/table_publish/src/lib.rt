@@ -5,10 +5,7 @@
 #![tactic(auto)]
 
 mod board;
-mod content;
-mod law;
 mod name;
-mod rule;
 mod seat;
 
 pub use board::{Board, Seats};

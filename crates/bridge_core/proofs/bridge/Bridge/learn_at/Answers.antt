@@ -3,12 +3,12 @@ use Rattle.br_model.specs.Control.Control.{renewed}
 use Rattle.br_model.specs.Control.Learning.{Address}
 use Rattle.br_model.specs.Table.Limits.{most_changes}
 use Rattle.br_model.specs.Table.Table.{Table, table}
-use Rattle.bridge_core.specs.declared.learning.Lesson.TheVariants.{Known, Renewed, News}
+use Rattle.bridge_plans.specs.declared.learning.Lesson.TheVariants.{Known, Renewed, News}
 use Rattle.bridge_core.specs.Kept.{Controlled}
-use Rattle.bridge_core.specs.Lessons.{lesson_of}
-use Rattle.bridge_core.specs.Standing.{table_of}
+use Rattle.bridge_plans.specs.Lessons.{lesson_of}
+use Rattle.bridge_plans.specs.Standing.{table_of}
 use Rattle.bridge_core.proofs.Accepting.{carried_one, carried_still}
-use Rattle.bridge_core.proofs.Reactions.{learns_known, learns_renewed, learns_news, fits_news, is_there, put_of}
+use Rattle.bridge_plans.proofs.Reactions.{learns_known, learns_renewed, learns_news, fits_news, is_there, put_of}
 use Rattle.bridge_core.proofs.bridge.Bridge.learn_at.Goals as goal
 
 pub returns-in-Known : goal.returns-in-Known

@@ -1,9 +1,9 @@
 use Rattle.std.proofs.Common.{◌≤◌, List, length, sym, ap, ◌∙◌, subst, arith}
 use Rattle.br_model.specs.declared.change.Change.{Change}
 use mathlib.Core.List.{IsPrefix}
-use Rattle.table_publish.specs.Object.{Object, Begins, IsPublished, object_of}
+use Rattle.table_history.specs.Object.{Object, Begins, IsPublished, object_of}
 use Rattle.table_publish.specs.Board.{Known}
-use Rattle.table_publish.proofs.Objects.{prefix_shorter, begins_of, published_of}
+use Rattle.table_history.proofs.Objects.{prefix_shorter, begins_of, published_of}
 use Rattle.table_publish.proofs.seat.Seat.lookup.Goals as goal
 
 pub returns-clause-begins : goal.returns-clause-begins

@@ -1,0 +1,15 @@
+-- What a command is answered, by what its definition says.
+use Rattle.std.specs.Prelude.{◌≡◌, List, Vec}
+use Rattle.std.specs.declared.alloc.Global.{Global}
+use Rattle.std.specs.declared.result.Result.{Result}
+use Rattle.std.specs.declared.result.Result.TheVariants.{Ok, Err}
+use Rattle.br_model.specs.declared.change.Change.{Change}
+use Rattle.br_model.specs.declared.steps.Refusal.{Refusal}
+use Rattle.bridge_plans.specs.declared.faults.EventFault.{EventFault}
+use Rattle.bridge_plans.specs.declared.faults.EventFault.TheVariants.{Refused, NoMemory}
+
+-- its changes, or its refusal
+abbrev pub Answers : Result (Vec Change Global) EventFault → Result (List Change) Refusal → Type 0
+Answers (Ok changes) answer = answer ≡ Ok changes.items
+Answers (Err (Refused why)) answer = answer ≡ Err why
+Answers (Err NoMemory) answer = Unit {0}

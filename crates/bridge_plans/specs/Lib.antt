@@ -1,0 +1,9 @@
+pub mod Entries
+pub mod Standing
+pub mod Plans
+pub mod Following
+pub mod Lessons
+pub mod Dropping
+pub mod Hearing
+pub mod Ending
+pub mod Answers

@@ -1,0 +1,4 @@
+pub mod Object
+pub mod Law
+pub mod Content
+pub mod Rule

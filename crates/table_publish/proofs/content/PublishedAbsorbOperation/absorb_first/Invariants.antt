@@ -1,6 +1,0 @@
-use Rattle.std.proofs.Common.{◌≡◌, fold, take}
-use Rattle.table_publish.specs.Content.{taken}
-use Rattle.table_publish.proofs.content.PublishedAbsorbOperation.absorb_first.Given as goal
-
-abbrev pub invariant-loop-change : goal.invariant-loop-change
-invariant-loop-change l = l.self ≡ record l.initial.self { tables = fold taken l.initial.self.tables (take l.change-index l.change-items) }
