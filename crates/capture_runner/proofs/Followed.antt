@@ -19,9 +19,9 @@ use Rattle.neigh_netlink.specs.Follow.{Ending, Following, Going, Ended, Bad, Rea
 use Rattle.neigh_follow.specs.Calls.{AnswersBad, EndsWithin, GoesOn, HasMessages, HoldsNoEnd, ended_by, ending_of}
 use Rattle.neigh_netlink.specs.Neighbours.{Neighbours}
 use Rattle.neigh_follow.proofs.Lines.{follows-is, follows-over, has_ended, line-more, long-line, over-stays, rest-goes}
-use Rattle.capture_runner.specs.declared.replay.Stop.{Stop}
-use Rattle.capture_runner.specs.declared.replay.Stop.TheVariants as stops
-use Rattle.capture_runner.specs.declared.status.Status.TheVariants as statuses
+use Rattle.run_status.specs.declared.stop.Stop.{Stop}
+use Rattle.run_status.specs.declared.stop.Stop.TheVariants as stops
+use Rattle.run_status.specs.declared.status.Status.TheVariants as statuses
 use Rattle.capture_runner.specs.Following.{Advanced, Answered, Below, Closed, Ends, Filled, Follows, HasRead, Lessens, Stopped, Yields}
 
 ends_so : (end : FollowEnd) → has_ended (ending_of end) ≡ true

@@ -39,10 +39,10 @@ use Rattle.scenario_reader.specs.declared.reader.Last.TheVariants as lasts
 use Rattle.scenario_reader.specs.Reading.{ending_of}
 use Rattle.scenario_reader.specs.Whole.{SaysWhole, WholeState, ending_or_going}
 use Rattle.scenario_reader.proofs.ScenarioLines.{steps_have_lines}
-use Rattle.capture_runner.specs.declared.replay.Stop.{Stop}
-use Rattle.capture_runner.specs.declared.replay.Stop.TheVariants as stops
+use Rattle.run_status.specs.declared.stop.Stop.{Stop}
+use Rattle.run_status.specs.declared.stop.Stop.TheVariants as stops
 use Rattle.capture_runner.specs.Living.{AnsweredLive, IsLiveText, IsRead, ReadsLive, is_numbered}
-use Rattle.capture_runner.specs.Playing.{Below, Filled}
+use Rattle.scenario_runner.specs.Playing.{Below, Filled}
 use Rattle.capture_runner.proofs.EndedStays.{within_of_all, within_of_ended, whole_of_all, whole_of_ended}
 
 -- steps that have lines name declared ports

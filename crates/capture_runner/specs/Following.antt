@@ -14,10 +14,10 @@ use Rattle.neigh_follow.specs.declared.follower.FollowEnd.TheVariants as lasts
 use Rattle.neigh_netlink.specs.Follow.{Following, Going, followed, follows, opened, reads}
 use Rattle.neigh_follow.specs.Calls.{GoesOn, HoldsNoEnd, ending_of}
 use Rattle.neigh_netlink.specs.Neighbours.{Neighbours}
-use Rattle.capture_runner.specs.declared.replay.Stop.{Stop}
-use Rattle.capture_runner.specs.declared.replay.Stop.TheVariants.{ReadFault, NoMemory, TooLong}
-use Rattle.capture_runner.specs.declared.status.Status.{Status}
-use Rattle.capture_runner.specs.declared.status.Status.TheVariants as statuses
+use Rattle.run_status.specs.declared.stop.Stop.{Stop}
+use Rattle.run_status.specs.declared.stop.Stop.TheVariants.{ReadFault, NoMemory, TooLong}
+use Rattle.run_status.specs.declared.status.Status.{Status}
+use Rattle.run_status.specs.declared.status.Status.TheVariants as statuses
 
 -- The source gave some bytes: at first the lines that were followed, and then what the reader holds.
 pub record Follows (left : Option (List ℕ)) (limit : ℕ) (reader : Reading) (now : Option (List ℕ)) (f : Following) : Type 0 where

@@ -1,14 +1,3 @@
-pub mod Advancing
-pub mod Checking
-pub mod Counting
 pub mod Following
-pub mod Generating
-pub mod Halting
 pub mod Living
 pub mod Outcome
-pub mod Playing
-pub mod Section
-pub mod Session
-pub mod Speaking
-pub mod Stopping
-pub mod Words

@@ -22,11 +22,11 @@ use Rattle.br_model.specs.Text.ScenarioText.{has_line}
 use Rattle.scenario_reader.specs.declared.reader.Last.{Last}
 use Rattle.scenario_reader.specs.declared.reader.Last.TheVariants as lasts
 use Rattle.scenario_reader.specs.Whole.{SaysWhole, WholeState}
-use Rattle.capture_runner.specs.declared.replay.Stop.{Stop}
-use Rattle.capture_runner.specs.declared.replay.Stop.TheVariants.{ReadFault, NoMemory, TooLong}
-use Rattle.capture_runner.specs.declared.status.Status.{Status}
-use Rattle.capture_runner.specs.declared.status.Status.TheVariants as statuses
-use Rattle.capture_runner.specs.Playing.{Below, Filled}
+use Rattle.run_status.specs.declared.stop.Stop.{Stop}
+use Rattle.run_status.specs.declared.stop.Stop.TheVariants.{ReadFault, NoMemory, TooLong}
+use Rattle.run_status.specs.declared.status.Status.{Status}
+use Rattle.run_status.specs.declared.status.Status.TheVariants as statuses
+use Rattle.scenario_runner.specs.Playing.{Below, Filled}
 
 -- A scenario that has ended: these bytes of it were taken, and say this.
 pub record IsRead (left now : Option (List ℕ)) (x : WholeState) : Type 0 where

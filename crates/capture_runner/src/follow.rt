@@ -3,17 +3,17 @@ ghost use Rattle.std.specs.Prelude.{◌≡◌, ℕ, ◌-◌, ◌<◌, ◌≤◌,
 ghost use Rattle.run_io.specs.Causes.{Rose};
 ghost use Rattle.run_io.specs.Reading.{room};
 ghost use Rattle.neigh_netlink.specs.Follow.{opened};
-ghost use Rattle.capture_runner.specs.Advancing.{Caused as StopsBy};
+ghost use Rattle.run_status.specs.Stopping.{Caused as StopsBy};
 ghost use Rattle.capture_runner.specs.Following.{Advances, Ends, Lessens, Yields, status_of};
-ghost use Rattle.capture_runner.specs.Outcome.{Caused, Follows, call_of};
+ghost use Rattle.run_status.specs.Statuses.{Caused, call_of};
+ghost use Rattle.capture_runner.specs.Outcome.{Follows};
 
-use crate::replay::Stop;
-use crate::status::{Status, put_last};
 use br_model::limits::MOST_BYTES;
 use neigh_follow::{FollowEnd, Follower};
 use run_io::lines::{LineFault, LineReader};
 use run_io::sinks::Sink;
 use run_io::sources::Source;
+use run_status::{Status, Stop, put_last};
 use std::alloc::Global;
 
 /// Reads the next line, and answers how the lines end with it, if they do.

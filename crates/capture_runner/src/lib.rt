@@ -1,24 +1,12 @@
-//! What the words of the command line ask for is done: a scenario is read line by line and run against the bridge, and its
-//! transcript or a table is written; a whole one is read, and compared with its transcript or run by workers; messages are followed; or
-//! a scenario is generated, and written or run.
+//! What the words of the command line ask for is done, by the crate that does it; `follow` and `live` are done here: messages are
+//! followed, and a scenario is run by workers.
 #![tactic(auto)]
 
-mod asked;
-mod audit;
-mod checking;
-mod commands;
-mod demo;
 mod follow;
 mod live;
-mod replay;
 mod runner;
-mod section;
-mod session;
-mod status;
-mod words;
-pub mod words_laws;
 
-pub use asked::Asked;
 pub use br_model::NoMemory;
+pub use command_line::{Asked, words_laws};
+pub use run_status::{Status, end_without_memory};
 pub use runner::run;
-pub use status::{Status, end_without_memory};

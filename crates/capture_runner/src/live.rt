@@ -7,19 +7,16 @@ ghost use Rattle.br_model.specs.Text.LineForms.{comes_by_line};
 ghost use Rattle.br_model.specs.Text.Operands.{last_id};
 ghost use Rattle.br_model.specs.Text.Roster.{chips_of};
 ghost use Rattle.br_model.specs.Text.ScenarioText.{has_line, names_declared};
-ghost use Rattle.br_model.specs.Text.Transcript.{bad_text, line_text, text as text_of};
+ghost use Rattle.br_model.specs.Text.Transcript.{line_text, text as text_of};
 ghost use Rattle.run_io.specs.Causes.{Rose};
 ghost use Rattle.scenario_reader.specs.declared.reader.Last.TheVariants.{Ended};
 ghost use Rattle.scenario_reader.specs.Whole.{SaysWhole};
-ghost use Rattle.capture_runner.specs.Advancing.{Caused as StopsBy};
+ghost use Rattle.run_status.specs.Stopping.{Caused as StopsBy};
 ghost use Rattle.capture_runner.specs.Living.{IsLiveText, ReadsLive, YieldsLive, is_numbered, status_of};
-ghost use Rattle.capture_runner.specs.Outcome.{Caused, Lives, call_of};
-ghost use Rattle.capture_runner.specs.Words.{most_workers};
+ghost use Rattle.run_status.specs.Statuses.{Caused, Lives, call_of};
+ghost use Rattle.command_line.specs.Words.{most_workers};
 
-use crate::NoMemory;
-use crate::replay::Stop;
-use crate::status::{Status, put_last};
-use br_model::scenario::LineWhy;
+use br_model::NoMemory;
 use br_model::steps::Step;
 use bridge_command::Roster;
 use live_workers::{Taken, take_steps};
@@ -27,12 +24,12 @@ use port_workers::Gate;
 use run_io::sinks::Sink;
 use run_io::sources::Source;
 use run_io::whole::{Stop as Stand, take_all};
+use run_status::{Status, Stop, put_last};
+use run_text::bad_text;
 use scenario_reader::{Last, Whole, read_scenario};
-use scenario_text::append_scenario;
 use std::alloc::Global;
 use std::sync::Wait;
 use std::thread::Threads;
-use transcript_text::{Writer, append_bad};
 
 /// Bytes that are read of an input: 2^22.
 const MOST_LIVE_BYTES: u32 = 4_194_304;
@@ -70,13 +67,8 @@ fn text_of(alloc: Global, roster: &Roster, taken: &Taken) -> Result<String, NoMe
     ensures { IfOk result (λ text. string_bytes text ≡ steps_scenario roster.now taken.now.book.steps
         ++ (codes "transcript 1" ++ 10 ∷ (text_of taken.now.book.lines.lines ++ line_text taken.now.end))) }
 {
-    let mut text = String::new(alloc);
-    append_scenario(taken.book.steps.as_slice(), roster, &mut text)?;
-    text.push_str("transcript 1\n")?;
-    let mut writer = Writer::new(alloc);
-    writer.append_lines(&taken.book.lines, &mut text)?;
-    writer.append(&taken.end, &mut text)?;
-    Ok(text)
+    let steps = taken.book.steps.as_slice();
+    run_text::live_text(alloc, roster, steps, &taken.book.lines, &taken.end)
 }
 
 /// A law: this number has no more than 32 bits.
@@ -146,14 +138,6 @@ fn live_text<R: Threads + Wait + Sync, G: Gate + Sync>(
     text_of(alloc, roster, &taken)
 }
 
-fn text_of_bad(alloc: Global, line: u32, why: LineWhy) -> Result<String, NoMemory>
-    ensures { IfOk result (λ text. string_bytes text ≡ bad_text line why) }
-{
-    let mut text = String::new(alloc);
-    append_bad(line, why, &mut text)?;
-    Ok(text)
-}
-
 /// How the scenario of the source ends, and what is written then.
 fn answer<R: Threads + Wait + Sync, S: Source, G: Gate + Sync>(
     rt: &R,
@@ -170,7 +154,7 @@ fn answer<R: Threads + Wait + Sync, S: Source, G: Gate + Sync>(
     let last = whole.close();
     match last {
         Last::Ended => Ok((last, live_text(rt, alloc, gate, workers, &whole)?)),
-        Last::Bad(line, why) => Ok((last, text_of_bad(alloc, line, why)?)),
+        Last::Bad(line, why) => Ok((last, bad_text(alloc, line, why)?)),
     }
 }
 

@@ -1,20 +1,20 @@
 //! The top call.
 ghost use Rattle.std.specs.Prelude.{map, string_bytes};
 ghost use Rattle.run_io.specs.Causes.{Rose};
-ghost use Rattle.capture_runner.specs.Outcome.{Asks, Caused, EndsWell, Outcome, call_of};
-ghost use Rattle.capture_runner.specs.Words.{asked};
+ghost use Rattle.capture_runner.specs.Outcome.{Asks, EndsWell, Outcome};
+ghost use Rattle.run_status.specs.Statuses.{Caused, call_of};
+ghost use Rattle.command_line.specs.Words.{asked};
 
-use crate::asked::Asked;
-use crate::audit::audit;
-use crate::checking::check_all;
-use crate::commands::{demo, generate, monitor, querier, replay, show};
 use crate::follow::follow;
 use crate::live::live;
-use crate::status::{Status, end_without_memory, put_last};
-use crate::words::read_words;
+use check_answer::check_all;
+use command_line::{Asked, read_words};
 use port_workers::Gate;
 use run_io::sinks::Sink;
 use run_io::sources::Source;
+use run_status::{Status, end_without_memory, put_last};
+use scenario_runner::audit::audit;
+use scenario_runner::commands::{demo, generate, monitor, querier, replay, show};
 use std::alloc::Global;
 use std::sync::Wait;
 use std::thread::Threads;

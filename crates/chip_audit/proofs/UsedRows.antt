@@ -15,7 +15,7 @@ use Rattle.chip_tables.specs.declared.rows.AddressRow.{AddressRow}
 use Rattle.chip_tables.specs.Rows.{Rows, IsPlaced}
 use Rattle.chip_tables.specs.Stands.{AddressesStand, address_wanted}
 use Rattle.neigh_netlink.specs.Neighbours.{Key}
-use Rattle.plane_core.proofs.Arranged.{Ascends, Low, arranged, low_more}
+use Rattle.hwdom_chips.proofs.Arranged.{Ascends, Low, arranged, low_more}
 use Rattle.chip_audit.specs.Audits.{Row}
 use Rattle.chip_audit.specs.Marks.{row_at, row_of}
 use Rattle.chip_audit.proofs.Own.{FindOwn, find-own, rises}

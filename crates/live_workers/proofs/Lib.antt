@@ -1,14 +1,3 @@
-pub mod Runs
-pub mod Idle
-pub mod Takings
-pub mod Openings
-pub mod Lives
-pub mod Chips
-pub mod Telling
-pub mod Drains
-pub mod Loops
-pub mod Does
-pub mod Standing
 pub mod Givens
 pub mod Places
 pub mod Testing

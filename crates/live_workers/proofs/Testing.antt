@@ -11,9 +11,9 @@ use Rattle.br_model.specs.Text.LineForms.{comes_by_line}
 use Rattle.br_model.specs.Text.Scenario.{Scenario}
 use Rattle.live_book.specs.Ends.{IsBook, IsLeft}
 use Rattle.live_book.specs.declared.drained.Remains.{Remains}
-use Rattle.plane_lock.specs.Pasts.{Past, lines_of, world_of}
+use Rattle.plane_record.specs.Pasts.{Past, lines_of, world_of}
 use Rattle.live_workers.specs.Results.{IsTaken}
-use Rattle.live_workers.specs.declared.alone.Taken.{Taken}
+use Rattle.live_thread.specs.declared.alone.Taken.{Taken}
 
 module _ (setup : Setup) (given : List Step) (p : Past) (taken : Taken) (same : p.setup ≡ setup) (steps : taken.book.steps ≡ p.steps) (lines : taken.book.lines.lines ≡ lines_of p) where
   world : (s : Setup) → s ≡ setup → world_of p ≡ (run s taken.book.steps).0

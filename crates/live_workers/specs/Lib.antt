@@ -1,4 +1,1 @@
-pub mod Worlds
-pub mod Taking
-pub mod Draining
 pub mod Results

@@ -10,8 +10,8 @@ use Rattle.br_model.specs.Table.Domains.{chip_domains}
 use Rattle.br_model.specs.Table.Setup.{Setup}
 use Rattle.br_model.specs.Text.LineForms.{comes_by_line}
 use Rattle.br_model.specs.Text.Scenario.{Scenario}
-use Rattle.plane_lock.specs.Pasts.{Past}
-use Rattle.live_workers.specs.declared.alone.Taken.{Taken}
+use Rattle.plane_record.specs.Pasts.{Past}
+use Rattle.live_thread.specs.declared.alone.Taken.{Taken}
 
 -- a step that is taken from the scenario
 abbrev pub is_taken : Step → Bool

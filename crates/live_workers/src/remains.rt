@@ -2,7 +2,7 @@
 ghost use Rattle.std.specs.Prelude.{◌≡◌, IfOk};
 ghost use Rattle.br_model.specs.Table.Domains.{chip_domains};
 ghost use Rattle.live_book.specs.Ends.{IsLeft, reporting};
-ghost use Rattle.plane_lock.specs.Pasts.{world_of};
+ghost use Rattle.plane_record.specs.Pasts.{world_of};
 
 use crate::NoMemory;
 use br_model::numbers::Dom;

@@ -29,7 +29,7 @@ use Rattle.chip_pipeline.specs.Passed.{AtChip}
 use Rattle.chip_tables.specs.Stands.{Stands}
 use Rattle.bridge_core.specs.Kept.{Controlled}
 use Rattle.table_publish.specs.Board.{Shelf}
-use Rattle.plane_core.specs.Chips.{ChipState, IsChip, IsPlace, chips_of, state_in}
+use Rattle.hwdom_chips.specs.Chips.{ChipState, IsChip, IsPlace, chips_of, state_in}
 use Rattle.plane_core.specs.Sides.{AreSides, Reacted, SidesState}
 use Rattle.plane_parts.specs.Places.{places}
 use Rattle.plane_parts.proofs.Placing.{count}

@@ -1,9 +1,4 @@
 pub mod Leaving
-pub mod Telling
-pub mod Following
-pub mod Noting
-pub mod Arranged
-pub mod Sweeping
 pub mod Reacting
 pub mod Changing
 pub mod Stepping

@@ -22,7 +22,7 @@ use Rattle.bridge_core.specs.Kept.{Controlled}
 use Rattle.table_publish.specs.Board.{Shelf, all_of}
 use Rattle.table_publish.specs.Object.{first_object}
 use Rattle.plane_parts.specs.Added.{Added}
-use Rattle.plane_core.specs.Chips.{AreChips, ChipState}
+use Rattle.hwdom_chips.specs.Chips.{AreChips, ChipState}
 use Rattle.plane_parts.specs.Places.{places}
 use Rattle.plane_parts.specs.Queued.{Queued}
 use Rattle.plane_core.specs.Sides.{SidesState, AreSides, Comes, Lasts, Reacted, world_of}

@@ -17,7 +17,7 @@ use Rattle.bridge_plans.specs.declared.faults.EventFault.TheVariants.{Refused, N
 use Rattle.bridge_core.specs.Kept.{Controlled}
 use Rattle.table_publish.specs.Board.{Shelf, all_of}
 use Rattle.table_publish.specs.Object.{Object, Whose, first_object}
-use Rattle.plane_core.specs.Chips.{ChipState, AreChips, chips_of}
+use Rattle.hwdom_chips.specs.Chips.{ChipState, AreChips, chips_of}
 use Rattle.plane_parts.specs.Places.{places}
 use Rattle.plane_parts.specs.Queued.{Queued}
 

@@ -1,14 +1,11 @@
 //! The core of a bridge with switch chips: the kernel's side and the chips together, one step of the world a call.
 #![tactic(auto)]
 
-mod chip;
-mod chips;
 mod faults;
 mod held;
 pub mod plane;
 mod sending;
 mod sides;
-mod sweep;
 
 pub use br_model::NoMemory;
 pub use faults::{PostFault, TurnFault};

@@ -42,7 +42,7 @@ use chip_pipeline::Pass;
 use chip_tables::Tables;
 use ether_frames::parse;
 use forward_rules::Verdict;
-use hwdom_marks::Mark;
+use hwdom_chips::mark_of;
 use igmp_mld::classify;
 use learn_report::Report;
 use plane_parts::{Arrival, Frames, make_room, send};
@@ -122,13 +122,8 @@ fn arrival(
     ensures room { IsArrival frames.now result }
 {
     match class {
-        Class::Drop => Arrival::PassesBy,
-        Class::Trap => frames.arrive(p, b, head, message, None),
-        Class::Copy => {
-            let mark = Some(Mark { dom: d });
-            frames.arrive(p, b, head, message, mark)
-        }
-        Class::Forward => Arrival::PassesBy,
+        Class::Drop | Class::Forward => Arrival::PassesBy,
+        Class::Trap | Class::Copy => frames.arrive(p, b, head, message, mark_of(class, d)),
     }
 }
 

@@ -23,7 +23,7 @@ ghost use Rattle.br_model.specs.Table.Limits.{AreWithin};
 ghost use Rattle.forward_rules.specs.Decided.{Decides};
 ghost use Rattle.table_publish.specs.Board.{all_of};
 ghost use Rattle.table_publish.specs.Object.{Begins, IsPublished, first_object};
-ghost use Rattle.plane_core.specs.Chips.{AreChips, chips_of};
+ghost use Rattle.hwdom_chips.specs.Chips.{AreChips, chips_of};
 ghost use Rattle.plane_parts.specs.Places.{places};
 ghost use Rattle.plane_parts.specs.Queued.{Queued};
 ghost use Rattle.plane_parts.specs.Added.{Added};
@@ -32,7 +32,6 @@ ghost use Rattle.plane_core.specs.Seats.{Looks};
 ghost use Rattle.plane_core.specs.Sides.{Comes, HasBegun, Lasts, Reacted, world_of, first_sides};
 
 use crate::NoMemory;
-use crate::chips::Chips;
 use br_model::change::{Change, Update};
 use br_model::domains::Domains;
 use br_model::frame::{Head, McastMsg};
@@ -43,6 +42,7 @@ use bridge_core::{Bridge, EventFault};
 use chip_pipeline::{Pass, pass};
 use chip_tables::Tables;
 use forward_rules::{SoftTables, Verdict};
+use hwdom_chips::Chips;
 use learn_report::Report;
 use plane_parts::{Egress, Frame, Updates, make_room, send};
 use std::alloc::{AllocError, Global};
@@ -62,7 +62,7 @@ pub(crate) struct Sides {
 }
 
 impl Model for Sides {
-    ghost use Rattle.plane_core.specs.Chips.{chips_of};
+    ghost use Rattle.hwdom_chips.specs.Chips.{chips_of};
     ghost use Rattle.plane_core.specs.Sides.{SidesState, AreSides};
 
     ghost Value = { SidesState };
@@ -588,7 +588,9 @@ impl Sides {
         ensures { (c : ChipValue) → chip_in self.now.chips d ≡ Some c
             → result ≡ slice_get (updates self.now.setup.domains.edition self.now.history) c.count }
     {
-        self.update(self.applied(d))
+        self.chips
+            .at(d)
+            .next_update(&self.updates, self.bridge.history())
     }
 
     /// The deferred change with this ticket.

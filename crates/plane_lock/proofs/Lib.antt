@@ -1,5 +1,3 @@
-pub mod Recording
 pub mod Prefixes
 pub mod Posting
 pub mod Settling
-pub mod Turning

@@ -1,11 +1,10 @@
 -- A decision that a seat gave is one of the plane's.
-use Rattle.std.proofs.Common.{◌≡◌, ℕ, zero, suc, ◌+◌, ◌<◌, ◌≤◌, nat_le, Bool, true, false, cond, ◌==◌, List, [], ◌∷◌, ◌++◌, length, take, Option, None, Some, Ok, refl, sym, ap, ◌∙◌, subst, arith, length-append}
-use Rattle.std.specs.Prelude.{◌&&◌, not, nat_lt, IfSome, IfOk, if◌then◌else◌}
-use Rattle.std.proofs.lemmas.Bool.{eqb-true}
+use Rattle.std.proofs.Common.{◌≡◌, ℕ, zero, suc, ◌+◌, ◌<◌, ◌≤◌, Bool, true, false, cond, ◌==◌, List, [], ◌∷◌, ◌++◌, length, take, Option, None, Some, Ok, refl, sym, ap, ◌∙◌, subst, arith, length-append}
+use Rattle.std.specs.Prelude.{IfSome, IfOk}
 use Rattle.std.proofs.lemmas.List.{length-take-le}
 use Rattle.std.proofs.lemmas.List.Elements.{recursion_from_All}
 use Rattle.std.specs.Cmp.{nat_cmp_is}
-use Rattle.std.specs.List.{AllByRecursion, find, filter, last_or}
+use Rattle.std.specs.List.{AllByRecursion, find, last_or}
 use Rattle.std.specs.List.Sorted.{IsStrictlySortedBy}
 use Rattle.std.specs.Option.{option_map}
 use Rattle.std.specs.Ordering.{nat_cmp}
@@ -14,17 +13,12 @@ use Rattle.std.specs.declared.result.Result.{Result}
 use Rattle.std.specs.declared.result.Result.TheVariants.{Err}
 use mathlib.Core.List.{IsPrefix}
 use Rattle.br_model.specs.declared.steps.Event.TheVariants.{Sight}
-use Rattle.br_model.specs.declared.steps.Refusal.{Refusal}
-use Rattle.br_model.specs.declared.steps.Refusal.TheVariants.{NoSuchPoint}
-use Rattle.br_model.specs.declared.steps.Step.TheVariants.{Post}
-use Rattle.br_model.specs.declared.transcript.Line.{Line}
 use Rattle.br_model.specs.declared.transcript.Line.TheVariants.{Soft}
-use Rattle.br_model.specs.Control.Reaction.{Reaction}
 use Rattle.br_model.specs.Data.Maps.{has}
 use Rattle.br_model.specs.Forward.Shares.{soft_out}
-use Rattle.br_model.specs.Plane.Serving.{posts, posts_at, lets_go, is_point, held_with}
+use Rattle.br_model.specs.Plane.Serving.{posts_at, lets_go, held_with}
 use Rattle.br_model.specs.Plane.Steps.{world_step}
-use Rattle.br_model.specs.Plane.World.{World, Waiting, Holding, Stepped, table_at, sent, refused, answered, reacts}
+use Rattle.br_model.specs.Plane.World.{World, Waiting, Holding, Stepped, table_at, sent, answered, reacts}
 use Rattle.br_model.specs.Table.Domains.{Domains}
 use Rattle.br_model.specs.Table.Setup.{Setup}
 use Rattle.br_model.specs.Table.Table.{Table, table}
@@ -33,16 +27,16 @@ use Rattle.br_model.specs.Wire.Frames.{frame}
 use Rattle.br_model.specs.Wire.Messages.{message}
 use Rattle.br_model.proofs.OneList.{one-list}
 use Rattle.br_model.proofs.PlaneLists.{last-has}
-use Rattle.plane_parts.specs.Added.{Added}
-use Rattle.plane_core.specs.Planes.{PlaneState, Steps, Posts, IsCopy, IsDecision, published_in}
+use Rattle.plane_core.specs.Planes.{IsCopy, IsDecision, published_in}
 use Rattle.plane_core.specs.Shown.{Shown, opened, shown_by, shown_of}
 use Rattle.plane_core.specs.declared.held.Held.{Held}
 use Rattle.forward_rules.specs.Decided.{Decides}
 use Rattle.table_publish.specs.Object.{Object, Begins, Ascends, AscendsFrom, IsPublished}
 use Rattle.table_publish.specs.declared.seat.Seen.{Seen}
-use Rattle.plane_lock.specs.Pasts.{Past, world_of, post_step}
+use Rattle.plane_record.specs.Pasts.{Past, world_of, post_step}
 use Rattle.plane_lock.specs.Posts.{IsSeen, Tells}
-use Rattle.plane_lock.proofs.Recording.{world-setup, world-stands}
+use Rattle.plane_record.proofs.Posting.{held-post}
+use Rattle.plane_record.proofs.Recording.{world-setup, world-stands}
 
 -- Counts of a published object.
 
@@ -138,20 +132,6 @@ may-post p domains own k known seat h n setup pk pn kn kw same seen x copy le =
     let by : IsSeen (world_of p).setup.domains known h n = subst (λ (y : Domains × Object). IsSeen y.0 y.1 h n) (λ i. (ds i, sym same i)) seen in
     decides k known (world_of p) h x n (world-stands p) pk pn kn kw by copy le
 
--- A post of a held frame by a point that was published.
-
-le-test : (a b : ℕ) → a ≤ b → nat_le a b ≡ true
-le-test a b h = grind arith
-
-pub held-post : (w : World) (h : Held) (x : Holding) (point : ℕ) → held_with w h.id ≡ Some x → shown_by h ≡ shown_of x → has nat_cmp w.counts point ≡ true → h.floor ≤ point
-    → world_step w (Post h.id (Some point)) ≡ posts (lets_go (record w { steps = w.steps + 1 }) x.waiting.id) x.waiting point
-held-post w h x point held shown known late =
-    let u : World = record w { steps = w.steps + 1 } in
-    let floor : h.floor ≡ x.floor = ap (λ (s : Shown). s.floor) shown in
-    let f = x.waiting in
-    let test : is_point u x point ≡ true = ap (λ b. b && nat_le x.floor point) known ∙ le-test x.floor point (omega (arith, floor, late)) in
-    ap (λ (o : Option Holding). posts_at u o (Some point)) held ∙ ap (λ b. cond {A = Stepped} b (posts (lets_go u f.id) f point) (refused u NoSuchPoint)) test
-
 -- the lines of a post
 pub tells : (w : World) (h : Held) (n : Seen) → IsWorld w → ((x : Holding) → IsCopy w h x → n.point ≤ w.published → IsDecision w x n) → h.floor ≤ n.point
     → IfSome (held_with w h.id) (λ x. (shown_by h ≡ shown_of x) × (n.point ≤ w.published)) → Tells w (held_with w h.id) h n.point (world_step w (post_step (held_with w h.id) h.id n.point)).1
@@ -195,75 +175,3 @@ pub floors : {E : Type 0} (r : Result (Option Held) E) (p : Past) (known : Objec
     → IfOk r (λ held. option_map shown_by held ≡ opened (world_of p).published (world_of p).waiting) → IfOk r (λ held. IfSome held (λ h. h.floor ≤ length known.changes))
 floors (Ok held) p known b e = floor-known (world_of p) (world_of p).waiting held known (world-stands p) b e
 floors (Err why) p known b e = tt
-
--- A frame that is posted isn't held any longer.
-
-answered-held : (v : World) (answer : Result Reaction Refusal) → (answered v v answer).0.held ≡ v.held
-answered-held v (Err why) = refl
-answered-held v (Ok r) = refl
-
-fewer-or-same : (q : Holding → Bool) (held : List Holding) → length (filter (λ h. not (q h)) held) ≤ length held
-fewer-or-same q [] = omega arith
-fewer-or-same q (h ∷ held) =
-    elim (q h) as (λ b. length (cond (not b) (h ∷ filter (λ x. not (q x)) held) (filter (λ x. not (q x)) held)) ≤ suc (length held)) [
-      | true ↦ omega (arith, fewer-or-same q held)
-      | false ↦ omega (arith, fewer-or-same q held)
-    ]
-
-fewer : (q : Holding → Bool) (held : List Holding) (x : Holding) → find q held ≡ Some x → length (filter (λ h. not (q h)) held) < length held
-fewer q [] x e = absurd (cc)
-fewer q (h ∷ held) x e =
-    (elim (q h) as (λ b. cond b (Some h) (find q held) ≡ Some x → length (cond (not b) (h ∷ filter (λ y. not (q y)) held) (filter (λ y. not (q y)) held)) < suc (length held)) [
-      | true ↦ λ f. omega (arith, fewer-or-same q held)
-      | false ↦ λ f. omega (arith, fewer q held x f)
-    ]) e
-
-found-id : (held : List Holding) (id : ℕ) (x : Holding) → find (λ h. h.waiting.id == id) held ≡ Some x → x.waiting.id ≡ id
-found-id [] id x e = absurd (cc)
-found-id (h ∷ held) id x e =
-    (elim (h.waiting.id == id) as (λ b. (h.waiting.id == id) ≡ b → cond b (Some h) (find (λ y. y.waiting.id == id) held) ≡ Some x → x.waiting.id ≡ id) [
-      | true ↦ λ is f. let same : h ≡ x = cc in let at : h.waiting.id ≡ id = eqb-true h.waiting.id id is in ap (λ (y : Holding). y.waiting.id) (sym same) ∙ at
-      | false ↦ λ is f. found-id held id x f
-    ]) refl e
-
--- the step as it is recorded: whether a frame was released tells whether one was held
-pub post-recorded : (p q : PlaneState) (h : Held) (n : Seen) (ls ls' : List Line) (pt : Option ℕ) → ((x : Holding) → IsCopy p.world h x → n.point ≤ p.world.published → IsDecision p.world x n) → h.floor ≤ n.point
-    → Added (Posts p q h n) ls ls' → pt ≡ (if nat_lt (length q.world.held) (length p.world.held) then Some n.point else None)
-    → (Post h.id pt ≡ post_step (held_with p.world h.id) h.id n.point) × Added (Steps p q (Post h.id pt)) ls ls'
-post-recorded p q h n ls ls' pt may late a is = by (held_with p.world h.id) refl a.so.1
-  where
-    w : World
-    w = p.world
-
-    u : World
-    u = record w { steps = w.steps + 1 }
-
-    lt-test : (a b : ℕ) → a < b → nat_lt a b ≡ true
-    lt-test a b l = grind arith
-
-    not-less : (a b : ℕ) → a ≡ b → nat_lt a b ≡ false
-    not-less a b e = grind arith
-
-    by : (o : Option Holding) → held_with w h.id ≡ o → IfSome o (λ x. (shown_by h ≡ shown_of x) × (n.point ≤ w.published))
-        → (Post h.id pt ≡ post_step o h.id n.point) × Added (Steps p q (Post h.id pt)) ls ls'
-    by None none good =
-        let same : world_step w (Post h.id None) ≡ world_step w (Post h.id (Some n.point)) = ap (λ (o : Option Holding). posts_at u o None) none ∙ sym (ap (λ (o : Option Holding). posts_at u o (Some n.point)) none) in
-        let kept : q.world.held ≡ w.held = sym (ap (λ (y : Stepped). y.0.held) a.so.0.world) ∙ ap (λ (o : Option Holding). (posts_at u o (Some n.point)).0.held) none in
-        let pts : pt ≡ None = is ∙ ap (λ b. if b then Some n.point else None) (not-less (length q.world.held) (length w.held) (ap length kept)) in (
-          ap (λ (o : Option ℕ). Post h.id o) pts,
-          subst (λ (o : Option ℕ). Added (Steps p q (Post h.id o)) ls ls') (sym pts)
-              (record { lines = a.lines; so = record { world = same ∙ a.so.0.world; board = a.so.0.board }; added = a.added }),
-        )
-    by (Some x) held good =
-        let known = (may x (record { held = held; same = good.0 }) good.1).point in
-        let f = x.waiting in
-        let id : f.id ≡ h.id = found-id w.held h.id x held in
-        let released : q.world.held ≡ filter (λ y. not (y.waiting.id == h.id)) w.held =
-        sym (ap (λ (y : Stepped). y.0.held) a.so.0.world) ∙ (ap (λ (y : Stepped). y.0.held) (held-post w h x n.point held good.0 known late)
-        ∙ (answered-held (lets_go u f.id) (reacts (lets_go u f.id) (Sight f.port f.bytes f.head)) ∙ ap (λ (k : ℕ). (lets_go u k).held) id)) in
-        let less : nat_lt (length q.world.held) (length w.held) ≡ true =
-        lt-test (length q.world.held) (length w.held) (omega (arith, ap length released, fewer (λ y. y.waiting.id == h.id) w.held x held)) in
-        let pts : pt ≡ Some n.point = is ∙ ap (λ b. if b then Some n.point else None) less in (
-          ap (λ (o : Option ℕ). Post h.id o) pts,
-          subst (λ (o : Option ℕ). Added (Steps p q (Post h.id o)) ls ls') (sym pts) (record { lines = a.lines; so = a.so.0; added = a.added }),
-        )

@@ -21,11 +21,11 @@ use Rattle.plane_core.specs.Planes.{PlaneState}
 use Rattle.transcript_lines.specs.Rows.{Listed}
 use Rattle.plane_lock.specs.declared.locked.ActFault.{ActFault}
 use Rattle.plane_lock.specs.declared.locked.ActFault.TheVariants.{Unpublished}
-use Rattle.plane_lock.specs.Acts.{Acted, changes_of, published_after}
-use Rattle.plane_lock.specs.Pasts.{Past, state_of, world_of, after, said_by}
+use Rattle.plane_lock.specs.Acts.{Acted}
+use Rattle.plane_record.specs.Pasts.{Past, after, changes_of, published_after, said_by, state_of, world_of}
 use Rattle.plane_lock.specs.Posted.{HavePosted, updates_of}
 use Rattle.plane_lock.proofs.Prefixes.{no-more}
-use Rattle.plane_lock.proofs.Recording.{world-after, world-setup}
+use Rattle.plane_record.proofs.Recording.{world-after, world-setup}
 
 -- a step that accepts nothing leaves nothing to post
 pub still : (p : Past) (s : Step) → (world_step (world_of p) s).0.history ≡ (world_of p).history → updates_of (after p s) ≡ updates_of p

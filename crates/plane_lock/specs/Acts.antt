@@ -1,31 +1,19 @@
 -- What a call under the lock makes of the past.
-use Rattle.std.specs.Prelude.{◌≡◌, ◌≢◌, ℕ, ◌==◌, if◌then◌else◌, length}
+use Rattle.std.specs.Prelude.{◌≡◌, ◌≢◌}
 use Rattle.std.specs.declared.result.Result.{Result}
 use Rattle.std.specs.declared.result.Result.TheVariants.{Ok, Err}
 use Rattle.br_model.specs.declared.steps.Step.{Step}
-use Rattle.br_model.specs.declared.steps.Step.TheVariants.{Publish}
 use Rattle.plane_core.specs.Planes.{NotPosted}
 use Rattle.plane_core.specs.declared.faults.PostFault.{PostFault}
 use Rattle.plane_core.specs.declared.faults.PostFault.TheVariants as posts
 use Rattle.plane_core.specs.declared.held.Held.{Held}
 use Rattle.table_publish.specs.declared.seat.Seen.{Seen}
 use Rattle.transcript_lines.specs.Rows.{Listed}
-use Rattle.plane_lock.specs.Pasts.{Past, after, said_by, state_of, world_of}
+pub use Rattle.plane_record.specs.Pasts.{acted, changes_of, published_after}
+use Rattle.plane_record.specs.Pasts.{Past, after, said_by, state_of, world_of}
 use Rattle.plane_lock.specs.Posts.{IsTheHeld}
 use Rattle.plane_lock.specs.declared.locked.ActFault.{ActFault}
 use Rattle.plane_lock.specs.declared.locked.ActFault.TheVariants.{NoMemory, Unpublished}
-
--- how many changes were accepted
-abbrev pub changes_of : Past → ℕ
-changes_of p = length (world_of p).history
-
--- what has another number of changes than this one is published
-abbrev pub published_after : ℕ → Past → Past
-published_after n p = if changes_of p == n then p else after p Publish
-
--- The step is taken, and what it accepted is published.
-abbrev pub acted : Past → Step → Past
-acted p step = published_after (changes_of p) (after p step)
 
 -- The step stands, and what it accepted isn't published.
 abbrev pub IsUnpublished : Past → Past → Step → Type 0

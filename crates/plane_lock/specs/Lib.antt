@@ -1,6 +1,5 @@
-pub mod Pasts
-pub mod Holds
 pub mod Acts
 pub mod Posts
 pub mod Posted
 pub mod Desks
+pub use Rattle.plane_record.specs.Pasts

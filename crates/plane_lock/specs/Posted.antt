@@ -4,7 +4,7 @@ use Rattle.std.specs.List.{All}
 use Rattle.br_model.specs.declared.change.Update.{Update}
 use Rattle.br_model.specs.Table.Change.{updates}
 use Rattle.deferred_queue.specs.Ends.{Posting}
-use Rattle.plane_lock.specs.Pasts.{Past, world_of}
+use Rattle.plane_record.specs.Pasts.{Past, world_of}
 
 -- the updates of all changes that were accepted
 abbrev pub updates_of : Past → List Update

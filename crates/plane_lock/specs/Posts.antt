@@ -1,5 +1,5 @@
 -- A frame that is posted by a decision that a seat gave.
-use Rattle.std.specs.Prelude.{◌≡◌, ℕ, ◌+◌, ◌≤◌, true, List, [], ◌∷◌, ◌++◌, take, IfSome}
+use Rattle.std.specs.Prelude.{◌≡◌, ℕ, ◌+◌, ◌≤◌, true, List, [], ◌∷◌, ◌++◌, take}
 use Rattle.std.specs.Ordering.{nat_cmp}
 use Rattle.std.specs.declared.option.Option.{Option}
 use Rattle.std.specs.declared.option.Option.TheVariants.{None, Some}
@@ -10,7 +10,6 @@ use Rattle.br_model.specs.declared.transcript.Line.{Line}
 use Rattle.br_model.specs.declared.transcript.Line.TheVariants.{Soft, Refused}
 use Rattle.br_model.specs.Data.Maps.{has}
 use Rattle.br_model.specs.Forward.Shares.{soft_out}
-use Rattle.br_model.specs.Plane.Serving.{held_with}
 use Rattle.br_model.specs.Plane.World.{World, Holding, table_at, sent}
 use Rattle.br_model.specs.Table.Domains.{Domains}
 use Rattle.br_model.specs.Table.Table.{table}
@@ -18,10 +17,10 @@ use Rattle.br_model.specs.Wire.Frames.{frame}
 use Rattle.br_model.specs.Wire.Messages.{message}
 use Rattle.hwdom_marks.specs.Marks.{domain_marked}
 use Rattle.plane_core.specs.declared.held.Held.{Held}
-use Rattle.plane_core.specs.Shown.{shown_by, shown_of}
 use Rattle.forward_rules.specs.Decided.{Decides}
 use Rattle.table_publish.specs.Object.{Object}
 use Rattle.table_publish.specs.declared.seat.Seen.{Seen}
+pub use Rattle.plane_record.specs.Posts.{IsTheHeld}
 
 -- The decision agrees with what a seat knows: its point is one of the counts there, not below the frame's floor, and it is that of
 -- the first changes.
@@ -30,10 +29,6 @@ pub record IsSeen (domains : Domains) (known : Object) (h : Held) (seen : Seen) 
   pub floor : h.floor ≤ seen.point
   pub verdict : (head : Head) → frame h.bytes ≡ Ok head
       → Decides domains (table (take seen.point known.changes)) h.port head (message h.bytes head) seen.verdict
-
--- Where a frame is held under its id, it is that frame, and the point is published.
-abbrev pub IsTheHeld : World → Held → ℕ → Type 0
-IsTheHeld w h point = IfSome (held_with w h.id) (λ x. (shown_by h ≡ shown_of x) × (point ≤ w.published))
 
 -- The frame is sent by the table of this point: the line that says so, one for each port that it leaves, and those of the reaction.
 pub record IsSent (w : World) (h : Held) (point : ℕ) (lines : List Line) : Type 0 where

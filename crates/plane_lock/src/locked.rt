@@ -14,15 +14,14 @@ ghost use Rattle.br_model.specs.Wire.Frames.{frame as frame_of};
 ghost use Rattle.plane_core.specs.Planes.{IsDecidedBy, IsNamed, published_in};
 ghost use Rattle.plane_core.specs.Shown.{opened, shown_by};
 ghost use Rattle.table_publish.specs.Object.{Begins};
+ghost use Rattle.plane_record.specs.Pasts.{acted, after, changes_of, event_step, held_after, post_step, published_after, said_by, world_of};
 ghost use Rattle.plane_lock.specs.declared.locked.ActFault.TheVariants as act_faults;
-ghost use Rattle.plane_lock.specs.Acts.{Acted, PostFails, acted, changes_of, published_after};
-ghost use Rattle.plane_lock.specs.Pasts.{after, event_step, held_after, post_step, said_by, world_of};
+ghost use Rattle.plane_lock.specs.Acts.{Acted, PostFails};
 ghost use Rattle.plane_lock.specs.Posted.{HavePosted, updates_of};
 ghost use Rattle.plane_lock.specs.Posts.{IsSeen, IsTheHeld, Tells};
 
 use crate::NoMemory;
 use crate::chair::Chair;
-use crate::ran::Ran;
 use br_model::change::Update;
 use br_model::limits::MOST_CHANGES;
 use br_model::numbers::{Dom, Port};
@@ -30,6 +29,7 @@ use br_model::steps::Event;
 use deferred_queue::Poster;
 use learn_report::Report;
 use plane_core::{Entered, Held, Plane, PostFault, TurnFault};
+use plane_record::Ran;
 use std::alloc::{AllocError, Global};
 use std::marker::{Model, PhantomData};
 use std::sync::Wait;
@@ -64,7 +64,7 @@ pub struct Locked<N: Name> {
 impl<N: Name> Model for Locked<N> {
     ghost use Rattle.std.specs.Prelude.{◌≡◌, length};
     ghost use Rattle.br_model.specs.Table.Domains.{chip_domains};
-    ghost use Rattle.plane_lock.specs.Pasts.{Past};
+    ghost use Rattle.plane_record.specs.Pasts.{Past};
     ghost use Rattle.plane_lock.specs.Posted.{HavePosted, updates_of};
 
     ghost Value = { Past };

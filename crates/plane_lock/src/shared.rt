@@ -1,5 +1,5 @@
 //! The locks.
-ghost use Rattle.std.specs.Prelude.{◌≡◌, ◌<◌, ◌≤◌, ◌==◌, length, map, true, IfOk, IfSome};
+ghost use Rattle.std.specs.Prelude.{◌≡◌, ◌<◌, ◌≤◌, ◌==◌, get_or, length, map, true, IfOk, IfSome};
 ghost use Rattle.std.specs.List.{All, list_any};
 ghost use Rattle.br_model.specs.Table.Domains.{chip_domains, has_chip};
 ghost use Rattle.plane_core.specs.Planes.{IsNamed};
@@ -12,10 +12,10 @@ use crate::chair::Chair;
 use crate::desk::Desk;
 use crate::locked::{ActFault, Locked};
 use crate::queues::{Driver, Queues};
-use crate::ran::Ran;
 use br_model::numbers::{Dom, Port};
 use br_model::steps::Event;
 use plane_core::{Entered, Held, PostFault};
+use plane_record::Ran;
 use std::alloc::Global;
 use std::sync::{Mutex, MutexGuard, Wait};
 use table_publish::{Name, Seen};
@@ -34,7 +34,8 @@ pub struct Shared<N: Name> {
 /// Where the driver of the domain stands.
 fn place_of(drivers: &[Driver], d: Dom) -> usize
     requires { list_any (λ k. k == d) (map (λ d. d.dom) drivers.now) ≡ true }
-    ensures { result < length drivers.now }
+    ensures within { result < length drivers.now }
+    ensures own { get_or (map (λ x. x.dom) drivers.now) result 0 ≡ d }
 {
     for place in 0..drivers.len() {
         if drivers[place].dom == d {

@@ -2,6 +2,7 @@
 mod arena;
 mod books;
 mod captures;
+mod common;
 mod items;
 mod neighbours;
 mod scenario;

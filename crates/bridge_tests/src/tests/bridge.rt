@@ -1,18 +1,17 @@
 //! Worked runs as tables, limits, and random events beside a plain list of stations.
-ghost use Rattle.std.specs.Prelude.{IfOk};
 ghost use Rattle.bridge_core.specs.Answers.{IsEvent};
 
+use super::common::{assert_same, assert_that, port, vid};
 use br_model::bytes::Bytes;
 use br_model::change::{Flags, Kind};
 use br_model::domains::Domains;
 use br_model::group::Ip;
-use br_model::numbers::{Dom, Mac, Port, Vid};
+use br_model::numbers::{Dom, Mac, Vid};
 use br_model::steps::{Command, Event, Refusal};
 use bridge_core::{Bridge, EventFault};
 use ether_frames::parse;
 use std::alloc::Global;
 use std::process::Abort;
-use std::test::Fail;
 
 /// What happens, by the numbers of ports, VLANs and stations.
 #[derive(Clone, Copy)]
@@ -33,133 +32,138 @@ enum Happening {
     Seen(u8, u8),
 }
 
-fn port(number: u8) -> Result<Port, Fail> {
-    Ok(Port::new(number).ok_or("port")?)
-}
-
-fn vid(number: u16) -> Result<Vid, Fail> {
-    Ok(Vid::new(number).ok_or("vid")?)
-}
-
 /// 02:00:00:00:00 and the number.
 fn mac_of(number: u8) -> Mac {
     Mac::new([2, 0, 0, 0, 0, number])
 }
 
-fn flood(number: u8, on: bool) -> Result<Command, Fail> {
-    Ok(Command::Link {
-        port: port(number)?,
-        flag: Flags::new(2).ok_or("flags")?,
+fn flood(rt: &impl Abort, number: u8, on: bool) -> Command {
+    Command::Link {
+        port: port(rt, number),
+        flag: Flags::new(2).expect(rt, "flags"),
         on,
-    })
-}
-
-fn joined(number: u8, vlan: u16) -> Result<Command, Fail> {
-    Ok(Command::VlanAdd {
-        port: port(number)?,
-        vid: vid(vlan)?,
-        untagged: false,
-        pvid: false,
-    })
-}
-
-fn left(number: u8, vlan: u16) -> Result<Command, Fail> {
-    Ok(Command::VlanDel {
-        port: port(number)?,
-        vid: vid(vlan)?,
-    })
-}
-
-fn grouped(number: u8, vlan: u16, group: Ip) -> Result<Command, Fail> {
-    Ok(Command::MdbAdd {
-        port: port(number)?,
-        vid: vid(vlan)?,
-        group,
-    })
-}
-
-fn ungrouped(number: u8, vlan: u16, group: Ip) -> Result<Command, Fail> {
-    Ok(Command::MdbDel {
-        port: port(number)?,
-        vid: vid(vlan)?,
-        group,
-    })
-}
-
-fn added(mac: Mac, number: u8, vlan: u16, kind: Kind) -> Result<Command, Fail> {
-    Ok(Command::FdbAdd {
-        vid: vid(vlan)?,
-        mac,
-        port: port(number)?,
-        kind,
-    })
-}
-
-/// A frame of 16 bytes to the station 11 that came by the port.
-fn sight(alloc: Global, from: u8, number: u8) -> Result<Event, Fail>
-    ensures { IfOk result IsEvent }
-{
-    let bytes = [2, 0, 0, 0, 0, 11, 2, 0, 0, 0, 0, from, 0x88, 0xb5, 1, 2];
-    match parse(&bytes) {
-        Ok(head) => Ok(Event::Sight {
-            port: port(number)?,
-            bytes: Bytes::copy_of(alloc, &bytes)?,
-            head,
-        }),
-        Err(_) => Err(Fail::from("frame")),
     }
 }
 
-fn event(alloc: Global, happening: Happening) -> Result<Event, Fail>
-    ensures { IfOk result IsEvent }
+fn joined(rt: &impl Abort, number: u8, vlan: u16) -> Command {
+    Command::VlanAdd {
+        port: port(rt, number),
+        vid: vid(rt, vlan),
+        untagged: false,
+        pvid: false,
+    }
+}
+
+fn left(rt: &impl Abort, number: u8, vlan: u16) -> Command {
+    Command::VlanDel {
+        port: port(rt, number),
+        vid: vid(rt, vlan),
+    }
+}
+
+fn grouped(rt: &impl Abort, number: u8, vlan: u16, group: Ip) -> Command {
+    Command::MdbAdd {
+        port: port(rt, number),
+        vid: vid(rt, vlan),
+        group,
+    }
+}
+
+fn ungrouped(rt: &impl Abort, number: u8, vlan: u16, group: Ip) -> Command {
+    Command::MdbDel {
+        port: port(rt, number),
+        vid: vid(rt, vlan),
+        group,
+    }
+}
+
+fn added(rt: &impl Abort, mac: Mac, number: u8, vlan: u16, kind: Kind) -> Command {
+    Command::FdbAdd {
+        vid: vid(rt, vlan),
+        mac,
+        port: port(rt, number),
+        kind,
+    }
+}
+
+fn deleted(mac: Mac) -> Command {
+    Command::FdbDel {
+        vid: Vid::DEFAULT,
+        mac,
+    }
+}
+
+/// A frame of 16 bytes to the station 11 that came by the port.
+fn sight(rt: &impl Abort, alloc: Global, from: u8, number: u8) -> Event
+    ensures { IsEvent result }
+{
+    let bytes = [2, 0, 0, 0, 0, 11, 2, 0, 0, 0, 0, from, 0x88, 0xb5, 1, 2];
+    match parse(&bytes) {
+        Ok(head) => Event::Sight {
+            port: port(rt, number),
+            bytes: Bytes::copy_of(alloc, &bytes).expect(rt, "memory"),
+            head,
+        },
+        Err(_) => panic!(rt; "no frame"),
+    }
+}
+
+fn event(rt: &impl Abort, alloc: Global, happening: Happening) -> Event
+    ensures { IsEvent result }
 {
     match happening {
-        Happening::Up(at) => Ok(Event::Cmd(Command::PortUp(port(at)?))),
-        Happening::Down(at) => Ok(Event::Cmd(Command::PortDown(port(at)?))),
-        Happening::Flood(at, on) => Ok(Event::Cmd(flood(at, on)?)),
-        Happening::Joined(at, vlan) => Ok(Event::Cmd(joined(at, vlan)?)),
-        Happening::Left(at, vlan) => Ok(Event::Cmd(left(at, vlan)?)),
+        Happening::Up(at) => Event::Cmd(Command::PortUp(port(rt, at))),
+        Happening::Down(at) => Event::Cmd(Command::PortDown(port(rt, at))),
+        Happening::Flood(at, on) => Event::Cmd(flood(rt, at, on)),
+        Happening::Joined(at, vlan) => Event::Cmd(joined(rt, at, vlan)),
+        Happening::Left(at, vlan) => Event::Cmd(left(rt, at, vlan)),
         Happening::Added(mac, at, vlan, kind) => {
-            Ok(Event::Cmd(added(mac_of(mac), at, vlan, kind)?))
+            Event::Cmd(added(rt, mac_of(mac), at, vlan, kind))
         }
-        Happening::Deleted(mac) => Ok(Event::Cmd(Command::FdbDel {
-            vid: Vid::DEFAULT,
-            mac: mac_of(mac),
-        })),
-        Happening::Grouped(at, vlan, group) => Ok(Event::Cmd(grouped(at, vlan, group)?)),
-        Happening::Ungrouped(at, vlan, group) => Ok(Event::Cmd(ungrouped(at, vlan, group)?)),
-        Happening::Snooped(on) => Ok(Event::Cmd(Command::Snooping(on))),
-        Happening::Aged(seconds) => Ok(Event::Cmd(Command::Ageing(seconds))),
-        Happening::Waited(now) => Ok(Event::Moment(u64::from(now))),
-        Happening::Seen(mac, at) => sight(alloc, mac, at),
+        Happening::Deleted(mac) => Event::Cmd(deleted(mac_of(mac))),
+        Happening::Grouped(at, vlan, group) => Event::Cmd(grouped(rt, at, vlan, group)),
+        Happening::Ungrouped(at, vlan, group) => Event::Cmd(ungrouped(rt, at, vlan, group)),
+        Happening::Snooped(on) => Event::Cmd(Command::Snooping(on)),
+        Happening::Aged(seconds) => Event::Cmd(Command::Ageing(seconds)),
+        Happening::Waited(now) => Event::Moment(u64::from(now)),
+        Happening::Seen(mac, at) => sight(rt, alloc, mac, at),
     }
 }
 
 /// How many changes the event makes, or its refusal.
-fn answer(alloc: Global, bridge: &mut Bridge, event: &Event) -> Result<Result<usize, Refusal>, Fail>
+fn answer(
+    rt: &impl Abort,
+    alloc: Global,
+    bridge: &mut Bridge,
+    event: &Event,
+) -> Result<usize, Refusal>
     requires { IsEvent event.now }
 {
     match bridge.react(alloc, event) {
-        Ok(reaction) => Ok(Ok(bridge.history().len().saturating_sub(reaction.from))),
-        Err(EventFault::Refused(refusal)) => Ok(Err(refusal)),
-        Err(EventFault::NoMemory) => Err(Fail::from("memory")),
+        Ok(reaction) => Ok(bridge.history().len().saturating_sub(reaction.from)),
+        Err(EventFault::Refused(refusal)) => Err(refusal),
+        Err(EventFault::NoMemory) => panic!(rt; "no memory"),
+    }
+}
+
+/// The chip's domain for the ports up to this one.
+fn domain_of(rt: &impl Abort, number: u8, last: u8) -> Dom {
+    if number <= last {
+        Dom::new(1).expect(rt, "a domain")
+    } else {
+        Dom::SOFTWARE
     }
 }
 
 /// A bridge with the ports 1 to 3, which come up. The chip has those up to `chips`.
-fn of_three_ports(rt: &impl Abort, alloc: Global, chips: u8) -> Result<Bridge, Fail> {
+fn of_three_ports(rt: &impl Abort, alloc: Global, chips: u8) -> Bridge {
     let mut domains = Domains::make();
-    let chip = Dom::new(1).ok_or("domain")?;
-    for number in 1..4u8 {
-        let domain = if number <= chips { chip } else { Dom::SOFTWARE };
-        match Port::new(number) {
-            Some(port) if !port.is_host() => domains.set(port, domain),
-            Some(_) | None => return Err(Fail::from("port")),
-        }
-    }
-    let mut bridge = Bridge::make(alloc, domains, Mac::FIRST_OWN)?;
-    play(rt, alloc, &mut bridge, UP)?;
-    Ok(bridge)
+    domains.set(port(rt, 1), domain_of(rt, 1, chips));
+    domains.set(port(rt, 2), domain_of(rt, 2, chips));
+    domains.set(port(rt, 3), domain_of(rt, 3, chips));
+    let mut bridge = Bridge::make(alloc, domains, Mac::FIRST_OWN).expect(rt, "memory");
+    play(rt, alloc, &mut bridge, UP);
+    bridge
 }
 
 type Step = (Happening, Result<usize, Refusal>);
@@ -171,12 +175,22 @@ const UP: &[Step] = &[
 ];
 
 /// Plays the steps, and compares what each of them comes to.
-fn play(rt: &impl Abort, alloc: Global, bridge: &mut Bridge, steps: &[Step]) -> Result<(), Fail> {
-    for (happening, expected) in steps {
-        let event = event(alloc, *happening)?;
-        assert!(rt; answer(alloc, bridge, &event)? == *expected);
+fn play(rt: &impl Abort, alloc: Global, bridge: &mut Bridge, steps: &[Step]) {
+    for step in steps {
+        play_one(rt, alloc, bridge, *step);
     }
-    Ok(())
+}
+
+fn play_one(rt: &impl Abort, alloc: Global, bridge: &mut Bridge, (happening, expected): Step) {
+    let event = event(rt, alloc, happening);
+    let found = answer(rt, alloc, bridge, &event);
+    assert_that(rt, found == expected, "a step");
+}
+
+/// A command that makes one change.
+fn change(rt: &impl Abort, alloc: Global, bridge: &mut Bridge, command: Command) {
+    let found = answer(rt, alloc, bridge, &Event::Cmd(command));
+    assert_that(rt, found == Ok(1), "a command");
 }
 
 const REFUSALS: &[Step] = &[
@@ -271,26 +285,28 @@ const GROUPS: &[Step] = &[
     (Happening::Down(1), Ok(3)),
 ];
 
-/// How many ports the chip has, what happens once the ports are up, and how many changes there are then, where that is looked at.
-const RUNS: &[(u8, &[Step], Option<usize>)] = &[
-    (0, REFUSALS, Some(12)),
-    (0, AGEING, Some(12)),
-    (0, MOVES, None),
-    (2, CHIP_PORTS, None),
-    (0, GROUPS, Some(18)),
+/// How many ports the chip has, what happens once the ports are up, and how many changes there are then.
+type Run = (u8, &'static [Step], usize);
+
+const RUNS: &[Run] = &[
+    (0, REFUSALS, 12),
+    (0, AGEING, 12),
+    (0, MOVES, 14),
+    (2, CHIP_PORTS, 20),
+    (0, GROUPS, 18),
 ];
 
+fn assert_run(rt: &impl Abort, alloc: Global, (chips, steps, changes): Run) {
+    let mut bridge = of_three_ports(rt, alloc, chips);
+    play(rt, alloc, &mut bridge, steps);
+    assert_same(rt, &bridge.history().len(), &changes, "how many changes");
+}
+
 #[test]
-fn worked_runs(rt: HostRuntime) -> Result<(), Fail> {
-    let alloc = rt.alloc();
-    for (chips, steps, changes) in RUNS {
-        let mut bridge = of_three_ports(&rt, alloc, *chips)?;
-        play(&rt, alloc, &mut bridge, steps)?;
-        if let Some(changes) = changes {
-            assert!(rt; bridge.history().len() == *changes);
-        }
+fn worked_runs(rt: HostRuntime) {
+    for run in RUNS {
+        assert_run(&rt, rt.alloc(), *run);
     }
-    Ok(())
 }
 
 /// What follows on 1,024 pairs.
@@ -306,14 +322,14 @@ const MANY_PAIRS: &[Step] = &[
 
 /// The 1,025th pair of VLAN and group is refused; a pair that is there may have more members.
 #[test]
-fn no_more_than_1024_pairs(rt: HostRuntime) -> Result<(), Fail> {
+fn no_more_than_1024_pairs(rt: HostRuntime) {
     let alloc = rt.alloc();
-    let mut bridge = of_three_ports(&rt, alloc, 0)?;
+    let mut bridge = of_three_ports(&rt, alloc, 0);
     for number in 0..1024u16 {
-        let joined = Event::Cmd(grouped(1, 1, group(number))?);
-        assert!(rt; answer(alloc, &mut bridge, &joined)? == Ok(1));
+        let joined = grouped(&rt, 1, 1, group(number));
+        change(&rt, alloc, &mut bridge, joined);
     }
-    play(&rt, alloc, &mut bridge, MANY_PAIRS)
+    play(&rt, alloc, &mut bridge, MANY_PAIRS);
 }
 
 /// What follows on 16,384 addresses.
@@ -325,17 +341,19 @@ const MANY_ADDRESSES: &[Step] = &[
     (Happening::Seen(10, 1), Ok(0)),
 ];
 
+fn added_by_number(rt: &impl Abort, number: u16) -> Command {
+    let [high, low] = number.to_be_bytes();
+    added(rt, Mac::new([2, 0, 0, 1, high, low]), 1, 1, Kind::Static)
+}
+
 #[test]
-fn no_more_than_16384_addresses(rt: HostRuntime) -> Result<(), Fail> {
+fn no_more_than_16384_addresses(rt: HostRuntime) {
     let alloc = rt.alloc();
-    let mut bridge = of_three_ports(&rt, alloc, 0)?;
+    let mut bridge = of_three_ports(&rt, alloc, 0);
     for number in 0..16384u16 {
-        let [high, low] = number.to_be_bytes();
-        let mac = Mac::new([2, 0, 0, 1, high, low]);
-        let entry = Event::Cmd(added(mac, 1, 1, Kind::Static)?);
-        assert!(rt; answer(alloc, &mut bridge, &entry)? == Ok(1));
+        change(&rt, alloc, &mut bridge, added_by_number(&rt, number));
     }
-    play(&rt, alloc, &mut bridge, MANY_ADDRESSES)
+    play(&rt, alloc, &mut bridge, MANY_ADDRESSES);
 }
 
 /// What follows on 1,048,576 changes.
@@ -346,16 +364,15 @@ const MANY_CHANGES: &[Step] = &[
 ];
 
 #[test]
-fn no_more_than_1048576_changes(rt: HostRuntime) -> Result<(), Fail> {
+fn no_more_than_1048576_changes(rt: HostRuntime) {
     let alloc = rt.alloc();
-    let mut bridge = of_three_ports(&rt, alloc, 0)?;
+    let mut bridge = of_three_ports(&rt, alloc, 0);
     let mut on = false;
     for _ in 0..1_048_567u32 {
-        let link = Event::Cmd(flood(1, on)?);
-        assert!(rt; answer(alloc, &mut bridge, &link)? == Ok(1));
+        change(&rt, alloc, &mut bridge, flood(&rt, 1, on));
         on = !on;
     }
-    play(&rt, alloc, &mut bridge, MANY_CHANGES)
+    play(&rt, alloc, &mut bridge, MANY_CHANGES);
 }
 
 /// A station of the plain list.
@@ -474,9 +491,9 @@ fn happens(plain: &mut Plain, number: u64) -> Step {
 }
 
 #[test]
-fn a_hundred_thousand_events(rt: HostRuntime) -> Result<(), Fail> {
+fn a_hundred_thousand_events(rt: HostRuntime) {
     let alloc = rt.alloc();
-    let mut bridge = of_three_ports(&rt, alloc, 0)?;
+    let mut bridge = of_three_ports(&rt, alloc, 0);
     let mut plain = Plain {
         stations: [None; 32],
         now: 0,
@@ -486,7 +503,6 @@ fn a_hundred_thousand_events(rt: HostRuntime) -> Result<(), Fail> {
     for _ in 0..100_000u32 {
         state = next(state);
         let step = happens(&mut plain, state);
-        play(&rt, alloc, &mut bridge, &[step])?;
+        play_one(&rt, alloc, &mut bridge, step);
     }
-    Ok(())
 }

@@ -1,9 +1,10 @@
+use super::common::assert_same;
 use br_model::frame::{Act, McastMsg};
 use br_model::group::Group;
 use ether_frames::parse;
 use igmp_mld::{Records, classify};
 use std::alloc::Global;
-use std::test::Fail;
+use std::process::Abort;
 
 /// 239.1.2.3, 239.1.2.4, 224.0.0.5, ff05::1234, ff02::1.
 const GROUP: Group = Group::V4(0xef01_0203);
@@ -40,23 +41,32 @@ const UNCOUNTED_SIX: McastMsg = McastMsg::Query {
 /// What the frame is, its digits, and what it says.
 type Case = (&'static str, &'static str, McastMsg);
 
-fn message(alloc: Global, digits: &str) -> Result<McastMsg, Fail> {
-    let bytes = hex::decode(alloc, digits)?;
-    let head = parse(&bytes)?;
-    Ok(classify(&bytes, &head))
+fn bytes_of(rt: &impl Abort, alloc: Global, digits: &str) -> Vec<u8> {
+    hex::decode(alloc, digits).expect(rt, "digits")
 }
 
-/// What the records of a frame say, one after another.
-fn acts(alloc: Global, digits: &str) -> Result<Vec<Act>, Fail> {
-    let bytes = hex::decode(alloc, digits)?;
-    let head = parse(&bytes)?;
-    let mut acts = Vec::new(alloc);
-    if let McastMsg::Records { six, first, count } = classify(&bytes, &head) {
-        for act in Records::of(&bytes, six, first, count) {
-            acts.push(act)?;
-        }
+/// What the bytes of a frame say.
+fn message(rt: &impl Abort, bytes: &[u8]) -> McastMsg {
+    let head = parse(bytes).expect(rt, "a frame");
+    classify(bytes, &head)
+}
+
+fn assert_message(rt: &impl Abort, alloc: Global, (what, digits, want): &Case) {
+    let found = message(rt, &bytes_of(rt, alloc, digits));
+    assert_same(rt, &found, want, what);
+}
+
+/// What the records of a frame say, one after another, is just this.
+fn assert_acts(rt: &impl Abort, alloc: Global, digits: &str, wanted: &[Act], what: &str) {
+    let bytes = bytes_of(rt, alloc, digits);
+    let McastMsg::Records { six, first, count } = message(rt, &bytes) else {
+        panic!(rt; "no records")
+    };
+    let mut acts = Records::of(&bytes, six, first, count);
+    for act in wanted {
+        assert_same(rt, &acts.next(), &Some(*act), what);
     }
-    Ok(acts)
+    assert_same(rt, &acts.next(), &None, what);
 }
 
 /// Each frame but the first few breaks or bends one rule of versions 1 to 3 of IGMP.
@@ -512,13 +522,12 @@ const UNFIT: &[Case] = &[
 ];
 
 #[test]
-fn messages(rt: HostRuntime) -> Result<(), Fail> {
+fn messages(rt: HostRuntime) {
     for cases in [IGMP, MLD, UNFIT] {
-        for (what, digits, want) in cases {
-            assert_eq!(rt; message(rt.alloc(), digits)?, *want, "{what}");
+        for case in cases {
+            assert_message(&rt, rt.alloc(), case);
         }
     }
-    Ok(())
 }
 
 /// Reports with records, from the byte behind the first 8 of the message on.
@@ -616,9 +625,8 @@ const REPORTS: &[(&str, &str, &[Act])] = &[
 ];
 
 #[test]
-fn records_of_reports(rt: HostRuntime) -> Result<(), Fail> {
-    for (what, digits, want) in REPORTS {
-        assert_eq!(rt; acts(rt.alloc(), digits)?.as_slice(), *want, "{what}");
+fn records_of_reports(rt: HostRuntime) {
+    for (what, digits, wanted) in REPORTS {
+        assert_acts(&rt, rt.alloc(), digits, wanted, what);
     }
-    Ok(())
 }

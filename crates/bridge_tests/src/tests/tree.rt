@@ -1,11 +1,11 @@
 ghost use Rattle.std.specs.Prelude.{◌<◌, ◌^◌};
 
+use super::common::{assert_same, assert_that, port};
 use br_model::bpdu::BpduMsg;
 use br_model::numbers::{Mac, Port};
 use br_model::tree::TreeEvent;
 use port_sets::Ports;
 use std::process::Abort;
-use std::test::Fail;
 use stp_core::{Tree, TreeOut};
 
 // Bridges by the last byte of their addresses, at priority 32768; ports by number, at priority 128.
@@ -46,10 +46,6 @@ fn says(flags: u8, root: u8, cost: u32, sender: u8, port: u8) -> BpduMsg {
     }
 }
 
-fn port(rt: &impl Abort, number: u8) -> Port {
-    Port::new(number).expect(rt, "a port")
-}
-
 fn event_of(rt: &impl Abort, event: Event) -> TreeEvent {
     match event {
         Event::On(on) => TreeEvent::Switch(on),
@@ -78,23 +74,28 @@ fn apply(rt: &impl Abort, tree: &mut Tree, now: u64, event: Event) -> TreeOut
 fn assert_ports(rt: &impl Abort, ports: Ports, wanted: &[u8], at: usize) {
     let mut left = ports.iter();
     for p in wanted {
-        assert_eq!(rt; left.next(), Some(*p), "row {at}");
+        assert_same(rt, &(at, left.next()), &(at, Some(*p)), "a row's ports");
     }
-    assert_eq!(rt; left.next(), None, "row {at}");
+    assert_same(rt, &(at, left.next()), &(at, None), "a row's ports");
+}
+
+fn assert_row(rt: &impl Abort, tree: &mut Tree, row: &Row, at: usize) {
+    let (now, event, moved, config, tcn) = *row;
+    assert!(rt; now < 1 << 53);
+    let out = apply(rt, tree, now, event);
+    assert_ports(rt, out.moved, moved, at);
+    assert_ports(rt, out.config, config, at);
+    let notifies = out.tcn.map(Port::number);
+    assert_same(rt, &(at, notifies), &(at, tcn), "a row's notification");
+    if let Event::Now = event {
+        assert_that(rt, tree.is_idle(now), "nothing is due then");
+    }
 }
 
 fn assert_rows(rt: &impl Abort, tree: &mut Tree, rows: &[Row]) {
     let mut at = 0usize;
-    for (now, event, moved, config, tcn) in rows {
-        let now = *now;
-        assert!(rt; now < 1 << 53);
-        let out = apply(rt, tree, now, *event);
-        assert_ports(rt, out.moved, moved, at);
-        assert_ports(rt, out.config, config, at);
-        assert_eq!(rt; out.tcn.map(|p| p.number()), *tcn, "row {at}");
-        if let Event::Now = event {
-            assert!(rt; tree.is_idle(now), "row {at}");
-        }
+    for row in rows {
+        assert_row(rt, tree, row, at);
         at = at.wrapping_add(1);
     }
 }
@@ -125,7 +126,8 @@ fn ports_of_one_root(rt: HostRuntime) {
     let mut copy = tree.copy();
     assert_rows(&rt, &mut copy, ONE_ROOT);
     assert_rows(&rt, &mut tree, ONE_ROOT);
-    assert_eq!(rt; tree.last_message(port(&rt, 2)), Some(says(1, 1, 0, 1, 2)));
+    let said = tree.last_message(port(&rt, 2));
+    assert_same(&rt, &said, &Some(says(1, 1, 0, 1, 2)), "what port 2 said");
 }
 
 // What a port of a bridge in a network comes to.
@@ -141,24 +143,28 @@ enum Role {
 // bridge, port), and what it comes to.
 type PortRow = (u8, u8, u16, Option<(u8, u32, u8, u8)>, Role);
 
+fn bring_up(rt: &impl Abort, tree: &mut Tree, p: u8, cost: u16) {
+    tree.port_up(port(rt, p), 0);
+    tree.set_cost(port(rt, p), cost, 0);
+}
+
+fn hear(rt: &impl Abort, tree: &mut Tree, p: u8, (root, cost, sender, sent_by): (u8, u32, u8, u8)) {
+    let says = Event::Says(p, root, cost, sender, sent_by);
+    apply(rt, tree, 0, says);
+}
+
 // The bridge of these rows, once it has heard what its ports hear.
 fn bridge_of(rt: &impl Abort, own: u8, rows: &[PortRow]) -> Tree {
     let mut tree = Tree::make(Mac::new([2, 0, 0, 0, 0, own]));
     for (bridge, p, cost, _, _) in rows {
         if *bridge == own {
-            tree.port_up(port(rt, *p), 0);
-            tree.set_cost(port(rt, *p), *cost, 0);
+            bring_up(rt, &mut tree, *p, *cost);
         }
     }
     tree.switch(true, 0);
     for (bridge, p, _, heard, _) in rows {
-        if let (true, Some((root, cost, sender, sent_by))) = (*bridge == own, *heard) {
-            apply(
-                rt,
-                &mut tree,
-                0,
-                Event::Says(*p, root, cost, sender, sent_by),
-            );
+        if let (true, Some(heard)) = (*bridge == own, *heard) {
+            hear(rt, &mut tree, *p, heard);
         }
     }
     tree.tick(1000);
@@ -180,28 +186,37 @@ fn said(rt: &impl Abort, tree: &Tree, p: u8) -> Option<(u64, u32, u64, u16)> {
     }
 }
 
-fn assert_role(rt: &impl Abort, tree: &Tree, own: u8, p: u8, role: Role) {
-    let state = tree.state(port(rt, p));
+// The state of a port: 1 is listening, 4 is blocking.
+fn assert_state(rt: &impl Abort, tree: &Tree, (own, p): (u8, u8), state: u8) {
+    let found = (own, p, tree.state(port(rt, p)));
+    assert_same(rt, &found, &(own, p, state), "bridge, port and state");
+}
+
+fn assert_designated(rt: &impl Abort, tree: &Tree, (own, p): (u8, u8), root: u8, cost: u32) {
+    let wanted = (
+        BRIDGE + u64::from(root),
+        cost,
+        BRIDGE + u64::from(own),
+        PORT + u16::from(p),
+    );
+    assert_same(rt, &said(rt, tree, p), &Some(wanted), "what a port says");
+}
+
+fn assert_role(rt: &impl Abort, tree: &Tree, at: (u8, u8), role: Role) {
     match role {
-        Role::Root => assert_eq!(rt; state, 1, "bridge {own}, port {p}"),
+        Role::Root => assert_state(rt, tree, at, 1),
         Role::Designated(root, cost) => {
-            assert_eq!(rt; state, 1, "bridge {own}, port {p}");
-            let wanted = (
-                BRIDGE + u64::from(root),
-                cost,
-                BRIDGE + u64::from(own),
-                PORT + u16::from(p),
-            );
-            assert_eq!(rt; said(rt, tree, p), Some(wanted));
+            assert_state(rt, tree, at, 1);
+            assert_designated(rt, tree, at, root, cost);
         }
-        Role::Blocked => assert_eq!(rt; state, 4, "bridge {own}, port {p}"),
+        Role::Blocked => assert_state(rt, tree, at, 4),
     }
 }
 
 fn assert_network(rt: &impl Abort, rows: &[PortRow]) {
     for (own, p, _, _, role) in rows {
         let tree = bridge_of(rt, *own, rows);
-        assert_role(rt, &tree, *own, *p, *role);
+        assert_role(rt, &tree, (*own, *p), *role);
     }
 }
 
@@ -282,7 +297,12 @@ const ACKNOWLEDGED: &[Row] = &[
 fn acknowledged_change(rt: HostRuntime) {
     let mut tree = tree_of_two_ports(&rt);
     assert_rows(&rt, &mut tree, ACKNOWLEDGED);
-    assert_eq!(rt; tree.hold(), Some(15_000));
+    assert_same(
+        &rt,
+        &tree.hold(),
+        &Some(15_000),
+        "how long addresses are held",
+    );
 }
 
 /// Each run is of two ports.
@@ -312,11 +332,15 @@ const RUNS: &[&[Row]] = &[
     ],
 ];
 
+fn assert_run(rt: &impl Abort, rows: &[Row]) {
+    let mut tree = tree_of_two_ports(rt);
+    assert_rows(rt, &mut tree, rows);
+}
+
 #[test]
 fn runs_of_two_ports(rt: HostRuntime) {
     for rows in RUNS {
-        let mut tree = tree_of_two_ports(&rt);
-        assert_rows(&rt, &mut tree, rows);
+        assert_run(&rt, rows);
     }
 }
 
@@ -335,6 +359,6 @@ const MANAGED: &[Row] = &[
 fn managed_tree(rt: HostRuntime) {
     let mut tree = tree_of_two_ports(&rt);
     assert_rows(&rt, &mut tree, MANAGED);
-    assert_eq!(rt; tree.last_message(port(&rt, 1)), None);
-    assert_eq!(rt; tree.hold(), None);
+    assert_same(&rt, &tree.last_message(port(&rt, 1)), &None, "no message");
+    assert_same(&rt, &tree.hold(), &None, "no other hold");
 }

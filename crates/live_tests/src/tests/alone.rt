@@ -4,11 +4,11 @@ ghost use Rattle.std.specs.List.{list_all};
 ghost use Rattle.br_model.specs.Table.Domains.{chip_domains};
 ghost use Rattle.br_model.specs.Text.LineForms.{comes_by_line};
 
+use super::common::{assert_same, assert_that, is_done};
 use br_model::bytes::Bytes;
 use br_model::domains::Domains;
 use br_model::numbers::{Dom, Mac, Port};
 use br_model::steps::{Command, Step};
-use br_model::transcript::Line;
 use live_workers::run_alone;
 use std::alloc::Global;
 use std::process::Abort;
@@ -85,26 +85,20 @@ fn wanted(alloc: Global) -> Result<Vec<Step>, Fail> {
     Ok(steps)
 }
 
+fn assert_steps(rt: &impl Abort, found: &[Step], wanted: &[Step]) {
+    assert_same(rt, &found.len(), &wanted.len(), "how many steps");
+    for (step, other) in found.iter().zip(wanted) {
+        assert_that(rt, *step == *other, "a step");
+    }
+}
+
 #[test]
 fn frames_are_served_at_once(rt: HostRuntime) -> Result<(), Fail> {
     let alloc = rt.alloc();
     let given = given(alloc)?;
     let taken = run_alone(&rt, alloc, domains()?, Mac::new([2, 0, 0, 0, 0, 1]), &given)?;
     let wanted = wanted(alloc)?;
-    let steps = taken.book.steps.as_slice();
-    for place in 0..wanted.len() {
-        let step = steps.get(place).ok_or("another step")?;
-        assert!(rt; *step == wanted[place]);
-    }
-    assert!(rt; steps.len() == wanted.len());
-    let Line::End {
-        pending,
-        waiting,
-        ..
-    } = taken.end
-    else {
-        return Err("end")?;
-    };
-    assert!(rt; pending == 0 && waiting == 0);
+    assert_steps(&rt, taken.book.steps.as_slice(), &wanted);
+    assert_that(&rt, is_done(&taken.end), "the end");
     Ok(())
 }

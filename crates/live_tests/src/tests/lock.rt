@@ -6,6 +6,7 @@ ghost use Rattle.plane_lock.specs.Posted.{updates_of};
 ghost use Rattle.plane_lock.specs.Posts.{IsSeen};
 ghost use Rattle.table_publish.specs.Board.{newcomer};
 
+use super::common::{assert_same, assert_that};
 use br_model::change::Kind;
 use br_model::domains::Domains;
 use br_model::numbers::{Dom, Mac, Port, Vid};
@@ -208,12 +209,16 @@ fn turn_by_the_queue<N: Name, R: Wait + Abort>(
 ) -> Result<(), Fail>
     requires { has_chip N.board.domains 1 ≡ true }
 {
-    assert!(rt; !wrote(&shared.turn(rt, alloc, Dom::CHIP)?));
-    assert!(rt; is_done(&acted(shared.accept(rt, alloc, &Event::Cmd(address(13)?)))?));
+    assert_that(rt, !wrote(&shared.turn(rt, alloc, Dom::CHIP)?), "no update");
+    assert_that(
+        rt,
+        is_done(&acted(shared.accept(rt, alloc, &Event::Cmd(address(13)?)))?),
+        "a command",
+    );
     for _ in 0..3 {
-        assert!(rt; is_done(&shared.turn(rt, alloc, Dom::CHIP)?));
+        assert_that(rt, is_done(&shared.turn(rt, alloc, Dom::CHIP)?), "a turn");
     }
-    assert!(rt; !wrote(&shared.turn(rt, alloc, Dom::CHIP)?));
+    assert_that(rt, !wrote(&shared.turn(rt, alloc, Dom::CHIP)?), "no update");
     Ok(())
 }
 
@@ -231,9 +236,9 @@ fn use_queue<N: Name, R: Wait + Abort>(rt: &R, alloc: Global, ran: Ran) -> Resul
             let applied = ran.plane().applied(Dom::CHIP);
             let book = ran.book(rt);
             turned?;
-            assert_eq!(rt; applied, 3);
+            assert_same(rt, &applied, &3, "applied updates");
             // Four steps before the first address, three addresses, a publication and three turns.
-            assert_eq!(rt; book.steps.len(), 11);
+            assert_same(rt, &book.steps.len(), &11, "the steps");
             Ok(())
         }
         Err(error) => {
@@ -261,10 +266,10 @@ fn turn_by_own_queue<N: Name, R: Wait + Abort>(
     requires { chip_domains N.board.domains ≡ 1 ∷ 2 ∷ [] }
 {
     let second = second_chip()?;
-    assert!(rt; !wrote(&shared.turn(rt, alloc, Dom::CHIP)?));
-    assert!(rt; is_done(&shared.turn(rt, alloc, second)?));
-    assert!(rt; is_done(&shared.turn(rt, alloc, second)?));
-    assert!(rt; !wrote(&shared.turn(rt, alloc, second)?));
+    assert_that(rt, !wrote(&shared.turn(rt, alloc, Dom::CHIP)?), "no update");
+    assert_that(rt, is_done(&shared.turn(rt, alloc, second)?), "a turn");
+    assert_that(rt, is_done(&shared.turn(rt, alloc, second)?), "a turn");
+    assert_that(rt, !wrote(&shared.turn(rt, alloc, second)?), "no update");
     Ok(())
 }
 
@@ -337,7 +342,7 @@ fn post_frame<N: Name, R: Wait + Abort>(
     let point = seen.point;
     match shared.post_as(rt, alloc, chair, held, seen) {
         Ok(lines) => {
-            assert!(rt; wrote(&lines));
+            assert_that(rt, wrote(&lines), "lines");
             Ok(point)
         }
         Err(_) => Err(Fail::new("not posted")),
@@ -353,9 +358,13 @@ fn decide_answer<N: Name>(chair: &mut Chair<N>) -> Result<Seen, Fail> {
 
 /// The answer to station 12 leaves port 3 alone, by more changes than so many.
 fn assert_taught<R: Abort>(rt: &R, seen: Seen, point: u32) -> Result<(), Fail> {
-    assert!(rt; seen.point > point);
-    assert_eq!(rt; seen.verdict.ports.first(), Some(3));
-    assert!(rt; seen.verdict.ports.without(3).is_empty());
+    assert_that(rt, seen.point > point, "what was taught");
+    assert_same(rt, &seen.verdict.ports.first(), &Some(3), "port 3");
+    assert_that(
+        rt,
+        seen.verdict.ports.without(3).is_empty(),
+        "no other port",
+    );
     Ok(())
 }
 
@@ -367,7 +376,8 @@ fn use_taught_address<N: Name, R: Wait + Abort>(
     chair: &mut Chair<N>,
 ) -> Result<(), Fail> {
     let entered = shared.enter(rt, alloc, port(3)?, FIRST_OF_TWELVE)?;
-    assert!(rt; entered.pass.is_none() && !wrote(&entered.lines));
+    assert_that(rt, entered.pass.is_none(), "no pass");
+    assert_that(rt, !wrote(&entered.lines), "no line");
     let point = post_frame(rt, alloc, shared, chair)?;
     let seen = decide_answer(chair)?;
     assert_taught(rt, seen, point)
@@ -381,7 +391,8 @@ fn use_frame<N: Name, R: Wait + Abort>(
     chair: &mut Chair<N>,
 ) -> Result<(), Fail> {
     let entered = shared.enter(rt, alloc, port(1)?, FRAME)?;
-    assert!(rt; entered.pass.is_some() && wrote(&entered.lines));
+    assert_that(rt, entered.pass.is_some(), "a pass");
+    assert_that(rt, wrote(&entered.lines), "lines");
     let _point = post_frame(rt, alloc, shared, chair)?;
     Ok(())
 }
@@ -397,11 +408,23 @@ fn use_each_call<N: Name, R: Wait + Abort>(
     requires { has_chip N.board.domains 1 ≡ true }
 {
     use_frame(rt, alloc, shared, chair)?;
-    assert!(rt; is_done(&acted(shared.report(rt, alloc, Dom::CHIP))?));
+    assert_that(
+        rt,
+        is_done(&acted(shared.report(rt, alloc, Dom::CHIP))?),
+        "a report",
+    );
     shared.turns(rt, alloc, Dom::CHIP, 2)?;
-    assert!(rt; is_done(&acted(shared.sweep(rt, alloc, Dom::CHIP))?));
-    assert!(rt; is_done(&acted(shared.sweep(rt, alloc, Dom::CHIP))?));
-    assert!(rt; is_done(&shared.publish(rt, alloc)?));
+    assert_that(
+        rt,
+        is_done(&acted(shared.sweep(rt, alloc, Dom::CHIP))?),
+        "a sweep",
+    );
+    assert_that(
+        rt,
+        is_done(&acted(shared.sweep(rt, alloc, Dom::CHIP))?),
+        "a sweep",
+    );
+    assert_that(rt, is_done(&shared.publish(rt, alloc)?), "a publication");
     use_taught_address(rt, alloc, shared, chair)
 }
 
@@ -426,7 +449,7 @@ fn use_locks<N: Name, R: Wait + Abort>(
             used?;
             // The first post and the first sweep change nothing, so of the calls the report, the second sweep and the second post alone
             // are followed by a publication.
-            assert_eq!(rt; book.steps.len(), 18);
+            assert_same(rt, &book.steps.len(), &18, "the steps");
             Ok(())
         }
         Err(error) => {

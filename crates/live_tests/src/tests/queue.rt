@@ -3,6 +3,7 @@ ghost use Rattle.std.specs.Prelude.{◌≡◌, ◌≤◌, [], length};
 ghost use Rattle.std.specs.Bool.{OnTrue};
 ghost use Rattle.deferred_queue.specs.Tally.{posts_in};
 
+use super::common::{assert_same, assert_that};
 use br_model::change::{Change, Update};
 use br_model::numbers::{Mac, Vid};
 use deferred_queue::{Poster, Taker, make};
@@ -111,11 +112,11 @@ fn what_is_taken_and_left_is_what_was_posted(rt: HostRuntime) -> Result<(), Fail
         || post_all(&rt, poster),
         || take_all(&rt, taker),
     );
-    assert!(rt; right);
+    assert_that(&rt, right, "each in its turn");
     for ticket in seen..MANY {
-        assert!(rt; takes(&rt, &mut taker, ticket));
+        assert_that(&rt, takes(&rt, &mut taker, ticket), "what is left");
     }
-    assert!(rt; !takes(&rt, &mut taker, MANY));
+    assert_that(&rt, !takes(&rt, &mut taker, MANY), "no more");
     Ok(())
 }
 
@@ -124,10 +125,10 @@ fn what_was_told_is_taken(rt: HostRuntime) -> Result<(), Fail> {
     let (mut poster, mut taker) = make(rt.alloc())?;
     poster.post(&rt, update(0));
     poster.post(&rt, update(1));
-    assert_eq!(rt; poster.posted(), 2);
+    assert_same(&rt, &poster.posted(), &2, "what was posted");
     poster.tell(&mut taker);
-    assert!(rt; takes_two(&rt, &mut taker));
+    assert_that(&rt, takes_two(&rt, &mut taker), "the first two");
     poster.post(&rt, update(2));
-    assert!(rt; takes_all(&rt, &mut poster, &mut taker));
+    assert_that(&rt, takes_all(&rt, &mut poster, &mut taker), "all of it");
     Ok(())
 }

@@ -4,6 +4,7 @@ ghost use Rattle.br_model.specs.Table.Limits.{all_fit};
 ghost use Rattle.br_model.specs.Table.Table.{start};
 ghost use Rattle.table_publish.specs.Board.{all_of};
 
+use super::common::{assert_same, assert_that};
 use br_model::change::{Change, FORWARDING, Flags};
 use br_model::domains::Domains;
 use br_model::frame::{Head, McastMsg};
@@ -59,9 +60,9 @@ fn assert_answer(
     let seen = seat
         .lookup(port(1)?, &head(), &McastMsg::Plain)
         .ok_or("no reading")?;
-    assert_eq!(rt; seen.point, point);
-    assert_eq!(rt; seen.verdict.ports.first(), first);
-    assert_eq!(rt; seat.misses(), 0);
+    assert_same(rt, &seen.point, &point, "the point");
+    assert_same(rt, &seen.verdict.ports.first(), &first, "the first port");
+    assert_same(rt, &seat.misses(), &0, "misses");
     Ok(())
 }
 
@@ -90,7 +91,7 @@ fn assert_published<R: Wait + Abort>(
     ensures { board.new.board ≡ board.old.board }
 {
     let published = board.publish(rt, alloc)?;
-    assert_eq!(rt; published, count);
+    assert_same(rt, &published, &count, "what is published");
     Ok(())
 }
 
@@ -250,10 +251,10 @@ fn a_seat_reads_beside_a_writer(rt: HostRuntime) -> Result<(), Fail> {
     let published = board.published();
     let point = point_of(&mut seat);
     board.end(&rt);
-    assert!(rt; all);
-    assert!(rt; readings >= READINGS, "{readings} readings");
-    assert!(rt; rises);
-    assert_eq!(rt; published, 100);
-    assert!(rt; point? >= published);
+    assert_that(&rt, all, "memory");
+    assert_that(&rt, readings >= READINGS, "readings");
+    assert_that(&rt, rises, "points that never fall");
+    assert_same(&rt, &published, &100, "what is published");
+    assert_that(&rt, point? >= published, "the last point");
     Ok(())
 }

@@ -1,8 +1,8 @@
 //! Workers that take turns at a task.
+use super::common::assert_same;
 use port_workers::{Gate, Open, Task, drive};
 use std::sync::atomic::{AtomicU64, Ordering};
 use std::sync::{Mutex, Wait};
-use std::test::Fail;
 
 /// Two workers that look for one another; others have nothing to do.
 #[derive(Drop)]
@@ -39,13 +39,12 @@ impl Task for Meet {
 }
 
 #[test]
-fn workers_see_one_another_at_work(rt: HostRuntime) -> Result<(), Fail> {
+fn workers_see_one_another_at_work(rt: HostRuntime) {
     for workers in [2, 16] {
         let task = Meet::make();
         drive(&rt, workers, &task);
-        assert_eq!(rt; task.met.load(Ordering::SeqCst), 2);
+        assert_same(&rt, &task.met.load(Ordering::SeqCst), &2, "how many met");
     }
-    Ok(())
 }
 
 const FRAMES: u32 = 1000;
@@ -86,7 +85,7 @@ impl Gate for Sum {
 }
 
 #[test]
-fn each_frame_is_held_once(rt: HostRuntime) -> Result<(), Fail> {
+fn each_frame_is_held_once(rt: HostRuntime) {
     for workers in [1, 3] {
         let gate = Sum {
             ids: AtomicU64::new(0),
@@ -100,7 +99,7 @@ fn each_frame_is_held_once(rt: HostRuntime) -> Result<(), Fail> {
                 next: Mutex::new(0),
             },
         );
-        assert_eq!(rt; gate.ids.load(Ordering::SeqCst), 499_500);
+        assert_same(&rt, &gate.ids.load(Ordering::SeqCst), &499_500, "the sum");
     }
     drive(
         &rt,
@@ -111,5 +110,4 @@ fn each_frame_is_held_once(rt: HostRuntime) -> Result<(), Fail> {
             next: Mutex::new(0),
         },
     );
-    Ok(())
 }

@@ -5,10 +5,10 @@ ghost use Rattle.br_model.specs.Table.Domains.{chip_domains};
 ghost use Rattle.br_model.specs.Text.LineForms.{comes_by_line};
 
 use super::alone::{frame, port};
+use super::common::{assert_same, assert_that, is_done};
 use br_model::domains::Domains;
 use br_model::numbers::{Dom, Mac};
 use br_model::steps::{Command, Step};
-use br_model::transcript::Line;
 use live_workers::take_steps;
 use port_workers::{Gate, Open};
 use std::alloc::Global;
@@ -117,15 +117,10 @@ fn two_workers_meet_at_the_gate(rt: HostRuntime) -> Result<(), Fail> {
     let domains = software()?;
     let taken = take_steps(&rt, alloc, &gate, 2, domains, Mac::FIRST_OWN, &given)?;
     let steps = taken.book.steps.as_slice();
-    assert_eq!(rt; gate.met.load(Ordering::SeqCst), 2);
-    assert_eq!(rt; held_first(steps), 2);
-    assert!(rt; counts(steps) == [2, 2, 2, 0]);
+    assert_same(&rt, &gate.met.load(Ordering::SeqCst), &2, "how many met");
+    assert_same(&rt, &held_first(steps), &2, "how many were held first");
+    assert_same(&rt, &counts(steps), &[2, 2, 2, 0], "how many steps");
     Ok(())
-}
-
-/// Whether nothing waits or is pending at the end.
-fn is_done(end: &Line) -> bool {
-    matches!(end, Line::End { pending, waiting, .. } if *pending == 0 && *waiting == 0)
 }
 
 /// Whether so many workers post all of these frames.
@@ -148,9 +143,9 @@ fn post_all<R: Threads + Wait + Sync>(
 fn workers_leave_no_frame(rt: HostRuntime) -> Result<(), Fail> {
     let alloc = rt.alloc();
     let given = given(alloc, 20)?;
-    assert!(rt; post_all(&rt, alloc, 1, &given)?);
-    assert!(rt; post_all(&rt, alloc, 2, &given)?);
-    assert!(rt; post_all(&rt, alloc, 16, &given)?);
+    assert_that(&rt, post_all(&rt, alloc, 1, &given)?, "one worker");
+    assert_that(&rt, post_all(&rt, alloc, 2, &given)?, "two workers");
+    assert_that(&rt, post_all(&rt, alloc, 16, &given)?, "sixteen workers");
     Ok(())
 }
 
@@ -161,8 +156,10 @@ fn workers_serve_the_chip(rt: HostRuntime) -> Result<(), Fail> {
     let given = given(alloc, 3)?;
     let domains = with_chip()?;
     let taken = take_steps(&rt, alloc, &Open, 2, domains, Mac::FIRST_OWN, &given)?;
+    let held = counts(taken.book.steps.as_slice())[1];
+    assert_that(&rt, held > 0, "a frame was held");
     let counts = counts(taken.book.steps.as_slice());
-    assert!(rt; counts[0] == 6 && counts[1] == counts[2] && counts[1] > 0 && counts[3] == 0);
-    assert!(rt; is_done(&taken.end));
+    assert_same(&rt, &counts, &[6, held, held, 0], "how many steps");
+    assert_that(&rt, is_done(&taken.end), "the end");
     Ok(())
 }

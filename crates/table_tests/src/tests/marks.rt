@@ -1,21 +1,20 @@
 //! What software sends to of a marked frame, by hand.
+use super::common::{assert_same, dom, port};
 use br_model::domains::Domains;
-use br_model::numbers::{Dom, Port};
+use br_model::numbers::Dom;
 use hwdom_marks::{Mark, remaining};
 use port_sets::Ports;
-use std::test::Fail;
+use std::process::Abort;
 
 /// The host and port 3 are software's, ports 1 and 2 are on one chip, ports 5 and 254 on another, and port 4 isn't declared.
-fn declared() -> Result<Domains, Fail> {
+fn declared(rt: &impl Abort) -> Domains {
     let mut domains = Domains::make();
-    for (number, domain) in [(1, 1), (2, 1), (3, 0), (5, 4), (Port::LAST, 4)] {
-        let port = Port::new(number).ok_or("port")?;
-        let dom = Dom::new(domain).ok_or("domain")?;
-        if !port.is_host() {
-            domains.set(port, dom);
-        }
-    }
-    Ok(domains)
+    domains.set(port(rt, 1), dom(rt, 1));
+    domains.set(port(rt, 2), dom(rt, 1));
+    domains.set(port(rt, 3), Dom::SOFTWARE);
+    domains.set(port(rt, 5), dom(rt, 4));
+    domains.set(port(rt, 254), dom(rt, 4));
+    domains
 }
 
 /// Bit n of the first word stands for port n, and bit n of the second for port 192 + n.
@@ -23,30 +22,42 @@ fn set(words: [u64; 2]) -> Ports {
     Ports::from_words([words[0], 0, 0, words[1]])
 }
 
-#[test]
-fn software_leaves_out_the_domain_of_the_mark(rt: HostRuntime) -> Result<(), Fail> {
-    let domains = declared()?;
-    let chip = Some(Mark {
-        dom: Dom::new(1).ok_or("domain")?,
-    });
-    let other = Some(Mark {
-        dom: Dom::new(4).ok_or("domain")?,
-    });
-    let software = Some(Mark { dom: Dom::SOFTWARE });
-    let last = 1 << 62;
-    let rows = [
-        ([0b11111, 0], None, [0b11111, 0]),
-        ([0b11111, 0], chip, [0b11001, 0]),
-        ([0b11111, 0], software, [0b10110, 0]),
-        ([0b00110, 0], chip, [0, 0]),
-        ([0b11000, 0], chip, [0b11000, 0]),
-        ([0b101100, last], chip, [0b101000, last]),
-        ([0b101100, last], other, [0b001100, 0]),
-        ([0b101100, last], software, [0b100100, last]),
-        ([0, 0], chip, [0, 0]),
-    ];
-    for (ports, mark, left) in rows {
-        assert_eq!(rt; remaining(set(ports), mark, &domains), set(left));
+/// The place of port 254 in the second word.
+const LAST: u64 = 1 << 62;
+
+/// Ports, the domain of the mark, and the ports that are left.
+type Row = ([u64; 2], Option<u8>, [u64; 2]);
+
+const ROWS: &[Row] = &[
+    ([0b11111, 0], None, [0b11111, 0]),
+    ([0b11111, 0], Some(1), [0b11001, 0]),
+    ([0b11111, 0], Some(0), [0b10110, 0]),
+    ([0b00110, 0], Some(1), [0, 0]),
+    ([0b11000, 0], Some(1), [0b11000, 0]),
+    ([0b101100, LAST], Some(1), [0b101000, LAST]),
+    ([0b101100, LAST], Some(4), [0b001100, 0]),
+    ([0b101100, LAST], Some(0), [0b100100, LAST]),
+    ([0, 0], Some(1), [0, 0]),
+];
+
+fn mark(rt: &impl Abort, number: Option<u8>) -> Option<Mark> {
+    match number {
+        Some(number) => Some(Mark {
+            dom: dom(rt, number),
+        }),
+        None => None,
     }
-    Ok(())
+}
+
+fn assert_row(rt: &impl Abort, domains: &Domains, (ports, number, left): Row) {
+    let found = remaining(set(ports), mark(rt, number), domains);
+    assert_same(rt, &found, &set(left), "the ports that are left");
+}
+
+#[test]
+fn software_leaves_out_the_domain_of_the_mark(rt: HostRuntime) {
+    let domains = declared(&rt);
+    for row in ROWS {
+        assert_row(&rt, &domains, *row);
+    }
 }

@@ -1,34 +1,17 @@
 //! Memberships by hand, and the same calls in the plain table of br_model.
+use super::common::{assert_ports, assert_same, assert_that, port, vid};
 use br_model::change::Change;
 use br_model::numbers::{Port, Vid};
 use br_model::plain::table::Table;
-use port_sets::Ports;
 use std::alloc::Global;
 use std::process::Abort;
-use std::test::Fail;
 use vlan_groups::VlanTable;
 use vlan_groups::joined::Joined;
 
-fn assert_ports(rt: &impl Abort, set: Ports, expected: &[u8]) {
-    let mut left = set.iter();
-    for number in expected {
-        assert_eq!(rt; left.next(), Some(*number));
-    }
-    assert_eq!(rt; left.next(), None);
-}
-
-fn port(number: u8) -> Result<Port, Fail> {
-    Ok(Port::new(number).ok_or("port")?)
-}
-
-fn vid(number: u16) -> Result<Vid, Fail> {
-    Ok(Vid::new(number).ok_or("vid")?)
-}
-
 fn assert_vids(rt: &impl Abort, vids: &[Vid], expected: &[u16]) {
-    assert_eq!(rt; vids.len(), expected.len());
+    assert_same(rt, &vids.len(), &expected.len(), "how many VLANs");
     for (vid, number) in vids.iter().zip(expected) {
-        assert_eq!(rt; vid.number(), *number);
+        assert_same(rt, &vid.number(), number, "a VLAN");
     }
 }
 
@@ -40,21 +23,17 @@ enum Act {
     Del(u8, u16, bool),
 }
 
-fn apply_act(rt: &impl Abort, table: &mut VlanTable, act: Act) -> Result<(), Fail> {
+fn apply_act(rt: &impl Abort, table: &mut VlanTable, act: Act) {
     match act {
         Act::Add(p, v, untagged, pvid, taken) => {
-            assert!(rt; table.add(port(p)?, vid(v)?, untagged, pvid).is_ok() == taken);
+            let added = table.add(port(rt, p), vid(rt, v), untagged, pvid);
+            assert_same(rt, &added.is_ok(), &taken, "an addition");
         }
-        Act::Del(p, v, taken) => assert!(rt; table.del(port(p)?, vid(v)?).is_ok() == taken),
+        Act::Del(p, v, taken) => {
+            let deleted = table.del(port(rt, p), vid(rt, v));
+            assert_same(rt, &deleted.is_ok(), &taken, "a deletion");
+        }
     }
-    Ok(())
-}
-
-fn play(rt: &impl Abort, table: &mut VlanTable, acts: &[Act]) -> Result<(), Fail> {
-    for act in acts {
-        apply_act(rt, table, *act)?;
-    }
-    Ok(())
 }
 
 /// What a table has.
@@ -72,54 +51,47 @@ enum Sight {
     Untagged(u8, u16, bool),
 }
 
-fn assert_sight(
-    rt: &impl Abort,
-    alloc: Global,
-    table: &VlanTable,
-    sight: Sight,
-) -> Result<(), Fail> {
+fn assert_pvid(rt: &impl Abort, table: &VlanTable, port: Port, wanted: Option<u16>) {
+    assert_same(rt, &table.pvid(port).map(Vid::number), &wanted, "the PVID");
+}
+
+fn assert_vids_of(rt: &impl Abort, alloc: Global, table: &VlanTable, port: Port, wanted: &[u16]) {
+    let listed = table.vids_of(alloc, port).expect(rt, "memory");
+    assert_vids(rt, listed.as_slice(), wanted);
+}
+
+fn assert_sight(rt: &impl Abort, alloc: Global, table: &VlanTable, sight: Sight) {
     match sight {
-        Sight::Ports(v, ports) => assert_ports(rt, table.ports_of(vid(v)?), ports),
-        Sight::UntaggedPorts(v, ports) => assert_ports(rt, table.untagged_of(vid(v)?), ports),
-        Sight::Pvid(p, pvid) => assert_eq!(rt; table.pvid(port(p)?).map(Vid::number), pvid),
-        Sight::Vids(p, vids) => {
-            let listed = table.vids_of(alloc, port(p)?)?;
-            assert_vids(rt, listed.as_slice(), vids);
-        }
-        Sight::Member(p, v) => assert!(rt; table.member(port(p)?, vid(v)?)),
+        Sight::Ports(v, ports) => assert_ports(rt, table.ports_of(vid(rt, v)), ports),
+        Sight::UntaggedPorts(v, ports) => assert_ports(rt, table.untagged_of(vid(rt, v)), ports),
+        Sight::Pvid(p, pvid) => assert_pvid(rt, table, port(rt, p), pvid),
+        Sight::Vids(p, vids) => assert_vids_of(rt, alloc, table, port(rt, p), vids),
+        Sight::Member(p, v) => assert_that(rt, table.member(port(rt, p), vid(rt, v)), "a member"),
         Sight::Untagged(p, v, untagged) => {
-            assert_eq!(rt; table.untagged(port(p)?, vid(v)?), untagged);
+            let found = table.untagged(port(rt, p), vid(rt, v));
+            assert_same(rt, &found, &untagged, "whether untagged");
         }
     }
-    Ok(())
 }
 
 /// What happens, and what the table has then.
 type Row = (&'static [Act], &'static [Sight]);
 
-fn assert_rows(
-    rt: &impl Abort,
-    alloc: Global,
-    table: &mut VlanTable,
-    rows: &[Row],
-) -> Result<(), Fail> {
-    for (acts, sights) in rows {
-        play(rt, table, acts)?;
-        assert_sights(rt, alloc, table, sights)?;
+fn assert_row(rt: &impl Abort, alloc: Global, table: &mut VlanTable, (acts, sights): Row) {
+    for act in acts {
+        apply_act(rt, table, *act);
     }
-    Ok(())
+    for sight in sights {
+        assert_sight(rt, alloc, table, *sight);
+    }
 }
 
-fn assert_sights(
-    rt: &impl Abort,
-    alloc: Global,
-    table: &VlanTable,
-    sights: &[Sight],
-) -> Result<(), Fail> {
-    for sight in sights {
-        assert_sight(rt, alloc, table, *sight)?;
+/// A run begins with a table where the host is in VLAN 1.
+fn assert_run(rt: &impl Abort, alloc: Global, rows: &[Row]) {
+    let mut table = VlanTable::make(alloc).expect(rt, "memory");
+    for row in rows {
+        assert_row(rt, alloc, &mut table, *row);
     }
-    Ok(())
 }
 
 /// Ports 1 and 254 are in VLANs 1 and 4094. The PVID of port 1 is 1, that of port 254 is 4094.
@@ -130,7 +102,6 @@ const TWO_PORTS: &[Act] = &[
     Act::Add(1, 4094, true, false, true),
 ];
 
-/// Each run begins with a table where the host is in VLAN 1.
 const RUNS: &[&[Row]] = &[
     &[(
         &[],
@@ -193,13 +164,10 @@ const RUNS: &[&[Row]] = &[
 ];
 
 #[test]
-fn memberships_by_hand(rt: HostRuntime) -> Result<(), Fail> {
-    let alloc = rt.alloc();
+fn memberships_by_hand(rt: HostRuntime) {
     for rows in RUNS {
-        let mut table = VlanTable::make(alloc)?;
-        assert_rows(&rt, alloc, &mut table, rows)?;
+        assert_run(&rt, rt.alloc(), rows);
     }
-    Ok(())
 }
 
 /// Ports that are switched on or off in VLANs.
@@ -218,20 +186,32 @@ const SWITCHED: &[(u8, u16, bool)] = &[
     (1, 64, false),
 ];
 
+fn assert_switched(rt: &impl Abort, joined: &Joined, (number, vlan, on): (u8, u16, bool)) {
+    let found = joined.has(port(rt, number), vid(rt, vlan));
+    assert_same(rt, &found, &on, "whether it is in the VLAN");
+}
+
+/// Port 254 is in VLAN 4094 alone, and port 1 in VLAN 63 alone.
+fn assert_blocks(rt: &impl Abort, alloc: Global, joined: &Joined) {
+    let (low, high) = (port(rt, 1), port(rt, 254));
+    assert_that(rt, joined.used(high).has(63), "the last block");
+    assert_that(rt, !joined.used(low).has(1), "no second block");
+    assert_that(rt, joined.block(high, 63).has(62), "in the last block");
+    assert_that(rt, joined.block(high, 0).is_empty(), "the first block");
+    let vids = joined.vids_of(alloc, low).expect(rt, "memory");
+    assert_vids(rt, vids.as_slice(), &[63]);
+}
+
 #[test]
-fn blocks_have_the_vlans_of_each_port(rt: HostRuntime) -> Result<(), Fail> {
-    let mut joined = Joined::make(rt.alloc())?;
+fn blocks_have_the_vlans_of_each_port(rt: HostRuntime) {
+    let mut joined = Joined::make(rt.alloc()).expect(&rt, "memory");
     for (number, vlan, on) in SWITCHES {
-        joined.switch(port(*number)?, vid(*vlan)?, *on);
+        joined.switch(port(&rt, *number), vid(&rt, *vlan), *on);
     }
-    for (number, vlan, on) in SWITCHED {
-        assert!(rt; joined.has(port(*number)?, vid(*vlan)?) == *on);
+    for row in SWITCHED {
+        assert_switched(&rt, &joined, *row);
     }
-    let (low, high) = (port(1)?, port(254)?);
-    assert!(rt; joined.used(high).has(63) && !joined.used(low).has(1));
-    assert!(rt; joined.block(high, 63).has(62) && joined.block(high, 0).is_empty());
-    assert_vids(&rt, joined.vids_of(rt.alloc(), low)?.as_slice(), &[63]);
-    Ok(())
+    assert_blocks(&rt, rt.alloc(), &joined);
 }
 
 /// A call on one of a few ports and VLANs.
@@ -262,25 +242,43 @@ fn takes(table: &mut VlanTable, call: &Change) -> bool {
     }
 }
 
+/// Both get the call, and the membership that it names is the same in both then.
+fn assert_agree(
+    rt: &impl Abort,
+    table: &mut VlanTable,
+    plain: &mut Table,
+    call: &Change,
+    (port, vid): (Port, Vid),
+) {
+    let is_deletion = matches!(call, Change::VlanDel { .. });
+    let expected = plain.is_member(port, vid) == is_deletion;
+    assert_same(rt, &takes(table, call), &expected, "the answer");
+    if expected {
+        plain.apply(call).expect(rt, "memory");
+    }
+    let member = plain.is_member(port, vid);
+    assert_same(rt, &table.member(port, vid), &member, "the membership");
+    let untagged = plain.is_untagged(port, vid);
+    assert_same(
+        rt,
+        &table.untagged(port, vid),
+        &untagged,
+        "whether untagged",
+    );
+}
+
 #[test]
-fn both_tables_agree(rt: HostRuntime) -> Result<(), Fail> {
-    let mut table = VlanTable::make(rt.alloc())?;
-    let mut plain = Table::start(rt.alloc())?;
+fn both_tables_agree(rt: HostRuntime) {
+    let mut table = VlanTable::make(rt.alloc()).expect(&rt, "memory");
+    let mut plain = Table::start(rt.alloc()).expect(&rt, "memory");
     let mut state = 1u64;
     for _ in 0..2_000 {
         state = state
             .wrapping_mul(6364136223846793005)
             .wrapping_add(1442695040888963407);
-        let port = port((state >> 33 & 7) as u8 * 36)?;
-        let vid = vid((state >> 40 & 7) as u16 + 1)?;
+        let port = port(&rt, (state >> 33 & 7) as u8 * 36);
+        let vid = vid(&rt, (state >> 40 & 7) as u16 + 1);
         let call = call_from(state, port, vid);
-        let expected = plain.is_member(port, vid) == (state >> 62 == 0);
-        assert_eq!(rt; takes(&mut table, &call), expected);
-        if expected {
-            plain.apply(&call)?;
-        }
-        assert_eq!(rt; table.member(port, vid), plain.is_member(port, vid));
-        assert_eq!(rt; table.untagged(port, vid), plain.is_untagged(port, vid));
+        assert_agree(&rt, &mut table, &mut plain, &call, (port, vid));
     }
-    Ok(())
 }

@@ -4,11 +4,11 @@ ghost use Rattle.std.specs.List.{fold};
 ghost use Rattle.br_model.specs.Table.Table.{start};
 ghost use Rattle.switchdev_notify.specs.Notices.{after_told, change_of};
 
+use super::common::{assert_that, port, station, vid};
 use br_model::change::{Change, Kind};
 use br_model::domains::Edition;
 use br_model::group::Group;
-use br_model::numbers::{Mac, Port, Vid};
-use std::test::Fail;
+use br_model::numbers::Port;
 use switchdev_notify::{Attribute, Notice, Object, SwitchOps, deliver, notice_of};
 
 /// A driver that keeps what it was told, as far as its room goes.
@@ -57,63 +57,42 @@ impl SwitchOps for Log {
     }
 }
 
-#[test]
-fn a_log_is_told_all_but_what_is_deferred(rt: HostRuntime) -> Result<(), Fail> {
-    let port = Port::new(3).ok_or("port")?;
-    let vid = Vid::new(7).ok_or("vid")?;
-    let mut log = Log {
-        notices: Vec::with_capacity(rt.alloc(), 2)?,
-    };
-    assert!(rt; log.has_room());
-    deliver(
-        &mut log,
-        &notice_of(&Change::VlanDel { port, vid }),
-        Edition::One,
-    );
-    deliver(
-        &mut log,
-        &notice_of(&Change::AddrPut {
-            vid,
-            mac: Mac::new([2, 0, 0, 0, 0, 10]),
-            port,
-            kind: Kind::Static,
-        }),
-        Edition::One,
-    );
-    let group = Group::v4(0xEF01_0203).ok_or("group")?;
-    deliver(
-        &mut log,
-        &notice_of(&Change::GroupJoin { port, vid, group }),
-        Edition::Two,
-    );
-    assert!(rt; log.has_room());
-    deliver(
-        &mut log,
-        &notice_of(&Change::SetState(port, 3)),
-        Edition::Two,
-    );
-    assert_eq!(rt; log.notices.len(), 2);
-    assert!(rt;
-        matches!(&log.notices[0], Notice::ObjDel(Object::Vlan { port: p, vid: v, .. }) if *p == port && *v == vid)
-    );
-    assert!(rt; matches!(&log.notices[1], Notice::Attr(Attribute::State(p, 3)) if *p == port));
-    Ok(())
+/// The deletion of VLAN 7 at the port, with which neither of its flags comes.
+fn is_deletion(notice: &Notice, at: Port) -> bool {
+    matches!(
+        notice,
+        Notice::ObjDel(Object::Vlan { port, vid, untagged: false, pvid: false })
+            if *port == at && vid.number() == 7
+    )
 }
 
+fn is_state(notice: &Notice, at: Port) -> bool {
+    matches!(notice, Notice::Attr(Attribute::State(port, 3)) if *port == at)
+}
+
+/// In edition 1 the entry is deferred, and in edition 2 the member, too.
 #[test]
-fn a_vlan_goes_without_its_flags(rt: HostRuntime) -> Result<(), Fail> {
-    let port = Port::new(3).ok_or("port")?;
-    let vid = Vid::new(7).ok_or("vid")?;
-    let notice = notice_of(&Change::VlanDel { port, vid });
-    assert!(rt;
-        matches!(
-            notice,
-            Notice::ObjDel(Object::Vlan {
-                untagged: false,
-                pvid: false,
-                ..
-            })
-        )
-    );
-    Ok(())
+fn a_log_is_told_all_but_what_is_deferred(rt: HostRuntime) {
+    let (port, vid) = (port(&rt, 3), vid(&rt, 7));
+    let notices = Vec::with_capacity(rt.alloc(), 2).expect(&rt, "memory");
+    let mut log = Log { notices };
+    assert!(rt; log.has_room());
+    let deletion = Change::VlanDel { port, vid };
+    deliver(&mut log, &notice_of(&deletion), Edition::One);
+    let entry = Change::AddrPut {
+        vid,
+        mac: station(10),
+        port,
+        kind: Kind::Static,
+    };
+    deliver(&mut log, &notice_of(&entry), Edition::One);
+    let group = Group::V4(0xEF01_0203);
+    let member = Change::GroupJoin { port, vid, group };
+    deliver(&mut log, &notice_of(&member), Edition::Two);
+    assert!(rt; log.has_room());
+    let state = Change::SetState(port, 3);
+    deliver(&mut log, &notice_of(&state), Edition::Two);
+    assert!(rt; log.notices.len() == 2);
+    assert_that(&rt, is_deletion(&log.notices[0], port), "the deletion");
+    assert_that(&rt, is_state(&log.notices[1], port), "the state");
 }

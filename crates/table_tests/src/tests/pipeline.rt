@@ -1,13 +1,14 @@
 //! Frames by hand.
 ghost use Rattle.std.specs.Prelude.{◌<◌, ◌≤◌, length, suc};
 
+use super::common::{assert_text, port, vid};
 use br_model::change::{FORWARDING, Flags, Kind};
 use br_model::frame::{Head, McastMsg, Tag};
 use br_model::numbers::{Mac, Port, Vid};
 use chip_pipeline::{Pass, pass};
 use chip_tables::{AddressRow, FanRow, Flood, PortRow, Tables, VlanRow};
 use port_sets::Ports;
-use std::alloc::{AllocError, Global};
+use std::alloc::Global;
 use std::process::Abort;
 
 // Stations: one that the chip learned at port 1, one behind port 3, and one that is static at port 2.
@@ -21,10 +22,6 @@ const STATIC: u64 = 0x0200_0000_000C;
 const NEW: u64 = 0x0200_0000_000D;
 
 const RESERVED: u64 = 0x0180_C200_000E;
-
-fn port(rt: &impl Abort, number: u8) -> Port {
-    Port::new(number).expect(rt, "a port")
-}
 
 fn mac(rt: &impl Abort, number: u64) -> Mac {
     Mac::from_number(number).expect(rt, "an address")
@@ -110,24 +107,28 @@ fn chip(rt: &impl Abort, alloc: Global) -> Tables {
     let mut tables = with_entries(rt, alloc);
     set_ports(rt, &mut tables);
     set_vlan(&mut tables, Vid::DEFAULT, 15, true);
-    set_vlan(&mut tables, Vid::new(2).expect(rt, "a VLAN"), 6, false);
+    set_vlan(&mut tables, vid(rt, 2), 6, false);
     tables
 }
 
 /// What the chip decides: the class, the ports, those without a tag marked, and whether it reports the source or hits its entry.
-fn told(alloc: Global, pass: &Pass) -> Result<String, AllocError> {
-    let mut text = format!(in alloc; "{:?}", pass.class())?;
+fn told(rt: &impl Abort, alloc: Global, pass: &Pass) -> String {
+    let mut text = format!(in alloc; "{:?}", pass.class()).expect(rt, "memory");
     for number in pass.ports().iter() {
-        let mark = if pass.untagged().has(number) { "u" } else { "" };
-        text.push_str(format!(in alloc; " {number}{mark}")?.as_str())?;
+        append_port(rt, &mut text, number, pass.untagged().has(number));
     }
     if pass.report().is_some() {
-        text.push_str(", reported")?;
+        text.push_str(", reported").expect(rt, "memory");
     }
     if pass.hit().is_some() {
-        text.push_str(", hit")?;
+        text.push_str(", hit").expect(rt, "memory");
     }
-    Ok(text)
+    text
+}
+
+fn append_port(rt: &impl Abort, text: &mut String, number: u8, is_untagged: bool) {
+    let mark = if is_untagged { "u" } else { "" };
+    write!(text, " {number}{mark}").expect(rt, "memory");
 }
 
 /// The port of a frame, its destination and source, its VLAN, and what the chip decides.
@@ -152,8 +153,8 @@ fn assert_row(rt: &impl Abort, alloc: Global, tables: &Tables, row: &Row) {
     let (number, dst, src, vid, expected) = *row;
     let head = head(rt, dst, src, vid);
     let pass = pass(tables, port(rt, number), &head, &McastMsg::Plain);
-    let told = told(alloc, &pass).expect(rt, "memory");
-    assert_eq!(rt; told.as_str(), expected);
+    let told = told(rt, alloc, &pass);
+    assert_text(rt, told.as_str(), expected, "what the chip decides");
 }
 
 fn assert_rows(rt: &impl Abort, alloc: Global, rows: &[Row]) {

@@ -1,17 +1,23 @@
 //! Sets of one word, of four and of five.
 ghost use Rattle.std.specs.Prelude.{◌≤◌};
 
+use super::common::assert_same;
 use port_sets::PortSet;
 use std::process::Abort;
 
 fn assert_members<const W: usize>(rt: &impl Abort, set: PortSet<W>, expected: &[u8]) {
     let mut left = set.iter();
     for n in expected {
-        assert_eq!(rt; left.next(), Some(*n));
+        assert_same(rt, &left.next(), &Some(*n), "a member");
     }
-    assert_eq!(rt; left.next(), None);
-    assert_eq!(rt; set.first(), expected.first().copied());
-    assert_eq!(rt; set.is_empty(), expected.is_empty());
+    assert_same(rt, &left.next(), &None, "no more members");
+    assert_same(rt, &set.first(), &expected.first().copied(), "the first");
+    assert_same(
+        rt,
+        &set.is_empty(),
+        &expected.is_empty(),
+        "whether it is empty",
+    );
 }
 
 /// What is the same for every number of words.
@@ -29,8 +35,9 @@ fn assert_low_sets<const W: usize>(rt: &impl Abort)
     assert_members(rt, left.minus(right), &[0]);
     assert_members(rt, left.without(0), &[5, 63]);
     assert_members(rt, left.without(6).without(255), &[0, 5, 63]);
-    assert_eq!(rt; left.without(0).with(0), left);
-    assert!(rt; left.has(63) && !left.has(62) && !left.has(64) && !left.has(255));
+    assert_same(rt, &left.without(0).with(0), &left, "put back");
+    let has = [left.has(63), left.has(62), left.has(64), left.has(255)];
+    assert_same(rt, &has, &[true, false, false, false], "63 alone");
 }
 
 #[test]
@@ -50,5 +57,6 @@ fn members_of_each_of_four_words(rt: HostRuntime) {
     assert_members(&rt, left.or(right), &[3, 64, 130, 131, 255]);
     assert_members(&rt, left.minus(right), &[3, 130]);
     assert_members(&rt, left.without(3).without(64), &[130, 255]);
-    assert!(rt; left.has(130) && !left.has(2) && !left.has(66) && !left.has(194));
+    let has = [left.has(130), left.has(2), left.has(66), left.has(194)];
+    assert_same(&rt, &has, &[true, false, false, false], "130 alone");
 }

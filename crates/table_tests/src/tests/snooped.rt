@@ -6,26 +6,17 @@ ghost use Rattle.br_model.specs.declared.change.Change.TheVariants.{GroupJoin, R
 ghost use Rattle.br_model.specs.Control.Ends.{keys};
 ghost use Rattle.mdb_snoop.specs.Database.{memberships};
 
+use super::common::{assert_ports, assert_same, assert_that, port, vid};
 use br_model::group::Group;
 use br_model::numbers::{Port, Vid};
 use mdb_snoop::Mdb;
-use port_sets::Ports;
 use std::alloc::Global;
 use std::process::Abort;
-use std::test::Fail;
 
 /// 239.1.2.3 and, as a group of version 6, the same number.
 const FOUR: Group = Group::V4(0xef01_0203);
 
 const SIX: Group = Group::V6(0xef01_0203);
-
-fn port(number: u8) -> Result<Port, Fail> {
-    Ok(Port::new(number).ok_or("port")?)
-}
-
-fn vid(number: u16) -> Result<Vid, Fail> {
-    Ok(Vid::new(number).ok_or("vid")?)
-}
 
 /// Joins where there is room.
 fn join(mdb: &mut Mdb, v: Vid, g: Group, p: Port, end: Option<u64>) -> bool {
@@ -66,23 +57,27 @@ fn querier(mdb: &mut Mdb, six: bool, on: bool)
     }
 }
 
+/// The port becomes a member of the group, and a router port.
+fn join_without_end(rt: &impl Abort, mdb: &mut Mdb, p: Port) {
+    let v = vid(rt, 10);
+    assert!(rt; mdb.has_room(v, FOUR));
+    group_join(mdb, v, FOUR, p);
+    router(mdb, p, true);
+}
+
 #[test]
-fn tables_without_ends(rt: HostRuntime) -> Result<(), Fail> {
+fn tables_without_ends(rt: HostRuntime) {
     let alloc = rt.alloc();
-    let mut mdb = Mdb::make(alloc)?;
-    let (one, two, v) = (port(1)?, port(2)?, vid(10)?);
-    for p in [one, two] {
-        assert!(rt; mdb.has_room(v, FOUR));
-        group_join(&mut mdb, v, FOUR, p);
-        router(&mut mdb, p, true);
-    }
+    let mut mdb = Mdb::make(alloc).expect(&rt, "memory");
+    join_without_end(&rt, &mut mdb, port(&rt, 1));
+    join_without_end(&rt, &mut mdb, port(&rt, 2));
     querier(&mut mdb, true, true);
-    router(&mut mdb, one, false);
-    assert_over(&rt, alloc, &mdb, u64::MAX - 1, &[])?;
-    assert_ports(&rt, mdb.members(v, FOUR), &[1, 2]);
+    router(&mut mdb, port(&rt, 1), false);
+    assert_over(&rt, alloc, &mdb, u64::MAX - 1, &[]);
+    assert_ports(&rt, mdb.members(vid(&rt, 10), FOUR), &[1, 2]);
     assert_ports(&rt, mdb.routers(), &[2]);
-    assert!(rt; mdb.querier(true) && !mdb.querier(false));
-    Ok(())
+    let queriers = [mdb.querier(false), mdb.querier(true)];
+    assert_same(&rt, &queriers, &[false, true], "that of version 6");
 }
 
 /// What happens to members of VLAN 10, to router ports and to queriers.
@@ -100,17 +95,20 @@ enum Act {
     Settle,
 }
 
-fn apply_act(rt: &impl Abort, mdb: &mut Mdb, act: Act) -> Result<(), Fail> {
-    let v = vid(10)?;
+fn apply_act(rt: &impl Abort, mdb: &mut Mdb, act: Act) {
+    let v = vid(rt, 10);
     match act {
-        Act::Join(g, p, end) => assert!(rt; join(mdb, v, g, port(p)?, end)),
-        Act::Leave(g, p, end) => mdb.leave_soon(v, g, port(p)?, end),
-        Act::Part(g, p, there) => assert_eq!(rt; mdb.part(v, g, port(p)?), there),
+        Act::Join(g, p, end) => assert!(rt; join(mdb, v, g, port(rt, p), end)),
+        Act::Leave(g, p, end) => mdb.leave_soon(v, g, port(rt, p), end),
+        Act::Part(g, p, there) => {
+            let parted = mdb.part(v, g, port(rt, p));
+            assert_same(rt, &parted, &there, "whether it was a member");
+        }
         Act::RouterSeen(p, end) => {
-            mdb.router_seen(port(p)?, end);
+            mdb.router_seen(port(rt, p), end);
         }
         Act::RouterGone(p) => {
-            mdb.router_gone(port(p)?);
+            mdb.router_gone(port(rt, p));
         }
         Act::QuerierSeen(six, end) => {
             mdb.querier_seen(six, end);
@@ -120,14 +118,6 @@ fn apply_act(rt: &impl Abort, mdb: &mut Mdb, act: Act) -> Result<(), Fail> {
         }
         Act::Settle => mdb.settle(),
     }
-    Ok(())
-}
-
-fn play(rt: &impl Abort, mdb: &mut Mdb, acts: &[Act]) -> Result<(), Fail> {
-    for act in acts {
-        apply_act(rt, mdb, *act)?;
-    }
-    Ok(())
 }
 
 /// What is seen of them then.
@@ -148,52 +138,43 @@ enum Sight {
 /// A VLAN, a group and a port.
 type Member = (u16, Group, u8);
 
+fn assert_member(rt: &impl Abort, member: &(Vid, Group, Port), wanted: &Member) {
+    let found = (member.0.number(), member.1, member.2.number());
+    assert_same(rt, &found, wanted, "a member");
+}
+
 fn assert_members(rt: &impl Abort, members: &[(Vid, Group, Port)], wanted: &[Member]) {
-    assert_eq!(rt; members.len(), wanted.len());
-    for ((v, g, p), (vid, group, port)) in members.iter().zip(wanted) {
-        assert!(rt; v.number() == *vid && *g == *group && p.number() == *port);
+    assert_same(rt, &members.len(), &wanted.len(), "how many members");
+    for (member, row) in members.iter().zip(wanted) {
+        assert_member(rt, member, row);
     }
 }
 
-fn assert_over(
-    rt: &impl Abort,
-    alloc: Global,
-    mdb: &Mdb,
-    now: u64,
-    wanted: &[Member],
-) -> Result<(), Fail> {
-    let ended = mdb.expire(alloc, now)?;
+fn assert_over(rt: &impl Abort, alloc: Global, mdb: &Mdb, now: u64, wanted: &[Member]) {
+    let ended = mdb.expire(alloc, now).expect(rt, "memory");
     assert_members(rt, ended.groups.as_slice(), wanted);
-    Ok(())
 }
 
-fn assert_ports(rt: &impl Abort, ports: Ports, wanted: &[u8]) {
-    let mut left = ports.iter();
-    for number in wanted {
-        assert_eq!(rt; left.next(), Some(*number));
-    }
-    assert_eq!(rt; left.next(), None);
+fn assert_routers_stay(rt: &impl Abort, alloc: Global, mdb: &Mdb, now: u64) {
+    let ended = mdb.expire(alloc, now).expect(rt, "memory");
+    assert_that(rt, ended.routers.is_empty(), "no router's time is over");
 }
 
-fn assert_sight(rt: &impl Abort, alloc: Global, mdb: &Mdb, sight: Sight) -> Result<(), Fail> {
-    let v = vid(10)?;
+fn assert_dynamic(rt: &impl Abort, mdb: &Mdb, g: Group, p: u8, ends: bool) {
+    let found = mdb.dynamic(vid(rt, 10), g, port(rt, p));
+    assert_same(rt, &found, &ends, "whether it has an end");
+}
+
+fn assert_sight(rt: &impl Abort, alloc: Global, mdb: &Mdb, sight: Sight) {
     match sight {
-        Sight::Dynamic(g, p, ends) => assert_eq!(rt; mdb.dynamic(v, g, port(p)?), ends),
-        Sight::Over(now, Some(p)) => assert_over(rt, alloc, mdb, now, &[(10, FOUR, p)])?,
-        Sight::Over(now, None) => assert_over(rt, alloc, mdb, now, &[])?,
-        Sight::RoutersStay(now) => assert!(rt; mdb.expire(alloc, now)?.routers.is_empty()),
-        Sight::MayEnd(now, may) => assert_eq!(rt; mdb.may_end(now), may, "at {now}"),
-        Sight::Alone(g, p) => assert_ports(rt, mdb.members(v, g), &[p]),
-        Sight::Pairs(count) => assert_eq!(rt; mdb.pairs(), count),
+        Sight::Dynamic(g, p, ends) => assert_dynamic(rt, mdb, g, p, ends),
+        Sight::Over(now, Some(p)) => assert_over(rt, alloc, mdb, now, &[(10, FOUR, p)]),
+        Sight::Over(now, None) => assert_over(rt, alloc, mdb, now, &[]),
+        Sight::RoutersStay(now) => assert_routers_stay(rt, alloc, mdb, now),
+        Sight::MayEnd(now, may) => assert_same(rt, &mdb.may_end(now), &may, "what may end"),
+        Sight::Alone(g, p) => assert_ports(rt, mdb.members(vid(rt, 10), g), &[p]),
+        Sight::Pairs(count) => assert_same(rt, &mdb.pairs(), &count, "how many pairs"),
     }
-    Ok(())
-}
-
-fn assert_sights(rt: &impl Abort, alloc: Global, mdb: &Mdb, sights: &[Sight]) -> Result<(), Fail> {
-    for sight in sights {
-        assert_sight(rt, alloc, mdb, *sight)?;
-    }
-    Ok(())
 }
 
 /// What happens, and what is seen then.
@@ -268,22 +249,27 @@ const FIRST_END: &[Row] = &[
 
 const RUNS: &[&[Row]] = &[ENDS, FIRST_END];
 
-fn assert_rows(rt: &impl Abort, alloc: Global, mdb: &mut Mdb, rows: &[Row]) -> Result<(), Fail> {
-    for (acts, sights) in rows {
-        play(rt, mdb, acts)?;
-        assert_sights(rt, alloc, mdb, sights)?;
+fn assert_row(rt: &impl Abort, alloc: Global, mdb: &mut Mdb, (acts, sights): Row) {
+    for act in acts {
+        apply_act(rt, mdb, *act);
     }
-    Ok(())
+    for sight in sights {
+        assert_sight(rt, alloc, mdb, *sight);
+    }
+}
+
+fn assert_run(rt: &impl Abort, alloc: Global, rows: &[Row]) {
+    let mut mdb = Mdb::make(alloc).expect(rt, "memory");
+    for row in rows {
+        assert_row(rt, alloc, &mut mdb, *row);
+    }
 }
 
 #[test]
-fn ends_of_memberships(rt: HostRuntime) -> Result<(), Fail> {
-    let alloc = rt.alloc();
+fn ends_of_memberships(rt: HostRuntime) {
     for rows in RUNS {
-        let mut mdb = Mdb::make(alloc)?;
-        assert_rows(&rt, alloc, &mut mdb, rows)?;
+        assert_run(&rt, rt.alloc(), rows);
     }
-    Ok(())
 }
 
 /// All of them join until 7.
@@ -307,70 +293,77 @@ const OF_PORTS: &[(u8, &[(u16, Group)])] = &[
     (0, &[(1, SIX)]),
 ];
 
+fn assert_pair(rt: &impl Abort, pair: &(Vid, Group), wanted: &(u16, Group)) {
+    assert_same(rt, &(pair.0.number(), pair.1), wanted, "a group");
+}
+
 /// The port's groups in VLANs.
-fn assert_of_port(
-    rt: &impl Abort,
-    alloc: Global,
-    mdb: &Mdb,
-    number: u8,
-    wanted: &[(u16, Group)],
-) -> Result<(), Fail> {
-    let listed = mdb.of_port(alloc, port(number)?)?;
+fn assert_of_port(rt: &impl Abort, alloc: Global, mdb: &Mdb, p: u8, wanted: &[(u16, Group)]) {
+    let listed = mdb.of_port(alloc, port(rt, p)).expect(rt, "memory");
     let pairs = listed.as_slice();
-    assert_eq!(rt; pairs.len(), wanted.len());
-    for ((v, g), (vid, group)) in pairs.iter().zip(wanted) {
-        assert!(rt; v.number() == *vid && *g == *group);
+    assert_same(rt, &pairs.len(), &wanted.len(), "how many groups");
+    for (pair, row) in pairs.iter().zip(wanted) {
+        assert_pair(rt, pair, row);
     }
-    Ok(())
+}
+
+fn assert_joined(rt: &impl Abort, mdb: &mut Mdb, (v, g, p): Member, end: u64) {
+    let joined = join(mdb, vid(rt, v), g, port(rt, p), Some(end));
+    assert_that(rt, joined, "there is room");
 }
 
 /// Version 4 comes before version 6, and a VLAN before its groups.
 #[test]
-fn lists_ascend(rt: HostRuntime) -> Result<(), Fail> {
+fn lists_ascend(rt: HostRuntime) {
     let alloc = rt.alloc();
-    let mut mdb = Mdb::make(alloc)?;
-    for (v, g, p) in JOINED {
-        assert!(rt; join(&mut mdb, vid(*v)?, *g, port(*p)?, Some(7)));
+    let mut mdb = Mdb::make(alloc).expect(&rt, "memory");
+    for member in JOINED {
+        assert_joined(&rt, &mut mdb, *member, 7);
     }
-    assert_over(&rt, alloc, &mdb, 7, ASCENDING)?;
+    assert_over(&rt, alloc, &mdb, 7, ASCENDING);
     for (number, wanted) in OF_PORTS {
-        assert_of_port(&rt, alloc, &mdb, *number, wanted)?;
+        assert_of_port(&rt, alloc, &mdb, *number, wanted);
     }
-    assert_eq!(rt; mdb.pairs(), 3);
-    assert_ports(&rt, mdb.members(vid(1)?, SIX), &[0, Port::LAST]);
-    assert!(rt; mdb.members(vid(4094)?, SIX).is_empty());
-    Ok(())
+    assert_same(&rt, &mdb.pairs(), &3, "how many pairs");
+    assert_ports(&rt, mdb.members(vid(&rt, 1), SIX), &[0, Port::LAST]);
+    assert_ports(&rt, mdb.members(vid(&rt, 4094), SIX), &[]);
 }
 
 const MANY: Group = Group::V4(0xefff_0000);
 
 /// As many groups as there may be, each with a member, and one of them with all ports but the host as members.
-fn join_many(rt: &impl Abort, mdb: &mut Mdb, v: Vid) -> Result<(), Fail> {
-    let last = port(Port::LAST)?;
+fn join_many(rt: &impl Abort, mdb: &mut Mdb) {
     for group in 0..1024 {
-        assert!(rt; join(mdb, v, Group::V4(0xefff_0000 - group), last, Some(9)));
+        assert_joined(rt, mdb, (1, Group::V4(0xefff_0000 - group), Port::LAST), 9);
     }
     for number in 1..Port::LAST {
-        assert!(rt; join(mdb, v, MANY, port(number)?, Some(9)));
+        assert_joined(rt, mdb, (1, MANY, number), 9);
     }
-    Ok(())
+}
+
+fn assert_pairs(rt: &impl Abort, mdb: &Mdb) {
+    assert_same(rt, &mdb.pairs(), &1024, "how many pairs");
 }
 
 /// There is room for 1,024 pairs, for each port in one of them, and for no more pairs.
 #[test]
-fn room_for_pairs(rt: HostRuntime) -> Result<(), Fail> {
-    let mut mdb = Mdb::make(rt.alloc())?;
-    let v = vid(1)?;
-    join_many(&rt, &mut mdb, v)?;
-    assert_eq!(rt; mdb.pairs(), 1024);
-    assert!(rt; !join(&mut mdb, v, FOUR, Port::HOST, Some(9)));
-    assert!(rt; join(&mut mdb, v, MANY, Port::HOST, None));
-    let ended = mdb.expire(rt.alloc(), 9)?;
-    assert_eq!(rt;
-        ended.groups.as_slice().len(),
-        1023 + usize::from(Port::LAST)
+fn room_for_pairs(rt: HostRuntime) {
+    let mut mdb = Mdb::make(rt.alloc()).expect(&rt, "memory");
+    let v = vid(&rt, 1);
+    join_many(&rt, &mut mdb);
+    assert_pairs(&rt, &mdb);
+    let another = join(&mut mdb, v, FOUR, Port::HOST, Some(9));
+    assert_that(&rt, !another, "no room for another pair");
+    let host = join(&mut mdb, v, MANY, Port::HOST, None);
+    assert_that(&rt, host, "room for another member");
+    let ended = mdb.expire(rt.alloc(), 9).expect(&rt, "memory");
+    let members = 1023 + usize::from(Port::LAST);
+    assert_same(
+        &rt,
+        &ended.groups.as_slice().len(),
+        &members,
+        "how many end",
     );
-    assert!(rt; mdb.part(v, MANY, Port::HOST));
-    assert_eq!(rt; mdb.pairs(), 1024);
-    Ok(())
+    assert_that(&rt, mdb.part(v, MANY, Port::HOST), "it was a member");
+    assert_pairs(&rt, &mdb);
 }

@@ -1,34 +1,19 @@
 //! Frames by hand.
 
 use self::To::{All, Reserved, Station};
+use super::common::{assert_ports, assert_same, dom, port, station};
 use br_model::change::{Change, FORWARDING, Flags, Kind};
 use br_model::domains::Domains;
 use br_model::frame::{Class, Head, McastMsg, Tag};
-use br_model::group::Group;
 use br_model::numbers::{Dom, Mac, Port, Vid};
 use forward_rules::SoftTables;
-use port_sets::Ports;
 use std::alloc::Global;
 use std::process::Abort;
-use std::test::Fail;
-
-fn port(number: u8) -> Result<Port, Fail> {
-    Ok(Port::new(number).ok_or("port")?)
-}
-
-fn vid(number: u16) -> Result<Vid, Fail> {
-    Ok(Vid::new(number).ok_or("vid")?)
-}
-
-/// A station's address.
-fn station(last: u8) -> Mac {
-    Mac::new([2, 0, 0, 0, 0, last])
-}
 
 /// Where a frame goes.
 #[derive(Clone, Copy)]
 enum To {
-    Station(u8),
+    Station(u16),
     Reserved(u8),
     All,
 }
@@ -60,16 +45,13 @@ fn tag(vid: u16) -> Tag {
 }
 
 /// Ports 1 and 2 on the chip, ports 3 and 4 in software.
-fn domains() -> Result<Domains, Fail> {
+fn domains(rt: &impl Abort) -> Domains {
     let mut domains = Domains::make();
-    let chip = Dom::new(1).ok_or("dom")?;
-    for (number, dom) in [(1, chip), (2, chip), (3, Dom::SOFTWARE), (4, Dom::SOFTWARE)] {
-        let port = port(number)?;
-        if !port.is_host() {
-            domains.set(port, dom);
-        }
-    }
-    Ok(domains)
+    domains.set(port(rt, 1), dom(rt, 1));
+    domains.set(port(rt, 2), dom(rt, 1));
+    domains.set(port(rt, 3), Dom::SOFTWARE);
+    domains.set(port(rt, 4), Dom::SOFTWARE);
+    domains
 }
 
 fn apply(rt: &impl Abort, table: &mut SoftTables, change: &Change) {
@@ -77,48 +59,47 @@ fn apply(rt: &impl Abort, table: &mut SoftTables, change: &Change) {
     table.apply(change);
 }
 
-fn assert_ports(rt: &impl Abort, set: Ports, expected: &[u8]) {
-    let mut left = set.iter();
-    for number in expected {
-        assert_eq!(rt; left.next(), Some(*number));
-    }
-    assert_eq!(rt; left.next(), None);
-}
-
 /// Stations, their ports, and the kinds of their entries.
-const ENTRIES: &[(u8, u8, Kind)] = &[
+const ENTRIES: &[(u16, u8, Kind)] = &[
     (0x0A, 2, Kind::Static),
     (0x0B, 3, Kind::Learned),
     (0x0C, 1, Kind::Extern),
     (0x0D, 0, Kind::Local),
 ];
 
-/// Ports 1 to 4 are up and forwarding, and members of VLAN 1, which is their PVID; port 3 gets its frames tagged. Address A is at
-/// port 2, B at port 3, C at port 1, and D is the host's.
-fn four_ports(rt: &impl Abort, alloc: Global) -> Result<SoftTables, Fail> {
-    let mut table = SoftTables::make(alloc)?;
+/// The port comes up, forwards, and is a member of VLAN 1, which is its PVID; port 3 gets its frames tagged.
+fn open(rt: &impl Abort, table: &mut SoftTables, port: Port) {
+    apply(rt, table, &Change::PortUp(port));
+    apply(rt, table, &Change::SetState(port, FORWARDING));
+    let vlan = Change::VlanAdd {
+        port,
+        vid: Vid::DEFAULT,
+        untagged: port.number() != 3,
+        pvid: true,
+    };
+    apply(rt, table, &vlan);
+}
+
+fn put(rt: &impl Abort, table: &mut SoftTables, last: u16, port: Port, kind: Kind) {
+    let entry = Change::AddrPut {
+        vid: Vid::DEFAULT,
+        mac: station(last),
+        port,
+        kind,
+    };
+    apply(rt, table, &entry);
+}
+
+/// Ports 1 to 4 are open. Address A is at port 2, B at port 3, C at port 1, and D is the host's.
+fn four_ports(rt: &impl Abort, alloc: Global) -> SoftTables {
+    let mut table = SoftTables::make(alloc).expect(rt, "memory");
     for number in 1..5 {
-        let port = port(number)?;
-        apply(rt, &mut table, &Change::PortUp(port));
-        apply(rt, &mut table, &Change::SetState(port, FORWARDING));
-        let vlan = Change::VlanAdd {
-            port,
-            vid: Vid::DEFAULT,
-            untagged: number != 3,
-            pvid: true,
-        };
-        apply(rt, &mut table, &vlan);
+        open(rt, &mut table, port(rt, number));
     }
     for (last, number, kind) in ENTRIES {
-        let entry = Change::AddrPut {
-            vid: Vid::DEFAULT,
-            mac: station(*last),
-            port: port(*number)?,
-            kind: *kind,
-        };
-        apply(rt, &mut table, &entry);
+        put(rt, &mut table, *last, port(rt, *number), *kind);
     }
-    Ok(table)
+    table
 }
 
 /// What is expected of a frame to the address that comes by the port, with this VID in its tag.
@@ -132,21 +113,21 @@ type Row = (
     &'static [u8],
 );
 
-fn assert_rows(rt: &impl Abort, table: &SoftTables, rows: &[Row]) -> Result<(), Fail> {
-    let domains = domains()?;
-    for (number, to, tagged, class, vid, ports, untagged) in rows {
-        let tag = match *tagged {
-            Some(vid) => Some(tag(vid)),
-            None => None,
-        };
-        let head = head(address(*to), station(0x0E), tag);
-        let verdict = table.decide(port(*number)?, &head, &McastMsg::Plain, &domains);
-        assert_eq!(rt; verdict.class, *class);
-        assert_eq!(rt; verdict.vid.map(Vid::number), *vid);
-        assert_ports(rt, verdict.ports, ports);
-        assert_ports(rt, verdict.untagged, untagged);
+fn assert_row(rt: &impl Abort, table: &SoftTables, domains: &Domains, row: &Row) {
+    let (number, to, tagged, class, vid, ports, untagged) = *row;
+    let head = head(address(to), station(0x0E), tagged.map(tag));
+    let verdict = table.decide(port(rt, number), &head, &McastMsg::Plain, domains);
+    assert_same(rt, &verdict.class, &class, "the class");
+    assert_same(rt, &verdict.vid.map(Vid::number), &vid, "the VLAN");
+    assert_ports(rt, verdict.ports, ports);
+    assert_ports(rt, verdict.untagged, untagged);
+}
+
+fn assert_rows(rt: &impl Abort, table: &SoftTables, rows: &[Row]) {
+    let domains = domains(rt);
+    for row in rows {
+        assert_row(rt, table, &domains, row);
     }
-    Ok(())
 }
 
 const ONE_VLAN: &[Row] = &[
@@ -197,9 +178,9 @@ const ONE_VLAN: &[Row] = &[
 ];
 
 #[test]
-fn frames_of_one_vlan(rt: HostRuntime) -> Result<(), Fail> {
-    let table = four_ports(&rt, rt.alloc())?;
-    assert_rows(&rt, &table, ONE_VLAN)
+fn frames_of_one_vlan(rt: HostRuntime) {
+    let table = four_ports(&rt, rt.alloc());
+    assert_rows(&rt, &table, ONE_VLAN);
 }
 
 const FLAGS_AND_STATES: &[Row] = &[
@@ -220,15 +201,19 @@ const FLAGS_AND_STATES: &[Row] = &[
     (4, Reserved(0), None, Class::Trap, None, &[], &[]),
 ];
 
+fn set_flags(rt: &impl Abort, table: &mut SoftTables, number: u8, flags: u8) {
+    let flags = Flags::new(flags).expect(rt, "flags");
+    apply(rt, table, &Change::SetFlags(port(rt, number), flags));
+}
+
+/// Ports 1 and 2 are isolated, no flood leaves port 3, and port 4 learns and doesn't forward.
 #[test]
-fn flags_and_states(rt: HostRuntime) -> Result<(), Fail> {
-    let mut table = four_ports(&rt, rt.alloc())?;
-    let isolated = Flags::new(31).ok_or("flags")?;
-    let silent = Flags::new(1).ok_or("flags")?;
-    apply(&rt, &mut table, &Change::SetFlags(port(1)?, isolated));
-    apply(&rt, &mut table, &Change::SetFlags(port(2)?, isolated));
-    apply(&rt, &mut table, &Change::SetFlags(port(3)?, silent));
-    apply(&rt, &mut table, &Change::SetState(port(4)?, 2));
+fn flags_and_states(rt: HostRuntime) {
+    let mut table = four_ports(&rt, rt.alloc());
+    set_flags(&rt, &mut table, 1, 31);
+    set_flags(&rt, &mut table, 2, 31);
+    set_flags(&rt, &mut table, 3, 1);
+    apply(&rt, &mut table, &Change::SetState(port(&rt, 4), 2));
     apply(&rt, &mut table, &Change::Stp(true));
-    assert_rows(&rt, &table, FLAGS_AND_STATES)
+    assert_rows(&rt, &table, FLAGS_AND_STATES);
 }

@@ -1,90 +1,128 @@
 //! Lines as rows over an arena of bytes.
+use super::common::{assert_bytes, assert_same, assert_that};
 use br_model::numbers::Port;
 use br_model::transcript::Line;
 use port_sets::Ports;
-use std::test::Fail;
+use std::alloc::Global;
+use std::process::Abort;
 use transcript_lines::{Lines, Row, Span};
 
-const FRONT: [u8; 3] = [1, 2, 3];
-
-const TAG: [u8; 2] = [9, 9];
-
-const REST: [u8; 2] = [4, 5];
-
-#[test]
-fn a_frame_is_one_row_over_the_arena(rt: HostRuntime) -> Result<(), Fail> {
-    let alloc = rt.alloc();
-    let mut lines = Lines::new(alloc);
-    lines.push(Line::Soft { id: 7, point: 3 })?;
-    lines.reserve(3, 64)?;
-    lines.push_ctl(Port::HOST, &[6, 6]);
+/// A frame that leaves by three ports, by port 5 without its tag, behind a frame of the bridge and before a plain line.
+fn lines(rt: &impl Abort, alloc: Global) -> Lines {
     let ports = Ports::empty().with(1).with(5).with(9);
-    lines.push_sent(7, ports, Ports::empty().with(5), &FRONT, &TAG, &REST);
+    let untagged = Ports::empty().with(5);
+    let mut lines = Lines::new(alloc);
+    lines
+        .push(Line::Soft { id: 7, point: 3 })
+        .expect(rt, "memory");
+    lines.reserve(3, 64).expect(rt, "memory");
+    lines.push_ctl(Port::HOST, &[6, 6]);
+    lines.push_sent(7, ports, untagged, &[1, 2, 3], &[9, 9], &[4, 5]);
     lines.push_reserved(Line::Done {
         step: 1,
         changes: 0,
     });
-    let (rows, arena) = lines.parts();
-    assert!(rt; rows.len() == 4);
-    match rows[1] {
+    lines
+}
+
+fn assert_ctl(rt: &impl Abort, row: &Row, arena: &[u8], wanted: &[u8]) {
+    match row {
         Row::Ctl { port, bytes } => {
-            assert!(rt; port == Port::HOST && bytes.of(arena) == [6, 6].as_slice());
+            assert_same(rt, port, &Port::HOST, "the port");
+            assert_bytes(rt, bytes.of(arena), wanted, "the bridge's frame");
         }
-        Row::One(_) | Row::Sent { .. } => assert!(rt; false),
+        Row::One(_) | Row::Sent { .. } => panic!(rt; "another row"),
     }
-    match rows[2] {
+}
+
+fn assert_sent(rt: &impl Abort, row: &Row, arena: &[u8]) {
+    match row {
         Row::Sent {
             id,
-            ports: by,
+            ports,
             untagged,
             plain,
             tagged,
         } => {
-            assert!(rt; id == 7 && by == ports && untagged.has(5));
-            assert!(rt; plain.of(arena) == [1, 2, 3, 4, 5].as_slice());
-            assert!(rt; tagged.of(arena) == [1, 2, 3, 9, 9, 4, 5].as_slice());
+            assert_same(rt, id, &7, "the frame's id");
+            let by = Ports::empty().with(1).with(5).with(9);
+            assert_same(rt, ports, &by, "the ports");
+            assert_that(rt, untagged.has(5), "port 5 without a tag");
+            assert_bytes(rt, plain.of(arena), &[1, 2, 3, 4, 5], "plain");
+            assert_bytes(rt, tagged.of(arena), &[1, 2, 3, 9, 9, 4, 5], "tagged");
         }
-        Row::One(_) | Row::Ctl { .. } => assert!(rt; false),
+        Row::One(_) | Row::Ctl { .. } => panic!(rt; "another row"),
     }
-    lines.mark();
-    lines.push(Line::Done {
-        step: 2,
-        changes: 0,
-    })?;
-    lines.cut();
-    assert!(rt; lines.parts().0.len() == 4);
-    lines.clear();
-    assert!(rt; lines.parts().0.is_empty() && lines.parts().1.is_empty());
-    Ok(())
 }
 
-/// The rows of the copy name the same bytes in an arena of their own.
+fn assert_rows(rt: &impl Abort, lines: &Lines, count: usize) {
+    assert_same(rt, &lines.parts().0.len(), &count, "how many rows");
+}
+
 #[test]
-fn a_copy_is_what_stands_behind_the_mark(rt: HostRuntime) -> Result<(), Fail> {
-    let alloc = rt.alloc();
+fn a_frame_is_one_row_over_the_arena(rt: HostRuntime) {
+    let lines = lines(&rt, rt.alloc());
+    let (rows, arena) = lines.parts();
+    assert!(rt; rows.len() == 4);
+    assert_ctl(&rt, &rows[1], arena, &[6, 6]);
+    assert_sent(&rt, &rows[2], arena);
+}
+
+#[test]
+fn lines_are_cut_at_the_mark(rt: HostRuntime) {
+    let mut lines = lines(&rt, rt.alloc());
+    lines.mark();
+    let done = Line::Done {
+        step: 2,
+        changes: 0,
+    };
+    lines.push(done).expect(&rt, "memory");
+    assert_rows(&rt, &lines, 5);
+    lines.cut();
+    assert_rows(&rt, &lines, 4);
+    lines.clear();
+    assert_rows(&rt, &lines, 0);
+    assert_bytes(&rt, lines.parts().1, &[], "the arena");
+}
+
+/// A row before the mark, and two behind it.
+fn marked(rt: &impl Abort, alloc: Global) -> Lines {
     let mut lines = Lines::new(alloc);
-    lines.reserve(3, 64)?;
+    lines.reserve(3, 64).expect(rt, "memory");
     lines.push_ctl(Port::HOST, &[6, 6]);
     lines.mark();
     lines.push_ctl(Port::HOST, &[7, 7, 7]);
     lines.push_reserved(Line::Soft { id: 7, point: 3 });
-    let copy = lines.copy_out(alloc);
-    let (rows, arena) = copy.parts();
-    assert!(rt; rows.len() == 2 && arena == [7, 7, 7].as_slice());
-    assert!(rt;
-        matches!(rows[0], Row::Ctl { bytes, .. } if bytes.of(arena) == [7, 7, 7].as_slice())
-    );
-    assert!(rt; matches!(rows[1], Row::One(Line::Soft { id: 7, point: 3 })));
-    assert!(rt; lines.parts().0.len() == 3);
-    assert!(rt; lines.copy_out(alloc).parts().0.is_empty());
-    Ok(())
+    lines
 }
+
+fn is_soft(row: &Row) -> bool {
+    matches!(row, Row::One(Line::Soft { id: 7, point: 3 }))
+}
+
+/// The rows of the copy name the same bytes in an arena of their own.
+#[test]
+fn a_copy_is_what_stands_behind_the_mark(rt: HostRuntime) {
+    let mut lines = marked(&rt, rt.alloc());
+    let copy = lines.copy_out(rt.alloc());
+    let (rows, arena) = copy.parts();
+    assert!(rt; rows.len() == 2);
+    assert_bytes(&rt, arena, &[7, 7, 7], "the copy's arena");
+    assert_ctl(&rt, &rows[0], arena, &[7, 7, 7]);
+    assert_that(&rt, is_soft(&rows[1]), "the plain line");
+    assert_rows(&rt, &lines, 3);
+    assert_rows(&rt, &lines.copy_out(rt.alloc()), 0);
+}
+
+/// Where spans begin, their lengths, and what they hold of three bytes.
+const SPANS: &[(usize, usize, &[u8])] = &[(1, 1, &[2]), (2, 9, &[3]), (7, 1, &[])];
 
 #[test]
 fn a_span_ends_with_the_arena(rt: HostRuntime) {
     let arena = [1, 2, 3];
-    assert!(rt; Span { from: 1, len: 1 }.of(&arena) == [2].as_slice());
-    assert!(rt; Span { from: 2, len: 9 }.of(&arena) == [3].as_slice());
-    assert!(rt; Span { from: 7, len: 1 }.of(&arena).is_empty());
-    assert!(rt; Span::NONE.of(&arena).is_empty());
+    for (from, len, wanted) in SPANS {
+        let (from, len) = (*from, *len);
+        assert_bytes(&rt, Span { from, len }.of(&arena), wanted, "a span");
+    }
+    assert_bytes(&rt, Span::NONE.of(&arena), &[], "no span");
 }

@@ -1,12 +1,13 @@
 //! A book of two workers, and others that differ from it.
+use super::common::{assert_same, port};
 use br_model::bytes::Bytes;
-use br_model::numbers::{Dom, Port};
+use br_model::numbers::Dom;
 use br_model::steps::{Command, Step};
 use br_model::transcript::Line;
 use lists::Items;
 use live_book::{Remains, is_live};
 use std::alloc::Global;
-use std::test::Fail;
+use std::process::Abort;
 use transcript_lines::Lines;
 
 /// The numbers of the steps that end in a line `ok`, and how many changes each accepted.
@@ -23,17 +24,13 @@ const DONE: &[(u32, u32)] = &[
     (14, 0),
 ];
 
-fn port(number: u8) -> Result<Port, Fail> {
-    Ok(Port::new(number).ok_or("port")?)
-}
-
 /// A frame between the stations 10 and 11, which enters at the port.
-fn frame(alloc: Global, number: u8, to: u8, from: u8) -> Result<Step, Fail> {
+fn frame(rt: &impl Abort, alloc: Global, number: u8, to: u8, from: u8) -> Step {
     let bytes = [2, 0, 0, 0, 0, to, 2, 0, 0, 0, 0, from, 0x88, 0xB5, 1, 2];
-    Ok(Step::Rx {
-        port: port(number)?,
-        bytes: Bytes::copy_of(alloc, &bytes)?,
-    })
+    Step::Rx {
+        port: port(rt, number),
+        bytes: Bytes::copy_of(alloc, &bytes).expect(rt, "memory for a frame"),
+    }
 }
 
 /// A step, with its ports and ids as numbers.
@@ -49,34 +46,34 @@ enum Row {
     Publish,
 }
 
-fn step_of(alloc: Global, row: Row) -> Result<Step, Fail> {
+fn step_of(rt: &impl Abort, alloc: Global, row: Row) -> Step {
     match row {
-        Row::PortUp(number) => Ok(Step::Cmd(Command::PortUp(port(number)?))),
-        Row::Frame(number, to, from) => frame(alloc, number, to, from),
-        Row::Serve => Ok(Step::Serve),
-        Row::Hold => Ok(Step::Hold),
-        Row::Post(id, point) => Ok(Step::Post {
+        Row::PortUp(number) => Step::Cmd(Command::PortUp(port(rt, number))),
+        Row::Frame(number, to, from) => frame(rt, alloc, number, to, from),
+        Row::Serve => Step::Serve,
+        Row::Hold => Step::Hold,
+        Row::Post(id, point) => Step::Post {
             id,
             point: Some(point),
-        }),
-        Row::Turn => Ok(Step::Turn(Dom::CHIP)),
-        Row::Publish => Ok(Step::Publish),
+        },
+        Row::Turn => Step::Turn(Dom::CHIP),
+        Row::Publish => Step::Publish,
     }
 }
 
-fn steps_of(alloc: Global, parts: &[&[Row]]) -> Result<Vec<Step>, Fail> {
+fn push_step(rt: &impl Abort, alloc: Global, steps: &mut Vec<Step>, row: Row) {
+    let step = step_of(rt, alloc, row);
+    steps.push(step).expect(rt, "memory for steps");
+}
+
+fn steps_of(rt: &impl Abort, alloc: Global, parts: &[&[Row]]) -> Vec<Step> {
     let mut steps = Vec::new(alloc);
     for part in parts {
-        push_part(alloc, &mut steps, part)?;
+        for row in *part {
+            push_step(rt, alloc, &mut steps, *row);
+        }
     }
-    Ok(steps)
-}
-
-fn push_part(alloc: Global, steps: &mut Vec<Step>, part: &[Row]) -> Result<(), Fail> {
-    for row in part {
-        steps.push(step_of(alloc, *row)?)?;
-    }
-    Ok(())
+    steps
 }
 
 /// The steps before the first frame.
@@ -112,15 +109,17 @@ const TAKEN: &[&[Row]] = &[OPENING, FIRST_POST, &[Row::Publish], SECOND_POST];
 /// The first post isn't followed by a publication.
 const HELD: &[&[Row]] = &[OPENING, FIRST_POST, &[Row::Hold], SECOND_POST];
 
-fn lines(alloc: Global) -> Result<Lines, Fail> {
+fn push_done(rt: &impl Abort, lines: &mut Lines, step: u32, changes: u32) {
+    let line = Line::Done { step, changes };
+    lines.push(line).expect(rt, "memory for lines");
+}
+
+fn lines(rt: &impl Abort, alloc: Global) -> Lines {
     let mut lines = Lines::new(alloc);
     for (step, changes) in DONE {
-        lines.push(Line::Done {
-            step: *step,
-            changes: *changes,
-        })?;
+        push_done(rt, &mut lines, *step, *changes);
     }
-    Ok(lines)
+    lines
 }
 
 /// So many frames wait.
@@ -134,7 +133,14 @@ fn left(alloc: Global, waiting: usize) -> Remains {
 }
 
 /// The steps of the book, those of the scenario, how many frames wait at the end, and whether the book is live.
-const BOOKS: &[(&[&[Row]], &[&[Row]], usize, bool)] = &[
+type Book = (
+    &'static [&'static [Row]],
+    &'static [&'static [Row]],
+    usize,
+    bool,
+);
+
+const BOOKS: &[Book] = &[
     (TAKEN, GIVEN, 0, true),
     (TAKEN, GIVEN, 1, false),
     (TAKEN, FRAMELESS, 0, false),
@@ -142,15 +148,18 @@ const BOOKS: &[(&[&[Row]], &[&[Row]], usize, bool)] = &[
     (HELD, GIVEN, 0, false),
 ];
 
+fn assert_book(rt: &impl Abort, alloc: Global, (taken, given, waiting, live): Book) {
+    let taken = steps_of(rt, alloc, taken);
+    let given = steps_of(rt, alloc, given);
+    let lines = lines(rt, alloc);
+    let left = left(alloc, waiting);
+    let found = is_live(alloc, &taken, &lines, &given, &left).expect(rt, "memory");
+    assert_same(rt, &found, &live, "whether it is live");
+}
+
 #[test]
-fn a_book_of_two_workers_is_live(rt: HostRuntime) -> Result<(), Fail> {
-    let alloc = rt.alloc();
-    let lines = lines(alloc)?;
-    for (taken, given, waiting, live) in BOOKS {
-        let taken = steps_of(alloc, taken)?;
-        let given = steps_of(alloc, given)?;
-        let left = left(alloc, *waiting);
-        assert!(rt; is_live(alloc, &taken, &lines, &given, &left)? == *live);
+fn a_book_of_two_workers_is_live(rt: HostRuntime) {
+    for book in BOOKS {
+        assert_book(&rt, rt.alloc(), *book);
     }
-    Ok(())
 }

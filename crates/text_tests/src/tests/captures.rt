@@ -1,8 +1,8 @@
 //! Packets of captures, and faults in them.
+use super::common::{assert_bytes, assert_same, assert_that};
 use pcapng_read::{Blocks, CapFault, CapKind, Packet};
-use std::alloc::{AllocError, Global};
+use std::alloc::Global;
 use std::process::Abort;
-use std::test::Fail;
 
 /// Section headers of both byte orders: type, total length, magic, version 1.0, an unknown section length, total length.
 const SECTION: &[u8] =
@@ -97,48 +97,65 @@ struct Outcome {
     fault: Option<(u32, CapKind)>,
 }
 
-fn read(alloc: Global, bytes: &[u8], ports: u32) -> Result<Outcome, Fail> {
-    if bytes.len() > 1 << 24 {
-        return Err(Fail::new("too long"));
-    }
-    let mut packets = Vec::new(alloc);
-    let mut blocks = Blocks::of(alloc, bytes, ports);
-    for _ in 0..10 {
-        match blocks.next() {
-            Ok(Some(packet)) => packets.push(packet)?,
-            Ok(None) => {
-                return Ok(Outcome {
-                    packets,
-                    fault: None,
-                });
-            }
-            Err(CapFault::At { offset, kind }) => {
-                return Ok(Outcome {
-                    packets,
-                    fault: Some((offset, kind)),
-                });
-            }
-            Err(CapFault::NoMemory) => return Err(Fail::new("no memory")),
+/// Reads one more packet, or the fault. Whether there was a packet.
+fn read_one(rt: &impl Abort, blocks: &mut Blocks, outcome: &mut Outcome) -> bool {
+    match blocks.next() {
+        Ok(Some(packet)) => {
+            outcome
+                .packets
+                .push(packet)
+                .expect(rt, "memory for packets");
+            true
         }
+        Ok(None) => false,
+        Err(CapFault::At { offset, kind }) => {
+            outcome.fault = Some((offset, kind));
+            false
+        }
+        Err(CapFault::NoMemory) => panic!(rt; "no memory"),
     }
-    Err(Fail::new("it does not end"))
 }
 
-fn joined(alloc: Global, pieces: &[&[u8]]) -> Result<Vec<u8>, AllocError> {
+/// More packets than any of these captures has.
+const MORE: usize = 10;
+
+fn read(rt: &impl Abort, alloc: Global, bytes: &[u8], ports: u32) -> Outcome {
+    assert!(rt; bytes.len() <= 1 << 24);
+    let mut blocks = Blocks::of(alloc, bytes, ports);
+    let mut outcome = Outcome {
+        packets: Vec::new(alloc),
+        fault: None,
+    };
+    for _ in 0..MORE {
+        if !read_one(rt, &mut blocks, &mut outcome) {
+            break;
+        }
+    }
+    assert_that(rt, outcome.packets.len() < MORE, "the end");
+    outcome
+}
+
+fn joined(rt: &impl Abort, alloc: Global, pieces: &[&[u8]]) -> Vec<u8> {
     let mut bytes = Vec::new(alloc);
     for piece in pieces {
-        bytes.extend_from_slice(piece)?;
+        bytes
+            .extend_from_slice(piece)
+            .expect(rt, "memory for bytes");
     }
-    Ok(bytes)
+    bytes
+}
+
+/// What is read of these pieces, one behind another.
+fn read_pieces(rt: &impl Abort, alloc: Global, pieces: &[&[u8]], ports: u32) -> Outcome {
+    let bytes = joined(rt, alloc, pieces);
+    read(rt, alloc, &bytes, ports)
 }
 
 fn assert_packets(rt: &impl Abort, packets: &[Packet], expected: &[(u32, &[u8])], what: &str) {
-    assert_eq!(rt; packets.len(), expected.len(), "{what}");
+    assert_same(rt, &packets.len(), &expected.len(), what);
     for (packet, (interface, bytes)) in packets.iter().zip(expected) {
-        assert!(rt;
-            packet.interface == *interface && packet.bytes.as_slice() == *bytes,
-            "{what}"
-        );
+        assert_same(rt, &packet.interface, interface, what);
+        assert_bytes(rt, packet.bytes.as_slice(), bytes, what);
     }
 }
 
@@ -202,31 +219,36 @@ const CAPTURES: &[(&str, &[&[u8]], &[(u32, &[u8])])] = &[
 ];
 
 #[test]
-fn packets_of_captures(rt: HostRuntime) -> Result<(), Fail> {
-    let alloc = rt.alloc();
+fn packets_of_captures(rt: HostRuntime) {
     for (what, pieces, expected) in CAPTURES {
-        let bytes = joined(alloc, pieces)?;
-        let read = read(alloc, &bytes, 3)?;
-        assert_eq!(rt; read.fault, None, "{what}");
+        let read = read_pieces(&rt, rt.alloc(), pieces, 3);
+        assert_same(&rt, &read.fault, &None, what);
         assert_packets(&rt, &read.packets, expected, what);
     }
-    Ok(())
 }
 
 /// The worked capture with some bytes changed.
-fn changed(alloc: Global, changes: &[(usize, u8)]) -> Result<Vec<u8>, AllocError> {
-    let mut bytes = joined(alloc, &[SECTION, ETHERNET, PACKET])?;
+fn changed(rt: &impl Abort, alloc: Global, changes: &[(usize, u8)]) -> Vec<u8> {
+    let mut bytes = joined(rt, alloc, &[SECTION, ETHERNET, PACKET]);
     for (at, byte) in changes {
-        if let Some(place) = bytes.get_mut(*at) {
-            *place = *byte;
+        match bytes.get_mut(*at) {
+            Some(place) => *place = *byte,
+            None => panic!(rt; "no place in it"),
         }
     }
-    Ok(bytes)
+    bytes
 }
 
-/// Where the fault is, and which.
-fn assert_fault(rt: &impl Abort, outcome: &Outcome, fault: (u32, CapKind), what: &str) {
-    assert_eq!(rt; outcome.fault, Some(fault), "{what}");
+/// How many packets come, where the fault behind them is, and which.
+fn assert_fault(
+    rt: &impl Abort,
+    outcome: &Outcome,
+    packets: usize,
+    fault: (u32, CapKind),
+    what: &str,
+) {
+    assert_same(rt, &outcome.packets.len(), &packets, what);
+    assert_same(rt, &outcome.fault, &Some(fault), what);
 }
 
 const CHANGES: &[(&str, &[(usize, u8)], u32, CapKind)] = &[
@@ -282,15 +304,12 @@ const CHANGES: &[(&str, &[(usize, u8)], u32, CapKind)] = &[
 ];
 
 #[test]
-fn changed_bytes(rt: HostRuntime) -> Result<(), Fail> {
-    let alloc = rt.alloc();
+fn changed_bytes(rt: HostRuntime) {
     for (what, changes, offset, kind) in CHANGES {
-        let bytes = changed(alloc, changes)?;
-        let read = read(alloc, &bytes, 3)?;
-        assert_fault(&rt, &read, (*offset, *kind), what);
-        assert!(rt; read.packets.is_empty(), "{what}");
+        let bytes = changed(&rt, rt.alloc(), changes);
+        let read = read(&rt, rt.alloc(), &bytes, 3);
+        assert_fault(&rt, &read, 0, (*offset, *kind), what);
     }
-    Ok(())
 }
 
 /// Of two sections, for so many ports: how many packets come, and where the fault is.
@@ -354,13 +373,9 @@ const FAULTS: &[(&str, &[&[u8]], u32, usize, u32, CapKind)] = &[
 ];
 
 #[test]
-fn faults_behind_packets(rt: HostRuntime) -> Result<(), Fail> {
-    let alloc = rt.alloc();
+fn faults_behind_packets(rt: HostRuntime) {
     for (what, pieces, ports, packets, offset, kind) in FAULTS {
-        let bytes = joined(alloc, pieces)?;
-        let read = read(alloc, &bytes, *ports)?;
-        assert_fault(&rt, &read, (*offset, *kind), what);
-        assert_eq!(rt; read.packets.len(), *packets, "{what}");
+        let read = read_pieces(&rt, rt.alloc(), pieces, *ports);
+        assert_fault(&rt, &read, *packets, (*offset, *kind), what);
     }
-    Ok(())
 }

@@ -1,21 +1,23 @@
 //! A list of bytes, and one of lists.
+use super::common::{assert_bytes, assert_same, bytes_of};
 use lists::Items;
-use std::alloc::AllocError;
 
 #[test]
-fn lists_keep_what_they_are_given(rt: HostRuntime) -> Result<(), AllocError> {
+fn lists_keep_what_they_are_given(rt: HostRuntime) {
     let alloc = rt.alloc();
-    let mut bytes = Items::<u8>::copy_of(alloc, &[3, 1])?;
-    bytes.push(2)?;
-    assert!(rt; bytes.as_slice() == [3, 1, 2].as_slice() && bytes.len() == 3 && !bytes.is_empty());
+    let mut bytes = Items::<u8>::copy_of(alloc, &[3, 1]).expect(&rt, "memory");
+    bytes.push(2).expect(&rt, "memory");
+    assert_bytes(&rt, bytes.as_slice(), &[3, 1, 2], "bytes");
+    assert_same(&rt, &(bytes.len(), bytes.is_empty()), &(3, false), "bytes");
     let mut lists = Items::<Items<u8>>::new(alloc);
-    assert!(rt; lists.is_empty());
-    lists.push(Items::of(bytes.into_vec()))?;
-    lists.push(Items::of(vec![in alloc; 7u8]?))?;
-    assert!(rt;
-        lists.len() == 2
-            && lists.as_slice()[0].len() == 3
-            && lists.as_slice()[1].as_slice() == [7].as_slice()
-    );
-    Ok(())
+    assert_same(&rt, &(lists.len(), lists.is_empty()), &(0, true), "no list");
+    lists
+        .push(Items::of(bytes.into_vec()))
+        .expect(&rt, "memory");
+    lists
+        .push(Items::of(bytes_of(&rt, alloc, &[7])))
+        .expect(&rt, "memory");
+    assert!(rt; lists.len() == 2);
+    assert_bytes(&rt, lists.as_slice()[0].as_slice(), &[3, 1, 2], "the first");
+    assert_bytes(&rt, lists.as_slice()[1].as_slice(), &[7], "the second");
 }

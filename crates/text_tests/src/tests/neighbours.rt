@@ -1,18 +1,18 @@
 //! Neighbour messages: written, read and followed.
-ghost use Rattle.std.specs.Prelude.{◌≡◌, ℕ};
+ghost use Rattle.std.specs.Prelude.{◌≡◌, ◌≢◌, ℕ};
+ghost use Rattle.br_model.specs.Table.Domains.{host};
 ghost use Rattle.br_model.specs.declared.change.Change.TheVariants.{AddrPut};
 ghost use Rattle.br_model.specs.declared.change.Kind.TheVariants.{Extern};
 
+use super::common::{assert_bytes, assert_same, assert_text, assert_that, bytes_of, port};
 use br_model::change::{Change, Kind, Update};
 use br_model::domains::Domains;
-use br_model::limits::MOST_ADDRESSES;
 use br_model::numbers::{Dom, Mac, Port, Vid};
 use neigh_netlink::{
     LineFault, Neigh, Stream, Table, TakeFault, append_line, read, says_end, write,
 };
 use std::alloc::Global;
 use std::process::Abort;
-use std::test::Fail;
 
 // 02:00:00:00:00:0a at port 1 and 02:00:00:00:00:0b at port 2, static, in VLAN 1.
 const TEN: &[u8] =
@@ -38,16 +38,16 @@ fn mac(number: u16) -> Mac {
 }
 
 // A static entry at port 1 in VLAN 1.
-fn entry(number: u16, ticket: u32) -> Result<Neigh, Fail> {
-    Ok(Neigh {
+fn entry(rt: &impl Abort, number: u16, ticket: u32) -> Neigh {
+    Neigh {
         new: true,
         ticket,
         vid: Vid::DEFAULT,
         mac: mac(number),
-        port: Port::new(1).ok_or("port")?,
+        port: port(rt, 1),
         kind: Kind::Static,
         offload: false,
-    })
+    }
 }
 
 fn assert_taken(
@@ -56,31 +56,35 @@ fn assert_taken(
     entry: &Neigh,
     expected: Result<(), TakeFault>,
 ) {
-    assert_eq!(rt; table.take(entry), expected);
+    assert_same(rt, &table.take(entry), &expected, "whether it is taken");
+}
+
+fn message(rt: &impl Abort, bytes: &[u8]) -> Neigh {
+    read(bytes).expect(rt, "a message")
 }
 
 /// The table takes what the bytes say.
-fn take_message(rt: &impl Abort, table: &mut Table, bytes: &[u8]) -> Result<(), Fail> {
-    let message = read(bytes).ok_or("message")?;
-    assert_taken(rt, table, &message, Ok(()));
-    Ok(())
+fn take_message(rt: &impl Abort, table: &mut Table, bytes: &[u8]) {
+    assert_taken(rt, table, &message(rt, bytes), Ok(()));
 }
 
 /// The number of an address in VLAN 1, its port, its kind, and whether a chip has it.
 type Row = (u16, u8, Kind, bool);
 
-fn assert_list(rt: &impl Abort, alloc: Global, table: &Table, rows: &[Row]) -> Result<(), Fail> {
-    let listing = table.list(alloc)?;
-    let listed = listing.as_slice();
-    assert_eq!(rt; listed.len(), rows.len());
-    for ((vid, address, port, kind, offload), (number, at, of_kind, has)) in listed
-        .iter()
-        .zip(rows)
-    {
-        assert!(rt; *vid == Vid::DEFAULT && *address == mac(*number) && port.number() == *at);
-        assert!(rt; *kind == *of_kind && *offload == *has);
+fn assert_list(rt: &impl Abort, alloc: Global, table: &Table, rows: &[Row]) {
+    let listing = table.list(alloc).expect(rt, "memory");
+    assert_same(rt, &listing.len(), &rows.len(), "how many entries");
+    for ((vid, address, port, kind, offload), row) in listing.as_slice().iter().zip(rows) {
+        let (number, at, of_kind, has) = *row;
+        assert_same(
+            rt,
+            &(*vid, *address),
+            &(Vid::DEFAULT, mac(number)),
+            "the key",
+        );
+        let found = (port.number(), *kind, *offload);
+        assert_same(rt, &found, &(at, of_kind, has), "the entry");
     }
-    Ok(())
 }
 
 const MESSAGES: &[&[u8]] = &[ELEVEN, TEN];
@@ -88,39 +92,45 @@ const MESSAGES: &[&[u8]] = &[ELEVEN, TEN];
 const BOTH: &[Row] = &[(10, 1, Kind::Static, false), (11, 2, Kind::Static, false)];
 
 #[test]
-fn monitor_and_follow(rt: HostRuntime) -> Result<(), Fail> {
-    let ten = entry(10, 0)?;
-    let mut table = Table::make(rt.alloc())?;
+fn monitor_and_follow(rt: HostRuntime) {
+    let ten = entry(&rt, 10, 0);
     assert!(rt; ten.is_message());
-    assert_eq!(rt; write(rt.alloc(), &ten)?.as_slice(), TEN);
-    assert_eq!(rt; read(TEN), Some(ten));
+    let bytes = write(rt.alloc(), &ten).expect(&rt, "memory");
+    assert_bytes(&rt, bytes.as_slice(), TEN, "what is written");
+    assert_same(&rt, &read(TEN), &Some(ten), "what is read");
+    let mut table = Table::make(rt.alloc()).expect(&rt, "memory");
     for bytes in MESSAGES {
-        take_message(&rt, &mut table, bytes)?;
+        take_message(&rt, &mut table, bytes);
     }
-    assert_list(&rt, rt.alloc(), &table, BOTH)
+    assert_list(&rt, rt.alloc(), &table, BOTH);
 }
 
-/// The message of the first entry with this byte in place of its own.
-fn with_byte(alloc: Global, at: usize, byte: u8) -> Result<Vec<u8>, Fail> {
-    let mut bytes = Vec::from_slice(alloc, TEN)?;
-    if let Some(place) = bytes.get_mut(at) {
-        *place = byte;
+/// The message of the first entry with another byte at this place: its own but for these bits.
+fn with_bits(rt: &impl Abort, alloc: Global, at: usize, bits: u8) -> Vec<u8> {
+    let mut bytes = bytes_of(rt, alloc, TEN);
+    match bytes.get_mut(at) {
+        Some(place) => *place ^= bits,
+        None => panic!(rt; "no place in it"),
     }
-    Ok(bytes)
+    bytes
 }
 
+/// Its last byte isn't zero.
 #[test]
-fn follow_refuses(rt: HostRuntime) -> Result<(), Fail> {
-    let last = with_byte(rt.alloc(), 47, 1)?;
-    assert_eq!(rt; read(&last), None);
-    let gone = with_byte(rt.alloc(), 4, 0x1d)?;
-    let message = read(&gone).ok_or("message")?;
-    let mut table = Table::make(rt.alloc())?;
-    assert_taken(&rt, &mut table, &message, Err(TakeFault::Absent));
-    assert_taken(&rt, &mut table, &entry(10, 0)?, Ok(()));
-    assert_taken(&rt, &mut table, &message, Ok(()));
-    assert!(rt; table.list(rt.alloc())?.is_empty());
-    Ok(())
+fn follow_refuses(rt: HostRuntime) {
+    let last = with_bits(&rt, rt.alloc(), 47, 1);
+    assert_same(&rt, &read(&last), &None, "another last byte");
+}
+
+/// The message's type is that of a deletion.
+#[test]
+fn an_entry_goes(rt: HostRuntime) {
+    let deletion = message(&rt, &with_bits(&rt, rt.alloc(), 4, 1));
+    let mut table = Table::make(rt.alloc()).expect(&rt, "memory");
+    assert_taken(&rt, &mut table, &deletion, Err(TakeFault::Absent));
+    assert_taken(&rt, &mut table, &entry(&rt, 10, 0), Ok(()));
+    assert_taken(&rt, &mut table, &deletion, Ok(()));
+    assert_list(&rt, rt.alloc(), &table, &[]);
 }
 
 /// Messages, and the port, the kind and the offload of the one entry then.
@@ -131,44 +141,40 @@ const MOVES: &[(&[u8], u8, Kind, bool)] = &[
 ];
 
 #[test]
-fn an_entry_moves(rt: HostRuntime) -> Result<(), Fail> {
-    let mut table = Table::make(rt.alloc())?;
+fn an_entry_moves(rt: HostRuntime) {
+    let mut table = Table::make(rt.alloc()).expect(&rt, "memory");
     for (bytes, port, kind, offload) in MOVES {
-        take_message(&rt, &mut table, bytes)?;
-        assert_list(&rt, rt.alloc(), &table, &[(11, *port, *kind, *offload)])?;
+        take_message(&rt, &mut table, bytes);
+        assert_list(&rt, rt.alloc(), &table, &[(11, *port, *kind, *offload)]);
     }
-    Ok(())
 }
 
 /// Where a message may differ in its highest bit: the ticket below 2^20, the ifindex, the address but its group bit, and the VLAN.
 const FREE: &[usize] = &[8, 9, 20, 32, 33, 34, 35, 36, 37, 44];
 
 #[test]
-fn other_bytes_are_no_message(rt: HostRuntime) -> Result<(), Fail> {
+fn other_bytes_are_no_message(rt: HostRuntime) {
     for at in 0..48usize {
-        let mut other = Vec::from_slice(rt.alloc(), TEN)?;
-        if let Some(place) = other.get_mut(at) {
-            *place ^= 0x80;
-        }
-        assert_eq!(rt; read(&other).is_some(), FREE.contains(&at), "at {at}");
+        let other = with_bits(&rt, rt.alloc(), at, 0x80);
+        let is_message = read(&other).is_some();
+        assert_same(&rt, &(at, is_message), &(at, FREE.contains(&at)), "a place");
     }
-    assert_eq!(rt; read(&TEN[..47]), None);
-    assert_eq!(rt; read(&[]), None);
-    Ok(())
+    assert_same(&rt, &read(&TEN[..47]), &None, "one byte less");
+    assert_same(&rt, &read(&[]), &None, "no bytes");
 }
 
 /// There is room for 16,384 addresses, and one that is there may move.
 #[test]
-fn full_at_16384(rt: HostRuntime) -> Result<(), Fail> {
-    let mut table = Table::make(rt.alloc())?;
-    let count = MOST_ADDRESSES as u16;
-    for number in 0..count {
-        assert_taken(&rt, &mut table, &entry(number, 0)?, Ok(()));
+fn full_at_16384(rt: HostRuntime) {
+    let mut table = Table::make(rt.alloc()).expect(&rt, "memory");
+    for number in 0..16_384u16 {
+        assert_taken(&rt, &mut table, &entry(&rt, number, 0), Ok(()));
     }
-    assert_taken(&rt, &mut table, &entry(count, 0)?, Err(TakeFault::Full));
-    assert_taken(&rt, &mut table, &entry(0, 1)?, Ok(()));
-    assert_eq!(rt; table.list(rt.alloc())?.len(), MOST_ADDRESSES);
-    Ok(())
+    let full = Err(TakeFault::Full);
+    assert_taken(&rt, &mut table, &entry(&rt, 16_384, 0), full);
+    assert_taken(&rt, &mut table, &entry(&rt, 0, 1), Ok(()));
+    let listing = table.list(rt.alloc()).expect(&rt, "memory");
+    assert_same(&rt, &listing.len(), &16_384, "how many entries");
 }
 
 // 02:00:00:00:00:0b in VLAN 1: a chip has learned it at this port.
@@ -191,33 +197,42 @@ fn update(ticket: u32, port: Port) -> Option<Update> {
     })
 }
 
-fn assert_line(rt: &impl Abort, alloc: Global, message: &Neigh, line: &str) -> Result<(), Fail> {
+fn assert_line(rt: &impl Abort, alloc: Global, message: &Neigh, line: &str) {
     let mut text = String::new(alloc);
-    append_line(message, &mut text)?;
-    assert_eq!(rt; text.as_str(), line);
-    Ok(())
+    append_line(message, &mut text).expect(rt, "memory");
+    assert_text(rt, text.as_str(), line, "the line");
 }
 
 const OFFLOAD_LINE: &str =
     "nl 300000001c00000001000000000000000700000003000000020030000a00020002000000000b00000600050001000000\n";
 
+/// Port 2 is on the chip.
+fn domains(port: Port) -> Domains
+    requires { port ≢ host }
+{
+    let mut domains = Domains::make();
+    domains.set(port, Dom::CHIP);
+    domains
+}
+
 /// An entry is learned twice: the turn of the first change is no offload, and that of the second one is.
 #[test]
-fn superseded_update(rt: HostRuntime) -> Result<(), Fail> {
-    let two = Port::new(2).ok_or("port")?;
-    let mut domains = Domains::make();
-    domains.set(two, Dom::CHIP);
-    let mut stream = Stream::make(rt.alloc(), domains)?;
+fn superseded_update(rt: HostRuntime) {
+    let two = Port::new(2).expect(&rt, "a port");
+    let mut stream = Stream::make(rt.alloc(), domains(two)).expect(&rt, "memory");
     let history = [learned(two), learned(two)];
     let mut messages = Vec::new(rt.alloc());
-    stream.follow(&history, 0, &mut messages)?;
-    assert_eq!(rt; messages.len(), 2);
-    assert_eq!(rt; messages.first().copied(), read(LEARNED));
-    assert_eq!(rt; stream.turn(Dom::CHIP, update(0, two)), None);
-    let offload = stream.turn(Dom::CHIP, update(1, two)).ok_or("offload")?;
-    assert_line(&rt, rt.alloc(), &offload, OFFLOAD_LINE)?;
-    assert_eq!(rt; stream.turn(Dom::CHIP, None), None);
-    Ok(())
+    let followed = stream.follow(&history, 0, &mut messages);
+    followed.expect(&rt, "memory");
+    assert_same(&rt, &messages.len(), &2, "how many messages");
+    assert_same(&rt, &messages.first().copied(), &read(LEARNED), "the first");
+    let first = stream.turn(Dom::CHIP, update(0, two));
+    assert_same(&rt, &first, &None, "the first turn");
+    let offload = stream
+        .turn(Dom::CHIP, update(1, two))
+        .expect(&rt, "an offload");
+    assert_line(&rt, rt.alloc(), &offload, OFFLOAD_LINE);
+    assert_same(&rt, &stream.turn(Dom::CHIP, None), &None, "no update");
 }
 
 /// Lines, and what each of them is answered.
@@ -234,11 +249,12 @@ const LINES: &[(&[u8], Result<bool, LineFault>)] = &[
 ];
 
 #[test]
-fn lines_are_followed(rt: HostRuntime) -> Result<(), Fail> {
-    let mut table = Table::make(rt.alloc())?;
+fn lines_are_followed(rt: HostRuntime) {
+    let mut table = Table::make(rt.alloc()).expect(&rt, "memory");
     for (line, answer) in LINES {
-        assert!(rt; table.follow(line) == *answer);
+        assert_that(&rt, table.follow(line) == *answer, "a line");
     }
-    assert!(rt; says_end(b"end") && !says_end(b"end end"));
-    assert_list(&rt, rt.alloc(), &table, &[(11, 2, Kind::Extern, true)])
+    assert_same(&rt, &says_end(b"end"), &true, "the end");
+    assert_same(&rt, &says_end(b"end end"), &false, "another line");
+    assert_list(&rt, rt.alloc(), &table, &[(11, 2, Kind::Extern, true)]);
 }

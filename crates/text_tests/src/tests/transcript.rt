@@ -1,8 +1,9 @@
 //! Lines with their texts.
-use br_model::numbers::Port;
+use super::common::{assert_bytes, assert_that, port};
 use br_model::transcript::Line;
 use port_sets::Ports;
-use std::test::Fail;
+use std::alloc::Global;
+use std::process::Abort;
 use transcript_lines::Lines;
 use transcript_text::{Writer, read, write};
 
@@ -66,43 +67,55 @@ tx 7 254 02ab81000f
 ctl 5 0180
 ";
 
+fn assert_read_and_written(rt: &impl Abort, alloc: Global, text: &str) {
+    let found = read(alloc, text.as_bytes()).expect(rt, "memory");
+    let line = found.expect(rt, "a line");
+    let bytes = write(alloc, &line).expect(rt, "memory");
+    assert_bytes(rt, bytes.as_slice(), text.as_bytes(), text);
+}
+
 #[test]
-fn lines_as_they_were_read(rt: HostRuntime) -> Result<(), Fail> {
-    let alloc = rt.alloc();
+fn lines_as_they_were_read(rt: HostRuntime) {
     for text in LINES.split_inclusive('\n') {
-        let line = read(alloc, text.as_bytes())?.ok_or("no line")?;
-        let bytes = write(alloc, &line)?;
-        assert!(rt; bytes.as_slice() == text.as_bytes(), "{text}");
+        assert_read_and_written(&rt, rt.alloc(), text);
     }
-    Ok(())
 }
 
 #[test]
-fn texts_that_are_no_lines(rt: HostRuntime) -> Result<(), Fail> {
+fn texts_that_are_no_lines(rt: HostRuntime) {
     for text in NO_LINES {
-        assert!(rt; read(rt.alloc(), text.as_bytes())?.is_none(), "{text}");
+        let found = read(rt.alloc(), text.as_bytes()).expect(&rt, "memory");
+        assert_that(&rt, found.is_none(), text);
     }
-    Ok(())
 }
 
-#[test]
-fn lines_of_rows(rt: HostRuntime) -> Result<(), Fail> {
-    let alloc = rt.alloc();
+/// Those of a frame that is sent, and of a frame of the bridge.
+fn rows(rt: &impl Abort, alloc: Global) -> Lines {
     let none = Ports::empty();
+    let ports = none.with(1).with(2).with(200).with(254);
+    let port = port(rt, 5);
     let mut lines = Lines::new(alloc);
-    lines.push(Line::Soft { id: 7, point: 0 })?;
-    lines.reserve(2, 10)?;
+    lines
+        .push(Line::Soft { id: 7, point: 0 })
+        .expect(rt, "memory");
+    lines.reserve(2, 10).expect(rt, "memory");
     lines.push_sent(
         7,
-        none.with(1).with(2).with(200).with(254),
+        ports,
         none.with(2),
         &[0x02, 0xAB],
         &[0x81, 0x00],
         &[0x0F],
     );
-    lines.push_ctl(Port::new(5).ok_or("port")?, &[0x01, 0x80]);
-    let mut text = String::new(alloc);
-    Writer::new(alloc).append_lines(&lines, &mut text)?;
-    assert!(rt; text.as_str() == ROWS, "{text}");
-    Ok(())
+    lines.push_ctl(port, &[0x01, 0x80]);
+    lines
+}
+
+#[test]
+fn lines_of_rows(rt: HostRuntime) {
+    let mut text = String::new(rt.alloc());
+    let lines = rows(&rt, rt.alloc());
+    let written = Writer::new(rt.alloc()).append_lines(&lines, &mut text);
+    written.expect(&rt, "memory");
+    assert_bytes(&rt, text.as_bytes(), ROWS.as_bytes(), text.as_str());
 }

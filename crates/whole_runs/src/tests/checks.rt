@@ -1,12 +1,10 @@
 //! Transcripts behind their scenarios: what `check` says of them.
-use super::commands::{ran_line, source_of};
 use super::rows::FIRST_FRAME;
-use super::{comes_to, ran, read_row};
+use super::{assert_same, comes_to, joined, ran, ran_failing, ran_line, read_row, source_of};
 use capture_runner::Status;
 use std::alloc::Global;
 use std::process::Abort;
 use std::sync::Wait;
-use std::test::Fail;
 use std::thread::Threads;
 
 /// Checks this input, where the reads of these numbers fail. It writes just this.
@@ -16,10 +14,9 @@ fn checked(
     input: &[u8],
     read_fails: &[u32],
     (status, wrote): (Status, &str),
-) -> Result<(), Fail> {
-    let outcome = ran(rt, alloc, &["check"], input, read_fails, &[])?;
+) {
+    let outcome = ran_failing(rt, alloc, "check", input, (read_fails, &[]));
     comes_to(rt, &outcome, wrote, (status, wrote));
-    Ok(())
 }
 
 const NO_AND_YES: &[(&str, Status, &str)] = &[
@@ -48,19 +45,27 @@ const NO_AND_YES: &[(&str, Status, &str)] = &[
     ),
 ];
 
+fn transcript_is_checked(
+    rt: &(impl Abort + Threads + Wait + Sync),
+    alloc: Global,
+    transcript: &str,
+    answer: (Status, &str),
+) {
+    let input = joined(rt, alloc, &[b"scenario 1\nend\n", transcript.as_bytes()]);
+    checked(rt, alloc, &input, &[], answer);
+}
+
 /// A line feed more or less, a line too few, one too many, and bytes behind the transcript.
 #[test]
-fn check_no_and_yes(rt: HostRuntime) -> Result<(), Fail> {
+fn check_no_and_yes(rt: HostRuntime) {
     for (transcript, status, wrote) in NO_AND_YES {
-        let input = format!(in rt.alloc(); "scenario 1\nend\n{transcript}")?;
-        checked(&rt, rt.alloc(), input.as_bytes(), &[], (*status, wrote))?;
+        transcript_is_checked(&rt, rt.alloc(), transcript, (*status, wrote));
     }
-    Ok(())
 }
 
 /// A line of a chip's share, again in place of the software's.
 #[test]
-fn first_difference(rt: HostRuntime) -> Result<(), Fail> {
+fn first_difference(rt: HostRuntime) {
     let input = b"scenario 1
 port 1 c1 chip 1
 port 2 c2 chip 1
@@ -91,12 +96,12 @@ end 7 10 1 0
 expected tx 1 3 02000000000b02000000000a88b50102
 found tx 1 2 02000000000b02000000000a88b50102
 ";
-    checked(&rt, rt.alloc(), input, &[], (Status::No, wrote))
+    checked(&rt, rt.alloc(), input, &[], (Status::No, wrote));
 }
 
 /// Posts that name a point: two are refused.
 #[test]
-fn points_and_refusals_in_check(rt: HostRuntime) -> Result<(), Fail> {
+fn points_and_refusals_in_check(rt: HostRuntime) {
     let input = b"scenario 1
 port 1 p1 soft
 port 2 p2 soft
@@ -125,7 +130,7 @@ tx 1 3 02000000000b02000000000a88b50102
 ok 9 1
 end 9 10 1 0
 ";
-    checked(&rt, rt.alloc(), input, &[], (Status::Ok, "yes\n"))
+    checked(&rt, rt.alloc(), input, &[], (Status::Ok, "yes\n"));
 }
 
 const DIFFERS: &[u8] = b"scenario 1\nend\ntranscript 2\n";
@@ -146,26 +151,27 @@ const BAD_AND_FAULTS: &[(&[u8], &[u32], (Status, &str))] = &[
 
 /// A bad line comes before a fault of reading, and this before a difference; a scenario that only lacks its end may go on.
 #[test]
-fn bad_lines_and_faults_in_check(rt: HostRuntime) -> Result<(), Fail> {
+fn bad_lines_and_faults_in_check(rt: HostRuntime) {
     for (input, read_fails, answer) in BAD_AND_FAULTS {
-        checked(&rt, rt.alloc(), input, read_fails, *answer)?;
+        checked(&rt, rt.alloc(), input, read_fails, *answer);
     }
-    Ok(())
 }
 
-/// What a run writes is what is told, of generated frames too.
+/// What a replay of the scenario writes is what is told of it.
+fn replay_is_told(rt: &(impl Abort + Threads + Wait + Sync), alloc: Global, scenario: &[u8]) {
+    let transcript = ran(rt, alloc, "replay", scenario).wrote;
+    let input = joined(rt, alloc, &[scenario, transcript.as_slice()]);
+    checked(rt, alloc, &input, &[], (Status::Ok, "yes\n"));
+}
+
+/// Of generated frames too.
 #[test]
-fn what_replay_writes_is_told(rt: HostRuntime) -> Result<(), Fail> {
+fn what_replay_writes_is_told(rt: HostRuntime) {
     let alloc = rt.alloc();
-    let generated = ran(&rt, alloc, &["gen", "7", "2000"], b"", &[], &[])?.wrote;
-    let worked = read_row(alloc, FIRST_FRAME)?.input;
-    for scenario in [generated.as_slice(), worked.as_bytes()] {
-        let transcript = ran(&rt, alloc, &["replay"], scenario, &[], &[])?.wrote;
-        let mut input = Vec::from_slice(alloc, scenario)?;
-        input.extend_from_slice(&transcript)?;
-        checked(&rt, alloc, &input, &[], (Status::Ok, "yes\n"))?;
-    }
-    Ok(())
+    let generated = ran(&rt, alloc, "gen 7 2000", b"").wrote;
+    replay_is_told(&rt, alloc, generated.as_slice());
+    let worked = read_row(&rt, alloc, FIRST_FRAME).input;
+    replay_is_told(&rt, alloc, worked.as_bytes());
 }
 
 /// The answer can't be written, or not all of it.
@@ -175,6 +181,6 @@ fn writes_of_check_that_fail(rt: HostRuntime) {
     for room in [0, 3] {
         let mut source = source_of(&rt, rt.alloc(), input, &[]);
         let outcome = ran_line(&rt, rt.alloc(), "check", &mut source, room);
-        assert_eq!(rt; outcome.status, Status::WriteFault);
+        assert_same(&rt, &outcome.status, &Status::WriteFault, "check");
     }
 }

@@ -1,10 +1,9 @@
 //! Worked runs of both editions, and of several chips: run alone, and by workers.
-use super::live::count_lines;
-use super::rows::row_is_told;
-use super::{ran, read_row};
-use capture_runner::Status;
-use std::str;
-use std::test::Fail;
+use super::live::live_is_checked;
+use super::rows::runs_are_told;
+use super::{assert_same, assert_that, count_lines, last_line, read_row, text_of};
+use std::alloc::Global;
+use std::process::Abort;
 
 /// An empty line stands between two runs.
 const RUNS: &str = "# In edition 1 the member of a group reaches the chip at once,
@@ -104,31 +103,28 @@ turn 1 => ok 12 0
 end => end 12 8 2 1";
 
 #[test]
-fn runs_of_editions_and_chips(rt: HostRuntime) -> Result<(), Fail> {
-    for text in RUNS.split("\n\n") {
-        row_is_told(&rt, rt.alloc(), text, Status::Ok)?;
-    }
-    Ok(())
+fn runs_of_editions_and_chips(rt: HostRuntime) {
+    runs_are_told(&rt, rt.alloc(), RUNS);
 }
 
-/// Four workers take two chips' run, with a moment and a sweep behind its frames. Their drain leaves neither chip an update.
+/// The run of two chips, each with turns of its own, with a moment and a sweep behind its frames.
+fn two_chips(rt: &impl Abort, alloc: Global) -> String {
+    let run = RUNS.split("\n\n").nth(2).expect(rt, "two chips");
+    let input = read_row(rt, alloc, run).input;
+    let steps = input.as_str().strip_suffix("end").expect(rt, "an end");
+    format!(in alloc; "{steps}now 1000\nsweep 1\nend\n").expect(rt, "memory")
+}
+
+/// Four workers take two chips' run. Their drain leaves neither chip an update.
 #[test]
-fn two_chips_by_four_workers(rt: HostRuntime) -> Result<(), Fail> {
+fn two_chips_by_four_workers(rt: HostRuntime) {
     let alloc = rt.alloc();
-    let run = RUNS.split("\n\n").nth(2).ok_or("two chips")?;
-    let input = read_row(alloc, run)?.input;
-    let steps = input.as_str().strip_suffix("end").ok_or("an end")?;
-    let input = format!(in alloc; "{steps}now 1000\nsweep 1\nend\n")?;
-    let words = ["live", "--workers", "4"];
-    let outcome = ran(&rt, alloc, &words, input.as_bytes(), &[], &[])?;
-    assert_eq!(rt; outcome.status, Status::Ok);
-    let checked = ran(&rt, alloc, &["check"], outcome.wrote.as_slice(), &[], &[])?;
-    assert_eq!(rt; checked.wrote.as_slice(), b"yes\n".as_slice());
-    let text = str::from_utf8(outcome.wrote.as_slice())?;
-    let last = text.lines().last().ok_or("a last line")?;
-    assert!(rt; last.ends_with(" 0 0"), "at {last}");
-    assert_eq!(rt; count_lines(text, "now 1000"), 1);
-    assert_eq!(rt; count_lines(text, "sweep 1"), 1);
-    assert_eq!(rt; count_lines(text, "serve"), 0);
-    Ok(())
+    let input = two_chips(&rt, alloc);
+    let outcome = live_is_checked(&rt, alloc, "live --workers 4", input.as_bytes());
+    let text = text_of(&rt, &outcome);
+    let last = last_line(&rt, text);
+    assert_that(&rt, last.ends_with(" 0 0"), last);
+    assert_same(&rt, &count_lines(text, "now 1000"), &1, "now 1000");
+    assert_same(&rt, &count_lines(text, "sweep 1"), &1, "sweep 1");
+    assert_same(&rt, &count_lines(text, "serve"), &0, "serve");
 }

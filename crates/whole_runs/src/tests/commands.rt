@@ -1,53 +1,15 @@
 //! Whole lines of words: what each command writes, and that only `replay` and `show` read.
 use super::rows::FIRST_FRAME;
-use super::{Outcome, ROOM, comes_to, read_row};
-use capture_runner::{Status, run};
-use port_workers::Open;
-use run_io::sinks::MemSink;
-use run_io::sources::{MemSource, Source};
+use super::{
+    ROOM, assert_bytes, assert_same, assert_that, comes_to, ran, ran_line, read_row, source_of,
+    text_of, writes,
+};
+use capture_runner::Status;
+use run_io::sources::Source;
 use std::alloc::Global;
 use std::process::Abort;
 use std::sync::Wait;
-use std::test::Fail;
 use std::thread::Threads;
-
-pub(super) fn source_of(rt: &impl Abort, alloc: Global, input: &[u8], fails: &[u32]) -> MemSource {
-    let bytes = Vec::from_slice(alloc, input).expect(rt, "memory for the input");
-    let fails = Vec::from_slice(alloc, fails).expect(rt, "memory for the numbers");
-    MemSource::make(bytes, fails)
-}
-
-/// Runs the words of this line over a sink of so much room.
-pub(super) fn ran_line(
-    rt: &(impl Abort + Threads + Wait + Sync),
-    alloc: Global,
-    line: &str,
-    source: &mut MemSource,
-    room: u32,
-) -> Outcome {
-    let mut words = Vec::new(alloc);
-    for word in line.split_whitespace() {
-        let word = String::from_str(alloc, word).expect(rt, "memory for a word");
-        words.push(word).expect(rt, "memory for the words");
-    }
-    let mut sink = MemSink::make(alloc, room, Vec::new(alloc)).expect(rt, "memory for a sink");
-    let status = run(rt, alloc, &words, source, &mut sink, &Open);
-    let wrote = Vec::from_slice(alloc, sink.bytes()).expect(rt, "memory for what was written");
-    Outcome { status, wrote }
-}
-
-/// Runs a line of words over an input, where the reads of these numbers fail. It writes just this.
-pub(super) fn writes(
-    rt: &(impl Abort + Threads + Wait + Sync),
-    alloc: Global,
-    line: &str,
-    (input, fails): (&[u8], &[u32]),
-    (status, wrote): (Status, &str),
-) {
-    let mut source = source_of(rt, alloc, input, fails);
-    let outcome = ran_line(rt, alloc, line, &mut source, ROOM);
-    comes_to(rt, &outcome, line, (status, wrote));
-}
 
 /// A scenario without steps.
 const UNREAD: &[u8] = b"scenario 1\nend\n";
@@ -66,7 +28,7 @@ fn writes_unread(
     let mut left = [0u8; 32];
     let count = source.read(&mut left).expect(rt, "no read fails");
     let (left, _) = left.split_at(count);
-    assert_eq!(rt; left, UNREAD, "at {line}");
+    assert_bytes(rt, left, UNREAD, line);
 }
 
 const TABLES: &[(&str, &str)] = &[
@@ -83,19 +45,13 @@ const TABLES: &[(&str, &str)] = &[
 
 /// The tables at the end of the run of a frame to a known station.
 #[test]
-fn worked_tables(rt: HostRuntime) -> Result<(), Fail> {
+fn worked_tables(rt: HostRuntime) {
     let alloc = rt.alloc();
-    let scenario = read_row(alloc, FIRST_FRAME)?.input;
+    let scenario = read_row(&rt, alloc, FIRST_FRAME).input;
+    let input = scenario.as_bytes();
     for (line, wrote) in TABLES {
-        writes(
-            &rt,
-            alloc,
-            line,
-            (scenario.as_bytes(), &[]),
-            (Status::Ok, wrote),
-        );
+        writes(&rt, alloc, line, (input, &[]), (Status::Ok, wrote));
     }
-    Ok(())
 }
 
 /// Two ports of a chip beside one of software come up, and that is published: how each of these scenarios goes on behind its first
@@ -168,22 +124,30 @@ end
     ),
 ];
 
+fn is_audited(
+    rt: &(impl Abort + Threads + Wait + Sync),
+    alloc: Global,
+    edition: u8,
+    steps: &str,
+    wrote: &str,
+) {
+    let input = format!(in alloc; "scenario {edition}\n{CHIP}{steps}").expect(rt, "memory");
+    writes(
+        rt,
+        alloc,
+        "audit",
+        (input.as_bytes(), &[]),
+        (Status::Ok, wrote),
+    );
+}
+
 /// A station whose chip has its entry moves to a port of software; the chip is told; an entry is deleted and put again; and in edition
 /// 2 a member of a group waits.
 #[test]
-fn worked_audits(rt: HostRuntime) -> Result<(), Fail> {
-    let alloc = rt.alloc();
+fn worked_audits(rt: HostRuntime) {
     for (edition, steps, wrote) in AUDITS {
-        let input = format!(in alloc; "scenario {edition}\n{CHIP}{steps}")?;
-        writes(
-            &rt,
-            alloc,
-            "audit",
-            (input.as_bytes(), &[]),
-            (Status::Ok, wrote),
-        );
+        is_audited(&rt, rt.alloc(), *edition, steps, wrote);
     }
-    Ok(())
 }
 
 const WITHOUT_STEPS: &[(&str, &str)] = &[
@@ -357,24 +321,25 @@ const GENERATED: &[(&str, &str)] = &[
     ("gen 7 20", TWENTY_FRAMES),
 ];
 
+fn is_generated(rt: &(impl Abort + Threads + Wait + Sync), alloc: Global, line: &str, rest: &str) {
+    let wrote = format!(in alloc; "{OPENING}{rest}").expect(rt, "memory");
+    writes_unread(rt, alloc, line, Status::Ok, wrote.as_str());
+}
+
 #[test]
-fn generated_scenarios(rt: HostRuntime) -> Result<(), Fail> {
-    let alloc = rt.alloc();
+fn generated_scenarios(rt: HostRuntime) {
     for (line, rest) in GENERATED {
-        let wrote = format!(in alloc; "{OPENING}{rest}")?;
-        writes_unread(&rt, alloc, line, Status::Ok, wrote.as_str());
+        is_generated(&rt, rt.alloc(), line, rest);
     }
-    Ok(())
 }
 
 /// The moment behind the 64th frame, as that other program wrote it.
 #[test]
 fn generated_moment(rt: HostRuntime) {
-    let mut source = source_of(&rt, rt.alloc(), b"", &[]);
-    let outcome = ran_line(&rt, rt.alloc(), "gen 7 64", &mut source, ROOM);
-    let end = "rx 1 02000000001702000000001688b50000\nserve\nnow 64000\nend\n";
-    assert_eq!(rt; outcome.status, Status::Ok);
-    assert!(rt; outcome.wrote.ends_with(end.as_bytes()));
+    let outcome = ran(&rt, rt.alloc(), "gen 7 64", b"");
+    assert_same(&rt, &outcome.status, &Status::Ok, "gen");
+    let end = b"rx 1 02000000001702000000001688b50000\nserve\nnow 64000\nend\n";
+    assert_that(&rt, outcome.wrote.ends_with(end), "the moment");
 }
 
 const BAD: &[u8] = b"scenario 1\nport 1 p1 soft\ncmd port up p1\nbogus\nend\n";
@@ -389,13 +354,17 @@ const STOPS: &[(&[u8], u32, Status, &str)] = &[
     (CUT, 2, Status::ReadFault, "read fault\n"),
 ];
 
+fn stops(rt: &(impl Abort + Threads + Wait + Sync), alloc: Global, line: &str) {
+    for (input, call, status, wrote) in STOPS {
+        writes(rt, alloc, line, (input, &[*call]), (*status, wrote));
+    }
+}
+
 /// A table is written at the end alone: a bad line or a read that fails behind a step leaves just that line.
 #[test]
 fn show_stops(rt: HostRuntime) {
     for line in ["show fdb", "show vlan", "show mdb"] {
-        for (input, call, status, wrote) in STOPS {
-            writes(&rt, rt.alloc(), line, (input, &[*call]), (*status, wrote));
-        }
+        stops(&rt, rt.alloc(), line);
     }
 }
 
@@ -409,15 +378,14 @@ const FULL: &[(&str, &str)] = &[
 
 /// Of each output the first 20 bytes are taken.
 #[test]
-fn sink_is_full(rt: HostRuntime) -> Result<(), Fail> {
+fn sink_is_full(rt: HostRuntime) {
     let alloc = rt.alloc();
-    let scenario = read_row(alloc, FIRST_FRAME)?.input;
+    let scenario = read_row(&rt, alloc, FIRST_FRAME).input;
     for (line, wrote) in FULL {
         let mut source = source_of(&rt, alloc, scenario.as_bytes(), &[]);
         let outcome = ran_line(&rt, alloc, line, &mut source, 20);
         comes_to(&rt, &outcome, line, (Status::WriteFault, wrote));
     }
-    Ok(())
 }
 
 /// How many lines begin with this word.
@@ -427,37 +395,51 @@ fn lines_with(text: &str, word: &str) -> usize {
         .count()
 }
 
-/// The line of `demo` that belongs to a transcript.
-fn summary_of(alloc: Global, frames: u32, transcript: &str) -> Result<String, Fail> {
-    let (_, end) = transcript.split_once("\nend ").ok_or("a line `end`")?;
+/// The changes and the pending updates that a transcript's last line tells.
+fn counts_of<'a>(rt: &impl Abort, transcript: &'a str) -> (&'a str, &'a str) {
+    let (_, end) = transcript.split_once("\nend ").expect(rt, "a line `end`");
     let mut numbers = end.split(' ').skip(1);
-    let changes = numbers.next().ok_or("a count of changes")?;
-    let pending = numbers.next().ok_or("a count of deferred changes")?;
+    let changes = numbers.next().expect(rt, "a count of changes");
+    let pending = numbers.next().expect(rt, "a count of pending updates");
+    (changes, pending)
+}
+
+/// The line of `demo` that belongs to a transcript.
+fn summary_of(rt: &impl Abort, alloc: Global, frames: u32, transcript: &str) -> String {
+    let (changes, pending) = counts_of(rt, transcript);
     let chip = lines_with(transcript, "chip");
     let soft = lines_with(transcript, "soft");
     let sent = lines_with(transcript, "tx");
     let overrun = lines_with(transcript, "overrun");
     let line = format!(in alloc;
         "demo frames {frames} chip {chip} soft {soft} tx {sent} overrun {overrun} changes {changes} pending {pending}\n"
-    )?;
-    Ok(line)
+    );
+    line.expect(rt, "memory")
+}
+
+/// What `replay` writes of what `gen` writes by these numbers, as `demo` sums it up.
+fn replayed_summary(
+    rt: &(impl Abort + Threads + Wait + Sync),
+    alloc: Global,
+    number: u32,
+    count: u32,
+) -> String {
+    let line = format!(in alloc; "gen {number} {count}").expect(rt, "memory");
+    let generated = ran(rt, alloc, line.as_str(), b"");
+    let replayed = ran(rt, alloc, "replay", generated.wrote.as_slice());
+    assert_same(rt, &replayed.status, &Status::Ok, line.as_str());
+    summary_of(rt, alloc, count, text_of(rt, &replayed))
+}
+
+fn is_summed_up(rt: &(impl Abort + Threads + Wait + Sync), alloc: Global, number: u32, count: u32) {
+    let wanted = replayed_summary(rt, alloc, number, count);
+    let line = format!(in alloc; "demo {number} {count}").expect(rt, "memory");
+    writes_unread(rt, alloc, line.as_str(), Status::Ok, wanted.as_str());
 }
 
 /// What is wanted here comes of the program's own `gen` and `replay`: this ties three commands, and knows no number from outside.
 #[test]
-fn demo_counts_what_replay_writes(rt: HostRuntime) -> Result<(), Fail> {
-    let alloc = rt.alloc();
-    for (number, count) in [(7, 20), (3, 130)] {
-        let words = format!(in alloc; "gen {number} {count}")?;
-        let mut nothing = source_of(&rt, alloc, b"", &[]);
-        let generated = ran_line(&rt, alloc, words.as_str(), &mut nothing, ROOM);
-        let mut scenario = source_of(&rt, alloc, &generated.wrote, &[]);
-        let replayed = ran_line(&rt, alloc, "replay", &mut scenario, ROOM);
-        assert_eq!(rt; replayed.status, Status::Ok);
-        let transcript = std::str::from_utf8(&replayed.wrote)?;
-        let wanted = summary_of(alloc, count, transcript)?;
-        let words = format!(in alloc; "demo {number} {count}")?;
-        writes_unread(&rt, alloc, words.as_str(), Status::Ok, wanted.as_str());
-    }
-    Ok(())
+fn demo_counts_what_replay_writes(rt: HostRuntime) {
+    is_summed_up(&rt, rt.alloc(), 7, 20);
+    is_summed_up(&rt, rt.alloc(), 3, 130);
 }

@@ -1,14 +1,16 @@
 //! Runs by workers: what they write, where they meet, and the last line alone.
 use super::rows::FIRST_FRAME;
-use super::{comes_to, ran, ran_at, read_row};
+use super::{
+    Outcome, ROOM, assert_bytes, assert_same, assert_that, comes_to, count_lines, joined,
+    last_line, ran, ran_failing, ran_words, read_row, sink_of, source_of, text_of, words_of,
+    writes,
+};
 use capture_runner::Status;
 use port_workers::Gate;
 use std::alloc::Global;
 use std::process::Abort;
-use std::str;
 use std::sync::Wait;
 use std::sync::atomic::{AtomicBool, AtomicU64, Ordering};
-use std::test::Fail;
 use std::thread::Threads;
 
 /// Three ports of software, and a frame by each of the first two.
@@ -67,61 +69,78 @@ impl Gate for Meeting {
     }
 }
 
-/// How many lines of a text begin so.
-pub(super) fn count_lines(text: &str, begins: &str) -> usize {
-    text.lines().filter(|line| line.starts_with(begins)).count()
+/// Runs this line of words well. `check` says yes to what it writes.
+pub(super) fn live_is_checked(
+    rt: &(impl Abort + Threads + Wait + Sync),
+    alloc: Global,
+    line: &str,
+    input: &[u8],
+) -> Outcome {
+    let outcome = ran(rt, alloc, line, input);
+    assert_same(rt, &outcome.status, &Status::Ok, line);
+    let checked = ran(rt, alloc, "check", outcome.wrote.as_slice());
+    assert_bytes(rt, checked.wrote.as_slice(), b"yes\n", line);
+    outcome
+}
+
+/// Runs two workers with this gate over two frames.
+fn ran_at(
+    rt: &(impl Abort + Threads + Wait + Sync),
+    alloc: Global,
+    gate: &(impl Gate + Sync),
+) -> Outcome {
+    let words = words_of(rt, alloc, "live --workers 2");
+    let mut source = source_of(rt, alloc, TWO_FRAMES.as_bytes(), &[]);
+    let mut sink = sink_of(rt, alloc, ROOM, &[]);
+    ran_words(rt, alloc, &words, &mut source, &mut sink, gate)
 }
 
 /// Each of two workers holds a frame and finds that the other does, before either is posted.
 #[test]
-fn two_workers_meet_at_the_gate(rt: HostRuntime) -> Result<(), Fail> {
+fn two_workers_meet_at_the_gate(rt: HostRuntime) {
     let gate = Meeting::make();
-    let words = ["live", "--workers", "2"];
-    let outcome = ran_at(
-        &rt,
-        rt.alloc(),
-        &words,
-        TWO_FRAMES.as_bytes(),
-        (&[], &[]),
-        &gate,
-    )?;
-    assert_eq!(rt; outcome.status, Status::Ok);
-    assert_eq!(rt; gate.met.load(Ordering::SeqCst), 2);
-    let text = str::from_utf8(outcome.wrote.as_slice())?;
-    let (before, _) = text.split_once("\npost ").ok_or("a post")?;
-    assert_eq!(rt; count_lines(before, "hold"), 2);
-    Ok(())
+    let outcome = ran_at(&rt, rt.alloc(), &gate);
+    assert_same(&rt, &outcome.status, &Status::Ok, "live");
+    assert_same(&rt, &gate.met.load(Ordering::SeqCst), &2, "how many met");
+    let text = text_of(&rt, &outcome);
+    let (before, _) = text.split_once("\npost ").expect(&rt, "a post");
+    assert_same(&rt, &count_lines(before, "hold"), &2, "hold");
+}
+
+/// How each of them begins, and what stands behind the scenario.
+const BEGINS: &str =
+    "scenario 1\nbridge 02:00:00:00:00:01\nport 1 p1 soft\nport 2 p2 soft\ncmd port up p1\n";
+
+const TELLS: &str = "\nend\ntranscript 1\nok 1 3\nok 2 3\n";
+
+fn first_frame_by_workers(
+    rt: &(impl Abort + Threads + Wait + Sync),
+    alloc: Global,
+    line: &str,
+    input: &str,
+) {
+    let outcome = ran(rt, alloc, line, input.as_bytes());
+    assert_same(rt, &outcome.status, &Status::Ok, line);
+    let text = text_of(rt, &outcome);
+    let last = last_line(rt, text);
+    assert_that(rt, last.starts_with("end "), last);
+    assert_that(rt, last.ends_with(" 8 0 0"), last);
+    assert_that(rt, text.starts_with(BEGINS), text);
+    assert_that(rt, text.contains(TELLS), text);
 }
 
 /// The steps' number is the workers' own; the changes are the scenario's, and nothing is pending or waits.
 #[test]
-fn one_worker_ends_as_one_runs_alone(rt: HostRuntime) -> Result<(), Fail> {
+fn one_worker_ends_as_one_runs_alone(rt: HostRuntime) {
     let alloc = rt.alloc();
-    let scenario = read_row(alloc, FIRST_FRAME)?.input;
-    for words in [["live", "--workers", "1"], ["live", "--workers", "16"]] {
-        let outcome = ran(&rt, alloc, &words, scenario.as_bytes(), &[], &[])?;
-        assert_eq!(rt; outcome.status, Status::Ok);
-        let text = str::from_utf8(outcome.wrote.as_slice())?;
-        let last = text.lines().last().ok_or("a last line")?;
-        assert!(rt;
-            last.starts_with("end ") && last.ends_with(" 8 0 0"),
-            "at {last}"
-        );
-        let opening =
-            "scenario 1\nbridge 02:00:00:00:00:01\nport 1 p1 soft\nport 2 p2 soft\ncmd port up p1\n";
-        assert!(rt; text.starts_with(opening), "at {text}");
-        assert!(rt;
-            text.contains("\nend\ntranscript 1\nok 1 3\nok 2 3\n"),
-            "at {text}"
-        );
-    }
-    Ok(())
+    let scenario = read_row(&rt, alloc, FIRST_FRAME).input;
+    first_frame_by_workers(&rt, alloc, "live --workers 1", scenario.as_str());
+    first_frame_by_workers(&rt, alloc, "live --workers 16", scenario.as_str());
 }
 
 /// The edition, the bridge's address, ports and names are written as they were declared.
 #[test]
-fn a_scenario_without_frames_is_written_whole(rt: HostRuntime) -> Result<(), Fail> {
-    let alloc = rt.alloc();
+fn a_scenario_without_frames_is_written_whole(rt: HostRuntime) {
     let input =
         "scenario 2\nbridge 02:00:00:00:00:fe\nport 254 p-1 soft\nport 2 c.2 chip 4\ncmd stp priority 0\nend";
     let wrote = "scenario 2
@@ -136,16 +155,9 @@ ok 1 0
 ok 2 0
 end 2 0 0 0
 ";
-    let outcome = ran(
-        &rt,
-        alloc,
-        &["live", "--workers", "3"],
-        input.as_bytes(),
-        &[],
-        &[],
-    )?;
-    comes_to(&rt, &outcome, "no frames", (Status::Ok, wrote));
-    Ok(())
+    let answer = (Status::Ok, wrote);
+    let line = "live --workers 3";
+    writes(&rt, rt.alloc(), line, (input.as_bytes(), &[]), answer);
 }
 
 /// Runs two workers over an input, whose reads of these numbers fail. They write the last line alone.
@@ -153,11 +165,9 @@ fn ends_alone(
     rt: &(impl Abort + Threads + Wait + Sync),
     alloc: Global,
     (input, fails): (&[u8], &[u32]),
-    (status, wrote): (Status, &str),
-) -> Result<(), Fail> {
-    let outcome = ran(rt, alloc, &["live", "--workers", "2"], input, fails, &[])?;
-    comes_to(rt, &outcome, wrote, (status, wrote));
-    Ok(())
+    answer: (Status, &str),
+) {
+    writes(rt, alloc, "live --workers 2", (input, fails), answer);
 }
 
 const BAD_SCENARIOS: &[(&str, &str)] = &[
@@ -175,35 +185,29 @@ const BAD_SCENARIOS: &[(&str, &str)] = &[
 ];
 
 #[test]
-fn bad_scenarios_are_told_alone(rt: HostRuntime) -> Result<(), Fail> {
+fn bad_scenarios_are_told_alone(rt: HostRuntime) {
     for (input, wrote) in BAD_SCENARIOS {
-        ends_alone(
-            &rt,
-            rt.alloc(),
-            (input.as_bytes(), &[]),
-            (Status::BadLine, wrote),
-        )?;
+        let answer = (Status::BadLine, *wrote);
+        ends_alone(&rt, rt.alloc(), (input.as_bytes(), &[]), answer);
     }
-    Ok(())
 }
+
+const FAILING_READS: &[(&str, u32, Status, &str)] = &[
+    ("scenario 1\nend\n", 1, Status::ReadFault, "read fault\n"),
+    ("scenario 1\nend", 2, Status::ReadFault, "read fault\n"),
+    ("scenario 1\nx\n", 2, Status::BadLine, "bad 2 word\n"),
+];
 
 /// A read that fails behind the end of the scenario isn't told, and neither is one behind a bad line.
 #[test]
-fn reads_that_fail(rt: HostRuntime) -> Result<(), Fail> {
+fn reads_that_fail(rt: HostRuntime) {
     let alloc = rt.alloc();
-    let read_fault = (Status::ReadFault, "read fault\n");
-    ends_alone(&rt, alloc, (b"scenario 1\nend\n", &[1]), read_fault)?;
-    ends_alone(&rt, alloc, (b"scenario 1\nend", &[2]), read_fault)?;
-    ends_alone(
-        &rt,
-        alloc,
-        (b"scenario 1\nx\n", &[2]),
-        (Status::BadLine, "bad 2 word\n"),
-    )?;
-    let words = ["live", "--workers", "2"];
-    let outcome = ran(&rt, alloc, &words, b"scenario 1\nend\n", &[2], &[])?;
-    assert_eq!(rt; outcome.status, Status::Ok);
-    Ok(())
+    for (input, call, status, wrote) in FAILING_READS {
+        ends_alone(&rt, alloc, (input.as_bytes(), &[*call]), (*status, wrote));
+    }
+    let input = b"scenario 1\nend\n";
+    let outcome = ran_failing(&rt, alloc, "live --workers 2", input, (&[2], &[]));
+    assert_same(&rt, &outcome.status, &Status::Ok, "a read behind the end");
 }
 
 const AT_THE_LIMIT: &[(usize, &str, usize, Status)] = &[
@@ -214,18 +218,19 @@ const AT_THE_LIMIT: &[(usize, &str, usize, Status)] = &[
     (4_194_290, "#\n", 4_194_303, Status::BadLine),
 ];
 
-/// 2^22 bytes without an end are too many, and so are those whose end lacks its line feed. Blank lines stand before the last line.
+/// A scenario with so many blank lines before its last one.
+fn with_blank_lines(rt: &impl Abort, alloc: Global, blank: usize, last: &str) -> Vec<u8> {
+    let lines = vec![in alloc; b'\n'; blank].expect(rt, "memory for lines");
+    joined(rt, alloc, &[b"scenario 1\n", &lines, last.as_bytes()])
+}
+
+/// 2^22 bytes without an end are too many, and so are those whose end lacks its line feed.
 #[test]
-fn inputs_at_the_limit(rt: HostRuntime) -> Result<(), Fail> {
-    let alloc = rt.alloc();
+fn inputs_at_the_limit(rt: HostRuntime) {
     for (blank, last, length, status) in AT_THE_LIMIT {
-        let mut input = Vec::from_slice(alloc, b"scenario 1\n")?;
-        input.extend_from_slice(&vec![in alloc; b'\n'; *blank]?)?;
-        input.extend_from_slice(last.as_bytes())?;
-        assert_eq!(rt; input.len(), *length, "at {last}");
-        let words = ["live", "--workers", "2"];
-        let outcome = ran(&rt, alloc, &words, input.as_slice(), &[], &[])?;
-        assert_eq!(rt; outcome.status, *status, "at {last}");
+        let input = with_blank_lines(&rt, rt.alloc(), *blank, last);
+        assert_same(&rt, &input.len(), length, last);
+        let outcome = ran(&rt, rt.alloc(), "live --workers 2", &input);
+        assert_same(&rt, &outcome.status, status, last);
     }
-    Ok(())
 }

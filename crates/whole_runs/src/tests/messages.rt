@@ -1,12 +1,10 @@
 //! Neighbour messages: what `monitor` writes of a run, and the table that `follow` reads of it.
-use super::commands::{ran_line, source_of, writes};
 use super::rows::FIRST_FRAME;
-use super::{comes_to, read_row};
+use super::{comes_to, ran_line, read_row, source_of, writes};
 use capture_runner::Status;
 use std::alloc::Global;
 use std::process::Abort;
 use std::sync::Wait;
-use std::test::Fail;
 use std::thread::Threads;
 
 /// Those of two static entries, and the end.
@@ -71,13 +69,12 @@ fn is_monitored(
 }
 
 #[test]
-fn monitor_and_follow(rt: HostRuntime) -> Result<(), Fail> {
+fn monitor_and_follow(rt: HostRuntime) {
     let alloc = rt.alloc();
-    let scenario = read_row(alloc, FIRST_FRAME)?.input;
+    let scenario = read_row(&rt, alloc, FIRST_FRAME).input;
     is_monitored(&rt, alloc, scenario.as_str(), TWO_ENTRIES, TWO_ROWS);
     let row = "02:00:00:00:00:0b port 3 vlan 1 learned\nend\n";
     is_monitored(&rt, alloc, MOVED, MOVED_TOLD, row);
-    Ok(())
 }
 
 const BAD_LINES: &[(&str, Status, &str)] = &[
@@ -93,40 +90,33 @@ const BAD_LINES: &[(&str, Status, &str)] = &[
     ("end\nnl\n", Status::Ok, "end\n"),
 ];
 
+/// Follows this input, where the reads of these numbers fail. It writes just this.
+fn follows(
+    rt: &(impl Abort + Threads + Wait + Sync),
+    alloc: Global,
+    (input, fails): (&[u8], &[u32]),
+    answer: (Status, &str),
+) {
+    writes(rt, alloc, "follow", (input, fails), answer);
+}
+
 #[test]
-fn bad_lines_of_messages(rt: HostRuntime) -> Result<(), Fail> {
+fn bad_lines_of_messages(rt: HostRuntime) {
     let alloc = rt.alloc();
     for (input, status, wrote) in BAD_LINES {
-        writes(
-            &rt,
-            alloc,
-            "follow",
-            (input.as_bytes(), &[]),
-            (*status, wrote),
-        );
+        follows(&rt, alloc, (input.as_bytes(), &[]), (*status, wrote));
     }
-    let long = vec![in alloc; b'#'; 20_001]?;
-    writes(
-        &rt,
-        alloc,
-        "follow",
-        (long.as_slice(), &[]),
-        (Status::BadLine, "bad 1 long\n"),
-    );
-    Ok(())
+    let long = vec![in alloc; b'#'; 20_001].expect(&rt, "memory");
+    let answer = (Status::BadLine, "bad 1 long\n");
+    follows(&rt, alloc, (long.as_slice(), &[]), answer);
 }
 
 /// A read fails; the sink is full.
 #[test]
 fn faults_of_follow(rt: HostRuntime) {
     let alloc = rt.alloc();
-    writes(
-        &rt,
-        alloc,
-        "follow",
-        (TWO_ENTRIES.as_bytes(), &[1]),
-        (Status::ReadFault, "read fault\n"),
-    );
+    let answer = (Status::ReadFault, "read fault\n");
+    follows(&rt, alloc, (TWO_ENTRIES.as_bytes(), &[1]), answer);
     let mut source = source_of(&rt, alloc, TWO_ENTRIES.as_bytes(), &[]);
     let outcome = ran_line(&rt, alloc, "follow", &mut source, 20);
     let wrote = "02:00:00:00:00:0a po";

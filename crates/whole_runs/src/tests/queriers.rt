@@ -1,7 +1,10 @@
 //! The general queries of a querier on the host.
-use super::commands::writes;
+use super::writes;
 use capture_runner::Status;
-use std::test::Fail;
+use std::alloc::Global;
+use std::process::Abort;
+use std::sync::Wait;
+use std::thread::Threads;
 
 /// The queries of hosts at 10.0.0.9, at 10.0.0.10 and at fe80::9, with checksums that were worked out by hand.
 const BY_NINE: &str =
@@ -13,27 +16,47 @@ const BY_TEN: &str =
 const BY_SIX: &str =
     "33330000000102000000000186dd6000000000200001fe800000000000000000000000000009ff0200000000000000000000000000013a000502000001008200590f2710000000000000000000000000000000000000";
 
+const NINE: &str = "querier 10.0.0.9 fe80:0000:0000:0000:0000:0000:0000:0009";
+
+const TEN: &str = "querier 10.0.0.10 fe80:0000:0000:0000:0000:0000:0000:0009";
+
+/// Runs the words over the scenario. It writes just this.
+fn asks(
+    rt: &(impl Abort + Threads + Wait + Sync),
+    alloc: Global,
+    line: &str,
+    input: &str,
+    wrote: &str,
+) {
+    writes(
+        rt,
+        alloc,
+        line,
+        (input.as_bytes(), &[]),
+        (Status::Ok, wrote),
+    );
+}
+
+const MOMENTS: &str = "scenario 1\nnow 0\nnow 31249\nnow 31250\nnow 156249\nnow 156250\nend\n";
+
 /// Nobody else asks: two queries a quarter of an interval apart, and the next one a whole interval later.
 #[test]
-fn queries_are_due(rt: HostRuntime) -> Result<(), Fail> {
+fn queries_are_due(rt: HostRuntime) {
     let alloc = rt.alloc();
     let wrote = format!(in alloc;
         "query 0 {BY_NINE}\nquery 0 {BY_SIX}\nquery 31250 {BY_NINE}\nquery 31250 {BY_SIX}\nquery 156250 {BY_NINE}\nquery 156250 {BY_SIX}\nend\n"
-    )?;
-    writes(
+    );
+    let line = "querier 10.0.0.9 FE80:0000:0000:0000:0000:0000:0000:0009";
+    asks(
         &rt,
         alloc,
-        "querier 10.0.0.9 FE80:0000:0000:0000:0000:0000:0000:0009",
-        (
-            b"scenario 1\nnow 0\nnow 31249\nnow 31250\nnow 156249\nnow 156250\nend\n",
-            &[],
-        ),
-        (Status::Ok, wrote.as_str()),
+        line,
+        MOMENTS,
+        wrote.expect(&rt, "memory").as_str(),
     );
-    Ok(())
 }
 
-/// Three ports of software, and a query from 10.0.0.9.
+/// Three ports of software, and a query from 10.0.0.9; then two moments.
 const HEARD_NINE: &str = "scenario 1
 port 1 p1 soft
 port 2 p2 soft
@@ -44,60 +67,56 @@ cmd port up p3
 publish
 rx 1 01005e00000102000000000e08004500001c000000000102cfd60a000009e00000011164ee9b00000000
 serve
+now 1000
+now 255000
+end
 ";
 
-/// The host at 10.0.0.10 yields to 10.0.0.9 until it hasn't heard it for 255 seconds; at an equal or a lower address it doesn't.
+/// The host at 10.0.0.10 yields to 10.0.0.9 until it hasn't heard it for 255 seconds,
 #[test]
-fn a_lower_address_asks(rt: HostRuntime) -> Result<(), Fail> {
+fn a_lower_address_asks(rt: HostRuntime) {
     let alloc = rt.alloc();
-    let input = format!(in alloc; "{HEARD_NINE}now 1000\nnow 255000\nend\n")?;
-    let ten = format!(in alloc;
+    let wrote = format!(in alloc;
         "query 1000 {BY_SIX}\nquery 255000 {BY_TEN}\nquery 255000 {BY_SIX}\nend\n"
-    )?;
-    let nine = format!(in alloc;
+    );
+    asks(
+        &rt,
+        alloc,
+        TEN,
+        HEARD_NINE,
+        wrote.expect(&rt, "memory").as_str(),
+    );
+}
+
+/// and at an equal address it doesn't.
+#[test]
+fn an_equal_address_is_not_yielded_to(rt: HostRuntime) {
+    let alloc = rt.alloc();
+    let wrote = format!(in alloc;
         "query 1000 {BY_NINE}\nquery 1000 {BY_SIX}\nquery 255000 {BY_NINE}\nquery 255000 {BY_SIX}\nend\n"
-    )?;
-    let rows = [
-        (
-            "querier 10.0.0.10 fe80:0000:0000:0000:0000:0000:0000:0009",
-            ten.as_str(),
-        ),
-        (
-            "querier 10.0.0.9 fe80:0000:0000:0000:0000:0000:0000:0009",
-            nine.as_str(),
-        ),
-    ];
-    for (line, wrote) in rows {
-        writes(
-            &rt,
-            alloc,
-            line,
-            (input.as_bytes(), &[]),
-            (Status::Ok, wrote),
-        );
-    }
-    Ok(())
+    );
+    asks(
+        &rt,
+        alloc,
+        NINE,
+        HEARD_NINE,
+        wrote.expect(&rt, "memory").as_str(),
+    );
 }
 
 /// A refused moment brings no query, and behind a bad line nothing is written but it.
 #[test]
-fn moments_that_do_not_come(rt: HostRuntime) -> Result<(), Fail> {
+fn moments_that_do_not_come(rt: HostRuntime) {
     let alloc = rt.alloc();
-    let line = "querier 10.0.0.9 fe80:0000:0000:0000:0000:0000:0000:0009";
-    let back = format!(in alloc; "query 40000 {BY_NINE}\nquery 40000 {BY_SIX}\nend\n")?;
+    let wrote = format!(in alloc; "query 40000 {BY_NINE}\nquery 40000 {BY_SIX}\nend\n");
+    let back = "scenario 1\nnow 40000\nnow 39999\nend\n";
+    asks(&rt, alloc, NINE, back, wrote.expect(&rt, "memory").as_str());
+    let bogus = b"scenario 1\nnow 0\nbogus\nend\n";
     writes(
         &rt,
         alloc,
-        line,
-        (b"scenario 1\nnow 40000\nnow 39999\nend\n", &[]),
-        (Status::Ok, back.as_str()),
-    );
-    writes(
-        &rt,
-        alloc,
-        line,
-        (b"scenario 1\nnow 0\nbogus\nend\n", &[]),
+        NINE,
+        (bogus, &[]),
         (Status::BadLine, "bad 3 word\n"),
     );
-    Ok(())
 }

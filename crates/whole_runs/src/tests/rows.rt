@@ -4,7 +4,6 @@ use capture_runner::Status;
 use std::alloc::Global;
 use std::process::Abort;
 use std::sync::Wait;
-use std::test::Fail;
 use std::thread::Threads;
 
 /// A frame to a known station.
@@ -26,20 +25,22 @@ pub(super) fn row_is_told(
     alloc: Global,
     text: &str,
     status: Status,
-) -> Result<(), Fail> {
-    let worked = read_row(alloc, text)?;
-    is_told(
-        rt,
-        alloc,
-        worked.input.as_bytes(),
-        status,
-        worked.told.as_str(),
-    )
+) {
+    let worked = read_row(rt, alloc, text);
+    let told = worked.told.as_str();
+    is_told(rt, alloc, worked.input.as_bytes(), status, told);
+}
+
+/// Each of these runs ends well. An empty line stands between two of them.
+pub(super) fn runs_are_told(rt: &(impl Abort + Threads + Wait + Sync), alloc: Global, runs: &str) {
+    for text in runs.split("\n\n") {
+        row_is_told(rt, alloc, text, Status::Ok);
+    }
 }
 
 #[test]
-fn first_frame(rt: HostRuntime) -> Result<(), Fail> {
-    row_is_told(&rt, rt.alloc(), FIRST_FRAME, Status::Ok)
+fn first_frame(rt: HostRuntime) {
+    row_is_told(&rt, rt.alloc(), FIRST_FRAME, Status::Ok);
 }
 
 const EMPTY: &[&str] = &[
@@ -51,15 +52,14 @@ const EMPTY: &[&str] = &[
 
 /// What stands after the line `end` isn't looked at, and this line may lack its line feed.
 #[test]
-fn empty_scenario(rt: HostRuntime) -> Result<(), Fail> {
+fn empty_scenario(rt: HostRuntime) {
     for text in EMPTY {
-        row_is_told(&rt, rt.alloc(), text, Status::Ok)?;
+        row_is_told(&rt, rt.alloc(), text, Status::Ok);
     }
-    Ok(())
 }
 
 #[test]
-fn first_refusals(rt: HostRuntime) -> Result<(), Fail> {
+fn first_refusals(rt: HostRuntime) {
     let text = "scenario 1
 port 1 p1 soft
 cmd port up p1 => ok 1 3
@@ -68,12 +68,12 @@ cmd fdb add 02:00:00:00:00:0a dev p1 vlan 7 static => refused 3 3
 serve => refused 4 10
 turn 1 => refused 5 11
 serve => bad 8 unended";
-    row_is_told(&rt, rt.alloc(), text, Status::BadLine)
+    row_is_told(&rt, rt.alloc(), text, Status::BadLine);
 }
 
 /// The refusals but those of limits and moments.
 #[test]
-fn refusals(rt: HostRuntime) -> Result<(), Fail> {
+fn refusals(rt: HostRuntime) {
     let text = "scenario 1
 port 1 p1 soft
 port 2 p2 soft
@@ -96,12 +96,12 @@ cmd port down p3 => ok 15 2
 cmd link p3 flood off => refused 16 2
 end => end 16 12 0 0
 ";
-    row_is_told(&rt, rt.alloc(), text, Status::Ok)
+    row_is_told(&rt, rt.alloc(), text, Status::Ok);
 }
 
 /// Frames that are held are posted as it was published then, whatever was accepted and published since, in any order.
 #[test]
-fn held_frames(rt: HostRuntime) -> Result<(), Fail> {
+fn held_frames(rt: HostRuntime) {
     let text = "scenario 1
 port 1 p1 soft
 port 2 p2 soft
@@ -123,12 +123,12 @@ post 1 => refused 14 14
 post 4294967295 => refused 15 14
 end => end 15 12 3 0
 ";
-    row_is_told(&rt, rt.alloc(), text, Status::Ok)
+    row_is_told(&rt, rt.alloc(), text, Status::Ok);
 }
 
 /// Memberships by command, and snooping switched off and on.
 #[test]
-fn groups_by_command(rt: HostRuntime) -> Result<(), Fail> {
+fn groups_by_command(rt: HostRuntime) {
     let text = "scenario 1
 port 1 p1 soft
 port 2 p2 soft
@@ -150,7 +150,7 @@ cmd port down p2 => ok 15 2
 cmd mdb del 10.0.0.1 dev p2 vlan 1 => refused 16 2
 end => end 16 12 0 0
 ";
-    row_is_told(&rt, rt.alloc(), text, Status::Ok)
+    row_is_told(&rt, rt.alloc(), text, Status::Ok);
 }
 
 /// Ports 1 and 2 of the chip and port 3 of software come up, and that is published.
@@ -254,19 +254,21 @@ sweep 1 => ok 9 0
 sweep 1 => ok 10 1
 end => end 10 11 1 1";
 
+fn chip_run_is_told(rt: &(impl Abort + Threads + Wait + Sync), alloc: Global, run: &str) {
+    let text = format!(in alloc; "{CHIP_START}{run}").expect(rt, "memory");
+    row_is_told(rt, alloc, text.as_str(), Status::Ok);
+}
+
 #[test]
-fn runs_with_a_chip(rt: HostRuntime) -> Result<(), Fail> {
-    let alloc = rt.alloc();
+fn runs_with_a_chip(rt: HostRuntime) {
     for run in CHIP_RUNS.split("\n\n") {
-        let text = format!(in alloc; "{CHIP_START}{run}")?;
-        row_is_told(&rt, alloc, text.as_str(), Status::Ok)?;
+        chip_run_is_told(&rt, rt.alloc(), run);
     }
-    Ok(())
 }
 
 /// The example of an entry that the chip keeps too long.
 #[test]
-fn stale_entry(rt: HostRuntime) -> Result<(), Fail> {
+fn stale_entry(rt: HostRuntime) {
     let text = "scenario 1
 port 1 p1 chip 1
 port 2 p2 chip 1
@@ -290,7 +292,7 @@ rx 1 02000000000b02000000000a88b50102 => chip 5 at 11 2 trap
 serve => soft 5 at 11; tx 5 3 02000000000b02000000000a88b50102; ok 17 0
 end => end 17 11 0 0
 ";
-    row_is_told(&rt, rt.alloc(), text, Status::Ok)
+    row_is_told(&rt, rt.alloc(), text, Status::Ok);
 }
 
 const CAUSES: &[(&str, &str)] = &[
@@ -376,16 +378,23 @@ const CAUSES: &[(&str, &str)] = &[
     ("rx 1 000\n", "hex"),
 ];
 
+fn third_line_is_bad(
+    rt: &(impl Abort + Threads + Wait + Sync),
+    alloc: Global,
+    rest: &str,
+    why: &str,
+) {
+    let input = format!(in alloc; "scenario 1\nport 1 p1 soft\n{rest}").expect(rt, "memory");
+    let told = format!(in alloc; "bad 3 {why}\n").expect(rt, "memory");
+    is_told(rt, alloc, input.as_bytes(), Status::BadLine, told.as_str());
+}
+
 /// A bad third line after the declaration of port 1, and its cause.
 #[test]
-fn causes_of_bad_lines(rt: HostRuntime) -> Result<(), Fail> {
-    let alloc = rt.alloc();
+fn causes_of_bad_lines(rt: HostRuntime) {
     for (rest, why) in CAUSES {
-        let input = format!(in alloc; "scenario 1\nport 1 p1 soft\n{rest}")?;
-        let told = format!(in alloc; "bad 3 {why}\n")?;
-        is_told(&rt, alloc, input.as_bytes(), Status::BadLine, told.as_str())?;
+        third_line_is_bad(&rt, rt.alloc(), rest, why);
     }
-    Ok(())
 }
 
 const PLACES: &[(&str, &str)] = &[
@@ -410,17 +419,16 @@ const PLACES: &[(&str, &str)] = &[
 
 /// Skipped lines count, and each line has its place.
 #[test]
-fn numbers_and_places_of_bad_lines(rt: HostRuntime) -> Result<(), Fail> {
+fn numbers_and_places_of_bad_lines(rt: HostRuntime) {
     for (input, told) in PLACES {
-        is_told(&rt, rt.alloc(), input.as_bytes(), Status::BadLine, told)?;
+        is_told(&rt, rt.alloc(), input.as_bytes(), Status::BadLine, told);
     }
-    Ok(())
 }
 
 /// 01-80-C2-00-00-02 and 0F go to the host alone, 01 nowhere; 10, and 00 while the spanning tree is off, are ordinary
 /// multicasts.
 #[test]
-fn reserved_addresses(rt: HostRuntime) -> Result<(), Fail> {
+fn reserved_addresses(rt: HostRuntime) {
     let text = "scenario 1
 port 1 p1 soft
 port 2 p2 soft
@@ -439,5 +447,5 @@ rx 1 0180c200000002000000000a88b50102
 serve => soft 5 at 6; tx 5 0 0180c200000002000000000a88b50102; tx 5 2 0180c200000002000000000a88b50102; ok 13 0
 end => end 13 7 1 0
 ";
-    row_is_told(&rt, rt.alloc(), text, Status::Ok)
+    row_is_told(&rt, rt.alloc(), text, Status::Ok);
 }

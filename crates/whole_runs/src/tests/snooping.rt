@@ -1,7 +1,6 @@
 //! Worked runs of snooping.
-use super::rows::row_is_told;
+use super::rows::{row_is_told, runs_are_told};
 use capture_runner::Status;
-use std::test::Fail;
 
 /// An empty line stands between two runs.
 const RUNS: &str =
@@ -32,11 +31,8 @@ serve => soft 1 at 9; tx 1 0 01005e00000202000000000a08004500001c000000000102cfd
 end => end 6 10 1 0";
 
 #[test]
-fn runs_of_snooping(rt: HostRuntime) -> Result<(), Fail> {
-    for text in RUNS.split("\n\n") {
-        row_is_told(&rt, rt.alloc(), text, Status::Ok)?;
-    }
-    Ok(())
+fn runs_of_snooping(rt: HostRuntime) {
+    runs_are_told(&rt, rt.alloc(), RUNS);
 }
 
 /// Of IGMP version 2, and of 239.1.2.3.
@@ -82,7 +78,7 @@ publish => ok 4 0";
 
 /// A report, a query and a leave move a stream to where it is wanted.
 #[test]
-fn snooping(rt: HostRuntime) -> Result<(), Fail> {
+fn snooping(rt: HostRuntime) {
     let alloc = rt.alloc();
     let text = format!(in alloc;
         "{SOFT_START}
@@ -102,13 +98,14 @@ rx 2 {NEAR_STREAM}
 serve => soft 6 at 14; tx 6 0 {NEAR_STREAM}; tx 6 1 {NEAR_STREAM}; tx 6 3 {NEAR_STREAM}; ok 18 0
 end => end 18 17 3 0
 "
-    )?;
-    row_is_told(&rt, alloc, text.as_str(), Status::Ok)
+    )
+    .expect(&rt, "memory");
+    row_is_told(&rt, alloc, text.as_str(), Status::Ok);
 }
 
 /// It lasts for 260 s.
 #[test]
-fn mld_report(rt: HostRuntime) -> Result<(), Fail> {
+fn mld_report(rt: HostRuntime) {
     let alloc = rt.alloc();
     let text = format!(in alloc;
         "{SOFT_START}
@@ -118,13 +115,14 @@ now 259999 => ok 7 0
 now 260000 => ok 8 1
 end => end 8 12 1 0
 "
-    )?;
-    row_is_told(&rt, alloc, text.as_str(), Status::Ok)
+    )
+    .expect(&rt, "memory");
+    row_is_told(&rt, alloc, text.as_str(), Status::Ok);
 }
 
 /// The example of a group with members on both sides, and of a router that moves.
 #[test]
-fn split_group(rt: HostRuntime) -> Result<(), Fail> {
+fn split_group(rt: HostRuntime) {
     let alloc = rt.alloc();
     let text = format!(in alloc;
         "scenario 1
@@ -161,6 +159,7 @@ now 260000 => ok 26 1
 rx 1 {OTHER_STREAM} => chip 9 at 21 0 forward; tx 9 2 {OTHER_STREAM}
 end => end 27 21 2 0
 "
-    )?;
-    row_is_told(&rt, alloc, text.as_str(), Status::Ok)
+    )
+    .expect(&rt, "memory");
+    row_is_told(&rt, alloc, text.as_str(), Status::Ok);
 }

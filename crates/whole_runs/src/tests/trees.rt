@@ -1,7 +1,5 @@
 //! Worked runs of the spanning tree.
-use super::rows::row_is_told;
-use capture_runner::Status;
-use std::test::Fail;
+use super::rows::runs_are_told;
 
 /// An empty line stands between two runs.
 const RUNS: &str =
@@ -112,9 +110,6 @@ now 350001 => ok 11 1
 end => end 11 9 2 0";
 
 #[test]
-fn runs_of_the_spanning_tree(rt: HostRuntime) -> Result<(), Fail> {
-    for text in RUNS.split("\n\n") {
-        row_is_told(&rt, rt.alloc(), text, Status::Ok)?;
-    }
-    Ok(())
+fn runs_of_the_spanning_tree(rt: HostRuntime) {
+    runs_are_told(&rt, rt.alloc(), RUNS);
 }

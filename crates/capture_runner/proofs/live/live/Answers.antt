@@ -1,7 +1,8 @@
 use Rattle.std.proofs.Common.{◌∙◌, String}
 use Rattle.std.specs.declared.alloc.Global.{Global}
 use Rattle.scenario_reader.specs.declared.reader.Last.{Last}
-use Rattle.capture_runner.proofs.Outcomes.{calm_lives, calm_stops, live_ends, live_stops, read_stopped}
+use Rattle.capture_runner.proofs.Outcomes.{calm_lives, live_ends, live_stops}
+use Rattle.run_status.proofs.Ends.{calm_stops, read_stopped}
 use Rattle.capture_runner.proofs.live.live.Goals as goal
 
 pub returns-in-Ok-clause-outcome : goal.returns-in-Ok-clause-outcome

@@ -1,5 +1,6 @@
 use Rattle.std.proofs.Common.{Some, ap, sym, ◌∙◌}
-use Rattle.capture_runner.proofs.Outcomes.{completes_by, lacks_at_first, outcome_by, refuses}
+use Rattle.capture_runner.proofs.Outcomes.{completes_by, lacks_at_first, outcome_by}
+use Rattle.run_status.proofs.Ends.{refuses}
 use Rattle.capture_runner.proofs.runner.run.Goals as goal
 
 pub returns-in-Ok-None-clause-outcome : goal.returns-in-Ok-None-clause-outcome

@@ -3,7 +3,7 @@ use Rattle.br_model.specs.declared.change.Update.{Update}
 use Rattle.br_model.specs.Table.Change.{updates}
 use Rattle.deferred_queue.specs.Ends.{Posting}
 use Rattle.plane_lock.proofs.Settling.{updates-there}
-use Rattle.live_workers.proofs.Does.{chip_there}
+use Rattle.live_thread.proofs.Does.{chip_there}
 use Rattle.live_workers.proofs.queues.queue_of.Goals as goal
 
 -- nothing was posted yet

@@ -3,8 +3,8 @@ use Rattle.std.specs.List.{filter}
 use Rattle.br_model.specs.Plane.World.{chip_at}
 use Rattle.live_book.specs.Ends.{has_reports_at}
 use Rattle.live_book.proofs.Reporting.{reporting_is}
-use Rattle.plane_lock.specs.Pasts.{world_of}
-use Rattle.live_workers.proofs.Does.{chip_there}
+use Rattle.plane_record.specs.Pasts.{world_of}
+use Rattle.live_thread.proofs.Does.{chip_there}
 use Rattle.live_workers.proofs.Places.{all_found, chip_of_place}
 use Rattle.live_workers.proofs.remains.reporting.Goals as goal
 

@@ -2,7 +2,7 @@ use Rattle.std.proofs.Common.{◌≡◌, ◌++◌, drop}
 use Rattle.std.specs.List.{filter}
 use Rattle.br_model.specs.Plane.World.{chip_at}
 use Rattle.live_book.specs.Ends.{has_reports_at}
-use Rattle.plane_lock.specs.Pasts.{world_of}
+use Rattle.plane_record.specs.Pasts.{world_of}
 use Rattle.live_workers.proofs.remains.reporting.Given as goal
 
 -- those found so far, and those that the others have

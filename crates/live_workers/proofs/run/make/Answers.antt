@@ -1,4 +1,4 @@
-use Rattle.live_workers.proofs.Standing.{idle_first}
+use Rattle.live_thread.proofs.Standing.{idle_first}
 use Rattle.live_workers.proofs.run.make.Goals as goal
 
 pub open-requires-clause-idle : goal.open-requires-clause-idle

@@ -3,7 +3,7 @@ use Rattle.br_model.specs.Table.Domains.{Domains}
 use Rattle.br_model.specs.Plane.World.{first_world}
 use Rattle.br_model.specs.Table.Setup.{Setup}
 use Rattle.plane_core.specs.Planes.{PlaneState}
-use Rattle.plane_lock.specs.Pasts.{Past}
+use Rattle.plane_record.specs.Pasts.{Past}
 use Rattle.table_publish.specs.Object.{Whose}
 use Rattle.live_workers.specs.Results.{IsTaken}
 use Rattle.live_workers.proofs.run.take_by_workers.Goals as goal

@@ -5,8 +5,8 @@ use Rattle.br_model.specs.Table.Domains.{Domains, chip_domains}
 use Rattle.br_model.specs.Table.Setup.{Setup}
 use Rattle.br_model.specs.Text.LineForms.{comes_by_line}
 use Rattle.live_workers.specs.Results.{IsTaken}
-use Rattle.live_workers.proofs.Runs.{all_later}
-use Rattle.live_workers.proofs.Standing.{behind_place}
+use Rattle.live_thread.proofs.Runs.{all_later}
+use Rattle.live_thread.proofs.Standing.{behind_place}
 use Rattle.live_workers.proofs.run.take_later.Goals as goal
 
 pub drive_all-stop-requires-clause-by_line : goal.drive_all-stop-requires-clause-by_line

@@ -1,5 +1,5 @@
 use Rattle.std.proofs.Common.{◌≡◌, ◌∙◌, refl, sym}
-use Rattle.plane_lock.specs.Acts.{changes_of}
+use Rattle.plane_record.specs.Pasts.{changes_of}
 use Rattle.plane_lock.proofs.Settling.{counted, counted-other, may-post-all, posted-already, posted-still, published-more, published-none}
 use Rattle.plane_lock.proofs.locked.settle.Given as given
 use Rattle.plane_lock.proofs.locked.settle.Goals as goal

@@ -2,6 +2,7 @@
 ghost use Rattle.std.specs.Prelude.{◌≢◌, ◌<◌};
 ghost use Rattle.br_model.specs.Table.Domains.{host, software};
 
+use crate::tests::common::assert_same;
 use br_model::change::{Change, FORWARDING, Update};
 use br_model::domains::{Domains, Edition};
 use br_model::frame::{Class, Head, McastMsg};
@@ -173,10 +174,15 @@ impl Both {
         let verdict = self.soft.decide(port, head, message, &self.domains);
         let pass = pass(self.driver.tables(), port, head, message);
         let ports = self.sent_by_chip(&verdict);
-        assert_eq!(rt; pass.class(), verdict.class);
-        assert_eq!(rt; pass.vid(), verdict.vid);
-        assert_eq!(rt; pass.ports(), ports);
-        assert_eq!(rt; pass.untagged(), verdict.untagged.and(ports));
+        assert_same(rt, &pass.class(), &verdict.class, "the class");
+        assert_same(rt, &pass.vid(), &verdict.vid, "the VLAN");
+        assert_same(rt, &pass.ports(), &ports, "the ports");
+        assert_same(
+            rt,
+            &pass.untagged(),
+            &verdict.untagged.and(ports),
+            "those without a tag",
+        );
         verdict.class
     }
 

@@ -1,6 +1,7 @@
 //! How often what comes.
 ghost use Rattle.std.specs.Prelude.{◌<◌};
 
+use crate::tests::common::assert_that;
 use br_model::frame::{Class, Head};
 use std::process::Abort;
 
@@ -46,10 +47,10 @@ impl Tally {
     /// Each comes often.
     pub(crate) fn assert_often(&self, rt: &impl Abort) {
         for count in self.classes {
-            assert!(rt; count > 500, "{:?}", self.classes);
+            assert_that(rt, count > 500, "each class");
         }
         for count in self.frames {
-            assert!(rt; count > 500, "{:?}", self.frames);
+            assert_that(rt, count > 500, "each kind of frame");
         }
     }
 }

@@ -1,6 +1,6 @@
 //! A generated scenario.
+use crate::tests::common::assert_bytes;
 use scenario_text::generate;
-use std::test::Fail;
 
 /// `gen 0 1`.
 const ONE_FRAME: &str = "\
@@ -24,8 +24,7 @@ end
 ";
 
 #[test]
-fn one_generated_frame(rt: HostRuntime) -> Result<(), Fail> {
-    let text = generate(rt.alloc(), 0, 1)?;
-    assert!(rt; text.as_slice() == ONE_FRAME.as_bytes());
-    Ok(())
+fn one_generated_frame(rt: HostRuntime) {
+    let text = generate(rt.alloc(), 0, 1).expect(&rt, "memory");
+    assert_bytes(&rt, text.as_slice(), ONE_FRAME.as_bytes(), "gen 0 1");
 }

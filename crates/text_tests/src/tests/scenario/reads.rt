@@ -1,9 +1,9 @@
 //! Good lines and bad ones, with the last line of a run that ends there.
-use br_model::NoMemory;
+use crate::tests::common::assert_text;
 use bridge_command::Roster;
 use scenario_text::read_line;
 use std::alloc::Global;
-use std::test::Fail;
+use std::process::Abort;
 use transcript_text::append_bad;
 
 /// Lines of one scenario in order. No text stands beside a good line.
@@ -68,21 +68,20 @@ const LINES: &[(&str, &str)] = &[
 ];
 
 /// What a run writes last where its seventh line is this one and bad.
-fn last_line(alloc: Global, line: &str, roster: &mut Roster) -> Result<String, NoMemory> {
+fn last_line(rt: &impl Abort, alloc: Global, line: &str, roster: &mut Roster) -> String {
     let mut text = String::new(alloc);
     if let Err(why) = read_line(alloc, line.as_bytes(), roster) {
-        append_bad(7, why, &mut text)?;
+        append_bad(7, why, &mut text).expect(rt, "memory");
     }
-    Ok(text)
+    text
 }
 
 #[test]
-fn good_and_bad_lines(rt: HostRuntime) -> Result<(), Fail> {
+fn good_and_bad_lines(rt: HostRuntime) {
     let alloc = rt.alloc();
-    let mut roster = Roster::make(alloc, false)?;
+    let mut roster = Roster::make(alloc, false).expect(&rt, "memory");
     for (line, want) in LINES {
-        let found = last_line(alloc, line, &mut roster)?;
-        assert!(rt; found.as_str() == *want, "{line}: {found}");
+        let found = last_line(&rt, alloc, line, &mut roster);
+        assert_text(&rt, found.as_str(), want, line);
     }
-    Ok(())
 }

@@ -2,6 +2,8 @@
 ghost use Rattle.std.specs.Prelude.{◌≡◌};
 ghost use Rattle.br_model.specs.Text.ScenarioText.{names_declared};
 
+use super::roster_of;
+use crate::tests::common::assert_bytes;
 use br_model::bytes::Bytes;
 use br_model::change::Kind;
 use br_model::scenario::Item;
@@ -9,9 +11,9 @@ use br_model::steps::{Command, Step};
 use bridge_command::Roster;
 use scenario_text::{read_line, write_line};
 use std::alloc::Global;
-use std::test::Fail;
+use std::process::Abort;
 
-const DECLARATIONS: [&str; 3] = ["scenario 1", "port 254 p-1 soft", "port 62 p-2 chip 4"];
+const DECLARATIONS: &[&str] = &["scenario 1", "port 254 p-1 soft", "port 62 p-2 chip 4"];
 
 /// Each is written as it was read.
 const STEPS: &str = "\
@@ -110,47 +112,31 @@ fn are_declared(step: &Step, roster: &Roster) -> bool
 }
 
 /// What is written of the step that the line says.
-fn written(alloc: Global, line: &str, roster: &mut Roster) -> Result<Bytes, Fail> {
+fn written(rt: &impl Abort, alloc: Global, line: &str, roster: &mut Roster) -> Bytes {
     match read_line(alloc, line.as_bytes(), roster) {
         Ok(Item::Step(step)) if are_declared(&step, roster) => {
-            Ok(write_line(alloc, &step, roster)?)
+            write_line(alloc, &step, roster).expect(rt, "memory")
         }
-        _ => Err(Fail::new("no step")),
+        _ => panic!(rt; "no step"),
     }
-}
-
-/// A roster whose ports are declared.
-fn roster(alloc: Global) -> Result<Roster, Fail> {
-    let mut roster = Roster::make(alloc, false)?;
-    for line in DECLARATIONS {
-        if read_line(alloc, line.as_bytes(), &mut roster).is_err() {
-            return Err(Fail::new(line));
-        }
-    }
-    Ok(roster)
 }
 
 #[test]
-fn steps_as_they_were_read(rt: HostRuntime) -> Result<(), Fail> {
+fn steps_as_they_were_read(rt: HostRuntime) {
     let alloc = rt.alloc();
-    let mut roster = roster(alloc)?;
-    for line in STEPS.lines() {
-        let found = written(alloc, line, &mut roster)?;
-        assert!(rt;
-            found.as_slice().strip_suffix(b"\n") == Some(line.as_bytes()),
-            "{line}"
-        );
+    let mut roster = roster_of(&rt, alloc, DECLARATIONS);
+    for line in STEPS.split_inclusive('\n') {
+        let found = written(&rt, alloc, line.trim_end(), &mut roster);
+        assert_bytes(&rt, found.as_slice(), line.as_bytes(), line);
     }
-    Ok(())
 }
 
 #[test]
-fn steps_in_other_spellings(rt: HostRuntime) -> Result<(), Fail> {
+fn steps_in_other_spellings(rt: HostRuntime) {
     let alloc = rt.alloc();
-    let mut roster = roster(alloc)?;
+    let mut roster = roster_of(&rt, alloc, DECLARATIONS);
     for (line, want) in SPELLINGS {
-        let found = written(alloc, line, &mut roster)?;
-        assert!(rt; found.as_slice() == want.as_bytes(), "{line}");
+        let found = written(&rt, alloc, line, &mut roster);
+        assert_bytes(&rt, found.as_slice(), want.as_bytes(), line);
     }
-    Ok(())
 }

@@ -1,7 +1,7 @@
 use Rattle.std.proofs.Common.{sym, ap, ◌∙◌}
 use Rattle.std.specs.Prelude.{is_some}
 use Rattle.br_model.specs.Plane.Chip.{chip_in}
-use Rattle.plane_core.specs.Chips.{ChipState}
+use Rattle.hwdom_chips.specs.Chips.{ChipState}
 use Rattle.plane_core.specs.Sides.{SidesState}
 use Rattle.br_model.proofs.ChipLists.{some-found}
 use Rattle.plane_core.proofs.sides.Sides.has_chip.Goals as goal

@@ -2,10 +2,10 @@ use Rattle.std.proofs.Common.{◌≡◌, Option, sym, ap, ap₂, ◌∙◌, subs
 use Rattle.std.proofs.lemmas.Option.{slice_get_within}
 use Rattle.br_model.specs.Control.Learning.{Address}
 use Rattle.br_model.specs.Plane.Chip.{Chip, hits_entry, offers, put_chip}
-use Rattle.plane_core.specs.Chips.{ChipState, IsChip}
+use Rattle.hwdom_chips.specs.Chips.{ChipState, IsChip}
 use Rattle.plane_core.specs.Sides.{SidesState}
 use Rattle.plane_core.proofs.Changing.{changed, chip_here, kept_chip, on_either, sides_with, there_at, unchanged, where_err, where_ok}
-use Rattle.plane_core.proofs.Noting.{kept_note}
+use Rattle.hwdom_chips.proofs.Noting.{kept_note}
 use Rattle.plane_core.proofs.sides.Sides.note.Goals as goal
 
 pub place-place-requires : goal.place-place-requires

@@ -1,7 +1,7 @@
 use Rattle.std.proofs.Common.{◌-◌, ℕ, Some, option_map, refl, sym, ap, ap₂, ◌∙◌, arith}
 use Rattle.br_model.specs.Plane.Chip.{Chip, chip_in}
 use Rattle.br_model.specs.Table.Cut.{deferred_count}
-use Rattle.plane_core.specs.Chips.{chips_of}
+use Rattle.hwdom_chips.specs.Chips.{chips_of}
 use Rattle.plane_core.specs.Sides.{SidesState}
 use Rattle.plane_core.proofs.Changing.{chip_found, counted, found_at, there_at}
 use Rattle.plane_core.proofs.sides.Sides.pending.Goals as goal

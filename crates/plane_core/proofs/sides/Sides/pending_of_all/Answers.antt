@@ -2,7 +2,7 @@ use Rattle.std.proofs.Common.{◌-◌, ℕ, ap, ◌∙◌, arith}
 use Rattle.std.specs.List.{sum_by}
 use Rattle.br_model.specs.Plane.Chip.{Chip}
 use Rattle.br_model.specs.Table.Cut.{deferred_count}
-use Rattle.plane_core.specs.Chips.{ChipState}
+use Rattle.hwdom_chips.specs.Chips.{ChipState}
 use Rattle.plane_core.specs.Sides.{SidesState}
 use Rattle.br_model.proofs.ChipLists.{sum-chips}
 use Rattle.plane_core.proofs.Changing.{counted}

@@ -5,10 +5,10 @@ use Rattle.br_model.specs.Table.Domains.{Domains}
 use Rattle.br_model.specs.Table.Table.{Table, apply}
 use Rattle.br_model.proofs.Cuts.{updates-named}
 use Rattle.chip_driver.specs.Drives.{Drives}
-use Rattle.plane_core.specs.Chips.{ChipState, IsChip}
+use Rattle.hwdom_chips.specs.Chips.{ChipState, IsChip}
 use Rattle.plane_core.specs.Sides.{SidesState}
 use Rattle.plane_core.proofs.Changing.{both_ok, changed, chip_here, next_here, on_either, sides_with, there_at, turned_chip, turned_dom, unchanged, where_err, where_ok}
-use Rattle.plane_core.proofs.Following.{count_below, taken_next}
+use Rattle.hwdom_chips.proofs.Following.{count_below, taken_next}
 use Rattle.plane_core.proofs.sides.Sides.turn.Goals as goal
 
 pub place-place-requires : goal.place-place-requires

@@ -1,5 +1,5 @@
 use Rattle.std.proofs.Common.{length, refl, subst}
-use Rattle.plane_lock.specs.Pasts.{Past, event_step}
+use Rattle.plane_record.specs.Pasts.{Past, event_step}
 use Rattle.plane_lock.specs.Acts.{Acted}
 use Rattle.plane_lock.proofs.Settling.{acts, counted, may-settle, settled-either, settles}
 use Rattle.plane_lock.proofs.locked.Locked.accept.Goals as goal

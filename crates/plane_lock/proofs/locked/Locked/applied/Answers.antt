@@ -1,4 +1,4 @@
-use Rattle.plane_lock.proofs.Recording.{has-its-chip}
+use Rattle.plane_record.proofs.Recording.{has-its-chip}
 use Rattle.plane_lock.proofs.locked.Locked.applied.Goals as goal
 
 pub applied-requires : goal.applied-requires

@@ -1,4 +1,4 @@
-use Rattle.plane_lock.proofs.Recording.{has-its-chip}
+use Rattle.plane_record.proofs.Recording.{has-its-chip}
 use Rattle.plane_lock.proofs.locked.Locked.first_report.Goals as goal
 
 pub first_report-requires : goal.first_report-requires

@@ -3,7 +3,7 @@ use Rattle.br_model.specs.declared.steps.Step.TheVariants.{Hold}
 use Rattle.br_model.proofs.Still.{hold-history}
 use Rattle.plane_core.specs.Planes.{published_in}
 use Rattle.table_publish.specs.Object.{Begins}
-use Rattle.plane_lock.specs.Pasts.{Past, world_of}
+use Rattle.plane_record.specs.Pasts.{Past, world_of}
 use Rattle.plane_lock.proofs.Posting.{floors}
 use Rattle.plane_lock.proofs.Settling.{IsLocked, keeps}
 use Rattle.plane_lock.proofs.locked.Locked.open_as.Goals as goal

@@ -7,12 +7,11 @@ use Rattle.std.specs.Prelude.{IfSome}
 use Rattle.plane_core.specs.Shown.{shown_by, shown_of}
 use Rattle.plane_core.specs.Planes.{IsCopy, IsDecision}
 use Rattle.table_publish.specs.Board.{Known}
-use Rattle.plane_lock.specs.Acts.{changes_of}
-use Rattle.plane_lock.specs.Pasts.{Past, post_step, said_by, world_of}
+use Rattle.plane_record.specs.Pasts.{Past, changes_of, post_step, said_by, world_of}
 use Rattle.plane_lock.specs.Posted.{HavePosted, updates_of}
 use Rattle.plane_lock.specs.Posts.{Tells}
 use Rattle.plane_lock.proofs.Posting.{may-post, tells}
-use Rattle.plane_lock.proofs.Recording.{world-stands}
+use Rattle.plane_record.proofs.Recording.{world-stands}
 use Rattle.plane_lock.proofs.Settling.{IsLocked, counted, may-settle, settles}
 use Rattle.plane_lock.proofs.locked.Locked.post_as.Goals as goal
 

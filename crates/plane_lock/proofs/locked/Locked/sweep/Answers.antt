@@ -2,7 +2,7 @@ use Rattle.std.proofs.Common.{◌∙◌, ap, length, refl, subst}
 use Rattle.br_model.specs.Table.Domains.{has_chip}
 use Rattle.br_model.specs.Table.Setup.{Setup}
 use Rattle.br_model.specs.declared.steps.Step.TheVariants.{Sweep}
-use Rattle.plane_lock.specs.Pasts.{Past}
+use Rattle.plane_record.specs.Pasts.{Past}
 use Rattle.plane_lock.specs.Acts.{Acted}
 use Rattle.plane_lock.proofs.Settling.{acts, counted, may-settle, settled-either, settles}
 use Rattle.plane_lock.proofs.locked.Locked.sweep.Goals as goal

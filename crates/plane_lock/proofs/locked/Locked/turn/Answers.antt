@@ -2,10 +2,10 @@ use Rattle.std.proofs.Common.{◌≡◌, List, inl, inr, sym, ◌∙◌, subst}
 use Rattle.br_model.specs.declared.steps.Step.TheVariants.{Turn}
 use Rattle.br_model.proofs.Still.{turn-history}
 use Rattle.deferred_queue.specs.Ends.{Posting}
-use Rattle.plane_lock.specs.Pasts.{Past, state_of, world_of}
-use Rattle.plane_lock.proofs.Recording.{has-its-chip}
+use Rattle.plane_record.specs.Pasts.{Past, state_of, world_of}
+use Rattle.plane_record.proofs.Recording.{has-its-chip}
 use Rattle.plane_lock.proofs.Settling.{IsLocked, keeps}
-use Rattle.plane_lock.proofs.Turning.{in-turn}
+use Rattle.plane_record.proofs.Turning.{in-turn}
 use Rattle.plane_lock.proofs.locked.Locked.turn.Goals as goal
 use Rattle.plane_lock.proofs.locked.Locked.turn.Goals.{then-u-applied, else-u-applied}
 

@@ -1,0 +1,5 @@
+pub mod Telling
+pub mod Following
+pub mod Noting
+pub mod Arranged
+pub mod Sweeping

@@ -1,0 +1,3 @@
+pub mod Chips
+pub mod Lending
+pub mod Sweep

@@ -1,0 +1,11 @@
+pub mod Runs
+pub mod Idle
+pub mod Takings
+pub mod Openings
+pub mod Lives
+pub mod Chips
+pub mod Telling
+pub mod Drains
+pub mod Loops
+pub mod Does
+pub mod Standing

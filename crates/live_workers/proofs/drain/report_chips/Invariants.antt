@@ -1,5 +1,0 @@
-use Rattle.live_workers.proofs.Loops.{ReportsBelow}
-use Rattle.live_workers.proofs.drain.report_chips.Given as goal
-
-abbrev pub invariant-loop-number : goal.invariant-loop-number
-invariant-loop-number l = ReportsBelow l.initial.ran l.ran l.number

@@ -1,9 +1,0 @@
-use Rattle.std.proofs.Common.{ap, ◌∙◌}
-use Rattle.plane_core.specs.Chips.{chip_of}
-use Rattle.plane_core.proofs.Noting.{offered_as}
-use Rattle.plane_core.proofs.chip.offer_report.Goals as goal
-
-pub returns : goal.returns
-returns c dom n =
-    ap (chip_of dom n) c.offer-kept.ensures.kept
-    ∙ offered_as dom n c.args.reports.now (c.args.vid, c.args.mac, c.args.port) c.offer-kept.result c.offer-kept.ensures.value

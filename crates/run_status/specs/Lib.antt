@@ -1,0 +1,3 @@
+pub mod Statuses
+pub mod Stopping
+pub mod Writing

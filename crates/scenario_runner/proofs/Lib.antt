@@ -1,0 +1,13 @@
+pub mod Auditing
+pub mod Counting
+pub mod Doing
+pub mod Ends
+pub mod Following
+pub mod Generating
+pub mod Packets
+pub mod Reaching
+pub mod Ready
+pub mod Sections
+pub mod Speaking
+pub mod Steps
+pub mod Telling

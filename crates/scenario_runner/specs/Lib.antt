@@ -1,0 +1,8 @@
+pub mod Advancing
+pub mod Counting
+pub mod Generating
+pub mod Halting
+pub mod Playing
+pub mod Section
+pub mod Session
+pub mod Speaking
