@@ -72,7 +72,7 @@ now 255000
 end
 ";
 
-/// The host at 10.0.0.10 yields to 10.0.0.9 until it hasn't heard it for 255 seconds,
+/// The host at 10.0.0.10 yields to 10.0.0.9 until it hasn't heard it for 255 seconds.
 #[test]
 fn a_lower_address_asks(rt: HostRuntime) {
     let alloc = rt.alloc();
@@ -88,7 +88,7 @@ fn a_lower_address_asks(rt: HostRuntime) {
     );
 }
 
-/// and at an equal address it doesn't.
+/// The host at 10.0.0.9 doesn't yield to a querier at its own address.
 #[test]
 fn an_equal_address_is_not_yielded_to(rt: HostRuntime) {
     let alloc = rt.alloc();
