@@ -1,0 +1,384 @@
+"""The differences of docs/KERNEL.md, as they show in a record, and what a scenario can't say.
+
+Of some frames the kernel's way is known beforehand, and they would leave another state in the scenario: `expected` gives the ports
+that the kernel must use then, and the frame doesn't enter the scenario. Of others the difference is named afterwards, by `name_of`, which
+tests as narrowly as a record allows: an unnamed difference is unexplained. `react` sets the scenario right behind a frame of which it is
+known that the two go on differently.
+"""
+import collections
+
+import kernel
+import packets
+
+LATE = 20 * 10**9        # ns: how late the kernel's timers of some hundred seconds end something, at most
+HOLDS = 255 * 10**9      # ns: how long a querier or a router port is known
+OWN_LATE = 10**9         # ns: how late the querier of the bridge begins, at most
+LEARNING = 2             # a port's state
+CHANGES_BYTES = ("mcast_to_unicast", "vlan_tunnel")
+# settings of a port that a scenario lacks, and that only change what leaves the port itself, or what enters there
+LEFT_OUT = ("neigh_suppress", "proxyarp", "vlan_tunnel", "mcast_to_unicast", "backup_port", "mrp_ring", "mab")
+DEFAULT_TIMES = {"last_member_interval": 100, "membership_interval": 26000, "querier_interval": 25500}
+
+# `teaches`: whether the kernel learns the source all the same
+Expected = collections.namedtuple("Expected", "name ports teaches")
+
+
+def has_own_times(bridge):
+    return any(bridge.options.get(name, usual) != usual for name, usual in DEFAULT_TIMES.items())
+
+
+def unfit(bridge, data):
+    """Why a frame isn't judged, or None."""
+    if len(data) > packets.LONGEST:
+        return "longer than %d bytes" % packets.LONGEST
+    if bridge.options.get("vlan_protocol", 0x8100) != 0x8100:
+        return "the bridge's VLANs are of 802.1ad"
+    if bridge.has_option(kernel.MST):
+        return "the bridge has a spanning tree for each VLAN (mst_enable)"
+    if not bridge.is_aware() and packets.bare(data)[12:14] == packets.TAG and packets.tag_of(data):
+        return "two tags, and the bridge doesn't look at them"
+    return None
+
+
+class Snooped:
+    """What the messages of the record say of queriers and routers."""
+
+    def __init__(self):
+        self.querier = {4: (None, 0, 0), 6: (None, 0, 0)}  # the address, until when it is known, and until when it waits
+        self.routers = {4: {}, 6: {}}  # number -> until when
+        self.announced, self.passed_over = {}, {}
+        self.asked, self.told, self.own_off, self.flushed = {}, set(), None, None
+
+    def general(self, time, version, number, source, delay):
+        address, until, waits = self.querier[version]
+        if address is not None and any(address) and until > time and source > address:
+            self.passed_over[number] = time + HOLDS
+            return
+        self.querier[version] = source, time + HOLDS, waits if until > time else time + delay * 10**6
+        self.routers[version][number] = time + HOLDS
+
+    def heard_before(self, version, number, time):
+        self.querier[version] = b"", time + HOLDS, time
+        self.routers[version][number] = time + HOLDS
+
+    def knows(self, version, time):
+        return self.querier[version][1] > time
+
+    def waits(self, version, time):
+        return self.querier[version][2] > time
+
+    def asked_of(self, time, group):
+        return time - self.asked.get(group, -LATE) < LATE
+
+    def told_router(self, number):
+        self.told.add(number)
+
+    def own_querier_off(self, time):
+        self.own_off = time
+
+    def of_routers(self, time, version):
+        return {number for number, until in self.routers[version].items() if until > time}
+
+
+class View:
+    """What the kernel's tables said of a frame when it entered: numbers of ports, 0 is the host."""
+
+    def __init__(self, case, number, device, data, time):
+        bridge, model = case.bridge, case.model
+        self.number, self.time, self.data = number, time, data
+        self.port = bridge.ports.get(device)
+        name = model.name(self.port) if self.port else "HOST"
+        vlans = model.vlans.get(name, {})
+        self.vid = packets.vid_of(data) or next((vid for vid, (pvid, _) in vlans.items() if pvid), 0)
+        self.admitted = self.vid in vlans
+        self.key = self.vid if bridge.is_aware() else 0, data[:6].hex(":")
+        self.source_entry = bridge.fdb.get((self.key[0], data[6:12].hex(":")))
+        self.entry = bridge.fdb.get(self.key)
+        self.entry_number, self.entry_place = self.place_of_entry(case)
+        self.promiscuous, self.snooping = bridge.promiscuous, bridge.is_snooping()
+        self.host_in_vlan = self.vid in model.vlans["host"]
+        self.others = {case.number_of(each.index): each for each in bridge.ports.values()}
+        self.flood = self.flooded(case)
+        self.find_members(case, data)
+        self.router_settings = {n for n, each in self.others.items() if each.has("mcast_router")}
+        self.router_settings |= {0} if bridge.options.get("mcast_router", 1) != 1 else set()
+
+    def place_of_entry(self, case):
+        """The number of the port where the kernel has the destination, and whether that is "host", "down", "outside" of the VLAN or
+        "here"."""
+        if self.entry is None:
+            return None, None
+        device, kind = self.entry
+        if kind == "local" or device == case.bridge.index:
+            return 0, "host"
+        port = case.bridge.ports.get(device)
+        if port is None or not port.is_up():
+            return None, "down"
+        return case.number_of(device), "here" if self.is_in_vlan(case, port) else "outside"
+
+    def flooded(self, case):
+        """Where a frame of this VLAN to a group leaves that is flooded."""
+        if not self.admitted:
+            return set()
+        ports = {0} if self.port and self.host_in_vlan else set()
+        for number, port in self.others.items():
+            flags = case.model.flags.get(case.model.name(port))
+            isolated = flags and flags["isolated"] and self.port and self.port.flags["isolated"]
+            if flags and number != self.number and flags["mcast_flood"] and self.is_in_vlan(case, port) and not isolated:
+                ports.add(number)
+        return ports
+
+    def is_in_vlan(self, case, port):
+        return self.vid in case.model.vlans.get(case.model.name(port), {})
+
+    def find_members(self, case, data):
+        """The group of the packet, with its members in the kernel: number -> key."""
+        found = packets.addresses(data) if data[0] & 1 else None
+        self.group = found[1] if found else b""
+        text = packets.group_text(self.group)
+        self.members = {case.number_of(device): (vid, group, device) for vid, group, device in case.bridge.mdb
+                        if (vid, group) == (self.key[0], text) and (device == case.bridge.index or device in case.bridge.ports)}
+        self.has_sources = (self.key[0], self.group) in case.bridge.sources
+        self.unreachable = {number for number in self.members if number and not self.is_in_vlan(case, self.others[number])}
+
+    def version(self):
+        return {4: 4, 16: 6}.get(len(self.group))
+
+    def setting(self, other):
+        return {number for number, port in self.others.items() if port.has(other)}
+
+
+# ---- what the kernel does, known beforehand ----
+
+
+def expected(case, frame, data):
+    view, port = frame.view, frame.view.port
+    if port and not port.is_up():
+        return Expected("port-state", set(), port.state == LEARNING)
+    if packets.tag_of(data) and len(data) < 19:
+        return Expected("short-tag", set(), False)
+    if port and port.has("locked") and not packets.is_reserved(data) and view.admitted:
+        if view.source_entry is None or view.source_entry[0] != port.index or view.source_entry[1] == "local":
+            return Expected("locked", set(), False)
+    if view.snooping and view.admitted and packets.is_group(data) and not packets.is_reserved(data):
+        return expected_of_group(view, data)
+    return None
+
+
+def expected_of_group(view, data):
+    """Of a frame to a group, while snooping is on."""
+    if packets.kind_of(data) in (packets.V4, packets.V6):
+        fault = packets.fault_of(data)
+        if fault:
+            return Expected(fault, set(), True)
+    message = packets.message_of(data)
+    if not message or message.kind != "query":
+        return None
+    source, to = packets.addresses(data)
+    if message.version == 6 and source[:2] != b"\xfe\x80":
+        return Expected("query-source6", set(), True)
+    if not any(message.groups[0]) and to != packets.ALL_NODES[message.version]:
+        return Expected("query-destination", set(), True)
+    if not any(message.groups[0]) and message.sources:
+        return Expected("query-sources", view.flood, True)
+    if message.version == 6 and message.delay == 0 and message.short:
+        return Expected("query-zero-delay", view.flood, True)
+    return None
+
+
+# ---- what is set right behind a frame ----
+
+
+def react(case, frame, data):
+    view = frame.view
+    if view.port and view.admitted and view.port.flags["learning"] and teaches(case.bridge, frame, data):
+        case.model.teach(frame.time, view.number, case.model.name(view.port), view.vid, data[6:12].hex(":"))
+        case.notes["learned from a frame that doesn't enter the scenario"] += 1
+    if view.port and view.admitted and view.snooping and packets.is_group(data) and not (frame.expected and not frame.expected.ports):
+        react_to_message(case, frame, data)
+
+
+def teaches(bridge, frame, data):
+    """Whether the kernel learns the source where the scenario doesn't."""
+    if data[6] & 1 or not any(data[6:12]) or (frame.view.source_entry or (0, ""))[1] == "local":
+        return False
+    if frame.expected:
+        return frame.expected.teaches and case_can_teach(frame)
+    if not packets.is_reserved(data) or data[5] == 1 or data[5] == 0 and not bridge.options.get("stp_state"):
+        return False
+    forwards = bridge.options.get("group_fwd_mask", 0) >> data[5] & 1
+    return bool(forwards or not bridge.has_option(kernel.NO_LINKLOCAL_LEARN))
+
+
+def case_can_teach(frame):
+    return frame.view.port.is_up()
+
+
+def react_to_message(case, frame, data):
+    message, view, snooped = packets.message_of(data), frame.view, case.snooped
+    source = (packets.addresses(data) or (b"", b""))[0]
+    name = case.model.name(view.port)
+    if packets.announces_router(data):
+        snooped.announced[view.number] = frame.time + HOLDS
+    elif message and packets.is_general(message):
+        snooped.general(frame.time, message.version, view.number, source, message.delay)
+        if not any(source):
+            case.model.hear(frame.time, view.number, name, view.vid, message.version)
+            case.notes["query-zero"] += 1
+    elif message and message.kind == "query":
+        snooped.asked[packets.group_text(message.groups[0])] = frame.time
+    elif message and message.leaves and snooped.knows(message.version, frame.time) and not view.port.flags["fastleave"]:
+        keep_members(case, frame, message, name)
+
+
+def keep_members(case, frame, message, name):
+    """With a querier known a leave ends nothing in the kernel: a report behind it keeps the member."""
+    view = frame.view
+    for group in message.leaves:
+        text = packets.group_text(group)
+        key = view.key[0], text, view.port.index
+        if case.bridge.mdb.get(key) is False:
+            case.followed.add(key)
+            case.model.join(frame.time, view.number, name, view.vid, text)
+            case.notes["leave-querier"] += 1
+
+
+# ---- the names of differences ----
+
+
+def ends_late(case, key, time):
+    """Whether the kernel ended it by itself soon afterwards, so later than its time."""
+    return any(time < gone < time + LATE for gone in case.gone.get(key, ()))
+
+
+def of_unicast(case, frame, ours, linux):
+    view = frame.view
+    if linux - ({0} if view.promiscuous else set()):
+        late = view.entry and view.entry[1] == "learned" and ends_late(case, view.key, view.time)
+        return "late-end" if late and linux - {0} == {view.entry_number} else None
+    if frame.data[:6] == frame.data[6:12]:
+        return "teach-first"
+    if view.entry_place == "host":
+        return None if view.host_in_vlan else "own-address"
+    return {"down": "link-down", "outside": "vlan-del-keeps"}.get(view.entry_place)
+
+
+def of_group(case, frame, ours, linux):
+    for name, holds in GROUP_RULES:
+        if holds(case, frame.view, packets.message_of(frame.view.data), ours, linux):
+            return name
+    return None
+
+
+def is_leave(case, view, message, ours, linux):
+    return bool(message and view.snooping and message.kind in ("leave", "records") and linux == view.flood)
+
+
+def is_by_sources(case, view, message, ours, linux):
+    return view.has_sources and message is None and linux <= view.flood | set(view.members)
+
+
+def waits_for_querier(case, view, message, ours, linux):
+    version = view.version()
+    return bool(version and case.snooped.waits(version, view.time) and linux == view.flood)
+
+
+def own_querier(case, view, message, ours, linux):
+    off = case.snooped.own_off
+    late = case.own_querier_since is not None and 0 <= view.time - case.own_querier_since < OWN_LATE
+    return linux == view.flood and (late or off is not None and 0 <= view.time - off < HOLDS)
+
+
+def has_other_version(case, view, message, ours, linux):
+    version = view.version()
+    if not version or linux - ours:
+        return False
+    now = case.snooped.of_routers(view.time, version)
+    return ours - linux <= case.snooped.of_routers(view.time, 10 - version) - now
+
+
+def is_announced(case, view, message, ours, linux):
+    return not ours - linux and linux - ours <= {n for n, until in case.snooped.announced.items() if until > view.time}
+
+
+def has_router_setting(case, view, message, ours, linux):
+    return ours ^ linux <= view.router_settings
+
+
+def was_router_before(case, view, message, ours, linux):
+    return case.in_use and not ours - linux and linux - ours <= case.snooped.told
+
+
+def was_passed_over(case, view, message, ours, linux):
+    return not linux - ours and ours - linux <= {n for n, until in case.snooped.passed_over.items() if until > view.time}
+
+
+def ends_members_late(case, view, message, ours, linux):
+    late = {number for number, key in view.members.items() if ends_late(case, key, view.time)}
+    if not late:
+        return False
+    return not ours - linux and linux - ours <= late or ours == view.flood and linux - set(view.members) <= ours
+
+
+def is_outside(case, view, message, ours, linux):
+    return bool(view.unreachable) and linux <= view.flood and view.unreachable >= set(view.members) - linux
+
+
+def forgot_routers(case, view, message, ours, linux):
+    flushed = case.snooped.flushed
+    routers = case.snooped.of_routers(view.time, 4) | case.snooped.of_routers(view.time, 6)
+    return flushed is not None and view.time - flushed < HOLDS and not linux - ours and ours - linux <= routers
+
+
+def disagrees(case, view, message, ours, linux):
+    found = packets.addresses(view.data)
+    return bool(found) and not packets.agrees(view.data) and linux <= view.flood | set(view.members)
+
+
+def is_other_igmp(case, view, message, ours, linux):
+    return bool(message and message.kind == "other") and ours == view.flood and linux <= view.flood | set(view.members)
+
+
+def has_vlan_snooping(case, view, message, ours, linux):
+    return case.bridge.has_option(kernel.VLAN_SNOOPING) and linux <= view.flood | set(view.members)
+
+
+def is_forwarded(case, view, message, ours, linux):
+    mask = case.bridge.options.get("group_fwd_mask", 0) | (view.port.others.get("group_fwd_mask", 0) if view.port else 0)
+    if not packets.is_reserved(view.data):
+        return False
+    return linux - {0} == view.flood - {0} and (not view.port or bool(mask >> view.data[5] & 1))
+
+
+GROUP_RULES = [
+    ("leave-flood", is_leave), ("left out: sources (S,G)", is_by_sources), ("query-delay", waits_for_querier),
+    ("left out: the bridge's own querier", own_querier), ("left out: mcast_router", has_router_setting), ("routers-two", has_other_version),
+    ("router-messages", is_announced), ("left out: a router port from before the record", was_router_before),
+    ("query-order", was_passed_over), ("late-end", ends_members_late), ("vlan-del-keeps", is_outside),
+    ("snooping-flush", forgot_routers), ("ip-destination", disagrees), ("igmp-type", is_other_igmp),
+    ("left out: mcast_vlan_snooping", has_vlan_snooping), ("left out: group_fwd_mask", is_forwarded)]
+
+
+def of_settings(frame, ours, linux):
+    """A setting of a port that the scenario lacks."""
+    view = frame.view
+    if view.port and view.port.has("hairpin") and linux - ours <= {view.number} and not ours - linux:
+        return "left out: hairpin"
+    for setting in LEFT_OUT:
+        concerned = view.setting(setting)
+        if concerned and (view.number in concerned or ours ^ linux <= concerned):
+            return "left out: " + setting
+    blocked = {n for n, port in view.others.items() if port.vlan_states.get(view.vid, kernel.FORWARDING) != kernel.FORWARDING}
+    if blocked and not linux - ours and (view.number in blocked and not linux or ours - linux <= blocked):
+        return "left out: state of a VLAN"
+    return None
+
+
+def name_of(case, frame, ours, linux):
+    """The name of the difference between the ports that the scenario gives and those of the kernel, or None."""
+    name = of_settings(frame, ours, linux)
+    if name is None:
+        name = of_group(case, frame, ours, linux) if packets.is_group(frame.data) else of_unicast(case, frame, ours, linux)
+    if name is None and frame.view.promiscuous and linux - ours == {0} and not ours - linux:
+        name = "left out: a promiscuous host"
+    return name
