@@ -46,7 +46,8 @@ class Case:
         self.followed = set()  # members that the judge put in, whose ends it follows
         self.snooped = named.Snooped()
         self.own_query_due, self.own_query_six, self.own_querier_since = None, False, None
-        self.settings = {}  # of each device in words, until something changes
+        self.settings = {}  # of each device in words, and the like, until something changes
+        self.told, self.changes = {}, []  # when entries and members came, and when the configuration changed
         self.pending = []  # what was learned before the record, or with a command that the scenario has otherwise
 
     # ---- what the kernel says ----
@@ -64,13 +65,24 @@ class Case:
             self.is_over = True
             return
         if self.model.snooping and not self.bridge.is_snooping():
-            self.snooped.flushed = time
+            self.snooping_ends(time)
+        before = len(self.model.items)
         if self.bridge.ports or self.model.up:
             begin = self.asked_at if self.asked_at is not None and time - self.asked_at < FLIGHT else time
             self.model.sync(self.bridge, begin, time)
             self.remember()
             self.teach_pending(time)
+        if len(self.model.items) > before:
+            self.changes.append(time)
         self.follow_querier(time)
+
+    def snooping_ends(self, time):
+        """The kernel forgets members by reports with the command, and tells of them before it."""
+        self.snooped.flush(time)
+        for key, moments in list(self.gone.items()):
+            if len(key) == 3 and time - moments[-1] < named.SOON and key not in self.bridge.mdb:
+                self.notes["snooping-flush"] += 1
+                self.end_member(time, key)
 
     def remember(self):
         """What the scenario lost with a command by which the kernel keeps it is to be learned again."""
@@ -139,6 +151,7 @@ class Case:
                 self.model.forget(entry.vid or 1, entry.mac)
         else:
             self.bridge.fdb[key] = entry.index, entry.kind
+            self.told[key] = time
             if entry.sticky:
                 self.notes["sticky entries, which are static ones here"] += 1
             self.address_changed(time, entry, before, how)
@@ -176,6 +189,7 @@ class Case:
                 self.bridge.sources.discard((member.vid, member.address))
         else:
             self.bridge.mdb[key] = bool(before or by_command or member.permanent)
+            self.told[key] = time
             if before is False and self.bridge.mdb[key]:
                 self.end_member(time, key)
         self.changed(time)
@@ -196,8 +210,6 @@ class Case:
         """Why the scenario doesn't end a membership by itself that the kernel ends, or None."""
         if key in self.followed:
             return "put in by a frame, and ended"
-        if not self.bridge.is_snooping():
-            return "snooping-flush"
         if self.snooped.asked_of(time, key[1]):
             return "group-query"
         return "snooping times" if named.has_own_times(self.bridge) else None
@@ -213,7 +225,7 @@ class Case:
 
     def router(self, time, router, gone):
         port = self.bridge.ports.get(router.index)
-        if port and not gone:
+        if port and not gone and self.in_use and self.lacks:
             self.snooped.told_router(self.model.number(port))
 
     def ended(self, time):
@@ -226,12 +238,15 @@ class Case:
     # ---- the bridge's own querier ----
 
     def follow_querier(self, time):
-        if self.bridge.options.get("mcast_querier") and self.bridge.is_snooping():
+        if not self.bridge.options.get("mcast_querier"):
+            self.own_querier_since = None
+        elif self.own_querier_since is None:
+            waits = self.bridge.options.get("query_response_interval", 1000) * 10**7
+            self.own_querier_since = time if self.in_use else self.born + OWN_QUERIER_WAITS if time - self.born < 10**8 else time + waits
+            self.own_query_six = self.own_query_six or self.in_use
+        if self.own_querier_since is not None and self.bridge.is_snooping():
             if self.own_query_due is None:
-                waits = self.bridge.options.get("query_response_interval", 1000) * 10**7
-                self.own_query_due = time if self.in_use else self.born + OWN_QUERIER_WAITS if time - self.born < 10**8 else time + waits
-                self.own_querier_since = self.own_query_due
-                self.own_query_six = self.own_query_six or self.in_use
+                self.own_query_due = max(time, self.own_querier_since)
         elif self.own_query_due is not None:
             self.own_query_due = None
             self.snooped.own_querier_off(time)
@@ -256,6 +271,20 @@ class Case:
             port = self.bridge.ports.get(device)
             self.settings[device] = port.describe(self.bridge) if port else self.bridge.describe()
         return self.settings[device]
+
+    def settings_on(self):
+        """By setting the numbers of the ports that have it (of the flags: that don't)."""
+        if "on" not in self.settings:
+            ports = {self.number_of(each.index): each for each in self.bridge.ports.values()}
+            on = {setting: {n for n, each in ports.items() if each.has(setting)} for setting in named.SETTINGS}
+            on["bcast_flood"] = {n for n, each in ports.items() if not each.flags["bcast_flood"]}
+            self.settings["on"] = on
+        return self.settings["on"]
+
+    def options_now(self):
+        if "options" not in self.settings:
+            self.settings["options"] = dict(self.bridge.options)
+        return self.settings["options"]
 
     def quiet(self, time):
         """Remembers the kernel's tables where nothing happened for a while."""
@@ -311,7 +340,7 @@ class Case:
 
     def enter(self, time, order, number, device, data):
         self.own_queries(time)
-        why = named.unfit(self.bridge, data)
+        why = named.unfit(self.bridge, data, number == HOST)
         if why:
             self.uncompared[why] += 1
             self.remember_frame(Frame(time, order, number, data))

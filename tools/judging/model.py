@@ -27,6 +27,7 @@ class Model:
         self.items, self.start, self.clock = [], None, 0
         self.names, self.numbers, self.mac = {}, {}, None
         self.up, self.flags, self.vlans = set(), {}, {"host": dict(DEFAULT_VLANS)}
+        self.sources = set()  # of frames that entered, whose addresses may have been learned
         self.fdb, self.groups = {}, {}  # what commands made: (VLAN, address) -> (port, kind), and (VLAN, group, port)
         self.ageing, self.snooping, self.aware = 300, True, None
         self.moments = (0, 0)  # of the change that is being mirrored
@@ -68,6 +69,7 @@ class Model:
 
     def enter(self, time, number, digits, frame=None):
         self.at(time)
+        self.sources.add(":".join(digits[at:at + 2] for at in range(12, 24, 2)))
         self.items += [Item("publish"), Item("rx %d %s" % (number, digits), frame=frame), Item("serve")]
 
     # ---- the configuration ----
@@ -187,6 +189,8 @@ class Model:
             del self.fdb[vid, mac]
         for (vid, mac), (name, kind) in sorted(want.items()):
             if (vid, mac) not in self.fdb:
+                if mac in self.sources:
+                    self.forget(vid, mac)
                 self.command("fdb add %s dev %s vlan %d %s" % (mac, name, vid, kind))
                 self.fdb[vid, mac] = name, kind
 

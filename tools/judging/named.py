@@ -10,6 +10,7 @@ import collections
 import kernel
 import packets
 
+NEAR = 10 * 10**6        # ns round a change, within which a frame may be decided by the tables of either side
 LATE = 20 * 10**9        # ns: how late the kernel's timers of some hundred seconds end something, at most
 HOLDS = 255 * 10**9      # ns: how long a querier or a router port is known
 OWN_LATE = 10**9         # ns: how late the querier of the bridge begins, at most
@@ -17,6 +18,8 @@ LEARNING = 2             # a port's state
 CHANGES_BYTES = ("mcast_to_unicast", "vlan_tunnel")
 # settings of a port that a scenario lacks, and that only change what leaves the port itself, or what enters there
 LEFT_OUT = ("neigh_suppress", "proxyarp", "vlan_tunnel", "mcast_to_unicast", "backup_port", "mrp_ring", "mab")
+SETTINGS = LEFT_OUT + ("hairpin", "mcast_router")
+SOON = 5 * 10**7         # ns within which the kernel tells all of one change
 DEFAULT_TIMES = {"last_member_interval": 100, "membership_interval": 26000, "querier_interval": 25500}
 
 # `teaches`: whether the kernel learns the source all the same
@@ -27,7 +30,7 @@ def has_own_times(bridge):
     return any(bridge.options.get(name, usual) != usual for name, usual in DEFAULT_TIMES.items())
 
 
-def unfit(bridge, data):
+def unfit(bridge, data, by_host):
     """Why a frame isn't judged, or None."""
     if len(data) > packets.LONGEST:
         return "longer than %d bytes" % packets.LONGEST
@@ -37,6 +40,8 @@ def unfit(bridge, data):
         return "the bridge has a spanning tree for each VLAN (mst_enable)"
     if not bridge.is_aware() and packets.bare(data)[12:14] == packets.TAG and packets.tag_of(data):
         return "two tags, and the bridge doesn't look at them"
+    if not bridge.is_aware() and by_host and packets.tag_of(data) and packets.is_group(data):
+        return "to a group, with a tag of the host's, and the bridge doesn't look at it"
     return None
 
 
@@ -47,7 +52,7 @@ class Snooped:
         self.querier = {4: (None, 0, 0), 6: (None, 0, 0)}  # the address, until when it is known, and until when it waits
         self.routers = {4: {}, 6: {}}  # number -> until when
         self.announced, self.passed_over = {}, {}
-        self.asked, self.told, self.own_off, self.flushed = {}, set(), None, None
+        self.asked, self.told, self.own_off, self.flushed = {}, set(), None, set()
 
     def general(self, time, version, number, source, delay):
         address, until, waits = self.querier[version]
@@ -56,6 +61,7 @@ class Snooped:
             return
         self.querier[version] = source, time + HOLDS, waits if until > time else time + delay * 10**6
         self.routers[version][number] = time + HOLDS
+        self.flushed.discard(number)
 
     def heard_before(self, version, number, time):
         self.querier[version] = b"", time + HOLDS, time
@@ -76,8 +82,25 @@ class Snooped:
     def own_querier_off(self, time):
         self.own_off = time
 
-    def of_routers(self, time, version):
-        return {number for number, until in self.routers[version].items() if until > time}
+    def flush(self, time):
+        """Snooping goes off: the kernel forgets the router ports."""
+        self.flushed |= living(self.routers[4], time) | living(self.routers[6], time)
+        self.routers = {4: {}, 6: {}}
+
+    def router_differences(self, view):
+        """Of each difference its name, the ports that it makes routers' in the scenario alone, and those in the kernel alone."""
+        version = view.version()
+        here = living(self.routers[version], view.time) if version else set()
+        yield "routers-two", living(self.routers[10 - version], view.time) - here if version else set(), set()
+        yield "query-order", living(self.passed_over, view.time), set()
+        yield "snooping-flush", self.flushed, set()
+        yield "router-messages", set(), living(self.announced, view.time)
+        yield "left out: mcast_router", view.router_settings, view.router_settings
+        yield "left out: a router port from before the record", set(), self.told
+
+
+def living(moments, time):
+    return {number for number, until in moments.items() if until > time}
 
 
 class View:
@@ -85,7 +108,7 @@ class View:
 
     def __init__(self, case, number, device, data, time):
         bridge, model = case.bridge, case.model
-        self.number, self.time, self.data = number, time, data
+        self.number, self.device, self.time, self.data = number, device, time, data
         self.port = bridge.ports.get(device)
         name = model.name(self.port) if self.port else "HOST"
         vlans = model.vlans.get(name, {})
@@ -95,13 +118,15 @@ class View:
         self.source_entry = bridge.fdb.get((self.key[0], data[6:12].hex(":")))
         self.entry = bridge.fdb.get(self.key)
         self.entry_number, self.entry_place = self.place_of_entry(case)
+        self.on, self.options = case.settings_on(), case.options_now()
         self.promiscuous, self.snooping = bridge.promiscuous, bridge.is_snooping()
         self.host_in_vlan = self.vid in model.vlans["host"]
         self.others = {case.number_of(each.index): each for each in bridge.ports.values()}
         self.flood = self.flooded(case)
         self.find_members(case, data)
-        self.router_settings = {n for n, each in self.others.items() if each.has("mcast_router")}
-        self.router_settings |= {0} if bridge.options.get("mcast_router", 1) != 1 else set()
+        self.router_settings = self.on["mcast_router"] | ({0} if bridge.options.get("mcast_router", 1) != 1 else set())
+        self.blocked = {n for n, each in self.others.items() if each.vlan_states.get(self.vid, kernel.FORWARDING) != kernel.FORWARDING}
+        self.forwards = bool(self.port and self.port.others.get("group_fwd_mask", 0) | bridge.options.get("group_fwd_mask", 0))
 
     def place_of_entry(self, case):
         """The number of the port where the kernel has the destination, and whether that is "host", "down", "outside" of the VLAN or
@@ -124,7 +149,8 @@ class View:
         for number, port in self.others.items():
             flags = case.model.flags.get(case.model.name(port))
             isolated = flags and flags["isolated"] and self.port and self.port.flags["isolated"]
-            if flags and number != self.number and flags["mcast_flood"] and self.is_in_vlan(case, port) and not isolated:
+            floods = flags and (flags["mcast_flood"] or not self.port)  # of what the host sends it leaves none out
+            if floods and (number != self.number or port.has("hairpin")) and self.is_in_vlan(case, port) and not isolated:
                 ports.add(number)
         return ports
 
@@ -144,17 +170,14 @@ class View:
     def version(self):
         return {4: 4, 16: 6}.get(len(self.group))
 
-    def setting(self, other):
-        return {number for number, port in self.others.items() if port.has(other)}
-
 
 # ---- what the kernel does, known beforehand ----
 
 
 def expected(case, frame, data):
     view, port = frame.view, frame.view.port
-    if port and not port.is_up():
-        return Expected("port-state", set(), port.state == LEARNING)
+    if port and port.state == LEARNING:
+        return Expected("left out: a port that is learning", set(), True)
     if packets.tag_of(data) and len(data) < 19:
         return Expected("short-tag", set(), False)
     if port and port.has("locked") and not packets.is_reserved(data) and view.admitted:
@@ -194,7 +217,7 @@ def react(case, frame, data):
     if view.port and view.admitted and view.port.flags["learning"] and teaches(case.bridge, frame, data):
         case.model.teach(frame.time, view.number, case.model.name(view.port), view.vid, data[6:12].hex(":"))
         case.notes["learned from a frame that doesn't enter the scenario"] += 1
-    if view.port and view.admitted and view.snooping and packets.is_group(data) and not (frame.expected and not frame.expected.ports):
+    if view.admitted and view.snooping and packets.is_group(data) and not (frame.expected and not frame.expected.ports):
         react_to_message(case, frame, data)
 
 
@@ -203,31 +226,27 @@ def teaches(bridge, frame, data):
     if data[6] & 1 or not any(data[6:12]) or (frame.view.source_entry or (0, ""))[1] == "local":
         return False
     if frame.expected:
-        return frame.expected.teaches and case_can_teach(frame)
+        return frame.expected.teaches and frame.view.port.is_up()
     if not packets.is_reserved(data) or data[5] == 1 or data[5] == 0 and not bridge.options.get("stp_state"):
         return False
     forwards = bridge.options.get("group_fwd_mask", 0) >> data[5] & 1
     return bool(forwards or not bridge.has_option(kernel.NO_LINKLOCAL_LEARN))
 
 
-def case_can_teach(frame):
-    return frame.view.port.is_up()
-
-
 def react_to_message(case, frame, data):
     message, view, snooped = packets.message_of(data), frame.view, case.snooped
     source = (packets.addresses(data) or (b"", b""))[0]
-    name = case.model.name(view.port)
+    name, number = (case.model.name(view.port), view.number) if view.port else ("HOST", 0)
     if packets.announces_router(data):
-        snooped.announced[view.number] = frame.time + HOLDS
+        snooped.announced[number] = frame.time + HOLDS
     elif message and packets.is_general(message):
-        snooped.general(frame.time, message.version, view.number, source, message.delay)
+        snooped.general(frame.time, message.version, number, source, message.delay)
         if not any(source):
             case.model.hear(frame.time, view.number, name, view.vid, message.version)
             case.notes["query-zero"] += 1
     elif message and message.kind == "query":
         snooped.asked[packets.group_text(message.groups[0])] = frame.time
-    elif message and message.leaves and snooped.knows(message.version, frame.time) and not view.port.flags["fastleave"]:
+    elif message and message.leaves and snooped.knows(message.version, frame.time) and not (view.port and view.port.flags["fastleave"]):
         keep_members(case, frame, message, name)
 
 
@@ -236,7 +255,7 @@ def keep_members(case, frame, message, name):
     view = frame.view
     for group in message.leaves:
         text = packets.group_text(group)
-        key = view.key[0], text, view.port.index
+        key = view.key[0], text, view.device
         if case.bridge.mdb.get(key) is False:
             case.followed.add(key)
             case.model.join(frame.time, view.number, name, view.vid, text)
@@ -246,6 +265,16 @@ def keep_members(case, frame, message, name):
 # ---- the names of differences ----
 
 
+def of_row(case, key, time):
+    """Of an entry or a member that the kernel has and the scenario hasn't."""
+    if ends_late(case, key, time):
+        return "late-end"
+    came = case.told.get(key)
+    if came is not None and any(abs(came - change) < NEAR for change in case.changes):
+        return "near a change"
+    return None
+
+
 def ends_late(case, key, time):
     """Whether the kernel ended it by itself soon afterwards, so later than its time."""
     return any(time < gone < time + LATE for gone in case.gone.get(key, ()))
@@ -253,11 +282,12 @@ def ends_late(case, key, time):
 
 def of_unicast(case, frame, ours, linux):
     view = frame.view
-    if linux - ({0} if view.promiscuous else set()):
+    heard = linux - ({0} if view.promiscuous else set())
+    if frame.data[:6] == frame.data[6:12] and heard <= {view.number} & view.on["hairpin"]:
+        return "teach-first"
+    if heard:
         late = view.entry and view.entry[1] == "learned" and ends_late(case, view.key, view.time)
         return "late-end" if late and linux - {0} == {view.entry_number} else None
-    if frame.data[:6] == frame.data[6:12]:
-        return "teach-first"
     if view.entry_place == "host":
         return None if view.host_in_vlan else "own-address"
     return {"down": "link-down", "outside": "vlan-del-keeps"}.get(view.entry_place)
@@ -267,7 +297,17 @@ def of_group(case, frame, ours, linux):
     for name, holds in GROUP_RULES:
         if holds(case, frame.view, packets.message_of(frame.view.data), ours, linux):
             return name
-    return None
+    return of_routers(case, frame.view, ours, linux)
+
+
+def of_routers(case, view, ours, linux):
+    """Router ports that one of the two has: the names of all differences by which they are explained."""
+    names, surplus, lacking = [], ours - linux, linux - ours
+    for name, more, fewer in case.snooped.router_differences(view):
+        if more & surplus or fewer & lacking:
+            names.append(name)
+            surplus, lacking = surplus - more, lacking - fewer
+    return ", ".join(names) if not surplus and not lacking else None
 
 
 def is_leave(case, view, message, ours, linux):
@@ -289,30 +329,6 @@ def own_querier(case, view, message, ours, linux):
     return linux == view.flood and (late or off is not None and 0 <= view.time - off < HOLDS)
 
 
-def has_other_version(case, view, message, ours, linux):
-    version = view.version()
-    if not version or linux - ours:
-        return False
-    now = case.snooped.of_routers(view.time, version)
-    return ours - linux <= case.snooped.of_routers(view.time, 10 - version) - now
-
-
-def is_announced(case, view, message, ours, linux):
-    return not ours - linux and linux - ours <= {n for n, until in case.snooped.announced.items() if until > view.time}
-
-
-def has_router_setting(case, view, message, ours, linux):
-    return ours ^ linux <= view.router_settings
-
-
-def was_router_before(case, view, message, ours, linux):
-    return case.in_use and not ours - linux and linux - ours <= case.snooped.told
-
-
-def was_passed_over(case, view, message, ours, linux):
-    return not linux - ours and ours - linux <= {n for n, until in case.snooped.passed_over.items() if until > view.time}
-
-
 def ends_members_late(case, view, message, ours, linux):
     late = {number for number, key in view.members.items() if ends_late(case, key, view.time)}
     if not late:
@@ -322,12 +338,6 @@ def ends_members_late(case, view, message, ours, linux):
 
 def is_outside(case, view, message, ours, linux):
     return bool(view.unreachable) and linux <= view.flood and view.unreachable >= set(view.members) - linux
-
-
-def forgot_routers(case, view, message, ours, linux):
-    flushed = case.snooped.flushed
-    routers = case.snooped.of_routers(view.time, 4) | case.snooped.of_routers(view.time, 6)
-    return flushed is not None and view.time - flushed < HOLDS and not linux - ours and ours - linux <= routers
 
 
 def disagrees(case, view, message, ours, linux):
@@ -340,37 +350,38 @@ def is_other_igmp(case, view, message, ours, linux):
 
 
 def has_vlan_snooping(case, view, message, ours, linux):
-    return case.bridge.has_option(kernel.VLAN_SNOOPING) and linux <= view.flood | set(view.members)
+    return bool(view.options.get("multi_boolopt", 0) & kernel.VLAN_SNOOPING) and linux <= view.flood | set(view.members)
 
 
 def is_forwarded(case, view, message, ours, linux):
-    mask = case.bridge.options.get("group_fwd_mask", 0) | (view.port.others.get("group_fwd_mask", 0) if view.port else 0)
-    if not packets.is_reserved(view.data):
-        return False
-    return linux - {0} == view.flood - {0} and (not view.port or bool(mask >> view.data[5] & 1))
+    """A reserved address, to which the host sends as to any, and by which the bridge may be told to forward."""
+    return packets.is_reserved(view.data) and linux - {0} == view.flood - {0} and (not view.port or view.forwards)
+
+
+def floods_all(case, view, message, ours, linux):
+    return not view.port and linux == view.flood and not ours - linux
 
 
 GROUP_RULES = [
     ("leave-flood", is_leave), ("left out: sources (S,G)", is_by_sources), ("query-delay", waits_for_querier),
-    ("left out: the bridge's own querier", own_querier), ("left out: mcast_router", has_router_setting), ("routers-two", has_other_version),
-    ("router-messages", is_announced), ("left out: a router port from before the record", was_router_before),
-    ("query-order", was_passed_over), ("late-end", ends_members_late), ("vlan-del-keeps", is_outside),
-    ("snooping-flush", forgot_routers), ("ip-destination", disagrees), ("igmp-type", is_other_igmp),
+    ("left out: the bridge's own querier", own_querier), ("late-end", ends_members_late), ("vlan-del-keeps", is_outside),
+    ("ip-destination", disagrees), ("igmp-type", is_other_igmp), ("host-floods", floods_all),
     ("left out: mcast_vlan_snooping", has_vlan_snooping), ("left out: group_fwd_mask", is_forwarded)]
 
 
 def of_settings(frame, ours, linux):
     """A setting of a port that the scenario lacks."""
     view = frame.view
-    if view.port and view.port.has("hairpin") and linux - ours <= {view.number} and not ours - linux:
+    if view.number in view.on["hairpin"] and linux - ours == {view.number} and not ours - linux:
         return "left out: hairpin"
     for setting in LEFT_OUT:
-        concerned = view.setting(setting)
+        concerned = view.on[setting]
         if concerned and (view.number in concerned or ours ^ linux <= concerned):
             return "left out: " + setting
-    blocked = {n for n, port in view.others.items() if port.vlan_states.get(view.vid, kernel.FORWARDING) != kernel.FORWARDING}
-    if blocked and not linux - ours and (view.number in blocked and not linux or ours - linux <= blocked):
+    if view.blocked and not linux - ours and (view.number in view.blocked and not linux or ours - linux <= view.blocked):
         return "left out: state of a VLAN"
+    if not view.port and frame.data[:6] == b"\xff" * 6 and not ours - linux and linux - ours <= view.on["bcast_flood"]:
+        return "host-floods"
     return None
 
 

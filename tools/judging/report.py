@@ -1,6 +1,5 @@
 """What is told of a verdict, and the files that keep it."""
 import collections
-import os
 
 import packets
 from model import HOST
@@ -65,49 +64,6 @@ class Report:
         if frame.expected is None and dict(each.ours).keys() == dict(each.linux).keys():
             words += "; other bytes: %s and %s" % tuple(" ".join(data.hex() for _, data in sorted(sent)) for sent in (each.ours, each.linux))
         yield "             %s; %s has: %s" % (words, self.names[frame.number], frame.settings)
-
-
-# ---- scenarios that keep what left in the kernel ----
-
-
-def left(frame, linux):
-    """The ports by which a frame left, each with its tag: a comment of a recorded scenario."""
-    words = ["%d%s" % (number, "/" + packets.tag_of(data).hex() if packets.tag_of(data) else "") for number, data in sorted(linux)]
-    return "# Linux: " + (" ".join(words) or "nowhere")
-
-
-def recorded(verdict, of_linux):
-    """The lines of the scenario, with what left in the kernel before each frame that was compared and is the same or is named."""
-    names = {each.frame: each.name for each in verdict.differences}
-    lines = list(verdict.head)
-    for item in verdict.outcome.items:
-        # `publish` stands before `rx`
-        if item.frame is not None:
-            name = names.get(item.frame, "")
-            before = [left(item.frame, of_linux(item.frame))] if name is not None else []
-            lines[-1:] = ([MARK + " " + name] if name else []) + before + lines[-1:]
-        lines.append(item.text)
-    return lines + ["end"]
-
-
-MARK = "# Linux differs:"
-
-
-def write(folder, name, lines):
-    path = os.path.join(folder, name + ".scenario")
-    with open(path, "w") as file:
-        file.write("\n".join(lines) + "\n")
-
-
-def file_name(title, folder):
-    """A name that no file there has, of the record's name and the bridge's."""
-    name = "".join(letter if letter.isalnum() or letter in "_-" else "-" for letter in title.replace(".sh", "")).strip("-")
-    while "--" in name:
-        name = name.replace("--", "-")
-    number = 1
-    while os.path.exists(os.path.join(folder, name + (".%d" % number if number > 1 else "") + ".scenario")):
-        number += 1
-    return name + (".%d" % number if number > 1 else "")
 
 
 def table(rows):

@@ -8,7 +8,6 @@ import packets
 from model import HOST, QUERIER, Item
 
 PROGRAM = os.environ.get("SWITCHBR", os.path.join(os.path.dirname(os.path.abspath(__file__)), "../../crates/switchbr/out/switchbr"))
-NEAR = 10 * 10**6  # ns round a change, within which a frame may be decided by the tables of either side
 MOST_PLACES = 64
 MOST_SECONDS = 600
 
@@ -52,27 +51,32 @@ class Outcome:
             if item.text.startswith("rx "):
                 frames += 1
                 self.frames[frames] = item.frame
-        self.sent, self.refused = collections.defaultdict(set), []
-        self.last = frames
-        self.by_number = collections.defaultdict(set)
+        self.sent, self.refused, self.by_number, self.last = collections.defaultdict(set), [], {}, frames
         self.lines = head + [item.text for item in self.items] + ["end"]
 
     def replay(self):
-        for line in run(["replay"], self.lines):
-            words = line.split(" ")
-            if words[0] == "tx" and words[2] != str(QUERIER):
-                frame, number = int(words[1]), int(words[2])
-                sent = 0 if number == HOST else number, bytes.fromhex(words[3])
-                self.by_number[frame].add(sent)
-                self.sent[self.frames[frame]].add(sent)
-            elif words[0] == "refused" and not self.steps[int(words[1])].may_fail:
-                self.refused.append((self.steps[int(words[1])].text, words[2]))
+        told = run(["replay"], self.lines)
+        self.by_number = sent_by_number(told)
+        for number, sent in self.by_number.items():
+            self.sent[self.frames[number]] |= sent
+        refused = [line.split(" ") for line in told if line.startswith("refused ")]
+        self.refused = [(self.steps[int(step)].text, why) for _, step, why in refused if not self.steps[int(step)].may_fail]
         return self
 
 
-def seen(frame, sent):
-    """What is compared of a frame: without the host where it sent it, and where its copy isn't seen; without a tag that isn't looked at."""
-    if frame.number == HOST or packets.is_reserved(frame.data):
+def sent_by_number(lines):
+    """By the number of a frame the (port, bytes) that left by a transcript, the host's pseudo port counted as the host."""
+    sent = collections.defaultdict(set)
+    for line in lines:
+        words = line.split(" ")
+        if words[0] == "tx" and words[2] != str(QUERIER):
+            sent[int(words[1])].add((0 if int(words[2]) == HOST else int(words[2]), bytes.fromhex(words[3])))
+    return sent
+
+
+def seen(number, data, sent):
+    """What is compared of a frame: without the host where the host sent it, or its copy isn't seen."""
+    if number == HOST or packets.is_reserved(data):
         sent = {each for each in sent if each[0]}
     return sent
 
@@ -80,8 +84,8 @@ def seen(frame, sent):
 def of_linux(frame):
     """What left in the kernel, as the scenario would have it."""
     if not frame.kept_tag:
-        return seen(frame, set(frame.out))
-    return seen(frame, {(number, packets.bare(data) if packets.tag_of(data) == frame.kept_tag else b"another tag") for number, data in frame.out})
+        return seen(frame.number, frame.data, set(frame.out))
+    return seen(frame.number, frame.data, {(number, packets.bare(data) if packets.tag_of(data) == frame.kept_tag else b"another tag") for number, data in frame.out})
 
 
 class Verdict:
@@ -117,12 +121,12 @@ class Verdict:
         self.counts["leave"] += bool(linux)
         self.counts["from the host"] += frame.number == HOST
         if frame.expected is not None:
-            ours, numbers = None, {number for number, _ in seen(frame, {(number, b"") for number in frame.expected.ports})}
+            ours, numbers = None, {number for number, _ in seen(frame.number, frame.data, {(number, b"") for number in frame.expected.ports})}
             if {number for number, _ in linux} == numbers and self.keeps_bytes(frame, linux):
                 self.differ(frame, set(), linux, frame.expected.name)
                 return
         else:
-            ours = seen(frame, self.outcome.sent[frame])
+            ours = seen(frame.number, frame.data, self.outcome.sent[frame])
             if ours == linux:
                 self.counts["same"] += 1
                 return
@@ -146,7 +150,7 @@ class Verdict:
     def same_bytes(self, frame, ours, linux):
         """Whether the two agree where both send, or a setting may change the bytes."""
         here, there = dict(ours), dict(linux)
-        if any(port.has(other) for port in frame.view.others.values() for other in named.CHANGES_BYTES):
+        if any(frame.view.on[setting] for setting in named.CHANGES_BYTES):
             return True
         return all(here[number] == there[number] for number in here.keys() & there.keys())
 
@@ -167,7 +171,7 @@ class Verdict:
             given = packets.bare(frame.data) if not self.case.bridge.is_aware() and frame.kept_tag else frame.data
             last = [Item("publish"), Item("rx %d %s" % (frame.number, given.hex()), frame=frame), Item("serve")]
             outcome = Outcome(self.head, kept + last).replay()
-            if seen(frame, outcome.by_number[outcome.last]) == linux:
+            if seen(frame.number, frame.data, outcome.by_number[outcome.last]) == linux:
                 return True
         return False
 
@@ -189,9 +193,9 @@ class Verdict:
     def is_near(self, items, at, frame):
         item = items[at]
         if item.end:
-            return item.begin - NEAR <= frame.time <= item.end + NEAR
+            return item.begin - named.NEAR <= frame.time <= item.end + named.NEAR
         if item.frame:
-            return abs(item.frame.time - frame.time) <= NEAR
+            return abs(item.frame.time - frame.time) <= named.NEAR
         return True
 
     # ---- tables ----
@@ -207,18 +211,14 @@ class Verdict:
             self.looks += 1
             ours = {line.replace("dev HOST ", "dev host ") for line in run(["show", table], lines)[:-1] if "dev QUERIER " not in line}
             for text in sorted(linux.keys() - ours):
-                name = self.name_of_row(cut, linux[text])
+                name = named.of_row(self.case, linux[text], cut.time)
                 self.rows.append(Row(cut.time, table, text, "Linux", name))
-                if name is None:
+                if name != "late-end":
                     self.put_in(cut, table, text)
             for text in sorted(ours - linux.keys()):
                 if text not in self.corrected:
                     self.rows.append(Row(cut.time, table, text, "switchbr", None))
                 self.take_out(cut, table, text)
-
-    def name_of_row(self, cut, key):
-        """Where the kernel has what the scenario doesn't have any more."""
-        return "late-end" if named.ends_late(self.case, key, cut.time) else None
 
     def take_out(self, cut, table, text):
         words = text.split(" ")
