@@ -37,7 +37,7 @@ class Cut:
 class Case:
     def __init__(self, time, bridge, lacks):
         self.bridge, self.born, self.lacks = bridge, time, lacks
-        self.is_over, self.in_use = False, bool(lacks)
+        self.is_over, self.in_use, self.sees_host = False, bool(lacks), True
         self.model, self.frames, self.cuts = Model(), [], []
         self.recent = collections.defaultdict(collections.deque)
         self.notes, self.uncompared, self.strangers = collections.Counter(), collections.Counter(), []
@@ -393,6 +393,8 @@ class Case:
                 self.own_query_six = True
                 if self.own_querier_since is not None and time > self.own_querier_since and self.own_query_due is not None:
                     self.own_query(time, 6)
+        elif not self.sees_host and source == self.bridge.mac:
+            self.uncompared["sent by the switch itself"] += 1
         elif number and source == self.bridge.ports[device].mac:
             self.uncompared["sent by a port's own device"] += 1
         elif any(port.has(other) for port in self.bridge.ports.values() for other in named.CHANGES_BYTES):

@@ -18,6 +18,7 @@ LEARNING = 2             # a port's state
 CHANGES_BYTES = ("mcast_to_unicast", "vlan_tunnel")
 # settings of a port that a scenario lacks, and that only change what leaves the port itself, or what enters there
 LEFT_OUT = ("neigh_suppress", "proxyarp", "vlan_tunnel", "mcast_to_unicast", "backup_port", "mrp_ring", "mab")
+PROMISCUOUS = "left out: a promiscuous host"
 SETTINGS = LEFT_OUT + ("hairpin", "mcast_router")
 SOON = 5 * 10**7         # ns within which the kernel tells all of one change
 DEFAULT_TIMES = {"last_member_interval": 100, "membership_interval": 26000, "querier_interval": 25500}
@@ -387,9 +388,13 @@ def of_settings(frame, ours, linux):
 
 def name_of(case, frame, ours, linux):
     """The name of the difference between the ports that the scenario gives and those of the kernel, or None."""
+    if frame.view.promiscuous and 0 in linux - ours:
+        return PROMISCUOUS if linux - {0} == ours else name_of_ports(case, frame, ours, linux - {0}) or name_of_ports(case, frame, ours, linux)
+    return name_of_ports(case, frame, ours, linux)
+
+
+def name_of_ports(case, frame, ours, linux):
     name = of_settings(frame, ours, linux)
     if name is None:
         name = of_group(case, frame, ours, linux) if packets.is_group(frame.data) else of_unicast(case, frame, ours, linux)
-    if name is None and frame.view.promiscuous and linux - ours == {0} and not ours - linux:
-        name = "left out: a promiscuous host"
     return name

@@ -115,18 +115,22 @@ class Verdict:
 
     # ---- frames ----
 
+    def seen(self, frame, sent):
+        """What is compared of what the scenario sends: at far ends the host's copies aren't seen."""
+        return {each for each in seen(frame.number, frame.data, sent) if each[0] or self.case.sees_host}
+
     def compare_frame(self, frame):
         linux = of_linux(frame)
         self.counts["frames"] += 1
         self.counts["leave"] += bool(linux)
         self.counts["from the host"] += frame.number == HOST
         if frame.expected is not None:
-            ours, numbers = None, {number for number, _ in seen(frame.number, frame.data, {(number, b"") for number in frame.expected.ports})}
+            ours, numbers = None, {number for number, _ in self.seen(frame, {(number, b"") for number in frame.expected.ports})}
             if {number for number, _ in linux} == numbers and self.keeps_bytes(frame, linux):
                 self.differ(frame, set(), linux, frame.expected.name)
                 return
         else:
-            ours = seen(frame.number, frame.data, self.outcome.sent[frame])
+            ours = self.seen(frame, self.outcome.sent[frame])
             if ours == linux:
                 self.counts["same"] += 1
                 return
@@ -171,7 +175,7 @@ class Verdict:
             given = packets.bare(frame.data) if not self.case.bridge.is_aware() and frame.kept_tag else frame.data
             last = [Item("publish"), Item("rx %d %s" % (frame.number, given.hex()), frame=frame), Item("serve")]
             outcome = Outcome(self.head, kept + last).replay()
-            if seen(frame.number, frame.data, outcome.by_number[outcome.last]) == linux:
+            if self.seen(frame, outcome.by_number[outcome.last]) == linux:
                 return True
         return False
 
