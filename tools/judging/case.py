@@ -47,6 +47,8 @@ class Case:
         self.snooped = named.Snooped()
         self.own_query_due, self.own_query_six, self.own_querier_since = None, False, None
         self.settings = {}  # of each device in words, and the like, until something changes
+        self.odd = []  # (moment, device, name) of messages of an odd form
+        self.heard, self.left = {}, {}  # when a station spoke, or a member reported or left, by the keys of the tables
         self.told, self.changes = {}, []  # when entries and members came, and when the configuration changed
         self.pending = []  # what was learned before the record, or with a command that the scenario has otherwise
 
@@ -146,6 +148,8 @@ class Case:
         before = self.bridge.fdb.pop(key, (None, None))
         if gone:
             self.gone[key].append(time)
+            if not how and self.bridge.options.get("stp_state"):
+                how = "tree"  # a change of the topology shortens the time
             if before[1] == "learned" and how and not self.lacks and self.bridge.counts(entry.vid):
                 self.sync_moments(time)
                 self.model.forget(entry.vid or 1, entry.mac)
@@ -344,6 +348,7 @@ class Case:
         if why:
             self.uncompared[why] += 1
             self.remember_frame(Frame(time, order, number, data))
+            self.teach_unfit(time, number, device, data)
             return
         frame = Frame(time, order, number, data)
         given = data
@@ -360,7 +365,22 @@ class Case:
         else:
             self.model.at(time)
         frame.item = len(self.model.items) - 1
+        self.heard[frame.view.key[0], data[6:12].hex(":")] = time
         named.react(self, frame, given)
+
+    def note_message(self, time, vid, device, message):
+        """When members reported, and left."""
+        if message and message.kind in ("report", "records", "leave"):
+            for group in message.groups:
+                moments = self.left if group in message.leaves else self.heard
+                moments[vid, packets.group_text(group), device] = time
+
+    def teach_unfit(self, time, number, device, data):
+        """The kernel learns from a frame that isn't judged, too."""
+        view = named.View(self, number, device, data if self.bridge.is_aware() else packets.bare(data), time)
+        if view.port and view.port.is_up() and view.admitted and view.port.flags["learning"] and not data[6] & 1:
+            if (view.source_entry or (0, ""))[1] != "local":
+                self.model.teach(time, number, self.model.name(view.port), view.vid, data[6:12].hex(":"))
 
     def remember_frame(self, frame):
         same = self.recent[packets.bare(frame.data)]
@@ -397,7 +417,9 @@ class Case:
             self.uncompared["sent by the switch itself"] += 1
         elif number and source == self.bridge.ports[device].mac:
             self.uncompared["sent by a port's own device"] += 1
-        elif any(port.has(other) for port in self.bridge.ports.values() for other in named.CHANGES_BYTES):
+        elif packets.asks_address(data) and (self.settings_on()["neigh_suppress"] or self.settings_on()["proxyarp"]):
+            self.uncompared["answered by the bridge (neigh_suppress, proxyarp)"] += 1
+        elif any(self.settings_on()[setting] for setting in named.CHANGES_BYTES):
             self.uncompared["changed on its way (%s)" % ", ".join(named.CHANGES_BYTES)] += 1
         else:
             self.strangers.append((time, number, data))

@@ -27,7 +27,7 @@ def file_name(title, folder):
 
 def write(folder, title, judged):
     with open(os.path.join(folder, file_name(title, folder) + ".scenario"), "w") as file:
-        file.write("\n".join(lines_of(judged)) + "\n")
+        file.write("\n".join(["# Recorded: " + title] + lines_of(judged)) + "\n")
 
 
 def lines_of(judged):

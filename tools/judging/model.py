@@ -123,6 +123,8 @@ class Model:
             return
         if name not in self.up:
             self.port_up(name)
+            # what was learned before the port forwards
+            self.forgotten |= {(name, vid) for vid in bridge.vlans_of(port)}
         self.sync_vlans(name, bridge.vlans_of(port))
         self.sync_flags(name, port.flags)
 

@@ -14,6 +14,7 @@ NEAR = 10 * 10**6        # ns round a change, within which a frame may be decide
 LATE = 20 * 10**9        # ns: how late the kernel's timers of some hundred seconds end something, at most
 HOLDS = 255 * 10**9      # ns: how long a querier or a router port is known
 OWN_LATE = 10**9         # ns: how late the querier of the bridge begins, at most
+MEMBERSHIP, LEAVE = 255 * 10**9, 19 * 10**8  # ns without a report, or behind a leave, from which a membership may be due
 LEARNING = 2             # a port's state
 CHANGES_BYTES = ("mcast_to_unicast", "vlan_tunnel")
 # settings of a port that a scenario lacks, and that only change what leaves the port itself, or what enters there
@@ -91,10 +92,11 @@ class Snooped:
     def router_differences(self, view):
         """Of each difference its name, the ports that it makes routers' in the scenario alone, and those in the kernel alone."""
         version = view.version()
-        here = living(self.routers[version], view.time) if version else set()
+        members = set() if packets.message_of(view.data) else set(view.members)  # a message goes to routers alone
+        here = members | living(self.routers[version], view.time) if version else set()
         yield "routers-two", living(self.routers[10 - version], view.time) - here if version else set(), set()
-        yield "query-order", living(self.passed_over, view.time), set()
-        yield "snooping-flush", self.flushed, set()
+        yield "query-order", living(self.passed_over, view.time) - members, set()
+        yield "snooping-flush", self.flushed - members, set()
         yield "router-messages", set(), living(self.announced, view.time)
         yield "left out: mcast_router", view.router_settings, view.router_settings
         yield "left out: a router port from before the record", set(), self.told
@@ -119,6 +121,8 @@ class View:
         self.source_entry = bridge.fdb.get((self.key[0], data[6:12].hex(":")))
         self.entry = bridge.fdb.get(self.key)
         self.entry_number, self.entry_place = self.place_of_entry(case)
+        self.is_old = bool(self.entry) and self.entry[1] == "learned" and is_due(case, self.key, time)
+        self.learns = bool(self.port) and self.port.flags["learning"] and (self.source_entry or ("", ""))[1] in ("", "learned", "extern", "static")
         self.on, self.options = case.settings_on(), case.options_now()
         self.promiscuous, self.snooping = bridge.promiscuous, bridge.is_snooping()
         self.host_in_vlan = self.vid in model.vlans["host"]
@@ -166,6 +170,7 @@ class View:
         self.members = {case.number_of(device): (vid, group, device) for vid, group, device in case.bridge.mdb
                         if (vid, group) == (self.key[0], text) and (device == case.bridge.index or device in case.bridge.ports)}
         self.has_sources = (self.key[0], self.group) in case.bridge.sources
+        self.due = {number for number, key in self.members.items() if is_due(case, key, self.time)}
         self.unreachable = {number for number in self.members if number and not self.is_in_vlan(case, self.others[number])}
 
     def version(self):
@@ -236,8 +241,11 @@ def teaches(bridge, frame, data):
 
 def react_to_message(case, frame, data):
     message, view, snooped = packets.message_of(data), frame.view, case.snooped
+    case.note_message(frame.time, view.key[0], view.device, message)
     source = (packets.addresses(data) or (b"", b""))[0]
     name, number = (case.model.name(view.port), view.number) if view.port else ("HOST", 0)
+    if packets.oddity(data):
+        case.odd.append((frame.time, view.device, packets.oddity(data)))
     if packets.announces_router(data):
         snooped.announced[number] = frame.time + HOLDS
     elif message and packets.is_general(message):
@@ -271,8 +279,55 @@ def of_row(case, key, time):
     if ends_late(case, key, time):
         return "late-end"
     came = case.told.get(key)
+    if came is not None and of_odd_message(case, key, came):
+        return of_odd_message(case, key, came)
     if came is not None and any(abs(came - change) < NEAR for change in case.changes):
         return "near a change"
+    return None
+
+
+def of_odd_message(case, key, came):
+    """A member that a message of an odd form made."""
+    for time, device, name in case.odd:
+        if len(key) == 3 and key[2] == device and 0 <= came - time < SOON:
+            return name
+    return None
+
+
+def ends_late(case, key, time):
+    """Whether it was due, and the kernel ended it by itself soon afterwards, so later than its time."""
+    return is_due(case, key, time) and went_soon(case, key, time)
+
+
+def went_soon(case, key, time):
+    return any(time < gone < time + LATE for gone in case.gone.get(key, ()))
+
+
+def is_due(case, key, time):
+    heard = case.heard.get(key)
+    if heard is None or len(key) == 2:
+        return heard is None or time - heard >= case.bridge.options.get("ageing_time", 30000) * 10**7
+    left = case.left.get(key, 0)
+    return time - heard >= MEMBERSHIP or left >= heard and time - left >= LEAVE or case.snooped.asked_of(time, key[1])
+
+
+def of_row(case, key, time):
+    """Of an entry or a member that the kernel has and the scenario hasn't."""
+    if ends_late(case, key, time):
+        return "late-end"
+    came = case.told.get(key)
+    if came is not None and of_odd_message(case, key, came):
+        return of_odd_message(case, key, came)
+    if came is not None and any(abs(came - change) < NEAR for change in case.changes):
+        return "near a change"
+    return None
+
+
+def of_odd_message(case, key, came):
+    """A member that a message of an odd form made."""
+    for time, device, name in case.odd:
+        if len(key) == 3 and key[2] == device and 0 <= came - time < SOON:
+            return name
     return None
 
 
@@ -284,11 +339,10 @@ def ends_late(case, key, time):
 def of_unicast(case, frame, ours, linux):
     view = frame.view
     heard = linux - ({0} if view.promiscuous else set())
-    if frame.data[:6] == frame.data[6:12] and heard <= {view.number} & view.on["hairpin"]:
+    if frame.data[:6] == frame.data[6:12] and view.learns and heard <= {view.number} & view.on["hairpin"]:
         return "teach-first"
     if heard:
-        late = view.entry and view.entry[1] == "learned" and ends_late(case, view.key, view.time)
-        return "late-end" if late and linux - {0} == {view.entry_number} else None
+        return "late-end" if view.is_old and heard == {view.entry_number} != ours and went_soon(case, view.key, view.time) else None
     if view.entry_place == "host":
         return None if view.host_in_vlan else "own-address"
     return {"down": "link-down", "outside": "vlan-del-keeps"}.get(view.entry_place)
@@ -298,7 +352,7 @@ def of_group(case, frame, ours, linux):
     for name, holds in GROUP_RULES:
         if holds(case, frame.view, packets.message_of(frame.view.data), ours, linux):
             return name
-    return of_routers(case, frame.view, ours, linux)
+    return of_oddity(frame.view, ours, linux) or of_routers(case, frame.view, ours, linux)
 
 
 def of_routers(case, view, ours, linux):
@@ -331,7 +385,7 @@ def own_querier(case, view, message, ours, linux):
 
 
 def ends_members_late(case, view, message, ours, linux):
-    late = {number for number, key in view.members.items() if ends_late(case, key, view.time)}
+    late = {number for number in view.due if went_soon(case, view.members[number], view.time)}
     if not late:
         return False
     return not ours - linux and linux - ours <= late or ours == view.flood and linux - set(view.members) <= ours
@@ -344,6 +398,11 @@ def is_outside(case, view, message, ours, linux):
 def disagrees(case, view, message, ours, linux):
     found = packets.addresses(view.data)
     return bool(found) and not packets.agrees(view.data) and linux <= view.flood | set(view.members)
+
+
+def of_oddity(view, ours, linux):
+    """A message of an odd form, that goes as ordinary payload does, or as a message, or is dropped."""
+    return packets.oddity(view.data) if view.snooping and linux <= view.flood | set(view.members) else None
 
 
 def is_other_igmp(case, view, message, ours, linux):

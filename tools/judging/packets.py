@@ -138,6 +138,47 @@ def records(body, size):
     return found
 
 
+def oddity(data):
+    """The difference of docs/KERNEL.md that a message of an odd form makes, or None."""
+    data = bare(data)
+    header = header_of(data)
+    if header is None:
+        return None
+    body = message_bytes(data)
+    if body is None:
+        chained = header[0] == 6 and header[2] == 0 and len(data) > 55 and data[54] in (0, 43, 44, 60)
+        return "header-chain" if chained else None
+    if header[0] == 4 and int.from_bytes(data[20:22], "big") & 0x3FFF:
+        return "igmp-fragment"
+    if header[0] == 6 and body[:1] and body[0] in MLD and 8 <= len(body) < 24 and body[0] != 143:
+        return "mld-short"
+    message = message_of(data)
+    if message and message.kind == "records":
+        return odd_records(body, 4 if header[0] == 4 else 16)
+    if message and message.kind in ("report", "leave") and not is_multicast(message.groups[0]):
+        return "group-any"
+    return None
+
+
+def odd_records(body, size):
+    at = 8
+    for _ in range(int.from_bytes(body[6:8], "big")):
+        if at + 4 + size > len(body):
+            return "record-partial"
+        if body[at + 1]:
+            return "record-auxiliary"
+        if body[at] == 6:
+            return "record-type6"
+        if not is_multicast(body[at + 4:at + 4 + size]):
+            return "group-any"
+        at += 4 + size + int.from_bytes(body[at + 2:at + 4], "big") * size
+    return "record-partial" if at > len(body) else None
+
+
+def is_multicast(address):
+    return address[0] >> 4 == 14 if len(address) == 4 else address[:1] == b"\xff"
+
+
 def is_general(message):
     return message.kind == "query" and not any(message.groups[0]) and not message.sources
 
@@ -157,13 +198,18 @@ def announces_router(data):
 def agrees(data):
     """Whether the frame goes to the address of its packet's group."""
     to = addresses(data)[1]
-    is_group_address = to[0] >> 4 == 14 if len(to) == 4 else to[0] == 255
-    return is_group_address and frames.group_address(group_text(to)) == data[:6].hex()
+    return is_multicast(to) and frames.group_address(group_text(to)) == data[:6].hex()
 
 
 def group_text(address):
     """As a scenario spells it."""
     return ".".join(map(str, address)) if len(address) == 4 else address.hex(":", 2)
+
+
+def asks_address(data):
+    """Whether it is of ARP or neighbour discovery."""
+    data = bare(data)
+    return kind_of(data) == 0x0806 or (header_of(data) or (0, 0, 0))[0::2] == (6, 58) and data[54:55] in (b"\x87", b"\x88")
 
 
 def describe(data):

@@ -68,7 +68,7 @@ def of_text(name, text):
             yield Record(name, packets, faults)
             packets, faults, open_ = [], [], False
         elif line.startswith("=== "):
-            name, packets, faults, open_ = line[4:].strip(), [], [], True
+            name, packets, faults, open_ = " ".join(word for word in line[4:].split() if word != "true"), [], [], True
         elif words[0] == "E" and words[1:3] != ["lost", "0"]:
             faults.append(line[2:])
         elif words[0] == "P":
