@@ -19,6 +19,7 @@ import packets
 from case import FLIGHT, Case
 
 SKEW = 2 * 10**6  # ns by which a frame may be stamped where it left before it is stamped where it entered
+BEFORE = 10**9  # ns before the first frame, where the commands without a moment are put
 SENT, RECEIVED = 2, 1
 
 
@@ -53,7 +54,7 @@ def read(ports, commands):
     found.sort(key=lambda each: each[0])
     if not found:
         raise Broken("no frames")
-    case = FarCase(found[0][0], bridge_of(names))
+    case = FarCase(found[0][0] - BEFORE, bridge_of(names))
     changes = read_commands(commands, names) if commands else []
     run(case, directed(found), changes)
     return "far ends", [case], []
