@@ -144,6 +144,7 @@ class Case:
                     self.notes["a querier from before the record"] += 1
 
     def address(self, time, entry, gone, how):
+        self.unseen = True
         key = entry.vid, entry.mac
         before = self.bridge.fdb.pop(key, (None, None))
         if gone:
@@ -176,6 +177,7 @@ class Case:
             self.notes["static-moves"] += 1
 
     def member(self, time, member, gone, by_command):
+        self.unseen = True
         if member.source is not None:
             self.bridge.sources.add((member.vid, member.address))
         if member.source not in (None, b"*"):

@@ -122,7 +122,7 @@ class Kernel:
 
     def message(self, time, message):
         if message.type == netlink.ERROR:
-            self.answered(message.body)
+            self.answered(time, message.body)
         elif message.type == netlink.DONE:
             self.dumped(time, message.seq)
         elif message.flags & netlink.REQUEST and message.type in netlink.CONFIGURES:
@@ -134,9 +134,11 @@ class Kernel:
         else:
             self.told(time, message, bool(message.flags & netlink.MULTI))
 
-    def answered(self, body):
+    def answered(self, time, body):
         kind, seq = int.from_bytes(body[8:10], "little"), int.from_bytes(body[12:16], "little")
         self.requests = [each for each in self.requests if (each.type, each.seq) != (kind, seq)]
+        if kind in DUMPS:  # the kernel has no such table
+            self.dumped(time, seq)
 
     def dumped(self, time, seq):
         kind = self.dumps.pop(seq, None)
