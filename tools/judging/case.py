@@ -28,10 +28,11 @@ class Frame:
 
 
 class Cut:
-    """A quiet moment: the kernel's tables, and the commands that set the scenario right where they differed."""
+    """A quiet moment: the kernel's tables, the groups where sources count, and the commands that set the scenario right where the
+    tables differed."""
 
-    def __init__(self, time, fdb, mdb):
-        self.time, self.fdb, self.mdb, self.corrections = time, fdb, mdb, []
+    def __init__(self, time, fdb, mdb, sources):
+        self.time, self.fdb, self.mdb, self.sources, self.corrections = time, fdb, mdb, sources, []
 
 
 class Case:
@@ -43,7 +44,7 @@ class Case:
         self.notes, self.uncompared, self.strangers = collections.Counter(), collections.Counter(), []
         self.asked_at, self.last_event, self.unseen = None, None, False
         self.gone = collections.defaultdict(list)  # when entries and members went: key -> moments
-        self.followed = set()  # members that the judge put in, whose ends it follows
+        self.followed, self.taught = set(), set()  # members and addresses that the judge put in, whose ends it follows
         self.snooped = named.Snooped()
         self.own_query_due, self.own_query_six, self.own_querier_since = None, False, None
         self.settings = {}  # of each device in words, and the like, until something changes
@@ -112,6 +113,7 @@ class Case:
             number = HOST if name == "host" else self.model.numbers[device]
             self.notes["put in by a frame: " + kind] += 1
             if kind == "learned" and name != "host":
+                self.taught.add((vid, what))
                 self.model.teach(time, number, name, vid or 1, what)
             elif kind == "member":
                 self.followed.add((vid, what, device))
@@ -149,8 +151,9 @@ class Case:
         before = self.bridge.fdb.pop(key, (None, None))
         if gone:
             self.gone[key].append(time)
-            if not how and self.bridge.options.get("stp_state"):
-                how = "tree"  # a change of the topology shortens the time
+            if not how and (self.bridge.options.get("stp_state") or key in self.taught):
+                how = "time"  # a change of the topology shortens it, and a frame that was put in began it anew
+            self.taught.discard(key)
             if before[1] == "learned" and how and not self.lacks and self.bridge.counts(entry.vid):
                 self.sync_moments(time)
                 self.model.forget(entry.vid or 1, entry.mac)
@@ -178,7 +181,7 @@ class Case:
 
     def member(self, time, member, gone, by_command):
         self.unseen = True
-        if member.source is not None:
+        if member.source is not None and not gone:
             self.bridge.sources.add((member.vid, member.address))
         if member.source not in (None, b"*"):
             self.notes["members by source (S,G), which a scenario can't say"] += not gone
@@ -302,7 +305,8 @@ class Case:
     def cut(self, time):
         self.own_queries(time)
         self.model.at(time - 2 * 10**6)
-        cut = Cut(time, self.kernel_fdb(), self.kernel_mdb())
+        sources = {(packets.group_text(group), vid or 1) for vid, group in self.bridge.sources if len(group) in (4, 16)}
+        cut = Cut(time, self.kernel_fdb(), self.kernel_mdb(), sources)
         self.cuts.append(cut)
         self.model.items.append(Item(cut=cut))
         self.unseen = False
@@ -368,6 +372,7 @@ class Case:
             self.model.at(time)
         frame.item = len(self.model.items) - 1
         self.heard[frame.view.key[0], data[6:12].hex(":")] = time
+        self.taught.discard((frame.view.key[0], data[6:12].hex(":")))
         named.react(self, frame, given)
 
     def note_message(self, time, vid, device, message):

@@ -19,7 +19,7 @@ LEARNING = 2             # a port's state
 CHANGES_BYTES = ("mcast_to_unicast", "vlan_tunnel")
 # settings of a port that a scenario lacks, and that only change what leaves the port itself, or what enters there
 LEFT_OUT = ("neigh_suppress", "proxyarp", "vlan_tunnel", "mcast_to_unicast", "backup_port", "mrp_ring", "mab")
-PROMISCUOUS = "left out: a promiscuous host"
+PROMISCUOUS, BY_SOURCES = "left out: a promiscuous host", "left out: sources (S,G)"
 SETTINGS = LEFT_OUT + ("hairpin", "mcast_router")
 SOON = 5 * 10**7         # ns within which the kernel tells all of one change
 DEFAULT_TIMES = {"last_member_interval": 100, "membership_interval": 26000, "querier_interval": 25500}
@@ -255,8 +255,14 @@ def react_to_message(case, frame, data):
             case.notes["query-zero"] += 1
     elif message and message.kind == "query":
         snooped.asked[packets.group_text(message.groups[0])] = frame.time
-    elif message and message.leaves and snooped.knows(message.version, frame.time) and not (view.port and view.port.flags["fastleave"]):
+    elif message and message.leaves and snooped.knows(message.version, frame.time) and ends_nothing(case.bridge, view, message):
         keep_members(case, frame, message, name)
+
+
+def ends_nothing(bridge, view, message):
+    """Whether a leave, with a querier known, is of the older versions, and not at a port with `fastleave`."""
+    by_sources = bridge.options.get("igmp_version", 2) == 3 if message.version == 4 else bridge.options.get("mld_version", 1) == 2
+    return not by_sources and not (view.port and view.port.flags["fastleave"])
 
 
 def keep_members(case, frame, message, name):
@@ -423,7 +429,7 @@ def floods_all(case, view, message, ours, linux):
 
 
 GROUP_RULES = [
-    ("leave-flood", is_leave), ("left out: sources (S,G)", is_by_sources), ("query-delay", waits_for_querier),
+    ("leave-flood", is_leave), (BY_SOURCES, is_by_sources), ("query-delay", waits_for_querier),
     ("left out: the bridge's own querier", own_querier), ("late-end", ends_members_late), ("vlan-del-keeps", is_outside),
     ("ip-destination", disagrees), ("igmp-type", is_other_igmp), ("host-floods", floods_all),
     ("left out: mcast_vlan_snooping", has_vlan_snooping), ("left out: group_fwd_mask", is_forwarded)]

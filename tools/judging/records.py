@@ -5,6 +5,7 @@ left the device, 6 and 7 are of netlink) and HATYPE is 1 for Ethernet and 824 fo
 `=== NAME` begins a record and `=== end` ends it; other lines are for people.
 """
 import collections
+import gzip
 import os
 import re
 import sys
@@ -22,9 +23,11 @@ Packet = collections.namedtuple("Packet", "time device left data")
 
 
 def read(path):
-    """The records of a file."""
+    """The records of a file, which may be compressed by gzip."""
     with open(path, "rb") as file:
         data = file.read()
+    if data[:2] == b"\x1f\x8b":
+        data = gzip.decompress(data)
     if data[:4] == b"\x0a\x0d\x0d\x0a":
         return [of_capture(os.path.basename(path), data)]
     return list(of_text(os.path.basename(path), data.decode(errors="replace")))

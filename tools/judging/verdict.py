@@ -215,14 +215,18 @@ class Verdict:
             self.looks += 1
             ours = {line.replace("dev HOST ", "dev host ") for line in run(["show", table], lines)[:-1] if "dev QUERIER " not in line}
             for text in sorted(linux.keys() - ours):
-                name = named.of_row(self.case, linux[text], cut.time)
+                name = self.by_sources(cut, table, text) or named.of_row(self.case, linux[text], cut.time)
                 self.rows.append(Row(cut.time, table, text, "Linux", name))
                 if name != "late-end":
                     self.put_in(cut, table, text)
             for text in sorted(ours - linux.keys()):
                 if text not in self.corrected:
-                    self.rows.append(Row(cut.time, table, text, "switchbr", None))
+                    self.rows.append(Row(cut.time, table, text, "switchbr", self.by_sources(cut, table, text)))
                 self.take_out(cut, table, text)
+
+    def by_sources(self, cut, table, text):
+        words = text.split(" ")
+        return named.BY_SOURCES if table == "mdb" and (words[3], int(words[5])) in cut.sources else None
 
     def take_out(self, cut, table, text):
         words = text.split(" ")
