@@ -4,7 +4,6 @@ A frame that leaves a device is the latest one with the same bytes but for the t
 """
 import collections
 
-import kernel
 import named
 import packets
 from model import HOST, MOST_PORTS, QUERIER, Item, Model
@@ -297,9 +296,9 @@ class Case:
 
     def quiet(self, time):
         """Remembers the kernel's tables where nothing happened for a while."""
-        if self.last_event is not None and time - self.last_event > QUIET and self.frames and not self.is_over and len(self.cuts) < MOST_CUTS:
-            if self.unseen:
-                self.cut(time)
+        was_quiet = self.last_event is not None and time - self.last_event > QUIET
+        if was_quiet and self.unseen and self.frames and not self.is_over and len(self.cuts) < MOST_CUTS:
+            self.cut(time)
         self.last_event = time
 
     def cut(self, time):

@@ -122,7 +122,7 @@ class View:
         self.entry = bridge.fdb.get(self.key)
         self.entry_number, self.entry_place = self.place_of_entry(case)
         self.is_old = bool(self.entry) and self.entry[1] == "learned" and is_due(case, self.key, time)
-        self.learns = bool(self.port) and self.port.flags["learning"] and (self.source_entry or ("", ""))[1] in ("", "learned", "extern", "static")
+        self.learns = bool(self.port) and bool(self.port.flags["learning"])
         self.on, self.options = case.settings_on(), case.options_now()
         self.promiscuous, self.snooping = bridge.promiscuous, bridge.is_snooping()
         self.host_in_vlan = self.vid in model.vlans["host"]
@@ -454,7 +454,11 @@ def of_settings(frame, ours, linux):
 def name_of(case, frame, ours, linux):
     """The name of the difference between the ports that the scenario gives and those of the kernel, or None."""
     if frame.view.promiscuous and 0 in linux - ours:
-        return PROMISCUOUS if linux - {0} == ours else name_of_ports(case, frame, ours, linux - {0}) or name_of_ports(case, frame, ours, linux)
+        if linux - {0} == ours:
+            return PROMISCUOUS
+        name = name_of_ports(case, frame, ours, linux - {0})
+        if name:
+            return name
     return name_of_ports(case, frame, ours, linux)
 
 

@@ -1,7 +1,6 @@
 """What is read of a frame, and the frames that the judge puts in by itself."""
 import collections
 import os
-import struct
 import sys
 
 sys.path.append(os.path.join(os.path.dirname(os.path.abspath(__file__)), "../../kernel"))
@@ -192,7 +191,9 @@ def announces_router(data):
     if header[0] == 4:
         inside = data[14 + header[1]:]
         return header[2] == 103 and inside[:1] == b"\x20" or header[2] == 2 and inside[:1] == b"\x30"
-    return header[2] == 103 and data[54:55] == b"\x20" or header[2] == 0 and data[54:55] == b"\x3a" and (message_bytes(data) or b"")[:1] == b"\x97"
+    if header[2] == 103:
+        return data[54:55] == b"\x20"
+    return (message_bytes(data) or b"")[:1] == b"\x97"
 
 
 def agrees(data):

@@ -62,13 +62,15 @@ class Report:
         ours = "isn't asked" if frame.expected is not None else self.ports(each.ours)
         words = "switchbr: %s; Linux: %s" % (ours, self.ports(each.linux))
         if frame.expected is None and dict(each.ours).keys() == dict(each.linux).keys():
-            words += "; other bytes: %s and %s" % tuple(" ".join(data.hex() for _, data in sorted(sent)) for sent in (each.ours, each.linux))
+            ours, linux = [" ".join(data.hex() for _, data in sorted(sent)) for sent in (each.ours, each.linux)]
+            words += "; other bytes: %s and %s" % (ours, linux)
         yield "             %s; %s has: %s" % (words, self.names[frame.number], frame.settings)
 
 
 def table(rows):
     """A line for each bridge, as a table."""
-    lines = ["", "| record and bridge | frames | same | named or left out | unexplained | looks at tables (differ) |", "|---|---|---|---|---|---|"]
+    lines = ["", "| record and bridge | frames | same | named or left out | unexplained | looks at tables (differ) |"]
+    lines.append("|---|---|---|---|---|---|")
     totals = collections.Counter()
     for title, verdict in rows:
         names = collections.Counter(each.name for each in verdict.differences if each.name)

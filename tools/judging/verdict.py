@@ -85,7 +85,8 @@ def of_linux(frame):
     """What left in the kernel, as the scenario would have it."""
     if not frame.kept_tag:
         return seen(frame.number, frame.data, set(frame.out))
-    return seen(frame.number, frame.data, {(number, packets.bare(data) if packets.tag_of(data) == frame.kept_tag else b"another tag") for number, data in frame.out})
+    bare = {(number, packets.bare(data) if packets.tag_of(data) == frame.kept_tag else b"another tag") for number, data in frame.out}
+    return seen(frame.number, frame.data, bare)
 
 
 class Verdict:
@@ -162,27 +163,28 @@ class Verdict:
         """Whether the tables of another side of a change near the frame give what left."""
         items = self.case.model.items
         before, after = self.near(items, frame)
-        places = len(before) + len(after)
-        if not 0 < places <= MOST_PLACES:
+        nearby = before + after
+        if not 0 < len(nearby) <= MOST_PLACES:
             return False
-        first = min(before + [frame.item + 1])
-        for applied in range(places + 1):
+        given = packets.bare(frame.data) if frame.kept_tag else frame.data
+        entry = [Item("publish"), Item("rx %d %s" % (frame.number, given.hex()), frame=frame), Item("serve")]
+        kept = [items[at] for at in range(self.place(frame)) if at not in before]
+        for applied in range(len(nearby) + 1):
             if applied == len(before) and frame.expected is None:
-                continue
-            chosen = (before + after)[:applied]
-            kept = [item for at, item in enumerate(items[:frame.item - 2 if frame.expected is None else frame.item + 1]) if at < first or at not in before]
-            kept += [items[at] for at in chosen]
-            given = packets.bare(frame.data) if not self.case.bridge.is_aware() and frame.kept_tag else frame.data
-            last = [Item("publish"), Item("rx %d %s" % (frame.number, given.hex()), frame=frame), Item("serve")]
-            outcome = Outcome(self.head, kept + last).replay()
-            if self.seen(frame, outcome.by_number[outcome.last]) == linux:
+                continue  # where it entered
+            outcome = Outcome(self.head, kept + [items[at] for at in nearby[:applied]] + entry).replay()
+            if self.seen(frame, outcome.by_number.get(outcome.last, set())) == linux:
                 return True
         return False
+
+    def place(self, frame):
+        """The place in the scenario at which the frame enters, or would enter."""
+        return frame.item - 2 if frame.expected is None else frame.item + 1
 
     def near(self, items, frame):
         """The places of the commands near a frame, those before it and those after it."""
         before, after = [], []
-        at = frame.item - 3 if frame.expected is None else frame.item
+        at = self.place(frame) - 1
         while at >= 0 and self.is_near(items, at, frame):
             if items[at].end:
                 before.insert(0, at)
