@@ -247,11 +247,12 @@ class Case:
 
     def follow_querier(self, time):
         if not self.bridge.options.get("mcast_querier"):
-            self.own_querier_since = None
+            self.own_querier_since = self.snooped.own_six = None
         elif self.own_querier_since is None:
             waits = self.bridge.options.get("query_response_interval", 1000) * 10**7
             self.own_querier_since = time if self.in_use else self.born + OWN_QUERIER_WAITS if time - self.born < 10**8 else time + waits
             self.own_query_six = self.own_query_six or self.in_use
+            self.snooped.own_six = bytes(16)
         if self.own_querier_since is not None and self.bridge.is_snooping():
             if self.own_query_due is None:
                 self.own_query_due = max(time, self.own_querier_since)
@@ -415,6 +416,8 @@ class Case:
             self.uncompared["the bridge's own BPDU"] += 1
         elif message and message.kind == "query" and source == self.bridge.mac:
             self.uncompared["the bridge's own %s query" % {4: "IGMP", 6: "MLD"}[message.version]] += 1
+            if message.version == 6 and self.snooped.own_six is not None:
+                self.snooped.own_six = packets.addresses(data)[0]
             if message.version == 6 and not self.own_query_six:
                 self.own_query_six = True
                 if self.own_querier_since is not None and time > self.own_querier_since and self.own_query_due is not None:

@@ -54,11 +54,13 @@ class Snooped:
         self.querier = {4: (None, 0, 0), 6: (None, 0, 0)}  # the address, until when it is known, and until when it waits
         self.routers = {4: {}, 6: {}}  # number -> until when
         self.announced, self.passed_over = {}, {}
+        self.own_six = None  # the address of the bridge's own MLD querier while it is on, zeros before it asked
         self.asked, self.told, self.own_off, self.flushed = {}, set(), None, set()
 
     def general(self, time, version, number, source, delay):
         address, until, waits = self.querier[version]
-        if address is not None and any(address) and until > time and source > address:
+        known = address is not None and any(address) and until > time
+        if known and source > address or version == 6 and self.own_six is not None and source > self.own_six:
             self.passed_over[number] = time + HOLDS
             return
         self.querier[version] = source, time + HOLDS, waits if until > time else time + delay * 10**6
@@ -384,6 +386,13 @@ def waits_for_querier(case, view, message, ours, linux):
     return bool(version and case.snooped.waits(version, view.time) and linux == view.flood)
 
 
+def has_no_querier(case, view, message, ours, linux):
+    """The one querier that was heard was passed over for the bridge's own, which doesn't count yet."""
+    version = view.version()
+    passed = version and living(case.snooped.passed_over, view.time) and not case.snooped.knows(version, view.time)
+    return bool(passed and linux == view.flood)
+
+
 def own_querier(case, view, message, ours, linux):
     off = case.snooped.own_off
     late = case.own_querier_since is not None and 0 <= view.time - case.own_querier_since < OWN_LATE
@@ -430,6 +439,7 @@ def floods_all(case, view, message, ours, linux):
 
 GROUP_RULES = [
     ("leave-flood", is_leave), (BY_SOURCES, is_by_sources), ("query-delay", waits_for_querier),
+    ("query-order", has_no_querier),
     ("left out: the bridge's own querier", own_querier), ("late-end", ends_members_late), ("vlan-del-keeps", is_outside),
     ("ip-destination", disagrees), ("igmp-type", is_other_igmp), ("host-floods", floods_all),
     ("left out: mcast_vlan_snooping", has_vlan_snooping), ("left out: group_fwd_mask", is_forwarded)]
