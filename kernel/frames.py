@@ -1,5 +1,9 @@
 """Frames as hexadecimal text, from the few things that a scenario says of them."""
 
+import collections
+
+# a station that isn't one of the letters: its address as hexadecimal digits, and those of IP
+Sender = collections.namedtuple("Sender", "mac v4 v6")
 STATIONS = {letter: "02000000000" + letter for letter in "abcdef"}
 BROADCAST = "ffffffffffff"
 
@@ -11,6 +15,13 @@ def checksum(data):
     while total >> 16:
         total = (total & 0xffff) + (total >> 16)
     return (0xffff - total).to_bytes(2, "big")
+
+
+def sender(source):
+    """A station by its letter."""
+    if isinstance(source, Sender):
+        return source
+    return Sender(STATIONS[source], "10.0.0.%d" % (ord(source) - 96), "fe80::" + source)
 
 
 def ethernet(to, source, kind="88b5", body=b"\0" * 46, tag=None):
@@ -42,19 +53,21 @@ def group_address(group):
 
 def v4(to, source, body, protocol, tag):
     head = bytes([0x45, 0]) + (20 + len(body)).to_bytes(2, "big") + bytes([0, 0, 0, 0, 1, protocol])
-    addresses = v4_bytes("10.0.0.%d" % (ord(source) - 96)) + v4_bytes(to)
+    source = sender(source)
+    addresses = v4_bytes(source.v4) + v4_bytes(to)
     head += checksum(head + addresses) + addresses
-    return ethernet(group_address(to), source, "0800", head + body, tag)
+    return ethernet(group_address(to), source.mac, "0800", head + body, tag)
 
 
 def v6(to, source, body, tag, message=False):
     """`message`: behind a hop-by-hop header with a router alert, an ICMPv6 body whose checksum is filled in."""
-    addresses = v6_bytes("fe80::" + source) + v6_bytes(to)
+    source = sender(source)
+    addresses = v6_bytes(source.v6) + v6_bytes(to)
     if message:
         pseudo = addresses + len(body).to_bytes(4, "big") + b"\0\0\0\x3a"
         body = bytes.fromhex("3a00050200000100") + body[:2] + checksum(pseudo + body) + body[4:]
     head = bytes([0x60, 0, 0, 0]) + len(body).to_bytes(2, "big") + bytes([0 if message else 17, 1]) + addresses
-    return ethernet(group_address(to), source, "86dd", head + body, tag)
+    return ethernet(group_address(to), source.mac, "86dd", head + body, tag)
 
 
 def igmp(kind, group, source, to, tag, code=0):

@@ -2,12 +2,16 @@
 import collections
 import struct
 
-# interface: its index among those of the whole file; time: microseconds; length: that of the packet before it was shortened
-Packet = collections.namedtuple("Packet", "interface time data length")
-Interface = collections.namedtuple("Interface", "link name")
+# interface: its index among those of the whole file; time: microseconds; length: that of the packet before it was shortened; direction:
+# 1 where the interface received it, 2 where it sent it, 0 where that isn't told
+Packet = collections.namedtuple("Packet", "interface time data length direction", defaults=(0,))
+# note: what the file says of it for people
+Interface = collections.namedtuple("Interface", "link name note", defaults=("",))
 ETHERNET = 1
-SECTION, DESCRIPTION, OLD_PACKET, SIMPLE_PACKET, PACKET = 0x0A0D0D0A, 1, 2, 3, 6
-NAME, RESOLUTION = 2, 9
+SECTION, DESCRIPTION, OLD_PACKET, SIMPLE_PACKET, STATISTICS, PACKET = 0x0A0D0D0A, 1, 2, 3, 5, 6
+NAME, NOTE, RESOLUTION = 2, 3, 9  # options of a description
+FLAGS = 2  # of a packet
+DROPPED = 5  # of statistics
 PCAP_MAGICS = {0xA1B2C3D4: 1, 0xA1B23C4D: 1000}
 
 
@@ -90,8 +94,8 @@ def read_pcapng(data):
             first = len(interfaces)
         elif kind == DESCRIPTION:
             given = options(body[8:], order)
-            name = given.get(NAME, b"").decode("utf-8", "replace")
-            interfaces.append(Interface(struct.unpack_from(order + "H", body)[0], name))
+            name, note = [given.get(each, b"").decode("utf-8", "replace") for each in (NAME, NOTE)]
+            interfaces.append(Interface(struct.unpack_from(order + "H", body)[0], name, note))
             resolutions.append(given.get(RESOLUTION))
         elif kind in (PACKET, OLD_PACKET):
             head = order + ("5I" if kind == PACKET else "2H4I")
@@ -102,13 +106,21 @@ def read_pcapng(data):
             if 20 + captured > len(body):
                 raise Broken("a packet is longer than its block")
             time = microseconds(high << 32 | low, resolutions[first + number])
-            packets.append(Packet(first + number, time, body[20:20 + captured], length))
+            flags = options(body[20 + (captured + 3) // 4 * 4:], order).get(FLAGS) if kind == PACKET else None
+            direction = struct.unpack(order + "I", flags)[0] & 3 if flags else 0
+            packets.append(Packet(first + number, time, body[20:20 + captured], length, direction))
         elif kind == SIMPLE_PACKET:
             if first >= len(interfaces):
                 raise Broken("a packet of no interface")
             length = struct.unpack_from(order + "I", body)[0]
             packets.append(Packet(first, 0, body[4:4 + length], length))
     return interfaces, packets
+
+
+def lost(data):
+    """How many packets each statistics block says were dropped."""
+    found = [(order, options(body[12:], order).get(DROPPED)) for order, kind, body in blocks(data) if kind == STATISTICS]
+    return [struct.unpack(order + "Q", value)[0] for order, value in found if value]
 
 
 def block(kind, body):
@@ -121,13 +133,26 @@ def option(code, value):
     return struct.pack("<2H", code, len(value)) + value + bytes(-len(value) % 4)
 
 
+def section():
+    return block(SECTION, struct.pack("<I2Hq", 0x1A2B3C4D, 1, 0, -1))
+
+
+def description(interface):
+    given = b"".join(option(code, value.encode()) for code, value in ((NAME, interface.name), (NOTE, interface.note)) if value)
+    return block(DESCRIPTION, struct.pack("<2HI", interface.link, 0, 0) + given + (option(0, b"") if given else b""))
+
+
+def packet(each):
+    head = struct.pack("<5I", each.interface, each.time >> 32, each.time & 0xFFFFFFFF, len(each.data), each.length)
+    flags = option(FLAGS, struct.pack("<I", each.direction)) + option(0, b"") if each.direction else b""
+    return block(PACKET, head + each.data + bytes(-len(each.data) % 4) + flags)
+
+
+def statistics(interface, time, dropped):
+    given = option(DROPPED, struct.pack("<Q", dropped)) + option(0, b"")
+    return block(STATISTICS, struct.pack("<3I", interface, time >> 32, time & 0xFFFFFFFF) + given)
+
+
 def write(names, packets):
     """A pcapng section of Ethernet interfaces with these names, nameless where a name is empty, and of these packets."""
-    parts = [block(SECTION, struct.pack("<I2Hq", 0x1A2B3C4D, 1, 0, -1))]
-    for name in names:
-        given = option(NAME, name.encode()) + option(0, b"") if name else b""
-        parts.append(block(DESCRIPTION, struct.pack("<2HI", ETHERNET, 0, 0) + given))
-    for packet in packets:
-        head = struct.pack("<5I", packet.interface, packet.time >> 32, packet.time & 0xFFFFFFFF, len(packet.data), packet.length)
-        parts.append(block(PACKET, head + packet.data))
-    return b"".join(parts)
+    return section() + b"".join([description(Interface(ETHERNET, name)) for name in names] + [packet(each) for each in packets])

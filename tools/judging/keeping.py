@@ -1,0 +1,87 @@
+"""Recorded scenarios: what left in the kernel stands in comments, so that they are judged without it.
+
+Before a line `rx` stands `# Linux: 2 0/81000007`: the numbers of the ports by which the frame left, each with its tag where it had one,
+0 for the host; or `# Linux: nowhere`. Before that stands `# Linux differs: NAME` where the difference has a name. Frames without such a
+comment aren't compared.
+"""
+import collections
+import os
+
+import packets
+import verdict
+
+SENT, DIFFERS = "# Linux:", "# Linux differs:"
+Kept = collections.namedtuple("Kept", "line linux name")  # of a frame: its line, the (number, tag) of what left, and its name
+
+
+def file_name(title, folder):
+    """A name that no file there has, of the record's name and the bridge's."""
+    name = "".join(letter if letter.isalnum() or letter in "_-" else "-" for letter in title.replace(".sh", "")).strip("-")
+    while "--" in name:
+        name = name.replace("--", "-")
+    number = 1
+    while os.path.exists(os.path.join(folder, name + (".%d" % number if number > 1 else "") + ".scenario")):
+        number += 1
+    return name + (".%d" % number if number > 1 else "")
+
+
+def write(folder, title, judged):
+    with open(os.path.join(folder, file_name(title, folder) + ".scenario"), "w") as file:
+        file.write("\n".join(["# Recorded: " + title] + lines_of(judged)) + "\n")
+
+
+def lines_of(judged):
+    """The scenario with its comments. Frames that nothing explains aren't kept for comparison."""
+    names = {each.frame: each.name for each in judged.differences}
+    lines = list(judged.head)
+    for item in judged.outcome.items:
+        if item.frame is not None and names.get(item.frame, "") is not None:
+            if item.frame in names:
+                lines.append("%s %s" % (DIFFERS, names[item.frame]))
+            left = sorted((number, packets.tag_of(data).hex()) for number, data in verdict.of_linux(item.frame))
+            lines.append("%s %s" % (SENT, " ".join("%d%s" % (number, "/" + tag if tag else "") for number, tag in left) or "nowhere"))
+        lines.append(item.text)
+    return lines + ["end"]
+
+
+def read(text):
+    """The lines of a scenario without comments, and by number its frames that are compared."""
+    lines, kept, linux, name, frames = [], {}, None, None, 0
+    for line in text.splitlines():
+        if line.startswith(SENT):
+            words = [word.partition("/") for word in line[len(SENT):].split() if word != "nowhere"]
+            linux = {(int(number), tag) for number, _, tag in words}
+        elif line.startswith(DIFFERS):
+            name = line[len(DIFFERS):].strip()
+        elif line and not line.startswith("#"):
+            lines.append(line)
+            if line.startswith("rx "):
+                frames += 1
+                if linux is not None:
+                    kept[frames] = Kept(line, linux, name)
+                linux = name = None
+    return lines, kept
+
+
+def compare(name, text, counts):
+    """Lines for people about the frames that leave otherwise than in the kernel; counts what was compared."""
+    lines, kept = read(text)
+    sent = verdict.sent_by_number(verdict.run(["replay"], lines))
+    for number, frame in kept.items():
+        _, port, digits = frame.line.split()
+        data = bytes.fromhex(digits)
+        ours = verdict.seen(int(port), data, sent[number])
+        counts["frames"] += 1
+        counts["sent"] += bool(frame.linux)
+        differs = {(port, packets.tag_of(each)) for port, each in ours} != {(port, bytes.fromhex(tag)) for port, tag in frame.linux}
+        differs = differs or any(packets.bare(each) != packets.bare(data) for _, each in ours)
+        counts["named"] += differs and frame.name is not None
+        if differs != (frame.name is not None):
+            counts["differ"] += 1
+            yield "%s frame %d: %s\n  switchbr: %s\n  Linux:    %s%s" % (
+                name, number, packets.describe(data), ports(ours), ports(frame.linux),
+                "\n  named, and doesn't differ: " + frame.name if frame.name else "")
+
+
+def ports(sent):
+    return ", ".join(str(number) for number, _ in sorted(sent)) or "nowhere"

@@ -1,0 +1,251 @@
+"""The replay of a scenario, and what of it differs from the record."""
+import collections
+import os
+import subprocess
+
+import named
+import packets
+from model import HOST, QUERIER, Item
+
+PROGRAM = os.environ.get("SWITCHBR", os.path.join(os.path.dirname(os.path.abspath(__file__)), "../../crates/switchbr/out/switchbr"))
+MOST_PLACES = 64
+MOST_SECONDS = 600
+
+# frame, and what is compared: sets of (number, bytes)
+Difference = collections.namedtuple("Difference", "frame ours linux name")
+Row = collections.namedtuple("Row", "time table text side name")
+
+
+class Broken(Exception):
+    """The program doesn't take the scenario."""
+
+
+def run(words, lines):
+    done = subprocess.run([PROGRAM, *words], input=("\n".join(lines) + "\n").encode(), stdout=subprocess.PIPE, timeout=MOST_SECONDS)
+    out = done.stdout.decode().splitlines()
+    if done.returncode:
+        number = out[-1].split()[1] if out and out[-1].startswith("bad") else ""
+        raise Broken("%s: %s" % (out[-1] if out else "no answer", lines[int(number) - 1][:200] if number.isdigit() else ""))
+    return out
+
+
+def flat(items):
+    """The lines of the scenario with the corrections at quiet moments, as items."""
+    for item in items:
+        if item.cut:
+            yield from item.cut.corrections
+        else:
+            yield item
+
+
+class Outcome:
+    """What `switchbr replay` says: by frame the (number, bytes) that left, and the commands that it refused."""
+
+    def __init__(self, head, items):
+        self.items = list(flat(items))
+        self.frames, self.steps = {}, {}
+        steps = frames = 0
+        for item in self.items:
+            steps += 1
+            self.steps[steps] = item
+            if item.text.startswith("rx "):
+                frames += 1
+                self.frames[frames] = item.frame
+        self.sent, self.refused, self.by_number, self.last = collections.defaultdict(set), [], {}, frames
+        self.lines = head + [item.text for item in self.items] + ["end"]
+
+    def replay(self):
+        told = run(["replay"], self.lines)
+        self.by_number = sent_by_number(told)
+        for number, sent in self.by_number.items():
+            self.sent[self.frames[number]] |= sent
+        refused = [line.split(" ") for line in told if line.startswith("refused ")]
+        self.refused = [(self.steps[int(step)].text, why) for _, step, why in refused if not self.steps[int(step)].may_fail]
+        return self
+
+
+def sent_by_number(lines):
+    """By the number of a frame the (port, bytes) that left by a transcript, the host's pseudo port counted as the host."""
+    sent = collections.defaultdict(set)
+    for line in lines:
+        words = line.split(" ")
+        if words[0] == "tx" and words[2] != str(QUERIER):
+            sent[int(words[1])].add((0 if int(words[2]) == HOST else int(words[2]), bytes.fromhex(words[3])))
+    return sent
+
+
+def seen(number, data, sent):
+    """What is compared of a frame: without the host where the host sent it, or its copy isn't seen."""
+    if number == HOST or packets.is_reserved(data):
+        sent = {each for each in sent if each[0]}
+    return sent
+
+
+def of_linux(frame):
+    """What left in the kernel, as the scenario would have it."""
+    if not frame.kept_tag:
+        return seen(frame.number, frame.data, set(frame.out))
+    bare = {(number, packets.bare(data) if packets.tag_of(data) == frame.kept_tag else b"another tag") for number, data in frame.out}
+    return seen(frame.number, frame.data, bare)
+
+
+class Verdict:
+    """The judgement of one case."""
+
+    def __init__(self, case):
+        self.case, self.head = case, case.model.head()
+        self.counts, self.differences, self.rows, self.looks = collections.Counter(), [], [], 0
+        self.refused, self.fault = [], None
+        self.corrected = set()  # rows that a correction made
+
+    def judge(self):
+        try:
+            self.compare_tables()
+            self.outcome = Outcome(self.head, self.case.model.items).replay()
+            self.refused = self.outcome.refused
+            for frame in self.case.frames:
+                self.compare_frame(frame)
+        except (Broken, subprocess.SubprocessError) as fault:
+            self.fault = str(fault)
+        return self
+
+    def unexplained(self):
+        """How much nothing explains."""
+        return (sum(1 for each in self.differences if each.name is None) + sum(1 for each in self.rows if each.name is None) +
+                len(self.case.strangers) + len(self.refused) + (self.fault is not None))
+
+    # ---- frames ----
+
+    def seen(self, frame, sent):
+        """What is compared of what the scenario sends: at far ends the host's copies aren't seen."""
+        return {each for each in seen(frame.number, frame.data, sent) if each[0] or self.case.sees_host}
+
+    def compare_frame(self, frame):
+        linux = of_linux(frame)
+        self.counts["frames"] += 1
+        self.counts["leave"] += bool(linux)
+        self.counts["from the host"] += frame.number == HOST
+        if frame.expected is not None:
+            ours, numbers = None, {number for number, _ in self.seen(frame, {(number, b"") for number in frame.expected.ports})}
+            if {number for number, _ in linux} == numbers and self.keeps_bytes(frame, linux):
+                self.differ(frame, set(), linux, frame.expected.name)
+                return
+        else:
+            ours = self.seen(frame, self.outcome.sent[frame])
+            if ours == linux:
+                self.counts["same"] += 1
+                return
+        if self.is_same_near(frame, linux):
+            self.counts["same"] += 1
+            self.counts["by the tables of the other side of a change"] += 1
+            return
+        name = None
+        if ours is not None and self.same_bytes(frame, ours, linux):
+            name = named.name_of(self.case, frame, {each for each, _ in ours}, {each for each, _ in linux})
+        self.differ(frame, ours or set(), linux, name)
+
+    def differ(self, frame, ours, linux, name):
+        self.counts[name or "unexplained"] += 1
+        self.differences.append(Difference(frame, ours, linux, name))
+
+    def keeps_bytes(self, frame, linux):
+        """Whether nothing but the tag changed."""
+        return all(packets.bare(data) == packets.bare(frame.data) for _, data in linux)
+
+    def same_bytes(self, frame, ours, linux):
+        """Whether the two agree where both send, or a setting may change the bytes."""
+        here, there = dict(ours), dict(linux)
+        if any(frame.view.on[setting] for setting in named.CHANGES_BYTES):
+            return True
+        return all(here[number] == there[number] for number in here.keys() & there.keys())
+
+    def is_same_near(self, frame, linux):
+        """Whether the tables of another side of a change near the frame give what left."""
+        items = self.case.model.items
+        before, after = self.near(items, frame)
+        nearby = before + after
+        if not 0 < len(nearby) <= MOST_PLACES:
+            return False
+        given = packets.bare(frame.data) if frame.kept_tag else frame.data
+        entry = [Item("publish"), Item("rx %d %s" % (frame.number, given.hex()), frame=frame), Item("serve")]
+        kept = [items[at] for at in range(self.place(frame)) if at not in before]
+        for applied in range(len(nearby) + 1):
+            if applied == len(before) and frame.expected is None:
+                continue  # where it entered
+            outcome = Outcome(self.head, kept + [items[at] for at in nearby[:applied]] + entry).replay()
+            if self.seen(frame, outcome.by_number.get(outcome.last, set())) == linux:
+                return True
+        return False
+
+    def place(self, frame):
+        """The place in the scenario at which the frame enters, or would enter."""
+        return frame.item - 2 if frame.expected is None else frame.item + 1
+
+    def near(self, items, frame):
+        """The places of the commands near a frame, those before it and those after it."""
+        before, after = [], []
+        at = self.place(frame) - 1
+        while at >= 0 and self.is_near(items, at, frame):
+            if items[at].end:
+                before.insert(0, at)
+            at -= 1
+        at = frame.item + 1
+        while at < len(items) and self.is_near(items, at, frame):
+            if items[at].end:
+                after.append(at)
+            at += 1
+        return before, after
+
+    def is_near(self, items, at, frame):
+        item = items[at]
+        if item.end:
+            return item.begin - named.NEAR <= frame.time <= item.end + named.NEAR
+        if item.frame:
+            return abs(item.frame.time - frame.time) <= named.NEAR
+        return True
+
+    # ---- tables ----
+
+    def compare_tables(self):
+        items = self.case.model.items
+        for at, item in enumerate(items):
+            if item.cut:
+                self.compare_cut(item.cut, Outcome(self.head, items[:at]).lines)
+
+    def compare_cut(self, cut, lines):
+        for table, linux in (("fdb", cut.fdb), ("mdb", cut.mdb)):
+            self.looks += 1
+            ours = {line.replace("dev HOST ", "dev host ") for line in run(["show", table], lines)[:-1] if "dev QUERIER " not in line}
+            for text in sorted(linux.keys() - ours):
+                name = self.by_sources(cut, table, text) or named.of_row(self.case, linux[text], cut.time)
+                self.rows.append(Row(cut.time, table, text, "Linux", name))
+                if name != "late-end":
+                    self.put_in(cut, table, text)
+            for text in sorted(ours - linux.keys()):
+                if text not in self.corrected:
+                    self.rows.append(Row(cut.time, table, text, "switchbr", self.by_sources(cut, table, text)))
+                self.take_out(cut, table, text)
+
+    def by_sources(self, cut, table, text):
+        words = text.split(" ")
+        return named.BY_SOURCES if table == "mdb" and (words[3], int(words[5])) in cut.sources else None
+
+    def take_out(self, cut, table, text):
+        words = text.split(" ")
+        if table == "fdb":
+            cut.corrections.append(Item("cmd fdb del %s vlan %s" % (words[0], words[4]), may_fail=True))
+            return
+        for name in (words[1], "HOST") if words[1] == "host" else (words[1],):
+            cut.corrections.append(Item("cmd mdb del %s dev %s vlan %s" % (words[3], name, words[5]), may_fail=True))
+
+    def put_in(self, cut, table, text):
+        words = text.split(" ")
+        self.corrected.add(text)
+        if table == "mdb":
+            cut.corrections.append(Item("cmd mdb add %s dev %s vlan %s" % (words[3], words[1], words[5]), may_fail=True))
+        elif words[5] == "learned" and words[2] != "host":
+            vlans = self.case.model.vlans.get(words[2], {})
+            tag = None if vlans.get(int(words[4]), (False,))[0] else int(words[4])
+            cut.corrections.append(Item("cmd fdb del %s vlan %s" % (words[0], words[4]), may_fail=True))
+            digits = packets.teaching(words[0], tag)
+            cut.corrections += [Item("publish"), Item("rx %d %s" % (self.case.model.number_named(words[2]), digits)), Item("serve")]
