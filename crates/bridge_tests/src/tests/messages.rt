@@ -59,7 +59,8 @@ fn assert_message(rt: &impl Abort, alloc: Global, (what, digits, want): &Case) {
 /// What the records of a frame say, one after another, is just this.
 fn assert_acts(rt: &impl Abort, alloc: Global, digits: &str, wanted: &[Act], what: &str) {
     let bytes = bytes_of(rt, alloc, digits);
-    let McastMsg::Records { six, first, count } = message(rt, &bytes) else {
+    let head = parse(&bytes).expect(rt, "a frame");
+    let McastMsg::Records { six, first, count } = classify(&bytes, &head) else {
         panic!(rt; "no records")
     };
     let mut acts = Records::of(&bytes, six, first, count);

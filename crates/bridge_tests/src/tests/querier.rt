@@ -59,25 +59,25 @@ fn queries_are_due(rt: HostRuntime) {
     }
 }
 
-/// A querier at this address that has heard the one at 10.0.0.9.
-fn that_heard(rt: &impl Abort, address: u32) -> Querier {
+/// It hears the querier at 10.0.0.9.
+fn hear_nine(rt: &impl Abort, querier: &mut Querier) {
     let head = parse(HEARD_NINE).expect(rt, "a frame");
-    let mut querier = Querier::make(Mac::FIRST_OWN, address, NINE_SIX);
     querier.heard(HEARD_NINE, &head, 0);
-    querier
 }
 
 /// It asks by 10.0.0.10 again once it hasn't heard the other for 255 seconds.
 #[test]
 fn a_lower_address_is_yielded_to(rt: HostRuntime) {
     let alloc = rt.alloc();
-    let mut ten = that_heard(&rt, TEN);
+    let mut ten = Querier::make(Mac::FIRST_OWN, TEN, NINE_SIX);
+    hear_nine(&rt, &mut ten);
     assert_due(&rt, alloc, &mut ten, 1000, 1);
     let queries = ten.tick(alloc, 255_000).expect(&rt, "memory");
     assert!(rt; queries.len() == 2);
     let four = queries.as_slice()[0].as_slice();
     let checksum = four.get(24..26).expect(&rt, "a checksum");
     assert_bytes(&rt, checksum, &[0xfa, 0x0c], "its checksum");
-    let mut nine = that_heard(&rt, NINE);
+    let mut nine = Querier::make(Mac::FIRST_OWN, NINE, NINE_SIX);
+    hear_nine(&rt, &mut nine);
     assert_due(&rt, alloc, &mut nine, 1000, 2);
 }
