@@ -18,5 +18,5 @@ returns-in-Ended-clause-yields g c =
 
 pub returns-clause-yields : goal.returns-clause-yields
 returns-clause-yields g c =
-    told_bad _ _ c.in_ok-whole.whole c.in_ok-whole.ensures.reads (string_bytes c.in_ok-text_of_bad-in-Bad.field-0) c.in-Bad.line c.in-Bad.why (sym c.in-Bad.ensures)
-    c.in_ok-text_of_bad-in-Bad.ensures
+    told_bad _ _ c.in_ok-whole.whole c.in_ok-whole.ensures.reads (string_bytes c.in_ok-bad_text-in-Bad.field-0) c.in-Bad.line c.in-Bad.why (sym c.in-Bad.ensures)
+    c.in_ok-bad_text-in-Bad.ensures
