@@ -266,8 +266,8 @@ def follow(bridge, steps, transcript):
                    [change[1:] for change in addresses], groups, vlans)
 
 
-def run(data):
-    """The run of a scenario, up to its end or to a bad line."""
+def run(data, most=None):
+    """The run of a scenario, up to its end or to a bad line; one of more steps than `most` is refused."""
     lines = program("replay", data)
     scenario = scenarios.read(data, int(lines[-1].split()[1]) if lines[-1].startswith("bad ") else None)
     whole = scenario.head + b"".join(line for _, line in scenario.steps) + b"end\n"
@@ -276,6 +276,8 @@ def run(data):
     if listings["audit"][-1] != "end":
         raise Failed(f"the run ends before its first step: {lines[-1]}")
     steps = list(given(scenario))
+    if most is not None and len(steps) > most:
+        raise Failed(f"{len(steps)} steps; at most {most} are shown")
     messages = [found for line in listings["monitor"][:-1] if (found := message(line, scenario.ports))]
     transcript, probes = Transcript(steps, lines), Probes(scenario, steps)
     begin_probes(steps, transcript, probes)
