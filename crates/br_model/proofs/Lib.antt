@@ -41,6 +41,7 @@ pub mod Places
 pub mod PlaneAgreement
 pub mod PlaneApplied
 pub mod PlaneChips
+pub mod PlaneFrameLines
 pub mod PlaneFates
 pub mod PlaneHistory
 pub mod PlaneOnce
@@ -60,6 +61,7 @@ pub mod SameFrames
 pub mod SameSteps
 pub mod SnoopRows
 pub mod SnoopSteps
+pub mod Standing
 pub mod Stations
 pub mod Still
 pub mod TreeKept

@@ -30,6 +30,7 @@ use Rattle.br_model.specs.Forward.Shares.{chip_out, mark_of, soft_out}
 use Rattle.br_model.specs.Table.Table.{Table, table}
 use Rattle.br_model.specs.Theorems.Agreement.{is_there, is_overrun, IsSettled, IsUndisturbed}
 use Rattle.br_model.specs.Plane.Entering.{waits, goes_on, enters_chip, enters_as, class_of, enters_by, chip_of}
+use Rattle.br_model.specs.Theorems.FrameLines.{IsDecidedAt}
 use Rattle.br_model.specs.Theorems.Invariants.{frames_of, IsWorld}
 use Rattle.br_model.specs.Plane.Runs.{run, then_step}
 use Rattle.br_model.specs.Plane.Sending.{Sent, in_port_order, sent_of, software_share}
@@ -38,7 +39,7 @@ use Rattle.br_model.specs.Plane.World.{World, Waiting, Holding, Stepped, first_w
 use Rattle.br_model.proofs.Cuts.{cut-all}
 use Rattle.br_model.proofs.PlaneApplied.{run-world}
 use Rattle.br_model.proofs.PlaneChips.{chip_of-declared}
-use Rattle.br_model.proofs.PlaneFates.{sent_of-append, sent_of-sent, found-push, goes_on-joins, Found, hold_entry, wait_entry, waiting_found, found, found-free, found-taken, Fate, idle, entered, taken, gone, IsDecidedAt, step-effect}
+use Rattle.br_model.proofs.PlaneFates.{sent_of-append, sent_of-sent, found-push, goes_on-joins, Found, hold_entry, wait_entry, waiting_found, found, found-free, found-taken, Fate, idle, entered, taken, gone, said-none, said-held, said-soft, step-effect}
 use Rattle.br_model.proofs.PlaneKept.{step-world}
 use Rattle.br_model.proofs.PlaneLists.{up-to-last, has-up-to}
 use Rattle.br_model.proofs.PlaneOnce.{run-lines}
@@ -110,10 +111,10 @@ module _ (id : ℕ) (domains : Domains) (h : List Change) (t : Table) (is-table 
           there = stays;
           floor = p.floor;
           published = ⊎_elim (λ (e : v.published ≡ x.0.published). e ∙ p.published) (λ (e : v.published ≡ length v.history). e ∙ ap length (later (found-there id v (f, p.from) stays))) counts;
-          sent = sent_of-append id x.1 new ∙ ap (λ (l : Sent). sent_of id x.1 ++ l) nothing ∙ append-nil (sent_of id x.1) ∙ p.sent;
+          sent = sent_of-append id x.1 new ∙ ap (λ (l : Sent). sent_of id x.1 ++ l) (said-none id new nothing) ∙ append-nil (sent_of id x.1) ∙ p.sent;
         })
     pending-by now later p counts (entered o is more says once settled) = absurd (omega (arith, is, found-taken id x.0 (f, p.from) k p.there))
-    pending-by now later p counts (taken g was is nothing) =
+    pending-by now later p counts (taken g was is says) =
         let same = same-entry (found id x.0.held x.0.waiting) (g, None) (f, p.from) was p.there in
         let stays : found id v.held v.waiting ≡ (f, Some x.0.published) ∷ [] = is ∙ ap (λ (e : Waiting × Option ℕ). (e.0, Some x.0.published) ∷ []) same in
         inl (record {
@@ -122,22 +123,23 @@ module _ (id : ℕ) (domains : Domains) (h : List Change) (t : Table) (is-table 
           floor = p.published;
           published = ⊎_elim (λ (e : v.published ≡ x.0.published). e ∙ p.published)
               (λ (e : v.published ≡ length v.history). e ∙ ap length (later (found-there id v (f, Some x.0.published) stays))) counts;
-          sent = sent_of-append id x.1 new ∙ ap (λ (l : Sent). sent_of id x.1 ++ l) nothing ∙ append-nil (sent_of id x.1) ∙ p.sent;
+          sent = sent_of-append id x.1 new ∙ ap (λ (l : Sent). sent_of id x.1 ++ l) (said-held id x.0.published new says) ∙ append-nil (sent_of id x.1) ∙ p.sent;
         })
     pending-by now later p counts (gone g o point was is decided says) =
         let same = same-entry (found id x.0.held x.0.waiting) (g, o) (f, p.from) was p.there in
         let at : point ≡ length h = the-point x.0 o point k p.published (subst IsFrom (sym (ap (λ (e : Waiting × Option ℕ). e.1) same)) p.floor) decided in
         let tables : table_at x.0 point ≡ t = (λ i. table (take (at i) (now i))) ∙ ap table (take_all (length h) h (omega arith)) ∙ sym is-table in
+        let sends = said-soft id point _ new says in
         inr (record {
           gone = is;
-          sent = ap in_port_order (sent_of-append id x.1 new ∙ (λ i. p.sent i ++ says i)
+          sent = ap in_port_order (sent_of-append id x.1 new ∙ (λ i. p.sent i ++ sends i)
               ∙ (λ i. out ++ soft_out (own i) (tables i) (same i).0.port (same i).0.bytes (same i).0.head (same i).0.mark)) ∙ whole;
         })
 
     sent-by : id < x.0.next → IsSent x → Fate id x.0 v new → IsSent (then_step x step)
     sent-by less s (idle there nothing) = record {
       gone = there ∙ s.gone;
-      sent = ap in_port_order (sent_of-append id x.1 new ∙ ap (λ (l : Sent). sent_of id x.1 ++ l) nothing ∙ append-nil (sent_of id x.1)) ∙ s.sent;
+      sent = ap in_port_order (sent_of-append id x.1 new ∙ ap (λ (l : Sent). sent_of id x.1 ++ l) (said-none id new nothing) ∙ append-nil (sent_of id x.1)) ∙ s.sent;
     }
     sent-by less s (entered o is more says once settled) = absurd (omega (arith, is, less))
     sent-by less s (taken g was is nothing) = absurd (cc (sym s.gone ∙ was))
@@ -277,7 +279,7 @@ said-before p x (step ∷ steps) h =
     let new = (world_step x.0 step).1 in
     (or_parts (list_any p x.1) (list_any p new) (sym (list_any-append p x.1 new) ∙ said-before p (then_step x step) steps h)).0
 
-run-more : (setup : Setup) (before more : List Step) → run setup (before ++ more) ≡ fold then_step (run setup before) more
+pub run-more : (setup : Setup) (before more : List Step) → run setup (before ++ more) ≡ fold then_step (run setup before) more
 unfolding run
 run-more setup before more = fold-append then_step (first_world setup, []) before more
 

@@ -1,6 +1,6 @@
 -- What a step does to the frame with one id: it enters, is held, or is sent and gone, or nothing happens to it.
 use Rattle.std.proofs.Common.{◌≡◌, ℕ, suc, ◌+◌, ◌<◌, ◌≤◌, Bool, true, false, not, cond, List, [], ◌∷◌, ◌++◌, map, length, Option, None, Some, refl, sym, ap, ◌∙◌, arith, append_assoc, length-append, take, ◌⊎◌, inl, inr, ⊎_elim}
-use Rattle.std.proofs.lemmas.Bool.{eqb-true, eqb-false, ne_eqb, cases_lt, and_parts, leb-true}
+use Rattle.std.proofs.lemmas.Bool.{eq-eqb, eqb-true, eqb-false, ne_eqb, cases_lt, and_parts, leb-true}
 use Rattle.std.proofs.lemmas.List.{append-nil, map-append, length-map}
 use Rattle.std.proofs.lemmas.List.Elements.{filter-append, recursion_from_All, All-weaker}
 use Rattle.std.proofs.lemmas.Grind.{flat_map-append}
@@ -20,6 +20,7 @@ use Rattle.br_model.specs.declared.steps.Refusal.{Refusal}
 use Rattle.br_model.specs.declared.steps.Refusal.TheVariants.{NoSuchPoint}
 use Rattle.br_model.specs.declared.bpdu.BpduMsg.{BpduMsg}
 use Rattle.br_model.specs.declared.transcript.Line.TheVariants.{Done}
+use Rattle.br_model.specs.declared.transcript.Line.TheVariants as lines
 use Rattle.br_model.specs.Plane.Chip.{Chip, applies, notes}
 use Rattle.br_model.specs.Table.DomainPorts.{is_marked}
 use Rattle.br_model.specs.Table.Domains.{Domains, domain_of, foreign}
@@ -44,6 +45,7 @@ use Rattle.br_model.specs.declared.steps.Step.{Step}
 use Rattle.br_model.specs.declared.steps.Step.TheVariants.{Rx, Cmd, Now, Serve, Hold, Post, Turn, Report, Sweep, Publish}
 use Rattle.br_model.specs.Theorems.Invariants.{frames_of, IsFrame, IsWorld}
 use Rattle.br_model.specs.Plane.Sending.{Sent, sent_by, sent_of, times}
+use Rattle.br_model.specs.Theorems.FrameLines.{IsDecidedAt, is_line_of, lines_of}
 use Rattle.br_model.specs.Plane.World.{World, Waiting, Holding, Stepped, chip_at, with_chip, next_of, table_at, table_of_chip, sent, control_lines, answered, reacts, refused}
 
 -- The lines of a frame that is sent.
@@ -64,6 +66,66 @@ pub sent_of-sent : (id i : ℕ) (out : Sent) (end : List Line) → sent_of id en
 sent_of-sent id i out end h =
     sent_of-append id (sent i out) end ∙ ap (λ l. sent_of id (sent i out) ++ l) h ∙ append-nil (sent_of id (sent i out))
     ∙ (elim (i == id) as (λ b. (i == id) ≡ b → sent_of id (sent i out) ≡ cond b out []) [ true ↦ λ e. sent-same id i out e | false ↦ λ e. sent-other id i out e ]) refl
+
+-- the lines of a sent frame, and then others
+pub lines_of-append : (id : ℕ) (xs ys : List Line) → lines_of id (xs ++ ys) ≡ lines_of id xs ++ lines_of id ys
+lines_of-append id xs ys = filter-append (is_line_of id) xs ys
+
+pub lines-same : (id i : ℕ) (out : Sent) → (i == id) ≡ true → lines_of id (sent i out) ≡ sent i out
+lines-same id i [] e = refl
+lines-same id i (x ∷ out) e =
+    ap (λ b. cond b (lines.Tx i x.0 x.1 ∷ lines_of id (sent i out)) (lines_of id (sent i out))) e ∙ ap (λ (l : List Line). lines.Tx i x.0 x.1 ∷ l) (lines-same id i out e)
+
+lines-other : (id i : ℕ) (out : Sent) → (i == id) ≡ false → lines_of id (sent i out) ≡ []
+lines-other id i [] e = refl
+lines-other id i (x ∷ out) e = ap (λ b. cond b (lines.Tx i x.0 x.1 ∷ lines_of id (sent i out)) (lines_of id (sent i out))) e ∙ lines-other id i out e
+
+pub lines_of-sent : (id i : ℕ) (out : Sent) (end : List Line) → lines_of id end ≡ [] → lines_of id (sent i out ++ end) ≡ cond (i == id) (sent i out) []
+lines_of-sent id i out end h =
+    lines_of-append id (sent i out) end ∙ ap (λ (l : List Line). lines_of id (sent i out) ++ l) h ∙ append-nil (lines_of id (sent i out))
+    ∙ (elim (i == id) as (λ b. (i == id) ≡ b → lines_of id (sent i out) ≡ cond b (sent i out) []) [ true ↦ λ e. lines-same id i out e | false ↦ λ e. lines-other id i out e ]) refl
+
+lines-soft : (id i point : ℕ) (later all : List Line) → lines_of id later ≡ cond (i == id) all [] → lines_of id (lines.Soft i point ∷ later) ≡ cond (i == id) (lines.Soft i point ∷ all) []
+lines-soft id i point later all =
+    elim (i == id) as (λ b. lines_of id later ≡ cond b all [] → cond b (lines.Soft i point ∷ lines_of id later) (lines_of id later) ≡ cond b (lines.Soft i point ∷ all) []) [
+      | true ↦ λ e. ap (λ (l : List Line). lines.Soft i point ∷ l) e
+      | false ↦ λ e. e
+    ]
+
+lines-chip : (id i n k : ℕ) (c : Class) (out : Sent) (end : List Line) → (i == id) ≡ false → lines_of id end ≡ [] → lines_of id (lines.Chip i n k c ∷ (sent i out ++ end)) ≡ []
+lines-chip id i n k c out end e h =
+    ap (λ b. cond b (lines.Chip i n k c ∷ lines_of id (sent i out ++ end)) (lines_of id (sent i out ++ end))) e ∙ lines_of-sent id i out end h ∙ ap (λ b. cond b (sent i out) []) e
+
+-- What was sent of a frame is in its own lines.
+
+silent-line : (id : ℕ) (l : Line) → is_line_of id l ≡ false → sent_by id l ≡ []
+silent-line id (lines.Chip i changes applied class) e = refl
+silent-line id (lines.Unread i why) e = refl
+silent-line id (lines.Soft i point) e = refl
+silent-line id (lines.Held i floor) e = refl
+silent-line id (lines.Tx i port bytes) e = ap (λ b. cond b ((port, bytes) ∷ []) []) e
+silent-line id (lines.Ctl port bytes) e = refl
+silent-line id (lines.Overrun i) e = refl
+silent-line id (lines.Done step changes) e = refl
+silent-line id (lines.Refused step refusal) e = refl
+silent-line id (lines.End steps changes pending waiting) e = refl
+
+sent-in : (id : ℕ) (told : List Line) → sent_of id told ≡ sent_of id (lines_of id told)
+sent-in id [] = refl
+sent-in id (l ∷ later) =
+    (elim (is_line_of id l) as (λ b. is_line_of id l ≡ b → sent_by id l ++ sent_of id later ≡ sent_of id (cond b (l ∷ lines_of id later) (lines_of id later))) [
+      | true ↦ λ e. ap (λ (s : Sent). sent_by id l ++ s) (sent-in id later)
+      | false ↦ λ e. ap (λ (s : Sent). s ++ sent_of id later) (silent-line id l e) ∙ sent-in id later
+    ]) refl
+
+pub said-none : (id : ℕ) (told : List Line) → lines_of id told ≡ [] → sent_of id told ≡ []
+said-none id told e = sent-in id told ∙ ap (sent_of id) e
+
+pub said-held : (id floor : ℕ) (told : List Line) → lines_of id told ≡ lines.Held id floor ∷ [] → sent_of id told ≡ []
+said-held id floor told e = sent-in id told ∙ ap (sent_of id) e
+
+pub said-soft : (id point : ℕ) (out : Sent) (told : List Line) → lines_of id told ≡ lines.Soft id point ∷ sent id out → sent_of id told ≡ out
+said-soft id point out told e = sent-in id told ∙ ap (sent_of id) e ∙ sent-same id id out (eq-eqb id id refl)
 
 -- The frames with one id, and what they are held from.
 
@@ -163,27 +225,23 @@ held-push id held h =
 
 -- What a step does.
 
--- A frame that waits is decided by what is published, one that is held by a count that was published, its floor or a later one.
-abbrev pub IsDecidedAt : World → Option ℕ → ℕ → Type 0
-IsDecidedAt w None point = point ≡ w.published
-IsDecidedAt w (Some floor) point = (has nat_cmp w.counts point ≡ true) × (floor ≤ point)
-
 -- It waits now, and was sent to ports of its mark's domain alone.
 abbrev pub Waits : ℕ → World → Sent → Type 0
 Waits id v out = (f : Waiting) × (found id v.held v.waiting ≡ (f, None) ∷ []) × ((port : ℕ) → is_marked v.setup.domains f.mark port ≡ false → times port out ≡ 0)
 
-pub data Fate (id : ℕ) (w v : World) (lines : List Line) : Type 0 where
-  idle : found id v.held v.waiting ≡ found id w.held w.waiting → sent_of id lines ≡ [] → Fate id w v lines
-  entered : (out : Sent) → id ≡ w.next → v.next ≡ w.next + 1 → sent_of id lines ≡ out → ((port : ℕ) → times port out ≤ 1) → (found id v.held v.waiting ≡ []) ⊎ Waits id v out → Fate id w v lines
-  taken : (f : Waiting) → found id w.held w.waiting ≡ (f, None) ∷ [] → found id v.held v.waiting ≡ (f, Some w.published) ∷ [] → sent_of id lines ≡ [] → Fate id w v lines
+pub data Fate (id : ℕ) (w v : World) (told : List Line) : Type 0 where
+  idle : found id v.held v.waiting ≡ found id w.held w.waiting → lines_of id told ≡ [] → Fate id w v told
+  entered : (out : Sent) → id ≡ w.next → v.next ≡ w.next + 1 → sent_of id told ≡ out → ((port : ℕ) → times port out ≤ 1) → (found id v.held v.waiting ≡ []) ⊎ Waits id v out → Fate id w v told
+  taken : (f : Waiting) → found id w.held w.waiting ≡ (f, None) ∷ [] → found id v.held v.waiting ≡ (f, Some w.published) ∷ []
+      → lines_of id told ≡ lines.Held id w.published ∷ [] → Fate id w v told
   gone : (f : Waiting) (o : Option ℕ) (point : ℕ) → found id w.held w.waiting ≡ (f, o) ∷ [] → found id v.held v.waiting ≡ [] → IsDecidedAt w o point
-      → sent_of id lines ≡ soft_out w.setup.domains (table_at w point) f.port f.bytes f.head f.mark → Fate id w v lines
+      → lines_of id told ≡ lines.Soft id point ∷ sent id (soft_out w.setup.domains (table_at w point) f.port f.bytes f.head f.mark) → Fate id w v told
 
-pub record Effect (id : ℕ) (w v : World) (lines : List Line) : Type 0 where
+pub record Effect (id : ℕ) (w v : World) (told : List Line) : Type 0 where
   pub setup : v.setup ≡ w.setup
   pub next : w.next ≤ v.next
   pub published : (v.published ≡ w.published) ⊎ (v.published ≡ length v.history)
-  pub fate : Fate id w v lines
+  pub fate : Fate id w v told
 
 -- what all steps but those of frames and of publications leave
 record Alike (w v : World) : Type 0 where
@@ -196,8 +254,8 @@ record Alike (w v : World) : Type 0 where
 alike : (w : World) → Alike w w
 alike w = record { setup = refl; next = refl; published = refl; held = refl; waiting = refl }
 
-quiet : (id : ℕ) (w v : World) (lines : List Line) → Alike w v → sent_of id lines ≡ [] → Effect id w v lines
-quiet id w v lines a silent = record {
+quiet : (id : ℕ) (w v : World) (told : List Line) → Alike w v → lines_of id told ≡ [] → Effect id w v told
+quiet id w v told a silent = record {
   setup = a.setup;
   next = omega (arith, a.next);
   published = inl a.published;
@@ -209,13 +267,13 @@ answered-alike before after (Err why) a = alike before
 answered-alike before after (Ok r) a = record { setup = a.setup; next = a.next; published = a.published; held = a.held; waiting = a.waiting }
 
 -- the bridge's own frames are none that entered
-sent_of-control : (id own : ℕ) (messages : List (ℕ × BpduMsg)) (told : List Line) → sent_of id (control_lines own messages ++ told) ≡ sent_of id told
-sent_of-control id own [] told = refl
-sent_of-control id own (m ∷ messages) told = sent_of-control id own messages told
+lines_of-control : (id own : ℕ) (messages : List (ℕ × BpduMsg)) (told : List Line) → lines_of id (control_lines own messages ++ told) ≡ lines_of id told
+lines_of-control id own [] told = refl
+lines_of-control id own (m ∷ messages) told = lines_of-control id own messages told
 
-answered-silent : (id : ℕ) (before after : World) (answer : Result Reaction Refusal) → sent_of id (answered before after answer).1 ≡ []
+answered-silent : (id : ℕ) (before after : World) (answer : Result Reaction Refusal) → lines_of id (answered before after answer).1 ≡ []
 answered-silent id before after (Err why) = refl
-answered-silent id before after (Ok r) = sent_of-control id after.setup.own r.messages (Done after.steps (length r.changes) ∷ [])
+answered-silent id before after (Ok r) = lines_of-control id after.setup.own r.messages (Done after.steps (length r.changes) ∷ [])
 
 answers : (id : ℕ) (before after : World) (answer : Result Reaction Refusal) → Alike before after → Effect id before (answered before after answer).0 (answered before after answer).1
 answers id before after answer a = quiet id before _ _ (answered-alike before after answer a) (answered-silent id before after answer)
@@ -228,16 +286,17 @@ pub record Joins (id : ℕ) (u : World) (f : Waiting) (y : Stepped) : Type 0 whe
   pub next : y.0.next ≡ u.next
   pub published : y.0.published ≡ u.published
   pub silent : sent_of id y.1 ≡ []
+  pub others : (f.id == id) ≡ false → lines_of id y.1 ≡ []
   pub found : (found id y.0.held y.0.waiting ≡ found id u.held u.waiting) ⊎ (found id y.0.held y.0.waiting ≡ found id u.held u.waiting ++ cond (f.id == id) ((f, None) ∷ []) [])
 
 waits-joins : (id : ℕ) (u : World) (f : Waiting) → Joins id u f (waits u f)
 waits-joins id u f =
     waits-either (Joins id u f) u f
-    (record { setup = refl; next = refl; published = refl; silent = refl; found = inr (found-push id u.held u.waiting f) })
-    (record { setup = refl; next = refl; published = refl; silent = refl; found = inl refl })
+    (record { setup = refl; next = refl; published = refl; silent = refl; others = λ e. refl; found = inr (found-push id u.held u.waiting f) })
+    (record { setup = refl; next = refl; published = refl; silent = refl; others = λ e. ap (λ b. cond b (lines.Overrun f.id ∷ []) []) e; found = inl refl })
 
 pub goes_on-joins : (c : Class) (id : ℕ) (u : World) (f : Waiting) → Joins id u f (goes_on c u f)
-goes_on-joins c id u f = goes_on-either (Joins id u f) c u f (record { setup = refl; next = refl; published = refl; silent = refl; found = inl refl }) (waits-joins id u f)
+goes_on-joins c id u f = goes_on-either (Joins id u f) c u f (record { setup = refl; next = refl; published = refl; silent = refl; others = λ e. refl; found = inl refl }) (waits-joins id u f)
 
 -- it waits now, sent to ports of its mark's domain alone, or the frames that were there are all
 abbrev Settled : ℕ → World → Waiting → Stepped → Sent → Type 0
@@ -250,15 +309,15 @@ settles id u f y out j marked =
     ⊎_elim (λ (h : found id y.0.held y.0.waiting ≡ found id u.held u.waiting). inl h)
     (λ (h : found id y.0.held y.0.waiting ≡ found id u.held u.waiting ++ cond (f.id == id) ((f, None) ∷ []) []). inr (h, marked)) j.found
 
-entry : (id : ℕ) (w u : World) (f : Waiting) (y : Stepped) (lines : List Line) (out : Sent) → IsWorld w → f.id ≡ w.next → Joins id u f y → u.setup ≡ w.setup → u.next ≡ w.next + 1 → u.published ≡ w.published
-    → found id u.held u.waiting ≡ found id w.held w.waiting → sent_of id lines ≡ cond (f.id == id) out [] → ((port : ℕ) → times port out ≤ 1)
-    → Settled id u f y out → Effect id w y.0 lines
-entry id w u f y lines out k own j setup next published same says once settled = record {
+entry : (id : ℕ) (w u : World) (f : Waiting) (y : Stepped) (told : List Line) (out : Sent) → IsWorld w → f.id ≡ w.next → Joins id u f y → u.setup ≡ w.setup → u.next ≡ w.next + 1 → u.published ≡ w.published
+    → found id u.held u.waiting ≡ found id w.held w.waiting → sent_of id told ≡ cond (f.id == id) out [] → ((f.id == id) ≡ false → lines_of id told ≡ [])
+    → ((port : ℕ) → times port out ≤ 1) → Settled id u f y out → Effect id w y.0 told
+entry id w u f y told out k own j setup next published same says others once settled = record {
   setup = j.setup ∙ setup;
   next = omega (arith, j.next, next);
   published = inl (j.published ∙ published);
-  fate = (elim (f.id == id) as (λ b. (f.id == id) ≡ b → sent_of id lines ≡ cond b out [] → (found id y.0.held y.0.waiting ≡ found id u.held u.waiting)
-      ⊎ ((found id y.0.held y.0.waiting ≡ found id u.held u.waiting ++ cond b ((f, None) ∷ []) []) × ((port : ℕ) → is_marked u.setup.domains f.mark port ≡ false → times port out ≡ 0)) → Fate id w y.0 lines) [
+  fate = (elim (f.id == id) as (λ b. (f.id == id) ≡ b → sent_of id told ≡ cond b out [] → (found id y.0.held y.0.waiting ≡ found id u.held u.waiting)
+      ⊎ ((found id y.0.held y.0.waiting ≡ found id u.held u.waiting ++ cond b ((f, None) ∷ []) []) × ((port : ℕ) → is_marked u.setup.domains f.mark port ≡ false → times port out ≡ 0)) → Fate id w y.0 told) [
         | true ↦ λ e said there.
             let is : id ≡ w.next = sym (eqb-true f.id id e) ∙ own in
             let free = same ∙ found-free id w k (omega (arith, is)) in
@@ -270,7 +329,7 @@ entry id w u f y lines out k own j setup next published same says once settled =
         | false ↦ λ e said there. idle (⊎_elim
             (λ (h : found id y.0.held y.0.waiting ≡ found id u.held u.waiting). h ∙ same)
             (λ (h : (found id y.0.held y.0.waiting ≡ found id u.held u.waiting ++ []) × ((port : ℕ) → is_marked u.setup.domains f.mark port ≡ false → times port out ≡ 0)). h.0 ∙ append-nil (found id u.held u.waiting) ∙ same)
-            there) said
+            there) (others e)
       ]) refl says settled;
 }
 
@@ -308,7 +367,7 @@ enters_by-effect : (id : ℕ) (w : World) (port : ℕ) (bytes : List ℕ) (head 
 enters_by-effect id w port bytes head None on k =
     let u : World = numbered w in
     let f : Waiting = record { id = w.next; port = port; bytes = bytes; head = head; mark = None } in
-    entry id w u f (waits u f) (waits u f).1 [] k refl (waits-joins id u f) refl refl refl refl ((waits-joins id u f).silent ∙ sym (nothing (w.next == id))) (λ q. omega arith) (settles id u f (waits u f) [] (waits-joins id u f) (λ q h. refl))
+    entry id w u f (waits u f) (waits u f).1 [] k refl (waits-joins id u f) refl refl refl refl ((waits-joins id u f).silent ∙ sym (nothing (w.next == id))) (waits-joins id u f).others (λ q. omega arith) (settles id u f (waits u f) [] (waits-joins id u f) (λ q h. refl))
 enters_by-effect id w port bytes head (Some c) on k =
     let u : World = numbered w in
     let f : Waiting = record { id = w.next; port = port; bytes = bytes; head = head; mark = None } in
@@ -318,12 +377,21 @@ enters_by-effect id w port bytes head (Some c) on k =
     let g : Waiting = record f { mark = mark_of class w.setup.domains port } in
     let out = chip_out w.setup.domains t port bytes head in
     let joins = goes_on-joins class id v g in
-    entry id w v g (goes_on class v g) (enters_chip u c class f).1 out k refl joins refl refl refl refl (sent_of-sent id w.next out (goes_on class v g).1 joins.silent) (chip-once w.setup.domains t port bytes head class)
+    entry id w v g (goes_on class v g) (enters_chip u c class f).1 out k refl joins refl refl refl refl (sent_of-sent id w.next out (goes_on class v g).1 joins.silent)
+    (λ e. lines-chip id w.next (length u.history) c.count class out (goes_on class v g).1 e (joins.others e)) (chip-once w.setup.domains t port bytes head class)
     (class-settles id v t f (chip_of-declared w (domain_of w.setup.domains port) c on) class)
 
 enters-effect : (id : ℕ) (w : World) (port : ℕ) (bytes : List ℕ) (r : Result Head FrameFault) → IsWorld w
     → Effect id w (enters_as (record w { next = w.next + 1 }) w.next port bytes r).0 (enters_as (record w { next = w.next + 1 }) w.next port bytes r).1
-enters-effect id w port bytes (Err why) k = record { setup = refl; next = omega arith; published = inl refl; fate = idle refl refl }
+enters-effect id w port bytes (Err why) k = record {
+  setup = refl;
+  next = omega arith;
+  published = inl refl;
+  fate = (elim (w.next == id) as (λ b. (w.next == id) ≡ b → Fate id w (record w { next = w.next + 1 }) (lines.Unread w.next why ∷ [])) [
+    | true ↦ λ e. let is : id ≡ w.next = sym (eqb-true w.next id e) in entered [] is refl refl (λ port. omega arith) (inl (found-free id w k (omega (arith, is))))
+    | false ↦ λ e. idle refl (ap (λ b. cond b (lines.Unread w.next why ∷ []) []) e)
+  ]) refl;
+}
 enters-effect id w port bytes (Ok head) k = enters_by-effect id w port bytes head (chip_of w (domain_of w.setup.domains port)) refl k
 
 -- A frame is held, or sent.
@@ -340,13 +408,16 @@ posts-effect id w u f o point setup next published history mine other decided =
     let a = answered-alike u u answer (alike u) in
     let out = soft_out u.setup.domains (table_at u point) f.port f.bytes f.head f.mark in
     let here : found id (answered u u answer).0.held (answered u u answer).0.waiting ≡ found id u.held u.waiting = λ i. found id (a.held i) (a.waiting i) in
-    let says = sent_of-sent id f.id out (answered u u answer).1 (answered-silent id u u answer) in
+    let says = lines-soft id f.id point (sent f.id out ++ (answered u u answer).1) (sent f.id out) (lines_of-sent id f.id out (answered u u answer).1 (answered-silent id u u answer)) in
     record {
       setup = a.setup ∙ setup;
       next = omega (arith, a.next, next);
       published = inl (a.published ∙ published);
-      fate = (elim (f.id == id) as (λ b. (f.id == id) ≡ b → sent_of id (posts u f point).1 ≡ cond b out [] → Fate id w (posts u f point).0 (posts u f point).1) [
-        | true ↦ λ e said. gone f o point (mine e).0 (here ∙ (mine e).1) decided (said ∙ (λ i. soft_out (setup i).domains (table (take point (history i))) f.port f.bytes f.head f.mark))
+      fate = (elim (f.id == id) as (λ b. (f.id == id) ≡ b → lines_of id (posts u f point).1 ≡ cond b (lines.Soft f.id point ∷ sent f.id out) [] → Fate id w (posts u f point).0 (posts u f point).1) [
+        | true ↦ λ e said.
+            let own : f.id ≡ id = eqb-true f.id id e in
+            gone f o point (mine e).0 (here ∙ (mine e).1) decided
+            (said ∙ (λ i. lines.Soft (own i) point ∷ sent (own i) (soft_out (setup i).domains (table (take point (history i))) f.port f.bytes f.head f.mark)))
         | false ↦ λ e said. idle (here ∙ other e) said
       ]) refl says;
     }
@@ -379,8 +450,9 @@ holds-effect id w (f ∷ later) e k =
           → Fate id w (holds w (f ∷ later)).0 (holds w (f ∷ later)).1) [
             | true ↦ λ mine is was.
                 let rest = alone id w (held_found id w.held) (waiting_found id later) (f, None) k was in
-                taken f (was ∙ (λ i. rest.0 i ++ (f, None) ∷ rest.1 i)) (is ∙ (λ i. (rest.0 i ++ (f, Some w.published) ∷ []) ++ rest.1 i)) refl
-            | false ↦ λ other is was. idle (is ∙ ap (λ (l : Found). l ++ waiting_found id later) (append-nil (held_found id w.held)) ∙ sym was) refl
+                taken f (was ∙ (λ i. rest.0 i ++ (f, None) ∷ rest.1 i)) (is ∙ (λ i. (rest.0 i ++ (f, Some w.published) ∷ []) ++ rest.1 i))
+                (ap (λ b. cond b (lines.Held f.id w.published ∷ []) []) mine ∙ ap (λ i. lines.Held i w.published ∷ []) (eqb-true f.id id mine))
+            | false ↦ λ other is was. idle (is ∙ ap (λ (l : Found). l ++ waiting_found id later) (append-nil (held_found id w.held)) ∙ sym was) (ap (λ b. cond b (lines.Held f.id w.published ∷ []) []) other)
           ]) refl now before;
     }
 
@@ -489,11 +561,11 @@ does-effect id w (Sweep dom) k = sweeps-effect id w (chip_at w dom)
 does-effect id w Publish k = record { setup = refl; next = omega arith; published = inr refl; fate = idle refl refl }
 
 -- the count of steps is no matter
-same-fate : (id n : ℕ) (w v : World) (lines : List Line) → Fate id (record w { steps = n }) v lines → Fate id w v lines
-same-fate id n w v lines (idle there silent) = idle there silent
-same-fate id n w v lines (entered out is next says once settled) = entered out is next says once settled
-same-fate id n w v lines (taken f was is silent) = taken f was is silent
-same-fate id n w v lines (gone f o point was is decided says) = gone f o point was is (same-decided o decided) says
+same-fate : (id n : ℕ) (w v : World) (told : List Line) → Fate id (record w { steps = n }) v told → Fate id w v told
+same-fate id n w v told (idle there silent) = idle there silent
+same-fate id n w v told (entered out is next says once settled) = entered out is next says once settled
+same-fate id n w v told (taken f was is silent) = taken f was is silent
+same-fate id n w v told (gone f o point was is decided says) = gone f o point was is (same-decided o decided) says
   where
     same-decided : (o : Option ℕ) → IsDecidedAt (record w { steps = n }) o point → IsDecidedAt w o point
     same-decided None h = h

@@ -18,7 +18,7 @@ use Rattle.br_model.specs.Plane.Runs.{run, then_step}
 use Rattle.br_model.specs.Plane.Sending.{Sent, times, sent_of}
 use Rattle.br_model.specs.Plane.Steps.{world_step}
 use Rattle.br_model.specs.Plane.World.{World, Waiting, Holding, Stepped, first_world, table_at}
-use Rattle.br_model.proofs.PlaneFates.{sent_of-append, Found, hold_entry, wait_entry, waiting_found, found, found-taken, Fate, idle, entered, taken, gone, Waits, step-effect}
+use Rattle.br_model.proofs.PlaneFates.{sent_of-append, Found, hold_entry, wait_entry, waiting_found, found, found-taken, Fate, idle, entered, taken, gone, said-none, said-held, said-soft, Waits, step-effect}
 use Rattle.br_model.proofs.PlaneKept.{first-world, step-world}
 use Rattle.br_model.proofs.PlaneShares.{ascends-filter, ascends-leave, times-append, times-ascends, times-remaining}
 
@@ -54,7 +54,7 @@ module _ (id : ℕ) (w v : World) (lines new : List Line) (k : IsWorld w) (told 
 
   told-by : Fate id w v new → Told id v (lines ++ new)
   told-by (idle there nothing) =
-      let same = silent nothing in
+      let same = silent (said-none id new nothing) in
       record {
         fresh = λ le. same ∙ told.fresh (omega (arith, le, next));
         once = λ port. omega (arith, told.once port, ap (times port) same);
@@ -73,8 +73,8 @@ module _ (id : ℕ) (w v : World) (lines new : List Line) (k : IsWorld w) (told 
             (λ (h : Waits id v out). subst (λ (l : Found). AllByRecursion (IsOwn v.setup.domains out) l) (sym h.1) (h.2, tt))
             settled);
       }
-  told-by (taken f was is nothing) =
-      let same = silent nothing in
+  told-by (taken f was is says) =
+      let same = silent (said-held id w.published new says) in
       let own = subst (λ (l : Found). AllByRecursion (IsOwn w.setup.domains (sent_of id lines)) l) was told.own in
       record {
         fresh = λ le. absurd (omega (arith, le, next, found-taken id w (f, None) k was));
@@ -87,7 +87,7 @@ module _ (id : ℕ) (w v : World) (lines new : List Line) (k : IsWorld w) (told 
       let own = subst (λ (l : Found). AllByRecursion (IsOwn w.setup.domains (sent_of id lines)) l) was told.own in
       record {
         fresh = λ le. absurd (omega (arith, le, next, found-taken id w (f, o) k was));
-        once = λ port. omega (arith, ap (times port) (now _ says), soft-once w.setup.domains w f point port (sent_of id lines) (told.once port) (own.0 port));
+        once = λ port. omega (arith, ap (times port) (now _ (said-soft id point _ new says)), soft-once w.setup.domains w f point port (sent_of id lines) (told.once port) (own.0 port));
         own = subst (λ (l : Found). AllByRecursion (IsOwn v.setup.domains (sent_of id (lines ++ new))) l) (sym is) tt;
       }
 

@@ -3,6 +3,7 @@ pub mod Invariants
 pub mod Applied
 pub mod OnceOnly
 pub mod Agreement
+pub mod FrameLines
 pub mod Applying
 pub mod EndsTied
 pub mod TreeLaws

@@ -15,6 +15,8 @@ pub mod ending_laws;
 pub mod ends_laws;
 pub mod frame;
 pub mod group;
+pub mod headline_laws;
+pub mod history_laws;
 pub mod laws;
 pub mod limits;
 pub mod listing;
