@@ -1,6 +1,8 @@
 pub mod Bytes
 pub mod Sums
 pub mod Silence
+pub mod Moments
+pub mod Leaving
 pub mod Sized
 pub mod Counted
 pub mod Rows

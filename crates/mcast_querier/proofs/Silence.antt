@@ -117,7 +117,7 @@ acted-address six x (Hears asker now) = heard-address six x.0 asker now
 acted-address true x (Comes now) = passed-address x.0.six now
 acted-address false x (Comes now) = passed-address x.0.four now
 
-address-stays : (six : Bool) (acts : List Act) (x : Queried) → (election six (fold acted x acts).0).address ≡ (election six x.0).address
+pub address-stays : (six : Bool) (acts : List Act) (x : Queried) → (election six (fold acted x acts).0).address ≡ (election six x.0).address
 address-stays six [] x = refl
 address-stays six (act ∷ acts) x = address-stays six acts (acted x act) ∙ acted-address six x act
 

@@ -3,4 +3,5 @@ pub mod Queries
 pub mod Hearing
 pub mod Querier
 pub mod Runs
+pub mod Leaving
 pub mod Worked

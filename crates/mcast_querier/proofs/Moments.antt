@@ -1,0 +1,278 @@
+-- What a step leaves of the last moment: it stays, or goes on to the one that the step names.
+use Rattle.std.proofs.Common.{◌≡◌, ℕ, ◌+◌, ◌≤◌, Bool, true, false, cond, List, [], ◌∷◌, ◌++◌, Option, None, Some, refl, sym, ◌∙◌, subst, arith, nat_lt}
+use Rattle.std.specs.List.{list_any}
+use Rattle.std.specs.declared.result.Result.{Result}
+use Rattle.std.specs.declared.result.Result.TheVariants.{Ok, Err}
+use Rattle.std.proofs.lemmas.List.Folds.{list_any-append}
+use Rattle.br_model.specs.declared.change.Change.{Change}
+use Rattle.br_model.specs.declared.change.Change.TheVariants as changes
+use Rattle.br_model.specs.declared.frame.Head.{Head}
+use Rattle.br_model.specs.declared.steps.Command.{Command}
+use Rattle.br_model.specs.declared.steps.Command.TheVariants as commands
+use Rattle.br_model.specs.declared.steps.Event.{Event}
+use Rattle.br_model.specs.declared.steps.Event.TheVariants.{Cmd, Moment, Sight, Told, Forget}
+use Rattle.br_model.specs.declared.steps.Refusal.{Refusal}
+use Rattle.br_model.specs.declared.steps.Refusal.TheVariants.{Backward, HistoryFull}
+use Rattle.br_model.specs.declared.tree.TreeEvent.{TreeEvent}
+use Rattle.br_model.specs.declared.tree.TreeEvent.TheVariants as tree_events
+use Rattle.br_model.specs.Control.Ageing.{expired, forgets, forgotten}
+use Rattle.br_model.specs.Control.Commands.{command, sets, tells}
+use Rattle.br_model.specs.Control.Control.{Control, keeps_up, renewed}
+use Rattle.br_model.specs.Control.Course.{Course, from, makes, makes_all}
+use Rattle.br_model.specs.Control.Ends.{endings}
+use Rattle.br_model.specs.Control.Learning.{Address, is_renewed, teach, taught, told as reported}
+use Rattle.br_model.specs.Control.Reaction.{Reaction, happens, commanded, passes_to, at_moment, ages, ends, has_room, in_room, react, sees, learns_of, learns, renews}
+use Rattle.br_model.specs.Control.Snooping.{snoops}
+use Rattle.br_model.specs.Control.TreeReaction.{told, heard, states}
+use Rattle.br_model.specs.Table.DomainPorts.{is_in_domain}
+use Rattle.br_model.specs.Table.Domains.{software}
+use Rattle.br_model.specs.Table.Limits.{fits}
+use Rattle.br_model.specs.Table.Setup.{Setup}
+use Rattle.br_model.specs.Table.Table.{apply, table}
+use Rattle.br_model.specs.Tree.Step.{tree_step, sent}
+use Rattle.std.proofs.Common.{length}
+use Rattle.std.proofs.Math.Bool.{or-true}
+use Rattle.br_model.specs.declared.frame.Class.{Class}
+use Rattle.br_model.specs.declared.frame.Class.TheVariants.{Drop, Trap, Copy, Forward}
+use Rattle.br_model.specs.declared.frame.FrameFault.{FrameFault}
+use Rattle.br_model.specs.declared.steps.Refusal.TheVariants.{NoSuchPoint}
+use Rattle.br_model.specs.declared.steps.Step.{Step}
+use Rattle.br_model.specs.declared.steps.Step.TheVariants as steps
+use Rattle.br_model.specs.declared.transcript.Line.{Line}
+use Rattle.br_model.specs.declared.transcript.Line.TheVariants.{Done, Overrun}
+use Rattle.br_model.specs.Control.Learning.{Triple}
+use Rattle.br_model.specs.Forward.Shares.{mark_of}
+use Rattle.br_model.specs.Plane.Chip.{notes, Chip}
+use Rattle.br_model.specs.Plane.ChipSteps.{turns_to, turns, tells as tells_of, reports, swept, sweeps}
+use Rattle.br_model.specs.Plane.Entering.{waits, goes_on, enters_as, class_of, enters_by, chip_of}
+use Rattle.br_model.specs.Plane.Serving.{posts, serves, holds, held_with, lets_go, is_point, posts_held, posts_at}
+use Rattle.br_model.specs.Plane.Steps.{world_step}
+use Rattle.br_model.specs.Plane.World.{World, Waiting, Holding, Stepped, chip_at, next_of, table_of_chip, answered, control_lines, reacts, refused, with_chip}
+use Rattle.br_model.specs.Table.Domains.{domain_of}
+use Rattle.br_model.specs.Table.Limits.{most_waiting}
+use Rattle.br_model.specs.Wire.Frames.{frame}
+use Rattle.mcast_querier.specs.Runs.{is_done}
+use Rattle.br_model.proofs.ReactionSteps.{IsKept}
+use Rattle.br_model.proofs.SnoopSteps.{snoops-keeps}
+
+-- what a reaction leaves of the moment
+
+keeps_up-now : (k : Control) (c : Change) → (keeps_up k c).now ≡ k.now
+keeps_up-now k (changes.AddrDel vid mac) = refl
+keeps_up-now k c = refl
+
+sets-now : (k : Control) (c : Command) → (sets k c).now ≡ k.now
+sets-now k (commands.Ageing seconds) = refl
+sets-now k c = refl
+
+abbrev At : ℕ → Course → Type 0
+At n r = r.control.now ≡ n
+
+module _ (n : ℕ) where
+  makes-at : (r : Course) (c : Change) → At n r → At n (makes r c)
+  makes-at r c p =
+      elim (fits r.table c) as (λ b. At n (cond b (record r { table = apply r.table c; control = keeps_up r.control c; changes = r.changes ++ c ∷ [] }) r)) [
+        | true ↦ keeps_up-now r.control c ∙ p
+        | false ↦ p
+      ]
+
+  all-at : (r : Course) (cs : List Change) → At n r → At n (makes_all r cs)
+  all-at r [] p = p
+  all-at r (c ∷ cs) p = all-at (makes r c) cs (makes-at r c p)
+
+  told-at : (r : Course) (o : Option TreeEvent) → At n r → At n (told o r)
+  told-at r None p = p
+  told-at r (Some event) p =
+      let a = tree_step r.control.tree r.control.now event in
+      all-at (record r { control = record r.control { tree = a.tree }; messages = r.messages ++ sent a }) (states r.control.tree a.tree) p
+
+  commanded-at : (r : Course) (c : Command) (answer : Result (List Change) Refusal) → At n r → IsKept (At n) (commanded r c answer)
+  commanded-at r c (Err why) p = tt
+  commanded-at r c (Ok made) p =
+      let set = record r { control = sets r.control c } in
+      told-at (makes_all set made) (tells r.table c) (all-at set made (sets-now r.control c ∙ p))
+
+  learns-at : (r : Course) (port : ℕ) (o : Option Address) → At n r → At n (learns port o r)
+  learns-at r port None p = p
+  learns-at r port (Some key) p =
+      all-at (renews key port r) (taught r.table key port)
+      (elim (is_renewed r.table key port) as (λ b. At n (cond b (record r { control = renewed r.control key }) r)) [ true ↦ p | false ↦ p ])
+
+  learns_of-at : (setup : Setup) (r : Course) (port : ℕ) (head : Head) → At n r → At n (learns_of setup port head r)
+  learns_of-at setup r port head p =
+      elim (is_in_domain setup.domains software port) as (λ b. At n (cond b (learns port (teach r.table port head) r) r)) [ true ↦ learns-at r port (teach r.table port head) p | false ↦ p ]
+
+  snoops-at : (port : ℕ) (bytes : List ℕ) (head : Head) (r : Course) → At n r → At n (snoops port bytes head r)
+  snoops-at = snoops-keeps (At n) makes-at (λ r m end there p. p) (λ r six known p. p) (λ r port there p. p)
+
+  sees-at : (setup : Setup) (r : Course) (port : ℕ) (bytes : List ℕ) (head : Head) → At n r → At n (sees setup port bytes head r)
+  sees-at setup r port bytes head p =
+      let learned = learns_of setup port head r in
+      told-at (snoops port bytes head learned) (heard r.table port bytes head) (snoops-at port bytes head learned (learns_of-at setup r port head p))
+
+passes-at : (r : Course) (now : ℕ) → IsKept (At now) (passes_to now r)
+passes-at r now =
+    let later = at_moment now r in
+    let aged = ages later in
+    elim (nat_lt now r.control.now) as (λ b. IsKept (At now) (cond b (Err Backward) (Ok (told (Some tree_events.Moment) (ends aged))))) [
+      | true ↦ tt
+      | false ↦ told-at now (ends aged) (Some tree_events.Moment)
+          (all-at now aged (endings aged.control.now aged.control.ends) (all-at now later (forgets (expired r.table later.control)) refl))
+    ]
+
+-- the moment behind an event that is accepted
+abbrev pub moment_behind : ℕ → Event → ℕ
+moment_behind n (Cmd c) = n
+moment_behind n (Moment now) = now
+moment_behind n (Sight port bytes head) = n
+moment_behind n (Told vid mac port) = n
+moment_behind n (Forget triples) = n
+
+happens-at : (setup : Setup) (r : Course) (e : Event) → IsKept (At (moment_behind r.control.now e)) (happens setup r e)
+happens-at setup r (Cmd c) = commanded-at r.control.now r c (command r.table c) refl
+happens-at setup r (Moment now) = passes-at r now
+happens-at setup r (Sight port bytes head) = sees-at r.control.now setup r port bytes head refl
+happens-at setup r (Told vid mac port) = all-at r.control.now r (reported r.table (vid, mac) port) refl
+happens-at setup r (Forget triples) = all-at r.control.now r (forgets (forgotten r.table triples)) refl
+
+-- A moment that is accepted isn't before the last one.
+passes-on : (r : Course) (now : ℕ) → IsKept (λ s. r.control.now ≤ now) (passes_to now r)
+passes-on r now =
+    (elim (nat_lt now r.control.now) as (λ b. nat_lt now r.control.now ≡ b → IsKept (λ s. r.control.now ≤ now) (cond b (Err Backward) (Ok (told (Some tree_events.Moment) (ends (ages (at_moment now r))))))) [
+      | true ↦ λ e. tt
+      | false ↦ λ e. at_most e
+    ]) refl
+  where
+    at_most : nat_lt now r.control.now ≡ false → r.control.now ≤ now
+    at_most h = grind arith
+
+-- what holds of the control state that is accepted, if one is
+abbrev Leaves : (Control → Type 0) → Result Reaction Refusal → Type 0
+Leaves P (Err why) = Unit {0}
+Leaves P (Ok r) = P r.control
+
+in_room-leaves : (P : Control → Type 0) (h : List Change) (answer : Result Course Refusal) → IsKept (λ r. P r.control) answer → Leaves P (in_room h answer)
+in_room-leaves P h (Err why) p = tt
+in_room-leaves P h (Ok r) p =
+    elim (has_room h r.changes) as (λ b. Leaves P (cond b (Ok (record { changes = r.changes; control = r.control; messages = r.messages })) (Err HistoryFull))) [
+      | true ↦ p
+      | false ↦ tt
+    ]
+
+pub react-leaves : (setup : Setup) (h : List Change) (control : Control) (e : Event) → Leaves (λ k. k.now ≡ moment_behind control.now e) (react setup h control e)
+unfolding react
+react-leaves setup h control e =
+    in_room-leaves (λ k. k.now ≡ moment_behind control.now e) h (happens setup (from (table h) control) e) (happens-at setup (from (table h) control) e)
+
+react-on : (setup : Setup) (h : List Change) (control : Control) (now : ℕ) → Leaves (λ k. control.now ≤ now) (react setup h control (Moment now))
+unfolding react
+react-on setup h control now = in_room-leaves (λ k. control.now ≤ now) h (happens setup (from (table h) control) (Moment now)) (passes-on (from (table h) control) now)
+
+-- what a step leaves of it
+
+answered-same : (before after : World) (answer : Result Reaction Refusal) → Leaves (λ k. k.now ≡ before.control.now) answer → (answered before after answer).0.control.now ≡ before.control.now
+answered-same before after (Err why) p = refl
+answered-same before after (Ok r) p = p
+
+waits-same : (w : World) (f : Waiting) → (waits w f).0.control.now ≡ w.control.now
+waits-same w f =
+    elim (nat_lt (length w.waiting + length w.held) most_waiting) as (λ b. (cond {A = Stepped} b (record w { waiting = w.waiting ++ f ∷ [] }, []) (w, Overrun f.id ∷ [])).0.control.now ≡ w.control.now) [
+      | true ↦ refl
+      | false ↦ refl
+    ]
+
+goes_on-same : (class : Class) (w : World) (f : Waiting) → (goes_on class w f).0.control.now ≡ w.control.now
+goes_on-same Drop w f = refl
+goes_on-same Trap w f = waits-same w f
+goes_on-same Copy w f = waits-same w f
+goes_on-same Forward w f = refl
+
+enters_by-same : (w : World) (o : Option Chip) (f : Waiting) → (enters_by w o f).0.control.now ≡ w.control.now
+enters_by-same w None f = waits-same w f
+enters_by-same w (Some c) f =
+    goes_on-same (class_of w c f) (with_chip w (notes (table_of_chip w c) f.port f.head c)) (record f { mark = mark_of (class_of w c f) w.setup.domains f.port })
+
+enters_as-same : (w : World) (id port : ℕ) (bytes : List ℕ) (o : Result Head FrameFault) → (enters_as w id port bytes o).0.control.now ≡ w.control.now
+enters_as-same w id port bytes (Err why) = refl
+enters_as-same w id port bytes (Ok head) =
+    enters_by-same w (chip_of w (domain_of w.setup.domains port)) (record { id = id; port = port; bytes = bytes; head = head; mark = None })
+
+posts-same : (w : World) (f : Waiting) (point : ℕ) → (posts w f point).0.control.now ≡ w.control.now
+posts-same w f point = answered-same w w (reacts w (Sight f.port f.bytes f.head)) (react-leaves w.setup w.history w.control (Sight f.port f.bytes f.head))
+
+serves-same : (w : World) (fs : List Waiting) → (serves w fs).0.control.now ≡ w.control.now
+serves-same w [] = refl
+serves-same w (f ∷ later) = posts-same (record w { waiting = later }) f w.published
+
+holds-same : (w : World) (fs : List Waiting) → (holds w fs).0.control.now ≡ w.control.now
+holds-same w [] = refl
+holds-same w (f ∷ later) = refl
+
+posts_held-same : (w : World) (h : Holding) (point : Option ℕ) → (posts_held w h point).0.control.now ≡ w.control.now
+posts_held-same w h None = posts-same (lets_go w h.waiting.id) h.waiting h.floor
+posts_held-same w h (Some point) =
+    elim (is_point w h point) as (λ b. (cond {A = Stepped} b (posts (lets_go w h.waiting.id) h.waiting point) (refused w NoSuchPoint)).0.control.now ≡ w.control.now) [
+      | true ↦ posts-same (lets_go w h.waiting.id) h.waiting point
+      | false ↦ refl
+    ]
+
+posts_at-same : (w : World) (o : Option Holding) (point : Option ℕ) → (posts_at w o point).0.control.now ≡ w.control.now
+posts_at-same w None point = refl
+posts_at-same w (Some h) point = posts_held-same w h point
+
+turns_to-same : (w : World) (c : Chip) (o : Option Change) → (turns_to w c o).0.control.now ≡ w.control.now
+turns_to-same w c None = refl
+turns_to-same w c (Some d) = refl
+
+turns-same : (w : World) (o : Option Chip) → (turns w o).0.control.now ≡ w.control.now
+turns-same w None = refl
+turns-same w (Some c) = turns_to-same w c (next_of w c)
+
+tells-same : (w : World) (c : Chip) (reports : List Triple) → (tells_of w c reports).0.control.now ≡ w.control.now
+tells-same w c [] = refl
+tells-same w c (x ∷ later) = answered-same w (with_chip w (record c { reports = later })) (reacts w (Told x.0 x.1 x.2)) (react-leaves w.setup w.history w.control (Told x.0 x.1 x.2))
+
+reports-same : (w : World) (o : Option Chip) → (reports w o).0.control.now ≡ w.control.now
+reports-same w None = refl
+reports-same w (Some c) = tells-same w c c.reports
+
+sweeps-same : (w : World) (o : Option Chip) → (sweeps w o).0.control.now ≡ w.control.now
+sweeps-same w None = refl
+sweeps-same w (Some c) = answered-same w (with_chip w (record c { hits = [] })) (reacts w (swept w c)) (react-leaves w.setup w.history w.control (swept w c))
+
+-- What is so of the last moment before and after a step, by whether a line says that it was done.
+abbrev pub Passes : Step → Bool → ℕ → ℕ → Type 0
+Passes (steps.Rx port bytes) done before after = after ≡ before
+Passes (steps.Cmd c) done before after = after ≡ before
+Passes (steps.Now moment) true before after = (before ≤ moment) × (after ≡ moment)
+Passes (steps.Now moment) false before after = after ≡ before
+Passes steps.Serve done before after = after ≡ before
+Passes steps.Hold done before after = after ≡ before
+Passes (steps.Post id point) done before after = after ≡ before
+Passes (steps.Turn dom) done before after = after ≡ before
+Passes (steps.Report dom) done before after = after ≡ before
+Passes (steps.Sweep dom) done before after = after ≡ before
+Passes steps.Publish done before after = after ≡ before
+
+-- a moment comes, or is refused
+passes : (w : World) (moment : ℕ) (answer : Result Reaction Refusal) → Leaves (λ k. k.now ≡ moment) answer → Leaves (λ k. w.control.now ≤ moment) answer
+    → Passes (steps.Now moment) (list_any is_done (answered w w answer).1) w.control.now (answered w w answer).0.control.now
+passes w moment (Err why) p on = refl
+passes w moment (Ok r) p on = subst (λ b. Passes (steps.Now moment) b w.control.now r.control.now) (sym (is_told (control_lines w.setup.own r.messages))) (on, p)
+  where
+    is_told : (ls : List Line) → list_any is_done (ls ++ Done w.steps (length r.changes) ∷ []) ≡ true
+    is_told ls = list_any-append is_done ls (Done w.steps (length r.changes) ∷ []) ∙ or-true (list_any is_done ls)
+
+pub step-passes : (w : World) (step : Step) → Passes step (list_any is_done (world_step w step).1) w.control.now (world_step w step).0.control.now
+step-passes w (steps.Rx port bytes) = enters_as-same (record w { steps = w.steps + 1; next = w.next + 1 }) w.next port bytes (frame bytes)
+step-passes w (steps.Cmd c) = let v = record w { steps = w.steps + 1 } in answered-same v v (reacts v (Cmd c)) (react-leaves w.setup w.history w.control (Cmd c))
+step-passes w (steps.Now moment) =
+    let v = record w { steps = w.steps + 1 } in
+    passes v moment (reacts v (Moment moment)) (react-leaves w.setup w.history w.control (Moment moment)) (react-on w.setup w.history w.control moment)
+step-passes w steps.Serve = serves-same (record w { steps = w.steps + 1 }) w.waiting
+step-passes w steps.Hold = holds-same (record w { steps = w.steps + 1 }) w.waiting
+step-passes w (steps.Post id point) = posts_at-same (record w { steps = w.steps + 1 }) (held_with w id) point
+step-passes w (steps.Turn dom) = turns-same (record w { steps = w.steps + 1 }) (chip_at w dom)
+step-passes w (steps.Report dom) = reports-same (record w { steps = w.steps + 1 }) (chip_at w dom)
+step-passes w (steps.Sweep dom) = sweeps-same (record w { steps = w.steps + 1 }) (chip_at w dom)
+step-passes w steps.Publish = refl
