@@ -1,3 +1,4 @@
 pub mod Prefixes
 pub mod Posting
 pub mod Settling
+pub mod Calling

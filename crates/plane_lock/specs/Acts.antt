@@ -10,8 +10,9 @@ use Rattle.plane_core.specs.declared.held.Held.{Held}
 use Rattle.table_publish.specs.declared.seat.Seen.{Seen}
 use Rattle.transcript_lines.specs.Rows.{Listed}
 pub use Rattle.plane_record.specs.Pasts.{acted, changes_of, published_after}
-use Rattle.plane_record.specs.Pasts.{Past, after, said_by, state_of, world_of}
-use Rattle.plane_lock.specs.Posts.{IsTheHeld}
+use Rattle.br_model.specs.Plane.Serving.{held_with}
+use Rattle.plane_record.specs.Pasts.{Past, after, post_step, said_by, state_of, world_of}
+use Rattle.plane_lock.specs.Posts.{IsTheHeld, Tells}
 use Rattle.plane_lock.specs.declared.locked.ActFault.{ActFault}
 use Rattle.plane_lock.specs.declared.locked.ActFault.TheVariants.{NoMemory, Unpublished}
 
@@ -32,3 +33,10 @@ PostFails old new step h n (posts.Stranger back) = (new ≡ old) × NotPosted (s
 PostFails old new step h n (posts.Ahead back point published) =
     (new ≡ old) × NotPosted (state_of old) (state_of new) h n (posts.Ahead back point published)
 PostFails old new step h n (posts.Unpublished lines) = IsUnpublished old new step × (lines.lines ≡ said_by old step) × IsTheHeld (world_of old) h n.point
+
+-- A post and its publication, with its lines; or why it came to nothing.
+abbrev pub PostActed : Past → Past → Held → Seen → Result Listed PostFault → Type 0
+PostActed old new h n (Ok lines) =
+    (new ≡ acted old (post_step (held_with (world_of old) h.id) h.id n.point)) × (lines.lines ≡ said_by old (post_step (held_with (world_of old) h.id) h.id n.point))
+    × Tells (world_of old) (held_with (world_of old) h.id) h n.point lines.lines × IsTheHeld (world_of old) h n.point
+PostActed old new h n (Err why) = PostFails old new (post_step (held_with (world_of old) h.id) h.id n.point) h n why

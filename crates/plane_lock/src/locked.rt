@@ -17,6 +17,7 @@ ghost use Rattle.table_publish.specs.Object.{Begins};
 ghost use Rattle.plane_record.specs.Pasts.{acted, after, changes_of, event_step, held_after, post_step, published_after, said_by, world_of};
 ghost use Rattle.plane_lock.specs.declared.locked.ActFault.TheVariants as act_faults;
 ghost use Rattle.plane_lock.specs.Acts.{Acted, PostFails};
+ghost use Rattle.plane_lock.specs.Calls.{IsOf};
 ghost use Rattle.plane_lock.specs.Posted.{HavePosted, updates_of};
 ghost use Rattle.plane_lock.specs.Posts.{IsSeen, IsTheHeld, Tells};
 
@@ -287,6 +288,13 @@ impl<N: Name> Locked<N> {
             Err(ActFault::Unpublished(lines)) => Err(PostFault::Unpublished(lines)),
             Err(ActFault::NoMemory) => unreachable!(),
         }
+    }
+
+    /// The run is of N's board, domains and address: the law does nothing.
+    pub fn stands(&self)
+        ensures { IsOf N.board N.own self.now }
+    {
+        let _ran = &self.ran;
     }
 
     /// The run.

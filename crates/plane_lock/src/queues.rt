@@ -9,12 +9,13 @@ use std::alloc::Global;
 use std::marker::Model;
 use std::sync::Mutex;
 
-/// A domain's queue by its two ends.
+/// A domain's queue by its two ends, which are of one queue.
 #[derive(Drop)]
 pub struct Queue {
     pub dom: Dom,
     pub poster: Poster,
     pub taker: Taker,
+    ghost one_queue: { poster.queue ≡ taker.queue },
 }
 
 /// Queues in the order in which they were pushed. Contracts see the list of them.

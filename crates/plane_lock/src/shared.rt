@@ -1,9 +1,13 @@
 //! The locks.
-ghost use Rattle.std.specs.Prelude.{◌≡◌, ◌<◌, ◌≤◌, ◌==◌, get_or, length, map, true, IfOk, IfSome};
+ghost use Rattle.std.specs.Prelude.{◌≡◌, ◌<◌, ◌≤◌, ◌==◌, ◌⊎◌, [], get_or, length, map, true, IfOk, IfSome};
 ghost use Rattle.std.specs.List.{All, list_any};
+ghost use Rattle.std.specs.Sync.Mutex.{mutex_guard_value};
+ghost use Rattle.br_model.specs.declared.steps.Step.TheVariants as steps;
 ghost use Rattle.br_model.specs.Table.Domains.{chip_domains, has_chip};
 ghost use Rattle.plane_core.specs.Planes.{IsNamed};
+ghost use Rattle.plane_record.specs.Pasts.{event_step};
 ghost use Rattle.table_publish.specs.Object.{Begins};
+ghost use Rattle.plane_lock.specs.Calls.{ActsOnSome, EntersSome, IsOf, OpensSome, PostsOnSome, SaidBySome};
 ghost use Rattle.plane_lock.specs.Posted.{updates_of};
 ghost use Rattle.plane_lock.specs.Posts.{IsSeen};
 
@@ -24,7 +28,8 @@ use transcript_lines::Lines;
 /// The plane behind its lock, and a driver lock for each domain that has a chip, which is always taken first. It isn't `Drop`: end the
 /// run that `close` gives.
 ///
-/// Each call makes the call of its name of what the lock keeps, once it has the lock.
+/// Each call makes the call of its name of what the lock keeps, once it has the lock. Which past that is, its caller doesn't know, but
+/// for the board, the domains and the address, which are N's.
 pub struct Shared<N: Name> {
     core: Mutex<Locked<N>>,
     drivers: Vec<Driver>,
@@ -88,8 +93,13 @@ impl<N: Name> Shared<N> {
     }
 
     /// What the lock keeps, for calls between which no other worker's come.
-    pub fn lock<'a, R: Wait>(&'a self, rt: &R) -> MutexGuard<'a, Locked<N>> {
-        self.core.lock(rt)
+    pub fn lock<'a, R: Wait>(&'a self, rt: &R) -> MutexGuard<'a, Locked<N>>
+        ensures { IsOf N.board N.own (mutex_guard_value result) }
+    {
+        let core = self.core.lock(rt);
+        // law: what is kept is of N's board
+        core.stands();
+        core
     }
 
     /// A frame of these bytes enters at the port. The answer is the chip's, where it decided the frame.
@@ -99,8 +109,10 @@ impl<N: Name> Shared<N> {
         alloc: Global,
         p: Port,
         b: &[u8],
-    ) -> Result<Entered, NoMemory> {
-        let mut core = self.core.lock(rt);
+    ) -> Result<Entered, NoMemory>
+        ensures { IfOk result (EntersSome N.board N.own p b.now) }
+    {
+        let mut core = self.lock(rt);
         let entered = core.enter(alloc, p, b);
         MutexGuard::unlock(core);
         entered
@@ -109,8 +121,9 @@ impl<N: Name> Shared<N> {
     /// An event that a scenario names.
     pub fn accept<R: Wait>(&self, rt: &R, alloc: Global, e: &Event) -> Result<Lines, ActFault>
         requires { IsNamed e.now }
+        ensures { ActsOnSome N.board N.own (event_step e.now) result }
     {
-        let mut core = self.core.lock(rt);
+        let mut core = self.lock(rt);
         let done = core.accept(rt, alloc, e);
         MutexGuard::unlock(core);
         done
@@ -120,13 +133,14 @@ impl<N: Name> Shared<N> {
     /// was kept from an earlier turn and the queue was empty at its take.
     pub fn turn<R: Wait>(&self, rt: &R, alloc: Global, d: Dom) -> Result<Lines, NoMemory>
         requires { has_chip N.board.domains d ≡ true }
+        ensures { IfOk result (λ lines. (lines.lines ≡ []) ⊎ SaidBySome N.board N.own (steps.Turn d) lines.lines) }
     {
         let driver = &self.drivers[place_of(&self.drivers, d)];
         let mut desk = driver.desk.lock(rt);
         let Some(update) = desk.next(rt) else {
             return Ok(Lines::new(alloc));
         };
-        let mut core = self.core.lock(rt);
+        let mut core = self.lock(rt);
         let turned = core.turn(alloc, d, update);
         let applied = core.applied(d);
         MutexGuard::unlock(core);
@@ -146,7 +160,7 @@ impl<N: Name> Shared<N> {
         if desk.next(rt).is_none() {
             return Ok(());
         }
-        let mut core = self.core.lock(rt);
+        let mut core = self.lock(rt);
         let done = apply_next(rt, alloc, &mut desk, &mut core, d, most);
         MutexGuard::unlock(core);
         done
@@ -155,8 +169,9 @@ impl<N: Name> Shared<N> {
     /// The bridge is told the oldest report of the domain's chip.
     pub fn report<R: Wait>(&self, rt: &R, alloc: Global, d: Dom) -> Result<Lines, ActFault>
         requires { has_chip N.board.domains d ≡ true }
+        ensures { ActsOnSome N.board N.own (steps.Report d) result }
     {
-        let mut core = self.core.lock(rt);
+        let mut core = self.lock(rt);
         let done = core.report(rt, alloc, d);
         MutexGuard::unlock(core);
         done
@@ -165,16 +180,19 @@ impl<N: Name> Shared<N> {
     /// The bridge forgets the stations that the chip of the domain no longer sees.
     pub fn sweep<R: Wait>(&self, rt: &R, alloc: Global, d: Dom) -> Result<Lines, ActFault>
         requires { has_chip N.board.domains d ≡ true }
+        ensures { ActsOnSome N.board N.own (steps.Sweep d) result }
     {
-        let mut core = self.core.lock(rt);
+        let mut core = self.lock(rt);
         let done = core.sweep(rt, alloc, d);
         MutexGuard::unlock(core);
         done
     }
 
     /// All accepted changes are published.
-    pub fn publish<R: Wait>(&self, rt: &R, alloc: Global) -> Result<Lines, NoMemory> {
-        let mut core = self.core.lock(rt);
+    pub fn publish<R: Wait>(&self, rt: &R, alloc: Global) -> Result<Lines, NoMemory>
+        ensures { IfOk result (λ lines. SaidBySome N.board N.own steps.Publish lines.lines) }
+    {
+        let mut core = self.lock(rt);
         let done = core.publish(rt, alloc);
         MutexGuard::unlock(core);
         done
@@ -189,9 +207,10 @@ impl<N: Name> Shared<N> {
     ) -> Result<Option<Held>, NoMemory>
         ensures kept { Begins c.new.object c.old.object }
         ensures misses { c.new.misses ≡ c.old.misses }
+        ensures held { IfOk result (OpensSome N.board N.own c.new.object) }
         ensures floor { IfOk result (λ held. IfSome held (λ h. h.floor ≤ length c.new.object.changes)) }
     {
-        let mut core = self.core.lock(rt);
+        let mut core = self.lock(rt);
         let held = core.open_as(alloc, c);
         MutexGuard::unlock(core);
         held
@@ -207,10 +226,11 @@ impl<N: Name> Shared<N> {
         n: Seen,
     ) -> Result<Lines, PostFault>
         requires { IsSeen N.board.domains c.old.object h n }
+        ensures posted { PostsOnSome N.board N.own h n c.new.object result }
         ensures kept { Begins c.new.object c.old.object }
         ensures misses { c.new.misses ≡ c.old.misses }
     {
-        let mut core = self.core.lock(rt);
+        let mut core = self.lock(rt);
         let done = core.post_as(rt, alloc, c, h, n);
         MutexGuard::unlock(core);
         done

@@ -15,4 +15,7 @@ pub applied-end-requires : goal.applied-end-requires
 applied-end-requires g c = chip_there c.args.ran.now c.plane-plane.result.now c.args.dom c.plane-plane.ensures c.requires
 
 pub loop-init : goal.loop-init
-loop-init g c = ap (λ (x : Posting). x.posted) c.post_updates.ensures ∙ updates-there c.args.ran.now c.plane-plane.result.now c.plane-plane.ensures
+loop-init g c = (
+  ap (λ (x : Posting). x.posted) c.post_updates.ensures ∙ updates-there c.args.ran.now c.plane-plane.result.now c.plane-plane.ensures,
+  ap (λ (x : Posting). x.queue) c.post_updates.ensures ∙ c.in_ok-poster.ensures.one_queue,
+)
