@@ -21,7 +21,7 @@ pub(crate) fn port(number: u8) -> Result<Port, Fail>
     Ok(Port::new(number).ok_or("port")?)
 }
 
-/// A frame between the stations 10 and 11, which enters at the port.
+/// A frame of one station to another, which enters at the port.
 pub(crate) fn frame(alloc: Global, number: u8, to: u8, from: u8) -> Result<Step, Fail>
     ensures { IfOk result (λ s. comes_by_line false (1 ∷ []) s ≡ true) }
 {

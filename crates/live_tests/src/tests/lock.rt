@@ -19,7 +19,7 @@ use plane_lock::{ActFault, Chair, Queue, Queues, Ran, Shared, post_updates};
 use std::alloc::Global;
 use std::marker::Brand;
 use std::process::Abort;
-use std::sync::Wait;
+use std::sync::{MutexGuard, Wait};
 use std::test::Fail;
 use table_publish::{Board, Name, Seat, Seen};
 use transcript_lines::{Lines, Row};
@@ -257,7 +257,23 @@ fn turns_go_by_the_queue(rt: HostRuntime) -> Result<(), Fail> {
     use_queue::<Brand, HostRuntime>(&rt, alloc, Ran::make(alloc, plane))
 }
 
-/// The first chip's queue was emptied; the second chip's has two updates.
+/// The chip takes turns, at most two. How many updates it has applied then.
+fn applied_by_turns<N: Name, R: Wait>(
+    rt: &R,
+    alloc: Global,
+    shared: &Shared<N>,
+    dom: Dom,
+) -> Result<u32, Fail>
+    requires { has_chip N.board.domains dom ≡ true }
+{
+    shared.turns(rt, alloc, dom, 2)?;
+    let core = shared.lock(rt);
+    let applied = core.applied(dom);
+    MutexGuard::unlock(core);
+    Ok(applied)
+}
+
+/// The first chip's queue was emptied; the second chip's has two updates, of which `turn` takes one, and `turns` the other alone.
 fn turn_by_own_queue<N: Name, R: Wait + Abort>(
     rt: &R,
     alloc: Global,
@@ -268,12 +284,63 @@ fn turn_by_own_queue<N: Name, R: Wait + Abort>(
     let second = second_chip()?;
     assert_that(rt, !wrote(&shared.turn(rt, alloc, Dom::CHIP)?), "no update");
     assert_that(rt, is_done(&shared.turn(rt, alloc, second)?), "a turn");
-    assert_that(rt, is_done(&shared.turn(rt, alloc, second)?), "a turn");
+    let first = applied_by_turns(rt, alloc, shared, Dom::CHIP)?;
+    assert_same(rt, &first, &0, "turns over an emptied queue");
+    let both = applied_by_turns(rt, alloc, shared, second)?;
+    assert_same(rt, &both, &2, "turns over one update");
     assert_that(rt, !wrote(&shared.turn(rt, alloc, second)?), "no update");
     Ok(())
 }
 
-fn use_own_queues<N: Name, R: Wait + Abort>(rt: &R, alloc: Global, ran: Ran) -> Result<(), Fail>
+/// How many changes the one line tells, where it says that a step was done.
+fn changes_of(lines: &Lines) -> Option<u32> {
+    match lines.parts().0 {
+        [Row::One(Line::Done { changes, .. })] => Some(*changes),
+        _ => None,
+    }
+}
+
+/// A frame of a new station enters at the second chip, which alone reports it. Once the chip has the entry, its sweeps alone forget it:
+/// the first finds it used, the next doesn't.
+fn serve_own_chip<N: Name, R: Wait + Abort>(
+    rt: &R,
+    alloc: Global,
+    shared: &Shared<N>,
+) -> Result<(), Fail>
+    requires { chip_domains N.board.domains ≡ 1 ∷ 2 ∷ [] }
+{
+    let second = second_chip()?;
+    let _entered = shared.enter(rt, alloc, port(2)?, FRAME)?;
+    let first = acted(shared.report(rt, alloc, Dom::CHIP))?;
+    let own = acted(shared.report(rt, alloc, second))?;
+    assert_same(
+        rt,
+        &[changes_of(&first), changes_of(&own)],
+        &[None, Some(1)],
+        "reports",
+    );
+    let applied = applied_by_turns(rt, alloc, shared, second)?;
+    assert_same(rt, &applied, &3, "applied updates");
+    let used = acted(shared.sweep(rt, alloc, second))?;
+    let first = acted(shared.sweep(rt, alloc, Dom::CHIP))?;
+    let own = acted(shared.sweep(rt, alloc, second))?;
+    let forgotten = [changes_of(&used), changes_of(&first), changes_of(&own)];
+    assert_same(rt, &forgotten, &[Some(0), Some(0), Some(1)], "sweeps");
+    Ok(())
+}
+
+fn name_each_chip<N: Name, R: Wait + Abort>(
+    rt: &R,
+    alloc: Global,
+    shared: &Shared<N>,
+) -> Result<(), Fail>
+    requires { chip_domains N.board.domains ≡ 1 ∷ 2 ∷ [] }
+{
+    turn_by_own_queue(rt, alloc, shared)?;
+    serve_own_chip(rt, alloc, shared)
+}
+
+fn use_two_chips<N: Name, R: Wait + Abort>(rt: &R, alloc: Global, ran: Ran) -> Result<(), Fail>
     requires board { ran.board ≡ N.board }
     requires setup { ran.setup ≡ record { domains = N.board.domains; own = N.own } }
     requires chips { chip_domains N.board.domains ≡ 1 ∷ 2 ∷ [] }
@@ -282,9 +349,9 @@ fn use_own_queues<N: Name, R: Wait + Abort>(rt: &R, alloc: Global, ran: Ran) -> 
     match one_of_two_emptied(rt, alloc, &mut ran) {
         Ok(queues) => {
             let shared = Shared::<N>::make(rt, alloc, ran, queues)?;
-            let turned = turn_by_own_queue(rt, alloc, &shared);
+            let named = name_each_chip(rt, alloc, &shared);
             let _book = shared.close().book(rt);
-            turned
+            named
         }
         Err(error) => {
             let _book = ran.book(rt);
@@ -294,12 +361,12 @@ fn use_own_queues<N: Name, R: Wait + Abort>(rt: &R, alloc: Global, ran: Ran) -> 
 }
 
 #[test]
-fn each_chip_has_its_own_queue(rt: HostRuntime) -> Result<(), Fail> {
+fn calls_serve_the_chip_they_name(rt: HostRuntime) -> Result<(), Fail> {
     let alloc = rt.alloc();
     let domains = domains_of_two()?;
     let (board, _seats) = Board::make(&rt, alloc, &domains, 1)?;
     let plane = Plane::make(&rt, alloc, domains, Mac::FIRST_OWN, board)?;
-    use_own_queues::<Brand, HostRuntime>(&rt, alloc, Ran::make(alloc, plane))
+    use_two_chips::<Brand, HostRuntime>(&rt, alloc, Ran::make(alloc, plane))
 }
 
 fn is_sent<T: Send>() {}

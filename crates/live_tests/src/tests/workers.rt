@@ -12,29 +12,25 @@ use br_model::steps::{Command, Step};
 use live_workers::take_steps;
 use port_workers::{Gate, Open};
 use std::alloc::Global;
+use std::process::Abort;
 use std::sync::Wait;
-use std::sync::atomic::{AtomicBool, AtomicU64, Ordering};
+use std::sync::atomic::{AtomicU64, Ordering};
 use std::test::Fail;
 use std::thread::Threads;
 
-/// The gate of two frames. Each looks whether the other has come.
+/// The gate of so many workers. Each looks at its frame whether all have come.
 #[derive(Drop)]
 struct Meet {
-    first: AtomicBool,
-    second: AtomicBool,
+    workers: u64,
+    here: AtomicU64,
     met: AtomicU64,
 }
 
 impl Gate for Meet {
-    fn held(&self, id: u32) {
-        let (own, other) = if id == 1 {
-            (&self.first, &self.second)
-        } else {
-            (&self.second, &self.first)
-        };
-        own.store(true, Ordering::SeqCst);
+    fn held(&self, _id: u32) {
+        self.here.fetch_add(1, Ordering::SeqCst);
         for _ in 0..134_217_728u64 {
-            if other.load(Ordering::SeqCst) {
+            if self.here.load(Ordering::SeqCst) >= self.workers {
                 self.met.fetch_add(1, Ordering::SeqCst);
                 return;
             }
@@ -62,7 +58,7 @@ fn with_chip() -> Result<Domains, Fail>
     Ok(domains)
 }
 
-/// The ports come up, and then a frame enters at each of them, so many times.
+/// The ports come up, and then a frame of a new station enters at each of them, so many times. All are to a station that never sends.
 fn given(alloc: Global, times: usize) -> Result<Vec<Step>, Fail>
     ensures { IfOk result (λ v. list_all (comes_by_line false (1 ∷ [])) v.items ≡ true) }
 {
@@ -70,9 +66,11 @@ fn given(alloc: Global, times: usize) -> Result<Vec<Step>, Fail>
     steps.push(Step::Cmd(Command::PortUp(port(1)?)))?;
     steps.push(Step::Cmd(Command::PortUp(port(2)?)))?;
     steps.push(Step::Publish)?;
+    let mut from = 10u8;
     for _ in 0..times {
-        steps.push(frame(alloc, 1, 11, 10)?)?;
-        steps.push(frame(alloc, 2, 10, 11)?)?;
+        steps.push(frame(alloc, 1, 9, from)?)?;
+        steps.push(frame(alloc, 2, 9, from.wrapping_add(100))?)?;
+        from = from.wrapping_add(1);
     }
     Ok(steps)
 }
@@ -105,22 +103,51 @@ fn held_first(steps: &[Step]) -> usize {
     held
 }
 
-#[test]
-fn two_workers_meet_at_the_gate(rt: HostRuntime) -> Result<(), Fail> {
-    let alloc = rt.alloc();
+/// Of so many workers each comes to the gate before any leaves it. There are so many frames, at least one for each, and each is held before
+/// the first is posted.
+fn all_meet<R: Threads + Wait + Abort + Sync>(
+    rt: &R,
+    alloc: Global,
+    workers: usize,
+    steps: &[Step],
+    frames: usize,
+) -> Result<(), Fail>
+    requires workers { (0 < workers) × (workers ≤ 16) }
+    requires by_line { list_all (comes_by_line false (1 ∷ [])) steps.now ≡ true }
+{
     let gate = Meet {
-        first: AtomicBool::new(false),
-        second: AtomicBool::new(false),
+        workers: workers as u64,
+        here: AtomicU64::new(0),
         met: AtomicU64::new(0),
     };
-    let given = given(alloc, 1)?;
     let domains = software()?;
-    let taken = take_steps(&rt, alloc, &gate, 2, domains, Mac::FIRST_OWN, &given)?;
-    let steps = taken.book.steps.as_slice();
-    assert_same(&rt, &gate.met.load(Ordering::SeqCst), &2, "how many met");
-    assert_same(&rt, &held_first(steps), &2, "how many were held first");
-    assert_same(&rt, &counts(steps), &[2, 2, 2, 0], "how many steps");
+    let taken = take_steps(rt, alloc, &gate, workers, domains, Mac::FIRST_OWN, steps)?;
+    let took = taken.book.steps.as_slice();
+    assert_same(
+        rt,
+        &gate.met.load(Ordering::SeqCst),
+        &(frames as u64),
+        "how many met",
+    );
+    assert_same(rt, &held_first(took), &frames, "how many were held first");
+    assert_same(
+        rt,
+        &counts(took),
+        &[frames, frames, frames, 0],
+        "how many steps",
+    );
     Ok(())
+}
+
+#[test]
+fn as_many_workers_meet_at_the_gate(rt: HostRuntime) -> Result<(), Fail> {
+    let alloc = rt.alloc();
+    let two = given(alloc, 1)?;
+    all_meet(&rt, alloc, 2, &two, 2)?;
+    let four = given(alloc, 2)?;
+    all_meet(&rt, alloc, 3, &four, 4)?;
+    let sixteen = given(alloc, 8)?;
+    all_meet(&rt, alloc, 16, &sixteen, 16)
 }
 
 /// Whether so many workers post all of these frames.
@@ -149,17 +176,49 @@ fn workers_leave_no_frame(rt: HostRuntime) -> Result<(), Fail> {
     Ok(())
 }
 
-/// A chip reports, and takes its turns.
+/// How many reports and turns stand before the last post.
+fn served_first(steps: &[Step]) -> [usize; 2] {
+    let (mut reports, mut turns) = (0usize, 0usize);
+    let mut before = [0usize, 0usize];
+    for step in steps {
+        match step {
+            Step::Report(_) => reports = reports.wrapping_add(1),
+            Step::Turn(_) => turns = turns.wrapping_add(1),
+            Step::Post { .. } => before = [reports, turns],
+            _ => {}
+        }
+    }
+    before
+}
+
+/// So many workers take these steps, of 130 frames. How many reports and turns stand before their last post.
+fn serve_all<R: Threads + Wait + Abort + Sync>(
+    rt: &R,
+    alloc: Global,
+    workers: usize,
+    steps: &[Step],
+) -> Result<[usize; 2], Fail>
+    requires workers { (0 < workers) × (workers ≤ 16) }
+    requires by_line { list_all (comes_by_line false (1 ∷ [])) steps.now ≡ true }
+{
+    let domains = with_chip()?;
+    let taken = take_steps(rt, alloc, &Open, workers, domains, Mac::FIRST_OWN, steps)?;
+    let counts = counts(taken.book.steps.as_slice());
+    assert_same(rt, &counts, &[130, 130, 130, 0], "how many steps");
+    assert_that(rt, is_done(&taken.end), "the end");
+    Ok(served_first(taken.book.steps.as_slice()))
+}
+
+/// A worker posts at most 64 frames before it serves the chips. So of 130 frames one worker posts some behind a report and a turn, and two
+/// workers behind a report. (Of the turns, one of two workers may leave all to the other.) The thread that ends the run posts none.
 #[test]
 fn workers_serve_the_chip(rt: HostRuntime) -> Result<(), Fail> {
     let alloc = rt.alloc();
-    let given = given(alloc, 3)?;
-    let domains = with_chip()?;
-    let taken = take_steps(&rt, alloc, &Open, 2, domains, Mac::FIRST_OWN, &given)?;
-    let held = counts(taken.book.steps.as_slice())[1];
-    assert_that(&rt, held > 0, "a frame was held");
-    let counts = counts(taken.book.steps.as_slice());
-    assert_same(&rt, &counts, &[6, held, held, 0], "how many steps");
-    assert_that(&rt, is_done(&taken.end), "the end");
+    let given = given(alloc, 65)?;
+    let [reports, turns] = serve_all(&rt, alloc, 1, &given)?;
+    assert_that(&rt, reports > 0, "reports to one worker");
+    assert_that(&rt, turns > 0, "turns by one worker");
+    let [reports, _turns] = serve_all(&rt, alloc, 2, &given)?;
+    assert_that(&rt, reports > 0, "reports to two workers");
     Ok(())
 }

@@ -11,4 +11,7 @@ post_updates-requires g c =
     let us = updates c.plane.result.now.world.setup.domains.edition c.plane.result.now.world.history in (us, ap (λ (l : List Update). l ++ us) c.in_ok-poster.ensures.empty.0)
 
 pub loop-init : goal.loop-init
-loop-init g c = ap (λ (x : Posting). x.posted) c.post_updates.ensures ∙ updates-there c.args.ran.now c.plane.result.now c.plane.ensures
+loop-init g c = (
+  ap (λ (x : Posting). x.posted) c.post_updates.ensures ∙ updates-there c.args.ran.now c.plane.result.now c.plane.ensures,
+  ap (λ (x : Posting). x.queue) c.post_updates.ensures ∙ c.in_ok-poster.ensures.one_queue,
+)
