@@ -24,6 +24,11 @@ put-same {X} m k v up is =
     by q true e = sym (ap (get pair_cmp m) (same_cmp q k (equal _ e)) ∙ is)
     by q false e = refl
 
+-- an entry that has the moment already is put again
+pub renewed-same : (m : List (Key × Entry)) (k : Key) (e : Entry) (moment : ℕ) → is_ascending pair_cmp m ≡ true → get pair_cmp m k ≡ Some e → e.updated ≡ moment
+    → put pair_cmp m k (record e { updated = moment }) ≡ m
+renewed-same m k e moment up is now = ap (λ n. put pair_cmp m k (record e { updated = n })) (sym now) ∙ put-same m k e (as_T _ up) is
+
 module _ {X : Type 0} (f : Entry → X) where
   pub get-told : (es : List (Key × Entry)) (k : Key) → get pair_cmp (told f es) k ≡ option_map f (get pair_cmp es k)
   get-told [] k = refl

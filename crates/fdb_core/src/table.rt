@@ -161,6 +161,7 @@ impl Fdb {
         // law: the entries ascend
         let _len = self.len();
         match self.find(vid, mac) {
+            Some(old) if old.updated == moment => {}
             Some(old) => {
                 let entry = Entry {
                     port: old.port,
