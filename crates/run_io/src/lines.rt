@@ -50,7 +50,7 @@ impl From<AllocError> for LineFault {
 
 /// A line without its line feed, and whether it had one. Or a piece, and whether it is as long as it
 /// was asked for. The bytes stand in the reader's buffer.
-#[derive(Drop, Debug)]
+#[derive(Drop)]
 pub struct Got<'a> {
     pub bytes: &'a [u8],
     pub whole: bool,
@@ -60,7 +60,7 @@ pub struct Got<'a> {
 ///
 /// `buffer[start..end]` was taken from the source and not handed out, and `line` is the length of
 /// its first line.
-#[derive(Drop, Debug)]
+#[derive(Drop)]
 pub struct LineReader {
     buffer: Vec<u8>,
     start: usize,
@@ -85,7 +85,7 @@ impl Model for LineReader {
 }
 
 /// Where a line or a piece stands in what is held: how long it is, and up to where it is let go of.
-#[derive(Clone, Copy, Debug)]
+#[derive(Clone, Copy)]
 struct Span {
     len: usize,
     past: usize,
@@ -93,7 +93,7 @@ struct Span {
 }
 
 /// More than `MAX_LINE` bytes are held without a line feed.
-#[derive(Clone, Copy, Debug)]
+#[derive(Clone, Copy)]
 struct LongLine;
 
 /// Where the first line feed is.

@@ -14,7 +14,7 @@ const FULL: usize = 65_536;
 
 /// Text that waits to be written. Write after what it holds, and flush it where it is full and
 /// before a read that may wait.
-#[derive(Drop, Debug)]
+#[derive(Drop)]
 pub struct Output {
     pub text: String,
 }

@@ -62,7 +62,7 @@ pub fn put<K: Sink>(sink: &mut K, from: &[u8]) -> Result<(), WriteFault>
 }
 
 /// A sink in memory. It fails at the calls whose numbers, counted from 1, are in a list.
-#[derive(Drop, Debug)]
+#[derive(Drop)]
 pub struct MemSink {
     bytes: Vec<u8>,
     room: u32,
@@ -189,7 +189,7 @@ impl<T: Write> Sink for StdSink<T> {
 
 /// A sink that takes each piece whole, keeps none and never fails: for what reads and writes
 /// nothing.
-#[derive(Clone, Copy, Debug)]
+#[derive(Clone, Copy)]
 pub struct Nowhere;
 
 impl Sink for Nowhere {

@@ -74,7 +74,7 @@ impl<T: Read> Source for StdSource<T> {
 }
 
 /// A source over bytes in memory. It fails at the calls whose numbers, counted from 1, are in a list.
-#[derive(Drop, Debug)]
+#[derive(Drop)]
 pub struct MemSource {
     bytes: Vec<u8>,
     at: usize,
