@@ -164,14 +164,40 @@ fn replay_is_told(rt: &(impl Abort + Threads + Wait + Sync), alloc: Global, scen
     checked(rt, alloc, &input, &[], (Status::Ok, "yes\n"));
 }
 
-/// Of generated frames too.
+/// Of as many generated frames as there are at most, too.
 #[test]
 fn what_replay_writes_is_told(rt: HostRuntime) {
     let alloc = rt.alloc();
-    let generated = ran(&rt, alloc, "gen 7 2000", b"").wrote;
+    let generated = ran(&rt, alloc, "gen 7 100000", b"").wrote;
     replay_is_told(&rt, alloc, generated.as_slice());
     let worked = read_row(&rt, alloc, FIRST_FRAME).input;
     replay_is_told(&rt, alloc, worked.as_bytes());
+}
+
+const AT_THE_LIMIT: &[(usize, Status, &str)] = &[
+    (268_435_455, Status::No, "no 3\nexpected\nfound\n"),
+    (268_435_456, Status::TooLong, "too long\n"),
+];
+
+/// A scenario and its transcript, and blank lines behind that, in all so many bytes.
+fn with_blank_lines(rt: &impl Abort, alloc: Global, count: usize) -> Vec<u8> {
+    let mut input = joined(
+        rt,
+        alloc,
+        &[b"scenario 1\nend\ntranscript 1\nend 0 0 0 0\n"],
+    );
+    let blank = input.resize(count, b'\n');
+    blank.expect(rt, "memory for bytes");
+    input
+}
+
+/// Scenario and transcript have fewer than 2^28 bytes together. Of as many or more nothing is compared.
+#[test]
+fn inputs_of_check_at_the_limit(rt: HostRuntime) {
+    for (count, status, wrote) in AT_THE_LIMIT {
+        let input = with_blank_lines(&rt, rt.alloc(), *count);
+        checked(&rt, rt.alloc(), &input, &[], (*status, wrote));
+    }
 }
 
 /// The answer can't be written, or not all of it.

@@ -1,20 +1,19 @@
 //! Runs by workers: what they write, where they meet, and the last line alone.
 use super::rows::FIRST_FRAME;
 use super::{
-    Outcome, ROOM, assert_bytes, assert_same, assert_that, comes_to, count_lines, joined,
-    last_line, ran, ran_failing, ran_words, read_row, sink_of, source_of, text_of, words_of,
-    writes,
+    Outcome, ROOM, assert_bytes, assert_same, assert_that, count_lines, extend, joined, last_line,
+    ran, ran_failing, ran_words, read_row, sink_of, source_of, text_of, words_of, writes,
 };
 use capture_runner::Status;
 use port_workers::Gate;
 use std::alloc::Global;
 use std::process::Abort;
 use std::sync::Wait;
-use std::sync::atomic::{AtomicBool, AtomicU64, Ordering};
+use std::sync::atomic::{AtomicU64, Ordering};
 use std::thread::Threads;
 
-/// Three ports of software, and a frame by each of the first two.
-const TWO_FRAMES: &str = "scenario 1
+/// Three ports of software.
+const PORTS: &[u8] = b"scenario 1
 port 1 p1 soft
 port 2 p2 soft
 port 3 p3 soft
@@ -22,49 +21,32 @@ cmd port up p1
 cmd port up p2
 cmd port up p3
 publish
-rx 1 02000000000b02000000000a88b50102
-rx 2 02000000000a02000000000b88b50102
-end
 ";
 
-/// How often a worker looks for the other at most.
+/// A frame by each of the first two.
+const TWO_FRAMES: &[u8] = b"rx 1 02000000000b02000000000a88b50102
+rx 2 02000000000a02000000000b88b50102
+";
+
+/// How often a worker looks for the others at most.
 const LOOKS: u64 = 134_217_728;
 
-/// Two frames whose workers look for one another.
+/// The gate of so many workers. Each looks at its frame whether all have come.
 #[derive(Drop)]
 struct Meeting {
-    first: AtomicBool,
-    second: AtomicBool,
+    workers: u64,
+    here: AtomicU64,
     met: AtomicU64,
 }
 
-impl Meeting {
-    fn make() -> Meeting {
-        Meeting {
-            first: AtomicBool::new(false),
-            second: AtomicBool::new(false),
-            met: AtomicU64::new(0),
-        }
-    }
-
-    /// Says that this one has come, and looks whether the other has.
-    fn look(&self, mine: &AtomicBool, other: &AtomicBool) {
-        mine.store(true, Ordering::SeqCst);
+impl Gate for Meeting {
+    fn held(&self, _id: u32) {
+        self.here.fetch_add(1, Ordering::SeqCst);
         for _ in 0..LOOKS {
-            if other.load(Ordering::SeqCst) {
+            if self.here.load(Ordering::SeqCst) >= self.workers {
                 self.met.fetch_add(1, Ordering::SeqCst);
                 return;
             }
-        }
-    }
-}
-
-impl Gate for Meeting {
-    fn held(&self, id: u32) {
-        match id {
-            1 => self.look(&self.first, &self.second),
-            2 => self.look(&self.second, &self.first),
-            _ => {}
         }
     }
 }
@@ -83,28 +65,64 @@ pub(super) fn live_is_checked(
     outcome
 }
 
-/// Runs two workers with this gate over two frames.
+/// The two frames, so many times.
+fn frames(rt: &impl Abort, alloc: Global, times: usize) -> Vec<u8> {
+    let mut input = joined(rt, alloc, &[PORTS]);
+    for _ in 0..times {
+        extend(rt, &mut input, TWO_FRAMES);
+    }
+    extend(rt, &mut input, b"end\n");
+    input
+}
+
+/// Runs this line of words with this gate.
 fn ran_at(
     rt: &(impl Abort + Threads + Wait + Sync),
     alloc: Global,
+    line: &str,
+    input: &[u8],
     gate: &(impl Gate + Sync),
 ) -> Outcome {
-    let words = words_of(rt, alloc, "live --workers 2");
-    let mut source = source_of(rt, alloc, TWO_FRAMES.as_bytes(), &[]);
+    let words = words_of(rt, alloc, line);
+    let mut source = source_of(rt, alloc, input, &[]);
     let mut sink = sink_of(rt, alloc, ROOM, &[]);
     ran_words(rt, alloc, &words, &mut source, &mut sink, gate)
 }
 
-/// Each of two workers holds a frame and finds that the other does, before either is posted.
+/// Of so many workers each comes to the gate before any leaves it, and so many frames are held before the first is posted.
+fn meet(
+    rt: &(impl Abort + Threads + Wait + Sync),
+    alloc: Global,
+    (line, workers): (&str, u64),
+    input: &[u8],
+    held: usize,
+) {
+    let gate = Meeting {
+        workers,
+        here: AtomicU64::new(0),
+        met: AtomicU64::new(0),
+    };
+    let outcome = ran_at(rt, alloc, line, input, &gate);
+    assert_same(rt, &outcome.status, &Status::Ok, line);
+    assert_same(rt, &gate.met.load(Ordering::SeqCst), &(held as u64), line);
+    let text = text_of(rt, &outcome);
+    let (before, _) = text.split_once("\npost ").expect(rt, "a post");
+    assert_same(rt, &count_lines(before, "hold"), &held, line);
+}
+
+/// A line of words, how many workers it asks for, how many times two frames are given, and how many that are.
+const MEETINGS: &[(&str, u64, usize, usize)] = &[
+    ("live --workers 2", 2, 1, 2),
+    ("live --workers 3", 3, 2, 4),
+    ("live --workers 16", 16, 8, 16),
+];
+
 #[test]
-fn two_workers_meet_at_the_gate(rt: HostRuntime) {
-    let gate = Meeting::make();
-    let outcome = ran_at(&rt, rt.alloc(), &gate);
-    assert_same(&rt, &outcome.status, &Status::Ok, "live");
-    assert_same(&rt, &gate.met.load(Ordering::SeqCst), &2, "how many met");
-    let text = text_of(&rt, &outcome);
-    let (before, _) = text.split_once("\npost ").expect(&rt, "a post");
-    assert_same(&rt, &count_lines(before, "hold"), &2, "hold");
+fn as_many_workers_meet_at_the_gate(rt: HostRuntime) {
+    for (line, workers, times, held) in MEETINGS {
+        let input = frames(&rt, rt.alloc(), *times);
+        meet(&rt, rt.alloc(), (line, *workers), &input, *held);
+    }
 }
 
 /// How each of them begins, and what stands behind the scenario.
