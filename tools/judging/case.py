@@ -27,11 +27,12 @@ class Frame:
 
 
 class Cut:
-    """A quiet moment: the kernel's tables, the groups where sources count, and the commands that set the scenario right where the
-    tables differed."""
+    """A quiet moment: the kernel's tables (rows with their keys), the keys of what is due in them, or late, when each came, the groups where
+    sources count, and the commands that set the scenario right where the tables differed."""
 
     def __init__(self, time, fdb, mdb, sources):
         self.time, self.fdb, self.mdb, self.sources, self.corrections = time, fdb, mdb, sources, []
+        self.due, self.late, self.came = set(), set(), {}
 
 
 class Case:
@@ -184,12 +185,16 @@ class Case:
             self.bridge.sources.add((member.vid, member.address))
         if member.source not in (None, b"*"):
             self.notes["members by source (S,G), which a scenario can't say"] += not gone
+            self.bridge.note_source(member, gone)
             return
         if member.group is None:
             self.notes["groups by MAC, which a scenario can't say"] += not gone
             return
         key = member.vid, member.group, member.index
         before = self.bridge.mdb.get(key)
+        self.bridge.includes.discard(key)
+        if member.includes and not gone:
+            self.bridge.includes.add(key)
         if gone:
             self.bridge.mdb.pop(key, None)
             self.member_gone(time, key, before, by_command)
@@ -232,6 +237,7 @@ class Case:
                 self.model.forget_member(vid or 1, group, "HOST")
 
     def router(self, time, router, gone):
+        (self.bridge.routers.discard if gone else self.bridge.routers.add)(router.index)
         port = self.bridge.ports.get(router.index)
         if port and not gone and self.in_use and self.lacks:
             self.snooped.told_router(self.model.number(port))
@@ -252,7 +258,7 @@ class Case:
             waits = self.bridge.options.get("query_response_interval", 1000) * 10**7
             self.own_querier_since = time if self.in_use else self.born + OWN_QUERIER_WAITS if time - self.born < 10**8 else time + waits
             self.own_query_six = self.own_query_six or self.in_use
-            self.snooped.own_six = bytes(16)
+            self.snooped.own_six = None if self.snooped.knows(6, time) else bytes(16)  # while another one is known it doesn't ask
         if self.own_querier_since is not None and self.bridge.is_snooping():
             if self.own_query_due is None:
                 self.own_query_due = max(time, self.own_querier_since)
@@ -307,6 +313,10 @@ class Case:
         self.model.at(time - 2 * 10**6)
         sources = {(packets.group_text(group), vid or 1) for vid, group in self.bridge.sources if len(group) in (4, 16)}
         cut = Cut(time, self.kernel_fdb(), self.kernel_mdb(), sources)
+        keys = (*cut.fdb.values(), *cut.mdb.values())
+        cut.due = {key for key in keys if named.is_due(self, key, time)}
+        cut.late = {key for key in keys if named.is_late(self, key, time)}
+        cut.came = {key: self.told[key] for key in keys if key in self.told}
         self.cuts.append(cut)
         self.model.items.append(Item(cut=cut))
         self.unseen = False
@@ -416,7 +426,7 @@ class Case:
             self.uncompared["the bridge's own BPDU"] += 1
         elif message and message.kind == "query" and source == self.bridge.mac:
             self.uncompared["the bridge's own %s query" % {4: "IGMP", 6: "MLD"}[message.version]] += 1
-            if message.version == 6 and self.snooped.own_six is not None:
+            if message.version == 6 and self.own_querier_since is not None:
                 self.snooped.own_six = packets.addresses(data)[0]
             if message.version == 6 and not self.own_query_six:
                 self.own_query_six = True

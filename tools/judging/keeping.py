@@ -6,6 +6,7 @@ comment aren't compared.
 """
 import collections
 import os
+import re
 
 import packets
 import verdict
@@ -16,7 +17,8 @@ Kept = collections.namedtuple("Kept", "line linux name")  # of a frame: its line
 
 def file_name(title, folder):
     """A name that no file there has, of the record's name and the bridge's."""
-    name = "".join(letter if letter.isalnum() or letter in "_-" else "-" for letter in title.replace(".sh", "")).strip("-")
+    title = re.sub(r"^\d\d-|\.sh\b|\.pcapng\b|\.gz\b", "", title)  # the number and the ends of a file of kernel/selftests
+    name = "".join(letter if letter.isalnum() or letter in "_-" else "-" for letter in title).strip("-")
     while "--" in name:
         name = name.replace("--", "-")
     number = 1
@@ -31,11 +33,11 @@ def write(folder, title, judged):
 
 
 def lines_of(judged):
-    """The scenario with its comments. Frames that nothing explains aren't kept for comparison."""
+    """The scenario with its comments. Frames that nothing explains aren't kept for comparison, nor those that went by other tables."""
     names = {each.frame: each.name for each in judged.differences}
     lines = list(judged.head)
     for item in judged.outcome.items:
-        if item.frame is not None and names.get(item.frame, "") is not None:
+        if item.frame is not None and names.get(item.frame, "") is not None and item.frame not in judged.beside:
             if item.frame in names:
                 lines.append("%s %s" % (DIFFERS, names[item.frame]))
             left = sorted((number, packets.tag_of(data).hex()) for number, data in verdict.of_linux(item.frame))

@@ -64,6 +64,9 @@ class Bridge:
         self.fdb = {}      # (VLAN, address) -> (device, kind)
         self.mdb = {}      # (VLAN, group, device) -> whether permanent
         self.sources = set()  # (VLAN, group as bytes) where sources count
+        self.by_source = {}   # (VLAN, group, source), as bytes -> device -> whether it doesn't want this source
+        self.includes = set()  # keys of `mdb`: members that want named sources alone
+        self.routers = set()  # devices
 
     def is_aware(self):
         return bool(self.options.get("vlan_filtering"))
@@ -89,6 +92,17 @@ class Bridge:
     def describe(self):
         words = ["the bridge itself", vlan_words(self.vlans_of_host()) if self.is_aware() else "VLAN-unaware"]
         return "; ".join(words + (["promiscuous"] if self.promiscuous else []))
+
+    def note_source(self, member, gone):
+        """A member by source."""
+        key = member.vid, member.address, member.source
+        devices = self.by_source.setdefault(key, {})
+        if gone:
+            devices.pop(member.index, None)
+        else:
+            devices[member.index] = member.blocked
+        if not devices:
+            del self.by_source[key]
 
     def counts(self, vid):
         """Whether entries of this VLAN count: those of number 0 are of a bridge that doesn't look at tags."""

@@ -17,8 +17,10 @@ OWN_LATE = 10**9         # ns: how late the querier of the bridge begins, at mos
 MEMBERSHIP, LEAVE = 255 * 10**9, 19 * 10**8  # ns without a report, or behind a leave, from which a membership may be due
 LEARNING = 2             # a port's state
 CHANGES_BYTES = ("mcast_to_unicast", "vlan_tunnel")
-# settings of a port that a scenario lacks, and that only change what leaves the port itself, or what enters there
-LEFT_OUT = ("neigh_suppress", "proxyarp", "vlan_tunnel", "mcast_to_unicast", "backup_port", "mrp_ring", "mab")
+# settings of a port that a scenario lacks, by what alone they change: what enters there, what leaves there, or who asks for an address
+AT_ENTRY, AT_EXIT = ("vlan_tunnel", "mrp_ring", "mab"), ("vlan_tunnel", "mcast_to_unicast", "backup_port", "mrp_ring")
+QUESTIONS = ("neigh_suppress", "proxyarp")
+LEFT_OUT = QUESTIONS + AT_EXIT + ("mab",)
 PROMISCUOUS, BY_SOURCES = "left out: a promiscuous host", "left out: sources (S,G)"
 SETTINGS = LEFT_OUT + ("hairpin", "mcast_router")
 SOON = 5 * 10**7         # ns within which the kernel tells all of one change
@@ -26,6 +28,11 @@ DEFAULT_TIMES = {"last_member_interval": 100, "membership_interval": 26000, "que
 
 # `teaches`: whether the kernel learns the source all the same
 Expected = collections.namedtuple("Expected", "name ports teaches")
+
+
+def has_sources(bridge, version):
+    """Whether the kernel looks at the sources of groups."""
+    return bridge.options.get("igmp_version", 2) == 3 if version == 4 else bridge.options.get("mld_version", 1) == 2
 
 
 def has_own_times(bridge):
@@ -47,13 +54,19 @@ def unfit(bridge, data, by_host):
     return None
 
 
+# What was known of queriers and routers when a frame entered, for its version of IP: sets of numbers. `routers` of its version, `others`
+# of the other one, `late`: those whose time is over, as long as the kernel may be late; `passed`: those whose queries were passed over,
+# `passed_here` of the version; `knows` a querier, and `waits` until the time for answers is over
+Heard = collections.namedtuple("Heard", "routers others late passed passed_here announced told flushed knows waits own_off")
+
+
 class Snooped:
     """What the messages of the record say of queriers and routers."""
 
     def __init__(self):
         self.querier = {4: (None, 0, 0), 6: (None, 0, 0)}  # the address, until when it is known, and until when it waits
         self.routers = {4: {}, 6: {}}  # number -> until when
-        self.announced, self.passed_over = {}, {}
+        self.announced, self.passed_over = {}, {4: {}, 6: {}}
         self.own_six = None  # the address of the bridge's own MLD querier while it is on, zeros before it asked
         self.asked, self.told, self.own_off, self.flushed = {}, set(), None, set()
 
@@ -61,7 +74,7 @@ class Snooped:
         address, until, waits = self.querier[version]
         known = address is not None and any(address) and until > time
         if known and source > address or version == 6 and self.own_six is not None and source > self.own_six:
-            self.passed_over[number] = time + HOLDS
+            self.passed_over[version][number] = time + HOLDS
             return
         self.querier[version] = source, time + HOLDS, waits if until > time else time + delay * 10**6
         self.routers[version][number] = time + HOLDS
@@ -73,9 +86,6 @@ class Snooped:
 
     def knows(self, version, time):
         return self.querier[version][1] > time
-
-    def waits(self, version, time):
-        return self.querier[version][2] > time
 
     def asked_of(self, time, group):
         return time - self.asked.get(group, -LATE) < LATE
@@ -91,21 +101,52 @@ class Snooped:
         self.flushed |= living(self.routers[4], time) | living(self.routers[6], time)
         self.routers = {4: {}, 6: {}}
 
-    def router_differences(self, view):
-        """Of each difference its name, the ports that it makes routers' in the scenario alone, and those in the kernel alone."""
-        version = view.version()
-        members = set() if packets.message_of(view.data) else set(view.members)  # a message goes to routers alone
-        here = members | living(self.routers[version], view.time) if version else set()
-        yield "routers-two", living(self.routers[10 - version], view.time) - here if version else set(), set()
-        yield "query-order", living(self.passed_over, view.time) - members, set()
-        yield "snooping-flush", self.flushed - members, set()
-        yield "router-messages", set(), living(self.announced, view.time)
-        yield "left out: mcast_router", view.router_settings, view.router_settings
-        yield "left out: a router port from before the record", set(), self.told
+    def at(self, version, time):
+        """What is known now; None where a frame has no version of IP."""
+        if version is None:
+            return None
+        here, passed = living(self.routers[version], time), {each: living(self.passed_over[each], time) for each in (4, 6)}
+        return Heard(here, living(self.routers[10 - version], time), living(self.routers[version], time - LATE) - here, passed[4] | passed[6],
+                     passed[version], living(self.announced, time), frozenset(self.told), frozenset(self.flushed), self.knows(version, time),
+                     self.querier[version][2] > time - NEAR, self.own_off)
 
 
 def living(moments, time):
     return {number for number, until in moments.items() if until > time}
+
+
+def is_near_change(case, time):
+    return any(abs(time - change) < NEAR for change in case.changes)
+
+
+def sends(case, view, ports):
+    """Whether the kernel's own tables send a frame to these ports: to all that floods, or to members and routers."""
+    if ports == view.flood or view.heard is None:
+        return True
+    return (view.snooping or is_near_change(case, view.time)) and is_of_tables(view, ports)
+
+
+def is_of_tables(view, ports):
+    """Whether these ports are those of members and routers."""
+    members = view.wanted & view.reachable if view.is_payload else set()
+    heard, known = view.heard, view.routers | {0}
+    possible = (heard.routers | heard.late | heard.announced | heard.told | view.router_settings) & known
+    sure = heard.routers & view.routers - heard.told - heard.passed - view.router_settings
+    if view.has_own_times:
+        possible, sure = known, set()
+    return members | sure & view.reachable <= ports and ports - members <= possible & view.reachable
+
+
+def router_differences(view):
+    """Of each difference its name, the ports that it makes routers' in the scenario alone, and those in the kernel alone."""
+    heard, members = view.heard, set(view.members) if view.is_payload else set()  # a message goes to routers alone
+    yield "routers-two", heard.others - heard.routers - members, set()
+    yield "query-order", heard.passed - members, set()
+    yield "snooping-flush", heard.flushed - members, set()
+    yield "router-messages", set(), heard.announced
+    yield "late-end", set(), heard.late
+    yield "left out: mcast_router", view.router_settings, view.router_settings
+    yield "left out: a router port from before the record", set(), heard.told
 
 
 class View:
@@ -123,15 +164,23 @@ class View:
         self.source_entry = bridge.fdb.get((self.key[0], data[6:12].hex(":")))
         self.entry = bridge.fdb.get(self.key)
         self.entry_number, self.entry_place = self.place_of_entry(case)
-        self.is_old = bool(self.entry) and self.entry[1] == "learned" and is_due(case, self.key, time)
+        learned = bool(self.entry) and self.entry[1] == "learned"
+        self.is_old, self.is_late = learned and is_due(case, self.key, time), learned and is_late(case, self.key, time)
         self.learns = bool(self.port) and bool(self.port.flags["learning"])
         self.on, self.options = case.settings_on(), case.options_now()
         self.promiscuous, self.snooping = bridge.promiscuous, bridge.is_snooping()
         self.host_in_vlan = self.vid in model.vlans["host"]
         self.others = {case.number_of(each.index): each for each in bridge.ports.values()}
-        self.flood = self.flooded(case)
+        self.reachable = self.find_reachable(case)
+        self.quiet = self.find_quiet(case)
+        self.flood = self.flooded()
         self.find_members(case, data)
         self.router_settings = self.on["mcast_router"] | ({0} if bridge.options.get("mcast_router", 1) != 1 else set())
+        self.routers = {case.number_of(device) for device in bridge.routers if device in bridge.ports}
+        self.heard, self.has_own_times = case.snooped.at(self.version(), time), has_own_times(bridge)
+        self.own_since = case.own_querier_since
+        message = packets.message_of(data)
+        self.is_payload = message is None or message.kind == "other"
         self.blocked = {n for n, each in self.others.items() if each.vlan_states.get(self.vid, kernel.FORWARDING) != kernel.FORWARDING}
         self.forwards = bool(self.port and self.port.others.get("group_fwd_mask", 0) | bridge.options.get("group_fwd_mask", 0))
 
@@ -148,18 +197,25 @@ class View:
             return None, "down"
         return case.number_of(device), "here" if self.is_in_vlan(case, port) else "outside"
 
-    def flooded(self, case):
-        """Where a frame of this VLAN to a group leaves that is flooded."""
+    def find_reachable(self, case):
+        """The ports by which a frame of this VLAN may leave at all."""
         if not self.admitted:
             return set()
         ports = {0} if self.port and self.host_in_vlan else set()
         for number, port in self.others.items():
             flags = case.model.flags.get(case.model.name(port))
             isolated = flags and flags["isolated"] and self.port and self.port.flags["isolated"]
-            floods = flags and (flags["mcast_flood"] or not self.port)  # of what the host sends it leaves none out
-            if floods and (number != self.number or port.has("hairpin")) and self.is_in_vlan(case, port) and not isolated:
+            if flags and (number != self.number or port.has("hairpin")) and self.is_in_vlan(case, port) and not isolated:
                 ports.add(number)
         return ports
+
+    def flooded(self):
+        """Where a frame of this VLAN to a group leaves that is flooded; of what the host sends that leaves no port out."""
+        return self.reachable - self.quiet if self.port else self.reachable
+
+    def find_quiet(self, case):
+        """The ports that could be reached with `mcast_flood off`."""
+        return {number for number in self.reachable if number and not case.model.flags[case.model.name(self.others[number])]["mcast_flood"]}
 
     def is_in_vlan(self, case, port):
         return self.vid in case.model.vlans.get(case.model.name(port), {})
@@ -174,6 +230,17 @@ class View:
         self.has_sources = (self.key[0], self.group) in case.bridge.sources
         self.due = {number for number, key in self.members.items() if is_due(case, key, self.time)}
         self.unreachable = {number for number in self.members if number and not self.is_in_vlan(case, self.others[number])}
+        self.wanted = self.find_wanted(case, found[0]) if found else set()
+
+    def find_wanted(self, case, source):
+        """The members to which the kernel's table sends a packet of this source (br_mdb_get, br_multicast_flood)."""
+        bridge = case.bridge
+        by_sources = has_sources(bridge, self.version())
+        devices = bridge.by_source.get((self.key[0], self.group, source)) if by_sources else None
+        if devices is not None:
+            known = {device: blocked for device, blocked in devices.items() if device == bridge.index or device in bridge.ports}
+            return {case.number_of(device) for device, blocked in known.items() if not blocked} | set(self.members) & {0}
+        return {number for number, key in self.members.items() if not by_sources or key not in bridge.includes}
 
     def version(self):
         return {4: 4, 16: 6}.get(len(self.group))
@@ -263,8 +330,7 @@ def react_to_message(case, frame, data):
 
 def ends_nothing(bridge, view, message):
     """Whether a leave, with a querier known, is of the older versions, and not at a port with `fastleave`."""
-    by_sources = bridge.options.get("igmp_version", 2) == 3 if message.version == 4 else bridge.options.get("mld_version", 1) == 2
-    return not by_sources and not (view.port and view.port.flags["fastleave"])
+    return not has_sources(bridge, message.version) and not (view.port and view.port.flags["fastleave"])
 
 
 def keep_members(case, frame, message, name):
@@ -282,16 +348,14 @@ def keep_members(case, frame, message, name):
 # ---- the names of differences ----
 
 
-def of_row(case, key, time):
+def of_row(case, key, cut):
     """Of an entry or a member that the kernel has and the scenario hasn't."""
-    if ends_late(case, key, time):
+    if key in cut.late or key in cut.due and went_soon(case, key, cut.time):
         return "late-end"
-    came = case.told.get(key)
-    if came is not None and of_odd_message(case, key, came):
-        return of_odd_message(case, key, came)
-    if came is not None and any(abs(came - change) < NEAR for change in case.changes):
-        return "near a change"
-    return None
+    came = cut.came.get(key)
+    if came is None:
+        return None
+    return of_odd_message(case, key, came) or ("near a change" if is_near_change(case, came) else None)
 
 
 def of_odd_message(case, key, came):
@@ -302,16 +366,13 @@ def of_odd_message(case, key, came):
     return None
 
 
-def ends_late(case, key, time):
-    """Whether it was due, and the kernel ended it by itself soon afterwards, so later than its time."""
-    return is_due(case, key, time) and went_soon(case, key, time)
-
-
 def went_soon(case, key, time):
+    """Whether the kernel ended it by itself soon afterwards."""
     return any(time < gone < time + LATE for gone in case.gone.get(key, ()))
 
 
 def is_due(case, key, time):
+    """Whether the time of an entry or a member is over, by what was heard until now."""
     heard = case.heard.get(key)
     if heard is None or len(key) == 2:
         return heard is None or time - heard >= case.bridge.options.get("ageing_time", 30000) * 10**7
@@ -319,29 +380,10 @@ def is_due(case, key, time):
     return time - heard >= MEMBERSHIP or left >= heard and time - left >= LEAVE or case.snooped.asked_of(time, key[1])
 
 
-def of_row(case, key, time):
-    """Of an entry or a member that the kernel has and the scenario hasn't."""
-    if ends_late(case, key, time):
-        return "late-end"
-    came = case.told.get(key)
-    if came is not None and of_odd_message(case, key, came):
-        return of_odd_message(case, key, came)
-    if came is not None and any(abs(came - change) < NEAR for change in case.changes):
-        return "near a change"
-    return None
-
-
-def of_odd_message(case, key, came):
-    """A member that a message of an odd form made."""
-    for time, device, name in case.odd:
-        if len(key) == 3 and key[2] == device and 0 <= came - time < SOON:
-            return name
-    return None
-
-
-def ends_late(case, key, time):
-    """Whether the kernel ended it by itself soon afterwards, so later than its time."""
-    return any(time < gone < time + LATE for gone in case.gone.get(key, ()))
+def is_late(case, key, time):
+    """Whether the time of an address was over a moment ago, so that the kernel may still have it."""
+    heard = case.heard.get(key)
+    return len(key) == 2 and heard is not None and 0 <= time - heard - case.bridge.options.get("ageing_time", 30000) * 10**7 < LATE
 
 
 def of_unicast(case, frame, ours, linux):
@@ -350,23 +392,28 @@ def of_unicast(case, frame, ours, linux):
     if frame.data[:6] == frame.data[6:12] and view.learns and heard <= {view.number} & view.on["hairpin"]:
         return "teach-first"
     if heard:
-        return "late-end" if view.is_old and heard == {view.entry_number} != ours and went_soon(case, view.key, view.time) else None
+        ends_late = view.is_late or view.is_old and went_soon(case, view.key, view.time)
+        return "late-end" if ends_late and heard == {view.entry_number} != ours else None
     if view.entry_place == "host":
         return None if view.host_in_vlan else "own-address"
     return {"down": "link-down", "outside": "vlan-del-keeps"}.get(view.entry_place)
 
 
 def of_group(case, frame, ours, linux):
-    for name, holds in GROUP_RULES:
-        if holds(case, frame.view, packets.message_of(frame.view.data), ours, linux):
+    """A difference of a frame to a group. Most names need that the kernel's own tables send it where it went."""
+    view, message = frame.view, packets.message_of(frame.view.data)
+    follows = sends(case, view, linux)
+    rules = BESIDE_TABLES + (GROUP_RULES if follows else [])
+    for name, holds in rules:
+        if holds(case, view, message, ours, linux):
             return name
-    return of_oddity(frame.view, ours, linux) or of_routers(case, frame.view, ours, linux)
+    return of_oddity(view, ours, linux) or (of_routers(view, ours, linux) if follows and view.heard else None)
 
 
-def of_routers(case, view, ours, linux):
+def of_routers(view, ours, linux):
     """Router ports that one of the two has: the names of all differences by which they are explained."""
     names, surplus, lacking = [], ours - linux, linux - ours
-    for name, more, fewer in case.snooped.router_differences(view):
+    for name, more, fewer in router_differences(view):
         if more & surplus or fewer & lacking:
             names.append(name)
             surplus, lacking = surplus - more, lacking - fewer
@@ -378,50 +425,50 @@ def is_leave(case, view, message, ours, linux):
 
 
 def is_by_sources(case, view, message, ours, linux):
-    return view.has_sources and message is None and linux <= view.flood | set(view.members)
+    return view.has_sources and message is None and is_of_tables(view, linux)
 
 
 def waits_for_querier(case, view, message, ours, linux):
-    version = view.version()
-    return bool(version and case.snooped.waits(version, view.time) and linux == view.flood)
+    return bool(view.heard and view.heard.waits and linux == view.flood)
 
 
 def has_no_querier(case, view, message, ours, linux):
     """The one querier that was heard was passed over for the bridge's own, which doesn't count yet."""
-    version = view.version()
-    passed = version and living(case.snooped.passed_over, view.time) and not case.snooped.knows(version, view.time)
-    return bool(passed and linux == view.flood)
+    return bool(view.heard and view.heard.passed_here and not view.heard.knows and linux == view.flood)
 
 
 def own_querier(case, view, message, ours, linux):
-    off = case.snooped.own_off
-    late = case.own_querier_since is not None and 0 <= view.time - case.own_querier_since < OWN_LATE
-    return linux == view.flood and (late or off is not None and 0 <= view.time - off < HOLDS)
+    late = view.own_since is not None and 0 <= view.time - view.own_since < OWN_LATE
+    heard = view.heard
+    ended = heard and heard.own_off is not None and 0 <= view.time - heard.own_off < HOLDS and not heard.knows
+    # it counts from the moment at which snooping begins, and in the scenario from its query on
+    floods = ours == view.reachable - view.quiet
+    begins = floods and view.own_since is not None and view.time >= view.own_since and is_near_change(case, view.time)
+    return bool(linux == view.flood and (late or ended) or begins)
 
 
 def ends_members_late(case, view, message, ours, linux):
     late = {number for number in view.due if went_soon(case, view.members[number], view.time)}
-    if not late:
+    if not late or message:
         return False
-    return not ours - linux and linux - ours <= late or ours == view.flood and linux - set(view.members) <= ours
+    return not ours - linux and linux - ours <= late or ours == view.flood and set(view.members) <= late
 
 
 def is_outside(case, view, message, ours, linux):
-    return bool(view.unreachable) and linux <= view.flood and view.unreachable >= set(view.members) - linux
+    return message is None and bool(view.unreachable) and view.unreachable >= set(view.members) - linux
 
 
 def disagrees(case, view, message, ours, linux):
-    found = packets.addresses(view.data)
-    return bool(found) and not packets.agrees(view.data) and linux <= view.flood | set(view.members)
+    return bool(packets.addresses(view.data)) and not packets.agrees(view.data)
+
+
+def is_other_igmp(case, view, message, ours, linux):
+    return bool(message and message.kind == "other") and ours == view.flood
 
 
 def of_oddity(view, ours, linux):
     """A message of an odd form, that goes as ordinary payload does, or as a message, or is dropped."""
     return packets.oddity(view.data) if view.snooping and linux <= view.flood | set(view.members) else None
-
-
-def is_other_igmp(case, view, message, ours, linux):
-    return bool(message and message.kind == "other") and ours == view.flood and linux <= view.flood | set(view.members)
 
 
 def has_vlan_snooping(case, view, message, ours, linux):
@@ -434,15 +481,25 @@ def is_forwarded(case, view, message, ours, linux):
 
 
 def floods_all(case, view, message, ours, linux):
-    return not view.port and linux == view.flood and not ours - linux
+    return not view.port and linux == view.flood and not ours - linux and linux - ours <= view.quiet
 
 
+# of frames that the tables of the record don't decide
+BESIDE_TABLES = [("left out: mcast_vlan_snooping", has_vlan_snooping), ("left out: group_fwd_mask", is_forwarded)]
+# of frames that go where the kernel's tables send them
 GROUP_RULES = [
     ("leave-flood", is_leave), (BY_SOURCES, is_by_sources), ("query-delay", waits_for_querier),
     ("query-order", has_no_querier),
     ("left out: the bridge's own querier", own_querier), ("late-end", ends_members_late), ("vlan-del-keeps", is_outside),
-    ("ip-destination", disagrees), ("igmp-type", is_other_igmp), ("host-floods", floods_all),
-    ("left out: mcast_vlan_snooping", has_vlan_snooping), ("left out: group_fwd_mask", is_forwarded)]
+    ("ip-destination", disagrees), ("igmp-type", is_other_igmp), ("host-floods", floods_all)]
+
+
+def may_change(setting, view, ports):
+    """Whether the setting may change that a frame leaves by these ports."""
+    concerned = view.on[setting]
+    if setting in QUESTIONS:
+        return bool(concerned) and packets.asks_address(view.data)
+    return setting in AT_ENTRY and view.number in concerned or setting in AT_EXIT and bool(concerned) and ports <= concerned
 
 
 def of_settings(frame, ours, linux):
@@ -451,8 +508,7 @@ def of_settings(frame, ours, linux):
     if view.number in view.on["hairpin"] and linux - ours == {view.number} and not ours - linux:
         return "left out: hairpin"
     for setting in LEFT_OUT:
-        concerned = view.on[setting]
-        if concerned and (view.number in concerned or ours ^ linux <= concerned):
+        if may_change(setting, view, ours ^ linux):
             return "left out: " + setting
     if view.blocked and not linux - ours and (view.number in view.blocked and not linux or ours - linux <= view.blocked):
         return "left out: state of a VLAN"

@@ -14,8 +14,9 @@ AF_BRIDGE = 7
 Message = collections.namedtuple("Message", "type flags seq body")
 Link = collections.namedtuple("Link", "family index flags name mac master kind promiscuity options port vlans")
 Neighbour = collections.namedtuple("Neighbour", "index master mac vid kind sticky")
-# address: of the group, as bytes; group: as a scenario spells it, or None for one by MAC
-Member = collections.namedtuple("Member", "bridge index vid group address permanent source mode")
+# address: of the group, as bytes; group: as a scenario spells it, or None for one by MAC; includes: whether it wants named sources alone;
+# blocked: whether it doesn't want this source
+Member = collections.namedtuple("Member", "bridge index vid group address permanent source includes blocked")
 Router = collections.namedtuple("Router", "bridge index version4 version6 permanent")
 # pvid, untagged and state are None where the message doesn't tell them
 Vlan = collections.namedtuple("Vlan", "index vids pvid untagged state")
@@ -138,10 +139,11 @@ def group_text(protocol, address):
 
 
 def entry_member(bridge, entry, source, mode):
-    index, state, _, vid = struct.unpack_from("<IBBH", entry)
+    index, state, flags, vid = struct.unpack_from("<IBBH", entry)
     protocol = int.from_bytes(entry[24:26], "big")
     address = entry[8:12] if protocol == 0x0800 else entry[8:24] if protocol == 0x86DD else entry[8:14]
-    return Member(bridge, index, vid, group_text(protocol, address), address, bool(state & 1), source, mode)
+    return Member(bridge, index, vid, group_text(protocol, address), address, bool(state & 1), source, mode == 1,
+                  bool(flags & 8))
 
 
 def members(body):

@@ -96,6 +96,7 @@ class Verdict:
         self.case, self.head = case, case.model.head()
         self.counts, self.differences, self.rows, self.looks = collections.Counter(), [], [], 0
         self.refused, self.fault = [], None
+        self.beside = set()  # frames that went by the tables of the other side of a change
         self.corrected = set()  # rows that a correction made
 
     def judge(self):
@@ -135,14 +136,19 @@ class Verdict:
             if ours == linux:
                 self.counts["same"] += 1
                 return
-        if self.is_same_near(frame, linux):
+        sides = list(self.sides(frame))
+        if linux in sides:
             self.counts["same"] += 1
             self.counts["by the tables of the other side of a change"] += 1
+            self.beside.add(frame)
             return
-        name = None
-        if ours is not None and self.same_bytes(frame, ours, linux):
-            name = named.name_of(self.case, frame, {each for each, _ in ours}, {each for each, _ in linux})
-        self.differ(frame, ours or set(), linux, name)
+        named_sides = (self.name_of(frame, side, linux) for side in ([] if ours is None else [ours]) + sides)
+        self.differ(frame, ours or set(), linux, next(filter(None, named_sides), None))
+
+    def name_of(self, frame, ours, linux):
+        if not self.same_bytes(frame, ours, linux):
+            return None
+        return named.name_of(self.case, frame, {each for each, _ in ours}, {each for each, _ in linux})
 
     def differ(self, frame, ours, linux, name):
         self.counts[name or "unexplained"] += 1
@@ -159,13 +165,13 @@ class Verdict:
             return True
         return all(here[number] == there[number] for number in here.keys() & there.keys())
 
-    def is_same_near(self, frame, linux):
-        """Whether the tables of another side of a change near the frame give what left."""
+    def sides(self, frame):
+        """What the tables of the other sides of changes near the frame give."""
         items = self.case.model.items
         before, after = self.near(items, frame)
         nearby = before + after
         if not 0 < len(nearby) <= MOST_PLACES:
-            return False
+            return
         given = packets.bare(frame.data) if frame.kept_tag else frame.data
         entry = [Item("publish"), Item("rx %d %s" % (frame.number, given.hex()), frame=frame), Item("serve")]
         kept = [items[at] for at in range(self.place(frame)) if at not in before]
@@ -173,9 +179,7 @@ class Verdict:
             if applied == len(before) and frame.expected is None:
                 continue  # where it entered
             outcome = Outcome(self.head, kept + [items[at] for at in nearby[:applied]] + entry).replay()
-            if self.seen(frame, outcome.by_number.get(outcome.last, set())) == linux:
-                return True
-        return False
+            yield self.seen(frame, outcome.by_number.get(outcome.last, set()))
 
     def place(self, frame):
         """The place in the scenario at which the frame enters, or would enter."""
@@ -217,7 +221,7 @@ class Verdict:
             self.looks += 1
             ours = {line.replace("dev HOST ", "dev host ") for line in run(["show", table], lines)[:-1] if "dev QUERIER " not in line}
             for text in sorted(linux.keys() - ours):
-                name = self.by_sources(cut, table, text) or named.of_row(self.case, linux[text], cut.time)
+                name = self.by_sources(cut, table, text) or named.of_row(self.case, linux[text], cut)
                 self.rows.append(Row(cut.time, table, text, "Linux", name))
                 if name != "late-end":
                     self.put_in(cut, table, text)
