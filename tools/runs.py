@@ -1,13 +1,19 @@
-"""What a run does at each step, from what the program prints: one run of the program for each listing.
+"""What a run does at each step, from what the program prints: one run of the program for each listing, and a few more.
 
-Address changes come from `monitor`, whose messages have an order and a ticket but no step: each step takes as many of them as its line
-allows (`Bridge.taken`). Members of groups have no such listing. So where a message or time may have changed them, or addresses may have
-expired, the program is run on the steps up to there (`Probes`). Other scenarios need no probe.
+The program lists what stands at the end, not what each step changed. That is found so:
+
+- Address changes are the messages of `monitor`. Each has the number of deferred changes before it; how many a step made is told by one
+  run more, in which an unused chip applies each at once (`deferred_by_a_chip`).
+- Members of groups are listed behind steps in which a message or time may have changed them (`Probes`). A message changes members at its
+  own port and of groups that it names, so one listing serves all steps up to it that change different ones (`listed_behind`).
 """
+import bisect
 import collections
 import concurrent.futures
+import itertools
 import os
 import pathlib
+import re
 import subprocess
 
 import scenarios
@@ -18,6 +24,8 @@ COMES, OFFLOADED, EXTERN = 28, 0x20, 0x10
 # a step has at most a line for each port and the host, a message of the tree for each port, and four more
 MOST_LINES = 255 + 255 + 4
 KINDS = {0x80: "local", 0x40: "static", 0x02: "learned"}
+# what may be a group's address in a message, behind the headers of version 4 and of version 6
+GROUPS = ((re.compile(rb"(?=([\xe0-\xef]...))", re.S), 34), (re.compile(rb"(?=(\xff.{15}))", re.S), 54))
 
 # text: a step's line in the scenario, or its packet's; words: the line's; remark: the comments above it; size: how many bytes of the
 # scenario's steps end with it; frame: the port and the bytes that enter
@@ -29,6 +37,8 @@ Step = collections.namedtuple("Step", "given lines accepted published deferred t
 # ended: the last line of the transcript; deferred: the deferred changes, each "a" or "g", a key and what stands there then; listings: at
 # the end, by their words
 Run = collections.namedtuple("Run", "scenario ended steps deferred listings")
+# what a step may have changed of the members of groups: in which VLAN, of which groups and at which port; None is any
+Cause = collections.namedtuple("Cause", "vlan groups port")
 # a message of `monitor`
 Message = collections.namedtuple("Message", "ticket key value")
 
@@ -91,87 +101,68 @@ def told_of(step, frame, lines):
     return lines[:count + 1]
 
 
+def by_group(keys):
+    """Members by group and port."""
+    found = collections.defaultdict(set)
+    for key in keys:
+        found[key[1:]].add(key)
+    return found
+
+
+def within(table, cause):
+    """The members, by group and port, that may have changed by it."""
+    if cause.groups is None:
+        return {key for keys in table.values() for key in keys if cause.vlan in (None, key[0]) and cause.port in (None, key[2])}
+    return {key for group in cause.groups for key in table.get((group, cause.port), ()) if cause.vlan in (None, key[0])}
+
+
 class Probes:
     """Runs of the program on the steps up to one of them."""
 
     def __init__(self, scenario, steps):
         self.head, self.body, self.steps = scenario.head, b"".join(line for _, line in scenario.steps), steps
-        self.pool, self.futures = concurrent.futures.ThreadPoolExecutor(os.cpu_count()), {}
-        # at each step that sends what may be a message: the step of the run that tells what it changed
-        self.messages = {}
+        self.pool = concurrent.futures.ThreadPoolExecutor(os.cpu_count())
 
     def begin(self, step, words):
-        if (step, words) not in self.futures:
-            data = self.head + self.body[:self.steps[step].size] + b"end\n"
-            self.futures[step, words] = self.pool.submit(program, words, data)
-        return self.futures[step, words]
+        return self.pool.submit(program, words, self.head + self.body[:self.steps[step].size] + b"end\n")
 
     def pending(self, step):
         return int(self.begin(step, "replay").result()[-1].split()[3])
 
-    def groups(self, step):
-        return members(self.begin(step, "show mdb").result())
+    def members(self, places):
+        """The members of groups behind the step that this names for each, by runs side by side."""
+        listings = {place: self.begin(place, "show mdb") for place in sorted(set(places.values()))}
+        found = {place: by_group(members(listing.result())) for place, listing in listings.items()}
+        return {number: found[place] for number, place in places.items()}
 
 
 class Bridge:
     """The tables of the bridge, from step to step."""
 
-    def __init__(self, scenario, messages, probes):
-        self.names, self.domains, self.probes = scenario.ports, scenario.domains, probes
-        self.edition = int(scenario.head.split()[1])
+    def __init__(self, scenario, messages, listed):
+        # listed: at each message or moment that may have changed members of groups, those that a listing tells
+        self.edition, self.listed = int(scenario.head.split()[1]), listed
         self.messages = collections.deque(messages)
         self.turns = {chip: 0 for chip in sorted({1, *scenario.domains.values()} - {0})}
-        self.addresses, self.groups, self.vlans, self.pvids, self.deferred = {}, set(), {("host", 1): "untagged"}, {}, []
+        self.groups, self.vlans, self.pvids, self.deferred = by_group([]), {("host", 1): "untagged"}, {}, []
 
-    def taken(self, number, words, made, frame):
-        """How many messages are of this step, which made so many changes."""
-        if words[:2] == ["cmd", "fdb"] or words[0] in ("report", "sweep"):
-            return made
-        if words[:3] == ["cmd", "port", "down"] and made:
-            return sum(1 for port, _ in self.addresses.values() if port == words[3])
-        if words[:3] == ["cmd", "vlan", "del"] and made:
-            return sum(1 for (vlan, _), (port, _) in self.addresses.items() if (vlan, port) == (int(words[4]), words[6]))
-        if not made or not self.messages:
-            return 0
-        following = self.messages[0]
-        if words[0] in ("serve", "post"):
-            # a station is learned at a port of software
-            port, data = frame
-            return int(not self.domains[port] and following[1:] == ((following.key[0], data[6:12].hex(":")), (self.names[port], "learned")))
-        if words[0] == "now" and following.value is None:
-            behind = (self.probes.pending(number) + sum(self.turns.values())) // len(self.turns)
-            return sum(1 for message in self.messages if message.ticket < behind)
-        return 0
-
-    def change_addresses(self, count):
-        changes = [self.messages.popleft() for _ in range(count)]
-        for change in changes:
-            if change.value is None:
-                del self.addresses[change.key]
-            else:
-                self.addresses[change.key] = change.value
+    def change_addresses(self, behind):
+        """Takes the messages of the deferred changes up to this number of them."""
+        changes = []
+        while self.messages and self.messages[0].ticket < behind:
+            changes.append(self.messages.popleft())
         return changes
 
-    def groups_behind(self, number, words, made, frame):
-        """The members of groups behind this step, which made so many changes besides those of addresses."""
-        if not made:
-            return self.groups
-        if words[:2] == ["cmd", "mdb"]:
-            key = {(int(words[7]), words[3], words[5])}
-            return self.groups | key if words[2] == "add" else self.groups - key
-        if words[:3] == ["cmd", "port", "down"]:
-            return {key for key in self.groups if key[2] != words[3]}
-        if words[:3] == ["cmd", "vlan", "del"]:
-            return {key for key in self.groups if (key[0], key[2]) != (int(words[4]), words[6])}
-        if number in self.probes.messages:
-            port = self.names[frame[0]]
-            found = self.probes.groups(self.probes.messages[number])
-            return {key for key in self.groups if key[2] != port} | {key for key in found if key[2] == port}
-        return self.probes.groups(number) if words[0] == "now" else self.groups
-
-    def change_groups(self, number, words, made, frame):
-        before, self.groups = self.groups, self.groups_behind(number, words, made, frame)
-        return [(key, "member") for key in sorted(self.groups - before)] + [(key, None) for key in sorted(before - self.groups)]
+    def change_groups(self, number, words, cause):
+        """What a step changes of the members that it may have changed: a message or moment as listed, commands as they say."""
+        if not cause:
+            return []
+        before, behind = within(self.groups, cause), within(self.listed.get(number, {}), cause)
+        if words[:3] == ["cmd", "mdb", "add"]:
+            behind = {(int(words[7]), words[3].lower(), words[5])}
+        for key in before ^ behind:
+            self.groups[key[1:]] ^= {key}
+        return [(key, "member") for key in sorted(behind - before)] + [(key, None) for key in sorted(before - behind)]
 
     def change_vlans(self, words):
         if words[:3] == ["cmd", "port", "up"]:
@@ -196,14 +187,15 @@ class Bridge:
             del self.pvids[key[0]]
         return key, None
 
-    def defer(self, addresses, groups):
+    def defer(self, addresses, groups, behind):
         """Adds the deferred changes of a step, by their tickets. One that no listing tells is None."""
         groups = collections.deque(groups if self.edition == 2 else [])
-        for change in addresses:
-            while len(self.deferred) < change.ticket:
+        by_ticket = {change.ticket: change for change in addresses}
+        for ticket in range(len(self.deferred), behind):
+            if ticket in by_ticket:
+                self.deferred.append(("a", by_ticket[ticket].key, by_ticket[ticket].value))
+            else:
                 self.deferred.append(("g", *groups.popleft()) if groups else None)
-            self.deferred.append(("a", change.key, change.value))
-        self.deferred += [("g", *change) for change in groups]
 
 
 class Transcript:
@@ -222,41 +214,133 @@ class Transcript:
             self.told.append((told, made, len(self.entered) if step.frame else decided[0] if decided else None))
 
 
-def shared(steps, transcript):
-    """At each step that sends what may be a message, the step behind which the members of groups tell what it changed. A message changes
-    members at its own port alone, so one run of the program serves messages of several ports."""
-    places, ports = {}, {}
-    for number, (step, (_, made, frame)) in enumerate(zip(steps, transcript.told)):
-        port, data = transcript.entered.get(frame, (0, b""))
-        is_message = step.words[0] in ("serve", "post") and data[:1] in (b"\x01", b"\x33")
-        if made and (port in ports if is_message else step.words[0] in ("cmd", "now")):
-            ports = {}
-        if made and is_message:
-            ports[port] = number
-            places.update(dict.fromkeys(ports.values(), number))
+def unused(scenario):
+    """A chip that the scenario doesn't use, and the line that declares a port there; None if it uses all chips or ports."""
+    domain = next((domain for domain in range(2, 5) if domain not in scenario.domains.values()), None)
+    number = next((number for number in range(1, 255) if number not in scenario.ports), None)
+    name = next(name for name in map("unused{}".format, range(256)) if name not in scenario.ports.values())
+    return domain and number and (domain, f"port {number} {name} chip {domain}\n".encode())
+
+
+def deferred_by_a_chip(scenario, steps, made, total, chip):
+    """How many deferred changes are accepted behind each step, by an unused chip: behind each step that made changes it has as many turns.
+    Since it had applied all before, the turns that aren't refused are as many as the step's deferred changes."""
+    domain, line = chip
+    body, parts, at = b"".join(line for _, line in scenario.steps), [scenario.head, line], 0
+    turns = [min(changes, total) for changes in made]
+    for step, count in zip(steps, turns):
+        if count:
+            parts += [body[at:step.size], f"turn {domain}\n".encode() * count]
+            at = step.size
+    lines = program("replay", b"".join([*parts, body[at:], b"end\n"]))
+    accepted = {int(line.split()[1]) for line in lines if line.startswith("ok ")}
+    behind, number = [], 0
+    for count in turns:
+        number += 1 + count
+        behind.append(sum(turn in accepted for turn in range(number - count + 1, number + 1)))
+    return list(itertools.accumulate(behind))
+
+
+def deferred_by_halves(made, total, count):
+    """The same without an unused chip: `count` tells it behind one step. Where the steps in between made no deferred change, or no other,
+    none of them is asked for."""
+    found = [0] * len(made)
+
+    def halve(low, high, before, behind):
+        if high - low == 1 or behind == before:
+            found[low:high] = [behind] * (high - low)
+        elif behind - before == sum(made[low:high]):
+            found[low:high] = [before + changes for changes in itertools.accumulate(made[low:high])]
+        else:
+            middle = (low + high) // 2
+            between = count(middle - 1)
+            halve(low, middle, before, between)
+            halve(middle, high, between, behind)
+
+    halve(0, len(made), 0, total)
+    return found
+
+
+def deferred_behind(scenario, steps, transcript, probes, audit):
+    """How many deferred changes are accepted behind each step."""
+    chips = len({1, *scenario.domains.values()} - {0})
+    made = [changes for _, changes, _ in transcript.told]
+    turned = list(itertools.accumulate(step.words[0] == "turn" and lines[-1].startswith("ok ")
+                                       for step, (lines, _, _) in zip(steps, transcript.told)))
+    total = (sum(int(line.split()[1]) for line in audit if line.startswith("pending ")) + sum(turned[-1:])) // chips
+    if not total:
+        return [0] * len(steps)
+    if chip := unused(scenario):
+        return deferred_by_a_chip(scenario, steps, made, total, chip)
+    return deferred_by_halves(made, total, lambda number: (probes.pending(number) + turned[number]) // chips)
+
+
+def named(data):
+    """What may be the groups that a message names, as listings write them."""
+    four, six = ({found[1] for found in pattern.finditer(data, start)} for pattern, start in GROUPS)
+    return {".".join(map(str, address)) for address in four} | {address.hex(":", 2) for address in six}
+
+
+def cause_of(step, entered, names):
+    """What a step that made changes besides those of addresses may have changed of the members of groups; None is nothing."""
+    words = step.words
+    if words[0] == "now":
+        return Cause(None, None, None)
+    if words[:2] == ["cmd", "mdb"]:
+        return Cause(int(words[7]), {words[3].lower()}, words[5])
+    if words[:3] == ["cmd", "port", "down"]:
+        return Cause(None, None, words[3])
+    if words[:3] == ["cmd", "vlan", "del"]:
+        return Cause(int(words[4]), None, words[6])
+    if words[0] in ("serve", "post") and entered[1][:1] in (b"\x01", b"\x33"):
+        groups = named(entered[1])
+        return Cause(None, groups, names[entered[0]]) if groups else None
+    return None
+
+
+def causes_of(scenario, steps, transcript, behind, messages):
+    """Of each step what it may have changed of the members of groups; None is nothing."""
+    tickets, both = [message.ticket for message in messages], scenario.head.split()[1] == b"2"
+    told_before = deferred_before = 0
+    for step, (_, made, frame), deferred in zip(steps, transcript.told, behind):
+        told = bisect.bisect_left(tickets, deferred)
+        others = (deferred - deferred_before if both else made) - (told - told_before)
+        told_before, deferred_before = told, deferred
+        yield cause_of(step, transcript.entered.get(frame), scenario.ports) if others else None
+
+
+def apart(taken, cause):
+    """Whether it changes other members than these may: of each port (None: of any) its groups (None: any)."""
+    if cause.port is None or None in taken:
+        return not taken
+    return cause.port not in taken or None not in (cause.groups, taken[cause.port]) and taken[cause.port].isdisjoint(cause.groups)
+
+
+def listed_behind(steps, causes):
+    """At each message or moment that may have changed members of groups, the step behind which a listing tells how. One serves as many
+    steps as change different members."""
+    places, taken, batch = {}, {}, []
+    for number, (step, cause) in enumerate(zip(steps, causes)):
+        if not cause:
+            continue
+        if not apart(taken, cause):
+            taken, batch = {}, []
+        taken[cause.port] = None if cause.groups is None else taken.get(cause.port, set()) | cause.groups
+        if step.words[0] != "cmd":
+            batch.append(number)
+            places.update(dict.fromkeys(batch, number))
     return places
 
 
-def begin_probes(steps, transcript, probes):
-    """Begins the runs that will be asked for in any case, so that they go side by side."""
-    probes.messages = shared(steps, transcript)
-    for number in sorted(set(probes.messages.values())):
-        probes.begin(number, "show mdb")
-    for number, (step, (_, made, _)) in enumerate(zip(steps, transcript.told)):
-        if made and step.words[0] == "now":
-            probes.begin(number, "replay")
-
-
-def follow(bridge, steps, transcript):
+def follow(bridge, steps, transcript, behind, causes):
     """The steps with all that they do."""
     accepted = published = 0
     for number, (step, (lines, made, frame)) in enumerate(zip(steps, transcript.told)):
         words, taken = step.words, bool(lines) and lines[-1].startswith("ok ")
-        entered = transcript.entered.get(frame)
-        addresses = bridge.change_addresses(bridge.taken(number, words, made, entered))
-        groups = bridge.change_groups(number, words, made - len(addresses), entered)
+        addresses = bridge.change_addresses(behind[number])
+        groups = bridge.change_groups(number, words, causes[number])
         vlans = bridge.change_vlans(words) if taken else []
-        bridge.defer(addresses, groups)
+        bridge.defer(addresses, groups, behind[number])
         accepted += made
         if taken and words[0] == "publish":
             published = accepted
@@ -280,8 +364,9 @@ def run(data, most=None):
         raise Failed(f"{len(steps)} steps; at most {most} are shown")
     messages = [found for line in listings["monitor"][:-1] if (found := message(line, scenario.ports))]
     transcript, probes = Transcript(steps, lines), Probes(scenario, steps)
-    begin_probes(steps, transcript, probes)
-    bridge = Bridge(scenario, messages, probes)
-    followed = list(follow(bridge, steps, transcript))
+    behind = deferred_behind(scenario, steps, transcript, probes, listings["audit"])
+    causes = list(causes_of(scenario, steps, transcript, behind, messages))
+    bridge = Bridge(scenario, messages, probes.members(listed_behind(steps, causes)))
+    followed = list(follow(bridge, steps, transcript, behind, causes))
     probes.pool.shutdown()
     return Run(scenario, lines[-1], followed, bridge.deferred, listings)
