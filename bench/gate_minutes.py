@@ -15,8 +15,8 @@ TICK = os.sysconf("SC_CLK_TCK")
 KINDS = ("proof", "tests", "seed", "edits", "llvm")
 
 
-def told(pid):
-    """The crate and the kind of a process, if it is one of the gate's."""
+def told(pid, parent, first):
+    """The crate and the kind of a process, if it is one of the gate's. The first that checks an edit over a folder fills it: the seed."""
     with open(f"/proc/{pid}/cmdline") as it:
         words = it.read().split("\0")
     folder, name = os.readlink(f"/proc/{pid}/cwd"), os.path.basename(words[0])
@@ -24,25 +24,26 @@ def told(pid):
         crate = words[words.index("--crate-name") + 1]
         if "rt-edit" not in folder:
             return crate, "tests" if "--test" in words else "proof"
-        over = words[words.index("--incremental") + 1] if "--incremental" in words else ""
-        return crate, "seed" if over.endswith("/seed") else "edits"
+        over = words[words.index("--incremental") + 1] if "--incremental" in words else folder
+        is_seed = over != folder and first.setdefault(over, pid) in (pid, parent)
+        return crate, "seed" if is_seed or over.endswith("/seed") else "edits"
     return (os.path.basename(folder), "llvm") if name.startswith("clang") else None
 
 
 def spent(pid):
-    """When the process began, and the seconds of the processor that it has taken."""
+    """When the process began, its parent, and the seconds of the processor that it has taken."""
     with open(f"/proc/{pid}/stat") as it:
         fields = it.read().rpartition(")")[2].split()
-    return fields[19], (int(fields[11]) + int(fields[12])) / TICK
+    return fields[19], fields[1], (int(fields[11]) + int(fields[12])) / TICK
 
 
-def look(seen, sums):
+def look(seen, first, sums):
     """Adds what each process has taken since the last look."""
     for pid in filter(str.isdigit, os.listdir("/proc")):
         try:
-            born, seconds = spent(pid)
+            born, parent, seconds = spent(pid)
             # a fork has its parent's words until it runs a program of its own
-            row = told(pid)
+            row = told(pid, parent, first)
         except (OSError, ValueError, IndexError):
             continue
         if row:
@@ -64,11 +65,11 @@ def table(sums, minutes):
 
 def main():
     to = sys.argv[1] if len(sys.argv) > 1 else "gate_minutes.txt"
-    seen, sums, start = {}, collections.Counter(), time.time()
+    seen, first, sums, start = {}, {}, collections.Counter(), time.time()
     # what ran before isn't counted
-    look(seen, collections.Counter())
+    look(seen, first, collections.Counter())
     while True:
-        look(seen, sums)
+        look(seen, first, sums)
         with open(to, "w") as it:
             it.write(table(sums, (time.time() - start) / 60))
         time.sleep(PERIOD)
