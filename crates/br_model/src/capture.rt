@@ -2,7 +2,7 @@
 use crate::bytes::Bytes;
 
 /// Which byte of a number stands first, in all numbers of a section.
-#[derive(Clone, Copy, PartialEq, Eq, Debug)]
+#[derive(Clone, Copy)]
 pub enum Order {
     HighFirst,
     LowFirst,

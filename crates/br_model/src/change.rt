@@ -83,7 +83,7 @@ impl Flags {
 }
 
 /// One change of the table. Each touches its own part of it.
-#[derive(Clone, Copy, Debug)]
+#[derive(Clone, Copy)]
 pub enum Change {
     PortUp(Port),
     PortDown(Port),
@@ -134,7 +134,7 @@ pub enum Change {
 }
 
 /// What a change asks for.
-#[derive(Clone, Copy, Debug)]
+#[derive(Clone, Copy)]
 pub enum Asks {
     Nothing,
     /// That this is the number of a state.
@@ -190,7 +190,7 @@ impl Change {
 }
 
 /// A deferred change on its way to a chip. Tickets count from 0 in the order of acceptance.
-#[derive(Clone, Copy, Debug)]
+#[derive(Clone, Copy)]
 pub struct Update {
     pub ticket: u32,
     pub change: Change,

@@ -11,7 +11,7 @@ pub enum Group {
 }
 
 /// Any IP address, as the number that its bytes spell. Not each is a group's.
-#[derive(Clone, Copy, PartialEq, Eq, Debug)]
+#[derive(Clone, Copy, PartialEq, Eq)]
 pub enum Ip {
     V4(u32),
     V6(u128),

@@ -1,7 +1,7 @@
 //! The tables that can be listed.
 
 /// A table that `show` lists. Each is that of all accepted changes.
-#[derive(Clone, Copy, PartialEq, Eq, Debug)]
+#[derive(Clone, Copy)]
 pub enum Listing {
     /// The forwarding database, by VLAN and address.
     Fdb,

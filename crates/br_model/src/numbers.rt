@@ -62,7 +62,7 @@ impl Port {
 }
 
 /// The domain of a port, from 0 to `LAST`: 0 is software, the others are of chips.
-#[derive(Clone, Copy, PartialEq, Eq, PartialOrd, Ord, Debug)]
+#[derive(Clone, Copy, PartialEq, Eq, Debug)]
 pub struct Dom {
     number: u8,
 }

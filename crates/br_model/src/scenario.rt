@@ -5,7 +5,7 @@ use crate::numbers::{Dom, Mac, Port};
 use crate::steps::Step;
 
 /// How far a scenario has come.
-#[derive(Clone, Copy, PartialEq, Eq, Debug)]
+#[derive(Clone, Copy, PartialEq, Eq)]
 pub enum Place {
     /// Before its first line.
     Opening,
@@ -20,7 +20,7 @@ pub enum Place {
 /// Why a line is bad, by the first test that it fails, in this order: its length, its line feed, its words, its place, its
 /// operands from left to right, and then its section: whether it is whole, and its blocks. The text of a transcript has these
 /// words in lower case, `capture` with its offset, and never want of memory.
-#[derive(Clone, Copy, PartialEq, Eq, Debug)]
+#[derive(Clone, Copy, PartialEq, Eq)]
 pub enum LineWhy {
     /// It has more than 20,000 bytes without a line feed, whether one follows or not.
     Long,

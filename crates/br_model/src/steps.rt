@@ -10,7 +10,7 @@ use crate::numbers::{Dom, Mac, Port, Vid};
 use lists::Items;
 
 /// A command, as a line of a scenario gives it.
-#[derive(Clone, Copy, PartialEq, Eq, Debug)]
+#[derive(Clone, Copy, PartialEq, Eq)]
 pub enum Command {
     PortUp(Port),
     PortDown(Port),

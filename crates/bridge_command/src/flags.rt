@@ -6,7 +6,7 @@ use bitflags::{Flag, Flags as Names};
 use br_model::change::Flags;
 
 /// Flags of a port, a bit each.
-#[derive(Clone, Copy, PartialEq, Eq, Debug)]
+#[derive(Clone, Copy)]
 struct PortFlags(u8);
 
 impl PortFlags {

@@ -14,7 +14,7 @@ use std::alloc::Global;
 use std::marker::Model;
 
 /// What contracts see as the entries by VLAN and address, and beside them their moments in milliseconds.
-#[derive(Drop, Debug)]
+#[derive(Drop)]
 pub struct Addresses {
     fdb: Fdb,
     // No learned entry has an earlier moment.

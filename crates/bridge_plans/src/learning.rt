@@ -22,7 +22,7 @@ use fdb_core::Key;
 use std::alloc::Global;
 
 /// What an address behind a port comes to.
-#[derive(Clone, Copy, PartialEq, Eq, Debug)]
+#[derive(Clone, Copy)]
 pub enum Lesson {
     /// Nothing: its entry doesn't move, or there is no room for it.
     Known,

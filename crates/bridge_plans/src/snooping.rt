@@ -26,7 +26,7 @@ pub const QUERIER_TIME: u64 = 255_000;
 const LEAVE_TIME: u64 = 2_000;
 
 /// Who says a message: a port in a VLAN.
-#[derive(Clone, Copy, Debug)]
+#[derive(Clone, Copy)]
 pub struct Speaker {
     /// When, in milliseconds.
     pub moment: u64,

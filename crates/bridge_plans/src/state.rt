@@ -28,7 +28,7 @@ use std::alloc::Global;
 use stp_core::Tree;
 
 /// The last moment, and how long learned entries stay, in milliseconds.
-#[derive(Clone, Copy, Debug)]
+#[derive(Clone, Copy)]
 pub struct Clock {
     pub now: u64,
     pub ageing: u64,

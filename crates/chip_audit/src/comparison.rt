@@ -27,7 +27,7 @@ impl Model for Comparison {
 }
 
 /// The keys of an audit, ascending by VLAN and address, and how many updates wait.
-#[derive(Drop, Debug)]
+#[derive(Drop)]
 pub struct Audit {
     /// Of the bridge's entries that the chip has.
     pub offloaded: Keys,

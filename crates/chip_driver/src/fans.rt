@@ -14,7 +14,7 @@ use port_sets::Ports;
 use vlan_groups::joined::{Joined, VlanBlock};
 
 /// A row that each VLAN has: where a flood goes, or what goes to the routers.
-#[derive(Clone, Copy, Debug)]
+#[derive(Clone, Copy)]
 pub enum Fan {
     Floods(Flood),
     Routers,

@@ -11,7 +11,7 @@ use chip_tables::PortRow;
 use port_sets::{PortSet, Ports};
 
 /// The ports of which each is so: on the chip, forwarding, up with a flag of flooding, isolated, and before a multicast router.
-#[derive(Clone, Copy, Debug)]
+#[derive(Clone, Copy)]
 pub struct Shadow {
     pub own: Ports,
     pub forwarding: Ports,

@@ -7,7 +7,7 @@ use crate::shadow::Shadow;
 use br_model::numbers::Port;
 
 /// What a port has in one row: whether it is among the row's ports, and whether it asks for each of the two bits.
-#[derive(Clone, Copy, Debug)]
+#[derive(Clone, Copy)]
 pub struct Share {
     pub ports: bool,
     pub isolated: bool,
@@ -15,7 +15,7 @@ pub struct Share {
 }
 
 /// What a port has in each row of a VLAN of which it is a member or not, and in the row of a group of which it is a member.
-#[derive(Clone, Copy, Debug)]
+#[derive(Clone, Copy)]
 pub struct Shares {
     pub unicast: Share,
     pub mcast: Share,
@@ -25,7 +25,7 @@ pub struct Shares {
 }
 
 /// Of which rows of a VLAN a change of one port tells: of the others each is what it was.
-#[derive(Clone, Copy, Debug)]
+#[derive(Clone, Copy)]
 pub struct Told {
     pub unicast: bool,
     pub mcast: bool,

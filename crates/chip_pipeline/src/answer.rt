@@ -8,7 +8,7 @@ use port_sets::Ports;
 use std::marker::Model;
 
 /// What the chip does with a frame, but for its source.
-#[derive(Clone, Copy, Debug)]
+#[derive(Clone, Copy)]
 pub struct Sent {
     pub class: Class,
     pub vid: Option<Vid>,
@@ -17,7 +17,7 @@ pub struct Sent {
 }
 
 /// What the chip does with a frame that enters at one of its ports. Outside of this crate only `pass` makes one.
-#[derive(Drop, Debug)]
+#[derive(Drop)]
 pub struct Pass {
     class: Class,
     vid: Option<Vid>,

@@ -46,7 +46,7 @@ fn lets(alone: bool, row: &PortRow) -> bool
 }
 
 /// What the chip does with an admitted frame that snooping doesn't catch.
-#[derive(Clone, Copy, Debug)]
+#[derive(Clone, Copy)]
 pub struct Out {
     pub class: Class,
     pub ports: Ports,

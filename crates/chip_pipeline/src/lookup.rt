@@ -21,7 +21,7 @@ use br_model::numbers::{Mac, Port, Vid};
 use chip_tables::{AddressRow, FanRow, Flood, Tables};
 
 /// Where a frame is to go.
-#[derive(Clone, Copy, Debug)]
+#[derive(Clone, Copy)]
 pub enum Way {
     Nowhere,
     /// To the station behind this port, or to the host.

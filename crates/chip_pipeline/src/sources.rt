@@ -22,7 +22,7 @@ use br_model::numbers::{Mac, Port, Vid};
 use chip_tables::{AddressRow, PortRow, Tables};
 
 /// What the chip makes of a frame's source.
-#[derive(Clone, Copy, Debug)]
+#[derive(Clone, Copy)]
 pub struct Sighting {
     pub report: Option<(Vid, Mac)>,
     pub hit: Option<(Vid, Mac)>,

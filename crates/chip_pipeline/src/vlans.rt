@@ -13,7 +13,7 @@ use br_model::numbers::{Port, Vid};
 use chip_tables::{PortRow, Tables, VlanRow};
 
 /// A VLAN and its row.
-#[derive(Clone, Copy, Debug)]
+#[derive(Clone, Copy)]
 pub struct Vlan {
     pub vid: Vid,
     pub row: VlanRow,

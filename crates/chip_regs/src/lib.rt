@@ -10,7 +10,7 @@ use std::marker::Model;
 /// A row of bytes. Bit i is bit i % 8, counted from the least, of byte i / 8.
 ///
 /// Contracts see the number that has these bits.
-#[derive(Clone, Copy, Debug)]
+#[derive(Clone, Copy)]
 pub struct Row<const BYTES: usize> {
     bytes: [u8; BYTES],
 }
@@ -32,7 +32,7 @@ impl<const BYTES: usize> Model for Row<BYTES> {
 }
 
 /// Bits of a row: how many from which on. The first is the least.
-#[derive(Clone, Copy, PartialEq, Eq, Debug)]
+#[derive(Clone, Copy)]
 pub struct Field {
     pub at: u16,
     pub width: u8,

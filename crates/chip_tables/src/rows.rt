@@ -9,7 +9,7 @@ use chip_regs::{Field, Row};
 use port_sets::Ports;
 
 /// The members of a VLAN, foreign ports and the host among them.
-#[derive(Clone, Copy, Debug)]
+#[derive(Clone, Copy)]
 pub struct VlanRow {
     pub members: Ports,
     pub untagged: Ports,
@@ -17,7 +17,7 @@ pub struct VlanRow {
 
 /// Where a flood, or a frame to a group, goes: the chip's own ports, and whether an eligible target elsewhere exists for an
 /// isolated and for a plain ingress port.
-#[derive(Clone, Copy, Debug)]
+#[derive(Clone, Copy)]
 pub struct FanRow {
     pub ports: Ports,
     pub isolated: bool,
@@ -25,7 +25,7 @@ pub struct FanRow {
 }
 
 /// The floods of a VLAN.
-#[derive(Clone, Copy, PartialEq, Eq, Debug)]
+#[derive(Clone, Copy)]
 pub enum Flood {
     Unicast,
     Mcast,
@@ -33,7 +33,7 @@ pub enum Flood {
 }
 
 /// What the chip knows of a port, also of one that isn't its own. The state is one of Linux's numbers, from 0 to 4.
-#[derive(Clone, Copy, Debug)]
+#[derive(Clone, Copy)]
 pub struct PortRow {
     pub up: bool,
     pub state: u8,
@@ -43,7 +43,7 @@ pub struct PortRow {
 }
 
 /// Where an address is. It is pinned where it is local or static.
-#[derive(Clone, Copy, PartialEq, Eq, Debug)]
+#[derive(Clone, Copy)]
 pub struct AddressRow {
     pub port: Port,
     pub kind: Kind,
@@ -51,7 +51,7 @@ pub struct AddressRow {
 }
 
 /// Whether snooping and the spanning tree are on, and whether a querier of version 4 and one of version 6 is known.
-#[derive(Clone, Copy, PartialEq, Eq, Debug)]
+#[derive(Clone, Copy)]
 pub struct Control {
     pub snooping: bool,
     pub tree: bool,

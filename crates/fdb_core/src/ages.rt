@@ -17,7 +17,7 @@ use std::collections::VecDeque;
 use std::marker::Model;
 
 /// A moment in milliseconds, and the number of the key that was seen then.
-#[derive(Clone, Copy, Debug)]
+#[derive(Clone, Copy)]
 pub struct Place {
     moment: u64,
     key: u64,
@@ -66,7 +66,7 @@ impl Place {
 }
 
 /// The places of learned entries. Contracts see its fields.
-#[derive(Drop, Debug)]
+#[derive(Drop)]
 pub struct Ages {
     places: VecDeque<Place>,
     // No place is later.

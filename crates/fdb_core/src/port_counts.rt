@@ -7,7 +7,7 @@ use crate::entries::Entry;
 use br_model::numbers::Port;
 
 /// A number for each port. Contracts see the list.
-#[derive(Drop, Debug)]
+#[derive(Drop)]
 pub struct PortCounts {
     counts: [usize; Port::PLACES],
 }

@@ -21,7 +21,7 @@ use std::alloc::Global;
 use std::marker::Model;
 
 /// The entries by VLAN and address, in cells with open addressing.
-#[derive(Drop, Debug)]
+#[derive(Drop)]
 pub struct Fdb {
     entries: Columned<Entry>,
     // How many of them each port has.

@@ -15,7 +15,7 @@ use port_sets::Ports;
 use std::marker::Model;
 
 /// The flags of each port that has some, seen as the list of pairs of a port and its flags, ascending by port.
-#[derive(Drop, Debug)]
+#[derive(Drop)]
 pub struct FlagTable {
     by_port: [Option<Flags>; Port::PLACES],
     // The ports that have each of the flags that decisions ask for.

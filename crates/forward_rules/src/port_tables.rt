@@ -35,7 +35,7 @@ use std::marker::Model;
 use vlan_groups::{Vids, VlanTable};
 
 /// Ports, VLANs and groups: the table that a list of changes comes to, but for the addresses, of which it has none.
-#[derive(Drop, Debug)]
+#[derive(Drop)]
 pub struct PortTables {
     up: Ports,
     flags: FlagTable,

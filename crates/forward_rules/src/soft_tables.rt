@@ -42,7 +42,7 @@ pub struct Verdict {
 }
 
 /// The table that a list of changes comes to.
-#[derive(Drop, Debug)]
+#[derive(Drop)]
 pub struct SoftTables {
     ports: PortTables,
     // Entries have no moments here.

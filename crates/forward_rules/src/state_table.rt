@@ -16,7 +16,7 @@ use std::marker::Model;
 const LEARNING: u8 = 2;
 
 /// The state of each port that has one, seen as the list of pairs of a port and its state, ascending by port.
-#[derive(Drop, Debug)]
+#[derive(Drop)]
 pub struct StateTable {
     by_port: [Option<u8>; Port::PLACES],
     // The ports in the states that decisions ask for.

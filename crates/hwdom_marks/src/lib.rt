@@ -13,7 +13,7 @@ use br_model::numbers::Dom;
 use port_sets::Ports;
 
 /// The mark of a frame that its chip has forwarded to the ports of the domain.
-#[derive(Clone, Copy, PartialEq, Eq, Debug)]
+#[derive(Clone, Copy, PartialEq, Eq)]
 pub struct Mark {
     pub dom: Dom,
 }

@@ -8,7 +8,7 @@ use std::alloc::{AllocError, Global};
 use std::marker::Model;
 
 /// A list that owns its items, in the order in which they were pushed.
-#[derive(Drop, Debug)]
+#[derive(Drop)]
 pub struct Items<T> {
     items: Vec<T>,
 }

@@ -5,7 +5,7 @@ use std::alloc::AllocError;
 use std::sync::atomic::{AtomicBool, Ordering};
 
 /// Why a worker doesn't go on.
-#[derive(Clone, Copy, PartialEq, Eq, Debug)]
+#[derive(Clone, Copy)]
 pub(crate) enum Stop {
     NoMemory,
     /// A frame can't be posted: no lookup got a reading, or the plane doesn't know the frame or the decision.

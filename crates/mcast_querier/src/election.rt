@@ -18,7 +18,7 @@ const OTHER_QUERIER_PRESENT_INTERVAL: u64 = 255_000;
 
 /// The host's own address, when its next query is due, how many startup queries are left, and until when another querier is
 /// present, where one is. Moments are in milliseconds.
-#[derive(Clone, Copy, Debug)]
+#[derive(Clone, Copy)]
 pub(crate) struct Election {
     pub(crate) address: u128,
     due: u64,

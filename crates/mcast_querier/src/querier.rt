@@ -20,7 +20,7 @@ use std::marker::Model;
 pub type Queries = Items<Bytes>;
 
 /// A querier on the host, which asks in both IP versions where nobody with a lower address does.
-#[derive(Drop, Debug)]
+#[derive(Drop)]
 pub struct Querier {
     own: Mac,
     four: Election,

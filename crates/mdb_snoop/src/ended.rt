@@ -8,7 +8,7 @@ use std::alloc::Global;
 use std::marker::Model;
 
 /// Groups in VLANs, ascending by VLAN and group, version 4 first.
-#[derive(Drop, Debug)]
+#[derive(Drop)]
 pub struct Pairs {
     pairs: Vec<(Vid, Group)>,
 }
@@ -37,7 +37,7 @@ impl Pairs {
 }
 
 /// Memberships, ascending by VLAN, group and port.
-#[derive(Drop, Debug)]
+#[derive(Drop)]
 pub struct Memberships {
     members: Vec<(Vid, Group, Port)>,
 }
@@ -66,7 +66,7 @@ impl Memberships {
 }
 
 /// What ends at a moment or before it: memberships, router ports, and the queriers of IP versions 4 and 6.
-#[derive(Drop, Debug)]
+#[derive(Drop)]
 pub struct Ended {
     pub groups: Memberships,
     pub routers: Ports,

@@ -29,7 +29,7 @@ pub trait Ends: Drop {
 }
 
 /// Nothing: no member ends.
-#[derive(Drop, Debug)]
+#[derive(Drop)]
 pub struct NoEnds;
 
 impl Ends for NoEnds {

@@ -21,7 +21,7 @@ use std::alloc::Global;
 use std::marker::Model;
 
 /// The members of groups in VLANs, without ends. Contracts see the ascending list of the memberships.
-#[derive(Drop, Debug)]
+#[derive(Drop)]
 pub struct Groups {
     sections: Vec<Section<NoEnds>>,
     // Of how many of them each port is a member.

@@ -24,7 +24,7 @@ use std::alloc::Global;
 use std::marker::Model;
 
 /// Members of groups, router ports and queriers, with their ends in milliseconds.
-#[derive(Drop, Debug)]
+#[derive(Drop)]
 pub struct Mdb {
     sections: Vec<Section<Moments>>,
     routers: Moments,

@@ -14,7 +14,7 @@ use port_sets::Ports;
 use std::marker::Model;
 
 /// The ports, and the ends of those that end.
-#[derive(Drop, Debug)]
+#[derive(Drop)]
 pub struct Members<E: Ends> {
     ports: Ports,
     ends: E,

@@ -14,7 +14,7 @@ use port_sets::Ports;
 use std::marker::Model;
 
 /// A finite map from ports to moments in milliseconds.
-#[derive(Drop, Debug)]
+#[derive(Drop)]
 pub struct Moments {
     ports: Ports,
     moments: [u64; Port::PLACES],

@@ -7,7 +7,7 @@ ghost use Rattle.mdb_snoop.specs.Counts.{AreCounts};
 use br_model::numbers::Port;
 
 /// A number for each port. Contracts see the list.
-#[derive(Drop, Debug)]
+#[derive(Drop)]
 pub struct PortCounts {
     counts: [u16; Port::PLACES],
 }

@@ -13,7 +13,7 @@ use br_model::numbers::{Mac, Port, Vid};
 pub type Key = (Vid, Mac);
 
 /// Where an address is, how it came to be there, and whether a chip has it.
-#[derive(Clone, Copy, PartialEq, Eq, Debug)]
+#[derive(Clone, Copy)]
 pub struct Entry {
     pub port: Port,
     pub kind: Kind,

@@ -19,7 +19,7 @@ use hex::decode_to_slice;
 const DIGITS: usize = 2 * LENGTH;
 
 /// Why a line is bad, by the first test that it fails, in this order.
-#[derive(Clone, Copy, PartialEq, Eq, Debug)]
+#[derive(Clone, Copy, PartialEq, Eq)]
 pub enum LineFault {
     /// It has more than 20,000 bytes without a line feed, whether one follows or not.
     Long,
@@ -38,7 +38,7 @@ pub enum LineFault {
 }
 
 /// What a line says.
-#[derive(Clone, Copy, PartialEq, Eq, Debug)]
+#[derive(Clone, Copy)]
 pub enum Said {
     /// Nothing: it has no words, or is a comment.
     Blank,

@@ -11,7 +11,7 @@ use open_addressing::map::Columned;
 use std::alloc::Global;
 
 /// Of an entry: the ticket of its last change, its port and its kind.
-#[derive(Clone, Copy, PartialEq, Eq, Debug)]
+#[derive(Clone, Copy)]
 pub struct Last {
     pub ticket: u32,
     pub port: Port,

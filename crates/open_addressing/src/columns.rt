@@ -15,7 +15,7 @@ use std::marker::Model;
 /// A column of keys, 0 where there is none, and a column of values. Each cell with a key has a mark.
 ///
 /// Contracts see the cells.
-#[derive(Drop, Debug)]
+#[derive(Drop)]
 pub struct Columns<V> {
     keys: Vec<u64>,
     values: Vec<V>,

@@ -31,7 +31,7 @@ pub trait Measure<V> {
 /// Values by keys, with room from its making.
 ///
 /// Contracts see the list of the entries, ascending by the numbers of their keys.
-#[derive(Drop, Debug)]
+#[derive(Drop)]
 pub struct Map<K, V, C: Cells<K, V>> {
     cells: C,
     bits: u32,

@@ -5,7 +5,7 @@ ghost use Rattle.open_addressing.specs.MarkedCells.{is_marked, NoneMarked};
 use std::alloc::{AllocError, Global};
 
 /// The marks of cells. Contracts see their words.
-#[derive(Drop, Debug)]
+#[derive(Drop)]
 pub struct Marks {
     words: Vec<u64>,
 }

@@ -27,7 +27,7 @@ use std::alloc::AllocError;
 use transcript_lines::Lines;
 
 /// By which ports a frame leaves: those of its VLAN, and those of them that it leaves without a tag.
-#[derive(Clone, Copy, Debug)]
+#[derive(Clone, Copy)]
 pub struct Egress {
     pub vid: Option<Vid>,
     pub ports: Ports,

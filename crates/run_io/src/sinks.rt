@@ -14,7 +14,7 @@ use std::marker::Model;
 use thiserror::Error;
 
 /// Not all of a piece was taken.
-#[derive(Clone, Copy, Debug, PartialEq, Eq, Error)]
+#[derive(Clone, Copy, Debug, Error)]
 #[error("write fault")]
 pub struct WriteFault;
 

@@ -45,7 +45,7 @@ pub const MOST_FRAME_BYTES: usize = 83;
 pub const END_BYTES: usize = 4;
 
 /// The frames of a generated scenario that are left.
-#[derive(Drop, Debug)]
+#[derive(Drop)]
 pub struct Generator {
     x: u64,
     i: u32,

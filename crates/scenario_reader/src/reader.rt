@@ -17,7 +17,7 @@ use std::alloc::{AllocError, Global};
 use std::marker::Model;
 
 /// How a scenario ends: by its line `end`, or by the bad line of that number, for that cause.
-#[derive(Clone, Copy, PartialEq, Eq)]
+#[derive(Clone, Copy)]
 pub enum Last {
     Ended,
     Bad(u32, LineWhy),

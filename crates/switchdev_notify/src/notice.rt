@@ -8,7 +8,7 @@ use br_model::group::Group;
 use br_model::numbers::{Port, Vid};
 
 /// An object of a port: the kernel's `struct switchdev_obj`.
-#[derive(Clone, Copy, Debug)]
+#[derive(Clone, Copy)]
 pub enum Object {
     /// `SWITCHDEV_OBJ_ID_PORT_VLAN`, with the flags `BRIDGE_VLAN_INFO_UNTAGGED` and `BRIDGE_VLAN_INFO_PVID`. Where the object
     /// goes, both are false.
@@ -28,7 +28,7 @@ pub enum Object {
 }
 
 /// An attribute of a port or of the bridge: the kernel's `struct switchdev_attr`.
-#[derive(Clone, Copy, Debug)]
+#[derive(Clone, Copy)]
 pub enum Attribute {
     /// In the kernel no attribute, but `NETDEV_UP`.
     PortUp(Port),
@@ -49,7 +49,7 @@ pub enum Attribute {
 }
 
 /// What is told of one change.
-#[derive(Clone, Copy, Debug)]
+#[derive(Clone, Copy)]
 pub enum Notice {
     /// `SWITCHDEV_PORT_OBJ_ADD`, which `switchdev_port_obj_add` sends.
     ObjAdd(Object),

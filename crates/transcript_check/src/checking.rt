@@ -22,7 +22,7 @@ use scenario_reader::{Last, Whole, read_scenario};
 use std::alloc::{AllocError, Global};
 
 /// What a check finds.
-#[derive(Drop, Debug)]
+#[derive(Drop)]
 pub enum Answer {
     /// Each line is as it is told.
     Yes,
@@ -35,7 +35,7 @@ pub enum Answer {
 }
 
 /// Why nothing is found.
-#[derive(Clone, Copy, Debug, PartialEq, Eq)]
+#[derive(Clone, Copy, PartialEq, Eq)]
 pub enum CheckFault {
     /// This line of the scenario is bad, for this cause.
     BadLine { line: u32, why: LineWhy },

@@ -11,7 +11,7 @@ use std::alloc::Global;
 use std::marker::Model;
 
 /// The first line that differs, as it should be and as it is; nothing where that text has ended.
-#[derive(Drop, Debug)]
+#[derive(Drop)]
 pub(crate) struct Difference {
     pub(crate) line: u32,
     pub(crate) expected: Bytes,

@@ -7,7 +7,7 @@ use br_model::transcript::Line;
 use port_sets::Ports;
 
 /// So many bytes of the arena, from a place on.
-#[derive(Clone, Copy, Debug)]
+#[derive(Clone, Copy)]
 pub struct Span {
     pub from: usize,
     pub len: usize,

@@ -16,7 +16,7 @@ pub type VlanBlock = PortSet<1>;
 const BLOCKS: usize = 64 * Port::PLACES;
 
 /// The VLANs of each port in blocks: block i of a port has the number n for VLAN 64 i + n.
-#[derive(Drop, Debug)]
+#[derive(Drop)]
 pub struct Joined {
     blocks: Vec<VlanBlock>,
     // Of each port the numbers of its blocks that aren't empty.

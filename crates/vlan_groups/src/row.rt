@@ -8,7 +8,7 @@ use port_sets::Ports;
 
 /// The members of a VLAN, and which of them its frames leave untagged. Whether a port that isn't a member stands among the
 /// latter means nothing.
-#[derive(Clone, Copy, Debug)]
+#[derive(Clone, Copy)]
 pub struct Row {
     members: Ports,
     untagged: Ports,

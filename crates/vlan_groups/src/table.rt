@@ -19,19 +19,19 @@ use std::marker::Model;
 use thiserror::Error;
 
 /// The port is a member of the VLAN already.
-#[derive(Clone, Copy, PartialEq, Eq, Debug, Error)]
+#[derive(Clone, Copy, Debug, Error)]
 #[error("the port is a member of the VLAN already")]
 pub struct Exists;
 
 /// The port isn't a member of the VLAN.
-#[derive(Clone, Copy, PartialEq, Eq, Debug, Error)]
+#[derive(Clone, Copy, Debug, Error)]
 #[error("the port isn't a member of the VLAN")]
 pub struct Absent;
 
 const VLANS: usize = 4094;
 
 /// The members of each VLAN, and the VLAN of each port's untagged frames.
-#[derive(Drop, Debug)]
+#[derive(Drop)]
 pub struct VlanTable {
     // The row of VLAN v at place v - 1.
     rows: Vec<Row>,

@@ -5,7 +5,7 @@ use br_model::numbers::Vid;
 use std::marker::Model;
 
 /// A list of VLANs, ascending.
-#[derive(Drop, Debug)]
+#[derive(Drop)]
 pub struct Vids {
     vids: Vec<Vid>,
 }
