@@ -4,3 +4,4 @@ pub mod Turning
 pub mod Worlds
 pub mod Entering
 pub mod Searching
+pub mod Making
