@@ -3,3 +3,5 @@ pub mod Lines
 pub mod Messages
 pub mod RowTexts
 pub mod TakenRuns
+pub mod FineChanges
+pub mod WholeRuns

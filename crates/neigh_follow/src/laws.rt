@@ -4,6 +4,9 @@ ghost use Rattle.std.specs.List.{list_all};
 ghost use Rattle.br_model.specs.declared.steps.Step.{Step};
 ghost use Rattle.br_model.specs.Plane.Runs.{run};
 ghost use Rattle.br_model.specs.Table.Setup.{Setup};
+ghost use Rattle.br_model.specs.Text.Declarations.{are_declared};
+ghost use Rattle.br_model.specs.Text.Roster.{Entry};
+ghost use Rattle.br_model.specs.Text.ScenarioText.{has_line};
 ghost use Rattle.neigh_netlink.specs.declared.neigh.Neigh.{Neigh};
 ghost use Rattle.neigh_netlink.specs.Follow.{Ended, follows};
 ghost use Rattle.neigh_netlink.specs.Monitor.{messages};
@@ -22,6 +25,16 @@ pub fn messages_are_followed()
 pub fn runs_are_taken()
     ensures taken { (setup : Setup) (steps : List Step) → are_taken [] (messages setup steps) ≡ true }
     ensures followed { (setup : Setup) (steps : List Step) → list_all is_whole (messages setup steps) ≡ true
+        → follows (text_of (messages setup steps))
+        ≡ record { lines = length (messages setup steps) + 1; table = entries_of (run setup steps).0; ending = Ended } }
+{}
+
+/// Where each step of a run is one that a line can give, each message can be written, and is read back; so the lines of all are followed
+/// to the end.
+pub fn runs_are_followed()
+    ensures whole { (ports : List Entry) (setup : Setup) (steps : List Step) → are_declared ports ≡ true → list_all (has_line ports) steps ≡ true
+        → list_all is_whole (messages setup steps) ≡ true }
+    ensures followed { (ports : List Entry) (setup : Setup) (steps : List Step) → are_declared ports ≡ true → list_all (has_line ports) steps ≡ true
         → follows (text_of (messages setup steps))
         ≡ record { lines = length (messages setup steps) + 1; table = entries_of (run setup steps).0; ending = Ended } }
 {}
