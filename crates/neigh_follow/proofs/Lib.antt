@@ -5,3 +5,4 @@ pub mod RowTexts
 pub mod TakenRuns
 pub mod FineChanges
 pub mod WholeRuns
+pub mod FewMessages

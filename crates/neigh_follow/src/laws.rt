@@ -1,8 +1,9 @@
 //! Laws about lines of messages. A law is a function that does nothing: its contract says it.
-ghost use Rattle.std.specs.Prelude.{◌≡◌, ◌+◌, [], List, true, length};
+ghost use Rattle.std.specs.Prelude.{◌≡◌, ◌<◌, ◌+◌, [], List, true, length};
 ghost use Rattle.std.specs.List.{list_all};
 ghost use Rattle.br_model.specs.declared.steps.Step.{Step};
 ghost use Rattle.br_model.specs.Plane.Runs.{run};
+ghost use Rattle.br_model.specs.Table.Limits.{most_bytes};
 ghost use Rattle.br_model.specs.Table.Setup.{Setup};
 ghost use Rattle.br_model.specs.Text.Declarations.{are_declared};
 ghost use Rattle.br_model.specs.Text.Roster.{Entry};
@@ -37,4 +38,9 @@ pub fn runs_are_followed()
     ensures followed { (ports : List Entry) (setup : Setup) (steps : List Step) → are_declared ports ≡ true → list_all (has_line ports) steps ≡ true
         → follows (text_of (messages setup steps))
         ≡ record { lines = length (messages setup steps) + 1; table = entries_of (run setup steps).0; ending = Ended } }
+{}
+
+/// The lines of the messages of any run, with the line `end`, are fewer bytes than `follow` reads.
+pub fn run_lines_fit()
+    ensures { (setup : Setup) (steps : List Step) → length (text_of (messages setup steps)) < most_bytes }
 {}
