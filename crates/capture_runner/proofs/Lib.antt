@@ -2,3 +2,4 @@ pub mod EndedStays
 pub mod Followed
 pub mod Living
 pub mod Outcomes
+pub mod MonitorFollowed

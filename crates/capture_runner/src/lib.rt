@@ -3,6 +3,7 @@
 #![tactic(auto)]
 
 mod follow;
+pub mod laws;
 mod live;
 mod runner;
 

@@ -115,7 +115,7 @@ no-feed n h = grind arith
 no-space : (n : ℕ) → n < 16 → is_no_space (hex_digit n) ≡ true
 no-space n h = grind arith
 
-hex-length : (bytes : List ℕ) → length (hex_of bytes) ≡ 2 * length bytes
+pub hex-length : (bytes : List ℕ) → length (hex_of bytes) ≡ 2 * length bytes
 hex-length [] = refl
 hex-length (b ∷ bytes) = omega (arith, hex-length bytes)
 
@@ -143,7 +143,7 @@ module _ (m : Neigh) where
   unfolding written
   some-digits = refl
 
-  few-bytes : length (written m) ≡ 48
+  pub few-bytes : length (written m) ≡ 48
   unfolding written
   few-bytes = refl
 

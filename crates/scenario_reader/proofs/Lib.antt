@@ -4,3 +4,4 @@ pub mod Cutting
 pub mod Passing
 pub mod SectionLines
 pub mod ScenarioLines
+pub mod ScenarioPorts
