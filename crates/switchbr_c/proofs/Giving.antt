@@ -26,7 +26,8 @@ gave_badly text size most old new len within g = record {
 }
 
 -- or none
-pub found_no_room : (well : Bool) (text : List ℕ) (size most : ℕ) (old new : List ℕ) (len : ℕ) → size ≤ most → len ≡ length text → length old < len → new ≡ old → Tells well text size most old new len 16
+pub found_no_room : (well : Bool) (text : List ℕ) (size most : ℕ) (old new : List ℕ) (len : ℕ) → size ≤ most → len ≡ length text → length old < len → new ≡ old
+    → Tells well text size most old new len 16
 found_no_room well text size most old new len within is short same = record {
   ok = λ e. absurd (omega (arith, e));
   bad_line = λ e. absurd (omega (arith, e));

@@ -1,5 +1,5 @@
 -- What is told as a scenario goes on: by lines without a step, and by steps.
-use Rattle.std.proofs.Common.{◌≡◌, ℕ, ◌+◌, true, List, [], ◌∷◌, ◌++◌, length, map, Option, None, Some, refl, sym, ◌∙◌, ap, subst, arith, codes, append_assoc, string_bytes}
+use Rattle.std.proofs.Common.{◌≡◌, ℕ, ◌+◌, true, List, [], ◌∷◌, ◌++◌, length, map, Option, None, Some, Result, Ok, Err, OnOk, refl, sym, ◌∙◌, ap, subst, arith, codes, append_assoc, string_bytes}
 use Rattle.std.specs.Prelude.{IfSome}
 use Rattle.std.specs.List.{list_all, sum_by}
 use Rattle.std.proofs.lemmas.List.{append-nil}
@@ -20,6 +20,8 @@ use Rattle.br_model.specs.Text.Roster.{Roster, chips_of, first_roster}
 use Rattle.br_model.specs.Text.Scenario.{Scenario, Ending, Going, opened, scenario}
 use Rattle.br_model.specs.Text.Transcript.{line_text, text}
 use Rattle.br_model.specs.Theorems.Invariants.{IsWorld}
+use Rattle.plane_parts.specs.Added.{Added}
+use Rattle.check_world.specs.Worlds.{Tells}
 use Rattle.br_model.proofs.PlaneApplied.{step-setup}
 use Rattle.br_model.proofs.PlaneKept.{step-world}
 use Rattle.br_model.proofs.Running.{run_none, run_push, text-append}
@@ -63,7 +65,8 @@ stands_by r None h = tt
 stands_by r (Some w) h = h.0
 
 -- before the first line
-pub begins : (x : Telling) → x.reader ≡ record { lines = 0; roster = first_roster false } → x.world ≡ None → string_bytes x.text ≡ codes "transcript 1" ++ 10 ∷ [] → Stands (opened false) x
+pub begins : (x : Telling) → x.reader ≡ record { lines = 0; roster = first_roster false } → x.world ≡ None → string_bytes x.text ≡ codes "transcript 1" ++ 10 ∷ []
+    → Stands (opened false) x
 begins x reader world all = record {
   follows = subst (λ (r : ReaderState). Follows (opened false) r) (sym reader) (record { lines = refl; roster = refl; going = refl });
   so = subst (λ (w : Option World). IsTold (opened false) w (string_bytes x.text)) (sym world) (record { ran = refl; ready = tt; body = all ∙ sym (no_steps (opened false) refl) });
@@ -73,7 +76,8 @@ begins x reader world all = record {
 abbrev pub among : Scenario → Scenario
 among s = record { lines = s.lines + 1; roster = record s.roster { place = places.Steps }; steps = s.steps; ending = Going }
 
-pub among_stands : (s : Scenario) (x : Telling) → x.reader.lines ≡ s.lines + 1 → x.reader.roster ≡ record s.roster { place = places.Steps } → IsTold s x.world (string_bytes x.text) → Stands (among s) x
+pub among_stands : (s : Scenario) (x : Telling) → x.reader.lines ≡ s.lines + 1 → x.reader.roster ≡ record s.roster { place = places.Steps } → IsTold s x.world (string_bytes x.text)
+    → Stands (among s) x
 among_stands s x lines roster h = record {
   follows = record { lines = lines; roster = roster; going = refl };
   so = moved s (among s) x.world (string_bytes x.text) refl (λ b. ((refl, refl), (refl, refl))) h;
@@ -100,6 +104,18 @@ ready_after r w v step lines is h = (
   subst (λ (x : Stepped). IsWorld x.0) is (step-world w step h.0),
   ap (λ (s : Setup). chip_domains s.domains) (sym (ap (λ (x : Stepped). x.0.setup) is) ∙ step-setup w step) ∙ h.1,
 )
+
+pub ready_told : {A E : Type 0} (r : Result A E) (roster : Roster) (w v : World) (step : Step) (before after : List Line) → IsReady roster (Some w)
+    → OnOk r (Added (Tells w step v) before after) → OnOk r (IsReady roster (Some v))
+ready_told (Ok x) roster w v step before after h told = ready_after roster w v step told.lines told.so h
+ready_told (Err e) roster w v step before after h told = told
+
+pub after_told : {A E : Type 0} (r : Result A E) (roster : Roster) (o : Option World) (w v : World) (step : Step) (before after : List Line) → o ≡ Some w → before ≡ []
+    → OnOk r (Added (Tells w step v) before after) → OnOk r ((Some v ≡ Some (world_step (world_of roster o) step).0) × (after ≡ (world_step (world_of roster o) step).1))
+after_told (Ok x) roster o w v step before after is none told =
+    let so : (v, told.lines) ≡ world_step (world_of roster o) step = sym told.so ∙ ap (λ (u : World). world_step u step) (sym (ap (λ (a : Option World). world_of roster a) is)) in
+    (ap (λ (y : Stepped). Some y.0) so, told.added ∙ ap (λ (l : List Line). l ++ told.lines) none ∙ ap (λ (y : Stepped). y.1) so)
+after_told (Err e) roster o w v step before after is none told = told
 
 world_before : (s : Scenario) (w : Option World) → HasRun s w → world_of s.roster w ≡ (run_of s).0
 world_before s None h = sym (ap (λ (x : Stepped). x.0) (ap (run (setup_of s.roster)) h ∙ run_none (setup_of s.roster)))

@@ -3,8 +3,8 @@ use Rattle.scenario_reader.proofs.Passing.{if_ok}
 use Rattle.whole_texts.proofs.Lines.{goes_by_step, goes_quietly, line_ends, line_too_long, section_short, step_given, step_ready, to_section, took}
 use Rattle.whole_texts.proofs.telling.Telling.line.Goals as goal
 
-pub returns-then-line-gt-LONGEST_LINE-clause-goes : goal.returns-then-line-gt-LONGEST_LINE-clause-goes
-returns-then-line-gt-LONGEST_LINE-clause-goes c = λ s h. line_too_long s _ h c.args.front.line.now _ _ c.requires.feedless (omega (arith, c.if-line-gt-LONGEST_LINE.true)) c.bad.ensures
+pub returns-then-front-gt-LONGEST_LINE-clause-goes : goal.returns-then-front-gt-LONGEST_LINE-clause-goes
+returns-then-front-gt-LONGEST_LINE-clause-goes c = λ s h. line_too_long s _ h c.args.front.line.now _ _ c.requires.feedless (omega (arith, c.if-front-gt-LONGEST_LINE.true)) c.bad.ensures
 
 pub step-requires-clause-ready : goal.step-requires-clause-ready
 step-requires-clause-ready c =

@@ -20,10 +20,10 @@ loop-front-preserved c =
     let line = c.in-Some.front.line.now in
     let behind = c.in-Some.front.behind.now in
     let on = c.loop-front.invariant.goes in
-    let left = subst (λ (w : Went). IsLeft behind w) c.in-On.is c.in_ok-line.ensures.left in record {
-      few = omega (arith, c.loop-front.invariant.few, c.in_ok-line.ensures.lines, left, ap length front.joined, length-append line (10 ∷ behind));
+    let left = subst (λ (w : Went). IsLeft behind w) c.in-On.is c.in_ok-behind.ensures.left in record {
+      few = omega (arith, c.loop-front.invariant.few, c.in_ok-behind.ensures.lines, left, ap length front.joined, length-append line (10 ∷ behind));
       goes = line_on (opened false) c.args.bytes.now c.loop-front.rest.now line behind c.loop-front.self c.line.new.self c.in-On.behind.now on front.joined
-          (subst (λ (w : Went). Goes on.scenario (line ++ 10 ∷ behind) c.line.new.self w) c.in-On.is (c.in_ok-line.ensures.goes on.scenario on.stands));
+          (subst (λ (w : Went). Goes on.scenario (line ++ 10 ∷ behind) c.line.new.self w) c.in-On.is (c.in_ok-behind.ensures.goes on.scenario on.stands));
     }
 
 pub returns-in-Ends : goal.returns-in-Ends
@@ -34,7 +34,7 @@ returns-in-Ends c =
     let on = c.loop-front.invariant.goes in
     whole_over c.args.bytes.now c.loop-front.rest.now c.loop-front.self _ _ c.in-Ends.last on
     (subst (λ (b : List ℕ). IsOver (closing (read 0 on.scenario b)) _ _ c.in-Ends.last) (sym front.joined)
-    (subst (λ (w : Went). Goes on.scenario (line ++ 10 ∷ behind) c.line.new.self w) c.in-Ends.is (c.in_ok-line.ensures.goes on.scenario on.stands)))
+    (subst (λ (w : Went). Goes on.scenario (line ++ 10 ∷ behind) c.line.new.self w) c.in-Ends.is (c.in_ok-behind.ensures.goes on.scenario on.stands)))
 
 pub returns : goal.returns
 returns c =
