@@ -1,3 +1,3 @@
-pub mod Telling
+pub mod Steps
 pub mod Lines
 pub mod Messages

@@ -27,7 +27,7 @@ use Rattle.scenario_reader.specs.declared.reader.Next.TheVariants as nexts
 use Rattle.scenario_reader.specs.Reading.{EndsBy, IsCaptured, KeepsSetup, ReaderState, Takes, Took, ending_of}
 use Rattle.whole_texts.specs.declared.telling.Telling.{Telling}
 use Rattle.whole_texts.specs.Telling.{AtSection, Does, DoesAll, Goes, GoesOn, IsOver, IsReady, IsTold, Stands, closing, with_steps}
-use Rattle.whole_texts.proofs.Telling.{among, among_stands, does_one, given, kept, moved, ready_at}
+use Rattle.whole_texts.proofs.Steps.{among, among_stands, does_one, given, kept, moved, ready_at}
 
 -- how it ends
 
@@ -85,10 +85,10 @@ module _ (s : Scenario) (line behind : List ℕ) (going : s.ending ≡ Going) (f
         so = moved s t w all (append-nil s.steps) (kept s.roster) h;
       })
 
-  module _ (x : Telling) (h : IsTold s x.world (string_bytes x.text)) where
-    pub line_ends : (last : Last) → Took s line x.reader (nexts.End last) → IsOver (closing (read 0 s (line ++ 10 ∷ behind))) x.world (string_bytes x.text) last
-    line_ends last t = ends_by x.world (string_bytes x.text) (whole_says s.roster line) last h refl t.0
+  pub line_ends : (y : ReaderState) (w : Option World) (all : List ℕ) (last : Last) → IsTold s w all → Took s line y (nexts.End last) → IsOver (closing (read 0 s (line ++ 10 ∷ behind))) w all last
+  line_ends y w all last h t = ends_by w all (whole_says s.roster line) last h refl t.0
 
+  module _ (x : Telling) (h : IsTold s x.world (string_bytes x.text)) where
     -- after which nothing is to be done
     pub goes_quietly : Took s line x.reader nexts.Line → GoesOn s (line ++ 10 ∷ behind) x behind
     goes_quietly t =
@@ -99,23 +99,23 @@ module _ (s : Scenario) (line behind : List ℕ) (going : s.ending ≡ Going) (f
         }
 
     -- with its step
-    module _ (step : Step) (t : Took s line x.reader (nexts.Step step)) where
-      pub step_ready : IsReady x.reader.roster x.world
-      step_ready = ready_at s.roster x.reader.roster x.world (ap (λ (r : Roster). r.ports) t.1.roster) h.ready
-
-      pub step_given : comes_by_line true (chips_of x.reader.roster.ports) step ≡ true
-      step_given = ap (λ (r : Roster). comes_by_line true (chips_of r.ports) step) t.1.roster ∙ given s.roster.check (chips_of s.roster.ports) step t.2
-
-      pub goes_by_step : (y : Telling) → Does x step y → GoesOn s (line ++ 10 ∷ behind) y behind
-      goes_by_step y d = record {
-        scenario = with_steps (among s) (step ∷ []);
-        reads = read_line s (said.Does step) line [] behind going feed t.0 refl;
-        stands = does_one (among s) x y step (refl, refl) (among_stands s x t.1.lines t.1.roster h) d;
-      }
+    pub goes_by_step : (step : Step) (y : Telling) → Took s line x.reader (nexts.Step step) → Does x step y → GoesOn s (line ++ 10 ∷ behind) y behind
+    goes_by_step step y t d = record {
+      scenario = with_steps (among s) (step ∷ []);
+      reads = read_line s (said.Does step) line [] behind going feed t.0 refl;
+      stands = does_one (among s) x y step (refl, refl) (among_stands s x t.1.lines t.1.roster h) d;
+    }
 
     -- whose section is next
     pub to_section : (n : ℕ) → Took s line x.reader (nexts.Section n) → AtSection s line n x
     to_section n t = record { feedless = feed; says = t.0; going = going; follows = t.2; so = h }
+
+-- before its step
+pub step_ready : (s : Scenario) (line : List ℕ) (y : ReaderState) (w : Option World) (step : Step) → IsReady s.roster w → Took s line y (nexts.Step step) → IsReady y.roster w
+step_ready s line y w step h t = ready_at s.roster y.roster w (ap (λ (r : Roster). r.ports) t.1.roster) h
+
+pub step_given : (s : Scenario) (line : List ℕ) (y : ReaderState) (step : Step) → Took s line y (nexts.Step step) → comes_by_line true (chips_of y.roster.ports) step ≡ true
+step_given s line y step t = ap (λ (r : Roster). comes_by_line true (chips_of r.ports) step) t.1.roster ∙ given s.roster.check (chips_of s.roster.ports) step t.2
 
 pub section_short : (s : Scenario) (line : List ℕ) (y : ReaderState) (n : ℕ) → Took s line y (nexts.Section n) → n ≤ longest_section
 section_short s line y n t = t.1

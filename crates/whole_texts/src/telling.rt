@@ -1,5 +1,5 @@
 //! The lines of a scenario are run by the control plane and tables of software alone, and what they tell is written.
-ghost use Rattle.std.specs.Prelude.{◌≡◌, ℕ, ◌+◌, ◌<◌, ◌≤◌, ◌^◌, ◌∷◌, ◌++◌, [], List, None, IfOk, IfSome, OnOk, length, string_bytes, true};
+ghost use Rattle.std.specs.Prelude.{◌≡◌, ℕ, ◌+◌, ◌-◌, ◌<◌, ◌≤◌, ◌^◌, ◌∷◌, ◌++◌, [], List, None, IfOk, IfSome, OnOk, false, length, string_bytes, true};
 ghost use Rattle.std.specs.List.{list_all};
 ghost use Rattle.br_model.specs.Table.Limits.{most_bytes};
 ghost use Rattle.br_model.specs.Text.LineForms.{comes_by_line};

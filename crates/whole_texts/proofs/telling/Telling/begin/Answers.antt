@@ -9,7 +9,7 @@ use Rattle.br_model.specs.Text.Roster.{Roster, chips_of}
 use Rattle.br_model.specs.Theorems.Invariants.{IsWorld}
 use Rattle.br_model.proofs.DeclaredChips.{declared-chips}
 use Rattle.br_model.proofs.PlaneKept.{first-world}
-use Rattle.whole_texts.proofs.Telling.{ready_after}
+use Rattle.whole_texts.proofs.Steps.{ready_after}
 use Rattle.whole_texts.proofs.telling.Telling.begin.Goals as goal
 
 pub step-requires-clause-world : goal.step-requires-clause-world

@@ -7,7 +7,7 @@ use Rattle.br_model.specs.Text.LineForms.{comes_by_line}
 use Rattle.br_model.specs.Text.Roster.{chips_of}
 use Rattle.scenario_reader.specs.Reading.{ReaderState}
 use Rattle.whole_texts.specs.Telling.{DoesAll}
-use Rattle.whole_texts.proofs.Telling.{does_more, does_none, nothing_left}
+use Rattle.whole_texts.proofs.Steps.{does_more, does_none, nothing_left}
 use Rattle.whole_texts.proofs.telling.Telling.do_steps.Goals as goal
 
 pub loop-step-init : goal.loop-step-init

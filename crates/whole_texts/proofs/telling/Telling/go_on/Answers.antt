@@ -1,6 +1,6 @@
 use Rattle.std.proofs.Common.{◌∙◌, true, List, ℕ, ap}
 use Rattle.br_model.specs.Text.LineForms.{comes_by_line}
-use Rattle.whole_texts.proofs.Telling.{after_told, ready_told}
+use Rattle.whole_texts.proofs.Steps.{after_told, ready_told}
 use Rattle.whole_texts.proofs.telling.Telling.go_on.Goals as goal
 
 pub step-requires-clause-world : goal.step-requires-clause-world

@@ -10,13 +10,12 @@ pub step-requires-clause-ready : goal.step-requires-clause-ready
 step-requires-clause-ready c =
     let s = c.requires.stands.0 in
     let h = c.requires.stands.1 in
-    step_ready s c.args.front.line.now c.args.front.behind.now h.follows.going c.requires.feedless _ h.so c.in-Step.step (took s _ h _ _ _ _ c.in_ok-take.ensures.takes c.in-Step.is)
+    step_ready s _ _ _ c.in-Step.step h.so.ready (took s _ h _ _ _ _ c.in_ok-take.ensures.takes c.in-Step.is)
 
 pub step-requires-clause-by_line : goal.step-requires-clause-by_line
 step-requires-clause-by_line c =
     let s = c.requires.stands.0 in
-    let h = c.requires.stands.1 in
-    step_given s c.args.front.line.now c.args.front.behind.now h.follows.going c.requires.feedless _ h.so c.in-Step.step (took s _ h _ _ _ _ c.in_ok-take.ensures.takes c.in-Step.is)
+    step_given s _ _ c.in-Step.step (took s _ c.requires.stands.1 _ _ _ _ c.in_ok-take.ensures.takes c.in-Step.is)
 
 pub section-requires-clause-most : goal.section-requires-clause-most
 section-requires-clause-most c =
@@ -38,7 +37,7 @@ returns-in-Line-clause-goes c = λ s h.
 
 pub returns-in_ok-step-in-Step-clause-goes : goal.returns-in_ok-step-in-Step-clause-goes
 returns-in_ok-step-in-Step-clause-goes c = λ s h.
-    goes_by_step s _ c.args.front.behind.now h.follows.going c.requires.feedless _ h.so c.in-Step.step (took s _ h _ _ _ _ c.in_ok-take.ensures.takes c.in-Step.is) _ c.in_ok-step-in-Step.ensures
+    goes_by_step s _ c.args.front.behind.now h.follows.going c.requires.feedless _ h.so c.in-Step.step _ (took s _ h _ _ _ _ c.in_ok-take.ensures.takes c.in-Step.is) c.in_ok-step-in-Step.ensures
 
 pub returns-in-Section-clause-goes : goal.returns-in-Section-clause-goes
 returns-in-Section-clause-goes c =
@@ -49,4 +48,4 @@ returns-in-Section-clause-goes c =
 
 pub returns-in-End-clause-goes : goal.returns-in-End-clause-goes
 returns-in-End-clause-goes c = λ s h.
-    line_ends s _ c.args.front.behind.now h.follows.going c.requires.feedless _ h.so c.in-End.last (took s _ h _ _ _ _ c.in_ok-take.ensures.takes c.in-End.is)
+    line_ends s _ c.args.front.behind.now h.follows.going c.requires.feedless _ _ _ c.in-End.last h.so (took s _ h _ _ _ _ c.in_ok-take.ensures.takes c.in-End.is)

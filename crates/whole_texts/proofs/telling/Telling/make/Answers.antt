@@ -1,5 +1,5 @@
 use Rattle.std.proofs.Common.{◌∷◌, ◌++◌, [], List, ℕ, ap, ◌∙◌, codes, refl}
-use Rattle.whole_texts.proofs.Telling.{begins}
+use Rattle.whole_texts.proofs.Steps.{begins}
 use Rattle.whole_texts.proofs.telling.Telling.make.Goals as goal
 
 pub returns : goal.returns

@@ -1,4 +1,4 @@
-use Rattle.std.proofs.Common.{◌∷◌, ◌++◌, false, List, ℕ, length, sym, ap, subst, arith, length-append}
+use Rattle.std.proofs.Common.{◌∷◌, ◌++◌, false, List, ℕ, length, sym, ap, subst, arith, length-append, string_bytes}
 use Rattle.br_model.specs.Text.Scenario.{opened, read}
 use Rattle.whole_texts.specs.declared.telling.Went.{Went}
 use Rattle.whole_texts.specs.Telling.{Goes, IsLeft, IsOver, closing}
@@ -32,8 +32,9 @@ returns-in-Ends c =
     let line = c.in-Some.front.line.now in
     let behind = c.in-Some.front.behind.now in
     let on = c.loop-front.invariant.goes in
-    whole_over c.args.bytes.now c.loop-front.rest.now c.loop-front.self _ _ c.in-Ends.last on
-    (subst (λ (b : List ℕ). IsOver (closing (read 0 on.scenario b)) _ _ c.in-Ends.last) (sym front.joined)
+    let new = c.line.new.self in
+    whole_over c.args.bytes.now c.loop-front.rest.now c.loop-front.self new.world (string_bytes new.text) c.in-Ends.last on
+    (subst (λ (b : List ℕ). IsOver (closing (read 0 on.scenario b)) new.world (string_bytes new.text) c.in-Ends.last) (sym front.joined)
     (subst (λ (w : Went). Goes on.scenario (line ++ 10 ∷ behind) c.line.new.self w) c.in-Ends.is (c.in_ok-behind.ensures.goes on.scenario on.stands)))
 
 pub returns : goal.returns
