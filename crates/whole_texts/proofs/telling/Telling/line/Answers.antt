@@ -48,4 +48,4 @@ returns-in-Section-clause-goes c =
 
 pub returns-in-End-clause-goes : goal.returns-in-End-clause-goes
 returns-in-End-clause-goes c = λ s h.
-    line_ends s _ c.args.front.behind.now h.follows.going c.requires.feedless _ _ _ c.in-End.last h.so (took s _ h _ _ _ _ c.in_ok-take.ensures.takes c.in-End.is)
+    line_ends s _ c.args.front.behind.now h.follows.going c.requires.feedless c.take.new.self _ _ c.in-End.last h.so (took s _ h _ _ _ _ c.in_ok-take.ensures.takes c.in-End.is)
