@@ -22,10 +22,15 @@ use whole_texts::{follow, replay};
 
 // The numbers of the program's statuses, and one more.
 const DONE: u8 = 0;
+
 const DIFFERS: u8 = 1;
+
 const BAD_LINE: u8 = 3;
+
 const NO_MEMORY: u8 = 6;
+
 const TOO_LONG: u8 = 7;
+
 const NO_ROOM: u8 = 16;
 
 /// The most frames that are generated.

@@ -3,6 +3,7 @@ use super::{switchbr_abi, switchbr_check, switchbr_follow, switchbr_generate, sw
 use std::process::Abort;
 
 const SCENARIO: &[u8] = b"scenario 1\nport 1 p1 chip 1\ncmd port up p1\nend\n";
+
 const BAD: &[u8] = b"scenario 1\nport 1 p1 soft\nrx 2 00\n";
 
 fn assert_told(rt: &impl Abort, found: (u8, usize), out: &[u8], wanted: (u8, usize), text: &[u8]) {

@@ -26,7 +26,7 @@ use Rattle.scenario_reader.specs.declared.reader.Next.{Next}
 use Rattle.scenario_reader.specs.declared.reader.Next.TheVariants as nexts
 use Rattle.scenario_reader.specs.Reading.{EndsBy, IsCaptured, KeepsSetup, ReaderState, Takes, Took, ending_of}
 use Rattle.whole_texts.specs.declared.telling.Telling.{Telling}
-use Rattle.whole_texts.specs.Telling.{AtSection, Does, DoesAll, Goes, GoesOn, IsOver, IsReady, IsTold, Stands, closing, with_steps}
+use Rattle.whole_texts.specs.Telling.{AtSection, Does, DoesAll, GoesOn, IsOver, IsReady, IsTold, Stands, closing, with_steps}
 use Rattle.whole_texts.proofs.Steps.{among, among_stands, does_one, given, kept, moved, ready_at}
 
 -- how it ends

@@ -1,5 +1,5 @@
 use Rattle.std.proofs.Common.{◌∙◌, arith, refl}
-use Rattle.switchbr_c.proofs.Giving.{lacked_memory, tells_so, was_too_long}
+use Rattle.switchbr_c.proofs.Giving.{tells_so}
 use Rattle.switchbr_c.proofs.switchbr_generate.Goals as goal
 
 pub returns-in-Ok : goal.returns-in-Ok
