@@ -1,0 +1,90 @@
+/* Commands of the program over the library, for tools/test: `replay`, `follow` (of standard input), `gen NUMBER COUNT`, and `check` (of the
+   two files that are named). In front of them may stand `--room N`: the room of the first call; `--fail N`: the Nth allocation of the library
+   is refused; `--thread`: in a thread with 1 MB of stack; `--times N`. */
+#include <pthread.h>
+#include <stdio.h>
+#include <stdlib.h>
+#include <string.h>
+#include "switchbr.h"
+
+static size_t refused, asked;
+
+void *__real_malloc(size_t size);
+void *__real_realloc(void *at, size_t size);
+void *__wrap_malloc(size_t size) { return ++asked == refused ? NULL : __real_malloc(size); }
+void *__wrap_realloc(void *at, size_t size) { return ++asked == refused ? NULL : __real_realloc(at, size); }
+
+struct text { uint8_t *bytes; size_t len; };
+
+static struct text read_all(const char *name) {
+    FILE *file = name ? fopen(name, "rb") : stdin;
+    struct text text = {__real_malloc(1), 0};
+    size_t room = 1, got;
+    while (file && (got = fread(text.bytes + text.len, 1, room - text.len, file)) > 0) {
+        text.len += got;
+        if (text.len == room) text.bytes = __real_realloc(text.bytes, room *= 2);
+    }
+    return text;
+}
+
+static char **words;
+static size_t first_room = 1 << 20, times = 1;
+static struct text one, two;
+static int answer;
+
+static switchbr_status call(uint8_t *out, size_t room, size_t *len) {
+    if (!strcmp(words[0], "replay")) return switchbr_replay(one.bytes, one.len, out, room, len);
+    if (!strcmp(words[0], "follow")) return switchbr_follow(one.bytes, one.len, out, room, len);
+    return switchbr_generate(strtoull(words[1], NULL, 10), strtoul(words[2], NULL, 10), out, room, len);
+}
+
+static void *give(void *nothing) {
+    if (!strcmp(words[0], "check")) {
+        uint32_t line = 7;
+        answer = switchbr_check(one.bytes, one.len, two.bytes, two.len, &line);
+        printf("%u\n", line);
+        return nothing;
+    }
+    size_t room = first_room, len = 7;
+    uint8_t *out = __real_malloc(room + 1);
+    memset(out, '.', room + 1);
+    answer = call(out, room, &len);
+    if (answer == SWITCHBR_NO_ROOM) {
+        size_t wanted = len;
+        for (size_t at = 0; at <= room; at++) if (out[at] != '.') exit(100);
+        if (len <= room) exit(101);
+        out = __real_realloc(out, (room = len) + 1);
+        memset(out, '.', room + 1);
+        answer = call(out, room, &len);
+        if (answer != SWITCHBR_NO_MEMORY && len != wanted) exit(102);
+    }
+    for (size_t at = len; at <= room; at++) if (out[at] != '.') exit(103);
+    for (size_t more = 1; more < times; more++) answer = call(out, room, &len);
+    fwrite(out, 1, len, stdout);
+    free(out);
+    return nothing;
+}
+
+int main(int count, char **given) {
+    int in_thread = 0;
+    size_t fail = 0;
+    for (words = given + 1; --count && !strncmp(*words, "--", 2); words++) {
+        if (!strcmp(*words, "--thread")) { in_thread = 1; continue; }
+        size_t number = strtoul(words[1], NULL, 10);
+        *(!strcmp(*words, "--room") ? &first_room : !strcmp(*words, "--fail") ? &fail : &times) = number;
+        words++, count--;
+    }
+    if (switchbr_abi() != SWITCHBR_ABI) return 104;
+    if (!strcmp(words[0], "check")) one = read_all(words[1]), two = read_all(words[2]);
+    else if (strcmp(words[0], "gen")) one = read_all(NULL);
+    refused = fail ? asked + fail : 0;
+    if (in_thread) {
+        pthread_attr_t small;
+        pthread_t thread;
+        pthread_attr_init(&small);
+        pthread_attr_setstacksize(&small, 1 << 20);
+        if (pthread_create(&thread, &small, give, NULL) || pthread_join(thread, NULL)) return 105;
+    } else give(NULL);
+    fprintf(stderr, "%zu\n", asked);
+    return answer;
+}

@@ -1,0 +1,186 @@
+-- What is told as a scenario goes on: by lines without a step, and by steps.
+use Rattle.std.proofs.Common.{◌≡◌, ℕ, ◌+◌, Bool, true, false, List, [], ◌∷◌, ◌++◌, length, map, Option, None, Some, Result, Ok, Err, OnOk, refl, sym, ◌∙◌, ap, subst, arith, codes, append_assoc, string_bytes}
+use Rattle.std.specs.Prelude.{IfSome}
+use Rattle.std.specs.List.{sum_by}
+use Rattle.std.proofs.lemmas.List.{append-nil}
+use Rattle.br_model.specs.declared.scenario.Place.TheVariants as places
+use Rattle.br_model.specs.declared.steps.Step.{Step}
+use Rattle.br_model.specs.declared.steps.Step.TheVariants.{Rx, Cmd, Now, Serve, Hold, Post, Turn, Report, Sweep, Publish}
+use Rattle.br_model.specs.declared.transcript.Line.{Line}
+use Rattle.br_model.specs.declared.transcript.Line.TheVariants.{End}
+use Rattle.br_model.specs.Plane.Chip.{first_chip}
+use Rattle.br_model.specs.Plane.Runs.{end_line, pending_of, run, then_step}
+use Rattle.br_model.specs.Plane.Steps.{world_step}
+use Rattle.br_model.specs.Plane.World.{World, Stepped, first_world}
+use Rattle.br_model.specs.Program.Runs.{body_of, last_text, run_of, setup_of, told}
+use Rattle.br_model.specs.Table.Domains.{chip_domains}
+use Rattle.br_model.specs.Table.Setup.{Setup}
+use Rattle.br_model.specs.Text.LineForms.{comes_by_line}
+use Rattle.br_model.specs.Text.Roster.{Roster, chips_of, first_roster}
+use Rattle.br_model.specs.Text.Scenario.{Scenario, Ending, Going, opened, scenario}
+use Rattle.br_model.specs.Text.Transcript.{line_text, text}
+use Rattle.br_model.specs.Theorems.Invariants.{IsWorld}
+use Rattle.plane_parts.specs.Added.{Added}
+use Rattle.check_world.specs.Worlds.{Tells}
+use Rattle.br_model.proofs.PlaneApplied.{step-setup}
+use Rattle.br_model.proofs.PlaneKept.{step-world}
+use Rattle.br_model.proofs.Running.{run_none, run_push, text-append}
+use Rattle.scenario_reader.specs.declared.reader.Last.{Last}
+use Rattle.scenario_reader.specs.declared.reader.Last.TheVariants as lasts
+use Rattle.scenario_reader.specs.Reading.{Follows, IsBehindDeclarations, KeepsSetup, ReaderState, ending_of}
+use Rattle.whole_texts.specs.declared.replaying.Told.{Told}
+use Rattle.whole_texts.specs.declared.telling.Telling.{Telling}
+use Rattle.whole_texts.specs.Telling.{Does, DoesAll, HasRun, IsOver, IsReady, IsTold, Stands, end_line_of, last_line, with_steps, world_of}
+use Rattle.whole_texts.specs.Texts.{TellsWhole, ends_well}
+
+-- without a step
+
+-- nothing is told then, whatever is declared
+no_steps : (s : Scenario) → s.steps ≡ [] → body_of (run_of s) ≡ codes "transcript 1" ++ 10 ∷ []
+no_steps s e = ap (λ (steps : List Step). body_of (run (setup_of s.roster) steps)) e ∙ ap body_of (run_none (setup_of s.roster))
+
+same_run : (s t : Scenario) → setup_of t.roster ≡ setup_of s.roster → t.steps ≡ s.steps → run_of t ≡ run_of s
+same_run s t setup steps = ap (λ (x : Setup). run x t.steps) setup ∙ ap (run (setup_of s.roster)) steps
+
+pub kept : (r : Roster) → KeepsSetup r r
+kept r behind = (behind, (refl, refl))
+
+pub moved : (s t : Scenario) (w : Option World) (all : List ℕ) → t.steps ≡ s.steps → KeepsSetup s.roster t.roster → IsTold s w all → IsTold t w all
+moved s t None all steps keeps h = record { ran = steps ∙ h.ran; ready = tt; body = h.body ∙ no_steps s h.ran ∙ sym (no_steps t (steps ∙ h.ran)) }
+moved s t (Some w) all steps keeps h =
+    let k = keeps h.ran.1 in
+    let same : run_of t ≡ run_of s = same_run s t k.1.0 steps in record {
+      ran = (h.ran.0 ∙ sym (ap (λ (x : Stepped). x.0) same), k.0);
+      ready = (h.ready.0, h.ready.1 ∙ sym (ap chips_of k.1.1));
+      body = h.body ∙ sym (ap body_of same);
+    }
+
+-- the same ports make the same chips
+pub ready_at : (r q : Roster) (w : Option World) → q.ports ≡ r.ports → IsReady r w → IsReady q w
+ready_at r q None same h = tt
+ready_at r q (Some w) same h = (h.0, h.1 ∙ sym (ap chips_of same))
+
+pub stands_by : (r : Roster) (w : Option World) → IsReady r w → IfSome w IsWorld
+stands_by r None h = tt
+stands_by r (Some w) h = h.0
+
+-- before the first line
+pub begins : (x : Telling) → x.reader ≡ record { lines = 0; roster = first_roster false } → x.world ≡ None → string_bytes x.text ≡ codes "transcript 1" ++ 10 ∷ []
+    → Stands (opened false) x
+begins x reader world all = record {
+  follows = subst (λ (r : ReaderState). Follows (opened false) r) (sym reader) (record { lines = refl; roster = refl; going = refl });
+  so = subst (λ (w : Option World). IsTold (opened false) w (string_bytes x.text)) (sym world) (record { ran = refl; ready = tt; body = all ∙ sym (no_steps (opened false) refl) });
+}
+
+-- in front of the steps of a line
+abbrev pub among : Scenario → Scenario
+among s = record { lines = s.lines + 1; roster = record s.roster { place = places.Steps }; steps = s.steps; ending = Going }
+
+pub among_stands : (s : Scenario) (x : Telling) → x.reader.lines ≡ s.lines + 1 → x.reader.roster ≡ record s.roster { place = places.Steps } → IsTold s x.world (string_bytes x.text)
+    → Stands (among s) x
+among_stands s x lines roster h = record {
+  follows = record { lines = lines; roster = roster; going = refl };
+  so = moved s (among s) x.world (string_bytes x.text) refl (λ b. ((refl, refl), (refl, refl))) h;
+}
+
+-- steps
+
+-- what a line of a replay gives, a line of a check can give
+pub given : (check : Bool) (chips : List ℕ) (s : Step) → comes_by_line check chips s ≡ true → comes_by_line true chips s ≡ true
+given check chips (Rx port bytes) h = refl
+given check chips (Cmd command) h = refl
+given check chips (Now moment) h = h
+given check chips Serve h = refl
+given check chips Hold h = refl
+given check chips (Post id None) h = refl
+given check chips (Post id (Some point)) h = refl
+given check chips (Turn dom) h = h
+given check chips (Report dom) h = h
+given check chips (Sweep dom) h = h
+given check chips Publish h = refl
+
+pub ready_after : (r : Roster) (w v : World) (step : Step) (lines : List Line) → world_step w step ≡ (v, lines) → IsReady r (Some w) → IsReady r (Some v)
+ready_after r w v step lines is h = (
+  subst (λ (x : Stepped). IsWorld x.0) is (step-world w step h.0),
+  ap (λ (s : Setup). chip_domains s.domains) (sym (ap (λ (x : Stepped). x.0.setup) is) ∙ step-setup w step) ∙ h.1,
+)
+
+pub ready_told : {A E : Type 0} (r : Result A E) (roster : Roster) (w v : World) (step : Step) (before after : List Line) → IsReady roster (Some w)
+    → OnOk r (Added (Tells w step v) before after) → OnOk r (IsReady roster (Some v))
+ready_told (Ok x) roster w v step before after h told = ready_after roster w v step told.lines told.so h
+ready_told (Err e) roster w v step before after h told = told
+
+pub after_told : {A E : Type 0} (r : Result A E) (roster : Roster) (o : Option World) (w v : World) (step : Step) (before after : List Line) → o ≡ Some w → before ≡ []
+    → OnOk r (Added (Tells w step v) before after) → OnOk r ((Some v ≡ Some (world_step (world_of roster o) step).0) × (after ≡ (world_step (world_of roster o) step).1))
+after_told (Ok x) roster o w v step before after is none told =
+    let so : (v, told.lines) ≡ world_step (world_of roster o) step = sym told.so ∙ ap (λ (u : World). world_step u step) (sym (ap (λ (a : Option World). world_of roster a) is)) in
+    (ap (λ (y : Stepped). Some y.0) so, told.added ∙ ap (λ (l : List Line). l ++ told.lines) none ∙ ap (λ (y : Stepped). y.1) so)
+after_told (Err e) roster o w v step before after is none told = told
+
+world_before : (s : Scenario) (w : Option World) → HasRun s w → world_of s.roster w ≡ (run_of s).0
+world_before s None h = sym (ap (λ (x : Stepped). x.0) (ap (run (setup_of s.roster)) h ∙ run_none (setup_of s.roster)))
+world_before s (Some w) h = h.0
+
+body_more : (s : Scenario) (step : Step) → body_of (run_of (with_steps s (step ∷ []))) ≡ body_of (run_of s) ++ text (world_step (run_of s).0 step).1
+body_more s step =
+    ap body_of (run_push (setup_of s.roster) s.steps step)
+    ∙ ap (λ (x : List ℕ). codes "transcript 1" ++ 10 ∷ x) (text-append (run_of s).1 (world_step (run_of s).0 step).1)
+
+pub does_one : (s : Scenario) (x y : Telling) (step : Step) → IsBehindDeclarations s.roster → Stands s x → Does x step y → Stands (with_steps s (step ∷ [])) y
+does_one s x y step behind h d =
+    let t : Scenario = with_steps s (step ∷ []) in
+    let here : world_of x.reader.roster x.world ≡ (run_of s).0 = ap (λ (r : Roster). world_of r x.world) h.follows.roster ∙ world_before s x.world h.so.ran in
+    let more : run_of t ≡ then_step (run_of s) step = run_push (setup_of s.roster) s.steps step in record {
+      follows = subst (λ (r : ReaderState). Follows t r) (sym d.reader) (record { lines = h.follows.lines; roster = h.follows.roster; going = h.follows.going });
+      so = record {
+        ran = subst (λ (w : Option World). HasRun t w) (sym d.world) (ap (λ (w : World). (world_step w step).0) here ∙ sym (ap (λ (z : Stepped). z.0) more), behind);
+        ready = subst (λ (r : Roster). IsReady r y.world) (ap (λ (r : ReaderState). r.roster) d.reader ∙ h.follows.roster) d.ready;
+        body =
+            d.lines
+            ∙ ap (λ (b : List ℕ). b ++ text (world_step (world_of x.reader.roster x.world) step).1) h.so.body
+            ∙ ap (λ (w : World). body_of (run_of s) ++ text (world_step w step).1) here
+            ∙ sym (body_more s step);
+      };
+    }
+
+pub does_none : (x : Telling) → DoesAll x [] x
+does_none x s behind h = record {
+  follows = record { lines = h.follows.lines; roster = h.follows.roster; going = h.follows.going };
+  so = moved s (with_steps s []) x.world (string_bytes x.text) (append-nil s.steps) (kept s.roster) h.so;
+}
+
+pub does_more : (x y z : Telling) (steps : List Step) (step : Step) → DoesAll x steps y → Does y step z → DoesAll x (steps ++ step ∷ []) z
+does_more x y z steps step does d s behind h =
+    subst (λ (l : List Step). Stands (record s { steps = l }) z) (append_assoc s.steps steps (step ∷ [])) (does_one (with_steps s steps) y z step behind (does s behind h) d)
+
+pub nothing_left : (steps : List Step) → length steps ≡ 0 → steps ≡ []
+nothing_left [] h = refl
+nothing_left (step ∷ steps) h = absurd (omega (arith, h))
+
+-- the last line
+
+none_pending : (setup : Setup) (doms : List ℕ) → sum_by (pending_of (first_world setup)) (map first_chip doms) ≡ 0
+none_pending setup [] = refl
+none_pending setup (dom ∷ doms) = none_pending setup doms
+
+last_world : (s : Scenario) (w : Option World) → HasRun s w → end_line_of w ≡ end_line (run_of s).0
+last_world s None h =
+    ap (λ (n : ℕ). End 0 0 n 0) (sym (none_pending (setup_of s.roster) (chip_domains (setup_of s.roster).domains)))
+    ∙ sym (ap (λ (x : Stepped). end_line x.0) (ap (run (setup_of s.roster)) h ∙ run_none (setup_of s.roster)))
+last_world s (Some w) h = ap end_line h.0
+
+last_is : (s : Scenario) (w : Option World) (last : Last) → HasRun s w → last_line last w ≡ last_text (ending_of last) (run_of s).0
+last_is s w lasts.Ended h = ap line_text (last_world s w h)
+last_is s w (lasts.Bad n why) h = refl
+
+pub tells_whole : (bytes : List ℕ) (w : Option World) (all : List ℕ) (last : Last) (y : Told) → IsOver (scenario bytes) w all last → string_bytes y.text ≡ all ++ last_line last w
+    → y.well ≡ ends_well (ending_of last) → TellsWhole bytes y
+unfolding told
+tells_whole bytes w all last y h is well = record {
+  text =
+      is
+      ∙ ap (λ (b : List ℕ). b ++ last_line last w) h.so.body
+      ∙ ap (λ (b : List ℕ). body_of (run_of (scenario bytes)) ++ b)
+      (last_is (scenario bytes) w last h.so.ran ∙ ap (λ (d : Ending). last_text d (run_of (scenario bytes)).0) (sym h.ends));
+  well = well ∙ ap ends_well (sym h.ends);
+}

@@ -1,0 +1,4 @@
+pub mod Fronts
+pub mod Telling
+pub mod Texts
+pub mod Messages

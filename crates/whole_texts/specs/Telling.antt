@@ -1,0 +1,118 @@
+-- What the lines of a scenario tell, one after another.
+use Rattle.std.specs.Prelude.{◌≡◌, ℕ, ◌+◌, ◌≤◌, true, List, [], ◌++◌, length, string_bytes}
+use Rattle.std.specs.declared.option.Option.{Option}
+use Rattle.std.specs.declared.option.Option.TheVariants.{None, Some}
+use Rattle.std.specs.declared.result.Result.TheVariants.{Ok}
+use Rattle.br_model.specs.declared.scenario.Said.TheVariants as said
+use Rattle.br_model.specs.declared.steps.Step.{Step}
+use Rattle.br_model.specs.declared.transcript.Line.{Line}
+use Rattle.br_model.specs.declared.transcript.Line.TheVariants.{End}
+use Rattle.br_model.specs.Plane.Runs.{end_line}
+use Rattle.br_model.specs.Plane.Steps.{world_step}
+use Rattle.br_model.specs.Plane.World.{World, first_world}
+use Rattle.br_model.specs.Program.Runs.{body_of, run_of, setup_of}
+use Rattle.br_model.specs.Table.Domains.{chip_domains}
+use Rattle.br_model.specs.Text.Roster.{Roster, chips_of}
+use Rattle.br_model.specs.Text.Scenario.{Scenario, Progress, Going, closes, read, whole_says}
+use Rattle.br_model.specs.Text.Transcript.{bad_text, line_text, text}
+use Rattle.br_model.specs.Theorems.Invariants.{IsWorld}
+use Rattle.br_model.specs.Theorems.WholeLines.{is_line}
+use Rattle.scenario_reader.specs.declared.reader.Last.{Last}
+use Rattle.scenario_reader.specs.declared.reader.Last.TheVariants as lasts
+use Rattle.scenario_reader.specs.Reading.{Follows, IsBehindDeclarations, captures, ending_of}
+use Rattle.whole_texts.specs.declared.telling.Telling.{Telling}
+use Rattle.whole_texts.specs.declared.telling.Went.{Went}
+use Rattle.whole_texts.specs.declared.telling.Went.TheVariants.{On, Ends}
+
+-- what is told of a scenario
+
+-- the world before the next step
+abbrev pub world_of : Roster → Option World → World
+world_of roster None = first_world (setup_of roster)
+world_of roster (Some w) = w
+
+-- a world stands, and its domains with chips are the declared ones
+abbrev pub IsReady : Roster → Option World → Type 0
+IsReady roster None = Unit {0}
+IsReady roster (Some w) = IsWorld w × (chip_domains w.setup.domains ≡ chips_of roster.ports)
+
+-- the world after the scenario's steps, where there are any
+abbrev pub HasRun : Scenario → Option World → Type 0
+HasRun s None = s.steps ≡ []
+HasRun s (Some w) = (w ≡ (run_of s).0) × IsBehindDeclarations s.roster
+
+-- The text is all that is told of the scenario before its last line.
+pub record IsTold (s : Scenario) (w : Option World) (all : List ℕ) : Type 0 where
+  pub ran : HasRun s w
+  pub ready : IsReady s.roster w
+  pub body : all ≡ body_of (run_of s)
+
+-- The scenario goes on, and was read so far.
+pub record Stands (s : Scenario) (x : Telling) : Type 0 where
+  pub follows : Follows s x.reader
+  pub so : IsTold s x.world (string_bytes x.text)
+
+-- The scenario ends so.
+pub record IsOver (s : Scenario) (w : Option World) (all : List ℕ) (last : Last) : Type 0 where
+  pub ends : s.ending ≡ ending_of last
+  pub so : IsTold s w all
+
+-- steps
+
+-- the world and the lines after the step in that world
+abbrev pub IsAfter : World → Step → Telling → Type 0
+IsAfter w step x = (x.world ≡ Some (world_step w step).0) × (x.told.lines ≡ (world_step w step).1)
+
+-- a step was done
+pub record Does (old : Telling) (step : Step) (new : Telling) : Type 0 where
+  pub reader : new.reader ≡ old.reader
+  pub ready : IsReady new.reader.roster new.world
+  pub world : new.world ≡ Some (world_step (world_of old.reader.roster old.world) step).0
+  pub lines : string_bytes new.text ≡ string_bytes old.text ++ text (world_step (world_of old.reader.roster old.world) step).1
+
+-- and these steps more
+abbrev pub with_steps : Scenario → List Step → Scenario
+with_steps s steps = record s { steps = s.steps ++ steps }
+
+-- steps were done, whatever was before them
+abbrev pub DoesAll : Telling → List Step → Telling → Type 0
+DoesAll old steps new = (s : Scenario) → IsBehindDeclarations s.roster → Stands s old → Stands (with_steps s steps) new
+
+-- lines
+
+-- A line `capture` of so many bytes was read, its section is next.
+pub record AtSection (s : Scenario) (line : List ℕ) (n : ℕ) (x : Telling) : Type 0 where
+  pub feedless : is_line line ≡ true
+  pub says : whole_says s.roster line ≡ Ok (said.Captures n)
+  pub going : s.ending ≡ Going
+  pub follows : Follows (captures s n) x.reader
+  pub so : IsTold s x.world (string_bytes x.text)
+
+-- where the bytes end there
+abbrev pub closing : Progress → Scenario
+closing p = closes p.scenario p.line
+
+-- Of these bytes the last ones are left, before which the scenario goes on.
+pub record GoesOn (s : Scenario) (bytes : List ℕ) (x : Telling) (rest : List ℕ) : Type 0 where
+  pub scenario : Scenario
+  pub reads : read 0 s bytes ≡ read 0 scenario rest
+  pub stands : Stands scenario x
+
+abbrev pub Goes : Scenario → List ℕ → Telling → Went → Type 0
+Goes s bytes x (On rest) = GoesOn s bytes x rest.now
+Goes s bytes x (Ends last) = IsOver (closing (read 0 s bytes)) x.world (string_bytes x.text) last
+
+-- no more is left than was behind the line
+abbrev pub IsLeft : List ℕ → Went → Type 0
+IsLeft behind (On rest) = length rest.now ≤ length behind
+IsLeft behind (Ends last) = Unit {0}
+
+-- the last line
+
+abbrev pub end_line_of : Option World → Line
+end_line_of None = End 0 0 0 0
+end_line_of (Some w) = end_line w
+
+abbrev pub last_line : Last → Option World → List ℕ
+last_line lasts.Ended w = line_text (end_line_of w)
+last_line (lasts.Bad n why) w = bad_text n why

@@ -1,0 +1,44 @@
+//! The transcript of a scenario.
+ghost use Rattle.std.specs.Prelude.{◌≡◌, ◌≤◌, IfOk, length};
+ghost use Rattle.br_model.specs.Table.Limits.{most_bytes};
+ghost use Rattle.scenario_reader.specs.Reading.{ending_of};
+ghost use Rattle.whole_texts.specs.Texts.{TellsWhole, ends_well};
+
+use crate::NoMemory;
+use crate::telling::Telling;
+use scenario_reader::Last;
+use std::alloc::Global;
+
+/// All that is written, its last line too, and whether what was read ends well.
+#[derive(Drop)]
+pub struct Told {
+    pub text: String,
+    pub well: bool,
+}
+
+fn is_well(last: Last) -> bool
+    ensures { result ≡ ends_well (ending_of last) }
+{
+    match last {
+        Last::Ended => true,
+        Last::Bad(..) => false,
+    }
+}
+
+/// The transcript of a scenario, up to its end or its first bad line.
+///
+/// # Errors
+///
+/// `NoMemory` where the world, the text or a step's lines find no room.
+pub fn replay(alloc: Global, scenario: &[u8]) -> Result<Told, NoMemory>
+    requires { length scenario.now ≤ most_bytes }
+    ensures { IfOk result (TellsWhole scenario.now) }
+{
+    let mut telling = Telling::make(alloc)?;
+    let last = telling.read(alloc, scenario)?;
+    let text = telling.end(last)?;
+    Ok(Told {
+        text,
+        well: is_well(last),
+    })
+}
