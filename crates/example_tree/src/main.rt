@@ -47,10 +47,7 @@ fn add(out: &mut TreeOut, more: TreeOut) {
 fn hear(tree: &mut Tree, out: &mut TreeOut, other: &Tree, sent: &TreeOut, now: u64)
     requires { now < 2 ^ 53 }
 {
-    for number in sent.config.iter() {
-        let Some(port) = Port::new(number) else {
-            continue;
-        };
+    for port in sent.config.iter().filter_map(Port::new) {
         if let Some(message) = other.last_message(port) {
             add(out, tree.bpdu(port, &message, now));
         }
