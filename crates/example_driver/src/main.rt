@@ -1,7 +1,7 @@
 //! A switch driver of one's own, which keeps what it is told, beside a bridge whose commands it is told of.
 #![tactic(auto)]
 
-ghost use Rattle.std.specs.Prelude.{◌≡◌, ◌<◌, vec_len, vec_capacity};
+ghost use Rattle.std.specs.Prelude.{◌≡◌, ◌<◌, ◌++◌, ◌∷◌, [], vec_len, vec_capacity};
 ghost use Rattle.std.specs.List.{fold};
 ghost use Rattle.br_model.specs.Table.Table.{start};
 ghost use Rattle.switchdev_notify.specs.Notices.{after_told, change_of};
@@ -22,6 +22,20 @@ struct Log {
     told: Vec<Notice>,
 }
 
+impl Log {
+    fn keep(&mut self, notice: Notice)
+        requires { vec_len self.old.told < vec_capacity self.old.told }
+        ensures { self.new.told.items ≡ self.old.told.items ++ notice ∷ [] }
+    {
+        // The check of `push` wants these types named here.
+        let _none: Option<(Object, Attribute)> = None;
+        match self.told.push(notice) {
+            Ok(()) => {}
+            Err(_) => unreachable!(),
+        }
+    }
+}
+
 impl SwitchOps for Log {
     // Its chip is that of domain 1.
     ghost domain = { λ log. 1 };
@@ -33,15 +47,15 @@ impl SwitchOps for Log {
     ghost takes = { λ log c. vec_len log.told < vec_capacity log.told };
 
     fn obj_add(&mut self, o: &Object) {
-        self.told.push_reserved(Notice::ObjAdd(*o));
+        self.keep(Notice::ObjAdd(*o));
     }
 
     fn obj_del(&mut self, o: &Object) {
-        self.told.push_reserved(Notice::ObjDel(*o));
+        self.keep(Notice::ObjDel(*o));
     }
 
     fn attr_set(&mut self, a: &Attribute) {
-        self.told.push_reserved(Notice::Attr(*a));
+        self.keep(Notice::Attr(*a));
     }
 }
 
