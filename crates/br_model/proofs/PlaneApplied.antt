@@ -100,7 +100,7 @@ posts_at-grows w (Some h) point = posts_held-grows w h point
 -- where it is of no frame, no turn, and publishes nothing
 ends-grows : (w : World) (step : Step) {y : Stepped} → (traits step).turn ≡ None → Ends w step y → Grows w y.0
 ends-grows w step none (ends_refused why) = idle w
-ends-grows w step none (ends_done chips stands counts) = stays w (record w { chips = chips }) refl refl (counts none)
+ends-grows w step none (ends_done chips stands counts moment) = stays w (record w { chips = chips }) refl refl (counts none)
 ends-grows w step none (ends_answered chips e stands counts now) = answered-grows w (record w { chips = chips }) (reacts w e) refl refl counts
 
 -- a turn applies a change

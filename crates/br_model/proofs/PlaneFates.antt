@@ -524,7 +524,7 @@ posts_at-effect id i w (Some h) point e k = posts_held-effect id i w h point e k
 
 ends-effect : (id : ℕ) (w : World) (step : Step) {y : Stepped} → Ends w step y → Effect id w y.0 y.1
 ends-effect id w step (ends_refused why) = quiet id w w _ (alike w) refl
-ends-effect id w step (ends_done chips stands counts) =
+ends-effect id w step (ends_done chips stands counts moment) =
     quiet id w (record w { chips = chips }) _ (record { setup = refl; next = refl; published = refl; held = refl; waiting = refl }) refl
 ends-effect id w step (ends_answered chips e stands counts now) =
     answers id w (record w { chips = chips }) (reacts w e) (record { setup = refl; next = refl; published = refl; held = refl; waiting = refl })

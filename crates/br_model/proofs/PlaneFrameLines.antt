@@ -371,7 +371,7 @@ posts_at-next v (Some h) (Some point) =
 
 ends-next : (v : World) (step : Step) {y : Stepped} → Ends v step y → y.0.next ≡ v.next
 ends-next v step (ends_refused why) = refl
-ends-next v step (ends_done chips stands counts) = refl
+ends-next v step (ends_done chips stands counts moment) = refl
 ends-next v step (ends_answered chips e stands counts now) = answered-next v (record v { chips = chips }) (reacts v e) refl
 
 enters-next : (v : World) (port : ℕ) (bytes : List ℕ) (r : Result Head FrameFault) → (enters_as (record v { next = v.next + 1 }) v.next port bytes r).0.next ≡ v.next + 1

@@ -369,14 +369,14 @@ moment_in e = None
 
 pub data Ends (w : World) (step : Step) : Stepped → Type 0 where
   ends_refused : (why : Refusal) → Ends w step (refused w why)
-  ends_done : (chips : List Chip) → (IsWorld w → IsWorld (record w { chips = chips })) → ((traits step).turn ≡ None → CountsStay w.chips chips)
+  ends_done : (chips : List Chip) → (IsWorld w → IsWorld (record w { chips = chips })) → ((traits step).turn ≡ None → CountsStay w.chips chips) → (traits step).moment ≡ None
       → Ends w step (done (record w { chips = chips }))
   ends_answered : (chips : List Chip) (e : Event) → (IsWorld w → IsWorld (record w { chips = chips })) → CountsStay w.chips chips → moment_in e ≡ (traits step).moment
       → Ends w step (answered w (record w { chips = chips }) (reacts w e))
 
 turns_to-ends : (w : World) (dom : ℕ) (c : Chip) (o : Option Change) → chip_at w dom ≡ Some c → next_of w c ≡ o → Ends w (Turn dom) (turns_to w c o)
 turns_to-ends w dom c None at e = ends_refused NothingPending
-turns_to-ends w dom c (Some d) at e = ends_done (put_chip w.chips (applies c d)) (turned-world w dom c d at e) (λ none. absurd (cc))
+turns_to-ends w dom c (Some d) at e = ends_done (put_chip w.chips (applies c d)) (turned-world w dom c d at e) (λ none. absurd (cc)) refl
 
 turns-ends : (w : World) (dom : ℕ) (o : Option Chip) → chip_at w dom ≡ o → Ends w (Turn dom) (turns w o)
 turns-ends w dom None at = ends_refused NothingPending
@@ -393,7 +393,7 @@ reports-ends w dom None at = ends_refused NothingReported
 reports-ends w dom (Some c) at = tells-ends w dom c c.reports at refl
 
 sweeps-ends : (w : World) (dom : ℕ) (o : Option Chip) → chip_at w dom ≡ o → Ends w (Sweep dom) (sweeps w o)
-sweeps-ends w dom None at = ends_done w.chips (λ k. k) (λ none. counts-same w.chips)
+sweeps-ends w dom None at = ends_done w.chips (λ k. k) (λ none. counts-same w.chips) refl
 sweeps-ends w dom (Some c) at =
     ends_answered (put_chip w.chips (record c { hits = [] })) (swept w c) (swept-world w dom c at)
     (put-counts w.chips c (record c { hits = [] }) (chip-own w.chips dom c at) refl refl) refl
@@ -416,7 +416,7 @@ does-ends w step = tt
 
 ends-world : (w : World) (step : Step) {y : Stepped} → Ends w step y → IsWorld w → IsWorld y.0
 ends-world w step (ends_refused why) k = k
-ends-world w step (ends_done chips stands counts) k = stands k
+ends-world w step (ends_done chips stands counts moment) k = stands k
 ends-world w step (ends_answered chips e stands counts now) k = answered-world w (record w { chips = chips }) e k (stands k) refl
 
 publishes-world : (w : World) → IsWorld w → IsWorld (publishes w (length w.history))

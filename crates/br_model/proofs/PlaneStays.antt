@@ -88,7 +88,7 @@ serves-stays w (f ∷ later) = of-chips w (record w { waiting = later }) _ refl 
 -- where it is of no frame and publishes nothing
 ends-stays : (w : World) (step : Step) {y : Stepped} → Ends w step y → Stays w y.0
 ends-stays w step (ends_refused why) = idle w
-ends-stays w step (ends_done chips stands counts) = stays w (record w { chips = chips }) refl refl refl
+ends-stays w step (ends_done chips stands counts moment) = stays w (record w { chips = chips }) refl refl refl
 ends-stays w step (ends_answered chips e stands counts now) = answered-stays w (record w { chips = chips }) (reacts w e) refl refl refl
 
 -- Where a frame is held or let go, nothing else of it changes.

@@ -89,15 +89,7 @@ fn numbers_fit(step: &Step)
             number_fits(*id);
             number_fits(*point);
         }
-        Step::Rx { .. }
-        | Step::Cmd(_)
-        | Step::Now(_)
-        | Step::Serve
-        | Step::Hold
-        | Step::Turn(_)
-        | Step::Report(_)
-        | Step::Sweep(_)
-        | Step::Publish => {}
+        _ => {}
     }
 }
 

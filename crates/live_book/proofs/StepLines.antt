@@ -171,7 +171,7 @@ by_posts_at w (Some h) point = by_posts_held w h point
 -- where it is of no frame and publishes nothing
 ends_told : (w : World) (s : Step) {y : Stepped} → Ends w s y → Told w.steps w.history y
 ends_told w s (ends_refused why) = by_refused w why
-ends_told w s (ends_done chips stands counts) = by_done (record w { chips = chips })
+ends_told w s (ends_done chips stands counts moment) = by_done (record w { chips = chips })
 ends_told w s (ends_answered chips e stands counts now) = by_answered w (record w { chips = chips }) (reacts w e) refl refl
 
 abbrev counted : World → World

@@ -22,7 +22,7 @@ counted w i = record { waiting = i.waiting; held = i.held }
 -- where it is of no frame and publishes nothing
 ends_idle : (w : World) (s : Step) {y : Stepped} → Ends w s y → IsIdle w → IsIdle y.0
 ends_idle w s (ends_refused why) i = i
-ends_idle w s (ends_done chips stands counts) i = record { waiting = i.waiting; held = i.held }
+ends_idle w s (ends_done chips stands counts moment) i = record { waiting = i.waiting; held = i.held }
 ends_idle w s (ends_answered chips e stands counts now) i = answered_idle w (record w { chips = chips }) (reacts w e) i (record { waiting = i.waiting; held = i.held })
 
 serves_idle : (w : World) (fs : List Waiting) → fs ≡ [] → IsIdle w → IsIdle (serves w fs).0
