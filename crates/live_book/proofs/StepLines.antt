@@ -14,7 +14,7 @@ use Rattle.br_model.specs.declared.frame.FrameFault.{FrameFault}
 use Rattle.br_model.specs.declared.frame.Head.{Head}
 use Rattle.br_model.specs.declared.steps.Event.TheVariants as events
 use Rattle.br_model.specs.declared.steps.Refusal.{Refusal}
-use Rattle.br_model.specs.declared.steps.Refusal.TheVariants.{HistoryFull, NothingWaiting, NothingToPost, NoSuchPoint, NothingReported}
+use Rattle.br_model.specs.declared.steps.Refusal.TheVariants.{HistoryFull, NoSuchPoint, NothingReported}
 use Rattle.br_model.specs.declared.steps.Step.{Step}
 use Rattle.br_model.specs.declared.steps.Step.TheVariants.{Rx, Serve, Hold, Post, Report, Publish}
 use Rattle.br_model.specs.declared.transcript.Line.{Line}
@@ -149,11 +149,11 @@ by_posts w f point =
     (by_answered w w (reacts w (events.Sight f.port f.bytes f.head)) refl refl)
 
 by_serves : (w : World) (fs : List Waiting) → Told w.steps w.history (serves w fs)
-by_serves w [] = by_refused w NothingWaiting
+by_serves w [] = by_refused w _
 by_serves w (f ∷ later) = by_posts (record w { waiting = later }) f w.published
 
 by_holds : (w : World) (fs : List Waiting) → Told w.steps w.history (holds w fs)
-by_holds w [] = by_refused w NothingWaiting
+by_holds w [] = by_refused w _
 by_holds w (f ∷ later) = silent w.steps w.history (holds w (f ∷ later)) refl refl (record { all = λ may. refl; same = λ is_report b. refl })
 
 by_posts_held : (w : World) (h : Holding) (point : Option ℕ) → Told w.steps w.history (posts_held w h point)
@@ -165,7 +165,7 @@ by_posts_held w h (Some point) =
     ]
 
 by_posts_at : (w : World) (o : Option Holding) (point : Option ℕ) → Told w.steps w.history (posts_at w o point)
-by_posts_at w None point = by_refused w NothingToPost
+by_posts_at w None point = by_refused w _
 by_posts_at w (Some h) point = by_posts_held w h point
 
 -- where it is of no frame and publishes nothing
