@@ -14,7 +14,6 @@ use Rattle.br_model.specs.declared.frame.FrameFault.{FrameFault}
 use Rattle.br_model.specs.declared.frame.Head.{Head}
 use Rattle.br_model.specs.declared.steps.Event.TheVariants as events
 use Rattle.br_model.specs.declared.steps.Refusal.{Refusal}
-use Rattle.br_model.specs.declared.steps.Refusal.TheVariants.{NoSuchPoint}
 use Rattle.br_model.specs.Plane.Chip.{notes, Chip, first_chip, first_chips, applies}
 use Rattle.br_model.specs.Table.Cut.{cut, deferred_of, synchronous_of}
 use Rattle.br_model.specs.Table.Domains.{domain_of, chip_domains, has_chip}
@@ -28,17 +27,17 @@ use Rattle.br_model.specs.Plane.ChipSteps.{turns_to, turns}
 use Rattle.br_model.specs.Plane.Entering.{waits, goes_on, enters_as, class_of, enters_by, chip_of}
 use Rattle.br_model.specs.Theorems.Invariants.{IsWorld}
 use Rattle.br_model.specs.Plane.Runs.{run, then_step}
-use Rattle.br_model.specs.Plane.Serving.{posts, serves, holds, held_with, lets_go, is_point, posts_held, posts_at}
+use Rattle.br_model.specs.Plane.Serving.{posts, serves, holds, held_with, lets_go, posts_at}
 use Rattle.br_model.specs.Plane.Steps.{does, world_step}
 use Rattle.br_model.specs.Plane.Traits.{traits}
 use Rattle.br_model.specs.declared.steps.Step.{Step}
 use Rattle.br_model.specs.declared.steps.Step.TheVariants.{Rx, Serve, Hold, Post, Turn, Publish}
-use Rattle.br_model.specs.Plane.World.{World, Waiting, Holding, Stepped, first_world, chip_at, next_of, table_of_chip, answered, reacts, refused, with_chip}
+use Rattle.br_model.specs.Plane.World.{World, Waiting, Holding, Stepped, first_world, chip_at, next_of, table_of_chip, answered, reacts, with_chip}
 use Rattle.br_model.proofs.ApplyingLaws.{after_accept, after_turn, once_after_accept, once_after_turn}
 use Rattle.br_model.proofs.PlaneChips.{chip-dom, chip-own, chip-there, put-same, put-other, CountsStay, put-counts, counts-same, counted-before, chip_of-at}
 use Rattle.br_model.proofs.PlaneKept.{Ends, ends_refused, ends_done, ends_answered, does-ends, first-world, step-world, notes-keeps, hit_by-keeps, chip-stands}
 use Rattle.br_model.proofs.PlaneLists.{same-some, find-each}
-use Rattle.br_model.proofs.PlaneWaiting.{goes_on-either, waits-either}
+use Rattle.br_model.proofs.PlaneWaiting.{goes_on-either, posts_at-either, waits-either}
 
 -- Changes are accepted behind those that were, and no chip applies a deferred one.
 abbrev Grows : World → World → Type 0
@@ -85,17 +84,8 @@ holds-grows : (w : World) (fs : List Waiting) → Grows w (holds w fs).0
 holds-grows w [] = idle w
 holds-grows w (f ∷ later) = stays w (holds w (f ∷ later)).0 refl refl (counts-same w.chips)
 
-posts_held-grows : (w : World) (h : Holding) (point : Option ℕ) → Grows w (posts_held w h point).0
-posts_held-grows w h None = posts-grows (lets_go w h.waiting.id) h.waiting h.floor
-posts_held-grows w h (Some point) =
-    elim (is_point w h point) as (λ b. Grows w (cond {A = Stepped} b (posts (lets_go w h.waiting.id) h.waiting point) (refused w NoSuchPoint)).0) [
-      | true ↦ posts-grows (lets_go w h.waiting.id) h.waiting point
-      | false ↦ idle w
-    ]
-
 posts_at-grows : (w : World) (o : Option Holding) (point : Option ℕ) → Grows w (posts_at w o point).0
-posts_at-grows w None point = idle w
-posts_at-grows w (Some h) point = posts_held-grows w h point
+posts_at-grows w o point = posts_at-either (λ s. Grows w s.0) w (λ why. idle w) (λ h p. posts-grows (lets_go w h.waiting.id) h.waiting p) o point
 
 -- where it is of no frame, no turn, and publishes nothing
 ends-grows : (w : World) (step : Step) {y : Stepped} → (traits step).turn ≡ None → Ends w step y → Grows w y.0

@@ -23,11 +23,10 @@ use Rattle.br_model.specs.Plane.Entering.{waits, goes_on, enters_chip, enters_as
 use Rattle.br_model.specs.Plane.Runs.{run, then_step}
 use Rattle.br_model.specs.Plane.Sending.{Sent}
 use Rattle.br_model.specs.Plane.Steps.{world_step}
-use Rattle.br_model.specs.Plane.World.{World, Waiting, Holding, Stepped, first_world, sent, table_of_chip, with_chip, answered, reacts, refused}
+use Rattle.br_model.specs.Plane.World.{World, Waiting, Holding, Stepped, first_world, sent, table_of_chip, with_chip, answered, reacts}
 use Rattle.br_model.specs.Control.Reaction.{Reaction}
 use Rattle.br_model.specs.declared.steps.Event.TheVariants as events
 use Rattle.br_model.specs.declared.steps.Refusal.{Refusal}
-use Rattle.br_model.specs.declared.steps.Refusal.TheVariants.{NoSuchPoint}
 use Rattle.std.specs.declared.result.Result.{Result}
 use Rattle.br_model.specs.Table.Domains.{domain_of}
 use Rattle.br_model.specs.Table.Limits.{most_waiting}
@@ -44,6 +43,7 @@ use Rattle.br_model.proofs.PlaneFates.{Found, Fate, idle, entered, taken, gone, 
 use Rattle.br_model.proofs.PlaneKept.{Ends, ends_refused, ends_done, ends_answered, does-ends, first-world, step-world}
 use Rattle.br_model.proofs.PlaneLists.{has-up-to, last-has, up-to-last}
 use Rattle.br_model.proofs.PlaneStays.{step-counts}
+use Rattle.br_model.proofs.PlaneWaiting.{posts_at-either}
 
 same-entry : (l : Found) (a b : Waiting × Option ℕ) → l ≡ a ∷ [] → l ≡ b ∷ [] → a ≡ b
 same-entry l a b p q = ap (λ (k : Found). get_or k 0 a) (sym p ∙ q)
@@ -361,13 +361,7 @@ holds-next v [] = refl
 holds-next v (g ∷ later) = refl
 
 posts_at-next : (v : World) (o : Option Holding) (point : Option ℕ) → (posts_at v o point).0.next ≡ v.next
-posts_at-next v None point = refl
-posts_at-next v (Some h) None = posts-next (lets_go v h.waiting.id) h.waiting h.floor
-posts_at-next v (Some h) (Some point) =
-    elim (is_point v h point) as (λ b. (cond {A = Stepped} b (posts (lets_go v h.waiting.id) h.waiting point) (refused v NoSuchPoint)).0.next ≡ v.next) [
-      | true ↦ posts-next (lets_go v h.waiting.id) h.waiting point
-      | false ↦ refl
-    ]
+posts_at-next v o point = posts_at-either (λ s. s.0.next ≡ v.next) v (λ why. refl) (λ h p. posts-next (lets_go v h.waiting.id) h.waiting p) o point
 
 ends-next : (v : World) (step : Step) {y : Stepped} → Ends v step y → y.0.next ≡ v.next
 ends-next v step (ends_refused why) = refl

@@ -13,7 +13,6 @@ use Rattle.br_model.specs.declared.frame.FrameFault.{FrameFault}
 use Rattle.br_model.specs.declared.frame.Head.{Head}
 use Rattle.br_model.specs.declared.steps.Event.TheVariants as events
 use Rattle.br_model.specs.declared.steps.Refusal.{Refusal}
-use Rattle.br_model.specs.declared.steps.Refusal.TheVariants.{NoSuchPoint}
 use Rattle.br_model.specs.declared.steps.Step.{Step}
 use Rattle.br_model.specs.declared.steps.Step.TheVariants.{Rx, Serve, Hold, Post, Publish}
 use Rattle.br_model.specs.Control.Reaction.{Reaction}
@@ -21,13 +20,13 @@ use Rattle.br_model.specs.Data.Maps.{has}
 use Rattle.br_model.specs.Forward.Shares.{mark_of}
 use Rattle.br_model.specs.Plane.Chip.{notes, Chip}
 use Rattle.br_model.specs.Plane.Entering.{waits, goes_on, enters_as, class_of, enters_by, chip_of}
-use Rattle.br_model.specs.Plane.Serving.{posts, serves, holds, held_with, lets_go, is_point, posts_held, posts_at}
+use Rattle.br_model.specs.Plane.Serving.{posts, serves, holds, held_with, lets_go, posts_at}
 use Rattle.br_model.specs.Plane.Steps.{does, world_step, publishes}
-use Rattle.br_model.specs.Plane.World.{World, Waiting, Holding, Stepped, table_of_chip, answered, reacts, refused, with_chip}
+use Rattle.br_model.specs.Plane.World.{World, Waiting, Holding, Stepped, table_of_chip, answered, reacts, with_chip}
 use Rattle.br_model.specs.Table.Domains.{domain_of}
 use Rattle.br_model.specs.Wire.Frames.{frame}
 use Rattle.br_model.proofs.PlaneKept.{Ends, ends_refused, ends_done, ends_answered, does-ends}
-use Rattle.br_model.proofs.PlaneWaiting.{goes_on-either, waits-either}
+use Rattle.br_model.proofs.PlaneWaiting.{goes_on-either, posts_at-either, waits-either}
 
 -- Changes are accepted behind those that were; what is published and held stays.
 record Stays (w v : World) : Type 0 where
@@ -105,17 +104,10 @@ holds-frees w (f ∷ later) = record { changes = []; history = sym (append-nil w
 freed : (w : World) (id : ℕ) (v : World) → Stays (lets_go w id) v → Frees w v
 freed w id v s = record { changes = s.changes; history = s.history; counts = s.counts }
 
-posts_held-frees : (w : World) (h : Holding) (point : Option ℕ) → Frees w (posts_held w h point).0
-posts_held-frees w h None = freed w h.waiting.id _ (posts-stays (lets_go w h.waiting.id) h.waiting h.floor)
-posts_held-frees w h (Some point) =
-    elim (is_point w h point) as (λ b. Frees w (cond {A = Stepped} b (posts (lets_go w h.waiting.id) h.waiting point) (refused w NoSuchPoint)).0) [
-      | true ↦ freed w h.waiting.id _ (posts-stays (lets_go w h.waiting.id) h.waiting point)
-      | false ↦ record { changes = []; history = sym (append-nil w.history); counts = refl }
-    ]
-
 posts_at-frees : (w : World) (o : Option Holding) (point : Option ℕ) → Frees w (posts_at w o point).0
-posts_at-frees w None point = record { changes = []; history = sym (append-nil w.history); counts = refl }
-posts_at-frees w (Some h) point = posts_held-frees w h point
+posts_at-frees w o point =
+    posts_at-either (λ s. Frees w s.0) w (λ why. record { changes = []; history = sym (append-nil w.history); counts = refl })
+    (λ h p. freed w h.waiting.id _ (posts-stays (lets_go w h.waiting.id) h.waiting p)) o point
 
 -- Each step.
 

@@ -14,7 +14,7 @@ use Rattle.br_model.specs.declared.frame.FrameFault.{FrameFault}
 use Rattle.br_model.specs.declared.frame.Head.{Head}
 use Rattle.br_model.specs.declared.steps.Event.TheVariants as events
 use Rattle.br_model.specs.declared.steps.Refusal.{Refusal}
-use Rattle.br_model.specs.declared.steps.Refusal.TheVariants.{HistoryFull, NoSuchPoint, NothingReported}
+use Rattle.br_model.specs.declared.steps.Refusal.TheVariants.{HistoryFull, NothingReported}
 use Rattle.br_model.specs.declared.steps.Step.{Step}
 use Rattle.br_model.specs.declared.steps.Step.TheVariants.{Rx, Serve, Hold, Post, Report, Publish}
 use Rattle.br_model.specs.declared.transcript.Line.{Line}
@@ -26,7 +26,7 @@ use Rattle.br_model.specs.Forward.Shares.{chip_out, mark_of, soft_out}
 use Rattle.br_model.specs.Plane.Chip.{Chip, notes}
 use Rattle.br_model.specs.Plane.ChipSteps.{tells, reports}
 use Rattle.br_model.specs.Plane.Entering.{chip_of, class_of, enters_as, enters_by, goes_on, waits}
-use Rattle.br_model.specs.Plane.Serving.{held_with, holds, is_point, lets_go, posts, posts_at, posts_held, serves}
+use Rattle.br_model.specs.Plane.Serving.{held_with, holds, lets_go, posts, posts_at, serves}
 use Rattle.br_model.specs.Plane.Steps.{publishes, world_step}
 use Rattle.br_model.specs.Plane.World.{World, Waiting, Holding, Stepped, accepts, after_lines, answered, chip_at, control_lines, done, reacts, refused, sent, table_at, table_of_chip, with_chip}
 use Rattle.br_model.specs.Program.LiveRun.{is_report_at, says_full}
@@ -34,6 +34,7 @@ use Rattle.br_model.specs.Table.Domains.{domain_of}
 use Rattle.br_model.specs.Table.Limits.{most_waiting}
 use Rattle.br_model.specs.Wire.Frames.{frame}
 use Rattle.br_model.proofs.PlaneKept.{Ends, ends_refused, ends_done, ends_answered, does-ends}
+use Rattle.br_model.proofs.PlaneWaiting.{posts_at-either}
 use Rattle.live_book.specs.Reading.{is_published, refused_after}
 
 -- lines that tell of no step
@@ -156,17 +157,8 @@ by_holds : (w : World) (fs : List Waiting) → Told w.steps w.history (holds w f
 by_holds w [] = by_refused w _
 by_holds w (f ∷ later) = silent w.steps w.history (holds w (f ∷ later)) refl refl (record { all = λ may. refl; same = λ is_report b. refl })
 
-by_posts_held : (w : World) (h : Holding) (point : Option ℕ) → Told w.steps w.history (posts_held w h point)
-by_posts_held w h None = by_posts (lets_go w h.waiting.id) h.waiting h.floor
-by_posts_held w h (Some point) =
-    elim (is_point w h point) as (λ b. Told w.steps w.history (cond {A = Stepped} b (posts (lets_go w h.waiting.id) h.waiting point) (refused w NoSuchPoint))) [
-      | true ↦ by_posts (lets_go w h.waiting.id) h.waiting point
-      | false ↦ by_refused w NoSuchPoint
-    ]
-
 by_posts_at : (w : World) (o : Option Holding) (point : Option ℕ) → Told w.steps w.history (posts_at w o point)
-by_posts_at w None point = by_refused w _
-by_posts_at w (Some h) point = by_posts_held w h point
+by_posts_at w o point = posts_at-either (Told w.steps w.history) w (by_refused w) (λ h p. by_posts (lets_go w h.waiting.id) h.waiting p) o point
 
 -- where it is of no frame and publishes nothing
 ends_told : (w : World) (s : Step) {y : Stepped} → Ends w s y → Told w.steps w.history y

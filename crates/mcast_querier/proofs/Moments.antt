@@ -35,7 +35,6 @@ use Rattle.std.proofs.Math.Bool.{or-true}
 use Rattle.br_model.specs.declared.frame.Class.{Class}
 use Rattle.br_model.specs.declared.frame.Class.TheVariants.{Drop, Trap, Copy, Forward}
 use Rattle.br_model.specs.declared.frame.FrameFault.{FrameFault}
-use Rattle.br_model.specs.declared.steps.Refusal.TheVariants.{NoSuchPoint}
 use Rattle.br_model.specs.declared.steps.Step.{Step}
 use Rattle.br_model.specs.declared.steps.Step.TheVariants as steps
 use Rattle.br_model.specs.declared.transcript.Line.{Line}
@@ -43,7 +42,7 @@ use Rattle.br_model.specs.declared.transcript.Line.TheVariants.{Done, Overrun}
 use Rattle.br_model.specs.Forward.Shares.{mark_of}
 use Rattle.br_model.specs.Plane.Chip.{notes, Chip}
 use Rattle.br_model.specs.Plane.Entering.{waits, goes_on, enters_as, class_of, enters_by, chip_of}
-use Rattle.br_model.specs.Plane.Serving.{posts, serves, holds, held_with, lets_go, is_point, posts_held, posts_at}
+use Rattle.br_model.specs.Plane.Serving.{posts, serves, holds, held_with, lets_go, posts_at}
 use Rattle.br_model.specs.Plane.Steps.{world_step}
 use Rattle.br_model.specs.Plane.Traits.{traits}
 use Rattle.br_model.specs.Plane.World.{World, Waiting, Holding, Stepped, table_of_chip, answered, control_lines, reacts, refused, with_chip}
@@ -52,6 +51,7 @@ use Rattle.br_model.specs.Table.Limits.{most_waiting}
 use Rattle.br_model.specs.Wire.Frames.{frame}
 use Rattle.mcast_querier.specs.Runs.{is_done}
 use Rattle.br_model.proofs.PlaneKept.{Ends, ends_refused, ends_done, ends_answered, does-ends, moment_in}
+use Rattle.br_model.proofs.PlaneWaiting.{posts_at-either}
 use Rattle.br_model.proofs.ReactionSteps.{IsKept}
 use Rattle.br_model.proofs.SnoopSteps.{snoops-keeps}
 
@@ -208,17 +208,8 @@ holds-same : (w : World) (fs : List Waiting) → (holds w fs).0.control.now ≡ 
 holds-same w [] = refl
 holds-same w (f ∷ later) = refl
 
-posts_held-same : (w : World) (h : Holding) (point : Option ℕ) → (posts_held w h point).0.control.now ≡ w.control.now
-posts_held-same w h None = posts-same (lets_go w h.waiting.id) h.waiting h.floor
-posts_held-same w h (Some point) =
-    elim (is_point w h point) as (λ b. (cond {A = Stepped} b (posts (lets_go w h.waiting.id) h.waiting point) (refused w NoSuchPoint)).0.control.now ≡ w.control.now) [
-      | true ↦ posts-same (lets_go w h.waiting.id) h.waiting point
-      | false ↦ refl
-    ]
-
 posts_at-same : (w : World) (o : Option Holding) (point : Option ℕ) → (posts_at w o point).0.control.now ≡ w.control.now
-posts_at-same w None point = refl
-posts_at-same w (Some h) point = posts_held-same w h point
+posts_at-same w o point = posts_at-either (λ s. s.0.control.now ≡ w.control.now) w (λ why. refl) (λ h p. posts-same (lets_go w h.waiting.id) h.waiting p) o point
 
 -- What is so of the last moment before and after a step that names this one or none, by whether a line says that it was done.
 abbrev pub PassesBy : Option ℕ → Bool → ℕ → ℕ → Type 0
