@@ -90,9 +90,8 @@ fn post_fits(id: u32, point: Option<u32>)
 fn numbers_fit(step: &Step)
     ensures { is_numbered step.now ≡ true }
 {
-    match step {
-        Step::Post { id, point } => post_fits(*id, *point),
-        _ => {}
+    if let Step::Post { id, point } = step {
+        post_fits(*id, *point);
     }
 }
 
