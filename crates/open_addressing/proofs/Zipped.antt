@@ -1,10 +1,11 @@
--- Columns as cells.
-use Rattle.std.proofs.Common.{◌≡◌, ◌≢◌, ℕ, zero, suc, ◌<◌, ◌≤◌, Bool, true, false, cond, min, Option, None, Some, List, [], ◌∷◌, ◌++◌, ◌+◌, take, filter_map, length, replicate, get_or, set, refl, sym, ap, subst, ◌∙◌, arith}
+-- Keys with their values as cells.
+use Rattle.std.proofs.Common.{◌≡◌, ◌≢◌, ℕ, zero, suc, ◌<◌, ◌≤◌, Bool, true, false, cond, min, Option, None, Some, List, [], ◌∷◌, ◌++◌, ◌+◌, take, filter_map, map, length, replicate, get_or, set, refl, sym, ap, subst, ◌∙◌, arith}
 use Rattle.std.specs.List.{cons_option}
-use Rattle.std.proofs.Math.Seq.{take-suc, take-length}
-use Rattle.std.proofs.lemmas.List.{get_or_default}
+use Rattle.std.proofs.Math.Seq.{take-suc}
+use Rattle.std.proofs.lemmas.List.{get_or_default, get_or-map, get_or_past, length-map, map-append}
 use Rattle.std.proofs.lemmas.List.Elements.{filter_map-append}
-use Rattle.open_addressing.specs.Zipped.{cell_of, cells_of, key_of, value_of, AreFree}
+use Rattle.lists.specs.Padded.{padded}
+use Rattle.open_addressing.specs.Zipped.{cell_of, cells_of, key_of, value_of, pair_cell}
 use Rattle.open_addressing.specs.Finite.{key_with, key_if}
 
 module _ {V : Type 0} where
@@ -89,40 +90,50 @@ module _ {V : Type 0} where
   length-cells_of (k ∷ ks) (v ∷ vs) = let rest = length-cells_of ks vs in omega arith
 
   -- the key of a cell, if its value passes
-  key_if-cell : (p : V → Bool) (k : ℕ) (v : V) → key_if p (cell_of k v) ≡ key_with p k v
-  key_if-cell p zero v = refl
-  key_if-cell p (suc k) v = refl
-
-  key_if-at : (p : V → Bool) (ks : List ℕ) (vs : List V) (i k : ℕ) (v : V) → i < length (cells_of ks vs) → k ≡ get_or ks i k → get_or vs i v ≡ v
-      → key_if p (get_or (cells_of ks vs) i None) ≡ key_with p k v
-  key_if-at p ks vs i k v h key value =
-      let key' : k ≡ get_or ks i 0 = key ∙ get_or_default ks i k 0 (within-keys ks vs i h) in
-      ap (key_if p) (cell_is ks vs i v h) ∙ (λ t. key_if p (cell_of (sym key' t) (value t))) ∙ key_if-cell p k v
 
   key_with-some : (p : V → Bool) (k : ℕ) (v : V) → k ≢ 0 → p v ≡ true → Some k ≡ key_with p k v
   key_with-some p zero v some e = absurd (some refl)
   key_with-some p (suc k) v some e = sym (ap (λ b. cond b (Some (suc k)) None) e)
 
-  pub key_if-yes : (p : V → Bool) (ks : List ℕ) (vs : List V) (i k : ℕ) (v : V) → i < length (cells_of ks vs) → k ≡ get_or ks i k → v ≡ get_or vs i v → k ≢ 0 → p v ≡ true
-      → Some k ≡ key_if p (get_or (cells_of ks vs) i None)
-  key_if-yes p ks vs i k v h key value some e = key_with-some p k v some e ∙ sym (key_if-at p ks vs i k v h key (sym value))
-
   key_with-none : (p : V → Bool) (k : ℕ) (v : V) → p v ≡ false → None ≡ key_with p k v
   key_with-none p zero v e = refl
   key_with-none p (suc k) v e = sym (ap (λ b. cond b (Some (suc k)) None) e)
 
-  pub key_if-no : (p : V → Bool) (ks : List ℕ) (vs : List V) (i k : ℕ) (v : V) → i < length (cells_of ks vs) → k ≡ get_or ks i k → v ≡ get_or vs i v → p v ≡ false
-      → None ≡ key_if p (get_or (cells_of ks vs) i None)
-  key_if-no p ks vs i k v h key value e = key_with-none p k v e ∙ sym (key_if-at p ks vs i k v h key (sym value))
+  key_if-cell : (p : V → Bool) (k : ℕ) (v : V) → key_if p (cell_of k v) ≡ key_with p k v
+  key_if-cell p zero v = refl
+  key_if-cell p (suc k) v = refl
 
-  key_of-zero : (p : V → Bool) (c : Option (ℕ × V)) → key_of c ≡ 0 → None ≡ key_if p c
-  key_of-zero p None e = refl
-  key_of-zero p (Some c) e = ap (λ k. key_with p k c.1) (sym e)
+  pub key_if-yes : (p : V → Bool) (k : ℕ) (v : V) → k ≢ 0 → p v ≡ true → Some k ≡ key_if p (cell_of k v)
+  key_if-yes p k v some e = key_with-some p k v some e ∙ sym (key_if-cell p k v)
 
-  pub key_if-empty : (p : V → Bool) (ks : List ℕ) (vs : List V) (i k : ℕ) → i < length (cells_of ks vs) → k ≡ get_or ks i k → k ≡ 0
-      → None ≡ key_if p (get_or (cells_of ks vs) i None)
-  key_if-empty p ks vs i k h key is =
-      key_of-zero p (get_or (cells_of ks vs) i None) (key_is ks vs i h ∙ sym (get_or_default ks i k 0 (within-keys ks vs i h)) ∙ sym key ∙ is)
+  pub key_if-no : (p : V → Bool) (k : ℕ) (v : V) → p v ≡ false → None ≡ key_if p (cell_of k v)
+  key_if-no p k v e = key_with-none p k v e ∙ sym (key_if-cell p k v)
+
+  pub key_if-empty : (p : V → Bool) (k : ℕ) (v : V) → k ≡ 0 → None ≡ key_if p (cell_of k v)
+  key_if-empty p k v none = ap (λ q. key_if p (cell_of q v)) (sym none)
+
+  -- a pair as a cell
+
+  pub pair-at : (es : List (ℕ × V)) (i : ℕ) (e : ℕ × V) → i < length es → e ≡ get_or es i e → get_or (map pair_cell es) i None ≡ cell_of e.0 e.1
+  pair-at es i e h is = get_or-map pair_cell es i e None h ∙ ap pair_cell (sym is)
+
+  pub pair-past : (es : List (ℕ × V)) (i : ℕ) → length es ≤ i → get_or (map pair_cell es) i None ≡ None
+  pair-past es i h = get_or_past (map pair_cell es) i None (let long = length-map es pair_cell in omega arith)
+
+  -- pairs of the key 0 are written behind
+  pub pairs-more : (es : List (ℕ × V)) (k : ℕ) (v : V) → map pair_cell (es ++ replicate k (0, v)) ≡ map pair_cell es ++ replicate k None
+  pairs-more es k v = map-append pair_cell es (replicate k (0, v)) ∙ ap (λ (cs : List (Option (ℕ × V))). map pair_cell es ++ cs) (blank k)
+    where
+      blank : (k : ℕ) → map pair_cell (replicate k (0, v)) ≡ replicate k None
+      blank zero = refl
+      blank (suc k) = ap (λ (cs : List (Option (ℕ × V))). None ∷ cs) (blank k)
+
+  -- a cell that is what its key and a value make
+  pub cell-again : (k : ℕ) (v : V) → cell_of k v ≡ cell_of (key_of (cell_of k v)) v
+  cell-again k v = ap (λ q. cell_of q v) (sym (key_of-cell k v))
+
+  pub value-of : (c : Option (ℕ × V)) (v : V) → c ≡ cell_of (key_of c) v → key_of c ≢ 0 → value_of c ≡ Some v
+  value-of c v is some = ap value_of is ∙ value_of-cell (key_of c) v some
 
 -- one item more
 pub filter_map-next : {X Y : Type 0} (h : X → Option Y) (xs : List X) (i : ℕ) (d : X) → i < length xs → filter_map h (take (i + 1) xs) ≡ filter_map h (take i xs) ++ cons_option (h (get_or xs i d)) []
@@ -130,30 +141,18 @@ filter_map-next h xs i d within =
     let next : i + 1 ≡ suc i = omega arith in
     ap (λ n. filter_map h (take n xs)) next ∙ ap (filter_map h) (take-suc xs i d within) ∙ filter_map-append h (take i xs) (get_or xs i d ∷ [])
 
--- what goes over cells, and passes by those that hold none, passes by a stretch of them
+-- what goes over cells, and passes by those that hold none, passes by those behind
 module _ {V R : Type 0} (over : List (Option (ℕ × V)) → R) (step : Option (ℕ × V) → R → R)
     (steps : (c : Option (ℕ × V)) (cs : List (Option (ℕ × V))) → over (c ∷ cs) ≡ step c (over cs)) (by : (r : R) → step None r ≡ r) where
-  pub past_free : (cs : List (Option (ℕ × V))) (start end : ℕ) → start ≤ end → AreFree cs start end → over (take end cs) ≡ over (take start cs)
-  past_free [] zero zero h free = refl
-  past_free [] zero (suc end) h free = refl
-  past_free [] (suc start) zero h free = refl
-  past_free [] (suc start) (suc end) h free = refl
-  past_free (c ∷ cs) zero zero h free = refl
-  past_free (c ∷ cs) zero (suc end) h free =
-      steps c (take end cs) ∙ ap (λ (c : Option (ℕ × V)). step c (over (take end cs))) (free 0 (omega arith) (omega arith)) ∙ by (over (take end cs))
-      ∙ past_free cs 0 end (omega arith) (λ j from to. free (suc j) (omega arith) (omega arith))
-  past_free (c ∷ cs) (suc start) zero h free = absurd (omega arith)
-  past_free (c ∷ cs) (suc start) (suc end) h free =
-      steps c (take end cs) ∙ ap (step c) (past_free cs start end (omega arith) (λ j from to. free (suc j) (omega arith) (omega arith))) ∙ sym (steps c (take start cs))
+  over-blank : (n : ℕ) → over (padded None n []) ≡ over []
+  over-blank zero = refl
+  over-blank (suc n) = steps None (padded None n []) ∙ by (over (padded None n [])) ∙ over-blank n
 
--- the keys up to the next cell that may hold one, and with it
-pub keys-next : {V : Type 0} (p : V → Bool) (cs : List (Option (ℕ × V))) (start i : ℕ) → start ≤ i → i < length cs → AreFree cs start i
-    → filter_map (key_if p) (take (i + 1) cs) ≡ filter_map (key_if p) (take start cs) ++ cons_option (key_if p (get_or cs i None)) []
-keys-next p cs start i h within free =
-    filter_map-next (key_if p) cs i None within
-    ∙ ap (λ ks. ks ++ cons_option (key_if p (get_or cs i None)) []) (past_free (filter_map (key_if p)) (λ c ks. cons_option (key_if p c) ks) (λ c cs. refl) (λ ks. refl) cs start i h free)
+  pub over-padded : (n : ℕ) (cs : List (Option (ℕ × V))) → length cs ≤ n → over (padded None n cs) ≡ over cs
+  over-padded zero [] h = refl
+  over-padded zero (c ∷ cs) h = absurd (omega arith)
+  over-padded (suc n) [] h = over-blank (suc n)
+  over-padded (suc n) (c ∷ cs) h = steps c (padded None n cs) ∙ ap (step c) (over-padded n cs (omega arith)) ∙ sym (steps c cs)
 
--- and where none is left
-pub keys-end : {V : Type 0} (p : V → Bool) (cs : List (Option (ℕ × V))) (start : ℕ) → start ≤ length cs → AreFree cs start (length cs) → filter_map (key_if p) (take start cs) ≡ filter_map (key_if p) cs
-keys-end p cs start h free =
-    sym (past_free (filter_map (key_if p)) (λ c ks. cons_option (key_if p c) ks) (λ c cs. refl) (λ ks. refl) cs start (length cs) h free) ∙ ap (filter_map (key_if p)) (take-length cs)
+pub keys-padded : {V : Type 0} (p : V → Bool) (n : ℕ) (cs : List (Option (ℕ × V))) → length cs ≤ n → filter_map (key_if p) (padded None n cs) ≡ filter_map (key_if p) cs
+keys-padded p n cs h = over-padded (filter_map (key_if p)) (λ c ks. cons_option (key_if p c) ks) (λ c cs. refl) (λ ks. refl) n cs h
