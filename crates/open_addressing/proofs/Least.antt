@@ -1,15 +1,16 @@
 -- The least number of cells is that of their entries, whatever their order.
-use Rattle.std.proofs.Common.{◌≡◌, ◌≢◌, ℕ, zero, suc, ◌+◌, ◌<◌, ◌≤◌, cond, Option, None, Some, List, [], ◌∷◌, length, get_or, take, refl, sym, ap, ◌∙◌, arith}
+use Rattle.std.proofs.Common.{◌≡◌, ◌≢◌, ℕ, zero, suc, ◌+◌, ◌<◌, ◌≤◌, cond, Option, None, Some, List, [], ◌∷◌, length, map, get_or, take, refl, sym, ap, ◌∙◌, arith}
 use Rattle.std.specs.Ordering.{is_eq, nat_cmp}
 use Rattle.std.specs.declared.cmp.Ordering.TheVariants.{Less, Equal, Greater}
 use Rattle.std.specs.FinMap.Entries.{find, put, by_order}
 use Rattle.lists.specs.Padded.{padded}
-use Rattle.open_addressing.specs.Zipped.{key_of, cell_of}
+use Rattle.std.proofs.lemmas.List.{length-map}
+use Rattle.open_addressing.specs.Zipped.{key_of, cell_of, pair_cell}
 use Rattle.open_addressing.specs.Lookups.{IsApart}
 use Rattle.open_addressing.specs.Finite.{entries_of}
 use Rattle.open_addressing.specs.Least.{smaller, least, number_with, number_if, least_in}
 use Rattle.open_addressing.proofs.Entries.{apart-tail, alone}
-use Rattle.open_addressing.proofs.Zipped.{over-padded}
+use Rattle.open_addressing.proofs.Zipped.{over-padded, pairs-padded}
 
 smaller-none : (a : Option ℕ) → smaller a None ≡ a
 smaller-none None = refl
@@ -36,8 +37,10 @@ module _ {V : Type 0} (f : V → Option ℕ) where
       ap (λ n. least_in f (take n (c ∷ cs))) (let e : suc i + 1 ≡ suc (i + 1) = omega arith in e)
       ∙ ap (smaller (number_if f c)) (least_in-next cs i (omega arith)) ∙ smaller-assoc (number_if f c) (least_in f (take i cs)) (number_if f (get_or cs i None))
 
-  pub least-padded : (n : ℕ) (cs : List (Option (ℕ × V))) → length cs ≤ n → least_in f (padded None n cs) ≡ least_in f cs
-  least-padded n cs h = over-padded (least_in f) (λ c m. smaller (number_if f c) m) (λ c cs. refl) (λ m. refl) n cs h
+  pub least-padded : (n : ℕ) (es : List (ℕ × V)) (v : V) → length es ≤ n → least_in f (map pair_cell (padded (0, v) n es)) ≡ least_in f (map pair_cell es)
+  least-padded n es v h =
+      ap (least_in f) (pairs-padded n es v)
+      ∙ over-padded (least_in f) (λ c m. smaller (number_if f c) m) (λ c cs. refl) (λ m. refl) n (map pair_cell es) (let long = length-map es pair_cell in omega arith)
 
   least-put : (k : ℕ) (v : V) (es : List (ℕ × V)) → find nat_cmp k es ≡ None → least f (put nat_cmp k v es) ≡ smaller (f v) (least f es)
   least-put k v [] none = refl

@@ -2,17 +2,14 @@
 use Rattle.std.proofs.Common.{◌≡◌, ◌≢◌, ℕ, zero, suc, ◌<◌, ◌≤◌, Bool, true, false, cond, min, Option, None, Some, List, [], ◌∷◌, ◌++◌, ◌+◌, take, filter_map, map, length, replicate, get_or, set, refl, sym, ap, subst, ◌∙◌, arith}
 use Rattle.std.specs.List.{cons_option}
 use Rattle.std.proofs.Math.Seq.{take-suc}
-use Rattle.std.proofs.lemmas.List.{get_or_default, get_or-map, get_or_past, length-map, map-append}
+use Rattle.std.proofs.lemmas.List.{get_or-map, length-map, map-set}
 use Rattle.std.proofs.lemmas.List.Elements.{filter_map-append}
 use Rattle.lists.specs.Padded.{padded}
+use Rattle.lists.proofs.Padded.{length-padded, padded-none, map-padded}
 use Rattle.open_addressing.specs.Zipped.{cell_of, cells_of, key_of, value_of, pair_cell}
 use Rattle.open_addressing.specs.Finite.{key_with, key_if}
 
 module _ {V : Type 0} where
-  -- of the same cells
-  pub within-same : {cs ds : List (Option (ℕ × V))} {i : ℕ} → cs ≡ ds → i < length ds → i < length cs
-  within-same {i = i} same h = subst (λ (cs : List (Option (ℕ × V))). i < length cs) (sym same) h
-
   pub within-keys : (ks : List ℕ) (vs : List V) (i : ℕ) → i < length (cells_of ks vs) → i < length ks
   within-keys [] vs i h = absurd (omega arith)
   within-keys (k ∷ ks) [] i h = absurd (omega arith)
@@ -30,12 +27,6 @@ module _ {V : Type 0} where
   cell_is (k ∷ ks) [] i d h = absurd (omega arith)
   cell_is (k ∷ ks) (v ∷ vs) zero d h = refl
   cell_is (k ∷ ks) (v ∷ vs) (suc i) d h = cell_is ks vs i d (omega arith)
-
-  pub cell_free : (ks : List ℕ) (vs : List V) (i : ℕ) → get_or ks i 0 ≡ 0 → get_or (cells_of ks vs) i None ≡ None
-  cell_free [] vs i none = refl
-  cell_free (k ∷ ks) [] i none = refl
-  cell_free (k ∷ ks) (v ∷ vs) zero none = ap (λ k. cell_of k v) none
-  cell_free (k ∷ ks) (v ∷ vs) (suc i) none = cell_free ks vs i none
 
   pub key_is : (ks : List ℕ) (vs : List V) (i : ℕ) → i < length (cells_of ks vs) → key_of (get_or (cells_of ks vs) i None) ≡ get_or ks i 0
   key_is [] vs i h = absurd (omega arith)
@@ -57,14 +48,6 @@ module _ {V : Type 0} where
   cells_of-set (k ∷ ks) [] (suc i) q w = refl
   cells_of-set (k ∷ ks) (v ∷ vs) zero q w = refl
   cells_of-set (k ∷ ks) (v ∷ vs) (suc i) q w = ap (λ (cs : List (Option (ℕ × V))). cell_of k v ∷ cs) (cells_of-set ks vs i q w)
-
-  pub cells_of-move : (ks : List ℕ) (vs : List V) (from to k : ℕ) (v : V) → from < length (cells_of ks vs) → k ≡ get_or ks from k → v ≡ get_or vs from v
-      → cells_of (set (set ks from 0) to k) (set vs to v) ≡ set (set (cells_of ks vs) from None) to (get_or (cells_of ks vs) from None)
-  cells_of-move ks vs from to k v h key value =
-      let key' : k ≡ get_or ks from 0 = key ∙ get_or_default ks from k 0 (within-keys ks vs from h) in
-      let cell : cell_of k v ≡ get_or (cells_of ks vs) from None = (λ i. cell_of (key' i) (value i)) ∙ sym (cell_is ks vs from v h) in
-      cells_of-set (set ks from 0) vs to k v ∙ ap (λ (cs : List (Option (ℕ × V))). set cs to (cell_of k v)) (cells_of-clear ks vs from)
-      ∙ ap (λ (c : Option (ℕ × V)). set (set (cells_of ks vs) from None) to c) cell
 
   pub key_of-cell : (k : ℕ) (v : V) → key_of (cell_of k v) ≡ k
   key_of-cell zero v = refl
@@ -117,23 +100,24 @@ module _ {V : Type 0} where
   pub pair-at : (es : List (ℕ × V)) (i : ℕ) (e : ℕ × V) → i < length es → e ≡ get_or es i e → get_or (map pair_cell es) i None ≡ cell_of e.0 e.1
   pair-at es i e h is = get_or-map pair_cell es i e None h ∙ ap pair_cell (sym is)
 
-  pub pair-past : (es : List (ℕ × V)) (i : ℕ) → length es ≤ i → get_or (map pair_cell es) i None ≡ None
-  pair-past es i h = get_or_past (map pair_cell es) i None (let long = length-map es pair_cell in omega arith)
+  -- the cells of pairs that are filled up with those of the key 0
 
-  -- pairs of the key 0 are written behind
-  pub pairs-more : (es : List (ℕ × V)) (k : ℕ) (v : V) → map pair_cell (es ++ replicate k (0, v)) ≡ map pair_cell es ++ replicate k None
-  pairs-more es k v = map-append pair_cell es (replicate k (0, v)) ∙ ap (λ (cs : List (Option (ℕ × V))). map pair_cell es ++ cs) (blank k)
-    where
-      blank : (k : ℕ) → map pair_cell (replicate k (0, v)) ≡ replicate k None
-      blank zero = refl
-      blank (suc k) = ap (λ (cs : List (Option (ℕ × V))). None ∷ cs) (blank k)
+  pub pairs-padded : (n : ℕ) (es : List (ℕ × V)) (v : V) → map pair_cell (padded (0, v) n es) ≡ padded None n (map pair_cell es)
+  pairs-padded n es v = map-padded pair_cell (0, v) n es
 
-  -- a cell that is what its key and a value make
-  pub cell-again : (k : ℕ) (v : V) → cell_of k v ≡ cell_of (key_of (cell_of k v)) v
-  cell-again k v = ap (λ q. cell_of q v) (sym (key_of-cell k v))
+  pub padded-read : (n : ℕ) (es : List (ℕ × V)) (i : ℕ) (v : V) (e : ℕ × V) → i < length (map pair_cell (padded (0, v) n es)) → e ≡ get_or (padded (0, v) n es) i (0, v)
+      → get_or (map pair_cell (padded (0, v) n es)) i None ≡ pair_cell e
+  padded-read n es i v e h is = get_or-map pair_cell (padded (0, v) n es) i (0, v) None (let long = length-map (padded (0, v) n es) pair_cell in omega arith) ∙ ap pair_cell (sym is)
 
-  pub value-of : (c : Option (ℕ × V)) (v : V) → c ≡ cell_of (key_of c) v → key_of c ≢ 0 → value_of c ≡ Some v
-  value-of c v is some = ap value_of is ∙ value_of-cell (key_of c) v some
+  pub padded-within : (n : ℕ) (es : List (ℕ × V)) (i : ℕ) (v : V) → i < length (map pair_cell (padded (0, v) n es)) → i < n
+  padded-within n es i v h = (let long = length-map (padded (0, v) n es) pair_cell in let all = length-padded (0, v) n es in omega arith)
+
+  pub padded-write : (n : ℕ) (old new : List (ℕ × V)) (i : ℕ) (v : V) (e : ℕ × V) → padded (0, v) n new ≡ set (padded (0, v) n old) i e
+      → map pair_cell (padded (0, v) n new) ≡ set (map pair_cell (padded (0, v) n old)) i (pair_cell e)
+  padded-write n old new i v e is = ap (map pair_cell) is ∙ map-set pair_cell (padded (0, v) n old) i e
+
+  pub padded-make : (n : ℕ) (es : List (ℕ × V)) (v : V) → es ≡ [] → map pair_cell (padded (0, v) n es) ≡ replicate n None
+  padded-make n es v none = ap (λ (xs : List (ℕ × V)). map pair_cell (padded (0, v) n xs)) none ∙ pairs-padded n [] v ∙ padded-none None n
 
 -- one item more
 pub filter_map-next : {X Y : Type 0} (h : X → Option Y) (xs : List X) (i : ℕ) (d : X) → i < length xs → filter_map h (take (i + 1) xs) ≡ filter_map h (take i xs) ++ cons_option (h (get_or xs i d)) []
@@ -145,14 +129,18 @@ filter_map-next h xs i d within =
 module _ {V R : Type 0} (over : List (Option (ℕ × V)) → R) (step : Option (ℕ × V) → R → R)
     (steps : (c : Option (ℕ × V)) (cs : List (Option (ℕ × V))) → over (c ∷ cs) ≡ step c (over cs)) (by : (r : R) → step None r ≡ r) where
   over-blank : (n : ℕ) → over (padded None n []) ≡ over []
+  unfolding padded
   over-blank zero = refl
   over-blank (suc n) = steps None (padded None n []) ∙ by (over (padded None n [])) ∙ over-blank n
 
   pub over-padded : (n : ℕ) (cs : List (Option (ℕ × V))) → length cs ≤ n → over (padded None n cs) ≡ over cs
+  unfolding padded
   over-padded zero [] h = refl
   over-padded zero (c ∷ cs) h = absurd (omega arith)
   over-padded (suc n) [] h = over-blank (suc n)
   over-padded (suc n) (c ∷ cs) h = steps c (padded None n cs) ∙ ap (step c) (over-padded n cs (omega arith)) ∙ sym (steps c cs)
 
-pub keys-padded : {V : Type 0} (p : V → Bool) (n : ℕ) (cs : List (Option (ℕ × V))) → length cs ≤ n → filter_map (key_if p) (padded None n cs) ≡ filter_map (key_if p) cs
-keys-padded p n cs h = over-padded (filter_map (key_if p)) (λ c ks. cons_option (key_if p c) ks) (λ c cs. refl) (λ ks. refl) n cs h
+pub keys-padded : {V : Type 0} (p : V → Bool) (n : ℕ) (es : List (ℕ × V)) (v : V) → length es ≤ n → filter_map (key_if p) (map pair_cell (padded (0, v) n es)) ≡ filter_map (key_if p) (map pair_cell es)
+keys-padded p n es v h =
+    ap (filter_map (key_if p)) (pairs-padded n es v)
+    ∙ over-padded (filter_map (key_if p)) (λ c ks. cons_option (key_if p c) ks) (λ c cs. refl) (λ ks. refl) n (map pair_cell es) (let long = length-map es pair_cell in omega arith)

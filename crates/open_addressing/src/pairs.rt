@@ -1,14 +1,14 @@
 //! Keys with their values, one after another.
-ghost use Rattle.std.specs.Prelude.{◌≡◌, ℕ, ◌<◌, ◌≤◌, IfOk, None, length, map, replicate, filter_map, slice_index_or, slice_set, vec_capacity};
-ghost use Rattle.lists.specs.Padded.{padded};
+ghost use Rattle.std.specs.Prelude.{◌≡◌, ◌<◌, IfOk, None, length, map, replicate, filter_map, slice_index_or, slice_set};
 ghost use Rattle.open_addressing.specs.Finite.{key_if};
 ghost use Rattle.open_addressing.specs.Hashed.{mix};
 ghost use Rattle.open_addressing.specs.Hashes.{mix-lt};
 ghost use Rattle.open_addressing.specs.Least.{smaller, number_if, least_in};
-ghost use Rattle.open_addressing.specs.Zipped.{cell_of, key_of, pair_cell};
+ghost use Rattle.open_addressing.specs.Zipped.{cell_of, pair_cell};
 
 use crate::map::{Measure, Test};
 use crate::{Cells, mixed};
+use lists::padded::{item_or, put_item};
 use std::alloc::{AllocError, Global};
 use std::marker::Model;
 
@@ -24,46 +24,15 @@ pub struct Pairs<V> {
 }
 
 impl<V> Model for Pairs<V> {
-    ghost use Rattle.std.specs.Prelude.{ℕ, ◌≤◌, List, Option, None, length, map, vec_capacity};
+    ghost use Rattle.std.specs.Prelude.{ℕ, ◌≤◌, List, Option, length, map, vec_capacity};
     ghost use Rattle.lists.specs.Padded.{padded};
     ghost use Rattle.open_addressing.specs.Zipped.{pair_cell};
 
     ghost Value = { List (Option (ℕ × V)) };
 
-    ghost view = { λ s. padded None s.count (map pair_cell s.pairs.items) };
+    ghost view = { λ s. map pair_cell (padded (0, s.blank) s.count s.pairs.items) };
 
     ghost invariant = { λ s. (length s.pairs.items ≤ s.count) × (s.count ≤ vec_capacity s.pairs) };
-}
-
-/// The key at a place, 0 where none was written.
-fn key_at<V: Copy>(pairs: &[(u64, V)], i: usize) -> u64
-    ensures { result ≡ key_of (slice_index_or (map pair_cell pairs.now) i None) }
-{
-    if i < pairs.len() { pairs[i].0 } else { 0 }
-}
-
-/// The value at a place, or `blank` where none was written.
-fn value_at<V: Copy>(pairs: &[(u64, V)], i: usize, blank: V) -> V
-    ensures { slice_index_or (map pair_cell pairs.now) i None ≡ cell_of (key_of (slice_index_or (map pair_cell pairs.now) i None)) result }
-{
-    if i < pairs.len() { pairs[i].1 } else { blank }
-}
-
-/// Writes blank pairs up to so many, within the room that is there.
-fn lay<V: Copy>(pairs: &mut Vec<(u64, V)>, len: usize, blank: V)
-    requires { len ≤ vec_capacity pairs.old }
-    ensures cells { (n : ℕ) → padded None n (map pair_cell pairs.new.items) ≡ padded None n (map pair_cell pairs.old.items) }
-    ensures long { len ≤ length pairs.new.items }
-    ensures within { (n : ℕ) → len ≤ n → length pairs.old.items ≤ n → length pairs.new.items ≤ n }
-    ensures room { vec_capacity pairs.old ≤ vec_capacity pairs.new }
-{
-    if len <= pairs.len() {
-        return;
-    }
-    match pairs.resize(len, (0, blank)) {
-        Ok(()) => {}
-        Err(_) => unreachable!(),
-    }
 }
 
 /// The key at a place, if its value passes the test.
@@ -107,13 +76,20 @@ impl<V: Copy> Pairs<V> {
         })
     }
 
+    /// The pair in a cell, whose key is 0 where it is empty.
+    fn read(&self, i: usize) -> (u64, V)
+        requires { i < length self.now }
+        ensures { slice_index_or self.now i None ≡ pair_cell result }
+    {
+        item_or(self.pairs.as_slice(), i, (0, self.blank))
+    }
+
     /// Writes a pair.
     fn write(&mut self, i: usize, key: u64, value: V)
         requires { i < length self.old }
         ensures { self.new ≡ slice_set self.old i (cell_of key value) }
     {
-        lay(&mut self.pairs, i + 1, self.blank);
-        self.pairs[i] = (key, value);
+        put_item(&mut self.pairs, i, (key, value), (0, self.blank));
     }
 
     /// The keys whose values pass the test, in the order of their cells.
@@ -149,11 +125,11 @@ impl<V: Copy> Cells<u64, V> for Pairs<V> {
     ghost cells = { λ s. s };
 
     fn holds(&self, i: usize, key: &u64) -> bool {
-        key_at(self.pairs.as_slice(), i) == *key
+        self.read(i).0 == *key
     }
 
     fn is_below(&self, i: usize, key: &u64) -> bool {
-        key_at(self.pairs.as_slice(), i) < *key
+        self.read(i).0 < *key
     }
 
     fn hash(key: &u64) -> u64 {
@@ -161,7 +137,7 @@ impl<V: Copy> Cells<u64, V> for Pairs<V> {
     }
 
     fn value(&self, i: usize) -> V {
-        value_at(self.pairs.as_slice(), i, self.blank)
+        self.read(i).1
     }
 
     fn put(&mut self, i: usize, key: &u64, value: V) {
