@@ -176,7 +176,7 @@ impl Bridge {
             return answer;
         }
         add_frames(own, &tree, &out, lines);
-        self.state.tree = tree;
+        *self.state.tree = tree;
         answer
     }
 
