@@ -1,1 +1,1 @@
-pub mod Padded
+pub mod Filling

@@ -6,7 +6,7 @@ pub mod Entries
 pub mod Ascending
 pub mod Lookups
 pub mod Indexed
-pub mod Spare
+pub mod FreeCells
 pub mod Pairs
 pub mod Sound
 pub mod Roomy

@@ -9,7 +9,7 @@ use Rattle.open_addressing.specs.Finite.{value_at, AreCells, IsSound}
 use Rattle.open_addressing.proofs.Zipped.{key_of-cell}
 use Rattle.open_addressing.proofs.Finite.{put-over, put-new, cells-out, cells-none}
 use Rattle.open_addressing.proofs.Indexed.{by_eq, by_lt, indexed-blank, named-blank}
-use Rattle.open_addressing.proofs.Spare.{spare-none, spare-left}
+use Rattle.open_addressing.proofs.FreeCells.{spare-none, spare-left}
 
 module _ {V : Type 0} where
   -- the key in a cell that is written, and those in the others

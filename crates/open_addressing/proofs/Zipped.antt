@@ -5,7 +5,7 @@ use Rattle.std.proofs.Math.Seq.{take-suc}
 use Rattle.std.proofs.lemmas.List.{get_or-map, length-map, map-set}
 use Rattle.std.proofs.lemmas.List.Elements.{filter_map-append}
 use Rattle.lists.specs.Padded.{padded}
-use Rattle.lists.proofs.Padded.{length-padded, padded-none, map-padded}
+use Rattle.lists.proofs.Filling.{length-padded, padded-none, map-padded}
 use Rattle.open_addressing.specs.Zipped.{cell_of, cells_of, key_of, value_of, pair_cell}
 use Rattle.open_addressing.specs.Finite.{key_with, key_if}
 

@@ -1,6 +1,6 @@
 use Rattle.std.proofs.Common.{ℕ, List, ap, ◌∙◌}
 use Rattle.lists.specs.Padded.{padded}
-use Rattle.lists.proofs.Padded.{padded-none}
+use Rattle.lists.proofs.Filling.{padded-none}
 use Rattle.chip_regs.proofs.Bank.make.Goals as goal
 
 pub returns : goal.returns

@@ -1,6 +1,6 @@
 use Rattle.std.proofs.Common.{ℕ, List, get_or, sym, ap, length, ◌∙◌}
 use Rattle.lists.specs.Padded.{padded}
-use Rattle.lists.proofs.Padded.{length-padded}
+use Rattle.lists.proofs.Filling.{length-padded}
 use Rattle.chip_regs.proofs.Bank.row.Goals as goal
 
 pub returns : goal.returns

@@ -1,6 +1,6 @@
 use Rattle.std.proofs.Common.{sym, ◌∙◌, arith}
 use Rattle.std.proofs.lemmas.List.{get_or_default, get_or_past}
-use Rattle.lists.proofs.Padded.{padded-at}
+use Rattle.lists.proofs.Filling.{padded-at}
 use Rattle.lists.proofs.padded.item_or.Goals as goal
 
 pub returns-then-i-len : goal.returns-then-i-len

@@ -1,5 +1,5 @@
 use Rattle.std.proofs.Common.{◌+◌, ◌-◌, length, arith}
-use Rattle.lists.proofs.Padded.{padded-put, length-put}
+use Rattle.lists.proofs.Filling.{padded-put, length-put}
 use Rattle.lists.proofs.padded.put_item.Goals as goal
 
 pub returns-clause-items : goal.returns-clause-items

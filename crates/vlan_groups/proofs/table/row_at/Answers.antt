@@ -1,7 +1,7 @@
 use Rattle.std.proofs.Common.{◌<◌, length, get_or, ap, subst, sym, ◌∙◌, arith}
 use Rattle.std.proofs.lemmas.List.{get_or_default}
 use Rattle.lists.specs.Padded.{padded}
-use Rattle.lists.proofs.Padded.{length-padded}
+use Rattle.lists.proofs.Filling.{length-padded}
 use Rattle.vlan_groups.specs.declared.row.Row.{Row}
 use Rattle.vlan_groups.specs.Rows.{no_ports}
 use Rattle.vlan_groups.proofs.table.row_at.Goals as goal

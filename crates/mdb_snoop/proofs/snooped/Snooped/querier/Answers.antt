@@ -3,7 +3,7 @@ use Rattle.std.specs.Ordering.{nat_cmp}
 use Rattle.br_model.specs.Data.Maps.{has}
 use Rattle.br_model.specs.Table.Table.{ip_version}
 use Rattle.mdb_snoop.specs.Database.{Known}
-use Rattle.mdb_snoop.proofs.Snooped.{has-six, has-four}
+use Rattle.mdb_snoop.proofs.Queriers.{has-six, has-four}
 use Rattle.mdb_snoop.proofs.snooped.Snooped.querier.Goals as goal
 
 pub returns-then-six-clause-value : goal.returns-then-six-clause-value

@@ -2,7 +2,7 @@ use Rattle.std.proofs.Common.{List, ℕ, ap, sym, ◌∙◌}
 use Rattle.br_model.specs.Table.Table.{ip_version, switched}
 use Rattle.mdb_snoop.specs.Database.{Known, versions}
 use Rattle.mdb_snoop.specs.contracts.snooped.Snooped.{the_view}
-use Rattle.mdb_snoop.proofs.Snooped.{sets-six, sets-four}
+use Rattle.mdb_snoop.proofs.Queriers.{sets-six, sets-four}
 use Rattle.mdb_snoop.proofs.snooped.Snooped.set_querier.Goals as goal
 
 pub returns-then-six : goal.returns-then-six

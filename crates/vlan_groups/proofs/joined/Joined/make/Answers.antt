@@ -1,6 +1,6 @@
 use Rattle.std.proofs.Common.{◌≡◌, List, ℕ, [], replicate, ap, ◌∙◌}
 use Rattle.lists.specs.Padded.{padded}
-use Rattle.lists.proofs.Padded.{padded-none}
+use Rattle.lists.proofs.Filling.{padded-none}
 use Rattle.vlan_groups.specs.Joined.{block_count}
 use Rattle.vlan_groups.proofs.UsedSets.{none_used}
 use Rattle.vlan_groups.proofs.joined.Joined.make.Goals as goal

@@ -1,6 +1,6 @@
 use Rattle.std.proofs.Common.{◌≡◌, List, Some, [], true, refl, sym, ap, ap₂, subst, ◌∙◌, arith}
 use Rattle.lists.specs.Padded.{padded}
-use Rattle.lists.proofs.Padded.{length-padded, padded-none}
+use Rattle.lists.proofs.Filling.{length-padded, padded-none}
 use Rattle.vlan_groups.specs.declared.row.Row.{Row}
 use Rattle.vlan_groups.specs.Rows.{memberships_from, no_ports}
 use Rattle.vlan_groups.specs.Tied.{AreTied}
