@@ -1,5 +1,6 @@
 //! Where the keys of cells stand.
 ghost use Rattle.std.specs.Prelude.{◌≡◌, ◌≢◌, ℕ, ◌+◌, ◌-◌, ◌/◌, ◌^◌, ◌<◌, ◌≤◌, true, Option, None, IfOk, IfSome, length, slice_index, slice_set, vec_capacity};
+ghost use Rattle.std.specs.List.{insert};
 ghost use Rattle.open_addressing.specs.Hashed.{key_in};
 ghost use Rattle.open_addressing.specs.Indexed.{is_taken, named_by, Ascends, Halves, IsBlank, IsIndexed};
 ghost use Rattle.open_addressing.specs.Zipped.{key_of};
@@ -53,6 +54,20 @@ fn is_taken(slot: u16) -> bool
     slot != NEVER && slot != LEFT
 }
 
+/// The cell, if it holds the key.
+fn held<K, V, C: Cells<K, V>>(cells: &C, cell: usize, key: &K) -> Option<usize>
+    requires key { C.number key.now ≢ 0 }
+    requires within { cell < length (C.cells cells.now) }
+    ensures some { IfSome result (λ i. (i < length (C.cells cells.now)) × (key_in key_of None (C.cells cells.now) i ≡ C.number key.now)) }
+    ensures none { result ≡ None → key_in key_of None (C.cells cells.now) cell ≢ C.number key.now }
+{
+    if cells.holds(cell, key) {
+        Some(cell)
+    } else {
+        None
+    }
+}
+
 /// The cell that a slot names, if it holds the key.
 fn named<K, V, C: Cells<K, V>>(cells: &C, slot: u16, key: &K) -> Option<usize>
     requires key { C.number key.now ≢ 0 }
@@ -60,12 +75,8 @@ fn named<K, V, C: Cells<K, V>>(cells: &C, slot: u16, key: &K) -> Option<usize>
     ensures some { IfSome result (λ i. (i < length (C.cells cells.now)) × (key_in key_of None (C.cells cells.now) i ≡ C.number key.now)) }
     ensures none { result ≡ None → is_taken slot ≡ true → key_in key_of None (C.cells cells.now) (slot - 1) ≢ C.number key.now }
 {
-    if !is_taken(slot) {
-        return None;
-    }
-    let cell = usize::from(slot) - 1;
-    if cells.holds(cell, key) {
-        Some(cell)
+    if is_taken(slot) {
+        held(cells, usize::from(slot) - 1, key)
     } else {
         None
     }
@@ -107,6 +118,19 @@ fn listed<K, V, C: Cells<K, V>>(cells: &C, rest: &[u16], key: &K) -> Option<usiz
         Some(place)
     } else {
         None
+    }
+}
+
+/// Inserts a cell within the room that is there.
+fn insert_at(rest: &mut Vec<u16>, place: usize, cell: u16)
+    requires within { place ≤ length rest.old.items }
+    requires room { length rest.old.items < vec_capacity rest.old }
+    ensures items { rest.new.items ≡ insert rest.old.items place cell }
+    ensures room { vec_capacity rest.old ≤ vec_capacity rest.new }
+{
+    match rest.insert(place, cell) {
+        Ok(()) => {}
+        Err(_) => unreachable!(),
     }
 }
 
@@ -158,14 +182,11 @@ impl Index {
         ensures room { vec_capacity self.old.rest ≤ vec_capacity self.new.rest }
     {
         let slot = home(self.bits, C::hash(key));
-        if !is_taken(self.slots[slot]) {
+        if is_taken(self.slots[slot]) {
+            let place = rank(cells, self.rest.as_slice(), key);
+            insert_at(&mut self.rest, place, cell as u16);
+        } else {
             self.slots[slot] = cell as u16 + 1;
-            return;
-        }
-        let place = rank(cells, self.rest.as_slice(), key);
-        match self.rest.insert(place, cell as u16) {
-            Ok(()) => {}
-            Err(_) => unreachable!(),
         }
     }
 
@@ -182,13 +203,13 @@ impl Index {
         let slot = home(self.bits, C::hash(key));
         if usize::from(self.slots[slot]) == cell + 1 {
             self.slots[slot] = LEFT;
-            return;
-        }
-        match listed(cells, self.rest.as_slice(), key) {
-            Some(place) => {
-                let _ = self.rest.remove(place);
+        } else {
+            match listed(cells, self.rest.as_slice(), key) {
+                Some(place) => {
+                    let _ = self.rest.remove(place);
+                }
+                None => unreachable!(),
             }
-            None => unreachable!(),
         }
     }
 }
