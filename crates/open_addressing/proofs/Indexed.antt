@@ -2,6 +2,7 @@
 use Rattle.std.proofs.Common.{◌≡◌, ◌≢◌, ℕ, zero, suc, ◌+◌, ◌-◌, ◌^◌, ◌<◌, ◌≤◌, Bool, true, false, not, ◌&&◌, eqb, cond, List, [], ◌∷◌, length, get_or, set, replicate, count_by, refl, sym, ap, subst, ◌∙◌, ◌⊎◌, inl, inr, ⊎_elim, arith}
 use Rattle.std.proofs.lemmas.Bool.{cases_eq, cases_lt, eqb-true, eq-eqb, ne_eqb}
 use Rattle.std.proofs.lemmas.List.{get_or-set_same, get_or-set_other, length-set, get_or_past, length-replicate}
+use Rattle.std.proofs.lemmas.List.Sums.{sum_by-cons}
 use Rattle.std.specs.List.{insert, remove}
 use Rattle.std.proofs.lemmas.List.Edits.{length-insert, get_or-insert_below, get_or-insert_at, get_or-insert_above, length-remove, get_or-remove_below, get_or-remove_above}
 use Rattle.open_addressing.specs.Hashed.{home_of}
@@ -90,10 +91,10 @@ remove_each P rest r lt each j h =
     (λ from. subst P (sym (get_or-remove_above rest r 0 j from lt)) (each (j + 1) (omega arith) (λ e. absurd (omega arith))))
 
 module _ (hash : ℕ → ℕ) (bits : ℕ) (at : ℕ → ℕ) (slots rest : List ℕ) (x : IsIndexed hash bits at slots rest) where
-  home : ℕ → ℕ
+  abbrev home : ℕ → ℕ
   home k = home_of hash bits k
 
-  slot : ℕ → ℕ
+  abbrev slot : ℕ → ℕ
   slot k = slot_of hash bits slots k
 
   pub home-lt : (k : ℕ) → home_of hash bits k < length slots
@@ -129,6 +130,14 @@ module _ (hash : ℕ → ℕ) (bits : ℕ) (at : ℕ → ℕ) (slots rest : List
     keeps : (i : ℕ) → i ≢ p → at i ≢ 0 → at' i ≢ 0
     keeps i ne used z = used (sym (others i ne) ∙ z)
 
+    -- what is in the slot of a key with another number in that of k
+
+    abbrev entered : ℕ → ℕ
+    entered q = slot_of hash bits (set slots (home_of hash bits k) (p + 1)) q
+
+    abbrev vacated : ℕ → ℕ
+    vacated q = slot_of hash bits (set slots (home_of hash bits k) left) q
+
     module _ (some : k ≢ 0) (empty : at p ≡ 0) (fits : p + 1 < left) (here : at' p ≡ k) where
       -- a used cell is another
       other : (i : ℕ) → at i ≢ 0 → i ≢ p
@@ -147,7 +156,7 @@ module _ (hash : ℕ → ℕ) (bits : ℕ) (at : ℕ → ℕ) (slots rest : List
         small = small';
         named = λ i used missed.
             by_eq i p
-            (λ e. absurd (missed (ap new (ap at' e ∙ here) ∙ slot_same hash bits slots k (p + 1) (home-lt k) k refl ∙ ap (λ n. n + 1) (sym e))))
+            (λ e. absurd (missed (ap entered (ap at' e ∙ here) ∙ slot_same hash bits slots k (p + 1) (home-lt k) k refl ∙ ap (λ n. n + 1) (sym e))))
             (λ ne.
             by_eq (home (at' i)) (home k)
             (λ same.
@@ -155,10 +164,10 @@ module _ (hash : ℕ → ℕ) (bits : ℕ) (at : ℕ → ℕ) (slots rest : List
             let unnamed : slot (at i) ≢ i + 1 = λ e. (let taken_k = taken (i + 1) (λ z. absurd (omega arith)) (λ z. (let f = x.small i (kept i ne used) in absurd (omega arith))) in
             let no : is_taken (i + 1) ≡ false = ap is_taken (sym e ∙ was) ∙ free in absurd (cc)) in
             let l = x.named i (kept i ne used) unnamed in
-            let now : new (at' i) ≡ p + 1 = slot_same hash bits slots k (p + 1) (home-lt k) (at' i) same in
+            let now : entered (at' i) ≡ p + 1 = slot_same hash bits slots k (p + 1) (home-lt k) (at' i) same in
             ((λ z. absurd (omega arith)), l.1))
             (λ apart.
-            let same : new (at' i) ≡ slot (at i) = slot_other hash bits slots k (p + 1) (home-lt k) (at' i) apart ∙ ap slot (others i ne) in
+            let same : entered (at' i) ≡ slot (at i) = slot_other hash bits slots k (p + 1) (home-lt k) (at' i) apart ∙ ap slot (others i ne) in
             let l = x.named i (kept i ne used) (λ e. missed (same ∙ e)) in
             ((λ z. l.0 (sym same ∙ z)), l.1)));
         sound = λ s named here'.
@@ -179,12 +188,9 @@ module _ (hash : ℕ → ℕ) (bits : ℕ) (at : ℕ → ℕ) (slots rest : List
             let i : ℕ = get_or rest j 0 in
             let ne : i ≢ p = other i (x.listed j h) in
             by_eq (home (at' i)) (home k)
-            (λ same e. ne (let now : new (at' i) ≡ p + 1 = slot_same hash bits slots k (p + 1) (home-lt k) (at' i) same in omega arith))
+            (λ same e. ne (let now : entered (at' i) ≡ p + 1 = slot_same hash bits slots k (p + 1) (home-lt k) (at' i) same in omega arith))
             (λ apart e. x.apart j h (sym (slot_other hash bits slots k (p + 1) (home-lt k) (at' i) apart ∙ ap slot (others i ne)) ∙ e));
       }
-        where
-          new : ℕ → ℕ
-          new q = slot_of hash bits (set slots (home_of hash bits k) (p + 1)) q
 
       -- it comes into the list, where the slot names another
       pub enters_list : (r : ℕ) → is_taken (slot_of hash bits slots k) ≡ true → r ≤ length rest → ((j : ℕ) → j < r → at (get_or rest j 0) < k) → ((j : ℕ) → r ≤ j → j < length rest → k ≤ at (get_or rest j 0))
@@ -270,10 +276,10 @@ module _ (hash : ℕ → ℕ) (bits : ℕ) (at : ℕ → ℕ) (slots rest : List
             (λ same.
             let was : slot (at i) ≡ p + 1 = ap (λ h. get_or slots h 0) (ap home (sym (others i ne)) ∙ same) ∙ named_p in
             let l = x.named i (kept i ne used) (λ e. ne (omega arith)) in
-            let now : new (at' i) ≡ left = slot_same hash bits slots k left (home-lt k) (at' i) same in
+            let now : vacated (at' i) ≡ left = slot_same hash bits slots k left (home-lt k) (at' i) same in
             ((λ z. absurd (omega arith)), l.1))
             (λ apart.
-            let same : new (at' i) ≡ slot (at i) = slot_other hash bits slots k left (home-lt k) (at' i) apart ∙ ap slot (others i ne) in
+            let same : vacated (at' i) ≡ slot (at i) = slot_other hash bits slots k left (home-lt k) (at' i) apart ∙ ap slot (others i ne) in
             let l = x.named i (kept i ne used) (λ e. missed (same ∙ e)) in
             ((λ z. l.0 (sym same ∙ z)), l.1));
         sound = λ s named here'.
@@ -291,13 +297,10 @@ module _ (hash : ℕ → ℕ) (bits : ℕ) (at : ℕ → ℕ) (slots rest : List
             let i : ℕ = get_or rest j 0 in
             let ne : i ≢ p = unlisted j h in
             by_eq (home (at' i)) (home k)
-            (λ same e. (let fits = x.small i (x.listed j h) in let now : new (at' i) ≡ left = slot_same hash bits slots k left (home-lt k) (at' i) same in absurd (omega arith)))
+            (λ same e. (let fits = x.small i (x.listed j h) in let now : vacated (at' i) ≡ left = slot_same hash bits slots k left (home-lt k) (at' i) same in absurd (omega arith)))
             (λ apart e. x.apart j h (sym (slot_other hash bits slots k left (home-lt k) (at' i) apart ∙ ap slot (others i ne)) ∙ e));
       }
         where
-          new : ℕ → ℕ
-          new q = slot_of hash bits (set slots (home_of hash bits k) left) q
-
           unlisted : (j : ℕ) → j < length rest → get_or rest j 0 ≢ p
           unlisted j h e = x.apart j h (ap (λ i. slot (at i)) e ∙ ap slot is ∙ named_p ∙ ap (λ n. n + 1) (sym e))
 
@@ -407,7 +410,7 @@ less_slots slots rest h v within before after =
 
 none_taken : (n : ℕ) → count_by is_taken (replicate n 0) ≡ 0
 none_taken zero = refl
-none_taken (suc n) = (let rest = none_taken n in let all = Rattle.std.proofs.lemmas.List.Sums.sum_by-cons (λ s. cond {A = ℕ} (is_taken s) 1 0) 0 (replicate n 0) in
+none_taken (suc n) = (let rest = none_taken n in let all = sum_by-cons (λ s. cond {A = ℕ} (is_taken s) 1 0) 0 (replicate n 0) in
 let zero_slot : cond {A = ℕ} (is_taken 0) 1 0 ≡ 0 = ap (λ b. cond {A = ℕ} b 1 0) not_zero in omega arith)
 
 zeros : (n i : ℕ) → ◌≡◌ {A = ℕ} (get_or (replicate n 0) i 0) 0
