@@ -12,3 +12,8 @@ top_bits m bits few fits =
 pub homes-lt : (hash : ℕ → ℕ) → ((k : ℕ) → hash k < 2 ^ 64) → (bits : ℕ) → bits < 64 → (k : ℕ) → home_of hash bits k < 2 ^ bits
 unfolding home_of
 homes-lt hash hashes bits few k = top_bits (hash k) bits few (hashes k)
+
+-- the slot that is read off a hash
+pub home-is : (hash : ℕ → ℕ) (bits k x slot : ℕ) → slot ≡ x / 2 ^ (64 - bits) → x ≡ hash k → slot ≡ home_of hash bits k
+unfolding home_of
+home-is hash bits k x slot is same = is ∙ ap (λ n. n / 2 ^ (64 - bits)) same

@@ -1,7 +1,7 @@
 -- An index of keys, as keys come and go.
-use Rattle.std.proofs.Common.{◌≡◌, ◌≢◌, ℕ, zero, suc, ◌+◌, ◌-◌, ◌^◌, ◌<◌, ◌≤◌, Bool, true, false, not, ◌&&◌, eqb, cond, List, [], ◌∷◌, length, get_or, set, replicate, count_by, refl, sym, ap, subst, ◌∙◌, ◌⊎◌, inl, inr, ⊎_elim, arith}
+use Rattle.std.proofs.Common.{◌≡◌, ◌≢◌, ℕ, zero, suc, ◌+◌, ◌-◌, ◌^◌, ◌<◌, ◌≤◌, Bool, true, false, not, ◌&&◌, eqb, cond, List, [], ◌∷◌, length, get_or, set, replicate, count_by, refl, sym, ap, subst, ◌∙◌, ◌⊎◌, inl, inr, ⊎_elim, ⊥, ◌==◌, arith}
 use Rattle.std.proofs.lemmas.Bool.{cases_eq, cases_lt, eqb-true, eq-eqb, ne_eqb}
-use Rattle.std.proofs.lemmas.List.{get_or-set_same, get_or-set_other, length-set, get_or_past, length-replicate}
+use Rattle.std.proofs.lemmas.List.{get_or-set_same, get_or-set_other, length-set, get_or_past, get_or_read, length-replicate}
 use Rattle.std.proofs.lemmas.List.Sums.{sum_by-cons}
 use Rattle.std.specs.List.{insert, remove}
 use Rattle.std.proofs.lemmas.List.Edits.{length-insert, get_or-insert_below, get_or-insert_at, get_or-insert_above, length-remove, get_or-remove_below, get_or-remove_above}
@@ -15,6 +15,9 @@ by_eq a b f g = ⊎_elim f g (cases_eq a b)
 
 by_lt : {A : Type 0} (a b : ℕ) → (a < b → A) → (b ≤ a → A) → A
 by_lt a b f g = ⊎_elim f g (cases_lt a b)
+
+pub differ : (a b : ℕ) → (a == b) ≡ false → a ≢ b
+differ a b apart e = grind arith
 
 -- ---- slots
 
@@ -100,6 +103,16 @@ module _ (hash : ℕ → ℕ) (bits : ℕ) (at : ℕ → ℕ) (slots rest : List
   pub home-lt : (k : ℕ) → home_of hash bits k < length slots
   home-lt k = subst (λ n. home_of hash bits k < n) (sym x.sized) (homes-lt hash x.hashes bits x.few k)
 
+  -- what is read in the slot of a key
+  pub slot-read : (k h s : ℕ) → h ≡ home_of hash bits k → s ≡ get_or slots h s → slot_of hash bits slots k ≡ s
+  slot-read k h s is read =
+      let within : h < length slots = subst (λ n. n < length slots) (sym is) (home-lt k) in
+      ap (λ i. get_or slots i 0) (sym is) ∙ sym (get_or_read slots h s within read 0)
+
+  -- a slot that names a cell names one that holds a key
+  pub slot-cell : (k s : ℕ) → slot_of hash bits slots k ≡ s → is_taken s ≡ true → at (s - 1) ≢ 0
+  slot-cell k s is full = subst (λ n. at (n - 1) ≢ 0) is (x.sound (home k) (λ z. taken_some s full (sym is ∙ z)) (λ z. taken_here s full (sym is ∙ z))).0
+
   -- two places of the list with one key are one
   one_place : (j k : ℕ) → j < length rest → k < length rest → at (get_or rest j 0) ≡ at (get_or rest k 0) → j ≡ k
   one_place j k jn kn same =
@@ -121,6 +134,21 @@ module _ (hash : ℕ → ℕ) (bits : ℕ) (at : ℕ → ℕ) (slots rest : List
       (λ missed.
       let l = x.named i used missed in
       (none (λ z. l.0 (ap (slot_of hash bits slots) is ∙ z))).1 l.1.0 l.1.1 (ap at l.1.2 ∙ is))
+
+  -- a key that its slot and the list lack is nowhere
+  pub missed : (k s : ℕ) → k ≢ 0 → slot_of hash bits slots k ≡ s → (is_taken s ≡ true → at (s - 1) ≢ k) → ((j : ℕ) → j < length rest → at (get_or rest j 0) ≢ k) → (i : ℕ) → at i ≢ k
+  missed k s some is unnamed unlisted =
+      nowhere k some (λ nz. ((λ here. subst (λ n. at (n - 1) ≢ k) (sym is) (unnamed (taken s (λ z. nz (is ∙ z)) (λ z. here (is ∙ z))))), unlisted))
+
+  -- and one whose slot was never used
+  pub never : (k : ℕ) → k ≢ 0 → slot_of hash bits slots k ≡ 0 → (i : ℕ) → at i ≢ k
+  never k some none = nowhere k some (λ nz. absurd (nz none))
+
+  -- a key that its slot doesn't name stands in the list
+  pub stands : (k p : ℕ) → k ≢ 0 → at p ≡ k → slot_of hash bits slots k ≢ p + 1 → ((j : ℕ) → j < length rest → at (get_or rest j 0) ≢ k) → ⊥
+  stands k p some is unnamed unlisted =
+      let l = (x.named p (λ z. some (sym is ∙ z)) (λ e. unnamed (ap (slot_of hash bits slots) (sym is) ∙ e))).1 in
+      unlisted l.0 l.1 (ap at l.2 ∙ is)
 
   module _ (at' : ℕ → ℕ) (k p : ℕ) (others : (i : ℕ) → i ≢ p → at' i ≡ at i) where
     -- what was used is used still, but for p
