@@ -1,5 +1,5 @@
 use Rattle.std.proofs.Common.{◌≡◌, ◌-◌, ◌++◌, List, length, replicate, take, refl, ap, sym, ◌∙◌, arith}
-use Rattle.std.proofs.lemmas.List.{append-nil, take-all, length-append, length-replicate}
+use Rattle.std.proofs.lemmas.List.{append-nil, take_all, length-append, length-replicate}
 use Rattle.lists.proofs.padded.lay.Goals as goal
 
 pub returns-then-len-len-clause-items : goal.returns-then-len-len-clause-items

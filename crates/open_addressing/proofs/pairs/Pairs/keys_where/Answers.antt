@@ -1,5 +1,5 @@
 use Rattle.std.proofs.Common.{◌≡◌, ◌++◌, ◌+◌, ◌<◌, [], ◌∷◌, List, ℕ, Option, None, Vec, Global, length, take, map, filter_map, get_or, sym, ap, ◌∙◌, refl, arith}
-use Rattle.std.proofs.lemmas.List.{append-nil, length-map, take-all}
+use Rattle.std.proofs.lemmas.List.{append-nil, length-map, take_all}
 use Rattle.std.specs.List.{cons_option}
 use Rattle.open_addressing.specs.Finite.{key_if}
 use Rattle.open_addressing.specs.Zipped.{pair_cell}
@@ -29,5 +29,5 @@ returns g c =
     let es = c.self.inside.pairs.items in
     let s = c.self.inside in
     let p = g.T.Test.passes c.args.test.now in
-    c.loop-i.invariant ∙ ap (filter_map (key_if p)) (take-all c.loop-i.i (map pair_cell es) (omega (arith, length-map es pair_cell, c.self.inside.pairs.ok.0)))
+    c.loop-i.invariant ∙ ap (filter_map (key_if p)) (take_all c.loop-i.i (map pair_cell es) (omega (arith, length-map es pair_cell, c.self.inside.pairs.ok.0)))
     ∙ sym (keys-padded p s.count es s.blank c.self.invariant.0) ∙ ap (filter_map (key_if p)) c.self.view_is

@@ -1,5 +1,5 @@
 use Rattle.std.proofs.Common.{◌<◌, List, ℕ, None, length, take, map, get_or, sym, ap, ap₂, ◌∙◌, refl, arith}
-use Rattle.std.proofs.lemmas.List.{length-map, take-all}
+use Rattle.std.proofs.lemmas.List.{length-map, take_all}
 use Rattle.open_addressing.specs.Least.{smaller, number_if, least_in}
 use Rattle.open_addressing.specs.Zipped.{pair_cell}
 use Rattle.open_addressing.proofs.Least.{least_in-next, least-padded}
@@ -21,5 +21,5 @@ returns g c =
     let s = c.self.inside in
     let es = s.pairs.items in
     let f = g.M.Measure.number c.args.measure.now in
-    c.loop-i.invariant ∙ ap (least_in f) (take-all c.loop-i.i (map pair_cell es) (omega (arith, length-map es pair_cell, c.self.inside.pairs.ok.0)))
+    c.loop-i.invariant ∙ ap (least_in f) (take_all c.loop-i.i (map pair_cell es) (omega (arith, length-map es pair_cell, c.self.inside.pairs.ok.0)))
     ∙ sym (least-padded f s.count es s.blank c.self.invariant.0) ∙ ap (least_in f) c.self.view_is
