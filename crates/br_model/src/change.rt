@@ -197,7 +197,7 @@ pub struct Update {
 }
 
 /// An update in few bytes, since a queue has room for all that a run can have. Contracts see it as the update.
-#[derive(Drop)]
+#[derive(Clone, Copy)]
 pub struct Parcel {
     form: Form,
 }

@@ -1,5 +1,5 @@
 //! The board, which publishes, and the seats that it is made with.
-ghost use Rattle.std.specs.Prelude.{◌≡◌, ◌+◌, ◌-◌, ◌<◌, ◌≤◌, ◌++◌, ◌∷◌, ◌↔◌, [], drop, length, replicate, IfOk, OnOk, OnErr, IfSome, IsSome, IsTrue, vec_capacity};
+ghost use Rattle.std.specs.Prelude.{◌≡◌, ◌+◌, ◌-◌, ◌<◌, ◌≤◌, ◌++◌, ◌∷◌, ◌↔◌, [], drop, length, replicate, IfOk, OnOk, OnErr, IfSome, IsSome, IsTrue};
 ghost use Rattle.left_right.specs.Sides.{view as place_view};
 ghost use Rattle.br_model.specs.Table.Limits.{AreWithin, most_changes};
 ghost use Rattle.table_publish.specs.Board.{all_of, newcomer};
@@ -9,16 +9,15 @@ ghost use Rattle.table_history.specs.Object.{Begins, IsPublished, first_object, 
 ghost use Rattle.table_history.specs.Rule.{Knows};
 
 use crate::NoMemory;
+use crate::pending::Pending;
 use crate::seat::Seat;
 use br_model::change::Change;
 use br_model::domains::Domains;
-use br_model::limits::MOST_CHANGES;
 use core::mem::replace_with;
 use forward_rules::SoftTables;
 use logbook::{Offer, Start};
 use std::alloc::{AllocError, Global};
 use std::marker::Model;
-use std::mem;
 use std::sync::Wait;
 use table_history::content::{Operation, Published};
 use table_history::law::{Add, Batch, Count, Law, Nothing, Shown};
@@ -32,8 +31,7 @@ pub struct Board {
     seen: Shown,
     batches: u64,
     len: u32,
-    // It has its room from the beginning.
-    pending: Vec<Change>,
+    pending: Pending,
     domains: Domains,
 }
 
@@ -44,7 +42,7 @@ impl Model for Board {
 
     ghost Value = { Shelf };
 
-    ghost view = { λ b. record { board = record { book = b.seen.book; domains = b.domains }; object = object_of b.seen.log; pending = b.pending.items } };
+    ghost view = { λ b. record { board = record { book = b.seen.book; domains = b.domains }; object = object_of b.seen.log; pending = b.pending } };
 
     ghost invariant = { IsShelved };
 }
@@ -81,26 +79,6 @@ fn enter_batch<R: Wait>(
         }
     }
     unreachable!()
-}
-
-/// So many pending changes are copied into their publication at most.
-const MOST_COPIED: usize = 4096;
-
-/// Takes all changes out of a list that keeps its room. A few are copied: room for a whole history costs two calls of the system.
-fn take_pending(alloc: Global, pending: &mut Vec<Change>) -> Result<Vec<Change>, NoMemory>
-    requires { most_changes ≤ vec_capacity pending.old }
-    ensures items { IfOk result (λ taken. taken.items ≡ pending.old.items) }
-    ensures empty { OnOk result (pending.new.items ≡ []) }
-    ensures room { most_changes ≤ vec_capacity pending.new }
-    ensures err { OnErr result (pending.new ≡ pending.old) }
-{
-    if pending.len() > MOST_COPIED {
-        let empty = Vec::with_capacity(alloc, MOST_CHANGES)?;
-        return Ok(mem::replace(pending, empty));
-    }
-    let taken = Vec::from_slice(alloc, pending.as_slice())?;
-    pending.clear();
-    Ok(taken)
 }
 
 /// Gives the writer an operation. Its log has had room since the board was made, so the operation goes in at once.
@@ -266,7 +244,7 @@ impl Board {
     {
         let (seen, mut first, _second) = Shown::open(Start::alone(), 0, 0);
         let word = Count::tracked(0, &mut first);
-        let pending = Vec::with_capacity(alloc, MOST_CHANGES)?;
+        let pending = Pending::make(alloc)?;
         let mut row = Vec::with_capacity(alloc, seats)?;
         let one = start(alloc, &seen)?;
         let other = start(alloc, &seen)?;
@@ -313,10 +291,7 @@ impl Board {
         requires { AreWithin (all_of self.old ++ c.now) }
         ensures { self.new ≡ record self.old { pending = self.old.pending ++ c.now } }
     {
-        match self.pending.extend_from_slice(c) {
-            Ok(()) => {}
-            Err(_) => unreachable!(),
-        }
+        self.pending.add(c);
     }
 
     /// Publishes what is pending, and answers how many changes are then published. After want of memory all is as before.
@@ -326,11 +301,11 @@ impl Board {
         ensures published { IsPublished self.new.object }
         ensures err { OnErr result (self.new ≡ self.old) }
     {
-        if self.pending.is_empty() {
+        if self.pending.len() == 0 {
             return Ok(self.len);
         }
         let count = self.pending.len() as u32;
-        let changes = take_pending(alloc, &mut self.pending)?;
+        let changes = self.pending.take(alloc)?;
         let seen = enter_batch(rt, &self.word, &self.seen, self.batches, &changes);
         let operation = Operation {
             changes,

@@ -6,6 +6,7 @@
 
 mod board;
 mod name;
+mod pending;
 mod seat;
 
 pub use board::{Board, Seats};

@@ -1,5 +1,3 @@
-use Rattle.std.specs.Prelude.{Vec}
-use Rattle.std.specs.declared.alloc.Global.{Global}
 use Rattle.std.proofs.Common.{◌≡◌, ◌+◌, ◌<◌, List, [], ◌∷◌, ◌++◌, length, sym, ap, ◌∙◌, subst, arith, rules, length-append}
 use Rattle.std.proofs.lemmas.Grind.{common_steps}
 use Rattle.std.proofs.lemmas.List.{append-nil}
@@ -17,8 +15,8 @@ use Rattle.table_history.proofs.Publishing.{table_after, published_some}
 use Rattle.table_publish.proofs.Shelves.{shelved_full, shelved_published, shelved_batches}
 use Rattle.table_publish.proofs.board.Board.publish.Goals as goal
 
-pub returns-then-is_empty-clause-published : goal.returns-then-is_empty-clause-published
-returns-then-is_empty-clause-published g c = subst (λ (o : Object). IsPublished o) (ap (λ (k : Shelf). k.object) c.self.view_is) (shelved_published c.self.inside c.self.invariant)
+pub returns-then-len-eq0-clause-published : goal.returns-then-len-eq0-clause-published
+returns-then-len-eq0-clause-published g c = subst (λ (o : Object). IsPublished o) (ap (λ (k : Shelf). k.object) c.self.view_is) (shelved_published c.self.inside c.self.invariant)
 
 pub returns-in_err-changes-clause-published : goal.returns-in_err-changes-clause-published
 returns-in_err-changes-clause-published g c = shelved_published c.self.inside c.self.invariant
@@ -34,8 +32,7 @@ invariant_of-self g c =
       table = i.table;
       idle = i.idle;
       named = i.named;
-      fit = subst (λ (v : Vec Change Global). AreWithin (changes_of c.self.inside.seen.log ++ v.items)) (sym c.in_err-changes.ensures.err) i.fit;
-      room = c.take_pending.ensures.room;
+      fit = subst (λ (v : List Change). AreWithin (changes_of c.self.inside.seen.log ++ v)) (sym c.in_err-changes.ensures.err) i.fit;
     }
 
 pub enter_batch-seen-requires-clause-batches : goal.enter_batch-seen-requires-clause-batches
@@ -48,7 +45,7 @@ replace_with-requires g c =
     let items = c.in_ok-changes.changes.items in
     let same = ap (λ s. s.log) i.shown in
     let is : c.again.result.log ≡ log ++ items ∷ [] = ap (λ s. s.log) c.again.ensures ∙ c.enter_batch-seen.ensures.log in
-    let all : items ≡ c.self.inside.pending.items = c.in_ok-changes.ensures.items in
+    let all : items ≡ c.self.inside.pending = c.in_ok-changes.ensures.items in
     let some : 0 < length items = grind (arith, common_steps) in
     let within : AreWithin (changes_of log ++ items) = subst (λ (l : List Change). AreWithin (changes_of log ++ l)) (sym all) i.fit in
     let op : Operation = record { changes = c.in_ok-changes.changes; batches = c.self.inside.batches + 1; seen = c.again.result } in
@@ -68,18 +65,18 @@ invariant_of-self-2 g c =
     let before = c.self.inside.writer.desk.shown.value in
     let same = ap (λ s. s.log) i.shown in
     let is : c.again.result.log ≡ log ++ items ∷ [] = ap (λ s. s.log) c.again.ensures ∙ b.log in
-    let all : items ≡ c.self.inside.pending.items = c.in_ok-changes.ensures.items in
+    let all : items ≡ c.self.inside.pending = c.in_ok-changes.ensures.items in
     let some : 0 < length items = grind (arith, common_steps) in
     let within : AreWithin (changes_of log ++ items) = subst (λ (l : List Change). AreWithin (changes_of log ++ l)) (sym all) i.fit in
     let shown : c.replace_with.new.dest.desk.shown.value ≡ after before op = h.0 in
     let table : IsTable (after before op) = table_after before op log i.table same is (let e : c.self.inside.batches + 1 ≡ length log + 1 = omega (arith, i.batches) in e) some within in
-    let held : c.len-count.result ≡ length c.self.inside.pending.items = search rules in
+    let held : c.len-count.result ≡ length c.self.inside.pending = search rules in
     let count : c.len-count.result ≡ length items = held ∙ ap length (sym all) in
     let whole : changes_of c.enter_batch-seen.result.log ≡ changes_of log ++ items = ap changes_of b.log ∙ changes_of-push log items in
     let changes : length (changes_of c.enter_batch-seen.result.log) ≡ length (changes_of log) + length items = ap length whole ∙ length-append (changes_of log) items in
     let longer : length c.enter_batch-seen.result.log ≡ length log + 1 = ap length b.log ∙ length-append log (items ∷ []) in
-    let none : c.take_pending.new.pending.items ≡ [] = c.in_ok-changes.ensures.empty in
-    let all_now : changes_of log ++ items ≡ changes_of c.enter_batch-seen.result.log ++ c.take_pending.new.pending.items =
+    let none : c.take.new.self ≡ [] = c.in_ok-changes.ensures.empty in
+    let all_now : changes_of log ++ items ≡ changes_of c.enter_batch-seen.result.log ++ c.take.new.self =
     sym (ap (λ (l : List Change). changes_of c.enter_batch-seen.result.log ++ l) none ∙ (append-nil (changes_of c.enter_batch-seen.result.log) ∙ whole)) in
     record {
       word = i.word ∙ ap head_of (sym b.book);
@@ -90,7 +87,6 @@ invariant_of-self-2 g c =
       idle = h.1.0;
       named = (ap (λ v. v.named) h.1.1 ∙ i.named.0, ap book_of h.1.1 ∙ (i.named.1 ∙ sym b.book));
       fit = subst AreWithin all_now within;
-      room = c.take_pending.ensures.room;
     }
 
 pub returns-clause-ok : goal.returns-clause-ok
@@ -98,12 +94,12 @@ returns-clause-ok g c =
     let b = c.enter_batch-seen.ensures in
     let log = c.self.inside.seen.log in
     let items = c.in_ok-changes.changes.items in
-    let all : items ≡ c.self.inside.pending.items = c.in_ok-changes.ensures.items in
+    let all : items ≡ c.self.inside.pending = c.in_ok-changes.ensures.items in
     let some : 0 < length items = grind (arith, common_steps) in
     let view = c.self.view_is in
-    let now : object_of c.enter_batch-seen.result.log ≡ published (object_of log) c.self.inside.pending.items =
+    let now : object_of c.enter_batch-seen.result.log ≡ published (object_of log) c.self.inside.pending =
     ap object_of b.log ∙ (object_of-push log items ∙ (published_some (object_of log) items some ∙ ap (published (object_of log)) all)) in
-    let none : c.take_pending.new.pending.items ≡ [] = c.in_ok-changes.ensures.empty in
+    let none : c.take.new.self ≡ [] = c.in_ok-changes.ensures.empty in
     (λ k. record { board = record { book = b.book k; domains = c.self.inside.domains }; object = now k; pending = none k })
     ∙ ap (λ (s : Shelf). record { board = s.board; object = published s.object s.pending; pending = [] }) view
 
@@ -113,8 +109,8 @@ returns-clause-count g c =
     let b = c.enter_batch-seen.ensures in
     let log = c.self.inside.seen.log in
     let items = c.in_ok-changes.changes.items in
-    let all : items ≡ c.self.inside.pending.items = c.in_ok-changes.ensures.items in
-    let held : c.len-count.result ≡ length c.self.inside.pending.items = search rules in
+    let all : items ≡ c.self.inside.pending = c.in_ok-changes.ensures.items in
+    let held : c.len-count.result ≡ length c.self.inside.pending = search rules in
     let count : c.len-count.result ≡ length items = held ∙ ap length (sym all) in
     let changes : length (changes_of c.enter_batch-seen.result.log) ≡ length (changes_of log) + length items = ap (λ (l : List (List Change)). length (changes_of l)) b.log ∙ (ap length (changes_of-push log items) ∙ length-append (changes_of log) items) in
     omega (arith, i.len, changes, count)
