@@ -145,7 +145,8 @@ impl<V: Copy> Cells<u64, V> for Pairs<V> {
     }
 
     fn clear(&mut self, i: usize) {
-        self.write(i, 0, self.blank);
+        let blank = self.blank;
+        self.write(i, 0, blank);
     }
 
     ghost hashes = { mix-lt };

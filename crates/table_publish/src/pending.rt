@@ -1,7 +1,7 @@
 //! Changes that wait for their publication.
-ghost use Rattle.std.specs.Prelude.{◌≡◌, ◌+◌, ◌++◌, ◌≤◌, [], length, map, vec_capacity, IfOk, OnOk, OnErr};
+ghost use Rattle.std.specs.Prelude.{◌≡◌, ◌+◌, ◌++◌, ◌≤◌, [], length, map, vec_len, vec_capacity, IfOk, OnOk, OnErr};
 ghost use Rattle.br_model.specs.Table.Limits.{most_changes};
-ghost use Rattle.table_publish.specs.Pending.{change_of};
+ghost use Rattle.table_publish.specs.Pending.{change_of, parcel_of};
 
 use crate::NoMemory;
 use br_model::change::{Change, Parcel, Update};
@@ -31,8 +31,8 @@ impl Model for Pending {
 
 /// Adds changes at the end, within the room that is there.
 fn pack(parcels: &mut Vec<Parcel>, changes: &[Change])
-    requires { length parcels.old.items + length changes.now ≤ vec_capacity parcels.old }
-    ensures items { map change_of parcels.new.items ≡ map change_of parcels.old.items ++ changes.now }
+    requires { vec_len parcels.old + length changes.now ≤ vec_capacity parcels.old }
+    ensures items { parcels.new.items ≡ parcels.old.items ++ map parcel_of changes.now }
     ensures room { vec_capacity parcels.new ≡ vec_capacity parcels.old }
 {
     for i in 0..changes.len() {
