@@ -1,5 +1,4 @@
 pub mod Board
 pub mod Look
-pub mod Pending
 pub mod Shelved
 pub use Rattle.table_history.specs.Object

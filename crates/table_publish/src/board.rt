@@ -9,18 +9,20 @@ ghost use Rattle.table_history.specs.Object.{Begins, IsPublished, first_object, 
 ghost use Rattle.table_history.specs.Rule.{Knows};
 
 use crate::NoMemory;
-use crate::pending::Pending;
 use crate::seat::Seat;
 use br_model::change::Change;
 use br_model::domains::Domains;
+use br_model::limits::MOST_CHANGES;
 use core::mem::replace_with;
 use forward_rules::SoftTables;
 use logbook::{Offer, Start};
 use std::alloc::{AllocError, Global};
 use std::marker::Model;
+use std::mem;
 use std::sync::Wait;
 use table_history::content::{Operation, Published};
 use table_history::law::{Add, Batch, Count, Law, Nothing, Shown};
+use table_history::packed::Packed;
 use table_history::rule::{Naming, Note, See, TableWriter};
 
 /// The one who publishes. Contracts see which board it is, its published object and its pending changes. It isn't `Drop`: end it by
@@ -31,7 +33,8 @@ pub struct Board {
     seen: Shown,
     batches: u64,
     len: u32,
-    pending: Pending,
+    // It has its room from the beginning.
+    pending: Packed,
     domains: Domains,
 }
 
@@ -42,7 +45,7 @@ impl Model for Board {
 
     ghost Value = { Shelf };
 
-    ghost view = { λ b. record { board = record { book = b.seen.book; domains = b.domains }; object = object_of b.seen.log; pending = b.pending } };
+    ghost view = { λ b. record { board = record { book = b.seen.book; domains = b.domains }; object = object_of b.seen.log; pending = b.pending.list } };
 
     ghost invariant = { IsShelved };
 }
@@ -53,19 +56,17 @@ fn enter_batch<R: Wait>(
     word: &Count,
     seen: &Shown,
     batches: u64,
-    changes: &Vec<Change>,
+    changes: &Packed,
 ) -> Shown
     requires word { word.now ≡ head_of seen.now.book }
     requires batches { (batches ≡ length seen.now.log) × (batches ≤ most_changes) }
-    requires some { 0 < length changes.now.items }
+    requires some { 0 < length changes.now.list }
     ensures book { result.book ≡ seen.now.book }
-    ensures log { result.log ≡ seen.now.log ++ changes.now.items ∷ [] }
+    ensures log { result.log ≡ seen.now.log ++ changes.now.list ∷ [] }
 {
     for _ in rt.forever() {
         let mut seen = seen.again();
-        let mut offer: Offer<Batch, u64, Law, Nothing> = seen.plain::<Nothing, Vec<Change>, Add>(
-            changes,
-        );
+        let mut offer: Offer<Batch, u64, Law, Nothing> = seen.plain::<Nothing, Packed, Add>(changes);
         let mut pen = seen.no_pen();
         let found = word.compare_exchange::<Add, Nothing>(
             batches,
@@ -79,6 +80,26 @@ fn enter_batch<R: Wait>(
         }
     }
     unreachable!()
+}
+
+/// So many pending changes are copied into their publication at most.
+const MOST_COPIED: usize = 4096;
+
+/// Takes all changes out. The room stays. A few are copied: room for a whole history costs two calls of the system.
+fn take_pending(alloc: Global, pending: &mut Packed) -> Result<Packed, NoMemory>
+    requires { most_changes ≤ pending.old.room }
+    ensures items { IfOk result (λ taken. taken.list ≡ pending.old.list) }
+    ensures empty { OnOk result (pending.new.list ≡ []) }
+    ensures room { most_changes ≤ pending.new.room }
+    ensures err { OnErr result (pending.new ≡ pending.old) }
+{
+    if pending.len() > MOST_COPIED {
+        let empty = Packed::make(alloc, MOST_CHANGES)?;
+        return Ok(mem::replace(pending, empty));
+    }
+    let taken = pending.copy(alloc)?;
+    pending.clear();
+    Ok(taken)
 }
 
 /// Gives the writer an operation. Its log has had room since the board was made, so the operation goes in at once.
@@ -136,7 +157,7 @@ fn open_book<R: Wait>(writer: TableWriter, rt: &R, operation: Operation) -> (Tab
     requires idle { drop writer.behind writer.log.items ≡ [] }
     requires table { IsTable writer.desk.shown.value }
     requires seen { operation.seen ≡ writer.desk.shown.value.seen }
-    requires none { (operation.changes.items ≡ []) × (operation.batches ≡ writer.desk.shown.value.batches) }
+    requires none { (operation.changes.list ≡ []) × (operation.batches ≡ writer.desk.shown.value.batches) }
     ensures idle { drop result.0.behind result.0.log.items ≡ [] }
     ensures table { IsTrue result.1 → IsTable result.0.desk.shown.value }
     ensures seen { IsTrue result.1 → result.0.desk.shown.value.seen ≡ operation.seen }
@@ -244,13 +265,13 @@ impl Board {
     {
         let (seen, mut first, _second) = Shown::open(Start::alone(), 0, 0);
         let word = Count::tracked(0, &mut first);
-        let pending = Pending::make(alloc)?;
+        let pending = Packed::make(alloc, MOST_CHANGES)?;
         let mut row = Vec::with_capacity(alloc, seats)?;
         let one = start(alloc, &seen)?;
         let other = start(alloc, &seen)?;
         let writer = TableWriter::new(alloc, one, other, seats)?;
         let nothing = Operation {
-            changes: Vec::new(alloc),
+            changes: Packed::make(alloc, 0)?,
             batches: 0,
             seen: seen.again(),
         };
@@ -305,7 +326,7 @@ impl Board {
             return Ok(self.len);
         }
         let count = self.pending.len() as u32;
-        let changes = self.pending.take(alloc)?;
+        let changes = take_pending(alloc, &mut self.pending)?;
         let seen = enter_batch(rt, &self.word, &self.seen, self.batches, &changes);
         let operation = Operation {
             changes,

@@ -6,7 +6,6 @@
 
 mod board;
 mod name;
-mod pending;
 mod seat;
 
 pub use board::{Board, Seats};

@@ -1,6 +1,6 @@
 use Rattle.std.proofs.Common.{◌≡◌, ◌+◌, ◌++◌, map, take, vec_len, vec_capacity}
-use Rattle.table_publish.specs.Pending.{parcel_of}
-use Rattle.table_publish.proofs.pending.pack.Given as goal
+use Rattle.table_history.specs.Packed.{parcel_of}
+use Rattle.table_history.proofs.packed.pack.Given as goal
 
 -- the first ones are added
 abbrev pub invariant-loop-i : goal.invariant-loop-i
