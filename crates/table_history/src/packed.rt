@@ -39,6 +39,15 @@ fn pack(parcels: &mut Vec<Parcel>, changes: &[Change])
 }
 
 impl Packed {
+    /// No change. It takes no memory.
+    pub fn none(alloc: Global) -> Packed
+        ensures { result.list ≡ [] }
+    {
+        Packed {
+            parcels: Vec::new(alloc),
+        }
+    }
+
     /// No change, and room for so many.
     pub fn make(alloc: Global, room: usize) -> Result<Packed, NoMemory>
         ensures { IfOk result (λ p. p ≡ record { list = []; room = room }) }

@@ -271,7 +271,7 @@ impl Board {
         let other = start(alloc, &seen)?;
         let writer = TableWriter::new(alloc, one, other, seats)?;
         let nothing = Operation {
-            changes: Packed::make(alloc, 0)?,
+            changes: Packed::none(alloc),
             batches: 0,
             seen: seen.again(),
         };
