@@ -1,6 +1,6 @@
 //! What is accepted: the changes of the bridge's table.
 ghost use Rattle.std.specs.Prelude.{◌≡◌, ◌<◌, ◌↔◌, IsSome, IfSome};
-ghost use Rattle.br_model.specs.Table.Change.{asks, deferred, update_of, whole};
+ghost use Rattle.br_model.specs.Table.Change.{asks, change_in, deferred, update_of, whole};
 
 use crate::domains::Edition;
 use crate::group::Group;
@@ -197,7 +197,7 @@ pub struct Update {
 }
 
 /// An update in few bytes, since a queue has room for all that a run can have. Contracts see it as the update.
-#[derive(Clone, Copy)]
+#[derive(Drop)]
 pub struct Parcel {
     form: Form,
 }
@@ -251,6 +251,31 @@ impl Parcel {
             ticket: self.form.ticket(),
             change: self.form.change(),
         }
+    }
+}
+
+/// A change in few bytes, since changes that aren't published may be as many as a run can have. `change_in` says which it is.
+#[derive(Clone, Copy)]
+pub struct Slip {
+    // The ticket is 0.
+    form: Form,
+}
+
+const _: () = prove!(size_of::<Slip>() == 24);
+
+impl Slip {
+    pub fn of(change: Change) -> Slip
+        ensures { change_in result ≡ change }
+    {
+        Slip {
+            form: form_of(0, change),
+        }
+    }
+
+    pub fn change(self) -> Change
+        ensures { result ≡ change_in self }
+    {
+        self.form.change()
     }
 }
 

@@ -13,6 +13,7 @@ use Rattle.br_model.specs.declared.change.Change.TheVariants.{PortUp, PortDown, 
 use Rattle.br_model.specs.declared.change.Form.{Form}
 use Rattle.br_model.specs.declared.change.Form.TheVariants as forms
 use Rattle.br_model.specs.declared.change.Kind.{Kind}
+use Rattle.br_model.specs.declared.change.Slip.{Slip}
 use Rattle.br_model.specs.declared.change.Update.{Update}
 use Rattle.br_model.specs.declared.domains.Edition.{Edition}
 use Rattle.br_model.specs.declared.domains.Edition.TheVariants.{One, Two}
@@ -119,3 +120,7 @@ update_of (forms.Snoop n on) = record { ticket = n; change = Snoop on }
 update_of (forms.Stp n on) = record { ticket = n; change = Stp on }
 update_of (forms.AddrPut port vid n mac kind) = record { ticket = n; change = AddrPut vid mac port kind }
 update_of (forms.AddrDel vid n mac) = record { ticket = n; change = AddrDel vid mac }
+
+-- the change that few bytes say
+abbrev pub change_in : Slip → Change
+change_in s = (update_of s.form).change

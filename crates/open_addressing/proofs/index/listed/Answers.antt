@@ -6,8 +6,8 @@ use Rattle.open_addressing.specs.Zipped.{key_of}
 use Rattle.open_addressing.proofs.Indexed.{rank_absent, differ}
 use Rattle.open_addressing.proofs.index.listed.Goals as goal
 
-pub returns-then-place-len-clause-none : goal.returns-then-place-len-clause-none
-returns-then-place-len-clause-none g c _ =
+pub returns-then-place-rest-clause-none : goal.returns-then-place-rest-clause-none
+returns-then-place-rest-clause-none g c _ =
     let at : ℕ → ℕ = key_in key_of None (g.C.Cells.cells c.args.cells.now) in
     rank_absent at c.args.rest.now (g.C.Cells.number c.args.key.now) c.rank-place.result c.requires.ascending c.rank-place.ensures (λ h. absurd (omega arith))
 
