@@ -37,10 +37,6 @@ taken_some s is none = (let no : is_taken s ≡ false = ap is_taken none ∙ not
 pub taken_here : (s : ℕ) → is_taken s ≡ true → s ≢ left
 taken_here s is gone = (let no : is_taken s ≡ false = ap is_taken gone ∙ not_left in absurd (cc))
 
--- one that isn't and was used before has lost its key
-pub untaken : (s : ℕ) → is_taken s ≡ false → s ≢ 0 → s ≡ left
-untaken s no some = by_eq s left (λ e. e) (λ here. (let yes = taken s some here in absurd (cc)))
-
 module _ (hash : ℕ → ℕ) (bits : ℕ) (slots : List ℕ) (k v : ℕ) (within : home_of hash bits k < length slots) where
   slot_same : (q : ℕ) → home_of hash bits q ≡ home_of hash bits k → slot_of hash bits (set slots (home_of hash bits k) v) q ≡ v
   slot_same q e = ap (λ h. get_or (set slots (home_of hash bits k) v) h 0) e ∙ get_or-set_same slots (home_of hash bits k) v 0 within

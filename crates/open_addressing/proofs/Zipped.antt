@@ -1,5 +1,5 @@
 -- Keys with their values as cells.
-use Rattle.std.proofs.Common.{◌≡◌, ◌≢◌, ℕ, zero, suc, ◌<◌, ◌≤◌, Bool, true, false, cond, min, Option, None, Some, List, [], ◌∷◌, ◌++◌, ◌+◌, take, filter_map, map, length, replicate, get_or, set, refl, sym, ap, subst, ◌∙◌, arith}
+use Rattle.std.proofs.Common.{◌≡◌, ◌≢◌, ℕ, zero, suc, ◌<◌, ◌≤◌, Bool, true, false, cond, Option, None, Some, List, [], ◌∷◌, ◌++◌, ◌+◌, take, filter_map, map, length, replicate, get_or, set, refl, sym, ap, subst, ◌∙◌, arith}
 use Rattle.std.specs.List.{cons_option}
 use Rattle.std.proofs.Math.Seq.{take-suc}
 use Rattle.std.proofs.lemmas.List.{get_or-map, length-map, map-set}
@@ -66,11 +66,6 @@ module _ {V : Type 0} where
       → value_of (get_or (cells_of ks vs) i None) ≡ Some v
   value_is ks vs i v h some is =
       ap value_of (cell_is ks vs i v h) ∙ value_of-cell (get_or ks i 0) (get_or vs i v) (λ e. some (key_is ks vs i h ∙ e)) ∙ ap Some (sym is)
-
-  pub length-cells_of : (ks : List ℕ) (vs : List V) → length (cells_of ks vs) ≡ min (length ks) (length vs)
-  length-cells_of [] vs = omega arith
-  length-cells_of (k ∷ ks) [] = omega arith
-  length-cells_of (k ∷ ks) (v ∷ vs) = let rest = length-cells_of ks vs in omega arith
 
   -- the key of a cell, if its value passes
 
