@@ -14,20 +14,23 @@ returns-then-place-rest-clause-none g c _ =
 pub holds-requires : goal.holds-requires
 holds-requires g c =
     let rest = c.args.rest.now in
-    let read = get_or_read rest c.rank-place.result c.index.result.now (omega arith) c.index.ensures 0 in
+    let same : c.from.result ≡ c.index.result.now = omega arith in
+    let read : c.from.result ≡ get_or rest c.rank-place.result 0 = same ∙ get_or_read rest c.rank-place.result c.index.result.now (omega arith) c.index.ensures 0 in
     record { within = subst (λ n. n < length (g.C.Cells.cells c.args.cells.now)) (sym read) (c.requires.within c.rank-place.result (omega arith)); key = c.requires.key }
 
 pub returns-then-holds-clause-some : goal.returns-then-holds-clause-some
 returns-then-holds-clause-some g c =
     let at : ℕ → ℕ = key_in key_of None (g.C.Cells.cells c.args.cells.now) in
     let k : ℕ = g.C.Cells.number c.args.key.now in
-    let read = get_or_read c.args.rest.now c.rank-place.result c.index.result.now (omega arith) c.index.ensures 0 in
-    (omega arith, ap at (sym read) ∙ eqb-true (at c.index.result.now) k (sym c.holds.ensures ∙ c.if-holds.true))
+    let same : c.from.result ≡ c.index.result.now = omega arith in
+    let read : c.from.result ≡ get_or c.args.rest.now c.rank-place.result 0 = same ∙ get_or_read c.args.rest.now c.rank-place.result c.index.result.now (omega arith) c.index.ensures 0 in
+    (omega arith, ap at (sym read) ∙ eqb-true (at c.from.result) k (sym c.holds.ensures ∙ c.if-holds.true))
 
 pub returns-else-holds-clause-none : goal.returns-else-holds-clause-none
 returns-else-holds-clause-none g c _ =
     let at : ℕ → ℕ = key_in key_of None (g.C.Cells.cells c.args.cells.now) in
     let k : ℕ = g.C.Cells.number c.args.key.now in
-    let read = get_or_read c.args.rest.now c.rank-place.result c.index.result.now (omega arith) c.index.ensures 0 in
+    let same : c.from.result ≡ c.index.result.now = omega arith in
+    let read : c.from.result ≡ get_or c.args.rest.now c.rank-place.result 0 = same ∙ get_or_read c.args.rest.now c.rank-place.result c.index.result.now (omega arith) c.index.ensures 0 in
     rank_absent at c.args.rest.now k c.rank-place.result c.requires.ascending c.rank-place.ensures
-    (λ h e. differ (at c.index.result.now) k (sym c.holds.ensures ∙ c.if-holds.false) (ap at read ∙ e))
+    (λ h e. differ (at c.from.result) k (sym c.holds.ensures ∙ c.if-holds.false) (ap at read ∙ e))

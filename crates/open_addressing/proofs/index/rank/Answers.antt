@@ -21,7 +21,8 @@ is_below-requires g c =
     let rest = c.args.rest.now in
     let low = c.loop-low.invariant.within in
     let m : ℕ = c.middle in
-    let read = get_or_read rest m c.index.result.now (omega arith) c.index.ensures 0 in
+    let same : c.from.result ≡ c.index.result.now = omega arith in
+    let read : c.from.result ≡ get_or rest m 0 = same ∙ get_or_read rest m c.index.result.now (omega arith) c.index.ensures 0 in
     record { within = subst (λ n. n < length (g.C.Cells.cells c.args.cells.now)) (sym read) (c.requires.within m (omega arith)); key = c.requires.key }
 
 pub loop-low-preserved-then-is_below : goal.loop-low-preserved-then-is_below
@@ -31,8 +32,9 @@ loop-low-preserved-then-is_below g c =
     let rest = c.args.rest.now in
     let within = c.loop-low.invariant.within in
     let m : ℕ = c.middle in
-    let read = get_or_read rest m c.index.result.now (omega arith) c.index.ensures 0 in
-    let less = ltb-true (at c.index.result.now) k (sym c.is_below.ensures ∙ c.if-is_below.true) in
+    let same : c.from.result ≡ c.index.result.now = omega arith in
+    let read : c.from.result ≡ get_or rest m 0 = same ∙ get_or_read rest m c.index.result.now (omega arith) c.index.ensures 0 in
+    let less = ltb-true (at c.from.result) k (sym c.is_below.ensures ∙ c.if-is_below.true) in
     halves-up at rest k c.loop-low.low c.loop-low.high m c.requires.ascending c.loop-low.invariant (omega arith) (omega arith) (subst (λ n. at n < k) read less)
 
 pub loop-low-preserved : goal.loop-low-preserved
@@ -42,8 +44,9 @@ loop-low-preserved g c =
     let rest = c.args.rest.now in
     let within = c.loop-low.invariant.within in
     let m : ℕ = c.middle in
-    let read = get_or_read rest m c.index.result.now (omega arith) c.index.ensures 0 in
-    let more = ltb-false (at c.index.result.now) k (sym c.is_below.ensures ∙ c.if-is_below.false) in
+    let same : c.from.result ≡ c.index.result.now = omega arith in
+    let read : c.from.result ≡ get_or rest m 0 = same ∙ get_or_read rest m c.index.result.now (omega arith) c.index.ensures 0 in
+    let more = ltb-false (at c.from.result) k (sym c.is_below.ensures ∙ c.if-is_below.false) in
     halves-down at rest k c.loop-low.low c.loop-low.high m c.requires.ascending c.loop-low.invariant (omega arith) (omega arith) (subst (λ n. k ≤ at n) read more)
 
 pub returns : goal.returns

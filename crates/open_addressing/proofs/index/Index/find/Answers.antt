@@ -67,6 +67,7 @@ returns-in_ok-place-clause-found g c =
     let at : ℕ → ℕ = key_in key_of None cells in
     let place : ℕ = c.in_ok-place.place in
     let within : place < length s.rest.items = omega (arith, c.in_ok-place.ensures.some.0, ap length c.as_slice.ensures) in
-    let read = get_or_read s.rest.items place c.index.result.now within c.index.ensures 0 in
+    let same : c.from.result ≡ c.index.result.now = omega arith in
+    let read : c.from.result ≡ get_or s.rest.items place 0 = same ∙ get_or_read s.rest.items place c.index.result.now within c.index.ensures 0 in
     let here = ap at (read ∙ ap (λ (r : List ℕ). get_or r place 0) (sym c.as_slice.ensures)) ∙ c.in_ok-place.ensures.some.1 in
-    (key-within cells c.index.result.now (λ z. c.requires.key (sym here ∙ z)), here)
+    (key-within cells c.from.result (λ z. c.requires.key (sym here ∙ z)), here)

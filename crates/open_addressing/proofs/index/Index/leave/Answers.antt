@@ -29,8 +29,8 @@ listed-requires g c =
       ascending = rw c.as_slice.ensures c.requires.index.ascending;
     }
 
-pub returns-then-eq-clause-index : goal.returns-then-eq-clause-index
-returns-then-eq-clause-index g c =
+pub returns-then-from-cell-clause-index : goal.returns-then-from-cell-clause-index
+returns-then-from-cell-clause-index g c =
     let s = c.args.self.now in
     let k : ℕ = g.C.Cells.number c.args.key.now in
     let p : ℕ = c.args.cell in
@@ -40,10 +40,10 @@ returns-then-eq-clause-index g c =
     let read = slot-read g.C.Cells.hash s.bits at s.slots.items s.rest.items c.requires.index k c.home-slot.result c.index.result.now h c.index.ensures in
     subst (λ n. IsIndexed g.C.Cells.hash s.bits (key_in key_of None (set cells p None)) (set s.slots.items n left) s.rest.items) (sym h)
     (leaves_slot g.C.Cells.hash s.bits at s.slots.items s.rest.items c.requires.index (key_in key_of None (set cells p None)) k p (λ i ne. key-kept cells p None i ne)
-    (λ z. c.requires.key (sym c.requires.here ∙ z)) c.requires.here (key-set cells p None c.requires.within) (read ∙ eqb-true _ _ c.if-eq.true))
+    (λ z. c.requires.key (sym c.requires.here ∙ z)) c.requires.here (key-set cells p None c.requires.within) (read ∙ (let e : c.index.result.now ≡ p + 1 = omega arith in e)))
 
-pub returns-then-eq-clause-named : goal.returns-then-eq-clause-named
-returns-then-eq-clause-named g c =
+pub returns-then-from-cell-clause-named : goal.returns-then-from-cell-clause-named
+returns-then-from-cell-clause-named g c =
     let s = c.args.self.now in
     let k : ℕ = g.C.Cells.number c.args.key.now in
     let p : ℕ = c.args.cell in
@@ -51,7 +51,7 @@ returns-then-eq-clause-named g c =
     let fits = c.requires.index.small p (λ z. c.requires.key (sym c.requires.here ∙ z)) in
     let h = home-is g.C.Cells.hash s.bits k c.hash.result c.home-slot.result c.home-slot.ensures.value c.hash.ensures in
     let read = slot-read g.C.Cells.hash s.bits at s.slots.items s.rest.items c.requires.index k c.home-slot.result c.index.result.now h c.index.ensures in
-    let here = ap (λ n. get_or s.slots.items n 0) h ∙ read ∙ eqb-true _ _ c.if-eq.true in
+    let here = ap (λ n. get_or s.slots.items n 0) h ∙ read ∙ (let e : c.index.result.now ≡ p + 1 = omega arith in e) in
     less_slots s.slots.items s.rest.items c.home-slot.result left (omega (arith, c.home-slot.ensures.within, c.requires.index.sized))
     (ap is_taken here ∙ taken (p + 1) (λ z. absurd (omega arith)) (λ z. absurd (omega arith))) not_left
 
@@ -64,7 +64,7 @@ unreachable-requires g c =
     let h = home-is g.C.Cells.hash s.bits k c.hash.result c.home-slot.result c.home-slot.ensures.value c.hash.ensures in
     let read = slot-read g.C.Cells.hash s.bits at s.slots.items s.rest.items c.requires.index k c.home-slot.result c.index.result.now h c.index.ensures in
     stands g.C.Cells.hash s.bits at s.slots.items s.rest.items c.requires.index k p c.requires.key c.requires.here
-    (λ e. differ _ _ c.if-eq.false (sym read ∙ e))
+    (λ e. (let other : c.index.result.now ≢ p + 1 = λ z. absurd (omega arith) in other (sym read ∙ e)))
     (subst (λ (r : List ℕ). (j : ℕ) → j < length r → at (get_or r j 0) ≢ k) c.as_slice.ensures (c.in-None.ensures.none refl))
 
 pub returns-in-Some-clause-index : goal.returns-in-Some-clause-index
@@ -80,7 +80,7 @@ returns-in-Some-clause-index g c =
     subst (λ (r : List ℕ). IsIndexed g.C.Cells.hash s.bits (key_in key_of None (set cells p None)) s.slots.items r) (sym c.remove.ensures.items)
     (leaves_list g.C.Cells.hash s.bits at s.slots.items s.rest.items c.requires.index (key_in key_of None (set cells p None)) k p (λ i ne. key-kept cells p None i ne)
     (λ z. c.requires.key (sym c.requires.here ∙ z)) c.requires.here (key-set cells p None c.requires.within)
-    c.in-Some.place (λ e. differ _ _ c.if-eq.false (sym read ∙ e)) (omega (arith, c.in-Some.ensures.some.0, ap length c.as_slice.ensures)) at_place)
+    c.in-Some.place (λ e. (let other : c.index.result.now ≢ p + 1 = λ z. absurd (omega arith) in other (sym read ∙ e))) (omega (arith, c.in-Some.ensures.some.0, ap length c.as_slice.ensures)) at_place)
 
 pub returns-in-Some-clause-named : goal.returns-in-Some-clause-named
 returns-in-Some-clause-named g c =

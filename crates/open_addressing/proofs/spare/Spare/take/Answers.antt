@@ -9,9 +9,10 @@ returns-in-Some-clause-uses c at used room x roomy =
     let free = c.args.self.now.free.items in
     let long : vec_len c.args.self.now.free ≡ length free = c.args.self.now.free.ok.0 in
     let some : 0 < length free = omega (arith, c.in-Some.ensures.cases) in
-    let is = same_Some _ _ (sym c.in-Some.is ∙ c.pop.ensures.value 0 (omega arith)) ∙ ap (λ n. get_or free (n - 1) 0) long in
+    let same : c.from.result ≡ c.in-Some.cell = omega arith in
+    let is = same ∙ same_Some _ _ (sym c.in-Some.is ∙ c.pop.ensures.value 0 (omega arith)) ∙ ap (λ n. get_or free (n - 1) 0) long in
     let left = c.pop.ensures.rest ∙ ap (λ n. take (n - 1) free) long in
-    subst (λ (ns : List ℕ). Uses at used room c.in-Some.cell c.args.self.now.fresh ns) (sym left) (uses_left at used room c.args.self.now.fresh free x c.in-Some.cell some is)
+    subst (λ (ns : List ℕ). Uses at used room c.from.result c.args.self.now.fresh ns) (sym left) (uses_left at used room c.args.self.now.fresh free x c.from.result some is)
 
 pub returns-in-None-clause-uses : goal.returns-in-None-clause-uses
 returns-in-None-clause-uses c at used room x roomy =
