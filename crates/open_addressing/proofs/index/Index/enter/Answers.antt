@@ -21,12 +21,12 @@ rank-requires g c =
     let rest = c.args.self.now.rest.items in
     record {
       key = c.requires.key;
-      within = rw c.as_slice.ensures (λ j h. key-within cells (get_or rest j 0) (c.requires.index.listed j h));
-      ascending = rw c.as_slice.ensures c.requires.index.ascending;
+      within = rw c.as_slice.ensures.value (λ j h. key-within cells (get_or rest j 0) (c.requires.index.listed j h));
+      ascending = rw c.as_slice.ensures.value c.requires.index.ascending;
     }
 
 pub insert_at-requires-clause-within : goal.insert_at-requires-clause-within
-insert_at-requires-clause-within g c = omega (arith, c.rank-place.ensures.within, ap length c.as_slice.ensures)
+insert_at-requires-clause-within g c = omega (arith, c.rank-place.ensures.within, ap length c.as_slice.ensures.value)
 
 pub index_mut-requires : goal.index_mut-requires
 index_mut-requires g c = omega (arith, c.home.ensures.within, c.requires.index.sized, c.args.self.now.slots.ok.0)
@@ -40,7 +40,7 @@ returns-then-is_taken-clause-index g c v is =
     let at : ℕ → ℕ = key_in key_of None cells in
     let h = home-is g.C.Cells.hash s.bits k c.hash.result c.home-slot.result c.home-slot.ensures.value c.hash.ensures in
     let read = slot-read g.C.Cells.hash s.bits at s.slots.items s.rest.items c.requires.index k c.home-slot.result c.index.result.now h c.index.ensures in
-    let halves = subst (λ (r : List ℕ). Halves at r k c.rank-place.result c.rank-place.result) c.as_slice.ensures c.rank-place.ensures in
+    let halves = subst (λ (r : List ℕ). Halves at r k c.rank-place.result c.rank-place.result) c.as_slice.ensures.value c.rank-place.ensures in
     subst (λ (r : List ℕ). IsIndexed g.C.Cells.hash s.bits (key_in key_of None (set cells p v)) s.slots.items r) (sym c.insert_at.ensures.items)
     (enters_list g.C.Cells.hash s.bits at s.slots.items s.rest.items c.requires.index (key_in key_of None (set cells p v)) k p (λ i ne. key-kept cells p v i ne)
     c.requires.key c.requires.empty c.requires.small (key-set cells p v c.requires.within ∙ is)
@@ -49,7 +49,7 @@ returns-then-is_taken-clause-index g c v is =
 pub returns-then-is_taken-clause-named : goal.returns-then-is_taken-clause-named
 returns-then-is_taken-clause-named g c =
     let rest = c.args.self.now.rest.items in
-    let long = length-insert rest c.rank-place.result c.args.cell (omega (arith, c.rank-place.ensures.within, ap length c.as_slice.ensures)) in
+    let long = length-insert rest c.rank-place.result c.args.cell (omega (arith, c.rank-place.ensures.within, ap length c.as_slice.ensures.value)) in
     let now = ap length c.insert_at.ensures.items in
     omega arith
 

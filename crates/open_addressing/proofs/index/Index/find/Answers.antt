@@ -43,8 +43,8 @@ listed-requires g c =
     let at : ℕ → ℕ = key_in key_of None cells in
     record {
       key = c.requires.key;
-      within = rw c.as_slice.ensures (λ j h. key-within cells (get_or s.rest.items j 0) (c.requires.index.listed j h));
-      ascending = rw c.as_slice.ensures c.requires.index.ascending;
+      within = rw c.as_slice.ensures.value (λ j h. key-within cells (get_or s.rest.items j 0) (c.requires.index.listed j h));
+      ascending = rw c.as_slice.ensures.value c.requires.index.ascending;
     }
 
 pub returns-in_err-place-clause-absent : goal.returns-in_err-place-clause-absent
@@ -55,10 +55,10 @@ returns-in_err-place-clause-absent g c _ =
     let h = home-is g.C.Cells.hash s.bits k c.hash.result c.home.result c.home.ensures.value c.hash.ensures in
     let read = slot-read g.C.Cells.hash s.bits at s.slots.items s.rest.items c.requires.index k c.home.result c.index-slot.result.now h c.index-slot.ensures in
     missed g.C.Cells.hash s.bits at s.slots.items s.rest.items c.requires.index k c.index-slot.result.now c.requires.key read (c.in-None.ensures.none refl)
-    (subst (λ (r : List ℕ). (j : ℕ) → j < length r → at (get_or r j 0) ≢ k) c.as_slice.ensures (c.in_err-place.ensures.none refl))
+    (subst (λ (r : List ℕ). (j : ℕ) → j < length r → at (get_or r j 0) ≢ k) c.as_slice.ensures.value (c.in_err-place.ensures.none refl))
 
 pub index-requires : goal.index-requires
-index-requires g c = omega (arith, c.in_ok-place.ensures.some.0, ap length c.as_slice.ensures, c.args.self.now.rest.ok.0)
+index-requires g c = omega (arith, c.in_ok-place.ensures.some.0, ap length c.as_slice.ensures.value, c.args.self.now.rest.ok.0)
 
 pub returns-in_ok-place-clause-found : goal.returns-in_ok-place-clause-found
 returns-in_ok-place-clause-found g c =
@@ -66,8 +66,8 @@ returns-in_ok-place-clause-found g c =
     let cells = g.C.Cells.cells c.args.cells.now in
     let at : ℕ → ℕ = key_in key_of None cells in
     let place : ℕ = c.in_ok-place.place in
-    let within : place < length s.rest.items = omega (arith, c.in_ok-place.ensures.some.0, ap length c.as_slice.ensures) in
+    let within : place < length s.rest.items = omega (arith, c.in_ok-place.ensures.some.0, ap length c.as_slice.ensures.value) in
     let same : c.from.result ≡ c.index.result.now = omega arith in
     let read : c.from.result ≡ get_or s.rest.items place 0 = same ∙ get_or_read s.rest.items place c.index.result.now within c.index.ensures 0 in
-    let here = ap at (read ∙ ap (λ (r : List ℕ). get_or r place 0) (sym c.as_slice.ensures)) ∙ c.in_ok-place.ensures.some.1 in
+    let here = ap at (read ∙ ap (λ (r : List ℕ). get_or r place 0) (sym c.as_slice.ensures.value)) ∙ c.in_ok-place.ensures.some.1 in
     (key-within cells c.from.result (λ z. c.requires.key (sym here ∙ z)), here)

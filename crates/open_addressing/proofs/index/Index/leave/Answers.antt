@@ -25,8 +25,8 @@ listed-requires g c =
     let rest = c.args.self.now.rest.items in
     record {
       key = c.requires.key;
-      within = rw c.as_slice.ensures (λ j h. key-within cells (get_or rest j 0) (c.requires.index.listed j h));
-      ascending = rw c.as_slice.ensures c.requires.index.ascending;
+      within = rw c.as_slice.ensures.value (λ j h. key-within cells (get_or rest j 0) (c.requires.index.listed j h));
+      ascending = rw c.as_slice.ensures.value c.requires.index.ascending;
     }
 
 pub returns-then-from-cell-clause-index : goal.returns-then-from-cell-clause-index
@@ -65,7 +65,7 @@ unreachable-requires g c =
     let read = slot-read g.C.Cells.hash s.bits at s.slots.items s.rest.items c.requires.index k c.home-slot.result c.index.result.now h c.index.ensures in
     stands g.C.Cells.hash s.bits at s.slots.items s.rest.items c.requires.index k p c.requires.key c.requires.here
     (λ e. (let other : c.index.result.now ≢ p + 1 = λ z. absurd (omega arith) in other (sym read ∙ e)))
-    (subst (λ (r : List ℕ). (j : ℕ) → j < length r → at (get_or r j 0) ≢ k) c.as_slice.ensures (c.in-None.ensures.none refl))
+    (subst (λ (r : List ℕ). (j : ℕ) → j < length r → at (get_or r j 0) ≢ k) c.as_slice.ensures.value (c.in-None.ensures.none refl))
 
 pub returns-in-Some-clause-index : goal.returns-in-Some-clause-index
 returns-in-Some-clause-index g c =
@@ -76,15 +76,15 @@ returns-in-Some-clause-index g c =
     let at : ℕ → ℕ = key_in key_of None cells in
     let h = home-is g.C.Cells.hash s.bits k c.hash.result c.home-slot.result c.home-slot.ensures.value c.hash.ensures in
     let read = slot-read g.C.Cells.hash s.bits at s.slots.items s.rest.items c.requires.index k c.home-slot.result c.index.result.now h c.index.ensures in
-    let at_place = subst (λ (r : List ℕ). at (get_or r c.in-Some.place 0) ≡ k) c.as_slice.ensures c.in-Some.ensures.some.1 in
+    let at_place = subst (λ (r : List ℕ). at (get_or r c.in-Some.place 0) ≡ k) c.as_slice.ensures.value c.in-Some.ensures.some.1 in
     subst (λ (r : List ℕ). IsIndexed g.C.Cells.hash s.bits (key_in key_of None (set cells p None)) s.slots.items r) (sym c.remove.ensures.items)
     (leaves_list g.C.Cells.hash s.bits at s.slots.items s.rest.items c.requires.index (key_in key_of None (set cells p None)) k p (λ i ne. key-kept cells p None i ne)
     (λ z. c.requires.key (sym c.requires.here ∙ z)) c.requires.here (key-set cells p None c.requires.within)
-    c.in-Some.place (λ e. (let other : c.index.result.now ≢ p + 1 = λ z. absurd (omega arith) in other (sym read ∙ e))) (omega (arith, c.in-Some.ensures.some.0, ap length c.as_slice.ensures)) at_place)
+    c.in-Some.place (λ e. (let other : c.index.result.now ≢ p + 1 = λ z. absurd (omega arith) in other (sym read ∙ e))) (omega (arith, c.in-Some.ensures.some.0, ap length c.as_slice.ensures.value)) at_place)
 
 pub returns-in-Some-clause-named : goal.returns-in-Some-clause-named
 returns-in-Some-clause-named g c =
     let rest = c.args.self.now.rest.items in
-    let short = length-remove rest c.in-Some.place (omega (arith, c.in-Some.ensures.some.0, ap length c.as_slice.ensures)) in
+    let short = length-remove rest c.in-Some.place (omega (arith, c.in-Some.ensures.some.0, ap length c.as_slice.ensures.value)) in
     let now = ap length c.remove.ensures.items in
     omega arith
