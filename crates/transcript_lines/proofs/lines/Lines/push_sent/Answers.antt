@@ -63,7 +63,7 @@ returns-clause-lines c =
     ∙ ap (λ (ls : List Line). c.args.self.now.lines ++ ls) (c.store_tagged-tagged.ensures.form.same c.args.id (c.args.front.now ++ c.args.rest.now))
 
 pub returns-clause-bytes : goal.returns-clause-bytes
-returns-clause-bytes c = ?
+returns-clause-bytes c = omega (arith, c.store-plain.ensures.capacity, c.store_tagged-tagged.ensures.capacity, long c, few c, ap (λ (l : Listed). l.bytes) c.self.view_is)
 
 pub returns-clause-marked : goal.returns-clause-marked
 returns-clause-marked c =
