@@ -1,6 +1,6 @@
-//! Updates in few bytes.
+//! Updates and changes in few bytes.
 ghost use Rattle.std.specs.Prelude.{◌≡◌};
-ghost use Rattle.br_model.specs.Table.Parcels.{update_of, whole};
+ghost use Rattle.br_model.specs.Table.Parcels.{change_in, update_of, whole};
 
 use crate::change::{Change, Flags, Kind, Update};
 use crate::group::Group;
@@ -63,6 +63,31 @@ impl Parcel {
             ticket: self.form.ticket(),
             change: self.form.change(),
         }
+    }
+}
+
+/// A change in few bytes, since changes that aren't published may be as many as a run can have. `change_in` says which it is.
+#[derive(Clone, Copy)]
+pub struct Slip {
+    // The ticket is 0.
+    form: Form,
+}
+
+const _: () = prove!(size_of::<Slip>() == 24);
+
+impl Slip {
+    pub fn of(change: Change) -> Slip
+        ensures { change_in result ≡ change }
+    {
+        Slip {
+            form: form_of(0, change),
+        }
+    }
+
+    pub fn change(self) -> Change
+        ensures { result ≡ change_in self }
+    {
+        self.form.change()
     }
 }
 

@@ -1,11 +1,13 @@
--- How the queue packs an update.
+-- How the queue packs an update, and a board a change.
 -- Source: this profile.
 use Rattle.std.specs.Prelude.{ℕ, ◌+◌, ◌*◌, ◌^◌}
 use Rattle.br_model.specs.declared.change.Change.TheVariants.{PortUp, PortDown, SetFlags, SetState, VlanAdd, VlanDel, GroupJoin, GroupPart, Router, Querier, Snoop, Stp, AddrPut, AddrDel}
+use Rattle.br_model.specs.declared.change.Change.{Change}
 use Rattle.br_model.specs.declared.change.Update.{Update}
 use Rattle.br_model.specs.declared.group.Group.TheVariants.{V4, V6}
 use Rattle.br_model.specs.declared.parcel.Form.{Form}
 use Rattle.br_model.specs.declared.parcel.Form.TheVariants as forms
+use Rattle.br_model.specs.declared.parcel.Slip.{Slip}
 
 -- the number with these halves
 abbrev pub whole : ℕ → ℕ → ℕ
@@ -29,3 +31,7 @@ update_of (forms.Snoop n on) = record { ticket = n; change = Snoop on }
 update_of (forms.Stp n on) = record { ticket = n; change = Stp on }
 update_of (forms.AddrPut port vid n mac kind) = record { ticket = n; change = AddrPut vid mac port kind }
 update_of (forms.AddrDel vid n mac) = record { ticket = n; change = AddrDel vid mac }
+
+-- the change that few bytes say
+abbrev pub change_in : Slip → Change
+change_in s = (update_of s.form).change
