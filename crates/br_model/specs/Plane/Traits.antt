@@ -18,9 +18,9 @@ pub record Traits : Type 0 where
   -- the domain whose chip reports
   pub report : Option ℕ
   pub publishes : Bool
-  -- Where workers take the steps of a scenario: it isn't a frame, and keeps its place among those that aren't;
+  -- In a run by workers: it is taken from the scenario and is no frame, and keeps its place among such steps.
   pub ordered : Bool
-  -- it may stand in the drain, the longest end of the steps that has none but these.
+  -- In a run by workers: it may stand in the drain, the longest end of the steps that has none but these.
   pub drains : Bool
 
 -- none of these
