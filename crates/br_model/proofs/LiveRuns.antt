@@ -4,7 +4,7 @@ use Rattle.std.specs.Cmp.{first_so, second_so}
 use Rattle.std.specs.List.{AllByRecursion, filter, fold, list_all}
 use Rattle.std.proofs.lemmas.List.Sums.{fold-append}
 use Rattle.br_model.specs.declared.steps.Step.{Step}
-use Rattle.br_model.specs.declared.steps.Step.TheVariants.{Rx, Cmd, Now, Serve, Hold, Post, Turn, Report, Sweep, Publish}
+use Rattle.br_model.specs.declared.steps.Step.TheVariants.{Publish}
 use Rattle.br_model.specs.Plane.Runs.{run, then_step}
 use Rattle.br_model.specs.Plane.Steps.{world_step}
 use Rattle.br_model.specs.Plane.World.{World, Stepped, first_world}
@@ -20,16 +20,8 @@ use Rattle.br_model.proofs.SameSteps.{step_decides, steps_decide}
 -- publications
 
 publish_is : (s : Step) → is_publish s ≡ true → s ≡ Publish
-publish_is (Rx port bytes) h = absurd (cc)
-publish_is (Cmd command) h = absurd (cc)
-publish_is (Now moment) h = absurd (cc)
-publish_is Serve h = absurd (cc)
-publish_is Hold h = absurd (cc)
-publish_is (Post id point) h = absurd (cc)
-publish_is (Turn dom) h = absurd (cc)
-publish_is (Report dom) h = absurd (cc)
-publish_is (Sweep dom) h = absurd (cc)
 publish_is Publish h = refl
+publish_is s h = absurd (cc)
 
 abbrev ArePublished : List Step → Type 0
 ArePublished steps = AllByRecursion (λ s. s ≡ Publish) steps

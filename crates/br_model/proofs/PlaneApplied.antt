@@ -14,31 +14,30 @@ use Rattle.br_model.specs.declared.frame.FrameFault.{FrameFault}
 use Rattle.br_model.specs.declared.frame.Head.{Head}
 use Rattle.br_model.specs.declared.steps.Event.TheVariants as events
 use Rattle.br_model.specs.declared.steps.Refusal.{Refusal}
-use Rattle.br_model.specs.declared.steps.Refusal.TheVariants.{NoSuchPoint}
 use Rattle.br_model.specs.Plane.Chip.{notes, Chip, first_chip, first_chips, applies}
 use Rattle.br_model.specs.Table.Cut.{cut, deferred_of, synchronous_of}
 use Rattle.br_model.specs.Table.Domains.{domain_of, chip_domains, has_chip}
 use Rattle.br_model.specs.Wire.Frames.{frame}
-use Rattle.br_model.specs.Control.Learning.{Triple}
 use Rattle.br_model.specs.Control.Reaction.{Reaction}
 use Rattle.br_model.specs.Table.Setup.{Setup}
 use Rattle.br_model.specs.Forward.Shares.{mark_of}
 use Rattle.br_model.specs.Table.Table.{table}
 use Rattle.br_model.specs.Theorems.Applied.{applied_in, turned_in, then_applied, applied}
-use Rattle.br_model.specs.Plane.ChipSteps.{turns_to, turns, tells, reports, swept, sweeps}
+use Rattle.br_model.specs.Plane.ChipSteps.{turns_to, turns}
 use Rattle.br_model.specs.Plane.Entering.{waits, goes_on, enters_as, class_of, enters_by, chip_of}
 use Rattle.br_model.specs.Theorems.Invariants.{IsWorld}
 use Rattle.br_model.specs.Plane.Runs.{run, then_step}
-use Rattle.br_model.specs.Plane.Serving.{posts, serves, holds, held_with, lets_go, is_point, posts_held, posts_at}
-use Rattle.br_model.specs.Plane.Steps.{world_step}
+use Rattle.br_model.specs.Plane.Serving.{posts, serves, holds, held_with, lets_go, posts_at}
+use Rattle.br_model.specs.Plane.Steps.{does, world_step}
+use Rattle.br_model.specs.Plane.Traits.{traits}
 use Rattle.br_model.specs.declared.steps.Step.{Step}
-use Rattle.br_model.specs.declared.steps.Step.TheVariants.{Rx, Cmd, Now, Serve, Hold, Post, Turn, Report, Sweep, Publish}
-use Rattle.br_model.specs.Plane.World.{World, Waiting, Holding, Stepped, first_world, chip_at, next_of, table_of_chip, answered, reacts, refused, with_chip}
+use Rattle.br_model.specs.declared.steps.Step.TheVariants.{Rx, Serve, Hold, Post, Turn, Publish}
+use Rattle.br_model.specs.Plane.World.{World, Waiting, Holding, Stepped, first_world, chip_at, next_of, table_of_chip, answered, reacts, with_chip}
 use Rattle.br_model.proofs.ApplyingLaws.{after_accept, after_turn, once_after_accept, once_after_turn}
 use Rattle.br_model.proofs.PlaneChips.{chip-dom, chip-own, chip-there, put-same, put-other, CountsStay, put-counts, counts-same, counted-before, chip_of-at}
-use Rattle.br_model.proofs.PlaneKept.{first-world, step-world, notes-keeps, hit_by-keeps, chip-stands}
+use Rattle.br_model.proofs.PlaneKept.{Ends, ends_refused, ends_done, ends_answered, does-ends, first-world, step-world, notes-keeps, hit_by-keeps, chip-stands}
 use Rattle.br_model.proofs.PlaneLists.{same-some, find-each}
-use Rattle.br_model.proofs.PlaneWaiting.{goes_on-either, waits-either}
+use Rattle.br_model.proofs.PlaneWaiting.{goes_on-either, posts_at-either, waits-either}
 
 -- Changes are accepted behind those that were, and no chip applies a deferred one.
 abbrev Grows : World → World → Type 0
@@ -85,31 +84,28 @@ holds-grows : (w : World) (fs : List Waiting) → Grows w (holds w fs).0
 holds-grows w [] = idle w
 holds-grows w (f ∷ later) = stays w (holds w (f ∷ later)).0 refl refl (counts-same w.chips)
 
-posts_held-grows : (w : World) (h : Holding) (point : Option ℕ) → Grows w (posts_held w h point).0
-posts_held-grows w h None = posts-grows (lets_go w h.waiting.id) h.waiting h.floor
-posts_held-grows w h (Some point) =
-    elim (is_point w h point) as (λ b. Grows w (cond {A = Stepped} b (posts (lets_go w h.waiting.id) h.waiting point) (refused w NoSuchPoint)).0) [
-      | true ↦ posts-grows (lets_go w h.waiting.id) h.waiting point
-      | false ↦ idle w
-    ]
-
 posts_at-grows : (w : World) (o : Option Holding) (point : Option ℕ) → Grows w (posts_at w o point).0
-posts_at-grows w None point = idle w
-posts_at-grows w (Some h) point = posts_held-grows w h point
+posts_at-grows w o point = posts_at-either (λ s. Grows w s.0) w (λ why. idle w) (λ h p. posts-grows (lets_go w h.waiting.id) h.waiting p) o point
 
-tells-grows : (w : World) (dom : ℕ) (c : Chip) (rs : List Triple) → chip_at w dom ≡ Some c → Grows w (tells w c rs).0
-tells-grows w dom c [] at = idle w
-tells-grows w dom c (x ∷ later) at =
-    answered-grows w (with_chip w (record c { reports = later })) (reacts w (events.Told x.0 x.1 x.2)) refl refl (put-counts w.chips c (record c { reports = later }) (chip-own w.chips dom c at) refl refl)
+-- where it is of no frame, no turn, and publishes nothing
+ends-grows : (w : World) (step : Step) {y : Stepped} → (traits step).turn ≡ None → Ends w step y → Grows w y.0
+ends-grows w step none (ends_refused why) = idle w
+ends-grows w step none (ends_done chips stands counts moment) = stays w (record w { chips = chips }) refl refl (counts none)
+ends-grows w step none (ends_answered chips e stands counts now) = answered-grows w (record w { chips = chips }) (reacts w e) refl refl counts
 
-reports-grows : (w : World) (dom : ℕ) (o : Option Chip) → chip_at w dom ≡ o → Grows w (reports w o).0
-reports-grows w dom None at = idle w
-reports-grows w dom (Some c) at = tells-grows w dom c c.reports at
+-- a turn applies a change
+abbrev GrowsBy : World → Step → Type 0
+GrowsBy w (Turn dom) = Unit {0}
+GrowsBy w step = Grows w (does w step).0
 
-sweeps-grows : (w : World) (dom : ℕ) (o : Option Chip) → chip_at w dom ≡ o → Grows w (sweeps w o).0
-sweeps-grows w dom None at = idle w
-sweeps-grows w dom (Some c) at =
-    answered-grows w (with_chip w (record c { hits = [] })) (reacts w (swept w c)) refl refl (put-counts w.chips c (record c { hits = [] }) (chip-own w.chips dom c at) refl refl)
+does-grows : (w : World) (step : Step) → GrowsBy w step
+does-grows w (Rx port bytes) = enters-grows (record w { next = w.next + 1 }) w.next port bytes (frame bytes)
+does-grows w Serve = serves-grows w w.waiting
+does-grows w Hold = holds-grows w w.waiting
+does-grows w (Post id point) = posts_at-grows w (held_with w id) point
+does-grows w (Turn dom) = tt
+does-grows w Publish = stays w (does w Publish).0 refl refl (counts-same w.chips)
+does-grows w step = ends-grows w step refl (does-ends w step)
 
 -- What is applied so far by a chip that has so many deferred changes: it makes the chip's table, and holds each synchronous change
 -- and the first deferred ones once, each kind in order.
@@ -190,16 +186,8 @@ turn-applies w dom e done a =
 -- Each step.
 
 pub step-applies : (w : World) (dom : ℕ) (done : List Change) (step : Step) → IsWorld w → AppliesAt dom w done → AppliesAt dom (world_step w step).0 (done ++ applied_in dom w step)
-step-applies w dom done (Rx port bytes) k a = accepts-applies w (world_step w (Rx port bytes)).0 dom done k a (enters-grows (record w { steps = w.steps + 1; next = w.next + 1 }) w.next port bytes (frame bytes))
-step-applies w dom done (Cmd c) k a = accepts-applies w (world_step w (Cmd c)).0 dom done k a (answered-grows (record w { steps = w.steps + 1 }) (record w { steps = w.steps + 1 }) _ refl refl (counts-same w.chips))
-step-applies w dom done (Now moment) k a = accepts-applies w (world_step w (Now moment)).0 dom done k a (answered-grows (record w { steps = w.steps + 1 }) (record w { steps = w.steps + 1 }) _ refl refl (counts-same w.chips))
-step-applies w dom done Serve k a = accepts-applies w (world_step w Serve).0 dom done k a (serves-grows (record w { steps = w.steps + 1 }) w.waiting)
-step-applies w dom done Hold k a = accepts-applies w (world_step w Hold).0 dom done k a (holds-grows (record w { steps = w.steps + 1 }) w.waiting)
-step-applies w dom done (Post id point) k a = accepts-applies w (world_step w (Post id point)).0 dom done k a (posts_at-grows (record w { steps = w.steps + 1 }) (held_with w id) point)
 step-applies w dom done (Turn e) k a = turn-applies (record w { steps = w.steps + 1 }) dom e done a
-step-applies w dom done (Report e) k a = accepts-applies w (world_step w (Report e)).0 dom done k a (reports-grows (record w { steps = w.steps + 1 }) e (chip_at w e) refl)
-step-applies w dom done (Sweep e) k a = accepts-applies w (world_step w (Sweep e)).0 dom done k a (sweeps-grows (record w { steps = w.steps + 1 }) e (chip_at w e) refl)
-step-applies w dom done Publish k a = accepts-applies w (world_step w Publish).0 dom done k a (stays w (world_step w Publish).0 refl refl (counts-same w.chips))
+step-applies w dom done step k a = accepts-applies w (world_step w step).0 dom done k a (does-grows (record w { steps = w.steps + 1 }) step)
 
 -- No step changes what was said before.
 turns-setup : (w : World) (o : Option Chip) → (turns w o).0.setup ≡ w.setup
@@ -207,16 +195,8 @@ turns-setup w None = refl
 turns-setup w (Some c) = elim (next_of w c) as (λ o. (turns_to w c o).0.setup ≡ w.setup) [ None ↦ refl | Some x ↦ refl ]
 
 pub step-setup : (w : World) (step : Step) → (world_step w step).0.setup ≡ w.setup
-step-setup w (Rx port bytes) = (enters-grows (record w { steps = w.steps + 1; next = w.next + 1 }) w.next port bytes (frame bytes)).1
-step-setup w (Cmd c) = (answered-grows (record w { steps = w.steps + 1 }) (record w { steps = w.steps + 1 }) (reacts (record w { steps = w.steps + 1 }) (events.Cmd c)) refl refl (counts-same w.chips)).1
-step-setup w (Now moment) = (answered-grows (record w { steps = w.steps + 1 }) (record w { steps = w.steps + 1 }) (reacts (record w { steps = w.steps + 1 }) (events.Moment moment)) refl refl (counts-same w.chips)).1
-step-setup w Serve = (serves-grows (record w { steps = w.steps + 1 }) w.waiting).1
-step-setup w Hold = (holds-grows (record w { steps = w.steps + 1 }) w.waiting).1
-step-setup w (Post id point) = (posts_at-grows (record w { steps = w.steps + 1 }) (held_with w id) point).1
 step-setup w (Turn e) = turns-setup (record w { steps = w.steps + 1 }) (chip_at w e)
-step-setup w (Report e) = (reports-grows (record w { steps = w.steps + 1 }) e (chip_at w e) refl).1
-step-setup w (Sweep e) = (sweeps-grows (record w { steps = w.steps + 1 }) e (chip_at w e) refl).1
-step-setup w Publish = refl
+step-setup w step = (does-grows (record w { steps = w.steps + 1 }) step).1
 
 -- Runs.
 

@@ -10,7 +10,6 @@ use Rattle.std.specs.Ordering.{nat_cmp}
 use Rattle.std.specs.declared.result.Result.{Result}
 use Rattle.std.specs.declared.result.Result.TheVariants.{Ok, Err}
 use Rattle.br_model.specs.declared.transcript.Line.{Line}
-use Rattle.br_model.specs.declared.change.Change.{Change}
 use Rattle.br_model.specs.declared.frame.Class.{Class}
 use Rattle.br_model.specs.declared.frame.Class.TheVariants.{Drop, Trap, Copy, Forward}
 use Rattle.br_model.specs.declared.frame.FrameFault.{FrameFault}
@@ -21,11 +20,10 @@ use Rattle.br_model.specs.declared.steps.Refusal.TheVariants.{NoSuchPoint}
 use Rattle.br_model.specs.declared.bpdu.BpduMsg.{BpduMsg}
 use Rattle.br_model.specs.declared.transcript.Line.TheVariants.{Done}
 use Rattle.br_model.specs.declared.transcript.Line.TheVariants as lines
-use Rattle.br_model.specs.Plane.Chip.{Chip, applies, notes}
+use Rattle.br_model.specs.Plane.Chip.{Chip, notes}
 use Rattle.br_model.specs.Table.DomainPorts.{is_marked}
 use Rattle.br_model.specs.Table.Domains.{Domains, domain_of, foreign}
 use Rattle.br_model.specs.Wire.Frames.{frame}
-use Rattle.br_model.specs.Control.Learning.{Triple}
 use Rattle.br_model.specs.Data.Maps.{has}
 use Rattle.br_model.specs.Control.Reaction.{Reaction}
 use Rattle.br_model.specs.Table.Setup.{Setup}
@@ -33,20 +31,19 @@ use Rattle.br_model.specs.Forward.Leave.{leave}
 use Rattle.br_model.specs.Forward.Shares.{chip_out, chip_out_by, within, mark_of, soft_out}
 use Rattle.br_model.specs.Table.Table.{Table, table}
 use Rattle.br_model.proofs.PlaneChips.{chip_of-declared}
-use Rattle.br_model.proofs.PlaneKept.{counted-world}
+use Rattle.br_model.proofs.PlaneKept.{Ends, ends_refused, ends_done, ends_answered, does-ends, counted-world}
 use Rattle.br_model.proofs.PlaneLists.{same-some, find-passes, find-each}
 use Rattle.br_model.proofs.PlaneShares.{ascends-filter, ascends-leave, times-ascends, times-within}
 use Rattle.br_model.proofs.PlaneWaiting.{goes_on-either, waits-either}
-use Rattle.br_model.specs.Plane.ChipSteps.{turns_to, turns, tells, reports, swept, sweeps}
 use Rattle.br_model.specs.Plane.Entering.{waits, goes_on, enters_chip, enters_as, class_of, enters_by, chip_of}
 use Rattle.br_model.specs.Plane.Serving.{posts, serves, holds, held_with, lets_go, is_point, posts_held, posts_at}
 use Rattle.br_model.specs.Plane.Steps.{does, world_step}
 use Rattle.br_model.specs.declared.steps.Step.{Step}
-use Rattle.br_model.specs.declared.steps.Step.TheVariants.{Rx, Cmd, Now, Serve, Hold, Post, Turn, Report, Sweep, Publish}
+use Rattle.br_model.specs.declared.steps.Step.TheVariants.{Rx, Serve, Hold, Post, Publish}
 use Rattle.br_model.specs.Theorems.Invariants.{frames_of, IsFrame, IsWorld}
 use Rattle.br_model.specs.Plane.Sending.{Sent, sent_by, sent_of, times}
 use Rattle.br_model.specs.Theorems.FrameLines.{IsDecidedAt, is_line_of, lines_of}
-use Rattle.br_model.specs.Plane.World.{World, Waiting, Holding, Stepped, chip_at, with_chip, next_of, table_at, table_of_chip, sent, control_lines, answered, reacts, refused}
+use Rattle.br_model.specs.Plane.World.{World, Waiting, Holding, Stepped, with_chip, table_at, table_of_chip, sent, control_lines, answered, reacts, refused}
 
 -- The lines of a frame that is sent.
 
@@ -525,40 +522,20 @@ posts_at-effect id i w (Some h) point e k = posts_held-effect id i w h point e k
 
 -- The other steps.
 
-alike-chip : (w : World) (c : Chip) → Alike w (with_chip w c)
-alike-chip w c = record { setup = refl; next = refl; published = refl; held = refl; waiting = refl }
-
-turns_to-effect : (id : ℕ) (w : World) (c : Chip) (o : Option Change) → Effect id w (turns_to w c o).0 (turns_to w c o).1
-turns_to-effect id w c None = quiet id w w _ (alike w) refl
-turns_to-effect id w c (Some d) = quiet id w _ _ (alike-chip w (applies c d)) refl
-
-turns-effect : (id : ℕ) (w : World) (o : Option Chip) → Effect id w (turns w o).0 (turns w o).1
-turns-effect id w None = quiet id w w _ (alike w) refl
-turns-effect id w (Some c) = turns_to-effect id w c (next_of w c)
-
-tells-effect : (id : ℕ) (w : World) (c : Chip) (rs : List Triple) → Effect id w (tells w c rs).0 (tells w c rs).1
-tells-effect id w c [] = quiet id w w _ (alike w) refl
-tells-effect id w c (x ∷ later) = answers id w (with_chip w (record c { reports = later })) (reacts w (events.Told x.0 x.1 x.2)) (alike-chip w (record c { reports = later }))
-
-reports-effect : (id : ℕ) (w : World) (o : Option Chip) → Effect id w (reports w o).0 (reports w o).1
-reports-effect id w None = quiet id w w _ (alike w) refl
-reports-effect id w (Some c) = tells-effect id w c c.reports
-
-sweeps-effect : (id : ℕ) (w : World) (o : Option Chip) → Effect id w (sweeps w o).0 (sweeps w o).1
-sweeps-effect id w None = quiet id w w _ (alike w) refl
-sweeps-effect id w (Some c) = answers id w (with_chip w (record c { hits = [] })) (reacts w (swept w c)) (alike-chip w (record c { hits = [] }))
+ends-effect : (id : ℕ) (w : World) (step : Step) {y : Stepped} → Ends w step y → Effect id w y.0 y.1
+ends-effect id w step (ends_refused why) = quiet id w w _ (alike w) refl
+ends-effect id w step (ends_done chips stands counts moment) =
+    quiet id w (record w { chips = chips }) _ (record { setup = refl; next = refl; published = refl; held = refl; waiting = refl }) refl
+ends-effect id w step (ends_answered chips e stands counts now) =
+    answers id w (record w { chips = chips }) (reacts w e) (record { setup = refl; next = refl; published = refl; held = refl; waiting = refl })
 
 does-effect : (id : ℕ) (w : World) (step : Step) → IsWorld w → Effect id w (does w step).0 (does w step).1
 does-effect id w (Rx port bytes) k = enters-effect id w port bytes (frame bytes) k
-does-effect id w (Cmd c) k = answers id w w (reacts w (events.Cmd c)) (alike w)
-does-effect id w (Now moment) k = answers id w w (reacts w (events.Moment moment)) (alike w)
 does-effect id w Serve k = serves-effect id w w.waiting refl k
 does-effect id w Hold k = holds-effect id w w.waiting refl k
 does-effect id w (Post i point) k = posts_at-effect id i w (held_with w i) point refl k
-does-effect id w (Turn dom) k = turns-effect id w (chip_at w dom)
-does-effect id w (Report dom) k = reports-effect id w (chip_at w dom)
-does-effect id w (Sweep dom) k = sweeps-effect id w (chip_at w dom)
 does-effect id w Publish k = record { setup = refl; next = omega arith; published = inr refl; fate = idle refl refl }
+does-effect id w step k = ends-effect id w step (does-ends w step)
 
 -- the count of steps is no matter
 same-fate : (id n : ℕ) (w v : World) (told : List Line) → Fate id (record w { steps = n }) v told → Fate id w v told

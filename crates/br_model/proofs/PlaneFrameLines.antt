@@ -7,30 +7,26 @@ use Rattle.std.specs.Prelude.{nat_lt}
 use Rattle.std.specs.List.{fold}
 use Rattle.std.specs.Ordering.{nat_cmp}
 use Rattle.std.specs.declared.result.Result.TheVariants.{Ok, Err}
-use Rattle.br_model.specs.declared.change.Change.{Change}
 use Rattle.br_model.specs.declared.frame.Class.{Class}
 use Rattle.br_model.specs.declared.frame.Class.TheVariants.{Drop, Trap, Copy, Forward}
 use Rattle.br_model.specs.declared.frame.FrameFault.{FrameFault}
 use Rattle.br_model.specs.declared.frame.Head.{Head}
 use Rattle.br_model.specs.declared.steps.Step.{Step}
-use Rattle.br_model.specs.declared.steps.Step.TheVariants.{Rx, Cmd, Now, Serve, Hold, Post, Turn, Report, Sweep, Publish}
+use Rattle.br_model.specs.declared.steps.Step.TheVariants.{Rx, Serve, Hold, Post, Publish}
 use Rattle.br_model.specs.declared.transcript.Line.{Line}
 use Rattle.br_model.specs.declared.transcript.Line.TheVariants as lines
 use Rattle.br_model.specs.Data.Maps.{has}
 use Rattle.br_model.specs.Forward.Shares.{chip_out, mark_of, soft_out}
 use Rattle.br_model.specs.Plane.Chip.{Chip, notes}
-use Rattle.br_model.specs.Plane.ChipSteps.{turns_to, turns, tells, reports, swept, sweeps}
 use Rattle.br_model.specs.Plane.Serving.{posts, serves, holds, held_with, lets_go, is_point, posts_at}
 use Rattle.br_model.specs.Plane.Entering.{waits, goes_on, enters_chip, enters_as, class_of, enters_by, chip_of}
 use Rattle.br_model.specs.Plane.Runs.{run, then_step}
 use Rattle.br_model.specs.Plane.Sending.{Sent}
 use Rattle.br_model.specs.Plane.Steps.{world_step}
-use Rattle.br_model.specs.Plane.World.{World, Waiting, Holding, Stepped, first_world, sent, table_of_chip, with_chip, chip_at, next_of, answered, reacts, refused}
-use Rattle.br_model.specs.Control.Learning.{Triple}
+use Rattle.br_model.specs.Plane.World.{World, Waiting, Holding, Stepped, first_world, sent, table_of_chip, with_chip, answered, reacts}
 use Rattle.br_model.specs.Control.Reaction.{Reaction}
 use Rattle.br_model.specs.declared.steps.Event.TheVariants as events
 use Rattle.br_model.specs.declared.steps.Refusal.{Refusal}
-use Rattle.br_model.specs.declared.steps.Refusal.TheVariants.{NoSuchPoint}
 use Rattle.std.specs.declared.result.Result.{Result}
 use Rattle.br_model.specs.Table.Domains.{domain_of}
 use Rattle.br_model.specs.Table.Limits.{most_waiting}
@@ -44,9 +40,10 @@ use Rattle.br_model.proofs.Growing.{step-grows}
 use Rattle.br_model.proofs.PlaneAgreement.{run-more}
 use Rattle.br_model.proofs.PlaneApplied.{run-setup, run-world}
 use Rattle.br_model.proofs.PlaneFates.{Found, Fate, idle, entered, taken, gone, lines_of-append, lines-same, found-push, found-free, found-taken, goes_on-joins, Effect, step-effect}
-use Rattle.br_model.proofs.PlaneKept.{first-world, step-world}
+use Rattle.br_model.proofs.PlaneKept.{Ends, ends_refused, ends_done, ends_answered, does-ends, first-world, step-world}
 use Rattle.br_model.proofs.PlaneLists.{has-up-to, last-has, up-to-last}
 use Rattle.br_model.proofs.PlaneStays.{step-counts}
+use Rattle.br_model.proofs.PlaneWaiting.{posts_at-either}
 
 same-entry : (l : Found) (a b : Waiting × Option ℕ) → l ≡ a ∷ [] → l ≡ b ∷ [] → a ≡ b
 same-entry l a b p q = ap (λ (k : Found). get_or k 0 a) (sym p ∙ q)
@@ -364,33 +361,12 @@ holds-next v [] = refl
 holds-next v (g ∷ later) = refl
 
 posts_at-next : (v : World) (o : Option Holding) (point : Option ℕ) → (posts_at v o point).0.next ≡ v.next
-posts_at-next v None point = refl
-posts_at-next v (Some h) None = posts-next (lets_go v h.waiting.id) h.waiting h.floor
-posts_at-next v (Some h) (Some point) =
-    elim (is_point v h point) as (λ b. (cond {A = Stepped} b (posts (lets_go v h.waiting.id) h.waiting point) (refused v NoSuchPoint)).0.next ≡ v.next) [
-      | true ↦ posts-next (lets_go v h.waiting.id) h.waiting point
-      | false ↦ refl
-    ]
+posts_at-next v o point = posts_at-either (λ s. s.0.next ≡ v.next) v (λ why. refl) (λ h p. posts-next (lets_go v h.waiting.id) h.waiting p) o point
 
-turns-next : (v : World) (o : Option Chip) → (turns v o).0.next ≡ v.next
-turns-next v None = refl
-turns-next v (Some d) = by (next_of v d)
-  where
-    by : (o : Option Change) → (turns_to v d o).0.next ≡ v.next
-    by None = refl
-    by (Some change) = refl
-
-reports-next : (v : World) (o : Option Chip) → (reports v o).0.next ≡ v.next
-reports-next v None = refl
-reports-next v (Some d) = by d.reports
-  where
-    by : (rs : List Triple) → (tells v d rs).0.next ≡ v.next
-    by [] = refl
-    by (x ∷ later) = answered-next v (with_chip v (record d { reports = later })) (reacts v (events.Told x.0 x.1 x.2)) refl
-
-sweeps-next : (v : World) (o : Option Chip) → (sweeps v o).0.next ≡ v.next
-sweeps-next v None = refl
-sweeps-next v (Some d) = answered-next v (with_chip v (record d { hits = [] })) (reacts v (swept v d)) refl
+ends-next : (v : World) (step : Step) {y : Stepped} → Ends v step y → y.0.next ≡ v.next
+ends-next v step (ends_refused why) = refl
+ends-next v step (ends_done chips stands counts moment) = refl
+ends-next v step (ends_answered chips e stands counts now) = answered-next v (record v { chips = chips }) (reacts v e) refl
 
 enters-next : (v : World) (port : ℕ) (bytes : List ℕ) (r : Result Head FrameFault) → (enters_as (record v { next = v.next + 1 }) v.next port bytes r).0.next ≡ v.next + 1
 enters-next v port bytes (Err why) = refl
@@ -414,15 +390,11 @@ IsEntry w step = (port : ℕ) × ((bytes : List ℕ) × ((step ≡ Rx port bytes
 
 takes-id : (w : World) (step : Step) → ((world_step w step).0.next ≡ w.next) ⊎ IsEntry w step
 takes-id w (Rx port bytes) = inr (port, (bytes, (refl, enters-next (record w { steps = w.steps + 1 }) port bytes (frame bytes))))
-takes-id w (Cmd d) = let v = record w { steps = w.steps + 1 } in inl (answered-next v v (reacts v (events.Cmd d)) refl)
-takes-id w (Now moment) = let v = record w { steps = w.steps + 1 } in inl (answered-next v v (reacts v (events.Moment moment)) refl)
 takes-id w Serve = inl (serves-next (record w { steps = w.steps + 1 }) w.waiting)
 takes-id w Hold = inl (holds-next (record w { steps = w.steps + 1 }) w.waiting)
 takes-id w (Post id point) = inl (posts_at-next (record w { steps = w.steps + 1 }) (held_with w id) point)
-takes-id w (Turn dom) = inl (turns-next (record w { steps = w.steps + 1 }) (chip_at w dom))
-takes-id w (Report dom) = inl (reports-next (record w { steps = w.steps + 1 }) (chip_at w dom))
-takes-id w (Sweep dom) = inl (sweeps-next (record w { steps = w.steps + 1 }) (chip_at w dom))
 takes-id w Publish = inl refl
+takes-id w step = let v = record w { steps = w.steps + 1 } in inl (ends-next v step (does-ends v step))
 
 -- where among the steps the frame with this id enters
 abbrev EntryAmong : Stepped → List Step → ℕ → Type 0

@@ -25,9 +25,9 @@ use Rattle.br_model.specs.declared.frame.Head.{Head}
 use Rattle.br_model.specs.declared.steps.Event.{Event}
 use Rattle.br_model.specs.declared.steps.Event.TheVariants as events
 use Rattle.br_model.specs.declared.steps.Refusal.{Refusal}
-use Rattle.br_model.specs.declared.steps.Refusal.TheVariants.{NoSuchPoint}
+use Rattle.br_model.specs.declared.steps.Refusal.TheVariants.{NoSuchPoint, NothingPending, NothingReported}
 use Rattle.br_model.specs.declared.transcript.Line.TheVariants.{Overrun}
-use Rattle.br_model.specs.Plane.Chip.{Chip, same_triple, offered, offers, hit, hit_by, hits_entry, notes, report, hit_of, first_chip, applies}
+use Rattle.br_model.specs.Plane.Chip.{Chip, put_chip, same_triple, offered, offers, hit, hit_by, hits_entry, notes, report, hit_of, first_chip, applies}
 use Rattle.br_model.specs.Table.Cut.{deferred_of}
 use Rattle.br_model.specs.Table.DomainPorts.{is_in_domain}
 use Rattle.br_model.specs.Table.Domains.{Domains, domain_of, chip_domains, has_chip}
@@ -46,10 +46,11 @@ use Rattle.br_model.specs.Plane.Serving.{posts, serves, holds, held_with, lets_g
 use Rattle.br_model.specs.Plane.Steps.{publishes, does, world_step}
 use Rattle.br_model.specs.declared.steps.Step.{Step}
 use Rattle.br_model.specs.declared.steps.Step.TheVariants.{Rx, Cmd, Now, Serve, Hold, Post, Turn, Report, Sweep, Publish}
-use Rattle.br_model.specs.Plane.World.{World, Waiting, Holding, first_world, chip_at, next_of, table_of_chip, Stepped, accepts, answered, reacts, refused, with_chip}
+use Rattle.br_model.specs.Plane.Traits.{traits}
+use Rattle.br_model.specs.Plane.World.{World, Waiting, Holding, first_world, chip_at, next_of, table_of_chip, Stepped, accepts, answered, done, reacts, refused, with_chip}
 use Rattle.br_model.proofs.ApplyingLaws.{deferred_count-append}
 use Rattle.br_model.proofs.PairKeys.{pair_total}
-use Rattle.br_model.proofs.PlaneChips.{doms, chip-each, has-chip, put-doms, put-all, chip_of-at}
+use Rattle.br_model.proofs.PlaneChips.{CountsStay, chip-each, chip-own, chip_of-at, counts-same, doms, has-chip, put-all, put-counts, put-doms}
 use Rattle.br_model.proofs.PlaneHistory.{Accepts, react-accepts}
 use Rattle.br_model.proofs.PlaneLists.{Part, all-part, map-part, distinct-part, part-middle, part-filter, ascend-insert, ascend-push, last-push, first-push, has-push, last-has}
 use Rattle.br_model.proofs.PlaneWaiting.{goes_on-either}
@@ -329,11 +330,10 @@ posts_at-world : (w : World) (o : Option Holding) (point : Option ℕ) → IsWor
 posts_at-world w None point k = k
 posts_at-world w (Some h) point k = posts_held-world w h point k
 
--- The chip's driver.
+-- A chip takes the place of that of its domain: it has applied a change, was told of, or was swept.
 
-turns_to-world : (w : World) (dom : ℕ) (c : Chip) (o : Option Change) → chip_at w dom ≡ Some c → next_of w c ≡ o → IsWorld w → IsWorld (turns_to w c o).0
-turns_to-world w dom c None at e k = k
-turns_to-world w dom c (Some d) at e k =
+turned-world : (w : World) (dom : ℕ) (c : Chip) (d : Change) → chip_at w dom ≡ Some c → next_of w c ≡ Some d → IsWorld w → IsWorld (with_chip w (applies c d))
+turned-world w dom c d at e k =
     let keep = hit_by-keeps (record c { count = c.count + 1 }) d in
     let stands = chip-stands w dom c k at in
     chip-world w (applies c d) (record {
@@ -342,36 +342,82 @@ turns_to-world w dom c (Some d) at e k =
       hits = keep.hits stands.hits;
     }) k
 
-turns-world : (w : World) (dom : ℕ) (o : Option Chip) → chip_at w dom ≡ o → IsWorld w → IsWorld (turns w o).0
-turns-world w dom None at k = k
-turns-world w dom (Some c) at k = turns_to-world w dom c (next_of w c) at refl k
-
 fewer-reports : (x : Triple) (later : List Triple) → ReportsStand (x ∷ later) → ReportsStand later
 unfolding IsDistinct
 fewer-reports x later k = record { ids = k.ids.1; few = omega (arith, k.few) }
 
-tells-world : (w : World) (dom : ℕ) (c : Chip) (rs : List Triple) → chip_at w dom ≡ Some c → c.reports ≡ rs → IsWorld w → IsWorld (tells w c rs).0
-tells-world w dom c [] at e k = k
-tells-world w dom c (x ∷ later) at e k =
+told-world : (w : World) (dom : ℕ) (c : Chip) (x : Triple) (later : List Triple) → chip_at w dom ≡ Some c → c.reports ≡ x ∷ later → IsWorld w
+    → IsWorld (with_chip w (record c { reports = later }))
+told-world w dom c x later at e k =
     let stands = chip-stands w dom c k at in
-    answered-world w (with_chip w (record c { reports = later })) (events.Told x.0 x.1 x.2) k
-    (chip-world w (record c { reports = later }) (record { applied = stands.applied; reports = fewer-reports x later (subst ReportsStand e stands.reports); hits = stands.hits }) k)
-    refl
-
-reports-world : (w : World) (dom : ℕ) (o : Option Chip) → chip_at w dom ≡ o → IsWorld w → IsWorld (reports w o).0
-reports-world w dom None at k = k
-reports-world w dom (Some c) at k = tells-world w dom c c.reports at refl k
+    chip-world w (record c { reports = later }) (record { applied = stands.applied; reports = fewer-reports x later (subst ReportsStand e stands.reports); hits = stands.hits }) k
 
 unhit-stands : (edition : Edition) (history : List Change) (c : Chip) → ChipStands edition history c → ChipStands edition history (record c { hits = [] })
 unfolding IsStrictlySortedBy
 unhit-stands edition history c k = record { applied = k.applied; reports = k.reports; hits = tt }
 
-sweeps-world : (w : World) (dom : ℕ) (o : Option Chip) → chip_at w dom ≡ o → IsWorld w → IsWorld (sweeps w o).0
-sweeps-world w dom None at k = k
-sweeps-world w dom (Some c) at k =
-    answered-world w (with_chip w (record c { hits = [] })) (swept w c) k
-    (chip-world w (record c { hits = [] }) (unhit-stands w.setup.domains.edition w.history c (chip-stands w dom c k at)) k)
-    refl
+swept-world : (w : World) (dom : ℕ) (c : Chip) → chip_at w dom ≡ Some c → IsWorld w → IsWorld (with_chip w (record c { hits = [] }))
+swept-world w dom c at k = chip-world w (record c { hits = [] }) (unhit-stands w.setup.domains.edition w.history c (chip-stands w dom c k at)) k
+
+-- How a step ends that is of no frame and publishes nothing: it is refused, it is done, or it is the answer to an event. Nothing but the
+-- world's chips differs, and what those have applied stays but for a turn.
+
+-- the moment that comes by an event
+abbrev pub moment_in : Event → Option ℕ
+moment_in (events.Moment moment) = Some moment
+moment_in e = None
+
+pub data Ends (w : World) (step : Step) : Stepped → Type 0 where
+  ends_refused : (why : Refusal) → Ends w step (refused w why)
+  ends_done : (chips : List Chip) → (IsWorld w → IsWorld (record w { chips = chips })) → ((traits step).turn ≡ None → CountsStay w.chips chips) → (traits step).moment ≡ None
+      → Ends w step (done (record w { chips = chips }))
+  ends_answered : (chips : List Chip) (e : Event) → (IsWorld w → IsWorld (record w { chips = chips })) → CountsStay w.chips chips → moment_in e ≡ (traits step).moment
+      → Ends w step (answered w (record w { chips = chips }) (reacts w e))
+
+turns_to-ends : (w : World) (dom : ℕ) (c : Chip) (o : Option Change) → chip_at w dom ≡ Some c → next_of w c ≡ o → Ends w (Turn dom) (turns_to w c o)
+turns_to-ends w dom c None at e = ends_refused NothingPending
+turns_to-ends w dom c (Some d) at e = ends_done (put_chip w.chips (applies c d)) (turned-world w dom c d at e) (λ none. absurd (cc)) refl
+
+turns-ends : (w : World) (dom : ℕ) (o : Option Chip) → chip_at w dom ≡ o → Ends w (Turn dom) (turns w o)
+turns-ends w dom None at = ends_refused NothingPending
+turns-ends w dom (Some c) at = turns_to-ends w dom c (next_of w c) at refl
+
+tells-ends : (w : World) (dom : ℕ) (c : Chip) (rs : List Triple) → chip_at w dom ≡ Some c → c.reports ≡ rs → Ends w (Report dom) (tells w c rs)
+tells-ends w dom c [] at e = ends_refused NothingReported
+tells-ends w dom c (x ∷ later) at e =
+    ends_answered (put_chip w.chips (record c { reports = later })) (events.Told x.0 x.1 x.2) (told-world w dom c x later at e)
+    (put-counts w.chips c (record c { reports = later }) (chip-own w.chips dom c at) refl refl) refl
+
+reports-ends : (w : World) (dom : ℕ) (o : Option Chip) → chip_at w dom ≡ o → Ends w (Report dom) (reports w o)
+reports-ends w dom None at = ends_refused NothingReported
+reports-ends w dom (Some c) at = tells-ends w dom c c.reports at refl
+
+sweeps-ends : (w : World) (dom : ℕ) (o : Option Chip) → chip_at w dom ≡ o → Ends w (Sweep dom) (sweeps w o)
+sweeps-ends w dom None at = ends_done w.chips (λ k. k) (λ none. counts-same w.chips) refl
+sweeps-ends w dom (Some c) at =
+    ends_answered (put_chip w.chips (record c { hits = [] })) (swept w c) (swept-world w dom c at)
+    (put-counts w.chips c (record c { hits = [] }) (chip-own w.chips dom c at) refl refl) refl
+
+abbrev pub EndsBy : World → Step → Type 0
+EndsBy w (Rx port bytes) = Unit {0}
+EndsBy w Serve = Unit {0}
+EndsBy w Hold = Unit {0}
+EndsBy w (Post id point) = Unit {0}
+EndsBy w Publish = Unit {0}
+EndsBy w step = Ends w step (does w step)
+
+pub does-ends : (w : World) (step : Step) → EndsBy w step
+does-ends w (Cmd c) = ends_answered w.chips (events.Cmd c) (λ k. k) (counts-same w.chips) refl
+does-ends w (Now moment) = ends_answered w.chips (events.Moment moment) (λ k. k) (counts-same w.chips) refl
+does-ends w (Turn dom) = turns-ends w dom (chip_at w dom) refl
+does-ends w (Report dom) = reports-ends w dom (chip_at w dom) refl
+does-ends w (Sweep dom) = sweeps-ends w dom (chip_at w dom) refl
+does-ends w step = tt
+
+ends-world : (w : World) (step : Step) {y : Stepped} → Ends w step y → IsWorld w → IsWorld y.0
+ends-world w step (ends_refused why) k = k
+ends-world w step (ends_done chips stands counts moment) k = stands k
+ends-world w step (ends_answered chips e stands counts now) k = answered-world w (record w { chips = chips }) e k (stands k) refl
 
 publishes-world : (w : World) → IsWorld w → IsWorld (publishes w (length w.history))
 publishes-world w k =
@@ -412,15 +458,11 @@ does-world : (w : World) (step : Step) → IsWorld w → IsWorld (does w step).0
 does-world w (Rx port bytes) k =
     enters-world (record w { next = w.next + 1 }) w.next port bytes (frame bytes) refl (numbered-world w k) (omega arith)
     (All-weaker (IsFrame w.setup.domains w.next) (λ (f : Waiting). f.id < w.next) (λ f is. is.id) (frames_of w.held w.waiting) k.frames.frames)
-does-world w (Cmd c) k = answered-world w w (events.Cmd c) k k refl
-does-world w (Now moment) k = answered-world w w (events.Moment moment) k k refl
 does-world w Serve k = serves-world w w.waiting refl k
 does-world w Hold k = holds-world w w.waiting refl k
 does-world w (Post id point) k = posts_at-world w (held_with w id) point k
-does-world w (Turn dom) k = turns-world w dom (chip_at w dom) refl k
-does-world w (Report dom) k = reports-world w dom (chip_at w dom) refl k
-does-world w (Sweep dom) k = sweeps-world w dom (chip_at w dom) refl k
 does-world w Publish k = publishes-world w k
+does-world w step k = ends-world w step (does-ends w step) k
 
 pub step-world : (w : World) (step : Step) → IsWorld w → IsWorld (world_step w step).0
 step-world w step k = does-world (record w { steps = w.steps + 1 }) step (counted-world w k)

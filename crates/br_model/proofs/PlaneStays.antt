@@ -13,22 +13,20 @@ use Rattle.br_model.specs.declared.frame.FrameFault.{FrameFault}
 use Rattle.br_model.specs.declared.frame.Head.{Head}
 use Rattle.br_model.specs.declared.steps.Event.TheVariants as events
 use Rattle.br_model.specs.declared.steps.Refusal.{Refusal}
-use Rattle.br_model.specs.declared.steps.Refusal.TheVariants.{NoSuchPoint}
 use Rattle.br_model.specs.declared.steps.Step.{Step}
-use Rattle.br_model.specs.declared.steps.Step.TheVariants.{Rx, Cmd, Now, Serve, Hold, Post, Turn, Report, Sweep, Publish}
-use Rattle.br_model.specs.Control.Learning.{Triple}
+use Rattle.br_model.specs.declared.steps.Step.TheVariants.{Rx, Serve, Hold, Post, Publish}
 use Rattle.br_model.specs.Control.Reaction.{Reaction}
 use Rattle.br_model.specs.Data.Maps.{has}
 use Rattle.br_model.specs.Forward.Shares.{mark_of}
 use Rattle.br_model.specs.Plane.Chip.{notes, Chip}
-use Rattle.br_model.specs.Plane.ChipSteps.{turns_to, turns, tells, reports, swept, sweeps}
 use Rattle.br_model.specs.Plane.Entering.{waits, goes_on, enters_as, class_of, enters_by, chip_of}
-use Rattle.br_model.specs.Plane.Serving.{posts, serves, holds, held_with, lets_go, is_point, posts_held, posts_at}
-use Rattle.br_model.specs.Plane.Steps.{world_step, publishes}
-use Rattle.br_model.specs.Plane.World.{World, Waiting, Holding, Stepped, chip_at, next_of, table_of_chip, answered, reacts, refused, with_chip}
+use Rattle.br_model.specs.Plane.Serving.{posts, serves, holds, held_with, lets_go, posts_at}
+use Rattle.br_model.specs.Plane.Steps.{does, world_step, publishes}
+use Rattle.br_model.specs.Plane.World.{World, Waiting, Holding, Stepped, table_of_chip, answered, reacts, with_chip}
 use Rattle.br_model.specs.Table.Domains.{domain_of}
 use Rattle.br_model.specs.Wire.Frames.{frame}
-use Rattle.br_model.proofs.PlaneWaiting.{goes_on-either, waits-either}
+use Rattle.br_model.proofs.PlaneKept.{Ends, ends_refused, ends_done, ends_answered, does-ends}
+use Rattle.br_model.proofs.PlaneWaiting.{goes_on-either, posts_at-either, waits-either}
 
 -- Changes are accepted behind those that were; what is published and held stays.
 record Stays (w v : World) : Type 0 where
@@ -86,25 +84,11 @@ serves-stays : (w : World) (fs : List Waiting) → Stays w (serves w fs).0
 serves-stays w [] = idle w
 serves-stays w (f ∷ later) = of-chips w (record w { waiting = later }) _ refl refl refl (posts-stays (record w { waiting = later }) f w.published)
 
-tells-stays : (w : World) (c : Chip) (rs : List Triple) → Stays w (tells w c rs).0
-tells-stays w c [] = idle w
-tells-stays w c (x ∷ later) = answered-stays w (with_chip w (record c { reports = later })) (reacts w (events.Told x.0 x.1 x.2)) refl refl refl
-
-reports-stays : (w : World) (o : Option Chip) → Stays w (reports w o).0
-reports-stays w None = idle w
-reports-stays w (Some c) = tells-stays w c c.reports
-
-sweeps-stays : (w : World) (o : Option Chip) → Stays w (sweeps w o).0
-sweeps-stays w None = idle w
-sweeps-stays w (Some c) = answered-stays w (with_chip w (record c { hits = [] })) (reacts w (swept w c)) refl refl refl
-
-turns_to-stays : (w : World) (c : Chip) (o : Option Change) → Stays w (turns_to w c o).0
-turns_to-stays w c None = idle w
-turns_to-stays w c (Some x) = stays w (turns_to w c (Some x)).0 refl refl refl
-
-turns-stays : (w : World) (o : Option Chip) → Stays w (turns w o).0
-turns-stays w None = idle w
-turns-stays w (Some c) = turns_to-stays w c (next_of w c)
+-- where it is of no frame and publishes nothing
+ends-stays : (w : World) (step : Step) {y : Stepped} → Ends w step y → Stays w y.0
+ends-stays w step (ends_refused why) = idle w
+ends-stays w step (ends_done chips stands counts moment) = stays w (record w { chips = chips }) refl refl refl
+ends-stays w step (ends_answered chips e stands counts now) = answered-stays w (record w { chips = chips }) (reacts w e) refl refl refl
 
 -- Where a frame is held or let go, nothing else of it changes.
 
@@ -120,17 +104,10 @@ holds-frees w (f ∷ later) = record { changes = []; history = sym (append-nil w
 freed : (w : World) (id : ℕ) (v : World) → Stays (lets_go w id) v → Frees w v
 freed w id v s = record { changes = s.changes; history = s.history; counts = s.counts }
 
-posts_held-frees : (w : World) (h : Holding) (point : Option ℕ) → Frees w (posts_held w h point).0
-posts_held-frees w h None = freed w h.waiting.id _ (posts-stays (lets_go w h.waiting.id) h.waiting h.floor)
-posts_held-frees w h (Some point) =
-    elim (is_point w h point) as (λ b. Frees w (cond {A = Stepped} b (posts (lets_go w h.waiting.id) h.waiting point) (refused w NoSuchPoint)).0) [
-      | true ↦ freed w h.waiting.id _ (posts-stays (lets_go w h.waiting.id) h.waiting point)
-      | false ↦ record { changes = []; history = sym (append-nil w.history); counts = refl }
-    ]
-
 posts_at-frees : (w : World) (o : Option Holding) (point : Option ℕ) → Frees w (posts_at w o point).0
-posts_at-frees w None point = record { changes = []; history = sym (append-nil w.history); counts = refl }
-posts_at-frees w (Some h) point = posts_held-frees w h point
+posts_at-frees w o point =
+    posts_at-either (λ s. Frees w s.0) w (λ why. record { changes = []; history = sym (append-nil w.history); counts = refl })
+    (λ h p. freed w h.waiting.id _ (posts-stays (lets_go w h.waiting.id) h.waiting p)) o point
 
 -- Each step.
 
@@ -138,20 +115,26 @@ posts_at-frees w (Some h) point = posts_held-frees w h point
 abbrev pub Accepts : World → Step → Type 0
 Accepts w step = (changes : List Change) × ((world_step w step).0.history ≡ w.history ++ changes)
 
-accepts : {w v : World} → Stays w v → (changes : List Change) × (v.history ≡ w.history ++ changes)
-accepts s = (s.changes, s.history)
+frees : {w v : World} → Stays w v → Frees w v
+frees s = record { changes = s.changes; history = s.history; counts = s.counts }
+
+-- a publication adds a count
+abbrev FreesBy : World → Step → Type 0
+FreesBy w Publish = Unit {0}
+FreesBy w step = Frees w (does w step).0
+
+does-frees : (w : World) (step : Step) → FreesBy w step
+does-frees w (Rx port bytes) =
+    let x = record w { next = w.next + 1 } in frees (of-chips w x _ refl refl refl (enters-stays x w.next port bytes (frame bytes)))
+does-frees w Serve = frees (serves-stays w w.waiting)
+does-frees w Hold = holds-frees w w.waiting
+does-frees w (Post id point) = posts_at-frees w (held_with w id) point
+does-frees w Publish = tt
+does-frees w step = frees (ends-stays w step (does-ends w step))
 
 pub step-accepts : (w : World) (step : Step) → Accepts w step
-step-accepts w (Rx port bytes) = accepts (enters-stays (record w { steps = w.steps + 1; next = w.next + 1 }) w.next port bytes (frame bytes))
-step-accepts w (Cmd c) = accepts (answered-stays (record w { steps = w.steps + 1 }) (record w { steps = w.steps + 1 }) (reacts (record w { steps = w.steps + 1 }) (events.Cmd c)) refl refl refl)
-step-accepts w (Now moment) = accepts (answered-stays (record w { steps = w.steps + 1 }) (record w { steps = w.steps + 1 }) (reacts (record w { steps = w.steps + 1 }) (events.Moment moment)) refl refl refl)
-step-accepts w Serve = accepts (serves-stays (record w { steps = w.steps + 1 }) w.waiting)
-step-accepts w Hold = let f = holds-frees (record w { steps = w.steps + 1 }) w.waiting in (f.changes, f.history)
-step-accepts w (Post id point) = let f = posts_at-frees (record w { steps = w.steps + 1 }) (held_with w id) point in (f.changes, f.history)
-step-accepts w (Turn e) = accepts (turns-stays (record w { steps = w.steps + 1 }) (chip_at w e))
-step-accepts w (Report e) = accepts (reports-stays (record w { steps = w.steps + 1 }) (chip_at w e))
-step-accepts w (Sweep e) = accepts (sweeps-stays (record w { steps = w.steps + 1 }) (chip_at w e))
 step-accepts w Publish = ([], sym (append-nil w.history))
+step-accepts w step = let f = does-frees (record w { steps = w.steps + 1 }) step in (f.changes, f.history)
 
 -- a count that was published stays one
 has-more : (counts more : List ℕ) (p : ℕ) → has nat_cmp counts p ≡ true → has nat_cmp (counts ++ more) p ≡ true
@@ -169,16 +152,8 @@ same-counts : (old new : List ℕ) (p : ℕ) → new ≡ old → has nat_cmp old
 same-counts old new p e h = ap (λ (l : List ℕ). has nat_cmp l p) e ∙ h
 
 pub step-counts : (w : World) (step : Step) (p : ℕ) → has nat_cmp w.counts p ≡ true → has nat_cmp (world_step w step).0.counts p ≡ true
-step-counts w (Rx port bytes) p = same-counts w.counts _ p (enters-stays (record w { steps = w.steps + 1; next = w.next + 1 }) w.next port bytes (frame bytes)).counts
-step-counts w (Cmd c) p = same-counts w.counts _ p (answered-stays (record w { steps = w.steps + 1 }) (record w { steps = w.steps + 1 }) (reacts (record w { steps = w.steps + 1 }) (events.Cmd c)) refl refl refl).counts
-step-counts w (Now moment) p = same-counts w.counts _ p (answered-stays (record w { steps = w.steps + 1 }) (record w { steps = w.steps + 1 }) (reacts (record w { steps = w.steps + 1 }) (events.Moment moment)) refl refl refl).counts
-step-counts w Serve p = same-counts w.counts _ p (serves-stays (record w { steps = w.steps + 1 }) w.waiting).counts
-step-counts w Hold p = same-counts w.counts _ p (holds-frees (record w { steps = w.steps + 1 }) w.waiting).counts
-step-counts w (Post id point) p = same-counts w.counts _ p (posts_at-frees (record w { steps = w.steps + 1 }) (held_with w id) point).counts
-step-counts w (Turn e) p = same-counts w.counts _ p (turns-stays (record w { steps = w.steps + 1 }) (chip_at w e)).counts
-step-counts w (Report e) p = same-counts w.counts _ p (reports-stays (record w { steps = w.steps + 1 }) (chip_at w e)).counts
-step-counts w (Sweep e) p = same-counts w.counts _ p (sweeps-stays (record w { steps = w.steps + 1 }) (chip_at w e)).counts
 step-counts w Publish p = publishes-counts w (length w.history) p
+step-counts w step p = same-counts w.counts _ p (does-frees (record w { steps = w.steps + 1 }) step).counts
 
 -- the frames that are held after it, where it isn't a post
 abbrev pub HeldAfter : World → Step → Type 0
@@ -192,15 +167,11 @@ holds-held w n (f ∷ later) = refl
 
 pub step-held : (w : World) (step : Step) → HeldAfter w step
 step-held w (Rx port bytes) = (enters-stays (record w { steps = w.steps + 1; next = w.next + 1 }) w.next port bytes (frame bytes)).held
-step-held w (Cmd c) = (answered-stays (record w { steps = w.steps + 1 }) (record w { steps = w.steps + 1 }) (reacts (record w { steps = w.steps + 1 }) (events.Cmd c)) refl refl refl).held
-step-held w (Now moment) = (answered-stays (record w { steps = w.steps + 1 }) (record w { steps = w.steps + 1 }) (reacts (record w { steps = w.steps + 1 }) (events.Moment moment)) refl refl refl).held
 step-held w Serve = (serves-stays (record w { steps = w.steps + 1 }) w.waiting).held
 step-held w Hold = holds-held w (w.steps + 1) w.waiting
 step-held w (Post id point) = tt
-step-held w (Turn e) = (turns-stays (record w { steps = w.steps + 1 }) (chip_at w e)).held
-step-held w (Report e) = (reports-stays (record w { steps = w.steps + 1 }) (chip_at w e)).held
-step-held w (Sweep e) = (sweeps-stays (record w { steps = w.steps + 1 }) (chip_at w e)).held
 step-held w Publish = refl
+step-held w step = let u = record w { steps = w.steps + 1 } in (ends-stays u step (does-ends u step)).held
 
 -- a held frame that is posted by its floor is let go
 pub post-held : (w : World) (id : ℕ) (h : Holding) → held_with w id ≡ Some h → (world_step w (Post id None)).0.held ≡ (lets_go w h.waiting.id).held

@@ -5,7 +5,7 @@ use Rattle.std.specs.List.{find, list_all}
 use Rattle.std.proofs.lemmas.Bool.{eqb-true}
 use Rattle.std.proofs.lemmas.Option.{same_Some}
 use Rattle.br_model.specs.declared.steps.Refusal.{Refusal}
-use Rattle.br_model.specs.declared.steps.Refusal.TheVariants.{PortIsUp, PortNotUp, NotMember, Exists, Absent, FdbFull, GroupsFull, HistoryFull, Backward, NothingWaiting, NothingPending, NothingReported, NotAGroup, NothingToPost, NoSuchPoint}
+use Rattle.br_model.specs.declared.steps.Refusal.TheVariants.{PortIsUp}
 use Rattle.br_model.specs.Control.Refusals.{refusal_number, refusals, refusal_of}
 
 module _ {X : Type 0} (test : X → Bool) where
@@ -32,20 +32,7 @@ refusal_is n {r} h = eqb-true n (refusal_number r) (found_passes (λ r. n == ref
 
 pub refusal_found : (r : Refusal) → refusal_of (refusal_number r) ≡ Some r
 refusal_found PortIsUp = refl
-refusal_found PortNotUp = refl
-refusal_found NotMember = refl
-refusal_found Exists = refl
-refusal_found Absent = refl
-refusal_found FdbFull = refl
-refusal_found GroupsFull = refl
-refusal_found HistoryFull = refl
-refusal_found Backward = refl
-refusal_found NothingWaiting = refl
-refusal_found NothingPending = refl
-refusal_found NothingReported = refl
-refusal_found NotAGroup = refl
-refusal_found NothingToPost = refl
-refusal_found NoSuchPoint = refl
+refusal_found r = refl
 
 -- what holds of the number of each refusal in the list holds of the number of any
 pub each_number : (p : ℕ → Bool) (r : Refusal) → list_all (λ r. p (refusal_number r)) refusals ≡ true → p (refusal_number r) ≡ true

@@ -5,7 +5,7 @@ use Rattle.std.specs.Cmp.{first_so, second_so}
 use Rattle.std.specs.List.{list_all}
 use Rattle.std.proofs.lemmas.List.Elements.{filter-append}
 use Rattle.br_model.specs.declared.steps.Step.{Step}
-use Rattle.br_model.specs.declared.steps.Step.TheVariants.{Rx, Cmd, Now, Serve, Hold, Post, Turn, Report, Sweep, Publish}
+use Rattle.br_model.specs.declared.steps.Step.TheVariants.{Rx}
 use Rattle.br_model.specs.Program.LiveRun.{frames_at, is_empty, is_frame_at, same_frames, same_frames_at}
 use Rattle.br_model.specs.Program.SameSteps.{same_steps}
 use Rattle.br_model.proofs.SameSteps.{steps_decide}
@@ -17,15 +17,7 @@ both_none (x ∷ xs) ys h = absurd (cc)
 
 at_port : (q : ℕ) (xs ys : List Step) (s : Step) → is_frame_at q s ≡ true → same_frames_at xs ys s ≡ true → same_steps (frames_at q xs) (frames_at q ys) ≡ true
 at_port q xs ys (Rx port bytes) e h = subst (λ (p : ℕ). same_steps (frames_at p xs) (frames_at p ys) ≡ true) (eqb-true port q e) h
-at_port q xs ys (Cmd command) e h = absurd (cc)
-at_port q xs ys (Now moment) e h = absurd (cc)
-at_port q xs ys Serve e h = absurd (cc)
-at_port q xs ys Hold e h = absurd (cc)
-at_port q xs ys (Post id point) e h = absurd (cc)
-at_port q xs ys (Turn dom) e h = absurd (cc)
-at_port q xs ys (Report dom) e h = absurd (cc)
-at_port q xs ys (Sweep dom) e h = absurd (cc)
-at_port q xs ys Publish e h = absurd (cc)
+at_port q xs ys s e h = absurd (cc)
 
 module _ (q : ℕ) (xs ys : List Step) where
   abbrev Same : Type 0
@@ -55,15 +47,7 @@ module _ (q : ℕ) (xs ys : List Step) where
 
 frames_at_step : (xs ys : List Step) (s : Step) → ((q : ℕ) → frames_at q xs ≡ frames_at q ys) → same_frames_at xs ys s ≡ true
 frames_at_step xs ys (Rx port bytes) h = (steps_decide (frames_at port xs) (frames_at port ys)).1 (h port)
-frames_at_step xs ys (Cmd command) h = refl
-frames_at_step xs ys (Now moment) h = refl
-frames_at_step xs ys Serve h = refl
-frames_at_step xs ys Hold h = refl
-frames_at_step xs ys (Post id point) h = refl
-frames_at_step xs ys (Turn dom) h = refl
-frames_at_step xs ys (Report dom) h = refl
-frames_at_step xs ys (Sweep dom) h = refl
-frames_at_step xs ys Publish h = refl
+frames_at_step xs ys s h = refl
 
 pub both : (b c : Bool) → b ≡ true → c ≡ true → (b && c) ≡ true
 both true c e f = f

@@ -160,15 +160,7 @@ given_whole (Rx port bytes) h = ap (λ (b : List ℕ). Rx port b) (shown_whole b
 
     few : (n m : ℕ) → nat_le n m ≡ true → n ≤ m
     few n m h = grind arith
-given_whole (Cmd command) h = refl
-given_whole (Now moment) h = refl
-given_whole Serve h = refl
-given_whole Hold h = refl
-given_whole (Post id point) h = refl
-given_whole (Turn dom) h = refl
-given_whole (Report dom) h = refl
-given_whole (Sweep dom) h = refl
-given_whole Publish h = refl
+given_whole s h = refl
 
 too_long : (bytes : List ℕ) → longest_frame < length bytes → frame bytes ≡ Err faults.Long
 too_long bytes h = rw (not_short (length bytes) h, is_long (length bytes) h) refl

@@ -6,4 +6,5 @@ pub mod Serving
 pub mod Sending
 pub mod ChipSteps
 pub mod Steps
+pub mod Traits
 pub mod Runs

@@ -24,6 +24,7 @@ pub mod live_laws;
 pub mod message_laws;
 pub mod name;
 pub mod numbers;
+pub mod parcel;
 pub mod plain;
 pub mod plane_laws;
 pub mod scenario;

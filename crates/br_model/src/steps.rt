@@ -1,6 +1,8 @@
 //! The steps of the world, the commands and events among them, and the refusals.
 ghost use Rattle.std.specs.Prelude.{◌≡◌, Some};
+ghost use Rattle.std.specs.Option.{is_some};
 ghost use Rattle.br_model.specs.Control.Refusals.{refusal_number, refusal_of};
+ghost use Rattle.br_model.specs.Plane.Traits.{traits};
 
 use crate::bytes::Bytes;
 use crate::change::{Flags, Kind};
@@ -118,6 +120,51 @@ pub enum Step {
     Sweep(Dom),
     /// The tables that frames are decided by become those of all accepted changes.
     Publish,
+}
+
+impl Step {
+    pub fn is_frame(&self) -> bool
+        ensures { result ≡ is_some (traits self.now).frame }
+    {
+        matches!(self, Step::Rx { .. })
+    }
+
+    pub fn is_publish(&self) -> bool
+        ensures { result ≡ (traits self.now).publishes }
+    {
+        matches!(self, Step::Publish)
+    }
+
+    /// Whether workers take it from a scenario in the order of such steps. It may change a table.
+    pub fn is_ordered(&self) -> bool
+        ensures { result ≡ (traits self.now).ordered }
+    {
+        match self {
+            Step::Cmd(_) | Step::Now(_) | Step::Sweep(_) => true,
+            Step::Rx { .. }
+            | Step::Serve
+            | Step::Hold
+            | Step::Post { .. }
+            | Step::Turn(_)
+            | Step::Report(_)
+            | Step::Publish => false,
+        }
+    }
+
+    /// Whether it may stand at the end of a run by workers, when the scenario's own steps are behind.
+    pub fn may_drain(&self) -> bool
+        ensures { result ≡ (traits self.now).drains }
+    {
+        match self {
+            Step::Serve | Step::Turn(_) | Step::Report(_) | Step::Publish => true,
+            Step::Rx { .. }
+            | Step::Cmd(_)
+            | Step::Now(_)
+            | Step::Hold
+            | Step::Post { .. }
+            | Step::Sweep(_) => false,
+        }
+    }
 }
 
 /// Why a step was refused. A transcript tells its number.

@@ -1,5 +1,5 @@
 //! The control plane: the accepted changes, and the reaction to an event.
-ghost use Rattle.std.specs.Prelude.{◌≡◌, ◌≤◌, ◌<◌, ◌+◌, ◌^◌, ◌++◌, ◌∷◌, [], length, option_map, true, false, None, Some, Ok, IfOk, IfSome, IsSome, vec_len, vec_capacity};
+ghost use Rattle.std.specs.Prelude.{◌≡◌, ◌≤◌, ◌<◌, ◌+◌, ◌^◌, ◌++◌, ◌∷◌, [], List, length, option_map, true, false, None, Some, Ok, IfOk, IfSome, IsSome, vec_len, vec_capacity};
 ghost use Rattle.std.specs.List.{list_all};
 ghost use Rattle.br_model.specs.Control.Control.{first_control};
 ghost use Rattle.br_model.specs.Control.Course.{makes_all};
@@ -14,6 +14,8 @@ ghost use Rattle.br_model.specs.Table.Limits.{AreWithin, all_fit};
 ghost use Rattle.br_model.specs.Table.Table.{table};
 ghost use Rattle.br_model.specs.Wire.Frames.{frame};
 ghost use Rattle.br_model.specs.Wire.Messages.{RecordsStand, message as message_in};
+ghost use Rattle.br_model.specs.declared.transcript.Line.{Line};
+ghost use Rattle.br_model.specs.declared.steps.Command.TheVariants as Command;
 ghost use Rattle.br_model.specs.declared.steps.Event.TheVariants as Event;
 ghost use Rattle.br_model.specs.declared.steps.Event.TheVariants.{Cmd, Forget, Moment, Sight};
 ghost use Rattle.bridge_core.specs.Answers.{CarriesOut, CarriesQuietly, HasRoomFor, IsEvent, LacksRoomFor, Makes, PlansOf, Reacts, carried_out, comes_to, ctl_of, standing};
@@ -23,7 +25,7 @@ ghost use Rattle.bridge_plans.specs.Standing.{clocked};
 ghost use Rattle.fdb_core.specs.Fdb.{place};
 
 use br_model::NoMemory;
-use br_model::change::{Change, Kind};
+use br_model::change::{Change, Flags, Kind};
 use br_model::domains::Domains;
 use br_model::frame::{Head, McastMsg};
 use br_model::limits::MOST_CHANGES;
@@ -32,7 +34,7 @@ use br_model::steps::{Command, Event, Refusal, Triples};
 use br_model::tree::TreeEvent;
 use bridge_plans::EventFault;
 use bridge_plans::ageing::{loses, passes_to};
-use bridge_plans::commands::obey;
+use bridge_plans::commands::{link_change, obey};
 use bridge_plans::learning::{Lesson, is_taken, lesson_of, taught, teaches};
 use bridge_plans::plan::Plan;
 use bridge_plans::snooping::{Speaker, most_changes, who_speaks};
@@ -176,7 +178,7 @@ impl Bridge {
             return answer;
         }
         add_frames(own, &tree, &out, lines);
-        self.state.tree = tree;
+        *self.state.tree = tree;
         answer
     }
 
@@ -396,6 +398,16 @@ impl Bridge {
         loses(alloc, &self.state, stations)
     }
 
+    /// What comes of `link`: at most one change, without a plan.
+    fn take_link(&mut self, port: Port, flag: Flags, on: bool) -> Result<(), EventFault>
+        ensures { (lines : List Line) → CarriesOut self.old self.new lines lines result (comes_to self.old (Cmd (Command.Link port flag on))) }
+    {
+        match link_change(&self.state, port, flag, on)? {
+            Some(change) => self.make_change(change),
+            None => Ok(()),
+        }
+    }
+
     /// What comes of a command.
     fn take_command(
         &mut self,
@@ -408,8 +420,13 @@ impl Bridge {
         ensures room { 1 ≤ lines.new.rows }
         ensures marked { lines.new.marked ≡ lines.old.marked }
     {
-        let plan = self.plan_command(alloc, asked)?;
-        self.accept(plan, lines)
+        match *asked {
+            Command::Link { port, flag, on } => self.take_link(port, flag, on),
+            _ => {
+                let plan = self.plan_command(alloc, asked)?;
+                self.accept(plan, lines)
+            }
+        }
     }
 
     /// What comes of the loss of these stations.

@@ -1,5 +1,5 @@
 -- What a command is answered, by what its definition says.
-use Rattle.std.specs.Prelude.{◌≡◌, List, Vec}
+use Rattle.std.specs.Prelude.{◌≡◌, List, Option, Vec, option_to_list}
 use Rattle.std.specs.declared.alloc.Global.{Global}
 use Rattle.std.specs.declared.result.Result.{Result}
 use Rattle.std.specs.declared.result.Result.TheVariants.{Ok, Err}
@@ -13,3 +13,9 @@ abbrev pub Answers : Result (Vec Change Global) EventFault → Result (List Chan
 Answers (Ok changes) answer = answer ≡ Ok changes.items
 Answers (Err (Refused why)) answer = answer ≡ Err why
 Answers (Err NoMemory) answer = Unit {0}
+
+-- its one change, if any, or its refusal
+abbrev pub AnswersOne : Result (Option Change) EventFault → Result (List Change) Refusal → Type 0
+AnswersOne (Ok change) answer = answer ≡ Ok (option_to_list change)
+AnswersOne (Err (Refused why)) answer = answer ≡ Err why
+AnswersOne (Err NoMemory) answer = Unit {0}

@@ -12,7 +12,7 @@ abbrev pub table_of : State → Table
 table_of s = with_addresses s.ports s.addresses.addr
 
 abbrev pub control_of : State → Control
-control_of s = record { now = s.clock.now; ageing = s.clock.ageing; updated = s.addresses.updated; ends = s.groups; tree = s.tree }
+control_of s = record { now = s.clock.now; ageing = s.clock.ageing; updated = s.addresses.updated; ends = s.groups; tree = s.tree.value }
 
 -- before anything is done
 abbrev pub course_at : State → Course

@@ -22,7 +22,7 @@ use addresses::{fdb_add, fdb_del};
 use br_model::change::Change;
 use br_model::steps::Command;
 use groups::{mdb_add, mdb_del, snooping};
-pub use ports::flags_of;
+pub use ports::{flags_of, link_change};
 use ports::{link, port_down, port_up};
 use spanning_tree::{rank, stp};
 use std::alloc::Global;

@@ -9,6 +9,7 @@ ghost use Rattle.br_model.specs.Table.Change.{asks};
 ghost use Rattle.br_model.specs.Table.Limits.{fits, all_fit};
 ghost use Rattle.br_model.specs.Table.Table.{Table, start, apply};
 ghost use Rattle.br_model.specs.Data.Maps.{pair_cmp, get};
+ghost use Rattle.br_model.specs.Tree.Tree.{first_tree};
 ghost use Rattle.br_model.specs.Wire.Messages.{RecordsStand};
 ghost use Rattle.br_model.specs.Control.Snooping.{said};
 ghost use Rattle.bridge_plans.specs.Plans.{renewed_at};
@@ -44,7 +45,16 @@ pub struct State {
     pub addresses: Addresses,
     pub groups: Mdb,
     pub clock: Clock,
-    pub tree: Tree,
+    // It is large, so it stands on the heap: a call pays for the room of its locals.
+    pub tree: Box<Tree>,
+}
+
+/// The spanning tree of the bridge of this address, in a function of its own, so that no other has room for it.
+#[inline(never)]
+fn first_tree(alloc: Global, own: Mac) -> Result<Box<Tree>, NoMemory>
+    ensures { IfOk result (λ tree. tree.value ≡ first_tree own) }
+{
+    Ok(Box::new(alloc, Tree::make(own))?)
 }
 
 impl State {
@@ -62,7 +72,7 @@ impl State {
                 now: 0,
                 ageing: FIRST_AGEING,
             },
-            tree: Tree::make(own),
+            tree: first_tree(alloc, own)?,
         })
     }
 

@@ -12,7 +12,7 @@ use Rattle.std.specs.declared.result.Result.TheVariants.{Err}
 use Rattle.std.proofs.lemmas.Bool.{false≢true, true≢false}
 use Rattle.br_model.specs.declared.scenario.LineWhy.{LineWhy}
 use Rattle.br_model.specs.declared.steps.Step.{Step}
-use Rattle.br_model.specs.declared.steps.Step.TheVariants.{Rx, Cmd, Now, Serve, Hold, Post, Turn, Report, Sweep, Publish}
+use Rattle.br_model.specs.declared.steps.Step.TheVariants.{Serve, Hold, Post, Turn, Report, Publish}
 use Rattle.br_model.specs.declared.transcript.Line.{Line}
 use Rattle.br_model.specs.Program.LiveRun.{is_live_run}
 use Rattle.br_model.specs.Program.LiveText.{live_text, steps_scenario}
@@ -79,17 +79,14 @@ least : (n : ℕ) → nat_le 0 n ≡ true
 least n = grind arith
 
 lined : (ports : List Entry) (chips : List ℕ) (s : Step) → chips ≡ chips_of ports → comes_by_line true chips s ≡ true → (not (is_taken s) || has_line ports s) ≡ true → is_numbered s ≡ true → has_line ports s ≡ true
-lined ports chips (Rx port bytes) are comes given number = given
-lined ports chips (Cmd command) are comes given number = given
-lined ports chips (Now moment) are comes given number = given
 lined ports chips Serve are comes given number = refl
 lined ports chips Hold are comes given number = refl
 lined ports chips (Post id None) are comes given number = both _ true (both _ _ (least id) number) refl
 lined ports chips (Post id (Some point)) are comes given number = both _ _ (both _ _ (least id) (first_so _ _ number)) (both _ true (both _ _ (least point) (second_so (nat_le id 4294967295) _ number)) refl)
 lined ports chips (Turn dom) are comes given number = both _ true (ap (λ (l : List ℕ). list_any (λ d. d == dom) l) (sym are) ∙ comes) refl
 lined ports chips (Report dom) are comes given number = both _ true (ap (λ (l : List ℕ). list_any (λ d. d == dom) l) (sym are) ∙ comes) refl
-lined ports chips (Sweep dom) are comes given number = given
 lined ports chips Publish are comes given number = refl
+lined ports chips s are comes given number = given
 
 pub all_lined : (ports : List Entry) (chips : List ℕ) (steps : List Step) → chips ≡ chips_of ports → list_all (comes_by_line true chips) steps ≡ true
     → list_all (λ s. not (is_taken s) || has_line ports s) steps ≡ true → list_all is_numbered steps ≡ true → list_all (has_line ports) steps ≡ true

@@ -1,6 +1,7 @@
 -- What is read for a run by workers, and what the run gives.
 use Rattle.std.specs.Prelude.{◌≡◌, ℕ, nat_le, Bool, true, false, ◌&&◌, List, IfSome, String, string_bytes}
 use Rattle.std.specs.List.{list_all}
+use Rattle.std.specs.Option.{option_map_or}
 use Rattle.std.specs.declared.alloc.Global.{Global}
 use Rattle.std.specs.Io.KnownBytes.{Consumes}
 use Rattle.std.specs.declared.option.Option.{Option}
@@ -9,7 +10,7 @@ use Rattle.std.specs.declared.result.Result.{Result}
 use Rattle.std.specs.declared.result.Result.TheVariants.{Ok, Err}
 use Rattle.br_model.specs.declared.scenario.LineWhy.{LineWhy}
 use Rattle.br_model.specs.declared.steps.Step.{Step}
-use Rattle.br_model.specs.declared.steps.Step.TheVariants.{Rx, Cmd, Now, Serve, Hold, Post, Turn, Report, Sweep, Publish}
+use Rattle.br_model.specs.Plane.Traits.{traits}
 use Rattle.br_model.specs.Program.LiveRun.{is_live_run}
 use Rattle.br_model.specs.Program.LiveText.{live_text}
 use Rattle.br_model.specs.Program.Outcomes.{HoldsNoEnd}
@@ -54,18 +55,12 @@ IsLiveText roster steps text =
     → (taken : List Step) × (is_live_run taken sc ≡ true) × (list_all (has_line roster.ports) taken ≡ true) × (text ≡ live_text sc taken)
 
 -- whether the numbers of a post have no more than 32 bits
+abbrev pub are_small : ℕ → Option ℕ → Bool
+are_small id None = nat_le id last_id
+are_small id (Some point) = nat_le id last_id && nat_le point last_point
+
 abbrev pub is_numbered : Step → Bool
-is_numbered (Rx port bytes) = true
-is_numbered (Cmd command) = true
-is_numbered (Now moment) = true
-is_numbered Serve = true
-is_numbered Hold = true
-is_numbered (Post id None) = nat_le id last_id
-is_numbered (Post id (Some point)) = nat_le id last_id && nat_le point last_point
-is_numbered (Turn dom) = true
-is_numbered (Report dom) = true
-is_numbered (Sweep dom) = true
-is_numbered Publish = true
+is_numbered step = option_map_or (λ post. are_small post.0 post.1) (traits step).post true
 
 -- the text is what workers give of the scenario
 pub record Lived (left now : Option (List ℕ)) (text : List ℕ) : Type 0 where

@@ -12,7 +12,7 @@ ghost use Rattle.run_io.specs.Causes.{Rose};
 ghost use Rattle.scenario_reader.specs.declared.reader.Last.TheVariants.{Ended};
 ghost use Rattle.scenario_reader.specs.Whole.{SaysWhole};
 ghost use Rattle.run_status.specs.Stopping.{Caused as StopsBy};
-ghost use Rattle.capture_runner.specs.Living.{IsLiveText, ReadsLive, YieldsLive, is_numbered, status_of};
+ghost use Rattle.capture_runner.specs.Living.{IsLiveText, ReadsLive, YieldsLive, are_small, is_numbered, status_of};
 ghost use Rattle.run_status.specs.Statuses.{Caused, Lives, call_of};
 ghost use Rattle.command_line.specs.Words.{most_workers};
 
@@ -77,27 +77,21 @@ fn number_fits(number: u32)
 {}
 
 /// A law: so have the numbers of a post.
+fn post_fits(id: u32, point: Option<u32>)
+    ensures { are_small id point ≡ true }
+{
+    number_fits(id);
+    if let Some(point) = point {
+        number_fits(point);
+    }
+}
+
+/// A law: whatever the step is.
 fn numbers_fit(step: &Step)
     ensures { is_numbered step.now ≡ true }
 {
-    match step {
-        Step::Post { id, point: None } => number_fits(*id),
-        Step::Post {
-            id,
-            point: Some(point),
-        } => {
-            number_fits(*id);
-            number_fits(*point);
-        }
-        Step::Rx { .. }
-        | Step::Cmd(_)
-        | Step::Now(_)
-        | Step::Serve
-        | Step::Hold
-        | Step::Turn(_)
-        | Step::Report(_)
-        | Step::Sweep(_)
-        | Step::Publish => {}
+    if let Step::Post { id, point } = step {
+        post_fits(*id, *point);
     }
 }
 

@@ -1,9 +1,11 @@
 //! The driver.
-ghost use Rattle.std.specs.Prelude.{◌≡◌, ◌≢◌, ◌≤◌, IfOk, IsTrue};
+ghost use Rattle.std.specs.Prelude.{◌≡◌, ◌≢◌, ◌≤◌, true, IfOk, IsTrue};
+ghost use Rattle.br_model.specs.Table.Change.{deferred};
 ghost use Rattle.br_model.specs.Table.Domains.{Domains as DomainsValue, software};
 ghost use Rattle.br_model.specs.Table.GroupPairs.{has_room};
 ghost use Rattle.br_model.specs.Table.Table.{Table, apply, start};
 ghost use Rattle.br_model.specs.declared.change.Change.TheVariants as changes;
+ghost use Rattle.br_model.specs.declared.domains.Edition.TheVariants.{Two};
 ghost use Rattle.chip_tables.specs.Stands.{address_wanted};
 ghost use Rattle.chip_driver.specs.Drives.{Drives, IsTaken};
 
@@ -80,9 +82,10 @@ impl Driver {
         &self.kept.tables
     }
 
-    /// Applies an update of the queue, of whatever is deferred.
+    /// Applies an update of the queue.
     pub fn address(&mut self, u: &Update)
-        requires { IsTaken self.old u.now.change }
+        requires taken { IsTaken self.old u.now.change }
+        requires queued { deferred Two u.now.change ≡ true }
         ensures drives { (d : DomainsValue) (t : Table) → Drives d self.old t → Drives d self.new (apply t u.now.change) }
         ensures dom { self.new.dom ≡ self.old.dom }
     {
@@ -96,21 +99,7 @@ impl Driver {
             Change::AddrDel { vid, mac } => self.del_address(vid, mac),
             Change::GroupJoin { port, vid, group } => self.join_group(port, vid, group),
             Change::GroupPart { port, vid, group } => self.part_group(port, vid, group),
-            Change::PortUp(port) => self.port_up(port),
-            Change::PortDown(port) => self.port_down(port),
-            Change::SetFlags(port, flags) => self.set_flags(port, flags),
-            Change::SetState(port, state) => self.set_state(port, state),
-            Change::VlanAdd {
-                port,
-                vid,
-                untagged,
-                pvid,
-            } => self.add_vlan(port, vid, untagged, pvid),
-            Change::VlanDel { port, vid } => self.del_vlan(port, vid),
-            Change::Router { port, on } => self.set_router(port, on),
-            Change::Querier { six, on } => self.set_querier(six, on),
-            Change::Snoop(on) => self.set_snoop(on),
-            Change::Stp(on) => self.set_stp(on),
+            _ => unreachable!(),
         }
     }
 

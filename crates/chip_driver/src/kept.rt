@@ -43,7 +43,7 @@ impl Kept {
         let _number = p.number();
         let before = Shares::of(&self.shadow, p, true);
         self.tables.set_port(p, row);
-        self.shadow = self.shadow.with_row(p, &row);
+        self.shadow.note(p, &row);
         let told = before.told(&Shares::of(&self.shadow, p, true));
         fans::refresh(&mut self.tables, &self.shadow, &self.joined, &told, p);
         groups::refresh(
@@ -65,7 +65,7 @@ impl Kept {
         ensures rest { IsRemade self.old.tables self.new.tables }
     {
         let before = Shares::of(&self.shadow, p, true);
-        self.shadow.routers = switched(self.shadow.routers, p.number(), on);
+        self.shadow.routers.switch(p.number(), on);
         let told = before.told(&Shares::of(&self.shadow, p, true));
         fans::refresh(&mut self.tables, &self.shadow, &self.joined, &told, p);
         groups::refresh(

@@ -69,19 +69,15 @@ impl Shadow {
         }
     }
 
-    /// The same with what the row of a port says.
-    pub fn with_row(&self, p: Port, row: &PortRow) -> Shadow
-        ensures { Notes p row.now self.now result }
+    /// Notes what the row of a port says.
+    pub fn note(&mut self, p: Port, row: &PortRow)
+        ensures { Notes p row.now self.old self.new }
     {
         let n = p.number();
-        Shadow {
-            own: self.own,
-            forwarding: switched(self.forwarding, n, forwards(row)),
-            flood: switched(self.flood, n, floods(row, Flags::FLOOD)),
-            mcast_flood: switched(self.mcast_flood, n, floods(row, Flags::MCAST_FLOOD)),
-            bcast_flood: switched(self.bcast_flood, n, floods(row, Flags::BCAST_FLOOD)),
-            isolated: switched(self.isolated, n, has_flag(row, Flags::ISOLATED)),
-            routers: self.routers,
-        }
+        self.forwarding.switch(n, forwards(row));
+        self.flood.switch(n, floods(row, Flags::FLOOD));
+        self.mcast_flood.switch(n, floods(row, Flags::MCAST_FLOOD));
+        self.bcast_flood.switch(n, floods(row, Flags::BCAST_FLOOD));
+        self.isolated.switch(n, has_flag(row, Flags::ISOLATED));
     }
 }

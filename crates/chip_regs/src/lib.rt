@@ -4,6 +4,7 @@
 ghost use Rattle.std.specs.Prelude.{◌≡◌, ℕ, ◌+◌, ◌-◌, ◌*◌, ◌/◌, ◌%◌, ◌^◌, ◌<◌, ◌≤◌, List, IfOk, length, slice_set, slice_index, replicate};
 ghost use Rattle.chip_regs.specs.Rows.{number, field, with_field};
 
+use lists::padded::{item_or, put_item};
 use std::alloc::{AllocError, Global};
 use std::marker::Model;
 
@@ -146,22 +147,24 @@ impl<const BYTES: usize> Row<BYTES> {
     }
 }
 
-/// A bank of rows, which takes its memory at its making.
+/// A bank of rows, which takes its room at its making.
 ///
 /// Contracts see the list of the rows.
 #[derive(Drop)]
 pub struct Bank<const ROWS: usize, const BYTES: usize> {
+    // Those behind were never written to, and are all 0.
     rows: Vec<Row<BYTES>>,
 }
 
 impl<const ROWS: usize, const BYTES: usize> Model for Bank<ROWS, BYTES> {
-    ghost use Rattle.std.specs.Prelude.{◌≡◌, ℕ, List, length};
+    ghost use Rattle.std.specs.Prelude.{◌≤◌, ℕ, List, vec_capacity};
+    ghost use Rattle.lists.specs.Padded.{padded};
 
     ghost Value = { List ℕ };
 
-    ghost view = { λ b. b.rows.items };
+    ghost view = { λ b. padded 0 ROWS b.rows.items };
 
-    ghost invariant = { λ b. length b.rows.items ≡ ROWS };
+    ghost invariant = { λ b. ROWS ≤ vec_capacity b.rows };
 }
 
 impl<const ROWS: usize, const BYTES: usize> Bank<ROWS, BYTES> {
@@ -170,7 +173,7 @@ impl<const ROWS: usize, const BYTES: usize> Bank<ROWS, BYTES> {
         requires { BYTES < 2 ^ 16 }
         ensures { IfOk result (λ b. b ≡ replicate ROWS 0) }
     {
-        let rows = vec![in alloc; Row::zero(); ROWS]?;
+        let rows = Vec::with_capacity(alloc, ROWS)?;
         Ok(Bank { rows })
     }
 
@@ -180,7 +183,7 @@ impl<const ROWS: usize, const BYTES: usize> Bank<ROWS, BYTES> {
         ensures value { result ≡ slice_index self.now i }
         ensures len { length self.now ≡ ROWS }
     {
-        self.rows[i]
+        item_or(self.rows.as_slice(), i, Row::zero())
     }
 
     /// Changes the row at a place below `ROWS`, and no other.
@@ -189,6 +192,6 @@ impl<const ROWS: usize, const BYTES: usize> Bank<ROWS, BYTES> {
         ensures value { self.new ≡ slice_set self.old i row.entry }
         ensures len { length self.old ≡ ROWS }
     {
-        self.rows[i] = row;
+        put_item(&mut self.rows, i, row, Row::zero());
     }
 }

@@ -1,10 +1,10 @@
 -- Group rows as cells, and the numbers of their keys.
-use Rattle.std.proofs.Common.{◌≡◌, ◌≢◌, ℕ, zero, suc, ◌+◌, ◌*◌, ◌/◌, ◌%◌, ◌^◌, ◌<◌, ◌&&◌, None, Some, List, ◌∷◌, length, get_or, set, map, replicate, refl, sym, ap, ◌∙◌, arith}
-use Rattle.std.specs.Prelude.{◌==◌}
+use Rattle.std.proofs.Common.{◌≡◌, ◌≢◌, ℕ, zero, suc, ◌+◌, ◌*◌, ◌/◌, ◌%◌, ◌^◌, ◌<◌, ◌≤◌, ◌&&◌, None, Some, List, ◌∷◌, length, get_or, set, map, replicate, refl, sym, ap, ◌∙◌, arith}
+use Rattle.std.specs.Prelude.{◌==◌, nat_lt}
 use Rattle.std.specs.Ordering.{nat_cmp, ordering_then}
 use Rattle.std.specs.declared.cmp.Ordering.{Ordering}
 use Rattle.std.specs.declared.cmp.Ordering.TheVariants.{Less, Equal, Greater}
-use Rattle.std.proofs.lemmas.Bool.{cases_eq, eq-eqb, ne_eqb}
+use Rattle.std.proofs.lemmas.Bool.{cases_eq, cases_lt, eq-eqb, ne_eqb, lt-ltb, le-ltb}
 use Rattle.std.proofs.lemmas.List.{map-set, length-map, get_or-map, length-replicate}
 use Rattle.std.proofs.lemmas.Nat.{div-mul-add, mod-mul-add}
 use Rattle.std.proofs.Math.Nat.{mod-lt}
@@ -17,7 +17,7 @@ use Rattle.chip_regs.specs.Rows.{field, with_field}
 use Rattle.chip_regs.proofs.Fields.{field-zero}
 use Rattle.open_addressing.specs.Zipped.{cell_of, cells_of, key_of, value_of}
 use Rattle.open_addressing.proofs.Pairs.{digits_order, whole}
-use Rattle.open_addressing.proofs.Zipped.{within-keys, within-values, key_is, value_is, cells_of-clear, cells_of-set, cells_of-move, cells_of-make}
+use Rattle.open_addressing.proofs.Zipped.{within-keys, within-values, key_is, value_is, cells_of-clear, cells_of-set, cells_of-make}
 use Rattle.chip_tables.specs.declared.rows.FanRow.{FanRow}
 use Rattle.chip_tables.specs.Rows.{fan_of}
 use Rattle.chip_tables.specs.GroupCells.{version_bit, address_bits, numbered, head_of, number_of, group_from, pair_from, bits_in, group_key_of, group_cells, folded, group_hash}
@@ -33,9 +33,9 @@ bits-numbered : (h b : ℕ) → b < 2 ^ 128 → numbered h b % 2 ^ 128 ≡ b
 unfolding numbered
 bits-numbered h b small = mod-mul-add h (2 ^ 128) b small
 
-pub hash-numbered : (h b : ℕ) → b < 2 ^ 128 → group_hash (numbered h b) ≡ Rattle.open_addressing.specs.Circle.mix (folded h b)
+pub hash-numbered : (h b : ℕ) → b < 2 ^ 128 → group_hash (numbered h b) ≡ Rattle.open_addressing.specs.Hashed.mix (folded h b)
 unfolding group_hash
-hash-numbered h b small = λ i. Rattle.open_addressing.specs.Circle.mix (folded (head-numbered h b small i) (bits-numbered h b small i))
+hash-numbered h b small = λ i. Rattle.open_addressing.specs.Hashed.mix (folded (head-numbered h b small i) (bits-numbered h b small i))
 
 pub numbered-same : (g h b d : ℕ) → b < 2 ^ 128 → d < 2 ^ 128 → (numbered g b == numbered h d) ≡ ((g == h) && (b == d))
 numbered-same g h b d sb sd =
@@ -136,20 +136,6 @@ groups-put keys keys' rows rows' i key row n r ki ri kn rr =
     (λ t. cells_of ((ap (map group_key_of) ki ∙ map-set group_key_of keys i key ∙ ap (set (map group_key_of keys) i) kn) t) ((ap (map fan_of) ri ∙ map-set fan_of rows i row ∙ ap (set (map fan_of rows) i) rr) t))
     ∙ cells_of-set (map group_key_of keys) (map fan_of rows) i n r
 
-pub groups-move : (keys one keys' rows rows' : List ℕ) (from to key row : ℕ) → from < length (group_cells keys rows) → key ≡ get_or keys from 0 → row ≡ get_or rows from 0
-    → one ≡ set keys from 0 → keys' ≡ set one to key → rows' ≡ set rows to row
-    → group_cells keys' rows' ≡ set (set (group_cells keys rows) from None) to (get_or (group_cells keys rows) from None)
-groups-move keys one keys' rows rows' from to key row h ki ri oi ki' ri' =
-    let ks : List ℕ = map group_key_of keys in
-    let vs : List FanRow = map fan_of rows in
-    let first : map group_key_of one ≡ set ks from 0 = ap (map group_key_of) oi ∙ map-set group_key_of keys from 0 ∙ ap (set ks from) zero_key in
-    let second : map group_key_of keys' ≡ set (set ks from 0) to (group_key_of key) = ap (map group_key_of) ki' ∙ map-set group_key_of one to key ∙ ap (λ (xs : List ℕ). set xs to (group_key_of key)) first in
-    let third : map fan_of rows' ≡ set vs to (fan_of row) = ap (map fan_of) ri' ∙ map-set fan_of rows to row in
-    (λ t. cells_of (second t) (third t))
-    ∙ cells_of-move ks vs from to (group_key_of key) (fan_of row) h
-    (sym (get_or-map group_key_of keys from 0 (group_key_of key) (within-key keys rows from h) ∙ ap group_key_of (sym ki)))
-    (sym (get_or-map fan_of rows from 0 (fan_of row) (within-row keys rows from h) ∙ ap fan_of (sym ri)))
-
 map-replicate : {X Y : Type 0} (f : X → Y) (n : ℕ) (x : X) → map f (replicate n x) ≡ replicate n (f x)
 map-replicate f zero x = refl
 map-replicate f (suc n) x = ap (λ ys. f x ∷ ys) (map-replicate f n x)
@@ -175,5 +161,20 @@ holds-then k n g h b d ki ni sb sd same = sym ((λ i. ki i == ni i) ∙ numbered
 pub holds-else : (k n g h b d : ℕ) → k ≡ numbered g b → n ≡ numbered h d → b < 2 ^ 128 → d < 2 ^ 128 → g ≢ h → (g == h) ≡ (k == n)
 holds-else k n g h b d ki ni sb sd other = ne_eqb g h other ∙ sym ((λ i. ki i == ni i) ∙ numbered-same g h b d sb sd ∙ ap (λ x. x && (b == d)) (ne_eqb g h other))
 
-pub numbered-none : 0 ≡ numbered 0 0
-numbered-none = sym numbered-zero
+-- keys are in the order of their heads, and then of their addresses
+
+pub below-then : (k n g h b d : ℕ) → k ≡ numbered g b → n ≡ numbered h d → g ≡ h → nat_lt b d ≡ nat_lt k n
+unfolding numbered
+below-then k n g h b d ki ni same =
+    ⊎_elim
+    (λ (lt : b < d). lt-ltb b d lt ∙ sym (lt-ltb k n (omega (arith, ki, ni, same))))
+    (λ (ge : d ≤ b). le-ltb b d ge ∙ sym (le-ltb k n (omega (arith, ki, ni, same))))
+    (cases_lt b d)
+
+pub below-else : (k n g h b d : ℕ) → k ≡ numbered g b → n ≡ numbered h d → b < 2 ^ 128 → d < 2 ^ 128 → g ≢ h → nat_lt g h ≡ nat_lt k n
+unfolding numbered
+below-else k n g h b d ki ni sb sd other =
+    ⊎_elim
+    (λ (lt : g < h). lt-ltb g h lt ∙ sym (lt-ltb k n (omega (arith, ki, ni))))
+    (λ (ge : h ≤ g). le-ltb g h ge ∙ sym (le-ltb k n (omega (arith, ki, ni))))
+    (cases_lt g h)

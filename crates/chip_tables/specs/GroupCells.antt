@@ -5,7 +5,7 @@ use Rattle.br_model.specs.declared.group.Group.{Group}
 use Rattle.br_model.specs.declared.group.Group.TheVariants.{V4, V6}
 use Rattle.br_model.specs.Table.GroupPairs.{GroupPair}
 use Rattle.chip_regs.specs.Rows.{field}
-use Rattle.open_addressing.specs.Circle.{mix}
+use Rattle.open_addressing.specs.Hashed.{mix}
 use Rattle.open_addressing.specs.Zipped.{cells_of}
 use Rattle.chip_tables.specs.declared.rows.FanRow.{FanRow}
 use Rattle.chip_tables.specs.Rows.{fan_of}

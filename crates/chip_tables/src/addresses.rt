@@ -2,7 +2,7 @@
 ghost use Rattle.std.specs.Prelude.{◌≡◌, ◌≢◌, ◌<◌, ◌^◌, IfOk, None, Some, [], length, replicate, slice_get, slice_index_or};
 ghost use Rattle.std.specs.List.{All};
 ghost use Rattle.br_model.specs.Table.Limits.{most_addresses};
-ghost use Rattle.open_addressing.specs.Circle.{mix};
+ghost use Rattle.open_addressing.specs.Hashed.{mix};
 ghost use Rattle.open_addressing.specs.Hashes.{mix-lt};
 ghost use Rattle.open_addressing.specs.Pairs.{packed};
 ghost use Rattle.chip_tables.specs.Rows.{key_of};
@@ -23,11 +23,8 @@ pub type Key = (Vid, Mac);
 /// The used address rows by their keys.
 pub type Addresses = Map<Key, AddressRow, AddressCells>;
 
-/// There are 2 to this power of address rows.
-const BITS: u32 = 15;
-
-/// So many.
-pub const ROWS: usize = 1 << BITS;
+/// How many address rows there are.
+pub const ROWS: usize = 32768;
 
 /// How far apart the numbers of one address in two VLANs that follow one another are.
 const VLAN_STEP: u64 = 1 << 48;
@@ -75,20 +72,16 @@ impl Cells<Key, AddressRow> for AddressCells {
 
     ghost cells = { λ s. address_cells s.bank };
 
-    fn is_free(&self, i: usize) -> bool {
-        number_in(&self.bank.row(i)) == 0
-    }
-
     fn holds(&self, i: usize, key: &Key) -> bool {
         number_in(&self.bank.row(i)) == number_of(key)
     }
 
-    fn hash(key: &Key) -> u64 {
-        mixed(number_of(key))
+    fn is_below(&self, i: usize, key: &Key) -> bool {
+        number_in(&self.bank.row(i)) < number_of(key)
     }
 
-    fn hash_at(&self, i: usize) -> u64 {
-        mixed(number_in(&self.bank.row(i)))
+    fn hash(key: &Key) -> u64 {
+        mixed(number_of(key))
     }
 
     fn value(&self, i: usize) -> AddressRow {
@@ -98,12 +91,6 @@ impl Cells<Key, AddressRow> for AddressCells {
     fn put(&mut self, i: usize, key: &Key, value: AddressRow) {
         self.bank
             .put(i, pack_address(pack_key(key.0, key.1), &value));
-    }
-
-    fn move_cell(&mut self, from: usize, to: usize) {
-        let row = self.bank.row(from);
-        self.bank.put(from, Row::zero());
-        self.bank.put(to, row);
     }
 
     fn clear(&mut self, i: usize) {
@@ -116,7 +103,7 @@ impl Cells<Key, AddressRow> for AddressCells {
 impl AddressCells {
     /// No row is used.
     fn make(alloc: Global) -> Result<AddressCells, NoMemory>
-        ensures { IfOk result (λ s. address_cells s.bank ≡ replicate (2 ^ 15) None) }
+        ensures { IfOk result (λ s. address_cells s.bank ≡ replicate 32768 None) }
     {
         let bank = Bank::make(alloc)?;
         Ok(AddressCells { bank })
@@ -159,5 +146,5 @@ pub fn make(alloc: Global) -> Result<Addresses, NoMemory>
     ensures { IfOk result (λ m. m ≡ record m { entries = []; room = most_addresses }) }
 {
     let cells = AddressCells::make(alloc)?;
-    Ok(Map::of(cells, BITS, MOST_ADDRESSES))
+    Map::of(alloc, cells, ROWS, MOST_ADDRESSES)
 }

@@ -3,7 +3,7 @@ ghost use Rattle.std.specs.Prelude.{◌≡◌, ◌≢◌, ◌<◌, ◌*◌, ◌+
 ghost use Rattle.chip_tables.specs.GroupCells.{version_bit, address_bits, head_of, number_of, head_in, bits_in, group_key_of, group_cells, folded, group_hash};
 ghost use Rattle.br_model.specs.Table.GroupPairs.{max_pairs};
 ghost use Rattle.chip_tables.specs.GroupHash.{group_hash-lt};
-ghost use Rattle.open_addressing.specs.Circle.{mix};
+ghost use Rattle.open_addressing.specs.Hashed.{mix};
 
 use crate::NoMemory;
 use crate::rows::{FanRow, fan_row, pack_fan};
@@ -21,8 +21,8 @@ pub type GroupKey = (Vid, Group);
 /// The used group rows by their keys.
 pub type Groups = Map<GroupKey, FanRow, GroupCells>;
 
-/// There are 2 to this power of group rows, and all may be used.
-const BITS: u32 = 10;
+/// How many group rows there are, and all may be used.
+const ROWS: usize = 1024;
 
 /// The fields of a key row.
 const VID: Field = Field { at: 0, width: 12 };
@@ -143,23 +143,21 @@ impl Cells<GroupKey, FanRow> for GroupCells {
 
     ghost cells = { λ s. group_cells s.keys s.rows };
 
-    fn is_free(&self, i: usize) -> bool {
-        let row = self.keys.row(i);
-        head_at(&row) == 0 && address_at(&row) == 0
-    }
-
     fn holds(&self, i: usize, key: &GroupKey) -> bool {
         let row = self.keys.row(i);
         head_at(&row) == head(key) && address_at(&row) == address(key.1)
     }
 
-    fn hash(key: &GroupKey) -> u64 {
-        hashed(head(key), address(key.1))
+    fn is_below(&self, i: usize, key: &GroupKey) -> bool {
+        let row = self.keys.row(i);
+        if head_at(&row) == head(key) {
+            return address_at(&row) < address(key.1);
+        }
+        head_at(&row) < head(key)
     }
 
-    fn hash_at(&self, i: usize) -> u64 {
-        let row = self.keys.row(i);
-        hashed(head_at(&row), address_at(&row))
+    fn hash(key: &GroupKey) -> u64 {
+        hashed(head(key), address(key.1))
     }
 
     fn value(&self, i: usize) -> FanRow {
@@ -169,14 +167,6 @@ impl Cells<GroupKey, FanRow> for GroupCells {
     fn put(&mut self, i: usize, key: &GroupKey, value: FanRow) {
         self.keys.put(i, pack_group_key(key));
         self.rows.put(i, pack_fan(&value));
-    }
-
-    fn move_cell(&mut self, from: usize, to: usize) {
-        let key = self.keys.row(from);
-        let row = self.rows.row(from);
-        self.keys.put(from, Row::zero());
-        self.keys.put(to, key);
-        self.rows.put(to, row);
     }
 
     fn clear(&mut self, i: usize) {
@@ -189,7 +179,7 @@ impl Cells<GroupKey, FanRow> for GroupCells {
 impl GroupCells {
     /// No row is used.
     fn make(alloc: Global) -> Result<GroupCells, NoMemory>
-        ensures { IfOk result (λ s. group_cells s.keys s.rows ≡ replicate (2 ^ 10) None) }
+        ensures { IfOk result (λ s. group_cells s.keys s.rows ≡ replicate 1024 None) }
     {
         let keys = Bank::make(alloc)?;
         let rows = Bank::make(alloc)?;
@@ -202,5 +192,5 @@ pub fn make(alloc: Global) -> Result<Groups, NoMemory>
     ensures { IfOk result (λ m. m ≡ record m { entries = []; room = max_pairs }) }
 {
     let cells = GroupCells::make(alloc)?;
-    Ok(Map::of(cells, BITS, MOST_PAIRS))
+    Map::of(alloc, cells, ROWS, MOST_PAIRS)
 }

@@ -10,8 +10,9 @@ ghost use Rattle.deferred_queue.specs.Tally.{counting, looking, posts_in, looks_
 use crate::NoMemory;
 use crate::rule::{Both, Line, Mark, Posted, Taken, Total, TwoEnds, Whole};
 use crate::tally::{Tally, Watch};
-use br_model::change::{Parcel, Update};
+use br_model::change::Update;
 use br_model::limits::MOST_CHANGES as MOST_UPDATES;
+use br_model::parcel::Parcel;
 use std::alloc::Global;
 use std::marker::Model;
 use std::sync::{Arc, Wait};

@@ -1,5 +1,6 @@
 //! The rule of the queue, which exists in proofs alone: what was taken, followed by what the queue holds, is what was posted.
-use br_model::change::{Parcel, Update};
+use br_model::change::Update;
+use br_model::parcel::Parcel;
 use crossbeam_queue::protocol::{Join, Lesson, Outcome, Protocol, Split};
 use crossbeam_queue::{Pass, RuledArrayQueue};
 use std::collections::LinkedList;

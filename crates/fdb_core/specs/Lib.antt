@@ -3,3 +3,4 @@ pub mod Packing
 pub mod Places
 pub mod Counts
 pub mod Kept
+pub mod Stations

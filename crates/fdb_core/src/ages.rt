@@ -11,7 +11,7 @@ ghost use Rattle.fdb_core.specs.Places.{is_current, is_settled, first_moment, ne
 
 use crate::NoMemory;
 use crate::entries::Entry;
-use open_addressing::map::Columned;
+use open_addressing::map::Numbered;
 use std::alloc::Global;
 use std::collections::VecDeque;
 use std::marker::Model;
@@ -45,7 +45,7 @@ impl Place {
     }
 
     /// Whether the entry at the key was learned at the moment.
-    fn is_current(&self, entries: &Columned<Entry>) -> bool
+    fn is_current(&self, entries: &Numbered<Entry>) -> bool
         ensures { result ≡ is_current entries.now.entries self.now }
     {
         match entries.get(&self.key) {
@@ -125,7 +125,7 @@ impl Ages {
     pub fn over(
         &self,
         alloc: Global,
-        entries: &Columned<Entry>,
+        entries: &Numbered<Entry>,
         now: u64,
         hold: u64,
     ) -> Result<Vec<u64>, NoMemory>
@@ -146,7 +146,7 @@ impl Ages {
 }
 
 /// Drops the places that are no longer so, where there is no more room.
-pub fn make_room(ages: &mut Ages, entries: &Columned<Entry>)
+pub fn make_room(ages: &mut Ages, entries: &Numbered<Entry>)
     ensures { IsTold ages.old.complete ages.old.latest ages.old.places.items entries.now.entries
         → IsTold ages.new.complete ages.new.latest ages.new.places.items entries.now.entries }
 {
@@ -156,7 +156,7 @@ pub fn make_room(ages: &mut Ages, entries: &Columned<Entry>)
 }
 
 /// Drops the first places up to one that is so still.
-pub fn settle(ages: &mut Ages, entries: &Columned<Entry>)
+pub fn settle(ages: &mut Ages, entries: &Numbered<Entry>)
     ensures settled { is_settled entries.now.entries ages.new.places.items ≡ true }
     ensures told { IsTold ages.old.complete ages.old.latest ages.old.places.items entries.now.entries
         → IsTold ages.new.complete ages.new.latest ages.new.places.items entries.now.entries }

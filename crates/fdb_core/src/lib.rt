@@ -8,9 +8,11 @@ pub mod entries;
 pub mod key_list;
 mod packing;
 mod port_counts;
+pub mod stations;
 pub mod table;
 
 pub use br_model::NoMemory;
 pub use entries::{Entry, Key};
 pub use key_list::Keys;
+pub use stations::Stations;
 pub use table::Fdb;

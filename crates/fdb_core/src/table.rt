@@ -16,14 +16,14 @@ use crate::packing::{pack, unpack_all};
 use crate::port_counts::PortCounts;
 use br_model::change::Kind;
 use br_model::numbers::{Mac, Port, Vid};
-use open_addressing::map::{Columned, Measure, Test};
+use open_addressing::map::{Numbered, Measure, Test};
 use std::alloc::Global;
 use std::marker::Model;
 
-/// The entries by VLAN and address, in cells with open addressing.
+/// The entries by VLAN and address, in a hash map.
 #[derive(Drop)]
 pub struct Fdb {
-    entries: Columned<Entry>,
+    entries: Numbered<Entry>,
     // How many of them each port has.
     ports: PortCounts,
     // When the learned ones of them were.
@@ -42,7 +42,7 @@ impl Model for Fdb {
     ghost invariant = { λ f. AreKept f.entries.entries f.ports.counts f.ages.complete f.ages.latest f.ages.places.items };
 }
 
-/// What stands in cells before they are used.
+/// What no key has.
 const BLANK: Entry = Entry {
     port: Port::HOST,
     kind: Kind::Local,
@@ -104,7 +104,7 @@ impl Fdb {
         ensures { IfOk result (λ f. f ≡ record { entries = []; room = cap }) }
     {
         Ok(Fdb {
-            entries: Columned::make(alloc, cap, BLANK)?,
+            entries: Numbered::make(alloc, cap, BLANK)?,
             ports: PortCounts::none(),
             ages: Ages::make(alloc, cap)?,
         })

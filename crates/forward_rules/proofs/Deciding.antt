@@ -4,7 +4,6 @@ use Rattle.std.specs.Prelude.{◌==◌, nat_lt, IfSome}
 use Rattle.std.specs.Option.{option_map_or}
 use Rattle.std.specs.Ordering.{nat_cmp}
 use borrow.Author.Tests.{ltb-true}
-use Rattle.std.proofs.lemmas.List.{length-map}
 use Rattle.br_model.specs.Forward.Admission.{admit}
 use Rattle.br_model.specs.Forward.Class.{class, class_by, is_trapped_in, crosses}
 use Rattle.br_model.specs.Table.Domains.{Domains, foreign, port_places}
@@ -21,9 +20,6 @@ use Rattle.br_model.specs.declared.frame.Class.TheVariants.{Drop, Trap}
 use Rattle.br_model.specs.declared.frame.Head.{Head}
 use Rattle.br_model.specs.declared.frame.McastMsg.{McastMsg}
 use Rattle.br_model.proofs.Stations.{other, not-reserved}
-use Rattle.fdb_core.specs.declared.entries.Entry.{Entry}
-use Rattle.fdb_core.specs.Fdb.{addresses, place}
-use Rattle.fdb_core.proofs.Addresses.{get-told}
 use Rattle.port_sets.specs.Numbers.{numbers_below, has_number}
 use Rattle.port_sets.proofs.Numbers.{same_below, filter-set, IsSetBelow-numbers_below}
 use Rattle.vlan_groups.specs.Rows.{ports_where}
@@ -33,37 +29,23 @@ use Rattle.forward_rules.specs.Verdicts.{known_port}
 use Rattle.forward_rules.proofs.SetLaws.{member-of}
 
 abbrev Entries : Type 0
-Entries = List ((ℕ × ℕ) × Entry)
+Entries = List ((ℕ × ℕ) × (ℕ × Kind))
 
 -- room for a new entry
-pub room-left : (es : Entries) (k : ℕ × ℕ) (room : ℕ) → room ≡ most_addresses → (is_some (get pair_cmp (addresses es) k) || nat_lt (length (addresses es)) most_addresses) ≡ true
+pub room-left : (es : Entries) (k : ℕ × ℕ) (room : ℕ) → room ≡ most_addresses → (is_some (get pair_cmp es k) || nat_lt (length es) most_addresses) ≡ true
     → get pair_cmp es k ≡ None → length es < room
 room-left es k room limit fits none =
-    let found : get pair_cmp (addresses es) k ≡ None = get-told place es k ∙ ap (option_map (λ (x : Entry). (x.port, x.kind))) none in
-    let room_is : nat_lt (length (addresses es)) most_addresses ≡ true = sym (ap (λ (o : Option (ℕ × Kind)). is_some o || nat_lt (length (addresses es)) most_addresses) found) ∙ fits in
-    let few : length (addresses es) < most_addresses = ltb-true (length (addresses es)) most_addresses room_is in
-    omega (arith, few, limit, length-map {B = (ℕ × ℕ) × (ℕ × Kind)} es (λ (e : (ℕ × ℕ) × Entry). (e.0, (e.1.port, e.1.kind))))
-
--- whether there is room at the address
-pub room-is : (es : Entries) (k : ℕ × ℕ) → (is_some (get pair_cmp es k) || nat_lt (length es) most_addresses) ≡ (is_some (get pair_cmp (addresses es) k) || nat_lt (length (addresses es)) most_addresses)
-room-is es k =
-    ap₂ (λ b n. b || nat_lt n most_addresses)
-    (mapped (get pair_cmp es k) ∙ sym (ap (λ (o : Option (ℕ × Kind)). is_some o) (get-told place es k)))
-    (sym (length-map {B = (ℕ × ℕ) × (ℕ × Kind)} es (λ (e : (ℕ × ℕ) × Entry). (e.0, (e.1.port, e.1.kind)))))
-  where
-    mapped : (o : Option Entry) → is_some o ≡ is_some {T = ℕ × Kind} (option_map (λ (x : Entry). (x.port, x.kind)) o)
-    mapped None = refl
-    mapped (Some x) = refl
+    let room_is : nat_lt (length es) most_addresses ≡ true = sym (ap (λ (o : Option (ℕ × Kind)). is_some o || nat_lt (length es) most_addresses) none) ∙ fits in
+    let few : length es < most_addresses = ltb-true (length es) most_addresses room_is in
+    omega (arith, few, limit)
 
 -- ---- the port of a known station
 
-pub known-none : (ports : Table) (es : Entries) (vid address : ℕ) → is_multicast address ≡ false → get pair_cmp es (vid, address) ≡ None → known_port (with_addresses ports (addresses es)) vid address ≡ None
-known-none ports es vid address station none =
-    ap₂ (λ b (o : Option (ℕ × Kind)). cond b None (option_map port_of o)) station (get-told place es (vid, address) ∙ ap (option_map (λ (x : Entry). (x.port, x.kind))) none)
+pub known-none : (ports : Table) (es : Entries) (vid address : ℕ) → is_multicast address ≡ false → get pair_cmp es (vid, address) ≡ None → known_port (with_addresses ports es) vid address ≡ None
+known-none ports es vid address station none = ap₂ (λ b (o : Option (ℕ × Kind)). cond b None (option_map port_of o)) station none
 
-pub known-some : (ports : Table) (es : Entries) (vid address : ℕ) (e : Entry) → is_multicast address ≡ false → get pair_cmp es (vid, address) ≡ Some e → known_port (with_addresses ports (addresses es)) vid address ≡ Some (port_of (e.port, e.kind))
-known-some ports es vid address e station some =
-    ap₂ (λ b (o : Option (ℕ × Kind)). cond b None (option_map port_of o)) station (get-told place es (vid, address) ∙ ap (option_map (λ (x : Entry). (x.port, x.kind))) some)
+pub known-some : (ports : Table) (es : Entries) (vid address : ℕ) (e : ℕ × Kind) → is_multicast address ≡ false → get pair_cmp es (vid, address) ≡ Some e → known_port (with_addresses ports es) vid address ≡ Some (port_of e)
+known-some ports es vid address e station some = ap₂ (λ b (o : Option (ℕ × Kind)). cond b None (option_map port_of o)) station some
 
 pub unknown-none : (t : Table) (vid address : ℕ) → is_multicast address ≡ false → known_port t vid address ≡ None → get pair_cmp t.addr (vid, address) ≡ None
 unknown-none t vid address station none =

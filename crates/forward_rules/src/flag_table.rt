@@ -8,7 +8,7 @@ ghost use Rattle.br_model.specs.Data.Maps.{get, put, without};
 ghost use Rattle.br_model.specs.Forward.Targets.{flood, mcast_flood, bcast_flood, isolated};
 ghost use Rattle.forward_rules.specs.PortSets.{flagged};
 
-use crate::place::placed;
+use crate::place::place_in;
 use br_model::change::Flags;
 use br_model::numbers::Port;
 use port_sets::Ports;
@@ -79,11 +79,11 @@ impl FlagTable {
     {
         let bits = bits_of(&flags);
         self.by_port[usize::from(port.number())] = flags;
-        self.learning = placed(self.learning, port, has(bits, Flags::LEARNING));
-        self.flood = placed(self.flood, port, has(bits, Flags::FLOOD));
-        self.mcast_flood = placed(self.mcast_flood, port, has(bits, Flags::MCAST_FLOOD));
-        self.bcast_flood = placed(self.bcast_flood, port, has(bits, Flags::BCAST_FLOOD));
-        self.isolated = placed(self.isolated, port, has(bits, Flags::ISOLATED));
+        place_in(&mut self.learning, port, has(bits, Flags::LEARNING));
+        place_in(&mut self.flood, port, has(bits, Flags::FLOOD));
+        place_in(&mut self.mcast_flood, port, has(bits, Flags::MCAST_FLOOD));
+        place_in(&mut self.bcast_flood, port, has(bits, Flags::BCAST_FLOOD));
+        place_in(&mut self.isolated, port, has(bits, Flags::ISOLATED));
     }
 
     /// The ports with the flag `learning`: frames teach there (Linux's BR_LEARNING).

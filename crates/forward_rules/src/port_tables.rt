@@ -28,7 +28,7 @@ use br_model::change::{Change, DISABLED, Flags};
 use br_model::frame::{Head, McastMsg, Tag};
 use br_model::group::Group;
 use br_model::numbers::{Mac, Port, Vid};
-use mdb_snoop::{Mdb, Pairs};
+use mdb_snoop::{Pairs, Snooped};
 use port_sets::Ports;
 use std::alloc::Global;
 use std::marker::Model;
@@ -41,8 +41,7 @@ pub struct PortTables {
     flags: FlagTable,
     states: StateTable,
     vlans: VlanTable,
-    // Without ends.
-    mdb: Mdb,
+    mdb: Snooped,
     snoop: bool,
     stp: bool,
 }
@@ -50,8 +49,6 @@ pub struct PortTables {
 impl Model for PortTables {
     ghost use Rattle.std.specs.Prelude.{[]};
     ghost use Rattle.br_model.specs.Table.Table.{Table};
-    ghost use Rattle.br_model.specs.Control.Ends.{keys};
-    ghost use Rattle.mdb_snoop.specs.Database.{memberships};
 
     ghost Value = { Table };
 
@@ -61,17 +58,14 @@ impl Model for PortTables {
       state = t.states;
       vlans = t.vlans.vlans;
       pvid = t.vlans.pvid;
-      groups = memberships t.mdb;
-      routers = keys t.mdb.routers;
-      queriers = keys t.mdb.queriers;
+      groups = t.mdb.groups;
+      routers = t.mdb.routers;
+      queriers = t.mdb.queriers;
       snoop = t.snoop;
       stp = t.stp;
       addr = [];
     } };
 }
-
-/// What no membership, router or querier of a table has: the moment of its end.
-const NO_END: u64 = 0;
 
 impl PortTables {
     /// No port is up, the host is an untagged member of VLAN 1, snooping is on, the spanning tree is off.
@@ -83,7 +77,7 @@ impl PortTables {
             flags: FlagTable::empty(),
             states: StateTable::empty(),
             vlans: VlanTable::make(alloc)?,
-            mdb: Mdb::make(alloc)?,
+            mdb: Snooped::make(alloc)?,
             snoop: true,
             stp: false,
         })
@@ -106,12 +100,10 @@ impl PortTables {
                 pvid,
             } => self.vlans.put(port, vid, untagged, pvid),
             Change::VlanDel { port, vid } => self.vlans.remove(port, vid),
-            Change::GroupJoin { port, vid, group } => self.mdb.join(vid, group, port, None),
-            Change::GroupPart { port, vid, group } => {
-                self.mdb.part(vid, group, port);
-            }
-            Change::Router { port, on } => self.set_router(port, on),
-            Change::Querier { six, on } => self.set_querier(six, on),
+            Change::GroupJoin { port, vid, group } => self.mdb.join(vid, group, port),
+            Change::GroupPart { port, vid, group } => self.mdb.part(vid, group, port),
+            Change::Router { port, on } => self.mdb.set_router(port, on),
+            Change::Querier { six, on } => self.mdb.set_querier(six, on),
             Change::Snoop(on) => self.snoop = on,
             Change::Stp(on) => self.stp = on,
             Change::AddrPut { .. } | Change::AddrDel { .. } => {}
@@ -136,26 +128,6 @@ impl PortTables {
         self.up = self.up.without(port.number());
         self.flags.clear(port);
         self.states.clear(port);
-    }
-
-    fn set_router(&mut self, port: Port, on: bool)
-        ensures { self.new ≡ apply self.old (Change.Router port on) }
-    {
-        if on {
-            self.mdb.router_seen(port, NO_END);
-        } else {
-            self.mdb.router_gone(port);
-        }
-    }
-
-    fn set_querier(&mut self, six: bool, on: bool)
-        ensures { self.new ≡ apply self.old (Change.Querier six on) }
-    {
-        if on {
-            self.mdb.querier_seen(six, NO_END);
-        } else {
-            self.mdb.querier_gone(six);
-        }
     }
 
     /// Whether a member of the group in the VLAN can be joined: there is one already, or the pair would be no 1,025th.

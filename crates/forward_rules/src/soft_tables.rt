@@ -23,7 +23,7 @@ use br_model::domains::Domains;
 use br_model::frame::{Class, Head, McastMsg};
 use br_model::limits::MOST_ADDRESSES;
 use br_model::numbers::{Mac, Port, Vid};
-use fdb_core::{Entry, Fdb};
+use fdb_core::Stations;
 use port_sets::Ports;
 use std::alloc::Global;
 use std::marker::Model;
@@ -45,25 +45,20 @@ pub struct Verdict {
 #[derive(Drop)]
 pub struct SoftTables {
     ports: PortTables,
-    // Entries have no moments here.
-    fdb: Fdb,
+    fdb: Stations,
 }
 
 impl Model for SoftTables {
     ghost use Rattle.std.specs.Prelude.{◌≡◌};
     ghost use Rattle.br_model.specs.Table.Limits.{most_addresses};
     ghost use Rattle.br_model.specs.Table.Table.{Table, with_addresses};
-    ghost use Rattle.fdb_core.specs.Fdb.{addresses};
 
     ghost Value = { Table };
 
-    ghost view = { λ t. with_addresses t.ports (addresses t.fdb.entries) };
+    ghost view = { λ t. with_addresses t.ports t.fdb.entries };
 
     ghost invariant = { λ t. t.fdb.room ≡ most_addresses };
 }
-
-/// The moment of all entries.
-const NO_MOMENT: u64 = 0;
 
 impl SoftTables {
     /// Takes the memory for all that the table can hold.
@@ -72,7 +67,7 @@ impl SoftTables {
     {
         Ok(SoftTables {
             ports: PortTables::make(alloc)?,
-            fdb: Fdb::make(alloc, MOST_ADDRESSES)?,
+            fdb: Stations::make(alloc, MOST_ADDRESSES)?,
         })
     }
 
@@ -106,9 +101,7 @@ impl SoftTables {
                 port,
                 kind,
             } => self.put_address(vid, mac, port, kind),
-            Change::AddrDel { vid, mac } => {
-                self.fdb.take(vid, mac);
-            }
+            Change::AddrDel { vid, mac } => self.fdb.take(vid, mac),
             _ => self.ports.apply(c),
         }
     }
@@ -117,12 +110,7 @@ impl SoftTables {
         requires { IsTrue (fits self.old (Change.AddrPut vid mac port kind)) }
         ensures { self.new ≡ apply self.old (Change.AddrPut vid mac port kind) }
     {
-        let entry = Entry {
-            port,
-            kind,
-            updated: NO_MOMENT,
-        };
-        self.fdb.put(vid, mac, entry);
+        self.fdb.put(vid, mac, port, kind);
     }
 
     /// The VLAN in which the port admits the frame.
@@ -184,7 +172,7 @@ impl SoftTables {
             return None;
         }
         let entry = self.fdb.find(vid, address)?;
-        Some(port_of(&entry))
+        Some(port_of(entry))
     }
 
     /// Where an admitted frame of the VLAN is to go.
@@ -203,12 +191,12 @@ impl SoftTables {
 }
 
 /// Where an entry sends: the host for a local one.
-fn port_of(entry: &Entry) -> Port
-    ensures { result ≡ port_of (entry.now.port, entry.now.kind) }
+fn port_of(entry: (Port, Kind)) -> Port
+    ensures { result ≡ port_of entry }
 {
-    match entry.kind {
+    match entry.1 {
         Kind::Local => Port::HOST,
-        Kind::Static | Kind::Learned | Kind::Extern => entry.port,
+        Kind::Static | Kind::Learned | Kind::Extern => entry.0,
     }
 }
 

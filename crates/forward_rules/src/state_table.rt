@@ -6,7 +6,7 @@ ghost use Rattle.br_model.specs.Table.Domains.{entries_from};
 ghost use Rattle.br_model.specs.Data.Maps.{get, put, without};
 ghost use Rattle.forward_rules.specs.PortSets.{ArePorts, in_state};
 
-use crate::place::placed;
+use crate::place::place_in;
 use br_model::change::FORWARDING;
 use br_model::numbers::Port;
 use port_sets::Ports;
@@ -74,8 +74,8 @@ impl StateTable {
         ensures none { state ≡ None → self.new ≡ without nat_cmp self.old port }
     {
         self.by_port[usize::from(port.number())] = state;
-        self.learning = placed(self.learning, port, state == Some(LEARNING));
-        self.forwarding = placed(self.forwarding, port, state == Some(FORWARDING));
+        place_in(&mut self.learning, port, state == Some(LEARNING));
+        place_in(&mut self.forwarding, port, state == Some(FORWARDING));
     }
 
     /// The ports in the state `learning`.

@@ -1,12 +1,13 @@
 -- A driver that follows a history: what it is asked to take is taken, and its rows stand for the cut after each change and each turn.
-use Rattle.std.proofs.Common.{◌≡◌, ℕ, ◌+◌, ◌<◌, ◌≤◌, false, List, [], ◌∷◌, length, take, drop, get_or, Some, sym, ap, ◌∙◌, arith, subst}
+use Rattle.std.proofs.Common.{◌≡◌, ℕ, ◌+◌, ◌<◌, ◌≤◌, true, false, List, [], ◌∷◌, length, take, drop, get_or, Some, refl, sym, ap, ◌∙◌, arith, subst}
 use Rattle.std.proofs.lemmas.Bool.{leb-true}
 use Rattle.std.proofs.lemmas.List.{take_more, take-append-drop}
 use Rattle.std.proofs.lemmas.List.Sums.{length-filter, count_by-le-length}
 use Rattle.std.specs.Prelude.{IsTrue, if◌then◌else◌}
 use Rattle.br_model.specs.declared.change.Change.{Change}
-use Rattle.br_model.specs.declared.change.Change.TheVariants.{SetState, GroupJoin, AddrPut, AddrDel}
+use Rattle.br_model.specs.declared.change.Change.TheVariants.{SetState, GroupJoin, GroupPart, AddrPut, AddrDel}
 use Rattle.br_model.specs.declared.domains.Edition.{Edition}
+use Rattle.br_model.specs.declared.domains.Edition.TheVariants.{One, Two}
 use Rattle.br_model.specs.Table.Change.{deferred}
 use Rattle.br_model.specs.Table.Cut.{cut, deferred_at, deferred_count}
 use Rattle.br_model.specs.Table.Domains.{Domains}
@@ -29,6 +30,13 @@ taken_by domains driver t edition (AddrPut vid mac port kind) stands now fit = a
 taken_by domains driver t edition (AddrDel vid mac) stands now fit = absurd (cc)
 taken_by domains driver t edition c stands now fit = tt
 
+-- what is deferred in either edition is in the second
+two_defers : (e : Edition) (c : Change) → deferred e c ≡ true → deferred Two c ≡ true
+two_defers Two c h = h
+two_defers One (GroupJoin port vid group) h = refl
+two_defers One (GroupPart port vid group) h = refl
+two_defers One c h = h
+
 module _ (edition : Edition) where
   -- what fits the table of a history fits a driver that stands for a cut of it
   pub taken_now : (domains : Domains) (driver : Driven) (H : List Change) (k : ℕ) (c : Change) → Drives domains driver (table (cut edition H k)) → IsTrue (fits (table H) c) → deferred edition c ≡ false → IsTaken driver c
@@ -41,6 +49,9 @@ module _ (edition : Edition) where
   pub taken_next : (domains : Domains) (driver : Driven) (H : List Change) (k : ℕ) (d : Change) → Drives domains driver (table (cut edition H k)) → AreWithin H → deferred_at edition H k ≡ Some d → IsTaken driver d
   taken_next domains driver H k d stands is at =
       taken domains driver (table (cut edition H k)) d stands (λ other. turn-fits edition H k d is at) (room_next H k d is at)
+
+  pub queued_next : (H : List Change) (k : ℕ) (d : Change) → deferred_at edition H k ≡ Some d → deferred Two d ≡ true
+  queued_next H k d at = two_defers edition d (deferred_at-deferred edition H k d at).0
 
   -- one change of the history more
 

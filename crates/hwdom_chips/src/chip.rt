@@ -1,6 +1,7 @@
 //! A chip that follows the history of a bridge.
-ghost use Rattle.std.specs.Prelude.{◌≡◌, ◌≢◌, ◌+◌, ◌<◌, ◌≤◌, ℕ, [], IfOk, OnOk, OnErr, false, length, take, drop, slice_get, if◌then◌else◌};
+ghost use Rattle.std.specs.Prelude.{◌≡◌, ◌≢◌, ◌+◌, ◌<◌, ◌≤◌, ℕ, [], IfOk, OnOk, OnErr, true, false, length, take, drop, slice_get, if◌then◌else◌};
 ghost use Rattle.br_model.specs.declared.domains.Edition.{Edition as EditionValue};
+ghost use Rattle.br_model.specs.declared.domains.Edition.TheVariants.{Two};
 ghost use Rattle.br_model.specs.Table.Change.{deferred, updates as updates_of};
 ghost use Rattle.br_model.specs.Plane.Chip.{Chip as ChipValue, applies, first_chip, hit_by, offered, offers, hits_entry, unhit};
 ghost use Rattle.br_model.specs.Table.Cut.{cut, deferred_count};
@@ -152,6 +153,7 @@ impl Chip {
     /// Applies a deferred change, the next one, and sets the hit of the entry that it puts.
     pub fn turn(&mut self, update: &Update) -> Result<(), NoMemory>
         requires taken { IsTaken self.old.driver update.now.change }
+        requires queued { deferred Two update.now.change ≡ true }
         requires count { self.old.chip.count < most_changes }
         ensures ok { OnOk result (self.new.chip ≡ applies self.old.chip update.now.change) }
         ensures rows { OnOk result ((domains : DomainsValue) (t : Table) → Drives domains self.old.driver t

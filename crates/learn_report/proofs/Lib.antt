@@ -1,3 +1,2 @@
-pub mod HitLaws
 pub mod Index
 pub mod Searched

@@ -1,3 +1,2 @@
-pub mod Hits
 pub mod Index
 pub mod Reports

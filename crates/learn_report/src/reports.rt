@@ -9,7 +9,7 @@ use crate::waiting::{Waiting, number_of};
 use br_model::limits::MOST_REPORTS;
 use br_model::numbers::{Mac, Port, Vid};
 use std::alloc::Global;
-use std::collections::{HashSet, VecDeque};
+use std::collections::{BTreeSet, VecDeque};
 use std::marker::Model;
 
 /// A source address, its VLAN, and the port by which it came.
@@ -22,8 +22,8 @@ pub struct Reports {
     ring: VecDeque<Report>,
     // The numbers of those in the ring.
     waiting: Waiting,
-    // The numbers of a VLAN and an address each.
-    hits: HashSet<(u16, u64)>,
+    // In order, so that no choice of addresses makes a search long.
+    hits: BTreeSet<(Vid, Mac)>,
 }
 
 impl Model for Reports {
@@ -31,12 +31,11 @@ impl Model for Reports {
     ghost use Rattle.std.specs.VecDeque.{deque_capacity};
     ghost use Rattle.br_model.specs.Table.Limits.{most_reports};
     ghost use Rattle.learn_report.specs.Reports.{Reported};
-    ghost use Rattle.learn_report.specs.Hits.{ascending};
     ghost use Rattle.learn_report.specs.Index.{IsIndex};
 
     ghost Value = { Reported };
 
-    ghost view = { λ r. record { reports = r.ring.items; hits = ascending r.hits.keys } };
+    ghost view = { λ r. record { reports = r.ring.items; hits = r.hits.keys } };
 
     ghost invariant = { λ r. (most_reports ≤ deque_capacity r.ring) × IsIndex r.ring.items r.waiting };
 }
@@ -51,7 +50,7 @@ impl Reports {
         Ok(Reports {
             ring,
             waiting,
-            hits: HashSet::new(alloc),
+            hits: BTreeSet::new(alloc),
         })
     }
 
@@ -93,7 +92,7 @@ impl Reports {
         ensures ok { OnOk result (self.new ≡ record self.old { hits = joined pair_cmp self.old.hits (v, m) }) }
         ensures err { OnErr result (self.new ≡ self.old) }
     {
-        self.hits.insert((v.number(), m.number()))?;
+        self.hits.insert((v, m))?;
         Ok(())
     }
 
@@ -101,15 +100,13 @@ impl Reports {
     pub fn has(&self, v: Vid, m: Mac) -> bool
         ensures { result ≡ has pair_cmp self.now.hits (v, m) }
     {
-        self.hits.contains(&(v.number(), m.number()))
+        self.hits.contains(&(v, m))
     }
 
-    /// Clears the hits. The reports stay, and so does the room for hits.
+    /// Clears the hits. The reports stay.
     pub fn clear(&mut self)
         ensures { self.new ≡ record self.old { hits = [] } }
     {
-        if !self.hits.is_empty() {
-            self.hits.clear();
-        }
+        self.hits.clear();
     }
 }

@@ -14,9 +14,9 @@ use Rattle.br_model.specs.declared.frame.FrameFault.{FrameFault}
 use Rattle.br_model.specs.declared.frame.Head.{Head}
 use Rattle.br_model.specs.declared.steps.Event.TheVariants as events
 use Rattle.br_model.specs.declared.steps.Refusal.{Refusal}
-use Rattle.br_model.specs.declared.steps.Refusal.TheVariants.{HistoryFull, NothingWaiting, NothingToPost, NoSuchPoint, NothingPending, NothingReported}
+use Rattle.br_model.specs.declared.steps.Refusal.TheVariants.{HistoryFull, NothingReported}
 use Rattle.br_model.specs.declared.steps.Step.{Step}
-use Rattle.br_model.specs.declared.steps.Step.TheVariants.{Rx, Cmd, Now, Serve, Hold, Post, Turn, Report, Sweep, Publish}
+use Rattle.br_model.specs.declared.steps.Step.TheVariants.{Rx, Serve, Hold, Post, Report, Publish}
 use Rattle.br_model.specs.declared.transcript.Line.{Line}
 use Rattle.br_model.specs.declared.transcript.Line.TheVariants as lines
 use Rattle.br_model.specs.Control.Learning.{Triple}
@@ -24,15 +24,17 @@ use Rattle.br_model.specs.Control.Reaction.{Reaction}
 use Rattle.br_model.specs.Control.Refusals.{refusal_number}
 use Rattle.br_model.specs.Forward.Shares.{chip_out, mark_of, soft_out}
 use Rattle.br_model.specs.Plane.Chip.{Chip, notes}
-use Rattle.br_model.specs.Plane.ChipSteps.{tells, reports, sweeps, swept, turns, turns_to}
+use Rattle.br_model.specs.Plane.ChipSteps.{tells, reports}
 use Rattle.br_model.specs.Plane.Entering.{chip_of, class_of, enters_as, enters_by, goes_on, waits}
-use Rattle.br_model.specs.Plane.Serving.{held_with, holds, is_point, lets_go, posts, posts_at, posts_held, serves}
+use Rattle.br_model.specs.Plane.Serving.{held_with, holds, lets_go, posts, posts_at, serves}
 use Rattle.br_model.specs.Plane.Steps.{publishes, world_step}
-use Rattle.br_model.specs.Plane.World.{World, Waiting, Holding, Stepped, accepts, after_lines, answered, chip_at, control_lines, done, next_of, reacts, refused, sent, table_at, table_of_chip, with_chip}
+use Rattle.br_model.specs.Plane.World.{World, Waiting, Holding, Stepped, accepts, after_lines, answered, chip_at, control_lines, done, reacts, refused, sent, table_at, table_of_chip, with_chip}
 use Rattle.br_model.specs.Program.LiveRun.{is_report_at, says_full}
 use Rattle.br_model.specs.Table.Domains.{domain_of}
 use Rattle.br_model.specs.Table.Limits.{most_waiting}
 use Rattle.br_model.specs.Wire.Frames.{frame}
+use Rattle.br_model.proofs.PlaneKept.{Ends, ends_refused, ends_done, ends_answered, does-ends}
+use Rattle.br_model.proofs.PlaneWaiting.{posts_at-either}
 use Rattle.live_book.specs.Reading.{is_published, refused_after}
 
 -- lines that tell of no step
@@ -148,59 +150,32 @@ by_posts w f point =
     (by_answered w w (reacts w (events.Sight f.port f.bytes f.head)) refl refl)
 
 by_serves : (w : World) (fs : List Waiting) → Told w.steps w.history (serves w fs)
-by_serves w [] = by_refused w NothingWaiting
+by_serves w [] = by_refused w _
 by_serves w (f ∷ later) = by_posts (record w { waiting = later }) f w.published
 
 by_holds : (w : World) (fs : List Waiting) → Told w.steps w.history (holds w fs)
-by_holds w [] = by_refused w NothingWaiting
+by_holds w [] = by_refused w _
 by_holds w (f ∷ later) = silent w.steps w.history (holds w (f ∷ later)) refl refl (record { all = λ may. refl; same = λ is_report b. refl })
 
-by_posts_held : (w : World) (h : Holding) (point : Option ℕ) → Told w.steps w.history (posts_held w h point)
-by_posts_held w h None = by_posts (lets_go w h.waiting.id) h.waiting h.floor
-by_posts_held w h (Some point) =
-    elim (is_point w h point) as (λ b. Told w.steps w.history (cond {A = Stepped} b (posts (lets_go w h.waiting.id) h.waiting point) (refused w NoSuchPoint))) [
-      | true ↦ by_posts (lets_go w h.waiting.id) h.waiting point
-      | false ↦ by_refused w NoSuchPoint
-    ]
-
 by_posts_at : (w : World) (o : Option Holding) (point : Option ℕ) → Told w.steps w.history (posts_at w o point)
-by_posts_at w None point = by_refused w NothingToPost
-by_posts_at w (Some h) point = by_posts_held w h point
+by_posts_at w o point = posts_at-either (Told w.steps w.history) w (by_refused w) (λ h p. by_posts (lets_go w h.waiting.id) h.waiting p) o point
 
-by_turns_to : (w : World) (c : Chip) (o : Option Change) → Told w.steps w.history (turns_to w c o)
-by_turns_to w c None = by_refused w NothingPending
-by_turns_to w c (Some d) = by_done (turns_to w c (Some d)).0
-
-by_turns : (w : World) (o : Option Chip) → Told w.steps w.history (turns w o)
-by_turns w None = by_refused w NothingPending
-by_turns w (Some c) = by_turns_to w c (next_of w c)
-
-by_tells : (w : World) (c : Chip) (rs : List Triple) → Told w.steps w.history (tells w c rs)
-by_tells w c [] = by_refused w NothingReported
-by_tells w c (x ∷ later) = by_answered w (with_chip w (record c { reports = later })) (reacts w (events.Told x.0 x.1 x.2)) refl refl
-
-by_reports : (w : World) (o : Option Chip) → Told w.steps w.history (reports w o)
-by_reports w None = by_refused w NothingReported
-by_reports w (Some c) = by_tells w c c.reports
-
-by_sweeps : (w : World) (o : Option Chip) → Told w.steps w.history (sweeps w o)
-by_sweeps w None = by_done w
-by_sweeps w (Some c) = by_answered w (with_chip w (record c { hits = [] })) (reacts w (swept w c)) refl refl
+-- where it is of no frame and publishes nothing
+ends_told : (w : World) (s : Step) {y : Stepped} → Ends w s y → Told w.steps w.history y
+ends_told w s (ends_refused why) = by_refused w why
+ends_told w s (ends_done chips stands counts moment) = by_done (record w { chips = chips })
+ends_told w s (ends_answered chips e stands counts now) = by_answered w (record w { chips = chips }) (reacts w e) refl refl
 
 abbrev counted : World → World
 counted w = record w { steps = w.steps + 1 }
 
 pub step_told : (w : World) (s : Step) → Told (w.steps + 1) w.history (world_step w s)
 step_told w (Rx port bytes) = by_enters (record w { steps = w.steps + 1; next = w.next + 1 }) w.next port bytes (frame bytes)
-step_told w (Cmd c) = by_answered (counted w) (counted w) (reacts (counted w) (events.Cmd c)) refl refl
-step_told w (Now moment) = by_answered (counted w) (counted w) (reacts (counted w) (events.Moment moment)) refl refl
 step_told w Serve = by_serves (counted w) w.waiting
 step_told w Hold = by_holds (counted w) w.waiting
 step_told w (Post id point) = by_posts_at (counted w) (held_with w id) point
-step_told w (Turn dom) = by_turns (counted w) (chip_at w dom)
-step_told w (Report dom) = by_reports (counted w) (chip_at w dom)
-step_told w (Sweep dom) = by_sweeps (counted w) (chip_at w dom)
 step_told w Publish = by_done (publishes (counted w) (length w.history))
+step_told w s = ends_told (counted w) s (does-ends (counted w) s)
 
 -- A report's lines tell how it ended.
 
@@ -248,13 +223,5 @@ report_step w dom d true is is_report b own = says_reports (counted w) (chip_at 
 report_step w dom d false is is_report b none = (step_told w (Report d)).kept is_report b none
 
 pub step_reported : (w : World) (dom : ℕ) (s : Step) → Reported w dom s
-step_reported w dom (Rx port bytes) is_report b none = (step_told w (Rx port bytes)).kept is_report b none
-step_reported w dom (Cmd c) is_report b none = (step_told w (Cmd c)).kept is_report b none
-step_reported w dom (Now moment) is_report b none = (step_told w (Now moment)).kept is_report b none
-step_reported w dom Serve is_report b none = (step_told w Serve).kept is_report b none
-step_reported w dom Hold is_report b none = (step_told w Hold).kept is_report b none
-step_reported w dom (Post id point) is_report b none = (step_told w (Post id point)).kept is_report b none
-step_reported w dom (Turn d) is_report b none = (step_told w (Turn d)).kept is_report b none
 step_reported w dom (Report d) is_report b is = report_step w dom d (d == dom) refl is_report b is
-step_reported w dom (Sweep d) is_report b none = (step_told w (Sweep d)).kept is_report b none
-step_reported w dom Publish is_report b none = (step_told w Publish).kept is_report b none
+step_reported w dom s is_report b none = (step_told w s).kept is_report b none

@@ -20,13 +20,8 @@ fn lane_of(step: &Step) -> Option<usize>
 {
     match step {
         Step::Rx { port, .. } => Some(usize::from(port.number()) + 1),
-        Step::Cmd(_) | Step::Now(_) | Step::Sweep(_) => Some(0),
-        Step::Serve
-        | Step::Hold
-        | Step::Post { .. }
-        | Step::Turn(_)
-        | Step::Report(_)
-        | Step::Publish => None,
+        _ if step.is_ordered() => Some(0),
+        _ => None,
     }
 }
 

@@ -5,7 +5,6 @@
 #![tactic(auto)]
 
 mod drained;
-mod kinds;
 mod lanes;
 pub mod laws;
 mod live;

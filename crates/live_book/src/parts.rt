@@ -4,7 +4,6 @@ ghost use Rattle.std.specs.List.{list_all, position_or_len};
 ghost use Rattle.std.specs.Option.{option_map};
 ghost use Rattle.br_model.specs.Program.LiveRun.{is_frame, may_drain, parts_at, ends_with_publish};
 
-use crate::kinds;
 use br_model::steps::Step;
 
 /// How many steps stand before the first frame.
@@ -13,7 +12,7 @@ pub(crate) fn before_frame(steps: &[Step]) -> usize
     ensures within { result ≤ length steps.now }
 {
     for place in 0..steps.len() {
-        if kinds::is_frame(&steps[place]) {
+        if steps[place].is_frame() {
             return place;
         }
     }
@@ -32,7 +31,7 @@ pub(crate) fn first_part(opening: &[Step], steps: &[Step]) -> Option<usize>
         }
         if steps[place] == opening[taken] {
             taken += 1;
-        } else if !kinds::is_publish(&steps[place]) {
+        } else if !steps[place].is_publish() {
             return None;
         }
     }
@@ -49,7 +48,7 @@ pub(crate) fn before_drain(steps: &[Step]) -> usize
     ensures drain { (k : ℕ) → list_all may_drain (drop k steps.now) ≡ nat_le result k }
 {
     let mut place = steps.len();
-    while place > 0 && kinds::may_drain(&steps[place - 1]) {
+    while place > 0 && steps[place - 1].may_drain() {
         place -= 1;
     }
     place
@@ -59,5 +58,5 @@ pub(crate) fn ends_with_publish(steps: &[Step]) -> bool
     ensures { result ≡ ends_with_publish steps.now }
 {
     let count = steps.len();
-    count > 0 && kinds::is_publish(&steps[count - 1])
+    count > 0 && steps[count - 1].is_publish()
 }

@@ -4,7 +4,6 @@ ghost use Rattle.std.specs.List.{list_all};
 ghost use Rattle.transcript_lines.specs.Rows.{expand, expand_row};
 ghost use Rattle.live_book.specs.Reading.{is_published, may_change};
 
-use crate::kinds;
 use br_model::steps::Step;
 use br_model::transcript::Line;
 use transcript_lines::Row;
@@ -13,7 +12,7 @@ fn may_change(steps: &[Step], first: usize, drain: usize, number: u32) -> bool
     ensures { result ≡ may_change steps.now first drain number }
 {
     let number = number as usize;
-    number <= first || drain < number || steps.get(number).is_some_and(kinds::is_publish)
+    number <= first || drain < number || steps.get(number).is_some_and(Step::is_publish)
 }
 
 fn is_line_published(line: &Line, steps: &[Step], first: usize, drain: usize) -> bool

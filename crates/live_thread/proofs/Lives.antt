@@ -3,7 +3,7 @@ use Rattle.std.proofs.Common.{◌≡◌, ℕ, true, false, if◌then◌else◌, 
 use Rattle.std.specs.List.{filter, list_all}
 use Rattle.std.proofs.lemmas.List.Elements.{filter-append}
 use Rattle.br_model.specs.declared.steps.Step.{Step}
-use Rattle.br_model.specs.declared.steps.Step.TheVariants.{Rx, Cmd, Now, Serve, Hold, Post, Turn, Report, Sweep, Publish}
+use Rattle.br_model.specs.declared.steps.Step.TheVariants.{Rx}
 use Rattle.br_model.specs.Plane.Runs.{run}
 use Rattle.br_model.specs.Plane.World.{World}
 use Rattle.br_model.specs.Program.LiveRun.{accepts_changes, frames_at, from_frame, is_drained, is_frame_at, is_live_run, is_ordered, may_drain, until_frame}
@@ -23,27 +23,11 @@ use Rattle.live_thread.proofs.Runs.{at_once, run_more, worlds}
 
 no_frame : (port : ℕ) (s : Step) → may_drain s ≡ true → is_frame_at port s ≡ false
 no_frame port (Rx p bytes) h = absurd (cc)
-no_frame port (Cmd c) h = refl
-no_frame port (Now moment) h = refl
-no_frame port Serve h = refl
-no_frame port Hold h = refl
-no_frame port (Post id point) h = refl
-no_frame port (Turn dom) h = refl
-no_frame port (Report dom) h = refl
-no_frame port (Sweep dom) h = refl
-no_frame port Publish h = refl
+no_frame port s h = refl
 
 no_order : (s : Step) → may_drain s ≡ true → is_ordered s ≡ false
 no_order (Rx p bytes) h = refl
-no_order (Cmd c) h = absurd (cc)
-no_order (Now moment) h = absurd (cc)
-no_order Serve h = refl
-no_order Hold h = refl
-no_order (Post id point) h = refl
-no_order (Turn dom) h = refl
-no_order (Report dom) h = refl
-no_order (Sweep dom) h = absurd (cc)
-no_order Publish h = refl
+no_order s h = cc
 
 no_frames : (port : ℕ) (rest : List Step) → list_all may_drain rest ≡ true → frames_at port rest ≡ []
 no_frames port [] h = refl

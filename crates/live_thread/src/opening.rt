@@ -3,7 +3,7 @@ ghost use Rattle.std.specs.Prelude.{◌≡◌, ◌≤◌, [], length, drop, true
 ghost use Rattle.std.specs.List.{list_all};
 ghost use Rattle.br_model.specs.declared.steps.Step.TheVariants.{Post};
 ghost use Rattle.br_model.specs.Plane.Serving.{held_with};
-ghost use Rattle.br_model.specs.Program.LiveRun.{from_frame, is_frame, until_frame};
+ghost use Rattle.br_model.specs.Program.LiveRun.{from_frame, until_frame};
 ghost use Rattle.br_model.specs.Table.Domains.{chip_domains};
 ghost use Rattle.br_model.specs.Text.LineForms.{comes_by_line};
 ghost use Rattle.plane_record.specs.Pasts.{after, world_of};
@@ -93,12 +93,6 @@ fn do_step<R: Wait>(
     Ok(())
 }
 
-fn is_frame(step: &Step) -> bool
-    ensures { result ≡ is_frame step.now }
-{
-    matches!(step, Step::Rx { .. })
-}
-
 /// Does the steps before the first frame. The answer is how many they are: there the others begin.
 pub fn open<R: Wait>(
     rt: &R,
@@ -117,7 +111,7 @@ pub fn open<R: Wait>(
 {
     for place in 0..steps.len() {
         let step = &steps[place];
-        if is_frame(step) {
+        if step.is_frame() {
             return Ok(place);
         }
         do_step(rt, alloc, ran, seat, step)?;

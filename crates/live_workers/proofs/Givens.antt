@@ -4,7 +4,7 @@ use Rattle.std.proofs.lemmas.Bool.{true≢false}
 use Rattle.std.proofs.lemmas.List.Folds.{list_all-append}
 use Rattle.std.specs.List.{filter, list_all}
 use Rattle.br_model.specs.declared.steps.Step.{Step}
-use Rattle.br_model.specs.declared.steps.Step.TheVariants.{Rx, Cmd, Now, Serve, Hold, Post, Turn, Report, Sweep, Publish}
+use Rattle.br_model.specs.declared.steps.Step.TheVariants.{Rx}
 use Rattle.br_model.specs.Program.LiveRun.{frames_at, from_frame, is_frame, is_frame_at, is_live_run, is_ordered, until_frame}
 use Rattle.br_model.specs.Text.Scenario.{Scenario}
 use Rattle.br_model.specs.Theorems.LiveRuns.{Becomes, Empty, Kept, Taken}
@@ -79,17 +79,13 @@ module _ (p : Step → Bool) where
       left (p x) (list_all p (filter q xs)) (sym (ap (λ (b : Bool). list_all p (if b then x ∷ filter q xs else filter q xs)) is) ∙ all)
 
   -- a step that is taken is one of its port's frames, or of the ordered ones
+  other : (s : Step) (xs : List Step) (b : Bool) → is_frame s ≡ false → is_ordered s ≡ b → list_all p (filter is_ordered (s ∷ xs)) ≡ true → passes s ≡ true
+  other s xs true none is ordered = or-true (not (is_taken s)) (first is_ordered s xs is ordered)
+  other s xs false none is ordered = ap₂ (λ (frame order : Bool). not (frame || order) || p s) none is
+
   here : (s : Step) (xs : List Step) → ((port : ℕ) → list_all p (frames_at port (s ∷ xs)) ≡ true) → list_all p (filter is_ordered (s ∷ xs)) ≡ true → passes s ≡ true
   here (Rx port bytes) xs frames ordered = first (is_frame_at port) (Rx port bytes) xs (same-port port) (frames port)
-  here (Cmd command) xs frames ordered = left (p (Cmd command)) (list_all p (filter is_ordered xs)) ordered
-  here (Now moment) xs frames ordered = left (p (Now moment)) (list_all p (filter is_ordered xs)) ordered
-  here Serve xs frames ordered = refl
-  here Hold xs frames ordered = refl
-  here (Post id point) xs frames ordered = refl
-  here (Turn dom) xs frames ordered = refl
-  here (Report dom) xs frames ordered = refl
-  here (Sweep dom) xs frames ordered = left (p (Sweep dom)) (list_all p (filter is_ordered xs)) ordered
-  here Publish xs frames ordered = refl
+  here s xs frames ordered = other s xs (is_ordered s) refl refl ordered
 
   -- the steps behind the first part
   rest : (xs : List Step) → ((port : ℕ) → list_all p (frames_at port xs) ≡ true) → list_all p (filter is_ordered xs) ≡ true → list_all passes xs ≡ true

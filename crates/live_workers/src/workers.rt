@@ -36,19 +36,6 @@ impl<N: Name> Worker<N> {
     }
 }
 
-fn changes_tables(step: &Step) -> bool {
-    match step {
-        Step::Cmd(_) | Step::Now(_) | Step::Sweep(_) => true,
-        Step::Rx { .. }
-        | Step::Serve
-        | Step::Hold
-        | Step::Post { .. }
-        | Step::Turn(_)
-        | Step::Report(_)
-        | Step::Publish => false,
-    }
-}
-
 /// The bridge is told the oldest reports of the domain's chip, while one waits, and at most so many as a worker takes at once.
 fn report<N: Name, R: Wait>(
     rt: &R,
@@ -122,7 +109,7 @@ impl<'a, N: Name, R: Wait, G: Gate> Work<'a, N, R, G> {
         let end = behind.saturating_add(MOST_AT_ONCE).min(self.steps.len());
         for place in behind..end {
             let step = &self.steps[place];
-            if place > behind && changes_tables(step) {
+            if place > behind && step.is_ordered() {
                 return Ok(place);
             }
             self.enter(core, step)?;

@@ -5,11 +5,12 @@ use Rattle.std.proofs.lemmas.List.Elements.{All-from_recursion}
 use Rattle.std.proofs.lemmas.List.Sums.{fold_push}
 use Rattle.std.specs.Prelude.{◌==◌}
 use Rattle.std.specs.List.{AllByRecursion, All, flat_map, fold, list_any}
+use Rattle.std.specs.Option.{option_map_or}
 use Rattle.br_model.specs.declared.steps.Step.{Step}
-use Rattle.br_model.specs.declared.steps.Step.TheVariants as steps
 use Rattle.br_model.specs.declared.transcript.Line.{Line}
 use Rattle.br_model.specs.declared.transcript.Line.TheVariants as lines
 use Rattle.br_model.specs.Plane.Steps.{world_step}
+use Rattle.br_model.specs.Plane.Traits.{traits}
 use Rattle.br_model.specs.Table.Domains.{host}
 use Rattle.br_model.specs.Table.Setup.{Setup}
 use Rattle.mcast_querier.specs.Election.{other_querier_present_interval, hears, queries_at}
@@ -18,7 +19,7 @@ use Rattle.mcast_querier.specs.Leaving.{IsDue}
 use Rattle.mcast_querier.specs.Querier.{Act, Ascend, Comes, Hears, Queried, QuerierState, acted, after, election, first_querier, heard_from, moment_of, queries}
 use Rattle.mcast_querier.specs.Queries.{query_four, query_six}
 use Rattle.mcast_querier.specs.Runs.{Listening, acts, acts_of, comes_by, entered, first_listening, heard_in, hears_by, is_done, listens, sent}
-use Rattle.mcast_querier.proofs.Moments.{Passes, step-passes}
+use Rattle.mcast_querier.proofs.Moments.{PassesBy, step-passes}
 use Rattle.mcast_querier.proofs.Silence.{address-stays, yields}
 
 all-append : {X : Type 0} (P : X → Type 0) (xs ys : List X) → AllByRecursion P xs → AllByRecursion P ys → AllByRecursion P (xs ++ ys)
@@ -86,21 +87,17 @@ module _ (askers : List (Option Asker)) (n : ℕ) where
   all-heard [] = tt
   all-heard (l ∷ told) = all-append (λ act. moment_of act ≡ n) (heard_in askers n l) (flat_map (heard_in askers n) told) (heard-at l) (all-heard told)
 
-comes-at : (step : Step) (told : List Line) (before after : ℕ) → Passes step (list_any is_done told) before after → AllAt after (comes_by step told) × (before ≤ after)
-comes-at (steps.Rx port bytes) told before after p = (tt, omega (arith, p))
-comes-at (steps.Cmd c) told before after p = (tt, omega (arith, p))
-comes-at (steps.Now moment) told before after p =
-    (elim (list_any is_done told) as (λ b. Passes (steps.Now moment) b before after → AllAt after (cond b (Comes moment ∷ []) []) × (before ≤ after)) [
+named-at : (o : Option ℕ) (told : List Line) (before after : ℕ) → PassesBy o (list_any is_done told) before after
+    → AllAt after (option_map_or (λ (moment : ℕ). cond (list_any is_done told) (Comes moment ∷ []) []) o []) × (before ≤ after)
+named-at None told before after p = (tt, omega (arith, p))
+named-at (Some moment) told before after p =
+    (elim (list_any is_done told) as (λ b. PassesBy (Some moment) b before after → AllAt after (cond b (Comes moment ∷ []) []) × (before ≤ after)) [
       | true ↦ λ p. let le = p.0 in let same = p.1 in ((sym same, tt), omega (arith, le, same))
       | false ↦ λ p. (tt, omega (arith, p))
     ]) p
-comes-at steps.Serve told before after p = (tt, omega (arith, p))
-comes-at steps.Hold told before after p = (tt, omega (arith, p))
-comes-at (steps.Post id point) told before after p = (tt, omega (arith, p))
-comes-at (steps.Turn dom) told before after p = (tt, omega (arith, p))
-comes-at (steps.Report dom) told before after p = (tt, omega (arith, p))
-comes-at (steps.Sweep dom) told before after p = (tt, omega (arith, p))
-comes-at steps.Publish told before after p = (tt, omega (arith, p))
+
+comes-at : (step : Step) (told : List Line) (before after : ℕ) → PassesBy (traits step).moment (list_any is_done told) before after → AllAt after (comes_by step told) × (before ≤ after)
+comes-at step told before after p = named-at (traits step).moment told before after p
 
 -- Runs.
 

@@ -35,23 +35,23 @@ use Rattle.std.proofs.Math.Bool.{or-true}
 use Rattle.br_model.specs.declared.frame.Class.{Class}
 use Rattle.br_model.specs.declared.frame.Class.TheVariants.{Drop, Trap, Copy, Forward}
 use Rattle.br_model.specs.declared.frame.FrameFault.{FrameFault}
-use Rattle.br_model.specs.declared.steps.Refusal.TheVariants.{NoSuchPoint}
 use Rattle.br_model.specs.declared.steps.Step.{Step}
 use Rattle.br_model.specs.declared.steps.Step.TheVariants as steps
 use Rattle.br_model.specs.declared.transcript.Line.{Line}
 use Rattle.br_model.specs.declared.transcript.Line.TheVariants.{Done, Overrun}
-use Rattle.br_model.specs.Control.Learning.{Triple}
 use Rattle.br_model.specs.Forward.Shares.{mark_of}
 use Rattle.br_model.specs.Plane.Chip.{notes, Chip}
-use Rattle.br_model.specs.Plane.ChipSteps.{turns_to, turns, tells as tells_of, reports, swept, sweeps}
 use Rattle.br_model.specs.Plane.Entering.{waits, goes_on, enters_as, class_of, enters_by, chip_of}
-use Rattle.br_model.specs.Plane.Serving.{posts, serves, holds, held_with, lets_go, is_point, posts_held, posts_at}
+use Rattle.br_model.specs.Plane.Serving.{posts, serves, holds, held_with, lets_go, posts_at}
 use Rattle.br_model.specs.Plane.Steps.{world_step}
-use Rattle.br_model.specs.Plane.World.{World, Waiting, Holding, Stepped, chip_at, next_of, table_of_chip, answered, control_lines, reacts, refused, with_chip}
+use Rattle.br_model.specs.Plane.Traits.{traits}
+use Rattle.br_model.specs.Plane.World.{World, Waiting, Holding, Stepped, table_of_chip, answered, control_lines, reacts, refused, with_chip}
 use Rattle.br_model.specs.Table.Domains.{domain_of}
 use Rattle.br_model.specs.Table.Limits.{most_waiting}
 use Rattle.br_model.specs.Wire.Frames.{frame}
 use Rattle.mcast_querier.specs.Runs.{is_done}
+use Rattle.br_model.proofs.PlaneKept.{Ends, ends_refused, ends_done, ends_answered, does-ends, moment_in}
+use Rattle.br_model.proofs.PlaneWaiting.{posts_at-either}
 use Rattle.br_model.proofs.ReactionSteps.{IsKept}
 use Rattle.br_model.proofs.SnoopSteps.{snoops-keeps}
 
@@ -208,71 +208,45 @@ holds-same : (w : World) (fs : List Waiting) → (holds w fs).0.control.now ≡ 
 holds-same w [] = refl
 holds-same w (f ∷ later) = refl
 
-posts_held-same : (w : World) (h : Holding) (point : Option ℕ) → (posts_held w h point).0.control.now ≡ w.control.now
-posts_held-same w h None = posts-same (lets_go w h.waiting.id) h.waiting h.floor
-posts_held-same w h (Some point) =
-    elim (is_point w h point) as (λ b. (cond {A = Stepped} b (posts (lets_go w h.waiting.id) h.waiting point) (refused w NoSuchPoint)).0.control.now ≡ w.control.now) [
-      | true ↦ posts-same (lets_go w h.waiting.id) h.waiting point
-      | false ↦ refl
-    ]
-
 posts_at-same : (w : World) (o : Option Holding) (point : Option ℕ) → (posts_at w o point).0.control.now ≡ w.control.now
-posts_at-same w None point = refl
-posts_at-same w (Some h) point = posts_held-same w h point
+posts_at-same w o point = posts_at-either (λ s. s.0.control.now ≡ w.control.now) w (λ why. refl) (λ h p. posts-same (lets_go w h.waiting.id) h.waiting p) o point
 
-turns_to-same : (w : World) (c : Chip) (o : Option Change) → (turns_to w c o).0.control.now ≡ w.control.now
-turns_to-same w c None = refl
-turns_to-same w c (Some d) = refl
-
-turns-same : (w : World) (o : Option Chip) → (turns w o).0.control.now ≡ w.control.now
-turns-same w None = refl
-turns-same w (Some c) = turns_to-same w c (next_of w c)
-
-tells-same : (w : World) (c : Chip) (reports : List Triple) → (tells_of w c reports).0.control.now ≡ w.control.now
-tells-same w c [] = refl
-tells-same w c (x ∷ later) = answered-same w (with_chip w (record c { reports = later })) (reacts w (Told x.0 x.1 x.2)) (react-leaves w.setup w.history w.control (Told x.0 x.1 x.2))
-
-reports-same : (w : World) (o : Option Chip) → (reports w o).0.control.now ≡ w.control.now
-reports-same w None = refl
-reports-same w (Some c) = tells-same w c c.reports
-
-sweeps-same : (w : World) (o : Option Chip) → (sweeps w o).0.control.now ≡ w.control.now
-sweeps-same w None = refl
-sweeps-same w (Some c) = answered-same w (with_chip w (record c { hits = [] })) (reacts w (swept w c)) (react-leaves w.setup w.history w.control (swept w c))
-
--- What is so of the last moment before and after a step, by whether a line says that it was done.
-abbrev pub Passes : Step → Bool → ℕ → ℕ → Type 0
-Passes (steps.Rx port bytes) done before after = after ≡ before
-Passes (steps.Cmd c) done before after = after ≡ before
-Passes (steps.Now moment) true before after = (before ≤ moment) × (after ≡ moment)
-Passes (steps.Now moment) false before after = after ≡ before
-Passes steps.Serve done before after = after ≡ before
-Passes steps.Hold done before after = after ≡ before
-Passes (steps.Post id point) done before after = after ≡ before
-Passes (steps.Turn dom) done before after = after ≡ before
-Passes (steps.Report dom) done before after = after ≡ before
-Passes (steps.Sweep dom) done before after = after ≡ before
-Passes steps.Publish done before after = after ≡ before
+-- What is so of the last moment before and after a step that names this one or none, by whether a line says that it was done.
+abbrev pub PassesBy : Option ℕ → Bool → ℕ → ℕ → Type 0
+PassesBy None done before after = after ≡ before
+PassesBy (Some moment) true before after = (before ≤ moment) × (after ≡ moment)
+PassesBy (Some moment) false before after = after ≡ before
 
 -- a moment comes, or is refused
-passes : (w : World) (moment : ℕ) (answer : Result Reaction Refusal) → Leaves (λ k. k.now ≡ moment) answer → Leaves (λ k. w.control.now ≤ moment) answer
-    → Passes (steps.Now moment) (list_any is_done (answered w w answer).1) w.control.now (answered w w answer).0.control.now
-passes w moment (Err why) p on = refl
-passes w moment (Ok r) p on = subst (λ b. Passes (steps.Now moment) b w.control.now r.control.now) (sym (is_told (control_lines w.setup.own r.messages))) (on, p)
+passes : (w v : World) (moment : ℕ) (answer : Result Reaction Refusal) → Leaves (λ k. k.now ≡ moment) answer → Leaves (λ k. w.control.now ≤ moment) answer
+    → PassesBy (Some moment) (list_any is_done (answered w v answer).1) w.control.now (answered w v answer).0.control.now
+passes w v moment (Err why) p on = refl
+passes w v moment (Ok r) p on = subst (λ b. PassesBy (Some moment) b w.control.now r.control.now) (sym (is_told (control_lines v.setup.own r.messages))) (on, p)
   where
-    is_told : (ls : List Line) → list_any is_done (ls ++ Done w.steps (length r.changes) ∷ []) ≡ true
-    is_told ls = list_any-append is_done ls (Done w.steps (length r.changes) ∷ []) ∙ or-true (list_any is_done ls)
+    is_told : (ls : List Line) → list_any is_done (ls ++ Done v.steps (length r.changes) ∷ []) ≡ true
+    is_told ls = list_any-append is_done ls (Done v.steps (length r.changes) ∷ []) ∙ or-true (list_any is_done ls)
 
-pub step-passes : (w : World) (step : Step) → Passes step (list_any is_done (world_step w step).1) w.control.now (world_step w step).0.control.now
+-- an event is answered
+event-passes : (w v : World) (e : Event) → PassesBy (moment_in e) (list_any is_done (answered w v (reacts w e)).1) w.control.now (answered w v (reacts w e)).0.control.now
+event-passes w v (Moment moment) = passes w v moment (reacts w (Moment moment)) (react-leaves w.setup w.history w.control (Moment moment)) (react-on w.setup w.history w.control moment)
+event-passes w v e = answered-same w v (reacts w e) (react-leaves w.setup w.history w.control e)
+
+-- nothing passes where nothing is done
+none-passes : (o : Option ℕ) (n : ℕ) → PassesBy o false n n
+none-passes None n = refl
+none-passes (Some moment) n = refl
+
+ends-passes : (w : World) (step : Step) {y : Stepped} → Ends w step y → PassesBy (traits step).moment (list_any is_done y.1) w.control.now y.0.control.now
+ends-passes w step (ends_refused why) = none-passes (traits step).moment w.control.now
+ends-passes w step (ends_done chips stands counts moment) = subst (λ (o : Option ℕ). PassesBy o true w.control.now w.control.now) (sym moment) refl
+ends-passes w step (ends_answered chips e stands counts now) =
+    let v = record w { chips = chips } in
+    subst (λ (o : Option ℕ). PassesBy o (list_any is_done (answered w v (reacts w e)).1) w.control.now (answered w v (reacts w e)).0.control.now) now (event-passes w v e)
+
+pub step-passes : (w : World) (step : Step) → PassesBy (traits step).moment (list_any is_done (world_step w step).1) w.control.now (world_step w step).0.control.now
 step-passes w (steps.Rx port bytes) = enters_as-same (record w { steps = w.steps + 1; next = w.next + 1 }) w.next port bytes (frame bytes)
-step-passes w (steps.Cmd c) = let v = record w { steps = w.steps + 1 } in answered-same v v (reacts v (Cmd c)) (react-leaves w.setup w.history w.control (Cmd c))
-step-passes w (steps.Now moment) =
-    let v = record w { steps = w.steps + 1 } in
-    passes v moment (reacts v (Moment moment)) (react-leaves w.setup w.history w.control (Moment moment)) (react-on w.setup w.history w.control moment)
 step-passes w steps.Serve = serves-same (record w { steps = w.steps + 1 }) w.waiting
 step-passes w steps.Hold = holds-same (record w { steps = w.steps + 1 }) w.waiting
 step-passes w (steps.Post id point) = posts_at-same (record w { steps = w.steps + 1 }) (held_with w id) point
-step-passes w (steps.Turn dom) = turns-same (record w { steps = w.steps + 1 }) (chip_at w dom)
-step-passes w (steps.Report dom) = reports-same (record w { steps = w.steps + 1 }) (chip_at w dom)
-step-passes w (steps.Sweep dom) = sweeps-same (record w { steps = w.steps + 1 }) (chip_at w dom)
 step-passes w steps.Publish = refl
+step-passes w step = let v = record w { steps = w.steps + 1 } in ends-passes v step (does-ends v step)

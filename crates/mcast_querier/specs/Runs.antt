@@ -3,14 +3,15 @@
 use Rattle.std.specs.Prelude.{ℕ, ◌-◌, ◌==◌, Bool, true, false, if◌then◌else◌, List, [], ◌∷◌, ◌++◌, codes, get_or}
 use Rattle.std.specs.Fmt.{decimal}
 use Rattle.std.specs.List.{flat_map, fold, list_any}
+use Rattle.std.specs.Option.{option_map, option_map_or, option_to_list}
 use Rattle.std.specs.declared.option.Option.{Option}
 use Rattle.std.specs.declared.option.Option.TheVariants.{None, Some}
 use Rattle.br_model.specs.declared.steps.Step.{Step}
-use Rattle.br_model.specs.declared.steps.Step.TheVariants as steps
 use Rattle.br_model.specs.declared.transcript.Line.{Line}
 use Rattle.br_model.specs.declared.transcript.Line.TheVariants as lines
 use Rattle.br_model.specs.Data.Digits.{hex_of}
 use Rattle.br_model.specs.Plane.Steps.{world_step}
+use Rattle.br_model.specs.Plane.Traits.{traits}
 use Rattle.br_model.specs.Plane.World.{World, Stepped, first_world}
 use Rattle.br_model.specs.Program.Runs.{setup_of}
 use Rattle.br_model.specs.Table.Domains.{host}
@@ -24,16 +25,7 @@ use Rattle.mcast_querier.specs.Querier.{Act, Comes, Hears, after, first_querier}
 
 -- who asks by the frame that enters by this step, where one does
 abbrev pub entered : Step → List (Option Asker)
-entered (steps.Rx port bytes) = asker_in bytes ∷ []
-entered (steps.Cmd c) = []
-entered (steps.Now moment) = []
-entered steps.Serve = []
-entered steps.Hold = []
-entered (steps.Post id point) = []
-entered (steps.Turn dom) = []
-entered (steps.Report dom) = []
-entered (steps.Sweep dom) = []
-entered steps.Publish = []
+entered step = option_to_list (option_map (λ f. asker_in f.1) (traits step).frame)
 
 abbrev pub hears_by : Option Asker → ℕ → List Act
 hears_by None now = []
@@ -67,16 +59,7 @@ is_done (lines.End steps changes pending waiting) = false
 
 -- the moment that comes by a step with these lines, unless it is refused
 abbrev pub comes_by : Step → List Line → List Act
-comes_by (steps.Rx port bytes) told = []
-comes_by (steps.Cmd c) told = []
-comes_by (steps.Now moment) told = if list_any is_done told then Comes moment ∷ [] else []
-comes_by steps.Serve told = []
-comes_by steps.Hold told = []
-comes_by (steps.Post id point) told = []
-comes_by (steps.Turn dom) told = []
-comes_by (steps.Report dom) told = []
-comes_by (steps.Sweep dom) told = []
-comes_by steps.Publish told = []
+comes_by step told = option_map_or (λ moment. if list_any is_done told then Comes moment ∷ [] else []) (traits step).moment []
 
 -- a run so far: the world, who asks by the frames that entered, and what happened to the querier
 pub record Listening : Type 0 where

@@ -8,3 +8,4 @@ pub mod Search
 pub mod Soonest
 pub mod Sound
 pub mod Views
+pub mod Queriers

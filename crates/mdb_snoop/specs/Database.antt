@@ -17,6 +17,12 @@ use Rattle.br_model.specs.Table.Table.{ip_version}
 abbrev pub memberships : Ends → List Membership
 memberships e = keys e.groups
 
+-- what is known of groups, router ports and queriers, of which none ends
+pub record Known : Type 0 where
+  pub groups : List Membership
+  pub routers : List ℕ
+  pub queriers : List ℕ
+
 -- the end of a membership that is joined: one that was made by command has none
 abbrev pub end_joined : Option (Option ℕ) → Option ℕ → Option ℕ
 end_joined None end = end

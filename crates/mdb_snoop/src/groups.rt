@@ -9,6 +9,7 @@ ghost use Rattle.mdb_snoop.specs.Database.{pairs_of_port, ports_in};
 ghost use Rattle.mdb_snoop.specs.Places.{has_some};
 ghost use Rattle.port_sets.specs.Numbers.{has_number};
 
+use crate::ended::Pairs;
 use crate::ends::NoEnds;
 use crate::port_counts::PortCounts;
 use crate::sections::Section;
@@ -69,6 +70,21 @@ impl Groups {
         let is_new = !sections::has_member(&self.sections, &(v, g), p);
         self.counts.add(p, is_new);
         sections::join(&mut self.sections, (v, g), p, None);
+    }
+
+    /// Whether the port is a member of the group in the VLAN.
+    pub fn has(&self, v: Vid, g: Group, p: Port) -> bool
+        ensures { result ≡ has membership_cmp self.now (v, g, p) }
+    {
+        sections::has_member(&self.sections, &(v, g), p)
+    }
+
+    /// The groups in VLANs of which the port is a member.
+    pub fn of_port(&self, alloc: Global, p: Port) -> Result<Pairs, NoMemory>
+        ensures { IfOk result (λ pairs. pairs ≡ pairs_of_port self.now p) }
+    {
+        let pairs = sections::of_port(alloc, &self.sections, p)?;
+        Ok(Pairs::of(pairs))
     }
 
     /// Says whether it was there.

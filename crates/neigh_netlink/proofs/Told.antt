@@ -14,7 +14,7 @@ use Rattle.br_model.specs.declared.change.Kind.{Kind}
 use Rattle.br_model.specs.declared.change.Update.{Update}
 use Rattle.br_model.specs.declared.domains.Edition.{Edition}
 use Rattle.br_model.specs.declared.steps.Step.{Step}
-use Rattle.br_model.specs.declared.steps.Step.TheVariants.{Rx, Cmd, Now, Serve, Hold, Post, Turn, Report, Sweep, Publish}
+use Rattle.br_model.specs.declared.steps.Step.TheVariants.{Turn}
 use Rattle.br_model.specs.Data.Maps.{pair_cmp, get, put, without}
 use Rattle.br_model.specs.Plane.Chip.{Chip, applies, chip_in, put_chip}
 use Rattle.br_model.specs.Plane.ChipSteps.{turns, turns_to}
@@ -400,16 +400,8 @@ module _ (w : World) (step : Step) (k : IsWorld w) (is : (dom : ℕ) → applied
 -- Each step.
 
 step-tells : (w : World) (t : Neighbours) (step : Step) → IsWorld w → TellsWorld w t → TellsWorld (world_step w step).0 (fold after_message t (messages_in w step))
-step-tells w t (Rx port bytes) k e = accepted-tells w (Rx port bytes) k (λ dom. refl) t e
-step-tells w t (Cmd c) k e = accepted-tells w (Cmd c) k (λ dom. refl) t e
-step-tells w t (Now moment) k e = accepted-tells w (Now moment) k (λ dom. refl) t e
-step-tells w t Serve k e = accepted-tells w Serve k (λ dom. refl) t e
-step-tells w t Hold k e = accepted-tells w Hold k (λ dom. refl) t e
-step-tells w t (Post id point) k e = accepted-tells w (Post id point) k (λ dom. refl) t e
 step-tells w t (Turn dom) k e = turns-tell w dom (chip_at w dom) t refl e
-step-tells w t (Report dom) k e = accepted-tells w (Report dom) k (λ dom. refl) t e
-step-tells w t (Sweep dom) k e = accepted-tells w (Sweep dom) k (λ dom. refl) t e
-step-tells w t Publish k e = accepted-tells w Publish k (λ dom. refl) t e
+step-tells w t step k e = accepted-tells w step k (λ dom. refl) t e
 
 -- Runs.
 

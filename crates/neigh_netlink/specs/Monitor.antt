@@ -10,11 +10,11 @@ use Rattle.br_model.specs.declared.change.Change.{Change}
 use Rattle.br_model.specs.declared.change.Kind.{Kind}
 use Rattle.br_model.specs.declared.domains.Edition.{Edition}
 use Rattle.br_model.specs.declared.steps.Step.{Step}
-use Rattle.br_model.specs.declared.steps.Step.TheVariants.{Rx, Cmd, Now, Serve, Hold, Post, Turn, Report, Sweep, Publish}
 use Rattle.br_model.specs.Data.Digits.{hex_of}
 use Rattle.br_model.specs.Data.Maps.{pair_cmp, get}
 use Rattle.br_model.specs.Plane.Chip.{Chip}
 use Rattle.br_model.specs.Plane.Steps.{world_step}
+use Rattle.br_model.specs.Plane.Traits.{traits}
 use Rattle.br_model.specs.Plane.World.{World, first_world, chip_at, next_of}
 use Rattle.br_model.specs.Program.Runs.{setup_of}
 use Rattle.br_model.specs.Table.Change.{address_part}
@@ -81,16 +81,7 @@ abbrev pub accepted : World → Step → List Neigh
 accepted w step = messages_of w.setup.domains.edition w.history (accepted_in w step)
 
 abbrev pub messages_in : World → Step → List Neigh
-messages_in w (Rx port bytes) = accepted w (Rx port bytes)
-messages_in w (Cmd c) = accepted w (Cmd c)
-messages_in w (Now moment) = accepted w (Now moment)
-messages_in w Serve = accepted w Serve
-messages_in w Hold = accepted w Hold
-messages_in w (Post id point) = accepted w (Post id point)
-messages_in w (Turn dom) = option_to_list (turned w (chip_at w dom))
-messages_in w (Report dom) = accepted w (Report dom)
-messages_in w (Sweep dom) = accepted w (Sweep dom)
-messages_in w Publish = accepted w Publish
+messages_in w step = option_map_or (λ dom. option_to_list (turned w (chip_at w dom))) (traits step).turn (accepted w step)
 
 abbrev pub monitors : World × List Neigh → Step → World × List Neigh
 monitors x step = ((world_step x.0 step).0, x.1 ++ messages_in x.0 step)

@@ -1,4 +1,4 @@
-//! Entries by VLAN and address with the tickets of their last changes, in cells with open addressing.
+//! Entries by VLAN and address with the tickets of their last changes, in a hash map.
 ghost use Rattle.std.specs.Prelude.{◌≡◌, ◌≢◌, ◌<◌, ◌^◌, [], None, IfOk, length};
 ghost use Rattle.br_model.specs.Data.Maps.{pair_cmp, get, put, without};
 ghost use Rattle.open_addressing.specs.Pairs.{by_pair, packed};
@@ -7,7 +7,7 @@ use crate::NoMemory;
 use crate::entries::Key;
 use br_model::change::Kind;
 use br_model::numbers::Port;
-use open_addressing::map::Columned;
+use open_addressing::map::Numbered;
 use std::alloc::Global;
 
 /// Of an entry: the ticket of its last change, its port and its kind.
@@ -21,7 +21,7 @@ pub struct Last {
 /// How far apart the numbers of one address in two VLANs that follow one another are.
 const VLAN_STEP: u64 = 1 << 48;
 
-/// What stands in cells before they are used.
+/// What no key has.
 const BLANK: Last = Last {
     ticket: 0,
     port: Port::HOST,
@@ -39,22 +39,22 @@ fn pack(key: &Key) -> u64
 }
 
 /// No entry, and room for so many.
-pub(crate) fn none(alloc: Global, room: usize) -> Result<Columned<Last>, NoMemory>
+pub(crate) fn none(alloc: Global, room: usize) -> Result<Numbered<Last>, NoMemory>
     ensures entries { IfOk result (λ lasts. by_pair lasts.entries ≡ []) }
     ensures room { IfOk result (λ lasts. lasts.room ≡ room) }
 {
-    Columned::make(alloc, room, BLANK)
+    Numbered::make(alloc, room, BLANK)
 }
 
 /// What stands at the key.
-pub(crate) fn find(lasts: &Columned<Last>, key: &Key) -> Option<Last>
+pub(crate) fn find(lasts: &Numbered<Last>, key: &Key) -> Option<Last>
     ensures { result ≡ get pair_cmp (by_pair lasts.now.entries) key.now }
 {
     lasts.get(&pack(key))
 }
 
 /// Puts an entry at the key. Where none is there, there is to be room for it.
-pub(crate) fn put(lasts: &mut Columned<Last>, key: &Key, last: Last)
+pub(crate) fn put(lasts: &mut Numbered<Last>, key: &Key, last: Last)
     requires { get pair_cmp (by_pair lasts.old.entries) key.now ≡ None → length (by_pair lasts.old.entries) < lasts.old.room }
     ensures entries { by_pair lasts.new.entries ≡ put pair_cmp (by_pair lasts.old.entries) key.now last }
     ensures room { lasts.new.room ≡ lasts.old.room }
@@ -63,7 +63,7 @@ pub(crate) fn put(lasts: &mut Columned<Last>, key: &Key, last: Last)
 }
 
 /// Takes out the entry at the key, if one is there.
-pub(crate) fn take(lasts: &mut Columned<Last>, key: &Key) -> Option<Last>
+pub(crate) fn take(lasts: &mut Numbered<Last>, key: &Key) -> Option<Last>
     ensures entry { result ≡ get pair_cmp (by_pair lasts.old.entries) key.now }
     ensures entries { by_pair lasts.new.entries ≡ without pair_cmp (by_pair lasts.old.entries) key.now }
     ensures room { lasts.new.room ≡ lasts.old.room }

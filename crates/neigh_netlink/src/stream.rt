@@ -18,7 +18,7 @@ use br_model::change::{Change, Kind, Update};
 use br_model::domains::Domains;
 use br_model::limits::MOST_ADDRESSES;
 use br_model::numbers::{Dom, Port};
-use open_addressing::map::Columned;
+use open_addressing::map::Numbered;
 use std::alloc::Global;
 use std::marker::Model;
 
@@ -29,7 +29,7 @@ pub struct Stream {
     domains: Domains,
     count: u32,
     // It has its room from the beginning.
-    lasts: Columned<Last>,
+    lasts: Numbered<Last>,
 }
 
 impl Model for Stream {
@@ -87,7 +87,7 @@ fn message(new: bool, ticket: u32, key: &Key, port: Port, kind: Kind, offload: b
 }
 
 // A change under this ticket, if it is of an entry. Where it puts one at a new key, there is to be room for it.
-fn change(lasts: &mut Columned<Last>, ticket: u32, change: &Change) -> Option<Neigh>
+fn change(lasts: &mut Numbered<Last>, ticket: u32, change: &Change) -> Option<Neigh>
     requires { PutsWithin (by_pair lasts.old.entries) lasts.old.room (address_part change.now) }
     ensures entries { by_pair lasts.new.entries ≡ entries_after ticket (by_pair lasts.old.entries) (address_part change.now) }
     ensures room { lasts.new.room ≡ lasts.old.room }

@@ -1,31 +1,14 @@
 -- A finite map's cells, as they change.
-use Rattle.std.proofs.Common.{◌≡◌, ◌≢◌, ℕ, zero, suc, ◌+◌, ◌-◌, ◌<◌, ◌≤◌, Bool, true, false, eqb, not, cond, Option, None, Some, List, [], ◌∷◌, length, get_or, set, count_by, find, replicate, is_none, is_some, IsPermutation, refl, sym, ap, subst, ◌∙◌, ⊎_elim, inl, inr, ◌⊎◌, arith}
-use Rattle.std.proofs.lemmas.Bool.{eqb-true, ne_eqb, eq-eqb, cases_lt}
-use Rattle.std.proofs.lemmas.List.{get_or_default}
-use Rattle.std.proofs.lemmas.List.Sorted.{sum_by-IsPermutation}
+use Rattle.std.proofs.Common.{◌≡◌, ◌≢◌, ℕ, zero, suc, ◌+◌, ◌-◌, ◌<◌, ◌≤◌, Bool, true, false, eqb, not, cond, Option, None, Some, List, [], ◌∷◌, length, get_or, set, count_by, find, replicate, is_some, refl, sym, ap, subst, ◌∙◌, ⊎_elim, inl, inr, ◌⊎◌, arith}
+use Rattle.std.proofs.lemmas.Bool.{eqb-true, ne_eqb, eq-eqb}
+use Rattle.std.proofs.lemmas.List.{get_or_default, length-set, length-replicate}
 use Rattle.std.proofs.lemmas.List.Sums.{sum_by-cons}
-use Rattle.open_addressing.specs.Circle.{key_in, IsTable}
+use Rattle.open_addressing.specs.Hashed.{key_in}
 use Rattle.open_addressing.specs.Zipped.{key_of, value_of, cell_of}
 use Rattle.open_addressing.specs.Lookups.{has, IsApart, is_used}
-use Rattle.open_addressing.specs.Finite.{in_cell, value_at, IsSound}
-use Rattle.open_addressing.proofs.Lookups.{by_test, found, find-at, find-none, find-set, found-none, find-permutation, count-set, count-pos}
+use Rattle.open_addressing.specs.Finite.{in_cell, value_at, AreCells}
+use Rattle.open_addressing.proofs.Lookups.{by_test, found, find-at, find-none, find-set, found-none, count-set, count-pos}
 use Rattle.open_addressing.proofs.Zipped.{key_of-cell, value_of-cell}
-use Rattle.open_addressing.proofs.Tables.{table-over}
-
--- some cell does not pass
-pub some_fails : {Cell : Type 0} (p : Cell → Bool) (cells : List Cell) (d : Cell) → count_by p cells < length cells → (x : ℕ) × (x < length cells) × (p (get_or cells x d) ≡ false)
-some_fails p [] d h = absurd (omega arith)
-some_fails p (c ∷ cs) d h =
-    let all = sum_by-cons (λ x. cond (p x) 1 0) c cs in
-    by_test (p c)
-    (λ yes.
-    let one : cond {A = ℕ} (p c) 1 0 ≡ 1 = ap (λ b. cond {A = ℕ} b 1 0) yes in
-    let r = some_fails p cs d (omega arith) in
-    (suc r.0, omega (arith, r.1), r.2))
-    (λ no. (0, omega arith, no))
-
-pub not_used : (k : ℕ) → not (eqb k 0) ≡ false → k ≡ 0
-not_used k e = by_test (eqb k 0) (eqb-true k 0) (λ no. (let e' : true ≡ false = sym (ap not no) ∙ e in absurd (cc)))
 
 is_some_key : (k : ℕ) → k ≢ 0 → not (eqb k 0) ≡ true
 is_some_key k some = ap not (ne_eqb k 0 some)
@@ -101,61 +84,57 @@ module _ {V : Type 0} where
       (λ yes. ap (λ b. in_cell (cond b None (find (has key_of q) cells))) yes ∙ sym (ap (λ b. cond b None (value_at cells q)) yes))
       (λ no. ap (λ b. in_cell (cond b None (find (has key_of q) cells))) no ∙ sym (ap (λ b. cond b None (value_at cells q)) no))
 
-  module _ (hash : ℕ → ℕ) (bits used room : ℕ) (cells : List (Option (ℕ × V))) (sound : IsSound hash bits used room cells) where
+  module _ (used room : ℕ) (cells : List (Option (ℕ × V))) (sound : AreCells used room cells) where
     -- a value is written over that of its key
-    pub sound-over : (i : ℕ) (c : Option (ℕ × V)) → i < length cells → key_of c ≢ 0 → key_in key_of None cells i ≡ key_of c
-        → IsSound hash bits used room (set cells i c) × ((q : ℕ) → q ≢ 0 → value_at (set cells i c) q ≡ cond (eqb (key_of c) q) (value_of c) (value_at cells q))
-    sound-over i c h some same =
+    cells-over : (i : ℕ) (c : Option (ℕ × V)) → i < length cells → key_in key_of None cells i ≡ key_of c
+        → AreCells used room (set cells i c) × ((q : ℕ) → q ≢ 0 → value_at (set cells i c) q ≡ cond (eqb (key_of c) q) (value_of c) (value_at cells q))
+    cells-over i c h same =
         let apart' = apart-write cells i c sound.apart h (inl same) in
         let all = count-set (is_used key_of) cells i c None h in
-        let both : cond {A = ℕ} (is_used key_of (get_or cells i None)) 1 0 ≡ cond {A = ℕ} (is_used key_of c) 1 0 = ap (λ k. cond {A = ℕ} (not (eqb k 0)) 1 0) same in (
+        let both : cond {A = ℕ} (is_used key_of (get_or cells i None)) 1 0 ≡ cond {A = ℕ} (is_used key_of c) 1 0 = ap (λ k. cond {A = ℕ} (not (eqb k 0)) 1 0) same in
+        let long = length-set cells i c in (
           record {
-            table = table-over hash key_of None refl bits cells sound.table i c h same;
             apart = apart';
             counted = omega (arith, sound.counted);
             within = sound.within;
-            spare = sound.spare;
+            sized = omega (arith, sound.sized);
           },
           value-write cells i c sound.apart apart' h (inl same),
         )
 
     -- a new key is put into an empty cell
-    pub sound-new : (i : ℕ) (c : Option (ℕ × V)) → i < length cells → key_of c ≢ 0 → key_in key_of None cells i ≡ 0 → ((x : ℕ) → x < length cells → key_in key_of None cells x ≢ key_of c)
-        → used < room → IsTable hash bits key_of None (set cells i c)
-        → IsSound hash bits (used + 1) room (set cells i c) × ((q : ℕ) → q ≢ 0 → value_at (set cells i c) q ≡ cond (eqb (key_of c) q) (value_of c) (value_at cells q))
-    sound-new i c h some empty none roomy table =
+    cells-new : (i : ℕ) (c : Option (ℕ × V)) → i < length cells → key_of c ≢ 0 → key_in key_of None cells i ≡ 0 → ((x : ℕ) → x < length cells → key_in key_of None cells x ≢ key_of c)
+        → used < room → AreCells (used + 1) room (set cells i c) × ((q : ℕ) → q ≢ 0 → value_at (set cells i c) q ≡ cond (eqb (key_of c) q) (value_of c) (value_at cells q))
+    cells-new i c h some empty none roomy =
         let apart' = apart-write cells i c sound.apart h (inr none) in
         let all = count-set (is_used key_of) cells i c None h in
         let before : cond {A = ℕ} (is_used key_of (get_or cells i None)) 1 0 ≡ 0 = ap (λ k. cond {A = ℕ} (not (eqb k 0)) 1 0) empty in
-        let after : cond {A = ℕ} (is_used key_of c) 1 0 ≡ 1 = ap (λ b. cond {A = ℕ} b 1 0) (is_some_key (key_of c) some) in (
+        let after : cond {A = ℕ} (is_used key_of c) 1 0 ≡ 1 = ap (λ b. cond {A = ℕ} b 1 0) (is_some_key (key_of c) some) in
+        let long = length-set cells i c in (
           record {
-            table = table;
             apart = apart';
             counted = omega (arith, sound.counted);
             within = omega arith;
-            spare = sound.spare;
+            sized = omega (arith, sound.sized);
           },
           value-write cells i c sound.apart apart' h (inr empty),
         )
 
     -- a key is taken out
-    pub sound-out : (i used' : ℕ) (new : List (Option (ℕ × V))) → i < length cells → key_in key_of None cells i ≢ 0 → IsPermutation (set cells i None) new → used' ≡ used - 1 → IsTable hash bits key_of None new
-        → IsSound hash bits used' room new × ((q : ℕ) → q ≢ 0 → value_at new q ≡ cond (eqb (key_in key_of None cells i) q) None (value_at cells q))
-    sound-out i used' new h some same less table =
+    pub cells-out : (i used' : ℕ) → i < length cells → key_in key_of None cells i ≢ 0 → used' ≡ used - 1
+        → AreCells used' room (set cells i None) × ((q : ℕ) → q ≢ 0 → value_at (set cells i None) q ≡ cond (eqb (key_in key_of None cells i) q) None (value_at cells q))
+    cells-out i used' h some less =
         let some_one = count-pos (is_used key_of) cells i None h (is_some_key (key_in key_of None cells i) some) in
-        let mid = set cells i None in
-        let apart' = apart-clear cells i sound.apart h in
         let all = count-set (is_used key_of) cells i None None h in
         let before : cond {A = ℕ} (is_used key_of (get_or cells i None)) 1 0 ≡ 1 = ap (λ b. cond {A = ℕ} b 1 0) (is_some_key (key_in key_of None cells i) some) in
-        let counts : count_by (is_used key_of) new ≡ count_by (is_used key_of) mid = sum_by-IsPermutation (λ c. cond (is_used key_of c) 1 0) mid new same in (
+        let long = length-set cells i None in (
           record {
-            table = table;
-            apart = λ q qs. (let e : count_by (has key_of q) new ≡ count_by (has key_of q) mid = sum_by-IsPermutation (λ c. cond (has key_of q c) 1 0) mid new same in let a = apart' q qs in omega arith);
+            apart = apart-clear cells i sound.apart h;
             counted = omega (arith, sound.counted);
             within = omega (arith, sound.within);
-            spare = sound.spare;
+            sized = omega (arith, sound.sized);
           },
-          λ q qs. ap in_cell (find-permutation (has key_of q) mid new same (apart' q qs)) ∙ value-clear cells i sound.apart h q qs,
+          value-clear cells i sound.apart h,
         )
 
     pub used-pos : (i : ℕ) → i < length cells → key_in key_of None cells i ≢ 0 → 0 < used
@@ -163,33 +142,22 @@ module _ {V : Type 0} where
         let one = count-pos (is_used key_of) cells i None h (is_some_key (key_in key_of None cells i) some) in
         omega (arith, sound.counted)
 
-    -- some cell is empty
-    pub sound-room : used < room → (x : ℕ) × (x < length cells) × (key_in key_of None cells x ≡ 0)
-    sound-room roomy =
-        let r = some_fails (is_used key_of) cells None (omega (arith, sound.counted, sound.within, sound.spare, sound.table.sized)) in
-        (r.0, r.1, not_used (key_in key_of None cells r.0) r.2)
-
-    pub stop-within : used < room → (p : ℕ) → (length cells ≤ p → (x : ℕ) → x < length cells → key_in key_of None cells x ≢ 0) → p < length cells
-    stop-within roomy p full =
-        let free = sound-room roomy in
-        ⊎_elim (λ (h : p < length cells). h) (λ (h : length cells ≤ p). absurd (full h free.0 free.1 free.2)) (cases_lt p (length cells))
-
     pub put-over : (i k : ℕ) (v : V) (new : List (Option (ℕ × V))) → i < length cells → k ≢ 0 → key_in key_of None cells i ≡ k → new ≡ set cells i (cell_of k v)
-        → IsSound hash bits used room new × ((q : ℕ) → q ≢ 0 → value_at new q ≡ cond (eqb k q) (Some v) (value_at cells q))
+        → AreCells used room new × ((q : ℕ) → q ≢ 0 → value_at new q ≡ cond (eqb k q) (Some v) (value_at cells q))
     put-over i k v new h some same is =
         let key = key_of-cell k v in
-        let r = sound-over i (cell_of k v) h (λ e. some (sym key ∙ e)) (same ∙ sym key) in (
-          subst (IsSound hash bits used room) (sym is) r.0,
+        let r = cells-over i (cell_of k v) h (same ∙ sym key) in (
+          subst (AreCells used room) (sym is) r.0,
           λ q qs. ap (λ (cs : List (Option (ℕ × V))). value_at cs q) is ∙ r.1 q qs ∙ (λ t. cond (eqb (key t) q) (value_of-cell k v some t) (value_at cells q)),
         )
 
     pub put-new : (i k : ℕ) (v : V) (new : List (Option (ℕ × V))) → i < length cells → k ≢ 0 → key_in key_of None cells i ≡ 0 → ((x : ℕ) → x < length cells → key_in key_of None cells x ≢ k)
-        → used < room → ((c : Option (ℕ × V)) → key_of c ≡ k → IsTable hash bits key_of None (set cells i c)) → new ≡ set cells i (cell_of k v)
-        → IsSound hash bits (used + 1) room new × ((q : ℕ) → q ≢ 0 → value_at new q ≡ cond (eqb k q) (Some v) (value_at cells q))
-    put-new i k v new h some empty none roomy table is =
+        → used < room → new ≡ set cells i (cell_of k v)
+        → AreCells (used + 1) room new × ((q : ℕ) → q ≢ 0 → value_at new q ≡ cond (eqb k q) (Some v) (value_at cells q))
+    put-new i k v new h some empty none roomy is =
         let key = key_of-cell k v in
-        let r = sound-new i (cell_of k v) h (λ e. some (sym key ∙ e)) empty (λ x xn e. none x xn (e ∙ key)) roomy (table (cell_of k v) key) in (
-          subst (IsSound hash bits (used + 1) room) (sym is) r.0,
+        let r = cells-new i (cell_of k v) h (λ e. some (sym key ∙ e)) empty (λ x xn e. none x xn (e ∙ key)) roomy in (
+          subst (AreCells (used + 1) room) (sym is) r.0,
           λ q qs. ap (λ (cs : List (Option (ℕ × V))). value_at cs q) is ∙ r.1 q qs ∙ (λ t. cond (eqb (key t) q) (value_of-cell k v some t) (value_at cells q)),
         )
 
@@ -211,6 +179,21 @@ module _ {V : Type 0} where
   is_some-found None some = absurd (some refl)
   is_some-found (Some e) some = refl
 
-  pub one_if : (o : Option V) (b : Bool) → is_some o ≡ b → (cond {A = ℕ} (is_some o) 1 0 ≡ cond b 1 0) × (cond {A = ℕ} (is_none o) 1 0 ≡ cond b 0 1)
-  one_if None b is = (ap (λ s. cond {A = ℕ} s 1 0) is, ap (λ s. cond {A = ℕ} s 0 1) is)
-  one_if (Some x) b is = (ap (λ s. cond {A = ℕ} s 1 0) is, ap (λ s. cond {A = ℕ} s 0 1) is)
+  -- cells that hold nothing
+  pub cells-none : (room count : ℕ) (cells : List (Option (ℕ × V))) → room ≤ count → cells ≡ replicate count None → AreCells 0 room cells
+  cells-none room count cells roomy is =
+      let none : (p : Option (ℕ × V) → Bool) → p None ≡ false → count_by p cells ≡ 0 = λ p no. ap (count_by p) is ∙ blank p no count in
+      record {
+        apart = λ q some. (let n = none (has key_of q) (ne_eqb 0 q (λ z. some (sym z))) in omega arith);
+        counted = none (is_used key_of) (ap not (eq-eqb 0 0 refl));
+        within = omega arith;
+        sized = (let long = ap length is ∙ length-replicate count None in omega arith);
+      }
+    where
+      blank : (p : Option (ℕ × V) → Bool) → p None ≡ false → (n : ℕ) → count_by p (replicate n None) ≡ 0
+      blank p no zero = refl
+      blank p no (suc n) =
+          let all = sum_by-cons (λ c. cond {A = ℕ} (p c) 1 0) None (replicate n None) in
+          let here : cond {A = ℕ} (p None) 1 0 ≡ 0 = ap (λ b. cond {A = ℕ} b 1 0) no in
+          let rest = blank p no n in
+          omega arith

@@ -1,16 +1,16 @@
 -- The least number of cells is that of their entries, whatever their order.
-use Rattle.std.proofs.Common.{◌≡◌, ◌≢◌, ℕ, zero, suc, ◌+◌, ◌<◌, ◌≤◌, cond, Option, None, Some, List, [], ◌∷◌, length, get_or, take, refl, sym, ap, ◌∙◌, arith}
-use Rattle.std.proofs.Math.Seq.{take-length}
-use Rattle.std.proofs.lemmas.List.{get_or_default}
+use Rattle.std.proofs.Common.{◌≡◌, ◌≢◌, ℕ, zero, suc, ◌+◌, ◌<◌, ◌≤◌, cond, Option, None, Some, List, [], ◌∷◌, length, map, get_or, take, refl, sym, ap, ◌∙◌, arith}
 use Rattle.std.specs.Ordering.{is_eq, nat_cmp}
 use Rattle.std.specs.declared.cmp.Ordering.TheVariants.{Less, Equal, Greater}
 use Rattle.std.specs.FinMap.Entries.{find, put, by_order}
-use Rattle.open_addressing.specs.Zipped.{key_of, cell_of, cells_of, AreFree}
+use Rattle.lists.specs.Padded.{padded}
+use Rattle.std.proofs.lemmas.List.{length-map}
+use Rattle.open_addressing.specs.Zipped.{key_of, cell_of, pair_cell}
 use Rattle.open_addressing.specs.Lookups.{IsApart}
 use Rattle.open_addressing.specs.Finite.{entries_of}
 use Rattle.open_addressing.specs.Least.{smaller, least, number_with, number_if, least_in}
 use Rattle.open_addressing.proofs.Entries.{apart-tail, alone}
-use Rattle.open_addressing.proofs.Zipped.{within-keys, cell_is, key_is, past_free}
+use Rattle.open_addressing.proofs.Zipped.{over-padded, pairs-padded}
 
 smaller-none : (a : Option ℕ) → smaller a None ≡ a
 smaller-none None = refl
@@ -30,24 +30,17 @@ smaller-swap (Some a) (Some b) (Some c) = ap Some (omega arith)
 
 module _ {V : Type 0} (f : V → Option ℕ) where
   -- one cell more
-  least_in-next : (cs : List (Option (ℕ × V))) (i : ℕ) → i < length cs → least_in f (take (i + 1) cs) ≡ smaller (least_in f (take i cs)) (number_if f (get_or cs i None))
+  pub least_in-next : (cs : List (Option (ℕ × V))) (i : ℕ) → i < length cs → least_in f (take (i + 1) cs) ≡ smaller (least_in f (take i cs)) (number_if f (get_or cs i None))
   least_in-next [] i h = absurd (omega arith)
   least_in-next (c ∷ cs) zero h = smaller-none (number_if f c)
   least_in-next (c ∷ cs) (suc i) h =
       ap (λ n. least_in f (take n (c ∷ cs))) (let e : suc i + 1 ≡ suc (i + 1) = omega arith in e)
       ∙ ap (smaller (number_if f c)) (least_in-next cs i (omega arith)) ∙ smaller-assoc (number_if f c) (least_in f (take i cs)) (number_if f (get_or cs i None))
 
-  -- the least up to the next cell that may hold a key, and with it
-  pub least_in-past : (cs : List (Option (ℕ × V))) (start i : ℕ) → start ≤ i → i < length cs → AreFree cs start i
-      → least_in f (take (i + 1) cs) ≡ smaller (least_in f (take start cs)) (number_if f (get_or cs i None))
-  least_in-past cs start i h within free =
-      least_in-next cs i within
-      ∙ ap (λ n. smaller n (number_if f (get_or cs i None))) (past_free (least_in f) (λ c n. smaller (number_if f c) n) (λ c cs. refl) (λ n. refl) cs start i h free)
-
-  -- and where none is left
-  pub least_in-end : (cs : List (Option (ℕ × V))) (start : ℕ) → start ≤ length cs → AreFree cs start (length cs) → least_in f (take start cs) ≡ least_in f cs
-  least_in-end cs start h free =
-      sym (past_free (least_in f) (λ c n. smaller (number_if f c) n) (λ c cs. refl) (λ n. refl) cs start (length cs) h free) ∙ ap (least_in f) (take-length cs)
+  pub least-padded : (n : ℕ) (es : List (ℕ × V)) (v : V) → length es ≤ n → least_in f (map pair_cell (padded (0, v) n es)) ≡ least_in f (map pair_cell es)
+  least-padded n es v h =
+      ap (least_in f) (pairs-padded n es v)
+      ∙ over-padded (least_in f) (λ c m. smaller (number_if f c) m) (λ c cs. refl) (λ m. refl) n (map pair_cell es) (let long = length-map es pair_cell in omega arith)
 
   least-put : (k : ℕ) (v : V) (es : List (ℕ × V)) → find nat_cmp k es ≡ None → least f (put nat_cmp k v es) ≡ smaller (f v) (least f es)
   least-put k v [] none = refl
@@ -77,17 +70,9 @@ module _ {V : Type 0} (f : V → Option ℕ) where
   number_with-some zero v some = absurd (some refl)
   number_with-some (suc k) v some = refl
 
-  -- what is read of a used cell
-  pub number_if-used : (ks : List ℕ) (vs : List V) (i k : ℕ) (v : V) (n : Option ℕ) → i < length (cells_of ks vs) → k ≡ get_or ks i k → v ≡ get_or vs i v → k ≢ 0 → n ≡ f v
-      → n ≡ number_if f (get_or (cells_of ks vs) i None)
-  number_if-used ks vs i k v n h key value some is =
-      let key' : k ≡ get_or ks i 0 = key ∙ get_or_default ks i k 0 (within-keys ks vs i h) in
-      is ∙ number_with-some k v some ∙ sym (ap (number_if f) (cell_is ks vs i v h) ∙ (λ t. number_if f (cell_of (sym key' t) (sym value t))) ∙ number_if-cell k v)
+  -- what a pair as a cell has
+  pub number_if-used : (k : ℕ) (v : V) → k ≢ 0 → f v ≡ number_if f (cell_of k v)
+  number_if-used k v some = number_with-some k v some ∙ sym (number_if-cell k v)
 
-  number_of-zero : (c : Option (ℕ × V)) → key_of c ≡ 0 → None ≡ number_if f c
-  number_of-zero None e = refl
-  number_of-zero (Some c) e = ap (λ k. number_with f k c.1) (sym e)
-
-  pub number_if-empty : (ks : List ℕ) (vs : List V) (i k : ℕ) → i < length (cells_of ks vs) → k ≡ get_or ks i k → k ≡ 0 → None ≡ number_if f (get_or (cells_of ks vs) i None)
-  number_if-empty ks vs i k h key is =
-      number_of-zero (get_or (cells_of ks vs) i None) (key_is ks vs i h ∙ sym (get_or_default ks i k 0 (within-keys ks vs i h)) ∙ sym key ∙ is)
+  pub number_if-empty : (k : ℕ) (v : V) → k ≡ 0 → None ≡ number_if f (cell_of k v)
+  number_if-empty k v none = ap (λ q. number_if f (cell_of q v)) (sym none)

@@ -1,11 +1,12 @@
-pub mod Circle
+pub mod Hashed
 pub mod Zipped
 pub mod Finite
 pub mod Least
 pub mod Entries
 pub mod Ascending
 pub mod Lookups
-pub mod Tables
+pub mod Indexed
+pub mod FreeCells
 pub mod Pairs
+pub mod Sound
 pub mod Roomy
-pub mod MarkedCells

@@ -1,17 +1,15 @@
--- Columns as cells.
-use Rattle.std.proofs.Common.{◌≡◌, ◌≢◌, ℕ, zero, suc, ◌<◌, ◌≤◌, Bool, true, false, cond, min, Option, None, Some, List, [], ◌∷◌, ◌++◌, ◌+◌, take, filter_map, length, replicate, get_or, set, refl, sym, ap, subst, ◌∙◌, arith}
+-- Keys with their values as cells.
+use Rattle.std.proofs.Common.{◌≡◌, ◌≢◌, ℕ, zero, suc, ◌<◌, ◌≤◌, Bool, true, false, cond, Option, None, Some, List, [], ◌∷◌, ◌++◌, ◌+◌, take, filter_map, map, length, replicate, get_or, set, refl, sym, ap, subst, ◌∙◌, arith}
 use Rattle.std.specs.List.{cons_option}
-use Rattle.std.proofs.Math.Seq.{take-suc, take-length}
-use Rattle.std.proofs.lemmas.List.{get_or_default}
+use Rattle.std.proofs.Math.Seq.{take-suc}
+use Rattle.std.proofs.lemmas.List.{get_or-map, length-map, map-set}
 use Rattle.std.proofs.lemmas.List.Elements.{filter_map-append}
-use Rattle.open_addressing.specs.Zipped.{cell_of, cells_of, key_of, value_of, AreFree}
+use Rattle.lists.specs.Padded.{padded}
+use Rattle.lists.proofs.Filling.{length-padded, padded-none, map-padded}
+use Rattle.open_addressing.specs.Zipped.{cell_of, cells_of, key_of, value_of, pair_cell}
 use Rattle.open_addressing.specs.Finite.{key_with, key_if}
 
 module _ {V : Type 0} where
-  -- of the same cells
-  pub within-same : {cs ds : List (Option (ℕ × V))} {i : ℕ} → cs ≡ ds → i < length ds → i < length cs
-  within-same {i = i} same h = subst (λ (cs : List (Option (ℕ × V))). i < length cs) (sym same) h
-
   pub within-keys : (ks : List ℕ) (vs : List V) (i : ℕ) → i < length (cells_of ks vs) → i < length ks
   within-keys [] vs i h = absurd (omega arith)
   within-keys (k ∷ ks) [] i h = absurd (omega arith)
@@ -29,12 +27,6 @@ module _ {V : Type 0} where
   cell_is (k ∷ ks) [] i d h = absurd (omega arith)
   cell_is (k ∷ ks) (v ∷ vs) zero d h = refl
   cell_is (k ∷ ks) (v ∷ vs) (suc i) d h = cell_is ks vs i d (omega arith)
-
-  pub cell_free : (ks : List ℕ) (vs : List V) (i : ℕ) → get_or ks i 0 ≡ 0 → get_or (cells_of ks vs) i None ≡ None
-  cell_free [] vs i none = refl
-  cell_free (k ∷ ks) [] i none = refl
-  cell_free (k ∷ ks) (v ∷ vs) zero none = ap (λ k. cell_of k v) none
-  cell_free (k ∷ ks) (v ∷ vs) (suc i) none = cell_free ks vs i none
 
   pub key_is : (ks : List ℕ) (vs : List V) (i : ℕ) → i < length (cells_of ks vs) → key_of (get_or (cells_of ks vs) i None) ≡ get_or ks i 0
   key_is [] vs i h = absurd (omega arith)
@@ -57,14 +49,6 @@ module _ {V : Type 0} where
   cells_of-set (k ∷ ks) (v ∷ vs) zero q w = refl
   cells_of-set (k ∷ ks) (v ∷ vs) (suc i) q w = ap (λ (cs : List (Option (ℕ × V))). cell_of k v ∷ cs) (cells_of-set ks vs i q w)
 
-  pub cells_of-move : (ks : List ℕ) (vs : List V) (from to k : ℕ) (v : V) → from < length (cells_of ks vs) → k ≡ get_or ks from k → v ≡ get_or vs from v
-      → cells_of (set (set ks from 0) to k) (set vs to v) ≡ set (set (cells_of ks vs) from None) to (get_or (cells_of ks vs) from None)
-  cells_of-move ks vs from to k v h key value =
-      let key' : k ≡ get_or ks from 0 = key ∙ get_or_default ks from k 0 (within-keys ks vs from h) in
-      let cell : cell_of k v ≡ get_or (cells_of ks vs) from None = (λ i. cell_of (key' i) (value i)) ∙ sym (cell_is ks vs from v h) in
-      cells_of-set (set ks from 0) vs to k v ∙ ap (λ (cs : List (Option (ℕ × V))). set cs to (cell_of k v)) (cells_of-clear ks vs from)
-      ∙ ap (λ (c : Option (ℕ × V)). set (set (cells_of ks vs) from None) to c) cell
-
   pub key_of-cell : (k : ℕ) (v : V) → key_of (cell_of k v) ≡ k
   key_of-cell zero v = refl
   key_of-cell (suc k) v = refl
@@ -83,46 +67,52 @@ module _ {V : Type 0} where
   value_is ks vs i v h some is =
       ap value_of (cell_is ks vs i v h) ∙ value_of-cell (get_or ks i 0) (get_or vs i v) (λ e. some (key_is ks vs i h ∙ e)) ∙ ap Some (sym is)
 
-  pub length-cells_of : (ks : List ℕ) (vs : List V) → length (cells_of ks vs) ≡ min (length ks) (length vs)
-  length-cells_of [] vs = omega arith
-  length-cells_of (k ∷ ks) [] = omega arith
-  length-cells_of (k ∷ ks) (v ∷ vs) = let rest = length-cells_of ks vs in omega arith
-
   -- the key of a cell, if its value passes
-  key_if-cell : (p : V → Bool) (k : ℕ) (v : V) → key_if p (cell_of k v) ≡ key_with p k v
-  key_if-cell p zero v = refl
-  key_if-cell p (suc k) v = refl
-
-  key_if-at : (p : V → Bool) (ks : List ℕ) (vs : List V) (i k : ℕ) (v : V) → i < length (cells_of ks vs) → k ≡ get_or ks i k → get_or vs i v ≡ v
-      → key_if p (get_or (cells_of ks vs) i None) ≡ key_with p k v
-  key_if-at p ks vs i k v h key value =
-      let key' : k ≡ get_or ks i 0 = key ∙ get_or_default ks i k 0 (within-keys ks vs i h) in
-      ap (key_if p) (cell_is ks vs i v h) ∙ (λ t. key_if p (cell_of (sym key' t) (value t))) ∙ key_if-cell p k v
 
   key_with-some : (p : V → Bool) (k : ℕ) (v : V) → k ≢ 0 → p v ≡ true → Some k ≡ key_with p k v
   key_with-some p zero v some e = absurd (some refl)
   key_with-some p (suc k) v some e = sym (ap (λ b. cond b (Some (suc k)) None) e)
 
-  pub key_if-yes : (p : V → Bool) (ks : List ℕ) (vs : List V) (i k : ℕ) (v : V) → i < length (cells_of ks vs) → k ≡ get_or ks i k → v ≡ get_or vs i v → k ≢ 0 → p v ≡ true
-      → Some k ≡ key_if p (get_or (cells_of ks vs) i None)
-  key_if-yes p ks vs i k v h key value some e = key_with-some p k v some e ∙ sym (key_if-at p ks vs i k v h key (sym value))
-
   key_with-none : (p : V → Bool) (k : ℕ) (v : V) → p v ≡ false → None ≡ key_with p k v
   key_with-none p zero v e = refl
   key_with-none p (suc k) v e = sym (ap (λ b. cond b (Some (suc k)) None) e)
 
-  pub key_if-no : (p : V → Bool) (ks : List ℕ) (vs : List V) (i k : ℕ) (v : V) → i < length (cells_of ks vs) → k ≡ get_or ks i k → v ≡ get_or vs i v → p v ≡ false
-      → None ≡ key_if p (get_or (cells_of ks vs) i None)
-  key_if-no p ks vs i k v h key value e = key_with-none p k v e ∙ sym (key_if-at p ks vs i k v h key (sym value))
+  key_if-cell : (p : V → Bool) (k : ℕ) (v : V) → key_if p (cell_of k v) ≡ key_with p k v
+  key_if-cell p zero v = refl
+  key_if-cell p (suc k) v = refl
 
-  key_of-zero : (p : V → Bool) (c : Option (ℕ × V)) → key_of c ≡ 0 → None ≡ key_if p c
-  key_of-zero p None e = refl
-  key_of-zero p (Some c) e = ap (λ k. key_with p k c.1) (sym e)
+  pub key_if-yes : (p : V → Bool) (k : ℕ) (v : V) → k ≢ 0 → p v ≡ true → Some k ≡ key_if p (cell_of k v)
+  key_if-yes p k v some e = key_with-some p k v some e ∙ sym (key_if-cell p k v)
 
-  pub key_if-empty : (p : V → Bool) (ks : List ℕ) (vs : List V) (i k : ℕ) → i < length (cells_of ks vs) → k ≡ get_or ks i k → k ≡ 0
-      → None ≡ key_if p (get_or (cells_of ks vs) i None)
-  key_if-empty p ks vs i k h key is =
-      key_of-zero p (get_or (cells_of ks vs) i None) (key_is ks vs i h ∙ sym (get_or_default ks i k 0 (within-keys ks vs i h)) ∙ sym key ∙ is)
+  pub key_if-no : (p : V → Bool) (k : ℕ) (v : V) → p v ≡ false → None ≡ key_if p (cell_of k v)
+  key_if-no p k v e = key_with-none p k v e ∙ sym (key_if-cell p k v)
+
+  pub key_if-empty : (p : V → Bool) (k : ℕ) (v : V) → k ≡ 0 → None ≡ key_if p (cell_of k v)
+  key_if-empty p k v none = ap (λ q. key_if p (cell_of q v)) (sym none)
+
+  -- a pair as a cell
+
+  pub pair-at : (es : List (ℕ × V)) (i : ℕ) (e : ℕ × V) → i < length es → e ≡ get_or es i e → get_or (map pair_cell es) i None ≡ cell_of e.0 e.1
+  pair-at es i e h is = get_or-map pair_cell es i e None h ∙ ap pair_cell (sym is)
+
+  -- the cells of pairs that are filled up with those of the key 0
+
+  pub pairs-padded : (n : ℕ) (es : List (ℕ × V)) (v : V) → map pair_cell (padded (0, v) n es) ≡ padded None n (map pair_cell es)
+  pairs-padded n es v = map-padded pair_cell (0, v) n es
+
+  pub padded-read : (n : ℕ) (es : List (ℕ × V)) (i : ℕ) (v : V) (e : ℕ × V) → i < length (map pair_cell (padded (0, v) n es)) → e ≡ get_or (padded (0, v) n es) i (0, v)
+      → get_or (map pair_cell (padded (0, v) n es)) i None ≡ pair_cell e
+  padded-read n es i v e h is = get_or-map pair_cell (padded (0, v) n es) i (0, v) None (let long = length-map (padded (0, v) n es) pair_cell in omega arith) ∙ ap pair_cell (sym is)
+
+  pub padded-within : (n : ℕ) (es : List (ℕ × V)) (i : ℕ) (v : V) → i < length (map pair_cell (padded (0, v) n es)) → i < n
+  padded-within n es i v h = (let long = length-map (padded (0, v) n es) pair_cell in let all = length-padded (0, v) n es in omega arith)
+
+  pub padded-write : (n : ℕ) (old new : List (ℕ × V)) (i : ℕ) (v : V) (e : ℕ × V) → padded (0, v) n new ≡ set (padded (0, v) n old) i e
+      → map pair_cell (padded (0, v) n new) ≡ set (map pair_cell (padded (0, v) n old)) i (pair_cell e)
+  padded-write n old new i v e is = ap (map pair_cell) is ∙ map-set pair_cell (padded (0, v) n old) i e
+
+  pub padded-make : (n : ℕ) (es : List (ℕ × V)) (v : V) → es ≡ [] → map pair_cell (padded (0, v) n es) ≡ replicate n None
+  padded-make n es v none = ap (λ (xs : List (ℕ × V)). map pair_cell (padded (0, v) n xs)) none ∙ pairs-padded n [] v ∙ padded-none None n
 
 -- one item more
 pub filter_map-next : {X Y : Type 0} (h : X → Option Y) (xs : List X) (i : ℕ) (d : X) → i < length xs → filter_map h (take (i + 1) xs) ≡ filter_map h (take i xs) ++ cons_option (h (get_or xs i d)) []
@@ -130,30 +120,22 @@ filter_map-next h xs i d within =
     let next : i + 1 ≡ suc i = omega arith in
     ap (λ n. filter_map h (take n xs)) next ∙ ap (filter_map h) (take-suc xs i d within) ∙ filter_map-append h (take i xs) (get_or xs i d ∷ [])
 
--- what goes over cells, and passes by those that hold none, passes by a stretch of them
+-- what goes over cells, and passes by those that hold none, passes by those behind
 module _ {V R : Type 0} (over : List (Option (ℕ × V)) → R) (step : Option (ℕ × V) → R → R)
     (steps : (c : Option (ℕ × V)) (cs : List (Option (ℕ × V))) → over (c ∷ cs) ≡ step c (over cs)) (by : (r : R) → step None r ≡ r) where
-  pub past_free : (cs : List (Option (ℕ × V))) (start end : ℕ) → start ≤ end → AreFree cs start end → over (take end cs) ≡ over (take start cs)
-  past_free [] zero zero h free = refl
-  past_free [] zero (suc end) h free = refl
-  past_free [] (suc start) zero h free = refl
-  past_free [] (suc start) (suc end) h free = refl
-  past_free (c ∷ cs) zero zero h free = refl
-  past_free (c ∷ cs) zero (suc end) h free =
-      steps c (take end cs) ∙ ap (λ (c : Option (ℕ × V)). step c (over (take end cs))) (free 0 (omega arith) (omega arith)) ∙ by (over (take end cs))
-      ∙ past_free cs 0 end (omega arith) (λ j from to. free (suc j) (omega arith) (omega arith))
-  past_free (c ∷ cs) (suc start) zero h free = absurd (omega arith)
-  past_free (c ∷ cs) (suc start) (suc end) h free =
-      steps c (take end cs) ∙ ap (step c) (past_free cs start end (omega arith) (λ j from to. free (suc j) (omega arith) (omega arith))) ∙ sym (steps c (take start cs))
+  over-blank : (n : ℕ) → over (padded None n []) ≡ over []
+  unfolding padded
+  over-blank zero = refl
+  over-blank (suc n) = steps None (padded None n []) ∙ by (over (padded None n [])) ∙ over-blank n
 
--- the keys up to the next cell that may hold one, and with it
-pub keys-next : {V : Type 0} (p : V → Bool) (cs : List (Option (ℕ × V))) (start i : ℕ) → start ≤ i → i < length cs → AreFree cs start i
-    → filter_map (key_if p) (take (i + 1) cs) ≡ filter_map (key_if p) (take start cs) ++ cons_option (key_if p (get_or cs i None)) []
-keys-next p cs start i h within free =
-    filter_map-next (key_if p) cs i None within
-    ∙ ap (λ ks. ks ++ cons_option (key_if p (get_or cs i None)) []) (past_free (filter_map (key_if p)) (λ c ks. cons_option (key_if p c) ks) (λ c cs. refl) (λ ks. refl) cs start i h free)
+  pub over-padded : (n : ℕ) (cs : List (Option (ℕ × V))) → length cs ≤ n → over (padded None n cs) ≡ over cs
+  unfolding padded
+  over-padded zero [] h = refl
+  over-padded zero (c ∷ cs) h = absurd (omega arith)
+  over-padded (suc n) [] h = over-blank (suc n)
+  over-padded (suc n) (c ∷ cs) h = steps c (padded None n cs) ∙ ap (step c) (over-padded n cs (omega arith)) ∙ sym (steps c cs)
 
--- and where none is left
-pub keys-end : {V : Type 0} (p : V → Bool) (cs : List (Option (ℕ × V))) (start : ℕ) → start ≤ length cs → AreFree cs start (length cs) → filter_map (key_if p) (take start cs) ≡ filter_map (key_if p) cs
-keys-end p cs start h free =
-    sym (past_free (filter_map (key_if p)) (λ c ks. cons_option (key_if p c) ks) (λ c cs. refl) (λ ks. refl) cs start (length cs) h free) ∙ ap (filter_map (key_if p)) (take-length cs)
+pub keys-padded : {V : Type 0} (p : V → Bool) (n : ℕ) (es : List (ℕ × V)) (v : V) → length es ≤ n → filter_map (key_if p) (map pair_cell (padded (0, v) n es)) ≡ filter_map (key_if p) (map pair_cell es)
+keys-padded p n es v h =
+    ap (filter_map (key_if p)) (pairs-padded n es v)
+    ∙ over-padded (filter_map (key_if p)) (λ c ks. cons_option (key_if p c) ks) (λ c cs. refl) (λ ks. refl) n (map pair_cell es) (let long = length-map es pair_cell in omega arith)

@@ -1,11 +1,13 @@
 -- A finite map from keys, which are not 0, to values, in cells.
-use Rattle.std.specs.Prelude.{◌≡◌, ℕ, zero, suc, ◌^◌, ◌≤◌, Bool, cond, List, [], ◌∷◌, map, count_by}
+use Rattle.std.specs.Prelude.{◌≡◌, ℕ, zero, suc, ◌≤◌, Bool, cond, List, [], ◌∷◌, length, map, count_by}
 use Rattle.std.specs.List.{filter}
 use Rattle.std.specs.Ordering.{nat_cmp}
 use Rattle.std.specs.FinMap.Entries.{put}
 use Rattle.std.specs.declared.option.Option.{Option}
 use Rattle.std.specs.declared.option.Option.TheVariants.{None, Some}
-use Rattle.open_addressing.specs.Circle.{IsTable}
+use Rattle.open_addressing.specs.Hashed.{key_in}
+use Rattle.open_addressing.specs.Indexed.{named_by, IsIndexed}
+use Rattle.open_addressing.specs.Spare.{AreSpare}
 use Rattle.open_addressing.specs.Zipped.{key_of, value_of}
 use Rattle.open_addressing.specs.Lookups.{cell_at, IsApart, is_used}
 
@@ -46,9 +48,16 @@ in_cell (Some c) = value_of c
 abbrev pub value_at : {V : Type 0} → List (Option (ℕ × V)) → ℕ → Option V
 value_at cells q = in_cell (cell_at key_of cells q)
 
-pub record IsSound {V : Type 0} (hash : ℕ → ℕ) (bits used room : ℕ) (cells : List (Option (ℕ × V))) : Type 0 where
-  pub table : IsTable hash bits key_of None cells
+-- cells in which no key stands twice, and so many are used
+pub record AreCells {V : Type 0} (used room : ℕ) (cells : List (Option (ℕ × V))) : Type 0 where
   pub apart : IsApart key_of cells
   pub counted : count_by (is_used key_of) cells ≡ used
   pub within : used ≤ room
-  pub spare : room ≤ 2 ^ bits
+  pub sized : room ≤ length cells
+
+-- the cells, where their keys stand, and which of them are free
+pub record IsSound {V : Type 0} (hash : ℕ → ℕ) (bits : ℕ) (slots rest : List ℕ) (fresh : ℕ) (free : List ℕ) (used room : ℕ) (cells : List (Option (ℕ × V))) : Type 0 where
+  pub cells : AreCells used room cells
+  pub index : IsIndexed hash bits (key_in key_of None cells) slots rest
+  pub named : named_by slots rest ≡ used
+  pub spare : AreSpare (key_in key_of None cells) used room fresh free

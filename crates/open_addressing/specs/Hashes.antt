@@ -1,7 +1,7 @@
 -- A hash of 64 bits.
 use Rattle.std.proofs.Common.{ℕ, ◌*◌, ◌%◌, ◌^◌, ◌<◌, arith, bit_xor, ◌/◌}
 use Rattle.std.proofs.Math.Nat.{mod-lt}
-use Rattle.open_addressing.specs.Circle.{mix}
+use Rattle.open_addressing.specs.Hashed.{mix}
 
 pub mix-lt : (k : ℕ) → mix k < 2 ^ 64
 unfolding mix

@@ -1,8 +1,9 @@
-pub mod Circle
+pub mod Hashed
 pub mod Zipped
 pub mod Finite
 pub mod Lookups
 pub mod Least
 pub mod Pairs
 pub mod Hashes
-pub mod MarkedCells
+pub mod Indexed
+pub mod Spare

@@ -1,14 +1,16 @@
-//! A finite map from keys to values, over columns.
-ghost use Rattle.std.specs.Prelude.{◌≡◌, ◌≢◌, ℕ, ◌^◌, ◌<◌, ◌≤◌, ◌↔◌, Bool, not, [], Option, IfOk, IfSome, IsTrue, None, length, IsPermutation, IsSorted, replicate};
+//! A finite map from keys to values, over cells.
+ghost use Rattle.std.specs.Prelude.{◌≡◌, ◌≢◌, ℕ, ◌<◌, ◌≤◌, ◌↔◌, Bool, not, [], Option, IfOk, IsTrue, None, length, IsPermutation, IsSorted, replicate};
 ghost use Rattle.std.specs.Ordering.{nat_cmp, eq_by_cmp};
 ghost use Rattle.std.specs.FinMap.Entries.{find, put, where_key, is_sorted};
 ghost use Rattle.open_addressing.specs.Finite.{keys_where, entries_of};
+ghost use Rattle.open_addressing.specs.Least.{least};
 ghost use Rattle.open_addressing.specs.Lookups.{IsApart};
 ghost use Rattle.open_addressing.specs.Zipped.{key_of};
-ghost use Rattle.open_addressing.specs.Least.{least};
 
-use crate::columns::Columns;
-use crate::{Cells, find as find_cell, remove, search};
+use crate::Cells;
+use crate::index::Index;
+use crate::pairs::Pairs;
+use crate::spare::Spare;
 use std::alloc::{AllocError, Global};
 use std::marker::{Model, PhantomData};
 
@@ -34,31 +36,23 @@ pub trait Measure<V> {
 #[derive(Drop)]
 pub struct Map<K, V, C: Cells<K, V>> {
     cells: C,
-    bits: u32,
+    index: Index,
+    spare: Spare,
     used: usize,
     room: usize,
     of: PhantomData<(K, V)>,
 }
 
 impl<K, V, C: Cells<K, V>> Model for Map<K, V, C> {
+    ghost use Rattle.std.specs.Prelude.{◌≤◌, vec_capacity};
     ghost use Rattle.open_addressing.specs.Finite.{Table, IsSound, entries_of};
 
     ghost Value = { Table V };
 
     ghost view = { λ m. record { entries = entries_of (C.cells m.cells); room = m.room; cells = C.cells m.cells } };
 
-    ghost invariant = { λ m. IsSound C.hash m.bits m.used m.room (C.cells m.cells) };
-}
-
-/// The power of two of cells for so many keys: more than three times as many cells, and at most six times as many and two.
-fn bits_for(room: usize) -> Option<u32>
-    ensures some { IfSome result (λ bits. 0 < bits) }
-    ensures few { IfSome result (λ bits. bits < 64) }
-    ensures spare { IfSome result (λ bits. room < 2 ^ bits) }
-{
-    let wanted = room.checked_mul(3)?.checked_add(1)?;
-    let bits = wanted.ilog2() + 1;
-    if bits < 64 { Some(bits) } else { None }
+    ghost invariant = { λ m. IsSound C.hash m.index.bits m.index.slots.items m.index.rest.items m.spare.fresh m.spare.free.items m.used m.room (C.cells m.cells)
+        × (m.room ≤ vec_capacity m.index.rest) × (m.room ≤ vec_capacity m.spare.free) };
 }
 
 /// Sorts keys.
@@ -69,25 +63,33 @@ fn sort(keys: &mut Vec<u64>)
     keys.sort_unstable();
 }
 
-/// Values by numbers, in columns.
-pub type Columned<V> = Map<u64, V, Columns<V>>;
+/// Values by numbers.
+pub type Numbered<V> = Map<u64, V, Pairs<V>>;
 
 impl<K, V, C: Cells<K, V>> Map<K, V, C> {
-    /// The map of cells that hold nothing, a power of two of them, with room for so many keys.
-    pub fn of(cells: C, bits: u32, room: usize) -> Map<K, V, C>
-        requires some { 0 < bits }
-        requires few { bits < 64 }
-        requires room { room ≤ 2 ^ bits }
-        requires empty { C.cells cells ≡ replicate (2 ^ bits) None }
-        ensures { result ≡ record { entries = []; room = room; cells = C.cells cells } }
+    /// The map of so many cells that hold nothing, with room for so many keys, at most 65,534: more get no memory.
+    pub fn of(
+        alloc: Global,
+        cells: C,
+        count: usize,
+        room: usize,
+    ) -> Result<Map<K, V, C>, AllocError>
+    where
+        C: Drop,
+        requires room { room ≤ count }
+        requires empty { C.cells cells ≡ replicate count None }
+        ensures { IfOk result (λ m. m ≡ record { entries = []; room = room; cells = C.cells cells }) }
     {
-        Map {
+        let index = Index::make(alloc, room)?;
+        let spare = Spare::make(alloc, room)?;
+        Ok(Map {
             cells,
-            bits,
+            index,
+            spare,
             used: 0,
             room,
             of: PhantomData,
-        }
+        })
     }
 
     pub fn len(&self) -> usize
@@ -125,7 +127,7 @@ impl<K, V, C: Cells<K, V>> Map<K, V, C> {
         requires { C.number key.now ≢ 0 }
         ensures { result ≡ find nat_cmp (C.number key.now) self.now.entries }
     {
-        let i = find_cell(&self.cells, self.bits, key)?;
+        let i = self.index.find(&self.cells, key)?;
         Some(self.cells.value(i))
     }
 
@@ -135,9 +137,11 @@ impl<K, V, C: Cells<K, V>> Map<K, V, C> {
         requires room { find nat_cmp (C.number key.now) self.old.entries ≡ None → length self.old.entries < self.old.room }
         ensures { self.new ≡ record self.old { entries = put nat_cmp (C.number key.now) value self.old.entries; cells = self.new.cells } }
     {
-        match search(&self.cells, self.bits, key) {
-            Ok(i) => self.cells.put(i, key, value),
-            Err(i) => {
+        match self.index.find(&self.cells, key) {
+            Some(i) => self.cells.put(i, key, value),
+            None => {
+                let i = self.spare.take();
+                self.index.enter(&self.cells, key, i);
                 self.cells.put(i, key, value);
                 self.used += 1;
             }
@@ -151,25 +155,26 @@ impl<K, V, C: Cells<K, V>> Map<K, V, C> {
         ensures rest { self.new
             ≡ record self.old { entries = where_key nat_cmp (λ q. not (eq_by_cmp nat_cmp (C.number key.now) q)) self.old.entries; cells = self.new.cells } }
     {
-        let i = find_cell(&self.cells, self.bits, key)?;
+        let i = self.index.find(&self.cells, key)?;
         let value = self.cells.value(i);
-        remove(&mut self.cells, self.bits, i);
+        self.index.leave(&self.cells, key, i);
+        self.cells.clear(i);
+        self.spare.give(i);
         self.used -= 1;
         Some(value)
     }
 }
 
-impl<V: Copy> Map<u64, V, Columns<V>> {
-    /// An empty map with room for so many keys. The value `blank` is never read.
-    pub fn make(alloc: Global, room: usize, blank: V) -> Result<Map<u64, V, Columns<V>>, AllocError>
+impl<V: Copy> Map<u64, V, Pairs<V>> {
+    /// An empty map with room for so many keys, at most 65,534: more get no memory. The value `blank` is never read.
+    pub fn make(alloc: Global, room: usize, blank: V) -> Result<Map<u64, V, Pairs<V>>, AllocError>
         ensures { IfOk result (λ m. m ≡ record m { entries = []; room = room }) }
     {
-        let bits = bits_for(room).ok_or(AllocError)?;
-        let columns = Columns::make(alloc, 1 << bits, blank)?;
-        Ok(Map::of(columns, bits, room))
+        let pairs = Pairs::make(alloc, room, blank)?;
+        Map::of(alloc, pairs, room, room)
     }
 
-    /// The keys whose values pass the test, ascending. It passes empty cells by, 64 at a time.
+    /// The keys whose values pass the test, ascending.
     pub fn keys_where<T: Test<V>>(&self, alloc: Global, test: &T) -> Result<Vec<u64>, AllocError>
         ensures { IfOk result (λ v. v.items ≡ keys_where (T.passes test.now) self.now.entries) }
     {
@@ -178,7 +183,7 @@ impl<V: Copy> Map<u64, V, Columns<V>> {
         Ok(keys)
     }
 
-    /// The least number that a value measures. It passes empty cells by, 64 at a time.
+    /// The least number that a value measures.
     pub fn least<M: Measure<V>>(&self, measure: &M) -> Option<u64>
         ensures { result ≡ least (M.number measure.now) self.now.entries }
     {

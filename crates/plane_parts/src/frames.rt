@@ -2,6 +2,7 @@
 ghost use Rattle.std.specs.Prelude.{◌≡◌, ◌==◌, ◌+◌, ◌<◌, ◌≤◌, ◌^◌, ◌++◌, [], not, nat_lt, length, drop, slice_get, Option, Some, None, Ok, IfOk, OnOk, OnErr};
 ghost use Rattle.std.specs.List.{filter, find};
 ghost use Rattle.std.specs.Option.{option_copied};
+ghost use Rattle.std.specs.VecDeque.{deque_capacity};
 ghost use Rattle.br_model.specs.Table.Limits.{most_waiting};
 ghost use Rattle.br_model.specs.Wire.Frames.{frame as frame_of};
 ghost use Rattle.br_model.specs.Wire.Messages.{message as message_of};
@@ -71,6 +72,18 @@ impl Model for Frames {
 
     ghost invariant = { λ f. (most_waiting ≤ deque_capacity f.waiting) × IsKeyed f.held.entries
         × IsQueued (record { waiting = f.waiting.items; held = held_in f.held.entries; next = f.next }) };
+}
+
+/// The oldest leaves. One that waits alone leaves from the back, so that the next takes its place, and no walk goes round all the room.
+fn take_oldest(waiting: &mut VecDeque<Frame>) -> Option<Frame>
+    ensures oldest { result ≡ slice_get waiting.old.items 0 }
+    ensures rest { waiting.new.items ≡ drop 1 waiting.old.items }
+    ensures capacity { deque_capacity waiting.new ≡ deque_capacity waiting.old }
+{
+    if waiting.len() == 1 {
+        return waiting.pop_back();
+    }
+    waiting.pop_front()
 }
 
 impl Frames {
@@ -163,7 +176,7 @@ impl Frames {
         ensures oldest { result ≡ slice_get self.old.waiting 0 }
         ensures rest { self.new ≡ record self.old { waiting = drop 1 self.old.waiting } }
     {
-        self.waiting.pop_front()
+        take_oldest(&mut self.waiting)
     }
 
     /// The line of the step that holds the frame that waits longest with this floor.

@@ -106,6 +106,20 @@ members-without w words n within =
     small : n % 64 < 64
     small = omega arith
 
+-- the members of words of which one bit is set or cleared
+
+pub members-switched_on : (w : ℕ) (words : List ℕ) (n : ℕ) → n / 64 < length words
+    → members w (set words (n / 64) (bit_or (get_or words (n / 64) 0) (1 * 2 ^ (n % 64) % 2 ^ 64)))
+    ≡ numbers_below (64 * w) (λ m. cond (m == n) true (has_number (members w words) m))
+members-switched_on w words n within =
+    members-with w words n within ∙ same_below _ _ (64 * w) (λ m low. sym (or_cond (m == n) (has_number (members w words) m)))
+
+pub members-switched_off : (w : ℕ) (words : List ℕ) (n : ℕ) → n / 64 < length words
+    → members w (set words (n / 64) (bit_and (get_or words (n / 64) 0) (bit_not w64 (1 * 2 ^ (n % 64) % 2 ^ 64))))
+    ≡ numbers_below (64 * w) (λ m. cond (m == n) false (has_number (members w words) m))
+members-switched_off w words n within =
+    members-without w words n within ∙ same_below _ _ (64 * w) (λ m low. sym (and_cond (m == n) (has_number (members w words) m)))
+
 -- a number from the bound on was no member
 pub members-without_above : (w : ℕ) (words : List ℕ) (n : ℕ) → 64 * w ≤ n → members w words ≡ numbers_below (64 * w) (λ m. has_number (members w words) m && not (m == n))
 members-without_above w words n high =

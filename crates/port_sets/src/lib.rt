@@ -1,7 +1,7 @@
 //! Sets of small numbers, such as the ports of a bridge.
 #![tactic(auto)]
 
-ghost use Rattle.std.specs.Prelude.{◌≡◌, ℕ, ◌+◌, ◌*◌, ◌<◌, ◌≤◌, ◌==◌, ◌||◌, ◌&&◌, ◌↔◌, List, [], false, not, length, IsTrue, slice_get, nat_eq};
+ghost use Rattle.std.specs.Prelude.{◌≡◌, ℕ, ◌+◌, ◌*◌, ◌<◌, ◌≤◌, ◌==◌, ◌||◌, ◌&&◌, ◌↔◌, if◌then◌else◌, List, [], false, not, length, IsTrue, slice_get, nat_eq};
 ghost use Rattle.std.specs.List.{All};
 ghost use Rattle.std.specs.List.Sorted.{IsStrictlyIncreasing};
 ghost use Rattle.std.specs.Cmp.{partial_equiv_from_equiv};
@@ -107,6 +107,19 @@ impl<const W: usize> PortSet<W> {
             words[place] &= !(1 << (n % 64));
         }
         PortSet { words }
+    }
+
+    /// Puts `n` in or takes it out. It writes one word, and moves no set.
+    pub fn switch(&mut self, n: u8, on: bool)
+        requires { n < 64 * W }
+        ensures { self.new ≡ numbers_below (64 * W) (λ m. if m == n then on else has_number self.old m) }
+    {
+        let place = n as usize / 64;
+        if on {
+            self.words[place] |= 1 << (n % 64);
+            return;
+        }
+        self.words[place] &= !(1 << (n % 64));
     }
 
     /// The members of both sets.

@@ -1,18 +1,19 @@
 -- The messages of a run, step by step.
 use Rattle.std.proofs.Common.{◌≡◌, ℕ, ◌+◌, ◌≤◌, List, [], ◌∷◌, ◌++◌, length, take, drop, Option, None, Some, refl, sym, ◌∙◌, ap, arith, length-append}
 use Rattle.std.specs.List.{flat_map, fold, slice_get}
-use Rattle.std.specs.Option.{option_map, option_to_list}
+use Rattle.std.specs.Option.{option_map, option_map_or, option_to_list}
 use Rattle.std.proofs.lemmas.Grind.{flat_map-append}
 use Rattle.std.proofs.Math.Seq.{take-append_seam}
 use Rattle.std.proofs.lemmas.List.Sums.{fold-append}
 use Rattle.br_model.specs.declared.change.Change.{Change}
 use Rattle.br_model.specs.declared.change.Update.{Update}
 use Rattle.br_model.specs.declared.steps.Step.{Step}
-use Rattle.br_model.specs.declared.steps.Step.TheVariants.{Rx, Cmd, Now, Serve, Hold, Post, Turn, Report, Sweep, Publish}
+use Rattle.br_model.specs.declared.steps.Step.TheVariants.{Turn}
 use Rattle.br_model.specs.declared.transcript.Line.{Line}
 use Rattle.br_model.specs.Plane.Chip.{Chip}
 use Rattle.br_model.specs.Plane.Runs.{run, then_step}
 use Rattle.br_model.specs.Plane.Steps.{world_step}
+use Rattle.br_model.specs.Plane.Traits.{traits}
 use Rattle.br_model.specs.Plane.World.{World, Stepped, chip_at, first_world}
 use Rattle.br_model.specs.Table.Change.{updates}
 use Rattle.br_model.specs.Table.Domains.{Domains}
@@ -23,33 +24,16 @@ use Rattle.br_model.proofs.Still.{turn-history}
 use Rattle.neigh_netlink.specs.declared.neigh.Neigh.{Neigh}
 use Rattle.neigh_netlink.specs.Monitor.{accepted, message_line, messages, messages_in, messages_of, monitors, turned}
 use Rattle.neigh_netlink.specs.Stream.{Kept, kept_of}
-use Rattle.run_world.specs.Voices.{IsNext, turn_of}
+use Rattle.run_world.specs.Voices.{IsNext}
 
 -- whether a step is a turn
 
-pub tells_accepted : (w : World) (step : Step) → turn_of step ≡ None → accepted w step ≡ messages_in w step
-tells_accepted w (Rx port bytes) h = refl
-tells_accepted w (Cmd c) h = refl
-tells_accepted w (Now moment) h = refl
-tells_accepted w Serve h = refl
-tells_accepted w Hold h = refl
-tells_accepted w (Post id point) h = refl
-tells_accepted w (Turn dom) h = absurd (cc)
-tells_accepted w (Report dom) h = refl
-tells_accepted w (Sweep dom) h = refl
-tells_accepted w Publish h = refl
+pub tells_accepted : (w : World) (step : Step) → (traits step).turn ≡ None → accepted w step ≡ messages_in w step
+tells_accepted w step none = sym (ap (λ (o : Option ℕ). option_map_or (λ dom. option_to_list (turned w (chip_at w dom))) o (accepted w step)) none)
 
-pub is_turn : (step : Step) (dom : ℕ) → turn_of step ≡ Some dom → step ≡ Turn dom
-is_turn (Rx port bytes) dom h = absurd (cc)
-is_turn (Cmd c) dom h = absurd (cc)
-is_turn (Now moment) dom h = absurd (cc)
-is_turn Serve dom h = absurd (cc)
-is_turn Hold dom h = absurd (cc)
-is_turn (Post id point) dom h = absurd (cc)
+pub is_turn : (step : Step) (dom : ℕ) → (traits step).turn ≡ Some dom → step ≡ Turn dom
 is_turn (Turn e) dom h = let same : e ≡ dom = cc in ap Turn same
-is_turn (Report e) dom h = absurd (cc)
-is_turn (Sweep e) dom h = absurd (cc)
-is_turn Publish dom h = absurd (cc)
+is_turn step dom h = absurd (cc)
 
 -- another step
 
@@ -76,7 +60,7 @@ module _ (w v : World) (step : Step) (lines : List Line) (is : (v, lines) ≡ wo
   pub kept_on : (k : Kept) → k ≡ kept_of w.setup.domains w.history → kept_of k.domains v.history ≡ kept_of v.setup.domains v.history
   kept_on k h = ap (λ (d : Domains). kept_of d v.history) (ap (λ (k : Kept). k.domains) h ∙ sym same_domains)
 
-  pub told_on : (k : Kept) → k ≡ kept_of w.setup.domains w.history → turn_of step ≡ None
+  pub told_on : (k : Kept) → k ≡ kept_of w.setup.domains w.history → (traits step).turn ≡ None
       → messages_of k.domains.edition (take (length w.history) v.history) (drop (length w.history) v.history) ≡ messages_in w step
   told_on k h other =
       ap (λ (d : Domains). messages_of d.edition (take (length w.history) v.history) (drop (length w.history) v.history)) (ap (λ (k : Kept). k.domains) h)

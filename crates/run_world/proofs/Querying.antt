@@ -3,13 +3,15 @@ use Rattle.std.proofs.Common.{◌≡◌, ℕ, ◌<◌, ◌^◌, Bool, true, fals
 use Rattle.std.specs.Prelude.{nat_le, ◌||◌}
 use Rattle.std.proofs.lemmas.List.Folds.{list_any-append}
 use Rattle.std.specs.List.{flat_map, fold, list_any}
+use Rattle.std.specs.Option.{option_map_or}
 use Rattle.std.proofs.lemmas.Grind.{flat_map-append}
 use Rattle.std.proofs.lemmas.List.Sums.{fold-append}
 use Rattle.br_model.specs.declared.steps.Step.{Step}
-use Rattle.br_model.specs.declared.steps.Step.TheVariants.{Rx, Cmd, Now, Serve, Hold, Post, Turn, Report, Sweep, Publish}
+use Rattle.br_model.specs.declared.steps.Step.TheVariants.{Now}
 use Rattle.br_model.specs.declared.transcript.Line.{Line}
 use Rattle.br_model.specs.Plane.Runs.{run, then_step}
 use Rattle.br_model.specs.Plane.Steps.{world_step}
+use Rattle.br_model.specs.Plane.Traits.{traits}
 use Rattle.br_model.specs.Plane.World.{World, Stepped, first_world}
 use Rattle.br_model.specs.Table.Domains.{Domains}
 use Rattle.br_model.specs.Table.Setup.{Setup}
@@ -28,7 +30,7 @@ use Rattle.run_world.specs.declared.asking.Asking.{Asking}
 use Rattle.run_world.specs.declared.asking.Host.{Host}
 use Rattle.run_world.specs.declared.entered.Entered.{Entered}
 use Rattle.run_world.specs.declared.voice.Voice.TheVariants.{Querier}
-use Rattle.run_world.specs.Hearing.{HasHeard, Hears, HearsStep, IsAsked, IsHost, Keeps, acts_by, coming_by, listening, moment_after, moment_named, queries_by, row_is_done, ticked_by}
+use Rattle.run_world.specs.Hearing.{HasHeard, Hears, HearsStep, IsAsked, IsHost, Keeps, acts_by, coming_by, listening, moment_after, queries_by, row_is_done, ticked_by}
 use Rattle.plane_parts.specs.Added.{Added}
 use Rattle.run_world.specs.Worlds.{Tells}
 use Rattle.run_world.specs.Voices.{BeginsBy, HeardBy, SaysBy, lines_of}
@@ -49,18 +51,13 @@ listening_world setup steps = same_world (first_listening setup) (first_world se
 
 -- the moment that a step brings
 
-comes_is : (step : Step) (lines : List Line) → comes_by step lines ≡ acts_by (coming_by (moment_named step) lines)
-comes_is (Rx port bytes) lines = refl
-comes_is (Cmd c) lines = refl
-comes_is (Now moment) lines =
+coming : (o : Option ℕ) (lines : List Line) → option_map_or (λ (moment : ℕ). cond (list_any is_done lines) (Comes moment ∷ []) []) o [] ≡ acts_by (coming_by o lines)
+coming None lines = refl
+coming (Some moment) lines =
     elim (list_any is_done lines) as (λ b. cond b (Comes moment ∷ []) [] ≡ acts_by (cond b (Some moment) None)) [ true ↦ refl | false ↦ refl ]
-comes_is Serve lines = refl
-comes_is Hold lines = refl
-comes_is (Post id point) lines = refl
-comes_is (Turn dom) lines = refl
-comes_is (Report dom) lines = refl
-comes_is (Sweep dom) lines = refl
-comes_is Publish lines = refl
+
+comes_is : (step : Step) (lines : List Line) → comes_by step lines ≡ acts_by (coming_by (traits step).moment lines)
+comes_is step lines = coming (traits step).moment lines
 
 -- it is early
 abbrev IsEarly : Option ℕ → Type 0
@@ -69,17 +66,9 @@ IsEarly o = IfSome o (λ n. n < 2 ^ 53)
 at_most : (moment : ℕ) → nat_le moment last_moment ≡ true → moment < 2 ^ 53
 at_most moment h = grind arith
 
-pub named_early : (chips : List ℕ) (step : Step) (lines : List Line) → comes_by_line false chips step ≡ true → IsEarly (coming_by (moment_named step) lines)
-named_early chips (Rx port bytes) lines h = tt
-named_early chips (Cmd c) lines h = tt
+pub named_early : (chips : List ℕ) (step : Step) (lines : List Line) → comes_by_line false chips step ≡ true → IsEarly (coming_by (traits step).moment lines)
 named_early chips (Now moment) lines h = elim (list_any is_done lines) as (λ b. IsEarly (cond b (Some moment) None)) [ true ↦ at_most moment h | false ↦ tt ]
-named_early chips Serve lines h = tt
-named_early chips Hold lines h = tt
-named_early chips (Post id point) lines h = tt
-named_early chips (Turn dom) lines h = tt
-named_early chips (Report dom) lines h = tt
-named_early chips (Sweep dom) lines h = tt
-named_early chips Publish lines h = tt
+named_early chips step lines h = tt
 
 pub after_early : (o : Option ℕ) (now : ℕ) → IsEarly o → now < 2 ^ 53 → moment_after o now < 2 ^ 53
 after_early None now h e = e
@@ -185,25 +174,25 @@ pub record Goes (old : Host) (w : World) (step : Step) (lines : List Line) (v : 
   pub stepped : (v, lines) ≡ world_step w step
   pub here : IsHost old w
   pub enters : (askers : List (Option Asker)) → Keeps old.entered askers → Keeps new.entered (askers ++ entered step)
-  pub now : new.now ≡ moment_after (coming_by (moment_named step) lines) old.now
+  pub now : new.now ≡ moment_after (coming_by (traits step).moment lines) old.now
   pub hears : (askers : List (Option Asker)) → Keeps new.entered askers → Hears old.querier (flat_map (heard_in askers new.now) lines) heard
-  pub ticks : new.querier ≡ ticked_by heard (coming_by (moment_named step) lines)
+  pub ticks : new.querier ≡ ticked_by heard (coming_by (traits step).moment lines)
 
 -- a moment that comes by the step is early
-pub early_by : (chips : List ℕ) (step : Step) (lines : List Line) (named comes : Option ℕ) → comes_by_line false chips step ≡ true → named ≡ moment_named step → comes ≡ coming_by named lines
+pub early_by : (chips : List ℕ) (step : Step) (lines : List Line) (named comes : Option ℕ) → comes_by_line false chips step ≡ true → named ≡ (traits step).moment → comes ≡ coming_by named lines
     → IfSome comes (λ n. n < 2 ^ 53)
 early_by chips step lines named comes by_line names is =
     subst (λ (o : Option ℕ). IfSome o (λ n. n < 2 ^ 53)) (sym (is ∙ ap (λ (o : Option ℕ). coming_by o lines) names)) (named_early chips step lines by_line)
 
 pub goes : (old : Host) (w v : World) (step : Step) (before lines : List Line) (named comes : Option ℕ) (kept : Entered) (now : ℕ) (heard asked : QuerierState)
-    → IsHost old w → Added (Tells w step v) before lines → before ≡ [] → named ≡ moment_named step → comes ≡ coming_by named lines
+    → IsHost old w → Added (Tells w step v) before lines → before ≡ [] → named ≡ (traits step).moment → comes ≡ coming_by named lines
     → ((askers : List (Option Asker)) → Keeps old.entered askers → Keeps kept (askers ++ entered step))
     → now ≡ moment_after comes old.now
     → ((askers : List (Option Asker)) → Keeps kept askers → Hears old.querier (flat_map (heard_in askers now) lines) heard)
     → asked ≡ ticked_by heard comes
     → Goes old w step lines v heard (record { querier = asked; entered = kept; now = now })
 goes old w v step before lines named comes kept now heard asked here told none names is enters later hears ticks =
-    let comes_as : comes ≡ coming_by (moment_named step) lines = is ∙ ap (λ (o : Option ℕ). coming_by o lines) names in record {
+    let comes_as : comes ≡ coming_by (traits step).moment lines = is ∙ ap (λ (o : Option ℕ). coming_by o lines) names in record {
       stepped = told_is w v step before lines told none;
       here = here;
       enters = enters;
@@ -212,8 +201,8 @@ goes old w v step before lines named comes kept now heard asked here told none n
       ticks = ticks ∙ ap (ticked_by heard) comes_as;
     }
 
-pub asked_as : (step : Step) (lines : List Line) (named comes : Option ℕ) (heard : QuerierState) (text more : List ℕ) → named ≡ moment_named step → comes ≡ coming_by named lines
-    → more ≡ text ++ flat_map query_line (queries_by heard comes) → more ≡ text ++ flat_map query_line (queries_by heard (coming_by (moment_named step) lines))
+pub asked_as : (step : Step) (lines : List Line) (named comes : Option ℕ) (heard : QuerierState) (text more : List ℕ) → named ≡ (traits step).moment → comes ≡ coming_by named lines
+    → more ≡ text ++ flat_map query_line (queries_by heard comes) → more ≡ text ++ flat_map query_line (queries_by heard (coming_by (traits step).moment lines))
 asked_as step lines named comes heard text more names is grew =
     grew ∙ ap (λ (o : Option ℕ). text ++ flat_map query_line (queries_by heard o)) (is ∙ ap (λ (o : Option ℕ). coming_by o lines) names)
 
@@ -221,22 +210,22 @@ module _ (old : Host) (w : World) (step : Step) (lines : List Line) (v : World) 
   new_now : new.now ≡ v.control.now
   new_now =
       g.now
-      ∙ ap (moment_after (coming_by (moment_named step) lines)) g.here.now
-      ∙ ap (λ (x : Stepped). moment_after (coming_by (moment_named step) x.1) w.control.now) g.stepped
+      ∙ ap (moment_after (coming_by (traits step).moment lines)) g.here.now
+      ∙ ap (λ (x : Stepped). moment_after (coming_by (traits step).moment x.1) w.control.now) g.stepped
       ∙ sym (step-moment w step)
       ∙ ap (λ (x : Stepped). x.0.control.now) (sym g.stepped)
 
   new_own : new.querier.own ≡ old.querier.own
   new_own =
       ap (λ (q : QuerierState). q.own) g.ticks
-      ∙ ticked_own heard (coming_by (moment_named step) lines)
+      ∙ ticked_own heard (coming_by (traits step).moment lines)
       ∙ hears_own old.querier (flat_map (heard_in (g.here.askers ++ entered step) new.now) lines) heard (g.hears (g.here.askers ++ entered step) (g.enters g.here.askers g.here.keeps))
 
   pub here_after : (chips : List ℕ) → comes_by_line false chips step ≡ true → IsHost new v
   here_after chips by_line = record {
     own = new_own ∙ g.here.own ∙ ap (λ (s : Setup). s.own) (sym (ap (λ (x : Stepped). x.0.setup) g.stepped ∙ step-setup w step));
     now = new_now;
-    early = subst (λ n. n < 2 ^ 53) (sym g.now) (after_early (coming_by (moment_named step) lines) old.now (named_early chips step lines by_line) g.here.early);
+    early = subst (λ n. n < 2 ^ 53) (sym g.now) (after_early (coming_by (traits step).moment lines) old.now (named_early chips step lines by_line) g.here.early);
     askers = g.here.askers ++ entered step;
     keeps = g.enters g.here.askers g.here.keeps;
   }
@@ -249,7 +238,7 @@ module _ (old : Host) (w : World) (step : Step) (lines : List Line) (v : World) 
     told = after (first_querier setup.own four six) (acts setup steps)
 
     abbrev asked : List (ℕ × List ℕ)
-    asked = queries_by heard (coming_by (moment_named step) lines)
+    asked = queries_by heard (coming_by (traits step).moment lines)
 
     abbrev askers : List (Option Asker)
     askers = before.askers ++ entered step
@@ -260,7 +249,7 @@ module _ (old : Host) (w : World) (step : Step) (lines : List Line) (v : World) 
     old_is : old.querier ≡ told.0
     old_is = ap (λ (n : ℕ). record old.querier { own = n }) old_own ∙ has.querier
 
-    more_acts : acts setup (steps ++ step ∷ []) ≡ acts setup steps ++ (flat_map (heard_in askers new.now) lines ++ acts_by (coming_by (moment_named step) lines))
+    more_acts : acts setup (steps ++ step ∷ []) ≡ acts setup steps ++ (flat_map (heard_in askers new.now) lines ++ acts_by (coming_by (traits step).moment lines))
     more_acts =
         ap (λ (l : Listening). l.acts) (listening_push setup steps step)
         ∙ ap (λ (x : World). acts setup steps ++ acts_of askers step (world_step x step)) (listening_world setup steps ∙ sym at)
@@ -275,13 +264,13 @@ module _ (old : Host) (w : World) (step : Step) (lines : List Line) (v : World) 
     told_more =
         let first = first_querier setup.own four six in
         let hearing = flat_map (heard_in askers new.now) lines in
-        let passing = acts_by (coming_by (moment_named step) lines) in
+        let passing = acts_by (coming_by (traits step).moment lines) in
         ap (after first) more_acts
         ∙ fold-append acted (first, []) (acts setup steps) (hearing ++ passing)
         ∙ fold-append acted told hearing passing
         ∙ ap (λ (q : QuerierState). fold acted (fold acted (q, told.1) hearing) passing) (sym old_is)
         ∙ ap (λ (x : Queried). fold acted x passing) (g.hears askers keeps told.1)
-        ∙ ticks_is heard told.1 (coming_by (moment_named step) lines)
+        ∙ ticks_is heard told.1 (coming_by (traits step).moment lines)
         ∙ ap (λ (q : QuerierState). (q, told.1 ++ asked)) (sym g.ticks)
 
     has_more : HasHeard new four six setup (steps ++ step ∷ [])
@@ -298,7 +287,7 @@ module _ (old : Host) (w : World) (step : Step) (lines : List Line) (v : World) 
         ∙ sym (flat_map-append query_line told.1 asked)
         ∙ ap (λ (x : Queried). flat_map query_line x.1) (sym told_more)
 
-  pub hears_step : (text more : List ℕ) → more ≡ text ++ flat_map query_line (queries_by heard (coming_by (moment_named step) lines)) → HearsStep old text w step new more
+  pub hears_step : (text more : List ℕ) → more ≡ text ++ flat_map query_line (queries_by heard (coming_by (traits step).moment lines)) → HearsStep old text w step new more
   hears_step text more grew = λ four six setup steps at has is.
       (has_more four six setup steps at has, asks_more four six setup steps at has text more is grew)
 

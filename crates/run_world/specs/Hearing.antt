@@ -7,7 +7,6 @@ use Rattle.std.specs.Ordering.{nat_cmp}
 use Rattle.std.specs.declared.option.Option.{Option}
 use Rattle.std.specs.declared.option.Option.TheVariants.{None, Some}
 use Rattle.br_model.specs.declared.steps.Step.{Step}
-use Rattle.br_model.specs.declared.steps.Step.TheVariants.{Rx, Cmd, Now, Serve, Hold, Post, Turn, Report, Sweep, Publish}
 use Rattle.br_model.specs.declared.transcript.Line.{Line}
 use Rattle.br_model.specs.Plane.Runs.{run}
 use Rattle.br_model.specs.Plane.World.{World}
@@ -39,20 +38,7 @@ row_is_done (One line) = is_done line
 row_is_done (Sent id ports untagged plain tagged) = false
 row_is_done (Ctl port bytes) = false
 
--- the moment that a step names
-abbrev pub moment_named : Step → Option ℕ
-moment_named (Rx port bytes) = None
-moment_named (Cmd c) = None
-moment_named (Now moment) = Some moment
-moment_named Serve = None
-moment_named Hold = None
-moment_named (Post id point) = None
-moment_named (Turn dom) = None
-moment_named (Report dom) = None
-moment_named (Sweep dom) = None
-moment_named Publish = None
-
--- it comes where the lines say that the step was done
+-- the moment that a step names comes where the lines say that it was done
 abbrev pub coming_by : Option ℕ → List Line → Option ℕ
 coming_by None lines = None
 coming_by (Some moment) lines = if list_any is_done lines then Some moment else None

@@ -5,7 +5,6 @@ use Rattle.std.specs.declared.option.Option.{Option}
 use Rattle.std.specs.declared.option.Option.TheVariants.{None, Some}
 use Rattle.br_model.specs.declared.change.Update.{Update}
 use Rattle.br_model.specs.declared.steps.Step.{Step}
-use Rattle.br_model.specs.declared.steps.Step.TheVariants.{Rx, Cmd, Now, Serve, Hold, Post, Turn, Report, Sweep, Publish}
 use Rattle.br_model.specs.Plane.Chip.{Chip}
 use Rattle.br_model.specs.Plane.Runs.{run}
 use Rattle.br_model.specs.Plane.World.{World, chip_at}
@@ -18,19 +17,6 @@ use Rattle.run_world.specs.Hearing.{HasHeard, IsAsked, IsHost}
 use Rattle.run_world.specs.declared.asking.Host.{Host}
 use Rattle.run_world.specs.declared.voice.Voice.{Voice}
 use Rattle.run_world.specs.declared.voice.Voice.TheVariants.{Silent, Monitor, Querier}
-
--- the domain whose chip's turn the step is
-abbrev pub turn_of : Step → Option ℕ
-turn_of (Rx port bytes) = None
-turn_of (Cmd c) = None
-turn_of (Now moment) = None
-turn_of Serve = None
-turn_of Hold = None
-turn_of (Post id point) = None
-turn_of (Turn dom) = Some dom
-turn_of (Report dom) = None
-turn_of (Sweep dom) = None
-turn_of Publish = None
 
 -- what the domain's chip, which is there, applies next
 abbrev pub IsNext : World → ℕ → Option Update → Type 0

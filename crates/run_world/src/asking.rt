@@ -2,6 +2,7 @@
 ghost use Rattle.std.specs.Prelude.{◌≡◌, ◌<◌, ◌^◌, ◌++◌, [], true, false, IfOk, OnOk, IfSome, None, map, string_bytes};
 ghost use Rattle.std.specs.List.{flat_map, list_any};
 ghost use Rattle.br_model.specs.Data.Digits.{hex_of};
+ghost use Rattle.br_model.specs.Plane.Traits.{traits};
 ghost use Rattle.br_model.specs.Plane.World.{first_world};
 ghost use Rattle.br_model.specs.Table.Domains.{Domains, chip_domains};
 ghost use Rattle.br_model.specs.Table.Setup.{Setup};
@@ -10,7 +11,7 @@ ghost use Rattle.mcast_querier.specs.Querier.{first_querier};
 ghost use Rattle.mcast_querier.specs.Queries.{is_host_four, is_link_local_six};
 ghost use Rattle.mcast_querier.specs.Runs.{is_done, query_line as query_line_of};
 ghost use Rattle.plane_parts.specs.Added.{Added};
-ghost use Rattle.run_world.specs.Hearing.{HearsStep, IsHost, Keeps, coming_by, moment_after, moment_named as moment_named_of, queries_by, row_is_done, ticked_by};
+ghost use Rattle.run_world.specs.Hearing.{HearsStep, IsHost, Keeps, coming_by, moment_after, queries_by, row_is_done, ticked_by};
 ghost use Rattle.run_world.specs.Worlds.{Tells};
 ghost use Rattle.run_world.specs.Voices.{HeardBy, HostIn, SaysBy, lines_of};
 ghost use Rattle.run_world.specs.declared.voice.Voice.TheVariants as Voice;
@@ -50,19 +51,11 @@ pub struct Asking {
 
 /// The moment that the step names, if it is one.
 fn moment_named(step: &Step) -> Option<u64>
-    ensures { result ≡ moment_named_of step.now }
+    ensures { result ≡ (traits step.now).moment }
 {
     match step {
         Step::Now(moment) => Some(*moment),
-        Step::Rx { .. }
-        | Step::Cmd(_)
-        | Step::Serve
-        | Step::Hold
-        | Step::Post { .. }
-        | Step::Turn(_)
-        | Step::Report(_)
-        | Step::Sweep(_)
-        | Step::Publish => None,
+        _ => None,
     }
 }
 

@@ -72,15 +72,7 @@ impl Entered {
     {
         match step {
             Step::Rx { bytes, .. } => self.keep(alloc, bytes.as_slice()),
-            Step::Cmd(_)
-            | Step::Now(_)
-            | Step::Serve
-            | Step::Hold
-            | Step::Post { .. }
-            | Step::Turn(_)
-            | Step::Report(_)
-            | Step::Sweep(_)
-            | Step::Publish => Ok(()),
+            _ => Ok(()),
         }
     }
 

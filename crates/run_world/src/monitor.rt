@@ -2,13 +2,13 @@
 ghost use Rattle.std.specs.Prelude.{◌≡◌, ◌++◌, [], true, false, OnOk, None, Some, string_bytes};
 ghost use Rattle.std.specs.List.{flat_map};
 ghost use Rattle.br_model.specs.declared.steps.Step.TheVariants.{Turn};
+ghost use Rattle.br_model.specs.Plane.Traits.{traits};
 ghost use Rattle.br_model.specs.Table.Domains.{chip_domains};
 ghost use Rattle.br_model.specs.Text.LineForms.{comes_by_line};
 ghost use Rattle.neigh_netlink.specs.Monitor.{message_line, messages_in};
 ghost use Rattle.neigh_netlink.specs.Stream.{kept_of};
 ghost use Rattle.plane_parts.specs.Added.{Added};
 ghost use Rattle.run_world.specs.Worlds.{Tells};
-ghost use Rattle.run_world.specs.Voices.{turn_of as turn_of_step};
 
 use crate::NoMemory;
 use crate::world::World;
@@ -34,19 +34,11 @@ pub struct Monitor {
 
 /// The domain whose chip's turn the step is, if it is a turn.
 fn turn_of(step: &Step) -> Option<Dom>
-    ensures { result ≡ turn_of_step step.now }
+    ensures { result ≡ (traits step.now).turn }
 {
     match step {
         Step::Turn(dom) => Some(*dom),
-        Step::Rx { .. }
-        | Step::Cmd(_)
-        | Step::Now(_)
-        | Step::Serve
-        | Step::Hold
-        | Step::Post { .. }
-        | Step::Report(_)
-        | Step::Sweep(_)
-        | Step::Publish => None,
+        _ => None,
     }
 }
 
@@ -85,7 +77,7 @@ fn accept<R: Wait>(
     messages: &mut Vec<Neigh>,
 ) -> Result<(), NoMemory>
     requires by_line { comes_by_line false (chip_domains world.old.setup.domains) step ≡ true }
-    requires other { turn_of_step step ≡ None }
+    requires other { (traits step).turn ≡ None }
     requires kept { stream.old ≡ kept_of world.old.setup.domains world.old.history }
     ensures tells { OnOk result (Added (Tells world.old step world.new) lines.old.lines lines.new.lines) }
     ensures kept { OnOk result (stream.new ≡ kept_of world.new.setup.domains world.new.history) }

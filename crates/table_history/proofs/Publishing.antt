@@ -41,10 +41,10 @@ fold_taken before (c ∷ later) w =
     ap (λ (t : Table). fold taken t later) one ∙ (fold_taken (before ++ c ∷ []) later (subst AreWithin (sym seam) w) ∙ ap table seam)
 
 -- the tables of a history that is one batch longer
-pub table_after : (p : Published) (o : Operation) (log : List (List Change)) → IsTable p → p.seen.log ≡ log → o.seen.log ≡ log ++ o.changes.items ∷ [] → o.batches ≡ length log + 1 → 0 < length o.changes.items
-    → AreWithin (changes_of log ++ o.changes.items) → IsTable (after p o)
+pub table_after : (p : Published) (o : Operation) (log : List (List Change)) → IsTable p → p.seen.log ≡ log → o.seen.log ≡ log ++ o.changes.list ∷ [] → o.batches ≡ length log + 1 → 0 < length o.changes.list
+    → AreWithin (changes_of log ++ o.changes.list) → IsTable (after p o)
 table_after p o log t same is number some within =
-    let items = o.changes.items in
+    let items = o.changes.list in
     let more : changes_of o.seen.log ≡ changes_of log ++ items = ap changes_of is ∙ changes_of-push log items in
     let tables : p.tables ≡ table (changes_of log) = t.tables ∙ ap (λ (l : List (List Change)). table (changes_of l)) same in
     let len : p.len ≡ length (changes_of log) = t.len ∙ ap (λ (l : List (List Change)). length (changes_of l)) same in
@@ -67,10 +67,10 @@ published_some o [] h = absurd (omega arith)
 published_some o (x ∷ xs) h = refl
 
 -- an operation with no changes changes nothing
-pub after_nothing : (p : Published) (o : Operation) → IsTable p → o.seen ≡ p.seen → o.changes.items ≡ [] → o.batches ≡ p.batches → after p o ≡ p
+pub after_nothing : (p : Published) (o : Operation) → IsTable p → o.seen ≡ p.seen → o.changes.list ≡ [] → o.batches ≡ p.batches → after p o ≡ p
 after_nothing p o t seen none same =
-    let tables : fold taken p.tables o.changes.items ≡ p.tables = ap (λ (l : List Change). fold taken p.tables l) none in
+    let tables : fold taken p.tables o.changes.list ≡ p.tables = ap (λ (l : List Change). fold taken p.tables l) none in
     let few = t.within.few in
-    let zero : length o.changes.items ≡ 0 = ap length none in
-    let len : (p.len + length o.changes.items) % 18446744073709551616 ≡ p.len = small_mod (p.len + length o.changes.items) (omega (arith, t.len)) ∙ (let e : p.len + length o.changes.items ≡ p.len = omega arith in e) in
+    let zero : length o.changes.list ≡ 0 = ap length none in
+    let len : (p.len + length o.changes.list) % 18446744073709551616 ≡ p.len = small_mod (p.len + length o.changes.list) (omega (arith, t.len)) ∙ (let e : p.len + length o.changes.list ≡ p.len = omega arith in e) in
     λ i. record { tables = tables i; len = len i; batches = same i; seen = seen i }

@@ -13,8 +13,8 @@ taken t c = if fits t c then apply t c else t
 
 abbrev pub after : Published → Operation → Published
 after p o = record {
-  tables = fold taken p.tables o.changes.items;
-  len = (p.len + length o.changes.items) % 18446744073709551616;
+  tables = fold taken p.tables o.changes.list;
+  len = (p.len + length o.changes.list) % 18446744073709551616;
   batches = o.batches;
   seen = o.seen;
 }

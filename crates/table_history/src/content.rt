@@ -4,6 +4,7 @@ ghost use Rattle.table_history.specs.Content.{taken};
 
 use crate::NoMemory;
 use crate::law::Shown;
+use crate::packed::Packed;
 use br_model::change::Change;
 use forward_rules::SoftTables;
 use left_right::Absorb;
@@ -20,7 +21,7 @@ pub struct Published {
 /// A publication: its changes, and the book that has them.
 #[derive(Drop)]
 pub struct Operation {
-    pub changes: Vec<Change>,
+    pub changes: Packed,
     pub batches: u64,
     pub seen: Shown,
 }
@@ -46,8 +47,8 @@ impl Absorb<Operation> for Published {
     ghost never_fails = { Unit {0} };
 
     fn absorb_first(&mut self, operation: &Operation, _other: &Published) -> Result<(), NoMemory> {
-        for change in &operation.changes {
-            take_in(&mut self.tables, change);
+        for i in 0..operation.changes.len() {
+            take_in(&mut self.tables, &operation.changes.get(i));
         }
         self.len = self.len.wrapping_add(operation.changes.len() as u64);
         self.batches = operation.batches;

@@ -1,5 +1,6 @@
 //! The book of all publications, which exists in proofs alone: its log only grows, and whoever has seen a beginning of it can
 //! show so.
+use crate::packed::Packed;
 use br_model::change::Change;
 use logbook::{Gain, Plain, Play, Rule, Seen, Word};
 use std::collections::LinkedList;
@@ -46,10 +47,10 @@ impl Play<Batch, u64> for Add {
     ghost then = { Adds };
 }
 
-impl Plain<Vec<Change>, Batch, u64> for Add {
+impl Plain<Packed, Batch, u64> for Add {
     ghost use Rattle.std.specs.Prelude.{None};
 
-    ghost ask = { λ changes. changes.items };
+    ghost ask = { λ changes. changes.list };
 
     ghost state = { λ changes. None };
 }

@@ -3,6 +3,7 @@
 
 pub mod content;
 pub mod law;
+pub mod packed;
 pub mod rule;
 
 pub use br_model::NoMemory;

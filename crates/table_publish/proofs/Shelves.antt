@@ -13,8 +13,8 @@ shelved_full b h = subst AllFull (ap (λ s. s.log) h.shown) h.table.full
 pub shelved_published : (b : Inside) → IsShelved b → IsPublished (object_of b.seen.log)
 shelved_published b h = published_of b.seen.log (shelved_full b h)
 
-pub shelved_few : (b : Inside) → IsShelved b → length b.pending.items + b.len ≤ most_changes
-shelved_few b h = omega (arith, h.fit.few, h.len, length-append (changes_of b.seen.log) b.pending.items)
+pub shelved_few : (b : Inside) → IsShelved b → length b.pending.list + b.len ≤ most_changes
+shelved_few b h = omega (arith, h.fit.few, h.len, length-append (changes_of b.seen.log) b.pending.list)
 
 pub shelved_batches : (b : Inside) → IsShelved b → b.batches ≤ most_changes
 shelved_batches b h = omega (arith, h.batches, h.len, shelved_few b h, length-full b.seen.log (shelved_full b h))

@@ -1,5 +1,5 @@
 -- What holds of the fields of a board and of a seat.
-use Rattle.std.specs.Prelude.{◌≡◌, ◌≤◌, ◌++◌, [], length, drop, vec_capacity, IsSome, IfSome}
+use Rattle.std.specs.Prelude.{◌≡◌, ◌≤◌, ◌++◌, [], length, drop, IsSome, IfSome}
 use Rattle.left_right.specs.Sides.{view as place_view}
 use Rattle.br_model.specs.Table.Limits.{most_changes, AreWithin}
 use Rattle.table_history.specs.Object.{changes_of, AllFull}
@@ -17,8 +17,8 @@ pub record IsShelved (b : Inside) : Type 0 where
   pub table : IsTable b.writer.desk.shown.value
   pub idle : drop b.writer.behind b.writer.log.items ≡ []
   pub named : Knows (place_view b.writer.desk.place) b.seen.book
-  pub fit : AreWithin (changes_of b.seen.log ++ b.pending.items)
-  pub room : most_changes ≤ vec_capacity b.pending
+  pub fit : AreWithin (changes_of b.seen.log ++ b.pending.list)
+  pub room : most_changes ≤ b.pending.room
 
 pub record IsSeated (s : seats.Inside) : Type 0 where
   pub there : IsSome s.reader

@@ -1,5 +1,5 @@
 //! The board, which publishes, and the seats that it is made with.
-ghost use Rattle.std.specs.Prelude.{◌≡◌, ◌+◌, ◌-◌, ◌<◌, ◌≤◌, ◌++◌, ◌∷◌, ◌↔◌, [], drop, length, replicate, IfOk, OnOk, OnErr, IfSome, IsSome, IsTrue, vec_capacity};
+ghost use Rattle.std.specs.Prelude.{◌≡◌, ◌+◌, ◌-◌, ◌<◌, ◌≤◌, ◌++◌, ◌∷◌, ◌↔◌, [], drop, length, replicate, IfOk, OnOk, OnErr, IfSome, IsSome, IsTrue};
 ghost use Rattle.left_right.specs.Sides.{view as place_view};
 ghost use Rattle.br_model.specs.Table.Limits.{AreWithin, most_changes};
 ghost use Rattle.table_publish.specs.Board.{all_of, newcomer};
@@ -22,6 +22,7 @@ use std::mem;
 use std::sync::Wait;
 use table_history::content::{Operation, Published};
 use table_history::law::{Add, Batch, Count, Law, Nothing, Shown};
+use table_history::packed::Packed;
 use table_history::rule::{Naming, Note, See, TableWriter};
 
 /// The one who publishes. Contracts see which board it is, its published object and its pending changes. It isn't `Drop`: end it by
@@ -33,7 +34,7 @@ pub struct Board {
     batches: u64,
     len: u32,
     // It has its room from the beginning.
-    pending: Vec<Change>,
+    pending: Packed,
     domains: Domains,
 }
 
@@ -44,7 +45,7 @@ impl Model for Board {
 
     ghost Value = { Shelf };
 
-    ghost view = { λ b. record { board = record { book = b.seen.book; domains = b.domains }; object = object_of b.seen.log; pending = b.pending.items } };
+    ghost view = { λ b. record { board = record { book = b.seen.book; domains = b.domains }; object = object_of b.seen.log; pending = b.pending.list } };
 
     ghost invariant = { IsShelved };
 }
@@ -55,19 +56,17 @@ fn enter_batch<R: Wait>(
     word: &Count,
     seen: &Shown,
     batches: u64,
-    changes: &Vec<Change>,
+    changes: &Packed,
 ) -> Shown
     requires word { word.now ≡ head_of seen.now.book }
     requires batches { (batches ≡ length seen.now.log) × (batches ≤ most_changes) }
-    requires some { 0 < length changes.now.items }
+    requires some { 0 < length changes.now.list }
     ensures book { result.book ≡ seen.now.book }
-    ensures log { result.log ≡ seen.now.log ++ changes.now.items ∷ [] }
+    ensures log { result.log ≡ seen.now.log ++ changes.now.list ∷ [] }
 {
     for _ in rt.forever() {
         let mut seen = seen.again();
-        let mut offer: Offer<Batch, u64, Law, Nothing> = seen.plain::<Nothing, Vec<Change>, Add>(
-            changes,
-        );
+        let mut offer: Offer<Batch, u64, Law, Nothing> = seen.plain::<Nothing, Packed, Add>(changes);
         let mut pen = seen.no_pen();
         let found = word.compare_exchange::<Add, Nothing>(
             batches,
@@ -86,19 +85,19 @@ fn enter_batch<R: Wait>(
 /// So many pending changes are copied into their publication at most.
 const MOST_COPIED: usize = 4096;
 
-/// Takes all changes out of a list that keeps its room. A few are copied: room for a whole history costs two calls of the system.
-fn take_pending(alloc: Global, pending: &mut Vec<Change>) -> Result<Vec<Change>, NoMemory>
-    requires { most_changes ≤ vec_capacity pending.old }
-    ensures items { IfOk result (λ taken. taken.items ≡ pending.old.items) }
-    ensures empty { OnOk result (pending.new.items ≡ []) }
-    ensures room { most_changes ≤ vec_capacity pending.new }
+/// Takes all changes out. The room stays. A few are copied: room for a whole history costs two calls of the system.
+fn take_pending(alloc: Global, pending: &mut Packed) -> Result<Packed, NoMemory>
+    requires { most_changes ≤ pending.old.room }
+    ensures items { IfOk result (λ taken. taken.list ≡ pending.old.list) }
+    ensures empty { OnOk result (pending.new.list ≡ []) }
+    ensures room { most_changes ≤ pending.new.room }
     ensures err { OnErr result (pending.new ≡ pending.old) }
 {
     if pending.len() > MOST_COPIED {
-        let empty = Vec::with_capacity(alloc, MOST_CHANGES)?;
+        let empty = Packed::make(alloc, MOST_CHANGES)?;
         return Ok(mem::replace(pending, empty));
     }
-    let taken = Vec::from_slice(alloc, pending.as_slice())?;
+    let taken = pending.copy(alloc)?;
     pending.clear();
     Ok(taken)
 }
@@ -158,7 +157,7 @@ fn open_book<R: Wait>(writer: TableWriter, rt: &R, operation: Operation) -> (Tab
     requires idle { drop writer.behind writer.log.items ≡ [] }
     requires table { IsTable writer.desk.shown.value }
     requires seen { operation.seen ≡ writer.desk.shown.value.seen }
-    requires none { (operation.changes.items ≡ []) × (operation.batches ≡ writer.desk.shown.value.batches) }
+    requires none { (operation.changes.list ≡ []) × (operation.batches ≡ writer.desk.shown.value.batches) }
     ensures idle { drop result.0.behind result.0.log.items ≡ [] }
     ensures table { IsTrue result.1 → IsTable result.0.desk.shown.value }
     ensures seen { IsTrue result.1 → result.0.desk.shown.value.seen ≡ operation.seen }
@@ -266,13 +265,13 @@ impl Board {
     {
         let (seen, mut first, _second) = Shown::open(Start::alone(), 0, 0);
         let word = Count::tracked(0, &mut first);
-        let pending = Vec::with_capacity(alloc, MOST_CHANGES)?;
+        let pending = Packed::make(alloc, MOST_CHANGES)?;
         let mut row = Vec::with_capacity(alloc, seats)?;
         let one = start(alloc, &seen)?;
         let other = start(alloc, &seen)?;
         let writer = TableWriter::new(alloc, one, other, seats)?;
         let nothing = Operation {
-            changes: Vec::new(alloc),
+            changes: Packed::none(alloc),
             batches: 0,
             seen: seen.again(),
         };
@@ -313,10 +312,7 @@ impl Board {
         requires { AreWithin (all_of self.old ++ c.now) }
         ensures { self.new ≡ record self.old { pending = self.old.pending ++ c.now } }
     {
-        match self.pending.extend_from_slice(c) {
-            Ok(()) => {}
-            Err(_) => unreachable!(),
-        }
+        self.pending.add(c);
     }
 
     /// Publishes what is pending, and answers how many changes are then published. After want of memory all is as before.
@@ -326,7 +322,7 @@ impl Board {
         ensures published { IsPublished self.new.object }
         ensures err { OnErr result (self.new ≡ self.old) }
     {
-        if self.pending.is_empty() {
+        if self.pending.len() == 0 {
             return Ok(self.len);
         }
         let count = self.pending.len() as u32;

@@ -1,5 +1,6 @@
 -- Bytes that come to the arena leave what stands in it.
-use Rattle.std.proofs.Common.{arith, ◌≡◌, ℕ, zero, suc, ◌+◌, ◌-◌, ◌<◌, ◌≤◌, min, List, [], ◌∷◌, ◌++◌, map, length, get_or, take, drop, refl, sym, ap, ap₂, ◌∙◌, subst}
+use Rattle.std.proofs.Common.{arith, ◌≡◌, ℕ, Bool, true, false, if◌then◌else◌, zero, suc, ◌+◌, ◌-◌, ◌<◌, ◌≤◌, min, List, [], ◌∷◌, ◌++◌, map, length, get_or, take, drop, refl, sym, ap, ap₂, ◌∙◌, subst}
+use Rattle.std.specs.List.{filter}
 use Rattle.std.proofs.Math.Seq.{take-length, drop-append_seam}
 use Rattle.std.proofs.lemmas.List.{append-nil, drop_all, drop-drop, length-append, length-take-le, take-append-drop, take-append-le, drop-append-le, length-drop}
 use Rattle.std.proofs.lemmas.Grind.{flat_map-append}
@@ -208,3 +209,15 @@ pub fit_more : (len capacity mark copied more len2 capacity2 there : ℕ) → Fi
 fit_more len capacity mark copied more len2 capacity2 there fit is low len_is grows =
     let e : min (capacity - len) (mark + copied - len) ≡ there = is in
     record { all = omega (arith, fit.all, e, low, len_is, grows); copy = omega (arith, fit.copy, e, low, len_is) }
+
+-- ---- where no line has the tagged form
+
+none_by : {A B : Type 0} (q : A → Bool) (x : A) (xs : List A) (f g : A → B) (b : Bool) → q x ≡ b → ((m : A) → q m ≡ false → f m ≡ g m) → (filter q xs ≡ [] → map f xs ≡ map g xs) → filter q (x ∷ xs) ≡ []
+    → map f (x ∷ xs) ≡ map g (x ∷ xs)
+none_by q x xs f g true is same rest none = (let some : filter q (x ∷ xs) ≡ x ∷ filter q xs = ap (λ b. if b then x ∷ filter q xs else filter q xs) is in absurd (cc))
+none_by q x xs f g false is same rest none = ap₂ (λ y ys. y ∷ ys) (same x is) (rest (sym (ap (λ b. if b then x ∷ filter q xs else filter q xs) is) ∙ none))
+
+-- of a list of which none passes
+pub none_left : {A B : Type 0} (q : A → Bool) (xs : List A) (f g : A → B) → ((m : A) → q m ≡ false → f m ≡ g m) → filter q xs ≡ [] → map f xs ≡ map g xs
+none_left q [] f g same none = refl
+none_left q (x ∷ xs) f g same none = none_by q x xs f g (q x) refl same (none_left q xs f g same) none

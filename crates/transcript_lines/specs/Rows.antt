@@ -1,5 +1,5 @@
 -- Rows of lines over an arena of bytes, and the lines that they stand for.
-use Rattle.std.specs.Prelude.{ℕ, ◌+◌, ◌-◌, ◌≤◌, min, if◌then◌else◌, List, [], ◌∷◌, map, take, drop, length}
+use Rattle.std.specs.Prelude.{ℕ, ◌≡◌, ◌+◌, ◌-◌, ◌≤◌, min, if◌then◌else◌, List, [], ◌∷◌, ◌++◌, map, take, drop, length}
 use Rattle.std.specs.List.{flat_map}
 use Rattle.br_model.specs.declared.transcript.Line.{Line}
 use Rattle.br_model.specs.declared.transcript.Line.TheVariants as lines
@@ -15,6 +15,15 @@ at arena s = take s.len (drop s.from arena)
 -- The lines of a frame that leaves these ports: the plain bytes leave the untagged ones.
 abbrev pub sent_lines : ℕ → List ℕ → List ℕ → List ℕ → List ℕ → List Line
 sent_lines id ports untagged plain tagged = map (λ port. lines.Tx id port (if has_number untagged port then plain else tagged)) ports
+
+-- What stands in the arena of the tagged form: nothing may, where no line has it.
+pub record StoresTagged (before after ports untagged whole : List ℕ) (s : Span) : Type 0 where
+  pub form : List ℕ
+  pub items : after ≡ before ++ form
+  pub from : s.from ≡ length before
+  pub size : s.len ≡ length form
+  pub short : length form ≤ length whole
+  pub same : (id : ℕ) (plain : List ℕ) → sent_lines id ports untagged plain form ≡ sent_lines id ports untagged plain whole
 
 -- the lines that a row stands for
 abbrev pub expand_row : List ℕ → Row → List Line

@@ -1,7 +1,7 @@
 //! Lines, with room for more.
 ghost use Rattle.std.specs.Prelude.{◌≡◌, ◌⊎◌, ◌+◌, ◌-◌, ◌*◌, ◌<◌, ◌≤◌, ◌++◌, ◌∷◌, [], length, map, vec_len, vec_capacity, OnOk, OnErr};
 ghost use Rattle.br_model.specs.declared.transcript.Line.TheVariants as line;
-ghost use Rattle.transcript_lines.specs.Rows.{at, expand, moved_row, room, sent_lines, AreBehind, Fit, IsPlain};
+ghost use Rattle.transcript_lines.specs.Rows.{at, expand, moved_row, room, sent_lines, AreBehind, Fit, IsPlain, StoresTagged};
 
 use crate::row::{Row, Span};
 use br_model::NoMemory;
@@ -99,6 +99,29 @@ fn store(arena: &mut Vec<u8>, front: &[u8], tag: &[u8], rest: &[u8]) -> Span
         from,
         len: arena.len() - from,
     }
+}
+
+/// Adds the tagged form where it leaves one of the ports, and nothing else.
+fn store_tagged(
+    arena: &mut Vec<u8>,
+    ports: Ports,
+    untagged: Ports,
+    front: &[u8],
+    tag: &[u8],
+    rest: &[u8],
+) -> Span
+    requires { vec_len arena.old + (length front.now + (length tag.now + length rest.now)) ≤ vec_capacity arena.old }
+    ensures form { StoresTagged arena.old.items arena.new.items ports.entry untagged.entry (front.now ++ (tag.now ++ rest.now)) result }
+    ensures capacity { vec_capacity arena.old ≤ vec_capacity arena.new }
+{
+    ports.members_ascend();
+    if ports.minus(untagged).is_empty() {
+        return Span {
+            from: arena.len(),
+            len: 0,
+        };
+    }
+    store(arena, front, tag, rest)
 }
 
 /// Adds copies of rows, for which there is room, over an arena without the first bytes, which are so many.
@@ -212,7 +235,7 @@ impl Lines {
     }
 
     /// Adds the lines of a frame that leaves these ports, for which there is room. Its plain bytes, those at the untagged ports, are
-    /// `front` and `rest`; elsewhere the tag stands between them. Each form is written once, whatever the number of ports.
+    /// `front` and `rest`; elsewhere the tag stands between them. Each form that is wanted is written once, whatever the number of ports.
     pub fn push_sent(
         &mut self,
         id: u32,
@@ -230,7 +253,7 @@ impl Lines {
         ensures bytes { self.old.bytes ≤ self.new.bytes + ((length front.now + length rest.now) + (length front.now + (length tag.now + length rest.now))) }
     {
         let plain = store(&mut self.bytes, front, &[], rest);
-        let tagged = store(&mut self.bytes, front, tag, rest);
+        let tagged = store_tagged(&mut self.bytes, ports, untagged, front, tag, rest);
         self.rows.push_reserved(Row::Sent {
             id,
             ports,

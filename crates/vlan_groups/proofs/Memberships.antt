@@ -17,16 +17,13 @@ use Rattle.br_model.specs.Table.Domains.{port_places}
 use Rattle.port_sets.specs.Numbers.{numbers_below, has_number}
 use Rattle.port_sets.proofs.Numbers.{numbers_below-filter, none_below}
 use Rattle.vlan_groups.specs.declared.row.Row.{Row}
-use Rattle.vlan_groups.specs.Rows.{ports_where, at_port, memberships, memberships_from}
+use Rattle.vlan_groups.specs.Rows.{ports_where, no_ports, at_port, memberships, memberships_from}
 use Rattle.vlan_groups.specs.Vlans.{vids_of}
 use Rattle.br_model.proofs.PairKeys.{Key, pair_total, same_cmp, eq-pair}
 use Rattle.vlan_groups.proofs.RowLaws.{has-ports_where, at-low, at-high}
 
 abbrev Memberships : Type 0
 Memberships = List (Key × Bool)
-
-abbrev pub no_ports : Row
-no_ports = record { members = []; untagged = [] }
 
 at-no_ports : (p : ℕ) → at_port no_ports p ≡ None
 at-no_ports p = ap (λ b. cond b (Some false) None) (and-false (nat_lt p port_places))

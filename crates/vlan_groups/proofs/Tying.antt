@@ -10,10 +10,10 @@ use Rattle.br_model.proofs.PairKeys.{eq-pair}
 use Rattle.port_sets.specs.Numbers.{numbers_below, has_number}
 use Rattle.vlan_groups.specs.declared.row.Row.{Row}
 use Rattle.vlan_groups.specs.Joined.{block_count, has_vlan, is_vlan, Switches}
-use Rattle.vlan_groups.specs.Rows.{at_port, memberships_from}
+use Rattle.vlan_groups.specs.Rows.{no_ports, at_port, memberships_from}
 use Rattle.vlan_groups.specs.Tied.{AreTied}
 use Rattle.vlan_groups.specs.Vlans.{vids_of}
-use Rattle.vlan_groups.proofs.Memberships.{no_ports, get-memberships, get-set, vids-from, between}
+use Rattle.vlan_groups.proofs.Memberships.{get-memberships, get-set, vids-from, between}
 use Rattle.vlan_groups.proofs.Walks.{is_joined}
 
 some_cond : (b : Bool) (o other : Option Bool) → is_some (cond b o other) ≡ cond b (is_some o) (is_some other)

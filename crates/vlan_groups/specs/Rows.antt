@@ -10,6 +10,10 @@ use Rattle.vlan_groups.specs.declared.row.Row.{Row}
 abbrev pub ports_where : (ℕ → Bool) → List ℕ
 ports_where passes = numbers_below port_places passes
 
+-- the row of no member
+abbrev pub no_ports : Row
+no_ports = record { members = []; untagged = [] }
+
 -- at a port: where it is a member, whether the VLAN's frames leave it untagged
 abbrev pub at_port : Row → ℕ → Option Bool
 at_port row port = if nat_lt port port_places && has_number row.members port then Some (has_number row.untagged port) else None

@@ -1,10 +1,12 @@
 //! The VLANs of each port.
-ghost use Rattle.std.specs.Prelude.{◌≡◌, ◌<◌, ◌↔◌, ◌++◌, ◌&&◌, ℕ, false, IfOk, OnOk, [], replicate};
+ghost use Rattle.std.specs.Prelude.{◌≡◌, ◌<◌, ◌≤◌, ◌↔◌, ◌++◌, ◌&&◌, ℕ, false, IfOk, OnOk, [], replicate, slice_index_or, slice_set, vec_capacity};
+ghost use Rattle.lists.specs.Padded.{padded};
 ghost use Rattle.port_sets.specs.Numbers.{has_number, numbers_below, IsSetBelow};
 ghost use Rattle.vlan_groups.specs.Joined.{block_at, block_count, block_switched, has_vlan, is_vlan, vids_in, Switches};
 
 use crate::NoMemory;
 use br_model::numbers::{Port, Vid};
+use lists::padded::{item_or, put_item};
 use port_sets::PortSet;
 use std::alloc::Global;
 use std::marker::Model;
@@ -18,20 +20,23 @@ const BLOCKS: usize = 64 * Port::PLACES;
 /// The VLANs of each port in blocks: block i of a port has the number n for VLAN 64 i + n.
 #[derive(Drop)]
 pub struct Joined {
+    // Those behind were never written to, and are empty.
     blocks: Vec<VlanBlock>,
     // Of each port the numbers of its blocks that aren't empty.
     used: Vec<VlanBlock>,
 }
 
 impl Model for Joined {
-    ghost use Rattle.std.specs.Prelude.{List, ℕ};
+    ghost use Rattle.std.specs.Prelude.{◌≤◌, List, [], ℕ, vec_capacity};
+    ghost use Rattle.lists.specs.Padded.{padded};
+    ghost use Rattle.vlan_groups.specs.Joined.{block_count};
     ghost use Rattle.vlan_groups.specs.UsedSets.{AreUsed};
 
     ghost Value = { List (List ℕ) };
 
-    ghost view = { λ j. j.blocks.items };
+    ghost view = { λ j. padded [] block_count j.blocks.items };
 
-    ghost invariant = { λ j. AreUsed j.blocks.items j.used.items };
+    ghost invariant = { λ j. AreUsed (padded [] block_count j.blocks.items) j.used.items × (block_count ≤ vec_capacity j.blocks) };
 }
 
 impl Joined {
@@ -39,7 +44,7 @@ impl Joined {
     pub fn make(alloc: Global) -> Result<Joined, NoMemory>
         ensures { IfOk result (λ j. j ≡ replicate block_count []) }
     {
-        let blocks = no_sets(alloc, BLOCKS)?;
+        let blocks = Vec::with_capacity(alloc, BLOCKS)?;
         let used = no_sets(alloc, Port::PLACES)?;
         Ok(Joined { blocks, used })
     }
@@ -49,7 +54,10 @@ impl Joined {
         requires { i < 64 }
         ensures { result ≡ block_at self.now p i }
     {
-        self.blocks[64 * usize::from(p.number()) + usize::from(i)]
+        block_in(
+            self.blocks.as_slice(),
+            64 * usize::from(p.number()) + usize::from(i),
+        )
     }
 
     /// The numbers of the port's blocks that aren't empty.
@@ -75,8 +83,12 @@ impl Joined {
         let vid = v.number();
         let port = usize::from(p.number());
         let place = 64 * port + usize::from(vid / 64);
-        let block = switched(self.blocks[place], (vid % 64) as u8, on);
-        self.blocks[place] = block;
+        let block = switched(
+            block_in(self.blocks.as_slice(), place),
+            (vid % 64) as u8,
+            on,
+        );
+        put_block(&mut self.blocks, place, block);
         self.used[port] = switched(self.used[port], (vid / 64) as u8, !block.is_empty());
     }
 
@@ -90,6 +102,24 @@ impl Joined {
         }
         Ok(vids)
     }
+}
+
+/// The block at a place.
+fn block_in(blocks: &[VlanBlock], place: usize) -> VlanBlock
+    requires { place < block_count }
+    ensures { result ≡ slice_index_or (padded [] block_count blocks.now) place [] }
+{
+    item_or(blocks, place, VlanBlock::empty())
+}
+
+/// Writes the block at a place, within the room that is there.
+fn put_block(blocks: &mut Vec<VlanBlock>, place: usize, block: VlanBlock)
+    requires within { place < block_count }
+    requires room { block_count ≤ vec_capacity blocks.old }
+    ensures blocks { padded [] block_count blocks.new.items ≡ slice_set (padded [] block_count blocks.old.items) place block }
+    ensures room { block_count ≤ vec_capacity blocks.new }
+{
+    put_item(blocks, place, block, VlanBlock::empty());
 }
 
 /// So many empty sets.

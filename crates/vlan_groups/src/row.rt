@@ -1,7 +1,7 @@
 //! The ports of one VLAN.
-ghost use Rattle.std.specs.Prelude.{◌≡◌, ℕ, ◌==◌, ◌&&◌, [], Some, None, is_some, false, if◌then◌else◌};
+ghost use Rattle.std.specs.Prelude.{◌≡◌, ℕ, ◌==◌, ◌&&◌, Some, None, is_some, false, if◌then◌else◌};
 ghost use Rattle.std.specs.Option.{unwrap_or};
-ghost use Rattle.vlan_groups.specs.Rows.{at_port, ports_where};
+ghost use Rattle.vlan_groups.specs.Rows.{at_port, no_ports, ports_where};
 
 use br_model::numbers::Port;
 use port_sets::Ports;
@@ -17,8 +17,7 @@ pub struct Row {
 impl Row {
     /// The row of no member.
     pub fn empty() -> Row
-        ensures members { result.members ≡ [] }
-        ensures untagged { result.untagged ≡ [] }
+        ensures { result ≡ no_ports }
     {
         Row {
             members: Ports::empty(),

@@ -1,18 +1,20 @@
 //! The table of memberships and PVIDs.
-ghost use Rattle.std.specs.Prelude.{◌≡◌, ◌↔◌, ◌+◌, ◌<◌, not, IfOk, IsErr, IsTrue, OnErr, OnOk, [], length};
+ghost use Rattle.std.specs.Prelude.{◌≡◌, ◌↔◌, ◌+◌, ◌<◌, ◌≤◌, not, IfOk, IsErr, IsTrue, OnErr, OnOk, [], slice_index_or, slice_set, vec_capacity};
 ghost use Rattle.std.specs.Ordering.{nat_cmp};
 ghost use Rattle.br_model.specs.Table.Domains.{entries_from};
 ghost use Rattle.br_model.specs.Data.Maps.{get, put};
 ghost use Rattle.br_model.specs.Table.Table.{start, without_pvid};
 ghost use Rattle.br_model.specs.declared.change.Change.TheVariants as Change;
 ghost use Rattle.vlan_groups.specs.Vlans.{parts, after, is_member, is_untagged, vids_of};
-ghost use Rattle.vlan_groups.specs.Rows.{ports_where, memberships_from};
+ghost use Rattle.lists.specs.Padded.{padded};
+ghost use Rattle.vlan_groups.specs.Rows.{ports_where, no_ports};
 
 use crate::NoMemory;
 use crate::joined::Joined;
 use crate::row::Row;
 use crate::vid_list::Vids;
 use br_model::numbers::{Port, Vid};
+use lists::padded::{item_or, put_item};
 use port_sets::Ports;
 use std::alloc::Global;
 use std::marker::Model;
@@ -33,23 +35,25 @@ const VLANS: usize = 4094;
 /// The members of each VLAN, and the VLAN of each port's untagged frames.
 #[derive(Drop)]
 pub struct VlanTable {
-    // The row of VLAN v at place v - 1.
+    // The row of VLAN v at place v - 1. Those behind were never written to, and have no member.
     rows: Vec<Row>,
     joined: Joined,
     pvids: [Option<Vid>; Port::PLACES],
 }
 
 impl Model for VlanTable {
+    ghost use Rattle.std.specs.Prelude.{◌≤◌, vec_capacity};
     ghost use Rattle.br_model.specs.Table.Domains.{entries_from};
+    ghost use Rattle.lists.specs.Padded.{padded};
     ghost use Rattle.vlan_groups.specs.Vlans.{Vlans};
-    ghost use Rattle.vlan_groups.specs.Rows.{memberships_from};
+    ghost use Rattle.vlan_groups.specs.Rows.{memberships_from, no_ports};
     ghost use Rattle.vlan_groups.specs.Tied.{AreTied};
 
     ghost Value = { Vlans };
 
-    ghost view = { λ t. record { vlans = memberships_from 1 t.rows.items; pvid = entries_from 0 t.pvids } };
+    ghost view = { λ t. record { vlans = memberships_from 1 (padded no_ports 4094 t.rows.items); pvid = entries_from 0 t.pvids } };
 
-    ghost invariant = { λ t. AreTied t.rows.items t.joined };
+    ghost invariant = { λ t. AreTied (padded no_ports 4094 t.rows.items) t.joined × (4094 ≤ vec_capacity t.rows) };
 }
 
 impl VlanTable {
@@ -57,9 +61,10 @@ impl VlanTable {
     pub fn make(alloc: Global) -> Result<VlanTable, NoMemory>
         ensures { IfOk result (λ t. t ≡ parts start) }
     {
-        let mut rows = empty_rows(alloc)?;
+        let mut rows = Vec::with_capacity(alloc, VLANS)?;
         let place = place_of(Vid::DEFAULT);
-        rows[place] = rows[place].with(Port::HOST, true);
+        let row = row_at(rows.as_slice(), place).with(Port::HOST, true);
+        put_row(&mut rows, place, row);
         let mut joined = Joined::make(alloc)?;
         joined.switch(Port::HOST, Vid::DEFAULT, true);
         Ok(VlanTable {
@@ -87,7 +92,8 @@ impl VlanTable {
         ensures { self.new ≡ after self.old (Change.VlanAdd p v untagged pvid) }
     {
         let place = place_of(v);
-        self.rows[place] = self.rows[place].with(p, untagged);
+        let row = row_at(self.rows.as_slice(), place).with(p, untagged);
+        put_row(&mut self.rows, place, row);
         self.joined.switch(p, v, true);
         if pvid {
             set_pvid(&mut self.pvids, p, v);
@@ -112,7 +118,8 @@ impl VlanTable {
         ensures { self.new ≡ after self.old (Change.VlanDel p v) }
     {
         let place = place_of(v);
-        self.rows[place] = self.rows[place].without(p);
+        let row = row_at(self.rows.as_slice(), place).without(p);
+        put_row(&mut self.rows, place, row);
         self.joined.switch(p, v, false);
         unset_pvid(&mut self.pvids, p, v);
     }
@@ -128,28 +135,28 @@ impl VlanTable {
     pub fn member(&self, p: Port, v: Vid) -> bool
         ensures { result ≡ is_member self.now p v }
     {
-        self.rows[place_of(v)].has(p)
+        row_at(self.rows.as_slice(), place_of(v)).has(p)
     }
 
     /// Whether the port is a member that the VLAN's frames leave without a tag.
     pub fn untagged(&self, p: Port, v: Vid) -> bool
         ensures { result ≡ is_untagged self.now p v }
     {
-        self.rows[place_of(v)].is_untagged(p)
+        row_at(self.rows.as_slice(), place_of(v)).is_untagged(p)
     }
 
     /// The members of the VLAN.
     pub fn ports_of(&self, v: Vid) -> Ports
         ensures { result ≡ ports_where (λ p. is_member self.now p v) }
     {
-        self.rows[place_of(v)].members()
+        row_at(self.rows.as_slice(), place_of(v)).members()
     }
 
     /// The members that the VLAN's frames leave without a tag.
     pub fn untagged_of(&self, v: Vid) -> Ports
         ensures { result ≡ ports_where (λ p. is_untagged self.now p v) }
     {
-        self.rows[place_of(v)].untagged()
+        row_at(self.rows.as_slice(), place_of(v)).untagged()
     }
 
     /// The VLANs of which the port is a member, ascending. It looks at no other.
@@ -162,11 +169,22 @@ impl VlanTable {
     }
 }
 
-fn empty_rows(alloc: Global) -> Result<Vec<Row>, NoMemory>
-    ensures none { IfOk result (λ rows. memberships_from 1 rows.items ≡ []) }
-    ensures each { IfOk result (λ rows. length rows.items ≡ 4094) }
+/// The row at a place.
+fn row_at(rows: &[Row], place: usize) -> Row
+    requires { place < 4094 }
+    ensures { result ≡ slice_index_or (padded no_ports 4094 rows.now) place result }
 {
-    vec![in alloc; Row::empty(); VLANS]
+    item_or(rows, place, Row::empty())
+}
+
+/// Writes the row at a place, within the room that is there.
+fn put_row(rows: &mut Vec<Row>, place: usize, row: Row)
+    requires within { place < 4094 }
+    requires room { 4094 ≤ vec_capacity rows.old }
+    ensures rows { padded no_ports 4094 rows.new.items ≡ slice_set (padded no_ports 4094 rows.old.items) place row }
+    ensures room { 4094 ≤ vec_capacity rows.new }
+{
+    put_item(rows, place, row, Row::empty());
 }
 
 fn no_pvids() -> [Option<Vid>; Port::PLACES]

@@ -2,17 +2,18 @@
 -- Source: this profile.
 use Rattle.std.specs.Prelude.{ℕ, ◌==◌, nat_lt, Bool, true, false, not, ◌&&◌, ◌||◌, if◌then◌else◌, List, [], ◌∷◌, ◌++◌, length}
 use Rattle.std.specs.List.{filter, list_all, list_any}
+use Rattle.std.specs.Option.{is_some, option_map_or}
 use Rattle.std.specs.declared.option.Option.{Option}
 use Rattle.std.specs.declared.option.Option.TheVariants.{None, Some}
 use Rattle.br_model.specs.declared.steps.Refusal.TheVariants.{HistoryFull}
 use Rattle.br_model.specs.declared.steps.Step.{Step}
-use Rattle.br_model.specs.declared.steps.Step.TheVariants.{Rx, Cmd, Now, Serve, Hold, Post, Turn, Report, Sweep, Publish}
 use Rattle.br_model.specs.declared.transcript.Line.{Line}
 use Rattle.br_model.specs.declared.transcript.Line.TheVariants as lines
 use Rattle.br_model.specs.Control.Refusals.{refusal_number}
 use Rattle.br_model.specs.Plane.Chip.{Chip}
 use Rattle.br_model.specs.Plane.Runs.{run, pending}
 use Rattle.br_model.specs.Plane.Steps.{world_step}
+use Rattle.br_model.specs.Plane.Traits.{traits}
 use Rattle.br_model.specs.Plane.World.{World, first_world}
 use Rattle.br_model.specs.Program.Runs.{setup_of}
 use Rattle.br_model.specs.Program.SameSteps.{same_step, same_steps}
@@ -23,68 +24,23 @@ use Rattle.br_model.specs.Text.Scenario.{Scenario}
 
 -- a frame enters
 abbrev pub is_frame : Step → Bool
-is_frame (Rx port bytes) = true
-is_frame (Cmd command) = false
-is_frame (Now moment) = false
-is_frame Serve = false
-is_frame Hold = false
-is_frame (Post id point) = false
-is_frame (Turn dom) = false
-is_frame (Report dom) = false
-is_frame (Sweep dom) = false
-is_frame Publish = false
+is_frame s = is_some (traits s).frame
 
 -- a frame enters at this port
 abbrev pub is_frame_at : ℕ → Step → Bool
-is_frame_at q (Rx port bytes) = port == q
-is_frame_at q (Cmd command) = false
-is_frame_at q (Now moment) = false
-is_frame_at q Serve = false
-is_frame_at q Hold = false
-is_frame_at q (Post id point) = false
-is_frame_at q (Turn dom) = false
-is_frame_at q (Report dom) = false
-is_frame_at q (Sweep dom) = false
-is_frame_at q Publish = false
+is_frame_at q s = option_map_or (λ f. f.0 == q) (traits s).frame false
 
 -- the other steps that workers take from the scenario
 abbrev pub is_ordered : Step → Bool
-is_ordered (Rx port bytes) = false
-is_ordered (Cmd command) = true
-is_ordered (Now moment) = true
-is_ordered Serve = false
-is_ordered Hold = false
-is_ordered (Post id point) = false
-is_ordered (Turn dom) = false
-is_ordered (Report dom) = false
-is_ordered (Sweep dom) = true
-is_ordered Publish = false
+is_ordered s = (traits s).ordered
 
 -- a step that may stand in the drain, the longest end of the steps that has none but these
 abbrev pub may_drain : Step → Bool
-may_drain (Rx port bytes) = false
-may_drain (Cmd command) = false
-may_drain (Now moment) = false
-may_drain Serve = true
-may_drain Hold = false
-may_drain (Post id point) = false
-may_drain (Turn dom) = true
-may_drain (Report dom) = true
-may_drain (Sweep dom) = false
-may_drain Publish = true
+may_drain s = (traits s).drains
 
 -- what is accepted is published
 abbrev pub is_publish : Step → Bool
-is_publish (Rx port bytes) = false
-is_publish (Cmd command) = false
-is_publish (Now moment) = false
-is_publish Serve = false
-is_publish Hold = false
-is_publish (Post id point) = false
-is_publish (Turn dom) = false
-is_publish (Report dom) = false
-is_publish (Sweep dom) = false
-is_publish Publish = true
+is_publish s = (traits s).publishes
 
 -- The steps before the first frame.
 
@@ -123,16 +79,7 @@ frames_at q steps = filter (is_frame_at q) steps
 
 -- the frames of the port at which this step is one
 abbrev pub same_frames_at : List Step → List Step → Step → Bool
-same_frames_at xs ys (Rx port bytes) = same_steps (frames_at port xs) (frames_at port ys)
-same_frames_at xs ys (Cmd command) = true
-same_frames_at xs ys (Now moment) = true
-same_frames_at xs ys Serve = true
-same_frames_at xs ys Hold = true
-same_frames_at xs ys (Post id point) = true
-same_frames_at xs ys (Turn dom) = true
-same_frames_at xs ys (Report dom) = true
-same_frames_at xs ys (Sweep dom) = true
-same_frames_at xs ys Publish = true
+same_frames_at xs ys s = option_map_or (λ f. same_steps (frames_at f.0 xs) (frames_at f.0 ys)) (traits s).frame true
 
 -- Each port has the same frames in both, in the same order: each port that has one in either. A port without a frame in either has none
 -- in both.
@@ -183,16 +130,7 @@ says_full (lines.End steps changes pending waiting) = false
 
 -- the chip of this domain reports
 abbrev pub is_report_at : ℕ → Step → Bool
-is_report_at dom (Rx port bytes) = false
-is_report_at dom (Cmd command) = false
-is_report_at dom (Now moment) = false
-is_report_at dom Serve = false
-is_report_at dom Hold = false
-is_report_at dom (Post id point) = false
-is_report_at dom (Turn d) = false
-is_report_at dom (Report d) = d == dom
-is_report_at dom (Sweep d) = false
-is_report_at dom Publish = false
+is_report_at dom s = option_map_or (λ d. d == dom) (traits s).report false
 
 -- Whether the last report of this domain's chip, from this world on, is refused for want of room; without one, as before.
 abbrev pub last_refused : ℕ → World → Bool → List Step → Bool

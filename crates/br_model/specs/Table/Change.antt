@@ -2,7 +2,7 @@
 -- under which they do.
 -- Source: the kernel's switchdev.rst (address entries are offloaded by deferred work) and net/bridge/br_switchdev.c
 -- (br_switchdev_mdb_notify offloads members of groups with SWITCHDEV_F_DEFER, as edition 2 does); the queue is this profile's.
-use Rattle.std.specs.Prelude.{ℕ, Bool, true, false, List, map, ◌+◌, ◌*◌, ◌^◌}
+use Rattle.std.specs.Prelude.{ℕ, Bool, true, false, List, map}
 use Rattle.std.specs.List.{filter, enumerate_from}
 use Rattle.std.specs.declared.option.Option.{Option}
 use Rattle.std.specs.declared.option.Option.TheVariants.{None, Some}
@@ -10,13 +10,10 @@ use Rattle.br_model.specs.declared.change.Asks.{Asks}
 use Rattle.br_model.specs.declared.change.Asks.TheVariants.{Nothing, State, GroupRoom, AddressRoom}
 use Rattle.br_model.specs.declared.change.Change.{Change}
 use Rattle.br_model.specs.declared.change.Change.TheVariants.{PortUp, PortDown, SetFlags, SetState, VlanAdd, VlanDel, GroupJoin, GroupPart, Router, Querier, Snoop, Stp, AddrPut, AddrDel}
-use Rattle.br_model.specs.declared.change.Form.{Form}
-use Rattle.br_model.specs.declared.change.Form.TheVariants as forms
 use Rattle.br_model.specs.declared.change.Kind.{Kind}
 use Rattle.br_model.specs.declared.change.Update.{Update}
 use Rattle.br_model.specs.declared.domains.Edition.{Edition}
 use Rattle.br_model.specs.declared.domains.Edition.TheVariants.{One, Two}
-use Rattle.br_model.specs.declared.group.Group.TheVariants.{V4, V6}
 
 -- whether it is of an address entry
 abbrev pub is_of_address : Change → Bool
@@ -96,26 +93,3 @@ deferred edition (AddrDel vid mac) = true
 -- the deferred changes in order, with tickets 0, 1, 2 and so on
 abbrev pub updates : Edition → List Change → List Update
 updates edition history = map (λ x. record { ticket = x.0; change = x.1 }) (enumerate_from 0 (filter (deferred edition) history))
-
--- the number with these halves
-abbrev pub whole : ℕ → ℕ → ℕ
-whole high low = high * 2 ^ 64 + low
-
--- the update that stands in few bytes; an IPv6 group is in two halves
-abbrev pub update_of : Form → Update
-update_of (forms.PortUp port n) = record { ticket = n; change = PortUp port }
-update_of (forms.PortDown port n) = record { ticket = n; change = PortDown port }
-update_of (forms.SetFlags port n flags) = record { ticket = n; change = SetFlags port flags }
-update_of (forms.SetState port n state) = record { ticket = n; change = SetState port state }
-update_of (forms.VlanAdd port vid n untagged pvid) = record { ticket = n; change = VlanAdd port vid untagged pvid }
-update_of (forms.VlanDel port vid n) = record { ticket = n; change = VlanDel port vid }
-update_of (forms.JoinFour port vid n address) = record { ticket = n; change = GroupJoin port vid (V4 address) }
-update_of (forms.JoinSix port vid n high low) = record { ticket = n; change = GroupJoin port vid (V6 (whole high low)) }
-update_of (forms.PartFour port vid n address) = record { ticket = n; change = GroupPart port vid (V4 address) }
-update_of (forms.PartSix port vid n high low) = record { ticket = n; change = GroupPart port vid (V6 (whole high low)) }
-update_of (forms.Router port n on) = record { ticket = n; change = Router port on }
-update_of (forms.Querier n six on) = record { ticket = n; change = Querier six on }
-update_of (forms.Snoop n on) = record { ticket = n; change = Snoop on }
-update_of (forms.Stp n on) = record { ticket = n; change = Stp on }
-update_of (forms.AddrPut port vid n mac kind) = record { ticket = n; change = AddrPut vid mac port kind }
-update_of (forms.AddrDel vid n mac) = record { ticket = n; change = AddrDel vid mac }

@@ -3,16 +3,16 @@
 -- Source: the kernel's switchdev.rst (deferred work); the queue is this profile's.
 use Rattle.std.specs.Prelude.{ℕ, ◌==◌, if◌then◌else◌, List, [], ◌++◌, drop, length}
 use Rattle.std.specs.List.{fold}
-use Rattle.std.specs.Option.{option_to_list}
+use Rattle.std.specs.Option.{option_map_or, option_to_list}
 use Rattle.std.specs.declared.option.Option.{Option}
 use Rattle.std.specs.declared.option.Option.TheVariants.{None, Some}
 use Rattle.br_model.specs.declared.change.Change.{Change}
 use Rattle.br_model.specs.declared.steps.Step.{Step}
-use Rattle.br_model.specs.declared.steps.Step.TheVariants.{Rx, Cmd, Now, Serve, Hold, Post, Turn, Report, Sweep, Publish}
 use Rattle.br_model.specs.Table.Cut.{synchronous_of}
 use Rattle.br_model.specs.Table.Setup.{Setup}
 use Rattle.br_model.specs.Plane.Chip.{Chip}
 use Rattle.br_model.specs.Plane.Steps.{world_step}
+use Rattle.br_model.specs.Plane.Traits.{traits}
 use Rattle.br_model.specs.Plane.World.{World, first_world, chip_at, next_of}
 
 -- what the step accepts
@@ -28,18 +28,9 @@ abbrev pub turned_in : World → Option Chip → List Change
 turned_in w None = []
 turned_in w (Some c) = option_to_list (next_of w c)
 
--- what the chip of the domain applies in the step
+-- what the chip of the domain applies in the step, which may be a turn
 abbrev pub applied_in : ℕ → World → Step → List Change
-applied_in dom w (Rx port bytes) = synchronous_in w (Rx port bytes)
-applied_in dom w (Cmd c) = synchronous_in w (Cmd c)
-applied_in dom w (Now moment) = synchronous_in w (Now moment)
-applied_in dom w Serve = synchronous_in w Serve
-applied_in dom w Hold = synchronous_in w Hold
-applied_in dom w (Post id point) = synchronous_in w (Post id point)
-applied_in dom w (Turn d) = if d == dom then turned_in w (chip_at w dom) else []
-applied_in dom w (Report d) = synchronous_in w (Report d)
-applied_in dom w (Sweep d) = synchronous_in w (Sweep d)
-applied_in dom w Publish = synchronous_in w Publish
+applied_in dom w step = option_map_or (λ d. if d == dom then turned_in w (chip_at w dom) else []) (traits step).turn (synchronous_in w step)
 
 abbrev pub then_applied : ℕ → World × List Change → Step → World × List Change
 then_applied dom x step = ((world_step x.0 step).0, x.1 ++ applied_in dom x.0 step)

@@ -1,7 +1,7 @@
 //! `port up`, `port down`, `link`.
 ghost use Rattle.std.specs.Prelude.{◌≡◌, ◌<◌, IfOk};
 ghost use Rattle.br_model.specs.Control.Commands.Ports.{is_down, port_up, port_down, goes_down, link, flags_with, flags_of};
-ghost use Rattle.bridge_plans.specs.Answers.{Answers};
+ghost use Rattle.bridge_plans.specs.Answers.{Answers, AnswersOne};
 ghost use Rattle.bridge_plans.specs.Standing.{table_of};
 
 use crate::commands::drops::{drop_addresses, drop_groups, drop_router, drop_vlans};
@@ -89,6 +89,26 @@ fn flags_with(on: bool, flags: u8, flag: Flags) -> Flags
     }
 }
 
+/// The change by which the port has the flag from now on, or has it no more, if it is otherwise so far.
+pub fn link_change(
+    state: &State,
+    port: Port,
+    flag: Flags,
+    on: bool,
+) -> Result<Option<Change>, EventFault>
+    ensures { AnswersOne result (link (table_of state.now) port flag on) }
+{
+    if is_down(state, port) {
+        return Err(EventFault::Refused(Refusal::PortNotUp));
+    }
+    let old = flags_of(state, port);
+    let new = flags_with(on, old, flag);
+    if old == new.bits() {
+        return Ok(None);
+    }
+    Ok(Some(Change::SetFlags(port, new)))
+}
+
 /// The port has the flag from now on, or has it no more.
 pub fn link(
     alloc: Global,
@@ -99,15 +119,10 @@ pub fn link(
 ) -> Result<Vec<Change>, EventFault>
     ensures { Answers result (link (table_of state.now) port flag on) }
 {
-    if is_down(state, port) {
-        return Err(EventFault::Refused(Refusal::PortNotUp));
+    match link_change(state, port, flag, on)? {
+        Some(change) => Ok(Vec::from_slice(alloc, &[change])?),
+        None => Ok(Vec::new(alloc)),
     }
-    let old = flags_of(state, port);
-    let new = flags_with(on, old, flag);
-    if old == new.bits() {
-        return Ok(Vec::new(alloc));
-    }
-    Ok(Vec::from_slice(alloc, &[Change::SetFlags(port, new)])?)
 }
 
 const ALL_FLAGS: u8 = 63;

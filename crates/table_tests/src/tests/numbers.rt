@@ -1,9 +1,10 @@
 //! Numbers of ports, VLANs and refusals, editions, and groups in parcels.
 use super::common::{assert_same, assert_that, port, vid};
-use br_model::change::{Change, Parcel, Update};
+use br_model::change::{Change, Update};
 use br_model::domains::Edition;
 use br_model::group::Group;
 use br_model::numbers::{Port, Vid};
+use br_model::parcel::Parcel;
 use br_model::steps::Refusal;
 
 /// Numbers, and whether a port has each.

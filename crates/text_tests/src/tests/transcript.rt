@@ -49,7 +49,7 @@ const NO_LINES: &[&str] = &[
     "unread 1 memory\n",
     "chip 1 at 2 0 Drop\n",
     "refused 3 0\n",
-    "refused 3 16\n",
+    "refused 3 99\n",
     "tx 7 255 02\n",
     "tx 7 1 \n",
     "tx 7 1 0\n",

@@ -152,6 +152,9 @@ impl Both {
 
     /// Both make the change, which the chip gets as an update, where it fits.
     fn take(&mut self, change: &Change) {
+        if !change.is_deferred(Edition::Two) {
+            return;
+        }
         if self.soft.fits(change) {
             let update = Update {
                 ticket: 0,

@@ -1,5 +1,5 @@
 use Rattle.std.proofs.Common.{sym, ◌∙◌}
-use Rattle.open_addressing.specs.Circle.{mix}
+use Rattle.open_addressing.specs.Hashed.{mix}
 use Rattle.chip_tables.specs.GroupCells.{folded, head_of, address_bits}
 use Rattle.chip_tables.proofs.GroupRows.{hash-numbered}
 use Rattle.chip_tables.proofs.groups.GroupCellsCellsGroupKeyFanRow.hash.Goals as goal

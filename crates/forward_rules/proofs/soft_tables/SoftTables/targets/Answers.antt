@@ -1,7 +1,6 @@
 use Rattle.std.proofs.Common.{ap, sym, ◌∙◌}
 use Rattle.br_model.specs.Table.Table.{Table}
 use Rattle.br_model.specs.Forward.Targets.{targets, with_flag, flood}
-use Rattle.fdb_core.specs.Fdb.{addresses}
 use Rattle.forward_rules.specs.PortSets.{set_of}
 use Rattle.forward_rules.proofs.Deciding.{group-targets, unknown-targets, unknown-none}
 use Rattle.forward_rules.proofs.soft_tables.SoftTables.targets.Goals as goal
@@ -9,7 +8,7 @@ use Rattle.forward_rules.proofs.soft_tables.SoftTables.targets.Goals as goal
 pub returns-then-is_multicast : goal.returns-then-is_multicast
 returns-then-is_multicast c =
     c.group_targets.ensures
-    ∙ ap set_of (group-targets c.self.inside.ports (addresses c.self.inside.fdb.entries) c.args.vid c.args.h.now c.args.m.now (sym c.is_multicast.ensures ∙ c.if-is_multicast.true))
+    ∙ ap set_of (group-targets c.self.inside.ports c.self.inside.fdb.entries c.args.vid c.args.h.now c.args.m.now (sym c.is_multicast.ensures ∙ c.if-is_multicast.true))
     ∙ ap (λ (t : Table). set_of (targets t c.args.vid c.args.h.now c.args.m.now)) c.self.view_is
 
 pub returns-in-None : goal.returns-in-None

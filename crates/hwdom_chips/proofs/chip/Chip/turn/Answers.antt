@@ -4,8 +4,8 @@ use Rattle.chip_driver.specs.Drives.{Drives, IsTaken}
 use Rattle.hwdom_chips.specs.Chips.{ChipState, chip_of}
 use Rattle.hwdom_chips.proofs.chip.Chip.turn.Goals as goal
 
-pub address-requires : goal.address-requires
-address-requires c = subst (λ (s : ChipState). IsTaken s.driver c.args.update.now.change) (sym c.self.view_is) c.requires.taken
+pub address-requires-clause-taken : goal.address-requires-clause-taken
+address-requires-clause-taken c = subst (λ (s : ChipState). IsTaken s.driver c.args.update.now.change) (sym c.self.view_is) c.requires.taken
 
 pub overflow_add-self : goal.overflow_add-self
 overflow_add-self c = omega (arith, c.requires.count, ap (λ (s : ChipState). s.chip.count) c.self.view_is)

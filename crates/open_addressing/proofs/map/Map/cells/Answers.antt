@@ -5,4 +5,4 @@ use Rattle.open_addressing.specs.Zipped.{key_of}
 use Rattle.open_addressing.proofs.map.Map.cells.Goals as goal
 
 pub returns-clause-apart : goal.returns-clause-apart
-returns-clause-apart g c = subst (λ (cells : List (Option (ℕ × g.row.V.Denot))). IsApart key_of cells) (ap (λ (t : Table g.row.V.Denot). t.cells) c.self.view_is) c.self.invariant.apart
+returns-clause-apart g c = subst (λ (cells : List (Option (ℕ × g.row.V.Denot))). IsApart key_of cells) (ap (λ (t : Table g.row.V.Denot). t.cells) c.self.view_is) c.self.invariant.0.cells.apart

@@ -1,8 +1,10 @@
-use Rattle.std.proofs.Common.{ℕ, List, ap, ◌∙◌}
+use Rattle.std.proofs.Common.{ℕ, List, None, refl, ap, ◌∙◌, arith}
 use Rattle.std.specs.Ordering.{nat_cmp}
 use Rattle.std.specs.FinMap.Entries.{put}
+use Rattle.open_addressing.specs.Hashed.{key_in}
 use Rattle.open_addressing.specs.Finite.{Table}
-use Rattle.open_addressing.proofs.Finite.{put-over, put-new, stop-within}
+use Rattle.open_addressing.specs.Zipped.{key_of}
+use Rattle.open_addressing.proofs.Sound.{sound-over, sound-new}
 use Rattle.open_addressing.proofs.Entries.{entries-put}
 use Rattle.open_addressing.proofs.Roomy.{roomy}
 use Rattle.open_addressing.proofs.map.Map.insert.Goals as goal
@@ -10,52 +12,82 @@ use Rattle.open_addressing.proofs.map.Map.insert.Goals as goal
 pub invariant_of-self : goal.invariant_of-self
 invariant_of-self g c =
     let m = c.self.inside in
-    let f = c.in-Ok.ensures.found in
-    let r = put-over g.C.Cells.hash m.bits m.used m.room (g.C.Cells.cells m.cells) c.self.invariant c.in-Ok.i (g.C.Cells.number c.args.key.now) c.args.value (g.C.Cells.cells c.put.new.self)
-    f.0 c.requires.key f.1 c.put.ensures in
-    r.0
+    let f = c.in-Some.ensures.found in
+    let r = sound-over g.C.Cells.hash m.index.bits m.index.slots.items m.index.rest.items m.spare.fresh m.spare.free.items m.used m.room (g.C.Cells.cells m.cells) c.self.invariant.0
+    c.in-Some.i (g.C.Cells.number c.args.key.now) c.args.value (g.C.Cells.cells c.put.new.self) f.0 c.requires.key f.1 c.put.ensures in
+    (r.0, c.self.invariant.1, c.self.invariant.2)
 
-pub put-requires-in-Err-clause-within : goal.put-requires-in-Err-clause-within
-put-requires-in-Err-clause-within g c =
+pub take-requires : goal.take-requires
+take-requires g c = omega (arith, c.self.invariant.0.spare.within, c.self.invariant.0.spare.small)
+
+pub enter-requires : goal.enter-requires
+enter-requires g c =
     let m = c.self.inside in
     let cells = g.C.Cells.cells m.cells in
-    stop-within g.C.Cells.hash m.bits m.used m.room cells c.self.invariant
-    (roomy g.C.Cells.hash m.bits m.used m.room cells c.self.invariant c.args.self.now c.self.view_is (g.C.Cells.number c.args.key.now) c.requires.key c.in-Err.ensures.absent c.requires.room)
-    c.in-Err.i c.in-Err.ensures.room
+    let sound = c.self.invariant.0 in
+    let none = c.in-None.ensures.absent refl in
+    let room = roomy m.used m.room cells sound.cells c.args.self.now c.self.view_is (g.C.Cells.number c.args.key.now) c.requires.key (λ i _. none i) c.requires.room in
+    let uses = c.take.ensures.uses (key_in key_of None cells) m.used m.room sound.spare room in
+    record {
+      index = sound.index;
+      key = c.requires.key;
+      within = omega (arith, uses.within, sound.cells.sized);
+      small = omega (arith, uses.within, sound.spare.small);
+      empty = uses.empty;
+      absent = none;
+      room = omega (arith, sound.named, room, c.self.invariant.1);
+    }
 
-pub invariant_of-self-in-Err : goal.invariant_of-self-in-Err
-invariant_of-self-in-Err g c =
+pub put-requires-in-None-clause-within : goal.put-requires-in-None-clause-within
+put-requires-in-None-clause-within g c =
+    let m = c.self.inside in
+    let cells = g.C.Cells.cells m.cells in
+    let sound = c.self.invariant.0 in
+    let none = c.in-None.ensures.absent refl in
+    let room = roomy m.used m.room cells sound.cells c.args.self.now c.self.view_is (g.C.Cells.number c.args.key.now) c.requires.key (λ i _. none i) c.requires.room in
+    let uses = c.take.ensures.uses (key_in key_of None cells) m.used m.room sound.spare room in
+    omega (arith, uses.within, sound.cells.sized)
+
+pub invariant_of-self-in-None : goal.invariant_of-self-in-None
+invariant_of-self-in-None g c =
     let m = c.self.inside in
     let cells = g.C.Cells.cells m.cells in
     let k : ℕ = g.C.Cells.number c.args.key.now in
-    let room = roomy g.C.Cells.hash m.bits m.used m.room cells c.self.invariant c.args.self.now c.self.view_is k c.requires.key c.in-Err.ensures.absent c.requires.room in
-    let within = stop-within g.C.Cells.hash m.bits m.used m.room cells c.self.invariant room c.in-Err.i c.in-Err.ensures.room in
-    let r = put-new g.C.Cells.hash m.bits m.used m.room cells c.self.invariant c.in-Err.i k c.args.value (g.C.Cells.cells c.put-in-Err.new.self)
-    within c.requires.key (c.in-Err.ensures.empty within) c.in-Err.ensures.absent room (c.in-Err.ensures.table within) c.put-in-Err.ensures in
-    r.0
+    let sound = c.self.invariant.0 in
+    let none = c.in-None.ensures.absent refl in
+    let room = roomy m.used m.room cells sound.cells c.args.self.now c.self.view_is k c.requires.key (λ i _. none i) c.requires.room in
+    let uses = c.take.ensures.uses (key_in key_of None cells) m.used m.room sound.spare room in
+    let r = sound-new g.C.Cells.hash m.index.bits m.index.slots.items m.index.rest.items m.spare.fresh m.spare.free.items m.used m.room cells sound
+    c.take.result k c.args.value (g.C.Cells.cells c.put-in-None.new.self) c.enter.new.self.bits c.enter.new.self.slots.items c.enter.new.self.rest.items c.take.new.self.fresh c.take.new.self.free.items
+    uses c.requires.key none room c.put-in-None.ensures c.enter.ensures.index c.enter.ensures.named in
+    (r.0, omega (arith, c.self.invariant.1, c.enter.ensures.room), omega (arith, c.self.invariant.2, c.take.ensures.room))
 
-pub returns-in-Ok : goal.returns-in-Ok
-returns-in-Ok g c =
+pub returns-in-Some : goal.returns-in-Some
+returns-in-Some g c =
     let m = c.self.inside in
     let cells = g.C.Cells.cells m.cells in
     let k : ℕ = g.C.Cells.number c.args.key.now in
     let new = g.C.Cells.cells c.put.new.self in
-    let f = c.in-Ok.ensures.found in
-    let r = put-over g.C.Cells.hash m.bits m.used m.room cells c.self.invariant c.in-Ok.i k c.args.value new f.0 c.requires.key f.1 c.put.ensures in
+    let f = c.in-Some.ensures.found in
+    let r = sound-over g.C.Cells.hash m.index.bits m.index.slots.items m.index.rest.items m.spare.fresh m.spare.free.items m.used m.room cells c.self.invariant.0
+    c.in-Some.i k c.args.value new f.0 c.requires.key f.1 c.put.ensures in
     let made : List (ℕ × g.row.V.Denot) → Table g.row.V.Denot = λ es. record { entries = es; room = m.room; cells = new } in
     let puts : Table g.row.V.Denot → Table g.row.V.Denot = λ t. record { entries = put nat_cmp k c.args.value t.entries; room = t.room; cells = new } in
     ap made (entries-put cells new k c.args.value c.requires.key r.1) ∙ ap puts c.self.view_is
 
-pub returns-in-Err : goal.returns-in-Err
-returns-in-Err g c =
+pub returns-in-None : goal.returns-in-None
+returns-in-None g c =
     let m = c.self.inside in
     let cells = g.C.Cells.cells m.cells in
     let k : ℕ = g.C.Cells.number c.args.key.now in
-    let new = g.C.Cells.cells c.put-in-Err.new.self in
-    let room = roomy g.C.Cells.hash m.bits m.used m.room cells c.self.invariant c.args.self.now c.self.view_is k c.requires.key c.in-Err.ensures.absent c.requires.room in
-    let within = stop-within g.C.Cells.hash m.bits m.used m.room cells c.self.invariant room c.in-Err.i c.in-Err.ensures.room in
-    let r = put-new g.C.Cells.hash m.bits m.used m.room cells c.self.invariant c.in-Err.i k c.args.value new
-    within c.requires.key (c.in-Err.ensures.empty within) c.in-Err.ensures.absent room (c.in-Err.ensures.table within) c.put-in-Err.ensures in
+    let new = g.C.Cells.cells c.put-in-None.new.self in
+    let sound = c.self.invariant.0 in
+    let none = c.in-None.ensures.absent refl in
+    let room = roomy m.used m.room cells sound.cells c.args.self.now c.self.view_is k c.requires.key (λ i _. none i) c.requires.room in
+    let uses = c.take.ensures.uses (key_in key_of None cells) m.used m.room sound.spare room in
+    let r = sound-new g.C.Cells.hash m.index.bits m.index.slots.items m.index.rest.items m.spare.fresh m.spare.free.items m.used m.room cells sound
+    c.take.result k c.args.value new c.enter.new.self.bits c.enter.new.self.slots.items c.enter.new.self.rest.items c.take.new.self.fresh c.take.new.self.free.items
+    uses c.requires.key none room c.put-in-None.ensures c.enter.ensures.index c.enter.ensures.named in
     let made : List (ℕ × g.row.V.Denot) → Table g.row.V.Denot = λ es. record { entries = es; room = m.room; cells = new } in
     let puts : Table g.row.V.Denot → Table g.row.V.Denot = λ t. record { entries = put nat_cmp k c.args.value t.entries; room = t.room; cells = new } in
     ap made (entries-put cells new k c.args.value c.requires.key r.1) ∙ ap puts c.self.view_is

@@ -6,7 +6,7 @@ use Rattle.open_addressing.proofs.map.Map.len.Goals as goal
 pub returns-clause-value : goal.returns-clause-value
 returns-clause-value g c =
     let m = c.self.inside in
-    sym (length-entries_of (g.C.Cells.cells m.cells) c.self.invariant.apart ∙ c.self.invariant.counted) ∙ ap (λ (t : Table g.row.V.Denot). length t.entries) c.self.view_is
+    sym (length-entries_of (g.C.Cells.cells m.cells) c.self.invariant.0.cells.apart ∙ c.self.invariant.0.cells.counted) ∙ ap (λ (t : Table g.row.V.Denot). length t.entries) c.self.view_is
 
 pub returns-clause-ascending : goal.returns-clause-ascending
 returns-clause-ascending g c =

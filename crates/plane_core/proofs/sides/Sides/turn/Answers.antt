@@ -8,7 +8,7 @@ use Rattle.chip_driver.specs.Drives.{Drives}
 use Rattle.hwdom_chips.specs.Chips.{ChipState, IsChip}
 use Rattle.plane_core.specs.Sides.{SidesState}
 use Rattle.plane_core.proofs.Changing.{both_ok, changed, chip_here, next_here, on_either, sides_with, there_at, turned_chip, turned_dom, unchanged, where_err, where_ok}
-use Rattle.hwdom_chips.proofs.Following.{count_below, taken_next}
+use Rattle.hwdom_chips.proofs.Following.{count_below, queued_next, taken_next}
 use Rattle.plane_core.proofs.sides.Sides.turn.Goals as goal
 
 pub place-place-requires : goal.place-place-requires
@@ -25,6 +25,14 @@ turn-requires-clause-taken c =
     let was = chip_here b c.self.inside.chips c.self.inside.updates c.self.inside.board c.self.invariant c.place-place.result old old c.at_mut.ensures.value in
     let next = next_here b c.self.inside.chips c.self.inside.updates c.self.inside.board c.self.invariant c.place-place.result old old c.at_mut.ensures.value c.args.self.now c.args.d c.args.update.now c.self.view_is c.place-place.ensures c.requires.next in
     taken_next e b.setup.domains old.driver b.history old.chip.count c.args.update.now.change was.rows c.history-history.ensures.within (updates-named e b.history old.chip.count c.args.update.now next).1
+
+pub turn-requires-clause-queued : goal.turn-requires-clause-queued
+turn-requires-clause-queued c =
+    let b = c.self.inside.bridge in
+    let e = b.setup.domains.edition in
+    let old = c.at_mut.result.now in
+    let next = next_here b c.self.inside.chips c.self.inside.updates c.self.inside.board c.self.invariant c.place-place.result old old c.at_mut.ensures.value c.args.self.now c.args.d c.args.update.now c.self.view_is c.place-place.ensures c.requires.next in
+    queued_next e b.history old.chip.count c.args.update.now.change (updates-named e b.history old.chip.count c.args.update.now next).1
 
 pub turn-requires-clause-count : goal.turn-requires-clause-count
 turn-requires-clause-count c =

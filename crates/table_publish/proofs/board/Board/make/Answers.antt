@@ -4,6 +4,7 @@ use Rattle.br_model.specs.Table.Limits.{AreWithin}
 use Rattle.br_model.proofs.Within.{within_of}
 use Rattle.table_history.specs.Object.{changes_of}
 use Rattle.table_history.specs.Content.{IsTable}
+use Rattle.table_history.specs.Packed.{Listed}
 use Rattle.table_history.proofs.Steps.{begins}
 use Rattle.table_publish.proofs.board.Board.make.Goals as goal
 
@@ -13,9 +14,9 @@ none_within pending e = subst AreWithin (sym e) (within_of [] (omega arith) refl
 pub invariant_of-board : goal.invariant_of-board
 invariant_of-board g c =
     let log : c.again-in-Ok.result.log ≡ [] = search rules in
-    let pending : c.in_ok-pending.pending.items ≡ [] = c.in_ok-pending.ensures.items in
-    let all : changes_of c.again-in-Ok.result.log ++ c.in_ok-pending.pending.items ≡ [] =
-    ap (λ (l : List (List Change)). changes_of l ++ c.in_ok-pending.pending.items) log ∙ pending in
+    let pending : c.in_ok-pending.pending.list ≡ [] = ap (λ (p : Listed). p.list) c.in_ok-pending.ensures in
+    let all : changes_of c.again-in-Ok.result.log ++ c.in_ok-pending.pending.list ≡ [] =
+    ap (λ (l : List (List Change)). changes_of l ++ c.in_ok-pending.pending.list) log ∙ pending in
     let opened : IsTrue c.open_book-writer.result.1 = search rules in
     record {
       word = search rules;
@@ -25,7 +26,7 @@ invariant_of-board g c =
       table = subst IsTable (sym c.fill.ensures.shown) (c.open_book-writer.ensures.table opened);
       idle = search rules;
       named = search rules;
-      fit = none_within (changes_of c.again-in-Ok.result.log ++ c.in_ok-pending.pending.items) all;
+      fit = none_within (changes_of c.again-in-Ok.result.log ++ c.in_ok-pending.pending.list) all;
       room = search rules;
     }
 

@@ -1,4 +1,6 @@
 use Rattle.std.proofs.Common.{ap, ◌∙◌, arith}
+use Rattle.lists.specs.Padded.{padded}
+use Rattle.vlan_groups.specs.Rows.{no_ports}
 use Rattle.vlan_groups.specs.Vlans.{Vlans, vids_of}
 use Rattle.vlan_groups.proofs.Tying.{vids-tied}
 use Rattle.vlan_groups.proofs.table.VlanTable.vids_of.Goals as goal
@@ -7,5 +9,5 @@ pub returns : goal.returns
 returns c =
     c.of.ensures
     ∙ c.in_ok-vids_of.ensures
-    ∙ vids-tied c.self.inside.rows.items c.self.inside.joined c.args.p c.self.invariant (omega arith)
+    ∙ vids-tied (padded no_ports 4094 c.self.inside.rows.items) c.self.inside.joined c.args.p c.self.invariant.0 (omega arith)
     ∙ ap (λ (s : Vlans). vids_of s.vlans c.args.p) c.self.view_is

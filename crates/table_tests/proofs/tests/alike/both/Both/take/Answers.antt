@@ -6,8 +6,8 @@ use Rattle.table_tests.specs.Alike.{AreAlike}
 use Rattle.table_tests.proofs.Staying.{takes, stay}
 use Rattle.table_tests.proofs.tests.alike.both.Both.take.Goals as goal
 
-pub address-requires : goal.address-requires
-address-requires c =
+pub address-requires-clause-taken : goal.address-requires-clause-taken
+address-requires-clause-taken c =
     let change = c.args.change.now in
     let fit = ap (λ (t : Table). fits t change) (sym c.deref.ensures) ∙ (sym c.fits.ensures ∙ c.if-fits.true) in
     subst (λ (driver : Driven). IsTaken driver change) (sym c.deref_mut.ensures.value)

@@ -1,0 +1,49 @@
+-- What is asked of steps beside what they do, a row a step.
+-- Source: this profile.
+use Rattle.std.specs.Prelude.{ℕ, Bool, true, false, List}
+use Rattle.std.specs.declared.option.Option.{Option}
+use Rattle.std.specs.declared.option.Option.TheVariants.{None, Some}
+use Rattle.br_model.specs.declared.steps.Step.{Step}
+use Rattle.br_model.specs.declared.steps.Step.TheVariants.{Rx, Cmd, Now, Serve, Hold, Post, Turn, Report, Sweep, Publish}
+
+pub record Traits : Type 0 where
+  -- the port by which a frame enters, and the frame
+  pub frame : Option (ℕ × List ℕ)
+  -- the moment that comes
+  pub moment : Option ℕ
+  -- the id under which a frame is held that is to be sent, and the point that is named for it
+  pub post : Option (ℕ × Option ℕ)
+  -- the domain whose chip applies a deferred change
+  pub turn : Option ℕ
+  -- the domain whose chip reports
+  pub report : Option ℕ
+  pub publishes : Bool
+  -- In a run by workers: it is taken from the scenario and is no frame, and keeps its place among such steps.
+  pub ordered : Bool
+  -- In a run by workers: it may stand in the drain, the longest end of the steps that has none but these.
+  pub drains : Bool
+
+-- none of these
+abbrev pub plain : Traits
+plain = record {
+  frame = None;
+  moment = None;
+  post = None;
+  turn = None;
+  report = None;
+  publishes = false;
+  ordered = false;
+  drains = false;
+}
+
+abbrev pub traits : Step → Traits
+traits (Rx port bytes) = record plain { frame = Some (port, bytes) }
+traits (Cmd command) = record plain { ordered = true }
+traits (Now moment) = record plain { moment = Some moment; ordered = true }
+traits Serve = record plain { drains = true }
+traits Hold = plain
+traits (Post id point) = record plain { post = Some (id, point) }
+traits (Turn dom) = record plain { turn = Some dom; drains = true }
+traits (Report dom) = record plain { report = Some dom; drains = true }
+traits (Sweep dom) = record plain { ordered = true }
+traits Publish = record plain { publishes = true; drains = true }

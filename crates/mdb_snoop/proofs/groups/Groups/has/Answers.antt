@@ -1,0 +1,13 @@
+use Rattle.std.proofs.Common.{◌∙◌, ap, is_some}
+use Rattle.std.specs.FinMap.Entries.{is_some-find}
+use Rattle.br_model.specs.Table.Groups.{membership_cmp}
+use Rattle.br_model.specs.Data.Maps.{get, has}
+use Rattle.mdb_snoop.specs.Places.{flat}
+use Rattle.mdb_snoop.proofs.groups.Groups.has.Goals as goal
+
+pub returns : goal.returns
+returns c =
+    c.has_member.ensures
+    ∙ ap (λ l. is_some (get membership_cmp (flat l) (c.args.v, c.args.g, c.args.p))) c.deref.ensures.value
+    ∙ is_some-find membership_cmp (c.args.v, c.args.g, c.args.p) (flat c.self.inside.sections.items)
+    ∙ ap (λ l. has membership_cmp l (c.args.v, c.args.g, c.args.p)) c.self.view_is

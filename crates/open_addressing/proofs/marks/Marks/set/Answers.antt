@@ -1,8 +1,0 @@
-use Rattle.open_addressing.proofs.MarkedCells.{set_here, set_other}
-use Rattle.open_addressing.proofs.marks.Marks.set.Goals as goal
-
-pub returns-clause-here : goal.returns-clause-here
-returns-clause-here c = set_here c.args.self.now.words.items c.args.i c.index_mut.result.now c.requires c.index_mut.ensures.value
-
-pub returns-clause-others : goal.returns-clause-others
-returns-clause-others c = set_other c.args.self.now.words.items c.args.i c.index_mut.result.now c.requires c.index_mut.ensures.value
