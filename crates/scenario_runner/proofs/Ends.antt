@@ -9,7 +9,7 @@ use Rattle.br_model.specs.declared.listing.Listing.{Listing}
 use Rattle.br_model.specs.declared.change.Change.{Change}
 use Rattle.br_model.specs.Table.Limits.{most_bytes}
 use Rattle.br_model.specs.Program.Listings.{listed, listed_at, listing_text}
-use Rattle.br_model.specs.Program.Outcomes.{Call, Answers, Read, ReadsBehind, Wrote}
+use Rattle.br_model.specs.Program.Outcomes.{Call, Answers, Read, ReadsBehind, Wrote, scenario_lines}
 use Rattle.br_model.specs.Plane.Runs.{run}
 use Rattle.br_model.specs.Plane.World.{World, Stepped}
 use Rattle.br_model.specs.Text.Roster.{Entry}
@@ -27,7 +27,7 @@ use Rattle.run_status.specs.declared.status.Status.{Status}
 use Rattle.run_status.specs.declared.status.Status.TheVariants as statuses
 use Rattle.scenario_runner.specs.Halting.{Answered, Halted, Halts, IsBehind, Plays, Told, Yields}
 use Rattle.run_status.specs.Writing.{Breaks, Grows, Written}
-use Rattle.run_status.specs.Statuses.{Reads, Replays, Whole, call_of, first_line, last_line, no_parts, nothing}
+use Rattle.run_status.specs.Statuses.{At, EndsIn, Replays, Ways, call_of, first_line, last_line, no_parts, nothing, reading_ways, replay_ways, scenario_ways}
 use Rattle.scenario_runner.specs.Playing.{Below, Filled}
 use Rattle.scenario_runner.specs.Session as session
 use Rattle.run_status.specs.Stopping as stopping
@@ -69,7 +69,7 @@ whole_same answer (Some bytes) input ending same e h = (ap (λ (s : Scenario). s
 
 module _ (failed : Type 0) (left left_now before now : Option (List ℕ)) (r : Status) where
   answers : (answer : List ℕ → List ℕ) (text : List ℕ) (last : Last) (after : Option (List ℕ)) → Same answer → Answered answer left left_now text last → Appends before after text
-      → Answers answer (call_of left left_now before after) (session.ending_of last)
+      → Answers scenario_lines answer (call_of left left_now before after) (session.ending_of last)
   answers answer text last after same t a = record {
     input = t.input;
     read = t.read;
@@ -79,11 +79,11 @@ module _ (failed : Type 0) (left left_now before now : Option (List ℕ)) (r : S
   }
 
   module _ (answer opening : List ℕ → List ℕ) (parts : ℕ → List ℕ → List ℕ) where
-    abbrev W : Status → Call → Type 0
-    W = Whole failed answer opening parts
+    abbrev W : Ways
+    W = reading_ways failed scenario_lines most_bytes answer opening parts
 
     abbrev Ends : Type 0
-    Ends = Reads failed answer opening parts r (call_of left left_now before now)
+    Ends = EndsIn W r (call_of left left_now before now)
 
     -- the scenario has ended
     ends : (text : List ℕ) (last : Last) → Same answer → Answered answer left left_now text last → (Went r → r ≡ session.status_of last) → (Went r → Appends before now text) → Broke r before now text → Ends
@@ -108,7 +108,7 @@ module _ (failed : Type 0) (left left_now before now : Option (List ℕ)) (r : S
   -- a replay
 
   abbrev Replayed : Type 0
-  Replayed = Reads failed told body body_parts r (call_of left left_now before now)
+  Replayed = EndsIn (replay_ways failed) r (call_of left left_now before now)
 
   replay_ends : (mid : Option (List ℕ)) (text : List ℕ) (x : Session) (last : Last) → Plays left left_now x before mid text (Ok last)
       → (Went r → r ≡ session.status_of last) → (Went r → Appends mid now (text ++ [])) → Broke r mid now (text ++ []) → Replayed
@@ -131,19 +131,20 @@ module _ (failed : Type 0) (left left_now before now : Option (List ℕ)) (r : S
   replay_stops mid text stops.TooLong p f s a b =
       fills told body body_parts p.0 p.2 s (all_lasts mid text p.0 _ _ p.1 p.2.stops.told a) (breaks mid text p.0 _ _ p.1 p.2.stops.told b)
   replay_stops mid text stops.NoMemory p f s a b =
-      lacks failed left left_now before now r told body body_parts p.2.input p.2.count p.2.read s (all_lasts mid text p.0 _ _ p.1 p.2.told a) (breaks mid text p.0 _ _ p.1 p.2.told b)
+      lacks failed scenario_lines most_bytes left left_now before now r told body body_parts p.2.input p.2.count p.2.read s
+      (all_lasts mid text p.0 _ _ p.1 p.2.told a) (breaks mid text p.0 _ _ p.1 p.2.told b)
 
   -- a text that is written when the scenario has ended
 
   pub yield_ends : (answer : List ℕ → List ℕ) → Same answer → (x : Last × String Global) → Yields answer left left_now (Ok x) → (Went r → r ≡ session.status_of x.0) → (Went r → Appends before now (string_bytes x.1))
-      → Broke r before now (string_bytes x.1) → Reads failed answer nothing no_parts r (call_of left left_now before now)
+      → Broke r before now (string_bytes x.1) → EndsIn (scenario_ways failed answer) r (call_of left left_now before now)
   yield_ends answer same x p = ends answer nothing no_parts (string_bytes x.1) x.0 same p
 
   pub yield_stops : (answer : List ℕ → List ℕ) (stop : Stop) → Yields answer left left_now (Err stop) → (stop ≡ stops.ReadFault → failed) → (Went r → r ≡ stopping.stop_status stop)
-      → (Went r → Appends before now (stopping.stop_line stop)) → Broke r before now (stopping.stop_line stop) → Reads failed answer nothing no_parts r (call_of left left_now before now)
+      → (Went r → Appends before now (stopping.stop_line stop)) → Broke r before now (stopping.stop_line stop) → EndsIn (scenario_ways failed answer) r (call_of left left_now before now)
   yield_stops answer stops.ReadFault p f = stops_at answer nothing no_parts p.0 p.1 (f refl)
   yield_stops answer stops.TooLong p f = fills answer nothing no_parts p.0 p.1
-  yield_stops answer stops.NoMemory p f = lacks failed left left_now before now r answer nothing no_parts p.0 0 p.1
+  yield_stops answer stops.NoMemory p f = lacks failed scenario_lines most_bytes left left_now before now r answer nothing no_parts p.0 0 p.1
 
 -- what any status says of what was read and written
 
@@ -151,7 +152,7 @@ module _ (failed : Type 0) (answer opening : List ℕ → List ℕ) (parts : ℕ
   abbrev Seen : Call → Type 0
   Seen c = (input : List ℕ) × Read c input × (output : List ℕ) × Wrote c output
 
-  whole_seen : (r : Status) (c : Call) → Whole failed answer opening parts r c → Seen c
+  whole_seen : (r : Status) (c : Call) → At (reading_ways failed scenario_lines most_bytes answer opening parts) r c → Seen c
   whole_seen statuses.Ok c h = (h.0.input, h.0.read, _, h.0.wrote)
   whole_seen statuses.No c h = absurd h
   whole_seen statuses.Usage c h = absurd h
@@ -161,7 +162,7 @@ module _ (failed : Type 0) (answer opening : List ℕ → List ℕ) (parts : ℕ
   whole_seen statuses.NoMemory c h = (h.input, h.read, _, h.wrote)
   whole_seen statuses.TooLong c h = (h.stops.input, h.stops.read, _, h.stops.wrote)
 
-  seen : (r : Status) (c : Call) → Reads failed answer opening parts r c → Seen c
+  seen : (r : Status) (c : Call) → EndsIn (reading_ways failed scenario_lines most_bytes answer opening parts) r c → Seen c
   seen statuses.Ok c h = whole_seen statuses.Ok c h
   seen statuses.No c h = absurd h
   seen statuses.Usage c h = absurd h
@@ -174,7 +175,7 @@ module _ (failed : Type 0) (answer opening : List ℕ → List ℕ) (parts : ℕ
 -- a replay with its first line
 
 module _ (failed : Type 0) (left left_now before now : Option (List ℕ)) (r : Status) where
-  replays : IsBehind left left_now before now → Reads failed told body body_parts r (call_of left left_now before now) → Replays failed r (call_of left left_now before now)
+  replays : IsBehind left left_now before now → EndsIn (replay_ways failed) r (call_of left left_now before now) → Replays failed r (call_of left left_now before now)
   replays b h = let s = seen failed told body body_parts r (call_of left left_now before now) h in (h, first b s)
     where
       first : IsBehind left left_now before now → Seen failed told body body_parts (call_of left left_now before now) → ReadsBehind first_line (call_of left left_now before now)
@@ -225,7 +226,7 @@ pub replays_nothing : (before now : Option (List ℕ)) (r : Status) (left : Opti
     → Broke r before now (last_line (codes "no memory")) → (failed : Type 0) → Replays failed r (call_of left left before now)
 unfolding body_parts
 replays_nothing before now r left s a b failed =
-    replays failed left left before now r (inl (Consumes-nil left)) (lacks failed left left before now r told body body_parts [] 0 (Consumes-nil left) s a b)
+    replays failed left left before now r (inl (Consumes-nil left)) (lacks failed scenario_lines most_bytes left left before now r told body body_parts [] 0 (Consumes-nil left) s a b)
 
 history_is : (s : Scenario) (w : Option World) → session.IsWorld s w → session.history_of w ≡ (run_of s).0.history
 history_is s None h =

@@ -9,7 +9,7 @@ use Rattle.run_io.specs.Reading.{Reading, Reads, IsEnd}
 use Rattle.br_model.specs.declared.steps.Step.{Step}
 use Rattle.br_model.specs.Text.LineForms.{declaration, opening}
 use Rattle.br_model.specs.Text.Roster.{Roster}
-use Rattle.br_model.specs.Program.Outcomes.{HoldsNoEnd}
+use Rattle.br_model.specs.Program.Outcomes.{HoldsNoEnd, scenario_lines}
 use Rattle.br_model.specs.Plane.Runs.{run}
 use Rattle.br_model.specs.Program.Runs.{run_of, setup_of, body_of, body, body_parts}
 use Rattle.br_model.specs.Text.Scenario.{Scenario, Going, Progress, opened, closes, read, reads, scenario}
@@ -141,7 +141,7 @@ module _ (left : Option (List ℕ)) (limit : ℕ) where
     not_going t e g = true≢false (sym e ∙ ap has_ended g)
 
     not_too_long : (left now : Option (List ℕ)) (input : List ℕ) (t : Scenario) → Consumes left now input → length input ≤ limit → has_ended t.ending ≡ true
-        → ((more : List ℕ) → reads (opened false) (input ++ more) ≡ t) → IfSome left (λ bytes. ¬ HoldsNoEnd limit bytes)
+        → ((more : List ℕ) → reads (opened false) (input ++ more) ≡ t) → IfSome left (λ bytes. ¬ HoldsNoEnd scenario_lines limit bytes)
     not_too_long None now input t c n e h = tt
     not_too_long (Some bytes) None input t c n e h = absurd c
     not_too_long (Some bytes) (Some rest) input t c n e h = λ long.
@@ -206,7 +206,7 @@ module _ (left : Option (List ℕ)) (limit : ℕ) where
           all_of (Some bytes) None input c z = absurd c
           all_of (Some bytes) (Some rest) input c z = ap scenario (c ∙ ap (λ (b : List ℕ). input ++ b) z ∙ append-nil input)
 
-          below : (left now : Option (List ℕ)) (input : List ℕ) → Consumes left now input → IsAtEnd now → length input < limit → IfSome left (λ bytes. ¬ HoldsNoEnd limit bytes)
+          below : (left now : Option (List ℕ)) (input : List ℕ) → Consumes left now input → IsAtEnd now → length input < limit → IfSome left (λ bytes. ¬ HoldsNoEnd scenario_lines limit bytes)
           below None now input c z n = tt
           below (Some bytes) None input c z n = absurd c
           below (Some bytes) (Some rest) input c z n = λ long. absurd (omega (arith, long.0, n, ap length (c ∙ ap (λ (b : List ℕ). input ++ b) z ∙ append-nil input)))

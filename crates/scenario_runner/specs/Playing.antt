@@ -9,7 +9,7 @@ use Rattle.run_io.specs.Reading.{Reading}
 use Rattle.br_model.specs.declared.scenario.Said.TheVariants.{Captures}
 use Rattle.br_model.specs.declared.steps.Step.{Step}
 use Rattle.br_model.specs.Text.Operands.{longest_section}
-use Rattle.br_model.specs.Program.Outcomes.{GoesOn, HoldsNoEnd}
+use Rattle.br_model.specs.Program.Outcomes.{GoesOn, HoldsNoEnd, scenario_lines}
 use Rattle.br_model.specs.Program.Runs.{run_of, body_of, body, body_parts}
 use Rattle.br_model.specs.Text.Scenario.{Scenario, Going, opened, read, scenario, whole_says}
 use Rattle.br_model.specs.Theorems.WholeLines.{is_line}
@@ -71,13 +71,13 @@ pub record Played (left : Option (List ℕ)) (limit : ℕ) (now : Option (List �
   pub agrees : Agrees (scenario input) session
   pub told : text ≡ body input
   pub whole : IfSome left (λ bytes. scenario bytes ≡ scenario input)
-  pub within : IfSome left (λ bytes. ¬ HoldsNoEnd limit bytes)
+  pub within : IfSome left (λ bytes. ¬ HoldsNoEnd scenario_lines limit bytes)
 
 -- The run stops: what is written is the body of what the source gave, which neither ends the scenario nor holds a bad line.
 pub record Stopped (left : Option (List ℕ)) (now : Option (List ℕ)) (text : List ℕ) : Type 0 where
   pub input : List ℕ
   pub read : Consumes left now input
-  pub going : GoesOn input
+  pub going : GoesOn scenario_lines input
   pub told : text ≡ body input
 
 -- fewer bytes were read than may be

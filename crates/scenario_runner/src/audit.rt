@@ -5,7 +5,7 @@ ghost use Rattle.run_io.specs.Causes.{Rose};
 ghost use Rattle.chip_audit.specs.Lines.{audited, audited_text, world_lines};
 ghost use Rattle.run_status.specs.Stopping.{Caused as StopsBy};
 ghost use Rattle.scenario_runner.specs.Halting.{Yields};
-ghost use Rattle.run_status.specs.Statuses.{Caused, Reads, call_of, no_parts, nothing};
+ghost use Rattle.run_status.specs.Statuses.{Caused, EndsIn, call_of, scenario_ways};
 ghost use Rattle.scenario_runner.specs.Session.{Follows, world_of};
 
 use crate::replay::{Halt, play};
@@ -113,7 +113,7 @@ pub fn audit<R: Wait, S: Source, K: Sink>(
     source: &mut S,
     sink: &mut K,
 ) -> Status
-    ensures outcome { Reads (Rose (S.faults source.old) (S.faults source.new)) audited nothing no_parts result
+    ensures outcome { EndsIn (scenario_ways (Rose (S.faults source.old) (S.faults source.new)) audited) result
         (call_of (S.left source.old) (S.left source.new) (K.taken sink.old) (K.taken sink.new)) }
     ensures cause { Caused result (S.faults source.old) (S.faults source.new) (K.faults sink.old) (K.faults sink.new) }
 {

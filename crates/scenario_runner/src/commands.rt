@@ -10,7 +10,7 @@ ghost use Rattle.run_io.specs.Causes.{HasCause, Rose};
 ghost use Rattle.run_status.specs.Stopping.{Caused as StopsBy};
 ghost use Rattle.scenario_runner.specs.Generating.{HasRoom, PutsAll, PutsSome};
 ghost use Rattle.scenario_runner.specs.Halting.{Yields};
-ghost use Rattle.run_status.specs.Statuses.{Caused, Reads, Replays, Writes, call_of, no_parts, nothing};
+ghost use Rattle.run_status.specs.Statuses.{Caused, EndsIn, Replays, call_of, scenario_ways, writing_ways};
 ghost use Rattle.scenario_runner.specs.Session.{Follows, SaysNothing};
 ghost use Rattle.scenario_runner.specs.Speaking.{answer_by};
 ghost use Rattle.neigh_netlink.specs.Monitor.{monitored};
@@ -120,7 +120,7 @@ pub fn show<R: Wait, S: Source, K: Sink>(
     source: &mut S,
     sink: &mut K,
 ) -> Status
-    ensures outcome { Reads (Rose (S.faults source.old) (S.faults source.new)) (listed listing) nothing no_parts result
+    ensures outcome { EndsIn (scenario_ways (Rose (S.faults source.old) (S.faults source.new)) (listed listing)) result
         (call_of (S.left source.old) (S.left source.new) (K.taken sink.old) (K.taken sink.new)) }
     ensures cause { Caused result (S.faults source.old) (S.faults source.new) (K.faults sink.old) (K.faults sink.new) }
 {
@@ -176,7 +176,7 @@ fn speak<R: Wait, S: Source, K: Sink>(
     sink: &mut K,
 ) -> Status
     requires { SaysNothing voice }
-    ensures outcome { Reads (Rose (S.faults source.old) (S.faults source.new)) (answer_by voice) nothing no_parts result
+    ensures outcome { EndsIn (scenario_ways (Rose (S.faults source.old) (S.faults source.new)) (answer_by voice)) result
         (call_of (S.left source.old) (S.left source.new) (K.taken sink.old) (K.taken sink.new)) }
     ensures cause { Caused result (S.faults source.old) (S.faults source.new) (K.faults sink.old) (K.faults sink.new) }
 {
@@ -193,7 +193,7 @@ pub fn monitor<R: Wait, S: Source, K: Sink>(
     source: &mut S,
     sink: &mut K,
 ) -> Status
-    ensures outcome { Reads (Rose (S.faults source.old) (S.faults source.new)) monitored nothing no_parts result
+    ensures outcome { EndsIn (scenario_ways (Rose (S.faults source.old) (S.faults source.new)) monitored) result
         (call_of (S.left source.old) (S.left source.new) (K.taken sink.old) (K.taken sink.new)) }
     ensures cause { Caused result (S.faults source.old) (S.faults source.new) (K.faults sink.old) (K.faults sink.new) }
 {
@@ -211,7 +211,7 @@ pub fn querier<R: Wait, S: Source, K: Sink>(
 ) -> Status
     requires four { is_host_four four ≡ true }
     requires six { is_link_local_six six ≡ true }
-    ensures outcome { Reads (Rose (S.faults source.old) (S.faults source.new)) (queried four six) nothing no_parts result
+    ensures outcome { EndsIn (scenario_ways (Rose (S.faults source.old) (S.faults source.new)) (queried four six)) result
         (call_of (S.left source.old) (S.left source.new) (K.taken sink.old) (K.taken sink.new)) }
     ensures cause { Caused result (S.faults source.old) (S.faults source.new) (K.faults sink.old) (K.faults sink.new) }
 {
@@ -242,7 +242,7 @@ fn put_frames<K: Sink>(
 /// `gen`: all memory is there before the first write.
 pub fn generate<K: Sink>(alloc: Global, number: u64, count: u32, sink: &mut K) -> Status
     requires { count ≤ most_frames }
-    ensures outcome { (left : Option (List ℕ)) → Writes (made number count) result
+    ensures outcome { (left : Option (List ℕ)) → EndsIn (writing_ways (made number count)) result
         (call_of left left (K.taken sink.old) (K.taken sink.new)) }
     ensures cause { (reads : ℕ) → Caused result reads reads (K.faults sink.old) (K.faults sink.new) }
 {
@@ -269,7 +269,7 @@ pub fn demo<R: Wait, K: Sink>(
     sink: &mut K,
 ) -> Status
     requires { count ≤ most_frames }
-    ensures outcome { (left : Option (List ℕ)) → Writes (summary_of number count) result
+    ensures outcome { (left : Option (List ℕ)) → EndsIn (writing_ways (summary_of number count)) result
         (call_of left left (K.taken sink.old) (K.taken sink.new)) }
     ensures cause { (reads : ℕ) → Caused result reads reads (K.faults sink.old) (K.faults sink.new) }
 {
