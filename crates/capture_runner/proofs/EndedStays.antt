@@ -7,7 +7,7 @@ use Rattle.std.proofs.lemmas.List.{append-nil, take-append-le}
 use Rattle.br_model.specs.declared.scenario.LineWhy.{LineWhy}
 use Rattle.br_model.specs.declared.scenario.LineWhy.TheVariants.{Long}
 use Rattle.br_model.specs.declared.scenario.Said.{Said}
-use Rattle.br_model.specs.Program.Outcomes.{HoldsNoEnd}
+use Rattle.br_model.specs.Program.Outcomes.{HoldsNoEnd, scenario_lines}
 use Rattle.br_model.specs.Text.Scenario.{Scenario, Ending, Going, Ended, Bad, Front, Progress, bad, front, in_front, longest_line, opened, read, reads, reads_at, reads_front, reads_line, scenario, section_length, takes, whole_says}
 use Rattle.br_model.specs.Theorems.WholeLines.{is_line}
 use Rattle.br_model.proofs.Endings.{has_ended, closes_ended, read_ended}
@@ -138,7 +138,7 @@ first_bytes limit input rest h =
     ap (λ n. take n (input ++ rest)) e ∙ take-append-add input rest (limit - length input)
 
 pub within_of_ended : (limit : ℕ) (left now : Option (List ℕ)) (input : List ℕ) → Consumes left now input → length input ≤ limit → has_ended (reads (opened false) input).ending ≡ true
-    → IfSome left (λ bytes. ¬ HoldsNoEnd limit bytes)
+    → IfSome left (λ bytes. ¬ HoldsNoEnd scenario_lines limit bytes)
 within_of_ended limit None now input c few h = tt
 within_of_ended limit (Some bytes) None input c few h = absurd c
 within_of_ended limit (Some bytes) (Some rest) input c few h = λ long.
@@ -153,7 +153,8 @@ whole_of_all None now input c z = tt
 whole_of_all (Some bytes) None input c z = absurd c
 whole_of_all (Some bytes) (Some rest) input c z = ap scenario (c ∙ ap (λ (b : List ℕ). input ++ b) z ∙ append-nil input)
 
-pub within_of_all : (limit : ℕ) (left now : Option (List ℕ)) (input : List ℕ) → Consumes left now input → IsAtEnd now → length input < limit → IfSome left (λ bytes. ¬ HoldsNoEnd limit bytes)
+pub within_of_all : (limit : ℕ) (left now : Option (List ℕ)) (input : List ℕ) → Consumes left now input → IsAtEnd now → length input < limit
+    → IfSome left (λ bytes. ¬ HoldsNoEnd scenario_lines limit bytes)
 within_of_all limit None now input c z few = tt
 within_of_all limit (Some bytes) None input c z few = absurd c
 within_of_all limit (Some bytes) (Some rest) input c z few = λ long. absurd (omega (arith, long.0, few, ap length (c ∙ ap (λ (b : List ℕ). input ++ b) z ∙ append-nil input)))

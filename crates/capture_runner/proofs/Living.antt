@@ -16,7 +16,7 @@ use Rattle.br_model.specs.declared.steps.Step.TheVariants.{Rx, Cmd, Now, Serve, 
 use Rattle.br_model.specs.declared.transcript.Line.{Line}
 use Rattle.br_model.specs.Program.LiveRun.{is_live_run}
 use Rattle.br_model.specs.Program.LiveText.{live_text, steps_scenario}
-use Rattle.br_model.specs.Program.Outcomes.{GoesOn}
+use Rattle.br_model.specs.Program.Outcomes.{GoesOn, scenario_lines}
 use Rattle.br_model.specs.Program.Runs.{bad_alone, bad_told, body, setup_of}
 use Rattle.br_model.specs.Plane.Runs.{end_line, run}
 use Rattle.br_model.specs.Table.Domains.{Domains, chip_domains}
@@ -128,7 +128,7 @@ module _ (left now : Option (List ℕ)) (input : List ℕ) (x : WholeState) (rea
   read_all none few = record { input = input; read = read; says = says; lines = lines; whole = whole_of_all left now input read none; within = within_of_all most_live_bytes left now input read none few }
 
   -- the scenario goes on
-  pub goes_on : x.last ≡ None → GoesOn input
+  pub goes_on : x.last ≡ None → GoesOn scenario_lines input
   goes_on is = says.last ∙ ap ending_or_going is
 
   pub stops_below : x.last ≡ None → length input < most_live_bytes → (t : List ℕ) × Below left most_live_bytes now t

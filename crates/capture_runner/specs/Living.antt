@@ -12,7 +12,7 @@ use Rattle.br_model.specs.declared.steps.Step.{Step}
 use Rattle.br_model.specs.declared.steps.Step.TheVariants.{Rx, Cmd, Now, Serve, Hold, Post, Turn, Report, Sweep, Publish}
 use Rattle.br_model.specs.Program.LiveRun.{is_live_run}
 use Rattle.br_model.specs.Program.LiveText.{live_text}
-use Rattle.br_model.specs.Program.Outcomes.{HoldsNoEnd}
+use Rattle.br_model.specs.Program.Outcomes.{HoldsNoEnd, scenario_lines}
 use Rattle.br_model.specs.Program.Runs.{bad_told}
 use Rattle.br_model.specs.Table.Limits.{most_live_bytes}
 use Rattle.br_model.specs.Text.Operands.{last_id, last_point}
@@ -35,7 +35,7 @@ pub record IsRead (left now : Option (List ℕ)) (x : WholeState) : Type 0 where
   pub says : SaysWhole false input x
   pub lines : x.close ≡ lasts.Ended → list_all (has_line x.roster.ports) x.steps ≡ true
   pub whole : IfSome left (λ bytes. scenario bytes ≡ scenario input)
-  pub within : IfSome left (λ bytes. ¬ HoldsNoEnd most_live_bytes bytes)
+  pub within : IfSome left (λ bytes. ¬ HoldsNoEnd scenario_lines most_live_bytes bytes)
 
 -- it hasn't, or memory lacks
 abbrev pub StopsLiving : Option (List ℕ) → Option (List ℕ) → Stop → Type 0
@@ -77,7 +77,7 @@ pub record Lived (left now : Option (List ℕ)) (text : List ℕ) : Type 0 where
   pub written : list_all (has_line (scenario input).roster.ports) steps ≡ true
   pub text_is : text ≡ live_text (scenario input) steps
   pub whole : IfSome left (λ bytes. scenario bytes ≡ scenario input)
-  pub within : IfSome left (λ bytes. ¬ HoldsNoEnd most_live_bytes bytes)
+  pub within : IfSome left (λ bytes. ¬ HoldsNoEnd scenario_lines most_live_bytes bytes)
 
 -- or tells of its bad line
 pub record ToldBad (left now : Option (List ℕ)) (text : List ℕ) (n : ℕ) (why : LineWhy) : Type 0 where
@@ -86,7 +86,7 @@ pub record ToldBad (left now : Option (List ℕ)) (text : List ℕ) (n : ℕ) (w
   pub ends : (scenario input).ending ≡ Bad n why
   pub text_is : text ≡ bad_told input
   pub whole : IfSome left (λ bytes. scenario bytes ≡ scenario input)
-  pub within : IfSome left (λ bytes. ¬ HoldsNoEnd most_live_bytes bytes)
+  pub within : IfSome left (λ bytes. ¬ HoldsNoEnd scenario_lines most_live_bytes bytes)
 
 abbrev pub AnsweredLive : Option (List ℕ) → Option (List ℕ) → List ℕ → Last → Type 0
 AnsweredLive left now text lasts.Ended = Lived left now text

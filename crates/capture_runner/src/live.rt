@@ -13,7 +13,7 @@ ghost use Rattle.scenario_reader.specs.declared.reader.Last.TheVariants.{Ended};
 ghost use Rattle.scenario_reader.specs.Whole.{SaysWhole};
 ghost use Rattle.run_status.specs.Stopping.{Caused as StopsBy};
 ghost use Rattle.capture_runner.specs.Living.{IsLiveText, ReadsLive, YieldsLive, is_numbered, status_of};
-ghost use Rattle.run_status.specs.Statuses.{Caused, Lives, call_of};
+ghost use Rattle.run_status.specs.Statuses.{Caused, EndsIn, call_of, live_ways};
 ghost use Rattle.command_line.specs.Words.{most_workers};
 
 use br_model::NoMemory;
@@ -177,7 +177,7 @@ pub(crate) fn live<R: Threads + Wait + Sync, S: Source, K: Sink, G: Gate + Sync>
     sink: &mut K,
 ) -> Status
     requires { (0 < workers) × (workers ≤ most_workers) }
-    ensures outcome { Lives (Rose (S.faults source.old) (S.faults source.new)) result
+    ensures outcome { EndsIn (live_ways (Rose (S.faults source.old) (S.faults source.new))) result
         (call_of (S.left source.old) (S.left source.new) (K.taken sink.old) (K.taken sink.new)) }
     ensures cause { Caused result (S.faults source.old) (S.faults source.new) (K.faults sink.old) (K.faults sink.new) }
 {
