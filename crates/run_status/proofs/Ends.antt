@@ -5,7 +5,6 @@ use Rattle.std.proofs.KnownBytes.{Appends-trans, Consumes-nil}
 use Rattle.std.proofs.lemmas.List.{take-append-drop}
 use Rattle.run_io.specs.Causes.{Rose}
 use Rattle.br_model.specs.Program.Outcomes.{Call, Lines}
-use Rattle.br_model.specs.Text.Scenario.{scenario}
 use Rattle.run_status.specs.declared.stop.Stop.{Stop}
 use Rattle.run_status.specs.declared.stop.Stop.TheVariants as stops
 use Rattle.run_status.specs.declared.status.Status.{Status}
