@@ -20,11 +20,12 @@ use Rattle.br_model.proofs.Running.{run_none}
 use Rattle.scenario_runner.specs.declared.replay.Halt.TheVariants as halts
 use Rattle.run_status.specs.declared.stop.Stop.{Stop}
 use Rattle.run_status.specs.declared.stop.Stop.TheVariants as stops
-use Rattle.scenario_runner.specs.declared.session.Last.{Last}
-use Rattle.scenario_runner.specs.declared.session.Last.TheVariants as lasts
+use Rattle.scenario_reader.specs.declared.reader.Last.{Last}
+use Rattle.scenario_reader.specs.declared.reader.Last.TheVariants as lasts
 use Rattle.scenario_runner.specs.declared.session.Session.{Session}
 use Rattle.run_status.specs.declared.status.Status.{Status}
 use Rattle.run_status.specs.declared.status.Status.TheVariants as statuses
+use Rattle.scenario_reader.specs.Reading.{ending_of}
 use Rattle.scenario_runner.specs.Halting.{Answered, Halted, Halts, IsBehind, Plays, Told, Yields}
 use Rattle.run_status.specs.Writing.{Breaks, Grows, Written}
 use Rattle.run_status.specs.Statuses.{At, EndsIn, Replays, Ways, call_of, first_line, last_line, no_parts, nothing, reading_ways, replay_ways, scenario_ways}
@@ -69,13 +70,13 @@ whole_same answer (Some bytes) input ending same e h = (ap (λ (s : Scenario). s
 
 module _ (failed : Type 0) (left left_now before now : Option (List ℕ)) (r : Status) where
   answers : (answer : List ℕ → List ℕ) (text : List ℕ) (last : Last) (after : Option (List ℕ)) → Same answer → Answered answer left left_now text last → Appends before after text
-      → Answers scenario_lines answer (call_of left left_now before after) (session.ending_of last)
+      → Answers scenario_lines answer (call_of left left_now before after) (ending_of last)
   answers answer text last after same t a = record {
     input = t.input;
     read = t.read;
     ends = t.ends;
     wrote = subst (λ (b : List ℕ). Appends before after b) t.answers a;
-    whole = whole_same answer left t.input (session.ending_of last) same t.ends t.whole;
+    whole = whole_same answer left t.input (ending_of last) same t.ends t.whole;
   }
 
   module _ (answer opening : List ℕ → List ℕ) (parts : ℕ → List ℕ → List ℕ) where
@@ -233,7 +234,7 @@ history_is s None h =
     sym (ap (λ (x : Stepped). x.0.history) (ap (run (setup_of s.roster)) h ∙ run_none (setup_of s.roster)))
 history_is s (Some w) h = ap (λ (w : World). w.history) h.0
 
-listing_is : (listing : Listing) (s : Scenario) (x : Session) (last : Last) → session.Agrees s x → session.listing_or_bad listing last x.roster.ports x.world ≡ listed_at (session.ending_of last) listing s
+listing_is : (listing : Listing) (s : Scenario) (x : Session) (last : Last) → session.Agrees s x → session.listing_or_bad listing last x.reader.roster.ports x.world ≡ listed_at (ending_of last) listing s
 listing_is listing s x lasts.Ended h =
     ap (λ (ports : List Entry). listing_text listing ports (table (session.history_of x.world))) h.ports
     ∙ ap (λ (history : List Change). listing_text listing s.roster.ports (table history)) (history_is s x.world h.world)
@@ -245,12 +246,12 @@ answer_is listing input d e = ap (λ (d : Ending). listed_at d listing (scenario
 
 -- the listing of a session at its end
 pub listed_by : (left now : Option (List ℕ)) (listing : Listing) (x : Session) (all text : List ℕ) (last : Last) → Told left now x all last
-    → text ≡ session.listing_or_bad listing last x.roster.ports x.world → Answered (listed listing) left now text last
+    → text ≡ session.listing_or_bad listing last x.reader.roster.ports x.world → Answered (listed listing) left now text last
 listed_by left now listing x all text last t is = record {
   input = t.answered.input;
   read = t.answered.read;
   ends = t.answered.ends;
-  answers = is ∙ listing_is listing (scenario t.answered.input) x last t.agrees ∙ answer_is listing t.answered.input (session.ending_of last) t.answered.ends;
+  answers = is ∙ listing_is listing (scenario t.answered.input) x last t.agrees ∙ answer_is listing t.answered.input (ending_of last) t.answered.ends;
   whole = t.answered.whole;
   within = t.answered.within;
 }
@@ -267,7 +268,7 @@ unfolding answer_by
 answered_is v input d e = ap (λ (d : Ending). answer_at d (lines_of v (setup_of (scenario input).roster) (scenario input).steps)) (sym e)
 
 pub said_at_end : (left now : Option (List ℕ)) (v : Voice) (x : Session) (all text : List ℕ) (last : Last) → Told left now x all last → lines_of x.voice ≡ lines_of v
-    → text ≡ answer_at (session.ending_of last) (said_by x.voice) → Answered (answer_by v) left now text last
+    → text ≡ answer_at (ending_of last) (said_by x.voice) → Answered (answer_by v) left now text last
 said_at_end left now v x all text last t same is =
     let s = scenario t.answered.input in
     let lines : said_by x.voice ≡ lines_of v (setup_of s.roster) s.steps =
@@ -275,7 +276,7 @@ said_at_end left now v x all text last t same is =
       input = t.answered.input;
       read = t.answered.read;
       ends = t.answered.ends;
-      answers = is ∙ ap (λ (l : List ℕ). answer_at (session.ending_of last) l) lines ∙ answered_is v t.answered.input (session.ending_of last) t.answered.ends;
+      answers = is ∙ ap (λ (l : List ℕ). answer_at (ending_of last) l) lines ∙ answered_is v t.answered.input (ending_of last) t.answered.ends;
       whole = t.answered.whole;
       within = t.answered.within;
     }

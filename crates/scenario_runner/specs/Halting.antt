@@ -18,12 +18,13 @@ use Rattle.scenario_runner.specs.declared.replay.Halt.{Halt}
 use Rattle.scenario_runner.specs.declared.replay.Halt.TheVariants.{Stopped, WriteFault}
 use Rattle.run_status.specs.declared.stop.Stop.{Stop}
 use Rattle.run_status.specs.declared.stop.Stop.TheVariants.{ReadFault, NoMemory, TooLong}
-use Rattle.scenario_runner.specs.declared.session.Last.{Last}
+use Rattle.scenario_reader.specs.declared.reader.Last.{Last}
 use Rattle.scenario_runner.specs.declared.session.Session.{Session}
 use Rattle.run_status.specs.Statuses.{first_line}
 use Rattle.run_status.specs.Writing.{Written}
 use Rattle.scenario_runner.specs.Playing as playing
-use Rattle.scenario_runner.specs.Session.{Agrees, Follows, IsAmongSteps, ending_of, with_steps}
+use Rattle.scenario_reader.specs.Reading.{ending_of}
+use Rattle.scenario_runner.specs.Session.{Agrees, Follows, IsAmongSteps, with_steps}
 
 -- the first line went to the sink
 abbrev pub IsOpened : Option (List ℕ) → Option (List ℕ) → Type 0

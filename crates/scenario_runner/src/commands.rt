@@ -11,13 +11,13 @@ ghost use Rattle.run_status.specs.Stopping.{Caused as StopsBy};
 ghost use Rattle.scenario_runner.specs.Generating.{HasRoom, PutsAll, PutsSome};
 ghost use Rattle.scenario_runner.specs.Halting.{Yields};
 ghost use Rattle.run_status.specs.Statuses.{Caused, EndsIn, Replays, call_of, scenario_ways, writing_ways};
-ghost use Rattle.scenario_runner.specs.Session.{Follows, SaysNothing};
+ghost use Rattle.scenario_runner.specs.Session.{Follows, SaysNothing, status_of};
 ghost use Rattle.scenario_runner.specs.Speaking.{answer_by};
 ghost use Rattle.neigh_netlink.specs.Monitor.{monitored};
 
 use crate::demo::summary;
 use crate::replay::{Halt, play, put_if_full};
-use crate::session::{Last, Session};
+use crate::session::Session;
 use br_model::listing::Listing;
 use run_io::output::Output;
 use run_io::sinks::{Nowhere, Sink, WriteFault};
@@ -25,9 +25,20 @@ use run_io::sources::Source;
 use run_status::{Status, Stop, end_with, end_without_memory, put_last};
 use run_world::voice::Voice;
 use run_world::{Asking, Monitor};
+use scenario_reader::Last;
 use scenario_text::{Generator, append_opening};
 use std::alloc::Global;
 use std::sync::Wait;
+
+/// The status of a command whose scenario ends so.
+pub fn status_of(last: Last) -> Status
+    ensures { result ≡ status_of last }
+{
+    match last {
+        Last::Ended => Status::Ok,
+        Last::Bad(..) => Status::BadLine,
+    }
+}
 
 /// `replay` in this new session.
 fn replay_in<R: Wait, S: Source, K: Sink>(
@@ -38,7 +49,7 @@ fn replay_in<R: Wait, S: Source, K: Sink>(
     sink: &mut K,
 ) -> Status
     requires follows { Follows (opened false) session.old }
-    requires lines { session.old.lines ≡ 0 }
+    requires lines { session.old.reader.lines ≡ 0 }
     ensures outcome { Replays (Rose (S.faults source.old) (S.faults source.new)) result
         (call_of (S.left source.old) (S.left source.new) (K.taken sink.old) (K.taken sink.new)) }
     ensures cause { Caused result (S.faults source.old) (S.faults source.new) (K.faults sink.old) (K.faults sink.new) }
@@ -47,7 +58,7 @@ fn replay_in<R: Wait, S: Source, K: Sink>(
         return end_without_memory(sink);
     };
     match play(rt, alloc, session, source, sink, &mut output) {
-        Ok(last) => end_with(sink, &mut output, b"", last.status()),
+        Ok(last) => end_with(sink, &mut output, b"", status_of(last)),
         Err(Halt::Stopped(stop)) => end_with(sink, &mut output, stop.line(), stop.status()),
         Err(Halt::WriteFault) => Status::WriteFault,
     }
@@ -84,7 +95,7 @@ fn listing_in<R: Wait, S: Source>(
     source: &mut S,
 ) -> Result<(Last, String), Stop>
     requires follows { Follows (opened false) session.old }
-    requires lines { session.old.lines ≡ 0 }
+    requires lines { session.old.reader.lines ≡ 0 }
     ensures lists { Yields (listed listing) (S.left source.old) (S.left source.new) result }
     ensures cause { StopsBy (S.faults source.old) (S.faults source.new) result }
 {
@@ -125,7 +136,7 @@ pub fn show<R: Wait, S: Source, K: Sink>(
     ensures cause { Caused result (S.faults source.old) (S.faults source.new) (K.faults sink.old) (K.faults sink.new) }
 {
     match listing_of(rt, alloc, listing, source) {
-        Ok((last, text)) => put_last(sink, text.as_bytes(), last.status()),
+        Ok((last, text)) => put_last(sink, text.as_bytes(), status_of(last)),
         Err(stop) => put_last(sink, stop.line(), stop.status()),
     }
 }
@@ -138,7 +149,7 @@ fn said_in<R: Wait, S: Source>(
     source: &mut S,
 ) -> Result<(Last, String), Stop>
     requires follows { Follows (opened false) session.old }
-    requires lines { session.old.lines ≡ 0 }
+    requires lines { session.old.reader.lines ≡ 0 }
     ensures says { Yields (answer_by session.old.voice) (S.left source.old) (S.left source.new) result }
     ensures cause { StopsBy (S.faults source.old) (S.faults source.new) result }
 {
@@ -181,7 +192,7 @@ fn speak<R: Wait, S: Source, K: Sink>(
     ensures cause { Caused result (S.faults source.old) (S.faults source.new) (K.faults sink.old) (K.faults sink.new) }
 {
     match said_of(rt, alloc, voice, source) {
-        Ok((last, text)) => put_last(sink, text.as_bytes(), last.status()),
+        Ok((last, text)) => put_last(sink, text.as_bytes(), status_of(last)),
         Err(stop) => put_last(sink, stop.line(), stop.status()),
     }
 }
