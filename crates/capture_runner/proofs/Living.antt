@@ -43,7 +43,7 @@ use Rattle.run_status.specs.declared.stop.Stop.{Stop}
 use Rattle.run_status.specs.declared.stop.Stop.TheVariants as stops
 use Rattle.capture_runner.specs.Living.{AnsweredLive, IsLiveText, IsRead, ReadsLive, is_numbered}
 use Rattle.scenario_runner.specs.Playing.{Below, Filled}
-use Rattle.capture_runner.proofs.EndedStays.{within_of_all, within_of_ended, whole_of_all, whole_of_ended}
+use Rattle.capture_runner.proofs.EndedStays.{within_of_ended, whole_of_ended}
 
 -- steps that have lines name declared ports
 
@@ -125,7 +125,7 @@ module _ (left now : Option (List ℕ)) (input : List ℕ) (x : WholeState) (rea
 
   -- they were all that there was
   pub read_all : IsAtEnd now → length input < most_live_bytes → IsRead left now x
-  read_all none few = record { input = input; read = read; says = says; lines = lines; whole = whole_of_all left now input read none; within = within_of_all most_live_bytes left now input read none few }
+  read_all none few = record { input = input; read = read; says = says; lines = lines; whole = same_at_end scenario left now input read none; within = below_limit scenario_lines most_live_bytes left now input read none few }
 
   -- the scenario goes on
   pub goes_on : x.last ≡ None → GoesOn scenario_lines input

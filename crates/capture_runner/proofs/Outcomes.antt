@@ -1,5 +1,5 @@
 -- How each command ends, once its last line is written.
-use Rattle.std.proofs.Common.{◌≡◌, ℕ, List, [], Option, None, Some, Ok, Err, IfSome, String, string_bytes, refl, sym, ◌∙◌, ap, subst, codes}
+use Rattle.std.proofs.Common.{◌≡◌, ℕ, List, Option, None, Some, Ok, Err, IfSome, String, string_bytes, refl, sym, ◌∙◌, ap, subst, codes}
 use Rattle.std.specs.declared.alloc.Global.{Global}
 use Rattle.std.specs.Io.KnownBytes.{Appends}
 use Rattle.run_io.specs.Causes.{Rose}
@@ -9,7 +9,6 @@ use Rattle.br_model.specs.Program.Checks.{HasChecked}
 use Rattle.br_model.specs.Program.Generator.{made}
 use Rattle.br_model.specs.Program.Outcomes.{Answers, Call, HasLines, Lines, scenario_lines}
 use Rattle.br_model.specs.Program.Summary.{summary}
-use Rattle.br_model.specs.Plane.Runs.{run}
 use Rattle.br_model.specs.Program.Runs.{bad_alone, bad_told, body, body_parts, told}
 use Rattle.br_model.specs.Text.Scenario.{Scenario, Bad}
 use Rattle.br_model.proofs.Completing.{AreApart, never_bad, never_filled, never_found_bad, never_full, scenarios_apart}
@@ -22,7 +21,7 @@ use Rattle.run_status.specs.declared.stop.Stop.{Stop}
 use Rattle.run_status.specs.declared.stop.Stop.TheVariants as stops
 use Rattle.run_status.specs.declared.status.Status.{Status}
 use Rattle.run_status.specs.declared.status.Status.TheVariants as statuses
-use Rattle.capture_runner.specs.Living.{AnsweredLive, StopsLiving, status_of}
+use Rattle.capture_runner.specs.Living.{AnsweredLive, StopsLiving}
 use Rattle.capture_runner.specs.Outcome.{Asks, EndsWell, Outcome, follow_ways}
 use Rattle.run_status.specs.Statuses.{Caused, EndsIn, call_of, check_ways, last_line, live_ways, no_parts, nothing, reading_ways, scenario_ways, writing_ways}
 use Rattle.capture_runner.specs.Following as following
@@ -35,6 +34,7 @@ use Rattle.mcast_querier.specs.Runs.{queried}
 use Rattle.neigh_netlink.specs.Monitor.{monitored}
 use Rattle.capture_runner.proofs.Followed.{messages_apart}
 use Rattle.run_status.proofs.Ends.{Broke, Went, by_status, checks_nothing, lives_nothing, reads_nothing, refuses_nothing, writes_nothing}
+use Rattle.scenario_runner.specs.Session.{status_of}
 use Rattle.scenario_runner.proofs.Ends.{Same, replays_nothing, whole_same}
 
 -- a run by workers
@@ -176,10 +176,6 @@ module _ (failed : Type 0) (c : Call) (reads reads_now writes writes_now : ℕ) 
   pub completes_by : (a b : Option Asked) (r : Status) → a ≡ b → Outcome failed b r c → Caused r reads reads_now writes writes_now → Asks a c → EndsWell a r
   completes_by a b r is o cause has =
       subst (λ (x : Option Asked). EndsWell x r) (sym is) (completes b r o cause (subst (λ (b : Option Asked). Asks b c) is has))
-
-pub calm_lives : (last : LastRead) (s : Status) → s ≡ status_of last → Went s
-calm_lives read_lasts.Ended s e = λ f. let g : statuses.Ok ≡ statuses.WriteFault = sym e ∙ f in absurd (cc)
-calm_lives (read_lasts.Bad n why) s e = λ f. let g : statuses.BadLine ≡ statuses.WriteFault = sym e ∙ f in absurd (cc)
 
 -- lines of messages
 

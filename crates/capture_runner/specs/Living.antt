@@ -24,8 +24,6 @@ use Rattle.scenario_reader.specs.declared.reader.Last.TheVariants as lasts
 use Rattle.scenario_reader.specs.Whole.{SaysWhole, WholeState}
 use Rattle.run_status.specs.declared.stop.Stop.{Stop}
 use Rattle.run_status.specs.declared.stop.Stop.TheVariants.{ReadFault, NoMemory, TooLong}
-use Rattle.run_status.specs.declared.status.Status.{Status}
-use Rattle.run_status.specs.declared.status.Status.TheVariants as statuses
 use Rattle.scenario_runner.specs.Playing.{Below, Filled}
 
 -- A scenario that has ended: these bytes of it were taken, and say this.
@@ -95,7 +93,3 @@ AnsweredLive left now text (lasts.Bad n why) = ToldBad left now text n why
 abbrev pub YieldsLive : Option (List ℕ) → Option (List ℕ) → Result (Last × String Global) Stop → Type 0
 YieldsLive left now (Ok x) = AnsweredLive left now (string_bytes x.1) x.0
 YieldsLive left now (Err stop) = StopsLiving left now stop
-
-abbrev pub status_of : Last → Status
-status_of lasts.Ended = statuses.Ok
-status_of (lasts.Bad n why) = statuses.BadLine

@@ -12,7 +12,7 @@ ghost use Rattle.run_io.specs.Causes.{Rose};
 ghost use Rattle.scenario_reader.specs.declared.reader.Last.TheVariants.{Ended};
 ghost use Rattle.scenario_reader.specs.Whole.{SaysWhole};
 ghost use Rattle.run_status.specs.Stopping.{Caused as StopsBy};
-ghost use Rattle.capture_runner.specs.Living.{IsLiveText, ReadsLive, YieldsLive, is_numbered, status_of};
+ghost use Rattle.capture_runner.specs.Living.{IsLiveText, ReadsLive, YieldsLive, is_numbered};
 ghost use Rattle.run_status.specs.Statuses.{Caused, EndsIn, call_of, live_ways};
 ghost use Rattle.command_line.specs.Words.{most_workers};
 
@@ -27,6 +27,7 @@ use run_io::whole::{Stop as Stand, take_all};
 use run_status::{Status, Stop, put_last};
 use run_text::bad_text;
 use scenario_reader::{Last, Whole, read_scenario};
+use scenario_runner::commands::status_of;
 use std::alloc::Global;
 use std::sync::Wait;
 use std::thread::Threads;
@@ -155,15 +156,6 @@ fn answer<R: Threads + Wait + Sync, S: Source, G: Gate + Sync>(
     match last {
         Last::Ended => Ok((last, live_text(rt, alloc, gate, workers, &whole)?)),
         Last::Bad(line, why) => Ok((last, bad_text(alloc, line, why)?)),
-    }
-}
-
-fn status_of(last: Last) -> Status
-    ensures { result ≡ status_of last }
-{
-    match last {
-        Last::Ended => Status::Ok,
-        Last::Bad(..) => Status::BadLine,
     }
 }
 
