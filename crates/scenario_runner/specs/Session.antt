@@ -154,6 +154,7 @@ abbrev pub audit_or_bad : Last → Roster → Option World → List ℕ
 audit_or_bad lasts.Ended roster w = audited_text roster.ports (world_of roster w)
 audit_or_bad (lasts.Bad n why) roster w = bad_text n why
 
+-- the status of a command whose scenario ends so
 abbrev pub status_of : Last → Status
 status_of lasts.Ended = statuses.Ok
 status_of (lasts.Bad n why) = statuses.BadLine
