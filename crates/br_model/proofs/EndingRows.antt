@@ -1,6 +1,6 @@
 -- Worked endings, computed by the definitions.
 use Rattle.std.proofs.Common.{◌≡◌, Bool, true, false, true≢false, length, take, refl, sym, ◌∙◌, ap, arith}
-use Rattle.br_model.specs.Program.Outcomes.{EndsWithin}
+use Rattle.br_model.specs.Program.Outcomes.{EndsWithin, scenario_lines}
 use Rattle.br_model.specs.Program.Runs.{body_parts}
 use Rattle.br_model.specs.Text.Scenario.{Ending, Going, Ended, Bad, opened, reads, scenario}
 use Rattle.br_model.specs.Worked.Endings.{parts_of_first_frame, first_frame_parts, ended_text, unfed_text}
@@ -45,14 +45,14 @@ fifteen = refl
 fourteen : length unfed_text ≡ 14
 fourteen = refl
 
-pub within : EndsWithin 15 ended_text
+pub within : EndsWithin scenario_lines 15 ended_text
 within = record { ended = ended; seen = λ fits. all_seen }
 
-pub beyond : EndsWithin 14 ended_text → ⊥
+pub beyond : EndsWithin scenario_lines 14 ended_text → ⊥
 beyond e = over _ cut_off (e.seen (omega (arith, fifteen)))
 
-pub unfed_within : EndsWithin 15 unfed_text
+pub unfed_within : EndsWithin scenario_lines 15 unfed_text
 unfed_within = record { ended = unfed; seen = λ fits. absurd (omega (arith, fits, fourteen)) }
 
-pub unfed_beyond : EndsWithin 14 unfed_text → ⊥
+pub unfed_beyond : EndsWithin scenario_lines 14 unfed_text → ⊥
 unfed_beyond e = over _ unfed_goes_on (e.seen (omega (arith, fourteen)))

@@ -1,4 +1,5 @@
 pub mod AddressRoom
+pub mod AllLeft
 pub mod ApplyingLaws
 pub mod BpduFacts
 pub mod CaptureRows

@@ -12,7 +12,7 @@ use br_model::scenario::{LineWhy, Place};
 use br_model::steps::Command;
 
 /// `vlan add` of a device, with the marks that were read.
-fn added(vid: &str, name: &str, pvid: bool, untagged: bool, r: &Roster) -> Result<Command, LineWhy>
+fn added(vid: &str, name: &str, untagged: bool, pvid: bool, r: &Roster) -> Result<Command, LineWhy>
     ensures { result ≡ placed r.now (after (number_of 1 4094 vid.now) (λ v. after (device_of r.now.ports name.now) (λ p. Ok (VlanAdd p v untagged pvid)))) }
 {
     r.stands(Place::Steps)?;
@@ -41,8 +41,8 @@ fn marked_once(words: &[&str], r: &Roster) -> Result<Command, LineWhy>
     ensures { result ≡ line marked_once r.now (length words.now) (word words.now) }
 {
     match *words {
-        ["vlan", "add", "vid", vid, "dev", name, "pvid"] => added(vid, name, true, false, r),
-        ["vlan", "add", "vid", vid, "dev", name, "untagged"] => added(vid, name, false, true, r),
+        ["vlan", "add", "vid", vid, "dev", name, "pvid"] => added(vid, name, false, true, r),
+        ["vlan", "add", "vid", vid, "dev", name, "untagged"] => added(vid, name, true, false, r),
         _ => Err(LineWhy::Word),
     }
 }

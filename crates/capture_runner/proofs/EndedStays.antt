@@ -1,15 +1,15 @@
 -- What has ended in some bytes has ended so where more bytes follow.
-use Rattle.std.proofs.Common.{◌≡◌, ℕ, zero, suc, ◌+◌, ◌-◌, ◌<◌, ◌≤◌, ◌==◌, Bool, true, false, not, if◌then◌else◌, List, [], ◌∷◌, ◌++◌, length, take, Option, None, Some, IfSome, Result, Ok, Err, refl, sym, ◌∙◌, ap, arith, nat_lt, length-append}
-use Rattle.std.specs.Io.KnownBytes.{Consumes, IsAtEnd}
-use Rattle.std.proofs.Math.Seq.{take-append-add}
+use Rattle.std.proofs.Common.{◌≡◌, ℕ, zero, suc, ◌+◌, ◌<◌, ◌≤◌, ◌==◌, Bool, true, false, not, if◌then◌else◌, List, [], ◌∷◌, ◌++◌, length, take, Option, None, Some, IfSome, Result, Ok, Err, refl, sym, ◌∙◌, ap, arith, nat_lt, length-append}
+use Rattle.std.specs.Io.KnownBytes.{Consumes}
 use Rattle.std.proofs.lemmas.Bool.{true≢false}
-use Rattle.std.proofs.lemmas.List.{append-nil, take-append-le}
+use Rattle.std.proofs.lemmas.List.{take-append-le}
 use Rattle.br_model.specs.declared.scenario.LineWhy.{LineWhy}
 use Rattle.br_model.specs.declared.scenario.LineWhy.TheVariants.{Long}
 use Rattle.br_model.specs.declared.scenario.Said.{Said}
-use Rattle.br_model.specs.Program.Outcomes.{HoldsNoEnd}
+use Rattle.br_model.specs.Program.Outcomes.{HoldsNoEnd, scenario_lines}
 use Rattle.br_model.specs.Text.Scenario.{Scenario, Ending, Going, Ended, Bad, Front, Progress, bad, front, in_front, longest_line, opened, read, reads, reads_at, reads_front, reads_line, scenario, section_length, takes, whole_says}
 use Rattle.br_model.specs.Theorems.WholeLines.{is_line}
+use Rattle.br_model.proofs.AllLeft.{not_too_long, same_with_more}
 use Rattle.br_model.proofs.Endings.{has_ended, closes_ended, read_ended}
 use Rattle.br_model.proofs.Reading.{not_below, read_long, scenario_is}
 use Rattle.br_model.proofs.WrittenWords.{both}
@@ -126,34 +126,13 @@ scenario_same bytes more h =
     let same = reads_same bytes more h in
     scenario_ended (bytes ++ more) (ap (λ (t : Scenario). has_ended t.ending) same ∙ h) ∙ same ∙ sym (scenario_ended bytes h)
 
-pub whole_of_ended : (left now : Option (List ℕ)) (input : List ℕ) → Consumes left now input → has_ended (reads (opened false) input).ending ≡ true → IfSome left (λ bytes. scenario bytes ≡ scenario input)
-whole_of_ended None now input c h = tt
-whole_of_ended (Some bytes) None input c h = absurd c
-whole_of_ended (Some bytes) (Some rest) input c h = ap scenario c ∙ scenario_same input rest h
+-- and all that a source had left, where it begins so
 
--- so have the first bytes, so many
-first_bytes : (limit : ℕ) (input rest : List ℕ) → length input ≤ limit → take limit (input ++ rest) ≡ input ++ take (limit - length input) rest
-first_bytes limit input rest h =
-    let e : limit ≡ length input + (limit - length input) = omega arith in
-    ap (λ n. take n (input ++ rest)) e ∙ take-append-add input rest (limit - length input)
+pub whole_of_ended : (left now : Option (List ℕ)) (input : List ℕ) → Consumes left now input → has_ended (reads (opened false) input).ending ≡ true → IfSome left (λ bytes. scenario bytes ≡ scenario input)
+whole_of_ended left now input c h = same_with_more scenario left now input c (λ more. scenario_same input more h)
 
 pub within_of_ended : (limit : ℕ) (left now : Option (List ℕ)) (input : List ℕ) → Consumes left now input → length input ≤ limit → has_ended (reads (opened false) input).ending ≡ true
-    → IfSome left (λ bytes. ¬ HoldsNoEnd limit bytes)
-within_of_ended limit None now input c few h = tt
-within_of_ended limit (Some bytes) None input c few h = absurd c
-within_of_ended limit (Some bytes) (Some rest) input c few h = λ long.
-    let same : reads (opened false) (take limit bytes) ≡ reads (opened false) input =
-    ap (λ (b : List ℕ). reads (opened false) (take limit b)) c ∙ ap (reads (opened false)) (first_bytes limit input rest few) ∙ reads_same input (take (limit - length input) rest) h in
-    true≢false (sym h ∙ ap (λ (t : Scenario). has_ended t.ending) (sym same) ∙ ap has_ended long.1)
-
--- or the source has no more
-
-pub whole_of_all : (left now : Option (List ℕ)) (input : List ℕ) → Consumes left now input → IsAtEnd now → IfSome left (λ bytes. scenario bytes ≡ scenario input)
-whole_of_all None now input c z = tt
-whole_of_all (Some bytes) None input c z = absurd c
-whole_of_all (Some bytes) (Some rest) input c z = ap scenario (c ∙ ap (λ (b : List ℕ). input ++ b) z ∙ append-nil input)
-
-pub within_of_all : (limit : ℕ) (left now : Option (List ℕ)) (input : List ℕ) → Consumes left now input → IsAtEnd now → length input < limit → IfSome left (λ bytes. ¬ HoldsNoEnd limit bytes)
-within_of_all limit None now input c z few = tt
-within_of_all limit (Some bytes) None input c z few = absurd c
-within_of_all limit (Some bytes) (Some rest) input c z few = λ long. absurd (omega (arith, long.0, few, ap length (c ∙ ap (λ (b : List ℕ). input ++ b) z ∙ append-nil input)))
+    → IfSome left (λ bytes. ¬ HoldsNoEnd scenario_lines limit bytes)
+within_of_ended limit left now input c few h =
+    not_too_long scenario_lines limit left now input c few
+    (λ more going. true≢false (sym h ∙ ap (λ (t : Scenario). has_ended t.ending) (sym (reads_same input more h)) ∙ ap has_ended going))

@@ -1,67 +1,30 @@
 -- Lines of messages are read, and the reading goes on, stops or ends.
-use Rattle.std.proofs.Common.{◌≡◌, ℕ, ◌+◌, ◌-◌, ◌<◌, ◌≤◌, Bool, true, false, true≢false, cond, List, [], ◌∷◌, ◌++◌, length, take, drop, Option, None, Some, Result, Ok, Err, IfSome, IsSomeAnd, String, refl, sym, ◌∙◌, ap, subst, arith, append_assoc, append-nil, length-append}
+use Rattle.std.proofs.Common.{◌≡◌, ℕ, ◌+◌, ◌<◌, ◌≤◌, Bool, true, false, true≢false, cond, List, [], ◌∷◌, ◌++◌, length, take, drop, Option, None, Some, Result, Ok, Err, String, refl, sym, ◌∙◌, ap, subst, arith, append_assoc, append-nil, length-append}
 use Rattle.std.specs.declared.alloc.Global.{Global}
-use Rattle.std.specs.Io.KnownBytes.{Consumes, IsAtEnd}
+use Rattle.std.specs.Io.KnownBytes.{Consumes}
 use Rattle.std.specs.List.{fold}
 use Rattle.std.proofs.KnownBytes.{Consumes-nil, Consumes-trans}
-use Rattle.std.proofs.Math.Seq.{take-append-add, take-append_seam}
 use Rattle.std.proofs.lemmas.List.{length-take-le, take-append-drop}
 use Rattle.std.proofs.lemmas.List.Sums.{fold-append}
 use Rattle.run_io.specs.Reading.{Reading, Reads, HasNoFeed, IsEnd, WantsLine, HoldsLongLine, HoldsAllOfLimit, max_line}
-use Rattle.br_model.specs.Program.Outcomes.{Call, StopsFull}
 use Rattle.br_model.specs.Table.Limits.{most_bytes}
 use Rattle.br_model.specs.Text.Scenario.{is_end, longest_line}
-use Rattle.neigh_netlink.specs.declared.follow.LineFault.{LineFault}
+use Rattle.br_model.proofs.AllLeft.{below_limit, not_too_long, same_at_end, same_with_more}
+use Rattle.br_model.proofs.Completing.{AreApart}
 use Rattle.neigh_netlink.specs.declared.follow.LineFault.TheVariants.{Long, Unended}
 use Rattle.neigh_follow.specs.declared.follower.FollowEnd.{FollowEnd}
 use Rattle.neigh_follow.specs.declared.follower.FollowEnd.TheVariants as lasts
 use Rattle.neigh_netlink.specs.Follow.{Ending, Following, Going, Ended, Bad, Reading as LinesRead, bad, closes, closes_at, followed, followed_at, follows, line_says, opened, reads, takes, words}
-use Rattle.neigh_follow.specs.Calls.{AnswersBad, EndsWithin, GoesOn, HasMessages, HoldsNoEnd, ended_by, ending_of}
+use Rattle.neigh_follow.specs.MessageLines.{ended_by, ending_of, message_lines}
 use Rattle.neigh_netlink.specs.Neighbours.{Neighbours}
 use Rattle.neigh_follow.proofs.Lines.{follows-is, follows-over, has_ended, line-more, long-line, over-stays, rest-goes}
 use Rattle.run_status.specs.declared.stop.Stop.{Stop}
 use Rattle.run_status.specs.declared.stop.Stop.TheVariants as stops
-use Rattle.run_status.specs.declared.status.Status.TheVariants as statuses
 use Rattle.capture_runner.specs.Following.{Advanced, Answered, Below, Closed, Ends, Filled, Follows, HasRead, Lessens, Stopped, Yields}
 
 ends_so : (end : FollowEnd) → has_ended (ending_of end) ≡ true
 ends_so lasts.Ended = refl
 ends_so (lasts.Bad n why) = refl
-
--- what an input was closes as, where all that a source had left begins with it
-
-whole_is : (left now : Option (List ℕ)) (input : List ℕ) (g : Following) → Consumes left now input → follows input ≡ g → ((more : List ℕ) → follows (input ++ more) ≡ g)
-    → IfSome left (λ bytes. follows bytes ≡ follows input)
-whole_is None now input g c e h = tt
-whole_is (Some bytes) None input g c e h = absurd c
-whole_is (Some bytes) (Some rest) input g c e h = ap follows c ∙ h rest ∙ sym e
-
--- the first bytes, up to the limit, begin with what was read of them
-first_bytes : (limit : ℕ) (input rest : List ℕ) → length input ≤ limit → take limit (input ++ rest) ≡ input ++ take (limit - length input) rest
-first_bytes limit input rest h =
-    let e : limit ≡ length input + (limit - length input) = omega arith in
-    ap (λ n. take n (input ++ rest)) e ∙ take-append-add input rest (limit - length input)
-
-not_too_long : (limit : ℕ) (left now : Option (List ℕ)) (input : List ℕ) (g : Following) → Consumes left now input → length input ≤ limit → has_ended g.ending ≡ true
-    → ((more : List ℕ) → (fold reads opened (input ++ more)).following ≡ g) → IfSome left (λ bytes. ¬ HoldsNoEnd limit bytes)
-not_too_long limit None now input g c n e h = tt
-not_too_long limit (Some bytes) None input g c n e h = absurd c
-not_too_long limit (Some bytes) (Some rest) input g c n e h = λ long.
-    true≢false (
-    sym e
-    ∙ sym (ap (λ (b : List ℕ). has_ended (fold reads opened b).following.ending) (ap (take limit) c ∙ first_bytes limit input rest n) ∙ ap (λ (u : Following). has_ended u.ending) (h (take (limit - length input) rest)))
-    ∙ ap has_ended long.1
-    )
-
-all_of : (left now : Option (List ℕ)) (input : List ℕ) → Consumes left now input → IsAtEnd now → IfSome left (λ bytes. follows bytes ≡ follows input)
-all_of None now input c z = tt
-all_of (Some bytes) None input c z = absurd c
-all_of (Some bytes) (Some rest) input c z = ap follows (c ∙ ap (λ (b : List ℕ). input ++ b) z ∙ append-nil input)
-
-below_limit : (limit : ℕ) (left now : Option (List ℕ)) (input : List ℕ) → Consumes left now input → IsAtEnd now → length input < limit → IfSome left (λ bytes. ¬ HoldsNoEnd limit bytes)
-below_limit limit None now input c z n = tt
-below_limit limit (Some bytes) None input c z n = absurd c
-below_limit limit (Some bytes) (Some rest) input c z n = λ long. absurd (omega (arith, long.0, n, ap length (c ∙ ap (λ (b : List ℕ). input ++ b) z ∙ append-nil input)))
 
 -- the table stays where the input ends
 closes_table : (f : Following) (rest : List ℕ) → (closes_at Going f rest).table ≡ f.table
@@ -118,8 +81,9 @@ module _ (left now now' : Option (List ℕ)) (limit : ℕ) (r r' : Reading) (f :
           read = given;
           ends = ap (λ (u : Following). u.ending) e ∙ finished;
           table = ap (λ (u : Following). u.table) e;
-          whole = whole_is left now' input g given e all;
-          within = not_too_long limit left now' input g given (omega (arith, counts, fits)) done k;
+          whole = same_with_more follows left now' input given (λ more. all more ∙ sym e);
+          within = not_too_long message_lines limit left now' input given (omega (arith, counts, fits))
+              (λ more going. true≢false (sym done ∙ ap (λ (f : Following). has_ended f.ending) (sym (k more)) ∙ ap has_ended going));
         }
 
     -- or may go on
@@ -184,8 +148,8 @@ module _ (left now now' : Option (List ℕ)) (limit : ℕ) (r r' : Reading) (f :
         read = given rest m within;
         ends = ap (λ (u : Following). u.ending) e ∙ finished;
         table = ap (λ (u : Following). u.table) e ∙ closes_table f rest;
-        whole = all_of left now' (input rest m within) (given rest m within) z.none_left;
-        within = below_limit limit left now' (input rest m within) (given rest m within) z.none_left (omega (arith, counts rest m within, z.before_limit, limited rest m within));
+        whole = same_at_end follows left now' (input rest m within) (given rest m within) z.none_left;
+        within = below_limit message_lines limit left now' (input rest m within) (given rest m within) z.none_left (omega (arith, counts rest m within, z.before_limit, limited rest m within));
       }
 
   -- the reading stops
@@ -265,31 +229,12 @@ lacks_text left now t end result c is = subst (Yields left now) (sym is) (c.inpu
 pub lacks_table : (left : Option (List ℕ)) (result : Result (FollowEnd × String Global) Stop) → result ≡ Err stops.NoMemory → Yields left left result
 lacks_table left result is = subst (Yields left left) (sym is) ([], Consumes-nil left)
 
--- Completeness: lines that end well within so many bytes are neither bad nor too long.
+-- Completeness: to end well is neither to have a bad line nor to go on.
 
 abbrev is_ended : Ending → Bool
 is_ended Going = false
 is_ended Ended = true
 is_ended (Bad n why) = false
 
-not_bad : (input : List ℕ) (n : ℕ) (why : LineFault) (limit : ℕ) (left : Option (List ℕ)) → IsSomeAnd left (EndsWithin limit)
-    → IfSome left (λ bytes. ((follows bytes).ending ≡ Bad n why) × (followed bytes ≡ followed input)) → ⊥
-not_bad input n why limit None e h = e
-not_bad input n why limit (Some bytes) e h = true≢false (sym (ap is_ended e.ended) ∙ ap is_ended h.0)
-
-pub never_bad : (call : Call) (limit : ℕ) → HasMessages limit call → AnswersBad call → ⊥
-never_bad call limit e a = not_bad a.2.input a.0 a.1 limit call.left_before e a.2.whole
-
-not_going : (limit : ℕ) (bytes input rest : List ℕ) → bytes ≡ input ++ rest → length input ≡ limit → EndsWithin limit bytes → GoesOn input → ⊥
-not_going limit bytes input rest is full e going =
-    let enough : limit ≤ length bytes = omega (arith, full, ap length is, length-append input rest) in
-    let first : take limit bytes ≡ input = ap (λ k. take k bytes) (sym full) ∙ ap (take (length input)) is ∙ take-append_seam input rest in
-    true≢false (sym (ap is_ended (e.seen enough)) ∙ ap (λ (b : List ℕ). is_ended (fold reads opened b).following.ending) first ∙ ap is_ended going)
-
-not_full : (limit : ℕ) (left now : Option (List ℕ)) (input : List ℕ) → IsSomeAnd left (EndsWithin limit) → Consumes left now input → length input ≡ limit → GoesOn input → ⊥
-not_full limit None now input e read full going = e
-not_full limit (Some bytes) None input e read full going = read
-not_full limit (Some bytes) (Some rest) input e read full going = not_going limit bytes input rest read full e going
-
-pub never_full : (limit : ℕ) (before : List ℕ → List ℕ) (call : Call) (last : List ℕ) → HasMessages limit call → StopsFull limit GoesOn before call last → ⊥
-never_full limit before call last e s = not_full limit call.left_before call.left_now s.stops.input e s.stops.read s.full s.stops.going
+pub messages_apart : AreApart message_lines
+messages_apart = record { bad = λ n why e. true≢false (ap is_ended e); going = λ e. true≢false (ap is_ended e) }

@@ -16,7 +16,7 @@ use Rattle.br_model.specs.declared.steps.Step.TheVariants.{Serve, Hold, Post, Tu
 use Rattle.br_model.specs.declared.transcript.Line.{Line}
 use Rattle.br_model.specs.Program.LiveRun.{is_live_run}
 use Rattle.br_model.specs.Program.LiveText.{live_text, steps_scenario}
-use Rattle.br_model.specs.Program.Outcomes.{GoesOn}
+use Rattle.br_model.specs.Program.Outcomes.{GoesOn, scenario_lines}
 use Rattle.br_model.specs.Program.Runs.{bad_alone, bad_told, body, setup_of}
 use Rattle.br_model.specs.Plane.Runs.{end_line, run}
 use Rattle.br_model.specs.Table.Domains.{Domains, chip_domains}
@@ -43,7 +43,7 @@ use Rattle.run_status.specs.declared.stop.Stop.{Stop}
 use Rattle.run_status.specs.declared.stop.Stop.TheVariants as stops
 use Rattle.capture_runner.specs.Living.{AnsweredLive, IsLiveText, IsRead, ReadsLive, is_numbered}
 use Rattle.scenario_runner.specs.Playing.{Below, Filled}
-use Rattle.capture_runner.proofs.EndedStays.{within_of_all, within_of_ended, whole_of_all, whole_of_ended}
+use Rattle.capture_runner.proofs.EndedStays.{within_of_ended, whole_of_ended}
 
 -- steps that have lines name declared ports
 
@@ -122,10 +122,10 @@ module _ (left now : Option (List ℕ)) (input : List ℕ) (x : WholeState) (rea
 
   -- they were all that there was
   pub read_all : IsAtEnd now → length input < most_live_bytes → IsRead left now x
-  read_all none few = record { input = input; read = read; says = says; lines = lines; whole = whole_of_all left now input read none; within = within_of_all most_live_bytes left now input read none few }
+  read_all none few = record { input = input; read = read; says = says; lines = lines; whole = same_at_end scenario left now input read none; within = below_limit scenario_lines most_live_bytes left now input read none few }
 
   -- the scenario goes on
-  pub goes_on : x.last ≡ None → GoesOn input
+  pub goes_on : x.last ≡ None → GoesOn scenario_lines input
   goes_on is = says.last ∙ ap ending_or_going is
 
   pub stops_below : x.last ≡ None → length input < most_live_bytes → (t : List ℕ) × Below left most_live_bytes now t

@@ -8,11 +8,12 @@ use Rattle.std.specs.declared.result.Result.{Result}
 use Rattle.std.specs.declared.result.Result.TheVariants.{Ok, Err}
 use Rattle.std.specs.Io.KnownBytes.{Consumes}
 use Rattle.run_io.specs.Reading.{Reading}
+use Rattle.br_model.specs.Program.Outcomes.{GoesOn, HoldsNoEnd}
 use Rattle.br_model.specs.Table.Limits.{most_bytes}
 use Rattle.neigh_follow.specs.declared.follower.FollowEnd.{FollowEnd}
 use Rattle.neigh_follow.specs.declared.follower.FollowEnd.TheVariants as lasts
 use Rattle.neigh_netlink.specs.Follow.{Following, Going, followed, follows, opened, reads}
-use Rattle.neigh_follow.specs.Calls.{GoesOn, HoldsNoEnd, ending_of}
+use Rattle.neigh_follow.specs.MessageLines.{ending_of, message_lines}
 use Rattle.neigh_netlink.specs.Neighbours.{Neighbours}
 use Rattle.run_status.specs.declared.stop.Stop.{Stop}
 use Rattle.run_status.specs.declared.stop.Stop.TheVariants.{ReadFault, NoMemory, TooLong}
@@ -40,13 +41,13 @@ pub record Closed (left : Option (List ℕ)) (limit : ℕ) (now : Option (List �
   pub ends : (follows input).ending ≡ ending_of end
   pub table : (follows input).table ≡ t
   pub whole : IfSome left (λ bytes. follows bytes ≡ follows input)
-  pub within : IfSome left (λ bytes. ¬ HoldsNoEnd limit bytes)
+  pub within : IfSome left (λ bytes. ¬ HoldsNoEnd message_lines limit bytes)
 
 -- The reading stops: what the source gave neither ends the lines nor holds a bad one.
 pub record Stopped (left now : Option (List ℕ)) : Type 0 where
   pub input : List ℕ
   pub read : Consumes left now input
-  pub going : GoesOn input
+  pub going : GoesOn message_lines input
 
 -- fewer bytes were read than may be
 pub record Below (left : Option (List ℕ)) (limit : ℕ) (now : Option (List ℕ)) : Type 0 where
@@ -94,7 +95,7 @@ pub record Answered (left now : Option (List ℕ)) (text : List ℕ) (end : Foll
   pub ends : (follows input).ending ≡ ending_of end
   pub answers : text ≡ followed input
   pub whole : IfSome left (λ bytes. follows bytes ≡ follows input)
-  pub within : IfSome left (λ bytes. ¬ HoldsNoEnd most_bytes bytes)
+  pub within : IfSome left (λ bytes. ¬ HoldsNoEnd message_lines most_bytes bytes)
 
 -- the text is the answer
 abbrev pub Yields : Option (List ℕ) → Option (List ℕ) → Result (FollowEnd × String Global) Stop → Type 0

@@ -13,7 +13,7 @@ use Rattle.br_model.specs.declared.steps.Step.{Step}
 use Rattle.br_model.specs.Plane.Traits.{traits}
 use Rattle.br_model.specs.Program.LiveRun.{is_live_run}
 use Rattle.br_model.specs.Program.LiveText.{live_text}
-use Rattle.br_model.specs.Program.Outcomes.{HoldsNoEnd}
+use Rattle.br_model.specs.Program.Outcomes.{HoldsNoEnd, scenario_lines}
 use Rattle.br_model.specs.Program.Runs.{bad_told}
 use Rattle.br_model.specs.Table.Limits.{most_live_bytes}
 use Rattle.br_model.specs.Text.Operands.{last_id, last_point}
@@ -25,8 +25,6 @@ use Rattle.scenario_reader.specs.declared.reader.Last.TheVariants as lasts
 use Rattle.scenario_reader.specs.Whole.{SaysWhole, WholeState}
 use Rattle.run_status.specs.declared.stop.Stop.{Stop}
 use Rattle.run_status.specs.declared.stop.Stop.TheVariants.{ReadFault, NoMemory, TooLong}
-use Rattle.run_status.specs.declared.status.Status.{Status}
-use Rattle.run_status.specs.declared.status.Status.TheVariants as statuses
 use Rattle.scenario_runner.specs.Playing.{Below, Filled}
 
 -- A scenario that has ended: these bytes of it were taken, and say this.
@@ -36,7 +34,7 @@ pub record IsRead (left now : Option (List ℕ)) (x : WholeState) : Type 0 where
   pub says : SaysWhole false input x
   pub lines : x.close ≡ lasts.Ended → list_all (has_line x.roster.ports) x.steps ≡ true
   pub whole : IfSome left (λ bytes. scenario bytes ≡ scenario input)
-  pub within : IfSome left (λ bytes. ¬ HoldsNoEnd most_live_bytes bytes)
+  pub within : IfSome left (λ bytes. ¬ HoldsNoEnd scenario_lines most_live_bytes bytes)
 
 -- it hasn't, or memory lacks
 abbrev pub StopsLiving : Option (List ℕ) → Option (List ℕ) → Stop → Type 0
@@ -72,7 +70,7 @@ pub record Lived (left now : Option (List ℕ)) (text : List ℕ) : Type 0 where
   pub written : list_all (has_line (scenario input).roster.ports) steps ≡ true
   pub text_is : text ≡ live_text (scenario input) steps
   pub whole : IfSome left (λ bytes. scenario bytes ≡ scenario input)
-  pub within : IfSome left (λ bytes. ¬ HoldsNoEnd most_live_bytes bytes)
+  pub within : IfSome left (λ bytes. ¬ HoldsNoEnd scenario_lines most_live_bytes bytes)
 
 -- or tells of its bad line
 pub record ToldBad (left now : Option (List ℕ)) (text : List ℕ) (n : ℕ) (why : LineWhy) : Type 0 where
@@ -81,7 +79,7 @@ pub record ToldBad (left now : Option (List ℕ)) (text : List ℕ) (n : ℕ) (w
   pub ends : (scenario input).ending ≡ Bad n why
   pub text_is : text ≡ bad_told input
   pub whole : IfSome left (λ bytes. scenario bytes ≡ scenario input)
-  pub within : IfSome left (λ bytes. ¬ HoldsNoEnd most_live_bytes bytes)
+  pub within : IfSome left (λ bytes. ¬ HoldsNoEnd scenario_lines most_live_bytes bytes)
 
 abbrev pub AnsweredLive : Option (List ℕ) → Option (List ℕ) → List ℕ → Last → Type 0
 AnsweredLive left now text lasts.Ended = Lived left now text
@@ -90,7 +88,3 @@ AnsweredLive left now text (lasts.Bad n why) = ToldBad left now text n why
 abbrev pub YieldsLive : Option (List ℕ) → Option (List ℕ) → Result (Last × String Global) Stop → Type 0
 YieldsLive left now (Ok x) = AnsweredLive left now (string_bytes x.1) x.0
 YieldsLive left now (Err stop) = StopsLiving left now stop
-
-abbrev pub status_of : Last → Status
-status_of lasts.Ended = statuses.Ok
-status_of (lasts.Bad n why) = statuses.BadLine

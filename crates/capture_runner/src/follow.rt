@@ -5,8 +5,8 @@ ghost use Rattle.run_io.specs.Reading.{room};
 ghost use Rattle.neigh_netlink.specs.Follow.{opened};
 ghost use Rattle.run_status.specs.Stopping.{Caused as StopsBy};
 ghost use Rattle.capture_runner.specs.Following.{Advances, Ends, Lessens, Yields, status_of};
-ghost use Rattle.run_status.specs.Statuses.{Caused, call_of};
-ghost use Rattle.capture_runner.specs.Outcome.{Follows};
+ghost use Rattle.run_status.specs.Statuses.{Caused, EndsIn, call_of};
+ghost use Rattle.capture_runner.specs.Outcome.{follow_ways};
 
 use br_model::limits::MOST_BYTES;
 use neigh_follow::{FollowEnd, Follower};
@@ -86,7 +86,7 @@ fn status_of(end: FollowEnd) -> Status
 
 /// `follow`: the table is written when the lines have ended.
 pub(crate) fn follow<S: Source, K: Sink>(alloc: Global, source: &mut S, sink: &mut K) -> Status
-    ensures outcome { Follows (Rose (S.faults source.old) (S.faults source.new)) result
+    ensures outcome { EndsIn (follow_ways (Rose (S.faults source.old) (S.faults source.new))) result
         (call_of (S.left source.old) (S.left source.new) (K.taken sink.old) (K.taken sink.new)) }
     ensures cause { Caused result (S.faults source.old) (S.faults source.new) (K.faults sink.old) (K.faults sink.new) }
 {

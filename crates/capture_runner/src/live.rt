@@ -12,8 +12,8 @@ ghost use Rattle.run_io.specs.Causes.{Rose};
 ghost use Rattle.scenario_reader.specs.declared.reader.Last.TheVariants.{Ended};
 ghost use Rattle.scenario_reader.specs.Whole.{SaysWhole};
 ghost use Rattle.run_status.specs.Stopping.{Caused as StopsBy};
-ghost use Rattle.capture_runner.specs.Living.{IsLiveText, ReadsLive, YieldsLive, are_small, is_numbered, status_of};
-ghost use Rattle.run_status.specs.Statuses.{Caused, Lives, call_of};
+ghost use Rattle.capture_runner.specs.Living.{IsLiveText, ReadsLive, YieldsLive, are_small, is_numbered};
+ghost use Rattle.run_status.specs.Statuses.{Caused, EndsIn, call_of, live_ways};
 ghost use Rattle.command_line.specs.Words.{most_workers};
 
 use br_model::NoMemory;
@@ -27,6 +27,7 @@ use run_io::whole::{Stop as Stand, take_all};
 use run_status::{Status, Stop, put_last};
 use run_text::bad_text;
 use scenario_reader::{Last, Whole, read_scenario};
+use scenario_runner::commands::status_of;
 use std::alloc::Global;
 use std::sync::Wait;
 use std::thread::Threads;
@@ -152,15 +153,6 @@ fn answer<R: Threads + Wait + Sync, S: Source, G: Gate + Sync>(
     }
 }
 
-fn status_of(last: Last) -> Status
-    ensures { result ≡ status_of last }
-{
-    match last {
-        Last::Ended => Status::Ok,
-        Last::Bad(..) => Status::BadLine,
-    }
-}
-
 /// `live`: everything that is written stands in memory before the first write.
 pub(crate) fn live<R: Threads + Wait + Sync, S: Source, K: Sink, G: Gate + Sync>(
     rt: &R,
@@ -171,7 +163,7 @@ pub(crate) fn live<R: Threads + Wait + Sync, S: Source, K: Sink, G: Gate + Sync>
     sink: &mut K,
 ) -> Status
     requires { (0 < workers) × (workers ≤ most_workers) }
-    ensures outcome { Lives (Rose (S.faults source.old) (S.faults source.new)) result
+    ensures outcome { EndsIn (live_ways (Rose (S.faults source.old) (S.faults source.new))) result
         (call_of (S.left source.old) (S.left source.new) (K.taken sink.old) (K.taken sink.new)) }
     ensures cause { Caused result (S.faults source.old) (S.faults source.new) (K.faults sink.old) (K.faults sink.new) }
 {

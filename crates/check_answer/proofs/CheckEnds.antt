@@ -18,7 +18,7 @@ use Rattle.run_status.specs.declared.stop.Stop.TheVariants as stops
 use Rattle.run_status.specs.declared.status.Status.{Status}
 use Rattle.run_status.specs.declared.status.Status.TheVariants as statuses
 use Rattle.check_answer.specs.Checking.{ChecksSo, EndsSo, IsFound, IsFoundBad, IsSaid, SeesBadOr, answer_status, found_status}
-use Rattle.run_status.specs.Statuses.{Caused, Checks, WholeChecks, call_of}
+use Rattle.run_status.specs.Statuses.{At, Caused, EndsIn, call_of, check_ways}
 use Rattle.run_status.specs.Stopping.{stop_line, stop_status}
 use Rattle.check_answer.proofs.Finding.{answer_bad, finds, finds_bad, sees_bad}
 use Rattle.run_status.proofs.Ends.{Broke, Went, by_status}
@@ -64,8 +64,8 @@ found_bad_line bytes found line why ends f = record {
 
 module _ (failed : Type 0) (left now : Option (List ℕ)) (input : List ℕ) (given : Consumes left now input) where
   -- the same with another name of the status
-  named : (s t : Status) (before after : Option (List ℕ)) → s ≡ t → WholeChecks failed t (call_of left now before after) → WholeChecks failed s (call_of left now before after)
-  named s t before after is h = subst (λ (s : Status). WholeChecks failed s (call_of left now before after)) (sym is) h
+  named : (s t : Status) (before after : Option (List ℕ)) → s ≡ t → At (check_ways failed) t (call_of left now before after) → At (check_ways failed) s (call_of left now before after)
+  named s t before after is h = subst (λ (s : Status). At (check_ways failed) s (call_of left now before after)) (sym is) h
 
   answered : (last : Last) (d : Option Difference) (status : Status) → IsAtEnd now → length input < most_bytes → (scenario_by true input).ending ≡ ending_of last → checked input ≡ d
       → status ≡ found_status last d → EndsSo failed left now (check_answer input) status
@@ -133,8 +133,8 @@ said_stopped bytes stop (Err e) h = tt
 
 -- what was found is written, or a write fails
 pub check_ends : (failed : Type 0) (left left_now before now : Option (List ℕ)) (text : List ℕ) (s r : Status) → EndsSo failed left left_now text s → (Went r → r ≡ s)
-    → (Went r → Appends before now text) → Broke r before now text → Checks failed r (call_of left left_now before now)
-check_ends failed left left_now before now text s r ends = by_status (WholeChecks failed) left left_now before now text s (λ after a. ends before after a) r
+    → (Went r → Appends before now text) → Broke r before now text → EndsIn (check_ways failed) r (call_of left left_now before now)
+check_ends failed left left_now before now text s r ends = by_status (check_ways failed) left left_now before now text s (λ after a. ends before after a) r
 
 pub calm_said : (s : Status) → IsSaid s → Went s
 calm_said statuses.Ok h = λ e. absurd (cc)

@@ -17,7 +17,7 @@ use Rattle.run_status.specs.declared.stop.Stop.{Stop}
 use Rattle.run_status.specs.declared.stop.Stop.TheVariants as stops
 use Rattle.run_status.specs.declared.status.Status.{Status}
 use Rattle.run_status.specs.declared.status.Status.TheVariants as statuses
-use Rattle.run_status.specs.Statuses.{WholeChecks, call_of}
+use Rattle.run_status.specs.Statuses.{At, call_of, check_ways}
 use Rattle.run_status.specs.Stopping.{stop_line, stop_status}
 
 abbrev pub answer_status : Option Difference → Status
@@ -61,7 +61,7 @@ SeesBadOr bytes stop (Err stops.TooLong) = (stop ≡ stops.TooLong) × ReadsOn b
 -- Once this text is written, the check has ended with this status.
 abbrev pub EndsSo : Type 0 → Option (List ℕ) → Option (List ℕ) → List ℕ → Status → Type 0
 EndsSo failed left now text status =
-    (before after : Option (List ℕ)) → Appends before after text → WholeChecks failed status (call_of left now before after)
+    (before after : Option (List ℕ)) → Appends before after text → At (check_ways failed) status (call_of left now before after)
 
 -- the same of its answer, or of the last line where it stops
 abbrev pub ChecksSo : Type 0 → Option (List ℕ) → Option (List ℕ) → Result Found Stop → Type 0

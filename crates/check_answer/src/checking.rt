@@ -8,7 +8,7 @@ ghost use Rattle.scenario_reader.specs.Whole.{SaysWhole};
 ghost use Rattle.transcript_check.specs.Checking.{difference_of};
 ghost use Rattle.run_status.specs.Stopping.{Caused as StopsBy};
 ghost use Rattle.check_answer.specs.Checking.{ChecksSo, IsFound, IsFoundBad, IsSaid, SeesBadOr, answer_status};
-ghost use Rattle.run_status.specs.Statuses.{Caused, Checks, call_of};
+ghost use Rattle.run_status.specs.Statuses.{Caused, EndsIn, call_of, check_ways};
 
 use br_model::NoMemory;
 use br_model::limits::MOST_BYTES;
@@ -154,7 +154,7 @@ fn find_in<S: Source>(alloc: Global, source: &mut S) -> Result<Found, Stop>
 
 /// `check`: a bad line comes before everything, and a fault of reading or too many bytes before a difference.
 pub fn check_all<S: Source, K: Sink>(alloc: Global, source: &mut S, sink: &mut K) -> Status
-    ensures outcome { Checks (Rose (S.faults source.old) (S.faults source.new)) result
+    ensures outcome { EndsIn (check_ways (Rose (S.faults source.old) (S.faults source.new))) result
         (call_of (S.left source.old) (S.left source.new) (K.taken sink.old) (K.taken sink.new)) }
     ensures cause { Caused result (S.faults source.old) (S.faults source.new) (K.faults sink.old) (K.faults sink.new) }
 {

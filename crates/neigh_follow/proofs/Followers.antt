@@ -8,7 +8,7 @@ use Rattle.neigh_netlink.specs.Lines.{after_line}
 use Rattle.neigh_netlink.specs.Neighbours.{Neighbours}
 use Rattle.neigh_follow.specs.declared.follower.FollowEnd.{FollowEnd}
 use Rattle.neigh_follow.specs.declared.follower.FollowEnd.TheVariants as lasts
-use Rattle.neigh_follow.specs.Calls.{ended_by, ending_of}
+use Rattle.neigh_follow.specs.MessageLines.{ended_by, ending_of}
 
 module _ (f : Following) (n : ℕ) (t u : Neighbours) (says : Result Said LineFault) (is : record { lines = n; table = t; ending = Going } ≡ f) where
   abbrev Takes : Following → Type 0

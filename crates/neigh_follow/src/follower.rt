@@ -2,7 +2,7 @@
 ghost use Rattle.std.specs.Prelude.{◌≡◌, ◌+◌, ◌-◌, ◌<◌, ◌≤◌, ◌^◌, ◌++◌, IfOk, OnOk, None, Some, if◌then◌else◌};
 ghost use Rattle.std.specs.String.{string_bytes};
 ghost use Rattle.neigh_netlink.specs.Follow.{Going, bad, closes_at, followed_at, line_says, opened, takes};
-ghost use Rattle.neigh_follow.specs.Calls.{ended_by, ending_of};
+ghost use Rattle.neigh_follow.specs.MessageLines.{ended_by, ending_of};
 
 use crate::NoMemory;
 use crate::row_lines::append_table;

@@ -4,15 +4,14 @@ use Rattle.std.specs.Io.KnownBytes.{Appends, Consumes, append_known}
 use Rattle.std.proofs.KnownBytes.{Appends-trans, Consumes-nil}
 use Rattle.std.proofs.lemmas.List.{take-append-drop}
 use Rattle.run_io.specs.Causes.{Rose}
-use Rattle.br_model.specs.Program.Outcomes.{Call}
-use Rattle.br_model.specs.Text.Scenario.{scenario}
+use Rattle.br_model.specs.Program.Outcomes.{Call, Lines}
 use Rattle.run_status.specs.declared.stop.Stop.{Stop}
 use Rattle.run_status.specs.declared.stop.Stop.TheVariants as stops
 use Rattle.run_status.specs.declared.status.Status.{Status}
 use Rattle.run_status.specs.declared.status.Status.TheVariants as statuses
 use Rattle.run_status.specs.Stopping.{Caused as StopsBy}
 use Rattle.run_status.specs.Writing.{Breaks, Grows, Written}
-use Rattle.run_status.specs.Statuses.{Caused, Checks, Lives, OrBreaksOff, Reads, Refuses, Whole, WholeChecks, WholeLives, WholeRefuses, WholeWrites, Writes, call_of, last_line, no_parts, nothing}
+use Rattle.run_status.specs.Statuses.{At, Caused, EndsIn, Ways, call_of, check_ways, last_line, live_ways, no_parts, nothing, reading_ways, refusing_ways, writing_ways}
 use Rattle.run_status.specs.Stopping as stopping
 use Rattle.run_status.proofs.Writing.{breaks_behind}
 
@@ -31,11 +30,12 @@ with_rest (Some xs) None front rest a = absurd a
 with_rest (Some xs) (Some ys) front rest a = ap (λ (b : List ℕ). b ++ rest) a ∙ append_assoc xs front rest
 
 -- a status that is this one, unless the sink failed
-module _ (W : Status → Call → Type 0) (left left_now before now : Option (List ℕ)) (output : List ℕ) (s : Status) (whole : (after : Option (List ℕ)) → Appends before after output → W s (call_of left left_now before after)) where
-  went : (r : Status) → Went r → (Went r → r ≡ s) → (Went r → Appends before now output) → W r (call_of left left_now before now)
-  went r n is a = subst (λ (r : Status). W r (call_of left left_now before now)) (sym (is n)) (whole now (a n))
+module _ (ways : Ways) (left left_now before now : Option (List ℕ)) (output : List ℕ) (s : Status)
+    (whole : (after : Option (List ℕ)) → Appends before after output → At ways s (call_of left left_now before after)) where
+  went : (r : Status) → Went r → (Went r → r ≡ s) → (Went r → Appends before now output) → At ways r (call_of left left_now before now)
+  went r n is a = subst (λ (r : Status). At ways r (call_of left left_now before now)) (sym (is n)) (whole now (a n))
 
-  broke : Breaks before now output → OrBreaksOff W statuses.WriteFault (call_of left left_now before now)
+  broke : Breaks before now output → EndsIn ways statuses.WriteFault (call_of left left_now before now)
   broke b =
       let rest : List ℕ = drop b.0 output in record {
         output = take b.0 output;
@@ -49,7 +49,7 @@ module _ (W : Status → Call → Type 0) (left left_now before now : Option (Li
         );
       }
 
-  pub by_status : (r : Status) → (Went r → r ≡ s) → (Went r → Appends before now output) → Broke r before now output → OrBreaksOff W r (call_of left left_now before now)
+  pub by_status : (r : Status) → (Went r → r ≡ s) → (Went r → Appends before now output) → Broke r before now output → EndsIn ways r (call_of left left_now before now)
   by_status statuses.WriteFault is a b = broke (b refl)
   by_status statuses.Ok is a b = went statuses.Ok (λ e. absurd (cc)) is a
   by_status statuses.No is a b = went statuses.No (λ e. absurd (cc)) is a
@@ -73,12 +73,13 @@ all_broke before mid now text all last w b =
     (sym (append_assoc w.gone text last) ∙ ap (λ (b : List ℕ). b ++ last) (sym w.together))
     (breaks_behind before mid now w.gone (text ++ last) w.wrote b)
 
--- a command that reads a scenario lacks memory
-pub lacks : (failed : Type 0) (left left_now before now : Option (List ℕ)) (r : Status) (answer opening : List ℕ → List ℕ) (parts : ℕ → List ℕ → List ℕ) (input : List ℕ) (n : ℕ) → Consumes left left_now input
+-- a command that reads lines lacks memory
+pub lacks : {End Why : Type 0} (failed : Type 0) (lines : Lines End Why) (limit : ℕ) (left left_now before now : Option (List ℕ)) (r : Status)
+    (answer opening : List ℕ → List ℕ) (parts : ℕ → List ℕ → List ℕ) (input : List ℕ) (n : ℕ) → Consumes left left_now input
     → (Went r → r ≡ statuses.NoMemory) → (Went r → Appends before now (parts n input ++ last_line (codes "no memory"))) → Broke r before now (parts n input ++ last_line (codes "no memory"))
-    → Reads failed answer opening parts r (call_of left left_now before now)
-lacks failed left left_now before now r answer opening parts input n read =
-    by_status (Whole failed answer opening parts) left left_now before now (parts n input ++ last_line (codes "no memory")) statuses.NoMemory
+    → EndsIn (reading_ways failed lines limit answer opening parts) r (call_of left left_now before now)
+lacks failed lines limit left left_now before now r answer opening parts input n read =
+    by_status (reading_ways failed lines limit answer opening parts) left left_now before now (parts n input ++ last_line (codes "no memory")) statuses.NoMemory
     (λ after a. record { input = input; read = read; count = n; wrote = a }) r
 
 -- what the sink took since then, by the status
@@ -98,39 +99,38 @@ module _ (before now : Option (List ℕ)) (r : Status) (left : Option (List ℕ)
   abbrev unread : Call
   unread = call_of left left before now
 
-  pub writes : (output : List ℕ) → (Went r → r ≡ statuses.Ok) → (Went r → Appends before now output) → Broke r before now output → Writes output r unread
-  writes output = by_status (WholeWrites output) left left before now output statuses.Ok (λ after a. (Consumes-nil left, a)) r
+  pub writes : (output : List ℕ) → (Went r → r ≡ statuses.Ok) → (Went r → Appends before now output) → Broke r before now output → EndsIn (writing_ways output) r unread
+  writes output = by_status (writing_ways output) left left before now output statuses.Ok (λ after a. (Consumes-nil left, a)) r
 
   pub writes_nothing : (output : List ℕ) → (Went r → r ≡ statuses.NoMemory) → (Went r → Appends before now (last_line (codes "no memory"))) → Broke r before now (last_line (codes "no memory"))
-      → Writes output r unread
-  writes_nothing output = by_status (WholeWrites output) left left before now (last_line (codes "no memory")) statuses.NoMemory (λ after a. (Consumes-nil left, a)) r
+      → EndsIn (writing_ways output) r unread
+  writes_nothing output = by_status (writing_ways output) left left before now (last_line (codes "no memory")) statuses.NoMemory (λ after a. (Consumes-nil left, a)) r
 
-  pub refuses : (Went r → r ≡ statuses.Usage) → (Went r → Appends before now (last_line (codes "usage"))) → Broke r before now (last_line (codes "usage")) → Refuses r unread
-  refuses = by_status WholeRefuses left left before now (last_line (codes "usage")) statuses.Usage (λ after a. (Consumes-nil left, a)) r
-
-  -- there is no memory at first
+  pub refuses : (Went r → r ≡ statuses.Usage) → (Went r → Appends before now (last_line (codes "usage"))) → Broke r before now (last_line (codes "usage")) → EndsIn refusing_ways r unread
+  refuses = by_status refusing_ways left left before now (last_line (codes "usage")) statuses.Usage (λ after a. (Consumes-nil left, a)) r
 
   -- there is no memory at first
   module _ (s : Went r → r ≡ statuses.NoMemory) (a : Went r → Appends before now (last_line (codes "no memory"))) (b : Broke r before now (last_line (codes "no memory"))) where
-    pub refuses_nothing : Refuses r unread
-    refuses_nothing = by_status WholeRefuses left left before now (last_line (codes "no memory")) statuses.NoMemory (λ after a. (Consumes-nil left, a)) r s a b
+    pub refuses_nothing : EndsIn refusing_ways r unread
+    refuses_nothing = by_status refusing_ways left left before now (last_line (codes "no memory")) statuses.NoMemory (λ after a. (Consumes-nil left, a)) r s a b
 
-    pub reads_nothing : (failed : Type 0) (answer : List ℕ → List ℕ) → Reads failed answer nothing no_parts r unread
-    reads_nothing failed answer = lacks failed left left before now r answer nothing no_parts [] 0 (Consumes-nil left) s a b
+    pub reads_nothing : {End Why : Type 0} (failed : Type 0) (lines : Lines End Why) (limit : ℕ) (answer : List ℕ → List ℕ)
+        → EndsIn (reading_ways failed lines limit answer nothing no_parts) r unread
+    reads_nothing failed lines limit answer = lacks failed lines limit left left before now r answer nothing no_parts [] 0 (Consumes-nil left) s a b
 
-    pub checks_nothing : (failed : Type 0) → Checks failed r unread
+    pub checks_nothing : (failed : Type 0) → EndsIn (check_ways failed) r unread
     checks_nothing failed =
-        by_status (WholeChecks failed) left left before now (last_line (codes "no memory")) statuses.NoMemory
+        by_status (check_ways failed) left left before now (last_line (codes "no memory")) statuses.NoMemory
         (λ after a. record { input = []; read = Consumes-nil left; count = 0; wrote = a }) r s a b
 
-    pub lives_nothing : (failed : Type 0) → Lives failed r unread
+    pub lives_nothing : (failed : Type 0) → EndsIn (live_ways failed) r unread
     lives_nothing failed =
-        by_status (WholeLives failed) left left before now (last_line (codes "no memory")) statuses.NoMemory
+        by_status (live_ways failed) left left before now (last_line (codes "no memory")) statuses.NoMemory
         (λ after a. record { input = []; read = Consumes-nil left; count = 0; wrote = a }) r s a b
 
 -- a write failed before all was written
 pub writes_front : (before now : Option (List ℕ)) (output missing : List ℕ) (left : Option (List ℕ)) → Written before now missing output → 0 < length missing
-    → Writes output statuses.WriteFault (call_of left left before now)
+    → EndsIn (writing_ways output) statuses.WriteFault (call_of left left before now)
 writes_front before now output missing left w some = record {
   output = w.gone;
   wrote = w.wrote;

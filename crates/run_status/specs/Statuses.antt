@@ -1,4 +1,4 @@
--- What a command has read and written when it ends, by its status. Those of `follow` stand beside the words of the command line.
+-- What a command has read and written when it ends, by its status.
 -- Source: this profile.
 use Rattle.std.specs.Prelude.{ℕ, List, [], ◌∷◌, ◌++◌, codes}
 use Rattle.std.specs.declared.option.Option.{Option}
@@ -6,10 +6,9 @@ use Rattle.std.specs.declared.option.Option.TheVariants.{None}
 use Rattle.run_io.specs.Causes.{Rose}
 use Rattle.br_model.specs.Program.Checks.{Finds, FindsBad, FindsSome, ReadsOn}
 use Rattle.br_model.specs.Program.LiveText.{AnswersLive}
-use Rattle.br_model.specs.Program.Outcomes.{Call, Makes, Answers, AnswersBad, BreaksOff, GoesOn, IsNotTooLong, Lacks, ReadsBehind, StopsBelow, StopsFull}
+use Rattle.br_model.specs.Program.Outcomes.{Call, Lines, Makes, Answers, AnswersBad, BreaksOff, GoesOn, IsNotTooLong, Lacks, ReadsBehind, StopsBelow, StopsFull, scenario_lines}
 use Rattle.br_model.specs.Program.Runs.{bad_told, body, body_parts, told}
 use Rattle.br_model.specs.Table.Limits.{most_bytes, most_live_bytes}
-use Rattle.br_model.specs.Text.Scenario.{Ended}
 use Rattle.run_status.specs.declared.status.Status.{Status}
 use Rattle.run_status.specs.declared.status.Status.TheVariants as statuses
 
@@ -33,33 +32,74 @@ abbrev pub call_of : Option (List ℕ) → Option (List ℕ) → Option (List �
 call_of left_before left_now taken_before taken_now =
     record { left_before = left_before; left_now = left_now; taken_before = taken_before; taken_now = taken_now }
 
--- Each status says what `Whole` says of it, but that of a failed write: then the output breaks off on its way to another one.
-abbrev pub OrBreaksOff : (Status → Call → Type 0) → Status → Call → Type 0
-OrBreaksOff Whole statuses.Ok call = Whole statuses.Ok call
-OrBreaksOff Whole statuses.No call = Whole statuses.No call
-OrBreaksOff Whole statuses.Usage call = Whole statuses.Usage call
-OrBreaksOff Whole statuses.BadLine call = Whole statuses.BadLine call
-OrBreaksOff Whole statuses.ReadFault call = Whole statuses.ReadFault call
-OrBreaksOff Whole statuses.WriteFault call = BreaksOff (λ c. (status : Status) × Whole status c) call
-OrBreaksOff Whole statuses.NoMemory call = Whole statuses.NoMemory call
-OrBreaksOff Whole statuses.TooLong call = Whole statuses.TooLong call
+-- The ways in which a command may end: for each status, what it has read and written then, where no write failed.
+pub record Ways : Type 1 where
+  pub Ok : Call → Type 0
+  pub No : Call → Type 0
+  pub Usage : Call → Type 0
+  pub BadLine : Call → Type 0
+  pub ReadFault : Call → Type 0
+  pub WriteFault : Call → Type 0
+  pub NoMemory : Call → Type 0
+  pub TooLong : Call → Type 0
 
--- What a command does that reads a scenario, where no write fails: `answer` is what it writes for its bytes, `before` what stands
--- before the last line where it stops on its way, and `parts` the parts of that, of which it may lack some for want of memory. A
--- read has failed only where `failed` holds.
-abbrev pub Whole : Type 0 → (List ℕ → List ℕ) → (List ℕ → List ℕ) → (ℕ → List ℕ → List ℕ) → Status → Call → Type 0
-Whole failed answer before parts statuses.Ok call = Answers answer call Ended × IsNotTooLong most_bytes call
-Whole failed answer before parts statuses.No call = ⊥
-Whole failed answer before parts statuses.Usage call = ⊥
-Whole failed answer before parts statuses.BadLine call = AnswersBad answer call × IsNotTooLong most_bytes call
-Whole failed answer before parts statuses.ReadFault call = failed × StopsBelow most_bytes GoesOn before call (last_line (codes "read fault"))
-Whole failed answer before parts statuses.WriteFault call = ⊥
-Whole failed answer before parts statuses.NoMemory call = Lacks parts call (last_line (codes "no memory"))
-Whole failed answer before parts statuses.TooLong call = StopsFull most_bytes GoesOn before call (last_line (codes "too long"))
+-- the way of this status
+abbrev pub At : Ways → Status → Call → Type 0
+At ways statuses.Ok call = ways.Ok call
+At ways statuses.No call = ways.No call
+At ways statuses.Usage call = ways.Usage call
+At ways statuses.BadLine call = ways.BadLine call
+At ways statuses.ReadFault call = ways.ReadFault call
+At ways statuses.WriteFault call = ways.WriteFault call
+At ways statuses.NoMemory call = ways.NoMemory call
+At ways statuses.TooLong call = ways.TooLong call
 
--- what it does, a front of that where a write fails
-abbrev pub Reads : Type 0 → (List ℕ → List ℕ) → (List ℕ → List ℕ) → (ℕ → List ℕ → List ℕ) → Status → Call → Type 0
-Reads failed answer before parts = OrBreaksOff (Whole failed answer before parts)
+-- How a command ends that has these ways: a write may fail, too. Then its output breaks off before one of these ends.
+abbrev pub EndsIn : Ways → Status → Call → Type 0
+EndsIn ways = At (record ways { WriteFault = BreaksOff (λ c. (status : Status) × At ways status c) })
+
+-- No status comes. Each command names those that come over this one, so that no other comes.
+abbrev pub no_ways : Ways
+no_ways = record {
+  Ok = λ call. ⊥;
+  No = λ call. ⊥;
+  Usage = λ call. ⊥;
+  BadLine = λ call. ⊥;
+  ReadFault = λ call. ⊥;
+  WriteFault = λ call. ⊥;
+  NoMemory = λ call. ⊥;
+  TooLong = λ call. ⊥;
+}
+
+-- of a command that reads nothing and writes this
+abbrev pub writing_ways : List ℕ → Ways
+writing_ways output = record no_ways {
+  Ok = λ call. Makes call output;
+  NoMemory = λ call. Makes call (last_line (codes "no memory"));
+}
+
+-- of words that ask for no command
+abbrev pub refusing_ways : Ways
+refusing_ways = record no_ways {
+  Usage = λ call. Makes call (last_line (codes "usage"));
+  NoMemory = λ call. Makes call (last_line (codes "no memory"));
+}
+
+-- Of a command that reads at most `limit` bytes, and stops on its way: at a fault of reading, which comes only where `failed` holds, for
+-- want of memory, or since all that it may read lets it go on. Before the last line stands `before` then, or some of its `parts`.
+abbrev pub stopping_ways : Type 0 → ℕ → (List ℕ → Type 0) → (List ℕ → List ℕ) → (ℕ → List ℕ → List ℕ) → Ways
+stopping_ways failed limit OnItsWay before parts = record no_ways {
+  ReadFault = λ call. failed × StopsBelow limit OnItsWay before call (last_line (codes "read fault"));
+  NoMemory = λ call. Lacks parts call (last_line (codes "no memory"));
+  TooLong = λ call. StopsFull limit OnItsWay before call (last_line (codes "too long"));
+}
+
+-- Of a command that reads lines: where they end, well or badly, `answer` is what it writes for their bytes.
+abbrev pub reading_ways : {End Why : Type 0} → Type 0 → Lines End Why → ℕ → (List ℕ → List ℕ) → (List ℕ → List ℕ) → (ℕ → List ℕ → List ℕ) → Ways
+reading_ways failed lines limit answer before parts = record (stopping_ways failed limit (GoesOn lines) before parts) {
+  Ok = λ call. Answers lines answer call lines.ended × IsNotTooLong lines limit call;
+  BadLine = λ call. AnswersBad lines answer call × IsNotTooLong lines limit call;
+}
 
 -- nothing stands before the last line
 abbrev pub nothing : List ℕ → List ℕ
@@ -69,74 +109,36 @@ nothing bytes = []
 abbrev pub no_parts : ℕ → List ℕ → List ℕ
 no_parts n bytes = []
 
--- What `live` does, where no write fails: where its scenario ends well, it writes the steps as workers took them and their transcript; else
--- the last line alone. It reads fewer bytes. A read has failed only where `failed` holds.
-abbrev pub WholeLives : Type 0 → Status → Call → Type 0
-WholeLives failed statuses.Ok call = AnswersLive call × IsNotTooLong most_live_bytes call
-WholeLives failed statuses.No call = ⊥
-WholeLives failed statuses.Usage call = ⊥
-WholeLives failed statuses.BadLine call = AnswersBad bad_told call × IsNotTooLong most_live_bytes call
-WholeLives failed statuses.ReadFault call = failed × StopsBelow most_live_bytes GoesOn nothing call (last_line (codes "read fault"))
-WholeLives failed statuses.WriteFault call = ⊥
-WholeLives failed statuses.NoMemory call = Lacks no_parts call (last_line (codes "no memory"))
-WholeLives failed statuses.TooLong call = StopsFull most_live_bytes GoesOn nothing call (last_line (codes "too long"))
+-- of a command that reads a scenario, and writes nothing before it has ended
+abbrev pub scenario_ways : Type 0 → (List ℕ → List ℕ) → Ways
+scenario_ways failed answer = reading_ways failed scenario_lines most_bytes answer nothing no_parts
 
--- a front of that where a write fails.
-abbrev pub Lives : Type 0 → Status → Call → Type 0
-Lives failed = OrBreaksOff (WholeLives failed)
+-- Of `live`: where its scenario ends well, it writes the steps as workers took them and their transcript; else the last line alone. It reads
+-- fewer bytes.
+abbrev pub live_ways : Type 0 → Ways
+live_ways failed = record (reading_ways failed scenario_lines most_live_bytes bad_told nothing no_parts) {
+  Ok = λ call. AnswersLive call × IsNotTooLong scenario_lines most_live_bytes call;
+}
 
--- What a command does that reads nothing: this is what it writes;
-abbrev pub WholeWrites : List ℕ → Status → Call → Type 0
-WholeWrites output statuses.Ok call = Makes call output
-WholeWrites output statuses.No call = ⊥
-WholeWrites output statuses.Usage call = ⊥
-WholeWrites output statuses.BadLine call = ⊥
-WholeWrites output statuses.ReadFault call = ⊥
-WholeWrites output statuses.WriteFault call = ⊥
-WholeWrites output statuses.NoMemory call = Makes call (last_line (codes "no memory"))
-WholeWrites output statuses.TooLong call = ⊥
-
--- a front of it where a write fails.
-abbrev pub Writes : List ℕ → Status → Call → Type 0
-Writes output = OrBreaksOff (WholeWrites output)
-
--- what other words are answered;
-abbrev pub WholeRefuses : Status → Call → Type 0
-WholeRefuses statuses.Ok call = ⊥
-WholeRefuses statuses.No call = ⊥
-WholeRefuses statuses.Usage call = Makes call (last_line (codes "usage"))
-WholeRefuses statuses.BadLine call = ⊥
-WholeRefuses statuses.ReadFault call = ⊥
-WholeRefuses statuses.WriteFault call = ⊥
-WholeRefuses statuses.NoMemory call = Makes call (last_line (codes "no memory"))
-WholeRefuses statuses.TooLong call = ⊥
-
--- a front of it where a write fails.
-abbrev pub Refuses : Status → Call → Type 0
-Refuses = OrBreaksOff WholeRefuses
+-- of a check, which finds no difference, or one, or a bad line
+abbrev pub check_ways : Type 0 → Ways
+check_ways failed = record (stopping_ways failed most_bytes ReadsOn nothing no_parts) {
+  Ok = λ call. Finds most_bytes call None;
+  No = λ call. FindsSome most_bytes call;
+  BadLine = λ call. FindsBad most_bytes call;
+}
 
 -- the first line of every transcript
 abbrev pub first_line : List ℕ
 first_line = last_line (codes "transcript 1")
 
--- a replay writes its first line before it reads
+-- of a replay: where it stops on its way, the body of the transcript stands before the last line
+abbrev pub replay_ways : Type 0 → Ways
+replay_ways failed = reading_ways failed scenario_lines most_bytes told body body_parts
+
+-- It writes its first line before it reads.
 abbrev pub Replays : Type 0 → Status → Call → Type 0
-Replays failed status call = Reads failed told body body_parts status call × ReadsBehind first_line call
-
--- What a check does, where no write fails: it finds no difference, or one, or a bad line. A read has failed only where `failed` holds.
-abbrev pub WholeChecks : Type 0 → Status → Call → Type 0
-WholeChecks failed statuses.Ok call = Finds most_bytes call None
-WholeChecks failed statuses.No call = FindsSome most_bytes call
-WholeChecks failed statuses.Usage call = ⊥
-WholeChecks failed statuses.BadLine call = FindsBad most_bytes call
-WholeChecks failed statuses.ReadFault call = failed × StopsBelow most_bytes ReadsOn nothing call (last_line (codes "read fault"))
-WholeChecks failed statuses.WriteFault call = ⊥
-WholeChecks failed statuses.NoMemory call = Lacks no_parts call (last_line (codes "no memory"))
-WholeChecks failed statuses.TooLong call = StopsFull most_bytes ReadsOn nothing call (last_line (codes "too long"))
-
--- what it does, a front of that where a write fails
-abbrev pub Checks : Type 0 → Status → Call → Type 0
-Checks failed = OrBreaksOff (WholeChecks failed)
+Replays failed status call = EndsIn (replay_ways failed) status call × ReadsBehind first_line call
 
 -- a fault only where its count rose
 abbrev pub Caused : Status → ℕ → ℕ → ℕ → ℕ → Type 0

@@ -34,15 +34,15 @@ begins places.Header h = refl
 begins places.Declarations h = absurd (cc)
 begins places.Steps h = absurd (cc)
 
--- what stays behind the declarations, whatever a line says there
+-- what stays, whatever a line says there
 keeps : (r : Roster) (said : Said) → comes_in_place r.place (item_of said) ≡ true → KeepsSetup r (declared r said)
-keeps r Blank h b = (b, (refl, refl))
-keeps r (Opens edition) h b = let e : true ≡ false = sym h ∙ b.1 in absurd (cc)
-keeps r (Bridge mac) h b = let e : true ≡ false = sym (begins r.place h) ∙ b.0 in absurd (cc)
-keeps r (Declares port name dom) h b = let e : true ≡ false = sym h ∙ b.0 in absurd (cc)
-keeps r (Does step) h b = ((refl, refl), (refl, refl))
-keeps r (Captures n) h b = ((refl, refl), (refl, refl))
-keeps r Ends h b = (b, (refl, refl))
+keeps r Blank h = (refl, λ b. (b, (refl, refl)))
+keeps r (Opens edition) h = (refl, λ b. let e : true ≡ false = sym h ∙ b.1 in absurd (cc))
+keeps r (Bridge mac) h = (refl, λ b. let e : true ≡ false = sym (begins r.place h) ∙ b.0 in absurd (cc))
+keeps r (Declares port name dom) h = (refl, λ b. let e : true ≡ false = sym h ∙ b.0 in absurd (cc))
+keeps r (Does step) h = (refl, λ b. ((refl, refl), (refl, refl)))
+keeps r (Captures n) h = (refl, λ b. ((refl, refl), (refl, refl)))
+keeps r Ends h = (refl, λ b. (b, (refl, refl)))
 
 -- what the items say
 

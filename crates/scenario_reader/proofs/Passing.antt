@@ -9,12 +9,12 @@ use Rattle.std.proofs.lemmas.List.Folds.{list_all-append}
 use Rattle.br_model.specs.declared.scenario.LineWhy.{LineWhy}
 use Rattle.br_model.specs.declared.scenario.LineWhy.TheVariants.{Long, Unended}
 use Rattle.br_model.specs.declared.scenario.Said.{Said}
-use Rattle.br_model.specs.declared.scenario.Said.TheVariants.{Blank, Opens, Bridge, Declares, Does, Captures, Ends}
+use Rattle.br_model.specs.declared.scenario.Said.TheVariants.{Does, Captures, Ends}
 use Rattle.br_model.specs.declared.steps.Step.{Step}
 use Rattle.br_model.specs.Text.LineForms.{comes_by_line, line_says}
 use Rattle.br_model.specs.Text.Operands.{longest_section}
 use Rattle.br_model.specs.Text.Roster.{Roster, chips_of, first_roster}
-use Rattle.br_model.specs.Text.Scenario.{Scenario, Ending, Going, Ended, Bad, Front, front, Progress, bad, behind_end, captured, closes, closes_at, longest_line, opened, read, reads_at, reads_front, scenario_by, section_length, steps_of, takes, takes_steps, whole_says}
+use Rattle.br_model.specs.Text.Scenario.{Scenario, Ending, Going, Ended, Bad, Front, front, Progress, bad, behind_end, captured, closes, closes_at, longest_line, opened, read, reads_at, reads_front, scenario_by, section_length, takes, takes_steps, whole_says}
 use Rattle.br_model.specs.Theorems.WholeLines.{is_line}
 use Rattle.br_model.specs.Wire.Captures.{packets}
 use Rattle.br_model.proofs.Endings.{behind_at, has_ended, read_ended}
@@ -53,27 +53,16 @@ says_long r line long = ap (λ b. if b then Err Long else line_says r line) (bel
 
 -- what the steps stand on
 
--- the command stays what it is
-check_declared : (s : Scenario) (said : Said) (r : Result (List Step) LineWhy) → (takes_steps s said r).roster.check ≡ s.roster.check
-check_declared s said (Err why) = refl
-check_declared s Blank (Ok steps) = refl
-check_declared s (Opens edition) (Ok steps) = refl
-check_declared s (Bridge mac) (Ok steps) = refl
-check_declared s (Declares port name dom) (Ok steps) = refl
-check_declared s (Does step) (Ok steps) = refl
-check_declared s (Captures n) (Ok steps) = refl
-check_declared s Ends (Ok steps) = refl
-
 -- nothing was declared behind the steps
-sound_on : (check : Bool) (old new : Roster) (steps : List Step) → AreSound check old steps → new.check ≡ old.check → KeepsSetup old new → (steps ≡ []) ⊎ IsBehindDeclarations old → AreSound check new steps
-sound_on check old new steps h same keeps (inl none) = record {
-  its_check = same ∙ h.its_check;
+sound_on : (check : Bool) (old new : Roster) (steps : List Step) → AreSound check old steps → KeepsSetup old new → (steps ≡ []) ⊎ IsBehindDeclarations old → AreSound check new steps
+sound_on check old new steps h keeps (inl none) = record {
+  its_check = keeps.0 ∙ h.its_check;
   by_line = ap (λ (l : List Step). list_all (comes_by_line check (chips_of new.ports)) l) none;
   declared = inl none;
 }
-sound_on check old new steps h same keeps (inr behind) =
-    let kept = keeps behind in record {
-      its_check = same ∙ h.its_check;
+sound_on check old new steps h keeps (inr behind) =
+    let kept = keeps.1 behind in record {
+      its_check = keeps.0 ∙ h.its_check;
       by_line = ap (λ ports. list_all (comes_by_line check (chips_of ports)) steps) kept.1.1 ∙ h.by_line;
       declared = inr kept.0;
     }
@@ -156,7 +145,7 @@ module _ (check : Bool) (s : Scenario) (line behind : List ℕ) (x : ReaderState
   quietly new said says sized same follows keeps =
       let t : Scenario = takes s said [] in
       let all : AreSound check t.roster s.steps =
-      sound_on check s.roster t.roster s.steps h.sound (check_declared s said (steps_of s.roster.ports said [])) (subst (KeepsSetup s.roster) follows.roster keeps) h.sound.declared in record {
+      sound_on check s.roster t.roster s.steps h.sound (subst (KeepsSetup s.roster) follows.roster keeps) h.sound.declared in record {
         scenario = t;
         reads = read_line s said line [] behind going feed says (sym sized);
         stands = record { follows = follows; all_steps = h.all_steps ∙ sym same; sound = subst (λ (l : List Step). AreSound check t.roster l) (sym same) all };

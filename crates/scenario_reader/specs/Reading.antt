@@ -28,9 +28,10 @@ pub record ReaderState : Type 0 where
 abbrev pub IsBehindDeclarations : Roster → Type 0
 IsBehindDeclarations roster = (declaration roster.place ≡ false) × (opening roster.place ≡ false)
 
--- where no port can be declared any more, it stays so, and so does what is said before the steps
+-- The command is the same; and where no port can be declared any more, it stays so, and so does what is said before the steps.
 abbrev pub KeepsSetup : Roster → Roster → Type 0
-KeepsSetup old new = IsBehindDeclarations old → IsBehindDeclarations new × ((setup_of new ≡ setup_of old) × (new.ports ≡ old.ports))
+KeepsSetup old new =
+    (new.check ≡ old.check) × (IsBehindDeclarations old → IsBehindDeclarations new × ((setup_of new ≡ setup_of old) × (new.ports ≡ old.ports)))
 
 -- the reader has read what the scenario has, and the scenario goes on
 pub record Follows (s : Scenario) (x : ReaderState) : Type 0 where

@@ -79,6 +79,7 @@ impl Reader {
     }
 
     /// Reads a whole line within the limit of its length, without its line feed.
+    #[inline(always)]
     pub fn take(&mut self, alloc: Global, line: &[u8]) -> Result<Next, NoMemory>
         requires short { length line.now ≤ longest_line }
         requires few { self.old.lines < 2 ^ 32 - 1 }

@@ -10,7 +10,7 @@ use Rattle.scenario_runner.specs.declared.replay.Halt.{Halt}
 use Rattle.scenario_runner.specs.declared.replay.Halt.TheVariants.{Stopped, WriteFault}
 use Rattle.run_status.specs.declared.stop.Stop.{Stop}
 use Rattle.run_status.specs.declared.stop.Stop.TheVariants.{ReadFault, NoMemory, TooLong}
-use Rattle.scenario_runner.specs.declared.session.Last.{Last}
+use Rattle.scenario_reader.specs.declared.reader.Last.{Last}
 use Rattle.scenario_runner.specs.declared.session.Session.{Session}
 use Rattle.scenario_runner.specs.Advancing.{Sectioned}
 use Rattle.run_status.specs.Writing.{Breaks, Moves, Written}
@@ -32,7 +32,8 @@ does_more x y z steps step taken mid now old text held after does moves done s b
     let t : Scenario = with_steps s (steps ++ step ∷ []) in
     let did = does s before place d in
     let w = moved before mid now text held did.all did.written moves in
-    let went = did_step u t y z held after step did.follows.stands.world did.follows.stands.said did.follows.stands.roster did.follows.stands.lines did.follows.going (sym (append_assoc s.steps steps (step ∷ []))) refl place done in record {
+    let went = did_step u t y z held after step did.follows.world did.follows.said (record { lines = did.follows.reads.lines; roster = did.follows.reads.roster; going = did.follows.reads.going })
+    (sym (append_assoc s.steps steps (step ∷ []))) refl place done in record {
       all = w.gone ++ after;
       written = record { gone = w.gone; wrote = w.wrote; together = refl };
       follows = went.follows;
@@ -76,7 +77,7 @@ module _ (left now begun mid : Option (List ℕ)) (reader : Reading) (x : Sessio
           reached = at.reached;
           follows = did.follows;
           told = did.told;
-          numbers = omega (arith, at.numbers, did.follows.stands.lines, at.follows.stands.lines);
+          numbers = omega (arith, at.numbers, did.follows.reads.lines, at.follows.reads.lines);
           sound = at.sound;
         },
       )

@@ -9,7 +9,7 @@ use Rattle.br_model.specs.declared.listing.Listing.{Listing}
 use Rattle.br_model.specs.declared.change.Change.{Change}
 use Rattle.br_model.specs.Table.Limits.{most_bytes}
 use Rattle.br_model.specs.Program.Listings.{listed, listed_at, listing_text}
-use Rattle.br_model.specs.Program.Outcomes.{Call, Answers, Read, ReadsBehind, Wrote}
+use Rattle.br_model.specs.Program.Outcomes.{Call, Answers, Read, ReadsBehind, Wrote, scenario_lines}
 use Rattle.br_model.specs.Plane.Runs.{run}
 use Rattle.br_model.specs.Plane.World.{World, Stepped}
 use Rattle.br_model.specs.Text.Roster.{Entry}
@@ -20,14 +20,15 @@ use Rattle.br_model.proofs.Running.{run_none}
 use Rattle.scenario_runner.specs.declared.replay.Halt.TheVariants as halts
 use Rattle.run_status.specs.declared.stop.Stop.{Stop}
 use Rattle.run_status.specs.declared.stop.Stop.TheVariants as stops
-use Rattle.scenario_runner.specs.declared.session.Last.{Last}
-use Rattle.scenario_runner.specs.declared.session.Last.TheVariants as lasts
+use Rattle.scenario_reader.specs.declared.reader.Last.{Last}
+use Rattle.scenario_reader.specs.declared.reader.Last.TheVariants as lasts
 use Rattle.scenario_runner.specs.declared.session.Session.{Session}
 use Rattle.run_status.specs.declared.status.Status.{Status}
 use Rattle.run_status.specs.declared.status.Status.TheVariants as statuses
+use Rattle.scenario_reader.specs.Reading.{ending_of}
 use Rattle.scenario_runner.specs.Halting.{Answered, Halted, Halts, IsBehind, Plays, Told, Yields}
 use Rattle.run_status.specs.Writing.{Breaks, Grows, Written}
-use Rattle.run_status.specs.Statuses.{Reads, Replays, Whole, call_of, first_line, last_line, no_parts, nothing}
+use Rattle.run_status.specs.Statuses.{At, EndsIn, Replays, Ways, call_of, first_line, last_line, no_parts, nothing, reading_ways, replay_ways, scenario_ways}
 use Rattle.scenario_runner.specs.Playing.{Below, Filled}
 use Rattle.scenario_runner.specs.Session as session
 use Rattle.run_status.specs.Stopping as stopping
@@ -69,21 +70,21 @@ whole_same answer (Some bytes) input ending same e h = (ap (λ (s : Scenario). s
 
 module _ (failed : Type 0) (left left_now before now : Option (List ℕ)) (r : Status) where
   answers : (answer : List ℕ → List ℕ) (text : List ℕ) (last : Last) (after : Option (List ℕ)) → Same answer → Answered answer left left_now text last → Appends before after text
-      → Answers answer (call_of left left_now before after) (session.ending_of last)
+      → Answers scenario_lines answer (call_of left left_now before after) (ending_of last)
   answers answer text last after same t a = record {
     input = t.input;
     read = t.read;
     ends = t.ends;
     wrote = subst (λ (b : List ℕ). Appends before after b) t.answers a;
-    whole = whole_same answer left t.input (session.ending_of last) same t.ends t.whole;
+    whole = whole_same answer left t.input (ending_of last) same t.ends t.whole;
   }
 
   module _ (answer opening : List ℕ → List ℕ) (parts : ℕ → List ℕ → List ℕ) where
-    abbrev W : Status → Call → Type 0
-    W = Whole failed answer opening parts
+    abbrev W : Ways
+    W = reading_ways failed scenario_lines most_bytes answer opening parts
 
     abbrev Ends : Type 0
-    Ends = Reads failed answer opening parts r (call_of left left_now before now)
+    Ends = EndsIn W r (call_of left left_now before now)
 
     -- the scenario has ended
     ends : (text : List ℕ) (last : Last) → Same answer → Answered answer left left_now text last → (Went r → r ≡ session.status_of last) → (Went r → Appends before now text) → Broke r before now text → Ends
@@ -108,7 +109,7 @@ module _ (failed : Type 0) (left left_now before now : Option (List ℕ)) (r : S
   -- a replay
 
   abbrev Replayed : Type 0
-  Replayed = Reads failed told body body_parts r (call_of left left_now before now)
+  Replayed = EndsIn (replay_ways failed) r (call_of left left_now before now)
 
   replay_ends : (mid : Option (List ℕ)) (text : List ℕ) (x : Session) (last : Last) → Plays left left_now x before mid text (Ok last)
       → (Went r → r ≡ session.status_of last) → (Went r → Appends mid now (text ++ [])) → Broke r mid now (text ++ []) → Replayed
@@ -131,19 +132,20 @@ module _ (failed : Type 0) (left left_now before now : Option (List ℕ)) (r : S
   replay_stops mid text stops.TooLong p f s a b =
       fills told body body_parts p.0 p.2 s (all_lasts mid text p.0 _ _ p.1 p.2.stops.told a) (breaks mid text p.0 _ _ p.1 p.2.stops.told b)
   replay_stops mid text stops.NoMemory p f s a b =
-      lacks failed left left_now before now r told body body_parts p.2.input p.2.count p.2.read s (all_lasts mid text p.0 _ _ p.1 p.2.told a) (breaks mid text p.0 _ _ p.1 p.2.told b)
+      lacks failed scenario_lines most_bytes left left_now before now r told body body_parts p.2.input p.2.count p.2.read s
+      (all_lasts mid text p.0 _ _ p.1 p.2.told a) (breaks mid text p.0 _ _ p.1 p.2.told b)
 
   -- a text that is written when the scenario has ended
 
   pub yield_ends : (answer : List ℕ → List ℕ) → Same answer → (x : Last × String Global) → Yields answer left left_now (Ok x) → (Went r → r ≡ session.status_of x.0) → (Went r → Appends before now (string_bytes x.1))
-      → Broke r before now (string_bytes x.1) → Reads failed answer nothing no_parts r (call_of left left_now before now)
+      → Broke r before now (string_bytes x.1) → EndsIn (scenario_ways failed answer) r (call_of left left_now before now)
   yield_ends answer same x p = ends answer nothing no_parts (string_bytes x.1) x.0 same p
 
   pub yield_stops : (answer : List ℕ → List ℕ) (stop : Stop) → Yields answer left left_now (Err stop) → (stop ≡ stops.ReadFault → failed) → (Went r → r ≡ stopping.stop_status stop)
-      → (Went r → Appends before now (stopping.stop_line stop)) → Broke r before now (stopping.stop_line stop) → Reads failed answer nothing no_parts r (call_of left left_now before now)
+      → (Went r → Appends before now (stopping.stop_line stop)) → Broke r before now (stopping.stop_line stop) → EndsIn (scenario_ways failed answer) r (call_of left left_now before now)
   yield_stops answer stops.ReadFault p f = stops_at answer nothing no_parts p.0 p.1 (f refl)
   yield_stops answer stops.TooLong p f = fills answer nothing no_parts p.0 p.1
-  yield_stops answer stops.NoMemory p f = lacks failed left left_now before now r answer nothing no_parts p.0 0 p.1
+  yield_stops answer stops.NoMemory p f = lacks failed scenario_lines most_bytes left left_now before now r answer nothing no_parts p.0 0 p.1
 
 -- what any status says of what was read and written
 
@@ -151,7 +153,7 @@ module _ (failed : Type 0) (answer opening : List ℕ → List ℕ) (parts : ℕ
   abbrev Seen : Call → Type 0
   Seen c = (input : List ℕ) × Read c input × (output : List ℕ) × Wrote c output
 
-  whole_seen : (r : Status) (c : Call) → Whole failed answer opening parts r c → Seen c
+  whole_seen : (r : Status) (c : Call) → At (reading_ways failed scenario_lines most_bytes answer opening parts) r c → Seen c
   whole_seen statuses.Ok c h = (h.0.input, h.0.read, _, h.0.wrote)
   whole_seen statuses.No c h = absurd h
   whole_seen statuses.Usage c h = absurd h
@@ -161,7 +163,7 @@ module _ (failed : Type 0) (answer opening : List ℕ → List ℕ) (parts : ℕ
   whole_seen statuses.NoMemory c h = (h.input, h.read, _, h.wrote)
   whole_seen statuses.TooLong c h = (h.stops.input, h.stops.read, _, h.stops.wrote)
 
-  seen : (r : Status) (c : Call) → Reads failed answer opening parts r c → Seen c
+  seen : (r : Status) (c : Call) → EndsIn (reading_ways failed scenario_lines most_bytes answer opening parts) r c → Seen c
   seen statuses.Ok c h = whole_seen statuses.Ok c h
   seen statuses.No c h = absurd h
   seen statuses.Usage c h = absurd h
@@ -174,7 +176,7 @@ module _ (failed : Type 0) (answer opening : List ℕ → List ℕ) (parts : ℕ
 -- a replay with its first line
 
 module _ (failed : Type 0) (left left_now before now : Option (List ℕ)) (r : Status) where
-  replays : IsBehind left left_now before now → Reads failed told body body_parts r (call_of left left_now before now) → Replays failed r (call_of left left_now before now)
+  replays : IsBehind left left_now before now → EndsIn (replay_ways failed) r (call_of left left_now before now) → Replays failed r (call_of left left_now before now)
   replays b h = let s = seen failed told body body_parts r (call_of left left_now before now) h in (h, first b s)
     where
       first : IsBehind left left_now before now → Seen failed told body body_parts (call_of left left_now before now) → ReadsBehind first_line (call_of left left_now before now)
@@ -225,14 +227,14 @@ pub replays_nothing : (before now : Option (List ℕ)) (r : Status) (left : Opti
     → Broke r before now (last_line (codes "no memory")) → (failed : Type 0) → Replays failed r (call_of left left before now)
 unfolding body_parts
 replays_nothing before now r left s a b failed =
-    replays failed left left before now r (inl (Consumes-nil left)) (lacks failed left left before now r told body body_parts [] 0 (Consumes-nil left) s a b)
+    replays failed left left before now r (inl (Consumes-nil left)) (lacks failed scenario_lines most_bytes left left before now r told body body_parts [] 0 (Consumes-nil left) s a b)
 
 history_is : (s : Scenario) (w : Option World) → session.IsWorld s w → session.history_of w ≡ (run_of s).0.history
 history_is s None h =
     sym (ap (λ (x : Stepped). x.0.history) (ap (run (setup_of s.roster)) h ∙ run_none (setup_of s.roster)))
 history_is s (Some w) h = ap (λ (w : World). w.history) h.0
 
-listing_is : (listing : Listing) (s : Scenario) (x : Session) (last : Last) → session.Agrees s x → session.listing_or_bad listing last x.roster.ports x.world ≡ listed_at (session.ending_of last) listing s
+listing_is : (listing : Listing) (s : Scenario) (x : Session) (last : Last) → session.Agrees s x → session.listing_or_bad listing last x.reader.roster.ports x.world ≡ listed_at (ending_of last) listing s
 listing_is listing s x lasts.Ended h =
     ap (λ (ports : List Entry). listing_text listing ports (table (session.history_of x.world))) h.ports
     ∙ ap (λ (history : List Change). listing_text listing s.roster.ports (table history)) (history_is s x.world h.world)
@@ -244,12 +246,12 @@ answer_is listing input d e = ap (λ (d : Ending). listed_at d listing (scenario
 
 -- the listing of a session at its end
 pub listed_by : (left now : Option (List ℕ)) (listing : Listing) (x : Session) (all text : List ℕ) (last : Last) → Told left now x all last
-    → text ≡ session.listing_or_bad listing last x.roster.ports x.world → Answered (listed listing) left now text last
+    → text ≡ session.listing_or_bad listing last x.reader.roster.ports x.world → Answered (listed listing) left now text last
 listed_by left now listing x all text last t is = record {
   input = t.answered.input;
   read = t.answered.read;
   ends = t.answered.ends;
-  answers = is ∙ listing_is listing (scenario t.answered.input) x last t.agrees ∙ answer_is listing t.answered.input (session.ending_of last) t.answered.ends;
+  answers = is ∙ listing_is listing (scenario t.answered.input) x last t.agrees ∙ answer_is listing t.answered.input (ending_of last) t.answered.ends;
   whole = t.answered.whole;
   within = t.answered.within;
 }
@@ -266,7 +268,7 @@ unfolding answer_by
 answered_is v input d e = ap (λ (d : Ending). answer_at d (lines_of v (setup_of (scenario input).roster) (scenario input).steps)) (sym e)
 
 pub said_at_end : (left now : Option (List ℕ)) (v : Voice) (x : Session) (all text : List ℕ) (last : Last) → Told left now x all last → lines_of x.voice ≡ lines_of v
-    → text ≡ answer_at (session.ending_of last) (said_by x.voice) → Answered (answer_by v) left now text last
+    → text ≡ answer_at (ending_of last) (said_by x.voice) → Answered (answer_by v) left now text last
 said_at_end left now v x all text last t same is =
     let s = scenario t.answered.input in
     let lines : said_by x.voice ≡ lines_of v (setup_of s.roster) s.steps =
@@ -274,7 +276,7 @@ said_at_end left now v x all text last t same is =
       input = t.answered.input;
       read = t.answered.read;
       ends = t.answered.ends;
-      answers = is ∙ ap (λ (l : List ℕ). answer_at (session.ending_of last) l) lines ∙ answered_is v t.answered.input (session.ending_of last) t.answered.ends;
+      answers = is ∙ ap (λ (l : List ℕ). answer_at (ending_of last) l) lines ∙ answered_is v t.answered.input (ending_of last) t.answered.ends;
       whole = t.answered.whole;
       within = t.answered.within;
     }

@@ -4,7 +4,6 @@ pub mod Doing
 pub mod Ends
 pub mod Following
 pub mod Generating
-pub mod Packets
 pub mod Reaching
 pub mod Ready
 pub mod Sections

@@ -1,26 +1,27 @@
 -- The bytes that were read, and what the reader has reached in them.
-use Rattle.std.proofs.Common.{◌≡◌, ℕ, suc, ◌+◌, ◌-◌, ◌<◌, ◌≤◌, true, List, [], ◌++◌, take, length, false, None, Some, Option, IfSome, refl, sym, ◌∙◌, ap, subst, arith, append_assoc, length-append}
-use Rattle.std.specs.Io.KnownBytes.{Consumes, IsAtEnd}
+use Rattle.std.proofs.Common.{◌≡◌, ℕ, suc, ◌+◌, ◌≤◌, true, List, [], ◌++◌, take, length, false, Option, refl, sym, ◌∙◌, ap, subst, arith, append_assoc, length-append}
+use Rattle.std.specs.Io.KnownBytes.{Consumes}
 use Rattle.std.proofs.KnownBytes.{Consumes-trans}
-use Rattle.std.proofs.Math.Seq.{take-append-add, take-append_seam}
+use Rattle.std.proofs.Math.Seq.{take-append_seam}
 use Rattle.std.proofs.lemmas.Bool.{true≢false}
 use Rattle.std.proofs.lemmas.List.{append-nil}
 use Rattle.run_io.specs.Reading.{Reading, Reads, IsEnd}
 use Rattle.br_model.specs.declared.steps.Step.{Step}
-use Rattle.br_model.specs.Text.LineForms.{declaration, opening}
 use Rattle.br_model.specs.Text.Roster.{Roster}
-use Rattle.br_model.specs.Program.Outcomes.{HoldsNoEnd}
+use Rattle.br_model.specs.Program.Outcomes.{scenario_lines}
 use Rattle.br_model.specs.Plane.Runs.{run}
 use Rattle.br_model.specs.Program.Runs.{run_of, setup_of, body_of, body, body_parts}
 use Rattle.br_model.specs.Text.Scenario.{Scenario, Going, Progress, opened, closes, read, reads, scenario}
+use Rattle.br_model.proofs.AllLeft.{below_limit, not_too_long, same_at_end, same_with_more}
 use Rattle.br_model.proofs.Endings.{has_ended, closes_ended}
 use Rattle.br_model.proofs.MoreBytes.{all_parts, parts_stay}
 use Rattle.br_model.proofs.Reading.{closed, closes_keeps, scenario_is}
-use Rattle.scenario_runner.specs.declared.session.Last.{Last}
+use Rattle.scenario_reader.specs.declared.reader.Last.{Last}
+use Rattle.scenario_reader.specs.Reading.{KeepsSetup, ending_of}
 use Rattle.scenario_runner.specs.declared.session.Session.{Session}
 use Rattle.scenario_runner.specs.Playing.{Reached, Played, Stopped, Lacked}
-use Rattle.scenario_runner.specs.Session.{Agrees, ending_of}
-use Rattle.scenario_runner.proofs.Following.{same_run, quiet, said_on}
+use Rattle.scenario_runner.specs.Session.{Agrees}
+use Rattle.scenario_runner.proofs.Following.{kept, quiet, quiet_said, same_run}
 
 -- what the body of bytes is, by what they say
 body_by : (bytes : List ℕ) (s : Scenario) → scenario bytes ≡ s → body bytes ≡ body_of (run_of s)
@@ -125,29 +126,8 @@ module _ (left : Option (List ℕ)) (limit : ℕ) where
     over : (q : Progress) (t : Scenario) → q.scenario ≡ t → has_ended t.ending ≡ true → closed q ≡ t
     over q t e h = ap (λ (u : Scenario). closes u q.line) e ∙ closes_ended t q.line h
 
-    whole_is : (left now : Option (List ℕ)) (input : List ℕ) (t : Scenario) → Consumes left now input → scenario input ≡ t → ((more : List ℕ) → scenario (input ++ more) ≡ t)
-        → IfSome left (λ bytes. scenario bytes ≡ scenario input)
-    whole_is None now input t c e h = tt
-    whole_is (Some bytes) None input t c e h = absurd c
-    whole_is (Some bytes) (Some rest) input t c e h = ap scenario c ∙ h rest ∙ sym e
-
-    -- the first bytes, up to the limit, begin with what was read of them
-    first_bytes : (input rest : List ℕ) → length input ≤ limit → take limit (input ++ rest) ≡ input ++ take (limit - length input) rest
-    first_bytes input rest h =
-        let e : limit ≡ length input + (limit - length input) = omega arith in
-        ap (λ n. take n (input ++ rest)) e ∙ take-append-add input rest (limit - length input)
-
     not_going : (t : Scenario) → has_ended t.ending ≡ true → t.ending ≡ Going → ⊥
     not_going t e g = true≢false (sym e ∙ ap has_ended g)
-
-    not_too_long : (left now : Option (List ℕ)) (input : List ℕ) (t : Scenario) → Consumes left now input → length input ≤ limit → has_ended t.ending ≡ true
-        → ((more : List ℕ) → reads (opened false) (input ++ more) ≡ t) → IfSome left (λ bytes. ¬ HoldsNoEnd limit bytes)
-    not_too_long None now input t c n e h = tt
-    not_too_long (Some bytes) None input t c n e h = absurd c
-    not_too_long (Some bytes) (Some rest) input t c n e h = λ long.
-        not_going t e (
-        ap (λ (u : Scenario). u.ending) (sym (ap (reads (opened false)) (ap (take limit) c ∙ first_bytes input rest n) ∙ h (take (limit - length input) rest))) ∙ long.1
-        )
 
     pub ended : (x : Session) (text : List ℕ) (t : Scenario) (last : Last) → ((more : List ℕ) → (read 0 s ((ahead ++ r.held) ++ more)).scenario ≡ t) → has_ended t.ending ≡ true
         → t.ending ≡ ending_of last → Agrees t x → text ≡ body_of (run_of t) → Played left limit now x text last
@@ -160,8 +140,9 @@ module _ (left : Option (List ℕ)) (limit : ℕ) where
           ends = ap (λ (u : Scenario). u.ending) e ∙ ends;
           agrees = subst (λ (u : Scenario). Agrees u x) (sym e) agrees;
           told = told ∙ sym (body_by p.input t e);
-          whole = whole_is left now p.input t p.given e all;
-          within = not_too_long left now p.input t p.given (omega (arith, p.counts, p.within)) finished k;
+          whole = same_with_more scenario left now p.input p.given (λ more. all more ∙ sym e);
+          within = not_too_long scenario_lines limit left now p.input p.given (omega (arith, p.counts, p.within))
+              (λ more going. not_going t finished (ap (λ (u : Scenario). u.ending) (sym (k more)) ∙ going));
         }
 
     module _ (line : List ℕ) (is : read 0 s (ahead ++ r.held) ≡ record { scenario = s; line = line; behind = [] }) where
@@ -189,24 +170,16 @@ module _ (left : Option (List ℕ)) (limit : ℕ) where
       at_end x text last end ends agrees told =
           let t : Scenario = closes s line in
           let keeps = closes_keeps s line in
-          let setup = ap setup_of keeps.0 in
-          let place : declaration s.roster.place ≡ false → opening s.roster.place ≡ false → (declaration t.roster.place ≡ false) × (opening t.roster.place ≡ false) =
-          λ d o. (ap (λ (q : Roster). declaration q.place) keeps.0 ∙ d, ap (λ (q : Roster). opening q.place) keeps.0 ∙ o) in record {
+          let setup : KeepsSetup s.roster t.roster = kept s.roster t.roster keeps.0 in record {
             input = p.input;
             read = p.given;
             ends = ap (λ (u : Scenario). u.ending) closed_so ∙ ends;
-            agrees = subst (λ (u : Scenario). Agrees u x) (sym closed_so) (record { ports = agrees.ports ∙ sym (ap (λ (q : Roster). q.ports) keeps.0); world = quiet s t x.world agrees.world keeps.1 setup place; said = said_on s t x.voice agrees.said keeps.1 setup });
+            agrees = subst (λ (u : Scenario). Agrees u x) (sym closed_so) (record {
+              ports = agrees.ports ∙ sym (ap (λ (q : Roster). q.ports) keeps.0);
+              world = quiet s t keeps.1 setup x.world agrees.world;
+              said = quiet_said s t keeps.1 setup x.world x.voice agrees.world agrees.said;
+            });
             told = told ∙ sym same;
-            whole = all_of left now p.input p.given end.none_left;
-            within = below left now p.input p.given end.none_left (omega (arith, p.counts, end.before_limit, p.limited));
+            whole = same_at_end scenario left now p.input p.given end.none_left;
+            within = below_limit scenario_lines limit left now p.input p.given end.none_left (omega (arith, p.counts, end.before_limit, p.limited));
           }
-        where
-          all_of : (left now : Option (List ℕ)) (input : List ℕ) → Consumes left now input → IsAtEnd now → IfSome left (λ bytes. scenario bytes ≡ scenario input)
-          all_of None now input c z = tt
-          all_of (Some bytes) None input c z = absurd c
-          all_of (Some bytes) (Some rest) input c z = ap scenario (c ∙ ap (λ (b : List ℕ). input ++ b) z ∙ append-nil input)
-
-          below : (left now : Option (List ℕ)) (input : List ℕ) → Consumes left now input → IsAtEnd now → length input < limit → IfSome left (λ bytes. ¬ HoldsNoEnd limit bytes)
-          below None now input c z n = tt
-          below (Some bytes) None input c z n = absurd c
-          below (Some bytes) (Some rest) input c z n = λ long. absurd (omega (arith, long.0, n, ap length (c ∙ ap (λ (b : List ℕ). input ++ b) z ∙ append-nil input)))

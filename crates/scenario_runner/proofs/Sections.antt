@@ -1,5 +1,5 @@
 -- A section is read, and its steps are done.
-use Rattle.std.proofs.Common.{◌≡◌, ℕ, ◌+◌, ◌<◌, ◌≤◌, List, [], ◌∷◌, ◌++◌, length, Option, None, Result, Ok, Err, refl, sym, ◌∙◌, ap, subst, arith, append_assoc, length-append}
+use Rattle.std.proofs.Common.{◌≡◌, ℕ, ◌+◌, ◌<◌, ◌≤◌, false, List, [], ◌∷◌, ◌++◌, length, Option, None, Result, Ok, Err, refl, sym, ◌∙◌, ap, subst, arith, append_assoc, length-append}
 use Rattle.std.proofs.lemmas.List.{append-nil}
 use Rattle.run_io.specs.Reading.{Reading, Reads, IsEnd}
 use Rattle.br_model.specs.declared.scenario.LineWhy.{LineWhy}
@@ -7,21 +7,22 @@ use Rattle.br_model.specs.declared.scenario.LineWhy.TheVariants.{Unended}
 use Rattle.br_model.specs.declared.scenario.Said.TheVariants.{Captures}
 use Rattle.br_model.specs.declared.steps.Step.{Step}
 use Rattle.br_model.specs.Wire.Captures.{packets}
-use Rattle.br_model.specs.Text.Roster.{Roster}
+use Rattle.br_model.specs.Text.Roster.{Roster, chips_of}
 use Rattle.br_model.specs.Program.Runs.{run_of, body_of}
 use Rattle.br_model.specs.Text.Scenario.{Scenario, Ending, Going, Ended, Bad, Progress, bad, captured, closes_at, read, takes, takes_steps}
 use Rattle.br_model.proofs.Endings.{read_ended}
 use Rattle.br_model.proofs.Reading.{read_line, read_part}
-use Rattle.scenario_runner.specs.declared.session.Captured.{Captured}
-use Rattle.scenario_runner.specs.declared.session.Captured.TheVariants as sections
-use Rattle.scenario_runner.specs.declared.session.Last.{Last}
-use Rattle.scenario_runner.specs.declared.session.Last.TheVariants as lasts
+use Rattle.scenario_reader.specs.declared.reader.Captured.{Captured}
+use Rattle.scenario_reader.specs.declared.reader.Captured.TheVariants as sections
+use Rattle.scenario_reader.specs.declared.reader.Last.{Last}
+use Rattle.scenario_reader.specs.declared.reader.Last.TheVariants as lasts
+use Rattle.scenario_reader.specs.Reading.{IsCaptured, ReaderState, captures}
 use Rattle.run_status.specs.declared.stop.Stop.{Stop}
 use Rattle.run_status.specs.declared.stop.Stop.TheVariants.{NoMemory}
 use Rattle.scenario_runner.specs.declared.session.Session.{Session}
 use Rattle.scenario_runner.specs.Advancing.{Sectioned}
 use Rattle.scenario_runner.specs.Playing.{Reached, AtSection, AtSteps, Played, Stopped, Below, Filled}
-use Rattle.scenario_runner.specs.Session.{Agrees, IsCaptured, captures, with_steps}
+use Rattle.scenario_runner.specs.Session.{Agrees, ComeByLine, with_steps}
 use Rattle.scenario_runner.proofs.Following.{same_run, agrees_badly, said_on}
 use Rattle.scenario_runner.proofs.Reaching.{reached_more, reached_line, lacked_all, ended, stops, at_end}
 
@@ -41,7 +42,7 @@ module _ (left now now' : Option (List ℕ)) (limit : ℕ) (r r' : Reading) (x :
   front = p.line ++ 10 ∷ []
 
   agrees : Agrees s x
-  agrees = record { ports = ap (λ (q : Roster). q.ports) p.follows.stands.roster; world = p.world; said = said_on (captures s n) s x.voice p.follows.stands.said (sym (append-nil s.steps)) refl }
+  agrees = record { ports = ap (λ (q : Roster). q.ports) p.follows.reads.roster; world = p.world; said = said_on (captures s n) s x.voice p.follows.said (sym (append-nil s.steps)) refl }
 
   told_before : text ≡ body_of (run_of s)
   told_before = p.told ∙ none_more s n
@@ -57,10 +58,10 @@ module _ (left now now' : Option (List ℕ)) (limit : ℕ) (r r' : Reading) (x :
         ap (read 0 s) (append_assoc front section more ∙ append_assoc p.line (10 ∷ []) (section ++ more))
         ∙ read_line s (Captures n) p.line section more p.going p.feedless p.says sized
 
-    same_ports : captured x.roster.ports (packets section (length x.roster.ports)) ≡ captured s.roster.ports (packets section (length s.roster.ports))
-    same_ports = ap (λ (q : Roster). captured q.ports (packets section (length q.ports))) p.follows.stands.roster
+    same_ports : captured x.reader.roster.ports (packets section (length x.reader.roster.ports)) ≡ captured s.roster.ports (packets section (length s.roster.ports))
+    same_ports = ap (λ (q : Roster). captured q.ports (packets section (length q.ports))) p.follows.reads.roster
 
-    pub its_steps : (steps : List Step) → r'.fault ≡ None → captured x.roster.ports (packets section (length x.roster.ports)) ≡ Ok steps → AtSteps left limit r' now' x text steps
+    pub its_steps : (steps : List Step) → r'.fault ≡ None → captured x.reader.roster.ports (packets section (length x.reader.roster.ports)) ≡ Ok steps → AtSteps left limit r' now' x text steps
     its_steps steps sound gives =
         let t : Scenario = with_steps (captures s n) steps in
         let e : takes s (Captures n) section ≡ t = with_section s n section steps (sym same_ports ∙ gives) in
@@ -75,32 +76,32 @@ module _ (left now now' : Option (List ℕ)) (limit : ℕ) (r r' : Reading) (x :
           sound = sound;
         }
 
-    pub is_broken : (why : LineWhy) → captured x.roster.ports (packets section (length x.roster.ports)) ≡ Err why → Played left limit now' x text (lasts.Bad x.lines why)
+    pub is_broken : (why : LineWhy) → captured x.reader.roster.ports (packets section (length x.reader.roster.ports)) ≡ Err why → Played left limit now' x text (lasts.Bad x.reader.lines why)
     is_broken why gives =
         let t : Scenario = takes s (Captures n) section in
         let e : t ≡ bad s why = ap (takes_steps s (Captures n)) (sym same_ports ∙ gives) in
         let reads_so : (more : List ℕ) → (read 0 s (((front ++ section) ++ r'.held) ++ more)).scenario ≡ bad s why = λ more.
         ap (λ (b : List ℕ). (read 0 s b).scenario) (append_assoc (front ++ section) r'.held more)
         ∙ ap (λ (q : Progress). q.scenario) (section_read (r'.held ++ more) ∙ ap (λ (u : Scenario). read 0 u (r'.held ++ more)) e ∙ read_ended (bad s why) (r'.held ++ more) refl) in
-        ended left limit now' r' s (front ++ section) handed.0 x text (bad s why) (lasts.Bad x.lines why) reads_so refl
-        (ap (λ k. Bad k why) (sym p.follows.stands.lines))
+        ended left limit now' r' s (front ++ section) handed.0 x text (bad s why) (lasts.Bad x.reader.lines why) reads_so refl
+        (ap (λ k. Bad k why) (sym p.follows.reads.lines))
         (agrees_badly s x why agrees)
         (told_before ∙ ap body_of (sym (same_run s (bad s why) refl refl)))
 
-    pub taken_section : (c : Captured) → r'.fault ≡ None → IsCaptured x section c → Sectioned left limit r' now' x text (Ok c)
-    taken_section (sections.Steps steps) sound h = its_steps steps.items sound h
+    pub taken_section : (c : Captured) → r'.fault ≡ None → IsCaptured x.reader section c → Sectioned left limit r' now' x text (Ok c)
+    taken_section (sections.Steps steps) sound h = its_steps steps.items sound h.0
     taken_section (sections.End last) sound h = subst (λ (l : Last). Played left limit now' x text l) (sym h.2) (is_broken h.0 h.1)
 
   -- a part of it
 
   -- the source ends in it
-  pub cut_off : (part : List ℕ) → Reads r r' now now' part → r'.taken ≤ r'.limit → IsEnd r' now' → length part < n → Played left limit now' x text (lasts.Bad x.lines Unended)
+  pub cut_off : (part : List ℕ) → Reads r r' now now' part → r'.taken ≤ r'.limit → IsEnd r' now' → length part < n → Played left limit now' x text (lasts.Bad x.reader.lines Unended)
   cut_off part m within at short =
       let is = ap (λ (b : List ℕ). read 0 s ((front ++ part) ++ b)) at.none_held
       ∙ ap (read 0 s) (append-nil (front ++ part) ∙ append_assoc p.line (10 ∷ []) part)
       ∙ read_part s (Captures n) p.line part p.going p.feedless p.says short in
-      at_end left limit now' r' s (front ++ part) (reached_more left limit now now' r r' s front part p.reached m within).0 [] is x text (lasts.Bad x.lines Unended) at
-      (closes_so s.ending p.going ∙ ap (λ k. Bad k Unended) (sym p.follows.stands.lines)) agrees told_before
+      at_end left limit now' r' s (front ++ part) (reached_more left limit now now' r r' s front part p.reached m within).0 [] is x text (lasts.Bad x.reader.lines Unended) at
+      (closes_so s.ending p.going ∙ ap (λ k. Bad k Unended) (sym p.follows.reads.lines)) agrees told_before
     where
       closes_so : (d : Ending) → d ≡ Going → (closes_at d s []).ending ≡ Bad (s.lines + 1) Unended
       closes_so Going e = refl
@@ -131,3 +132,8 @@ module _ (left now now' : Option (List ℕ)) (limit : ℕ) (r r' : Reading) (x :
   lacking handed result m within is =
       subst (λ (o : Result Captured Stop). Sectioned left limit r' now' x text o) (sym is)
       (lacked_all left limit now' r' s (front ++ handed) (reached_more left limit now now' r r' s front handed p.reached m within).0 text told_before)
+
+-- the steps of a section come by a line, whatever the command
+pub come_by_line : (x : ReaderState) (section : List ℕ) (c : Captured) → IsCaptured x section c → ComeByLine (chips_of x.roster.ports) c
+come_by_line x section (sections.Steps steps) h = h.1 false
+come_by_line x section (sections.End last) h = tt

@@ -9,8 +9,10 @@ use Rattle.br_model.specs.Program.Runs.{run_of, body_of}
 use Rattle.br_model.specs.Text.Scenario.{Scenario, Bad, Progress, closes, bad, read, takes, section_length, whole_says, longest_line}
 use Rattle.br_model.proofs.Endings.{has_ended, read_ended}
 use Rattle.br_model.proofs.Reading.{read_line, read_bad, read_rest, read_long}
-use Rattle.scenario_runner.specs.declared.session.Last.{Last}
-use Rattle.scenario_runner.specs.declared.session.Last.TheVariants as lasts
+use Rattle.scenario_reader.specs.declared.reader.Last.{Last}
+use Rattle.scenario_reader.specs.declared.reader.Last.TheVariants as lasts
+use Rattle.scenario_reader.specs.Reading as reading
+use Rattle.scenario_reader.specs.Reading.{captures, ending_of}
 use Rattle.scenario_runner.specs.declared.session.Next.{Next}
 use Rattle.scenario_runner.specs.declared.session.Next.TheVariants as nexts
 use Rattle.run_status.specs.declared.stop.Stop.{Stop}
@@ -18,7 +20,7 @@ use Rattle.run_status.specs.declared.stop.Stop.TheVariants.{NoMemory}
 use Rattle.scenario_runner.specs.declared.session.Session.{Session}
 use Rattle.scenario_runner.specs.Advancing.{Advanced, Lessens}
 use Rattle.scenario_runner.specs.Playing.{Reached, Playing, AtSection, Played, Below, Filled, Lacked}
-use Rattle.scenario_runner.specs.Session.{Follows, EndsBy, Takes, Went, captures, ending_of}
+use Rattle.scenario_runner.specs.Session.{EndsBy, Takes, Went}
 use Rattle.scenario_runner.proofs.Following.{same_run, agrees, agrees_badly}
 use Rattle.scenario_runner.proofs.Reaching.{reached_more, reached_line, lacked_all, ended, stops, at_end}
 
@@ -33,7 +35,7 @@ went_text s t before after w y told went =
 
 module _ (left now now' : Option (List ℕ)) (limit : ℕ) (r r' : Reading) (x : Session) where
   -- a whole line, whatever comes of it
-  module _ (y : Session) (w before after line : List ℕ) (p : Playing left limit r now x (w ++ before)) (m : Reads r r' now now' (line ++ 10 ∷ [])) (within : r'.taken ≤ r'.limit) (sound : r'.fault ≡ None) (feedless : HasNoFeed line) (number : y.lines ≤ x.lines + 1) where
+  module _ (y : Session) (w before after line : List ℕ) (p : Playing left limit r now x (w ++ before)) (m : Reads r r' now now' (line ++ 10 ∷ [])) (within : r'.taken ≤ r'.limit) (sound : r'.fault ≡ None) (feedless : HasNoFeed line) (number : y.reader.lines ≤ x.reader.lines + 1) where
     abbrev s : Scenario
     s = p.scenario
 
@@ -42,7 +44,7 @@ module _ (left now now' : Option (List ℕ)) (limit : ℕ) (r r' : Reading) (x :
 
     line_says : (said : Said) → whole_says s.roster line ≡ Ok said → section_length said ≡ 0 → (more : List ℕ) → read 0 s ((line ++ 10 ∷ []) ++ more) ≡ read 0 (takes s said []) more
     line_says said says sized more =
-        ap (read 0 s) (append_assoc line (10 ∷ []) more) ∙ read_line s said line [] more p.follows.going feedless says (sym sized)
+        ap (read 0 s) (append_assoc line (10 ∷ []) more) ∙ read_line s said line [] more p.follows.reads.going feedless says (sym sized)
 
     goes : (said : Said) → whole_says s.roster line ≡ Ok said → section_length said ≡ 0 → Went s (takes s said []) before y after → Playing left limit r' now' y (w ++ after)
     goes said says sized went =
@@ -58,7 +60,7 @@ module _ (left now now' : Option (List ℕ)) (limit : ℕ) (r r' : Reading) (x :
     at_section : (n : ℕ) → Takes x line before y after (nexts.Section n) → AtSection left limit r' now' y (w ++ after) n
     at_section n takes_it = let t = takes_it s p.follows in record {
       scenario = s;
-      going = p.follows.going;
+      going = p.follows.reads.going;
       line = line;
       feedless = feedless;
       says = t.0;
@@ -76,7 +78,7 @@ module _ (left now now' : Option (List ℕ)) (limit : ℕ) (r r' : Reading) (x :
         let q = handed.0 in
         let reads_so : (more : List ℕ) → (read 0 s (((line ++ 10 ∷ []) ++ r'.held) ++ more)).scenario ≡ bad s why = λ more.
         ap (λ (b : List ℕ). (read 0 s b).scenario) (append_assoc (line ++ 10 ∷ []) r'.held more ∙ append_assoc line (10 ∷ []) (r'.held ++ more))
-        ∙ ap (λ (q : Progress). q.scenario) (read_bad s why line (r'.held ++ more) p.follows.going feedless says) in
+        ∙ ap (λ (q : Progress). q.scenario) (read_bad s why line (r'.held ++ more) p.follows.reads.going feedless says) in
         ended left limit now' r' s (line ++ 10 ∷ []) q y (w ++ after) (bad s why) last reads_so refl e.ends e.agrees
         (ap (λ (b : List ℕ). w ++ b) e.text ∙ p.told ∙ sym e.body)
     ends_by last (Ok said) says e =
@@ -98,7 +100,7 @@ module _ (left now now' : Option (List ℕ)) (limit : ℕ) (r r' : Reading) (x :
 
   module _ (text : List ℕ) (p : Playing left limit r now x text) where
     -- a line that is too long
-    pub long : Reads r r' now now' [] → r'.taken ≤ r'.limit → HoldsLongLine r' → Played left limit now' x text (lasts.Bad (x.lines + 1) Long)
+    pub long : Reads r r' now now' [] → r'.taken ≤ r'.limit → HoldsLongLine r' → Played left limit now' x text (lasts.Bad (x.reader.lines + 1) Long)
     long m within h =
         let s : Scenario = p.scenario in
         let front : List ℕ = take (max_line + 1) r'.held in
@@ -107,32 +109,32 @@ module _ (left now now' : Option (List ℕ)) (limit : ℕ) (r r' : Reading) (x :
         let reads_so : (more : List ℕ) → (read 0 s (r'.held ++ more)).scenario ≡ bad s Long = λ more.
         ap (λ (b : List ℕ). (read 0 s (b ++ more)).scenario) (sym (take-append-drop (max_line + 1) r'.held))
         ∙ ap (λ (b : List ℕ). (read 0 s b).scenario) (append_assoc front rest more)
-        ∙ read_long s front (rest ++ more) p.follows.going h.feedless size in
-        ended left limit now' r' s [] (reached_more left limit now now' r r' s [] [] p.reached m within).0 x text (bad s Long) (lasts.Bad (x.lines + 1) Long) reads_so refl
-        (ap (λ n. Bad (n + 1) Long) (sym p.follows.stands.lines))
+        ∙ read_long s front (rest ++ more) p.follows.reads.going h.feedless size in
+        ended left limit now' r' s [] (reached_more left limit now now' r r' s [] [] p.reached m within).0 x text (bad s Long) (lasts.Bad (x.reader.lines + 1) Long) reads_so refl
+        (ap (λ n. Bad (n + 1) Long) (sym p.follows.reads.lines))
         (agrees_badly s x Long (agrees s x p.follows))
         (p.told ∙ ap body_of (sym (same_run s (bad s Long) refl refl)))
 
     -- the end of the input, in a line or before one
     pub closed : (rest : List ℕ) (last : Last) → Reads r r' now now' rest → r'.taken ≤ r'.limit → IsEnd r' now' → HasNoFeed rest → length rest ≤ max_line
-        → ((s : Scenario) → Follows s x → (closes s rest).ending ≡ ending_of last) → Played left limit now' x text last
+        → ((s : Scenario) → reading.Follows s x.reader → (closes s rest).ending ≡ ending_of last) → Played left limit now' x text last
     closed rest last m within at feedless short closes_so =
         let s : Scenario = p.scenario in
-        let is = ap (λ (b : List ℕ). read 0 s (rest ++ b)) at.none_held ∙ ap (read 0 s) (append-nil rest) ∙ read_rest s rest p.follows.going feedless short in
-        at_end left limit now' r' s rest (reached_more left limit now now' r r' s [] rest p.reached m within).0 rest is x text last at (closes_so s p.follows) (agrees s x p.follows) p.told
+        let is = ap (λ (b : List ℕ). read 0 s (rest ++ b)) at.none_held ∙ ap (read 0 s) (append-nil rest) ∙ read_rest s rest p.follows.reads.going feedless short in
+        at_end left limit now' r' s rest (reached_more left limit now now' r r' s [] rest p.reached m within).0 rest is x text last at (closes_so s p.follows.reads) (agrees s x p.follows) p.told
 
     -- the run stops
 
     pub stopped : Reads r r' now now' [] → r'.taken ≤ r'.limit → WantsLine r' → Below left limit now' text
     stopped m within h =
         let q = (reached_more left limit now now' r r' p.scenario [] [] p.reached m within).0 in
-        let w = stops left limit now' r' p.scenario [] q r'.held (read_rest p.scenario r'.held p.follows.going h.feedless h.short) text p.follows.going p.told in
+        let w = stops left limit now' r' p.scenario [] q r'.held (read_rest p.scenario r'.held p.follows.reads.going h.feedless h.short) text p.follows.reads.going p.told in
         record { stops = w.0; below = omega (arith, ap length w.1, q.counts, h.before_limit, q.limited) }
 
     pub filled : Reads r r' now now' [] → r'.taken ≤ r'.limit → HoldsAllOfLimit r' → Filled left limit now' text
     filled m within h =
         let q = (reached_more left limit now now' r r' p.scenario [] [] p.reached m within).0 in
-        let w = stops left limit now' r' p.scenario [] q r'.held (read_rest p.scenario r'.held p.follows.going h.feedless h.short) text p.follows.going p.told in
+        let w = stops left limit now' r' p.scenario [] q r'.held (read_rest p.scenario r'.held p.follows.reads.going h.feedless h.short) text p.follows.reads.going p.told in
         record { stops = w.0; full = ap length w.1 ∙ omega (arith, q.counts, h.at_limit, q.limited) }
 
     -- it lacks memory, for the bytes that were handed out or for others

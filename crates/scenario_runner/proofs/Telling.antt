@@ -13,7 +13,6 @@ use Rattle.br_model.specs.Plane.World.{World, Stepped, first_world}
 use Rattle.br_model.specs.Table.Domains.{chip_domains}
 use Rattle.br_model.specs.Table.Setup.{Setup}
 use Rattle.br_model.specs.declared.transcript.Line.TheVariants.{End}
-use Rattle.br_model.specs.Text.Roster.{Roster}
 use Rattle.br_model.specs.Program.Runs.{run_of, body_of, body, body_parts, told, last_text, setup_of}
 use Rattle.br_model.specs.Text.Scenario.{Scenario, Ending, opened, scenario}
 use Rattle.br_model.specs.Text.Transcript.{line_text, text as lines_text}
@@ -22,8 +21,8 @@ use Rattle.scenario_runner.specs.declared.replay.Halt.{Halt}
 use Rattle.scenario_runner.specs.declared.replay.Halt.TheVariants.{Stopped, WriteFault}
 use Rattle.run_status.specs.declared.stop.Stop.{Stop}
 use Rattle.run_status.specs.declared.stop.Stop.TheVariants.{ReadFault, NoMemory, TooLong}
-use Rattle.scenario_runner.specs.declared.session.Last.{Last}
-use Rattle.scenario_runner.specs.declared.session.Last.TheVariants as lasts
+use Rattle.scenario_reader.specs.declared.reader.Last.{Last}
+use Rattle.scenario_reader.specs.declared.reader.Last.TheVariants as lasts
 use Rattle.scenario_runner.specs.declared.session.Session.{Session}
 use Rattle.run_world.specs.declared.voice.Voice.{Voice}
 use Rattle.scenario_runner.specs.Advancing.{Advanced}
@@ -31,7 +30,8 @@ use Rattle.run_status.specs.Writing.{Breaks, Grows, Moves, Written}
 use Rattle.scenario_runner.specs.Halting.{IsBehind, IsOpened, Told, Plays, PlayedSection}
 use Rattle.run_status.specs.Statuses.{first_line}
 use Rattle.scenario_runner.specs.Playing.{Playing, Played}
-use Rattle.scenario_runner.specs.Session.{Follows, IsSaid, IsWorld, ending_of, end_line_of, last_line}
+use Rattle.scenario_reader.specs.Reading.{ReaderState, ending_of}
+use Rattle.scenario_runner.specs.Session.{Follows, IsSaid, IsWorld, end_line_of, last_line}
 use Rattle.scenario_runner.proofs.Following.{no_steps}
 use Rattle.scenario_runner.proofs.Reaching.{lacked_all, lacks_none}
 use Rattle.run_status.proofs.Writing.{broken, moved, nothing_wrote}
@@ -42,7 +42,7 @@ nothing_read (Some xs) held h = ap (λ (b : List ℕ). b ++ xs) (sym h)
 
 -- the run at its start
 pub started : (left : Option (List ℕ)) (reader : Reading) (session : Session) (text : List ℕ) → reader.held ≡ [] → reader.taken ≡ 0 → reader.limit ≡ most_bytes → reader.fault ≡ None
-    → Follows (opened false) session → session.lines ≡ 0 → text ≡ codes "transcript 1" ++ 10 ∷ [] → Playing left most_bytes reader left session text
+    → Follows (opened false) session → session.reader.lines ≡ 0 → text ≡ codes "transcript 1" ++ 10 ∷ [] → Playing left most_bytes reader left session text
 started left reader session text held none top fault follows lines told = record {
   scenario = opened false;
   reached = record {
@@ -86,9 +86,9 @@ told_by input text w last ends world body_is =
     ∙ ap (λ (b : List ℕ). body_of (run_of (scenario input)) ++ b) (last_is (scenario input) w last world ∙ ap (λ (d : Ending). last_text d (run_of (scenario input)).0) (sym ends))
 
 -- Its writer may be another one then.
-pub finished : (left now : Option (List ℕ)) (x y : Session) (text : List ℕ) (last : Last) → y.roster ≡ x.roster → y.world ≡ x.world → y.voice ≡ x.voice → Played left most_bytes now x text last
+pub finished : (left now : Option (List ℕ)) (x y : Session) (text : List ℕ) (last : Last) → y.reader ≡ x.reader → y.world ≡ x.world → y.voice ≡ x.voice → Played left most_bytes now x text last
     → Told left now y (text ++ last_line last x.world) last
-finished left now x y text last roster world voice p = record {
+finished left now x y text last reader world voice p = record {
   answered = record {
     input = p.input;
     read = p.read;
@@ -98,14 +98,14 @@ finished left now x y text last roster world voice p = record {
     within = p.within;
   };
   agrees = record {
-    ports = ap (λ (q : Roster). q.ports) roster ∙ p.agrees.ports;
+    ports = ap (λ (r : ReaderState). r.roster.ports) reader ∙ p.agrees.ports;
     world = subst (λ (w : Option World). IsWorld (scenario p.input) w) (sym world) p.agrees.world;
     said = subst (λ (v : Voice). IsSaid (scenario p.input) v) (sym voice) p.agrees.said;
   };
 }
 
 -- a line takes a byte at least
-pub few_lines : (left now : Option (List ℕ)) (reader : Reading) (x : Session) (text : List ℕ) → Playing left most_bytes reader now x text → x.lines ≤ most_bytes
+pub few_lines : (left now : Option (List ℕ)) (reader : Reading) (x : Session) (text : List ℕ) → Playing left most_bytes reader now x text → x.reader.lines ≤ most_bytes
 few_lines left now reader x text p =
     omega (arith, p.numbers, ap length p.reached.parts, length-append p.reached.lines reader.held, p.reached.counts, p.reached.within)
 
@@ -115,7 +115,7 @@ pub split_all : (before after : Option (List ℕ)) (text all : List ℕ) (w : Wr
     → Playing left most_bytes reader now session all → Playing left most_bytes reader now session (w.gone ++ text)
 split_all before after text all w left now reader session p = subst (λ (b : List ℕ). Playing left most_bytes reader now session b) w.together p
 
-pub play_ends : (left now before after : Option (List ℕ)) (x y : Session) (held all text text' : List ℕ) (w : Written before after held all) (last : Last) → y.roster ≡ x.roster → y.world ≡ x.world → y.voice ≡ x.voice
+pub play_ends : (left now before after : Option (List ℕ)) (x y : Session) (held all text text' : List ℕ) (w : Written before after held all) (last : Last) → y.reader ≡ x.reader → y.world ≡ x.world → y.voice ≡ x.voice
     → Played left most_bytes now x (w.gone ++ text) last → text' ≡ text ++ last_line last x.world → (whole : List ℕ) × Written before after text' whole × Told left now y whole last
 play_ends left now before after x y held all text text' w last roster world voice p e = (
   w.gone ++ text',
@@ -158,7 +158,7 @@ end_lacks left now before after x y text text' all last result w p same is =
 
 -- a section was read, and perhaps its steps done
 
-pub section_ends : (left now before after : Option (List ℕ)) (reader : Reading) (x y : Session) (text text' : List ℕ) (last : Last) → y.roster ≡ x.roster → y.world ≡ x.world → y.voice ≡ x.voice → PlayedSection left reader now x before after text (Ok (Some last))
+pub section_ends : (left now before after : Option (List ℕ)) (reader : Reading) (x y : Session) (text text' : List ℕ) (last : Last) → y.reader ≡ x.reader → y.world ≡ x.world → y.voice ≡ x.voice → PlayedSection left reader now x before after text (Ok (Some last))
     → text' ≡ text ++ last_line last x.world → (whole : List ℕ) × Written before after text' whole × Told left now y whole last
 section_ends left now before after reader x y text text' last roster world voice p e =
     play_ends left now before after x y text p.0 text text' p.1 last roster world voice (subst (λ (b : List ℕ). Played left most_bytes now x b last) p.1.together p.2) e

@@ -7,8 +7,8 @@ use Rattle.run_io.specs.Causes.{Rose}
 use Rattle.run_io.specs.Reading.{Reading}
 use Rattle.run_status.specs.declared.stop.Stop.{Stop}
 use Rattle.run_status.specs.declared.stop.Stop.TheVariants.{ReadFault, NoMemory, TooLong}
-use Rattle.scenario_runner.specs.declared.session.Captured.{Captured}
-use Rattle.scenario_runner.specs.declared.session.Captured.TheVariants as sections
+use Rattle.scenario_reader.specs.declared.reader.Captured.{Captured}
+use Rattle.scenario_reader.specs.declared.reader.Captured.TheVariants as sections
 use Rattle.scenario_runner.specs.declared.session.Next.{Next}
 use Rattle.scenario_runner.specs.declared.session.Next.TheVariants as nexts
 use Rattle.scenario_runner.specs.declared.session.Session.{Session}

@@ -11,19 +11,20 @@ use Rattle.run_io.specs.Causes.{Rose}
 use Rattle.run_io.specs.Reading.{Reading}
 use Rattle.br_model.specs.declared.steps.Step.{Step}
 use Rattle.br_model.specs.Table.Limits.{most_bytes}
-use Rattle.br_model.specs.Program.Outcomes.{HoldsNoEnd}
+use Rattle.br_model.specs.Program.Outcomes.{HoldsNoEnd, scenario_lines}
 use Rattle.br_model.specs.Program.Runs.{run_of, body_of, told}
 use Rattle.br_model.specs.Text.Scenario.{Scenario, scenario}
 use Rattle.scenario_runner.specs.declared.replay.Halt.{Halt}
 use Rattle.scenario_runner.specs.declared.replay.Halt.TheVariants.{Stopped, WriteFault}
 use Rattle.run_status.specs.declared.stop.Stop.{Stop}
 use Rattle.run_status.specs.declared.stop.Stop.TheVariants.{ReadFault, NoMemory, TooLong}
-use Rattle.scenario_runner.specs.declared.session.Last.{Last}
+use Rattle.scenario_reader.specs.declared.reader.Last.{Last}
 use Rattle.scenario_runner.specs.declared.session.Session.{Session}
 use Rattle.run_status.specs.Statuses.{first_line}
 use Rattle.run_status.specs.Writing.{Written}
 use Rattle.scenario_runner.specs.Playing as playing
-use Rattle.scenario_runner.specs.Session.{Agrees, Follows, IsAmongSteps, ending_of, with_steps}
+use Rattle.scenario_reader.specs.Reading.{ending_of}
+use Rattle.scenario_runner.specs.Session.{Agrees, Follows, IsAmongSteps, with_steps}
 
 -- the first line went to the sink
 abbrev pub IsOpened : Option (List ℕ) → Option (List ℕ) → Type 0
@@ -40,7 +41,7 @@ pub record Answered (answer : List ℕ → List ℕ) (left now : Option (List �
   pub ends : (scenario input).ending ≡ ending_of last
   pub answers : all ≡ answer input
   pub whole : IfSome left (λ bytes. scenario bytes ≡ scenario input)
-  pub within : IfSome left (λ bytes. ¬ HoldsNoEnd most_bytes bytes)
+  pub within : IfSome left (λ bytes. ¬ HoldsNoEnd scenario_lines most_bytes bytes)
 
 -- all is told of it
 pub record Told (left now : Option (List ℕ)) (session : Session) (all : List ℕ) (last : Last) : Type 0 where

@@ -3,6 +3,5 @@ pub mod Counting
 pub mod Generating
 pub mod Halting
 pub mod Playing
-pub mod Section
 pub mod Session
 pub mod Speaking

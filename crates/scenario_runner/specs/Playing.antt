@@ -9,13 +9,14 @@ use Rattle.run_io.specs.Reading.{Reading}
 use Rattle.br_model.specs.declared.scenario.Said.TheVariants.{Captures}
 use Rattle.br_model.specs.declared.steps.Step.{Step}
 use Rattle.br_model.specs.Text.Operands.{longest_section}
-use Rattle.br_model.specs.Program.Outcomes.{GoesOn, HoldsNoEnd}
+use Rattle.br_model.specs.Program.Outcomes.{GoesOn, HoldsNoEnd, scenario_lines}
 use Rattle.br_model.specs.Program.Runs.{run_of, body_of, body, body_parts}
 use Rattle.br_model.specs.Text.Scenario.{Scenario, Going, opened, read, scenario, whole_says}
 use Rattle.br_model.specs.Theorems.WholeLines.{is_line}
-use Rattle.scenario_runner.specs.declared.session.Last.{Last}
+use Rattle.scenario_reader.specs.declared.reader.Last.{Last}
 use Rattle.scenario_runner.specs.declared.session.Session.{Session}
-use Rattle.scenario_runner.specs.Session.{Agrees, Follows, IsWorld, IsAmongSteps, captures, ending_of, with_steps}
+use Rattle.scenario_reader.specs.Reading.{captures, ending_of}
+use Rattle.scenario_runner.specs.Session.{Agrees, Follows, IsWorld, IsAmongSteps, with_steps}
 
 -- The source gave some bytes: at first the lines that the scenario has read, then the bytes `ahead`, which were handed out, and
 -- then what the reader holds.
@@ -35,7 +36,7 @@ pub record Playing (left : Option (List ℕ)) (limit : ℕ) (reader : Reading) (
   pub reached : Reached left limit reader now scenario []
   pub follows : Follows scenario session
   pub told : text ≡ body_of (run_of scenario)
-  pub numbers : session.lines ≤ length reached.lines
+  pub numbers : session.reader.lines ≤ length reached.lines
   pub sound : reader.fault ≡ None
 
 -- the run is behind a line `capture`, before its section of n bytes
@@ -50,7 +51,7 @@ pub record AtSection (left : Option (List ℕ)) (limit : ℕ) (reader : Reading)
   pub follows : Follows (captures scenario n) session
   pub world : IsWorld scenario session.world
   pub told : text ≡ body_of (run_of (captures scenario n))
-  pub numbers : session.lines ≤ length reached.lines + 1
+  pub numbers : session.reader.lines ≤ length reached.lines + 1
   pub sound : reader.fault ≡ None
 
 -- The run has read a section, and these are the steps that come next: the scenario has them already.
@@ -60,7 +61,7 @@ pub record AtSteps (left : Option (List ℕ)) (limit : ℕ) (reader : Reading) (
   pub reached : Reached left limit reader now (with_steps before steps) []
   pub follows : Follows before session
   pub told : text ≡ body_of (run_of before)
-  pub numbers : session.lines ≤ length reached.lines
+  pub numbers : session.reader.lines ≤ length reached.lines
   pub sound : reader.fault ≡ None
 
 -- the scenario has ended: all but the last line of the transcript is written
@@ -71,13 +72,13 @@ pub record Played (left : Option (List ℕ)) (limit : ℕ) (now : Option (List �
   pub agrees : Agrees (scenario input) session
   pub told : text ≡ body input
   pub whole : IfSome left (λ bytes. scenario bytes ≡ scenario input)
-  pub within : IfSome left (λ bytes. ¬ HoldsNoEnd limit bytes)
+  pub within : IfSome left (λ bytes. ¬ HoldsNoEnd scenario_lines limit bytes)
 
 -- The run stops: what is written is the body of what the source gave, which neither ends the scenario nor holds a bad line.
 pub record Stopped (left : Option (List ℕ)) (now : Option (List ℕ)) (text : List ℕ) : Type 0 where
   pub input : List ℕ
   pub read : Consumes left now input
-  pub going : GoesOn input
+  pub going : GoesOn scenario_lines input
   pub told : text ≡ body input
 
 -- fewer bytes were read than may be

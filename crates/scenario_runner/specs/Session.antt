@@ -1,5 +1,5 @@
 -- A session has read the lines of a scenario up to here.
-use Rattle.std.specs.Prelude.{◌≡◌, ℕ, ◌≤◌, List, [], ◌∷◌, ◌++◌, length, true, false}
+use Rattle.std.specs.Prelude.{◌≡◌, ℕ, ◌≤◌, List, [], ◌∷◌, ◌++◌, true, false}
 use Rattle.std.specs.List.{list_all}
 use Rattle.std.specs.declared.option.Option.{Option}
 use Rattle.std.specs.declared.option.Option.TheVariants.{None, Some}
@@ -13,8 +13,6 @@ use Rattle.br_model.specs.declared.scenario.Said.TheVariants as said
 use Rattle.br_model.specs.declared.steps.Step.{Step}
 use Rattle.br_model.specs.declared.transcript.Line.{Line}
 use Rattle.br_model.specs.declared.transcript.Line.TheVariants.{End}
-use Rattle.br_model.specs.Wire.Captures.{packets}
-use Rattle.br_model.specs.Text.LineForms.{declaration, opening}
 use Rattle.br_model.specs.Program.Listings.{listing_text}
 use Rattle.br_model.specs.Text.Operands.{longest_section}
 use Rattle.br_model.specs.Plane.Runs.{end_line}
@@ -23,14 +21,16 @@ use Rattle.br_model.specs.Plane.World.{World, first_world}
 use Rattle.br_model.specs.Table.Domains.{chip_domains}
 use Rattle.br_model.specs.Text.Roster.{Entry, Roster, chips_of}
 use Rattle.br_model.specs.Program.Runs.{run_of, body_of, setup_of}
-use Rattle.br_model.specs.Text.Scenario.{Scenario, opened, Ending, Going, Ended, Bad, bad, captured, section_length, takes, takes_steps, whole_says}
+use Rattle.br_model.specs.Text.Scenario.{Scenario, opened, bad, section_length, takes, whole_says}
 use Rattle.br_model.specs.Table.Table.{table}
 use Rattle.br_model.specs.Text.Transcript.{text, line_text, bad_text}
 use Rattle.chip_audit.specs.Lines.{audited_text}
-use Rattle.scenario_runner.specs.declared.session.Captured.{Captured}
-use Rattle.scenario_runner.specs.declared.session.Captured.TheVariants as sections
-use Rattle.scenario_runner.specs.declared.session.Last.{Last}
-use Rattle.scenario_runner.specs.declared.session.Last.TheVariants as lasts
+use Rattle.scenario_reader.specs.declared.reader.Captured.{Captured}
+use Rattle.scenario_reader.specs.declared.reader.Captured.TheVariants as sections
+use Rattle.scenario_reader.specs.declared.reader.Last.{Last}
+use Rattle.scenario_reader.specs.declared.reader.Last.TheVariants as lasts
+use Rattle.scenario_reader.specs.Reading as reading
+use Rattle.scenario_reader.specs.Reading.{IsBehindDeclarations, captures, ending_of}
 use Rattle.scenario_runner.specs.declared.session.Next.{Next}
 use Rattle.scenario_runner.specs.declared.session.Next.TheVariants.{Line as NextLine, Section, End as NoMore}
 use Rattle.scenario_runner.specs.declared.session.Session.{Session}
@@ -39,10 +39,6 @@ use Rattle.run_world.specs.declared.voice.Voice.{Voice}
 use Rattle.run_status.specs.declared.status.Status.TheVariants as statuses
 use Rattle.br_model.specs.Text.LineForms.{comes_by_line}
 use Rattle.run_world.specs.Voices.{IsTuned, Says}
-
--- no port can be declared any more
-abbrev pub IsBehindDeclarations : Roster → Type 0
-IsBehindDeclarations roster = (declaration roster.place ≡ false) × (opening roster.place ≡ false)
 
 -- where there is a world, it has the chips of the declared ports, and no port can be declared any more
 abbrev pub HasChips : Roster → Option World → Type 0
@@ -68,7 +64,7 @@ IsSaid s voice = Says voice (setup_of s.roster) s.steps
 
 -- the session's ports and world are those of the scenario, and so is what was said
 pub record Agrees (s : Scenario) (x : Session) : Type 0 where
-  pub ports : x.roster.ports ≡ s.roster.ports
+  pub ports : x.reader.roster.ports ≡ s.roster.ports
   pub world : IsWorld s x.world
   pub said : IsSaid s x.voice
 
@@ -76,22 +72,11 @@ pub record Agrees (s : Scenario) (x : Session) : Type 0 where
 abbrev pub with_steps : Scenario → List Step → Scenario
 with_steps s steps = record s { steps = s.steps ++ steps }
 
--- the session has read what the scenario has
-pub record Stands (s : Scenario) (x : Session) : Type 0 where
-  pub lines : x.lines ≡ s.lines
-  pub roster : x.roster ≡ s.roster
+-- the session has read what the scenario has, and the scenario goes on
+pub record Follows (s : Scenario) (x : Session) : Type 0 where
+  pub reads : reading.Follows s x.reader
   pub world : IsWorld s x.world
   pub said : IsSaid s x.voice
-
--- and the scenario goes on
-pub record Follows (s : Scenario) (x : Session) : Type 0 where
-  pub stands : Stands s x
-  pub going : s.ending ≡ Going
-
--- how the scenario ends, in the words of its definition
-abbrev pub ending_of : Last → Ending
-ending_of lasts.Ended = Ended
-ending_of (lasts.Bad n why) = Bad n why
 
 -- The session went on from one scenario to another, and added text for the steps between them.
 pub record Went (s t : Scenario) (before : List ℕ) (x : Session) (after : List ℕ) : Type 0 where
@@ -111,10 +96,6 @@ abbrev pub EndsBy : Scenario → Result Said LineWhy → List ℕ → Session �
 EndsBy s (Err why) before x after last = Ends s (bad s why) before x after last
 EndsBy s (Ok said) before x after last = (section_length said ≡ 0) × Ends s (takes s said []) before x after last
 
--- after a line `capture`, its section left out
-abbrev pub captures : Scenario → ℕ → Scenario
-captures s n = takes_steps s (said.Captures n) (Ok [])
-
 -- a line was taken
 abbrev pub Took : Scenario → List ℕ → List ℕ → Session → List ℕ → Next → Type 0
 Took s line before x after NextLine = (said : Said) × (whole_says s.roster line ≡ Ok said) × (section_length said ≡ 0) × Went s (takes s said []) before x after
@@ -124,12 +105,6 @@ Took s line before x after (NoMore last) = EndsBy s (whole_says s.roster line) b
 
 abbrev pub Takes : Session → List ℕ → List ℕ → Session → List ℕ → Next → Type 0
 Takes old line before new after next = (s : Scenario) → Follows s old → Took s line before new after next
-
--- what the section of the line before gives
-abbrev pub IsCaptured : Session → List ℕ → Captured → Type 0
-IsCaptured x section (sections.Steps steps) = captured x.roster.ports (packets section (length x.roster.ports)) ≡ Ok steps.items
-IsCaptured x section (sections.End last) =
-    (why : LineWhy) × (captured x.roster.ports (packets section (length x.roster.ports)) ≡ Err why) × (last ≡ lasts.Bad x.lines why)
 
 -- each step is one that a line can give where these domains have switch chips
 abbrev pub ComeByLine : List ℕ → Captured → Type 0
@@ -147,7 +122,7 @@ IsAfter w step x = (x.world ≡ Some (world_step w step).0) × (x.told.lines ≡
 
 -- it is said, whatever steps were before
 abbrev pub SaysOn : Session → Step → Session → Type 0
-SaysOn old step new = (s : Scenario) → IsWorld s old.world → setup_of old.roster ≡ setup_of s.roster → IsSaid s old.voice
+SaysOn old step new = (s : Scenario) → IsWorld s old.world → setup_of old.reader.roster ≡ setup_of s.roster → IsSaid s old.voice
     → Says new.voice (setup_of s.roster) (s.steps ++ step ∷ [])
 
 -- nothing was said
@@ -156,10 +131,9 @@ SaysNothing voice = IsSaid (opened false) voice
 
 -- a step was done
 pub record Does (old : Session) (step : Step) (before : List ℕ) (new : Session) (after : List ℕ) : Type 0 where
-  pub lines : new.lines ≡ old.lines
-  pub roster : new.roster ≡ old.roster
-  pub world : new.world ≡ Some (world_step (world_of old.roster old.world) step).0
-  pub text : after ≡ before ++ text (world_step (world_of old.roster old.world) step).1
+  pub reader : new.reader ≡ old.reader
+  pub world : new.world ≡ Some (world_step (world_of old.reader.roster old.world) step).0
+  pub text : after ≡ before ++ text (world_step (world_of old.reader.roster old.world) step).1
   pub says : SaysOn old step new
 
 abbrev pub end_line_of : Option World → Line
@@ -180,6 +154,7 @@ abbrev pub audit_or_bad : Last → Roster → Option World → List ℕ
 audit_or_bad lasts.Ended roster w = audited_text roster.ports (world_of roster w)
 audit_or_bad (lasts.Bad n why) roster w = bad_text n why
 
+-- the status of a command whose scenario ends so
 abbrev pub status_of : Last → Status
 status_of lasts.Ended = statuses.Ok
 status_of (lasts.Bad n why) = statuses.BadLine

@@ -5,11 +5,12 @@ ghost use Rattle.run_io.specs.Causes.{Rose};
 ghost use Rattle.chip_audit.specs.Lines.{audited, audited_text, world_lines};
 ghost use Rattle.run_status.specs.Stopping.{Caused as StopsBy};
 ghost use Rattle.scenario_runner.specs.Halting.{Yields};
-ghost use Rattle.run_status.specs.Statuses.{Caused, Reads, call_of, no_parts, nothing};
+ghost use Rattle.run_status.specs.Statuses.{Caused, EndsIn, call_of, scenario_ways};
 ghost use Rattle.scenario_runner.specs.Session.{Follows, world_of};
 
+use crate::commands::status_of;
 use crate::replay::{Halt, play};
-use crate::session::{Last, Session};
+use crate::session::Session;
 use br_model::NoMemory;
 use bridge_command::Roster;
 use chip_audit::append_audit;
@@ -19,6 +20,7 @@ use run_io::sources::Source;
 use run_status::{Status, Stop, put_last};
 use run_world::World;
 use run_world::voice::Voice;
+use scenario_reader::Last;
 use std::alloc::Global;
 use std::sync::Wait;
 
@@ -79,7 +81,7 @@ fn audit_in<R: Wait, S: Source>(
     source: &mut S,
 ) -> Result<(Last, String), Stop>
     requires follows { Follows (opened false) session.old }
-    requires lines { session.old.lines ≡ 0 }
+    requires lines { session.old.reader.lines ≡ 0 }
     ensures audits { Yields audited (S.left source.old) (S.left source.new) result }
     ensures cause { StopsBy (S.faults source.old) (S.faults source.new) result }
 {
@@ -113,12 +115,12 @@ pub fn audit<R: Wait, S: Source, K: Sink>(
     source: &mut S,
     sink: &mut K,
 ) -> Status
-    ensures outcome { Reads (Rose (S.faults source.old) (S.faults source.new)) audited nothing no_parts result
+    ensures outcome { EndsIn (scenario_ways (Rose (S.faults source.old) (S.faults source.new)) audited) result
         (call_of (S.left source.old) (S.left source.new) (K.taken sink.old) (K.taken sink.new)) }
     ensures cause { Caused result (S.faults source.old) (S.faults source.new) (K.faults sink.old) (K.faults sink.new) }
 {
     match audit_of(rt, alloc, source) {
-        Ok((last, text)) => put_last(sink, text.as_bytes(), last.status()),
+        Ok((last, text)) => put_last(sink, text.as_bytes(), status_of(last)),
         Err(stop) => put_last(sink, stop.line(), stop.status()),
     }
 }

@@ -10,14 +10,14 @@ ghost use Rattle.run_io.specs.Causes.{HasCause, Rose};
 ghost use Rattle.run_status.specs.Stopping.{Caused as StopsBy};
 ghost use Rattle.scenario_runner.specs.Generating.{HasRoom, PutsAll, PutsSome};
 ghost use Rattle.scenario_runner.specs.Halting.{Yields};
-ghost use Rattle.run_status.specs.Statuses.{Caused, Reads, Replays, Writes, call_of, no_parts, nothing};
-ghost use Rattle.scenario_runner.specs.Session.{Follows, SaysNothing};
+ghost use Rattle.run_status.specs.Statuses.{Caused, EndsIn, Replays, call_of, scenario_ways, writing_ways};
+ghost use Rattle.scenario_runner.specs.Session.{Follows, SaysNothing, status_of};
 ghost use Rattle.scenario_runner.specs.Speaking.{answer_by};
 ghost use Rattle.neigh_netlink.specs.Monitor.{monitored};
 
 use crate::demo::summary;
 use crate::replay::{Halt, play, put_if_full};
-use crate::session::{Last, Session};
+use crate::session::Session;
 use br_model::listing::Listing;
 use run_io::output::Output;
 use run_io::sinks::{Nowhere, Sink, WriteFault};
@@ -25,9 +25,20 @@ use run_io::sources::Source;
 use run_status::{Status, Stop, end_with, end_without_memory, put_last};
 use run_world::voice::Voice;
 use run_world::{Asking, Monitor};
+use scenario_reader::Last;
 use scenario_text::{Generator, append_opening};
 use std::alloc::Global;
 use std::sync::Wait;
+
+/// The status of a command whose scenario ends so.
+pub fn status_of(last: Last) -> Status
+    ensures { result ≡ status_of last }
+{
+    match last {
+        Last::Ended => Status::Ok,
+        Last::Bad(..) => Status::BadLine,
+    }
+}
 
 /// `replay` in this new session.
 fn replay_in<R: Wait, S: Source, K: Sink>(
@@ -38,7 +49,7 @@ fn replay_in<R: Wait, S: Source, K: Sink>(
     sink: &mut K,
 ) -> Status
     requires follows { Follows (opened false) session.old }
-    requires lines { session.old.lines ≡ 0 }
+    requires lines { session.old.reader.lines ≡ 0 }
     ensures outcome { Replays (Rose (S.faults source.old) (S.faults source.new)) result
         (call_of (S.left source.old) (S.left source.new) (K.taken sink.old) (K.taken sink.new)) }
     ensures cause { Caused result (S.faults source.old) (S.faults source.new) (K.faults sink.old) (K.faults sink.new) }
@@ -47,7 +58,7 @@ fn replay_in<R: Wait, S: Source, K: Sink>(
         return end_without_memory(sink);
     };
     match play(rt, alloc, session, source, sink, &mut output) {
-        Ok(last) => end_with(sink, &mut output, b"", last.status()),
+        Ok(last) => end_with(sink, &mut output, b"", status_of(last)),
         Err(Halt::Stopped(stop)) => end_with(sink, &mut output, stop.line(), stop.status()),
         Err(Halt::WriteFault) => Status::WriteFault,
     }
@@ -84,7 +95,7 @@ fn listing_in<R: Wait, S: Source>(
     source: &mut S,
 ) -> Result<(Last, String), Stop>
     requires follows { Follows (opened false) session.old }
-    requires lines { session.old.lines ≡ 0 }
+    requires lines { session.old.reader.lines ≡ 0 }
     ensures lists { Yields (listed listing) (S.left source.old) (S.left source.new) result }
     ensures cause { StopsBy (S.faults source.old) (S.faults source.new) result }
 {
@@ -120,12 +131,12 @@ pub fn show<R: Wait, S: Source, K: Sink>(
     source: &mut S,
     sink: &mut K,
 ) -> Status
-    ensures outcome { Reads (Rose (S.faults source.old) (S.faults source.new)) (listed listing) nothing no_parts result
+    ensures outcome { EndsIn (scenario_ways (Rose (S.faults source.old) (S.faults source.new)) (listed listing)) result
         (call_of (S.left source.old) (S.left source.new) (K.taken sink.old) (K.taken sink.new)) }
     ensures cause { Caused result (S.faults source.old) (S.faults source.new) (K.faults sink.old) (K.faults sink.new) }
 {
     match listing_of(rt, alloc, listing, source) {
-        Ok((last, text)) => put_last(sink, text.as_bytes(), last.status()),
+        Ok((last, text)) => put_last(sink, text.as_bytes(), status_of(last)),
         Err(stop) => put_last(sink, stop.line(), stop.status()),
     }
 }
@@ -138,7 +149,7 @@ fn said_in<R: Wait, S: Source>(
     source: &mut S,
 ) -> Result<(Last, String), Stop>
     requires follows { Follows (opened false) session.old }
-    requires lines { session.old.lines ≡ 0 }
+    requires lines { session.old.reader.lines ≡ 0 }
     ensures says { Yields (answer_by session.old.voice) (S.left source.old) (S.left source.new) result }
     ensures cause { StopsBy (S.faults source.old) (S.faults source.new) result }
 {
@@ -176,12 +187,12 @@ fn speak<R: Wait, S: Source, K: Sink>(
     sink: &mut K,
 ) -> Status
     requires { SaysNothing voice }
-    ensures outcome { Reads (Rose (S.faults source.old) (S.faults source.new)) (answer_by voice) nothing no_parts result
+    ensures outcome { EndsIn (scenario_ways (Rose (S.faults source.old) (S.faults source.new)) (answer_by voice)) result
         (call_of (S.left source.old) (S.left source.new) (K.taken sink.old) (K.taken sink.new)) }
     ensures cause { Caused result (S.faults source.old) (S.faults source.new) (K.faults sink.old) (K.faults sink.new) }
 {
     match said_of(rt, alloc, voice, source) {
-        Ok((last, text)) => put_last(sink, text.as_bytes(), last.status()),
+        Ok((last, text)) => put_last(sink, text.as_bytes(), status_of(last)),
         Err(stop) => put_last(sink, stop.line(), stop.status()),
     }
 }
@@ -193,7 +204,7 @@ pub fn monitor<R: Wait, S: Source, K: Sink>(
     source: &mut S,
     sink: &mut K,
 ) -> Status
-    ensures outcome { Reads (Rose (S.faults source.old) (S.faults source.new)) monitored nothing no_parts result
+    ensures outcome { EndsIn (scenario_ways (Rose (S.faults source.old) (S.faults source.new)) monitored) result
         (call_of (S.left source.old) (S.left source.new) (K.taken sink.old) (K.taken sink.new)) }
     ensures cause { Caused result (S.faults source.old) (S.faults source.new) (K.faults sink.old) (K.faults sink.new) }
 {
@@ -211,7 +222,7 @@ pub fn querier<R: Wait, S: Source, K: Sink>(
 ) -> Status
     requires four { is_host_four four ≡ true }
     requires six { is_link_local_six six ≡ true }
-    ensures outcome { Reads (Rose (S.faults source.old) (S.faults source.new)) (queried four six) nothing no_parts result
+    ensures outcome { EndsIn (scenario_ways (Rose (S.faults source.old) (S.faults source.new)) (queried four six)) result
         (call_of (S.left source.old) (S.left source.new) (K.taken sink.old) (K.taken sink.new)) }
     ensures cause { Caused result (S.faults source.old) (S.faults source.new) (K.faults sink.old) (K.faults sink.new) }
 {
@@ -242,7 +253,7 @@ fn put_frames<K: Sink>(
 /// `gen`: all memory is there before the first write.
 pub fn generate<K: Sink>(alloc: Global, number: u64, count: u32, sink: &mut K) -> Status
     requires { count ≤ most_frames }
-    ensures outcome { (left : Option (List ℕ)) → Writes (made number count) result
+    ensures outcome { (left : Option (List ℕ)) → EndsIn (writing_ways (made number count)) result
         (call_of left left (K.taken sink.old) (K.taken sink.new)) }
     ensures cause { (reads : ℕ) → Caused result reads reads (K.faults sink.old) (K.faults sink.new) }
 {
@@ -269,7 +280,7 @@ pub fn demo<R: Wait, K: Sink>(
     sink: &mut K,
 ) -> Status
     requires { count ≤ most_frames }
-    ensures outcome { (left : Option (List ℕ)) → Writes (summary_of number count) result
+    ensures outcome { (left : Option (List ℕ)) → EndsIn (writing_ways (summary_of number count)) result
         (call_of left left (K.taken sink.old) (K.taken sink.new)) }
     ensures cause { (reads : ℕ) → Caused result reads reads (K.faults sink.old) (K.faults sink.new) }
 {

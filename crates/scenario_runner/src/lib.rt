@@ -6,5 +6,4 @@ pub mod audit;
 pub mod commands;
 mod demo;
 mod replay;
-mod section;
 mod session;

@@ -11,12 +11,13 @@ ghost use Rattle.scenario_runner.specs.Advancing.{Advances, Lessens, Sections};
 ghost use Rattle.run_status.specs.Stopping.{Caused};
 ghost use Rattle.run_status.specs.Writing.{Breaks, Grows, Moves};
 ghost use Rattle.scenario_runner.specs.Halting.{DoesAll, DoesSome, Halts, IsBehind, Plays, PlaysSection, Stalls};
-ghost use Rattle.scenario_runner.specs.Session.{ComeByLine, Follows, IsBehindDeclarations, IsReady};
+ghost use Rattle.scenario_reader.specs.Reading.{IsBehindDeclarations};
+ghost use Rattle.scenario_runner.specs.Session.{ComeByLine, Follows, IsReady};
 ghost use Rattle.run_world.specs.Voices.{lines_of};
 ghost use Rattle.br_model.specs.Text.LineForms.{comes_by_line};
 ghost use Rattle.br_model.specs.Text.Roster.{chips_of};
 
-use crate::session::{Captured, Last, Next, Session};
+use crate::session::{Next, Session};
 use br_model::limits::MOST_BYTES;
 use br_model::scenario::LineWhy;
 use br_model::steps::Step;
@@ -25,6 +26,7 @@ use run_io::output::Output;
 use run_io::sinks::{Sink, WriteFault};
 use run_io::sources::Source;
 use run_status::Stop;
+use scenario_reader::{Captured, Last};
 use std::alloc::{AllocError, Global};
 use std::sync::Wait;
 
@@ -39,9 +41,9 @@ pub(crate) fn advance<R: Wait, S: Source>(
     text: &mut String,
 ) -> Result<Next, Stop>
     requires sound { reader.old.fault ≡ None }
-    requires few { session.old.lines < 2 ^ 32 - 1 }
-    requires ready { IsReady session.old.roster session.old.world session.old.voice }
-    ensures ready { OnOk result (IsReady session.new.roster session.new.world session.new.voice) }
+    requires few { session.old.reader.lines < 2 ^ 32 - 1 }
+    requires ready { IsReady session.old.reader.roster session.old.world session.old.voice }
+    ensures ready { OnOk result (IsReady session.new.reader.roster session.new.world session.new.voice) }
     ensures same { OnOk result (lines_of session.new.voice ≡ lines_of session.old.voice) }
     ensures advances { (limit : ℕ) → Advances limit reader.old reader.new (S.left source.old) (S.left source.new)
         session.old session.new (string_bytes text.old) (string_bytes text.new) result }
@@ -54,11 +56,11 @@ pub(crate) fn advance<R: Wait, S: Source>(
             if got.whole {
                 Ok(session.take(rt, alloc, got.bytes, text)?)
             } else {
-                Ok(Next::End(session.close(got.bytes)))
+                Ok(Next::End(session.reader.close(got.bytes)))
             }
         }
-        Ok(None) => Ok(Next::End(session.close(&[]))),
-        Err(LineFault::LineTooLong) => Ok(Next::End(session.bad(LineWhy::Long))),
+        Ok(None) => Ok(Next::End(session.reader.close(&[]))),
+        Err(LineFault::LineTooLong) => Ok(Next::End(session.reader.bad(LineWhy::Long))),
         Err(LineFault::ReadFault) => Err(Stop::ReadFault),
         Err(LineFault::TooLong) => Err(Stop::TooLong),
         Err(LineFault::NoMemory) => Err(Stop::NoMemory),
@@ -76,7 +78,7 @@ fn read_section<S: Source>(
     requires sound { reader.old.fault ≡ None }
     requires most { length ≤ longest_section }
     ensures sections { (limit : ℕ) → Sections limit reader.old reader.new (S.left source.old) (S.left source.new) session.now length result }
-    ensures by_line { IfOk result (ComeByLine (chips_of session.now.roster.ports)) }
+    ensures by_line { IfOk result (ComeByLine (chips_of session.now.reader.roster.ports)) }
     ensures less { OnOk result (room reader.new ≤ room reader.old) }
     ensures cause { Caused (S.faults source.old) (S.faults source.new) result }
     ensures later { S.faults source.old ≤ S.faults source.new }
@@ -84,14 +86,15 @@ fn read_section<S: Source>(
     match reader.take(alloc, source, length) {
         Ok(got) => {
             if got.whole {
-                Ok(session.captured(alloc, got.bytes)?)
+                Ok(session.reader.captured(alloc, got.bytes)?)
             } else {
-                Ok(Captured::End(session.bad_section(LineWhy::Unended)))
+                Ok(Captured::End(session.reader.bad_section(LineWhy::Unended)))
             }
         }
         Err(LineFault::ReadFault) => Err(Stop::ReadFault),
         Err(LineFault::TooLong) => Err(Stop::TooLong),
         Err(LineFault::NoMemory) => Err(Stop::NoMemory),
+        // Only a fault of an earlier line comes as this one here.
         Err(LineFault::LineTooLong) => unreachable!(),
     }
 }
@@ -174,10 +177,10 @@ fn do_steps<R: Wait, K: Sink>(
     output: &mut Output,
     steps: Vec<Step>,
 ) -> Result<(), Halt>
-    requires by_line { list_all (comes_by_line false (chips_of session.old.roster.ports)) steps.items ≡ true }
-    requires ready { IsReady session.old.roster session.old.world session.old.voice }
-    requires behind { IsBehindDeclarations session.old.roster }
-    ensures ready { OnOk result (IsReady session.new.roster session.new.world session.new.voice) }
+    requires by_line { list_all (comes_by_line false (chips_of session.old.reader.roster.ports)) steps.items ≡ true }
+    requires ready { IsReady session.old.reader.roster session.old.world session.old.voice }
+    requires behind { IsBehindDeclarations session.old.reader.roster }
+    ensures ready { OnOk result (IsReady session.new.reader.roster session.new.world session.new.voice) }
     ensures same { OnOk result (lines_of session.new.voice ≡ lines_of session.old.voice) }
     ensures does { OnOk result (DoesAll session.old steps.items session.new
         (K.taken sink.old) (K.taken sink.new) (string_bytes output.old.text) (string_bytes output.new.text)) }
@@ -208,9 +211,9 @@ fn play_section<R: Wait, S: Source, K: Sink>(
 ) -> Result<Option<Last>, Halt>
     requires sound { reader.old.fault ≡ None }
     requires most { length ≤ longest_section }
-    requires ready { IsReady session.old.roster session.old.world session.old.voice }
-    requires behind { IsBehindDeclarations session.old.roster }
-    ensures ready { OnOk result (IsReady session.new.roster session.new.world session.new.voice) }
+    requires ready { IsReady session.old.reader.roster session.old.world session.old.voice }
+    requires behind { IsBehindDeclarations session.old.reader.roster }
+    ensures ready { OnOk result (IsReady session.new.reader.roster session.new.world session.new.voice) }
     ensures same { OnOk result (lines_of session.new.voice ≡ lines_of session.old.voice) }
     ensures plays { PlaysSection reader.old reader.new (S.left source.old) (S.left source.new)
         session.old session.new (K.taken sink.old) (K.taken sink.new) (string_bytes output.old.text) (string_bytes output.new.text) length result }
@@ -241,7 +244,7 @@ pub(crate) fn play<R: Wait, S: Source, K: Sink>(
     output: &mut Output,
 ) -> Result<Last, Halt>
     requires follows { Follows (opened false) session.old }
-    requires lines { session.old.lines ≡ 0 }
+    requires lines { session.old.reader.lines ≡ 0 }
     requires text { string_bytes output.old.text ≡ [] }
     ensures plays { Plays (S.left source.old) (S.left source.new) session.new (K.taken sink.old) (K.taken sink.new) (string_bytes output.new.text) result }
     ensures same { OnOk result (lines_of session.new.voice ≡ lines_of session.old.voice) }

@@ -7,6 +7,26 @@ use Rattle.std.specs.Io.KnownBytes.{Appends, Consumes, append_known}
 use Rattle.br_model.specs.declared.scenario.LineWhy.{LineWhy}
 use Rattle.br_model.specs.Text.Scenario.{Ending, Going, Ended, Bad, opened, reads, scenario}
 
+-- lines of some kind, by how an input of them ends
+pub record Lines (End Why : Type 0) : Type 0 where
+  -- how whole bytes end, and how bytes do behind which more may come
+  pub whole : List ℕ → End
+  pub so_far : List ℕ → End
+  -- they go on; they end well; the line of this number, counted from 1, is bad for this cause
+  pub going : End
+  pub ended : End
+  pub bad : ℕ → Why → End
+
+-- the lines of a scenario
+abbrev pub scenario_lines : Lines Ending LineWhy
+scenario_lines = record {
+  whole = λ bytes. (scenario bytes).ending;
+  so_far = λ bytes. (reads (opened false) bytes).ending;
+  going = Going;
+  ended = Ended;
+  bad = Bad;
+}
+
 -- what a call saw and did
 pub record Call : Type 0 where
   -- the bytes that the source had left when the call began, and has left now
@@ -24,36 +44,36 @@ Read call bytes = Consumes call.left_before call.left_now bytes
 abbrev pub Wrote : Call → List ℕ → Type 0
 Wrote call bytes = Appends call.taken_before call.taken_now bytes
 
--- The scenario ends so, and the output is exactly this answer to its bytes.
-pub record Answers (answer : List ℕ → List ℕ) (call : Call) (ending : Ending) : Type 0 where
+-- The lines end so, and the output is exactly this answer to their bytes.
+pub record Answers {End Why : Type 0} (lines : Lines End Why) (answer : List ℕ → List ℕ) (call : Call) (ending : End) : Type 0 where
   -- the bytes that were read
   pub input : List ℕ
   pub read : Read call input
-  pub ends : (scenario input).ending ≡ ending
+  pub ends : lines.whole input ≡ ending
   pub wrote : Wrote call (answer input)
   -- and so it would be with all that the source had left
-  pub whole : IfSome call.left_before (λ bytes. ((scenario bytes).ending ≡ ending) × (answer bytes ≡ answer input))
+  pub whole : IfSome call.left_before (λ bytes. (lines.whole bytes ≡ ending) × (answer bytes ≡ answer input))
 
--- the same of a scenario with a bad line
-abbrev pub AnswersBad : (List ℕ → List ℕ) → Call → Type 0
-AnswersBad answer call = (n : ℕ) × (why : LineWhy) × Answers answer call (Bad n why)
+-- the same of lines of which one is bad
+abbrev pub AnswersBad : {End Why : Type 0} → Lines End Why → (List ℕ → List ℕ) → Call → Type 0
+AnswersBad {End} {Why} lines answer call = (n : ℕ) × (why : Why) × Answers lines answer call (lines.bad n why)
 
 -- Nothing was read, and the output is exactly this.
 abbrev pub Makes : Call → List ℕ → Type 0
 Makes call output = Read call [] × Wrote call output
 
 -- The bytes hold neither a whole `end` line nor a bad line other than one that only lacks its end.
-abbrev pub GoesOn : List ℕ → Type 0
-GoesOn bytes = (reads (opened false) bytes).ending ≡ Going
+abbrev pub GoesOn : {End Why : Type 0} → Lines End Why → List ℕ → Type 0
+GoesOn lines bytes = lines.so_far bytes ≡ lines.going
 
 -- At least so many bytes were left, and the first of them hold neither a whole `end` line nor a bad line other than one that only lacks
 -- its end.
-abbrev pub HoldsNoEnd : ℕ → List ℕ → Type 0
-HoldsNoEnd limit bytes = (limit ≤ length bytes) × GoesOn (take limit bytes)
+abbrev pub HoldsNoEnd : {End Why : Type 0} → Lines End Why → ℕ → List ℕ → Type 0
+HoldsNoEnd lines limit bytes = (limit ≤ length bytes) × GoesOn lines (take limit bytes)
 
 -- What the source had left isn't so, if it tells it.
-abbrev pub IsNotTooLong : ℕ → Call → Type 0
-IsNotTooLong limit call = IfSome call.left_before (λ bytes. ¬ HoldsNoEnd limit bytes)
+abbrev pub IsNotTooLong : {End Why : Type 0} → Lines End Why → ℕ → Call → Type 0
+IsNotTooLong lines limit call = IfSome call.left_before (λ bytes. ¬ HoldsNoEnd lines limit bytes)
 
 -- The run stops on its way: the bytes that were read are such that it goes on, and the output is what stands before the last line for
 -- them, and then this last line.
@@ -100,11 +120,11 @@ pub record ReadsBehind (first : List ℕ) (call : Call) : Type 0 where
 
 -- Completeness: a run succeeds, but for want of memory, where its words are in the grammar, no fault came, and the source is such:
 
--- The scenario ends well, and a reader of so many bytes can know it: they hold its line `end` with its line feed, or the input has fewer.
-pub record EndsWithin (limit : ℕ) (bytes : List ℕ) : Type 0 where
-  pub ended : (scenario bytes).ending ≡ Ended
-  pub seen : limit ≤ length bytes → (reads (opened false) (take limit bytes)).ending ≡ Ended
+-- The lines end well, and a reader of so many bytes can know it: they hold the line `end` with its line feed, or the input has fewer.
+pub record EndsWithin {End Why : Type 0} (lines : Lines End Why) (limit : ℕ) (bytes : List ℕ) : Type 0 where
+  pub ended : lines.whole bytes ≡ lines.ended
+  pub seen : limit ≤ length bytes → lines.so_far (take limit bytes) ≡ lines.ended
 
--- The source tells what it has left, and that is such a scenario.
-abbrev pub HasScenario : ℕ → Call → Type 0
-HasScenario limit call = IsSomeAnd call.left_before (EndsWithin limit)
+-- The source tells what it has left, and those are such lines.
+abbrev pub HasLines : {End Why : Type 0} → Lines End Why → ℕ → Call → Type 0
+HasLines lines limit call = IsSomeAnd call.left_before (EndsWithin lines limit)

@@ -11,10 +11,10 @@ use Rattle.scenario_runner.proofs.replay.do_steps.Given as goal
 abbrev pub invariant-loop-step : goal.invariant-loop-step
 invariant-loop-step g l = record {
   parts : l.fn.steps.items ≡ l.yielded ++ l.step-iterator.rest.items;
-  by_line : list_all (comes_by_line false (chips_of l.fn.session.roster.ports)) l.step-iterator.rest.items ≡ true;
-  roster : l.session.roster ≡ l.fn.session.roster;
+  by_line : list_all (comes_by_line false (chips_of l.fn.session.reader.roster.ports)) l.step-iterator.rest.items ≡ true;
+  reader : l.session.reader ≡ l.fn.session.reader;
   same : lines_of l.session.voice ≡ lines_of l.fn.session.voice;
-  ready : IsReady l.session.roster l.session.world l.session.voice;
+  ready : IsReady l.session.reader.roster l.session.world l.session.voice;
   does : DoesAll l.fn.session l.yielded l.session (g.K.Sink.taken l.fn.sink) (g.K.Sink.taken l.sink) (string_bytes l.fn.output.text) (string_bytes l.output.text);
   grows : Grows (g.K.Sink.taken l.fn.sink) (g.K.Sink.taken l.sink);
   later : g.K.Sink.faults l.fn.sink ≤ g.K.Sink.faults l.sink;

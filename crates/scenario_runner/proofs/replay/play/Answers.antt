@@ -76,7 +76,7 @@ returns-in-Some-clause-plays g c =
     let w = moved _ _ _ _ _ _ plays.1 c.in_ok-put_before_read.ensures.moved in
     let at = rw c.in-Section.is at (c.in_ok-advance.ensures.advances _ _ w.gone (split_all _ _ _ _ w _ _ _ _ plays.2)) in
     let ends = rw c.in-Some.is at (c.in_ok-last-in-Section.ensures.plays _ _ _ (grown _ _ _ _ _ w) at) in
-    section_ends _ _ _ _ c.play_section.new.reader _ _ _ _ _ c.in_ok-end-in-Section.ensures.roster c.in_ok-end-in-Section.ensures.world c.in_ok-end-in-Section.ensures.voice ends c.in_ok-end-in-Section.ensures.ok
+    section_ends _ _ _ _ c.play_section.new.reader _ _ _ _ _ c.in_ok-end-in-Section.ensures.reader c.in_ok-end-in-Section.ensures.world c.in_ok-end-in-Section.ensures.voice ends c.in_ok-end-in-Section.ensures.ok
 
 pub loop-reader-preserved : goal.loop-reader-preserved
 loop-reader-preserved g c =
@@ -99,7 +99,7 @@ returns-in-End-clause-plays g c =
     let plays = c.loop-reader.invariant.plays in
     let w = moved _ _ _ _ _ _ plays.1 c.in_ok-put_before_read.ensures.moved in
     let ended = rw c.in-End.is at (c.in_ok-advance.ensures.advances _ _ w.gone (split_all _ _ _ _ w _ _ _ _ plays.2)) in
-    play_ends _ _ _ _ _ _ _ _ _ _ w _ c.in_ok-end-in-End.ensures.roster c.in_ok-end-in-End.ensures.world c.in_ok-end-in-End.ensures.voice ended c.in_ok-end-in-End.ensures.ok
+    play_ends _ _ _ _ _ _ _ _ _ _ w _ c.in_ok-end-in-End.ensures.reader c.in_ok-end-in-End.ensures.world c.in_ok-end-in-End.ensures.voice ended c.in_ok-end-in-End.ensures.ok
 
 pub returns-in_err-push_str-clause-plays : goal.returns-in_err-push_str-clause-plays
 returns-in_err-push_str-clause-plays g c =

@@ -14,7 +14,7 @@ invariant-loop-reader g l = record {
       × Playing (g.S.Source.left l.fn.source) most_bytes l.reader (g.S.Source.left l.source) l.session all;
   behind : StandsBehind l.reader (g.S.Source.left l.fn.source) (g.S.Source.left l.source) (g.K.Sink.taken l.fn.sink) (g.K.Sink.taken l.sink);
   same : lines_of l.session.voice ≡ lines_of l.fn.session.voice;
-  ready : IsReady l.session.roster l.session.world l.session.voice;
+  ready : IsReady l.session.reader.roster l.session.world l.session.voice;
   reads : g.S.Source.faults l.fn.source ≤ g.S.Source.faults l.source;
   writes : g.K.Sink.faults l.fn.sink ≤ g.K.Sink.faults l.sink;
 }
