@@ -19,6 +19,12 @@ pub enum Kind {
 /// The state of a port that is down, or just came up (Linux's BR_STATE_DISABLED).
 pub const DISABLED: u8 = 0;
 
+/// The state of a port that neither learns nor forwards, but is on its way there (Linux's BR_STATE_LISTENING).
+pub const LISTENING: u8 = 1;
+
+/// The state of a port that learns and doesn't forward yet (Linux's BR_STATE_LEARNING).
+pub const LEARNING: u8 = 2;
+
 /// The state of a port that forwards frames (Linux's BR_STATE_FORWARDING).
 pub const FORWARDING: u8 = 3;
 

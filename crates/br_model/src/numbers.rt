@@ -34,6 +34,14 @@ impl Port {
     /// How many places a set of ports and a table by port have, from 0 on: as many at least as there are ports.
     pub const PLACES: usize = 256;
 
+    /// The port of a number that stands in the program, as in `Port::of::<3>()`.
+    pub fn of<const N: u8>() -> Port
+        requires { N ≤ last_port }
+        ensures { result ≡ N }
+    {
+        Port { number: N }
+    }
+
     /// `None` exactly above `LAST`.
     pub fn new(number: u8) -> Option<Port>
         ensures found { IsSome result ↔ (number ≤ last_port) }

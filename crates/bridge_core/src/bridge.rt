@@ -1,5 +1,5 @@
 //! The control plane: the accepted changes, and the reaction to an event.
-ghost use Rattle.std.specs.Prelude.{◌≡◌, ◌≤◌, ◌<◌, ◌+◌, ◌^◌, ◌++◌, ◌∷◌, [], List, length, option_map, true, false, None, Some, Ok, IfOk, IfSome, IsSome, vec_len, vec_capacity};
+ghost use Rattle.std.specs.Prelude.{◌≡◌, ◌≤◌, ◌<◌, ◌+◌, ◌^◌, ◌++◌, ◌∷◌, [], List, length, drop, option_map, true, false, None, Some, Ok, IfOk, IfSome, IsSome, vec_len, vec_capacity};
 ghost use Rattle.std.specs.List.{list_all};
 ghost use Rattle.br_model.specs.Control.Control.{first_control};
 ghost use Rattle.br_model.specs.Control.Course.{makes_all};
@@ -554,6 +554,14 @@ impl Bridge {
         ensures moment { option_map (λ e. e.updated) result ≡ get pair_cmp self.now.control.updated (vid, mac) }
     {
         self.state.addresses.entry(vid, mac)
+    }
+
+    /// The accepted changes behind the first `from` ones: with the `from` of a reaction, what it made and all since.
+    pub fn since(&self, from: usize) -> &[Change]
+        ensures { result.now ≡ drop from self.now.history }
+    {
+        let history = self.history();
+        &history[from.min(history.len())..]
     }
 
     /// The accepted changes in order.

@@ -6,11 +6,8 @@ ghost use Rattle.br_model.specs.Forward.Targets.{isolated};
 ghost use Rattle.chip_tables.specs.Flags.{row_has_flag};
 ghost use Rattle.chip_pipeline.specs.PortRows.{row_is_in};
 
-use br_model::change::{FORWARDING, Flags};
+use br_model::change::{FORWARDING, Flags, LEARNING};
 use chip_tables::PortRow;
-
-/// The state of a port that learns and doesn't forward yet (Linux's BR_STATE_LEARNING).
-const LEARNING: u8 = 2;
 
 /// Whether the port is up and forwards.
 pub fn forwards(row: &PortRow) -> bool

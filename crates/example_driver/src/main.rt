@@ -37,9 +37,6 @@ impl Log {
 }
 
 impl SwitchOps for Log {
-    // Its chip is that of domain 1.
-    ghost domain = { λ log. 1 };
-
     // All that it was told comes to this table.
     ghost means = { λ domains log table. table ≡ fold (λ table n. after_told table (change_of n)) start log.told.items };
 
@@ -74,7 +71,7 @@ fn obey(
 ) -> Result<(), EventFault> {
     let reaction = bridge.react(alloc, &Event::Cmd(command))?;
     let edition = bridge.domains().edition();
-    for change in bridge.history().iter().skip(reaction.from) {
+    for change in bridge.since(reaction.from) {
         log.told.reserve(1)?;
         tell(log, change, edition);
     }
@@ -118,9 +115,7 @@ fn commands(port: Port) -> [(&'static str, Command); 5] {
 }
 
 fn main(rt: HostRuntime) -> io::Result<()> {
-    let Some(port) = Port::new(1) else {
-        return Ok(());
-    };
+    let port = Port::of::<1>();
     let alloc = rt.alloc();
     // In this edition the queue has the members of groups, too.
     let mut domains = Domains::make().with_edition(Edition::Two);

@@ -10,11 +10,11 @@ use br_model::domains::Domains;
 use br_model::numbers::{Dom, Mac, Port, Vid};
 use br_model::steps::{Command, Event};
 use br_model::transcript::Line;
-use plane_core::{NoMemory, Plane, TurnFault};
-use std::alloc::{AllocError, Global};
+use plane_core::{NoMemory, Plane};
+use std::alloc::Global;
 use std::io;
 use std::sync::Wait;
-use table_publish::{Board, Seat};
+use table_publish::Seat;
 use transcript_lines::{Lines, Row};
 
 /// From 02:00:00:00:00:0a to 02:00:00:00:00:0c, with nothing in it.
@@ -64,7 +64,7 @@ fn steps<R: Wait>(
     seat: &mut Seat,
     ports: [Port; 3],
     lines: &mut Lines,
-) -> Result<(), TurnFault>
+) -> Result<(), NoMemory>
     requires { seat.old.board ≡ plane.old.board }
 {
     let [a, b, c] = ports;
@@ -74,10 +74,8 @@ fn steps<R: Wait>(
     obey(alloc, plane, station_at(c), lines)?;
     plane.publish_to(rt, alloc, lines)?;
     send(alloc, plane, seat, a, lines)?;
-    let update = plane.update(plane.applied(Dom::CHIP));
-    plane.turn_to(Dom::CHIP, update, lines)?;
-    send(alloc, plane, seat, a, lines)?;
-    Ok(())
+    plane.turn_next(Dom::CHIP, lines)?;
+    send(alloc, plane, seat, a, lines)
 }
 
 fn tell(rt: &impl Print, lines: &Lines) -> io::Result<()> {
@@ -101,23 +99,19 @@ fn tell(rt: &impl Print, lines: &Lines) -> io::Result<()> {
 }
 
 fn main(rt: HostRuntime) -> io::Result<()> {
-    let (Some(a), Some(b), Some(c)) = (Port::new(1), Port::new(2), Port::new(3)) else {
-        return Ok(());
-    };
+    let (a, b, c) = (Port::of::<1>(), Port::of::<2>(), Port::of::<3>());
     let alloc = rt.alloc();
     let mut domains = Domains::make();
     domains.set(a, Dom::CHIP);
     domains.set(b, Dom::CHIP);
     domains.set(c, Dom::SOFTWARE);
-    let (board, mut seats) = Board::make(&rt, alloc, &domains, 1)?;
+    let (mut plane, mut seats) = Plane::with_seats(&rt, alloc, domains, Mac::FIRST_OWN, 1)?;
     let Some(mut seat) = seats.next() else {
         unreachable!();
     };
-    let mut plane = Plane::make(&rt, alloc, domains, Mac::FIRST_OWN, board)?;
     let mut lines = Lines::new(alloc);
     let done = steps(&rt, alloc, &mut plane, &mut seat, [a, b, c], &mut lines);
     plane.end(&rt);
-    // With the update that is next, a turn fails for want of memory alone.
-    done.map_err(|_| AllocError)?;
+    done?;
     tell(&rt, &lines)
 }

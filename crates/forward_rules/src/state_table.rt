@@ -7,13 +7,10 @@ ghost use Rattle.br_model.specs.Data.Maps.{get, put, without};
 ghost use Rattle.forward_rules.specs.PortSets.{ArePorts, in_state};
 
 use crate::place::place_in;
-use br_model::change::FORWARDING;
+use br_model::change::{FORWARDING, LEARNING};
 use br_model::numbers::Port;
 use port_sets::Ports;
 use std::marker::Model;
-
-/// The state of a port that learns and doesn't forward yet (Linux's BR_STATE_LEARNING).
-const LEARNING: u8 = 2;
 
 /// The state of each port that has one, seen as the list of pairs of a port and its state, ascending by port.
 #[derive(Drop)]

@@ -7,7 +7,7 @@ use Rattle.br_model.specs.declared.domains.Edition.{Edition}
 use Rattle.br_model.specs.Table.Change.{deferred, is_of_address}
 use Rattle.br_model.specs.Table.Table.{Table, apply}
 use Rattle.switchdev_notify.specs.declared.notice.Notice.{Notice}
-use Rattle.switchdev_notify.specs.Notices.{after, after_told, change_of, told_in, unless_deferred, Takes, TakesTold}
+use Rattle.switchdev_notify.specs.Notices.{after, after_told, change_of, told_in, unless_deferred, Takes}
 
 unless_as : (edition : Edition) (c : Change) → unless_deferred edition (if is_of_address c then None else Some c) ≡ (if deferred edition c then None else Some c)
 unless_as edition (AddrPut vid mac port kind) = refl
@@ -18,11 +18,11 @@ module _ (edition : Edition) (c : Change) (n : Notice) (tells : change_of n ≡ 
   told_as = ap (unless_deferred edition) tells ∙ unless_as edition c
 
   pub asked : (takes : Change → Type 0) → (deferred edition c ≡ false → takes c) → Takes takes edition n
-  asked takes h = subst (TakesTold takes) (sym told_as) (by (deferred edition c) h)
+  asked takes h d tells = by (deferred edition c) h (sym told_as ∙ tells)
     where
-      by : (b : Bool) → (b ≡ false → takes c) → TakesTold takes (if b then None else Some c)
-      by true f = tt
-      by false f = f refl
+      by : (b : Bool) → (b ≡ false → takes c) → (if b then None else Some c) ≡ Some d → takes d
+      by true f e = absurd (cc)
+      by false f e = let same : c ≡ d = cc in subst takes same (f refl)
 
   pub told : (t : Table) → after edition t n ≡ (if deferred edition c then t else apply t c)
   told t = ap (after_told t) told_as ∙ by (deferred edition c)

@@ -5,10 +5,11 @@ ghost use Rattle.br_model.specs.declared.frame.Act.{Act};
 ghost use Rattle.br_model.specs.declared.frame.McastMsg.{McastMsg};
 ghost use Rattle.br_model.specs.Wire.Messages.{RecordsStand};
 ghost use Rattle.br_model.specs.Wire.Records.{act_of, act_on, acts, acts_of, record_fits, records_fit};
+ghost use Rattle.igmp_mld.specs.Said.{acts_said};
 
 use crate::numbers::two_at;
 use crate::records::{group_at, record_length};
-use br_model::frame::Act;
+use br_model::frame::{Act, McastMsg};
 use br_model::group::Group;
 use std::marker::Model;
 
@@ -42,6 +43,22 @@ impl<'a> Records<'a> {
             six,
             left: count,
             rest: &b[first..],
+        }
+    }
+
+    /// The records of the message that `classify` answers for these bytes: none where it is of another kind.
+    pub fn said_by(b: &'a [u8], message: &McastMsg) -> Records<'a>
+        requires { RecordsStand b.now message.now }
+        ensures { result ≡ acts_said b.now message.now }
+    {
+        match *message {
+            McastMsg::Records { six, first, count } => Records::of(b, six, first, count),
+            McastMsg::Plain
+            | McastMsg::Payload(_)
+            | McastMsg::Query { .. }
+            | McastMsg::Report(_)
+            | McastMsg::Leave(_)
+            | McastMsg::Unrecognized => Records::of(b, false, 0, 0),
         }
     }
 }

@@ -7,5 +7,4 @@ pub mod Chips
 pub mod Telling
 pub mod Drains
 pub mod Loops
-pub mod Does
 pub mod Standing

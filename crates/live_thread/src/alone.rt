@@ -10,7 +10,7 @@ ghost use Rattle.br_model.specs.Text.LineForms.{comes_by_line};
 ghost use Rattle.br_model.specs.Text.Scenario.{Scenario};
 ghost use Rattle.plane_core.specs.Planes.{IsNamed};
 ghost use Rattle.plane_record.specs.Pasts.{acted, published_after};
-ghost use Rattle.plane_record.specs.Pasts.{event_step, world_of};
+ghost use Rattle.plane_record.specs.Pasts.{event_step};
 ghost use Rattle.live_thread.specs.Taking.{Takes};
 
 use crate::NoMemory;
@@ -24,7 +24,7 @@ use plane_core::Plane;
 use plane_record::{Book, Ran};
 use std::alloc::Global;
 use std::sync::Wait;
-use table_publish::{Board, Seat};
+use table_publish::Seat;
 
 /// What a run on one thread comes to.
 #[derive(Drop)]
@@ -175,21 +175,6 @@ pub fn take_alone<R: Wait>(
     drain(rt, alloc, ran, seat, domains)
 }
 
-/// The last line of a run that ends here.
-pub fn end_line(ran: &Ran) -> Line
-    ensures { result ≡ end_line (world_of ran.now) }
-{
-    let plane = ran.plane();
-    // law: what holds of every plane
-    plane.stands();
-    Line::End {
-        steps: plane.steps(),
-        changes: plane.history().len() as u32,
-        pending: plane.pending_of_all(),
-        waiting: (plane.waiting() + plane.held()) as u32,
-    }
-}
-
 /// Takes a scenario's steps as a live run of a bridge of its own, on these domains and with this address.
 pub fn run_alone<R: Wait>(
     rt: &R,
@@ -205,14 +190,14 @@ pub fn run_alone<R: Wait>(
     ensures end { IfOk result (λ t. t.end ≡ end_line (run (record { domains = domains; own = own }) t.book.steps).0) }
     ensures by_line { IfOk result (λ t. list_all (comes_by_line true (chip_domains domains)) t.book.steps ≡ true) }
 {
-    let (board, mut seats) = Board::make(rt, alloc, &domains, 1)?;
+    let chips = domains.again();
+    let (plane, mut seats) = Plane::with_seats(rt, alloc, domains, own, 1)?;
     let Some(mut seat) = seats.next() else {
         unreachable!();
     };
-    let chips = domains.again();
-    let mut ran = Ran::make(alloc, Plane::make(rt, alloc, domains, own, board)?);
+    let mut ran = Ran::make(alloc, plane);
     let taken = take_alone(rt, alloc, &mut ran, &mut seat, &chips, steps);
-    let end = end_line(&ran);
+    let end = ran.plane().end_line();
     let book = ran.book(rt);
     taken?;
     Ok(Taken { book, end })

@@ -1,8 +1,7 @@
 //! What is left to do at the end of a run is done.
 ghost use Rattle.std.specs.Prelude.{◌≡◌, ◌≢◌, ℕ, [], true, false, OnOk, Some};
-ghost use Rattle.br_model.specs.declared.steps.Step.TheVariants.{Turn};
 ghost use Rattle.br_model.specs.Table.Domains.{has_chip};
-ghost use Rattle.plane_record.specs.Pasts.{after, world_of};
+ghost use Rattle.plane_record.specs.Pasts.{world_of};
 ghost use Rattle.live_thread.specs.Draining.{Drained, Drains, HasTold, HasTurned, Keeps};
 ghost use Rattle.live_thread.specs.Worlds.{IsIdle};
 
@@ -10,25 +9,10 @@ use crate::NoMemory;
 use br_model::domains::Domains;
 use br_model::numbers::Dom;
 use learn_report::Report;
-use plane_core::TurnFault;
 use plane_record::Ran;
-use std::alloc::{AllocError, Global};
+use std::alloc::Global;
 use std::sync::Wait;
 use table_publish::Seat;
-
-/// The chip of the domain applies the update whose turn it is.
-pub(crate) fn turn(alloc: Global, ran: &mut Ran, dom: Dom) -> Result<(), NoMemory>
-    requires { has_chip ran.old.setup.domains dom ≡ true }
-    ensures { OnOk result (ran.new ≡ after ran.old (Turn dom)) }
-{
-    let plane = ran.plane();
-    let update = plane.update(plane.applied(dom));
-    match ran.turn(alloc, dom, update) {
-        Ok(_lines) => Ok(()),
-        Err(TurnFault::NoMemory) => Err(AllocError),
-        Err(TurnFault::OutOfTurn { .. }) => unreachable!(),
-    }
-}
 
 /// Serves the frames that wait.
 fn serve_all(alloc: Global, ran: &mut Ran, seat: &mut Seat) -> Result<(), NoMemory>
@@ -84,7 +68,7 @@ fn turn_all(alloc: Global, ran: &mut Ran, dom: Dom) -> Result<(), NoMemory>
     ensures others { OnOk result ((d : ℕ) → d ≢ dom → HasTurned ran.old d → HasTurned ran.new d) }
 {
     while ran.plane().pending(dom) > 0 {
-        turn(alloc, ran, dom)?;
+        ran.turn_next(alloc, dom)?;
     }
     Ok(())
 }

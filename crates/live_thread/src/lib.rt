@@ -5,6 +5,6 @@ mod alone;
 pub mod drain;
 mod opening;
 
-pub use alone::{Taken, end_line, run_alone, take_alone};
+pub use alone::{Taken, run_alone, take_alone};
 pub use br_model::NoMemory;
 pub use opening::open;

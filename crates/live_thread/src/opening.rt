@@ -1,8 +1,6 @@
 //! The steps before a scenario's first frame, done as they are given.
-ghost use Rattle.std.specs.Prelude.{◌≡◌, ◌≤◌, [], length, drop, true, false, None, IfOk, OnOk};
+ghost use Rattle.std.specs.Prelude.{◌≡◌, ◌≤◌, [], length, drop, true, false, IfOk, OnOk};
 ghost use Rattle.std.specs.List.{list_all};
-ghost use Rattle.br_model.specs.declared.steps.Step.TheVariants.{Post};
-ghost use Rattle.br_model.specs.Plane.Serving.{held_with};
 ghost use Rattle.br_model.specs.Program.LiveRun.{from_frame, until_frame};
 ghost use Rattle.br_model.specs.Table.Domains.{chip_domains};
 ghost use Rattle.br_model.specs.Text.LineForms.{comes_by_line};
@@ -11,42 +9,11 @@ ghost use Rattle.live_thread.specs.Taking.{behind};
 ghost use Rattle.live_thread.specs.Worlds.{IsIdle};
 
 use crate::NoMemory;
-use crate::drain::turn;
-use br_model::bytes::Bytes;
-use br_model::frame::Class;
-use br_model::numbers::Port;
 use br_model::steps::{Event, Step};
-use forward_rules::Verdict;
-use plane_core::Held;
 use plane_record::Ran;
-use port_sets::Ports;
-use std::alloc::{AllocError, Global};
+use std::alloc::Global;
 use std::sync::Wait;
-use table_publish::{Seat, Seen};
-
-/// A post of an id under which no frame is held is a refused step, whatever is posted.
-fn post_nothing(alloc: Global, ran: &mut Ran, id: u32) -> Result<(), NoMemory>
-    requires { held_with (world_of ran.old) id ≡ None }
-    ensures { OnOk result (ran.new ≡ after ran.old (Post id None)) }
-{
-    let held = Held {
-        id,
-        port: Port::HOST,
-        bytes: Bytes::of(Vec::new(alloc)),
-        mark: None,
-        floor: 0,
-    };
-    let verdict = Verdict {
-        class: Class::Drop,
-        vid: None,
-        ports: Ports::empty(),
-        untagged: Ports::empty(),
-    };
-    match ran.post(alloc, held, Seen { verdict, point: 0 }) {
-        Ok(_lines) => Ok(()),
-        Err(_) => Err(AllocError),
-    }
-}
+use table_publish::Seat;
 
 /// Does a step that a line of a scenario can give, where no frame is held.
 fn do_step<R: Wait>(
@@ -78,8 +45,13 @@ fn do_step<R: Wait>(
         Step::Hold => {
             ran.open_frame(alloc)?;
         }
-        Step::Post { id, .. } => post_nothing(alloc, ran, *id)?,
-        Step::Turn(dom) => turn(alloc, ran, *dom)?,
+        // None is held, so it is refused.
+        Step::Post { id, .. } => {
+            ran.post_floor(alloc, *id, None)?;
+        }
+        Step::Turn(dom) => {
+            ran.turn_next(alloc, *dom)?;
+        }
         Step::Report(dom) => {
             ran.report(alloc, *dom)?;
         }

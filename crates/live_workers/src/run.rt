@@ -23,7 +23,7 @@ use br_model::numbers::{Dom, Mac};
 use br_model::steps::Step;
 use live_book::{Remains, is_live};
 use live_thread::drain::drain;
-use live_thread::{Taken, end_line, open, run_alone};
+use live_thread::{Taken, open, run_alone};
 use plane_core::Plane;
 use plane_lock::{Chair, Queues, Ran, Shared};
 use port_workers::Gate;
@@ -31,7 +31,7 @@ use std::alloc::{AllocError, Global};
 use std::marker::Brand;
 use std::sync::{Mutex, Wait};
 use std::thread::Threads;
-use table_publish::{Board, Name, Seat, Seats};
+use table_publish::{Name, Seat, Seats};
 
 /// What is given to a run.
 #[derive(Drop)]
@@ -147,7 +147,7 @@ fn close<R: Wait>(
     let mut ran = ran;
     let mut seat = seat;
     let ended = end_run(rt, alloc, &mut ran, &mut seat, stop, given);
-    let end = end_line(&ran);
+    let end = ran.plane().end_line();
     let book = ran.book(rt);
     let Some(left) = ended? else {
         return Ok(None);
@@ -247,8 +247,7 @@ fn take_by_workers<R: Threads + Wait + Sync, G: Gate + Sync>(
     ensures { IfOk result (λ taken. IfSome taken (IsTaken (record { domains = domains.now; own = own }) steps.now)) }
 {
     let chips = chips_of(alloc, domains)?;
-    let (board, seats) = Board::make(rt, alloc, domains, workers + 1)?;
-    let plane = Plane::make(rt, alloc, domains.again(), own, board)?;
+    let (plane, seats) = Plane::with_seats(rt, alloc, domains.again(), own, workers + 1)?;
     let given = Given {
         domains,
         chips: chips.as_slice(),

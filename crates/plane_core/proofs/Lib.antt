@@ -3,4 +3,5 @@ pub mod Reacting
 pub mod Changing
 pub mod Stepping
 pub mod Calling
+pub mod Turning
 pub mod Entering

@@ -1,5 +1,5 @@
 //! The kernel's side of a bridge and its chips together: each call is one step of the world.
-ghost use Rattle.std.specs.Prelude.{◌≡◌, ℕ, ◌+◌, ◌<◌, ◌≤◌, ◌^◌, [], length, slice_get, true, None, Ok, Some, is_some, IfOk, OnErr, OnOk};
+ghost use Rattle.std.specs.Prelude.{◌≡◌, ℕ, ◌+◌, ◌<◌, ◌≤◌, ◌^◌, [], length, slice_get, true, None, Ok, Some, is_some, IfOk, IfNone, IfSome, OnErr, OnOk};
 ghost use Rattle.std.specs.Option.{option_map};
 ghost use Rattle.br_model.specs.declared.transcript.Line.TheVariants as line;
 ghost use Rattle.chip_pipeline.specs.Passed.{IsPass};
@@ -12,13 +12,13 @@ ghost use Rattle.br_model.specs.Wire.Messages.{message as message_of};
 ghost use Rattle.br_model.specs.Theorems.Invariants.{IsWorld};
 ghost use Rattle.br_model.specs.Plane.Chip.{Chip as ChipValue};
 ghost use Rattle.br_model.specs.Plane.Entering.{chip_of};
-ghost use Rattle.br_model.specs.Plane.Runs.{pending, pending_of};
+ghost use Rattle.br_model.specs.Plane.Runs.{end_line, pending, pending_of};
 ghost use Rattle.br_model.specs.Plane.Serving.{held_with};
-ghost use Rattle.br_model.specs.declared.steps.Step.TheVariants.{Rx, Serve, Hold, Post, Publish, Report, Sweep};
+ghost use Rattle.br_model.specs.declared.steps.Step.TheVariants.{Rx, Serve, Hold, Post, Publish, Report, Sweep, Turn};
 ghost use Rattle.br_model.specs.Plane.Steps.{world_step};
 ghost use Rattle.br_model.specs.Plane.World.{Holding as HoldingOf, chip_at, first_world, table_of_chip};
 ghost use Rattle.table_publish.specs.Object.{Begins, IsPublished, first_object};
-ghost use Rattle.plane_core.specs.Planes.{Accepts, DecidesFloor, DecidesOldest, IsCopy, IsDecidedBy, IsDecision, IsNamed, IsOnChip, Posted, PostedTo, Steps, Turned, TurnedTo, arrival_by, published_in, ticket_of};
+ghost use Rattle.plane_core.specs.Planes.{Accepts, DecidesFloor, DecidesOldest, IsCopy, IsDecidedBy, IsDecision, IsNamed, IsOnChip, NotTurned, Posted, PostedTo, Steps, Turned, TurnedTo, arrival_by, next_ticket, published_in, ticket_of};
 ghost use Rattle.plane_parts.specs.Added.{Added, KeepsMark};
 ghost use Rattle.transcript_lines.specs.Rows.{IsPlain};
 ghost use Rattle.plane_parts.specs.Arrivals.{IsArrival};
@@ -49,7 +49,7 @@ use plane_parts::{Arrival, Frames, make_room, send};
 use std::alloc::{AllocError, Global};
 use std::marker::Model;
 use std::sync::Wait;
-use table_publish::{Board, Seat, Seen};
+use table_publish::{Board, Seat, Seats, Seen};
 use transcript_lines::Lines;
 
 /// A bridge with its chips and its published tables, the frames on their way to software, and how many steps there were. Each step is
@@ -153,6 +153,24 @@ impl Plane {
                 Err(error)
             }
         }
+    }
+
+    /// A plane in which nothing has happened, and the seats at its board: the board is made, and then the plane over it.
+    pub fn with_seats<R: Wait>(
+        rt: &R,
+        alloc: Global,
+        d: Domains,
+        own: Mac,
+        count: usize,
+    ) -> Result<(Plane, Seats), NoMemory>
+        requires some { 0 < count }
+        requires few { count ≤ 17 }
+        ensures plane { IfOk result (λ t. t.0 ≡ record { world = first_world (record { domains = d; own = own }); board = t.1.board }) }
+        ensures seats { IfOk result (λ t. t.1.left ≡ count) }
+    {
+        let (board, seats) = Board::make(rt, alloc, &d, count)?;
+        let plane = Plane::make(rt, alloc, d, own, board)?;
+        Ok((plane, seats))
     }
 
     /// Ends the plane and its board.
@@ -342,22 +360,51 @@ impl Plane {
         ensures turned { TurnedTo self.old self.new d u lines.old.lines lines.new.lines result }
         ensures marked { OnOk result (KeepsMark lines.old lines.new) }
     {
-        let step = next(self.steps)?;
+        match self.out_of_turn(d, &u) {
+            Some(fault) => Err(fault),
+            None => {
+                self.turn_next(d, lines)?;
+                Ok(())
+            }
+        }
+    }
+
+    /// Why it isn't the turn of this update, where another one is next.
+    fn out_of_turn(&self, d: Dom, u: &Option<Update>) -> Option<TurnFault>
+        requires { has_chip self.now.world.setup.domains d ≡ true }
+        ensures some { IfSome result (λ fault. NotTurned self.now self.now d u.now fault) }
+        ensures none { IfNone result (IfSome (next_ticket self.now.world (chip_at self.now.world d)) (λ ticket. ticket_of u.now ≡ Some ticket)) }
+    {
         let Some(next) = self.sides.next_update(d) else {
+            return None;
+        };
+        let got = ticket_of(u);
+        if got != Some(next.ticket) {
+            return Some(TurnFault::OutOfTurn {
+                expected: next.ticket,
+                got,
+            });
+        }
+        None
+    }
+
+    /// The chip of the domain applies the deferred change that is next there. The lines of the step are added.
+    pub fn turn_next(&mut self, d: Dom, lines: &mut Lines) -> Result<(), NoMemory>
+        requires { has_chip self.old.world.setup.domains d ≡ true }
+        ensures ok { OnOk result (Added (Steps self.old self.new (Turn d)) lines.old.lines lines.new.lines) }
+        ensures err { OnErr result (self.new ≡ self.old) }
+        ensures lines { OnErr result (lines.new.lines ≡ lines.old.lines) }
+        ensures marked { OnOk result (KeepsMark lines.old lines.new) }
+    {
+        let step = next(self.steps)?;
+        let Some(update) = self.sides.next_update(d) else {
             let refusal = Refusal::NothingPending;
             lines.push(Line::Refused { step, refusal })?;
             self.steps = step;
             return Ok(());
         };
-        let got = ticket_of(&u);
-        if got != Some(next.ticket) {
-            return Err(TurnFault::OutOfTurn {
-                expected: next.ticket,
-                got,
-            });
-        }
         lines.reserve(1, 0)?;
-        self.sides.turn(d, &next)?;
+        self.sides.turn(d, &update)?;
         lines.push_reserved(Line::Done { step, changes: 0 });
         self.steps = step;
         Ok(())
@@ -760,6 +807,20 @@ impl Plane {
         ensures { result ≡ self.now.world.steps }
     {
         self.steps
+    }
+
+    /// The last line of the transcript of a run that ends here.
+    pub fn end_line(&self) -> Line
+        ensures { result ≡ end_line self.now.world }
+    {
+        // law: what holds of every plane
+        self.stands();
+        Line::End {
+            steps: self.steps(),
+            changes: self.history().len() as u32,
+            pending: self.pending_of_all(),
+            waiting: (self.waiting() + self.held()) as u32,
+        }
     }
 
     /// The deferred change of the history with this ticket, found at once.

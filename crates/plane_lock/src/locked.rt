@@ -29,7 +29,7 @@ use br_model::numbers::{Dom, Port};
 use br_model::steps::Event;
 use deferred_queue::Poster;
 use learn_report::Report;
-use plane_core::{Entered, Held, Plane, PostFault, TurnFault};
+use plane_core::{Entered, Held, Plane, PostFault};
 use plane_record::Ran;
 use std::alloc::{AllocError, Global};
 use std::marker::{Model, PhantomData};
@@ -194,25 +194,15 @@ impl<N: Name> Locked<N> {
         settle(rt, alloc, &mut self.ran, &mut self.posters, changes, lines)
     }
 
-    /// The chip of the domain applies the next deferred change. Where this update isn't the one, the history names it.
-    pub fn turn(&mut self, alloc: Global, d: Dom, u: Update) -> Result<Lines, NoMemory>
+    /// The chip of the domain applies the next deferred change, which the history names: an update that came late or twice asks for no
+    /// other one.
+    pub fn turn(&mut self, alloc: Global, d: Dom, _u: Update) -> Result<Lines, NoMemory>
         requires { has_chip N.board.domains d ≡ true }
         ensures ok { OnOk result (self.new ≡ after self.old (Turn d)) }
         ensures lines { IfOk result (λ lines. lines.lines ≡ said_by self.old (Turn d)) }
         ensures err { OnErr result (self.new ≡ self.old) }
     {
-        let plane = self.ran.plane();
-        let applied = plane.applied(d);
-        let next = if u.ticket == applied {
-            Some(u)
-        } else {
-            plane.update(applied)
-        };
-        match self.ran.turn(alloc, d, next) {
-            Ok(lines) => Ok(lines),
-            Err(TurnFault::NoMemory) => Err(AllocError),
-            Err(TurnFault::OutOfTurn { .. }) => unreachable!(),
-        }
+        self.ran.turn_next(alloc, d)
     }
 
     /// How many frames wait.

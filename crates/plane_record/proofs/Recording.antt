@@ -112,6 +112,28 @@ copied-said p q ss s ls ls' marked more old h was a at copied =
     append_cancel_left ls more a.lines (ap (λ (l : List Line). l ++ more) (sym at) ∙ (sym copied ∙ a.added))
     ∙ (sym (ap (λ (x : Stepped). x.1) a.so.world) ∙ ap (λ (st : PlaneState). (world_step st.world s).1) (stood p ss ls old h was))
 
+-- What a step comes to that was written down: the plane with its record, the past that contracts see, and the lines that are answered.
+pub record Recorded (q : PlaneState) (ss' : List Step) (s : Step) (ls' said : List Line) (old : Past) : Type 0 where
+  pub ran : IsRan q ss' ls'
+  pub reached : past q ss' ≡ after old s
+  pub said : said ≡ said_by old s
+
+-- from what is ready before the plane's call, the call, and what is written down after it
+pub recorded : (p q : PlaneState) (ss ready ss' : List Step) (s : Step) (first marked mid last : Listed) (said : List Line) (old : Past)
+    → IsRan p ss first.lines → past p ss ≡ old
+    → ready ≡ ss → marked.lines ≡ first.lines → marked.marked ≡ first.lines
+    → Added (Steps p q s) marked.lines mid.lines → KeepsMark marked mid
+    → ss' ≡ ready ++ s ∷ [] → last.lines ≡ mid.lines → mid.lines ≡ mid.marked ++ said
+    → comes_by_line true (chip_domains p.world.setup.domains) s ≡ true → Recorded q ss' s last.lines said old
+recorded p q ss ready ss' s first marked mid last said old h was kept same mark a keeps more on copied by =
+    let b : Added (Steps p q s) first.lines last.lines = carried (Steps p q s) first.lines marked.lines mid.lines last.lines same on a in
+    let is : ss' ≡ ss ++ s ∷ [] = more ∙ ap (λ (l : List Step). l ++ s ∷ []) kept in
+    record {
+      ran = ran-more p q ss ss' s first.lines last.lines h b is by;
+      reached = past-more p q ss ss' s first.lines last.lines h b is old was;
+      said = copied-said p q ss s first.lines last.lines mid.marked said old h was b (mark-at first marked mid mark same keeps) (on ∙ copied);
+    }
+
 pub ran-first : (p : PlaneState) → p.world ≡ first_world p.world.setup → IsRan p [] []
 ran-first p e = (run_none p.world.setup ∙ ap (λ (w : World). (w, [])) (sym e), refl)
 

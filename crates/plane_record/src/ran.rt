@@ -1,5 +1,5 @@
 //! A plane with the book that led to it.
-ghost use Rattle.std.specs.Prelude.{◌≡◌, ◌≤◌, [], IfOk, IfErr, IfSome, OnErr, OnOk, Some, true};
+ghost use Rattle.std.specs.Prelude.{◌≡◌, ◌<◌, ◌≤◌, ◌++◌, ◌∷◌, [], vec_len, vec_capacity, IfOk, IfErr, IfSome, None, OnErr, OnOk, Some, true};
 ghost use Rattle.std.specs.List.{list_all};
 ghost use Rattle.std.specs.Option.{option_map};
 ghost use Rattle.br_model.specs.declared.steps.Step.TheVariants as steps;
@@ -8,7 +8,7 @@ ghost use Rattle.br_model.specs.Plane.World.{Holding as HoldingOf, chip_at, firs
 ghost use Rattle.br_model.specs.Table.Domains.{chip_domains, has_chip};
 ghost use Rattle.br_model.specs.Text.LineForms.{comes_by_line};
 ghost use Rattle.br_model.specs.Wire.Frames.{frame as frame_of};
-ghost use Rattle.plane_core.specs.Planes.{IsCopy, IsDecidedBy, IsDecision, IsNamed, NotPosted, NotTurned, next_ticket, published_in, ticket_of};
+ghost use Rattle.plane_core.specs.Planes.{DecidesFloor, IsCopy, IsDecidedBy, IsDecision, IsNamed, NotPosted, NotTurned, next_ticket, published_in, ticket_of};
 ghost use Rattle.plane_core.specs.Seats.{IsTold};
 ghost use Rattle.plane_core.specs.Shown.{opened, shown_by};
 ghost use Rattle.table_publish.specs.Object.{Begins, IsPublished};
@@ -23,6 +23,7 @@ use br_model::change::Update;
 use br_model::numbers::{Dom, Port};
 use br_model::steps::{Event, Refusal, Step};
 use br_model::transcript::Line;
+use forward_rules::Verdict;
 use lists::Items;
 use plane_core::{Entered, Held, Plane, PostFault, TurnFault};
 use std::alloc::Global;
@@ -82,6 +83,28 @@ fn step_of(e: &Event) -> Step
     }
 }
 
+/// Before a step: the mark is set behind the lines so far, and there is room for the step.
+fn make_ready(steps: &mut Vec<Step>, lines: &mut Lines) -> Result<(), NoMemory>
+    ensures steps { steps.new.items ≡ steps.old.items }
+    ensures room { OnOk result (vec_len steps.new < vec_capacity steps.new) }
+    ensures lines { lines.new.lines ≡ lines.old.lines }
+    ensures marked { lines.new.marked ≡ lines.old.lines }
+{
+    lines.mark();
+    steps.reserve(1)
+}
+
+/// The step that was taken is written down, where there is room for it. The answer is a copy of its lines, those behind the mark.
+fn write_down(alloc: Global, steps: &mut Vec<Step>, lines: &mut Lines, step: Step) -> Lines
+    requires { vec_len steps.old < vec_capacity steps.old }
+    ensures steps { steps.new.items ≡ steps.old.items ++ step ∷ [] }
+    ensures lines { lines.new.lines ≡ lines.old.lines }
+    ensures said { lines.old.lines ≡ lines.old.marked ++ result.lines }
+{
+    steps.push_reserved(step);
+    lines.copy_out(alloc)
+}
+
 /// The line of a frame that is held, or of the refusal.
 fn held_line(held: &Option<Held>, step: u32) -> Line
     ensures line { result ≡ held_line (option_map shown_by held.now) step }
@@ -132,13 +155,12 @@ impl Ran {
         ensures pass { IfOk result (λ e. IsDecidedBy (world_of self.old) p b.now (frame_of b.now) e.pass) }
         ensures err { OnErr result (self.new ≡ self.old) }
     {
-        self.steps.reserve(1)?;
+        make_ready(&mut self.steps, &mut self.lines)?;
         let bytes = Bytes::copy_of(alloc, b)?;
         let frame = Bytes::copy_of(alloc, b)?;
-        self.lines.mark();
         let pass = self.plane.enter_to(p, frame, &mut self.lines)?;
-        self.steps.push_reserved(Step::Rx { port: p, bytes });
-        let lines = self.lines.copy_out(alloc);
+        let step = Step::Rx { port: p, bytes };
+        let lines = write_down(alloc, &mut self.steps, &mut self.lines, step);
         Ok(Entered { lines, pass })
     }
 
@@ -149,12 +171,10 @@ impl Ran {
         ensures lines { IfOk result (λ lines. lines.lines ≡ said_by self.old (event_step e.now)) }
         ensures err { OnErr result (self.new ≡ self.old) }
     {
-        self.steps.reserve(1)?;
+        make_ready(&mut self.steps, &mut self.lines)?;
         let step = step_of(e);
-        self.lines.mark();
         self.plane.accept_to(alloc, e, &mut self.lines)?;
-        self.steps.push_reserved(step);
-        Ok(self.lines.copy_out(alloc))
+        Ok(write_down(alloc, &mut self.steps, &mut self.lines, step))
     }
 
     /// The chip of the domain applies the next deferred change, which the update names by its ticket.
@@ -166,11 +186,23 @@ impl Ran {
         ensures err { OnErr result (self.new ≡ self.old) }
         ensures fault { IfErr result (NotTurned (state_of self.old) (state_of self.new) d u) }
     {
-        self.steps.reserve(1)?;
-        self.lines.mark();
+        make_ready(&mut self.steps, &mut self.lines)?;
         self.plane.turn_to(d, u, &mut self.lines)?;
-        self.steps.push_reserved(Step::Turn(d));
-        Ok(self.lines.copy_out(alloc))
+        let step = Step::Turn(d);
+        Ok(write_down(alloc, &mut self.steps, &mut self.lines, step))
+    }
+
+    /// The chip of the domain applies the deferred change that is next there.
+    pub fn turn_next(&mut self, alloc: Global, d: Dom) -> Result<Lines, NoMemory>
+        requires { has_chip self.old.setup.domains d ≡ true }
+        ensures ok { OnOk result (self.new ≡ after self.old (steps.Turn d)) }
+        ensures lines { IfOk result (λ lines. lines.lines ≡ said_by self.old (steps.Turn d)) }
+        ensures err { OnErr result (self.new ≡ self.old) }
+    {
+        make_ready(&mut self.steps, &mut self.lines)?;
+        self.plane.turn_next(d, &mut self.lines)?;
+        let step = Step::Turn(d);
+        Ok(write_down(alloc, &mut self.steps, &mut self.lines, step))
     }
 
     /// The oldest frame that waits is held, and the answer is a copy of it. `None` exactly where none waits, which is a refused step.
@@ -198,18 +230,36 @@ impl Ran {
         ensures err { OnErr result (self.new ≡ self.old) }
         ensures fault { IfErr result (NotPosted (state_of self.old) (state_of self.new) h s) }
     {
-        if self.steps.reserve(1).is_err() {
+        if make_ready(&mut self.steps, &mut self.lines).is_err() {
             return Err(PostFault::NoMemory(h));
         }
         let id = h.id;
         let point = s.point;
         let held = self.plane.held();
-        self.lines.mark();
         self.plane.post_to(alloc, h, s, &mut self.lines)?;
         let is_released = self.plane.held() < held;
         let point = if is_released { Some(point) } else { None };
-        self.steps.push_reserved(Step::Post { id, point });
-        Ok(self.lines.copy_out(alloc))
+        let step = Step::Post { id, point };
+        Ok(write_down(alloc, &mut self.steps, &mut self.lines, step))
+    }
+
+    /// The frame that is held under this id is sent by the verdict of its floor. The step is refused where none is held.
+    pub fn post_floor(
+        &mut self,
+        alloc: Global,
+        id: u32,
+        verdict: Option<Verdict>,
+    ) -> Result<Lines, NoMemory>
+        requires { (x : HoldingOf) → held_with (world_of self.old) id ≡ Some x → DecidesFloor (world_of self.old) x verdict }
+        ensures ok { OnOk result (self.new ≡ after self.old (steps.Post id None)) }
+        ensures lines { IfOk result (λ lines. lines.lines ≡ said_by self.old (steps.Post id None)) }
+        ensures err { OnErr result (self.new ≡ self.old) }
+    {
+        make_ready(&mut self.steps, &mut self.lines)?;
+        self.plane
+            .post_floor_to(alloc, id, verdict, &mut self.lines)?;
+        let step = Step::Post { id, point: None };
+        Ok(write_down(alloc, &mut self.steps, &mut self.lines, step))
     }
 
     /// The oldest frame that waits is sent by what is published, of which the seat is told first.
@@ -223,11 +273,10 @@ impl Ran {
         ensures misses { s.old.misses ≤ s.new.misses }
         ensures seat { OnOk result (IsTold s.old s.new (published_in (world_of self.old))) }
     {
-        self.steps.reserve(1)?;
-        self.lines.mark();
+        make_ready(&mut self.steps, &mut self.lines)?;
         self.plane.serve_to(alloc, s, &mut self.lines)?;
-        self.steps.push_reserved(Step::Serve);
-        Ok(self.lines.copy_out(alloc))
+        let step = Step::Serve;
+        Ok(write_down(alloc, &mut self.steps, &mut self.lines, step))
     }
 
     /// The bridge is told the oldest report of the domain's chip.
@@ -237,11 +286,10 @@ impl Ran {
         ensures lines { IfOk result (λ lines. lines.lines ≡ said_by self.old (steps.Report d)) }
         ensures err { OnErr result (self.new ≡ self.old) }
     {
-        self.steps.reserve(1)?;
-        self.lines.mark();
+        make_ready(&mut self.steps, &mut self.lines)?;
         self.plane.report_to(alloc, d, &mut self.lines)?;
-        self.steps.push_reserved(Step::Report(d));
-        Ok(self.lines.copy_out(alloc))
+        let step = Step::Report(d);
+        Ok(write_down(alloc, &mut self.steps, &mut self.lines, step))
     }
 
     /// The bridge forgets the stations that the chip of the domain no longer sees.
@@ -251,11 +299,10 @@ impl Ran {
         ensures lines { IfOk result (λ lines. lines.lines ≡ said_by self.old (steps.Sweep d)) }
         ensures err { OnErr result (self.new ≡ self.old) }
     {
-        self.steps.reserve(1)?;
-        self.lines.mark();
+        make_ready(&mut self.steps, &mut self.lines)?;
         self.plane.sweep_to(alloc, d, &mut self.lines)?;
-        self.steps.push_reserved(Step::Sweep(d));
-        Ok(self.lines.copy_out(alloc))
+        let step = Step::Sweep(d);
+        Ok(write_down(alloc, &mut self.steps, &mut self.lines, step))
     }
 
     /// All accepted changes are published.
@@ -264,11 +311,10 @@ impl Ran {
         ensures lines { IfOk result (λ lines. lines.lines ≡ said_by self.old steps.Publish) }
         ensures err { OnErr result (self.new ≡ self.old) }
     {
-        self.steps.reserve(1)?;
-        self.lines.mark();
+        make_ready(&mut self.steps, &mut self.lines)?;
         self.plane.publish_to(rt, alloc, &mut self.lines)?;
-        self.steps.push_reserved(Step::Publish);
-        Ok(self.lines.copy_out(alloc))
+        let step = Step::Publish;
+        Ok(write_down(alloc, &mut self.steps, &mut self.lines, step))
     }
 
     /// The same, where nobody asks for the lines.

@@ -1,11 +1,9 @@
 -- A step of a plane is one of its world.
-use Rattle.std.proofs.Common.{ℕ, List, Option, Result, Ok, Err, OnOk, sym}
+use Rattle.std.proofs.Common.{List, Result, Ok, Err, OnOk, sym}
 use Rattle.br_model.specs.declared.steps.Step.{Step}
 use Rattle.br_model.specs.declared.transcript.Line.{Line}
 use Rattle.plane_parts.specs.Added.{Added}
-use Rattle.br_model.specs.declared.change.Update.{Update}
-use Rattle.br_model.specs.declared.steps.Step.TheVariants.{Turn}
-use Rattle.plane_core.specs.Planes.{PlaneState, Steps, TurnsBy}
+use Rattle.plane_core.specs.Planes.{PlaneState, Steps}
 use Rattle.run_world.specs.Worlds.{Tells}
 
 pub world_told : (old new : PlaneState) (step : Step) (before after : List Line) → Added (Steps old new step) before after → Added (Tells old.world step new.world) before after
@@ -15,6 +13,3 @@ pub world_tells : {A E : Type 0} (r : Result A E) (old new : PlaneState) (step :
     → OnOk r (Added (Tells old.world step new.world) before after)
 world_tells (Ok x) old new step before after a = world_told old new step before after a
 world_tells (Err e) old new step before after a = a
-
-pub turn_told : (old new : PlaneState) (dom : ℕ) (update : Option Update) (before after : List Line) → Added (TurnsBy old new dom update) before after → Added (Steps old new (Turn dom)) before after
-turn_told old new dom update before after a = record { lines = a.lines; so = a.so.0; added = a.added }

@@ -20,11 +20,11 @@ use br_model::domains::Domains;
 use br_model::numbers::{Dom, Mac, Port};
 use br_model::steps::{Command, Event, Step};
 use br_model::transcript::Line;
-use plane_core::{Plane, TurnFault};
+use plane_core::Plane;
 use std::alloc::{AllocError, Global};
 use std::marker::Model;
 use std::sync::Wait;
-use table_publish::{Board, Seat};
+use table_publish::Seat;
 use transcript_lines::Lines;
 
 /// The plane, the one seat at its board, and the decisions of held frames. The plane is large, so it stands on the heap: a call pays for the room of its locals.
@@ -46,21 +46,6 @@ impl Model for World {
     ghost view = { λ w. w.plane.value.world };
 
     ghost invariant = { λ w. (w.seat.board ≡ w.plane.value.board) × AreDecided w.plane.value.world w.verdicts };
-}
-
-/// The chip of the domain applies the update whose turn it is.
-#[tactic(auto, using(crate::proofs::Worlds::turn_told))]
-fn turn(plane: &mut Plane, dom: Dom, lines: &mut Lines) -> Result<(), NoMemory>
-    requires { has_chip plane.old.world.setup.domains dom ≡ true }
-    ensures ok { OnOk result (Added (IsStep plane.old plane.new (Turn dom)) lines.old.lines lines.new.lines) }
-    ensures err { OnErr result (plane.new ≡ plane.old) }
-{
-    let update = plane.update(plane.applied(dom));
-    match plane.turn_to(dom, update, lines) {
-        Ok(()) => Ok(()),
-        Err(TurnFault::NoMemory) => Err(AllocError),
-        Err(TurnFault::OutOfTurn { .. }) => unreachable!(),
-    }
 }
 
 /// All accepted changes.
@@ -151,11 +136,10 @@ impl World {
     ) -> Result<World, NoMemory>
         ensures { IfOk result (λ w. w ≡ first_world (record { domains = domains; own = own })) }
     {
-        let (board, mut seats) = Board::make(rt, alloc, &domains, 1)?;
+        let (plane, mut seats) = Plane::with_seats(rt, alloc, domains, own, 1)?;
         let Some(seat) = seats.next() else {
             unreachable!();
         };
-        let plane = Plane::make(rt, alloc, domains, own, board)?;
         match Box::new(alloc, plane) {
             Ok(plane) => Ok(World {
                 plane,
@@ -266,7 +250,7 @@ impl World {
     {
         // law: what holds of every plane
         self.plane.stands();
-        turn(&mut self.plane, dom, lines)
+        self.plane.turn_next(dom, lines)
     }
 
     /// The bridge is told the oldest report of the domain's chip. The lines of the step are added.
@@ -370,13 +354,6 @@ impl World {
     pub fn end_line(&self) -> Line
         ensures { result ≡ end_line self.now }
     {
-        // law: what holds of every plane
-        self.plane.stands();
-        Line::End {
-            steps: self.plane.steps(),
-            changes: self.changes(),
-            pending: self.pending(),
-            waiting: (self.plane.waiting() + self.plane.held()) as u32,
-        }
+        self.plane.end_line()
     }
 }

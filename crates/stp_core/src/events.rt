@@ -12,11 +12,12 @@ ghost use Rattle.stp_core.specs.Settling.{AreStates, follows_by, out_of, ranked,
 use crate::messages::Sent;
 use crate::parameters::Parameters;
 use crate::places::States;
-use crate::rules::{BLOCKING, Costing, FORWARDING, Keeping, Owing, Ranking};
+use crate::rules::{Costing, Keeping, Owing, Ranking};
 use crate::steps::{Before, nothing_sent};
 use crate::tree::TreeOut;
 use crate::vectors::{is_designated, is_root_port, keeps};
 use br_model::bpdu::BpduMsg;
+use br_model::change::{BLOCKING, FORWARDING};
 use br_model::numbers::Port;
 use br_model::tree::{ConfigMsg, Stamped, TreePort};
 use port_sets::Ports;

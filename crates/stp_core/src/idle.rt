@@ -8,10 +8,11 @@ ghost use Rattle.stp_core.specs.Places.{AreEmptyFrom, entries_at};
 
 use crate::parameters::Parameters;
 use crate::places::{Places, Slots};
-use crate::rules::{BLOCKING, LEARNING, LISTENING, is_active};
+use crate::rules::is_active;
 use crate::steps::{HELLO_TIME, TCN_TIME};
 use crate::timers::{HOLD_TIME, milliseconds};
 use crate::vectors::{Election, is_designated};
+use br_model::change::{BLOCKING, LEARNING, LISTENING};
 use br_model::tree::TreePort;
 
 // For what is never due.

@@ -15,19 +15,9 @@ use crate::parameters::Parameters;
 use crate::places::{Places, Rule, States, Test, ports_where};
 use crate::timers::{has_passed, is_aged_out, is_held};
 use crate::vectors::{Election, is_designated, is_root_port};
+use br_model::change::{BLOCKING, DISABLED, FORWARDING, LEARNING, LISTENING};
 use br_model::tree::{Stamped, TreePort};
 use port_sets::Ports;
-
-// The states of ports, by Linux's numbers.
-const DISABLED: u8 = 0;
-
-pub(crate) const LISTENING: u8 = 1;
-
-pub(crate) const LEARNING: u8 = 2;
-
-pub(crate) const FORWARDING: u8 = 3;
-
-pub(crate) const BLOCKING: u8 = 4;
 
 // Whether the port is the root port or designated.
 pub(crate) fn is_active(election: &Election, p: u8, x: &TreePort) -> bool

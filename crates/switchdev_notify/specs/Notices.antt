@@ -1,7 +1,7 @@
 -- What is told of a change, and the change that a notice tells.
 -- Source: the kernel's include/net/switchdev.h, Documentation/networking/switchdev.rst. That ports going up and down, queriers
 -- and the spanning tree are told by notices is this profile's.
-use Rattle.std.specs.Prelude.{false, if◌then◌else◌}
+use Rattle.std.specs.Prelude.{◌≡◌, false, if◌then◌else◌}
 use Rattle.std.specs.declared.option.Option.{Option}
 use Rattle.std.specs.declared.option.Option.TheVariants.{None, Some}
 use Rattle.br_model.specs.declared.change.Change.{Change}
@@ -74,10 +74,6 @@ after_told t (Some c) = apply t c
 abbrev pub after : Edition → Table → Notice → Table
 after edition t n = after_told t (told_in edition n)
 
--- what is asked of the change that is told
-abbrev pub TakesTold : (Change → Type 0) → Option Change → Type 0
-TakesTold takes None = Unit {0}
-TakesTold takes (Some c) = takes c
-
+-- The change that is told, if one is, is one that the driver takes.
 abbrev pub Takes : (Change → Type 0) → Edition → Notice → Type 0
-Takes takes edition n = TakesTold takes (told_in edition n)
+Takes takes edition n = (c : Change) → told_in edition n ≡ Some c → takes c

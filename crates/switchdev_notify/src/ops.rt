@@ -2,7 +2,7 @@
 ghost use Rattle.std.specs.Prelude.{◌≡◌, ℕ, List, [], ◌∷◌, ◌++◌, None};
 ghost use Rattle.br_model.specs.Table.Change.{deferred};
 ghost use Rattle.br_model.specs.Table.Cut.{synchronous_of};
-ghost use Rattle.br_model.specs.Table.Domains.{Domains};
+ghost use Rattle.br_model.specs.Table.Domains.{Domains, first_chip_domain};
 ghost use Rattle.br_model.specs.Table.Table.{Table, apply, table};
 ghost use Rattle.br_model.specs.declared.change.Change.{Change};
 ghost use Rattle.switchdev_notify.specs.Notices.{notice, change_added, change_removed, change_of_attribute, told_in, after, Takes};
@@ -13,16 +13,17 @@ use br_model::domains::Edition;
 /// A switch driver. The kernel's drivers answer a port's notifications by the functions that they pass to
 /// `switchdev_handle_port_obj_add`, `switchdev_handle_port_obj_del` and `switchdev_handle_port_attr_set`.
 ///
-/// These may refuse. Here a driver says beforehand what it `takes`.
+/// These may refuse. Here a driver says beforehand what it `takes`. One that says nothing of its three ghost members takes any change, and
+/// claims nothing of what it does.
 pub trait SwitchOps {
     /// The domain of the driver's chip, which stays.
-    ghost domain: { Self → ℕ };
+    ghost domain: { Self → ℕ } = { λ driver. first_chip_domain };
 
     /// Whether the driver has a chip with these domains do what the table says.
-    ghost means: { Domains → Self → Table → Type 0 };
+    ghost means: { Domains → Self → Table → Type 0 } = { λ domains driver table. Unit {0} };
 
     /// Whether the driver takes the change as it stands, such as whether its chip has room for it.
-    ghost takes: { Self → Change → Type 0 };
+    ghost takes: { Self → Change → Type 0 } = { λ driver change. Unit {0} };
 
     /// Answers `SWITCHDEV_PORT_OBJ_ADD`.
     fn obj_add(&mut self, o: &Object)

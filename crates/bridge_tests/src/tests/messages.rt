@@ -1,4 +1,4 @@
-use super::common::assert_same;
+use super::common::{assert_same, assert_that};
 use br_model::frame::{Act, McastMsg};
 use br_model::group::Group;
 use ether_frames::parse;
@@ -60,10 +60,9 @@ fn assert_message(rt: &impl Abort, alloc: Global, (what, digits, want): &Case) {
 fn assert_acts(rt: &impl Abort, alloc: Global, digits: &str, wanted: &[Act], what: &str) {
     let bytes = bytes_of(rt, alloc, digits);
     let head = parse(&bytes).expect(rt, "a frame");
-    let McastMsg::Records { six, first, count } = classify(&bytes, &head) else {
-        panic!(rt; "no records")
-    };
-    let mut acts = Records::of(&bytes, six, first, count);
+    let message = classify(&bytes, &head);
+    assert_that(rt, matches!(message, McastMsg::Records { .. }), what);
+    let mut acts = Records::said_by(&bytes, &message);
     for act in wanted {
         assert_same(rt, &acts.next(), &Some(*act), what);
     }

@@ -11,4 +11,4 @@ send-requires g c =
     ∙ sym c.in_ok-publish_to.ensures.ok.so.board))))
 
 pub send-requires-2 : goal.send-requires-2
-send-requires-2 g c = c.in_ok-send.ensures ∙ sym c.in_ok-turn_to.ensures.turned.so.0.board
+send-requires-2 g c = c.in_ok-send.ensures ∙ sym c.in_ok-turn_next.ensures.ok.so.board

@@ -14,10 +14,10 @@ take_alone-taken-requires-clause-by_line g c = ap (λ (d : Domains). list_all (c
 
 pub returns-clause-live : goal.returns-clause-live
 returns-clause-live g c =
-    let setup = ap (λ (p : Past). p.setup) c.make-ran.ensures ∙ ap (λ (s : PlaneState). s.world.setup) c.in_ok-make.ensures in
+    let setup = ap (λ (p : Past). p.setup) c.make-ran.ensures ∙ ap (λ (s : PlaneState). s.world.setup) c.in_ok-plane.ensures.plane in
     λ sc own given. ap (λ (l : List Step). is_live_run l sc) c.book-book.ensures.steps ∙ c.in_ok-taken.ensures.live sc (own ∙ sym setup) given
 
 pub returns-clause-by_line : goal.returns-clause-by_line
 returns-clause-by_line g c =
-    let setup = ap (λ (p : Past). p.setup) c.make-ran.ensures ∙ ap (λ (s : PlaneState). s.world.setup) c.in_ok-make.ensures in
+    let setup = ap (λ (p : Past). p.setup) c.make-ran.ensures ∙ ap (λ (s : PlaneState). s.world.setup) c.in_ok-plane.ensures.plane in
     ap (λ (s : Setup). list_all (comes_by_line true (chip_domains s.domains)) c.book-book.result.steps) (sym (c.in_ok-taken.ensures.setup ∙ setup)) ∙ c.book-book.ensures.by_line

@@ -11,15 +11,15 @@ loop-alloc-init c = turns_first c.args.ran.now c.args.dom
 pub pending-requires : goal.pending-requires
 pending-requires c = still_there c.args.ran.now c.loop-alloc.ran c.plane.result.now c.args.dom c.plane.ensures c.loop-alloc.invariant.drains c.requires.chip
 
-pub turn-requires : goal.turn-requires
-turn-requires c = still_has c.args.ran.now c.loop-alloc.ran c.args.dom c.loop-alloc.invariant.drains c.requires.chip
+pub turn_next-requires : goal.turn_next-requires
+turn_next-requires c = still_has c.args.ran.now c.loop-alloc.ran c.args.dom c.loop-alloc.invariant.drains c.requires.chip
 
 pub loop-alloc-preserved : goal.loop-alloc-preserved
-loop-alloc-preserved c = turns_more c.args.ran.now c.loop-alloc.ran c.turn.new.ran c.args.dom c.in_ok-turn.ensures c.loop-alloc.invariant
+loop-alloc-preserved c = turns_more c.args.ran.now c.loop-alloc.ran c.turn_next.new.self c.args.dom c.in_ok-turn_next.ensures.ok c.loop-alloc.invariant
 
 pub loop-alloc-smaller : goal.loop-alloc-smaller
 loop-alloc-smaller c =
-    subst (λ (p : Past). pending_left p c.args.dom < pending_left c.loop-alloc.ran c.args.dom) (sym c.in_ok-turn.ensures)
+    subst (λ (p : Past). pending_left p c.args.dom < pending_left c.loop-alloc.ran c.args.dom) (sym c.in_ok-turn_next.ensures.ok)
     (one_applied c.loop-alloc.ran c.args.dom c.pending.result (omega arith) (counted c.loop-alloc.ran c.plane.result.now c.args.dom c.pending.result c.plane.ensures c.pending.ensures))
 
 pub returns : goal.returns

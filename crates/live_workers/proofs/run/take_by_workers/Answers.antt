@@ -18,4 +18,4 @@ own_setup domains copy own plane run board same made begun =
 pub returns : goal.returns
 returns g c =
     subst (λ (s : Setup). IfOk c.take_named.result (λ taken. IfSome taken (IsTaken s c.args.steps.now)))
-    (own_setup c.args.domains.now c.again.result c.args.own c.in_ok-plane.plane c.make-3.result c.in_ok-board.board.board c.again.ensures c.in_ok-plane.ensures c.make-3.ensures) c.take_named.ensures
+    (own_setup c.args.domains.now c.again.result c.args.own c.in_ok-plane.plane c.make.result c.in_ok-plane.seats.board c.again.ensures c.in_ok-plane.ensures.plane c.make.ensures) c.take_named.ensures

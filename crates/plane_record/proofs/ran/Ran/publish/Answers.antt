@@ -1,28 +1,24 @@
-use Rattle.std.proofs.Common.{◌≡◌, List, [], ◌∷◌, ◌++◌, ap, ◌∙◌, refl}
-use Rattle.br_model.specs.declared.steps.Step.{Step}
+use Rattle.std.proofs.Common.{refl}
 use Rattle.br_model.specs.declared.steps.Step.TheVariants.{Publish}
-use Rattle.plane_parts.specs.Added.{Added}
-use Rattle.plane_core.specs.Planes.{Steps}
-use Rattle.plane_record.proofs.Recording.{carried, copied-said, mark-at, past-more, ran-more}
+use Rattle.plane_record.proofs.Recording.{Recorded, recorded}
 use Rattle.plane_record.proofs.ran.Ran.publish.Given as given
 use Rattle.plane_record.proofs.ran.Ran.publish.Goals as goal
 
-steps-are : (g : given.Over) (c : goal.After-copy_out g) → c.push_reserved.new.self.items ≡ c.self.inside.steps.items ++ Publish ∷ []
-steps-are g c = c.push_reserved.ensures.items ∙ ap (λ (l : List Step). l ++ Publish ∷ []) c.reserve.ensures.items
-
-told : (g : given.Over) (c : goal.After-copy_out g) → Added (Steps c.self.inside.plane c.publish_to.new.self Publish) c.self.inside.lines.lines c.copy_out.new.self.lines
-told g c = carried (Steps c.self.inside.plane c.publish_to.new.self Publish) c.self.inside.lines.lines c.mark.new.self.lines c.publish_to.new.lines.lines c.copy_out.new.self.lines c.mark.ensures.lines c.copy_out.ensures.lines c.in_ok-publish_to.ensures.ok
+done : (g : given.Over) (c : goal.After-write_down g) → Recorded c.publish_to.new.self c.write_down.new.steps.items Publish c.write_down.new.lines.lines c.write_down.result.lines c.args.self.now
+done g c =
+    let ready = c.make_ready in
+    let down = c.write_down in
+    recorded c.self.inside.plane c.publish_to.new.self c.self.inside.steps.items ready.new.steps.items down.new.steps.items Publish
+    c.self.inside.lines ready.new.lines c.publish_to.new.lines down.new.lines down.result.lines c.args.self.now c.self.invariant c.self.view_is
+    ready.ensures.steps ready.ensures.lines ready.ensures.marked
+    c.in_ok-publish_to.ensures.ok c.in_ok-publish_to.ensures.marked
+    down.ensures.steps down.ensures.lines down.ensures.said refl
 
 pub invariant_of-self-2 : goal.invariant_of-self-2
-invariant_of-self-2 g c = ran-more c.self.inside.plane c.publish_to.new.self c.self.inside.steps.items c.push_reserved.new.self.items Publish c.self.inside.lines.lines c.copy_out.new.self.lines c.self.invariant (told g c) (steps-are g c) refl
+invariant_of-self-2 g c = (done g c).ran
 
 pub returns-clause-ok : goal.returns-clause-ok
-returns-clause-ok g c =
-    past-more c.self.inside.plane c.publish_to.new.self c.self.inside.steps.items c.push_reserved.new.self.items Publish c.self.inside.lines.lines c.copy_out.new.self.lines c.self.invariant (told g c) (steps-are g c)
-    c.args.self.now c.self.view_is
+returns-clause-ok g c = (done g c).reached
 
 pub returns-clause-lines : goal.returns-clause-lines
-returns-clause-lines g c =
-    copied-said c.self.inside.plane c.publish_to.new.self c.self.inside.steps.items Publish c.self.inside.lines.lines c.copy_out.new.self.lines c.publish_to.new.lines.marked c.copy_out.result.lines c.args.self.now
-    c.self.invariant c.self.view_is (told g c) (mark-at c.self.inside.lines c.mark.new.self c.publish_to.new.lines c.mark.ensures.marked c.mark.ensures.lines c.in_ok-publish_to.ensures.marked)
-    (c.copy_out.ensures.lines ∙ c.copy_out.ensures.copy)
+returns-clause-lines g c = (done g c).said
