@@ -12,7 +12,7 @@ use Rattle.br_model.specs.Text.Forms.{Row, line, said, after}
 use Rattle.br_model.specs.Text.Operands.{flag, found, port_name}
 use Rattle.br_model.specs.Text.Roster.{Roster}
 use Rattle.br_model.specs.Text.Words.{Word}
-use Rattle.br_model.proofs.Words.{equal, other}
+use Rattle.br_model.proofs.Text.Words.{equal, other}
 use Rattle.bridge_command.specs.Seen.{placed, switched}
 
 -- of two rows that both want `named`, the one whose last word it is; the others' words aren't there

@@ -10,7 +10,7 @@ use Rattle.br_model.specs.Text.CommandForms.{commands, ports, links, vlans, fdbs
 use Rattle.br_model.specs.Text.Forms.{Token, Fixed, Has, Row, fits, pick, said, line}
 use Rattle.br_model.specs.Text.Roster.{Roster}
 use Rattle.br_model.specs.Text.Words.{Word}
-use Rattle.br_model.proofs.Words.{other}
+use Rattle.br_model.proofs.Text.Words.{other}
 use Rattle.bridge_command.specs.Seen.{word, later_commands}
 
 abbrev begins_otherwise : Word → List Token → Bool

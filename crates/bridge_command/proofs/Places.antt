@@ -7,7 +7,7 @@ use Rattle.br_model.specs.Table.Domains.{first_chip_domain, last_chip, software}
 use Rattle.br_model.specs.Text.Roster.{Entry, has_number, is_chip}
 use Rattle.br_model.specs.Text.Spelling.{name_of}
 use Rattle.br_model.specs.Text.Words.{Word}
-use Rattle.br_model.proofs.DeclaredChips.{any-map}
+use Rattle.br_model.proofs.Text.DeclaredChips.{any-map}
 use Rattle.bridge_command.specs.Seen.{is_port_at, is_domain_at}
 
 -- the port stands there

@@ -49,7 +49,7 @@ fn local(address: &str, vid: &str, r: &Roster) -> Result<Command, LineWhy>
     })
 }
 
-#[tactic(auto, using(br_model::proofs::Words::words))]
+#[tactic(auto, using(br_model::proofs::Text::Words::words))]
 fn fdb_add(words: &[&str], r: &Roster) -> Result<Command, LineWhy>
     ensures { result ≡ line fdb_adds r.now (length words.now) (word words.now) }
 {
@@ -65,7 +65,7 @@ fn fdb_add(words: &[&str], r: &Roster) -> Result<Command, LineWhy>
     }
 }
 
-#[tactic(auto, using(br_model::proofs::Words::words))]
+#[tactic(auto, using(br_model::proofs::Text::Words::words))]
 fn fdb_del(words: &[&str], r: &Roster) -> Result<Command, LineWhy>
     ensures { result ≡ line fdb_dels r.now (length words.now) (word words.now) }
 {
@@ -80,7 +80,7 @@ fn fdb_del(words: &[&str], r: &Roster) -> Result<Command, LineWhy>
     }
 }
 
-#[tactic(auto, using(br_model::proofs::Words::words))]
+#[tactic(auto, using(br_model::proofs::Text::Words::words))]
 pub(crate) fn fdb_command(words: &[&str], r: &Roster) -> Result<Command, LineWhy>
     ensures { result ≡ line fdbs r.now (length words.now) (word words.now) }
 {
@@ -91,7 +91,7 @@ pub(crate) fn fdb_command(words: &[&str], r: &Roster) -> Result<Command, LineWhy
     }
 }
 
-#[tactic(auto, using(br_model::proofs::Words::words))]
+#[tactic(auto, using(br_model::proofs::Text::Words::words))]
 pub(crate) fn ageing_command(words: &[&str], r: &Roster) -> Result<Command, LineWhy>
     ensures { result ≡ line ageings r.now (length words.now) (word words.now) }
 {

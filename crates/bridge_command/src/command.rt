@@ -14,7 +14,7 @@ use br_model::scenario::LineWhy;
 use br_model::steps::Command;
 
 /// The commands of groups and of the whole bridge.
-#[tactic(auto, using(br_model::proofs::Words::words))]
+#[tactic(auto, using(br_model::proofs::Text::Words::words))]
 fn later_command(words: &[&str], r: &Roster) -> Result<Command, LineWhy>
     ensures { result ≡ line later_commands r.now (length words.now) (word words.now) }
 {
@@ -28,7 +28,7 @@ fn later_command(words: &[&str], r: &Roster) -> Result<Command, LineWhy>
 }
 
 /// The command that the words after `cmd` say, or the cause for which its line is bad.
-#[tactic(auto, using(br_model::proofs::Words::words))]
+#[tactic(auto, using(br_model::proofs::Text::Words::words))]
 pub fn read_command(words: &[&str], r: &Roster) -> Result<Command, LineWhy>
     ensures { result ≡ line commands r.now (length words.now) (word words.now) }
 {

@@ -38,7 +38,7 @@ fn deleted(address: &str, name: &str, vid: &str, r: &Roster) -> Result<Command, 
     Ok(Command::MdbDel { port, vid, group })
 }
 
-#[tactic(auto, using(br_model::proofs::Words::words))]
+#[tactic(auto, using(br_model::proofs::Text::Words::words))]
 pub(crate) fn mdb_command(words: &[&str], r: &Roster) -> Result<Command, LineWhy>
     ensures { result ≡ line mdbs r.now (length words.now) (word words.now) }
 {
@@ -49,7 +49,7 @@ pub(crate) fn mdb_command(words: &[&str], r: &Roster) -> Result<Command, LineWhy
     }
 }
 
-#[tactic(auto, using(br_model::proofs::Words::words))]
+#[tactic(auto, using(br_model::proofs::Text::Words::words))]
 pub(crate) fn snooping_command(words: &[&str], r: &Roster) -> Result<Command, LineWhy>
     ensures { result ≡ line snoopings r.now (length words.now) (word words.now) }
 {

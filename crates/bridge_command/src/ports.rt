@@ -13,7 +13,7 @@ use br_model::change::Flags;
 use br_model::scenario::{LineWhy, Place};
 use br_model::steps::Command;
 
-#[tactic(auto, using(br_model::proofs::Words::words))]
+#[tactic(auto, using(br_model::proofs::Text::Words::words))]
 pub(crate) fn port_command(words: &[&str], r: &Roster) -> Result<Command, LineWhy>
     ensures { result ≡ line ports r.now (length words.now) (word words.now) }
 {
@@ -62,7 +62,7 @@ fn with_priority(name: &str, number: &str, r: &Roster) -> Result<Command, LineWh
     Ok(Command::PortPriority { port, n })
 }
 
-#[tactic(auto, using(br_model::proofs::Words::words))]
+#[tactic(auto, using(br_model::proofs::Text::Words::words))]
 pub(crate) fn link_command(words: &[&str], r: &Roster) -> Result<Command, LineWhy>
     ensures { result ≡ line links r.now (length words.now) (word words.now) }
 {

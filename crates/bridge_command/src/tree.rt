@@ -9,7 +9,7 @@ use crate::roster::Roster;
 use br_model::scenario::{LineWhy, Place};
 use br_model::steps::Command;
 
-#[tactic(auto, using(br_model::proofs::Words::words))]
+#[tactic(auto, using(br_model::proofs::Text::Words::words))]
 pub(crate) fn stp_command(words: &[&str], r: &Roster) -> Result<Command, LineWhy>
     ensures { result ≡ line trees r.now (length words.now) (word words.now) }
 {

@@ -26,7 +26,7 @@ fn added(vid: &str, name: &str, untagged: bool, pvid: bool, r: &Roster) -> Resul
     })
 }
 
-#[tactic(auto, using(br_model::proofs::Words::words))]
+#[tactic(auto, using(br_model::proofs::Text::Words::words))]
 fn unmarked(words: &[&str], r: &Roster) -> Result<Command, LineWhy>
     ensures { result ≡ line unmarked r.now (length words.now) (word words.now) }
 {
@@ -36,7 +36,7 @@ fn unmarked(words: &[&str], r: &Roster) -> Result<Command, LineWhy>
     }
 }
 
-#[tactic(auto, using(br_model::proofs::Words::words))]
+#[tactic(auto, using(br_model::proofs::Text::Words::words))]
 fn marked_once(words: &[&str], r: &Roster) -> Result<Command, LineWhy>
     ensures { result ≡ line marked_once r.now (length words.now) (word words.now) }
 {
@@ -47,7 +47,7 @@ fn marked_once(words: &[&str], r: &Roster) -> Result<Command, LineWhy>
     }
 }
 
-#[tactic(auto, using(br_model::proofs::Words::words))]
+#[tactic(auto, using(br_model::proofs::Text::Words::words))]
 fn marked_twice(words: &[&str], r: &Roster) -> Result<Command, LineWhy>
     ensures { result ≡ line marked_twice r.now (length words.now) (word words.now) }
 {
@@ -59,7 +59,7 @@ fn marked_twice(words: &[&str], r: &Roster) -> Result<Command, LineWhy>
     }
 }
 
-#[tactic(auto, using(br_model::proofs::Words::words))]
+#[tactic(auto, using(br_model::proofs::Text::Words::words))]
 fn vlan_add(words: &[&str], r: &Roster) -> Result<Command, LineWhy>
     ensures { result ≡ line vlan_adds r.now (length words.now) (word words.now) }
 {
@@ -80,7 +80,7 @@ fn deleted(vid: &str, name: &str, r: &Roster) -> Result<Command, LineWhy>
     Ok(Command::VlanDel { port, vid })
 }
 
-#[tactic(auto, using(br_model::proofs::Words::words))]
+#[tactic(auto, using(br_model::proofs::Text::Words::words))]
 fn vlan_del(words: &[&str], r: &Roster) -> Result<Command, LineWhy>
     ensures { result ≡ line vlan_dels r.now (length words.now) (word words.now) }
 {
@@ -90,7 +90,7 @@ fn vlan_del(words: &[&str], r: &Roster) -> Result<Command, LineWhy>
     }
 }
 
-#[tactic(auto, using(br_model::proofs::Words::words))]
+#[tactic(auto, using(br_model::proofs::Text::Words::words))]
 pub(crate) fn vlan_command(words: &[&str], r: &Roster) -> Result<Command, LineWhy>
     ensures { result ≡ line vlans r.now (length words.now) (word words.now) }
 {

@@ -21,7 +21,7 @@ use Rattle.br_model.specs.Theorems.TreeLaws.{knows_states}
 use Rattle.br_model.specs.Control.TreeReaction.{states, told}
 use Rattle.br_model.specs.Tree.Sending.{Acted}
 use Rattle.br_model.specs.Tree.Step.{tree_step, moved, sent}
-use Rattle.br_model.proofs.TreeKept.{known-at}
+use Rattle.br_model.proofs.Trees.Kept.{known-at}
 use Rattle.bridge_plans.specs.declared.faults.EventFault.{EventFault}
 use Rattle.bridge_plans.specs.declared.faults.EventFault.TheVariants.{Refused, NoMemory}
 use Rattle.bridge_plans.specs.declared.plan.Plan.{Plan}

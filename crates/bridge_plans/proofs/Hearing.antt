@@ -29,9 +29,9 @@ use Rattle.br_model.specs.Wire.Records.{acts, acts_of, record_length}
 use Rattle.br_model.specs.Control.Snooping.{fastleave, end_at, until, joins, leaves, leaves_from, querier_heard, router_heard}
 use Rattle.br_model.specs.Table.Table.{Table, apply, ip_version}
 use Rattle.br_model.specs.Forward.Targets.{has_flag}
-use Rattle.br_model.proofs.EndsTied.{tied-groups, tied-routers, tied-queriers, tied-lasts, tied-parts, tied-routes, tied-queries}
-use Rattle.br_model.proofs.GroupOrders.{membership_total}
-use Rattle.br_model.proofs.KeySets.{keys-put_there, ascending-put}
+use Rattle.br_model.proofs.Control.EndsTied.{tied-groups, tied-routers, tied-queriers, tied-lasts, tied-parts, tied-routes, tied-queries}
+use Rattle.br_model.proofs.Table.GroupOrders.{membership_total}
+use Rattle.br_model.proofs.Data.KeySets.{keys-put_there, ascending-put}
 use Rattle.mdb_snoop.specs.Database.{end_joined, ending_soon, ended_sooner, is_dynamic, joined_until}
 use Rattle.bridge_plans.specs.declared.snooping.Speaker.{Speaker}
 use Rattle.bridge_plans.specs.Standing.{places}

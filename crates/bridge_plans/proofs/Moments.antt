@@ -16,7 +16,7 @@ use Rattle.br_model.specs.Control.Ageing.{expires, is_old}
 use Rattle.br_model.specs.Control.Learning.{Address}
 use Rattle.br_model.specs.Table.Limits.{most_addresses}
 use Rattle.br_model.specs.Data.Maps.{pair_cmp, get, put, without, is_ascending}
-use Rattle.br_model.proofs.PairKeys.{pair_total}
+use Rattle.br_model.proofs.Data.PairKeys.{pair_total}
 use Rattle.fdb_core.specs.declared.entries.Entry.{Entry}
 use Rattle.fdb_core.specs.Fdb.{Table, addresses, moments, place, keys_where, is_at_port, is_expired, is_learned, is_from, all_from}
 use Rattle.fdb_core.proofs.Addresses.{get-told}

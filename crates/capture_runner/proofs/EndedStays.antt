@@ -9,10 +9,10 @@ use Rattle.br_model.specs.declared.scenario.Said.{Said}
 use Rattle.br_model.specs.Program.Outcomes.{HoldsNoEnd, scenario_lines}
 use Rattle.br_model.specs.Text.Scenario.{Scenario, Ending, Going, Ended, Bad, Front, Progress, bad, front, in_front, longest_line, opened, read, reads, reads_at, reads_front, reads_line, scenario, section_length, takes, whole_says}
 use Rattle.br_model.specs.Theorems.WholeLines.{is_line}
-use Rattle.br_model.proofs.AllLeft.{not_too_long, same_with_more}
-use Rattle.br_model.proofs.Endings.{has_ended, closes_ended, read_ended}
-use Rattle.br_model.proofs.Reading.{not_below, read_long, scenario_is}
-use Rattle.br_model.proofs.WrittenWords.{both}
+use Rattle.br_model.proofs.Program.AllLeft.{not_too_long, same_with_more}
+use Rattle.br_model.proofs.Text.Endings.{has_ended, closes_ended, read_ended}
+use Rattle.br_model.proofs.Text.Reading.{not_below, read_long, scenario_is}
+use Rattle.br_model.proofs.Text.WrittenWords.{both}
 
 -- what has ended takes no more
 over : (ahead : ℕ) (s : Scenario) (more : List ℕ) → has_ended s.ending ≡ true → (read ahead s more).scenario ≡ s

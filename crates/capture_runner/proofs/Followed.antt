@@ -9,8 +9,8 @@ use Rattle.std.proofs.lemmas.List.Sums.{fold-append}
 use Rattle.run_io.specs.Reading.{Reading, Reads, HasNoFeed, IsEnd, WantsLine, HoldsLongLine, HoldsAllOfLimit, max_line}
 use Rattle.br_model.specs.Table.Limits.{most_bytes}
 use Rattle.br_model.specs.Text.Scenario.{is_end, longest_line}
-use Rattle.br_model.proofs.AllLeft.{below_limit, not_too_long, same_at_end, same_with_more}
-use Rattle.br_model.proofs.Completing.{AreApart}
+use Rattle.br_model.proofs.Program.AllLeft.{below_limit, not_too_long, same_at_end, same_with_more}
+use Rattle.br_model.proofs.Program.Completing.{AreApart}
 use Rattle.neigh_netlink.specs.declared.follow.LineFault.TheVariants.{Long, Unended}
 use Rattle.neigh_follow.specs.declared.follower.FollowEnd.{FollowEnd}
 use Rattle.neigh_follow.specs.declared.follower.FollowEnd.TheVariants as lasts

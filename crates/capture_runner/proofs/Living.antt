@@ -30,9 +30,9 @@ use Rattle.br_model.specs.Text.Roster.{Entry, Roster, chips_of, domains_of}
 use Rattle.br_model.specs.Text.Scenario.{Scenario, Ended, opened, reads, scenario}
 use Rattle.br_model.specs.Text.ScenarioText.{fits_in, has_line, knows_in, names_declared}
 use Rattle.br_model.specs.Text.Transcript.{bad_text, line_text, text}
-use Rattle.br_model.proofs.DeclaredChips.{declared-chips}
-use Rattle.br_model.proofs.Endings.{has_ended}
-use Rattle.br_model.proofs.WrittenWords.{both}
+use Rattle.br_model.proofs.Text.DeclaredChips.{declared-chips}
+use Rattle.br_model.proofs.Text.Endings.{has_ended}
+use Rattle.br_model.proofs.Text.WrittenWords.{both}
 use Rattle.live_workers.specs.Results.{is_taken}
 use Rattle.scenario_reader.specs.declared.reader.Last.{Last}
 use Rattle.scenario_reader.specs.declared.reader.Last.TheVariants as lasts

@@ -11,7 +11,7 @@ use Rattle.br_model.specs.Program.Outcomes.{Answers, Call, HasLines, Lines, scen
 use Rattle.br_model.specs.Program.Summary.{summary}
 use Rattle.br_model.specs.Program.Runs.{bad_alone, bad_told, body, body_parts, told}
 use Rattle.br_model.specs.Text.Scenario.{Scenario, Bad}
-use Rattle.br_model.proofs.Completing.{AreApart, never_bad, never_filled, never_found_bad, never_full, scenarios_apart}
+use Rattle.br_model.proofs.Program.Completing.{AreApart, never_bad, never_filled, never_found_bad, never_full, scenarios_apart}
 use Rattle.chip_audit.specs.Lines.{audited}
 use Rattle.scenario_reader.specs.declared.reader.Last.{Last as LastRead}
 use Rattle.scenario_reader.specs.declared.reader.Last.TheVariants as read_lasts

@@ -8,7 +8,7 @@ use Rattle.br_model.specs.Program.Checks.{Difference, Finds, FindsBad, IsNotBad,
 use Rattle.br_model.specs.Program.Outcomes.{Call}
 use Rattle.br_model.specs.Text.Scenario.{Scenario, Ending, Ended, Bad, Progress, opened, read, reads, scenario_by}
 use Rattle.br_model.specs.Text.Transcript.{bad_text}
-use Rattle.br_model.proofs.Endings.{has_ended, closes_ended}
+use Rattle.br_model.proofs.Text.Endings.{has_ended, closes_ended}
 use Rattle.check_answer.proofs.StaysBad.{stays_bad}
 
 -- a source that is at its end has given all

@@ -7,8 +7,8 @@ use Rattle.br_model.specs.declared.scenario.LineWhy.TheVariants.{Long}
 use Rattle.br_model.specs.declared.scenario.Said.{Said}
 use Rattle.br_model.specs.Text.Scenario.{Scenario, Ending, Going, Ended, Bad, Progress, bad, longest_line, read, section_length, takes, whole_says}
 use Rattle.br_model.specs.Theorems.WholeLines.{is_line}
-use Rattle.br_model.proofs.Endings.{has_ended, read_ended}
-use Rattle.br_model.proofs.Reading.{read_bad, read_line, read_long, read_part, read_rest}
+use Rattle.br_model.proofs.Text.Endings.{has_ended, read_ended}
+use Rattle.br_model.proofs.Text.Reading.{read_bad, read_line, read_long, read_part, read_rest}
 
 -- the first line of some bytes, if it has its line feed
 data Cut (bytes : List ℕ) : Type 0 where

@@ -18,17 +18,17 @@ use Rattle.br_model.specs.Table.Cut.{cut, deferred_at}
 use Rattle.br_model.specs.Table.Domains.{Domains}
 use Rattle.br_model.specs.Table.Limits.{AreWithin, fits, most_changes}
 use Rattle.br_model.specs.Table.Table.{Table, apply, table}
-use Rattle.br_model.proofs.CutFits.{turn-fits}
-use Rattle.br_model.proofs.Cuts.{cut-turn, deferred_at-deferred, updates-named}
-use Rattle.br_model.proofs.PlaneKept.{hit_by-keeps}
-use Rattle.br_model.proofs.PlaneLists.{find-each}
+use Rattle.br_model.proofs.Table.CutFits.{turn-fits}
+use Rattle.br_model.proofs.Table.Cuts.{cut-turn, deferred_at-deferred, updates-named}
+use Rattle.br_model.proofs.Plane.Kept.{hit_by-keeps}
+use Rattle.br_model.proofs.Data.Lists.{find-each}
 use Rattle.bridge_core.specs.Kept.{Controlled}
 use Rattle.forward_rules.specs.declared.soft_tables.Verdict.{Verdict}
 use Rattle.forward_rules.specs.Decided.{Decides}
 use Rattle.table_cuts.specs.Cuts.{AreCuts, Changed, CutState, IsCut, KeepsTable, chips_of, noted, state_in, turned}
 use Rattle.table_cuts.specs.Points.{PointState}
 use Rattle.check_world.specs.Sides.{AreSides, SidesState, table_of}
-use Rattle.br_model.proofs.ChipLists.{apart, apart-chips, chip-found, put-place, some-found}
+use Rattle.br_model.proofs.Table.ChipLists.{apart, apart-chips, chip-found, put-place, some-found}
 use Rattle.table_cuts.proofs.Noting.{kept_note}
 
 -- what is there for the definitions is there for the states

@@ -9,7 +9,7 @@ use Rattle.br_model.specs.Plane.ChipSteps.{turns, turns_to}
 use Rattle.br_model.specs.Plane.World.{chip_at}
 use Rattle.br_model.specs.Table.Change.{updates}
 use Rattle.br_model.specs.Table.Cut.{deferred_at, under_ticket}
-use Rattle.br_model.proofs.Cuts.{updates-at, updates-named}
+use Rattle.br_model.proofs.Table.Cuts.{updates-at, updates-named}
 use Rattle.plane_parts.specs.Queued.{Queued}
 use Rattle.check_world.specs.Sides.{SidesState, world_of}
 

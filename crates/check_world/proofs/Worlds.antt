@@ -17,8 +17,8 @@ use Rattle.br_model.specs.Plane.Steps.{does}
 use Rattle.br_model.specs.Plane.World.{World, Waiting, Holding, Stepped, chip_at, refused}
 use Rattle.br_model.specs.Table.Domains.{chip_domains}
 use Rattle.br_model.specs.Theorems.Invariants.{IsWorld}
-use Rattle.br_model.proofs.PlaneChips.{chip-there}
-use Rattle.br_model.proofs.PlaneLists.{find-each, has-up-to, up-to-last}
+use Rattle.br_model.proofs.Plane.Chips.{chip-there}
+use Rattle.br_model.proofs.Data.Lists.{find-each, has-up-to, up-to-last}
 use Rattle.plane_parts.specs.Queued.{Queued, hold_line, holds_oldest}
 use Rattle.check_world.specs.Sides.{SidesState, Comes, world_of}
 use Rattle.check_world.specs.Worlds.{PostsHeld, Tells, point_of}

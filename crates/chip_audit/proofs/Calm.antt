@@ -12,7 +12,7 @@ use Rattle.br_model.specs.Plane.Runs.{pending_of}
 use Rattle.br_model.specs.Plane.World.{World}
 use Rattle.br_model.specs.Table.Cut.{cut, deferred_count}
 use Rattle.br_model.specs.Table.Table.{Table, table}
-use Rattle.br_model.proofs.Cuts.{cut-all}
+use Rattle.br_model.proofs.Table.Cuts.{cut-all}
 use Rattle.neigh_netlink.specs.Neighbours.{Key, same_kind}
 use Rattle.chip_audit.specs.declared.entries.Found.{Found}
 use Rattle.chip_audit.specs.Audits.{Row, audit_of, is_stale, same_place, stale}

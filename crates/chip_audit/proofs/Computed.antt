@@ -1,6 +1,6 @@
 -- Worked audits, computed by the definitions.
 use Rattle.std.proofs.Common.{◌≡◌, refl}
-use Rattle.br_model.proofs.Computing.{computing}
+use Rattle.br_model.proofs.Worked.Computing.{computing}
 use Rattle.chip_audit.specs.Lines.{audited}
 use Rattle.chip_audit.specs.Worked.{put_again_text, put_again_told, stale_entry_text, stale_entry_told, told_chip_text, told_chip_told}
 

@@ -21,8 +21,8 @@ use Rattle.br_model.specs.Data.Maps.{pair_cmp, get}
 use Rattle.br_model.specs.Table.Change.{address_part, deferred}
 use Rattle.br_model.specs.Table.Cut.{cut, deferred_at, deferred_count, deferred_of, synchronous_of, under_ticket}
 use Rattle.br_model.specs.Table.Table.{Table, apply, start, table}
-use Rattle.br_model.proofs.Cuts.{cut-all, cut-turn, deferred_of-cut, synchronous_of-cut, table-sorted}
-use Rattle.br_model.proofs.PairKeys.{pair_total, same_cmp}
+use Rattle.br_model.proofs.Table.Cuts.{cut-all, cut-turn, deferred_of-cut, synchronous_of-cut, table-sorted}
+use Rattle.br_model.proofs.Data.PairKeys.{pair_total, same_cmp}
 use Rattle.neigh_netlink.specs.Neighbours.{Key}
 use Rattle.neigh_netlink.specs.Offloaded.{is_of_key, last_update, offloaded, put_by, puts_among}
 use Rattle.neigh_netlink.proofs.LastUpdates.{all-ascend, by-changes, get-apply, get-table, last_update-push, puts, synchronous-other}

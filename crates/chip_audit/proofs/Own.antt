@@ -9,7 +9,7 @@ use Rattle.std.specs.declared.cmp.Ordering.{Ordering}
 use Rattle.std.specs.declared.cmp.Ordering.TheVariants.{Less, Equal, Greater}
 use Rattle.std.proofs.lemmas.Cmp.{tied_itself}
 use Rattle.br_model.specs.Data.Maps.{pair_cmp, get}
-use Rattle.br_model.proofs.PairKeys.{pair_total}
+use Rattle.br_model.proofs.Data.PairKeys.{pair_total}
 use Rattle.neigh_netlink.specs.Neighbours.{Key}
 
 -- a key that is below another one, and that one above it

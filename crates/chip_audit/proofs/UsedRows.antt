@@ -10,7 +10,7 @@ use Rattle.std.proofs.lemmas.List.Elements.{filter_map-append}
 use Rattle.std.proofs.lemmas.List.Sorted.{IsPermutation-sym, IsPermutation-trans}
 use Rattle.br_model.specs.Data.Maps.{pair_cmp}
 use Rattle.br_model.specs.Table.Table.{Table}
-use Rattle.br_model.proofs.PairKeys.{pair_total, same_cmp}
+use Rattle.br_model.proofs.Data.PairKeys.{pair_total, same_cmp}
 use Rattle.chip_tables.specs.declared.rows.AddressRow.{AddressRow}
 use Rattle.chip_tables.specs.Rows.{Rows, IsPlaced}
 use Rattle.chip_tables.specs.Stands.{AddressesStand, address_wanted}

@@ -16,9 +16,9 @@ use Rattle.br_model.specs.Table.Cut.{cut, deferred_at, deferred_count, under_tic
 use Rattle.br_model.specs.Table.Domains.{has_chip}
 use Rattle.br_model.specs.Table.Limits.{most_changes}
 use Rattle.br_model.specs.Theorems.Invariants.{ChipStands, IsWorld}
-use Rattle.br_model.proofs.Cuts.{deferred_at-there, updates-at, updates-named}
-use Rattle.br_model.proofs.Growing.{few-deferred}
-use Rattle.br_model.proofs.PlaneLists.{find-each, same-some}
+use Rattle.br_model.proofs.Table.Cuts.{deferred_at-there, updates-at, updates-named}
+use Rattle.br_model.proofs.Plane.Growing.{few-deferred}
+use Rattle.br_model.proofs.Data.Lists.{find-each, same-some}
 use Rattle.plane_core.proofs.Calling.{chip_there}
 use Rattle.plane_core.proofs.Changing.{some_is}
 use Rattle.chip_audit.specs.Audits.{Row, entries_of}

@@ -10,7 +10,7 @@ use Rattle.br_model.specs.Table.GroupPairs.{GroupPair, group_pair_cmp, group_pai
 use Rattle.br_model.specs.Table.Groups.{Membership, membership_cmp}
 use Rattle.br_model.specs.Data.Maps.{get, put, joined, parted, is_ascending}
 use Rattle.mdb_snoop.specs.Database.{ports_in}
-use Rattle.br_model.proofs.GroupOrders.{equal_pairs}
+use Rattle.br_model.proofs.Table.GroupOrders.{equal_pairs}
 use Rattle.chip_tables.specs.declared.rows.FanRow.{FanRow}
 use Rattle.chip_tables.specs.Rows.{Rows, vlan_at, groups_with}
 use Rattle.chip_tables.specs.Stands.{IsVid}
@@ -18,7 +18,7 @@ use Rattle.chip_driver.specs.declared.shadow.Shadow.{Shadow}
 use Rattle.chip_driver.specs.GroupRows.{has_pair, group_fan, AreUsed, GroupsFollow, RefreshesGroups}
 use Rattle.chip_driver.specs.Shadows.{fan_to}
 use Rattle.chip_driver.proofs.FanRows.{same_fans}
-use Rattle.br_model.proofs.GroupPairs.{pair-joined, pair-parted}
+use Rattle.br_model.proofs.Table.GroupPairs.{pair-joined, pair-parted}
 use Rattle.chip_driver.proofs.GroupRows.{count_is, find-written, ascending-written, find-freed, ascending-freed, among, among-pairs, among-next, among-past, among-all, among-one, same_pair, pair-ports, ports-joined, ports-parted}
 
 equal_of : (k j : GroupPair) (r : Ordering) → group_pair_cmp k j ≡ r → is_eq r ≡ true → k ≡ j

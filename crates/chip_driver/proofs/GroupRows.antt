@@ -16,8 +16,8 @@ use Rattle.br_model.specs.Table.GroupPairs.{GroupPair, group_pair_cmp, group_pai
 use Rattle.br_model.specs.Table.Groups.{Membership, group_cmp, membership_cmp}
 use Rattle.br_model.specs.Data.Maps.{get, put, without, joined, parted, has, is_ascending}
 use Rattle.mdb_snoop.specs.Database.{ports_in}
-use Rattle.br_model.proofs.GroupOrders.{pair_total, equal_pairs, by_pair, is_of_pair}
-use Rattle.br_model.proofs.GroupPairs.{any-joined, equal_members, find-pairs, keys-pairs, pairs, same_units, sorted-pairs}
+use Rattle.br_model.proofs.Table.GroupOrders.{pair_total, equal_pairs, by_pair, is_of_pair}
+use Rattle.br_model.proofs.Table.GroupPairs.{any-joined, equal_members, find-pairs, keys-pairs, pairs, same_units, sorted-pairs}
 use Rattle.port_sets.specs.Numbers.{has_number}
 
 -- ---- rows at the pairs that have members

@@ -17,7 +17,7 @@ use Rattle.br_model.specs.Forward.Eligible.{untagged}
 use Rattle.br_model.specs.Data.Maps.{pair_cmp, get, put, without, joined, parted, has}
 use Rattle.br_model.specs.Table.Table.{Table, apply, default_flags, switched}
 use Rattle.br_model.specs.declared.change.Change.TheVariants.{PortUp, PortDown, SetFlags, SetState, VlanAdd, VlanDel, Querier}
-use Rattle.br_model.proofs.PairKeys.{pair_total, same_cmp, eq-pair}
+use Rattle.br_model.proofs.Data.PairKeys.{pair_total, same_cmp, eq-pair}
 use Rattle.chip_tables.specs.declared.rows.PortRow.{PortRow}
 use Rattle.chip_tables.specs.declared.rows.Control.{Control}
 use Rattle.chip_tables.specs.Stands.{port_wanted, control_wanted, trap_wanted, trap_count}

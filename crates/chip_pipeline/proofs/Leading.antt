@@ -19,7 +19,7 @@ use Rattle.br_model.specs.Forward.Targets.{bridge_group_address, pause_address, 
 use Rattle.br_model.specs.declared.change.Kind.{Kind}
 use Rattle.br_model.specs.declared.frame.Head.{Head}
 use Rattle.br_model.specs.declared.frame.McastMsg.{McastMsg}
-use Rattle.br_model.proofs.Stations.{other, not-reserved}
+use Rattle.br_model.proofs.Forward.Stations.{other, not-reserved}
 use Rattle.chip_tables.specs.declared.rows.AddressRow.{AddressRow}
 use Rattle.chip_tables.specs.declared.rows.FanRow.{FanRow}
 use Rattle.chip_tables.specs.declared.rows.Flood.{Flood}

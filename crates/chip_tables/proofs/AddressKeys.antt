@@ -8,7 +8,7 @@ use Rattle.std.specs.FinMap.Entries as entries
 use Rattle.std.specs.FinMap.Entries.{by_order}
 use Rattle.std.proofs.lemmas.List.Sorted.{IsPermutation-refl, IsPermutation-trans, IsPermutation-sym, IsPermutation-cons, IsPermutation-middle, IsPermutation-map}
 use Rattle.br_model.specs.Data.Maps.{pair_cmp}
-use Rattle.br_model.proofs.KeySets.{keys-ascend}
+use Rattle.br_model.proofs.Data.KeySets.{keys-ascend}
 use Rattle.open_addressing.specs.Finite.{entries_of, key_if}
 use Rattle.open_addressing.specs.Lookups.{IsApart}
 use Rattle.open_addressing.specs.Pairs.{unpacked, by_pair}

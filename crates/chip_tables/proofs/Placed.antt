@@ -9,7 +9,7 @@ use Rattle.std.specs.FinMap.Entries.{by_order}
 use Rattle.std.proofs.lemmas.Bool.{cases_eq, eqb-true, eq-eqb, ne_eqb}
 use Rattle.std.proofs.lemmas.List.{get_or_default, get_or-set_other, length-set, length-map}
 use Rattle.br_model.specs.Data.Maps.{pair_cmp, get}
-use Rattle.br_model.proofs.PairKeys.{same_cmp}
+use Rattle.br_model.proofs.Data.PairKeys.{same_cmp}
 use Rattle.open_addressing.specs.Finite.{entries_of, in_cell, value_at}
 use Rattle.open_addressing.specs.Lookups.{has, IsApart}
 use Rattle.open_addressing.specs.Pairs.{unpacked, packed as pair, by_pair}

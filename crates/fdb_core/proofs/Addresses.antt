@@ -4,7 +4,7 @@ use Rattle.std.specs.Ordering.{eq_by_cmp, is_lt}
 use Rattle.std.specs.declared.cmp.Ordering.TheVariants.{Less, Equal, Greater}
 use Rattle.std.specs.FinMap.Entries.{by_order, below_all, is_sorted, is_sorted-put, find-put, same_entries}
 use Rattle.br_model.specs.Data.Maps.{pair_cmp, get, put, without, is_ascending}
-use Rattle.br_model.proofs.PairKeys.{pair_total, same_cmp}
+use Rattle.br_model.proofs.Data.PairKeys.{pair_total, same_cmp}
 use Rattle.open_addressing.specs.Least.{smaller, least}
 use Rattle.fdb_core.specs.declared.entries.Entry.{Entry}
 use Rattle.fdb_core.specs.Packing.{by_address}

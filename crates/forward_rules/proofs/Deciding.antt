@@ -19,7 +19,7 @@ use Rattle.br_model.specs.declared.frame.Class.{Class}
 use Rattle.br_model.specs.declared.frame.Class.TheVariants.{Drop, Trap}
 use Rattle.br_model.specs.declared.frame.Head.{Head}
 use Rattle.br_model.specs.declared.frame.McastMsg.{McastMsg}
-use Rattle.br_model.proofs.Stations.{other, not-reserved}
+use Rattle.br_model.proofs.Forward.Stations.{other, not-reserved}
 use Rattle.port_sets.specs.Numbers.{numbers_below, has_number}
 use Rattle.port_sets.proofs.Numbers.{same_below, filter-set, IsSetBelow-numbers_below}
 use Rattle.vlan_groups.specs.Rows.{ports_where}

@@ -7,7 +7,7 @@ use Rattle.std.proofs.lemmas.Bool.{eq-eqb, ne_eqb}
 use Rattle.std.proofs.lemmas.Bool.Decides.{eqb_tells}
 use Rattle.br_model.specs.Table.Domains.{entries_from, last_port, port_places}
 use Rattle.br_model.specs.Data.Maps.{get, put, without}
-use Rattle.br_model.proofs.DomainLaws.{get-entries, entries-set}
+use Rattle.br_model.proofs.Table.DomainLaws.{get-entries, entries-set}
 use Rattle.vlan_groups.proofs.Pvids.{entries-clear}
 use Rattle.port_sets.specs.Numbers.{has_number}
 use Rattle.port_sets.proofs.Numbers.{same_below, has-below}

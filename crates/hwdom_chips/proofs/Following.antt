@@ -15,10 +15,10 @@ use Rattle.br_model.specs.Table.GroupPairs.{has_room}
 use Rattle.br_model.specs.Table.Groups.{Membership}
 use Rattle.br_model.specs.Table.Limits.{fits, most_addresses, most_changes, AreWithin}
 use Rattle.br_model.specs.Table.Table.{Table, apply, table}
-use Rattle.br_model.proofs.ApplyingLaws.{deferred_count-append}
-use Rattle.br_model.proofs.AddressRoom.{few-front}
-use Rattle.br_model.proofs.CutFits.{synchronous-fits, turn-fits}
-use Rattle.br_model.proofs.Cuts.{cut-one, cut-turn, addr-within, deferred_at-deferred}
+use Rattle.br_model.proofs.Plane.Applying.{deferred_count-append}
+use Rattle.br_model.proofs.Table.AddressRoom.{few-front}
+use Rattle.br_model.proofs.Table.CutFits.{synchronous-fits, turn-fits}
+use Rattle.br_model.proofs.Table.Cuts.{cut-one, cut-turn, addr-within, deferred_at-deferred}
 use Rattle.chip_driver.specs.Drives.{Driven, Drives, IsTaken}
 use Rattle.chip_driver.proofs.Taking.{taken}
 

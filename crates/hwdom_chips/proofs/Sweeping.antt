@@ -17,7 +17,7 @@ use Rattle.br_model.specs.Table.Domains.{Domains}
 use Rattle.br_model.specs.Control.Learning.{Address, Triple, is_extern}
 use Rattle.br_model.specs.Data.Maps.{pair_cmp, get}
 use Rattle.br_model.specs.Table.Table.{Table, with_addresses}
-use Rattle.br_model.proofs.PairKeys.{pair_total}
+use Rattle.br_model.proofs.Data.PairKeys.{pair_total}
 use Rattle.chip_tables.specs.declared.rows.AddressRow.{AddressRow}
 use Rattle.chip_tables.specs.Rows.{Rows, extern_if, extern_at, IsPlaced}
 use Rattle.chip_tables.specs.Stands.{address_wanted, AddressesStand}

@@ -11,7 +11,7 @@ use Rattle.br_model.specs.declared.steps.Step.{Step}
 use Rattle.br_model.specs.declared.steps.Step.TheVariants.{Publish}
 use Rattle.br_model.specs.Program.LiveRun.{same_frames, same_order}
 use Rattle.br_model.specs.Program.SameSteps.{same_step}
-use Rattle.br_model.proofs.SameSteps.{step_decides}
+use Rattle.br_model.proofs.Program.SameSteps.{step_decides}
 use Rattle.live_book.specs.Lanes.{AreHeads, AreLinks, IsNext, is_in_lane}
 use Rattle.live_book.proofs.Linking.{taken}
 use Rattle.live_book.proofs.SameLanes.{all_same, one_differs}

@@ -13,7 +13,7 @@ use Rattle.br_model.specs.Program.LiveRun.{Parts, ends_with_publish, from_frame,
 use Rattle.br_model.specs.Program.Runs.{setup_of}
 use Rattle.br_model.specs.Program.SameSteps.{same_step}
 use Rattle.br_model.specs.Text.Scenario.{Scenario}
-use Rattle.br_model.proofs.PlaneLists.{same-some}
+use Rattle.br_model.proofs.Data.Lists.{same-some}
 use Rattle.live_book.specs.declared.drained.Remains.{Remains}
 use Rattle.live_book.specs.Ends.{IsBook, is_idle}
 use Rattle.live_book.specs.Reading.{is_published, may_change, was_refused}

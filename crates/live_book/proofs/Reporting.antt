@@ -8,8 +8,8 @@ use Rattle.br_model.specs.Plane.Runs.{run}
 use Rattle.br_model.specs.Plane.World.{chip_at}
 use Rattle.br_model.specs.Table.Domains.{Domains, chip_domains, first_chip_domain}
 use Rattle.br_model.specs.Table.Setup.{Setup}
-use Rattle.br_model.proofs.PlaneApplied.{run-setup, run-world}
-use Rattle.br_model.proofs.PlaneChips.{doms}
+use Rattle.br_model.proofs.Plane.Applied.{run-setup, run-world}
+use Rattle.br_model.proofs.Plane.Chips.{doms}
 use Rattle.live_book.specs.Ends.{has_reports, has_reports_at, reporting}
 
 abbrev Differ : List ℕ → Type 0

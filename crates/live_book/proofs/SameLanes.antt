@@ -4,8 +4,8 @@ use Rattle.std.specs.Cmp.{first_so, second_so}
 use Rattle.std.specs.List.{filter}
 use Rattle.br_model.specs.declared.steps.Step.{Step}
 use Rattle.br_model.specs.Program.LiveRun.{is_ordered, same_frames, same_order}
-use Rattle.br_model.proofs.SameFrames.{both, frames_in, frames_same}
-use Rattle.br_model.proofs.SameSteps.{steps_decide}
+use Rattle.br_model.proofs.Program.SameFrames.{both, frames_in, frames_same}
+use Rattle.br_model.proofs.Program.SameSteps.{steps_decide}
 use Rattle.live_book.specs.Lanes.{is_in_lane}
 
 abbrev AreSame : List Step → List Step → Type 0

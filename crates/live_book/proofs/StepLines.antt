@@ -33,8 +33,8 @@ use Rattle.br_model.specs.Program.LiveRun.{is_report_at, says_full}
 use Rattle.br_model.specs.Table.Domains.{domain_of}
 use Rattle.br_model.specs.Table.Limits.{most_waiting}
 use Rattle.br_model.specs.Wire.Frames.{frame}
-use Rattle.br_model.proofs.PlaneKept.{Ends, ends_refused, ends_done, ends_answered, does-ends}
-use Rattle.br_model.proofs.PlaneWaiting.{posts_at-either}
+use Rattle.br_model.proofs.Plane.Kept.{Ends, ends_refused, ends_done, ends_answered, does-ends}
+use Rattle.br_model.proofs.Plane.Waiting.{posts_at-either}
 use Rattle.live_book.specs.Reading.{is_published, refused_after}
 
 -- lines that tell of no step

@@ -23,8 +23,8 @@ use Rattle.br_model.specs.Table.Change.{asks}
 use Rattle.br_model.specs.Table.Table.{table}
 use Rattle.br_model.specs.Table.Cut.{deferred_count}
 use Rattle.br_model.specs.Table.Domains.{Domains, chip_domains, first_chip_domain, has_chip}
-use Rattle.br_model.proofs.Cuts.{deferred_at-there}
-use Rattle.br_model.proofs.PlaneChips.{chip-dom, chip-there, doms, put-other, put-same}
+use Rattle.br_model.proofs.Table.Cuts.{deferred_at-there}
+use Rattle.br_model.proofs.Plane.Chips.{chip-dom, chip-there, doms, put-other, put-same}
 
 -- Each chip is found by its domain.
 

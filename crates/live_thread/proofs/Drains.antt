@@ -14,9 +14,9 @@ use Rattle.br_model.specs.Program.LiveRun.{ends_with_publish, has_reported, is_d
 use Rattle.br_model.specs.Table.Domains.{Domains, chip_domains, has_chip}
 use Rattle.br_model.specs.Table.Setup.{Setup}
 use Rattle.br_model.specs.declared.steps.Event.TheVariants as events
-use Rattle.br_model.proofs.PlaneApplied.{run-chips}
-use Rattle.br_model.proofs.PlaneChips.{doms}
-use Rattle.br_model.proofs.PlaneStays.{step-held}
+use Rattle.br_model.proofs.Plane.Applied.{run-chips}
+use Rattle.br_model.proofs.Plane.Chips.{doms}
+use Rattle.br_model.proofs.Plane.Stays.{step-held}
 use Rattle.plane_record.specs.Pasts.{Past, after, world_of}
 use Rattle.plane_record.proofs.Recording.{world-after, world-setup, world-stands}
 use Rattle.live_thread.specs.Draining.{Drained, Drains, HasTold, HasTurned, Keeps}

@@ -9,7 +9,7 @@ use Rattle.br_model.specs.Plane.Serving.{serves, holds, held_with, posts_at}
 use Rattle.br_model.specs.Plane.Steps.{world_step}
 use Rattle.br_model.specs.Plane.World.{World, Waiting, Holding, Stepped, answered, reacts}
 use Rattle.br_model.specs.Program.LiveRun.{is_frame}
-use Rattle.br_model.proofs.PlaneKept.{Ends, ends_refused, ends_done, ends_answered, does-ends}
+use Rattle.br_model.proofs.Plane.Kept.{Ends, ends_refused, ends_done, ends_answered, does-ends}
 use Rattle.live_thread.specs.Worlds.{IsIdle}
 
 answered_idle : (before after : World) (answer : Result Reaction Refusal) → IsIdle before → IsIdle after → IsIdle (answered before after answer).0

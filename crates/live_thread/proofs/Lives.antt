@@ -11,7 +11,7 @@ use Rattle.br_model.specs.Program.Runs.{setup_of}
 use Rattle.br_model.specs.Table.Setup.{Setup}
 use Rattle.br_model.specs.Text.Scenario.{Scenario}
 use Rattle.br_model.specs.Theorems.LiveRuns.{IsLiveRun}
-use Rattle.br_model.proofs.LiveRuns.{is_live}
+use Rattle.br_model.proofs.Program.LiveRuns.{is_live}
 use Rattle.std.specs.Cmp.{first_so, second_so}
 use Rattle.plane_record.specs.Pasts.{Past, world_of}
 use Rattle.live_thread.specs.Draining.{Drained}

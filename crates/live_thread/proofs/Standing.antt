@@ -8,10 +8,10 @@ use Rattle.br_model.specs.Control.Learning.{Triple}
 use Rattle.br_model.specs.Plane.Runs.{pending_of, run}
 use Rattle.br_model.specs.Plane.World.{Stepped, chip_at}
 use Rattle.br_model.specs.declared.steps.Step.{Step}
-use Rattle.br_model.proofs.Running.{run_none}
+use Rattle.br_model.proofs.Plane.Running.{run_none}
 use Rattle.br_model.specs.Table.Domains.{Domains, has_chip}
 use Rattle.br_model.specs.Table.Setup.{Setup}
-use Rattle.br_model.proofs.PlaneApplied.{run-setup}
+use Rattle.br_model.proofs.Plane.Applied.{run-setup}
 use Rattle.plane_core.specs.Planes.{PlaneState}
 use Rattle.plane_record.specs.Pasts.{Past, state_of, world_of}
 use Rattle.live_thread.specs.Draining.{Drains, HasTold, HasTurned, Keeps}

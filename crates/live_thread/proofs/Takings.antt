@@ -8,8 +8,8 @@ use Rattle.br_model.specs.declared.steps.Step.TheVariants.{Publish, Rx, Serve}
 use Rattle.br_model.specs.Plane.Steps.{world_step}
 use Rattle.br_model.specs.Plane.World.{World}
 use Rattle.br_model.specs.Program.LiveRun.{accepts_changes, frames_at, is_frame_at, is_ordered}
-use Rattle.br_model.proofs.PlaneStays.{step-held}
-use Rattle.br_model.proofs.Still.{rx-history}
+use Rattle.br_model.proofs.Plane.Stays.{step-held}
+use Rattle.br_model.proofs.Plane.Still.{rx-history}
 use Rattle.plane_record.specs.Pasts.{acted, changes_of}
 use Rattle.plane_record.specs.Pasts.{Past, after, world_of}
 use Rattle.plane_record.proofs.Recording.{world-after}

@@ -14,10 +14,10 @@ use Rattle.br_model.specs.Plane.Steps.{world_step}
 use Rattle.br_model.specs.Plane.World.{World, Stepped, chip_at, first_world}
 use Rattle.br_model.specs.Program.LiveRun.{has_reported, is_empty, is_report_at, last_refused, says_full}
 use Rattle.br_model.specs.Table.Setup.{Setup}
-use Rattle.br_model.proofs.PlaneChips.{chip-dom}
-use Rattle.br_model.proofs.PlaneKept.{chip-stands}
-use Rattle.br_model.proofs.Running.{run_none}
-use Rattle.br_model.proofs.Still.{turn-history}
+use Rattle.br_model.proofs.Plane.Chips.{chip-dom}
+use Rattle.br_model.proofs.Plane.Kept.{chip-stands}
+use Rattle.br_model.proofs.Plane.Running.{run_none}
+use Rattle.br_model.proofs.Plane.Still.{turn-history}
 use Rattle.plane_record.specs.Pasts.{Past, after, world_of}
 use Rattle.plane_record.proofs.Recording.{world-after, world-setup, world-stands}
 use Rattle.live_thread.specs.Draining.{HasTold, HasTurned}

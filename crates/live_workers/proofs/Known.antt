@@ -10,7 +10,7 @@ use Rattle.br_model.specs.Data.Maps.{has}
 use Rattle.br_model.specs.Table.Domains.{Domains}
 use Rattle.br_model.specs.Table.Table.{table}
 use Rattle.br_model.specs.Wire.Messages.{message}
-use Rattle.br_model.proofs.PlaneLists.{has-up-to}
+use Rattle.br_model.proofs.Data.Lists.{has-up-to}
 use Rattle.forward_rules.specs.Decided.{Decides}
 use Rattle.plane_core.specs.declared.held.Held.{Held}
 use Rattle.table_publish.specs.Object.{Object, Begins, IsPublished}

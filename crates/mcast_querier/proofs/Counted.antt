@@ -17,7 +17,7 @@ use Rattle.br_model.specs.Wire.Messages.{is_counted, is_query_length_six, messag
 use Rattle.br_model.specs.Wire.MldHeaders.{has_mld, hop_length, icmp_of, is_summed_six, pseudo_header}
 use Rattle.mcast_querier.specs.Hearing.{asker, asker_as, asker_by, asker_in, message_as, message_in, source_in}
 use Rattle.mcast_querier.specs.Queries.{checksum, checksum_six, header_four, is_host_four, is_link_local_six, packet_six, query_four, query_six}
-use Rattle.br_model.proofs.BpduFacts.{spelled}
+use Rattle.br_model.proofs.Wire.Bpdus.{spelled}
 use Rattle.mcast_querier.proofs.Bytes.{all_bytes, is_byte}
 use Rattle.mcast_querier.proofs.Sums.{summed}
 

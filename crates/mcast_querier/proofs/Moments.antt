@@ -50,10 +50,10 @@ use Rattle.br_model.specs.Table.Domains.{domain_of}
 use Rattle.br_model.specs.Table.Limits.{most_waiting}
 use Rattle.br_model.specs.Wire.Frames.{frame}
 use Rattle.mcast_querier.specs.Runs.{is_done}
-use Rattle.br_model.proofs.PlaneKept.{Ends, ends_refused, ends_done, ends_answered, does-ends, moment_in}
-use Rattle.br_model.proofs.PlaneWaiting.{posts_at-either}
-use Rattle.br_model.proofs.ReactionSteps.{IsKept}
-use Rattle.br_model.proofs.SnoopSteps.{snoops-keeps}
+use Rattle.br_model.proofs.Plane.Kept.{Ends, ends_refused, ends_done, ends_answered, does-ends, moment_in}
+use Rattle.br_model.proofs.Plane.Waiting.{posts_at-either}
+use Rattle.br_model.proofs.Control.ReactionSteps.{IsKept}
+use Rattle.br_model.proofs.Control.SnoopSteps.{snoops-keeps}
 
 -- what a reaction leaves of the moment
 

@@ -1,6 +1,6 @@
 -- Worked runs, computed by the definitions.
 use Rattle.std.proofs.Common.{◌≡◌, refl}
-use Rattle.br_model.proofs.Computing.{computing}
+use Rattle.br_model.proofs.Worked.Computing.{computing}
 use Rattle.mcast_querier.specs.Queries.{checksum}
 use Rattle.mcast_querier.specs.Runs.{queried, sent}
 use Rattle.mcast_querier.specs.Worked.{nine, ten, nine_six, due_moments_text, due_moments_told, yields_text, yields_told}

@@ -16,7 +16,7 @@ use Rattle.br_model.specs.Table.GroupPairs.{GroupPair, max_pairs}
 use Rattle.br_model.specs.Table.Groups.{Membership, membership_cmp, group_cmp}
 use Rattle.br_model.specs.Data.Maps.{get, put, without, is_ascending}
 use Rattle.br_model.specs.Control.Ends.{keys}
-use Rattle.br_model.proofs.GroupOrders.{membership_total, equal_pairs, by_pair}
+use Rattle.br_model.proofs.Table.GroupOrders.{membership_total, equal_pairs, by_pair}
 use Rattle.port_sets.specs.Numbers.{has_number}
 use Rattle.mdb_snoop.specs.Counts.{AreCounts}
 use Rattle.mdb_snoop.specs.Database.{pairs_of_port, ports_in}

@@ -15,7 +15,7 @@ use Rattle.br_model.specs.Control.Ends.{end_of}
 use Rattle.mdb_snoop.specs.Database.{joined_until, ending_soon, ended_sooner, end_joined}
 use Rattle.mdb_snoop.specs.Places.{Sections, section, flat, all_below, all_above, is_fit, IsAt, IsGap}
 use Rattle.mdb_snoop.proofs.Cuts.{is_Less, is_Greater, below_first, get_front, get_above, put_front, put_above, without_front, without_above}
-use Rattle.br_model.proofs.GroupOrders.{pair_total, by_pair}
+use Rattle.br_model.proofs.Table.GroupOrders.{pair_total, by_pair}
 
 abbrev pub at_port : GroupPair → ℕ → Membership
 at_port k p = (k.0, k.1, p)

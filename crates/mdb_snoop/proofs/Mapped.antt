@@ -17,7 +17,7 @@ use Rattle.port_sets.specs.WordsOfMembers.{has-filter, has-below}
 use Rattle.br_model.specs.Table.Domains.{port_places}
 use Rattle.br_model.specs.Data.Maps.{get, put, without, is_ascending}
 use Rattle.br_model.specs.Control.Ends.{due, due_members, is_over, keys}
-use Rattle.br_model.proofs.KeySets.{holds}
+use Rattle.br_model.proofs.Data.KeySets.{holds}
 use Rattle.mdb_snoop.specs.Database.{with_end}
 use Rattle.mdb_snoop.specs.Places.{has_some}
 

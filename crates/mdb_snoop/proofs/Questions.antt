@@ -21,7 +21,7 @@ use Rattle.mdb_snoop.proofs.Cuts.{is_Less, is_Greater}
 use Rattle.mdb_snoop.proofs.Flat.{at_port, flat-append}
 use Rattle.mdb_snoop.proofs.Mapped.{tied_back}
 use Rattle.mdb_snoop.proofs.Search.{is_at}
-use Rattle.br_model.proofs.GroupOrders.{pair_total, is_of_pair}
+use Rattle.br_model.proofs.Table.GroupOrders.{pair_total, is_of_pair}
 
 -- the ports of a group in a VLAN
 

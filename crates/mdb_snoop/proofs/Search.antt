@@ -10,7 +10,7 @@ use Rattle.br_model.specs.Data.Maps.{get, without, is_ascending}
 use Rattle.mdb_snoop.specs.Places.{Section, Sections, flat, has_some, IsAt, IsGap, all_below, all_above}
 use Rattle.mdb_snoop.proofs.Cuts.{cut, set-splits, before_place, after_place, get_front, get_above}
 use Rattle.mdb_snoop.proofs.Flat.{with_at, without_at, at_port, nothing-at, without-at}
-use Rattle.br_model.proofs.GroupOrders.{pair_total, equal_pairs}
+use Rattle.br_model.proofs.Table.GroupOrders.{pair_total, equal_pairs}
 
 -- the key is what stands at i
 pub is_at : (ss : Sections) (k : GroupPair) (i : ℕ) (d e : Section) → is_ascending group_pair_cmp ss ≡ true → i < length ss → e ≡ get_or ss i d → group_pair_cmp k e.0 ≡ Equal → IsAt ss k i

@@ -12,13 +12,13 @@ use Rattle.std.proofs.lemmas.List.Folds.{list_all-append}
 use Rattle.br_model.specs.Table.GroupPairs.{GroupPair, group_pair_cmp, max_pairs}
 use Rattle.br_model.specs.Table.Groups.{Membership, membership_cmp}
 use Rattle.br_model.specs.Data.Maps.{get, has, put, without, is_ascending}
-use Rattle.br_model.proofs.KeySets.{keys-put_there, ascending-put, ascending-without}
+use Rattle.br_model.proofs.Data.KeySets.{keys-put_there, ascending-put, ascending-without}
 use Rattle.br_model.specs.Control.Ends.{Ends, end_of, keys, lasts}
 use Rattle.mdb_snoop.specs.Database.{joined_until, ending_soon, ended_sooner, end_joined, memberships}
 use Rattle.mdb_snoop.specs.Places.{Sections, flat, has_some, is_fit, IsSound, IsAt, IsGap}
 use Rattle.mdb_snoop.proofs.Cuts.{put_front, put_above, without_front, without_above}
 use Rattle.mdb_snoop.proofs.Flat.{with_at, with_before, without_at, flat-ascends}
-use Rattle.br_model.proofs.GroupOrders.{pair_total, membership_total}
+use Rattle.br_model.proofs.Table.GroupOrders.{pair_total, membership_total}
 
 so : (a b : Bool) → a ≡ true → b ≡ true → (a && b) ≡ true
 so true b p q = q

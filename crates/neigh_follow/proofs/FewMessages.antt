@@ -26,15 +26,15 @@ use Rattle.br_model.specs.Table.Limits.{most_bytes, most_changes}
 use Rattle.br_model.specs.Table.Setup.{Setup}
 use Rattle.br_model.specs.Theorems.Applied.{accepted_in, applied_in}
 use Rattle.br_model.specs.Theorems.Invariants.{IsWorld}
-use Rattle.br_model.proofs.ApplyingLaws.{deferred_count-append}
-use Rattle.br_model.proofs.Cuts.{deferred_of-cut, synchronous_of-cut}
-use Rattle.br_model.proofs.Growing.{few-deferred}
-use Rattle.br_model.proofs.PlaneApplied.{Applies, AppliesAt, step-applies, step-setup}
-use Rattle.br_model.proofs.PlaneChips.{chip-own, chip-there, put-same}
-use Rattle.br_model.proofs.PlaneKept.{ChipKeeps, chip-stands, first-world, hit_by-keeps, step-world}
-use Rattle.br_model.proofs.PlaneLists.{same-some}
-use Rattle.br_model.proofs.PlaneStays.{step-accepts}
-use Rattle.br_model.proofs.Still.{turn-history}
+use Rattle.br_model.proofs.Plane.Applying.{deferred_count-append}
+use Rattle.br_model.proofs.Table.Cuts.{deferred_of-cut, synchronous_of-cut}
+use Rattle.br_model.proofs.Plane.Growing.{few-deferred}
+use Rattle.br_model.proofs.Plane.Applied.{Applies, AppliesAt, step-applies, step-setup}
+use Rattle.br_model.proofs.Plane.Chips.{chip-own, chip-there, put-same}
+use Rattle.br_model.proofs.Plane.Kept.{ChipKeeps, chip-stands, first-world, hit_by-keeps, step-world}
+use Rattle.br_model.proofs.Data.Lists.{same-some}
+use Rattle.br_model.proofs.Plane.Stays.{step-accepts}
+use Rattle.br_model.proofs.Plane.Still.{turn-history}
 use Rattle.neigh_netlink.specs.declared.neigh.Neigh.{Neigh}
 use Rattle.neigh_netlink.specs.Messages.{written}
 use Rattle.neigh_netlink.specs.Monitor.{accepted, is_last, message_line, message_of, messages, messages_in, messages_of, monitors, offload_message, offloads, put_message, turned}

@@ -63,10 +63,10 @@ use Rattle.br_model.specs.Tree.Step.{moved, sent, tree_step}
 use Rattle.br_model.specs.Tree.Tree.{state_at}
 use Rattle.br_model.specs.Wire.Messages.{message}
 use Rattle.br_model.specs.Wire.Records.{acts}
-use Rattle.br_model.proofs.PairKeys.{pair_total, same_cmp}
-use Rattle.br_model.proofs.PlaneLists.{same-some}
-use Rattle.br_model.proofs.ReactionSteps.{IsKept}
-use Rattle.br_model.proofs.WrittenNames.{fits as fits-beside}
+use Rattle.br_model.proofs.Data.PairKeys.{pair_total, same_cmp}
+use Rattle.br_model.proofs.Data.Lists.{same-some}
+use Rattle.br_model.proofs.Control.ReactionSteps.{IsKept}
+use Rattle.br_model.proofs.Text.WrittenNames.{fits as fits-beside}
 use Rattle.neigh_netlink.specs.Messages.{fits_port, is_local}
 use Rattle.neigh_netlink.specs.Neighbours.{Key}
 use Rattle.neigh_netlink.specs.Offloaded.{is_of_key}

@@ -13,8 +13,8 @@ use Rattle.br_model.specs.Data.Digits.{bytes_from_hex, hex_digit, hex_of}
 use Rattle.br_model.specs.Text.Scenario.{longest_line}
 use Rattle.br_model.specs.Text.Words.{Word, is_word}
 use Rattle.br_model.specs.Theorems.WholeLines.{is_line, is_no_feed}
-use Rattle.br_model.proofs.Words.{equal}
-use Rattle.br_model.proofs.WrittenNumbers.{hex_read}
+use Rattle.br_model.proofs.Text.Words.{equal}
+use Rattle.br_model.proofs.Text.WrittenNumbers.{hex_read}
 use Rattle.neigh_netlink.specs.declared.follow.LineFault.TheVariants as fault
 use Rattle.neigh_netlink.specs.declared.follow.Said.TheVariants.{Ends, Tells}
 use Rattle.neigh_netlink.specs.declared.neigh.Neigh.{Neigh}

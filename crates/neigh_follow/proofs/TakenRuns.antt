@@ -30,12 +30,12 @@ use Rattle.br_model.specs.Table.Setup.{Setup}
 use Rattle.br_model.specs.Table.Table.{Table, apply, start, table}
 use Rattle.br_model.specs.Theorems.Applied.{accepted_in}
 use Rattle.br_model.specs.Theorems.Invariants.{IsWorld}
-use Rattle.br_model.proofs.PairKeys.{pair_total, same_cmp}
-use Rattle.br_model.proofs.PlaneHistory.{fit-append}
-use Rattle.br_model.proofs.PlaneKept.{first-world, step-world}
-use Rattle.br_model.proofs.PlaneLists.{same-some}
-use Rattle.br_model.proofs.PlaneStays.{step-accepts}
-use Rattle.br_model.proofs.Still.{turn-history}
+use Rattle.br_model.proofs.Data.PairKeys.{pair_total, same_cmp}
+use Rattle.br_model.proofs.Plane.History.{fit-append}
+use Rattle.br_model.proofs.Plane.Kept.{first-world, step-world}
+use Rattle.br_model.proofs.Data.Lists.{same-some}
+use Rattle.br_model.proofs.Plane.Stays.{step-accepts}
+use Rattle.br_model.proofs.Plane.Still.{turn-history}
 use Rattle.neigh_netlink.specs.declared.entries.Entry.{Entry}
 use Rattle.neigh_netlink.specs.declared.neigh.Neigh.{Neigh}
 use Rattle.neigh_netlink.specs.declared.table.TakeFault.{TakeFault}

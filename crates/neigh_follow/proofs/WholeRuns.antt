@@ -55,13 +55,13 @@ use Rattle.br_model.specs.Text.Words.{is_word}
 use Rattle.br_model.specs.Theorems.Applied.{accepted_in}
 use Rattle.br_model.specs.Theorems.Invariants.{IsWorld}
 use Rattle.br_model.specs.Wire.Frames.{frame, head_of, number_at, tag_of, tag_type}
-use Rattle.br_model.proofs.Growing.{few-deferred}
-use Rattle.br_model.proofs.PlaneChips.{chip-each, chip_of-at, put-all}
-use Rattle.br_model.proofs.PlaneKept.{first-world, step-world}
-use Rattle.br_model.proofs.PlaneLists.{same-some}
-use Rattle.br_model.proofs.PlaneStays.{step-accepts}
-use Rattle.br_model.proofs.PlaneWaiting.{goes_on-either, waits-either}
-use Rattle.br_model.proofs.WrittenLines.{frame_shown}
+use Rattle.br_model.proofs.Plane.Growing.{few-deferred}
+use Rattle.br_model.proofs.Plane.Chips.{chip-each, chip_of-at, put-all}
+use Rattle.br_model.proofs.Plane.Kept.{first-world, step-world}
+use Rattle.br_model.proofs.Data.Lists.{same-some}
+use Rattle.br_model.proofs.Plane.Stays.{step-accepts}
+use Rattle.br_model.proofs.Plane.Waiting.{goes_on-either, waits-either}
+use Rattle.br_model.proofs.Text.WrittenLines.{frame_shown}
 use Rattle.neigh_netlink.specs.declared.neigh.Neigh.{Neigh}
 use Rattle.neigh_netlink.specs.Follow.{Ended, follows}
 use Rattle.neigh_netlink.specs.Messages.{fits_port}

@@ -14,7 +14,7 @@ use Rattle.std.proofs.lemmas.List.Folds.{list_all-append}
 use Rattle.std.proofs.Math.Seq.{drop-cons}
 use Rattle.br_model.specs.declared.change.Kind.TheVariants.{Local}
 use Rattle.br_model.specs.Data.Maps.{pair_cmp, get, put, without, is_ascending}
-use Rattle.br_model.proofs.PairKeys.{pair_total}
+use Rattle.br_model.proofs.Data.PairKeys.{pair_total}
 use Rattle.neigh_netlink.specs.declared.entries.Entry.{Entry}
 use Rattle.neigh_netlink.specs.Neighbours.{Key, Neighbours}
 use Rattle.neigh_netlink.specs.Places.{all_below, all_above, IsAt, IsGap}

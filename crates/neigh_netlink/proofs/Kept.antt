@@ -22,12 +22,12 @@ use Rattle.br_model.specs.Table.DomainPorts.{is_in_domain}
 use Rattle.br_model.specs.Table.Domains.{Domains}
 use Rattle.br_model.specs.Table.Limits.{AreWithin, fits, most_addresses, most_changes}
 use Rattle.br_model.specs.Table.Table.{Table, start, table}
-use Rattle.br_model.proofs.ApplyingLaws.{deferred_count-append}
-use Rattle.br_model.proofs.Cuts.{updates-at}
-use Rattle.br_model.proofs.Growing.{few-deferred}
-use Rattle.br_model.proofs.PairKeys.{pair_total, same_cmp}
-use Rattle.br_model.proofs.PlaneChips.{chip-dom}
-use Rattle.br_model.proofs.PlaneLists.{same-some}
+use Rattle.br_model.proofs.Plane.Applying.{deferred_count-append}
+use Rattle.br_model.proofs.Table.Cuts.{updates-at}
+use Rattle.br_model.proofs.Plane.Growing.{few-deferred}
+use Rattle.br_model.proofs.Data.PairKeys.{pair_total, same_cmp}
+use Rattle.br_model.proofs.Plane.Chips.{chip-dom}
+use Rattle.br_model.proofs.Data.Lists.{same-some}
 use Rattle.neigh_netlink.specs.declared.lasts.Last.{Last}
 use Rattle.neigh_netlink.specs.declared.neigh.Neigh.{Neigh}
 use Rattle.neigh_netlink.specs.Monitor.{entry_message, is_last, message_of, messages_of, offload_message, offloads, put_message, turned}

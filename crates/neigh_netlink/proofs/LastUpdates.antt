@@ -16,10 +16,10 @@ use Rattle.br_model.specs.Data.Maps.{pair_cmp, get}
 use Rattle.br_model.specs.Table.Change.{address_part, deferred, updates}
 use Rattle.br_model.specs.Table.Cut.{deferred_at, deferred_count, deferred_of, under_ticket}
 use Rattle.br_model.specs.Table.Table.{Table, apply, start, table}
-use Rattle.br_model.proofs.Cuts.{updates-named}
-use Rattle.br_model.proofs.Growing.{enumerate-append}
-use Rattle.br_model.proofs.PairKeys.{pair_total, same_cmp}
-use Rattle.br_model.proofs.PlaneLists.{last-push}
+use Rattle.br_model.proofs.Table.Cuts.{updates-named}
+use Rattle.br_model.proofs.Plane.Growing.{enumerate-append}
+use Rattle.br_model.proofs.Data.PairKeys.{pair_total, same_cmp}
+use Rattle.br_model.proofs.Data.Lists.{last-push}
 use Rattle.neigh_netlink.specs.Neighbours.{Key}
 use Rattle.neigh_netlink.specs.Offloaded.{is_of_key, last_update, put_by}
 use Rattle.neigh_netlink.proofs.Mapped.{eq-turned}

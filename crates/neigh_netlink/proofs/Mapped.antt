@@ -7,7 +7,7 @@ use Rattle.std.specs.declared.cmp.Ordering.TheVariants.{Less, Equal, Greater}
 use Rattle.std.specs.Cmp.{tied_itself}
 use Rattle.std.specs.FinMap.Entries.{below_all}
 use Rattle.br_model.specs.Data.Maps.{pair_cmp, get, is_ascending}
-use Rattle.br_model.proofs.PairKeys.{pair_total, same_cmp}
+use Rattle.br_model.proofs.Data.PairKeys.{pair_total, same_cmp}
 use Rattle.neigh_netlink.specs.Neighbours.{Key}
 
 tied : (r : Ordering) → is_eq r ≡ true → r ≡ Equal

@@ -6,8 +6,8 @@ use Rattle.std.specs.Cmp.{first_so, second_so}
 use Rattle.std.proofs.lemmas.Bool.{ltb-true, leb-true}
 use Rattle.std.proofs.lemmas.Nat.{from_le_bytes-to_le_bytes_2, from_le_bytes-to_le_bytes_4}
 use Rattle.std.proofs.lemmas.Slice.Eq.{bytes_eq-Decides}
-use Rattle.br_model.proofs.BpduFacts.{spelled}
-use Rattle.br_model.proofs.Words.{equal, other, neither}
+use Rattle.br_model.proofs.Wire.Bpdus.{spelled}
+use Rattle.br_model.proofs.Text.Words.{equal, other, neither}
 use Rattle.br_model.specs.declared.change.Kind.{Kind}
 use Rattle.br_model.specs.declared.change.Kind.TheVariants.{Local, Static, Learned, Extern}
 use Rattle.br_model.specs.Data.Numbers.{number}

@@ -1,7 +1,7 @@
 -- Worked runs, computed by the definitions.
 use Rattle.std.proofs.Common.{◌≡◌, [], ◌∷◌, ◌++◌, refl}
 use Rattle.std.specs.Prelude.{codes}
-use Rattle.br_model.proofs.Computing.{computing}
+use Rattle.br_model.proofs.Worked.Computing.{computing}
 use Rattle.br_model.specs.Worked.Chip.{moved_to_a_foreign_port_text}
 use Rattle.br_model.specs.Worked.Rows.{first_frame_text}
 use Rattle.neigh_netlink.specs.Follow.{followed, follows}

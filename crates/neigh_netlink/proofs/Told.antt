@@ -30,14 +30,14 @@ use Rattle.br_model.specs.Table.Setup.{Setup}
 use Rattle.br_model.specs.Table.Table.{start, table}
 use Rattle.br_model.specs.Theorems.Applied.{applied_in, synchronous_in}
 use Rattle.br_model.specs.Theorems.Invariants.{IsWorld}
-use Rattle.br_model.proofs.ApplyingLaws.{deferred_count-append, once_after_accept}
-use Rattle.br_model.proofs.Cuts.{deferred_of-cut, synchronous_of-cut}
-use Rattle.br_model.proofs.PairKeys.{pair_total, same_cmp}
-use Rattle.br_model.proofs.PlaneApplied.{Applies, AppliesAt, step-applies, step-setup}
-use Rattle.br_model.proofs.PlaneChips.{chip-own, chip-there, put-same, put-other}
-use Rattle.br_model.proofs.PlaneKept.{ChipKeeps, chip-stands, first-world, hit_by-keeps, step-world}
-use Rattle.br_model.proofs.PlaneLists.{same-some}
-use Rattle.br_model.proofs.PlaneStays.{step-accepts}
+use Rattle.br_model.proofs.Plane.Applying.{deferred_count-append, once_after_accept}
+use Rattle.br_model.proofs.Table.Cuts.{deferred_of-cut, synchronous_of-cut}
+use Rattle.br_model.proofs.Data.PairKeys.{pair_total, same_cmp}
+use Rattle.br_model.proofs.Plane.Applied.{Applies, AppliesAt, step-applies, step-setup}
+use Rattle.br_model.proofs.Plane.Chips.{chip-own, chip-there, put-same, put-other}
+use Rattle.br_model.proofs.Plane.Kept.{ChipKeeps, chip-stands, first-world, hit_by-keeps, step-world}
+use Rattle.br_model.proofs.Data.Lists.{same-some}
+use Rattle.br_model.proofs.Plane.Stays.{step-accepts}
 use Rattle.neigh_netlink.specs.declared.entries.Entry.{Entry}
 use Rattle.neigh_netlink.specs.declared.neigh.Neigh.{Neigh}
 use Rattle.neigh_netlink.specs.Neighbours.{Key, Neighbours, addresses, after_message, table_of}

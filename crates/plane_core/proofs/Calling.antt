@@ -20,7 +20,7 @@ use Rattle.br_model.specs.declared.frame.Head.{Head}
 use Rattle.br_model.specs.Table.Domains.{domain_of, has_chip}
 use Rattle.br_model.specs.Plane.Entering.{chip_of}
 use Rattle.chip_pipeline.specs.Passed.{Passed, IsPass}
-use Rattle.br_model.proofs.PlaneChips.{chip-there}
+use Rattle.br_model.proofs.Plane.Chips.{chip-there}
 use Rattle.br_model.specs.Plane.ChipSteps.{turns, turns_to}
 use Rattle.br_model.specs.Theorems.Invariants.{IsWorld}
 use Rattle.br_model.specs.Plane.Serving.{posts, serves, holds, held_with, lets_go, is_point, posts_at}
@@ -36,8 +36,8 @@ use Rattle.table_publish.specs.Object.{Whose}
 use Rattle.table_publish.specs.declared.seat.Seen.{Seen}
 use Rattle.plane_core.specs.Shown.{shown_by, shown_of}
 use Rattle.plane_core.specs.declared.held.Held.{Held}
-use Rattle.br_model.proofs.Cuts.{updates-at, updates-named}
-use Rattle.br_model.proofs.PlaneKept.{first-world, step-world}
+use Rattle.br_model.proofs.Table.Cuts.{updates-at, updates-named}
+use Rattle.br_model.proofs.Plane.Kept.{first-world, step-world}
 use Rattle.plane_core.specs.Planes.{PlaneState, Steps, DecidesFloor, DecidesOldest, IsDecision, IsNamed, IsPassOf, next_ticket}
 use Rattle.plane_parts.specs.Queued.{Queued, hold_line, holds_oldest}
 use Rattle.plane_core.specs.Sides.{SidesState, Comes, first_sides, world_of}

@@ -20,10 +20,10 @@ use Rattle.br_model.specs.Table.Cut.{cut, deferred_count}
 use Rattle.br_model.specs.Table.Domains.{Domains, domain_of, has_chip, host, software}
 use Rattle.br_model.specs.Table.Table.{Table, apply, table}
 use Rattle.br_model.specs.declared.change.Change.{Change}
-use Rattle.br_model.proofs.Cuts.{cut-turn, deferred_at-deferred, updates-named}
-use Rattle.br_model.proofs.PlaneChips.{chip-there}
-use Rattle.br_model.proofs.PlaneKept.{hit_by-keeps}
-use Rattle.br_model.proofs.PlaneLists.{find-each, find-passes}
+use Rattle.br_model.proofs.Table.Cuts.{cut-turn, deferred_at-deferred, updates-named}
+use Rattle.br_model.proofs.Plane.Chips.{chip-there}
+use Rattle.br_model.proofs.Plane.Kept.{hit_by-keeps}
+use Rattle.br_model.proofs.Data.Lists.{find-each, find-passes}
 use Rattle.chip_driver.specs.Drives.{Drives}
 use Rattle.chip_pipeline.specs.Passed.{AtChip}
 use Rattle.chip_tables.specs.Stands.{Stands}
@@ -33,7 +33,7 @@ use Rattle.hwdom_chips.specs.Chips.{ChipState, IsChip, IsPlace, chips_of, state_
 use Rattle.plane_core.specs.Sides.{AreSides, Reacted, SidesState}
 use Rattle.plane_parts.specs.Places.{places}
 use Rattle.plane_parts.proofs.Placing.{count}
-use Rattle.br_model.proofs.ChipLists.{apart, apart-chips, chip-found, not-software, put-place, some-found}
+use Rattle.br_model.proofs.Table.ChipLists.{apart, apart-chips, chip-found, not-software, put-place, some-found}
 
 -- what is there for the definitions is there for the states
 pub there_at : (states : List ChipState) (chips : List Chip) (dom : ℕ) → chips_of states ≡ chips → is_some (chip_in chips dom) ≡ true → is_some (state_in states dom) ≡ true

@@ -25,8 +25,8 @@ use Rattle.br_model.specs.Table.Table.{Table, table}
 use Rattle.br_model.specs.Theorems.Invariants.{IsWorld, IsFrame, frames_of}
 use Rattle.br_model.specs.Wire.Frames.{frame}
 use Rattle.br_model.specs.Wire.Messages.{message}
-use Rattle.br_model.proofs.OneList.{one-list}
-use Rattle.br_model.proofs.PlaneLists.{last-has}
+use Rattle.br_model.proofs.Data.OneList.{one-list}
+use Rattle.br_model.proofs.Data.Lists.{last-has}
 use Rattle.plane_core.specs.Planes.{IsCopy, IsDecision, published_in}
 use Rattle.plane_core.specs.Shown.{Shown, opened, shown_by, shown_of}
 use Rattle.plane_core.specs.declared.held.Held.{Held}

@@ -14,8 +14,8 @@ use Rattle.br_model.specs.Plane.World.{World}
 use Rattle.br_model.specs.Table.Change.{updates}
 use Rattle.br_model.specs.Table.Domains.{chip_domains}
 use Rattle.br_model.specs.Table.Setup.{Setup}
-use Rattle.br_model.proofs.Growing.{step-grows, updates-prefix}
-use Rattle.br_model.proofs.Still.{publish-history}
+use Rattle.br_model.proofs.Plane.Growing.{step-grows, updates-prefix}
+use Rattle.br_model.proofs.Plane.Still.{publish-history}
 use Rattle.deferred_queue.specs.Ends.{Posting}
 use Rattle.plane_core.specs.Planes.{PlaneState}
 use Rattle.transcript_lines.specs.Rows.{Listed}

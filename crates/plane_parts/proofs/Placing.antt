@@ -4,7 +4,7 @@ use Rattle.br_model.specs.declared.change.Change.{Change}
 use Rattle.br_model.specs.declared.domains.Edition.{Edition}
 use Rattle.br_model.specs.Table.Change.{deferred, updates}
 use Rattle.br_model.specs.Table.Cut.{deferred_count, under_ticket}
-use Rattle.br_model.proofs.Cuts.{updates-at}
+use Rattle.br_model.proofs.Table.Cuts.{updates-at}
 use Rattle.plane_parts.specs.Places.{places_from, places}
 
 module _ (edition : Edition) where

@@ -18,8 +18,8 @@ use Rattle.br_model.specs.Table.Setup.{Setup}
 use Rattle.br_model.specs.Text.LineForms.{comes_by_line}
 use Rattle.br_model.specs.Text.Operands.{last_moment}
 use Rattle.br_model.specs.Theorems.Invariants.{IsWorld}
-use Rattle.br_model.proofs.PlaneApplied.{run-world, run-setup, step-setup}
-use Rattle.br_model.proofs.Running.{run_push, run_none}
+use Rattle.br_model.proofs.Plane.Applied.{run-world, run-setup, step-setup}
+use Rattle.br_model.proofs.Plane.Running.{run_push, run_none}
 use Rattle.std.specs.declared.option.Option.{Option}
 use Rattle.std.specs.declared.option.Option.TheVariants.{None, Some}
 use Rattle.transcript_lines.specs.Rows.{Listed}

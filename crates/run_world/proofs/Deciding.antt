@@ -18,9 +18,9 @@ use Rattle.br_model.specs.Table.Setup.{Setup}
 use Rattle.br_model.specs.Table.Table.{table}
 use Rattle.br_model.specs.Theorems.Invariants.{IsWorld}
 use Rattle.br_model.specs.Wire.Messages.{message}
-use Rattle.br_model.proofs.PlaneApplied.{step-setup}
-use Rattle.br_model.proofs.PlaneLists.{has-up-to, up-to-last}
-use Rattle.br_model.proofs.PlaneStays.{post-held, post-none-held, step-accepts, step-held}
+use Rattle.br_model.proofs.Plane.Applied.{step-setup}
+use Rattle.br_model.proofs.Data.Lists.{has-up-to, up-to-last}
+use Rattle.br_model.proofs.Plane.Stays.{post-held, post-none-held, step-accepts, step-held}
 use Rattle.run_world.specs.declared.held.Verdicts.{Verdicts}
 use Rattle.run_world.specs.Held.{AreDecided, AreSame, KeepsOldest, Puts, verdict_of}
 use Rattle.forward_rules.specs.declared.soft_tables.Verdict.{Verdict}

@@ -18,9 +18,9 @@ use Rattle.br_model.specs.Plane.World.{World, Stepped, chip_at, first_world}
 use Rattle.br_model.specs.Table.Change.{updates}
 use Rattle.br_model.specs.Table.Domains.{Domains}
 use Rattle.br_model.specs.Table.Setup.{Setup}
-use Rattle.br_model.proofs.PlaneApplied.{step-setup}
-use Rattle.br_model.proofs.PlaneStays.{step-accepts}
-use Rattle.br_model.proofs.Still.{turn-history}
+use Rattle.br_model.proofs.Plane.Applied.{step-setup}
+use Rattle.br_model.proofs.Plane.Stays.{step-accepts}
+use Rattle.br_model.proofs.Plane.Still.{turn-history}
 use Rattle.neigh_netlink.specs.declared.neigh.Neigh.{Neigh}
 use Rattle.neigh_netlink.specs.Monitor.{accepted, message_line, messages, messages_in, messages_of, monitors, turned}
 use Rattle.neigh_netlink.specs.Stream.{Kept, kept_of}

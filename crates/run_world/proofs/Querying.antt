@@ -17,7 +17,7 @@ use Rattle.br_model.specs.Table.Domains.{Domains}
 use Rattle.br_model.specs.Table.Setup.{Setup}
 use Rattle.br_model.specs.Text.LineForms.{comes_by_line}
 use Rattle.br_model.specs.Text.Operands.{last_moment}
-use Rattle.br_model.proofs.PlaneApplied.{run-setup, step-setup}
+use Rattle.br_model.proofs.Plane.Applied.{run-setup, step-setup}
 use Rattle.mcast_querier.specs.Election.{hears}
 use Rattle.mcast_querier.specs.Hearing.{Asker}
 use Rattle.mcast_querier.specs.Querier.{Act, Comes, Hears as HearsAct, Queried, QuerierState, acted, after, first_querier, heard_from}

@@ -17,9 +17,9 @@ use Rattle.br_model.specs.Text.Roster.{Roster, chips_of, first_roster}
 use Rattle.br_model.specs.Text.Scenario.{Scenario, Ending, Going, Ended, Bad, Front, front, Progress, bad, behind_end, captured, closes, closes_at, longest_line, opened, read, reads_at, reads_front, scenario_by, section_length, takes, takes_steps, whole_says}
 use Rattle.br_model.specs.Theorems.WholeLines.{is_line}
 use Rattle.br_model.specs.Wire.Captures.{packets}
-use Rattle.br_model.proofs.Endings.{behind_at, has_ended, read_ended}
-use Rattle.br_model.proofs.Fronts.{front_none}
-use Rattle.br_model.proofs.Reading.{below, closes_keeps, read_bad, read_line, read_part, read_rest}
+use Rattle.br_model.proofs.Text.Endings.{behind_at, has_ended, read_ended}
+use Rattle.br_model.proofs.Text.Fronts.{front_none}
+use Rattle.br_model.proofs.Text.Reading.{below, closes_keeps, read_bad, read_line, read_part, read_rest}
 use Rattle.scenario_reader.specs.declared.reader.Captured.{Captured as Gave}
 use Rattle.scenario_reader.specs.declared.reader.Captured.TheVariants as sections
 use Rattle.scenario_reader.specs.declared.reader.Last.{Last}

@@ -19,9 +19,9 @@ use Rattle.br_model.specs.Text.Roster.{Entry}
 use Rattle.br_model.specs.Text.Scenario.{Scenario, Ending, Going, Ended, Bad, Front, Progress, bad, captured, front, in_front, longest_line, opened, read, reads_at, reads_front, reads_line, scenario_by, section_length, takes, takes_steps, whole_says}
 use Rattle.br_model.specs.Text.ScenarioText.{has_line}
 use Rattle.br_model.specs.Wire.Captures.{packets}
-use Rattle.br_model.proofs.Places.{FitsPlace, line_in_place}
-use Rattle.br_model.proofs.Reading.{closes_keeps}
-use Rattle.br_model.proofs.WrittenWords.{both}
+use Rattle.br_model.proofs.Text.Places.{FitsPlace, line_in_place}
+use Rattle.br_model.proofs.Text.Reading.{closes_keeps}
+use Rattle.br_model.proofs.Text.WrittenWords.{both}
 use Rattle.scenario_text.proofs.StepsRead.{take_bytes, whole_step_has_line}
 use Rattle.scenario_reader.proofs.SectionLines.{section_lines}
 

@@ -24,8 +24,8 @@ use Rattle.br_model.specs.Text.Roster.{Roster, has_number, is_name, port_named}
 use Rattle.br_model.specs.Text.Scenario.{Scenario, Ending, Going, Ended, Bad, Front, Progress, bad, declared, front, longest_line, opened, read, reads_at, reads_front, reads_line}
 use Rattle.br_model.specs.Text.Scenario.{scenario_by, section_length, steps_of, takes, takes_steps, whole_says}
 use Rattle.br_model.specs.Text.Words.{Word, is_comment, words}
-use Rattle.br_model.proofs.Reading.{closes_keeps}
-use Rattle.br_model.proofs.WrittenWords.{both}
+use Rattle.br_model.proofs.Text.Reading.{closes_keeps}
+use Rattle.br_model.proofs.Text.WrittenWords.{both}
 use Rattle.bridge_command.proofs.Declaring.{grows}
 use Rattle.scenario_text.proofs.OperandsRead.{operand_so}
 

@@ -16,7 +16,7 @@ use Rattle.br_model.specs.Text.Roster.{Entry, has_number}
 use Rattle.br_model.specs.Text.Scenario.{captured, entered}
 use Rattle.br_model.specs.Text.ScenarioText.{has_line}
 use Rattle.br_model.specs.Wire.Captures.{Block, Capture, Cut, Fault, Said, capture, cut, cut_front, enhanced_packet, ethernet, front, in_front, interface_description, is_length, major_version, number_in, order_of, packet_by, packet_of, packets, read, read_front, said_packet, says, section_header, unless_broken, whole, whole_in}
-use Rattle.br_model.proofs.WrittenWords.{both}
+use Rattle.br_model.proofs.Text.WrittenWords.{both}
 use Rattle.pcapng_read.proofs.HavePorts.{has_port, have_ports}
 use Rattle.scenario_text.proofs.StepsRead.{shown_bytes, take_bytes}
 

@@ -6,7 +6,7 @@ use Rattle.br_model.specs.Plane.World.{World, Stepped, first_world}
 use Rattle.br_model.specs.Program.Runs.{run_of, setup_of}
 use Rattle.br_model.specs.Text.Roster.{Entry, Roster, domains_of}
 use Rattle.br_model.specs.Text.Scenario.{Scenario, Ending, scenario}
-use Rattle.br_model.proofs.Running.{run_none}
+use Rattle.br_model.proofs.Plane.Running.{run_none}
 use Rattle.chip_audit.specs.Lines.{audited, audited_at, audited_text}
 use Rattle.scenario_reader.specs.declared.reader.Last.{Last}
 use Rattle.scenario_reader.specs.declared.reader.Last.TheVariants as lasts

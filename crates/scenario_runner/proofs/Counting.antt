@@ -13,8 +13,8 @@ use Rattle.br_model.specs.Program.Runs.{run_of, setup_of}
 use Rattle.br_model.specs.Text.Scenario.{Scenario}
 use Rattle.br_model.specs.Table.Setup.{Setup}
 use Rattle.br_model.specs.Program.Summary.{kind_of, count_of, summary, summary_text}
-use Rattle.br_model.proofs.MadeRead.{made_read}
-use Rattle.br_model.proofs.Running.{run_push, run_none}
+use Rattle.br_model.proofs.Program.MadeRead.{made_read}
+use Rattle.br_model.proofs.Plane.Running.{run_push, run_none}
 use Rattle.scenario_runner.specs.declared.demo.Tally.{Tally}
 use Rattle.transcript_lines.specs.Rows.{sent_lines}
 use Rattle.scenario_runner.specs.Counting.{Tallies, Adds, AddsSent, Ran, RunsOn}

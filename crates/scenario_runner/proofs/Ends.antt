@@ -16,7 +16,7 @@ use Rattle.br_model.specs.Text.Roster.{Entry}
 use Rattle.br_model.specs.Program.Runs.{body, body_parts, told, told_of, run_of, setup_of}
 use Rattle.br_model.specs.Text.Scenario.{Scenario, Ending, Going, Ended, Bad, scenario}
 use Rattle.br_model.specs.Table.Table.{table}
-use Rattle.br_model.proofs.Running.{run_none}
+use Rattle.br_model.proofs.Plane.Running.{run_none}
 use Rattle.scenario_runner.specs.declared.replay.Halt.TheVariants as halts
 use Rattle.run_status.specs.declared.stop.Stop.{Stop}
 use Rattle.run_status.specs.declared.stop.Stop.TheVariants as stops

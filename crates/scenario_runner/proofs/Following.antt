@@ -13,7 +13,7 @@ use Rattle.br_model.specs.Program.Runs.{run_of, setup_of, body_of}
 use Rattle.br_model.specs.Text.Scenario.{Scenario, bad, takes, whole_says}
 use Rattle.br_model.specs.Table.Setup.{Setup}
 use Rattle.br_model.specs.Text.Transcript.{text}
-use Rattle.br_model.proofs.Running.{run_push, run_none, text-append}
+use Rattle.br_model.proofs.Plane.Running.{run_push, run_none, text-append}
 use Rattle.scenario_reader.specs.declared.reader.Last.{Last}
 use Rattle.scenario_reader.specs.declared.reader.Next.TheVariants as read
 use Rattle.scenario_reader.specs.Reading as reading

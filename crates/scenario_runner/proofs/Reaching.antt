@@ -12,10 +12,10 @@ use Rattle.br_model.specs.Program.Outcomes.{scenario_lines}
 use Rattle.br_model.specs.Plane.Runs.{run}
 use Rattle.br_model.specs.Program.Runs.{run_of, setup_of, body_of, body, body_parts}
 use Rattle.br_model.specs.Text.Scenario.{Scenario, Going, Progress, opened, closes, read, reads, scenario}
-use Rattle.br_model.proofs.AllLeft.{below_limit, not_too_long, same_at_end, same_with_more}
-use Rattle.br_model.proofs.Endings.{has_ended, closes_ended}
-use Rattle.br_model.proofs.MoreBytes.{all_parts, parts_stay}
-use Rattle.br_model.proofs.Reading.{closed, closes_keeps, scenario_is}
+use Rattle.br_model.proofs.Program.AllLeft.{below_limit, not_too_long, same_at_end, same_with_more}
+use Rattle.br_model.proofs.Text.Endings.{has_ended, closes_ended}
+use Rattle.br_model.proofs.Text.MoreBytes.{all_parts, parts_stay}
+use Rattle.br_model.proofs.Text.Reading.{closed, closes_keeps, scenario_is}
 use Rattle.scenario_reader.specs.declared.reader.Last.{Last}
 use Rattle.scenario_reader.specs.Reading.{KeepsSetup, ending_of}
 use Rattle.scenario_runner.specs.declared.session.Session.{Session}

@@ -10,7 +10,7 @@ use Rattle.br_model.specs.Table.Setup.{Setup}
 use Rattle.br_model.specs.Text.LineForms.{comes_by_line}
 use Rattle.br_model.specs.Text.Roster.{Entry, Roster, chips_of}
 use Rattle.br_model.specs.Text.Scenario.{Scenario, Going, opened}
-use Rattle.br_model.proofs.PlaneApplied.{step-setup}
+use Rattle.br_model.proofs.Plane.Applied.{step-setup}
 use Rattle.plane_parts.specs.Added.{Added}
 use Rattle.scenario_runner.specs.declared.session.Session.{Session}
 use Rattle.run_world.specs.declared.voice.Voice.{Voice}

@@ -10,8 +10,8 @@ use Rattle.br_model.specs.Wire.Captures.{packets}
 use Rattle.br_model.specs.Text.Roster.{Roster, chips_of}
 use Rattle.br_model.specs.Program.Runs.{run_of, body_of}
 use Rattle.br_model.specs.Text.Scenario.{Scenario, Ending, Going, Ended, Bad, Progress, bad, captured, closes_at, read, takes, takes_steps}
-use Rattle.br_model.proofs.Endings.{read_ended}
-use Rattle.br_model.proofs.Reading.{read_line, read_part}
+use Rattle.br_model.proofs.Text.Endings.{read_ended}
+use Rattle.br_model.proofs.Text.Reading.{read_line, read_part}
 use Rattle.scenario_reader.specs.declared.reader.Captured.{Captured}
 use Rattle.scenario_reader.specs.declared.reader.Captured.TheVariants as sections
 use Rattle.scenario_reader.specs.declared.reader.Last.{Last}

@@ -5,7 +5,7 @@ use Rattle.br_model.specs.Plane.World.{World, Stepped, first_world}
 use Rattle.br_model.specs.Program.Runs.{setup_of}
 use Rattle.br_model.specs.Table.Setup.{Setup}
 use Rattle.br_model.specs.Text.Scenario.{Scenario}
-use Rattle.br_model.proofs.Running.{run_none}
+use Rattle.br_model.proofs.Plane.Running.{run_none}
 use Rattle.run_world.specs.declared.voice.Voice.{Voice}
 use Rattle.scenario_runner.specs.Session.{IsSaid}
 use Rattle.run_world.specs.Voices.{BeginsBy, Says, SaysBy}

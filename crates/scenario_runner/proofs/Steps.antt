@@ -7,8 +7,8 @@ use Rattle.br_model.specs.declared.scenario.LineWhy.TheVariants.{Long}
 use Rattle.br_model.specs.declared.scenario.Said.{Said}
 use Rattle.br_model.specs.Program.Runs.{run_of, body_of}
 use Rattle.br_model.specs.Text.Scenario.{Scenario, Bad, Progress, closes, bad, read, takes, section_length, whole_says, longest_line}
-use Rattle.br_model.proofs.Endings.{has_ended, read_ended}
-use Rattle.br_model.proofs.Reading.{read_line, read_bad, read_rest, read_long}
+use Rattle.br_model.proofs.Text.Endings.{has_ended, read_ended}
+use Rattle.br_model.proofs.Text.Reading.{read_line, read_bad, read_rest, read_long}
 use Rattle.scenario_reader.specs.declared.reader.Last.{Last}
 use Rattle.scenario_reader.specs.declared.reader.Last.TheVariants as lasts
 use Rattle.scenario_reader.specs.Reading as reading

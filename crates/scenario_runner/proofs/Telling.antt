@@ -16,7 +16,7 @@ use Rattle.br_model.specs.declared.transcript.Line.TheVariants.{End}
 use Rattle.br_model.specs.Program.Runs.{run_of, body_of, body, body_parts, told, last_text, setup_of}
 use Rattle.br_model.specs.Text.Scenario.{Scenario, Ending, opened, scenario}
 use Rattle.br_model.specs.Text.Transcript.{line_text, text as lines_text}
-use Rattle.br_model.proofs.Running.{run_none}
+use Rattle.br_model.proofs.Plane.Running.{run_none}
 use Rattle.scenario_runner.specs.declared.replay.Halt.{Halt}
 use Rattle.scenario_runner.specs.declared.replay.Halt.TheVariants.{Stopped, WriteFault}
 use Rattle.run_status.specs.declared.stop.Stop.{Stop}

@@ -8,7 +8,7 @@ use Rattle.br_model.specs.Text.Forms.{line}
 use Rattle.br_model.specs.Text.LineForms.{commanded, lines, words_say}
 use Rattle.br_model.specs.Text.Roster.{Roster}
 use Rattle.br_model.specs.Text.Words.{Word}
-use Rattle.br_model.proofs.Words.{equal, other}
+use Rattle.br_model.proofs.Text.Words.{equal, other}
 use Rattle.bridge_command.specs.Seen.{word}
 
 one_on : (w : Bor Word) (ws : List (Bor Word)) → (λ i. word (w ∷ ws) (i + 1)) ≡ word ws

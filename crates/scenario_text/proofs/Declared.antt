@@ -20,7 +20,7 @@ use Rattle.br_model.specs.Text.Head.{domain_words, port_line}
 use Rattle.br_model.specs.Text.Roster.{Entry, domains_of, has_number}
 use Rattle.br_model.specs.Text.Spelling.{name_of}
 use Rattle.br_model.specs.Text.Words.{Word}
-use Rattle.br_model.proofs.WrittenNames.{Fits, fits}
+use Rattle.br_model.proofs.Text.WrittenNames.{Fits, fits}
 
 -- it is among them
 pub has_at : (ports : List Entry) (i : ℕ) (e : Entry) → slice_get ports i ≡ Some e → has_number ports e.port ≡ true

@@ -27,12 +27,12 @@ use Rattle.br_model.specs.Text.Scenario.{Scenario, Going, longest_line, opened, 
 use Rattle.br_model.specs.Text.Spelling.{byte_at, mac_text}
 use Rattle.br_model.specs.Text.Words.{Word}
 use Rattle.br_model.specs.Theorems.WholeLines.{is_line, is_no_feed}
-use Rattle.br_model.proofs.Computing.{computing}
-use Rattle.br_model.proofs.Reading.{not_below, read_line}
-use Rattle.br_model.proofs.WrittenLines.{line_read}
-use Rattle.br_model.proofs.WrittenNames.{Fits, fits}
-use Rattle.br_model.proofs.WrittenNumbers.{decimal_digits}
-use Rattle.br_model.proofs.WrittenWords.{both}
+use Rattle.br_model.proofs.Worked.Computing.{computing}
+use Rattle.br_model.proofs.Text.Reading.{not_below, read_line}
+use Rattle.br_model.proofs.Text.WrittenLines.{line_read}
+use Rattle.br_model.proofs.Text.WrittenNames.{Fits, fits}
+use Rattle.br_model.proofs.Text.WrittenNumbers.{decimal_digits}
+use Rattle.br_model.proofs.Text.WrittenWords.{both}
 use Rattle.scenario_text.specs.Heads.{behind_head, behind_ports}
 
 -- lines without line feeds

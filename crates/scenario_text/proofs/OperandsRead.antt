@@ -18,7 +18,7 @@ use Rattle.br_model.specs.Text.IpWords.{address, address_four, address_six, each
 use Rattle.br_model.specs.Text.Operands.{Operand, Number, Chip, NewPort, NewName, PortNumber, PortName, Device, Station, GroupAddress, Hex, Flag, Value, bytes_of, chip_domain, device, flag, found, group, has_colons, hex, in_range, is_byte, is_device, is_flag, is_ip, is_station, mac, new_name, new_port, number, number_in, port_name, port_number, read, station_of, twelve, unless}
 use Rattle.br_model.specs.Text.Roster.{Entry, has_number, is_chip, is_name, host_name, port_named}
 use Rattle.br_model.specs.Text.Words.{Word, is_word}
-use Rattle.br_model.proofs.WrittenWords.{both}
+use Rattle.br_model.proofs.Text.WrittenWords.{both}
 
 -- truth values
 

@@ -25,7 +25,7 @@ use Rattle.br_model.specs.Text.ScenarioText.{has_line}
 use Rattle.br_model.specs.Text.Spelling.{shown}
 use Rattle.br_model.specs.Text.Words.{Word, is_comment, is_word, words}
 use Rattle.br_model.specs.Wire.Frames.{longest_frame}
-use Rattle.br_model.proofs.WrittenWords.{both}
+use Rattle.br_model.proofs.Text.WrittenWords.{both}
 use Rattle.scenario_text.proofs.OperandsRead.{operand_so}
 
 -- the bytes of a frame that a line shows

@@ -69,7 +69,7 @@ fn addressed(address: &str, r: &Roster) -> Result<Said, LineWhy>
 }
 
 /// The first line, and the declarations.
-#[tactic(auto, using(br_model::proofs::Words::words))]
+#[tactic(auto, using(br_model::proofs::Text::Words::words))]
 fn declaration_line(alloc: Global, words: &[&str], r: &Roster) -> Result<Said, LineWhy>
     ensures value { OrNoMemory result (line declarations r.now (length words.now) (word words.now)) }
     ensures fits { IfOk result (λ said. fits_roster r.now said ≡ true) }
@@ -128,7 +128,7 @@ fn posted_at(id: &str, point: &str, r: &Roster) -> Result<Said, LineWhy>
 }
 
 /// The steps of a frame on its way through software.
-#[tactic(auto, using(br_model::proofs::Words::words))]
+#[tactic(auto, using(br_model::proofs::Text::Words::words))]
 fn frame_line(alloc: Global, words: &[&str], r: &Roster) -> Result<Said, LineWhy>
     ensures value { OrNoMemory result (line frames r.now (length words.now) (word words.now)) }
     ensures fits { IfOk result (λ said. fits_roster r.now said ≡ true) }
@@ -173,7 +173,7 @@ fn captured(length: &str, r: &Roster) -> Result<Said, LineWhy>
 }
 
 /// The other steps but for commands; captures, and the last line.
-#[tactic(auto, using(br_model::proofs::Words::words))]
+#[tactic(auto, using(br_model::proofs::Text::Words::words))]
 fn step_line(words: &[&str], r: &Roster) -> Result<Said, LineWhy>
     ensures value { result ≡ line steps r.now (length words.now) (word words.now) }
     ensures fits { IfOk result (λ said. fits_roster r.now said ≡ true) }
@@ -194,7 +194,7 @@ fn step_line(words: &[&str], r: &Roster) -> Result<Said, LineWhy>
 }
 
 /// Any line but a command.
-#[tactic(auto, using(br_model::proofs::Words::words))]
+#[tactic(auto, using(br_model::proofs::Text::Words::words))]
 fn other_line(alloc: Global, words: &[&str], r: &Roster) -> Result<Said, LineWhy>
     ensures value { OrNoMemory result (line lines r.now (length words.now) (word words.now)) }
     ensures fits { IfOk result (λ said. fits_roster r.now said ≡ true) }
@@ -218,7 +218,7 @@ fn command_step(command: &[&str], r: &Roster) -> Result<Said, LineWhy>
 }
 
 /// What the words of a line say; no words say nothing.
-#[tactic(auto, using(br_model::proofs::Words::words))]
+#[tactic(auto, using(br_model::proofs::Text::Words::words))]
 pub(crate) fn read_words(alloc: Global, words: &[&str], r: &Roster) -> Result<Said, LineWhy>
     requires { 0 < length words.now }
     ensures value { OrNoMemory result (words_say r.now (length words.now) (word words.now)) }

@@ -10,9 +10,9 @@ use Rattle.br_model.specs.Table.Change.{deferred, is_of_address}
 use Rattle.br_model.specs.Table.Cut.{cut, deferred_count}
 use Rattle.br_model.specs.Table.Limits.{AreWithin, fits}
 use Rattle.br_model.specs.Table.Table.{Table, apply, start, table}
-use Rattle.br_model.proofs.ApplyingLaws.{deferred_count-append}
-use Rattle.br_model.proofs.CutFits.{synchronous-fits}
-use Rattle.br_model.proofs.Cuts.{cut-one}
+use Rattle.br_model.proofs.Plane.Applying.{deferred_count-append}
+use Rattle.br_model.proofs.Table.CutFits.{synchronous-fits}
+use Rattle.br_model.proofs.Table.Cuts.{cut-one}
 use Rattle.table_cuts.specs.Cuts.{CutState, IsCut}
 
 -- what isn't deferred isn't of an address

@@ -8,7 +8,7 @@ use Rattle.br_model.specs.Table.Change.{deferred}
 use Rattle.br_model.specs.Table.Domains.{Domains}
 use Rattle.br_model.specs.Table.Limits.{fits}
 use Rattle.br_model.specs.Table.Table.{Table, apply}
-use Rattle.br_model.proofs.AddressRoom.{HasRoom, room-apply}
+use Rattle.br_model.proofs.Table.AddressRoom.{HasRoom, room-apply}
 use Rattle.chip_driver.specs.Drives.{Driven, Drives, IsTaken}
 use Rattle.chip_driver.proofs.Taking.{taken}
 use Rattle.switchdev_notify.specs.Notices.{notice, told_in}

@@ -12,9 +12,9 @@ use Rattle.br_model.specs.Program.Runs.{body_of}
 use Rattle.br_model.specs.Table.Setup.{Setup}
 use Rattle.br_model.specs.Text.Transcript.{line_text, text}
 use Rattle.br_model.specs.Theorems.Invariants.{IsWorld}
-use Rattle.br_model.proofs.PlaneApplied.{step-setup}
-use Rattle.br_model.proofs.PlaneKept.{first-world, step-world}
-use Rattle.br_model.proofs.Running.{run_none, run_push, text-append}
+use Rattle.br_model.proofs.Plane.Applied.{step-setup}
+use Rattle.br_model.proofs.Plane.Kept.{first-world, step-world}
+use Rattle.br_model.proofs.Plane.Running.{run_none, run_push, text-append}
 use Rattle.transcript_check.specs.Besides.{IsBeside, start_of}
 use Rattle.transcript_check.specs.Comparing.{Compares, EndsThere, Standing, differs_at}
 use Rattle.transcript_check.specs.Lines.{is_whole}

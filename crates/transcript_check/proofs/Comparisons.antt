@@ -13,7 +13,7 @@ use Rattle.br_model.specs.Text.LineForms.{comes_by_line}
 use Rattle.br_model.specs.Text.Roster.{Roster}
 use Rattle.br_model.specs.Text.Scenario.{Ending, Scenario, scenario_by}
 use Rattle.br_model.specs.Text.Transcript.{line_text}
-use Rattle.br_model.proofs.DeclaredChips.{declared-chips}
+use Rattle.br_model.proofs.Text.DeclaredChips.{declared-chips}
 use Rattle.scenario_reader.specs.declared.reader.Last.TheVariants as lasts
 use Rattle.scenario_reader.specs.Reading.{ending_of}
 use Rattle.scenario_reader.specs.Whole.{SaysWhole, WholeState}

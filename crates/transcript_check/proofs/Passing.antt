@@ -2,7 +2,7 @@
 use Rattle.std.proofs.Common.{◌≡◌, ℕ, ◌+◌, ◌-◌, ◌<◌, true, false, if◌then◌else◌, List, [], ◌∷◌, ◌++◌, None, Some, length, take, drop, refl, sym, ◌∙◌, ap, arith}
 use Rattle.std.specs.Str.{bytes_eq}
 use Rattle.br_model.specs.Program.Checks.{difference_from, lines_in}
-use Rattle.br_model.proofs.Words.{equal}
+use Rattle.br_model.proofs.Text.Words.{equal}
 use Rattle.transcript_check.specs.Comparing.{Standing, differs_at, difference_at, EndsThere, first_of, GoesOn, Differs}
 use Rattle.transcript_check.specs.Lines.{is_whole}
 use Rattle.transcript_check.proofs.Cutting.{behind, has_line, HasLine, whole_lines}

@@ -5,7 +5,7 @@ use Rattle.std.specs.List.{list_all}
 use Rattle.br_model.specs.Data.Digits.{hex_digit, hex_of}
 use Rattle.br_model.specs.Text.Words.{Word}
 use Rattle.br_model.specs.Text.Operands.{is_byte}
-use Rattle.br_model.proofs.WrittenWords.{both}
+use Rattle.br_model.proofs.Text.WrittenWords.{both}
 use Rattle.hex.specs.Hex.{IsBytes, ◌>>=◌, hex_digit_value, digit_or_error, decode_pairs, decode_of}
 use Rattle.hex.specs.declared.error.FromHexError.{FromHexError}
 use Rattle.hex.proofs.HexLemmas.{decode_of-even, decode_of-ok, decode_of-encode_lower}

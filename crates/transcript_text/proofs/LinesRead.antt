@@ -19,8 +19,8 @@ use Rattle.br_model.specs.declared.transcript.Line.TheVariants.{Chip, Unread, So
 use Rattle.br_model.specs.Control.Refusals.{refusal_number, refusal_of}
 use Rattle.br_model.specs.Text.Transcript.{line_text, class_word, fault_word}
 use Rattle.br_model.specs.Text.Words.{Word}
-use Rattle.br_model.proofs.Refusals as refusals
-use Rattle.br_model.proofs.WrittenWords.{both}
+use Rattle.br_model.proofs.Control.Refusals as refusals
+use Rattle.br_model.proofs.Text.WrittenWords.{both}
 use Rattle.transcript_text.specs.Lines.{is_number, is_port, is_line, line_words}
 use Rattle.transcript_text.specs.Reading as reading
 use Rattle.transcript_text.specs.Reading.{word, says, ◌>>=◌, in_range}

@@ -9,8 +9,8 @@ use Rattle.std.proofs.lemmas.Fmt.{decimal-digits_value}
 use Rattle.std.proofs.lemmas.Str.Parse.{IsNumeralModel, IsDigitsTest, FoldsDigits, numerals_by_fold, parse_plain}
 use Rattle.br_model.specs.Data.Digits.{is_digit, digits_value, begins_with_zero, is_decimal}
 use Rattle.br_model.specs.Text.Words.{Word}
-use Rattle.br_model.proofs.WrittenNumbers.{decimal_read}
-use Rattle.br_model.proofs.WrittenWords.{both}
+use Rattle.br_model.proofs.Text.WrittenNumbers.{decimal_read}
+use Rattle.br_model.proofs.Text.WrittenWords.{both}
 use Rattle.transcript_text.specs.Lines.{is_number}
 use Rattle.transcript_text.specs.Reading.{number}
 

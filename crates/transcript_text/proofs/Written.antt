@@ -16,9 +16,9 @@ use Rattle.br_model.specs.Control.Refusals.{refusal_number}
 use Rattle.br_model.specs.Data.Digits.{hex_of}
 use Rattle.br_model.specs.Text.Transcript.{line_text, class_word, fault_word}
 use Rattle.br_model.specs.Text.Words.{Word, is_word}
-use Rattle.br_model.proofs.Refusals.{each_number}
-use Rattle.br_model.proofs.WrittenNumbers.{decimal_proper, hex_proper}
-use Rattle.br_model.proofs.WrittenWords.{is_letter, letters, is_proper, both}
+use Rattle.br_model.proofs.Control.Refusals.{each_number}
+use Rattle.br_model.proofs.Text.WrittenNumbers.{decimal_proper, hex_proper}
+use Rattle.br_model.proofs.Text.WrittenWords.{is_letter, letters, is_proper, both}
 use Rattle.transcript_text.specs.Lines.{is_number, is_port, is_frame, is_line, line_words}
 use Rattle.transcript_text.proofs.Spaces.{is_space, parts}
 

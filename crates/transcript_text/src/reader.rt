@@ -109,7 +109,7 @@ fn end(steps: &str, changes: &str, pending: &str, waiting: &str) -> Option<Line>
     })
 }
 
-#[tactic(auto, using(br_model::proofs::Words::words))]
+#[tactic(auto, using(br_model::proofs::Text::Words::words))]
 fn read_words(alloc: Global, words: &[&str]) -> Result<Option<Line>, NoMemory>
     ensures { IfOk result (λ line. line ≡ says (length words.now) (word words.now)) }
 {

@@ -19,7 +19,7 @@ use Rattle.port_sets.proofs.Numbers.{numbers_below-filter, none_below}
 use Rattle.vlan_groups.specs.declared.row.Row.{Row}
 use Rattle.vlan_groups.specs.Rows.{ports_where, no_ports, at_port, memberships, memberships_from}
 use Rattle.vlan_groups.specs.Vlans.{vids_of}
-use Rattle.br_model.proofs.PairKeys.{Key, pair_total, same_cmp, eq-pair}
+use Rattle.br_model.proofs.Data.PairKeys.{Key, pair_total, same_cmp, eq-pair}
 use Rattle.vlan_groups.proofs.RowLaws.{has-ports_where, at-low, at-high}
 
 abbrev Memberships : Type 0

@@ -6,7 +6,7 @@ use Rattle.std.proofs.lemmas.Bool.{le-leb}
 use Rattle.std.proofs.lemmas.List.{get_or_default, get_or-replicate}
 use Rattle.br_model.specs.Data.Maps.{pair_cmp, get}
 use Rattle.br_model.specs.Table.Domains.{port_places}
-use Rattle.br_model.proofs.PairKeys.{eq-pair}
+use Rattle.br_model.proofs.Data.PairKeys.{eq-pair}
 use Rattle.port_sets.specs.Numbers.{numbers_below, has_number}
 use Rattle.vlan_groups.specs.declared.row.Row.{Row}
 use Rattle.vlan_groups.specs.Joined.{block_count, has_vlan, is_vlan, Switches}

@@ -16,8 +16,8 @@ use Rattle.br_model.specs.Text.Roster.{Roster, chips_of}
 use Rattle.br_model.specs.Text.Scenario.{Scenario, Ending, Going, bad, captured, closes, closes_at, longest_line, opened, read, scenario, takes, takes_steps, whole_says}
 use Rattle.br_model.specs.Theorems.WholeLines.{is_line}
 use Rattle.br_model.specs.Wire.Captures.{packets}
-use Rattle.br_model.proofs.Endings.{read_ended}
-use Rattle.br_model.proofs.Reading.{closes_keeps, read_bad, read_line, read_long, read_part, read_rest, scenario_is}
+use Rattle.br_model.proofs.Text.Endings.{read_ended}
+use Rattle.br_model.proofs.Text.Reading.{closes_keeps, read_bad, read_line, read_long, read_part, read_rest, scenario_is}
 use Rattle.scenario_reader.specs.declared.reader.Captured.{Captured as Gave}
 use Rattle.scenario_reader.specs.declared.reader.Captured.TheVariants as sections
 use Rattle.scenario_reader.specs.declared.reader.Last.{Last}

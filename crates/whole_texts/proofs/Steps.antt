@@ -23,9 +23,9 @@ use Rattle.br_model.specs.Text.Transcript.{line_text, text}
 use Rattle.br_model.specs.Theorems.Invariants.{IsWorld}
 use Rattle.plane_parts.specs.Added.{Added}
 use Rattle.check_world.specs.Worlds.{Tells}
-use Rattle.br_model.proofs.PlaneApplied.{step-setup}
-use Rattle.br_model.proofs.PlaneKept.{step-world}
-use Rattle.br_model.proofs.Running.{run_none, run_push, text-append}
+use Rattle.br_model.proofs.Plane.Applied.{step-setup}
+use Rattle.br_model.proofs.Plane.Kept.{step-world}
+use Rattle.br_model.proofs.Plane.Running.{run_none, run_push, text-append}
 use Rattle.scenario_reader.specs.declared.reader.Last.{Last}
 use Rattle.scenario_reader.specs.declared.reader.Last.TheVariants as lasts
 use Rattle.scenario_reader.specs.Reading.{Follows, IsBehindDeclarations, KeepsSetup, ReaderState, ending_of}

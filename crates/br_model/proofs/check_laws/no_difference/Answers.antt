@@ -1,4 +1,4 @@
-use Rattle.br_model.proofs.Differences.{only_told, always_yes}
+use Rattle.br_model.proofs.Program.Differences.{only_told, always_yes}
 use Rattle.br_model.proofs.check_laws.no_difference.Goals as goal
 
 pub returns : goal.returns

@@ -1,4 +1,4 @@
-use Rattle.br_model.proofs.CommandRows.{steps_behind}
+use Rattle.br_model.proofs.Worked.Commands.{steps_behind}
 use Rattle.br_model.proofs.command_laws.frames_have_steps_behind.Goals as goal
 
 pub returns : goal.returns

@@ -1,4 +1,4 @@
-use Rattle.br_model.proofs.CommandRows.{first_word}
+use Rattle.br_model.proofs.Worked.Commands.{first_word}
 use Rattle.br_model.proofs.command_laws.kind_is_first_word.Goals as goal
 
 pub returns : goal.returns

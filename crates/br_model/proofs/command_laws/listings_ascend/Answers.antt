@@ -1,4 +1,4 @@
-use Rattle.br_model.proofs.CommandRows.{fdb_ascends, vlan_ascends, mdb_ascends}
+use Rattle.br_model.proofs.Worked.Commands.{fdb_ascends, vlan_ascends, mdb_ascends}
 use Rattle.br_model.proofs.command_laws.listings_ascend.Goals as goal
 
 pub returns : goal.returns

@@ -1,4 +1,4 @@
-use Rattle.br_model.proofs.CommandRows.{fdb_crosses, mdb_crosses, bad_alone}
+use Rattle.br_model.proofs.Worked.Commands.{fdb_crosses, mdb_crosses, bad_alone}
 use Rattle.br_model.proofs.command_laws.listings_cross.Goals as goal
 
 pub returns : goal.returns

@@ -1,4 +1,4 @@
-use Rattle.br_model.proofs.CommandRows.{none_summed, one_summed}
+use Rattle.br_model.proofs.Worked.Commands.{none_summed, one_summed}
 use Rattle.br_model.proofs.command_laws.runs_are_summed.Goals as goal
 
 pub returns : goal.returns

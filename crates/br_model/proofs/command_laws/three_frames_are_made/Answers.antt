@@ -1,4 +1,4 @@
-use Rattle.br_model.proofs.CommandRows.{three_made}
+use Rattle.br_model.proofs.Worked.Commands.{three_made}
 use Rattle.br_model.proofs.command_laws.three_frames_are_made.Goals as goal
 
 pub returns : goal.returns

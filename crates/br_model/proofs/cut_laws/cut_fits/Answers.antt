@@ -1,4 +1,4 @@
-use Rattle.br_model.proofs.CutFits.{synchronous-fits, turn-fits}
+use Rattle.br_model.proofs.Table.CutFits.{synchronous-fits, turn-fits}
 use Rattle.br_model.proofs.cut_laws.cut_fits.Goals as goal
 
 pub returns : goal.returns

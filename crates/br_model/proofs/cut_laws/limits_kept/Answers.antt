@@ -1,8 +1,8 @@
 use Rattle.br_model.specs.Table.GroupPairs.{max_pairs}
 use Rattle.br_model.specs.Table.Limits.{most_addresses}
-use Rattle.br_model.proofs.AddressRoom.{few-front}
-use Rattle.br_model.proofs.Cuts.{addr-within, pairs-within}
-use Rattle.br_model.proofs.GroupRoom.{few_pairs-front}
+use Rattle.br_model.proofs.Table.AddressRoom.{few-front}
+use Rattle.br_model.proofs.Table.Cuts.{addr-within, pairs-within}
+use Rattle.br_model.proofs.Table.GroupRoom.{few_pairs-front}
 use Rattle.br_model.proofs.cut_laws.limits_kept.Goals as goal
 
 pub returns : goal.returns

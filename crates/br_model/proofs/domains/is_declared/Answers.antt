@@ -1,5 +1,5 @@
 use Rattle.std.proofs.Common.{◌∙◌}
-use Rattle.br_model.proofs.DomainChips.{any-place}
+use Rattle.br_model.proofs.Table.DomainChips.{any-place}
 use Rattle.br_model.proofs.domains.is_declared.Goals as goal
 
 pub returns : goal.returns

@@ -3,7 +3,7 @@ use Rattle.std.specs.Prelude.{◌==◌}
 use Rattle.std.proofs.lemmas.List.{get_or_default}
 use Rattle.port_sets.specs.Numbers.{has_number, numbers_below}
 use Rattle.br_model.specs.Table.Domains.{port_places}
-use Rattle.br_model.proofs.DomainMembers.{members-put}
+use Rattle.br_model.proofs.Table.DomainMembers.{members-put}
 use Rattle.br_model.proofs.domains.move_port.Goals as goal
 
 pub returns : goal.returns

@@ -1,4 +1,4 @@
-use Rattle.br_model.proofs.MoreBytes.{all_parts, body_front, parts_front, parts_stay}
+use Rattle.br_model.proofs.Text.MoreBytes.{all_parts, body_front, parts_front, parts_stay}
 use Rattle.br_model.proofs.ending_laws.body_is_a_front.Goals as goal
 
 pub returns : goal.returns

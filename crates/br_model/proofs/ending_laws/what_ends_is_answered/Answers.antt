@@ -1,5 +1,5 @@
 use Rattle.br_model.specs.Program.Outcomes.{scenario_lines}
-use Rattle.br_model.proofs.Completing.{never_bad, never_full, scenarios_apart}
+use Rattle.br_model.proofs.Program.Completing.{never_bad, never_full, scenarios_apart}
 use Rattle.br_model.proofs.ending_laws.what_ends_is_answered.Goals as goal
 
 pub returns : goal.returns

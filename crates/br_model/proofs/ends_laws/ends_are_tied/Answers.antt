@@ -1,5 +1,5 @@
-use Rattle.br_model.proofs.CoursesTied.{said-tied, react-tied}
-use Rattle.br_model.proofs.EndsTied.{tied-start, tied-apply}
+use Rattle.br_model.proofs.Control.CoursesTied.{said-tied, react-tied}
+use Rattle.br_model.proofs.Control.EndsTied.{tied-start, tied-apply}
 use Rattle.br_model.proofs.ends_laws.ends_are_tied.Goals as goal
 
 pub returns : goal.returns

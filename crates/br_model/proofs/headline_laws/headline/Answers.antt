@@ -1,5 +1,5 @@
-use Rattle.br_model.proofs.PlaneFrameLines.{by-chip, by-software, step-moves, unread, run-entry, zero-none, run-none}
-use Rattle.br_model.proofs.PlaneOnce.{run-lines}
+use Rattle.br_model.proofs.Plane.FrameLines.{by-chip, by-software, step-moves, unread, run-entry, zero-none, run-none}
+use Rattle.br_model.proofs.Plane.Once.{run-lines}
 use Rattle.br_model.proofs.headline_laws.headline.Goals as goal
 
 pub returns : goal.returns

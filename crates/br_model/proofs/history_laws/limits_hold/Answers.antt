@@ -1,8 +1,8 @@
 use Rattle.br_model.specs.Plane.Runs.{run}
-use Rattle.br_model.proofs.AddressRoom.{few-front}
-use Rattle.br_model.proofs.GroupRoom.{few_pairs-front}
-use Rattle.br_model.proofs.PlaneApplied.{run-world}
-use Rattle.br_model.proofs.Standing.{stands-of, within-stands}
+use Rattle.br_model.proofs.Table.AddressRoom.{few-front}
+use Rattle.br_model.proofs.Table.GroupRoom.{few_pairs-front}
+use Rattle.br_model.proofs.Plane.Applied.{run-world}
+use Rattle.br_model.proofs.Table.Standing.{stands-of, within-stands}
 use Rattle.br_model.proofs.history_laws.limits_hold.Goals as goal
 
 pub returns : goal.returns

@@ -1,5 +1,5 @@
 use Rattle.std.proofs.lemmas.List.Elements.{recursion_from_All}
-use Rattle.br_model.proofs.OneList.{one-list}
+use Rattle.br_model.proofs.Data.OneList.{one-list}
 use Rattle.br_model.proofs.history_laws.one_list.Goals as goal
 
 pub returns : goal.returns

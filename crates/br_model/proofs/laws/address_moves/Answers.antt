@@ -1,4 +1,4 @@
-use Rattle.br_model.proofs.Rows.{address_moves}
+use Rattle.br_model.proofs.Worked.Rows.{address_moves}
 use Rattle.br_model.proofs.laws.address_moves.Goals as goal
 
 pub returns : goal.returns

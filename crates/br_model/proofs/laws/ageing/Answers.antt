@@ -1,4 +1,4 @@
-use Rattle.br_model.proofs.Rows.{ageing}
+use Rattle.br_model.proofs.Worked.Rows.{ageing}
 use Rattle.br_model.proofs.laws.ageing.Goals as goal
 
 pub returns : goal.returns

@@ -1,4 +1,4 @@
-use Rattle.br_model.proofs.CaptureRows.{bad}
+use Rattle.br_model.proofs.Worked.Captures.{bad}
 use Rattle.br_model.proofs.laws.bad_captures.Goals as goal
 
 pub returns : goal.returns

@@ -1,4 +1,4 @@
-use Rattle.br_model.proofs.DomainRows.{bad_domains_are}
+use Rattle.br_model.proofs.Worked.Domains.{bad_domains_are}
 use Rattle.br_model.proofs.laws.bad_domains.Goals as goal
 
 pub returns : goal.returns

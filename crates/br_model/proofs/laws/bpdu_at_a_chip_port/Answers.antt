@@ -1,4 +1,4 @@
-use Rattle.br_model.proofs.WholeTreeRuns.{bpdu_at_a_chip_port}
+use Rattle.br_model.proofs.Worked.WholeTree.{bpdu_at_a_chip_port}
 use Rattle.br_model.proofs.laws.bpdu_at_a_chip_port.Goals as goal
 
 pub returns : goal.returns

@@ -1,4 +1,4 @@
-use Rattle.br_model.proofs.CaptureRows.{capture}
+use Rattle.br_model.proofs.Worked.Captures.{capture}
 use Rattle.br_model.proofs.laws.capture.Goals as goal
 
 pub returns : goal.returns

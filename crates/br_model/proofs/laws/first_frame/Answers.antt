@@ -1,4 +1,4 @@
-use Rattle.br_model.proofs.Rows.{first_frame}
+use Rattle.br_model.proofs.Worked.Rows.{first_frame}
 use Rattle.br_model.proofs.laws.first_frame.Goals as goal
 
 pub returns : goal.returns

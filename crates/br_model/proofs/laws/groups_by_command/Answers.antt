@@ -1,4 +1,4 @@
-use Rattle.br_model.proofs.GroupRows.{groups_by_command, bad_group}
+use Rattle.br_model.proofs.Worked.Groups.{groups_by_command, bad_group}
 use Rattle.br_model.proofs.laws.groups_by_command.Goals as goal
 
 pub returns : goal.returns

@@ -1,4 +1,4 @@
-use Rattle.br_model.proofs.ChipRows.{isolated_ingress}
+use Rattle.br_model.proofs.Worked.Chips.{isolated_ingress}
 use Rattle.br_model.proofs.laws.isolated_ingress.Goals as goal
 
 pub returns : goal.returns

@@ -1,4 +1,4 @@
-use Rattle.br_model.proofs.Rows.{local_address}
+use Rattle.br_model.proofs.Worked.Rows.{local_address}
 use Rattle.br_model.proofs.laws.local_address.Goals as goal
 
 pub returns : goal.returns

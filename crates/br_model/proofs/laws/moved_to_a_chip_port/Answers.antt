@@ -1,4 +1,4 @@
-use Rattle.br_model.proofs.ChipRows.{moved_to_a_chip_port}
+use Rattle.br_model.proofs.Worked.Chips.{moved_to_a_chip_port}
 use Rattle.br_model.proofs.laws.moved_to_a_chip_port.Goals as goal
 
 pub returns : goal.returns

@@ -1,4 +1,4 @@
-use Rattle.br_model.proofs.ChipRows.{no_chip}
+use Rattle.br_model.proofs.Worked.Chips.{no_chip}
 use Rattle.br_model.proofs.laws.no_chip.Goals as goal
 
 pub returns : goal.returns

@@ -1,4 +1,4 @@
-use Rattle.br_model.proofs.ChipRows.{plain_ingress}
+use Rattle.br_model.proofs.Worked.Chips.{plain_ingress}
 use Rattle.br_model.proofs.laws.plain_ingress.Goals as goal
 
 pub returns : goal.returns

@@ -1,4 +1,4 @@
-use Rattle.br_model.proofs.Rows.{priority_tag}
+use Rattle.br_model.proofs.Worked.Rows.{priority_tag}
 use Rattle.br_model.proofs.laws.priority_tag.Goals as goal
 
 pub returns : goal.returns

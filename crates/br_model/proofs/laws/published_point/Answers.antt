@@ -1,4 +1,4 @@
-use Rattle.br_model.proofs.Rows.{published_point}
+use Rattle.br_model.proofs.Worked.Rows.{published_point}
 use Rattle.br_model.proofs.laws.published_point.Goals as goal
 
 pub returns : goal.returns

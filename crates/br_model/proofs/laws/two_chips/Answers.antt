@@ -1,4 +1,4 @@
-use Rattle.br_model.proofs.DomainRows.{two_chips}
+use Rattle.br_model.proofs.Worked.Domains.{two_chips}
 use Rattle.br_model.proofs.laws.two_chips.Goals as goal
 
 pub returns : goal.returns

@@ -1,4 +1,4 @@
-use Rattle.br_model.proofs.ChipRows.{two_points_differ}
+use Rattle.br_model.proofs.Worked.Chips.{two_points_differ}
 use Rattle.br_model.proofs.laws.two_points_differ.Goals as goal
 
 pub returns : goal.returns

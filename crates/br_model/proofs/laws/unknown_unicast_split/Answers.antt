@@ -1,4 +1,4 @@
-use Rattle.br_model.proofs.ChipRows.{unknown_unicast_split}
+use Rattle.br_model.proofs.Worked.Chips.{unknown_unicast_split}
 use Rattle.br_model.proofs.laws.unknown_unicast_split.Goals as goal
 
 pub returns : goal.returns

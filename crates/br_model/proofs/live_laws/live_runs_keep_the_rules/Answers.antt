@@ -1,4 +1,4 @@
-use Rattle.br_model.proofs.LiveRuns.{live_is, is_live}
+use Rattle.br_model.proofs.Program.LiveRuns.{live_is, is_live}
 use Rattle.br_model.proofs.live_laws.live_runs_keep_the_rules.Goals as goal
 
 pub returns : goal.returns

@@ -1,4 +1,4 @@
-use Rattle.br_model.proofs.SameSteps.{step_decides}
+use Rattle.br_model.proofs.Program.SameSteps.{step_decides}
 use Rattle.br_model.proofs.live_laws.steps_are_told_apart.Goals as goal
 
 pub returns : goal.returns

@@ -1,4 +1,4 @@
-use Rattle.br_model.proofs.LiveRows.{live, not_live}
+use Rattle.br_model.proofs.Worked.LiveRuns.{live, not_live}
 use Rattle.br_model.proofs.live_laws.worked_live_runs.Goals as goal
 
 pub returns : goal.returns

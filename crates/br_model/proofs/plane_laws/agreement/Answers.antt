@@ -1,4 +1,4 @@
-use Rattle.br_model.proofs.PlaneAgreement.{agreement}
+use Rattle.br_model.proofs.Plane.Agreement.{agreement}
 use Rattle.br_model.proofs.plane_laws.agreement.Goals as goal
 
 pub returns : goal.returns

@@ -1,4 +1,4 @@
-use Rattle.br_model.proofs.PlaneApplied.{run-setup, run-applies}
+use Rattle.br_model.proofs.Plane.Applied.{run-setup, run-applies}
 use Rattle.br_model.proofs.plane_laws.applied.Goals as goal
 use Rattle.std.proofs.Common.{sym, ap, ◌∙◌}
 use Rattle.br_model.specs.Table.Cut.{cut}

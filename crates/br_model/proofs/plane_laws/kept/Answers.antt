@@ -1,5 +1,5 @@
-use Rattle.br_model.proofs.PlaneApplied.{run-world}
-use Rattle.br_model.proofs.PlaneKept.{first-world, step-world}
+use Rattle.br_model.proofs.Plane.Applied.{run-world}
+use Rattle.br_model.proofs.Plane.Kept.{first-world, step-world}
 use Rattle.br_model.proofs.plane_laws.kept.Goals as goal
 
 pub returns : goal.returns

@@ -1,4 +1,4 @@
-use Rattle.br_model.proofs.PlaneOnce.{run-lines}
+use Rattle.br_model.proofs.Plane.Once.{run-lines}
 use Rattle.br_model.proofs.plane_laws.lines_stand.Goals as goal
 
 pub returns : goal.returns

@@ -1,4 +1,4 @@
-use Rattle.br_model.proofs.PlaneShares.{apart}
+use Rattle.br_model.proofs.Plane.Shares.{apart}
 use Rattle.br_model.proofs.plane_laws.shares_apart.Goals as goal
 
 pub returns : goal.returns

@@ -1,4 +1,4 @@
-use Rattle.br_model.proofs.SnoopRows as rows
+use Rattle.br_model.proofs.Worked.Snooping as rows
 use Rattle.br_model.proofs.snoop_laws.ends_of_members.Goals as goal
 
 pub returns : goal.returns

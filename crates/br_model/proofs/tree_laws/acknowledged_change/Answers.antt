@@ -1,4 +1,4 @@
-use Rattle.br_model.proofs.TreeRuns.{acknowledged_change}
+use Rattle.br_model.proofs.Worked.Tree.{acknowledged_change}
 use Rattle.br_model.proofs.tree_laws.acknowledged_change.Goals as goal
 
 pub returns : goal.returns

@@ -1,4 +1,4 @@
-use Rattle.br_model.proofs.TreeRuns.{frames_read, frames_are_written}
+use Rattle.br_model.proofs.Worked.Tree.{frames_read, frames_are_written}
 use Rattle.br_model.proofs.tree_laws.bpdu_frames.Goals as goal
 
 pub returns : goal.returns

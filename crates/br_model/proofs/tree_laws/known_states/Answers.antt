@@ -1,4 +1,4 @@
-use Rattle.br_model.proofs.TreeKept.{known-first, known-kept, known-at}
+use Rattle.br_model.proofs.Trees.Kept.{known-first, known-kept, known-at}
 use Rattle.br_model.proofs.tree_laws.known_states.Goals as goal
 
 pub returns : goal.returns

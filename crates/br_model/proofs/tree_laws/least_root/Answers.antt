@@ -1,4 +1,4 @@
-use Rattle.br_model.proofs.TreeRoots.{least_root}
+use Rattle.br_model.proofs.Trees.Roots.{least_root}
 use Rattle.br_model.proofs.tree_laws.least_root.Goals as goal
 
 pub returns : goal.returns

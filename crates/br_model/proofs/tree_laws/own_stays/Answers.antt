@@ -1,4 +1,4 @@
-use Rattle.br_model.proofs.TreeKept.{own-kept}
+use Rattle.br_model.proofs.Trees.Kept.{own-kept}
 use Rattle.br_model.proofs.tree_laws.own_stays.Goals as goal
 
 pub returns : goal.returns

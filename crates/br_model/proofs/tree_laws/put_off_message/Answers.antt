@@ -1,4 +1,4 @@
-use Rattle.br_model.proofs.TreeRuns.{put_off_message}
+use Rattle.br_model.proofs.Worked.Tree.{put_off_message}
 use Rattle.br_model.proofs.tree_laws.put_off_message.Goals as goal
 
 pub returns : goal.returns

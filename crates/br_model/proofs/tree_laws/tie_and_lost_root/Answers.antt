@@ -1,4 +1,4 @@
-use Rattle.br_model.proofs.TreeRuns.{tie_and_lost_root}
+use Rattle.br_model.proofs.Worked.Tree.{tie_and_lost_root}
 use Rattle.br_model.proofs.tree_laws.tie_and_lost_root.Goals as goal
 
 pub returns : goal.returns

@@ -1,4 +1,4 @@
-use Rattle.br_model.proofs.DeclaredChips.{declared-chips}
+use Rattle.br_model.proofs.Text.DeclaredChips.{declared-chips}
 use Rattle.br_model.proofs.written_laws.chips_are_declared.Goals as goal
 
 pub returns : goal.returns

@@ -1,4 +1,4 @@
-use Rattle.br_model.proofs.WrittenLines.{frame_shown}
+use Rattle.br_model.proofs.Text.WrittenLines.{frame_shown}
 use Rattle.br_model.proofs.written_laws.frame_is_shown.Goals as goal
 
 pub returns : goal.returns

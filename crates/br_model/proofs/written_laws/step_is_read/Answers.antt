@@ -2,7 +2,7 @@ use Rattle.std.proofs.Common.{◌∙◌, ap}
 use Rattle.br_model.specs.declared.scenario.Said.TheVariants.{Does}
 use Rattle.std.specs.declared.result.Result.TheVariants.{Ok}
 use Rattle.br_model.specs.declared.steps.Step.{Step}
-use Rattle.br_model.proofs.WrittenLines.{step_read, given_whole}
+use Rattle.br_model.proofs.Text.WrittenLines.{step_read, given_whole}
 use Rattle.br_model.proofs.written_laws.step_is_read.Goals as goal
 
 pub returns-clause-any : goal.returns-clause-any

@@ -3,7 +3,7 @@ use Rattle.std.specs.List.{filter, flat_map}
 use Rattle.std.proofs.lemmas.List.{take_all}
 use Rattle.br_model.specs.Table.Domains.{has_chip}
 use Rattle.chip_audit.specs.Lines.{domain_lines}
-use Rattle.br_model.proofs.ChipLists.{existing}
+use Rattle.br_model.proofs.Table.ChipLists.{existing}
 use Rattle.chip_audit.proofs.LinesMore.{numbers-more}
 use Rattle.chip_audit.proofs.lines.append_audit.Goals as goal
 

@@ -1,5 +1,5 @@
 use Rattle.std.proofs.Common.{arith}
-use Rattle.br_model.proofs.FrameFacts.{frame-is_head}
+use Rattle.br_model.proofs.Wire.Frames.{frame-is_head}
 use Rattle.ether_frames.proofs.frames.dress.Goals as goal
 
 pub tag_bits-requires : goal.tag_bits-requires

@@ -2,7 +2,7 @@ use Rattle.std.proofs.Common.{List, [], sym, subst, ◌∙◌}
 use Rattle.std.proofs.lemmas.List.Elements.{All-push}
 use Rattle.std.specs.List.{All}
 use Rattle.hwdom_chips.specs.Chips.{ChipState, IsChip}
-use Rattle.br_model.proofs.ChipLists.{not-software}
+use Rattle.br_model.proofs.Table.ChipLists.{not-software}
 use Rattle.hwdom_chips.proofs.chips.add.Goals as goal
 
 pub make-requires : goal.make-requires

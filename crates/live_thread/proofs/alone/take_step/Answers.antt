@@ -2,7 +2,7 @@ use Rattle.std.proofs.Common.{[], ◌∷◌, OnOk, refl, sym, subst}
 use Rattle.std.proofs.lemmas.Result.{on_ok_weaker}
 use Rattle.br_model.specs.declared.steps.Step.{Step}
 use Rattle.br_model.specs.declared.steps.Step.TheVariants.{Cmd, Now, Sweep}
-use Rattle.br_model.proofs.PlaneStays.{step-held}
+use Rattle.br_model.proofs.Plane.Stays.{step-held}
 use Rattle.plane_record.specs.Pasts.{Past, world_of}
 use Rattle.live_thread.specs.Taking.{Takes}
 use Rattle.live_thread.proofs.Takings.{acted_takes}

@@ -1,7 +1,7 @@
 use Rattle.std.proofs.Common.{arith, refl, sym, ◌+◌, ◌-◌, ◌/◌, ℕ, ◌∙◌}
 use Rattle.br_model.specs.Table.GroupPairs.{group_pair_cmp}
 use Rattle.mdb_snoop.proofs.Cuts.{above_place, below_place}
-use Rattle.br_model.proofs.GroupOrders.{pair_total}
+use Rattle.br_model.proofs.Table.GroupOrders.{pair_total}
 use Rattle.mdb_snoop.proofs.Search.{is_at}
 use Rattle.mdb_snoop.proofs.sections.place_of.Goals as goal
 

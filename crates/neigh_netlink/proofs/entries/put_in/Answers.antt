@@ -1,5 +1,5 @@
 use Rattle.std.proofs.Common.{sym, ap, ◌∙◌, ◌++◌, ◌∷◌, take, drop, ◌+◌}
-use Rattle.br_model.proofs.PairKeys.{same_cmp}
+use Rattle.br_model.proofs.Data.PairKeys.{same_cmp}
 use Rattle.neigh_netlink.specs.Neighbours.{Key, Neighbours}
 use Rattle.neigh_netlink.proofs.Cuts.{put_at, put_gap, get_gap, set-splits, ascending-put}
 use Rattle.neigh_netlink.proofs.entries.put_in.Goals as goal

@@ -4,7 +4,7 @@ use Rattle.std.proofs.lemmas.Option.{slice_get_within}
 use Rattle.br_model.specs.declared.change.Update.{Update}
 use Rattle.br_model.specs.Table.Change.{updates}
 use Rattle.deferred_queue.specs.Ends.{Posting}
-use Rattle.br_model.proofs.Growing.{few-updates, ticket-there}
+use Rattle.br_model.proofs.Plane.Growing.{few-updates, ticket-there}
 use Rattle.plane_lock.proofs.Prefixes.{none-there, prefix-take, take-one}
 use Rattle.plane_lock.proofs.locked.post_updates.Goals as goal
 

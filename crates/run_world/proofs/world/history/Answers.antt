@@ -1,6 +1,6 @@
 use Rattle.std.proofs.Common.{subst, sym}
 use Rattle.br_model.specs.Table.Limits.{AreWithin}
-use Rattle.br_model.proofs.Within.{within_of}
+use Rattle.br_model.proofs.Table.Within.{within_of}
 use Rattle.run_world.proofs.world.history.Goals as goal
 
 pub returns-clause-within : goal.returns-clause-within

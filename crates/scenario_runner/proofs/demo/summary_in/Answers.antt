@@ -6,7 +6,7 @@ use Rattle.br_model.specs.Program.Generator.{made_scenario}
 use Rattle.br_model.specs.Plane.World.{World}
 use Rattle.br_model.specs.Program.Runs.{setup_of}
 use Rattle.br_model.specs.Table.Setup.{Setup}
-use Rattle.br_model.proofs.PlaneApplied.{run-setup}
+use Rattle.br_model.proofs.Plane.Applied.{run-setup}
 use Rattle.scenario_runner.proofs.Counting.{ran_none, summary_is}
 use Rattle.scenario_runner.proofs.demo.summary_in.Goals as goal
 

@@ -1,5 +1,5 @@
 use Rattle.std.proofs.Common.{◌∙◌}
-use Rattle.br_model.proofs.MapLaws.{insert_entry-is}
+use Rattle.br_model.proofs.Data.MapLaws.{insert_entry-is}
 use Rattle.br_model.specs.Data.Maps.{pair_cmp}
 use Rattle.table_cuts.proofs.cut.put_address.Goals as goal
 

@@ -2,7 +2,7 @@ use Rattle.std.proofs.Common.{◌≡◌, ◌+◌, ◌<◌, length, ap, ◌∙◌
 use Rattle.std.specs.Ordering.{nat_cmp}
 use Rattle.br_model.specs.Table.Domains.{entries_from}
 use Rattle.br_model.specs.Data.Maps.{put}
-use Rattle.br_model.proofs.DomainLaws.{entries-set}
+use Rattle.br_model.proofs.Table.DomainLaws.{entries-set}
 use Rattle.vlan_groups.proofs.table.set_pvid.Goals as goal
 
 pub returns : goal.returns

@@ -2,7 +2,7 @@ use Rattle.std.proofs.Common.{◌≡◌, Bool, true, false, not, map, refl, sym,
 use Rattle.std.specs.Prelude.{◌==◌}
 use Rattle.std.specs.List.{list_any}
 use Rattle.br_model.specs.Table.Domains.{Domains}
-use Rattle.br_model.proofs.DomainChips.{chip-declared}
+use Rattle.br_model.proofs.Table.DomainChips.{chip-declared}
 use Rattle.br_model.proofs.domains.Domains.has_chip.Goals as goal
 
 is-not : (b : Bool) → not b ≡ true → b ≡ false

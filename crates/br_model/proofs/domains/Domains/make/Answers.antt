@@ -4,7 +4,7 @@ use Rattle.port_sets.specs.Numbers.{has_number, numbers_below}
 use Rattle.br_model.specs.declared.domains.Edition.TheVariants.{One}
 use Rattle.br_model.specs.Table.Domains.{port_places}
 use Rattle.br_model.specs.Table.DomainPorts.{ports_in}
-use Rattle.br_model.proofs.DomainMembers.{ports_in-put, ports_in-none, no_sets}
+use Rattle.br_model.proofs.Table.DomainMembers.{ports_in-put, ports_in-none, no_sets}
 use Rattle.br_model.proofs.domains.Domains.make.Goals as goal
 
 pub invariant_of-result : goal.invariant_of-result

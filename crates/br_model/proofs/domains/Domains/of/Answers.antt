@@ -3,7 +3,7 @@ use Rattle.std.specs.Ordering.{nat_cmp}
 use Rattle.std.proofs.lemmas.List.{get_or_default}
 use Rattle.br_model.specs.Table.Domains.{Domains}
 use Rattle.br_model.specs.Data.Maps.{get}
-use Rattle.br_model.proofs.DomainLaws.{get-entries}
+use Rattle.br_model.proofs.Table.DomainLaws.{get-entries}
 use Rattle.br_model.proofs.domains.Domains.of.Goals as goal
 
 pub returns-clause-value : goal.returns-clause-value

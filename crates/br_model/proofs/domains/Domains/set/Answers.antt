@@ -3,8 +3,8 @@ use Rattle.std.specs.Ordering.{nat_cmp}
 use Rattle.br_model.specs.Table.Domains.{Domains, entries_from}
 use Rattle.br_model.specs.Data.Maps.{put}
 use Rattle.br_model.specs.Table.DomainPorts.{ports_in}
-use Rattle.br_model.proofs.DomainLaws.{entries-set}
-use Rattle.br_model.proofs.DomainMembers.{ports_in-put}
+use Rattle.br_model.proofs.Table.DomainLaws.{entries-set}
+use Rattle.br_model.proofs.Table.DomainMembers.{ports_in-put}
 use Rattle.br_model.proofs.domains.Domains.set.Goals as goal
 
 -- the entries with the new one

@@ -1,5 +1,5 @@
 use Rattle.std.proofs.Common.{◌∙◌}
-use Rattle.br_model.proofs.MapLaws.{insert_entry-is}
+use Rattle.br_model.proofs.Data.MapLaws.{insert_entry-is}
 use Rattle.br_model.proofs.plain.maps.put.Goals as goal
 
 pub returns : goal.returns

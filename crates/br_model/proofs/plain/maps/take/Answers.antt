@@ -1,5 +1,5 @@
 use Rattle.std.proofs.Common.{◌∙◌}
-use Rattle.br_model.proofs.MapLaws.{remove_entry-is}
+use Rattle.br_model.proofs.Data.MapLaws.{remove_entry-is}
 use Rattle.br_model.proofs.plain.maps.take.Goals as goal
 
 pub returns-then-len-gt0 : goal.returns-then-len-gt0

@@ -1,6 +1,6 @@
 use Rattle.std.proofs.Common.{subst}
 use Rattle.br_model.specs.Table.Limits.{AreWithin}
-use Rattle.br_model.proofs.Within.{within_of}
+use Rattle.br_model.proofs.Table.Within.{within_of}
 use Rattle.bridge_core.specs.Kept.{Controlled}
 use Rattle.bridge_core.proofs.bridge.Bridge.history.Goals as goal
 

@@ -4,7 +4,7 @@ use Rattle.br_model.specs.Control.Course.{Course}
 use Rattle.br_model.specs.Control.Reaction.{learns_of}
 use Rattle.br_model.specs.Table.Table.{Table, table, with_addresses}
 use Rattle.br_model.specs.Wire.Messages.{RecordsStand}
-use Rattle.br_model.proofs.RecordsFit.{message-stands}
+use Rattle.br_model.proofs.Wire.RecordsFit.{message-stands}
 use Rattle.bridge_core.specs.Answers.{carried_out, standing}
 use Rattle.bridge_plans.specs.Hearing.{says}
 use Rattle.bridge_core.specs.Kept.{Controlled}

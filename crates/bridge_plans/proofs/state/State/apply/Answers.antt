@@ -3,7 +3,7 @@ use Rattle.br_model.specs.Control.Control.{Control}
 use Rattle.br_model.specs.Control.Ends.{Ends}
 use Rattle.br_model.specs.Theorems.EndsTied.{IsTied}
 use Rattle.br_model.specs.Table.Table.{Table, apply}
-use Rattle.br_model.proofs.EndsTied.{tied-apply}
+use Rattle.br_model.proofs.Control.EndsTied.{tied-apply}
 use Rattle.bridge_plans.specs.Standing.{table_of, control_of}
 use Rattle.bridge_plans.proofs.state.State.apply.Goals as goal
 

@@ -3,7 +3,7 @@ use Rattle.br_model.specs.declared.change.Change.{Change}
 use Rattle.br_model.specs.Table.Limits.{fits}
 use Rattle.br_model.specs.Table.Table.{Table, apply}
 use Rattle.bridge_plans.specs.Standing.{table_of}
-use Rattle.br_model.proofs.Within.{fits_at}
+use Rattle.br_model.proofs.Table.Within.{fits_at}
 use Rattle.bridge_plans.proofs.state.State.place_all.Goals as goal
 
 pub place-requires : goal.place-requires

@@ -1,7 +1,7 @@
 use Rattle.std.proofs.Common.{◌≡◌, List, drop, Some, sym, ap, ◌∙◌, subst, arith}
 use Rattle.std.specs.Prelude.{◌==◌}
 use Rattle.hwdom_chips.specs.Chips.{ChipState, IsPlace, state_in}
-use Rattle.br_model.proofs.ChipLists.{found-here}
+use Rattle.br_model.proofs.Table.ChipLists.{found-here}
 use Rattle.hwdom_chips.proofs.chips.Chips.find.Goals as goal
 
 pub returns-then-eq : goal.returns-then-eq

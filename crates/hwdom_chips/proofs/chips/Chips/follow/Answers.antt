@@ -3,7 +3,7 @@ use Rattle.std.proofs.Math.Seq.{map-set_same}
 use Rattle.std.proofs.lemmas.List.{length-map}
 use Rattle.std.proofs.lemmas.List.Elements.{AllWithin-more_set}
 use Rattle.hwdom_chips.specs.Chips.{AreChips, ChipState, IsChip}
-use Rattle.br_model.proofs.ChipLists.{rest-set, same-rest}
+use Rattle.br_model.proofs.Table.ChipLists.{rest-set, same-rest}
 use Rattle.hwdom_chips.proofs.chips.Chips.follow.Goals as goal
 
 pub follow-requires-clause-stands : goal.follow-requires-clause-stands

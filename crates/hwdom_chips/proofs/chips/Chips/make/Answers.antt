@@ -4,7 +4,7 @@ use Rattle.std.specs.List.{filter}
 use Rattle.br_model.specs.Plane.Chip.{first_chip, first_chips}
 use Rattle.br_model.specs.Table.Domains.{has_chip}
 use Rattle.hwdom_chips.specs.Chips.{ChipState, chips_of}
-use Rattle.br_model.proofs.ChipLists.{doms-first, existing}
+use Rattle.br_model.proofs.Table.ChipLists.{doms-first, existing}
 use Rattle.hwdom_chips.proofs.chips.Chips.make.Goals as goal
 
 -- all of them

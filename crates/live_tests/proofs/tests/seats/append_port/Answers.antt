@@ -2,7 +2,7 @@ use Rattle.std.proofs.Common.{List, [], ◌∷◌, ◌++◌, true, refl, sym, su
 use Rattle.br_model.specs.declared.change.Change.{Change}
 use Rattle.br_model.specs.declared.change.Change.TheVariants.{PortUp, SetState, VlanAdd}
 use Rattle.br_model.specs.Table.Limits.{AreWithin}
-use Rattle.br_model.proofs.Within.{within_of}
+use Rattle.br_model.proofs.Table.Within.{within_of}
 use Rattle.live_tests.proofs.tests.seats.append_port.Goals as goal
 
 pub append-requires : goal.append-requires

@@ -5,8 +5,8 @@ use Rattle.br_model.specs.declared.change.Change.{Change}
 use Rattle.br_model.specs.declared.change.Change.TheVariants.{SetFlags}
 use Rattle.br_model.specs.Table.Limits.{all_fit}
 use Rattle.br_model.specs.Table.Table.{start}
-use Rattle.br_model.proofs.PlaneHistory.{fit-append}
-use Rattle.br_model.proofs.Within.{within_of}
+use Rattle.br_model.proofs.Plane.History.{fit-append}
+use Rattle.br_model.proofs.Table.Within.{within_of}
 use Rattle.table_publish.specs.Board.{Shelf, all_of}
 use Rattle.table_publish.specs.Object.{Object, published}
 use Rattle.live_tests.proofs.tests.seats.publish_flags.Goals as goal

@@ -3,7 +3,7 @@ use Rattle.br_model.specs.Control.Ends.{keys}
 use Rattle.br_model.specs.Data.Maps.{get, joined}
 use Rattle.br_model.specs.Table.GroupPairs.{has_room}
 use Rattle.br_model.specs.Table.Groups.{membership_cmp}
-use Rattle.br_model.proofs.KeySets.{keys-put}
+use Rattle.br_model.proofs.Data.KeySets.{keys-put}
 use Rattle.mdb_snoop.specs.Database.{end_joined}
 use Rattle.mdb_snoop.specs.Places.{flat}
 use Rattle.mdb_snoop.proofs.Counts.{counted-join, few-counted}

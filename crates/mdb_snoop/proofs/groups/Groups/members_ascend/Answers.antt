@@ -1,6 +1,6 @@
 use Rattle.std.proofs.Common.{◌≤◌, ◌∙◌, ap, length, subst}
 use Rattle.std.specs.List.Sorted.{IsStrictlySortedBy}
-use Rattle.br_model.proofs.KeySets.{keys-ascend}
+use Rattle.br_model.proofs.Data.KeySets.{keys-ascend}
 use Rattle.br_model.specs.Table.GroupPairs.{group_pairs, max_pairs}
 use Rattle.br_model.specs.Table.Groups.{membership_cmp}
 use Rattle.mdb_snoop.specs.Places.{flat}

@@ -3,7 +3,7 @@ use Rattle.std.specs.FinMap.Entries.{is_some-find}
 use Rattle.br_model.specs.Control.Ends.{keys}
 use Rattle.br_model.specs.Data.Maps.{has, parted}
 use Rattle.br_model.specs.Table.Groups.{membership_cmp}
-use Rattle.br_model.proofs.KeySets.{keys-without}
+use Rattle.br_model.proofs.Data.KeySets.{keys-without}
 use Rattle.mdb_snoop.specs.Places.{flat}
 use Rattle.mdb_snoop.proofs.Counts.{counted-part, some-counted}
 use Rattle.mdb_snoop.proofs.Sound.{groups-ascend}

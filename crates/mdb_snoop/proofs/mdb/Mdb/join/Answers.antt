@@ -6,7 +6,7 @@ use Rattle.mdb_snoop.proofs.Questions.{room-for}
 use Rattle.mdb_snoop.proofs.Soonest.{joined-bound}
 use Rattle.mdb_snoop.proofs.Views.{with_groups}
 use Rattle.mdb_snoop.proofs.Sound.{made}
-use Rattle.br_model.proofs.KeySets.{keys-put}
+use Rattle.br_model.proofs.Data.KeySets.{keys-put}
 use Rattle.br_model.specs.Data.Maps.{get}
 use Rattle.mdb_snoop.proofs.mdb.Mdb.join.Goals as goal
 

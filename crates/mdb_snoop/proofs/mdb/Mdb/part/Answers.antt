@@ -6,7 +6,7 @@ use Rattle.mdb_snoop.specs.Database.{memberships}
 use Rattle.mdb_snoop.specs.Places.{flat}
 use Rattle.mdb_snoop.proofs.Soonest.{parted-bound}
 use Rattle.mdb_snoop.proofs.Views.{with_groups}
-use Rattle.br_model.proofs.KeySets.{keys-without}
+use Rattle.br_model.proofs.Data.KeySets.{keys-without}
 use Rattle.mdb_snoop.proofs.mdb.Mdb.part.Goals as goal
 
 pub invariant_of-self : goal.invariant_of-self

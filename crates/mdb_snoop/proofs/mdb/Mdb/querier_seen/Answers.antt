@@ -5,7 +5,7 @@ use Rattle.br_model.specs.Table.Table.{ip_version}
 use Rattle.br_model.specs.Control.Ends.{keys}
 use Rattle.mdb_snoop.specs.Places.{queriers_of}
 use Rattle.mdb_snoop.proofs.Views.{with_queriers, seen-four, seen-six}
-use Rattle.br_model.proofs.KeySets.{keys-put}
+use Rattle.br_model.proofs.Data.KeySets.{keys-put}
 use Rattle.mdb_snoop.proofs.mdb.Mdb.querier_seen.Goals as goal
 
 pub returns-then-six-clause-queriers : goal.returns-then-six-clause-queriers

@@ -5,7 +5,7 @@ use Rattle.br_model.specs.Data.Maps.{has, without}
 use Rattle.br_model.specs.Control.Ends.{keys}
 use Rattle.mdb_snoop.proofs.Soonest.{router_gone-bound}
 use Rattle.mdb_snoop.proofs.Views.{with_routers}
-use Rattle.br_model.proofs.KeySets.{keys-without}
+use Rattle.br_model.proofs.Data.KeySets.{keys-without}
 use Rattle.mdb_snoop.proofs.mdb.Mdb.router_gone.Goals as goal
 
 pub invariant_of-self : goal.invariant_of-self

@@ -5,7 +5,7 @@ use Rattle.br_model.specs.Data.Maps.{has, put}
 use Rattle.br_model.specs.Control.Ends.{keys}
 use Rattle.mdb_snoop.proofs.Soonest.{router-bound}
 use Rattle.mdb_snoop.proofs.Views.{with_routers}
-use Rattle.br_model.proofs.KeySets.{keys-put}
+use Rattle.br_model.proofs.Data.KeySets.{keys-put}
 use Rattle.mdb_snoop.proofs.mdb.Mdb.router_seen.Goals as goal
 
 pub returns-clause-seen : goal.returns-clause-seen

@@ -3,7 +3,7 @@ use Rattle.std.specs.Prelude.{is_some}
 use Rattle.br_model.specs.Plane.Chip.{chip_in}
 use Rattle.hwdom_chips.specs.Chips.{ChipState}
 use Rattle.plane_core.specs.Sides.{SidesState}
-use Rattle.br_model.proofs.ChipLists.{some-found}
+use Rattle.br_model.proofs.Table.ChipLists.{some-found}
 use Rattle.plane_core.proofs.sides.Sides.has_chip.Goals as goal
 
 pub returns : goal.returns

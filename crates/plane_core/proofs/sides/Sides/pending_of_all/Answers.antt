@@ -4,7 +4,7 @@ use Rattle.br_model.specs.Plane.Chip.{Chip}
 use Rattle.br_model.specs.Table.Cut.{deferred_count}
 use Rattle.hwdom_chips.specs.Chips.{ChipState}
 use Rattle.plane_core.specs.Sides.{SidesState}
-use Rattle.br_model.proofs.ChipLists.{sum-chips}
+use Rattle.br_model.proofs.Table.ChipLists.{sum-chips}
 use Rattle.plane_core.proofs.Changing.{counted}
 use Rattle.plane_core.proofs.sides.Sides.pending_of_all.Goals as goal
 

@@ -3,7 +3,7 @@ use Rattle.std.proofs.lemmas.Option.{slice_get_within}
 use Rattle.br_model.specs.Plane.Chip.{Chip, applies}
 use Rattle.br_model.specs.Table.Domains.{Domains}
 use Rattle.br_model.specs.Table.Table.{Table, apply}
-use Rattle.br_model.proofs.Cuts.{updates-named}
+use Rattle.br_model.proofs.Table.Cuts.{updates-named}
 use Rattle.chip_driver.specs.Drives.{Drives}
 use Rattle.hwdom_chips.specs.Chips.{ChipState, IsChip}
 use Rattle.plane_core.specs.Sides.{SidesState}

@@ -1,5 +1,5 @@
 use Rattle.br_model.specs.declared.steps.Step.TheVariants.{Rx}
-use Rattle.br_model.proofs.Still.{rx-history}
+use Rattle.br_model.proofs.Plane.Still.{rx-history}
 use Rattle.plane_record.specs.Pasts.{world_of}
 use Rattle.plane_lock.proofs.Settling.{keeps}
 use Rattle.plane_lock.proofs.locked.Locked.enter.Goals as goal

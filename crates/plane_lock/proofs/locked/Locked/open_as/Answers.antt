@@ -1,6 +1,6 @@
 use Rattle.std.proofs.Common.{sym, subst}
 use Rattle.br_model.specs.declared.steps.Step.TheVariants.{Hold}
-use Rattle.br_model.proofs.Still.{hold-history}
+use Rattle.br_model.proofs.Plane.Still.{hold-history}
 use Rattle.plane_core.specs.Planes.{published_in}
 use Rattle.table_publish.specs.Object.{Begins}
 use Rattle.plane_record.specs.Pasts.{Past, world_of}

@@ -1,5 +1,5 @@
 use Rattle.br_model.specs.declared.steps.Step.TheVariants.{Publish}
-use Rattle.br_model.proofs.Still.{publish-history}
+use Rattle.br_model.proofs.Plane.Still.{publish-history}
 use Rattle.plane_record.specs.Pasts.{world_of}
 use Rattle.plane_lock.proofs.Settling.{keeps}
 use Rattle.plane_lock.proofs.locked.Locked.publish.Goals as goal

@@ -2,7 +2,7 @@ use Rattle.std.proofs.Common.{◌∙◌, ap}
 use Rattle.br_model.specs.Table.Domains.{has_chip}
 use Rattle.br_model.specs.Table.Setup.{Setup}
 use Rattle.br_model.specs.declared.steps.Step.TheVariants.{Turn}
-use Rattle.br_model.proofs.Still.{turn-history}
+use Rattle.br_model.proofs.Plane.Still.{turn-history}
 use Rattle.plane_record.specs.Pasts.{world_of}
 use Rattle.plane_lock.proofs.Settling.{keeps}
 use Rattle.plane_lock.proofs.locked.Locked.turn.Goals as goal

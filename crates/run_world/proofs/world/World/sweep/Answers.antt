@@ -1,5 +1,5 @@
 use Rattle.br_model.specs.declared.steps.Step.TheVariants.{Sweep}
-use Rattle.br_model.proofs.PlaneStays.{step-held}
+use Rattle.br_model.proofs.Plane.Stays.{step-held}
 use Rattle.run_world.proofs.Deciding.{stands_on}
 use Rattle.run_world.proofs.world.World.sweep.Goals as goal
 

@@ -6,7 +6,7 @@ use Rattle.br_model.specs.Program.Runs.{setup_of}
 use Rattle.br_model.specs.Table.Domains.{chip_domains}
 use Rattle.br_model.specs.Table.Setup.{Setup}
 use Rattle.br_model.specs.Text.Roster.{Roster, chips_of}
-use Rattle.br_model.proofs.DeclaredChips.{declared-chips}
+use Rattle.br_model.proofs.Text.DeclaredChips.{declared-chips}
 use Rattle.scenario_runner.specs.Session.{HasChips}
 use Rattle.run_world.specs.Voices.{IsTuned}
 use Rattle.scenario_runner.proofs.Ready.{comes_here, ready_after}

@@ -1,7 +1,7 @@
 use Rattle.std.proofs.Common.{◌≡◌, List, drop, Some, sym, ap, ◌∙◌, subst, arith}
 use Rattle.std.specs.Prelude.{◌==◌}
 use Rattle.table_cuts.specs.Cuts.{CutState, IsPlace, state_in}
-use Rattle.br_model.proofs.ChipLists.{found-here}
+use Rattle.br_model.proofs.Table.ChipLists.{found-here}
 use Rattle.table_cuts.proofs.cuts.Cuts.find.Goals as goal
 
 pub returns-then-eq : goal.returns-then-eq

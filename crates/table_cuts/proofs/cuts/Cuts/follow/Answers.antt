@@ -4,7 +4,7 @@ use Rattle.std.proofs.lemmas.List.{length-map}
 use Rattle.std.proofs.lemmas.List.Elements.{AllWithin-more_set}
 use Rattle.br_model.specs.declared.domains.Edition.{Edition}
 use Rattle.table_cuts.specs.Cuts.{AreCuts, CutState, IsCut}
-use Rattle.br_model.proofs.ChipLists.{rest-set, same-rest}
+use Rattle.br_model.proofs.Table.ChipLists.{rest-set, same-rest}
 use Rattle.table_cuts.proofs.cuts.Cuts.follow.Goals as goal
 
 pub follow-requires-clause-cut : goal.follow-requires-clause-cut

@@ -1,7 +1,7 @@
 use Rattle.std.proofs.Common.{◌≡◌, IsTrue, List, [], ◌++◌, length, refl, sym, ap, ◌∙◌, subst, arith, rules}
 use Rattle.br_model.specs.declared.change.Change.{Change}
 use Rattle.br_model.specs.Table.Limits.{AreWithin}
-use Rattle.br_model.proofs.Within.{within_of}
+use Rattle.br_model.proofs.Table.Within.{within_of}
 use Rattle.table_history.specs.Object.{changes_of}
 use Rattle.table_history.specs.Content.{IsTable}
 use Rattle.table_history.specs.Packed.{Listed}

@@ -7,8 +7,8 @@ use Rattle.br_model.specs.Table.Domains.{chip_domains}
 use Rattle.br_model.specs.Text.LineForms.{comes_by_line}
 use Rattle.br_model.specs.Text.Roster.{Roster, chips_of}
 use Rattle.br_model.specs.Theorems.Invariants.{IsWorld}
-use Rattle.br_model.proofs.DeclaredChips.{declared-chips}
-use Rattle.br_model.proofs.PlaneKept.{first-world}
+use Rattle.br_model.proofs.Text.DeclaredChips.{declared-chips}
+use Rattle.br_model.proofs.Plane.Kept.{first-world}
 use Rattle.whole_texts.proofs.Steps.{ready_after}
 use Rattle.whole_texts.proofs.telling.Telling.begin.Goals as goal
 

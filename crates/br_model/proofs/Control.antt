@@ -1,0 +1,5 @@
+pub mod CoursesTied
+pub mod EndsTied
+pub mod ReactionSteps
+pub mod Refusals
+pub mod SnoopSteps

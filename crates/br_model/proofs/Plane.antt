@@ -1,0 +1,15 @@
+pub mod Agreement
+pub mod Applied
+pub mod Applying
+pub mod Chips
+pub mod Fates
+pub mod FrameLines
+pub mod Growing
+pub mod History
+pub mod Kept
+pub mod Once
+pub mod Running
+pub mod Shares
+pub mod Stays
+pub mod Still
+pub mod Waiting

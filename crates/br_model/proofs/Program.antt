@@ -1,0 +1,7 @@
+pub mod AllLeft
+pub mod Completing
+pub mod Differences
+pub mod LiveRuns
+pub mod MadeRead
+pub mod SameFrames
+pub mod SameSteps

@@ -1,0 +1,12 @@
+pub mod AddressRoom
+pub mod ChipLists
+pub mod CutFits
+pub mod Cuts
+pub mod DomainChips
+pub mod DomainLaws
+pub mod DomainMembers
+pub mod GroupOrders
+pub mod GroupPairs
+pub mod GroupRoom
+pub mod Standing
+pub mod Within

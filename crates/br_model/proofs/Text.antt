@@ -1,0 +1,15 @@
+pub mod DeclaredChips
+pub mod Endings
+pub mod Fronts
+pub mod MoreBytes
+pub mod Places
+pub mod Reading
+pub mod Words
+pub mod WrittenAddresses
+pub mod WrittenGroups
+pub mod WrittenLines
+pub mod WrittenNames
+pub mod WrittenNumbers
+pub mod WrittenOperands
+pub mod WrittenRows
+pub mod WrittenWords

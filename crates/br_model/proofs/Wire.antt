@@ -1,0 +1,3 @@
+pub mod Bpdus
+pub mod Frames
+pub mod RecordsFit

@@ -1,0 +1,14 @@
+pub mod Captures
+pub mod Checks
+pub mod Chips
+pub mod Commands
+pub mod Computing
+pub mod Domains
+pub mod Endings
+pub mod Groups
+pub mod LiveRuns
+pub mod Messages
+pub mod Rows
+pub mod Snooping
+pub mod Tree
+pub mod WholeTree
