@@ -1,3 +1,4 @@
+pub mod Clocks
 pub mod CoursesTied
 pub mod EndsTied
 pub mod ReactionSteps

@@ -1,3 +1,4 @@
+pub mod Hex
 pub mod KeySets
 pub mod Least
 pub mod Lists
@@ -5,3 +6,4 @@ pub mod MapLaws
 pub mod OneList
 pub mod PairKeys
 pub mod Ranges
+pub mod Sets

@@ -1,5 +1,6 @@
 pub mod AddressRoom
 pub mod ChipLists
+pub mod Counts
 pub mod CutFits
 pub mod Cuts
 pub mod DomainChips

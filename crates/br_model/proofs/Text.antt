@@ -1,6 +1,8 @@
 pub mod DeclaredChips
 pub mod Endings
+pub mod Feedless
 pub mod Fronts
+pub mod MacTexts
 pub mod MoreBytes
 pub mod Places
 pub mod Reading

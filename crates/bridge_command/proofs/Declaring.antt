@@ -2,14 +2,17 @@
 use Rattle.std.proofs.Common.{◌≡◌, ℕ, zero, suc, ◌==◌, ◌≤◌, Bool, true, false, ◌||◌, cond, List, [], ◌∷◌, ◌++◌, nat_le, Option, Some, None, refl, sym, ap, ◌∙◌, arith, is_some, ◌+◌, add-one, take, slice_get, unwrap_or}
 use Rattle.std.specs.Option.{option_map}
 use Rattle.std.specs.List.{fold}
-use Rattle.std.specs.Ordering.{nat_cmp, eq_by_cmp}
+use Rattle.std.specs.Ordering.{nat_cmp}
 use Rattle.std.specs.Cmp.{nat_cmp_total, unsigned_tied}
 use Rattle.std.specs.FinMap.Entries.{find-put}
 use Rattle.std.specs.Str.{bytes_eq}
-use Rattle.std.proofs.lemmas.Bool.{and_parts, and_from, or_parts, or_from, not-true, not_from_false, eqb-true, eqb-false, ne_eqb, eq-eqb, leb-true}
+use Rattle.std.proofs.lemmas.Bool.{and_parts, and_from, or_parts, or_from, not-true, not_from_false, eqb-true, ne_eqb, leb-true}
 use Rattle.std.proofs.lemmas.Grind.{fold-append}
 use Rattle.std.proofs.lemmas.List.Folds.{list_any-append}
 use Rattle.std.proofs.lemmas.Slice.Eq.{bytes_eq-Decides}
+use Rattle.lemmas.proofs.Numbers.{eqb-apart}
+use Rattle.lemmas.proofs.Orders.{eq_by_cmp-turned}
+use Rattle.lemmas.proofs.Tests.{or-false}
 use Rattle.br_model.specs.declared.domains.Edition.{Edition}
 use Rattle.br_model.specs.Table.Domains.{Domains, domain_of, host, software, last_port, last_chip}
 use Rattle.br_model.specs.Data.Maps.{get, put}
@@ -41,9 +44,6 @@ whole ports e h =
     and_from _ _ h.low (and_from _ _ h.high (and_from _ _ h.of_chip (and_from _ _ h.named (and_from _ _ (not_from_false _ h.free) (not_from_false _ h.new)))))
 
 -- one port more
-
-apart : (m n : ℕ) → (m == n) ≡ false → (n == m) ≡ false
-apart m n h = ne_eqb n m (λ e. eqb-false m n h (sym e))
 
 other : (v w : Word) → bytes_eq v w ≡ false → bytes_eq w v ≡ false
 other v w h = grind (arith, bytes_eq-Decides v w, bytes_eq-Decides w v)
@@ -81,7 +81,7 @@ beside_more x ports e h p w = record {
   high = h.high;
   of_chip = h.of_chip;
   named = h.named;
-  free = number-append ports e x.port ∙ or_from _ _ h.free (or_from _ _ (apart x.port e.port p) refl);
+  free = number-append ports e x.port ∙ or_from _ _ h.free (or_from _ _ (eqb-apart x.port e.port p) refl);
   new = named-append ports e x.name ∙ or_from _ _ h.new (other e.name x.name w);
 }
 
@@ -102,22 +102,11 @@ joined true d None h = refl
 joined true d (Some x) h = refl
 joined false d o h = refl
 
-tied : (n p : ℕ) → eq_by_cmp nat_cmp n p ≡ (p == n)
-tied n p = unsigned_tied n p ∙ by (p == n) refl
-  where
-    by : (b : Bool) → (p == n) ≡ b → (n == p) ≡ b
-    by true h = eq-eqb n p (sym (eqb-true p n h))
-    by false h = apart p n h
-
 gathers : (m : List (ℕ × ℕ)) (ports : List Entry) (n : ℕ) → is_some (get nat_cmp (fold adds m ports) n) ≡ (is_some (get nat_cmp m n) || has_number ports n)
-gathers m [] n = by (is_some (get nat_cmp m n))
-  where
-    by : (b : Bool) → b ≡ (b || false)
-    by true = refl
-    by false = refl
+gathers m [] n = sym (or-false (is_some (get nat_cmp m n)))
 gathers m (e ∷ ports) n =
     gathers (adds m e) ports n
-    ∙ ap (λ o. is_some o || has_number ports n) (find-put nat_cmp nat_cmp_total n e.port e.dom m ∙ ap (λ b. cond b (Some e.dom) (get nat_cmp m n)) (tied n e.port))
+    ∙ ap (λ o. is_some o || has_number ports n) (find-put nat_cmp nat_cmp_total n e.port e.dom m ∙ ap (λ b. cond b (Some e.dom) (get nat_cmp m n)) (eq_by_cmp-turned n e.port))
     ∙ joined (e.port == n) e.dom (get nat_cmp m n) (has_number ports n)
 
 -- a port has a domain where it is declared

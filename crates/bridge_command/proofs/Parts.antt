@@ -2,8 +2,8 @@
 use Rattle.std.proofs.Common.{◌≡◌, ℕ, suc, ◌+◌, ◌*◌, ◌^◌, ◌<◌, ◌≤◌, ◌==◌, Bool, true, false, if◌then◌else◌, List, ◌∷◌, length, drop, get_or, refl, sym, ◌∙◌, ap, subst, arith, Option, None, Some, add-one}
 use Rattle.std.specs.List.{fold}
 use Rattle.std.specs.Option.{option_map}
-use Rattle.std.proofs.Math.Nat.{mul-le-mul_left, pow-le-pow_right, pow-succ', pow-zero}
-use Rattle.std.proofs.lemmas.Bool.{ne_eqb}
+use Rattle.std.proofs.Math.Nat.{mul-le-mul_left, pow-le-pow_right, pow-succ', pow-zero, le_trans}
+use Rattle.std.proofs.lemmas.Bool.{ne_eqb, eq-eqb}
 use Rattle.std.proofs.lemmas.List.{at_drop_more, drop_all}
 use Rattle.br_model.specs.Data.Digits.{in_front}
 use Rattle.br_model.specs.Text.IpWords.{each, in_parts}
@@ -68,19 +68,13 @@ module _ (base : ℕ) (part : Word → Option ℕ) (most : ℕ) (words : List Wo
   pub all_read : (count a : ℕ) → Reads base part most words count a → count ≡ length words → count ≡ most → Some a ≡ in_parts most base part words
   all_read count a r all is =
       sym (
-      ap (λ (b : Bool). if b then goes_on base part 0 words else None) (same (length words) most (sym all ∙ is))
+      ap (λ (b : Bool). if b then goes_on base part 0 words else None) (eq-eqb (length words) most (sym all ∙ is))
       ∙ sym r.whole
       ∙ ap (goes_on base part a) (drop_all count words (omega arith)))
-    where
-      same : (m n : ℕ) → m ≡ n → (m == n) ≡ true
-      same m n h = grind arith
 
 -- a number of fewer parts, and room for one more
 pub room : (base most count a : ℕ) → 0 < base → count ≤ most → (count ≡ most → ⊥) → a < base ^ count → base * suc a ≤ base ^ most
 room base most count a positive few not h =
-    both_at_most (base * suc a) (base ^ suc count) (base ^ most)
+    le_trans
     (subst (λ (p : ℕ). base * suc a ≤ p) (sym (pow-succ' base count)) (mul-le-mul_left base h))
     (pow-le-pow_right positive (omega arith))
-  where
-    both_at_most : (m n o : ℕ) → m ≤ n → n ≤ o → m ≤ o
-    both_at_most m n o h i = omega arith

@@ -3,6 +3,7 @@ use Rattle.std.proofs.Common.{◌≡◌, ℕ, zero, suc, ◌+◌, ◌<◌, ◌�
 use Rattle.std.specs.List.{filter, list_any}
 use Rattle.std.specs.Option.{option_map}
 use Rattle.std.proofs.lemmas.Bool.{eqb-true}
+use Rattle.lemmas.proofs.Tests.{and-false}
 use Rattle.br_model.specs.Table.Domains.{first_chip_domain, last_chip, software}
 use Rattle.br_model.specs.Text.Roster.{Entry, has_number, is_chip}
 use Rattle.br_model.specs.Text.Spelling.{name_of}
@@ -66,16 +67,12 @@ any-filter : (t : ℕ → Bool) (ds : List ℕ) (dom : ℕ) → list_any (λ d. 
 any-filter t [] dom = refl
 any-filter t (d ∷ ds) dom = by (d == dom) (t d) refl refl (any-filter t ds dom)
   where
-    none : (b : Bool) → (b && false) ≡ false
-    none true = refl
-    none false = refl
-
     by : (same kept : Bool) → (d == dom) ≡ same → t d ≡ kept → list_any (λ x. x == dom) (filter t ds) ≡ (list_any (λ x. x == dom) ds && t dom)
         → list_any (λ x. x == dom) (cond kept (d ∷ filter t ds) (filter t ds)) ≡ ((same || list_any (λ x. x == dom) ds) && t dom)
     by true true is h rest = ap (λ b. b || list_any (λ x. x == dom) (filter t ds)) is ∙ sym h ∙ ap t (eqb-true _ _ is)
     by true false is h rest =
         let off : t dom ≡ false = ap t (sym (eqb-true _ _ is)) ∙ h in
-        rest ∙ ap (λ b. list_any (λ x. x == dom) ds && b) off ∙ none (list_any (λ x. x == dom) ds) ∙ sym off
+        rest ∙ ap (λ b. list_any (λ x. x == dom) ds && b) off ∙ and-false (list_any (λ x. x == dom) ds) ∙ sym off
     by false true is h rest = ap (λ b. b || list_any (λ x. x == dom) (filter t ds)) is ∙ rest
     by false false is h rest = rest
 

@@ -1,10 +1,11 @@
 -- Changes that all fit are all made.
-use Rattle.std.proofs.Common.{◌≡◌, ◌+◌, ◌≤◌, Bool, true, false, cond, ◌&&◌, List, [], ◌∷◌, ◌++◌, map, length, refl, sym, ap, ◌∙◌, arith, append_assoc, length-append}
+use Rattle.std.proofs.Common.{◌≡◌, ◌+◌, ◌≤◌, Bool, true, false, cond, List, [], ◌∷◌, ◌++◌, map, length, refl, sym, ap, ◌∙◌, arith, append_assoc, length-append}
 use Rattle.std.proofs.lemmas.List.{append-nil}
 use Rattle.std.proofs.lemmas.List.Sums.{fold-append}
 use Rattle.std.specs.Prelude.{nat_le}
 use Rattle.std.specs.List.{fold, list_all}
 use Rattle.std.specs.Cmp.{first_so, second_so}
+use Rattle.std.proofs.lemmas.Bool.{and_from}
 use Rattle.br_model.specs.declared.change.Asks.{Asks}
 use Rattle.br_model.specs.declared.change.Asks.TheVariants.{Nothing, State, GroupRoom, AddressRoom}
 use Rattle.br_model.specs.declared.change.Change.{Change}
@@ -13,9 +14,6 @@ use Rattle.br_model.specs.Control.Course.{Course, makes, makes_all}
 use Rattle.br_model.specs.Table.Change.{asks}
 use Rattle.br_model.specs.Table.Limits.{grants, fits, all_fit, most_changes}
 use Rattle.br_model.specs.Table.Table.{Table, table, start, apply}
-
-both : (a b : Bool) → a ≡ true → b ≡ true → (a && b) ≡ true
-both a b p q = λ i. p i && q i
 
 -- the course after changes that fit
 abbrev pub after : Course → List Change → Course
@@ -42,7 +40,7 @@ fits_alone t c h = first_so (fits t c) true h
 pub fit_behind : (t : Table) (cs ds : List Change) → all_fit t cs ≡ true → all_fit (fold apply t cs) ds ≡ true → all_fit t (cs ++ ds) ≡ true
 fit_behind t [] ds h k = k
 fit_behind t (c ∷ cs) ds h k =
-    both (fits t c) (all_fit (apply t c) (cs ++ ds)) (first_so (fits t c) (all_fit (apply t c) cs) h)
+    and_from (fits t c) (all_fit (apply t c) (cs ++ ds)) (first_so (fits t c) (all_fit (apply t c) cs) h)
     (fit_behind (apply t c) cs ds (second_so (fits t c) (all_fit (apply t c) cs) h) k)
 
 -- a history with changes behind it that fit is one, and its table is theirs behind that of the history
@@ -76,12 +74,12 @@ fits_any t c h = granted t (asks c) h
 
 pub all_fit_any : (t : Table) (cs : List Change) → list_all always_fits cs ≡ true → all_fit t cs ≡ true
 all_fit_any t [] h = refl
-all_fit_any t (c ∷ cs) h = both _ _ (fits_any t c (first_so _ _ h)) (all_fit_any (apply t c) cs (second_so _ _ h))
+all_fit_any t (c ∷ cs) h = and_from _ _ (fits_any t c (first_so _ _ h)) (all_fit_any (apply t c) cs (second_so _ _ h))
 
 pub always-append : (xs ys : List Change) → list_all always_fits xs ≡ true → list_all always_fits ys ≡ true → list_all always_fits (xs ++ ys) ≡ true
 always-append [] ys h k = k
-always-append (x ∷ xs) ys h k = both _ _ (first_so _ _ h) (always-append xs ys (second_so _ _ h) k)
+always-append (x ∷ xs) ys h k = and_from _ _ (first_so _ _ h) (always-append xs ys (second_so _ _ h) k)
 
 pub always-map : {X : Type 0} (f : X → Change) (xs : List X) → ((x : X) → always_fits (f x) ≡ true) → list_all always_fits (map f xs) ≡ true
 always-map f [] h = refl
-always-map f (x ∷ xs) h = both _ _ (h x) (always-map f xs h)
+always-map f (x ∷ xs) h = and_from _ _ (h x) (always-map f xs h)

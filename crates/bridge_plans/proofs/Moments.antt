@@ -1,5 +1,5 @@
 -- The entries of a database with their moments: the bound of the learned ones, and which of them are old.
-use Rattle.std.proofs.Common.{◌≡◌, ℕ, ◌+◌, ◌<◌, ◌≤◌, min, length, is_some, Bool, true, false, T, not, cond, ◌&&◌, ◌||◌, Option, None, Some, option_map, List, [], ◌∷◌, map, filter, ◌==◌, nat_le, nat_lt, refl, sym, ap, subst, ◌∙◌, arith}
+use Rattle.std.proofs.Common.{◌≡◌, ℕ, ◌+◌, ◌<◌, ◌≤◌, min, length, is_some, Bool, true, false, not, cond, ◌&&◌, ◌||◌, Option, None, Some, option_map, List, [], ◌∷◌, map, filter, ◌==◌, nat_le, nat_lt, refl, sym, ap, subst, ◌∙◌, arith}
 use Rattle.std.specs.List.{list_all, AllByRecursion}
 use Rattle.std.specs.Cmp.{first_so, second_so, tied_itself}
 use Rattle.std.specs.Ordering.{eq_by_cmp, is_eq, is_lt, ordering_reverse}
@@ -7,9 +7,11 @@ use Rattle.std.specs.declared.cmp.Ordering.{Ordering}
 use Rattle.std.specs.declared.cmp.Ordering.TheVariants.{Less, Equal, Greater}
 use Rattle.std.specs.FinMap.Entries.{below_all, by_order, is_sorted-put, is_sorted-where_key}
 use Rattle.std.specs.Option.{option_map_or, unwrap_or}
-use Rattle.std.proofs.lemmas.Bool.{le-leb, leb-true, ltb-true, false≢true}
+use Rattle.std.proofs.lemmas.Bool.{le-leb, leb-true, ltb-true, false≢true, and_from}
 use Rattle.std.proofs.lemmas.List.{length-map}
 use Rattle.std.proofs.lemmas.Bool.Decides.{nat_tests}
+use Rattle.std.proofs.lemmas.Float.{T_from_true}
+use Rattle.lemmas.proofs.Tests.{true_from_T}
 use Rattle.br_model.specs.declared.change.Kind.{Kind}
 use Rattle.br_model.specs.declared.change.Kind.TheVariants.{Local, Static, Learned, Extern}
 use Rattle.br_model.specs.Control.Ageing.{expires, is_old}
@@ -24,9 +26,6 @@ use Rattle.bridge_plans.specs.Entries.{keys_at, old_keys, entries_of, IsKept}
 
 abbrev Entries : Type 0
 Entries = List (Address × Entry)
-
-both : (a b : Bool) → a ≡ true → b ≡ true → (a && b) ≡ true
-both a b p q = λ i. p i && q i
 
 abbrev pub AllFrom : ℕ → Entries → Type 0
 AllFrom b es = all_from b es ≡ true
@@ -48,17 +47,17 @@ lower_test false a b u h e = refl
 
 pub lower : (a b : ℕ) (es : Entries) → a ≤ b → AllFrom b es → AllFrom a es
 lower a b [] h all = refl
-lower a b (e ∷ es) h all = both _ _ (lower_test (is_learned e.1.kind) a b e.1.updated h (first_so _ _ all)) (lower a b es h (second_so _ _ all))
+lower a b (e ∷ es) h all = and_from _ _ (lower_test (is_learned e.1.kind) a b e.1.updated h (first_so _ _ all)) (lower a b es h (second_so _ _ all))
 
 all-put : (b : ℕ) (k : Address) (x : Entry) (es : Entries) → is_from b x ≡ true → AllFrom b es → AllFrom b (put pair_cmp es k x)
-all-put b k x [] here all = both _ _ here refl
+all-put b k x [] here all = and_from _ _ here refl
 all-put b k x (e ∷ es) here all =
     let first = first_so (is_from b e.1) (list_all (λ (f : Address × Entry). is_from b f.1) es) all in
     let rest = second_so (is_from b e.1) (list_all (λ (f : Address × Entry). is_from b f.1) es) all in
     elim (pair_cmp k e.0) as (λ r. AllFrom b (by_order r ((k, x) ∷ e ∷ es) ((e.0, x) ∷ es) (e ∷ put pair_cmp es k x))) [
-      | Less ↦ both _ _ here all
-      | Equal ↦ both _ _ here rest
-      | Greater ↦ both _ _ first (all-put b k x es here rest)
+      | Less ↦ and_from _ _ here all
+      | Equal ↦ and_from _ _ here rest
+      | Greater ↦ and_from _ _ first (all-put b k x es here rest)
     ]
 
 from_itself : (l : Bool) (b u : ℕ) → b ≤ u → (not l || nat_le b u) ≡ true
@@ -75,7 +74,7 @@ from-filter b t [] all = refl
 from-filter b t (e ∷ es) all =
     let first = first_so (is_from b e.1) (list_all (λ (f : Address × Entry). is_from b f.1) es) all in
     let rest = from-filter b t es (second_so (is_from b e.1) (list_all (λ (f : Address × Entry). is_from b f.1) es) all) in
-    elim (t e) as (λ c. AllFrom b (cond c (e ∷ filter t es) (filter t es))) [ true ↦ both _ _ first rest | false ↦ rest ]
+    elim (t e) as (λ c. AllFrom b (cond c (e ∷ filter t es) (filter t es))) [ true ↦ and_from _ _ first rest | false ↦ rest ]
 
 pub bounded_by : (d : ℕ) (o : Option ℕ) (m : ℕ) → o ≡ Some m → unwrap_or o d ≤ m
 bounded_by d None m e = absurd (cc)
@@ -164,22 +163,11 @@ entries_told b es up = told (moments es) es (has-moments es up)
 
 -- in order
 
-true_T : (b : Bool) → b ≡ true → T b
-true_T b e = subst T (sym e) tt
-
 pub ascending-put : (es : Entries) (k : Address) (x : Entry) → is_ascending pair_cmp es ≡ true → is_ascending pair_cmp (put pair_cmp es k x) ≡ true
-ascending-put es k x up = of _ (is_sorted-put pair_cmp pair_total k x es (true_T _ up))
-  where
-    of : (b : Bool) → T b → b ≡ true
-    of true h = refl
-    of false h = absurd h
+ascending-put es k x up = true_from_T _ (is_sorted-put pair_cmp pair_total k x es (T_from_true _ up))
 
 pub ascending-without : (es : Entries) (k : Address) → is_ascending pair_cmp es ≡ true → is_ascending pair_cmp (without pair_cmp es k) ≡ true
-ascending-without es k up = of _ (is_sorted-where_key pair_cmp (λ q. not (eq_by_cmp pair_cmp k q)) es (true_T _ up))
-  where
-    of : (b : Bool) → T b → b ≡ true
-    of true h = refl
-    of false h = absurd h
+ascending-without es k up = true_from_T _ (is_sorted-where_key pair_cmp (λ q. not (eq_by_cmp pair_cmp k q)) es (T_from_true _ up))
 
 -- a new address finds room
 pub room-absent : (es : Entries) (k : Address) → get pair_cmp es k ≡ None → (is_some (get pair_cmp (addresses es) k) || nat_lt (length (addresses es)) most_addresses) ≡ true → length es < most_addresses

@@ -7,6 +7,8 @@ use Rattle.std.specs.Ordering.{nat_cmp}
 use Rattle.std.proofs.lemmas.List.{append-nil}
 use Rattle.std.specs.declared.result.Result.{Result}
 use Rattle.std.specs.declared.result.Result.TheVariants.{Ok, Err}
+use Rattle.std.proofs.lemmas.Bool.{and_from}
+use Rattle.lemmas.proofs.Numbers.{eqb-itself}
 use Rattle.br_model.specs.declared.bpdu.BpduMsg.{BpduMsg}
 use Rattle.br_model.specs.declared.change.Change.{Change}
 use Rattle.br_model.specs.declared.change.Change.TheVariants as changes
@@ -14,7 +16,7 @@ use Rattle.br_model.specs.declared.change.Kind.{Kind}
 use Rattle.br_model.specs.declared.change.Kind.TheVariants.{Learned, Extern}
 use Rattle.br_model.specs.declared.frame.Head.{Head}
 use Rattle.br_model.specs.declared.steps.Command.{Command}
-use Rattle.br_model.specs.declared.steps.Command.TheVariants.{PortDown, VlanDel, Ageing}
+use Rattle.br_model.specs.declared.steps.Command.TheVariants.{PortDown, VlanDel}
 use Rattle.br_model.specs.declared.steps.Refusal.{Refusal}
 use Rattle.br_model.specs.declared.steps.Refusal.TheVariants as refusals
 use Rattle.br_model.specs.declared.transcript.Line.{Line}
@@ -23,7 +25,7 @@ use Rattle.br_model.specs.declared.tree.TreeEvent.TheVariants.{Message, Moment}
 use Rattle.br_model.specs.Forward.Admission.{is_up, vlan_of, has_valid_source}
 use Rattle.br_model.specs.Control.Ageing.{forgets}
 use Rattle.br_model.specs.Wire.Bpdus.{bpdu}
-use Rattle.br_model.specs.Control.Commands.{command, sets}
+use Rattle.br_model.specs.Control.Commands.{command}
 use Rattle.br_model.specs.Control.Commands.Ports.{goes_down, drops_addresses, drops_groups, drops_vlans}
 use Rattle.br_model.specs.Control.Commands.Vlans.{leaves_vlan}
 use Rattle.br_model.specs.Control.Control.{Control, keeps_up, renewed}
@@ -48,9 +50,6 @@ use Rattle.bridge_plans.specs.Lessons.{lesson_of, is_taken}
 use Rattle.bridge_plans.specs.Plans.{Plans, renewed_at}
 use Rattle.bridge_plans.specs.Standing.{clocked}
 use Rattle.bridge_plans.proofs.Fitting.{all_fit_any, always_fits, always-append, always-map}
-
-both : (a b : Bool) → a ≡ true → b ≡ true → (a && b) ≡ true
-both a b p q = λ i. p i && q i
 
 -- the changes of a command fit
 
@@ -98,10 +97,6 @@ drops_vlan t port vid =
     always-append (drops_addresses t (λ v. v == vid) port) _ (deletes t (λ v. v == vid) port)
     (always-append (drops_groups t (λ v. v == vid) port) _ (parts t (λ v. v == vid) port) refl)
 
-turned : (b : Bool) → not b ≡ false → b ≡ true
-turned true e = refl
-turned false e = absurd (cc)
-
 pub fit_command : (t : Table) (asked : Command) (cs : List Change) → command t asked ≡ Ok cs → all_fit t cs ≡ true
 fit_command t (PortDown port) cs e = fit_along t _ cs (all_fit_any t (goes_down t port) (drops_down t port)) (tested _ refusals.PortNotUp _ cs e).1
 fit_command t (VlanDel port vid) cs e = fit_along t _ cs (all_fit_any t (leaves_vlan t port vid) (drops_vlan t port vid)) (tested _ refusals.Absent _ cs (tested _ refusals.PortNotUp _ cs e).1).1
@@ -132,7 +127,7 @@ offered t c d true e = refl
 offered t c d false e = absurd (cc)
 
 offered-fits : (t : Table) (d : Change) (test : Bool) → (test && fits t d) ≡ true → all_fit t (d ∷ []) ≡ true
-offered-fits t d true e = both _ _ e refl
+offered-fits t d true e = and_from _ _ e refl
 offered-fits t d false e = absurd (cc)
 
 declined : (t : Table) (c : Control) (d : Change) (test : Bool) → (test && fits t d) ≡ false → from t c ≡ makes_all (from t c) (if test then d ∷ [] else [])
@@ -236,13 +231,10 @@ heard_alone t port bytes head event e =
         reserved false true = refl
         reserved false false = refl
 
-itself : (n : ℕ) → (n == n) ≡ true
-itself n = grind arith
-
 -- no port has another state than itself
 unmoved : (t : Tree) (ps : List ℕ) → filter (λ p. not (state_at t p == state_at t p)) ps ≡ []
 unmoved t [] = refl
-unmoved t (p ∷ ps) = ap (λ b. if not b then p ∷ filter (λ q. not (state_at t q == state_at t q)) ps else filter (λ q. not (state_at t q == state_at t q)) ps) (itself (state_at t p)) ∙ unmoved t ps
+unmoved t (p ∷ ps) = ap (λ b. if not b then p ∷ filter (λ q. not (state_at t q == state_at t q)) ps else filter (λ q. not (state_at t q == state_at t q)) ps) (eqb-itself (state_at t p)) ∙ unmoved t ps
 
 -- where nothing is due, nothing comes of telling the moment
 pub told_idle : (r : Course) → tree_step r.control.tree r.control.now Moment ≡ quiet r.control.tree → r ≡ tells_it (Some Moment) r
@@ -269,11 +261,6 @@ same_clock c cs = (same c cs).0
 
 pub same_tree : (c : Control) (cs : List Change) → (fold keeps_up c cs).tree ≡ c.tree
 same_tree c cs = (same c cs).1
-
--- no command sets the moment
-pub sets_no_clock : (c : Control) (asked : Command) → (sets c asked).now ≡ c.now
-sets_no_clock c (Ageing seconds) = refl
-sets_no_clock c asked = refl
 
 -- the lines of the messages that went out on these ports
 pub frames_of : (own : ℕ) (t : Tree) (ports : List ℕ)

@@ -2,6 +2,7 @@
 use Rattle.std.proofs.Common.{◌≡◌, ℕ, ◌^◌, Bool, true, false, not, ◌&&◌, if◌then◌else◌, ◌==◌, cond, List, [], ◌∷◌, ◌++◌, drop, fold, Option, None, Some, option_map, refl, sym, ap, ◌∙◌, arith}
 use Rattle.std.proofs.lemmas.Bool.{eqb-true, ne_eqb}
 use Rattle.std.proofs.Math.Nat.{mod-lt}
+use Rattle.lemmas.proofs.Tests.{and_last}
 use Rattle.br_model.specs.declared.change.Change.TheVariants.{AddrPut}
 use Rattle.br_model.specs.declared.change.Kind.TheVariants.{Learned}
 use Rattle.br_model.specs.declared.frame.Head.{Head}
@@ -102,11 +103,6 @@ no_group_four g = ne_eqb bridge_group_address (mac_of_four g) (λ e. absurd (ome
 no_group_six : (g : ℕ) → (bridge_group_address == mac_of_six g) ≡ false
 no_group_six g = ne_eqb bridge_group_address (mac_of_six g) (λ e. absurd (omega (arith, e)))
 
-last_false : (a b c : Bool) → c ≡ false → (a && (b && c)) ≡ false
-last_false true true c e = e
-last_false true false c e = refl
-last_false false b c e = refl
-
 plain-unless : (b : Bool) (other : McastMsg) → b ≡ false → (if not b then Plain else other) ≡ Plain
 plain-unless true other e = absurd (cc)
 plain-unless false other e = refl
@@ -114,12 +110,12 @@ plain-unless false other e = refl
 plain-four : (first : ℕ) (packet : List ℕ) → message_four bridge_group_address first packet ≡ Plain
 plain-four first packet =
     plain-unless (is_multicast_four bridge_group_address packet) _
-    (last_false (is_whole_four packet) (is_group_four (destination_four packet)) _ (no_group_four (destination_four packet)))
+    (and_last (is_whole_four packet) (is_group_four (destination_four packet)) _ (no_group_four (destination_four packet)))
 
 plain-six : (first : ℕ) (packet : List ℕ) → message_six bridge_group_address first packet ≡ Plain
 plain-six first packet =
     plain-unless (is_multicast_six bridge_group_address packet) _
-    (last_false (is_whole_six packet) (is_group_six (destination_six packet)) _ (no_group_six (destination_six packet)))
+    (and_last (is_whole_six packet) (is_group_six (destination_six packet)) _ (no_group_six (destination_six packet)))
 
 tree-address : (bytes : List ℕ) (head : Head) → head.dst ≡ bridge_group_address → message bytes head ≡ Plain
 unfolding message

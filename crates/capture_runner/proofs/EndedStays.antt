@@ -1,7 +1,7 @@
 -- What has ended in some bytes has ended so where more bytes follow.
 use Rattle.std.proofs.Common.{◌≡◌, ℕ, zero, suc, ◌+◌, ◌<◌, ◌≤◌, ◌==◌, Bool, true, false, not, if◌then◌else◌, List, [], ◌∷◌, ◌++◌, length, take, Option, None, Some, IfSome, Result, Ok, Err, refl, sym, ◌∙◌, ap, arith, nat_lt, length-append}
 use Rattle.std.specs.Io.KnownBytes.{Consumes}
-use Rattle.std.proofs.lemmas.Bool.{true≢false}
+use Rattle.std.proofs.lemmas.Bool.{true≢false, le-ltb, and_from, ltb-false, ltb-true}
 use Rattle.std.proofs.lemmas.List.{take-append-le}
 use Rattle.br_model.specs.declared.scenario.LineWhy.{LineWhy}
 use Rattle.br_model.specs.declared.scenario.LineWhy.TheVariants.{Long}
@@ -11,8 +11,8 @@ use Rattle.br_model.specs.Text.Scenario.{Scenario, Ending, Going, Ended, Bad, Fr
 use Rattle.br_model.specs.Theorems.WholeLines.{is_line}
 use Rattle.br_model.proofs.Program.AllLeft.{not_too_long, same_with_more}
 use Rattle.br_model.proofs.Text.Endings.{has_ended, closes_ended, read_ended}
-use Rattle.br_model.proofs.Text.Reading.{not_below, read_long, scenario_is}
-use Rattle.br_model.proofs.Text.WrittenWords.{both}
+use Rattle.br_model.proofs.Text.Reading.{read_long, scenario_is}
+use Rattle.br_model.proofs.Text.MoreBytes.{Grows, front_grows}
 
 -- what has ended takes no more
 over : (ahead : ℕ) (s : Scenario) (more : List ℕ) → has_ended s.ending ≡ true → (read ahead s more).scenario ≡ s
@@ -20,21 +20,6 @@ unfolding read
 over ahead s [] h = refl
 over (suc ahead) s (byte ∷ more) h = over ahead s more h
 over zero s (byte ∷ more) h = ap (λ (p : Progress). p.scenario) (read_ended s (byte ∷ more) h)
-
--- a line that has its line feed stays the same
-abbrev Grows : Option Front → Option Front → List ℕ → Type 0
-Grows o whole more = IfSome o (λ f. whole ≡ Some (record { line = f.line; behind = f.behind ++ more }))
-
-byte_grows : (b : Bool) (byte : ℕ) (bytes more : List ℕ) (o whole : Option Front) → Grows o whole more
-    → Grows (if b then Some (record { line = []; behind = bytes }) else in_front byte o) (if b then Some (record { line = []; behind = bytes ++ more }) else in_front byte whole) more
-byte_grows true byte bytes more o whole h = refl
-byte_grows false byte bytes more None whole h = tt
-byte_grows false byte bytes more (Some f) whole h = ap (in_front byte) h
-
-front_grows : (bytes more : List ℕ) → Grows (front bytes) (front (bytes ++ more)) more
-unfolding front
-front_grows [] more = tt
-front_grows (byte ∷ bytes) more = byte_grows (byte == 10) byte bytes more (front bytes) (front (bytes ++ more)) (front_grows bytes more)
 
 -- bytes without a line feed
 no_feed : (bytes : List ℕ) → front bytes ≡ None → is_line bytes ≡ true
@@ -45,14 +30,8 @@ no_feed (byte ∷ bytes) h = by (byte == 10) (front bytes) refl refl h (no_feed 
     by : (b : Bool) (o : Option Front) → (byte == 10) ≡ b → front bytes ≡ o → (if b then Some (record { line = []; behind = bytes }) else in_front byte o) ≡ None
         → (front bytes ≡ None → is_line bytes ≡ true) → is_line (byte ∷ bytes) ≡ true
     by true o d e h later = absurd (cc)
-    by false None d e h later = both _ _ (ap not d) (later e)
+    by false None d e h later = and_from _ _ (ap not d) (later e)
     by false (Some f) d e h later = absurd (cc)
-
-at_most : (n m : ℕ) → nat_lt n m ≡ false → m ≤ n
-at_most n m h = grind arith
-
-above : (n m : ℕ) → nat_lt n m ≡ true → n < m
-above n m h = grind arith
 
 abbrev Goes : Type 0
 Goes = ℕ → Scenario → Progress
@@ -74,8 +53,8 @@ module _ (s : Scenario) (more : List ℕ) (go_on go_on' : Goes) (same : (n : ℕ
   taken_same said f false e h =
       let n : ℕ = section_length said in
       let k : ℕ = length f.line + n in
-      let fits : n ≤ length f.behind = at_most (length f.behind) n e in
-      ap (λ (b : Bool). (taken s said (with_more f) go_on' b).scenario) (not_below (length (f.behind ++ more)) n (omega (arith, fits, length-append f.behind more)))
+      let fits : n ≤ length f.behind = ltb-false (length f.behind) n e in
+      ap (λ (b : Bool). (taken s said (with_more f) go_on' b).scenario) (le-ltb (length (f.behind ++ more)) n (omega (arith, fits, length-append f.behind more)))
       ∙ ap (λ (part : List ℕ). (go_on' k (takes s said part)).scenario) (take-append-le n f.behind more fits)
       ∙ same k (takes s said (take n f.behind)) h
 
@@ -85,7 +64,7 @@ module _ (s : Scenario) (more : List ℕ) (go_on go_on' : Goes) (same : (n : ℕ
 
   long_same : (bytes : List ℕ) (b : Bool) (p : Progress) → nat_lt longest_line (length bytes) ≡ b → (longest_line < length bytes → p.scenario ≡ bad s Long)
       → has_ended (if b then bad s Long else s).ending ≡ true → p.scenario ≡ (if b then bad s Long else s)
-  long_same bytes true p e long h = long (above longest_line (length bytes) e)
+  long_same bytes true p e long h = long (ltb-true longest_line (length bytes) e)
   long_same bytes false p e long h = absurd (not_ended h)
 
   front_same : (bytes : List ℕ) (o whole : Option Front) → front bytes ≡ o → Grows o whole more

@@ -1,5 +1,5 @@
 -- What is read for a run by workers, and what they give.
-use Rattle.std.proofs.Common.{◌≡◌, ℕ, suc, ◌<◌, ◌≤◌, ◌==◌, nat_lt, nat_le, Bool, true, false, not, ◌||◌, List, [], ◌∷◌, ◌++◌, length, get_or, refl, sym, ◌∙◌, ap, ap₂, subst, arith}
+use Rattle.std.proofs.Common.{◌≡◌, ℕ, suc, ◌<◌, ◌≤◌, ◌==◌, nat_le, Bool, true, false, not, ◌||◌, List, [], ◌∷◌, ◌++◌, length, get_or, refl, sym, ◌∙◌, ap, ap₂, subst, arith}
 use Rattle.std.specs.Prelude.{codes}
 use Rattle.std.specs.Cmp.{first_so, second_so}
 use Rattle.std.specs.Io.KnownBytes.{Consumes, IsAtEnd}
@@ -9,7 +9,7 @@ use Rattle.std.specs.declared.option.Option.{Option}
 use Rattle.std.specs.declared.option.Option.TheVariants.{None, Some}
 use Rattle.std.specs.declared.result.Result.{Result}
 use Rattle.std.specs.declared.result.Result.TheVariants.{Err}
-use Rattle.std.proofs.lemmas.Bool.{false≢true, true≢false}
+use Rattle.std.proofs.lemmas.Bool.{false≢true, true≢false, and_from, lt-ltb}
 use Rattle.br_model.specs.declared.scenario.LineWhy.{LineWhy}
 use Rattle.br_model.specs.declared.steps.Step.{Step}
 use Rattle.br_model.specs.declared.steps.Step.TheVariants.{Serve, Hold, Post, Turn, Report, Publish}
@@ -32,7 +32,6 @@ use Rattle.br_model.specs.Text.ScenarioText.{fits_in, has_line, knows_in, names_
 use Rattle.br_model.specs.Text.Transcript.{bad_text, line_text, text}
 use Rattle.br_model.proofs.Text.DeclaredChips.{declared-chips}
 use Rattle.br_model.proofs.Text.Endings.{has_ended}
-use Rattle.br_model.proofs.Text.WrittenWords.{both}
 use Rattle.live_workers.specs.Results.{is_taken}
 use Rattle.scenario_reader.specs.declared.reader.Last.{Last}
 use Rattle.scenario_reader.specs.declared.reader.Last.TheVariants as lasts
@@ -63,7 +62,7 @@ known_of ports Flag f h = refl
 all_known : (ports : List Entry) (ts : List Token) (values : Values ts) → all_values (in_range ports) ts values ≡ true → all_values (is_known ports) ts values ≡ true
 all_known ports [] values h = refl
 all_known ports (Fixed w ∷ ts) values h = all_known ports ts values h
-all_known ports (Has o ∷ ts) values h = both _ _ (known_of ports o values.0 (first_so (in_range ports o values.0) _ h)) (all_known ports ts values.1 (second_so (in_range ports o values.0) _ h))
+all_known ports (Has o ∷ ts) values h = and_from _ _ (known_of ports o values.0 (first_so (in_range ports o values.0) _ h)) (all_known ports ts values.1 (second_so (in_range ports o values.0) _ h))
 
 form_known : (ports : List Entry) (f : Option Form) → fits_in ports f ≡ true → knows_in ports f ≡ true
 form_known ports None h = h
@@ -71,7 +70,7 @@ form_known ports (Some f) h = all_known ports f.shape f.values h
 
 pub all_named : (ports : List Entry) (steps : List Step) → list_all (has_line ports) steps ≡ true → list_all (names_declared ports) steps ≡ true
 all_named ports [] h = refl
-all_named ports (s ∷ steps) h = both _ _ (form_known ports (step_form s) (first_so (has_line ports s) _ h)) (all_named ports steps (second_so (has_line ports s) _ h))
+all_named ports (s ∷ steps) h = and_from _ _ (form_known ports (step_form s) (first_so (has_line ports s) _ h)) (all_named ports steps (second_so (has_line ports s) _ h))
 
 -- the steps that workers took have lines, since those that they were given have
 
@@ -81,10 +80,10 @@ least n = grind arith
 lined : (ports : List Entry) (chips : List ℕ) (s : Step) → chips ≡ chips_of ports → comes_by_line true chips s ≡ true → (not (is_taken s) || has_line ports s) ≡ true → is_numbered s ≡ true → has_line ports s ≡ true
 lined ports chips Serve are comes given number = refl
 lined ports chips Hold are comes given number = refl
-lined ports chips (Post id None) are comes given number = both _ true (both _ _ (least id) number) refl
-lined ports chips (Post id (Some point)) are comes given number = both _ _ (both _ _ (least id) (first_so _ _ number)) (both _ true (both _ _ (least point) (second_so (nat_le id 4294967295) _ number)) refl)
-lined ports chips (Turn dom) are comes given number = both _ true (ap (λ (l : List ℕ). list_any (λ d. d == dom) l) (sym are) ∙ comes) refl
-lined ports chips (Report dom) are comes given number = both _ true (ap (λ (l : List ℕ). list_any (λ d. d == dom) l) (sym are) ∙ comes) refl
+lined ports chips (Post id None) are comes given number = and_from _ true (and_from _ _ (least id) number) refl
+lined ports chips (Post id (Some point)) are comes given number = and_from _ _ (and_from _ _ (least id) (first_so _ _ number)) (and_from _ true (and_from _ _ (least point) (second_so (nat_le id 4294967295) _ number)) refl)
+lined ports chips (Turn dom) are comes given number = and_from _ true (ap (λ (l : List ℕ). list_any (λ d. d == dom) l) (sym are) ∙ comes) refl
+lined ports chips (Report dom) are comes given number = and_from _ true (ap (λ (l : List ℕ). list_any (λ d. d == dom) l) (sym are) ∙ comes) refl
 lined ports chips Publish are comes given number = refl
 lined ports chips s are comes given number = given
 
@@ -92,16 +91,13 @@ pub all_lined : (ports : List Entry) (chips : List ℕ) (steps : List Step) → 
     → list_all (λ s. not (is_taken s) || has_line ports s) steps ≡ true → list_all is_numbered steps ≡ true → list_all (has_line ports) steps ≡ true
 all_lined ports chips [] are comes given numbers = refl
 all_lined ports chips (s ∷ steps) are comes given numbers =
-    both _ _ (lined ports chips s are (first_so _ _ comes) (first_so (not (is_taken s) || has_line ports s) _ given) (first_so (is_numbered s) _ numbers))
+    and_from _ _ (lined ports chips s are (first_so _ _ comes) (first_so (not (is_taken s) || has_line ports s) _ given) (first_so (is_numbered s) _ numbers))
     (all_lined ports chips steps are (second_so _ _ comes) (second_so (not (is_taken s) || has_line ports s) _ given) (second_so (is_numbered s) _ numbers))
 
 -- bytes are bytes
 pub are_bytes : (bytes : List ℕ) → ((i : ℕ) → get_or bytes i 0 < 256) → list_all is_byte bytes ≡ true
 are_bytes [] h = refl
-are_bytes (b ∷ bytes) h = both _ _ (small b (h 0)) (are_bytes bytes (λ i. h (suc i)))
-  where
-    small : (b : ℕ) → b < 256 → nat_lt b 256 ≡ true
-    small b h = grind arith
+are_bytes (b ∷ bytes) h = and_from _ _ (lt-ltb b 256 (h 0)) (are_bytes bytes (λ i. h (suc i)))
 
 -- what was read
 

@@ -1,6 +1,6 @@
 -- A bad line is bad whatever follows it.
-use Rattle.std.proofs.Common.{◌≡◌, ℕ, zero, suc, ◌<◌, ◌≤◌, ◌==◌, Bool, true, false, List, [], ◌∷◌, ◌++◌, length, take, drop, Result, Ok, Err, refl, sym, ◌∙◌, ap, subst, arith, nat_lt, append_assoc, length-append, length-drop, length-take-le, take-append-drop}
-use Rattle.std.proofs.lemmas.Bool.{eqb-true}
+use Rattle.std.proofs.Common.{◌≡◌, ℕ, zero, suc, ◌<◌, ◌==◌, Bool, true, false, List, [], ◌∷◌, ◌++◌, length, take, drop, Result, Ok, Err, refl, sym, ◌∙◌, ap, subst, arith, nat_lt, append_assoc, length-append, length-drop, length-take-le, take-append-drop}
+use Rattle.std.proofs.lemmas.Bool.{eqb-true, ltb-true, ltb-false}
 use Rattle.std.proofs.lemmas.List.{append-nil}
 use Rattle.br_model.specs.declared.scenario.LineWhy.{LineWhy}
 use Rattle.br_model.specs.declared.scenario.LineWhy.TheVariants.{Long}
@@ -27,12 +27,6 @@ cut : (bytes : List ℕ) → Cut bytes
 cut [] = Unfed refl
 cut (byte ∷ bytes) = cut_byte byte bytes (byte == 10) refl (cut bytes)
 
-is_below : (n m : ℕ) → nat_lt n m ≡ true → n < m
-is_below n m h = grind arith
-
-at_most : (n m : ℕ) → nat_lt n m ≡ false → m ≤ n
-at_most n m h = grind arith
-
 module _ (number : ℕ) (why : LineWhy) where
   abbrev IsBad : Scenario → Type 0
   IsBad s = s.ending ≡ Bad number why
@@ -48,13 +42,13 @@ module _ (number : ℕ) (why : LineWhy) where
     section_stays : (line behind : List ℕ) (said : Said) (b : Bool) → is_line line ≡ true → whole_says s.roster line ≡ Ok said → nat_lt (length behind) (section_length said) ≡ b → length behind < k
         → IsBad (read 0 s (line ++ 10 ∷ behind)).scenario → IsBad (read 0 s (line ++ 10 ∷ (behind ++ more))).scenario
     section_stays line behind said true h says short few is =
-        absurd (not_going s going (subst (λ (p : Progress). IsBad p.scenario) (read_part s said line behind going h says (is_below _ _ short)) is))
+        absurd (not_going s going (subst (λ (p : Progress). IsBad p.scenario) (read_part s said line behind going h says (ltb-true _ _ short)) is))
     section_stays line behind said false h says whole few is =
         let n : ℕ = section_length said in
         let section : List ℕ = take n behind in
         let rest : List ℕ = drop n behind in
         let parts : section ++ rest ≡ behind = take-append-drop n behind in
-        let sized : length section ≡ n = length-take-le n behind (at_most _ _ whole) in
+        let sized : length section ≡ n = length-take-le n behind (ltb-false _ _ whole) in
         let t : Scenario = takes s said section in
         let here : read 0 s (line ++ 10 ∷ behind) ≡ read 0 t rest =
         ap (λ (b : List ℕ). read 0 s (line ++ 10 ∷ b)) (sym parts) ∙ read_line s said line section rest going h says sized in
@@ -73,11 +67,11 @@ module _ (number : ℕ) (why : LineWhy) where
 
     rest_stays : (bytes : List ℕ) (b : Bool) → is_line bytes ≡ true → nat_lt longest_line (length bytes) ≡ b → IsBad (read 0 s bytes).scenario → IsBad (read 0 s (bytes ++ more)).scenario
     rest_stays bytes true h long is =
-        let far = is_below longest_line (length bytes) long in
+        let far = ltb-true longest_line (length bytes) long in
         let here : (read 0 s bytes).scenario ≡ bad s Long = ap (λ (b : List ℕ). (read 0 s b).scenario) (sym (append-nil bytes)) ∙ read_long s bytes [] going h far in
         subst (λ (t : Scenario). IsBad t) (here ∙ sym (read_long s bytes more going h far)) is
     rest_stays bytes false h short is =
-        absurd (not_going s going (subst (λ (p : Progress). IsBad p.scenario) (read_rest s bytes going h (at_most longest_line (length bytes) short)) is))
+        absurd (not_going s going (subst (λ (p : Progress). IsBad p.scenario) (read_rest s bytes going h (ltb-false longest_line (length bytes) short)) is))
 
     cut_stays : (bytes : List ℕ) → Cut bytes → length bytes < suc k → IsBad (read 0 s bytes).scenario → IsBad (read 0 s (bytes ++ more)).scenario
     cut_stays bytes (Unfed h) few is = rest_stays bytes (nat_lt longest_line (length bytes)) h refl is

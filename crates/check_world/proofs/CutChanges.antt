@@ -1,22 +1,19 @@
 -- Another cut in the place of that of a domain's chip.
-use Rattle.std.proofs.Common.{◌≡◌, ℕ, ◌+◌, ◌<◌, true, List, slice_get, Option, None, Some, option_map, refl, sym, ap, ◌∙◌, subst, arith}
+use Rattle.std.proofs.Common.{◌≡◌, ℕ, ◌+◌, true, List, slice_get, Some, option_map, refl, sym, ap, ◌∙◌, subst, arith}
 use Rattle.std.proofs.Math.Seq.{map-set_same}
 use Rattle.std.proofs.lemmas.List.Elements.{All-set, recursion_from_All}
-use Rattle.std.proofs.lemmas.List.Sums.{length-filter, count_by-le-length}
 use Rattle.std.proofs.lemmas.Option.{slice_get_within, get_or_from_slice_get}
-use Rattle.std.specs.Prelude.{◌==◌, is_some, IsTrue, OnErr, OnOk}
+use Rattle.std.specs.Prelude.{◌==◌, is_some, IsTrue}
 use Rattle.br_model.specs.declared.change.Change.{Change}
 use Rattle.br_model.specs.declared.domains.Edition.{Edition}
-use Rattle.std.specs.declared.result.Result.{Result}
-use Rattle.std.specs.declared.result.Result.TheVariants.{Ok, Err}
 use Rattle.br_model.specs.declared.change.Update.{Update}
 use Rattle.br_model.specs.declared.frame.Head.{Head}
 use Rattle.br_model.specs.declared.frame.McastMsg.{McastMsg}
 use Rattle.br_model.specs.Plane.Chip.{Chip, chip_in, chip_table, hit_of, notes, put_chip, report}
-use Rattle.br_model.specs.Table.Change.{deferred, updates}
+use Rattle.br_model.specs.Table.Change.{updates}
 use Rattle.br_model.specs.Table.Cut.{cut, deferred_at}
 use Rattle.br_model.specs.Table.Domains.{Domains}
-use Rattle.br_model.specs.Table.Limits.{AreWithin, fits, most_changes}
+use Rattle.br_model.specs.Table.Limits.{AreWithin, fits}
 use Rattle.br_model.specs.Table.Table.{Table, apply, table}
 use Rattle.br_model.proofs.Table.CutFits.{turn-fits}
 use Rattle.br_model.proofs.Table.Cuts.{cut-turn, deferred_at-deferred, updates-named}
@@ -29,7 +26,8 @@ use Rattle.table_cuts.specs.Cuts.{AreCuts, Changed, CutState, IsCut, KeepsTable,
 use Rattle.table_cuts.specs.Points.{PointState}
 use Rattle.check_world.specs.Sides.{AreSides, SidesState, table_of}
 use Rattle.br_model.proofs.Table.ChipLists.{apart, apart-chips, chip-found, put-place, some-found}
-use Rattle.table_cuts.proofs.Noting.{kept_note}
+use Rattle.br_model.proofs.Plane.ByDomain.{same_chip}
+use Rattle.br_model.proofs.Plane.Noting.{kept_note}
 
 -- what is there for the definitions is there for the states
 pub there_at : (states : List CutState) (chips : List Chip) (dom : ℕ) → chips_of states ≡ chips → is_some (chip_in chips dom) ≡ true → is_some (state_in states dom) ≡ true
@@ -37,14 +35,6 @@ there_at states chips dom are some = sym (some-found (λ (s : CutState). s.chip)
 
 pub found_at : (states : List CutState) (chips : List Chip) (dom : ℕ) (c : CutState) → chips_of states ≡ chips → state_in states dom ≡ Some c → chip_in chips dom ≡ Some c.chip
 found_at states chips dom c are found = ap (λ (cs : List Chip). chip_in cs dom) (sym are) ∙ chip-found (λ (s : CutState). s.chip) states dom ∙ ap (option_map (λ (s : CutState). s.chip)) found
-
-pub some_is : {X : Type 0} (o : Option X) → is_some o ≡ true → (x : X) × (o ≡ Some x)
-some_is None e = absurd (cc)
-some_is (Some x) e = (x, refl)
-
--- so it is the one that is spoken of
-pub same_chip : (chips : List Chip) (dom : ℕ) (c d : Chip) → chip_in chips dom ≡ Some c → chip_in chips dom ≡ Some d → c ≡ d
-same_chip chips dom c d e f = let g : Some c ≡ Some d = sym e ∙ f in cc
 
 pub same_state : (states : List CutState) (dom : ℕ) (c d : CutState) → state_in states dom ≡ Some c → state_in states dom ≡ Some d → c ≡ d
 same_state states dom c d e f = let g : Some c ≡ Some d = sym e ∙ f in cc
@@ -76,9 +66,6 @@ turned_cut e H c d k at =
 
 pub turn_fits : (e : Edition) (H : List Change) (c : CutState) (d : Change) → IsCut e H c → AreWithin H → deferred_at e H c.chip.count ≡ Some d → IsTrue (fits c.table d)
 turn_fits e H c d k within at = subst (λ (t : Table). IsTrue (fits t d)) (sym k.table) (turn-fits e H c.chip.count d within at)
-
-pub count_below : (e : Edition) (H : List Change) (k : ℕ) (d : Change) → AreWithin H → deferred_at e H k ≡ Some d → k < most_changes
-count_below e H k d is at = omega (arith, is.few, (deferred_at-deferred e H k d at).1, length-filter (deferred e) H, count_by-le-length (deferred e) H)
 
 -- the cut of a domain
 pub cut_found : (domains : Domains) (H : List Change) (states : List CutState) (dom : ℕ) (c : CutState) → AreCuts domains H states → state_in states dom ≡ Some c → IsCut domains.edition H c
@@ -166,12 +153,3 @@ noted_sides b published counts old new places point s dom x port head was are at
 
 pub changed_as : (old new : List CutState) (dom : ℕ) (is be : CutState → CutState → Type 0) → ((c e : CutState) → is c e → be c e) → Changed old new dom is → Changed old new dom be
 changed_as old new dom is be f ch = record { place = ch.place; was = ch.was; now = ch.now; found = ch.found; at = ch.at; so = f ch.was ch.now ch.so; put = ch.put }
-
--- what holds of a call by its result
-pub on_either : {A E P Q X : Type 0} (r : Result A E) → OnOk r P → OnErr r Q → (P → X) → (Q → X) → X
-on_either (Ok x) p q f g = f p
-on_either (Err e) p q f g = g q
-
-pub where_ok : {A E P Q : Type 0} (r : Result A E) → (P → Q) → OnOk r P → OnOk r Q
-where_ok (Ok x) f p = f p
-where_ok (Err e) f p = p

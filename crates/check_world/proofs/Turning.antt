@@ -1,6 +1,6 @@
 -- Turns, as steps of the world.
-use Rattle.std.proofs.Common.{◌≡◌, ℕ, [], ◌∷◌, slice_get, Option, None, Some, option_map, refl, sym, ap, ◌∙◌}
-use Rattle.br_model.specs.declared.change.Change.{Change}
+use Rattle.std.proofs.Common.{◌≡◌, ℕ, [], ◌∷◌, slice_get, None, Some, sym, ap, ◌∙◌}
+use Rattle.lemmas.proofs.Endings.{option_map-none}
 use Rattle.br_model.specs.declared.change.Update.{Update}
 use Rattle.br_model.specs.declared.steps.Refusal.TheVariants.{NothingPending}
 use Rattle.br_model.specs.declared.transcript.Line.TheVariants as lines
@@ -17,11 +17,7 @@ use Rattle.check_world.specs.Sides.{SidesState, world_of}
 pub turns_none : (s : SidesState) (q : Queued) (dom m : ℕ) (c : Chip) → chip_in s.chips dom ≡ Some c → slice_get (updates s.setup.domains.edition s.history) c.count ≡ None
     → turns (world_of s q m) (chip_at (world_of s q m) dom) ≡ (world_of s q m, lines.Refused m NothingPending ∷ [])
 turns_none s q dom m c found none =
-    ap (turns (world_of s q m)) found ∙ ap (turns_to (world_of s q m) c) (by (deferred_at s.setup.domains.edition s.history c.count) (sym (updates-at s.setup.domains.edition s.history c.count) ∙ none))
-  where
-    by : (o : Option Change) → option_map (under_ticket c.count) o ≡ None → o ≡ None
-    by None e = refl
-    by (Some d) e = absurd (cc)
+    ap (turns (world_of s q m)) found ∙ ap (turns_to (world_of s q m) c) (option_map-none (under_ticket c.count) (deferred_at s.setup.domains.edition s.history c.count) (sym (updates-at s.setup.domains.edition s.history c.count) ∙ none))
 
 -- this one is
 pub turns_one : (s t : SidesState) (q : Queued) (dom m : ℕ) (c : Chip) (u : Update) → chip_in s.chips dom ≡ Some c → slice_get (updates s.setup.domains.edition s.history) c.count ≡ Some u

@@ -5,6 +5,7 @@ use Rattle.std.proofs.lemmas.List.Elements.{recursion_from_All}
 use Rattle.std.specs.Option.{is_some}
 use Rattle.std.specs.List.{find, list_any}
 use Rattle.std.specs.Ordering.{nat_cmp}
+use Rattle.lemmas.proofs.Lists.{find-passes}
 use Rattle.br_model.specs.Data.Maps.{has}
 use Rattle.br_model.specs.declared.steps.Refusal.{Refusal}
 use Rattle.br_model.specs.declared.steps.Refusal.TheVariants.{NothingWaiting, NothingToPost, NoSuchPoint}
@@ -71,14 +72,6 @@ holds_one s q r m floor line e left is =
     ∙ ap (λ (l : Line). (world_of s r m, l ∷ [])) (sym is)
 
 -- A held frame is posted.
-
-pub found_id : (id : ℕ) (hs : List Holding) (x : Holding) → find (λ h. h.waiting.id == id) hs ≡ Some x → (x.waiting.id == id) ≡ true
-found_id id [] x e = absurd (cc)
-found_id id (h ∷ hs) x e =
-    (elim (h.waiting.id == id) as (λ b. (h.waiting.id == id) ≡ b → cond b (Some h) (find (λ g. g.waiting.id == id) hs) ≡ Some x → (x.waiting.id == id) ≡ true) [
-      | true ↦ λ is e. let same : h ≡ x = cc in subst (λ (y : Holding). (y.waiting.id == id) ≡ true) same is
-      | false ↦ λ no e. found_id id hs x e
-    ]) refl e
 
 -- why it isn't
 pub posts_not : (w : World) (o : Option Holding) (named : Option ℕ) (why : Refusal) → point_of w o named ≡ Err why → posts_at w o named ≡ refused w why
@@ -150,7 +143,7 @@ pub posts_told : (old : World) (s t : SidesState) (q r : Queued) (n m id point :
     → Ok point ≡ point_of old (held_with old id) named → PostsHeld s q m id point t r told → Tells old (Post id named) (world_of t r m) told
 posts_told old s t q r n m id point named told was e is held =
     tells_so old s t q r n m (Post id named) told was e
-    (posts_one (world_of s q m) (find (λ h. h.waiting.id == id) q.held) id named point (world_of t r m, told) (λ h found. eqb-true h.waiting.id id (found_id id q.held h found))
+    (posts_one (world_of s q m) (find (λ h. h.waiting.id == id) q.held) id named point (world_of t r m, told) (λ h found. eqb-true h.waiting.id id (find-passes (λ h. h.waiting.id == id) q.held h found))
     (pointed old s q n m id named (Ok point) was is) held)
 
 pub refuses_told : (old : World) (s : SidesState) (q : Queued) (n m id : ℕ) (named : Option ℕ) (why : Refusal) → world_of s q n ≡ old → m ≡ n + 1

@@ -1,8 +1,9 @@
 -- Where no update is pending all entries are offloaded, and none is stale.
-use Rattle.std.proofs.Common.{◌≡◌, ℕ, ◌+◌, ◌-◌, ◌≤◌, Bool, true, false, ◌&&◌, T, not, cond, List, [], ◌∷◌, refl, sym, ap, ◌∙◌, arith}
+use Rattle.std.proofs.Common.{◌≡◌, ℕ, ◌+◌, ◌-◌, ◌≤◌, true, false, ◌&&◌, not, cond, List, [], ◌∷◌, refl, sym, ap, ◌∙◌, arith}
 use Rattle.std.specs.List.{filter, list_all}
 use Rattle.std.specs.Option.{option_map_or}
 use Rattle.std.proofs.lemmas.Bool.{eq-eqb}
+use Rattle.lemmas.proofs.Tests.{true_from_T}
 use Rattle.br_model.specs.declared.change.Change.{Change}
 use Rattle.br_model.specs.declared.change.Kind.{Kind}
 use Rattle.br_model.specs.declared.change.Kind.TheVariants.{Local, Static, Learned, Extern}
@@ -28,10 +29,6 @@ same-kind Extern = refl
 
 same-place : (x : ℕ × Kind) → same_place x x ≡ true
 same-place x = λ i. eq-eqb x.0 x.0 refl i && same-kind x.1 i
-
-pub true-of : (b : Bool) → T b → b ≡ true
-true-of true h = refl
-true-of false h = absurd h
 
 -- no entry of a table is stale by the table itself
 none-stale : (t : Table) (es : List Row) → FindOwn t.addr es → filter (is_stale t) es ≡ []
@@ -64,4 +61,4 @@ module _ (w : World) (c : Chip) (none : pending_of w c ≡ 0) where
   pub calm-stale : (audit_of w c).stale ≡ []
   calm-stale =
       ap (λ (h : List Change). stale (table w.history) (table h)) same
-      ∙ none-stale (table w.history) (table w.history).addr (find-own (table w.history).addr (true-of _ (table-ascends w.history)))
+      ∙ none-stale (table w.history) (table w.history).addr (find-own (table w.history).addr (true_from_T _ (table-ascends w.history)))

@@ -13,6 +13,7 @@ use Rattle.std.proofs.lemmas.List.Elements.{filter-append}
 use Rattle.std.proofs.lemmas.List.Folds.{list_any-append}
 use Rattle.std.proofs.lemmas.List.Sums.{fold-append}
 use Rattle.std.proofs.lemmas.Option.{get_or_from_slice_get, slice_get_within}
+use Rattle.lemmas.proofs.Tests.{or-true, by_test, cond-not}
 use Rattle.br_model.specs.declared.change.Change.{Change}
 use Rattle.br_model.specs.declared.change.Kind.{Kind}
 use Rattle.br_model.specs.declared.change.Update.{Update}
@@ -33,10 +34,6 @@ use Rattle.chip_audit.specs.Marks.{Entries, all_offloaded, entries_after, entrie
 
 -- Names of updates.
 
-or-true : (b : Bool) → (b || true) ≡ true
-or-true true = refl
-or-true false = refl
-
 named-more : (cs : List Change) (c : Change) (q : Key) → is_named (cs ++ c ∷ []) q ≡ (is_named cs q || is_of_key q c)
 named-more cs c q = list_any-append (is_of_key q) cs (c ∷ []) ∙ ap (λ b. is_named cs q || b) (or-false (is_of_key q c))
 
@@ -49,10 +46,6 @@ drop-past : (k : ℕ) (xs : List Change) (c : Change) → length xs < k → (dro
 drop-past zero xs c past = absurd (omega (arith, past))
 drop-past (suc k) [] c past = (drop-nil k, refl)
 drop-past (suc k) (x ∷ xs) c past = drop-past k xs c (omega (arith, past))
-
-by_test : {A : Type 0} (b : Bool) → (b ≡ true → A) → (b ≡ false → A) → A
-by_test true f g = f refl
-by_test false f g = g refl
 
 module _ (edition : Edition) (k : ℕ) where
   abbrev later : List Change → List Change
@@ -136,11 +129,7 @@ get-stands es k (Some x) q = find-put pair_cmp pair_total q k (marked false x) e
 get-stands es k None q =
     find-where_key pair_cmp (λ p. not (eq_by_cmp pair_cmp k p)) q (λ p tie. ap (λ r. not (eq_by_cmp pair_cmp k r)) (sym (same_cmp q p tie))) es
     ∙ ap (λ b. cond (not b) (get pair_cmp es q) None) (eq-turned q k)
-    ∙ flipped (eq_by_cmp pair_cmp q k)
-  where
-    flipped : (b : Bool) → cond (not b) (get pair_cmp es q) None ≡ cond b None (get pair_cmp es q)
-    flipped true = refl
-    flipped false = refl
+    ∙ cond-not (eq_by_cmp pair_cmp q k) (get pair_cmp es q) None
 
 get-after : (es : Entries) (part : Option (Key × Option (ℕ × Kind))) (q : Key) → get pair_cmp (entries_after es part) q
     ≡ cond (option_map_or (λ p. eq_by_cmp pair_cmp q p.0) part false) (option_map (marked false) (option_and_then (λ p. p.1) part)) (get pair_cmp es q)

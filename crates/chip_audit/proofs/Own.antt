@@ -5,22 +5,17 @@ use Rattle.std.specs.List.Sorted.{IsStrictlySortedBy}
 use Rattle.std.specs.Cmp.{first_so, second_so}
 use Rattle.std.specs.FinMap.Entries.{below_all, is_sorted}
 use Rattle.std.specs.Ordering.{is_eq, is_lt, ordering_reverse}
-use Rattle.std.specs.declared.cmp.Ordering.{Ordering}
-use Rattle.std.specs.declared.cmp.Ordering.TheVariants.{Less, Equal, Greater}
+use Rattle.std.specs.declared.cmp.Ordering.TheVariants.{Less, Greater}
 use Rattle.std.proofs.lemmas.Cmp.{tied_itself}
+use Rattle.lemmas.proofs.Orders.{is_lt-true}
 use Rattle.br_model.specs.Data.Maps.{pair_cmp, get}
 use Rattle.br_model.proofs.Data.PairKeys.{pair_total}
 use Rattle.neigh_netlink.specs.Neighbours.{Key}
 
 -- a key that is below another one, and that one above it
 
-less : (r : Ordering) → is_lt r ≡ true → r ≡ Less
-less Less h = refl
-less Equal h = absurd (cc)
-less Greater h = absurd (cc)
-
 pub above : (k q : Key) → is_lt (pair_cmp k q) ≡ true → pair_cmp q k ≡ Greater
-above k q h = pair_total.antisymm q k ∙ ap ordering_reverse (less (pair_cmp k q) h)
+above k q h = pair_total.antisymm q k ∙ ap ordering_reverse (is_lt-true (pair_cmp k q) h)
 
 module _ {X : Type 0} where
   abbrev pub FindOwn : List (Key × X) → List (Key × X) → Type 0

@@ -1,12 +1,10 @@
 -- The used address rows of a chip, in order.
-use Rattle.std.proofs.Common.{◌≡◌, ℕ, ◌<◌, Option, List, [], ◌∷◌, ◌++◌, ◌+◌, length, get_or, map, filter_map, take, IsPermutation, IsSorted, refl, sym, ap, subst, ◌∙◌, arith}
+use Rattle.std.proofs.Common.{◌≡◌, List, [], ◌∷◌, map, filter_map, IsPermutation, IsSorted, refl, sym, ap, subst, ◌∙◌, arith}
 use Rattle.std.specs.List.{cons_option, AllByRecursion}
 use Rattle.std.specs.List.Sorted.{IsStrictlySortedBy}
 use Rattle.std.specs.Option.{option_map}
 use Rattle.std.specs.Ordering.{is_gt}
 use Rattle.std.specs.declared.cmp.Ordering.TheVariants.{Less}
-use Rattle.std.proofs.lemmas.List.{take_more}
-use Rattle.std.proofs.lemmas.List.Elements.{filter_map-append}
 use Rattle.std.proofs.lemmas.List.Sorted.{IsPermutation-sym, IsPermutation-trans}
 use Rattle.br_model.specs.Data.Maps.{pair_cmp}
 use Rattle.br_model.specs.Table.Table.{Table}
@@ -19,11 +17,6 @@ use Rattle.hwdom_chips.proofs.Arranged.{Ascends, Low, arranged, low_more}
 use Rattle.chip_audit.specs.Audits.{Row}
 use Rattle.chip_audit.specs.Marks.{row_at, row_of}
 use Rattle.chip_audit.proofs.Own.{FindOwn, find-own, rises}
-
--- one place more
-pub place-next : {X Y : Type 0} (h : X → Option Y) (xs : List X) (i : ℕ) (d : X) → i < length xs → filter_map h (take (i + 1) xs) ≡ filter_map h (take i xs) ++ cons_option (h (get_or xs i d)) []
-place-next h xs i d within =
-    ap (filter_map h) (take_more xs i d within) ∙ filter_map-append h (take i xs) (get_or xs i d ∷ [])
 
 low : (k : Key) (ks : List Key) → AllByRecursion (λ q. pair_cmp k q ≡ Less) ks → Low pair_cmp k ks
 low k [] below = λ q there. absurd (omega arith)

@@ -4,6 +4,9 @@ use Rattle.std.specs.Prelude.{◌==◌, IsTrue}
 use Rattle.std.specs.List.{slice_get}
 use Rattle.std.specs.Option.{option_map}
 use Rattle.std.proofs.lemmas.List.Elements.{recursion_from_All}
+use Rattle.std.proofs.lemmas.Option.{same_Some}
+use Rattle.lemmas.proofs.Tests.{true_from_T}
+use Rattle.lemmas.proofs.Endings.{some_is}
 use Rattle.br_model.specs.declared.change.Change.{Change}
 use Rattle.br_model.specs.declared.change.Update.{Update}
 use Rattle.br_model.specs.declared.domains.Edition.{Edition}
@@ -18,12 +21,10 @@ use Rattle.br_model.specs.Table.Limits.{most_changes}
 use Rattle.br_model.specs.Theorems.Invariants.{ChipStands, IsWorld}
 use Rattle.br_model.proofs.Table.Cuts.{deferred_at-there, updates-at, updates-named}
 use Rattle.br_model.proofs.Plane.Growing.{few-deferred}
-use Rattle.br_model.proofs.Data.Lists.{find-each, same-some}
+use Rattle.br_model.proofs.Data.Lists.{find-each}
 use Rattle.plane_core.proofs.Calling.{chip_there}
-use Rattle.plane_core.proofs.Changing.{some_is}
 use Rattle.chip_audit.specs.Audits.{Row, entries_of}
 use Rattle.chip_audit.specs.Marks.{Entries, all_offloaded, entries_after, entries_at}
-use Rattle.chip_audit.proofs.Calm.{true-of}
 use Rattle.chip_audit.proofs.Marking.{entries-first, entries-last, entries-next, table-ascends}
 
 -- as many wait as the plane says
@@ -32,7 +33,7 @@ waits w d c n at p = let same : Some (pending_of w c) ≡ Some n = sym (ap (opti
 
 -- the change of an update
 pub update-is : (edition : Edition) (h : List Change) (k : ℕ) (u : Update) (x : Change) → Some u ≡ slice_get (updates edition h) k → deferred_at edition h k ≡ Some x → u.change ≡ x
-update-is edition h k u x is at = same-some u.change x (sym (updates-named edition h k u (sym is)).1 ∙ at)
+update-is edition h k u x is at = same_Some u.change x (sym (updates-named edition h k u (sym is)).1 ∙ at)
 
 pub no-update : (edition : Edition) (h : List Change) (k : ℕ) (x : Change) → None ≡ slice_get (updates edition h) k → ¬ (deferred_at edition h k ≡ Some x)
 no-update edition h k x none at =
@@ -89,4 +90,4 @@ module _ (w : World) (d : ℕ) (is : IsWorld w) where
   pub rows-ascend : (rows : List Row) → has_chip w.setup.domains d ≡ true → ((c : Chip) → chip_at w d ≡ Some c → rows ≡ (table_of_chip w c).addr) → IsTrue (is_ascending pair_cmp rows)
   rows-ascend rows has are =
       let c = the-chip has in
-      ap (is_ascending pair_cmp) (are c.0 c.1) ∙ true-of _ (table-ascends (cut edition w.history c.0.count))
+      ap (is_ascending pair_cmp) (are c.0 c.1) ∙ true_from_T _ (table-ascends (cut edition w.history c.0.count))

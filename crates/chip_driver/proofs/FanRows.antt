@@ -2,6 +2,7 @@
 use Rattle.std.proofs.Common.{◌≡◌, ◌≢◌, ⊎_elim, ℕ, ◌<◌, Bool, true, false, not, ◌&&◌, ◌||◌, IsTrue, ◌↔◌, List, [], refl, sym, ap, ap₂, subst, ◌∙◌}
 use Rattle.std.specs.Prelude.{◌==◌}
 use Rattle.std.proofs.lemmas.Bool.Decides.{eqb_tells}
+use Rattle.lemmas.proofs.Tests.{and_comm}
 use Rattle.br_model.specs.Table.Domains.{host, port_places}
 use Rattle.port_sets.specs.Numbers.{has_number}
 use Rattle.chip_tables.specs.declared.rows.Flood.TheVariants.{Unicast, Mcast, Bcast}
@@ -27,12 +28,6 @@ same_fans own own' target target' eligible eligible' free free' o t e f =
     let plain : some_port (λ q. not (own q) && (target q && eligible q)) ≡ some_port (λ q. not (own' q) && (target' q && eligible' q)) =
     same_some _ _ (λ q low. ap₂ (λ a b. not a && b) (o q low) (ap₂ (λ a b. a && b) (t q low) (e q low))) in
     cc
-
-turned : (a b : Bool) → (a && b) ≡ (b && a)
-turned true true = refl
-turned true false = refl
-turned false true = refl
-turned false false = refl
 
 elsewhere_bit : (t o e : Bool) → ((t && not o) && e) ≡ (not o && (t && e))
 elsewhere_bit true true e = refl
@@ -87,7 +82,7 @@ made_row s members targets hosted eligible unhosted free elsewhere ports both_fr
     ∙ ap₂ (λ a b. a && b) (eligible_has q low) (ap not (has-where unhosted _ unhosted_is q low) ∙ not_host (q == 0) (has_number s.isolated q)) in
     let elsewhere_has : Has elsewhere (λ q. has_number targets q && not (has_number s.own q)) = has-where elsewhere _ elsewhere_is in
     let p : ports ≡ ports_where (λ q. has_number s.own q && has_number targets q) =
-    ports_is ∙ same_ports _ _ (λ q low. turned (has_number targets q) (has_number s.own q)) in
+    ports_is ∙ same_ports _ _ (λ q low. and_comm (has_number targets q) (has_number s.own q)) in
     let i : not no_free ≡ some_port (λ q. not (has_number s.own q) && (has_number targets q && frees s members q)) =
     some-none both_free _ no_free both_free_is no_free_is
     ∙ same_some _ _ (λ q low. ap₂ (λ a b. a && b) (elsewhere_has q low) (free_has q low) ∙ elsewhere_bit (has_number targets q) (has_number s.own q) (frees s members q)) in
@@ -189,7 +184,7 @@ absent_target : (s s' : Shadow) (p : ℕ) (fan : Fan) → is_target s false fan 
 absent_target s s' p (Floods Unicast) = refl
 absent_target s s' p (Floods Mcast) = refl
 absent_target s s' p (Floods Bcast) = refl
-absent_target s s' p Routers = turned (has_number s.routers p) false ∙ sym (turned (has_number s'.routers p) false)
+absent_target s s' p Routers = and_comm (has_number s.routers p) false ∙ sym (and_comm (has_number s'.routers p) false)
 
 pub absent_share : (s s' : Shadow) (p : ℕ) (t : Bool) → has_number s.own p ≡ has_number s'.own p → share_of s p false t ≡ share_of s' p false t
 absent_share s s' p t own = absent_by _ _ _ _ own refl

@@ -1,16 +1,13 @@
 -- Group rows are made anew, one after another.
 use Rattle.std.proofs.Common.{◌≡◌, ℕ, ◌+◌, ◌≤◌, Bool, true, false, not, ◌&&◌, ◌||◌, cond, IsTrue, ◌↔◌, Option, None, Some, List, [], length, take, refl, sym, ap, ap₂, subst, ◌∙◌}
 use Rattle.std.specs.Prelude.{is_some, slice_get}
-use Rattle.std.specs.Ordering.{eq_by_cmp, is_eq}
-use Rattle.std.specs.declared.cmp.Ordering.{Ordering}
-use Rattle.std.specs.declared.cmp.Ordering.TheVariants.{Less, Equal, Greater}
+use Rattle.std.specs.Ordering.{eq_by_cmp}
 use Rattle.port_sets.specs.Numbers.{has_number}
 use Rattle.br_model.specs.declared.group.Group.{Group}
 use Rattle.br_model.specs.Table.GroupPairs.{GroupPair, group_pair_cmp, group_pairs, max_pairs}
 use Rattle.br_model.specs.Table.Groups.{Membership, membership_cmp}
 use Rattle.br_model.specs.Data.Maps.{get, put, joined, parted, is_ascending}
 use Rattle.mdb_snoop.specs.Database.{ports_in}
-use Rattle.br_model.proofs.Table.GroupOrders.{equal_pairs}
 use Rattle.chip_tables.specs.declared.rows.FanRow.{FanRow}
 use Rattle.chip_tables.specs.Rows.{Rows, vlan_at, groups_with}
 use Rattle.chip_tables.specs.Stands.{IsVid}
@@ -18,16 +15,8 @@ use Rattle.chip_driver.specs.declared.shadow.Shadow.{Shadow}
 use Rattle.chip_driver.specs.GroupRows.{has_pair, group_fan, AreUsed, GroupsFollow, RefreshesGroups}
 use Rattle.chip_driver.specs.Shadows.{fan_to}
 use Rattle.chip_driver.proofs.FanRows.{same_fans}
-use Rattle.br_model.proofs.Table.GroupPairs.{pair-joined, pair-parted}
+use Rattle.br_model.proofs.Table.GroupPairs.{pair-joined, pair-parted, pair_equal}
 use Rattle.chip_driver.proofs.GroupRows.{count_is, find-written, ascending-written, find-freed, ascending-freed, among, among-pairs, among-next, among-past, among-all, among-one, same_pair, pair-ports, ports-joined, ports-parted}
-
-equal_of : (k j : GroupPair) (r : Ordering) → group_pair_cmp k j ≡ r → is_eq r ≡ true → k ≡ j
-equal_of k j Less is e = absurd (cc)
-equal_of k j Equal is e = equal_pairs k j is
-equal_of k j Greater is e = absurd (cc)
-
-pub equal_key : (k j : GroupPair) → eq_by_cmp group_pair_cmp k j ≡ true → k ≡ j
-equal_key k j e = equal_of k j (group_pair_cmp k j) refl e
 
 -- the first pairs are done
 pub record SoFar (test : GroupPair → Bool) (s : Shadow) (ms : List Membership) (i : ℕ) (old now : Rows) : Type 0 where
@@ -51,7 +40,7 @@ module _ (test : GroupPair → Bool) (s : Shadow) (ms : List Membership) (i : �
   used_after row k = ap is_some (find-written now.groups j k row) ∙ by (eq_by_cmp group_pair_cmp k j) refl
     where
       by : (b : Bool) → eq_by_cmp group_pair_cmp k j ≡ b → is_some (cond b (Some row) (get group_pair_cmp now.groups k)) ≡ has_pair ms k
-      by true e = sym (ap (has_pair ms) (equal_key k j e) ∙ sym (among-pairs ms j) ∙ among-one (group_pairs ms) i j here)
+      by true e = sym (ap (has_pair ms) (pair_equal k j e) ∙ sym (among-pairs ms j) ∙ among-one (group_pairs ms) i j here)
       by false e = so.used k
 
   pub room_so_far : (row : FanRow) → length (group_pairs ms) ≤ max_pairs → length (put group_pair_cmp now.groups j row) ≤ max_pairs
@@ -75,8 +64,8 @@ module _ (test : GroupPair → Bool) (s : Shadow) (ms : List Membership) (i : �
       by : (k : GroupPair) (b : Bool) → eq_by_cmp group_pair_cmp k j ≡ b → (a : Bool) → get group_pair_cmp now.groups k ≡ cond (a && test k) (Some (group_fan s old ms k)) (get group_pair_cmp old.groups k)
           → cond b (Some row) (get group_pair_cmp now.groups k) ≡ cond ((a || eq_by_cmp group_pair_cmp k j) && test k) (Some (group_fan s old ms k)) (get group_pair_cmp old.groups k)
       by k true e a at =
-          ap Some (row_at k (equal_key k j e))
-          ∙ sym (ap₂ (λ x y. cond ((a || x) && y) (Some (group_fan s old ms k)) (get group_pair_cmp old.groups k)) e (ap test (equal_key k j e) ∙ passes)
+          ap Some (row_at k (pair_equal k j e))
+          ∙ sym (ap₂ (λ x y. cond ((a || x) && y) (Some (group_fan s old ms k)) (get group_pair_cmp old.groups k)) e (ap test (pair_equal k j e) ∙ passes)
           ∙ ap (λ b. cond (b && true) (Some (group_fan s old ms k)) (get group_pair_cmp old.groups k)) (or_true a))
         where
           or_true : (b : Bool) → (b || true) ≡ true
@@ -101,7 +90,7 @@ module _ (test : GroupPair → Bool) (s : Shadow) (ms : List Membership) (i : �
       by : (k : GroupPair) (b : Bool) → eq_by_cmp group_pair_cmp k j ≡ b → (a : Bool)
           → cond (a && test k) (Some (group_fan s old ms k)) (get group_pair_cmp old.groups k) ≡ cond ((a || eq_by_cmp group_pair_cmp k j) && test k) (Some (group_fan s old ms k)) (get group_pair_cmp old.groups k)
       by k true e a =
-          (let no : test k ≡ false = ap test (equal_key k j e) ∙ fails in
+          (let no : test k ≡ false = ap test (pair_equal k j e) ∙ fails in
           ap (λ x. cond x (Some (group_fan s old ms k)) (get group_pair_cmp old.groups k)) (ap (λ x. a && x) no ∙ and_false a ∙ sym (ap (λ x. (a || eq_by_cmp group_pair_cmp k j) && x) no ∙ and_false (a || eq_by_cmp group_pair_cmp k j))))
         where
           and_false : (b : Bool) → (b && false) ≡ false
@@ -198,7 +187,7 @@ one_changed s ms ms' j row old new follow in_range pairs ports row_is written re
 }
   where
     vid : (k : GroupPair) (b : Bool) → eq_by_cmp group_pair_cmp k j ≡ b → has_pair ms' k ≡ true → IsVid k.0
-    vid k true e is = subst (λ (n : GroupPair). IsVid n.0) (sym (equal_key k j e)) in_range
+    vid k true e is = subst (λ (n : GroupPair). IsVid n.0) (sym (pair_equal k j e)) in_range
     vid k false e is = follow.vids k (sym (pairs k e) ∙ is)
 
     find_with : (o : Option FanRow) (k : GroupPair) → get group_pair_cmp (groups_with old j.0 j.1 o) k ≡ cond (eq_by_cmp group_pair_cmp k j) o (get group_pair_cmp old.groups k)
@@ -210,7 +199,7 @@ one_changed s ms ms' j row old new follow in_range pairs ports row_is written re
     ascending_with (Some x) = ascending-written old.groups j x follow.ascending
 
     by : (k : GroupPair) (b : Bool) → eq_by_cmp group_pair_cmp k j ≡ b → cond b row (get group_pair_cmp old.groups k) ≡ cond (has_pair ms' k) (Some (group_fan s old ms' k)) None
-    by k true e = row_is ∙ ap (λ n. cond (has_pair ms' n) (Some (group_fan s old ms' n)) None) (sym (equal_key k j e))
+    by k true e = row_is ∙ ap (λ n. cond (has_pair ms' n) (Some (group_fan s old ms' n)) None) (sym (pair_equal k j e))
     by k false e =
         follow.at k
         ∙ ap₂ (λ b r. cond b (Some r) None) (sym (pairs k e)) (by_ports s old ms ms' k (λ q. sym (ports k e q)))
@@ -240,7 +229,7 @@ module _ (s : Shadow) (ms ms' : List Membership) (v p : ℕ) (g : Group) where
       used = used_of s ms old old follow refl
 
       by : (k : GroupPair) (b : Bool) → eq_by_cmp group_pair_cmp k (v, g) ≡ b → is_some (cond b (Some row) (get group_pair_cmp old.groups k)) ≡ has_pair ms' k
-      by k true e = sym (ap (has_pair ms') (equal_key k (v, g) e) ∙ joined_here is)
+      by k true e = sym (ap (has_pair ms') (pair_equal k (v, g) e) ∙ joined_here is)
       by k false e = used.used k ∙ sym (joined_pair is k e)
 
   parted_pair : ms' ≡ parted membership_cmp ms (v, g, p) → (k : GroupPair) → eq_by_cmp group_pair_cmp k (v, g) ≡ false → has_pair ms' k ≡ has_pair ms k
@@ -268,7 +257,7 @@ module _ (s : Shadow) (ms ms' : List Membership) (v p : ℕ) (g : Group) where
       ascending (Some x) = ascending-written old.groups (v, g) x follow.ascending
 
       by : (k : GroupPair) (b : Bool) → eq_by_cmp group_pair_cmp k (v, g) ≡ b → is_some (cond b row (get group_pair_cmp old.groups k)) ≡ has_pair ms' k
-      by k true e = row_is ∙ ap (has_pair ms') (sym (equal_key k (v, g) e))
+      by k true e = row_is ∙ ap (has_pair ms') (sym (pair_equal k (v, g) e))
       by k false e = used.used k ∙ sym (parted_pair is k e)
 
 -- the row of a pair by whether it has ports

@@ -11,6 +11,9 @@ use Rattle.std.proofs.lemmas.Cmp.{eq_by_cmp_equiv}
 use Rattle.std.proofs.lemmas.List.{length-map}
 use Rattle.chip_driver.specs.GroupRows.{has_pair}
 use Rattle.std.proofs.lemmas.Map.Views.{any-filter_same}
+use Rattle.std.proofs.lemmas.Float.{T_from_true}
+use Rattle.lemmas.proofs.Orders.{is_eq-then}
+use Rattle.lemmas.proofs.Tests.{true_from_T, or-true, or-false}
 use Rattle.br_model.specs.declared.group.Group.{Group}
 use Rattle.br_model.specs.Table.GroupPairs.{GroupPair, group_pair_cmp, group_pairs}
 use Rattle.br_model.specs.Table.Groups.{Membership, group_cmp, membership_cmp}
@@ -68,26 +71,14 @@ has-ports q v g [] = refl
 has-ports q v g (m ∷ ms) =
     by (m.0 == v && is_eq (group_cmp m.1 g))
     ∙ ap₂ (λ a b. (a && b) || has_number (ports_in ms v g) q) (is_of_pair (v, g) (m.0, m.1)) (sym (unsigned_tied q m.2))
-    ∙ ap (λ b. b || has_number (ports_in ms v g) q) (both_eq (group_pair_cmp (v, g) (m.0, m.1)) (nat_cmp q m.2) ∙ ap is_eq (sym (by_pair (v, g) (m.0, m.1) q m.2)))
+    ∙ ap (λ b. b || has_number (ports_in ms v g) q) (sym (is_eq-then (group_pair_cmp (v, g) (m.0, m.1)) (nat_cmp q m.2)) ∙ ap is_eq (sym (by_pair (v, g) (m.0, m.1) q m.2)))
     ∙ ap (λ b. eq_by_cmp membership_cmp (v, g, q) m || b) (has-ports q v g ms)
   where
     by : (b : Bool) → has_number (map (λ n. n.2) (cond b (m ∷ filter (λ n. n.0 == v && is_eq (group_cmp n.1 g)) ms) (filter (λ n. n.0 == v && is_eq (group_cmp n.1 g)) ms))) q ≡ ((b && (q == m.2)) || has_number (ports_in ms v g) q)
     by true = refl
     by false = refl
 
-    both_eq : (r s : Ordering) → (is_eq r && is_eq s) ≡ is_eq (ordering_then r s)
-    both_eq Less s = refl
-    both_eq Equal s = refl
-    both_eq Greater s = refl
-
 -- ---- truth of a test, as a fact and as an equation
-
-to_T : (b : Bool) → b ≡ true → T b
-to_T b e = subst T (sym e) tt
-
-of_T : (b : Bool) → T b → b ≡ true
-of_T true h = refl
-of_T false h = absurd h
 
 -- ---- one row at each pair: as many rows as pairs
 
@@ -115,7 +106,7 @@ module _ {X : Type 0} where
   count_is rows ms sorted used =
       sym (length-map rows (λ (e : GroupPair × X). (e.0, tt)))
       ∙ ap length
-      (same_entries group_pair_cmp pair_total equal_pairs (bare rows) (pairs ms) (subst T (sym (sorted-bare rows)) (to_T _ sorted)) (sorted-pairs ms)
+      (same_entries group_pair_cmp pair_total equal_pairs (bare rows) (pairs ms) (subst T (sym (sorted-bare rows)) (T_from_true _ sorted)) (sorted-pairs ms)
       (λ k. same_units _ _ (find-bare rows k ∙ used k ∙ sym (find-pairs ms k))))
       ∙ sym (length-map (pairs ms) (λ e. e.0)) ∙ ap length (keys-pairs ms)
 
@@ -123,7 +114,7 @@ module _ {X : Type 0} where
   find-written rows k j x = find-put group_pair_cmp pair_total j k x rows
 
   pub ascending-written : (rows : List (GroupPair × X)) (k : GroupPair) (x : X) → is_ascending group_pair_cmp rows ≡ true → is_ascending group_pair_cmp (put group_pair_cmp rows k x) ≡ true
-  ascending-written rows k x h = of_T _ (is_sorted-put group_pair_cmp pair_total k x rows (to_T _ h))
+  ascending-written rows k x h = true_from_T _ (is_sorted-put group_pair_cmp pair_total k x rows (T_from_true _ h))
 
   pub find-freed : (rows : List (GroupPair × X)) (k j : GroupPair) → get group_pair_cmp (without group_pair_cmp rows k) j ≡ cond (eq_by_cmp group_pair_cmp j k) None (get group_pair_cmp rows j)
   find-freed rows k j =
@@ -135,20 +126,16 @@ module _ {X : Type 0} where
       turn false = refl
 
   pub ascending-freed : (rows : List (GroupPair × X)) (k : GroupPair) → is_ascending group_pair_cmp rows ≡ true → is_ascending group_pair_cmp (without group_pair_cmp rows k) ≡ true
-  ascending-freed rows k h = of_T _ (is_sorted-where_key group_pair_cmp (λ n. not (eq_by_cmp group_pair_cmp k n)) rows (to_T _ h))
+  ascending-freed rows k h = true_from_T _ (is_sorted-where_key group_pair_cmp (λ n. not (eq_by_cmp group_pair_cmp k n)) rows (T_from_true _ h))
 
 pub rows_stand : {X : Type 0} (F : GroupPair → X) (rows : List (GroupPair × X)) (ms : List Membership) → is_ascending group_pair_cmp rows ≡ true
     → ((k : GroupPair) → get group_pair_cmp rows k ≡ cond (has_pair ms k) (Some (F k)) None) → rows ≡ map (λ k. (k, F k)) (group_pairs ms)
-rows_stand F rows ms sorted at = rows_are F rows ms (to_T _ sorted) at
+rows_stand F rows ms sorted at = rows_are F rows ms (T_from_true _ sorted) at
 
 -- ---- the pairs in their order
 
 abbrev pub among : List GroupPair → GroupPair → Bool
 among ks k = list_any (eq_by_cmp group_pair_cmp k) ks
-
-or_true : (b : Bool) → (b || true) ≡ true
-or_true true = refl
-or_true false = refl
 
 pub same_pair : (k : GroupPair) → eq_by_cmp group_pair_cmp k k ≡ true
 same_pair k = (eq_by_cmp_equiv pair_total).refl k
@@ -164,17 +151,13 @@ among-keys (e ∷ es) k = ap (λ b. eq_by_cmp group_pair_cmp k e.0 || b) (among-
 pub among-pairs : (ms : List Membership) (k : GroupPair) → among (group_pairs ms) k ≡ has_pair ms k
 among-pairs ms k = ap (λ ks. among ks k) (sym (keys-pairs ms)) ∙ among-keys (pairs ms) k ∙ find-pairs ms k
 
-or_none : (b : Bool) → (b || false) ≡ b
-or_none true = refl
-or_none false = refl
-
 or_assoc : (a b c : Bool) → (a || (b || c)) ≡ ((a || b) || c)
 or_assoc true b c = refl
 or_assoc false b c = refl
 
 among-suc : (ks : List GroupPair) (i : ℕ) (j k : GroupPair) → slice_get ks i ≡ Some j → among (take (suc i) ks) k ≡ (among (take i ks) k || eq_by_cmp group_pair_cmp k j)
 among-suc [] i j k e = absurd (let no : None ≡ Some j = e in cc)
-among-suc (x ∷ xs) zero j k e = (let is : Some x ≡ Some j = e in let same : x ≡ j = cc in ap (λ (n : GroupPair). eq_by_cmp group_pair_cmp k n || false) same ∙ or_none (eq_by_cmp group_pair_cmp k j))
+among-suc (x ∷ xs) zero j k e = (let is : Some x ≡ Some j = e in let same : x ≡ j = cc in ap (λ (n : GroupPair). eq_by_cmp group_pair_cmp k n || false) same ∙ or-false (eq_by_cmp group_pair_cmp k j))
 among-suc (x ∷ xs) (suc i) j k e = ap (λ b. eq_by_cmp group_pair_cmp k x || b) (among-suc xs i j k e) ∙ or_assoc (eq_by_cmp group_pair_cmp k x) (among (take i xs) k) (eq_by_cmp group_pair_cmp k j)
 
 pub among-next : (ks : List GroupPair) (i : ℕ) (j k : GroupPair) → slice_get ks i ≡ Some j → among (take (i + 1) ks) k ≡ (among (take i ks) k || eq_by_cmp group_pair_cmp k j)
@@ -192,7 +175,7 @@ among-past ks i k e = ap (λ n. among (take n ks) k) (add-one i) ∙ past ks i e
 pub among-one : (ks : List GroupPair) (i : ℕ) (j : GroupPair) → slice_get ks i ≡ Some j → among ks j ≡ true
 among-one [] i j e = absurd (let no : None ≡ Some j = e in cc)
 among-one (x ∷ xs) zero j e = (let is : Some x ≡ Some j = e in let same : x ≡ j = cc in ap (λ (n : GroupPair). eq_by_cmp group_pair_cmp j n || among xs j) same ∙ ap (λ b. b || among xs j) (same_pair j))
-among-one (x ∷ xs) (suc i) j e = ap (λ b. eq_by_cmp group_pair_cmp j x || b) (among-one xs i j e) ∙ or_true (eq_by_cmp group_pair_cmp j x)
+among-one (x ∷ xs) (suc i) j e = ap (λ b. eq_by_cmp group_pair_cmp j x || b) (among-one xs i j e) ∙ or-true (eq_by_cmp group_pair_cmp j x)
 
 pub among-all : (ks : List GroupPair) (k : GroupPair) → among (take (length ks) ks) k ≡ among ks k
 among-all [] k = refl

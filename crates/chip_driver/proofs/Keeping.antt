@@ -3,6 +3,7 @@ use Rattle.std.proofs.Common.{◌≡◌, ◌≢◌, ℕ, ◌<◌, ◌≤◌, Boo
 use Rattle.std.specs.Prelude.{◌==◌}
 use Rattle.std.proofs.lemmas.Bool.{eq-eqb, eqb-true}
 use Rattle.std.proofs.lemmas.Bool.Decides.{eqb_tells}
+use Rattle.lemmas.proofs.Tests.{and-true, and-false}
 use Rattle.port_sets.specs.Numbers.{has_number}
 use Rattle.br_model.specs.Table.Domains.{port_places}
 use Rattle.br_model.specs.Forward.Targets.{flood, mcast_flood, bcast_flood, isolated}
@@ -210,18 +211,10 @@ settled_member s j j' p v on row told old mid new p_low v_low settled is writes 
     vlan : (vid : ℕ) → vlan_at new vid ≡ cond (vid == v) row (vlan_at old vid)
     vlan vid = ap (λ (r : Rows). vlan_at r vid) refreshes.rest ∙ writes vid
 
-    and_true : (b : Bool) → (b && true) ≡ b
-    and_true true = refl
-    and_true false = refl
-
-    and_false : (b : Bool) → (b && false) ≡ false
-    and_false true = refl
-    and_false false = refl
-
     here : (q vid : ℕ) → q < port_places → (vid == v) ≡ true → vid ≡ v → cond ((q == p) && (vid == v)) on (has_number (vlan_at old vid).members q) ≡ has_number (cond (vid == v) row (vlan_at old vid)).members q
     here q vid low test same =
         ap (λ b. cond ((q == p) && b) on (has_number (vlan_at old vid).members q)) test
-        ∙ ap (λ b. cond b on (has_number (vlan_at old vid).members q)) (and_true (q == p))
+        ∙ ap (λ b. cond b on (has_number (vlan_at old vid).members q)) (and-true (q == p))
         ∙ ap (λ n. cond (q == p) on (has_number (vlan_at old n).members q)) same
         ∙ sym (has-where row.members _ is q low)
         ∙ ap (λ b. has_number (cond b row (vlan_at old vid)).members q) (sym test)
@@ -229,7 +222,7 @@ settled_member s j j' p v on row told old mid new p_low v_low settled is writes 
     there : (q vid : ℕ) → (vid == v) ≡ false → cond ((q == p) && (vid == v)) on (has_number (vlan_at old vid).members q) ≡ has_number (cond (vid == v) row (vlan_at old vid)).members q
     there q vid test =
         ap (λ b. cond ((q == p) && b) on (has_number (vlan_at old vid).members q)) test
-        ∙ ap (λ b. cond b on (has_number (vlan_at old vid).members q)) (and_false (q == p))
+        ∙ ap (λ b. cond b on (has_number (vlan_at old vid).members q)) (and-false (q == p))
         ∙ ap (λ b. has_number (cond b row (vlan_at old vid)).members q) (sym test)
 
     before : (vid : ℕ) → IsVid vid → (fan : Fan) → fan_at mid vid fan ≡ fan_made s (vlan_at old vid).members fan
@@ -288,11 +281,7 @@ settled_pvid s j p row old new p_low settled writes rest = record {
 
 -- the row of a group stays where the port isn't a member of it, or has what it had
 group_share : (s s' : Shadow) (p : ℕ) (m m' t told : Bool) → (told ≡ false → share_of s p m true ≡ share_of s' p m' true) → (told && t) ≡ false → share_of s p m t ≡ share_of s' p m' t
-group_share s s' p m m' true told same off = same (sym (and_true told) ∙ off)
-  where
-    and_true : (b : Bool) → (b && true) ≡ b
-    and_true true = refl
-    and_true false = refl
+group_share s s' p m m' true told same off = same (sym (and-true told) ∙ off)
 group_share s s' p m m' false told same off = untargeted s s' p m m'
 
 -- of a port's row or of a router

@@ -2,6 +2,7 @@
 use Rattle.std.proofs.Common.{◌≡◌, ℕ, Bool, true, false, ◌&&◌, ◌||◌, cond, refl, sym, ap, ap₂, ◌∙◌}
 use Rattle.std.specs.Prelude.{◌==◌}
 use Rattle.std.proofs.lemmas.Bool.{eqb-true}
+use Rattle.lemmas.proofs.Tests.{and_last, or-false}
 use Rattle.chip_tables.specs.declared.rows.FanRow.{FanRow}
 use Rattle.chip_tables.specs.declared.rows.Flood.{Flood}
 use Rattle.chip_tables.specs.declared.rows.Flood.TheVariants.{Unicast, Mcast, Bcast}
@@ -76,17 +77,8 @@ row_written s v fan told row old new on row_is writes = record {
     by vid k true false c on h i = refl
     by vid k false b c on h i = refl
 
-not_told : (a b c : Bool) → c ≡ false → (a && (b && c)) ≡ false
-not_told true true c off = off
-not_told true false c off = refl
-not_told false b c off = refl
-
 pub row_left : (s : Shadow) (v : ℕ) (fan : Fan) (told : Bool) (old : Rows) → told ≡ false → Refreshes (λ w k. (w == v) && (same_fan k fan && told)) s old old
-row_left s v fan told old off = refreshed_none s _ old (λ vid in_range k. not_told (vid == v) (same_fan k fan) told off)
-
-or_none : (b : Bool) → (b || false) ≡ b
-or_none true = refl
-or_none false = refl
+row_left s v fan told old off = refreshed_none s _ old (λ vid in_range k. and_last (vid == v) (same_fan k fan) told off)
 
 -- the four rows of a VLAN
 pub four_rows : (e : Bool) (told : Told) (k : Fan)
@@ -94,9 +86,9 @@ pub four_rows : (e : Bool) (told : Told) (k : Fan)
     || ((e && (same_fan k (Floods Mcast) && told.mcast)) || (e && (same_fan k (Floods Unicast) && told.unicast)))))
 four_rows false told k = refl
 four_rows true told (Floods Unicast) = refl
-four_rows true told (Floods Mcast) = sym (or_none told.mcast)
-four_rows true told (Floods Bcast) = sym (or_none told.bcast)
-four_rows true told Routers = sym (or_none told.routers)
+four_rows true told (Floods Mcast) = sym (or-false told.mcast)
+four_rows true told (Floods Bcast) = sym (or-false told.bcast)
+four_rows true told Routers = sym (or-false told.routers)
 
 -- tests of VLANs by what is told
 pub both_told : (a b c t : Bool) → c ≡ (b || a) → (c && t) ≡ ((b && t) || (a && t))
@@ -106,9 +98,5 @@ both_told true true c t is = ap (λ x. x && t) is ∙ twice t
     twice true = refl
     twice false = refl
 both_told true false c t is = ap (λ x. x && t) is
-both_told false true c t is = ap (λ x. x && t) is ∙ sym (or_none t)
+both_told false true c t is = ap (λ x. x && t) is ∙ sym (or-false t)
 both_told false false c t is = ap (λ x. x && t) is
-
-pub none_told : (a t : Bool) → t ≡ false → (a && t) ≡ false
-none_told true t off = off
-none_told false t off = refl

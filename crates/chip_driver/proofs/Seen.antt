@@ -3,6 +3,7 @@ use Rattle.std.proofs.Common.{◌≡◌, ◌≢◌, ℕ, ◌/◌, ◌%◌, ◌<�
 use Rattle.std.specs.Prelude.{◌==◌}
 use Rattle.std.proofs.lemmas.Bool.Decides.{eqb_tells}
 use Rattle.std.proofs.lemmas.List.Folds.{list_any-append}
+use Rattle.lemmas.proofs.Tests.{and-false}
 use Rattle.port_sets.specs.Numbers.{has_number}
 use Rattle.vlan_groups.specs.Joined.{block_at, has_vlan}
 
@@ -14,12 +15,8 @@ in_block i seen w = (w / 64 == i) && has_number seen (w % 64)
 abbrev pub in_blocks : List (List ℕ) → ℕ → List ℕ → ℕ → Bool
 in_blocks blocks p seen w = has_number seen (w / 64) && has_vlan blocks p w
 
-nothing : (b : Bool) → (b && false) ≡ false
-nothing true = refl
-nothing false = refl
-
 pub none_in_block : (i w : ℕ) → in_block i [] w ≡ false
-none_in_block i w = nothing (w / 64 == i)
+none_in_block i w = and-false (w / 64 == i)
 
 one_more : (e h q : Bool) → (e && (h || (q || false))) ≡ ((e && q) || (e && h))
 one_more false h q = refl

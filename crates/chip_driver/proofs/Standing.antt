@@ -1,11 +1,10 @@
 -- The rows of a settled driver stand for the table where its VLAN rows, its port rows and its routers do.
 use Rattle.std.proofs.Common.{◌≡◌, ◌≢◌, ⊎_elim, true, false, cond, ℕ, ◌<◌, Bool, not, ◌&&◌, ◌||◌, List, map, Option, None, Some, refl, sym, ap, ap₂, subst, ◌∙◌}
 use Rattle.std.specs.Prelude.{◌==◌}
-use Rattle.std.specs.Option.{option_eq, unwrap_or}
 use Rattle.std.specs.Ordering.{nat_cmp}
 use Rattle.std.proofs.lemmas.Bool.Decides.{eqb_tells}
 use Rattle.br_model.specs.declared.change.Kind.{Kind}
-use Rattle.br_model.specs.Forward.Admission.{is_up, is_forwarding, forwarding, member}
+use Rattle.br_model.specs.Forward.Admission.{is_up, is_forwarding, member}
 use Rattle.br_model.specs.Table.Domains.{Domains, host, port_places}
 use Rattle.br_model.specs.Forward.Eligible.{untagged}
 use Rattle.br_model.specs.Table.Groups as groups
@@ -33,12 +32,9 @@ use Rattle.chip_driver.proofs.Sets.{has-where, same_ports}
 use Rattle.chip_driver.proofs.GroupRows.{rows_stand, has-ports}
 use Rattle.mdb_snoop.specs.Database.{ports_in}
 use Rattle.br_model.specs.Table.GroupPairs.{GroupPair}
+use Rattle.br_model.proofs.Forward.States.{forwarding-is}
 use Rattle.chip_driver.proofs.FanRows.{same_fans}
 use Rattle.chip_driver.proofs.TableLaws.{has-switched}
-
-state_is : (o : Option ℕ) → (unwrap_or o 0 == forwarding) ≡ option_eq (λ x y. x == y) o (Some forwarding)
-state_is None = refl
-state_is (Some n) = refl
 
 pub stands : (d : Domains) (dom : ℕ) (t : Table) (s : Shadow) (j : List (List ℕ)) (rows : Rows) → Settled s j rows → VlansStand rows t → PortsStand d dom rows t → KeepsRouters s.routers t
     → TrapsStand rows t → ControlStands rows t → AddressesStand rows t → GroupsFollow s t.groups rows → Stands d dom rows t
@@ -62,7 +58,7 @@ stands d dom t s j rows settled vlans ports routers traps control addresses foll
     members vid = has-where (vlan_wanted t vid).members (λ q. member t q vid) refl
 
     forwards : Has s.forwarding (is_forwarding t)
-    forwards q low = settled.shadow.forwarding q low ∙ ap row_forwards (ports q low) ∙ ap (λ b. is_up t q && b) (state_is (get nat_cmp t.state q))
+    forwards q low = settled.shadow.forwarding q low ∙ ap row_forwards (ports q low) ∙ ap (λ b. is_up t q && b) (forwarding-is (get nat_cmp t.state q))
 
     eligible : (vid q : ℕ) → q < port_places → opens s (vlan_wanted t vid).members q ≡ is_open t vid q
     eligible vid q low = ap₂ (λ m b. m && ((q == host) || b)) (members vid q low) (forwards q low)

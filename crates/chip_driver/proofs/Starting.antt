@@ -1,10 +1,10 @@
 -- The rows before any change stand for the start table.
-use Rattle.std.proofs.Common.{◌≡◌, ◌≢◌, ℕ, zero, suc, ◌+◌, ◌*◌, ◌/◌, ◌%◌, ◌^◌, ◌<◌, ◌≤◌, Bool, true, false, not, ◌&&◌, ◌||◌, cond, ⊎_elim, List, [], ◌∷◌, get_or, replicate, refl, sym, ap, ap₂, subst, ◌∙◌, arith}
+use Rattle.std.proofs.Common.{◌≡◌, ◌≢◌, ℕ, zero, suc, ◌+◌, ◌*◌, ◌/◌, ◌%◌, ◌<◌, ◌≤◌, Bool, true, false, not, ◌&&◌, ◌||◌, cond, ⊎_elim, List, [], ◌∷◌, get_or, replicate, refl, sym, ap, ap₂, subst, ◌∙◌, arith}
 use Rattle.std.specs.Prelude.{◌==◌, nat_lt}
 use Rattle.std.specs.List.{list_any, range_with_len}
-use Rattle.std.proofs.Math.Nat.{zero-div, zero-mod}
-use Rattle.std.proofs.lemmas.Bool.{eqb-true}
+use Rattle.std.proofs.lemmas.Bool.{eqb-true, lt-ltb, le-ltb}
 use Rattle.std.proofs.lemmas.Bool.Decides.{eqb_tells, nat_tests}
+use Rattle.lemmas.proofs.Tests.{and-false}
 use Rattle.port_sets.specs.Numbers.{has_number}
 use Rattle.port_sets.proofs.Numbers.{none_below}
 use Rattle.port_sets.proofs.Words.{no_members}
@@ -14,7 +14,7 @@ use Rattle.br_model.specs.Table.Domains.{Domains, host, port_places}
 use Rattle.br_model.specs.Table.Groups.{Membership}
 use Rattle.br_model.specs.Table.Table.{Table, start}
 use Rattle.br_model.specs.Forward.Targets.{flood, mcast_flood, bcast_flood, isolated}
-use Rattle.chip_regs.specs.Rows.{field}
+use Rattle.chip_regs.proofs.Fields.{field-zero}
 use Rattle.chip_tables.specs.declared.rows.FanRow.{FanRow}
 use Rattle.chip_tables.specs.declared.rows.PortRow.{PortRow}
 use Rattle.chip_tables.specs.declared.rows.VlanRow.{VlanRow}
@@ -38,7 +38,7 @@ use Rattle.chip_tables.proofs.SomePort.{same_some}
 use Rattle.chip_driver.proofs.Sets.{has-where}
 use Rattle.chip_driver.proofs.GroupLoop.{follow_start}
 use Rattle.chip_driver.proofs.Standing.{stands, vlans_switched}
-use Rattle.chip_driver.proofs.Steps.{is_lt, not_lt, next_of}
+use Rattle.chip_driver.proofs.Steps.{next_of}
 use Rattle.chip_driver.proofs.TableLaws.{member_added, untagged_added}
 
 -- ---- rows to which nothing was written
@@ -49,10 +49,6 @@ no_vlan = record { members = []; untagged = [] }
 abbrev no_fan : FanRow
 no_fan = record { ports = []; isolated = false; plain = false }
 
-blank_field : (at w : ℕ) → field 0 at w ≡ 0
-unfolding field
-blank_field at w = ap (λ x. x % 2 ^ w) (zero-div (2 ^ at)) ∙ zero-mod (2 ^ w)
-
 same_all : {A : Type 0} (n i : ℕ) (a : A) → get_or (replicate n a) i a ≡ a
 same_all zero i a = refl
 same_all (suc n) zero a = refl
@@ -62,10 +58,10 @@ no_bits : members 4 (0 ∷ 0 ∷ 0 ∷ 0 ∷ []) ≡ []
 no_bits = no_members 4 (0 ∷ 0 ∷ 0 ∷ 0 ∷ []) (λ j low. same_all 4 j 0)
 
 blank_ports : (at : ℕ) → ports_from 0 at ≡ []
-blank_ports at = (λ i. members 4 (blank_field at 64 i ∷ blank_field (at + 64) 64 i ∷ blank_field (at + 128) 64 i ∷ blank_field (at + 192) 64 i ∷ [])) ∙ no_bits
+blank_ports at = (λ i. members 4 (field-zero at 64 i ∷ field-zero (at + 64) 64 i ∷ field-zero (at + 128) 64 i ∷ field-zero (at + 192) 64 i ∷ [])) ∙ no_bits
 
 blank_bit : (at : ℕ) → is_on 0 at ≡ false
-blank_bit at = ap (λ n. n == 1) (blank_field at 1)
+blank_bit at = ap (λ n. n == 1) (field-zero at 1)
 
 blank_vlan : vlan_of 0 ≡ no_vlan
 blank_vlan = ap₂ (λ m u. record { members = m; untagged = u }) (blank_ports 0) (blank_ports 256)
@@ -101,10 +97,6 @@ nothing_of true true = refl
 nothing_of true false = refl
 nothing_of false b = refl
 
-no_more : (b : Bool) → (b && false) ≡ false
-no_more true = refl
-no_more false = refl
-
 nobody : (s : Shadow) (to : ℕ → Bool) → ((q : ℕ) → q < port_places → (has_number s.own q && to q) ≡ false) → no_fan ≡ fan_to s [] to
 unfolding fan_to
 nobody s to none =
@@ -117,11 +109,11 @@ host_alone : (s : Shadow) → has_number s.own host ≡ false → (q : ℕ) → 
 host_alone s own_host q =
     ⊎_elim
     (λ (same : ((q == host) ≡ true) × (q ≡ host)). ap (λ b. b && ((q == host) || false)) (ap (has_number s.own) same.1 ∙ own_host))
-    (λ (other : ((q == host) ≡ false) × (q ≢ host)). ap (λ b. has_number s.own q && (b || false)) other.0 ∙ no_more (has_number s.own q))
+    (λ (other : ((q == host) ≡ false) × (q ≢ host)). ap (λ b. has_number s.own q && (b || false)) other.0 ∙ and-false (has_number s.own q))
     (eqb_tells q host)
 
 untargeted : (s : Shadow) (f : Flood) → has_number s.own host ≡ false → (q : ℕ) → q < port_places → (has_number s.own q && floods_to s [] f q) ≡ false
-untargeted s Unicast own_host q low = no_more (has_number s.own q)
+untargeted s Unicast own_host q low = and-false (has_number s.own q)
 untargeted s Mcast own_host q low = host_alone s own_host q
 untargeted s Bcast own_host q low = host_alone s own_host q
 
@@ -144,10 +136,10 @@ begun : (own : List ℕ) (blank marked trapped rows : Rows) → IsBlank blank �
 begun own blank marked trapped rows is_blank marks traps rest = record {
   ports = λ q low.
       ap (λ (r : Rows). port_at r q) (rest ∙ ap (λ (r : Rows). record r { control = rows.control }) traps.rest) ∙ marks.ports q
-      ∙ ap (λ b. cond b (idle (has_number own q)) (port_at blank q)) (is_lt q port_places low);
+      ∙ ap (λ b. cond b (idle (has_number own q)) (port_at blank q)) (lt-ltb q port_places low);
   traps = λ i low.
       ap (λ (r : Rows). trap_at r i) rest ∙ traps.traps i
-      ∙ ap (λ b. cond b (cond (nat_lt i 2) (trap_at marked i) true) (trap_at marked i)) (is_lt i 21 low)
+      ∙ ap (λ b. cond b (cond (nat_lt i 2) (trap_at marked i) true) (trap_at marked i)) (lt-ltb i 21 low)
       ∙ ap (λ b. cond (nat_lt i 2) b true) (ap (λ (r : Rows). trap_at r i) marks.rest ∙ ap (λ n. is_on n 0) (ap (λ (b : List ℕ). get_or b i 0) is_blank.traps ∙ same_all 21 i 0) ∙ blank_bit 0);
   ports_now = marked.ports;
   traps_now = trapped.traps;
@@ -196,7 +188,7 @@ settled_start own s joined blank marked trapped rows is_blank marks traps rest s
 
     fans : (vid : ℕ) (fan : Fan) → fan_at rows vid fan ≡ fan_made (first_shadow own) [] fan
     fans vid (Floods f) = flood_begun own blank rows is_blank b vid f ∙ nobody (first_shadow own) (floods_to (first_shadow own) [] f) (untargeted (first_shadow own) f own_host)
-    fans vid Routers = router_begun own blank rows is_blank b vid ∙ nobody (first_shadow own) (routes_to (first_shadow own) []) (λ q low. no_more (has_number own q))
+    fans vid Routers = router_begun own blank rows is_blank b vid ∙ nobody (first_shadow own) (routes_to (first_shadow own) []) (λ q low. and-false (has_number own q))
 
 -- the table before the host is a member of its VLAN
 abbrev no_members_yet : Table
@@ -205,8 +197,8 @@ no_members_yet = record start { vlans = [] }
 first_trap : (i : ℕ) → cond (nat_lt i 2) false true ≡ trap_wanted start i
 first_trap i =
     by (i == 0) (i == 1) (nat_lt i 16) (nat_lt i 2)
-    (λ h. is_lt i 2 (let z : i ≡ 0 = eqb-true i 0 h in omega arith)) (λ h. is_lt i 2 (let z : i ≡ 1 = eqb-true i 1 h in omega arith))
-    (λ p q. not_lt i 2 (above i p q))
+    (λ h. lt-ltb i 2 (let z : i ≡ 0 = eqb-true i 0 h in omega arith)) (λ h. lt-ltb i 2 (let z : i ≡ 1 = eqb-true i 1 h in omega arith))
+    (λ p q. le-ltb i 2 (above i p q))
   where
     above : (i : ℕ) → (i == 0) ≡ false → (i == 1) ≡ false → 2 ≤ i
     above i p q = grind (arith, nat_tests)

@@ -1,20 +1,12 @@
 -- One more of a count.
-use Rattle.std.proofs.Common.{◌≡◌, ◌≢◌, ℕ, ◌+◌, ◌*◌, ◌/◌, ◌%◌, ◌<◌, ◌≤◌, true, false, ◌&&◌, ◌||◌, cond, ⊎_elim, sym, ap, ap₂, ◌∙◌, arith}
+use Rattle.std.proofs.Common.{◌≡◌, ◌≢◌, ℕ, ◌+◌, ◌*◌, ◌/◌, ◌%◌, ◌<◌, true, false, ◌&&◌, ◌||◌, cond, ⊎_elim, sym, ap, ap₂, ◌∙◌, arith}
 use Rattle.std.specs.Prelude.{◌==◌, nat_lt}
 use Rattle.std.proofs.lemmas.Bool.{eq-eqb, ne_eqb}
 use Rattle.std.proofs.lemmas.Bool.Decides.{eqb_tells, nat_tests}
-
-pub next_lt : (n m : ℕ) → nat_lt m (n + 1) ≡ ((m == n) || nat_lt m n)
-next_lt n m = grind (arith, nat_tests)
+use Rattle.lemmas.proofs.Numbers.{ltb-next}
 
 pub none_lt : (m : ℕ) → nat_lt m 0 ≡ false
 none_lt m = grind (arith, nat_tests)
-
-pub is_lt : (m n : ℕ) → m < n → nat_lt m n ≡ true
-is_lt m n h = grind (arith, nat_tests)
-
-pub not_lt : (m n : ℕ) → n ≤ m → nat_lt m n ≡ false
-not_lt m n h = grind (arith, nat_tests)
 
 -- places below n hold what they are to hold, and now that at n does too
 pub next_of : {A : Type 0} (q n : ℕ) (written wanted before : A) → (q ≡ n → written ≡ wanted) → cond (q == n) written (cond (nat_lt q n) wanted before) ≡ cond (nat_lt q (n + 1)) wanted before
@@ -25,7 +17,7 @@ next_of q n written wanted before h =
     (λ (other : ((q == n) ≡ false) × (q ≢ n)).
     ap (λ b. cond b written (cond (nat_lt q n) wanted before)) other.0 ∙ ap (λ b. cond (b || nat_lt q n) wanted before) (sym other.0))
     (eqb_tells q n)
-    ∙ ap (λ b. cond b wanted before) (sym (next_lt n q))
+    ∙ ap (λ b. cond b wanted before) (sym (ltb-next n q))
 
 -- ---- a number by its quotient and its remainder
 

@@ -2,15 +2,17 @@
 use Rattle.std.proofs.Common.{◌≡◌, ◌≢◌, ℕ, ◌<◌, Bool, true, false, not, ◌&&◌, ◌||◌, cond, Option, None, Some, List, [], ◌∷◌, refl, sym, ap, ap₂, ◌∙◌, arith}
 use Rattle.std.specs.Prelude.{◌==◌, nat_lt}
 use Rattle.std.specs.Option.{is_some, unwrap_or}
-use Rattle.std.specs.Ordering.{nat_cmp, eq_by_cmp, is_eq, match_ordering}
+use Rattle.std.specs.Ordering.{nat_cmp, eq_by_cmp, match_ordering}
 use Rattle.std.specs.declared.cmp.Ordering.{Ordering}
 use Rattle.std.specs.declared.cmp.Ordering.TheVariants.{Less, Equal, Greater}
 use Rattle.std.specs.Cmp.{unsigned_tied}
 use Rattle.std.specs.FinMap.Entries.{find-put, find-where_key}
-use Rattle.std.proofs.lemmas.Bool.{eq-eqb, ne_eqb, eqb-true}
+use Rattle.std.proofs.lemmas.Bool.{eq-eqb, ne_eqb, eqb-true, lt-ltb as is_lt}
 use Rattle.std.proofs.lemmas.Cmp.{nat_cmp_total, eq_by_cmp_equiv}
 use Rattle.std.proofs.lemmas.Map.Lookups.{exact_unsigned}
 use Rattle.std.proofs.lemmas.Map.Views.{any-filter_same}
+use Rattle.lemmas.proofs.Tests.{or_twice, or_swap}
+use Rattle.lemmas.proofs.Orders.{is_eq-true}
 use Rattle.br_model.specs.Table.Domains.{Domains}
 use Rattle.br_model.specs.Forward.Admission.{member}
 use Rattle.br_model.specs.Forward.Eligible.{untagged}
@@ -21,7 +23,6 @@ use Rattle.br_model.proofs.Data.PairKeys.{pair_total, same_cmp, eq-pair}
 use Rattle.chip_tables.specs.declared.rows.PortRow.{PortRow}
 use Rattle.chip_tables.specs.declared.rows.Control.{Control}
 use Rattle.chip_tables.specs.Stands.{port_wanted, control_wanted, trap_wanted, trap_count}
-use Rattle.chip_driver.proofs.Steps.{is_lt}
 
 -- ---- maps and sets of numbers
 
@@ -48,16 +49,6 @@ module _ {X : Type 0} where
   pub get-without_other : (m : List (ℕ × X)) (k q : ℕ) → q ≢ k → get nat_cmp (without nat_cmp m k) q ≡ get nat_cmp m q
   get-without_other m k q other = get-without m k q ∙ ap (λ b. cond (not b) (get nat_cmp m q) None) (ne_eqb k q (λ e. other (sym e)))
 
-or_twice : (b c : Bool) → (b || c) ≡ (b || (b || c))
-or_twice true c = refl
-or_twice false c = refl
-
-or_swap : (a b c : Bool) → (a || (b || c)) ≡ (b || (a || c))
-or_swap true true c = refl
-or_swap true false c = refl
-or_swap false true c = refl
-or_swap false false c = refl
-
 or_cond : (b c : Bool) → (b || c) ≡ cond b true c
 or_cond true c = refl
 or_cond false c = refl
@@ -82,15 +73,10 @@ has-joined_same s k = has-joined s k k ∙ ap (λ b. b || has nat_cmp s k) (unsi
 pub has-joined_other : (s : List ℕ) (k q : ℕ) → q ≢ k → has nat_cmp (joined nat_cmp s k) q ≡ has nat_cmp s q
 has-joined_other s k q other = has-joined s k q ∙ ap (λ b. b || has nat_cmp s q) (unsigned_tied q k ∙ ne_eqb q k other)
 
-equal : (r : Ordering) → is_eq r ≡ true → r ≡ Equal
-equal Less e = absurd (cc)
-equal Equal e = refl
-equal Greater e = absurd (cc)
-
 has-parted : (s : List ℕ) (k q : ℕ) → has nat_cmp (parted nat_cmp s k) q ≡ (not (eq_by_cmp nat_cmp k q) && has nat_cmp s q)
 has-parted s k q =
     any-filter_same (eq_by_cmp nat_cmp q) (λ n. not (eq_by_cmp nat_cmp k n)) (not (eq_by_cmp nat_cmp k q))
-    (λ n tie. ap (λ x. not (eq_by_cmp nat_cmp k x)) (sym (exact_unsigned q n (equal _ tie)))) s
+    (λ n tie. ap (λ x. not (eq_by_cmp nat_cmp k x)) (sym (exact_unsigned q n (is_eq-true _ tie)))) s
 
 pub has-parted_same : (s : List ℕ) (k : ℕ) → has nat_cmp (parted nat_cmp s k) k ≡ false
 has-parted_same s k = has-parted s k k ∙ ap (λ b. not b && has nat_cmp s k) (unsigned_tied k k ∙ eq-eqb k k refl)

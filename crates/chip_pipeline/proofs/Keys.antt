@@ -11,12 +11,12 @@ use Rattle.br_model.specs.Table.GroupPairs.{GroupPair, group_pair_cmp, group_pai
 use Rattle.br_model.specs.Control.Learning.{is_dynamic}
 use Rattle.br_model.specs.Data.Maps.{pair_cmp, get, has}
 use Rattle.br_model.specs.Table.Table.{Table}
+use Rattle.br_model.proofs.Table.GroupOrders.{equal_pairs}
 use Rattle.chip_tables.specs.declared.rows.AddressRow.{AddressRow}
 use Rattle.chip_tables.specs.declared.rows.FanRow.{FanRow}
 use Rattle.chip_tables.specs.Rows.{Rows, address_at, group_at}
 use Rattle.chip_tables.specs.Stands.{Stands, fan_wanted, is_grouped, is_pinned}
 use Rattle.chip_pipeline.specs.Ways.{entry_wanted, group_wanted, row_of_entry}
-use Rattle.chip_pipeline.proofs.Members.{exact-pairs}
 
 -- what stands at a key of entries that are told otherwise
 pub get-told : {K X Y : Type 0} (R : K → K → Ordering) (f : X → Y) (es : List (K × X)) (k : K) → get R (map (λ e. (e.0, f e.1)) es) k ≡ option_map f (get R es k)
@@ -63,4 +63,4 @@ address-is d dom rows t vid mac stands =
 pub group-is : (d : Domains) (dom : ℕ) (rows : Rows) (t : Table) (vid : ℕ) (group : Group) → Stands d dom rows t → group_at rows vid group ≡ group_wanted d dom t vid group
 group-is d dom rows t vid group stands =
     ap (λ (es : List (GroupPair × FanRow)). get group_pair_cmp es (vid, group)) stands.groups
-    ∙ get-made group_pair_cmp (λ k. fan_wanted d dom t k.0 (is_grouped t k.0 k.1)) (group_pairs t.groups) (vid, group) (λ j e. exact-pairs (vid, group) j e)
+    ∙ get-made group_pair_cmp (λ k. fan_wanted d dom t k.0 (is_grouped t k.0 k.1)) (group_pairs t.groups) (vid, group) (λ j e. equal_pairs (vid, group) j e)

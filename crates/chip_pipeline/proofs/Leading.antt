@@ -2,13 +2,13 @@
 use Rattle.std.proofs.Common.{◌≡◌, ℕ, ◌<◌, Bool, true, false, not, ◌&&◌, ◌||◌, cond, Option, None, Some, option_map, List, [], ◌∷◌, refl, sym, ap, ap₂, ◌∙◌, arith, inl, inr}
 use Rattle.std.specs.Prelude.{◌==◌}
 use Rattle.std.specs.Option.{option_map_or}
-use Rattle.std.specs.Ordering.{nat_cmp, eq_by_cmp, is_eq}
-use Rattle.std.specs.declared.cmp.Ordering.{Ordering}
-use Rattle.std.specs.declared.cmp.Ordering.TheVariants.{Less, Equal, Greater}
+use Rattle.std.specs.Ordering.{nat_cmp, eq_by_cmp}
 use Rattle.std.specs.Cmp.{unsigned_tied}
-use Rattle.std.proofs.lemmas.Bool.{cases_Bool, eqb-true}
+use Rattle.std.proofs.lemmas.Bool.{cases_Bool, eqb-true, or_parts}
 use Rattle.std.proofs.lemmas.Map.Lookups.{exact_unsigned}
 use Rattle.std.proofs.lemmas.Map.Views.{any-filter_same}
+use Rattle.lemmas.proofs.Tests.{and-false, cond_either, or-false}
+use Rattle.lemmas.proofs.Orders.{is_eq-true}
 use Rattle.br_model.specs.Forward.Admission.{is_up, is_forwarding, member}
 use Rattle.br_model.specs.Table.Domains.{Domains, foreign, host, port_places}
 use Rattle.br_model.specs.Forward.Eligible.{may}
@@ -41,10 +41,6 @@ needs false false true true z = refl
 needs false false true false z = refl
 needs false false false f z = refl
 
-and-none : (b : Bool) → (b && false) ≡ false
-and-none true = refl
-and-none false = refl
-
 -- what may take a frame is a member
 pub needs-member : (t : Table) (p q vid : ℕ) → may t p q vid ≡ (member t q vid && may t p q vid)
 needs-member t p q vid = needs (q == host) (member t q vid) (not (q == p)) (is_forwarding t q) (not (has_flag t p isolated && has_flag t q isolated))
@@ -56,18 +52,13 @@ flagged false true true true y e = refl
 flagged false true true false y e = refl
 flagged false true false true y e = refl
 flagged false true false false y e = refl
-flagged false false u f y e = sym (ap (λ b. (f && u) && b) e ∙ and-none (f && u))
+flagged false false u f y e = sym (ap (λ b. (f && u) && b) e ∙ and-false (f && u))
 
 -- ---- floods
 
-equal : (r : Ordering) → is_eq r ≡ true → r ≡ Equal
-equal Less e = absurd (cc)
-equal Equal e = refl
-equal Greater e = absurd (cc)
-
 has-with_flag : (t : Table) (flag q : ℕ) → has nat_cmp (with_flag t flag) q ≡ (has_flag t q flag && is_up t q)
 has-with_flag t flag q =
-    any-filter_same (eq_by_cmp nat_cmp q) (λ n. has_flag t n flag) (has_flag t q flag) (λ n tie. ap (λ x. has_flag t x flag) (sym (exact_unsigned q n (equal _ tie)))) t.up
+    any-filter_same (eq_by_cmp nat_cmp q) (λ n. has_flag t n flag) (has_flag t q flag) (λ n tie. ap (λ x. has_flag t x flag) (sym (exact_unsigned q n (is_eq-true _ tie)))) t.up
 
 -- the row of the flood to unknown stations
 pub unicast-leads : (d : Domains) (dom : ℕ) (rows : Rows) (t : Table) (p vid : ℕ) (row : FanRow) (goals : List ℕ) → Stands d dom rows t → IsVid vid → row ≡ flood_at rows vid Unicast → goals ≡ with_flag t flood → Leads d dom t p vid row goals
@@ -138,10 +129,6 @@ unknown-way d dom rows t p vid head msg row stands range station none is =
 
 -- ---- group addresses
 
-or-false : (a b : Bool) → (a || b) ≡ false → (a ≡ false) × (b ≡ false)
-or-false true b h = absurd (cc)
-or-false false b h = (refl, h)
-
 abbrev pub for_nobody : Table → Head → Bool
 for_nobody t head = (head.dst == bridge_group_address && t.stp) || head.dst == pause_address
 
@@ -157,30 +144,21 @@ nobody-host a stp h = elim (cases_Bool (a == bridge_group_address)) [
 ]
 
 pub nowhere-way : (d : Domains) (dom : ℕ) (t : Table) (p vid : ℕ) (head : Head) (msg : McastMsg) → is_multicast head.dst ≡ true → for_nobody t head ≡ true → IsWay d dom t p vid head msg Nowhere
-nowhere-way d dom t p vid head msg group nobody = (by _ (head.dst == bridge_group_address && t.stp) (head.dst == pause_address) nobody, stays d t p vid head group (nobody-host head.dst t.stp nobody))
-  where
-    by : (rest : List ℕ) (a b : Bool) → (a || b) ≡ true → cond a [] (cond b [] rest) ≡ []
-    by rest true b e = refl
-    by rest false true e = refl
-    by rest false false e = absurd (cc)
+nowhere-way d dom t p vid head msg group nobody = (cond_either (head.dst == bridge_group_address && t.stp) (head.dst == pause_address) [] _ nobody, stays d t p vid head group (nobody-host head.dst t.stp nobody))
 
 pub host-way : (d : Domains) (dom : ℕ) (rows : Rows) (t : Table) (p vid : ℕ) (head : Head) (msg : McastMsg) → AtChip d dom rows t p → is_multicast head.dst ≡ true → for_nobody t head ≡ false → is_for_the_host head.dst ≡ true
     → IsWay d dom t p vid head msg (One host)
 host-way d dom rows t p vid head msg at group other reserved =
-    let no = or-false (head.dst == bridge_group_address && t.stp) (head.dst == pause_address) other in
+    let no = or_parts (head.dst == bridge_group_address && t.stp) (head.dst == pause_address) other in
     let away : foreign d p host ≡ true = foreign-is d dom p host at.own ∙ ap not (at.outside) in
     record {
       below = omega arith;
       goal = simp (no.0, no.1, reserved);
       alone =
           ap₂ (λ r g. (r && may t p host vid) || (not g && option_map_or (λ e. foreign d p (port_of e) && may t p (port_of e) vid) (get pair_cmp t.addr (vid, head.dst)) false)) reserved group
-          ∙ or-none (may t p host vid)
+          ∙ or-false (may t p host vid)
           ∙ sym (ap (λ b. b && may t p host vid) away);
     }
-  where
-    or-none : (b : Bool) → (b || false) ≡ b
-    or-none true = refl
-    or-none false = refl
 
 pub many-way : (d : Domains) (dom : ℕ) (t : Table) (p vid : ℕ) (head : Head) (msg : McastMsg) (goals : List ℕ) (way : Way) → IsMany d dom t p vid goals way → targets t vid head msg ≡ goals → is_multicast head.dst ≡ true
     → is_for_the_host head.dst ≡ false → IsWay d dom t p vid head msg way
@@ -191,11 +169,11 @@ many-way d dom t p vid head msg goals (Many row) leads is group other =
 
 pub broadcast-targets : (t : Table) (vid : ℕ) (head : Head) (msg : McastMsg) → for_nobody t head ≡ false → is_for_the_host head.dst ≡ false → (head.dst == broadcast) ≡ true → targets t vid head msg ≡ host ∷ with_flag t bcast_flood
 broadcast-targets t vid head msg other reserved is =
-    let no = or-false (head.dst == bridge_group_address && t.stp) (head.dst == pause_address) other in
+    let no = or_parts (head.dst == bridge_group_address && t.stp) (head.dst == pause_address) other in
     simp (no.0, no.1, reserved, is)
 
 pub group-targets : (t : Table) (vid : ℕ) (head : Head) (msg : McastMsg) → is_multicast head.dst ≡ true → for_nobody t head ≡ false → is_for_the_host head.dst ≡ false → (head.dst == broadcast) ≡ false
     → targets t vid head msg ≡ cond t.snoop (snooped_targets t vid msg) (multicast_flood t)
 group-targets t vid head msg group other reserved isnt =
-    let no = or-false (head.dst == bridge_group_address && t.stp) (head.dst == pause_address) other in
+    let no = or_parts (head.dst == bridge_group_address && t.stp) (head.dst == pause_address) other in
     simp (no.0, no.1, reserved, isnt, group)

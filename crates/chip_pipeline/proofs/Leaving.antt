@@ -6,6 +6,8 @@ use Rattle.std.specs.Ordering.{nat_cmp}
 use Rattle.std.specs.Cmp.{unsigned_tied}
 use Rattle.std.proofs.lemmas.Bool.{eq-eqb, ne_eqb}
 use Rattle.std.proofs.lemmas.Bool.Decides.{eqb_tells}
+use Rattle.std.proofs.Math.Bool.{not-not}
+use Rattle.lemmas.proofs.Tests.{or-false, and-false, and_comm, contradicts}
 use Rattle.port_sets.specs.Numbers.{numbers_below, has_number}
 use Rattle.port_sets.proofs.Numbers.{has-below, has-filter, filter-numbers_below, same_below}
 use Rattle.br_model.specs.Forward.Admission.{is_forwarding, member}
@@ -89,10 +91,6 @@ in-range : (x : ℕ) → x < port_places → has_number (range_with_len 0 port_p
 unfolding numbers_below
 in-range x low = sym (has-filter (λ _. true) x (range_with_len 0 port_places)) ∙ has-below (λ _. true) port_places x low
 
-or-none : (b : Bool) → (b || false) ≡ b
-or-none true = refl
-or-none false = refl
-
 alone : (x q : ℕ) (f : ℕ → Bool) → (has nat_cmp (x ∷ []) q && f q) ≡ ((x == q) && f x)
 alone x q f = elim (eqb_tells q x) [
   | inl e ↦ ap₂ (λ a n. (a || false) && f n) (unsigned_tied q x ∙ e.0) e.1 ∙ sym (ap (λ a. a && f x) (eq-eqb x q (sym e.1)))
@@ -121,10 +119,6 @@ class-one d t p vid x head msg leads =
     ∙ same_some _ _ (λ q low. assoc (has nat_cmp (x ∷ []) q) (may t p q vid) (foreign d p q))
     ∙ any-one x (λ q. may t p q vid && foreign d p q) leads.below)
 
-and-none : (b : Bool) → (b && false) ≡ false
-and-none true = refl
-and-none false = refl
-
 -- by no port, dropped or trapped
 drops : (d : Domains) (t : Table) (p vid : ℕ) (head : Head) (msg : McastMsg) (out : Out) → out ≡ record { class = Drop; ports = [] } → Drop ≡ cond (leaves_chip d t p vid head) Trap (class_by d p (egress_ports t p vid head msg))
     → IsOut d t p vid head msg out
@@ -135,7 +129,7 @@ pub one-drop : (d : Domains) (t : Table) (p vid x : ℕ) (head : Head) (msg : Mc
 one-drop d t p vid x head msg out leads may_not is =
     drops d t p vid head msg out is
     (sym
-    (ap₂ (λ l c. cond l Trap c) (leads.alone ∙ ap (λ b. foreign d p x && b) may_not ∙ and-none (foreign d p x))
+    (ap₂ (λ l c. cond l Trap c) (leads.alone ∙ ap (λ b. foreign d p x && b) may_not ∙ and-false (foreign d p x))
     (class-one d t p vid x head msg leads ∙ ap (λ b. cond (not b) Drop (cond (b && foreign d p x) Copy Forward)) may_not)))
 
 pub one-forward : (d : Domains) (dom : ℕ) (rows : Rows) (t : Table) (p vid x : ℕ) (head : Head) (msg : McastMsg) (ports : List ℕ) → AtChip d dom rows t p → LeadsTo d t p vid head x (targets t vid head msg) → may t p x vid ≡ true → is_own d dom x ≡ true
@@ -152,7 +146,7 @@ one-forward d dom rows t p vid x head msg ports at leads takes own is =
   where
     only : (q : ℕ) → ((q == x) || false) ≡ ((has nat_cmp (targets t vid head msg) q && may t p q vid) && not (foreign d p q))
     only q =
-        or-none (q == x)
+        or-false (q == x)
         ∙ turn q
         ∙ sym (assoc (has nat_cmp (x ∷ []) q) (may t p q vid) (not (foreign d p q)))
         ∙ sym (ap (λ (xs : List ℕ). (has nat_cmp xs q && may t p q vid) && not (foreign d p q)) leads.goal)
@@ -214,19 +208,6 @@ class_is true true = refl
 class_is true false = refl
 class_is false true = refl
 class_is false false = refl
-
-not_not : (b : Bool) → not (not b) ≡ b
-not_not true = refl
-not_not false = refl
-
-turned : (a b : Bool) → (a && b) ≡ (b && a)
-turned true true = refl
-turned true false = refl
-turned false true = refl
-turned false false = refl
-
-contradicts : {A : Type 0} (b : Bool) → b ≡ true → b ≡ false → A
-contradicts b is isnt = (let e : true ≡ false = sym is ∙ isnt in cc)
 
 some_split : (own p : ℕ → Bool) → some_port p ≡ (some_port (λ x. own x && p x) || some_port (λ x. not (own x) && p x))
 unfolding some_port
@@ -299,10 +280,10 @@ module _ (d : Domains) (dom : ℕ) (rows : Rows) (t : Table) (p vid : ℕ) (head
   many-class ports elsewhere nowhere is bit tells =
       let own_any : not nowhere ≡ some_port (λ q. is_own d dom q && reaches q) = some-none ports _ nowhere (is ∙ same_below _ _ port_places reached-is) tells in
       let away : some_port (λ q. goes t p vid head msg q && foreign d p q) ≡ some_port reaches_elsewhere =
-      same_some _ _ (λ q below. ap₂ (λ a b. a && b) (sym (leads.same q below)) (foreign-is d dom p q at.own) ∙ turned (reaches q) (not (is_own d dom q))) in
+      same_some _ _ (λ q below. ap₂ (λ a b. a && b) (sym (leads.same q below)) (foreign-is d dom p q at.own) ∙ and_comm (reaches q) (not (is_own d dom q))) in
       let any : some_port (goes t p vid head msg) ≡ (some_port (λ q. is_own d dom q && reaches q) || some_port reaches_elsewhere) =
       same_some _ _ (λ q below. sym (leads.same q below)) ∙ some_split (is_own d dom) reaches in
-      ap₂ (λ e n. cond e Copy (cond n Drop Forward)) (bit ∙ bit-is (has_flag t p isolated) refl) (sym (not_not nowhere) ∙ ap not own_any)
+      ap₂ (λ e n. cond e Copy (cond n Drop Forward)) (bit ∙ bit-is (has_flag t p isolated) refl) (sym (not-not nowhere) ∙ ap not own_any)
       ∙ class_is (some_port (λ q. is_own d dom q && reaches q)) (some_port reaches_elsewhere)
       ∙ sym (class-of d t p vid head msg ∙ ap₂ (λ a b. cond (not a) Drop (cond b Copy Forward)) any away)
 

@@ -1,14 +1,16 @@
 -- The members of a group, and the rows of groups.
-use Rattle.std.proofs.Common.{◌≡◌, ◌⊎◌, inl, inr, ℕ, Bool, true, false, not, ◌&&◌, ◌||◌, cond, None, Some, List, [], ◌∷◌, ◌++◌, map, refl, sym, ap, ap₂, ◌∙◌, arith}
+use Rattle.std.proofs.Common.{◌≡◌, ◌⊎◌, inl, inr, ℕ, Bool, true, false, not, ◌&&◌, ◌||◌, cond, None, Some, List, [], ◌∷◌, ◌++◌, map, refl, sym, ap, ap₂, ◌∙◌}
 use Rattle.std.specs.Prelude.{◌==◌}
 use Rattle.std.specs.List.{filter, list_any, range_with_len}
 use Rattle.std.specs.Ordering.{nat_cmp, eq_by_cmp, is_eq, ordering_then, match_ordering}
 use Rattle.std.specs.declared.cmp.Ordering.{Ordering}
 use Rattle.std.specs.declared.cmp.Ordering.TheVariants.{Less, Equal, Greater}
 use Rattle.std.specs.Cmp.{unsigned_tied}
-use Rattle.std.proofs.lemmas.Bool.Decides.{nat_tests}
 use Rattle.std.proofs.lemmas.List.Folds.{list_any-append}
-use Rattle.std.proofs.lemmas.Map.Lookups.{exact_unsigned}
+use Rattle.std.proofs.lemmas.Bool.{or_parts}
+use Rattle.lemmas.proofs.Orders.{is_eq-then}
+use Rattle.lemmas.proofs.Numbers.{eqb-sym}
+use Rattle.lemmas.proofs.Tests.{and_assoc, or_twice, or_swap}
 use Rattle.br_model.specs.declared.group.Group.{Group}
 use Rattle.br_model.specs.declared.group.Group.TheVariants.{V4, V6}
 use Rattle.br_model.specs.declared.frame.McastMsg.{McastMsg}
@@ -22,6 +24,7 @@ use Rattle.br_model.specs.Table.Groups.{Membership, group_cmp, is_link_local, is
 use Rattle.br_model.specs.Data.Maps.{has, joined}
 use Rattle.br_model.specs.Table.Table.{Table}
 use Rattle.br_model.specs.Forward.Targets.{knows_querier, members_of, multicast_flood, snooped_targets}
+use Rattle.br_model.proofs.Table.GroupOrders.{equal_pairs}
 use Rattle.port_sets.specs.Numbers.{has_number}
 use Rattle.port_sets.proofs.Numbers.{same_below}
 use Rattle.chip_tables.specs.declared.rows.FanRow.{FanRow}
@@ -33,16 +36,8 @@ use Rattle.chip_pipeline.proofs.Sets.{member-of}
 
 -- ---- keys
 
-both_eq : (r s : Ordering) → is_eq (ordering_then r s) ≡ (is_eq r && is_eq s)
-both_eq Less s = refl
-both_eq Equal s = refl
-both_eq Greater s = refl
-
-swapped : (m n : ℕ) → (m == n) ≡ (n == m)
-swapped m n = grind (arith, nat_tests)
-
 numbers-turn : (m n : ℕ) → is_eq (nat_cmp m n) ≡ is_eq (nat_cmp n m)
-numbers-turn m n = unsigned_tied m n ∙ swapped m n ∙ sym (unsigned_tied n m)
+numbers-turn m n = unsigned_tied m n ∙ eqb-sym m n ∙ sym (unsigned_tied n m)
 
 groups-turn : (g h : Group) → is_eq (group_cmp g h) ≡ is_eq (group_cmp h g)
 groups-turn (V4 m) (V4 n) = numbers-turn m n
@@ -50,22 +45,12 @@ groups-turn (V4 m) (V6 n) = refl
 groups-turn (V6 m) (V4 n) = refl
 groups-turn (V6 m) (V6 n) = numbers-turn m n
 
-equal-groups : (g h : Group) → group_cmp g h ≡ Equal → g ≡ h
-equal-groups (V4 m) (V4 n) e = ap V4 (exact_unsigned m n e)
-equal-groups (V4 m) (V6 n) e = absurd (cc)
-equal-groups (V6 m) (V4 n) e = absurd (cc)
-equal-groups (V6 m) (V6 n) e = ap V6 (exact_unsigned m n e)
-
 -- a membership is one of the group in the VLAN, of the port
 of-group : (vid q : ℕ) (group : Group) (m : Membership) → eq_by_cmp membership_cmp (vid, group, q) m ≡ ((m.0 == vid && is_eq (group_cmp m.1 group)) && eq_by_cmp nat_cmp q m.2)
 of-group vid q group m =
-    both_eq (nat_cmp vid m.0) (ordering_then (group_cmp group m.1) (nat_cmp q m.2))
-    ∙ ap₂ (λ a b. a && b) (unsigned_tied vid m.0 ∙ swapped vid m.0) (both_eq (group_cmp group m.1) (nat_cmp q m.2) ∙ ap (λ b. b && is_eq (nat_cmp q m.2)) (groups-turn group m.1))
-    ∙ assoc (m.0 == vid) (is_eq (group_cmp m.1 group)) (is_eq (nat_cmp q m.2))
-  where
-    assoc : (a b c : Bool) → (a && (b && c)) ≡ ((a && b) && c)
-    assoc true b c = refl
-    assoc false b c = refl
+    is_eq-then (nat_cmp vid m.0) (ordering_then (group_cmp group m.1) (nat_cmp q m.2))
+    ∙ ap₂ (λ a b. a && b) (unsigned_tied vid m.0 ∙ eqb-sym vid m.0) (is_eq-then (group_cmp group m.1) (nat_cmp q m.2) ∙ ap (λ b. b && is_eq (nat_cmp q m.2)) (groups-turn group m.1))
+    ∙ and_assoc (m.0 == vid) (is_eq (group_cmp m.1 group)) (is_eq (nat_cmp q m.2))
 
 pub grouped-is : (vid q : ℕ) (group : Group) (ms : List Membership) → has membership_cmp ms (vid, group, q) ≡ has nat_cmp (map (λ m. m.2) (filter (λ m. m.0 == vid && is_eq (group_cmp m.1 group)) ms)) q
 grouped-is vid q group [] = refl
@@ -79,24 +64,6 @@ grouped-is vid q group (m ∷ ms) =
 
 -- ---- the pairs that have members
 
-or-twice : (b c : Bool) → (b || c) ≡ (b || (b || c))
-or-twice true c = refl
-or-twice false c = refl
-
-or-swap : (a b c : Bool) → (a || (b || c)) ≡ (b || (a || c))
-or-swap true true c = refl
-or-swap true false c = refl
-or-swap false true c = refl
-or-swap false false c = refl
-
-pub exact-pairs : (k j : GroupPair) → group_pair_cmp k j ≡ Equal → k ≡ j
-exact-pairs k j e = let parts = then-equal (nat_cmp k.0 j.0) (group_cmp k.1 j.1) e in ap₂ (λ v g. (v, g)) (exact_unsigned k.0 j.0 parts.0) (equal-groups k.1 j.1 parts.1)
-  where
-    then-equal : (a b : Ordering) → ordering_then a b ≡ Equal → (a ≡ Equal) × (b ≡ Equal)
-    then-equal Less b h = absurd (cc)
-    then-equal Equal b h = (refl, h)
-    then-equal Greater b h = absurd (cc)
-
 has-joined : (s : List GroupPair) (k q : GroupPair) → has group_pair_cmp (joined group_pair_cmp s k) q ≡ (eq_by_cmp group_pair_cmp q k || has group_pair_cmp s q)
 has-joined [] k q = refl
 has-joined (x ∷ xs) k q = step (has-joined xs k q) (group_pair_cmp k x) refl
@@ -104,18 +71,14 @@ has-joined (x ∷ xs) k q = step (has-joined xs k q) (group_pair_cmp k x) refl
     step : has group_pair_cmp (joined group_pair_cmp xs k) q ≡ (eq_by_cmp group_pair_cmp q k || has group_pair_cmp xs q) → (r : Ordering) → group_pair_cmp k x ≡ r
         → has group_pair_cmp (match_ordering r (k ∷ x ∷ xs) (x ∷ xs) (x ∷ joined group_pair_cmp xs k)) q ≡ (eq_by_cmp group_pair_cmp q k || (eq_by_cmp group_pair_cmp q x || has group_pair_cmp xs q))
     step rest Less is = refl
-    step rest Equal is = or-twice (eq_by_cmp group_pair_cmp q x) (has group_pair_cmp xs q) ∙ ap (λ n. eq_by_cmp group_pair_cmp q n || (eq_by_cmp group_pair_cmp q x || has group_pair_cmp xs q)) (sym (exact-pairs k x is))
-    step rest Greater is = ap (λ b. eq_by_cmp group_pair_cmp q x || b) rest ∙ or-swap (eq_by_cmp group_pair_cmp q x) (eq_by_cmp group_pair_cmp q k) (has group_pair_cmp xs q)
-
-or-false : (a b : Bool) → (a || b) ≡ false → (a ≡ false) × (b ≡ false)
-or-false true b h = absurd (cc)
-or-false false b h = (refl, h)
+    step rest Equal is = or_twice (eq_by_cmp group_pair_cmp q x) (has group_pair_cmp xs q) ∙ ap (λ n. eq_by_cmp group_pair_cmp q n || (eq_by_cmp group_pair_cmp q x || has group_pair_cmp xs q)) (sym (equal_pairs k x is))
+    step rest Greater is = ap (λ b. eq_by_cmp group_pair_cmp q x || b) rest ∙ or_swap (eq_by_cmp group_pair_cmp q x) (eq_by_cmp group_pair_cmp q k) (has group_pair_cmp xs q)
 
 -- a group without a pair has no member
 pub no-pair : (vid q : ℕ) (group : Group) (ms : List Membership) → has group_pair_cmp (group_pairs ms) (vid, group) ≡ false → has membership_cmp ms (vid, group, q) ≡ false
 no-pair vid q group [] none = refl
 no-pair vid q group (m ∷ ms) none =
-    let no = or-false (eq_by_cmp group_pair_cmp (vid, group) (m.0, m.1)) (has group_pair_cmp (group_pairs ms) (vid, group)) (sym (has-joined (group_pairs ms) (m.0, m.1) (vid, group)) ∙ none) in
+    let no = or_parts (eq_by_cmp group_pair_cmp (vid, group) (m.0, m.1)) (has group_pair_cmp (group_pairs ms) (vid, group)) (sym (has-joined (group_pairs ms) (m.0, m.1) (vid, group)) ∙ none) in
     ap₂ (λ a b. a || b) (apart (nat_cmp vid m.0) (group_cmp group m.1) (nat_cmp q m.2) no.0) (no-pair vid q group ms no.1)
   where
     apart : (a b c : Ordering) → is_eq (ordering_then a b) ≡ false → is_eq (ordering_then a (ordering_then b c)) ≡ false
@@ -174,10 +137,6 @@ fan-both own target other eligible free a b both is_a is_b ports isolated plain 
     gather : (o a b : Bool) → ((o && a) || (o && b)) ≡ (o && (a || b))
     gather true a b = refl
     gather false a b = refl
-
-and-none : (b : Bool) → (b && false) ≡ false
-and-none true = refl
-and-none false = refl
 
 -- routers are asked for as members
 routed : (g r m y : Bool) → y ≡ (m && y) → ((g || (r && m)) && y) ≡ ((g || r) && y)

@@ -1,10 +1,11 @@
 -- What rows that stand for a table tell of it.
-use Rattle.std.proofs.Common.{◌≡◌, ℕ, ◌<◌, Bool, true, false, not, ◌&&◌, Option, None, Some, refl, sym, ap, ◌∙◌, arith}
+use Rattle.std.proofs.Common.{◌≡◌, ℕ, ◌<◌, true, false, not, ◌&&◌, Option, None, Some, refl, ap, ◌∙◌}
 use Rattle.std.specs.Prelude.{◌==◌}
 use Rattle.std.specs.Option.{option_eq, unwrap_or}
 use Rattle.std.specs.Ordering.{nat_cmp}
 use Rattle.std.proofs.lemmas.Bool.{eqb-true, ne_eqb}
-use Rattle.std.proofs.lemmas.Bool.Decides.{nat_tests}
+use Rattle.lemmas.proofs.Tests.{contradicts}
+use Rattle.lemmas.proofs.Numbers.{eqb-sym}
 use Rattle.port_sets.specs.Numbers.{has_number}
 use Rattle.br_model.specs.Forward.Admission.{learning, forwarding, is_up, is_in_state, is_forwarding, member}
 use Rattle.br_model.specs.Table.Domains.{Domains, domain_of, foreign, host, port_places}
@@ -12,19 +13,13 @@ use Rattle.br_model.specs.Forward.Eligible.{untagged}
 use Rattle.br_model.specs.Data.Maps.{get}
 use Rattle.br_model.specs.Table.Table.{Table}
 use Rattle.br_model.specs.Forward.Targets.{has_flag}
+use Rattle.br_model.proofs.Forward.States.{forwarding-is}
 use Rattle.chip_tables.specs.declared.rows.VlanRow.{VlanRow}
 use Rattle.chip_tables.specs.Rows.{Rows, vlan_at, port_at}
 use Rattle.chip_tables.specs.Stands.{IsVid, Stands, is_own}
 use Rattle.chip_tables.specs.Flags.{row_has_flag}
 use Rattle.chip_pipeline.specs.PortRows.{row_is_in}
 use Rattle.chip_pipeline.proofs.Sets.{member-of}
-
-contradicts : {A : Type 0} (b : Bool) → b ≡ true → b ≡ false → A
-contradicts b is isnt = (let e : true ≡ false = sym is ∙ isnt in cc)
-
-forwarding-is : (o : Option ℕ) → (unwrap_or o 0 == forwarding) ≡ option_eq (λ x y. x == y) o (Some forwarding)
-forwarding-is None = refl
-forwarding-is (Some n) = refl
 
 learning-is : (o : Option ℕ) → (unwrap_or o 0 == learning) ≡ option_eq (λ x y. x == y) o (Some learning)
 learning-is None = refl
@@ -46,9 +41,6 @@ module _ (d : Domains) (dom : ℕ) (t : Table) (rows : Rows) (stands : Stands d 
   pub untagged-is : (vid q : ℕ) → IsVid vid → q < port_places → has_number (vlan_at rows vid).untagged q ≡ untagged t q vid
   untagged-is vid q range low = member-of (λ p. untagged t p vid) (vlan_at rows vid).untagged q (ap (λ (r : VlanRow). r.untagged) (stands.vlans vid range)) low
 
-swapped : (m n : ℕ) → (m == n) ≡ (n == m)
-swapped m n = grind (arith, nat_tests)
-
 -- of a port of the chip the foreign ones are those elsewhere
 pub foreign-is : (d : Domains) (dom p q : ℕ) → is_own d dom p ≡ true → foreign d p q ≡ not (is_own d dom q)
 foreign-is d dom p q own = ap not (alike (domain_of d p) (domain_of d q) own)
@@ -56,7 +48,7 @@ foreign-is d dom p q own = ap not (alike (domain_of d p) (domain_of d q) own)
     alike : (o r : Option ℕ) → option_eq (λ x y. x == y) o (Some dom) ≡ true → option_eq (λ x y. x == y) o r ≡ option_eq (λ x y. x == y) r (Some dom)
     alike None r h = contradicts false h refl
     alike (Some n) None h = refl
-    alike (Some n) (Some m) h = ap (λ k. k == m) (eqb-true n dom h) ∙ swapped dom m
+    alike (Some n) (Some m) h = ap (λ k. k == m) (eqb-true n dom h) ∙ eqb-sym dom m
 
 pub not-host : (d : Domains) (dom q : ℕ) → is_own d dom host ≡ false → is_own d dom q ≡ true → (q == host) ≡ false
 not-host d dom q elsewhere own = ne_eqb q host (λ same. contradicts (is_own d dom q) own (ap (is_own d dom) same ∙ elsewhere))

@@ -2,23 +2,15 @@
 use Rattle.std.proofs.Common.{◌≡◌, ℕ, ◌<◌, Bool, true, false, not, ◌&&◌, ◌||◌, cond, List, [], ◌∷◌, length, refl, ap, ap₂, ◌∙◌, arith}
 use Rattle.std.specs.Prelude.{◌==◌}
 use Rattle.std.specs.List.{list_any, filter}
-use Rattle.std.specs.Ordering.{nat_cmp}
-use Rattle.std.specs.Cmp.{unsigned_tied}
 use Rattle.std.proofs.lemmas.Bool.{ne_eqb}
 use Rattle.port_sets.specs.Numbers.{has_number}
 use Rattle.port_sets.proofs.Numbers.{has-below, same_below, filter-numbers_below}
-use Rattle.br_model.specs.Data.Maps.{has}
 use Rattle.br_model.specs.Table.Domains.{port_places}
 use Rattle.chip_tables.specs.declared.rows.FanRow.{FanRow}
 use Rattle.chip_tables.specs.declared.rows.VlanRow.{VlanRow}
 use Rattle.chip_tables.specs.Rows.{Rows, port_at}
 use Rattle.chip_tables.specs.Stands.{ports_where}
 use Rattle.chip_pipeline.specs.PortRows.{row_lets, row_takes}
-
--- a list as a set of numbers has what the list has
-pub has-is : (xs : List ℕ) (n : ℕ) → has nat_cmp xs n ≡ has_number xs n
-has-is [] n = refl
-has-is (x ∷ xs) n = ap₂ ◌||◌ (unsigned_tied n x) (has-is xs n)
 
 -- what a set has, told by its test
 pub member-of : (f : ℕ → Bool) (set : List ℕ) (q : ℕ) → set ≡ ports_where f → q < port_places → has_number set q ≡ f q

@@ -1,9 +1,9 @@
 -- What is read of a row after a field was written.
 use Rattle.std.proofs.Common.{◌≡◌, ℕ, ◌+◌, ◌-◌, ◌*◌, ◌/◌, ◌%◌, ◌^◌, ◌<◌, ◌≤◌, sym, ap, ◌∙◌, arith}
-use Rattle.std.proofs.lemmas.Nat.{div-mul-add, mod-mul-add, pow_pos}
+use Rattle.std.proofs.lemmas.Nat.{div-mul-add, mod-mul-add, pow_pos, shr-shr}
 use Rattle.std.proofs.Math.Nat.{mod-lt, zero-div, zero-mod}
 use Rattle.chip_regs.specs.Rows.{field, with_field}
-use Rattle.chip_regs.proofs.Numbers.{window-field, div-pow-add}
+use Rattle.chip_regs.proofs.Numbers.{window-field}
 
 -- the field itself
 pub field-same : (row at w n : ℕ) → n < 2 ^ w → field (with_field row at w n) at w ≡ n
@@ -37,8 +37,8 @@ field-behind row at w n a v small behind =
     let one : new / 2 ^ at ≡ row / 2 ^ (at + w) * 2 ^ w + n = div-mul-add (row / 2 ^ (at + w) * 2 ^ w + n) (2 ^ at) (row % 2 ^ at) (mod-lt row (pow_pos at)) in
     let two : (row / 2 ^ (at + w) * 2 ^ w + n) / 2 ^ w ≡ row / 2 ^ (at + w) = div-mul-add (row / 2 ^ (at + w)) (2 ^ w) n small in
     ap (λ x. x % 2 ^ v)
-    (ap (λ k. new / 2 ^ k) (sym whole) ∙ sym (div-pow-add new at (w + e)) ∙ ap (λ x. x / 2 ^ (w + e)) one ∙ sym (div-pow-add (row / 2 ^ (at + w) * 2 ^ w + n) w e) ∙ ap (λ x. x / 2 ^ e) two
-    ∙ div-pow-add row (at + w) e ∙ ap (λ k. row / 2 ^ k) whole')
+    (ap (λ k. new / 2 ^ k) (sym whole) ∙ sym (shr-shr new at (w + e)) ∙ ap (λ x. x / 2 ^ (w + e)) one ∙ sym (shr-shr (row / 2 ^ (at + w) * 2 ^ w + n) w e) ∙ ap (λ x. x / 2 ^ e) two
+    ∙ shr-shr row (at + w) e ∙ ap (λ k. row / 2 ^ k) whole')
 
 -- a field is below its bound
 pub field-lt : (row at w : ℕ) → field row at w < 2 ^ w

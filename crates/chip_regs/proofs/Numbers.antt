@@ -1,8 +1,8 @@
 -- Numbers of bytes, and what a window of them says of a field.
 use Rattle.std.proofs.Common.{◌≡◌, ℕ, zero, suc, ◌+◌, ◌-◌, ◌*◌, ◌/◌, ◌%◌, ◌^◌, ◌<◌, ◌≤◌, List, [], ◌∷◌, length, replicate, get_or, set, refl, sym, ap, subst, ◌∙◌, arith, pow-add, bit_or, bit_and}
-use Rattle.std.proofs.lemmas.Nat.{div-mul-add, mod-mul-add, mod-pow-add, pow_pos}
+use Rattle.std.proofs.lemmas.Nat.{div-mul-add, mod-mul-add, mod-pow-add, pow_pos, shr-shr}
 use Rattle.std.proofs.Math.Pow.{mod-mod-pow, pow_mono}
-use Rattle.std.proofs.Math.Nat.{div-div-eq-div-mul, mod-lt, mod-add-div', mod-eq_of_lt, div-lt_iff_lt-mul, mul-le-mul_right, div-mul-le_self, le-mul_of_pos_right}
+use Rattle.std.proofs.Math.Nat.{mod-lt, mod-add-div', mod-eq_of_lt, div-lt_iff_lt-mul, mul-le-mul_right, div-mul-le_self, le-mul_of_pos_right}
 use Rattle.std.specs.Int.Bits.{or_shifted_r}
 use Rattle.std.proofs.lemmas.Nat.{or_shifted, and_mask}
 use Rattle.std.specs.List.{All}
@@ -25,14 +25,11 @@ window-field m s w d =
     ∙ ap (λ x. x % 2 ^ w) (div-mul-add (m / 2 ^ s % 2 ^ (d + w)) (2 ^ s) (m % 2 ^ s) (mod-lt m (pow_pos s)))
     ∙ mod-mod-pow (m / 2 ^ s) d w
 
-pub div-pow-add : (n a b : ℕ) → n / 2 ^ a / 2 ^ b ≡ n / 2 ^ (a + b)
-div-pow-add n a b = div-div-eq-div-mul n (2 ^ a) (2 ^ b) ∙ ap (λ x. n / x) (sym (pow-add 2 a b))
-
 -- one byte first
 first_byte : (b r k : ℕ) → b < 256 → (b + 256 * r) / 2 ^ (8 + k) ≡ r / 2 ^ k
 first_byte b r k h =
     let turn : b + 256 * r ≡ r * 2 ^ 8 + b = omega arith in
-    ap (λ x. x / 2 ^ (8 + k)) turn ∙ sym (div-pow-add (r * 2 ^ 8 + b) 8 k) ∙ ap (λ x. x / 2 ^ k) (div-mul-add r (2 ^ 8) b h)
+    ap (λ x. x / 2 ^ (8 + k)) turn ∙ sym (shr-shr (r * 2 ^ 8 + b) 8 k) ∙ ap (λ x. x / 2 ^ k) (div-mul-add r (2 ^ 8) b h)
 
 first_low : (b r k : ℕ) → b < 256 → (b + 256 * r) % 2 ^ (8 + k) ≡ b + 256 * (r % 2 ^ k)
 first_low b r k h =
@@ -95,7 +92,7 @@ written-at (b ∷ bs) zero zero (suc p) v is h = absurd (omega arith)
 written-at (b ∷ bs) zero (suc k) zero v is h = absurd (omega arith)
 written-at (b ∷ bs) zero (suc k) (suc p) v is h =
     let next : 8 * suc k ≡ 8 + 8 * k = omega arith in
-    let same : v / 256 / 2 ^ (8 * k) ≡ v / 2 ^ (8 * suc k) = div-pow-add v 8 (8 * k) ∙ ap (λ x. v / 2 ^ x) (sym next) in
+    let same : v / 256 / 2 ^ (8 * k) ≡ v / 2 ^ (8 * suc k) = shr-shr v 8 (8 * k) ∙ ap (λ x. v / 2 ^ x) (sym next) in
     ap (λ (x : List ℕ). v % 256 ∷ x) (written-at bs zero k p (v / 256) (omega arith) (omega arith) ∙ ap (λ x. set (written bs 0 k (v / 256)) p (x % 256)) same)
 written-at (b ∷ bs) (suc first) k zero v is h = absurd (omega arith)
 written-at (b ∷ bs) (suc first) k (suc p) v is h = ap (λ (x : List ℕ). b ∷ x) (written-at bs first k p v (omega arith) (omega arith))
@@ -147,7 +144,7 @@ upper : (m c d e : ℕ) → c ≡ d + e → m / 2 ^ e ≡ m / 2 ^ c * 2 ^ d + m 
 upper m c d e is = subst (λ k. m / 2 ^ e ≡ m / 2 ^ k * 2 ^ d + m % 2 ^ k / 2 ^ e) (sym is)
     (let x : ℕ = m / 2 ^ e in
     let within : m % 2 ^ (d + e) / 2 ^ e ≡ x % 2 ^ d = ap (λ y. y / 2 ^ e) (mod-pow-add m d e) ∙ div-mul-add (x % 2 ^ d) (2 ^ e) (m % 2 ^ e) (mod-lt m (pow_pos e)) in
-    let over : m / 2 ^ (d + e) ≡ x / 2 ^ d = ap (λ y. m / 2 ^ y) (let s : d + e ≡ e + d = omega arith in s) ∙ sym (div-pow-add m e d) in
+    let over : m / 2 ^ (d + e) ≡ x / 2 ^ d = ap (λ y. m / 2 ^ y) (let s : d + e ≡ e + d = omega arith in s) ∙ sym (shr-shr m e d) in
     sym ((λ i. over i * 2 ^ d + within i) ∙ omega arith ∙ mod-add-div' x (2 ^ d)))
 
 join : (h d q c n a b m l : ℕ) → ((h * d + q) * c + n) * (a * b) + (m * a + l) ≡ (h * (d * c * b) + ((q * c + n) * b + m)) * a + l
@@ -164,9 +161,9 @@ window-set row f s w d n =
     let q : ℕ = wn / 2 ^ (s + w) in
     let back : d + w + s ≡ d + (s + w) = omega arith in
     let low_m : wn % 2 ^ s ≡ m % 2 ^ s = mod-mod-pow m (d + w) s in
-    let h_is : m / 2 ^ c ≡ h = div-pow-add row f c in
+    let h_is : m / 2 ^ c ≡ h = shr-shr row f c in
     let high : row / 2 ^ (f + s + w) ≡ h * 2 ^ d + q =
-    ap (λ x. row / 2 ^ x) (let e : f + s + w ≡ f + (s + w) = omega arith in e) ∙ sym (div-pow-add row f (s + w)) ∙ upper m c d (s + w) back ∙ ap (λ x. x * 2 ^ d + q) h_is in
+    ap (λ x. row / 2 ^ x) (let e : f + s + w ≡ f + (s + w) = omega arith in e) ∙ sym (shr-shr row f (s + w)) ∙ upper m c d (s + w) back ∙ ap (λ x. x * 2 ^ d + q) h_is in
     let low : row % 2 ^ (f + s) ≡ (m % 2 ^ s) * 2 ^ f + row % 2 ^ f = ap (λ x. row % 2 ^ x) (let e : f + s ≡ s + f = omega arith in e) ∙ mod-pow-add row s f in
     sym ((λ i. (high i * 2 ^ w + n) * pow-add 2 f s i + low i) ∙ join h (2 ^ d) q (2 ^ w) n (2 ^ f) (2 ^ s) (m % 2 ^ s) (row % 2 ^ f)
     ∙ (λ i. (h * (sym (pow-add 2 (d + w) s ∙ ap (λ x. x * 2 ^ s) (pow-add 2 d w)) i) + ((q * 2 ^ w + n) * 2 ^ s + sym low_m i)) * 2 ^ f + row % 2 ^ f))
@@ -212,7 +209,7 @@ get_is row at w c shift is fits =
     let whole : c ≡ d + w + shift = omega arith in
     let place : 8 * (at / 8) + shift ≡ at = omega arith in
     let m : ℕ = row / 2 ^ (8 * (at / 8)) in
-    ap (λ x. m % 2 ^ x / 2 ^ shift % 2 ^ w) whole ∙ window-field m shift w d ∙ ap (λ x. x % 2 ^ w) (div-pow-add row (8 * (at / 8)) shift ∙ ap (λ x. row / 2 ^ x) place)
+    ap (λ x. m % 2 ^ x / 2 ^ shift % 2 ^ w) whole ∙ window-field m shift w d ∙ ap (λ x. x % 2 ^ w) (shr-shr row (8 * (at / 8)) shift ∙ ap (λ x. row / 2 ^ x) place)
 
 -- what `set` writes into a window
 pub set_is : (row at w c shift n : ℕ) → shift ≡ at % 8 → shift + w ≤ c → with_field row (8 * (at / 8)) c (with_field (row / 2 ^ (8 * (at / 8)) % 2 ^ c) shift w n) ≡ with_field row at w n

@@ -7,13 +7,14 @@ use Rattle.std.specs.declared.cmp.Ordering.TheVariants.{Less, Equal, Greater}
 use Rattle.std.specs.FinMap.Entries as entries
 use Rattle.std.specs.FinMap.Entries.{by_order}
 use Rattle.std.proofs.lemmas.List.Sorted.{IsPermutation-refl, IsPermutation-trans, IsPermutation-sym, IsPermutation-cons, IsPermutation-middle, IsPermutation-map}
+use Rattle.lemmas.proofs.Tests.{true_from_T}
 use Rattle.br_model.specs.Data.Maps.{pair_cmp}
 use Rattle.br_model.proofs.Data.KeySets.{keys-ascend}
 use Rattle.open_addressing.specs.Finite.{entries_of, key_if}
 use Rattle.open_addressing.specs.Lookups.{IsApart}
 use Rattle.open_addressing.specs.Pairs.{unpacked, by_pair}
 use Rattle.open_addressing.specs.Zipped.{cell_of, key_of}
-use Rattle.open_addressing.proofs.Entries.{sorted-entries_of, true_of, apart-tail, alone}
+use Rattle.open_addressing.proofs.Entries.{sorted-entries_of, apart-tail, alone}
 use Rattle.open_addressing.proofs.Pairs.{ascending-by_pair}
 use Rattle.chip_tables.specs.declared.rows.AddressRow.{AddressRow}
 use Rattle.chip_tables.specs.AddressCells.{address_cells, place_in, places_of}
@@ -82,4 +83,4 @@ keys-moved rows es listed apart =
 
 pub keys-rise : (rows : List ℕ) (es : Entries) → entries_of (address_cells rows) ≡ es → IsStrictlySortedBy pair_cmp (map (λ e. e.0) (by_pair es))
 keys-rise rows es listed =
-    keys-ascend pair_cmp (by_pair es) (ascending-by_pair es ∙ ap (λ (l : Entries). entries.is_sorted nat_cmp l) (sym listed) ∙ true_of _ (sorted-entries_of (address_cells rows)))
+    keys-ascend pair_cmp (by_pair es) (ascending-by_pair es ∙ ap (λ (l : Entries). entries.is_sorted nat_cmp l) (sym listed) ∙ true_from_T _ (sorted-entries_of (address_cells rows)))

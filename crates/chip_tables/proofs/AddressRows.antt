@@ -1,11 +1,13 @@
 -- Address rows as cells, as they change.
-use Rattle.std.proofs.Common.{◌≡◌, ◌≢◌, ℕ, zero, suc, ◌+◌, ◌*◌, ◌/◌, ◌%◌, ◌^◌, ◌<◌, ◌≤◌, Bool, true, false, ◌&&◌, ◌||◌, Option, None, Some, List, [], ◌∷◌, length, get_or, set, map, replicate, nat_le, refl, sym, ap, subst, ◌∙◌, arith}
+use Rattle.std.proofs.Common.{◌≡◌, ◌≢◌, ℕ, zero, suc, ◌+◌, ◌*◌, ◌/◌, ◌%◌, ◌^◌, ◌<◌, ◌≤◌, ◌&&◌, ◌||◌, Option, None, Some, List, [], ◌∷◌, length, get_or, set, replicate, nat_le, refl, sym, ap, subst, ◌∙◌, arith}
 use Rattle.std.specs.Prelude.{◌==◌, slice_get}
 use Rattle.std.specs.List.{All}
 use Rattle.std.proofs.lemmas.Bool.{le-leb}
 use Rattle.std.proofs.lemmas.List.{map-set, length-set, get_or-map, length-replicate}
 use Rattle.std.proofs.lemmas.List.Elements.{All-set, All-replicate}
 use Rattle.std.proofs.lemmas.Nat.{div-mul-add, mod-mul-add}
+use Rattle.lemmas.proofs.Tests.{or-true}
+use Rattle.lemmas.proofs.Lists.{map-replicate}
 use Rattle.open_addressing.specs.Pairs.{unpacked, packed as pair}
 use Rattle.open_addressing.specs.Zipped.{cell_of}
 use Rattle.open_addressing.specs.Zipped as zipped
@@ -51,10 +53,6 @@ cells-set rows new i row c is e = ap address_cells is ∙ map-set address_cell r
 pub cell-at : (rows : List ℕ) (i row : ℕ) → i < length rows → row ≡ get_or rows i 0 → address_cell row ≡ get_or (address_cells rows) i None
 cell-at rows i row h is = ap address_cell is ∙ sym (get_or-map address_cell rows i 0 None h)
 
-or-true : (a : Bool) → (a || true) ≡ true
-or-true true = refl
-or-true false = refl
-
 pub kept_blank : IsKept 0
 kept_blank = ap (λ k. k == 0 || (nat_le 1 (k % 4096) && nat_le (k % 4096) 4094)) no_key
 
@@ -68,10 +66,6 @@ kept-set rows new i row is here all = subst (λ (xs : List ℕ). All IsKept xs) 
 
 pub sized-set : (rows new : List ℕ) (i row n : ℕ) → new ≡ set rows i row → length rows ≡ n → length new ≡ n
 sized-set rows new i row n is long = ap length is ∙ length-set rows i row ∙ long
-
-map-replicate : {X Y : Type 0} (f : X → Y) (n : ℕ) (x : X) → map f (replicate n x) ≡ replicate n (f x)
-map-replicate f zero x = refl
-map-replicate f (suc n) x = ap (λ ys. f x ∷ ys) (map-replicate f n x)
 
 pub made-sized : (n : ℕ) (rows : List ℕ) → rows ≡ replicate n 0 → length rows ≡ n
 made-sized n rows is = ap length is ∙ length-replicate n 0

@@ -1,14 +1,14 @@
 -- Group rows as cells, and the numbers of their keys.
-use Rattle.std.proofs.Common.{◌≡◌, ◌≢◌, ℕ, zero, suc, ◌+◌, ◌*◌, ◌/◌, ◌%◌, ◌^◌, ◌<◌, ◌≤◌, ◌&&◌, None, Some, List, ◌∷◌, length, get_or, set, map, replicate, refl, sym, ap, ◌∙◌, arith}
+use Rattle.std.proofs.Common.{◌≡◌, ◌≢◌, ℕ, zero, suc, ◌+◌, ◌*◌, ◌/◌, ◌%◌, ◌^◌, ◌<◌, ◌≤◌, ◌&&◌, None, Some, List, length, get_or, set, map, replicate, refl, sym, ap, ◌∙◌, arith}
 use Rattle.std.specs.Prelude.{◌==◌, nat_lt}
 use Rattle.std.specs.Ordering.{nat_cmp, ordering_then}
-use Rattle.std.specs.declared.cmp.Ordering.{Ordering}
-use Rattle.std.specs.declared.cmp.Ordering.TheVariants.{Less, Equal, Greater}
 use Rattle.std.proofs.lemmas.Bool.{cases_eq, cases_lt, eq-eqb, ne_eqb, lt-ltb, le-ltb}
 use Rattle.std.proofs.lemmas.List.{map-set, length-map, get_or-map, length-replicate}
 use Rattle.std.proofs.lemmas.Nat.{div-mul-add, mod-mul-add}
 use Rattle.std.proofs.Math.Nat.{mod-lt}
 use Rattle.std.proofs.Common.{⊎_elim}
+use Rattle.lemmas.proofs.Orders.{then_assoc}
+use Rattle.lemmas.proofs.Lists.{map-replicate}
 use Rattle.br_model.specs.declared.group.Group.{Group}
 use Rattle.br_model.specs.declared.group.Group.TheVariants.{V4, V6}
 use Rattle.br_model.specs.Table.GroupPairs.{GroupPair, group_pair_cmp}
@@ -58,11 +58,6 @@ numbered-some h b some none = absurd (omega arith)
 
 -- ---- order
 
-then-assoc : (x y z : Ordering) → ordering_then x (ordering_then y z) ≡ ordering_then (ordering_then x y) z
-then-assoc Less y z = refl
-then-assoc Equal y z = refl
-then-assoc Greater y z = refl
-
 by-version : (g : Group) (t b : ℕ) → t < 2 → group_cmp g (group_from t b) ≡ ordering_then (nat_cmp (version_bit g) t) (nat_cmp (address_bits g) b)
 by-version (V4 n) zero b h = refl
 by-version (V4 n) (suc zero) b h = refl
@@ -82,7 +77,7 @@ group-order k small q =
     let h : ℕ = q / w in
     let half : h % 2 < 2 = mod-lt h (omega arith) in
     ap (ordering_then (nat_cmp k.0 (h / 2))) (by-version k.1 (h % 2) (q % w) half)
-    ∙ then-assoc (nat_cmp k.0 (h / 2)) (nat_cmp (version_bit k.1) (h % 2)) (nat_cmp (address_bits k.1) (q % w))
+    ∙ then_assoc (nat_cmp k.0 (h / 2)) (nat_cmp (version_bit k.1) (h % 2)) (nat_cmp (address_bits k.1) (q % w))
     ∙ ap (λ r. ordering_then r (nat_cmp (address_bits k.1) (q % w))) (digits_order 2 k.0 (version_bit k.1) (h / 2) (h % 2) (version-small k.1) half ∙ ap (nat_cmp (k.0 * 2 + version_bit k.1)) (whole 2 h))
     ∙ digits_order w (head_of k) (address_bits k.1) h (q % w) small (mod-lt q (omega arith)) ∙ ap (nat_cmp (head_of k * w + address_bits k.1)) (whole w q)
 
@@ -135,10 +130,6 @@ pub groups-put : (keys keys' rows rows' : List ℕ) (i key row n : ℕ) (r : Fan
 groups-put keys keys' rows rows' i key row n r ki ri kn rr =
     (λ t. cells_of ((ap (map group_key_of) ki ∙ map-set group_key_of keys i key ∙ ap (set (map group_key_of keys) i) kn) t) ((ap (map fan_of) ri ∙ map-set fan_of rows i row ∙ ap (set (map fan_of rows) i) rr) t))
     ∙ cells_of-set (map group_key_of keys) (map fan_of rows) i n r
-
-map-replicate : {X Y : Type 0} (f : X → Y) (n : ℕ) (x : X) → map f (replicate n x) ≡ replicate n (f x)
-map-replicate f zero x = refl
-map-replicate f (suc n) x = ap (λ ys. f x ∷ ys) (map-replicate f n x)
 
 pub groups-made : (n : ℕ) (keys rows : List ℕ) → keys ≡ replicate n 0 → rows ≡ replicate n 0 → group_cells keys rows ≡ replicate n None
 groups-made n keys rows ki ri =

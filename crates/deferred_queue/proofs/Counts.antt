@@ -1,6 +1,7 @@
 -- Each step keeps the rule of the number of posts.
-use Rattle.std.proofs.Common.{◌≡◌, ◌≢◌, ℕ, zero, suc, ◌+◌, ◌≤◌, true, false, true≢false, List, [], ◌∷◌, ◌++◌, length, set, get_or, eqb, sym, refl, ap, ◌∙◌, subst, ⊎_elim, append_assoc, arith}
+use Rattle.std.proofs.Common.{◌≡◌, ◌≢◌, ℕ, zero, suc, ◌+◌, ◌≤◌, true, false, List, [], ◌∷◌, ◌++◌, length, set, get_or, eqb, sym, refl, ap, ◌∙◌, subst, ⊎_elim, append_assoc, arith}
 use Rattle.std.proofs.lemmas.List.{append-nil}
+use Rattle.std.proofs.lemmas.Bool.{false≢true}
 use mathlib.Core.Option.{some, some-ne-none, some-injective}
 use prog.Atomic.{either}
 use lib.ListN.{get_elem?}
@@ -30,9 +31,6 @@ sees before after l = omega (arith, ap posts_in l.2, posts_in-append before (l.0
 pub same_posts : (known all : List Event) → KnownBut posts_in known all → posts_in all ≡ posts_in known
 same_posts known all k = omega (arith, ap posts_in k.1, posts_in-append known k.0, k.2)
 
-off : false ≢ true
-off e = true≢false (sym e)
-
 -- all is known
 whole : (number : List Event → ℕ) (all : List Event) → number [] ≡ 0 → KnownBut number all all
 whole number all none = ([], sym (append-nil all), none)
@@ -54,7 +52,7 @@ module _ {S : Type 0} where
       let look = (h.each id v at).as_looker b in
       let vs : List Past = set s.views id l in
       let Old : ℕ → Past → Type 0 = λ j u. (u.posts ≡ true → (j ≡ h.counter) × KnownBut posts_in u.counted h.events) × (u.takes ≢ true) in
-      let old : All Old vs = all_set Old s.views id l ((λ _. count), off) (λ j u other e. ((h.each j u e).as_counter, λ p. other (((h.each j u e).as_looker p).0 ∙ sym look.0))) in
+      let old : All Old vs = all_set Old s.views id l ((λ _. count), false≢true) (λ j u other e. ((h.each j u e).as_counter, λ p. other (((h.each j u e).as_looker p).0 ∙ sym look.0))) in
       record {
         counter = h.counter;
         looker = length vs;
@@ -62,7 +60,7 @@ module _ {S : Type 0} where
         number = h.number;
         each = λ j u e. ⊎_elim (λ x. record { as_counter = (old j u x).0; as_looker = λ p. absurd ((old j u x).1 p) })
             (λ (is : r ≡ u). record {
-              as_counter = λ p. absurd (off (ap (λ (y : Past). y.posts) is ∙ p));
+              as_counter = λ p. absurd (false≢true (ap (λ (y : Past). y.posts) is ∙ p));
               as_looker = λ p. (at_end vs r u j (λ x. (old j u x).1 p) e, subst (λ (y : Past). KnownBut looks_in y.looked h.events) is look.1);
             }) (at_snoc vs r u j e);
       }
@@ -85,7 +83,7 @@ module _ {S : Type 0} where
           looker = h.looker;
           events = all;
           number = ap (λ ns. set ns 0 new) h.number ∙ ap (λ n. n ∷ []) (next ∙ sym more);
-          each = all_set (Knows h.counter h.looker all) s.views id w (record { as_counter = λ _. (count.0, whole posts_in all refl); as_looker = λ p. absurd (off p) })
+          each = all_set (Knows h.counter h.looker all) s.views id w (record { as_counter = λ _. (count.0, whole posts_in all refl); as_looker = λ p. absurd (false≢true p) })
               (λ j u other e. record { as_counter = λ p. absurd (other (((h.each j u e).as_counter p).0 ∙ sym count.0)); as_looker = λ p. let k = (h.each j u e).as_looker p in (k.0, longer u.looked h.events k.1) });
         },
         (ap (λ (m : Me S Past). (w, m.1)) is, more),
@@ -110,7 +108,7 @@ module _ {S : Type 0} where
         looker = h.looker;
         events = all;
         number = ap (λ ns. set ns 0 number) h.number ∙ ap (λ n. n ∷ []) (so ∙ sym same);
-        each = all_set (Knows h.counter h.looker all) s.views id (looking all) (record { as_counter = λ p. absurd (off p); as_looker = λ _. (look.0, whole looks_in all refl) })
+        each = all_set (Knows h.counter h.looker all) s.views id (looking all) (record { as_counter = λ p. absurd (false≢true p); as_looker = λ _. (look.0, whole looks_in all refl) })
             (λ j u other e. record { as_counter = λ p. let k = (h.each j u e).as_counter p in (k.0, longer u.counted h.events k.1); as_looker = λ p. absurd (other (((h.each j u e).as_looker p).0 ∙ sym look.0)) });
       }
     where
@@ -156,7 +154,7 @@ module _ {S : Type 0} where
       let look = (h.each id v at).as_looker b in
       let vs : List Past = set s.views id spent in
       let Old : ℕ → Past → Type 0 = λ j u. (u.posts ≡ true → (j ≡ h.counter) × KnownBut posts_in u.counted h.events) × (u.takes ≢ true) in
-      let old : All Old vs = all_set Old s.views id spent ((λ p. absurd (off p)), off) (λ j u other e. ((h.each j u e).as_counter, λ p. other (((h.each j u e).as_looker p).0 ∙ sym look.0))) in
+      let old : All Old vs = all_set Old s.views id spent ((λ p. absurd (false≢true p)), false≢true) (λ j u other e. ((h.each j u e).as_counter, λ p. other (((h.each j u e).as_looker p).0 ∙ sym look.0))) in
       record {
         counter = h.counter;
         looker = length vs;
@@ -164,7 +162,7 @@ module _ {S : Type 0} where
         number = h.number;
         each = λ j u e. ⊎_elim (λ x. record { as_counter = (old j u x).0; as_looker = λ p. absurd ((old j u x).1 p) })
             (λ (is : v ≡ u). record {
-              as_counter = λ p. absurd (off (sym a ∙ ap (λ (y : Past). y.posts) is ∙ p));
+              as_counter = λ p. absurd (false≢true (sym a ∙ ap (λ (y : Past). y.posts) is ∙ p));
               as_looker = λ p. (at_end vs v u j (λ x. (old j u x).1 p) e, subst (λ (y : Past). KnownBut looks_in y.looked h.events) is look.1);
             }) (at_snoc vs v u j e);
       }
@@ -185,7 +183,7 @@ module _ {S : Type 0} where
         looker = id;
         events = h.events;
         number = h.number;
-        each = all_set (Knows h.counter id h.events) vs other spent (record { as_counter = λ p. absurd (off p); as_looker = λ p. absurd (off p) }) (λ j y apart e. now j y e apart);
+        each = all_set (Knows h.counter id h.events) vs other spent (record { as_counter = λ p. absurd (false≢true p); as_looker = λ p. absurd (false≢true p) }) (λ j y apart e. now j y e apart);
       }
 
   -- a view that does both learns all that happened

@@ -5,11 +5,9 @@ use Rattle.std.proofs.Math.Seq.{drop-cons}
 use Rattle.std.proofs.lemmas.List.{length-drop}
 use Rattle.std.proofs.lemmas.Slice.{between_to_end}
 use Rattle.std.specs.List.{fold}
+use Rattle.lemmas.proofs.Numbers.{bytes_collect}
 use Rattle.br_model.specs.Data.Numbers.{number}
 use Rattle.byteorder.specs.Endian.{big_from}
-
-collect : (a b p r : ℕ) → (256 * a + b) * p + r ≡ a * (256 * p) + (b * p + r)
-collect a b p r = omega arith
 
 zero_times : (p r : ℕ) → 0 * p + r ≡ r
 zero_times p r = omega arith
@@ -20,7 +18,7 @@ spelled zero j a ys h = omega arith
 spelled (suc n) j a ys h =
     ap (λ (zs : List ℕ). fold (λ m byte. 256 * m + byte) a (take (suc n) zs)) (drop-cons ys j 0 (omega arith))
     ∙ spelled n (suc j) (256 * a + get_or ys j 0) ys (omega arith)
-    ∙ collect a (get_or ys j 0) (256 ^ n) (big_from (suc j) n ys)
+    ∙ bytes_collect a (get_or ys j 0) (256 ^ n) (big_from (suc j) n ys)
     ∙ ap (λ (p : ℕ). a * p + (get_or ys j 0 * 256 ^ n + big_from (suc j) n ys)) (sym (pow-succ' 256 n))
 
 pub read-at : (n i : ℕ) (xs : List ℕ) → i + n ≤ length xs → big_from 0 n (take (length xs - i) (drop i xs)) ≡ number (take n (drop i xs))

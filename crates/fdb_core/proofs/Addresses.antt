@@ -3,13 +3,14 @@ use Rattle.std.proofs.Common.{◌≡◌, ℕ, Bool, true, false, T, not, cond, �
 use Rattle.std.specs.Ordering.{eq_by_cmp, is_lt}
 use Rattle.std.specs.declared.cmp.Ordering.TheVariants.{Less, Equal, Greater}
 use Rattle.std.specs.FinMap.Entries.{by_order, below_all, is_sorted, is_sorted-put, find-put, same_entries}
+use Rattle.std.proofs.lemmas.Float.{T_from_true}
+use Rattle.lemmas.proofs.Orders.{is_eq-true}
 use Rattle.br_model.specs.Data.Maps.{pair_cmp, get, put, without, is_ascending}
 use Rattle.br_model.proofs.Data.PairKeys.{pair_total, same_cmp}
 use Rattle.open_addressing.specs.Least.{smaller, least}
 use Rattle.fdb_core.specs.declared.entries.Entry.{Entry}
 use Rattle.fdb_core.specs.Packing.{by_address}
 use Rattle.fdb_core.proofs.ByAddress.{Key}
-use Rattle.fdb_core.proofs.Lookups.{as_T, equal}
 
 abbrev pub told : {X : Type 0} → (Entry → X) → List (Key × Entry) → List (Key × X)
 told f es = map (λ e. (e.0, f e.1)) es
@@ -21,13 +22,13 @@ put-same {X} m k v up is =
     (λ q. find-put pair_cmp pair_total q k v m ∙ by q (eq_by_cmp pair_cmp q k) refl)
   where
     by : (q : Key) (b : Bool) → eq_by_cmp pair_cmp q k ≡ b → cond b (Some v) (get pair_cmp m q) ≡ get pair_cmp m q
-    by q true e = sym (ap (get pair_cmp m) (same_cmp q k (equal _ e)) ∙ is)
+    by q true e = sym (ap (get pair_cmp m) (same_cmp q k (is_eq-true _ e)) ∙ is)
     by q false e = refl
 
 -- an entry that has the moment already is put again
 pub renewed-same : (m : List (Key × Entry)) (k : Key) (e : Entry) (moment : ℕ) → is_ascending pair_cmp m ≡ true → get pair_cmp m k ≡ Some e → e.updated ≡ moment
     → put pair_cmp m k (record e { updated = moment }) ≡ m
-renewed-same m k e moment up is now = ap (λ n. put pair_cmp m k (record e { updated = n })) (sym now) ∙ put-same m k e (as_T _ up) is
+renewed-same m k e moment up is now = ap (λ n. put pair_cmp m k (record e { updated = n })) (sym now) ∙ put-same m k e (T_from_true _ up) is
 
 module _ {X : Type 0} (f : Entry → X) where
   pub get-told : (es : List (Key × Entry)) (k : Key) → get pair_cmp (told f es) k ≡ option_map f (get pair_cmp es k)
@@ -57,7 +58,7 @@ module _ {X : Type 0} (f : Entry → X) where
 
   -- an entry of which the same is told changes nothing
   pub told-same : (es : List (Key × Entry)) (k : Key) (x : Entry) → is_ascending pair_cmp es ≡ true → get pair_cmp (told f es) k ≡ Some (f x) → told f (put pair_cmp es k x) ≡ told f es
-  told-same es k x up is = told-put es k x ∙ put-same (told f es) k (f x) (as_T _ (sorted-told es ∙ up)) is
+  told-same es k x up is = told-put es k x ∙ put-same (told f es) k (f x) (T_from_true _ (sorted-told es ∙ up)) is
 
   pub told-without : (es : List (Key × Entry)) (k : Key) → told f (without pair_cmp es k) ≡ without pair_cmp (told f es) k
   told-without [] k = refl

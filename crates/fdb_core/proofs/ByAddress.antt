@@ -1,10 +1,10 @@
 -- What keys' numbers are, and the keys of entries that pass.
-use Rattle.std.proofs.Common.{◌≡◌, ℕ, zero, suc, ◌/◌, ◌^◌, ◌<◌, ◌≤◌, Bool, true, false, T, cond, ◌&&◌, IsTrue, List, [], ◌∷◌, length, get_or, map, filter, nat_le, refl, sym, ap, subst, arith}
+use Rattle.std.proofs.Common.{◌≡◌, ℕ, zero, suc, ◌/◌, ◌^◌, ◌<◌, ◌≤◌, Bool, true, false, cond, ◌&&◌, IsTrue, List, [], ◌∷◌, length, get_or, map, filter, nat_le, refl, sym, ap, subst, arith}
 use Rattle.std.specs.List.{list_all}
 use Rattle.std.specs.Ordering.{nat_cmp}
 use Rattle.std.specs.declared.cmp.Ordering.TheVariants.{Less, Equal, Greater}
 use Rattle.std.specs.Cmp.{first_so, second_so}
-use Rattle.std.proofs.lemmas.Bool.{le-leb, leb-true}
+use Rattle.std.proofs.lemmas.Bool.{le-leb, leb-true, and_from}
 use Rattle.std.specs.FinMap.Entries as entries
 use Rattle.std.specs.FinMap.Entries.{by_order}
 use Rattle.fdb_core.specs.declared.entries.Entry.{Entry}
@@ -17,24 +17,16 @@ use Rattle.open_addressing.proofs.Pairs.{unpacked-packed}
 abbrev pub Key : Type 0
 Key = ℕ × ℕ
 
-true_of : (b : Bool) → T b → b ≡ true
-true_of true h = refl
-true_of false h = absurd h
-
--- numbers that are keys stay so
-both_true : (a b : Bool) → a ≡ true → b ≡ true → (a && b) ≡ true
-both_true a b p q = λ i. p i && q i
-
 module _ (p : ℕ → Bool) where
   all-put : (k : ℕ) (x : Entry) (es : List (ℕ × Entry)) → p k ≡ true → list_all (λ e. p e.0) es ≡ true → list_all (λ e. p e.0) (entries.put nat_cmp k x es) ≡ true
-  all-put k x [] here all = both_true _ _ here refl
+  all-put k x [] here all = and_from _ _ here refl
   all-put k x (e ∷ es) here all =
       let first = first_so (p e.0) (list_all (λ (f : ℕ × Entry). p f.0) es) all in
       let rest = second_so (p e.0) (list_all (λ (f : ℕ × Entry). p f.0) es) all in
       elim (nat_cmp k e.0) as (λ r. list_all (λ (f : ℕ × Entry). p f.0) (by_order r ((k, x) ∷ e ∷ es) ((e.0, x) ∷ es) (e ∷ entries.put nat_cmp k x es)) ≡ true) [
-        | Less ↦ both_true _ _ here all
+        | Less ↦ and_from _ _ here all
         | Equal ↦ all
-        | Greater ↦ both_true _ _ first (all-put k x es here rest)
+        | Greater ↦ and_from _ _ first (all-put k x es here rest)
       ]
 
   all-filter : (t : ℕ × Entry → Bool) (es : List (ℕ × Entry)) → list_all (λ e. p e.0) es ≡ true → list_all (λ e. p e.0) (filter t es) ≡ true
@@ -43,14 +35,14 @@ module _ (p : ℕ → Bool) where
       let first = first_so (p e.0) (list_all (λ (f : ℕ × Entry). p f.0) es) all in
       let rest = all-filter t es (second_so (p e.0) (list_all (λ (f : ℕ × Entry). p f.0) es) all) in
       elim (t e) as (λ b. list_all (λ (f : ℕ × Entry). p f.0) (cond b (e ∷ filter t es) (filter t es)) ≡ true) [
-        | true ↦ both_true _ _ first rest
+        | true ↦ and_from _ _ first rest
         | false ↦ rest
       ]
 
   all-keys : (es : List (ℕ × Entry)) → list_all (λ e. p e.0) es ≡ true → list_all p (map (λ (e : ℕ × Entry). e.0) es) ≡ true
   all-keys [] all = refl
   all-keys (e ∷ es) all =
-      both_true _ _ (first_so (p e.0) (list_all (λ (f : ℕ × Entry). p f.0) es) all) (all-keys es (second_so (p e.0) (list_all (λ (f : ℕ × Entry). p f.0) es) all))
+      and_from _ _ (first_so (p e.0) (list_all (λ (f : ℕ × Entry). p f.0) es) all) (all-keys es (second_so (p e.0) (list_all (λ (f : ℕ × Entry). p f.0) es) all))
 
 pub keys-put : (k : ℕ) (x : Entry) (es : List (ℕ × Entry)) → IsTrue (is_key k) → AreKeys es → AreKeys (entries.put nat_cmp k x es)
 keys-put k x es here all = all-put is_key k x es here all
@@ -74,7 +66,7 @@ keys_where-by_address t (e ∷ es) =
 
 pub key-packed : (k : Key) → k.1 < 2 ^ 48 → 1 ≤ k.0 → k.0 ≤ 4094 → IsTrue (is_key (packed k))
 key-packed k fits low high =
-    subst (λ (q : Key). (nat_le 1 q.0 && nat_le q.0 4094) ≡ true) (sym (unpacked-packed k fits)) (both_true _ _ (le-leb 1 k.0 low) (le-leb k.0 4094 high))
+    subst (λ (q : Key). (nat_le 1 q.0 && nat_le q.0 4094) ≡ true) (sym (unpacked-packed k fits)) (and_from _ _ (le-leb 1 k.0 low) (le-leb k.0 4094 high))
 
 pub key-range : (n : ℕ) → is_key n ≡ true → (1 ≤ n / 2 ^ 48) × (n / 2 ^ 48 ≤ 4094)
 unfolding unpacked

@@ -1,9 +1,10 @@
 -- The numbers of entries at ports, as they are kept.
-use Rattle.std.proofs.Common.{◌≡◌, ◌≢◌, ℕ, zero, suc, ◌+◌, ◌-◌, ◌<◌, Bool, true, false, cond, not, eqb, Option, None, Some, List, [], ◌∷◌, length, get_or, set, replicate, IfSome, refl, sym, ap, subst, ◌∙◌, arith, get_or-set_same, get_or-set_other}
+use Rattle.std.proofs.Common.{◌≡◌, ℕ, zero, suc, ◌+◌, ◌-◌, ◌<◌, Bool, true, false, cond, not, eqb, Option, None, Some, List, [], ◌∷◌, length, get_or, replicate, IfSome, refl, sym, ap, subst, ◌∙◌, arith}
 use Rattle.std.specs.Ordering.{eq_by_cmp, nat_cmp}
 use Rattle.std.specs.FinMap.Entries.{find, put, where_key, is_sorted}
 use Rattle.std.proofs.Math.ListN.{length-set}
-use Rattle.std.proofs.lemmas.Bool.{eqb-true, eq-eqb}
+use Rattle.std.proofs.lemmas.Bool.{eq-eqb}
+use Rattle.lemmas.proofs.Lists.{get_or-zeros, get_or-set_as}
 use Rattle.br_model.specs.Table.Domains.{port_places}
 use Rattle.fdb_core.specs.declared.entries.Entry.{Entry}
 use Rattle.fdb_core.specs.Counts.{one_at, one_if, count_at, less_one, one_more, AreCounts}
@@ -16,27 +17,14 @@ within [] i h = absurd (omega arith)
 within (c ∷ cs) zero h = omega arith
 within (c ∷ cs) (suc i) h = (let lt = within cs i h in omega arith)
 
-zeros : (n i : ℕ) → ◌≡◌ {A = ℕ} (get_or (replicate n 0) i 0) 0
-zeros zero i = refl
-zeros (suc n) zero = refl
-zeros (suc n) (suc i) = zeros n i
-
 pub counted-none : (cs : List ℕ) → cs ≡ replicate port_places 0 → AreCounts cs []
 counted-none cs is = record {
   sized = ap length is;
-  counted = λ port. ap (λ (l : List ℕ). get_or l port 0) is ∙ zeros port_places port;
+  counted = λ port. ap (λ (l : List ℕ). get_or l port 0) is ∙ get_or-zeros port_places port;
 }
 
 one_self : (e : Entry) → one_at e.port e ≡ 1
 one_self e = ap (λ b. cond b 1 0) (eq-eqb e.port e.port refl)
-
--- what is written at one port, and read at another
-read_at : (cs : List ℕ) (q v p : ℕ) (n : ℕ → ℕ) → q < length cs → v ≡ n q → (eqb q p ≡ false → get_or cs p 0 ≡ n p) → get_or (set cs q v) p 0 ≡ n p
-read_at cs q v p n lt here there =
-    elim (eqb q p) as (λ b. eqb q p ≡ b → get_or (set cs q v) p 0 ≡ n p) [
-      | true ↦ λ e. subst (λ x. get_or (set cs q v) x 0 ≡ n x) (eqb-true q p e) (get_or-set_same cs q v 0 lt ∙ here)
-      | false ↦ λ e. (let apart : p ≢ q = λ same. (let t = eq-eqb q p (sym same) in absurd (cc)) in get_or-set_other cs q p v 0 apart ∙ there e)
-    ] refl
 
 other : (p : ℕ) (e : Entry) → eqb e.port p ≡ false → one_at p e ≡ 0
 other p e apart = ap (λ b. cond b 1 0) apart
@@ -56,7 +44,7 @@ module _ (cs : List ℕ) (es : List (ℕ × Entry)) (a : AreCounts cs es) (sorte
   less-all : (o : Option Entry) → o ≡ find nat_cmp k es → (p : ℕ) → get_or (less_one o cs) p 0 ≡ count_at p es - one_if p o
   less-all None is p = (let all = a.counted p in omega arith)
   less-all (Some e) is p =
-      read_at cs e.port (get_or cs e.port 0 - 1) p (λ q. count_at q es - one_at q e) (within cs e.port (found e is))
+      get_or-set_as cs e.port (get_or cs e.port 0 - 1) p (λ q. count_at q es - one_at q e) (within cs e.port (found e is))
       (let one = one_self e in let all = a.counted e.port in omega arith)
       (λ apart. (let none = other p e apart in let all = a.counted p in omega arith))
 
@@ -85,7 +73,7 @@ module _ (cs : List ℕ) (es : List (ℕ × Entry)) (a : AreCounts cs es) (sorte
     counted-put lt = record {
       sized = length-set (less_one o cs) x.port (get_or (less_one o cs) x.port 0 + 1) ∙ length-less o ∙ a.sized;
       counted = λ p.
-          read_at (less_one o cs) x.port (get_or (less_one o cs) x.port 0 + 1) p (λ q. count_at q (put nat_cmp k x es))
+          get_or-set_as (less_one o cs) x.port (get_or (less_one o cs) x.port 0 + 1) p (λ q. count_at q (put nat_cmp k x es))
           (let long = length-less o in let all = a.sized in omega arith)
           (let left = less-all o is x.port in let all = count-put x.port k x es sorted in let some = count-found x.port k es sorted in let same = ap (one_if x.port) is in let one = one_self x in omega arith)
           (λ apart. (let left = less-all o is p in let all = count-put p k x es sorted in let same = ap (one_if p) is in let none = other p x apart in omega arith));

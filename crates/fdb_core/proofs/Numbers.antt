@@ -1,19 +1,21 @@
 -- Numbers in order, none of them twice, that are the keys of the entries that pass, are the list of those.
-use Rattle.std.proofs.Common.{◌≡◌, ◌≢◌, ℕ, suc, ◌<◌, ◌≤◌, Bool, true, false, cond, eqb, ◌&&◌, ◌||◌, Option, None, Some, List, [], ◌∷◌, map, filter, IsPermutation, IsSorted, refl, sym, ap, subst, ◌∙◌, arith}
+use Rattle.std.proofs.Common.{◌≡◌, ℕ, suc, ◌<◌, ◌≤◌, Bool, true, false, cond, eqb, ◌&&◌, ◌||◌, Option, None, Some, List, [], ◌∷◌, map, filter, IsPermutation, IsSorted, refl, sym, ap, subst, ◌∙◌, arith}
 use Rattle.std.specs.List.{list_any, dedup, dedup_from}
 use Rattle.std.specs.List.Retain.{IsFiltered, DiffersFromLast}
 use Rattle.std.specs.Ordering.{is_lt, eq_by_cmp, nat_cmp}
 use Rattle.std.specs.Cmp.{first_so, second_so, nat_cmp_is}
 use Rattle.std.specs.List.Sorted.{IsNonDecreasingBy}
-use Rattle.std.proofs.lemmas.Bool.{eqb-true, eq-eqb}
+use Rattle.std.proofs.lemmas.Bool.{eqb-true, and_from as both}
 use Rattle.std.proofs.lemmas.Cmp.{nat_cmp_total}
 use Rattle.std.proofs.lemmas.List.Filters.{dedup_is}
 use Rattle.std.proofs.lemmas.List.Sorted.{IsNonDecreasingBy-from_sort, list_any-IsPermutation}
 use Rattle.std.proofs.lemmas.Map.Lookups.{exact_unsigned}
 use Rattle.std.specs.FinMap.Entries.{find, below_all, is_sorted, same_entries}
+use Rattle.std.proofs.lemmas.Float.{T_from_true}
+use Rattle.lemmas.proofs.Numbers.{ne_from_eqb}
+use Rattle.lemmas.proofs.Tests.{or_twice, by_test}
 use Rattle.open_addressing.specs.Finite.{keys_where}
-use Rattle.open_addressing.proofs.Lookups.{by_test}
-use Rattle.fdb_core.proofs.Lookups.{both, as_T, find_past}
+use Rattle.fdb_core.proofs.Lookups.{find_past}
 
 abbrev pub is_among : ℕ → List ℕ → Bool
 is_among q ns = list_any (λ n. eq_by_cmp nat_cmp q n) ns
@@ -38,7 +40,7 @@ same_numbers : (ms ns : List ℕ) → is_sorted nat_cmp (bare ms) ≡ true → i
 same_numbers ms ns left right same =
     sym (keys-bare ms)
     ∙ ap (map (λ (e : ℕ × ℕ). e.0))
-    (same_entries nat_cmp nat_cmp_total exact_unsigned (bare ms) (bare ns) (as_T _ left) (as_T _ right) (λ q. find-bare q ms ∙ ap (λ b. cond b (Some 0) None) (same q) ∙ sym (find-bare q ns)))
+    (same_entries nat_cmp nat_cmp_total exact_unsigned (bare ms) (bare ns) (T_from_true _ left) (T_from_true _ right) (λ q. find-bare q ms ∙ ap (λ b. cond b (Some 0) None) (same q) ∙ sym (find-bare q ns)))
     ∙ keys-bare ns
 
 -- the keys of the entries that pass
@@ -106,9 +108,6 @@ climbs_from k (x ∷ xs) h = (h 0 1 0 (omega arith) (omega arith), climbs_from x
 lt_of : (a b : ℕ) → a < b → is_lt (nat_cmp a b) ≡ true
 lt_of a b h = grind (arith, nat_cmp_is a b)
 
-ne_of : (a b : ℕ) → eqb a b ≡ false → a ≢ b
-ne_of a b not_so = λ e. (let so = eq-eqb a b e in absurd (cc))
-
 below-dedup : (b k : ℕ) (xs : List ℕ) → b < k → climbs k xs → below_all nat_cmp b (bare (dedup_from eqb k xs)) ≡ true
 below-dedup b k [] lt h = both _ _ (lt_of b k lt) refl
 below-dedup b k (x ∷ xs) lt h =
@@ -122,18 +121,14 @@ sorted-dedup k [] h = refl
 sorted-dedup k (x ∷ xs) h =
     elim (eqb x k) as (λ e. eqb x k ≡ e → is_sorted nat_cmp (bare (cond e (dedup_from eqb k xs) (k ∷ dedup_from eqb x xs))) ≡ true) [
       | true ↦ λ so. sorted-dedup k xs (subst (λ y. climbs y xs) (eqb-true x k so) h.1)
-      | false ↦ λ not_so. both _ _ (below-dedup k x xs (let le = h.0 in let ne = ne_of x k not_so in omega arith) h.1) (sorted-dedup x xs h.1)
+      | false ↦ λ not_so. both _ _ (below-dedup k x xs (let le = h.0 in let ne = ne_from_eqb x k not_so in omega arith) h.1) (sorted-dedup x xs h.1)
     ] refl
-
-once : (a b : Bool) → (a || b) ≡ (a || (a || b))
-once true b = refl
-once false b = refl
 
 among-dedup : (q k : ℕ) (xs : List ℕ) → is_among q (dedup_from eqb k xs) ≡ is_among q (k ∷ xs)
 among-dedup q k [] = refl
 among-dedup q k (x ∷ xs) =
     elim (eqb x k) as (λ e. eqb x k ≡ e → is_among q (cond e (dedup_from eqb k xs) (k ∷ dedup_from eqb x xs)) ≡ is_among q (k ∷ x ∷ xs)) [
-      | true ↦ λ so. among-dedup q k xs ∙ once (eq_by_cmp nat_cmp q k) (is_among q xs) ∙ ap (λ y. eq_by_cmp nat_cmp q k || (eq_by_cmp nat_cmp q y || is_among q xs)) (sym (eqb-true x k so))
+      | true ↦ λ so. among-dedup q k xs ∙ or_twice (eq_by_cmp nat_cmp q k) (is_among q xs) ∙ ap (λ y. eq_by_cmp nat_cmp q k || (eq_by_cmp nat_cmp q y || is_among q xs)) (sym (eqb-true x k so))
       | false ↦ λ not_so. ap (λ b. eq_by_cmp nat_cmp q k || b) (among-dedup q x xs)
     ] refl
 

@@ -3,14 +3,14 @@ use Rattle.std.proofs.Common.{◌≡◌, ℕ, ◌+◌, ◌≤◌, min, Bool, tru
 use Rattle.std.specs.Ordering.{eq_by_cmp, nat_cmp}
 use Rattle.std.specs.Cmp.{first_so, second_so}
 use Rattle.std.specs.FinMap.Entries.{find, is_sorted}
-use Rattle.std.proofs.lemmas.Bool.{le-leb, eqb-true, eq-eqb}
+use Rattle.std.proofs.lemmas.Bool.{le-leb, eqb-true, eq-eqb, and_from}
+use Rattle.lemmas.proofs.Tests.{by_test}
 use Rattle.open_addressing.specs.Least.{smaller, least}
-use Rattle.open_addressing.proofs.Lookups.{by_test}
 use Rattle.fdb_core.specs.declared.entries.Entry.{Entry}
 use Rattle.fdb_core.specs.Fdb.{is_learned, learned_moment, oldest, all_from}
 use Rattle.fdb_core.specs.Places.{Place, was_learned, is_current, Tells, is_settled, first_moment}
 use Rattle.fdb_core.proofs.ByAddress.{Key}
-use Rattle.fdb_core.proofs.Lookups.{both, find_past, find_here}
+use Rattle.fdb_core.proofs.Lookups.{find_past, find_here}
 use Rattle.fdb_core.proofs.Places.{first-least}
 
 abbrev Bounds : ℕ → Option ℕ → Type 0
@@ -32,7 +32,7 @@ bounds-test b false u o h = refl
 pub bounds-all : (b : ℕ) (es : List (Key × Entry)) → Bounds b (oldest es) → all_from b es ≡ true
 bounds-all b [] h = refl
 bounds-all b (e ∷ es) h =
-    both _ _ (bounds-test b (is_learned e.1.kind) e.1.updated (oldest es) h) (bounds-all b es (bounds-rest b (learned_moment e.1) (oldest es) h))
+    and_from _ _ (bounds-test b (is_learned e.1.kind) e.1.updated (oldest es) h) (bounds-all b es (bounds-rest b (learned_moment e.1) (oldest es) h))
 
 -- the least moment is that of the first place
 
@@ -49,7 +49,7 @@ rest-current p e es sorted h =
     (λ not_so. ap (λ b. was_learned p.0 (cond b (Some e.1) (find nat_cmp p.1 es))) not_so ∙ h)
 
 first-current : (e : ℕ × Entry) (es : List (ℕ × Entry)) → is_learned e.1.kind ≡ true → is_current (e ∷ es) (e.1.updated, e.0) ≡ true
-first-current e es h = ap (was_learned e.1.updated) (find_here e es) ∙ both _ _ h (eq-eqb e.1.updated e.1.updated refl)
+first-current e es h = ap (was_learned e.1.updated) (find_here e es) ∙ and_from _ _ h (eq-eqb e.1.updated e.1.updated refl)
 
 bounds-learned : (b : ℕ) (l : Bool) (u : ℕ) → (l ≡ true → b ≤ u) → Bounds b (cond l (Some u) None)
 bounds-learned b true u h = λ m e. (let le = h refl in let s : u ≡ m = cc in omega arith)

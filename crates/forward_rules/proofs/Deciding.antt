@@ -3,6 +3,8 @@ use Rattle.std.proofs.Common.{◌≡◌, ℕ, ◌<◌, Bool, true, false, not, �
 use Rattle.std.specs.Prelude.{◌==◌, nat_lt, IfSome}
 use Rattle.std.specs.Option.{option_map_or}
 use Rattle.std.specs.Ordering.{nat_cmp}
+use Rattle.lemmas.proofs.Endings.{option_map-none}
+use Rattle.lemmas.proofs.Tests.{cond_either}
 use borrow.Author.Tests.{ltb-true}
 use Rattle.br_model.specs.Forward.Admission.{admit}
 use Rattle.br_model.specs.Forward.Class.{class, class_by, is_trapped_in, crosses}
@@ -49,21 +51,12 @@ known-some ports es vid address e station some = ap₂ (λ b (o : Option (ℕ ×
 
 pub unknown-none : (t : Table) (vid address : ℕ) → is_multicast address ≡ false → known_port t vid address ≡ None → get pair_cmp t.addr (vid, address) ≡ None
 unknown-none t vid address station none =
-    by (get pair_cmp t.addr (vid, address)) (sym (ap (λ b. cond b None (option_map port_of (get pair_cmp t.addr (vid, address)))) station) ∙ none)
-  where
-    by : (o : Option (ℕ × Kind)) → option_map port_of o ≡ None → o ≡ None
-    by None h = refl
-    by (Some e) h = absurd (cc)
+    option_map-none port_of (get pair_cmp t.addr (vid, address)) (sym (ap (λ b. cond b None (option_map port_of (get pair_cmp t.addr (vid, address)))) station) ∙ none)
 
 -- ---- where frames are to go
 
 pub nobody-targets : (t : Table) (vid : ℕ) (head : Head) (msg : McastMsg) → (((head.dst == bridge_group_address) && t.stp) || (head.dst == pause_address)) ≡ true → targets t vid head msg ≡ []
-nobody-targets t vid head msg h = by _ ((head.dst == bridge_group_address) && t.stp) (head.dst == pause_address) h
-  where
-    by : (rest : List ℕ) (a b : Bool) → (a || b) ≡ true → cond a [] (cond b [] rest) ≡ []
-    by rest true b e = refl
-    by rest false true e = refl
-    by rest false false e = absurd (cc)
+nobody-targets t vid head msg h = cond_either ((head.dst == bridge_group_address) && t.stp) (head.dst == pause_address) [] _ h
 
 -- the entries mean nothing to a group address
 pub group-targets : (t : Table) (es : List ((ℕ × ℕ) × (ℕ × Kind))) (vid : ℕ) (head : Head) (msg : McastMsg) → is_multicast head.dst ≡ true → targets t vid head msg ≡ targets (with_addresses t es) vid head msg

@@ -1,10 +1,9 @@
 -- The ports of other domains.
-use Rattle.std.proofs.Common.{◌≡◌, ℕ, not, ◌&&◌, List, Option, None, Some, refl, sym, ap, ◌∙◌, inl, inr}
+use Rattle.std.proofs.Common.{◌≡◌, ℕ, not, ◌&&◌, List, Option, None, Some, refl, sym, ap, ◌∙◌}
 use Rattle.std.specs.Prelude.{◌==◌}
 use Rattle.std.specs.List.{filter}
 use Rattle.std.specs.Option.{option_eq}
-use Rattle.std.proofs.lemmas.Bool.{eq-eqb, ne_eqb}
-use Rattle.std.proofs.lemmas.Bool.Decides.{eqb_tells}
+use Rattle.lemmas.proofs.Numbers.{eqb-sym}
 use Rattle.br_model.specs.Table.DomainPorts.{ports_in}
 use Rattle.br_model.specs.Table.Domains.{Domains, domain_of, foreign, port_places}
 use Rattle.port_sets.specs.Numbers.{has_number, IsSetBelow}
@@ -12,15 +11,9 @@ use Rattle.port_sets.proofs.Numbers.{filter-set, same_below}
 use Rattle.vlan_groups.specs.Rows.{ports_where}
 use Rattle.forward_rules.proofs.SetLaws.{member-of}
 
-turned : (a b : ℕ) → (a == b) ≡ (b == a)
-turned a b = elim (eqb_tells a b) [
-  | inl e ↦ eq-eqb a b e.1 ∙ sym (eq-eqb b a (sym e.1))
-  | inr e ↦ ne_eqb a b e.1 ∙ sym (ne_eqb b a (λ x. e.1 (sym x)))
-]
-
 same_option : (own : ℕ) (o : Option ℕ) → option_eq (λ x y. x == y) o (Some own) ≡ option_eq (λ x y. x == y) (Some own) o
 same_option own None = refl
-same_option own (Some d) = turned d own
+same_option own (Some d) = eqb-sym d own
 
 -- those of the set that aren't in the port's own domain
 pub not-own : (domains : Domains) (p own : ℕ) (ports same others : List ℕ) → IsSetBelow port_places ports → domain_of domains p ≡ Some own

@@ -13,11 +13,12 @@ use Rattle.br_model.specs.Data.Maps.{get, has, put, joined, parted, without}
 use Rattle.br_model.specs.Table.Table.{Table, apply, default_flags, disabled}
 use Rattle.br_model.specs.Forward.Targets.{has_flag, isolated}
 use Rattle.br_model.specs.declared.change.Change.TheVariants.{PortUp, PortDown}
+use Rattle.br_model.proofs.Data.Sets.{has-is}
 use Rattle.port_sets.specs.Numbers.{has_number}
 use Rattle.port_sets.proofs.Numbers.{has-above}
 use Rattle.vlan_groups.specs.Rows.{ports_where}
 use Rattle.forward_rules.specs.PortSets.{ArePorts, flag_is_set, flagged, state_is, in_state, placed}
-use Rattle.forward_rules.proofs.SetLaws.{has-is, member-of}
+use Rattle.forward_rules.proofs.SetLaws.{member-of}
 
 -- the parts of a port that comes up
 pub comes_up : (t : Table) (p : ℕ) (up : List ℕ) (flags state : List (ℕ × ℕ)) → up ≡ joined nat_cmp t.up p → flags ≡ put nat_cmp t.flags p default_flags → state ≡ put nat_cmp t.state p disabled

@@ -4,21 +4,17 @@ use Rattle.std.specs.Prelude.{◌==◌, nat_lt}
 use Rattle.std.proofs.Math.Bool.{and-false}
 use Rattle.std.specs.List.{filter, list_any}
 use Rattle.std.specs.Ordering.{nat_cmp}
-use Rattle.std.specs.Cmp.{unsigned_tied}
 use Rattle.std.proofs.lemmas.Bool.{eq-eqb, eqb-true, cases_Bool, cases_lt, false≢true}
 use Rattle.std.proofs.lemmas.List.Folds.{list_any-append}
+use Rattle.lemmas.proofs.Tests.{and_comm, or-true}
 use Rattle.br_model.specs.Data.Maps.{get, has}
 use Rattle.br_model.specs.Table.Domains.{last_port, port_places}
+use Rattle.br_model.proofs.Data.Sets.{has-is}
 use Rattle.port_sets.specs.Numbers.{numbers_below, has_number, IsSetBelow}
 use Rattle.port_sets.proofs.Numbers.{same_below, has-below, has-filter}
 use Rattle.vlan_groups.specs.Rows.{ports_where}
 use Rattle.vlan_groups.proofs.RowLaws.{has-ports_where}
 use Rattle.forward_rules.specs.PortSets.{ArePorts, flag_is_set, flagged, set_of}
-
--- a list as a set of numbers has what the list has
-pub has-is : (xs : List ℕ) (n : ℕ) → has nat_cmp xs n ≡ has_number xs n
-has-is [] n = refl
-has-is (x ∷ xs) n = ap₂ ◌||◌ (unsigned_tied n x) (has-is xs n)
 
 -- what a set has, told by its test
 pub member-of : (f : ℕ → Bool) (set : List ℕ) (q : ℕ) → set ≡ ports_where f → q < port_places → has_number set q ≡ f q
@@ -57,13 +53,7 @@ pub set_of-flagged : (up : List ℕ) (flags : List (ℕ × ℕ)) (flag : ℕ) (a
 set_of-flagged up flags flag a set ea e =
     let p : ℕ → Bool = λ q. flag_is_set (get nat_cmp flags q) flag in
     is-set_of (λ q. has_number up q && has_number a q) (filter p up) set e
-    (λ q low. ap (λ b. has_number up q && b) (member-of p a q ea low) ∙ turn (has_number up q) (p q) ∙ sym (has-filter p q up))
-  where
-    turn : (b c : Bool) → (b && c) ≡ (c && b)
-    turn true true = refl
-    turn true false = refl
-    turn false true = refl
-    turn false false = refl
+    (λ q low. ap (λ b. has_number up q && b) (member-of p a q ea low) ∙ and_comm (has_number up q) (p q) ∙ sym (has-filter p q up))
 
 -- ---- sets of ports
 
@@ -83,10 +73,6 @@ both-within old others both within made n behind =
     ∙ and-false (nat_lt n port_places)
 
 -- ---- tests of a set
-
-or-true : (b : Bool) → (b || true) ≡ true
-or-true true = refl
-or-true false = refl
 
 -- a test that a filter keeps nothing tells whether some element passes
 pub any-filter : (f : ℕ → Bool) (xs : List ℕ) (none : Bool) → (none ≡ true → filter f xs ≡ []) → (filter f xs ≡ [] → none ≡ true) → not none ≡ list_any f xs

@@ -1,32 +1,15 @@
 -- A list that a sort has put in order is the list in order whose members stand in it equally often.
-use Rattle.std.proofs.Common.{◌≡◌, ℕ, suc, ◌+◌, ◌<◌, Bool, true, false, cond, Option, None, Some, List, [], ◌∷◌, get_or, filter_map, sum_by, IsPermutation, IsSorted, refl, sym, ap, subst, ◌∙◌, arith}
+use Rattle.std.proofs.Common.{◌≡◌, ℕ, suc, ◌+◌, ◌<◌, true, false, cond, Option, None, Some, List, [], ◌∷◌, get_or, filter_map, sum_by, IsPermutation, IsSorted, refl, sym, ap, subst, ◌∙◌, arith}
 use Rattle.std.specs.List.{cons_option}
-use Rattle.std.specs.Ordering.{is_eq, is_gt, is_lt, eq_by_cmp, ordering_reverse}
+use Rattle.std.specs.Ordering.{is_eq, is_gt, is_lt, eq_by_cmp}
 use Rattle.std.specs.Cmp.{IsTotalOrder}
 use Rattle.std.specs.declared.cmp.Ordering.{Ordering}
-use Rattle.std.specs.declared.cmp.Ordering.TheVariants.{Less, Equal, Greater}
+use Rattle.std.specs.declared.cmp.Ordering.TheVariants.{Equal}
 use Rattle.std.proofs.lemmas.Cmp.{upto, tied_itself}
 use Rattle.std.proofs.lemmas.List.Sorted.{sum_by-IsPermutation}
 use Rattle.std.proofs.lemmas.List.Recursion.{is_sum_by}
-
-gt_reverse : (r : Ordering) → is_gt (ordering_reverse r) ≡ is_lt r
-gt_reverse Less = refl
-gt_reverse Equal = refl
-gt_reverse Greater = refl
-
-equal : (r : Ordering) → is_eq r ≡ true → r ≡ Equal
-equal Less e = absurd (cc)
-equal Equal e = refl
-equal Greater e = absurd (cc)
-
-level : (r : Ordering) → is_gt r ≡ false → is_gt (ordering_reverse r) ≡ false → r ≡ Equal
-level Less p q = absurd (cc)
-level Equal p q = refl
-level Greater p q = absurd (cc)
-
-by_test : {A : Type 0} (b : Bool) → (b ≡ true → A) → (b ≡ false → A) → A
-by_test true f g = f refl
-by_test false f g = g refl
+use Rattle.lemmas.proofs.Orders.{is_gt-reverse, is_eq-true, Equal_from_neither}
+use Rattle.lemmas.proofs.Tests.{by_test}
 
 module _ {K : Type 0} (R : K → K → Ordering) where
   abbrev pub hit : K → K → ℕ
@@ -68,10 +51,10 @@ module _ {K : Type 0} (R : K → K → Ordering) where
 
   module _ (o : IsTotalOrder R) (exact : (x y : K) → R x y ≡ Equal → x ≡ y) where
     same : (x y : K) → eq_by_cmp R x y ≡ true → x ≡ y
-    same x y e = exact x y (equal _ e)
+    same x y e = exact x y (is_eq-true _ e)
 
     not_lt_back : (x y : K) → is_lt (R y x) ≡ false → is_gt (R x y) ≡ false
-    not_lt_back x y e = ap is_gt (o.antisymm x y) ∙ gt_reverse (R y x) ∙ e
+    not_lt_back x y e = ap is_gt (o.antisymm x y) ∙ is_gt-reverse (R y x) ∙ e
 
     pub low_more : (k x : K) (ks : List K) → is_gt (R k x) ≡ false → Low k ks → Low k (x ∷ ks)
     low_more k x ks here rest q there =
@@ -107,7 +90,7 @@ module _ {K : Type 0} (R : K → K → Ordering) where
         let at_z = all z in
         let low_y : is_gt (R y z) ≡ false = low_more y y ys (self_not_gt y) s.0 z (omega arith) in
         let low_z : is_gt (R z y) ≡ false = low_more z z zs (self_not_gt z) t.0 y (omega arith) in
-        let is : y ≡ z = exact y z (level (R y z) low_y (ap is_gt (sym (o.antisymm z y)) ∙ low_z)) in
+        let is : y ≡ z = exact y z (Equal_from_neither (R y z) low_y (ap is_gt (sym (o.antisymm z y)) ∙ low_z)) in
         let rest : ys ≡ zs = unique ys zs s.1 t.1 (λ q. (let h : hit q y ≡ hit q z = ap (hit q) is in let every = all q in omega arith)) in
         λ i. is i ∷ rest i
 

@@ -2,7 +2,6 @@
 use Rattle.std.proofs.Common.{◌≡◌, ℕ, ◌+◌, ◌<◌, ◌≤◌, true, false, List, [], ◌∷◌, length, take, drop, get_or, Some, refl, sym, ap, ◌∙◌, arith, subst}
 use Rattle.std.proofs.lemmas.Bool.{leb-true}
 use Rattle.std.proofs.lemmas.List.{take_more, take-append-drop}
-use Rattle.std.proofs.lemmas.List.Sums.{length-filter, count_by-le-length}
 use Rattle.std.specs.Prelude.{IsTrue, if◌then◌else◌}
 use Rattle.br_model.specs.declared.change.Change.{Change}
 use Rattle.br_model.specs.declared.change.Change.TheVariants.{SetState, GroupJoin, GroupPart, AddrPut, AddrDel}
@@ -13,7 +12,7 @@ use Rattle.br_model.specs.Table.Cut.{cut, deferred_at, deferred_count}
 use Rattle.br_model.specs.Table.Domains.{Domains}
 use Rattle.br_model.specs.Table.GroupPairs.{has_room}
 use Rattle.br_model.specs.Table.Groups.{Membership}
-use Rattle.br_model.specs.Table.Limits.{fits, most_addresses, most_changes, AreWithin}
+use Rattle.br_model.specs.Table.Limits.{fits, most_addresses, AreWithin}
 use Rattle.br_model.specs.Table.Table.{Table, apply, table}
 use Rattle.br_model.proofs.Plane.Applying.{deferred_count-append}
 use Rattle.br_model.proofs.Table.AddressRoom.{few-front}
@@ -68,6 +67,3 @@ module _ (edition : Edition) where
   pub still_applied : (H : List Change) (from k : ℕ) → k ≤ deferred_count edition (take from H) → k ≤ deferred_count edition H
   still_applied H from k n =
       subst (λ (cs : List Change). k ≤ deferred_count edition cs) (take-append-drop from H) (omega (arith, n, deferred_count-append edition (take from H) (drop from H)))
-
-  pub count_below : (H : List Change) (k : ℕ) (d : Change) → AreWithin H → deferred_at edition H k ≡ Some d → k < most_changes
-  count_below H k d is at = omega (arith, is.few, (deferred_at-deferred edition H k d at).1, length-filter (deferred edition) H, count_by-le-length (deferred edition) H)

@@ -1,16 +1,14 @@
 -- What a sweep finds in the address rows, once it is sorted, are the entries of the table.
-use Rattle.std.proofs.Common.{◌≡◌, ℕ, ◌+◌, ◌<◌, zero, suc, Bool, true, false, ◌&&◌, cond, Option, None, Some, List, [], ◌∷◌, ◌++◌, length, get_or, take, map, filter, filter_map, IsPermutation, IsSorted, refl, ap, ◌∙◌, arith}
-use Rattle.std.specs.Prelude.{slice_get}
+use Rattle.std.proofs.Common.{◌≡◌, ℕ, Bool, true, false, ◌&&◌, cond, Option, None, Some, List, [], ◌∷◌, map, filter, filter_map, IsPermutation, IsSorted, refl, ap, ◌∙◌, arith}
 use Rattle.std.specs.List.{cons_option, AllByRecursion}
 use Rattle.std.specs.List.Sorted.{IsStrictlySortedBy}
 use Rattle.std.specs.Ordering.{is_eq, is_gt, nat_cmp, ordering_reverse, ordering_then}
 use Rattle.std.specs.Cmp.{IsTotalOrder}
 use Rattle.std.specs.declared.cmp.Ordering.{Ordering}
-use Rattle.std.specs.declared.cmp.Ordering.TheVariants.{Less, Equal, Greater}
+use Rattle.std.specs.declared.cmp.Ordering.TheVariants.{Less, Equal}
 use Rattle.std.proofs.lemmas.Cmp.{tied_itself, then_total, on_total, nat_cmp_total}
-use Rattle.std.proofs.Math.Seq.{take-suc}
-use Rattle.std.proofs.lemmas.List.Elements.{filter_map-append}
 use Rattle.std.proofs.lemmas.Map.Lookups.{exact_unsigned}
+use Rattle.lemmas.proofs.Orders.{then-equal}
 use Rattle.br_model.specs.declared.change.Kind.{Kind}
 use Rattle.br_model.specs.Plane.Chip.{Chip, unhit}
 use Rattle.br_model.specs.Table.Domains.{Domains}
@@ -54,15 +52,10 @@ triple_cmp x y = ordering_then (ordering_then (nat_cmp x.0 y.0) (nat_cmp x.1 y.1
 triple_total : IsTotalOrder triple_cmp
 triple_total = then_total (then_total (on_total (λ s. s.0) nat_cmp_total) (on_total (λ s. s.1) nat_cmp_total)) (on_total (λ s. s.2) nat_cmp_total)
 
-both : (r s : Ordering) → ordering_then r s ≡ Equal → (r ≡ Equal) × (s ≡ Equal)
-both Less s e = absurd (cc)
-both Equal s e = (refl, e)
-both Greater s e = absurd (cc)
-
 same_triple : (x y : Triple) → triple_cmp x y ≡ Equal → x ≡ y
 same_triple x y e =
-    let last = both (ordering_then (nat_cmp x.0 y.0) (nat_cmp x.1 y.1)) (nat_cmp x.2 y.2) e in
-    let first = both (nat_cmp x.0 y.0) (nat_cmp x.1 y.1) last.0 in
+    let last = then-equal (ordering_then (nat_cmp x.0 y.0) (nat_cmp x.1 y.1)) (nat_cmp x.2 y.2) e in
+    let first = then-equal (nat_cmp x.0 y.0) (nat_cmp x.1 y.1) last.0 in
     λ i. (exact_unsigned x.0 y.0 first.0 i, exact_unsigned x.1 y.1 first.1 i, exact_unsigned x.2 y.2 last.1 i)
 
 abbrev row_of : Address × (ℕ × Kind) → Address × AddressRow
@@ -70,17 +63,6 @@ row_of e = (e.0, address_wanted e.1)
 
 abbrev triple : Address × AddressRow → Triple
 triple e = (e.0.0, e.0.1, e.1.port)
-
-pub at-place : {X : Type 0} (xs : List X) (i : ℕ) (d : X) → i < length xs → slice_get xs i ≡ Some (get_or xs i d)
-at-place [] i d within = absurd (omega arith)
-at-place (x ∷ xs) zero d within = refl
-at-place (x ∷ xs) (suc i) d within = at-place xs i d (omega arith)
-
--- one place more
-pub place-next : {X Y : Type 0} (h : X → Option Y) (xs : List X) (i : ℕ) (d : X) → i < length xs → filter_map h (take (i + 1) xs) ≡ filter_map h (take i xs) ++ cons_option (h (get_or xs i d)) []
-place-next h xs i d within =
-    let next : i + 1 ≡ suc i = omega arith in
-    ap (λ n. filter_map h (take n xs)) next ∙ ap (filter_map h) (take-suc xs i d within) ∙ filter_map-append h (take i xs) (get_or xs i d ∷ [])
 
 module _ (d : Domains) (c : Chip) where
   abbrev pub at_place : Rows → Option Address → Option Triple

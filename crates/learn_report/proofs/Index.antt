@@ -1,11 +1,12 @@
 -- The numbers of the reports that wait tell whether an equal one waits.
-use Rattle.std.proofs.Common.{◌≡◌, ℕ, ◌==◌, Bool, true, ◌&&◌, ◌||◌, cond, ltb, List, [], ◌∷◌, ◌++◌, length-append, not, eq-eqb, refl, sym, ap, ap₂, ◌∙◌, arith}
+use Rattle.std.proofs.Common.{◌≡◌, ℕ, ◌==◌, Bool, true, ◌&&◌, ◌||◌, cond, ltb, List, [], ◌∷◌, ◌++◌, length-append, not, refl, sym, ap, ap₂, ◌∙◌, arith}
 use Rattle.std.specs.List.{list_any, All}
 use Rattle.std.specs.List.Sorted.{IsPermutation}
 use Rattle.std.proofs.lemmas.Bool.Decides.{nat_tests}
 use Rattle.std.proofs.lemmas.List.Elements.{All-nil, All-head, All-tail, All-push}
 use Rattle.std.proofs.lemmas.List.Sorted.{length_permutation, sum_by_pushed, sum_by_popped}
 use Rattle.std.proofs.lemmas.List.Sums.{sum_by-cons, sum_by_push}
+use Rattle.lemmas.proofs.Numbers.{eqb-itself}
 use Rattle.learn_report.specs.Index.{numbered, IsRanged, IsIndex}
 use Rattle.learn_report.specs.Reports.{is_waiting}
 use Rattle.learn_report.proofs.Searched.{any_counted}
@@ -70,8 +71,5 @@ front_is_there reports numbers n x index is = ap (λ m. list_any (λ k. k == m) 
     ranged : IsRanged x
     ranged = All-head IsRanged x reports index.ranged
 
-    same : (a : ℕ) → (a == a) ≡ true
-    same a = eq-eqb a a refl
-
     itself : is_waiting (x ∷ reports) x ≡ true
-    itself = λ i. ((same x.0 i) && ((same x.1 i) && (same x.2 i))) || is_waiting reports x
+    itself = λ i. ((eqb-itself x.0 i) && ((eqb-itself x.1 i) && (eqb-itself x.2 i))) || is_waiting reports x

@@ -1,15 +1,15 @@
 -- Where a number stands among ascending ones, and what an edit there leaves.
-use Rattle.std.proofs.Common.{◌≡◌, ℕ, ◌+◌, ◌<◌, ◌≤◌, ◌==◌, Bool, true, false, ◌||◌, cond, ltb, List, [], ◌∷◌, length, get_or, count_by, Result, Ok, Err, subst, refl, sym, ap, ◌∙◌, ⊎_elim, ◌⊎◌, inl, inr, eq-eqb, ne_eqb, lt-ltb, zero-add, arith}
+use Rattle.std.proofs.Common.{◌≡◌, ℕ, ◌+◌, ◌<◌, ◌≤◌, ◌==◌, Bool, true, false, ◌||◌, cond, ltb, List, [], ◌∷◌, length, get_or, count_by, Result, Ok, Err, subst, refl, sym, ap, ◌∙◌, ⊎_elim, eq-eqb, ne_eqb, lt-ltb, zero-add, arith}
 use Rattle.std.specs.List.{list_any, remove, insert}
 use Rattle.std.specs.List.Sorted.{IsNonDecreasing, IsBinarySearchResult}
 use Rattle.std.specs.Ordering.{nat_cmp}
-use Rattle.std.proofs.lemmas.Bool.Decides.{leb_tells}
 use Rattle.std.proofs.lemmas.List.{get_or_default}
 use Rattle.std.proofs.lemmas.List.Edits.{length-remove, get_or-remove_below, get_or-remove_above}
 use Rattle.std.proofs.lemmas.List.Elements.{All-from_get_or}
 use Rattle.std.proofs.lemmas.List.Folds.{list_any_at, list_any_none}
 use Rattle.std.proofs.lemmas.List.Sorted.{searched, IsNonDecreasingBy-insert}
 use Rattle.std.proofs.lemmas.List.Sums.{sum_by-cons}
+use Rattle.std.proofs.lemmas.Bool.{cases_lt}
 
 -- an element passes the test where one at least does
 pub any_counted : {X : Type 0} (p : X → Bool) (xs : List X) → list_any p xs ≡ ltb 0 (count_by p xs)
@@ -19,9 +19,6 @@ any_counted p (x ∷ xs) = ap (λ b. p x || b) (any_counted p xs) ∙ by (p x) (
     by : (b : Bool) (n : ℕ) → (b || ltb 0 n) ≡ ltb 0 (cond b 1 0 + n)
     by true n = sym (lt-ltb 0 (1 + n) (omega arith))
     by false n = sym (ap (ltb 0) (zero-add n))
-
-under_or_from : (k i : ℕ) → (k < i) ⊎ (i ≤ k)
-under_or_from k i = ⊎_elim (λ h. inr h.1) (λ h. inl h.1) (leb_tells i k)
 
 -- the place of a number, and the place where it is missing
 
@@ -45,7 +42,7 @@ is_there numbers n i at = list_any_at (λ k. k == n) numbers i 0 at.0 (eq-eqb (g
 
 pub is_absent : (numbers : List ℕ) (n i : ℕ) → IsGap numbers n i → list_any (λ k. k == n) numbers ≡ false
 is_absent numbers n i gap =
-    list_any_none (λ k. k == n) numbers (All-from_get_or (λ x. (x == n) ≡ false) numbers 0 (λ k lt. ne_eqb (get_or numbers k 0) n (⊎_elim (λ l e. omega (arith, gap.1 k l)) (λ l e. omega (arith, gap.2 k l lt)) (under_or_from k i))))
+    list_any_none (λ k. k == n) numbers (All-from_get_or (λ x. (x == n) ≡ false) numbers 0 (λ k lt. ne_eqb (get_or numbers k 0) n (⊎_elim (λ l e. omega (arith, gap.1 k l)) (λ l e. omega (arith, gap.2 k l lt)) (cases_lt k i))))
 
 pub inserted : (numbers : List ℕ) (n i : ℕ) → IsNonDecreasing numbers → IsGap numbers n i → IsNonDecreasing (insert numbers i n)
 inserted numbers n i up gap =
@@ -60,6 +57,6 @@ removed numbers i up lt a b d le w =
     (λ l. ⊎_elim
     (λ m. omega (arith, get_or-remove_below numbers i d a l lt, get_or-remove_below numbers i d b m lt, up a b d le (omega arith)))
     (λ m. omega (arith, get_or-remove_below numbers i d a l lt, get_or-remove_above numbers i d b m lt, up a (b + 1) d (omega arith) (omega arith)))
-    (under_or_from b i))
+    (cases_lt b i))
     (λ l. omega (arith, get_or-remove_above numbers i d a l lt, get_or-remove_above numbers i d b (omega arith) lt, up (a + 1) (b + 1) d (omega arith) (omega arith)))
-    (under_or_from a i)
+    (cases_lt a i)

@@ -1,7 +1,7 @@
 -- What is read off the lines of a run is what its steps did.
-use Rattle.std.proofs.Common.{◌≡◌, ℕ, zero, suc, ◌+◌, ◌-◌, ◌<◌, ◌≤◌, ◌==◌, nat_le, nat_lt, Bool, true, false, not, ◌&&◌, ◌||◌, cond, if◌then◌else◌, List, [], ◌∷◌, ◌++◌, map, length, drop, Some, refl, sym, ap, ap₂, ◌∙◌, arith, append_assoc, append-nil, length-append, inl, inr}
+use Rattle.std.proofs.Common.{◌≡◌, ℕ, zero, suc, ◌+◌, ◌-◌, ◌≤◌, ◌==◌, nat_le, nat_lt, Bool, true, false, not, ◌&&◌, ◌||◌, cond, if◌then◌else◌, List, [], ◌∷◌, ◌++◌, map, length, drop, Some, refl, sym, ap, ap₂, ◌∙◌, arith, append_assoc, append-nil, length-append, inl, inr}
 use Rattle.std.proofs.Math.Seq.{drop-append_seam}
-use Rattle.std.proofs.lemmas.Bool.{le-leb}
+use Rattle.std.proofs.lemmas.Bool.{le-leb, lt-leb}
 use Rattle.std.proofs.lemmas.Bool.Decides.{leb_tells}
 use Rattle.std.proofs.lemmas.List.Folds.{list_all-append}
 use Rattle.std.proofs.lemmas.List.Sums.{fold-append}
@@ -15,6 +15,7 @@ use Rattle.br_model.specs.Plane.Steps.{world_step}
 use Rattle.br_model.specs.Plane.World.{World, Stepped, first_world}
 use Rattle.br_model.specs.Program.LiveRun.{accepts_changes, begins_with_publish, has_reported, is_empty, is_report_at, last_refused, may_drain, publishes_at_once, says_full}
 use Rattle.br_model.specs.Table.Setup.{Setup}
+use Rattle.br_model.proofs.Plane.Worlds.{worlds, stepped_worlds}
 use Rattle.live_book.specs.Ends.{has_reports}
 use Rattle.live_book.specs.Reading.{is_published, is_report_of, may_change, publishes, refused_after, reports, was_refused}
 use Rattle.live_book.proofs.StepLines.{step_reported, step_told}
@@ -25,16 +26,9 @@ abbrev pub said : World → List Step → List Line
 said w [] = []
 said w (s ∷ steps) = (world_step w s).1 ++ said (world_step w s).0 steps
 
-abbrev pub worlds : World → List Step → World
-worlds w steps = fold (λ w s. (world_step w s).0) w steps
-
 fold_said : (x : Stepped) (steps : List Step) → (fold then_step x steps).1 ≡ x.1 ++ said x.0 steps
 fold_said x [] = sym (append-nil x.1)
 fold_said x (s ∷ steps) = fold_said (then_step x s) steps ∙ append_assoc x.1 (world_step x.0 s).1 (said (world_step x.0 s).0 steps)
-
-fold_worlds : (x : Stepped) (steps : List Step) → (fold then_step x steps).0 ≡ worlds x.0 steps
-fold_worlds x [] = refl
-fold_worlds x (s ∷ steps) = fold_worlds (then_step x s) steps
 
 pub run_said : (setup : Setup) (steps : List Step) → (run setup steps).1 ≡ said (first_world setup) steps
 unfolding run
@@ -42,7 +36,7 @@ run_said setup steps = fold_said (first_world setup, []) steps
 
 pub run_worlds : (setup : Setup) (steps : List Step) → (run setup steps).0 ≡ worlds (first_world setup) steps
 unfolding run
-run_worlds setup steps = fold_worlds (first_world setup, []) steps
+run_worlds setup steps = stepped_worlds (first_world setup, []) steps
 
 said_append : (w : World) (xs ys : List Step) → said w (xs ++ ys) ≡ said w xs ++ said (worlds w xs) ys
 said_append w [] ys = refl
@@ -94,12 +88,6 @@ same_tests a b c d to back = elim (leb_tells a b) as (λ _. nat_le a b ≡ nat_l
   ]
 ]
 
-above : (a b : ℕ) → b < a → nat_le a b ≡ false
-above a b h = elim (leb_tells a b) as (λ _. nat_le a b ≡ false) [
-  | inl k ↦ absurd (omega (arith, h, k.1))
-  | inr k ↦ k.0
-]
-
 module _ (all : List Step) (first drain : ℕ) (drains : (k : ℕ) → list_all may_drain (drop k all) ≡ nat_le drain k) where
   abbrev may : ℕ → Bool
   may = may_change all first drain
@@ -108,7 +96,7 @@ module _ (all : List Step) (first drain : ℕ) (drains : (k : ℕ) → list_all 
   may_be : (w : World) (before : List Step) (s : Step) (later : List Step) → all ≡ before ++ s ∷ later → w.steps ≡ length before → first ≤ length before
       → may (w.steps + 1) ≡ (list_all may_drain (s ∷ later) || begins_with_publish later)
   may_be w before s later is number low =
-      ap (λ b. b || (nat_lt drain (w.steps + 1) || publishes (slice_get all (w.steps + 1)))) (above (w.steps + 1) first (omega (arith, number, low)))
+      ap (λ b. b || (nat_lt drain (w.steps + 1) || publishes (slice_get all (w.steps + 1)))) (lt-leb (w.steps + 1) first (omega (arith, number, low)))
       ∙ ap₂ (λ a b. a || b)
       (same_tests (suc drain) (w.steps + 1) drain (length before) (λ h. omega (arith, h, number)) (λ h. omega (arith, h, number))
       ∙ sym (drains (length before))

@@ -4,9 +4,9 @@ use Rattle.std.proofs.lemmas.Bool.Decides.{leb_tells}
 use Rattle.std.proofs.lemmas.List.{get_or-drop}
 use Rattle.std.proofs.lemmas.List.Folds.{list_all_at}
 use Rattle.std.specs.List.{list_all}
+use Rattle.lemmas.proofs.Lists.{drop_item}
 use Rattle.br_model.specs.declared.steps.Step.{Step}
 use Rattle.br_model.specs.Program.LiveRun.{may_drain}
-use Rattle.live_book.proofs.Places.{drop_at}
 
 -- from so many steps on there are none but those of a drain
 abbrev pub Drains : List Step → ℕ → Type 0
@@ -19,7 +19,7 @@ module _ (steps : List Step) (n m : ℕ) (x : Step) (one : m + 1 ≡ n) (within 
     | inr h ↦
         let same : k ≡ m = omega (arith, h.1, low, one) in
         ap (λ i. list_all may_drain (drop i steps)) same
-        ∙ ap (list_all may_drain) (drop_at steps m x (omega (arith, one, within)) is)
+        ∙ ap (list_all may_drain) (drop_item steps m x (omega (arith, one, within)) is)
         ∙ ap (λ b. b && list_all may_drain (drop (m + 1) steps)) may
         ∙ drains (m + 1) (omega (arith, one))
   ]

@@ -5,6 +5,8 @@ use Rattle.std.specs.declared.result.Result.{Result}
 use Rattle.std.specs.declared.result.Result.TheVariants.{Ok, Err}
 use Rattle.std.proofs.lemmas.List.{length-drop, take_all}
 use Rattle.std.specs.List.{list_all, position_or_len, slice_range}
+use Rattle.std.proofs.lemmas.Option.{same_Some}
+use Rattle.lemmas.proofs.Tests.{and_assoc, and-false, and-true}
 use Rattle.br_model.specs.declared.steps.Step.{Step}
 use Rattle.br_model.specs.declared.transcript.Line.{Line}
 use Rattle.br_model.specs.Plane.Runs.{run}
@@ -13,7 +15,6 @@ use Rattle.br_model.specs.Program.LiveRun.{Parts, ends_with_publish, from_frame,
 use Rattle.br_model.specs.Program.Runs.{setup_of}
 use Rattle.br_model.specs.Program.SameSteps.{same_step}
 use Rattle.br_model.specs.Text.Scenario.{Scenario}
-use Rattle.br_model.proofs.Data.Lists.{same-some}
 use Rattle.live_book.specs.declared.drained.Remains.{Remains}
 use Rattle.live_book.specs.Ends.{IsBook, is_idle}
 use Rattle.live_book.specs.Reading.{is_published, may_change, was_refused}
@@ -63,10 +64,6 @@ three true true c d = refl
 three true false c d = refl
 three false b c d = refl
 
-two : (a b c : Bool) → (a && (b && c)) ≡ ((a && b) && c)
-two true b c = refl
-two false b c = refl
-
 module _ (sc : Scenario) (given steps : List Step) (told : List Line) (left : Remains) (book : IsBook sc given steps told left) where
   abbrev at_end : World
   at_end = (run (setup_of sc.roster) steps).0
@@ -106,34 +103,26 @@ module _ (sc : Scenario) (given steps : List Step) (told : List Line) (left : Re
       by_part : (r : Option Parts) → Some n ≡ end_of r → IfSome r (Splits steps) → is_live_by sc steps r ≡ (in_order && settled)
       by_part None h splits = absurd (cc)
       by_part (Some p) h splits =
-          let count : n ≡ length p.first = same-some n (length p.first) h in
+          let count : n ≡ length p.first = same_Some n (length p.first) h in
           let later : p.later ≡ drop n steps = sym (ap (drop n) splits ∙ ap (λ m. drop m (p.first ++ p.later)) count ∙ drop-append_seam p.first p.later) in
           ap₂ (λ a b. a && b) (ap₂ same_frames later goes_on)
           (ap₂ (λ a b. a && b) (ap₂ same_order later goes_on)
           (ap₂ (λ a b. a && b)
           (sym (ap (list_all (is_published (may_change steps n drain))) book.lines ∙ read_published (setup_of sc.roster) steps p.first p.later n drain splits count drains))
           (ap (λ b. ends_with_publish steps && b) drained)))
-          ∙ two (same_frames (drop n steps) (drop opening given)) (same_order (drop n steps) (drop opening given)) settled
+          ∙ and_assoc (same_frames (drop n steps) (drop opening given)) (same_order (drop n steps) (drop opening given)) settled
 
       pub whole : Some n ≡ end_of (parts_at (take opening given) steps) → is_live_run steps sc ≡ (in_order && settled)
       unfolding is_live_run
       whole h = ap (λ (l : List Step). is_live_by sc steps (parts_at l steps)) opens ∙ by_part (parts_at (take opening given) steps) h (split (take opening given) steps)
 
-and_false : (a : Bool) → (a && false) ≡ false
-and_false true = refl
-and_false false = refl
-
-and_true : (a : Bool) → (a && true) ≡ a
-and_true true = refl
-and_true false = refl
-
 -- not settled
 pub unsettled : (live order all : Bool) → live ≡ (order && all) → all ≡ false → false ≡ live
-unsettled live order all is not_so = sym (is ∙ ap (λ b. order && b) not_so ∙ and_false order)
+unsettled live order all is not_so = sym (is ∙ ap (λ b. order && b) not_so ∙ and-false order)
 
 -- settled
 pub as_ordered : (live order all same : Bool) → live ≡ (order && all) → all ≡ true → same ≡ order → same ≡ live
-as_ordered live order all same is so found = found ∙ sym (is ∙ ap (λ b. order && b) so ∙ and_true order)
+as_ordered live order all same is so found = found ∙ sym (is ∙ ap (λ b. order && b) so ∙ and-true order)
 
 pub if_ok : {E : Type 0} (r : Result Bool E) (P Q : Bool → Type 0) → IfOk r P → ((b : Bool) → P b → Q b) → IfOk r Q
 if_ok (Ok b) P Q h gives = gives b h

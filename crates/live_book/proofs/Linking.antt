@@ -4,9 +4,9 @@ use Rattle.std.proofs.lemmas.Bool.{eqb-true, true≢false}
 use Rattle.std.proofs.lemmas.Bool.Decides.{eqb_tells, leb_tells}
 use Rattle.std.proofs.lemmas.List.{get_or_default, get_or_past, get_or-replicate, get_or-set_same, get_or-set_other, length-replicate}
 use Rattle.std.specs.List.{filter}
+use Rattle.lemmas.proofs.Lists.{drop_item}
 use Rattle.br_model.specs.declared.steps.Step.{Step}
 use Rattle.live_book.specs.Lanes.{AreHeads, AreLinks, IsNext, is_in_lane}
-use Rattle.live_book.proofs.Places.{drop_at}
 
 module _ (p : Step → Bool) (steps : List Step) where
   pub next_past : (n : ℕ) → n ≡ length steps → IsNext p steps n n
@@ -17,10 +17,10 @@ module _ (p : Step → Bool) (steps : List Step) where
     next_here is = record { within = omega (arith, h); skipped = refl; here = λ s k. ap p (get_or_default steps i s x h ∙ sym e) ∙ is }
 
     pub passed_over : p x ≡ false → filter p (drop i steps) ≡ filter p (drop (i + 1) steps)
-    passed_over is = ap (filter p) (drop_at steps i x h e) ∙ ap (λ b. cond b (x ∷ filter p (drop (i + 1) steps)) (filter p (drop (i + 1) steps))) is
+    passed_over is = ap (filter p) (drop_item steps i x h e) ∙ ap (λ b. cond b (x ∷ filter p (drop (i + 1) steps)) (filter p (drop (i + 1) steps))) is
 
     pub taken : p x ≡ true → filter p (drop i steps) ≡ x ∷ filter p (drop (i + 1) steps)
-    taken is = ap (filter p) (drop_at steps i x h e) ∙ ap (λ b. cond b (x ∷ filter p (drop (i + 1) steps)) (filter p (drop (i + 1) steps))) is
+    taken is = ap (filter p) (drop_item steps i x h e) ∙ ap (λ b. cond b (x ∷ filter p (drop (i + 1) steps)) (filter p (drop (i + 1) steps))) is
 
     pub next_behind : (at : ℕ) → p x ≡ false → IsNext p steps (i + 1) at → IsNext p steps i at
     next_behind at is n = record { within = n.within; skipped = passed_over is ∙ n.skipped; here = n.here }

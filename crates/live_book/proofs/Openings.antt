@@ -3,11 +3,11 @@ use Rattle.std.proofs.Common.{◌≡◌, ℕ, zero, suc, ◌+◌, ◌<◌, ◌�
 use Rattle.std.proofs.Math.ListN.{drop_of_length-le}
 use Rattle.std.proofs.lemmas.List.{drop_more}
 use Rattle.std.specs.Option.{option_map}
+use Rattle.lemmas.proofs.Lists.{drop_item}
 use Rattle.br_model.specs.declared.steps.Step.{Step}
 use Rattle.br_model.specs.declared.steps.Step.TheVariants.{Publish}
 use Rattle.br_model.specs.Program.LiveRun.{Parts, ends_with_publish, is_publish, parts_at, with_first}
 use Rattle.br_model.specs.Program.SameSteps.{same_step}
-use Rattle.live_book.proofs.Places.{drop_at}
 
 -- where the first part of what stands behind so many steps ends
 abbrev pub end_from : ℕ → Option Parts → Option ℕ
@@ -50,7 +50,7 @@ module _ (opening steps : List Step) (taken place : ℕ) where
     at_step : (b c : Bool) → same_step s o ≡ b → is_publish s ≡ c → end_from place (goes s o (drop (taken + 1) opening) (drop (place + 1) steps) b c) ≡ end_from 0 (parts_at opening steps)
     at_step b c e f =
         sym (ap₂ (λ b c. end_from place (goes s o (drop (taken + 1) opening) (drop (place + 1) steps) b c)) e f)
-        ∙ sym (ap₂ (λ o s. end_from place (parts_at o s)) (drop_at opening taken o in_opening o_is) (drop_at steps place s in_steps s_is))
+        ∙ sym (ap₂ (λ o s. end_from place (parts_at o s)) (drop_item opening taken o in_opening o_is) (drop_item steps place s in_steps s_is))
         ∙ come
 
     pub matched : same_step s o ≡ true → end_from (place + 1) (parts_at (drop (taken + 1) opening) (drop (place + 1) steps)) ≡ end_from 0 (parts_at opening steps)
@@ -58,7 +58,7 @@ module _ (opening steps : List Step) (taken place : ℕ) where
 
     pub skipped : same_step s o ≡ false → is_publish s ≡ true → end_from (place + 1) (parts_at (drop taken opening) (drop (place + 1) steps)) ≡ end_from 0 (parts_at opening steps)
     skipped e f =
-        ap (λ l. end_from (place + 1) (parts_at l (drop (place + 1) steps))) (drop_at opening taken o in_opening o_is)
+        ap (λ l. end_from (place + 1) (parts_at l (drop (place + 1) steps))) (drop_item opening taken o in_opening o_is)
         ∙ sym (one_more place s (parts_at (o ∷ drop (taken + 1) opening) (drop (place + 1) steps)))
         ∙ at_step false true e f
 

@@ -1,20 +1,17 @@
 -- The place of the first step that passes a test, from a place on.
-use Rattle.std.proofs.Common.{◌≡◌, ℕ, ◌+◌, ◌<◌, ◌≤◌, Bool, true, false, not, cond, List, ◌∷◌, length, drop, get_or, sym, ap, ◌∙◌, arith}
+use Rattle.std.proofs.Common.{◌≡◌, ℕ, ◌+◌, ◌<◌, ◌≤◌, Bool, true, false, not, cond, List, length, drop, get_or, ap, ◌∙◌, arith}
 use Rattle.std.proofs.Math.ListN.{drop_of_length-le}
-use Rattle.std.proofs.lemmas.List.{drop_more}
 use Rattle.std.specs.List.{position_or_len}
+use Rattle.lemmas.proofs.Lists.{drop_item}
 use Rattle.br_model.specs.declared.steps.Step.{Step}
 
 -- from one place on; none such is the length
 abbrev pub place_from : (Step → Bool) → List Step → ℕ → ℕ
 place_from p steps from = from + position_or_len p (drop from steps)
 
-pub drop_at : {X : Type 0} (xs : List X) (i : ℕ) (x : X) → i < length xs → x ≡ get_or xs i x → drop i xs ≡ x ∷ drop (i + 1) xs
-drop_at xs i x h e = drop_more xs i x h ∙ ap (λ y. y ∷ drop (i + 1) xs) (sym e)
-
 module _ (p : Step → Bool) (xs : List Step) (i : ℕ) where
   at_first : (x : Step) (b : Bool) → i < length xs → x ≡ get_or xs i x → p x ≡ b → place_from p xs i ≡ i + cond (not b) (1 + position_or_len p (drop (i + 1) xs)) 0
-  at_first x b h e is = ap (λ l. i + position_or_len p l) (drop_at xs i x h e) ∙ ap (λ b. i + cond (not b) (1 + position_or_len p (drop (i + 1) xs)) 0) is
+  at_first x b h e is = ap (λ l. i + position_or_len p l) (drop_item xs i x h e) ∙ ap (λ b. i + cond (not b) (1 + position_or_len p (drop (i + 1) xs)) 0) is
 
   pub place_here : (x : Step) → i < length xs → x ≡ get_or xs i x → p x ≡ true → place_from p xs i ≡ i
   place_here x h e is = let last : i + 0 ≡ i = omega arith in at_first x true h e is ∙ last

@@ -1,38 +1,17 @@
 -- The chips that have reports left, looked up by their domains.
-use Rattle.std.proofs.Common.{◌≡◌, ℕ, ◌==◌, Bool, true, false, ◌||◌, cond, List, [], ◌∷◌, map, Some, refl, sym, ap, ap₂, ◌∙◌, arith, subst}
+use Rattle.std.proofs.Common.{◌≡◌, ℕ, ◌==◌, Bool, true, false, ◌||◌, cond, List, [], ◌∷◌, map, Some, refl, sym, ap, ◌∙◌, arith, subst}
 use Rattle.std.proofs.lemmas.Bool.{eq-eqb, false≢true}
 use Rattle.std.specs.List.{filter, list_any}
 use Rattle.br_model.specs.declared.steps.Step.{Step}
 use Rattle.br_model.specs.Plane.Chip.{Chip, chip_in}
 use Rattle.br_model.specs.Plane.Runs.{run}
 use Rattle.br_model.specs.Plane.World.{chip_at}
-use Rattle.br_model.specs.Table.Domains.{Domains, chip_domains, first_chip_domain}
+use Rattle.br_model.specs.Table.Domains.{chip_domains}
 use Rattle.br_model.specs.Table.Setup.{Setup}
 use Rattle.br_model.proofs.Plane.Applied.{run-setup, run-world}
 use Rattle.br_model.proofs.Plane.Chips.{doms}
+use Rattle.br_model.proofs.Plane.ByDomain.{Differ, all_differ}
 use Rattle.live_book.specs.Ends.{has_reports, has_reports_at, reporting}
-
-abbrev Differ : List ℕ → Type 0
-Differ [] = Unit {0}
-Differ (d ∷ ds) = (list_any (λ e. e == d) ds ≡ false) × Differ ds
-
-none_of : (p q : ℕ → Bool) (ds : List ℕ) → list_any q ds ≡ false → list_any q (filter p ds) ≡ false
-none_of p q [] h = refl
-none_of p q (d ∷ ds) h = elim (p d) as (λ b. list_any q (cond b (d ∷ filter p ds) (filter p ds)) ≡ false) [
-  | true ↦ ap₂ (λ a b. a || b) (neither (q d) (list_any q ds) h).0 (none_of p q ds (neither (q d) (list_any q ds) h).1)
-  | false ↦ none_of p q ds (neither (q d) (list_any q ds) h).1
-]
-  where
-    neither : (a b : Bool) → (a || b) ≡ false → (a ≡ false) × (b ≡ false)
-    neither true b h = absurd (false≢true (sym h))
-    neither false b h = (refl, h)
-
-still_differ : (p : ℕ → Bool) (ds : List ℕ) → Differ ds → Differ (filter p ds)
-still_differ p [] h = tt
-still_differ p (d ∷ ds) h = elim (p d) as (λ b. Differ (cond b (d ∷ filter p ds) (filter p ds))) [
-  | true ↦ (none_of p (λ e. e == d) ds h.0, still_differ p ds h.1)
-  | false ↦ still_differ p ds h.1
-]
 
 -- a chip of another domain in front of those in which one is looked for
 past_it : (c : Chip) (chips : List Chip) (ds : List ℕ) → list_any (λ e. e == c.dom) ds ≡ false
@@ -61,10 +40,6 @@ looked_up (c ∷ chips) h =
     ∙ ap (λ (l : List ℕ). cond (has_reports c) (c.dom ∷ l) l) (looked_up chips h.1 ∙ sym (past_it c chips (doms chips) h.0))
     ∙ ap (λ b. cond (has_reports_at (cond b (Some c) (chip_in chips c.dom))) (c.dom ∷ filter (λ d. has_reports_at (chip_in (c ∷ chips) d)) (doms chips)) (filter (λ d. has_reports_at (chip_in (c ∷ chips) d)) (doms chips)))
     (sym (eq-eqb c.dom c.dom refl))
-
-all_differ : (domains : Domains) → Differ (chip_domains domains)
-all_differ domains =
-    still_differ (λ d. (d == first_chip_domain) || list_any (λ e. e == d) (map (λ e. e.1) domains.ports)) (1 ∷ 2 ∷ 3 ∷ 4 ∷ []) (refl, (refl, (refl, (refl, tt))))
 
 pub reporting_is : (setup : Setup) (steps : List Step) → reporting (run setup steps).0 ≡ filter (λ d. has_reports_at (chip_at (run setup steps).0 d)) (chip_domains setup.domains)
 reporting_is setup steps =

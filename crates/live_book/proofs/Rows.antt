@@ -4,11 +4,11 @@ use Rattle.std.proofs.Math.ListN.{drop_of_length-le}
 use Rattle.std.specs.List.{fold, list_all}
 use Rattle.std.proofs.lemmas.List.Folds.{list_all-append}
 use Rattle.std.proofs.lemmas.List.Sums.{fold-append}
+use Rattle.lemmas.proofs.Lists.{drop_item}
 use Rattle.br_model.specs.declared.transcript.Line.{Line}
 use Rattle.transcript_lines.specs.declared.row.Row.{Row}
 use Rattle.transcript_lines.specs.Rows.{expand, expand_row, sent_lines}
 use Rattle.live_book.specs.Reading.{is_published, refused_after}
-use Rattle.live_book.proofs.Places.{drop_at}
 
 pub sent_published : (may : ℕ → Bool) (id : ℕ) (ports untagged plain tagged : List ℕ) → list_all (is_published may) (sent_lines id ports untagged plain tagged) ≡ true
 sent_published may id [] untagged plain tagged = refl
@@ -20,15 +20,15 @@ sent_after is_report before id (port ∷ ports) untagged plain tagged = sent_aft
 
 module _ (arena : List ℕ) (rows : List Row) (i : ℕ) (row : Row) (h : i < length rows) (e : row ≡ get_or rows i row) where
   pub all_at_row : (p : Line → Bool) → list_all p (expand arena (drop i rows)) ≡ (list_all p (expand_row arena row) && list_all p (expand arena (drop (i + 1) rows)))
-  all_at_row p = ap (λ l. list_all p (expand arena l)) (drop_at rows i row h e) ∙ list_all-append p (expand_row arena row) (expand arena (drop (i + 1) rows))
+  all_at_row p = ap (λ l. list_all p (expand arena l)) (drop_item rows i row h e) ∙ list_all-append p (expand_row arena row) (expand arena (drop (i + 1) rows))
 
   pub fold_at_row : (f : Bool → Line → Bool) (b : Bool) → fold f b (expand arena (drop i rows)) ≡ fold f (fold f b (expand_row arena row)) (expand arena (drop (i + 1) rows))
-  fold_at_row f b = ap (λ l. fold f b (expand arena l)) (drop_at rows i row h e) ∙ fold-append f b (expand_row arena row) (expand arena (drop (i + 1) rows))
+  fold_at_row f b = ap (λ l. fold f b (expand arena l)) (drop_item rows i row h e) ∙ fold-append f b (expand_row arena row) (expand arena (drop (i + 1) rows))
 
 -- a walk over a list whose items have to pass
 module _ {X : Type 0} (p : X → Bool) (xs : List X) (i : ℕ) (x : X) (h : i < length xs) (e : x ≡ get_or xs i x) (so_far : list_all p (drop i xs) ≡ list_all p xs) where
   at_item : (b : Bool) → p x ≡ b → (b && list_all p (drop (i + 1) xs)) ≡ list_all p xs
-  at_item b is = sym (ap (list_all p) (drop_at xs i x h e) ∙ ap (λ b. b && list_all p (drop (i + 1) xs)) is) ∙ so_far
+  at_item b is = sym (ap (list_all p) (drop_item xs i x h e) ∙ ap (λ b. b && list_all p (drop (i + 1) xs)) is) ∙ so_far
 
   pub passes : p x ≡ true → list_all p (drop (i + 1) xs) ≡ list_all p xs
   passes is = at_item true is

@@ -6,6 +6,8 @@ use Rattle.std.specs.declared.result.Result.{Result}
 use Rattle.std.specs.declared.result.Result.TheVariants.{Ok, Err}
 use Rattle.std.proofs.lemmas.List.Folds.{list_all-append, list_any-append}
 use Rattle.std.proofs.lemmas.List.Sums.{fold-append}
+use Rattle.lemmas.proofs.Numbers.{ltb-itself}
+use Rattle.lemmas.proofs.Tests.{or-false}
 use Rattle.br_model.specs.declared.bpdu.BpduMsg.{BpduMsg}
 use Rattle.br_model.specs.declared.change.Change.{Change}
 use Rattle.br_model.specs.declared.frame.Class.{Class}
@@ -60,16 +62,13 @@ pub record Told (number : ℕ) (history : List Change) (y : Stepped) : Type 0 wh
   pub published : (may : ℕ → Bool) → list_all (is_published may) y.1 ≡ (not (nat_lt (length history) (length y.0.history)) || may number)
   pub kept : (is_report : ℕ → Bool) (b : Bool) → is_report number ≡ false → fold (refused_after is_report) b y.1 ≡ b
 
-not_less : (n : ℕ) → nat_lt n n ≡ false
-not_less n = grind arith
-
 grown : (a b : ℕ) → (b == 0) ≡ not (nat_lt a (a + b))
 grown a b = grind arith
 
 -- where nothing is accepted
 unchanged : (history after : List Change) (c : Bool) → after ≡ history → (not (nat_lt (length history) (length after)) || c) ≡ true
 unchanged history after c same =
-    ap (λ (h : List Change). not (nat_lt (length history) (length h)) || c) same ∙ ap (λ b. not b || c) (not_less (length history))
+    ap (λ (h : List Change). not (nat_lt (length history) (length h)) || c) same ∙ ap (λ b. not b || c) (ltb-itself (length history))
 
 silent : (number : ℕ) (history : List Change) (y : Stepped) → y.0.steps ≡ number → y.0.history ≡ history → Quiet y.1 → Told number history y
 silent number history y steps same q = record {
@@ -186,13 +185,9 @@ none_full own (x ∷ messages) = none_full own messages
 abbrev Says : ℕ → List Line → Type 0
 Says number told = (is_report : ℕ → Bool) (b : Bool) → is_report number ≡ true → fold (refused_after is_report) b told ≡ list_any says_full told
 
-or_nothing : (b : Bool) → b ≡ (b || false)
-or_nothing true = refl
-or_nothing false = refl
-
 says_refused : (w : World) (why : Refusal) → Says w.steps (refused w why).1
 says_refused w why is_report b own =
-    ap (λ c. cond c (refusal_number why == refusal_number HistoryFull) b) own ∙ or_nothing (refusal_number why == refusal_number HistoryFull)
+    ap (λ c. cond c (refusal_number why == refusal_number HistoryFull) b) own ∙ sym (or-false (refusal_number why == refusal_number HistoryFull))
 
 says_answered : (w v : World) (r : Result Reaction Refusal) → v.steps ≡ w.steps → Says w.steps (answered w v r).1
 says_answered w v (Err why) steps = says_refused w why

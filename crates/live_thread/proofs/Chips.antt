@@ -1,7 +1,8 @@
 -- What reports, turns and publications leave of the chips.
-use Rattle.std.proofs.Common.{◌≡◌, ℕ, ◌+◌, ◌-◌, ◌<◌, ◌≤◌, ◌==◌, Bool, true, false, ◌&&◌, ◌||◌, cond, if◌then◌else◌, List, [], ◌∷◌, map, Option, None, Some, IfSome, Result, Ok, Err, refl, sym, ◌∙◌, ap, ap₂, subst, arith, is_some, option_map}
-use Rattle.std.proofs.lemmas.Bool.{eqb-true, eq-eqb, false≢true}
-use Rattle.std.specs.List.{filter, list_all, list_any, sum_by}
+use Rattle.std.proofs.Common.{◌≡◌, ℕ, ◌+◌, ◌-◌, ◌<◌, ◌≤◌, ◌==◌, Bool, true, false, ◌&&◌, ◌||◌, cond, if◌then◌else◌, List, [], ◌∷◌, Option, None, Some, IfSome, Result, Ok, Err, refl, sym, ◌∙◌, ap, subst, arith, is_some, option_map}
+use Rattle.std.proofs.lemmas.Bool.{eqb-true, eq-eqb, and_from}
+use Rattle.std.specs.List.{list_all, list_any, sum_by}
+use Rattle.lemmas.proofs.Lists.{any-filter_none}
 use Rattle.br_model.specs.declared.change.Asks.{Asks}
 use Rattle.br_model.specs.declared.change.Asks.TheVariants.{Nothing, State, GroupRoom, AddressRoom}
 use Rattle.br_model.specs.declared.change.Change.{Change}
@@ -22,43 +23,16 @@ use Rattle.br_model.specs.Plane.World.{World, Stepped, answered, chip_at, next_o
 use Rattle.br_model.specs.Table.Change.{asks}
 use Rattle.br_model.specs.Table.Table.{table}
 use Rattle.br_model.specs.Table.Cut.{deferred_count}
-use Rattle.br_model.specs.Table.Domains.{Domains, chip_domains, first_chip_domain, has_chip}
+use Rattle.br_model.specs.Table.Domains.{Domains, has_chip}
 use Rattle.br_model.proofs.Table.Cuts.{deferred_at-there}
 use Rattle.br_model.proofs.Plane.Chips.{chip-dom, chip-there, doms, put-other, put-same}
+use Rattle.br_model.proofs.Plane.ByDomain.{Differ, exists}
 
 -- Each chip is found by its domain.
 
-abbrev pub Differ : List ℕ → Type 0
-Differ [] = Unit {0}
-Differ (d ∷ ds) = (list_any (λ e. e == d) ds ≡ false) × Differ ds
-
-neither : (a b : Bool) → (a || b) ≡ false → (a ≡ false) × (b ≡ false)
-neither true b h = absurd (false≢true (sym h))
-neither false b h = (refl, h)
-
-none_of : (p q : ℕ → Bool) (ds : List ℕ) → list_any q ds ≡ false → list_any q (filter p ds) ≡ false
-none_of p q [] h = refl
-none_of p q (d ∷ ds) h = elim (p d) as (λ b. list_any q (cond b (d ∷ filter p ds) (filter p ds)) ≡ false) [
-  | true ↦ ap₂ (λ a b. a || b) (neither (q d) (list_any q ds) h).0 (none_of p q ds (neither (q d) (list_any q ds) h).1)
-  | false ↦ none_of p q ds (neither (q d) (list_any q ds) h).1
-]
-
-still_differ : (p : ℕ → Bool) (ds : List ℕ) → Differ ds → Differ (filter p ds)
-still_differ p [] h = tt
-still_differ p (d ∷ ds) h = elim (p d) as (λ b. Differ (cond b (d ∷ filter p ds) (filter p ds))) [
-  | true ↦ (none_of p (λ e. e == d) ds h.0, still_differ p ds h.1)
-  | false ↦ still_differ p ds h.1
-]
-
-abbrev exists : Domains → ℕ → Bool
-exists domains d = (d == first_chip_domain) || list_any (λ e. e == d) (map (λ e. e.1) domains.ports)
-
-pub all_differ : (domains : Domains) → Differ (chip_domains domains)
-all_differ domains = still_differ (exists domains) (1 ∷ 2 ∷ 3 ∷ 4 ∷ []) (refl, (refl, (refl, (refl, tt))))
-
 -- the domains of chips are small numbers
 pub no_chip : (domains : Domains) (d : ℕ) → 5 ≤ d → has_chip domains d ≡ false
-no_chip domains d h = none_of (exists domains) (λ e. e == d) (1 ∷ 2 ∷ 3 ∷ 4 ∷ []) (large d h)
+no_chip domains d h = any-filter_none (exists domains) (λ e. e == d) (1 ∷ 2 ∷ 3 ∷ 4 ∷ []) (large d h)
   where
     apart : (k d : ℕ) → k < d → (k == d) ≡ false
     apart k d h = grind arith
@@ -81,15 +55,11 @@ none_there P (Some c) e = absurd (cc)
 pub no_chip_there : (P : Chip → Type 0) (o : Option Chip) → is_some o ≡ false → IfSome o P
 no_chip_there P o e = none_there P o e
 
-both : (a b : Bool) → a ≡ true → b ≡ true → (a && b) ≡ true
-both true b h e = e
-both false b h e = absurd (cc)
-
 -- what holds of the chip of each domain holds of all chips
 pub all_chips : (P : Chip → Bool) (chips : List Chip) → Differ (doms chips) → ((d : ℕ) → IfSome (chip_in chips d) (λ c. P c ≡ true)) → list_all P chips ≡ true
 all_chips P [] differ h = refl
 all_chips P (c ∷ chips) differ h =
-    both (P c) (list_all P chips)
+    and_from (P c) (list_all P chips)
     (if_some (λ (x : Chip). P x ≡ true) (chip_in (c ∷ chips) c.dom) c (ap (λ b. cond b (Some c) (chip_in chips c.dom)) (eq-eqb c.dom c.dom refl)) (h c.dom))
     (all_chips P chips differ.1 (λ d. by d (c.dom == d) refl (h d)))
   where

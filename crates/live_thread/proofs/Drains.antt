@@ -3,6 +3,7 @@ use Rattle.std.proofs.Common.{◌≡◌, ℕ, ◌+◌, ◌<◌, ◌==◌, Bool, 
 use Rattle.std.proofs.lemmas.Bool.{eq-eqb}
 use Rattle.std.specs.List.{list_all}
 use Rattle.std.proofs.lemmas.List.Folds.{list_all-append}
+use Rattle.std.proofs.lemmas.List.{nil_from_length}
 use Rattle.br_model.specs.declared.steps.Step.{Step}
 use Rattle.br_model.specs.declared.steps.Step.TheVariants.{Publish, Report, Serve, Turn}
 use Rattle.br_model.specs.Plane.Chip.{Chip}
@@ -17,11 +18,12 @@ use Rattle.br_model.specs.declared.steps.Event.TheVariants as events
 use Rattle.br_model.proofs.Plane.Applied.{run-chips}
 use Rattle.br_model.proofs.Plane.Chips.{doms}
 use Rattle.br_model.proofs.Plane.Stays.{step-held}
+use Rattle.br_model.proofs.Plane.ByDomain.{Differ, all_differ}
 use Rattle.plane_record.specs.Pasts.{Past, after, world_of}
 use Rattle.plane_record.proofs.Recording.{world-after, world-setup, world-stands}
 use Rattle.live_thread.specs.Draining.{Drained, Drains, HasTold, HasTurned, Keeps}
 use Rattle.live_thread.specs.Worlds.{IsIdle}
-use Rattle.live_thread.proofs.Chips.{Differ, all_chips, all_differ, answered_waiting, no_chip_there, report_waiting, sum_none, turn_waiting}
+use Rattle.live_thread.proofs.Chips.{all_chips, answered_waiting, no_chip_there, report_waiting, sum_none, turn_waiting}
 use Rattle.live_thread.proofs.Takings.{behind_both}
 use Rattle.live_thread.proofs.Telling.{told_by_publish, turned_by_publish}
 
@@ -82,12 +84,8 @@ one_served p h =
 pub serve_held : (p : Past) → (world_of p).held ≡ [] → (world_of (after p Serve)).held ≡ []
 serve_held p h = ap (λ (w : World). w.held) (world-after p Serve) ∙ (step-held (world_of p) Serve ∙ h)
 
-none_long : {A : Type 0} (xs : List A) → length xs ≡ 0 → xs ≡ []
-none_long [] h = refl
-none_long (x ∷ xs) h = absurd (omega (arith, h))
-
 pub idle_now : (p : Past) (n : ℕ) → n ≡ length (world_of p).waiting → n ≡ 0 → (world_of p).held ≡ [] → IsIdle (world_of p)
-idle_now p n is none held = record { waiting = none_long (world_of p).waiting (sym is ∙ none); held = held }
+idle_now p n is none held = record { waiting = nil_from_length (world_of p).waiting (sym is ∙ none); held = held }
 
 pub idle_kept : (p q : Past) → Keeps p q → IsIdle (world_of p) → IsIdle (world_of q)
 idle_kept p q k i = record { waiting = k.waiting ∙ i.waiting; held = k.held ∙ i.held }

@@ -12,12 +12,13 @@ use Rattle.br_model.specs.Table.Setup.{Setup}
 use Rattle.br_model.specs.Text.Scenario.{Scenario}
 use Rattle.br_model.specs.Theorems.LiveRuns.{IsLiveRun}
 use Rattle.br_model.proofs.Program.LiveRuns.{is_live}
+use Rattle.br_model.proofs.Plane.Worlds.{worlds, run_worlds}
 use Rattle.std.specs.Cmp.{first_so, second_so}
 use Rattle.plane_record.specs.Pasts.{Past, world_of}
 use Rattle.live_thread.specs.Draining.{Drained}
 use Rattle.live_thread.specs.Taking.{Takes, behind}
 use Rattle.live_thread.proofs.Openings.{all_kept}
-use Rattle.live_thread.proofs.Runs.{at_once, run_more, worlds}
+use Rattle.live_thread.proofs.Runs.{at_once}
 
 -- the drain has no frame and no step that keeps its order
 
@@ -66,7 +67,7 @@ module _ (p q r t : Past) (sc : Scenario) (none : p.steps ≡ []) (opened : q �
 
   opened_world : (before : List Step) → (run (setup_of sc.roster) (first ++ before)).0 ≡ worlds (world_of q) before
   opened_world before =
-      run_more (setup_of sc.roster) first before
+      run_worlds (setup_of sc.roster) first before
       ∙ ap₂ (λ (x : Setup) (l : List Step). worlds (run x l).0 before) (sym of_scenario) (sym opened_steps)
 
   frames_are : (port : ℕ) → frames_at port later ≡ frames_at port (from_frame sc.steps)

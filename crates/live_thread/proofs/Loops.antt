@@ -1,5 +1,6 @@
 -- What the loops keep, and how one time more of each keeps it.
 use Rattle.std.proofs.Common.{◌≡◌, ◌≢◌, ℕ, ◌+◌, ◌<◌, ◌≤◌, Bool, true, false, List, [], ◌∷◌, refl, sym, ◌∙◌, ap, subst, arith, nat_lt}
+use Rattle.std.proofs.Math.Nat.{ne_of_lt}
 use Rattle.br_model.specs.declared.steps.Step.{Step}
 use Rattle.br_model.specs.declared.steps.Step.TheVariants.{Report, Serve, Turn}
 use Rattle.br_model.specs.Program.LiveRun.{from_frame, is_frame, until_frame}
@@ -132,15 +133,12 @@ each_more P n d h below at = by (nat_lt d n) refl
 pub reports_none : (p : Past) → ReportsBelow p p 0
 reports_none p = record { drains = drains_none p; keeps = keeps_none p; told = λ d h. absurd (omega (arith, h)) }
 
-apart : (d n : ℕ) → d < n → d ≢ n
-apart d n h e = absurd (omega (arith, h, e))
-
 pub reports_chip : (start now next : Past) (n : ℕ) → Drains now next → Keeps now next → HasTold next n → ((d : ℕ) → d ≢ n → HasTold now d → HasTold next d) → ReportsBelow start now n
     → ReportsBelow start next (n + 1)
 reports_chip start now next n drains keeps at others r = record {
   drains = drains_both start now next r.drains drains;
   keeps = keeps_both start now next r.keeps keeps;
-  told = λ d h. each_more (HasTold next) n d h (λ less. others d (apart d n less) (r.told d less)) at;
+  told = λ d h. each_more (HasTold next) n d h (λ less. others d (ne_of_lt less) (r.told d less)) at;
 }
 
 pub reports_past : (start now : Past) (domains : Domains) (n : ℕ) → start.setup.domains ≡ domains → has_chip domains n ≡ false → ReportsBelow start now n → ReportsBelow start now (n + 1)
@@ -172,7 +170,7 @@ turns_chip start now next n drains keeps told at others r = record {
   drains = drains_both start now next r.drains drains;
   keeps = keeps_both start now next r.keeps keeps;
   told = λ d h. told d (r.told d h);
-  turned = λ d h. each_more (HasTurned next) n d h (λ less. others d (apart d n less) (r.turned d less)) at;
+  turned = λ d h. each_more (HasTurned next) n d h (λ less. others d (ne_of_lt less) (r.turned d less)) at;
 }
 
 pub turns_past : (start now : Past) (domains : Domains) (n : ℕ) → start.setup.domains ≡ domains → has_chip domains n ≡ false → TurnsBelow start now n → TurnsBelow start now (n + 1)

@@ -1,27 +1,13 @@
 -- Worlds of a run, step by step, and what is published in them.
 use Rattle.std.proofs.Common.{◌≡◌, ℕ, zero, suc, drop, Bool, true, false, List, [], ◌∷◌, ◌++◌, refl, sym, ◌∙◌, ap, subst, length, nat_lt, true≢false, arith}
 use Rattle.std.specs.Cmp.{second_so}
-use Rattle.std.specs.List.{fold, list_all}
-use Rattle.std.proofs.lemmas.List.Sums.{fold-append}
+use Rattle.std.specs.List.{list_all}
 use Rattle.br_model.specs.declared.steps.Step.{Step}
-use Rattle.br_model.specs.Plane.Runs.{run, then_step}
 use Rattle.br_model.specs.Plane.Steps.{world_step}
-use Rattle.br_model.specs.Plane.World.{World, Stepped, first_world}
+use Rattle.br_model.specs.Plane.World.{World}
 use Rattle.br_model.specs.Program.LiveRun.{accepts_changes, begins_with_publish, may_drain}
-use Rattle.br_model.specs.Table.Setup.{Setup}
+use Rattle.br_model.proofs.Plane.Worlds.{worlds, drains_later}
 use Rattle.live_thread.specs.Worlds.{ArePublished}
-
-abbrev pub worlds : World → List Step → World
-worlds w steps = fold (λ w s. (world_step w s).0) w steps
-
-stepped_worlds : (x : Stepped) (steps : List Step) → (fold then_step x steps).0 ≡ worlds x.0 steps
-stepped_worlds x [] = refl
-stepped_worlds x (s ∷ steps) = stepped_worlds (then_step x s) steps
-
-pub run_more : (setup : Setup) (first more : List Step) → (run setup (first ++ more)).0 ≡ worlds (run setup first).0 more
-unfolding run
-run_more setup first more =
-    ap (λ (x : Stepped). x.0) (fold-append then_step (first_world setup, []) first more) ∙ stepped_worlds (fold then_step (first_world setup, []) first) more
 
 -- what is published of steps, and of others behind them
 
@@ -32,10 +18,6 @@ begins_more (s ∷ xs) ys h = h
 pub published_both : (w : World) (xs ys : List Step) → ArePublished w xs → ArePublished (worlds w xs) ys → ArePublished w (xs ++ ys)
 published_both w [] ys a b = b
 published_both w (s ∷ xs) ys a b = ((λ accepts. begins_more xs ys (a.0 accepts)), published_both (world_step w s).0 xs ys a.1 b)
-
-drains_later : (before rest : List Step) → list_all may_drain (before ++ rest) ≡ true → list_all may_drain rest ≡ true
-drains_later [] rest h = h
-drains_later (s ∷ before) rest h = drains_later before rest (second_so (may_drain s) (list_all may_drain (before ++ rest)) h)
 
 -- a step before the drain that accepts changes is directly followed by a publication
 pub at_once : (w : World) (done drain before : List Step) (s : Step) (after : List Step) → ArePublished w done → list_all may_drain drain ≡ true → done ++ drain ≡ before ++ s ∷ after

@@ -1,9 +1,9 @@
 -- What calls say of the plane of a past, of the past itself.
 use Rattle.std.proofs.Common.{◌≡◌, ◌≢◌, ℕ, ◌+◌, ◌<◌, Bool, true, false, List, [], length, Option, Some, refl, sym, ◌∙◌, ap, subst, option_map}
-use Rattle.std.proofs.Common.{◌∷◌, ◌-◌, ◌≤◌, arith, drop, get_or, length-drop, slice_get, take}
-use Rattle.std.proofs.lemmas.List.{drop_more, take_all}
+use Rattle.std.proofs.Common.{◌∷◌, ◌≤◌, arith, drop, get_or, slice_get}
 use Rattle.std.specs.Cmp.{first_so, second_so}
 use Rattle.std.specs.List.{list_all}
+use Rattle.lemmas.proofs.Lists.{drop_item}
 use Rattle.br_model.specs.Control.Learning.{Triple}
 use Rattle.br_model.specs.Plane.Runs.{pending_of, run}
 use Rattle.br_model.specs.Plane.World.{Stepped, chip_at}
@@ -61,13 +61,9 @@ turns_none_there start now domains dom n same own none r = subst (λ k. TurnsBel
 pub has_own : (start now : Past) (domains : Domains) (dom : ℕ) → Drains start now → start.setup.domains ≡ domains → has_chip domains dom ≡ true → has_chip now.setup.domains dom ≡ true
 has_own start now domains dom d own there = still_has start now dom d (ap (λ (x : Domains). has_chip x dom) own ∙ there)
 
--- what is left from a place on, of which this is the first
-pub dropped_at : {X : Type 0} (xs : List X) (i : ℕ) (x : X) → i < length xs → x ≡ get_or xs i x → drop i xs ≡ x ∷ drop (i + 1) xs
-dropped_at xs i x h e = drop_more xs i x h ∙ ap (λ y. y ∷ drop (i + 1) xs) (sym e)
-
 module _ {X : Type 0} (f : X → Bool) (xs : List X) (i : ℕ) (x : X) (there : i < length xs) (is : x ≡ get_or xs i x) (all : list_all f (drop i xs) ≡ true) where
   both : list_all f (x ∷ drop (i + 1) xs) ≡ true
-  both = ap (list_all f) (sym (dropped_at xs i x there is)) ∙ all
+  both = ap (list_all f) (sym (drop_item xs i x there is)) ∙ all
 
   pub first_from : f x ≡ true
   first_from = first_so (f x) (list_all f (drop (i + 1) xs)) both
@@ -78,10 +74,6 @@ module _ {X : Type 0} (f : X → Bool) (xs : List X) (i : ℕ) (x : X) (there : 
 -- before the first step
 pub idle_first : (p : Past) → p.steps ≡ [] → IsIdle (world_of p)
 idle_first p none = subst IsIdle (sym (ap (λ (l : List Step). (run p.setup l).0) none ∙ ap (λ (x : Stepped). x.0) (run_none p.setup))) (record { waiting = refl; held = refl })
-
--- the slice behind a place
-pub behind_place : {X : Type 0} (n : ℕ) (xs : List X) → take (length xs - n) (drop n xs) ≡ drop n xs
-behind_place n xs = take_all (length xs - n) (drop n xs) (let e = length-drop n xs in omega (arith, e))
 
 -- all domains were gone through
 pub reports_five : (start now : Past) (n : ℕ) → 5 ≤ n → ReportsBelow start now n → ReportsBelow start now 5

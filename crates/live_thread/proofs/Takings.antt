@@ -10,16 +10,17 @@ use Rattle.br_model.specs.Plane.World.{World}
 use Rattle.br_model.specs.Program.LiveRun.{accepts_changes, frames_at, is_frame_at, is_ordered}
 use Rattle.br_model.proofs.Plane.Stays.{step-held}
 use Rattle.br_model.proofs.Plane.Still.{rx-history}
+use Rattle.br_model.proofs.Plane.Worlds.{worlds, run_worlds}
 use Rattle.plane_record.specs.Pasts.{acted, changes_of}
 use Rattle.plane_record.specs.Pasts.{Past, after, world_of}
 use Rattle.plane_record.proofs.Recording.{world-after}
 use Rattle.live_thread.specs.Taking.{Takes, behind}
 use Rattle.live_thread.specs.Worlds.{ArePublished}
-use Rattle.live_thread.proofs.Runs.{nothing_to_publish, not_less, published_both, run_more, worlds}
+use Rattle.live_thread.proofs.Runs.{nothing_to_publish, not_less, published_both}
 
 -- the world behind more steps
 pub world_behind : (p q : Past) (steps : List Step) → q ≡ behind p steps → world_of q ≡ worlds (world_of p) steps
-world_behind p q steps e = ap world_of e ∙ run_more p.setup p.steps steps
+world_behind p q steps e = ap world_of e ∙ run_worlds p.setup p.steps steps
 
 pub behind_both : (p q r : Past) (xs ys : List Step) → q ≡ behind p xs → r ≡ behind q ys → r ≡ behind p (xs ++ ys)
 behind_both p q r xs ys e f = f ∙ (ap (λ (x : Past). behind x ys) e ∙ ap (λ (l : List Step). record p { steps = l }) (append_assoc p.steps xs ys))

@@ -1,6 +1,6 @@
 -- What chips have reported, and what they have applied, as a run goes on.
 use Rattle.std.proofs.Common.{◌≡◌, ◌≢◌, ℕ, ◌+◌, ◌-◌, ◌<◌, ◌==◌, Bool, true, false, ◌&&◌, ◌||◌, if◌then◌else◌, List, [], ◌∷◌, ◌++◌, length, Option, None, Some, IfSome, slice_get, refl, sym, ◌∙◌, ap, ap₂, subst, arith, option_map}
-use Rattle.std.proofs.lemmas.Bool.{eqb-true, eq-eqb, false≢true}
+use Rattle.std.proofs.lemmas.Bool.{eqb-true, eq-eqb, false≢true, or_left, or_right}
 use Rattle.std.proofs.lemmas.Map.Keys.{IsDistinct-head}
 use Rattle.std.specs.List.{IsDistinct, list_any}
 use Rattle.br_model.specs.declared.steps.Refusal.TheVariants.{HistoryFull}
@@ -18,11 +18,11 @@ use Rattle.br_model.proofs.Plane.Chips.{chip-dom}
 use Rattle.br_model.proofs.Plane.Kept.{chip-stands}
 use Rattle.br_model.proofs.Plane.Running.{run_none}
 use Rattle.br_model.proofs.Plane.Still.{turn-history}
+use Rattle.br_model.proofs.Plane.Worlds.{worlds, run_worlds as run_more}
 use Rattle.plane_record.specs.Pasts.{Past, after, world_of}
 use Rattle.plane_record.proofs.Recording.{world-after, world-setup, world-stands}
 use Rattle.live_thread.specs.Draining.{HasTold, HasTurned}
 use Rattle.live_thread.proofs.Chips.{Gone, Stays, report_done, report_other, reports_in, turn_applied, turn_other, turn_reports}
-use Rattle.live_thread.proofs.Runs.{run_more, worlds}
 
 -- Whether the last report was refused, a step later.
 refused_push : (dom : ℕ) (w : World) (before : Bool) (steps : List Step) (s : Step)
@@ -100,17 +100,9 @@ none_left : (rs : List Triple) → slice_get rs 0 ≡ None → is_empty rs ≡ t
 none_left [] e = refl
 none_left (x ∷ rs) e = absurd (cc)
 
-or_true : (a b : Bool) → a ≡ true → (a || b) ≡ true
-or_true true b h = refl
-or_true false b h = absurd (cc)
-
-or_second : (a b : Bool) → b ≡ true → (a || b) ≡ true
-or_second true b h = refl
-or_second false b h = h
-
 all_told : (p : Past) (o : Option Chip) → first_of_chip o ≡ Some None → IfSome o (λ c. has_reported p.setup p.steps c ≡ true)
 all_told p None e = tt
-all_told p (Some c) e = let first : slice_get c.reports 0 ≡ None = cc in or_true (is_empty c.reports) (last_refused c.dom (first_world p.setup) false p.steps) (none_left c.reports first)
+all_told p (Some c) e = let first : slice_get c.reports 0 ≡ None = cc in or_left (is_empty c.reports) (last_refused c.dom (first_world p.setup) false p.steps) (none_left c.reports first)
 
 pub told_all : (p : Past) (dom : ℕ) → first_of p dom ≡ Some None → HasTold p dom
 told_all p dom e = all_told p (chip_at (world_of p) dom) e
@@ -160,7 +152,7 @@ module _ (p : Past) (dom : ℕ) (x : Triple) (first : first_of p dom ≡ Some (S
 
   refused_told : (o : Option (List Triple)) → last_refused dom (first_world q.setup) false q.steps ≡ true → ToldAs dom q.setup q.steps o
   refused_told None e = tt
-  refused_told (Some reports) e = or_second (is_empty reports) (last_refused dom (first_world q.setup) false q.steps) e
+  refused_told (Some reports) e = or_right (is_empty reports) (last_refused dom (first_world q.setup) false q.steps) e
 
   stands : IsDistinct same_triple (x ∷ its.later)
   stands = subst (λ (l : List Triple). IsDistinct same_triple l) its.reports (chip-stands w dom its.chip (world-stands p) its.is).reports.ids

@@ -1,8 +1,9 @@
 -- What holds of each step of a scenario holds of each one that a live run takes from it.
-use Rattle.std.proofs.Common.{◌≡◌, ℕ, ◌==◌, Bool, true, false, not, ◌&&◌, ◌||◌, if◌then◌else◌, List, [], ◌∷◌, refl, sym, ap, ap₂, ◌∙◌, arith}
+use Rattle.std.proofs.Common.{◌≡◌, ℕ, Bool, true, false, not, ◌&&◌, ◌||◌, if◌then◌else◌, List, [], ◌∷◌, refl, sym, ap, ap₂, ◌∙◌}
 use Rattle.std.proofs.lemmas.Bool.{true≢false}
 use Rattle.std.proofs.lemmas.List.Folds.{list_all-append}
 use Rattle.std.specs.List.{filter, list_all}
+use Rattle.lemmas.proofs.Numbers.{eqb-itself}
 use Rattle.br_model.specs.declared.steps.Step.{Step}
 use Rattle.br_model.specs.declared.steps.Step.TheVariants.{Rx}
 use Rattle.br_model.specs.Program.LiveRun.{frames_at, from_frame, is_frame, is_frame_at, is_live_run, is_ordered, until_frame}
@@ -25,9 +26,6 @@ both a b e f = ap₂ (λ (x y : Bool). x && y) e f
 or-true : (a : Bool) {b : Bool} → b ≡ true → a || b ≡ true
 or-true true e = refl
 or-true false e = e
-
-same-port : (n : ℕ) → (n == n) ≡ true
-same-port n = grind arith
 
 module _ (p : Step → Bool) where
   abbrev passes : Step → Bool
@@ -84,7 +82,7 @@ module _ (p : Step → Bool) where
   other s xs false none is ordered = ap₂ (λ (frame order : Bool). not (frame || order) || p s) none is
 
   here : (s : Step) (xs : List Step) → ((port : ℕ) → list_all p (frames_at port (s ∷ xs)) ≡ true) → list_all p (filter is_ordered (s ∷ xs)) ≡ true → passes s ≡ true
-  here (Rx port bytes) xs frames ordered = first (is_frame_at port) (Rx port bytes) xs (same-port port) (frames port)
+  here (Rx port bytes) xs frames ordered = first (is_frame_at port) (Rx port bytes) xs (eqb-itself port) (frames port)
   here s xs frames ordered = other s xs (is_ordered s) refl refl ordered
 
   -- the steps behind the first part

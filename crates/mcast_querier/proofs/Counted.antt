@@ -5,6 +5,7 @@ use Rattle.std.specs.Int.{byte_at, bytes_high_first}
 use Rattle.std.specs.List.{list_all}
 use Rattle.std.proofs.lemmas.List.Folds.{list_all-append}
 use Rattle.std.specs.declared.result.Result.TheVariants.{Ok}
+use Rattle.lemmas.proofs.Tests.{and_first}
 use Rattle.br_model.specs.declared.frame.Head.{Head}
 use Rattle.br_model.specs.declared.frame.McastMsg.{McastMsg}
 use Rattle.br_model.specs.declared.frame.McastMsg.TheVariants.{Plain, Payload, Query, Unrecognized}
@@ -32,13 +33,9 @@ four_asks : (own source : ℕ) → asker_in (query_four own source)
 unfolding message
 four_asks own source = refl
 
-first_true : (a b : Bool) → (a && b) ≡ true → (a && true) ≡ true
-first_true true b h = refl
-first_true false b h = h
-
 counted_four : (source : ℕ) → is_host_four source ≡ true → source < 2 ^ 32 → is_counted (number (bytes_high_first 4 source)) 0 ≡ true
 counted_four source host h =
-    ap (λ n. is_counted n 0) (spelled 4 source h) ∙ first_true (not (source == 0)) (not (is_group_four source)) host
+    ap (λ n. is_counted n 0) (spelled 4 source h) ∙ and_first (not (source == 0)) (not (is_group_four source)) host
 
 pub four_is_counted : (own source : ℕ) → is_host_four source ≡ true → source < 2 ^ 32 → message_in (query_four own source) ≡ Some (Query false true)
 four_is_counted own source host h = four_says own source ∙ ap (λ b. Some (Query false b)) (counted_four source host h)

@@ -128,10 +128,10 @@ acts-ascend setup steps = (run-up (first_listening setup) steps (record { ascend
 
 -- Queries.
 
-heard-own : (q : QuerierState) (asker : Asker) (now : ℕ) → (heard_from q asker now).own ≡ q.own
+pub heard-own : (q : QuerierState) (asker : Asker) (now : ℕ) → (heard_from q asker now).own ≡ q.own
 heard-own q asker now = elim (asker.0) as (λ v. (cond v (record q { six = hears q.six asker.1 now }) (record q { four = hears q.four asker.1 now })).own ≡ q.own) [ true ↦ refl | false ↦ refl ]
 
-own-stays : (xs : List Act) (x : Queried) → (fold acted x xs).0.own ≡ x.0.own
+pub own-stays : (xs : List Act) (x : Queried) → (fold acted x xs).0.own ≡ x.0.own
 own-stays [] x = refl
 own-stays (Hears asker now ∷ xs) x = own-stays xs (acted x (Hears asker now)) ∙ heard-own x.0 asker now
 own-stays (Comes now ∷ xs) x = own-stays xs (acted x (Comes now))

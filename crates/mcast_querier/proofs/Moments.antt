@@ -54,16 +54,13 @@ use Rattle.br_model.proofs.Plane.Kept.{Ends, ends_refused, ends_done, ends_answe
 use Rattle.br_model.proofs.Plane.Waiting.{posts_at-either}
 use Rattle.br_model.proofs.Control.ReactionSteps.{IsKept}
 use Rattle.br_model.proofs.Control.SnoopSteps.{snoops-keeps}
+use Rattle.br_model.proofs.Control.Clocks.{sets-now}
 
 -- what a reaction leaves of the moment
 
 keeps_up-now : (k : Control) (c : Change) → (keeps_up k c).now ≡ k.now
 keeps_up-now k (changes.AddrDel vid mac) = refl
 keeps_up-now k c = refl
-
-sets-now : (k : Control) (c : Command) → (sets k c).now ≡ k.now
-sets-now k (commands.Ageing seconds) = refl
-sets-now k c = refl
 
 abbrev At : ℕ → Course → Type 0
 At n r = r.control.now ≡ n

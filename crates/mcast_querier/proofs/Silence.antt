@@ -3,15 +3,10 @@ use Rattle.std.proofs.Common.{◌≡◌, ℕ, ◌+◌, ◌<◌, ◌≤◌, Bool,
 use Rattle.std.specs.Prelude.{nat_lt, nat_le, is_some}
 use Rattle.std.specs.List.{fold}
 use Rattle.std.proofs.lemmas.List.Sums.{fold-append}
+use Rattle.std.proofs.lemmas.Bool.{lt-ltb, lt-leb}
 use Rattle.mcast_querier.specs.Election.{Election, hears, is_due, other_querier_present_interval, passed, queried, queries_at, resumed, resumed_after}
 use Rattle.mcast_querier.specs.Hearing.{Asker}
 use Rattle.mcast_querier.specs.Querier.{Act, Ascend, Comes, Hears, Queried, QuerierState, acted, after, election, heard_from, moment_of}
-
-below : (n m : ℕ) → n < m → nat_lt n m ≡ true
-below n m h = grind arith
-
-not_over : (end now : ℕ) → now < end → nat_le end now ≡ false
-not_over end now h = grind arith
 
 -- another querier is present until this moment at least
 record Present (until : ℕ) (e : Election) : Type 0 where
@@ -30,7 +25,7 @@ hears-keeps until e address now p long =
 stays : (until : ℕ) (e : Election) (now : ℕ) → Present until e → now < until → resumed e now ≡ e
 stays until e now p h =
     let long = p.long in
-    ap (resumed_after e now) p.is ∙ ap (λ b. cond b (record e { other = None; due = now }) e) (not_over p.end now (omega (arith, long, h)))
+    ap (resumed_after e now) p.is ∙ ap (λ b. cond b (record e { other = None; due = now }) e) (lt-leb p.end now (omega (arith, long, h)))
 
 silent : (until : ℕ) (e : Election) (now : ℕ) → Present until e → is_due e now ≡ false
 silent until e now p = ap (λ (o : Option ℕ). not (is_some o) && nat_le e.due now) p.is
@@ -125,7 +120,7 @@ address-stays six (act ∷ acts) x = address-stays six acts (acted x act) ∙ ac
 
 hears-lower : (e : Election) (address now : ℕ) → address < e.address → Present (now + other_querier_present_interval) (hears e address now)
 hears-lower e address now h =
-    subst (λ b. Present (now + other_querier_present_interval) (cond b (record e { other = Some (now + other_querier_present_interval) }) e)) (sym (below address e.address h))
+    subst (λ b. Present (now + other_querier_present_interval) (cond b (record e { other = Some (now + other_querier_present_interval) }) e)) (sym (lt-ltb address e.address h))
     (record { end = now + other_querier_present_interval; is = refl; long = omega arith })
 
 heard-lower : (six : Bool) (q : QuerierState) (address now : ℕ) → address < (election six q).address

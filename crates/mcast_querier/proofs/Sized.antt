@@ -1,7 +1,8 @@
 -- A packet that holds a query holds its source.
 use Rattle.std.proofs.Common.{◌≡◌, ℕ, ◌-◌, ◌≤◌, Bool, true, false, not, cond, List, length, take, drop, refl, sym, subst, arith}
 use Rattle.std.proofs.lemmas.List.{take_all, length-drop}
-use Rattle.std.specs.Prelude.{◌==◌, ◌&&◌, nat_le}
+use Rattle.std.specs.Prelude.{◌==◌, ◌&&◌}
+use Rattle.std.proofs.lemmas.Bool.{leb-true}
 use Rattle.br_model.specs.declared.frame.Head.{Head}
 use Rattle.br_model.specs.declared.frame.McastMsg.{McastMsg}
 use Rattle.br_model.specs.declared.frame.McastMsg.TheVariants.{Plain, Query}
@@ -17,16 +18,13 @@ not_plain : (b six counted : Bool) (rest : McastMsg) → cond (not b) Plain rest
 not_plain true six counted rest h = refl
 not_plain false six counted rest h = absurd (cc (h))
 
-at_most : (n m : ℕ) → nat_le n m ≡ true → n ≤ m
-at_most n m h = grind arith
-
 long_four : (dst first : ℕ) (packet : List ℕ) (six counted : Bool) → message_four dst first packet ≡ Query six counted → 20 ≤ length packet
 long_four dst first packet six counted h =
-    at_most 20 (length packet) (first_of_both _ _ (first_of_both _ _ (not_plain (is_multicast_four dst packet) six counted _ h)))
+    leb-true 20 (length packet) (first_of_both _ _ (first_of_both _ _ (not_plain (is_multicast_four dst packet) six counted _ h)))
 
 long_six : (dst first : ℕ) (packet : List ℕ) (six counted : Bool) → message_six dst first packet ≡ Query six counted → 40 ≤ length packet
 long_six dst first packet six counted h =
-    at_most 40 (length packet) (first_of_both _ _ (first_of_both _ _ (not_plain (is_multicast_six dst packet) six counted _ h)))
+    leb-true 40 (length packet) (first_of_both _ _ (first_of_both _ _ (not_plain (is_multicast_six dst packet) six counted _ h)))
 
 by_kind : (four six : Bool) (a b : McastMsg) (v counted : Bool) (n : ℕ) → (a ≡ Query v counted → 20 ≤ n) → (b ≡ Query v counted → 40 ≤ n)
     → cond four a (cond six b Plain) ≡ Query v counted → cond four 16 24 ≤ n

@@ -1,12 +1,11 @@
 -- Of how many groups each port is a member, through a join and a part.
-use Rattle.std.proofs.Common.{◌≡◌, ◌≢◌, ℕ, zero, suc, ◌+◌, ◌-◌, ◌<◌, ◌≤◌, Bool, true, false, cond, not, Option, Some, None, List, [], ◌∷◌, length, map, get_or, set, replicate, refl, sym, ap, ap₂, subst, ◌∙◌, arith, get_or-set_same, get_or-set_other}
+use Rattle.std.proofs.Common.{◌≡◌, ℕ, suc, ◌+◌, ◌-◌, ◌<◌, ◌≤◌, Bool, true, false, cond, not, Option, Some, None, List, [], ◌∷◌, length, map, get_or, set, replicate, refl, sym, ap, subst, ◌∙◌, arith}
 use Rattle.std.specs.Prelude.{◌==◌, ◌&&◌, ◌||◌, is_some}
 use Rattle.std.specs.List.{filter}
-use Rattle.std.specs.Ordering.{nat_cmp, is_eq, eq_by_cmp, ordering_then}
+use Rattle.std.specs.Ordering.{nat_cmp, is_eq, eq_by_cmp}
 use Rattle.std.specs.declared.cmp.Ordering.{Ordering}
 use Rattle.std.specs.declared.cmp.Ordering.TheVariants.{Less, Equal, Greater}
 use Rattle.std.specs.Cmp.{first_so, second_so}
-use Rattle.std.specs.FinMap.{nat_cmp-IsAntisymmetric}
 use Rattle.std.specs.FinMap.Entries.{by_order}
 use Rattle.std.proofs.Math.ListN.{length-set}
 use Rattle.std.proofs.lemmas.Bool.{eqb-true, eq-eqb}
@@ -16,7 +15,8 @@ use Rattle.br_model.specs.Table.GroupPairs.{GroupPair, max_pairs}
 use Rattle.br_model.specs.Table.Groups.{Membership, membership_cmp, group_cmp}
 use Rattle.br_model.specs.Data.Maps.{get, put, without, is_ascending}
 use Rattle.br_model.specs.Control.Ends.{keys}
-use Rattle.br_model.proofs.Table.GroupOrders.{membership_total, equal_pairs, by_pair}
+use Rattle.br_model.proofs.Table.GroupOrders.{membership_total}
+use Rattle.br_model.proofs.Table.GroupPairs.{equal_members}
 use Rattle.port_sets.specs.Numbers.{has_number}
 use Rattle.mdb_snoop.specs.Counts.{AreCounts}
 use Rattle.mdb_snoop.specs.Database.{pairs_of_port, ports_in}
@@ -24,21 +24,8 @@ use Rattle.mdb_snoop.specs.Places.{Sections, flat, has_some, IsSound}
 use Rattle.mdb_snoop.proofs.Cuts.{get_above, above_from}
 use Rattle.mdb_snoop.proofs.Questions.{pairs-flat}
 use Rattle.std.specs.Ordering.{nat_cmp}
-
-then_equal : (a b : Ordering) → ordering_then a b ≡ Equal → (a ≡ Equal) × (b ≡ Equal)
-then_equal Less b e = absurd (cc (e))
-then_equal Equal b e = (refl, e)
-then_equal Greater b e = absurd (cc (e))
-
-equal_members : (k j : Membership) → membership_cmp k j ≡ Equal → k ≡ j
-equal_members k j e =
-    let parts = then_equal _ _ (sym (by_pair (k.0, k.1) (j.0, j.1) k.2 j.2) ∙ e) in
-    ap₂ (λ (pair : GroupPair) (p : ℕ). (pair.0, pair.1, p)) (equal_pairs (k.0, k.1) (j.0, j.1) parts.0) (nat_cmp-IsAntisymmetric k.2 j.2 parts.1)
-
-is_Equal : (r : Ordering) → is_eq r ≡ true → r ≡ Equal
-is_Equal Less h = absurd (cc (h))
-is_Equal Equal h = refl
-is_Equal Greater h = absurd (cc (h))
+use Rattle.lemmas.proofs.Orders.{is_eq-true}
+use Rattle.lemmas.proofs.Lists.{get_or-zeros, get_or-set_as}
 
 abbrev Members : Type 0
 Members = List (Membership × Option ℕ)
@@ -83,7 +70,7 @@ count-without p (e ∷ m) k h = by (count-without p m k (second_so _ _ h)) (eq_b
     by : count p (without membership_cmp m k) + cond (is_some (get membership_cmp m k)) (one p k) 0 ≡ count p m → (b : Bool) → eq_by_cmp membership_cmp k e.0 ≡ b
         → count p (cond (not b) (e ∷ without membership_cmp m k) (without membership_cmp m k)) + cond (is_some (cond b (Some e.1) (get membership_cmp m k))) (one p k) 0 ≡ count p (e ∷ m)
     by rest true is =
-        let same : k ≡ e.0 = equal_members k e.0 (is_Equal _ is) in
+        let same : k ≡ e.0 = equal_members k e.0 (is_eq-true _ is) in
         let none : get membership_cmp m k ≡ None = ap (get membership_cmp m) same ∙ get_above membership_cmp e.0 m (above_from membership_cmp e.0 e.0 (λ y more. more) m (first_so _ _ h)) in
         let gone : cond (is_some (get membership_cmp m k)) (one p k) 0 ≡ 0 = ap (λ o. cond (is_some o) (one p k) 0) none in
         let port : one p k ≡ one p e.0 = ap (one p) same in
@@ -96,24 +83,11 @@ count-without p (e ∷ m) k h = by (count-without p m k (second_so _ _ h)) (eq_b
 
 -- at the beginning
 
-zeros : (n i : ℕ) → ◌≡◌ {A = ℕ} (get_or (replicate n 0) i 0) 0
-zeros zero i = refl
-zeros (suc n) zero = refl
-zeros (suc n) (suc i) = zeros n i
-
 pub counted-none : (counts : List ℕ) → counts ≡ replicate port_places 0 → AreCounts counts []
 counted-none counts is = record {
   sized = ap length is;
-  counted = λ p. ap (λ (l : List ℕ). get_or l p 0) is ∙ zeros port_places p;
+  counted = λ p. ap (λ (l : List ℕ). get_or l p 0) is ∙ get_or-zeros port_places p;
 }
-
--- what is written at one port, and read at another
-read_at : (counts : List ℕ) (q v p : ℕ) (n : ℕ → ℕ) → q < length counts → v ≡ n q → ((q == p) ≡ false → get_or counts p 0 ≡ n p) → get_or (set counts q v) p 0 ≡ n p
-read_at counts q v p n low here there =
-    elim (q == p) as (λ b. (q == p) ≡ b → get_or (set counts q v) p 0 ≡ n p) [
-      | true ↦ λ e. subst (λ x. get_or (set counts q v) x 0 ≡ n x) (eqb-true q p e) (get_or-set_same counts q v 0 low ∙ here)
-      | false ↦ λ e. (let apart : p ≢ q = λ same. (let t = eq-eqb q p (sym same) in absurd (cc)) in get_or-set_other counts q p v 0 apart ∙ there e)
-    ] refl
 
 not_true : (s : Bool) → true ≡ not s → s ≡ false
 not_true true h = absurd (cc (h))
@@ -126,9 +100,6 @@ not_false false h = absurd (cc (h))
 module _ (counts : List ℕ) (m after : Members) (k : Membership) (are : AreCounts counts (keys m)) (sorted : is_ascending membership_cmp m ≡ true) where
   itself : one k.2 k ≡ 1
   itself = ap (λ b. cond b 1 0) (eq-eqb k.2 k.2 refl)
-
-  there : Bool
-  there = is_some (get membership_cmp m k)
 
   pub counted-join : (new : List ℕ) (x : Option ℕ) (b : Bool) → after ≡ put membership_cmp m k x → b ≡ not (is_some (get membership_cmp m k))
       → new ≡ cond b (set counts k.2 (get_or counts k.2 0 + 1)) counts → k.2 < port_places → AreCounts new (keys after)
@@ -143,7 +114,7 @@ module _ (counts : List ℕ) (m after : Members) (k : Membership) (are : AreCoun
           record {
             sized = length-set counts k.2 (get_or counts k.2 0 + 1) ∙ are.sized;
             counted = λ p.
-                read_at counts k.2 (get_or counts k.2 0 + 1) p (λ q. count q after) (subst (λ n. k.2 < n) (sym are.sized) low)
+                get_or-set_as counts k.2 (get_or counts k.2 0 + 1) p (λ q. count q after) (subst (λ n. k.2 < n) (sym are.sized) low)
                 (let more = grows k.2 in let new = ap (λ s. cond s 0 (one k.2 k)) absent in let all = are.counted k.2 in let self = itself in omega arith)
                 (λ apart. (let more = grows p in let new = ap (λ s. cond s 0 (one p k)) absent in let all = are.counted p in let other : one p k ≡ 0 = ap (λ c. cond c 1 0) apart in omega arith));
           }
@@ -165,7 +136,7 @@ module _ (counts : List ℕ) (m after : Members) (k : Membership) (are : AreCoun
       by true present = record {
         sized = length-set counts k.2 (get_or counts k.2 0 - 1) ∙ are.sized;
         counted = λ p.
-            read_at counts k.2 (get_or counts k.2 0 - 1) p (λ q. count q after) (subst (λ n. k.2 < n) (sym are.sized) low)
+            get_or-set_as counts k.2 (get_or counts k.2 0 - 1) p (λ q. count q after) (subst (λ n. k.2 < n) (sym are.sized) low)
             (let less = shrinks k.2 in let old = ap (λ s. cond s (one k.2 k) 0) (sym present) in let all = are.counted k.2 in let self = itself in omega arith)
             (λ apart. (let less = shrinks p in let old = ap (λ s. cond s (one p k) 0) (sym present) in let all = are.counted p in let other : one p k ≡ 0 = ap (λ c. cond c 1 0) apart in omega arith));
       }

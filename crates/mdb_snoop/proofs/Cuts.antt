@@ -3,24 +3,16 @@ use Rattle.std.proofs.Common.{◌≡◌, ℕ, ◌+◌, ◌<◌, true, not, cond,
 use Rattle.std.specs.List.{list_all}
 use Rattle.std.specs.Ordering.{is_lt, is_gt, is_eq, ordering_reverse}
 use Rattle.std.specs.declared.cmp.Ordering.{Ordering}
-use Rattle.std.specs.declared.cmp.Ordering.TheVariants.{Less, Equal, Greater}
+use Rattle.std.specs.declared.cmp.Ordering.TheVariants.{Less, Greater}
 use Rattle.std.specs.Cmp.{IsTotalOrder, first_so, second_so}
 use Rattle.std.specs.FinMap.Entries.{below_all, by_order}
 use Rattle.std.proofs.lemmas.List.{take-append-drop, take_more}
 use Rattle.std.proofs.lemmas.List.Folds.{list_all-append}
 use Rattle.std.proofs.Math.Seq.{drop-cons}
+use Rattle.lemmas.proofs.Orders.{is_lt-true, is_gt-true}
+use Rattle.lemmas.proofs.Numbers.{suc-add-one}
 use Rattle.br_model.specs.Data.Maps.{get, put, without, is_ascending}
 use Rattle.mdb_snoop.specs.Places.{all_below, all_above}
-
-pub is_Less : (r : Ordering) → is_lt r ≡ true → r ≡ Less
-is_Less Less h = refl
-is_Less Equal h = absurd (cc)
-is_Less Greater h = absurd (cc)
-
-pub is_Greater : (r : Ordering) → is_gt r ≡ true → r ≡ Greater
-is_Greater Less h = absurd (cc)
-is_Greater Equal h = absurd (cc)
-is_Greater Greater h = refl
 
 -- the other way round
 turned : {K : Type 0} {R : K → K → Ordering} → IsTotalOrder R → (x y : K) (r : Ordering) → R x y ≡ r → R y x ≡ ordering_reverse r
@@ -52,12 +44,12 @@ module _ {K V : Type 0} (R : K → K → Ordering) where
   below_from : (k m : K) → ((x : K) → R x m ≡ Less → R k x ≡ Greater) → (front : List (K × V)) → list_all (λ x. is_lt (R x.0 m)) front ≡ true → all_below R k front ≡ true
   below_from k m goes [] h = refl
   below_from k m goes (x ∷ front) h =
-      ap (λ r. is_gt r && all_below R k front) (goes x.0 (is_Less _ (first_so _ _ h))) ∙ below_from k m goes front (second_so _ _ h)
+      ap (λ r. is_gt r && all_below R k front) (goes x.0 (is_lt-true _ (first_so _ _ h))) ∙ below_from k m goes front (second_so _ _ h)
 
   pub above_from : (k m : K) → ((x : K) → R m x ≡ Less → R k x ≡ Less) → (rest : List (K × V)) → below_all R m rest ≡ true → all_above R k rest ≡ true
   above_from k m goes [] h = refl
   above_from k m goes (x ∷ rest) h =
-      ap (λ r. is_lt r && all_above R k rest) (goes x.0 (is_Less _ (first_so _ _ h))) ∙ above_from k m goes rest (second_so _ _ h)
+      ap (λ r. is_lt r && all_above R k rest) (goes x.0 (is_lt-true _ (first_so _ _ h))) ∙ above_from k m goes rest (second_so _ _ h)
 
   -- k is below each key, as the definitions of the order say it
   pub below_first : (k : K) (es : List (K × V)) → all_above R k es ≡ true → below_all R k es ≡ true
@@ -68,34 +60,34 @@ module _ {K V : Type 0} (R : K → K → Ordering) where
   pub put_front : (k : K) (v : V) (front rest : List (K × V)) → all_below R k front ≡ true → put R (front ++ rest) k v ≡ front ++ put R rest k v
   put_front k v [] rest h = refl
   put_front k v (x ∷ front) rest h =
-      ap (λ r. by_order r ((k, v) ∷ x ∷ (front ++ rest)) ((x.0, v) ∷ (front ++ rest)) (x ∷ put R (front ++ rest) k v)) (is_Greater _ (first_so _ _ h))
+      ap (λ r. by_order r ((k, v) ∷ x ∷ (front ++ rest)) ((x.0, v) ∷ (front ++ rest)) (x ∷ put R (front ++ rest) k v)) (is_gt-true _ (first_so _ _ h))
       ∙ ap (λ f. x ∷ f) (put_front k v front rest (second_so _ _ h))
 
   pub get_front : (k : K) (front rest : List (K × V)) → all_below R k front ≡ true → get R (front ++ rest) k ≡ get R rest k
   get_front k [] rest h = refl
   get_front k (x ∷ front) rest h =
-      ap (λ r. cond (is_eq r) (Some x.1) (get R (front ++ rest) k)) (is_Greater _ (first_so _ _ h)) ∙ get_front k front rest (second_so _ _ h)
+      ap (λ r. cond (is_eq r) (Some x.1) (get R (front ++ rest) k)) (is_gt-true _ (first_so _ _ h)) ∙ get_front k front rest (second_so _ _ h)
 
   pub get_above : (k : K) (rest : List (K × V)) → all_above R k rest ≡ true → get R rest k ≡ None
   get_above k [] h = refl
   get_above k (x ∷ rest) h =
-      ap (λ r. cond (is_eq r) (Some x.1) (get R rest k)) (is_Less _ (first_so _ _ h)) ∙ get_above k rest (second_so _ _ h)
+      ap (λ r. cond (is_eq r) (Some x.1) (get R rest k)) (is_lt-true _ (first_so _ _ h)) ∙ get_above k rest (second_so _ _ h)
 
   pub put_above : (k : K) (v : V) (rest : List (K × V)) → all_above R k rest ≡ true → put R rest k v ≡ (k, v) ∷ rest
   put_above k v [] h = refl
   put_above k v (x ∷ rest) h =
-      ap (λ r. by_order r ((k, v) ∷ x ∷ rest) ((x.0, v) ∷ rest) (x ∷ put R rest k v)) (is_Less _ (first_so _ _ h))
+      ap (λ r. by_order r ((k, v) ∷ x ∷ rest) ((x.0, v) ∷ rest) (x ∷ put R rest k v)) (is_lt-true _ (first_so _ _ h))
 
   pub without_front : (k : K) (front rest : List (K × V)) → all_below R k front ≡ true → without R (front ++ rest) k ≡ front ++ without R rest k
   without_front k [] rest h = refl
   without_front k (x ∷ front) rest h =
-      ap (λ r. cond (not (is_eq r)) (x ∷ without R (front ++ rest) k) (without R (front ++ rest) k)) (is_Greater _ (first_so _ _ h))
+      ap (λ r. cond (not (is_eq r)) (x ∷ without R (front ++ rest) k) (without R (front ++ rest) k)) (is_gt-true _ (first_so _ _ h))
       ∙ ap (λ f. x ∷ f) (without_front k front rest (second_so _ _ h))
 
   pub without_above : (k : K) (rest : List (K × V)) → all_above R k rest ≡ true → without R rest k ≡ rest
   without_above k [] h = refl
   without_above k (x ∷ rest) h =
-      ap (λ r. cond (not (is_eq r)) (x ∷ without R rest k) (without R rest k)) (is_Less _ (first_so _ _ h))
+      ap (λ r. cond (not (is_eq r)) (x ∷ without R rest k) (without R rest k)) (is_lt-true _ (first_so _ _ h))
       ∙ ap (λ f. x ∷ f) (without_above k rest (second_so _ _ h))
 
   module _ (o : IsTotalOrder R) where
@@ -129,9 +121,6 @@ module _ {K V : Type 0} (R : K → K → Ordering) where
     after_place es i d e sorted within is =
         let rest : is_ascending R (e ∷ drop (i + 1) es) ≡ true = ascending_rest (take i es) (e ∷ drop (i + 1) es) (ascending_at es i d e sorted within is) in
         above_from e.0 e.0 (λ x more. more) (drop (i + 1) es) (first_so _ _ rest)
-
-suc-add-one : (i : ℕ) → suc i + 1 ≡ suc (i + 1)
-suc-add-one i = omega arith
 
 pub set-splits : {X : Type 0} (es : List X) (i : ℕ) (x : X) → i < length es → set es i x ≡ take i es ++ x ∷ drop (i + 1) es
 set-splits [] i x h = absurd (omega arith)

@@ -8,13 +8,14 @@ use Rattle.std.specs.Cmp.{tied_itself, first_so, second_so}
 use Rattle.std.specs.FinMap.Entries.{by_order, below_all}
 use Rattle.std.proofs.lemmas.List.{take-append-drop, append_assoc}
 use Rattle.std.proofs.lemmas.List.Folds.{list_all-append}
+use Rattle.lemmas.proofs.Orders.{is_lt-true, is_gt-true}
 use Rattle.br_model.specs.Table.GroupPairs.{GroupPair, group_pair_cmp}
 use Rattle.br_model.specs.Table.Groups.{Membership, membership_cmp}
 use Rattle.br_model.specs.Data.Maps.{get, put, without, is_ascending}
 use Rattle.br_model.specs.Control.Ends.{end_of}
 use Rattle.mdb_snoop.specs.Database.{joined_until, ending_soon, ended_sooner, end_joined}
 use Rattle.mdb_snoop.specs.Places.{Sections, section, flat, all_below, all_above, is_fit, IsAt, IsGap}
-use Rattle.mdb_snoop.proofs.Cuts.{is_Less, is_Greater, below_first, get_front, get_above, put_front, put_above, without_front, without_above}
+use Rattle.mdb_snoop.proofs.Cuts.{below_first, get_front, get_above, put_front, put_above, without_front, without_above}
 use Rattle.br_model.proofs.Table.GroupOrders.{pair_total, by_pair}
 
 abbrev pub at_port : GroupPair → ℕ → Membership
@@ -84,14 +85,14 @@ flat_below : (k : GroupPair) (p : ℕ) (ss : Sections) → all_below group_pair_
 flat_below k p [] h = refl
 flat_below k p (s ∷ ss) h =
     list_all-append (λ e. is_gt (membership_cmp (at_port k p) e.0)) (section s.0 s.1) (flat ss)
-    ∙ ap (λ b. b && all_below membership_cmp (at_port k p) (flat ss)) (section_below k s.0 p s.1 (is_Greater _ (first_so _ _ h)))
+    ∙ ap (λ b. b && all_below membership_cmp (at_port k p) (flat ss)) (section_below k s.0 p s.1 (is_gt-true _ (first_so _ _ h)))
     ∙ flat_below k p ss (second_so _ _ h)
 
 flat_above : (k : GroupPair) (p : ℕ) (ss : Sections) → all_above group_pair_cmp k ss ≡ true → all_above membership_cmp (at_port k p) (flat ss) ≡ true
 flat_above k p [] h = refl
 flat_above k p (s ∷ ss) h =
     list_all-append (λ e. is_lt (membership_cmp (at_port k p) e.0)) (section s.0 s.1) (flat ss)
-    ∙ ap (λ b. b && all_above membership_cmp (at_port k p) (flat ss)) (section_above k s.0 p s.1 (is_Less _ (first_so _ _ h)))
+    ∙ ap (λ b. b && all_above membership_cmp (at_port k p) (flat ss)) (section_above k s.0 p s.1 (is_lt-true _ (first_so _ _ h)))
     ∙ flat_above k p ss (second_so _ _ h)
 
 below_section : (k : GroupPair) (p : ℕ) (ms : List (ℕ × Option ℕ)) (rest : List (Membership × Option ℕ)) → below_all nat_cmp p ms ≡ true

@@ -1,23 +1,24 @@
 -- A finite map from ports, as the ascending list of the ports and a function.
 use Rattle.std.proofs.Common.{◌≡◌, ℕ, zero, suc, ◌+◌, ◌<◌, Bool, true, false, not, ◌&&◌, cond, T, Option, Some, None, List, [], ◌∷◌, ◌++◌, length, map, set, refl, sym, ap, ◌∙◌, subst, arith}
-use Rattle.std.specs.Prelude.{◌==◌, ◌||◌, ◌≢◌, nat_le, is_some, slice_get, slice_index}
+use Rattle.std.specs.Prelude.{◌==◌, ◌||◌, nat_le, is_some, slice_get, slice_index}
 use Rattle.std.specs.Cmp.{nat_cmp_total, nat_cmp_is, tied_itself, unsigned_ties}
 use Rattle.std.specs.FinMap.Entries.{same_entries, is_sorted, below_all, is_sorted-put, is_sorted-where_key, find-put, find-where_key}
 use Rattle.std.specs.List.{filter, range_with_len}
 use Rattle.std.specs.FinMap.{nat_cmp-IsAntisymmetric}
-use Rattle.std.specs.Ordering.{nat_cmp, is_lt, is_eq, eq_by_cmp, ordering_reverse}
-use Rattle.std.specs.declared.cmp.Ordering.{Ordering}
-use Rattle.std.specs.declared.cmp.Ordering.TheVariants.{Less, Equal, Greater}
-use Rattle.std.proofs.lemmas.Bool.{eqb-true, eq-eqb}
+use Rattle.std.specs.Ordering.{nat_cmp, is_lt, is_eq, eq_by_cmp}
+use Rattle.std.specs.declared.cmp.Ordering.TheVariants.{Less, Equal}
+use Rattle.std.proofs.lemmas.Bool.{eqb-true}
 use Rattle.std.proofs.lemmas.List.{get_or-set_same, get_or-set_other}
 use Rattle.std.proofs.Math.Bool.{and-false, and-true}
+use Rattle.lemmas.proofs.Tests.{true_from_T, T_and}
+use Rattle.lemmas.proofs.Orders.{is_eq-reverse}
+use Rattle.lemmas.proofs.Numbers.{ne_from_eqb}
 use Rattle.port_sets.specs.Numbers.{numbers_below, has_number, IsSetBelow}
 use Rattle.port_sets.proofs.Building.{among_with, among_skip}
 use Rattle.port_sets.specs.WordsOfMembers.{has-filter, has-below}
 use Rattle.br_model.specs.Table.Domains.{port_places}
 use Rattle.br_model.specs.Data.Maps.{get, put, without, is_ascending}
 use Rattle.br_model.specs.Control.Ends.{due, due_members, is_over, keys}
-use Rattle.br_model.proofs.Data.KeySets.{holds}
 use Rattle.mdb_snoop.specs.Database.{with_end}
 use Rattle.mdb_snoop.specs.Places.{has_some}
 
@@ -27,17 +28,8 @@ mapped f ports = map (λ p. (p, f p)) ports
 tied : (q p : ℕ) (b : Bool) → (q == p) ≡ b → eq_by_cmp nat_cmp q p ≡ b
 tied q p b e = sym (unsigned_ties q p) ∙ e
 
-turned : (r : Ordering) → is_eq (ordering_reverse r) ≡ is_eq r
-turned Less = refl
-turned Equal = refl
-turned Greater = refl
-
 pub tied_back : (q p : ℕ) (b : Bool) → (q == p) ≡ b → eq_by_cmp nat_cmp p q ≡ b
-tied_back q p b e = ap is_eq (nat_cmp_total.antisymm p q) ∙ turned (nat_cmp q p) ∙ tied q p b e
-
-both : (a b : Bool) → T a → T b → T (a && b)
-both true b p q = q
-both false b p q = p
+tied_back q p b e = ap is_eq (nat_cmp_total.antisymm p q) ∙ is_eq-reverse (nat_cmp q p) ∙ tied q p b e
 
 pub get-mapped : {X : Type 0} (f : ℕ → X) (ports : List ℕ) (q : ℕ) → get nat_cmp (mapped f ports) q ≡ cond (has_number ports q) (Some (f q)) None
 get-mapped f [] q = refl
@@ -52,7 +44,7 @@ below-mapped f t x a zero less = tt
 below-mapped f t x a (suc n) less = by (below-mapped f t x (a + 1) n (omega (arith, less))) (t a)
   where
     by : T (below_all nat_cmp x (mapped f (filter t (range_with_len (a + 1) n)))) → (b : Bool) → T (below_all nat_cmp x (mapped f (cond b (a ∷ filter t (range_with_len (a + 1) n)) (filter t (range_with_len (a + 1) n)))))
-    by rest true = both _ _ (subst (λ r. T (is_lt r)) (nat_cmp_is x a Less less) tt) rest
+    by rest true = T_and _ _ (subst (λ r. T (is_lt r)) (nat_cmp_is x a Less less) tt) rest
     by rest false = rest
 
 sorted-range : {X : Type 0} (f : ℕ → X) (t : ℕ → Bool) (a n : ℕ) → T (is_sorted nat_cmp (mapped f (filter t (range_with_len a n))))
@@ -60,7 +52,7 @@ sorted-range f t a zero = tt
 sorted-range f t a (suc n) = by (sorted-range f t (a + 1) n) (t a)
   where
     by : T (is_sorted nat_cmp (mapped f (filter t (range_with_len (a + 1) n)))) → (b : Bool) → T (is_sorted nat_cmp (mapped f (cond b (a ∷ filter t (range_with_len (a + 1) n)) (filter t (range_with_len (a + 1) n)))))
-    by rest true = both _ _ (below-mapped f t a (a + 1) n (omega arith)) rest
+    by rest true = T_and _ _ (below-mapped f t a (a + 1) n (omega arith)) rest
     by rest false = rest
 
 -- a set has no number but those below its bound
@@ -95,7 +87,7 @@ pub sorted-mapped : {X : Type 0} (f : ℕ → X) (ports : List ℕ) → IsSetBel
 sorted-mapped f ports set = subst (λ l. T (is_sorted nat_cmp (mapped f l))) (sym set) (sorted-set f (has_number ports))
 
 pub mapped-ascends : {X : Type 0} (f : ℕ → X) (ports : List ℕ) → IsSetBelow port_places ports → is_ascending nat_cmp (mapped f ports) ≡ true
-mapped-ascends f ports set = holds _ (sorted-mapped f ports set)
+mapped-ascends f ports set = true_from_T _ (sorted-mapped f ports set)
 
 -- one more port, or another value at a port
 pub mapped-put : {X : Type 0} (f g : ℕ → X) (ports : List ℕ) (p : ℕ) (x : X) → IsSetBelow port_places ports → p < port_places → g p ≡ x → ((q : ℕ) → (q == p) ≡ false → g q ≡ f q)
@@ -190,16 +182,13 @@ next-if t p seen due new so_far then_is = by (t p) refl then_is
 pub due-is : (f : ℕ → ℕ) (now : ℕ) (ports : List ℕ) (m : List (ℕ × ℕ)) → IsSetBelow port_places ports → mapped f ports ≡ m → numbers_below port_places (λ p. has_number ports p && nat_le (f p) now) ≡ due now m
 due-is f now ports m set view = set-filter (λ p. nat_le (f p) now) ports set ∙ keys-filter_mapped f (λ x. nat_le x now) ports ∙ ap (λ l. due now l) view
 
-unequal : (q p : ℕ) → (q == p) ≡ false → q ≢ p
-unequal q p e = λ same. absurd (cc (sym e ∙ eq-eqb q p same))
-
 -- one place of the moments is written
 pub write-put : (moments written ports : List ℕ) (p x : ℕ) → IsSetBelow port_places ports → p < port_places → length moments ≡ port_places → written ≡ set moments p x
     → mapped (slice_index written) (numbers_below port_places (λ m. (m == p) || has_number ports m)) ≡ put nat_cmp (mapped (slice_index moments) ports) p x
 write-put moments written ports p x ascending low size is =
     mapped-put (slice_index moments) (slice_index written) ports p x ascending low
     (ap (λ l. slice_index l p) is ∙ get_or-set_same moments p x 0 (subst (λ n. p < n) (sym size) low))
-    (λ q e. ap (λ l. slice_index l q) is ∙ get_or-set_other moments p q x 0 (unequal q p e))
+    (λ q e. ap (λ l. slice_index l q) is ∙ get_or-set_other moments p q x 0 (ne_from_eqb q p e))
 
 -- ends of members
 

@@ -9,6 +9,7 @@ use Rattle.std.specs.FinMap.Entries.{below_all, is_some-find}
 use Rattle.std.proofs.lemmas.List.{take-append-drop, take_more, append_assoc, append-nil, map-append, length-map}
 use Rattle.std.proofs.lemmas.Bool.{eqb-true, ltb-true}
 use Rattle.std.proofs.lemmas.List.Elements.{filter-append}
+use Rattle.lemmas.proofs.Orders.{is_lt-true, is_gt-true}
 use Rattle.br_model.specs.declared.group.Group.{Group}
 use Rattle.br_model.specs.Table.GroupPairs.{GroupPair, group_pair_cmp, group_pairs, has_room, max_pairs}
 use Rattle.br_model.specs.Table.Groups.{Membership, group_cmp}
@@ -17,7 +18,6 @@ use Rattle.br_model.specs.Control.Ends.{due_members, is_over, keys}
 use Rattle.mdb_snoop.specs.Database.{ports_in, pairs_of_port}
 use Rattle.mdb_snoop.specs.Places.{Section, Sections, section, flat, all_below, all_above, has_some, is_fit, IsSound, IsAt, IsGap}
 use Rattle.port_sets.specs.Numbers.{has_number}
-use Rattle.mdb_snoop.proofs.Cuts.{is_Less, is_Greater}
 use Rattle.mdb_snoop.proofs.Flat.{at_port, flat-append}
 use Rattle.mdb_snoop.proofs.Mapped.{tied_back}
 use Rattle.mdb_snoop.proofs.Search.{is_at}
@@ -46,14 +46,14 @@ ports-below : (k : GroupPair) (ss : Sections) → all_below group_pair_cmp k ss 
 ports-below k [] h = refl
 ports-below k (s ∷ ss) h =
     ports-append k.0 k.1 (section s.0 s.1) (flat ss)
-    ∙ ap (λ l. l ++ ports_in (keys (flat ss)) k.0 k.1) (ports-section k s.0 s.1 false (ap is_eq (is_Greater _ (first_so _ _ h))))
+    ∙ ap (λ l. l ++ ports_in (keys (flat ss)) k.0 k.1) (ports-section k s.0 s.1 false (ap is_eq (is_gt-true _ (first_so _ _ h))))
     ∙ ports-below k ss (second_so _ _ h)
 
 ports-above : (k : GroupPair) (ss : Sections) → all_above group_pair_cmp k ss ≡ true → ports_in (keys (flat ss)) k.0 k.1 ≡ []
 ports-above k [] h = refl
 ports-above k (s ∷ ss) h =
     ports-append k.0 k.1 (section s.0 s.1) (flat ss)
-    ∙ ap (λ l. l ++ ports_in (keys (flat ss)) k.0 k.1) (ports-section k s.0 s.1 false (ap is_eq (is_Less _ (first_so _ _ h))))
+    ∙ ap (λ l. l ++ ports_in (keys (flat ss)) k.0 k.1) (ports-section k s.0 s.1 false (ap is_eq (is_lt-true _ (first_so _ _ h))))
     ∙ ports-above k ss (second_so _ _ h)
 
 pub ports-at : (ss : Sections) (k : GroupPair) (i : ℕ) (at : IsAt ss k i) → keys at.members ≡ ports_in (keys (flat ss)) k.0 k.1
@@ -95,7 +95,7 @@ pairs-none : (k : GroupPair) (p : ℕ) (ms : List (ℕ × Option ℕ)) → below
 pairs-none k p [] h = refl
 pairs-none k p (e ∷ ms) h =
     let rest : List Membership = filter (λ m. m.2 == p) (keys (section k ms)) in
-    ap (λ b. map (λ m. (m.0, m.1)) (cond b (at_port k e.0 ∷ rest) rest)) (apart p e.0 (is_Less _ (first_so _ _ h))) ∙ pairs-none k p ms (second_so _ _ h)
+    ap (λ b. map (λ m. (m.0, m.1)) (cond b (at_port k e.0 ∷ rest) rest)) (apart p e.0 (is_lt-true _ (first_so _ _ h))) ∙ pairs-none k p ms (second_so _ _ h)
 
 pairs-section : (k : GroupPair) (p : ℕ) (ms : List (ℕ × Option ℕ)) → is_ascending nat_cmp ms ≡ true → pairs_of_port (keys (section k ms)) p ≡ cond (is_some (get nat_cmp ms p)) (k ∷ []) []
 pairs-section k p [] h = refl
@@ -153,7 +153,7 @@ above_keys k (s ∷ ss) h = ap (λ b. b && list_all (λ j. is_lt (group_pair_cmp
 
 joined-first : (k : GroupPair) (js : List GroupPair) → list_all (λ j. is_lt (group_pair_cmp k j)) js ≡ true → joined group_pair_cmp js k ≡ k ∷ js
 joined-first k [] h = refl
-joined-first k (j ∷ js) h = ap (λ r. match_ordering r (k ∷ j ∷ js) (j ∷ js) (j ∷ joined group_pair_cmp js k)) (is_Less _ (first_so _ _ h))
+joined-first k (j ∷ js) h = ap (λ r. match_ordering r (k ∷ j ∷ js) (j ∷ js) (j ∷ joined group_pair_cmp js k)) (is_lt-true _ (first_so _ _ h))
 
 pairs-one : (k : GroupPair) (e : ℕ × Option ℕ) (ms : List (ℕ × Option ℕ)) (rest : List (Membership × Option ℕ)) → list_all (λ j. is_lt (group_pair_cmp k j)) (group_pairs (keys rest)) ≡ true
     → group_pairs (keys (section k (e ∷ ms) ++ rest)) ≡ k ∷ group_pairs (keys rest)

@@ -8,6 +8,7 @@ use Rattle.std.specs.declared.cmp.Ordering.TheVariants.{Less, Equal, Greater}
 use Rattle.std.specs.FinMap.Entries.{by_order}
 use Rattle.std.proofs.lemmas.Bool.Decides.{nat_tests}
 use Rattle.std.proofs.lemmas.List.{take_more, append-nil, map-append}
+use Rattle.std.proofs.lemmas.Bool.{lt-leb}
 use Rattle.br_model.specs.Control.Ends.{Ends, due, due_members, end_of, is_over, keys}
 use Rattle.br_model.specs.Table.GroupPairs.{GroupPair}
 use Rattle.br_model.specs.Table.Groups.{Membership, membership_cmp}
@@ -57,13 +58,10 @@ module _ {K X : Type 0} (moment : X → ℕ) where
 
 -- nothing ends before the first
 
-above : (end now : ℕ) → now < end → nat_le end now ≡ false
-above end now less = grind (arith, nat_tests)
-
 pub none-due : {K : Type 0} (now : ℕ) (m : List (K × ℕ)) → now < soonest_moment m → due now m ≡ []
 none-due now [] h = refl
 none-due now (e ∷ m) h =
-    ap (λ b. keys (cond b (e ∷ filter (λ x. nat_le x.1 now) m) (filter (λ x. nat_le x.1 now) m))) (above e.1 now (omega (arith, h))) ∙ none-due now m (omega (arith, h))
+    ap (λ b. keys (cond b (e ∷ filter (λ x. nat_le x.1 now) m) (filter (λ x. nat_le x.1 now) m))) (lt-leb e.1 now (omega (arith, h))) ∙ none-due now m (omega (arith, h))
 
 pub none-due_members : {K : Type 0} (now : ℕ) (m : List (K × Option ℕ)) → now < soonest_member m → due_members now m ≡ []
 none-due_members now [] h = refl
@@ -72,7 +70,7 @@ none-due_members now (e ∷ m) h =
   where
     by : (o : Option ℕ) → now < moment_of o → is_over now o ≡ false
     by None less = refl
-    by (Some end) less = above end now less
+    by (Some end) less = lt-leb end now less
 
 module _ (e : Ends) (b now : ℕ) (h : b ≤ first_end e) (early : nat_le b now ≡ false) where
   before : now < b

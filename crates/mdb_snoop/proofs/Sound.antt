@@ -1,5 +1,5 @@
 -- What sections keep, when one of them changes, comes or goes.
-use Rattle.std.proofs.Common.{◌≡◌, ℕ, suc, ◌+◌, ◌<◌, ◌≤◌, Bool, true, false, not, cond, ◌&&◌, Option, Some, None, List, [], ◌∷◌, ◌++◌, length, take, drop, refl, sym, ap, ◌∙◌, arith, length-append, subst}
+use Rattle.std.proofs.Common.{◌≡◌, ℕ, suc, ◌+◌, ◌<◌, ◌≤◌, true, false, not, cond, Option, Some, None, List, [], ◌∷◌, ◌++◌, length, take, drop, refl, sym, ap, ◌∙◌, arith, length-append, subst}
 use Rattle.std.specs.Prelude.{is_some, min}
 use Rattle.std.specs.List.{list_all}
 use Rattle.std.specs.Ordering.{nat_cmp, is_eq}
@@ -9,6 +9,8 @@ use Rattle.std.specs.Cmp.{tied_itself, first_so, second_so, nat_cmp_total}
 use Rattle.std.specs.FinMap.Entries.{by_order, is_some-find}
 use Rattle.std.proofs.lemmas.List.{take-append-drop}
 use Rattle.std.proofs.lemmas.List.Folds.{list_all-append}
+use Rattle.std.proofs.lemmas.Bool.{and_from}
+use Rattle.std.proofs.Math.Nat.{add-suc}
 use Rattle.br_model.specs.Table.GroupPairs.{GroupPair, group_pair_cmp, max_pairs}
 use Rattle.br_model.specs.Table.Groups.{Membership, membership_cmp}
 use Rattle.br_model.specs.Data.Maps.{get, has, put, without, is_ascending}
@@ -19,10 +21,6 @@ use Rattle.mdb_snoop.specs.Places.{Sections, flat, has_some, is_fit, IsSound, Is
 use Rattle.mdb_snoop.proofs.Cuts.{put_front, put_above, without_front, without_above}
 use Rattle.mdb_snoop.proofs.Flat.{with_at, with_before, without_at, flat-ascends}
 use Rattle.br_model.proofs.Table.GroupOrders.{pair_total, membership_total}
-
-so : (a b : Bool) → a ≡ true → b ≡ true → (a && b) ≡ true
-so true b p q = q
-so false b p q = absurd (cc (p))
 
 -- members
 
@@ -36,7 +34,7 @@ some-put (e ∷ ms) p x = by (nat_cmp p e.0)
     by Greater = refl
 
 fit-put : (ms : List (ℕ × Option ℕ)) (p : ℕ) (x : Option ℕ) → is_fit ms ≡ true → is_fit (put nat_cmp ms p x) ≡ true
-fit-put ms p x h = so _ _ (some-put ms p x) (ascending-put nat_cmp nat_cmp_total ms p x (second_so _ _ h))
+fit-put ms p x h = and_from _ _ (some-put ms p x) (ascending-put nat_cmp nat_cmp_total ms p x (second_so _ _ h))
 
 pub fit-joined : (ms : List (ℕ × Option ℕ)) (p : ℕ) (end : Option ℕ) → is_fit ms ≡ true → is_fit (joined_until nat_cmp ms p end) ≡ true
 fit-joined ms p end h = fit-put ms p (end_joined (get nat_cmp ms p) end) h
@@ -49,20 +47,17 @@ fit-soon ms p end h = by (end_of (get nat_cmp ms p))
     by (Some old) = fit-put ms p _ h
 
 pub fit-without : (ms : List (ℕ × Option ℕ)) (p : ℕ) → is_fit ms ≡ true → has_some (without nat_cmp ms p) ≡ true → is_fit (without nat_cmp ms p) ≡ true
-fit-without ms p h some = so _ _ some (ascending-without nat_cmp ms p (second_so _ _ h))
+fit-without ms p h some = and_from _ _ some (ascending-without nat_cmp ms p (second_so _ _ h))
 
 -- sections
 
 fits-append : (xs ys : Sections) → list_all (λ s. is_fit s.1) xs ≡ true → list_all (λ s. is_fit s.1) ys ≡ true → list_all (λ s. is_fit s.1) (xs ++ ys) ≡ true
-fits-append xs ys h k = list_all-append (λ s. is_fit s.1) xs ys ∙ so _ _ h k
+fits-append xs ys h k = list_all-append (λ s. is_fit s.1) xs ys ∙ and_from _ _ h k
 
 fits-parts : (xs ys : Sections) → list_all (λ s. is_fit s.1) (xs ++ ys) ≡ true → (list_all (λ s. is_fit s.1) xs ≡ true) × (list_all (λ s. is_fit s.1) ys ≡ true)
 fits-parts xs ys h =
     let both = sym (list_all-append (λ s. is_fit s.1) xs ys) ∙ h in
     (first_so _ _ both, second_so _ _ both)
-
-one_more : (n m : ℕ) → n + suc m ≡ suc (n + m)
-one_more n m = omega arith
 
 module _ (ss : Sections) (k : GroupPair) (i : ℕ) (sound : IsSound ss) where
   module _ (at : IsAt ss k i) where
@@ -89,7 +84,7 @@ module _ (ss : Sections) (k : GroupPair) (i : ℕ) (sound : IsSound ss) where
     pub sound-with : (ns : List (ℕ × Option ℕ)) → is_fit ns ≡ true → IsSound (with_at ss k i ns)
     sound-with ns h = record {
       ascending = ap (is_ascending group_pair_cmp) (sym (put_is ns)) ∙ ascending-put group_pair_cmp pair_total ss k ns sound.ascending;
-      fit = fits-append (take i ss) ((k, ns) ∷ drop (i + 1) ss) parts.0 (so _ _ h (second_so _ _ parts.1));
+      fit = fits-append (take i ss) ((k, ns) ∷ drop (i + 1) ss) parts.0 (and_from _ _ h (second_so _ _ parts.1));
       few = subst (λ n. n ≤ max_pairs) (ap length at.splits ∙ length-append (take i ss) ((k, at.members) ∷ drop (i + 1) ss) ∙ sym (length-append (take i ss) ((k, ns) ∷ drop (i + 1) ss))) sound.few;
     }
 
@@ -98,7 +93,7 @@ module _ (ss : Sections) (k : GroupPair) (i : ℕ) (sound : IsSound ss) where
       ascending = ap (is_ascending group_pair_cmp) (sym without_is) ∙ ascending-without group_pair_cmp ss k sound.ascending;
       fit = fits-append (take i ss) (drop (i + 1) ss) parts.0 (second_so _ _ parts.1);
       few =
-          let whole : length ss ≡ suc (length (take i ss) + length (drop (i + 1) ss)) = ap length at.splits ∙ length-append (take i ss) ((k, at.members) ∷ drop (i + 1) ss) ∙ one_more (length (take i ss)) (length (drop (i + 1) ss)) in
+          let whole : length ss ≡ suc (length (take i ss) + length (drop (i + 1) ss)) = ap length at.splits ∙ length-append (take i ss) ((k, at.members) ∷ drop (i + 1) ss) ∙ add-suc (length (take i ss)) (length (drop (i + 1) ss)) in
           omega (arith, whole, length-append (take i ss) (drop (i + 1) ss), sound.few);
     }
 
@@ -114,10 +109,10 @@ module _ (ss : Sections) (k : GroupPair) (i : ℕ) (sound : IsSound ss) where
       ascending = ap (is_ascending group_pair_cmp) (sym (put_gap_is ns)) ∙ ascending-put group_pair_cmp pair_total ss k ns sound.ascending;
       fit =
           let cut = fits-parts (take i ss) (drop i ss) (ap (list_all (λ s. is_fit s.1)) (take-append-drop i ss) ∙ sound.fit) in
-          fits-append (take i ss) ((k, ns) ∷ drop i ss) cut.0 (so _ _ h cut.1);
+          fits-append (take i ss) ((k, ns) ∷ drop i ss) cut.0 (and_from _ _ h cut.1);
       few =
           let whole : length ss ≡ length (take i ss) + length (drop i ss) = ap length (sym (take-append-drop i ss)) ∙ length-append (take i ss) (drop i ss) in
-          let more : length (with_before ss k i ns) ≡ suc (length (take i ss) + length (drop i ss)) = length-append (take i ss) ((k, ns) ∷ drop i ss) ∙ one_more (length (take i ss)) (length (drop i ss)) in
+          let more : length (with_before ss k i ns) ≡ suc (length (take i ss) + length (drop i ss)) = length-append (take i ss) ((k, ns) ∷ drop i ss) ∙ add-suc (length (take i ss)) (length (drop i ss)) in
           omega (arith, whole, more, room);
     }
 

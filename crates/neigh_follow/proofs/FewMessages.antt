@@ -8,6 +8,7 @@ use Rattle.std.specs.Option.{option_and_then, option_eq, option_map_or, option_t
 use Rattle.std.proofs.lemmas.Bool.{eqb-true, le-ltb, lt-ltb, ltb-true}
 use Rattle.std.proofs.lemmas.List.{length-take}
 use Rattle.std.proofs.lemmas.List.Elements.{filter-append}
+use Rattle.std.proofs.lemmas.Option.{same_Some}
 use Rattle.br_model.specs.declared.change.Change.{Change}
 use Rattle.br_model.specs.declared.change.Kind.{Kind}
 use Rattle.br_model.specs.declared.domains.Edition.{Edition}
@@ -32,16 +33,16 @@ use Rattle.br_model.proofs.Plane.Growing.{few-deferred}
 use Rattle.br_model.proofs.Plane.Applied.{Applies, AppliesAt, step-applies, step-setup}
 use Rattle.br_model.proofs.Plane.Chips.{chip-own, chip-there, put-same}
 use Rattle.br_model.proofs.Plane.Kept.{ChipKeeps, chip-stands, first-world, hit_by-keeps, step-world}
-use Rattle.br_model.proofs.Data.Lists.{same-some}
 use Rattle.br_model.proofs.Plane.Stays.{step-accepts}
 use Rattle.br_model.proofs.Plane.Still.{turn-history}
+use Rattle.br_model.proofs.Data.Hex.{length-hex_of}
 use Rattle.neigh_netlink.specs.declared.neigh.Neigh.{Neigh}
 use Rattle.neigh_netlink.specs.Messages.{written}
 use Rattle.neigh_netlink.specs.Monitor.{accepted, is_last, message_line, message_of, messages, messages_in, messages_of, monitors, offload_message, offloads, put_message, turned}
 use Rattle.neigh_netlink.specs.Neighbours.{Key}
 use Rattle.neigh_netlink.proofs.Kept.{one-message}
 use Rattle.neigh_follow.specs.Messages.{text_of}
-use Rattle.neigh_follow.proofs.Messages.{few-bytes, hex-length}
+use Rattle.neigh_follow.proofs.Messages.{few-bytes}
 use Rattle.neigh_follow.proofs.TakenRuns.{dropped}
 
 -- Deferred changes that the chips of their ports have applied.
@@ -122,7 +123,7 @@ count-up w step k dom = by (chip_at w dom) (chip_at (world_step w step).0 dom) r
     both : (b c : Chip) → chip_at w dom ≡ Some b → chip_at (world_step w step).0 dom ≡ Some c → b.count ≤ c.count
     both b c before after =
         let front = cut (edition_of w) w.history b.count in
-        let applies : AppliesAt dom w front = λ x at. subst (λ (y : Chip). Applies (edition_of w) w.history y.count front) (same-some b x (sym before ∙ at))
+        let applies : AppliesAt dom w front = λ x at. subst (λ (y : Chip). Applies (edition_of w) w.history y.count front) (same_Some b x (sym before ∙ at))
         (record { table = refl; synchronous = synchronous_of-cut (edition_of w) w.history b.count; deferred = deferred_of-cut (edition_of w) w.history b.count }) in
         let now = subst (λ (s : Setup). Applies s.domains.edition (world_step w step).0.history c.count (front ++ applied_in dom w step)) (step-setup w step)
         (step-applies w dom front step k applies c after) in
@@ -278,7 +279,7 @@ few-messages setup steps = all-few (first_world setup, []) steps (first-world se
 line-length : (m : Neigh) → length (message_line m) ≡ 100
 line-length m =
     let digits : List ℕ = hex_of (written m) in
-    omega (arith, length-append (codes "nl ") (digits ++ 10 ∷ []), length-append digits (10 ∷ []), hex-length (written m), few-bytes m)
+    omega (arith, length-append (codes "nl ") (digits ++ 10 ∷ []), length-append digits (10 ∷ []), length-hex_of (written m), few-bytes m)
 
 lines-length : (ms : List Neigh) → length (flat_map message_line ms) ≡ 100 * length ms
 lines-length [] = refl

@@ -9,6 +9,7 @@ use Rattle.std.specs.Ordering.{nat_cmp, eq_by_cmp, match_ordering}
 use Rattle.std.specs.FinMap.Entries.{find-put, find-where_key}
 use Rattle.std.proofs.lemmas.Bool.{and_from, eqb-true, leb-true, ne_eqb}
 use Rattle.std.proofs.lemmas.List.Folds.{list_all-append}
+use Rattle.std.proofs.lemmas.Option.{same_Some}
 use Rattle.br_model.specs.declared.change.Change.{Change}
 use Rattle.br_model.specs.declared.change.Change.TheVariants.{PortUp, PortDown, SetFlags, SetState, VlanAdd, VlanDel, GroupJoin, GroupPart, Router, Querier, Snoop, Stp, AddrPut, AddrDel}
 use Rattle.br_model.specs.declared.change.Kind.{Kind}
@@ -64,7 +65,6 @@ use Rattle.br_model.specs.Tree.Tree.{state_at}
 use Rattle.br_model.specs.Wire.Messages.{message}
 use Rattle.br_model.specs.Wire.Records.{acts}
 use Rattle.br_model.proofs.Data.PairKeys.{pair_total, same_cmp}
-use Rattle.br_model.proofs.Data.Lists.{same-some}
 use Rattle.br_model.proofs.Control.ReactionSteps.{IsKept}
 use Rattle.br_model.proofs.Text.WrittenNames.{fits as fits-beside}
 use Rattle.neigh_netlink.specs.Messages.{fits_port, is_local}
@@ -178,7 +178,7 @@ apply-vlans t c all h v p there = all v p there
 
 put-fine : (c : Change) (k : Key) (e : ℕ × Kind) → is_of_key k c ≡ true → puts c ≡ Some e → is_fine c ≡ true → is_entry k e ≡ true
 put-fine (AddrPut v a p kind) k e its is h =
-    ap (λ (q : Key). is_entry q e) (same-key k (v, a) its) ∙ ap (λ (x : ℕ × Kind). is_entry (v, a) x) (sym (same-some (p, kind) e is)) ∙ h
+    ap (λ (q : Key). is_entry q e) (same-key k (v, a) its) ∙ ap (λ (x : ℕ × Kind). is_entry (v, a) x) (sym (same_Some (p, kind) e is)) ∙ h
 put-fine (AddrDel v a) k e its is h = absurd (cc)
 put-fine c k e its is h = absurd (cc)
 

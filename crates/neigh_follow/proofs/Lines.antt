@@ -1,19 +1,15 @@
 -- Lines that are followed, one after another.
-use Rattle.std.proofs.Common.{◌≡◌, ℕ, ◌<◌, ◌≤◌, ◌==◌, Bool, true, false, not, cond, List, [], ◌∷◌, ◌++◌, length, refl, sym, ap, ◌∙◌, append_assoc, length-append, arith, ⊎_elim}
+use Rattle.std.proofs.Common.{◌≡◌, ℕ, ◌<◌, ◌≤◌, ◌==◌, Bool, true, false, cond, List, [], ◌∷◌, ◌++◌, length, refl, sym, ap, ◌∙◌, append_assoc, length-append, arith, ⊎_elim}
 use Rattle.std.specs.Prelude.{nat_lt}
 use Rattle.std.specs.Cmp.{first_so, second_so}
 use Rattle.std.specs.List.{fold}
-use Rattle.std.proofs.lemmas.Bool.{cases_lt, le-ltb, lt-ltb}
+use Rattle.std.proofs.lemmas.Bool.{cases_lt, le-ltb, lt-ltb, not-true}
 use Rattle.std.proofs.lemmas.List.Sums.{fold-append}
 use Rattle.br_model.specs.Text.Scenario.{longest_line}
 use Rattle.br_model.specs.Theorems.WholeLines.{is_line, is_no_feed}
 use Rattle.neigh_netlink.specs.Follow.{Ending, Following, Going, Ended, Bad, Reading, bad, closes, closes_at, follows, grows, line_says, opened, reads, reads_at, takes}
 use Rattle.neigh_netlink.specs.declared.follow.LineFault.TheVariants.{Long}
 use Rattle.neigh_netlink.proofs.FollowedLines.{line-read, rest-read}
-
-not-so : (b : Bool) → not b ≡ true → b ≡ false
-not-so true h = absurd (cc)
-not-so false h = refl
 
 -- What has ended stays.
 
@@ -77,7 +73,7 @@ module _ (f : Following) (going_on : f.ending ≡ Going) where
       → reads (at front) byte ≡ record { following = cond over (bad f Long) f; line = front ++ byte ∷ [] }
   step front byte over plain is =
       ap (λ (d : Ending). reads_at d (at front) byte) going_on
-      ∙ ap (λ b. cond {A = Reading} b (record { following = takes f (line_says front); line = [] }) (record { following = grows f (front ++ byte ∷ []); line = front ++ byte ∷ [] })) (not-so (byte == 10) plain)
+      ∙ ap (λ b. cond {A = Reading} b (record { following = takes f (line_says front); line = [] }) (record { following = grows f (front ++ byte ∷ []); line = front ++ byte ∷ [] })) (not-true (byte == 10) plain)
       ∙ ap (λ b. record { following = cond b (bad f Long) f; line = front ++ byte ∷ [] }) is
 
   long-grown : (front line : List ℕ) → is_line line ≡ true → length front ≤ longest_line → longest_line < length (front ++ line)

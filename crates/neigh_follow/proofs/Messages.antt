@@ -1,9 +1,9 @@
 -- Lines of messages that are taken give the table of these messages.
-use Rattle.std.proofs.Common.{◌≡◌, ℕ, zero, suc, ◌+◌, ◌*◌, ◌/◌, ◌%◌, ◌^◌, ◌<◌, ◌≤◌, ◌==◌, Bool, true, false, not, cond, List, [], ◌∷◌, ◌++◌, length, Option, None, Some, Ok, Err, refl, ap, ◌∙◌, append_assoc, length-append, arith}
+use Rattle.std.proofs.Common.{◌≡◌, ℕ, zero, suc, ◌+◌, ◌/◌, ◌%◌, ◌^◌, ◌<◌, ◌≤◌, Bool, true, false, not, cond, List, [], ◌∷◌, ◌++◌, length, Option, None, Some, Ok, Err, refl, ap, ◌∙◌, append_assoc, length-append, arith}
 use Rattle.std.specs.Prelude.{codes, nat_lt, if◌then◌else◌}
 use Rattle.std.specs.Cmp.{first_so, second_so}
 use Rattle.std.specs.Int.{Width, w16, w32, byte_at, byte_len, bytes_high_first, bytes_low_first, to_le_bytes}
-use Rattle.std.specs.List.{filter, flat_map, fold, list_all, onto_first, slice_split}
+use Rattle.std.specs.List.{filter, flat_map, fold, list_all}
 use Rattle.std.specs.Option.{is_some}
 use Rattle.std.proofs.lemmas.Bool.{and_from, ltb-true, lt-ltb}
 use Rattle.std.proofs.lemmas.List.Folds.{list_all-append}
@@ -15,6 +15,8 @@ use Rattle.br_model.specs.Text.Words.{Word, is_word}
 use Rattle.br_model.specs.Theorems.WholeLines.{is_line, is_no_feed}
 use Rattle.br_model.proofs.Text.Words.{equal}
 use Rattle.br_model.proofs.Text.WrittenNumbers.{hex_read}
+use Rattle.br_model.proofs.Text.Feedless.{hex_digit_feedless}
+use Rattle.br_model.proofs.Data.Hex.{length-hex_of}
 use Rattle.neigh_netlink.specs.declared.follow.LineFault.TheVariants as fault
 use Rattle.neigh_netlink.specs.declared.follow.Said.TheVariants.{Ends, Tells}
 use Rattle.neigh_netlink.specs.declared.neigh.Neigh.{Neigh}
@@ -27,7 +29,7 @@ use Rattle.neigh_netlink.specs.Monitor.{message_line}
 use Rattle.neigh_netlink.specs.Neighbours.{Neighbours, after_message, fault_of, table_of}
 use Rattle.neigh_follow.proofs.Lines.{follows-over, line-more}
 use Rattle.neigh_netlink.proofs.FollowedLines.{line-read}
-use Rattle.neigh_netlink.proofs.LineWords.{first-word}
+use Rattle.neigh_netlink.proofs.LineWords.{first-word, split-alone}
 use Rattle.neigh_netlink.proofs.Readings.{read-written}
 
 -- The bytes of a message.
@@ -109,26 +111,8 @@ each-digit p digit (b ∷ bytes) h =
     let fits : b < 256 = ltb-true b 256 (first_so _ _ h) in
     and_from _ _ (digit (b / 16) (omega arith)) (and_from _ _ (digit (b % 16) (omega arith)) (each-digit p digit bytes (second_so _ _ h)))
 
-no-feed : (n : ℕ) → n < 16 → is_no_feed (hex_digit n) ≡ true
-no-feed n h = grind arith
-
 no-space : (n : ℕ) → n < 16 → is_no_space (hex_digit n) ≡ true
 no-space n h = grind arith
-
-pub hex-length : (bytes : List ℕ) → length (hex_of bytes) ≡ 2 * length bytes
-hex-length [] = refl
-hex-length (b ∷ bytes) = omega (arith, hex-length bytes)
-
-not-so : (b : Bool) → not b ≡ true → b ≡ false
-not-so true h = absurd (cc)
-not-so false h = refl
-
--- what has no space is one word
-split-alone : (w : List ℕ) → list_all is_no_space w ≡ true → slice_split (λ c. c == 32) w ≡ w ∷ []
-split-alone [] h = refl
-split-alone (c ∷ w) h =
-    ap (λ b. cond b ([] ∷ slice_split (λ c. c == 32) w) (onto_first c (slice_split (λ c. c == 32) w))) (not-so (c == 32) (first_so _ _ h))
-    ∙ ap (onto_first c) (split-alone w (second_so _ _ h))
 
 -- The line of a message.
 
@@ -148,10 +132,10 @@ module _ (m : Neigh) where
   few-bytes = refl
 
   plain : is_line line ≡ true
-  plain = each-digit is_no_feed no-feed (written m) (written-small m)
+  plain = each-digit is_no_feed hex_digit_feedless (written m) (written-small m)
 
   short : length line ≤ longest_line
-  short = omega (arith, hex-length (written m), few-bytes, length-append (codes "nl ") digits)
+  short = omega (arith, length-hex_of (written m), few-bytes, length-append (codes "nl ") digits)
 
   digits-alone : words digits ≡ digits ∷ []
   digits-alone =

@@ -9,6 +9,8 @@ use Rattle.std.specs.FinMap.Entries.{is_sorted, is_sorted-put, is_sorted-where_k
 use Rattle.std.proofs.lemmas.Bool.{and_from, eq-eqb, eqb-true}
 use Rattle.std.proofs.lemmas.List.{length-map}
 use Rattle.std.proofs.lemmas.List.Sums.{fold-append, fold_push}
+use Rattle.std.proofs.lemmas.Option.{same_Some}
+use Rattle.lemmas.proofs.Tests.{and_assoc}
 use Rattle.br_model.specs.declared.change.Change.{Change}
 use Rattle.br_model.specs.declared.change.Change.TheVariants.{AddrPut, AddrDel}
 use Rattle.br_model.specs.declared.change.Kind.{Kind}
@@ -33,7 +35,6 @@ use Rattle.br_model.specs.Theorems.Invariants.{IsWorld}
 use Rattle.br_model.proofs.Data.PairKeys.{pair_total, same_cmp}
 use Rattle.br_model.proofs.Plane.History.{fit-append}
 use Rattle.br_model.proofs.Plane.Kept.{first-world, step-world}
-use Rattle.br_model.proofs.Data.Lists.{same-some}
 use Rattle.br_model.proofs.Plane.Stays.{step-accepts}
 use Rattle.br_model.proofs.Plane.Still.{turn-history}
 use Rattle.neigh_netlink.specs.declared.entries.Entry.{Entry}
@@ -78,11 +79,7 @@ taken-append : (t : Neighbours) (ms ns : List Neigh) → are_taken t (ms ++ ns) 
 taken-append t [] ns = refl
 taken-append t (m ∷ ms) ns =
     ap (λ b. not (is_some (fault_of t m)) && b) (taken-append (after_message t m) ms ns)
-    ∙ joined (not (is_some (fault_of t m))) (are_taken (after_message t m) ms) (are_taken (fold after_message (after_message t m) ms) ns)
-  where
-    joined : (a b d : Bool) → (a && (b && d)) ≡ ((a && b) && d)
-    joined true b d = refl
-    joined false b d = refl
+    ∙ and_assoc (not (is_some (fault_of t m))) (are_taken (after_message t m) ms) (are_taken (fold after_message (after_message t m) ms) ns)
 
 -- A message is taken.
 
@@ -106,7 +103,7 @@ itself Extern = refl
 is-there : (o : Option Entry) (x : ℕ × Kind) → option_map place o ≡ Some x → is_of x.0 x.1 o ≡ true
 is-there None x e = absurd (cc)
 is-there (Some y) x e =
-    ap (λ (z : ℕ × Kind). is_of z.0 z.1 (Some y)) (sym (same-some (place y) x e)) ∙ and_from _ _ (eq-eqb y.port y.port refl) (itself y.kind)
+    ap (λ (z : ℕ × Kind). is_of z.0 z.1 (Some y)) (sym (same_Some (place y) x e)) ∙ and_from _ _ (eq-eqb y.port y.port refl) (itself y.kind)
 
 -- one that goes where it is
 gone-taken : (t : Neighbours) (ticket : ℕ) (k : Key) (x : ℕ × Kind) → option_map place (get pair_cmp t k) ≡ Some x → are_taken t (gone_message ticket k x ∷ []) ≡ true
@@ -204,7 +201,7 @@ last-stands w c x k e next part last = by (last_update (edition_of w) w.history 
     by None is its = absurd (cc)
     by (Some u) is its =
         let there = update-there (edition_of w) w.history k u is in
-        let same : u.change ≡ x = same-some u.change x (sym there.0 ∙ ap (deferred_at (edition_of w) w.history) (eqb-true u.ticket c.count its) ∙ next) in
+        let same : u.change ≡ x = same_Some u.change x (sym there.0 ∙ ap (deferred_at (edition_of w) w.history) (eqb-true u.ticket c.count its) ∙ next) in
         get-table (edition_of w) w.history k
         ∙ ap (option_and_then put_by) is
         ∙ ap puts same

@@ -9,7 +9,7 @@ use Rattle.std.proofs.lemmas.Bool.{and_from, lt-ltb, ltb-true}
 use Rattle.std.proofs.lemmas.List.Elements.{All-from_recursion}
 use Rattle.std.proofs.lemmas.List.Folds.{list_all-append}
 use Rattle.std.proofs.lemmas.List.Sums.{fold_push}
-use Rattle.std.proofs.lemmas.Option.{slice_get_within}
+use Rattle.std.proofs.lemmas.Option.{slice_get_within, same_Some}
 use Rattle.std.proofs.lemmas.Result.{IfOk-at_ok}
 use Rattle.br_model.specs.declared.change.Asks.{Asks}
 use Rattle.br_model.specs.declared.change.Asks.TheVariants.{Nothing, State, GroupRoom, AddressRoom}
@@ -58,7 +58,6 @@ use Rattle.br_model.specs.Wire.Frames.{frame, head_of, number_at, tag_of, tag_ty
 use Rattle.br_model.proofs.Plane.Growing.{few-deferred}
 use Rattle.br_model.proofs.Plane.Chips.{chip-each, chip_of-at, put-all}
 use Rattle.br_model.proofs.Plane.Kept.{first-world, step-world}
-use Rattle.br_model.proofs.Data.Lists.{same-some}
 use Rattle.br_model.proofs.Plane.Stays.{step-accepts}
 use Rattle.br_model.proofs.Plane.Waiting.{goes_on-either, waits-either}
 use Rattle.br_model.proofs.Text.WrittenLines.{frame_shown}
@@ -220,7 +219,7 @@ find-all p q [] h all e = absurd (cc)
 find-all p q (x ∷ hs) h all e = by (p x) e (find-all p q hs h (second_so (q x) _ all))
   where
     by : (b : Bool) → cond b (Some x) (find p hs) ≡ Some h → (find p hs ≡ Some h → q h ≡ true) → q h ≡ true
-    by true is later = ap q (sym (same-some x h is)) ∙ first_so (q x) _ all
+    by true is later = ap q (sym (same_Some x h is)) ∙ first_so (q x) _ all
     by false is later = later is
 
 lets_go-fine : (w : World) (id : ℕ) → FineWorld w → FineWorld (lets_go w id)

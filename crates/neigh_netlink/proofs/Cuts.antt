@@ -1,5 +1,5 @@
 -- Entries whose keys ascend, cut in two at a place.
-use Rattle.std.proofs.Common.{◌≡◌, ℕ, ◌+◌, ◌<◌, ◌≤◌, Bool, true, false, not, cond, T, Some, None, Result, Ok, Err, IfOk, IfErr, ◌&&◌, [], ◌∷◌, ◌++◌, length, take, drop, get_or, set, zero, suc, refl, sym, ap, subst, ◌∙◌, add-one, arith}
+use Rattle.std.proofs.Common.{◌≡◌, ℕ, ◌+◌, ◌<◌, ◌≤◌, Bool, true, false, not, cond, Some, None, Result, Ok, Err, IfOk, IfErr, ◌&&◌, [], ◌∷◌, ◌++◌, length, take, drop, get_or, set, zero, suc, refl, sym, ap, subst, ◌∙◌, add-one, arith}
 use Rattle.std.specs.Prelude.{IsTrue}
 use Rattle.std.specs.List.{list_all}
 use Rattle.std.specs.List.Sorted.{IsSearchInRange, IsBinarySearchResult, IsNonDecreasingBy}
@@ -12,6 +12,9 @@ use Rattle.std.specs.FinMap.Entries.{below_all, by_order, is_sorted-put, is_sort
 use Rattle.std.proofs.lemmas.List.{take-append-drop, take_more, get_or_default}
 use Rattle.std.proofs.lemmas.List.Folds.{list_all-append}
 use Rattle.std.proofs.Math.Seq.{drop-cons}
+use Rattle.lemmas.proofs.Tests.{true_from_T}
+use Rattle.lemmas.proofs.Orders.{is_lt-true, is_gt-true}
+use Rattle.lemmas.proofs.Numbers.{suc-add-one}
 use Rattle.br_model.specs.declared.change.Kind.TheVariants.{Local}
 use Rattle.br_model.specs.Data.Maps.{pair_cmp, get, put, without, is_ascending}
 use Rattle.br_model.proofs.Data.PairKeys.{pair_total}
@@ -19,20 +22,11 @@ use Rattle.neigh_netlink.specs.declared.entries.Entry.{Entry}
 use Rattle.neigh_netlink.specs.Neighbours.{Key, Neighbours}
 use Rattle.neigh_netlink.specs.Places.{all_below, all_above, IsAt, IsGap}
 
-T-eq-true : (b : Bool) → T b → b ≡ true
-T-eq-true true h = refl
-T-eq-true false h = absurd h
-
 both : (a b : Bool) → IsTrue (a && b) → IsTrue a × IsTrue b
 both a b h = (first_so a b h, second_so a b h)
 
 holds : (b : Bool) → IsTrue b → b ≡ true
 holds b h = h
-
-is_Less : (r : Ordering) → is_lt r ≡ true → r ≡ Less
-is_Less Less h = refl
-is_Less Equal h = absurd (cc)
-is_Less Greater h = absurd (cc)
 
 -- the other way round
 turned : (x y : Key) (r : Ordering) → pair_cmp x y ≡ r → pair_cmp y x ≡ ordering_reverse r
@@ -65,13 +59,13 @@ before_all (x ∷ front) rest e h =
 pub below_from : (k m : Key) → ((x : Key) → pair_cmp x m ≡ Less → pair_cmp k x ≡ Greater) → (front : Neighbours) → list_all (λ x. is_lt (pair_cmp x.0 m)) front ≡ true → all_below k front ≡ true
 below_from k m goes [] h = refl
 below_from k m goes (x ∷ front) h =
-    ap (λ r. is_gt r && all_below k front) (goes x.0 (is_Less _ (first_so _ _ h))) ∙ below_from k m goes front (second_so _ _ h)
+    ap (λ r. is_gt r && all_below k front) (goes x.0 (is_lt-true _ (first_so _ _ h))) ∙ below_from k m goes front (second_so _ _ h)
 
 pub above_from : (k m : Key) → ((x : Key) → pair_cmp m x ≡ Less → pair_cmp k x ≡ Less) → (rest : Neighbours) → IsTrue (below_all pair_cmp m rest) → all_above k rest ≡ true
 above_from k m goes [] h = refl
 above_from k m goes (x ∷ rest) h =
     let parts = both _ _ h in
-    ap (λ r. is_lt r && all_above k rest) (goes x.0 (is_Less _ (holds _ parts.0))) ∙ above_from k m goes rest parts.1
+    ap (λ r. is_lt r && all_above k rest) (goes x.0 (is_lt-true _ (holds _ parts.0))) ∙ above_from k m goes rest parts.1
 
 -- k is below what stands at i
 pub above_place : (es : Neighbours) (k : Key) (i : ℕ) (d e : Key × Entry) → IsTrue (is_ascending pair_cmp es) → i < length es → e ≡ get_or es i d → pair_cmp k e.0 ≡ Less → all_above k (drop i es) ≡ true
@@ -110,45 +104,40 @@ is_at es k i d e sorted within is same =
       after = above_from k e.0 (λ x more. pair_total.congr k e.0 x same ∙ more) (drop (i + 1) es) (both _ _ rest).0;
     }
 
-is_Greater : (r : Ordering) → is_gt r ≡ true → r ≡ Greater
-is_Greater Less h = absurd (cc)
-is_Greater Equal h = absurd (cc)
-is_Greater Greater h = refl
-
 apart : Key → Key → Bool
 apart k q = not (eq_by_cmp pair_cmp k q)
 
 put_front : (k : Key) (v : Entry) (front rest : Neighbours) → all_below k front ≡ true → put pair_cmp (front ++ rest) k v ≡ front ++ put pair_cmp rest k v
 put_front k v [] rest h = refl
 put_front k v (x ∷ front) rest h =
-    ap (λ r. by_order r ((k, v) ∷ x ∷ (front ++ rest)) ((x.0, v) ∷ (front ++ rest)) (x ∷ put pair_cmp (front ++ rest) k v)) (is_Greater _ (first_so _ _ h))
+    ap (λ r. by_order r ((k, v) ∷ x ∷ (front ++ rest)) ((x.0, v) ∷ (front ++ rest)) (x ∷ put pair_cmp (front ++ rest) k v)) (is_gt-true _ (first_so _ _ h))
     ∙ ap (λ (f : Neighbours). x ∷ f) (put_front k v front rest (second_so _ _ h))
 
 get_front : (k : Key) (front rest : Neighbours) → all_below k front ≡ true → get pair_cmp (front ++ rest) k ≡ get pair_cmp rest k
 get_front k [] rest h = refl
 get_front k (x ∷ front) rest h =
-    ap (λ r. cond (is_eq r) (Some x.1) (get pair_cmp (front ++ rest) k)) (is_Greater _ (first_so _ _ h)) ∙ get_front k front rest (second_so _ _ h)
+    ap (λ r. cond (is_eq r) (Some x.1) (get pair_cmp (front ++ rest) k)) (is_gt-true _ (first_so _ _ h)) ∙ get_front k front rest (second_so _ _ h)
 
 get_above : (k : Key) (rest : Neighbours) → all_above k rest ≡ true → get pair_cmp rest k ≡ None
 get_above k [] h = refl
 get_above k (x ∷ rest) h =
-    ap (λ r. cond (is_eq r) (Some x.1) (get pair_cmp rest k)) (is_Less _ (first_so _ _ h)) ∙ get_above k rest (second_so _ _ h)
+    ap (λ r. cond (is_eq r) (Some x.1) (get pair_cmp rest k)) (is_lt-true _ (first_so _ _ h)) ∙ get_above k rest (second_so _ _ h)
 
 put_above : (k : Key) (v : Entry) (rest : Neighbours) → all_above k rest ≡ true → put pair_cmp rest k v ≡ (k, v) ∷ rest
 put_above k v [] h = refl
 put_above k v (x ∷ rest) h =
-    ap (λ r. by_order r ((k, v) ∷ x ∷ rest) ((x.0, v) ∷ rest) (x ∷ put pair_cmp rest k v)) (is_Less _ (first_so _ _ h))
+    ap (λ r. by_order r ((k, v) ∷ x ∷ rest) ((x.0, v) ∷ rest) (x ∷ put pair_cmp rest k v)) (is_lt-true _ (first_so _ _ h))
 
 without_front : (k : Key) (front rest : Neighbours) → all_below k front ≡ true → without pair_cmp (front ++ rest) k ≡ front ++ without pair_cmp rest k
 without_front k [] rest h = refl
 without_front k (x ∷ front) rest h =
-    ap (λ r. cond (not (is_eq r)) (x ∷ without pair_cmp (front ++ rest) k) (without pair_cmp (front ++ rest) k)) (is_Greater _ (first_so _ _ h))
+    ap (λ r. cond (not (is_eq r)) (x ∷ without pair_cmp (front ++ rest) k) (without pair_cmp (front ++ rest) k)) (is_gt-true _ (first_so _ _ h))
     ∙ ap (λ (f : Neighbours). x ∷ f) (without_front k front rest (second_so _ _ h))
 
 without_above : (k : Key) (rest : Neighbours) → all_above k rest ≡ true → without pair_cmp rest k ≡ rest
 without_above k [] h = refl
 without_above k (x ∷ rest) h =
-    ap (λ r. cond (not (is_eq r)) (x ∷ without pair_cmp rest k) (without pair_cmp rest k)) (is_Less _ (first_so _ _ h))
+    ap (λ r. cond (not (is_eq r)) (x ∷ without pair_cmp rest k) (without pair_cmp rest k)) (is_lt-true _ (first_so _ _ h))
     ∙ ap (λ (f : Neighbours). x ∷ f) (without_above k rest (second_so _ _ h))
 
 -- where the key stands
@@ -195,13 +184,10 @@ without_gap es k i gap =
 
 -- the keys still ascend
 pub ascending-put : (es : Neighbours) (k : Key) (v : Entry) → IsTrue (is_ascending pair_cmp es) → IsTrue (is_ascending pair_cmp (put pair_cmp es k v))
-ascending-put es k v h = T-eq-true _ (is_sorted-put pair_cmp pair_total k v es (passes _ h))
+ascending-put es k v h = true_from_T _ (is_sorted-put pair_cmp pair_total k v es (passes _ h))
 
 pub ascending-without : (es : Neighbours) (k : Key) → IsTrue (is_ascending pair_cmp es) → IsTrue (is_ascending pair_cmp (without pair_cmp es k))
-ascending-without es k h = T-eq-true _ (is_sorted-where_key pair_cmp _ es (passes _ h))
-
-suc-add-one : (i : ℕ) → suc i + 1 ≡ suc (i + 1)
-suc-add-one i = omega arith
+ascending-without es k h = true_from_T _ (is_sorted-where_key pair_cmp _ es (passes _ h))
 
 pub set-splits : (es : Neighbours) (i : ℕ) (x : Key × Entry) → i < length es → set es i x ≡ take i es ++ x ∷ drop (i + 1) es
 set-splits [] i x h = absurd (omega arith)
@@ -214,7 +200,7 @@ set-splits (e ∷ es) (suc i) x h =
 
 below_at : (x : Key) (es : Neighbours) → IsTrue (below_all pair_cmp x es) → (j : ℕ) (d : Key × Entry) → j < length es → pair_cmp x (get_or es j d).0 ≡ Less
 below_at x [] h j d lt = absurd (omega arith)
-below_at x (e ∷ es) h zero d lt = is_Less _ (holds _ (both _ _ h).0)
+below_at x (e ∷ es) h zero d lt = is_lt-true _ (holds _ (both _ _ h).0)
 below_at x (e ∷ es) h (suc j) d lt = below_at x es (both _ _ h).1 j d (omega arith)
 
 at_most_two : (r : Ordering) → ordering_index r ≤ 2

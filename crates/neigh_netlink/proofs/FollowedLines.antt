@@ -1,8 +1,8 @@
 -- Bytes are read line by line.
-use Rattle.std.proofs.Common.{◌≡◌, ℕ, ◌≤◌, ◌==◌, Bool, true, false, not, cond, List, [], ◌∷◌, ◌++◌, length, refl, sym, ap, ◌∙◌, append_assoc, append-nil, length-append, arith}
+use Rattle.std.proofs.Common.{◌≡◌, ℕ, ◌≤◌, ◌==◌, true, cond, List, [], ◌∷◌, ◌++◌, length, sym, ap, ◌∙◌, append_assoc, append-nil, length-append, arith}
 use Rattle.std.specs.Cmp.{first_so, second_so}
 use Rattle.std.specs.List.{fold}
-use Rattle.std.proofs.lemmas.Bool.{le-ltb}
+use Rattle.std.proofs.lemmas.Bool.{le-ltb, not-true}
 use Rattle.std.proofs.lemmas.List.Sums.{fold-append}
 use Rattle.br_model.specs.Text.Scenario.{longest_line}
 use Rattle.br_model.specs.Theorems.WholeLines.{is_line, is_no_feed}
@@ -14,15 +14,11 @@ module _ (n : ℕ) (t : Neighbours) where
   abbrev going : Following
   going = record { lines = n; table = t; ending = Going }
 
-  not-so : (b : Bool) → not b ≡ true → b ≡ false
-  not-so true h = absurd (cc)
-  not-so false h = refl
-
   -- a byte more that is no line feed
   more : (front : List ℕ) (byte : ℕ) → is_no_feed byte ≡ true → length (front ++ byte ∷ []) ≤ longest_line
       → reads (record { following = going; line = front }) byte ≡ record { following = going; line = front ++ byte ∷ [] }
   more front byte plain short =
-      ap (λ b. cond {A = Reading} b (record { following = takes going (line_says front); line = [] }) (record { following = grows going (front ++ byte ∷ []); line = front ++ byte ∷ [] })) (not-so (byte == 10) plain)
+      ap (λ b. cond {A = Reading} b (record { following = takes going (line_says front); line = [] }) (record { following = grows going (front ++ byte ∷ []); line = front ++ byte ∷ [] })) (not-true (byte == 10) plain)
       ∙ ap (λ b. record { following = cond b (bad going Long) going; line = front ++ byte ∷ [] }) (le-ltb longest_line (length (front ++ byte ∷ [])) short)
 
   grown : (front line : List ℕ) → is_line line ≡ true → length (front ++ line) ≤ longest_line

@@ -1,5 +1,5 @@
 -- What is kept of a history with a change more, and what is told of a turn by it.
-use Rattle.std.proofs.Common.{◌≡◌, ℕ, ◌+◌, ◌<◌, ◌≤◌, Bool, true, false, T, not, cond, ◌&&◌, ◌||◌, length, take, drop, get_or, arith, Some, None, Option, List, ◌∷◌, [], ◌++◌, refl, sym, ap, subst, ◌∙◌, ⊎_elim}
+use Rattle.std.proofs.Common.{◌≡◌, ℕ, ◌+◌, ◌<◌, ◌≤◌, Bool, true, false, T, not, cond, ◌&&◌, ◌||◌, length, take, drop, get_or, arith, Some, None, Option, List, ◌∷◌, [], ◌++◌, refl, sym, ap, subst, ◌∙◌}
 use Rattle.std.specs.Prelude.{if◌then◌else◌, ◌==◌, nat_lt}
 use Rattle.std.specs.List.{slice_get}
 use Rattle.std.specs.Option.{is_some, option_and_then, option_map, option_map_or, option_to_list}
@@ -7,7 +7,8 @@ use Rattle.std.specs.Ordering.{eq_by_cmp}
 use Rattle.std.specs.FinMap.Entries.{is_sorted, is_sorted-put, is_sorted-where_key, find-put, find-where_key, same_entries}
 use Rattle.std.proofs.lemmas.Bool.{eqb-true, ltb-true}
 use Rattle.std.proofs.lemmas.List.{drop_more, length-map, length-take, take_more}
-use Rattle.std.proofs.lemmas.Option.{get_or_from_slice_get, slice_get_cases, slice_get_within}
+use Rattle.std.proofs.lemmas.Option.{get_or_from_slice_get, slice_get_within, same_Some}
+use Rattle.lemmas.proofs.Tests.{cond-not}
 use Rattle.br_model.specs.declared.change.Change.{Change}
 use Rattle.br_model.specs.declared.change.Change.TheVariants.{AddrPut, AddrDel}
 use Rattle.br_model.specs.declared.change.Kind.{Kind}
@@ -27,7 +28,6 @@ use Rattle.br_model.proofs.Table.Cuts.{updates-at}
 use Rattle.br_model.proofs.Plane.Growing.{few-deferred}
 use Rattle.br_model.proofs.Data.PairKeys.{pair_total, same_cmp}
 use Rattle.br_model.proofs.Plane.Chips.{chip-dom}
-use Rattle.br_model.proofs.Data.Lists.{same-some}
 use Rattle.neigh_netlink.specs.declared.lasts.Last.{Last}
 use Rattle.neigh_netlink.specs.declared.neigh.Neigh.{Neigh}
 use Rattle.neigh_netlink.specs.Monitor.{entry_message, is_last, message_of, messages_of, offload_message, offloads, put_message, turned}
@@ -50,11 +50,7 @@ get-stands ticket es k (Some x) q = find-put pair_cmp pair_total q k (last_put t
 get-stands ticket es k None q =
     find-where_key pair_cmp (λ p. not (eq_by_cmp pair_cmp k p)) q (λ p tie. ap (λ r. not (eq_by_cmp pair_cmp k r)) (sym (same_cmp q p tie))) es
     ∙ ap (λ b. cond (not b) (get pair_cmp es q) None) (eq-turned q k)
-    ∙ flipped (eq_by_cmp pair_cmp q k)
-  where
-    flipped : (b : Bool) → cond (not b) (get pair_cmp es q) None ≡ cond b None (get pair_cmp es q)
-    flipped true = refl
-    flipped false = refl
+    ∙ cond-not (eq_by_cmp pair_cmp q k) (get pair_cmp es q) None
 
 get-after : (ticket : ℕ) (es : Lasts) (part : Option (Key × Option (ℕ × Kind))) (q : Key) → get pair_cmp (entries_after ticket es part) q
     ≡ cond (option_map_or (λ p. eq_by_cmp pair_cmp q p.0) part false) (option_map (last_put ticket) (option_and_then (λ p. p.1) part)) (get pair_cmp es q)
@@ -119,10 +115,10 @@ kept-inside inside now h is kept = is ∙ kept ∙ sym (ap (λ (k : Kept). kept_
 -- where an entry comes to a new address there is room for it
 fits-room : (t : Table) (c : Change) (k : Key) (x : ℕ × Kind) → fits t c ≡ true → address_part c ≡ Some (k, Some x) → get pair_cmp t.addr k ≡ None → length t.addr < most_addresses
 fits-room t (AddrPut v a p kind) k x fit is none =
-    let same : (v, a) ≡ k = ap (λ (part : Key × Option (ℕ × Kind)). part.0) (same-some ((v, a), Some (p, kind)) (k, Some x) is) in
+    let same : (v, a) ≡ k = ap (λ (part : Key × Option (ℕ × Kind)). part.0) (same_Some ((v, a), Some (p, kind)) (k, Some x) is) in
     ltb-true (length t.addr) most_addresses (sym (ap (λ o. is_some o || nat_lt (length t.addr) most_addresses) (ap (get pair_cmp t.addr) same ∙ none)) ∙ fit)
 fits-room t (AddrDel v a) k x fit is none =
-    let stands : None ≡ Some x = ap (λ (part : Key × Option (ℕ × Kind)). part.1) (same-some ((v, a), None) (k, Some x) is) in
+    let stands : None ≡ Some x = ap (λ (part : Key × Option (ℕ × Kind)). part.1) (same_Some ((v, a), None) (k, Some x) is) in
     absurd (cc)
 fits-room t c k x fit is none = absurd (cc)
 
@@ -179,12 +175,6 @@ further-told edition h at x there =
     ap (messages_of edition (take at h)) (drop_more h at x within ∙ ap (λ c. c ∷ drop (at + 1) h) its)
     ∙ ap (λ l. option_to_list (message_of edition (take at h) x) ++ messages_of edition l (drop (at + 1) h)) (sym (take_more h at x within ∙ ap (λ c. take at h ++ c ∷ []) its))
 
-pub at-place : (h : List Change) (at : ℕ) → at < length h → (x : Change) × (slice_get h at ≡ Some x)
-at-place h at within = ⊎_elim
-    (λ (f : (x : Change) × (at < length h) × (slice_get h at ≡ Some x) × (get_or h at x ≡ x)). (f.0, f.2))
-    (λ (f : (length h ≤ at) × (slice_get h at ≡ None)). absurd (omega (arith, within, f.0)))
-    (slice_get_cases h at).1
-
 pub one-message : (o : Option Neigh) → length (option_to_list o) ≤ 1
 one-message None = omega arith
 one-message (Some m) = omega arith
@@ -222,7 +212,7 @@ module _ (w : World) (chip : Chip) where
       found u None false put same last = none (is_in_domain w.setup.domains chip.dom x.0)
       found u None true put same last =
           let there = update-there edition w.history k u last in
-          let its : u.change ≡ c = same-some u.change c (sym there.0 ∙ ap (deferred_at edition w.history) (eqb-true u.ticket chip.count same) ∙ next) in
+          let its : u.change ≡ c = same_Some u.change c (sym there.0 ∙ ap (deferred_at edition w.history) (eqb-true u.ticket chip.count same) ∙ next) in
           let stands : None ≡ Some x = sym put ∙ ap puts its ∙ is in
           absurd (cc)
 

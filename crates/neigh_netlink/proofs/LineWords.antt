@@ -1,8 +1,8 @@
 -- The words of a line, one after another, and the digits of bytes.
-use Rattle.std.proofs.Common.{◌≡◌, ℕ, zero, suc, ◌+◌, ◌*◌, ◌<◌, ◌≤◌, ◌==◌, Bool, true, false, not, cond, List, [], ◌∷◌, ◌++◌, length, take, drop, get_or, Option, Some, None, is_some, slice_index, ◌-◌, refl, sym, ap, ◌∙◌, append-nil, arith}
+use Rattle.std.proofs.Common.{◌≡◌, ℕ, zero, suc, ◌+◌, ◌*◌, ◌<◌, ◌≤◌, ◌==◌, true, false, not, cond, List, [], ◌∷◌, ◌++◌, length, take, drop, get_or, Option, Some, None, is_some, slice_index, ◌-◌, refl, sym, ap, ◌∙◌, append-nil, arith}
 use Rattle.std.specs.List.{filter, list_all, slice_split, onto_first}
 use Rattle.std.specs.Cmp.{first_so, second_so}
-use Rattle.std.proofs.lemmas.Bool.{and_from, eq-eqb, eqb-true, ne_eqb}
+use Rattle.std.proofs.lemmas.Bool.{and_from, eq-eqb, eqb-true, ne_eqb, not-true}
 use Rattle.std.proofs.lemmas.List.{take-append-drop, take_more}
 use Rattle.std.proofs.lemmas.List.Folds.{list_all-append}
 use Rattle.std.proofs.Math.Seq.{take-length}
@@ -14,21 +14,17 @@ use Rattle.neigh_netlink.specs.Follow.{bytes_say, message_says, words}
 use Rattle.neigh_netlink.specs.Lines.{begins_with_space, is_cut, is_no_space}
 use Rattle.neigh_netlink.proofs.Readings.{other-length}
 
-not-so : (b : Bool) → not b ≡ true → b ≡ false
-not-so true h = absurd (cc)
-not-so false h = refl
-
 -- a word is cut off at a space, or at the end
 split-front : (w rest : List ℕ) → list_all is_no_space w ≡ true → slice_split (λ c. c == 32) (w ++ 32 ∷ rest) ≡ w ∷ slice_split (λ c. c == 32) rest
 split-front [] rest h = refl
 split-front (c ∷ w) rest h =
-    ap (λ b. cond b ([] ∷ slice_split (λ c. c == 32) (w ++ 32 ∷ rest)) (onto_first c (slice_split (λ c. c == 32) (w ++ 32 ∷ rest)))) (not-so (c == 32) (first_so _ _ h))
+    ap (λ b. cond b ([] ∷ slice_split (λ c. c == 32) (w ++ 32 ∷ rest)) (onto_first c (slice_split (λ c. c == 32) (w ++ 32 ∷ rest)))) (not-true (c == 32) (first_so _ _ h))
     ∙ ap (onto_first c) (split-front w rest (second_so _ _ h))
 
-split-alone : (w : List ℕ) → list_all is_no_space w ≡ true → slice_split (λ c. c == 32) w ≡ w ∷ []
+pub split-alone : (w : List ℕ) → list_all is_no_space w ≡ true → slice_split (λ c. c == 32) w ≡ w ∷ []
 split-alone [] h = refl
 split-alone (c ∷ w) h =
-    ap (λ b. cond b ([] ∷ slice_split (λ c. c == 32) w) (onto_first c (slice_split (λ c. c == 32) w))) (not-so (c == 32) (first_so _ _ h))
+    ap (λ b. cond b ([] ∷ slice_split (λ c. c == 32) w) (onto_first c (slice_split (λ c. c == 32) w))) (not-true (c == 32) (first_so _ _ h))
     ∙ ap (onto_first c) (split-alone w (second_so _ _ h))
 
 front-word : (w behind : List ℕ) → is_word w ≡ true → list_all is_no_space w ≡ true → is_cut behind ≡ true → words (w ++ behind) ≡ w ∷ words behind

@@ -1,33 +1,23 @@
 -- Entries by VLAN and address: keys that tie are one, and entries whose values are mapped with their keys.
 use Rattle.std.proofs.Common.{◌≡◌, Bool, true, false, cond, ◌&&◌, Some, None, Option, List, [], ◌∷◌, map, refl, sym, ap, ◌∙◌}
 use Rattle.std.specs.Option.{option_map}
-use Rattle.std.specs.Ordering.{is_eq, is_lt, eq_by_cmp, ordering_reverse}
-use Rattle.std.specs.declared.cmp.Ordering.{Ordering}
-use Rattle.std.specs.declared.cmp.Ordering.TheVariants.{Less, Equal, Greater}
+use Rattle.std.specs.Ordering.{is_eq, is_lt, eq_by_cmp}
+use Rattle.std.specs.declared.cmp.Ordering.TheVariants.{Equal}
 use Rattle.std.specs.Cmp.{tied_itself}
 use Rattle.std.specs.FinMap.Entries.{below_all}
+use Rattle.lemmas.proofs.Orders.{is_eq-true, is_eq-reverse}
 use Rattle.br_model.specs.Data.Maps.{pair_cmp, get, is_ascending}
 use Rattle.br_model.proofs.Data.PairKeys.{pair_total, same_cmp}
 use Rattle.neigh_netlink.specs.Neighbours.{Key}
 
-tied : (r : Ordering) → is_eq r ≡ true → r ≡ Equal
-tied Less h = absurd (cc)
-tied Equal h = refl
-tied Greater h = absurd (cc)
-
 pub same-key : (q k : Key) → eq_by_cmp pair_cmp q k ≡ true → q ≡ k
-same-key q k h = same_cmp q k (tied (pair_cmp q k) h)
+same-key q k h = same_cmp q k (is_eq-true (pair_cmp q k) h)
 
 pub key-itself : (q : Key) → eq_by_cmp pair_cmp q q ≡ true
 key-itself q = let e : pair_cmp q q ≡ Equal = tied_itself pair_total q in ap is_eq e
 
-turned : (r : Ordering) → is_eq (ordering_reverse r) ≡ is_eq r
-turned Less = refl
-turned Equal = refl
-turned Greater = refl
-
 pub eq-turned : (q k : Key) → eq_by_cmp pair_cmp k q ≡ eq_by_cmp pair_cmp q k
-eq-turned q k = ap is_eq (pair_total.antisymm k q) ∙ turned (pair_cmp q k)
+eq-turned q k = ap is_eq (pair_total.antisymm k q) ∙ is_eq-reverse (pair_cmp q k)
 
 pub map-same : {X Y : Type 0} (f g : X → Y) (o : Option X) → ((x : X) → f x ≡ g x) → option_map f o ≡ option_map g o
 map-same f g None e = refl

@@ -3,11 +3,11 @@ use Rattle.std.proofs.Common.{◌≡◌, ℕ, ◌+◌, ◌-◌, ◌<◌, ◌≤�
 use Rattle.std.specs.Prelude.{bytes_eq, if◌then◌else◌, nat_le, nat_lt, ◌==◌}
 use Rattle.std.specs.Int.{w16, w32, to_le_bytes, from_le_bytes, bytes_high_first}
 use Rattle.std.specs.Cmp.{first_so, second_so}
-use Rattle.std.proofs.lemmas.Bool.{ltb-true, leb-true}
+use Rattle.std.proofs.lemmas.Bool.{ltb-true, leb-true, and_right}
 use Rattle.std.proofs.lemmas.Nat.{from_le_bytes-to_le_bytes_2, from_le_bytes-to_le_bytes_4}
 use Rattle.std.proofs.lemmas.Slice.Eq.{bytes_eq-Decides}
 use Rattle.br_model.proofs.Wire.Bpdus.{spelled}
-use Rattle.br_model.proofs.Text.Words.{equal, other, neither}
+use Rattle.br_model.proofs.Text.Words.{equal, other}
 use Rattle.br_model.specs.declared.change.Kind.{Kind}
 use Rattle.br_model.specs.declared.change.Kind.TheVariants.{Local, Static, Learned, Extern}
 use Rattle.br_model.specs.Data.Numbers.{number}
@@ -100,7 +100,7 @@ pub other-length : (b : List ℕ) → (length b ≡ message_length → ⊥) → 
 other-length b long =
     let n = said b in
     let off : bytes_eq (written n) b ≡ false = other (written n) b (λ e. long (sym (ap length e) ∙ written-length n)) in
-    unwritten b n (neither (has_ranges n) _ (neither (is_message n) _ off))
+    unwritten b n (and_right (has_ranges n) _ (and_right (is_message n) _ off))
 
 module _ (b : List ℕ) (n : Neigh) (r : Option Neigh) (there : r ≡ Some n) where
   ranged : (s : Neigh) → r ≡ (if has_ranges s then Some s else None) → (has_ranges s ≡ true) × (s ≡ n)
@@ -119,7 +119,7 @@ module _ (b : List ℕ) (n : Neigh) (r : Option Neigh) (there : r ≡ Some n) wh
   pub refused : r ≡ (if has_ranges (said b) then Some (said b) else None) → (is_message n && bytes_eq (written n) b) ≡ false → None ≡ read b
   refused is off =
       let s = ranged (said b) is in
-      unwritten b (said b) (ap (is_written b) s.1 ∙ neither (has_ranges n) _ off)
+      unwritten b (said b) (ap (is_written b) s.1 ∙ and_right (has_ranges n) _ off)
 
 pub every : (b : List ℕ) (r : Option Neigh) → r ≡ read b → (m : Neigh) → has_ranges m ≡ true → m.mac < 2 ^ 48 → is_message m ≡ true → written m ≡ b → r ≡ Some m
 every b r is m ranged mac message same = is ∙ ap read (sym same) ∙ read-written m ranged mac message

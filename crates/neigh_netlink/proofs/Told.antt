@@ -9,6 +9,8 @@ use Rattle.std.specs.FinMap.Entries.{is_sorted, is_sorted-put, is_sorted-where_k
 use Rattle.std.proofs.lemmas.Bool.{cases_lt, eqb-true, eqb-false, ne_eqb, lt-ltb, le-ltb}
 use Rattle.std.proofs.lemmas.List.{length-take}
 use Rattle.std.proofs.lemmas.List.Sums.{fold-append}
+use Rattle.std.proofs.lemmas.Option.{same_Some}
+use Rattle.lemmas.proofs.Lists.{drop-length}
 use Rattle.br_model.specs.declared.change.Change.{Change}
 use Rattle.br_model.specs.declared.change.Kind.{Kind}
 use Rattle.br_model.specs.declared.change.Update.{Update}
@@ -36,7 +38,6 @@ use Rattle.br_model.proofs.Data.PairKeys.{pair_total, same_cmp}
 use Rattle.br_model.proofs.Plane.Applied.{Applies, AppliesAt, step-applies, step-setup}
 use Rattle.br_model.proofs.Plane.Chips.{chip-own, chip-there, put-same, put-other}
 use Rattle.br_model.proofs.Plane.Kept.{ChipKeeps, chip-stands, first-world, hit_by-keeps, step-world}
-use Rattle.br_model.proofs.Data.Lists.{same-some}
 use Rattle.br_model.proofs.Plane.Stays.{step-accepts}
 use Rattle.neigh_netlink.specs.declared.entries.Entry.{Entry}
 use Rattle.neigh_netlink.specs.declared.neigh.Neigh.{Neigh}
@@ -251,7 +252,7 @@ module _ (w : World) (chip : Chip) (old new : ℕ → Option ℕ) (c : Change) (
       its None last e = absurd (cc)
       its (Some u) last e =
           let there = update-there (edition_of w) w.history q u last in
-          let same : u.change ≡ c = same-some u.change c (sym there.0 ∙ ap (deferred_at (edition_of w) w.history) (eqb-true u.ticket chip.count e) ∙ next) in
+          let same : u.change ≡ c = same_Some u.change c (sym there.0 ∙ ap (deferred_at (edition_of w) w.history) (eqb-true u.ticket chip.count e) ∙ next) in
           touched q u last e (address_part c) (ap (is_of_key q) (sym same) ∙ there.1) (ap puts (sym same))
           ∙ ap (option_map (entry_at (edition_of w) w.history new q)) (sym (get-table (edition_of w) w.history q ∙ ap (option_and_then put_by) last))
 
@@ -279,7 +280,7 @@ bounds w k p n e = by (domain_of w.setup.domains p) e
   where
     at : (d : ℕ) (o : Option Chip) → chip_at w d ≡ o → option_map (λ (c : Chip). c.count) o ≡ Some n → n ≤ deferred_count w.setup.domains.edition w.history
     at d None there e = absurd (cc)
-    at d (Some c) there e = let same = same-some c.count n e in omega (arith, same, (chip-stands w d c k there).applied)
+    at d (Some c) there e = let same = same_Some c.count n e in omega (arith, same, (chip-stands w d c k there).applied)
 
     by : (o : Option ℕ) → option_map (λ (c : Chip). c.count) (chip_of w o) ≡ Some n → n ≤ deferred_count w.setup.domains.edition w.history
     by None e = absurd (cc)
@@ -331,10 +332,6 @@ turns-tell w dom (Some c) t there tells = by (next_of w c) refl
 
 -- Another step leaves what chips have applied.
 
-drop-length : {X : Type 0} (xs ys : List X) → drop (length xs) (xs ++ ys) ≡ ys
-drop-length [] ys = refl
-drop-length (x ∷ xs) ys = drop-length xs ys
-
 same-front : (xs : List Change) (m n : ℕ) → m ≤ length xs → n ≤ length xs → take m xs ≡ take n xs → m ≡ n
 same-front xs m n short less e = omega (arith, ap length e, length-take m xs, length-take n xs)
 
@@ -353,7 +350,7 @@ module _ (w : World) (step : Step) (k : IsWorld w) (is : (dom : ℕ) → applied
       let grows = step-accepts w step in
       let cs = grows.0 in
       let front = cut (edition_of w) w.history b.count in
-      let applies : AppliesAt dom w front = λ x at. subst (λ (y : Chip). Applies (edition_of w) w.history y.count front) (same-some b x (sym before ∙ at))
+      let applies : AppliesAt dom w front = λ x at. subst (λ (y : Chip). Applies (edition_of w) w.history y.count front) (same_Some b x (sym before ∙ at))
       (record { table = refl; synchronous = synchronous_of-cut (edition_of w) w.history b.count; deferred = deferred_of-cut (edition_of w) w.history b.count }) in
       let changes : applied_in dom w step ≡ synchronous_of (edition_of w) cs = is dom ∙ ap (synchronous_of (edition_of w)) (ap (drop (length w.history)) grows.1 ∙ drop-length w.history cs) in
       let now = subst (λ (s : Setup). Applies s.domains.edition next_world.history c.count (front ++ applied_in dom w step)) (step-setup w step)
@@ -405,7 +402,7 @@ step-tells w t step k e = accepted-tells w step k (λ dom. refl) t e
 
 -- Runs.
 
-same-world : (w : World) (ms : List Neigh) (x : Stepped) (steps : List Step) → w ≡ x.0 → (fold monitors (w, ms) steps).0 ≡ (fold then_step x steps).0
+pub same-world : (w : World) (ms : List Neigh) (x : Stepped) (steps : List Step) → w ≡ x.0 → (fold monitors (w, ms) steps).0 ≡ (fold then_step x steps).0
 same-world w ms x [] e = e
 same-world w ms x (step ∷ steps) e =
     same-world (world_step w step).0 (ms ++ messages_in w step) (then_step x step) steps (ap (λ (v : World). (world_step v step).0) e)

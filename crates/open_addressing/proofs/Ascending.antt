@@ -1,7 +1,7 @@
 -- Lists of keys: two sorted lists that have the same keys are equal, and so a sort gives the keys of entries in order.
 use Rattle.std.proofs.Common.{◌≡◌, ℕ, zero, suc, ◌+◌, ◌<◌, Bool, true, false, cond, Option, None, Some, List, [], ◌∷◌, get_or, map, filter, filter_map, IsPermutation, IsSorted, refl, sym, ap, subst, ◌∙◌, arith}
 use Rattle.std.specs.List.{cons_option}
-use Rattle.std.specs.Ordering.{is_eq, is_gt, is_lt, eq_by_cmp, ordering_reverse, nat_cmp}
+use Rattle.std.specs.Ordering.{is_eq, is_gt, is_lt, eq_by_cmp, nat_cmp}
 use Rattle.std.specs.declared.cmp.Ordering.{Ordering}
 use Rattle.std.specs.declared.cmp.Ordering.TheVariants.{Less, Equal, Greater}
 use Rattle.std.specs.Cmp.{first_so, second_so}
@@ -10,11 +10,12 @@ use Rattle.std.proofs.lemmas.List.Sorted.{sum_by-IsPermutation}
 use Rattle.std.proofs.lemmas.List.Recursion.{is_sum_by}
 use Rattle.std.proofs.lemmas.Map.Lookups.{exact_unsigned}
 use Rattle.std.specs.FinMap.Entries.{find, put, below_all, by_order, is_sorted}
+use Rattle.lemmas.proofs.Orders.{is_gt-reverse, eq_by_cmp-true, Equal_from_neither}
+use Rattle.lemmas.proofs.Tests.{true_from_T, by_test}
 use Rattle.open_addressing.specs.Zipped.{key_of}
 use Rattle.open_addressing.specs.Lookups.{IsApart}
 use Rattle.open_addressing.specs.Finite.{entries_of, keys_where, key_if}
-use Rattle.open_addressing.proofs.Lookups.{by_test}
-use Rattle.open_addressing.proofs.Entries.{sorted-entries_of, apart-tail, alone, true_of}
+use Rattle.open_addressing.proofs.Entries.{sorted-entries_of, apart-tail, alone}
 
 abbrev pub hit : ℕ → ℕ → ℕ
 hit q k = cond (eq_by_cmp nat_cmp q k) 1 0
@@ -36,32 +37,19 @@ abbrev Ascends : List ℕ → Type 0
 Ascends [] = Unit {0}
 Ascends (k ∷ ks) = Low k ks × Ascends ks
 
-gt_reverse : (r : Ordering) → is_gt (ordering_reverse r) ≡ is_lt r
-gt_reverse Less = refl
-gt_reverse Equal = refl
-gt_reverse Greater = refl
-
 not_gt : (r : Ordering) → is_lt r ≡ true → is_gt r ≡ false
 not_gt Less e = refl
 not_gt Equal e = absurd (cc)
 not_gt Greater e = absurd (cc)
 
-equal : (r : Ordering) → is_eq r ≡ true → r ≡ Equal
-equal Less e = absurd (cc)
-equal Equal e = refl
-equal Greater e = absurd (cc)
-
-same_key : (x y : ℕ) → eq_by_cmp nat_cmp x y ≡ true → x ≡ y
-same_key x y e = exact_unsigned x y (equal _ e)
-
 not_lt_back : (x y : ℕ) → is_lt (nat_cmp y x) ≡ false → is_gt (nat_cmp x y) ≡ false
-not_lt_back x y e = ap is_gt (nat_cmp_total.antisymm x y) ∙ gt_reverse (nat_cmp y x) ∙ e
+not_lt_back x y e = ap is_gt (nat_cmp_total.antisymm x y) ∙ is_gt-reverse (nat_cmp y x) ∙ e
 
 -- one more key at the front
 low_more : (k x : ℕ) (ks : List ℕ) → is_gt (nat_cmp k x) ≡ false → ((q : ℕ) → 0 < times q ks → is_gt (nat_cmp k q) ≡ false) → Low k (x ∷ ks)
 low_more k x ks here rest q there =
     by_test (eq_by_cmp nat_cmp q x)
-    (λ same. subst (λ y. is_gt (nat_cmp k y) ≡ false) (sym (same_key q x same)) here)
+    (λ same. subst (λ y. is_gt (nat_cmp k y) ≡ false) (sym (eq_by_cmp-true q x same)) here)
     (λ apart_q. (let none : hit q x ≡ 0 = ap (λ b. cond b 1 0) apart_q in rest q (omega arith)))
 
 ascends_from : (ks : List ℕ) → IsSorted nat_cmp ks → Ascends ks
@@ -81,11 +69,6 @@ hit_self k = ap (λ r. cond (is_eq r) 1 0) (tied_itself nat_cmp_total k)
 self_not_gt : (k : ℕ) → is_gt (nat_cmp k k) ≡ false
 self_not_gt k = ap is_gt (tied_itself nat_cmp_total k)
 
-level : (r : Ordering) → is_gt r ≡ false → is_gt (ordering_reverse r) ≡ false → r ≡ Equal
-level Less p q = absurd (cc)
-level Equal p q = refl
-level Greater p q = absurd (cc)
-
 -- two lists in order with the same keys are equal
 unique : (ys zs : List ℕ) → Ascends ys → Ascends zs → ((q : ℕ) → times q ys ≡ times q zs) → ys ≡ zs
 unique [] [] s t same = refl
@@ -98,7 +81,7 @@ unique (y ∷ ys) (z ∷ zs) s t same =
     let at_z = same z in
     let low_y : is_gt (nat_cmp y z) ≡ false = low_more y y ys (self_not_gt y) s.0 z (omega arith) in
     let low_z : is_gt (nat_cmp z y) ≡ false = low_more z z zs (self_not_gt z) t.0 y (omega arith) in
-    let is : y ≡ z = exact_unsigned y z (level (nat_cmp y z) low_y (ap is_gt (sym (nat_cmp_total.antisymm z y)) ∙ low_z)) in
+    let is : y ≡ z = exact_unsigned y z (Equal_from_neither (nat_cmp y z) low_y (ap is_gt (sym (nat_cmp_total.antisymm z y)) ∙ low_z)) in
     let rest : ys ≡ zs = unique ys zs s.1 t.1 (λ q. (let h : hit q y ≡ hit q z = ap (hit q) is in let all = same q in omega arith)) in
     λ i. is i ∷ rest i
 
@@ -162,5 +145,5 @@ module _ {V : Type 0} (p : V → Bool) where
   -- the keys of the cells, once they are sorted
   pub sorted_keys : (cs : List (Option (ℕ × V))) (ks ys : List ℕ) → IsApart key_of cs → ks ≡ filter_map (key_if p) cs → IsPermutation ks ys → IsSorted nat_cmp ys → ys ≡ keys_where p (entries_of cs)
   sorted_keys cs ks ys apart is moved sorted =
-      unique ys (keys_where p (entries_of cs)) (ascends_from ys sorted) (ascends-keys_where (entries_of cs) (true_of _ (sorted-entries_of cs)))
+      unique ys (keys_where p (entries_of cs)) (ascends_from ys sorted) (ascends-keys_where (entries_of cs) (true_from_T _ (sorted-entries_of cs)))
       (λ q. sym (times-permutation q ks ys moved) ∙ ap (times q) is ∙ times-cells q cs apart)

@@ -2,26 +2,17 @@
 use Rattle.std.proofs.Common.{◌≡◌, ◌≢◌, ℕ, zero, suc, ◌+◌, Bool, true, false, T, eqb, not, cond, Option, None, Some, List, [], ◌∷◌, length, count_by, replicate, is_some, refl, sym, ap, ◌∙◌, arith}
 use Rattle.std.specs.Ordering.{eq_by_cmp, nat_cmp}
 use Rattle.std.specs.Cmp.{unsigned_tied}
-use Rattle.std.proofs.lemmas.Bool.{eqb-true, ne_eqb, eq-eqb}
+use Rattle.std.proofs.lemmas.Bool.{ne_eqb, eq-eqb}
 use Rattle.std.proofs.lemmas.Cmp.{nat_cmp_total}
 use Rattle.std.proofs.lemmas.List.Sums.{sum_by-cons}
 use Rattle.std.proofs.lemmas.Map.Lookups.{exact_unsigned}
 use Rattle.std.specs.FinMap.Entries.{find, put, where_key, is_sorted, find-put, find-where_key, same_entries, is_sorted-put, is_sorted-where_key, length-put}
+use Rattle.lemmas.proofs.Orders.{eq_by_cmp-turned}
+use Rattle.lemmas.proofs.Tests.{by_test}
 use Rattle.open_addressing.specs.Zipped.{key_of}
 use Rattle.open_addressing.specs.Lookups.{has, IsApart, is_used}
 use Rattle.open_addressing.specs.Finite.{with_cell, entries_of, in_cell, value_at}
-use Rattle.open_addressing.proofs.Lookups.{by_test, find-none}
-
-pub true_of : (b : Bool) → T b → b ≡ true
-true_of true h = refl
-true_of false h = absurd h
-
-eqb-sym : (a b : ℕ) → eqb a b ≡ eqb b a
-eqb-sym a b = by_test (eqb a b) (λ yes. yes ∙ sym (eq-eqb b a (sym (eqb-true a b yes)))) (λ no. by_test (eqb b a) (λ yes. absurd (cc (eq-eqb a b (sym (eqb-true b a yes))))) (λ no'. no ∙ sym no'))
-
--- a key ties with another as it equals it
-pub ties : (q k : ℕ) → eq_by_cmp nat_cmp q k ≡ eqb k q
-ties q k = unsigned_tied q k ∙ eqb-sym q k
+use Rattle.open_addressing.proofs.Lookups.{find-none}
 
 module _ {V : Type 0} where
   pub sorted-entries_of : (cs : List (Option (ℕ × V))) → T (is_sorted nat_cmp (entries_of cs))
@@ -42,7 +33,7 @@ module _ {V : Type 0} where
   find-with : (q k : ℕ) (v : V) (cs : List (Option (ℕ × V))) → q ≢ 0 → find nat_cmp q (entries_of cs) ≡ value_at cs q → find nat_cmp q (with_cell k v (entries_of cs)) ≡ cond (eqb k q) (Some v) (value_at cs q)
   find-with q zero v cs some rest = rest ∙ sym (ap (λ b. cond b (Some v) (value_at cs q)) (ne_eqb 0 q (λ z. some (sym z))))
   find-with q (suc k) v cs some rest =
-      find-put nat_cmp nat_cmp_total q (suc k) v (entries_of cs) ∙ (λ i. cond (ties q (suc k) i) (Some v) (rest i))
+      find-put nat_cmp nat_cmp_total q (suc k) v (entries_of cs) ∙ (λ i. cond (eq_by_cmp-turned q (suc k) i) (Some v) (rest i))
 
   pub find-entries_of : (cs : List (Option (ℕ × V))) (q : ℕ) → q ≢ 0 → find nat_cmp q (entries_of cs) ≡ value_at cs q
   find-entries_of [] q some = refl
@@ -55,7 +46,7 @@ module _ {V : Type 0} where
   find-zero (Some e ∷ cs) =
       elim e.0 as (λ k. find nat_cmp 0 (with_cell k e.1 (entries_of cs)) ≡ None) [
         | zero ↦ find-zero cs
-        | suc k ↦ find-put nat_cmp nat_cmp_total 0 (suc k) e.1 (entries_of cs) ∙ (λ i. cond ((ties 0 (suc k) ∙ ne_eqb (suc k) 0 (λ e. omega arith)) i) (Some e.1) (find-zero cs i))
+        | suc k ↦ find-put nat_cmp nat_cmp_total 0 (suc k) e.1 (entries_of cs) ∙ (λ i. cond ((eq_by_cmp-turned 0 (suc k) ∙ ne_eqb (suc k) 0 (λ e. omega arith)) i) (Some e.1) (find-zero cs i))
       ]
 
   -- entries in order with the same look-ups are the cells' entries
@@ -70,8 +61,8 @@ module _ {V : Type 0} where
   pub entries-put : (old new : List (Option (ℕ × V))) (k : ℕ) (v : V) → k ≢ 0 → ((q : ℕ) → q ≢ 0 → value_at new q ≡ cond (eqb k q) (Some v) (value_at old q)) → entries_of new ≡ put nat_cmp k v (entries_of old)
   entries-put old new k v some same =
       same_table new (put nat_cmp k v (entries_of old)) (is_sorted-put nat_cmp nat_cmp_total k v (entries_of old) (sorted-entries_of old))
-      (find-put nat_cmp nat_cmp_total 0 k v (entries_of old) ∙ (λ i. cond ((ties 0 k ∙ ne_eqb k 0 some) i) (Some v) (find-zero old i)))
-      (λ q qs. same q qs ∙ sym (find-put nat_cmp nat_cmp_total q k v (entries_of old) ∙ (λ i. cond (ties q k i) (Some v) (find-entries_of old q qs i))))
+      (find-put nat_cmp nat_cmp_total 0 k v (entries_of old) ∙ (λ i. cond ((eq_by_cmp-turned 0 k ∙ ne_eqb k 0 some) i) (Some v) (find-zero old i)))
+      (λ q qs. same q qs ∙ sym (find-put nat_cmp nat_cmp_total q k v (entries_of old) ∙ (λ i. cond (eq_by_cmp-turned q k i) (Some v) (find-entries_of old q qs i))))
 
   pub value-none : (cs : List (Option (ℕ × V))) (q : ℕ) → count_by (has key_of q) cs ≡ 0 → value_at cs q ≡ None
   value-none cs q none = ap in_cell (find-none (has key_of q) cs none)

@@ -3,11 +3,12 @@ use Rattle.std.proofs.Common.{◌≡◌, ◌≢◌, ℕ, zero, suc, ◌+◌, ◌
 use Rattle.std.proofs.lemmas.Bool.{eqb-true, ne_eqb, eq-eqb}
 use Rattle.std.proofs.lemmas.List.{get_or_default, length-set, length-replicate}
 use Rattle.std.proofs.lemmas.List.Sums.{sum_by-cons}
+use Rattle.lemmas.proofs.Tests.{by_test}
 use Rattle.open_addressing.specs.Hashed.{key_in}
 use Rattle.open_addressing.specs.Zipped.{key_of, value_of, cell_of}
 use Rattle.open_addressing.specs.Lookups.{has, IsApart, is_used}
 use Rattle.open_addressing.specs.Finite.{in_cell, value_at, AreCells}
-use Rattle.open_addressing.proofs.Lookups.{by_test, found, find-at, find-none, find-set, found-none, count-set, count-pos}
+use Rattle.open_addressing.proofs.Lookups.{found, find-at, find-none, find-set, found-none, count-set, count-pos}
 use Rattle.open_addressing.proofs.Zipped.{key_of-cell, value_of-cell}
 
 is_some_key : (k : ℕ) → k ≢ 0 → not (eqb k 0) ≡ true

@@ -1,9 +1,7 @@
 -- Keys with their values as cells.
-use Rattle.std.proofs.Common.{◌≡◌, ◌≢◌, ℕ, zero, suc, ◌<◌, ◌≤◌, Bool, true, false, cond, Option, None, Some, List, [], ◌∷◌, ◌++◌, ◌+◌, take, filter_map, map, length, replicate, get_or, set, refl, sym, ap, subst, ◌∙◌, arith}
+use Rattle.std.proofs.Common.{◌≡◌, ◌≢◌, ℕ, zero, suc, ◌<◌, ◌≤◌, Bool, true, false, cond, Option, None, Some, List, [], ◌∷◌, filter_map, map, length, replicate, get_or, set, refl, sym, ap, subst, ◌∙◌, arith}
 use Rattle.std.specs.List.{cons_option}
-use Rattle.std.proofs.Math.Seq.{take-suc}
 use Rattle.std.proofs.lemmas.List.{get_or-map, length-map, map-set}
-use Rattle.std.proofs.lemmas.List.Elements.{filter_map-append}
 use Rattle.lists.specs.Padded.{padded}
 use Rattle.lists.proofs.Filling.{length-padded, padded-none, map-padded}
 use Rattle.open_addressing.specs.Zipped.{cell_of, cells_of, key_of, value_of, pair_cell}
@@ -113,12 +111,6 @@ module _ {V : Type 0} where
 
   pub padded-make : (n : ℕ) (es : List (ℕ × V)) (v : V) → es ≡ [] → map pair_cell (padded (0, v) n es) ≡ replicate n None
   padded-make n es v none = ap (λ (xs : List (ℕ × V)). map pair_cell (padded (0, v) n xs)) none ∙ pairs-padded n [] v ∙ padded-none None n
-
--- one item more
-pub filter_map-next : {X Y : Type 0} (h : X → Option Y) (xs : List X) (i : ℕ) (d : X) → i < length xs → filter_map h (take (i + 1) xs) ≡ filter_map h (take i xs) ++ cons_option (h (get_or xs i d)) []
-filter_map-next h xs i d within =
-    let next : i + 1 ≡ suc i = omega arith in
-    ap (λ n. filter_map h (take n xs)) next ∙ ap (filter_map h) (take-suc xs i d within) ∙ filter_map-append h (take i xs) (get_or xs i d ∷ [])
 
 -- what goes over cells, and passes by those that hold none, passes by those behind
 module _ {V R : Type 0} (over : List (Option (ℕ × V)) → R) (step : Option (ℕ × V) → R → R)

@@ -6,6 +6,8 @@ use Rattle.std.specs.declared.option.Option.{Option}
 use Rattle.std.specs.declared.option.Option.TheVariants.{None, Some}
 use Rattle.std.specs.declared.result.Result.{Result}
 use Rattle.std.specs.declared.result.Result.TheVariants.{Ok, Err}
+use Rattle.std.proofs.lemmas.Bool.{lt-ltb}
+use Rattle.lemmas.proofs.Tests.{by_if}
 use Rattle.br_model.specs.declared.capture.CapKind.{CapKind}
 use Rattle.br_model.specs.declared.capture.CapKind.TheVariants.{Captured}
 use Rattle.br_model.specs.declared.capture.Packet.{Packet}
@@ -20,10 +22,6 @@ Fits ports (Ok said) = (length said.0 ≤ ports) × IfSome said.1 (λ packet. pa
 abbrev CameBy : ℕ → Result Packet CapKind → Type 0
 CameBy interface (Err kind) = Unit {0}
 CameBy interface (Ok packet) = packet.interface ≡ interface
-
-by_if : {A : Type 0} (P : A → Type 0) (b : Bool) (x y : A) → P x → P y → P (if b then x else y)
-by_if P true x y p q = p
-by_if P false x y p q = q
 
 cut_out : (interface captured : ℕ) (body : List ℕ) → CameBy interface (packet_of interface captured body)
 cut_out interface captured body = by (nat_lt (length body) (20 + captured))
@@ -60,10 +58,7 @@ has_port ports packet = nat_lt packet.interface ports
 
 all_in_front : (ports : ℕ) (o : Option Packet) (c : Capture) → IfSome o (λ packet. packet.interface < ports) → list_all (has_port ports) c.packets ≡ true → list_all (has_port ports) (in_front o c).packets ≡ true
 all_in_front ports None c below all = all
-all_in_front ports (Some packet) c below all = rw (is_below packet.interface ports below, all) refl
-  where
-    is_below : (n m : ℕ) → n < m → nat_lt n m ≡ true
-    is_below n m h = grind arith
+all_in_front ports (Some packet) c below all = rw (lt-ltb packet.interface ports below, all) refl
 
 front_fits : (ports at : ℕ) (said : Said) (behind : List ℕ → Capture) → Fits ports said → ((links : List ℕ) → length links ≤ ports → list_all (has_port ports) (behind links).packets ≡ true)
     → list_all (has_port ports) (read_front at said behind).packets ≡ true

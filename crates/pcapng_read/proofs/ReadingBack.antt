@@ -1,9 +1,11 @@
 -- A capture that is written is read back.
-use Rattle.std.proofs.Common.{◌≡◌, ℕ, zero, suc, ◌+◌, ◌-◌, ◌%◌, ◌^◌, ◌<◌, ◌≤◌, ◌==◌, nat_lt, false, true, List, [], ◌∷◌, ◌++◌, length, take, drop, replicate, slice_get, refl, ap, ◌∙◌, arith, lit<}
+use Rattle.std.proofs.Common.{◌≡◌, ℕ, zero, suc, ◌+◌, ◌-◌, ◌%◌, ◌^◌, ◌<◌, ◌≤◌, nat_lt, false, true, List, [], ◌∷◌, ◌++◌, length, take, drop, replicate, slice_get, refl, ap, ◌∙◌, arith, lit<}
 use Rattle.std.proofs.lemmas.List.{take_all, length-drop, length-append, length-replicate, replicate_more}
 use Rattle.std.specs.declared.option.Option.{Option}
 use Rattle.std.specs.declared.option.Option.TheVariants.{None, Some}
 use Rattle.std.specs.declared.result.Result.TheVariants.{Ok}
+use Rattle.std.proofs.lemmas.Bool.{le-ltb}
+use Rattle.lemmas.proofs.Numbers.{eqb-itself}
 use Rattle.byteorder.specs.Endian.{big_number, little_number}
 use Rattle.byteorder.specs.Numbers.{big_number-reads_back, little_number-reads_back}
 use Rattle.br_model.specs.declared.capture.Order.{Order}
@@ -72,18 +74,12 @@ drop_block order kind body rest =
     ∙ drop_front body 4 _
     ∙ drop_four order (length body + 12) 0 rest
 
-same : (n : ℕ) → (n == n) ≡ true
-same n = grind arith
-
 -- a whole block, by what its fields say
 whole_is : (before : Option Order) (order : Order) (bytes : List ℕ) (kind size : ℕ) (body : List ℕ)
     → nat_lt (length bytes) 12 ≡ false → order_of before bytes ≡ Ok order → number_in order bytes 4 4 ≡ size → number_in order bytes 0 4 ≡ kind
     → is_length kind size ≡ true → nat_lt (length bytes) size ≡ false → number_in order bytes (size - 4) 4 ≡ size → take (size - 12) (drop 8 bytes) ≡ body
     → front before bytes ≡ Ok (record { order = order; kind = kind; body = body })
-whole_is before order bytes kind size body long first sized kinded sizes fits repeated holds = rw (long, first, sized, kinded, sizes, fits, repeated, same size, holds) refl
-
-long_enough : (n m : ℕ) → m ≤ n → nat_lt n m ≡ false
-long_enough n m h = grind (arith, h)
+whole_is before order bytes kind size body long first sized kinded sizes fits repeated holds = rw (long, first, sized, kinded, sizes, fits, repeated, eqb-itself size, holds) refl
 
 front_of : (before : Option Order) (order : Order) (kind : ℕ) (body rest : List ℕ)
     → order_of before (block order kind body rest) ≡ Ok order → kind < 2 ^ 32 → length body + 12 < 2 ^ 32 → is_length kind (length body + 12) ≡ true
@@ -94,12 +90,12 @@ front_of before order kind body rest first below small sizes =
     let long : size ≤ length bytes = omega (arith, length_block order kind body rest) in
     let end : List ℕ = bytes_in order 4 size ++ rest in
     whole_is before order bytes kind size body
-    (long_enough _ _ (omega (arith, long)))
+    (le-ltb _ _ (omega (arith, long)))
     first
     (number_behind order bytes 4 ∙ ap (λ l. number_in order l 0 4) (drop_four order kind 0 (bytes_in order 4 size ++ (body ++ end))) ∙ reads_back order size (body ++ end) small)
     (reads_back order kind _ below)
     sizes
-    (long_enough _ _ long)
+    (le-ltb _ _ long)
     (number_behind order bytes (size - 4) ∙ ap (λ l. number_in order l 0 4) (drop_body order kind body rest) ∙ reads_back order size rest small)
     (ap (λ l. take (size - 12) l) (drop_to_body order kind body rest) ∙ ap (λ n. take n (body ++ end)) (omega arith) ∙ take_front body end)
 
@@ -186,7 +182,7 @@ says_packet order ports n p here below fits =
     number_behind order body 12 ∙ ap (λ l. number_in order l 0 4) (drop_four order p.interface 8 (replicate 8 0 ++ (bytes_in order 4 len ++ original))) ∙ reads_back order len original (omega (arith, fits)) in
     let start : drop 20 body ≡ captured =
     drop_four order p.interface 16 (replicate 8 0 ++ (bytes_in order 4 len ++ original)) ∙ drop_four order len 4 original ∙ drop_four order len 0 captured in
-    let long : nat_lt (length body) (20 + len) ≡ false = long_enough _ _ (omega (arith, packet_length order p)) in
+    let long : nat_lt (length body) (20 + len) ≡ false = le-ltb _ _ (omega (arith, packet_length order p)) in
     rw (by, has_link n p.interface here, count, long, start, take_front p.bytes (padding len))
     (ap (λ i. Ok (links-of n, Some (record { interface = i; bytes = p.bytes }))) by)
 

@@ -1,9 +1,11 @@
 -- What a call of a plane comes to, by what its sides and its frames come to.
-use Rattle.std.proofs.Common.{◌≡◌, ℕ, ◌+◌, ◌==◌, ◌≤◌, nat_le, true, false, cond, ◌&&◌, not, List, [], ◌∷◌, length, take, drop, slice_get, Option, None, Some, option_map, refl, sym, ap, ◌∙◌, subst, arith}
-use Rattle.std.proofs.lemmas.Bool.{eqb-true}
+use Rattle.std.proofs.Common.{◌≡◌, ℕ, ◌+◌, ◌==◌, ◌≤◌, nat_le, true, cond, ◌&&◌, not, List, [], ◌∷◌, length, take, drop, slice_get, Option, None, Some, option_map, refl, sym, ap, ◌∙◌, subst, arith}
+use Rattle.std.proofs.lemmas.Bool.{eqb-true, le-leb}
 use Rattle.std.specs.Option.{is_some}
 use Rattle.std.specs.List.{filter, find, list_any}
 use Rattle.std.specs.Ordering.{nat_cmp}
+use Rattle.lemmas.proofs.Lists.{find-passes}
+use Rattle.lemmas.proofs.Endings.{option_map-none}
 use Rattle.br_model.specs.declared.change.Change.{Change}
 use Rattle.br_model.specs.declared.steps.Event.{Event}
 use Rattle.br_model.specs.declared.steps.Event.TheVariants as events
@@ -118,20 +120,9 @@ stands_held s q r n m floor e f g k =
 
 -- A held frame is sent.
 
-found_id : (id : ℕ) (hs : List Holding) (x : Holding) → find (λ h. h.waiting.id == id) hs ≡ Some x → (x.waiting.id == id) ≡ true
-found_id id [] x e = absurd (cc)
-found_id id (h ∷ hs) x e =
-    (elim (h.waiting.id == id) as (λ b. (h.waiting.id == id) ≡ b → cond b (Some h) (find (λ g. g.waiting.id == id) hs) ≡ Some x → (x.waiting.id == id) ≡ true) [
-      | true ↦ λ is e. let same : h ≡ x = cc in subst (λ (y : Holding). (y.waiting.id == id) ≡ true) same is
-      | false ↦ λ no e. found_id id hs x e
-    ]) refl e
-
-le_test : (a b : ℕ) → a ≤ b → nat_le a b ≡ true
-le_test a b h = grind arith
-
 -- so many changes were published, at the floor or later
 points : (w : World) (x : Holding) (point : ℕ) → has nat_cmp w.counts point ≡ true → x.floor ≤ point → is_point w x point ≡ true
-points w x point known late = ap (λ b. b && nat_le x.floor point) known ∙ le_test x.floor point late
+points w x point known late = ap (λ b. b && nat_le x.floor point) known ∙ le-leb x.floor point late
 
 posts_found : (s t : SidesState) (q : Queued) (id point : ℕ) (x : Holding) (m : ℕ) (lines : List Line) → find (λ h. h.waiting.id == id) q.held ≡ Some x
     → has nat_cmp s.published.counts point ≡ true → x.floor ≤ point → Comes (λ w. posts w x.waiting point) s m t lines
@@ -140,7 +131,7 @@ posts_found s t q id point x m lines e known late h =
     let w = world_of s q m in
     ap (λ o. posts_at w o (Some point)) e
     ∙ ap (λ b. cond {A = Stepped} b (posts (lets_go w x.waiting.id) x.waiting point) (refused w NoSuchPoint)) (points w x point known late)
-    ∙ ap (λ i. posts (lets_go w i) x.waiting point) (eqb-true x.waiting.id id (found_id id q.held x e))
+    ∙ ap (λ i. posts (lets_go w i) x.waiting point) (eqb-true x.waiting.id id (find-passes (λ h. h.waiting.id == id) q.held x e))
     ∙ h (record q { held = filter (λ g. not (g.waiting.id == id)) q.held })
 
 -- a frame that is found is the one that is held
@@ -179,7 +170,7 @@ pub posts_floor : (s t : SidesState) (q r : Queued) (id m floor : ℕ) (x : Hold
 posts_floor s t q r id m floor x f lines e same at comes left =
     let w = world_of s q m in
     ap (λ o. posts_at w o None) e
-    ∙ ap (λ i. posts (lets_go w i) x.waiting x.floor) (eqb-true x.waiting.id id (found_id id q.held x e))
+    ∙ ap (λ i. posts (lets_go w i) x.waiting x.floor) (eqb-true x.waiting.id id (find-passes (λ h. h.waiting.id == id) q.held x e))
     ∙ ap (λ (g : Waiting). posts (lets_go w id) g x.floor) (sym same)
     ∙ ap (posts (lets_go w id) f) (sym at)
     ∙ comes (record q { held = filter (λ g. not (g.waiting.id == id)) q.held })
@@ -191,11 +182,7 @@ posts_floor s t q r id m floor x f lines e same at comes left =
 pub turns_none : (s : SidesState) (q : Queued) (dom m : ℕ) (c : Chip) → chip_in s.chips dom ≡ Some c → slice_get (updates s.setup.domains.edition s.history) c.count ≡ None
     → does (world_of s q m) (Turn dom) ≡ (world_of s q m, lines.Refused m NothingPending ∷ [])
 turns_none s q dom m c found none =
-    ap (turns (world_of s q m)) found ∙ ap (turns_to (world_of s q m) c) (by (deferred_at s.setup.domains.edition s.history c.count) (sym (updates-at s.setup.domains.edition s.history c.count) ∙ none))
-  where
-    by : (o : Option Change) → option_map (under_ticket c.count) o ≡ None → o ≡ None
-    by None e = refl
-    by (Some d) e = absurd (cc)
+    ap (turns (world_of s q m)) found ∙ ap (turns_to (world_of s q m) c) (option_map-none (under_ticket c.count) (deferred_at s.setup.domains.edition s.history c.count) (sym (updates-at s.setup.domains.edition s.history c.count) ∙ none))
 
 -- this one is
 pub turns_one : (s t : SidesState) (q : Queued) (dom m : ℕ) (c : Chip) (u : Update) → chip_in s.chips dom ≡ Some c → slice_get (updates s.setup.domains.edition s.history) c.count ≡ Some u

@@ -1,15 +1,16 @@
 -- Another chip in the place of that of a domain.
-use Rattle.std.proofs.Common.{◌≡◌, ℕ, ◌+◌, List, length, set, slice_get, Option, None, Some, option_map, refl, sym, ap, ◌∙◌, subst, arith}
+use Rattle.std.proofs.Common.{◌≡◌, ℕ, ◌+◌, List, length, set, slice_get, Some, option_map, refl, sym, ap, ◌∙◌, subst, arith}
 use Rattle.std.proofs.Math.Seq.{map-set_same}
 use Rattle.std.proofs.lemmas.Bool.{eqb-true, eq-eqb, ne_eqb}
 use Rattle.std.proofs.lemmas.List.Elements.{All-set, recursion_from_All}
 use Rattle.std.proofs.lemmas.Simd.{map-map}
 use Rattle.std.proofs.lemmas.Option.{slice_get_within, get_or_from_slice_get}
-use Rattle.std.specs.Prelude.{◌==◌, is_some, true, OnErr, OnOk}
+use Rattle.std.specs.Prelude.{◌==◌, is_some, true, OnOk}
 use Rattle.std.specs.declared.result.Result.{Result}
 use Rattle.std.specs.declared.result.Result.TheVariants.{Ok, Err}
 use Rattle.std.specs.List.{list_any}
 use Rattle.std.specs.Option.{option_eq}
+use Rattle.lemmas.proofs.Lists.{find-passes}
 use Rattle.br_model.specs.declared.change.Update.{Update}
 use Rattle.br_model.specs.declared.steps.Refusal.{Refusal}
 use Rattle.br_model.specs.declared.transcript.Line.{Line}
@@ -23,7 +24,7 @@ use Rattle.br_model.specs.declared.change.Change.{Change}
 use Rattle.br_model.proofs.Table.Cuts.{cut-turn, deferred_at-deferred, updates-named}
 use Rattle.br_model.proofs.Plane.Chips.{chip-there}
 use Rattle.br_model.proofs.Plane.Kept.{hit_by-keeps}
-use Rattle.br_model.proofs.Data.Lists.{find-each, find-passes}
+use Rattle.br_model.proofs.Data.Lists.{find-each}
 use Rattle.chip_driver.specs.Drives.{Drives}
 use Rattle.chip_pipeline.specs.Passed.{AtChip}
 use Rattle.chip_tables.specs.Stands.{Stands}
@@ -34,6 +35,7 @@ use Rattle.plane_core.specs.Sides.{AreSides, Reacted, SidesState}
 use Rattle.plane_parts.specs.Places.{places}
 use Rattle.plane_parts.proofs.Placing.{count}
 use Rattle.br_model.proofs.Table.ChipLists.{apart, apart-chips, chip-found, not-software, put-place, some-found}
+use Rattle.br_model.proofs.Plane.ByDomain.{same_chip}
 
 -- what is there for the definitions is there for the states
 pub there_at : (states : List ChipState) (chips : List Chip) (dom : ℕ) → chips_of states ≡ chips → is_some (chip_in chips dom) ≡ true → is_some (state_in states dom) ≡ true
@@ -42,34 +44,9 @@ there_at states chips dom are some = sym (some-found (λ (s : ChipState). s.chip
 pub found_at : (states : List ChipState) (chips : List Chip) (dom : ℕ) (c : ChipState) → chips_of states ≡ chips → state_in states dom ≡ Some c → chip_in chips dom ≡ Some c.chip
 found_at states chips dom c are found = ap (λ (cs : List Chip). chip_in cs dom) (sym are) ∙ chip-found (λ (s : ChipState). s.chip) states dom ∙ ap (option_map (λ (s : ChipState). s.chip)) found
 
-pub some_is : {X : Type 0} (o : Option X) → is_some o ≡ true → (x : X) × (o ≡ Some x)
-some_is None e = absurd (cc)
-some_is (Some x) e = (x, refl)
-
--- so it is the one that is spoken of
-pub same_chip : (chips : List Chip) (dom : ℕ) (c d : Chip) → chip_in chips dom ≡ Some c → chip_in chips dom ≡ Some d → c ≡ d
-same_chip chips dom c d e f = let g : Some c ≡ Some d = sym e ∙ f in cc
-
 -- there is a place for each deferred change of the bridge
 pub counted : (b : Controlled) (noted : List ℕ) → noted ≡ places b.setup.domains.edition b.history → length noted ≡ deferred_count b.setup.domains.edition b.history
 counted b noted are = ap length are ∙ count b.setup.domains.edition b.history
-
--- what holds of a call by its result
-pub on_either : {A E P Q X : Type 0} (r : Result A E) → OnOk r P → OnErr r Q → (P → X) → (Q → X) → X
-on_either (Ok x) p q f g = f p
-on_either (Err e) p q f g = g q
-
-pub where_ok : {A E P Q : Type 0} (r : Result A E) → (P → Q) → OnOk r P → OnOk r Q
-where_ok (Ok x) f p = f p
-where_ok (Err e) f p = p
-
-pub where_err : {A E P Q : Type 0} (r : Result A E) → (P → Q) → OnErr r P → OnErr r Q
-where_err (Ok x) f p = p
-where_err (Err e) f p = f p
-
-pub on_err : {A E P : Type 0} (r : Result A E) → P → OnErr r P
-on_err (Ok x) p = tt
-on_err (Err e) p = p
 
 pub both_ok : {A E : Type 0} (P Q : Type 0) (r : Result A E) → OnOk r P → OnOk r Q → OnOk r (P × Q)
 both_ok P Q (Ok x) p q = (p, q)

@@ -5,3 +5,4 @@ pub mod Stepping
 pub mod Calling
 pub mod Turning
 pub mod Entering
+pub mod Tickets

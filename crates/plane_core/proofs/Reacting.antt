@@ -3,6 +3,7 @@ use Rattle.std.proofs.Common.{◌≡◌, ℕ, List, [], ◌∷◌, ◌++◌, len
 use Rattle.std.proofs.lemmas.List.{take-append-drop}
 use Rattle.std.proofs.Math.Seq.{take-append_seam}
 use Rattle.std.specs.declared.alloc.AllocError.{AllocError}
+use Rattle.lemmas.proofs.Lists.{first_of_all, nil_from_no_first}
 use Rattle.br_model.specs.declared.change.Change.{Change}
 use Rattle.br_model.specs.declared.steps.Refusal.{Refusal}
 use Rattle.br_model.specs.declared.transcript.Line.{Line}
@@ -124,11 +125,6 @@ ended_behind s t kept there first before after told step outcome end last answer
       added = all ∙ ap (λ ls. ls ++ last ∷ []) own.2 ∙ append_assoc there own.0 (last ∷ []);
     }
 
--- what is first in a list stands before the rest
-pub first_of_all : {A : Type 0} (xs : List A) (x : A) → Some x ≡ slice_get xs 0 → xs ≡ x ∷ drop 1 xs
-first_of_all [] x e = absurd cc
-first_of_all (y ∷ ys) x e = let same : y ≡ x = cc in ap (λ z. z ∷ ys) same
-
 -- a bridge in which nothing has happened, with chips and a board of which that is so
 pub sides_first : (b : Controlled) (chips : List ChipState) (noted : List ℕ) (board : Shelf) (setup : Setup) → b ≡ record { setup = setup; history = []; control = first_control setup.own }
     → AreChips setup.domains [] chips → noted ≡ [] → board.object ≡ first_object → board.pending ≡ [] → board.board.domains ≡ setup.domains → AreSides b chips noted board
@@ -146,11 +142,7 @@ module _ (s : SidesState) (dom : ℕ) (c : Chip) (found : chip_in s.chips dom �
   w = world_of s q step
 
   pub reports_none : None ≡ slice_get c.reports 0 → reports w (chip_at w dom) ≡ refused w NothingReported
-  reports_none none = ap (reports w) found ∙ ap (tells w c) (empty c.reports none)
-    where
-      empty : (rs : List Triple) → None ≡ slice_get rs 0 → rs ≡ []
-      empty [] e = refl
-      empty (r ∷ rs) e = absurd cc
+  reports_none none = ap (reports w) found ∙ ap (tells w c) (nil_from_no_first c.reports none)
 
   pub reports_first : (x : Triple) → Some x ≡ slice_get c.reports 0
       → reports w (chip_at w dom) ≡ answered w (with_chip w (record c { reports = drop 1 c.reports })) (reacts w (Told x.0 x.1 x.2))

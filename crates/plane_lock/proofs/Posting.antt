@@ -1,9 +1,8 @@
 -- A decision that a seat gave is one of the plane's.
-use Rattle.std.proofs.Common.{◌≡◌, ℕ, zero, suc, ◌+◌, ◌<◌, ◌≤◌, Bool, true, false, cond, ◌==◌, List, [], ◌∷◌, ◌++◌, length, take, Option, None, Some, Ok, refl, sym, ap, ◌∙◌, subst, arith, length-append}
+use Rattle.std.proofs.Common.{◌≡◌, ℕ, zero, suc, ◌+◌, ◌≤◌, Bool, true, false, cond, ◌==◌, List, [], ◌∷◌, ◌++◌, length, take, Option, None, Some, Ok, refl, sym, ap, ◌∙◌, subst, arith, length-append}
 use Rattle.std.specs.Prelude.{IfSome, IfOk}
 use Rattle.std.proofs.lemmas.List.{length-take-le}
 use Rattle.std.proofs.lemmas.List.Elements.{recursion_from_All}
-use Rattle.std.specs.Cmp.{nat_cmp_is}
 use Rattle.std.specs.List.{AllByRecursion, find, last_or}
 use Rattle.std.specs.List.Sorted.{IsStrictlySortedBy}
 use Rattle.std.specs.Option.{option_map}
@@ -11,6 +10,7 @@ use Rattle.std.specs.Ordering.{nat_cmp}
 use Rattle.std.specs.declared.cmp.Ordering.TheVariants.{Less}
 use Rattle.std.specs.declared.result.Result.{Result}
 use Rattle.std.specs.declared.result.Result.TheVariants.{Err}
+use Rattle.lemmas.proofs.Orders.{nat_cmp-lt}
 use mathlib.Core.List.{IsPrefix}
 use Rattle.br_model.specs.declared.steps.Event.TheVariants.{Sight}
 use Rattle.br_model.specs.declared.transcript.Line.TheVariants.{Soft}
@@ -40,16 +40,13 @@ use Rattle.plane_record.proofs.Recording.{world-setup, world-stands}
 
 -- Counts of a published object.
 
-below : (n k : ℕ) → n < k → nat_cmp n k ≡ Less
-below n k h = sym (nat_cmp_is n k Less h)
-
 ends : (n : ℕ) (ks : List ℕ) (m : ℕ) → Ascends n ks m → n ≤ m
 ends n [] m a = omega (arith, a)
 ends n (k ∷ ks) m a = omega (arith, a.0, ends k ks m a.1)
 
 all-above : (n : ℕ) (ks : List ℕ) (m : ℕ) → Ascends n ks m → (i : ℕ) → i ≤ n → AllByRecursion (λ y. nat_cmp i y ≡ Less) ks
 all-above n [] m a i le = tt
-all-above n (k ∷ ks) m a i le = (below i k (omega (arith, a.0, le)), all-above k ks m a.1 i (omega (arith, a.0, le)))
+all-above n (k ∷ ks) m a i le = (nat_cmp-lt i k (omega (arith, a.0, le)), all-above k ks m a.1 i (omega (arith, a.0, le)))
 
 sorted-from : (n : ℕ) (ks : List ℕ) (m : ℕ) → Ascends n ks m → IsStrictlySortedBy nat_cmp ks
 unfolding IsStrictlySortedBy

@@ -1,8 +1,9 @@
 -- What a step accepted is posted and published.
-use Rattle.std.proofs.Common.{◌≡◌, ℕ, ◌==◌, true, false, cond, Bool, List, length, refl, sym, ap, ◌∙◌, subst, inl, inr, arith}
+use Rattle.std.proofs.Common.{◌≡◌, ℕ, ◌==◌, true, false, cond, Bool, List, length, refl, sym, ap, ◌∙◌, subst, inl, inr}
 use Rattle.std.specs.Prelude.{◌≢◌, ◌⊎◌, OnOk, OnErr, IfOk, IfErr}
 use Rattle.std.specs.declared.result.Result.{Result}
 use Rattle.std.specs.declared.result.Result.TheVariants.{Ok, Err}
+use Rattle.std.proofs.lemmas.Bool.{eq-eqb, ne_eqb}
 use Rattle.table_publish.specs.Object.{Whose}
 use mathlib.Core.List.{IsPrefix}
 use Rattle.br_model.specs.declared.change.Change.{Change}
@@ -38,16 +39,10 @@ posted-already p h posters n posted is grown same =
     subst (λ (us : List Update). HavePosted us posters) (sym (ap (updates p.setup.domains.edition) (no-more h (world_of p).history grown (same ∙ is)))) posted
 
 pub published-none : (n : ℕ) (p : Past) → changes_of p ≡ n → p ≡ published_after n p
-published-none n p e = sym (ap (λ (b : Bool). cond b p (after p Publish)) (test (changes_of p) n e))
-  where
-    test : (a b : ℕ) → a ≡ b → (a == b) ≡ true
-    test a b e = grind arith
+published-none n p e = sym (ap (λ (b : Bool). cond b p (after p Publish)) (eq-eqb (changes_of p) n e))
 
 pub published-more : (n : ℕ) (p : Past) → (changes_of p ≡ n → ⊥) → after p Publish ≡ published_after n p
-published-more n p other = sym (ap (λ (b : Bool). cond b p (after p Publish)) (test (changes_of p) n other))
-  where
-    test : (a b : ℕ) → (a ≡ b → ⊥) → (a == b) ≡ false
-    test a b other = grind (arith, other)
+published-more n p other = sym (ap (λ (b : Bool). cond b p (after p Publish)) (ne_eqb (changes_of p) n other))
 
 -- what the call under the lock gives the rest: the old changes are posted, and stand before the new ones
 pub may-settle : (p : Past) (s : Step) (q : Past) (posters : List Posting) (n : ℕ) → q ≡ after p s → HavePosted (updates_of p) posters → n ≡ changes_of p

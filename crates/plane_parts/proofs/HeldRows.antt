@@ -6,6 +6,7 @@ use Rattle.std.specs.declared.cmp.Ordering.TheVariants.{Greater}
 use Rattle.std.specs.Map.{lookup, remove_entry}
 use Rattle.std.specs.BTreeMap.{is_at, insert_entry}
 use Rattle.std.specs.Cmp.{first_so, second_so}
+use Rattle.std.proofs.lemmas.Bool.{eqb-true}
 use Rattle.br_model.specs.Plane.World.{Holding}
 use Rattle.plane_parts.specs.Queued.{ascends, held_ids, held_in, under_ids}
 
@@ -37,12 +38,9 @@ pub remaining : (id : ℕ) (held : List Holding) (ys : List ℕ) → ascends (he
     → remove_entry (is_at (nat_cmp id)) (under_ids held) ≡ under_ids (filter (λ h. not (h.waiting.id == id)) held)
 remaining id [] ys up = refl
 remaining id (h ∷ held) ys up = rw (is_at_id id h.waiting.id) (elim (h.waiting.id == id) as (λ b. (h.waiting.id == id) ≡ b → cond b (under_ids held) ((h.waiting.id, h) ∷ remove_entry (is_at (nat_cmp id)) (under_ids held)) ≡ under_ids (cond (not b) (h ∷ filter (λ k. not (k.waiting.id == id)) held) (filter (λ k. not (k.waiting.id == id)) held))) [
-  | true ↦ λ e. ap under_ids (sym (all_others id held ys (rw (sym (same h.waiting.id id e)) (first_so _ _ up))))
+  | true ↦ λ e. ap under_ids (sym (all_others id held ys (rw (sym (eqb-true h.waiting.id id e)) (first_so _ _ up))))
   | false ↦ λ e. ap (λ es. (h.waiting.id, h) ∷ es) (remaining id held ys (second_so _ _ up))
 ] refl)
-  where
-    same : (k id : ℕ) → (k == id) ≡ true → k ≡ id
-    same k id e = grind arith
 
 below_filter : (p : ℕ → Bool) (t : Holding → Bool) (held : List Holding) (ys : List ℕ) → list_all p (held_ids held ++ ys) ≡ true → list_all p (held_ids (filter t held) ++ ys) ≡ true
 below_filter p t [] ys h = h

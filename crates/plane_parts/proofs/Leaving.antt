@@ -7,6 +7,7 @@ use Rattle.std.specs.Prelude.{◌==◌, if◌then◌else◌}
 use Rattle.std.proofs.lemmas.Bool.{eq-eqb, eqb-true}
 use Rattle.std.proofs.lemmas.Map.Views.{any-filter_same}
 use Rattle.std.proofs.lemmas.Simd.{map-map}
+use Rattle.lemmas.proofs.Tests.{and-true, or-true}
 use Rattle.br_model.specs.declared.frame.Class.{Class}
 use Rattle.br_model.specs.declared.frame.Class.TheVariants.{Drop, Trap, Copy, Forward}
 use Rattle.br_model.specs.declared.frame.Head.{Head}
@@ -34,21 +35,13 @@ use Rattle.forward_rules.specs.Decided.{Decides}
 -- a number that is in a list is in its filter where it passes
 has_passed : (p : ℕ → Bool) (q : ℕ) (xs : List ℕ) → has_number xs q ≡ true → has_number (filter p xs) q ≡ p q
 has_passed p q xs h =
-    any-filter_same (λ k. q == k) p (p q) (λ k same. ap p (sym (eqb-true q k same))) xs ∙ ap (λ b. p q && b) h ∙ both (p q)
-  where
-    both : (b : Bool) → (b && true) ≡ b
-    both true = refl
-    both false = refl
+    any-filter_same (λ k. q == k) p (p q) (λ k same. ap p (sym (eqb-true q k same))) xs ∙ ap (λ b. p q && b) h ∙ and-true (p q)
 
 head_in : (x : ℕ) (xs : List ℕ) → has_number (x ∷ xs) x ≡ true
 head_in x xs = ap (λ b. b || has_number xs x) (eq-eqb x x refl)
 
 tail_in : (q x : ℕ) (xs : List ℕ) → has_number xs q ≡ true → has_number (x ∷ xs) q ≡ true
-tail_in q x xs h = ap (λ b. (q == x) || b) h ∙ any (q == x)
-  where
-    any : (b : Bool) → (b || true) ≡ true
-    any true = refl
-    any false = refl
+tail_in q x xs h = ap (λ b. (q == x) || b) h ∙ or-true (q == x)
 
 -- what is in the filter of a list is in the list
 in_whole : (p : ℕ → Bool) (q : ℕ) (xs : List ℕ) → has_number (filter p xs) q ≡ true → has_number xs q ≡ true

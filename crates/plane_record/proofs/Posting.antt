@@ -1,7 +1,7 @@
 -- A post as it is recorded.
 use Rattle.std.proofs.Common.{◌≡◌, ℕ, suc, ◌+◌, ◌<◌, ◌≤◌, nat_le, Bool, true, false, cond, ◌==◌, List, [], ◌∷◌, length, Option, None, Some, Ok, refl, sym, ap, ◌∙◌, subst, arith}
 use Rattle.std.specs.Prelude.{◌&&◌, not, nat_lt, IfSome, if◌then◌else◌}
-use Rattle.std.proofs.lemmas.Bool.{eqb-true}
+use Rattle.std.proofs.lemmas.Bool.{eqb-true, le-leb, lt-ltb}
 use Rattle.std.specs.List.{find, filter}
 use Rattle.std.specs.Ordering.{nat_cmp}
 use Rattle.std.specs.declared.result.Result.{Result}
@@ -25,16 +25,13 @@ use Rattle.plane_record.specs.Pasts.{post_step}
 
 -- A post of a held frame by a point that was published.
 
-le-test : (a b : ℕ) → a ≤ b → nat_le a b ≡ true
-le-test a b h = grind arith
-
 pub held-post : (w : World) (h : Held) (x : Holding) (point : ℕ) → held_with w h.id ≡ Some x → shown_by h ≡ shown_of x → has nat_cmp w.counts point ≡ true → h.floor ≤ point
     → world_step w (Post h.id (Some point)) ≡ posts (lets_go (record w { steps = w.steps + 1 }) x.waiting.id) x.waiting point
 held-post w h x point held shown known late =
     let u : World = record w { steps = w.steps + 1 } in
     let floor : h.floor ≡ x.floor = ap (λ (s : Shown). s.floor) shown in
     let f = x.waiting in
-    let test : is_point u x point ≡ true = ap (λ b. b && nat_le x.floor point) known ∙ le-test x.floor point (omega (arith, floor, late)) in
+    let test : is_point u x point ≡ true = ap (λ b. b && nat_le x.floor point) known ∙ le-leb x.floor point (omega (arith, floor, late)) in
     ap (λ (o : Option Holding). posts_at u o (Some point)) held ∙ ap (λ b. cond {A = Stepped} b (posts (lets_go u f.id) f point) (refused u NoSuchPoint)) test
 
 -- A frame that is posted isn't held any longer.
@@ -79,9 +76,6 @@ post-recorded p q h n ls ls' pt may late a is = by (held_with p.world h.id) refl
     u : World
     u = record w { steps = w.steps + 1 }
 
-    lt-test : (a b : ℕ) → a < b → nat_lt a b ≡ true
-    lt-test a b l = grind arith
-
     not-less : (a b : ℕ) → a ≡ b → nat_lt a b ≡ false
     not-less a b e = grind arith
 
@@ -103,7 +97,7 @@ post-recorded p q h n ls ls' pt may late a is = by (held_with p.world h.id) refl
         sym (ap (λ (y : Stepped). y.0.held) a.so.0.world) ∙ (ap (λ (y : Stepped). y.0.held) (held-post w h x n.point held good.0 known late)
         ∙ (answered-held (lets_go u f.id) (reacts (lets_go u f.id) (Sight f.port f.bytes f.head)) ∙ ap (λ (k : ℕ). (lets_go u k).held) id)) in
         let less : nat_lt (length q.world.held) (length w.held) ≡ true =
-        lt-test (length q.world.held) (length w.held) (omega (arith, ap length released, fewer (λ y. y.waiting.id == h.id) w.held x held)) in
+        lt-ltb (length q.world.held) (length w.held) (omega (arith, ap length released, fewer (λ y. y.waiting.id == h.id) w.held x held)) in
         let pts : pt ≡ Some n.point = is ∙ ap (λ b. if b then Some n.point else None) less in (
           ap (λ (o : Option ℕ). Post h.id o) pts,
           subst (λ (o : Option ℕ). Added (Steps p q (Post h.id o)) ls ls') (sym pts) (record { lines = a.lines; so = a.so.0; added = a.added }),

@@ -5,9 +5,9 @@ use Rattle.std.specs.List.{filter}
 use Rattle.std.specs.Iterator.{Yields, YieldsFirst}
 use Rattle.std.proofs.lemmas.Iterator.Consumers.{YieldsList-end, YieldsList-from_first}
 use Rattle.std.proofs.lemmas.Bool.{lt-ltb, le-ltb, eqb-true}
-use Rattle.std.proofs.lemmas.Bool.Decides.{nat_tests}
 use Rattle.std.proofs.lemmas.List.{map-id}
 use Rattle.std.proofs.lemmas.List.Folds.{list_any-append}
+use Rattle.lemmas.proofs.Numbers.{ltb-next}
 use Rattle.port_sets.specs.Numbers.{numbers_below, has_number, IsSetBelow}
 use Rattle.port_sets.proofs.Numbers.{has-below, same_below, none_below, filter-set}
 
@@ -22,9 +22,6 @@ with_more most n p q old new e made h =
 pub upto_none : (most : ℕ) (f : ℕ → Bool) → [] ≡ numbers_below most (λ m. nat_lt m 0 && f m)
 upto_none most f = sym (none_below _ most (λ m low. ap (λ b. b && f m) (le-ltb m 0 (omega arith))))
 
-next_lt : (n m : ℕ) → nat_lt m (n + 1) ≡ ((m == n) || nat_lt m n)
-next_lt n m = grind (arith, nat_tests)
-
 step_with : (same low f : Bool) → (same ≡ true → f ≡ true) → (same || (low && f)) ≡ ((same || low) && f)
 step_with true low f h = sym (h refl)
 step_with false low f h = refl
@@ -38,12 +35,12 @@ pub upto_with : (most n : ℕ) (f : ℕ → Bool) (old new : List ℕ) → old �
     → new ≡ numbers_below most (λ m. nat_lt m (n + 1) && f m)
 upto_with most n f old new e made is =
     with_more most n _ _ old new e made (λ m low.
-    step_with (m == n) (nat_lt m n) (f m) (λ same. ap f (eqb-true m n same) ∙ is) ∙ ap (λ b. b && f m) (sym (next_lt n m)))
+    step_with (m == n) (nat_lt m n) (f m) (λ same. ap f (eqb-true m n same) ∙ is) ∙ ap (λ b. b && f m) (sym (ltb-next n m)))
 
 pub upto_skip : (most n : ℕ) (f : ℕ → Bool) (old : List ℕ) → old ≡ numbers_below most (λ m. nat_lt m n && f m) → f n ≡ false → old ≡ numbers_below most (λ m. nat_lt m (n + 1) && f m)
 upto_skip most n f old e not_it =
     e ∙ same_below _ _ most (λ m low.
-    step_skip (m == n) (nat_lt m n) (f m) (λ same. ap f (eqb-true m n same) ∙ not_it) ∙ ap (λ b. b && f m) (sym (next_lt n m)))
+    step_skip (m == n) (nat_lt m n) (f m) (λ same. ap f (eqb-true m n same) ∙ not_it) ∙ ap (λ b. b && f m) (sym (ltb-next n m)))
 
 pub upto_all : (most n : ℕ) (f : ℕ → Bool) (old : List ℕ) → old ≡ numbers_below most (λ m. nat_lt m n && f m) → most ≤ n → old ≡ numbers_below most f
 upto_all most n f old e end = e ∙ same_below _ _ most (λ m low. ap (λ b. b && f m) (lt-ltb m n (omega arith)))

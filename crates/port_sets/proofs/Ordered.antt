@@ -8,6 +8,7 @@ use Rattle.std.specs.Ordering.{nat_cmp, eq_by_cmp, match_ordering}
 use Rattle.std.specs.declared.cmp.Ordering.TheVariants.{Less, Equal, Greater}
 use Rattle.std.proofs.lemmas.Bool.{eq-eqb, ne_eqb, cases_Bool}
 use Rattle.std.proofs.lemmas.Bool.Decides.{eqb_tells}
+use Rattle.lemmas.proofs.Numbers.{eqb-sym}
 use Rattle.port_sets.specs.Numbers.{numbers_below, has_number, IsSetBelow}
 use Rattle.port_sets.proofs.Numbers.{same_from, same_below, filter-set}
 
@@ -75,10 +76,4 @@ insert_key-set most k s set low = ap (λ (l : List ℕ). insert_key nat_cmp l k)
 pub without-set : (most k : ℕ) (s : List ℕ) → IsSetBelow most s → filter (λ q. not (eq_by_cmp nat_cmp k q)) s ≡ numbers_below most (λ m. has_number s m && not (m == k))
 without-set most k s set =
     filter-set most s (λ q. not (eq_by_cmp nat_cmp k q)) set
-    ∙ same_below _ _ most (λ m low. ap (λ b. has_number s m && not b) (unsigned_tied k m ∙ turned k m))
-  where
-    turned : (a b : ℕ) → (a == b) ≡ (b == a)
-    turned a b = elim (eqb_tells a b) [
-      | inl e ↦ eq-eqb a b e.1 ∙ sym (eq-eqb b a (sym e.1))
-      | inr e ↦ ne_eqb a b e.1 ∙ sym (ne_eqb b a (λ x. e.1 (sym x)))
-    ]
+    ∙ same_below _ _ most (λ m low. ap (λ b. has_number s m && not b) (unsigned_tied k m ∙ eqb-sym k m))

@@ -1,5 +1,5 @@
 -- The bits of words, and the numbers that they stand for.
-use Rattle.std.proofs.Common.{◌≡◌, ◌≢◌, ℕ, zero, suc, ◌+◌, ◌*◌, ◌/◌, ◌%◌, ◌^◌, ◌<◌, ◌≤◌, Bool, true, false, not, ◌&&◌, ◌||◌, cond, List, [], ◌∷◌, Some, length, refl, sym, ap, ap₂, ◌∙◌, arith, get_or, set, replicate, inl, inr, bit_or, bit_and, w64, get_or-set_same, get_or-set_other, length-set}
+use Rattle.std.proofs.Common.{◌≡◌, ◌≢◌, ℕ, ◌+◌, ◌*◌, ◌/◌, ◌%◌, ◌^◌, ◌<◌, ◌≤◌, Bool, true, false, not, ◌&&◌, ◌||◌, cond, List, [], ◌∷◌, Some, length, refl, sym, ap, ap₂, ◌∙◌, arith, get_or, set, inl, inr, bit_or, bit_and, w64, get_or-set_same, get_or-set_other, length-set}
 use Rattle.std.specs.Prelude.{◌==◌, slice_get, nat_eq}
 use Rattle.std.specs.Cmp.Lexicographic.{pointwise}
 use Rattle.std.specs.Int.{bit_at, bit_not, trailing_zeros}
@@ -11,6 +11,7 @@ use Rattle.std.proofs.lemmas.List.{get_or_default, get_or_past}
 use Rattle.std.proofs.lemmas.Nat.{and_le_l, or_lt}
 use Rattle.std.proofs.lemmas.List.Elements.{All-set}
 use Rattle.std.proofs.lemmas.Bool.{eq-eqb, ne_eqb, cases_lt}
+use Rattle.lemmas.proofs.Tests.{cond-or}
 use Rattle.port_sets.specs.Numbers.{numbers_below, has_number}
 use Rattle.port_sets.specs.Words.{is_set, members, words_with, AreWords}
 use Rattle.port_sets.specs.WordsOfMembers.{has-below, words_with-members}
@@ -19,11 +20,6 @@ use Rattle.port_sets.proofs.Numbers.{same_below, none_below, first-numbers_below
 -- below 64 w a member is a number whose bit is set
 pub has-members : (w : ℕ) (words : List ℕ) (m : ℕ) → m < 64 * w → has_number (members w words) m ≡ is_set words m
 has-members w words m low = has-below (is_set words) (64 * w) m low
-
-pub zeros : (n i : ℕ) → ◌≡◌ {A = ℕ} (get_or (replicate n 0) i 0) 0
-zeros zero i = refl
-zeros (suc n) zero = refl
-zeros (suc n) (suc i) = zeros n i
 
 not_set : (words : List ℕ) (m : ℕ) → get_or words (m / 64) 0 ≡ 0 → is_set words m ≡ false
 not_set words m e = ap (λ x. bit_at x (m % 64) == 1) e ∙ ap (λ x. x == 1) (bit_at-zero (m % 64))
@@ -56,10 +52,6 @@ set_word words n m v within others =
         ap (λ j. bit_at (get_or (set words (n / 64) v) j 0) (m % 64) == 1) e
         ∙ ap (λ x. bit_at x (m % 64) == 1) (get_or-set_same words (n / 64) v 0 within)
 
-or_cond : (b c : Bool) → cond b true c ≡ (b || c)
-or_cond true c = refl
-or_cond false c = refl
-
 and_cond : (b c : Bool) → cond b false c ≡ (c && not b)
 and_cond true true = refl
 and_cond true false = refl
@@ -74,7 +66,7 @@ members-with w words n within =
     same_below _ _ (64 * w) (λ m low.
     set_word words n m new within (λ k below apart. bit_at_set_other w64 old (n % 64) small k apart)
     ∙ ap (λ x. cond (m == n) (x == 1) (is_set words m)) (bit_at_set_same w64 old (n % 64) small)
-    ∙ or_cond (m == n) (is_set words m)
+    ∙ cond-or (m == n) (is_set words m)
     ∙ ap (λ b. (m == n) || b) (sym (has-members w words m low)))
   where
     old : ℕ
@@ -112,7 +104,7 @@ pub members-switched_on : (w : ℕ) (words : List ℕ) (n : ℕ) → n / 64 < le
     → members w (set words (n / 64) (bit_or (get_or words (n / 64) 0) (1 * 2 ^ (n % 64) % 2 ^ 64)))
     ≡ numbers_below (64 * w) (λ m. cond (m == n) true (has_number (members w words) m))
 members-switched_on w words n within =
-    members-with w words n within ∙ same_below _ _ (64 * w) (λ m low. sym (or_cond (m == n) (has_number (members w words) m)))
+    members-with w words n within ∙ same_below _ _ (64 * w) (λ m low. sym (cond-or (m == n) (has_number (members w words) m)))
 
 pub members-switched_off : (w : ℕ) (words : List ℕ) (n : ℕ) → n / 64 < length words
     → members w (set words (n / 64) (bit_and (get_or words (n / 64) 0) (bit_not w64 (1 * 2 ^ (n % 64) % 2 ^ 64))))

@@ -1,10 +1,11 @@
 -- Bytes without a line feed, and the first line feed of bytes.
-use Rattle.std.proofs.Common.{◌≡◌, ℕ, zero, suc, ◌+◌, ◌-◌, ◌≤◌, List, ◌++◌, take, drop, length, get_or, arith, refl, sym, ◌∙◌, ap, subst, true, false, Bool, not, Option, None, Some, length-drop, add-one, take-add}
+use Rattle.std.proofs.Common.{◌≡◌, ℕ, zero, suc, ◌+◌, ◌-◌, ◌≤◌, List, ◌++◌, take, drop, length, get_or, arith, refl, sym, ◌∙◌, ap, subst, true, Option, None, Some, length-drop, add-one, take-add}
 use Rattle.std.specs.Cmp.{first_so, second_so}
 use Rattle.std.specs.List.{list_all}
 use Rattle.std.proofs.lemmas.Bool.{eqb-true, and_from}
 use Rattle.std.proofs.lemmas.List.{take-append-drop, length-take-le, take-append-le, take_all, get_or-drop, drop-take}
 use Rattle.std.proofs.lemmas.List.Folds.{list_all-append, list_all_more}
+use Rattle.lemmas.proofs.Tests.{not_from_ne_true}
 use Rattle.memchr.specs.Find.{IsFirstByte, Nowhere, Passes, is_byte}
 use Rattle.run_io.specs.Finding.{IsFirstFeed}
 use Rattle.run_io.specs.Reading.{HasNoFeed, is_no_feed}
@@ -27,15 +28,11 @@ feedless_shorter m n xs less within h =
 
 -- ---- the search
 
-not_so : (b : Bool) → (b ≡ true → ⊥) → not b ≡ true
-not_so true h = absurd (h refl)
-not_so false h = refl
-
 nowhere_feedless : (xs : List ℕ) (n : ℕ) → n ≤ length xs → Nowhere (Passes (is_byte 10) xs) 0 n → HasNoFeed (take n xs)
 nowhere_feedless xs zero within h = refl
 nowhere_feedless xs (suc n) within h =
     let before : HasNoFeed (take n xs) = nowhere_feedless xs n (omega arith) (λ k low high. h k low (omega arith)) in
-    let here : is_no_feed (get_or xs n 0) ≡ true = not_so _ (h n (omega arith) (omega arith)) in
+    let here : is_no_feed (get_or xs n 0) ≡ true = not_from_ne_true _ (h n (omega arith) (omega arith)) in
     let more : HasNoFeed (take (n + 1) xs) = list_all_more is_no_feed xs n 0 (omega arith) ∙ and_from _ _ before here in
     subst (λ k. HasNoFeed (take k xs)) (add-one n) more
 

@@ -1,14 +1,11 @@
 -- A text is cut back to where an append began that found no room.
-use Rattle.std.proofs.Common.{◌≡◌, ℕ, ◌≤◌, List, length, take, Result, Ok, Err, OnErr, subst, sym, ap, ◌∙◌, arith, length-append}
+use Rattle.std.proofs.Common.{◌≡◌, ℕ, ◌≤◌, List, length, take, Result, OnErr, subst, sym, ap, ◌∙◌, arith, length-append}
 use Rattle.std.proofs.Math.Seq.{take-append_seam}
 use Rattle.std.specs.Str.{IsUtf8}
 use Rattle.std.specs.String.Boundary.{IsSplitPoint}
 use Rattle.std.proofs.lemmas.Str.{IsCharBoundary-from_take}
+use Rattle.std.proofs.lemmas.Result.{on_err_weaker}
 use Rattle.transcript_text.specs.Extends.{Extends}
-
-on_err : {A E P Q : Type 0} (r : Result A E) → (P → Q) → OnErr r P → OnErr r Q
-on_err (Ok x) f p = p
-on_err (Err e) f p = f p
 
 -- what stood there before
 pub front : (old new : List ℕ) → Extends old new → take (length old) new ≡ old
@@ -22,4 +19,4 @@ seam old new u v e =
     (boundary.0, λ first before. boundary.1 before)
 
 pub torn : {A E : Type 0} (r : Result A E) (old new : List ℕ) (whole : ℕ) → IsUtf8 old → IsUtf8 new → whole ≡ length old → OnErr r (Extends old new) → OnErr r (IsSplitPoint new whole)
-torn r old new whole u v is = on_err r (λ (e : Extends old new). subst (λ (n : ℕ). IsSplitPoint new n) (sym is) (seam old new u v e))
+torn r old new whole u v is = on_err_weaker r (λ (e : Extends old new). subst (λ (n : ℕ). IsSplitPoint new n) (sym is) (seam old new u v e))

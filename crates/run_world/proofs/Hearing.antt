@@ -10,8 +10,7 @@ use Rattle.std.proofs.Common.{append-nil, if◌then◌else◌, map, length-appen
 use Rattle.std.proofs.lemmas.List.{map-append}
 use Rattle.br_model.specs.declared.transcript.Line.TheVariants.{Tx}
 use Rattle.port_sets.specs.Numbers.{has_number}
-use Rattle.transcript_lines.specs.declared.row.Row.{Row}
-use Rattle.transcript_lines.specs.Rows.{expand, expand_row, sent_lines}
+use Rattle.transcript_lines.specs.Rows.{sent_lines}
 use Rattle.mcast_querier.specs.Runs.{heard_in, hears_by}
 use Rattle.run_world.specs.declared.entered.Entered.{Entered}
 use Rattle.run_world.specs.Hearing.{Hears, Keeps, kept_at}
@@ -61,10 +60,6 @@ either P end p q place = (elim (place == end) as (λ b. (place == end) ≡ b →
 
     other : (place == end) ≡ false → place ≡ end → ⊥
     other e h = absurd (grind arith)
-
--- one row more of lines
-pub one_row_more : (arena : List ℕ) (rows : List Row) (row : Row) → expand arena (rows ++ row ∷ []) ≡ expand arena rows ++ expand_row arena row
-one_row_more arena rows row = flat_map-append (expand_row arena) rows (row ∷ []) ∙ ap (λ l. expand arena rows ++ l) (append-nil (expand_row arena row))
 
 -- one port more that a frame left
 pub sent_more : (askers : List (Option Asker)) (now id : ℕ) (ports : List ℕ) (port : ℕ) (untagged plain tagged : List ℕ) (a b c : QuerierState)

@@ -11,7 +11,7 @@ use Rattle.br_model.specs.declared.steps.Step.{Step}
 use Rattle.br_model.specs.declared.steps.Step.TheVariants.{Turn}
 use Rattle.br_model.specs.declared.transcript.Line.{Line}
 use Rattle.br_model.specs.Plane.Chip.{Chip}
-use Rattle.br_model.specs.Plane.Runs.{run, then_step}
+use Rattle.br_model.specs.Plane.Runs.{run}
 use Rattle.br_model.specs.Plane.Steps.{world_step}
 use Rattle.br_model.specs.Plane.Traits.{traits}
 use Rattle.br_model.specs.Plane.World.{World, Stepped, chip_at, first_world}
@@ -24,6 +24,7 @@ use Rattle.br_model.proofs.Plane.Still.{turn-history}
 use Rattle.neigh_netlink.specs.declared.neigh.Neigh.{Neigh}
 use Rattle.neigh_netlink.specs.Monitor.{accepted, message_line, messages, messages_in, messages_of, monitors, turned}
 use Rattle.neigh_netlink.specs.Stream.{Kept, kept_of}
+use Rattle.neigh_netlink.proofs.Told.{same-world}
 use Rattle.run_world.specs.Voices.{IsNext}
 
 -- whether a step is a turn
@@ -90,17 +91,12 @@ told_by_turn w dom message chip at is = ap (λ (m : Option Neigh). option_to_lis
 
 -- the run
 
-same_world : (w : World) (ms : List Neigh) (x : Stepped) (steps : List Step) → w ≡ x.0 → (fold monitors (w, ms) steps).0 ≡ (fold then_step x steps).0
-same_world w ms x [] e = e
-same_world w ms x (step ∷ steps) e =
-    same_world (world_step w step).0 (ms ++ messages_in w step) (then_step x step) steps (ap (λ (v : World). (world_step v step).0) e)
-
 messages_push : (setup : Setup) (steps : List Step) (step : Step) → messages setup (steps ++ step ∷ []) ≡ messages setup steps ++ messages_in (run setup steps).0 step
 unfolding messages run
 messages_push setup steps step =
     let x : World × List Neigh = fold monitors (first_world setup, []) steps in
     ap (λ (y : World × List Neigh). y.1) (fold-append monitors (first_world setup, []) steps (step ∷ []))
-    ∙ ap (λ (w : World). x.1 ++ messages_in w step) (same_world (first_world setup) [] (first_world setup, []) steps refl)
+    ∙ ap (λ (w : World). x.1 ++ messages_in w step) (same-world (first_world setup) [] (first_world setup, []) steps refl)
 
 -- its lines
 pub says_more : (w : World) (step : Step) (old new : List ℕ) (setup : Setup) (steps : List Step) → new ≡ old ++ flat_map message_line (messages_in w step) → w ≡ (run setup steps).0

@@ -1,6 +1,6 @@
 -- A querier on the host hears a run and asks in it, step by step.
-use Rattle.std.proofs.Common.{◌≡◌, ℕ, ◌<◌, ◌^◌, Bool, true, false, cond, List, [], ◌∷◌, ◌++◌, Option, None, Some, IfSome, OnOk, Result, Ok, Err, map, refl, sym, ◌∙◌, ap, subst, append-nil, lit<, string_bytes, arith}
-use Rattle.std.specs.Prelude.{nat_le, ◌||◌}
+use Rattle.std.proofs.Common.{◌≡◌, ℕ, ◌<◌, ◌^◌, Bool, true, false, cond, List, [], ◌∷◌, ◌++◌, Option, None, Some, IfSome, OnOk, Result, Ok, Err, map, refl, sym, ◌∙◌, ap, subst, append-nil, lit<, string_bytes}
+use Rattle.std.specs.Prelude.{◌||◌}
 use Rattle.std.proofs.lemmas.List.Folds.{list_any-append}
 use Rattle.std.specs.List.{flat_map, fold, list_any}
 use Rattle.std.specs.Option.{option_map_or}
@@ -16,12 +16,13 @@ use Rattle.br_model.specs.Plane.World.{World, Stepped, first_world}
 use Rattle.br_model.specs.Table.Domains.{Domains}
 use Rattle.br_model.specs.Table.Setup.{Setup}
 use Rattle.br_model.specs.Text.LineForms.{comes_by_line}
-use Rattle.br_model.specs.Text.Operands.{last_moment}
 use Rattle.br_model.proofs.Plane.Applied.{run-setup, step-setup}
+use Rattle.br_model.proofs.Control.Clocks.{early as at_most}
 use Rattle.mcast_querier.specs.Election.{hears}
 use Rattle.mcast_querier.specs.Hearing.{Asker}
-use Rattle.mcast_querier.specs.Querier.{Act, Comes, Hears as HearsAct, Queried, QuerierState, acted, after, first_querier, heard_from}
+use Rattle.mcast_querier.specs.Querier.{Act, Comes, Queried, QuerierState, acted, after, first_querier}
 use Rattle.mcast_querier.specs.Runs.{Listening, acts, acts_of, comes_by, entered, first_listening, heard_in, is_done, listens, query_line, sent}
+use Rattle.mcast_querier.proofs.Leaving.{own-stays}
 use Rattle.transcript_lines.specs.declared.row.Row.{Row}
 use Rattle.transcript_lines.specs.declared.row.Row.TheVariants.{One, Sent, Ctl}
 use Rattle.transcript_lines.specs.Rows.{at, expand, expand_row, sent_lines}
@@ -62,9 +63,6 @@ comes_is step lines = coming (traits step).moment lines
 -- it is early
 abbrev IsEarly : Option ℕ → Type 0
 IsEarly o = IfSome o (λ n. n < 2 ^ 53)
-
-at_most : (moment : ℕ) → nat_le moment last_moment ≡ true → moment < 2 ^ 53
-at_most moment h = grind arith
 
 pub named_early : (chips : List ℕ) (step : Step) (lines : List Line) → comes_by_line false chips step ≡ true → IsEarly (coming_by (traits step).moment lines)
 named_early chips (Now moment) lines h = elim (list_any is_done lines) as (λ b. IsEarly (cond b (Some moment) None)) [ true ↦ at_most moment h | false ↦ tt ]
@@ -121,20 +119,8 @@ ticked_own : (q : QuerierState) (o : Option ℕ) → (ticked_by q o).own ≡ q.o
 ticked_own q None = refl
 ticked_own q (Some moment) = refl
 
-heard_own : (q : QuerierState) (asker : Asker) (now : ℕ) → (heard_from q asker now).own ≡ q.own
-heard_own q asker now =
-    elim (asker.0) as (λ b. (cond b (record q { six = hears q.six asker.1 now }) (record q { four = hears q.four asker.1 now })).own ≡ q.own) [ true ↦ refl | false ↦ refl ]
-
-acted_own : (x : Queried) (act : Act) → (acted x act).0.own ≡ x.0.own
-acted_own x (HearsAct asker now) = heard_own x.0 asker now
-acted_own x (Comes now) = refl
-
-acts_own : (acts : List Act) (x : Queried) → (fold acted x acts).0.own ≡ x.0.own
-acts_own [] x = refl
-acts_own (act ∷ acts) x = acts_own acts (acted x act) ∙ acted_own x act
-
 hears_own : (a : QuerierState) (acts : List Act) (b : QuerierState) → Hears a acts b → b.own ≡ a.own
-hears_own a acts b h = sym (ap (λ (x : Queried). x.0.own) (h [])) ∙ acts_own acts (a, [])
+hears_own a acts b h = sym (ap (λ (x : Queried). x.0.own) (h [])) ∙ own-stays acts (a, [])
 
 -- before the first step
 

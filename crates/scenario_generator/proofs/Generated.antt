@@ -1,5 +1,5 @@
 -- The text of a generated scenario, part by part.
-use Rattle.std.proofs.Common.{◌≡◌, ℕ, suc, ◌+◌, ◌-◌, ◌*◌, ◌%◌, ◌/◌, ◌==◌, ◌<◌, ◌≤◌, Bool, true, false, if◌then◌else◌, List, [], ◌∷◌, ◌++◌, length, take, refl, sym, ap, ◌∙◌, append_assoc, arith}
+use Rattle.std.proofs.Common.{◌≡◌, ℕ, suc, ◌+◌, ◌-◌, ◌*◌, ◌%◌, ◌/◌, ◌==◌, ◌<◌, Bool, true, false, if◌then◌else◌, List, [], ◌∷◌, ◌++◌, length, refl, sym, ap, ◌∙◌, append_assoc, arith}
 use Rattle.std.specs.Fmt.{decimal, digits}
 use Rattle.std.specs.List.{flat_map}
 use Rattle.std.specs.Prelude.{codes}
@@ -56,12 +56,9 @@ made_parts x count = whole head (step_text ports) first_steps (frames_from count
 
 -- a frame's line
 
-short : (m : ℕ) (xs : List ℕ) → length xs ≤ m → take m xs ≡ xs
-short m xs h = take_all m xs h
-
 shown_behind : (b : Bool) (d : ℕ) (rest : List ℕ) → length rest ≡ 10 → shown ((if b then broadcast else station d) ++ rest) ≡ (if b then broadcast else station d) ++ rest
-shown_behind true d rest e = short (longest_frame + 1) (broadcast ++ rest) (omega arith)
-shown_behind false d rest e = short (longest_frame + 1) (station d ++ rest) (omega arith)
+shown_behind true d rest e = take_all (longest_frame + 1) (broadcast ++ rest) (omega arith)
+shown_behind false d rest e = take_all (longest_frame + 1) (station d ++ rest) (omega arith)
 
 pub shown_frame : (n : ℕ) → shown (frame n) ≡ frame n
 shown_frame n = shown_behind (n / 48 % 9 == 8) (n / 48 % 9) (station (n / 6 % 8) ++ (0x88 ∷ 0xB5 ∷ 0 ∷ 0 ∷ [])) refl

@@ -1,21 +1,18 @@
 -- The first line of bytes.
-use Rattle.std.proofs.Common.{◌≡◌, ℕ, zero, suc, ◌+◌, ◌-◌, ◌≤◌, Bool, true, false, not, List, ◌∷◌, ◌++◌, None, Some, length, take, drop, get_or, refl, sym, ◌∙◌, ap, subst, arith, add-one, length-drop}
+use Rattle.std.proofs.Common.{◌≡◌, ℕ, zero, suc, ◌+◌, ◌-◌, ◌≤◌, true, List, ◌∷◌, ◌++◌, None, Some, length, take, drop, get_or, refl, sym, ◌∙◌, ap, subst, arith, add-one, length-drop}
 use Rattle.std.proofs.Math.Seq.{drop-cons}
 use Rattle.std.proofs.lemmas.Bool.{eqb-true, and_from}
 use Rattle.std.proofs.lemmas.List.{take-append-drop, take_all}
 use Rattle.std.proofs.lemmas.List.Folds.{list_all_more}
+use Rattle.lemmas.proofs.Tests.{not_from_ne_true}
 use Rattle.br_model.specs.Theorems.WholeLines.{is_line, is_no_feed}
 use Rattle.memchr.specs.Find.{IsFirstByte, Nowhere, Passes, is_byte}
 
-not_so : (b : Bool) → (b ≡ true → ⊥) → not b ≡ true
-not_so true h = absurd (h refl)
-not_so false h = refl
-
-nowhere : (xs : List ℕ) (n : ℕ) → n ≤ length xs → Nowhere (Passes (is_byte 10) xs) 0 n → is_line (take n xs) ≡ true
+pub nowhere : (xs : List ℕ) (n : ℕ) → n ≤ length xs → Nowhere (Passes (is_byte 10) xs) 0 n → is_line (take n xs) ≡ true
 nowhere xs zero within h = refl
 nowhere xs (suc n) within h =
     let before : is_line (take n xs) ≡ true = nowhere xs n (omega arith) (λ k low high. h k low (omega arith)) in
-    let here : is_no_feed (get_or xs n 0) ≡ true = not_so _ (h n (omega arith) (omega arith)) in
+    let here : is_no_feed (get_or xs n 0) ≡ true = not_from_ne_true _ (h n (omega arith) (omega arith)) in
     let more : is_line (take (n + 1) xs) ≡ true = list_all_more is_no_feed xs n 0 (omega arith) ∙ and_from _ _ before here in
     subst (λ k. is_line (take k xs) ≡ true) (add-one n) more
 

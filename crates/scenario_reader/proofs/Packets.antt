@@ -8,6 +8,7 @@ use Rattle.std.specs.declared.alloc.Global.{Global}
 use Rattle.std.specs.declared.option.Option.TheVariants.{None, Some}
 use Rattle.std.specs.declared.result.Result.{Result}
 use Rattle.std.specs.declared.result.Result.TheVariants.{Ok, Err}
+use Rattle.std.proofs.lemmas.Bool.{ltb-true}
 use Rattle.br_model.specs.declared.capture.Packet.{Packet}
 use Rattle.br_model.specs.declared.steps.Step.{Step}
 use Rattle.br_model.specs.Wire.Captures.{Capture, Fault, capture, in_front, packets, unless_broken}
@@ -53,10 +54,7 @@ module _ (ports : List Entry) (section : List ℕ) (steps : List Step) (left : C
     }
 
     pub has_its_port : packet.interface < length ports
-    has_its_port = below packet.interface (length ports) (first_so _ _ these)
-      where
-        below : (n m : ℕ) → nat_lt n m ≡ true → n < m
-        below n m h = grind arith
+    has_its_port = ltb-true packet.interface (length ports) (first_so _ _ these)
 
     pub fewer : length new.packets < length left.packets
     fewer = omega (arith, ap (λ (c : Capture). length c.packets) next)

@@ -1,11 +1,12 @@
 -- A whole scenario is read, line by line.
 use Rattle.std.proofs.Common.{◌≡◌, ℕ, ◌+◌, ◌-◌, ◌<◌, ◌≤◌, ◌⊎◌, inl, inr, Bool, true, ◌&&◌, if◌then◌else◌, List, [], ◌∷◌, ◌++◌, length, drop, take, Option, None, Some, Result, Ok, Err, Vec, refl, sym, ◌∙◌, ap, subst, arith, append_assoc, length-append, length-drop, length-take-le}
-use Rattle.std.specs.Prelude.{IfOk, IfSome}
+use Rattle.std.specs.Prelude.{IfSome}
 use Rattle.std.specs.declared.alloc.Global.{Global}
 use Rattle.std.specs.List.{list_all}
 use Rattle.std.proofs.Math.Seq.{drop-append_seam}
 use Rattle.std.proofs.lemmas.List.{append-nil, take-append-drop, take_all}
 use Rattle.std.proofs.lemmas.List.Folds.{list_all-append}
+use Rattle.std.proofs.lemmas.Bool.{lt-ltb}
 use Rattle.br_model.specs.declared.scenario.LineWhy.{LineWhy}
 use Rattle.br_model.specs.declared.scenario.LineWhy.TheVariants.{Long, Unended}
 use Rattle.br_model.specs.declared.scenario.Said.{Said}
@@ -14,12 +15,12 @@ use Rattle.br_model.specs.declared.steps.Step.{Step}
 use Rattle.br_model.specs.Text.LineForms.{comes_by_line, line_says}
 use Rattle.br_model.specs.Text.Operands.{longest_section}
 use Rattle.br_model.specs.Text.Roster.{Roster, chips_of, first_roster}
-use Rattle.br_model.specs.Text.Scenario.{Scenario, Ending, Going, Ended, Bad, Front, front, Progress, bad, behind_end, captured, closes, closes_at, longest_line, opened, read, reads_at, reads_front, scenario_by, section_length, takes, takes_steps, whole_says}
+use Rattle.br_model.specs.Text.Scenario.{Scenario, Ending, Going, Ended, Bad, Progress, bad, behind_end, captured, closes, closes_at, longest_line, opened, read, scenario_by, section_length, takes, takes_steps, whole_says}
 use Rattle.br_model.specs.Theorems.WholeLines.{is_line}
 use Rattle.br_model.specs.Wire.Captures.{packets}
 use Rattle.br_model.proofs.Text.Endings.{behind_at, has_ended, read_ended}
 use Rattle.br_model.proofs.Text.Fronts.{front_none}
-use Rattle.br_model.proofs.Text.Reading.{below, closes_keeps, read_bad, read_line, read_part, read_rest}
+use Rattle.br_model.proofs.Text.Reading.{closes_keeps, read_bad, read_line, read_part, read_rest, reads_so}
 use Rattle.scenario_reader.specs.declared.reader.Captured.{Captured as Gave}
 use Rattle.scenario_reader.specs.declared.reader.Captured.TheVariants as sections
 use Rattle.scenario_reader.specs.declared.reader.Last.{Last}
@@ -34,22 +35,16 @@ use Rattle.scenario_reader.specs.Whole.{SaysWhole, ending_or_going}
 
 -- what the bytes come to
 
-reads_so : (s : Scenario) (byte : ℕ) (bytes : List ℕ) (o : Option Front) → s.ending ≡ Going → front (byte ∷ bytes) ≡ o
-    → read 0 s (byte ∷ bytes) ≡ reads_front s (byte ∷ bytes) o (λ n t. read n t bytes)
-unfolding read
-reads_so s byte bytes o going is =
-    ap (λ (d : Ending). reads_at d s (byte ∷ bytes) (λ n t. read n t bytes)) going ∙ ap (λ f. reads_front s (byte ∷ bytes) f (λ n t. read n t bytes)) is
-
 -- a line that is too long and lacks its line feed
 read_long_rest : (s : Scenario) (rest : List ℕ) → s.ending ≡ Going → is_line rest ≡ true → longest_line < length rest → read 0 s rest ≡ record { scenario = bad s Long; line = rest; behind = [] }
 read_long_rest s [] going h long = absurd (omega arith)
 read_long_rest s (byte ∷ bytes) going h long =
     reads_so s byte bytes None going (front_none (byte ∷ bytes) h)
-    ∙ ap (λ b. record { scenario = if b then bad s Long else s; line = byte ∷ bytes; behind = [] }) (below longest_line (length (byte ∷ bytes)) long)
+    ∙ ap (λ b. record { scenario = if b then bad s Long else s; line = byte ∷ bytes; behind = [] }) (lt-ltb longest_line (length (byte ∷ bytes)) long)
 
 -- one that has it
 says_long : (r : Roster) (line : List ℕ) → longest_line < length line → whole_says r line ≡ Err Long
-says_long r line long = ap (λ b. if b then Err Long else line_says r line) (below longest_line (length line) long)
+says_long r line long = ap (λ b. if b then Err Long else line_says r line) (lt-ltb longest_line (length line) long)
 
 -- what the steps stand on
 
@@ -220,10 +215,6 @@ section_short x y line n next takes_it is =
     let s : Scenario = record { lines = x.lines; roster = x.roster; steps = []; ending = Going } in
     let t : Took s line y (nexts.Section n) = subst (λ (m : Next). Took s line y m) is (takes_it s (record { lines = refl; roster = refl; going = refl })) in
     t.1
-
-pub if_ok : {T E : Type 0} (r : Result T E) (P Q : T → Type 0) → ((x : T) → P x → Q x) → IfOk r P → IfOk r Q
-if_ok (Ok x) P Q f h = f x h
-if_ok (Err e) P Q f h = h
 
 -- the last line, without its line feed
 module _ (check : Bool) (s : Scenario) (rest : List ℕ) (x : ReaderState) (steps : List Step) (h : Stands check s x steps) (feed : is_line rest ≡ true) (end : End) where

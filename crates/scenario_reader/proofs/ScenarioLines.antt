@@ -8,6 +8,7 @@ use Rattle.std.specs.declared.result.Result.{Result}
 use Rattle.std.specs.declared.result.Result.TheVariants.{Ok, Err}
 use Rattle.std.proofs.lemmas.List.{append-nil}
 use Rattle.std.proofs.lemmas.List.Folds.{list_all-append}
+use Rattle.std.proofs.lemmas.Bool.{and_from}
 use Rattle.br_model.specs.declared.scenario.LineWhy.{LineWhy}
 use Rattle.br_model.specs.declared.scenario.LineWhy.TheVariants.{Long}
 use Rattle.br_model.specs.declared.scenario.Place.TheVariants.{Steps}
@@ -21,7 +22,6 @@ use Rattle.br_model.specs.Text.ScenarioText.{has_line}
 use Rattle.br_model.specs.Wire.Captures.{packets}
 use Rattle.br_model.proofs.Text.Places.{FitsPlace, line_in_place}
 use Rattle.br_model.proofs.Text.Reading.{closes_keeps}
-use Rattle.br_model.proofs.Text.WrittenWords.{both}
 use Rattle.scenario_text.proofs.StepsRead.{take_bytes, whole_step_has_line}
 use Rattle.scenario_reader.proofs.SectionLines.{section_lines}
 
@@ -44,7 +44,7 @@ declares : (ports : List Entry) (steps : List Step) → steps ≡ [] → have_li
 declares ports steps none = ap (λ (l : List Step). have_lines ports (l ++ [])) none
 
 more : (ports : List Entry) (steps later : List Step) → have_lines ports steps ≡ true → have_lines ports later ≡ true → have_lines ports (steps ++ later) ≡ true
-more ports steps later h k = list_all-append (has_line ports) steps later ∙ both _ _ h k
+more ports steps later h k = list_all-append (has_line ports) steps later ∙ and_from _ _ h k
 
 section_fine : (s : Scenario) (n : ℕ) (r : Result (List Step) LineWhy) → Fine s → IfOk r (λ steps. have_lines s.roster.ports steps ≡ true) → Fine (takes_steps s (Captures n) r)
 section_fine s n (Err fault) f h = record { early = f.early; lines = f.lines }
@@ -59,7 +59,7 @@ line_fine s (Declares port name dom) section fits step are f = record {
   early = λ no. ap (λ (l : List Step). l ++ []) (f.early fits);
   lines = declares (s.roster.ports ++ record { name = name; port = port; dom = dom } ∷ []) s.steps (f.early fits);
 }
-line_fine s (Does x) section fits step are f = record { early = λ no. absurd (no refl); lines = more s.roster.ports s.steps (x ∷ []) f.lines (both _ true (step x refl) refl) }
+line_fine s (Does x) section fits step are f = record { early = λ no. absurd (no refl); lines = more s.roster.ports s.steps (x ∷ []) f.lines (and_from _ true (step x refl) refl) }
 line_fine s (Captures n) section fits step are f = section_fine s n (captured s.roster.ports (packets section (length s.roster.ports))) f (section_lines s.roster.ports section are)
 line_fine s Ends section fits step are f = record { early = λ no. ap (λ (l : List Step). l ++ []) (f.early no); lines = calm s.roster.ports s.steps f.lines }
 

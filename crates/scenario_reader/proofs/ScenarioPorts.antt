@@ -6,6 +6,7 @@ use Rattle.std.specs.Cmp.{first_so, second_so}
 use Rattle.std.specs.List.{AllByRecursion}
 use Rattle.std.specs.Option.{is_some}
 use Rattle.std.specs.Str.{bytes_eq}
+use Rattle.std.proofs.lemmas.Bool.{and_from}
 use Rattle.br_model.specs.declared.domains.Edition.TheVariants.{One, Two}
 use Rattle.br_model.specs.declared.scenario.LineWhy.{LineWhy}
 use Rattle.br_model.specs.declared.scenario.LineWhy.TheVariants as why
@@ -25,7 +26,6 @@ use Rattle.br_model.specs.Text.Scenario.{Scenario, Ending, Going, Ended, Bad, Fr
 use Rattle.br_model.specs.Text.Scenario.{scenario_by, section_length, steps_of, takes, takes_steps, whole_says}
 use Rattle.br_model.specs.Text.Words.{Word, is_comment, words}
 use Rattle.br_model.proofs.Text.Reading.{closes_keeps}
-use Rattle.br_model.proofs.Text.WrittenWords.{both}
 use Rattle.bridge_command.proofs.Declaring.{grows}
 use Rattle.scenario_text.proofs.OperandsRead.{operand_so}
 
@@ -45,10 +45,10 @@ module _ (r : Roster) where
       → PortFits (Declares port name dom)
   port_fits port h name g dom d =
       let range = first_so (nat_le 1 port && nat_le port last_port) (not (has_number r.ports port)) h in
-      both _ _ (first_so (nat_le 1 port) (nat_le port last_port) range)
-      (both _ _ (second_so (nat_le 1 port) (nat_le port last_port) range)
-      (both _ _ d (both _ _ (first_so (is_name name) (not (is_some (port_named r.ports name))) g)
-      (both _ _ (second_so (nat_le 1 port && nat_le port last_port) (not (has_number r.ports port)) h)
+      and_from _ _ (first_so (nat_le 1 port) (nat_le port last_port) range)
+      (and_from _ _ (second_so (nat_le 1 port) (nat_le port last_port) range)
+      (and_from _ _ d (and_from _ _ (first_so (is_name name) (not (is_some (port_named r.ports name))) g)
+      (and_from _ _ (second_so (nat_le 1 port && nat_le port last_port) (not (has_number r.ports port)) h)
       (second_so (is_name name) (not (is_some (port_named r.ports name))) g)))))
 
   either : (b : Bool) (x y : Result Said LineWhy) → IfOk x PortFits → IfOk y PortFits → IfOk (if b then x else y) PortFits

@@ -1,12 +1,13 @@
 -- The packets of a section are steps that have lines.
-use Rattle.std.proofs.Common.{◌≡◌, ℕ, zero, suc, ◌+◌, ◌-◌, ◌<◌, ◌==◌, nat_lt, Bool, true, false, not, ◌||◌, if◌then◌else◌, List, [], ◌∷◌, map, length, take, drop, slice_get, slice_index_or, IfOk, IfSome, refl, arith}
+use Rattle.std.proofs.Common.{◌≡◌, ℕ, zero, suc, ◌+◌, ◌-◌, ◌<◌, ◌==◌, nat_lt, Bool, true, not, List, [], ◌∷◌, map, length, take, drop, slice_get, slice_index_or, IfOk, IfSome, refl, arith}
 use Rattle.std.specs.Cmp.{first_so, second_so}
 use Rattle.std.specs.List.{list_all}
 use Rattle.std.specs.declared.option.Option.{Option}
 use Rattle.std.specs.declared.option.Option.TheVariants.{None, Some}
 use Rattle.std.specs.declared.result.Result.{Result}
 use Rattle.std.specs.declared.result.Result.TheVariants.{Ok, Err}
-use Rattle.std.proofs.lemmas.Bool.{eq-eqb}
+use Rattle.std.proofs.lemmas.Bool.{eq-eqb, and_from, or_left, or_right, ltb-true}
+use Rattle.lemmas.proofs.Tests.{by_if}
 use Rattle.br_model.specs.declared.capture.CapKind.{CapKind}
 use Rattle.br_model.specs.declared.capture.CapKind.TheVariants.{Short, Length, Captured, Link}
 use Rattle.br_model.specs.declared.capture.Order.{Order}
@@ -16,7 +17,6 @@ use Rattle.br_model.specs.Text.Roster.{Entry, has_number}
 use Rattle.br_model.specs.Text.Scenario.{captured, entered}
 use Rattle.br_model.specs.Text.ScenarioText.{has_line}
 use Rattle.br_model.specs.Wire.Captures.{Block, Capture, Cut, Fault, Said, capture, cut, cut_front, enhanced_packet, ethernet, front, in_front, interface_description, is_length, major_version, number_in, order_of, packet_by, packet_of, packets, read, read_front, said_packet, says, section_header, unless_broken, whole, whole_in}
-use Rattle.br_model.proofs.Text.WrittenWords.{both}
 use Rattle.pcapng_read.proofs.HavePorts.{has_port, have_ports}
 use Rattle.scenario_text.proofs.StepsRead.{shown_bytes, take_bytes}
 
@@ -26,10 +26,6 @@ drop_bytes : (n : ℕ) (bytes : List ℕ) → list_all is_byte bytes ≡ true �
 drop_bytes zero bytes h = h
 drop_bytes (suc n) [] h = refl
 drop_bytes (suc n) (b ∷ bytes) h = drop_bytes n bytes (second_so _ _ h)
-
-by_if : {A : Type 0} (P : A → Type 0) (b : Bool) (x y : A) → P x → P y → P (if b then x else y)
-by_if P true x y p q = p
-by_if P false x y p q = q
 
 -- a block's body
 
@@ -58,7 +54,7 @@ has_body b = list_all is_byte b.1.body
 
 cut_bodies : (at : ℕ) (r : Result Block CapKind) (behind : Block → Cut) → HasBody r → ((b : Block) → list_all has_body (behind b).blocks ≡ true) → list_all has_body (cut_front at r behind).blocks ≡ true
 cut_bodies at (Err kind) behind h later = refl
-cut_bodies at (Ok b) behind h later = both _ _ h (later b)
+cut_bodies at (Ok b) behind h later = and_from _ _ h (later b)
 
 bodies : (ahead at : ℕ) (before : Option Order) (bytes : List ℕ) → list_all is_byte bytes ≡ true → list_all has_body (cut ahead at before bytes).blocks ≡ true
 unfolding cut
@@ -101,7 +97,7 @@ has_bytes packet = list_all is_byte packet.bytes
 
 packets_in_front : (o : Option Packet) (c : Capture) → IfSome o (λ packet. list_all is_byte packet.bytes ≡ true) → list_all has_bytes c.packets ≡ true → list_all has_bytes (in_front o c).packets ≡ true
 packets_in_front None c h all = all
-packets_in_front (Some packet) c h all = both _ _ h all
+packets_in_front (Some packet) c h all = and_from _ _ h all
 
 front_says : (at : ℕ) (said : Said) (behind : List ℕ → Capture) → SaysBytes said → ((links : List ℕ) → list_all has_bytes (behind links).packets ≡ true)
     → list_all has_bytes (read_front at said behind).packets ≡ true
@@ -118,29 +114,18 @@ have_bytes ports links (b ∷ blocks) fault h =
 
 number_at : (ports : List Entry) (i : ℕ) → i < length ports → has_number ports (slice_index_or (map (λ (e : Entry). e.port) ports) i 0) ≡ true
 number_at [] i h = absurd (omega arith)
-number_at (e ∷ ports) zero h = here (e.port == e.port) (has_number ports e.port) (eq-eqb e.port e.port refl)
-  where
-    here : (a b : Bool) → a ≡ true → (a || b) ≡ true
-    here true b h = refl
-    here false b h = absurd (cc)
+number_at (e ∷ ports) zero h = or_left (e.port == e.port) (has_number ports e.port) (eq-eqb e.port e.port refl)
 number_at (e ∷ ports) (suc i) h =
     let n : ℕ = slice_index_or (map (λ (e : Entry). e.port) ports) i 0 in
-    there (e.port == n) (has_number ports n) (number_at ports i (omega arith))
-  where
-    there : (a b : Bool) → b ≡ true → (a || b) ≡ true
-    there true b h = refl
-    there false b h = h
+    or_right (e.port == n) (has_number ports n) (number_at ports i (omega arith))
 
 entered_line : (ports : List Entry) (packet : Packet) → has_port (length ports) packet ≡ true → has_bytes packet ≡ true → has_line ports (entered ports packet) ≡ true
 entered_line ports packet here are =
-    both _ _ (number_at ports packet.interface (below packet.interface (length ports) here)) (both _ true (shown_bytes packet.bytes are) refl)
-  where
-    below : (n m : ℕ) → nat_lt n m ≡ true → n < m
-    below n m h = grind arith
+    and_from _ _ (number_at ports packet.interface (ltb-true packet.interface (length ports) here)) (and_from _ true (shown_bytes packet.bytes are) refl)
 
 entered_lines : (ports : List Entry) (ps : List Packet) → list_all (has_port (length ports)) ps ≡ true → list_all has_bytes ps ≡ true → list_all (has_line ports) (map (entered ports) ps) ≡ true
 entered_lines ports [] here are = refl
-entered_lines ports (p ∷ ps) here are = both _ _ (entered_line ports p (first_so _ _ here) (first_so _ _ are)) (entered_lines ports ps (second_so _ _ here) (second_so _ _ are))
+entered_lines ports (p ∷ ps) here are = and_from _ _ (entered_line ports p (first_so _ _ here) (first_so _ _ are)) (entered_lines ports ps (second_so _ _ here) (second_so _ _ are))
 
 pub section_lines : (ports : List Entry) (section : List ℕ) → list_all is_byte section ≡ true → IfOk (captured ports (packets section (length ports))) (λ steps. list_all (has_line ports) steps ≡ true)
 section_lines ports section h = by (capture (length ports) section).fault

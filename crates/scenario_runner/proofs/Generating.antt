@@ -1,5 +1,5 @@
 -- Frames are written as lines, and go to the sink.
-use Rattle.std.proofs.Common.{◌≡◌, ℕ, ◌<◌, List, [], ◌++◌, length, drop, Option, Result, Ok, Err, OnErr, refl, sym, ◌∙◌, ap, subst, arith, append_assoc, length-append, length-drop}
+use Rattle.std.proofs.Common.{◌≡◌, ℕ, ◌<◌, List, [], ◌++◌, length, drop, Option, refl, sym, ◌∙◌, ap, subst, arith, append_assoc, length-append, length-drop}
 use Rattle.std.specs.Io.KnownBytes.{Appends}
 use Rattle.std.proofs.KnownBytes.{Appends-trans}
 use Rattle.std.proofs.lemmas.List.{append-nil}
@@ -26,10 +26,6 @@ together_more before mid now old held text lines whole frames next t m grown res
           ∙ ap (λ (b : List ℕ). b ++ text_left frames) (sym w.together)
           ∙ t.whole_is;
     }
-
-pub on_err : {T E : Type 0} (r : Result T E) (P : Type 0) → P → OnErr r P
-on_err (Ok x) P p = tt
-on_err (Err e) P p = p
 
 -- a write fails before a frame
 pub together_breaks : (before mid now : Option (List ℕ)) (text whole : List ℕ) (frames : At) → Together before mid text frames whole → Breaks mid now text

@@ -1,10 +1,10 @@
 -- A declared port by its place among the others.
-use Rattle.std.proofs.Common.{◌≡◌, ℕ, zero, suc, ◌+◌, ◌<◌, ◌==◌, Bool, true, false, ◌||◌, if◌then◌else◌, cond, List, [], ◌∷◌, ◌++◌, length, take, slice_get, IfSome, unwrap_or, refl, sym, ◌∙◌, ap, Option, Some, None}
+use Rattle.std.proofs.Common.{◌≡◌, ℕ, zero, suc, ◌+◌, ◌<◌, ◌==◌, Bool, true, false, if◌then◌else◌, cond, List, [], ◌∷◌, ◌++◌, length, take, slice_get, IfSome, unwrap_or, refl, sym, ◌∙◌, ap, Option, Some, None}
 use Rattle.std.specs.List.{flat_map, fold}
 use Rattle.std.specs.Ordering.{nat_cmp}
 use Rattle.std.specs.Cmp.{nat_cmp_total, unsigned_tied}
 use Rattle.std.specs.FinMap.Entries.{find-put}
-use Rattle.std.proofs.lemmas.Bool.{eq-eqb, eqb-true, or_parts}
+use Rattle.std.proofs.lemmas.Bool.{eq-eqb, eqb-true, or_parts, or_right}
 use Rattle.std.proofs.lemmas.Grind.{flat_map-append}
 use Rattle.std.proofs.lemmas.List.{append-nil}
 use Rattle.std.proofs.Common.{append_assoc, add-one, arith, subst, Result}
@@ -12,6 +12,7 @@ use Rattle.std.specs.Result.{OnOk}
 use Rattle.std.specs.Prelude.{codes}
 use Rattle.std.specs.Fmt.{decimal}
 use Rattle.std.specs.Option.{option_map}
+use Rattle.lemmas.proofs.Numbers.{eqb-apart}
 use Rattle.br_model.specs.declared.domains.Edition.{Edition}
 use Rattle.br_model.specs.Data.Maps.{get, put}
 use Rattle.br_model.specs.Table.Domains.{Domains, domain_of, host, software}
@@ -29,11 +30,7 @@ has_at (x ∷ ports) zero e h =
     let same : x ≡ e = cc in
     let here : (x.port == e.port) ≡ true = eq-eqb x.port e.port (ap (λ (y : Entry). y.port) same) in
     rw here refl
-has_at (x ∷ ports) (suc i) e h = later (x.port == e.port) (has_number ports e.port) (has_at ports i e h)
-  where
-    later : (a b : Bool) → b ≡ true → (a || b) ≡ true
-    later true b h = refl
-    later false b h = h
+has_at (x ∷ ports) (suc i) e h = or_right (x.port == e.port) (has_number ports e.port) (has_at ports i e h)
 
 -- no other port has its number
 apart : (x e : Entry) (ports : List Entry) (i : ℕ) → Fits x ports → slice_get ports i ≡ Some e → (x.port == e.port) ≡ false
@@ -60,14 +57,11 @@ adds m e = put nat_cmp m e.port e.dom
 got : (m : List (ℕ × ℕ)) (e : Entry) (n : ℕ) → get nat_cmp (adds m e) n ≡ cond (n == e.port) (Some e.dom) (get nat_cmp m n)
 got m e n = find-put nat_cmp nat_cmp_total n e.port e.dom m ∙ ap (λ (b : Bool). cond b (Some e.dom) (get nat_cmp m n)) (unsigned_tied n e.port)
 
-turned : (n m : ℕ) → (n == m) ≡ false → (m == n) ≡ false
-turned n m h = grind arith
-
 stays : (m : List (ℕ × ℕ)) (ports : List Entry) (n : ℕ) → has_number ports n ≡ false → get nat_cmp (fold adds m ports) n ≡ get nat_cmp m n
 stays m [] n h = refl
 stays m (e ∷ ports) n h =
     let each = or_parts (e.port == n) (has_number ports n) h in
-    stays (adds m e) ports n each.1 ∙ got m e n ∙ ap (λ (b : Bool). cond b (Some e.dom) (get nat_cmp m n)) (turned e.port n each.0)
+    stays (adds m e) ports n each.1 ∙ got m e n ∙ ap (λ (b : Bool). cond b (Some e.dom) (get nat_cmp m n)) (eqb-apart e.port n each.0)
 
 dom_from : (m : List (ℕ × ℕ)) (ports : List Entry) (i : ℕ) (e : Entry) → are_declared ports ≡ true → slice_get ports i ≡ Some e → get nat_cmp (fold adds m ports) e.port ≡ Some e.dom
 dom_from m [] i e all h = absurd (cc)

@@ -1,21 +1,22 @@
 -- The lines before the first step are read back.
-use Rattle.std.proofs.Common.{◌≡◌, ℕ, suc, ◌+◌, ◌/◌, ◌%◌, ◌^◌, ◌<◌, ◌≤◌, ◌==◌, nat_lt, nat_le, Bool, true, false, not, ◌&&◌, ◌||◌, if◌then◌else◌, List, [], ◌∷◌, ◌++◌, length, refl, sym, ◌∙◌, ap, arith, Some, Ok, Err, append_assoc, append-nil, length-append}
+use Rattle.std.proofs.Common.{◌≡◌, ℕ, suc, ◌+◌, ◌/◌, ◌%◌, ◌^◌, ◌<◌, ◌≤◌, ◌==◌, nat_lt, nat_le, Bool, true, false, not, ◌&&◌, if◌then◌else◌, List, [], ◌∷◌, ◌++◌, length, refl, sym, ◌∙◌, ap, arith, Some, Ok, Err, append_assoc, append-nil, length-append}
 use Rattle.std.specs.Prelude.{codes}
 use Rattle.std.specs.Cmp.{first_so, second_so}
 use Rattle.std.specs.Fmt.{decimal}
 use Rattle.std.specs.List.{flat_map, list_all}
 use Rattle.std.specs.Option.{is_some}
 use Rattle.std.specs.Str.{bytes_eq}
-use Rattle.std.proofs.lemmas.Bool.{eqb-true, or_parts}
+use Rattle.std.proofs.lemmas.Bool.{eqb-true, or_parts, le-ltb, and_from, or_from, leb-true}
 use Rattle.std.proofs.lemmas.Fmt.{length-decimal-le}
-use Rattle.std.proofs.lemmas.List.Folds.{list_all-append, list_any-append}
-use Rattle.std.proofs.lemmas.Slice.Eq.{bytes_eq-Decides}
+use Rattle.std.proofs.lemmas.List.Folds.{list_any-append}
+use Rattle.lemmas.proofs.Numbers.{eqb-apart}
+use Rattle.lemmas.proofs.Lists.{bytes_eq-sym}
 use Rattle.br_model.specs.declared.domains.Edition.{Edition}
 use Rattle.br_model.specs.declared.domains.Edition.TheVariants.{One, Two}
 use Rattle.br_model.specs.declared.scenario.LineWhy.TheVariants.{Long}
 use Rattle.br_model.specs.declared.scenario.Place.TheVariants.{Header}
 use Rattle.br_model.specs.declared.scenario.Said.TheVariants.{Opens, Bridge, Declares}
-use Rattle.br_model.specs.Data.Digits.{hex_digit, hex_of, is_digit}
+use Rattle.br_model.specs.Data.Digits.{hex_digit, hex_of}
 use Rattle.br_model.specs.Table.Domains.{last_chip, last_port, software}
 use Rattle.br_model.specs.Text.Declarations.{are_declared, fits_beside}
 use Rattle.br_model.specs.Text.Forms.{row}
@@ -28,40 +29,26 @@ use Rattle.br_model.specs.Text.Spelling.{byte_at, mac_text}
 use Rattle.br_model.specs.Text.Words.{Word}
 use Rattle.br_model.specs.Theorems.WholeLines.{is_line, is_no_feed}
 use Rattle.br_model.proofs.Worked.Computing.{computing}
-use Rattle.br_model.proofs.Text.Reading.{not_below, read_line}
+use Rattle.br_model.proofs.Text.Reading.{read_line}
 use Rattle.br_model.proofs.Text.WrittenLines.{line_read}
 use Rattle.br_model.proofs.Text.WrittenNames.{Fits, fits}
-use Rattle.br_model.proofs.Text.WrittenNumbers.{decimal_digits}
-use Rattle.br_model.proofs.Text.WrittenWords.{both}
+use Rattle.br_model.proofs.Text.Feedless.{lines_joined, all_lines, decimal_feedless}
 use Rattle.scenario_text.specs.Heads.{behind_head, behind_ports}
 
 -- lines without line feeds
-
-joined : (a b : List ℕ) → is_line a ≡ true → is_line b ≡ true → is_line (a ++ b) ≡ true
-joined a b h k = list_all-append is_no_feed a b ∙ both _ _ h k
-
-all_lines : (test : ℕ → Bool) (w : List ℕ) → ((c : ℕ) → test c ≡ true → is_no_feed c ≡ true) → list_all test w ≡ true → is_line w ≡ true
-all_lines test [] each h = refl
-all_lines test (c ∷ w) each h = both _ _ (each c (first_so _ _ h)) (all_lines test w each (second_so _ _ h))
-
-digit_feedless : (c : ℕ) → is_digit c ≡ true → is_no_feed c ≡ true
-digit_feedless c h = grind arith
-
-decimal_feedless : (n : ℕ) → n < 2 ^ 64 → is_line (decimal n) ≡ true
-decimal_feedless n h = all_lines is_digit (decimal n) digit_feedless (decimal_digits n h)
 
 letter_feedless : (c : ℕ) → is_name_byte c ≡ true → is_no_feed c ≡ true
 letter_feedless c h = grind arith
 
 hex_feedless : (bytes : List ℕ) → is_line (hex_of bytes) ≡ true
 hex_feedless [] = refl
-hex_feedless (b ∷ bytes) = both _ _ (digit (b / 16)) (both _ _ (digit (b % 16)) (hex_feedless bytes))
+hex_feedless (b ∷ bytes) = and_from _ _ (digit (b / 16)) (and_from _ _ (digit (b % 16)) (hex_feedless bytes))
   where
     digit : (n : ℕ) → is_no_feed (hex_digit n) ≡ true
     digit n = grind arith
 
 pair : (b : ℕ) (rest : List ℕ) → is_line rest ≡ true → is_line (hex_of (b ∷ []) ++ (58 ∷ rest)) ≡ true
-pair b rest h = joined (hex_of (b ∷ [])) (58 ∷ rest) (hex_feedless (b ∷ [])) h
+pair b rest h = lines_joined (hex_of (b ∷ [])) (58 ∷ rest) (hex_feedless (b ∷ [])) h
 
 mac_feedless : (own : ℕ) → is_line (mac_text own) ≡ true
 mac_feedless own =
@@ -93,12 +80,12 @@ opening_read check Two more = read_line (opened check) (Opens Two) (codes "scena
 
 bridge_says : (check : Bool) (e : Edition) (own : ℕ) → is_station own ≡ true → line_says (opened_in check e).roster (codes "bridge " ++ mac_text own) ≡ Ok (Bridge own)
 bridge_says check e own h =
-    line_read (opened_in check e).roster (row (codes "bridge MAC") header (λ mac. Bridge mac)) (own, tt) refl refl refl refl refl refl (both _ true h refl)
+    line_read (opened_in check e).roster (row (codes "bridge MAC") header (λ mac. Bridge mac)) (own, tt) refl refl refl refl refl refl (and_from _ true h refl)
 
 bridge_read : (check : Bool) (r : Roster) (more : List ℕ) → is_station r.own ≡ true
     → read 0 (opened_in check r.edition) (codes "bridge " ++ (mac_text r.own ++ (10 ∷ more))) ≡ read 0 (behind_ports 2 check r []) more
 bridge_read check r more h =
-    read_line (opened_in check r.edition) (Bridge r.own) (codes "bridge " ++ mac_text r.own) [] more refl (joined (codes "bridge ") (mac_text r.own) refl (mac_feedless r.own)) (bridge_says check r.edition r.own h) refl
+    read_line (opened_in check r.edition) (Bridge r.own) (codes "bridge " ++ mac_text r.own) [] more refl (lines_joined (codes "bridge ") (mac_text r.own) refl (mac_feedless r.own)) (bridge_says check r.edition r.own h) refl
 
 -- what declared ports keep from those behind them
 
@@ -129,23 +116,17 @@ numbered_parts xs ys n h = or_parts (has_number xs n) (has_number ys n) (sym (li
 
 beside : (e : Entry) (ports : List Entry) → nat_le 1 e.port ≡ true → nat_le e.port last_port ≡ true → nat_le e.dom last_chip ≡ true → is_name e.name ≡ true → has_number ports e.port ≡ false
     → is_some (port_named ports e.name) ≡ false → fits_beside ports e ≡ true
-beside e ports a b c d f g = both _ _ a (both _ _ b (both _ _ c (both _ _ d (both _ _ (ap not f) (ap not g)))))
+beside e ports a b c d f g = and_from _ _ a (and_from _ _ b (and_from _ _ c (and_from _ _ d (and_from _ _ (ap not f) (ap not g)))))
 
 prefix : (xs ys : List Entry) → are_declared (xs ++ ys) ≡ true → are_declared xs ≡ true
 prefix [] ys h = refl
 prefix (x ∷ xs) ys h =
     let f = fits x (xs ++ ys) h in
-    both _ _ (beside x xs f.low f.high f.of_chip f.named (numbered_parts xs ys x.port f.new).0 (named_front xs ys x.name f.alone)) (prefix xs ys f.rest)
+    and_from _ _ (beside x xs f.low f.high f.of_chip f.named (numbered_parts xs ys x.port f.new).0 (named_front xs ys x.name f.alone)) (prefix xs ys f.rest)
 
 suffix : (xs ys : List Entry) → are_declared (xs ++ ys) ≡ true → are_declared ys ≡ true
 suffix [] ys h = h
 suffix (x ∷ xs) ys h = suffix xs ys (fits x (xs ++ ys) h).rest
-
-turned : (a b : ℕ) → (a == b) ≡ false → (b == a) ≡ false
-turned a b h = grind arith
-
-swapped : (a b : Word) → bytes_eq a b ≡ bytes_eq b a
-swapped a b = grind (arith, bytes_eq-Decides a b, bytes_eq-Decides b a)
 
 -- no port before it has its number or its name
 new_number : (xs : List Entry) (e : Entry) (ys : List Entry) → are_declared (xs ++ e ∷ ys) ≡ true → has_number xs e.port ≡ false
@@ -153,25 +134,19 @@ new_number [] e ys h = refl
 new_number (x ∷ xs) e ys h =
     let f = fits x (xs ++ e ∷ ys) h in
     let other = (or_parts (e.port == x.port) (has_number ys x.port) (numbered_parts xs (e ∷ ys) x.port f.new).1).0 in
-    neither (x.port == e.port) (has_number xs e.port) (turned e.port x.port other) (new_number xs e ys f.rest)
-  where
-    neither : (a b : Bool) → a ≡ false → b ≡ false → (a || b) ≡ false
-    neither a b h k = rw (h, k) refl
+    or_from (x.port == e.port) (has_number xs e.port) (eqb-apart e.port x.port other) (new_number xs e ys f.rest)
 
 new_name : (xs : List Entry) (e : Entry) (ys : List Entry) → are_declared (xs ++ e ∷ ys) ≡ true → is_some (port_named xs e.name) ≡ false
 new_name [] e ys h = refl
 new_name (x ∷ xs) e ys h =
     let f = fits x (xs ++ e ∷ ys) h in
-    let other : bytes_eq e.name x.name ≡ false = swapped e.name x.name ∙ named_behind xs e ys x.name f.alone in
+    let other : bytes_eq e.name x.name ≡ false = bytes_eq-sym e.name x.name ∙ named_behind xs e ys x.name f.alone in
     ap (λ (b : Bool). is_some (if b then Some x.port else port_named xs e.name)) other ∙ new_name xs e ys f.rest
 
 -- the line of a port
 
 abbrev port_words : Entry → List ℕ
 port_words e = codes "port " ++ (decimal e.port ++ (32 ∷ (e.name ++ (32 ∷ domain_words e.dom))))
-
-at_most : (n m : ℕ) → nat_le n m ≡ true → n ≤ m
-at_most n m h = grind arith
 
 module _ (check : Bool) (r : Roster) (n : ℕ) (done : List Entry) (e : Entry) (later : List Entry) (all : are_declared (done ++ e ∷ later) ≡ true) where
   abbrev here : Scenario
@@ -181,20 +156,20 @@ module _ (check : Bool) (r : Roster) (n : ℕ) (done : List Entry) (e : Entry) (
   own = fits e later (suffix done (e ∷ later) all)
 
   number_new : ((nat_le 1 e.port && nat_le e.port last_port) && not (has_number done e.port)) ≡ true
-  number_new = both _ _ (both _ _ own.low own.high) (ap not (new_number done e later all))
+  number_new = and_from _ _ (and_from _ _ own.low own.high) (ap not (new_number done e later all))
 
   name_new : (is_name e.name && not (is_some (port_named done e.name))) ≡ true
-  name_new = both _ _ own.named (ap not (new_name done e later all))
+  name_new = and_from _ _ own.named (ap not (new_name done e later all))
 
   says_soft : line_says here.roster (codes "port " ++ (decimal e.port ++ (32 ∷ (e.name ++ (32 ∷ codes "soft"))))) ≡ Ok (Declares e.port e.name software)
   says_soft =
       line_read here.roster (row (codes "port NUMBER NEWNAME soft") declaration (λ port name. Declares port name software)) (e.port, (e.name, tt)) (prefix done (e ∷ later) all) refl refl refl refl refl
-      (both _ _ number_new (both _ true name_new refl))
+      (and_from _ _ number_new (and_from _ true name_new refl))
 
   says_chip : (e.dom == software) ≡ false → line_says here.roster (codes "port " ++ (decimal e.port ++ (32 ∷ (e.name ++ (32 ∷ (codes "chip " ++ decimal e.dom)))))) ≡ Ok (Declares e.port e.name e.dom)
   says_chip not_soft =
       line_read here.roster (row (codes "port NUMBER NEWNAME chip DOMAIN") declaration (λ port name dom. Declares port name dom)) (e.port, (e.name, (e.dom, tt))) (prefix done (e ∷ later) all) refl refl refl refl refl
-      (both _ _ number_new (both _ _ name_new (both _ true (both _ _ (above e.dom not_soft) own.of_chip) refl)))
+      (and_from _ _ number_new (and_from _ _ name_new (and_from _ true (and_from _ _ (above e.dom not_soft) own.of_chip) refl)))
     where
       above : (dom : ℕ) → (dom == 0) ≡ false → nat_le 1 dom ≡ true
       above dom h = grind arith
@@ -207,14 +182,14 @@ module _ (check : Bool) (r : Roster) (n : ℕ) (done : List Entry) (e : Entry) (
       by false is = says_chip is
 
   domain_small : e.dom < 2 ^ 64
-  domain_small = let most : e.dom ≤ last_chip = at_most e.dom last_chip own.of_chip in omega arith
+  domain_small = let most : e.dom ≤ last_chip = leb-true e.dom last_chip own.of_chip in omega arith
 
   port_small : e.port < 2 ^ 64
-  port_small = let most : e.port ≤ last_port = at_most e.port last_port own.high in omega arith
+  port_small = let most : e.port ≤ last_port = leb-true e.port last_port own.high in omega arith
 
   words_feedless : (b : Bool) → is_line (if b then codes "soft" else codes "chip " ++ decimal e.dom) ≡ true
   words_feedless true = refl
-  words_feedless false = joined (codes "chip ") (decimal e.dom) refl (decimal_feedless e.dom domain_small)
+  words_feedless false = lines_joined (codes "chip ") (decimal e.dom) refl (decimal_feedless e.dom domain_small)
 
   words_short : (b : Bool) → length (if b then codes "soft" else codes "chip " ++ decimal e.dom) ≤ 25
   words_short true = omega arith
@@ -230,19 +205,19 @@ module _ (check : Bool) (r : Roster) (n : ℕ) (done : List Entry) (e : Entry) (
   feedless : is_line (port_words e) ≡ true
   feedless =
       let last : List ℕ = 32 ∷ domain_words e.dom in
-      joined (codes "port ") (decimal e.port ++ (32 ∷ (e.name ++ last))) refl
-      (joined (decimal e.port) (32 ∷ (e.name ++ last)) (decimal_feedless e.port port_small)
-      (joined (32 ∷ e.name) last (all_lines is_name_byte e.name letter_feedless name_parts.1) (words_feedless (e.dom == software))))
+      lines_joined (codes "port ") (decimal e.port ++ (32 ∷ (e.name ++ last))) refl
+      (lines_joined (decimal e.port) (32 ∷ (e.name ++ last)) (decimal_feedless e.port port_small)
+      (lines_joined (32 ∷ e.name) last (all_lines is_name_byte e.name letter_feedless name_parts.1) (words_feedless (e.dom == software))))
 
   short : length (port_words e) ≤ longest_line
   short =
       let digits : length (decimal e.port) ≤ 20 = length-decimal-le 20 e.port (omega arith) (omega (arith, port_small)) (omega (arith, port_small)) in
-      let name : length e.name ≤ longest_name = at_most (length e.name) longest_name name_parts.0 in
+      let name : length e.name ≤ longest_name = leb-true (length e.name) longest_name name_parts.0 in
       let words = words_short (e.dom == software) in
       omega (arith, digits, name, words, length-append (decimal e.port) (32 ∷ (e.name ++ (32 ∷ domain_words e.dom))), length-append e.name (32 ∷ domain_words e.dom))
 
   whole_port_says : whole_says here.roster (port_words e) ≡ Ok (Declares e.port e.name e.dom)
-  whole_port_says = ap (λ (b : Bool). if b then Err Long else line_says here.roster (port_words e)) (not_below longest_line (length (port_words e)) short) ∙ port_says
+  whole_port_says = ap (λ (b : Bool). if b then Err Long else line_says here.roster (port_words e)) (le-ltb longest_line (length (port_words e)) short) ∙ port_says
 
   line_is : (more : List ℕ) → port_line e ++ more ≡ port_words e ++ 10 ∷ more
   line_is more =

@@ -5,6 +5,7 @@ use Rattle.std.proofs.lemmas.Grind.{flat_map-append}
 use Rattle.std.proofs.lemmas.List.{append-nil}
 use Rattle.std.proofs.lemmas.List.FromFn.{map-range_with_len_more}
 use Rattle.std.proofs.lemmas.List.Folds.{flat_map-map}
+use Rattle.lemmas.proofs.Lists.{two_parts}
 use Rattle.br_model.specs.Forward.Leave.{all_ports}
 use Rattle.br_model.specs.Table.Domains.{port_places}
 use Rattle.br_model.specs.Text.Roster.{Entry, has_number, host_name}
@@ -23,9 +24,6 @@ no_name (e ∷ ports) n h = no_name_by (e.port == n) ports e.name n h (no_name p
 pub no_device : (ports : List Entry) (n : ℕ) → (n == 0) ≡ false → has_number ports n ≡ false → [] ≡ device_text ports n
 no_device ports n far none =
     sym (ap (λ (b : Bool). if b then host_name else name_of ports n) far ∙ no_name ports n none)
-
-pub two_parts : (s0 s1 s2 a b : List ℕ) → s1 ≡ s0 ++ a → s2 ≡ s1 ++ b → s2 ≡ s0 ++ (a ++ b)
-two_parts s0 s1 s2 a b e f = f ∙ ap (λ (s : List ℕ). s ++ b) e ∙ append_assoc s0 a b
 
 -- s is the text so far, xs what is left, all what is to stand at the end: one line more
 pub line_more : {A : Type 0} (f : A → List ℕ) (s t line all : List ℕ) (xs ys : List A) (x : A) → t ≡ s ++ line → line ≡ f x → xs ≡ x ∷ ys → s ++ flat_map f xs ≡ all → t ++ flat_map f ys ≡ all

@@ -1,11 +1,11 @@
 -- The value that a word gives is in the range of its operand.
-use Rattle.std.proofs.Common.{◌≡◌, ℕ, zero, suc, ◌+◌, ◌-◌, ◌*◌, ◌^◌, ◌<◌, ◌≤◌, ◌==◌, nat_lt, nat_le, Bool, true, false, not, ◌&&◌, ◌||◌, if◌then◌else◌, List, [], ◌∷◌, length, refl, sym, ◌∙◌, ap, subst, arith, Option, Some, None, Result, Ok, Err}
+use Rattle.std.proofs.Common.{◌≡◌, ℕ, zero, suc, ◌+◌, ◌-◌, ◌*◌, ◌^◌, ◌<◌, ◌≤◌, ◌==◌, nat_le, Bool, true, false, not, ◌&&◌, ◌||◌, if◌then◌else◌, List, [], ◌∷◌, length, refl, sym, ◌∙◌, ap, subst, arith, Option, Some, None, Result, Ok, Err}
 use Rattle.std.proofs.Math.Nat.{lt_of_lt_of_le, mul-le-mul_left, mul_assoc, mul_comm, pow-succ', pow-zero}
 use Rattle.std.specs.Cmp.{first_so, second_so}
 use Rattle.std.specs.List.{fold, list_all, list_any, slice_split}
 use Rattle.std.specs.Option.{is_some, option_map}
 use Rattle.std.specs.Str.{bytes_eq}
-use Rattle.std.proofs.lemmas.Bool.{eq-eqb}
+use Rattle.std.proofs.lemmas.Bool.{eq-eqb, and_from, or_left, or_right, not-false, leb-true, lt-ltb, ltb-true}
 use Rattle.br_model.specs.declared.group.Ip.{Ip}
 use Rattle.br_model.specs.declared.group.Ip.TheVariants.{V4, V6}
 use Rattle.br_model.specs.declared.scenario.LineWhy.{LineWhy}
@@ -18,29 +18,8 @@ use Rattle.br_model.specs.Text.IpWords.{address, address_four, address_six, each
 use Rattle.br_model.specs.Text.Operands.{Operand, Number, Chip, NewPort, NewName, PortNumber, PortName, Device, Station, GroupAddress, Hex, Flag, Value, bytes_of, chip_domain, device, flag, found, group, has_colons, hex, in_range, is_byte, is_device, is_flag, is_ip, is_station, mac, new_name, new_port, number, number_in, port_name, port_number, read, station_of, twelve, unless}
 use Rattle.br_model.specs.Text.Roster.{Entry, has_number, is_chip, is_name, host_name, port_named}
 use Rattle.br_model.specs.Text.Words.{Word, is_word}
-use Rattle.br_model.proofs.Text.WrittenWords.{both}
 
 -- truth values
-
-first_is : (a b : Bool) → a ≡ true → (a || b) ≡ true
-first_is a b h = rw h refl
-
-second_is : (a b : Bool) → b ≡ true → (a || b) ≡ true
-second_is true b h = refl
-second_is false b h = h
-
-unnot : (b : Bool) → not b ≡ false → b ≡ true
-unnot true h = refl
-unnot false h = absurd (cc)
-
-at_most : (n m : ℕ) → nat_le n m ≡ true → n ≤ m
-at_most n m h = grind arith
-
-strictly : (n m : ℕ) → n < m → nat_lt n m ≡ true
-strictly n m h = grind arith
-
-below : (n m : ℕ) → nat_lt n m ≡ true → n < m
-below n m h = grind arith
 
 -- what was tested
 
@@ -83,20 +62,20 @@ up_so most None n h = absurd (cc)
 up_so most (Some m) n h = by (nat_le m most) refl h
   where
     by : (b : Bool) → nat_le m most ≡ b → (if b then Some m else None) ≡ Some n → n ≤ most
-    by true e h = let same : m ≡ n = cc in subst (λ (k : ℕ). k ≤ most) same (at_most m most e)
+    by true e h = let same : m ≡ n = cc in subst (λ (k : ℕ). k ≤ most) same (leb-true m most e)
     by false e h = absurd (cc)
 
 -- ports
 
 chip_so : (ports : List Entry) (w : Word) (dom : ℕ) → chip_domain ports w ≡ Ok dom → is_chip ports dom ≡ true
 unfolding chip_domain
-chip_so ports w dom h = unnot (is_chip ports dom) (unless_test why.Port (λ d. not (is_chip ports d)) (number first_chip_domain last_chip w) dom h)
+chip_so ports w dom h = not-false (is_chip ports dom) (unless_test why.Port (λ d. not (is_chip ports d)) (number first_chip_domain last_chip w) dom h)
 
 new_port_so : (ports : List Entry) (w : Word) (port : ℕ) → new_port ports w ≡ Ok port → ((nat_le 1 port && nat_le port last_port) && not (has_number ports port)) ≡ true
 unfolding new_port
 new_port_so ports w port h =
     let free : has_number ports port ≡ false = unless_test why.Port (λ n. has_number ports n) (number 1 last_port w) port h in
-    both _ _ (number_so 1 last_port w port (unless_ok why.Port (λ n. has_number ports n) (number 1 last_port w) port h)) (ap not free)
+    and_from _ _ (number_so 1 last_port w port (unless_ok why.Port (λ n. has_number ports n) (number 1 last_port w) port h)) (ap not free)
 
 new_name_so : (ports : List Entry) (w name : Word) → new_name ports w ≡ Ok name → (is_name name && not (is_some (port_named ports name))) ≡ true
 unfolding new_name
@@ -109,7 +88,7 @@ new_name_so ports w name h = by (is_name w && not (is_some (port_named ports w))
 port_number_so : (ports : List Entry) (w : Word) (port : ℕ) → port_number ports w ≡ Ok port → has_number ports port ≡ true
 unfolding port_number
 port_number_so ports w port h =
-    let tested = unnot (nat_le port last_port && has_number ports port) (unless_test why.Port (λ n. not (nat_le n last_port && has_number ports n)) (found why.Number (decimal_from w)) port h) in
+    let tested = not-false (nat_le port last_port && has_number ports port) (unless_test why.Port (λ n. not (nat_le n last_port && has_number ports n)) (found why.Number (decimal_from w)) port h) in
     second_so (nat_le port last_port) (has_number ports port) tested
 
 named_so : (ports : List Entry) (w : Word) (port : ℕ) → port_named ports w ≡ Some port → has_number ports port ≡ true
@@ -117,8 +96,8 @@ named_so [] w port h = absurd (cc)
 named_so (e ∷ ports) w port h = by (bytes_eq w e.name) h (named_so ports w port)
   where
     by : (b : Bool) → (if b then Some e.port else port_named ports w) ≡ Some port → (port_named ports w ≡ Some port → has_number ports port ≡ true) → (e.port == port || has_number ports port) ≡ true
-    by true h later = let same : e.port ≡ port = cc in first_is (e.port == port) (has_number ports port) (eq-eqb e.port port same)
-    by false h later = second_is (e.port == port) (has_number ports port) (later h)
+    by true h later = let same : e.port ≡ port = cc in or_left (e.port == port) (has_number ports port) (eq-eqb e.port port same)
+    by false h later = or_right (e.port == port) (has_number ports port) (later h)
 
 port_name_so : (ports : List Entry) (w : Word) (port : ℕ) → port_name ports w ≡ Ok port → has_number ports port ≡ true
 unfolding port_name
@@ -129,8 +108,8 @@ unfolding device
 device_so ports w port h = by (bytes_eq w host_name) h
   where
     by : (b : Bool) → (if b then Ok host else port_name ports w) ≡ Ok port → (port == host || has_number ports port) ≡ true
-    by true h = let same : port ≡ host = cc in first_is (port == host) (has_number ports port) (eq-eqb port host same)
-    by false h = second_is (port == host) (has_number ports port) (port_name_so ports w port h)
+    by true h = let same : port ≡ host = cc in or_left (port == host) (has_number ports port) (eq-eqb port host same)
+    by false h = or_right (port == host) (has_number ports port) (port_name_so ports w port h)
 
 -- bytes
 
@@ -139,9 +118,9 @@ nibble_so c n h = by (nat_le 48 c && nat_le c 57) (nat_le 65 c && nat_le c 70) (
   where
     by : (i j k : Bool) → (nat_le 48 c && nat_le c 57) ≡ i → (nat_le 65 c && nat_le c 70) ≡ j → (nat_le 97 c && nat_le c 102) ≡ k
         → (if i then Some (c - 48) else if j then Some (c - 55) else if k then Some (c - 87) else None) ≡ Some n → n < 16
-    by true j k d e f h = let same : c - 48 ≡ n = cc in let most = at_most c 57 (second_so (nat_le 48 c) _ d) in omega arith
-    by false true k d e f h = let same : c - 55 ≡ n = cc in let most = at_most c 70 (second_so (nat_le 65 c) _ e) in omega arith
-    by false false true d e f h = let same : c - 87 ≡ n = cc in let most = at_most c 102 (second_so (nat_le 97 c) _ f) in omega arith
+    by true j k d e f h = let same : c - 48 ≡ n = cc in let most = leb-true c 57 (second_so (nat_le 48 c) _ d) in omega arith
+    by false true k d e f h = let same : c - 55 ≡ n = cc in let most = leb-true c 70 (second_so (nat_le 65 c) _ e) in omega arith
+    by false false true d e f h = let same : c - 87 ≡ n = cc in let most = leb-true c 102 (second_so (nat_le 97 c) _ f) in omega arith
     by false false false d e f h = absurd (cc)
 
 byte_so : (high low : Option ℕ) (n : ℕ) → ((k : ℕ) → high ≡ Some k → k < 16) → ((k : ℕ) → low ≡ Some k → k < 16) → byte_of high low ≡ Some n → is_byte n ≡ true
@@ -152,7 +131,7 @@ byte_so (Some x) (Some y) n a b h =
     let first : x < 16 = a x refl in
     let second : y < 16 = b y refl in
     let all : n < 256 = omega arith in
-    strictly n 256 all
+    lt-ltb n 256 all
 
 -- the bytes of so many digits
 pub hex_bytes : (digits bytes : List ℕ) → bytes_from_hex digits ≡ Some bytes → (list_all is_byte bytes ≡ true) × (2 * length bytes ≡ length digits)
@@ -169,7 +148,7 @@ hex_bytes (c ∷ d ∷ cs) bytes h = by (byte_of (nibble c) (nibble d)) (bytes_f
         let same : b ∷ more ≡ bytes = cc in
         let rest = later more f in
         subst (λ (l : List ℕ). (list_all is_byte l ≡ true) × (2 * length l ≡ length (c ∷ d ∷ cs))) same
-        (both _ _ (byte_so (nibble c) (nibble d) b (λ k is. nibble_so c k is) (λ k is. nibble_so d k is) e) rest.0, omega (arith, rest.1))
+        (and_from _ _ (byte_so (nibble c) (nibble d) b (λ k is. nibble_so c k is) (λ k is. nibble_so d k is) e) rest.0, omega (arith, rest.1))
 
 hex_so : (w : Word) (bytes : List ℕ) → hex w ≡ Ok bytes → (is_word bytes && list_all is_byte bytes) ≡ true
 unfolding hex
@@ -204,7 +183,7 @@ spelled_so base a (d ∷ ds) h =
 
 bytes_below : (bytes : List ℕ) → list_all is_byte bytes ≡ true → AreBelow 256 bytes
 bytes_below [] h = tt
-bytes_below (b ∷ bytes) h = (below b 256 (first_so _ _ h), bytes_below bytes (second_so _ _ h))
+bytes_below (b ∷ bytes) h = (ltb-true b 256 (first_so _ _ h), bytes_below bytes (second_so _ _ h))
 
 -- so many bytes
 number_below : (n : ℕ) (bytes : List ℕ) → list_all is_byte bytes ≡ true → length bytes ≡ n → number_of bytes < 1 * 256 ^ n
@@ -219,7 +198,7 @@ station_so bytes a are six h = by (is_multicast (number_of bytes) || number_of b
     by true e h = absurd (cc)
     by false e h =
         let same : number_of bytes ≡ a = cc in
-        subst (λ (n : ℕ). is_station n ≡ true) same (both _ _ (strictly (number_of bytes) (2 ^ 48) (number_below 6 bytes are six)) (ap not e))
+        subst (λ (n : ℕ). is_station n ≡ true) same (and_from _ _ (lt-ltb (number_of bytes) (2 ^ 48) (number_below 6 bytes are six)) (ap not e))
 
 pub mac_so : (w : Word) (a : ℕ) → mac w ≡ Ok a → is_station a ≡ true
 unfolding mac
@@ -287,10 +266,10 @@ ip_so w g h = by (address_four w) (address_six w) refl refl h
     by : (o p : Option ℕ) → address_four w ≡ o → address_six w ≡ p → four_or_six o p ≡ Some g → is_ip g ≡ true
     by (Some n) p e f h =
         let same : V4 n ≡ g = cc in
-        subst (λ (a : Ip). is_ip a ≡ true) same (strictly n (2 ^ 32) (parts_so 4 (2 ^ 8) octet (slice_split (λ c. c == 46) w) n octet_so e))
+        subst (λ (a : Ip). is_ip a ≡ true) same (lt-ltb n (2 ^ 32) (parts_so 4 (2 ^ 8) octet (slice_split (λ c. c == 46) w) n octet_so e))
     by None (Some n) e f h =
         let same : V6 n ≡ g = cc in
-        subst (λ (a : Ip). is_ip a ≡ true) same (strictly n (2 ^ 128) (parts_so 8 (2 ^ 16) four_digits (slice_split (λ c. c == 58) w) n four_so f))
+        subst (λ (a : Ip). is_ip a ≡ true) same (lt-ltb n (2 ^ 128) (parts_so 8 (2 ^ 16) four_digits (slice_split (λ c. c == 58) w) n four_so f))
     by None None e f h = absurd (cc)
 
 group_so : (w : Word) (g : Ip) → group w ≡ Ok g → is_ip g ≡ true
@@ -304,8 +283,8 @@ flag_among [] w f h = absurd (cc)
 flag_among (x ∷ fs) w f h = by (bytes_eq w x.0) h (flag_among fs w f)
   where
     by : (b : Bool) → (if b then Some x.1 else flag_named fs w) ≡ Some f → (flag_named fs w ≡ Some f → list_any (λ y. y.1 == f) fs ≡ true) → (x.1 == f || list_any (λ y. y.1 == f) fs) ≡ true
-    by true h later = let same : x.1 ≡ f = cc in first_is (x.1 == f) (list_any (λ y. y.1 == f) fs) (eq-eqb x.1 f same)
-    by false h later = second_is (x.1 == f) (list_any (λ y. y.1 == f) fs) (later h)
+    by true h later = let same : x.1 ≡ f = cc in or_left (x.1 == f) (list_any (λ y. y.1 == f) fs) (eq-eqb x.1 f same)
+    by false h later = or_right (x.1 == f) (list_any (λ y. y.1 == f) fs) (later h)
 
 flag_so : (w : Word) (f : ℕ) → flag w ≡ Ok f → is_flag f ≡ true
 unfolding flag

@@ -154,15 +154,3 @@ goes_on digits out i byte all sizes within good bad before = record { written = 
 
     none : 256 ≤ bit_or all byte → bytes_from_hex digits ≡ None
     none large = either large (nat_lt all 256) refl
-
--- an odd number of digits spells nothing
-pub odd_none : (digits : List ℕ) → length digits % 2 ≡ 1 → bytes_from_hex digits ≡ None
-odd_none [] h = grind arith
-odd_none (c ∷ []) h = refl
-odd_none (c ∷ d ∷ cs) h =
-    let rest : length cs % 2 ≡ 1 = omega arith in
-    ap (in_front (byte_of (nibble c) (nibble d))) (odd_none cs rest) ∙ front_none (byte_of (nibble c) (nibble d))
-  where
-    front_none : (b : Option ℕ) → in_front b None ≡ None
-    front_none None = refl
-    front_none (Some b) = refl

@@ -120,10 +120,6 @@ none : {A P : Type 0} (answer : Option A) → P → IfNone answer P
 none None p = p
 none (Some x) p = tt
 
-pub none_then : {A P Q : Type 0} (answer : Option A) → IfNone answer P → (P → Q) → IfNone answer Q
-none_then None p f = f p
-none_then (Some x) p f = tt
-
 pub too_many : {A : Type 0} (answer : Option A) (found : List Word) (rest part after : List ℕ) (end : ℕ) (all : List Word) (n : ℕ) → IsFirstByte (is_byte 32) rest (Some end) → part ≡ take end rest → after ≡ drop end rest
     → found ++ words rest ≡ all → n < length (found ++ words_among (part ∷ [])) → IfNone answer (n < length all)
 too_many answer found rest part after end all n h is then before long =

@@ -4,6 +4,8 @@ use Rattle.std.specs.Prelude.{codes}
 use Rattle.std.specs.Cmp.{first_so, second_so}
 use Rattle.std.specs.List.{AllByRecursion, list_all}
 use Rattle.std.specs.Str.{bytes_eq}
+use Rattle.std.proofs.lemmas.Bool.{and_from}
+use Rattle.lemmas.proofs.Endings.{IfOk_either}
 use Rattle.br_model.specs.declared.domains.Edition.TheVariants.{One, Two}
 use Rattle.br_model.specs.declared.scenario.LineWhy.{LineWhy}
 use Rattle.br_model.specs.declared.scenario.LineWhy.TheVariants as why
@@ -25,7 +27,6 @@ use Rattle.br_model.specs.Text.ScenarioText.{has_line}
 use Rattle.br_model.specs.Text.Spelling.{shown}
 use Rattle.br_model.specs.Text.Words.{Word, is_comment, is_word, words}
 use Rattle.br_model.specs.Wire.Frames.{longest_frame}
-use Rattle.br_model.proofs.Text.WrittenWords.{both}
 use Rattle.scenario_text.proofs.OperandsRead.{operand_so}
 
 -- the bytes of a frame that a line shows
@@ -33,7 +34,7 @@ use Rattle.scenario_text.proofs.OperandsRead.{operand_so}
 pub take_bytes : (n : ℕ) (bytes : List ℕ) → list_all is_byte bytes ≡ true → list_all is_byte (take n bytes) ≡ true
 take_bytes zero bytes h = refl
 take_bytes (suc n) [] h = refl
-take_bytes (suc n) (b ∷ bytes) h = both _ _ (first_so _ _ h) (take_bytes n bytes (second_so _ _ h))
+take_bytes (suc n) (b ∷ bytes) h = and_from _ _ (first_so _ _ h) (take_bytes n bytes (second_so _ _ h))
 
 pub shown_bytes : (bytes : List ℕ) → list_all is_byte bytes ≡ true → (is_word (shown bytes) && list_all is_byte (shown bytes)) ≡ true
 shown_bytes [] h = refl
@@ -42,19 +43,15 @@ shown_bytes (b ∷ bytes) h = take_bytes (longest_frame + 1) (b ∷ bytes) h
 -- tests of operands
 
 one : (a : Bool) → a ≡ true → (a && true) ≡ true
-one a h = both a true h refl
+one a h = and_from a true h refl
 
 two : (a b : Bool) → a ≡ true → b ≡ true → (a && (b && true)) ≡ true
-two a b g h = both a (b && true) g (one b h)
+two a b g h = and_from a (b && true) g (one b h)
 
 three : (a b c : Bool) → a ≡ true → b ≡ true → c ≡ true → (a && (b && (c && true))) ≡ true
-three a b c f g h = both a (b && (c && true)) f (two b c g h)
+three a b c f g h = and_from a (b && (c && true)) f (two b c g h)
 
 -- what a row says
-
-either : {A : Type 0} (P : A → Type 0) (b : Bool) (x y : Result A LineWhy) → IfOk x P → IfOk y P → IfOk (if b then x else y) P
-either P true x y p q = p
-either P false x y p q = q
 
 module _ (r : Roster) where
   -- what a row says of all values in range
@@ -77,7 +74,7 @@ module _ (r : Roster) where
     SaysSo q = IfOk (said r (Some q) word) P
 
     row_says : (q : Row A) → OfAll P (operands_from 0 q.shape) q.says → SaysSo q
-    row_says q h = either P (q.place r) (reads r.ports (operands_from 0 q.shape) q.says word) (Err why.Place) (operands_read P (operands_from 0 q.shape) q.says word h) tt
+    row_says q h = IfOk_either P (q.place r) (reads r.ports (operands_from 0 q.shape) q.says word) (Err why.Place) (operands_read P (operands_from 0 q.shape) q.says word h) tt
 
     picked : (b : Bool) (q : Row A) (o : Option (Row A)) → SaysSo q → IfSome o SaysSo → IfSome (if b then Some q else o) SaysSo
     picked true q o p h = p
@@ -126,7 +123,7 @@ module _ (r : Roster) where
   words_say_so : (word : ℕ → Word) (n : ℕ) → IfOk (words_say r n word) StepHasLine
   words_say_so word n =
       let behind : ℕ → Word = λ i. word (i + 1) in
-      either StepHasLine (bytes_eq (word 0) (codes "cmd")) (commanded (line forms.commands r (n - 1) behind)) (line lines.lines r n word)
+      IfOk_either StepHasLine (bytes_eq (word 0) (codes "cmd")) (commanded (line forms.commands r (n - 1) behind)) (line lines.lines r n word)
       (command_says (line forms.commands r (n - 1) behind) (line_so CommandHasLine behind forms.commands (n - 1) (commands_say behind)))
       (line_so StepHasLine word lines.lines n (lines_say word))
 
@@ -136,7 +133,7 @@ module _ (r : Roster) where
 
   line_says_so : (bytes : List ℕ) → IfOk (line_says r bytes) StepHasLine
   unfolding line_says
-  line_says_so bytes = either StepHasLine (is_comment bytes) (Ok Blank) (all_say r (words bytes)) tt (all_say_so (words bytes))
+  line_says_so bytes = IfOk_either StepHasLine (is_comment bytes) (Ok Blank) (all_say r (words bytes)) tt (all_say_so (words bytes))
 
 -- the step of a line has one where the same ports are declared
 pub step_has_line : (r : Roster) (bytes : List ℕ) (s : Step) → line_says r bytes ≡ Ok (Does s) → has_line r.ports s ≡ true
@@ -145,4 +142,4 @@ step_has_line r bytes s says = subst (λ (o : Result Said LineWhy). IfOk o (Step
 -- the same of a line with its line feed
 pub whole_step_has_line : (r : Roster) (bytes : List ℕ) (s : Step) → whole_says r bytes ≡ Ok (Does s) → has_line r.ports s ≡ true
 whole_step_has_line r bytes s says =
-    subst (λ (o : Result Said LineWhy). IfOk o (StepHasLine r)) says (either (StepHasLine r) (nat_lt longest_line (length bytes)) (Err why.Long) (line_says r bytes) tt (line_says_so r bytes))
+    subst (λ (o : Result Said LineWhy). IfOk o (StepHasLine r)) says (IfOk_either (StepHasLine r) (nat_lt longest_line (length bytes)) (Err why.Long) (line_says r bytes) tt (line_says_so r bytes))

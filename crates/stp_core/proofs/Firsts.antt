@@ -1,11 +1,8 @@
 -- The first moment that passes one of two tests.
 use Rattle.std.proofs.Common.{◌≡◌, ℕ, ◌<◌, ◌≤◌, min, ◌-◌, ◌^◌, Bool, true, false, ◌||◌, ◌⊎◌, inl, inr, refl, sym, ap, ap₂, ◌∙◌, arith}
 use Rattle.std.proofs.lemmas.Bool.{cases_lt}
+use Rattle.lemmas.proofs.Tests.{or-true}
 use Rattle.stp_core.specs.Due.{IsFirst}
-
-or_true : (b : Bool) → (b || true) ≡ true
-or_true true = refl
-or_true false = refl
 
 pub first_either : (a b : ℕ) (p q : ℕ → Bool) → IsFirst a p → IsFirst b q → IsFirst (min a b) (λ n. p n || q n)
 first_either a b p q x y = record {
@@ -19,7 +16,7 @@ first_either a b p q x y = record {
         ap (λ n. p n || q n) m ∙ ap (λ u. u || q a) (x.reached (omega arith))
     by h (inr more) =
         let m : min a b ≡ b = omega arith in
-        ap (λ n. p n || q n) m ∙ ap (λ u. p b || u) (y.reached (omega arith)) ∙ or_true (p b)
+        ap (λ n. p n || q n) m ∙ ap (λ u. p b || u) (y.reached (omega arith)) ∙ or-true (p b)
 
 -- by another test that says the same
 pub first_same : (a b : ℕ) (p q : ℕ → Bool) → a ≡ b → ((n : ℕ) → p n ≡ q n) → IsFirst a p → IsFirst b q

@@ -4,6 +4,7 @@ use Rattle.std.specs.List.{filter, list_any}
 use Rattle.std.specs.Option.{is_some, option_map_or}
 use Rattle.std.proofs.lemmas.Bool.{or_parts, cases_Bool}
 use Rattle.std.proofs.lemmas.Bool.Decides.{nat_tests}
+use Rattle.lemmas.proofs.Tests.{and-false}
 use Rattle.br_model.specs.declared.tree.Stamped.{Stamped}
 use Rattle.br_model.specs.declared.tree.TreePort.{TreePort}
 use Rattle.br_model.specs.Tree.Tree.{Tree, each, numbers}
@@ -67,11 +68,7 @@ stands false now x h = by (x.state == blocking) h
     by false h = absurd (cc)
 
 closed : (active : Bool) (x : TreePort) → cond active (x.state == blocking) (not (x.state == blocking)) ≡ false → (is_open x && not active) ≡ false
-closed true x h = by (is_open x)
-  where
-    by : (b : Bool) → (b && false) ≡ false
-    by true = refl
-    by false = refl
+closed true x h = and-false (is_open x)
 closed false x h = grind (arith, nat_tests)
 
 -- who was the root and is it becomes nothing
@@ -166,11 +163,7 @@ module _ (t : Tree) (now : ℕ) (ports : list_any (is_due_at (election_of t) (fo
   unfolding due
   none_opened =
       ap (λ b. b && list_any (is_designated t) t.ports)
-      (any-none due (λ e. e.1.state == learning && is_due t now e.1) (λ e h. ap (λ b. e.1.state == learning && b) (no_move e h) ∙ by (e.1.state == learning)) t.ports ports)
-    where
-      by : (b : Bool) → (b && false) ≡ false
-      by true = refl
-      by false = refl
+      (any-none due (λ e. e.1.state == learning && is_due t now e.1) (λ e h. ap (λ b. e.1.state == learning && b) (no_move e h) ∙ and-false (e.1.state == learning)) t.ports ports)
 
   moves_none : states_move now t ≡ t
   unfolding states_move

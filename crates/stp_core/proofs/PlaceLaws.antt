@@ -4,13 +4,14 @@ use Rattle.std.specs.List.{All, filter, list_any, range_with_len}
 use Rattle.std.proofs.lemmas.List.Elements.{All-cons, All-nil}
 use Rattle.std.specs.Prelude.{IsTrue, ◌↔◌}
 use Rattle.std.specs.Option.{option_map, option_map_or}
-use Rattle.std.specs.declared.cmp.Ordering.TheVariants.{Less, Equal, Greater}
 use Rattle.std.specs.Ordering.{nat_cmp, is_eq}
 use Rattle.std.specs.FinMap.Entries.{by_order}
-use Rattle.std.proofs.lemmas.Bool.Decides.{nat_tests}
 use Rattle.std.proofs.lemmas.List.Folds.{list_any-append}
 use Rattle.std.proofs.lemmas.List.{get_or-set_same, get_or-set_other, length-set}
 use Rattle.std.proofs.lemmas.Bool.{cases_eq, eq-eqb, ne_eqb, lt-ltb, le-ltb, and_right, or_parts, cases_Bool, cases_lt, false≢true}
+use Rattle.lemmas.proofs.Orders.{nat_cmp-itself as same, nat_cmp-lt as below, nat_cmp-gt}
+use Rattle.lemmas.proofs.Numbers.{ltb-later}
+use Rattle.lemmas.proofs.Tests.{or-false}
 use Rattle.br_model.specs.Table.Domains.{port_places}
 use Rattle.br_model.specs.declared.tree.TreePort.{TreePort}
 use Rattle.br_model.specs.Data.Maps.{get, put, without}
@@ -20,15 +21,6 @@ use Rattle.port_sets.specs.WordsOfMembers.{has-below}
 use Rattle.stp_core.specs.Places.{AreEmptyFrom, entries_at}
 
 -- how a port compares with those before and after it
-
-same : (p : ℕ) → nat_cmp p p ≡ Equal
-same p = grind (arith, nat_tests)
-
-below : (p n : ℕ) → p < n → nat_cmp p n ≡ Less
-below p n h = grind (arith, nat_tests)
-
-above : (p n : ℕ) → n < p → nat_cmp p n ≡ Greater
-above p n h = grind (arith, nat_tests)
 
 module _ {X : Type 0} where
   abbrev pub entry_at : ℕ → Option X → List (ℕ × X)
@@ -89,7 +81,7 @@ module _ {X : Type 0} where
       ap (λ r. cond (is_eq r) (Some x) (get nat_cmp (entries_at (n + 1) os) p)) (ap (λ m. nat_cmp p m) (sym e) ∙ same p)
   get-entries p n (suc i) (None ∷ os) h = get-entries p (n + 1) i os (omega arith)
   get-entries p n (suc i) (Some x ∷ os) h =
-      ap (λ r. cond (is_eq r) (Some x) (get nat_cmp (entries_at (n + 1) os) p)) (above p n (omega arith)) ∙ get-entries p (n + 1) i os (omega arith)
+      ap (λ r. cond (is_eq r) (Some x) (get nat_cmp (entries_at (n + 1) os) p)) (nat_cmp-gt p n (omega arith)) ∙ get-entries p (n + 1) i os (omega arith)
 
   -- a port that comes up
 
@@ -109,7 +101,7 @@ module _ {X : Type 0} where
       ap (λ r. by_order r ((p, x) ∷ (n, y) ∷ entries_at (n + 1) os) ((n, x) ∷ entries_at (n + 1) os) ((n, y) ∷ put nat_cmp (entries_at (n + 1) os) p x)) (ap (λ m. nat_cmp p m) (sym e) ∙ same p)
   put-entries p n (suc i) x (None ∷ os) h low = put-entries p (n + 1) i x os (omega arith) (omega arith)
   put-entries p n (suc i) x (Some y ∷ os) h low =
-      ap (λ r. by_order r ((p, x) ∷ (n, y) ∷ entries_at (n + 1) os) ((n, x) ∷ entries_at (n + 1) os) ((n, y) ∷ put nat_cmp (entries_at (n + 1) os) p x)) (above p n (omega arith))
+      ap (λ r. by_order r ((p, x) ∷ (n, y) ∷ entries_at (n + 1) os) ((n, x) ∷ entries_at (n + 1) os) ((n, y) ∷ put nat_cmp (entries_at (n + 1) os) p x)) (nat_cmp-gt p n (omega arith))
       ∙ ap (λ (es : List (ℕ × X)). (n, y) ∷ es) (put-entries p (n + 1) i x os (omega arith) (omega arith))
 
   -- a port that goes down
@@ -130,7 +122,7 @@ module _ {X : Type 0} where
       ∙ without-before p (n + 1) os (omega arith)
   without-entries p n (suc i) (None ∷ os) h = without-entries p (n + 1) i os (omega arith)
   without-entries p n (suc i) (Some y ∷ os) h =
-      ap (λ r. cond (not (is_eq r)) ((n, y) ∷ without nat_cmp (entries_at (n + 1) os) p) (without nat_cmp (entries_at (n + 1) os) p)) (above p n (omega arith))
+      ap (λ r. cond (not (is_eq r)) ((n, y) ∷ without nat_cmp (entries_at (n + 1) os) p) (without nat_cmp (entries_at (n + 1) os) p)) (nat_cmp-gt p n (omega arith))
       ∙ ap (λ (es : List (ℕ × X)). (n, y) ∷ es) (without-entries p (n + 1) i os (omega arith))
 
   -- the ports that pass a test, by their numbers
@@ -171,9 +163,6 @@ entries-each f n (o ∷ os) (w ∷ ws) same h =
 unchanged : (o : Option TreePort) → option_map (λ x. x) o ≡ o
 unchanged None = refl
 unchanged (Some x) = refl
-
-later : (k i : ℕ) → (k ≡ i → ⊥) → nat_lt k i ≡ nat_lt k (i + 1)
-later k i apart = grind (arith, nat_tests)
 
 -- a change at one port
 pub entries-at_port : (g : ℕ × TreePort → TreePort) (p : ℕ) (os : List (Option TreePort))
@@ -221,7 +210,7 @@ module _ (f : ℕ × TreePort → TreePort) (old : List (Option TreePort)) where
       by (inr apart) =
           get_or-set_other ps i k (option_map (λ x. f (i, x)) (get_or ps i None)) None apart
           ∙ before k
-          ∙ ap (λ b. cond b (option_map (λ x. f (k, x)) (get_or old k None)) (get_or old k None)) (later k i apart)
+          ∙ ap (λ b. cond b (option_map (λ x. f (k, x)) (get_or old k None)) (get_or old k None)) (ltb-later k i apart)
 
   nothing : (k n : ℕ) → n ≤ k → AreEmptyFrom n old → (b : Bool) → cond b (option_map (λ x. f (k, x)) (get_or old k None)) (get_or old k None) ≡ None
   nothing k n up empty true = ap (option_map (λ (x : TreePort). f (k, x))) (empty k up)
@@ -261,7 +250,7 @@ module _ (t : ℕ × TreePort → Bool) (ps : List (Option TreePort)) where
       by (inl here) =
           let none : passes_at k ≡ false = ap passes_at here ∙ fails in
           and_right (nat_lt k i) (passes_at k) none ∙ sym (and_right (nat_lt k (i + 1)) (passes_at k) none)
-      by (inr apart) = ap (λ b. b && passes_at k) (later k i apart)
+      by (inr apart) = ap (λ b. b && passes_at k) (ltb-later k i apart)
 
   pub found-more : (s new : List ℕ) (i : ℕ) → Found s i → passes_at i ≡ true
       → new ≡ numbers_below port_places (λ m. (m == i) || has_number s m)
@@ -274,7 +263,7 @@ module _ (t : ℕ × TreePort → Bool) (ps : List (Option TreePort)) where
           ap (λ b. b || has_number s k) (eq-eqb k i here)
           ∙ sym (ap₂ (λ a b. a && b) (lt-ltb k (i + 1) (omega arith)) (ap passes_at here ∙ passes))
       by (inr apart) =
-          ap (λ b. b || has_number s k) (ne_eqb k i apart) ∙ before k below ∙ ap (λ b. b && passes_at k) (later k i apart)
+          ap (λ b. b || has_number s k) (ne_eqb k i apart) ∙ before k below ∙ ap (λ b. b && passes_at k) (ltb-later k i apart)
 
   pub found-all : (s : List ℕ) (n i : ℕ) → n ≤ i → length ps ≡ port_places → AreEmptyFrom n ps → IsSetBelow port_places s → Found s i → s ≡ numbers (filter t (entries_at 0 ps))
   unfolding numbers_below
@@ -297,11 +286,7 @@ module _ (t : ℕ × TreePort → Bool) (ps : List (Option TreePort)) where
 
 any_at : (t : ℕ × TreePort → Bool) (n : ℕ) (o : Option TreePort) → list_any t (entry_at n o) ≡ option_map_or (λ x. t (n, x)) o false
 any_at t n None = refl
-any_at t n (Some x) = or_none (t (n, x))
-  where
-    or_none : (b : Bool) → (b || false) ≡ b
-    or_none true = refl
-    or_none false = refl
+any_at t n (Some x) = or-false (t (n, x))
 
 -- with the ports of one place more
 pub any-more : (t : ℕ × TreePort → Bool) (i : ℕ) (ps : List (Option TreePort)) → i < length ps

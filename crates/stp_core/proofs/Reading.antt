@@ -14,6 +14,7 @@ use Rattle.br_model.specs.Table.Table.{disabled}
 use Rattle.std.proofs.lemmas.Bool.{false≢true, cases_eq, cases_lt, eq-eqb, le-ltb, lt-ltb}
 use Rattle.std.proofs.lemmas.Bool.Decides.{nat_tests}
 use Rattle.std.proofs.lemmas.List.{get_or-replicate, get_or-set_same, get_or-set_other, get_or_past, length-replicate, length-set}
+use Rattle.lemmas.proofs.Numbers.{ltb-later}
 use Rattle.br_model.specs.Tree.Tree.{Tree, bpdu_of, numbers, port_at, state_at}
 use Rattle.br_model.specs.Tree.Step.{message, moved}
 use Rattle.br_model.specs.Theorems.TreeLaws.{HaveSent}
@@ -83,9 +84,6 @@ none_there n k = by (cases_lt k n)
 pub known-none : (ps : List (Option TreePort)) (n : ℕ) → Known ps (replicate n disabled) 0
 known-none ps n k = none_there n k ∙ sym (ap (λ b. cond b (state_at_place ps k) disabled) (le-ltb k 0 (omega arith)))
 
-later : (k i : ℕ) → (k ≡ i → ⊥) → nat_lt k i ≡ nat_lt k (i + 1)
-later k i apart = grind (arith, nat_tests)
-
 -- one port more
 pub known-more : (ps : List (Option TreePort)) (states new : List ℕ) (i s : ℕ) → i < length states → Known ps states i → new ≡ set states i s → state_at_place ps i ≡ s → Known ps new (i + 1)
 known-more ps states new i s low before is here k = ap (λ l. get_or l k disabled) is ∙ by (cases_eq k i)
@@ -100,7 +98,7 @@ known-more ps states new i s low before is here k = ap (λ l. get_or l k disable
     by (inr apart) =
         get_or-set_other states i k s disabled apart
         ∙ before k
-        ∙ ap (λ b. cond b (state_at_place ps k) disabled) (later k i apart)
+        ∙ ap (λ b. cond b (state_at_place ps k) disabled) (ltb-later k i apart)
 
 -- one that is disabled
 pub known-same : (ps : List (Option TreePort)) (states : List ℕ) (i : ℕ) → Known ps states i → state_at_place ps i ≡ disabled → Known ps states (i + 1)
@@ -114,7 +112,7 @@ known-same ps states i before here k = before k ∙ by (cases_eq k i)
         any true false e = e
         any false true e = sym e
         any false false e = refl
-    by (inr apart) = ap (λ b. cond b (state_at_place ps k) disabled) (later k i apart)
+    by (inr apart) = ap (λ b. cond b (state_at_place ps k) disabled) (ltb-later k i apart)
 
 -- all ports, where the places behind are empty
 pub known-all : (ps : List (Option TreePort)) (states : List ℕ) (n i : ℕ) → n ≤ i → AreEmptyFrom n ps → Known ps states i → (p : ℕ) → get_or states p disabled ≡ state_in (entries_at 0 ps) p

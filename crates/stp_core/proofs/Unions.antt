@@ -2,10 +2,12 @@
 use Rattle.std.proofs.Common.{◌≡◌, ℕ, zero, suc, ◌+◌, ◌<◌, ◌≤◌, ◌==◌, ◌||◌, ◌⊎◌, inl, inr, Bool, true, false, cond, List, [], ◌∷◌, refl, sym, ap, ap₂, ◌∙◌, arith}
 use Rattle.std.specs.List.{All, filter, range_with_len}
 use Rattle.std.proofs.lemmas.List.Elements.{All-head, All-tail}
-use Rattle.std.specs.declared.cmp.Ordering.TheVariants.{Less, Equal, Greater}
+use Rattle.std.specs.declared.cmp.Ordering.TheVariants.{Equal}
 use Rattle.std.specs.Ordering.{nat_cmp, eq_by_cmp, match_ordering}
 use Rattle.std.proofs.lemmas.Bool.{cases_eq, cases_Bool, eq-eqb, ne_eqb}
 use Rattle.std.proofs.lemmas.Bool.Decides.{nat_tests}
+use Rattle.lemmas.proofs.Orders.{nat_cmp-itself, nat_cmp-lt as below, nat_cmp-gt}
+use Rattle.lemmas.proofs.Tests.{or_exchange, or-false}
 use Rattle.br_model.specs.Table.Domains.{port_places}
 use Rattle.br_model.specs.Data.Maps.{has, joined}
 use Rattle.br_model.specs.Tree.Sending.{union}
@@ -17,15 +19,6 @@ eq_is k m = grind (arith, nat_tests)
 pub has_number_is : (s : List ℕ) (k : ℕ) → has_number s k ≡ has nat_cmp s k
 has_number_is [] k = refl
 has_number_is (x ∷ s) k = ap₂ (λ a b. a || b) (sym (eq_is k x)) (has_number_is s k)
-
-same : (p : ℕ) → nat_cmp p p ≡ Equal
-same p = grind (arith, nat_tests)
-
-below : (p n : ℕ) → p < n → nat_cmp p n ≡ Less
-below p n h = grind (arith, nat_tests)
-
-above : (p n : ℕ) → n < p → nat_cmp p n ≡ Greater
-above p n h = grind (arith, nat_tests)
 
 insert-before : (p : ℕ → Bool) (k a n : ℕ) → k < a → joined nat_cmp (filter p (range_with_len a n)) k ≡ k ∷ filter p (range_with_len a n)
 insert-before p k a zero h = refl
@@ -55,7 +48,7 @@ insert-range p k a (suc n) low high = by (λ apart. insert-range p k (a + 1) n (
         ≡ cond ((a == k) || p a) (a ∷ filter (λ m. (m == k) || p m) (range_with_len (a + 1) n)) (filter (λ m. (m == k) || p m) (range_with_len (a + 1) n))
     by rest (inl here) (inl passes) =
         let xs : List ℕ = filter p (range_with_len (a + 1) n) in
-        let r : nat_cmp k a ≡ Equal = ap (nat_cmp k) here ∙ same k in
+        let r : nat_cmp k a ≡ Equal = ap (nat_cmp k) here ∙ nat_cmp-itself k in
         ap (λ b. joined nat_cmp (cond b (a ∷ xs) xs) k) passes
         ∙ ap (λ r. match_ordering r (k ∷ a ∷ xs) (a ∷ xs) (a ∷ joined nat_cmp xs k)) r
         ∙ ap (λ (ys : List ℕ). a ∷ ys) (sym (others p k (a + 1) n (omega arith)))
@@ -69,7 +62,7 @@ insert-range p k a (suc n) low high = by (λ apart. insert-range p k (a + 1) n (
     by rest (inr apart) (inl passes) =
         let xs : List ℕ = filter p (range_with_len (a + 1) n) in
         ap (λ b. joined nat_cmp (cond b (a ∷ xs) xs) k) passes
-        ∙ ap (λ r. match_ordering r (k ∷ a ∷ xs) (a ∷ xs) (a ∷ joined nat_cmp xs k)) (above k a (omega arith))
+        ∙ ap (λ r. match_ordering r (k ∷ a ∷ xs) (a ∷ xs) (a ∷ joined nat_cmp xs k)) (nat_cmp-gt k a (omega arith))
         ∙ ap (λ (ys : List ℕ). a ∷ ys) (rest apart)
         ∙ sym (ap₂ (λ b c. cond (b || c) (a ∷ filter (λ m. (m == k) || p m) (range_with_len (a + 1) n)) (filter (λ m. (m == k) || p m) (range_with_len (a + 1) n))) (ne_eqb a k apart) passes)
     by rest (inr apart) (inr fails) =
@@ -82,21 +75,12 @@ insert-set : (p : ℕ → Bool) (k : ℕ) → k < port_places → joined nat_cmp
 unfolding numbers_below
 insert-set p k low = insert-range p k 0 port_places (omega arith) (omega arith)
 
-exchange : (a b c : Bool) → ((a || b) || c) ≡ (b || (a || c))
-exchange true true c = refl
-exchange true false c = refl
-exchange false b c = refl
-
-or_none : (b : Bool) → b ≡ (b || false)
-or_none true = refl
-or_none false = refl
-
 union-from : (p : ℕ → Bool) (q : List ℕ) → All (λ n. n < port_places) q → union (numbers_below port_places p) q ≡ numbers_below port_places (λ m. p m || has_number q m)
-union-from p [] below = λ i. numbers_below port_places (λ m. or_none (p m) i)
+union-from p [] below = λ i. numbers_below port_places (λ m. sym (or-false (p m)) i)
 union-from p (k ∷ q) below =
     ap (λ s. union s q) (insert-set p k (All-head (λ n. n < port_places) k q below))
     ∙ union-from (λ m. (m == k) || p m) q (All-tail (λ n. n < port_places) k q below)
-    ∙ (λ i. numbers_below port_places (λ m. exchange (m == k) (p m) (has_number q m) i))
+    ∙ (λ i. numbers_below port_places (λ m. or_exchange (m == k) (p m) (has_number q m) i))
 
 -- the members of both
 pub union-is : (s q : List ℕ) → IsSetBelow port_places s → All (λ n. n < port_places) q → numbers_below port_places (λ m. has_number s m || has_number q m) ≡ union s q

@@ -1,50 +1,17 @@
 -- The first line of bytes, and their lines.
-use Rattle.std.proofs.Common.{◌≡◌, ℕ, zero, suc, ◌+◌, ◌-◌, ◌≤◌, ◌==◌, Bool, true, false, not, if◌then◌else◌, List, [], ◌∷◌, ◌++◌, None, Some, length, take, drop, get_or, refl, sym, ◌∙◌, ap, subst, arith, add-one, cond, length-append, length-drop}
-use Rattle.std.proofs.Math.Seq.{drop-cons}
-use Rattle.std.proofs.lemmas.Bool.{eqb-true, and_from, not-true}
-use Rattle.std.proofs.lemmas.List.{take-append-drop}
-use Rattle.std.proofs.lemmas.List.Folds.{list_all_more}
+use Rattle.std.proofs.Common.{◌≡◌, ℕ, suc, ◌+◌, ◌==◌, Bool, true, false, if◌then◌else◌, List, [], ◌∷◌, ◌++◌, length, refl, sym, ◌∙◌, ap, arith, cond, length-append}
+use Rattle.std.proofs.lemmas.Bool.{not-true}
+use Rattle.std.proofs.lemmas.List.{take_rest as behind}
 use Rattle.std.proofs.lemmas.List.Sums.{sum_by-cons}
-use Rattle.std.proofs.lemmas.List.{take_all}
 use Rattle.std.specs.Cmp.{first_so, second_so}
 use Rattle.std.specs.List.{count_by}
 use Rattle.br_model.specs.Program.Checks.{in_first, lines_in}
-use Rattle.br_model.specs.Theorems.WholeLines.{is_line, is_no_feed}
-use Rattle.memchr.specs.Find.{IsFirstByte, Nowhere, Passes, is_byte}
+use Rattle.br_model.specs.Theorems.WholeLines.{is_line}
+use Rattle.br_model.proofs.Program.Differences.{HasLine, has_line}
 use Rattle.transcript_check.specs.Lines.{CutsFirst, IsFront, is_whole, lines_by}
 use Rattle.transcript_check.specs.declared.lines.Parts.{Parts}
 
 -- where the first line feed is
-
-not_so : (b : Bool) → (b ≡ true → ⊥) → not b ≡ true
-not_so true h = absurd (h refl)
-not_so false h = refl
-
-nowhere : (xs : List ℕ) (n : ℕ) → n ≤ length xs → Nowhere (Passes (is_byte 10) xs) 0 n → is_line (take n xs) ≡ true
-nowhere xs zero within h = refl
-nowhere xs (suc n) within h =
-    let before : is_line (take n xs) ≡ true = nowhere xs n (omega arith) (λ k low high. h k low (omega arith)) in
-    let here : is_no_feed (get_or xs n 0) ≡ true = not_so _ (h n (omega arith) (omega arith)) in
-    let more : is_line (take (n + 1) xs) ≡ true = list_all_more is_no_feed xs n 0 (omega arith) ∙ and_from _ _ before here in
-    subst (λ k. is_line (take k xs) ≡ true) (add-one n) more
-
-pub no_feed : (xs : List ℕ) → IsFirstByte (is_byte 10) xs None → is_line xs ≡ true
-no_feed xs h = subst (λ (l : List ℕ). is_line l ≡ true) (take_all (length xs) xs (omega arith)) (nowhere xs (length xs) (omega arith) h)
-
-pub feedless : (xs : List ℕ) (n : ℕ) → IsFirstByte (is_byte 10) xs (Some n) → is_line (take n xs) ≡ true
-feedless xs n h = nowhere xs n (omega (arith, h.0.high)) h.0.before
-
--- what is behind a place
-pub behind : (xs : List ℕ) (n : ℕ) → take (length xs - n) (drop n xs) ≡ drop n xs
-behind xs n = take_all (length xs - n) (drop n xs) (omega (arith, length-drop n xs))
-
-pub parted : (xs : List ℕ) (n : ℕ) → IsFirstByte (is_byte 10) xs (Some n) → xs ≡ take n xs ++ 10 ∷ take (length xs - (n + 1)) (drop (n + 1) xs)
-parted xs n h =
-    sym (take-append-drop n xs)
-    ∙ ap (λ (l : List ℕ). take n xs ++ l) (
-    drop-cons xs n 0 h.0.high ∙ ap (λ b. b ∷ drop (suc n) xs) (eqb-true _ _ h.1) ∙ ap (λ k. 10 ∷ drop k xs) (sym (add-one n))
-    ∙ ap (λ (l : List ℕ). 10 ∷ l) (sym (behind xs (n + 1)))
-    )
 
 -- lines
 
@@ -68,23 +35,6 @@ line_last (b ∷ line) h =
     ∙ alone b line
 
 -- texts of whole lines
-
--- lines that there are
-pub record HasLine (lines : List (List ℕ)) : Type 0 where
-  pub first : List ℕ
-  pub later : List (List ℕ)
-  pub is : lines ≡ first ∷ later
-
-first_has : (b : ℕ) (lines : List (List ℕ)) → HasLine (in_first b lines)
-first_has b [] = record { first = b ∷ []; later = []; is = refl }
-first_has b (line ∷ lines) = record { first = b ∷ line; later = lines; is = refl }
-
-pub has_line : (b : ℕ) (text : List ℕ) → HasLine (lines_in (b ∷ text))
-has_line b text = by_feed (b == 10)
-  where
-    by_feed : (t : Bool) → HasLine (if t then [] ∷ lines_in text else in_first b (lines_in text))
-    by_feed true = record { first = []; later = lines_in text; is = refl }
-    by_feed false = first_has b (lines_in text)
 
 in_first_by : (b : ℕ) (lines more : List (List ℕ)) → HasLine lines → in_first b (lines ++ more) ≡ in_first b lines ++ more
 in_first_by b lines more h =

@@ -1,11 +1,13 @@
 -- Lines that are alike on both sides are passed.
 use Rattle.std.proofs.Common.{◌≡◌, ℕ, ◌+◌, ◌-◌, ◌<◌, true, false, if◌then◌else◌, List, [], ◌∷◌, ◌++◌, None, Some, length, take, drop, refl, sym, ◌∙◌, ap, arith}
 use Rattle.std.specs.Str.{bytes_eq}
+use Rattle.std.proofs.lemmas.List.{take_rest as behind}
 use Rattle.br_model.specs.Program.Checks.{difference_from, lines_in}
 use Rattle.br_model.proofs.Text.Words.{equal}
+use Rattle.br_model.proofs.Program.Differences.{HasLine, has_line}
 use Rattle.transcript_check.specs.Comparing.{Standing, differs_at, difference_at, EndsThere, first_of, GoesOn, Differs}
 use Rattle.transcript_check.specs.Lines.{is_whole}
-use Rattle.transcript_check.proofs.Cutting.{behind, has_line, HasLine, whole_lines}
+use Rattle.transcript_check.proofs.Cutting.{whole_lines}
 
 -- the same lines on both sides
 same_front : (n : ℕ) (lines more rest : List (List ℕ)) → difference_from n (lines ++ more) (lines ++ rest) ≡ difference_from (n + length lines) more rest

@@ -43,7 +43,3 @@ goes_on bytes digits i pair within sizes is fits before =
     ∙ ap (λ l. l ++ get_or PAIRS pair 0 ∷ get_or PAIRS (pair + 1) 0 ∷ []) before
     ∙ (λ j. hex_of (take i bytes) ++ high j ∷ low j ∷ [])
     ∙ sym (ap hex_of (take_more bytes i 0 within) ∙ flat_map-append digits_of (take i bytes) (b ∷ []))
-
-pub digits_long : (bytes : List ℕ) → length (hex_of bytes) ≡ 2 * length bytes
-digits_long [] = refl
-digits_long (b ∷ bytes) = omega (arith, digits_long bytes)

@@ -2,15 +2,16 @@
 use Rattle.std.proofs.Common.{◌≡◌, ◌≢◌, ℕ, zero, suc, ◌+◌, ◌*◌, ◌/◌, ◌%◌, ◌<◌, Bool, true, if◌then◌else◌, List, [], ◌∷◌, length, refl, sym, ◌∙◌, ap, arith, Option, Some, None, Result, Ok, Err}
 use Rattle.std.specs.Cmp.{first_so, second_so}
 use Rattle.std.specs.List.{list_all}
+use Rattle.std.proofs.lemmas.Bool.{and_from}
+use Rattle.std.proofs.lemmas.Option.{same_Some}
 use Rattle.br_model.specs.Data.Digits.{hex_digit, hex_of}
 use Rattle.br_model.specs.Text.Words.{Word}
 use Rattle.br_model.specs.Text.Operands.{is_byte}
-use Rattle.br_model.proofs.Text.WrittenWords.{both}
+use Rattle.br_model.proofs.Data.Hex.{encode_lower-is}
 use Rattle.hex.specs.Hex.{IsBytes, ◌>>=◌, hex_digit_value, digit_or_error, decode_pairs, decode_of}
 use Rattle.hex.specs.declared.error.FromHexError.{FromHexError}
 use Rattle.hex.proofs.HexLemmas.{decode_of-even, decode_of-ok, decode_of-encode_lower}
-use Rattle.transcript_text.proofs.Hex.{encode_lower-is}
-use Rattle.transcript_text.proofs.Numerals.{if_some, value_of}
+use Rattle.transcript_text.proofs.Numerals.{if_some}
 use Rattle.transcript_text.specs.Lines.{is_frame}
 use Rattle.transcript_text.specs.Reading.{is_lower, bytes_in, frame}
 
@@ -53,7 +54,7 @@ pairs_are i (a ∷ b ∷ rest) bytes l h =
 
 bytes_are : (bytes : List ℕ) → IsBytes bytes → list_all is_byte bytes ≡ true
 bytes_are [] h = refl
-bytes_are (b ∷ bytes) h = both _ _ (small b (h 0)) (bytes_are bytes (λ k. h (suc k)))
+bytes_are (b ∷ bytes) h = and_from _ _ (small b (h 0)) (bytes_are bytes (λ k. h (suc k)))
   where
     small : (b : ℕ) → b < 256 → is_byte b ≡ true
     small b h = grind arith
@@ -67,7 +68,7 @@ are_bytes (b ∷ bytes) h zero = small b (first_so _ _ h)
 are_bytes (b ∷ bytes) h (suc k) = are_bytes bytes (second_so _ _ h) k
 
 given : (r : Result (List ℕ) FromHexError) {bytes : List ℕ} → bytes_in r ≡ Some bytes → r ≡ Ok bytes
-given (Ok x) h = ap Ok (value_of h)
+given (Ok x) h = ap Ok (same_Some _ _ h)
 given (Err e) h = cc
 
 is_some_frame : (c : ℕ) (cs bytes : List ℕ) → c ∷ cs ≡ hex_of bytes → list_all is_byte bytes ≡ true → is_frame bytes ≡ true
@@ -92,7 +93,7 @@ lower_digits (b ∷ bytes) h =
     let fits : b < 256 = are_bytes (b ∷ bytes) h 0 in
     let high : b / 16 < 16 = omega arith in
     let low : b % 16 < 16 = omega arith in
-    both _ _ (lower_digit (b / 16) high) (both _ _ (lower_digit (b % 16) low) (lower_digits bytes (second_so _ _ h)))
+    and_from _ _ (lower_digit (b / 16) high) (and_from _ _ (lower_digit (b % 16) low) (lower_digits bytes (second_so _ _ h)))
 
 pub frame_back : (bytes : List ℕ) → is_frame bytes ≡ true → frame (hex_of bytes) ≡ Some bytes
 frame_back [] h = cc

@@ -9,6 +9,8 @@ use Rattle.std.proofs.lemmas.List.Splits.{join_with_byte-slice_split}
 use Rattle.std.proofs.lemmas.Result.{IfOk-weaker}
 use Rattle.std.proofs.lemmas.Slice.Eq.{bytes_eq-Decides}
 use Rattle.std.proofs.Math.Path.{fun_ext}
+use Rattle.std.proofs.lemmas.Bool.{and_from}
+use Rattle.std.proofs.lemmas.Option.{same_Some}
 use Rattle.br_model.specs.declared.frame.Class.{Class}
 use Rattle.br_model.specs.declared.frame.Class.TheVariants as classes
 use Rattle.br_model.specs.declared.frame.FrameFault.{FrameFault}
@@ -20,12 +22,11 @@ use Rattle.br_model.specs.Control.Refusals.{refusal_number, refusal_of}
 use Rattle.br_model.specs.Text.Transcript.{line_text, class_word, fault_word}
 use Rattle.br_model.specs.Text.Words.{Word}
 use Rattle.br_model.proofs.Control.Refusals as refusals
-use Rattle.br_model.proofs.Text.WrittenWords.{both}
 use Rattle.transcript_text.specs.Lines.{is_number, is_port, is_line, line_words}
 use Rattle.transcript_text.specs.Reading as reading
 use Rattle.transcript_text.specs.Reading.{word, says, ◌>>=◌, in_range}
 use Rattle.transcript_text.proofs.HexWords.{frame_is, frame_back}
-use Rattle.transcript_text.proofs.Numerals.{if_some, value_of, number_is, number_back}
+use Rattle.transcript_text.proofs.Numerals.{if_some, number_is, number_back}
 use Rattle.transcript_text.proofs.Spaces.{parts}
 use Rattle.transcript_text.proofs.Written.{joined, text_is, port_small, refusal_small, line_parts, line_ascii, few_words}
 
@@ -47,7 +48,7 @@ port_is : (w : Word) {n : ℕ} → reading.port w ≡ Some n → (w ≡ decimal 
 port_is w h =
     let p = bind_some (reading.number w) in_range h in
     let q = if_some (is_port p.0) (Some p.0) p.2 in
-    let e = value_of q.1 in
+    let e = same_Some _ _ q.1 in
     ((number_is w p.1).0 ∙ ap decimal e, sym (ap is_port e) ∙ q.0)
 
 port_back : (n : ℕ) → is_port n ≡ true → reading.port (decimal n) ≡ Some n
@@ -56,14 +57,14 @@ port_back n h = ap (λ (o : Option ℕ). o >>= in_range) (number_back n (port_sm
 class_is : (w : Word) {c : Class} → reading.class w ≡ Some c → w ≡ class_word c
 class_is w h =
     elim (either (bytes_eq w (codes "drop")) _ _ h) [
-      | inl p ↦ same w _ p.0 ∙ ap class_word (value_of p.1)
+      | inl p ↦ same w _ p.0 ∙ ap class_word (same_Some _ _ p.1)
       | inr h ↦
           elim (either (bytes_eq w (codes "trap")) _ _ h) [
-            | inl p ↦ same w _ p.0 ∙ ap class_word (value_of p.1)
+            | inl p ↦ same w _ p.0 ∙ ap class_word (same_Some _ _ p.1)
             | inr h ↦
                 elim (either (bytes_eq w (codes "copy")) _ _ h) [
-                  | inl p ↦ same w _ p.0 ∙ ap class_word (value_of p.1)
-                  | inr h ↦ let p = if_some (bytes_eq w (codes "forward")) (Some classes.Forward) h in same w _ p.0 ∙ ap class_word (value_of p.1)
+                  | inl p ↦ same w _ p.0 ∙ ap class_word (same_Some _ _ p.1)
+                  | inr h ↦ let p = if_some (bytes_eq w (codes "forward")) (Some classes.Forward) h in same w _ p.0 ∙ ap class_word (same_Some _ _ p.1)
                 ]
           ]
     ]
@@ -77,11 +78,11 @@ class_back classes.Forward = refl
 fault_is : (w : Word) {f : FrameFault} → reading.fault w ≡ Some f → w ≡ fault_word f
 fault_is w h =
     elim (either (bytes_eq w (codes "short")) _ _ h) [
-      | inl p ↦ same w _ p.0 ∙ ap fault_word (value_of p.1)
+      | inl p ↦ same w _ p.0 ∙ ap fault_word (same_Some _ _ p.1)
       | inr h ↦
           elim (either (bytes_eq w (codes "long")) _ _ h) [
-            | inl p ↦ same w _ p.0 ∙ ap fault_word (value_of p.1)
-            | inr h ↦ let p = if_some (bytes_eq w (codes "tagshort")) (Some faults.TagShort) h in same w _ p.0 ∙ ap fault_word (value_of p.1)
+            | inl p ↦ same w _ p.0 ∙ ap fault_word (same_Some _ _ p.1)
+            | inr h ↦ let p = if_some (bytes_eq w (codes "tagshort")) (Some faults.TagShort) h in same w _ p.0 ∙ ap fault_word (same_Some _ _ p.1)
           ]
     ]
 
@@ -136,7 +137,7 @@ chip_is a b c d e f l first third h =
     let y = number_is d q.1 in
     let z = number_is e r.1 in
     let v = class_is f s.1 in
-    subst (Says (a ∷ b ∷ c ∷ d ∷ e ∷ f ∷ [])) (value_of s.2) ((λ j. first j ∷ x.0 j ∷ third j ∷ y.0 j ∷ z.0 j ∷ v j ∷ []), both _ _ x.1 (both _ _ y.1 z.1))
+    subst (Says (a ∷ b ∷ c ∷ d ∷ e ∷ f ∷ [])) (same_Some _ _ s.2) ((λ j. first j ∷ x.0 j ∷ third j ∷ y.0 j ∷ z.0 j ∷ v j ∷ []), and_from _ _ x.1 (and_from _ _ y.1 z.1))
 
 unread_is : (a b c : Word) (l : Line) → a ≡ codes "unread" → reading.unread b c ≡ Some l → Says (a ∷ b ∷ c ∷ []) l
 unread_is a b c l first h =
@@ -144,7 +145,7 @@ unread_is a b c l first h =
     let q = bind_some (reading.fault c) _ p.2 in
     let x = number_is b p.1 in
     let y = fault_is c q.1 in
-    subst (Says (a ∷ b ∷ c ∷ [])) (value_of q.2) ((λ j. first j ∷ x.0 j ∷ y j ∷ []), x.1)
+    subst (Says (a ∷ b ∷ c ∷ [])) (same_Some _ _ q.2) ((λ j. first j ∷ x.0 j ∷ y j ∷ []), x.1)
 
 soft_is : (a b c d : Word) (l : Line) → a ≡ codes "soft" → c ≡ codes "at" → reading.soft b d ≡ Some l → Says (a ∷ b ∷ c ∷ d ∷ []) l
 soft_is a b c d l first third h =
@@ -152,7 +153,7 @@ soft_is a b c d l first third h =
     let q = bind_some (reading.number d) _ p.2 in
     let x = number_is b p.1 in
     let y = number_is d q.1 in
-    subst (Says (a ∷ b ∷ c ∷ d ∷ [])) (value_of q.2) ((λ j. first j ∷ x.0 j ∷ third j ∷ y.0 j ∷ []), both _ _ x.1 y.1)
+    subst (Says (a ∷ b ∷ c ∷ d ∷ [])) (same_Some _ _ q.2) ((λ j. first j ∷ x.0 j ∷ third j ∷ y.0 j ∷ []), and_from _ _ x.1 y.1)
 
 held_is : (a b c : Word) (l : Line) → a ≡ codes "held" → reading.held b c ≡ Some l → Says (a ∷ b ∷ c ∷ []) l
 held_is a b c l first h =
@@ -160,7 +161,7 @@ held_is a b c l first h =
     let q = bind_some (reading.number c) _ p.2 in
     let x = number_is b p.1 in
     let y = number_is c q.1 in
-    subst (Says (a ∷ b ∷ c ∷ [])) (value_of q.2) ((λ j. first j ∷ x.0 j ∷ y.0 j ∷ []), both _ _ x.1 y.1)
+    subst (Says (a ∷ b ∷ c ∷ [])) (same_Some _ _ q.2) ((λ j. first j ∷ x.0 j ∷ y.0 j ∷ []), and_from _ _ x.1 y.1)
 
 tx_is : (a b c d : Word) (l : Line) → a ≡ codes "tx" → reading.tx b c d ≡ Some l → Says (a ∷ b ∷ c ∷ d ∷ []) l
 tx_is a b c d l first h =
@@ -170,7 +171,7 @@ tx_is a b c d l first h =
     let x = number_is b p.1 in
     let y = port_is c q.1 in
     let z = frame_is d r.1 in
-    subst (Says (a ∷ b ∷ c ∷ d ∷ [])) (value_of r.2) ((λ j. first j ∷ x.0 j ∷ y.0 j ∷ z.0 j ∷ []), both _ _ x.1 (both _ _ y.1 z.1))
+    subst (Says (a ∷ b ∷ c ∷ d ∷ [])) (same_Some _ _ r.2) ((λ j. first j ∷ x.0 j ∷ y.0 j ∷ z.0 j ∷ []), and_from _ _ x.1 (and_from _ _ y.1 z.1))
 
 ctl_is : (a b c : Word) (l : Line) → a ≡ codes "ctl" → reading.ctl b c ≡ Some l → Says (a ∷ b ∷ c ∷ []) l
 ctl_is a b c l first h =
@@ -178,13 +179,13 @@ ctl_is a b c l first h =
     let q = bind_some (reading.frame c) _ p.2 in
     let x = port_is b p.1 in
     let y = frame_is c q.1 in
-    subst (Says (a ∷ b ∷ c ∷ [])) (value_of q.2) ((λ j. first j ∷ x.0 j ∷ y.0 j ∷ []), both _ _ x.1 y.1)
+    subst (Says (a ∷ b ∷ c ∷ [])) (same_Some _ _ q.2) ((λ j. first j ∷ x.0 j ∷ y.0 j ∷ []), and_from _ _ x.1 y.1)
 
 overrun_is : (a b : Word) (l : Line) → a ≡ codes "overrun" → reading.overrun b ≡ Some l → Says (a ∷ b ∷ []) l
 overrun_is a b l first h =
     let p = bind_some (reading.number b) _ h in
     let x = number_is b p.1 in
-    subst (Says (a ∷ b ∷ [])) (value_of p.2) ((λ j. first j ∷ x.0 j ∷ []), x.1)
+    subst (Says (a ∷ b ∷ [])) (same_Some _ _ p.2) ((λ j. first j ∷ x.0 j ∷ []), x.1)
 
 done_is : (a b c : Word) (l : Line) → a ≡ codes "ok" → reading.done b c ≡ Some l → Says (a ∷ b ∷ c ∷ []) l
 done_is a b c l first h =
@@ -192,7 +193,7 @@ done_is a b c l first h =
     let q = bind_some (reading.number c) _ p.2 in
     let x = number_is b p.1 in
     let y = number_is c q.1 in
-    subst (Says (a ∷ b ∷ c ∷ [])) (value_of q.2) ((λ j. first j ∷ x.0 j ∷ y.0 j ∷ []), both _ _ x.1 y.1)
+    subst (Says (a ∷ b ∷ c ∷ [])) (same_Some _ _ q.2) ((λ j. first j ∷ x.0 j ∷ y.0 j ∷ []), and_from _ _ x.1 y.1)
 
 refused_is : (a b c : Word) (l : Line) → a ≡ codes "refused" → reading.refused b c ≡ Some l → Says (a ∷ b ∷ c ∷ []) l
 refused_is a b c l first h =
@@ -200,7 +201,7 @@ refused_is a b c l first h =
     let q = bind_some (reading.refusal c) _ p.2 in
     let x = number_is b p.1 in
     let y = refusal_is c q.1 in
-    subst (Says (a ∷ b ∷ c ∷ [])) (value_of q.2) ((λ j. first j ∷ x.0 j ∷ y j ∷ []), x.1)
+    subst (Says (a ∷ b ∷ c ∷ [])) (same_Some _ _ q.2) ((λ j. first j ∷ x.0 j ∷ y j ∷ []), x.1)
 
 end_is : (a b c d e : Word) (l : Line) → a ≡ codes "end" → reading.ended b c d e ≡ Some l → Says (a ∷ b ∷ c ∷ d ∷ e ∷ []) l
 end_is a b c d e l first h =
@@ -212,7 +213,7 @@ end_is a b c d e l first h =
     let y = number_is c q.1 in
     let z = number_is d r.1 in
     let v = number_is e s.1 in
-    subst (Says (a ∷ b ∷ c ∷ d ∷ e ∷ [])) (value_of s.2) ((λ j. first j ∷ x.0 j ∷ y.0 j ∷ z.0 j ∷ v.0 j ∷ []), both _ _ x.1 (both _ _ y.1 (both _ _ z.1 v.1)))
+    subst (Says (a ∷ b ∷ c ∷ d ∷ e ∷ [])) (same_Some _ _ s.2) ((λ j. first j ∷ x.0 j ∷ y.0 j ∷ z.0 j ∷ v.0 j ∷ []), and_from _ _ x.1 (and_from _ _ y.1 (and_from _ _ z.1 v.1)))
 
 -- more words than any line has say nothing
 too_long : (n : ℕ) (w : ℕ → Word) → 6 < n → says n w ≡ None

@@ -7,10 +7,11 @@ use Rattle.std.specs.Result.{result_ok}
 use Rattle.std.specs.Str.Parse.{ParsesUnsigned}
 use Rattle.std.proofs.lemmas.Fmt.{decimal-digits_value}
 use Rattle.std.proofs.lemmas.Str.Parse.{IsNumeralModel, IsDigitsTest, FoldsDigits, numerals_by_fold, parse_plain}
+use Rattle.std.proofs.lemmas.Bool.{and_from, or_right}
+use Rattle.std.proofs.lemmas.Option.{same_Some}
 use Rattle.br_model.specs.Data.Digits.{is_digit, digits_value, begins_with_zero, is_decimal}
 use Rattle.br_model.specs.Text.Words.{Word}
 use Rattle.br_model.proofs.Text.WrittenNumbers.{decimal_read}
-use Rattle.br_model.proofs.Text.WrittenWords.{both}
 use Rattle.transcript_text.specs.Lines.{is_number}
 use Rattle.transcript_text.specs.Reading.{number}
 
@@ -18,9 +19,6 @@ use Rattle.transcript_text.specs.Reading.{number}
 pub if_some : {A : Type 0} (b : Bool) (x : Option A) {y : A} → (if b then x else None) ≡ Some y → (b ≡ true) × (x ≡ Some y)
 if_some true x h = (refl, h)
 if_some false x h = cc
-
-pub value_of : {A : Type 0} {x y : A} → Some x ≡ Some y → x ≡ y
-value_of h = cc
 
 -- the digits of a numeral, in the words of `parse`
 
@@ -34,7 +32,7 @@ tests : IsDigitsTest (λ ds. list_all is_digit ds ≡ true)
 tests = record {
   empty = refl;
   parts = λ c cs h. (in_range c (first_so _ _ h), second_so _ _ h);
-  more = λ c cs r h. both _ _ (is_in_range c r) h;
+  more = λ c cs r h. and_from _ _ (is_in_range c r) h;
 }
 
 abbrev value_from : ℕ → List ℕ → ℕ
@@ -56,10 +54,6 @@ is_first [] some lead = absurd (omega arith)
 is_first (c ∷ []) some lead = refl
 is_first (c ∷ d ∷ cs) some lead = or_right (length (c ∷ d ∷ cs) == 1) _ (other c (lead (omega arith)))
   where
-    or_right : (a b : Bool) → b ≡ true → (a || b) ≡ true
-    or_right true b h = refl
-    or_right false b h = h
-
     other : (c : ℕ) → c ≢ 48 → not (c == 48) ≡ true
     other c h = grind arith
 
@@ -86,7 +80,7 @@ is_below n h = grind arith
 pub number_parsed : {E : Type 0} (w : Word) (r : Result ℕ E) → ParsesUnsigned 32 10 w r → get_or w 0 0 ≢ 43 → (1 < length w → get_or w 0 0 ≢ 48) → result_ok r ≡ number w
 number_parsed {E} w (Ok x) h plain lead =
     let p = parse_plain own {E = E} 32 w (Ok x) h plain in
-    let test : (is_decimal w && is_number (digits_value w)) ≡ true = both _ _ (both _ _ (has_digits w p.0.1) (both _ _ p.0.0 (is_first w p.0.1 lead))) (is_below _ p.0.2) in
+    let test : (is_decimal w && is_number (digits_value w)) ≡ true = and_from _ _ (and_from _ _ (has_digits w p.0.1) (and_from _ _ p.0.0 (is_first w p.0.1 lead))) (is_below _ p.0.2) in
     rw test (ap Some p.1)
 number_parsed {E} w (Err e) h plain lead =
     let none = parse_plain own {E = E} 32 w (Err e) h plain in
@@ -107,7 +101,7 @@ number_is w {n} h =
     let d : is_decimal w ≡ true = first_so (is_decimal w) (is_number (digits_value w)) p.0 in
     let small : is_number (digits_value w) ≡ true = second_so (is_decimal w) (is_number (digits_value w)) p.0 in
     let ds : (list_all is_digit w && (length w == 1 || not (begins_with_zero w))) ≡ true = second_so (nat_lt 0 (length w)) _ d in
-    let v : digits_value w ≡ n = value_of p.1 in
+    let v : digits_value w ≡ n = same_Some _ _ p.1 in
     let fits : digits_value w < 2 ^ 32 = below _ small in
     let e : decimal (digits_value w) ≡ w = decimal-digits_value own w (first_so _ _ ds) (some_digits w (first_so (nat_lt 0 (length w)) _ d)) (first_of w (second_so (list_all is_digit w) _ ds)) (omega arith) in
     (sym e ∙ ap decimal v, sym (ap is_number v) ∙ small)
@@ -116,11 +110,11 @@ pub number_back : (n : ℕ) → is_number n ≡ true → number (decimal n) ≡ 
 number_back n h =
     let fits : n < 2 ^ 32 = below n h in
     let p = if_some (is_decimal (decimal n)) (Some (digits_value (decimal n))) (decimal_read n (omega arith)) in
-    let v : digits_value (decimal n) ≡ n = value_of p.1 in
+    let v : digits_value (decimal n) ≡ n = same_Some _ _ p.1 in
     by (decimal n) p.0 v
   where
     by : (w : Word) → is_decimal w ≡ true → digits_value w ≡ n → number w ≡ Some n
-    by w d v = ap (λ (b : Bool). if b then Some (digits_value w) else None) (both _ _ d (ap is_number v ∙ h)) ∙ ap Some v
+    by w d v = ap (λ (b : Bool). if b then Some (digits_value w) else None) (and_from _ _ d (ap is_number v ∙ h)) ∙ ap Some v
 
 -- a test that failed
 pub not_equal : (tested : Bool) (n k : ℕ) → tested ≡ (n == k) → tested ≡ false → n ≢ k

@@ -36,10 +36,6 @@ too_many found rest all n full before =
     let a : length (found ++ parts rest) ≡ length all = ap length before in
     omega (arith, length-append found (parts rest), length-slice_split is_space rest)
 
-pub none_then : {A P Q : Type 0} (answer : Option A) → IfNone answer P → (P → Q) → IfNone answer Q
-none_then None p f = f p
-none_then (Some x) p f = tt
-
 pub some_then : {A P Q : Type 0} (answer : Option A) → OnSome answer P → (P → Q) → OnSome answer Q
 some_then None p f = tt
 some_then (Some x) p f = f p

@@ -2,6 +2,7 @@
 use Rattle.std.proofs.Common.{◌≡◌, ℕ, ◌+◌, ◌-◌, ◌≤◌, List, [], ◌∷◌, ◌++◌, Bool, true, false, if◌then◌else◌, Option, Some, None, is_some, length, take, drop, refl, sym, ap, ◌∙◌, append_assoc, append-nil, length-append, arith}
 use Rattle.std.proofs.Math.Seq.{drop-append_seam}
 use Rattle.std.proofs.lemmas.List.{drop-drop, drop-append-le, drop_all, length-drop, length-take, take_all, take_at}
+use Rattle.std.proofs.lemmas.Bool.{false≢true}
 
 -- of the last 16 bytes of 64 that are copied, those from this place on stand at the end
 pub last_bytes : (old new bytes view : List ℕ) (begins end from : ℕ) → drop begins new ≡ take 16 (drop 48 bytes) ++ drop end old → drop from bytes ≡ view → length bytes ≡ 64 → 48 ≤ from → from ≤ 64 → begins + 16 ≡ end
@@ -45,7 +46,4 @@ from_start old new view items start number len from e whole written =
 -- digits are made where they are seen
 pub is_made : {A : Type 0} (b : Bool) (x : A) (o : Option A) → (if b then Some x else None) ≡ o → is_some o ≡ true → b ≡ true
 is_made true x o e h = refl
-is_made false x o e h = absurd (none (ap is_some e ∙ h))
-  where
-    none : false ≡ true → ⊥
-    none h = cc
+is_made false x o e h = absurd (false≢true (ap is_some e ∙ h))

@@ -5,6 +5,7 @@ use Rattle.std.specs.Fmt.{decimal}
 use Rattle.std.specs.List.{All, list_all, join_with_byte}
 use Rattle.std.specs.Str.{IsAscii}
 use Rattle.std.proofs.lemmas.List.Splits.{slice_split_at, slice_split_none}
+use Rattle.std.proofs.lemmas.Bool.{and_from}
 use Rattle.br_model.specs.declared.frame.Class.{Class}
 use Rattle.br_model.specs.declared.frame.Class.TheVariants as classes
 use Rattle.br_model.specs.declared.frame.FrameFault.{FrameFault}
@@ -18,7 +19,7 @@ use Rattle.br_model.specs.Text.Transcript.{line_text, class_word, fault_word}
 use Rattle.br_model.specs.Text.Words.{Word, is_word}
 use Rattle.br_model.proofs.Control.Refusals.{each_number}
 use Rattle.br_model.proofs.Text.WrittenNumbers.{decimal_proper, hex_proper}
-use Rattle.br_model.proofs.Text.WrittenWords.{is_letter, letters, is_proper, both}
+use Rattle.br_model.proofs.Text.WrittenWords.{is_letter, letters, is_proper}
 use Rattle.transcript_text.specs.Lines.{is_number, is_port, is_frame, is_line, line_words}
 use Rattle.transcript_text.proofs.Spaces.{is_space, parts}
 
@@ -69,21 +70,21 @@ refusal_small why = each_number is_number why refl
 pub line_proper : (l : Line) → is_line l ≡ true → list_all is_proper (line_words l) ≡ true
 line_proper (Chip id changes applied class) h =
     let rest = second_so (is_number id) _ h in
-    both _ _ (number_proper id (first_so _ _ h)) (both _ _ (number_proper changes (first_so _ _ rest)) (both _ _ (number_proper applied (second_so (is_number changes) _ rest)) (both _ _ (class_proper class) refl)))
-line_proper (Unread id why) h = both _ _ (number_proper id h) (both _ _ (fault_proper why) refl)
-line_proper (Soft id point) h = both _ _ (number_proper id (first_so _ _ h)) (both _ _ (number_proper point (second_so (is_number id) _ h)) refl)
-line_proper (Held id floor) h = both _ _ (number_proper id (first_so _ _ h)) (both _ _ (number_proper floor (second_so (is_number id) _ h)) refl)
+    and_from _ _ (number_proper id (first_so _ _ h)) (and_from _ _ (number_proper changes (first_so _ _ rest)) (and_from _ _ (number_proper applied (second_so (is_number changes) _ rest)) (and_from _ _ (class_proper class) refl)))
+line_proper (Unread id why) h = and_from _ _ (number_proper id h) (and_from _ _ (fault_proper why) refl)
+line_proper (Soft id point) h = and_from _ _ (number_proper id (first_so _ _ h)) (and_from _ _ (number_proper point (second_so (is_number id) _ h)) refl)
+line_proper (Held id floor) h = and_from _ _ (number_proper id (first_so _ _ h)) (and_from _ _ (number_proper floor (second_so (is_number id) _ h)) refl)
 line_proper (Tx id port bytes) h =
     let rest = second_so (is_number id) _ h in
-    both _ _ (number_proper id (first_so _ _ h)) (both _ _ (number_proper port (port_small port (first_so _ _ rest))) (both _ _ (frame_proper bytes (second_so (is_port port) _ rest)) refl))
-line_proper (Ctl port bytes) h = both _ _ (number_proper port (port_small port (first_so _ _ h))) (both _ _ (frame_proper bytes (second_so (is_port port) _ h)) refl)
-line_proper (Overrun id) h = both _ _ (number_proper id h) refl
-line_proper (Done step changes) h = both _ _ (number_proper step (first_so _ _ h)) (both _ _ (number_proper changes (second_so (is_number step) _ h)) refl)
-line_proper (Refused step why) h = both _ _ (number_proper step h) (both _ _ (number_proper (refusal_number why) (refusal_small why)) refl)
+    and_from _ _ (number_proper id (first_so _ _ h)) (and_from _ _ (number_proper port (port_small port (first_so _ _ rest))) (and_from _ _ (frame_proper bytes (second_so (is_port port) _ rest)) refl))
+line_proper (Ctl port bytes) h = and_from _ _ (number_proper port (port_small port (first_so _ _ h))) (and_from _ _ (frame_proper bytes (second_so (is_port port) _ h)) refl)
+line_proper (Overrun id) h = and_from _ _ (number_proper id h) refl
+line_proper (Done step changes) h = and_from _ _ (number_proper step (first_so _ _ h)) (and_from _ _ (number_proper changes (second_so (is_number step) _ h)) refl)
+line_proper (Refused step why) h = and_from _ _ (number_proper step h) (and_from _ _ (number_proper (refusal_number why) (refusal_small why)) refl)
 line_proper (End steps changes pending waiting) h =
     let rest = second_so (is_number steps) _ h in
     let last = second_so (is_number changes) _ rest in
-    both _ _ (number_proper steps (first_so _ _ h)) (both _ _ (number_proper changes (first_so _ _ rest)) (both _ _ (number_proper pending (first_so _ _ last)) (both _ _ (number_proper waiting (second_so (is_number pending) _ last)) refl)))
+    and_from _ _ (number_proper steps (first_so _ _ h)) (and_from _ _ (number_proper changes (first_so _ _ rest)) (and_from _ _ (number_proper pending (first_so _ _ last)) (and_from _ _ (number_proper waiting (second_so (is_number pending) _ last)) refl)))
 
 -- such words are what stands between the spaces
 

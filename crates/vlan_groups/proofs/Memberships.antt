@@ -12,6 +12,7 @@ use Rattle.std.proofs.lemmas.Bool.Decides.{eqb_tells}
 use Rattle.std.proofs.lemmas.List.{map-append, map-id, append-nil, get_or_default}
 use Rattle.std.proofs.lemmas.List.Elements.{filter-append}
 use Rattle.std.proofs.lemmas.List.FromFn.{filter_of_map_range_with_len_more}
+use Rattle.lemmas.proofs.Tests.{T_and, is_some-cond}
 use Rattle.br_model.specs.Data.Maps.{pair_cmp, get, put, without}
 use Rattle.br_model.specs.Table.Domains.{port_places}
 use Rattle.port_sets.specs.Numbers.{numbers_below, has_number}
@@ -71,10 +72,6 @@ get-memberships (row ∷ rows) n (suc k) p =
 
 -- ---- in order
 
-both : (a b : Bool) → T a → T b → T (a && b)
-both true b p q = q
-both false b p q = p
-
 below_append : (k : Key) (xs ys : Memberships) → T (below_all pair_cmp k xs) → T (below_all pair_cmp k ys) → T (below_all pair_cmp k (xs ++ ys))
 below_append k [] ys g h = h
 below_append k (x ∷ xs) ys g h = both_of (is_lt (pair_cmp k x.0)) (below_all pair_cmp k xs) (below_all pair_cmp k (xs ++ ys)) g (λ r. below_append k xs ys r h)
@@ -93,7 +90,7 @@ less_port n q r h =
 
 below_block : (n m q : ℕ) (u : ℕ → Bool) (xs : List ℕ) → n < m → T (below_all pair_cmp (n, q) (map (λ r. ((m, r), u r)) xs))
 below_block n m q u [] h = tt
-below_block n m q u (x ∷ xs) h = both _ _ (less_vid n m q x h) (below_block n m q u xs h)
+below_block n m q u (x ∷ xs) h = T_and _ _ (less_vid n m q x h) (below_block n m q u xs h)
 
 below_later : (rows : List Row) (n m q : ℕ) → n < m → T (below_all pair_cmp (n, q) (memberships_from m rows))
 below_later [] n m q h = tt
@@ -111,7 +108,7 @@ below_ports n b test u a zero h = tt
 below_ports n b test u a (suc len) h =
     let rest = below_ports n b test u (a + 1) len (omega arith) in
     elim (test a) as (λ t. T (below_all pair_cmp (n, b) (map (λ q. ((n, q), u q)) (cond t (a ∷ filter test (range_with_len (a + 1) len)) (filter test (range_with_len (a + 1) len)))))) [
-      | true ↦ both _ _ (less_port n b a h) rest
+      | true ↦ T_and _ _ (less_port n b a h) rest
       | false ↦ rest
     ]
 
@@ -121,7 +118,7 @@ sorted_ports n test u a zero rest above h = h
 sorted_ports n test u a (suc len) rest above h =
     let later = sorted_ports n test u (a + 1) len rest above h in
     elim (test a) as (λ t. T (is_sorted pair_cmp (map (λ q. ((n, q), u q)) (cond t (a ∷ filter test (range_with_len (a + 1) len)) (filter test (range_with_len (a + 1) len))) ++ rest))) [
-      | true ↦ both _ _ (below_append (n, a) (ports_from n test u (a + 1) len) rest (below_ports n a test u (a + 1) len (omega arith)) (above a)) later
+      | true ↦ T_and _ _ (below_append (n, a) (ports_from n test u (a + 1) len) rest (below_ports n a test u (a + 1) len (omega arith)) (above a)) later
       | false ↦ later
     ]
 
@@ -231,10 +228,6 @@ vids_at n p test u a (suc len) low high = elim (eqb_tells a p) [
         | false ↦ rest
       ]
 ]
-
-is_some-cond : (b : Bool) (x : Bool) → is_some (cond b (Some x) None) ≡ b
-is_some-cond true x = refl
-is_some-cond false x = refl
 
 vids-row : (n p : ℕ) (row : Row) → vids_of (memberships n row) p ≡ cond (is_some (at_port row p)) (n ∷ []) []
 vids-row n p row =

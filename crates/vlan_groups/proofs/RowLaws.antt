@@ -3,6 +3,7 @@ use Rattle.std.proofs.Common.{◌≡◌, ℕ, ◌<◌, ◌≤◌, Bool, true, fa
 use Rattle.std.specs.Prelude.{◌==◌, nat_lt}
 use Rattle.std.specs.Option.{unwrap_or}
 use Rattle.std.proofs.lemmas.Bool.{lt-ltb, le-ltb, cases_lt, ne_eqb}
+use Rattle.lemmas.proofs.Tests.{is_some-cond, and-not}
 use Rattle.br_model.specs.Table.Domains.{port_places}
 use Rattle.port_sets.specs.Numbers.{numbers_below, has_number, IsSetBelow}
 use Rattle.port_sets.proofs.Numbers.{has-below, has-above, same_below}
@@ -20,10 +21,6 @@ at-low row q low = ap (λ b. cond (b && has_number row.members q) (Some (has_num
 
 pub at-high : (row : Row) (q : ℕ) → port_places ≤ q → at_port row q ≡ None
 at-high row q high = ap (λ b. cond (b && has_number row.members q) (Some (has_number row.untagged q)) None) (le-ltb q port_places high)
-
-is_some-cond : (b : Bool) (x : Bool) → is_some (cond b (Some x) None) ≡ b
-is_some-cond true x = refl
-is_some-cond false x = refl
 
 unwrap-cond : (b : Bool) (x : Bool) → unwrap_or (cond b (Some x) None) false ≡ (b && x)
 unwrap-cond true x = refl
@@ -82,10 +79,4 @@ untagged-with p old new e q low = ap (λ (ns : List ℕ). has_number ns q) e ∙
     by false = refl
 
 pub untagged-without : (p : ℕ) (old new : List ℕ) → new ≡ numbers_below port_places (λ q. has_number old q && not (q == p)) → (q : ℕ) → q < port_places → has_number new q ≡ cond (q == p) false (has_number old q)
-untagged-without p old new e q low = ap (λ (ns : List ℕ). has_number ns q) e ∙ has-below _ port_places q low ∙ by (has_number old q) (q == p)
-  where
-    by : (there same : Bool) → (there && not same) ≡ cond same false there
-    by true true = refl
-    by true false = refl
-    by false true = refl
-    by false false = refl
+untagged-without p old new e q low = ap (λ (ns : List ℕ). has_number ns q) e ∙ has-below _ port_places q low ∙ and-not (has_number old q) (q == p)

@@ -4,6 +4,7 @@ use Rattle.std.specs.Prelude.{◌==◌}
 use Rattle.std.specs.Ordering.{eq_by_cmp}
 use Rattle.std.proofs.lemmas.Bool.{le-leb}
 use Rattle.std.proofs.lemmas.List.{get_or_default, get_or-replicate}
+use Rattle.lemmas.proofs.Tests.{and_comm}
 use Rattle.br_model.specs.Data.Maps.{pair_cmp, get}
 use Rattle.br_model.specs.Table.Domains.{port_places}
 use Rattle.br_model.proofs.Data.PairKeys.{eq-pair}
@@ -20,12 +21,6 @@ some_cond : (b : Bool) (o other : Option Bool) → is_some (cond b o other) ≡ 
 some_cond true o other = refl
 some_cond false o other = refl
 
-swap : (a b : Bool) → (a && b) ≡ (b && a)
-swap true true = refl
-swap true false = refl
-swap false true = refl
-swap false false = refl
-
 -- a new row at place k, which differs at port p alone
 pub tied-set : (rows : List Row) (blocks blocks' : List (List ℕ)) (k v p : ℕ) (o : Option Bool) (row new : Row) → AreTied rows blocks → k < 4094 → k + 1 ≡ v → row ≡ get_or rows k row
     → ((q : ℕ) → at_port new q ≡ cond (q == p) o (at_port row q)) → Switches blocks blocks' p v (is_some o) → AreTied (set rows k new) blocks'
@@ -33,7 +28,7 @@ tied-set rows blocks blocks' k v p o row new old within at is h switched = recor
   sized = length-set rows k new ∙ old.sized;
   joined = λ q w q_low w_low.
       switched q w w_low
-      ∙ ap₂ (λ b c. cond b (is_some o) c) (swap (q == p) (w == v) ∙ ap (λ x. (w == x) && (q == p)) (sym place) ∙ sym (eq-pair w q (1 + k) p)) (old.joined q w q_low w_low)
+      ∙ ap₂ (λ b c. cond b (is_some o) c) (and_comm (q == p) (w == v) ∙ ap (λ x. (w == x) && (q == p)) (sym place) ∙ sym (eq-pair w q (1 + k) p)) (old.joined q w q_low w_low)
       ∙ sym (some_cond (eq_by_cmp pair_cmp (w, q) (1 + k, p)) o (get pair_cmp (memberships_from 1 rows) (w, q)))
       ∙ sym (ap is_some (get-set rows k new p o inside (λ r. h r ∙ ap (λ (x : Row). cond (r == p) o (at_port x r)) (is ∙ get_or_default rows k row no_ports inside)) w q));
 }

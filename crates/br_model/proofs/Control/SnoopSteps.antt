@@ -5,6 +5,7 @@ use Rattle.std.specs.Option.{option_map_or}
 use Rattle.std.specs.Ordering.{nat_cmp, is_eq}
 use Rattle.std.specs.Cmp.{tied_itself}
 use Rattle.std.specs.FinMap.Entries.{find-put}
+use Rattle.std.proofs.lemmas.Bool.{not-false}
 use Rattle.br_model.specs.declared.change.Change.{Change}
 use Rattle.br_model.specs.declared.change.Change.TheVariants as changes
 use Rattle.br_model.specs.declared.frame.Act.{Act}
@@ -26,10 +27,6 @@ use Rattle.br_model.specs.Control.Snooping.{fastleave, end_at, until, joins, lea
 use Rattle.br_model.specs.Table.Table.{apply}
 use Rattle.br_model.specs.Forward.Targets.{has_flag, knows_querier}
 use Rattle.br_model.proofs.Table.GroupOrders.{membership_total}
-
-is_not : (b : Bool) → not b ≡ false → b ≡ true
-is_not true h = refl
-is_not false h = absurd (cc (h))
 
 -- what keeps P: a change, and an end that is renewed, of what is there
 module _
@@ -71,7 +68,7 @@ module _
         let renewed = at_end m (λ old. until end m r) r (λ old there. by-member r m end there p) p in
         either (is_link_local group) r _ (λ _. p) (λ _.
         either (not (has_room r.table.groups vid group)) r _ (λ _. p) (λ room.
-        either (has membership_cmp r.table.groups m) _ _ (λ _. renewed) (λ _. made-keeps port vid group end r (is_not _ room) p)))
+        either (has membership_cmp r.table.groups m) _ _ (λ _. renewed) (λ _. made-keeps port vid group end r (not-false _ room) p)))
 
     leaves-keeps : (port vid : ℕ) (group : Group) (r : Course) → P r → P (leaves port vid group r)
     leaves-keeps port vid group r p =

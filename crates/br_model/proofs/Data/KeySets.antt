@@ -1,25 +1,18 @@
 -- The keys of a finite map are a finite set: what is done to the map is done to its keys.
-use Rattle.std.proofs.Common.{◌≡◌, Bool, true, false, not, cond, T, List, [], ◌∷◌, Some, refl, sym, ap, ◌∙◌}
+use Rattle.std.proofs.Common.{◌≡◌, Bool, true, false, not, cond, List, [], ◌∷◌, Some, refl, sym, ap, ◌∙◌}
 use Rattle.std.specs.Prelude.{is_some}
 use Rattle.std.specs.List.{AllByRecursion}
 use Rattle.std.specs.List.Sorted.{IsStrictlySortedBy}
 use Rattle.std.specs.declared.cmp.Ordering.{Ordering}
 use Rattle.std.specs.declared.cmp.Ordering.TheVariants.{Less, Equal, Greater}
-use Rattle.std.specs.Ordering.{is_lt, is_eq, eq_by_cmp, match_ordering}
+use Rattle.std.specs.Ordering.{is_eq, eq_by_cmp, match_ordering}
 use Rattle.std.specs.Cmp.{IsTotalOrder, first_so, second_so}
 use Rattle.std.specs.Bool.{passes}
 use Rattle.std.specs.FinMap.Entries.{by_order, below_all, is_sorted-put, is_sorted-where_key}
+use Rattle.lemmas.proofs.Orders.{is_lt-true}
+use Rattle.lemmas.proofs.Tests.{true_from_T}
 use Rattle.br_model.specs.Control.Ends.{keys}
 use Rattle.br_model.specs.Data.Maps.{get, put, without, joined, parted, is_ascending}
-
-is_less : (r : Ordering) → is_lt r ≡ true → r ≡ Less
-is_less Less h = refl
-is_less Equal h = absurd (cc)
-is_less Greater h = absurd (cc)
-
-pub holds : (b : Bool) → T b → b ≡ true
-holds true h = refl
-holds false h = absurd h
 
 module _ {K X : Type 0} where
   module _ (R : K → K → Ordering) where
@@ -43,7 +36,7 @@ module _ {K X : Type 0} where
 
     below_keys : (k : K) (m : List (K × X)) → below_all R k m ≡ true → AllByRecursion (λ y. R k y ≡ Less) (keys m)
     below_keys k [] h = tt
-    below_keys k (e ∷ m) h = (is_less _ (first_so _ _ h), below_keys k m (second_so _ _ h))
+    below_keys k (e ∷ m) h = (is_lt-true _ (first_so _ _ h), below_keys k m (second_so _ _ h))
 
     pub keys-ascend : (m : List (K × X)) → is_ascending R m ≡ true → IsStrictlySortedBy R (keys m)
     unfolding IsStrictlySortedBy
@@ -51,17 +44,17 @@ module _ {K X : Type 0} where
     keys-ascend (e ∷ m) h = (below_keys e.0 m (first_so _ _ h), keys-ascend m (second_so _ _ h))
 
     pub ascending-without : (m : List (K × X)) (k : K) → is_ascending R m ≡ true → is_ascending R (without R m k) ≡ true
-    ascending-without m k h = holds _ (is_sorted-where_key R (λ q. not (eq_by_cmp R k q)) m (passes _ h))
+    ascending-without m k h = true_from_T _ (is_sorted-where_key R (λ q. not (eq_by_cmp R k q)) m (passes _ h))
 
     module _ (o : IsTotalOrder R) where
       pub ascending-put : (m : List (K × X)) (k : K) (x : X) → is_ascending R m ≡ true → is_ascending R (put R m k x) ≡ true
-      ascending-put m k x h = holds _ (is_sorted-put R o k x m (passes _ h))
+      ascending-put m k x h = true_from_T _ (is_sorted-put R o k x m (passes _ h))
 
       -- below the first key there is none
       none_below : (k first : K) (m : List (K × X)) → R k first ≡ Less → below_all R first m ≡ true → is_some (get R m k) ≡ true → false ≡ true
       none_below k first [] less h there = there
       none_below k first (e ∷ m) less h there =
-          none_below k first m less (second_so _ _ h) (ap (λ r. is_some (cond (is_eq r) (Some e.1) (get R m k))) (sym (o.trans k first e.0 less (is_less _ (first_so _ _ h)))) ∙ there)
+          none_below k first m less (second_so _ _ h) (ap (λ r. is_some (cond (is_eq r) (Some e.1) (get R m k))) (sym (o.trans k first e.0 less (is_lt-true _ (first_so _ _ h)))) ∙ there)
 
       -- where something stands at the key, the keys stay
       pub keys-put_there : (m : List (K × X)) (k : K) (x : X) → is_ascending R m ≡ true → is_some (get R m k) ≡ true → keys (put R m k x) ≡ keys m

@@ -1,6 +1,6 @@
 -- Lists: parts of them, ascending ones, and distinct ones.
 use Rattle.std.proofs.Common.{◌≡◌, ℕ, ◌<◌, ◌≤◌, Bool, true, false, cond, List, [], ◌∷◌, ◌++◌, map, length, Option, None, Some, refl, sym, ap, ◌∙◌, arith, subst}
-use Rattle.std.specs.Prelude.{◌==◌, ◌||◌, nat_lt}
+use Rattle.std.specs.Prelude.{◌||◌}
 use Rattle.std.specs.List.{AllByRecursion, All, IsDistinct, filter, find, last_or, slice_get}
 use Rattle.std.specs.List.Sorted.{IsStrictlySortedBy}
 use Rattle.std.specs.Ordering.{nat_cmp, eq_by_cmp, match_ordering, ordering_reverse}
@@ -8,8 +8,10 @@ use Rattle.std.specs.BTreeSet.{insert_key}
 use Rattle.std.specs.Cmp.{IsTotalOrder, nat_cmp_is, unsigned_tied}
 use Rattle.std.specs.declared.cmp.Ordering.{Ordering}
 use Rattle.std.specs.declared.cmp.Ordering.TheVariants.{Less, Equal, Greater}
-use Rattle.std.proofs.lemmas.Bool.{eqb-true, eq-eqb, ltb-true, or_left, or_right}
+use Rattle.std.proofs.lemmas.Bool.{eqb-true, eq-eqb, or_left, or_right}
 use Rattle.std.proofs.lemmas.List.Elements.{All-from_recursion, recursion_from_All}
+use Rattle.std.proofs.lemmas.Option.{same_Some}
+use Rattle.lemmas.proofs.Orders.{lt_from_nat_cmp}
 use Rattle.br_model.specs.Data.Maps.{has}
 
 -- A list with some elements left out.
@@ -65,23 +67,12 @@ distinct-part e (kept y p) h = (each-part (λ x. e y x ≡ false) p h.0, distinc
 same_last : (x m : ℕ) → Some x ≡ Some m → x ≤ m
 same_last x m e = let is : x ≡ m = cc in omega arith
 
-pub less-than : (x y : ℕ) → nat_cmp x y ≡ Less → x < y
-less-than x y e = by (nat_lt x y) refl e
-  where
-    later : (b : Bool) → cond b Equal Greater ≡ Less → ⊥
-    later true h = absurd (cc)
-    later false h = absurd (cc)
-
-    by : (b : Bool) → nat_lt x y ≡ b → cond b Less (cond (x == y) Equal Greater) ≡ Less → x < y
-    by true is h = ltb-true x y is
-    by false is h = absurd (later (x == y) h)
-
 below-last : (x m : ℕ) (xs : List ℕ) → AllByRecursion (λ y. nat_cmp x y ≡ Less) xs → IsStrictlySortedBy nat_cmp xs → last_or (Some x) xs ≡ Some m → (x ≤ m) × AllByRecursion (λ y. y ≤ m) xs
 unfolding IsStrictlySortedBy
 below-last x m [] h s e = (same_last x m e, tt)
 below-last x m (y ∷ ys) h s e =
     let rest = below-last y m ys s.0 s.1 e in
-    (omega (arith, less-than x y h.0, rest.0), rest)
+    (omega (arith, lt_from_nat_cmp x y h.0, rest.0), rest)
 
 -- none is above the last one
 pub up-to-last : (m : ℕ) (xs : List ℕ) → IsStrictlySortedBy nat_cmp xs → last_or None xs ≡ Some m → AllByRecursion (λ y. y ≤ m) xs
@@ -162,22 +153,10 @@ module _ {K : Type 0} (R : K → K → Ordering) (o : IsTotalOrder R) where
 
 -- What is found.
 
-pub same-some : {X : Type 0} (a b : X) → Some a ≡ Some b → a ≡ b
-same-some a b h = cc
-
--- the first that passes is one that passes
-pub find-passes : {X : Type 0} (p : X → Bool) (xs : List X) (x : X) → find p xs ≡ Some x → p x ≡ true
-find-passes p [] x e = absurd (cc)
-find-passes p (y ∷ ys) x e =
-    (elim (p y) as (λ b. p y ≡ b → cond b (Some y) (find p ys) ≡ Some x → p x ≡ true) [
-      | true ↦ λ yes is. ap p (sym (same-some y x is)) ∙ yes
-      | false ↦ λ fails is. find-passes p ys x is
-    ]) refl e
-
 pub find-each : {X : Type 0} (P : X → Type 0) (p : X → Bool) (xs : List X) (x : X) → AllByRecursion P xs → find p xs ≡ Some x → P x
 find-each P p [] x h e = absurd (cc)
 find-each P p (y ∷ ys) x h e =
     (elim (p y) as (λ b. cond b (Some y) (find p ys) ≡ Some x → P x) [
-      | true ↦ λ is. subst P (same-some y x is) h.0
+      | true ↦ λ is. subst P (same_Some y x is) h.0
       | false ↦ λ is. find-each P p ys x h.1 is
     ]) e

@@ -10,6 +10,7 @@ use Rattle.std.specs.BTreeMap.{insert_entry, is_at}
 use Rattle.std.specs.Map.{lookup, remove_entry, keys_of}
 use Rattle.std.specs.Set.{remove_key}
 use Rattle.std.specs.FinMap.Entries.{by_order}
+use Rattle.lemmas.proofs.Orders.{is_eq-true}
 use Rattle.br_model.specs.Data.Maps.{get, put, without, parted}
 
 pub insert_entry-is : {K X : Type 0} (R : K → K → Ordering) (es : List (K × X)) (k : K) (v : X) → insert_entry R es k v ≡ put R es k v
@@ -42,11 +43,6 @@ module _ {K : Type 0} {R : K → K → Ordering} (o : IsTotalOrder R) where
   later_entries k x [] tie h = h
   later_entries k x (e ∷ es) tie h = (ap (λ r. not (is_eq r)) (o.congr k x e.0 tie ∙ h.0), later_entries k x es tie h.1)
 
-  tied : (r : Ordering) → is_eq r ≡ true → r ≡ Equal
-  tied Less h = absurd (cc)
-  tied Equal h = refl
-  tied Greater h = absurd (cc)
-
   pub remove_key-is : (k : K) (xs : List K) → IsStrictlySortedBy R xs → remove_key (is_at (R k)) xs ≡ parted R xs k
   unfolding IsStrictlySortedBy
   remove_key-is k [] h = refl
@@ -54,7 +50,7 @@ module _ {K : Type 0} {R : K → K → Ordering} (o : IsTotalOrder R) where
       ap (λ rest. cond (is_eq (R k x)) xs (x ∷ rest)) (remove_key-is k xs h.1) ∙ by (is_eq (R k x)) refl
     where
       by : (b : Bool) → is_eq (R k x) ≡ b → cond b xs (x ∷ parted R xs k) ≡ cond (not b) (x ∷ parted R xs k) (parted R xs k)
-      by true e = sym (keeps_all (λ y. not (eq_by_cmp R k y)) xs (later k x xs (tied (R k x) e) h.0))
+      by true e = sym (keeps_all (λ y. not (eq_by_cmp R k y)) xs (later k x xs (is_eq-true (R k x) e) h.0))
       by false e = refl
 
   pub remove_entry-is : {X : Type 0} (k : K) (es : List (K × X)) → IsStrictlySortedBy R (keys_of es) → remove_entry (is_at (R k)) es ≡ without R es k
@@ -64,5 +60,5 @@ module _ {K : Type 0} {R : K → K → Ordering} (o : IsTotalOrder R) where
       ap (λ rest. cond (is_eq (R k e.0)) es (e ∷ rest)) (remove_entry-is k es h.1) ∙ by (is_eq (R k e.0)) refl
     where
       by : (b : Bool) → is_eq (R k e.0) ≡ b → cond b es (e ∷ without R es k) ≡ cond (not b) (e ∷ without R es k) (without R es k)
-      by true same = sym (keeps_all (λ (f : K × X). not (eq_by_cmp R k f.0)) es (later_entries k e.0 es (tied (R k e.0) same) h.0))
+      by true same = sym (keeps_all (λ (f : K × X). not (eq_by_cmp R k f.0)) es (later_entries k e.0 es (is_eq-true (R k e.0) same) h.0))
       by false same = refl

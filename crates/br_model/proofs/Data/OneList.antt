@@ -1,6 +1,6 @@
 -- Published lists and their counts that begin one list.
 use Rattle.std.proofs.Common.{◌≡◌, ℕ, ◌≤◌, true, false, List, [], ◌∷◌, ◌++◌, length, take, None, Some, refl, sym, ap, ◌∙◌, subst, arith}
-use Rattle.std.proofs.lemmas.Bool.{eqb-true, or_left}
+use Rattle.std.proofs.lemmas.Bool.{or_left}
 use Rattle.std.proofs.lemmas.List.{take-append-le}
 use Rattle.std.proofs.lemmas.List.Folds.{list_any-append}
 use Rattle.std.specs.Prelude.{◌||◌}
@@ -8,9 +8,9 @@ use Rattle.std.specs.List.{AllByRecursion, last_or}
 use Rattle.std.specs.List.Sorted.{IsStrictlySortedBy}
 use Rattle.std.specs.Ordering.{nat_cmp, eq_by_cmp}
 use Rattle.std.specs.declared.cmp.Ordering.TheVariants.{Less}
-use Rattle.std.specs.Cmp.{unsigned_tied}
+use Rattle.lemmas.proofs.Orders.{lt_from_nat_cmp, eq_by_cmp-true}
 use Rattle.br_model.specs.Data.Maps.{has}
-use Rattle.br_model.proofs.Data.Lists.{has-up-to, less-than}
+use Rattle.br_model.proofs.Data.Lists.{has-up-to}
 use mathlib.Core.List.{IsPrefix}
 
 -- those behind the last one of a beginning are above it
@@ -30,15 +30,12 @@ each : (P : ℕ → Type 0) (c : ℕ) (xs : List ℕ) → AllByRecursion P xs �
 each P c [] all e = absurd (cc)
 each P c (x ∷ xs) all e =
     (elim (eq_by_cmp nat_cmp c x) as (λ b. eq_by_cmp nat_cmp c x ≡ b → (b || has nat_cmp xs c) ≡ true → P c) [
-      | true ↦ λ same f. subst P (sym (alike c x same)) all.0
+      | true ↦ λ same f. subst P (sym (eq_by_cmp-true c x same)) all.0
       | false ↦ λ other f. each P c xs all.1 f
     ]) refl e
-  where
-    alike : (c x : ℕ) → eq_by_cmp nat_cmp c x ≡ true → c ≡ x
-    alike c x e = eqb-true c x (sym (unsigned_tied c x) ∙ e)
 
 less : (e c : ℕ) → nat_cmp e c ≡ Less → c ≤ e → ⊥
-less e c h le = omega (arith, less-than e c h, le)
+less e c h le = omega (arith, lt_from_nat_cmp e c h, le)
 
 -- Each count of the one list that is at most the length of the other is a count of the other, and the first changes are the same.
 pub one-list : {A : Type 0} (k m n : List A) (ks ms ns : List ℕ) → IsStrictlySortedBy nat_cmp ks → AllByRecursion (λ y. y ≤ length m) ms → last_or None ns ≡ Some (length n)

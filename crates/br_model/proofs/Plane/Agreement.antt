@@ -1,9 +1,8 @@
 -- A frame that enters a settled bridge, and is sent before another change is accepted, leaves as by one bridge.
-use Rattle.std.proofs.Common.{◌≡◌, ℕ, suc, ◌+◌, ◌<◌, ◌≤◌, Bool, true, false, cond, List, [], ◌∷◌, ◌++◌, map, length, get_or, take, Option, None, Some, refl, sym, ap, ◌∙◌, arith, subst, ◌⊎◌, inl, inr, ⊎_elim}
+use Rattle.std.proofs.Common.{◌≡◌, ℕ, suc, ◌+◌, ◌<◌, ◌≤◌, Bool, true, false, cond, List, [], ◌∷◌, ◌++◌, map, length, take, Option, None, Some, refl, sym, ap, ◌∙◌, arith, subst, ◌⊎◌, inl, inr, ⊎_elim}
 use Rattle.std.proofs.lemmas.Bool.{both_ways, eq-eqb, or_parts}
 use Rattle.std.proofs.lemmas.List.{append-nil, take_all}
 use Rattle.std.proofs.lemmas.List.Folds.{list_any-append}
-use Rattle.std.proofs.lemmas.List.Sums.{fold-append}
 use Rattle.std.specs.Prelude.{◌==◌, nat_lt}
 use Rattle.std.specs.List.{filter, fold, list_any}
 use Rattle.std.specs.declared.result.Result.TheVariants.{Ok}
@@ -35,15 +34,16 @@ use Rattle.br_model.specs.Theorems.Invariants.{frames_of, IsWorld}
 use Rattle.br_model.specs.Plane.Runs.{run, then_step}
 use Rattle.br_model.specs.Plane.Sending.{Sent, in_port_order, sent_of, software_share}
 use Rattle.br_model.specs.Plane.Steps.{world_step}
-use Rattle.br_model.specs.Plane.World.{World, Waiting, Holding, Stepped, first_world, table_at, table_of_chip, sent, with_chip}
+use Rattle.br_model.specs.Plane.World.{World, Waiting, Holding, Stepped, table_at, table_of_chip, sent, with_chip}
 use Rattle.br_model.proofs.Table.Cuts.{cut-all}
 use Rattle.br_model.proofs.Plane.Applied.{run-world}
 use Rattle.br_model.proofs.Plane.Chips.{chip_of-declared}
-use Rattle.br_model.proofs.Plane.Fates.{sent_of-append, sent_of-sent, found-push, goes_on-joins, Found, hold_entry, wait_entry, waiting_found, found, found-free, found-taken, Fate, idle, entered, taken, gone, said-none, said-held, said-soft, step-effect}
+use Rattle.br_model.proofs.Plane.Fates.{sent_of-append, sent_of-sent, found-push, goes_on-joins, hold_entry, wait_entry, waiting_found, found, found-free, found-taken, Fate, idle, entered, taken, gone, said-none, said-held, said-soft, step-effect, same-entry}
 use Rattle.br_model.proofs.Plane.Kept.{step-world}
 use Rattle.br_model.proofs.Data.Lists.{up-to-last, has-up-to}
 use Rattle.br_model.proofs.Plane.Once.{run-lines}
 use Rattle.br_model.proofs.Plane.Shares.{all-kept, ascends-leave, order-stays, together}
+use Rattle.br_model.proofs.Plane.Worlds.{run-append}
 
 -- Whether a frame is there.
 
@@ -86,9 +86,6 @@ module _ (id : ℕ) (domains : Domains) (h : List Change) (t : Table) (is-table 
   record IsSent (x : Stepped) : Type 0 where
     gone : found id x.0.held x.0.waiting ≡ []
     sent : in_port_order (sent_of id x.1) ≡ all
-
-  same-entry : (l : Found) (a b : Waiting × Option ℕ) → l ≡ a ∷ [] → l ≡ b ∷ [] → a ≡ b
-  same-entry l a b p q = ap (λ (k : Found). get_or k 0 a) (sym p ∙ q)
 
   -- by which count it is decided
   the-point : (w : World) (o : Option ℕ) (point : ℕ) → IsWorld w → w.published ≡ length h → IsFrom o → IsDecidedAt w o point → point ≡ length h
@@ -279,10 +276,6 @@ said-before p x (step ∷ steps) h =
     let new = (world_step x.0 step).1 in
     (or_parts (list_any p x.1) (list_any p new) (sym (list_any-append p x.1 new) ∙ said-before p (then_step x step) steps h)).0
 
-pub run-more : (setup : Setup) (before more : List Step) → run setup (before ++ more) ≡ fold then_step (run setup before) more
-unfolding run
-run-more setup before more = fold-append then_step (first_world setup, []) before more
-
 pub agreement : (setup : Setup) (before after : List Step) (port : ℕ) (bytes : List ℕ) (head : Head) → frame bytes ≡ Ok head → IsSettled (run setup before).0 port → IsUndisturbed setup before port bytes after
     → in_port_order (sent_of (run setup before).0.next (run setup (before ++ Rx port bytes ∷ after)).1) ≡ leave (table (run setup before).0.history) port bytes head
 agreement setup before after port bytes head e settled undisturbed =
@@ -294,7 +287,7 @@ agreement setup before after port bytes head e settled undisturbed =
     let applied : deferred_count w.setup.domains.edition w.history ≤ chip.count = omega (arith, settled.applied) in
     let fresh = (run-lines setup before).fresh w.next (omega arith) in
     let next = then_step (w, lines) (Rx port bytes) in
-    let more = λ (steps : List Step). run-more setup before (Rx port bytes ∷ steps) in
+    let more = λ (steps : List Step). run-append setup before (Rx port bytes ∷ steps) in
     ap (λ (x : Stepped). in_port_order (sent_of w.next x.1)) (more after)
     ∙ enters-agrees w port bytes head k chip on lines fresh applied settled.published after e
     (step-world w (Rx port bytes) k)

@@ -7,6 +7,8 @@ use Rattle.std.specs.Prelude.{◌==◌, if◌then◌else◌, is_some}
 use Rattle.std.specs.Option.{option_to_list, option_map}
 use Rattle.std.specs.declared.result.Result.{Result}
 use Rattle.std.specs.declared.result.Result.TheVariants.{Ok, Err}
+use Rattle.std.proofs.lemmas.Option.{same_Some}
+use Rattle.lemmas.proofs.Lists.{drop-length}
 use Rattle.br_model.specs.declared.change.Change.{Change}
 use Rattle.br_model.specs.declared.domains.Edition.{Edition}
 use Rattle.br_model.specs.declared.frame.Class.{Class}
@@ -36,7 +38,7 @@ use Rattle.br_model.specs.Plane.World.{World, Waiting, Holding, Stepped, first_w
 use Rattle.br_model.proofs.Plane.Applying.{after_accept, after_turn, once_after_accept, once_after_turn}
 use Rattle.br_model.proofs.Plane.Chips.{chip-dom, chip-own, chip-there, put-same, put-other, CountsStay, put-counts, counts-same, counted-before, chip_of-at}
 use Rattle.br_model.proofs.Plane.Kept.{Ends, ends_refused, ends_done, ends_answered, does-ends, first-world, step-world, notes-keeps, hit_by-keeps, chip-stands}
-use Rattle.br_model.proofs.Data.Lists.{same-some, find-each}
+use Rattle.br_model.proofs.Data.Lists.{find-each}
 use Rattle.br_model.proofs.Plane.Waiting.{goes_on-either, posts_at-either, waits-either}
 
 -- Changes are accepted behind those that were, and no chip applies a deferred one.
@@ -118,10 +120,6 @@ pub record Applies (edition : Edition) (history : List Change) (count : ℕ) (do
 abbrev pub AppliesAt : ℕ → World → List Change → Type 0
 AppliesAt dom w done = (c : Chip) → chip_at w dom ≡ Some c → Applies w.setup.domains.edition w.history c.count done
 
-drop-length : {X : Type 0} (xs ys : List X) → drop (length xs) (xs ++ ys) ≡ ys
-drop-length [] ys = refl
-drop-length (x ∷ xs) ys = drop-length xs ys
-
 accepts-applies : (w v : World) (dom : ℕ) (done : List Change) → IsWorld w → AppliesAt dom w done → Grows w v
     → AppliesAt dom v (done ++ synchronous_of w.setup.domains.edition (drop (length w.history) v.history))
 accepts-applies w v dom done k a g c at =
@@ -154,7 +152,7 @@ turns_to-applies w dom done c (Some x) there e a d at =
     let after = after_turn edition w.history done c.count x e is.table in
     let once = once_after_turn edition w.history done c.count x e is.synchronous is.deferred in
     let own = chip-dom w.chips dom c there in
-    let new : applies c x ≡ d = same-some (applies c x) d (sym (put-same w.chips (applies c x) dom c (keep.dom ∙ own) there) ∙ at) in
+    let new : applies c x ≡ d = same_Some (applies c x) d (sym (put-same w.chips (applies c x) dom c (keep.dom ∙ own) there) ∙ at) in
     subst (λ (y : Chip). Applies edition w.history y.count (done ++ x ∷ [])) new (record {
       table = after.1 ∙ sym (ap (λ n. table (cut edition w.history n)) keep.count);
       synchronous = once.0;

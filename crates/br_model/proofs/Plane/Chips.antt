@@ -5,11 +5,13 @@ use Rattle.std.proofs.lemmas.List.Elements.{All-from_recursion, recursion_from_A
 use Rattle.std.specs.Prelude.{◌==◌, ◌||◌, is_some}
 use Rattle.std.specs.List.{All, AllByRecursion, list_any}
 use Rattle.std.specs.Option.{option_map}
+use Rattle.std.proofs.lemmas.Option.{same_Some}
+use Rattle.lemmas.proofs.Lists.{find-passes}
 use Rattle.br_model.specs.Plane.Chip.{Chip, chip_in, put_chip}
 use Rattle.br_model.specs.Table.Domains.{Domains, has_chip, chip_domains}
 use Rattle.br_model.specs.Plane.Entering.{chip_of}
 use Rattle.br_model.specs.Plane.World.{World, chip_at}
-use Rattle.br_model.proofs.Data.Lists.{same-some, find-passes, find-each}
+use Rattle.br_model.proofs.Data.Lists.{find-each}
 
 abbrev pub doms : List Chip → List ℕ
 doms chips = map (λ c. c.dom) chips
@@ -94,7 +96,7 @@ counts-same chips dom = refl
 -- the one that was there, with this count
 pub counted-before : (o : Option Chip) (c : Chip) → Some c.count ≡ option_map (λ (x : Chip). x.count) o → (d : Chip) × (o ≡ Some d) × (d.count ≡ c.count)
 counted-before None c e = absurd (cc)
-counted-before (Some d) c e = (d, refl, sym (same-some c.count d.count e))
+counted-before (Some d) c e = (d, refl, sym (same_Some c.count d.count e))
 
 -- the domain of a port that has a chip
 pub chip_of-at : (w : World) (o : Option ℕ) (c : Chip) → chip_of w o ≡ Some c → (dom : ℕ) × (o ≡ Some dom) × (chip_at w dom ≡ Some c)

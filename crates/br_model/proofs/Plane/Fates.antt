@@ -1,5 +1,5 @@
 -- What a step does to the frame with one id: it enters, is held, or is sent and gone, or nothing happens to it.
-use Rattle.std.proofs.Common.{◌≡◌, ℕ, suc, ◌+◌, ◌<◌, ◌≤◌, Bool, true, false, not, cond, List, [], ◌∷◌, ◌++◌, map, length, Option, None, Some, refl, sym, ap, ◌∙◌, arith, append_assoc, length-append, take, ◌⊎◌, inl, inr, ⊎_elim}
+use Rattle.std.proofs.Common.{◌≡◌, ℕ, suc, ◌+◌, ◌<◌, ◌≤◌, Bool, true, false, not, cond, List, [], ◌∷◌, ◌++◌, map, length, Option, None, Some, refl, sym, ap, ◌∙◌, arith, append_assoc, length-append, take, ◌⊎◌, inl, inr, ⊎_elim, get_or}
 use Rattle.std.proofs.lemmas.Bool.{eq-eqb, eqb-true, eqb-false, ne_eqb, cases_lt, and_parts, leb-true}
 use Rattle.std.proofs.lemmas.List.{append-nil, map-append, length-map}
 use Rattle.std.proofs.lemmas.List.Elements.{filter-append, recursion_from_All, All-weaker}
@@ -9,6 +9,8 @@ use Rattle.std.specs.List.{AllByRecursion, IsDistinct, filter, find}
 use Rattle.std.specs.Ordering.{nat_cmp}
 use Rattle.std.specs.declared.result.Result.{Result}
 use Rattle.std.specs.declared.result.Result.TheVariants.{Ok, Err}
+use Rattle.std.proofs.lemmas.Option.{same_Some}
+use Rattle.lemmas.proofs.Lists.{find-passes}
 use Rattle.br_model.specs.declared.transcript.Line.{Line}
 use Rattle.br_model.specs.declared.frame.Class.{Class}
 use Rattle.br_model.specs.declared.frame.Class.TheVariants.{Drop, Trap, Copy, Forward}
@@ -32,7 +34,7 @@ use Rattle.br_model.specs.Forward.Shares.{chip_out, chip_out_by, within, mark_of
 use Rattle.br_model.specs.Table.Table.{Table, table}
 use Rattle.br_model.proofs.Plane.Chips.{chip_of-declared}
 use Rattle.br_model.proofs.Plane.Kept.{Ends, ends_refused, ends_done, ends_answered, does-ends, counted-world}
-use Rattle.br_model.proofs.Data.Lists.{same-some, find-passes, find-each}
+use Rattle.br_model.proofs.Data.Lists.{find-each}
 use Rattle.br_model.proofs.Plane.Shares.{ascends-filter, ascends-leave, times-ascends, times-within}
 use Rattle.br_model.proofs.Plane.Waiting.{goes_on-either, waits-either}
 use Rattle.br_model.specs.Plane.Entering.{waits, goes_on, enters_chip, enters_as, class_of, enters_by, chip_of}
@@ -457,7 +459,7 @@ find-filter : {X : Type 0} (p : X → Bool) (xs : List X) (x : X) → find p xs 
 find-filter p [] x e = absurd (cc)
 find-filter {X} p (y ∷ ys) x e =
     (elim (p y) as (λ b. cond b (Some y) (find p ys) ≡ Some x → (rest : List X) × (cond b (y ∷ filter p ys) (filter p ys) ≡ x ∷ rest)) [
-      | true ↦ λ is. (filter p ys, ap (λ a. a ∷ filter p ys) (same-some y x is))
+      | true ↦ λ is. (filter p ys, ap (λ a. a ∷ filter p ys) (same_Some y x is))
       | false ↦ λ is. find-filter p ys x is
     ]) e
 
@@ -552,3 +554,7 @@ pub step-effect : (id : ℕ) (w : World) (step : Step) → IsWorld w → Effect 
 step-effect id w step k =
     let e = does-effect id (record w { steps = w.steps + 1 }) step (counted-world w k) in
     record { setup = e.setup; next = e.next; published = e.published; fate = same-fate id (w.steps + 1) w (world_step w step).0 (world_step w step).1 e.fate }
+
+-- one entry alone is itself
+pub same-entry : (l : Found) (a b : Waiting × Option ℕ) → l ≡ a ∷ [] → l ≡ b ∷ [] → a ≡ b
+same-entry l a b p q = ap (λ (k : Found). get_or k 0 a) (sym p ∙ q)

@@ -1,5 +1,5 @@
 -- The lines of a frame in the transcript of a run, from its entry on.
-use Rattle.std.proofs.Common.{◌≡◌, ℕ, ◌+◌, ◌<◌, ◌≤◌, Bool, true, false, cond, List, [], ◌∷◌, ◌++◌, length, get_or, take, Option, None, Some}
+use Rattle.std.proofs.Common.{◌≡◌, ℕ, ◌+◌, ◌<◌, ◌≤◌, Bool, true, false, cond, List, [], ◌∷◌, ◌++◌, length, take, Option, None, Some}
 use Rattle.std.proofs.Common.{refl, sym, ap, ◌∙◌, arith, subst, append_assoc, ◌⊎◌, inl, inr, ⊎_elim}
 use Rattle.std.proofs.lemmas.Bool.{cases_lt, eq-eqb}
 use Rattle.std.proofs.lemmas.List.{append-nil, take-append-le}
@@ -37,16 +37,13 @@ use Rattle.br_model.specs.Theorems.FrameLines.{lines_of, places, IsPoint, InSoft
 use Rattle.br_model.specs.Theorems.Invariants.{IsWorld}
 use Rattle.br_model.specs.Wire.Frames.{frame}
 use Rattle.br_model.proofs.Plane.Growing.{step-grows}
-use Rattle.br_model.proofs.Plane.Agreement.{run-more}
 use Rattle.br_model.proofs.Plane.Applied.{run-setup, run-world}
-use Rattle.br_model.proofs.Plane.Fates.{Found, Fate, idle, entered, taken, gone, lines_of-append, lines-same, found-push, found-free, found-taken, goes_on-joins, Effect, step-effect}
+use Rattle.br_model.proofs.Plane.Fates.{Fate, idle, entered, taken, gone, lines_of-append, lines-same, found-push, found-free, found-taken, goes_on-joins, Effect, step-effect, same-entry}
 use Rattle.br_model.proofs.Plane.Kept.{Ends, ends_refused, ends_done, ends_answered, does-ends, first-world, step-world}
 use Rattle.br_model.proofs.Data.Lists.{has-up-to, last-has, up-to-last}
 use Rattle.br_model.proofs.Plane.Stays.{step-counts}
 use Rattle.br_model.proofs.Plane.Waiting.{posts_at-either}
-
-same-entry : (l : Found) (a b : Waiting × Option ℕ) → l ≡ a ∷ [] → l ≡ b ∷ [] → a ≡ b
-same-entry l a b p q = ap (λ (k : Found). get_or k 0 a) (sym p ∙ q)
+use Rattle.br_model.proofs.Plane.Worlds.{run-append}
 
 up-to-published : (w : World) (n : ℕ) → IsWorld w → has nat_cmp w.counts n ≡ true → n ≤ w.published
 up-to-published w n k there = has-up-to n w.published w.counts (up-to-last w.published w.counts k.counts.ascend k.counts.last) there
@@ -277,7 +274,7 @@ module _ (setup : Setup) (before after : List Step) (port : ℕ) (bytes : List �
   told-after own P t = (t.0, (lines_of-append w.next x.1 y.1 ∙ (λ i. run-none setup before w.next (omega arith) i ++ t.1.0 i), t.1.1))
 
   whole : run setup (before ++ Rx port bytes ∷ after) ≡ fold then_step (then_step x (Rx port bytes)) after
-  whole = run-more setup before (Rx port bytes ∷ after)
+  whole = run-append setup before (Rx port bytes ∷ after)
 
   pub by-chip : (head : Head) (chip : Chip) → frame bytes ≡ Ok head → chip_of w (domain_of setup.domains port) ≡ Some chip
       → ByChip w chip (entering w port bytes head) (run setup (before ++ Rx port bytes ∷ after))

@@ -1,10 +1,11 @@
 -- What is accepted fits: the history after a reaction stands.
-use Rattle.std.proofs.Common.{◌≡◌, ◌≤◌, Bool, true, false, ◌&&◌, cond, List, [], ◌∷◌, ◌++◌, length, refl, sym, ap, ◌∙◌, arith, append_assoc, length-append}
+use Rattle.std.proofs.Common.{◌≡◌, ◌≤◌, true, false, ◌&&◌, cond, List, [], ◌∷◌, ◌++◌, length, refl, sym, ap, ◌∙◌, arith, append_assoc, length-append}
 use Rattle.std.proofs.lemmas.Bool.{leb-true, and_from}
 use Rattle.std.proofs.lemmas.List.{append-nil}
 use Rattle.std.specs.declared.result.Result.{Result}
 use Rattle.std.specs.declared.result.Result.TheVariants.{Ok, Err}
 use Rattle.std.specs.List.{fold}
+use Rattle.lemmas.proofs.Tests.{and_assoc}
 use Rattle.br_model.specs.declared.change.Change.{Change}
 use Rattle.br_model.specs.declared.steps.Event.{Event}
 use Rattle.br_model.specs.declared.steps.Refusal.{Refusal}
@@ -20,11 +21,7 @@ use Rattle.br_model.proofs.Control.SnoopSteps.{snoops-keeps}
 
 pub fit-append : (t : Table) (cs ds : List Change) → all_fit t (cs ++ ds) ≡ (all_fit t cs && all_fit (fold apply t cs) ds)
 fit-append t [] ds = refl
-fit-append t (c ∷ cs) ds = ap (λ b. fits t c && b) (fit-append (apply t c) cs ds) ∙ joined (fits t c) (all_fit (apply t c) cs) (all_fit (fold apply (apply t c) cs) ds)
-  where
-    joined : (a b d : Bool) → (a && (b && d)) ≡ ((a && b) && d)
-    joined true b d = refl
-    joined false b d = refl
+fit-append t (c ∷ cs) ds = ap (λ b. fits t c && b) (fit-append (apply t c) cs ds) ∙ and_assoc (fits t c) (all_fit (apply t c) cs) (all_fit (fold apply (apply t c) cs) ds)
 
 -- The course stands where its changes come behind this history: they fit, and its table is theirs.
 abbrev OnCourse : List Change → Course → Type 0

@@ -31,16 +31,16 @@ is_feed : (b : ℕ) → (b == 10) ≡ true → b ≡ 10
 is_feed b h = grind arith
 
 -- a text with bytes has a line
-record HasLine (lines : List (List ℕ)) : Type 0 where
-  first : List ℕ
-  later : List (List ℕ)
-  is : lines ≡ first ∷ later
+pub record HasLine (lines : List (List ℕ)) : Type 0 where
+  pub first : List ℕ
+  pub later : List (List ℕ)
+  pub is : lines ≡ first ∷ later
 
-first_has : (b : ℕ) (lines : List (List ℕ)) → HasLine (in_first b lines)
+pub first_has : (b : ℕ) (lines : List (List ℕ)) → HasLine (in_first b lines)
 first_has b [] = record { first = b ∷ []; later = []; is = refl }
 first_has b (line ∷ lines) = record { first = b ∷ line; later = lines; is = refl }
 
-has_line : (b : ℕ) (text : List ℕ) → HasLine (lines_in (b ∷ text))
+pub has_line : (b : ℕ) (text : List ℕ) → HasLine (lines_in (b ∷ text))
 has_line b text = by_feed (b == 10)
   where
     by_feed : (t : Bool) → HasLine (if t then [] ∷ lines_in text else in_first b (lines_in text))

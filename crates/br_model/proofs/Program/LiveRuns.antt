@@ -1,21 +1,23 @@
 -- The shortest first part of a live run is as good as any.
-use Rattle.std.proofs.Common.{◌≡◌, ℕ, Bool, true, false, not, ◌&&◌, ◌||◌, ◌⊎◌, cond, if◌then◌else◌, List, [], ◌∷◌, ◌++◌, length, Option, None, Some, IfSome, refl, sym, ◌∙◌, ap, subst, arith, nat_lt, inl, inr, true≢false}
+use Rattle.std.proofs.Common.{◌≡◌, ℕ, Bool, true, false, not, ◌&&◌, ◌||◌, ◌⊎◌, cond, if◌then◌else◌, List, [], ◌∷◌, ◌++◌, length, Option, None, Some, IfSome, refl, sym, ◌∙◌, ap, subst, inl, inr, true≢false}
 use Rattle.std.specs.Cmp.{first_so, second_so}
-use Rattle.std.specs.List.{AllByRecursion, filter, fold, list_all}
-use Rattle.std.proofs.lemmas.List.Sums.{fold-append}
+use Rattle.std.specs.List.{AllByRecursion, filter, list_all}
+use Rattle.std.proofs.lemmas.Bool.{and_from}
+use Rattle.lemmas.proofs.Numbers.{ltb-itself}
 use Rattle.br_model.specs.declared.steps.Step.{Step}
 use Rattle.br_model.specs.declared.steps.Step.TheVariants.{Publish}
-use Rattle.br_model.specs.Plane.Runs.{run, then_step}
+use Rattle.br_model.specs.Plane.Runs.{run}
 use Rattle.br_model.specs.Plane.Steps.{world_step}
-use Rattle.br_model.specs.Plane.World.{World, Stepped, first_world}
+use Rattle.br_model.specs.Plane.World.{World}
 use Rattle.br_model.specs.Program.LiveRun.{Parts, accepts_changes, begins_with_publish, ends_with_publish, frames_at, from_frame, is_drained, is_frame_at, is_live_by, is_live_run, is_ordered, is_publish, may_drain, parts_at, publishes_at_once, same_frames, same_order, until_frame, with_first}
 use Rattle.br_model.specs.Program.Runs.{setup_of}
 use Rattle.br_model.specs.Program.SameSteps.{same_step}
 use Rattle.br_model.specs.Table.Setup.{Setup}
 use Rattle.br_model.specs.Text.Scenario.{Scenario}
 use Rattle.br_model.specs.Theorems.LiveRuns.{Becomes, Empty, Kept, Taken, IsLiveRun}
-use Rattle.br_model.proofs.Program.SameFrames.{both, frames_in, frames_same}
+use Rattle.br_model.proofs.Program.SameFrames.{frames_in, frames_same}
 use Rattle.br_model.proofs.Program.SameSteps.{step_decides, steps_decide}
+use Rattle.br_model.proofs.Plane.Worlds.{worlds, run_worlds, drains_later}
 
 -- publications
 
@@ -148,18 +150,6 @@ no_order_more (s ∷ more) later all =
 
 -- what is accepted is published at once
 
-abbrev worlds : World → List Step → World
-worlds w steps = fold (λ w s. (world_step w s).0) w steps
-
-stepped_worlds : (x : Stepped) (steps : List Step) → (fold then_step x steps).0 ≡ worlds x.0 steps
-stepped_worlds x [] = refl
-stepped_worlds x (s ∷ steps) = stepped_worlds (then_step x s) steps
-
-run_worlds : (setup : Setup) (first more : List Step) → (run setup (first ++ more)).0 ≡ worlds (run setup first).0 more
-unfolding run
-run_worlds setup first more =
-    ap (λ (x : Stepped). x.0) (fold-append then_step (first_world setup, []) first more) ∙ stepped_worlds (fold then_step (first_world setup, []) first) more
-
 -- a step before the drain
 here : (a b c d : Bool) → (a || ((not b || c) && d)) ≡ true → a ≡ false → b ≡ true → c ≡ true
 here true b c d h e f = absurd (cc)
@@ -174,15 +164,11 @@ behind false true true d h e = h
 behind false true false d h e = absurd (cc)
 behind false false c d h e = h
 
-all_later : (before rest : List Step) → list_all may_drain (before ++ rest) ≡ true → list_all may_drain rest ≡ true
-all_later [] rest h = h
-all_later (s ∷ before) rest h = all_later before rest (second_so (may_drain s) (list_all may_drain (before ++ rest)) h)
-
 not_all : (before rest : List Step) → list_all may_drain rest ≡ false → list_all may_drain (before ++ rest) ≡ false
 not_all before rest h = by_all (list_all may_drain (before ++ rest)) refl
   where
     by_all : (b : Bool) → list_all may_drain (before ++ rest) ≡ b → list_all may_drain (before ++ rest) ≡ false
-    by_all true e = absurd (true≢false (sym (all_later before rest e) ∙ h))
+    by_all true e = absurd (true≢false (sym (drains_later before rest e) ∙ h))
     by_all false e = e
 
 at_once : (w : World) (before : List Step) (s : Step) (after : List Step) → publishes_at_once w (before ++ s ∷ after) ≡ true → list_all may_drain (s ∷ after) ≡ false
@@ -201,7 +187,7 @@ AtOnce w later = (before : List Step) (s : Step) (after : List Step) → later �
 
 joined : (a b c d : Bool) → (a ≡ false → b ≡ true → c ≡ true) → d ≡ true → (a || ((not b || c) && d)) ≡ true
 joined true b c d h e = refl
-joined false true c d h e = both c d (h refl refl) e
+joined false true c d h e = and_from c d (h refl refl) e
 joined false false c d h e = e
 
 each_at_once : (w : World) (later : List Step) → AtOnce w later → publishes_at_once w later ≡ true
@@ -210,11 +196,8 @@ each_at_once w (s ∷ later) h =
     joined (list_all may_drain (s ∷ later)) (accepts_changes w s) (begins_with_publish later) (publishes_at_once (world_step w s).0 later) (h [] s later refl)
     (each_at_once (world_step w s).0 later (λ before t after is. h (s ∷ before) t after (ap (λ (l : List Step). s ∷ l) is)))
 
-not_less : (n : ℕ) → nat_lt n n ≡ false
-not_less n = grind arith
-
 publishes_nothing : (w : World) (s : Step) → s ≡ Publish → accepts_changes w s ≡ false
-publishes_nothing w s e = ap (accepts_changes w) e ∙ not_less (length w.history)
+publishes_nothing w s e = ap (accepts_changes w) e ∙ ltb-itself (length w.history)
 
 quiet : (a b c d : Bool) → b ≡ false → d ≡ true → (a || ((not b || c) && d)) ≡ true
 quiet true b c d e f = refl
@@ -299,10 +282,10 @@ module _ (steps : List Step) (sc : Scenario) (l : IsLiveRun steps sc) (f : Found
   shortest : is_live_by sc steps (parts_at (until_frame sc.steps) steps) ≡ true
   shortest =
       ap (is_live_by sc steps) found_is
-      ∙ both (same_frames f.p.later rest) (order_so steps sc f.p) (frames_in f.p.later rest (f.p.later ++ rest) frames_more) (
-      both (same_order f.p.later rest) (publishes_so steps sc f.p) ((steps_decide (filter is_ordered f.p.later) (filter is_ordered rest)).1 order_more) (
-      both (publishes_at_once (run setup f.p.first).0 f.p.later) (ends_so steps sc f.p) all_at_once
-      (both (ends_with_publish steps) (is_drained setup steps (run setup steps).0) l.last l.drained)
+      ∙ and_from (same_frames f.p.later rest) (order_so steps sc f.p) (frames_in f.p.later rest (f.p.later ++ rest) frames_more) (
+      and_from (same_order f.p.later rest) (publishes_so steps sc f.p) ((steps_decide (filter is_ordered f.p.later) (filter is_ordered rest)).1 order_more) (
+      and_from (publishes_at_once (run setup f.p.first).0 f.p.later) (ends_so steps sc f.p) all_at_once
+      (and_from (ends_with_publish steps) (is_drained setup steps (run setup steps).0) l.last l.drained)
       )
       )
 

@@ -1,5 +1,5 @@
 -- A generated scenario is read as the steps of which it was made.
-use Rattle.std.proofs.Common.{◌≡◌, ℕ, zero, suc, ◌+◌, ◌*◌, ◌/◌, ◌%◌, ◌^◌, ◌<◌, ◌≤◌, ◌==◌, nat_lt, nat_le, Bool, true, false, ◌&&◌, if◌then◌else◌, List, [], ◌∷◌, ◌++◌, length, take, drop, refl, sym, ◌∙◌, ap, ap₂, arith, length-append, append_assoc, append-nil}
+use Rattle.std.proofs.Common.{◌≡◌, ℕ, zero, suc, ◌+◌, ◌*◌, ◌/◌, ◌%◌, ◌<◌, ◌≤◌, ◌==◌, nat_lt, nat_le, Bool, true, false, ◌&&◌, if◌then◌else◌, List, [], ◌∷◌, ◌++◌, length, take, drop, refl, sym, ◌∙◌, ap, ap₂, arith, length-append, append_assoc, append-nil}
 use Rattle.std.specs.Prelude.{codes}
 use Rattle.std.specs.Cmp.{first_so, second_so}
 use Rattle.std.specs.Fmt.{decimal, digits}
@@ -7,6 +7,7 @@ use Rattle.std.specs.List.{list_all, flat_map}
 use Rattle.std.specs.declared.result.Result.TheVariants.{Ok, Err}
 use Rattle.std.proofs.lemmas.Fmt.{length-decimal-le}
 use Rattle.std.proofs.lemmas.List.Folds.{list_all-append}
+use Rattle.std.proofs.lemmas.Bool.{ltb-true, le-ltb, and_from}
 use Rattle.br_model.specs.declared.domains.Edition.TheVariants.{One}
 use Rattle.br_model.specs.declared.scenario.LineWhy.TheVariants.{Long}
 use Rattle.br_model.specs.declared.scenario.Place.TheVariants.{Header, Declarations, Steps}
@@ -14,7 +15,7 @@ use Rattle.br_model.specs.declared.scenario.Said.TheVariants.{Does, Declares, Op
 use Rattle.br_model.specs.declared.steps.Command.TheVariants.{PortUp}
 use Rattle.br_model.specs.declared.steps.Step.{Step}
 use Rattle.br_model.specs.declared.steps.Step.TheVariants.{Rx, Cmd, Now, Turn, Report, Publish}
-use Rattle.br_model.specs.Data.Digits.{hex_digit, hex_of, is_digit}
+use Rattle.br_model.specs.Data.Digits.{hex_of}
 use Rattle.br_model.specs.Table.Domains.{first_chip_domain, software}
 use Rattle.br_model.specs.Program.Generator.{most_frames, station, broadcast, destination, frame, each, frame_steps, frames_from, number_of, drawn, ports, steps, head, made, made_scenario}
 use Rattle.br_model.specs.Text.Head.{port_line}
@@ -26,13 +27,13 @@ use Rattle.br_model.specs.Text.ScenarioText.{has_line, step_words, step_text}
 use Rattle.br_model.specs.Text.Spelling.{shown}
 use Rattle.br_model.specs.Text.Words.{is_word}
 use Rattle.br_model.specs.Table.Setup.{first_own}
-use Rattle.br_model.specs.Theorems.WholeLines.{is_line, is_no_feed}
+use Rattle.br_model.specs.Theorems.WholeLines.{is_line}
 use Rattle.br_model.specs.Theorems.WrittenSteps.{is_whole}
 use Rattle.br_model.proofs.Worked.Computing.{computing}
-use Rattle.br_model.proofs.Text.Reading.{closed, scenario_is, read_line, not_below}
+use Rattle.br_model.proofs.Text.Reading.{closed, scenario_is, read_line}
 use Rattle.br_model.proofs.Text.WrittenLines.{step_read, given_whole, shown_whole}
-use Rattle.br_model.proofs.Text.WrittenNumbers.{decimal_digits}
-use Rattle.br_model.proofs.Text.WrittenWords.{both}
+use Rattle.br_model.proofs.Text.Feedless.{hex_digit_feedless, decimal_feedless, lines_joined}
+use Rattle.br_model.proofs.Data.Hex.{length-hex_of}
 
 -- a step whose line is read back
 
@@ -59,7 +60,7 @@ says : (r : Roster) (s : Step) → r ≡ (at 0 []).roster → IsGood s → whole
 unfolding computing
 says r s is h =
     ap (λ (r : Roster). whole_says r (step_words ports s)) is
-    ∙ ap (λ b. if b then Err Long else line_says (at 0 []).roster (step_words ports s)) (not_below longest_line (length (step_words ports s)) h.short)
+    ∙ ap (λ b. if b then Err Long else line_says (at 0 []).roster (step_words ports s)) (le-ltb longest_line (length (step_words ports s)) h.short)
     ∙ step_read (at 0 []).roster s refl h.comes refl h.line
     ∙ ap (λ (t : Step). Ok (Does t)) (given_whole s h.whole)
 
@@ -82,34 +83,11 @@ all_read (s ∷ l) n done more h =
 hex_feedless : (bytes : List ℕ) → list_all is_byte bytes ≡ true → is_line (hex_of bytes) ≡ true
 hex_feedless [] h = refl
 hex_feedless (b ∷ bytes) h =
-    let fits : b < 256 = small b (first_so _ _ h) in
-    both _ _ (digit (b / 16) (omega arith)) (both _ _ (digit (b % 16) (omega arith)) (hex_feedless bytes (second_so _ _ h)))
-  where
-    small : (b : ℕ) → nat_lt b 256 ≡ true → b < 256
-    small b h = grind arith
-
-    digit : (n : ℕ) → n < 16 → is_no_feed (hex_digit n) ≡ true
-    digit n h = grind arith
-
-length_hex : (bytes : List ℕ) → length (hex_of bytes) ≡ 2 * length bytes
-length_hex [] = refl
-length_hex (b ∷ bytes) = omega (arith, length_hex bytes)
-
-decimal_feedless : (n : ℕ) → n < 2 ^ 64 → is_line (decimal n) ≡ true
-decimal_feedless n h = all (decimal n) (decimal_digits n h)
-  where
-    digit : (c : ℕ) → is_digit c ≡ true → is_no_feed c ≡ true
-    digit c h = grind arith
-
-    all : (w : List ℕ) → list_all is_digit w ≡ true → is_line w ≡ true
-    all [] h = refl
-    all (c ∷ w) h = both _ _ (digit c (first_so _ _ h)) (all w (second_so _ _ h))
-
-joined : (a b : List ℕ) → is_line a ≡ true → is_line b ≡ true → is_line (a ++ b) ≡ true
-joined a b h k = list_all-append is_no_feed a b ∙ both _ _ h k
+    let fits : b < 256 = ltb-true b 256 (first_so _ _ h) in
+    and_from _ _ (hex_digit_feedless (b / 16) (omega arith)) (and_from _ _ (hex_digit_feedless (b % 16) (omega arith)) (hex_feedless bytes (second_so _ _ h)))
 
 is_station_byte : (s : ℕ) → s < 9 → list_all is_byte (station s) ≡ true
-is_station_byte s h = both (is_byte (0x10 + s)) true (small s h) refl
+is_station_byte s h = and_from (is_byte (0x10 + s)) true (small s h) refl
   where
     small : (s : ℕ) → s < 9 → is_byte (0x10 + s) ≡ true
     small s h = grind arith
@@ -126,8 +104,8 @@ frame_bytes : (n : ℕ) → list_all is_byte (frame n) ≡ true
 frame_bytes n =
     let d : ℕ = n / 48 % 9 in
     list_all-append is_byte (destination d) _
-    ∙ both _ _ (destination_bytes (d == 8) d (omega arith))
-    (list_all-append is_byte (station (n / 6 % 8)) (0x88 ∷ 0xB5 ∷ 0 ∷ 0 ∷ []) ∙ both _ _ (is_station_byte (n / 6 % 8) (omega arith)) refl)
+    ∙ and_from _ _ (destination_bytes (d == 8) d (omega arith))
+    (list_all-append is_byte (station (n / 6 % 8)) (0x88 ∷ 0xB5 ∷ 0 ∷ 0 ∷ []) ∙ and_from _ _ (is_station_byte (n / 6 % 8) (omega arith)) refl)
 
 frame_length : (n : ℕ) → length (frame n) ≡ 16
 frame_length n =
@@ -143,14 +121,14 @@ entry_good port bytes few declared sized are =
     let as_is : shown bytes ≡ bytes = shown_whole bytes (omega arith) (omega arith) in
     let digits : length (decimal port) ≤ 20 = length-decimal-le 20 port (omega arith) (omega arith) (omega arith) in
     record {
-      feedless = ap (λ (shown : List ℕ). is_line (decimal port ++ (32 ∷ hex_of shown))) as_is ∙ joined (decimal port) (32 ∷ hex_of bytes) (decimal_feedless port (omega arith)) (hex_feedless bytes are);
-      short = rw as_is (omega (arith, digits, sized, length-append (decimal port) (32 ∷ hex_of bytes), length_hex bytes));
+      feedless = ap (λ (shown : List ℕ). is_line (decimal port ++ (32 ∷ hex_of shown))) as_is ∙ lines_joined (decimal port) (32 ∷ hex_of bytes) (decimal_feedless port (omega arith)) (hex_feedless bytes are);
+      short = rw as_is (omega (arith, digits, sized, length-append (decimal port) (32 ∷ hex_of bytes), length-hex_of bytes));
       line =
           let in_range : (is_word (shown bytes) && list_all is_byte (shown bytes)) ≡ true =
-          ap (λ (shown : List ℕ). is_word shown && list_all is_byte shown) as_is ∙ both (is_word bytes) _ (some_word bytes sized) are in
-          both (has_number ports port) _ declared (both (is_word (shown bytes) && list_all is_byte (shown bytes)) true in_range refl);
+          ap (λ (shown : List ℕ). is_word shown && list_all is_byte shown) as_is ∙ and_from (is_word bytes) _ (some_word bytes sized) are in
+          and_from (has_number ports port) _ declared (and_from (is_word (shown bytes) && list_all is_byte (shown bytes)) true in_range refl);
       comes = refl;
-      whole = both _ _ (some (length bytes) sized) (not_long (length bytes) sized);
+      whole = and_from _ _ (some (length bytes) sized) (not_long (length bytes) sized);
     }
   where
     some : (n : ℕ) → n ≡ 16 → nat_lt 0 n ≡ true

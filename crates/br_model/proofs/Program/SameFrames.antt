@@ -1,6 +1,6 @@
 -- The same frames at each port, as the test says it and as lists.
-use Rattle.std.proofs.Common.{◌≡◌, ℕ, ◌&&◌, Bool, true, false, cond, List, [], ◌∷◌, ◌++◌, refl, sym, ap, ◌∙◌, subst}
-use Rattle.std.proofs.lemmas.Bool.{eqb-true}
+use Rattle.std.proofs.Common.{◌≡◌, ℕ, Bool, true, false, cond, List, [], ◌∷◌, ◌++◌, refl, sym, ap, ◌∙◌, subst}
+use Rattle.std.proofs.lemmas.Bool.{eqb-true, and_from}
 use Rattle.std.specs.Cmp.{first_so, second_so}
 use Rattle.std.specs.List.{list_all}
 use Rattle.std.proofs.lemmas.List.Elements.{filter-append}
@@ -49,10 +49,6 @@ frames_at_step : (xs ys : List Step) (s : Step) → ((q : ℕ) → frames_at q x
 frames_at_step xs ys (Rx port bytes) h = (steps_decide (frames_at port xs) (frames_at port ys)).1 (h port)
 frames_at_step xs ys s h = refl
 
-pub both : (b c : Bool) → b ≡ true → c ≡ true → (b && c) ≡ true
-both true c e f = f
-both false c e f = absurd (cc)
-
 pub frames_in : (xs ys steps : List Step) → ((q : ℕ) → frames_at q xs ≡ frames_at q ys) → list_all (same_frames_at xs ys) steps ≡ true
 frames_in xs ys [] h = refl
-frames_in xs ys (s ∷ steps) h = both (same_frames_at xs ys s) (list_all (same_frames_at xs ys) steps) (frames_at_step xs ys s h) (frames_in xs ys steps h)
+frames_in xs ys (s ∷ steps) h = and_from (same_frames_at xs ys s) (list_all (same_frames_at xs ys) steps) (frames_at_step xs ys s h) (frames_in xs ys steps h)

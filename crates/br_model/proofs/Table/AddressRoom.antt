@@ -1,9 +1,11 @@
 -- A change that fits leaves no more addresses than there may be, and so does each front of a history.
-use Rattle.std.proofs.Common.{◌≡◌, ℕ, ◌+◌, ◌≤◌, Bool, true, false, T, not, cond, ◌||◌, List, [], ◌∷◌, length, take, refl, sym, arith, subst}
+use Rattle.std.proofs.Common.{◌≡◌, ℕ, ◌+◌, ◌≤◌, true, false, not, cond, ◌||◌, List, [], ◌∷◌, length, take, refl, arith}
 use Rattle.std.proofs.lemmas.Bool.{ltb-true}
 use Rattle.std.specs.Prelude.{nat_lt, is_some}
 use Rattle.std.specs.FinMap.Entries.{length-put, is_sorted-put, is_sorted-where_key}
 use Rattle.std.specs.Ordering.{eq_by_cmp}
+use Rattle.std.proofs.lemmas.Float.{T_from_true}
+use Rattle.lemmas.proofs.Tests.{true_from_T}
 use Rattle.br_model.specs.declared.change.Change.{Change}
 use Rattle.br_model.specs.declared.change.Change.TheVariants.{AddrPut, AddrDel}
 use Rattle.br_model.specs.declared.change.Kind.{Kind}
@@ -21,13 +23,6 @@ pub record HasRoom (es : Entries) : Type 0 where
   pub ascend : is_ascending pair_cmp es ≡ true
   pub few : length es ≤ most_addresses
 
-true_T : (b : Bool) → b ≡ true → T b
-true_T b e = subst T (sym e) tt
-
-of_T : (b : Bool) → T b → b ≡ true
-of_T true h = refl
-of_T false h = elim h [ ]
-
 fewer : (es : Entries) (k : ℕ × ℕ) → length (without pair_cmp es k) ≤ length es
 fewer [] k = omega arith
 fewer (e ∷ es) k =
@@ -36,7 +31,7 @@ fewer (e ∷ es) k =
 
 fits-put : (es : Entries) (k : ℕ × ℕ) (x : ℕ × Kind) → HasRoom es → (is_some (get pair_cmp es k) || nat_lt (length es) most_addresses) ≡ true → length (put pair_cmp es k x) ≤ most_addresses
 fits-put es k x room fit =
-    let more : length (put pair_cmp es k x) ≡ cond (is_some (get pair_cmp es k)) (length es) (length es + 1) = length-put pair_cmp pair_total k x es (true_T _ room.ascend) in
+    let more : length (put pair_cmp es k x) ≡ cond (is_some (get pair_cmp es k)) (length es) (length es + 1) = length-put pair_cmp pair_total k x es (T_from_true _ room.ascend) in
     (elim (is_some (get pair_cmp es k)) as (λ b. length (put pair_cmp es k x) ≡ cond b (length es) (length es + 1) → (b || nat_lt (length es) most_addresses) ≡ true → length (put pair_cmp es k x) ≤ most_addresses) [
       | true ↦ λ e f. omega (arith, e, room.few)
       | false ↦ λ e f. omega (arith, e, ltb-true _ _ f)
@@ -44,11 +39,11 @@ fits-put es k x room fit =
 
 pub room-apply : (t : Table) (c : Change) → HasRoom t.addr → fits t c ≡ true → HasRoom (apply t c).addr
 room-apply t (AddrPut v a p kind) room fit = record {
-  ascend = of_T _ (is_sorted-put pair_cmp pair_total (v, a) (p, kind) t.addr (true_T _ room.ascend));
+  ascend = true_from_T _ (is_sorted-put pair_cmp pair_total (v, a) (p, kind) t.addr (T_from_true _ room.ascend));
   few = fits-put t.addr (v, a) (p, kind) room fit;
 }
 room-apply t (AddrDel v a) room fit = record {
-  ascend = of_T _ (is_sorted-where_key pair_cmp (λ q. not (eq_by_cmp pair_cmp (v, a) q)) t.addr (true_T _ room.ascend));
+  ascend = true_from_T _ (is_sorted-where_key pair_cmp (λ q. not (eq_by_cmp pair_cmp (v, a) q)) t.addr (T_from_true _ room.ascend));
   few = omega (arith, fewer t.addr (v, a), room.few);
 }
 room-apply t c room fit = room

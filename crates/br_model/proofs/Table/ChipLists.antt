@@ -1,12 +1,13 @@
 -- Lists of what is kept of the chips, by the numbers of their domains.
 use Rattle.std.proofs.Common.{◌≡◌, ℕ, zero, suc, ◌+◌, ◌<◌, Bool, true, false, cond, not, List, [], ◌∷◌, map, length, drop, set, get_or, slice_get, Option, None, Some, option_map, refl, sym, ap, ◌∙◌, arith}
-use Rattle.std.proofs.lemmas.Bool.{eqb-true, eq-eqb, or_parts, and_parts}
+use Rattle.std.proofs.lemmas.Bool.{eqb-true, eq-eqb, or_parts, and_parts, not-true}
 use Rattle.std.proofs.lemmas.List.{at_drop_more, get_or-drop, drop-set-lt, drop-drop}
 use Rattle.std.proofs.lemmas.List.Sums.{sum_by-cons}
 use Rattle.std.proofs.lemmas.Simd.{map-map}
 use Rattle.std.proofs.lemmas.Option.{slice_get-get_or}
 use Rattle.std.specs.Prelude.{◌==◌, ◌||◌, ◌&&◌, is_some}
 use Rattle.std.specs.List.{filter, find, list_any, sum_by}
+use Rattle.lemmas.proofs.Tests.{or-true}
 use Rattle.br_model.specs.Plane.Chip.{Chip, chip_in, put_chip, first_chip}
 use Rattle.br_model.specs.Table.Domains.{Domains, chip_domains, has_chip, software}
 
@@ -136,11 +137,7 @@ module _ {S : Type 0} (chip : S → Chip) where
   there (x ∷ states) zero s e =
       let same : x ≡ s = cc in
       ap (λ b. b || list_any (λ k. k == (chip s).dom) (doms states)) (eq-eqb (chip x).dom (chip s).dom (ap (λ (y : S). (chip y).dom) same))
-  there (x ∷ states) (suc i) s e = ap (λ b. ((chip x).dom == (chip s).dom) || b) (there states i s e) ∙ by ((chip x).dom == (chip s).dom)
-    where
-      by : (b : Bool) → (b || true) ≡ true
-      by true = refl
-      by false = refl
+  there (x ∷ states) (suc i) s e = ap (λ b. ((chip x).dom == (chip s).dom) || b) (there states i s e) ∙ or-true ((chip x).dom == (chip s).dom)
 
   -- it is the one of its domain
   pub put-place : (states : List S) (i : ℕ) (old new : S) → apart (doms states) ≡ true → slice_get states i ≡ Some old → (chip new).dom ≡ (chip old).dom
@@ -150,11 +147,7 @@ module _ {S : Type 0} (chip : S → Chip) where
       let same : x ≡ old = cc in
       let is : (chip new).dom ≡ (chip x).dom = own ∙ sym (ap (λ (y : S). (chip y).dom) same) in
       let parts = and_parts (not (list_any (λ k. k == (chip x).dom) (doms states))) (apart (doms states)) h in
-      sym (λ i. cond (eq-eqb (chip x).dom (chip new).dom (sym is) i) (chip new) (chip x) ∷ none-put (chip new) states (ap (λ n. list_any (λ k. k == n) (doms states)) is ∙ is-not _ parts.0) i)
-    where
-      is-not : (b : Bool) → not b ≡ true → b ≡ false
-      is-not true h = absurd (cc)
-      is-not false h = refl
+      sym (λ i. cond (eq-eqb (chip x).dom (chip new).dom (sym is) i) (chip new) (chip x) ∷ none-put (chip new) states (ap (λ n. list_any (λ k. k == n) (doms states)) is ∙ not-true _ parts.0) i)
   put-place (x ∷ states) (suc i) old new h e own =
       let parts = and_parts (not (list_any (λ k. k == (chip x).dom) (doms states))) (apart (doms states)) h in
       (elim ((chip x).dom == (chip new).dom) as (λ b. ((chip x).dom == (chip new).dom) ≡ b → (chip x) ∷ chips_of (set states i new) ≡ cond b (chip new) (chip x) ∷ put_chip (chips_of states) (chip new)) [

@@ -1,10 +1,11 @@
 -- Which domains have a chip.
-use Rattle.std.proofs.Common.{◌≡◌, ℕ, zero, suc, ◌+◌, ◌≤◌, Bool, true, false, List, [], ◌∷◌, map, Option, None, Some, refl, ap, ◌∙◌, arith}
+use Rattle.std.proofs.Common.{◌≡◌, ℕ, zero, suc, ◌+◌, ◌≤◌, true, false, List, [], ◌∷◌, map, Option, None, Some, refl, ap, ◌∙◌, arith}
 use Rattle.std.proofs.lemmas.Bool.{eqb-true}
 use Rattle.std.proofs.lemmas.Map.Views.{any-filter_same}
 use Rattle.std.specs.Prelude.{◌==◌, ◌||◌, ◌&&◌}
 use Rattle.std.specs.List.{list_any}
 use Rattle.std.specs.Option.{option_eq}
+use Rattle.lemmas.proofs.Tests.{and-true}
 use Rattle.br_model.specs.Table.Domains.{chips_among, entries_from, first_chip_domain, last_chip}
 
 -- a domain is among those of the entries where it is in a place
@@ -21,7 +22,7 @@ chip-declared declared d within first soft =
     (λ k same. ap (λ i. i == first_chip_domain || list_any (λ e. e == i) declared) (eqb-true k d same)) (1 ∷ 2 ∷ 3 ∷ 4 ∷ [])
     ∙ ap (λ b. (b || list_any (λ e. e == d) declared) && list_any (λ k. k == d) (1 ∷ 2 ∷ 3 ∷ 4 ∷ [])) first
     ∙ ap (λ b. list_any (λ e. e == d) declared && b) (among d within soft)
-    ∙ both (list_any (λ e. e == d) declared)
+    ∙ and-true (list_any (λ e. e == d) declared)
   where
     among : (d : ℕ) → d ≤ last_chip → (d == 0) ≡ false → list_any (λ k. k == d) (1 ∷ 2 ∷ 3 ∷ 4 ∷ []) ≡ true
     among zero w s = absurd (cc)
@@ -30,7 +31,3 @@ chip-declared declared d within first soft =
     among (suc (suc (suc zero))) w s = refl
     among (suc (suc (suc (suc zero)))) w s = refl
     among (suc (suc (suc (suc (suc d))))) w s = absurd (omega (arith, w))
-
-    both : (b : Bool) → (b && true) ≡ b
-    both true = refl
-    both false = refl

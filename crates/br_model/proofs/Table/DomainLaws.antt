@@ -1,24 +1,18 @@
 -- Domains that are kept in a list with a place for each port.
-use Rattle.std.proofs.Common.{◌≡◌, ℕ, zero, suc, ◌+◌, ◌<◌, true, false, cond, List, [], ◌∷◌, length, get_or, set, Option, None, Some, refl, sym, ap, ◌∙◌, arith}
+use Rattle.std.proofs.Common.{◌≡◌, ℕ, zero, suc, ◌+◌, ◌<◌, cond, List, [], ◌∷◌, length, get_or, set, Option, None, Some, refl, sym, ap, ◌∙◌, arith}
 use Rattle.std.specs.declared.cmp.Ordering.TheVariants.{Less, Equal, Greater}
-use Rattle.std.specs.Ordering.{nat_cmp, eq_by_cmp}
-use Rattle.std.specs.Cmp.{nat_cmp_is, unsigned_tied}
+use Rattle.std.specs.Ordering.{nat_cmp}
+use Rattle.std.specs.Cmp.{nat_cmp_is}
 use Rattle.std.specs.FinMap.Entries.{by_order}
-use Rattle.std.proofs.lemmas.Bool.{eq-eqb, ne_eqb}
+use Rattle.lemmas.proofs.Orders.{eq_by_cmp-ne, eq_by_cmp-eq}
 use Rattle.br_model.specs.Table.Domains.{entries_from}
 use Rattle.br_model.specs.Data.Maps.{get, put}
-
-apart : (q n : ℕ) → (q ≡ n → ⊥) → eq_by_cmp nat_cmp q n ≡ false
-apart q n h = unsigned_tied q n ∙ ne_eqb q n h
-
-same : (q n : ℕ) → q ≡ n → eq_by_cmp nat_cmp q n ≡ true
-same q n h = unsigned_tied q n ∙ eq-eqb q n h
 
 before : (n q : ℕ) (places : List (Option ℕ)) → q < n → get nat_cmp (entries_from n places) q ≡ None
 before n q [] h = refl
 before n q (None ∷ places) h = before (n + 1) q places (omega arith)
 before n q (Some d ∷ places) h =
-    ap (λ b. cond b (Some d) (get nat_cmp (entries_from (n + 1) places) q)) (apart q n (λ e. omega arith))
+    ap (λ b. cond b (Some d) (get nat_cmp (entries_from (n + 1) places) q)) (eq_by_cmp-ne q n (λ e. omega arith))
     ∙ before (n + 1) q places (omega arith)
 
 -- the entry of the k-th place
@@ -26,13 +20,13 @@ pub get-entries : (n k : ℕ) (places : List (Option ℕ)) → get nat_cmp (entr
 get-entries n zero [] = refl
 get-entries n (suc k) [] = refl
 get-entries n zero (None ∷ places) = before (n + 1) (n + 0) places (omega arith)
-get-entries n zero (Some d ∷ places) = ap (λ b. cond b (Some d) (get nat_cmp (entries_from (n + 1) places) (n + 0))) (same (n + 0) n (omega arith))
+get-entries n zero (Some d ∷ places) = ap (λ b. cond b (Some d) (get nat_cmp (entries_from (n + 1) places) (n + 0))) (eq_by_cmp-eq (n + 0) n (omega arith))
 get-entries n (suc k) (None ∷ places) =
     let e : n + suc k ≡ (n + 1) + k = omega arith in
     ap (λ q. get nat_cmp (entries_from (n + 1) places) q) e ∙ get-entries (n + 1) k places
 get-entries n (suc k) (Some d ∷ places) =
     let e : n + suc k ≡ (n + 1) + k = omega arith in
-    ap (λ b. cond b (Some d) (get nat_cmp (entries_from (n + 1) places) (n + suc k))) (apart (n + suc k) n (λ x. omega arith))
+    ap (λ b. cond b (Some d) (get nat_cmp (entries_from (n + 1) places) (n + suc k))) (eq_by_cmp-ne (n + suc k) n (λ x. omega arith))
     ∙ ap (λ q. get nat_cmp (entries_from (n + 1) places) q) e ∙ get-entries (n + 1) k places
 
 -- a key below all goes first

@@ -8,6 +8,7 @@ use Rattle.std.specs.FinMap.Entries.{find-put}
 use Rattle.std.proofs.lemmas.Bool.{eq-eqb, ne_eqb}
 use Rattle.std.proofs.lemmas.Bool.Decides.{eqb_tells}
 use Rattle.std.proofs.lemmas.Cmp.{nat_cmp_total}
+use Rattle.lemmas.proofs.Tests.{and-not}
 use Rattle.port_sets.specs.Numbers.{has_number, numbers_below}
 use Rattle.port_sets.proofs.Numbers.{has-below, none_below, same_below}
 use Rattle.br_model.specs.declared.domains.Edition.{Edition}
@@ -35,7 +36,7 @@ members-put old lost p d domain new within h made low = elim (eqb_tells domain d
       get_or-set_other lost d domain new [] e.1
       ∙ h domain low
       ∙ same_below _ _ port_places (λ q below.
-      kept (q == p) (has_number (get_or old domain []) q)
+      and-not (has_number (get_or old domain []) q) (q == p)
       ∙ sym (ap (λ b. cond (q == p) b (has_number (get_or old domain []) q)) (ne_eqb d domain (λ x. e.1 (sym x)))))
 ]
   where
@@ -43,12 +44,6 @@ members-put old lost p d domain new within h made low = elim (eqb_tells domain d
     given true c = refl
     given false true = refl
     given false false = refl
-
-    kept : (b c : Bool) → (c && not b) ≡ cond b false c
-    kept true true = refl
-    kept true false = refl
-    kept false true = refl
-    kept false false = refl
 
 -- the ports of a domain when a port is declared
 pub ports_in-put : (m : Domains) (p d domain : ℕ) (old new : List ℕ) → old ≡ ports_in m domain

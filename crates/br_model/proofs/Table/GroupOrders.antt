@@ -1,11 +1,11 @@
 -- The orders of groups, of pairs of VLAN and group, and of memberships.
-use Rattle.std.proofs.Common.{◌≡◌, ℕ, ◌&&◌, refl, ap, ap₂, ◌∙◌}
+use Rattle.std.proofs.Common.{◌≡◌, ℕ, ◌&&◌, refl, ap, ap₂, ◌∙◌, sym}
 use Rattle.std.specs.Prelude.{◌==◌}
 use Rattle.std.specs.Cmp.{IsTotalOrder, then_total, on_total, nat_cmp_total, unsigned_ties}
 use Rattle.std.specs.FinMap.{nat_cmp-IsAntisymmetric}
 use Rattle.std.specs.Ordering.{nat_cmp, ordering_then, ordering_reverse, is_eq}
-use Rattle.std.specs.declared.cmp.Ordering.{Ordering}
-use Rattle.std.specs.declared.cmp.Ordering.TheVariants.{Less, Equal, Greater}
+use Rattle.std.specs.declared.cmp.Ordering.TheVariants.{Less, Equal}
+use Rattle.lemmas.proofs.Orders.{then-equal, then_assoc, is_eq-then, is_eq-reverse}
 use Rattle.br_model.specs.declared.group.Group.{Group}
 use Rattle.br_model.specs.declared.group.Group.TheVariants.{V4, V6}
 use Rattle.br_model.specs.Table.GroupPairs.{GroupPair, group_pair_cmp}
@@ -43,45 +43,25 @@ pair_total = then_total (on_total (λ k. k.0) nat_cmp_total) (on_total (λ k. k.
 pub membership_total : IsTotalOrder membership_cmp
 membership_total = then_total (on_total (λ m. m.0) nat_cmp_total) (then_total (on_total (λ m. m.1) group_total) (on_total (λ m. m.2) nat_cmp_total))
 
-equal_groups : (x y : Group) → group_cmp x y ≡ Equal → x ≡ y
+pub equal_groups : (x y : Group) → group_cmp x y ≡ Equal → x ≡ y
 equal_groups (V4 m) (V4 n) e = ap V4 (nat_cmp-IsAntisymmetric m n e)
 equal_groups (V4 m) (V6 n) e = absurd (cc (e))
 equal_groups (V6 m) (V4 n) e = absurd (cc (e))
 equal_groups (V6 m) (V6 n) e = ap V6 (nat_cmp-IsAntisymmetric m n e)
-
-then-equal : (a b : Ordering) → ordering_then a b ≡ Equal → (a ≡ Equal) × (b ≡ Equal)
-then-equal Less b e = absurd (cc (e))
-then-equal Equal b e = (refl, e)
-then-equal Greater b e = absurd (cc (e))
 
 pub equal_pairs : (k j : GroupPair) → group_pair_cmp k j ≡ Equal → k ≡ j
 equal_pairs k j e =
     let parts = then-equal (nat_cmp k.0 j.0) (group_cmp k.1 j.1) e in
     ap₂ (λ v g. (v, g)) (nat_cmp-IsAntisymmetric k.0 j.0 parts.0) (equal_groups k.1 j.1 parts.1)
 
-associates : (a b c : Ordering) → ordering_then a (ordering_then b c) ≡ ordering_then (ordering_then a b) c
-associates Less b c = refl
-associates Equal b c = refl
-associates Greater b c = refl
-
 -- first by VLAN and group, then by port
 pub by_pair : (k j : GroupPair) (p q : ℕ) → membership_cmp (k.0, k.1, p) (j.0, j.1, q) ≡ ordering_then (group_pair_cmp k j) (nat_cmp p q)
-by_pair k j p q = associates (nat_cmp k.0 j.0) (group_cmp k.1 j.1) (nat_cmp p q)
-
-is_eq-then : (a b : Ordering) → (is_eq a && is_eq b) ≡ is_eq (ordering_then a b)
-is_eq-then Less b = refl
-is_eq-then Equal b = refl
-is_eq-then Greater b = refl
-
-is_eq-reverse : (r : Ordering) → is_eq (ordering_reverse r) ≡ is_eq r
-is_eq-reverse Less = refl
-is_eq-reverse Equal = refl
-is_eq-reverse Greater = refl
+by_pair k j p q = then_assoc (nat_cmp k.0 j.0) (group_cmp k.1 j.1) (nat_cmp p q)
 
 -- the test of a membership of this VLAN and group
 pub is_of_pair : (k j : GroupPair) → (j.0 == k.0 && is_eq (group_cmp j.1 k.1)) ≡ is_eq (group_pair_cmp k j)
 is_of_pair k j =
     ap (λ b. b && is_eq (group_cmp j.1 k.1)) (unsigned_ties j.0 k.0)
-    ∙ is_eq-then (nat_cmp j.0 k.0) (group_cmp j.1 k.1)
+    ∙ sym (is_eq-then (nat_cmp j.0 k.0) (group_cmp j.1 k.1))
     ∙ ap is_eq (pair_total.antisymm j k)
     ∙ is_eq-reverse (group_pair_cmp k j)

@@ -4,13 +4,15 @@ use Rattle.std.specs.Prelude.{is_some, nat_lt}
 use Rattle.std.specs.List.{filter, list_any}
 use Rattle.std.specs.declared.cmp.Ordering.{Ordering}
 use Rattle.std.specs.declared.cmp.Ordering.TheVariants.{Less, Equal, Greater}
-use Rattle.std.specs.Ordering.{nat_cmp, eq_by_cmp, is_eq, match_ordering, ordering_then}
+use Rattle.std.specs.Ordering.{nat_cmp, eq_by_cmp, is_eq, match_ordering}
 use Rattle.std.specs.Cmp.{unsigned_tied}
 use Rattle.std.specs.FinMap.Entries.{is_some-find, is_sorted, find-put, find-where_key, is_sorted-put, is_sorted-where_key, length-put, length_without, same_entries}
-use Rattle.std.proofs.lemmas.Bool.{eqb-true, ltb-true}
+use Rattle.std.proofs.lemmas.Bool.{eqb-true, ltb-true, or_right}
 use Rattle.std.proofs.lemmas.Cmp.{eq_by_cmp_equiv}
 use Rattle.std.proofs.lemmas.List.{length-map}
 use Rattle.std.proofs.lemmas.Map.Views.{any-filter_same}
+use Rattle.lemmas.proofs.Tests.{or_twice, or_swap}
+use Rattle.lemmas.proofs.Orders.{then-equal, is_eq-true}
 use Rattle.br_model.specs.Table.GroupPairs.{GroupPair, group_pair_cmp, group_pairs, has_room, max_pairs}
 use Rattle.br_model.specs.Table.Groups.{Membership, membership_cmp}
 use Rattle.br_model.specs.Data.Maps.{get, put, without, has, joined, parted}
@@ -56,27 +58,12 @@ same_units (Some x) (Some y) h = refl
 
 -- ---- members that join and part
 
-or_twice : (b c : Bool) → (b || c) ≡ (b || (b || c))
-or_twice true c = refl
-or_twice false c = refl
-
-or_swap : (a b c : Bool) → (a || (b || c)) ≡ (b || (a || c))
-or_swap true true c = refl
-or_swap true false c = refl
-or_swap false true c = refl
-or_swap false false c = refl
-
-then_equal : (r s : Ordering) → ordering_then r s ≡ Equal → (r ≡ Equal) × (s ≡ Equal)
-then_equal Less s e = absurd (cc)
-then_equal Equal s e = (refl, e)
-then_equal Greater s e = absurd (cc)
-
 number_equal : (m n : ℕ) → nat_cmp m n ≡ Equal → m ≡ n
 number_equal m n e = eqb-true m n (sym (unsigned_tied m n) ∙ ap is_eq e)
 
 pub equal_members : (x y : Membership) → membership_cmp x y ≡ Equal → x ≡ y
 equal_members x y e =
-    let parts = then_equal (group_pair_cmp (x.0, x.1) (y.0, y.1)) (nat_cmp x.2 y.2) (sym (by_pair (x.0, x.1) (y.0, y.1) x.2 y.2) ∙ e) in
+    let parts = then-equal (group_pair_cmp (x.0, x.1) (y.0, y.1)) (nat_cmp x.2 y.2) (sym (by_pair (x.0, x.1) (y.0, y.1) x.2 y.2) ∙ e) in
     ap₂ (λ (k : GroupPair) q. (k.0, k.1, q)) (equal_pairs (x.0, x.1) (y.0, y.1) parts.0) (number_equal x.2 y.2 parts.1)
 
 pub any-joined : (test : Membership → Bool) (ms : List Membership) (m : Membership) → list_any test (joined membership_cmp ms m) ≡ (test m || list_any test ms)
@@ -105,13 +92,8 @@ pair-parted ms m k other =
 
 -- ---- how many pairs there are
 
-pair_equal : (j k : GroupPair) → eq_by_cmp group_pair_cmp j k ≡ true → j ≡ k
-pair_equal j k e = equal_pairs j k (tells (group_pair_cmp j k) e)
-  where
-    tells : (r : Ordering) → is_eq r ≡ true → r ≡ Equal
-    tells Less h = absurd (cc)
-    tells Equal h = refl
-    tells Greater h = absurd (cc)
+pub pair_equal : (j k : GroupPair) → eq_by_cmp group_pair_cmp j k ≡ true → j ≡ k
+pair_equal j k e = equal_pairs j k (is_eq-true (group_pair_cmp j k) e)
 
 count : (ms : List Membership) → length (group_pairs ms) ≡ length (pairs ms)
 count ms = sym (ap length (keys-pairs ms)) ∙ length-map (pairs ms) (λ e. e.0)
@@ -124,10 +106,6 @@ same_pairs ms es sorted same =
 or_more : (found a b : Bool) → (a ≡ true → b ≡ true) → (found || a) ≡ true → (found || b) ≡ true
 or_more true a b rest e = refl
 or_more false a b rest e = rest e
-
-or_right : (found b : Bool) → b ≡ true → (found || b) ≡ true
-or_right true b e = refl
-or_right false b e = e
 
 any-filter : (p q : Membership → Bool) (ms : List Membership) → list_any p (filter q ms) ≡ true → list_any p ms ≡ true
 any-filter p q [] h = h

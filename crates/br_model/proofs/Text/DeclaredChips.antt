@@ -5,19 +5,15 @@ use Rattle.std.specs.FinMap.Entries.{by_order, find-put}
 use Rattle.std.specs.List.{filter, fold, list_all, list_any}
 use Rattle.std.specs.Ordering.{nat_cmp, is_eq}
 use Rattle.std.specs.Cmp.{first_so, second_so, unsigned_tied}
-use Rattle.std.proofs.lemmas.Bool.{both_ways, eq-eqb, ne_eqb}
+use Rattle.std.proofs.lemmas.Bool.{both_ways, eq-eqb, ne_eqb, or_right}
 use Rattle.std.proofs.lemmas.Cmp.{nat_cmp_total}
+use Rattle.lemmas.proofs.Tests.{or_swap, or-false, or_exchange}
 use Rattle.br_model.specs.declared.domains.Edition.{Edition}
 use Rattle.br_model.specs.Text.Declarations.{are_declared}
 use Rattle.br_model.specs.Table.Domains.{host, software, first_chip_domain, chip_domains}
 use Rattle.br_model.specs.Data.Maps.{get, put}
 use Rattle.br_model.specs.Text.Roster.{Entry, has_number, chips_of, domains_of}
 use Rattle.br_model.proofs.Text.WrittenNames.{fits, at_least}
-
-swapped : (a b c : Bool) → (a || (b || c)) ≡ (b || (a || c))
-swapped true true c = refl
-swapped true false c = refl
-swapped false b c = refl
 
 -- a new entry is one more
 any-put : (p : ℕ × ℕ → Bool) (m : List (ℕ × ℕ)) (k v : ℕ) → get nat_cmp m k ≡ None → list_any p (put nat_cmp m k v) ≡ (p (k, v) || list_any p m)
@@ -26,7 +22,7 @@ any-put p (e ∷ m) k v absent =
     (elim (nat_cmp k e.0) as (λ r. cond (is_eq r) (Some e.1) (get nat_cmp m k) ≡ None → list_any p (by_order r ((k, v) ∷ e ∷ m) ((e.0, v) ∷ m) (e ∷ put nat_cmp m k v)) ≡ (p (k, v) || (p e || list_any p m))) [
       | Less ↦ λ h. refl
       | Equal ↦ λ h. absurd (cc)
-      | Greater ↦ λ h. ap (λ b. p e || b) (any-put p m k v h) ∙ swapped (p e) (p (k, v)) (list_any p m)
+      | Greater ↦ λ h. ap (λ b. p e || b) (any-put p m k v h) ∙ or_swap (p e) (p (k, v)) (list_any p m)
     ]) absent
 
 abbrev domains_from : List (ℕ × ℕ) → List Entry → List (ℕ × ℕ)
@@ -36,33 +32,20 @@ domains_from m ports = fold (λ m e. put nat_cmp m e.port e.dom) m ports
 abbrev AreNew : List (ℕ × ℕ) → List Entry → Type 0
 AreNew m ports = (port : ℕ) → has_number ports port ≡ true → get nat_cmp m port ≡ None
 
-or-right : (a b : Bool) → b ≡ true → (a || b) ≡ true
-or-right true b h = refl
-or-right false b h = h
-
 still-new : (m : List (ℕ × ℕ)) (e : Entry) (ports : List Entry) → are_declared (e ∷ ports) ≡ true → AreNew m (e ∷ ports) → AreNew (put nat_cmp m e.port e.dom) ports
 still-new m e ports all new port h =
     find-put nat_cmp nat_cmp_total port e.port e.dom m
     ∙ ap (λ b. cond b (Some e.dom) (get nat_cmp m port)) (unsigned_tied port e.port ∙ ne_eqb port e.port (λ same. both_ways (has_number ports e.port) (fits e ports all).new (ap (has_number ports) (sym same) ∙ h)))
-    ∙ new port (or-right (e.port == port) (has_number ports port) h)
+    ∙ new port (or_right (e.port == port) (has_number ports port) h)
 
 any-declared : (m : List (ℕ × ℕ)) (ports : List Entry) (dom : ℕ) → are_declared ports ≡ true → AreNew m ports
     → list_any (λ e. e.1 == dom) (domains_from m ports) ≡ (list_any (λ e. e.1 == dom) m || list_any (λ (e : Entry). e.dom == dom) ports)
-any-declared m [] dom all new = right (list_any (λ e. e.1 == dom) m)
-  where
-    right : (b : Bool) → b ≡ (b || false)
-    right true = refl
-    right false = refl
+any-declared m [] dom all new = sym (or-false (list_any (λ e. e.1 == dom) m))
 any-declared m (e ∷ ports) dom all new =
     let here : get nat_cmp m e.port ≡ None = new e.port (ap (λ b. b || has_number ports e.port) (eq-eqb e.port e.port refl)) in
     any-declared (put nat_cmp m e.port e.dom) ports dom (fits e ports all).rest (still-new m e ports all new)
     ∙ ap (λ b. b || list_any (λ (x : Entry). x.dom == dom) ports) (any-put (λ x. x.1 == dom) m e.port e.dom here)
-    ∙ moved (e.dom == dom) (list_any (λ x. x.1 == dom) m) (list_any (λ (x : Entry). x.dom == dom) ports)
-  where
-    moved : (a b c : Bool) → ((a || b) || c) ≡ (b || (a || c))
-    moved true true c = refl
-    moved true false c = refl
-    moved false b c = refl
+    ∙ or_exchange (e.dom == dom) (list_any (λ x. x.1 == dom) m) (list_any (λ (x : Entry). x.dom == dom) ports)
 
 -- the host is none of them
 host-new : (ports : List Entry) → are_declared ports ≡ true → AreNew ((host, software) ∷ []) ports

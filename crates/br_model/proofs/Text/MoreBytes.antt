@@ -4,7 +4,7 @@ use Rattle.std.specs.Io.{StartsWith}
 use Rattle.std.specs.List.{fold}
 use Rattle.std.proofs.Math.Seq.{take-append_seam}
 use Rattle.std.proofs.lemmas.List.{append-nil, take-append-le, take_all}
-use Rattle.std.proofs.lemmas.List.Sums.{fold-append}
+use Rattle.std.proofs.lemmas.Bool.{ltb-false, le-ltb}
 use Rattle.br_model.specs.declared.scenario.LineWhy.{LineWhy}
 use Rattle.br_model.specs.declared.scenario.LineWhy.TheVariants.{Long}
 use Rattle.br_model.specs.declared.scenario.Place.{Place}
@@ -15,7 +15,7 @@ use Rattle.br_model.specs.declared.steps.Step.{Step}
 use Rattle.br_model.specs.declared.transcript.Line.{Line}
 use Rattle.br_model.specs.Plane.Runs.{run, then_step}
 use Rattle.br_model.specs.Plane.Steps.{world_step}
-use Rattle.br_model.specs.Plane.World.{Stepped, first_world}
+use Rattle.br_model.specs.Plane.World.{Stepped}
 use Rattle.br_model.specs.Program.Runs.{body, body_of, body_parts, setup_of}
 use Rattle.br_model.specs.Table.Setup.{Setup}
 use Rattle.br_model.specs.Text.Roster.{Roster}
@@ -23,8 +23,9 @@ use Rattle.br_model.specs.Text.Scenario.{Scenario, Ending, Going, Ended, Bad, Fr
 use Rattle.br_model.specs.Text.Transcript.{text}
 use Rattle.br_model.specs.Wire.Captures.{packets}
 use Rattle.br_model.proofs.Text.Places.{FitsPlace, line_in_place}
-use Rattle.br_model.proofs.Text.Reading.{closes_keeps, not_below, scenario_is}
+use Rattle.br_model.proofs.Text.Reading.{closes_keeps, scenario_is}
 use Rattle.br_model.proofs.Plane.Running.{run_none, text-append}
+use Rattle.br_model.proofs.Plane.Worlds.{run-append}
 
 -- a scenario's steps, and what it has declared
 
@@ -131,22 +132,19 @@ read_stays zero s (byte ∷ bytes) = at_stays s.ending s (byte ∷ bytes) (λ n 
 -- more bytes
 
 -- a line that has its line feed is the same
-abbrev Grows : Option Front → Option Front → List ℕ → Type 0
+abbrev pub Grows : Option Front → Option Front → List ℕ → Type 0
 Grows o whole more = IfSome o (λ f. whole ≡ Some (record { line = f.line; behind = f.behind ++ more }))
 
-byte_grows : (b : Bool) (byte : ℕ) (bytes more : List ℕ) (o whole : Option Front) → Grows o whole more
+pub byte_grows : (b : Bool) (byte : ℕ) (bytes more : List ℕ) (o whole : Option Front) → Grows o whole more
     → Grows (if b then Some (record { line = []; behind = bytes }) else in_front byte o) (if b then Some (record { line = []; behind = bytes ++ more }) else in_front byte whole) more
 byte_grows true byte bytes more o whole h = refl
 byte_grows false byte bytes more None whole h = tt
 byte_grows false byte bytes more (Some f) whole h = ap (in_front byte) h
 
-front_grows : (bytes more : List ℕ) → Grows (front bytes) (front (bytes ++ more)) more
+pub front_grows : (bytes more : List ℕ) → Grows (front bytes) (front (bytes ++ more)) more
 unfolding front
 front_grows [] more = tt
 front_grows (byte ∷ bytes) more = byte_grows (byte == 10) byte bytes more (front bytes) (front (bytes ++ more)) (front_grows bytes more)
-
-at_most : (n m : ℕ) → nat_lt n m ≡ false → m ≤ n
-at_most n m h = grind arith
 
 module _ (s : Scenario) (more : List ℕ) (go_on go_on' : GoesOn) (keeps : Keeps go_on') (both : (n : ℕ) (t : Scenario) → Stays (kept (go_on n t).scenario) (kept (go_on' n t).scenario)) where
   abbrev with_more : Front → Front
@@ -159,10 +157,10 @@ module _ (s : Scenario) (more : List ℕ) (go_on go_on' : GoesOn) (keeps : Keeps
   taken_more said f false says whole =
       let n : ℕ = section_length said in
       let k : ℕ = length f.line + n in
-      let fits : n ≤ length f.behind = at_most (length f.behind) n whole in
+      let fits : n ≤ length f.behind = ltb-false (length f.behind) n whole in
       let t : Scenario = takes s said (take n f.behind) in
       subst (λ (p : Progress). Stays (kept (go_on k t).scenario) (kept p.scenario)) (sym (
-      ap (taken s said (with_more f) go_on') (not_below (length (f.behind ++ more)) n (omega (arith, fits, length-append f.behind more)))
+      ap (taken s said (with_more f) go_on') (le-ltb (length (f.behind ++ more)) n (omega (arith, fits, length-append f.behind more)))
       ∙ ap (λ (part : List ℕ). go_on' k (takes s said part)) (take-append-le n f.behind more fits)
       )) (both k t)
 
@@ -221,15 +219,11 @@ lines_more x (step ∷ steps) =
     let r = lines_more (then_step x step) steps in
     (new ++ r.0, r.1 ∙ append_assoc x.1 new r.0)
 
-run_more : (setup : Setup) (steps more : List Step) → run setup (steps ++ more) ≡ fold then_step (run setup steps) more
-unfolding run
-run_more setup steps more = fold-append then_step (first_world setup, []) steps more
-
 body_more : (setup : Setup) (steps more : List Step) → (rest : List ℕ) × (body_of (run setup (steps ++ more)) ≡ body_of (run setup steps) ++ rest)
 body_more setup steps more =
     let r = lines_more (run setup steps) more in (
       text r.0,
-      ap body_of (run_more setup steps more)
+      ap body_of (run-append setup steps more)
           ∙ ap (λ (lines : List Line). codes "transcript 1" ++ 10 ∷ text lines) r.1
           ∙ ap (λ (b : List ℕ). codes "transcript 1" ++ 10 ∷ b) (text-append (run setup steps).1 r.0),
     )

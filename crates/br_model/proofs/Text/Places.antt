@@ -2,6 +2,7 @@
 use Rattle.std.proofs.Common.{◌≡◌, ℕ, ◌-◌, ◌+◌, ◌==◌, ◌&&◌, nat_lt, Bool, true, false, if◌then◌else◌, List, [], ◌∷◌, length, slice_index_or, codes, Option, None, Some, Result, Ok, Err, IfOk, IfSome, refl, sym, ◌∙◌, ap, subst, true≢false}
 use Rattle.std.specs.List.{AllByRecursion}
 use Rattle.std.specs.Str.{bytes_eq}
+use Rattle.lemmas.proofs.Endings.{IfOk_either}
 use Rattle.br_model.specs.declared.domains.Edition.TheVariants.{One, Two}
 use Rattle.br_model.specs.declared.scenario.LineWhy.{LineWhy}
 use Rattle.br_model.specs.declared.scenario.LineWhy.TheVariants as why
@@ -32,10 +33,6 @@ FitsPlace place Ends = Unit {0}
 -- a place that the test takes, which doesn't take the steps'
 elsewhere : (test : Place → Bool) (place : Place) → test Steps ≡ false → test place ≡ true → place ≡ Steps → ⊥
 elsewhere test place refuses takes is = true≢false (sym takes ∙ ap test is ∙ refuses)
-
-either : {A : Type 0} (P : A → Type 0) (b : Bool) (x y : Result A LineWhy) → IfOk x P → IfOk y P → IfOk (if b then x else y) P
-either P true x y p q = p
-either P false x y p q = q
 
 -- what a row says of all values
 abbrev OfAll : {A : Type 0} → (A → Type 0) → (ps : List (Operand × ℕ)) → Makes A ps → Type 0
@@ -87,7 +84,7 @@ module _ (r : Roster) (word : ℕ → Word) where
   words_fit : (n : ℕ) → IfOk (words_say r n word) (FitsPlace r.place)
   words_fit n =
       let command = line commands r (n - 1) (λ i. word (i + 1)) in
-      either (FitsPlace r.place) (bytes_eq (word 0) (codes "cmd")) (commanded command) (line lines r n word) (command_says command) (said_so (pick lines n word) (each_picked lines n rows_say))
+      IfOk_either (FitsPlace r.place) (bytes_eq (word 0) (codes "cmd")) (commanded command) (line lines r n word) (command_says command) (said_so (pick lines n word) (each_picked lines n rows_say))
 
 all_fit : (r : Roster) (ws : List Word) → IfOk (all_say r ws) (FitsPlace r.place)
 all_fit r [] = tt
@@ -95,9 +92,9 @@ all_fit r (w ∷ ws) = words_fit r (λ i. slice_index_or (w ∷ ws) i []) (lengt
 
 line_fits : (r : Roster) (bytes : List ℕ) → IfOk (line_says r bytes) (FitsPlace r.place)
 unfolding line_says
-line_fits r bytes = either (FitsPlace r.place) (is_comment bytes) (Ok Blank) (all_say r (words bytes)) tt (all_fit r (words bytes))
+line_fits r bytes = IfOk_either (FitsPlace r.place) (is_comment bytes) (Ok Blank) (all_say r (words bytes)) tt (all_fit r (words bytes))
 
 -- what a whole line says
 pub line_in_place : (r : Roster) (line : List ℕ) (said : Said) → whole_says r line ≡ Ok said → FitsPlace r.place said
 line_in_place r line said says =
-    subst (λ (o : Result Said LineWhy). IfOk o (FitsPlace r.place)) says (either (FitsPlace r.place) (nat_lt longest_line (length line)) (Err why.Long) (line_says r line) tt (line_fits r line))
+    subst (λ (o : Result Said LineWhy). IfOk o (FitsPlace r.place)) says (IfOk_either (FitsPlace r.place) (nat_lt longest_line (length line)) (Err why.Long) (line_says r line) tt (line_fits r line))

@@ -1,6 +1,7 @@
 -- The line at the front is read, and then what is behind it.
-use Rattle.std.proofs.Common.{◌≡◌, ℕ, suc, ◌+◌, ◌<◌, ◌≤◌, Bool, true, false, if◌then◌else◌, List, [], ◌∷◌, ◌++◌, length, take, Option, None, Some, Result, Ok, Err, refl, sym, ◌∙◌, ap, arith, nat_lt, length-append, append_assoc}
+use Rattle.std.proofs.Common.{◌≡◌, ℕ, suc, ◌+◌, ◌<◌, ◌≤◌, Bool, true, false, if◌then◌else◌, List, [], ◌∷◌, ◌++◌, length, take, Option, None, Some, Result, Ok, Err, refl, sym, ◌∙◌, ap, arith, length-append, append_assoc}
 use Rattle.std.proofs.Math.Seq.{take-append_seam}
+use Rattle.std.proofs.lemmas.Bool.{le-ltb, lt-ltb}
 use Rattle.br_model.specs.declared.scenario.LineWhy.{LineWhy}
 use Rattle.br_model.specs.declared.scenario.LineWhy.TheVariants.{Long, Place, Unended}
 use Rattle.br_model.specs.declared.scenario.Said.{Said}
@@ -27,7 +28,7 @@ read_ahead s (byte ∷ bytes) more n =
     ap (λ k. read k s (byte ∷ (bytes ++ more))) {y = suc (length bytes + n)} (omega arith) ∙ read_ahead s bytes more n
 
 -- bytes in front of which a scenario goes on
-reads_so : (s : Scenario) (byte : ℕ) (bytes : List ℕ) (o : Option Front) → s.ending ≡ Going → front (byte ∷ bytes) ≡ o
+pub reads_so : (s : Scenario) (byte : ℕ) (bytes : List ℕ) (o : Option Front) → s.ending ≡ Going → front (byte ∷ bytes) ≡ o
     → read 0 s (byte ∷ bytes) ≡ reads_front s (byte ∷ bytes) o (λ n t. read n t bytes)
 unfolding read
 reads_so s byte bytes o going is =
@@ -54,12 +55,6 @@ says_so s (byte ∷ line) rest r going h says =
     reads_so s byte (line ++ 10 ∷ rest) _ going (front_line (byte ∷ line) rest h)
     ∙ ap (λ (o : Result Said LineWhy). reads_line s (record { line = byte ∷ line; behind = rest }) o (λ n t. read n t (line ++ 10 ∷ rest))) says
 
-pub not_below : (n m : ℕ) → m ≤ n → nat_lt n m ≡ false
-not_below n m h = grind arith
-
-pub below : (n m : ℕ) → n < m → nat_lt n m ≡ true
-below n m h = grind arith
-
 -- with its section
 pub read_line : (s : Scenario) (said : Said) (line section more : List ℕ) → s.ending ≡ Going → is_line line ≡ true → whole_says s.roster line ≡ Ok said → length section ≡ section_length said
     → read 0 s (line ++ 10 ∷ (section ++ more)) ≡ read 0 (takes s said section) more
@@ -68,7 +63,7 @@ read_line s said line section more going h says sized =
     let n : ℕ = section_length said in
     says_so s line rest (Ok said) going h says
     ∙ ap (λ b. if b then record { scenario = s; line = []; behind = [] } else read (length line + n) (takes s said (take n rest)) (tail_of line rest))
-    (not_below (length rest) n (omega (arith, sized, length-append section more)))
+    (le-ltb (length rest) n (omega (arith, sized, length-append section more)))
     ∙ behind_line (takes s said (take n rest)) line rest n
     ∙ ap (λ k. read k (takes s said (take k rest)) rest) (sym sized)
     ∙ ap (λ (part : List ℕ). read (length section) (takes s said part) rest) (take-append_seam section more)
@@ -81,7 +76,7 @@ pub read_part : (s : Scenario) (said : Said) (line part : List ℕ) → s.ending
 read_part s said line part going h says short =
     says_so s line part (Ok said) going h says
     ∙ ap (λ b. if b then record { scenario = s; line = []; behind = [] } else read (length line + section_length said) (takes s said (take (section_length said) part)) (tail_of line part))
-    (below (length part) (section_length said) short)
+    (lt-ltb (length part) (section_length said) short)
 
 -- a bad line
 pub read_bad : (s : Scenario) (why : LineWhy) (line more : List ℕ) → s.ending ≡ Going → is_line line ≡ true → whole_says s.roster line ≡ Err why
@@ -94,7 +89,7 @@ unfolding read
 read_rest s [] going h short = refl
 read_rest s (byte ∷ bytes) going h short =
     reads_so s byte bytes None going (front_none (byte ∷ bytes) h)
-    ∙ ap (λ b. record { scenario = if b then bad s Long else s; line = byte ∷ bytes; behind = [] }) (not_below longest_line (length (byte ∷ bytes)) short)
+    ∙ ap (λ b. record { scenario = if b then bad s Long else s; line = byte ∷ bytes; behind = [] }) (le-ltb longest_line (length (byte ∷ bytes)) short)
 
 -- a line that is too long
 
@@ -102,11 +97,11 @@ long_so : (s : Scenario) (byte : ℕ) (bytes more : List ℕ) (o : Option Front)
     → longest_line < length (byte ∷ bytes) → (read 0 s (byte ∷ (bytes ++ more))).scenario ≡ bad s Long
 long_so s byte bytes more None going is long =
     ap (λ (p : Progress). p.scenario) (reads_so s byte (bytes ++ more) None going is)
-    ∙ ap (λ b. if b then bad s Long else s) (below longest_line (length (byte ∷ (bytes ++ more))) (omega (arith, long, length-append bytes more)))
+    ∙ ap (λ b. if b then bad s Long else s) (lt-ltb longest_line (length (byte ∷ (bytes ++ more))) (omega (arith, long, length-append bytes more)))
 long_so s byte bytes more (Some f) going is long =
     let line : List ℕ = byte ∷ (bytes ++ f.line) in
     let says : whole_says s.roster line ≡ Err Long =
-    ap (λ b. if b then Err Long else line_says s.roster line) (below longest_line (length line) (omega (arith, long, length-append bytes f.line))) in
+    ap (λ b. if b then Err Long else line_says s.roster line) (lt-ltb longest_line (length line) (omega (arith, long, length-append bytes f.line))) in
     ap (λ (p : Progress). p.scenario) (
     reads_so s byte (bytes ++ more) (Some (record { line = line; behind = f.behind })) going is
     ∙ ap (λ (r : Result Said LineWhy). reads_line s (record { line = line; behind = f.behind }) r (λ n t. read n t (bytes ++ more))) says

@@ -4,6 +4,7 @@ use Rattle.std.specs.List.{list_all}
 use Rattle.std.specs.declared.option.Option.TheVariants.{None, Some}
 use Rattle.std.specs.declared.result.Result.TheVariants.{Ok}
 use Rattle.std.proofs.Math.Nat.{div-div-eq-div-mul, div-lt_iff_lt-mul}
+use Rattle.std.proofs.lemmas.Bool.{lt-ltb, and_from}
 use Rattle.br_model.specs.declared.scenario.LineWhy.TheVariants.{Address}
 use Rattle.br_model.specs.Data.Digits.{hex_of, station}
 use Rattle.br_model.specs.Data.Numbers.{number, is_multicast}
@@ -11,7 +12,7 @@ use Rattle.br_model.specs.Text.Operands.{mac, station_of, found}
 use Rattle.br_model.specs.Text.Spelling.{byte_at, mac_text}
 use Rattle.br_model.specs.Text.Words.{Word}
 use Rattle.br_model.proofs.Text.WrittenNumbers.{hex_read, pair_letters}
-use Rattle.br_model.proofs.Text.WrittenWords.{letters, is_proper, both}
+use Rattle.br_model.proofs.Text.WrittenWords.{letters, is_proper}
 
 -- bytes as pairs of digits, joined by colons
 abbrev pub last_two : ℕ → ℕ → Word
@@ -29,13 +30,10 @@ last_five b c d e f = hex_of (b ∷ []) ++ (58 ∷ last_four c d e f)
 abbrev pub pairs : ℕ → ℕ → ℕ → ℕ → ℕ → ℕ → Word
 pairs a b c d e f = hex_of (a ∷ []) ++ (58 ∷ last_five b c d e f)
 
-is_byte : (b : ℕ) → b < 256 → nat_lt b 256 ≡ true
-is_byte b h = grind arith
-
 six_bytes : (a b c d e f : ℕ) → a < 256 → b < 256 → c < 256 → d < 256 → e < 256 → f < 256
     → list_all (λ x. nat_lt x 256) (a ∷ b ∷ c ∷ d ∷ e ∷ f ∷ []) ≡ true
 six_bytes a b c d e f i j k l m n =
-    both _ _ (is_byte a i) (both _ _ (is_byte b j) (both _ _ (is_byte c k) (both _ _ (is_byte d l) (both _ _ (is_byte e m) (both _ _ (is_byte f n) refl)))))
+    and_from _ _ (lt-ltb a 256 i) (and_from _ _ (lt-ltb b 256 j) (and_from _ _ (lt-ltb c 256 k) (and_from _ _ (lt-ltb d 256 l) (and_from _ _ (lt-ltb e 256 m) (and_from _ _ (lt-ltb f 256 n) refl)))))
 
 pairs_read : (a b c d e f : ℕ) → a < 256 → b < 256 → c < 256 → d < 256 → e < 256 → f < 256
     → mac (pairs a b c d e f) ≡ found Address (station (a ∷ b ∷ c ∷ d ∷ e ∷ f ∷ []))

@@ -1,12 +1,13 @@
 -- IP addresses are read back from their text.
-use Rattle.std.proofs.Common.{◌≡◌, ℕ, ◌+◌, ◌*◌, ◌/◌, ◌%◌, ◌^◌, ◌<◌, ◌==◌, nat_lt, nat_le, Bool, true, not, cond, if◌then◌else◌, List, [], ◌∷◌, ◌++◌, refl, ◌∙◌, ap, arith, Option, None, Some}
+use Rattle.std.proofs.Common.{◌≡◌, ℕ, ◌+◌, ◌*◌, ◌/◌, ◌%◌, ◌^◌, ◌<◌, ◌==◌, nat_le, Bool, true, not, cond, if◌then◌else◌, List, [], ◌∷◌, ◌++◌, refl, ◌∙◌, ap, arith, Option, None, Some}
 use Rattle.std.specs.Cmp.{first_so, second_so}
 use Rattle.std.specs.Fmt.{decimal}
 use Rattle.std.specs.List.{fold, list_all, onto_first, slice_split}
 use Rattle.std.specs.Option.{option_map}
 use Rattle.std.specs.declared.result.Result.TheVariants.{Ok}
-use Rattle.std.proofs.lemmas.Bool.{not-true}
+use Rattle.std.proofs.lemmas.Bool.{not-true, lt-ltb, ltb-true, and_from}
 use Rattle.std.proofs.lemmas.List.Folds.{list_all-append}
+use Rattle.lemmas.proofs.Numbers.{eqb-itself}
 use Rattle.br_model.specs.declared.group.Ip.{Ip}
 use Rattle.br_model.specs.declared.group.Ip.TheVariants.{V4, V6}
 use Rattle.br_model.specs.declared.scenario.LineWhy.TheVariants.{Address}
@@ -19,7 +20,7 @@ use Rattle.br_model.specs.Text.Words.{Word, is_word}
 use Rattle.br_model.specs.Text.Operands.{is_ip}
 use Rattle.br_model.proofs.Text.WrittenAddresses.{byte_below, step, top}
 use Rattle.br_model.proofs.Text.WrittenNumbers.{decimal_digits, decimal_letters, decimal_proper, decimal_read, hex_digit_letter, hex_read}
-use Rattle.br_model.proofs.Text.WrittenWords.{is_letter, letters, is_proper, both}
+use Rattle.br_model.proofs.Text.WrittenWords.{is_letter, letters, is_proper}
 
 -- words between separators
 
@@ -30,11 +31,8 @@ Splits s word = slice_split (λ c. c == s) word
 abbrev lacks : ℕ → Word → Bool
 lacks s w = list_all (λ c. not (c == s)) w
 
-same : (s : ℕ) → (s == s) ≡ true
-same s = grind arith
-
 part_first : (s : ℕ) (w rest : List ℕ) → lacks s w ≡ true → Splits s (w ++ s ∷ rest) ≡ w ∷ Splits s rest
-part_first s [] rest h = ap (λ (b : Bool). cond b ([] ∷ Splits s rest) (onto_first s (Splits s rest))) (same s)
+part_first s [] rest h = ap (λ (b : Bool). cond b ([] ∷ Splits s rest) (onto_first s (Splits s rest))) (eqb-itself s)
 part_first s (c ∷ w) rest h =
     ap (λ (b : Bool). cond b ([] ∷ Splits s (w ++ s ∷ rest)) (onto_first c (Splits s (w ++ s ∷ rest)))) (not-true _ (first_so _ _ h))
     ∙ ap (onto_first c) (part_first s w rest (second_so _ _ h))
@@ -47,7 +45,7 @@ part_last s (c ∷ w) h =
 
 weaker : (P Q : ℕ → Bool) → ((c : ℕ) → P c ≡ true → Q c ≡ true) → (w : List ℕ) → list_all P w ≡ true → list_all Q w ≡ true
 weaker P Q to [] h = refl
-weaker P Q to (c ∷ w) h = both _ _ (to c (first_so _ _ h)) (weaker P Q to w (second_so _ _ h))
+weaker P Q to (c ∷ w) h = and_from _ _ (to c (first_so _ _ h)) (weaker P Q to w (second_so _ _ h))
 
 -- version 4
 
@@ -104,7 +102,7 @@ unfolding group
 four_read n h = ap (λ (x : Option ℕ). found Address (four_or_six x (address_six (dotted n)))) (dotted_read n h)
 
 decimal_more : (b : ℕ) (rest : Word) → b < 256 → letters rest ≡ true → letters (decimal b ++ rest) ≡ true
-decimal_more b rest h l = list_all-append is_letter (decimal b) rest ∙ both _ _ (decimal_letters b (small b h)) l
+decimal_more b rest h l = list_all-append is_letter (decimal b) rest ∙ and_from _ _ (decimal_letters b (small b h)) l
 
 dotted_letters : (n : ℕ) → letters (dotted n) ≡ true
 dotted_letters n =
@@ -126,10 +124,10 @@ dotted_word n = word_more (decimal (byte_at n 24)) _ (first_so _ _ (decimal_prop
 digits_all : (P : ℕ → Bool) → ((d : ℕ) → d < 16 → P (hex_digit d) ≡ true) → (n bits : ℕ) (rest : Word) → list_all P rest ≡ true
     → list_all P (digits_at n bits ++ rest) ≡ true
 digits_all P each n bits rest h =
-    both _ _ (each (byte_at n (bits + 8) / 16) (high (byte_at n (bits + 8)) (byte_below n (bits + 8)))) (
-    both _ _ (each (byte_at n (bits + 8) % 16) (low (byte_at n (bits + 8)))) (
-    both _ _ (each (byte_at n bits / 16) (high (byte_at n bits) (byte_below n bits))) (
-    both _ _ (each (byte_at n bits % 16) (low (byte_at n bits))) h)))
+    and_from _ _ (each (byte_at n (bits + 8) / 16) (high (byte_at n (bits + 8)) (byte_below n (bits + 8)))) (
+    and_from _ _ (each (byte_at n (bits + 8) % 16) (low (byte_at n (bits + 8)))) (
+    and_from _ _ (each (byte_at n bits / 16) (high (byte_at n bits) (byte_below n bits))) (
+    and_from _ _ (each (byte_at n bits % 16) (low (byte_at n bits))) h)))
   where
     high : (b : ℕ) → b < 256 → b / 16 < 16
     high b h = omega arith
@@ -159,13 +157,13 @@ last_seven n = digits_at n 96 ++ (58 ∷ last_six n)
 -- and, where it holds of a colon, of the whole address
 groups_all : (P : ℕ → Bool) → ((d : ℕ) → d < 16 → P (hex_digit d) ≡ true) → P 58 ≡ true → (n : ℕ) → list_all P (groups_of_four n) ≡ true
 groups_all P each colon n =
-    digits_all P each n 112 (58 ∷ last_seven n) (both _ _ colon (
-    digits_all P each n 96 (58 ∷ last_six n) (both _ _ colon (
-    digits_all P each n 80 (58 ∷ last_five n) (both _ _ colon (
-    digits_all P each n 64 (58 ∷ last_four n) (both _ _ colon (
-    digits_all P each n 48 (58 ∷ last_three n) (both _ _ colon (
-    digits_all P each n 32 (58 ∷ last_two n) (both _ _ colon (
-    digits_all P each n 16 (58 ∷ digits_at n 0) (both _ _ colon (
+    digits_all P each n 112 (58 ∷ last_seven n) (and_from _ _ colon (
+    digits_all P each n 96 (58 ∷ last_six n) (and_from _ _ colon (
+    digits_all P each n 80 (58 ∷ last_five n) (and_from _ _ colon (
+    digits_all P each n 64 (58 ∷ last_four n) (and_from _ _ colon (
+    digits_all P each n 48 (58 ∷ last_three n) (and_from _ _ colon (
+    digits_all P each n 32 (58 ∷ last_two n) (and_from _ _ colon (
+    digits_all P each n 16 (58 ∷ digits_at n 0) (and_from _ _ colon (
     digits_all P each n 0 [] refl))))))))))))))
 
 no_colon : (n bits : ℕ) → lacks 58 (digits_at n bits) ≡ true
@@ -201,10 +199,7 @@ two_bytes n bits = number (byte_at n (bits + 8) ∷ byte_at n bits ∷ [])
 
 digits_read : (n bits : ℕ) → four_digits (digits_at n bits) ≡ Some (two_bytes n bits)
 digits_read n bits =
-    ap (option_map number) (hex_read (byte_at n (bits + 8) ∷ byte_at n bits ∷ []) (both _ _ (below _ (byte_below n (bits + 8))) (both _ _ (below _ (byte_below n bits)) refl)))
-  where
-    below : (b : ℕ) → b < 256 → nat_lt b 256 ≡ true
-    below b h = grind arith
+    ap (option_map number) (hex_read (byte_at n (bits + 8) ∷ byte_at n bits ∷ []) (and_from _ _ (lt-ltb _ 256 (byte_below n (bits + 8))) (and_from _ _ (lt-ltb _ 256 (byte_below n bits)) refl)))
 
 abbrev more : ℕ → ℕ → Option (List ℕ) → Option (List ℕ)
 more n bits o = in_front (four_digits (digits_at n bits)) o
@@ -264,13 +259,10 @@ six_read n h =
 
 -- either
 
-below : (most n : ℕ) → nat_lt n most ≡ true → n < most
-below most n h = grind arith
-
 pub ip_read : (address : Ip) → is_ip address ≡ true → group (ip_text address) ≡ Ok address
-ip_read (V4 n) h = four_read n (below (2 ^ 32) n h)
-ip_read (V6 n) h = six_read n (below (2 ^ 128) n h)
+ip_read (V4 n) h = four_read n (ltb-true n (2 ^ 32) h)
+ip_read (V6 n) h = six_read n (ltb-true n (2 ^ 128) h)
 
 pub ip_proper : (address : Ip) → is_proper (ip_text address) ≡ true
-ip_proper (V4 n) = both _ _ (dotted_word n) (dotted_letters n)
+ip_proper (V4 n) = and_from _ _ (dotted_word n) (dotted_letters n)
 ip_proper (V6 n) = groups_all is_letter hex_digit_letter refl n

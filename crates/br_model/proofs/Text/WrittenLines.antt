@@ -1,13 +1,14 @@
 -- The line that a step is written as is read back to the step.
 use mathlib.Core.Path.{path_j, subst_refl}
-use Rattle.std.proofs.Common.{◌≡◌, ℕ, zero, suc, ◌+◌, ◌-◌, ◌<◌, ◌≤◌, ◌==◌, nat_lt, nat_le, Bool, true, false, if◌then◌else◌, List, [], ◌∷◌, length, take, length-take, inl, inr, refl, sym, ◌∙◌, ap, subst, arith, Option, Some, slice_index_or}
+use Rattle.std.proofs.Common.{◌≡◌, ℕ, suc, ◌+◌, ◌-◌, ◌<◌, ◌≤◌, ◌==◌, nat_lt, Bool, true, false, if◌then◌else◌, List, [], ◌∷◌, length, take, length-take, inl, inr, refl, sym, ◌∙◌, ap, subst, arith, Option, Some, slice_index_or}
 use Rattle.std.specs.Prelude.{codes}
 use Rattle.std.specs.Cmp.{first_so, second_so}
 use Rattle.std.specs.List.{list_all}
 use Rattle.std.specs.Option.{option_map}
 use Rattle.std.specs.declared.option.Option.TheVariants.{None}
 use Rattle.std.specs.declared.result.Result.TheVariants.{Ok, Err}
-use Rattle.std.proofs.lemmas.Bool.{cases_lt, eqb-true}
+use Rattle.std.proofs.lemmas.Bool.{cases_lt, eqb-true, leb-true, and_from}
+use Rattle.std.proofs.lemmas.List.{take_all}
 use Rattle.br_model.specs.declared.change.Kind.TheVariants.{Local, Learned}
 use Rattle.br_model.specs.declared.frame.FrameFault.TheVariants as faults
 use Rattle.br_model.specs.declared.scenario.Said.{Said}
@@ -29,7 +30,7 @@ use Rattle.br_model.specs.Text.Words.{Word, is_word, is_comment, joined, words}
 use Rattle.br_model.specs.Theorems.WrittenSteps.{given, is_whole}
 use Rattle.br_model.specs.Wire.Frames.{longest_frame, shortest_frame, frame}
 use Rattle.br_model.proofs.Text.WrittenRows.{is_sound, all_proper, as_many, own_stand, behind_stand, first_near, makes, row_read}
-use Rattle.br_model.proofs.Text.WrittenWords.{is_proper, both, words_joined}
+use Rattle.br_model.proofs.Text.WrittenWords.{is_proper, words_joined}
 
 -- lines by their words
 
@@ -58,7 +59,7 @@ command_line : (r : Roster) (q : Row Command) (values : Values q.shape) → are_
 command_line r q values all place sound first h =
     let ws = words_of r.ports q.shape values in
     let behind : ℕ → Word = λ i. slice_index_or (codes "cmd" ∷ ws) (i + 1) [] in
-    says r (codes "cmd" ∷ ws) (both (is_proper (codes "cmd")) (list_all is_proper ws) refl (all_proper r.ports q.shape values all sound h)) (no_comment ws)
+    says r (codes "cmd" ∷ ws) (and_from (is_proper (codes "cmd")) (list_all is_proper ws) refl (all_proper r.ports q.shape values all sound h)) (no_comment ws)
     ∙ ap (λ (n : ℕ). lines.commanded (line forms.commands r n behind)) (one_less (length ws) (length q.shape) (as_many r.ports q.shape values))
     ∙ ap lines.commanded (row_read r forms.commands q values behind place all sound first h (behind_stand (codes "cmd") ws))
   where
@@ -134,7 +135,7 @@ step_read r (Now moment) place comes all = line_read r lines.now (moment, tt) al
 step_read r Serve place comes all = line_read r lines.serve tt all place refl refl refl refl
 step_read r Hold place comes all = line_read r lines.hold tt all place refl refl refl refl
 step_read r (Post id None) place comes all = line_read r lines.post (id, tt) all place refl refl refl refl
-step_read r (Post id (Some point)) place comes all = line_read r lines.post_at (id, (point, tt)) all (both r.check (forms.step r.place) comes place) refl refl refl refl
+step_read r (Post id (Some point)) place comes all = line_read r lines.post_at (id, (point, tt)) all (and_from r.check (forms.step r.place) comes place) refl refl refl refl
 step_read r (Turn dom) place comes all = line_read r lines.turn (dom, tt) all place refl refl refl refl
 step_read r (Report dom) place comes all = line_read r lines.report (dom, tt) all place refl refl refl refl
 step_read r (Sweep dom) place comes all = line_read r lines.sweep (dom, tt) all place refl refl refl refl
@@ -142,24 +143,16 @@ step_read r Publish place comes all = line_read r lines.publish tt all place ref
 
 -- frames that a line shows whole, and those that it doesn't
 
-take_whole : (n : ℕ) (bytes : List ℕ) → length bytes ≤ n → take n bytes ≡ bytes
-take_whole zero [] h = refl
-take_whole zero (b ∷ bytes) h = absurd (omega arith)
-take_whole (suc n) [] h = refl
-take_whole (suc n) (b ∷ bytes) h = ap (λ (bs : List ℕ). b ∷ bs) (take_whole n bytes (omega arith))
-
 pub shown_whole : (bytes : List ℕ) → 0 < length bytes → length bytes ≤ longest_frame → shown bytes ≡ bytes
 shown_whole [] some h = absurd (omega arith)
-shown_whole (b ∷ bytes) some h = take_whole (longest_frame + 1) (b ∷ bytes) (omega arith)
+shown_whole (b ∷ bytes) some h = take_all (longest_frame + 1) (b ∷ bytes) (omega arith)
 
 pub given_whole : (s : Step) → is_whole s ≡ true → given s ≡ s
-given_whole (Rx port bytes) h = ap (λ (b : List ℕ). Rx port b) (shown_whole bytes (some (length bytes) (first_so _ _ h)) (few (length bytes) longest_frame (second_so _ _ h)))
+given_whole (Rx port bytes) h = ap (λ (b : List ℕ). Rx port b) (shown_whole bytes (some (length bytes) (first_so _ _ h)) (leb-true (length bytes) longest_frame (second_so _ _ h)))
   where
     some : (n : ℕ) → nat_lt 0 n ≡ true → 0 < n
     some n h = grind arith
 
-    few : (n m : ℕ) → nat_le n m ≡ true → n ≤ m
-    few n m h = grind arith
 given_whole s h = refl
 
 too_long : (bytes : List ℕ) → longest_frame < length bytes → frame bytes ≡ Err faults.Long
@@ -177,5 +170,5 @@ frame_shown (b ∷ bytes) = elim (cases_lt longest_frame (length (b ∷ bytes)))
   | inl long ↦
       let cut : longest_frame < length (take (longest_frame + 1) (b ∷ bytes)) = omega (arith, length-take (longest_frame + 1) (b ∷ bytes)) in
       too_long (take (longest_frame + 1) (b ∷ bytes)) cut ∙ sym (too_long (b ∷ bytes) long)
-  | inr short ↦ ap frame (take_whole (longest_frame + 1) (b ∷ bytes) (omega arith))
+  | inr short ↦ ap frame (take_all (longest_frame + 1) (b ∷ bytes) (omega arith))
 ]

@@ -8,8 +8,8 @@ use Rattle.std.specs.declared.option.Option.{Option}
 use Rattle.std.specs.declared.option.Option.TheVariants.{Some}
 use Rattle.std.specs.declared.result.Result.TheVariants.{Ok, Err}
 use Rattle.std.specs.Str.{bytes_eq}
-use Rattle.std.proofs.lemmas.Bool.{eqb-true, not-true}
-use Rattle.std.proofs.lemmas.Slice.Eq.{bytes_eq-Decides}
+use Rattle.std.proofs.lemmas.Bool.{eqb-true, not-true, and_from}
+use Rattle.lemmas.proofs.Lists.{bytes_eq-sym}
 use Rattle.br_model.specs.declared.scenario.LineWhy.TheVariants as why
 use Rattle.br_model.specs.Table.Domains.{host, last_port, last_chip}
 use Rattle.br_model.specs.Text.Operands.{number, number_in, port_number, port_name, device, found, unless}
@@ -20,7 +20,7 @@ use Rattle.br_model.specs.Text.Operands.{is_device}
 use Rattle.br_model.specs.Text.Declarations.{are_declared, fits_beside}
 use Rattle.br_model.proofs.Text.Words.{equal}
 use Rattle.br_model.proofs.Text.WrittenNumbers.{decimal_read}
-use Rattle.br_model.proofs.Text.WrittenWords.{is_letter, letters, is_proper, both}
+use Rattle.br_model.proofs.Text.WrittenWords.{is_letter, letters, is_proper}
 
 -- numbers in a range
 
@@ -28,7 +28,7 @@ pub number_read : (low high n : ℕ) → n < 2 ^ 64 → nat_le low n ≡ true �
 unfolding number
 number_read low high n small above below =
     ap (number_in low high) (decimal_read n small)
-    ∙ ap (λ (b : Bool). if b then Ok n else Err why.Number) (both _ _ above below)
+    ∙ ap (λ (b : Bool). if b then Ok n else Err why.Number) (and_from _ _ above below)
 
 -- ports by their numbers
 
@@ -95,7 +95,7 @@ pub port_number_read : (ports : List Entry) (port : ℕ) → are_declared ports 
 unfolding port_number
 port_number_read ports port all h =
     ap (λ (o : Option ℕ). unless why.Port (λ n. not (nat_le n last_port && has_number ports n)) (found why.Number o)) (decimal_read port (port_small ports port all h))
-    ∙ ap (λ (b : Bool). if not b then Err why.Port else Ok port) (both _ _ (at_most ports port all h) h)
+    ∙ ap (λ (b : Bool). if not b then Err why.Port else Ok port) (and_from _ _ (at_most ports port all h) h)
 
 -- ports by their names
 
@@ -108,15 +108,12 @@ name_by P e ports port h here there = by (e.port == port) refl h
     by true is h = here (eqb-true _ _ is)
     by false is h = there h
 
-equal_words : (a b : Word) → bytes_eq a b ≡ bytes_eq b a
-equal_words a b = grind (arith, bytes_eq-Decides a b, bytes_eq-Decides b a)
-
 -- an entry's name isn't a port's where no port has it
 unlike : (ports : List Entry) (port : ℕ) (name : Word) → has_number ports port ≡ true → is_some (port_named ports name) ≡ false → bytes_eq (name_of ports port) name ≡ false
 unlike [] port name h none = absurd (cc)
 unlike (e ∷ ports) port name h none =
     name_by (λ w. bytes_eq w name ≡ false) e ports port h
-    (λ same. equal_words e.name name ∙ first (bytes_eq name e.name) e.port (port_named ports name) none)
+    (λ same. bytes_eq-sym e.name name ∙ first (bytes_eq name e.name) e.port (port_named ports name) none)
     (λ there. unlike ports port name there (later (bytes_eq name e.name) e.port (port_named ports name) none))
   where
     first : (b : Bool) (n : ℕ) (o : Option ℕ) → is_some (if b then Some n else o) ≡ false → b ≡ false
@@ -156,7 +153,7 @@ in_row low high c l m h = letter c low high l m (first_so _ _ h) (second_so _ _ 
 is_one : (d c : ℕ) → 33 ≤ d → d < 128 → (c == d) ≡ true → is_letter c ≡ true
 is_one d c l m h =
     let same : c ≡ d = eqb-true _ _ h in
-    in_row d d c l m (both _ _ (at_most_same d c same) (at_least_same d c same))
+    in_row d d c l m (and_from _ _ (at_most_same d c same) (at_least_same d c same))
   where
     at_most_same : (d c : ℕ) → c ≡ d → nat_le d c ≡ true
     at_most_same d c e = grind arith
@@ -175,7 +172,7 @@ name_letter c h =
 
 name_letters : (w : Word) → list_all is_name_byte w ≡ true → letters w ≡ true
 name_letters [] h = refl
-name_letters (c ∷ w) h = both _ _ (name_letter c (first_so _ _ h)) (name_letters w (second_so _ _ h))
+name_letters (c ∷ w) h = and_from _ _ (name_letter c (first_so _ _ h)) (name_letters w (second_so _ _ h))
 
 named_by : (ports : List Entry) (port : ℕ) → are_declared ports ≡ true → has_number ports port ≡ true → is_name (name_of ports port) ≡ true
 named_by [] port all h = absurd (cc)
@@ -190,7 +187,7 @@ some_word (c ∷ w) h = refl
 
 pub given_name_proper : (w : Word) → is_name w ≡ true → is_proper w ≡ true
 given_name_proper w h =
-    both _ _ (some_word w (first_so _ _ h)) (name_letters w (first_so _ _ (second_so (nat_le (length w) longest_name) _ (second_so (nat_lt 0 (length w)) _ h))))
+    and_from _ _ (some_word w (first_so _ _ h)) (name_letters w (first_so _ _ (second_so (nat_le (length w) longest_name) _ (second_so (nat_lt 0 (length w)) _ h))))
 
 pub name_proper : (ports : List Entry) (port : ℕ) → are_declared ports ≡ true → has_number ports port ≡ true → is_proper (name_of ports port) ≡ true
 name_proper ports port all h = given_name_proper (name_of ports port) (named_by ports port all h)

@@ -8,9 +8,10 @@ use Rattle.std.specs.declared.option.Option.TheVariants.{None, Some}
 use Rattle.std.proofs.lemmas.Fmt.{decimal_by_steps}
 use Rattle.std.proofs.lemmas.List.Sums.{fold-append}
 use Rattle.std.proofs.lemmas.List.Folds.{list_all-append}
+use Rattle.std.proofs.lemmas.Bool.{ltb-true, and_from}
 use Rattle.br_model.specs.Data.Digits.{is_digit, digits_value, begins_with_zero, decimal_from, hex_digit, hex_of, nibble, byte_of, in_front, bytes_from_hex}
 use Rattle.br_model.specs.Text.Words.{is_word}
-use Rattle.br_model.proofs.Text.WrittenWords.{is_letter, letters, is_proper, both}
+use Rattle.br_model.proofs.Text.WrittenWords.{is_letter, letters, is_proper}
 
 -- decimal numbers
 
@@ -32,7 +33,7 @@ nonzero n h p = grind arith
 one : (n : ℕ) → n < 10 → Numeral n ((48 + n) ∷ [])
 one n h = record {
   value = omega arith;
-  digits = both _ _ (digit_is n h) refl;
+  digits = and_from _ _ (digit_is n h) refl;
   some = refl;
   first = nonzero n h;
   single = λ small. refl;
@@ -54,7 +55,7 @@ more n ds h m =
     let above : digits_value ds ≡ n / 10 = m.value in
     record {
       value = value ∙ omega arith;
-      digits = list_all-append is_digit ds ((48 + n % 10) ∷ []) ∙ both _ _ m.digits (both _ _ (digit_is (n % 10) low) refl);
+      digits = list_all-append is_digit ds ((48 + n % 10) ∷ []) ∙ and_from _ _ m.digits (and_from _ _ (digit_is (n % 10) low) refl);
       some = some_more ds _ m.some;
       first = λ p. first_more ds _ m.some (m.first top);
       single = λ small. absurd (omega arith);
@@ -74,13 +75,13 @@ digit_letter c h = grind arith
 
 digit_letters : (w : List ℕ) → list_all is_digit w ≡ true → letters w ≡ true
 digit_letters [] h = refl
-digit_letters (c ∷ w) h = both _ _ (digit_letter c (first_so _ _ h)) (digit_letters w (second_so _ _ h))
+digit_letters (c ∷ w) h = and_from _ _ (digit_letter c (first_so _ _ h)) (digit_letters w (second_so _ _ h))
 
 pub decimal_letters : (n : ℕ) → n < 2 ^ 64 → letters (decimal n) ≡ true
 decimal_letters n h = digit_letters (decimal n) (decimal_digits n h)
 
 pub decimal_proper : (n : ℕ) → n < 2 ^ 64 → is_proper (decimal n) ≡ true
-decimal_proper n h = both _ _ (decimal_word n h) (decimal_letters n h)
+decimal_proper n h = and_from _ _ (decimal_word n h) (decimal_letters n h)
 
 pub decimal_read : (n : ℕ) → n < 2 ^ 64 → decimal_from (decimal n) ≡ Some n
 decimal_read n h =
@@ -103,7 +104,7 @@ decimal_read n h =
 
     read : (n : ℕ) (ds : List ℕ) → digits_value ds ≡ n → list_all is_digit ds ≡ true → is_word ds ≡ true → (0 < n → begins_with_zero ds ≡ false) → (n < 10 → length ds ≡ 1) → decimal_from ds ≡ Some n
     read n ds value digits some first single =
-        ap (λ (b : Bool). if b then Some (digits_value ds) else None) (both _ _ (length_some ds some) (both _ _ digits (ends n ds first single)))
+        ap (λ (b : Bool). if b then Some (digits_value ds) else None) (and_from _ _ (length_some ds some) (and_from _ _ digits (ends n ds first single)))
         ∙ ap Some value
 
 -- bytes
@@ -114,7 +115,7 @@ nibble_digit n h = grind arith
 pub hex_read : (bytes : List ℕ) → list_all (λ b. nat_lt b 256) bytes ≡ true → bytes_from_hex (hex_of bytes) ≡ Some bytes
 hex_read [] h = refl
 hex_read (b ∷ bytes) h =
-    let fits : b < 256 = small b (first_so _ _ h) in
+    let fits : b < 256 = ltb-true b 256 (first_so _ _ h) in
     let high : b / 16 < 16 = omega arith in
     let low : b % 16 < 16 = omega arith in
     let whole : 16 * (b / 16) + b % 16 ≡ b = omega arith in
@@ -122,9 +123,6 @@ hex_read (b ∷ bytes) h =
     ∙ ap (λ (a : Option ℕ). in_front (byte_of (Some (b / 16)) a) (bytes_from_hex (hex_of bytes))) (nibble_digit (b % 16) low)
     ∙ ap (λ (a : Option (List ℕ)). in_front (Some (16 * (b / 16) + b % 16)) a) (hex_read bytes (second_so _ _ h))
     ∙ ap (λ (n : ℕ). Some (n ∷ bytes)) whole
-  where
-    small : (b : ℕ) → nat_lt b 256 ≡ true → b < 256
-    small b h = grind arith
 
 pub hex_digit_letter : (n : ℕ) → n < 16 → is_letter (hex_digit n) ≡ true
 hex_digit_letter n h = grind arith
@@ -134,20 +132,17 @@ pub pair_letters : (b : ℕ) (rest : List ℕ) → b < 256 → letters rest ≡ 
 pair_letters b rest h l =
     let high : b / 16 < 16 = omega arith in
     let low : b % 16 < 16 = omega arith in
-    both _ _ (hex_digit_letter (b / 16) high) (both _ _ (hex_digit_letter (b % 16) low) l)
+    and_from _ _ (hex_digit_letter (b / 16) high) (and_from _ _ (hex_digit_letter (b % 16) low) l)
 
 hex_letters : (bytes : List ℕ) → list_all (λ b. nat_lt b 256) bytes ≡ true → letters (hex_of bytes) ≡ true
 hex_letters [] h = refl
 hex_letters (b ∷ bytes) h =
-    let fits : b < 256 = small b (first_so _ _ h) in
+    let fits : b < 256 = ltb-true b 256 (first_so _ _ h) in
     pair_letters b (hex_of bytes) fits (hex_letters bytes (second_so _ _ h))
-  where
-    small : (b : ℕ) → nat_lt b 256 ≡ true → b < 256
-    small b h = grind arith
 
 hex_word : (bytes : List ℕ) → is_word bytes ≡ true → is_word (hex_of bytes) ≡ true
 hex_word [] h = h
 hex_word (b ∷ bytes) h = refl
 
 pub hex_proper : (bytes : List ℕ) → is_word bytes ≡ true → list_all (λ b. nat_lt b 256) bytes ≡ true → is_proper (hex_of bytes) ≡ true
-hex_proper bytes some h = both _ _ (hex_word bytes some) (hex_letters bytes h)
+hex_proper bytes some h = and_from _ _ (hex_word bytes some) (hex_letters bytes h)

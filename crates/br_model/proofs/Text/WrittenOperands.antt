@@ -5,7 +5,7 @@ use Rattle.std.specs.Fmt.{decimal}
 use Rattle.std.specs.List.{filter, list_all, list_any}
 use Rattle.std.specs.Option.{is_some}
 use Rattle.std.specs.declared.result.Result.TheVariants.{Ok, Err}
-use Rattle.std.proofs.lemmas.Bool.{eqb-true, not-true}
+use Rattle.std.proofs.lemmas.Bool.{eqb-true, not-true, leb-true, ltb-true}
 use Rattle.br_model.specs.declared.scenario.LineWhy.TheVariants as why
 use Rattle.br_model.specs.Data.Digits.{hex_of}
 use Rattle.br_model.specs.Table.Domains.{first_chip_domain, last_chip, last_port}
@@ -38,14 +38,11 @@ is_narrow Flag = true
 below : (high n : ℕ) → nat_lt high (2 ^ 64) ≡ true → nat_le n high ≡ true → n < 2 ^ 64
 below high n narrow h =
     let small : high < 2 ^ 64 = under high narrow in
-    let most : n ≤ high = within high n h in
+    let most : n ≤ high = leb-true n high h in
     omega arith
   where
     under : (high : ℕ) → nat_lt high (2 ^ 64) ≡ true → high < 2 ^ 64
     under high h = grind arith
-
-    within : (high n : ℕ) → nat_le n high ≡ true → n ≤ high
-    within high n h = grind arith
 
 in_number : (low high n : ℕ) → nat_lt high (2 ^ 64) ≡ true → (nat_le low n && nat_le n high) ≡ true → number low high (decimal n) ≡ Ok n
 in_number low high n narrow h = number_read low high n (below high n narrow (second_so (nat_le low n) _ h)) (first_so _ _ h) (second_so (nat_le low n) _ h)
@@ -91,10 +88,7 @@ unfolding new_name
 new_name_read ports name h = ap (λ (b : Bool). if b then Ok name else Err why.Port) h
 
 station_read : (address : ℕ) → is_station address ≡ true → mac (mac_text address) ≡ Ok address
-station_read address h = mac_read address (small (2 ^ 48) address (first_so _ _ h)) (not-true _ (second_so _ _ h))
-  where
-    small : (m n : ℕ) → nat_lt n m ≡ true → n < m
-    small m n h = grind arith
+station_read address h = mac_read address (ltb-true address (2 ^ 48) (first_so _ _ h)) (not-true _ (second_so _ _ h))
 
 hex_is : (bytes : List ℕ) → is_word bytes ≡ true → list_all is_byte bytes ≡ true → hex (hex_of bytes) ≡ Ok bytes
 unfolding hex

@@ -6,6 +6,8 @@ use Rattle.std.specs.Str.{bytes_eq}
 use Rattle.std.specs.declared.option.Option.TheVariants.{None}
 use Rattle.std.specs.declared.result.Result.{Result}
 use Rattle.std.specs.declared.result.Result.TheVariants.{Ok, Err}
+use Rattle.std.proofs.lemmas.Bool.{and_right, and_from}
+use Rattle.lemmas.proofs.Numbers.{eqb-itself}
 use Rattle.br_model.specs.declared.scenario.LineWhy.{LineWhy}
 use Rattle.br_model.specs.declared.scenario.LineWhy.TheVariants as why
 use Rattle.br_model.specs.Text.Declarations.{are_declared}
@@ -13,9 +15,9 @@ use Rattle.br_model.specs.Text.Forms.{Token, Fixed, Has, Makes, operands_from, R
 use Rattle.br_model.specs.Text.Operands.{Value, in_range, read, spelled, can_stand}
 use Rattle.br_model.specs.Text.Roster.{Entry, Roster}
 use Rattle.br_model.specs.Text.Words.{Word}
-use Rattle.br_model.proofs.Text.Words.{equal, neither}
+use Rattle.br_model.proofs.Text.Words.{equal}
 use Rattle.br_model.proofs.Text.WrittenOperands.{is_narrow, operand_read, operand_proper, operand_stands}
-use Rattle.br_model.proofs.Text.WrittenWords.{is_proper, both}
+use Rattle.br_model.proofs.Text.WrittenWords.{is_proper}
 
 -- the words that are written for a row's operands in range are words, and as many as the row's
 
@@ -28,9 +30,9 @@ is_sound (Has o ∷ ts) = is_narrow o && is_sound ts
 pub all_proper : (ports : List Entry) (ts : List Token) (values : Values ts) → are_declared ports ≡ true → is_sound ts ≡ true → all_values (in_range ports) ts values ≡ true
     → list_all is_proper (words_of ports ts values) ≡ true
 all_proper ports [] values all sound h = refl
-all_proper ports (Fixed w ∷ ts) values all sound h = both (is_proper w) _ (first_so (is_proper w) (is_sound ts) sound) (all_proper ports ts values all (second_so (is_proper w) (is_sound ts) sound) h)
+all_proper ports (Fixed w ∷ ts) values all sound h = and_from (is_proper w) _ (first_so (is_proper w) (is_sound ts) sound) (all_proper ports ts values all (second_so (is_proper w) (is_sound ts) sound) h)
 all_proper ports (Has o ∷ ts) values all sound h =
-    both (is_proper (spelled ports o values.0)) _
+    and_from (is_proper (spelled ports o values.0)) _
     (operand_proper ports o values.0 all (first_so (is_narrow o) (is_sound ts) sound) (first_so (in_range ports o values.0) _ h))
     (all_proper ports ts values.1 all (second_so (is_narrow o) (is_sound ts) sound) (second_so (in_range ports o values.0) _ h))
 
@@ -95,10 +97,10 @@ own_fits : (ports : List Entry) (i : ℕ) (ts : List Token) (values : Values ts)
     → Stand (words_of ports ts values) i word → fits ts i word ≡ true
 own_fits ports i [] values word h stand = refl
 own_fits ports i (Fixed w ∷ ts) values word h stand =
-    both (bytes_eq (word i) w) _ (equal (word i) w (stands_here w (words_of ports ts values) i word stand))
+    and_from (bytes_eq (word i) w) _ (equal (word i) w (stands_here w (words_of ports ts values) i word stand))
     (own_fits ports (i + 1) ts values word h (stands_next w (words_of ports ts values) i word stand))
 own_fits ports i (Has o ∷ ts) values word h stand =
-    both (can_stand o (word i)) _
+    and_from (can_stand o (word i)) _
     (
     ap (can_stand o) (stands_here (spelled ports o values.0) (words_of ports ts values.1) i word stand)
     ∙ operand_stands ports o values.0 (first_so (in_range ports o values.0) _ h)
@@ -133,12 +135,12 @@ others_fit ports i (Fixed v ∷ ts) (Fixed w ∷ us) values word stand apart =
     ap (λ (u : Word). bytes_eq u v && fits ts (i + 1) word) (stands_here w (words_of ports us values) i word stand)
     ∙ neither_from (bytes_eq w v) (meets ts us) (fits ts (i + 1) word) apart (others_fit ports (i + 1) ts us values word (stands_next w (words_of ports us values) i word stand))
 others_fit ports i (Fixed v ∷ ts) (Has p ∷ us) values word stand apart =
-    neither _ _ (others_fit ports (i + 1) ts us values.1 word (stands_next (spelled ports p values.0) (words_of ports us values.1) i word stand) apart)
+    and_right _ _ (others_fit ports (i + 1) ts us values.1 word (stands_next (spelled ports p values.0) (words_of ports us values.1) i word stand) apart)
 others_fit ports i (Has o ∷ ts) (Fixed w ∷ us) values word stand apart =
     ap (λ (u : Word). can_stand o u && fits ts (i + 1) word) (stands_here w (words_of ports us values) i word stand)
     ∙ neither_from (can_stand o w) (meets ts us) (fits ts (i + 1) word) apart (others_fit ports (i + 1) ts us values word (stands_next w (words_of ports us values) i word stand))
 others_fit ports i (Has o ∷ ts) (Has p ∷ us) values word stand apart =
-    neither _ _ (others_fit ports (i + 1) ts us values.1 word (stands_next (spelled ports p values.0) (words_of ports us values.1) i word stand) apart)
+    and_right _ _ (others_fit ports (i + 1) ts us values.1 word (stands_next (spelled ports p values.0) (words_of ports us values.1) i word stand) apart)
 
 -- the first row that the words of this form may fit
 abbrev pub first_near : {A : Type 0} → List (Row A) → List Token → Option (Row A)
@@ -151,11 +153,8 @@ pick_by : {A : Type 0} (q : Row A) (rows : List (Row A)) (r : Row A) (word : ℕ
 pick_by {A} q rows r word true near own other later is =
     ap (λ (b : Bool). if b then Some q else pick rows (length r.shape) word) (here (cc)) ∙ is
   where
-    same : (n : ℕ) → (n == n) ≡ true
-    same n = grind arith
-
     here : q ≡ r → (length r.shape == length q.shape && fits q.shape 0 word) ≡ true
-    here e = ap (λ (p : Row A). length r.shape == length p.shape && fits p.shape 0 word) e ∙ both _ _ (same (length r.shape)) own
+    here e = ap (λ (p : Row A). length r.shape == length p.shape && fits p.shape 0 word) e ∙ and_from _ _ (eqb-itself (length r.shape)) own
 pick_by q rows r word false near own other later is =
     ap (λ (b : Bool). if b then Some q else pick rows (length r.shape) word)
     (neither_from (length r.shape == length q.shape) (meets q.shape r.shape) (fits q.shape 0 word) near other)

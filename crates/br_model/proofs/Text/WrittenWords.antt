@@ -3,7 +3,7 @@ use Rattle.std.proofs.Common.{◌≡◌, ℕ, ◌==◌, Bool, true, false, not, 
 use Rattle.std.specs.Char.{is_ascii}
 use Rattle.std.specs.Cmp.{first_so, second_so}
 use Rattle.std.specs.List.{filter, list_all, onto_first, slice_split}
-use Rattle.std.proofs.lemmas.Bool.{not-true}
+use Rattle.std.proofs.lemmas.Bool.{not-true, and_from}
 use Rattle.br_model.specs.Text.Words.{Word, is_word, joined, readable, replacement, words}
 
 -- a byte that can stand in a word
@@ -15,9 +15,6 @@ letters w = list_all is_letter w
 
 abbrev space : ℕ → Bool
 space c = c == 32
-
-pub both : (a b : Bool) → a ≡ true → b ≡ true → (a && b) ≡ true
-both a b d e = rw (d, e) refl
 
 no_space : (c : ℕ) → is_letter c ≡ true → space c ≡ false
 no_space c h = not-true _ (first_so _ _ h)
@@ -36,7 +33,7 @@ split_last (c ∷ w) h =
 
 all_ascii : (w : List ℕ) → letters w ≡ true → list_all is_ascii w ≡ true
 all_ascii [] h = refl
-all_ascii (c ∷ w) h = both _ _ (second_so _ _ (first_so _ _ h)) (all_ascii w (second_so _ _ h))
+all_ascii (c ∷ w) h = and_from _ _ (second_so _ _ (first_so _ _ h)) (all_ascii w (second_so _ _ h))
 
 reads_as : (w : List ℕ) → letters w ≡ true → readable w ≡ w
 reads_as w h = ap (λ (b : Bool). if b then w else replacement) (all_ascii w h)

@@ -10,6 +10,7 @@ use Rattle.std.proofs.lemmas.Bool.{and_parts, cond_both, leb-true, le-leb}
 use Rattle.std.proofs.lemmas.Bool.Decides.{nat_tests}
 use Rattle.std.proofs.lemmas.List.Elements.{All-nil, All-cons, All-head, All-tail, All-map, All-weaker, All-filter, filter_passes}
 use Rattle.std.proofs.lemmas.Map.Views.{All-insert_key}
+use Rattle.lemmas.proofs.Orders.{eq_by_cmp-itself}
 use Rattle.br_model.specs.declared.bpdu.BpduMsg.{BpduMsg}
 use Rattle.br_model.specs.declared.bpdu.BpduMsg.TheVariants.{Config, Tcn}
 use Rattle.br_model.specs.declared.tree.ConfigMsg.{ConfigMsg}
@@ -96,9 +97,6 @@ message-last x = by x.last
 tied : (p n : ℕ) → eq_by_cmp nat_cmp p n ≡ true → n ≡ p
 tied p n h = grind (arith, nat_tests)
 
-itself : (p : ℕ) → eq_by_cmp nat_cmp p p ≡ true
-itself p = grind (arith, nat_tests)
-
 -- what stands at a port after a change at each
 get-each : (f : ℕ × TreePort → TreePort) (p : ℕ) (es : List (ℕ × TreePort)) → get nat_cmp (each f es) p ≡ option_map (λ x. f (p, x)) (get nat_cmp es p)
 get-each f p [] = refl
@@ -123,7 +121,7 @@ are-found : (es : List (ℕ × TreePort)) → All (λ (e : ℕ × TreePort). IsS
 are-found [] = All-nil (λ (e : ℕ × TreePort). IsSome {T = TreePort} (get nat_cmp [] e.0))
 are-found (e ∷ es) =
     All-cons (λ (d : ℕ × TreePort). IsSome (get nat_cmp (e ∷ es) d.0)) e es
-    (ap (λ b. is_some (cond b (Some e.1) (get nat_cmp es e.0))) (itself e.0))
+    (ap (λ b. is_some (cond b (Some e.1) (get nat_cmp es e.0))) (eq_by_cmp-itself e.0))
     (All-weaker (λ (d : ℕ × TreePort). IsSome (get nat_cmp es d.0)) (λ (d : ℕ × TreePort). IsSome (get nat_cmp (e ∷ es) d.0))
     (λ d h. cond_both (eq_by_cmp nat_cmp d.0 e.0) (Some e.1) (get nat_cmp es d.0) IsSome (λ _. refl) (λ _. h))
     es (are-found es))

@@ -6,6 +6,7 @@ use Rattle.std.specs.declared.cmp.Ordering.TheVariants.{Less}
 use Rattle.std.specs.Ordering.{ord_min}
 use Rattle.std.specs.Cmp.{IsTotalOrder, then_total, on_total, nat_cmp_total, unsigned_Decides}
 use Rattle.std.proofs.lemmas.List.Elements.{All-from_recursion}
+use Rattle.lemmas.proofs.Tests.{and_first}
 use Rattle.br_model.proofs.Data.Least.{lowest, among, kept, least_left, none_least}
 use Rattle.br_model.specs.declared.tree.TreePort.{TreePort}
 use Rattle.br_model.specs.Tree.Tree.{Tree, bridge_id, port_id, each}
@@ -91,13 +92,9 @@ module _ (id : ℕ) (root : Root) where
       ap least (candidates_left es)
       ∙ least_left candidate_total (candidate id) stays es c (λ e is. offers_least id root e c is (ap (λ r. r.port) by)) l
 
-  first_holds : (x y : Bool) → (x && y) ≡ true → (x && true) ≡ true
-  first_holds true y h = refl
-  first_holds false y h = h
-
   -- a designated port stays designated, and another one doesn't become so
   designated_after : (e : ℕ × TreePort) (b : Bool) → is_designated_by id root e ≡ b → is_designated_by id root (e.0, without_kept b e.1) ≡ b
-  designated_after e true d = first_holds (not (is_port_of root e.0)) (is_best id root e) d
+  designated_after e true d = and_first (not (is_port_of root e.0)) (is_best id root e) d
   designated_after e false d = d
 
   kept_after : (b : Bool) (x : TreePort) → without_kept b (without_kept b x) ≡ without_kept b x

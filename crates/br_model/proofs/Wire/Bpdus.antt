@@ -1,27 +1,15 @@
 -- A frame that carries a message says that message.
-use Rattle.std.proofs.Common.{◌≡◌, ℕ, zero, suc, ◌+◌, ◌*◌, ◌/◌, ◌%◌, ◌^◌, ◌<◌, ◌≤◌, [], ◌∷◌, Some, refl, sym, ap, ◌∙◌, arith}
-use Rattle.std.proofs.Math.Nat.{add-mul, add_assoc, div-add-mod', div-one, mod-eq_of_lt, mod-lt, mul-add-mod_self_right, mul-le-mul_right, mul_assoc, one-le-pow, pow-succ'}
+use Rattle.std.proofs.Common.{◌≡◌, ℕ, zero, suc, ◌+◌, ◌*◌, ◌/◌, ◌%◌, ◌^◌, ◌<◌, [], ◌∷◌, Some, refl, sym, ap, ◌∙◌, arith}
+use Rattle.std.proofs.Math.Nat.{div-one, mod-eq_of_lt, one-le-pow, pow-succ'}
 use Rattle.std.specs.Int.{byte_at, bytes_high_first}
 use Rattle.std.specs.List.{fold}
+use Rattle.std.proofs.Math.Arith.{mod-mul as mod-split}
+use Rattle.lemmas.proofs.Numbers.{bytes_collect}
 use Rattle.br_model.specs.declared.bpdu.BpduMsg.{BpduMsg}
 use Rattle.br_model.specs.declared.bpdu.BpduMsg.TheVariants.{Config, Tcn}
 use Rattle.br_model.specs.Wire.Bpdus.{bpdu, written}
 use Rattle.br_model.specs.Data.Numbers.{number}
 use Rattle.br_model.specs.Theorems.TreeLaws.{Fits}
-
--- the two low digits of n, to the bases c and then m
-mod-split : (n : ℕ) {m c : ℕ} → zero < m → zero < c → n % (m * c) ≡ (n / c % m) * c + n % c
-mod-split n {m} {c} hm hc =
-    let a = mod-lt (n / c) hm in
-    let b = mod-lt n hc in
-    let top : (n / c % m + 1) * c ≤ m * c = mul-le-mul_right c (omega arith) in
-    let expand : (n / c % m + 1) * c ≡ n / c % m * c + 1 * c = add-mul (n / c % m) 1 c in
-    let split : n ≡ n / c / m * (m * c) + (n / c % m * c + n % c) =
-    sym (div-add-mod' n c)
-    ∙ ap (λ (x : ℕ). x * c + n % c) (sym (div-add-mod' (n / c) m))
-    ∙ ap (λ (x : ℕ). x + n % c) (add-mul (n / c / m * m) (n / c % m) c ∙ ap (λ (x : ℕ). x + n / c % m * c) (mul_assoc (n / c / m) m c))
-    ∙ add_assoc (n / c / m * (m * c)) (n / c % m * c) (n % c) in
-    ap (λ (x : ℕ). x % (m * c)) split ∙ mul-add-mod_self_right (n / c / m) (m * c) (n / c % m * c + n % c) ∙ mod-eq_of_lt (omega arith)
 
 byte_at-pow : (k x : ℕ) → byte_at k x ≡ x / 256 ^ k % 256
 byte_at-pow zero x = ap (λ (y : ℕ). y % 256) (sym (div-one x))
@@ -30,15 +18,12 @@ byte_at-pow (suc k) x = refl
 power_above : (n : ℕ) → zero < 256 ^ n
 power_above n = let h = one-le-pow n 256 (omega arith) in omega arith
 
-collect : (a b p r : ℕ) → (256 * a + b) * p + r ≡ a * (256 * p) + (b * p + r)
-collect a b p r = omega arith
-
 -- the bytes of x behind those of a
 spelled_from : (k a x : ℕ) → fold (λ n byte. 256 * n + byte) a (bytes_high_first k x) ≡ a * 256 ^ k + x % 256 ^ k
 spelled_from zero a x = omega arith
 spelled_from (suc k) a x =
     spelled_from k (256 * a + byte_at k x) x
-    ∙ collect a (byte_at k x) (256 ^ k) (x % 256 ^ k)
+    ∙ bytes_collect a (byte_at k x) (256 ^ k) (x % 256 ^ k)
     ∙ ap (λ (y : ℕ). a * (256 * 256 ^ k) + (y * 256 ^ k + x % 256 ^ k)) (byte_at-pow k x)
     ∙ ap (λ (y : ℕ). a * (256 * 256 ^ k) + y) (sym (mod-split x {m = 256} {c = 256 ^ k} (omega arith) (power_above k)))
     ∙ ap (λ (y : ℕ). a * y + x % y) (sym (pow-succ' 256 k))

@@ -1,6 +1,6 @@
 -- Where a message is records, they are there: what fits in a message's body fits in the frame.
 use Rattle.std.proofs.Common.{◌≡◌, ℕ, zero, suc, ◌+◌, ◌-◌, ◌*◌, ◌≤◌, ◌==◌, nat_le, nat_lt, min, not, ◌&&◌, Bool, true, false, cond, List, length, take, drop, get_or, refl, sym, ◌∙◌, ap, subst, Option, Some, None, arith}
-use Rattle.std.proofs.lemmas.Bool.{cond_both, and_parts, and_from, leb-true, le-leb, ltb-true, ltb-false}
+use Rattle.std.proofs.lemmas.Bool.{cond_both, and_parts, and_from, leb-true, le-leb, ltb-true, ltb-false, not-false}
 use Rattle.std.proofs.lemmas.List.{length-take, length-drop, get_or-take, take-take, drop-take, drop-drop}
 use Rattle.std.specs.Option.{option_map, unwrap_or}
 use Rattle.br_model.specs.declared.frame.Head.{Head}
@@ -114,10 +114,6 @@ mld_of_type-stands bytes kind source first k body is =
     cond_both (nat_lt (length body) 24) _ _ P (λ e. tt) (λ e.
     cond_both (kind == report_six) _ _ P (λ e. report_stands bytes (group_at true body 8)) (λ e.
     cond_both (kind == done_six) _ _ P (λ e. leave_stands bytes (group_at true body 8)) (λ e. tt)))))
-
-not-false : (b : Bool) → not b ≡ false → b ≡ true
-not-false true e = refl
-not-false false e = absurd (cc (e))
 
 -- the message stands where the hop-by-hop header ends
 icmp_is : (bytes : List ℕ) (first : ℕ) → has_mld (drop first bytes) ≡ true

@@ -6,8 +6,9 @@ use Rattle.br_model.specs.Control.Control.{Control}
 use Rattle.br_model.specs.Control.Course.{Course, from, makes_all}
 use Rattle.br_model.specs.Control.Reaction.{commanded}
 use Rattle.br_model.specs.Control.TreeReaction.{told}
+use Rattle.br_model.proofs.Control.Clocks.{sets-now}
 use Rattle.bridge_plans.specs.Standing.{table_of, control_of}
-use Rattle.bridge_plans.proofs.Reactions.{fit_command, sets_no_clock}
+use Rattle.bridge_plans.proofs.Reactions.{fit_command}
 use Rattle.bridge_plans.proofs.commands.obey.Goals as goal
 
 pub returns : goal.returns
@@ -18,7 +19,7 @@ returns c =
       ap (commanded (from t control) c.args.asked.now) c.in_ok-command.ensures
           ∙ sym (λ i. yes (told (c.tells.ensures i) (makes_all (record { table = t; control = c.sets.ensures i; changes = []; messages = [] }) cs))),
       record {
-        early = subst (λ (n : ℕ). n < 2 ^ 53) (sym (ap (λ (x : Control). x.now) c.sets.ensures ∙ sets_no_clock control c.args.asked.now)) c.requires;
+        early = subst (λ (n : ℕ). n < 2 ^ 53) (sym (ap (λ (x : Control). x.now) c.sets.ensures ∙ sets-now control c.args.asked.now)) c.requires;
         there = tt;
         fits = fit_command t c.args.asked.now cs c.in_ok-command.ensures;
       },

@@ -2,8 +2,9 @@ use Rattle.std.proofs.Common.{◌<◌, ◌≤◌, ◌++◌, ◌∷◌, [], List,
 use Rattle.std.specs.List.{cons_option}
 use Rattle.std.proofs.lemmas.List.{append-nil, take_all}
 use Rattle.std.proofs.lemmas.Option.{get_or_from_slice_get}
+use Rattle.lemmas.proofs.Lists.{filter_map-next}
 use Rattle.neigh_netlink.specs.Neighbours.{Key}
-use Rattle.chip_audit.proofs.UsedRows.{place-next, sorted-keys}
+use Rattle.chip_audit.proofs.UsedRows.{sorted-keys}
 use Rattle.chip_audit.proofs.rows.keys.Goals as goal
 use Rattle.chip_audit.proofs.rows.keys.Goals.{in-Some+in_ok-push, in_default}
 
@@ -12,7 +13,7 @@ loop-i-preserved c =
     let places : List (Option Key) = c.args.tables.now.places in
     let made : Option Key → List Key = λ o. filter_map (λ place. place) (take c.loop-i.i places) ++ cons_option o [] in
     let within : c.loop-i.i < length places = omega (arith, c.loop-i-test.true, c.address_rows-i-end.ensures.count, c.address_rows-i-end.ensures.placed.sized) in
-    let next = place-next (λ place. place) places c.loop-i.i None within
+    let next = filter_map-next (λ place. place) places c.loop-i.i None within
     ∙ ap made (get_or_from_slice_get places c.loop-i.i c.address_at.result None c.address_at.ensures.place) in
     elim c.match-address_at.branch [
       | in-Some+in_ok-push w ↦ ap (λ (v : Vec Key Global). v.items) w.keys-is ∙ w.in_ok-push.ensures.items ∙ ap (λ (l : List Key). l ++ w.in-Some.key ∷ []) c.loop-i.invariant

@@ -1,9 +1,11 @@
 use Rattle.std.proofs.Common.{◌<◌, ◌≤◌, ◌++◌, ◌∷◌, [], List, Option, None, Vec, Global, length, get_or, take, filter_map, sym, ap, ◌∙◌, arith}
 use Rattle.std.specs.List.{cons_option}
 use Rattle.std.proofs.lemmas.List.{append-nil, take_all}
+use Rattle.std.proofs.lemmas.Option.{slice_get-get_or}
+use Rattle.lemmas.proofs.Lists.{filter_map-next}
 use Rattle.br_model.specs.Control.Learning.{Address, Triple}
 use Rattle.hwdom_chips.specs.Chips.{chip_of}
-use Rattle.hwdom_chips.proofs.Sweeping.{at_place, at-place, place-next, all-swept}
+use Rattle.hwdom_chips.proofs.Sweeping.{at_place, all-swept}
 use Rattle.hwdom_chips.proofs.sweep.unhit.Goals as goal
 use Rattle.hwdom_chips.proofs.sweep.unhit.Goals.{in-Some+in_ok-push, in_default}
 
@@ -13,8 +15,8 @@ loop-i-preserved c d dom t ports =
     let found : Option Address → Option Triple = at_place d (chip_of dom 0 c.args.reports.now) c.args.tables.now in
     let made : Option Triple → List Triple = λ o. filter_map found (take c.loop-i.i places) ++ cons_option o [] in
     let within : c.loop-i.i < length places = omega (arith, c.loop-i-test.true, c.address_rows-i-end.ensures.count, c.address_rows-i-end.ensures.placed.sized) in
-    let next = place-next found places c.loop-i.i None within
-    ∙ ap made (sym (c.unseen.ensures d dom t (get_or places c.loop-i.i None) ports (at-place places c.loop-i.i None within))) in
+    let next = filter_map-next found places c.loop-i.i None within
+    ∙ ap made (sym (c.unseen.ensures d dom t (get_or places c.loop-i.i None) ports (slice_get-get_or places c.loop-i.i None within))) in
     elim c.match-unseen.branch [
       | in-Some+in_ok-push w ↦ ap (λ (v : Vec Triple Global). v.items) w.stations-is ∙ w.in_ok-push.ensures.items ∙ ap (λ (l : List Triple). l ++ w.in-Some.station ∷ []) (c.loop-i.invariant d dom t ports)
           ∙ ap made (sym w.in-Some.is) ∙ sym next

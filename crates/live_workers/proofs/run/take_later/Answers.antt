@@ -1,19 +1,19 @@
 use Rattle.std.proofs.Common.{◌≡◌, true, false, drop, List, IfOk, IfSome, sym, ap, subst, ◌∙◌}
 use Rattle.std.specs.List.{list_all}
+use Rattle.std.proofs.lemmas.List.{take_rest}
 use Rattle.br_model.specs.declared.steps.Step.{Step}
 use Rattle.br_model.specs.Table.Domains.{Domains, chip_domains}
 use Rattle.br_model.specs.Table.Setup.{Setup}
 use Rattle.br_model.specs.Text.LineForms.{comes_by_line}
 use Rattle.live_workers.specs.Results.{IsTaken}
 use Rattle.live_thread.proofs.Runs.{all_later}
-use Rattle.live_thread.proofs.Standing.{behind_place}
 use Rattle.live_workers.proofs.run.take_later.Goals as goal
 
 pub drive_all-stop-requires-clause-by_line : goal.drive_all-stop-requires-clause-by_line
 drive_all-stop-requires-clause-by_line g c κs within =
     let n = c.args.made.opening in
     let steps = c.args.given.now.steps.now in
-    subst (λ (l : List Step). list_all (comes_by_line false (chip_domains g.N.Name.board.domains)) l ≡ true) (sym (behind_place n steps))
+    subst (λ (l : List Step). list_all (comes_by_line false (chip_domains g.N.Name.board.domains)) l ≡ true) (sym (take_rest steps n))
     (ap (λ (d : Domains). list_all (comes_by_line false (chip_domains d)) (drop n steps)) c.requires.domains
     ∙ all_later (comes_by_line false (chip_domains c.args.given.now.domains.now)) n steps c.args.given.now.by_line)
 

@@ -1,8 +1,8 @@
 use Rattle.std.proofs.Common.{ℕ, List, ◌++◌, ap, arith, ◌∙◌}
 use Rattle.std.specs.String.{string_bytes}
 use Rattle.std.proofs.lemmas.Result.{on_ok_weaker}
-use Rattle.neigh_follow.proofs.RowTexts.{mac_parts}
 use Rattle.neigh_follow.proofs.row_lines.append_mac.Goals as goal
+use Rattle.br_model.proofs.Text.MacTexts.{mac_parts}
 
 pub returns : goal.returns
 returns c =

@@ -3,8 +3,8 @@ use Rattle.std.specs.Fmt.{decimal}
 use Rattle.std.specs.Prelude.{codes}
 use Rattle.std.specs.String.{string_bytes}
 use Rattle.std.proofs.lemmas.Result.{on_ok_weaker}
+use Rattle.lemmas.proofs.Lists.{two_parts}
 use Rattle.br_model.specs.Text.Spelling.{further, kind_word, mac_text}
-use Rattle.neigh_follow.proofs.RowTexts.{two_parts}
 use Rattle.neigh_follow.proofs.row_lines.append_row.Goals as goal
 
 pub returns : goal.returns

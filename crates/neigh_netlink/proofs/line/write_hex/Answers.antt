@@ -1,6 +1,6 @@
 use Rattle.std.proofs.Common.{arith, ◌∙◌}
-use Rattle.neigh_netlink.proofs.HexDigits.{encode_lower-is}
 use Rattle.neigh_netlink.proofs.line.write_hex.Goals as goal
+use Rattle.br_model.proofs.Data.Hex.{encode_lower-is}
 
 pub returns-clause-bytes : goal.returns-clause-bytes
 returns-clause-bytes c = λ k. omega (arith, c.type_inv.bytes k)

@@ -1,8 +1,8 @@
 use Rattle.std.proofs.Common.{ℕ, None, sym, ◌∙◌, arith}
 use Rattle.std.proofs.lemmas.Bool.{eqb-true}
+use Rattle.lemmas.proofs.Numbers.{ne_from_eqb}
 use Rattle.open_addressing.specs.Hashed.{key_in}
 use Rattle.open_addressing.specs.Zipped.{key_of}
-use Rattle.open_addressing.proofs.Indexed.{differ}
 use Rattle.open_addressing.proofs.index.held.Goals as goal
 
 pub returns-then-holds-clause-some : goal.returns-then-holds-clause-some
@@ -11,4 +11,4 @@ returns-then-holds-clause-some g c =
 
 pub returns-else-holds-clause-none : goal.returns-else-holds-clause-none
 returns-else-holds-clause-none g c _ =
-    differ (key_in key_of None (g.C.Cells.cells c.args.cells.now) c.args.cell) (g.C.Cells.number c.args.key.now) (sym c.holds.ensures ∙ c.if-holds.false)
+    ne_from_eqb (key_in key_of None (g.C.Cells.cells c.args.cells.now) c.args.cell) (g.C.Cells.number c.args.key.now) (sym c.holds.ensures ∙ c.if-holds.false)

@@ -1,9 +1,10 @@
 use Rattle.std.proofs.Common.{◌≡◌, ◌≢◌, ℕ, None, length, get_or, sym, ap, ◌∙◌, subst, ◌<◌, arith}
 use Rattle.std.proofs.lemmas.Bool.{eqb-true}
 use Rattle.std.proofs.lemmas.List.{get_or_read}
+use Rattle.lemmas.proofs.Numbers.{ne_from_eqb}
 use Rattle.open_addressing.specs.Hashed.{key_in}
 use Rattle.open_addressing.specs.Zipped.{key_of}
-use Rattle.open_addressing.proofs.Indexed.{rank_absent, differ}
+use Rattle.open_addressing.proofs.Indexed.{rank_absent}
 use Rattle.open_addressing.proofs.index.listed.Goals as goal
 
 pub returns-then-place-rest-clause-none : goal.returns-then-place-rest-clause-none
@@ -33,4 +34,4 @@ returns-else-holds-clause-none g c _ =
     let same : c.from.result ≡ c.index.result.now = omega arith in
     let read : c.from.result ≡ get_or c.args.rest.now c.rank-place.result 0 = same ∙ get_or_read c.args.rest.now c.rank-place.result c.index.result.now (omega arith) c.index.ensures 0 in
     rank_absent at c.args.rest.now k c.rank-place.result c.requires.ascending c.rank-place.ensures
-    (λ h e. differ (at c.from.result) k (sym c.holds.ensures ∙ c.if-holds.false) (ap at read ∙ e))
+    (λ h e. ne_from_eqb (at c.from.result) k (sym c.holds.ensures ∙ c.if-holds.false) (ap at read ∙ e))

@@ -1,5 +1,5 @@
+use Rattle.std.proofs.lemmas.List.{take_rest}
 use Rattle.run_io.proofs.Feeds.{feed_farther, feedless_both}
-use Rattle.run_io.proofs.Pieces.{take_rest}
 use Rattle.run_io.proofs.lines.line_before.Goals as goal
 
 pub returns-in-Some-first_feed : goal.returns-in-Some-first_feed

@@ -2,8 +2,8 @@ use Rattle.std.proofs.Common.{◌≡◌, arith, ◌∙◌, String, string_bytes}
 use Rattle.std.specs.declared.alloc.Global.{Global}
 use Rattle.std.proofs.lemmas.Result.{IfOk-weaker}
 use Rattle.br_model.specs.Data.Digits.{hex_of}
+use Rattle.br_model.proofs.Data.Hex.{encode_lower-is}
 use Rattle.hex.specs.Hex.{encode_lower}
-use Rattle.neigh_netlink.proofs.HexDigits.{encode_lower-is}
 use Rattle.run_world.proofs.asking.digits_of.Goals as goal
 
 pub returns : goal.returns

@@ -1,6 +1,7 @@
 use Rattle.std.proofs.Common.{arith, ap}
+use Rattle.lemmas.proofs.Endings.{OnErr_from}
 use Rattle.scenario_text.specs.Generating.{At}
-use Rattle.scenario_runner.proofs.Generating.{on_err, together_breaks, together_more}
+use Rattle.scenario_runner.proofs.Generating.{together_breaks, together_more}
 use Rattle.scenario_runner.proofs.commands.put_frames.Goals as goal
 
 pub loop-output-init : goal.loop-output-init
@@ -33,4 +34,4 @@ returns-clause-room g c = c.loop-output.invariant.room
 
 pub returns-in_err-put_if_full-clause-breaks : goal.returns-in_err-put_if_full-clause-breaks
 returns-in_err-put_if_full-clause-breaks g c =
-    on_err c.from_residual.result _ (λ before whole t. together_breaks before _ _ _ whole _ (c.loop-output.invariant.goes_on before whole t) c.in_err-put_if_full.ensures.breaks)
+    OnErr_from c.from_residual.result (λ before whole t. together_breaks before _ _ _ whole _ (c.loop-output.invariant.goes_on before whole t) c.in_err-put_if_full.ensures.breaks)

@@ -1,10 +1,10 @@
 use Rattle.std.specs.Prelude.{codes}
 use Rattle.std.specs.List.{flat_map}
 use Rattle.std.specs.String.{string_bytes}
+use Rattle.lemmas.proofs.Lists.{three_parts}
 use Rattle.br_model.specs.Program.LiveText.{steps_scenario}
 use Rattle.br_model.specs.Text.Head.{head_text}
 use Rattle.br_model.specs.Text.ScenarioText.{step_text}
-use Rattle.scenario_text.proofs.Joins.{three_parts}
 use Rattle.scenario_text.proofs.head.append_scenario.Goals as goal
 
 pub returns : goal.returns

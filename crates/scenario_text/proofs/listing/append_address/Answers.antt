@@ -3,8 +3,8 @@ use Rattle.std.specs.Fmt.{decimal}
 use Rattle.std.specs.Prelude.{codes}
 use Rattle.std.specs.String.{string_bytes}
 use Rattle.std.proofs.lemmas.Result.{on_ok_weaker}
+use Rattle.lemmas.proofs.Lists.{two_parts}
 use Rattle.br_model.specs.Text.Spelling.{mac_text, kind_word}
-use Rattle.scenario_text.proofs.Listed.{two_parts}
 use Rattle.scenario_text.proofs.listing.append_address.Goals as goal
 
 pub returns : goal.returns

@@ -1,7 +1,8 @@
 use Rattle.std.proofs.lemmas.Option.{IfSome_then}
 use Rattle.std.proofs.Common.{map}
+use Rattle.lemmas.proofs.Endings.{none_then}
 use Rattle.br_model.specs.Text.Words.{words}
-use Rattle.scenario_text.proofs.Splits.{none_then, goes_on, is_all, too_many, too_many_last}
+use Rattle.scenario_text.proofs.Splits.{goes_on, is_all, too_many, too_many_last}
 use Rattle.scenario_text.proofs.words.find_words.Goals as goal
 
 pub loop-end-preserved : goal.loop-end-preserved

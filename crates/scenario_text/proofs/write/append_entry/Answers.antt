@@ -3,8 +3,8 @@ use Rattle.std.specs.Fmt.{decimal}
 use Rattle.std.specs.Prelude.{codes}
 use Rattle.std.specs.String.{string_bytes}
 use Rattle.std.proofs.lemmas.Result.{on_ok_weaker}
+use Rattle.lemmas.proofs.Lists.{three_parts}
 use Rattle.br_model.specs.Text.Spelling.{mac_text}
-use Rattle.scenario_text.proofs.Joins.{three_parts}
 use Rattle.scenario_text.proofs.write.append_entry.Goals as goal
 
 pub returns : goal.returns

@@ -1,8 +1,8 @@
 use Rattle.std.proofs.Common.{ℕ, List, ◌++◌, ap, arith, ◌∙◌}
 use Rattle.std.specs.String.{string_bytes}
 use Rattle.std.proofs.lemmas.Result.{on_ok_weaker}
-use Rattle.scenario_text.proofs.Joins.{mac_parts}
 use Rattle.scenario_text.proofs.write.append_mac.Goals as goal
+use Rattle.br_model.proofs.Text.MacTexts.{mac_parts}
 
 pub returns : goal.returns
 returns c =

@@ -1,6 +1,7 @@
-use Rattle.std.proofs.Common.{◌≡◌, ◌∙◌, ◌||◌, ℕ, List, Bool, Option, None, true, false, get_or, take, refl, sym, ap, arith}
+use Rattle.std.proofs.Common.{◌∙◌, ◌||◌, ℕ, List, Option, None, false, get_or, take, refl, sym, ap, arith}
 use Rattle.std.specs.Option.{option_map_or}
 use Rattle.std.specs.List.{list_any}
+use Rattle.lemmas.proofs.Tests.{or-false}
 use Rattle.br_model.specs.declared.tree.TreePort.{TreePort}
 use Rattle.stp_core.specs.Due.{is_due_at}
 use Rattle.stp_core.specs.Places.{AreEmptyFrom, entries_at}
@@ -8,10 +9,6 @@ use Rattle.stp_core.proofs.Firsts.{first_either, first_same}
 use Rattle.stp_core.proofs.PlaceLaws.{any-more, entries-before}
 use Rattle.stp_core.proofs.idle.ports_due.Goals as goal
 use Rattle.stp_core.proofs.idle.ports_due.Goals.{in-Some, in_default}
-
-or_none : (b : Bool) → b ≡ (b || false)
-or_none true = refl
-or_none false = refl
 
 pub loop-p-preserved : goal.loop-p-preserved
 loop-p-preserved c =
@@ -29,7 +26,7 @@ loop-p-preserved c =
           (first_either c.loop-p.due w.port_due.result before (λ now. due now (p, w.in-Some.x)) c.loop-p.invariant w.port_due.ensures)
       | in_default w ↦
           first_same _ _ before _ (sym w.due-is)
-          (λ now. or_none (before now) ∙ sym (more now ∙ ap (λ b. before now || b) (ap (at now) (here ∙ w.in_default.is))))
+          (λ now. sym (or-false (before now)) ∙ sym (more now ∙ ap (λ b. before now || b) (ap (at now) (here ∙ w.in_default.is))))
           c.loop-p.invariant
     ]
 

@@ -1,5 +1,5 @@
-use Rattle.transcript_check.proofs.Cutting.{feedless, no_feed, parted}
 use Rattle.transcript_check.proofs.lines.front.Goals as goal
+use Rattle.scenario_reader.proofs.Cutting.{no_feed, feedless, parted}
 
 pub returns-in-Some : goal.returns-in-Some
 returns-in-Some c =

@@ -1,6 +1,7 @@
-use Rattle.std.proofs.Common.{◌≡◌, ℕ, ◌++◌, Bool, true, false, not, if◌then◌else◌, List, [], ◌∷◌, map, length, refl, sym, ap, ap₂, ◌∙◌, IsTrue, arith}
+use Rattle.std.proofs.Common.{ℕ, ◌++◌, not, if◌then◌else◌, List, [], ◌∷◌, map, length, refl, sym, ap, ap₂, ◌∙◌, IsTrue, arith}
 use Rattle.std.specs.List.{filter}
 use Rattle.std.proofs.lemmas.List.{append-nil, length-append}
+use Rattle.std.proofs.lemmas.Bool.{not-false}
 use Rattle.br_model.specs.declared.transcript.Line.{Line}
 use Rattle.br_model.specs.declared.transcript.Line.TheVariants as lines
 use Rattle.port_sets.specs.Numbers.{has_number, numbers_below, IsSetBelow}
@@ -23,12 +24,8 @@ returns-then-is_empty-clause-form c =
       size = refl;
       short = omega arith;
       same = λ id plain. none_left (λ m. not (has_number untagged m)) ports (λ p. lines.Tx id p (if has_number untagged p then plain else [])) (λ p. lines.Tx id p (if has_number untagged p then plain else whole))
-          (λ m no. ap (λ b. lines.Tx id m (if b then plain else [])) (yes (has_number untagged m) no) ∙ sym (ap (λ b. lines.Tx id m (if b then plain else whole)) (yes (has_number untagged m) no))) none;
+          (λ m no. ap (λ b. lines.Tx id m (if b then plain else [])) (not-false (has_number untagged m) no) ∙ sym (ap (λ b. lines.Tx id m (if b then plain else whole)) (not-false (has_number untagged m) no))) none;
     }
-  where
-    yes : (b : Bool) → not b ≡ false → b ≡ true
-    yes true e = refl
-    yes false e = absurd (cc)
 
 pub returns-clause-form : goal.returns-clause-form
 returns-clause-form c = record {

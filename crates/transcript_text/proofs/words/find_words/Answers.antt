@@ -1,6 +1,7 @@
 use Rattle.std.proofs.Common.{lit<, map, rules, Some, None}
 use Rattle.std.proofs.lemmas.Str.Pattern.{split_once_first}
-use Rattle.transcript_text.proofs.Spaces.{goes_on, is_all, too_many, none_then, some_then, parts}
+use Rattle.lemmas.proofs.Endings.{none_then}
+use Rattle.transcript_text.proofs.Spaces.{goes_on, is_all, too_many, some_then, parts}
 use Rattle.transcript_text.proofs.words.find_words.Goals as goal
 
 pub loop-word-preserved : goal.loop-word-preserved

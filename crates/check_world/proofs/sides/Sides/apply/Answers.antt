@@ -1,7 +1,10 @@
 use Rattle.std.proofs.Common.{◌≡◌, ap, ◌∙◌}
+use Rattle.std.proofs.lemmas.Result.{on_ok_weaker}
+use Rattle.lemmas.proofs.Endings.{on_either}
 use Rattle.br_model.specs.Plane.Chip.{Chip, applies}
+use Rattle.br_model.proofs.Table.Counts.{count_below}
 use Rattle.table_cuts.specs.Cuts.{CutState, turned}
-use Rattle.check_world.proofs.CutChanges.{are_chips, changed, count_below, cut_found, kept_sides, next_at, on_either, there_at, turn_fits, turned_own, turned_sides, where_ok}
+use Rattle.check_world.proofs.CutChanges.{are_chips, changed, cut_found, kept_sides, next_at, there_at, turn_fits, turned_own, turned_sides}
 use Rattle.check_world.proofs.sides.Sides.apply.Goals as goal
 
 pub turn-requires-clause-there : goal.turn-requires-clause-there
@@ -35,6 +38,6 @@ pub returns : goal.returns
 returns c =
     let x = c.self.inside in
     let d = c.args.update.now.change in
-    where_ok c.turn.result (λ ch y at.
+    on_ok_weaker c.turn.result (λ ch y at.
     changed x.bridge.setup.domains x.bridge.history x.cuts c.turn.new.self c.args.d (λ z e. e ≡ turned z d) ch c.self.invariant.follows x.bridge x.published x.counts.items c.args.self.now y
     (λ (z : Chip). applies z d) c.self.view_is at (ap (λ (s : CutState). s.chip.dom) ch.so ∙ turned_own ch.was d) (ap (λ (s : CutState). s.chip) ch.so)) c.turn.ensures.ok

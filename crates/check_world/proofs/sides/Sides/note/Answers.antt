@@ -1,6 +1,8 @@
 use Rattle.std.proofs.Common.{◌≡◌, subst, sym}
+use Rattle.std.proofs.lemmas.Result.{on_ok_weaker}
+use Rattle.lemmas.proofs.Endings.{on_either}
 use Rattle.table_cuts.specs.Cuts.{Changed, KeepsTable, noted}
-use Rattle.check_world.proofs.CutChanges.{are_chips, changed_as, kept_sides, noted_keeps, noted_sides, on_either, there_at, where_ok}
+use Rattle.check_world.proofs.CutChanges.{are_chips, changed_as, kept_sides, noted_keeps, noted_sides, there_at}
 use Rattle.check_world.proofs.sides.Sides.note.Goals as goal
 
 pub note-requires : goal.note-requires
@@ -19,5 +21,5 @@ invariant_of-self c =
 pub returns : goal.returns
 returns c =
     let x = c.self.inside in
-    where_ok c.note.result (λ ch y at.
+    on_ok_weaker c.note.result (λ ch y at.
     noted_sides x.bridge x.published x.counts.items x.cuts c.note.new.self x.updates x.point c.args.self.now c.args.d y c.args.port c.args.head.now c.self.view_is c.self.invariant at ch) c.note.ensures.ok

@@ -1,8 +1,8 @@
 use Rattle.std.proofs.Common.{◌∷◌, [], sym, ◌∙◌}
+use Rattle.lemmas.proofs.Endings.{some_is}
 use Rattle.br_model.specs.declared.steps.Refusal.TheVariants.{NothingPending}
 use Rattle.br_model.specs.declared.transcript.Line.TheVariants.{Done, Refused}
 use Rattle.br_model.specs.Plane.Chip.{chip_in}
-use Rattle.check_world.proofs.CutChanges.{some_is}
 use Rattle.check_world.proofs.Turning.{turns_none, turns_one}
 use Rattle.check_world.proofs.sides.Sides.turn.Goals as goal
 

@@ -1,5 +1,6 @@
 use Rattle.std.proofs.Common.{◌≡◌, ◌++◌, ◌∷◌, [], List, ℕ, length, Some, sym, ap, ap₂, subst, ◌∙◌}
 use Rattle.std.specs.Prelude.{is_some}
+use Rattle.lemmas.proofs.Endings.{some_is}
 use Rattle.br_model.specs.declared.frame.McastMsg.{McastMsg}
 use Rattle.br_model.specs.declared.transcript.Line.{Line}
 use Rattle.br_model.specs.declared.transcript.Line.TheVariants as lines
@@ -13,7 +14,6 @@ use Rattle.forward_rules.specs.Decided.{Decides}
 use Rattle.plane_parts.specs.Sent.{lines_of}
 use Rattle.plane_parts.proofs.Adding.{behind}
 use Rattle.check_world.specs.Sides.{SidesState, table_of}
-use Rattle.check_world.proofs.CutChanges.{some_is}
 use Rattle.check_world.proofs.Entering.{tells_chip, told}
 use Rattle.check_world.proofs.world.World.enter_chip.Goals as goal
 

@@ -3,18 +3,18 @@ use Rattle.std.specs.Ordering.{nat_cmp}
 use Rattle.std.specs.FinMap.Entries as entries
 use Rattle.std.specs.FinMap.Entries.{is_sorted, is_sorted-put}
 use Rattle.std.proofs.lemmas.Cmp.{nat_cmp_total}
+use Rattle.std.proofs.lemmas.Float.{T_from_true}
+use Rattle.lemmas.proofs.Tests.{true_from_T}
 use Rattle.br_model.specs.Data.Maps.{pair_cmp, get, put}
 use Rattle.open_addressing.specs.Finite as numbers
 use Rattle.fdb_core.specs.declared.entries.Entry.{Entry}
 use Rattle.fdb_core.specs.Fdb.{Table}
 use Rattle.fdb_core.specs.Packing.{by_address, AreKeys}
 use Rattle.open_addressing.proofs.Pairs.{get-by_pair, put-by_pair, length-by_pair}
-use Rattle.open_addressing.proofs.Entries.{true_of}
 use Rattle.fdb_core.specs.Counts.{AreCounts, one_more}
 use Rattle.fdb_core.specs.Places.{IsTold, news_of}
 use Rattle.fdb_core.proofs.ByAddress.{Key, keys-put}
 use Rattle.fdb_core.proofs.Kept.{found-some, fewer, counted-put}
-use Rattle.fdb_core.proofs.Lookups.{as_T}
 use Rattle.fdb_core.proofs.Addresses.{told}
 use Rattle.fdb_core.proofs.table.Fdb.replace.Goals as goal
 
@@ -66,7 +66,7 @@ invariant_of-self c =
     let is : c.insert.new.self.entries ≡ entries.put nat_cmp key c.args.entry es = ap (λ (t : numbers.Table Entry). t.entries) c.insert.ensures in
     record {
       keys = subst AreKeys (sym is) (keys-put key c.args.entry es c.pack-key.ensures.is_key kept.keys);
-      sorted = ap (is_sorted nat_cmp) is ∙ true_of _ (is_sorted-put nat_cmp nat_cmp_total key c.args.entry es (as_T _ kept.sorted));
+      sorted = ap (is_sorted nat_cmp) is ∙ true_from_T _ (is_sorted-put nat_cmp nat_cmp_total key c.args.entry es (T_from_true _ kept.sorted));
       counted = subst (λ (l : List (ℕ × Entry)). AreCounts c.add.new.self.counts l) (sym is)
           (subst (λ (l : List ℕ). AreCounts l (entries.put nat_cmp key c.args.entry es)) (sym (c.add.ensures.value ∙ ap (one_more c.args.entry.port) c.remove.ensures))
           (counted-put cs es kept.counted kept.sorted key c.args.entry c.args.old found c.add.ensures.within));

@@ -2,19 +2,19 @@ use Rattle.std.proofs.Common.{◌≡◌, ℕ, List, not, ap, sym, subst, ◌∙�
 use Rattle.std.specs.Ordering.{nat_cmp, eq_by_cmp}
 use Rattle.std.specs.FinMap.Entries as entries
 use Rattle.std.specs.FinMap.Entries.{is_sorted, is_sorted-where_key}
+use Rattle.std.proofs.lemmas.Float.{T_from_true}
+use Rattle.lemmas.proofs.Tests.{true_from_T}
 use Rattle.br_model.specs.Data.Maps.{pair_cmp, get, without}
 use Rattle.open_addressing.specs.Finite as numbers
 use Rattle.fdb_core.specs.declared.entries.Entry.{Entry}
 use Rattle.fdb_core.specs.Fdb.{Table, place}
 use Rattle.fdb_core.specs.Packing.{by_address, AreKeys}
 use Rattle.open_addressing.proofs.Pairs.{get-by_pair, without-by_pair}
-use Rattle.open_addressing.proofs.Entries.{true_of}
 use Rattle.fdb_core.specs.Counts.{AreCounts}
 use Rattle.fdb_core.specs.Places.{IsTold}
 use Rattle.fdb_core.proofs.ByAddress.{Key, keys-filter}
 use Rattle.fdb_core.proofs.Kept.{found-some, counted-without}
 use Rattle.fdb_core.proofs.Places.{tells-without}
-use Rattle.fdb_core.proofs.Lookups.{as_T}
 use Rattle.fdb_core.proofs.Addresses.{told, told-without}
 use Rattle.fdb_core.proofs.table.Fdb.take.Goals as goal
 
@@ -30,7 +30,7 @@ invariant_of-self c =
     let is : c.take-taken.new.self.entries ≡ left = ap (λ (t : numbers.Table Entry). t.entries) c.take-taken.ensures.rest in
     record {
       keys = subst AreKeys (sym is) (keys-filter (λ (e : ℕ × Entry). not (eq_by_cmp nat_cmp key e.0)) es kept.keys);
-      sorted = ap (is_sorted nat_cmp) is ∙ true_of _ (is_sorted-where_key nat_cmp (λ q. not (eq_by_cmp nat_cmp key q)) es (as_T _ kept.sorted));
+      sorted = ap (is_sorted nat_cmp) is ∙ true_from_T _ (is_sorted-where_key nat_cmp (λ q. not (eq_by_cmp nat_cmp key q)) es (T_from_true _ kept.sorted));
       counted = subst (λ (l : List (ℕ × Entry)). AreCounts c.remove.new.self.counts l) (sym is)
           (subst (λ (l : List ℕ). AreCounts l left) (sym c.remove.ensures) (counted-without c.self.inside.ports.counts es kept.counted kept.sorted key c.take-taken.result c.take-taken.ensures.value));
       told = c.settle.ensures.told

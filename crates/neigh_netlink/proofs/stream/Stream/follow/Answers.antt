@@ -1,10 +1,11 @@
 use Rattle.std.proofs.Common.{◌+◌, ◌++◌, List, length, take, drop, ap, ◌∙◌, append_assoc, arith, length-append}
 use Rattle.std.specs.Option.{option_to_list}
+use Rattle.lemmas.proofs.Lists.{slice_get_there}
 use Rattle.br_model.specs.Table.Domains.{Domains}
 use Rattle.neigh_netlink.specs.declared.neigh.Neigh.{Neigh}
 use Rattle.neigh_netlink.specs.Monitor.{messages_of}
 use Rattle.neigh_netlink.specs.Stream.{Kept, kept_of}
-use Rattle.neigh_netlink.proofs.Kept.{at-place, more-told, one-message}
+use Rattle.neigh_netlink.proofs.Kept.{more-told, one-message}
 use Rattle.neigh_netlink.proofs.stream.Stream.follow.Goals as goal
 
 pub loop-at-preserved : goal.loop-at-preserved
@@ -13,7 +14,7 @@ loop-at-preserved c =
     let at = c.loop-at.at in
     let domains = c.args.self.now.domains in
     let its = ap (λ (k : Kept). k.domains) c.loop-at.invariant.kept in
-    let x = at-place h at c.loop-at-test.true in
+    let x = slice_get_there h at c.loop-at-test.true in
     let told = c.accept-message.ensures.message x.0 x.1 in
     let more = option_to_list c.accept-message.result in
     let rest = messages_of domains.edition (take (at + 1) h) (drop (at + 1) h) in

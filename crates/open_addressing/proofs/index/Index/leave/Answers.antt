@@ -6,7 +6,7 @@ use Rattle.open_addressing.specs.Hashed.{key_in, home_of}
 use Rattle.open_addressing.specs.Indexed.{left, slot_of, is_taken, named_by, Ascends, IsIndexed}
 use Rattle.open_addressing.specs.Zipped.{key_of}
 use Rattle.open_addressing.proofs.Hashed.{home-is}
-use Rattle.open_addressing.proofs.Indexed.{slot-read, leaves_slot, leaves_list, stands, taken, not_left, less_slots, differ}
+use Rattle.open_addressing.proofs.Indexed.{slot-read, leaves_slot, leaves_list, stands, taken, not_left, less_slots}
 use Rattle.open_addressing.proofs.Sound.{key-within, key-set, key-kept}
 use Rattle.open_addressing.proofs.index.Index.leave.Goals as goal
 

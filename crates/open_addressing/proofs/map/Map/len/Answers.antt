@@ -1,6 +1,7 @@
 use Rattle.std.proofs.Common.{length, sym, ap, ◌∙◌}
+use Rattle.lemmas.proofs.Tests.{true_from_T}
 use Rattle.open_addressing.specs.Finite.{Table}
-use Rattle.open_addressing.proofs.Entries.{length-entries_of, sorted-entries_of, true_of}
+use Rattle.open_addressing.proofs.Entries.{length-entries_of, sorted-entries_of}
 use Rattle.open_addressing.proofs.map.Map.len.Goals as goal
 
 pub returns-clause-value : goal.returns-clause-value
@@ -11,4 +12,4 @@ returns-clause-value g c =
 pub returns-clause-ascending : goal.returns-clause-ascending
 returns-clause-ascending g c =
     let m = c.self.inside in
-    rw (← c.self.view_is) (true_of _ (sorted-entries_of (g.C.Cells.cells m.cells)))
+    rw (← c.self.view_is) (true_from_T _ (sorted-entries_of (g.C.Cells.cells m.cells)))

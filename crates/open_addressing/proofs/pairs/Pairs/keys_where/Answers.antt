@@ -1,9 +1,10 @@
 use Rattle.std.proofs.Common.{◌≡◌, ◌++◌, ◌+◌, ◌<◌, [], ◌∷◌, List, ℕ, Option, None, Vec, Global, length, take, map, filter_map, get_or, sym, ap, ◌∙◌, refl, arith}
 use Rattle.std.proofs.lemmas.List.{append-nil, length-map, take_all}
 use Rattle.std.specs.List.{cons_option}
+use Rattle.lemmas.proofs.Lists.{filter_map-next}
 use Rattle.open_addressing.specs.Finite.{key_if}
 use Rattle.open_addressing.specs.Zipped.{pair_cell}
-use Rattle.open_addressing.proofs.Zipped.{filter_map-next, keys-padded}
+use Rattle.open_addressing.proofs.Zipped.{keys-padded}
 use Rattle.open_addressing.proofs.pairs.Pairs.keys_where.Goals as goal
 use Rattle.open_addressing.proofs.pairs.Pairs.keys_where.Goals.{in-Some-key_if+in_ok-push, in_default-key_if}
 

@@ -1,5 +1,6 @@
 use Rattle.std.proofs.Common.{◌≡◌, ◌+◌, ◌++◌, ◌∷◌, [], List, ℕ, length, Some, sym, ap, ap₂, subst, ◌∙◌}
 use Rattle.std.specs.Prelude.{is_some}
+use Rattle.lemmas.proofs.Endings.{some_is}
 use Rattle.br_model.specs.declared.frame.Class.{Class}
 use Rattle.br_model.specs.declared.frame.McastMsg.{McastMsg}
 use Rattle.br_model.specs.declared.transcript.Line.{Line}
@@ -20,7 +21,6 @@ use Rattle.plane_parts.specs.Queued.{Queued}
 use Rattle.plane_parts.specs.Sent.{lines_of}
 use Rattle.plane_core.specs.Sides.{SidesState, world_of}
 use Rattle.plane_parts.proofs.Adding.{behind}
-use Rattle.plane_core.proofs.Changing.{some_is}
 use Rattle.plane_core.proofs.Entering.{enters_by_chip}
 use Rattle.plane_core.proofs.Stepping.{stepped}
 use Rattle.plane_core.proofs.plane.Plane.enter_chip.Goals as goal

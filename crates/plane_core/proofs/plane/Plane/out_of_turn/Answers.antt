@@ -1,8 +1,8 @@
 use Rattle.std.proofs.Common.{◌≡◌, ℕ, Option, None, Some, refl, sym, ◌∙◌, subst}
 use Rattle.std.specs.Prelude.{IfSome}
+use Rattle.lemmas.proofs.Endings.{some_is}
 use Rattle.br_model.specs.Plane.Chip.{chip_in}
 use Rattle.plane_core.specs.Planes.{ticket_of}
-use Rattle.plane_core.proofs.Changing.{some_is}
 use Rattle.plane_core.proofs.Turning.{is_ticket, not_ticket, there, waits}
 use Rattle.plane_core.proofs.plane.Plane.out_of_turn.Goals as goal
 

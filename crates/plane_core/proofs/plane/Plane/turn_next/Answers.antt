@@ -1,11 +1,11 @@
 use Rattle.std.proofs.Common.{[], ◌∷◌, ◌++◌, refl, sym, ap, ◌∙◌}
+use Rattle.lemmas.proofs.Endings.{some_is}
 use Rattle.br_model.specs.Plane.Chip.{chip_in}
 use Rattle.br_model.specs.declared.steps.Refusal.TheVariants.{NothingPending}
 use Rattle.br_model.specs.declared.steps.Step.TheVariants.{Turn}
 use Rattle.br_model.specs.declared.transcript.Line.TheVariants.{Done, Refused}
 use Rattle.plane_core.specs.Sides.{SidesState}
 use Rattle.plane_core.proofs.Calling.{stands_after, steps_so, turns_none, turns_one}
-use Rattle.plane_core.proofs.Changing.{some_is}
 use Rattle.plane_core.proofs.Turning.{there}
 use Rattle.plane_core.proofs.plane.Plane.turn_next.Goals as goal
 

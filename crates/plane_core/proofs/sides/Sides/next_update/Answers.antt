@@ -1,9 +1,10 @@
 use Rattle.std.proofs.Common.{slice_get, sym, ap, ◌∙◌}
 use Rattle.br_model.specs.Plane.Chip.{Chip}
 use Rattle.br_model.specs.Table.Change.{updates}
+use Rattle.br_model.proofs.Plane.ByDomain.{same_chip}
 use Rattle.plane_core.specs.Sides.{SidesState}
 use Rattle.plane_parts.specs.Places.{places}
-use Rattle.plane_core.proofs.Changing.{found_at, same_chip, there_at}
+use Rattle.plane_core.proofs.Changing.{found_at, there_at}
 use Rattle.plane_core.proofs.sides.Sides.next_update.Goals as goal
 
 pub at-requires : goal.at-requires

@@ -1,11 +1,13 @@
 use Rattle.std.proofs.Common.{◌≡◌, Option, sym, ap, ap₂, ◌∙◌, subst}
 use Rattle.std.proofs.lemmas.Option.{slice_get_within}
+use Rattle.std.proofs.lemmas.Result.{on_ok_weaker, on_err_weaker}
+use Rattle.lemmas.proofs.Endings.{on_either}
 use Rattle.br_model.specs.Control.Learning.{Address}
 use Rattle.br_model.specs.Plane.Chip.{Chip, hits_entry, offers, put_chip}
+use Rattle.br_model.proofs.Plane.Noting.{kept_note}
 use Rattle.hwdom_chips.specs.Chips.{ChipState, IsChip}
 use Rattle.plane_core.specs.Sides.{SidesState}
-use Rattle.plane_core.proofs.Changing.{changed, chip_here, kept_chip, on_either, sides_with, there_at, unchanged, where_err, where_ok}
-use Rattle.hwdom_chips.proofs.Noting.{kept_note}
+use Rattle.plane_core.proofs.Changing.{changed, chip_here, kept_chip, sides_with, there_at, unchanged}
 use Rattle.plane_core.proofs.sides.Sides.note.Goals as goal
 
 pub place-place-requires : goal.place-place-requires
@@ -47,11 +49,11 @@ invariant_of-self c =
 
 pub returns-clause-ok : goal.returns-clause-ok
 returns-clause-ok c =
-    where_ok c.note.result (λ is x at.
+    on_ok_weaker c.note.result (λ is x at.
     changed c.self.inside.bridge c.self.inside.chips c.self.inside.updates c.self.inside.board c.self.invariant c.place-place.result (old c) (new c) c.at_mut.ensures.value
     c.args.self.now c.args.d x (notes c) c.self.view_is c.place-place.ensures at (noted c is).0 (ap (λ (s : ChipState). s.chip) is)
     ∙ ap₂ (λ (hit report : Option Address). record c.args.self.now { chips = put_chip c.args.self.now.chips (hits_entry hit (offers c.args.port report x)) }) c.hit.ensures c.report.ensures) c.note.ensures.ok
 
 pub returns-clause-err : goal.returns-clause-err
 returns-clause-err c =
-    where_err c.note.result (unchanged c.self.inside.bridge c.self.inside.chips c.self.inside.updates c.self.inside.board c.self.invariant c.place-place.result (old c) (new c) c.at_mut.ensures.value c.args.self.now c.self.view_is) c.note.ensures.err
+    on_err_weaker c.note.result (unchanged c.self.inside.bridge c.self.inside.chips c.self.inside.updates c.self.inside.board c.self.invariant c.place-place.result (old c) (new c) c.at_mut.ensures.value c.args.self.now c.self.view_is) c.note.ensures.err

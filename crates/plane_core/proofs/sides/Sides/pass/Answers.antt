@@ -1,10 +1,11 @@
 use Rattle.std.proofs.Common.{◌≡◌, Some, refl, sym, ap, ◌∙◌, subst}
 use Rattle.br_model.specs.Plane.Chip.{Chip, chip_table}
 use Rattle.br_model.specs.Table.Domains.{Domains, domain_of, host, software}
+use Rattle.br_model.proofs.Plane.ByDomain.{same_chip}
 use Rattle.chip_pipeline.specs.Passed.{AtChip, IsPass}
 use Rattle.chip_tables.specs.Rows.{Rows}
 use Rattle.plane_core.specs.Sides.{SidesState}
-use Rattle.plane_core.proofs.Changing.{at_chip, found_at, same_chip, there_at}
+use Rattle.plane_core.proofs.Changing.{at_chip, found_at, there_at}
 use Rattle.plane_core.proofs.sides.Sides.pass.Goals as goal
 
 pub at-requires : goal.at-requires

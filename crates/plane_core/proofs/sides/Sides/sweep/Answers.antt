@@ -1,4 +1,5 @@
 use Rattle.std.proofs.Common.{◌≡◌, [], List, sym, ap, ◌∙◌}
+use Rattle.lemmas.proofs.Endings.{OnErr_from}
 use Rattle.br_model.specs.declared.steps.Event.TheVariants.{Forget}
 use Rattle.br_model.specs.Plane.Chip.{Chip, chip_table, unhit}
 use Rattle.br_model.specs.Plane.ChipSteps.{sweeps}
@@ -6,7 +7,7 @@ use Rattle.br_model.specs.Control.Learning.{Triple}
 use Rattle.br_model.specs.Plane.World.{World, Stepped, answered, reacts, with_chip}
 use Rattle.plane_core.specs.Sides.{SidesState, world_of}
 use Rattle.plane_parts.proofs.Adding.{added_as, from_none}
-use Rattle.plane_core.proofs.Changing.{chip_found, found_at, on_err, there_at}
+use Rattle.plane_core.proofs.Changing.{chip_found, found_at, there_at}
 use Rattle.plane_core.proofs.Reacting.{ended_behind, not_ended, same_board}
 use Rattle.plane_core.proofs.sides.Sides.sweep.Goals as goal
 
@@ -37,14 +38,14 @@ returns-in_err-last_line-clause-err c =
     let x = c.at.result.now in
     let here = found_at c.self.inside.chips c.args.self.now.chips c.args.d x (ap (λ (t : SidesState). t.chips) c.self.view_is) c.at.ensures in
     let back = not_ended c.args.self.now c.react_to_sweep-outcome.new.self _ _ _ c.args.step c.react_to_sweep-outcome.result c.last_line.result _ _ (c.react_to_sweep-outcome.ensures.reacted x.chip here) c.last_line.ensures.lasts c.in_err-last_line.was in
-    on_err c.from_residual-in_err-last_line.result back.0
+    OnErr_from c.from_residual-in_err-last_line.result back.0
 
 pub returns-in_err-last_line-clause-lines : goal.returns-in_err-last_line-clause-lines
 returns-in_err-last_line-clause-lines c =
     let x = c.at.result.now in
     let here = found_at c.self.inside.chips c.args.self.now.chips c.args.d x (ap (λ (t : SidesState). t.chips) c.self.view_is) c.at.ensures in
     let back = not_ended c.args.self.now c.react_to_sweep-outcome.new.self _ _ _ c.args.step c.react_to_sweep-outcome.result c.last_line.result _ _ (c.react_to_sweep-outcome.ensures.reacted x.chip here) c.last_line.ensures.lasts c.in_err-last_line.was in
-    on_err c.from_residual-in_err-last_line.result (back.1 ∙ c.in_ok-reserve.ensures.lines)
+    OnErr_from c.from_residual-in_err-last_line.result (back.1 ∙ c.in_ok-reserve.ensures.lines)
 
 pub returns-in_err-last_line-clause-over : goal.returns-in_err-last_line-clause-over
 returns-in_err-last_line-clause-over c =

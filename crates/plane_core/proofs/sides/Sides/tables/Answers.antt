@@ -1,9 +1,10 @@
 use Rattle.std.proofs.Common.{sym, ap, subst}
 use Rattle.br_model.specs.Plane.Chip.{Chip, chip_table}
+use Rattle.br_model.proofs.Plane.ByDomain.{same_chip}
 use Rattle.chip_tables.specs.Rows.{Rows}
 use Rattle.chip_tables.specs.Stands.{Stands}
 use Rattle.plane_core.specs.Sides.{SidesState}
-use Rattle.plane_core.proofs.Changing.{found_at, same_chip, stands_at, there_at}
+use Rattle.plane_core.proofs.Changing.{found_at, stands_at, there_at}
 use Rattle.plane_core.proofs.sides.Sides.tables.Goals as goal
 
 pub at-requires : goal.at-requires

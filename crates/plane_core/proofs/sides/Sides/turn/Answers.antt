@@ -1,14 +1,17 @@
 use Rattle.std.proofs.Common.{◌≡◌, sym, ap, subst}
 use Rattle.std.proofs.lemmas.Option.{slice_get_within}
+use Rattle.std.proofs.lemmas.Result.{on_ok_weaker, on_err_weaker}
+use Rattle.lemmas.proofs.Endings.{on_either}
 use Rattle.br_model.specs.Plane.Chip.{Chip, applies}
 use Rattle.br_model.specs.Table.Domains.{Domains}
 use Rattle.br_model.specs.Table.Table.{Table, apply}
 use Rattle.br_model.proofs.Table.Cuts.{updates-named}
+use Rattle.br_model.proofs.Table.Counts.{count_below}
 use Rattle.chip_driver.specs.Drives.{Drives}
 use Rattle.hwdom_chips.specs.Chips.{ChipState, IsChip}
 use Rattle.plane_core.specs.Sides.{SidesState}
-use Rattle.plane_core.proofs.Changing.{both_ok, changed, chip_here, next_here, on_either, sides_with, there_at, turned_chip, turned_dom, unchanged, where_err, where_ok}
-use Rattle.hwdom_chips.proofs.Following.{count_below, queued_next, taken_next}
+use Rattle.plane_core.proofs.Changing.{both_ok, changed, chip_here, next_here, sides_with, there_at, turned_chip, turned_dom, unchanged}
+use Rattle.hwdom_chips.proofs.Following.{queued_next, taken_next}
 use Rattle.plane_core.proofs.sides.Sides.turn.Goals as goal
 
 pub place-place-requires : goal.place-place-requires
@@ -79,10 +82,10 @@ invariant_of-self c =
 
 pub returns-clause-ok : goal.returns-clause-ok
 returns-clause-ok c =
-    where_ok c.turn.result (λ is x at.
+    on_ok_weaker c.turn.result (λ is x at.
     changed c.self.inside.bridge c.self.inside.chips c.self.inside.updates c.self.inside.board c.self.invariant c.place-place.result (old c) (new c) c.at_mut.ensures.value
     c.args.self.now c.args.d x (λ (y : Chip). applies y c.args.update.now.change) c.self.view_is c.place-place.ensures at (turned_dom (old c).chip (new c).chip c.args.update.now.change is) is) c.turn.ensures.ok
 
 pub returns-clause-err : goal.returns-clause-err
 returns-clause-err c =
-    where_err c.turn.result (unchanged c.self.inside.bridge c.self.inside.chips c.self.inside.updates c.self.inside.board c.self.invariant c.place-place.result (old c) (new c) c.at_mut.ensures.value c.args.self.now c.self.view_is) c.turn.ensures.err
+    on_err_weaker c.turn.result (unchanged c.self.inside.bridge c.self.inside.chips c.self.inside.updates c.self.inside.board c.self.invariant c.place-place.result (old c) (new c) c.at_mut.ensures.value c.args.self.now c.self.view_is) c.turn.ensures.err

@@ -1,5 +1,6 @@
-use Rattle.std.proofs.Common.{◌≡◌, ◌<◌, ◌≤◌, ℕ, true, false, List, [], ◌∷◌, ◌++◌, length, Some, None, sym, ap, ◌∙◌, subst, arith}
+use Rattle.std.proofs.Common.{◌≡◌, ◌≤◌, List, [], ◌∷◌, ◌++◌, length, Some, None, sym, ap, ◌∙◌, subst}
 use Rattle.std.specs.Prelude.{Bool, nat_lt, if◌then◌else◌}
+use Rattle.std.proofs.lemmas.Bool.{lt-ltb, le-ltb}
 use Rattle.br_model.specs.declared.steps.Step.{Step}
 use Rattle.br_model.specs.declared.steps.Step.TheVariants.{Post}
 use Rattle.br_model.specs.Plane.Serving.{held_with}
@@ -20,12 +21,6 @@ post_to-requires-clause-decision c =
     subst (λ (s : PlaneState). (x : Holding) → IsCopy s.world c.args.h x → c.args.s.point ≤ s.world.published → IsDecision s.world x c.args.s)
     (sym (stood c.self.inside.plane c.self.inside.steps.items c.self.inside.lines.lines c.args.self.now c.self.invariant c.self.view_is)) c.requires.decision
 
-lt-true : (a b : ℕ) → a < b → nat_lt a b ≡ true
-lt-true a b l = grind arith
-
-lt-false : (a b : ℕ) → b ≤ a → nat_lt a b ≡ false
-lt-false a b l = grind arith
-
 module _ (c : goal.After-write_down) where
   before : c.self.inside.plane ≡ state_of c.args.self.now
   before = stood c.self.inside.plane c.self.inside.steps.items c.self.inside.lines.lines c.args.self.now c.self.invariant c.self.view_is
@@ -38,8 +33,8 @@ module _ (c : goal.After-write_down) where
 
   pt-is : c.if-is_released.point ≡ (if nat_lt (length c.post_to.new.self.world.held) (length c.self.inside.plane.world.held) then Some c.args.s.point else None)
   pt-is = elim c.if-is_released.branch [
-    | then-is_released w ↦ w.point-is ∙ sym (ap (λ (b : Bool). if b then Some c.args.s.point else None) (sym fewer-is ∙ lt-true c.held.result c.held-held.result w.if-is_released.true))
-    | else-is_released w ↦ w.point-is ∙ sym (ap (λ (b : Bool). if b then Some c.args.s.point else None) (sym fewer-is ∙ lt-false c.held.result c.held-held.result w.if-is_released.false))
+    | then-is_released w ↦ w.point-is ∙ sym (ap (λ (b : Bool). if b then Some c.args.s.point else None) (sym fewer-is ∙ lt-ltb c.held.result c.held-held.result w.if-is_released.true))
+    | else-is_released w ↦ w.point-is ∙ sym (ap (λ (b : Bool). if b then Some c.args.s.point else None) (sym fewer-is ∙ le-ltb c.held.result c.held-held.result w.if-is_released.false))
   ]
 
   given : (Post c.args.h.id c.if-is_released.point ≡ post_step (held_with c.self.inside.plane.world c.args.h.id) c.args.h.id c.args.s.point)

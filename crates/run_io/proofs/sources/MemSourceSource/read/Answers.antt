@@ -1,6 +1,6 @@
 use Rattle.std.proofs.Common.{ℕ, List, drop}
-use Rattle.std.proofs.lemmas.List.{drop-drop}
-use Rattle.run_io.proofs.Pieces.{take_rest, read_front, read_end}
+use Rattle.std.proofs.lemmas.List.{drop-drop, take_rest}
+use Rattle.run_io.proofs.Pieces.{read_front, read_end}
 use Rattle.run_io.proofs.sources.MemSourceSource.read.Goals as goal
 
 pub returns-clause-bytes : goal.returns-clause-bytes

@@ -1,7 +1,8 @@
 use Rattle.std.proofs.Common.{Some, ap, ◌∙◌, arith}
+use Rattle.std.proofs.lemmas.Result.{IfOk-weaker}
 use Rattle.scenario_reader.specs.declared.reader.Last.{Last}
 use Rattle.scenario_reader.specs.Passing.{left_by}
-use Rattle.scenario_reader.proofs.Passing.{ends_line, goes_by_step, goes_quietly, if_ok, section_short, to_section, too_long}
+use Rattle.scenario_reader.proofs.Passing.{ends_line, goes_by_step, goes_quietly, section_short, to_section, too_long}
 use Rattle.scenario_reader.proofs.whole.Reading.line.Goals as goal
 
 pub returns-then-line-gt-LONGEST_LINE-clause-goes : goal.returns-then-line-gt-LONGEST_LINE-clause-goes
@@ -22,7 +23,7 @@ returns-in_ok-push-in-Step-clause-goes c = λ check s h.
 
 pub returns-in-Section-clause-goes : goal.returns-in-Section-clause-goes
 returns-in-Section-clause-goes c =
-    if_ok c.section.result _ _
+    IfOk-weaker c.section.result _ _
     (λ went goes check s h. goes check s c.args.line.bytes.now (to_section check s _ c.args.line.behind.now _ _ h c.requires.feedless _ _ c.in_ok-take.ensures.takes c.in-Section.length c.in-Section.is))
     c.section.ensures.goes
 

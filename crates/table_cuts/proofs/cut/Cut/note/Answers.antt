@@ -1,8 +1,8 @@
 use Rattle.std.proofs.Common.{Option, ap, ap₂, ◌∙◌}
 use Rattle.br_model.specs.Control.Learning.{Address}
 use Rattle.br_model.specs.Plane.Chip.{Chip, hits_entry, notes, offers}
+use Rattle.br_model.proofs.Plane.Noting.{either_order}
 use Rattle.table_cuts.specs.Cuts.{CutState, chip_of}
-use Rattle.table_cuts.proofs.Noting.{either_order}
 use Rattle.table_cuts.proofs.cut.Cut.note.Goals as goal
 
 pub returns-clause-ok : goal.returns-clause-ok

@@ -1,13 +1,10 @@
-use Rattle.std.proofs.Common.{arith, ◌≡◌, ◌-◌, ◌++◌, List, ℕ, Vec, Global, length, map, take, drop, sym, ap, ap₂, ◌∙◌}
-use Rattle.std.proofs.lemmas.List.{length-drop, take_all}
+use Rattle.std.proofs.Common.{arith, ◌≡◌, ◌++◌, List, ℕ, Vec, Global, map, drop, sym, ap, ap₂, ◌∙◌}
+use Rattle.std.proofs.lemmas.List.{take_rest}
 use Rattle.br_model.specs.declared.transcript.Line.{Line}
 use Rattle.transcript_lines.specs.declared.row.Row.{Row}
 use Rattle.transcript_lines.specs.Rows.{Listed, expand, moved_row}
 use Rattle.transcript_lines.proofs.RowLaws.{copied, copied_inside, marked_all}
 use Rattle.transcript_lines.proofs.lines.Lines.copy_out.Goals as goal
-
-rest : {A : Type 0} (n : ℕ) (xs : List A) → take (length xs - n) (drop n xs) ≡ drop n xs
-rest n xs = take_all (length xs - n) (drop n xs) (omega (arith, length-drop n xs))
 
 -- The rows and bytes behind the mark, in an arena of their own.
 
@@ -15,13 +12,13 @@ bytes-are : (c : goal.After-new-4) → c.add.new.arena.items ≡ drop c.self.ins
 bytes-are c =
     c.add.ensures.items
     ∙ ap₂ (λ (a b : List ℕ). a ++ b) (ap (λ (v : Vec ℕ Global). v.items) c.replace-bytes.ensures.value ∙ c.self.invariant.4)
-    (rest c.self.inside.bytes_mark c.deref-2.result.now ∙ ap (drop c.self.inside.bytes_mark) c.deref-2.ensures.value)
+    (take_rest c.deref-2.result.now c.self.inside.bytes_mark ∙ ap (drop c.self.inside.bytes_mark) c.deref-2.ensures.value)
 
 rows-are : (c : goal.After-new-4) → c.add_moved.new.rows.items ≡ map (moved_row c.self.inside.bytes_mark) (drop c.self.inside.mark c.self.inside.rows.items)
 rows-are c =
     c.add_moved.ensures.items
     ∙ ap₂ (λ (a b : List Row). a ++ map (moved_row c.self.inside.bytes_mark) b) (ap (λ (v : Vec Row Global). v.items) c.replace-rows.ensures.value ∙ c.self.invariant.3)
-    (rest c.self.inside.mark c.deref.result.now ∙ ap (drop c.self.inside.mark) c.deref.ensures.value)
+    (take_rest c.deref.result.now c.self.inside.mark ∙ ap (drop c.self.inside.mark) c.deref.ensures.value)
 
 pub invariant_of-result : goal.invariant_of-result
 invariant_of-result c = (

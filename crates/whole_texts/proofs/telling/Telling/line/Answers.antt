@@ -1,5 +1,5 @@
 use Rattle.std.proofs.Common.{arith}
-use Rattle.scenario_reader.proofs.Passing.{if_ok}
+use Rattle.std.proofs.lemmas.Result.{IfOk-weaker}
 use Rattle.whole_texts.proofs.Lines.{goes_by_step, goes_quietly, line_ends, line_too_long, section_short, step_given, step_ready, to_section, took}
 use Rattle.whole_texts.proofs.telling.Telling.line.Goals as goal
 
@@ -41,7 +41,7 @@ returns-in_ok-step-in-Step-clause-goes c = λ s h.
 
 pub returns-in-Section-clause-goes : goal.returns-in-Section-clause-goes
 returns-in-Section-clause-goes c =
-    if_ok c.section.result _ _
+    IfOk-weaker c.section.result _ _
     (λ went goes s h. goes s c.args.front.line.now
     (to_section s _ c.args.front.behind.now h.follows.going c.requires.feedless _ h.so c.in-Section.length (took s _ h _ _ _ _ c.in_ok-take.ensures.takes c.in-Section.is)))
     c.section.ensures.goes
