@@ -10,16 +10,11 @@ use Rattle.br_model.specs.Table.Cut.{cut, deferred_count}
 use Rattle.br_model.specs.Table.Domains.{Domains, chip_domains}
 use Rattle.br_model.specs.Table.Table.{table}
 use Rattle.chip_driver.specs.Drives.{Driven, Drives}
-use Rattle.learn_report.specs.Reports.{Reported}
 
 -- what contracts see of a chip
 pub record ChipState : Type 0 where
   pub driver : Driven
   pub chip : Chip
-
--- so many deferred changes are applied in the domain, and this was reported and hit
-abbrev pub chip_of : ℕ → ℕ → Reported → Chip
-chip_of dom count r = record { dom = dom; count = count; reports = r.reports; hits = r.hits }
 
 -- Its rows are those of its domain and stand for the table by which it decides; it has applied no more deferred changes than there
 -- are.

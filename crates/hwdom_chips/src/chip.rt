@@ -3,13 +3,13 @@ ghost use Rattle.std.specs.Prelude.{◌≡◌, ◌≢◌, ◌+◌, ◌<◌, ◌�
 ghost use Rattle.br_model.specs.declared.domains.Edition.{Edition as EditionValue};
 ghost use Rattle.br_model.specs.declared.domains.Edition.TheVariants.{Two};
 ghost use Rattle.br_model.specs.Table.Change.{deferred, updates as updates_of};
-ghost use Rattle.br_model.specs.Plane.Chip.{Chip as ChipValue, applies, first_chip, hit_by, offered, offers, hits_entry, unhit};
+ghost use Rattle.br_model.specs.Plane.Chip.{applies, first_chip, offers, hits_entry, unhit};
 ghost use Rattle.br_model.specs.Table.Cut.{cut, deferred_count};
 ghost use Rattle.br_model.specs.Table.Domains.{Domains as DomainsValue, software};
 ghost use Rattle.br_model.specs.Table.Limits.{AreWithin, most_changes};
 ghost use Rattle.br_model.specs.Table.Table.{Table, apply, table};
 ghost use Rattle.chip_driver.specs.Drives.{Drives, IsTaken};
-ghost use Rattle.hwdom_chips.specs.Chips.{chip_of, IsChip, IsCut};
+ghost use Rattle.hwdom_chips.specs.Chips.{IsChip, IsCut};
 ghost use Rattle.plane_parts.specs.Places.{places};
 
 use crate::{NoMemory, sweep};
@@ -19,6 +19,7 @@ use br_model::numbers::{Dom, Mac, Port, Vid};
 use br_model::steps::Triples;
 use chip_driver::Driver;
 use chip_tables::Tables;
+use learn_report::noting::{entry_put, hit, offer};
 use learn_report::{Report, Reports};
 use plane_parts::Updates;
 use std::alloc::Global;
@@ -34,7 +35,8 @@ pub struct Chip {
 }
 
 impl Model for Chip {
-    ghost use Rattle.hwdom_chips.specs.Chips.{ChipState, chip_of};
+    ghost use Rattle.hwdom_chips.specs.Chips.{ChipState};
+    ghost use Rattle.learn_report.specs.Reports.{chip_of};
 
     ghost Value = { ChipState };
 
@@ -62,44 +64,6 @@ fn tell_from(driver: &mut Driver, history: &[Change], from: usize, edition: Edit
 {
     for place in from..history.len() {
         tell(driver, &history[place], edition);
-    }
-}
-
-/// The entry that a change puts.
-fn entry_put(change: &Change) -> Option<(Vid, Mac)>
-    ensures { (c : ChipValue) → hits_entry result c ≡ hit_by c change.now }
-{
-    match *change {
-        Change::AddrPut { vid, mac, .. } => Some((vid, mac)),
-        _ => None,
-    }
-}
-
-/// Sets the hit of an entry.
-fn hit(reports: &mut Reports, entry: Option<(Vid, Mac)>) -> Result<(), NoMemory>
-    ensures ok { OnOk result ((dom n : ℕ) → chip_of dom n reports.new ≡ hits_entry entry (chip_of dom n reports.old)) }
-    ensures err { OnErr result (reports.new ≡ reports.old) }
-{
-    match entry {
-        Some(key) => reports.hit(key.0, key.1),
-        None => Ok(()),
-    }
-}
-
-/// Offers a report, which is kept where it is new and there is room.
-fn offer_report(reports: &mut Reports, vid: Vid, mac: Mac, port: Port)
-    ensures { (dom n : ℕ) → chip_of dom n reports.new ≡ offered (chip_of dom n reports.old) (vid, mac, port) }
-{
-    let _kept = reports.offer(vid, mac, port);
-}
-
-/// Offers to report that a station is behind the port.
-fn offer(reports: &mut Reports, port: Port, station: Option<(Vid, Mac)>)
-    ensures { (dom n : ℕ) → chip_of dom n reports.new ≡ offers port station (chip_of dom n reports.old) }
-{
-    match station {
-        Some(key) => offer_report(reports, key.0, key.1, port),
-        None => {}
     }
 }
 

@@ -7,7 +7,7 @@ ghost use Rattle.br_model.specs.Control.Learning.{Address};
 ghost use Rattle.br_model.specs.Table.Table.{Table};
 ghost use Rattle.chip_tables.specs.Rows.{address_rows, extern_at};
 ghost use Rattle.chip_tables.specs.Stands.{PortsStand, Stands};
-ghost use Rattle.hwdom_chips.specs.Chips.{chip_of};
+ghost use Rattle.learn_report.specs.Reports.{chip_of};
 ghost use Rattle.hwdom_chips.specs.Sweep.{is_unhit, unseen};
 
 use crate::NoMemory;

@@ -1,2 +1,1 @@
 pub mod CutSteps
-pub mod Noting

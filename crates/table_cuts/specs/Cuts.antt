@@ -10,16 +10,11 @@ use Rattle.br_model.specs.Plane.Chip.{Chip, applies, chip_table, notes}
 use Rattle.br_model.specs.Table.Cut.{deferred_count}
 use Rattle.br_model.specs.Table.Domains.{Domains, chip_domains}
 use Rattle.br_model.specs.Table.Table.{Table, apply}
-use Rattle.learn_report.specs.Reports.{Reported}
 
 -- what contracts see of a cut
 pub record CutState : Type 0 where
   pub table : Table
   pub chip : Chip
-
--- so many deferred changes are applied in the domain, and this was reported and hit
-abbrev pub chip_of : ℕ → ℕ → Reported → Chip
-chip_of dom count r = record { dom = dom; count = count; reports = r.reports; hits = r.hits }
 
 -- The table is the one by which the chip decides; it has applied no more deferred changes than there are.
 pub record IsCut (edition : Edition) (history : List Change) (c : CutState) : Type 0 where

@@ -1,14 +1,14 @@
 //! What a chip has applied of the history, without a chip: the table of its cut, and what it notes of frames.
-ghost use Rattle.std.specs.Prelude.{◌≡◌, ◌&&◌, ◌<◌, ◌≤◌, ℕ, [], IfOk, IsTrue, OnErr, OnOk, false, length, not, slice_get, take};
+ghost use Rattle.std.specs.Prelude.{◌≡◌, ◌&&◌, ◌<◌, ◌≤◌, [], IfOk, IsTrue, OnErr, OnOk, false, length, not, slice_get, take};
 ghost use Rattle.br_model.specs.Control.Learning.{is_extern, is_reserved, teach};
-ghost use Rattle.br_model.specs.Plane.Chip.{Chip as ChipValue, first_chip, hit_of, hits_entry, hit_by, offered, offers, report, unhit};
+ghost use Rattle.br_model.specs.Plane.Chip.{first_chip, hit_of, report, unhit};
 ghost use Rattle.br_model.specs.Table.Change.{is_of_address};
 ghost use Rattle.br_model.specs.Table.DomainPorts.{is_in_domain};
 ghost use Rattle.br_model.specs.Table.Limits.{AreWithin, fits, most_changes};
 ghost use Rattle.br_model.specs.Data.Maps.{get, has, pair_cmp, put};
 ghost use Rattle.br_model.specs.Table.Table.{Table, apply, start};
 ghost use Rattle.forward_rules.specs.Decided.{Decides};
-ghost use Rattle.table_cuts.specs.Cuts.{IsCut, KeepsTable, chip_of, noted, told_first, turned, without_hits};
+ghost use Rattle.table_cuts.specs.Cuts.{IsCut, KeepsTable, noted, told_first, turned, without_hits};
 
 use crate::NoMemory;
 use br_model::change::{Change, Kind};
@@ -18,6 +18,7 @@ use br_model::numbers::{Dom, Mac, Port, Vid};
 use br_model::plain::maps::{find, take};
 use br_model::steps::Triples;
 use forward_rules::{PortTables, SoftTables, Verdict};
+use learn_report::noting::{entry_put, hit, offer};
 use learn_report::{Report, Reports};
 use std::alloc::Global;
 use std::collections::BTreeMap;
@@ -42,7 +43,8 @@ pub struct Cut {
 impl Model for Cut {
     ghost use Rattle.std.specs.Prelude.{◌≡◌, []};
     ghost use Rattle.br_model.specs.Table.Table.{with_addresses};
-    ghost use Rattle.table_cuts.specs.Cuts.{CutState, chip_of};
+    ghost use Rattle.table_cuts.specs.Cuts.{CutState};
+    ghost use Rattle.learn_report.specs.Reports.{chip_of};
 
     ghost Value = { CutState };
 
@@ -81,43 +83,6 @@ fn follow_address(addresses: &mut Addresses, change: &Change) -> Result<(), NoMe
             Ok(())
         }
         _ => Ok(()),
-    }
-}
-
-/// The entry that a change puts.
-fn entry_put(change: &Change) -> Option<(Vid, Mac)>
-    ensures { (c : ChipValue) → hits_entry result c ≡ hit_by c change.now }
-{
-    match *change {
-        Change::AddrPut { vid, mac, .. } => Some((vid, mac)),
-        _ => None,
-    }
-}
-
-/// Sets the hit of an entry.
-fn hit(reports: &mut Reports, entry: Option<(Vid, Mac)>) -> Result<(), NoMemory>
-    ensures { OnOk result ((dom n : ℕ) → chip_of dom n reports.new ≡ hits_entry entry (chip_of dom n reports.old)) }
-{
-    match entry {
-        Some(key) => reports.hit(key.0, key.1),
-        None => Ok(()),
-    }
-}
-
-/// Offers a report, which is kept where it is new and there is room.
-fn offer_report(reports: &mut Reports, vid: Vid, mac: Mac, port: Port)
-    ensures { (dom n : ℕ) → chip_of dom n reports.new ≡ offered (chip_of dom n reports.old) (vid, mac, port) }
-{
-    let _kept = reports.offer(vid, mac, port);
-}
-
-/// Offers to report that a station is behind the port.
-fn offer(reports: &mut Reports, port: Port, station: Option<(Vid, Mac)>)
-    ensures { (dom n : ℕ) → chip_of dom n reports.new ≡ offers port station (chip_of dom n reports.old) }
-{
-    match station {
-        Some(key) => offer_report(reports, key.0, key.1, port),
-        None => {}
     }
 }
 

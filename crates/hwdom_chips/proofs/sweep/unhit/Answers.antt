@@ -4,7 +4,7 @@ use Rattle.std.proofs.lemmas.List.{append-nil, take_all}
 use Rattle.std.proofs.lemmas.Option.{slice_get-get_or}
 use Rattle.lemmas.proofs.Lists.{filter_map-next}
 use Rattle.br_model.specs.Control.Learning.{Address, Triple}
-use Rattle.hwdom_chips.specs.Chips.{chip_of}
+use Rattle.learn_report.specs.Reports.{chip_of}
 use Rattle.hwdom_chips.proofs.Sweeping.{at_place, all-swept}
 use Rattle.hwdom_chips.proofs.sweep.unhit.Goals as goal
 use Rattle.hwdom_chips.proofs.sweep.unhit.Goals.{in-Some+in_ok-push, in_default}

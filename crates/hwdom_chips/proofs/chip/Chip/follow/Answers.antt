@@ -4,7 +4,8 @@ use Rattle.br_model.specs.Table.Cut.{cut, deferred_count}
 use Rattle.br_model.specs.Table.Domains.{Domains}
 use Rattle.br_model.specs.Table.Table.{table}
 use Rattle.chip_driver.specs.Drives.{Drives}
-use Rattle.hwdom_chips.specs.Chips.{ChipState, IsChip, IsCut, chip_of}
+use Rattle.hwdom_chips.specs.Chips.{ChipState, IsChip, IsCut}
+use Rattle.learn_report.specs.Reports.{chip_of}
 use Rattle.hwdom_chips.proofs.Following.{still_applied}
 use Rattle.hwdom_chips.proofs.chip.Chip.follow.Goals as goal
 

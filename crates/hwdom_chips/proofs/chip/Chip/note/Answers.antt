@@ -1,7 +1,8 @@
 use Rattle.std.proofs.Common.{ap, ◌∙◌}
 use Rattle.br_model.specs.Plane.Chip.{Chip, offers, hits_entry}
 use Rattle.br_model.proofs.Plane.Noting.{either_order}
-use Rattle.hwdom_chips.specs.Chips.{ChipState, chip_of}
+use Rattle.hwdom_chips.specs.Chips.{ChipState}
+use Rattle.learn_report.specs.Reports.{chip_of}
 use Rattle.hwdom_chips.proofs.chip.Chip.note.Goals as goal
 
 pub returns-clause-ok : goal.returns-clause-ok

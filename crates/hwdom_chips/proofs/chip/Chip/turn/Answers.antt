@@ -1,7 +1,8 @@
 use Rattle.std.proofs.Common.{◌+◌, sym, ap, ◌∙◌, subst, arith}
 use Rattle.br_model.specs.Plane.Chip.{applies}
 use Rattle.chip_driver.specs.Drives.{Drives, IsTaken}
-use Rattle.hwdom_chips.specs.Chips.{ChipState, chip_of}
+use Rattle.hwdom_chips.specs.Chips.{ChipState}
+use Rattle.learn_report.specs.Reports.{chip_of}
 use Rattle.hwdom_chips.proofs.chip.Chip.turn.Goals as goal
 
 pub address-requires-clause-taken : goal.address-requires-clause-taken

@@ -1,7 +1,7 @@
 use Rattle.std.proofs.Common.{sym, ap, ◌∙◌}
 use Rattle.br_model.specs.Plane.Chip.{offers}
-use Rattle.hwdom_chips.specs.Chips.{chip_of}
-use Rattle.hwdom_chips.proofs.chip.offer.Goals as goal
+use Rattle.learn_report.specs.Reports.{chip_of}
+use Rattle.learn_report.proofs.noting.offer.Goals as goal
 
 pub returns-in-Some : goal.returns-in-Some
 returns-in-Some c dom n = c.offer_report.ensures dom n ∙ ap (λ o. offers c.args.port o (chip_of dom n c.args.reports.now)) (sym c.in-Some.is)

@@ -1,7 +1,7 @@
 use Rattle.std.proofs.Common.{ap, ◌∙◌}
-use Rattle.hwdom_chips.specs.Chips.{chip_of}
-use Rattle.hwdom_chips.proofs.Noting.{offered_as}
-use Rattle.hwdom_chips.proofs.chip.offer_report.Goals as goal
+use Rattle.learn_report.specs.Reports.{chip_of}
+use Rattle.learn_report.proofs.Notes.{offered_as}
+use Rattle.learn_report.proofs.noting.offer_report.Goals as goal
 
 pub returns : goal.returns
 returns c dom n =

@@ -1,8 +1,8 @@
 use Rattle.std.proofs.Common.{sym, ap, ◌∙◌}
 use Rattle.std.proofs.lemmas.Result.{on_ok_weaker}
 use Rattle.br_model.specs.Plane.Chip.{hits_entry}
-use Rattle.hwdom_chips.specs.Chips.{chip_of}
-use Rattle.hwdom_chips.proofs.chip.hit.Goals as goal
+use Rattle.learn_report.specs.Reports.{chip_of}
+use Rattle.learn_report.proofs.noting.hit.Goals as goal
 
 pub returns-in-Some-clause-ok : goal.returns-in-Some-clause-ok
 returns-in-Some-clause-ok c =

@@ -5,8 +5,7 @@ use Rattle.lemmas.proofs.Numbers.{eqb-sym}
 use Rattle.br_model.specs.Plane.Chip.{same_triple, offered}
 use Rattle.br_model.specs.Control.Learning.{Triple}
 use Rattle.br_model.specs.Table.Limits.{most_reports}
-use Rattle.learn_report.specs.Reports.{Reported, is_waiting}
-use Rattle.hwdom_chips.specs.Chips.{chip_of}
+use Rattle.learn_report.specs.Reports.{Reported, chip_of, is_waiting}
 
 same_test : (x y : Triple) → same_triple x y ≡ ((y.0 == x.0) && ((y.1 == x.1) && (y.2 == x.2)))
 same_test x y = ap₂ ◌&&◌ (eqb-sym x.0 y.0) (ap₂ ◌&&◌ (eqb-sym x.1 y.1) (eqb-sym x.2 y.2))

@@ -1,1 +1,0 @@
--- What a frame leaves in a chip: a hit and a report.
