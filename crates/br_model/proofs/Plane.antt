@@ -10,6 +10,7 @@ pub mod History
 pub mod Kept
 pub mod Noting
 pub mod Once
+pub mod Reports
 pub mod Running
 pub mod Shares
 pub mod Stays

@@ -21,7 +21,8 @@ use Rattle.br_model.specs.Theorems.Invariants.{IsWorld}
 use Rattle.br_model.proofs.Plane.Chips.{chip-there}
 use Rattle.br_model.proofs.Data.Lists.{find-each, has-up-to, up-to-last}
 use Rattle.plane_parts.specs.Queued.{Queued, hold_line, holds_oldest}
-use Rattle.check_world.specs.Sides.{SidesState, Comes, world_of}
+use Rattle.plane_reactions.specs.Reacted.{Comes}
+use Rattle.check_world.specs.Sides.{SidesState, world_of, of_sides}
 use Rattle.check_world.specs.Worlds.{PostsHeld, Tells, point_of}
 
 -- the domain has a chip in a world that stands
@@ -37,14 +38,14 @@ tells_so old s t q r n m step told was e h =
 -- The oldest frame is served, or held.
 
 serves_front : (s t : SidesState) (waiting : List Waiting) (held : List Holding) (next : ℕ) (f : Waiting) (m : ℕ) (told : List Line) → Some f ≡ slice_get waiting 0
-    → Comes (λ w. posts w f w.published) s m t told
+    → Comes of_sides (λ w. posts w f w.published) s m t told
     → serves (world_of s (record { waiting = waiting; held = held; next = next }) m) waiting ≡ (world_of t (record { waiting = drop 1 waiting; held = held; next = next }) m, told)
 serves_front s t [] held next f m told e h = absurd (cc)
 serves_front s t (g ∷ later) held next f m told e h =
     let same : g ≡ f = cc in
     ap (λ x. posts (world_of s (record { waiting = later; held = held; next = next }) m) x s.published) same ∙ h (record { waiting = later; held = held; next = next })
 
-pub serves_oldest : (s t : SidesState) (q r : Queued) (f : Waiting) (m point : ℕ) (told : List Line) → Some f ≡ slice_get q.waiting 0 → point ≡ s.published → Comes (λ w. posts w f point) s m t told
+pub serves_oldest : (s t : SidesState) (q r : Queued) (f : Waiting) (m point : ℕ) (told : List Line) → Some f ≡ slice_get q.waiting 0 → point ≡ s.published → Comes of_sides (λ w. posts w f point) s m t told
     → r ≡ record q { waiting = drop 1 q.waiting } → does (world_of s q m) Serve ≡ (world_of t r m, told)
 serves_oldest s t q r f m point told e at h left =
     serves_front s t q.waiting q.held q.next f m told e (λ p. ap (posts (world_of s p m) f) (sym at) ∙ h p) ∙ ap (λ (x : Queued). (world_of t x m, told)) (sym left)

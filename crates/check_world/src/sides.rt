@@ -19,13 +19,13 @@ ghost use Rattle.br_model.specs.Wire.Messages.{message as message_of};
 ghost use Rattle.br_model.specs.declared.steps.Event.TheVariants as Event;
 ghost use Rattle.br_model.specs.declared.transcript.Line.TheVariants as line;
 ghost use Rattle.bridge_core.specs.Answers.{IsEvent};
+ghost use Rattle.plane_reactions.specs.Reacted.{Comes, Reacted};
 ghost use Rattle.plane_parts.specs.Added.{Added};
 ghost use Rattle.forward_rules.specs.Decided.{Decides};
 ghost use Rattle.plane_parts.specs.Places.{places};
 ghost use Rattle.table_cuts.specs.Cuts.{AreCuts, chips_of};
 ghost use Rattle.plane_parts.specs.Queued.{Queued};
-ghost use Rattle.transcript_lines.specs.Rows.{IsPlain};
-ghost use Rattle.check_world.specs.Sides.{Comes, Lasts, Reacted, first_sides, table_of, world_of};
+ghost use Rattle.check_world.specs.Sides.{of_sides, first_sides, table_of, world_of};
 
 use crate::NoMemory;
 use br_model::change::Update;
@@ -37,7 +37,8 @@ use br_model::transcript::Line;
 use bridge_core::{Bridge, EventFault};
 use forward_rules::Verdict;
 use plane_parts::{Egress, Frame, Updates, make_room, send};
-use std::alloc::{AllocError, Global};
+use plane_reactions::last_line;
+use std::alloc::Global;
 use std::marker::Model;
 use table_cuts::{Cuts, Point};
 use transcript_lines::Lines;
@@ -94,18 +95,6 @@ fn follow(bridge: &Bridge, cuts: &mut Cuts, updates: &mut Updates, from: usize) 
     (history.len() - from) as u32
 }
 
-/// The last line of a step in which an event came to so many changes, or to a refusal.
-fn last_line(step: u32, outcome: Result<u32, EventFault>) -> Result<Line, NoMemory>
-    ensures lasts { Lasts step outcome result }
-    ensures plain { IfOk result (λ line. IsPlain line) }
-{
-    match outcome {
-        Ok(changes) => Ok(Line::Done { step, changes }),
-        Err(EventFault::Refused(refusal)) => Ok(Line::Refused { step, refusal }),
-        Err(EventFault::NoMemory) => Err(AllocError),
-    }
-}
-
 /// Whether the count is one of these, which ascend.
 fn has(counts: &[u32], count: u32) -> bool
     requires { IsStrictlySortedBy nat_cmp counts.now }
@@ -141,7 +130,7 @@ impl Sides {
     fn react(&mut self, alloc: Global, event: &Event, lines: &mut Lines) -> Result<u32, EventFault>
         requires event { IsEvent event.now }
         requires room { 1 ≤ lines.old.rows }
-        ensures reacted { Reacted self.old self.new self.old.chips lines.old.lines lines.new.lines result
+        ensures reacted { Reacted of_sides self.old self.new self.old.chips lines.old.lines lines.new.lines result
             (reaction self.old.setup self.old.history self.old.control event.now) }
         ensures room { 1 ≤ lines.new.rows }
     {
@@ -152,7 +141,7 @@ impl Sides {
     /// The bridge sees a frame that software sent, as it reacts to an event.
     fn see(&mut self, alloc: Global, frame: &Frame, lines: &mut Lines) -> Result<u32, EventFault>
         requires { 1 ≤ lines.old.rows }
-        ensures reacted { Reacted self.old self.new self.old.chips lines.old.lines lines.new.lines result
+        ensures reacted { Reacted of_sides self.old self.new self.old.chips lines.old.lines lines.new.lines result
             (reaction self.old.setup self.old.history self.old.control (Event.Sight frame.now.port frame.now.bytes frame.now.head)) }
         ensures room { 1 ≤ lines.new.rows }
     {
@@ -176,7 +165,7 @@ impl Sides {
         lines: &mut Lines,
     ) -> Result<(), NoMemory>
         requires { IsEvent event.now }
-        ensures { OnOk result (Added (Comes (λ w. answered w w (reacts w event.now)) self.old step self.new) lines.old.lines lines.new.lines) }
+        ensures { OnOk result (Added (Comes of_sides (λ w. answered w w (reacts w event.now)) self.old step self.new) lines.old.lines lines.new.lines) }
     {
         lines.reserve(1, 0)?;
         let outcome = self.react(alloc, event, lines);
@@ -237,7 +226,7 @@ impl Sides {
         lines: &mut Lines,
     ) -> Result<(), NoMemory>
         requires { point ≤ length self.old.history }
-        ensures { OnOk result (Added (Comes (λ w. posts w frame.now point) self.old step self.new) lines.old.lines lines.new.lines) }
+        ensures { OnOk result (Added (Comes of_sides (λ w. posts w frame.now point) self.old step self.new) lines.old.lines lines.new.lines) }
     {
         self.send_at(alloc, frame, point, lines)?;
         let outcome = self.see(alloc, frame, lines);
@@ -311,7 +300,7 @@ impl Sides {
     /// The chip of the domain applies the next deferred change. The line of the step is added.
     pub(crate) fn turn(&mut self, step: u32, d: Dom, lines: &mut Lines) -> Result<(), NoMemory>
         requires { is_some (chip_in self.old.chips d) ≡ true }
-        ensures { OnOk result (Added (Comes (λ w. turns w (chip_at w d)) self.old step self.new) lines.old.lines lines.new.lines) }
+        ensures { OnOk result (Added (Comes of_sides (λ w. turns w (chip_at w d)) self.old step self.new) lines.old.lines lines.new.lines) }
     {
         let Some(update) = self.next_update(d) else {
             let refusal = Refusal::NothingPending;
@@ -332,7 +321,7 @@ impl Sides {
         lines: &mut Lines,
     ) -> Result<(), NoMemory>
         requires { is_some (chip_in self.old.chips d) ≡ true }
-        ensures { OnOk result (Added (Comes (λ w. reports w (chip_at w d)) self.old step self.new) lines.old.lines lines.new.lines) }
+        ensures { OnOk result (Added (Comes of_sides (λ w. reports w (chip_at w d)) self.old step self.new) lines.old.lines lines.new.lines) }
     {
         lines.reserve(1, 0)?;
         let Some((vid, mac, port)) = self.cuts.at(d).first_report() else {
@@ -358,7 +347,7 @@ impl Sides {
         requires chip { is_some (chip_in self.old.chips d) ≡ true }
         requires room { 1 ≤ lines.old.rows }
         ensures reacted { (c : ChipValue) → chip_in self.old.chips d ≡ Some c
-            → Reacted self.old self.new (put_chip self.old.chips (record c { reports = drop 1 c.reports })) lines.old.lines lines.new.lines result
+            → Reacted of_sides self.old self.new (put_chip self.old.chips (record c { reports = drop 1 c.reports })) lines.old.lines lines.new.lines result
             (reaction self.old.setup self.old.history self.old.control event.now) }
         ensures room { 1 ≤ lines.new.rows }
     {
@@ -379,7 +368,7 @@ impl Sides {
         requires chip { is_some (chip_in self.old.chips d) ≡ true }
         requires room { 1 ≤ lines.old.rows }
         ensures reacted { (c : ChipValue) → chip_in self.old.chips d ≡ Some c
-            → Reacted self.old self.new (put_chip self.old.chips (record c { hits = [] })) lines.old.lines lines.new.lines result
+            → Reacted of_sides self.old self.new (put_chip self.old.chips (record c { hits = [] })) lines.old.lines lines.new.lines result
             (reaction self.old.setup self.old.history self.old.control event.now) }
         ensures room { 1 ≤ lines.new.rows }
     {
@@ -398,7 +387,7 @@ impl Sides {
         lines: &mut Lines,
     ) -> Result<(), NoMemory>
         requires { is_some (chip_in self.old.chips d) ≡ true }
-        ensures { OnOk result (Added (Comes (λ w. sweeps w (chip_at w d)) self.old step self.new) lines.old.lines lines.new.lines) }
+        ensures { OnOk result (Added (Comes of_sides (λ w. sweeps w (chip_at w d)) self.old step self.new) lines.old.lines lines.new.lines) }
     {
         lines.reserve(1, 0)?;
         let stations = self.cuts.at(d).unhit(alloc, self.bridge.domains())?;

@@ -42,7 +42,8 @@ use Rattle.br_model.proofs.Table.Cuts.{updates-at, updates-named}
 use Rattle.br_model.proofs.Plane.Kept.{first-world, step-world}
 use Rattle.plane_core.specs.Planes.{PlaneState, Steps, DecidesFloor, DecidesOldest, IsDecision, IsNamed, IsPassOf, next_ticket}
 use Rattle.plane_parts.specs.Queued.{Queued, hold_line, holds_oldest}
-use Rattle.plane_core.specs.Sides.{SidesState, Comes, first_sides, world_of}
+use Rattle.plane_reactions.specs.Reacted.{Comes}
+use Rattle.plane_core.specs.Sides.{SidesState, first_sides, world_of, of_sides}
 use Rattle.plane_core.proofs.Stepping.{stepped}
 
 -- after a step that comes to these sides and frames
@@ -56,7 +57,7 @@ stands_first setup board s q e f =
     subst (λ (x : SidesState). IsWorld (world_of x q 0)) (sym e) (subst (λ (x : Queued). IsWorld (world_of (first_sides setup board) x 0)) (sym f) (first-world setup))
 
 pub stands_accepted : (e : Event) → IsNamed e → (s t : SidesState) (q : Queued) (n m : ℕ) (lines : List Line) → m ≡ n + 1
-    → Comes (λ w. answered w w (reacts w e)) s m t lines → IsWorld (world_of s q n) → IsWorld (world_of t q m)
+    → Comes of_sides (λ w. answered w w (reacts w e)) s m t lines → IsWorld (world_of s q n) → IsWorld (world_of t q m)
 stands_accepted (events.Cmd c) is s t q n m lines e h k = stands_after s t q q n m (Cmd c) lines e (h q) k
 stands_accepted (events.Moment now) is s t q n m lines e h k = stands_after s t q q n m (Now now) lines e (h q) k
 stands_accepted (events.Sight port bytes head) is s t q n m lines e h k = elim is [ ]
@@ -66,18 +67,18 @@ stands_accepted (events.Forget stations) is s t q n m lines e h k = elim is [ ]
 -- The oldest frame is served, or held.
 
 serves_front : (s t : SidesState) (waiting : List Waiting) (held : List Holding) (next : ℕ) (f : Waiting) (m : ℕ) (lines : List Line) → Some f ≡ slice_get waiting 0
-    → Comes (λ w. posts w f w.published) s m t lines
+    → Comes of_sides (λ w. posts w f w.published) s m t lines
     → serves (world_of s (record { waiting = waiting; held = held; next = next }) m) waiting ≡ (world_of t (record { waiting = drop 1 waiting; held = held; next = next }) m, lines)
 serves_front s t [] held next f m lines e h = absurd (cc)
 serves_front s t (g ∷ later) held next f m lines e h =
     let same : g ≡ f = cc in
     ap (λ x. posts (world_of s (record { waiting = later; held = held; next = next }) m) x (length s.published.changes)) same ∙ h (record { waiting = later; held = held; next = next })
 
-pub serves_oldest : (s t : SidesState) (q : Queued) (f : Waiting) (m : ℕ) (lines : List Line) → Some f ≡ slice_get q.waiting 0 → Comes (λ w. posts w f w.published) s m t lines
+pub serves_oldest : (s t : SidesState) (q : Queued) (f : Waiting) (m : ℕ) (lines : List Line) → Some f ≡ slice_get q.waiting 0 → Comes of_sides (λ w. posts w f w.published) s m t lines
     → does (world_of s q m) Serve ≡ (world_of t (record q { waiting = drop 1 q.waiting }) m, lines)
 serves_oldest s t q f m lines e h = serves_front s t q.waiting q.held q.next f m lines e h
 
-pub stands_served : (s t : SidesState) (q r : Queued) (n m : ℕ) (f : Waiting) (lines : List Line) → m ≡ n + 1 → Some f ≡ slice_get q.waiting 0 → Comes (λ w. posts w f w.published) s m t lines
+pub stands_served : (s t : SidesState) (q r : Queued) (n m : ℕ) (f : Waiting) (lines : List Line) → m ≡ n + 1 → Some f ≡ slice_get q.waiting 0 → Comes of_sides (λ w. posts w f w.published) s m t lines
     → r ≡ record q { waiting = drop 1 q.waiting } → IsWorld (world_of s q n) → IsWorld (world_of t r m)
 stands_served s t q r n m f lines e oldest comes left k =
     subst (λ (x : Queued). IsWorld (world_of t x m)) (sym left)
@@ -125,7 +126,7 @@ points : (w : World) (x : Holding) (point : ℕ) → has nat_cmp w.counts point 
 points w x point known late = ap (λ b. b && nat_le x.floor point) known ∙ le-leb x.floor point late
 
 posts_found : (s t : SidesState) (q : Queued) (id point : ℕ) (x : Holding) (m : ℕ) (lines : List Line) → find (λ h. h.waiting.id == id) q.held ≡ Some x
-    → has nat_cmp s.published.counts point ≡ true → x.floor ≤ point → Comes (λ w. posts w x.waiting point) s m t lines
+    → has nat_cmp s.published.counts point ≡ true → x.floor ≤ point → Comes of_sides (λ w. posts w x.waiting point) s m t lines
     → does (world_of s q m) (Post id (Some point)) ≡ (world_of t (record q { held = filter (λ h. not (h.waiting.id == id)) q.held }) m, lines)
 posts_found s t q id point x m lines e known late h =
     let w = world_of s q m in
@@ -148,12 +149,12 @@ decided old s q n x f seen was same is =
 
 pub posts_one : (old : PlaneState) (s t : SidesState) (q r : Queued) (n m : ℕ) (h : Held) (x : Holding) (f : Waiting) (seen : Seen) (lines : List Line)
     → record { world = world_of s q n; board = s.board } ≡ old → find (λ g. g.waiting.id == h.id) q.held ≡ Some x → shown_by h ≡ shown_of x → f ≡ x.waiting
-    → h.floor ≤ seen.point → IsDecision old.world x seen → Comes (λ w. posts w f seen.point) s m t lines → r ≡ record q { held = filter (λ g. not (g.waiting.id == h.id)) q.held }
+    → h.floor ≤ seen.point → IsDecision old.world x seen → Comes of_sides (λ w. posts w f seen.point) s m t lines → r ≡ record q { held = filter (λ g. not (g.waiting.id == h.id)) q.held }
     → does (world_of s q m) (Post h.id (Some seen.point)) ≡ (world_of t r m, lines)
 posts_one old s t q r n m h x f seen lines was found shown same floor is comes left =
     let by : IsDecision (world_of s q n) x seen = subst (λ (o : PlaneState). IsDecision o.world x seen) (sym was) is in
     let floors : h.floor ≡ x.floor = ap (λ v. v.floor) shown in
-    let sends : Comes (λ w. posts w x.waiting seen.point) s m t lines = subst (λ (g : Waiting). Comes (λ w. posts w g seen.point) s m t lines) same comes in
+    let sends : Comes of_sides (λ w. posts w x.waiting seen.point) s m t lines = subst (λ (g : Waiting). Comes of_sides (λ w. posts w g seen.point) s m t lines) same comes in
     posts_found s t q h.id seen.point x m lines found by.point (omega arith) sends ∙ ap (λ (y : Queued). (world_of t y m, lines)) (sym left)
 
 -- by its floor
@@ -166,7 +167,7 @@ decided_floor old s q n floor x f verdict was same at is =
     (subst (λ i. Decides s.setup.domains (table (take i s.history)) x.waiting.port x.waiting.head (message x.waiting.bytes x.waiting.head) verdict) (sym at) by)
 
 pub posts_floor : (s t : SidesState) (q r : Queued) (id m floor : ℕ) (x : Holding) (f : Waiting) (lines : List Line) → find (λ h. h.waiting.id == id) q.held ≡ Some x → f ≡ x.waiting → floor ≡ x.floor
-    → Comes (λ w. posts w f floor) s m t lines → r ≡ record q { held = filter (λ h. not (h.waiting.id == id)) q.held } → does (world_of s q m) (Post id None) ≡ (world_of t r m, lines)
+    → Comes of_sides (λ w. posts w f floor) s m t lines → r ≡ record q { held = filter (λ h. not (h.waiting.id == id)) q.held } → does (world_of s q m) (Post id None) ≡ (world_of t r m, lines)
 posts_floor s t q r id m floor x f lines e same at comes left =
     let w = world_of s q m in
     ap (λ o. posts_at w o None) e

@@ -31,7 +31,8 @@ use Rattle.chip_tables.specs.Stands.{Stands}
 use Rattle.bridge_core.specs.Kept.{Controlled}
 use Rattle.table_publish.specs.Board.{Shelf}
 use Rattle.hwdom_chips.specs.Chips.{ChipState, IsChip, IsPlace, chips_of, state_in}
-use Rattle.plane_core.specs.Sides.{AreSides, Reacted, SidesState}
+use Rattle.plane_reactions.specs.Reacted.{Reacted}
+use Rattle.plane_core.specs.Sides.{AreSides, SidesState, of_sides}
 use Rattle.plane_parts.specs.Places.{places}
 use Rattle.plane_parts.proofs.Placing.{count}
 use Rattle.br_model.proofs.Table.ChipLists.{apart, apart-chips, chip-found, not-software, put-place, some-found}
@@ -143,9 +144,9 @@ module _ (b : Controlled) (states : List ChipState) (noted : List ℕ) (board : 
     sides_told = sides_with same_dom (kept_chip b.setup.domains b.history old new chip_here (ap (λ (s : ChipState). s.driver) is) same_dom (ap (λ (s : ChipState). s.chip.count) is ∙ (keeps old.chip).1))
 
     -- and so it is for contracts, behind a reaction
-    pub reacted_told : (s mid : SidesState) (dom : ℕ) (x : Chip) (before after : List Line) (changes : ℕ) (answer : Result Reaction Refusal) → Reacted s mid s.chips before after (Ok changes) answer
+    pub reacted_told : (s mid : SidesState) (dom : ℕ) (x : Chip) (before after : List Line) (changes : ℕ) (answer : Result Reaction Refusal) → Reacted of_sides s mid s.chips before after (Ok changes) answer
         → seen b board (chips_of states) ≡ mid → IsPlace states dom (Some place) → chip_in s.chips dom ≡ Some x
-        → Reacted s (seen b board (chips_of (set states place new))) (put_chip s.chips (f x)) before after (Ok changes) answer
+        → Reacted of_sides s (seen b board (chips_of (set states place new))) (put_chip s.chips (f x)) before after (Ok changes) answer
     reacted_told s mid dom x before after changes answer did was at found = (
       did.0,
       did.1,

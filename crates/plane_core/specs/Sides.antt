@@ -1,23 +1,16 @@
 -- A bridge with the copies of its table that follow it: one of each chip, and the published one.
-use Rattle.std.specs.Prelude.{◌≡◌, ℕ, List, [], ◌++◌, length, IsErr}
-use Rattle.std.specs.declared.alloc.AllocError.{AllocError}
-use Rattle.std.specs.declared.result.Result.{Result}
-use Rattle.std.specs.declared.result.Result.TheVariants.{Ok, Err}
+use Rattle.std.specs.Prelude.{◌≡◌, ℕ, List, [], ◌++◌, length}
+use Rattle.std.proofs.Common.{refl}
 use Rattle.br_model.specs.declared.change.Change.{Change}
-use Rattle.br_model.specs.declared.steps.Refusal.{Refusal}
-use Rattle.br_model.specs.declared.transcript.Line.{Line}
-use Rattle.br_model.specs.declared.transcript.Line.TheVariants as lines
 use Rattle.br_model.specs.Plane.Chip.{Chip, first_chips}
 use Rattle.br_model.specs.Control.Control.{Control, first_control}
-use Rattle.br_model.specs.Plane.World.{World, Stepped, control_lines}
-use Rattle.br_model.specs.Control.Reaction.{Reaction}
+use Rattle.br_model.specs.Plane.World.{World}
 use Rattle.br_model.specs.Table.Setup.{Setup}
-use Rattle.bridge_plans.specs.declared.faults.EventFault.{EventFault}
-use Rattle.bridge_plans.specs.declared.faults.EventFault.TheVariants.{Refused, NoMemory}
 use Rattle.bridge_core.specs.Kept.{Controlled}
 use Rattle.table_publish.specs.Board.{Shelf, all_of}
 use Rattle.table_publish.specs.Object.{Object, Whose, first_object}
 use Rattle.hwdom_chips.specs.Chips.{ChipState, AreChips, chips_of}
+use Rattle.plane_reactions.specs.Reacted.{Seen}
 use Rattle.plane_parts.specs.Places.{places}
 use Rattle.plane_parts.specs.Queued.{Queued}
 
@@ -70,21 +63,13 @@ world_of s q steps = record {
   steps = steps;
 }
 
--- The changes of the reaction were made, and are so many, the chips are these, and the lines of the messages were added; or
--- nothing changed.
-abbrev pub Reacted : SidesState → SidesState → List Chip → List Line → List Line → Result ℕ EventFault → Result Reaction Refusal → Type 0
-Reacted old new kept before after (Ok changes) answer =
-    (r : Reaction) × (answer ≡ Ok r) × (changes ≡ length r.changes) × (new ≡ record old { history = old.history ++ r.changes; control = r.control; chips = kept })
-    × (after ≡ before ++ control_lines old.setup.own r.messages)
-Reacted old new kept before after (Err (Refused why)) answer = (answer ≡ Err why) × (new ≡ old) × (after ≡ before)
-Reacted old new kept before after (Err NoMemory) answer = (new ≡ old) × (after ≡ before)
-
--- the last line of a step in which an event came to so many changes, or was refused
-abbrev pub Lasts : ℕ → Result ℕ EventFault → Result Line AllocError → Type 0
-Lasts step (Ok changes) last = last ≡ Ok (lines.Done step changes)
-Lasts step (Err (Refused why)) last = last ≡ Ok (lines.Refused step why)
-Lasts step (Err NoMemory) last = IsErr last
-
--- Whichever frames there are, what is done in a world that has counted this step comes to these sides and these lines.
-abbrev pub Comes : (World → Stepped) → SidesState → ℕ → SidesState → List Line → Type 0
-Comes does old step new lines = (q : Queued) → does (world_of old q step) ≡ (world_of new q step, lines)
+-- how they are the sides of a bridge
+abbrev pub of_sides : Seen SidesState
+of_sides = record {
+  setup = λ s. s.setup;
+  made = λ s r kept. record s { history = s.history ++ r.changes; control = r.control; chips = kept };
+  world = world_of;
+  setup_is = λ s q step. refl;
+  steps_are = λ s q step. refl;
+  made_is = λ s r kept q step. refl;
+}

@@ -26,10 +26,10 @@ ghost use Rattle.table_publish.specs.Object.{Begins, IsPublished, first_object};
 ghost use Rattle.hwdom_chips.specs.Chips.{AreChips, chips_of};
 ghost use Rattle.plane_parts.specs.Places.{places};
 ghost use Rattle.plane_parts.specs.Queued.{Queued};
+ghost use Rattle.plane_reactions.specs.Reacted.{Comes, Reacted};
 ghost use Rattle.plane_parts.specs.Added.{Added};
-ghost use Rattle.transcript_lines.specs.Rows.{IsPlain};
 ghost use Rattle.plane_core.specs.Seats.{Looks};
-ghost use Rattle.plane_core.specs.Sides.{Comes, HasBegun, Lasts, Reacted, world_of, first_sides};
+ghost use Rattle.plane_core.specs.Sides.{of_sides, HasBegun, world_of, first_sides};
 
 use crate::NoMemory;
 use br_model::change::{Change, Update};
@@ -45,6 +45,7 @@ use forward_rules::{SoftTables, Verdict};
 use hwdom_chips::Chips;
 use learn_report::Report;
 use plane_parts::{Egress, Frame, Updates, make_room, send};
+use plane_reactions::last_line;
 use std::alloc::{AllocError, Global};
 use std::marker::Model;
 use std::sync::Wait;
@@ -106,18 +107,6 @@ fn follow(
     updates.follow(history, from, domains.edition());
     board.append(&history[from..]);
     (history.len() - from) as u32
-}
-
-/// The last line of a step in which an event came to so many changes, or to a refusal.
-fn last_line(step: u32, outcome: Result<u32, EventFault>) -> Result<Line, NoMemory>
-    ensures lasts { Lasts step outcome result }
-    ensures plain { IfOk result (λ line. IsPlain line) }
-{
-    match outcome {
-        Ok(changes) => Ok(Line::Done { step, changes }),
-        Err(EventFault::Refused(refusal)) => Ok(Line::Refused { step, refusal }),
-        Err(EventFault::NoMemory) => Err(AllocError),
-    }
 }
 
 /// The decision of a frame by these changes. Tables are large, so it has a function of its own: each call pays for the room of its
@@ -184,7 +173,7 @@ impl Sides {
     fn react(&mut self, alloc: Global, event: &Event, lines: &mut Lines) -> Result<u32, EventFault>
         requires event { IsEvent event.now }
         requires room { 1 ≤ lines.old.rows }
-        ensures reacted { Reacted self.old self.new self.old.chips lines.old.lines lines.new.lines result
+        ensures reacted { Reacted of_sides self.old self.new self.old.chips lines.old.lines lines.new.lines result
             (reaction self.old.setup self.old.history self.old.control event.now) }
         ensures marked { lines.new.marked ≡ lines.old.marked }
         ensures room { 1 ≤ lines.new.rows }
@@ -202,7 +191,7 @@ impl Sides {
     /// The bridge sees a frame that software sent, as it reacts to an event.
     fn see(&mut self, alloc: Global, frame: &Frame, lines: &mut Lines) -> Result<u32, EventFault>
         requires { 1 ≤ lines.old.rows }
-        ensures reacted { Reacted self.old self.new self.old.chips lines.old.lines lines.new.lines result
+        ensures reacted { Reacted of_sides self.old self.new self.old.chips lines.old.lines lines.new.lines result
             (reaction self.old.setup self.old.history self.old.control (Event.Sight frame.now.port frame.now.bytes frame.now.head)) }
         ensures marked { lines.new.marked ≡ lines.old.marked }
         ensures room { 1 ≤ lines.new.rows }
@@ -236,7 +225,7 @@ impl Sides {
         requires chip { is_some (chip_in self.old.chips d) ≡ true }
         requires room { 1 ≤ lines.old.rows }
         ensures reacted { (c : ChipValue) → chip_in self.old.chips d ≡ Some c
-            → Reacted self.old self.new (put_chip self.old.chips (record c { reports = drop 1 c.reports })) lines.old.lines lines.new.lines result
+            → Reacted of_sides self.old self.new (put_chip self.old.chips (record c { reports = drop 1 c.reports })) lines.old.lines lines.new.lines result
             (reaction self.old.setup self.old.history self.old.control event.now) }
         ensures marked { lines.new.marked ≡ lines.old.marked }
         ensures room { 1 ≤ lines.new.rows }
@@ -259,7 +248,7 @@ impl Sides {
         requires chip { is_some (chip_in self.old.chips d) ≡ true }
         requires room { 1 ≤ lines.old.rows }
         ensures reacted { (c : ChipValue) → chip_in self.old.chips d ≡ Some c
-            → Reacted self.old self.new (put_chip self.old.chips (record c { hits = [] })) lines.old.lines lines.new.lines result
+            → Reacted of_sides self.old self.new (put_chip self.old.chips (record c { hits = [] })) lines.old.lines lines.new.lines result
             (reaction self.old.setup self.old.history self.old.control event.now) }
         ensures marked { lines.new.marked ≡ lines.old.marked }
         ensures room { 1 ≤ lines.new.rows }
@@ -279,7 +268,7 @@ impl Sides {
         lines: &mut Lines,
     ) -> Result<(), NoMemory>
         requires { IsEvent event.now }
-        ensures ok { OnOk result (Added (Comes (λ w. answered w w (reacts w event.now)) self.old step self.new) lines.old.lines lines.new.lines) }
+        ensures ok { OnOk result (Added (Comes of_sides (λ w. answered w w (reacts w event.now)) self.old step self.new) lines.old.lines lines.new.lines) }
         ensures err { OnErr result (self.new ≡ self.old) }
         ensures lines { OnErr result (lines.new.lines ≡ lines.old.lines) }
         ensures marked { lines.new.marked ≡ lines.old.marked }
@@ -365,7 +354,7 @@ impl Sides {
     ) -> Result<(), NoMemory>
         requires { Decides self.old.setup.domains (table (take point self.old.history)) frame.now.port frame.now.head
             (message_of frame.now.bytes frame.now.head) verdict.now }
-        ensures ok { OnOk result (Added (Comes (λ w. posts w frame.now point) self.old step self.new) lines.old.lines lines.new.lines) }
+        ensures ok { OnOk result (Added (Comes of_sides (λ w. posts w frame.now point) self.old step self.new) lines.old.lines lines.new.lines) }
         ensures err { OnErr result (self.new ≡ self.old) }
         ensures lines { OnErr result (lines.new.lines ≡ lines.old.lines) }
         ensures marked { lines.new.marked ≡ lines.old.lines }
@@ -396,7 +385,7 @@ impl Sides {
           changes = take (length self.old.published.changes) self.old.history;
           counts = self.old.published.counts;
         }) }
-        ensures ok { OnOk result (Added (Comes (λ w. posts w frame.now w.published) self.old step self.new) lines.old.lines lines.new.lines) }
+        ensures ok { OnOk result (Added (Comes of_sides (λ w. posts w frame.now w.published) self.old step self.new) lines.old.lines lines.new.lines) }
         ensures err { OnErr result (self.new ≡ self.old) }
         ensures lines { OnErr result (lines.new.lines ≡ lines.old.lines) }
         ensures marked { OnOk result (lines.new.marked ≡ lines.old.lines) }
@@ -471,7 +460,7 @@ impl Sides {
         lines: &mut Lines,
     ) -> Result<(), NoMemory>
         requires { is_some (chip_in self.old.chips d) ≡ true }
-        ensures ok { OnOk result (Added (Comes (λ w. reports w (chip_at w d)) self.old step self.new) lines.old.lines lines.new.lines) }
+        ensures ok { OnOk result (Added (Comes of_sides (λ w. reports w (chip_at w d)) self.old step self.new) lines.old.lines lines.new.lines) }
         ensures err { OnErr result (self.new ≡ self.old) }
         ensures lines { OnErr result (lines.new.lines ≡ lines.old.lines) }
         ensures marked { lines.new.marked ≡ lines.old.marked }
@@ -498,7 +487,7 @@ impl Sides {
         lines: &mut Lines,
     ) -> Result<(), NoMemory>
         requires { is_some (chip_in self.old.chips d) ≡ true }
-        ensures ok { OnOk result (Added (Comes (λ w. sweeps w (chip_at w d)) self.old step self.new) lines.old.lines lines.new.lines) }
+        ensures ok { OnOk result (Added (Comes of_sides (λ w. sweeps w (chip_at w d)) self.old step self.new) lines.old.lines lines.new.lines) }
         ensures err { OnErr result (self.new ≡ self.old) }
         ensures lines { OnErr result (lines.new.lines ≡ lines.old.lines) }
         ensures marked { lines.new.marked ≡ lines.old.marked }

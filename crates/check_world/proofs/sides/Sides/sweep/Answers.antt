@@ -7,9 +7,9 @@ use Rattle.br_model.specs.Plane.World.{World, Stepped, answered, reacts, with_ch
 use Rattle.br_model.specs.Table.Domains.{Domains}
 use Rattle.br_model.specs.Table.Table.{Table}
 use Rattle.plane_parts.proofs.Adding.{added_as, from_none}
-use Rattle.check_world.specs.Sides.{SidesState, world_of}
+use Rattle.check_world.specs.Sides.{SidesState, world_of, of_sides}
 use Rattle.check_world.proofs.CutChanges.{cut_found, found_at, there_at}
-use Rattle.check_world.proofs.Reacting.{ended_behind}
+use Rattle.plane_reactions.proofs.Reacting.{ended_behind}
 use Rattle.check_world.proofs.sides.Sides.sweep.Goals as goal
 
 pub at-requires : goal.at-requires
@@ -31,5 +31,5 @@ returns c =
     c.in_ok-stations.ensures ∙ ap₂ (λ (d : Domains) (t : Table). unhit d t x.chip) c.domains.ensures cut.table
     ∙ ap (λ (t : SidesState). unhit t.setup.domains (chip_table t.setup.domains.edition t.history x.chip) x.chip) c.self.view_is in
     added_as _ _ _ _ (λ ls h q. ap (sweeps (world_of s q c.args.step)) here ∙ ap (swept x.chip (world_of s q c.args.step)) (sym gone) ∙ h q)
-    (ended_behind s c.react_to_sweep-outcome.new.self _ c.args.lines.now.lines [] _ _ _ c.args.step c.react_to_sweep-outcome.result _ _ _
+    (ended_behind of_sides s c.react_to_sweep-outcome.new.self _ c.args.lines.now.lines [] _ _ _ c.args.step c.react_to_sweep-outcome.result _ _ _
     (from_none _ _ c.in_ok-reserve.ensures.lines) (c.react_to_sweep-outcome.ensures.reacted x.chip here) c.last_line.ensures.lasts c.in_ok-last_line.was c.push_reserved.ensures.lines)

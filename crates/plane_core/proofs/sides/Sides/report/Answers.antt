@@ -1,10 +1,11 @@
 use Rattle.std.proofs.Common.{[], ◌∷◌, ◌++◌, sym, ap, ◌∙◌}
 use Rattle.br_model.specs.declared.steps.Refusal.TheVariants.{NothingReported}
 use Rattle.br_model.specs.declared.transcript.Line.TheVariants.{Refused}
-use Rattle.plane_core.specs.Sides.{SidesState}
+use Rattle.plane_core.specs.Sides.{SidesState, of_sides, world_of}
 use Rattle.plane_parts.proofs.Adding.{added_as, from_none}
 use Rattle.plane_core.proofs.Changing.{found_at, there_at}
-use Rattle.plane_core.proofs.Reacting.{ended_behind, reports_first, reports_none}
+use Rattle.plane_reactions.proofs.Reacting.{ended_behind}
+use Rattle.br_model.proofs.Plane.Reports.{reports_first, reports_none}
 use Rattle.plane_core.proofs.sides.Sides.report.Goals as goal
 
 pub at-requires : goal.at-requires
@@ -17,7 +18,7 @@ returns-in_default-clause-ok c =
     let here = found_at c.self.inside.chips s.chips c.args.d x (ap (λ (t : SidesState). t.chips) c.self.view_is) c.at.ensures in
     record {
       lines = Refused c.args.step NothingReported ∷ [];
-      so = λ q. reports_none s c.args.d x.chip here q c.args.step (sym c.in_default.is ∙ c.first_report.ensures);
+      so = λ q. reports_none (world_of s q c.args.step) c.args.d x.chip here (sym c.in_default.is ∙ c.first_report.ensures);
       added = c.push_reserved.ensures.lines ∙ ap (λ ls. ls ++ Refused c.args.step NothingReported ∷ []) c.in_ok-reserve.ensures.lines;
     }
 
@@ -26,6 +27,6 @@ returns-clause-ok c =
     let s = c.args.self.now in
     let x = c.at.result.now in
     let here = found_at c.self.inside.chips s.chips c.args.d x (ap (λ (t : SidesState). t.chips) c.self.view_is) c.at.ensures in
-    added_as _ _ _ _ (λ ls h q. reports_first s c.args.d x.chip here q c.args.step _ c.in-Some.ensures ∙ h q)
-    (ended_behind s c.react_to_report-outcome.new.self _ c.args.lines.now.lines [] _ _ _ c.args.step c.react_to_report-outcome.result _ _ _
+    added_as _ _ _ _ (λ ls h q. reports_first (world_of s q c.args.step) c.args.d x.chip here _ c.in-Some.ensures ∙ h q)
+    (ended_behind of_sides s c.react_to_report-outcome.new.self _ c.args.lines.now.lines [] _ _ _ c.args.step c.react_to_report-outcome.result _ _ _
     (from_none _ _ c.in_ok-reserve.ensures.lines) (c.react_to_report-outcome.ensures.reacted x.chip here) c.last_line.ensures.lasts c.in_ok-last_line.was c.push_reserved-2.ensures.lines)
