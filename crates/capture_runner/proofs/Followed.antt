@@ -12,12 +12,12 @@ use Rattle.br_model.specs.Text.Scenario.{is_end, longest_line}
 use Rattle.br_model.proofs.Program.AllLeft.{below_limit, not_too_long, same_at_end, same_with_more}
 use Rattle.br_model.proofs.Program.Completing.{AreApart}
 use Rattle.neigh_netlink.specs.declared.follow.LineFault.TheVariants.{Long, Unended}
-use Rattle.neigh_follow.specs.declared.follower.FollowEnd.{FollowEnd}
-use Rattle.neigh_follow.specs.declared.follower.FollowEnd.TheVariants as lasts
+use Rattle.neigh_netlink.specs.declared.follower.FollowEnd.{FollowEnd}
+use Rattle.neigh_netlink.specs.declared.follower.FollowEnd.TheVariants as lasts
 use Rattle.neigh_netlink.specs.Follow.{Ending, Following, Going, Ended, Bad, Reading as LinesRead, bad, closes, closes_at, followed, followed_at, follows, line_says, opened, reads, takes, words}
-use Rattle.neigh_follow.specs.MessageLines.{ended_by, ending_of, message_lines}
+use Rattle.neigh_netlink.specs.MessageLines.{ended_by, ending_of, message_lines}
 use Rattle.neigh_netlink.specs.Neighbours.{Neighbours}
-use Rattle.neigh_follow.proofs.Lines.{follows-is, follows-over, has_ended, line-more, long-line, over-stays, rest-goes}
+use Rattle.neigh_netlink.proofs.Lines.{follows-is, follows-over, has_ended, line-more, long-line, over-stays, rest-goes}
 use Rattle.run_status.specs.declared.stop.Stop.{Stop}
 use Rattle.run_status.specs.declared.stop.Stop.TheVariants as stops
 use Rattle.capture_runner.specs.Following.{Advanced, Answered, Below, Closed, Ends, Filled, Follows, HasRead, Lessens, Stopped, Yields}

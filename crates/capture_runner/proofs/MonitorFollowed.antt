@@ -11,10 +11,10 @@ use Rattle.neigh_netlink.specs.Follow.{Following, followed, followed_at, follows
 use Rattle.neigh_netlink.specs.Monitor.{messages, monitored, monitored_at}
 use Rattle.neigh_netlink.specs.Neighbours.{rows}
 use Rattle.neigh_netlink.specs.Offloaded.{entries_of}
-use Rattle.neigh_follow.specs.Calls.{EndsWithin}
-use Rattle.neigh_follow.specs.Messages.{text_of}
-use Rattle.neigh_follow.proofs.FewMessages.{lines-few}
-use Rattle.neigh_follow.proofs.WholeRuns.{lined-followed}
+use Rattle.neigh_netlink.specs.Calls.{EndsWithin}
+use Rattle.neigh_netlink.specs.FollowedMessages.{text_of}
+use Rattle.neigh_netlink.proofs.FewMessages.{lines-few}
+use Rattle.neigh_netlink.proofs.WholeRuns.{lined-followed}
 use Rattle.scenario_reader.proofs.ScenarioLines.{steps_have_lines}
 use Rattle.scenario_reader.proofs.ScenarioPorts.{ports_are_declared}
 

@@ -26,10 +26,10 @@ use Rattle.capture_runner.specs.Outcome.{Asks, EndsWell, Outcome, follow_ways}
 use Rattle.run_status.specs.Statuses.{Caused, EndsIn, call_of, check_ways, last_line, live_ways, no_parts, nothing, reading_ways, scenario_ways, writing_ways}
 use Rattle.capture_runner.specs.Following as following
 use Rattle.run_status.specs.Stopping as stopping
-use Rattle.neigh_follow.specs.declared.follower.FollowEnd.{FollowEnd}
-use Rattle.neigh_follow.specs.declared.follower.FollowEnd.TheVariants as follow_lasts
+use Rattle.neigh_netlink.specs.declared.follower.FollowEnd.{FollowEnd}
+use Rattle.neigh_netlink.specs.declared.follower.FollowEnd.TheVariants as follow_lasts
 use Rattle.neigh_netlink.specs.Follow.{Ending as FollowEnding, Following as FollowingLines, followed, followed_at, follows}
-use Rattle.neigh_follow.specs.MessageLines.{ending_of as follow_ending, message_lines}
+use Rattle.neigh_netlink.specs.MessageLines.{ending_of as follow_ending, message_lines}
 use Rattle.mcast_querier.specs.Runs.{queried}
 use Rattle.neigh_netlink.specs.Monitor.{monitored}
 use Rattle.capture_runner.proofs.Followed.{messages_apart}

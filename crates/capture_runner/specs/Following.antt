@@ -10,10 +10,10 @@ use Rattle.std.specs.Io.KnownBytes.{Consumes}
 use Rattle.run_io.specs.Reading.{Reading}
 use Rattle.br_model.specs.Program.Outcomes.{GoesOn, HoldsNoEnd}
 use Rattle.br_model.specs.Table.Limits.{most_bytes}
-use Rattle.neigh_follow.specs.declared.follower.FollowEnd.{FollowEnd}
-use Rattle.neigh_follow.specs.declared.follower.FollowEnd.TheVariants as lasts
+use Rattle.neigh_netlink.specs.declared.follower.FollowEnd.{FollowEnd}
+use Rattle.neigh_netlink.specs.declared.follower.FollowEnd.TheVariants as lasts
 use Rattle.neigh_netlink.specs.Follow.{Following, Going, followed, follows, opened, reads}
-use Rattle.neigh_follow.specs.MessageLines.{ending_of, message_lines}
+use Rattle.neigh_netlink.specs.MessageLines.{ending_of, message_lines}
 use Rattle.neigh_netlink.specs.Neighbours.{Neighbours}
 use Rattle.run_status.specs.declared.stop.Stop.{Stop}
 use Rattle.run_status.specs.declared.stop.Stop.TheVariants.{ReadFault, NoMemory, TooLong}

@@ -13,7 +13,7 @@ use Rattle.mcast_querier.specs.Runs.{queried}
 use Rattle.neigh_netlink.specs.Monitor.{monitored}
 use Rattle.chip_audit.specs.Lines.{audited}
 use Rattle.neigh_netlink.specs.Follow.{followed}
-use Rattle.neigh_follow.specs.MessageLines.{message_lines}
+use Rattle.neigh_netlink.specs.MessageLines.{message_lines}
 use Rattle.command_line.specs.declared.asked.Asked.{Asked}
 use Rattle.command_line.specs.declared.asked.Asked.TheVariants.{Replay, Check, Show, Monitor, Audit, Querier, Follow, Live, Gen, Demo}
 use Rattle.run_status.specs.declared.status.Status.{Status}

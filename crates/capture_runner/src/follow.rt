@@ -9,7 +9,7 @@ ghost use Rattle.run_status.specs.Statuses.{Caused, EndsIn, call_of};
 ghost use Rattle.capture_runner.specs.Outcome.{follow_ways};
 
 use br_model::limits::MOST_BYTES;
-use neigh_follow::{FollowEnd, Follower};
+use neigh_netlink::{FollowEnd, Follower};
 use run_io::lines::{LineFault, LineReader};
 use run_io::sinks::Sink;
 use run_io::sources::Source;

@@ -10,7 +10,7 @@ ghost use Rattle.neigh_netlink.specs.Follow.{followed, follows, row_line};
 ghost use Rattle.neigh_netlink.specs.Monitor.{messages, monitored};
 ghost use Rattle.neigh_netlink.specs.Neighbours.{rows};
 ghost use Rattle.neigh_netlink.specs.Offloaded.{entries_of};
-ghost use Rattle.neigh_follow.specs.Calls.{EndsWithin};
+ghost use Rattle.neigh_netlink.specs.Calls.{EndsWithin};
 
 /// What `monitor` writes of a scenario that ends well is followed to its end, and no line of it is bad. It gives the address entries at
 /// the end of the run, each with whether a chip has it; these are what `follow` writes. And it is within what `follow` reads: so where no

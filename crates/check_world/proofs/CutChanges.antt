@@ -22,8 +22,8 @@ use Rattle.br_model.proofs.Data.Lists.{find-each}
 use Rattle.bridge_core.specs.Kept.{Controlled}
 use Rattle.forward_rules.specs.declared.soft_tables.Verdict.{Verdict}
 use Rattle.forward_rules.specs.Decided.{Decides}
-use Rattle.table_cuts.specs.Cuts.{AreCuts, Changed, CutState, IsCut, KeepsTable, chips_of, noted, state_in, turned}
-use Rattle.table_cuts.specs.Points.{PointState}
+use Rattle.check_world.specs.Cuts.{AreCuts, Changed, CutState, IsCut, KeepsTable, chips_of, noted, state_in, turned}
+use Rattle.check_world.specs.Points.{PointState}
 use Rattle.check_world.specs.Sides.{AreSides, SidesState, table_of}
 use Rattle.br_model.proofs.Table.ChipLists.{apart, apart-chips, chip-found, put-place, some-found}
 use Rattle.br_model.proofs.Plane.ByDomain.{same_chip}

@@ -5,3 +5,4 @@ pub mod Worlds
 pub mod Entering
 pub mod Searching
 pub mod Making
+pub mod CutSteps

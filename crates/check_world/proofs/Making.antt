@@ -5,8 +5,8 @@ use Rattle.br_model.specs.Table.Setup.{Setup}
 use Rattle.br_model.specs.Table.Table.{start}
 use Rattle.bridge_core.specs.Kept.{Controlled}
 use Rattle.plane_parts.specs.Places.{places}
-use Rattle.table_cuts.specs.Cuts.{AreCuts, CutState}
-use Rattle.table_cuts.specs.Points.{IsPoint, PointState}
+use Rattle.check_world.specs.Cuts.{AreCuts, CutState}
+use Rattle.check_world.specs.Points.{IsPoint, PointState}
 use Rattle.check_world.specs.Sides.{AreSides}
 
 pub first_stand : (bridge : Controlled) (cuts : List CutState) (noted : List ℕ) (point : PointState) (setup : Setup)

@@ -6,9 +6,9 @@ use Rattle.br_model.specs.Control.Reaction.{Reaction}
 use Rattle.br_model.specs.Table.Domains.{Domains}
 use Rattle.br_model.specs.Table.Table.{table}
 use Rattle.bridge_core.specs.Kept.{Controlled}
-use Rattle.table_cuts.specs.Points.{IsPoint, PointState}
+use Rattle.check_world.specs.Points.{IsPoint, PointState}
 use Rattle.plane_reactions.proofs.Following.{before, reacted}
-use Rattle.table_cuts.specs.Cuts.{AreCuts, CutState}
+use Rattle.check_world.specs.Cuts.{AreCuts, CutState}
 use Rattle.plane_parts.specs.Places.{places}
 use Rattle.check_world.specs.Sides.{AreSides}
 

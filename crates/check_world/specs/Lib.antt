@@ -1,2 +1,4 @@
 pub mod Sides
 pub mod Worlds
+pub mod Cuts
+pub mod Points

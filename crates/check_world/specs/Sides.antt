@@ -11,8 +11,8 @@ use Rattle.bridge_core.specs.Kept.{Controlled}
 use Rattle.plane_reactions.specs.Reacted.{Seen}
 use Rattle.plane_parts.specs.Places.{places}
 use Rattle.plane_parts.specs.Queued.{Queued}
-use Rattle.table_cuts.specs.Cuts.{AreCuts, CutState}
-use Rattle.table_cuts.specs.Points.{IsPoint, PointState}
+use Rattle.check_world.specs.Cuts.{AreCuts, CutState}
+use Rattle.check_world.specs.Points.{IsPoint, PointState}
 
 pub record SidesState : Type 0 where
   pub setup : Setup

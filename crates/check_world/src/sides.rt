@@ -23,11 +23,13 @@ ghost use Rattle.plane_reactions.specs.Reacted.{Comes, Reacted};
 ghost use Rattle.plane_parts.specs.Added.{Added};
 ghost use Rattle.forward_rules.specs.Decided.{Decides};
 ghost use Rattle.plane_parts.specs.Places.{places};
-ghost use Rattle.table_cuts.specs.Cuts.{AreCuts, chips_of};
+ghost use Rattle.check_world.specs.Cuts.{AreCuts, chips_of};
 ghost use Rattle.plane_parts.specs.Queued.{Queued};
 ghost use Rattle.check_world.specs.Sides.{of_sides, first_sides, table_of, world_of};
 
 use crate::NoMemory;
+use crate::cuts::Cuts;
+use crate::point::Point;
 use br_model::change::Update;
 use br_model::domains::Domains;
 use br_model::frame::{Head, McastMsg};
@@ -40,7 +42,6 @@ use plane_parts::{Egress, Frame, Updates, make_room, send};
 use plane_reactions::last_line;
 use std::alloc::Global;
 use std::marker::Model;
-use table_cuts::{Cuts, Point};
 use transcript_lines::Lines;
 
 /// The control plane with its history, of which each chip has applied a part, and of which a front was published.
@@ -58,7 +59,7 @@ pub(crate) struct Sides {
 }
 
 impl Model for Sides {
-    ghost use Rattle.table_cuts.specs.Cuts.{chips_of};
+    ghost use Rattle.check_world.specs.Cuts.{chips_of};
     ghost use Rattle.check_world.specs.Sides.{AreSides, SidesState};
 
     ghost Value = { SidesState };

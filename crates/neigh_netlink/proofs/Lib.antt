@@ -8,3 +8,11 @@ pub mod Kept
 pub mod HexDigits
 pub mod LineWords
 pub mod FollowedLines
+pub mod Followers
+pub mod Lines
+pub mod Messages
+pub mod RowTexts
+pub mod TakenRuns
+pub mod FineChanges
+pub mod WholeRuns
+pub mod FewMessages

@@ -8,3 +8,5 @@ pub mod Stream
 pub mod Follow
 pub mod Lines
 pub mod Worked
+pub mod MessageLines
+pub mod FollowedMessages

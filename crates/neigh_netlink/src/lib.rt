@@ -12,21 +12,26 @@
 //!
 //! The further attributes of the kernel's messages are left out.
 //!
-//! A `Stream` gives the messages of a run as it goes on, and a `Table` follows lines of them.
+//! A `Stream` gives the messages of a run as it goes on, and a `Table` follows lines of them. A `Follower` takes one line after another, up
+//! to the line `end` or the first bad line, and then gives the text of the table, or that of the bad line.
 #![tactic(auto)]
 
 mod entries;
 mod follow;
+pub mod follow_laws;
+mod follower;
 mod lasts;
 pub mod laws;
 mod line;
 mod neigh;
 mod reading;
+mod row_lines;
 mod stream;
 mod table;
 mod writing;
 
 pub use crate::follow::{LineFault, Said, append_bad, read_line, says_end};
+pub use crate::follower::{FollowEnd, Follower};
 pub use crate::line::append_line;
 pub use crate::neigh::Neigh;
 pub use crate::reading::read;

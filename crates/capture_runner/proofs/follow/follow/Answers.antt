@@ -1,6 +1,6 @@
 use Rattle.std.proofs.Common.{◌∙◌, String}
 use Rattle.std.specs.declared.alloc.Global.{Global}
-use Rattle.neigh_follow.specs.declared.follower.FollowEnd.{FollowEnd}
+use Rattle.neigh_netlink.specs.declared.follower.FollowEnd.{FollowEnd}
 use Rattle.capture_runner.proofs.Outcomes.{calm_follow, follow_ends, follow_stops}
 use Rattle.run_status.proofs.Ends.{calm_stops, read_stopped}
 use Rattle.capture_runner.proofs.follow.follow.Goals as goal

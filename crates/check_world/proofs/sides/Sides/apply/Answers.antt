@@ -3,7 +3,7 @@ use Rattle.std.proofs.lemmas.Result.{on_ok_weaker}
 use Rattle.lemmas.proofs.Endings.{on_either}
 use Rattle.br_model.specs.Plane.Chip.{Chip, applies}
 use Rattle.br_model.proofs.Table.Counts.{count_below}
-use Rattle.table_cuts.specs.Cuts.{CutState, turned}
+use Rattle.check_world.specs.Cuts.{CutState, turned}
 use Rattle.check_world.proofs.CutChanges.{are_chips, changed, cut_found, kept_sides, next_at, there_at, turn_fits, turned_own, turned_sides}
 use Rattle.check_world.proofs.sides.Sides.apply.Goals as goal
 

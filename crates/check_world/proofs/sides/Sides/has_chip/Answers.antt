@@ -1,7 +1,7 @@
 use Rattle.std.proofs.Common.{sym, ap, ◌∙◌}
 use Rattle.std.specs.Prelude.{is_some}
 use Rattle.br_model.specs.Plane.Chip.{chip_in}
-use Rattle.table_cuts.specs.Cuts.{CutState}
+use Rattle.check_world.specs.Cuts.{CutState}
 use Rattle.check_world.specs.Sides.{SidesState}
 use Rattle.br_model.proofs.Table.ChipLists.{some-found}
 use Rattle.check_world.proofs.sides.Sides.has_chip.Goals as goal

@@ -1,5 +1,5 @@
 use Rattle.std.proofs.Common.{List, [], sym, subst}
-use Rattle.table_cuts.specs.Cuts.{AreCuts, CutState}
+use Rattle.check_world.specs.Cuts.{AreCuts, CutState}
 use Rattle.check_world.proofs.Making.{first_stand}
 use Rattle.check_world.proofs.sides.Sides.make.Goals as goal
 

@@ -1,7 +1,7 @@
 use Rattle.std.proofs.Common.{◌≡◌, subst, sym}
 use Rattle.std.proofs.lemmas.Result.{on_ok_weaker}
 use Rattle.lemmas.proofs.Endings.{on_either}
-use Rattle.table_cuts.specs.Cuts.{Changed, KeepsTable, noted}
+use Rattle.check_world.specs.Cuts.{Changed, KeepsTable, noted}
 use Rattle.check_world.proofs.CutChanges.{are_chips, changed_as, kept_sides, noted_keeps, noted_sides, there_at}
 use Rattle.check_world.proofs.sides.Sides.note.Goals as goal
 

@@ -3,7 +3,7 @@ use Rattle.std.specs.List.{sum_by}
 use Rattle.br_model.specs.Plane.Chip.{Chip}
 use Rattle.br_model.specs.Table.Cut.{deferred_count}
 use Rattle.plane_parts.proofs.Placing.{count}
-use Rattle.table_cuts.specs.Cuts.{CutState}
+use Rattle.check_world.specs.Cuts.{CutState}
 use Rattle.check_world.specs.Sides.{SidesState}
 use Rattle.br_model.proofs.Table.ChipLists.{sum-chips}
 use Rattle.check_world.proofs.sides.Sides.pending.Goals as goal

@@ -1,7 +1,7 @@
 use Rattle.std.proofs.Common.{◌≡◌, [], refl, ap, sym, subst, ◌∙◌}
 use Rattle.std.specs.Prelude.{is_some}
 use Rattle.br_model.specs.Plane.Chip.{Chip, chip_in, put_chip}
-use Rattle.table_cuts.specs.Cuts.{CutState, KeepsTable, without_hits}
+use Rattle.check_world.specs.Cuts.{CutState, KeepsTable, without_hits}
 use Rattle.check_world.specs.Sides.{SidesState}
 use Rattle.check_world.proofs.CutChanges.{changed, changed_as, kept_sides, there_at}
 use Rattle.check_world.proofs.sides.Sides.react_to_sweep.Goals as goal

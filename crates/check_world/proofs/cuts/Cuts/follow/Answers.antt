@@ -1,0 +1,34 @@
+use Rattle.std.proofs.Common.{◌<◌, length, take, sym, ap, ◌∙◌, subst, arith}
+use Rattle.std.proofs.Math.Seq.{map-set_same}
+use Rattle.std.proofs.lemmas.List.{length-map}
+use Rattle.std.proofs.lemmas.List.Elements.{AllWithin-more_set}
+use Rattle.br_model.specs.declared.domains.Edition.{Edition}
+use Rattle.check_world.specs.Cuts.{AreCuts, CutState, IsCut}
+use Rattle.br_model.proofs.Table.ChipLists.{rest-set, same-rest}
+use Rattle.check_world.proofs.cuts.Cuts.follow.Goals as goal
+
+pub follow-requires-clause-cut : goal.follow-requires-clause-cut
+follow-requires-clause-cut c =
+    let d = c.args.d.now in
+    let h = take c.args.from c.args.history.now in
+    let place = c.loop-place.place in
+    let item = c.index_mut.result.now in
+    let xs = c.self.inside.cuts.items in
+    let each = (subst (AreCuts d h) (sym c.self.view_is) c.requires.stand).each in
+    subst (λ (e : Edition). IsCut e h item) (sym c.edition.ensures)
+    (subst (IsCut d.edition h) (sym (c.index_mut.ensures.value ∙ same-rest c.loop-place.self-inside.cuts.items xs place item c.loop-place.invariant.1))
+    (each place item (omega (arith, c.loop-place-test.true, c.len-place-end.ensures))))
+
+pub loop-place-preserved : goal.loop-place-preserved
+loop-place-preserved c =
+    let place = c.loop-place.place in
+    let item = c.index_mut.result.now in
+    let xs = c.self.inside.cuts.items in
+    let ys = c.loop-place.self-inside.cuts.items in
+    let within : place < length ys =
+    omega (arith, c.loop-place-test.true, c.len-place-end.ensures, ap length c.loop-place.invariant.0, length-map xs (λ (s : CutState). s.chip), length-map ys (λ (s : CutState). s.chip)) in (
+      map-set_same (λ (s : CutState). s.chip) ys place c.follow.new.self item (c.follow.ensures.chip ∙ ap (λ (s : CutState). s.chip) c.index_mut.ensures.value) ∙ c.loop-place.invariant.0,
+      rest-set ys xs place c.follow.new.self c.loop-place.invariant.1,
+      AllWithin-more_set ys place c.follow.new.self within (IsCut c.args.d.now.edition c.args.history.now) c.loop-place.invariant.2
+          (subst (λ (e : Edition). IsCut e c.args.history.now c.follow.new.self) c.edition.ensures c.follow.ensures.cut),
+    )

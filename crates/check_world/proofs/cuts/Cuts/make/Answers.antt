@@ -1,0 +1,20 @@
+use Rattle.std.proofs.Common.{◌≡◌, [], ◌∷◌, List, ℕ, map, ap, ◌∙◌, arith}
+use Rattle.std.proofs.lemmas.List.{take_all}
+use Rattle.std.specs.List.{filter}
+use Rattle.br_model.specs.Plane.Chip.{first_chip, first_chips}
+use Rattle.br_model.specs.Table.Domains.{has_chip}
+use Rattle.check_world.specs.Cuts.{CutState, chips_of}
+use Rattle.br_model.proofs.Table.ChipLists.{doms-first, existing}
+use Rattle.check_world.proofs.cuts.Cuts.make.Goals as goal
+
+-- all of them
+whole : (c : goal.After-loop-number) → chips_of c.loop-number.cuts.items ≡ first_chips c.args.d.now
+whole c = c.loop-number.invariant.2
+    ∙ ap (λ (ks : List ℕ). map first_chip (filter (λ k. has_chip c.args.d.now k) ks)) (take_all _ (1 ∷ 2 ∷ 3 ∷ 4 ∷ []) (omega (arith, c.loop-number-test.false)))
+    ∙ ap (map first_chip) (existing c.args.d.now)
+
+pub returns-clause-stand : goal.returns-clause-stand
+returns-clause-stand c = record { each = c.loop-number.invariant.1; doms = doms-first (λ (s : CutState). s.chip) c.loop-number.cuts.items _ (whole c) }
+
+pub returns-clause-first : goal.returns-clause-first
+returns-clause-first c = whole c

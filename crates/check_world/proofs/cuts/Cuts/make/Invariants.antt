@@ -1,0 +1,11 @@
+use Rattle.std.proofs.Common.{◌≡◌, ◌-◌, ◌≤◌, [], ◌∷◌, map, take}
+use Rattle.std.specs.List.{All, filter}
+use Rattle.br_model.specs.Plane.Chip.{first_chip}
+use Rattle.br_model.specs.Table.Domains.{has_chip}
+use Rattle.check_world.specs.Cuts.{IsCut, chips_of}
+use Rattle.check_world.proofs.cuts.Cuts.make.Given as goal
+
+abbrev pub invariant-loop-number : goal.invariant-loop-number
+invariant-loop-number l =
+    (1 ≤ l.number) × All (IsCut l.d.edition []) l.cuts.items
+    × (chips_of l.cuts.items ≡ map first_chip (filter (λ k. has_chip l.d k) (take (l.number - 1) (1 ∷ 2 ∷ 3 ∷ 4 ∷ []))))

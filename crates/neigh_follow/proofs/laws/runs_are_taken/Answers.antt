@@ -1,5 +1,0 @@
-use Rattle.neigh_follow.proofs.TakenRuns.{run-followed, run-taken}
-use Rattle.neigh_follow.proofs.laws.runs_are_taken.Goals as goal
-
-pub returns : goal.returns
-returns c = record { taken = run-taken; followed = run-followed }

@@ -1,7 +1,0 @@
-use Rattle.std.proofs.Common.{◌≡◌, ◌-◌, take}
-use Rattle.std.specs.List.{sum_by}
-use Rattle.table_cuts.specs.Cuts.{CutState}
-use Rattle.table_cuts.proofs.cuts.Cuts.pending.Given as goal
-
-abbrev pub invariant-loop-cut : goal.invariant-loop-cut
-invariant-loop-cut l = l.pending ≡ sum_by (λ (c : CutState). l.deferred - c.chip.count) (take l.cut-index l.cut-items)
