@@ -18,7 +18,7 @@ use Rattle.br_model.specs.Control.Reaction.{Reaction, has_room, in_room}
 use Rattle.br_model.specs.Table.Table.{Table, table, apply}
 use Rattle.br_model.specs.Tree.Tree.{Tree, state_at}
 use Rattle.br_model.specs.Theorems.TreeLaws.{knows_states}
-use Rattle.br_model.specs.Control.TreeReaction.{states, told}
+use Rattle.br_model.specs.Control.TreeReaction.{states, tells_tree}
 use Rattle.br_model.specs.Tree.Sending.{Acted}
 use Rattle.br_model.specs.Tree.Step.{tree_step, moved, sent}
 use Rattle.br_model.proofs.Trees.Kept.{known-at}
@@ -48,9 +48,9 @@ module _ (t : Table) (c : Control) (p : Plan) (sound : IsSound t p) where
   base = record { table = t; control = prepared c p; changes = []; messages = [] }
 
   -- a plan of which the spanning tree is told nothing
-  pub untold : p.told ≡ None → planned t c p
+  pub untold : p.tree_event ≡ None → planned t c p
       ≡ record { table = fold apply t p.changes.items; control = fold keeps_up (prepared c p) p.changes.items; changes = p.changes.items; messages = [] }
-  untold is = (λ i. told (is i) (made_all base p.changes.items sound.fits i))
+  untold is = (λ i. tells_tree (is i) (made_all base p.changes.items sound.fits i))
 
   module _ (event : TreeEvent) where
     abbrev pub acts : Acted
@@ -64,7 +64,7 @@ module _ (t : Table) (c : Control) (p : Plan) (sound : IsSound t p) where
         fit_behind t p.changes.items (states c.tree acts.tree) sound.fits (states_fit (fold apply t p.changes.items) acts.tree (moved c.tree acts.tree) known)
 
     -- a plan of which it is told this
-    pub told_so : p.told ≡ Some event → knows_states acts.tree ≡ true → planned t c p
+    pub told_so : p.tree_event ≡ Some event → knows_states acts.tree ≡ true → planned t c p
         ≡ record { table = fold apply t all_changes; control = record (fold keeps_up (prepared c p) all_changes) { tree = acts.tree }; changes = all_changes; messages = sent acts }
     told_so is known =
         let cs = p.changes.items in
@@ -73,7 +73,7 @@ module _ (t : Table) (c : Control) (p : Plan) (sound : IsSound t p) where
         let tree : mid.control.tree ≡ c.tree = same_tree (prepared c p) cs ∙ renewed_tree (clocked p.clock c) p.renewed in
         let now : mid.control.now ≡ p.clock.now = same_clock (prepared c p) cs ∙ renewed_clock (clocked p.clock c) p.renewed in
         let next : Course = record mid { control = record mid.control { tree = acts.tree }; messages = sent acts } in
-        (λ i. told (is i) (made_all base cs sound.fits i))
+        (λ i. tells_tree (is i) (made_all base cs sound.fits i))
         ∙ (λ i. makes_all (record mid {
           control = record mid.control { tree = (tree_step (tree i) (now i) event).tree };
           messages = sent (tree_step (tree i) (now i) event);
@@ -100,7 +100,7 @@ module _ (old : Controlled) (p : Plan) (sound : IsSound (table old.history) p) (
   answer_of : (planned_as x : Course) (room : Bool) → planned_as ≡ x → has_room old.history x.changes ≡ room → in_room old.history (Ok planned_as) ≡ answered x room
   answer_of planned_as x room is e = ap (λ (x : Course). in_room old.history (Ok x)) is ∙ ap (answered x) e
 
-  pub quiet_reacts : (new : Controlled) (r : Result (Unit {0}) EventFault) → p.told ≡ None → Makes old new (prepared old.control p) p.changes.items r → after ≡ before
+  pub quiet_reacts : (new : Controlled) (r : Result (Unit {0}) EventFault) → p.tree_event ≡ None → Makes old new (prepared old.control p) p.changes.items r → after ≡ before
       → Reacts old new before after r (in_room old.history (Ok (planned (table old.history) old.control p)))
   quiet_reacts new (Ok done) quiet makes says = (
     record { changes = p.changes.items; control = fold keeps_up (prepared old.control p) p.changes.items; messages = [] },
@@ -118,7 +118,7 @@ module _ (old : Controlled) (p : Plan) (sound : IsSound (table old.history) p) (
       refuses why = Err why
   quiet_reacts new (Err NoMemory) quiet makes says = (makes, says)
 
-  module _ (event : TreeEvent) (is : p.told ≡ Some event) (known : knows_states (acts (table old.history) old.control p sound event).tree ≡ true) where
+  module _ (event : TreeEvent) (is : p.tree_event ≡ Some event) (known : knows_states (acts (table old.history) old.control p sound event).tree ≡ true) where
     abbrev pub whole : List Change
     whole = all_changes (table old.history) old.control p sound event
 

@@ -55,7 +55,7 @@ module _ (old : Controlled) (p : Plan) where
       leaves = leaves_so;
     }
 
-  module _ (sound : IsSound (table old.history) p) (quiet : p.told ≡ None) (does : Course → Course) where
+  module _ (sound : IsSound (table old.history) p) (quiet : p.tree_event ≡ None) (does : Course → Course) where
     abbrev answer : Result Reaction Refusal
     answer = in_room old.history (Ok (does (planned (table old.history) old.control p)))
 

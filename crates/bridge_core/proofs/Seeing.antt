@@ -15,7 +15,7 @@ use Rattle.br_model.specs.Table.Domains.{Domains, software}
 use Rattle.br_model.specs.Table.Setup.{Setup}
 use Rattle.br_model.specs.Control.Snooping.{snoops}
 use Rattle.br_model.specs.Table.Table.{Table, table, with_addresses}
-use Rattle.br_model.specs.Control.TreeReaction.{heard, told}
+use Rattle.br_model.specs.Control.TreeReaction.{heard, tells_tree}
 use Rattle.bridge_plans.specs.declared.plan.Plan.{Plan}
 use Rattle.bridge_core.specs.Answers.{carried_out, standing}
 use Rattle.bridge_plans.specs.Plans.{IsSound, renewed_at}
@@ -41,17 +41,17 @@ module _ (setup : Setup) (r : Course) (port : ℕ) (bytes : List ℕ) (head : He
   -- A frame of which the spanning tree is told nothing teaches, and then its message is read.
   pub sees-said : (does : Course → Course) → heard r.table port bytes head ≡ None → snoops port bytes head (learns_of setup port head r) ≡ does (learns_of setup port head r)
       → does (learns_of setup port head r) ≡ sees setup port bytes head r
-  sees-said does none e = sym e ∙ sym (ap (λ o. told o (snoops port bytes head (learns_of setup port head r))) none)
+  sees-said does none e = sym e ∙ sym (ap (λ o. tells_tree o (snoops port bytes head (learns_of setup port head r))) none)
 
   -- A frame that it reads does nothing else.
-  pub sees-told : (event : TreeEvent) → heard r.table port bytes head ≡ Some event → told (Some event) r ≡ sees setup port bytes head r
+  pub sees-told : (event : TreeEvent) → heard r.table port bytes head ≡ Some event → tells_tree (Some event) r ≡ sees setup port bytes head r
   sees-told event e =
       let unlearned : learns_of setup port head r ≡ r = ap (λ o. taught o (is_in_domain setup.domains software port)) (heard_alone r.table port bytes head event e) ∙ untaught (is_in_domain setup.domains software port) in
       let unheard = unheard-quiet (with_addresses r.table []) port bytes head r refl (message bytes head) refl (ap (λ (x : McastMsg). most x) (tree-hears-alone r.table port bytes head event e)) in
       sym (
-      ap (λ x. told (heard r.table port bytes head) (snoops port bytes head x)) unlearned
-      ∙ ap (λ x. told (heard r.table port bytes head) x) unheard
-      ∙ ap (λ o. told o r) e
+      ap (λ x. tells_tree (heard r.table port bytes head) (snoops port bytes head x)) unlearned
+      ∙ ap (λ x. tells_tree (heard r.table port bytes head) x) unheard
+      ∙ ap (λ o. tells_tree o r) e
       )
     where
       taught : Option Address → Bool → Course
@@ -78,7 +78,7 @@ taught_so b domains own t port head key setup at taught =
 
 -- A plan of which the spanning tree is told this, and nothing else is done.
 
-module _ (b : Controlled) (p : Plan) (event : TreeEvent) (early : p.clock.now < 2 ^ 53) (clock : clocked p.clock b.control ≡ b.control) (renewed : p.renewed ≡ None) (none : p.changes.items ≡ []) (tells : p.told ≡ Some event) where
+module _ (b : Controlled) (p : Plan) (event : TreeEvent) (early : p.clock.now < 2 ^ 53) (clock : clocked p.clock b.control ≡ b.control) (renewed : p.renewed ≡ None) (none : p.changes.items ≡ []) (tells : p.tree_event ≡ Some event) where
   pub sound-alone : IsSound (table b.history) p
   sound-alone = record {
     early = early;
@@ -86,5 +86,5 @@ module _ (b : Controlled) (p : Plan) (event : TreeEvent) (early : p.clock.now < 
     fits = ap (all_fit (table b.history)) none;
   }
 
-  pub tells_alone : told (Some event) (standing b) ≡ carried_out b p
-  tells_alone = sym (λ i. told (tells i) (makes_all (record { table = table b.history; control = (ap (renewed_at (clocked p.clock b.control)) renewed ∙ clock) i; changes = []; messages = [] }) (none i)))
+  pub tells_alone : tells_tree (Some event) (standing b) ≡ carried_out b p
+  tells_alone = sym (λ i. tells_tree (tells i) (makes_all (record { table = table b.history; control = (ap (renewed_at (clocked p.clock b.control)) renewed ∙ clock) i; changes = []; messages = [] }) (none i)))

@@ -3,7 +3,7 @@ ghost use Rattle.std.specs.Prelude.{◌≡◌, ◌≤◌, ◌<◌, ◌+◌, ◌^
 ghost use Rattle.std.specs.List.{list_all};
 ghost use Rattle.br_model.specs.Control.Control.{first_control};
 ghost use Rattle.br_model.specs.Control.Course.{makes_all};
-ghost use Rattle.br_model.specs.Control.Learning.{told as reported};
+ghost use Rattle.br_model.specs.Control.Learning.{reported};
 ghost use Rattle.br_model.specs.Control.Reaction.{learns, learns_of, react as reaction, sees};
 ghost use Rattle.br_model.specs.Control.Snooping.{fastleave};
 ghost use Rattle.br_model.specs.Control.TreeReaction.{heard};
@@ -108,7 +108,7 @@ impl Bridge {
     /// What the frame teaches, where more is to be done than that.
     fn plan_taught(&self, alloc: Global, port: Port, head: &Head) -> Result<Plan, EventFault>
         ensures plans { PlansOf self.now result (Ok (learns_of self.now.setup port head.now (standing self.now))) }
-        ensures told { IfOk result (λ plan. plan.told ≡ None) }
+        ensures told { IfOk result (λ plan. plan.tree_event ≡ None) }
         ensures clock { IfOk result (λ plan. plan.clock.now ≡ self.now.control.now) }
         ensures addresses { IfOk result (λ plan. list_all is_of_address plan.changes.items ≡ true) }
     {
@@ -160,7 +160,7 @@ impl Bridge {
         lines: &mut Lines,
     ) -> Result<(), EventFault>
         requires sound { IsSound (table self.old.history) plan }
-        requires told { plan.told ≡ Some event.now }
+        requires told { plan.tree_event ≡ Some event.now }
         requires room { 1 ≤ lines.old.rows }
         ensures carries_out { CarriesOut self.old self.new lines.old.lines lines.new.lines result (Ok (carried_out self.old plan)) }
         ensures room { 1 ≤ lines.new.rows }
@@ -192,7 +192,7 @@ impl Bridge {
         lines: &mut Lines,
     ) -> Result<(), EventFault>
         requires sound { IsSound (table self.old.history) plan }
-        requires told { plan.told ≡ Some event.now }
+        requires told { plan.tree_event ≡ Some event.now }
         requires room { 1 ≤ lines.old.rows }
         ensures carries_out { CarriesOut self.old self.new lines.old.lines lines.new.lines result (Ok (carried_out self.old plan)) }
         ensures room { 1 ≤ lines.new.rows }
@@ -223,8 +223,8 @@ impl Bridge {
         ensures room { 1 ≤ lines.new.rows }
         ensures marked { lines.new.marked ≡ lines.old.marked }
     {
-        let told = plan.told;
-        match told {
+        let tree_event = plan.tree_event;
+        match tree_event {
             Some(event) => self.accept_told(plan, &event, lines),
             None => self.make_changes(plan.clock, plan.renewed, &plan.changes),
         }
@@ -267,7 +267,7 @@ impl Bridge {
         message: &McastMsg,
     ) -> Result<(), EventFault>
         requires sound { IsSound (table self.old.history) plan }
-        requires untold { plan.told ≡ None }
+        requires untold { plan.tree_event ≡ None }
         requires addresses { list_all is_of_address plan.changes.items ≡ true }
         requires clock { plan.clock.now ≡ speaker.now.moment }
         requires leaves { has_flag (table self.old.history) speaker.now.port fastleave ≡ speaker.now.fastleave }

@@ -31,7 +31,7 @@ use Rattle.br_model.specs.Control.Commands.Vlans.{leaves_vlan}
 use Rattle.br_model.specs.Control.Control.{Control, keeps_up, renewed}
 use Rattle.br_model.specs.Control.Course.{Course, from, makes_all}
 use Rattle.br_model.specs.Table.Groups.{Membership}
-use Rattle.br_model.specs.Control.Learning.{Address, is_news, is_renewed, is_dynamic, is_learned_at, may_teach, taught, teach, teach_in, told as reported}
+use Rattle.br_model.specs.Control.Learning.{Address, is_news, is_renewed, is_dynamic, is_learned_at, may_teach, taught, teach, teach_in, reported}
 use Rattle.br_model.specs.Table.Limits.{fits, all_fit}
 use Rattle.br_model.specs.Data.Maps.{pair_cmp, get, has}
 use Rattle.br_model.specs.Plane.World.{control_line, control_lines}
@@ -39,7 +39,7 @@ use Rattle.br_model.specs.Control.Reaction.{learns}
 use Rattle.br_model.specs.Table.Table.{Table, apply}
 use Rattle.br_model.specs.Forward.Targets.{bridge_group_address, is_for_the_host, pause_address}
 use Rattle.br_model.specs.Tree.Tree.{Tree, numbers, state_at}
-use Rattle.br_model.specs.Control.TreeReaction.{follows, heard, told as tells_it}
+use Rattle.br_model.specs.Control.TreeReaction.{follows, heard, tells_tree}
 use Rattle.br_model.specs.Tree.Sending.{quiet}
 use Rattle.br_model.specs.Tree.Step.{tree_step, message}
 use Rattle.bridge_plans.specs.declared.learning.Lesson.{Lesson}
@@ -107,10 +107,10 @@ pub fit_forgets : (t : Table) (keys : List Address) → all_fit t (forgets keys)
 fit_forgets t keys = all_fit_any t (forgets keys) (always-map (λ (k : Address). changes.AddrDel k.0 k.1) keys (λ k. refl))
 
 -- A plan that changes the table alone.
-pub makes : (t : Table) (c : Control) (p : Plan) (r : Course) (cs : List Change) → p.clock.now < 2 ^ 53 → clocked p.clock c ≡ c → p.renewed ≡ None → p.changes.items ≡ cs → p.told ≡ None
+pub makes : (t : Table) (c : Control) (p : Plan) (r : Course) (cs : List Change) → p.clock.now < 2 ^ 53 → clocked p.clock c ≡ c → p.renewed ≡ None → p.changes.items ≡ cs → p.tree_event ≡ None
     → all_fit t cs ≡ true → makes_all (from t c) cs ≡ r → Plans t c (Ok p) (Ok r)
 makes t c p r cs early clock renewed is told fit comes = (
-  ap (λ (x : Course). yes x) (sym comes) ∙ sym (λ i. yes (tells_it (told i) (makes_all (record { table = t; control = renewed_at (clock i) (renewed i); changes = []; messages = [] }) (is i)))),
+  ap (λ (x : Course). yes x) (sym comes) ∙ sym (λ i. yes (tells_tree (told i) (makes_all (record { table = t; control = renewed_at (clock i) (renewed i); changes = []; messages = [] }) (is i)))),
   record {
     early = early;
     there = subst (λ (o : Option Address). IfSome o (λ key. IsSome (get pair_cmp t.addr key))) (sym renewed) tt;
@@ -237,7 +237,7 @@ unmoved t [] = refl
 unmoved t (p ∷ ps) = ap (λ b. if not b then p ∷ filter (λ q. not (state_at t q == state_at t q)) ps else filter (λ q. not (state_at t q == state_at t q)) ps) (eqb-itself (state_at t p)) ∙ unmoved t ps
 
 -- where nothing is due, nothing comes of telling the moment
-pub told_idle : (r : Course) → tree_step r.control.tree r.control.now Moment ≡ quiet r.control.tree → r ≡ tells_it (Some Moment) r
+pub told_idle : (r : Course) → tree_step r.control.tree r.control.now Moment ≡ quiet r.control.tree → r ≡ tells_tree (Some Moment) r
 told_idle r idle =
     sym (
     ap (follows r) idle

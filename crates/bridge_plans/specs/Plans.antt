@@ -11,7 +11,7 @@ use Rattle.br_model.specs.Control.Learning.{Address}
 use Rattle.br_model.specs.Table.Limits.{all_fit}
 use Rattle.br_model.specs.Data.Maps.{pair_cmp, get}
 use Rattle.br_model.specs.Table.Table.{Table}
-use Rattle.br_model.specs.Control.TreeReaction.{told}
+use Rattle.br_model.specs.Control.TreeReaction.{tells_tree}
 use Rattle.bridge_plans.specs.declared.faults.EventFault.{EventFault}
 use Rattle.bridge_plans.specs.declared.faults.EventFault.TheVariants.{Refused, NoMemory}
 use Rattle.bridge_plans.specs.declared.plan.Plan.{Plan}
@@ -28,7 +28,7 @@ prepared c p = renewed_at (clocked p.clock c) p.renewed
 
 -- the course of the plan
 abbrev pub planned : Table → Control → Plan → Course
-planned t c p = told p.told (makes_all (record { table = t; control = prepared c p; changes = []; messages = [] }) p.changes.items)
+planned t c p = tells_tree p.tree_event (makes_all (record { table = t; control = prepared c p; changes = []; messages = [] }) p.changes.items)
 
 -- What a plan can rest on: its moment is early, the entry that it renews is there, and its changes fit.
 pub record IsSound (t : Table) (p : Plan) : Type 0 where

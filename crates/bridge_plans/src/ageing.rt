@@ -5,7 +5,7 @@ ghost use Rattle.br_model.specs.Control.Ageing.{expired, forgets, forgotten};
 ghost use Rattle.br_model.specs.Control.Course.{Course, from, makes_all};
 ghost use Rattle.br_model.specs.Control.Learning.{is_extern_at};
 ghost use Rattle.br_model.specs.Control.Reaction.{passes_to};
-ghost use Rattle.br_model.specs.Control.TreeReaction.{told as tells_it};
+ghost use Rattle.br_model.specs.Control.TreeReaction.{tells_tree};
 ghost use Rattle.bridge_plans.specs.Plans.{Plans};
 ghost use Rattle.bridge_plans.specs.Standing.{table_of, control_of};
 
@@ -40,13 +40,13 @@ pub fn passes_to(alloc: Global, state: &State, now: u64) -> Result<Plan, EventFa
         },
         renewed: None,
         changes,
-        told: due(&state.tree, now),
+        tree_event: due(&state.tree, now),
     })
 }
 
 /// The moment, where the spanning tree is to be told of it: where something is due there.
 fn due(tree: &Tree, now: u64) -> Option<TreeEvent>
-    ensures { (r : Course) → r.control.tree ≡ tree.now → r.control.now ≡ now → tells_it result r ≡ tells_it (Some Moment) r }
+    ensures { (r : Course) → r.control.tree ≡ tree.now → r.control.now ≡ now → tells_tree result r ≡ tells_tree (Some Moment) r }
 {
     if tree.is_idle(now) {
         return None;
@@ -114,6 +114,6 @@ pub fn loses(alloc: Global, state: &State, stations: &Triples) -> Result<Plan, E
         clock: state.clock,
         renewed: None,
         changes: forgets_reported(alloc, state, stations.as_slice())?,
-        told: None,
+        tree_event: None,
     })
 }

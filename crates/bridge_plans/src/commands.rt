@@ -38,7 +38,7 @@ pub fn obey(alloc: Global, state: &State, asked: &Command) -> Result<Plan, Event
         clock: sets(state, asked),
         renewed: None,
         changes: command(alloc, state, asked)?,
-        told: tells(state, asked),
+        tree_event: tells(state, asked),
     })
 }
 

@@ -98,7 +98,7 @@ fn puts(alloc: Global, state: &State, port: Port, vid: Vid, mac: Mac) -> Result<
     ensures clock { IfOk result (λ plan. plan.clock ≡ state.now.clock) }
     ensures renewed { IfOk result (λ plan. plan.renewed ≡ None) }
     ensures changes { IfOk result (λ plan. plan.changes.items ≡ AddrPut vid mac port Learned ∷ []) }
-    ensures told { IfOk result (λ plan. plan.told ≡ None) }
+    ensures told { IfOk result (λ plan. plan.tree_event ≡ None) }
 {
     let put = Change::AddrPut {
         vid,
@@ -110,14 +110,14 @@ fn puts(alloc: Global, state: &State, port: Port, vid: Vid, mac: Mac) -> Result<
         clock: state.clock,
         renewed: None,
         changes: Vec::from_slice(alloc, &[put])?,
-        told: None,
+        tree_event: None,
     })
 }
 
 /// What it comes to that the address is seen behind the port.
 fn learns(alloc: Global, state: &State, port: Port, vid: Vid, mac: Mac) -> Result<Plan, EventFault>
     requires { state.now.clock.now < 2 ^ 53 }
-    ensures told { IfOk result (λ plan. plan.told ≡ None) }
+    ensures told { IfOk result (λ plan. plan.tree_event ≡ None) }
     ensures clock { IfOk result (λ plan. plan.clock ≡ state.now.clock) }
     ensures addresses { IfOk result (λ plan. list_all is_of_address plan.changes.items ≡ true) }
     ensures plans { PlansAt state.now result (Ok (learns port (Some (vid, mac)) (course_at state.now))) }
@@ -128,7 +128,7 @@ fn learns(alloc: Global, state: &State, port: Port, vid: Vid, mac: Mac) -> Resul
             clock: state.clock,
             renewed: Some((vid, mac)),
             changes: Vec::new(alloc),
-            told: None,
+            tree_event: None,
         }),
         Lesson::News => Ok(puts(alloc, state, port, vid, mac)?),
     }
@@ -143,7 +143,7 @@ pub fn teaches(
     head: &Head,
 ) -> Result<Plan, EventFault>
     requires { state.now.clock.now < 2 ^ 53 }
-    ensures told { IfOk result (λ plan. plan.told ≡ None) }
+    ensures told { IfOk result (λ plan. plan.tree_event ≡ None) }
     ensures clock { IfOk result (λ plan. plan.clock ≡ state.now.clock) }
     ensures addresses { IfOk result (λ plan. list_all is_of_address plan.changes.items ≡ true) }
     ensures plans { (own : ℕ) → PlansAt state.now result (Ok (learns_of (of_bridge domains.now own) port head.now (course_at state.now))) }

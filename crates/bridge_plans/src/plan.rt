@@ -17,22 +17,22 @@ pub struct Plan {
     /// These changes are made.
     pub changes: Vec<Change>,
     /// The spanning tree is told this.
-    pub told: Option<TreeEvent>,
+    pub tree_event: Option<TreeEvent>,
 }
 
 impl Plan {
     /// Nothing is done, but that the spanning tree is told this, if anything.
-    pub fn telling(alloc: Global, clock: Clock, told: Option<TreeEvent>) -> Plan
+    pub fn telling(alloc: Global, clock: Clock, tree_event: Option<TreeEvent>) -> Plan
         ensures clock { result.clock ≡ clock }
         ensures renewed { result.renewed ≡ None }
         ensures changes { result.changes.items ≡ [] }
-        ensures told { result.told ≡ told }
+        ensures told { result.tree_event ≡ tree_event }
     {
         Plan {
             clock,
             renewed: None,
             changes: Vec::new(alloc),
-            told,
+            tree_event,
         }
     }
 }

@@ -13,7 +13,7 @@ use Rattle.br_model.specs.declared.steps.Step.TheVariants.{Report, Turn}
 use Rattle.br_model.specs.declared.transcript.Line.{Line}
 use Rattle.br_model.specs.declared.transcript.Line.TheVariants.{Refused}
 use Rattle.br_model.specs.Control.Course.{Course, from, makes_all}
-use Rattle.br_model.specs.Control.Learning.{Triple, told as reported}
+use Rattle.br_model.specs.Control.Learning.{Triple, reported}
 use Rattle.br_model.specs.Control.Reaction.{Reaction, has_room, in_room, react}
 use Rattle.br_model.specs.Plane.Chip.{Chip, applies, chip_in, hit_asked}
 use Rattle.br_model.specs.Plane.ChipSteps.{reports, tells, turns, turns_to}

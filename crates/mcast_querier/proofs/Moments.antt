@@ -20,10 +20,10 @@ use Rattle.br_model.specs.Control.Commands.{command, sets, tells}
 use Rattle.br_model.specs.Control.Control.{Control, keeps_up, renewed}
 use Rattle.br_model.specs.Control.Course.{Course, from, makes, makes_all}
 use Rattle.br_model.specs.Control.Ends.{endings}
-use Rattle.br_model.specs.Control.Learning.{Address, is_renewed, teach, taught, told as reported}
+use Rattle.br_model.specs.Control.Learning.{Address, is_renewed, teach, taught, reported}
 use Rattle.br_model.specs.Control.Reaction.{Reaction, happens, commanded, passes_to, at_moment, ages, ends, has_room, in_room, react, sees, learns_of, learns, renews}
 use Rattle.br_model.specs.Control.Snooping.{snoops}
-use Rattle.br_model.specs.Control.TreeReaction.{told, heard, states}
+use Rattle.br_model.specs.Control.TreeReaction.{tells_tree, heard, states}
 use Rattle.br_model.specs.Table.DomainPorts.{is_in_domain}
 use Rattle.br_model.specs.Table.Domains.{software}
 use Rattle.br_model.specs.Table.Limits.{fits}
@@ -77,7 +77,7 @@ module _ (n : ℕ) where
   all-at r [] p = p
   all-at r (c ∷ cs) p = all-at (makes r c) cs (makes-at r c p)
 
-  told-at : (r : Course) (o : Option TreeEvent) → At n r → At n (told o r)
+  told-at : (r : Course) (o : Option TreeEvent) → At n r → At n (tells_tree o r)
   told-at r None p = p
   told-at r (Some event) p =
       let a = tree_step r.control.tree r.control.now event in
@@ -111,7 +111,7 @@ passes-at : (r : Course) (now : ℕ) → IsKept (At now) (passes_to now r)
 passes-at r now =
     let later = at_moment now r in
     let aged = ages later in
-    elim (nat_lt now r.control.now) as (λ b. IsKept (At now) (cond b (Err Backward) (Ok (told (Some tree_events.Moment) (ends aged))))) [
+    elim (nat_lt now r.control.now) as (λ b. IsKept (At now) (cond b (Err Backward) (Ok (tells_tree (Some tree_events.Moment) (ends aged))))) [
       | true ↦ tt
       | false ↦ told-at now (ends aged) (Some tree_events.Moment)
           (all-at now aged (endings aged.control.now aged.control.ends) (all-at now later (forgets (expired r.table later.control)) refl))
@@ -135,7 +135,7 @@ happens-at setup r (Forget triples) = all-at r.control.now r (forgets (forgotten
 -- A moment that is accepted isn't before the last one.
 passes-on : (r : Course) (now : ℕ) → IsKept (λ s. r.control.now ≤ now) (passes_to now r)
 passes-on r now =
-    (elim (nat_lt now r.control.now) as (λ b. nat_lt now r.control.now ≡ b → IsKept (λ s. r.control.now ≤ now) (cond b (Err Backward) (Ok (told (Some tree_events.Moment) (ends (ages (at_moment now r))))))) [
+    (elim (nat_lt now r.control.now) as (λ b. nat_lt now r.control.now ≡ b → IsKept (λ s. r.control.now ≤ now) (cond b (Err Backward) (Ok (tells_tree (Some tree_events.Moment) (ends (ages (at_moment now r))))))) [
       | true ↦ λ e. tt
       | false ↦ λ e. at_most e
     ]) refl

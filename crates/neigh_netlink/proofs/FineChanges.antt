@@ -38,10 +38,10 @@ use Rattle.br_model.specs.Control.Commands.Vlans.{leaves_vlan}
 use Rattle.br_model.specs.Control.Control.{Control, ends_with, keeps_up, renewed}
 use Rattle.br_model.specs.Control.Course.{Course, from, makes, makes_all}
 use Rattle.br_model.specs.Control.Ends.{due, due_members, endings, leave_time, member_time, queries, routes}
-use Rattle.br_model.specs.Control.Learning.{Address, is_learned_at, is_news, is_renewed, is_reserved, learning_flag, may_teach, taught, teach, teach_in, told as reported}
+use Rattle.br_model.specs.Control.Learning.{Address, is_learned_at, is_news, is_renewed, is_reserved, learning_flag, may_teach, taught, teach, teach_in, reported}
 use Rattle.br_model.specs.Control.Reaction.{Reaction, ages, at_moment, commanded, ends, happens, has_room as history_has_room, in_room, learns, learns_of, passes_to, react, renews}
 use Rattle.br_model.specs.Control.Snooping.{acted, end_at, fastleave, joins, leaves, leaves_from, querier_heard, router_heard, said, snoops, snoops_in, until}
-use Rattle.br_model.specs.Control.TreeReaction.{heard, states, told}
+use Rattle.br_model.specs.Control.TreeReaction.{heard, states, tells_tree}
 use Rattle.br_model.specs.Data.Maps.{pair_cmp, get, has, joined}
 use Rattle.br_model.specs.Data.Numbers.{is_multicast}
 use Rattle.br_model.specs.Forward.Admission.{admit, has_valid_source, is_in_state, is_up, learning, forwarding, member, vlan_of}
@@ -213,7 +213,7 @@ makes_all-fine : (r : Course) (cs : List Change) → AllFine cs → On r → On 
 makes_all-fine r [] h on = on
 makes_all-fine r (c ∷ cs) h on = makes_all-fine (makes r c) cs (second_so (is_fine c) _ h) (makes-fine r c (first_so (is_fine c) _ h) on)
 
-told-fine : (r : Course) (o : Option TreeEvent) → On r → On (told o r)
+told-fine : (r : Course) (o : Option TreeEvent) → On r → On (tells_tree o r)
 told-fine r None on = on
 told-fine r (Some event) on =
     let a = tree_step r.control.tree r.control.now event in
@@ -503,7 +503,7 @@ passes-fine r now on = by (nat_lt now r.control.now)
     ended : On (ends (ages (at_moment now r)))
     ended = makes_all-fine (ages (at_moment now r)) (endings (ages (at_moment now r)).control.now (ages (at_moment now r)).control.ends) (endings-fine (ages (at_moment now r))) aged
 
-    by : (b : Bool) → IsKept On (if b then Err Backward else Ok (told (Some tree_events.Moment) (ends (ages (at_moment now r)))))
+    by : (b : Bool) → IsKept On (if b then Err Backward else Ok (tells_tree (Some tree_events.Moment) (ends (ages (at_moment now r)))))
     by true = tt
     by false = told-fine (ends (ages (at_moment now r))) (Some tree_events.Moment) ended
 

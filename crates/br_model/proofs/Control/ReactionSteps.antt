@@ -22,13 +22,13 @@ use Rattle.br_model.specs.Control.Course.{Course, makes, makes_all}
 use Rattle.br_model.specs.Table.DomainPorts.{is_in_domain}
 use Rattle.br_model.specs.Table.Domains.{software}
 use Rattle.br_model.specs.Control.Ends.{endings}
-use Rattle.br_model.specs.Control.Learning.{Address, is_renewed, teach, taught, told as reported}
+use Rattle.br_model.specs.Control.Learning.{Address, is_renewed, teach, taught, reported}
 use Rattle.br_model.specs.Table.Limits.{fits}
 use Rattle.br_model.specs.Control.Reaction.{happens, commanded, passes_to, at_moment, ages, ends, sees, learns_of, learns, renews}
 use Rattle.br_model.specs.Table.Setup.{Setup}
 use Rattle.br_model.specs.Control.Snooping.{snoops}
 use Rattle.br_model.specs.Table.Table.{start, apply, table}
-use Rattle.br_model.specs.Control.TreeReaction.{told, heard, states}
+use Rattle.br_model.specs.Control.TreeReaction.{tells_tree, heard, states}
 use Rattle.br_model.specs.Tree.Step.{tree_step, sent}
 
 -- the table stays that of the changes
@@ -58,7 +58,7 @@ module _
     makes_all-keeps r [] p = p
     makes_all-keeps r (c ∷ cs) p = makes_all-keeps (makes r c) cs (by-change r c p)
 
-    told-keeps : (r : Course) (o : Option TreeEvent) → P r → P (told o r)
+    told-keeps : (r : Course) (o : Option TreeEvent) → P r → P (tells_tree o r)
     told-keeps r None p = p
     told-keeps r (Some event) p =
         let a = tree_step r.control.tree r.control.now event in
@@ -74,7 +74,7 @@ module _
     passes-keeps r now p =
         let later = at_moment now r in
         let aged = ages later in
-        elim (nat_lt now r.control.now) as (λ b. IsKept P (cond b (Err Backward) (Ok (told (Some tree_events.Moment) (ends aged))))) [
+        elim (nat_lt now r.control.now) as (λ b. IsKept P (cond b (Err Backward) (Ok (tells_tree (Some tree_events.Moment) (ends aged))))) [
           | true ↦ tt
           | false ↦ told-keeps (ends aged) (Some tree_events.Moment) (makes_all-keeps aged (endings aged.control.now aged.control.ends) (makes_all-keeps later (forgets (expired r.table later.control)) (by-rest r later.control r.messages refl p)))
         ]

@@ -90,8 +90,8 @@ is_extern_at t key port = option_map_or (λ e. is_extern e.1 && e.0 == port) (ge
 
 -- The change that a chip's report makes, where the port may still teach it: the chip's entry takes the place of one that software
 -- learned.
-abbrev pub told : Table → Address → ℕ → List Change
-told t key port =
+abbrev pub reported : Table → Address → ℕ → List Change
+reported t key port =
     if may_teach t port key.0 && (is_news t key port || is_learned_at t key port)
     then AddrPut key.0 key.1 port Extern ∷ []
     else []

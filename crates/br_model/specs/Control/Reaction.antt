@@ -22,17 +22,17 @@ use Rattle.br_model.specs.Control.Course.{Course, from, makes_all}
 use Rattle.br_model.specs.Control.Ends.{endings}
 use Rattle.br_model.specs.Table.DomainPorts.{is_in_domain}
 use Rattle.br_model.specs.Table.Domains.{software}
-use Rattle.br_model.specs.Control.Learning.{Address, is_renewed, teach, taught, told as reported}
+use Rattle.br_model.specs.Control.Learning.{Address, is_renewed, teach, taught, reported}
 use Rattle.br_model.specs.Table.Limits.{most_changes}
 use Rattle.br_model.specs.Table.Setup.{Setup}
 use Rattle.br_model.specs.Control.Snooping.{snoops}
 use Rattle.br_model.specs.Table.Table.{table}
-use Rattle.br_model.specs.Control.TreeReaction.{told, heard}
+use Rattle.br_model.specs.Control.TreeReaction.{tells_tree, heard}
 
 -- A command is refused, or its changes are made; then the spanning tree acts, where the command tells it something.
 abbrev pub commanded : Course → Command → Result (List Change) Refusal → Result Course Refusal
 commanded r c (Err why) = Err why
-commanded r c (Ok changes) = Ok (told (tells r.table c) (makes_all (record r { control = sets r.control c }) changes))
+commanded r c (Ok changes) = Ok (tells_tree (tells r.table c) (makes_all (record r { control = sets r.control c }) changes))
 
 -- the moment comes
 abbrev pub at_moment : ℕ → Course → Course
@@ -49,7 +49,7 @@ ends r = makes_all r (endings r.control.now r.control.ends)
 -- A moment may stay, but not go back. What is old by then is forgotten, what ends by then ends, and then the spanning tree does
 -- what is due.
 abbrev pub passes_to : ℕ → Course → Result Course Refusal
-passes_to now r = if nat_lt now r.control.now then Err Backward else Ok (told (Some tree_events.Moment) (ends (ages (at_moment now r))))
+passes_to now r = if nat_lt now r.control.now then Err Backward else Ok (tells_tree (Some tree_events.Moment) (ends (ages (at_moment now r))))
 
 -- the entry of the address is renewed at its port
 abbrev pub renews : Address → ℕ → Course → Course
@@ -67,7 +67,7 @@ learns_of setup port head r = if is_in_domain setup.domains software port then l
 -- A frame is seen that software sent. It teaches its source; then snooping reads its message, and the spanning tree reads it, if
 -- it is a message for it.
 abbrev pub sees : Setup → ℕ → List ℕ → Head → Course → Course
-sees setup port bytes head r = told (heard r.table port bytes head) (snoops port bytes head (learns_of setup port head r))
+sees setup port bytes head r = tells_tree (heard r.table port bytes head) (snoops port bytes head (learns_of setup port head r))
 
 -- what the event does
 abbrev pub happens : Setup → Course → Event → Result Course Refusal

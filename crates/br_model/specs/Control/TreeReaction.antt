@@ -26,9 +26,9 @@ abbrev pub follows : Course → Acted → Course
 follows r a = makes_all (record r { control = record r.control { tree = a.tree }; messages = r.messages ++ sent a }) (states r.control.tree a.tree)
 
 -- the spanning tree is told the event, if any
-abbrev pub told : Option TreeEvent → Course → Course
-told None r = r
-told (Some event) r = follows r (tree_step r.control.tree r.control.now event)
+abbrev pub tells_tree : Option TreeEvent → Course → Course
+tells_tree None r = r
+tells_tree (Some event) r = follows r (tree_step r.control.tree r.control.now event)
 
 -- the message that the frame has for the spanning tree
 abbrev pub heard : Table → ℕ → List ℕ → Head → Option TreeEvent

@@ -11,7 +11,7 @@ use Rattle.br_model.specs.Control.Course.{Course, from, makes_all}
 use Rattle.br_model.specs.Control.Ends.{endings}
 use Rattle.br_model.specs.Table.Limits.{all_fit}
 use Rattle.br_model.specs.Control.Reaction.{ages, ends}
-use Rattle.br_model.specs.Control.TreeReaction.{told}
+use Rattle.br_model.specs.Control.TreeReaction.{tells_tree}
 use Rattle.bridge_plans.specs.Standing.{table_of, control_of}
 use Rattle.bridge_plans.proofs.Endings.{both_go, fit_endings, gone}
 use Rattle.bridge_plans.proofs.Fitting.{made_all, fit_behind}
@@ -27,9 +27,9 @@ returns c =
     let is : cs ≡ gone base keys = c.in_ok-add_endings.ensures ∙ ap (λ (l : List Change). l ++ endings c.args.now base.control.ends) c.in_ok-changes.ensures in
     let fit : all_fit t cs ≡ true = ap (all_fit t) is ∙ fit_behind t (forgets keys) (endings c.args.now base.control.ends) (fit_forgets t keys) (fit_endings _ c.args.now base.control.ends) in
     let made = made_all base cs fit in (
-      ap (λ b. if b then Err Backward else yes (told (Some Moment) (ends (ages base)))) (le-ltb _ _ c.if-now-state.false)
-          ∙ ap (λ (r : Course). yes (told (Some Moment) r)) (both_go base keys (fit_forgets t keys) (same_clock base.control (forgets keys)))
-          ∙ ap (λ (l : List Change). yes (told (Some Moment) (makes_all base l))) (sym is)
+      ap (λ b. if b then Err Backward else yes (tells_tree (Some Moment) (ends (ages base)))) (le-ltb _ _ c.if-now-state.false)
+          ∙ ap (λ (r : Course). yes (tells_tree (Some Moment) r)) (both_go base keys (fit_forgets t keys) (same_clock base.control (forgets keys)))
+          ∙ ap (λ (l : List Change). yes (tells_tree (Some Moment) (makes_all base l))) (sym is)
           ∙ ap yes (sym (c.due.ensures (makes_all base cs) (ap (λ (r : Course). r.control.tree) made ∙ same_tree base.control cs) (ap (λ (r : Course). r.control.now) made ∙ same_clock base.control cs))),
       record { early = c.requires; there = tt; fits = fit },
     )

@@ -5,7 +5,7 @@ use Rattle.br_model.specs.declared.steps.Refusal.{Refusal}
 use Rattle.br_model.specs.Control.Control.{Control}
 use Rattle.br_model.specs.Control.Course.{Course, from, makes_all}
 use Rattle.br_model.specs.Control.Reaction.{commanded}
-use Rattle.br_model.specs.Control.TreeReaction.{told}
+use Rattle.br_model.specs.Control.TreeReaction.{tells_tree}
 use Rattle.br_model.proofs.Control.Clocks.{sets-now}
 use Rattle.bridge_plans.specs.Standing.{table_of, control_of}
 use Rattle.bridge_plans.proofs.Reactions.{fit_command}
@@ -17,7 +17,7 @@ returns c =
     let control = control_of c.args.state.now in
     let cs = c.in_ok-command.field-0.items in (
       ap (commanded (from t control) c.args.asked.now) c.in_ok-command.ensures
-          ∙ sym (λ i. yes (told (c.tells.ensures i) (makes_all (record { table = t; control = c.sets.ensures i; changes = []; messages = [] }) cs))),
+          ∙ sym (λ i. yes (tells_tree (c.tells.ensures i) (makes_all (record { table = t; control = c.sets.ensures i; changes = []; messages = [] }) cs))),
       record {
         early = subst (λ (n : ℕ). n < 2 ^ 53) (sym (ap (λ (x : Control). x.now) c.sets.ensures ∙ sets-now control c.args.asked.now)) c.requires;
         there = tt;
