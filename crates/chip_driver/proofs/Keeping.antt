@@ -15,11 +15,11 @@ use Rattle.chip_tables.specs.Stands.{IsVid}
 use Rattle.chip_driver.specs.declared.fans.Fan.{Fan}
 use Rattle.chip_driver.specs.declared.shadow.Shadow.{Shadow}
 use Rattle.chip_driver.specs.declared.shares.Shares.{Shares}
-use Rattle.chip_driver.specs.declared.shares.Told.{Told}
+use Rattle.chip_driver.specs.declared.shares.Touched.{Touched}
 use Rattle.vlan_groups.specs.Joined.{has_vlan, Switches}
 use Rattle.chip_tables.specs.Flags.{row_has_flag}
 use Rattle.chip_driver.specs.Shadows.{Has, switched, row_forwards, row_floods, is_target, share_of, fan_to, fan_made}
-use Rattle.chip_driver.specs.Shares.{shares_of, told_of, Tells}
+use Rattle.chip_driver.specs.Shares.{shares_of, touched_of, Touches}
 use Rattle.br_model.specs.Table.GroupPairs.{GroupPair}
 use Rattle.br_model.specs.Table.Groups.{Membership}
 use Rattle.chip_driver.specs.GroupRows.{is_member, group_fan}
@@ -42,27 +42,27 @@ follows_same s old new same follows = record {
 states_same : (old new : Rows) → ((q : ℕ) → port_at new q ≡ port_at old q) → ((q : ℕ) → q < port_places → (port_at old q).state ≤ 4) → (q : ℕ) → q < port_places → (port_at new q).state ≤ 4
 states_same old new same states q low = subst (λ (r : PortRow). r.state ≤ 4) (sym (same q)) (states q low)
 
-pub tells_at : (old new old' new' : Shares) (told : Told) → old ≡ old' → new ≡ new' → Tells old new told → Tells old' new' told
-tells_at old new old' new' told old_is new_is tells = subst (λ x. Tells x new' told) old_is (subst (λ x. Tells old x told) new_is tells)
+pub tells_at : (old new old' new' : Shares) (touched : Touched) → old ≡ old' → new ≡ new' → Touches old new touched → Touches old' new' touched
+tells_at old new old' new' touched old_is new_is tells = subst (λ x. Touches x new' touched) old_is (subst (λ x. Touches old x touched) new_is tells)
 
 -- ---- the rows of a port's VLANs are made anew that tell of a change of it
 
-by_told : (h t : Bool) (made kept : FanRow) → (h ≡ true → t ≡ false → kept ≡ made) → (h ≡ false → kept ≡ made) → cond (h && t) made kept ≡ made
-by_told true true made kept untold apart = refl
-by_told true false made kept untold apart = untold refl refl
-by_told false t made kept untold apart = apart refl
+by_touched : (h t : Bool) (made kept : FanRow) → (h ≡ true → t ≡ false → kept ≡ made) → (h ≡ false → kept ≡ made) → cond (h && t) made kept ≡ made
+by_touched true true made kept untouched apart = refl
+by_touched true false made kept untouched apart = untouched refl refl
+by_touched false t made kept untouched apart = apart refl
 
-pub settled_anew : (s s' : Shadow) (j : List (List ℕ)) (p : ℕ) (told : Told) (old mid new : Rows) → p < port_places → Settled s j old → mid ≡ record old { ports = mid.ports }
-    → s'.own ≡ s.own → ((q : ℕ) → q < port_places → q ≢ p → SameAt s s' q) → Tells (shares_of s p true) (shares_of s' p true) told
+pub settled_anew : (s s' : Shadow) (j : List (List ℕ)) (p : ℕ) (touched : Touched) (old mid new : Rows) → p < port_places → Settled s j old → mid ≡ record old { ports = mid.ports }
+    → s'.own ≡ s.own → ((q : ℕ) → q < port_places → q ≢ p → SameAt s s' q) → Touches (shares_of s p true) (shares_of s' p true) touched
     → Follows s' mid → ((q : ℕ) → q < port_places → (port_at mid q).state ≤ 4)
-    → Refreshes (λ w k. has_vlan j p w && told_of told k) s' mid new → Settled s' j new
-settled_anew s s' j p told old mid new p_low settled mid_rest own same tells follows states refreshes = record {
+    → Refreshes (λ w k. has_vlan j p w && touched_of touched k) s' mid new → Settled s' j new
+settled_anew s s' j p touched old mid new p_low settled mid_rest own same tells follows states refreshes = record {
   shadow = follows_same s' mid new (λ q. ap (λ (r : Rows). port_at r q) refreshes.rest) follows;
   joined = λ q vid low in_range. settled.joined q vid low in_range ∙ ap (λ (r : VlanRow). has_number r.members q) (sym (vlan vid));
   states = states_same mid new (λ q. ap (λ (r : Rows). port_at r q) refreshes.rest) states;
   fans = λ vid in_range fan.
       refreshes.fans vid in_range fan
-      ∙ by_told (has_vlan j p vid) (told_of told fan) _ _
+      ∙ by_touched (has_vlan j p vid) (touched_of touched fan) _ _
       (λ is off. before vid in_range fan ∙ kept vid fan (here vid fan (settled.joined p vid p_low in_range) is off))
       (λ is. before vid in_range fan ∙ kept vid fan (there vid fan (settled.joined p vid p_low in_range) is))
       ∙ ap (λ (r : Rows). fan_made s' (vlan_at r vid).members fan) (sym refreshes.rest);
@@ -85,7 +85,7 @@ settled_anew s s' j p told old mid new p_low settled mid_rest own same tells fol
     is_there : (vid : ℕ) (m : Bool) → has_vlan j p vid ≡ has_number (vlan_at old vid).members p → has_vlan j p vid ≡ m → m ≡ has_number (vlan_at mid vid).members p
     is_there vid m joined is = sym is ∙ joined ∙ ap (λ (r : VlanRow). has_number r.members p) (sym (mid_vlan vid))
 
-    here : (vid : ℕ) (fan : Fan) → has_vlan j p vid ≡ has_number (vlan_at old vid).members p → has_vlan j p vid ≡ true → told_of told fan ≡ false
+    here : (vid : ℕ) (fan : Fan) → has_vlan j p vid ≡ has_number (vlan_at old vid).members p → has_vlan j p vid ≡ true → touched_of touched fan ≡ false
         → share_of s p (has_number (vlan_at mid vid).members p) (is_target s (has_number (vlan_at mid vid).members p) fan p) ≡ share_of s' p (has_number (vlan_at mid vid).members p) (is_target s' (has_number (vlan_at mid vid).members p) fan p)
     here vid fan joined is off =
         subst (λ m. share_of s p m (is_target s m fan p) ≡ share_of s' p m (is_target s' m fan p)) (is_there vid true joined is)
@@ -142,11 +142,11 @@ notes_same s s' p row notes q low other = record {
   routers = ap (λ (ns : List ℕ). has_number ns q) (sym notes.routers);
 }
 
-pub settled_port : (s s' : Shadow) (j : List (List ℕ)) (p : ℕ) (row : PortRow) (told : Told) (old mid new : Rows) → p < port_places → Settled s j old
+pub settled_port : (s s' : Shadow) (j : List (List ℕ)) (p : ℕ) (row : PortRow) (touched : Touched) (old mid new : Rows) → p < port_places → Settled s j old
     → row.own ≡ (port_at old p).own → row.state ≤ 4 → WritesPort old mid p row → mid ≡ record old { ports = mid.ports } → Notes p row s s'
-    → Tells (shares_of s p true) (shares_of s' p true) told → Refreshes (λ w k. has_vlan j p w && told_of told k) s' mid new → Settled s' j new
-settled_port s s' j p row told old mid new p_low settled own_is fits writes mid_rest notes tells refreshes =
-    settled_anew s s' j p told old mid new p_low settled mid_rest notes.own
+    → Touches (shares_of s p true) (shares_of s' p true) touched → Refreshes (λ w k. has_vlan j p w && touched_of touched k) s' mid new → Settled s' j new
+settled_port s s' j p row touched old mid new p_low settled own_is fits writes mid_rest notes tells refreshes =
+    settled_anew s s' j p touched old mid new p_low settled mid_rest notes.own
     (notes_same s s' p row notes) tells
     (follows_written s s' p row old mid settled.shadow own_is writes notes)
     (states_written p row old mid writes fits settled.states)
@@ -157,11 +157,11 @@ settled_port s s' j p row told old mid new p_low settled own_is fits writes mid_
 pub routed_same : (s : Shadow) (p : ℕ) (routers : List ℕ) (on : Bool) → routers ≡ switched s.routers p on → (q : ℕ) → q < port_places → q ≢ p → SameAt s (record s { routers = routers }) q
 routed_same s p routers on is q low other = record { own = refl; forwarding = refl; flood = refl; mcast_flood = refl; bcast_flood = refl; isolated = refl; routers = switched_other routers s.routers p on is q low other }
 
-pub settled_router : (s : Shadow) (j : List (List ℕ)) (p : ℕ) (routers : List ℕ) (on : Bool) (told : Told) (old new : Rows) → p < port_places → Settled s j old → routers ≡ switched s.routers p on
-    → Tells (shares_of s p true) (shares_of (record s { routers = routers }) p true) told
-    → Refreshes (λ w k. has_vlan j p w && told_of told k) (record s { routers = routers }) old new → Settled (record s { routers = routers }) j new
-settled_router s j p routers on told old new p_low settled is tells refreshes =
-    settled_anew s (record s { routers = routers }) j p told old old new p_low settled refl refl (routed_same s p routers on is) tells
+pub settled_router : (s : Shadow) (j : List (List ℕ)) (p : ℕ) (routers : List ℕ) (on : Bool) (touched : Touched) (old new : Rows) → p < port_places → Settled s j old → routers ≡ switched s.routers p on
+    → Touches (shares_of s p true) (shares_of (record s { routers = routers }) p true) touched
+    → Refreshes (λ w k. has_vlan j p w && touched_of touched k) (record s { routers = routers }) old new → Settled (record s { routers = routers }) j new
+settled_router s j p routers on touched old new p_low settled is tells refreshes =
+    settled_anew s (record s { routers = routers }) j p touched old old new p_low settled refl refl (routed_same s p routers on is) tells
     (record {
       own = settled.shadow.own;
       forwarding = settled.shadow.forwarding;
@@ -183,11 +183,11 @@ member_same s p members members' on is = record { shadow = λ q low other. shado
 switched_here : (members members' : List ℕ) (p : ℕ) (on : Bool) → p < port_places → members' ≡ switched members p on → on ≡ has_number members' p
 switched_here members members' p on low is = sym (has-where members' _ is p low ∙ ap (λ b. cond b on (has_number members p)) (eq-eqb p p refl))
 
-pub settled_member : (s : Shadow) (j j' : List (List ℕ)) (p v : ℕ) (on : Bool) (row : VlanRow) (told : Told) (old mid new : Rows) → p < port_places → v < 4096 → Settled s j old
+pub settled_member : (s : Shadow) (j j' : List (List ℕ)) (p v : ℕ) (on : Bool) (row : VlanRow) (touched : Touched) (old mid new : Rows) → p < port_places → v < 4096 → Settled s j old
     → row.members ≡ switched (vlan_at old v).members p on → WritesVlan old mid v row → mid ≡ record old { vlans = mid.vlans } → Switches j j' p v on
-    → Tells (shares_of s p (has_number (vlan_at old v).members p)) (shares_of s p on) told
-    → Refreshes (λ w k. (w == v) && told_of told k) s mid new → Settled s j' new
-settled_member s j j' p v on row told old mid new p_low v_low settled is writes mid_rest switches tells refreshes = record {
+    → Touches (shares_of s p (has_number (vlan_at old v).members p)) (shares_of s p on) touched
+    → Refreshes (λ w k. (w == v) && touched_of touched k) s mid new → Settled s j' new
+settled_member s j j' p v on row touched old mid new p_low v_low settled is writes mid_rest switches tells refreshes = record {
   shadow = follows_same s old new port settled.shadow;
   joined = λ q vid low in_range.
       switches q vid (omega arith) ∙ ap (λ b. cond ((q == p) && (vid == v)) on b) (settled.joined q vid low in_range)
@@ -199,7 +199,7 @@ settled_member s j j' p v on row told old mid new p_low v_low settled is writes 
   states = states_same old new port settled.states;
   fans = λ vid in_range fan.
       refreshes.fans vid in_range fan
-      ∙ by_told (vid == v) (told_of told fan) _ _
+      ∙ by_touched (vid == v) (touched_of touched fan) _ _
       (λ at off. before vid in_range fan ∙ changed vid fan at off)
       (λ at. before vid in_range fan ∙ ap (λ (r : VlanRow). fan_made s r.members fan) (sym (writes vid ∙ ap (λ b. cond b row (vlan_at old vid)) at)))
       ∙ ap (λ (r : Rows). fan_made s (vlan_at r vid).members fan) (sym refreshes.rest);
@@ -228,14 +228,14 @@ settled_member s j j' p v on row told old mid new p_low v_low settled is writes 
     before : (vid : ℕ) → IsVid vid → (fan : Fan) → fan_at mid vid fan ≡ fan_made s (vlan_at old vid).members fan
     before vid in_range fan = ap (λ (r : Rows). fan_at r vid fan) mid_rest ∙ settled.fans vid in_range fan
 
-    share : (fan : Fan) → told_of told fan ≡ false
+    share : (fan : Fan) → touched_of touched fan ≡ false
         → share_of s p (has_number (vlan_at old v).members p) (is_target s (has_number (vlan_at old v).members p) fan p) ≡ share_of s p (has_number row.members p) (is_target s (has_number row.members p) fan p)
     share fan off =
         subst (λ m. share_of s p (has_number (vlan_at old v).members p) (is_target s (has_number (vlan_at old v).members p) fan p) ≡ share_of s p m (is_target s m fan p))
         (switched_here (vlan_at old v).members row.members p on p_low is)
         (sym (share-in s p (has_number (vlan_at old v).members p) fan) ∙ tells.fans fan off ∙ share-in s p on fan)
 
-    changed : (vid : ℕ) (fan : Fan) → (vid == v) ≡ true → told_of told fan ≡ false → fan_made s (vlan_at old vid).members fan ≡ fan_made s (vlan_at mid vid).members fan
+    changed : (vid : ℕ) (fan : Fan) → (vid == v) ≡ true → touched_of touched fan ≡ false → fan_made s (vlan_at old vid).members fan ≡ fan_made s (vlan_at mid vid).members fan
     changed vid fan at off =
         ap (λ n. fan_made s (vlan_at old n).members fan) (eqb-true vid v at)
         ∙ kept_fan p s s (vlan_at old v).members row.members (member_same s p (vlan_at old v).members row.members on is) fan (share fan off)
@@ -280,15 +280,15 @@ settled_pvid s j p row old new p_low settled writes rest = record {
 -- ---- group rows that don't tell of a change
 
 -- the row of a group stays where the port isn't a member of it, or has what it had
-group_share : (s s' : Shadow) (p : ℕ) (m m' t told : Bool) → (told ≡ false → share_of s p m true ≡ share_of s' p m' true) → (told && t) ≡ false → share_of s p m t ≡ share_of s' p m' t
-group_share s s' p m m' true told same off = same (sym (and-true told) ∙ off)
-group_share s s' p m m' false told same off = untargeted s s' p m m'
+group_share : (s s' : Shadow) (p : ℕ) (m m' t touched : Bool) → (touched ≡ false → share_of s p m true ≡ share_of s' p m' true) → (touched && t) ≡ false → share_of s p m t ≡ share_of s' p m' t
+group_share s s' p m m' true touched same off = same (sym (and-true touched) ∙ off)
+group_share s s' p m m' false touched same off = untargeted s s' p m m'
 
 -- of a port's row or of a router
-pub port_kept : (s s' : Shadow) (p : ℕ) (told : Told) (ms : List Membership) (old mid : Rows) → ((q : ℕ) → q < port_places → q ≢ p → SameAt s s' q)
-    → Tells (shares_of s p true) (shares_of s' p true) told → has_number s.own p ≡ has_number s'.own p → ((vid : ℕ) → vlan_at mid vid ≡ vlan_at old vid)
-    → (k : GroupPair) → (told.groups && is_member ms p k) ≡ false → group_fan s old ms k ≡ group_fan s' mid ms k
-port_kept s s' p told ms old mid same tells own vlan k off =
+pub port_kept : (s s' : Shadow) (p : ℕ) (touched : Touched) (ms : List Membership) (old mid : Rows) → ((q : ℕ) → q < port_places → q ≢ p → SameAt s s' q)
+    → Touches (shares_of s p true) (shares_of s' p true) touched → has_number s.own p ≡ has_number s'.own p → ((vid : ℕ) → vlan_at mid vid ≡ vlan_at old vid)
+    → (k : GroupPair) → (touched.groups && is_member ms p k) ≡ false → group_fan s old ms k ≡ group_fan s' mid ms k
+port_kept s s' p touched ms old mid same tells own vlan k off =
     kept_group p s s' (vlan_at old k.0).members (vlan_at old k.0).members (record { shadow = same; others = λ q low other. refl }) (is_there ms k)
     (by (has_number (vlan_at old k.0).members p) (is_member ms p k) off)
     ∙ ap (λ (r : VlanRow). fan_to s' r.members (is_there ms k)) (sym (vlan k.0))
@@ -299,22 +299,22 @@ port_kept s s' p told ms old mid same tells own vlan k off =
     closed : (t : Bool) → share_of s p false t ≡ share_of s' p false t
     closed t = absent_share s s' p t own
 
-    by : (m t : Bool) → (told.groups && t) ≡ false → share_of s p m t ≡ share_of s' p m t
-    by true t off = group_share s s' p true true t told.groups tells.groups off
+    by : (m t : Bool) → (touched.groups && t) ≡ false → share_of s p m t ≡ share_of s' p m t
+    by true t off = group_share s s' p true true t touched.groups tells.groups off
     by false t off = closed t
 
 -- of a membership of a VLAN
-pub vlan_kept : (s : Shadow) (p v : ℕ) (on : Bool) (row : VlanRow) (told : Told) (ms : List Membership) (old mid : Rows) → p < port_places → row.members ≡ switched (vlan_at old v).members p on
-    → Tells (shares_of s p (has_number (vlan_at old v).members p)) (shares_of s p on) told → ((vid : ℕ) → vlan_at mid vid ≡ cond (vid == v) row (vlan_at old vid))
-    → (k : GroupPair) → (told.groups && ((k.0 == v) && is_member ms p k)) ≡ false → group_fan s old ms k ≡ group_fan s mid ms k
-vlan_kept s p v on row told ms old mid p_low is tells writes k off =
+pub vlan_kept : (s : Shadow) (p v : ℕ) (on : Bool) (row : VlanRow) (touched : Touched) (ms : List Membership) (old mid : Rows) → p < port_places → row.members ≡ switched (vlan_at old v).members p on
+    → Touches (shares_of s p (has_number (vlan_at old v).members p)) (shares_of s p on) touched → ((vid : ℕ) → vlan_at mid vid ≡ cond (vid == v) row (vlan_at old vid))
+    → (k : GroupPair) → (touched.groups && ((k.0 == v) && is_member ms p k)) ≡ false → group_fan s old ms k ≡ group_fan s mid ms k
+vlan_kept s p v on row touched ms old mid p_low is tells writes k off =
     ⊎_elim
     (λ (at : ((k.0 == v) ≡ true) × (k.0 ≡ v)).
     ap (λ n. fan_to s (vlan_at old n).members (λ q. is_member ms q k)) at.1
     ∙ kept_group p s s (vlan_at old v).members row.members (member_same s p (vlan_at old v).members row.members on is) (λ q. is_member ms q k)
-    (group_share s s p _ _ (is_member ms p k) told.groups
+    (group_share s s p _ _ (is_member ms p k) touched.groups
     (λ quiet. tells.groups quiet ∙ ap (λ m. share_of s p m true) (switched_here (vlan_at old v).members row.members p on p_low is))
-    (ap (λ b. told.groups && (b && is_member ms p k)) (sym at.0) ∙ off))
+    (ap (λ b. touched.groups && (b && is_member ms p k)) (sym at.0) ∙ off))
     ∙ ap (λ (r : VlanRow). fan_to s r.members (λ q. is_member ms q k)) (sym (writes k.0 ∙ ap (λ b. cond b row (vlan_at old k.0)) at.0)))
     (λ (apart : ((k.0 == v) ≡ false) × (k.0 ≢ v)).
     ap (λ (r : VlanRow). fan_to s r.members (λ q. is_member ms q k)) (sym (writes k.0 ∙ ap (λ b. cond b row (vlan_at old k.0)) apart.0)))

@@ -12,9 +12,9 @@ use Rattle.chip_tables.specs.Stands.{IsVid}
 use Rattle.chip_driver.specs.declared.fans.Fan.{Fan}
 use Rattle.chip_driver.specs.declared.fans.Fan.TheVariants.{Floods, Routers}
 use Rattle.chip_driver.specs.declared.shadow.Shadow.{Shadow}
-use Rattle.chip_driver.specs.declared.shares.Told.{Told}
+use Rattle.chip_driver.specs.declared.shares.Touched.{Touched}
 use Rattle.chip_driver.specs.Shadows.{fan_made}
-use Rattle.chip_driver.specs.Shares.{told_of}
+use Rattle.chip_driver.specs.Shares.{touched_of}
 use Rattle.chip_driver.specs.Settled.{fan_at, same_fan, WritesFan, Refreshes}
 
 by_either : (a b c : Bool) (made kept now : FanRow) → c ≡ (b || a) → now ≡ cond b made (cond a made kept) → now ≡ cond c made kept
@@ -64,10 +64,10 @@ fan_is (Floods f) Routers e = absurd (cc)
 fan_is Routers (Floods g) e = absurd (cc)
 fan_is Routers Routers e = refl
 
-pub row_written : (s : Shadow) (v : ℕ) (fan : Fan) (told : Bool) (row : FanRow) (old new : Rows) → told ≡ true → row ≡ fan_made s (vlan_at old v).members fan → WritesFan old new v fan row
-    → Refreshes (λ w k. (w == v) && (same_fan k fan && told)) s old new
-row_written s v fan told row old new on row_is writes = record {
-  fans = λ vid in_range k. writes.written vid k ∙ by vid k (vid == v) (same_fan k fan) told on (eqb-true vid v) (fan_is k fan);
+pub row_written : (s : Shadow) (v : ℕ) (fan : Fan) (touched : Bool) (row : FanRow) (old new : Rows) → touched ≡ true → row ≡ fan_made s (vlan_at old v).members fan → WritesFan old new v fan row
+    → Refreshes (λ w k. (w == v) && (same_fan k fan && touched)) s old new
+row_written s v fan touched row old new on row_is writes = record {
+  fans = λ vid in_range k. writes.written vid k ∙ by vid k (vid == v) (same_fan k fan) touched on (eqb-true vid v) (fan_is k fan);
   rest = writes.rest;
 }
   where
@@ -77,26 +77,26 @@ row_written s v fan told row old new on row_is writes = record {
     by vid k true false c on h i = refl
     by vid k false b c on h i = refl
 
-pub row_left : (s : Shadow) (v : ℕ) (fan : Fan) (told : Bool) (old : Rows) → told ≡ false → Refreshes (λ w k. (w == v) && (same_fan k fan && told)) s old old
-row_left s v fan told old off = refreshed_none s _ old (λ vid in_range k. and_last (vid == v) (same_fan k fan) told off)
+pub row_left : (s : Shadow) (v : ℕ) (fan : Fan) (touched : Bool) (old : Rows) → touched ≡ false → Refreshes (λ w k. (w == v) && (same_fan k fan && touched)) s old old
+row_left s v fan touched old off = refreshed_none s _ old (λ vid in_range k. and_last (vid == v) (same_fan k fan) touched off)
 
 -- the four rows of a VLAN
-pub four_rows : (e : Bool) (told : Told) (k : Fan)
-    → (e && told_of told k) ≡ ((e && (same_fan k Routers && told.routers)) || ((e && (same_fan k (Floods Bcast) && told.bcast))
-    || ((e && (same_fan k (Floods Mcast) && told.mcast)) || (e && (same_fan k (Floods Unicast) && told.unicast)))))
-four_rows false told k = refl
-four_rows true told (Floods Unicast) = refl
-four_rows true told (Floods Mcast) = sym (or-false told.mcast)
-four_rows true told (Floods Bcast) = sym (or-false told.bcast)
-four_rows true told Routers = sym (or-false told.routers)
+pub four_rows : (e : Bool) (touched : Touched) (k : Fan)
+    → (e && touched_of touched k) ≡ ((e && (same_fan k Routers && touched.routers)) || ((e && (same_fan k (Floods Bcast) && touched.bcast))
+    || ((e && (same_fan k (Floods Mcast) && touched.mcast)) || (e && (same_fan k (Floods Unicast) && touched.unicast)))))
+four_rows false touched k = refl
+four_rows true touched (Floods Unicast) = refl
+four_rows true touched (Floods Mcast) = sym (or-false touched.mcast)
+four_rows true touched (Floods Bcast) = sym (or-false touched.bcast)
+four_rows true touched Routers = sym (or-false touched.routers)
 
--- tests of VLANs by what is told
-pub both_told : (a b c t : Bool) → c ≡ (b || a) → (c && t) ≡ ((b && t) || (a && t))
-both_told true true c t is = ap (λ x. x && t) is ∙ twice t
+-- tests of VLANs by what is touched
+pub both_touched : (a b c t : Bool) → c ≡ (b || a) → (c && t) ≡ ((b && t) || (a && t))
+both_touched true true c t is = ap (λ x. x && t) is ∙ twice t
   where
     twice : (t : Bool) → t ≡ (t || t)
     twice true = refl
     twice false = refl
-both_told true false c t is = ap (λ x. x && t) is
-both_told false true c t is = ap (λ x. x && t) is ∙ sym (or-false t)
-both_told false false c t is = ap (λ x. x && t) is
+both_touched true false c t is = ap (λ x. x && t) is
+both_touched false true c t is = ap (λ x. x && t) is ∙ sym (or-false t)
+both_touched false false c t is = ap (λ x. x && t) is

@@ -1,4 +1,4 @@
--- Of which rows a change of one port tells.
+-- Which rows a change of one port touches.
 use Rattle.std.specs.Prelude.{◌≡◌, ℕ, Bool, true, false}
 use Rattle.chip_tables.specs.declared.rows.Flood.TheVariants.{Unicast, Mcast, Bcast}
 use Rattle.chip_driver.specs.declared.fans.Fan.{Fan}
@@ -6,7 +6,7 @@ use Rattle.chip_driver.specs.declared.fans.Fan.TheVariants.{Floods, Routers}
 use Rattle.chip_driver.specs.declared.shadow.Shadow.{Shadow}
 use Rattle.chip_driver.specs.declared.shares.Share.{Share}
 use Rattle.chip_driver.specs.declared.shares.Shares.{Shares}
-use Rattle.chip_driver.specs.declared.shares.Told.{Told}
+use Rattle.chip_driver.specs.declared.shares.Touched.{Touched}
 use Rattle.chip_driver.specs.Shadows.{is_target, share_of}
 
 -- what a port has in the rows of a VLAN, by whether it is a member
@@ -25,13 +25,13 @@ share_in shares (Floods Mcast) = shares.mcast
 share_in shares (Floods Bcast) = shares.bcast
 share_in shares Routers = shares.routers
 
-abbrev pub told_of : Told → Fan → Bool
-told_of told (Floods Unicast) = told.unicast
-told_of told (Floods Mcast) = told.mcast
-told_of told (Floods Bcast) = told.bcast
-told_of told Routers = told.routers
+abbrev pub touched_of : Touched → Fan → Bool
+touched_of touched (Floods Unicast) = touched.unicast
+touched_of touched (Floods Mcast) = touched.mcast
+touched_of touched (Floods Bcast) = touched.bcast
+touched_of touched Routers = touched.routers
 
--- in a row of which it doesn't tell the port has what it had
-pub record Tells (old new : Shares) (told : Told) : Type 0 where
-  pub fans : (fan : Fan) → told_of told fan ≡ false → share_in old fan ≡ share_in new fan
-  pub groups : told.groups ≡ false → old.groups ≡ new.groups
+-- in a row that it doesn't touch the port has what it had
+pub record Touches (old new : Shares) (touched : Touched) : Type 0 where
+  pub fans : (fan : Fan) → touched_of touched fan ≡ false → share_in old fan ≡ share_in new fan
+  pub groups : touched.groups ≡ false → old.groups ≡ new.groups

@@ -3,11 +3,11 @@ ghost use Rattle.std.specs.Prelude.{◌≡◌, ◌==◌, ◌<◌, ◌/◌, ◌%�
 ghost use Rattle.port_sets.specs.Numbers.{has_number};
 ghost use Rattle.vlan_groups.specs.Joined.{has_vlan};
 ghost use Rattle.chip_driver.specs.Shadows.{floods_to, routes_to, fan_to, fan_made};
-ghost use Rattle.chip_driver.specs.Shares.{told_of};
+ghost use Rattle.chip_driver.specs.Shares.{touched_of};
 ghost use Rattle.chip_driver.specs.Settled.{same_fan, WritesFan, Refreshes};
 
 use crate::shadow::Shadow;
-use crate::shares::Told;
+use crate::shares::Touched;
 use br_model::numbers::{Port, Vid};
 use chip_tables::{FanRow, Flood, Tables};
 use port_sets::Ports;
@@ -73,62 +73,62 @@ fn set_fan(tables: &mut Tables, v: Vid, fan: Fan, row: FanRow)
     }
 }
 
-/// Makes a row of a VLAN anew where it is told of.
-fn refresh_row(tables: &mut Tables, shadow: &Shadow, v: Vid, fan: Fan, told: bool)
-    ensures { Refreshes (λ w k. (w == v) && (same_fan k fan && told)) shadow.now tables.old tables.new }
+/// Makes a row of a VLAN anew where it is touched.
+fn refresh_row(tables: &mut Tables, shadow: &Shadow, v: Vid, fan: Fan, touched: bool)
+    ensures { Refreshes (λ w k. (w == v) && (same_fan k fan && touched)) shadow.now tables.old tables.new }
 {
-    if told {
+    if touched {
         let row = fan_row(shadow, tables.vlan(v).members, fan);
         set_fan(tables, v, fan, row);
     }
 }
 
-/// Makes the rows of a VLAN anew that are told of.
-pub fn refresh_vlan(tables: &mut Tables, shadow: &Shadow, told: &Told, v: Vid)
-    ensures { Refreshes (λ w k. (w == v) && told_of told.now k) shadow.now tables.old tables.new }
+/// Makes the rows of a VLAN anew that are touched.
+pub fn refresh_vlan(tables: &mut Tables, shadow: &Shadow, touched: &Touched, v: Vid)
+    ensures { Refreshes (λ w k. (w == v) && touched_of touched.now k) shadow.now tables.old tables.new }
 {
-    refresh_row(tables, shadow, v, Fan::Floods(Flood::Unicast), told.unicast);
-    refresh_row(tables, shadow, v, Fan::Floods(Flood::Mcast), told.mcast);
-    refresh_row(tables, shadow, v, Fan::Floods(Flood::Bcast), told.bcast);
-    refresh_row(tables, shadow, v, Fan::Routers, told.routers);
+    refresh_row(tables, shadow, v, Fan::Floods(Flood::Unicast), touched.unicast);
+    refresh_row(tables, shadow, v, Fan::Floods(Flood::Mcast), touched.mcast);
+    refresh_row(tables, shadow, v, Fan::Floods(Flood::Bcast), touched.bcast);
+    refresh_row(tables, shadow, v, Fan::Routers, touched.routers);
 }
 
 /// Makes those rows anew of the VLAN 64 i + n, if there is one.
-fn refresh_number(tables: &mut Tables, shadow: &Shadow, told: &Told, i: u8, n: u8)
+fn refresh_number(tables: &mut Tables, shadow: &Shadow, touched: &Touched, i: u8, n: u8)
     requires block { i < 64 }
     requires number { n < 64 }
-    ensures { Refreshes (λ w k. ((w / 64 == i) && (w % 64 == n)) && told_of told.now k) shadow.now tables.old tables.new }
+    ensures { Refreshes (λ w k. ((w / 64 == i) && (w % 64 == n)) && touched_of touched.now k) shadow.now tables.old tables.new }
 {
     if let Some(v) = Vid::new(64 * u16::from(i) + u16::from(n)) {
-        refresh_vlan(tables, shadow, told, v);
+        refresh_vlan(tables, shadow, touched, v);
     }
 }
 
 /// Makes those rows of some VLANs anew: of the VLAN 64 i + n for each number n of the set.
-fn refresh_block(tables: &mut Tables, shadow: &Shadow, told: &Told, vids: VlanBlock, i: u8)
+fn refresh_block(tables: &mut Tables, shadow: &Shadow, touched: &Touched, vids: VlanBlock, i: u8)
     requires { i < 64 }
-    ensures { Refreshes (λ w k. ((w / 64 == i) && has_number vids (w % 64)) && told_of told.now k)
+    ensures { Refreshes (λ w k. ((w / 64 == i) && has_number vids (w % 64)) && touched_of touched.now k)
         shadow.now tables.old tables.new }
 {
     for n in vids.iter() {
-        refresh_number(tables, shadow, told, i, n);
+        refresh_number(tables, shadow, touched, i, n);
     }
 }
 
 /// Makes those rows of each VLAN anew of which the port is a member.
-fn refresh_all(tables: &mut Tables, shadow: &Shadow, joined: &Joined, told: &Told, p: Port)
-    ensures { Refreshes (λ w k. has_vlan joined.now p w && told_of told.now k) shadow.now tables.old tables.new }
+fn refresh_all(tables: &mut Tables, shadow: &Shadow, joined: &Joined, touched: &Touched, p: Port)
+    ensures { Refreshes (λ w k. has_vlan joined.now p w && touched_of touched.now k) shadow.now tables.old tables.new }
 {
     for i in joined.used(p).iter() {
-        refresh_block(tables, shadow, told, joined.block(p, i), i);
+        refresh_block(tables, shadow, touched, joined.block(p, i), i);
     }
 }
 
-/// Makes those rows of each VLAN anew of which the port is a member, and looks at none where it is told of no row.
-pub fn refresh(tables: &mut Tables, shadow: &Shadow, joined: &Joined, told: &Told, p: Port)
-    ensures { Refreshes (λ w k. has_vlan joined.now p w && told_of told.now k) shadow.now tables.old tables.new }
+/// Makes those rows of each VLAN anew of which the port is a member, and looks at none where it is touched of no row.
+pub fn refresh(tables: &mut Tables, shadow: &Shadow, joined: &Joined, touched: &Touched, p: Port)
+    ensures { Refreshes (λ w k. has_vlan joined.now p w && touched_of touched.now k) shadow.now tables.old tables.new }
 {
-    if told.of_fans() {
-        refresh_all(tables, shadow, joined, told, p);
+    if touched.of_fans() {
+        refresh_all(tables, shadow, joined, touched, p);
     }
 }

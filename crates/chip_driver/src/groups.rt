@@ -59,20 +59,20 @@ fn refresh_any(tables: &mut Tables, shadow: &Shadow, groups: &Groups, p: Port, v
     }
 }
 
-/// Makes the rows of the groups anew of which the port is a member, in a VLAN or in all, where they are told of.
+/// Makes the rows of the groups anew of which the port is a member, in a VLAN or in all, where it touches them.
 pub fn refresh(
     tables: &mut Tables,
     shadow: &Shadow,
     groups: &Groups,
-    told: bool,
+    touched: bool,
     p: Port,
     vid: Option<Vid>,
 )
     requires { AreUsed groups.now tables.old }
-    ensures { RefreshesGroups (λ k. told && (is_among vid k.0 && is_member groups.now p k))
+    ensures { RefreshesGroups (λ k. touched && (is_among vid k.0 && is_member groups.now p k))
         shadow.now groups.now tables.old tables.new }
 {
-    if told {
+    if touched {
         refresh_any(tables, shadow, groups, p, vid);
     }
 }

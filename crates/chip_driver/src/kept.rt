@@ -44,13 +44,13 @@ impl Kept {
         let before = Shares::of(&self.shadow, p, true);
         self.tables.set_port(p, row);
         self.shadow.note(p, &row);
-        let told = before.told(&Shares::of(&self.shadow, p, true));
-        fans::refresh(&mut self.tables, &self.shadow, &self.joined, &told, p);
+        let touched = before.touched(&Shares::of(&self.shadow, p, true));
+        fans::refresh(&mut self.tables, &self.shadow, &self.joined, &touched, p);
         groups::refresh(
             &mut self.tables,
             &self.shadow,
             &self.groups,
-            told.groups,
+            touched.groups,
             p,
             None,
         );
@@ -66,13 +66,13 @@ impl Kept {
     {
         let before = Shares::of(&self.shadow, p, true);
         self.shadow.routers.switch(p.number(), on);
-        let told = before.told(&Shares::of(&self.shadow, p, true));
-        fans::refresh(&mut self.tables, &self.shadow, &self.joined, &told, p);
+        let touched = before.touched(&Shares::of(&self.shadow, p, true));
+        fans::refresh(&mut self.tables, &self.shadow, &self.joined, &touched, p);
         groups::refresh(
             &mut self.tables,
             &self.shadow,
             &self.groups,
-            told.groups,
+            touched.groups,
             p,
             None,
         );
@@ -92,15 +92,15 @@ impl Kept {
         let members = switched(row.members, n, on);
         let untagged = switched(row.untagged, n, untagged);
         let before = Shares::of(&self.shadow, p, row.members.has(n));
-        let told = before.told(&Shares::of(&self.shadow, p, on));
+        let touched = before.touched(&Shares::of(&self.shadow, p, on));
         self.tables.set_vlan(v, VlanRow { members, untagged });
         self.joined.switch(p, v, on);
-        fans::refresh_vlan(&mut self.tables, &self.shadow, &told, v);
+        fans::refresh_vlan(&mut self.tables, &self.shadow, &touched, v);
         groups::refresh(
             &mut self.tables,
             &self.shadow,
             &self.groups,
-            told.groups,
+            touched.groups,
             p,
             Some(v),
         );

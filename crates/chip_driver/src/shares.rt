@@ -1,7 +1,7 @@
-//! What a port has in the rows of a VLAN, and of which of them a change tells.
+//! What a port has in the rows of a VLAN, and which of them a change touches.
 ghost use Rattle.std.specs.Prelude.{◌≡◌, ◌&&◌, not, false};
 ghost use Rattle.chip_driver.specs.declared.fans.Fan.{Fan};
-ghost use Rattle.chip_driver.specs.Shares.{shares_of, told_of, Tells};
+ghost use Rattle.chip_driver.specs.Shares.{shares_of, touched_of, Touches};
 
 use crate::shadow::Shadow;
 use br_model::numbers::Port;
@@ -24,9 +24,9 @@ pub struct Shares {
     pub groups: Share,
 }
 
-/// Of which rows of a VLAN a change of one port tells: of the others each is what it was.
+/// Which rows of a VLAN a change of one port touches: each of the others is what it was.
 #[derive(Clone, Copy)]
-pub struct Told {
+pub struct Touched {
     pub unicast: bool,
     pub mcast: bool,
     pub bcast: bool,
@@ -75,10 +75,10 @@ impl Shares {
     }
 
     /// The rows in which the port now has something else.
-    pub fn told(&self, new: &Shares) -> Told
-        ensures { Tells self.now new.now result }
+    pub fn touched(&self, new: &Shares) -> Touched
+        ensures { Touches self.now new.now result }
     {
-        Told {
+        Touched {
             unicast: differ(self.unicast, new.unicast),
             mcast: differ(self.mcast, new.mcast),
             bcast: differ(self.bcast, new.bcast),
@@ -88,10 +88,10 @@ impl Shares {
     }
 }
 
-impl Told {
-    /// Whether it tells of a row of floods or of routers.
+impl Touched {
+    /// Whether a row of floods or of routers is among them.
     pub fn of_fans(&self) -> bool
-        ensures { result ≡ false → (fan : Fan) → told_of self.now fan ≡ false }
+        ensures { result ≡ false → (fan : Fan) → touched_of self.now fan ≡ false }
     {
         self.unicast || self.mcast || self.bcast || self.routers
     }

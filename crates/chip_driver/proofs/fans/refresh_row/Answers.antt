@@ -4,10 +4,10 @@ use Rattle.chip_driver.specs.Shadows.{fan_made}
 use Rattle.chip_driver.proofs.Refreshing.{row_written, row_left}
 use Rattle.chip_driver.proofs.fans.refresh_row.Goals as goal
 
-pub returns-then-told : goal.returns-then-told
-returns-then-told c =
-    row_written c.args.shadow.now c.args.v c.args.fan c.args.told c.fan_row-row.result c.args.tables.now _ c.if-told.true
+pub returns-then-touched : goal.returns-then-touched
+returns-then-touched c =
+    row_written c.args.shadow.now c.args.v c.args.fan c.args.touched c.fan_row-row.result c.args.tables.now _ c.if-touched.true
     (c.fan_row-row.ensures ∙ ap (λ (r : VlanRow). fan_made c.args.shadow.now r.members c.args.fan) c.vlan.ensures) c.set_fan.ensures
 
-pub returns-else-told : goal.returns-else-told
-returns-else-told c = row_left c.args.shadow.now c.args.v c.args.fan c.args.told c.args.tables.now c.if-told.false
+pub returns-else-touched : goal.returns-else-touched
+returns-else-touched c = row_left c.args.shadow.now c.args.v c.args.fan c.args.touched c.args.tables.now c.if-touched.false
