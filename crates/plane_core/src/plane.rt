@@ -19,7 +19,7 @@ ghost use Rattle.br_model.specs.Plane.Steps.{world_step};
 ghost use Rattle.br_model.specs.Plane.World.{Holding as HoldingOf, chip_at, first_world, table_of_chip};
 ghost use Rattle.table_publish.specs.Object.{Begins, IsPublished, first_object};
 ghost use Rattle.plane_core.specs.Planes.{Accepts, DecidesFloor, DecidesOldest, IsCopy, IsDecidedBy, IsDecision, IsNamed, IsOnChip, NotTurned, Posted, PostedTo, Steps, Turned, TurnedTo, arrival_by, next_ticket, published_in, ticket_of};
-ghost use Rattle.plane_parts.specs.Added.{Added, KeepsMark};
+ghost use Rattle.plane_parts.specs.Added.{Added, KeepsSaved};
 ghost use Rattle.transcript_lines.specs.Rows.{IsPlain};
 ghost use Rattle.plane_parts.specs.Arrivals.{IsArrival};
 ghost use Rattle.plane_core.specs.Seats.{IsTold, Looks};
@@ -206,7 +206,7 @@ impl Plane {
         ensures pass { IfOk result (IsDecidedBy self.old.world p b (frame_of b)) }
         ensures err { OnErr result (self.new ≡ self.old) }
         ensures lines { OnErr result (lines.new.lines ≡ lines.old.lines) }
-        ensures marked { OnOk result (KeepsMark lines.old lines.new) }
+        ensures saved { OnOk result (KeepsSaved lines.old lines.new) }
     {
         let step = next(self.steps)?;
         let id = self.frames.next_id();
@@ -254,7 +254,7 @@ impl Plane {
         ensures step { OnOk result (Added (Steps self.old self.new (Rx p b)) lines.old.lines lines.new.lines) }
         ensures err { OnErr result (self.new ≡ self.old) }
         ensures lines { OnErr result (lines.new.lines ≡ lines.old.lines) }
-        ensures marked { lines.new.marked ≡ lines.old.marked }
+        ensures saved { lines.new.saved ≡ lines.old.saved }
     {
         lines.reserve(1, 0)?;
         let id = self.frames.next_id();
@@ -286,7 +286,7 @@ impl Plane {
             → IsPass self.old.world.setup.domains (table_of_chip self.old.world c) p head.now (message_of b head.now) pass) }
         ensures err { OnErr result (self.new ≡ self.old) }
         ensures lines { OnErr result (lines.new.lines ≡ lines.old.lines) }
-        ensures marked { lines.new.marked ≡ lines.old.marked }
+        ensures saved { lines.new.saved ≡ lines.old.saved }
     {
         let id = self.frames.next_id();
         let bytes = b.as_slice();
@@ -336,7 +336,7 @@ impl Plane {
         ensures ok { OnOk result (Added (Accepts self.old self.new e.now) lines.old.lines lines.new.lines) }
         ensures err { OnErr result (self.new ≡ self.old) }
         ensures lines { OnErr result (lines.new.lines ≡ lines.old.lines) }
-        ensures marked { OnOk result (KeepsMark lines.old lines.new) }
+        ensures saved { OnOk result (KeepsSaved lines.old lines.new) }
     {
         let step = next(self.steps)?;
         self.sides.answer(alloc, step, e, lines)?;
@@ -358,7 +358,7 @@ impl Plane {
     pub fn turn_to(&mut self, d: Dom, u: Option<Update>, lines: &mut Lines) -> Result<(), TurnFault>
         requires { has_chip self.old.world.setup.domains d ≡ true }
         ensures turned { TurnedTo self.old self.new d u lines.old.lines lines.new.lines result }
-        ensures marked { OnOk result (KeepsMark lines.old lines.new) }
+        ensures saved { OnOk result (KeepsSaved lines.old lines.new) }
     {
         match self.out_of_turn(d, &u) {
             Some(fault) => Err(fault),
@@ -394,7 +394,7 @@ impl Plane {
         ensures ok { OnOk result (Added (Steps self.old self.new (Turn d)) lines.old.lines lines.new.lines) }
         ensures err { OnErr result (self.new ≡ self.old) }
         ensures lines { OnErr result (lines.new.lines ≡ lines.old.lines) }
-        ensures marked { OnOk result (KeepsMark lines.old lines.new) }
+        ensures saved { OnOk result (KeepsSaved lines.old lines.new) }
     {
         let step = next(self.steps)?;
         let Some(update) = self.sides.next_update(d) else {
@@ -464,7 +464,7 @@ impl Plane {
         ensures ok { OnOk result (Added (Steps self.old self.new Hold) lines.old.lines lines.new.lines) }
         ensures err { OnErr result (self.new ≡ self.old) }
         ensures lines { OnErr result (lines.new.lines ≡ lines.old.lines) }
-        ensures marked { OnOk result (KeepsMark lines.old lines.new) }
+        ensures saved { OnOk result (KeepsSaved lines.old lines.new) }
     {
         let step = next(self.steps)?;
         let floor = self.sides.published();
@@ -489,7 +489,7 @@ impl Plane {
         ensures ok { OnOk result (Added (Steps self.old self.new (Post id None)) lines.old.lines lines.new.lines) }
         ensures err { OnErr result (self.new ≡ self.old) }
         ensures lines { OnErr result (lines.new.lines ≡ lines.old.lines) }
-        ensures marked { OnOk result (KeepsMark lines.old lines.new) }
+        ensures saved { OnOk result (KeepsSaved lines.old lines.new) }
     {
         let step = next(self.steps)?;
         let Some(holding) = self.frames.find(id) else {
@@ -531,7 +531,7 @@ impl Plane {
         requires floor { h.floor ≤ s.point }
         requires decision { (x : HoldingOf) → IsCopy self.old.world h x → s.point ≤ self.old.world.published → IsDecision self.old.world x s }
         ensures posted { PostedTo self.old self.new h s lines.old.lines lines.new.lines result }
-        ensures marked { OnOk result (KeepsMark lines.old lines.new) }
+        ensures saved { OnOk result (KeepsSaved lines.old lines.new) }
     {
         let Ok(step) = next(self.steps) else {
             return Err(PostFault::NoMemory(h));
@@ -568,7 +568,7 @@ impl Plane {
         requires step { step ≡ self.old.world.steps + 1 }
         requires none { held_with self.old.world h.id ≡ None }
         ensures posted { (s : SeenValue) → PostedTo self.old self.new h s lines.old.lines lines.new.lines result }
-        ensures marked { lines.new.marked ≡ lines.old.marked }
+        ensures saved { lines.new.saved ≡ lines.old.saved }
     {
         let refusal = Refusal::NothingToPost;
         match lines.push(Line::Refused { step, refusal }) {
@@ -588,7 +588,7 @@ impl Plane {
         ensures ok { OnOk result (Added (Steps self.old self.new Serve) lines.old.lines lines.new.lines) }
         ensures err { OnErr result (self.new ≡ self.old) }
         ensures lines { OnErr result (lines.new.lines ≡ lines.old.lines) }
-        ensures marked { OnOk result (KeepsMark lines.old lines.new) }
+        ensures saved { OnOk result (KeepsSaved lines.old lines.new) }
         ensures seat { Looks s.old s.new }
     {
         let step = next(self.steps)?;
@@ -627,7 +627,7 @@ impl Plane {
         ensures ok { OnOk result (Added (Steps self.old self.new Serve) lines.old.lines lines.new.lines) }
         ensures err { OnErr result (self.new ≡ self.old) }
         ensures lines { OnErr result (lines.new.lines ≡ lines.old.lines) }
-        ensures marked { OnOk result (KeepsMark lines.old lines.new) }
+        ensures saved { OnOk result (KeepsSaved lines.old lines.new) }
         ensures seat { IsTold s.old s.new (published_in self.old.world) }
     {
         self.tell(s);
@@ -654,7 +654,7 @@ impl Plane {
         ensures ok { OnOk result (Added (Steps self.old self.new Publish) lines.old.lines lines.new.lines) }
         ensures err { OnErr result (self.new ≡ self.old) }
         ensures lines { OnErr result (lines.new.lines ≡ lines.old.lines) }
-        ensures marked { OnOk result (KeepsMark lines.old lines.new) }
+        ensures saved { OnOk result (KeepsSaved lines.old lines.new) }
     {
         let step = next(self.steps)?;
         lines.reserve(1, 0)?;
@@ -681,7 +681,7 @@ impl Plane {
         ensures ok { OnOk result (Added (Steps self.old self.new (Report d)) lines.old.lines lines.new.lines) }
         ensures err { OnErr result (self.new ≡ self.old) }
         ensures lines { OnErr result (lines.new.lines ≡ lines.old.lines) }
-        ensures marked { OnOk result (KeepsMark lines.old lines.new) }
+        ensures saved { OnOk result (KeepsSaved lines.old lines.new) }
     {
         let step = next(self.steps)?;
         self.sides.report(alloc, step, d, lines)?;
@@ -706,7 +706,7 @@ impl Plane {
         ensures ok { OnOk result (Added (Steps self.old self.new (Sweep d)) lines.old.lines lines.new.lines) }
         ensures err { OnErr result (self.new ≡ self.old) }
         ensures lines { OnErr result (lines.new.lines ≡ lines.old.lines) }
-        ensures marked { OnOk result (KeepsMark lines.old lines.new) }
+        ensures saved { OnOk result (KeepsSaved lines.old lines.new) }
     {
         let step = next(self.steps)?;
         self.sides.sweep(alloc, step, d, lines)?;

@@ -175,7 +175,7 @@ impl Sides {
         requires room { 1 ≤ lines.old.rows }
         ensures reacted { Reacted of_sides self.old self.new self.old.chips lines.old.lines lines.new.lines result
             (reaction self.old.setup self.old.history self.old.control event.now) }
-        ensures marked { lines.new.marked ≡ lines.old.marked }
+        ensures saved { lines.new.saved ≡ lines.old.saved }
         ensures room { 1 ≤ lines.new.rows }
     {
         let from = self.bridge.answer(alloc, event, lines)?;
@@ -193,7 +193,7 @@ impl Sides {
         requires { 1 ≤ lines.old.rows }
         ensures reacted { Reacted of_sides self.old self.new self.old.chips lines.old.lines lines.new.lines result
             (reaction self.old.setup self.old.history self.old.control (Event.Sight frame.now.port frame.now.bytes frame.now.head)) }
-        ensures marked { lines.new.marked ≡ lines.old.marked }
+        ensures saved { lines.new.saved ≡ lines.old.saved }
         ensures room { 1 ≤ lines.new.rows }
     {
         let from = self.bridge.see(
@@ -227,7 +227,7 @@ impl Sides {
         ensures reacted { (c : ChipValue) → chip_in self.old.chips d ≡ Some c
             → Reacted of_sides self.old self.new (put_chip self.old.chips (record c { reports = drop 1 c.reports })) lines.old.lines lines.new.lines result
             (reaction self.old.setup self.old.history self.old.control event.now) }
-        ensures marked { lines.new.marked ≡ lines.old.marked }
+        ensures saved { lines.new.saved ≡ lines.old.saved }
         ensures room { 1 ≤ lines.new.rows }
     {
         let changes = self.react(alloc, event, lines)?;
@@ -250,7 +250,7 @@ impl Sides {
         ensures reacted { (c : ChipValue) → chip_in self.old.chips d ≡ Some c
             → Reacted of_sides self.old self.new (put_chip self.old.chips (record c { hits = [] })) lines.old.lines lines.new.lines result
             (reaction self.old.setup self.old.history self.old.control event.now) }
-        ensures marked { lines.new.marked ≡ lines.old.marked }
+        ensures saved { lines.new.saved ≡ lines.old.saved }
         ensures room { 1 ≤ lines.new.rows }
     {
         let changes = self.react(alloc, event, lines)?;
@@ -271,7 +271,7 @@ impl Sides {
         ensures ok { OnOk result (Added (Comes of_sides (λ w. answered w w (reacts w event.now)) self.old step self.new) lines.old.lines lines.new.lines) }
         ensures err { OnErr result (self.new ≡ self.old) }
         ensures lines { OnErr result (lines.new.lines ≡ lines.old.lines) }
-        ensures marked { lines.new.marked ≡ lines.old.marked }
+        ensures saved { lines.new.saved ≡ lines.old.saved }
         ensures over { self.new.board ≡ self.old.board }
     {
         lines.reserve(1, 0)?;
@@ -331,7 +331,7 @@ impl Sides {
             ∷ sent frame.now.id (soft_out self.now.setup.domains (table (take point self.now.history))
             frame.now.port frame.now.bytes frame.now.head frame.now.mark)) }
         ensures err { OnErr result (lines.new.lines ≡ lines.old.lines) }
-        ensures marked { lines.new.marked ≡ lines.old.marked }
+        ensures saved { lines.new.saved ≡ lines.old.saved }
         ensures room { OnOk result (1 ≤ lines.new.rows) }
     {
         make_room(lines, frame.bytes())?;
@@ -357,10 +357,10 @@ impl Sides {
         ensures ok { OnOk result (Added (Comes of_sides (λ w. posts w frame.now point) self.old step self.new) lines.old.lines lines.new.lines) }
         ensures err { OnErr result (self.new ≡ self.old) }
         ensures lines { OnErr result (lines.new.lines ≡ lines.old.lines) }
-        ensures marked { lines.new.marked ≡ lines.old.lines }
+        ensures saved { lines.new.saved ≡ lines.old.lines }
         ensures over { self.new.board ≡ self.old.board }
     {
-        lines.mark();
+        lines.save();
         self.soft_lines(frame, verdict, point, lines)?;
         let outcome = self.see(alloc, frame, lines);
         let Ok(last) = last_line(step, outcome) else {
@@ -388,7 +388,7 @@ impl Sides {
         ensures ok { OnOk result (Added (Comes of_sides (λ w. posts w frame.now w.published) self.old step self.new) lines.old.lines lines.new.lines) }
         ensures err { OnErr result (self.new ≡ self.old) }
         ensures lines { OnErr result (lines.new.lines ≡ lines.old.lines) }
-        ensures marked { OnOk result (lines.new.marked ≡ lines.old.lines) }
+        ensures saved { OnOk result (lines.new.saved ≡ lines.old.lines) }
         ensures over { self.new.board ≡ self.old.board }
         ensures seat { Looks seat.old seat.new }
     {
@@ -463,7 +463,7 @@ impl Sides {
         ensures ok { OnOk result (Added (Comes of_sides (λ w. reports w (chip_at w d)) self.old step self.new) lines.old.lines lines.new.lines) }
         ensures err { OnErr result (self.new ≡ self.old) }
         ensures lines { OnErr result (lines.new.lines ≡ lines.old.lines) }
-        ensures marked { lines.new.marked ≡ lines.old.marked }
+        ensures saved { lines.new.saved ≡ lines.old.saved }
         ensures over { self.new.board ≡ self.old.board }
     {
         lines.reserve(1, 0)?;
@@ -490,7 +490,7 @@ impl Sides {
         ensures ok { OnOk result (Added (Comes of_sides (λ w. sweeps w (chip_at w d)) self.old step self.new) lines.old.lines lines.new.lines) }
         ensures err { OnErr result (self.new ≡ self.old) }
         ensures lines { OnErr result (lines.new.lines ≡ lines.old.lines) }
-        ensures marked { lines.new.marked ≡ lines.old.marked }
+        ensures saved { lines.new.saved ≡ lines.old.saved }
         ensures over { self.new.board ≡ self.old.board }
     {
         lines.reserve(1, 0)?;

@@ -9,6 +9,6 @@ pub record Added (are : List Line → Type 0) (before after : List Line) : Type 
   pub so : are lines
   pub added : after ≡ before ++ lines
 
--- The mark that stood behind the lines before still stands there.
-abbrev pub KeepsMark : Listed → Listed → Type 0
-KeepsMark before after = before.marked ≡ before.lines → after.marked ≡ before.lines
+-- The savepoint that stood behind the lines before still stands there.
+abbrev pub KeepsSaved : Listed → Listed → Type 0
+KeepsSaved before after = before.saved ≡ before.lines → after.saved ≡ before.lines

@@ -40,7 +40,7 @@ impl Arrival {
     pub fn tell(&self, id: u32, lines: &mut Lines)
         requires { 1 ≤ lines.old.rows }
         ensures lines { lines.new.lines ≡ lines.old.lines ++ arrival_lines id self.now }
-        ensures marked { lines.new.marked ≡ lines.old.marked }
+        ensures saved { lines.new.saved ≡ lines.old.saved }
     {
         match self {
             Arrival::Overruns => lines.push_reserved(Line::Overrun { id }),

@@ -93,7 +93,7 @@ impl Egress {
 /// one before and the one behind them.
 pub fn make_room(lines: &mut Lines, bytes: &[u8]) -> Result<(), NoMemory>
     ensures lines { lines.new.lines ≡ lines.old.lines }
-    ensures marked { lines.new.marked ≡ lines.old.marked }
+    ensures saved { lines.new.saved ≡ lines.old.saved }
     ensures rows { OnOk result (3 ≤ lines.new.rows) }
     ensures bytes { OnOk result (2 * length bytes.now + 4 ≤ lines.new.bytes) }
 {
@@ -107,7 +107,7 @@ pub fn send(id: u32, bytes: &[u8], head: &Head, out: &Egress, lines: &mut Lines)
     requires rows { 1 ≤ lines.old.rows }
     requires bytes { 2 * length bytes.now + 4 ≤ lines.old.bytes }
     ensures lines { lines.new.lines ≡ lines.old.lines ++ lines_of id bytes.now head.now out.now }
-    ensures marked { lines.new.marked ≡ lines.old.marked }
+    ensures saved { lines.new.saved ≡ lines.old.saved }
     ensures rows { lines.old.rows ≤ lines.new.rows + 1 }
 {
     let Some(vid) = out.vid else {

@@ -23,7 +23,7 @@ use Rattle.br_model.proofs.Plane.Running.{run_push, run_none}
 use Rattle.std.specs.declared.option.Option.{Option}
 use Rattle.std.specs.declared.option.Option.TheVariants.{None, Some}
 use Rattle.transcript_lines.specs.Rows.{Listed}
-use Rattle.plane_parts.specs.Added.{Added, KeepsMark}
+use Rattle.plane_parts.specs.Added.{Added, KeepsSaved}
 use Rattle.plane_core.specs.Planes.{PlaneState, Steps, Accepts, IsNamed}
 use Rattle.plane_core.specs.Shown.{Shown, opened}
 use Rattle.plane_record.specs.Holds.{held_line}
@@ -101,14 +101,14 @@ module _ (p q : PlaneState) (ss ss' : List Step) (s : Step) (ls ls' : List Line)
 pub carried : (are : List Line → Type 0) (before was after now : List Line) → was ≡ before → now ≡ after → Added are was after → Added are before now
 carried are before was after now same is a = record { lines = a.lines; so = a.so; added = is ∙ (a.added ∙ ap (λ (l : List Line). l ++ a.lines) same) }
 
--- where the mark stands after a call, which was set before it
-pub mark-at : (old mid new : Listed) → mid.marked ≡ old.lines → mid.lines ≡ old.lines → KeepsMark mid new → new.marked ≡ old.lines
-mark-at old mid new marked lines keeps = keeps (marked ∙ sym lines) ∙ lines
+-- where the savepoint stands after a call, which was set before it
+pub saved-at : (old mid new : Listed) → mid.saved ≡ old.lines → mid.lines ≡ old.lines → KeepsSaved mid new → new.saved ≡ old.lines
+saved-at old mid new saved lines keeps = keeps (saved ∙ sym lines) ∙ lines
 
--- a copy of the lines behind the mark is what the step said
-pub copied-said : (p q : PlaneState) (ss : List Step) (s : Step) (ls ls' marked more : List Line) (old : Past) → IsRan p ss ls → past p ss ≡ old → Added (Steps p q s) ls ls' → marked ≡ ls
-    → ls' ≡ marked ++ more → more ≡ said_by old s
-copied-said p q ss s ls ls' marked more old h was a at copied =
+-- a copy of the lines behind the savepoint is what the step said
+pub copied-said : (p q : PlaneState) (ss : List Step) (s : Step) (ls ls' saved more : List Line) (old : Past) → IsRan p ss ls → past p ss ≡ old → Added (Steps p q s) ls ls' → saved ≡ ls
+    → ls' ≡ saved ++ more → more ≡ said_by old s
+copied-said p q ss s ls ls' saved more old h was a at copied =
     append_cancel_left ls more a.lines (ap (λ (l : List Line). l ++ more) (sym at) ∙ (sym copied ∙ a.added))
     ∙ (sym (ap (λ (x : Stepped). x.1) a.so.world) ∙ ap (λ (st : PlaneState). (world_step st.world s).1) (stood p ss ls old h was))
 
@@ -119,19 +119,19 @@ pub record Recorded (q : PlaneState) (ss' : List Step) (s : Step) (ls' said : Li
   pub said : said ≡ said_by old s
 
 -- from what is ready before the plane's call, the call, and what is written down after it
-pub recorded : (p q : PlaneState) (ss ready ss' : List Step) (s : Step) (first marked mid last : Listed) (said : List Line) (old : Past)
+pub recorded : (p q : PlaneState) (ss ready ss' : List Step) (s : Step) (first saved mid last : Listed) (said : List Line) (old : Past)
     → IsRan p ss first.lines → past p ss ≡ old
-    → ready ≡ ss → marked.lines ≡ first.lines → marked.marked ≡ first.lines
-    → Added (Steps p q s) marked.lines mid.lines → KeepsMark marked mid
-    → ss' ≡ ready ++ s ∷ [] → last.lines ≡ mid.lines → mid.lines ≡ mid.marked ++ said
+    → ready ≡ ss → saved.lines ≡ first.lines → saved.saved ≡ first.lines
+    → Added (Steps p q s) saved.lines mid.lines → KeepsSaved saved mid
+    → ss' ≡ ready ++ s ∷ [] → last.lines ≡ mid.lines → mid.lines ≡ mid.saved ++ said
     → comes_by_line true (chip_domains p.world.setup.domains) s ≡ true → Recorded q ss' s last.lines said old
-recorded p q ss ready ss' s first marked mid last said old h was kept same mark a keeps more on copied by =
-    let b : Added (Steps p q s) first.lines last.lines = carried (Steps p q s) first.lines marked.lines mid.lines last.lines same on a in
+recorded p q ss ready ss' s first saved mid last said old h was kept same mark a keeps more on copied by =
+    let b : Added (Steps p q s) first.lines last.lines = carried (Steps p q s) first.lines saved.lines mid.lines last.lines same on a in
     let is : ss' ≡ ss ++ s ∷ [] = more ∙ ap (λ (l : List Step). l ++ s ∷ []) kept in
     record {
       ran = ran-more p q ss ss' s first.lines last.lines h b is by;
       reached = past-more p q ss ss' s first.lines last.lines h b is old was;
-      said = copied-said p q ss s first.lines last.lines mid.marked said old h was b (mark-at first marked mid mark same keeps) (on ∙ copied);
+      said = copied-said p q ss s first.lines last.lines mid.saved said old h was b (saved-at first saved mid mark same keeps) (on ∙ copied);
     }
 
 pub ran-first : (p : PlaneState) → p.world ≡ first_world p.world.setup → IsRan p [] []

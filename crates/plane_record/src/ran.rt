@@ -83,23 +83,23 @@ fn step_of(e: &Event) -> Step
     }
 }
 
-/// Before a step: the mark is set behind the lines so far, and there is room for the step.
+/// Before a step: the savepoint is set behind the lines so far, and there is room for the step.
 fn make_ready(steps: &mut Vec<Step>, lines: &mut Lines) -> Result<(), NoMemory>
     ensures steps { steps.new.items ≡ steps.old.items }
     ensures room { OnOk result (vec_len steps.new < vec_capacity steps.new) }
     ensures lines { lines.new.lines ≡ lines.old.lines }
-    ensures marked { lines.new.marked ≡ lines.old.lines }
+    ensures saved { lines.new.saved ≡ lines.old.lines }
 {
-    lines.mark();
+    lines.save();
     steps.reserve(1)
 }
 
-/// The step that was taken is written down, where there is room for it. The answer is a copy of its lines, those behind the mark.
+/// The step that was taken is written down, where there is room for it. The answer is a copy of its lines, those behind the savepoint.
 fn write_down(alloc: Global, steps: &mut Vec<Step>, lines: &mut Lines, step: Step) -> Lines
     requires { vec_len steps.old < vec_capacity steps.old }
     ensures steps { steps.new.items ≡ steps.old.items ++ step ∷ [] }
     ensures lines { lines.new.lines ≡ lines.old.lines }
-    ensures said { lines.old.lines ≡ lines.old.marked ++ result.lines }
+    ensures said { lines.old.lines ≡ lines.old.saved ++ result.lines }
 {
     steps.push_reserved(step);
     lines.copy_out(alloc)

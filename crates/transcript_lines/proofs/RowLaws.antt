@@ -9,7 +9,7 @@ use Rattle.br_model.specs.declared.transcript.Line.TheVariants as lines
 use Rattle.transcript_lines.specs.declared.row.Row.{Row}
 use Rattle.transcript_lines.specs.declared.row.Row.TheVariants.{One, Sent, Ctl}
 use Rattle.transcript_lines.specs.declared.row.Span.{Span}
-use Rattle.transcript_lines.specs.Rows.{at, sent_lines, expand_row, expand, moved, moved_row, room, IsInside, AreInside, IsBehind, AreBehind, AreMarked, Fit}
+use Rattle.transcript_lines.specs.Rows.{at, sent_lines, expand_row, expand, moved, moved_row, room, IsInside, AreInside, IsBehind, AreBehind, AreSaved, Fit}
 
 pub at-more : (arena more : List ℕ) (s : Span) → s.from + s.len ≤ length arena → at (arena ++ more) s ≡ at arena s
 at-more arena more s inside =
@@ -88,71 +88,71 @@ inside-take n zero rows inside = tt
 inside-take n (suc k) [] inside = tt
 inside-take n (suc k) (row ∷ rows) inside = (inside.0, inside-take n k rows inside.1)
 
--- what is before the mark stays
-pub marked_kept : (arena more after : List ℕ) (rows now : List Row) (row : Row) (mark : ℕ) (before : List Line) → AreInside (length arena) rows → mark ≤ length rows
-    → expand arena (take mark rows) ≡ before → after ≡ arena ++ more → now ≡ rows ++ row ∷ [] → expand after (take mark now) ≡ before
-marked_kept arena more after rows now row mark before inside low is grown more_rows =
-    ap₂ (λ a r. expand a (take mark r)) grown more_rows
-    ∙ ap (expand (arena ++ more)) (take-append-le mark rows (row ∷ []) low)
-    ∙ expand-more arena more (take mark rows) (inside-take (length arena) mark rows inside)
+-- what is before the savepoint stays
+pub saved_kept : (arena more after : List ℕ) (rows now : List Row) (row : Row) (saved : ℕ) (before : List Line) → AreInside (length arena) rows → saved ≤ length rows
+    → expand arena (take saved rows) ≡ before → after ≡ arena ++ more → now ≡ rows ++ row ∷ [] → expand after (take saved now) ≡ before
+saved_kept arena more after rows now row saved before inside low is grown more_rows =
+    ap₂ (λ a r. expand a (take saved r)) grown more_rows
+    ∙ ap (expand (arena ++ more)) (take-append-le saved rows (row ∷ []) low)
+    ∙ expand-more arena more (take saved rows) (inside-take (length arena) saved rows inside)
     ∙ is
 
-pub marked_kept_one : (arena : List ℕ) (rows now : List Row) (row : Row) (mark : ℕ) (before : List Line) → mark ≤ length rows
-    → expand arena (take mark rows) ≡ before → now ≡ rows ++ row ∷ [] → expand arena (take mark now) ≡ before
-marked_kept_one arena rows now row mark before low is more_rows =
-    ap (λ r. expand arena (take mark r)) more_rows ∙ ap (expand arena) (take-append-le mark rows (row ∷ []) low) ∙ is
+pub saved_kept_one : (arena : List ℕ) (rows now : List Row) (row : Row) (saved : ℕ) (before : List Line) → saved ≤ length rows
+    → expand arena (take saved rows) ≡ before → now ≡ rows ++ row ∷ [] → expand arena (take saved now) ≡ before
+saved_kept_one arena rows now row saved before low is more_rows =
+    ap (λ r. expand arena (take saved r)) more_rows ∙ ap (expand arena) (take-append-le saved rows (row ∷ []) low) ∙ is
 
-pub mark_low : (mark : ℕ) (rows now : List Row) (row : Row) → mark ≤ length rows → now ≡ rows ++ row ∷ [] → mark ≤ length now
-mark_low mark rows now row low more_rows = omega (arith, low, ap length more_rows ∙ length-append rows (row ∷ []))
+pub saved_low : (saved : ℕ) (rows now : List Row) (row : Row) → saved ≤ length rows → now ≡ rows ++ row ∷ [] → saved ≤ length now
+saved_low saved rows now row low more_rows = omega (arith, low, ap length more_rows ∙ length-append rows (row ∷ []))
 
-pub inside_cut : (n mark : ℕ) (rows now : List Row) → AreInside n rows → now ≡ take mark rows → AreInside n now
-inside_cut n mark rows now inside is = subst (AreInside n) (sym is) (inside-take n mark rows inside)
+pub inside_cut : (n saved : ℕ) (rows now : List Row) → AreInside n rows → now ≡ take saved rows → AreInside n now
+inside_cut n saved rows now inside is = subst (AreInside n) (sym is) (inside-take n saved rows inside)
 
--- Rows behind the mark.
+-- Rows behind the savepoint.
 
 behind-append : (least : ℕ) (rows : List Row) (row : Row) → AreBehind least rows → IsBehind least row → AreBehind least (rows ++ row ∷ [])
 behind-append least [] row behind last = (last, tt)
 behind-append least (r ∷ rows) row behind last = (behind.0, behind-append least rows row behind.1 last)
 
-behind-pushed : (least mark : ℕ) (rows : List Row) (row : Row) → mark ≤ length rows → AreBehind least (drop mark rows) → IsBehind least row → AreBehind least (drop mark (rows ++ row ∷ []))
-behind-pushed least mark rows row low behind last = subst (AreBehind least) (sym (drop-append-le mark rows (row ∷ []) low)) (behind-append least (drop mark rows) row behind last)
+behind-pushed : (least saved : ℕ) (rows : List Row) (row : Row) → saved ≤ length rows → AreBehind least (drop saved rows) → IsBehind least row → AreBehind least (drop saved (rows ++ row ∷ []))
+behind-pushed least saved rows row low behind last = subst (AreBehind least) (sym (drop-append-le saved rows (row ∷ []) low)) (behind-append least (drop saved rows) row behind last)
 
 pub behind-at : (least : ℕ) (rows : List Row) (i : ℕ) (d : Row) → AreBehind least rows → i < length rows → IsBehind least (get_or rows i d)
 behind-at least [] i d behind low = absurd (omega (arith, low))
 behind-at least (row ∷ rows) zero d behind low = behind.0
 behind-at least (row ∷ rows) (suc i) d behind low = behind-at least rows i d behind.1 (omega (arith, low))
 
--- a row that comes to marked rows, with what comes to the arena
-pub marked_more : (arena more after : List ℕ) (rows now : List Row) (row : Row) (mark bytes : ℕ) → AreMarked arena rows mark bytes → after ≡ arena ++ more → now ≡ rows ++ row ∷ []
-    → IsInside (length after) row → IsBehind bytes row → AreMarked after now mark bytes
-marked_more arena more after rows now row mark bytes m grown more_rows inside behind = record {
+-- a row that comes to rows with a savepoint, with what comes to the arena
+pub saved_more : (arena more after : List ℕ) (rows now : List Row) (row : Row) (saved bytes : ℕ) → AreSaved arena rows saved bytes → after ≡ arena ++ more → now ≡ rows ++ row ∷ []
+    → IsInside (length after) row → IsBehind bytes row → AreSaved after now saved bytes
+saved_more arena more after rows now row saved bytes m grown more_rows inside behind = record {
   inside = kept (length arena) (length after) rows now row m.inside (grows arena after more grown) inside more_rows;
-  behind = subst (λ (r : List Row). AreBehind bytes (drop mark r)) (sym more_rows) (behind-pushed bytes mark rows row m.rows_before m.behind behind);
-  rows_before = mark_low mark rows now row m.rows_before more_rows;
+  behind = subst (λ (r : List Row). AreBehind bytes (drop saved r)) (sym more_rows) (behind-pushed bytes saved rows row m.rows_before m.behind behind);
+  rows_before = saved_low saved rows now row m.rows_before more_rows;
   bytes_before = omega (arith, m.bytes_before, grows arena after more grown);
 }
 
--- none is behind a mark at the end
-pub marked_all : (arena : List ℕ) (rows : List Row) (mark bytes : ℕ) → AreInside (length arena) rows → mark ≡ length rows → bytes ≡ length arena → AreMarked arena rows mark bytes
-marked_all arena rows mark bytes inside last end = record {
+-- none is behind a savepoint at the end
+pub saved_all : (arena : List ℕ) (rows : List Row) (saved bytes : ℕ) → AreInside (length arena) rows → saved ≡ length rows → bytes ≡ length arena → AreSaved arena rows saved bytes
+saved_all arena rows saved bytes inside last end = record {
   inside = inside;
-  behind = subst (AreBehind bytes) (sym (drop_all mark rows (omega (arith, last)))) tt;
+  behind = subst (AreBehind bytes) (sym (drop_all saved rows (omega (arith, last)))) tt;
   rows_before = omega (arith, last);
   bytes_before = omega (arith, end);
 }
 
 -- nor behind a cut
-pub marked_cut : (arena : List ℕ) (rows now : List Row) (mark bytes : ℕ) → AreMarked arena rows mark bytes → now ≡ take mark rows → AreMarked arena now mark bytes
-marked_cut arena rows now mark bytes m is =
-    let few : length now ≡ mark = ap length is ∙ length-take-le mark rows m.rows_before in
+pub saved_cut : (arena : List ℕ) (rows now : List Row) (saved bytes : ℕ) → AreSaved arena rows saved bytes → now ≡ take saved rows → AreSaved arena now saved bytes
+saved_cut arena rows now saved bytes m is =
+    let few : length now ≡ saved = ap length is ∙ length-take-le saved rows m.rows_before in
     record {
-      inside = inside_cut (length arena) mark rows now m.inside is;
-      behind = subst (AreBehind bytes) (sym (drop_all mark now (omega (arith, few)))) tt;
+      inside = inside_cut (length arena) saved rows now m.inside is;
+      behind = subst (AreBehind bytes) (sym (drop_all saved now (omega (arith, few)))) tt;
       rows_before = omega (arith, few);
       bytes_before = m.bytes_before;
     }
 
--- A copy of the rows behind the mark.
+-- A copy of the rows behind the savepoint.
 
 at-moved : (front : ℕ) (arena : List ℕ) (s : Span) → front ≤ s.from → at (drop front arena) (moved front s) ≡ at arena s
 at-moved front arena s low =
@@ -169,15 +169,15 @@ expand-moved : (front : ℕ) (arena : List ℕ) (rows : List Row) → AreBehind 
 expand-moved front arena [] behind = refl
 expand-moved front arena (row ∷ rows) behind = ap₂ (λ a b. a ++ b) (expand_row-moved front arena row behind.0) (expand-moved front arena rows behind.1)
 
-expand-split : (arena : List ℕ) (rows : List Row) (mark : ℕ) → expand arena rows ≡ expand arena (take mark rows) ++ expand arena (drop mark rows)
-expand-split arena rows mark = ap (expand arena) (sym (take-append-drop mark rows)) ∙ flat_map-append (expand_row arena) (take mark rows) (drop mark rows)
+expand-split : (arena : List ℕ) (rows : List Row) (saved : ℕ) → expand arena rows ≡ expand arena (take saved rows) ++ expand arena (drop saved rows)
+expand-split arena rows saved = ap (expand arena) (sym (take-append-drop saved rows)) ∙ flat_map-append (expand_row arena) (take saved rows) (drop saved rows)
 
--- the lines of the copy stand behind those before the mark
-pub copied : (front mark : ℕ) (arena bytes : List ℕ) (rows now : List Row) → AreBehind front (drop mark rows) → bytes ≡ drop front arena → now ≡ map (moved_row front) (drop mark rows)
-    → expand arena rows ≡ expand arena (take mark rows) ++ expand bytes now
-copied front mark arena bytes rows now behind bytes_are are =
-    expand-split arena rows mark
-    ∙ ap (λ l. expand arena (take mark rows) ++ l) (sym (ap₂ expand bytes_are are ∙ expand-moved front arena (drop mark rows) behind))
+-- the lines of the copy stand behind those before the savepoint
+pub copied : (front saved : ℕ) (arena bytes : List ℕ) (rows now : List Row) → AreBehind front (drop saved rows) → bytes ≡ drop front arena → now ≡ map (moved_row front) (drop saved rows)
+    → expand arena rows ≡ expand arena (take saved rows) ++ expand bytes now
+copied front saved arena bytes rows now behind bytes_are are =
+    expand-split arena rows saved
+    ∙ ap (λ l. expand arena (take saved rows) ++ l) (sym (ap₂ expand bytes_are are ∙ expand-moved front arena (drop saved rows) behind))
 
 inside_row-moved : (front most : ℕ) (row : Row) → IsInside most row → IsBehind front row → IsInside (most - front) (moved_row front row)
 inside_row-moved front most (One line) inside behind = tt
@@ -194,20 +194,20 @@ inside-drop n (suc k) [] inside = tt
 inside-drop n (suc k) (row ∷ rows) inside = inside-drop n k rows inside.1
 
 -- and stand within their own arena
-pub copied_inside : (front mark : ℕ) (arena bytes : List ℕ) (rows now : List Row) → AreMarked arena rows mark front → bytes ≡ drop front arena → now ≡ map (moved_row front) (drop mark rows)
+pub copied_inside : (front saved : ℕ) (arena bytes : List ℕ) (rows now : List Row) → AreSaved arena rows saved front → bytes ≡ drop front arena → now ≡ map (moved_row front) (drop saved rows)
     → AreInside (length bytes) now
-copied_inside front mark arena bytes rows now m bytes_are are =
+copied_inside front saved arena bytes rows now m bytes_are are =
     subst (AreInside (length bytes)) (sym are)
-    (subst (λ n. AreInside n (map (moved_row front) (drop mark rows))) (sym (ap length bytes_are ∙ length-drop front arena))
-    (inside-moved front (length arena) (drop mark rows) (inside-drop (length arena) mark rows m.inside) m.behind))
+    (subst (λ n. AreInside n (map (moved_row front) (drop saved rows))) (sym (ap length bytes_are ∙ length-drop front arena))
+    (inside-moved front (length arena) (drop saved rows) (inside-drop (length arena) saved rows m.inside) m.behind))
 
 -- Room.
 
 -- so many more in it
-pub fit_more : (len capacity mark copied more len2 capacity2 there : ℕ) → Fit len capacity mark copied → room len capacity mark copied ≡ there → more ≤ there → len2 ≡ len + more → capacity ≤ capacity2
-    → Fit len2 capacity2 mark copied
-fit_more len capacity mark copied more len2 capacity2 there fit is low len_is grows =
-    let e : min (capacity - len) (mark + copied - len) ≡ there = is in
+pub fit_more : (len capacity saved copied more len2 capacity2 there : ℕ) → Fit len capacity saved copied → room len capacity saved copied ≡ there → more ≤ there → len2 ≡ len + more → capacity ≤ capacity2
+    → Fit len2 capacity2 saved copied
+fit_more len capacity saved copied more len2 capacity2 there fit is low len_is grows =
+    let e : min (capacity - len) (saved + copied - len) ≡ there = is in
     record { all = omega (arith, fit.all, e, low, len_is, grows); copy = omega (arith, fit.copy, e, low, len_is) }
 
 -- ---- where no line has the tagged form

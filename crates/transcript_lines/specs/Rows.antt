@@ -77,25 +77,25 @@ moved_row front (One line) = One line
 moved_row front (Sent id ports untagged plain tagged) = Sent id ports untagged (moved front plain) (moved front tagged)
 moved_row front (Ctl port bytes) = Ctl port (moved front bytes)
 
--- Rows over an arena, and how many rows and bytes there were when the mark was set.
-pub record AreMarked (arena : List ℕ) (rows : List Row) (mark bytes : ℕ) : Type 0 where
+-- Rows over an arena, and how many rows and bytes there were when the savepoint was set.
+pub record AreSaved (arena : List ℕ) (rows : List Row) (saved bytes : ℕ) : Type 0 where
   pub inside : AreInside (length arena) rows
-  pub behind : AreBehind bytes (drop mark rows)
-  pub rows_before : mark ≤ length rows
+  pub behind : AreBehind bytes (drop saved rows)
+  pub rows_before : saved ≤ length rows
   pub bytes_before : bytes ≤ length arena
 
--- So many have place, and so does a copy of those behind the mark.
-pub record Fit (len capacity mark copied : ℕ) : Type 0 where
+-- So many have place, and so does a copy of those behind the savepoint.
+pub record Fit (len capacity saved copied : ℕ) : Type 0 where
   pub all : len ≤ capacity
-  pub copy : len ≤ mark + copied
+  pub copy : len ≤ saved + copied
 
 -- for how many more there is room, and for a copy of them
 abbrev pub room : ℕ → ℕ → ℕ → ℕ → ℕ
-room len capacity mark copied = min (capacity - len) (mark + copied - len)
+room len capacity saved copied = min (capacity - len) (saved + copied - len)
 
--- Lines, those of them before the mark, and the room beside them: how many more rows and bytes they and a copy have place for.
+-- Lines, those of them before the savepoint, and the room beside them: how many more rows and bytes they and a copy have place for.
 pub record Listed : Type 0 where
   pub lines : List Line
-  pub marked : List Line
+  pub saved : List Line
   pub rows : ℕ
   pub bytes : ℕ

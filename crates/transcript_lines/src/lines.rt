@@ -13,58 +13,58 @@ use std::marker::Model;
 use std::mem;
 
 /// Lines in the order in which they are written, and room for more. Room is taken first; what is pushed into it can't fail, and
-/// neither can a copy of what stands behind the mark.
+/// neither can a copy of what stands behind the savepoint.
 ///
-/// Contracts see the list of the lines, those before the mark, and how many more rows and bytes there is room for.
+/// Contracts see the list of the lines, those before the savepoint, and how many more rows and bytes there is room for.
 #[derive(Drop)]
 pub struct Lines {
     rows: Vec<Row>,
     bytes: Vec<u8>,
-    // How many rows and bytes there were when the mark was set.
-    mark: usize,
-    bytes_mark: usize,
-    // The room for a copy of what stands behind the mark.
+    // How many rows and bytes there were when the savepoint was set.
+    saved_rows: usize,
+    saved_bytes: usize,
+    // The room for a copy of what stands behind the savepoint.
     copied_rows: Vec<Row>,
     copied_bytes: Vec<u8>,
 }
 
 impl Model for Lines {
     ghost use Rattle.std.specs.Prelude.{◌≡◌, [], take, vec_len, vec_capacity};
-    ghost use Rattle.transcript_lines.specs.Rows.{Listed, AreMarked, Fit, expand, room};
+    ghost use Rattle.transcript_lines.specs.Rows.{Listed, AreSaved, Fit, expand, room};
 
     ghost Value = { Listed };
 
     ghost view = { λ l. record {
       lines = expand l.bytes.items l.rows.items;
-      marked = expand l.bytes.items (take l.mark l.rows.items);
-      rows = room (vec_len l.rows) (vec_capacity l.rows) l.mark (vec_capacity l.copied_rows);
-      bytes = room (vec_len l.bytes) (vec_capacity l.bytes) l.bytes_mark (vec_capacity l.copied_bytes);
+      saved = expand l.bytes.items (take l.saved_rows l.rows.items);
+      rows = room (vec_len l.rows) (vec_capacity l.rows) l.saved_rows (vec_capacity l.copied_rows);
+      bytes = room (vec_len l.bytes) (vec_capacity l.bytes) l.saved_bytes (vec_capacity l.copied_bytes);
     } };
 
-    ghost invariant = { λ l. AreMarked l.bytes.items l.rows.items l.mark l.bytes_mark
-        × Fit (vec_len l.rows) (vec_capacity l.rows) l.mark (vec_capacity l.copied_rows)
-        × Fit (vec_len l.bytes) (vec_capacity l.bytes) l.bytes_mark (vec_capacity l.copied_bytes)
+    ghost invariant = { λ l. AreSaved l.bytes.items l.rows.items l.saved_rows l.saved_bytes
+        × Fit (vec_len l.rows) (vec_capacity l.rows) l.saved_rows (vec_capacity l.copied_rows)
+        × Fit (vec_len l.bytes) (vec_capacity l.bytes) l.saved_bytes (vec_capacity l.copied_bytes)
         × (l.copied_rows.items ≡ []) × (l.copied_bytes.items ≡ []) };
 }
 
-/// Room for so many more, and for them in a copy of those behind the mark.
+/// Room for so many more, and for them in a copy of those behind the savepoint.
 fn reserve_twice<T>(
     all: &mut Vec<T>,
     copied: &mut Vec<T>,
-    mark: usize,
+    saved: usize,
     more: usize,
 ) -> Result<(), NoMemory>
-    requires mark { mark ≤ vec_len all.old }
-    requires fit { Fit (vec_len all.old) (vec_capacity all.old) mark (vec_capacity copied.old) }
+    requires saved { saved ≤ vec_len all.old }
+    requires fit { Fit (vec_len all.old) (vec_capacity all.old) saved (vec_capacity copied.old) }
     requires empty { copied.old.items ≡ [] }
     ensures all { all.new.items ≡ all.old.items }
     ensures empty { copied.new.items ≡ [] }
-    ensures fit { Fit (vec_len all.new) (vec_capacity all.new) mark (vec_capacity copied.new) }
-    ensures kept { room (vec_len all.old) (vec_capacity all.old) mark (vec_capacity copied.old) ≤ room (vec_len all.new) (vec_capacity all.new) mark (vec_capacity copied.new) }
-    ensures ok { OnOk result (more ≤ room (vec_len all.new) (vec_capacity all.new) mark (vec_capacity copied.new)) }
-    ensures err { OnErr result (room (vec_len all.new) (vec_capacity all.new) mark (vec_capacity copied.new) < more) }
+    ensures fit { Fit (vec_len all.new) (vec_capacity all.new) saved (vec_capacity copied.new) }
+    ensures kept { room (vec_len all.old) (vec_capacity all.old) saved (vec_capacity copied.old) ≤ room (vec_len all.new) (vec_capacity all.new) saved (vec_capacity copied.new) }
+    ensures ok { OnOk result (more ≤ room (vec_len all.new) (vec_capacity all.new) saved (vec_capacity copied.new)) }
+    ensures err { OnErr result (room (vec_len all.new) (vec_capacity all.new) saved (vec_capacity copied.new) < more) }
 {
-    let behind = all.len() - mark;
+    let behind = all.len() - saved;
     all.reserve(more)?;
     copied.reserve(behind + more)
 }
@@ -140,13 +140,13 @@ fn add_moved(rows: &mut Vec<Row>, of: &[Row], front: usize)
 impl Lines {
     /// No line, and no room: it takes no memory.
     pub fn new(alloc: Global) -> Lines
-        ensures { result ≡ record { lines = []; marked = []; rows = 0; bytes = 0 } }
+        ensures { result ≡ record { lines = []; saved = []; rows = 0; bytes = 0 } }
     {
         Lines {
             rows: Vec::new(alloc),
             bytes: Vec::new(alloc),
-            mark: 0,
-            bytes_mark: 0,
+            saved_rows: 0,
+            saved_bytes: 0,
             copied_rows: Vec::new(alloc),
             copied_bytes: Vec::new(alloc),
         }
@@ -155,12 +155,12 @@ impl Lines {
     /// The lines leave, and the room stays.
     pub fn clear(&mut self)
         ensures lines { self.new.lines ≡ [] }
-        ensures marked { self.new.marked ≡ [] }
+        ensures saved { self.new.saved ≡ [] }
         ensures rows { self.old.rows ≤ self.new.rows }
         ensures bytes { self.old.bytes ≤ self.new.bytes }
     {
-        self.mark = 0;
-        self.bytes_mark = 0;
+        self.saved_rows = 0;
+        self.saved_bytes = 0;
         self.rows.clear();
         self.bytes.clear();
     }
@@ -168,7 +168,7 @@ impl Lines {
     /// Room for so many more rows and bytes.
     pub fn reserve(&mut self, rows: usize, bytes: usize) -> Result<(), NoMemory>
         ensures lines { self.new.lines ≡ self.old.lines }
-        ensures marked { self.new.marked ≡ self.old.marked }
+        ensures saved { self.new.saved ≡ self.old.saved }
         ensures rows { OnOk result (rows ≤ self.new.rows) }
         ensures bytes { OnOk result (bytes ≤ self.new.bytes) }
         ensures err { OnErr result ((self.new.rows < rows) ⊎ (self.new.bytes < bytes)) }
@@ -179,7 +179,7 @@ impl Lines {
         reserve_twice(
             &mut self.bytes,
             &mut self.copied_bytes,
-            self.bytes_mark,
+            self.saved_bytes,
             bytes,
         )
     }
@@ -187,13 +187,13 @@ impl Lines {
     /// Room for so many more rows.
     fn reserve_rows(&mut self, rows: usize) -> Result<(), NoMemory>
         ensures lines { self.new.lines ≡ self.old.lines }
-        ensures marked { self.new.marked ≡ self.old.marked }
+        ensures saved { self.new.saved ≡ self.old.saved }
         ensures bytes { self.new.bytes ≡ self.old.bytes }
         ensures kept { self.old.rows ≤ self.new.rows }
         ensures ok { OnOk result (rows ≤ self.new.rows) }
         ensures err { OnErr result (self.new.rows < rows) }
     {
-        reserve_twice(&mut self.rows, &mut self.copied_rows, self.mark, rows)
+        reserve_twice(&mut self.rows, &mut self.copied_rows, self.saved_rows, rows)
     }
 
     /// Adds a line without bytes.
@@ -201,7 +201,7 @@ impl Lines {
         requires { IsPlain line }
         ensures ok { OnOk result (self.new.lines ≡ self.old.lines ++ line ∷ []) }
         ensures err { OnErr result (self.new ≡ self.old) }
-        ensures marked { self.new.marked ≡ self.old.marked }
+        ensures saved { self.new.saved ≡ self.old.saved }
         ensures bytes { self.new.bytes ≡ self.old.bytes }
     {
         self.reserve_rows(1)?;
@@ -214,7 +214,7 @@ impl Lines {
         requires room { 1 ≤ self.old.rows }
         requires plain { IsPlain line }
         ensures lines { self.new.lines ≡ self.old.lines ++ line ∷ [] }
-        ensures marked { self.new.marked ≡ self.old.marked }
+        ensures saved { self.new.saved ≡ self.old.saved }
         ensures rows { self.new.rows + 1 ≡ self.old.rows }
         ensures bytes { self.new.bytes ≡ self.old.bytes }
     {
@@ -226,7 +226,7 @@ impl Lines {
         requires rows { 1 ≤ self.old.rows }
         requires bytes { length bytes.now ≤ self.old.bytes }
         ensures lines { self.new.lines ≡ self.old.lines ++ line.Ctl port bytes.now ∷ [] }
-        ensures marked { self.new.marked ≡ self.old.marked }
+        ensures saved { self.new.saved ≡ self.old.saved }
         ensures rows { self.new.rows + 1 ≡ self.old.rows }
         ensures bytes { self.old.bytes ≤ self.new.bytes + length bytes.now }
     {
@@ -248,7 +248,7 @@ impl Lines {
         requires rows { 1 ≤ self.old.rows }
         requires bytes { (length front.now + length rest.now) + (length front.now + (length tag.now + length rest.now)) ≤ self.old.bytes }
         ensures lines { self.new.lines ≡ self.old.lines ++ sent_lines id ports untagged (front.now ++ rest.now) (front.now ++ (tag.now ++ rest.now)) }
-        ensures marked { self.new.marked ≡ self.old.marked }
+        ensures saved { self.new.saved ≡ self.old.saved }
         ensures rows { self.new.rows + 1 ≡ self.old.rows }
         ensures bytes { self.old.bytes ≤ self.new.bytes + ((length front.now + length rest.now) + (length front.now + (length tag.now + length rest.now))) }
     {
@@ -263,32 +263,32 @@ impl Lines {
         });
     }
 
-    /// Sets the mark behind the lines that there are.
-    pub fn mark(&mut self)
-        ensures marked { self.new.marked ≡ self.old.lines }
+    /// Sets the savepoint behind the lines that there are.
+    pub fn save(&mut self)
+        ensures saved { self.new.saved ≡ self.old.lines }
         ensures lines { self.new.lines ≡ self.old.lines }
         ensures rows { self.old.rows ≤ self.new.rows }
         ensures bytes { self.old.bytes ≤ self.new.bytes }
     {
-        self.mark = self.rows.len();
-        self.bytes_mark = self.bytes.len();
+        self.saved_rows = self.rows.len();
+        self.saved_bytes = self.bytes.len();
     }
 
-    /// The lines behind the mark, copied into the room that is kept for that. The mark is set behind them.
+    /// The lines behind the savepoint, copied into the room that is kept for that. The savepoint is set behind them.
     pub fn copy_out(&mut self, alloc: Global) -> Lines
-        ensures copy { self.old.lines ≡ self.old.marked ++ result.lines }
+        ensures copy { self.old.lines ≡ self.old.saved ++ result.lines }
         ensures lines { self.new.lines ≡ self.old.lines }
-        ensures marked { self.new.marked ≡ self.old.lines }
+        ensures saved { self.new.saved ≡ self.old.lines }
     {
         let mut rows = mem::replace(&mut self.copied_rows, Vec::new(alloc));
         let mut bytes = mem::replace(&mut self.copied_bytes, Vec::new(alloc));
-        add_moved(&mut rows, &self.rows[self.mark..], self.bytes_mark);
-        add(&mut bytes, &self.bytes[self.bytes_mark..]);
-        self.mark = self.rows.len();
-        self.bytes_mark = self.bytes.len();
+        add_moved(&mut rows, &self.rows[self.saved_rows..], self.saved_bytes);
+        add(&mut bytes, &self.bytes[self.saved_bytes..]);
+        self.saved_rows = self.rows.len();
+        self.saved_bytes = self.bytes.len();
         Lines {
-            mark: rows.len(),
-            bytes_mark: bytes.len(),
+            saved_rows: rows.len(),
+            saved_bytes: bytes.len(),
             rows,
             bytes,
             copied_rows: Vec::new(alloc),
@@ -296,14 +296,14 @@ impl Lines {
         }
     }
 
-    /// Takes back the lines behind the mark.
+    /// Takes back the lines behind the savepoint.
     pub fn cut(&mut self)
-        ensures lines { self.new.lines ≡ self.old.marked }
-        ensures marked { self.new.marked ≡ self.old.marked }
+        ensures lines { self.new.lines ≡ self.old.saved }
+        ensures saved { self.new.saved ≡ self.old.saved }
         ensures rows { self.old.rows ≤ self.new.rows }
         ensures bytes { self.new.bytes ≡ self.old.bytes }
     {
-        self.rows.truncate(self.mark);
+        self.rows.truncate(self.saved_rows);
     }
 
     /// The rows, and the arena in which their bytes stand: these rows over these bytes stand for the lines.

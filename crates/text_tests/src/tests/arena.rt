@@ -69,9 +69,9 @@ fn a_frame_is_one_row_over_the_arena(rt: HostRuntime) {
 }
 
 #[test]
-fn lines_are_cut_at_the_mark(rt: HostRuntime) {
+fn lines_are_cut_at_the_savepoint(rt: HostRuntime) {
     let mut lines = lines(&rt, rt.alloc());
-    lines.mark();
+    lines.save();
     let done = Line::Done {
         step: 2,
         changes: 0,
@@ -85,12 +85,12 @@ fn lines_are_cut_at_the_mark(rt: HostRuntime) {
     assert_bytes(&rt, lines.parts().1, &[], "the arena");
 }
 
-/// A row before the mark, and two behind it.
-fn marked(rt: &impl Abort, alloc: Global) -> Lines {
+/// A row before the savepoint, and two behind it.
+fn saved(rt: &impl Abort, alloc: Global) -> Lines {
     let mut lines = Lines::new(alloc);
     lines.reserve(3, 64).expect(rt, "memory");
     lines.push_ctl(Port::HOST, &[6, 6]);
-    lines.mark();
+    lines.save();
     lines.push_ctl(Port::HOST, &[7, 7, 7]);
     lines.push_reserved(Line::Soft { id: 7, point: 3 });
     lines
@@ -102,8 +102,8 @@ fn is_soft(row: &Row) -> bool {
 
 /// The rows of the copy name the same bytes in an arena of their own.
 #[test]
-fn a_copy_is_what_stands_behind_the_mark(rt: HostRuntime) {
-    let mut lines = marked(&rt, rt.alloc());
+fn a_copy_is_what_stands_behind_the_savepoint(rt: HostRuntime) {
+    let mut lines = saved(&rt, rt.alloc());
     let copy = lines.copy_out(rt.alloc());
     let (rows, arena) = copy.parts();
     assert!(rt; rows.len() == 2);

@@ -14,4 +14,4 @@ returns-clause-ok c =
     let f = c.args.frame.now in
     let first : List Line = Soft f.id c.args.point ∷ sent f.id (soft_out s.setup.domains (table (take c.args.point s.history)) f.port f.bytes f.head f.mark) in
     ended_behind of_sides s c.see-outcome.new.self s.chips c.args.lines.now.lines first _ _ _ c.args.step c.see-outcome.result _ _ _
-    (c.in_ok-soft_lines.ensures.lines ∙ ap (λ ls. ls ++ first) c.mark.ensures.lines) c.see-outcome.ensures.reacted c.last_line.ensures.lasts c.in-Ok.is c.push_reserved.ensures.lines
+    (c.in_ok-soft_lines.ensures.lines ∙ ap (λ ls. ls ++ first) c.save.ensures.lines) c.see-outcome.ensures.reacted c.last_line.ensures.lasts c.in-Ok.is c.push_reserved.ensures.lines

@@ -14,9 +14,9 @@ done c =
     let down = c.write_down in
     recorded c.self.inside.plane c.accept_to.new.self c.self.inside.steps.items ready.new.steps.items down.new.steps.items c.step_of-step.result
     c.self.inside.lines ready.new.lines c.accept_to.new.lines down.new.lines down.result.lines c.args.self.now c.self.invariant c.self.view_is
-    ready.ensures.steps ready.ensures.lines ready.ensures.marked
+    ready.ensures.steps ready.ensures.lines ready.ensures.saved
     (subst (λ (s : Step). Added (Steps c.self.inside.plane c.accept_to.new.self s) c.make_ready.new.lines.lines c.accept_to.new.lines.lines) (sym c.step_of-step.ensures)
-    (accepted c.args.e.now c.self.inside.plane c.accept_to.new.self c.make_ready.new.lines.lines c.accept_to.new.lines.lines c.in_ok-accept_to.ensures.ok)) c.in_ok-accept_to.ensures.marked
+    (accepted c.args.e.now c.self.inside.plane c.accept_to.new.self c.make_ready.new.lines.lines c.accept_to.new.lines.lines c.in_ok-accept_to.ensures.ok)) c.in_ok-accept_to.ensures.saved
     down.ensures.steps down.ensures.lines down.ensures.said (let chips = chip_domains c.self.inside.plane.world.setup.domains in
     ap (comes_by_line true chips) c.step_of-step.ensures ∙ event-comes chips c.args.e.now c.requires)
 

@@ -52,8 +52,8 @@ module _ (c : goal.After-write_down) where
       let down = c.write_down in
       recorded c.self.inside.plane c.post_to.new.self c.self.inside.steps.items ready.new.steps.items down.new.steps.items (Post c.args.h.id c.if-is_released.point)
       c.self.inside.lines ready.new.lines c.post_to.new.lines down.new.lines down.result.lines c.args.self.now c.self.invariant c.self.view_is
-      ready.ensures.steps ready.ensures.lines ready.ensures.marked
-      given.1 c.in_ok-post_to.ensures.marked
+      ready.ensures.steps ready.ensures.lines ready.ensures.saved
+      given.1 c.in_ok-post_to.ensures.saved
       down.ensures.steps down.ensures.lines down.ensures.said (post-comes (chip_domains c.self.inside.plane.world.setup.domains) c.args.h.id c.if-is_released.point)
 
 pub invariant_of-self-2 : goal.invariant_of-self-2

@@ -11,8 +11,8 @@ done c =
     let down = c.write_down in
     recorded c.self.inside.plane c.turn_to.new.self c.self.inside.steps.items ready.new.steps.items down.new.steps.items (Turn c.args.d)
     c.self.inside.lines ready.new.lines c.turn_to.new.lines down.new.lines down.result.lines c.args.self.now c.self.invariant c.self.view_is
-    ready.ensures.steps ready.ensures.lines ready.ensures.marked
-    (let a = c.in_ok-turn_to.ensures.turned in record { lines = a.lines; so = a.so.0; added = a.added }) c.in_ok-turn_to.ensures.marked
+    ready.ensures.steps ready.ensures.lines ready.ensures.saved
+    (let a = c.in_ok-turn_to.ensures.turned in record { lines = a.lines; so = a.so.0; added = a.added }) c.in_ok-turn_to.ensures.saved
     down.ensures.steps down.ensures.lines down.ensures.said (ap (λ (x : Past). has_chip x.setup.domains c.args.d) c.self.view_is ∙ c.requires)
 
 pub invariant_of-self-2 : goal.invariant_of-self-2

@@ -3,7 +3,7 @@ use Rattle.br_model.specs.declared.transcript.Line.{Line}
 use Rattle.transcript_lines.specs.declared.row.Row.{Row}
 use Rattle.transcript_lines.specs.declared.row.Row.TheVariants.{Sent}
 use Rattle.transcript_lines.specs.Rows.{Listed, sent_lines}
-use Rattle.transcript_lines.proofs.RowLaws.{at-first, at-last, fit_more, fits, grows, marked_kept, marked_more, pushed}
+use Rattle.transcript_lines.proofs.RowLaws.{at-first, at-last, fit_more, fits, grows, saved_kept, saved_more, pushed}
 use Rattle.std.proofs.lemmas.List.{append_assoc, length-append}
 use Rattle.transcript_lines.proofs.lines.Lines.push_sent.Goals as goal
 
@@ -39,7 +39,7 @@ module _ (c : goal.After-push_reserved) where
 
 pub invariant_of-self : goal.invariant_of-self
 invariant_of-self c = (
-  marked_more c.self.inside.bytes.items _ _ c.self.inside.rows.items _ (row c) _ _ c.self.invariant.0 (both c) c.push_reserved.ensures.items (
+  saved_more c.self.inside.bytes.items _ _ c.self.inside.rows.items _ (row c) _ _ c.self.invariant.0 (both c) c.push_reserved.ensures.items (
     omega (arith, fits _ _ _ c.store-plain.result c.store-plain.ensures.items c.store-plain.ensures.from c.store-plain.ensures.size, last c),
     fits _ _ _ c.store_tagged-tagged.result c.store_tagged-tagged.ensures.form.items c.store_tagged-tagged.ensures.form.from c.store_tagged-tagged.ensures.form.size,
   ) (
@@ -65,7 +65,7 @@ returns-clause-lines c =
 pub returns-clause-bytes : goal.returns-clause-bytes
 returns-clause-bytes c = omega (arith, c.store-plain.ensures.capacity, c.store_tagged-tagged.ensures.capacity, long c, few c, ap (λ (l : Listed). l.bytes) c.self.view_is)
 
-pub returns-clause-marked : goal.returns-clause-marked
-returns-clause-marked c =
-    marked_kept c.self.inside.bytes.items _ _ c.self.inside.rows.items _ (row c) c.self.inside.mark _ c.self.invariant.0.inside c.self.invariant.0.rows_before
-    (ap (λ (l : Listed). l.marked) c.self.view_is) (both c) c.push_reserved.ensures.items
+pub returns-clause-saved : goal.returns-clause-saved
+returns-clause-saved c =
+    saved_kept c.self.inside.bytes.items _ _ c.self.inside.rows.items _ (row c) c.self.inside.saved_rows _ c.self.invariant.0.inside c.self.invariant.0.rows_before
+    (ap (λ (l : Listed). l.saved) c.self.view_is) (both c) c.push_reserved.ensures.items
