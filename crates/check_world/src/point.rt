@@ -10,7 +10,7 @@ use crate::NoMemory;
 use br_model::change::Change;
 use br_model::domains::Domains;
 use forward_rules::{SoftTables, Verdict};
-use plane_parts::Frame;
+use plane_parts::Waiting;
 use std::alloc::Global;
 use std::marker::Model;
 
@@ -81,7 +81,7 @@ impl Point {
     }
 
     /// What its table decides of a frame.
-    pub fn decide(&self, frame: &Frame, domains: &Domains) -> Verdict
+    pub fn decide(&self, frame: &Waiting, domains: &Domains) -> Verdict
         ensures { Decides domains.now self.now.table frame.now.port frame.now.head (message_of frame.now.bytes frame.now.head) result }
     {
         self.tables

@@ -38,7 +38,7 @@ use br_model::steps::{Event, Refusal};
 use br_model::transcript::Line;
 use bridge_core::{Bridge, EventFault};
 use forward_rules::Verdict;
-use plane_parts::{Egress, Frame, Updates, make_room, send};
+use plane_parts::{Egress, Updates, Waiting, make_room, send};
 use plane_reactions::last_line;
 use std::alloc::Global;
 use std::marker::Model;
@@ -140,7 +140,7 @@ impl Sides {
     }
 
     /// The bridge sees a frame that software sent, as it reacts to an event.
-    fn see(&mut self, alloc: Global, frame: &Frame, lines: &mut Lines) -> Result<u32, EventFault>
+    fn see(&mut self, alloc: Global, frame: &Waiting, lines: &mut Lines) -> Result<u32, EventFault>
         requires { 1 ≤ lines.old.rows }
         ensures reacted { Reacted of_sides self.old self.new self.old.chips lines.old.lines lines.new.lines result
             (reaction self.old.setup self.old.history self.old.control (Event.Sight frame.now.port frame.now.bytes frame.now.head)) }
@@ -177,7 +177,7 @@ impl Sides {
     /// Adds the lines of a frame that is sent by a decision of the table at this point, with room for another line behind them.
     fn soft_lines(
         &self,
-        frame: &Frame,
+        frame: &Waiting,
         verdict: &Verdict,
         point: u32,
         lines: &mut Lines,
@@ -201,7 +201,7 @@ impl Sides {
     fn send_at(
         &mut self,
         alloc: Global,
-        frame: &Frame,
+        frame: &Waiting,
         point: u32,
         lines: &mut Lines,
     ) -> Result<(), NoMemory>
@@ -222,7 +222,7 @@ impl Sides {
         &mut self,
         alloc: Global,
         step: u32,
-        frame: &Frame,
+        frame: &Waiting,
         point: u32,
         lines: &mut Lines,
     ) -> Result<(), NoMemory>

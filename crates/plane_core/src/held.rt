@@ -6,7 +6,7 @@ use crate::NoMemory;
 use br_model::bytes::Bytes;
 use br_model::numbers::Port;
 use hwdom_marks::Mark;
-use plane_parts::{Frame, Holding};
+use plane_parts::{Holding, Waiting};
 use std::alloc::Global;
 
 /// A copy of a held frame, which the plane keeps. It is decided by no fewer changes than `floor`.
@@ -21,7 +21,7 @@ pub struct Held {
 }
 
 impl Held {
-    pub(crate) fn of(alloc: Global, frame: &Frame, floor: u32) -> Result<Held, NoMemory>
+    pub(crate) fn of(alloc: Global, frame: &Waiting, floor: u32) -> Result<Held, NoMemory>
         ensures { IfOk result (λ h. shown_by h ≡ shown_of (record { waiting = frame.now; floor = floor })) }
     {
         Ok(Held {

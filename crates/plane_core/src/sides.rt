@@ -44,7 +44,7 @@ use chip_tables::Tables;
 use forward_rules::{SoftTables, Verdict};
 use hwdom_chips::Chips;
 use learn_report::Report;
-use plane_parts::{Egress, Frame, Updates, make_room, send};
+use plane_parts::{Egress, Updates, Waiting, make_room, send};
 use plane_reactions::last_line;
 use std::alloc::{AllocError, Global};
 use std::marker::Model;
@@ -116,7 +116,7 @@ fn decide_anew(
     alloc: Global,
     domains: &Domains,
     changes: &[Change],
-    frame: &Frame,
+    frame: &Waiting,
 ) -> Result<Verdict, NoMemory>
     requires { AreWithin changes.now }
     ensures { IfOk result (Decides domains.now (table changes.now) frame.now.port frame.now.head (message_of frame.now.bytes frame.now.head)) }
@@ -189,7 +189,7 @@ impl Sides {
     }
 
     /// The bridge sees a frame that software sent, as it reacts to an event.
-    fn see(&mut self, alloc: Global, frame: &Frame, lines: &mut Lines) -> Result<u32, EventFault>
+    fn see(&mut self, alloc: Global, frame: &Waiting, lines: &mut Lines) -> Result<u32, EventFault>
         requires { 1 ≤ lines.old.rows }
         ensures reacted { Reacted of_sides self.old self.new self.old.chips lines.old.lines lines.new.lines result
             (reaction self.old.setup self.old.history self.old.control (Event.Sight frame.now.port frame.now.bytes frame.now.head)) }
@@ -286,7 +286,7 @@ impl Sides {
         &self,
         alloc: Global,
         seat: &mut Seat,
-        frame: &Frame,
+        frame: &Waiting,
     ) -> Result<Verdict, NoMemory>
         requires board { seat.old.board ≡ self.now.board }
         requires told { Begins seat.old.object (record {
@@ -304,7 +304,7 @@ impl Sides {
     }
 
     /// The same by tables that are made anew.
-    fn decide_anew(&self, alloc: Global, frame: &Frame) -> Result<Verdict, NoMemory>
+    fn decide_anew(&self, alloc: Global, frame: &Waiting) -> Result<Verdict, NoMemory>
         ensures { IfOk result (Decides self.now.setup.domains (table (take (length self.now.published.changes) self.now.history))
             frame.now.port frame.now.head (message_of frame.now.bytes frame.now.head)) }
     {
@@ -320,7 +320,7 @@ impl Sides {
     /// Adds the lines of a frame that is sent by a decision of the table at this point, with room for another line behind them.
     fn soft_lines(
         &self,
-        frame: &Frame,
+        frame: &Waiting,
         verdict: &Verdict,
         point: u32,
         lines: &mut Lines,
@@ -347,7 +347,7 @@ impl Sides {
         &mut self,
         alloc: Global,
         step: u32,
-        frame: &Frame,
+        frame: &Waiting,
         verdict: &Verdict,
         point: u32,
         lines: &mut Lines,
@@ -377,7 +377,7 @@ impl Sides {
         alloc: Global,
         step: u32,
         seat: &mut Seat,
-        frame: &Frame,
+        frame: &Waiting,
         lines: &mut Lines,
     ) -> Result<(), NoMemory>
         requires board { seat.old.board ≡ self.old.board }

@@ -12,7 +12,7 @@ ghost use Rattle.plane_parts.specs.Arrivals.{arrival, arrival_lines, settled, Is
 ghost use Rattle.transcript_lines.specs.Rows.{IsPlain};
 
 use crate::NoMemory;
-use crate::frame::{Frame, Holding};
+use crate::waiting::{Holding, Waiting};
 use br_model::bytes::Bytes;
 use br_model::frame::{Head, McastMsg};
 use br_model::limits::MOST_WAITING;
@@ -30,7 +30,7 @@ use transcript_lines::Lines;
 pub enum Arrival {
     /// It doesn't go on to software.
     PassesBy,
-    Waits(Frame),
+    Waits(Waiting),
     /// It would wait, but as many wait or are held as may.
     Overruns,
 }
@@ -54,7 +54,7 @@ impl Arrival {
 #[derive(Drop)]
 pub struct Frames {
     // The oldest first. It has its room from the beginning.
-    waiting: VecDeque<Frame>,
+    waiting: VecDeque<Waiting>,
     // By their ids.
     held: BTreeMap<u32, Holding>,
     next: u32,
@@ -75,7 +75,7 @@ impl Model for Frames {
 }
 
 /// The oldest leaves. One that waits alone leaves from the back, so that the next takes its place, and no walk goes round all the room.
-fn take_oldest(waiting: &mut VecDeque<Frame>) -> Option<Frame>
+fn take_oldest(waiting: &mut VecDeque<Waiting>) -> Option<Waiting>
     ensures oldest { result ≡ slice_get waiting.old.items 0 }
     ensures rest { waiting.new.items ≡ drop 1 waiting.old.items }
     ensures capacity { deque_capacity waiting.new ≡ deque_capacity waiting.old }
@@ -149,7 +149,7 @@ impl Frames {
         if self.is_full() {
             return Arrival::Overruns;
         }
-        Arrival::Waits(Frame::of(self.next, port, bytes, *head, *message, mark))
+        Arrival::Waits(Waiting::of(self.next, port, bytes, *head, *message, mark))
     }
 
     /// The next id is taken by a frame that arrived.
@@ -165,14 +165,14 @@ impl Frames {
     }
 
     /// The frame that waits longest.
-    pub fn oldest(&self) -> Option<&Frame>
+    pub fn oldest(&self) -> Option<&Waiting>
         ensures { option_copied result ≡ slice_get self.now.waiting 0 }
     {
         self.waiting.front()
     }
 
     /// The frame that waits longest leaves.
-    pub fn serve(&mut self) -> Option<Frame>
+    pub fn serve(&mut self) -> Option<Waiting>
         ensures oldest { result ≡ slice_get self.old.waiting 0 }
         ensures rest { self.new ≡ record self.old { waiting = drop 1 self.old.waiting } }
     {

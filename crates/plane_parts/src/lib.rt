@@ -2,13 +2,13 @@
 //! leaves, and where the deferred changes of a history stand.
 #![tactic(auto)]
 
-pub mod frame;
 pub mod frames;
 pub mod sending;
 pub mod updates;
+pub mod waiting;
 
 pub use br_model::NoMemory;
-pub use frame::{Frame, Holding};
 pub use frames::{Arrival, Frames};
 pub use sending::{Egress, make_room, send};
 pub use updates::Updates;
+pub use waiting::{Holding, Waiting};

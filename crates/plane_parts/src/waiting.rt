@@ -12,7 +12,7 @@ use std::marker::Model;
 
 /// A frame on its way to software, with the header of its bytes and what they say to snooping. Its mark names the domain in which a chip has sent it.
 #[derive(Drop)]
-pub struct Frame {
+pub struct Waiting {
     id: u32,
     port: Port,
     bytes: Bytes,
@@ -21,21 +21,21 @@ pub struct Frame {
     mark: Option<Mark>,
 }
 
-impl Model for Frame {
+impl Model for Waiting {
     ghost use Rattle.std.specs.Prelude.{◌≡◌, Ok};
     ghost use Rattle.br_model.specs.Wire.Frames.{frame as frame_of};
     ghost use Rattle.br_model.specs.Wire.Messages.{message as message_of};
-    ghost use Rattle.br_model.specs.Plane.World.{Waiting};
+    ghost use Rattle.br_model.specs.Plane.World.{Waiting as WaitingValue};
     ghost use Rattle.hwdom_marks.specs.Marks.{domain_marked};
 
-    ghost Value = { Waiting };
+    ghost Value = { WaitingValue };
 
     ghost view = { λ f. record { id = f.id; port = f.port; bytes = f.bytes; head = f.head; mark = domain_marked f.mark } };
 
     ghost invariant = { λ f. (frame_of f.bytes ≡ Ok f.head) × (f.message ≡ message_of f.bytes f.head) };
 }
 
-impl Frame {
+impl Waiting {
     /// The frame whose header and message were read already. `id` is its number among those that entered.
     pub fn of(
         id: u32,
@@ -44,12 +44,12 @@ impl Frame {
         head: Head,
         message: McastMsg,
         mark: Option<Mark>,
-    ) -> Frame
+    ) -> Waiting
         requires frame { frame_of bytes ≡ Ok head }
         requires message { message ≡ message_of bytes head }
         ensures { result ≡ record { id = id; port = port; bytes = bytes; head = head; mark = domain_marked mark } }
     {
-        Frame {
+        Waiting {
             id,
             port,
             bytes,
@@ -103,7 +103,7 @@ impl Frame {
 /// A frame that software holds, and the published count from then, by which it may be decided at the earliest.
 #[derive(Drop)]
 pub struct Holding {
-    frame: Frame,
+    frame: Waiting,
     floor: u32,
 }
 
@@ -117,13 +117,13 @@ impl Model for Holding {
 
 impl Holding {
     /// `floor` is how many changes are published when the frame is held.
-    pub fn of(frame: Frame, floor: u32) -> Holding
+    pub fn of(frame: Waiting, floor: u32) -> Holding
         ensures { result ≡ record { waiting = frame; floor = floor } }
     {
         Holding { frame, floor }
     }
 
-    pub fn frame(&self) -> &Frame
+    pub fn frame(&self) -> &Waiting
         ensures { result.now ≡ self.now.waiting }
     {
         &self.frame
@@ -135,7 +135,7 @@ impl Holding {
         self.floor
     }
 
-    pub fn into_frame(self) -> Frame
+    pub fn into_frame(self) -> Waiting
         ensures { result ≡ self.waiting }
     {
         self.frame
