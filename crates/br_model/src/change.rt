@@ -174,8 +174,8 @@ impl Change {
     }
 
     /// Whether it reaches a chip through the queue, and not in the step that accepts it.
-    pub fn is_deferred(&self, e: Edition) -> bool
-        ensures { result ≡ deferred e self.now }
+    pub fn is_deferred(&self, edition: Edition) -> bool
+        ensures { result ≡ deferred edition self.now }
     {
         match self {
             Change::PortUp(_)
@@ -188,7 +188,7 @@ impl Change {
             | Change::Querier { .. }
             | Change::Snoop(_)
             | Change::Stp(_) => false,
-            Change::GroupJoin { .. } | Change::GroupPart { .. } => e.defers_groups(),
+            Change::GroupJoin { .. } | Change::GroupPart { .. } => edition.defers_groups(),
             Change::AddrPut { .. } | Change::AddrDel { .. } => true,
         }
     }

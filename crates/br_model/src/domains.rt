@@ -115,19 +115,19 @@ impl Domains {
     }
 
     /// Whether the domain has a chip.
-    pub fn has_chip(&self, d: Dom) -> bool
-        ensures { result ≡ has_chip self.now d }
+    pub fn has_chip(&self, dom: Dom) -> bool
+        ensures { result ≡ has_chip self.now dom }
     {
         // law: the number is in range
-        let _number = d.number();
-        d == Dom::CHIP || (d != Dom::SOFTWARE && is_declared(&self.by_port, d))
+        let _number = dom.number();
+        dom == Dom::CHIP || (dom != Dom::SOFTWARE && is_declared(&self.by_port, dom))
     }
 
     /// The ports of the domain.
-    pub fn ports_of(&self, d: Dom) -> Ports
-        ensures { result ≡ ports_in self.now d }
+    pub fn ports_of(&self, dom: Dom) -> Ports
+        ensures { result ≡ ports_in self.now dom }
     {
-        self.members[usize::from(d.number())]
+        self.members[usize::from(dom.number())]
     }
 }
 

@@ -29,14 +29,14 @@ fn later_command(words: &[&str], r: &Roster) -> Result<Command, LineWhy>
 
 /// The command that the words after `cmd` say, or the cause for which its line is bad.
 #[tactic(auto, using(br_model::proofs::Text::Words::words))]
-pub fn read_command(words: &[&str], r: &Roster) -> Result<Command, LineWhy>
-    ensures { result ≡ line commands r.now (length words.now) (word words.now) }
+pub fn read_command(words: &[&str], roster: &Roster) -> Result<Command, LineWhy>
+    ensures { result ≡ line commands roster.now (length words.now) (word words.now) }
 {
     match *words {
-        ["port", ..] => port_command(words, r),
-        ["link", ..] => link_command(words, r),
-        ["vlan", ..] => vlan_command(words, r),
-        ["fdb", ..] => fdb_command(words, r),
-        _ => later_command(words, r),
+        ["port", ..] => port_command(words, roster),
+        ["link", ..] => link_command(words, roster),
+        ["vlan", ..] => vlan_command(words, roster),
+        ["fdb", ..] => fdb_command(words, roster),
+        _ => later_command(words, roster),
     }
 }

@@ -154,13 +154,13 @@ impl Roster {
     }
 
     /// The name with which the port was declared.
-    pub fn name(&self, p: Port) -> Option<&str>
-        ensures found { is_some result ≡ has_number self.now.ports p }
-        ensures value { IfSome result (λ name. name.now ≡ name_of self.now.ports p) }
+    pub fn name(&self, port: Port) -> Option<&str>
+        ensures found { is_some result ≡ has_number self.now.ports port }
+        ensures value { IfSome result (λ name. name.now ≡ name_of self.now.ports port) }
         ensures declared { are_declared self.now.ports ≡ true }
     {
         for i in 0..self.len() {
-            if self.is_at(i, p) {
+            if self.is_at(i, port) {
                 return self.name_at(i);
             }
         }
@@ -363,10 +363,10 @@ impl Roster {
     }
 
     /// The scenario begins, in this edition.
-    pub fn open(&mut self, e: Edition)
-        ensures { self.new ≡ declared self.old (Opens e) }
+    pub fn open(&mut self, edition: Edition)
+        ensures { self.new ≡ declared self.old (Opens edition) }
     {
-        self.domains = self.domains.again().with_edition(e);
+        self.domains = self.domains.again().with_edition(edition);
         self.place = Place::Header;
     }
 

@@ -49,13 +49,13 @@ fn add(alloc: Global, cuts: &mut Vec<Cut>, number: usize, d: &Domains) -> Result
 
 impl Cuts {
     /// Those of the domains that have a chip, before any change.
-    pub fn make(alloc: Global, d: &Domains) -> Result<Cuts, NoMemory>
-        ensures stand { IfOk result (AreCuts d.now []) }
-        ensures first { IfOk result (λ c. chips_of c ≡ first_chips d.now) }
+    pub fn make(alloc: Global, domains: &Domains) -> Result<Cuts, NoMemory>
+        ensures stand { IfOk result (AreCuts domains.now []) }
+        ensures first { IfOk result (λ c. chips_of c ≡ first_chips domains.now) }
     {
         let mut cuts = Vec::new(alloc);
         for number in 1..Dom::PLACES {
-            add(alloc, &mut cuts, number, d)?;
+            add(alloc, &mut cuts, number, domains)?;
         }
         Ok(Cuts { cuts })
     }
@@ -73,10 +73,10 @@ impl Cuts {
     }
 
     /// Whether the domain has a chip.
-    pub fn has(&self, d: Dom) -> bool
-        ensures { result ≡ is_some (state_in self.now d) }
+    pub fn has(&self, dom: Dom) -> bool
+        ensures { result ≡ is_some (state_in self.now dom) }
     {
-        self.find(d).is_some()
+        self.find(dom).is_some()
     }
 
     /// Where the cut of the domain's chip stands.
@@ -91,24 +91,24 @@ impl Cuts {
     }
 
     /// The cut of the domain's chip.
-    pub fn at(&self, d: Dom) -> &Cut
-        requires { is_some (state_in self.now d) ≡ true }
-        ensures { state_in self.now d ≡ Some result.now }
+    pub fn at(&self, dom: Dom) -> &Cut
+        requires { is_some (state_in self.now dom) ≡ true }
+        ensures { state_in self.now dom ≡ Some result.now }
     {
-        &self.cuts[self.place(d)]
+        &self.cuts[self.place(dom)]
     }
 
     /// They follow the changes that the history got behind its first `from` ones: each applies the synchronous ones, and the deferred
     /// ones wait.
-    pub fn follow(&mut self, d: &Domains, history: &[Change], from: usize)
+    pub fn follow(&mut self, domains: &Domains, history: &[Change], from: usize)
         requires from { from ≤ length history.now }
         requires history { AreWithin history.now }
-        requires stand { AreCuts d.now (take from history.now) self.old }
-        ensures stand { AreCuts d.now history.now self.new }
+        requires stand { AreCuts domains.now (take from history.now) self.old }
+        ensures stand { AreCuts domains.now history.now self.new }
         ensures chips { chips_of self.new ≡ chips_of self.old }
     {
         for place in 0..self.cuts.len() {
-            self.cuts[place].follow(history, from, d.edition());
+            self.cuts[place].follow(history, from, domains.edition());
         }
     }
 
@@ -127,42 +127,42 @@ impl Cuts {
     }
 
     /// The domain's chip applies a deferred change, the next one.
-    pub fn turn(&mut self, d: Dom, change: &Change) -> Result<(), NoMemory>
-        requires there { is_some (state_in self.old d) ≡ true }
-        requires fits { (c : CutState) → state_in self.old d ≡ Some c → IsTrue (fits c.table change.now) }
-        requires count { (c : CutState) → state_in self.old d ≡ Some c → c.chip.count < most_changes }
-        ensures ok { OnOk result (Changed self.old self.new d (λ c e. e ≡ turned c change.now)) }
-        ensures err { OnErr result (Changed self.old self.new d KeepsTable) }
+    pub fn turn(&mut self, dom: Dom, change: &Change) -> Result<(), NoMemory>
+        requires there { is_some (state_in self.old dom) ≡ true }
+        requires fits { (c : CutState) → state_in self.old dom ≡ Some c → IsTrue (fits c.table change.now) }
+        requires count { (c : CutState) → state_in self.old dom ≡ Some c → c.chip.count < most_changes }
+        ensures ok { OnOk result (Changed self.old self.new dom (λ c e. e ≡ turned c change.now)) }
+        ensures err { OnErr result (Changed self.old self.new dom KeepsTable) }
     {
-        let place = self.place(d);
+        let place = self.place(dom);
         self.cuts[place].turn(change)
     }
 
     /// The domain's chip notes what a frame at the port leaves.
-    pub fn note(&mut self, d: Dom, port: Port, head: &Head) -> Result<(), NoMemory>
-        requires { is_some (state_in self.old d) ≡ true }
-        ensures ok { OnOk result (Changed self.old self.new d (λ c e. e ≡ noted c port head.now)) }
-        ensures err { OnErr result (Changed self.old self.new d KeepsTable) }
+    pub fn note(&mut self, dom: Dom, port: Port, head: &Head) -> Result<(), NoMemory>
+        requires { is_some (state_in self.old dom) ≡ true }
+        ensures ok { OnOk result (Changed self.old self.new dom (λ c e. e ≡ noted c port head.now)) }
+        ensures err { OnErr result (Changed self.old self.new dom KeepsTable) }
     {
-        let place = self.place(d);
+        let place = self.place(dom);
         self.cuts[place].note(port, head)
     }
 
     /// The oldest report of the domain's chip leaves.
-    pub fn drop_report(&mut self, d: Dom)
-        requires { is_some (state_in self.old d) ≡ true }
-        ensures { Changed self.old self.new d (λ c e. e ≡ told_first c) }
+    pub fn drop_report(&mut self, dom: Dom)
+        requires { is_some (state_in self.old dom) ≡ true }
+        ensures { Changed self.old self.new dom (λ c e. e ≡ told_first c) }
     {
-        let place = self.place(d);
+        let place = self.place(dom);
         self.cuts[place].drop_report();
     }
 
     /// No entry of the domain's chip is hit.
-    pub fn clear_hits(&mut self, d: Dom)
-        requires { is_some (state_in self.old d) ≡ true }
-        ensures { Changed self.old self.new d (λ c e. e ≡ without_hits c) }
+    pub fn clear_hits(&mut self, dom: Dom)
+        requires { is_some (state_in self.old dom) ≡ true }
+        ensures { Changed self.old self.new dom (λ c e. e ≡ without_hits c) }
     {
-        let place = self.place(d);
+        let place = self.place(dom);
         self.cuts[place].clear_hits();
     }
 }

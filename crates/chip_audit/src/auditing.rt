@@ -47,25 +47,25 @@ fn entries(alloc: Global, p: &Plane, d: Dom, rows: &[Row]) -> Result<Entries, No
 
 /// Compares the domain's chip with the bridge. It reads the chip's rows and the updates that the chip hasn't applied, and no other
 /// change of the history.
-pub fn compare(alloc: Global, p: &Plane, d: Dom) -> Result<Comparison, NoMemory>
-    requires { has_chip p.now.world.setup.domains d ≡ true }
-    ensures { IfOk result (λ a. (c : Chip) → chip_at p.now.world d ≡ Some c → a ≡ audit_of p.now.world c) }
+pub fn compare(alloc: Global, plane: &Plane, dom: Dom) -> Result<Comparison, NoMemory>
+    requires { has_chip plane.now.world.setup.domains dom ≡ true }
+    ensures { IfOk result (λ a. (c : Chip) → chip_at plane.now.world dom ≡ Some c → a ≡ audit_of plane.now.world c) }
 {
-    let rows = rows(alloc, p.tables(d))?;
-    let entries = entries(alloc, p, d, &rows)?;
+    let rows = rows(alloc, plane.tables(dom))?;
+    let entries = entries(alloc, plane, dom, &rows)?;
     let stale = gone(alloc, &entries, &rows)?;
-    let waiting = p.pending(d);
+    let waiting = plane.pending(dom);
     Ok(Comparison::of(entries, stale, waiting))
 }
 
 /// The same, as keys.
-pub fn audit(alloc: Global, p: &Plane, d: Dom) -> Result<Audit, NoMemory>
-    requires { has_chip p.now.world.setup.domains d ≡ true }
-    ensures offloaded { IfOk result (λ a. (c : Chip) → chip_at p.now.world d ≡ Some c → a.offloaded ≡ offloaded_keys (audit_of p.now.world c)) }
-    ensures pending { IfOk result (λ a. (c : Chip) → chip_at p.now.world d ≡ Some c → a.pending ≡ pending_keys (audit_of p.now.world c)) }
-    ensures stale { IfOk result (λ a. (c : Chip) → chip_at p.now.world d ≡ Some c → a.stale ≡ stale_keys (audit_of p.now.world c)) }
-    ensures waiting { IfOk result (λ a. (c : Chip) → chip_at p.now.world d ≡ Some c → a.waiting ≡ (audit_of p.now.world c).waiting) }
+pub fn audit(alloc: Global, plane: &Plane, dom: Dom) -> Result<Audit, NoMemory>
+    requires { has_chip plane.now.world.setup.domains dom ≡ true }
+    ensures offloaded { IfOk result (λ a. (c : Chip) → chip_at plane.now.world dom ≡ Some c → a.offloaded ≡ offloaded_keys (audit_of plane.now.world c)) }
+    ensures pending { IfOk result (λ a. (c : Chip) → chip_at plane.now.world dom ≡ Some c → a.pending ≡ pending_keys (audit_of plane.now.world c)) }
+    ensures stale { IfOk result (λ a. (c : Chip) → chip_at plane.now.world dom ≡ Some c → a.stale ≡ stale_keys (audit_of plane.now.world c)) }
+    ensures waiting { IfOk result (λ a. (c : Chip) → chip_at plane.now.world dom ≡ Some c → a.waiting ≡ (audit_of plane.now.world c).waiting) }
 {
-    let comparison = compare(alloc, p, d)?;
+    let comparison = compare(alloc, plane, dom)?;
     comparison.audit(alloc)
 }

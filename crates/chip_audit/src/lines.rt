@@ -132,14 +132,14 @@ fn append_numbered(
 /// Appends the audit of each domain that has a chip, ascending.
 pub fn append_audit(
     alloc: Global,
-    p: &Plane,
+    plane: &Plane,
     roster: &Roster,
     to: &mut String,
 ) -> Result<(), NoMemory>
-    ensures { OnOk result (string_bytes to.new ≡ string_bytes to.old ++ world_lines roster.now.ports p.now.world) }
+    ensures { OnOk result (string_bytes to.new ≡ string_bytes to.old ++ world_lines roster.now.ports plane.now.world) }
 {
     for number in 1..Dom::PLACES {
-        append_numbered(alloc, p, number, roster, to)?;
+        append_numbered(alloc, plane, number, roster, to)?;
     }
     Ok(())
 }

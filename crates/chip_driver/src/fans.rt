@@ -84,13 +84,13 @@ fn refresh_row(tables: &mut Tables, shadow: &Shadow, v: Vid, fan: Fan, touched: 
 }
 
 /// Makes the rows of a VLAN anew that are touched.
-pub fn refresh_vlan(tables: &mut Tables, shadow: &Shadow, touched: &Touched, v: Vid)
-    ensures { Refreshes (λ w k. (w == v) && touched_of touched.now k) shadow.now tables.old tables.new }
+pub fn refresh_vlan(tables: &mut Tables, shadow: &Shadow, touched: &Touched, vid: Vid)
+    ensures { Refreshes (λ w k. (w == vid) && touched_of touched.now k) shadow.now tables.old tables.new }
 {
-    refresh_row(tables, shadow, v, Fan::Floods(Flood::Unicast), touched.unicast);
-    refresh_row(tables, shadow, v, Fan::Floods(Flood::Mcast), touched.mcast);
-    refresh_row(tables, shadow, v, Fan::Floods(Flood::Bcast), touched.bcast);
-    refresh_row(tables, shadow, v, Fan::Routers, touched.routers);
+    refresh_row(tables, shadow, vid, Fan::Floods(Flood::Unicast), touched.unicast);
+    refresh_row(tables, shadow, vid, Fan::Floods(Flood::Mcast), touched.mcast);
+    refresh_row(tables, shadow, vid, Fan::Floods(Flood::Bcast), touched.bcast);
+    refresh_row(tables, shadow, vid, Fan::Routers, touched.routers);
 }
 
 /// Makes those rows anew of the VLAN 64 i + n, if there is one.
@@ -125,10 +125,10 @@ fn refresh_all(tables: &mut Tables, shadow: &Shadow, joined: &Joined, touched: &
 }
 
 /// Makes those rows of each VLAN anew of which the port is a member, and looks at none where it is touched of no row.
-pub fn refresh(tables: &mut Tables, shadow: &Shadow, joined: &Joined, touched: &Touched, p: Port)
-    ensures { Refreshes (λ w k. has_vlan joined.now p w && touched_of touched.now k) shadow.now tables.old tables.new }
+pub fn refresh(tables: &mut Tables, shadow: &Shadow, joined: &Joined, touched: &Touched, port: Port)
+    ensures { Refreshes (λ w k. has_vlan joined.now port w && touched_of touched.now k) shadow.now tables.old tables.new }
 {
     if touched.of_fans() {
-        refresh_all(tables, shadow, joined, touched, p);
+        refresh_all(tables, shadow, joined, touched, port);
     }
 }

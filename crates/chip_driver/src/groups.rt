@@ -65,51 +65,51 @@ pub fn refresh(
     shadow: &Shadow,
     groups: &Groups,
     touched: bool,
-    p: Port,
+    port: Port,
     vid: Option<Vid>,
 )
     requires { AreUsed groups.now tables.old }
-    ensures { RefreshesGroups (λ k. touched && (is_among vid k.0 && is_member groups.now p k))
+    ensures { RefreshesGroups (λ k. touched && (is_among vid k.0 && is_member groups.now port k))
         shadow.now groups.now tables.old tables.new }
 {
     if touched {
-        refresh_any(tables, shadow, groups, p, vid);
+        refresh_any(tables, shadow, groups, port, vid);
     }
 }
 
 /// Joins a port to a group, and makes its row anew.
-pub fn join(tables: &mut Tables, shadow: &Shadow, groups: &mut Groups, v: Vid, g: Group, p: Port)
-    requires room { IsTrue (has_room groups.old v g) }
+pub fn join(tables: &mut Tables, shadow: &Shadow, groups: &mut Groups, vid: Vid, group: Group, port: Port)
+    requires room { IsTrue (has_room groups.old vid group) }
     requires follow { GroupsFollow shadow.now groups.old tables.old }
-    ensures members { groups.new ≡ joined membership_cmp groups.old (v, g, p) }
+    ensures members { groups.new ≡ joined membership_cmp groups.old (vid, group, port) }
     ensures follow { GroupsFollow shadow.now groups.new tables.new }
     ensures rest { tables.new ≡ record tables.old { groups = tables.new.groups } }
 {
     // law: the VLAN is in range
-    let _number = v.number();
-    groups.join(v, g, p);
+    let _number = vid.number();
+    groups.join(vid, group, port);
     // law: groups ascend, within their limit
     groups.members_ascend();
-    let row = group_row(tables, shadow, groups, v, g);
-    tables.set_group(v, g, Some(row));
+    let row = group_row(tables, shadow, groups, vid, group);
+    tables.set_group(vid, group, Some(row));
 }
 
 /// Parts a port from a group, and makes its row anew, which goes with the last member.
-pub fn part(tables: &mut Tables, shadow: &Shadow, groups: &mut Groups, v: Vid, g: Group, p: Port)
+pub fn part(tables: &mut Tables, shadow: &Shadow, groups: &mut Groups, vid: Vid, group: Group, port: Port)
     requires { GroupsFollow shadow.now groups.old tables.old }
-    ensures members { groups.new ≡ parted membership_cmp groups.old (v, g, p) }
+    ensures members { groups.new ≡ parted membership_cmp groups.old (vid, group, port) }
     ensures follow { GroupsFollow shadow.now groups.new tables.new }
     ensures rest { tables.new ≡ record tables.old { groups = tables.new.groups } }
 {
     // law: the VLAN is in range
-    let _number = v.number();
-    groups.part(v, g, p);
+    let _number = vid.number();
+    groups.part(vid, group, port);
     // law: groups ascend, within their limit
     groups.members_ascend();
-    let row = if groups.members(v, g).is_empty() {
+    let row = if groups.members(vid, group).is_empty() {
         None
     } else {
-        Some(group_row(tables, shadow, groups, v, g))
+        Some(group_row(tables, shadow, groups, vid, group))
     };
-    tables.set_group(v, g, row);
+    tables.set_group(vid, group, row);
 }

@@ -28,121 +28,121 @@ pub struct Kept {
 
 impl Kept {
     /// Writes the row of a port, and makes those rows anew that tell of it.
-    pub fn write_port(&mut self, p: Port, row: PortRow)
+    pub fn write_port(&mut self, port: Port, row: PortRow)
         requires kept { IsKept self.old }
-        requires own { row.own ≡ (port_at self.old.tables p).own }
+        requires own { row.own ≡ (port_at self.old.tables port).own }
         requires state { row.state ≤ 4 }
         ensures kept { IsKept self.new }
         ensures routers { self.new.shadow.routers ≡ self.old.shadow.routers }
         ensures members { self.new.groups ≡ self.old.groups }
-        ensures row { WritesPort self.old.tables self.new.tables p row }
+        ensures row { WritesPort self.old.tables self.new.tables port row }
         ensures rest { IsRemade (record self.old.tables { ports = self.new.tables.ports }) self.new.tables }
-        ensures below { p < port_places }
+        ensures below { port < port_places }
     {
         // law: the port is in range
-        let _number = p.number();
-        let before = Shares::of(&self.shadow, p, true);
-        self.tables.set_port(p, row);
-        self.shadow.note(p, &row);
-        let touched = before.touched(&Shares::of(&self.shadow, p, true));
-        fans::refresh(&mut self.tables, &self.shadow, &self.joined, &touched, p);
+        let _number = port.number();
+        let before = Shares::of(&self.shadow, port, true);
+        self.tables.set_port(port, row);
+        self.shadow.note(port, &row);
+        let touched = before.touched(&Shares::of(&self.shadow, port, true));
+        fans::refresh(&mut self.tables, &self.shadow, &self.joined, &touched, port);
         groups::refresh(
             &mut self.tables,
             &self.shadow,
             &self.groups,
             touched.groups,
-            p,
+            port,
             None,
         );
     }
 
     /// Puts a router behind a port or not, and makes those rows anew that tell of it.
-    pub fn write_router(&mut self, p: Port, on: bool)
+    pub fn write_router(&mut self, port: Port, on: bool)
         requires { IsKept self.old }
         ensures kept { IsKept self.new }
-        ensures routers { self.new.shadow.routers ≡ switched self.old.shadow.routers p on }
+        ensures routers { self.new.shadow.routers ≡ switched self.old.shadow.routers port on }
         ensures members { self.new.groups ≡ self.old.groups }
         ensures rest { IsRemade self.old.tables self.new.tables }
     {
-        let before = Shares::of(&self.shadow, p, true);
-        self.shadow.routers.switch(p.number(), on);
-        let touched = before.touched(&Shares::of(&self.shadow, p, true));
-        fans::refresh(&mut self.tables, &self.shadow, &self.joined, &touched, p);
+        let before = Shares::of(&self.shadow, port, true);
+        self.shadow.routers.switch(port.number(), on);
+        let touched = before.touched(&Shares::of(&self.shadow, port, true));
+        fans::refresh(&mut self.tables, &self.shadow, &self.joined, &touched, port);
         groups::refresh(
             &mut self.tables,
             &self.shadow,
             &self.groups,
             touched.groups,
-            p,
+            port,
             None,
         );
     }
 
     /// Switches a membership, and makes those rows of the VLAN anew that tell of it.
-    pub fn write_member(&mut self, p: Port, v: Vid, on: bool, untagged: bool)
+    pub fn write_member(&mut self, port: Port, vid: Vid, on: bool, untagged: bool)
         requires { IsKept self.old }
         ensures kept { IsKept self.new }
         ensures shadow { self.new.shadow ≡ self.old.shadow }
         ensures members { self.new.groups ≡ self.old.groups }
-        ensures row { WritesVlan self.old.tables self.new.tables v (switched_row (vlan_at self.old.tables v) p on untagged) }
+        ensures row { WritesVlan self.old.tables self.new.tables vid (switched_row (vlan_at self.old.tables vid) port on untagged) }
         ensures rest { IsRemade (record self.old.tables { vlans = self.new.tables.vlans }) self.new.tables }
     {
-        let row = self.tables.vlan(v);
-        let n = p.number();
+        let row = self.tables.vlan(vid);
+        let n = port.number();
         let members = switched(row.members, n, on);
         let untagged = switched(row.untagged, n, untagged);
-        let before = Shares::of(&self.shadow, p, row.members.has(n));
-        let touched = before.touched(&Shares::of(&self.shadow, p, on));
-        self.tables.set_vlan(v, VlanRow { members, untagged });
-        self.joined.switch(p, v, on);
-        fans::refresh_vlan(&mut self.tables, &self.shadow, &touched, v);
+        let before = Shares::of(&self.shadow, port, row.members.has(n));
+        let touched = before.touched(&Shares::of(&self.shadow, port, on));
+        self.tables.set_vlan(vid, VlanRow { members, untagged });
+        self.joined.switch(port, vid, on);
+        fans::refresh_vlan(&mut self.tables, &self.shadow, &touched, vid);
         groups::refresh(
             &mut self.tables,
             &self.shadow,
             &self.groups,
             touched.groups,
-            p,
-            Some(v),
+            port,
+            Some(vid),
         );
     }
 
     /// Writes the VLAN of a port's untagged frames, on which no other row depends.
-    pub fn write_pvid(&mut self, p: Port, pvid: Option<Vid>)
+    pub fn write_pvid(&mut self, port: Port, pvid: Option<Vid>)
         requires { IsKept self.old }
         ensures kept { IsKept self.new }
         ensures shadow { self.new.shadow ≡ self.old.shadow }
         ensures members { self.new.groups ≡ self.old.groups }
-        ensures row { WritesPort self.old.tables self.new.tables p (record (port_at self.old.tables p) { pvid = pvid }) }
+        ensures row { WritesPort self.old.tables self.new.tables port (record (port_at self.old.tables port) { pvid = pvid }) }
         ensures rest { self.new.tables ≡ record self.old.tables { ports = self.new.tables.ports } }
-        ensures below { p < port_places }
+        ensures below { port < port_places }
     {
         // law: the port is in range
-        let _number = p.number();
-        let mut row = self.tables.port(p);
+        let _number = port.number();
+        let mut row = self.tables.port(port);
         row.pvid = pvid;
-        self.tables.set_port(p, row);
+        self.tables.set_port(port, row);
     }
 
     /// Joins a port to a group, and makes its row anew.
-    pub fn join(&mut self, v: Vid, g: Group, p: Port)
+    pub fn join(&mut self, vid: Vid, group: Group, port: Port)
         requires kept { IsKept self.old }
-        requires room { IsTrue (has_room self.old.groups v g) }
+        requires room { IsTrue (has_room self.old.groups vid group) }
         ensures kept { IsKept self.new }
         ensures shadow { self.new.shadow ≡ self.old.shadow }
-        ensures members { self.new.groups ≡ joined membership_cmp self.old.groups (v, g, p) }
+        ensures members { self.new.groups ≡ joined membership_cmp self.old.groups (vid, group, port) }
         ensures rest { self.new.tables ≡ record self.old.tables { groups = self.new.tables.groups } }
     {
-        groups::join(&mut self.tables, &self.shadow, &mut self.groups, v, g, p);
+        groups::join(&mut self.tables, &self.shadow, &mut self.groups, vid, group, port);
     }
 
     /// Parts a port from a group, and makes its row anew, which goes with the last member.
-    pub fn part(&mut self, v: Vid, g: Group, p: Port)
+    pub fn part(&mut self, vid: Vid, group: Group, port: Port)
         requires { IsKept self.old }
         ensures kept { IsKept self.new }
         ensures shadow { self.new.shadow ≡ self.old.shadow }
-        ensures members { self.new.groups ≡ parted membership_cmp self.old.groups (v, g, p) }
+        ensures members { self.new.groups ≡ parted membership_cmp self.old.groups (vid, group, port) }
         ensures rest { self.new.tables ≡ record self.old.tables { groups = self.new.tables.groups } }
     {
-        groups::part(&mut self.tables, &self.shadow, &mut self.groups, v, g, p);
+        groups::part(&mut self.tables, &self.shadow, &mut self.groups, vid, group, port);
     }
 }

@@ -43,10 +43,10 @@ pub fn mark_own(tables: &mut Tables, own: &Ports)
 }
 
 /// A law, whose body does nothing: the host isn't on the chip of a domain that isn't software's.
-pub fn host_is_elsewhere(d: &Domains, dom: Dom)
+pub fn host_is_elsewhere(domains: &Domains, dom: Dom)
     requires { dom ≢ software }
-    ensures { is_own d.now dom host ≡ false }
+    ensures { is_own domains.now dom host ≡ false }
 {
     // law: the host is in software's domain
-    let _domain = d.of(Port::HOST);
+    let _domain = domains.of(Port::HOST);
 }

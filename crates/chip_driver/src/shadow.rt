@@ -70,10 +70,10 @@ impl Shadow {
     }
 
     /// Notes what the row of a port says.
-    pub fn note(&mut self, p: Port, row: &PortRow)
-        ensures { Notes p row.now self.old self.new }
+    pub fn note(&mut self, port: Port, row: &PortRow)
+        ensures { Notes port row.now self.old self.new }
     {
-        let n = p.number();
+        let n = port.number();
         self.forwarding.switch(n, forwards(row));
         self.flood.switch(n, floods(row, Flags::FLOOD));
         self.mcast_flood.switch(n, floods(row, Flags::MCAST_FLOOD));

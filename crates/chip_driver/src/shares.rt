@@ -55,11 +55,11 @@ fn differ(old: Share, new: Share) -> bool
 
 impl Shares {
     /// What the port has in the rows of a VLAN, as a member of it or not.
-    pub fn of(shadow: &Shadow, p: Port, member: bool) -> Shares
-        ensures { result ≡ shares_of shadow.now p member }
+    pub fn of(shadow: &Shadow, port: Port, member: bool) -> Shares
+        ensures { result ≡ shares_of shadow.now port member }
     {
-        let n = p.number();
-        let host = p.is_host();
+        let n = port.number();
+        let host = port.is_host();
         let own = shadow.own.has(n);
         let eligible = member && (host || shadow.forwarding.has(n));
         let free = eligible && (host || !shadow.isolated.has(n));

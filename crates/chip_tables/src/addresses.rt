@@ -38,14 +38,14 @@ pub struct AddressCells {
 }
 
 /// The key of a VLAN and an address.
-pub fn key(v: Vid, m: Mac) -> Key
-    ensures value { result ≡ (v, m) }
-    ensures some { packed (v, m) ≢ 0 }
-    ensures below { m < 2 ^ 48 }
+pub fn key(vid: Vid, mac: Mac) -> Key
+    ensures value { result ≡ (vid, mac) }
+    ensures some { packed (vid, mac) ≢ 0 }
+    ensures below { mac < 2 ^ 48 }
 {
     // law: no key's number is 0
-    let _ = number_of(&(v, m));
-    (v, m)
+    let _ = number_of(&(vid, mac));
+    (vid, mac)
 }
 
 /// The number of a key, in the order of VLAN and address.

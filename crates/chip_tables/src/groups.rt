@@ -48,14 +48,14 @@ pub struct GroupCells {
 }
 
 /// The key of a VLAN and a group.
-pub fn group_key(v: Vid, g: Group) -> GroupKey
-    ensures value { result ≡ (v, g) }
-    ensures some { number_of (v, g) ≢ 0 }
-    ensures below { address_bits g < 2 ^ 128 }
+pub fn group_key(vid: Vid, group: Group) -> GroupKey
+    ensures value { result ≡ (vid, group) }
+    ensures some { number_of (vid, group) ≢ 0 }
+    ensures below { address_bits group < 2 ^ 128 }
 {
     // law: no key's head is 0
-    let _ = head(&(v, g));
-    (v, g)
+    let _ = head(&(vid, group));
+    (vid, group)
 }
 
 /// The VLAN, and the version in the lowest bit.

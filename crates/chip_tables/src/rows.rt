@@ -224,14 +224,14 @@ pub fn control_row(row: &Row<1>) -> Control
     }
 }
 
-pub fn pack_control(r: Control) -> Row<1>
-    ensures { control_of result ≡ r }
+pub fn pack_control(control: Control) -> Row<1>
+    ensures { control_of result ≡ control }
 {
     let mut row = Row::zero();
-    row.set(bits!(0, 1), bit(r.snooping));
-    row.set(bits!(1, 1), bit(r.tree));
-    row.set(bits!(2, 1), bit(r.four));
-    row.set(bits!(3, 1), bit(r.six));
+    row.set(bits!(0, 1), bit(control.snooping));
+    row.set(bits!(1, 1), bit(control.tree));
+    row.set(bits!(2, 1), bit(control.four));
+    row.set(bits!(3, 1), bit(control.six));
     row
 }
 

@@ -87,24 +87,24 @@ impl Tables {
         })
     }
 
-    pub fn vlan(&self, v: Vid) -> VlanRow
-        ensures { result ≡ vlan_at self.now v }
+    pub fn vlan(&self, vid: Vid) -> VlanRow
+        ensures { result ≡ vlan_at self.now vid }
     {
-        vlan_row(&self.vlans.row(usize::from(v.number())))
+        vlan_row(&self.vlans.row(usize::from(vid.number())))
     }
 
-    pub fn set_vlan(&mut self, v: Vid, r: VlanRow)
-        ensures row { WritesVlan self.old self.new v r }
+    pub fn set_vlan(&mut self, vid: Vid, r: VlanRow)
+        ensures row { WritesVlan self.old self.new vid r }
         ensures rest { self.new ≡ record self.old { vlans = self.new.vlans } }
     {
-        self.vlans.put(usize::from(v.number()), pack_vlan(&r));
+        self.vlans.put(usize::from(vid.number()), pack_vlan(&r));
     }
 
     /// Where the VLAN's unicast, multicast or broadcast flood goes.
-    pub fn flood(&self, v: Vid, f: Flood) -> FanRow
-        ensures { result ≡ flood_at self.now v f }
+    pub fn flood(&self, vid: Vid, f: Flood) -> FanRow
+        ensures { result ≡ flood_at self.now vid f }
     {
-        let place = usize::from(v.number());
+        let place = usize::from(vid.number());
         match f {
             Flood::Unicast => fan_row(&self.unicast.row(place)),
             Flood::Mcast => fan_row(&self.mcast.row(place)),
@@ -112,35 +112,35 @@ impl Tables {
         }
     }
 
-    pub fn set_flood(&mut self, v: Vid, f: Flood, r: FanRow)
-        ensures row { WritesFlood self.old self.new v f r }
+    pub fn set_flood(&mut self, vid: Vid, f: Flood, r: FanRow)
+        ensures row { WritesFlood self.old self.new vid f r }
         ensures rest { self.new ≡ record self.old { unicast = self.new.unicast; mcast = self.new.mcast; bcast = self.new.bcast } }
     {
         match f {
-            Flood::Unicast => put_fan(&mut self.unicast, v, &r),
-            Flood::Mcast => put_fan(&mut self.mcast, v, &r),
-            Flood::Bcast => put_fan(&mut self.bcast, v, &r),
+            Flood::Unicast => put_fan(&mut self.unicast, vid, &r),
+            Flood::Mcast => put_fan(&mut self.mcast, vid, &r),
+            Flood::Bcast => put_fan(&mut self.bcast, vid, &r),
         }
     }
 
     /// Where frames go that are for multicast routers: the ports in the VLAN behind which one is known.
-    pub fn router(&self, v: Vid) -> FanRow
-        ensures { result ≡ router_at self.now v }
+    pub fn router(&self, vid: Vid) -> FanRow
+        ensures { result ≡ router_at self.now vid }
     {
-        fan_row(&self.routers.row(usize::from(v.number())))
+        fan_row(&self.routers.row(usize::from(vid.number())))
     }
 
-    pub fn set_router(&mut self, v: Vid, r: FanRow)
-        ensures row { WritesRouter self.old self.new v r }
+    pub fn set_router(&mut self, vid: Vid, r: FanRow)
+        ensures row { WritesRouter self.old self.new vid r }
         ensures rest { self.new ≡ record self.old { routers = self.new.routers } }
     {
-        put_fan(&mut self.routers, v, &r);
+        put_fan(&mut self.routers, vid, &r);
     }
 
-    pub fn port(&self, p: Port) -> PortRow
-        ensures { result ≡ port_at self.now p }
+    pub fn port(&self, port: Port) -> PortRow
+        ensures { result ≡ port_at self.now port }
     {
-        self.port_numbered(p.number())
+        self.port_numbered(port.number())
     }
 
     /// The row of a number, as a set of ports has it: that of a port, or the one behind the last port's.
@@ -151,12 +151,12 @@ impl Tables {
     }
 
     /// The state is at most 4.
-    pub fn set_port(&mut self, p: Port, r: PortRow)
+    pub fn set_port(&mut self, port: Port, r: PortRow)
         requires { r.state ≤ 4 }
-        ensures row { WritesPort self.old self.new p r }
+        ensures row { WritesPort self.old self.new port r }
         ensures rest { self.new ≡ record self.old { ports = self.new.ports } }
     {
-        self.set_port_numbered(p.number(), r);
+        self.set_port_numbered(port.number(), r);
     }
 
     /// Writes the row that `port_numbered` reads. The state is at most 4.
@@ -200,22 +200,22 @@ impl Tables {
     }
 
     /// `None` exactly where no used row has that key.
-    pub fn address(&self, v: Vid, m: Mac) -> Option<AddressRow>
-        ensures { result ≡ address_at self.now v m }
+    pub fn address(&self, vid: Vid, mac: Mac) -> Option<AddressRow>
+        ensures { result ≡ address_at self.now vid mac }
     {
-        self.addresses.get(&key(v, m))
+        self.addresses.get(&key(vid, mac))
     }
 
     /// `None` frees the row. At most 16,384 rows may be used afterwards.
-    pub fn set_address(&mut self, v: Vid, m: Mac, r: Option<AddressRow>)
-        requires { IfSome r (λ row. length (addresses_with self.old v m (Some row)) ≤ most_addresses) }
-        ensures row { self.new.addresses ≡ addresses_with self.old v m r }
+    pub fn set_address(&mut self, vid: Vid, mac: Mac, r: Option<AddressRow>)
+        requires { IfSome r (λ row. length (addresses_with self.old vid mac (Some row)) ≤ most_addresses) }
+        ensures row { self.new.addresses ≡ addresses_with self.old vid mac r }
         ensures rest { self.new ≡ record self.old { addresses = self.new.addresses; places = self.new.places } }
     {
         match r {
-            Some(row) => self.addresses.insert(&key(v, m), row),
+            Some(row) => self.addresses.insert(&key(vid, mac), row),
             None => {
-                let _ = self.addresses.take(&key(v, m));
+                let _ = self.addresses.take(&key(vid, mac));
             }
         }
     }
@@ -248,22 +248,22 @@ impl Tables {
     }
 
     /// `None` exactly where no used row has that key.
-    pub fn group(&self, v: Vid, g: Group) -> Option<FanRow>
-        ensures { result ≡ group_at self.now v g }
+    pub fn group(&self, vid: Vid, group: Group) -> Option<FanRow>
+        ensures { result ≡ group_at self.now vid group }
     {
-        self.groups.get(&group_key(v, g))
+        self.groups.get(&group_key(vid, group))
     }
 
     /// `None` frees the row. At most 1,024 rows may be used afterwards.
-    pub fn set_group(&mut self, v: Vid, g: Group, r: Option<FanRow>)
-        requires { length (groups_with self.old v g r) ≤ max_pairs }
-        ensures row { self.new.groups ≡ groups_with self.old v g r }
+    pub fn set_group(&mut self, vid: Vid, group: Group, r: Option<FanRow>)
+        requires { length (groups_with self.old vid group r) ≤ max_pairs }
+        ensures row { self.new.groups ≡ groups_with self.old vid group r }
         ensures rest { self.new ≡ record self.old { groups = self.new.groups } }
     {
         match r {
-            Some(row) => self.groups.insert(&group_key(v, g), row),
+            Some(row) => self.groups.insert(&group_key(vid, group), row),
             None => {
-                let _ = self.groups.take(&group_key(v, g));
+                let _ = self.groups.take(&group_key(vid, group));
             }
         }
     }

@@ -114,11 +114,11 @@ fn config_at(b: &[u8]) -> BpduMsg
 
 /// The frame that carries the message, in the form that `bpdu_read` takes: version 0, `own` as its source, and zeros up
 /// to 60 bytes.
-pub fn bpdu_frame(own: Mac, m: &BpduMsg) -> [u8; BPDU_LENGTH]
-    ensures value { result ≡ written own m.now }
-    ensures read_back { bpdu result ≡ Some m.now }
+pub fn bpdu_frame(own: Mac, message: &BpduMsg) -> [u8; BPDU_LENGTH]
+    ensures value { result ≡ written own message.now }
+    ensures read_back { bpdu result ≡ Some message.now }
 {
-    match *m {
+    match *message {
         BpduMsg::Config {
             flags,
             root,

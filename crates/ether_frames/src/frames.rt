@@ -112,23 +112,23 @@ pub fn dress(alloc: Global, b: &[u8], h: &Head, tag: Option<Vid>) -> Result<Byte
 
 /// What stands in a frame before a tag, and all from the type on: the frame without a tag is the two together. `h` is the header
 /// that `parse` reads from `b`.
-pub fn parts<'a>(b: &'a [u8], h: &Head) -> (&'a [u8], &'a [u8])
-    requires { frame b.now ≡ Ok h.now }
-    ensures front { result.0.now ≡ take 12 b.now }
-    ensures rest { result.1.now ≡ drop (h.now.body - 2) b.now }
-    ensures short { length result.0.now + length result.1.now ≤ length b.now }
+pub fn parts<'a>(bytes: &'a [u8], head: &Head) -> (&'a [u8], &'a [u8])
+    requires { frame bytes.now ≡ Ok head.now }
+    ensures front { result.0.now ≡ take 12 bytes.now }
+    ensures rest { result.1.now ≡ drop (head.now.body - 2) bytes.now }
+    ensures short { length result.0.now + length result.1.now ≤ length bytes.now }
 {
-    (&b[..TYPE_AT], &b[h.body - 2..])
+    (&bytes[..TYPE_AT], &bytes[head.body - 2..])
 }
 
 /// The bytes of the tag of this VLAN that stand between the two parts of a frame with this header, as `dress` writes them.
-pub fn tag_bytes(b: &[u8], h: &Head, vid: Vid) -> [u8; 4]
-    requires { frame b.now ≡ Ok h.now }
-    ensures { dressed b.now h.now (Some vid) ≡ take 12 b.now ++ (result ++ drop (h.now.body - 2) b.now) }
+pub fn tag_bytes(b: &[u8], head: &Head, vid: Vid) -> [u8; 4]
+    requires { frame b.now ≡ Ok head.now }
+    ensures { dressed b.now head.now (Some vid) ≡ take 12 b.now ++ (result ++ drop (head.now.body - 2) b.now) }
 {
     let mut bytes = [0; 4];
     BigEndian::write_u16(&mut bytes, TAG_TYPE);
-    BigEndian::write_u16(&mut bytes[2..], tag_bits(h.tag) + vid.number());
+    BigEndian::write_u16(&mut bytes[2..], tag_bits(head.tag) + vid.number());
     bytes
 }
 

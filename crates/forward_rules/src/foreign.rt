@@ -11,10 +11,10 @@ use br_model::numbers::Port;
 use port_sets::Ports;
 
 /// Whether the two are in different domains.
-pub fn is_foreign(domains: &Domains, p: Port, q: Port) -> bool
-    ensures { result ≡ foreign domains.now p q }
+pub fn is_foreign(domains: &Domains, port: Port, q: Port) -> bool
+    ensures { result ≡ foreign domains.now port q }
 {
-    domains.of(p) != domains.of(q)
+    domains.of(port) != domains.of(q)
 }
 
 /// The class of a frame that leaves one bridge by these ports, and isn't trapped.

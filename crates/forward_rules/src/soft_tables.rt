@@ -72,10 +72,10 @@ impl SoftTables {
     }
 
     /// Whether the table holds its limits after the change.
-    pub fn fits(&self, c: &Change) -> bool
-        ensures { result ≡ fits self.now c.now }
+    pub fn fits(&self, change: &Change) -> bool
+        ensures { result ≡ fits self.now change.now }
     {
-        match c.asks() {
+        match change.asks() {
             Asks::Nothing => true,
             Asks::State(state) => state <= BLOCKING,
             Asks::GroupRoom(vid, group) => self.ports.has_room(vid, group),

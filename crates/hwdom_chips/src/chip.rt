@@ -69,13 +69,13 @@ fn tell_from(driver: &mut Driver, history: &[Change], from: usize, edition: Edit
 
 impl Chip {
     /// The chip of a domain, with the ports of it, before any change. It takes all its room but that of the hits.
-    pub fn make(alloc: Global, dom: Dom, d: &Domains) -> Result<Chip, NoMemory>
+    pub fn make(alloc: Global, dom: Dom, domains: &Domains) -> Result<Chip, NoMemory>
         requires { dom ≢ software }
-        ensures stands { IfOk result (λ c. IsChip d.now [] c) }
+        ensures stands { IfOk result (λ c. IsChip domains.now [] c) }
         ensures first { IfOk result (λ c. c.chip ≡ first_chip dom) }
     {
         Ok(Chip {
-            driver: Driver::make(alloc, dom, d)?,
+            driver: Driver::make(alloc, dom, domains)?,
             count: 0,
             reports: Reports::make(alloc)?,
         })
@@ -104,14 +104,14 @@ impl Chip {
 
     /// Follows the changes that the history got behind its first `from` ones: the driver is told of the synchronous ones, and
     /// the deferred ones wait.
-    pub fn follow(&mut self, d: &Domains, history: &[Change], from: usize)
+    pub fn follow(&mut self, domains: &Domains, history: &[Change], from: usize)
         requires from { from ≤ length history.now }
         requires history { AreWithin history.now }
-        requires stands { IsChip d.now (take from history.now) self.old }
-        ensures stands { IsChip d.now history.now self.new }
+        requires stands { IsChip domains.now (take from history.now) self.old }
+        ensures stands { IsChip domains.now history.now self.new }
         ensures chip { self.new.chip ≡ self.old.chip }
     {
-        tell_from(&mut self.driver, history, from, d.edition());
+        tell_from(&mut self.driver, history, from, domains.edition());
     }
 
     /// Applies a deferred change, the next one, and sets the hit of the entry that it puts.

@@ -50,13 +50,13 @@ fn add(alloc: Global, chips: &mut Vec<Chip>, number: usize, d: &Domains) -> Resu
 
 impl Chips {
     /// Those of the domains that have one, before any change.
-    pub fn make(alloc: Global, d: &Domains) -> Result<Chips, NoMemory>
-        ensures stand { IfOk result (AreChips d.now []) }
-        ensures first { IfOk result (λ c. chips_of c ≡ first_chips d.now) }
+    pub fn make(alloc: Global, domains: &Domains) -> Result<Chips, NoMemory>
+        ensures stand { IfOk result (AreChips domains.now []) }
+        ensures first { IfOk result (λ c. chips_of c ≡ first_chips domains.now) }
     {
         let mut chips = Vec::new(alloc);
         for number in 1..Dom::PLACES {
-            add(alloc, &mut chips, number, d)?;
+            add(alloc, &mut chips, number, domains)?;
         }
         Ok(Chips { chips })
     }
@@ -74,29 +74,29 @@ impl Chips {
     }
 
     /// Whether the domain has a chip.
-    pub fn has(&self, d: Dom) -> bool
-        ensures { result ≡ is_some (state_in self.now d) }
+    pub fn has(&self, dom: Dom) -> bool
+        ensures { result ≡ is_some (state_in self.now dom) }
     {
-        self.find(d).is_some()
+        self.find(dom).is_some()
     }
 
     /// Where the chip of the domain stands.
-    pub fn place(&self, d: Dom) -> usize
-        requires { is_some (state_in self.now d) ≡ true }
-        ensures { IsPlace self.now d (Some result) }
+    pub fn place(&self, dom: Dom) -> usize
+        requires { is_some (state_in self.now dom) ≡ true }
+        ensures { IsPlace self.now dom (Some result) }
     {
-        match self.find(d) {
+        match self.find(dom) {
             Some(place) => place,
             None => unreachable!(),
         }
     }
 
     /// The chip of the domain.
-    pub fn at(&self, d: Dom) -> &Chip
-        requires { is_some (state_in self.now d) ≡ true }
-        ensures { state_in self.now d ≡ Some result.now }
+    pub fn at(&self, dom: Dom) -> &Chip
+        requires { is_some (state_in self.now dom) ≡ true }
+        ensures { state_in self.now dom ≡ Some result.now }
     {
-        &self.chips[self.place(d)]
+        &self.chips[self.place(dom)]
     }
 
     /// The chip at the place.
@@ -110,15 +110,15 @@ impl Chips {
 
     /// They follow the changes that the history got behind its first `from` ones: each driver is told of the synchronous ones, and
     /// the deferred ones wait.
-    pub fn follow(&mut self, d: &Domains, history: &[Change], from: usize)
+    pub fn follow(&mut self, domains: &Domains, history: &[Change], from: usize)
         requires from { from ≤ length history.now }
         requires history { AreWithin history.now }
-        requires stand { AreChips d.now (take from history.now) self.old }
-        ensures stand { AreChips d.now history.now self.new }
+        requires stand { AreChips domains.now (take from history.now) self.old }
+        ensures stand { AreChips domains.now history.now self.new }
         ensures chips { chips_of self.new ≡ chips_of self.old }
     {
         for place in 0..self.chips.len() {
-            self.chips[place].follow(d, history, from);
+            self.chips[place].follow(domains, history, from);
         }
     }
 

@@ -9,11 +9,11 @@ use br_model::numbers::Dom;
 use hwdom_marks::Mark;
 
 /// The mark of a frame that the chip of the domain has decided so: one that it copied was sent there already.
-pub fn mark_of(class: Class, d: Dom) -> Option<Mark>
-    ensures { (domains : Domains) (port : ℕ) → domain_of domains port ≡ Some d → domain_marked result ≡ mark_of class domains port }
+pub fn mark_of(class: Class, dom: Dom) -> Option<Mark>
+    ensures { (domains : Domains) (port : ℕ) → domain_of domains port ≡ Some dom → domain_marked result ≡ mark_of class domains port }
 {
     match class {
-        Class::Copy => Some(Mark { dom: d }),
+        Class::Copy => Some(Mark { dom }),
         Class::Drop | Class::Trap | Class::Forward => None,
     }
 }

@@ -47,18 +47,18 @@ impl<'a> Records<'a> {
     }
 
     /// The records of the message that `classify` answers for these bytes: none where it is of another kind.
-    pub fn said_by(b: &'a [u8], message: &McastMsg) -> Records<'a>
-        requires { RecordsStand b.now message.now }
-        ensures { result ≡ acts_said b.now message.now }
+    pub fn said_by(bytes: &'a [u8], message: &McastMsg) -> Records<'a>
+        requires { RecordsStand bytes.now message.now }
+        ensures { result ≡ acts_said bytes.now message.now }
     {
         match *message {
-            McastMsg::Records { six, first, count } => Records::of(b, six, first, count),
+            McastMsg::Records { six, first, count } => Records::of(bytes, six, first, count),
             McastMsg::Plain
             | McastMsg::Payload(_)
             | McastMsg::Query { .. }
             | McastMsg::Report(_)
             | McastMsg::Leave(_)
-            | McastMsg::Unrecognized => Records::of(b, false, 0, 0),
+            | McastMsg::Unrecognized => Records::of(bytes, false, 0, 0),
         }
     }
 }

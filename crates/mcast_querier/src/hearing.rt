@@ -10,11 +10,11 @@ use igmp_mld::classify;
 
 /// The IP source of a general query, whose header `parse` reads as `h`: `None` exactly where the frame
 /// is none, or its source is zero.
-pub fn asker(b: &[u8], h: &Head) -> Option<u128>
-    requires { frame b.now ≡ Ok h.now }
-    ensures { result ≡ option_map (λ a. a.1) (asker_of b.now h.now) }
+pub fn asker(bytes: &[u8], head: &Head) -> Option<u128>
+    requires { frame bytes.now ≡ Ok head.now }
+    ensures { result ≡ option_map (λ a. a.1) (asker_of bytes.now head.now) }
 {
-    match asker_in(b, h) {
+    match asker_in(bytes, head) {
         Some((_, address)) => Some(address),
         None => None,
     }

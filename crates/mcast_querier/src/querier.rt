@@ -54,12 +54,12 @@ impl Querier {
 
     /// A frame came to the host at this moment, in milliseconds. `h` is the header that `parse` reads from `b`. Only a general
     /// query from a lower address of its version changes anything.
-    pub fn heard(&mut self, b: &[u8], h: &Head, now: u64)
-        requires frame { frame b.now ≡ Ok h.now }
+    pub fn heard(&mut self, bytes: &[u8], head: &Head, now: u64)
+        requires frame { frame bytes.now ≡ Ok head.now }
         requires moment { now < 2 ^ 53 }
-        ensures { self.new ≡ heard self.old (asker_of b.now h.now) now }
+        ensures { self.new ≡ heard self.old (asker_of bytes.now head.now) now }
     {
-        match asker_in(b, h) {
+        match asker_in(bytes, head) {
             Some((false, address)) => self.four.hears(address, now),
             Some((true, address)) => self.six.hears(address, now),
             None => {}

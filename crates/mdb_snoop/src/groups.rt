@@ -57,10 +57,10 @@ impl Groups {
     }
 
     /// Whether a member of the group in the VLAN can be joined: there is one already, or the pair would be no 1,025th.
-    pub fn has_room(&self, v: Vid, g: Group) -> bool
-        ensures { result ≡ has_room self.now v g }
+    pub fn has_room(&self, vid: Vid, group: Group) -> bool
+        ensures { result ≡ has_room self.now vid group }
     {
-        sections::has_room(&self.sections, &(v, g))
+        sections::has_room(&self.sections, &(vid, group))
     }
 
     pub fn join(&mut self, v: Vid, g: Group, p: Port)
@@ -73,10 +73,10 @@ impl Groups {
     }
 
     /// Whether the port is a member of the group in the VLAN.
-    pub fn has(&self, v: Vid, g: Group, p: Port) -> bool
-        ensures { result ≡ has membership_cmp self.now (v, g, p) }
+    pub fn has(&self, vid: Vid, group: Group, port: Port) -> bool
+        ensures { result ≡ has membership_cmp self.now (vid, group, port) }
     {
-        sections::has_member(&self.sections, &(v, g), p)
+        sections::has_member(&self.sections, &(vid, group), port)
     }
 
     /// The groups in VLANs of which the port is a member.
@@ -119,18 +119,18 @@ impl Groups {
     }
 
     /// Whether the port is a member of the pair at a place.
-    pub fn member_at(&self, place: usize, p: Port) -> bool
-        ensures { (v : ℕ) (g : GroupValue) → slice_get (group_pairs self.now) place ≡ Some (v, g) → result ≡ has_number (ports_in self.now v g) p }
+    pub fn member_at(&self, place: usize, port: Port) -> bool
+        ensures { (v : ℕ) (g : GroupValue) → slice_get (group_pairs self.now) place ≡ Some (v, g) → result ≡ has_number (ports_in self.now v g) port }
     {
-        sections::member_at(&self.sections, place, p)
+        sections::member_at(&self.sections, place, port)
     }
 
     /// Whether the port is a member of any pair. It looks at none.
-    pub fn is_member(&self, p: Port) -> bool
-        ensures value { result ≡ has_some (pairs_of_port self.now p) }
-        ensures none { result ≡ false → (v : ℕ) (g : GroupValue) → has_number (ports_in self.now v g) p ≡ false }
+    pub fn is_member(&self, port: Port) -> bool
+        ensures value { result ≡ has_some (pairs_of_port self.now port) }
+        ensures none { result ≡ false → (v : ℕ) (g : GroupValue) → has_number (ports_in self.now v g) port ≡ false }
     {
-        self.counts.has(p)
+        self.counts.has(port)
     }
 
     /// A law, whose body does nothing: the memberships ascend, and there is no 1,025th pair of VLAN and group.

@@ -77,17 +77,17 @@ impl Mdb {
     }
 
     /// Whether a member of the group in the VLAN can be joined: there is one already, or the pair would be no 1,025th.
-    pub fn has_room(&self, v: Vid, g: Group) -> bool
-        ensures { result ≡ has_room (memberships self.now) v g }
+    pub fn has_room(&self, vid: Vid, group: Group) -> bool
+        ensures { result ≡ has_room (memberships self.now) vid group }
     {
-        sections::has_room(&self.sections, &(v, g))
+        sections::has_room(&self.sections, &(vid, group))
     }
 
     /// Whether the port is a member of the group in the VLAN, with or without end.
-    pub fn has(&self, v: Vid, g: Group, p: Port) -> bool
-        ensures { result ≡ has membership_cmp (memberships self.now) (v, g, p) }
+    pub fn has(&self, vid: Vid, group: Group, port: Port) -> bool
+        ensures { result ≡ has membership_cmp (memberships self.now) (vid, group, port) }
     {
-        sections::has_member(&self.sections, &(v, g), p)
+        sections::has_member(&self.sections, &(vid, group), port)
     }
 
     /// Joins the port until `end`, or without end, as a command does it. A membership that is there gets this end, but

@@ -48,17 +48,17 @@ impl Snooped {
     }
 
     /// Whether a member of the group in the VLAN can be joined: there is one already, or the pair would be no 1,025th.
-    pub fn has_room(&self, v: Vid, g: Group) -> bool
-        ensures { result ≡ has_room self.now.groups v g }
+    pub fn has_room(&self, vid: Vid, group: Group) -> bool
+        ensures { result ≡ has_room self.now.groups vid group }
     {
-        self.groups.has_room(v, g)
+        self.groups.has_room(vid, group)
     }
 
     /// Whether the port is a member of the group in the VLAN.
-    pub fn has(&self, v: Vid, g: Group, p: Port) -> bool
-        ensures { result ≡ has membership_cmp self.now.groups (v, g, p) }
+    pub fn has(&self, vid: Vid, group: Group, port: Port) -> bool
+        ensures { result ≡ has membership_cmp self.now.groups (vid, group, port) }
     {
-        self.groups.has(v, g, p)
+        self.groups.has(vid, group, port)
     }
 
     pub fn join(&mut self, v: Vid, g: Group, p: Port)
@@ -75,12 +75,12 @@ impl Snooped {
     }
 
     /// Puts a router behind the port, or none.
-    pub fn set_router(&mut self, p: Port, on: bool)
-        ensures { self.new ≡ record self.old { routers = switched on self.old.routers p } }
+    pub fn set_router(&mut self, port: Port, on: bool)
+        ensures { self.new ≡ record self.old { routers = switched on self.old.routers port } }
     {
         // law: the members ascend
         self.routers.members_ascend();
-        let number = p.number();
+        let number = port.number();
         if on {
             self.routers = self.routers.with(number);
         } else {

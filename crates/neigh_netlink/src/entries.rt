@@ -22,13 +22,13 @@ pub struct Entry {
 
 impl Entry {
     /// What a message of an entry that came or changed says.
-    pub fn of(m: &Neigh) -> Entry
-        ensures { result ≡ entry_of m.now }
+    pub fn of(neigh: &Neigh) -> Entry
+        ensures { result ≡ entry_of neigh.now }
     {
         Entry {
-            port: m.port,
-            kind: m.kind,
-            offload: m.offload,
+            port: neigh.port,
+            kind: neigh.kind,
+            offload: neigh.offload,
         }
     }
 }

@@ -51,11 +51,11 @@ fn line(m: &Neigh) -> [u8; LINE]
 }
 
 /// Writes the message's line behind the text.
-pub fn append_line(m: &Neigh, text: &mut String) -> Result<(), NoMemory>
-    ensures ok { OnOk result (string_bytes text.new ≡ string_bytes text.old ++ message_line m.now) }
+pub fn append_line(neigh: &Neigh, text: &mut String) -> Result<(), NoMemory>
+    ensures ok { OnOk result (string_bytes text.new ≡ string_bytes text.old ++ message_line neigh.now) }
     ensures err { OnErr result (string_bytes text.new ≡ string_bytes text.old) }
 {
-    let line = line(m);
+    let line = line(neigh);
     // It is ASCII.
     text.push_str(unsafe { str::from_utf8_unchecked(&line) })
 }

@@ -13,16 +13,16 @@ use br_model::change::Kind;
 use br_model::numbers::{Mac, Port, Vid};
 
 /// What the bytes say: `None` exactly where they aren't just the bytes that `write` gives for a message. Allocates nothing.
-pub fn read(b: &[u8]) -> Option<Neigh>
-    ensures value { result ≡ read b.now }
-    ensures whole { IfSome result (λ m. (is_message m ≡ true) × (written m ≡ b.now)) }
-    ensures every { (m : Neigh) → has_ranges m ≡ true → m.mac < 2 ^ 48 → is_message m ≡ true → written m ≡ b.now → result ≡ Some m }
+pub fn read(bytes: &[u8]) -> Option<Neigh>
+    ensures value { result ≡ read bytes.now }
+    ensures whole { IfSome result (λ m. (is_message m ≡ true) × (written m ≡ bytes.now)) }
+    ensures every { (m : Neigh) → has_ranges m ≡ true → m.mac < 2 ^ 48 → is_message m ≡ true → written m ≡ bytes.now → result ≡ Some m }
 {
-    if b.len() != LENGTH {
+    if bytes.len() != LENGTH {
         return None;
     }
-    let m = said(b)?;
-    if is_written(b, &m) { Some(m) } else { None }
+    let m = said(bytes)?;
+    if is_written(bytes, &m) { Some(m) } else { None }
 }
 
 // Whether the bytes are just those of the message.

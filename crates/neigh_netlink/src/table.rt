@@ -80,20 +80,20 @@ impl Table {
     }
 
     /// Does what the message says. After a fault the table is as before. Allocates nothing.
-    pub fn take(&mut self, m: &Neigh) -> Result<(), TakeFault>
-        ensures ok { OnOk result ((fault_of self.old m.now ≡ None) × (self.new ≡ after_message self.old m.now)) }
+    pub fn take(&mut self, neigh: &Neigh) -> Result<(), TakeFault>
+        ensures ok { OnOk result ((fault_of self.old neigh.now ≡ None) × (self.new ≡ after_message self.old neigh.now)) }
         ensures err { OnErr result (self.new ≡ self.old) }
-        ensures fault { IfErr result (λ why. fault_of self.old m.now ≡ Some why) }
+        ensures fault { IfErr result (λ why. fault_of self.old neigh.now ≡ Some why) }
     {
-        let key = (m.vid, m.mac);
+        let key = (neigh.vid, neigh.mac);
         let there = find_in(&self.entries, &key);
-        if m.new {
+        if neigh.new {
             if there.is_none() && self.entries.len() >= MOST_ADDRESSES {
                 return Err(TakeFault::Full);
             }
-            put_in(&mut self.entries, key, Entry::of(m));
+            put_in(&mut self.entries, key, Entry::of(neigh));
         } else {
-            if !is_of(m.port, m.kind, there) {
+            if !is_of(neigh.port, neigh.kind, there) {
                 return Err(TakeFault::Absent);
             }
             take_from(&mut self.entries, &key);

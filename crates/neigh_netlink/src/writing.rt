@@ -42,11 +42,11 @@ const NDA_VLAN: u16 = 5;
 const VLAN_LENGTH: u16 = 6;
 
 /// The 48 bytes of a message.
-pub fn write(alloc: Global, m: &Neigh) -> Result<Bytes, NoMemory>
-    requires { is_message m.now ≡ true }
-    ensures { IfOk result (λ bytes. bytes ≡ written m.now) }
+pub fn write(alloc: Global, neigh: &Neigh) -> Result<Bytes, NoMemory>
+    requires { is_message neigh.now ≡ true }
+    ensures { IfOk result (λ bytes. bytes ≡ written neigh.now) }
 {
-    Bytes::copy_of(alloc, &written(m))
+    Bytes::copy_of(alloc, &written(neigh))
 }
 
 /// The same, on the stack.

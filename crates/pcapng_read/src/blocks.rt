@@ -35,9 +35,9 @@ impl<'a> Model for Blocks<'a> {
 
 impl<'a> Blocks<'a> {
     /// The packets of these bytes, for so many declared ports: each has its port. Allocates nothing.
-    pub fn of(alloc: Global, b: &'a [u8], ports: u32) -> Blocks<'a>
-        requires { length b.now ≤ 2 ^ 24 }
-        ensures packets { result ≡ capture ports b.now }
+    pub fn of(alloc: Global, bytes: &'a [u8], ports: u32) -> Blocks<'a>
+        requires { length bytes.now ≤ 2 ^ 24 }
+        ensures packets { result ≡ capture ports bytes.now }
         ensures have_ports { list_all (λ p. nat_lt p.interface ports) result.packets ≡ true }
     {
         Blocks {
@@ -46,7 +46,7 @@ impl<'a> Blocks<'a> {
             links: Vec::new(alloc),
             order: None,
             at: 0,
-            rest: b,
+            rest: bytes,
         }
     }
 

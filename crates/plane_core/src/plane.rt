@@ -198,12 +198,12 @@ impl Plane {
     /// As `enter`, with the lines of the step behind these. Where the frame waits, these bytes wait; nothing is copied.
     pub fn enter_to(
         &mut self,
-        p: Port,
-        b: Bytes,
+        port: Port,
+        bytes: Bytes,
         lines: &mut Lines,
     ) -> Result<Option<Pass>, NoMemory>
-        ensures step { OnOk result (Added (Steps self.old self.new (Rx p b)) lines.old.lines lines.new.lines) }
-        ensures pass { IfOk result (IsDecidedBy self.old.world p b (frame_of b)) }
+        ensures step { OnOk result (Added (Steps self.old self.new (Rx port bytes)) lines.old.lines lines.new.lines) }
+        ensures pass { IfOk result (IsDecidedBy self.old.world port bytes (frame_of bytes)) }
         ensures err { OnErr result (self.new ≡ self.old) }
         ensures lines { OnErr result (lines.new.lines ≡ lines.old.lines) }
         ensures saved { OnOk result (KeepsSaved lines.old lines.new) }
@@ -211,17 +211,17 @@ impl Plane {
         let step = next(self.steps)?;
         let id = self.frames.next_id();
         next(id)?;
-        match parse(b.as_slice()) {
+        match parse(bytes.as_slice()) {
             Err(why) => {
                 lines.push(Line::Unread { id, why })?;
                 self.frames.settle(Arrival::PassesBy);
                 self.steps = step;
                 Ok(None)
             }
-            Ok(head) => match self.chip_of(p) {
-                Some(d) => Ok(Some(self.enter_chip(step, d, p, b, &head, lines)?)),
+            Ok(head) => match self.chip_of(port) {
+                Some(d) => Ok(Some(self.enter_chip(step, d, port, bytes, &head, lines)?)),
                 None => {
-                    self.enter_software(step, p, b, &head, lines)?;
+                    self.enter_software(step, port, bytes, &head, lines)?;
                     Ok(None)
                 }
             },
@@ -331,15 +331,15 @@ impl Plane {
     }
 
     /// As `accept`, with the lines of the step behind these.
-    pub fn accept_to(&mut self, alloc: Global, e: &Event, lines: &mut Lines) -> Result<(), NoMemory>
-        requires { IsNamed e.now }
-        ensures ok { OnOk result (Added (Accepts self.old self.new e.now) lines.old.lines lines.new.lines) }
+    pub fn accept_to(&mut self, alloc: Global, event: &Event, lines: &mut Lines) -> Result<(), NoMemory>
+        requires { IsNamed event.now }
+        ensures ok { OnOk result (Added (Accepts self.old self.new event.now) lines.old.lines lines.new.lines) }
         ensures err { OnErr result (self.new ≡ self.old) }
         ensures lines { OnErr result (lines.new.lines ≡ lines.old.lines) }
         ensures saved { OnOk result (KeepsSaved lines.old lines.new) }
     {
         let step = next(self.steps)?;
-        self.sides.answer(alloc, step, e, lines)?;
+        self.sides.answer(alloc, step, event, lines)?;
         self.steps = step;
         Ok(())
     }
@@ -355,15 +355,15 @@ impl Plane {
     }
 
     /// As `turn`, with the lines of the step behind these.
-    pub fn turn_to(&mut self, d: Dom, u: Option<Update>, lines: &mut Lines) -> Result<(), TurnFault>
-        requires { has_chip self.old.world.setup.domains d ≡ true }
-        ensures turned { TurnedTo self.old self.new d u lines.old.lines lines.new.lines result }
+    pub fn turn_to(&mut self, dom: Dom, update: Option<Update>, lines: &mut Lines) -> Result<(), TurnFault>
+        requires { has_chip self.old.world.setup.domains dom ≡ true }
+        ensures turned { TurnedTo self.old self.new dom update lines.old.lines lines.new.lines result }
         ensures saved { OnOk result (KeepsSaved lines.old lines.new) }
     {
-        match self.out_of_turn(d, &u) {
+        match self.out_of_turn(dom, &update) {
             Some(fault) => Err(fault),
             None => {
-                self.turn_next(d, lines)?;
+                self.turn_next(dom, lines)?;
                 Ok(())
             }
         }
@@ -389,22 +389,22 @@ impl Plane {
     }
 
     /// The chip of the domain applies the deferred change that is next there. The lines of the step are added.
-    pub fn turn_next(&mut self, d: Dom, lines: &mut Lines) -> Result<(), NoMemory>
-        requires { has_chip self.old.world.setup.domains d ≡ true }
-        ensures ok { OnOk result (Added (Steps self.old self.new (Turn d)) lines.old.lines lines.new.lines) }
+    pub fn turn_next(&mut self, dom: Dom, lines: &mut Lines) -> Result<(), NoMemory>
+        requires { has_chip self.old.world.setup.domains dom ≡ true }
+        ensures ok { OnOk result (Added (Steps self.old self.new (Turn dom)) lines.old.lines lines.new.lines) }
         ensures err { OnErr result (self.new ≡ self.old) }
         ensures lines { OnErr result (lines.new.lines ≡ lines.old.lines) }
         ensures saved { OnOk result (KeepsSaved lines.old lines.new) }
     {
         let step = next(self.steps)?;
-        let Some(update) = self.sides.next_update(d) else {
+        let Some(update) = self.sides.next_update(dom) else {
             let refusal = Refusal::NothingPending;
             lines.push(Line::Refused { step, refusal })?;
             self.steps = step;
             return Ok(());
         };
         lines.reserve(1, 0)?;
-        self.sides.turn(d, &update)?;
+        self.sides.turn(dom, &update)?;
         lines.push_reserved(Line::Done { step, changes: 0 });
         self.steps = step;
         Ok(())
@@ -524,42 +524,42 @@ impl Plane {
     pub fn post_to(
         &mut self,
         alloc: Global,
-        h: Held,
-        s: Seen,
+        held: Held,
+        seen: Seen,
         lines: &mut Lines,
     ) -> Result<(), PostFault>
-        requires floor { h.floor ≤ s.point }
-        requires decision { (x : HoldingOf) → IsCopy self.old.world h x → s.point ≤ self.old.world.published → IsDecision self.old.world x s }
-        ensures posted { PostedTo self.old self.new h s lines.old.lines lines.new.lines result }
+        requires floor { held.floor ≤ seen.point }
+        requires decision { (x : HoldingOf) → IsCopy self.old.world held x → seen.point ≤ self.old.world.published → IsDecision self.old.world x seen }
+        ensures posted { PostedTo self.old self.new held seen lines.old.lines lines.new.lines result }
         ensures saved { OnOk result (KeepsSaved lines.old lines.new) }
     {
         let Ok(step) = next(self.steps) else {
-            return Err(PostFault::NoMemory(h));
+            return Err(PostFault::NoMemory(held));
         };
-        let Some(holding) = self.frames.find(h.id) else {
-            return self.post_none(step, h, lines);
+        let Some(holding) = self.frames.find(held.id) else {
+            return self.post_none(step, held, lines);
         };
-        if !h.is_of(holding) {
-            return Err(PostFault::Stranger(h));
+        if !held.is_of(holding) {
+            return Err(PostFault::Stranger(held));
         }
         let published = self.sides.published();
-        if s.point > published {
+        if seen.point > published {
             return Err(PostFault::Ahead {
-                held: h,
-                seen: s.point,
+                held,
+                seen: seen.point,
                 published,
             });
         }
         match self
             .sides
-            .post(alloc, step, holding.frame(), &s.verdict, s.point, lines)
+            .post(alloc, step, holding.frame(), &seen.verdict, seen.point, lines)
         {
             Ok(()) => {
-                let _holding = self.frames.release(h.id);
+                let _holding = self.frames.release(held.id);
                 self.steps = step;
                 Ok(())
             }
-            Err(_) => Err(PostFault::NoMemory(h)),
+            Err(_) => Err(PostFault::NoMemory(held)),
         }
     }
 
@@ -676,15 +676,15 @@ impl Plane {
     }
 
     /// As `report`, with the lines of the step behind these.
-    pub fn report_to(&mut self, alloc: Global, d: Dom, lines: &mut Lines) -> Result<(), NoMemory>
-        requires { has_chip self.old.world.setup.domains d ≡ true }
-        ensures ok { OnOk result (Added (Steps self.old self.new (Report d)) lines.old.lines lines.new.lines) }
+    pub fn report_to(&mut self, alloc: Global, dom: Dom, lines: &mut Lines) -> Result<(), NoMemory>
+        requires { has_chip self.old.world.setup.domains dom ≡ true }
+        ensures ok { OnOk result (Added (Steps self.old self.new (Report dom)) lines.old.lines lines.new.lines) }
         ensures err { OnErr result (self.new ≡ self.old) }
         ensures lines { OnErr result (lines.new.lines ≡ lines.old.lines) }
         ensures saved { OnOk result (KeepsSaved lines.old lines.new) }
     {
         let step = next(self.steps)?;
-        self.sides.report(alloc, step, d, lines)?;
+        self.sides.report(alloc, step, dom, lines)?;
         self.steps = step;
         Ok(())
     }
@@ -701,15 +701,15 @@ impl Plane {
     }
 
     /// As `sweep`, with the lines of the step behind these.
-    pub fn sweep_to(&mut self, alloc: Global, d: Dom, lines: &mut Lines) -> Result<(), NoMemory>
-        requires { has_chip self.old.world.setup.domains d ≡ true }
-        ensures ok { OnOk result (Added (Steps self.old self.new (Sweep d)) lines.old.lines lines.new.lines) }
+    pub fn sweep_to(&mut self, alloc: Global, dom: Dom, lines: &mut Lines) -> Result<(), NoMemory>
+        requires { has_chip self.old.world.setup.domains dom ≡ true }
+        ensures ok { OnOk result (Added (Steps self.old self.new (Sweep dom)) lines.old.lines lines.new.lines) }
         ensures err { OnErr result (self.new ≡ self.old) }
         ensures lines { OnErr result (lines.new.lines ≡ lines.old.lines) }
         ensures saved { OnOk result (KeepsSaved lines.old lines.new) }
     {
         let step = next(self.steps)?;
-        self.sides.sweep(alloc, step, d, lines)?;
+        self.sides.sweep(alloc, step, dom, lines)?;
         self.steps = step;
         Ok(())
     }
@@ -765,20 +765,20 @@ impl Plane {
     }
 
     /// The tables of the domain's chip. Its rows stand for the table by which it decides.
-    pub fn tables(&self, d: Dom) -> &Tables
-        requires { has_chip self.now.world.setup.domains d ≡ true }
-        ensures { (c : ChipValue) → chip_at self.now.world d ≡ Some c
-            → Stands self.now.world.setup.domains d result.now (table_of_chip self.now.world c) }
+    pub fn tables(&self, dom: Dom) -> &Tables
+        requires { has_chip self.now.world.setup.domains dom ≡ true }
+        ensures { (c : ChipValue) → chip_at self.now.world dom ≡ Some c
+            → Stands self.now.world.setup.domains dom result.now (table_of_chip self.now.world c) }
     {
-        self.sides.tables(d)
+        self.sides.tables(dom)
     }
 
     /// The oldest report of the domain's chip, which stays.
-    pub fn first_report(&self, d: Dom) -> Option<Report>
-        requires { has_chip self.now.world.setup.domains d ≡ true }
-        ensures { option_map (λ c. slice_get c.reports 0) (chip_at self.now.world d) ≡ Some result }
+    pub fn first_report(&self, dom: Dom) -> Option<Report>
+        requires { has_chip self.now.world.setup.domains dom ≡ true }
+        ensures { option_map (λ c. slice_get c.reports 0) (chip_at self.now.world dom) ≡ Some result }
     {
-        self.sides.first_report(d)
+        self.sides.first_report(dom)
     }
 
     /// And all chips together.

@@ -44,15 +44,15 @@ impl<N: Name> Chair<N> {
     }
 
     /// The decision by what is then known, as of a seat. It waits for nobody.
-    pub fn lookup(&mut self, p: Port, h: &Head, m: &McastMsg) -> Option<Seen>
+    pub fn lookup(&mut self, port: Port, head: &Head, m: &McastMsg) -> Option<Seen>
         ensures begins { Begins self.new.object self.old.object }
         ensures point { IfSome result (λ s. s.point ≡ length self.new.object.changes) }
         ensures count { IfSome result (λ s. has nat_cmp self.new.object.counts s.point ≡ true) }
-        ensures verdict { IfSome result (λ s. Decides N.board.domains (table (take s.point self.new.object.changes)) p h.now m.now s.verdict) }
+        ensures verdict { IfSome result (λ s. Decides N.board.domains (table (take s.point self.new.object.changes)) port head.now m.now s.verdict) }
         ensures read { IfSome result (λ s. self.new.misses ≡ self.old.misses) }
         ensures missed { IfNone result ((self.new.object ≡ self.old.object) × Rises self.old.misses self.new.misses) }
     {
-        self.seat.lookup(p, h, m)
+        self.seat.lookup(port, head, m)
     }
 
     /// What the chair knows was published as a whole: the law does nothing.

@@ -221,11 +221,11 @@ impl<N: Name> Locked<N> {
     }
 
     /// The oldest report of the domain's chip, which stays.
-    pub fn first_report(&self, d: Dom) -> Option<Report>
-        requires { has_chip N.board.domains d ≡ true }
-        ensures { option_map (λ c. slice_get c.reports 0) (chip_at (world_of self.now) d) ≡ Some result }
+    pub fn first_report(&self, dom: Dom) -> Option<Report>
+        requires { has_chip N.board.domains dom ≡ true }
+        ensures { option_map (λ c. slice_get c.reports 0) (chip_at (world_of self.now) dom) ≡ Some result }
     {
-        self.ran.plane().first_report(d)
+        self.ran.plane().first_report(dom)
     }
 
     /// The chair is told what is published, and the oldest frame that waits is held, with that as its floor: the chair's next point

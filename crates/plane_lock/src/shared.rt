@@ -74,19 +74,19 @@ fn apply_next<N: Name, R: Wait>(
 impl<N: Name> Shared<N> {
     /// The run behind the lock. Its queues are those of the domains that have a chip, ascending, and each has been posted the updates
     /// of the run. After want of memory the run and the queues are ended.
-    pub fn make<R: Wait>(rt: &R, alloc: Global, r: Ran, q: Queues) -> Result<Shared<N>, NoMemory>
-        requires board { r.board ≡ N.board }
-        requires setup { r.setup ≡ record { domains = N.board.domains; own = N.own } }
-        requires doms { map (λ x. x.dom) q ≡ chip_domains N.board.domains }
-        requires posted { All (λ x. x.poster.posted ≡ updates_of r) q }
+    pub fn make<R: Wait>(rt: &R, alloc: Global, ran: Ran, queues: Queues) -> Result<Shared<N>, NoMemory>
+        requires board { ran.board ≡ N.board }
+        requires setup { ran.setup ≡ record { domains = N.board.domains; own = N.own } }
+        requires doms { map (λ x. x.dom) queues ≡ chip_domains N.board.domains }
+        requires posted { All (λ x. x.poster.posted ≡ updates_of ran) queues }
     {
-        match q.split(alloc) {
+        match queues.split(alloc) {
             Ok((posters, drivers)) => Ok(Shared {
-                core: Mutex::new(Locked::new(r, posters)),
+                core: Mutex::new(Locked::new(ran, posters)),
                 drivers,
             }),
             Err(error) => {
-                let _book = r.book(rt);
+                let _book = ran.book(rt);
                 Err(error)
             }
         }
@@ -150,10 +150,10 @@ impl<N: Name> Shared<N> {
 
     /// The same of updates one after another, at most so many, without the plane's lock where the queue tells of none. Nothing where
     /// another call has the driver's lock.
-    pub fn turns<R: Wait>(&self, rt: &R, alloc: Global, d: Dom, most: usize) -> Result<(), NoMemory>
-        requires { has_chip N.board.domains d ≡ true }
+    pub fn turns<R: Wait>(&self, rt: &R, alloc: Global, dom: Dom, most: usize) -> Result<(), NoMemory>
+        requires { has_chip N.board.domains dom ≡ true }
     {
-        let driver = &self.drivers[place_of(&self.drivers, d)];
+        let driver = &self.drivers[place_of(&self.drivers, dom)];
         let Some(mut desk) = driver.desk.try_lock() else {
             return Ok(());
         };
@@ -161,7 +161,7 @@ impl<N: Name> Shared<N> {
             return Ok(());
         }
         let mut core = self.lock(rt);
-        let done = apply_next(rt, alloc, &mut desk, &mut core, d, most);
+        let done = apply_next(rt, alloc, &mut desk, &mut core, dom, most);
         MutexGuard::unlock(core);
         done
     }

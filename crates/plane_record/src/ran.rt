@@ -193,15 +193,15 @@ impl Ran {
     }
 
     /// The chip of the domain applies the deferred change that is next there.
-    pub fn turn_next(&mut self, alloc: Global, d: Dom) -> Result<Lines, NoMemory>
-        requires { has_chip self.old.setup.domains d ≡ true }
-        ensures ok { OnOk result (self.new ≡ after self.old (steps.Turn d)) }
-        ensures lines { IfOk result (λ lines. lines.lines ≡ said_by self.old (steps.Turn d)) }
+    pub fn turn_next(&mut self, alloc: Global, dom: Dom) -> Result<Lines, NoMemory>
+        requires { has_chip self.old.setup.domains dom ≡ true }
+        ensures ok { OnOk result (self.new ≡ after self.old (steps.Turn dom)) }
+        ensures lines { IfOk result (λ lines. lines.lines ≡ said_by self.old (steps.Turn dom)) }
         ensures err { OnErr result (self.new ≡ self.old) }
     {
         make_ready(&mut self.steps, &mut self.lines)?;
-        self.plane.turn_next(d, &mut self.lines)?;
-        let step = Step::Turn(d);
+        self.plane.turn_next(dom, &mut self.lines)?;
+        let step = Step::Turn(dom);
         Ok(write_down(alloc, &mut self.steps, &mut self.lines, step))
     }
 

@@ -61,23 +61,23 @@ fn append_ports(r: &Roster, to: &mut String) -> Result<(), NoMemory>
 
 /// Writes the lines before the first step behind the text: the edition, the bridge's own address, and the declared ports. After
 /// want of memory a part of them may stand there.
-pub fn append_head(r: &Roster, own: Mac, to: &mut String) -> Result<(), NoMemory>
-    ensures { OnOk result (string_bytes to.new ≡ string_bytes to.old ++ head_text (record r.now { own = own })) }
+pub fn append_head(roster: &Roster, own: Mac, to: &mut String) -> Result<(), NoMemory>
+    ensures { OnOk result (string_bytes to.new ≡ string_bytes to.old ++ head_text (record roster.now { own = own })) }
 {
-    to.push_str(opening_line(r.edition()))?;
+    to.push_str(opening_line(roster.edition()))?;
     to.push_str("bridge ")?;
     append_mac(own, to)?;
     to.push('\n')?;
-    append_ports(r, to)
+    append_ports(roster, to)
 }
 
 /// The lines before the first step: the edition, the bridge's own address, and the declared ports. They are read back where the
 /// address is one of one station, as each that a scenario declares is.
-pub fn write_head(alloc: Global, r: &Roster, own: Mac) -> Result<Bytes, NoMemory>
-    ensures { IfOk result (λ head. head ≡ head_text (record r.now { own = own })) }
+pub fn write_head(alloc: Global, roster: &Roster, own: Mac) -> Result<Bytes, NoMemory>
+    ensures { IfOk result (λ head. head ≡ head_text (record roster.now { own = own })) }
 {
     let mut head = String::new(alloc);
-    append_head(r, own, &mut head)?;
+    append_head(roster, own, &mut head)?;
     Ok(Bytes::of(head.into_bytes()))
 }
 
@@ -93,12 +93,12 @@ fn append_steps(steps: &[Step], r: &Roster, to: &mut String) -> Result<(), NoMem
 
 /// Writes a scenario of these steps behind the text: what was declared, each step's line, and the line `end`. After want of memory a
 /// part of it may stand there.
-pub fn append_scenario(steps: &[Step], r: &Roster, to: &mut String) -> Result<(), NoMemory>
-    requires { list_all (names_declared r.now.ports) steps.now ≡ true }
-    ensures { OnOk result (string_bytes to.new ≡ string_bytes to.old ++ steps_scenario r.now steps.now) }
+pub fn append_scenario(steps: &[Step], roster: &Roster, to: &mut String) -> Result<(), NoMemory>
+    requires { list_all (names_declared roster.now.ports) steps.now ≡ true }
+    ensures { OnOk result (string_bytes to.new ≡ string_bytes to.old ++ steps_scenario roster.now steps.now) }
 {
-    append_head(r, r.own(), to)?;
-    append_steps(steps, r, to)?;
+    append_head(roster, roster.own(), to)?;
+    append_steps(steps, roster, to)?;
     to.push_str("end\n")?;
     Ok(())
 }

@@ -19,14 +19,14 @@ use std::alloc::Global;
 ///
 /// `LineWhy::NoMemory` is no cause: there was no memory for a frame's bytes or a port's name.
 #[inline(always)]
-pub fn read_line(alloc: Global, b: &[u8], r: &mut Roster) -> Result<Item, LineWhy>
-    ensures read { IfOk result (Reads r.old r.new b.now) }
+pub fn read_line(alloc: Global, bytes: &[u8], r: &mut Roster) -> Result<Item, LineWhy>
+    ensures read { IfOk result (Reads r.old r.new bytes.now) }
     ensures early { IfOk result (λ item. comes_in_place r.old.place item ≡ true) }
     ensures range { IfOk result (λ item. is_in_range r.old item ≡ true) }
-    ensures bad { IfErr result (λ why. (why ≡ NoMemoryLeft) ⊎ (line_says r.old b.now ≡ Err why)) }
+    ensures bad { IfErr result (λ why. (why ≡ NoMemoryLeft) ⊎ (line_says r.old bytes.now ≡ Err why)) }
     ensures unchanged { OnErr result (r.new ≡ r.old) }
 {
-    match what_says(alloc, b, r)? {
+    match what_says(alloc, bytes, r)? {
         Said::Blank => Ok(Item::Blank),
         Said::Opens(edition) => {
             r.open(edition);
@@ -94,11 +94,11 @@ fn what_words_say(alloc: Global, line: &[u8], r: &Roster) -> Result<Said, LineWh
 }
 
 /// Whether the bytes are the line `end`. The last line of a scenario may lack its line feed where they are.
-pub fn says_end(b: &[u8]) -> bool
-    ensures { result ≡ is_end (words b.now) }
+pub fn says_end(bytes: &[u8]) -> bool
+    ensures { result ≡ is_end (words bytes.now) }
 {
     let mut found = ArrayVec::new();
-    let Some(()) = find_words(b, &mut found) else {
+    let Some(()) = find_words(bytes, &mut found) else {
         return false;
     };
     match *found.as_slice() {

@@ -375,21 +375,21 @@ fn append_step(s: &Step, roster: &Roster, to: &mut String) -> Result<(), NoMemor
 }
 
 /// Writes the line of a step with its line feed behind the text. After want of memory a part of it may stand there.
-pub fn append_line(s: &Step, r: &Roster, to: &mut String) -> Result<(), NoMemory>
-    requires { names_declared r.now.ports s.now ≡ true }
-    ensures { OnOk result (string_bytes to.new ≡ string_bytes to.old ++ step_text r.now.ports s.now) }
+pub fn append_line(step: &Step, roster: &Roster, to: &mut String) -> Result<(), NoMemory>
+    requires { names_declared roster.now.ports step.now ≡ true }
+    ensures { OnOk result (string_bytes to.new ≡ string_bytes to.old ++ step_text roster.now.ports step.now) }
 {
-    append_step(s, r, to)?;
+    append_step(step, roster, to)?;
     to.push('\n')
 }
 
 /// The line of a step with its line feed. Of a frame without bytes it shows one byte, of one that is too long only enough to
 /// tell so.
-pub fn write_line(alloc: Global, s: &Step, r: &Roster) -> Result<Bytes, NoMemory>
-    requires { names_declared r.now.ports s.now ≡ true }
-    ensures { IfOk result (λ line. line ≡ step_text r.now.ports s.now) }
+pub fn write_line(alloc: Global, step: &Step, roster: &Roster) -> Result<Bytes, NoMemory>
+    requires { names_declared roster.now.ports step.now ≡ true }
+    ensures { IfOk result (λ line. line ≡ step_text roster.now.ports step.now) }
 {
     let mut line = String::new(alloc);
-    append_line(s, r, &mut line)?;
+    append_line(step, roster, &mut line)?;
     Ok(Bytes::of(line.into_bytes()))
 }

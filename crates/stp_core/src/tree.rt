@@ -269,9 +269,9 @@ impl Tree {
     }
 
     /// The same, where one went out.
-    pub fn last_message(&self, p: Port) -> Option<BpduMsg>
-        ensures { result ≡ message self.now p }
+    pub fn last_message(&self, port: Port) -> Option<BpduMsg>
+        ensures { result ≡ message self.now port }
     {
-        self.parameters.last_message(p)
+        self.parameters.last_message(port)
     }
 }

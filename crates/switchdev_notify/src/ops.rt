@@ -46,22 +46,22 @@ pub trait SwitchOps {
 
 /// Tells a driver of a change, as `switchdev_port_obj_add`, `switchdev_port_obj_del` and `switchdev_port_attr_set` do. What is
 /// deferred in the edition is left to the queue, as the kernel does with `SWITCHDEV_F_DEFER`, and the driver isn't called.
-pub fn deliver<D: SwitchOps>(d: &mut D, n: &Notice, e: Edition)
-    requires { Takes (D.takes d.old) e n.now }
-    ensures told { (domains : Domains) (t : Table) → D.means domains d.old t → D.means domains d.new (after e t n.now) }
+pub fn deliver<D: SwitchOps>(d: &mut D, n: &Notice, edition: Edition)
+    requires { Takes (D.takes d.old) edition n.now }
+    ensures told { (domains : Domains) (t : Table) → D.means domains d.old t → D.means domains d.new (after edition t n.now) }
     ensures list { (domains : Domains) (list : List Change) (c : Change) → n.now ≡ notice c
-        → D.means domains d.old (table list) → D.means domains d.new (table (list ++ synchronous_of e (c ∷ []))) }
-    ensures deferred { told_in e n.now ≡ None → d.new ≡ d.old }
+        → D.means domains d.old (table list) → D.means domains d.new (table (list ++ synchronous_of edition (c ∷ []))) }
+    ensures deferred { told_in edition n.now ≡ None → d.new ≡ d.old }
     ensures domain { D.domain d.new ≡ D.domain d.old }
 {
     match n {
         Notice::ObjAdd(object) => {
-            if !is_deferred(object, e) {
+            if !is_deferred(object, edition) {
                 d.obj_add(object);
             }
         }
         Notice::ObjDel(object) => {
-            if !is_deferred(object, e) {
+            if !is_deferred(object, edition) {
                 d.obj_del(object);
             }
         }

@@ -129,10 +129,10 @@ fn read_words(alloc: Global, words: &[&str]) -> Result<Option<Line>, NoMemory>
 }
 
 /// The line with this text, its line feed included. `None` exactly where no line has it. No two lines have one text.
-pub fn read(alloc: Global, b: &[u8]) -> Result<Option<Line>, NoMemory>
-    ensures { IfOk result (λ line. (l : ALine) → (line ≡ Some l) ↔ ((is_line l ≡ true) × (line_text l ≡ b.now))) }
+pub fn read(alloc: Global, bytes: &[u8]) -> Result<Option<Line>, NoMemory>
+    ensures { IfOk result (λ line. (l : ALine) → (line ≡ Some l) ↔ ((is_line l ≡ true) × (line_text l ≡ bytes.now))) }
 {
-    let Some(line) = text(b) else {
+    let Some(line) = text(bytes) else {
         return Ok(None);
     };
     let mut words = ArrayVec::new();

@@ -50,29 +50,29 @@ impl Joined {
     }
 
     /// Block i of the port.
-    pub fn block(&self, p: Port, i: u8) -> VlanBlock
+    pub fn block(&self, port: Port, i: u8) -> VlanBlock
         requires { i < 64 }
-        ensures { result ≡ block_at self.now p i }
+        ensures { result ≡ block_at self.now port i }
     {
         block_in(
             self.blocks.as_slice(),
-            64 * usize::from(p.number()) + usize::from(i),
+            64 * usize::from(port.number()) + usize::from(i),
         )
     }
 
     /// The numbers of the port's blocks that aren't empty.
-    pub fn used(&self, p: Port) -> VlanBlock
-        ensures { (i : ℕ) → i < 64 → (has_number result i ≡ false) ↔ (block_at self.now p i ≡ []) }
+    pub fn used(&self, port: Port) -> VlanBlock
+        ensures { (i : ℕ) → i < 64 → (has_number result i ≡ false) ↔ (block_at self.now port i ≡ []) }
     {
-        self.used[usize::from(p.number())]
+        self.used[usize::from(port.number())]
     }
 
     /// Whether the port is in the VLAN.
-    pub fn has(&self, p: Port, v: Vid) -> bool
-        ensures { result ≡ has_vlan self.now p v }
+    pub fn has(&self, port: Port, v: Vid) -> bool
+        ensures { result ≡ has_vlan self.now port v }
     {
         let vid = v.number();
-        self.block(p, (vid / 64) as u8).has((vid % 64) as u8)
+        self.block(port, (vid / 64) as u8).has((vid % 64) as u8)
     }
 
     /// Puts the port into the VLAN or out of it.
@@ -93,12 +93,12 @@ impl Joined {
     }
 
     /// The VLANs of which the port is a member, ascending. It looks at no other.
-    pub fn vids_of(&self, alloc: Global, p: Port) -> Result<Vec<Vid>, NoMemory>
-        ensures { IfOk result (λ vids. vids.items ≡ numbers_below 4096 (λ v. is_vlan v && has_vlan self.now p v)) }
+    pub fn vids_of(&self, alloc: Global, port: Port) -> Result<Vec<Vid>, NoMemory>
+        ensures { IfOk result (λ vids. vids.items ≡ numbers_below 4096 (λ v. is_vlan v && has_vlan self.now port v)) }
     {
         let mut vids = Vec::new(alloc);
-        for i in self.used(p).iter() {
-            push_block(&mut vids, self.block(p, i), i)?;
+        for i in self.used(port).iter() {
+            push_block(&mut vids, self.block(port, i), i)?;
         }
         Ok(vids)
     }

@@ -88,15 +88,15 @@ impl VlanTable {
     }
 
     /// As `add`, but in place of a membership that is there.
-    pub fn put(&mut self, p: Port, v: Vid, untagged: bool, pvid: bool)
-        ensures { self.new ≡ after self.old (Change.VlanAdd p v untagged pvid) }
+    pub fn put(&mut self, port: Port, vid: Vid, untagged: bool, pvid: bool)
+        ensures { self.new ≡ after self.old (Change.VlanAdd port vid untagged pvid) }
     {
-        let place = place_of(v);
-        let row = row_at(self.rows.as_slice(), place).with(p, untagged);
+        let place = place_of(vid);
+        let row = row_at(self.rows.as_slice(), place).with(port, untagged);
         put_row(&mut self.rows, place, row);
-        self.joined.switch(p, v, true);
+        self.joined.switch(port, vid, true);
         if pvid {
-            set_pvid(&mut self.pvids, p, v);
+            set_pvid(&mut self.pvids, port, vid);
         }
     }
 
@@ -114,14 +114,14 @@ impl VlanTable {
     }
 
     /// As `del`, but also where there is no membership: the port's untagged frames have the VLAN no longer.
-    pub fn remove(&mut self, p: Port, v: Vid)
-        ensures { self.new ≡ after self.old (Change.VlanDel p v) }
+    pub fn remove(&mut self, port: Port, vid: Vid)
+        ensures { self.new ≡ after self.old (Change.VlanDel port vid) }
     {
-        let place = place_of(v);
-        let row = row_at(self.rows.as_slice(), place).without(p);
+        let place = place_of(vid);
+        let row = row_at(self.rows.as_slice(), place).without(port);
         put_row(&mut self.rows, place, row);
-        self.joined.switch(p, v, false);
-        unset_pvid(&mut self.pvids, p, v);
+        self.joined.switch(port, vid, false);
+        unset_pvid(&mut self.pvids, port, vid);
     }
 
     /// The VLAN of the port's untagged frames.
@@ -153,19 +153,19 @@ impl VlanTable {
     }
 
     /// The members that the VLAN's frames leave without a tag.
-    pub fn untagged_of(&self, v: Vid) -> Ports
-        ensures { result ≡ ports_where (λ p. is_untagged self.now p v) }
+    pub fn untagged_of(&self, vid: Vid) -> Ports
+        ensures { result ≡ ports_where (λ p. is_untagged self.now p vid) }
     {
-        row_at(self.rows.as_slice(), place_of(v)).untagged()
+        row_at(self.rows.as_slice(), place_of(vid)).untagged()
     }
 
     /// The VLANs of which the port is a member, ascending. It looks at no other.
-    pub fn vids_of(&self, alloc: Global, p: Port) -> Result<Vids, NoMemory>
-        ensures { IfOk result (λ vids. vids ≡ vids_of self.now.vlans p) }
+    pub fn vids_of(&self, alloc: Global, port: Port) -> Result<Vids, NoMemory>
+        ensures { IfOk result (λ vids. vids ≡ vids_of self.now.vlans port) }
     {
         // law: the blocks have what the rows have
         let _rows = &self.rows;
-        Ok(Vids::of(self.joined.vids_of(alloc, p)?))
+        Ok(Vids::of(self.joined.vids_of(alloc, port)?))
     }
 }
 

@@ -8,4 +8,4 @@ abbrev pub invariant-loop-number : goal.invariant-loop-number
 invariant-loop-number l =
     (1 ≤ l.number)
     × (string_bytes l.to ≡ string_bytes l.fn.to
-    ++ flat_map (domain_lines l.roster.ports l.p.world) (filter (λ k. has_chip l.p.world.setup.domains k) (take (l.number - 1) (1 ∷ 2 ∷ 3 ∷ 4 ∷ []))))
+    ++ flat_map (domain_lines l.roster.ports l.plane.world) (filter (λ k. has_chip l.plane.world.setup.domains k) (take (l.number - 1) (1 ∷ 2 ∷ 3 ∷ 4 ∷ []))))

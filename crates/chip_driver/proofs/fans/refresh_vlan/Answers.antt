@@ -9,7 +9,7 @@ use Rattle.chip_driver.proofs.fans.refresh_vlan.Goals as goal
 pub returns : goal.returns
 returns c =
     let s = c.args.shadow.now in
-    let v = c.args.v in
+    let v = c.args.vid in
     let touched = c.args.touched.now in
     refreshed_both s
     (λ w k. ((w == v) && (same_fan k (Floods Bcast) && touched.bcast)) || (((w == v) && (same_fan k (Floods Mcast) && touched.mcast)) || ((w == v) && (same_fan k (Floods Unicast) && touched.unicast))))

@@ -4,4 +4,4 @@ use Rattle.ether_frames.proofs.frames.tag_bytes.Goals as goal
 
 pub tag_bits-requires : goal.tag_bits-requires
 tag_bits-requires c =
-    (frame-is_head c.args.b.now c.args.h.now (λ i. omega (arith, c.type_inv.b i)) c.requires).tag
+    (frame-is_head c.args.b.now c.args.head.now (λ i. omega (arith, c.type_inv.b i)) c.requires).tag

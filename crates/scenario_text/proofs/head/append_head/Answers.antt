@@ -13,7 +13,7 @@ returns c =
     let feed = c.in_ok-push.ensures.bytes ∙ ap (λ (t : List ℕ). string_bytes c.append_mac.new.to ++ t) (c.in_ok-push.ensures.ascii (omega arith)) in
     on_ok_weaker c.append_ports.result
     (λ last.
-    five_parts (string_bytes c.args.to.now) _ _ _ _ _ (edition_line c.args.r.now.edition) (codes "bridge ") (mac_text c.args.own) (10 ∷ []) (flat_map port_line c.args.r.now.ports)
+    five_parts (string_bytes c.args.to.now) _ _ _ _ _ (edition_line c.args.roster.now.edition) (codes "bridge ") (mac_text c.args.own) (10 ∷ []) (flat_map port_line c.args.roster.now.ports)
     (c.in_ok-push_str.ensures.bytes ∙ ap (λ (t : List ℕ). string_bytes c.args.to.now ++ t) (rw c.edition.ensures at c.opening_line.ensures))
     c.in_ok-push_str-2.ensures.bytes c.in_ok-append_mac.ensures feed last)
     c.append_ports.ensures

@@ -10,5 +10,5 @@ use Rattle.scenario_text.proofs.head.append_scenario.Goals as goal
 pub returns : goal.returns
 unfolding steps_scenario
 returns c =
-    three_parts (string_bytes c.args.to.now) _ _ _ (head_text c.args.r.now) (flat_map (step_text c.args.r.now.ports) c.args.steps.now) (codes "end\n")
+    three_parts (string_bytes c.args.to.now) _ _ _ (head_text c.args.roster.now) (flat_map (step_text c.args.roster.now.ports) c.args.steps.now) (codes "end\n")
     (rw c.own.ensures at c.in_ok-append_head.ensures) c.in_ok-append_steps.ensures c.in_ok-push_str.ensures.bytes

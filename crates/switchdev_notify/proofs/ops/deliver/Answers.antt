@@ -6,12 +6,12 @@ use Rattle.switchdev_notify.proofs.ops.deliver.Goals as goal
 pub obj_add-requires : goal.obj_add-requires
 obj_add-requires g c =
     let o = c.in-ObjAdd.object.now in
-    c.requires (change_added o) (ap (told_in c.args.e) c.in-ObjAdd.is ∙ told_added c.args.e o (sym c.is_deferred.ensures.added ∙ c.if-is_deferred.false))
+    c.requires (change_added o) (ap (told_in c.args.edition) c.in-ObjAdd.is ∙ told_added c.args.edition o (sym c.is_deferred.ensures.added ∙ c.if-is_deferred.false))
 
 pub obj_del-requires : goal.obj_del-requires
 obj_del-requires g c =
     let o = c.in-ObjDel.object.now in
-    c.requires (change_removed o) (ap (told_in c.args.e) c.in-ObjDel.is ∙ told_removed c.args.e o (sym c.is_deferred-in-ObjDel.ensures.removed ∙ c.if-is_deferred-in-ObjDel.false))
+    c.requires (change_removed o) (ap (told_in c.args.edition) c.in-ObjDel.is ∙ told_removed c.args.edition o (sym c.is_deferred-in-ObjDel.ensures.removed ∙ c.if-is_deferred-in-ObjDel.false))
 
 pub attr_set-requires : goal.attr_set-requires
-attr_set-requires g c = c.requires (change_of_attribute c.in-Attr.attribute.now) (ap (told_in c.args.e) c.in-Attr.is)
+attr_set-requires g c = c.requires (change_of_attribute c.in-Attr.attribute.now) (ap (told_in c.args.edition) c.in-Attr.is)

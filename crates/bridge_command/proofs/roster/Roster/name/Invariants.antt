@@ -5,4 +5,4 @@ use Rattle.bridge_command.proofs.roster.Roster.name.Given as goal
 
 abbrev pub invariant-loop-i : goal.invariant-loop-i
 invariant-loop-i l =
-    (has_number (drop l.i l.self.ports) l.p ≡ has_number l.self.ports l.p) × (name_of (drop l.i l.self.ports) l.p ≡ name_of l.self.ports l.p) × (l.i-end ≡ length l.self.ports)
+    (has_number (drop l.i l.self.ports) l.port ≡ has_number l.self.ports l.port) × (name_of (drop l.i l.self.ports) l.port ≡ name_of l.self.ports l.port) × (l.i-end ≡ length l.self.ports)

@@ -9,7 +9,7 @@ use Rattle.check_world.proofs.cuts.Cuts.follow.Goals as goal
 
 pub follow-requires-clause-cut : goal.follow-requires-clause-cut
 follow-requires-clause-cut c =
-    let d = c.args.d.now in
+    let d = c.args.domains.now in
     let h = take c.args.from c.args.history.now in
     let place = c.loop-place.place in
     let item = c.index_mut.result.now in
@@ -29,6 +29,6 @@ loop-place-preserved c =
     omega (arith, c.loop-place-test.true, c.len-place-end.ensures, ap length c.loop-place.invariant.0, length-map xs (λ (s : CutState). s.chip), length-map ys (λ (s : CutState). s.chip)) in (
       map-set_same (λ (s : CutState). s.chip) ys place c.follow.new.self item (c.follow.ensures.chip ∙ ap (λ (s : CutState). s.chip) c.index_mut.ensures.value) ∙ c.loop-place.invariant.0,
       rest-set ys xs place c.follow.new.self c.loop-place.invariant.1,
-      AllWithin-more_set ys place c.follow.new.self within (IsCut c.args.d.now.edition c.args.history.now) c.loop-place.invariant.2
+      AllWithin-more_set ys place c.follow.new.self within (IsCut c.args.domains.now.edition c.args.history.now) c.loop-place.invariant.2
           (subst (λ (e : Edition). IsCut e c.args.history.now c.follow.new.self) c.edition.ensures c.follow.ensures.cut),
     )

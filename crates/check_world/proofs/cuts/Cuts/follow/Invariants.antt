@@ -7,4 +7,4 @@ abbrev pub invariant-loop-place : goal.invariant-loop-place
 invariant-loop-place l =
     (chips_of l.self-inside.cuts.items ≡ chips_of l.initial.self-inside.cuts.items)
     × (drop l.place l.self-inside.cuts.items ≡ drop l.place l.initial.self-inside.cuts.items)
-    × AllWithin (IsCut l.d.edition l.history) l.self-inside.cuts.items 0 l.place
+    × AllWithin (IsCut l.domains.edition l.history) l.self-inside.cuts.items 0 l.place

@@ -7,5 +7,5 @@ use Rattle.check_world.proofs.cuts.Cuts.make.Given as goal
 
 abbrev pub invariant-loop-number : goal.invariant-loop-number
 invariant-loop-number l =
-    (1 ≤ l.number) × All (IsCut l.d.edition []) l.cuts.items
-    × (chips_of l.cuts.items ≡ map first_chip (filter (λ k. has_chip l.d k) (take (l.number - 1) (1 ∷ 2 ∷ 3 ∷ 4 ∷ []))))
+    (1 ≤ l.number) × All (IsCut l.domains.edition []) l.cuts.items
+    × (chips_of l.cuts.items ≡ map first_chip (filter (λ k. has_chip l.domains k) (take (l.number - 1) (1 ∷ 2 ∷ 3 ∷ 4 ∷ []))))

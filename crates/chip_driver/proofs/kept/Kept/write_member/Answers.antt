@@ -17,8 +17,8 @@ refresh-requires c =
 pub returns-clause-kept : goal.returns-clause-kept
 returns-clause-kept c =
     let kept = c.args.self.now in
-    let p = c.args.p in
-    let v = c.args.v in
+    let p = c.args.port in
+    let v = c.args.vid in
     let members = c.switched-members.ensures ∙ ap₂ (λ (r : VlanRow) n. switched r.members n c.args.on) c.vlan-row.ensures c.number-n.ensures.value in
     let was = c.has.ensures.value ∙ ap₂ (λ (r : VlanRow) n. has_number r.members n) c.vlan-row.ensures c.number-n.ensures.value in
     let tells = tells_at _ _ _ _ _ (c.of-before.ensures ∙ ap (λ m. shares_of kept.shadow p m) was) c.of.ensures c.touched-touched.ensures in
@@ -37,9 +37,9 @@ returns-clause-kept c =
 pub returns-clause-row : goal.returns-clause-row
 returns-clause-row c vid =
     let old = c.args.self.now.tables in
-    let members : c.switched-members.result ≡ switched (vlan_at old c.args.v).members c.args.p c.args.on =
+    let members : c.switched-members.result ≡ switched (vlan_at old c.args.vid).members c.args.port c.args.on =
     c.switched-members.ensures ∙ ap₂ (λ (r : VlanRow) n. switched r.members n c.args.on) c.vlan-row.ensures c.number-n.ensures.value in
-    let untagged : c.switched-untagged.result ≡ switched (vlan_at old c.args.v).untagged c.args.p c.args.untagged =
+    let untagged : c.switched-untagged.result ≡ switched (vlan_at old c.args.vid).untagged c.args.port c.args.untagged =
     c.switched-untagged.ensures ∙ ap₂ (λ (r : VlanRow) n. switched r.untagged n c.args.untagged) c.vlan-row.ensures c.number-n.ensures.value in
     ap (λ (r : Rows). vlan_at r vid) c.refresh.ensures.rest ∙ ap (λ (r : Rows). vlan_at r vid) c.refresh_vlan.ensures.rest ∙ c.set_vlan.ensures.row vid
-    ∙ ap₂ (λ m u. cond (vid == c.args.v) (record { members = m; untagged = u }) (vlan_at old vid)) members untagged
+    ∙ ap₂ (λ m u. cond (vid == c.args.vid) (record { members = m; untagged = u }) (vlan_at old vid)) members untagged

@@ -14,7 +14,7 @@ refresh-requires-2 c =
 pub returns-clause-kept : goal.returns-clause-kept
 returns-clause-kept c =
     let kept = c.args.self.now in
-    let p = c.args.p in
+    let p = c.args.port in
     let tells = tells_at _ _ _ _ _ c.of-before.ensures c.of.ensures c.touched-touched.ensures in
     record {
       settled = settled_groups _ kept.joined _ _

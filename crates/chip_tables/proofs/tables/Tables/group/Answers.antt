@@ -11,7 +11,7 @@ use Rattle.chip_tables.proofs.tables.Tables.group.Goals as goal
 
 pub returns : goal.returns
 returns c =
-    let k : GroupPair = (c.args.v, c.args.g) in
+    let k : GroupPair = (c.args.vid, c.args.group) in
     let es = c.self.inside.groups.entries in
     let small = c.group_key.ensures.below in
     c.get.ensures ∙ ap (λ (q : GroupPair). entries.find nat_cmp (number_of q) es) c.group_key.ensures.value

@@ -14,7 +14,7 @@ use Rattle.chip_tables.proofs.tables.Tables.set_address.Goals as goal
 
 pub insert-requires-clause-room : goal.insert-requires-clause-room
 insert-requires-clause-room c none =
-    let k : Pair = (c.args.v, c.args.m) in
+    let k : Pair = (c.args.vid, c.args.mac) in
     let es = c.self.inside.addresses.entries in
     let absent : entries.find nat_cmp (packed k) es ≡ None = ap (λ (q : Pair). entries.find nat_cmp (packed q) es) (sym c.key.ensures.value) ∙ none in
     let given : length (put pair_cmp c.args.self.now.addresses k c.in-Some.row) ≤ most_addresses = subst (λ (r : Option AddressRow). IfSome r (λ row. length (put pair_cmp c.args.self.now.addresses k row) ≤ most_addresses)) c.in-Some.is c.requires in
@@ -25,7 +25,7 @@ insert-requires-clause-room c none =
 
 pub returns-in-Some-clause-row : goal.returns-in-Some-clause-row
 returns-in-Some-clause-row c =
-    let k : Pair = (c.args.v, c.args.m) in
+    let k : Pair = (c.args.vid, c.args.mac) in
     let es = c.self.inside.addresses.entries in
     ap (λ (t : Table AddressRow). by_pair t.entries) c.insert.ensures ∙ ap (λ (q : Pair). by_pair (entries.put nat_cmp (packed q) c.in-Some.row es)) c.key.ensures.value
     ∙ sym (put-by_pair k c.key.ensures.below c.in-Some.row es) ∙ ap (λ (t : Rows). put pair_cmp t.addresses k c.in-Some.row) c.self.view_is
@@ -33,7 +33,7 @@ returns-in-Some-clause-row c =
 
 pub returns-in-None-clause-row : goal.returns-in-None-clause-row
 returns-in-None-clause-row c =
-    let k : Pair = (c.args.v, c.args.m) in
+    let k : Pair = (c.args.vid, c.args.mac) in
     let es = c.self.inside.addresses.entries in
     ap (λ (t : Table AddressRow). by_pair t.entries) c.take.ensures.rest
     ∙ ap (λ (q : Pair). by_pair (entries.where_key nat_cmp (λ x. not (eq_by_cmp nat_cmp (packed q) x)) es)) c.key-in-None.ensures.value

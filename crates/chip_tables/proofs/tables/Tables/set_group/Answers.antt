@@ -14,7 +14,7 @@ use Rattle.chip_tables.proofs.tables.Tables.set_group.Goals as goal
 
 pub insert-requires-clause-room : goal.insert-requires-clause-room
 insert-requires-clause-room c none =
-    let k : GroupPair = (c.args.v, c.args.g) in
+    let k : GroupPair = (c.args.vid, c.args.group) in
     let es = c.self.inside.groups.entries in
     let small = c.group_key.ensures.below in
     let absent : entries.find nat_cmp (number_of k) es ≡ None = ap (λ (q : GroupPair). entries.find nat_cmp (number_of q) es) (sym c.group_key.ensures.value) ∙ none in
@@ -28,7 +28,7 @@ insert-requires-clause-room c none =
 
 pub returns-in-Some-clause-row : goal.returns-in-Some-clause-row
 returns-in-Some-clause-row c =
-    let k : GroupPair = (c.args.v, c.args.g) in
+    let k : GroupPair = (c.args.vid, c.args.group) in
     let es = c.self.inside.groups.entries in
     let small = c.group_key.ensures.below in
     ap (λ (t : Table FanRow). by_group t.entries) c.insert.ensures ∙ ap (λ (q : GroupPair). by_group (entries.put nat_cmp (number_of q) c.in-Some.row es)) c.group_key.ensures.value
@@ -37,7 +37,7 @@ returns-in-Some-clause-row c =
 
 pub returns-in-None-clause-row : goal.returns-in-None-clause-row
 returns-in-None-clause-row c =
-    let k : GroupPair = (c.args.v, c.args.g) in
+    let k : GroupPair = (c.args.vid, c.args.group) in
     let es = c.self.inside.groups.entries in
     let small = c.group_key-in-None.ensures.below in
     ap (λ (t : Table FanRow). by_group t.entries) c.take.ensures.rest

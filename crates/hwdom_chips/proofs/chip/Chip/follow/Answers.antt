@@ -11,14 +11,14 @@ use Rattle.hwdom_chips.proofs.chip.Chip.follow.Goals as goal
 
 pub tell_from-requires-clause-stands : goal.tell_from-requires-clause-stands
 tell_from-requires-clause-stands c =
-    let d = c.args.d.now in
+    let d = c.args.domains.now in
     let before = subst (IsChip d (take c.args.from c.args.history.now)) (sym c.self.view_is) c.requires.stands in
     subst (λ (e : Edition). IsCut e (take c.args.from c.args.history.now) c.self.inside.driver) (sym c.edition.ensures)
     (record { domains = d; count = c.self.inside.count; applied = before.applied; rows = before.rows })
 
 pub returns-clause-stands : goal.returns-clause-stands
 returns-clause-stands c =
-    let d = c.args.d.now in
+    let d = c.args.domains.now in
     let h = c.args.history.now in
     let before = subst (IsChip d (take c.args.from h)) (sym c.self.view_is) c.requires.stands in
     let told = subst (λ (e : Edition). (domains : Domains) (k : ℕ) → k ≤ deferred_count e (take c.args.from h)

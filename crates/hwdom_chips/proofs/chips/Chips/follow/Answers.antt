@@ -8,7 +8,7 @@ use Rattle.hwdom_chips.proofs.chips.Chips.follow.Goals as goal
 
 pub follow-requires-clause-stands : goal.follow-requires-clause-stands
 follow-requires-clause-stands c =
-    let d = c.args.d.now in
+    let d = c.args.domains.now in
     let h = take c.args.from c.args.history.now in
     let place = c.loop-place.place in
     let item = c.index_mut.result.now in
@@ -27,5 +27,5 @@ loop-place-preserved c =
     omega (arith, c.loop-place-test.true, c.len-place-end.ensures, ap length c.loop-place.invariant.0, length-map xs (λ (s : ChipState). s.chip), length-map ys (λ (s : ChipState). s.chip)) in (
       map-set_same (λ (s : ChipState). s.chip) ys place c.follow.new.self item (c.follow.ensures.chip ∙ ap (λ (s : ChipState). s.chip) c.index_mut.ensures.value) ∙ c.loop-place.invariant.0,
       rest-set ys xs place c.follow.new.self c.loop-place.invariant.1,
-      AllWithin-more_set ys place c.follow.new.self within (IsChip c.args.d.now c.args.history.now) c.loop-place.invariant.2 c.follow.ensures.stands,
+      AllWithin-more_set ys place c.follow.new.self within (IsChip c.args.domains.now c.args.history.now) c.loop-place.invariant.2 c.follow.ensures.stands,
     )

@@ -7,4 +7,4 @@ abbrev pub invariant-loop-place : goal.invariant-loop-place
 invariant-loop-place l =
     (chips_of l.self-inside.chips.items ≡ chips_of l.initial.self-inside.chips.items)
     × (drop l.place l.self-inside.chips.items ≡ drop l.place l.initial.self-inside.chips.items)
-    × AllWithin (IsChip l.d l.history) l.self-inside.chips.items 0 l.place
+    × AllWithin (IsChip l.domains l.history) l.self-inside.chips.items 0 l.place

@@ -7,5 +7,5 @@ use Rattle.hwdom_chips.proofs.chips.Chips.make.Given as goal
 
 abbrev pub invariant-loop-number : goal.invariant-loop-number
 invariant-loop-number l =
-    (1 ≤ l.number) × All (IsChip l.d []) l.chips.items
-    × (chips_of l.chips.items ≡ map first_chip (filter (λ k. has_chip l.d k) (take (l.number - 1) (1 ∷ 2 ∷ 3 ∷ 4 ∷ []))))
+    (1 ≤ l.number) × All (IsChip l.domains []) l.chips.items
+    × (chips_of l.chips.items ≡ map first_chip (filter (λ k. has_chip l.domains k) (take (l.number - 1) (1 ∷ 2 ∷ 3 ∷ 4 ∷ []))))

@@ -7,5 +7,5 @@ use Rattle.mdb_snoop.proofs.groups.Groups.has_room.Goals as goal
 pub returns : goal.returns
 returns c =
     c.has_room.ensures
-    ∙ ap (λ ss. has_room (keys (flat ss)) c.args.v c.args.g) c.deref.ensures.value
-    ∙ ap (λ l. has_room l c.args.v c.args.g) c.self.view_is
+    ∙ ap (λ ss. has_room (keys (flat ss)) c.args.vid c.args.group) c.deref.ensures.value
+    ∙ ap (λ l. has_room l c.args.vid c.args.group) c.self.view_is

@@ -9,6 +9,6 @@ use Rattle.mdb_snoop.proofs.mdb.Mdb.has.Goals as goal
 pub returns : goal.returns
 returns c =
     c.has_member.ensures
-    ∙ ap (λ l. is_some (get membership_cmp (flat l) (c.args.v, c.args.g, c.args.p))) c.deref.ensures.value
-    ∙ is_some-find membership_cmp (c.args.v, c.args.g, c.args.p) (flat c.self.inside.sections.items)
-    ∙ ap (λ d. has membership_cmp (memberships d) (c.args.v, c.args.g, c.args.p)) c.self.view_is
+    ∙ ap (λ l. is_some (get membership_cmp (flat l) (c.args.vid, c.args.group, c.args.port))) c.deref.ensures.value
+    ∙ is_some-find membership_cmp (c.args.vid, c.args.group, c.args.port) (flat c.self.inside.sections.items)
+    ∙ ap (λ d. has membership_cmp (memberships d) (c.args.vid, c.args.group, c.args.port)) c.self.view_is

@@ -8,5 +8,5 @@ use Rattle.mdb_snoop.proofs.mdb.Mdb.has_room.Goals as goal
 pub returns : goal.returns
 returns c =
     c.has_room.ensures
-    ∙ ap (λ l. has_room (keys (flat l)) c.args.v c.args.g) c.deref.ensures.value
-    ∙ ap (λ d. has_room (memberships d) c.args.v c.args.g) c.self.view_is
+    ∙ ap (λ l. has_room (keys (flat l)) c.args.vid c.args.group) c.deref.ensures.value
+    ∙ ap (λ d. has_room (memberships d) c.args.vid c.args.group) c.self.view_is

@@ -14,9 +14,9 @@ returns-then-on c =
     ap (λ r. record (the_view c.self.inside) { routers = r })
     (c.with-self-inside.ensures
     ∙ ap (λ n. numbers_below port_places (λ m. (m == n) || has_number old m)) c.number-number.ensures.value
-    ∙ sym (insert_key-set port_places c.args.p old c.members_ascend.ensures.ordered c.number-number.ensures.below)
-    ∙ ap (λ b. switched b old c.args.p) (sym c.if-on.true))
-    ∙ ap (λ (s : Known). record s { routers = switched c.args.on s.routers c.args.p }) c.self.view_is
+    ∙ sym (insert_key-set port_places c.args.port old c.members_ascend.ensures.ordered c.number-number.ensures.below)
+    ∙ ap (λ b. switched b old c.args.port) (sym c.if-on.true))
+    ∙ ap (λ (s : Known). record s { routers = switched c.args.on s.routers c.args.port }) c.self.view_is
 
 pub returns-else-on : goal.returns-else-on
 returns-else-on c =
@@ -24,6 +24,6 @@ returns-else-on c =
     ap (λ r. record (the_view c.self.inside) { routers = r })
     (c.without-self-inside.ensures
     ∙ ap (λ n. numbers_below port_places (λ m. has_number old m && not (m == n))) c.number-number.ensures.value
-    ∙ sym (without-set port_places c.args.p old c.members_ascend.ensures.ordered)
-    ∙ ap (λ b. switched b old c.args.p) (sym c.if-on.false))
-    ∙ ap (λ (s : Known). record s { routers = switched c.args.on s.routers c.args.p }) c.self.view_is
+    ∙ sym (without-set port_places c.args.port old c.members_ascend.ensures.ordered)
+    ∙ ap (λ b. switched b old c.args.port) (sym c.if-on.false))
+    ∙ ap (λ (s : Known). record s { routers = switched c.args.on s.routers c.args.port }) c.self.view_is

@@ -9,9 +9,9 @@ use Rattle.plane_core.proofs.plane.Plane.tables.Goals as goal
 
 pub tables-requires : goal.tables-requires
 tables-requires c =
-    chip_there (world_of c.self.inside.sides c.self.inside.frames c.self.inside.steps) c.args.d c.self.invariant (ap (λ (p : PlaneState). has_chip p.world.setup.domains c.args.d) c.self.view_is ∙ c.requires)
+    chip_there (world_of c.self.inside.sides c.self.inside.frames c.self.inside.steps) c.args.dom c.self.invariant (ap (λ (p : PlaneState). has_chip p.world.setup.domains c.args.dom) c.self.view_is ∙ c.requires)
 
 pub returns : goal.returns
 returns c x is =
-    subst (λ (p : PlaneState). Stands p.world.setup.domains c.args.d c.tables.result.now (table_of_chip p.world x)) c.self.view_is
-    (c.tables.ensures x (ap (λ (p : PlaneState). chip_at p.world c.args.d) c.self.view_is ∙ is))
+    subst (λ (p : PlaneState). Stands p.world.setup.domains c.args.dom c.tables.result.now (table_of_chip p.world x)) c.self.view_is
+    (c.tables.ensures x (ap (λ (p : PlaneState). chip_at p.world c.args.dom) c.self.view_is ∙ is))

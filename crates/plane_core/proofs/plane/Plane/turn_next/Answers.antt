@@ -10,10 +10,10 @@ use Rattle.plane_core.proofs.Turning.{there}
 use Rattle.plane_core.proofs.plane.Plane.turn_next.Goals as goal
 
 pub next_update-requires : goal.next_update-requires
-next_update-requires c = there c.args.self.now c.self.inside.sides c.self.inside.frames c.self.inside.steps c.args.d c.self.view_is c.self.invariant c.requires
+next_update-requires c = there c.args.self.now c.self.inside.sides c.self.inside.frames c.self.inside.steps c.args.dom c.self.view_is c.self.invariant c.requires
 
 pub turn-requires-clause-chip : goal.turn-requires-clause-chip
-turn-requires-clause-chip c = there c.args.self.now c.self.inside.sides c.self.inside.frames c.self.inside.steps c.args.d c.self.view_is c.self.invariant c.requires
+turn-requires-clause-chip c = there c.args.self.now c.self.inside.sides c.self.inside.frames c.self.inside.steps c.args.dom c.self.view_is c.self.invariant c.requires
 
 pub returns-in_default-clause-ok : goal.returns-in_default-clause-ok
 returns-in_default-clause-ok c =
@@ -21,10 +21,10 @@ returns-in_default-clause-ok c =
     let q = c.self.inside.frames in
     let n = c.self.inside.steps in
     let m = c.in_ok-step.step in
-    let x = some_is (chip_in s.chips c.args.d) (there c.args.self.now s q n c.args.d c.self.view_is c.self.invariant c.requires) in
+    let x = some_is (chip_in s.chips c.args.dom) (there c.args.self.now s q n c.args.dom c.self.view_is c.self.invariant c.requires) in
     record {
       lines = Refused m NothingPending ∷ [];
-      so = steps_so c.args.self.now s s q q n m (Turn c.args.d) _ _ c.self.view_is c.in_ok-step.ensures (turns_none s q c.args.d m x.0 x.1 (sym (c.next_update.ensures x.0 x.1) ∙ c.in_default.is)) refl refl;
+      so = steps_so c.args.self.now s s q q n m (Turn c.args.dom) _ _ c.self.view_is c.in_ok-step.ensures (turns_none s q c.args.dom m x.0 x.1 (sym (c.next_update.ensures x.0 x.1) ∙ c.in_default.is)) refl refl;
       added = c.in_ok-push.ensures.ok;
     }
 
@@ -34,9 +34,9 @@ invariant_of-self-2 c =
     let q = c.self.inside.frames in
     let n = c.self.inside.steps in
     let m = c.in_ok-step.step in
-    let x = some_is (chip_in s.chips c.args.d) (there c.args.self.now s q n c.args.d c.self.view_is c.self.invariant c.requires) in
-    stands_after s c.turn.new.self q q n m (Turn c.args.d) (Done m 0 ∷ []) c.in_ok-step.ensures
-    (turns_one s c.turn.new.self q c.args.d m x.0 c.in-Some.update x.1 (sym (c.next_update.ensures x.0 x.1) ∙ c.in-Some.is) (c.in_ok-turn.ensures.ok x.0 x.1)) c.self.invariant
+    let x = some_is (chip_in s.chips c.args.dom) (there c.args.self.now s q n c.args.dom c.self.view_is c.self.invariant c.requires) in
+    stands_after s c.turn.new.self q q n m (Turn c.args.dom) (Done m 0 ∷ []) c.in_ok-step.ensures
+    (turns_one s c.turn.new.self q c.args.dom m x.0 c.in-Some.update x.1 (sym (c.next_update.ensures x.0 x.1) ∙ c.in-Some.is) (c.in_ok-turn.ensures.ok x.0 x.1)) c.self.invariant
 
 pub returns-clause-ok : goal.returns-clause-ok
 returns-clause-ok c =
@@ -44,11 +44,11 @@ returns-clause-ok c =
     let q = c.self.inside.frames in
     let n = c.self.inside.steps in
     let m = c.in_ok-step.step in
-    let x = some_is (chip_in s.chips c.args.d) (there c.args.self.now s q n c.args.d c.self.view_is c.self.invariant c.requires) in
+    let x = some_is (chip_in s.chips c.args.dom) (there c.args.self.now s q n c.args.dom c.self.view_is c.self.invariant c.requires) in
     let after = c.in_ok-turn.ensures.ok x.0 x.1 in
     record {
       lines = Done m 0 ∷ [];
-      so = steps_so c.args.self.now s c.turn.new.self q q n m (Turn c.args.d) _ _ c.self.view_is c.in_ok-step.ensures
-          (turns_one s c.turn.new.self q c.args.d m x.0 c.in-Some.update x.1 (sym (c.next_update.ensures x.0 x.1) ∙ c.in-Some.is) after) refl (ap (λ (t : SidesState). t.board) after);
+      so = steps_so c.args.self.now s c.turn.new.self q q n m (Turn c.args.dom) _ _ c.self.view_is c.in_ok-step.ensures
+          (turns_one s c.turn.new.self q c.args.dom m x.0 c.in-Some.update x.1 (sym (c.next_update.ensures x.0 x.1) ∙ c.in-Some.is) after) refl (ap (λ (t : SidesState). t.board) after);
       added = c.push_reserved.ensures.lines ∙ ap (λ ls. ls ++ Done m 0 ∷ []) c.in_ok-reserve.ensures.lines;
     }

@@ -8,7 +8,7 @@ use Rattle.vlan_groups.proofs.joined.Joined.vids_of.Goals as goal
 pub loop-i-preserved : goal.loop-i-preserved
 loop-i-preserved c =
     let blocks = c.args.self.now in
-    let p = c.args.p in
+    let p = c.args.port in
     let i = c.in-Some.i in
     let seen = c.loop-i.yielded in
     c.in_ok-push_block.ensures.added
@@ -21,5 +21,5 @@ returns c =
     let all : c.loop-i.yielded ≡ c.used.result =
     yielded_members c.used.result _ _ _ c.loop-i.yielded _ (c.into_iter-i-iterator.ensures.into_iter_gives ∙ c.iter-i-items.ensures.members) c.loop-i.yielded_by c.in-None.is c.next.ensures.steps in
     c.loop-i.invariant
-    ∙ ap (λ (ys : List ℕ). flat_map (block_vids c.args.self.now c.args.p) ys) all
-    ∙ used_blocks c.args.self.now c.args.p c.used.result c.iter-i-items.ensures.ordered c.used.ensures
+    ∙ ap (λ (ys : List ℕ). flat_map (block_vids c.args.self.now c.args.port) ys) all
+    ∙ used_blocks c.args.self.now c.args.port c.used.result c.iter-i-items.ensures.ordered c.used.ensures

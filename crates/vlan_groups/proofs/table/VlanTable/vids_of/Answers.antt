@@ -9,5 +9,5 @@ pub returns : goal.returns
 returns c =
     c.of.ensures
     ∙ c.in_ok-vids_of.ensures
-    ∙ vids-tied (padded no_ports 4094 c.self.inside.rows.items) c.self.inside.joined c.args.p c.self.invariant.0 (omega arith)
-    ∙ ap (λ (s : Vlans). vids_of s.vlans c.args.p) c.self.view_is
+    ∙ vids-tied (padded no_ports 4094 c.self.inside.rows.items) c.self.inside.joined c.args.port c.self.invariant.0 (omega arith)
+    ∙ ap (λ (s : Vlans). vids_of s.vlans c.args.port) c.self.view_is
