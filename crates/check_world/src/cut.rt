@@ -1,5 +1,5 @@
 //! What a chip has applied of the history, without a chip: the table of its cut, and what it notes of frames.
-ghost use Rattle.std.specs.Prelude.{◌≡◌, ◌&&◌, ◌<◌, ◌≤◌, [], IfOk, IsTrue, OnErr, OnOk, false, length, not, slice_get, take};
+ghost use Rattle.std.specs.Prelude.{◌≡◌, ◌&&◌, ◌<◌, ◌≤◌, IfOk, IsTrue, OnErr, OnOk, false, length, not, slice_get, take};
 ghost use Rattle.br_model.specs.Control.Learning.{is_extern, is_reserved, teach};
 ghost use Rattle.br_model.specs.Plane.Chip.{first_chip, hit_of, report, unhit};
 ghost use Rattle.br_model.specs.Table.Change.{is_of_address};
@@ -17,7 +17,7 @@ use br_model::frame::{Head, McastMsg};
 use br_model::numbers::{Dom, Mac, Port, Vid};
 use br_model::plain::maps::{find, take};
 use br_model::steps::Triples;
-use forward_rules::{PortTables, SoftTables, Verdict};
+use forward_rules::{SoftTables, Verdict};
 use learn_report::noting::{entry_put, hit, offer};
 use learn_report::{Report, Reports};
 use std::alloc::Global;
@@ -34,15 +34,13 @@ pub struct Cut {
     dom: Dom,
     count: u32,
     tables: SoftTables,
-    // Of the same table: all but its addresses, and its addresses.
-    ports: PortTables,
+    // The addresses of the same table, ascending.
     addresses: Addresses,
     reports: Reports,
 }
 
 impl Model for Cut {
-    ghost use Rattle.std.specs.Prelude.{◌≡◌, []};
-    ghost use Rattle.br_model.specs.Table.Table.{with_addresses};
+    ghost use Rattle.std.specs.Prelude.{◌≡◌};
     ghost use Rattle.check_world.specs.Cuts.{CutState};
     ghost use Rattle.learn_report.specs.Reports.{chip_of};
 
@@ -50,7 +48,7 @@ impl Model for Cut {
 
     ghost view = { λ c. record { table = c.tables; chip = chip_of c.dom c.count c.reports } };
 
-    ghost invariant = { λ c. (c.ports ≡ with_addresses c.tables []) × (c.addresses.entries ≡ c.tables.addr) };
+    ghost invariant = { λ c. c.addresses.entries ≡ c.tables.addr };
 }
 
 /// Puts an entry, in place of one.
@@ -95,7 +93,6 @@ impl Cut {
             dom,
             count: 0,
             tables: SoftTables::make(alloc)?,
-            ports: PortTables::make(alloc)?,
             addresses: BTreeMap::new(alloc),
             reports: Reports::make(alloc)?,
         })
@@ -122,7 +119,6 @@ impl Cut {
         ensures { self.new ≡ record self.old { table = apply self.old.table change.now } }
     {
         self.tables.apply(change);
-        self.ports.apply(change);
     }
 
     /// Follows the changes that the history got behind its first `from` ones: it applies the synchronous ones, and the deferred ones wait.
@@ -151,7 +147,6 @@ impl Cut {
         hit(&mut self.reports, entry_put(change))?;
         follow_address(&mut self.addresses, change)?;
         self.tables.apply(change);
-        self.ports.apply(change);
         self.count += 1;
         Ok(())
     }
@@ -170,7 +165,7 @@ impl Cut {
         let address = head.dst.number();
         address == Mac::PAUSE_ADDRESS
             || head.dst.is_for_the_host()
-            || (address == Mac::BRIDGE_GROUP_ADDRESS && self.ports.stp())
+            || (address == Mac::BRIDGE_GROUP_ADDRESS && self.tables.stp())
     }
 
     /// What the frame teaches at the port, where it teaches.
@@ -180,8 +175,8 @@ impl Cut {
         if self.is_reserved(head) || !head.has_valid_source() {
             return None;
         }
-        match self.ports.vlan_of(port, head) {
-            Some(vid) if self.ports.may_teach(port, vid) => Some((vid, head.src)),
+        match self.tables.vlan_of(port, head) {
+            Some(vid) if self.tables.may_teach(port, vid) => Some((vid, head.src)),
             Some(_) | None => None,
         }
     }
@@ -213,7 +208,7 @@ impl Cut {
         if !head.has_valid_source() {
             return None;
         }
-        let key = (self.ports.vlan_of(port, head)?, head.src);
+        let key = (self.tables.vlan_of(port, head)?, head.src);
         match self.find(&key) {
             Some((other, _)) if other == port => Some(key),
             Some(_) | None => None,

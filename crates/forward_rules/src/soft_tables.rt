@@ -1,7 +1,8 @@
 //! The whole table, and what it decides of a frame.
 ghost use Rattle.std.specs.Prelude.{◌≡◌, ◌<◌, nat_lt, ◌&&◌, ◌||◌, [], false, length, IfOk, IfSome, IsTrue, Some};
 ghost use Rattle.std.specs.Option.{is_some, option_map_or};
-ghost use Rattle.br_model.specs.Forward.Admission.{admit};
+ghost use Rattle.br_model.specs.Control.Learning.{may_teach};
+ghost use Rattle.br_model.specs.Forward.Admission.{admit, vlan_of};
 ghost use Rattle.br_model.specs.Forward.Class.{class};
 ghost use Rattle.br_model.specs.Table.Domains.{foreign, host, port_places};
 ghost use Rattle.br_model.specs.Forward.Leave.{ports_out};
@@ -118,6 +119,27 @@ impl SoftTables {
         ensures { result ≡ admit self.now p h.now }
     {
         self.ports.admit(p, h)
+    }
+
+    /// The VLAN that the frame's tag, or its absence, gives at the port.
+    pub fn vlan_of(&self, port: Port, head: &Head) -> Option<Vid>
+        ensures { result ≡ vlan_of self.now port head.now }
+    {
+        self.ports.vlan_of(port, head)
+    }
+
+    /// Whether the port learns addresses of the VLAN.
+    pub fn may_teach(&self, port: Port, vid: Vid) -> bool
+        ensures { result ≡ may_teach self.now port vid }
+    {
+        self.ports.may_teach(port, vid)
+    }
+
+    /// Whether the spanning tree is on.
+    pub fn stp(&self) -> bool
+        ensures { result ≡ self.now.stp }
+    {
+        self.ports.stp()
     }
 
     /// What a chip does with the frame, and where it goes. The message is the one that the frame says to snooping.
