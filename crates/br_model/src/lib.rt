@@ -29,6 +29,7 @@ pub mod plain;
 pub mod plane_laws;
 pub mod scenario;
 pub mod snoop_laws;
+pub mod spelling;
 pub mod steps;
 pub mod transcript;
 pub mod tree;

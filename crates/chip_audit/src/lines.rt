@@ -11,10 +11,11 @@ use crate::entries::{Entries, Found};
 use crate::rows::Row;
 use br_model::change::Kind;
 use br_model::numbers::{Dom, Port};
+use br_model::spelling::{append_mac, kind_word};
 use bridge_command::Roster;
 use fdb_core::Key;
 use plane_core::Plane;
-use scenario_text::{append_mac, device, kind_word};
+use scenario_text::device;
 use std::alloc::Global;
 
 fn offload_word(offloaded: bool) -> &'static str

@@ -7,11 +7,12 @@ ghost use Rattle.br_model.specs.Text.Head.{edition_line, head_text, port_line};
 ghost use Rattle.br_model.specs.Text.Roster.{domains_of};
 ghost use Rattle.br_model.specs.Text.ScenarioText.{names_declared, step_text};
 
-use crate::write::{append_line, append_mac, name};
+use crate::write::{append_line, name};
 use br_model::NoMemory;
 use br_model::bytes::Bytes;
 use br_model::domains::{Domains, Edition};
 use br_model::numbers::{Dom, Mac, Port};
+use br_model::spelling::append_mac;
 use br_model::steps::Step;
 use bridge_command::Roster;
 use std::alloc::Global;

@@ -19,4 +19,4 @@ pub use scenario_generator::{
     END_BYTES, FrameSteps, Generator, MOST_FRAME_BYTES, Made, OPENING_BYTES, append_opening,
     domains, first_steps, generate,
 };
-pub use write::{append_line, append_mac, kind_word, write_line};
+pub use write::{append_line, write_line};

@@ -8,13 +8,14 @@ ghost use Rattle.br_model.specs.Program.Listings.{fdb_line, vlan_line, mdb_line,
 ghost use Rattle.br_model.specs.Data.Maps.{get};
 ghost use Rattle.br_model.specs.Text.Spelling.{device_text, mac_text, kind_word as word_of_kind, further};
 
-use crate::write::{append_dotted, append_groups, append_mac, kind_word, marks};
+use crate::write::{append_dotted, append_groups, marks};
 use br_model::NoMemory;
 use br_model::change::Kind;
 use br_model::group::Group;
 use br_model::listing::Listing;
 use br_model::numbers::{Mac, Port, Vid};
 use br_model::plain::table::Table;
+use br_model::spelling::{append_mac, kind_word};
 use bridge_command::Roster;
 use std::alloc::Global;
 

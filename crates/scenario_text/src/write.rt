@@ -1,13 +1,12 @@
 //! Steps as lines.
 ghost use Rattle.std.specs.Prelude.{◌≡◌, ◌++◌, ◌+◌, ◌<◌, [], ◌∷◌, true, IfOk, OnOk, codes, decimal};
 ghost use Rattle.std.specs.String.{string_bytes};
-ghost use Rattle.br_model.specs.Data.Digits.{hex_digit, hex_of};
 ghost use Rattle.br_model.specs.Text.FlagWords.{flags, name_of_flag};
 ghost use Rattle.br_model.specs.Text.Roster.{has_number};
 ghost use Rattle.br_model.specs.declared.steps.Command.TheVariants.{Link, VlanAdd, FdbAdd, FdbDel};
 ghost use Rattle.br_model.specs.Text.Operands.{is_device};
 ghost use Rattle.br_model.specs.Text.ScenarioText.{names_declared, step_text, step_words};
-ghost use Rattle.br_model.specs.Text.Spelling.{byte_at, mac_text, dotted, digits_at, groups_of_four, ip_text, kind_word as word_of_kind, device_text, further, name_of, shown as shown_of};
+ghost use Rattle.br_model.specs.Text.Spelling.{byte_at, mac_text, dotted, digits_at, groups_of_four, ip_text, device_text, further, name_of, shown as shown_of};
 ghost use Rattle.br_model.specs.Text.Words.{joined};
 
 use br_model::NoMemory;
@@ -15,35 +14,13 @@ use br_model::bytes::Bytes;
 use br_model::change::{Flags, Kind};
 use br_model::group::Ip;
 use br_model::numbers::{Dom, Mac, Port, Vid};
+use br_model::spelling::{append_hex, append_mac};
 use br_model::steps::{Command, Step};
 use bridge_command::Roster;
 use std::alloc::Global;
 
 /// The bytes of the longest frame, and one more.
 const MOST_SHOWN: usize = 9023;
-
-/// The digit of a half of a byte.
-fn digit(half: u8) -> char
-    requires { half < 16 }
-    ensures { result ≡ hex_digit half }
-{
-    if half < 10 {
-        char::from(b'0' + half)
-    } else {
-        char::from(b'a' + (half - 10))
-    }
-}
-
-/// Two digits in lower case for each byte.
-fn append_hex(bytes: &[u8], to: &mut String) -> Result<(), NoMemory>
-    ensures { OnOk result (string_bytes to.new ≡ string_bytes to.old ++ hex_of bytes.now) }
-{
-    for byte in bytes {
-        to.push(digit(*byte >> 4))?;
-        to.push(digit(*byte & 15))?;
-    }
-    Ok(())
-}
 
 /// The bytes of a frame that its line shows.
 fn shown(bytes: &[u8]) -> &[u8]
@@ -54,34 +31,6 @@ fn shown(bytes: &[u8]) -> &[u8]
     } else {
         &bytes[..bytes.len().min(MOST_SHOWN)]
     }
-}
-
-/// The byte that stands so many bits above the address's lowest.
-fn byte(mac: Mac, bits: u32) -> u8
-    requires { bits < 64 }
-    ensures { result ≡ byte_at mac bits }
-{
-    ((mac.number() >> bits) % 256) as u8
-}
-
-/// Three pairs of digits, joined by colons.
-fn append_three(a: u8, b: u8, c: u8, to: &mut String) -> Result<(), NoMemory>
-    ensures { OnOk result (string_bytes to.new ≡ string_bytes to.old ++ (hex_of (a ∷ []) ++ (58 ∷ hex_of (b ∷ []) ++ (58 ∷ hex_of (c ∷ []))))) }
-{
-    append_hex(&[a], to)?;
-    to.push(':')?;
-    append_hex(&[b], to)?;
-    to.push(':')?;
-    append_hex(&[c], to)
-}
-
-/// Six pairs of digits in lower case, joined by colons.
-pub fn append_mac(mac: Mac, to: &mut String) -> Result<(), NoMemory>
-    ensures { OnOk result (string_bytes to.new ≡ string_bytes to.old ++ mac_text mac) }
-{
-    append_three(byte(mac, 40), byte(mac, 32), byte(mac, 24), to)?;
-    to.push(':')?;
-    append_three(byte(mac, 16), byte(mac, 8), byte(mac, 0), to)
 }
 
 /// The byte that stands so many bits above the address's lowest.
@@ -129,18 +78,6 @@ fn append_ip(address: Ip, to: &mut String) -> Result<(), NoMemory>
     match address {
         Ip::V4(n) => append_dotted(n, to),
         Ip::V6(n) => append_groups(n, to),
-    }
-}
-
-/// The word of a kind in a line.
-pub fn kind_word(kind: Kind) -> &'static str
-    ensures { result.now ≡ word_of_kind kind }
-{
-    match kind {
-        Kind::Local => "local",
-        Kind::Static => "static",
-        Kind::Learned => "learned",
-        Kind::Extern => "extern",
     }
 }
 

@@ -15,8 +15,8 @@ returns c =
     (λ last.
     two_parts (string_bytes c.args.text.now) _ _ (mac_text row.1) (rest row.2 row.0 (kind_word row.3) (further row.4 (codes "offload"))) c.in_ok-append_mac.ensures
     (last
-    ∙ ap (λ (p : ℕ). string_bytes c.append_mac.new.text ++ rest p c.number-vid.result c.kind_word-kind.result.now c.mark-mark.result.now) c.number-port.ensures.value
-    ∙ ap (λ (v : ℕ). string_bytes c.append_mac.new.text ++ rest row.2 v c.kind_word-kind.result.now c.mark-mark.result.now) c.number-vid.ensures.value
-    ∙ ap (λ (kind : List ℕ). string_bytes c.append_mac.new.text ++ rest row.2 row.0 kind c.mark-mark.result.now) c.kind_word-kind.ensures
-    ∙ ap (λ (mark : List ℕ). string_bytes c.append_mac.new.text ++ rest row.2 row.0 (kind_word row.3) mark) c.mark-mark.ensures))
+    ∙ ap (λ (p : ℕ). string_bytes c.append_mac.new.to ++ rest p c.number-vid.result c.kind_word-kind.result.now c.mark-mark.result.now) c.number-port.ensures.value
+    ∙ ap (λ (v : ℕ). string_bytes c.append_mac.new.to ++ rest row.2 v c.kind_word-kind.result.now c.mark-mark.result.now) c.number-vid.ensures.value
+    ∙ ap (λ (kind : List ℕ). string_bytes c.append_mac.new.to ++ rest row.2 row.0 kind c.mark-mark.result.now) c.kind_word-kind.ensures
+    ∙ ap (λ (mark : List ℕ). string_bytes c.append_mac.new.to ++ rest row.2 row.0 (kind_word row.3) mark) c.mark-mark.ensures))
     c.writeln.ensures.bytes
