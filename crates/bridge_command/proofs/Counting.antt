@@ -31,7 +31,8 @@ in_range (e ∷ ports) n all here =
     let each = and_parts (fits_beside ports e) (are_declared ports) all in
     among (eqb n e.port) refl (parts ports e each.0) here (in_range ports n each.1)
   where
-    among : (b : Bool) → eqb n e.port ≡ b → Fits ports e → (b || list_any (eqb n) (numbers ports)) ≡ true → (list_any (eqb n) (numbers ports) ≡ true → (1 ≤ n) × (n ≤ last_port)) → (1 ≤ n) × (n ≤ last_port)
+    among : (b : Bool) → eqb n e.port ≡ b → Fits ports e → (b || list_any (eqb n) (numbers ports)) ≡ true → (list_any (eqb n) (numbers ports) ≡ true → (1 ≤ n) × (n ≤ last_port))
+        → (1 ≤ n) × (n ≤ last_port)
     among true is fits here later =
         let same : n ≡ e.port = eqb-true n e.port is in
         (omega (arith, same, leb-true 1 e.port fits.low), omega (arith, same, leb-true e.port last_port fits.high))

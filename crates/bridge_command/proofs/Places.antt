@@ -1,5 +1,6 @@
 -- Declared ports, place by place.
-use Rattle.std.proofs.Common.{◌≡◌, ℕ, zero, suc, ◌+◌, ◌<◌, ◌≤◌, ◌==◌, Bool, true, false, not, ◌||◌, ◌&&◌, cond, List, [], ◌∷◌, length, map, drop, slice_get, Some, refl, ap, sym, ◌∙◌, add-one, arith, is_some}
+use Rattle.std.proofs.Common.{◌≡◌, ℕ, zero, suc, ◌+◌, ◌<◌, ◌≤◌, ◌==◌, Bool, true, false, not, ◌||◌, ◌&&◌, cond}
+use Rattle.std.proofs.Common.{List, [], ◌∷◌, length, map, drop, slice_get, Some, refl, ap, sym, ◌∙◌, add-one, arith, is_some}
 use Rattle.std.specs.List.{filter, list_any}
 use Rattle.std.specs.Option.{option_map}
 use Rattle.std.proofs.lemmas.Bool.{eqb-true}
@@ -30,12 +31,14 @@ named_here (x ∷ ports) (suc i) n name h e = named_here ports i n name h e
 
 -- it doesn't
 
-step : (ports : List Entry) (i n : ℕ) → i < length ports → is_port_at ports i n ≡ false → (has_number (drop (suc i) ports) n ≡ has_number (drop i ports) n) × (name_of (drop (suc i) ports) n ≡ name_of (drop i ports) n)
+step : (ports : List Entry) (i n : ℕ) → i < length ports → is_port_at ports i n ≡ false
+    → (has_number (drop (suc i) ports) n ≡ has_number (drop i ports) n) × (name_of (drop (suc i) ports) n ≡ name_of (drop i ports) n)
 step [] i n h e = absurd (omega arith)
 step (x ∷ ports) zero n h e = (sym (ap (λ b. b || has_number ports n) e), sym (ap (λ b. cond b x.name (name_of ports n)) e))
 step (x ∷ ports) (suc i) n h e = step ports i n (omega arith) e
 
-pub further : (ports : List Entry) (i n : ℕ) → i < length ports → is_port_at ports i n ≡ false → (has_number (drop (i + 1) ports) n ≡ has_number (drop i ports) n) × (name_of (drop (i + 1) ports) n ≡ name_of (drop i ports) n)
+pub further : (ports : List Entry) (i n : ℕ) → i < length ports → is_port_at ports i n ≡ false
+    → (has_number (drop (i + 1) ports) n ≡ has_number (drop i ports) n) × (name_of (drop (i + 1) ports) n ≡ name_of (drop i ports) n)
 further ports i n h e =
     let s = step ports i n h e in
     (ap (λ j. has_number (drop j ports) n) (add-one i) ∙ s.0, ap (λ j. name_of (drop j ports) n) (add-one i) ∙ s.1)
@@ -47,12 +50,14 @@ domain_here [] i dom h = absurd (cc)
 domain_here (e ∷ ports) zero dom h = ap (λ b. b || list_any (λ (x : Entry). x.dom == dom) ports) h
 domain_here (e ∷ ports) (suc i) dom h = domain_here ports i dom h
 
-domain_step : (ports : List Entry) (i dom : ℕ) → i < length ports → is_domain_at ports i dom ≡ false → list_any (λ (e : Entry). e.dom == dom) (drop (suc i) ports) ≡ list_any (λ (e : Entry). e.dom == dom) (drop i ports)
+domain_step : (ports : List Entry) (i dom : ℕ) → i < length ports → is_domain_at ports i dom ≡ false
+    → list_any (λ (e : Entry). e.dom == dom) (drop (suc i) ports) ≡ list_any (λ (e : Entry). e.dom == dom) (drop i ports)
 domain_step [] i dom h e = absurd (omega arith)
 domain_step (x ∷ ports) zero dom h e = sym (ap (λ b. b || list_any (λ (y : Entry). y.dom == dom) ports) e)
 domain_step (x ∷ ports) (suc i) dom h e = domain_step ports i dom (omega arith) e
 
-pub domain_further : (ports : List Entry) (i dom : ℕ) → i < length ports → is_domain_at ports i dom ≡ false → list_any (λ (e : Entry). e.dom == dom) (drop (i + 1) ports) ≡ list_any (λ (e : Entry). e.dom == dom) (drop i ports)
+pub domain_further : (ports : List Entry) (i dom : ℕ) → i < length ports → is_domain_at ports i dom ≡ false
+    → list_any (λ (e : Entry). e.dom == dom) (drop (i + 1) ports) ≡ list_any (λ (e : Entry). e.dom == dom) (drop i ports)
 domain_further ports i dom h e = ap (λ j. list_any (λ (x : Entry). x.dom == dom) (drop j ports)) (add-one i) ∙ domain_step ports i dom h e
 
 pub no_domain : (ports : List Entry) (i dom : ℕ) → length ports ≤ i → list_any (λ (e : Entry). e.dom == dom) (drop i ports) ≡ false

@@ -171,7 +171,8 @@ module _ (old new : Controlled) (x : Course) (c : Control) (cs : List Change) (c
   carried_out (Err NoMemory) makes lines = (makes, refl)
 
 -- where it makes no change
-pub carried_still : (old new : Controlled) (x : Course) (c : Control) → length old.history ≤ most_changes → from (table old.history) c ≡ x → new ≡ record old { control = c } → CarriesQuietly old new (Ok tt) x
+pub carried_still : (old new : Controlled) (x : Course) (c : Control) → length old.history ≤ most_changes → from (table old.history) c ≡ x → new ≡ record old { control = c }
+    → CarriesQuietly old new (Ok tt) x
 carried_still old new x c few is goes =
     carried_out old new x c [] (ap (λ (r : Course). r.changes) (sym is)) (ap (λ (r : Course). r.control) (sym is)) (ap (λ (r : Course). r.messages) (sym is)) (Ok tt)
     (le-leb _ _ (omega (arith, few)), goes ∙ (λ i. record old { history = sym (append-nil old.history) i; control = c }))

@@ -64,7 +64,8 @@ module _ (old : Controlled) (p : Plan) where
         ap (λ (r : Course). in_room old.history (Ok (does r))) (untold (table old.history) old.control p sound quiet)
         ∙ ap (λ (b : Bool). if b then Ok (record { changes = (does learned).changes; control = (does learned).control; messages = (does learned).messages }) else Err HistoryFull) (lt-leb _ _ many)
 
-    pub reacts : (x : Course) → does learned ≡ x → x.messages ≡ [] → length old.history + length x.changes ≤ most_changes → (new : Controlled) → new ≡ record old { history = old.history ++ x.changes; control = x.control }
+    pub reacts : (x : Course) → does learned ≡ x → x.messages ≡ [] → length old.history + length x.changes ≤ most_changes → (new : Controlled)
+        → new ≡ record old { history = old.history ++ x.changes; control = x.control }
         → (lines : List Line) (done : Result (Unit {0}) EventFault) → done ≡ Ok tt → Reacts old new lines lines done answer
     reacts x is silent few new goes lines done ok =
         subst (λ (d : Result (Unit {0}) EventFault). Reacts old new lines lines d answer) (sym ok) (

@@ -46,7 +46,8 @@ module _ (setup : Setup) (r : Course) (port : ℕ) (bytes : List ℕ) (head : He
   -- A frame that it reads does nothing else.
   pub sees-told : (event : TreeEvent) → heard r.table port bytes head ≡ Some event → tells_tree (Some event) r ≡ sees setup port bytes head r
   sees-told event e =
-      let unlearned : learns_of setup port head r ≡ r = ap (λ o. taught o (is_in_domain setup.domains software port)) (heard_alone r.table port bytes head event e) ∙ untaught (is_in_domain setup.domains software port) in
+      let unlearned : learns_of setup port head r ≡ r = ap (λ o. taught o (is_in_domain setup.domains software port)) (heard_alone r.table port bytes head event e)
+      ∙ untaught (is_in_domain setup.domains software port) in
       let unheard = unheard-quiet (with_addresses r.table []) port bytes head r refl (message bytes head) refl (ap (λ (x : McastMsg). most x) (tree-hears-alone r.table port bytes head event e)) in
       sym (
       ap (λ x. tells_tree (heard r.table port bytes head) (snoops port bytes head x)) unlearned
@@ -78,7 +79,8 @@ taught_so b domains own t port head key setup at taught =
 
 -- A plan of which the spanning tree is told this, and nothing else is done.
 
-module _ (b : Controlled) (p : Plan) (event : TreeEvent) (early : p.clock.now < 2 ^ 53) (clock : clocked p.clock b.control ≡ b.control) (renewed : p.renewed ≡ None) (none : p.changes.items ≡ []) (tells : p.tree_event ≡ Some event) where
+module _ (b : Controlled) (p : Plan) (event : TreeEvent) (early : p.clock.now < 2 ^ 53) (clock : clocked p.clock b.control ≡ b.control) (renewed : p.renewed ≡ None) (none : p.changes.items ≡ [])
+    (tells : p.tree_event ≡ Some event) where
   pub sound-alone : IsSound (table b.history) p
   sound-alone = record {
     early = early;
@@ -87,4 +89,5 @@ module _ (b : Controlled) (p : Plan) (event : TreeEvent) (early : p.clock.now < 
   }
 
   pub tells_alone : tells_tree (Some event) (standing b) ≡ carried_out b p
-  tells_alone = sym (λ i. tells_tree (tells i) (makes_all (record { table = table b.history; control = (ap (renewed_at (clocked p.clock b.control)) renewed ∙ clock) i; changes = []; messages = [] }) (none i)))
+  tells_alone =
+      sym (λ i. tells_tree (tells i) (makes_all (record { table = table b.history; control = (ap (renewed_at (clocked p.clock b.control)) renewed ∙ clock) i; changes = []; messages = [] }) (none i)))

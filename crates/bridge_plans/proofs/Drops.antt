@@ -49,7 +49,8 @@ deletions-at among port (e ∷ addr) = by (e.1.0 == port) (among e.0.0) refl (de
     by : (b c : Bool) → among e.0.0 ≡ c → deletions among rest ≡ map (λ (e : Address × (ℕ × Kind)). AddrDel e.0.0 e.0.1) dropped
         → deletions among (map (λ (e : Address × (ℕ × Kind)). e.0) (cond b (e ∷ filter (λ (e : Address × (ℕ × Kind)). e.1.0 == port) addr) (filter (λ (e : Address × (ℕ × Kind)). e.1.0 == port) addr)))
         ≡ map (λ (e : Address × (ℕ × Kind)). AddrDel e.0.0 e.0.1) (cond (b && c) (e ∷ dropped) dropped)
-    by true true is ih = ap (λ c. map (λ (k : Address). AddrDel k.0 k.1) (cond c (e.0 ∷ filter (λ (k : Address). among k.0) rest) (filter (λ (k : Address). among k.0) rest))) is ∙ ap (λ (l : List Change). AddrDel e.0.0 e.0.1 ∷ l) ih
+    by true true is ih = ap (λ c. map (λ (k : Address). AddrDel k.0 k.1) (cond c (e.0 ∷ filter (λ (k : Address). among k.0) rest) (filter (λ (k : Address). among k.0) rest))) is
+        ∙ ap (λ (l : List Change). AddrDel e.0.0 e.0.1 ∷ l) ih
     by true false is ih = ap (λ c. map (λ (k : Address). AddrDel k.0 k.1) (cond c (e.0 ∷ filter (λ (k : Address). among k.0) rest) (filter (λ (k : Address). among k.0) rest))) is ∙ ih
     by false c is ih = ih
 
@@ -69,11 +70,15 @@ partings-at among port (m ∷ members) = by (m.2 == port) (among m.0) refl (part
 
     by : (b c : Bool) → among m.0 ≡ c → partings among port rest ≡ map (λ (m : Membership). GroupPart port m.0 m.1) dropped
         → partings among port (map (λ (m : Membership). (m.0, m.1)) (cond b (m ∷ here) here)) ≡ map (λ (m : Membership). GroupPart port m.0 m.1) (cond (b && c) (m ∷ dropped) dropped)
-    by true true is ih = ap (λ c. map (λ (k : GroupPair). GroupPart port k.0 k.1) (cond c ((m.0, m.1) ∷ filter (λ (k : GroupPair). among k.0) rest) (filter (λ (k : GroupPair). among k.0) rest))) is ∙ ap (λ (l : List Change). GroupPart port m.0 m.1 ∷ l) ih
-    by true false is ih = ap (λ c. map (λ (k : GroupPair). GroupPart port k.0 k.1) (cond c ((m.0, m.1) ∷ filter (λ (k : GroupPair). among k.0) rest) (filter (λ (k : GroupPair). among k.0) rest))) is ∙ ih
+    by true true is ih =
+        ap (λ c. map (λ (k : GroupPair). GroupPart port k.0 k.1) (cond c ((m.0, m.1) ∷ filter (λ (k : GroupPair). among k.0) rest) (filter (λ (k : GroupPair). among k.0) rest))) is
+        ∙ ap (λ (l : List Change). GroupPart port m.0 m.1 ∷ l) ih
+    by true false is ih =
+        ap (λ c. map (λ (k : GroupPair). GroupPart port k.0 k.1) (cond c ((m.0, m.1) ∷ filter (λ (k : GroupPair). among k.0) rest) (filter (λ (k : GroupPair). among k.0) rest))) is ∙ ih
     by false c is ih = ih
 
-pub vlans-at : (port : ℕ) (vlans : List ((ℕ × ℕ) × Bool)) → map (λ v. VlanDel port v) (map (λ e. e.0.0) (filter (λ e. e.0.1 == port) vlans)) ≡ map (λ e. VlanDel port e.0.0) (filter (λ e. e.0.1 == port) vlans)
+pub vlans-at : (port : ℕ) (vlans : List ((ℕ × ℕ) × Bool))
+    → map (λ v. VlanDel port v) (map (λ e. e.0.0) (filter (λ e. e.0.1 == port) vlans)) ≡ map (λ e. VlanDel port e.0.0) (filter (λ e. e.0.1 == port) vlans)
 vlans-at port vlans = each (filter (λ (e : (ℕ × ℕ) × Bool). e.0.1 == port) vlans)
   where
     each : (es : List ((ℕ × ℕ) × Bool)) → map (λ (v : ℕ). VlanDel port v) (map (λ (e : (ℕ × ℕ) × Bool). e.0.0) es) ≡ map (λ (e : (ℕ × ℕ) × Bool). VlanDel port e.0.0) es

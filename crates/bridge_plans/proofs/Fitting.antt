@@ -22,14 +22,16 @@ after r cs = record { table = fold apply r.table cs; control = fold keeps_up r.c
 made : (r : Course) (c : Change) (cs : List Change) → fits r.table c ≡ true → after (makes r c) cs ≡ after r (c ∷ cs)
 made r c cs h =
     ap (λ b. after (cond b (record { table = apply r.table c; control = keeps_up r.control c; changes = r.changes ++ c ∷ []; messages = r.messages }) r) cs) h
-    ∙ ap (λ (l : List Change). record { table = fold apply (apply r.table c) cs; control = fold keeps_up (keeps_up r.control c) cs; changes = l; messages = r.messages }) (append_assoc r.changes (c ∷ []) cs)
+    ∙ ap (λ (l : List Change). record { table = fold apply (apply r.table c) cs; control = fold keeps_up (keeps_up r.control c) cs; changes = l; messages = r.messages })
+    (append_assoc r.changes (c ∷ []) cs)
 
 pub made_all : (r : Course) (cs : List Change) → all_fit r.table cs ≡ true → makes_all r cs ≡ after r cs
 made_all r [] h = ap (λ (l : List Change). record r { changes = l }) (sym (append-nil r.changes))
 made_all r (c ∷ cs) h =
     let here = first_so (fits r.table c) (all_fit (apply r.table c) cs) h in
     let later = second_so (fits r.table c) (all_fit (apply r.table c) cs) h in
-    made_all (makes r c) cs (ap (λ b. all_fit (cond b (record { table = apply r.table c; control = keeps_up r.control c; changes = r.changes ++ c ∷ []; messages = r.messages }) r).table cs) here ∙ later)
+    made_all (makes r c) cs (ap (λ b. all_fit (cond b (record { table = apply r.table c; control = keeps_up r.control c; changes = r.changes ++ c ∷ []; messages = r.messages }) r).table cs) here
+    ∙ later)
     ∙ made r c cs here
 
 -- one change that fits

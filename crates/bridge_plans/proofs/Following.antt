@@ -10,7 +10,8 @@ use Rattle.br_model.specs.Tree.Tree.{Tree}
 use Rattle.bridge_plans.specs.Plans.{renewed_at}
 
 -- as long as there is another member, a loop has seen fewer than there are
-pub fewer_seen : (from s t u seen : List ℕ) (r : Option ℕ) (x : ℕ) → s ≡ from → Yields (YieldsFirst (λ (x : List ℕ). x)) s seen t → r ≡ Some x → YieldsFirst (λ (x : List ℕ). x) t r u → length seen < length from
+pub fewer_seen : (from s t u seen : List ℕ) (r : Option ℕ) (x : ℕ) → s ≡ from → Yields (YieldsFirst (λ (x : List ℕ). x)) s seen t → r ≡ Some x → YieldsFirst (λ (x : List ℕ). x) t r u
+    → length seen < length from
 fewer_seen from s t u seen r x e run is next = (YieldsList-turn (YieldsList-from_first (λ x. x) (λ (x : List ℕ). x) from e) seen t run r u x is next).0
 
 -- with another tree

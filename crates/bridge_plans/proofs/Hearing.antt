@@ -1,5 +1,6 @@
 -- What a message does, act by act: the ends move, or one change is made and the ends move with it.
-use Rattle.std.proofs.Common.{◌≡◌, ◌≤◌, ◌-◌, length, length-append, take, drop, arith, zero, suc, ℕ, ◌+◌, Bool, true, false, not, ◌&&◌, ◌||◌, if◌then◌else◌, cond, List, [], ◌∷◌, ◌++◌, fold, Option, None, Some, refl, sym, ap, subst, ◌∙◌, append_assoc}
+use Rattle.std.proofs.Common.{◌≡◌, ◌≤◌, ◌-◌, length, length-append, take, drop, arith, zero, suc, ℕ, ◌+◌, Bool, true, false, not, ◌&&◌}
+use Rattle.std.proofs.Common.{◌||◌, if◌then◌else◌, cond, List, [], ◌∷◌, ◌++◌, fold, Option, None, Some, refl, sym, ap, subst, ◌∙◌, append_assoc}
 use Rattle.std.specs.Prelude.{min, is_some}
 use Rattle.std.specs.Option.{option_map_or}
 use Rattle.std.specs.Ordering.{nat_cmp, eq_by_cmp}
@@ -99,7 +100,8 @@ all-append p (x ∷ xs) ys h k = λ i. first_so (p x) (list_all p xs) h i && all
 pub places-prompt : (c : Control) (cs : List Change) → list_all (λ d. not (is_of_address d)) cs ≡ true → fold places c cs ≡ c
 places-prompt c [] h = refl
 places-prompt c (d ∷ ds) h =
-    places-prompt (places c d) ds (second_so (not (is_of_address d)) (list_all (λ e. not (is_of_address e)) ds) h) ∙ one d (first_so (not (is_of_address d)) (list_all (λ e. not (is_of_address e)) ds) h)
+    places-prompt (places c d) ds (second_so (not (is_of_address d)) (list_all (λ e. not (is_of_address e)) ds) h)
+    ∙ one d (first_so (not (is_of_address d)) (list_all (λ e. not (is_of_address e)) ds) h)
   where
     one : (d : Change) → not (is_of_address d) ≡ true → places c d ≡ c
     one (AddrPut vid mac port kind) e = absurd (cc)
@@ -202,7 +204,14 @@ module _ (s : Speaker) where
     renewing r = option_map_or (λ end. until (r.control.now + member_time) m r) (end_at r m) r
 
     abbrev pub joining : Course → Course
-    joining r = until (r.control.now + member_time) m (if has_room r.table.groups s.vid group then record { table = apply r.table join; control = ends_with r.control (lasts r.control.ends m None); changes = r.changes ++ join ∷ []; messages = r.messages } else r)
+    joining r =
+        until (r.control.now + member_time) m
+        (if has_room r.table.groups s.vid group then record {
+          table = apply r.table join;
+          control = ends_with r.control (lasts r.control.ends m None);
+          changes = r.changes ++ join ∷ [];
+          messages = r.messages;
+        } else r)
 
     joins-by : (link room there : Bool) → is_link_local group ≡ link → has_room (keys e.groups) s.vid group ≡ room → has membership_cmp (keys e.groups) m ≡ there
         → (r : Course) → Hears s e r → joins s.port s.vid group r ≡ cond link r (cond (not room) r (cond there (renewing r) (joining r)))
@@ -225,7 +234,8 @@ module _ (s : Speaker) where
       pub joins-static : has membership_cmp (keys e.groups) m ≡ true → is_dynamic (get membership_cmp e.groups m) ≡ false → Leads s e e [] (joins s.port s.vid group)
       joins-static there static =
           like e e [] (λ r. r) _
-          (λ r h. joins-by false true true link room there r h ∙ renewing-is r h ∙ ap (λ o. option_map_or (λ end. moved r (at (Some (s.moment + member_time)))) o r) (static-end (get membership_cmp e.groups m) static))
+          (λ r h. joins-by false true true link room there r h ∙ renewing-is r h
+          ∙ ap (λ o. option_map_or (λ end. moved r (at (Some (s.moment + member_time)))) o r) (static-end (get membership_cmp e.groups m) static))
           (stays e)
 
       pub joins-renewed : has membership_cmp (keys e.groups) m ≡ true → is_dynamic (get membership_cmp e.groups m) ≡ true
@@ -242,7 +252,8 @@ module _ (s : Speaker) where
           → Leads s e (record e { groups = joined_until membership_cmp e.groups m (Some (s.moment + member_time)) }) (join ∷ []) (joins s.port s.vid group)
       joins-new new =
           let goes = at (Some (s.moment + member_time)) in
-          subst (λ (o : Option (Option ℕ)). Leads s e (lasts e m (end_joined o (Some (s.moment + member_time)))) (join ∷ []) (joins s.port s.vid group)) (sym (get-absent membership_cmp e.groups m new))
+          subst (λ (o : Option (Option ℕ)). Leads s e (lasts e m (end_joined o (Some (s.moment + member_time)))) (join ∷ []) (joins s.port s.vid group))
+          (sym (get-absent membership_cmp e.groups m new))
           (like e goes (join ∷ []) (λ r. made r join goes) _ joined
           (one-change e goes join refl (λ t tied. (tied-lasts t e tied m _, ap (λ ms. has_room ms s.vid group) (sym tied.groups) ∙ room)) (λ t. refl)))
         where
@@ -250,7 +261,8 @@ module _ (s : Speaker) where
           joined r h =
               let rooms = ap (λ ms. has_room ms s.vid group) (sym h.tied.groups) ∙ room in
               joins-by false true false link room new r h
-              ∙ (λ i. until (h.now i + member_time) m (if rooms i then record { table = apply r.table join; control = ends_with r.control (lasts (h.ends i) m None); changes = r.changes ++ join ∷ []; messages = r.messages } else r))
+              ∙ (λ i. until (h.now i + member_time) m
+              (if rooms i then record { table = apply r.table join; control = ends_with r.control (lasts (h.ends i) m None); changes = r.changes ++ join ∷ []; messages = r.messages } else r))
               ∙ ap (λ (l : List (Membership × Option ℕ)). made r join (record e { groups = l })) (put-twice membership_cmp membership_total e.groups m None (Some (s.moment + member_time)))
 
     abbrev pub leaving : Course → Option ℕ → Course

@@ -1,5 +1,6 @@
 -- The entries of a database with their moments: the bound of the learned ones, and which of them are old.
-use Rattle.std.proofs.Common.{◌≡◌, ℕ, ◌+◌, ◌<◌, ◌≤◌, min, length, is_some, Bool, true, false, not, cond, ◌&&◌, ◌||◌, Option, None, Some, option_map, List, [], ◌∷◌, map, filter, ◌==◌, nat_le, nat_lt, refl, sym, ap, subst, ◌∙◌, arith}
+use Rattle.std.proofs.Common.{◌≡◌, ℕ, ◌+◌, ◌<◌, ◌≤◌, min, length, is_some, Bool, true, false, not, cond, ◌&&◌, ◌||◌, Option, None}
+use Rattle.std.proofs.Common.{Some, option_map, List, [], ◌∷◌, map, filter, ◌==◌, nat_le, nat_lt, refl, sym, ap, subst, ◌∙◌, arith}
 use Rattle.std.specs.List.{list_all, AllByRecursion}
 use Rattle.std.specs.Cmp.{first_so, second_so, tied_itself}
 use Rattle.std.specs.Ordering.{eq_by_cmp, is_eq, is_lt, ordering_reverse}
@@ -34,8 +35,10 @@ pub at_port : (p : ℕ) (es : Entries) → keys_where (is_at_port p) es ≡ keys
 at_port p [] = refl
 at_port p (e ∷ es) = by (is_at_port p e.1) (at_port p es)
   where
-    by : (b : Bool) → keys_where (is_at_port p) es ≡ keys_at p (addresses es) → map (λ (f : Address × Entry). f.0) (cond b (e ∷ filter (λ (f : Address × Entry). is_at_port p f.1) es) (filter (λ (f : Address × Entry). is_at_port p f.1) es))
-        ≡ map (λ (f : Address × (ℕ × Kind)). f.0) (cond b ((e.0, place e.1) ∷ filter (λ (f : Address × (ℕ × Kind)). f.1.0 == p) (addresses es)) (filter (λ (f : Address × (ℕ × Kind)). f.1.0 == p) (addresses es)))
+    by : (b : Bool) → keys_where (is_at_port p) es ≡ keys_at p (addresses es)
+        → map (λ (f : Address × Entry). f.0) (cond b (e ∷ filter (λ (f : Address × Entry). is_at_port p f.1) es) (filter (λ (f : Address × Entry). is_at_port p f.1) es))
+        ≡ map (λ (f : Address × (ℕ × Kind)). f.0)
+        (cond b ((e.0, place e.1) ∷ filter (λ (f : Address × (ℕ × Kind)). f.1.0 == p) (addresses es)) (filter (λ (f : Address × (ℕ × Kind)). f.1.0 == p) (addresses es)))
     by true ih = ap (λ (ks : List Address). e.0 ∷ ks) ih
     by false ih = ih
 
@@ -148,7 +151,8 @@ old-as now hold ms (e ∷ es) h =
     by true ih = ap (λ (ks : List Address). e.0 ∷ ks) ih
     by false ih = ih
 
-pub old_as : (now hold b : ℕ) (es : Entries) → is_ascending pair_cmp es ≡ true → keys_where (is_expired now hold) es ≡ old_keys now hold (record { addr = addresses es; updated = moments es; oldest = b })
+pub old_as : (now hold b : ℕ) (es : Entries) → is_ascending pair_cmp es ≡ true
+    → keys_where (is_expired now hold) es ≡ old_keys now hold (record { addr = addresses es; updated = moments es; oldest = b })
 old_as now hold b es up = old-as now hold (moments es) es (has-moments es up)
 
 -- the entries are told by their two lists
@@ -170,7 +174,8 @@ pub ascending-without : (es : Entries) (k : Address) → is_ascending pair_cmp e
 ascending-without es k up = true_from_T _ (is_sorted-where_key pair_cmp (λ q. not (eq_by_cmp pair_cmp k q)) es (T_from_true _ up))
 
 -- a new address finds room
-pub room-absent : (es : Entries) (k : Address) → get pair_cmp es k ≡ None → (is_some (get pair_cmp (addresses es) k) || nat_lt (length (addresses es)) most_addresses) ≡ true → length es < most_addresses
+pub room-absent : (es : Entries) (k : Address) → get pair_cmp es k ≡ None → (is_some (get pair_cmp (addresses es) k) || nat_lt (length (addresses es)) most_addresses) ≡ true
+    → length es < most_addresses
 room-absent es k none h =
     let e : length (addresses es) ≡ length es = length-map es (λ (e : Address × Entry). (e.0, place e.1)) in
     let k : (is_some (option_map place (get pair_cmp es k)) || nat_lt (length (addresses es)) most_addresses) ≡ true = rw (← get-told place es k) h in

@@ -1,5 +1,6 @@
 -- What events come to, once their changes are known to fit.
-use Rattle.std.proofs.Common.{arith, ◌≡◌, ℕ, ◌<◌, ◌^◌, Bool, true, false, not, ◌&&◌, ◌||◌, if◌then◌else◌, ◌==◌, is_some, List, [], ◌∷◌, ◌++◌, map, fold, Option, Some, None, option_map, refl, sym, ap, subst, ◌∙◌}
+use Rattle.std.proofs.Common.{arith, ◌≡◌, ℕ, ◌<◌, ◌^◌, Bool, true, false, not, ◌&&◌, ◌||◌, if◌then◌else◌, ◌==◌, is_some, List}
+use Rattle.std.proofs.Common.{[], ◌∷◌, ◌++◌, map, fold, Option, Some, None, option_map, refl, sym, ap, subst, ◌∙◌}
 use Rattle.std.specs.Prelude.{IfSome, IsSome}
 use Rattle.std.specs.List.{filter, filter_map, flat_map, cons_option, list_all}
 use Rattle.std.specs.Option.{option_map_or}
@@ -169,7 +170,9 @@ by_tests false false = (refl, refl)
 
 module _ (t : Table) (c : Control) (key : Address) (port : ℕ) where
   tests_of : (l : Lesson) → l ≡ lesson_of t key port → Tests (is_renewed t key port) (is_news t key port && fits t (put_of key port)) l
-  tests_of l e = subst (λ (x : Lesson). Tests (is_renewed t key port) (is_news t key port && fits t (put_of key port)) x) (sym e) (by_tests (is_renewed t key port) (is_news t key port && fits t (put_of key port)))
+  tests_of l e =
+      subst (λ (x : Lesson). Tests (is_renewed t key port) (is_news t key port && fits t (put_of key port)) x) (sym e)
+      (by_tests (is_renewed t key port) (is_news t key port && fits t (put_of key port)))
 
   -- where nothing is renewed
   unrenewed : is_renewed t key port ≡ false → learns port (Some key) (from t c) ≡ makes_all (from t c) (taught t key port)

@@ -79,11 +79,19 @@ learns-ports port (Some key) r = by (is_renewed r.table key port) (is_news r.tab
     put : (q : Course) → with_addresses q.table [] ≡ with_addresses r.table [] → with_addresses (makes q (AddrPut key.0 key.1 port Learned)).table [] ≡ with_addresses r.table []
     put q e = at (fits q.table (AddrPut key.0 key.1 port Learned))
       where
-        at : (b : Bool) → with_addresses (cond b (record { table = apply q.table (AddrPut key.0 key.1 port Learned); control = renewed q.control key; changes = q.changes ++ AddrPut key.0 key.1 port Learned ∷ []; messages = q.messages }) q).table [] ≡ with_addresses r.table []
+        at : (b : Bool)
+            → with_addresses
+            (cond b (record {
+              table = apply q.table (AddrPut key.0 key.1 port Learned);
+              control = renewed q.control key;
+              changes = q.changes ++ AddrPut key.0 key.1 port Learned ∷ [];
+              messages = q.messages;
+            }) q).table [] ≡ with_addresses r.table []
         at true = e
         at false = e
 
-    by : (b d : Bool) → with_addresses (fold makes (if b then record r { control = renewed r.control key } else r) (if d then AddrPut key.0 key.1 port Learned ∷ [] else [])).table [] ≡ with_addresses r.table []
+    by : (b d : Bool)
+        → with_addresses (fold makes (if b then record r { control = renewed r.control key } else r) (if d then AddrPut key.0 key.1 port Learned ∷ [] else [])).table [] ≡ with_addresses r.table []
     by true true = put (record r { control = renewed r.control key }) refl
     by false true = put r refl
     by true false = refl
@@ -123,7 +131,8 @@ tree-address bytes head is =
     (λ i. if head.kind == type_four then message_four (is i) head.body (drop head.body bytes) else if head.kind == type_six then message_six (is i) head.body (drop head.body bytes) else Plain)
     ∙ by (head.kind == type_four) (head.kind == type_six)
   where
-    by : (four six : Bool) → (if four then message_four bridge_group_address head.body (drop head.body bytes) else if six then message_six bridge_group_address head.body (drop head.body bytes) else Plain) ≡ Plain
+    by : (four six : Bool)
+        → (if four then message_four bridge_group_address head.body (drop head.body bytes) else if six then message_six bridge_group_address head.body (drop head.body bytes) else Plain) ≡ Plain
     by true six = plain-four head.body (drop head.body bytes)
     by false true = plain-six head.body (drop head.body bytes)
     by false false = refl

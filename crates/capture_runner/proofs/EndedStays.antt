@@ -1,5 +1,6 @@
 -- What has ended in some bytes has ended so where more bytes follow.
-use Rattle.std.proofs.Common.{◌≡◌, ℕ, zero, suc, ◌+◌, ◌<◌, ◌≤◌, ◌==◌, Bool, true, false, not, if◌then◌else◌, List, [], ◌∷◌, ◌++◌, length, take, Option, None, Some, IfSome, Result, Ok, Err, refl, sym, ◌∙◌, ap, arith, nat_lt, length-append}
+use Rattle.std.proofs.Common.{◌≡◌, ℕ, zero, suc, ◌+◌, ◌<◌, ◌≤◌, ◌==◌, Bool, true, false, not, if◌then◌else◌, List, [], ◌∷◌, ◌++◌}
+use Rattle.std.proofs.Common.{length, take, Option, None, Some, IfSome, Result, Ok, Err, refl, sym, ◌∙◌, ap, arith, nat_lt, length-append}
 use Rattle.std.specs.Io.KnownBytes.{Consumes}
 use Rattle.std.proofs.lemmas.Bool.{true≢false, le-ltb, and_from, ltb-false, ltb-true}
 use Rattle.std.proofs.lemmas.List.{take-append-le}
@@ -7,7 +8,8 @@ use Rattle.br_model.specs.declared.scenario.LineWhy.{LineWhy}
 use Rattle.br_model.specs.declared.scenario.LineWhy.TheVariants.{Long}
 use Rattle.br_model.specs.declared.scenario.Said.{Said}
 use Rattle.br_model.specs.Program.Outcomes.{HoldsNoEnd, scenario_lines}
-use Rattle.br_model.specs.Text.Scenario.{Scenario, Ending, Going, Ended, Bad, Front, Progress, bad, front, in_front, longest_line, opened, read, reads, reads_at, reads_front, reads_line, scenario, section_length, takes, whole_says}
+use Rattle.br_model.specs.Text.Scenario.{Scenario, Ending, Going, Ended, Bad, Front, Progress, bad, front, in_front, longest_line}
+use Rattle.br_model.specs.Text.Scenario.{opened, read, reads, reads_at, reads_front, reads_line, scenario, section_length, takes, whole_says}
 use Rattle.br_model.specs.Theorems.WholeLines.{is_line}
 use Rattle.br_model.proofs.Program.AllLeft.{not_too_long, same_with_more}
 use Rattle.br_model.proofs.Text.Endings.{has_ended, closes_ended, read_ended}
@@ -40,7 +42,8 @@ abbrev taken : Scenario → Said → Front → Goes → Bool → Progress
 taken s said f go_on b =
     if b then record { scenario = s; line = []; behind = [] } else go_on (length f.line + section_length said) (takes s said (take (section_length said) f.behind))
 
-module _ (s : Scenario) (more : List ℕ) (go_on go_on' : Goes) (same : (n : ℕ) (t : Scenario) → has_ended (go_on n t).scenario.ending ≡ true → (go_on' n t).scenario ≡ (go_on n t).scenario) (going : s.ending ≡ Going) where
+module _ (s : Scenario) (more : List ℕ) (go_on go_on' : Goes) (same : (n : ℕ) (t : Scenario) → has_ended (go_on n t).scenario.ending ≡ true → (go_on' n t).scenario ≡ (go_on n t).scenario)
+    (going : s.ending ≡ Going) where
   not_ended : has_ended s.ending ≡ true → ⊥
   not_ended h = true≢false (sym h ∙ ap has_ended going)
 
@@ -107,7 +110,8 @@ scenario_same bytes more h =
 
 -- and all that a source had left, where it begins so
 
-pub whole_of_ended : (left now : Option (List ℕ)) (input : List ℕ) → Consumes left now input → has_ended (reads (opened false) input).ending ≡ true → IfSome left (λ bytes. scenario bytes ≡ scenario input)
+pub whole_of_ended : (left now : Option (List ℕ)) (input : List ℕ) → Consumes left now input → has_ended (reads (opened false) input).ending ≡ true
+    → IfSome left (λ bytes. scenario bytes ≡ scenario input)
 whole_of_ended left now input c h = same_with_more scenario left now input c (λ more. scenario_same input more h)
 
 pub within_of_ended : (limit : ℕ) (left now : Option (List ℕ)) (input : List ℕ) → Consumes left now input → length input ≤ limit → has_ended (reads (opened false) input).ending ≡ true

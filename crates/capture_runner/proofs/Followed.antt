@@ -1,5 +1,6 @@
 -- Lines of messages are read, and the reading goes on, stops or ends.
-use Rattle.std.proofs.Common.{◌≡◌, ℕ, ◌+◌, ◌<◌, ◌≤◌, Bool, true, false, true≢false, cond, List, [], ◌∷◌, ◌++◌, length, take, drop, Option, None, Some, Result, Ok, Err, String, refl, sym, ◌∙◌, ap, subst, arith, append_assoc, append-nil, length-append}
+use Rattle.std.proofs.Common.{◌≡◌, ℕ, ◌+◌, ◌<◌, ◌≤◌, Bool, true, false, true≢false, cond, List, [], ◌∷◌, ◌++◌, length, take, drop}
+use Rattle.std.proofs.Common.{Option, None, Some, Result, Ok, Err, String, refl, sym, ◌∙◌, ap, subst, arith, append_assoc, append-nil, length-append}
 use Rattle.std.specs.declared.alloc.Global.{Global}
 use Rattle.std.specs.Io.KnownBytes.{Consumes}
 use Rattle.std.specs.List.{fold}
@@ -195,7 +196,8 @@ pub few_lines : (left now : Option (List ℕ)) (r : Reading) (f : Following) →
 few_lines left now r f p = omega (arith, p.numbers, ap length p.parts, length-append p.lines r.held, p.counts, p.within)
 
 -- how it stops
-pub stops_by : (left now : Option (List ℕ)) (r : Reading) (f : Following) (t : Neighbours) (stop : Stop) (result : Result FollowEnd Stop) → result ≡ Err stop → Advanced left most_bytes r now f (Err stop) → Ends left now t result
+pub stops_by : (left now : Option (List ℕ)) (r : Reading) (f : Following) (t : Neighbours) (stop : Stop) (result : Result FollowEnd Stop) → result ≡ Err stop
+    → Advanced left most_bytes r now f (Err stop) → Ends left now t result
 stops_by left now r f t stops.ReadFault result is a = subst (Ends left now t) (sym is) a
 stops_by left now r f t stops.TooLong result is a = subst (Ends left now t) (sym is) a
 stops_by left now r f t stops.NoMemory result is a = subst (Ends left now t) (sym is) a
@@ -216,13 +218,15 @@ answered left now t end text c is = record {
   within = c.within;
 }
 
-pub yields_stop : (left now : Option (List ℕ)) (t : Neighbours) (stop : Stop) (result : Result (FollowEnd × String Global) Stop) → result ≡ Err stop → Ends left now t (Err stop) → Yields left now result
+pub yields_stop : (left now : Option (List ℕ)) (t : Neighbours) (stop : Stop) (result : Result (FollowEnd × String Global) Stop) → result ≡ Err stop → Ends left now t (Err stop)
+    → Yields left now result
 yields_stop left now t stops.ReadFault result is e = subst (Yields left now) (sym is) e
 yields_stop left now t stops.TooLong result is e = subst (Yields left now) (sym is) e
 yields_stop left now t stops.NoMemory result is e = subst (Yields left now) (sym is) e
 
 -- there is no memory for the text
-pub lacks_text : (left now : Option (List ℕ)) (t : Neighbours) (end : FollowEnd) (result : Result (FollowEnd × String Global) Stop) → Closed left most_bytes now t end → result ≡ Err stops.NoMemory → Yields left now result
+pub lacks_text : (left now : Option (List ℕ)) (t : Neighbours) (end : FollowEnd) (result : Result (FollowEnd × String Global) Stop) → Closed left most_bytes now t end
+    → result ≡ Err stops.NoMemory → Yields left now result
 lacks_text left now t end result c is = subst (Yields left now) (sym is) (c.input, c.read)
 
 -- nor before the first line

@@ -77,11 +77,13 @@ all_named ports (s ∷ steps) h = and_from _ _ (form_known ports (step_form s) (
 least : (n : ℕ) → nat_le 0 n ≡ true
 least n = grind arith
 
-lined : (ports : List Entry) (chips : List ℕ) (s : Step) → chips ≡ chips_of ports → comes_by_line true chips s ≡ true → (not (is_taken s) || has_line ports s) ≡ true → is_numbered s ≡ true → has_line ports s ≡ true
+lined : (ports : List Entry) (chips : List ℕ) (s : Step) → chips ≡ chips_of ports → comes_by_line true chips s ≡ true → (not (is_taken s) || has_line ports s) ≡ true → is_numbered s ≡ true
+    → has_line ports s ≡ true
 lined ports chips Serve are comes given number = refl
 lined ports chips Hold are comes given number = refl
 lined ports chips (Post id None) are comes given number = and_from _ true (and_from _ _ (least id) number) refl
-lined ports chips (Post id (Some point)) are comes given number = and_from _ _ (and_from _ _ (least id) (first_so _ _ number)) (and_from _ true (and_from _ _ (least point) (second_so (nat_le id 4294967295) _ number)) refl)
+lined ports chips (Post id (Some point)) are comes given number =
+    and_from _ _ (and_from _ _ (least id) (first_so _ _ number)) (and_from _ true (and_from _ _ (least point) (second_so (nat_le id 4294967295) _ number)) refl)
 lined ports chips (Turn dom) are comes given number = and_from _ true (ap (λ (l : List ℕ). list_any (λ d. d == dom) l) (sym are) ∙ comes) refl
 lined ports chips (Report dom) are comes given number = and_from _ true (ap (λ (l : List ℕ). list_any (λ d. d == dom) l) (sym are) ∙ comes) refl
 lined ports chips Publish are comes given number = refl
@@ -105,7 +107,8 @@ ends_so : (l : Last) → has_ended (ending_of l) ≡ true
 ends_so lasts.Ended = refl
 ends_so (lasts.Bad n why) = refl
 
-module _ (left now : Option (List ℕ)) (input : List ℕ) (x : WholeState) (read : Consumes left now input) (says : SaysWhole false input x) (lines : x.close ≡ lasts.Ended → list_all (has_line x.roster.ports) x.steps ≡ true) where
+module _ (left now : Option (List ℕ)) (input : List ℕ) (x : WholeState) (read : Consumes left now input) (says : SaysWhole false input x) (lines : x.close ≡ lasts.Ended
+    → list_all (has_line x.roster.ports) x.steps ≡ true) where
   -- the bytes have ended the scenario
   pub read_ended : (last : Last) → x.last ≡ Some last → length input ≤ most_live_bytes → IsRead left now x
   read_ended last is few =
@@ -118,7 +121,15 @@ module _ (left now : Option (List ℕ)) (input : List ℕ) (x : WholeState) (rea
 
   -- they were all that there was
   pub read_all : IsAtEnd now → length input < most_live_bytes → IsRead left now x
-  read_all none few = record { input = input; read = read; says = says; lines = lines; whole = same_at_end scenario left now input read none; within = below_limit scenario_lines most_live_bytes left now input read none few }
+  read_all none few =
+      record {
+        input = input;
+        read = read;
+        says = says;
+        lines = lines;
+        whole = same_at_end scenario left now input read none;
+        within = below_limit scenario_lines most_live_bytes left now input read none few;
+      }
 
   -- the scenario goes on
   pub goes_on : x.last ≡ None → GoesOn scenario_lines input
@@ -187,7 +198,8 @@ lines_of_whole bytes x says are is =
 
 -- what workers take of a scenario
 
-module _ (roster : Roster) (domains : Domains) (own : ℕ) (steps : List Step) (same : domains ≡ domains_of roster.edition roster.ports) (its : own ≡ roster.own) (all : are_declared roster.ports ≡ true) where
+module _ (roster : Roster) (domains : Domains) (own : ℕ) (steps : List Step) (same : domains ≡ domains_of roster.edition roster.ports) (its : own ≡ roster.own)
+    (all : are_declared roster.ports ≡ true) where
   abbrev setup : Setup
   setup = record { domains = domains; own = own }
 

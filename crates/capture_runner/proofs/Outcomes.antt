@@ -78,7 +78,8 @@ module _ (failed : Type 0) (left left_now before now : Option (List ℕ)) (r : S
         p.within,
       )) r
 
-  pub live_stops : (stop : Stop) → StopsLiving left left_now stop → (stop ≡ stops.ReadFault → failed) → (Went r → r ≡ stopping.stop_status stop) → (Went r → Appends before now (stopping.stop_line stop))
+  pub live_stops : (stop : Stop) → StopsLiving left left_now stop → (stop ≡ stops.ReadFault → failed) → (Went r → r ≡ stopping.stop_status stop)
+      → (Went r → Appends before now (stopping.stop_line stop))
       → Broke r before now (stopping.stop_line stop) → Living
   live_stops stops.ReadFault p f =
       by_status (live_ways failed) left left_now before now (last_line (codes "read fault")) statuses.ReadFault
@@ -92,7 +93,8 @@ module _ (failed : Type 0) (left left_now before now : Option (List ℕ)) (r : S
 
 -- there is no memory at first
 
-module _ (before now : Option (List ℕ)) (r : Status) (left : Option (List ℕ)) (s : Went r → r ≡ statuses.NoMemory) (a : Went r → Appends before now (last_line (codes "no memory"))) (b : Broke r before now (last_line (codes "no memory"))) where
+module _ (before now : Option (List ℕ)) (r : Status) (left : Option (List ℕ)) (s : Went r → r ≡ statuses.NoMemory) (a : Went r → Appends before now (last_line (codes "no memory")))
+    (b : Broke r before now (last_line (codes "no memory"))) where
   abbrev unread : Call
   unread = call_of left left before now
 
@@ -200,10 +202,12 @@ module _ (failed : Type 0) (left left_now before now : Option (List ℕ)) (r : S
   }
 
   -- the lines have ended
-  pub follow_ends : (x : FollowEnd × String Global) → following.Yields left left_now (Ok x) → (Went r → r ≡ following.status_of x.0) → (Went r → Appends before now (string_bytes x.1)) → Broke r before now (string_bytes x.1) → Followed
+  pub follow_ends : (x : FollowEnd × String Global) → following.Yields left left_now (Ok x) → (Went r → r ≡ following.status_of x.0) → (Went r → Appends before now (string_bytes x.1))
+      → Broke r before now (string_bytes x.1) → Followed
   follow_ends x = by (string_bytes x.1) x.0
     where
-      by : (text : List ℕ) (end : FollowEnd) → following.Answered left left_now text end → (Went r → r ≡ following.status_of end) → (Went r → Appends before now text) → Broke r before now text → Followed
+      by : (text : List ℕ) (end : FollowEnd) → following.Answered left left_now text end → (Went r → r ≡ following.status_of end) → (Went r → Appends before now text) → Broke r before now text
+          → Followed
       by text follow_lasts.Ended t =
           by_status (follow_ways failed) left left_now before now text statuses.Ok (λ after a. (follow_answers text follow_lasts.Ended after t a, t.within)) r
       by text (follow_lasts.Bad n why) t =

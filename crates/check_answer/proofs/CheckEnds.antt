@@ -105,7 +105,8 @@ module _ (failed : Type 0) (left now : Option (List ℕ)) (input : List ℕ) (gi
   ends_stopped stop (Err stops.ReadFault) few ends h = subst (λ (s : Stop). EndsSo failed left now (stop_line s) (stop_status s)) h.0 (ends h.1)
   ends_stopped stop (Err stops.TooLong) few ends h = subst (λ (s : Stop). EndsSo failed left now (stop_line s) (stop_status s)) h.0 (ends h.1)
 
-pub lacks_memory : (failed : Type 0) (left now : Option (List ℕ)) (input : List ℕ) → Consumes left now input → (result : Result Found Stop) → result ≡ Err stops.NoMemory → ChecksSo failed left now result
+pub lacks_memory : (failed : Type 0) (left now : Option (List ℕ)) (input : List ℕ) → Consumes left now input → (result : Result Found Stop) → result ≡ Err stops.NoMemory
+    → ChecksSo failed left now result
 lacks_memory failed left now input given result is = subst (λ (r : Result Found Stop). ChecksSo failed left now r) (sym is) (ends_lacking failed left now input given)
 
 pub caused_stopped : (bytes : List ℕ) (stop : Stop) (result : Result Found Stop) (before now : ℕ) → SeesBadOr bytes stop result → (stop ≡ stops.ReadFault → Rose before now) → StopsBy before now result

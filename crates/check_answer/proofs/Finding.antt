@@ -60,7 +60,8 @@ module _ (left now before after : Option (List ℕ)) (input : List ℕ) (given :
   abbrev call : Call
   call = record { left_before = left; left_now = now; taken_before = before; taken_now = after }
 
-  pub finds : (o : Option Difference) → IsAtEnd now → length input < limit → (scenario_by true input).ending ≡ Ended → checked input ≡ o → Appends before after (check_answer input) → Finds limit call o
+  pub finds : (o : Option Difference) → IsAtEnd now → length input < limit → (scenario_by true input).ending ≡ Ended → checked input ≡ o → Appends before after (check_answer input)
+      → Finds limit call o
   finds o end below ends is wrote =
       record { input = input; read = given; all = all_given left now input given end; below = below; ends = ends; finds = is; wrote = wrote }
 

@@ -1,5 +1,6 @@
 -- A bad line is bad whatever follows it.
-use Rattle.std.proofs.Common.{◌≡◌, ℕ, zero, suc, ◌<◌, ◌==◌, Bool, true, false, List, [], ◌∷◌, ◌++◌, length, take, drop, Result, Ok, Err, refl, sym, ◌∙◌, ap, subst, arith, nat_lt, append_assoc, length-append, length-drop, length-take-le, take-append-drop}
+use Rattle.std.proofs.Common.{◌≡◌, ℕ, zero, suc, ◌<◌, ◌==◌, Bool, true, false, List, [], ◌∷◌, ◌++◌, length, take, drop}
+use Rattle.std.proofs.Common.{Result, Ok, Err, refl, sym, ◌∙◌, ap, subst, arith, nat_lt, append_assoc, length-append, length-drop, length-take-le, take-append-drop}
 use Rattle.std.proofs.lemmas.Bool.{eqb-true, ltb-true, ltb-false}
 use Rattle.std.proofs.lemmas.List.{append-nil}
 use Rattle.br_model.specs.declared.scenario.LineWhy.{LineWhy}
@@ -84,7 +85,8 @@ module _ (number : ℕ) (why : LineWhy) where
   over_stays s bytes more e is =
       subst (λ (t : Scenario). IsBad t) (ap (λ (p : Progress). p.scenario) (read_ended s bytes e) ∙ sym (ap (λ (p : Progress). p.scenario) (read_ended s (bytes ++ more) e))) is
 
-  any_stays : (k : ℕ) → Stays k → (s : Scenario) (d : Ending) → s.ending ≡ d → (bytes more : List ℕ) → length bytes < suc k → IsBad (read 0 s bytes).scenario → IsBad (read 0 s (bytes ++ more)).scenario
+  any_stays : (k : ℕ) → Stays k → (s : Scenario) (d : Ending) → s.ending ≡ d → (bytes more : List ℕ) → length bytes < suc k → IsBad (read 0 s bytes).scenario
+      → IsBad (read 0 s (bytes ++ more)).scenario
   any_stays k stays s Going e bytes more few is = cut_stays k stays s e more bytes (cut bytes) few is
   any_stays k stays s Ended e bytes more few is = over_stays s bytes more (ap has_ended e) is
   any_stays k stays s (Bad n w) e bytes more few is = over_stays s bytes more (ap has_ended e) is

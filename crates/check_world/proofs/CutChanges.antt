@@ -136,7 +136,8 @@ turned_sides b old new places point dom d are ch at =
     sides_with b old new places point are (cuts_with b.setup.domains b.history old new dom _ ch are.follows (ap (λ (c : CutState). c.chip.dom) ch.so ∙ turned_own ch.was d)
     (subst (IsCut b.setup.domains.edition b.history) (sym ch.so) (turned_cut b.setup.domains.edition b.history ch.was d k at)))
 
-pub kept_sides : (b : Controlled) (old new : List CutState) (places : List ℕ) (point : PointState) (dom : ℕ) → AreSides b old places point → Changed old new dom KeepsTable → AreSides b new places point
+pub kept_sides : (b : Controlled) (old new : List CutState) (places : List ℕ) (point : PointState) (dom : ℕ) → AreSides b old places point → Changed old new dom KeepsTable
+    → AreSides b new places point
 kept_sides b old new places point dom are ch = sides_with b old new places point are (cuts_kept b.setup.domains b.history old new dom KeepsTable ch are.follows ch.so)
 
 pub noted_sides : (b : Controlled) (published : ℕ) (counts : List ℕ) (old new : List CutState) (places : List ℕ) (point : PointState) (s : SidesState) (dom : ℕ) (x : Chip) (port : ℕ) (head : Head)

@@ -29,7 +29,8 @@ abbrev counted : SidesState → Queued → ℕ → World
 counted s q step = world_of s (record q { next = q.next + 1 }) step
 
 waits_as : (s : SidesState) (q : Queued) (step : ℕ) (f : Waiting) → waits (counted s q step) f ≡ (world_of s (settled q (arrival q f)) step, arrival_lines f.id (arrival q f))
-waits_as s q step f = elim (nat_lt (length q.waiting + length q.held) most_waiting) as (λ b. cond {A = Stepped} b (world_of s (settled q (Waits f)) step, []) (counted s q step, arrival_lines f.id Overruns)
+waits_as s q step f =
+    elim (nat_lt (length q.waiting + length q.held) most_waiting) as (λ b. cond {A = Stepped} b (world_of s (settled q (Waits f)) step, []) (counted s q step, arrival_lines f.id Overruns)
     ≡ (world_of s (settled q (cond b (Waits f) Overruns)) step, arrival_lines f.id (cond b (Waits f) Overruns))) [
       | true ↦ refl
       | false ↦ refl

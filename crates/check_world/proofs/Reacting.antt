@@ -12,7 +12,8 @@ use Rattle.check_world.specs.Cuts.{AreCuts, CutState}
 use Rattle.plane_parts.specs.Places.{places}
 use Rattle.check_world.specs.Sides.{AreSides}
 
-module _ (old new : Controlled) (chips : List CutState) (noted : List ℕ) (point : PointState) (r : Reaction) (from : ℕ) (are : AreSides old chips noted point) (is : new ≡ reacted old r) (at : from ≡ length old.history) where
+module _ (old new : Controlled) (chips : List CutState) (noted : List ℕ) (point : PointState) (r : Reaction) (from : ℕ) (are : AreSides old chips noted point) (is : new ≡ reacted old r)
+    (at : from ≡ length old.history) where
   -- the chips before the reaction follow the front that was there, and its places are noted
   pub chips_before : AreCuts new.setup.domains (take from new.history) chips
   chips_before = before (λ (d : Domains) (h : List Change). AreCuts d h chips) old new r from is at are.follows
@@ -28,5 +29,6 @@ module _ (old new : Controlled) (chips : List CutState) (noted : List ℕ) (poin
   })
 
   -- all of them, once they followed
-  pub sides_after : (chips_new : List CutState) (noted_new : List ℕ) → AreCuts new.setup.domains new.history chips_new → noted_new ≡ places new.setup.domains.edition new.history → AreSides new chips_new noted_new point
+  pub sides_after : (chips_new : List CutState) (noted_new : List ℕ) → AreCuts new.setup.domains new.history chips_new → noted_new ≡ places new.setup.domains.edition new.history
+      → AreSides new chips_new noted_new point
   sides_after chips_new noted_new follows places = record { follows = follows; places = places; stands = point_after }

@@ -17,7 +17,9 @@ use Rattle.check_world.specs.Sides.{SidesState, world_of}
 pub turns_none : (s : SidesState) (q : Queued) (dom m : ℕ) (c : Chip) → chip_in s.chips dom ≡ Some c → slice_get (updates s.setup.domains.edition s.history) c.count ≡ None
     → turns (world_of s q m) (chip_at (world_of s q m) dom) ≡ (world_of s q m, lines.Refused m NothingPending ∷ [])
 turns_none s q dom m c found none =
-    ap (turns (world_of s q m)) found ∙ ap (turns_to (world_of s q m) c) (option_map-none (under_ticket c.count) (deferred_at s.setup.domains.edition s.history c.count) (sym (updates-at s.setup.domains.edition s.history c.count) ∙ none))
+    ap (turns (world_of s q m)) found
+    ∙ ap (turns_to (world_of s q m) c)
+    (option_map-none (under_ticket c.count) (deferred_at s.setup.domains.edition s.history c.count) (sym (updates-at s.setup.domains.edition s.history c.count) ∙ none))
 
 -- this one is
 pub turns_one : (s t : SidesState) (q : Queued) (dom m : ℕ) (c : Chip) (u : Update) → chip_in s.chips dom ≡ Some c → slice_get (updates s.setup.domains.edition s.history) c.count ≡ Some u

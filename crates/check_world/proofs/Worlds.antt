@@ -45,7 +45,8 @@ serves_front s t (g ∷ later) held next f m told e h =
     let same : g ≡ f = cc in
     ap (λ x. posts (world_of s (record { waiting = later; held = held; next = next }) m) x s.published) same ∙ h (record { waiting = later; held = held; next = next })
 
-pub serves_oldest : (s t : SidesState) (q r : Queued) (f : Waiting) (m point : ℕ) (told : List Line) → Some f ≡ slice_get q.waiting 0 → point ≡ s.published → Comes of_sides (λ w. posts w f point) s m t told
+pub serves_oldest : (s t : SidesState) (q r : Queued) (f : Waiting) (m point : ℕ) (told : List Line) → Some f ≡ slice_get q.waiting 0 → point ≡ s.published
+    → Comes of_sides (λ w. posts w f point) s m t told
     → r ≡ record q { waiting = drop 1 q.waiting } → does (world_of s q m) Serve ≡ (world_of t r m, told)
 serves_oldest s t q r f m point told e at h left =
     serves_front s t q.waiting q.held q.next f m told e (λ p. ap (posts (world_of s p m) f) (sym at) ∙ h p) ∙ ap (λ (x : Queued). (world_of t x m, told)) (sym left)
@@ -144,7 +145,8 @@ pub posts_told : (old : World) (s t : SidesState) (q r : Queued) (n m id point :
     → Ok point ≡ point_of old (held_with old id) named → PostsHeld s q m id point t r told → Tells old (Post id named) (world_of t r m) told
 posts_told old s t q r n m id point named told was e is held =
     tells_so old s t q r n m (Post id named) told was e
-    (posts_one (world_of s q m) (find (λ h. h.waiting.id == id) q.held) id named point (world_of t r m, told) (λ h found. eqb-true h.waiting.id id (find-passes (λ h. h.waiting.id == id) q.held h found))
+    (posts_one (world_of s q m) (find (λ h. h.waiting.id == id) q.held) id named point (world_of t r m, told)
+    (λ h found. eqb-true h.waiting.id id (find-passes (λ h. h.waiting.id == id) q.held h found))
     (pointed old s q n m id named (Ok point) was is) held)
 
 pub refuses_told : (old : World) (s : SidesState) (q : Queued) (n m id : ℕ) (named : Option ℕ) (why : Refusal) → world_of s q n ≡ old → m ≡ n + 1

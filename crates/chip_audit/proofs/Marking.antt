@@ -1,5 +1,6 @@
 -- The entries after a chip's rows and updates that it hasn't applied, and which of them the chip has.
-use Rattle.std.proofs.Common.{◌≡◌, ℕ, zero, suc, ◌+◌, ◌<◌, ◌≤◌, Bool, true, false, T, not, cond, ◌||◌, ◌&&◌, Some, None, Option, List, [], ◌∷◌, ◌++◌, length, take, drop, refl, sym, ap, subst, ◌∙◌, append-nil, arith}
+use Rattle.std.proofs.Common.{◌≡◌, ℕ, zero, suc, ◌+◌, ◌<◌, ◌≤◌, Bool, true, false, T, not, cond, ◌||◌, ◌&&◌, Some}
+use Rattle.std.proofs.Common.{None, Option, List, [], ◌∷◌, ◌++◌, length, take, drop, refl, sym, ap, subst, ◌∙◌, append-nil, arith}
 use Rattle.std.specs.Prelude.{nat_lt}
 use Rattle.std.specs.List.{filter, fold, slice_get}
 use Rattle.std.specs.Option.{is_some, option_and_then, option_map, option_map_or}
@@ -72,7 +73,8 @@ module _ (edition : Edition) (k : ℕ) where
               (λ less. (let past : deferred_count edition h < k = ltb-true (deferred_count edition h) k less in
               ap (λ l. is_named l q) (drop-past k (deferred_of edition h) c past).0 ∙ sym (ap not less)))
               (λ no. (let within : k ≤ deferred_count edition h = ltb-false (deferred_count edition h) k no in
-              ap (λ l. is_named l q) (drop-within k (deferred_of edition h) c within) ∙ named-more (later h) c q ∙ ap (λ b. is_named (later h) q || b) its ∙ or-true (is_named (later h) q) ∙ sym (ap not no)))
+              ap (λ l. is_named l q) (drop-within k (deferred_of edition h) c within) ∙ named-more (later h) c q ∙ ap (λ b. is_named (later h) q || b) its ∙ or-true (is_named (later h) q)
+              ∙ sym (ap not no)))
 
           elsewhere : is_of_key q c ≡ false → is_named (drop k (deferred_of edition h ++ c ∷ [])) q ≡ is_named (later h) q
           elsewhere other = by_test (nat_lt (deferred_count edition h) k)

@@ -50,7 +50,8 @@ module _ (w : World) (d : ℕ) (is : IsWorld w) where
   applied-few : (c : Chip) → chip_at w d ≡ Some c → c.count ≤ deferred_count edition w.history
   applied-few c at = (find-each (ChipStands edition w.history) (λ (x : Chip). x.dom == d) w.chips c (recursion_from_All _ w.chips is.chips) at).applied
 
-  module _ (c : Chip) (at : chip_at w d ≡ Some c) (applied pending : ℕ) (a : option_map (λ (c : Chip). c.count) (chip_at w d) ≡ Some applied) (p : option_map (pending_of w) (chip_at w d) ≡ Some pending) where
+  module _ (c : Chip) (at : chip_at w d ≡ Some c) (applied pending : ℕ) (a : option_map (λ (c : Chip). c.count) (chip_at w d) ≡ Some applied)
+      (p : option_map (pending_of w) (chip_at w d) ≡ Some pending) where
     pub count-is : c.count ≡ applied
     count-is = let same : Some c.count ≡ Some applied = sym (ap (option_map (λ (c : Chip). c.count)) at) ∙ a in cc
 

@@ -49,11 +49,13 @@ with_host : (members flags both targets : List ℕ) → both ≡ ports_where (λ
     → Has targets (λ q. (q == 0) || (has_number members q && has_number flags q))
 with_host members flags both targets two is q low = has-where targets _ is q low ∙ ap (λ b. (q == 0) || b) (has-where both _ two q low)
 
-pub mcast_targets : (s : Shadow) (members both targets : List ℕ) → both ≡ ports_where (λ m. has_number members m && has_number s.mcast_flood m) → targets ≡ ports_where (λ m. (m == 0) || has_number both m)
+pub mcast_targets : (s : Shadow) (members both targets : List ℕ) → both ≡ ports_where (λ m. has_number members m && has_number s.mcast_flood m)
+    → targets ≡ ports_where (λ m. (m == 0) || has_number both m)
     → Has targets (floods_to s members Mcast)
 mcast_targets s members both targets = with_host members s.mcast_flood both targets
 
-pub bcast_targets : (s : Shadow) (members both targets : List ℕ) → both ≡ ports_where (λ m. has_number members m && has_number s.bcast_flood m) → targets ≡ ports_where (λ m. (m == 0) || has_number both m)
+pub bcast_targets : (s : Shadow) (members both targets : List ℕ) → both ≡ ports_where (λ m. has_number members m && has_number s.bcast_flood m)
+    → targets ≡ ports_where (λ m. (m == 0) || has_number both m)
     → Has targets (floods_to s members Bcast)
 bcast_targets s members both targets = with_host members s.bcast_flood both targets
 
@@ -74,7 +76,8 @@ pub made_row : (s : Shadow) (members targets hosted eligible unhosted free elsew
     → IsTrue no_plain ↔ (both_plain ≡ [])
     → record { ports = ports; isolated = not no_free; plain = not no_plain } ≡ fan_to s members (has_number targets)
 unfolding fan_to
-made_row s members targets hosted eligible unhosted free elsewhere ports both_free both_plain no_free no_plain hosted_is eligible_is unhosted_is free_is elsewhere_is ports_is both_free_is no_free_is both_plain_is no_plain_is =
+made_row s members targets hosted eligible unhosted free elsewhere ports both_free both_plain no_free no_plain =
+    λ hosted_is eligible_is unhosted_is free_is elsewhere_is ports_is both_free_is no_free_is both_plain_is no_plain_is.
     let eligible_has : Has eligible (opens s members) = λ q low.
     has-where eligible _ eligible_is q low ∙ ap (λ b. has_number members q && b) (has-where hosted _ hosted_is q low) in
     let free_has : Has free (frees s members) = λ q low.
@@ -168,7 +171,8 @@ module _ (p : ℕ) (s s' : Shadow) (members members' : List ℕ) (same : SameBut
   kept_group to = kept_row to to (λ q low other. refl)
 
 -- what a port has in a row of which it isn't a target
-nothing_there : (own rest more : Bool) → ◌≡◌ {A = Share} (record { ports = own && false; isolated = not own && (false && rest); plain = not own && (false && more) }) (record { ports = false; isolated = false; plain = false })
+nothing_there : (own rest more : Bool)
+    → ◌≡◌ {A = Share} (record { ports = own && false; isolated = not own && (false && rest); plain = not own && (false && more) }) (record { ports = false; isolated = false; plain = false })
 nothing_there true rest more = refl
 nothing_there false rest more = refl
 
@@ -177,7 +181,8 @@ untargeted s s' p m m' = nothing_there (has_number s.own p) (is_free s m p) (is_
 
 -- and in a row of a VLAN of which it is no member
 absent_by : (own own' t t' : Bool) → own ≡ own' → t ≡ t'
-    → ◌≡◌ {A = Share} (record { ports = own && t; isolated = not own && (t && false); plain = not own && (t && false) }) (record { ports = own' && t'; isolated = not own' && (t' && false); plain = not own' && (t' && false) })
+    → ◌≡◌ {A = Share} (record { ports = own && t; isolated = not own && (t && false); plain = not own && (t && false) })
+    (record { ports = own' && t'; isolated = not own' && (t' && false); plain = not own' && (t' && false) })
 absent_by own own' t t' own_is t_is = ap₂ (λ a b. share_by a false false false false b) own_is t_is
 
 absent_target : (s s' : Shadow) (p : ℕ) (fan : Fan) → is_target s false fan p ≡ is_target s' false fan p

@@ -16,7 +16,8 @@ use Rattle.chip_driver.specs.GroupRows.{has_pair, group_fan, AreUsed, GroupsFoll
 use Rattle.chip_driver.specs.Shadows.{fan_to}
 use Rattle.chip_driver.proofs.FanRows.{same_fans}
 use Rattle.br_model.proofs.Table.GroupPairs.{pair-joined, pair-parted, pair_equal}
-use Rattle.chip_driver.proofs.GroupRows.{count_is, find-written, ascending-written, find-freed, ascending-freed, among, among-pairs, among-next, among-past, among-all, among-one, same_pair, pair-ports, ports-joined, ports-parted}
+use Rattle.chip_driver.proofs.GroupRows.{count_is, find-written, ascending-written, find-freed, ascending-freed, among, among-pairs, among-next}
+use Rattle.chip_driver.proofs.GroupRows.{among-past, among-all, among-one, same_pair, pair-ports, ports-joined, ports-parted}
 
 -- the first pairs are done
 pub record SoFar (test : GroupPair → Bool) (s : Shadow) (ms : List Membership) (i : ℕ) (old now : Rows) : Type 0 where
@@ -30,7 +31,8 @@ none_so_far test s ms old used = record { at = λ k. refl; used = used.used; asc
 
 pub all_so_far : (test : GroupPair → Bool) (s : Shadow) (ms : List Membership) (i : ℕ) (old now : Rows) → SoFar test s ms i old now → i ≡ length (group_pairs ms) → RefreshesGroups test s ms old now
 all_so_far test s ms i old now so is = record {
-  at = λ k. so.at k ∙ ap (λ b. cond (b && test k) (Some (group_fan s old ms k)) (get group_pair_cmp old.groups k)) (ap (λ n. among (take n (group_pairs ms)) k) is ∙ among-all (group_pairs ms) k ∙ among-pairs ms k);
+  at = λ k. so.at k
+      ∙ ap (λ b. cond (b && test k) (Some (group_fan s old ms k)) (get group_pair_cmp old.groups k)) (ap (λ n. among (take n (group_pairs ms)) k) is ∙ among-all (group_pairs ms) k ∙ among-pairs ms k);
   ascending = so.ascending;
   rest = so.rest;
 }
@@ -46,7 +48,8 @@ module _ (test : GroupPair → Bool) (s : Shadow) (ms : List Membership) (i : �
   pub room_so_far : (row : FanRow) → length (group_pairs ms) ≤ max_pairs → length (put group_pair_cmp now.groups j row) ≤ max_pairs
   room_so_far row few = subst (λ n. n ≤ max_pairs) (sym (count_is (put group_pair_cmp now.groups j row) ms (ascending-written now.groups j row so.ascending) (used_after row))) few
 
-  pub next_written : (row : FanRow) (new : Rows) → test j ≡ true → row ≡ group_fan s now ms j → new.groups ≡ put group_pair_cmp now.groups j row → new ≡ record now { groups = new.groups } → SoFar test s ms (i + 1) old new
+  pub next_written : (row : FanRow) (new : Rows) → test j ≡ true → row ≡ group_fan s now ms j → new.groups ≡ put group_pair_cmp now.groups j row → new ≡ record now { groups = new.groups }
+      → SoFar test s ms (i + 1) old new
   next_written row new passes row_is written rest = record {
     at = λ k.
         ap (λ rows. get group_pair_cmp rows k) written ∙ find-written now.groups j k row ∙ by k (eq_by_cmp group_pair_cmp k j) refl (among (take i (group_pairs ms)) k) (so.at k)
@@ -61,7 +64,8 @@ module _ (test : GroupPair → Bool) (s : Shadow) (ms : List Membership) (i : �
           row_is ∙ ap (λ (r : Rows). fan_to s (vlan_at r j.0).members (has_number (ports_in ms j.0 j.1))) so.rest
           ∙ ap (group_fan s old ms) (sym same)
 
-      by : (k : GroupPair) (b : Bool) → eq_by_cmp group_pair_cmp k j ≡ b → (a : Bool) → get group_pair_cmp now.groups k ≡ cond (a && test k) (Some (group_fan s old ms k)) (get group_pair_cmp old.groups k)
+      by : (k : GroupPair) (b : Bool) → eq_by_cmp group_pair_cmp k j ≡ b → (a : Bool)
+          → get group_pair_cmp now.groups k ≡ cond (a && test k) (Some (group_fan s old ms k)) (get group_pair_cmp old.groups k)
           → cond b (Some row) (get group_pair_cmp now.groups k) ≡ cond ((a || eq_by_cmp group_pair_cmp k j) && test k) (Some (group_fan s old ms k)) (get group_pair_cmp old.groups k)
       by k true e a at =
           ap Some (row_at k (pair_equal k j e))
@@ -88,10 +92,12 @@ module _ (test : GroupPair → Bool) (s : Shadow) (ms : List Membership) (i : �
   }
     where
       by : (k : GroupPair) (b : Bool) → eq_by_cmp group_pair_cmp k j ≡ b → (a : Bool)
-          → cond (a && test k) (Some (group_fan s old ms k)) (get group_pair_cmp old.groups k) ≡ cond ((a || eq_by_cmp group_pair_cmp k j) && test k) (Some (group_fan s old ms k)) (get group_pair_cmp old.groups k)
+          → cond (a && test k) (Some (group_fan s old ms k)) (get group_pair_cmp old.groups k) ≡ cond ((a || eq_by_cmp group_pair_cmp k j) && test k) (Some (group_fan s old ms k))
+          (get group_pair_cmp old.groups k)
       by k true e a =
           (let no : test k ≡ false = ap test (pair_equal k j e) ∙ fails in
-          ap (λ x. cond x (Some (group_fan s old ms k)) (get group_pair_cmp old.groups k)) (ap (λ x. a && x) no ∙ and_false a ∙ sym (ap (λ x. (a || eq_by_cmp group_pair_cmp k j) && x) no ∙ and_false (a || eq_by_cmp group_pair_cmp k j))))
+          ap (λ x. cond x (Some (group_fan s old ms k)) (get group_pair_cmp old.groups k)) (ap (λ x. a && x) no ∙ and_false a
+          ∙ sym (ap (λ x. (a || eq_by_cmp group_pair_cmp k j) && x) no ∙ and_false (a || eq_by_cmp group_pair_cmp k j))))
         where
           and_false : (b : Bool) → (b && false) ≡ false
           and_false true = refl
@@ -102,7 +108,8 @@ module _ (test : GroupPair → Bool) (s : Shadow) (ms : List Membership) (i : �
           or_none true = refl
           or_none false = refl
 
-pub next_past : (test : GroupPair → Bool) (s : Shadow) (ms : List Membership) (i : ℕ) (old now : Rows) → SoFar test s ms i old now → slice_get (group_pairs ms) i ≡ None → SoFar test s ms (i + 1) old now
+pub next_past : (test : GroupPair → Bool) (s : Shadow) (ms : List Membership) (i : ℕ) (old now : Rows) → SoFar test s ms i old now → slice_get (group_pairs ms) i ≡ None
+    → SoFar test s ms (i + 1) old now
 next_past test s ms i old now so none = record {
   at = λ k. so.at k ∙ ap (λ b. cond (b && test k) (Some (group_fan s old ms k)) (get group_pair_cmp old.groups k)) (sym (among-past (group_pairs ms) i k none));
   used = so.used;
@@ -152,14 +159,16 @@ groups_left test s ms old used none = record {
     by k false = refl
 
 -- tests that agree
-pub groups_agree : (test test' : GroupPair → Bool) (s : Shadow) (ms : List Membership) (old new : Rows) → ((k : GroupPair) → test' k ≡ test k) → RefreshesGroups test s ms old new → RefreshesGroups test' s ms old new
+pub groups_agree : (test test' : GroupPair → Bool) (s : Shadow) (ms : List Membership) (old new : Rows) → ((k : GroupPair) → test' k ≡ test k) → RefreshesGroups test s ms old new
+    → RefreshesGroups test' s ms old new
 groups_agree test test' s ms old new same refreshes = record {
   at = λ k. refreshes.at k ∙ ap (λ b. cond (has_pair ms k && b) (Some (group_fan s old ms k)) (get group_pair_cmp old.groups k)) (sym (same k));
   ascending = refreshes.ascending;
   rest = refreshes.rest;
 }
 
-pub groups_same : (s s' : Shadow) (ms : List Membership) (old new : Rows) → GroupsFollow s ms old → new.groups ≡ old.groups → ((k : GroupPair) → group_fan s old ms k ≡ group_fan s' new ms k) → GroupsFollow s' ms new
+pub groups_same : (s s' : Shadow) (ms : List Membership) (old new : Rows) → GroupsFollow s ms old → new.groups ≡ old.groups → ((k : GroupPair) → group_fan s old ms k ≡ group_fan s' new ms k)
+    → GroupsFollow s' ms new
 groups_same s s' ms old new follow same fan = record {
   vids = follow.vids;
   at = λ k. ap (λ rows. get group_pair_cmp rows k) same ∙ follow.at k ∙ ap (λ r. cond (has_pair ms k) (Some r) None) (fan k);
@@ -168,7 +177,8 @@ groups_same s s' ms old new follow same fan = record {
 
 -- ---- a member joins or parts
 
-by_ports : (s : Shadow) (rows : Rows) (ms ms' : List Membership) (k : GroupPair) → ((q : ℕ) → has_number (ports_in ms k.0 k.1) q ≡ has_number (ports_in ms' k.0 k.1) q) → group_fan s rows ms k ≡ group_fan s rows ms' k
+by_ports : (s : Shadow) (rows : Rows) (ms ms' : List Membership) (k : GroupPair) → ((q : ℕ) → has_number (ports_in ms k.0 k.1) q ≡ has_number (ports_in ms' k.0 k.1) q)
+    → group_fan s rows ms k ≡ group_fan s rows ms' k
 unfolding fan_to
 by_ports s rows ms ms' k same = same_fans _ _ _ _ _ _ _ _ (λ q low. refl) (λ q low. same q) (λ q low. refl) (λ q low. refl)
 
@@ -218,7 +228,8 @@ module _ (s : Shadow) (ms ms' : List Membership) (v p : ℕ) (g : Group) where
       (λ k other q. ap (λ xs. has_number (ports_in xs k.0 k.1) q) is ∙ ports-joined ms v p g k q other)
       (ap Some row_is ∙ ap (λ b. cond b (Some (group_fan s old ms' (v, g))) None) (sym (joined_here is))) written rest
 
-  pub joined_room : (row : FanRow) (old : Rows) → GroupsFollow s ms old → ms' ≡ joined membership_cmp ms (v, g, p) → length (group_pairs ms') ≤ max_pairs → length (groups_with old v g (Some row)) ≤ max_pairs
+  pub joined_room : (row : FanRow) (old : Rows) → GroupsFollow s ms old → ms' ≡ joined membership_cmp ms (v, g, p) → length (group_pairs ms') ≤ max_pairs
+      → length (groups_with old v g (Some row)) ≤ max_pairs
   joined_room row old follow is few =
       subst (λ n. n ≤ max_pairs)
       (sym (count_is (put group_pair_cmp old.groups (v, g) row) ms' (ascending-written old.groups (v, g) row follow.ascending)
@@ -235,15 +246,18 @@ module _ (s : Shadow) (ms ms' : List Membership) (v p : ℕ) (g : Group) where
   parted_pair : ms' ≡ parted membership_cmp ms (v, g, p) → (k : GroupPair) → eq_by_cmp group_pair_cmp k (v, g) ≡ false → has_pair ms' k ≡ has_pair ms k
   parted_pair is k other = ap (λ xs. has_pair xs k) is ∙ pair-parted ms (v, g, p) k other
 
-  pub parted_follow : (row : Option FanRow) (old new : Rows) → GroupsFollow s ms old → IsVid v → ms' ≡ parted membership_cmp ms (v, g, p) → row ≡ cond (has_pair ms' (v, g)) (Some (group_fan s old ms' (v, g))) None
+  pub parted_follow : (row : Option FanRow) (old new : Rows) → GroupsFollow s ms old → IsVid v → ms' ≡ parted membership_cmp ms (v, g, p)
+      → row ≡ cond (has_pair ms' (v, g)) (Some (group_fan s old ms' (v, g))) None
       → new.groups ≡ groups_with old v g row → new ≡ record old { groups = new.groups } → GroupsFollow s ms' new
   parted_follow row old new follow in_range is row_is written rest =
       one_changed s ms ms' (v, g) row old new follow in_range (parted_pair is)
       (λ k other q. ap (λ xs. has_number (ports_in xs k.0 k.1) q) is ∙ ports-parted ms v p g k q other)
       row_is written rest
 
-  pub parted_room : (row : Option FanRow) (old : Rows) → GroupsFollow s ms old → ms' ≡ parted membership_cmp ms (v, g, p) → is_some row ≡ has_pair ms' (v, g) → length (group_pairs ms') ≤ max_pairs → length (groups_with old v g row) ≤ max_pairs
-  parted_room row old follow is row_is few = subst (λ n. n ≤ max_pairs) (sym (count_is (groups_with old v g row) ms' (ascending row) (λ k. ap is_some (find row k) ∙ by k (eq_by_cmp group_pair_cmp k (v, g)) refl))) few
+  pub parted_room : (row : Option FanRow) (old : Rows) → GroupsFollow s ms old → ms' ≡ parted membership_cmp ms (v, g, p) → is_some row ≡ has_pair ms' (v, g)
+      → length (group_pairs ms') ≤ max_pairs → length (groups_with old v g row) ≤ max_pairs
+  parted_room row old follow is row_is few =
+      subst (λ n. n ≤ max_pairs) (sym (count_is (groups_with old v g row) ms' (ascending row) (λ k. ap is_some (find row k) ∙ by k (eq_by_cmp group_pair_cmp k (v, g)) refl))) few
     where
       used : AreUsed ms old
       used = used_of s ms old old follow refl
@@ -261,7 +275,8 @@ module _ (s : Shadow) (ms ms' : List Membership) (v p : ℕ) (g : Group) where
       by k false e = used.used k ∙ sym (parted_pair is k e)
 
 -- the row of a pair by whether it has ports
-pub row_or_none : (s : Shadow) (ms : List Membership) (old : Rows) (k : GroupPair) (empty : Bool) (row : Option FanRow) → IsTrue empty ↔ (ports_in ms k.0 k.1 ≡ []) → row ≡ cond empty None (Some (group_fan s old ms k)) → row ≡ cond (has_pair ms k) (Some (group_fan s old ms k)) None
+pub row_or_none : (s : Shadow) (ms : List Membership) (old : Rows) (k : GroupPair) (empty : Bool) (row : Option FanRow) → IsTrue empty ↔ (ports_in ms k.0 k.1 ≡ [])
+    → row ≡ cond empty None (Some (group_fan s old ms k)) → row ≡ cond (has_pair ms k) (Some (group_fan s old ms k)) None
 row_or_none s ms old k empty row tells is = is ∙ turn empty ∙ ap (λ b. cond b (Some (group_fan s old ms k)) None) (sym (pair-ports ms k empty tells))
   where
     turn : (b : Bool) → cond b None (Some (group_fan s old ms k)) ≡ cond (not b) (Some (group_fan s old ms k)) None

@@ -1,5 +1,6 @@
 -- The rows of groups, told by look-ups: one at each VLAN and group that has members.
-use Rattle.std.proofs.Common.{◌≡◌, ℕ, zero, suc, ◌+◌, length, take, Bool, true, false, not, ◌&&◌, ◌||◌, cond, T, IsTrue, ◌↔◌, Option, None, Some, List, [], ◌∷◌, map, refl, sym, ap, ap₂, subst, ◌∙◌, add-one}
+use Rattle.std.proofs.Common.{◌≡◌, ℕ, zero, suc, ◌+◌, length, take, Bool, true, false, not, ◌&&◌, ◌||◌, cond, T, IsTrue}
+use Rattle.std.proofs.Common.{◌↔◌, Option, None, Some, List, [], ◌∷◌, map, refl, sym, ap, ap₂, subst, ◌∙◌, add-one}
 use Rattle.std.specs.Prelude.{◌==◌, is_some, slice_get}
 use Rattle.std.specs.List.{list_any, filter}
 use Rattle.std.specs.declared.cmp.Ordering.{Ordering}
@@ -74,7 +75,10 @@ has-ports q v g (m ∷ ms) =
     ∙ ap (λ b. b || has_number (ports_in ms v g) q) (sym (is_eq-then (group_pair_cmp (v, g) (m.0, m.1)) (nat_cmp q m.2)) ∙ ap is_eq (sym (by_pair (v, g) (m.0, m.1) q m.2)))
     ∙ ap (λ b. eq_by_cmp membership_cmp (v, g, q) m || b) (has-ports q v g ms)
   where
-    by : (b : Bool) → has_number (map (λ n. n.2) (cond b (m ∷ filter (λ n. n.0 == v && is_eq (group_cmp n.1 g)) ms) (filter (λ n. n.0 == v && is_eq (group_cmp n.1 g)) ms))) q ≡ ((b && (q == m.2)) || has_number (ports_in ms v g) q)
+    by : (b : Bool)
+        → has_number
+        (map (λ n. n.2) (cond b (m ∷ filter (λ n. n.0 == v && is_eq (group_cmp n.1 g)) ms) (filter (λ n. n.0 == v && is_eq (group_cmp n.1 g)) ms))) q ≡ ((b && (q == m.2)) || has_number
+        (ports_in ms v g) q)
     by true = refl
     by false = refl
 
@@ -90,7 +94,8 @@ module _ {X : Type 0} where
   find-bare [] k = refl
   find-bare (e ∷ es) k = step (eq_by_cmp group_pair_cmp k e.0) (find-bare es k)
     where
-      step : (b : Bool) → is_some (get group_pair_cmp (bare es) k) ≡ is_some (get group_pair_cmp es k) → is_some (cond b (Some tt) (get group_pair_cmp (bare es) k)) ≡ is_some (cond b (Some e.1) (get group_pair_cmp es k))
+      step : (b : Bool) → is_some (get group_pair_cmp (bare es) k) ≡ is_some (get group_pair_cmp es k)
+          → is_some (cond b (Some tt) (get group_pair_cmp (bare es) k)) ≡ is_some (cond b (Some e.1) (get group_pair_cmp es k))
       step true h = refl
       step false h = h
 
@@ -102,7 +107,8 @@ module _ {X : Type 0} where
   sorted-bare [] = refl
   sorted-bare (e ∷ es) = ap₂ (λ a b. a && b) (below-bare e.0 es) (sorted-bare es)
 
-  pub count_is : (rows : List (GroupPair × X)) (ms : List Membership) → is_ascending group_pair_cmp rows ≡ true → ((k : GroupPair) → is_some (get group_pair_cmp rows k) ≡ has_pair ms k) → length rows ≡ length (group_pairs ms)
+  pub count_is : (rows : List (GroupPair × X)) (ms : List Membership) → is_ascending group_pair_cmp rows ≡ true → ((k : GroupPair) → is_some (get group_pair_cmp rows k) ≡ has_pair ms k)
+      → length rows ≡ length (group_pairs ms)
   count_is rows ms sorted used =
       sym (length-map rows (λ (e : GroupPair × X). (e.0, tt)))
       ∙ ap length
@@ -110,7 +116,8 @@ module _ {X : Type 0} where
       (λ k. same_units _ _ (find-bare rows k ∙ used k ∙ sym (find-pairs ms k))))
       ∙ sym (length-map (pairs ms) (λ e. e.0)) ∙ ap length (keys-pairs ms)
 
-  pub find-written : (rows : List (GroupPair × X)) (k j : GroupPair) (x : X) → get group_pair_cmp (put group_pair_cmp rows k x) j ≡ cond (eq_by_cmp group_pair_cmp j k) (Some x) (get group_pair_cmp rows j)
+  pub find-written : (rows : List (GroupPair × X)) (k j : GroupPair) (x : X)
+      → get group_pair_cmp (put group_pair_cmp rows k x) j ≡ cond (eq_by_cmp group_pair_cmp j k) (Some x) (get group_pair_cmp rows j)
   find-written rows k j x = find-put group_pair_cmp pair_total j k x rows
 
   pub ascending-written : (rows : List (GroupPair × X)) (k : GroupPair) (x : X) → is_ascending group_pair_cmp rows ≡ true → is_ascending group_pair_cmp (put group_pair_cmp rows k x) ≡ true
@@ -174,7 +181,8 @@ among-past ks i k e = ap (λ n. among (take n ks) k) (add-one i) ∙ past ks i e
 
 pub among-one : (ks : List GroupPair) (i : ℕ) (j : GroupPair) → slice_get ks i ≡ Some j → among ks j ≡ true
 among-one [] i j e = absurd (let no : None ≡ Some j = e in cc)
-among-one (x ∷ xs) zero j e = (let is : Some x ≡ Some j = e in let same : x ≡ j = cc in ap (λ (n : GroupPair). eq_by_cmp group_pair_cmp j n || among xs j) same ∙ ap (λ b. b || among xs j) (same_pair j))
+among-one (x ∷ xs) zero j e =
+    (let is : Some x ≡ Some j = e in let same : x ≡ j = cc in ap (λ (n : GroupPair). eq_by_cmp group_pair_cmp j n || among xs j) same ∙ ap (λ b. b || among xs j) (same_pair j))
 among-one (x ∷ xs) (suc i) j e = ap (λ b. eq_by_cmp group_pair_cmp j x || b) (among-one xs i j e) ∙ or-true (eq_by_cmp group_pair_cmp j x)
 
 pub among-all : (ks : List GroupPair) (k : GroupPair) → among (take (length ks) ks) k ≡ among ks k
@@ -190,12 +198,14 @@ pair-kept k j p q other = ap is_eq (by_pair k j q p) ∙ by (group_pair_cmp k j)
     by Equal s h = absurd (let no : true ≡ false = h in cc)
     by Greater s h = refl
 
-pub ports-joined : (ms : List Membership) (v p : ℕ) (g : Group) (k : GroupPair) (q : ℕ) → eq_by_cmp group_pair_cmp k (v, g) ≡ false → has_number (ports_in (joined membership_cmp ms (v, g, p)) k.0 k.1) q ≡ has_number (ports_in ms k.0 k.1) q
+pub ports-joined : (ms : List Membership) (v p : ℕ) (g : Group) (k : GroupPair) (q : ℕ) → eq_by_cmp group_pair_cmp k (v, g) ≡ false
+    → has_number (ports_in (joined membership_cmp ms (v, g, p)) k.0 k.1) q ≡ has_number (ports_in ms k.0 k.1) q
 ports-joined ms v p g k q other =
     has-ports q k.0 k.1 (joined membership_cmp ms (v, g, p)) ∙ any-joined (eq_by_cmp membership_cmp (k.0, k.1, q)) ms (v, g, p)
     ∙ ap (λ b. b || has membership_cmp ms (k.0, k.1, q)) (pair-kept k (v, g) p q other) ∙ sym (has-ports q k.0 k.1 ms)
 
-pub ports-parted : (ms : List Membership) (v p : ℕ) (g : Group) (k : GroupPair) (q : ℕ) → eq_by_cmp group_pair_cmp k (v, g) ≡ false → has_number (ports_in (parted membership_cmp ms (v, g, p)) k.0 k.1) q ≡ has_number (ports_in ms k.0 k.1) q
+pub ports-parted : (ms : List Membership) (v p : ℕ) (g : Group) (k : GroupPair) (q : ℕ) → eq_by_cmp group_pair_cmp k (v, g) ≡ false
+    → has_number (ports_in (parted membership_cmp ms (v, g, p)) k.0 k.1) q ≡ has_number (ports_in ms k.0 k.1) q
 ports-parted ms v p g k q other =
     has-ports q k.0 k.1 (parted membership_cmp ms (v, g, p))
     ∙ any-filter_same (eq_by_cmp membership_cmp (k.0, k.1, q)) (λ n. not (eq_by_cmp membership_cmp (v, g, p) n)) true (λ n tie. ap not (apart n tie (membership_cmp (v, g, p) n) refl)) ms
@@ -232,7 +242,8 @@ pair-ports ms k empty tells = by (has_pair ms k) empty (none ms) tells
     none (m ∷ ms) = step (m.0 == k.0 && is_eq (group_cmp m.1 k.1)) (is_of_pair k (m.0, m.1)) (none ms)
       where
         step : (b : Bool) → b ≡ eq_by_cmp group_pair_cmp k (m.0, m.1) → (has_pair ms k ≡ false) ↔ (ports_in ms k.0 k.1 ≡ [])
-            → ((eq_by_cmp group_pair_cmp k (m.0, m.1) || has_pair ms k) ≡ false) ↔ (map (λ n. n.2) (cond b (m ∷ filter (λ n. n.0 == k.0 && is_eq (group_cmp n.1 k.1)) ms) (filter (λ n. n.0 == k.0 && is_eq (group_cmp n.1 k.1)) ms)) ≡ [])
+            → ((eq_by_cmp group_pair_cmp k (m.0, m.1) || has_pair ms k) ≡ false) ↔ (map (λ n. n.2)
+            (cond b (m ∷ filter (λ n. n.0 == k.0 && is_eq (group_cmp n.1 k.1)) ms) (filter (λ n. n.0 == k.0 && is_eq (group_cmp n.1 k.1)) ms)) ≡ [])
         step true e h = ((λ no. absurd (let f : true ≡ false = ap (λ b. b || has_pair ms k) e ∙ no in cc)), (λ no. absurd (cc)))
         step false e h =
             ((λ no. h.0 (ap (λ b. b || has_pair ms k) e ∙ no)), (λ nil. ap (λ b. b || has_pair ms k) (sym e) ∙ h.1 nil))
@@ -253,7 +264,8 @@ module _ {K X Y : Type 0} (R : K → K → Ordering) (f : X → Y) where
   mapped-put [] k x = refl
   mapped-put (e ∷ es) k x = by (R k e.0) ∙ ap (λ rest. by_order (R k e.0) ((k, f x) ∷ mapped (e ∷ es)) ((e.0, f x) ∷ mapped es) ((e.0, f e.1) ∷ rest)) (mapped-put es k x)
     where
-      by : (r : Ordering) → mapped (by_order r ((k, x) ∷ e ∷ es) ((e.0, x) ∷ es) (e ∷ put R es k x)) ≡ by_order r ((k, f x) ∷ mapped (e ∷ es)) ((e.0, f x) ∷ mapped es) ((e.0, f e.1) ∷ mapped (put R es k x))
+      by : (r : Ordering)
+          → mapped (by_order r ((k, x) ∷ e ∷ es) ((e.0, x) ∷ es) (e ∷ put R es k x)) ≡ by_order r ((k, f x) ∷ mapped (e ∷ es)) ((e.0, f x) ∷ mapped es) ((e.0, f e.1) ∷ mapped (put R es k x))
       by Less = refl
       by Equal = refl
       by Greater = refl

@@ -78,7 +78,8 @@ settled_anew s s' j p touched old mid new p_low settled mid_rest own same tells 
     before vid in_range fan = ap (λ (r : Rows). fan_at r vid fan) mid_rest ∙ settled.fans vid in_range fan ∙ ap (λ (r : VlanRow). fan_made s r.members fan) (sym (mid_vlan vid))
 
     kept : (vid : ℕ) (fan : Fan)
-        → share_of s p (has_number (vlan_at mid vid).members p) (is_target s (has_number (vlan_at mid vid).members p) fan p) ≡ share_of s' p (has_number (vlan_at mid vid).members p) (is_target s' (has_number (vlan_at mid vid).members p) fan p)
+        → share_of s p (has_number (vlan_at mid vid).members p) (is_target s (has_number (vlan_at mid vid).members p) fan p) ≡ share_of s' p (has_number (vlan_at mid vid).members p)
+        (is_target s' (has_number (vlan_at mid vid).members p) fan p)
         → fan_made s (vlan_at mid vid).members fan ≡ fan_made s' (vlan_at mid vid).members fan
     kept vid fan = kept_fan p s s' (vlan_at mid vid).members (vlan_at mid vid).members (record { shadow = same; others = λ q low other. refl }) fan
 
@@ -86,13 +87,15 @@ settled_anew s s' j p touched old mid new p_low settled mid_rest own same tells 
     is_there vid m joined is = sym is ∙ joined ∙ ap (λ (r : VlanRow). has_number r.members p) (sym (mid_vlan vid))
 
     here : (vid : ℕ) (fan : Fan) → has_vlan j p vid ≡ has_number (vlan_at old vid).members p → has_vlan j p vid ≡ true → touched_of touched fan ≡ false
-        → share_of s p (has_number (vlan_at mid vid).members p) (is_target s (has_number (vlan_at mid vid).members p) fan p) ≡ share_of s' p (has_number (vlan_at mid vid).members p) (is_target s' (has_number (vlan_at mid vid).members p) fan p)
+        → share_of s p (has_number (vlan_at mid vid).members p) (is_target s (has_number (vlan_at mid vid).members p) fan p) ≡ share_of s' p (has_number (vlan_at mid vid).members p)
+        (is_target s' (has_number (vlan_at mid vid).members p) fan p)
     here vid fan joined is off =
         subst (λ m. share_of s p m (is_target s m fan p) ≡ share_of s' p m (is_target s' m fan p)) (is_there vid true joined is)
         (sym (share-in s p true fan) ∙ tells.fans fan off ∙ share-in s' p true fan)
 
     there : (vid : ℕ) (fan : Fan) → has_vlan j p vid ≡ has_number (vlan_at old vid).members p → has_vlan j p vid ≡ false
-        → share_of s p (has_number (vlan_at mid vid).members p) (is_target s (has_number (vlan_at mid vid).members p) fan p) ≡ share_of s' p (has_number (vlan_at mid vid).members p) (is_target s' (has_number (vlan_at mid vid).members p) fan p)
+        → share_of s p (has_number (vlan_at mid vid).members p) (is_target s (has_number (vlan_at mid vid).members p) fan p) ≡ share_of s' p (has_number (vlan_at mid vid).members p)
+        (is_target s' (has_number (vlan_at mid vid).members p) fan p)
     there vid fan joined is =
         subst (λ m. share_of s p m (is_target s m fan p) ≡ share_of s' p m (is_target s' m fan p)) (is_there vid false joined is)
         (absent s s' p fan (ap (λ (ns : List ℕ). has_number ns p) (sym own)))
@@ -107,7 +110,8 @@ state_written : (b : Bool) (x y : PortRow) → x.state ≤ 4 → y.state ≤ 4 �
 state_written true x y hx hy = hx
 state_written false x y hx hy = hy
 
-pub states_written : (p : ℕ) (row : PortRow) (old mid : Rows) → WritesPort old mid p row → row.state ≤ 4 → ((q : ℕ) → q < port_places → (port_at old q).state ≤ 4) → (q : ℕ) → q < port_places → (port_at mid q).state ≤ 4
+pub states_written : (p : ℕ) (row : PortRow) (old mid : Rows) → WritesPort old mid p row → row.state ≤ 4 → ((q : ℕ) → q < port_places → (port_at old q).state ≤ 4) → (q : ℕ) → q < port_places
+    → (port_at mid q).state ≤ 4
 states_written p row old mid writes fits states q low = subst (λ (r : PortRow). r.state ≤ 4) (sym (writes q)) (state_written (q == p) row (port_at old q) fits (states q low))
 
 own_stays : (p : ℕ) (row : PortRow) (old : Rows) → row.own ≡ (port_at old p).own → (q : ℕ) → (port_at old q).own ≡ (cond (q == p) row (port_at old q)).own
@@ -155,9 +159,11 @@ settled_port s s' j p row touched old mid new p_low settled own_is fits writes m
 -- ---- a router comes or goes
 
 pub routed_same : (s : Shadow) (p : ℕ) (routers : List ℕ) (on : Bool) → routers ≡ switched s.routers p on → (q : ℕ) → q < port_places → q ≢ p → SameAt s (record s { routers = routers }) q
-routed_same s p routers on is q low other = record { own = refl; forwarding = refl; flood = refl; mcast_flood = refl; bcast_flood = refl; isolated = refl; routers = switched_other routers s.routers p on is q low other }
+routed_same s p routers on is q low other =
+    record { own = refl; forwarding = refl; flood = refl; mcast_flood = refl; bcast_flood = refl; isolated = refl; routers = switched_other routers s.routers p on is q low other }
 
-pub settled_router : (s : Shadow) (j : List (List ℕ)) (p : ℕ) (routers : List ℕ) (on : Bool) (touched : Touched) (old new : Rows) → p < port_places → Settled s j old → routers ≡ switched s.routers p on
+pub settled_router : (s : Shadow) (j : List (List ℕ)) (p : ℕ) (routers : List ℕ) (on : Bool) (touched : Touched) (old new : Rows) → p < port_places → Settled s j old
+    → routers ≡ switched s.routers p on
     → Touches (shares_of s p true) (shares_of (record s { routers = routers }) p true) touched
     → Refreshes (λ w k. has_vlan j p w && touched_of touched k) (record s { routers = routers }) old new → Settled (record s { routers = routers }) j new
 settled_router s j p routers on touched old new p_low settled is tells refreshes =
@@ -211,7 +217,8 @@ settled_member s j j' p v on row touched old mid new p_low v_low settled is writ
     vlan : (vid : ℕ) → vlan_at new vid ≡ cond (vid == v) row (vlan_at old vid)
     vlan vid = ap (λ (r : Rows). vlan_at r vid) refreshes.rest ∙ writes vid
 
-    here : (q vid : ℕ) → q < port_places → (vid == v) ≡ true → vid ≡ v → cond ((q == p) && (vid == v)) on (has_number (vlan_at old vid).members q) ≡ has_number (cond (vid == v) row (vlan_at old vid)).members q
+    here : (q vid : ℕ) → q < port_places → (vid == v) ≡ true → vid ≡ v
+        → cond ((q == p) && (vid == v)) on (has_number (vlan_at old vid).members q) ≡ has_number (cond (vid == v) row (vlan_at old vid)).members q
     here q vid low test same =
         ap (λ b. cond ((q == p) && b) on (has_number (vlan_at old vid).members q)) test
         ∙ ap (λ b. cond b on (has_number (vlan_at old vid).members q)) (and-true (q == p))
@@ -229,7 +236,8 @@ settled_member s j j' p v on row touched old mid new p_low v_low settled is writ
     before vid in_range fan = ap (λ (r : Rows). fan_at r vid fan) mid_rest ∙ settled.fans vid in_range fan
 
     share : (fan : Fan) → touched_of touched fan ≡ false
-        → share_of s p (has_number (vlan_at old v).members p) (is_target s (has_number (vlan_at old v).members p) fan p) ≡ share_of s p (has_number row.members p) (is_target s (has_number row.members p) fan p)
+        → share_of s p (has_number (vlan_at old v).members p) (is_target s (has_number (vlan_at old v).members p) fan p) ≡ share_of s p (has_number row.members p)
+        (is_target s (has_number row.members p) fan p)
     share fan off =
         subst (λ m. share_of s p (has_number (vlan_at old v).members p) (is_target s (has_number (vlan_at old v).members p) fan p) ≡ share_of s p m (is_target s m fan p))
         (switched_here (vlan_at old v).members row.members p on p_low is)
@@ -272,7 +280,8 @@ settled_pvid s j p row old new p_low settled writes rest = record {
     reads : (read : PortRow → Bool) (q : ℕ) → ((o : PortRow) → read o ≡ read (record o { pvid = row.pvid })) → read (port_at old q) ≡ read (port_at new q)
     reads read q blind =
         ⊎_elim
-        (λ (at : ((q == p) ≡ true) × (q ≡ p)). ap (λ n. read (port_at old n)) at.1 ∙ blind (port_at old p) ∙ ap (λ b. read (cond b (record (port_at old p) { pvid = row.pvid }) (port_at old q))) (sym at.0))
+        (λ (at : ((q == p) ≡ true) × (q ≡ p)). ap (λ n. read (port_at old n)) at.1 ∙ blind (port_at old p)
+        ∙ ap (λ b. read (cond b (record (port_at old p) { pvid = row.pvid }) (port_at old q))) (sym at.0))
         (λ (off : ((q == p) ≡ false) × (q ≢ p)). ap (λ b. read (cond b (record (port_at old p) { pvid = row.pvid }) (port_at old q))) (sym off.0))
         (eqb_tells q p)
         ∙ ap read (sym (writes q))

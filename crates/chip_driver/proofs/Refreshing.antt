@@ -73,7 +73,8 @@ row_written s v fan touched row old new on row_is writes = record {
   where
     by : (vid : ℕ) (k : Fan) (a b c : Bool) → c ≡ true → (a ≡ true → vid ≡ v) → (b ≡ true → k ≡ fan)
         → cond (a && b) row (fan_at old vid k) ≡ cond (a && (b && c)) (fan_made s (vlan_at old vid).members k) (fan_at old vid k)
-    by vid k true true c on h i = row_is ∙ ap₂ (λ w n. fan_made s (vlan_at old w).members n) (sym (h refl)) (sym (i refl)) ∙ ap (λ b. cond b (fan_made s (vlan_at old vid).members k) (fan_at old vid k)) (sym on)
+    by vid k true true c on h i = row_is ∙ ap₂ (λ w n. fan_made s (vlan_at old w).members n) (sym (h refl)) (sym (i refl))
+        ∙ ap (λ b. cond b (fan_made s (vlan_at old vid).members k) (fan_at old vid k)) (sym on)
     by vid k true false c on h i = refl
     by vid k false b c on h i = refl
 

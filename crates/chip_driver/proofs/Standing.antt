@@ -18,7 +18,8 @@ use Rattle.chip_tables.specs.declared.rows.PortRow.{PortRow}
 use Rattle.chip_tables.specs.declared.rows.Flood.{Flood}
 use Rattle.chip_tables.specs.declared.rows.Flood.TheVariants.{Unicast, Mcast, Bcast}
 use Rattle.chip_tables.specs.Rows.{Rows, vlan_at, flood_at, router_at, port_at, trap_at, control_in, WritesPort, WritesVlan}
-use Rattle.chip_tables.specs.Stands.{ports_where, is_flooded, is_routed, is_grouped, is_open, vlan_wanted, fan_wanted, port_wanted, VlansStand, PortsStand, TrapsStand, ControlStands, address_wanted, AddressesStand, Stands}
+use Rattle.chip_tables.specs.Stands.{ports_where, is_flooded, is_routed, is_grouped, is_open, vlan_wanted, fan_wanted, port_wanted}
+use Rattle.chip_tables.specs.Stands.{VlansStand, PortsStand, TrapsStand, ControlStands, address_wanted, AddressesStand, Stands}
 use Rattle.chip_driver.specs.declared.fans.Fan.TheVariants.{Floods, Routers}
 use Rattle.chip_driver.specs.declared.shadow.Shadow.{Shadow}
 use Rattle.chip_tables.specs.Flags.{row_has_flag}
@@ -92,7 +93,8 @@ drives_port d t up flags state p row old kept before is_kept routers_is groups_i
       (λ q low.
       writes q
       ∙ ⊎_elim
-      (λ (same : ((q == p) ≡ true) × (q ≡ p)). ap (λ b. cond b row (port_at old.rows q)) same.0 ∙ written ∙ ap (port_wanted d old.dom (record t { up = up; flags = flags; state = state })) (sym same.1))
+      (λ (same : ((q == p) ≡ true) × (q ≡ p)). ap (λ b. cond b row (port_at old.rows q)) same.0 ∙ written
+      ∙ ap (port_wanted d old.dom (record t { up = up; flags = flags; state = state })) (sym same.1))
       (λ (other : ((q == p) ≡ false) × (q ≢ p)). ap (λ b. cond b row (port_at old.rows q)) other.0 ∙ before.rows.ports q low ∙ sym (unwritten q other.1))
       (eqb_tells q p))
       (λ q low. ap (λ (ns : List ℕ). has_number ns q) routers_is ∙ before.routers q low)
@@ -229,7 +231,8 @@ drives_groups d t groups old kept before is_kept routers_is rest is = record {
 }
 
 -- The address rows are written.
-pub drives_addresses : (d : Domains) (t : Table) (addr : List ((ℕ × ℕ) × (ℕ × Kind))) (old : Driven) (new : Rows) (places : List (Option (ℕ × ℕ))) → Drives d old t → new ≡ record old.rows { addresses = new.addresses; places = places }
+pub drives_addresses : (d : Domains) (t : Table) (addr : List ((ℕ × ℕ) × (ℕ × Kind))) (old : Driven) (new : Rows) (places : List (Option (ℕ × ℕ))) → Drives d old t
+    → new ≡ record old.rows { addresses = new.addresses; places = places }
     → new.addresses ≡ map (λ e. (e.0, address_wanted e.1)) addr → Drives d (record old { rows = new }) (record t { addr = addr })
 drives_addresses d t addr old new places before rest addresses = record {
   rows = record {

@@ -1,5 +1,6 @@
 -- The rows before any change stand for the start table.
-use Rattle.std.proofs.Common.{◌≡◌, ◌≢◌, ℕ, zero, suc, ◌+◌, ◌*◌, ◌/◌, ◌%◌, ◌<◌, ◌≤◌, Bool, true, false, not, ◌&&◌, ◌||◌, cond, ⊎_elim, List, [], ◌∷◌, get_or, replicate, refl, sym, ap, ap₂, subst, ◌∙◌, arith}
+use Rattle.std.proofs.Common.{◌≡◌, ◌≢◌, ℕ, zero, suc, ◌+◌, ◌*◌, ◌/◌, ◌%◌, ◌<◌, ◌≤◌, Bool, true, false, not, ◌&&◌}
+use Rattle.std.proofs.Common.{◌||◌, cond, ⊎_elim, List, [], ◌∷◌, get_or, replicate, refl, sym, ap, ap₂, subst, ◌∙◌, arith}
 use Rattle.std.specs.Prelude.{◌==◌, nat_lt}
 use Rattle.std.specs.List.{list_any, range_with_len}
 use Rattle.std.proofs.lemmas.Bool.{eqb-true, lt-ltb, le-ltb}
@@ -132,7 +133,8 @@ record Begun (own : List ℕ) (blank rows : Rows) : Type 0 where
   control_now : List ℕ
   rest : rows ≡ record blank { ports = ports_now; traps = traps_now; control = control_now }
 
-begun : (own : List ℕ) (blank marked trapped rows : Rows) → IsBlank blank → MarksOwn own port_places blank marked → SwitchesTraps 2 21 true marked trapped → rows ≡ record trapped { control = rows.control } → Begun own blank rows
+begun : (own : List ℕ) (blank marked trapped rows : Rows) → IsBlank blank → MarksOwn own port_places blank marked → SwitchesTraps 2 21 true marked trapped
+    → rows ≡ record trapped { control = rows.control } → Begun own blank rows
 begun own blank marked trapped rows is_blank marks traps rest = record {
   ports = λ q low.
       ap (λ (r : Rows). port_at r q) (rest ∙ ap (λ (r : Rows). record r { control = rows.control }) traps.rest) ∙ marks.ports q
@@ -163,7 +165,8 @@ router_begun : (own : List ℕ) (blank rows : Rows) → IsBlank blank → Begun 
 router_begun own blank rows is_blank b vid =
     ap (λ (r : Rows). router_at r vid) b.rest ∙ ap fan_of (ap (λ (bank : List ℕ). get_or bank vid 0) is_blank.routers ∙ same_all 4096 vid 0) ∙ blank_fan
 
-pub settled_start : (own : List ℕ) (s : Shadow) (joined : List (List ℕ)) (blank marked trapped rows : Rows) → IsBlank blank → MarksOwn own port_places blank marked → SwitchesTraps 2 21 true marked trapped
+pub settled_start : (own : List ℕ) (s : Shadow) (joined : List (List ℕ)) (blank marked trapped rows : Rows) → IsBlank blank → MarksOwn own port_places blank marked
+    → SwitchesTraps 2 21 true marked trapped
     → rows ≡ record trapped { control = rows.control } → s ≡ first_shadow own → joined ≡ replicate block_count [] → has_number own host ≡ false → Settled s joined rows
 settled_start own s joined blank marked trapped rows is_blank marks traps rest s_is joined_is own_host =
     subst (λ x. Settled x joined rows) (sym s_is) (subst (λ j. Settled (first_shadow own) j rows) (sym joined_is) (record {
@@ -209,7 +212,8 @@ first_trap i =
     by false false true e h k l = ap (λ x. cond x false true) (l refl refl)
     by false false false e h k l = ap (λ x. cond x false true) (l refl refl)
 
-pub drives_start : (d : Domains) (dom : ℕ) (own : List ℕ) (s : Shadow) (joined : List (List ℕ)) (groups : List Membership) (blank marked trapped rows new : Rows) → IsBlank blank → MarksOwn own port_places blank marked → SwitchesTraps 2 21 true marked trapped
+pub drives_start : (d : Domains) (dom : ℕ) (own : List ℕ) (s : Shadow) (joined : List (List ℕ)) (groups : List Membership) (blank marked trapped rows new : Rows) → IsBlank blank
+    → MarksOwn own port_places blank marked → SwitchesTraps 2 21 true marked trapped
     → rows ≡ record trapped { control = rows.control } → control_in rows ≡ record { snooping = true; tree = false; four = false; six = false }
     → own ≡ ports_in d dom → s.routers ≡ []
     → Settled s joined new → WritesVlan rows new 1 (switched_row (vlan_at rows 1) host true true)
@@ -223,7 +227,8 @@ drives_start d dom own s joined groups blank marked trapped rows new is_blank ma
       (λ q low. ap (λ (ns : List ℕ). has_number ns q) routers_is)
       (λ i low. ap (λ (r : Rows). trap_at r i) new_rest ∙ b.traps i low ∙ first_trap i)
       (ap control_in new_rest ∙ control)
-      (ap (λ (r : Rows). r.addresses) (new_rest ∙ ap (λ (r : Rows). record r { vlans = new.vlans; unicast = new.unicast; mcast = new.mcast; bcast = new.bcast; routers = new.routers; groups = new.groups }) b.rest) ∙ is_blank.addresses)
+      (ap (λ (r : Rows). r.addresses) (new_rest
+      ∙ ap (λ (r : Rows). record r { vlans = new.vlans; unicast = new.unicast; mcast = new.mcast; bcast = new.bcast; routers = new.routers; groups = new.groups }) b.rest) ∙ is_blank.addresses)
       (subst (λ ms. GroupsFollow s ms new) groups_is follow);
   routers = λ q low. ap (λ (ns : List ℕ). has_number ns q) routers_is;
   groups = groups_is;
@@ -251,7 +256,8 @@ drives_start d dom own s joined groups blank marked trapped rows new is_blank ma
 pub host_off : (d : Domains) (dom : ℕ) (own : List ℕ) → own ≡ ports_in d dom → is_own d dom host ≡ false → has_number own host ≡ false
 host_off d dom own own_is elsewhere = has-where own _ own_is host (omega arith) ∙ elsewhere
 
-pub follow_made : (s : Shadow) (own : List ℕ) (groups : List Membership) (blank marked trapped rows : Rows) → IsBlank blank → MarksOwn own port_places blank marked → SwitchesTraps 2 21 true marked trapped
+pub follow_made : (s : Shadow) (own : List ℕ) (groups : List Membership) (blank marked trapped rows : Rows) → IsBlank blank → MarksOwn own port_places blank marked
+    → SwitchesTraps 2 21 true marked trapped
     → rows ≡ record trapped { control = rows.control } → groups ≡ [] → GroupsFollow s groups rows
 follow_made s own groups blank marked trapped rows is_blank marks traps rest none =
     follow_start s groups rows (ap (λ (r : Rows). r.groups) (begun own blank marked trapped rows is_blank marks traps rest).rest ∙ is_blank.groups) none

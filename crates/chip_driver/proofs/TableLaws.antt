@@ -194,12 +194,14 @@ querier_after t false on c is =
     ∙ ap₂ (λ f s. record (control_wanted t) { four = f; six = s }) (sym (has-switched on t.queriers 4 4)) (sym (has-switched on t.queriers 4 6))
 
 -- the traps from 16 on are switched
-pub snoop_traps : (t : Table) (on : Bool) (i : ℕ) (old new : Bool) → i < trap_count → old ≡ trap_wanted t i → new ≡ cond (nat_lt i 21) (cond (nat_lt i 16) old on) old → new ≡ trap_wanted (record t { snoop = on }) i
+pub snoop_traps : (t : Table) (on : Bool) (i : ℕ) (old new : Bool) → i < trap_count → old ≡ trap_wanted t i → new ≡ cond (nat_lt i 21) (cond (nat_lt i 16) old on) old
+    → new ≡ trap_wanted (record t { snoop = on }) i
 snoop_traps t on i old new low is e =
     by (i == 0) (i == 1) (nat_lt i 16) (λ h. is_lt i 16 (let z : i ≡ 0 = eqb-true i 0 h in omega arith)) (λ h. is_lt i 16 (let z : i ≡ 1 = eqb-true i 1 h in omega arith)) is
     (e ∙ ap (λ b. cond b (cond (nat_lt i 16) old on) old) (is_lt i 21 low))
   where
-    by : (a b c : Bool) → (a ≡ true → c ≡ true) → (b ≡ true → c ≡ true) → old ≡ cond a t.stp (cond b false (cond c true t.snoop)) → new ≡ cond c old on → new ≡ cond a t.stp (cond b false (cond c true on))
+    by : (a b c : Bool) → (a ≡ true → c ≡ true) → (b ≡ true → c ≡ true) → old ≡ cond a t.stp (cond b false (cond c true t.snoop)) → new ≡ cond c old on
+        → new ≡ cond a t.stp (cond b false (cond c true on))
     by true b true h k is e = e ∙ is
     by false true true h k is e = e ∙ is
     by false false true h k is e = e ∙ is

@@ -87,9 +87,27 @@ fn refresh_row(tables: &mut Tables, shadow: &Shadow, v: Vid, fan: Fan, touched: 
 pub fn refresh_vlan(tables: &mut Tables, shadow: &Shadow, touched: &Touched, vid: Vid)
     ensures { Refreshes (λ w k. (w == vid) && touched_of touched.now k) shadow.now tables.old tables.new }
 {
-    refresh_row(tables, shadow, vid, Fan::Floods(Flood::Unicast), touched.unicast);
-    refresh_row(tables, shadow, vid, Fan::Floods(Flood::Mcast), touched.mcast);
-    refresh_row(tables, shadow, vid, Fan::Floods(Flood::Bcast), touched.bcast);
+    refresh_row(
+        tables,
+        shadow,
+        vid,
+        Fan::Floods(Flood::Unicast),
+        touched.unicast,
+    );
+    refresh_row(
+        tables,
+        shadow,
+        vid,
+        Fan::Floods(Flood::Mcast),
+        touched.mcast,
+    );
+    refresh_row(
+        tables,
+        shadow,
+        vid,
+        Fan::Floods(Flood::Bcast),
+        touched.bcast,
+    );
     refresh_row(tables, shadow, vid, Fan::Routers, touched.routers);
 }
 

@@ -78,7 +78,14 @@ pub fn refresh(
 }
 
 /// Joins a port to a group, and makes its row anew.
-pub fn join(tables: &mut Tables, shadow: &Shadow, groups: &mut Groups, vid: Vid, group: Group, port: Port)
+pub fn join(
+    tables: &mut Tables,
+    shadow: &Shadow,
+    groups: &mut Groups,
+    vid: Vid,
+    group: Group,
+    port: Port,
+)
     requires room { IsTrue (has_room groups.old vid group) }
     requires follow { GroupsFollow shadow.now groups.old tables.old }
     ensures members { groups.new ≡ joined membership_cmp groups.old (vid, group, port) }
@@ -95,7 +102,14 @@ pub fn join(tables: &mut Tables, shadow: &Shadow, groups: &mut Groups, vid: Vid,
 }
 
 /// Parts a port from a group, and makes its row anew, which goes with the last member.
-pub fn part(tables: &mut Tables, shadow: &Shadow, groups: &mut Groups, vid: Vid, group: Group, port: Port)
+pub fn part(
+    tables: &mut Tables,
+    shadow: &Shadow,
+    groups: &mut Groups,
+    vid: Vid,
+    group: Group,
+    port: Port,
+)
     requires { GroupsFollow shadow.now groups.old tables.old }
     ensures members { groups.new ≡ parted membership_cmp groups.old (vid, group, port) }
     ensures follow { GroupsFollow shadow.now groups.new tables.new }

@@ -132,7 +132,14 @@ impl Kept {
         ensures members { self.new.groups ≡ joined membership_cmp self.old.groups (vid, group, port) }
         ensures rest { self.new.tables ≡ record self.old.tables { groups = self.new.tables.groups } }
     {
-        groups::join(&mut self.tables, &self.shadow, &mut self.groups, vid, group, port);
+        groups::join(
+            &mut self.tables,
+            &self.shadow,
+            &mut self.groups,
+            vid,
+            group,
+            port,
+        );
     }
 
     /// Parts a port from a group, and makes its row anew, which goes with the last member.
@@ -143,6 +150,13 @@ impl Kept {
         ensures members { self.new.groups ≡ parted membership_cmp self.old.groups (vid, group, port) }
         ensures rest { self.new.tables ≡ record self.old.tables { groups = self.new.tables.groups } }
     {
-        groups::part(&mut self.tables, &self.shadow, &mut self.groups, vid, group, port);
+        groups::part(
+            &mut self.tables,
+            &self.shadow,
+            &mut self.groups,
+            vid,
+            group,
+            port,
+        );
     }
 }

@@ -15,7 +15,8 @@ use Rattle.br_model.specs.Forward.Eligible.{may}
 use Rattle.br_model.specs.Data.Maps.{pair_cmp, get, has}
 use Rattle.br_model.specs.Data.Numbers.{is_multicast, broadcast}
 use Rattle.br_model.specs.Table.Table.{Table}
-use Rattle.br_model.specs.Forward.Targets.{bridge_group_address, pause_address, is_for_the_host, has_flag, with_flag, targets, flood, mcast_flood, bcast_flood, multicast_flood, isolated, port_of, snooped_targets, unicast_targets}
+use Rattle.br_model.specs.Forward.Targets.{bridge_group_address, pause_address, is_for_the_host, has_flag, with_flag, targets, flood}
+use Rattle.br_model.specs.Forward.Targets.{mcast_flood, bcast_flood, multicast_flood, isolated, port_of, snooped_targets, unicast_targets}
 use Rattle.br_model.specs.declared.change.Kind.{Kind}
 use Rattle.br_model.specs.declared.frame.Head.{Head}
 use Rattle.br_model.specs.declared.frame.McastMsg.{McastMsg}
@@ -61,7 +62,8 @@ has-with_flag t flag q =
     any-filter_same (eq_by_cmp nat_cmp q) (λ n. has_flag t n flag) (has_flag t q flag) (λ n tie. ap (λ x. has_flag t x flag) (sym (exact_unsigned q n (is_eq-true _ tie)))) t.up
 
 -- the row of the flood to unknown stations
-pub unicast-leads : (d : Domains) (dom : ℕ) (rows : Rows) (t : Table) (p vid : ℕ) (row : FanRow) (goals : List ℕ) → Stands d dom rows t → IsVid vid → row ≡ flood_at rows vid Unicast → goals ≡ with_flag t flood → Leads d dom t p vid row goals
+pub unicast-leads : (d : Domains) (dom : ℕ) (rows : Rows) (t : Table) (p vid : ℕ) (row : FanRow) (goals : List ℕ) → Stands d dom rows t → IsVid vid → row ≡ flood_at rows vid Unicast
+    → goals ≡ with_flag t flood → Leads d dom t p vid row goals
 unicast-leads d dom rows t p vid row goals stands range is flooded = record {
   target = is_flooded t vid Unicast;
   wanted = is ∙ stands.floods vid range Unicast;
@@ -83,10 +85,12 @@ group-leads d dom rows t p vid flag f row stands range is of = record {
       ∙ ap₂ (λ a b. (a || b) && may t p q vid) (sym (unsigned_tied q host)) (sym (has-with_flag t flag q));
 }
 
-pub mcast-leads : (d : Domains) (dom : ℕ) (rows : Rows) (t : Table) (p vid : ℕ) (row : FanRow) → Stands d dom rows t → IsVid vid → row ≡ flood_at rows vid Mcast → Leads d dom t p vid row (multicast_flood t)
+pub mcast-leads : (d : Domains) (dom : ℕ) (rows : Rows) (t : Table) (p vid : ℕ) (row : FanRow) → Stands d dom rows t → IsVid vid → row ≡ flood_at rows vid Mcast
+    → Leads d dom t p vid row (multicast_flood t)
 mcast-leads d dom rows t p vid row stands range is = group-leads d dom rows t p vid mcast_flood Mcast row stands range is (λ q. refl)
 
-pub bcast-leads : (d : Domains) (dom : ℕ) (rows : Rows) (t : Table) (p vid : ℕ) (row : FanRow) → Stands d dom rows t → IsVid vid → row ≡ flood_at rows vid Bcast → Leads d dom t p vid row (host ∷ with_flag t bcast_flood)
+pub bcast-leads : (d : Domains) (dom : ℕ) (rows : Rows) (t : Table) (p vid : ℕ) (row : FanRow) → Stands d dom rows t → IsVid vid → row ≡ flood_at rows vid Bcast
+    → Leads d dom t p vid row (host ∷ with_flag t bcast_flood)
 bcast-leads d dom rows t p vid row stands range is = group-leads d dom rows t p vid bcast_flood Bcast row stands range is (λ q. refl)
 
 -- ---- stations
@@ -99,7 +103,8 @@ station-targets t vid head msg o station is =
 station-alone : (d : Domains) (t : Table) (p vid : ℕ) (head : Head) (o : Option (ℕ × Kind)) → is_multicast head.dst ≡ false → get pair_cmp t.addr (vid, head.dst) ≡ o
     → leaves_chip d t p vid head ≡ option_map_or (λ e. foreign d p (port_of e) && may t p (port_of e) vid) o false
 station-alone d t p vid head o station is =
-    ap₂ (λ r g. (r && may t p host vid) || (not g && option_map_or (λ e. foreign d p (port_of e) && may t p (port_of e) vid) (get pair_cmp t.addr (vid, head.dst)) false)) (not-reserved head.dst station) station
+    ap₂ (λ r g. (r && may t p host vid) || (not g && option_map_or (λ e. foreign d p (port_of e) && may t p (port_of e) vid) (get pair_cmp t.addr (vid, head.dst)) false))
+    (not-reserved head.dst station) station
     ∙ ap (λ (x : Option (ℕ × Kind)). option_map_or (λ e. foreign d p (port_of e) && may t p (port_of e) vid) x false) is
 
 known-entry : (o : Option (ℕ × Kind)) (row : AddressRow) → Some row ≡ option_map row_of_entry o → (e : ℕ × Kind) × ((o ≡ Some e) × (row ≡ row_of_entry e))
@@ -144,9 +149,11 @@ nobody-host a stp h = elim (cases_Bool (a == bridge_group_address)) [
 ]
 
 pub nowhere-way : (d : Domains) (dom : ℕ) (t : Table) (p vid : ℕ) (head : Head) (msg : McastMsg) → is_multicast head.dst ≡ true → for_nobody t head ≡ true → IsWay d dom t p vid head msg Nowhere
-nowhere-way d dom t p vid head msg group nobody = (cond_either (head.dst == bridge_group_address && t.stp) (head.dst == pause_address) [] _ nobody, stays d t p vid head group (nobody-host head.dst t.stp nobody))
+nowhere-way d dom t p vid head msg group nobody =
+    (cond_either (head.dst == bridge_group_address && t.stp) (head.dst == pause_address) [] _ nobody, stays d t p vid head group (nobody-host head.dst t.stp nobody))
 
-pub host-way : (d : Domains) (dom : ℕ) (rows : Rows) (t : Table) (p vid : ℕ) (head : Head) (msg : McastMsg) → AtChip d dom rows t p → is_multicast head.dst ≡ true → for_nobody t head ≡ false → is_for_the_host head.dst ≡ true
+pub host-way : (d : Domains) (dom : ℕ) (rows : Rows) (t : Table) (p vid : ℕ) (head : Head) (msg : McastMsg) → AtChip d dom rows t p → is_multicast head.dst ≡ true → for_nobody t head ≡ false
+    → is_for_the_host head.dst ≡ true
     → IsWay d dom t p vid head msg (One host)
 host-way d dom rows t p vid head msg at group other reserved =
     let no = or_parts (head.dst == bridge_group_address && t.stp) (head.dst == pause_address) other in
@@ -160,14 +167,16 @@ host-way d dom rows t p vid head msg at group other reserved =
           ∙ sym (ap (λ b. b && may t p host vid) away);
     }
 
-pub many-way : (d : Domains) (dom : ℕ) (t : Table) (p vid : ℕ) (head : Head) (msg : McastMsg) (goals : List ℕ) (way : Way) → IsMany d dom t p vid goals way → targets t vid head msg ≡ goals → is_multicast head.dst ≡ true
+pub many-way : (d : Domains) (dom : ℕ) (t : Table) (p vid : ℕ) (head : Head) (msg : McastMsg) (goals : List ℕ) (way : Way) → IsMany d dom t p vid goals way → targets t vid head msg ≡ goals
+    → is_multicast head.dst ≡ true
     → is_for_the_host head.dst ≡ false → IsWay d dom t p vid head msg way
 many-way d dom t p vid head msg goals Nowhere leads is group other = absurd leads
 many-way d dom t p vid head msg goals (One q) leads is group other = absurd leads
 many-way d dom t p vid head msg goals (Many row) leads is group other =
     (record { target = leads.target; wanted = leads.wanted; same = λ q low. leads.same q low ∙ ap (λ (xs : List ℕ). has nat_cmp xs q && may t p q vid) (sym is) }, stays d t p vid head group other)
 
-pub broadcast-targets : (t : Table) (vid : ℕ) (head : Head) (msg : McastMsg) → for_nobody t head ≡ false → is_for_the_host head.dst ≡ false → (head.dst == broadcast) ≡ true → targets t vid head msg ≡ host ∷ with_flag t bcast_flood
+pub broadcast-targets : (t : Table) (vid : ℕ) (head : Head) (msg : McastMsg) → for_nobody t head ≡ false → is_for_the_host head.dst ≡ false → (head.dst == broadcast) ≡ true
+    → targets t vid head msg ≡ host ∷ with_flag t bcast_flood
 broadcast-targets t vid head msg other reserved is =
     let no = or_parts (head.dst == bridge_group_address && t.stp) (head.dst == pause_address) other in
     simp (no.0, no.1, reserved, is)

@@ -53,7 +53,8 @@ host-takes t p q vid is at = sym (ap₂ (λ h m. cond h m (not (q == p) && (is_f
 pub itself : (t : Table) (p q vid : ℕ) → (q == host) ≡ false → (q == p) ≡ true → false ≡ may t p q vid
 itself t p q vid away same = sym (ap₂ (λ h s. cond h (member t q vid) (not s && (is_forwarding t q && (member t q vid && not (has_flag t p isolated && has_flag t q isolated))))) away same)
 
-pub other-takes : (t : Table) (p q vid : ℕ) → member t q vid ≡ true → (q == host) ≡ false → (q == p) ≡ false → (is_forwarding t q && not (has_flag t p isolated && has_flag t q isolated)) ≡ may t p q vid
+pub other-takes : (t : Table) (p q vid : ℕ) → member t q vid ≡ true → (q == host) ≡ false → (q == p) ≡ false
+    → (is_forwarding t q && not (has_flag t p isolated && has_flag t q isolated)) ≡ may t p q vid
 other-takes t p q vid is away other =
     ap (λ m. is_forwarding t q && (m && not (has_flag t p isolated && has_flag t q isolated))) (sym is)
     ∙ sym (ap₂ (λ h s. cond h (member t q vid) (not s && (is_forwarding t q && (member t q vid && not (has_flag t p isolated && has_flag t q isolated))))) away other)
@@ -67,7 +68,8 @@ class-of : (d : Domains) (t : Table) (p vid : ℕ) (head : Head) (msg : McastMsg
     → class_by d p (egress_ports t p vid head msg) ≡ cond (not (some_port (goes t p vid head msg))) Drop (cond (some_port (λ q. goes t p vid head msg q && foreign d p q)) Copy Forward)
 unfolding egress_ports all_ports some_port
 class-of d t p vid head msg =
-    ap₂ (λ a b. cond a Drop (cond b Copy Forward)) (nowhere_filter (goes t p vid head msg) (range_with_len 0 port_places)) (any_filter (goes t p vid head msg) (foreign d p) (range_with_len 0 port_places))
+    ap₂ (λ a b. cond a Drop (cond b Copy Forward)) (nowhere_filter (goes t p vid head msg) (range_with_len 0 port_places))
+    (any_filter (goes t p vid head msg) (foreign d p) (range_with_len 0 port_places))
 
 -- the chip's share of it
 own-share : (d : Domains) (t : Table) (p vid : ℕ) (head : Head) (msg : McastMsg)
@@ -120,11 +122,13 @@ class-one d t p vid x head msg leads =
     ∙ any-one x (λ q. may t p q vid && foreign d p q) leads.below)
 
 -- by no port, dropped or trapped
-drops : (d : Domains) (t : Table) (p vid : ℕ) (head : Head) (msg : McastMsg) (out : Out) → out ≡ record { class = Drop; ports = [] } → Drop ≡ cond (leaves_chip d t p vid head) Trap (class_by d p (egress_ports t p vid head msg))
+drops : (d : Domains) (t : Table) (p vid : ℕ) (head : Head) (msg : McastMsg) (out : Out) → out ≡ record { class = Drop; ports = [] }
+    → Drop ≡ cond (leaves_chip d t p vid head) Trap (class_by d p (egress_ports t p vid head msg))
     → IsOut d t p vid head msg out
 drops d t p vid head msg out is cls = subst (IsOut d t p vid head msg) (sym is) (record { class = cls; ports = refl })
 
-pub one-drop : (d : Domains) (t : Table) (p vid x : ℕ) (head : Head) (msg : McastMsg) (out : Out) → LeadsTo d t p vid head x (targets t vid head msg) → may t p x vid ≡ false → out ≡ record { class = Drop; ports = [] }
+pub one-drop : (d : Domains) (t : Table) (p vid x : ℕ) (head : Head) (msg : McastMsg) (out : Out) → LeadsTo d t p vid head x (targets t vid head msg) → may t p x vid ≡ false
+    → out ≡ record { class = Drop; ports = [] }
     → IsOut d t p vid head msg out
 one-drop d t p vid x head msg out leads may_not is =
     drops d t p vid head msg out is
@@ -132,7 +136,8 @@ one-drop d t p vid x head msg out leads may_not is =
     (ap₂ (λ l c. cond l Trap c) (leads.alone ∙ ap (λ b. foreign d p x && b) may_not ∙ and-false (foreign d p x))
     (class-one d t p vid x head msg leads ∙ ap (λ b. cond (not b) Drop (cond (b && foreign d p x) Copy Forward)) may_not)))
 
-pub one-forward : (d : Domains) (dom : ℕ) (rows : Rows) (t : Table) (p vid x : ℕ) (head : Head) (msg : McastMsg) (ports : List ℕ) → AtChip d dom rows t p → LeadsTo d t p vid head x (targets t vid head msg) → may t p x vid ≡ true → is_own d dom x ≡ true
+pub one-forward : (d : Domains) (dom : ℕ) (rows : Rows) (t : Table) (p vid x : ℕ) (head : Head) (msg : McastMsg) (ports : List ℕ) → AtChip d dom rows t p
+    → LeadsTo d t p vid head x (targets t vid head msg) → may t p x vid ≡ true → is_own d dom x ≡ true
     → ports ≡ ports_where (λ q. (q == x) || has_number [] q) → IsOut d t p vid head msg (record { class = Forward; ports = ports })
 one-forward d dom rows t p vid x head msg ports at leads takes own is =
     let near : foreign d p x ≡ false = foreign-is d dom p x at.own ∙ ap not own in
@@ -160,7 +165,8 @@ one-forward d dom rows t p vid x head msg ports at leads takes own is =
           | inr e ↦ e.0 ∙ sym (alone x q (λ m. may t p m vid && not (foreign d p m)) ∙ ap (λ a. a && (may t p x vid && not (foreign d p x))) (ne_eqb x q (λ same. e.1 (sym same))))
         ]
 
-pub one-trap : (d : Domains) (dom : ℕ) (rows : Rows) (t : Table) (p vid x : ℕ) (head : Head) (msg : McastMsg) (out : Out) → AtChip d dom rows t p → LeadsTo d t p vid head x (targets t vid head msg) → may t p x vid ≡ true → is_own d dom x ≡ false
+pub one-trap : (d : Domains) (dom : ℕ) (rows : Rows) (t : Table) (p vid x : ℕ) (head : Head) (msg : McastMsg) (out : Out) → AtChip d dom rows t p
+    → LeadsTo d t p vid head x (targets t vid head msg) → may t p x vid ≡ true → is_own d dom x ≡ false
     → out ≡ record { class = Trap; ports = [] } → IsOut d t p vid head msg out
 one-trap d dom rows t p vid x head msg out at leads takes away is =
     subst (IsOut d t p vid head msg) (sym is) (record {
@@ -170,7 +176,8 @@ one-trap d dom rows t p vid x head msg out at leads takes away is =
 
 -- ---- no target
 
-pub nowhere-out : (d : Domains) (t : Table) (p vid : ℕ) (head : Head) (msg : McastMsg) (out : Out) → targets t vid head msg ≡ [] → leaves_chip d t p vid head ≡ false → out ≡ record { class = Drop; ports = [] }
+pub nowhere-out : (d : Domains) (t : Table) (p vid : ℕ) (head : Head) (msg : McastMsg) (out : Out) → targets t vid head msg ≡ [] → leaves_chip d t p vid head ≡ false
+    → out ≡ record { class = Drop; ports = [] }
     → IsOut d t p vid head msg out
 unfolding some_port
 nowhere-out d t p vid head msg out nothing stays is =
@@ -234,7 +241,8 @@ module _ (d : Domains) (dom : ℕ) (rows : Rows) (t : Table) (p vid : ℕ) (head
 
   reached-is : (q : ℕ) → q < port_places → (has_number row.ports q && row_takes p (has_flag t p isolated) (vlan_at rows vid) q (port_at rows q)) ≡ (is_own d dom q && reaches q)
   reached-is q below =
-      ap (λ b. b && row_takes p (has_flag t p isolated) (vlan_at rows vid) q (port_at rows q)) (member-of (λ m. is_own d dom m && leads.target m) row.ports q (ap (λ (r : FanRow). r.ports) leads.wanted) below)
+      ap (λ b. b && row_takes p (has_flag t p isolated) (vlan_at rows vid) q (port_at rows q))
+      (member-of (λ m. is_own d dom m && leads.target m) row.ports q (ap (λ (r : FanRow). r.ports) leads.wanted) below)
       ∙ by (is_own d dom q) refl
     where
       by : (b : Bool) → is_own d dom q ≡ b → ((b && leads.target q) && row_takes p (has_flag t p isolated) (vlan_at rows vid) q (port_at rows q)) ≡ (b && (leads.target q && may t p q vid))
@@ -242,7 +250,8 @@ module _ (d : Domains) (dom : ℕ) (rows : Rows) (t : Table) (p vid : ℕ) (head
       by false own = refl
 
   -- a port elsewhere
-  may-is : (q : ℕ) (i : Bool) → is_own d dom q ≡ false → has_flag t p isolated ≡ i → may t p q vid ≡ cond (q == host) (member t q vid) (is_forwarding t q && (member t q vid && not (i && has_flag t q isolated)))
+  may-is : (q : ℕ) (i : Bool) → is_own d dom q ≡ false → has_flag t p isolated ≡ i
+      → may t p q vid ≡ cond (q == host) (member t q vid) (is_forwarding t q && (member t q vid && not (i && has_flag t q isolated)))
   may-is q i elsewhere is_i =
       ap₂ (λ a b. cond (q == host) (member t q vid) (not a && (is_forwarding t q && (member t q vid && not (b && has_flag t q isolated)))))
       (ne_eqb q p (λ same. contradicts (is_own d dom p) at.own (sym (ap (is_own d dom) same) ∙ elsewhere))) is_i
@@ -262,11 +271,13 @@ module _ (d : Domains) (dom : ℕ) (rows : Rows) (t : Table) (p vid : ℕ) (head
       by q true own = refl
       by q false own = ap (λ x. leads.target q && x) (open_is (q == host) (member t q vid) (is_forwarding t q) (has_flag t q isolated) ∙ sym (may-is q false own is_i))
 
-  many-share : (ports : List ℕ) → ports ≡ ports_where (λ q. has_number row.ports q && row_takes p (has_flag t p isolated) (vlan_at rows vid) q (port_at rows q)) → ports ≡ filter (λ q. not (foreign d p q)) (egress_ports t p vid head msg)
+  many-share : (ports : List ℕ) → ports ≡ ports_where (λ q. has_number row.ports q && row_takes p (has_flag t p isolated) (vlan_at rows vid) q (port_at rows q))
+      → ports ≡ filter (λ q. not (foreign d p q)) (egress_ports t p vid head msg)
   many-share ports is =
       is
       ∙ same_below _ _ port_places (λ q below.
-      reached-is q below ∙ ap (λ b. is_own d dom q && b) (leads.same q below) ∙ by (is_own d dom q) (goes t p vid head msg q) ∙ ap (λ b. goes t p vid head msg q && not b) (sym (foreign-is d dom p q at.own)))
+      reached-is q below ∙ ap (λ b. is_own d dom q && b) (leads.same q below) ∙ by (is_own d dom q) (goes t p vid head msg q)
+      ∙ ap (λ b. goes t p vid head msg q && not b) (sym (foreign-is d dom p q at.own)))
       ∙ sym (own-share d t p vid head msg)
     where
       by : (o g : Bool) → (o && g) ≡ (g && not (not o))

@@ -52,7 +52,8 @@ of-group vid q group m =
     ∙ ap₂ (λ a b. a && b) (unsigned_tied vid m.0 ∙ eqb-sym vid m.0) (is_eq-then (group_cmp group m.1) (nat_cmp q m.2) ∙ ap (λ b. b && is_eq (nat_cmp q m.2)) (groups-turn group m.1))
     ∙ and_assoc (m.0 == vid) (is_eq (group_cmp m.1 group)) (is_eq (nat_cmp q m.2))
 
-pub grouped-is : (vid q : ℕ) (group : Group) (ms : List Membership) → has membership_cmp ms (vid, group, q) ≡ has nat_cmp (map (λ m. m.2) (filter (λ m. m.0 == vid && is_eq (group_cmp m.1 group)) ms)) q
+pub grouped-is : (vid q : ℕ) (group : Group) (ms : List Membership)
+    → has membership_cmp ms (vid, group, q) ≡ has nat_cmp (map (λ m. m.2) (filter (λ m. m.0 == vid && is_eq (group_cmp m.1 group)) ms)) q
 grouped-is vid q group [] = refl
 grouped-is vid q group (m ∷ ms) =
     ap₂ (λ a b. a || b) (of-group vid q group m) (grouped-is vid q group ms) ∙ step (m.0 == vid && is_eq (group_cmp m.1 group))
@@ -71,7 +72,8 @@ has-joined (x ∷ xs) k q = step (has-joined xs k q) (group_pair_cmp k x) refl
     step : has group_pair_cmp (joined group_pair_cmp xs k) q ≡ (eq_by_cmp group_pair_cmp q k || has group_pair_cmp xs q) → (r : Ordering) → group_pair_cmp k x ≡ r
         → has group_pair_cmp (match_ordering r (k ∷ x ∷ xs) (x ∷ xs) (x ∷ joined group_pair_cmp xs k)) q ≡ (eq_by_cmp group_pair_cmp q k || (eq_by_cmp group_pair_cmp q x || has group_pair_cmp xs q))
     step rest Less is = refl
-    step rest Equal is = or_twice (eq_by_cmp group_pair_cmp q x) (has group_pair_cmp xs q) ∙ ap (λ n. eq_by_cmp group_pair_cmp q n || (eq_by_cmp group_pair_cmp q x || has group_pair_cmp xs q)) (sym (equal_pairs k x is))
+    step rest Equal is = or_twice (eq_by_cmp group_pair_cmp q x) (has group_pair_cmp xs q)
+        ∙ ap (λ n. eq_by_cmp group_pair_cmp q n || (eq_by_cmp group_pair_cmp q x || has group_pair_cmp xs q)) (sym (equal_pairs k x is))
     step rest Greater is = ap (λ b. eq_by_cmp group_pair_cmp q x || b) rest ∙ or_swap (eq_by_cmp group_pair_cmp q x) (eq_by_cmp group_pair_cmp q k) (has group_pair_cmp xs q)
 
 -- a group without a pair has no member
@@ -117,8 +119,10 @@ some-or own p q f = any_from own p q f 0 port_places
     spread false false b c = refl
 
     any_from : (own p q f : ℕ → Bool) (a n : ℕ)
-        → list_any (λ x. not (own x) && ((p x || q x) && f x)) (range_with_len a n) ≡ (list_any (λ x. not (own x) && (p x && f x)) (range_with_len a n) || list_any (λ x. not (own x) && (q x && f x)) (range_with_len a n))
-    any_from own p q f a n = same_any _ _ (range_with_len a n) (λ x. spread (own x) (p x) (q x) (f x)) ∙ any_or (λ x. not (own x) && (p x && f x)) (λ x. not (own x) && (q x && f x)) (range_with_len a n)
+        → list_any (λ x. not (own x) && ((p x || q x) && f x))
+        (range_with_len a n) ≡ (list_any (λ x. not (own x) && (p x && f x)) (range_with_len a n) || list_any (λ x. not (own x) && (q x && f x)) (range_with_len a n))
+    any_from own p q f a n = same_any _ _ (range_with_len a n) (λ x. spread (own x) (p x) (q x) (f x))
+        ∙ any_or (λ x. not (own x) && (p x && f x)) (λ x. not (own x) && (q x && f x)) (range_with_len a n)
 
 fan-both : (own target other eligible free : ℕ → Bool) (a b both : FanRow) → a ≡ fan own target eligible free → b ≡ fan own other eligible free
     → both.ports ≡ ports_where (λ q. has_number a.ports q || has_number b.ports q) → both.isolated ≡ (a.isolated || b.isolated) → both.plain ≡ (a.plain || b.plain)
@@ -128,7 +132,8 @@ fan-both own target other eligible free a b both is_a is_b ports isolated plain 
       ports =
           (ports
           ∙ same_below _ _ port_places (λ q low.
-          ap₂ (λ x y. x || y) (member-of (λ m. own m && target m) a.ports q (ap (λ (r : FanRow). r.ports) is_a) low) (member-of (λ m. own m && other m) b.ports q (ap (λ (r : FanRow). r.ports) is_b) low)
+          ap₂ (λ x y. x || y) (member-of (λ m. own m && target m) a.ports q (ap (λ (r : FanRow). r.ports) is_a) low)
+          (member-of (λ m. own m && other m) b.ports q (ap (λ (r : FanRow). r.ports) is_b) low)
           ∙ gather (own q) (target q) (other q))) i;
       isolated = (isolated ∙ ap₂ (λ (x y : FanRow). x.isolated || y.isolated) is_a is_b ∙ sym (some-or own target other free)) i;
       plain = (plain ∙ ap₂ (λ (x y : FanRow). x.plain || y.plain) is_a is_b ∙ sym (some-or own target other eligible)) i;
@@ -148,12 +153,15 @@ routed false false m y e = refl
 goals-are : (t : Table) (vid q : ℕ) (group : Group) → has nat_cmp (members_of t vid group ++ t.routers) q ≡ (is_grouped t vid group q || has nat_cmp t.routers q)
 goals-are t vid q group = list_any-append (eq_by_cmp nat_cmp q) (members_of t vid group) t.routers ∙ ap (λ b. b || has nat_cmp t.routers q) (sym (grouped-is vid q group t.groups))
 
-pub members-lead : (d : Domains) (dom : ℕ) (rows : Rows) (t : Table) (p vid : ℕ) (group : Group) (members routers row : FanRow) → Stands d dom rows t → IsVid vid → Some members ≡ group_wanted d dom t vid group → routers ≡ router_at rows vid
+pub members-lead : (d : Domains) (dom : ℕ) (rows : Rows) (t : Table) (p vid : ℕ) (group : Group) (members routers row : FanRow) → Stands d dom rows t → IsVid vid
+    → Some members ≡ group_wanted d dom t vid group → routers ≡ router_at rows vid
     → row.ports ≡ ports_where (λ q. has_number members.ports q || has_number routers.ports q) → row.isolated ≡ (members.isolated || routers.isolated) → row.plain ≡ (members.plain || routers.plain)
     → Leads d dom t p vid row (members_of t vid group ++ t.routers)
 members-lead d dom rows t p vid group members routers row stands range found is ports isolated plain = record {
   target = λ q. is_grouped t vid group q || is_routed t vid q;
-  wanted = fan-both (is_own d dom) (is_grouped t vid group) (is_routed t vid) (is_open t vid) (is_free t vid) members routers row (one (has group_pair_cmp (group_pairs t.groups) (vid, group)) found) (is ∙ stands.routers vid range) ports isolated plain;
+  wanted =
+      fan-both (is_own d dom) (is_grouped t vid group) (is_routed t vid) (is_open t vid) (is_free t vid) members routers row (one (has group_pair_cmp (group_pairs t.groups) (vid, group)) found)
+      (is ∙ stands.routers vid range) ports isolated plain;
   same = λ q low. routed (is_grouped t vid group q) (has nat_cmp t.routers q) (member t q vid) (may t p q vid) (needs-member t p q vid) ∙ ap (λ b. b && may t p q vid) (sym (goals-are t vid q group));
 }
   where
@@ -161,7 +169,8 @@ members-lead d dom rows t p vid group members routers row stands range found is 
     one true h = cc
     one false h = absurd (cc)
 
-pub routers-lead : (d : Domains) (dom : ℕ) (rows : Rows) (t : Table) (p vid : ℕ) (group : Group) (row : FanRow) → Stands d dom rows t → IsVid vid → None ≡ group_wanted d dom t vid group → row ≡ router_at rows vid
+pub routers-lead : (d : Domains) (dom : ℕ) (rows : Rows) (t : Table) (p vid : ℕ) (group : Group) (row : FanRow) → Stands d dom rows t → IsVid vid → None ≡ group_wanted d dom t vid group
+    → row ≡ router_at rows vid
     → Leads d dom t p vid row (members_of t vid group ++ t.routers)
 routers-lead d dom rows t p vid group row stands range none is = record {
   target = is_routed t vid;
@@ -214,7 +223,8 @@ plain false = refl
 
 -- any other message that isn't caught is flooded
 pub flooded : (t : Table) (vid : ℕ) (msg : McastMsg) → (t.snoop && is_snooped msg) ≡ false
-    → (msg ≡ Plain) ⊎ (((x : Bool) × (y : Bool) × (msg ≡ Query x y)) ⊎ (((g : Group) × (msg ≡ Report g)) ⊎ (((g : Group) × (msg ≡ Leave g)) ⊎ (((x : Bool) × (y : ℕ) × (z : ℕ) × (msg ≡ Records x y z)) ⊎ (msg ≡ Unrecognized)))))
+    → (msg ≡ Plain) ⊎ (((x : Bool) × (y : Bool) × (msg ≡ Query x
+    y)) ⊎ (((g : Group) × (msg ≡ Report g)) ⊎ (((g : Group) × (msg ≡ Leave g)) ⊎ (((x : Bool) × (y : ℕ) × (z : ℕ) × (msg ≡ Records x y z)) ⊎ (msg ≡ Unrecognized)))))
     → goals t vid msg ≡ multicast_flood t
 flooded t vid Plain none is = plain t.snoop
 flooded t vid (Payload g) none is = elim is [
@@ -241,4 +251,5 @@ flooded t vid Unrecognized none is = snooped t.snoop _ none
 
 -- a row leads where equal targets are
 pub lead-alike : (d : Domains) (dom : ℕ) (t : Table) (p vid : ℕ) (row : FanRow) (xs ys : List ℕ) → Leads d dom t p vid row xs → ys ≡ xs → Leads d dom t p vid row ys
-lead-alike d dom t p vid row xs ys leads is = record { target = leads.target; wanted = leads.wanted; same = λ q low. leads.same q low ∙ ap (λ (zs : List ℕ). has nat_cmp zs q && may t p q vid) (sym is) }
+lead-alike d dom t p vid row xs ys leads is =
+    record { target = leads.target; wanted = leads.wanted; same = λ q low. leads.same q low ∙ ap (λ (zs : List ℕ). has nat_cmp zs q && may t p q vid) (sym is) }

@@ -28,7 +28,8 @@ use Rattle.chip_pipeline.proofs.Reading.{untagged-is}
 tree-class : (d : Domains) (t : Table) (p : ℕ) (head : Head) (msg : McastMsg) → to_tree t p head ≡ true → Trap ≡ class d t p head msg
 tree-class d t p head msg tree = sym (ap (λ b. cond (b || is_trapped_in d t p (admit t p head) head msg) Trap (class_by d p (ports_out t p head msg))) tree)
 
-snooped-class : (d : Domains) (t : Table) (p vid : ℕ) (head : Head) (msg : McastMsg) → to_tree t p head ≡ false → Some vid ≡ admit t p head → (t.snoop && is_snooped msg) ≡ true → Trap ≡ class d t p head msg
+snooped-class : (d : Domains) (t : Table) (p vid : ℕ) (head : Head) (msg : McastMsg) → to_tree t p head ≡ false → Some vid ≡ admit t p head → (t.snoop && is_snooped msg) ≡ true
+    → Trap ≡ class d t p head msg
 snooped-class d t p vid head msg other admitted caught =
     sym
     (ap₂ (λ b o. cond (b || is_trapped_in d t p o head msg) Trap (class_by d p (ports_out t p head msg))) other (sym admitted)
@@ -58,15 +59,18 @@ nowhere d t p head msg cls vid sent is cls_is vid_is none = record {
   untagged = ap (λ (s : Sent). s.untagged) is ∙ no-ports t vid ∙ sym (ap (λ (s : Sent). untagged_among t s.vid s.ports) is);
 }
 
-pub tree-sent : (d : Domains) (t : Table) (p : ℕ) (head : Head) (msg : McastMsg) (vid : Option ℕ) (sent : Sent) → sent ≡ record { class = Trap; vid = vid; ports = []; untagged = [] } → to_tree t p head ≡ true → vid ≡ admit t p head
+pub tree-sent : (d : Domains) (t : Table) (p : ℕ) (head : Head) (msg : McastMsg) (vid : Option ℕ) (sent : Sent) → sent ≡ record { class = Trap; vid = vid; ports = []; untagged = [] }
+    → to_tree t p head ≡ true → vid ≡ admit t p head
     → IsSent d t p head msg sent
 tree-sent d t p head msg vid sent is tree admitted = nowhere d t p head msg Trap vid sent is (tree-class d t p head msg tree) admitted (λ out. refl)
 
-pub snooped-sent : (d : Domains) (t : Table) (p vid : ℕ) (head : Head) (msg : McastMsg) (sent : Sent) → sent ≡ record { class = Trap; vid = Some vid; ports = []; untagged = [] } → to_tree t p head ≡ false → Some vid ≡ admit t p head
+pub snooped-sent : (d : Domains) (t : Table) (p vid : ℕ) (head : Head) (msg : McastMsg) (sent : Sent) → sent ≡ record { class = Trap; vid = Some vid; ports = []; untagged = [] }
+    → to_tree t p head ≡ false → Some vid ≡ admit t p head
     → (t.snoop && is_snooped msg) ≡ true → IsSent d t p head msg sent
 snooped-sent d t p vid head msg sent is other admitted caught = nowhere d t p head msg Trap (Some vid) sent is (snooped-class d t p vid head msg other admitted caught) admitted (λ out. refl)
 
-pub none-sent : (d : Domains) (t : Table) (p : ℕ) (head : Head) (msg : McastMsg) (sent : Sent) → sent ≡ record { class = Drop; vid = None; ports = []; untagged = [] } → to_tree t p head ≡ false → None ≡ admit t p head
+pub none-sent : (d : Domains) (t : Table) (p : ℕ) (head : Head) (msg : McastMsg) (sent : Sent) → sent ≡ record { class = Drop; vid = None; ports = []; untagged = [] } → to_tree t p head ≡ false
+    → None ≡ admit t p head
     → IsSent d t p head msg sent
 none-sent d t p head msg sent is other none = nowhere d t p head msg Drop None sent is (none-class d t p head msg other none) none (λ out. refl)
 
@@ -76,7 +80,8 @@ out-is : (t : Table) (p vid : ℕ) (head : Head) (msg : McastMsg) → to_tree t 
 unfolding ports_out
 out-is t p vid head msg other admitted = sym (ap₂ (λ b o. cond b [] (ports_in t p o head msg)) other (sym admitted))
 
-class-is : (d : Domains) (t : Table) (p vid : ℕ) (head : Head) (msg : McastMsg) (out : Out) → to_tree t p head ≡ false → Some vid ≡ admit t p head → (t.snoop && is_snooped msg) ≡ false → IsOut d t p vid head msg out
+class-is : (d : Domains) (t : Table) (p vid : ℕ) (head : Head) (msg : McastMsg) (out : Out) → to_tree t p head ≡ false → Some vid ≡ admit t p head → (t.snoop && is_snooped msg) ≡ false
+    → IsOut d t p vid head msg out
     → out.class ≡ class d t p head msg
 class-is d t p vid head msg out other admitted free is =
     is.class
@@ -85,7 +90,8 @@ class-is d t p vid head msg out other admitted free is =
     (ap₂ (λ b o. cond (b || is_trapped_in d t p o head msg) Trap (class_by d p (ports_out t p head msg))) other (sym admitted)
     ∙ ap (λ b. cond (b || leaves_chip d t p vid head) Trap (class_by d p (ports_out t p head msg))) free)
 
-pub out-sent : (d : Domains) (dom : ℕ) (rows : Rows) (t : Table) (p vid : ℕ) (head : Head) (msg : McastMsg) (out : Out) (plain both : List ℕ) → Stands d dom rows t → IsVid vid → to_tree t p head ≡ false → Some vid ≡ admit t p head
+pub out-sent : (d : Domains) (dom : ℕ) (rows : Rows) (t : Table) (p vid : ℕ) (head : Head) (msg : McastMsg) (out : Out) (plain both : List ℕ) → Stands d dom rows t → IsVid vid
+    → to_tree t p head ≡ false → Some vid ≡ admit t p head
     → (t.snoop && is_snooped msg) ≡ false → IsOut d t p vid head msg out → IsSetBelow port_places out.ports → plain ≡ (vlan_at rows vid).untagged
     → both ≡ ports_where (λ q. has_number out.ports q && has_number plain q) → IsSent d t p head msg (record { class = out.class; vid = Some vid; ports = out.ports; untagged = both })
 out-sent d dom rows t p vid head msg out plain both stands range other admitted free is ascending plain_is both_is =

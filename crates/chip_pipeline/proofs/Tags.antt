@@ -12,4 +12,5 @@ use Rattle.chip_tables.specs.Stands.{IsVid}
 pub tagged : (t : Table) (port vid : ℕ) (tag : Tag) (b : Bool) → vid ≡ tag.vid → IsVid vid → b ≡ member t port vid → cond b (Some vid) None ≡ vlan_of_tag t port (Some tag)
 tagged t port vid tag b named range is =
     ap₂ (λ c (v : ℕ). cond c (Some v) None) (is ∙ ap (member t port) named) named
-    ∙ sym (ap₂ (λ low none. cond low None (cond none (get nat_cmp t.pvid port) (cond (member t port tag.vid) (Some tag.vid) None))) (le-ltb last_vid tag.vid (omega (arith, range.1, named))) (ne_eqb tag.vid 0 (omega (arith, range.0, named))))
+    ∙ sym (ap₂ (λ low none. cond low None (cond none (get nat_cmp t.pvid port) (cond (member t port tag.vid) (Some tag.vid) None))) (le-ltb last_vid tag.vid (omega (arith, range.1, named)))
+    (ne_eqb tag.vid 0 (omega (arith, range.0, named))))

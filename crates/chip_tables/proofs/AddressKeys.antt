@@ -48,7 +48,8 @@ places-numbers (r ∷ rs) = number-first _ _ _ _ (places-numbers rs)
 put-moved : (k : ℕ) (x : AddressRow) (es : Entries) → entries.find nat_cmp k es ≡ None → IsPermutation (k ∷ firsts es) (firsts (entries.put nat_cmp k x es))
 put-moved k x [] none = IsPermutation-refl (k ∷ [])
 put-moved k x (e ∷ es) none =
-    elim (nat_cmp k e.0) as (λ r. cond (is_eq r) (Some e.1) (entries.find nat_cmp k es) ≡ None → IsPermutation (k ∷ e.0 ∷ firsts es) (firsts (by_order r ((k, x) ∷ e ∷ es) ((e.0, x) ∷ es) (e ∷ entries.put nat_cmp k x es)))) [
+    elim (nat_cmp k e.0) as (λ r. cond (is_eq r) (Some e.1) (entries.find nat_cmp k es) ≡ None
+    → IsPermutation (k ∷ e.0 ∷ firsts es) (firsts (by_order r ((k, x) ∷ e ∷ es) ((e.0, x) ∷ es) (e ∷ entries.put nat_cmp k x es)))) [
       | Less ↦ λ h. IsPermutation-refl (k ∷ e.0 ∷ firsts es)
       | Equal ↦ λ h. absurd (cc)
       | Greater ↦ λ h.
@@ -57,7 +58,8 @@ put-moved k x (e ∷ es) none =
           (IsPermutation-cons e.0 (k ∷ firsts es) (firsts (entries.put nat_cmp k x es)) (put-moved k x es h))
     ] none
 
-cell-moved : (n : ℕ) (r : AddressRow) (cs : Cells) → IsApart key_of (Some (n, r) ∷ cs) → IsPermutation (numbers cs) (firsts (entries_of cs)) → IsPermutation (numbers (Some (n, r) ∷ cs)) (firsts (entries_of (Some (n, r) ∷ cs)))
+cell-moved : (n : ℕ) (r : AddressRow) (cs : Cells) → IsApart key_of (Some (n, r) ∷ cs) → IsPermutation (numbers cs) (firsts (entries_of cs))
+    → IsPermutation (numbers (Some (n, r) ∷ cs)) (firsts (entries_of (Some (n, r) ∷ cs)))
 cell-moved zero r cs apart rest = rest
 cell-moved (suc n) r cs apart rest =
     IsPermutation-trans (suc n ∷ numbers cs) (suc n ∷ firsts (entries_of cs)) (firsts (entries.put nat_cmp (suc n) r (entries_of cs)))

@@ -1,5 +1,6 @@
 -- Address rows as cells, as they change.
-use Rattle.std.proofs.Common.{◌≡◌, ◌≢◌, ℕ, zero, suc, ◌+◌, ◌*◌, ◌/◌, ◌%◌, ◌^◌, ◌<◌, ◌≤◌, ◌&&◌, ◌||◌, Option, None, Some, List, [], ◌∷◌, length, get_or, set, replicate, nat_le, refl, sym, ap, subst, ◌∙◌, arith}
+use Rattle.std.proofs.Common.{◌≡◌, ◌≢◌, ℕ, zero, suc, ◌+◌, ◌*◌, ◌/◌, ◌%◌, ◌^◌, ◌<◌, ◌≤◌, ◌&&◌, ◌||◌, Option, None}
+use Rattle.std.proofs.Common.{Some, List, [], ◌∷◌, length, get_or, set, replicate, nat_le, refl, sym, ap, subst, ◌∙◌, arith}
 use Rattle.std.specs.Prelude.{◌==◌, slice_get}
 use Rattle.std.specs.List.{All}
 use Rattle.std.proofs.lemmas.Bool.{le-leb}
@@ -77,7 +78,8 @@ pub made-cells : (n : ℕ) (rows : List ℕ) → rows ≡ replicate n 0 → addr
 made-cells n rows is = ap address_cells is ∙ map-replicate address_cell n 0 ∙ ap (replicate n) blank_cell
 
 -- the value in a used cell
-pub cell-value : (rows : List ℕ) (i row : ℕ) → i < length rows → row ≡ get_or rows i 0 → zipped.key_of (get_or (address_cells rows) i None) ≢ 0 → zipped.value_of (get_or (address_cells rows) i None) ≡ Some (address_of row)
+pub cell-value : (rows : List ℕ) (i row : ℕ) → i < length rows → row ≡ get_or rows i 0 → zipped.key_of (get_or (address_cells rows) i None) ≢ 0
+    → zipped.value_of (get_or (address_cells rows) i None) ≡ Some (address_of row)
 cell-value rows i row h is some =
     let at = cell-at rows i row h is in
     ap zipped.value_of (sym at) ∙ value_of-cell (ordered (key_of row)) (address_of row) (λ none. some (ap zipped.key_of (sym at) ∙ key_of-cell (ordered (key_of row)) (address_of row) ∙ none))

@@ -10,6 +10,7 @@ pub reads-set : {R : Type 0} (read : ℕ → R) (old new : List ℕ) (place plac
 reads-set read old new place place' row r named within is reads v =
     ap (λ (xs : List ℕ). read (get_or xs v 0)) is
     ∙ ⊎_elim
-    (λ (same : v ≡ place). ap (λ n. read (get_or (set old place row) n 0)) same ∙ ap read (get_or-set_same old place row 0 within) ∙ reads ∙ sym (ap (λ b. cond b r (read (get_or old v 0))) (eq-eqb v place' (same ∙ named))))
+    (λ (same : v ≡ place). ap (λ n. read (get_or (set old place row) n 0)) same ∙ ap read (get_or-set_same old place row 0 within) ∙ reads
+    ∙ sym (ap (λ b. cond b r (read (get_or old v 0))) (eq-eqb v place' (same ∙ named))))
     (λ (other : v ≡ place → ⊥). ap read (get_or-set_other old place v row 0 other) ∙ sym (ap (λ b. cond b r (read (get_or old v 0))) (ne_eqb v place' (λ e. other (e ∙ sym named)))))
     (cases_eq v place)

@@ -78,7 +78,8 @@ group-order k small q =
     let half : h % 2 < 2 = mod-lt h (omega arith) in
     ap (ordering_then (nat_cmp k.0 (h / 2))) (by-version k.1 (h % 2) (q % w) half)
     ∙ then_assoc (nat_cmp k.0 (h / 2)) (nat_cmp (version_bit k.1) (h % 2)) (nat_cmp (address_bits k.1) (q % w))
-    ∙ ap (λ r. ordering_then r (nat_cmp (address_bits k.1) (q % w))) (digits_order 2 k.0 (version_bit k.1) (h / 2) (h % 2) (version-small k.1) half ∙ ap (nat_cmp (k.0 * 2 + version_bit k.1)) (whole 2 h))
+    ∙ ap (λ r. ordering_then r (nat_cmp (address_bits k.1) (q % w))) (digits_order 2 k.0 (version_bit k.1) (h / 2) (h % 2) (version-small k.1) half
+    ∙ ap (nat_cmp (k.0 * 2 + version_bit k.1)) (whole 2 h))
     ∙ digits_order w (head_of k) (address_bits k.1) h (q % w) small (mod-lt q (omega arith)) ∙ ap (nat_cmp (head_of k * w + address_bits k.1)) (whole w q)
 
 group-back : (g : Group) → group_from (version_bit g) (address_bits g) ≡ g
@@ -128,7 +129,8 @@ groups-clear keys keys' rows i is =
 pub groups-put : (keys keys' rows rows' : List ℕ) (i key row n : ℕ) (r : FanRow) → keys' ≡ set keys i key → rows' ≡ set rows i row → group_key_of key ≡ n → fan_of row ≡ r
     → group_cells keys' rows' ≡ set (group_cells keys rows) i (cell_of n r)
 groups-put keys keys' rows rows' i key row n r ki ri kn rr =
-    (λ t. cells_of ((ap (map group_key_of) ki ∙ map-set group_key_of keys i key ∙ ap (set (map group_key_of keys) i) kn) t) ((ap (map fan_of) ri ∙ map-set fan_of rows i row ∙ ap (set (map fan_of rows) i) rr) t))
+    (λ t. cells_of ((ap (map group_key_of) ki ∙ map-set group_key_of keys i key ∙ ap (set (map group_key_of keys) i) kn) t)
+    ((ap (map fan_of) ri ∙ map-set fan_of rows i row ∙ ap (set (map fan_of rows) i) rr) t))
     ∙ cells_of-set (map group_key_of keys) (map fan_of rows) i n r
 
 pub groups-made : (n : ℕ) (keys rows : List ℕ) → keys ≡ replicate n 0 → rows ≡ replicate n 0 → group_cells keys rows ≡ replicate n None
@@ -137,10 +139,12 @@ groups-made n keys rows ki ri =
     ∙ cells_of-make n (map fan_of rows) (length-map rows fan_of ∙ ap length ri ∙ length-replicate n 0)
 
 -- a key row reads as it was packed
-pub group-key-packed : (r0 r1 r2 r3 r4 r5 v s h l n b : ℕ) (g : Group) → r1 ≡ with_field r0 0 12 v → r2 ≡ with_field r1 12 1 s → r3 ≡ with_field r2 13 1 1 → r4 ≡ with_field r3 14 64 h → r5 ≡ with_field r4 78 64 l
+pub group-key-packed : (r0 r1 r2 r3 r4 r5 v s h l n b : ℕ) (g : Group) → r1 ≡ with_field r0 0 12 v → r2 ≡ with_field r1 12 1 s → r3 ≡ with_field r2 13 1 1 → r4 ≡ with_field r3 14 64 h
+    → r5 ≡ with_field r4 78 64 l
     → v < 4096 → s < 2 → h < 2 ^ 64 → l < 2 ^ 64 → v ≡ n → s ≡ version_bit g → b ≡ address_bits g → b ≡ h * 2 ^ 64 + l → group_key_of r5 ≡ number_of (n, g)
 group-key-packed r0 r1 r2 r3 r4 r5 v s h l n b g e1 e2 e3 e4 e5 fv fs fh fl vn sg bg halves =
-    let vid : field r5 0 12 ≡ v = keep r4 r5 78 64 l 0 12 v e5 (omega arith) (keep r3 r4 14 64 h 0 12 v e4 (omega arith) (keep r2 r3 13 1 1 0 12 v e3 (omega arith) (keep r1 r2 12 1 s 0 12 v e2 (omega arith) (wrote r0 r1 0 12 v e1 fv)))) in
+    let vid : field r5 0 12 ≡ v = keep r4 r5 78 64 l 0 12 v e5 (omega arith)
+    (keep r3 r4 14 64 h 0 12 v e4 (omega arith) (keep r2 r3 13 1 1 0 12 v e3 (omega arith) (keep r1 r2 12 1 s 0 12 v e2 (omega arith) (wrote r0 r1 0 12 v e1 fv)))) in
     let six : field r5 12 1 ≡ s = keep r4 r5 78 64 l 12 1 s e5 (omega arith) (keep r3 r4 14 64 h 12 1 s e4 (omega arith) (keep r2 r3 13 1 1 12 1 s e3 (omega arith) (wrote r1 r2 12 1 s e2 fs))) in
     let high : field r5 14 64 ≡ h = keep r4 r5 78 64 l 14 64 h e5 (omega arith) (wrote r3 r4 14 64 h e4 fh) in
     let low : field r5 78 64 ≡ l = wrote r4 r5 78 64 l e5 fl in

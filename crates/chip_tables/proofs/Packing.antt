@@ -26,7 +26,8 @@ on r at n b e is = ap (λ x. x == 1) e ∙ is
 pub words-written : (r0 r1 r2 r3 r4 at a b c d : ℕ) → r1 ≡ with_field r0 at 64 a → r2 ≡ with_field r1 (at + 64) 64 b → r3 ≡ with_field r2 (at + 128) 64 c → r4 ≡ with_field r3 (at + 192) 64 d
     → a < 2 ^ 64 → b < 2 ^ 64 → c < 2 ^ 64 → d < 2 ^ 64 → words_from r4 at ≡ a ∷ b ∷ c ∷ d ∷ []
 words-written r0 r1 r2 r3 r4 at a b c d e1 e2 e3 e4 fa fb fc fd =
-    let wa = keep r3 r4 (at + 192) 64 d at 64 a e4 (omega arith) (keep r2 r3 (at + 128) 64 c at 64 a e3 (omega arith) (keep r1 r2 (at + 64) 64 b at 64 a e2 (omega arith) (wrote r0 r1 at 64 a e1 fa))) in
+    let wa = keep r3 r4 (at + 192) 64 d at 64 a e4 (omega arith)
+    (keep r2 r3 (at + 128) 64 c at 64 a e3 (omega arith) (keep r1 r2 (at + 64) 64 b at 64 a e2 (omega arith) (wrote r0 r1 at 64 a e1 fa))) in
     let wb = keep r3 r4 (at + 192) 64 d (at + 64) 64 b e4 (omega arith) (keep r2 r3 (at + 128) 64 c (at + 64) 64 b e3 (omega arith) (wrote r1 r2 (at + 64) 64 b e2 fb)) in
     let wc = keep r3 r4 (at + 192) 64 d (at + 128) 64 c e4 (omega arith) (wrote r2 r3 (at + 128) 64 c e3 fc) in
     let wd = wrote r3 r4 (at + 192) 64 d e4 fd in
@@ -44,7 +45,8 @@ four (a ∷ b ∷ c ∷ d ∷ e ∷ more) long = absurd (omega (arith, long))
 pub before-words : (r0 r1 r2 r3 r4 at a b c d : ℕ) → r1 ≡ with_field r0 at 64 a → r2 ≡ with_field r1 (at + 64) 64 b → r3 ≡ with_field r2 (at + 128) 64 c → r4 ≡ with_field r3 (at + 192) 64 d
     → KeepsBefore at r0 r4
 before-words r0 r1 r2 r3 r4 at a b c d e1 e2 e3 e4 p w h =
-    keep r3 r4 (at + 192) 64 d p w (field r0 p w) e4 (omega arith) (keep r2 r3 (at + 128) 64 c p w (field r0 p w) e3 (omega arith) (keep r1 r2 (at + 64) 64 b p w (field r0 p w) e2 (omega arith) (keep r0 r1 at 64 a p w (field r0 p w) e1 h refl)))
+    keep r3 r4 (at + 192) 64 d p w (field r0 p w) e4 (omega arith)
+    (keep r2 r3 (at + 128) 64 c p w (field r0 p w) e3 (omega arith) (keep r1 r2 (at + 64) 64 b p w (field r0 p w) e2 (omega arith) (keep r0 r1 at 64 a p w (field r0 p w) e1 h refl)))
 
 before-field : (r r' at w n : ℕ) → r' ≡ with_field r at w n → KeepsBefore at r r'
 before-field r r' at w n is a v h = keep r r' at w n a v (field r a v) is h refl
@@ -56,7 +58,8 @@ ports-kept r r' at place kept h = λ i. members 4 (kept at 64 (omega arith) i �
 pub vlan-packed : (r1 r2 : ℕ) (row : VlanRow) → ports_from r1 0 ≡ row.members → ports_from r2 256 ≡ row.untagged → KeepsBefore 256 r1 r2 → vlan_of r2 ≡ row
 vlan-packed r1 r2 row first second kept = λ t. record { members = (ports-kept r1 r2 0 256 kept (omega arith) ∙ first) t; untagged = second t }
 
-pub fan-packed : (r1 r2 r3 i p : ℕ) (row : FanRow) → ports_from r1 0 ≡ row.ports → r2 ≡ with_field r1 256 1 i → r3 ≡ with_field r2 257 1 p → i < 2 → p < 2 → (i == 1) ≡ row.isolated → (p == 1) ≡ row.plain → fan_of r3 ≡ row
+pub fan-packed : (r1 r2 r3 i p : ℕ) (row : FanRow) → ports_from r1 0 ≡ row.ports → r2 ≡ with_field r1 256 1 i → r3 ≡ with_field r2 257 1 p → i < 2 → p < 2 → (i == 1) ≡ row.isolated
+    → (p == 1) ≡ row.plain → fan_of r3 ≡ row
 fan-packed r1 r2 r3 i p row first e2 e3 fi fp bi bp =
     λ t. record {
       ports = (ports-kept r2 r3 0 257 (before-field r2 r3 257 1 p e3) (omega arith) ∙ ports-kept r1 r2 0 256 (before-field r1 r2 256 1 i e2) (omega arith) ∙ first) t;
@@ -67,7 +70,8 @@ fan-packed r1 r2 r3 i p row first e2 e3 fi fp bi bp =
 pub trap-packed : (r0 r1 n : ℕ) (b : Bool) → r1 ≡ with_field r0 0 1 n → n < 2 → (n == 1) ≡ b → is_on r1 0 ≡ b
 trap-packed r0 r1 n b e f is = on r1 0 n b (wrote r0 r1 0 1 n e f) is
 
-pub control-packed : (r0 r1 r2 r3 r4 a b c d : ℕ) (row : Control) → r1 ≡ with_field r0 0 1 a → r2 ≡ with_field r1 1 1 b → r3 ≡ with_field r2 2 1 c → r4 ≡ with_field r3 3 1 d → a < 2 → b < 2 → c < 2 → d < 2
+pub control-packed : (r0 r1 r2 r3 r4 a b c d : ℕ) (row : Control) → r1 ≡ with_field r0 0 1 a → r2 ≡ with_field r1 1 1 b → r3 ≡ with_field r2 2 1 c → r4 ≡ with_field r3 3 1 d → a < 2 → b < 2
+    → c < 2 → d < 2
     → (a == 1) ≡ row.snooping → (b == 1) ≡ row.tree → (c == 1) ≡ row.four → (d == 1) ≡ row.six → control_of r4 ≡ row
 control-packed r0 r1 r2 r3 r4 a b c d row e1 e2 e3 e4 fa fb fc fd ia ib ic id =
     λ t. record {
@@ -82,8 +86,11 @@ pub port-packed : (r0 r1 r2 r3 r4 r5 r6 up st fl has vid own : ℕ) (row : PortR
     → up < 2 → st < 8 → fl < 64 → has < 2 → vid < 4096 → own < 2
     → (up == 1) ≡ row.up → st ≡ row.state → fl ≡ row.flags → (has == 1) ≡ nat_lt 0 vid → pvid_from (nat_lt 0 vid) vid ≡ row.pvid → (own == 1) ≡ row.own → port_of r6 ≡ row
 port-packed r0 r1 r2 r3 r4 r5 r6 up st fl has vid own row e1 e2 e3 e4 e5 e6 f1 f2 f3 f4 f5 f6 i1 i2 i3 i4 i5 i6 =
-    let a : field r6 0 1 ≡ up = keep r5 r6 23 1 own 0 1 up e6 (omega arith) (keep r4 r5 11 12 vid 0 1 up e5 (omega arith) (keep r3 r4 10 1 has 0 1 up e4 (omega arith) (keep r2 r3 4 6 fl 0 1 up e3 (omega arith) (keep r1 r2 1 3 st 0 1 up e2 (omega arith) (wrote r0 r1 0 1 up e1 f1))))) in
-    let b : field r6 1 3 ≡ st = keep r5 r6 23 1 own 1 3 st e6 (omega arith) (keep r4 r5 11 12 vid 1 3 st e5 (omega arith) (keep r3 r4 10 1 has 1 3 st e4 (omega arith) (keep r2 r3 4 6 fl 1 3 st e3 (omega arith) (wrote r1 r2 1 3 st e2 f2)))) in
+    let a : field r6 0 1 ≡ up = keep r5 r6 23 1 own 0 1 up e6 (omega arith)
+    (keep r4 r5 11 12 vid 0 1 up e5 (omega arith)
+    (keep r3 r4 10 1 has 0 1 up e4 (omega arith) (keep r2 r3 4 6 fl 0 1 up e3 (omega arith) (keep r1 r2 1 3 st 0 1 up e2 (omega arith) (wrote r0 r1 0 1 up e1 f1))))) in
+    let b : field r6 1 3 ≡ st = keep r5 r6 23 1 own 1 3 st e6 (omega arith)
+    (keep r4 r5 11 12 vid 1 3 st e5 (omega arith) (keep r3 r4 10 1 has 1 3 st e4 (omega arith) (keep r2 r3 4 6 fl 1 3 st e3 (omega arith) (wrote r1 r2 1 3 st e2 f2)))) in
     let c : field r6 4 6 ≡ fl = keep r5 r6 23 1 own 4 6 fl e6 (omega arith) (keep r4 r5 11 12 vid 4 6 fl e5 (omega arith) (keep r3 r4 10 1 has 4 6 fl e4 (omega arith) (wrote r2 r3 4 6 fl e3 f3))) in
     let d : field r6 10 1 ≡ has = keep r5 r6 23 1 own 10 1 has e6 (omega arith) (keep r4 r5 11 12 vid 10 1 has e5 (omega arith) (wrote r3 r4 10 1 has e4 f4)) in
     let e : field r6 11 12 ≡ vid = keep r5 r6 23 1 own 11 12 vid e6 (omega arith) (wrote r4 r5 11 12 vid e5 f5) in
@@ -100,7 +107,8 @@ address-fields : (r0 r1 r2 r3 r4 r5 k po ki pin us : ℕ)
     → k < 2 ^ 60 → po < 256 → ki < 4 → pin < 2
     → (field r5 0 60 ≡ k) × (field r5 60 8 ≡ po) × (field r5 68 2 ≡ ki) × (field r5 70 1 ≡ pin)
 address-fields r0 r1 r2 r3 r4 r5 k po ki pin us e1 e2 e3 e4 e5 f1 f2 f3 f4 = (
-  keep r4 r5 71 1 us 0 60 k e5 (omega arith) (keep r3 r4 70 1 pin 0 60 k e4 (omega arith) (keep r2 r3 68 2 ki 0 60 k e3 (omega arith) (keep r1 r2 60 8 po 0 60 k e2 (omega arith) (wrote r0 r1 0 60 k e1 f1)))),
+  keep r4 r5 71 1 us 0 60 k e5 (omega arith)
+      (keep r3 r4 70 1 pin 0 60 k e4 (omega arith) (keep r2 r3 68 2 ki 0 60 k e3 (omega arith) (keep r1 r2 60 8 po 0 60 k e2 (omega arith) (wrote r0 r1 0 60 k e1 f1)))),
   keep r4 r5 71 1 us 60 8 po e5 (omega arith) (keep r3 r4 70 1 pin 60 8 po e4 (omega arith) (keep r2 r3 68 2 ki 60 8 po e3 (omega arith) (wrote r1 r2 60 8 po e2 f2))),
   keep r4 r5 71 1 us 68 2 ki e5 (omega arith) (keep r3 r4 70 1 pin 68 2 ki e4 (omega arith) (wrote r2 r3 68 2 ki e3 f3)),
   keep r4 r5 71 1 us 70 1 pin e5 (omega arith) (wrote r3 r4 70 1 pin e4 f4),

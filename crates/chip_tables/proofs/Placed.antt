@@ -32,7 +32,8 @@ Cells = List (Option (ℕ × AddressRow))
 pub length-new : {X : Type 0} (k : ℕ) (x : X) (es : List (ℕ × X)) → entries.find nat_cmp k es ≡ None → length (entries.put nat_cmp k x es) ≡ suc (length es)
 length-new k x [] none = refl
 length-new {X} k x (e ∷ es) none =
-    elim (nat_cmp k e.0) as (λ r. cond (is_eq r) (Some e.1) (entries.find nat_cmp k es) ≡ None → length (by_order r ((k, x) ∷ e ∷ es) ((e.0, x) ∷ es) (e ∷ entries.put nat_cmp k x es)) ≡ suc (suc (length es))) [
+    elim (nat_cmp k e.0) as (λ r. cond (is_eq r) (Some e.1) (entries.find nat_cmp k es) ≡ None
+    → length (by_order r ((k, x) ∷ e ∷ es) ((e.0, x) ∷ es) (e ∷ entries.put nat_cmp k x es)) ≡ suc (suc (length es))) [
       | Less ↦ λ h. refl
       | Equal ↦ λ h. absurd (cc)
       | Greater ↦ λ h. ap suc (length-new k x es h)

@@ -1,6 +1,7 @@
 -- What the chip's tables hold: for each bank the list of its rows, as numbers, and how their fields are read.
 -- Source: the layout is this program's own; what the rows tell is what the kernel tells a switchdev driver (switchdev.rst).
-use Rattle.std.specs.Prelude.{◌≡◌, ℕ, zero, suc, ◌+◌, ◌*◌, ◌≤◌, ◌==◌, ◌&&◌, nat_le, Bool, true, false, cond, if◌then◌else◌, List, [], ◌∷◌, length, map, filter_map, slice_index, slice_get, is_some, IsPermutation}
+use Rattle.std.specs.Prelude.{◌≡◌, ℕ, zero, suc, ◌+◌, ◌*◌, ◌≤◌, ◌==◌, ◌&&◌, nat_le, Bool, true, false}
+use Rattle.std.specs.Prelude.{cond, if◌then◌else◌, List, [], ◌∷◌, length, map, filter_map, slice_index, slice_get, is_some, IsPermutation}
 use Rattle.std.specs.List.Sorted.{IsStrictlySortedBy}
 use Rattle.std.specs.declared.cmp.Ordering.{Ordering}
 use Rattle.br_model.specs.declared.group.Group.{Group}

@@ -66,7 +66,8 @@ module _ {S : Type 0} where
       }
 
   -- one more is counted
-  pub counts : (slots id : ℕ) (me : Me S Past) (new : ℕ) → me ≡ (counting me.0.counted, []) → new ≡ posts_in me.0.counted + 1 → Allows (Kept {S = S}) slots id me 0 (λ _. new) (λ _ after. Counted me after)
+  pub counts : (slots id : ℕ) (me : Me S Past) (new : ℕ) → me ≡ (counting me.0.counted, []) → new ≡ posts_in me.0.counted + 1
+      → Allows (Kept {S = S}) slots id me 0 (λ _. new) (λ _ after. Counted me after)
   counts slots id me new is next s h _ at _ =
       let mine = h.each id me.0 at in
       let count = mine.as_counter (ap (λ (m : Me S Past). m.0.posts) is) in
@@ -84,7 +85,11 @@ module _ {S : Type 0} where
           events = all;
           number = ap (λ ns. set ns 0 new) h.number ∙ ap (λ n. n ∷ []) (next ∙ sym more);
           each = all_set (Knows h.counter h.looker all) s.views id w (record { as_counter = λ _. (count.0, whole posts_in all refl); as_looker = λ p. absurd (false≢true p) })
-              (λ j u other e. record { as_counter = λ p. absurd (other (((h.each j u e).as_counter p).0 ∙ sym count.0)); as_looker = λ p. let k = (h.each j u e).as_looker p in (k.0, longer u.looked h.events k.1) });
+              (λ j u other e. record {
+                as_counter = λ p. absurd (other (((h.each j u e).as_counter p).0 ∙ sym count.0));
+                as_looker = λ p. let k = (h.each j u e).as_looker p in
+                    (k.0, longer u.looked h.events k.1);
+              });
         },
         (ap (λ (m : Me S Past). (w, m.1)) is, more),
       )
@@ -109,7 +114,11 @@ module _ {S : Type 0} where
         events = all;
         number = ap (λ ns. set ns 0 number) h.number ∙ ap (λ n. n ∷ []) (so ∙ sym same);
         each = all_set (Knows h.counter h.looker all) s.views id (looking all) (record { as_counter = λ p. absurd (false≢true p); as_looker = λ _. (look.0, whole looks_in all refl) })
-            (λ j u other e. record { as_counter = λ p. let k = (h.each j u e).as_counter p in (k.0, longer u.counted h.events k.1); as_looker = λ p. absurd (other (((h.each j u e).as_looker p).0 ∙ sym look.0)) });
+            (λ j u other e. record {
+              as_counter = λ p. let k = (h.each j u e).as_counter p in
+                  (k.0, longer u.counted h.events k.1);
+              as_looker = λ p. absurd (other (((h.each j u e).as_looker p).0 ∙ sym look.0));
+            });
       }
     where
       ends : (later : List Event) → posts_in (later ++ Look ∷ []) ≡ posts_in later + 0 → posts_in later ≡ 0 → posts_in (later ++ Look ∷ []) ≡ 0
@@ -129,7 +138,8 @@ module _ {S : Type 0} where
   }
 
   -- a number is looked for
-  pub looks : (slots id number : ℕ) (me : Me S Past) → me ≡ (looking me.0.looked, []) → Allows (Kept {S = S}) slots id me 0 (λ n. either (eqb n number) number n) (λ found after. LookedFor number me found after)
+  pub looks : (slots id number : ℕ) (me : Me S Past) → me ≡ (looking me.0.looked, [])
+      → Allows (Kept {S = S}) slots id me 0 (λ n. either (eqb n number) number n) (λ found after. LookedFor number me found after)
   looks slots id number me is s h _ at _ =
       let n = get_or s.words 0 0 in
       let found : n ≡ posts_in h.events = ap (λ ns. get_or ns 0 0) h.number in
@@ -144,7 +154,10 @@ module _ {S : Type 0} where
         keeps,
         tt,
         added id number me is s h at (sym e ∙ found),
-        ((λ _. (ap (λ (m : Me S Past). (looking all, m.1)) is, (look.1.0, look.1.2, ap (λ l. l ++ Look ∷ []) look.1.1 ∙ append_assoc me.0.looked look.1.0 (Look ∷ [])), posts ∙ e)), λ ne. absurd (ne e)),
+        (
+          (λ _. (ap (λ (m : Me S Past). (looking all, m.1)) is, (look.1.0, look.1.2, ap (λ l. l ++ Look ∷ []) look.1.1 ∙ append_assoc me.0.looked look.1.0 (Look ∷ [])), posts ∙ e)),
+          λ ne. absurd (ne e),
+        ),
       ))
       (λ ne. (me.0, keeps, tt, stays id n me s h at found, ((λ e. absurd (ne e)), λ _. refl)))
 
@@ -154,7 +167,8 @@ module _ {S : Type 0} where
       let look = (h.each id v at).as_looker b in
       let vs : List Past = set s.views id spent in
       let Old : ℕ → Past → Type 0 = λ j u. (u.posts ≡ true → (j ≡ h.counter) × KnownBut posts_in u.counted h.events) × (u.takes ≢ true) in
-      let old : All Old vs = all_set Old s.views id spent ((λ p. absurd (false≢true p)), false≢true) (λ j u other e. ((h.each j u e).as_counter, λ p. other (((h.each j u e).as_looker p).0 ∙ sym look.0))) in
+      let old : All Old vs = all_set Old s.views id spent ((λ p. absurd (false≢true p)), false≢true)
+      (λ j u other e. ((h.each j u e).as_counter, λ p. other (((h.each j u e).as_looker p).0 ∙ sym look.0))) in
       record {
         counter = h.counter;
         looker = length vs;
@@ -202,7 +216,8 @@ module _ {S : Type 0} where
           looker = h.looker;
           events = h.events;
           number = ap (λ ns. set ns 0 n) h.number ∙ ap (λ k. k ∷ []) (ap (λ ns. get_or ns 0 0) h.number);
-          each = all_set (Knows h.counter h.looker h.events) s.views id w (record { as_counter = λ _. (count.0, whole posts_in h.events refl); as_looker = λ _. (look.0, whole looks_in h.events refl) }) (λ j u other e. h.each j u e);
+          each = all_set (Knows h.counter h.looker h.events) s.views id w
+              (record { as_counter = λ _. (count.0, whole posts_in h.events refl); as_looker = λ _. (look.0, whole looks_in h.events refl) }) (λ j u other e. h.each j u e);
         },
         (h.events, (λ i. (w, none i)), count.1, look.1),
       )

@@ -1,5 +1,6 @@
 -- Each step keeps the rule of the queue.
-use Rattle.std.proofs.Common.{◌≡◌, ◌≢◌, ℕ, zero, suc, ◌+◌, ◌≤◌, true, false, true≢false, List, [], ◌∷◌, ◌++◌, length, drop, set, sym, refl, ap, ◌∙◌, subst, ⊎_elim, append_assoc, length-append, arith, add-zero}
+use Rattle.std.proofs.Common.{◌≡◌, ◌≢◌, ℕ, zero, suc, ◌+◌, ◌≤◌, true, false, true≢false, List, [], ◌∷◌, ◌++◌}
+use Rattle.std.proofs.Common.{length, drop, set, sym, refl, ap, ◌∙◌, subst, ⊎_elim, append_assoc, length-append, arith, add-zero}
 use Rattle.std.proofs.Math.Seq.{drop-append_seam}
 use Rattle.std.proofs.lemmas.List.{append-nil}
 use mathlib.Core.Option.{some, some-ne-none, some-injective}
@@ -57,7 +58,8 @@ leaves place v a b items views h at =
     let take = mine.as_taker b in
     let vs : List Log = set views place spent in
     let Old : ℕ → Log → Type 0 = λ j u. (u.posts ≡ true → (j ≡ h.poster) × (u.posted ≡ h.posted)) × (u.takes ≢ true) in
-    let old : All Old vs = all_set Old views place spent ((λ p. absurd (true≢false (sym p))), λ p. true≢false (sym p)) (λ j u other e. ((h.each j u e).as_poster, λ p. other (((h.each j u e).as_taker p).0 ∙ sym take.0))) in
+    let old : All Old vs = all_set Old views place spent ((λ p. absurd (true≢false (sym p))), λ p. true≢false (sym p))
+    (λ j u other e. ((h.each j u e).as_poster, λ p. other (((h.each j u e).as_taker p).0 ∙ sym take.0))) in
     record {
       poster = h.poster;
       taker = length vs;
@@ -90,7 +92,8 @@ merges place v other w a b items views h at two at' =
       taken = h.taken;
       whole = h.whole;
       tickets = h.tickets;
-      each = all_set (Fits h.poster place h.posted h.taken items) vs other spent (record { as_poster = λ p. absurd (true≢false (sym p)); as_taker = λ p. absurd (true≢false (sym p)) }) (λ j y apart e. now j y e apart);
+      each = all_set (Fits h.poster place h.posted h.taken items) vs other spent (record { as_poster = λ p. absurd (true≢false (sym p)); as_taker = λ p. absurd (true≢false (sym p)) })
+          (λ j y apart e. now j y e apart);
     }
 
 -- what was taken, followed by what the queue holds, is what was posted
@@ -110,7 +113,8 @@ posts n place v x may ticket items views _ h at =
     let posted = h.posted ++ x ∷ [] in
     let number : x.ticket ≡ 0 + length h.posted = omega (arith, ticket, ap length post.1) in
     let longer : (u : Log) → Begins u.ahead items → Begins u.ahead (items ++ x ∷ []) = λ u m. (m.0 ++ x ∷ [], ap (λ l. l ++ x ∷ []) m.1 ∙ append_assoc u.ahead m.0 (x ∷ [])) in
-    let takes : (j : ℕ) (u : Log) → Fits h.poster h.taker h.posted h.taken items j u → u.takes ≡ true → (j ≡ h.taker) × (u.taken ≡ h.taken) × Begins u.ahead (items ++ x ∷ []) = λ j u f p. ((f.as_taker p).0, (f.as_taker p).1, longer u (f.as_taker p).2) in (
+    let takes : (j : ℕ) (u : Log) → Fits h.poster h.taker h.posted h.taken items j u → u.takes ≡ true
+    → (j ≡ h.taker) × (u.taken ≡ h.taken) × Begins u.ahead (items ++ x ∷ []) = λ j u f p. ((f.as_taker p).0, (f.as_taker p).1, longer u (f.as_taker p).2) in (
       w,
       record {
         poster = h.poster;

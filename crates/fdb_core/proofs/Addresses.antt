@@ -42,7 +42,9 @@ module _ {X : Type 0} (f : Entry → X) where
   pub told-put : (es : List (Key × Entry)) (k : Key) (x : Entry) → told f (put pair_cmp es k x) ≡ put pair_cmp (told f es) k (f x)
   told-put [] k x = refl
   told-put (e ∷ es) k x =
-      elim (pair_cmp k e.0) as (λ r. told f (by_order r ((k, x) ∷ e ∷ es) ((e.0, x) ∷ es) (e ∷ put pair_cmp es k x)) ≡ by_order r ((k, f x) ∷ told f (e ∷ es)) ((e.0, f x) ∷ told f es) ((e.0, f e.1) ∷ put pair_cmp (told f es) k (f x))) [
+      elim (pair_cmp k e.0) as
+      (λ r. told f (by_order r ((k, x) ∷ e ∷ es) ((e.0, x) ∷ es) (e ∷ put pair_cmp es k x)) ≡ by_order r ((k, f x) ∷ told f (e ∷ es)) ((e.0, f x) ∷ told f es)
+      ((e.0, f e.1) ∷ put pair_cmp (told f es) k (f x))) [
         | Less ↦ refl
         | Equal ↦ refl
         | Greater ↦ ap (λ (rest : List (Key × X)). (e.0, f e.1) ∷ rest) (told-put es k x)
@@ -63,7 +65,8 @@ module _ {X : Type 0} (f : Entry → X) where
   pub told-without : (es : List (Key × Entry)) (k : Key) → told f (without pair_cmp es k) ≡ without pair_cmp (told f es) k
   told-without [] k = refl
   told-without (e ∷ es) k =
-      elim (eq_by_cmp pair_cmp k e.0) as (λ b. told f (cond (not b) (e ∷ without pair_cmp es k) (without pair_cmp es k)) ≡ cond (not b) ((e.0, f e.1) ∷ without pair_cmp (told f es) k) (without pair_cmp (told f es) k)) [
+      elim (eq_by_cmp pair_cmp k e.0) as
+      (λ b. told f (cond (not b) (e ∷ without pair_cmp es k) (without pair_cmp es k)) ≡ cond (not b) ((e.0, f e.1) ∷ without pair_cmp (told f es) k) (without pair_cmp (told f es) k)) [
         | true ↦ told-without es k
         | false ↦ ap (λ (rest : List (Key × X)). (e.0, f e.1) ∷ rest) (told-without es k)
       ]

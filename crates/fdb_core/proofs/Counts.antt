@@ -22,7 +22,8 @@ module _ (port : ℕ) where
   count-none : (es : List (ℕ × Entry)) → count_at port es ≡ 0 → filter (λ e. is_at_port port e.1) es ≡ []
   count-none [] h = refl
   count-none (e ∷ es) h =
-      elim (is_at_port port e.1) as (λ b. cond b 1 0 + count_at port es ≡ 0 → cond b (e ∷ filter (λ (x : ℕ × Entry). is_at_port port x.1) es) (filter (λ (x : ℕ × Entry). is_at_port port x.1) es) ≡ []) [
+      elim (is_at_port port e.1) as (λ b. cond b 1 0 + count_at port es ≡ 0
+      → cond b (e ∷ filter (λ (x : ℕ × Entry). is_at_port port x.1) es) (filter (λ (x : ℕ × Entry). is_at_port port x.1) es) ≡ []) [
         | true ↦ λ some. absurd (omega arith)
         | false ↦ λ none. count-none es (omega arith)
       ] h
@@ -33,17 +34,22 @@ module _ (port : ℕ) where
   pub count-put : (k : ℕ) (x : Entry) (es : List (ℕ × Entry)) → is_sorted nat_cmp es ≡ true → count_at port (put nat_cmp k x es) + one_if port (find nat_cmp k es) ≡ one_at port x + count_at port es
   count-put k x [] h = omega arith
   count-put k x (e ∷ es) h =
-      elim (nat_cmp k e.0) as (λ r. nat_cmp k e.0 ≡ r → count_at port (by_order r ((k, x) ∷ e ∷ es) ((e.0, x) ∷ es) (e ∷ put nat_cmp k x es)) + one_if port (cond (is_eq r) (Some e.1) (find nat_cmp k es)) ≡ one_at port x + (one_at port e.1 + count_at port es)) [
+      elim (nat_cmp k e.0) as (λ r. nat_cmp k e.0 ≡ r
+      → count_at port (by_order r ((k, x) ∷ e ∷ es) ((e.0, x) ∷ es) (e ∷ put nat_cmp k x es)) + one_if port
+      (cond (is_eq r) (Some e.1) (find nat_cmp k es)) ≡ one_at port x + (one_at port e.1 + count_at port es)) [
         | Less ↦ λ is. (let none : one_if port (find nat_cmp k es) ≡ 0 = ap (one_if port) (lowest k e es is h) in omega arith)
         | Equal ↦ λ is. omega arith
         | Greater ↦ λ is. (let rest = count-put k x es (second_so (below_all nat_cmp e.0 es) (is_sorted nat_cmp es) h) in omega arith)
       ] refl
 
-  pub count-without : (k : ℕ) (es : List (ℕ × Entry)) → is_sorted nat_cmp es ≡ true → count_at port (where_key nat_cmp (λ q. not (eq_by_cmp nat_cmp k q)) es) + one_if port (find nat_cmp k es) ≡ count_at port es
+  pub count-without : (k : ℕ) (es : List (ℕ × Entry)) → is_sorted nat_cmp es ≡ true
+      → count_at port (where_key nat_cmp (λ q. not (eq_by_cmp nat_cmp k q)) es) + one_if port (find nat_cmp k es) ≡ count_at port es
   count-without k [] h = refl
   count-without k (e ∷ es) h =
       let rest = count-without k es (second_so (below_all nat_cmp e.0 es) (is_sorted nat_cmp es) h) in
-      elim (eq_by_cmp nat_cmp k e.0) as (λ b. eq_by_cmp nat_cmp k e.0 ≡ b → count_at port (cond (not b) (e ∷ where_key nat_cmp (λ q. not (eq_by_cmp nat_cmp k q)) es) (where_key nat_cmp (λ q. not (eq_by_cmp nat_cmp k q)) es)) + one_if port (cond b (Some e.1) (find nat_cmp k es)) ≡ one_at port e.1 + count_at port es) [
+      elim (eq_by_cmp nat_cmp k e.0) as (λ b. eq_by_cmp nat_cmp k e.0 ≡ b
+      → count_at port (cond (not b) (e ∷ where_key nat_cmp (λ q. not (eq_by_cmp nat_cmp k q)) es) (where_key nat_cmp (λ q. not (eq_by_cmp nat_cmp k q)) es)) + one_if port
+      (cond b (Some e.1) (find nat_cmp k es)) ≡ one_at port e.1 + count_at port es) [
         | true ↦ λ so. (let none : one_if port (find nat_cmp k es) ≡ 0 = ap (one_if port) (find_past k e es h so) in omega arith)
         | false ↦ λ not_so. omega arith
       ] refl

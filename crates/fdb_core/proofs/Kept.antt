@@ -1,5 +1,6 @@
 -- The numbers of entries at ports, as they are kept.
-use Rattle.std.proofs.Common.{◌≡◌, ℕ, zero, suc, ◌+◌, ◌-◌, ◌<◌, Bool, true, false, cond, not, eqb, Option, None, Some, List, [], ◌∷◌, length, get_or, replicate, IfSome, refl, sym, ap, subst, ◌∙◌, arith}
+use Rattle.std.proofs.Common.{◌≡◌, ℕ, zero, suc, ◌+◌, ◌-◌, ◌<◌, Bool, true, false, cond, not, eqb, Option, None}
+use Rattle.std.proofs.Common.{Some, List, [], ◌∷◌, length, get_or, replicate, IfSome, refl, sym, ap, subst, ◌∙◌, arith}
 use Rattle.std.specs.Ordering.{eq_by_cmp, nat_cmp}
 use Rattle.std.specs.FinMap.Entries.{find, put, where_key, is_sorted}
 use Rattle.std.proofs.Math.ListN.{length-set}
@@ -75,7 +76,8 @@ module _ (cs : List ℕ) (es : List (ℕ × Entry)) (a : AreCounts cs es) (sorte
       counted = λ p.
           get_or-set_as (less_one o cs) x.port (get_or (less_one o cs) x.port 0 + 1) p (λ q. count_at q (put nat_cmp k x es))
           (let long = length-less o in let all = a.sized in omega arith)
-          (let left = less-all o is x.port in let all = count-put x.port k x es sorted in let some = count-found x.port k es sorted in let same = ap (one_if x.port) is in let one = one_self x in omega arith)
+          (let left = less-all o is x.port in let all = count-put x.port k x es sorted in let some = count-found x.port k es sorted in let same = ap (one_if x.port) is in let one = one_self x in
+          omega arith)
           (λ apart. (let left = less-all o is p in let all = count-put p k x es sorted in let same = ap (one_if p) is in let none = other p x apart in omega arith));
     }
 

@@ -1,5 +1,6 @@
 -- Numbers in order, none of them twice, that are the keys of the entries that pass, are the list of those.
-use Rattle.std.proofs.Common.{◌≡◌, ℕ, suc, ◌<◌, ◌≤◌, Bool, true, false, cond, eqb, ◌&&◌, ◌||◌, Option, None, Some, List, [], ◌∷◌, map, filter, IsPermutation, IsSorted, refl, sym, ap, subst, ◌∙◌, arith}
+use Rattle.std.proofs.Common.{◌≡◌, ℕ, suc, ◌<◌, ◌≤◌, Bool, true, false, cond, eqb, ◌&&◌, ◌||◌, Option, None}
+use Rattle.std.proofs.Common.{Some, List, [], ◌∷◌, map, filter, IsPermutation, IsSorted, refl, sym, ap, subst, ◌∙◌, arith}
 use Rattle.std.specs.List.{list_any, dedup, dedup_from}
 use Rattle.std.specs.List.Retain.{IsFiltered, DiffersFromLast}
 use Rattle.std.specs.Ordering.{is_lt, eq_by_cmp, nat_cmp}
@@ -40,7 +41,8 @@ same_numbers : (ms ns : List ℕ) → is_sorted nat_cmp (bare ms) ≡ true → i
 same_numbers ms ns left right same =
     sym (keys-bare ms)
     ∙ ap (map (λ (e : ℕ × ℕ). e.0))
-    (same_entries nat_cmp nat_cmp_total exact_unsigned (bare ms) (bare ns) (T_from_true _ left) (T_from_true _ right) (λ q. find-bare q ms ∙ ap (λ b. cond b (Some 0) None) (same q) ∙ sym (find-bare q ns)))
+    (same_entries nat_cmp nat_cmp_total exact_unsigned (bare ms) (bare ns) (T_from_true _ left) (T_from_true _ right) (λ q. find-bare q ms ∙ ap (λ b. cond b (Some 0) None) (same q)
+    ∙ sym (find-bare q ns)))
     ∙ keys-bare ns
 
 -- the keys of the entries that pass
@@ -70,7 +72,9 @@ module _ {V : Type 0} (t : V → Bool) where
 
   among-first : (q : ℕ) (e : ℕ × V) (es : List (ℕ × V)) → is_among q (keys_where t (e ∷ es)) ≡ ((t e.1 && eq_by_cmp nat_cmp q e.0) || is_among q (keys_where t es))
   among-first q e es =
-      elim (t e.1) as (λ b. is_among q (map (λ (x : ℕ × V). x.0) (cond b (e ∷ filter (λ (x : ℕ × V). t x.1) es) (filter (λ (x : ℕ × V). t x.1) es))) ≡ ((b && eq_by_cmp nat_cmp q e.0) || is_among q (keys_where t es))) [
+      elim (t e.1) as
+      (λ b. is_among q
+      (map (λ (x : ℕ × V). x.0) (cond b (e ∷ filter (λ (x : ℕ × V). t x.1) es) (filter (λ (x : ℕ × V). t x.1) es))) ≡ ((b && eq_by_cmp nat_cmp q e.0) || is_among q (keys_where t es))) [
         | true ↦ refl
         | false ↦ refl
       ]
@@ -141,7 +145,8 @@ among-all q [] = refl
 among-all q (z ∷ zs) = among-dedup q z zs
 
 -- numbers that were sorted, and then each kept once
-pub sorted_once : {V : Type 0} (t : V → Bool) (es : List (ℕ × V)) (ks zs ns : List ℕ) → is_sorted nat_cmp es ≡ true → IsPermutation ks zs → IsSorted nat_cmp zs → IsFiltered (DiffersFromLast eqb) [] zs ns
+pub sorted_once : {V : Type 0} (t : V → Bool) (es : List (ℕ × V)) (ks zs ns : List ℕ) → is_sorted nat_cmp es ≡ true → IsPermutation ks zs → IsSorted nat_cmp zs
+    → IsFiltered (DiffersFromLast eqb) [] zs ns
     → ((q : ℕ) → is_among q ks ≡ passes t (find nat_cmp q es)) → ns ≡ keys_where t es
 sorted_once t es ks zs ns sorted moved rise once_each same =
     let is : ns ≡ dedup eqb zs = dedup_is eqb zs ns once_each in

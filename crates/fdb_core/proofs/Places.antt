@@ -175,11 +175,16 @@ module _ (es : List (ℕ × Entry)) (hold now : ℕ) where
   over_sound : (q : ℕ) (ps : List Place) → is_among q (over es now hold ps) ≡ true → passes (is_expired now hold) (find nat_cmp q es) ≡ true
   over_sound q [] h = absurd (cc)
   over_sound q (p ∷ ps) h =
-      elim (nat_le (p.0 + hold) now) as (λ b. nat_le (p.0 + hold) now ≡ b → is_among q (cond b (cond (is_current es p) (p.1 ∷ over es now hold ps) (over es now hold ps)) []) ≡ true → passes (is_expired now hold) (find nat_cmp q es) ≡ true) [
-        | true ↦ λ end. elim (is_current es p) as (λ b. is_current es p ≡ b → is_among q (cond b (p.1 ∷ over es now hold ps) (over es now hold ps)) ≡ true → passes (is_expired now hold) (find nat_cmp q es) ≡ true) [
-          | true ↦ λ cur g. in_either _ _ g (λ same. ap (λ x. passes (is_expired now hold) (find nat_cmp x es)) (eq_by_cmp-true q p.1 same) ∙ over_of (find nat_cmp p.1 es) p.0 cur end) (λ r. over_sound q ps r)
-          | false ↦ λ cur g. over_sound q ps g
-        ] refl
+      elim (nat_le (p.0 + hold) now) as (λ b. nat_le (p.0 + hold) now ≡ b → is_among q (cond b (cond (is_current es p) (p.1 ∷ over es now hold ps) (over es now hold ps)) []) ≡ true
+      → passes (is_expired now hold) (find nat_cmp q es) ≡ true) [
+        | true ↦
+            λ end. elim (is_current es p) as (λ b. is_current es p ≡ b → is_among q (cond b (p.1 ∷ over es now hold ps) (over es now hold ps)) ≡ true
+            → passes (is_expired now hold) (find nat_cmp q es) ≡ true) [
+              | true ↦
+                  λ cur g. in_either _ _ g (λ same. ap (λ x. passes (is_expired now hold) (find nat_cmp x es)) (eq_by_cmp-true q p.1 same) ∙ over_of (find nat_cmp p.1 es) p.0 cur end)
+                  (λ r. over_sound q ps r)
+              | false ↦ λ cur g. over_sound q ps g
+            ] refl
         | false ↦ λ end g. absurd (cc)
       ] refl h
 
@@ -212,7 +217,8 @@ module _ (es : List (ℕ × Entry)) (hold now : ℕ) where
   over_is latest q ps t = same_answer _ _ (over_sound q ps) (found_over latest q ps (find nat_cmp q es) refl t)
 
 -- a note of what is new
-pub told-noted : (complete : Bool) (latest m k : ℕ) (ps qs : List Place) (es : List (ℕ × Entry)) (x : Entry) → Some m ≡ news_of (find nat_cmp k es) x → latest ≤ m → qs ≡ ps ++ (m, k) ∷ [] → IsTold complete latest ps es → IsTold complete m qs (put nat_cmp k x es)
+pub told-noted : (complete : Bool) (latest m k : ℕ) (ps qs : List Place) (es : List (ℕ × Entry)) (x : Entry) → Some m ≡ news_of (find nat_cmp k es) x → latest ≤ m → qs ≡ ps ++ (m, k) ∷ []
+    → IsTold complete latest ps es → IsTold complete m qs (put nat_cmp k x es)
 told-noted complete latest m k ps qs es x is later more told = λ so.
     subst (λ (l : List Place). Tells m l (put nat_cmp k x es)) (sym more) (tells-noted es k x latest m ps (sym is) (le-leb latest m later) (told so))
 

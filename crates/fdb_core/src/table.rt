@@ -16,7 +16,7 @@ use crate::packing::{pack, unpack_all};
 use crate::port_counts::PortCounts;
 use br_model::change::Kind;
 use br_model::numbers::{Mac, Port, Vid};
-use open_addressing::map::{Numbered, Measure, Test};
+use open_addressing::map::{Measure, Numbered, Test};
 use std::alloc::Global;
 use std::marker::Model;
 

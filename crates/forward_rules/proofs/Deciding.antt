@@ -46,7 +46,8 @@ room-left es k room limit fits none =
 pub known-none : (ports : Table) (es : Entries) (vid address : ℕ) → is_multicast address ≡ false → get pair_cmp es (vid, address) ≡ None → known_port (with_addresses ports es) vid address ≡ None
 known-none ports es vid address station none = ap₂ (λ b (o : Option (ℕ × Kind)). cond b None (option_map port_of o)) station none
 
-pub known-some : (ports : Table) (es : Entries) (vid address : ℕ) (e : ℕ × Kind) → is_multicast address ≡ false → get pair_cmp es (vid, address) ≡ Some e → known_port (with_addresses ports es) vid address ≡ Some (port_of e)
+pub known-some : (ports : Table) (es : Entries) (vid address : ℕ) (e : ℕ × Kind) → is_multicast address ≡ false → get pair_cmp es (vid, address) ≡ Some e
+    → known_port (with_addresses ports es) vid address ≡ Some (port_of e)
 known-some ports es vid address e station some = ap₂ (λ b (o : Option (ℕ × Kind)). cond b None (option_map port_of o)) station some
 
 pub unknown-none : (t : Table) (vid address : ℕ) → is_multicast address ≡ false → known_port t vid address ≡ None → get pair_cmp t.addr (vid, address) ≡ None
@@ -59,7 +60,8 @@ pub nobody-targets : (t : Table) (vid : ℕ) (head : Head) (msg : McastMsg) → 
 nobody-targets t vid head msg h = cond_either ((head.dst == bridge_group_address) && t.stp) (head.dst == pause_address) [] _ h
 
 -- the entries mean nothing to a group address
-pub group-targets : (t : Table) (es : List ((ℕ × ℕ) × (ℕ × Kind))) (vid : ℕ) (head : Head) (msg : McastMsg) → is_multicast head.dst ≡ true → targets t vid head msg ≡ targets (with_addresses t es) vid head msg
+pub group-targets : (t : Table) (es : List ((ℕ × ℕ) × (ℕ × Kind))) (vid : ℕ) (head : Head) (msg : McastMsg) → is_multicast head.dst ≡ true
+    → targets t vid head msg ≡ targets (with_addresses t es) vid head msg
 group-targets t es vid head msg group = rw group refl
 
 pub unknown-targets : (t : Table) (vid : ℕ) (head : Head) (msg : McastMsg) → is_multicast head.dst ≡ false → get pair_cmp t.addr (vid, head.dst) ≡ None → targets t vid head msg ≡ with_flag t flood

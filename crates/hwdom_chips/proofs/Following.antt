@@ -38,14 +38,16 @@ two_defers One c h = h
 
 module _ (edition : Edition) where
   -- what fits the table of a history fits a driver that stands for a cut of it
-  pub taken_now : (domains : Domains) (driver : Driven) (H : List Change) (k : ℕ) (c : Change) → Drives domains driver (table (cut edition H k)) → IsTrue (fits (table H) c) → deferred edition c ≡ false → IsTaken driver c
+  pub taken_now : (domains : Domains) (driver : Driven) (H : List Change) (k : ℕ) (c : Change) → Drives domains driver (table (cut edition H k)) → IsTrue (fits (table H) c)
+      → deferred edition c ≡ false → IsTaken driver c
   taken_now domains driver H k c stands fit now = taken_by domains driver (table (cut edition H k)) edition c stands now (synchronous-fits edition H k c now fit)
 
   -- The driver has room for the next deferred change, since the table that it makes is that of a cut.
   room_next : (H : List Change) (k : ℕ) (d : Change) → AreWithin H → deferred_at edition H k ≡ Some d → length (apply (table (cut edition H k)) d).addr ≤ most_addresses
   room_next H k d is at = subst (λ (t : Table). length t.addr ≤ most_addresses) (cut-turn edition H k d at) (addr-within edition most_addresses H (k + 1) (few-front H is))
 
-  pub taken_next : (domains : Domains) (driver : Driven) (H : List Change) (k : ℕ) (d : Change) → Drives domains driver (table (cut edition H k)) → AreWithin H → deferred_at edition H k ≡ Some d → IsTaken driver d
+  pub taken_next : (domains : Domains) (driver : Driven) (H : List Change) (k : ℕ) (d : Change) → Drives domains driver (table (cut edition H k)) → AreWithin H → deferred_at edition H k ≡ Some d
+      → IsTaken driver d
   taken_next domains driver H k d stands is at =
       taken domains driver (table (cut edition H k)) d stands (λ other. turn-fits edition H k d is at) (room_next H k d is at)
 

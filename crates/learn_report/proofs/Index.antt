@@ -42,14 +42,16 @@ is_waiting-numbers reports numbers x index ranged =
     ∙ any_number reports x index.ranged ranged
 
 -- what a number that is put tells
-pub put_tells : (reports : List Tuple) (numbers : List ℕ) (n : ℕ) (x : Tuple) (r : Bool) → IsIndex reports numbers → IsRanged x → n ≡ numbered x → r ≡ not (list_any (λ k. k == n) numbers) → r ≡ not (is_waiting reports x)
+pub put_tells : (reports : List Tuple) (numbers : List ℕ) (n : ℕ) (x : Tuple) (r : Bool) → IsIndex reports numbers → IsRanged x → n ≡ numbered x → r ≡ not (list_any (λ k. k == n) numbers)
+    → r ≡ not (is_waiting reports x)
 put_tells reports numbers n x r index ranged is e = e ∙ ap not (ap (λ m. list_any (λ k. k == m) numbers) is ∙ is_waiting-numbers reports numbers x index ranged)
 
 pub index_nil : IsIndex [] []
 index_nil = record { ranged = All-nil IsRanged; sized = refl; counted = λ k. refl }
 
 -- one more waits
-pub index_push : (reports : List Tuple) (numbers new : List ℕ) (n : ℕ) (x : Tuple) → IsIndex reports numbers → IsRanged x → n ≡ numbered x → IsPermutation (n ∷ numbers) new → IsIndex (reports ++ x ∷ []) new
+pub index_push : (reports : List Tuple) (numbers new : List ℕ) (n : ℕ) (x : Tuple) → IsIndex reports numbers → IsRanged x → n ≡ numbered x → IsPermutation (n ∷ numbers) new
+    → IsIndex (reports ++ x ∷ []) new
 index_push reports numbers new n x index ranged is moved = record {
   ranged = All-push IsRanged reports x index.ranged ranged;
   sized = omega (arith, length_permutation (n ∷ numbers) new moved, index.sized, length-append reports (x ∷ []));

@@ -22,7 +22,9 @@ offered_as dom n r x kept is =
     ∙ by (nat_lt (length r.reports) most_reports) (is_waiting r.reports x)
     ∙ ap (λ b. cond (b || not (nat_lt (length r.reports) most_reports)) (chip_of dom n r) (record (chip_of dom n r) { reports = r.reports ++ x ∷ [] })) (sym (same_waiting r.reports x))
   where
-    by : (room waits : Bool) → chip_of dom n (record r { reports = cond (room && not waits) (r.reports ++ x ∷ []) r.reports }) ≡ cond (waits || not room) (chip_of dom n r) (record (chip_of dom n r) { reports = r.reports ++ x ∷ [] })
+    by : (room waits : Bool)
+        → chip_of dom n (record r { reports = cond (room && not waits) (r.reports ++ x ∷ []) r.reports }) ≡ cond (waits || not room) (chip_of dom n r)
+        (record (chip_of dom n r) { reports = r.reports ++ x ∷ [] })
     by true true = refl
     by true false = refl
     by false true = refl

@@ -1,5 +1,6 @@
 -- Where a number stands among ascending ones, and what an edit there leaves.
-use Rattle.std.proofs.Common.{◌≡◌, ℕ, ◌+◌, ◌<◌, ◌≤◌, ◌==◌, Bool, true, false, ◌||◌, cond, ltb, List, [], ◌∷◌, length, get_or, count_by, Result, Ok, Err, subst, refl, sym, ap, ◌∙◌, ⊎_elim, eq-eqb, ne_eqb, lt-ltb, zero-add, arith}
+use Rattle.std.proofs.Common.{◌≡◌, ℕ, ◌+◌, ◌<◌, ◌≤◌, ◌==◌, Bool, true, false, ◌||◌, cond, ltb, List, [], ◌∷◌, length}
+use Rattle.std.proofs.Common.{get_or, count_by, Result, Ok, Err, subst, refl, sym, ap, ◌∙◌, ⊎_elim, eq-eqb, ne_eqb, lt-ltb, zero-add, arith}
 use Rattle.std.specs.List.{list_any, remove, insert}
 use Rattle.std.specs.List.Sorted.{IsNonDecreasing, IsBinarySearchResult}
 use Rattle.std.specs.Ordering.{nat_cmp}
@@ -42,7 +43,8 @@ is_there numbers n i at = list_any_at (λ k. k == n) numbers i 0 at.0 (eq-eqb (g
 
 pub is_absent : (numbers : List ℕ) (n i : ℕ) → IsGap numbers n i → list_any (λ k. k == n) numbers ≡ false
 is_absent numbers n i gap =
-    list_any_none (λ k. k == n) numbers (All-from_get_or (λ x. (x == n) ≡ false) numbers 0 (λ k lt. ne_eqb (get_or numbers k 0) n (⊎_elim (λ l e. omega (arith, gap.1 k l)) (λ l e. omega (arith, gap.2 k l lt)) (cases_lt k i))))
+    list_any_none (λ k. k == n) numbers
+    (All-from_get_or (λ x. (x == n) ≡ false) numbers 0 (λ k lt. ne_eqb (get_or numbers k 0) n (⊎_elim (λ l e. omega (arith, gap.1 k l)) (λ l e. omega (arith, gap.2 k l lt)) (cases_lt k i))))
 
 pub inserted : (numbers : List ℕ) (n i : ℕ) → IsNonDecreasing numbers → IsGap numbers n i → IsNonDecreasing (insert numbers i n)
 inserted numbers n i up gap =

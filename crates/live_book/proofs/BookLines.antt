@@ -1,5 +1,6 @@
 -- What is read off the lines of a run is what its steps did.
-use Rattle.std.proofs.Common.{◌≡◌, ℕ, zero, suc, ◌+◌, ◌-◌, ◌≤◌, ◌==◌, nat_le, nat_lt, Bool, true, false, not, ◌&&◌, ◌||◌, cond, if◌then◌else◌, List, [], ◌∷◌, ◌++◌, map, length, drop, Some, refl, sym, ap, ap₂, ◌∙◌, arith, append_assoc, append-nil, length-append, inl, inr}
+use Rattle.std.proofs.Common.{◌≡◌, ℕ, zero, suc, ◌+◌, ◌-◌, ◌≤◌, ◌==◌, nat_le, nat_lt, Bool, true, false, not, ◌&&◌, ◌||◌, cond, if◌then◌else◌, List}
+use Rattle.std.proofs.Common.{[], ◌∷◌, ◌++◌, map, length, drop, Some, refl, sym, ap, ap₂, ◌∙◌, arith, append_assoc, append-nil, length-append, inl, inr}
 use Rattle.std.proofs.Math.Seq.{drop-append_seam}
 use Rattle.std.proofs.lemmas.Bool.{le-leb, lt-leb}
 use Rattle.std.proofs.lemmas.Bool.Decides.{leb_tells}
@@ -168,10 +169,13 @@ read_refused setup steps dom =
     ap (λ (l : List Line). was_refused steps l dom) (run_said setup steps) ∙ read_reports steps dom (first_world setup) [] steps false refl refl
 
 -- chips without reports are passed over
-report_less : (p : ℕ → Bool) (q : Chip → Bool) → ((c : Chip) → q c ≡ (is_empty c.reports || p c.dom)) → (chips : List Chip) → list_all p (map (λ c. c.dom) (filter has_reports chips)) ≡ list_all q chips
+report_less : (p : ℕ → Bool) (q : Chip → Bool) → ((c : Chip) → q c ≡ (is_empty c.reports || p c.dom)) → (chips : List Chip)
+    → list_all p (map (λ c. c.dom) (filter has_reports chips)) ≡ list_all q chips
 report_less p q is [] = refl
 report_less p q is (c ∷ chips) =
-    (elim (is_empty c.reports) as (λ b. list_all p (map (λ (c : Chip). c.dom) (cond (not b) (c ∷ filter has_reports chips) (filter has_reports chips))) ≡ ((b || p c.dom) && list_all p (map (λ (c : Chip). c.dom) (filter has_reports chips)))) [
+    (elim (is_empty c.reports) as
+    (λ b. list_all p
+    (map (λ (c : Chip). c.dom) (cond (not b) (c ∷ filter has_reports chips) (filter has_reports chips))) ≡ ((b || p c.dom) && list_all p (map (λ (c : Chip). c.dom) (filter has_reports chips)))) [
       | true ↦ refl
       | false ↦ refl
     ])

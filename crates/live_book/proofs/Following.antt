@@ -1,5 +1,6 @@
 -- Two lists of steps are followed lane by lane.
-use Rattle.std.proofs.Common.{◌≡◌, ◌≢◌, ℕ, zero, suc, ◌+◌, ◌<◌, ◌≤◌, ◌==◌, ◌&&◌, Bool, true, false, cond, List, [], ◌∷◌, ◌++◌, length, drop, take, get_or, set, refl, sym, ap, ◌∙◌, arith, subst, append_assoc, append-nil, length-append, inl, inr}
+use Rattle.std.proofs.Common.{◌≡◌, ◌≢◌, ℕ, zero, suc, ◌+◌, ◌<◌, ◌≤◌, ◌==◌, ◌&&◌, Bool, true, false, cond, List, [], ◌∷◌}
+use Rattle.std.proofs.Common.{◌++◌, length, drop, take, get_or, set, refl, sym, ap, ◌∙◌, arith, subst, append_assoc, append-nil, length-append, inl, inr}
 use Rattle.std.proofs.Math.ListN.{drop_of_length-le}
 use Rattle.std.proofs.lemmas.Bool.{eqb-true, true≢false}
 use Rattle.std.proofs.lemmas.Bool.Decides.{eqb_tells}
@@ -45,7 +46,8 @@ module _ (later given : List Step) (heads links : List ℕ) (i : ℕ) (x : Step)
   passed : (q at : ℕ) → is_in_lane q x ≡ false → Follows later given i q at → Follows later given (i + 1) q at
   passed q at is f = record {
     within = f.within;
-    come = f.come ∙ ap (λ (l : List Step). l ++ lane_steps q (drop at given)) (sym (one_more q ∙ ap (λ b. lane_steps q (take i later) ++ cond b (x ∷ []) []) is ∙ append-nil (lane_steps q (take i later))));
+    come = f.come
+        ∙ ap (λ (l : List Step). l ++ lane_steps q (drop at given)) (sym (one_more q ∙ ap (λ b. lane_steps q (take i later) ++ cond b (x ∷ []) []) is ∙ append-nil (lane_steps q (take i later))));
     here = f.here;
   }
 

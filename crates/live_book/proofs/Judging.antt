@@ -1,5 +1,6 @@
 -- The tests together are the definition of a live run.
-use Rattle.std.proofs.Common.{◌≡◌, ℕ, suc, ◌+◌, ◌-◌, ◌==◌, nat_le, Bool, true, false, not, ◌&&◌, cond, List, [], ◌∷◌, ◌++◌, length, drop, take, Option, None, Some, IfSome, IfOk, refl, sym, ap, ap₂, ◌∙◌, arith}
+use Rattle.std.proofs.Common.{◌≡◌, ℕ, suc, ◌+◌, ◌-◌, ◌==◌, nat_le, Bool, true, false, not, ◌&&◌, cond, List, [], ◌∷◌}
+use Rattle.std.proofs.Common.{◌++◌, length, drop, take, Option, None, Some, IfSome, IfOk, refl, sym, ap, ap₂, ◌∙◌, arith}
 use Rattle.std.proofs.Math.Seq.{drop-append_seam}
 use Rattle.std.specs.declared.result.Result.{Result}
 use Rattle.std.specs.declared.result.Result.TheVariants.{Ok, Err}
@@ -11,7 +12,8 @@ use Rattle.br_model.specs.declared.steps.Step.{Step}
 use Rattle.br_model.specs.declared.transcript.Line.{Line}
 use Rattle.br_model.specs.Plane.Runs.{run}
 use Rattle.br_model.specs.Plane.World.{World}
-use Rattle.br_model.specs.Program.LiveRun.{Parts, ends_with_publish, from_frame, is_drained, is_frame, is_live_by, is_live_run, is_publish, may_drain, parts_at, same_frames, same_order, until_frame, with_first}
+use Rattle.br_model.specs.Program.LiveRun.{Parts, ends_with_publish, from_frame, is_drained, is_frame, is_live_by, is_live_run}
+use Rattle.br_model.specs.Program.LiveRun.{is_publish, may_drain, parts_at, same_frames, same_order, until_frame, with_first}
 use Rattle.br_model.specs.Program.Runs.{setup_of}
 use Rattle.br_model.specs.Program.SameSteps.{same_step}
 use Rattle.br_model.specs.Text.Scenario.{Scenario}
@@ -49,13 +51,14 @@ with_one s steps (Some p) h = ap (λ (l : List Step). s ∷ l) h
 split : (opening steps : List Step) → IfSome (parts_at opening steps) (Splits steps)
 split [] steps = refl
 split (o ∷ opening) [] = tt
-split (o ∷ opening) (s ∷ steps) = elim (same_step s o) as (λ b. IfSome (cond b (with_first s (parts_at opening steps)) (cond (is_publish s) (with_first s (parts_at (o ∷ opening) steps)) None)) (Splits (s ∷ steps))) [
-  | true ↦ with_one s steps (parts_at opening steps) (split opening steps)
-  | false ↦ elim (is_publish s) as (λ c. IfSome (cond c (with_first s (parts_at (o ∷ opening) steps)) None) (Splits (s ∷ steps))) [
-    | true ↦ with_one s steps (parts_at (o ∷ opening) steps) (split (o ∷ opening) steps)
-    | false ↦ tt
-  ]
-]
+split (o ∷ opening) (s ∷ steps) =
+    elim (same_step s o) as (λ b. IfSome (cond b (with_first s (parts_at opening steps)) (cond (is_publish s) (with_first s (parts_at (o ∷ opening) steps)) None)) (Splits (s ∷ steps))) [
+      | true ↦ with_one s steps (parts_at opening steps) (split opening steps)
+      | false ↦ elim (is_publish s) as (λ c. IfSome (cond c (with_first s (parts_at (o ∷ opening) steps)) None) (Splits (s ∷ steps))) [
+        | true ↦ with_one s steps (parts_at (o ∷ opening) steps) (split (o ∷ opening) steps)
+        | false ↦ tt
+      ]
+    ]
 
 -- together
 

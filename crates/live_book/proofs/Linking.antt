@@ -41,7 +41,8 @@ none_yet lanes n q = elim (leb_tells lanes q) as (λ _. get_or (replicate lanes 
 
 -- a step more
 
-module _ (steps : List Step) (heads links : List ℕ) (i j : ℕ) (x : Step) (one : i + 1 ≡ j) (h : i < length steps) (e : x ≡ get_or steps i x) (are : AreHeads steps j heads) (linked : AreLinks steps j links) where
+module _ (steps : List Step) (heads links : List ℕ) (i j : ℕ) (x : Step) (one : i + 1 ≡ j) (h : i < length steps) (e : x ≡ get_or steps i x) (are : AreHeads steps j heads)
+    (linked : AreLinks steps j links) where
   behind_at : (q at : ℕ) → IsNext (is_in_lane q) steps j at → is_in_lane q x ≡ false → IsNext (is_in_lane q) steps i at
   behind_at q at n is = next_behind (is_in_lane q) steps i x h e at is (subst (λ k. IsNext (is_in_lane q) steps k at) (sym one) n)
 
@@ -79,7 +80,8 @@ module _ (steps : List Step) (heads links : List ℕ) (i j : ℕ) (x : Step) (on
           let behind : k + 1 ≡ j = omega (arith, same, one) in
           let lane_is : q ≡ lane = eqb-true q lane (sym (of q) ∙ sym (ap (is_in_lane q) (get_or_default steps i s x h ∙ sym e)) ∙ sym (ap (λ k. is_in_lane q (get_or steps k s)) same) ∙ is) in
           subst (λ at. IsNext (is_in_lane q) steps (k + 1) at)
-          (sym (ap (λ n. get_or (set links i (get_or heads lane d)) n 0) same ∙ get_or-set_same links i (get_or heads lane d) 0 (omega (arith, count, h)) ∙ get_or_default heads lane d (length steps) (omega (arith, there, within))
+          (sym (ap (λ n. get_or (set links i (get_or heads lane d)) n 0) same ∙ get_or-set_same links i (get_or heads lane d) 0 (omega (arith, count, h))
+          ∙ get_or_default heads lane d (length steps) (omega (arith, there, within))
           ∙ ap (λ n. get_or heads n (length steps)) (sym lane_is)))
           (subst (λ n. IsNext (is_in_lane q) steps n (get_or heads q (length steps))) (sym behind) (are q))
     ]

@@ -27,18 +27,22 @@ past_it c chips (d ∷ ds) h = by_first (d == c.dom) refl h (past_it c chips ds)
         → filter (λ d. has_reports_at (chip_in (c ∷ chips) d)) (d ∷ ds) ≡ filter (λ d. has_reports_at (chip_in chips d)) (d ∷ ds)
     by_first true e h later = absurd (false≢true (sym h))
     by_first false e h later =
-        ap (λ b. cond (has_reports_at (cond b (Some c) (chip_in chips d))) (d ∷ filter (λ d. has_reports_at (chip_in (c ∷ chips) d)) ds) (filter (λ d. has_reports_at (chip_in (c ∷ chips) d)) ds)) (other e)
+        ap (λ b. cond (has_reports_at (cond b (Some c) (chip_in chips d))) (d ∷ filter (λ d. has_reports_at (chip_in (c ∷ chips) d)) ds) (filter (λ d. has_reports_at (chip_in (c ∷ chips) d)) ds))
+        (other e)
         ∙ ap (λ (l : List ℕ). cond (has_reports_at (chip_in chips d)) (d ∷ l) l) (later h)
 
 looked_up : (chips : List Chip) → Differ (doms chips) → map (λ c. c.dom) (filter has_reports chips) ≡ filter (λ d. has_reports_at (chip_in chips d)) (doms chips)
 looked_up [] h = refl
 looked_up (c ∷ chips) h =
-    (elim (has_reports c) as (λ b. map (λ (c : Chip). c.dom) (cond b (c ∷ filter has_reports chips) (filter has_reports chips)) ≡ cond b (c.dom ∷ map (λ (c : Chip). c.dom) (filter has_reports chips)) (map (λ (c : Chip). c.dom) (filter has_reports chips))) [
+    (elim (has_reports c) as
+    (λ b. map (λ (c : Chip). c.dom) (cond b (c ∷ filter has_reports chips) (filter has_reports chips)) ≡ cond b (c.dom ∷ map (λ (c : Chip). c.dom) (filter has_reports chips))
+    (map (λ (c : Chip). c.dom) (filter has_reports chips))) [
       | true ↦ refl
       | false ↦ refl
     ])
     ∙ ap (λ (l : List ℕ). cond (has_reports c) (c.dom ∷ l) l) (looked_up chips h.1 ∙ sym (past_it c chips (doms chips) h.0))
-    ∙ ap (λ b. cond (has_reports_at (cond b (Some c) (chip_in chips c.dom))) (c.dom ∷ filter (λ d. has_reports_at (chip_in (c ∷ chips) d)) (doms chips)) (filter (λ d. has_reports_at (chip_in (c ∷ chips) d)) (doms chips)))
+    ∙ ap (λ b. cond (has_reports_at (cond b (Some c) (chip_in chips c.dom))) (c.dom ∷ filter (λ d. has_reports_at (chip_in (c ∷ chips) d)) (doms chips))
+    (filter (λ d. has_reports_at (chip_in (c ∷ chips) d)) (doms chips)))
     (sym (eq-eqb c.dom c.dom refl))
 
 pub reporting_is : (setup : Setup) (steps : List Step) → reporting (run setup steps).0 ≡ filter (λ d. has_reports_at (chip_at (run setup steps).0 d)) (chip_domains setup.domains)

@@ -40,7 +40,8 @@ pub all_past : {X : Type 0} (p : X → Bool) (xs : List X) (i : ℕ) → length 
 all_past p xs i h so_far = sym (ap (list_all p) (drop_of_length-le xs h)) ∙ so_far
 
 -- and over rows whose lines have to pass
-module _ (p : Line → Bool) (arena : List ℕ) (rows : List Row) (i : ℕ) (row : Row) (h : i < length rows) (e : row ≡ get_or rows i row) (so_far : list_all p (expand arena (drop i rows)) ≡ list_all p (expand arena rows)) where
+module _ (p : Line → Bool) (arena : List ℕ) (rows : List Row) (i : ℕ) (row : Row) (h : i < length rows) (e : row ≡ get_or rows i row)
+    (so_far : list_all p (expand arena (drop i rows)) ≡ list_all p (expand arena rows)) where
   at_lines : (b : Bool) → list_all p (expand_row arena row) ≡ b → (b && list_all p (expand arena (drop (i + 1) rows))) ≡ list_all p (expand arena rows)
   at_lines b is = sym (all_at_row arena rows i row h e p ∙ ap (λ b. b && list_all p (expand arena (drop (i + 1) rows))) is) ∙ so_far
 
@@ -50,7 +51,8 @@ module _ (p : Line → Bool) (arena : List ℕ) (rows : List Row) (i : ℕ) (row
   pub row_fails : list_all p (expand_row arena row) ≡ false → false ≡ list_all p (expand arena rows)
   row_fails is = at_lines false is
 
-pub rows_past : (p : Line → Bool) (arena : List ℕ) (rows : List Row) (i : ℕ) → length rows ≤ i → list_all p (expand arena (drop i rows)) ≡ list_all p (expand arena rows) → true ≡ list_all p (expand arena rows)
+pub rows_past : (p : Line → Bool) (arena : List ℕ) (rows : List Row) (i : ℕ) → length rows ≤ i → list_all p (expand arena (drop i rows)) ≡ list_all p (expand arena rows)
+    → true ≡ list_all p (expand arena rows)
 rows_past p arena rows i h so_far = sym (ap (λ l. list_all p (expand arena l)) (drop_of_length-le rows h)) ∙ so_far
 
 pub fold_past : (f : Bool → Line → Bool) (b : Bool) (arena : List ℕ) (rows : List Row) (i : ℕ) → length rows ≤ i → fold f b (expand arena (drop i rows)) ≡ b

@@ -1,5 +1,6 @@
 -- The lines of a step tell whether it accepted changes, and whether it was refused for want of room.
-use Rattle.std.proofs.Common.{◌≡◌, ℕ, ◌+◌, ◌==◌, nat_lt, Bool, true, false, not, ◌&&◌, ◌||◌, cond, if◌then◌else◌, List, [], ◌∷◌, ◌++◌, length, Option, None, Some, refl, sym, ap, ap₂, ◌∙◌, arith, length-append}
+use Rattle.std.proofs.Common.{◌≡◌, ℕ, ◌+◌, ◌==◌, nat_lt, Bool, true, false, not, ◌&&◌, ◌||◌, cond, if◌then◌else◌, List}
+use Rattle.std.proofs.Common.{[], ◌∷◌, ◌++◌, length, Option, None, Some, refl, sym, ap, ap₂, ◌∙◌, arith, length-append}
 use Rattle.std.proofs.Math.Bool.{and-true}
 use Rattle.std.specs.List.{fold, list_all, list_any}
 use Rattle.std.specs.declared.result.Result.{Result}
@@ -117,10 +118,12 @@ by_answered w v (Ok r) steps history =
     }
 
 by_waits : (w : World) (f : Waiting) → Told w.steps w.history (waits w f)
-by_waits w f = elim (nat_lt (length w.waiting + length w.held) most_waiting) as (λ b. Told w.steps w.history (cond {A = Stepped} b (record w { waiting = w.waiting ++ f ∷ [] }, []) (w, lines.Overrun f.id ∷ []))) [
-  | true ↦ silent w.steps w.history (record w { waiting = w.waiting ++ f ∷ [] }, []) refl refl nothing
-  | false ↦ silent w.steps w.history (w, lines.Overrun f.id ∷ []) refl refl (record { all = λ may. refl; same = λ is_report b. refl })
-]
+by_waits w f =
+    elim (nat_lt (length w.waiting + length w.held) most_waiting) as
+    (λ b. Told w.steps w.history (cond {A = Stepped} b (record w { waiting = w.waiting ++ f ∷ [] }, []) (w, lines.Overrun f.id ∷ []))) [
+      | true ↦ silent w.steps w.history (record w { waiting = w.waiting ++ f ∷ [] }, []) refl refl nothing
+      | false ↦ silent w.steps w.history (w, lines.Overrun f.id ∷ []) refl refl (record { all = λ may. refl; same = λ is_report b. refl })
+    ]
 
 by_goes_on : (c : Class) (w : World) (f : Waiting) → Told w.steps w.history (goes_on c w f)
 by_goes_on Drop w f = silent w.steps w.history (w, []) refl refl nothing

@@ -1,5 +1,6 @@
 -- What reports, turns and publications leave of the chips.
-use Rattle.std.proofs.Common.{◌≡◌, ℕ, ◌+◌, ◌-◌, ◌<◌, ◌≤◌, ◌==◌, Bool, true, false, ◌&&◌, ◌||◌, cond, if◌then◌else◌, List, [], ◌∷◌, Option, None, Some, IfSome, Result, Ok, Err, refl, sym, ◌∙◌, ap, subst, arith, is_some, option_map}
+use Rattle.std.proofs.Common.{◌≡◌, ℕ, ◌+◌, ◌-◌, ◌<◌, ◌≤◌, ◌==◌, Bool, true, false, ◌&&◌, ◌||◌, cond, if◌then◌else◌, List, []}
+use Rattle.std.proofs.Common.{◌∷◌, Option, None, Some, IfSome, Result, Ok, Err, refl, sym, ◌∙◌, ap, subst, arith, is_some, option_map}
 use Rattle.std.proofs.lemmas.Bool.{eqb-true, eq-eqb, and_from}
 use Rattle.std.specs.List.{list_all, list_any, sum_by}
 use Rattle.lemmas.proofs.Lists.{any-filter_none}
@@ -209,7 +210,8 @@ turns_same w dom None e = refl
 turns_same w dom (Some c) e = turns_to_same w dom c (next_of w c) e
 
 by_domain : (w : World) (dom d : ℕ) (b : Bool) → (dom == d) ≡ b → reports_in (chip_at (world_step w (Turn dom)).0 d) ≡ reports_in (chip_at w d)
-by_domain w dom d true e = subst (λ n. reports_in (chip_at (world_step w (Turn dom)).0 n) ≡ reports_in (chip_at w n)) (eqb-true dom d e) (turns_same (record w { steps = w.steps + 1 }) dom (chip_at w dom) refl)
+by_domain w dom d true e =
+    subst (λ n. reports_in (chip_at (world_step w (Turn dom)).0 n) ≡ reports_in (chip_at w n)) (eqb-true dom d e) (turns_same (record w { steps = w.steps + 1 }) dom (chip_at w dom) refl)
 by_domain w dom d false e = ap reports_in (turn_other w dom d e)
 
 pub turn_reports : (w : World) (dom d : ℕ) → reports_in (chip_at (world_step w (Turn dom)).0 d) ≡ reports_in (chip_at w d)

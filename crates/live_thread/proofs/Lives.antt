@@ -42,7 +42,8 @@ none_ordered (s ∷ rest) h =
     ap (λ b. if b then s ∷ filter is_ordered rest else filter is_ordered rest) (no_order s (first_so (may_drain s) (list_all may_drain rest) h))
     ∙ none_ordered rest (second_so (may_drain s) (list_all may_drain rest) h)
 
-module _ (p q r t : Past) (sc : Scenario) (none : p.steps ≡ []) (opened : q ≡ behind p (until_frame sc.steps)) (takes : Takes q r (from_frame sc.steps)) (drained : Drained r t) (setup : setup_of sc.roster ≡ p.setup) where
+module _ (p q r t : Past) (sc : Scenario) (none : p.steps ≡ []) (opened : q ≡ behind p (until_frame sc.steps)) (takes : Takes q r (from_frame sc.steps)) (drained : Drained r t)
+    (setup : setup_of sc.roster ≡ p.setup) where
   abbrev first : List Step
   first = until_frame sc.steps
 

@@ -45,16 +45,20 @@ first_is p plane dom x is e = ap (λ (s : PlaneState). option_map (λ c. slice_g
 -- a chip of the domain of this number, and none
 pub reports_next : (start now next : Past) (dom n : ℕ) → dom ≡ n → Drains now next → Keeps now next → HasTold next dom → ((d : ℕ) → d ≢ dom → HasTold now d → HasTold next d)
     → ReportsBelow start now n → ReportsBelow start next (n + 1)
-reports_next start now next dom n same drains keeps at others r = subst (λ k. ReportsBelow start now k → ReportsBelow start next (k + 1)) same (reports_chip start now next dom drains keeps at others) r
+reports_next start now next dom n same drains keeps at others r =
+    subst (λ k. ReportsBelow start now k → ReportsBelow start next (k + 1)) same (reports_chip start now next dom drains keeps at others) r
 
-pub reports_none_there : (start now : Past) (domains : Domains) (dom n : ℕ) → dom ≡ n → start.setup.domains ≡ domains → has_chip domains dom ≡ false → ReportsBelow start now n → ReportsBelow start now (n + 1)
+pub reports_none_there : (start now : Past) (domains : Domains) (dom n : ℕ) → dom ≡ n → start.setup.domains ≡ domains → has_chip domains dom ≡ false → ReportsBelow start now n
+    → ReportsBelow start now (n + 1)
 reports_none_there start now domains dom n same own none r = subst (λ k. ReportsBelow start now k → ReportsBelow start now (k + 1)) same (reports_past start now domains dom own none) r
 
 pub turns_next : (start now next : Past) (dom n : ℕ) → dom ≡ n → Drains now next → Keeps now next → ((d : ℕ) → HasTold now d → HasTold next d) → HasTurned next dom
     → ((d : ℕ) → d ≢ dom → HasTurned now d → HasTurned next d) → TurnsBelow start now n → TurnsBelow start next (n + 1)
-turns_next start now next dom n same drains keeps told at others r = subst (λ k. TurnsBelow start now k → TurnsBelow start next (k + 1)) same (turns_chip start now next dom drains keeps told at others) r
+turns_next start now next dom n same drains keeps told at others r =
+    subst (λ k. TurnsBelow start now k → TurnsBelow start next (k + 1)) same (turns_chip start now next dom drains keeps told at others) r
 
-pub turns_none_there : (start now : Past) (domains : Domains) (dom n : ℕ) → dom ≡ n → start.setup.domains ≡ domains → has_chip domains dom ≡ false → TurnsBelow start now n → TurnsBelow start now (n + 1)
+pub turns_none_there : (start now : Past) (domains : Domains) (dom n : ℕ) → dom ≡ n → start.setup.domains ≡ domains → has_chip domains dom ≡ false → TurnsBelow start now n
+    → TurnsBelow start now (n + 1)
 turns_none_there start now domains dom n same own none r = subst (λ k. TurnsBelow start now k → TurnsBelow start now (k + 1)) same (turns_past start now domains dom own none) r
 
 -- the chips of these domains

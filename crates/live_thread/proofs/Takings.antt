@@ -50,7 +50,8 @@ takes_both p q r xs ys t u = record {
 }
 
 -- A step that counts as these given ones, and its publication where it accepts changes.
-module _ (p : Past) (s : Step) (given : List Step) (frames : (port : ℕ) → frames_at port (s ∷ []) ≡ frames_at port given) (ordered : filter is_ordered (s ∷ []) ≡ filter is_ordered given) (held : (world_step (world_of p) s).0.held ≡ (world_of p).held) where
+module _ (p : Past) (s : Step) (given : List Step) (frames : (port : ℕ) → frames_at port (s ∷ []) ≡ frames_at port given) (ordered : filter is_ordered (s ∷ []) ≡ filter is_ordered given)
+    (held : (world_step (world_of p) s).0.held ≡ (world_of p).held) where
   accepts_none : (changes_of (after p s) == changes_of p) ≡ true → accepts_changes (world_of p) s ≡ false
   accepts_none e =
       ap (λ (w : World). nat_lt (length (world_of p).history) (length w.history)) (sym (world-after p s))

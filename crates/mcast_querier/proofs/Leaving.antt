@@ -181,9 +181,11 @@ module _ (first : QuerierState) (all : List Act) (ascends : Ascend 0 all) where
       by false true e f = (six f, tt)
       by false false e f = tt
 
-  acted-due : (before later : List Act) (act : Act) → all ≡ before ++ act ∷ later → AllByRecursion (IsDue first all) (after first before).1 → AllByRecursion (IsDue first all) (acted (after first before) act).1
+  acted-due : (before later : List Act) (act : Act) → all ≡ before ++ act ∷ later → AllByRecursion (IsDue first all) (after first before).1
+      → AllByRecursion (IsDue first all) (acted (after first before) act).1
   acted-due before later (Hears asker now) parts due = due
-  acted-due before later (Comes now) parts due = all-append (IsDue first all) (after first before).1 (map (λ query. (now, query)) (queries (after first before).0 now)) due (leaving before later now parts)
+  acted-due before later (Comes now) parts due =
+      all-append (IsDue first all) (after first before).1 (map (λ query. (now, query)) (queries (after first before).0 now)) due (leaving before later now parts)
 
   each-due : (before later : List Act) → all ≡ before ++ later → AllByRecursion (IsDue first all) (after first before).1 → AllByRecursion (IsDue first all) (after first all).1
   each-due before [] parts due = subst (λ (l : List Act). AllByRecursion (IsDue first all) (after first l).1) (sym (parts ∙ append-nil before)) due

@@ -135,7 +135,8 @@ happens-at setup r (Forget triples) = all-at r.control.now r (forgets (forgotten
 -- A moment that is accepted isn't before the last one.
 passes-on : (r : Course) (now : ℕ) → IsKept (λ s. r.control.now ≤ now) (passes_to now r)
 passes-on r now =
-    (elim (nat_lt now r.control.now) as (λ b. nat_lt now r.control.now ≡ b → IsKept (λ s. r.control.now ≤ now) (cond b (Err Backward) (Ok (tells_tree (Some tree_events.Moment) (ends (ages (at_moment now r))))))) [
+    (elim (nat_lt now r.control.now) as (λ b. nat_lt now r.control.now ≡ b
+    → IsKept (λ s. r.control.now ≤ now) (cond b (Err Backward) (Ok (tells_tree (Some tree_events.Moment) (ends (ages (at_moment now r))))))) [
       | true ↦ λ e. tt
       | false ↦ λ e. at_most e
     ]) refl
@@ -173,7 +174,8 @@ answered-same before after (Ok r) p = p
 
 waits-same : (w : World) (f : Waiting) → (waits w f).0.control.now ≡ w.control.now
 waits-same w f =
-    elim (nat_lt (length w.waiting + length w.held) most_waiting) as (λ b. (cond {A = Stepped} b (record w { waiting = w.waiting ++ f ∷ [] }, []) (w, Overrun f.id ∷ [])).0.control.now ≡ w.control.now) [
+    elim (nat_lt (length w.waiting + length w.held) most_waiting) as
+    (λ b. (cond {A = Stepped} b (record w { waiting = w.waiting ++ f ∷ [] }, []) (w, Overrun f.id ∷ [])).0.control.now ≡ w.control.now) [
       | true ↦ refl
       | false ↦ refl
     ]

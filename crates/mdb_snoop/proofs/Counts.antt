@@ -51,7 +51,8 @@ count-put : (p : ℕ) (m : Members) (k : Membership) (x : Option ℕ) → is_asc
 count-put p [] k x h = count-first p (k, x) []
 count-put p (e ∷ m) k x h = by (count-put p m k x (second_so _ _ h)) (membership_cmp k e.0) refl
   where
-    by : count p (put membership_cmp m k x) ≡ cond (is_some (get membership_cmp m k)) 0 (one p k) + count p m → (r : Ordering) → membership_cmp k e.0 ≡ r → count p (by_order r ((k, x) ∷ e ∷ m) ((e.0, x) ∷ m) (e ∷ put membership_cmp m k x))
+    by : count p (put membership_cmp m k x) ≡ cond (is_some (get membership_cmp m k)) 0 (one p k) + count p m → (r : Ordering) → membership_cmp k e.0 ≡ r
+        → count p (by_order r ((k, x) ∷ e ∷ m) ((e.0, x) ∷ m) (e ∷ put membership_cmp m k x))
         ≡ cond (is_some (cond (is_eq r) (Some e.1) (get membership_cmp m k))) 0 (one p k) + count p (e ∷ m)
     by rest Less is =
         let none : get membership_cmp m k ≡ None = get_above membership_cmp k m (above_from membership_cmp k e.0 (λ y more. membership_total.trans k e.0 y is more) m (first_so _ _ h)) in
@@ -207,7 +208,9 @@ no_member (m ∷ members) p v g h = by (no_member members p v g) (m.2 == p) refl
       | false ↦ λ _. refl
     ] refl
 
-    by : (has_some (pairs_of_port members p) ≡ false → has_number (ports_in members v g) p ≡ false) → (b : Bool) → (m.2 == p) ≡ b → has_some {X = GroupPair} (map (λ (x : Membership). (x.0, x.1)) (cond b (m ∷ those) those)) ≡ false → (t : Bool) → has_number (map (λ (x : Membership). x.2) (cond t (m ∷ here) here)) p ≡ false
+    by : (has_some (pairs_of_port members p) ≡ false → has_number (ports_in members v g) p ≡ false) → (b : Bool) → (m.2 == p) ≡ b
+        → has_some {X = GroupPair} (map (λ (x : Membership). (x.0, x.1)) (cond b (m ∷ those) those)) ≡ false → (t : Bool)
+        → has_number (map (λ (x : Membership). x.2) (cond t (m ∷ here) here)) p ≡ false
     by rest true is none t = absurd (cc (none))
     by rest false is none true = ap (λ b. b || has_number (map (λ (x : Membership). x.2) here) p) (apart is) ∙ rest none
     by rest false is none false = rest none

@@ -40,11 +40,13 @@ section_put : (k : GroupPair) (p : ℕ) (x : Option ℕ) (ms : List (ℕ × Opti
     → put membership_cmp (section k ms ++ rest) (at_port k p) x ≡ section k (put nat_cmp ms p x) ++ rest
 section_put k p x [] rest h = put_above membership_cmp (at_port k p) x rest h
 section_put k p x (e ∷ ms) rest h =
-    ap (λ r. by_order r ((at_port k p, x) ∷ (at_port k e.0, e.1) ∷ (section k ms ++ rest)) ((at_port k e.0, x) ∷ (section k ms ++ rest)) ((at_port k e.0, e.1) ∷ put membership_cmp (section k ms ++ rest) (at_port k p) x)) (same k p e.0)
+    ap (λ r. by_order r ((at_port k p, x) ∷ (at_port k e.0, e.1) ∷ (section k ms ++ rest)) ((at_port k e.0, x) ∷ (section k ms ++ rest))
+    ((at_port k e.0, e.1) ∷ put membership_cmp (section k ms ++ rest) (at_port k p) x)) (same k p e.0)
     ∙ by (section_put k p x ms rest h) (nat_cmp p e.0)
   where
     by : put membership_cmp (section k ms ++ rest) (at_port k p) x ≡ section k (put nat_cmp ms p x) ++ rest → (r : Ordering)
-        → by_order r ((at_port k p, x) ∷ (at_port k e.0, e.1) ∷ (section k ms ++ rest)) ((at_port k e.0, x) ∷ (section k ms ++ rest)) ((at_port k e.0, e.1) ∷ put membership_cmp (section k ms ++ rest) (at_port k p) x)
+        → by_order r ((at_port k p, x) ∷ (at_port k e.0, e.1) ∷ (section k ms ++ rest)) ((at_port k e.0, x) ∷ (section k ms ++ rest))
+        ((at_port k e.0, e.1) ∷ put membership_cmp (section k ms ++ rest) (at_port k p) x)
         ≡ section k (by_order r ((p, x) ∷ e ∷ ms) ((e.0, x) ∷ ms) (e ∷ put nat_cmp ms p x)) ++ rest
     by rest_is Less = refl
     by rest_is Equal = refl
@@ -59,7 +61,8 @@ section_without k p (e ∷ ms) rest h =
     left : List (Membership × Option ℕ)
     left = without membership_cmp (section k ms ++ rest) (at_port k p)
 
-    by : left ≡ section k (without nat_cmp ms p) ++ rest → (b : Bool) → cond (not b) ((at_port k e.0, e.1) ∷ left) left ≡ section k (cond (not b) (e ∷ without nat_cmp ms p) (without nat_cmp ms p)) ++ rest
+    by : left ≡ section k (without nat_cmp ms p) ++ rest → (b : Bool)
+        → cond (not b) ((at_port k e.0, e.1) ∷ left) left ≡ section k (cond (not b) (e ∷ without nat_cmp ms p) (without nat_cmp ms p)) ++ rest
     by rest_is true = rest_is
     by rest_is false = ap (λ f. (at_port k e.0, e.1) ∷ f) rest_is
 

@@ -35,7 +35,8 @@ pub get-mapped : {X : Type 0} (f : ℕ → X) (ports : List ℕ) (q : ℕ) → g
 get-mapped f [] q = refl
 get-mapped f (m ∷ ports) q = by (get-mapped f ports q) (q == m) refl
   where
-    by : get nat_cmp (mapped f ports) q ≡ cond (has_number ports q) (Some (f q)) None → (b : Bool) → (q == m) ≡ b → cond (eq_by_cmp nat_cmp q m) (Some (f m)) (get nat_cmp (mapped f ports) q) ≡ cond ((q == m) || has_number ports q) (Some (f q)) None
+    by : get nat_cmp (mapped f ports) q ≡ cond (has_number ports q) (Some (f q)) None → (b : Bool) → (q == m) ≡ b
+        → cond (eq_by_cmp nat_cmp q m) (Some (f m)) (get nat_cmp (mapped f ports) q) ≡ cond ((q == m) || has_number ports q) (Some (f q)) None
     by ih true e = rw (tied q m true e, e) (ap (λ x. Some (f x)) (sym (eqb-true q m e)))
     by ih false e = rw (tied q m false e, e) ih
 
@@ -43,7 +44,8 @@ below-mapped : {X : Type 0} (f : ℕ → X) (t : ℕ → Bool) (x a n : ℕ) →
 below-mapped f t x a zero less = tt
 below-mapped f t x a (suc n) less = by (below-mapped f t x (a + 1) n (omega (arith, less))) (t a)
   where
-    by : T (below_all nat_cmp x (mapped f (filter t (range_with_len (a + 1) n)))) → (b : Bool) → T (below_all nat_cmp x (mapped f (cond b (a ∷ filter t (range_with_len (a + 1) n)) (filter t (range_with_len (a + 1) n)))))
+    by : T (below_all nat_cmp x (mapped f (filter t (range_with_len (a + 1) n)))) → (b : Bool)
+        → T (below_all nat_cmp x (mapped f (cond b (a ∷ filter t (range_with_len (a + 1) n)) (filter t (range_with_len (a + 1) n)))))
     by rest true = T_and _ _ (subst (λ r. T (is_lt r)) (nat_cmp_is x a Less less) tt) rest
     by rest false = rest
 
@@ -51,7 +53,8 @@ sorted-range : {X : Type 0} (f : ℕ → X) (t : ℕ → Bool) (a n : ℕ) → T
 sorted-range f t a zero = tt
 sorted-range f t a (suc n) = by (sorted-range f t (a + 1) n) (t a)
   where
-    by : T (is_sorted nat_cmp (mapped f (filter t (range_with_len (a + 1) n)))) → (b : Bool) → T (is_sorted nat_cmp (mapped f (cond b (a ∷ filter t (range_with_len (a + 1) n)) (filter t (range_with_len (a + 1) n)))))
+    by : T (is_sorted nat_cmp (mapped f (filter t (range_with_len (a + 1) n)))) → (b : Bool)
+        → T (is_sorted nat_cmp (mapped f (cond b (a ∷ filter t (range_with_len (a + 1) n)) (filter t (range_with_len (a + 1) n)))))
     by rest true = T_and _ _ (below-mapped f t a (a + 1) n (omega arith)) rest
     by rest false = rest
 
@@ -93,7 +96,8 @@ mapped-ascends f ports set = true_from_T _ (sorted-mapped f ports set)
 pub mapped-put : {X : Type 0} (f g : ℕ → X) (ports : List ℕ) (p : ℕ) (x : X) → IsSetBelow port_places ports → p < port_places → g p ≡ x → ((q : ℕ) → (q == p) ≡ false → g q ≡ f q)
     → mapped g (numbers_below port_places (λ m. (m == p) || has_number ports m)) ≡ put nat_cmp (mapped f ports) p x
 mapped-put {X} f g ports p x set low at others =
-    same_entries nat_cmp nat_cmp_total nat_cmp-IsAntisymmetric (mapped g wide) (put nat_cmp (mapped f ports) p x) (sorted-set g _) (is_sorted-put nat_cmp nat_cmp_total p x (mapped f ports) (sorted-mapped f ports set))
+    same_entries nat_cmp nat_cmp_total nat_cmp-IsAntisymmetric (mapped g wide) (put nat_cmp (mapped f ports) p x) (sorted-set g _)
+    (is_sorted-put nat_cmp nat_cmp_total p x (mapped f ports) (sorted-mapped f ports set))
     (λ q. get-mapped g wide q ∙ by q (q == p) refl ∙ sym (find-put nat_cmp nat_cmp_total q p x (mapped f ports) ∙ ap (cond (eq_by_cmp nat_cmp q p) (Some x)) (get-mapped f ports q)))
   where
     wide : List ℕ
@@ -110,7 +114,8 @@ mapped-put {X} f g ports p x set low at others =
 pub mapped-without : {X : Type 0} (f g : ℕ → X) (ports : List ℕ) (p : ℕ) → IsSetBelow port_places ports → ((q : ℕ) → (q == p) ≡ false → g q ≡ f q)
     → mapped g (numbers_below port_places (λ m. has_number ports m && not (m == p))) ≡ without nat_cmp (mapped f ports) p
 mapped-without {X} f g ports p set others =
-    same_entries nat_cmp nat_cmp_total nat_cmp-IsAntisymmetric (mapped g left) (without nat_cmp (mapped f ports) p) (sorted-set g _) (is_sorted-where_key nat_cmp apart (mapped f ports) (sorted-mapped f ports set))
+    same_entries nat_cmp nat_cmp_total nat_cmp-IsAntisymmetric (mapped g left) (without nat_cmp (mapped f ports) p) (sorted-set g _)
+    (is_sorted-where_key nat_cmp apart (mapped f ports) (sorted-mapped f ports set))
     (λ q. get-mapped g left q ∙ by q (q == p) refl ∙ sym (find-where_key nat_cmp apart q (alike q) (mapped f ports) ∙ ap (λ o. cond (apart q) o None) (get-mapped f ports q)))
   where
     apart : ℕ → Bool
@@ -136,7 +141,8 @@ pub keys-filter_mapped : {X : Type 0} (f : ℕ → X) (t : X → Bool) (ports : 
 keys-filter_mapped f t [] = refl
 keys-filter_mapped f t (p ∷ ports) = by (keys-filter_mapped f t ports) (t (f p))
   where
-    by : filter (λ q. t (f q)) ports ≡ keys (filter (λ x. t x.1) (mapped f ports)) → (b : Bool) → cond b (p ∷ filter (λ q. t (f q)) ports) (filter (λ q. t (f q)) ports) ≡ keys (cond b ((p, f p) ∷ filter (λ x. t x.1) (mapped f ports)) (filter (λ x. t x.1) (mapped f ports)))
+    by : filter (λ q. t (f q)) ports ≡ keys (filter (λ x. t x.1) (mapped f ports)) → (b : Bool)
+        → cond b (p ∷ filter (λ q. t (f q)) ports) (filter (λ q. t (f q)) ports) ≡ keys (cond b ((p, f p) ∷ filter (λ x. t x.1) (mapped f ports)) (filter (λ x. t x.1) (mapped f ports)))
     by ih true = ap (λ l. p ∷ l) ih
     by ih false = ih
 
@@ -144,7 +150,8 @@ filter-both : (s t : ℕ → Bool) (xs : List ℕ) → filter (λ m. s m && t m)
 filter-both s t [] = refl
 filter-both s t (x ∷ xs) = by (filter-both s t xs) (s x)
   where
-    by : filter (λ m. s m && t m) xs ≡ filter t (filter s xs) → (a : Bool) → cond (a && t x) (x ∷ filter (λ m. s m && t m) xs) (filter (λ m. s m && t m) xs) ≡ filter t (cond a (x ∷ filter s xs) (filter s xs))
+    by : filter (λ m. s m && t m) xs ≡ filter t (filter s xs) → (a : Bool)
+        → cond (a && t x) (x ∷ filter (λ m. s m && t m) xs) (filter (λ m. s m && t m) xs) ≡ filter t (cond a (x ∷ filter s xs) (filter s xs))
     by ih true = ap (λ l. cond (t x) (x ∷ l) l) ih
     by ih false = ih
 
@@ -179,7 +186,8 @@ next-if t p seen due new so_far then_is = by (t p) refl then_is
     by true at is = among_with port_places p t seen due new so_far is at
     by false at is = is ∙ among_skip port_places p t seen due so_far at
 
-pub due-is : (f : ℕ → ℕ) (now : ℕ) (ports : List ℕ) (m : List (ℕ × ℕ)) → IsSetBelow port_places ports → mapped f ports ≡ m → numbers_below port_places (λ p. has_number ports p && nat_le (f p) now) ≡ due now m
+pub due-is : (f : ℕ → ℕ) (now : ℕ) (ports : List ℕ) (m : List (ℕ × ℕ)) → IsSetBelow port_places ports → mapped f ports ≡ m
+    → numbers_below port_places (λ p. has_number ports p && nat_le (f p) now) ≡ due now m
 due-is f now ports m set view = set-filter (λ p. nat_le (f p) now) ports set ∙ keys-filter_mapped f (λ x. nat_le x now) ports ∙ ap (λ l. due now l) view
 
 -- one place of the moments is written
@@ -241,7 +249,8 @@ has_when f now ports q ascending =
     swap true false r = sym (and-false r)
     swap false b r = refl
 
-pub due-has : (f : ℕ → ℕ) (now : ℕ) (ports : List ℕ) (m : List (ℕ × ℕ)) (due : List ℕ) → IsSetBelow port_places ports → mapped f ports ≡ m → due ≡ numbers_below port_places (λ p. has_number ports p && nat_le (f p) now)
+pub due-has : (f : ℕ → ℕ) (now : ℕ) (ports : List ℕ) (m : List (ℕ × ℕ)) (due : List ℕ) → IsSetBelow port_places ports → mapped f ports ≡ m
+    → due ≡ numbers_below port_places (λ p. has_number ports p && nat_le (f p) now)
     → (q : ℕ) → has_number due q ≡ is_over now (get nat_cmp m q)
 due-has f now ports m due ascending view is q =
     ap (λ l. has_number l q) is
@@ -258,7 +267,8 @@ same-filter s t h [] = refl
 same-filter s t h (x ∷ xs) = ap (λ b. cond b (x ∷ filter s xs) (filter s xs)) (h x) ∙ ap (λ l. cond (t x) (x ∷ l) l) (same-filter s t h xs)
 
 -- the members that are due
-pub both-due : (now : ℕ) (ends : List (ℕ × ℕ)) (ports over : List ℕ) (m : List (ℕ × Option ℕ)) → IsSetBelow port_places ports → mapped (get nat_cmp ends) ports ≡ m → ((q : ℕ) → has_number over q ≡ is_over now (get nat_cmp ends q))
+pub both-due : (now : ℕ) (ends : List (ℕ × ℕ)) (ports over : List ℕ) (m : List (ℕ × Option ℕ)) → IsSetBelow port_places ports → mapped (get nat_cmp ends) ports ≡ m
+    → ((q : ℕ) → has_number over q ≡ is_over now (get nat_cmp ends q))
     → numbers_below port_places (λ p. has_number ports p && has_number over p) ≡ due_members now m
 both-due now ends ports over m ascending view is =
     set-filter (has_number over) ports ascending

@@ -162,7 +162,8 @@ pairs-one k e (f ∷ ms) rest h =
     ap (λ l. joined group_pair_cmp l k) (pairs-one k f ms rest h)
     ∙ ap (λ r. match_ordering r (k ∷ k ∷ group_pairs (keys rest)) (k ∷ group_pairs (keys rest)) (k ∷ joined group_pair_cmp (group_pairs (keys rest)) k)) (tied_itself pair_total k)
 
-pairs-first : (k : GroupPair) (ms : List (ℕ × Option ℕ)) (rest : List (Membership × Option ℕ)) (ks : List GroupPair) → has_some ms ≡ true → group_pairs (keys rest) ≡ ks → list_all (λ j. is_lt (group_pair_cmp k j)) ks ≡ true
+pairs-first : (k : GroupPair) (ms : List (ℕ × Option ℕ)) (rest : List (Membership × Option ℕ)) (ks : List GroupPair) → has_some ms ≡ true → group_pairs (keys rest) ≡ ks
+    → list_all (λ j. is_lt (group_pair_cmp k j)) ks ≡ true
     → group_pairs (keys (section k ms ++ rest)) ≡ k ∷ ks
 pairs-first k [] rest ks some is h = absurd (cc (some))
 pairs-first k (e ∷ ms) rest ks some is h = pairs-one k e ms rest (ap (list_all (λ j. is_lt (group_pair_cmp k j))) is ∙ h) ∙ ap (λ l. k ∷ l) is

@@ -50,6 +50,7 @@ nothing [] e = refl
 nothing (m ∷ ms) e = absurd (cc (e))
 
 -- the last member leaves, and the section goes
-pub left_out : (ss new : Sections) (k : GroupPair) (i p : ℕ) (at : IsAt ss k i) → has_some (without nat_cmp at.members p) ≡ false → new ≡ without_at ss i → flat new ≡ without membership_cmp (flat ss) (at_port k p)
+pub left_out : (ss new : Sections) (k : GroupPair) (i p : ℕ) (at : IsAt ss k i) → has_some (without nat_cmp at.members p) ≡ false → new ≡ without_at ss i
+    → flat new ≡ without membership_cmp (flat ss) (at_port k p)
 left_out ss new k i p at last is =
     ap flat is ∙ nothing-at ss k i p at ∙ ap (λ ms. flat (with_at ss k i ms)) (sym (nothing _ last)) ∙ without-at ss k i p at

@@ -72,7 +72,8 @@ module _ (ss : Sections) (k : GroupPair) (i : ℕ) (sound : IsSound ss) where
     put_is ns =
         ap (λ l. put group_pair_cmp l k ns) at.splits
         ∙ put_front group_pair_cmp k ns (take i ss) ((k, at.members) ∷ drop (i + 1) ss) at.before
-        ∙ ap (λ r. take i ss ++ by_order r ((k, ns) ∷ (k, at.members) ∷ drop (i + 1) ss) ((k, ns) ∷ drop (i + 1) ss) ((k, at.members) ∷ put group_pair_cmp (drop (i + 1) ss) k ns)) (tied_itself pair_total k)
+        ∙ ap (λ r. take i ss ++ by_order r ((k, ns) ∷ (k, at.members) ∷ drop (i + 1) ss) ((k, ns) ∷ drop (i + 1) ss) ((k, at.members) ∷ put group_pair_cmp (drop (i + 1) ss) k ns))
+        (tied_itself pair_total k)
 
     without_is : without group_pair_cmp ss k ≡ without_at ss i
     without_is =
@@ -93,7 +94,8 @@ module _ (ss : Sections) (k : GroupPair) (i : ℕ) (sound : IsSound ss) where
       ascending = ap (is_ascending group_pair_cmp) (sym without_is) ∙ ascending-without group_pair_cmp ss k sound.ascending;
       fit = fits-append (take i ss) (drop (i + 1) ss) parts.0 (second_so _ _ parts.1);
       few =
-          let whole : length ss ≡ suc (length (take i ss) + length (drop (i + 1) ss)) = ap length at.splits ∙ length-append (take i ss) ((k, at.members) ∷ drop (i + 1) ss) ∙ add-suc (length (take i ss)) (length (drop (i + 1) ss)) in
+          let whole : length ss ≡ suc (length (take i ss) + length (drop (i + 1) ss)) = ap length at.splits ∙ length-append (take i ss) ((k, at.members) ∷ drop (i + 1) ss)
+          ∙ add-suc (length (take i ss)) (length (drop (i + 1) ss)) in
           omega (arith, whole, length-append (take i ss) (drop (i + 1) ss), sound.few);
     }
 
@@ -112,7 +114,8 @@ module _ (ss : Sections) (k : GroupPair) (i : ℕ) (sound : IsSound ss) where
           fits-append (take i ss) ((k, ns) ∷ drop i ss) cut.0 (and_from _ _ h cut.1);
       few =
           let whole : length ss ≡ length (take i ss) + length (drop i ss) = ap length (sym (take-append-drop i ss)) ∙ length-append (take i ss) (drop i ss) in
-          let more : length (with_before ss k i ns) ≡ suc (length (take i ss) + length (drop i ss)) = length-append (take i ss) ((k, ns) ∷ drop i ss) ∙ add-suc (length (take i ss)) (length (drop i ss)) in
+          let more : length (with_before ss k i ns) ≡ suc (length (take i ss) + length (drop i ss)) = length-append (take i ss) ((k, ns) ∷ drop i ss)
+          ∙ add-suc (length (take i ss)) (length (drop i ss)) in
           omega (arith, whole, more, room);
     }
 

@@ -1,5 +1,6 @@
 -- Entries whose keys ascend, cut in two at a place.
-use Rattle.std.proofs.Common.{◌≡◌, ℕ, ◌+◌, ◌<◌, ◌≤◌, Bool, true, false, not, cond, Some, None, Result, Ok, Err, IfOk, IfErr, ◌&&◌, [], ◌∷◌, ◌++◌, length, take, drop, get_or, set, zero, suc, refl, sym, ap, subst, ◌∙◌, add-one, arith}
+use Rattle.std.proofs.Common.{◌≡◌, ℕ, ◌+◌, ◌<◌, ◌≤◌, Bool, true, false, not, cond, Some, None, Result, Ok, Err, IfOk, IfErr, ◌&&◌}
+use Rattle.std.proofs.Common.{[], ◌∷◌, ◌++◌, length, take, drop, get_or, set, zero, suc, refl, sym, ap, subst, ◌∙◌, add-one, arith}
 use Rattle.std.specs.Prelude.{IsTrue}
 use Rattle.std.specs.List.{list_all}
 use Rattle.std.specs.List.Sorted.{IsSearchInRange, IsBinarySearchResult, IsNonDecreasingBy}
@@ -68,7 +69,8 @@ above_from k m goes (x ∷ rest) h =
     ap (λ r. is_lt r && all_above k rest) (goes x.0 (is_lt-true _ (holds _ parts.0))) ∙ above_from k m goes rest parts.1
 
 -- k is below what stands at i
-pub above_place : (es : Neighbours) (k : Key) (i : ℕ) (d e : Key × Entry) → IsTrue (is_ascending pair_cmp es) → i < length es → e ≡ get_or es i d → pair_cmp k e.0 ≡ Less → all_above k (drop i es) ≡ true
+pub above_place : (es : Neighbours) (k : Key) (i : ℕ) (d e : Key × Entry) → IsTrue (is_ascending pair_cmp es) → i < length es → e ≡ get_or es i d → pair_cmp k e.0 ≡ Less
+    → all_above k (drop i es) ≡ true
 above_place es k i d e sorted within is less =
     let split : drop i es ≡ e ∷ drop (i + 1) es = here es i d within ∙ ap (λ x. x ∷ drop (i + 1) es) (sym is) in
     let rest : IsTrue (is_ascending pair_cmp (e ∷ drop (i + 1) es)) =
@@ -79,7 +81,8 @@ above_place es k i d e sorted within is less =
     ∙ above_from k e.0 (λ x more. pair_total.trans k e.0 x less more) (drop (i + 1) es) (both _ _ rest).0
 
 -- k is above what stands at i
-pub below_place : (es : Neighbours) (k : Key) (i : ℕ) (d e : Key × Entry) → IsTrue (is_ascending pair_cmp es) → i < length es → e ≡ get_or es i d → pair_cmp k e.0 ≡ Greater → all_below k (take (i + 1) es) ≡ true
+pub below_place : (es : Neighbours) (k : Key) (i : ℕ) (d e : Key × Entry) → IsTrue (is_ascending pair_cmp es) → i < length es → e ≡ get_or es i d → pair_cmp k e.0 ≡ Greater
+    → all_below k (take (i + 1) es) ≡ true
 below_place es k i d e sorted within is more =
     let split : es ≡ take i es ++ e ∷ drop (i + 1) es = cut es i d within ∙ ap (λ x. take i es ++ x ∷ drop (i + 1) es) (sym is) in
     let front = before_all (take i es) (drop (i + 1) es) e (subst (λ (f : Neighbours). IsTrue (is_ascending pair_cmp f)) split sorted) in

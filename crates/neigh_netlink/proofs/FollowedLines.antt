@@ -18,7 +18,8 @@ module _ (n : ℕ) (t : Neighbours) where
   more : (front : List ℕ) (byte : ℕ) → is_no_feed byte ≡ true → length (front ++ byte ∷ []) ≤ longest_line
       → reads (record { following = going; line = front }) byte ≡ record { following = going; line = front ++ byte ∷ [] }
   more front byte plain short =
-      ap (λ b. cond {A = Reading} b (record { following = takes going (line_says front); line = [] }) (record { following = grows going (front ++ byte ∷ []); line = front ++ byte ∷ [] })) (not-true (byte == 10) plain)
+      ap (λ b. cond {A = Reading} b (record { following = takes going (line_says front); line = [] }) (record { following = grows going (front ++ byte ∷ []); line = front ++ byte ∷ [] }))
+      (not-true (byte == 10) plain)
       ∙ ap (λ b. record { following = cond b (bad going Long) going; line = front ++ byte ∷ [] }) (le-ltb longest_line (length (front ++ byte ∷ [])) short)
 
   grown : (front line : List ℕ) → is_line line ≡ true → length (front ++ line) ≤ longest_line

@@ -82,8 +82,10 @@ module _ (edition : Edition) where
     where
       ticket : (q : Key) (b : Bool) → is_of_key q c ≡ b
           → option_map_or (λ (u : Update). u.ticket) (last_update edition (h ++ c ∷ []) q) 0 ≡ cond b (deferred_count edition h) (option_map_or (λ (u : Update). u.ticket) (last_update edition h q) 0)
-      ticket q true is = ap (λ o. option_map_or (λ (u : Update). u.ticket) o 0) (last_update-push edition h c q ∙ ap (λ b. cond b (Some (under_ticket (deferred_count edition h) c)) (last_update edition h q)) is)
-      ticket q false is = ap (λ o. option_map_or (λ (u : Update). u.ticket) o 0) (last_update-push edition h c q ∙ ap (λ b. cond b (Some (under_ticket (deferred_count edition h) c)) (last_update edition h q)) is)
+      ticket q true is =
+          ap (λ o. option_map_or (λ (u : Update). u.ticket) o 0) (last_update-push edition h c q ∙ ap (λ b. cond b (Some (under_ticket (deferred_count edition h) c)) (last_update edition h q)) is)
+      ticket q false is =
+          ap (λ o. option_map_or (λ (u : Update). u.ticket) o 0) (last_update-push edition h c q ∙ ap (λ b. cond b (Some (under_ticket (deferred_count edition h) c)) (last_update edition h q)) is)
 
       by : (q : Key) (b : Bool) → is_of_key q c ≡ b
           → option_map (last_at edition (h ++ c ∷ []) q) (cond b (puts c) (get pair_cmp (table h).addr q))
@@ -206,7 +208,8 @@ module _ (w : World) (chip : Chip) where
       none false = refl
 
       found : (u : Update) (o : Option (ℕ × Kind)) (b : Bool) → put_by u ≡ o → (u.ticket == chip.count) ≡ b → last_update edition w.history k ≡ Some u
-          → option_and_then (λ (last : Last). if is_in_domain w.setup.domains chip.dom x.0 && last.ticket == chip.count then Some (put_message chip.count k x true) else None) (option_map (λ (e : ℕ × Kind). record { ticket = u.ticket; port = e.0; kind = e.1 }) o)
+          → option_and_then (λ (last : Last). if is_in_domain w.setup.domains chip.dom x.0 && last.ticket == chip.count then Some (put_message chip.count k x true) else None)
+          (option_map (λ (e : ℕ × Kind). record { ticket = u.ticket; port = e.0; kind = e.1 }) o)
           ≡ (if is_in_domain w.setup.domains chip.dom x.0 && b then Some (put_message chip.count k x true) else None)
       found u (Some y) b put same last = ap (λ b. if is_in_domain w.setup.domains chip.dom x.0 && b then Some (put_message chip.count k x true) else None) same
       found u None false put same last = none (is_in_domain w.setup.domains chip.dom x.0)
@@ -220,12 +223,15 @@ module _ (w : World) (chip : Chip) where
           → option_and_then (λ (last : Last). if is_in_domain w.setup.domains chip.dom x.0 && last.ticket == chip.count then Some (put_message chip.count k x true) else None)
           (option_map (λ (e : ℕ × Kind). record { ticket = option_map_or (λ (u : Update). u.ticket) (last_update edition w.history k) 0; port = e.0; kind = e.1 }) (option_and_then put_by o))
           ≡ (if is_in_domain w.setup.domains chip.dom x.0 && is_last w k chip.count then Some (put_message chip.count k x true) else None)
-      by None last = none (is_in_domain w.setup.domains chip.dom x.0) ∙ ap (λ (o : Option Update). if is_in_domain w.setup.domains chip.dom x.0 && option_map_or (λ u. u.ticket == chip.count) o false then Some (put_message chip.count k x true) else None) (sym last)
+      by None last = none (is_in_domain w.setup.domains chip.dom x.0)
+          ∙ ap (λ (o : Option Update). if is_in_domain w.setup.domains chip.dom x.0 && option_map_or (λ u. u.ticket == chip.count) o false then Some (put_message chip.count k x true) else None)
+          (sym last)
       by (Some u) last =
           ap (λ (o : Option Update). option_and_then (λ (last : Last). if is_in_domain w.setup.domains chip.dom x.0 && last.ticket == chip.count then Some (put_message chip.count k x true) else None)
           (option_map (λ (e : ℕ × Kind). record { ticket = option_map_or (λ (u : Update). u.ticket) o 0; port = e.0; kind = e.1 }) (put_by u))) last
           ∙ found u (put_by u) (u.ticket == chip.count) refl refl last
-          ∙ ap (λ (o : Option Update). if is_in_domain w.setup.domains chip.dom x.0 && option_map_or (λ u. u.ticket == chip.count) o false then Some (put_message chip.count k x true) else None) (sym last)
+          ∙ ap (λ (o : Option Update). if is_in_domain w.setup.domains chip.dom x.0 && option_map_or (λ u. u.ticket == chip.count) o false then Some (put_message chip.count k x true) else None)
+          (sym last)
 
   same-part : (c : Change) → next_of w chip ≡ Some c → (part : Option (Key × Option (ℕ × Kind))) → address_part c ≡ part
       → option_and_then (λ p. option_and_then (offload_by kept chip.dom chip.count p.0) p.1) part ≡ option_and_then (λ p. offload_message w chip p.0 p.1) part

@@ -1,5 +1,6 @@
 -- The last deferred change of an address entry, and what the table has at its key.
-use Rattle.std.proofs.Common.{◌≡◌, ℕ, zero, suc, ◌+◌, Bool, true, false, T, not, cond, Some, None, Option, List, [], ◌∷◌, ◌++◌, map, slice_get, ◌⊎◌, inl, inr, refl, sym, ap, subst, ◌∙◌, append_assoc, append-nil, ⊎_elim, arith}
+use Rattle.std.proofs.Common.{◌≡◌, ℕ, zero, suc, ◌+◌, Bool, true, false, T, not, cond, Some, None, Option, List, []}
+use Rattle.std.proofs.Common.{◌∷◌, ◌++◌, map, slice_get, ◌⊎◌, inl, inr, refl, sym, ap, subst, ◌∙◌, append_assoc, append-nil, ⊎_elim, arith}
 use Rattle.std.specs.List.{filter, fold, enumerate_from, last_or}
 use Rattle.std.specs.Option.{option_and_then}
 use Rattle.std.specs.Ordering.{eq_by_cmp}
@@ -83,7 +84,8 @@ module _ (edition : Edition) where
       by true = let e : 0 + deferred_count edition h ≡ deferred_count edition h = omega arith in ap (λ n. under_ticket n c ∷ []) e
       by false = refl
 
-  pub last_update-push : (h : List Change) (c : Change) (q : Key) → last_update edition (h ++ c ∷ []) q ≡ cond (is_of_key q c) (Some (under_ticket (deferred_count edition h) c)) (last_update edition h q)
+  pub last_update-push : (h : List Change) (c : Change) (q : Key)
+      → last_update edition (h ++ c ∷ []) q ≡ cond (is_of_key q c) (Some (under_ticket (deferred_count edition h) c)) (last_update edition h q)
   last_update-push h c q = ap (λ l. last_or None (filter is_its l)) (updates-push h c) ∙ by (deferred edition c) refl
     where
       is_its : Update → Bool

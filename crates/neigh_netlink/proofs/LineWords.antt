@@ -1,5 +1,6 @@
 -- The words of a line, one after another, and the digits of bytes.
-use Rattle.std.proofs.Common.{◌≡◌, ℕ, zero, suc, ◌+◌, ◌*◌, ◌<◌, ◌≤◌, ◌==◌, true, false, not, cond, List, [], ◌∷◌, ◌++◌, length, take, drop, get_or, Option, Some, None, is_some, slice_index, ◌-◌, refl, sym, ap, ◌∙◌, append-nil, arith}
+use Rattle.std.proofs.Common.{◌≡◌, ℕ, zero, suc, ◌+◌, ◌*◌, ◌<◌, ◌≤◌, ◌==◌, true, false, not, cond, List, [], ◌∷◌, ◌++◌}
+use Rattle.std.proofs.Common.{length, take, drop, get_or, Option, Some, None, is_some, slice_index, ◌-◌, refl, sym, ap, ◌∙◌, append-nil, arith}
 use Rattle.std.specs.List.{filter, list_all, slice_split, onto_first}
 use Rattle.std.specs.Cmp.{first_so, second_so}
 use Rattle.std.proofs.lemmas.Bool.{and_from, eq-eqb, eqb-true, ne_eqb, not-true}
@@ -75,7 +76,8 @@ hex-length [] bytes h = let e : bytes ≡ [] = cc in omega (arith, ap length e)
 hex-length (c ∷ []) bytes h = absurd (cc)
 hex-length (c ∷ d ∷ cs) bytes h = by (hex-length cs) (byte_of (nibble c) (nibble d)) (bytes_from_hex cs) refl h
   where
-    by : ((bytes : List ℕ) → bytes_from_hex cs ≡ Some bytes → length cs ≡ 2 * length bytes) → (b : Option ℕ) (rest : Option (List ℕ)) → bytes_from_hex cs ≡ rest → in_front b rest ≡ Some bytes → length (c ∷ d ∷ cs) ≡ 2 * length bytes
+    by : ((bytes : List ℕ) → bytes_from_hex cs ≡ Some bytes → length cs ≡ 2 * length bytes) → (b : Option ℕ) (rest : Option (List ℕ)) → bytes_from_hex cs ≡ rest → in_front b rest ≡ Some bytes
+        → length (c ∷ d ∷ cs) ≡ 2 * length bytes
     by shorter None rest is h = absurd (cc)
     by shorter (Some b) None is h = absurd (cc)
     by shorter (Some b) (Some more) is h = let e : bytes ≡ b ∷ more = cc in omega (arith, ap length e, shorter more is)

@@ -73,7 +73,8 @@ module _ (f : Following) (going_on : f.ending ≡ Going) where
       → reads (at front) byte ≡ record { following = cond over (bad f Long) f; line = front ++ byte ∷ [] }
   step front byte over plain is =
       ap (λ (d : Ending). reads_at d (at front) byte) going_on
-      ∙ ap (λ b. cond {A = Reading} b (record { following = takes f (line_says front); line = [] }) (record { following = grows f (front ++ byte ∷ []); line = front ++ byte ∷ [] })) (not-true (byte == 10) plain)
+      ∙ ap (λ b. cond {A = Reading} b (record { following = takes f (line_says front); line = [] }) (record { following = grows f (front ++ byte ∷ []); line = front ++ byte ∷ [] }))
+      (not-true (byte == 10) plain)
       ∙ ap (λ b. record { following = cond b (bad f Long) f; line = front ++ byte ∷ [] }) is
 
   long-grown : (front line : List ℕ) → is_line line ≡ true → length front ≤ longest_line → longest_line < length (front ++ line)

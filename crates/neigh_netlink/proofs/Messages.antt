@@ -1,5 +1,6 @@
 -- Lines of messages that are taken give the table of these messages.
-use Rattle.std.proofs.Common.{◌≡◌, ℕ, zero, suc, ◌+◌, ◌/◌, ◌%◌, ◌^◌, ◌<◌, ◌≤◌, Bool, true, false, not, cond, List, [], ◌∷◌, ◌++◌, length, Option, None, Some, Ok, Err, refl, ap, ◌∙◌, append_assoc, length-append, arith}
+use Rattle.std.proofs.Common.{◌≡◌, ℕ, zero, suc, ◌+◌, ◌/◌, ◌%◌, ◌^◌, ◌<◌, ◌≤◌, Bool, true, false, not, cond, List}
+use Rattle.std.proofs.Common.{[], ◌∷◌, ◌++◌, length, Option, None, Some, Ok, Err, refl, ap, ◌∙◌, append_assoc, length-append, arith}
 use Rattle.std.specs.Prelude.{codes, nat_lt, if◌then◌else◌}
 use Rattle.std.specs.Cmp.{first_so, second_so}
 use Rattle.std.specs.Int.{Width, w16, w32, byte_at, byte_len, bytes_high_first, bytes_low_first, to_le_bytes}
@@ -164,7 +165,8 @@ none-of : (o : Option TakeFault) → not (is_some o) ≡ true → o ≡ None
 none-of None h = refl
 none-of (Some why) h = absurd (cc)
 
-one-read : (m : Neigh) (n : ℕ) (t : Neighbours) (more : List ℕ) → is_whole m ≡ true → fault_of t m ≡ None → fold reads (at n t) (message_line m ++ more) ≡ fold reads (at (n + 1) (after_message t m)) more
+one-read : (m : Neigh) (n : ℕ) (t : Neighbours) (more : List ℕ) → is_whole m ≡ true → fault_of t m ≡ None
+    → fold reads (at n t) (message_line m ++ more) ≡ fold reads (at (n + 1) (after_message t m)) more
 one-read m n t more whole taken =
     let rest = second_so (has_ranges m) _ whole in
     let mac = ltb-true m.mac (2 ^ 48) (first_so (nat_lt m.mac (2 ^ 48)) _ rest) in

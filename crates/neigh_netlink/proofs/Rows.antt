@@ -7,7 +7,8 @@ use Rattle.br_model.specs.Worked.Rows.{first_frame_text}
 use Rattle.neigh_netlink.specs.Follow.{followed, follows}
 use Rattle.neigh_netlink.specs.Messages.{written}
 use Rattle.neigh_netlink.specs.Monitor.{messages, monitored}
-use Rattle.neigh_netlink.specs.Worked.{absent_entry_text, bad_line, monitor_and_follow_followed, monitor_and_follow_told, moved_entry_followed, moved_entry_told, offloaded_entry_followed, offloaded_entry_text, other_padding_text}
+use Rattle.neigh_netlink.specs.Worked.{absent_entry_text, bad_line, monitor_and_follow_followed, monitor_and_follow_told, moved_entry_followed}
+use Rattle.neigh_netlink.specs.Worked.{moved_entry_told, offloaded_entry_followed, offloaded_entry_text, other_padding_text}
 
 unfoldable monitoring : Unit {0}
 unfolding computing written messages monitored

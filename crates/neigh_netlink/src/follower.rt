@@ -4,9 +4,8 @@ ghost use Rattle.std.specs.String.{string_bytes};
 ghost use Rattle.neigh_netlink.specs.Follow.{Going, bad, closes_at, followed_at, line_says, opened, takes};
 ghost use Rattle.neigh_netlink.specs.MessageLines.{ended_by, ending_of};
 
-use crate::NoMemory;
 use crate::row_lines::append_table;
-use crate::{LineFault, Table, append_bad, says_end};
+use crate::{LineFault, NoMemory, Table, append_bad, says_end};
 use std::alloc::Global;
 use std::marker::Model;
 

@@ -6,8 +6,7 @@ ghost use Rattle.br_model.specs.Text.Spelling.{further};
 ghost use Rattle.neigh_netlink.specs.Follow.{row_line};
 ghost use Rattle.neigh_netlink.specs.Neighbours.{rows};
 
-use crate::NoMemory;
-use crate::Table;
+use crate::{NoMemory, Table};
 use br_model::change::Kind;
 use br_model::numbers::{Mac, Port, Vid};
 use br_model::spelling::{append_mac, kind_word};

@@ -1,5 +1,6 @@
 -- Lists of keys: two sorted lists that have the same keys are equal, and so a sort gives the keys of entries in order.
-use Rattle.std.proofs.Common.{◌≡◌, ℕ, zero, suc, ◌+◌, ◌<◌, Bool, true, false, cond, Option, None, Some, List, [], ◌∷◌, get_or, map, filter, filter_map, IsPermutation, IsSorted, refl, sym, ap, subst, ◌∙◌, arith}
+use Rattle.std.proofs.Common.{◌≡◌, ℕ, zero, suc, ◌+◌, ◌<◌, Bool, true, false, cond, Option, None, Some, List}
+use Rattle.std.proofs.Common.{[], ◌∷◌, get_or, map, filter, filter_map, IsPermutation, IsSorted, refl, sym, ap, subst, ◌∙◌, arith}
 use Rattle.std.specs.List.{cons_option}
 use Rattle.std.specs.Ordering.{is_eq, is_gt, is_lt, eq_by_cmp, nat_cmp}
 use Rattle.std.specs.declared.cmp.Ordering.{Ordering}
@@ -115,7 +116,8 @@ module _ {V : Type 0} (p : V → Bool) where
   times-put : (q k : ℕ) (x : V) (es : List (ℕ × V)) → find nat_cmp k es ≡ None → times q (keys_where p (put nat_cmp k x es)) ≡ cond (p x) (hit q k) 0 + times q (keys_where p es)
   times-put q k x [] none = times-first q (k, x) []
   times-put q k x (f ∷ es) none =
-      elim (nat_cmp k f.0) as (λ r. nat_cmp k f.0 ≡ r → times q (keys_where p (by_order r ((k, x) ∷ f ∷ es) ((f.0, x) ∷ es) (f ∷ put nat_cmp k x es))) ≡ cond (p x) (hit q k) 0 + times q (keys_where p (f ∷ es))) [
+      elim (nat_cmp k f.0) as (λ r. nat_cmp k f.0 ≡ r
+      → times q (keys_where p (by_order r ((k, x) ∷ f ∷ es) ((f.0, x) ∷ es) (f ∷ put nat_cmp k x es))) ≡ cond (p x) (hit q k) 0 + times q (keys_where p (f ∷ es))) [
         | Less ↦ λ is. times-first q (k, x) (f ∷ es)
         | Equal ↦ λ is. (let some : Some f.1 ≡ None = sym (ap (λ r. cond (is_eq r) (Some f.1) (find nat_cmp k es)) is) ∙ none in absurd (cc))
         | Greater ↦ λ is.

@@ -30,7 +30,8 @@ module _ {V : Type 0} where
   value-empty : (q : ℕ) (cs : List (Option (ℕ × V))) → q ≢ 0 → value_at (None ∷ cs) q ≡ value_at cs q
   value-empty q cs some = ap (λ b. in_cell (cond b (Some None) (Rattle.std.specs.List.find (has key_of q) cs))) (ne_eqb 0 q (λ z. some (sym z)))
 
-  find-with : (q k : ℕ) (v : V) (cs : List (Option (ℕ × V))) → q ≢ 0 → find nat_cmp q (entries_of cs) ≡ value_at cs q → find nat_cmp q (with_cell k v (entries_of cs)) ≡ cond (eqb k q) (Some v) (value_at cs q)
+  find-with : (q k : ℕ) (v : V) (cs : List (Option (ℕ × V))) → q ≢ 0 → find nat_cmp q (entries_of cs) ≡ value_at cs q
+      → find nat_cmp q (with_cell k v (entries_of cs)) ≡ cond (eqb k q) (Some v) (value_at cs q)
   find-with q zero v cs some rest = rest ∙ sym (ap (λ b. cond b (Some v) (value_at cs q)) (ne_eqb 0 q (λ z. some (sym z))))
   find-with q (suc k) v cs some rest =
       find-put nat_cmp nat_cmp_total q (suc k) v (entries_of cs) ∙ (λ i. cond (eq_by_cmp-turned q (suc k) i) (Some v) (rest i))
@@ -58,7 +59,8 @@ module _ {V : Type 0} where
         | suc k ↦ find-entries_of cs (suc k) (λ e. omega arith) ∙ same (suc k) (λ e. omega arith)
       ])
 
-  pub entries-put : (old new : List (Option (ℕ × V))) (k : ℕ) (v : V) → k ≢ 0 → ((q : ℕ) → q ≢ 0 → value_at new q ≡ cond (eqb k q) (Some v) (value_at old q)) → entries_of new ≡ put nat_cmp k v (entries_of old)
+  pub entries-put : (old new : List (Option (ℕ × V))) (k : ℕ) (v : V) → k ≢ 0 → ((q : ℕ) → q ≢ 0 → value_at new q ≡ cond (eqb k q) (Some v) (value_at old q))
+      → entries_of new ≡ put nat_cmp k v (entries_of old)
   entries-put old new k v some same =
       same_table new (put nat_cmp k v (entries_of old)) (is_sorted-put nat_cmp nat_cmp_total k v (entries_of old) (sorted-entries_of old))
       (find-put nat_cmp nat_cmp_total 0 k v (entries_of old) ∙ (λ i. cond ((eq_by_cmp-turned 0 k ∙ ne_eqb k 0 some) i) (Some v) (find-zero old i)))
@@ -106,7 +108,8 @@ module _ {V : Type 0} where
       let all = sum_by-cons (λ (x : Option (ℕ × V)). cond (is_used key_of x) 1 0) (Some (suc k, v)) cs in
       let one : cond {A = ℕ} (not (eqb (suc k) 0)) 1 0 ≡ 1 = ap (λ b. cond {A = ℕ} (not b) 1 0) (ne_eqb (suc k) 0 (λ e. omega arith)) in
       let longer : length (put nat_cmp (suc k) v (entries_of cs)) ≡ length (entries_of cs) + 1 =
-      length-put nat_cmp nat_cmp_total (suc k) v (entries_of cs) (sorted-entries_of cs) ∙ ap (λ (o : Option V). cond (is_some o) (length (entries_of cs)) (length (entries_of cs) + 1)) (alone k v cs apart) in
+      length-put nat_cmp nat_cmp_total (suc k) v (entries_of cs) (sorted-entries_of cs)
+      ∙ ap (λ (o : Option V). cond (is_some o) (length (entries_of cs)) (length (entries_of cs) + 1)) (alone k v cs apart) in
       omega arith
 
   pub length-entries_of : (cs : List (Option (ℕ × V))) → IsApart key_of cs → length (entries_of cs) ≡ count_by (is_used key_of) cs

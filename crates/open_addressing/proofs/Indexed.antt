@@ -1,5 +1,6 @@
 -- An index of keys, as keys come and go.
-use Rattle.std.proofs.Common.{◌≡◌, ◌≢◌, ℕ, zero, suc, ◌+◌, ◌-◌, ◌^◌, ◌<◌, ◌≤◌, Bool, true, false, not, ◌&&◌, eqb, cond, List, [], ◌∷◌, length, get_or, set, replicate, count_by, refl, sym, ap, subst, ◌∙◌, ◌⊎◌, inl, inr, ⊎_elim, ⊥, arith}
+use Rattle.std.proofs.Common.{◌≡◌, ◌≢◌, ℕ, zero, suc, ◌+◌, ◌-◌, ◌^◌, ◌<◌, ◌≤◌, Bool, true, false, not, ◌&&◌, eqb, cond, List}
+use Rattle.std.proofs.Common.{[], ◌∷◌, length, get_or, set, replicate, count_by, refl, sym, ap, subst, ◌∙◌, ◌⊎◌, inl, inr, ⊎_elim, ⊥, arith}
 use Rattle.std.proofs.lemmas.Bool.{cases_eq, cases_lt, eqb-true, eq-eqb, ne_eqb}
 use Rattle.std.proofs.lemmas.List.{get_or-set_same, get_or-set_other, length-set, get_or_past, get_or_read, length-replicate}
 use Rattle.std.proofs.lemmas.List.Sums.{sum_by-cons}
@@ -67,7 +68,8 @@ lists-remove rest r i lt ne l =
     (l.0 - 1, omega (arith, l.1), get_or-remove_above rest r 0 (l.0 - 1) (omega arith) lt ∙ ap (λ j. get_or rest j 0) back ∙ l.2)))
 
 -- what holds of each of a list holds of each of it with one more
-insert_each : (P : ℕ → Type 0) (rest : List ℕ) (r p : ℕ) → r ≤ length rest → P p → ((j : ℕ) → j < length rest → P (get_or rest j 0)) → (j : ℕ) → j < length (insert rest r p) → P (get_or (insert rest r p) j 0)
+insert_each : (P : ℕ → Type 0) (rest : List ℕ) (r p : ℕ) → r ≤ length rest → P p → ((j : ℕ) → j < length rest → P (get_or rest j 0)) → (j : ℕ) → j < length (insert rest r p)
+    → P (get_or (insert rest r p) j 0)
 insert_each P rest r p le here each j h =
     let long = length-insert rest r p le in
     by_lt j r
@@ -80,7 +82,8 @@ insert_each P rest r p le here each j h =
     subst P (sym (ap (λ i. get_or (insert rest r p) i 0) (sym back) ∙ get_or-insert_above rest r p 0 (j - 1) (omega arith) le)) (each (j - 1) (omega arith))))
 
 -- and with one less
-remove_each : (P : ℕ → Type 0) (rest : List ℕ) (r : ℕ) → r < length rest → ((j : ℕ) → j < length rest → j ≢ r → P (get_or rest j 0)) → (j : ℕ) → j < length (remove rest r) → P (get_or (remove rest r) j 0)
+remove_each : (P : ℕ → Type 0) (rest : List ℕ) (r : ℕ) → r < length rest → ((j : ℕ) → j < length rest → j ≢ r → P (get_or rest j 0)) → (j : ℕ) → j < length (remove rest r)
+    → P (get_or (remove rest r) j 0)
 remove_each P rest r lt each j h =
     let long = length-remove rest r lt in
     by_lt j r
@@ -205,7 +208,9 @@ module _ (hash : ℕ → ℕ) (bits : ℕ) (at : ℕ → ℕ) (slots rest : List
             let key : at' (get_or (set slots (home k) (p + 1)) s 0 - 1) ≡ at (get_or slots s 0 - 1) = ap (λ n. at' (n - 1)) is ∙ others (get_or slots s 0 - 1) (other (get_or slots s 0 - 1) old.0) in
             ((λ z. old.0 (sym key ∙ z)), ap home key ∙ old.1));
         listed = λ j h. keeps (get_or rest j 0) (other _ (x.listed j h)) (x.listed j h);
-        ascending = λ j l lt h. (let a = others (get_or rest j 0) (other _ (x.listed j (omega arith))) in let b = others (get_or rest l 0) (other _ (x.listed l h)) in let less = x.ascending j l lt h in omega arith);
+        ascending =
+            λ j l lt h. (let a = others (get_or rest j 0) (other _ (x.listed j (omega arith))) in let b = others (get_or rest l 0) (other _ (x.listed l h)) in let less = x.ascending j l lt h in
+            omega arith);
         apart = λ j h.
             let i : ℕ = get_or rest j 0 in
             let ne : i ≢ p = other i (x.listed j h) in
@@ -215,7 +220,8 @@ module _ (hash : ℕ → ℕ) (bits : ℕ) (at : ℕ → ℕ) (slots rest : List
       }
 
       -- it comes into the list, where the slot names another
-      pub enters_list : (r : ℕ) → is_taken (slot_of hash bits slots k) ≡ true → r ≤ length rest → ((j : ℕ) → j < r → at (get_or rest j 0) < k) → ((j : ℕ) → r ≤ j → j < length rest → k ≤ at (get_or rest j 0))
+      pub enters_list : (r : ℕ) → is_taken (slot_of hash bits slots k) ≡ true → r ≤ length rest → ((j : ℕ) → j < r → at (get_or rest j 0) < k)
+          → ((j : ℕ) → r ≤ j → j < length rest → k ≤ at (get_or rest j 0))
           → ((i : ℕ) → at i ≢ k) → IsIndexed hash bits at' slots (insert rest r p)
       enters_list r full le low high absent = record {
         hashes = x.hashes;

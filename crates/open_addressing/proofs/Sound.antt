@@ -89,14 +89,16 @@ module _ {V : Type 0} where
         )
 
     -- a key is taken out
-    pub sound-out : (i used' : ℕ) (new : List (Option (ℕ × V))) (bits' : ℕ) (slots' rest' : List ℕ) (fresh' : ℕ) (free' : List ℕ) → i < length cells → key_in key_of None cells i ≢ 0 → new ≡ set cells i None
+    pub sound-out : (i used' : ℕ) (new : List (Option (ℕ × V))) (bits' : ℕ) (slots' rest' : List ℕ) (fresh' : ℕ) (free' : List ℕ) → i < length cells → key_in key_of None cells i ≢ 0
+        → new ≡ set cells i None
         → IsIndexed hash bits' (key_in key_of None (set cells i None)) slots' rest' → named_by slots' rest' + 1 ≡ named_by slots rest → fresh' ≡ fresh → free' ≡ free ++ i ∷ [] → used' ≡ used - 1
         → IsSound hash bits' slots' rest' fresh' free' used' room new × ((q : ℕ) → q ≢ 0 → value_at new q ≡ cond (eqb (key_in key_of None cells i) q) None (value_at cells q))
     sound-out i used' new bits' slots' rest' fresh' free' h some is index named fresh_is free_is less =
         let r = cells-out used room cells sound.cells i used' h some less in
         let gone : key_in key_of None (set cells i None) i ≡ 0 = key-set cells i None h in
         let spare : AreSpare (key_in key_of None (set cells i None)) used' room fresh (free ++ i ∷ []) =
-        spare-left (key_in key_of None cells) used room fresh free sound.spare (key_in key_of None (set cells i None)) i used' some gone (λ x ne. key-kept cells i None x ne) (omega (arith, named, sound.named)) in (
+        spare-left (key_in key_of None cells) used room fresh free sound.spare (key_in key_of None (set cells i None)) i used' some gone (λ x ne. key-kept cells i None x ne)
+        (omega (arith, named, sound.named)) in (
           record {
             cells = subst (AreCells used' room) (sym is) r.0;
             index = subst (λ (cs : List (Option (ℕ × V))). IsIndexed hash bits' (key_in key_of None cs) slots' rest') (sym is) index;

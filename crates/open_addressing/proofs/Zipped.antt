@@ -1,5 +1,6 @@
 -- Keys with their values as cells.
-use Rattle.std.proofs.Common.{◌≡◌, ◌≢◌, ℕ, zero, suc, ◌<◌, ◌≤◌, Bool, true, false, cond, Option, None, Some, List, [], ◌∷◌, filter_map, map, length, replicate, get_or, set, refl, sym, ap, subst, ◌∙◌, arith}
+use Rattle.std.proofs.Common.{◌≡◌, ◌≢◌, ℕ, zero, suc, ◌<◌, ◌≤◌, Bool, true, false, cond, Option, None, Some, List}
+use Rattle.std.proofs.Common.{[], ◌∷◌, filter_map, map, length, replicate, get_or, set, refl, sym, ap, subst, ◌∙◌, arith}
 use Rattle.std.specs.List.{cons_option}
 use Rattle.std.proofs.lemmas.List.{get_or-map, length-map, map-set}
 use Rattle.lists.specs.Padded.{padded}
@@ -127,7 +128,8 @@ module _ {V R : Type 0} (over : List (Option (ℕ × V)) → R) (step : Option (
   over-padded (suc n) [] h = over-blank (suc n)
   over-padded (suc n) (c ∷ cs) h = steps c (padded None n cs) ∙ ap (step c) (over-padded n cs (omega arith)) ∙ sym (steps c cs)
 
-pub keys-padded : {V : Type 0} (p : V → Bool) (n : ℕ) (es : List (ℕ × V)) (v : V) → length es ≤ n → filter_map (key_if p) (map pair_cell (padded (0, v) n es)) ≡ filter_map (key_if p) (map pair_cell es)
+pub keys-padded : {V : Type 0} (p : V → Bool) (n : ℕ) (es : List (ℕ × V)) (v : V) → length es ≤ n
+    → filter_map (key_if p) (map pair_cell (padded (0, v) n es)) ≡ filter_map (key_if p) (map pair_cell es)
 keys-padded p n es v h =
     ap (filter_map (key_if p)) (pairs-padded n es v)
     ∙ over-padded (filter_map (key_if p)) (λ c ks. cons_option (key_if p c) ks) (λ c cs. refl) (λ ks. refl) n (map pair_cell es) (let long = length-map es pair_cell in omega arith)

@@ -11,7 +11,8 @@ use Rattle.lemmas.proofs.Tests.{by_if}
 use Rattle.br_model.specs.declared.capture.CapKind.{CapKind}
 use Rattle.br_model.specs.declared.capture.CapKind.TheVariants.{Captured}
 use Rattle.br_model.specs.declared.capture.Packet.{Packet}
-use Rattle.br_model.specs.Wire.Captures.{Block, Capture, Fault, Said, in_front, read_front, read, says, said_packet, packet_by, packet_of, number_in, major_version, section_header, interface_description, enhanced_packet, ethernet}
+use Rattle.br_model.specs.Wire.Captures.{Block, Capture, Fault, Said, in_front, read_front, read, says, said_packet}
+use Rattle.br_model.specs.Wire.Captures.{packet_by, packet_of, number_in, major_version, section_header, interface_description, enhanced_packet, ethernet}
 
 -- what a block says keeps no more interfaces than there are ports, and its packet came by one of them
 abbrev Fits : ℕ → Said → Type 0
@@ -39,7 +40,8 @@ described [] i link is = absurd (cc)
 described (l ∷ links) zero link is = omega arith
 described (l ∷ links) (suc i) link is = omega (arith, described links i link is)
 
-packet_fits : (ports : ℕ) (links : List ℕ) (i : ℕ) (o : Option ℕ) (b : Block) → length links ≤ ports → slice_get links i ≡ o → number_in b.order b.body 0 4 ≡ i → Fits ports (said_packet links (packet_by o b))
+packet_fits : (ports : ℕ) (links : List ℕ) (i : ℕ) (o : Option ℕ) (b : Block) → length links ≤ ports → slice_get links i ≡ o → number_in b.order b.body 0 4 ≡ i
+    → Fits ports (said_packet links (packet_by o b))
 packet_fits ports links i None b few is by = tt
 packet_fits ports links i (Some link) b few is by = fits (packet_by (Some link) b) (came_by (Some link) b)
   where
@@ -56,7 +58,8 @@ says_fits ports links b few =
 abbrev pub has_port : ℕ → Packet → Bool
 has_port ports packet = nat_lt packet.interface ports
 
-all_in_front : (ports : ℕ) (o : Option Packet) (c : Capture) → IfSome o (λ packet. packet.interface < ports) → list_all (has_port ports) c.packets ≡ true → list_all (has_port ports) (in_front o c).packets ≡ true
+all_in_front : (ports : ℕ) (o : Option Packet) (c : Capture) → IfSome o (λ packet. packet.interface < ports) → list_all (has_port ports) c.packets ≡ true
+    → list_all (has_port ports) (in_front o c).packets ≡ true
 all_in_front ports None c below all = all
 all_in_front ports (Some packet) c below all = rw (lt-ltb packet.interface ports below, all) refl
 

@@ -128,7 +128,8 @@ interface_sizes : (order : Order) → length (interface_body order) ≡ 8
 interface_sizes HighFirst = refl
 interface_sizes LowFirst = refl
 
-says_interface : (order : Order) (ports : ℕ) (links : List ℕ) → says ports links (record { order = order; kind = interface_description; body = interface_body order }) ≡ Ok (take ports (links ++ 1 ∷ []), None)
+says_interface : (order : Order) (ports : ℕ) (links : List ℕ)
+    → says ports links (record { order = order; kind = interface_description; body = interface_body order }) ≡ Ok (take ports (links ++ 1 ∷ []), None)
 says_interface HighFirst ports links = refl
 says_interface LowFirst ports links = refl
 
@@ -157,7 +158,14 @@ packet_length order p =
     let captured : List ℕ = p.bytes ++ padding n in
     let original : List ℕ = bytes_in order 4 n ++ captured in
     let time : List ℕ = replicate 8 0 ++ (bytes_in order 4 n ++ original) in
-    omega (arith, length_four order p.interface time, length-append (replicate 8 0) (bytes_in order 4 n ++ original), length_four order n original, length_four order n captured, length-append p.bytes (padding n))
+    omega (
+      arith,
+      length_four order p.interface time,
+      length-append (replicate 8 0) (bytes_in order 4 n ++ original),
+      length_four order n original,
+      length_four order n captured,
+      length-append p.bytes (padding n),
+    )
 
 padded_sizes : (n : ℕ) → n ≤ 1048544 → is_length enhanced_packet (n + (4 - n % 4) % 4 + 20 + 12) ≡ true
 padded_sizes n below = grind (arith, below)
@@ -179,7 +187,8 @@ says_packet order ports n p here below fits =
     let original : List ℕ = bytes_in order 4 len ++ captured in
     let by : number_in order body 0 4 ≡ p.interface = reads_back order p.interface _ (omega (arith, here, below)) in
     let count : number_in order body 12 4 ≡ len =
-    number_behind order body 12 ∙ ap (λ l. number_in order l 0 4) (drop_four order p.interface 8 (replicate 8 0 ++ (bytes_in order 4 len ++ original))) ∙ reads_back order len original (omega (arith, fits)) in
+    number_behind order body 12 ∙ ap (λ l. number_in order l 0 4) (drop_four order p.interface 8 (replicate 8 0 ++ (bytes_in order 4 len ++ original)))
+    ∙ reads_back order len original (omega (arith, fits)) in
     let start : drop 20 body ≡ captured =
     drop_four order p.interface 16 (replicate 8 0 ++ (bytes_in order 4 len ++ original)) ∙ drop_four order len 4 original ∙ drop_four order len 0 captured in
     let long : nat_lt (length body) (20 + len) ≡ false = le-ltb _ _ (omega (arith, packet_length order p)) in

@@ -85,8 +85,10 @@ stands_served s t q r n m f lines e oldest comes left k =
     (stands_after s t q (record q { waiting = drop 1 q.waiting }) n m Serve lines e (serves_oldest s t q f m lines oldest comes) k)
 
 -- what is decided of it
-pub oldest_decided : (old : PlaneState) (s : SidesState) (q : Queued) (n id : ℕ) (f : Waiting) (verdict : Verdict) → record { world = world_of s q n; board = s.board } ≡ old → Some f ≡ slice_get q.waiting 0
-    → id ≡ f.id → Decides s.setup.domains (table (take (length s.published.changes) s.history)) f.port f.head (message f.bytes f.head) verdict → DecidesOldest old.world old.world.waiting (Some (id, verdict))
+pub oldest_decided : (old : PlaneState) (s : SidesState) (q : Queued) (n id : ℕ) (f : Waiting) (verdict : Verdict) → record { world = world_of s q n; board = s.board } ≡ old
+    → Some f ≡ slice_get q.waiting 0
+    → id ≡ f.id → Decides s.setup.domains (table (take (length s.published.changes) s.history)) f.port f.head (message f.bytes f.head) verdict
+    → DecidesOldest old.world old.world.waiting (Some (id, verdict))
 oldest_decided old s q n id f verdict was first named is =
     subst (λ (o : PlaneState). DecidesOldest o.world o.world.waiting (Some (id, verdict))) was (by q.waiting first)
   where
@@ -159,7 +161,8 @@ posts_one old s t q r n m h x f seen lines was found shown same floor is comes l
 
 -- by its floor
 
-pub decided_floor : (old : PlaneState) (s : SidesState) (q : Queued) (n floor : ℕ) (x : Holding) (f : Waiting) (verdict : Verdict) → record { world = world_of s q n; board = s.board } ≡ old → f ≡ x.waiting
+pub decided_floor : (old : PlaneState) (s : SidesState) (q : Queued) (n floor : ℕ) (x : Holding) (f : Waiting) (verdict : Verdict) → record { world = world_of s q n; board = s.board } ≡ old
+    → f ≡ x.waiting
     → floor ≡ x.floor → DecidesFloor old.world x (Some verdict) → Decides s.setup.domains (table (take floor s.history)) f.port f.head (message f.bytes f.head) verdict
 decided_floor old s q n floor x f verdict was same at is =
     let by : DecidesFloor (world_of s q n) x (Some verdict) = subst (λ (o : PlaneState). DecidesFloor o.world x (Some verdict)) (sym was) is in
@@ -183,7 +186,9 @@ posts_floor s t q r id m floor x f lines e same at comes left =
 pub turns_none : (s : SidesState) (q : Queued) (dom m : ℕ) (c : Chip) → chip_in s.chips dom ≡ Some c → slice_get (updates s.setup.domains.edition s.history) c.count ≡ None
     → does (world_of s q m) (Turn dom) ≡ (world_of s q m, lines.Refused m NothingPending ∷ [])
 turns_none s q dom m c found none =
-    ap (turns (world_of s q m)) found ∙ ap (turns_to (world_of s q m) c) (option_map-none (under_ticket c.count) (deferred_at s.setup.domains.edition s.history c.count) (sym (updates-at s.setup.domains.edition s.history c.count) ∙ none))
+    ap (turns (world_of s q m)) found
+    ∙ ap (turns_to (world_of s q m) c)
+    (option_map-none (under_ticket c.count) (deferred_at s.setup.domains.edition s.history c.count) (sym (updates-at s.setup.domains.edition s.history c.count) ∙ none))
 
 -- this one is
 pub turns_one : (s t : SidesState) (q : Queued) (dom m : ℕ) (c : Chip) (u : Update) → chip_in s.chips dom ≡ Some c → slice_get (updates s.setup.domains.edition s.history) c.count ≡ Some u
@@ -196,7 +201,8 @@ turns_one s t q dom m c u found next is =
 pub waits_for : (s : SidesState) (q : Queued) (n dom : ℕ) (c : Chip) (o : Option Update) → chip_in s.chips dom ≡ Some c → slice_get (updates s.setup.domains.edition s.history) c.count ≡ o
     → next_ticket (world_of s q n) (chip_at (world_of s q n) dom) ≡ option_map (λ u. u.ticket) o
 waits_for s q n dom c o found is =
-    ap (next_ticket (world_of s q n)) found ∙ by (deferred_at s.setup.domains.edition s.history c.count) ∙ ap (option_map (λ (u : Update). u.ticket)) (sym (updates-at s.setup.domains.edition s.history c.count) ∙ is)
+    ap (next_ticket (world_of s q n)) found ∙ by (deferred_at s.setup.domains.edition s.history c.count)
+    ∙ ap (option_map (λ (u : Update). u.ticket)) (sym (updates-at s.setup.domains.edition s.history c.count) ∙ is)
   where
     by : (d : Option Change) → option_map (λ x. c.count) d ≡ option_map (λ (u : Update). u.ticket) (option_map (under_ticket c.count) d)
     by None = refl

@@ -54,7 +54,8 @@ both_ok P Q (Ok x) p q = (p, q)
 both_ok P Q (Err e) p q = tt
 
 -- one that differs in what it reports
-pub kept_chip : (domains : Domains) (H : List Change) (old new : ChipState) → IsChip domains H old → new.driver ≡ old.driver → new.chip.dom ≡ old.chip.dom → new.chip.count ≡ old.chip.count → IsChip domains H new
+pub kept_chip : (domains : Domains) (H : List Change) (old new : ChipState) → IsChip domains H old → new.driver ≡ old.driver → new.chip.dom ≡ old.chip.dom → new.chip.count ≡ old.chip.count
+    → IsChip domains H new
 kept_chip domains H old new k driver dom count = record {
   rows = subst (λ d. Drives domains d (table (cut domains.edition H new.chip.count))) (sym driver) (subst (λ n. Drives domains old.driver (table (cut domains.edition H n))) (sym count) k.rows);
   dom = ap (λ d. d.dom) driver ∙ k.dom ∙ sym dom;
@@ -71,7 +72,8 @@ turned_chip domains H old new u k next is drives dom =
     let keep = hit_by-keeps (record old.chip { count = old.chip.count + 1 }) u.change in
     let count : new.chip.count ≡ old.chip.count + 1 = ap (λ (c : Chip). c.count) is ∙ keep.count in
     record {
-      rows = subst (λ n. Drives domains new.driver (table (cut e H n))) (sym count) (subst (Drives domains new.driver) (sym (cut-turn e H old.chip.count u.change at)) (drives domains (table (cut e H old.chip.count)) k.rows));
+      rows = subst (λ n. Drives domains new.driver (table (cut e H n))) (sym count)
+          (subst (Drives domains new.driver) (sym (cut-turn e H old.chip.count u.change at)) (drives domains (table (cut e H old.chip.count)) k.rows));
       dom = dom ∙ k.dom ∙ sym keep.dom ∙ sym (ap (λ (c : Chip). c.dom) is);
       applied = omega (arith, (deferred_at-deferred e H old.chip.count u.change at).1, count);
     }
@@ -109,7 +111,8 @@ module _ (b : Controlled) (states : List ChipState) (noted : List ℕ) (board : 
 abbrev seen : Controlled → Shelf → List Chip → SidesState
 seen b board chips = record { setup = b.setup; history = b.history; control = b.control; chips = chips; published = board.object; board = board.board }
 
-module _ (b : Controlled) (states : List ChipState) (noted : List ℕ) (board : Shelf) (are : AreSides b states noted board) (place : ℕ) (old new : ChipState) (here : slice_get states place ≡ Some old) where
+module _ (b : Controlled) (states : List ChipState) (noted : List ℕ) (board : Shelf) (are : AreSides b states noted board) (place : ℕ) (old new : ChipState)
+    (here : slice_get states place ≡ Some old) where
   pub chip_here : IsChip b.setup.domains b.history old
   chip_here = subst (IsChip b.setup.domains b.history) (get_or_from_slice_get states place old old here) (are.follows.each place old (slice_get_within states place old here))
 
@@ -141,10 +144,12 @@ module _ (b : Controlled) (states : List ChipState) (noted : List ℕ) (board : 
     same_dom = ap (λ (s : ChipState). s.chip.dom) is ∙ (keeps old.chip).0
 
     pub sides_told : AreSides b (set states place new) noted board
-    sides_told = sides_with same_dom (kept_chip b.setup.domains b.history old new chip_here (ap (λ (s : ChipState). s.driver) is) same_dom (ap (λ (s : ChipState). s.chip.count) is ∙ (keeps old.chip).1))
+    sides_told =
+        sides_with same_dom (kept_chip b.setup.domains b.history old new chip_here (ap (λ (s : ChipState). s.driver) is) same_dom (ap (λ (s : ChipState). s.chip.count) is ∙ (keeps old.chip).1))
 
     -- and so it is for contracts, behind a reaction
-    pub reacted_told : (s mid : SidesState) (dom : ℕ) (x : Chip) (before after : List Line) (changes : ℕ) (answer : Result Reaction Refusal) → Reacted of_sides s mid s.chips before after (Ok changes) answer
+    pub reacted_told : (s mid : SidesState) (dom : ℕ) (x : Chip) (before after : List Line) (changes : ℕ) (answer : Result Reaction Refusal)
+        → Reacted of_sides s mid s.chips before after (Ok changes) answer
         → seen b board (chips_of states) ≡ mid → IsPlace states dom (Some place) → chip_in s.chips dom ≡ Some x
         → Reacted of_sides s (seen b board (chips_of (set states place new))) (put_chip s.chips (f x)) before after (Ok changes) answer
     reacted_told s mid dom x before after changes answer did was at found = (

@@ -20,7 +20,8 @@ use Rattle.hwdom_chips.specs.Chips.{AreChips, ChipState}
 use Rattle.plane_parts.specs.Places.{places}
 use Rattle.plane_core.specs.Sides.{SidesState, AreSides, of_sides}
 
-module _ (old new : Controlled) (chips : List ChipState) (noted : List ℕ) (board : Shelf) (r : Reaction) (from : ℕ) (are : AreSides old chips noted board) (is : new ≡ reacted old r) (at : from ≡ length old.history) where
+module _ (old new : Controlled) (chips : List ChipState) (noted : List ℕ) (board : Shelf) (r : Reaction) (from : ℕ) (are : AreSides old chips noted board) (is : new ≡ reacted old r)
+    (at : from ≡ length old.history) where
   -- the chips before the reaction follow the front that was there, and its places are noted
   pub chips_before : AreChips new.setup.domains (take from new.history) chips
   chips_before = before (λ (d : Domains) (h : List Change). AreChips d h chips) old new r from is at are.follows
@@ -44,7 +45,8 @@ module _ (old new : Controlled) (chips : List ChipState) (noted : List ℕ) (boa
       }
 
 -- the board stays
-pub same_board : (s t : SidesState) (kept : List Chip) (before after : List Line) (outcome : Result ℕ EventFault) (answer : Result Reaction Refusal) → Reacted of_sides s t kept before after outcome answer → t.board ≡ s.board
+pub same_board : (s t : SidesState) (kept : List Chip) (before after : List Line) (outcome : Result ℕ EventFault) (answer : Result Reaction Refusal)
+    → Reacted of_sides s t kept before after outcome answer → t.board ≡ s.board
 same_board s t kept before after (Ok changes) answer did = ap (λ (x : SidesState). x.board) did.3
 same_board s t kept before after (Err (Refused why)) answer did = ap (λ (x : SidesState). x.board) did.1
 same_board s t kept before after (Err NoMemory) answer did = ap (λ (x : SidesState). x.board) did.0

@@ -331,7 +331,12 @@ impl Plane {
     }
 
     /// As `accept`, with the lines of the step behind these.
-    pub fn accept_to(&mut self, alloc: Global, event: &Event, lines: &mut Lines) -> Result<(), NoMemory>
+    pub fn accept_to(
+        &mut self,
+        alloc: Global,
+        event: &Event,
+        lines: &mut Lines,
+    ) -> Result<(), NoMemory>
         requires { IsNamed event.now }
         ensures ok { OnOk result (Added (Accepts self.old self.new event.now) lines.old.lines lines.new.lines) }
         ensures err { OnErr result (self.new ≡ self.old) }
@@ -355,7 +360,12 @@ impl Plane {
     }
 
     /// As `turn`, with the lines of the step behind these.
-    pub fn turn_to(&mut self, dom: Dom, update: Option<Update>, lines: &mut Lines) -> Result<(), TurnFault>
+    pub fn turn_to(
+        &mut self,
+        dom: Dom,
+        update: Option<Update>,
+        lines: &mut Lines,
+    ) -> Result<(), TurnFault>
         requires { has_chip self.old.world.setup.domains dom ≡ true }
         ensures turned { TurnedTo self.old self.new dom update lines.old.lines lines.new.lines result }
         ensures saved { OnOk result (KeepsSaved lines.old lines.new) }
@@ -550,10 +560,14 @@ impl Plane {
                 published,
             });
         }
-        match self
-            .sides
-            .post(alloc, step, holding.frame(), &seen.verdict, seen.point, lines)
-        {
+        match self.sides.post(
+            alloc,
+            step,
+            holding.frame(),
+            &seen.verdict,
+            seen.point,
+            lines,
+        ) {
             Ok(()) => {
                 let _holding = self.frames.release(held.id);
                 self.steps = step;

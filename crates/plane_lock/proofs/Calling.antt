@@ -52,6 +52,7 @@ module _ (name : Whose) (own : ℕ) (kept now : Past) (is : IsOf name own kept) 
   opens-some known (Ok held) oldest told = record { past = now; is_of = found; oldest = oldest; told = told }
   opens-some known (Err e) oldest told = tt
 
-  pub posts-on-some : (next : Past) (h : Held) (n : Seen) (known : Object) (result : Result Listed PostFault) → PostActed now next h n result → OnOk result (Begins known (published_in (world_of next)))
+  pub posts-on-some : (next : Past) (h : Held) (n : Seen) (known : Object) (result : Result Listed PostFault) → PostActed now next h n result
+      → OnOk result (Begins known (published_in (world_of next)))
       → PostsOnSome name own h n known result
   posts-on-some next h n known result posted told = record { past = now; is_of = found; next = next; posted = posted; told = told }

@@ -111,18 +111,22 @@ pub decides : (k known : Object) (w : World) (h : Held) (x : Holding) (n : Seen)
 decides k known w h x n world pk pn kn kw seen copy le =
     let few : length (take w.published w.history) ≡ w.published = length-take-le w.published w.history world.counts.within in
     let last : last_or None w.counts ≡ Some (length (take w.published w.history)) = world.counts.last ∙ ap (λ m. Some m) (sym few) in
-    let r = one-list k.changes known.changes (take w.published w.history) k.counts known.counts w.counts (sorted k pk) (within known pn) last kn.changes kw.changes kn.counts kw.counts n.point seen.point (omega (arith, le, few)) in
+    let r = one-list k.changes known.changes (take w.published w.history) k.counts known.counts w.counts (sorted k pk)
+    (within known pn) last kn.changes kw.changes kn.counts kw.counts n.point seen.point (omega (arith, le, few)) in
     let same : take n.point known.changes ≡ take n.point w.history = r.1 ∙ take-take n.point w.published w.history le in
     let bytes : h.bytes ≡ x.waiting.bytes = ap (λ (s : Shown). s.bytes) copy.same in
     let port : h.port ≡ x.waiting.port = ap (λ (s : Shown). s.port) copy.same in
     let head : frame h.bytes ≡ Ok x.waiting.head = ap frame bytes ∙ held-head w h.id x world copy.held in
     record {
       point = r.0;
-      verdict = subst (λ (y : Table × ℕ × List ℕ). Decides w.setup.domains y.0 y.1 x.waiting.head (message y.2 x.waiting.head) n.verdict) (λ i. (table (same i), port i, bytes i)) (seen.verdict x.waiting.head head);
+      verdict =
+          subst (λ (y : Table × ℕ × List ℕ). Decides w.setup.domains y.0 y.1 x.waiting.head (message y.2 x.waiting.head) n.verdict) (λ i. (table (same i), port i, bytes i))
+          (seen.verdict x.waiting.head head);
     }
 
 -- the same of a past: the seat was told what is published there
-pub may-post : (p : Past) (domains : Domains) (own : ℕ) (k known seat : Object) (h : Held) (n : Seen) → p.setup ≡ record { domains = domains; own = own } → IsPublished k → IsPublished known → Begins k known
+pub may-post : (p : Past) (domains : Domains) (own : ℕ) (k known seat : Object) (h : Held) (n : Seen) → p.setup ≡ record { domains = domains; own = own } → IsPublished k → IsPublished known
+    → Begins k known
     → Begins k (published_in (world_of p)) → known ≡ seat → IsSeen domains seat h n → (x : Holding) → IsCopy (world_of p) h x → n.point ≤ (world_of p).published → IsDecision (world_of p) x n
 may-post p domains own k known seat h n setup pk pn kn kw same seen x copy le =
     let ds : domains ≡ (world_of p).setup.domains = sym (ap (λ (s : Setup). s.domains) (world-setup p ∙ setup)) in

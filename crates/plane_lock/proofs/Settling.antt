@@ -51,7 +51,8 @@ may-settle p s q posters n is posted many = (
   (world_of p).history,
   subst (λ (x : Past). HavePosted (updates x.setup.domains.edition (world_of p).history) posters) (sym is) posted,
   many,
-  subst (λ (x : Past). IsPrefix (world_of p).history (world_of x).history) (sym is) (subst (λ (w : World). IsPrefix (world_of p).history w.history) (sym (world-after p s)) (step-grows (world_of p) s)),
+  subst (λ (x : Past). IsPrefix (world_of p).history (world_of x).history) (sym is)
+      (subst (λ (w : World). IsPrefix (world_of p).history w.history) (sym (world-after p s)) (step-grows (world_of p) s)),
 )
 
 -- what the lock keeps of a run and the ends of its queues
@@ -72,7 +73,8 @@ keeps (Ok e) old new s board own posters ok err same k = (
 keeps (Err e) old new s board own posters ok err same k = subst (λ (p : Past). IsLocked board own p posters) (sym err) k
 
 -- a call that took a step and settled what it accepted
-pub settles : (old mid new : Past) (s : Step) (n : ℕ) (board : Whose) (own : ℕ) (before after_ : List Posting) → mid ≡ after old s → (new ≡ published_after n mid) ⊎ (new ≡ mid) → HavePosted (updates_of new) after_
+pub settles : (old mid new : Past) (s : Step) (n : ℕ) (board : Whose) (own : ℕ) (before after_ : List Posting) → mid ≡ after old s → (new ≡ published_after n mid) ⊎ (new ≡ mid)
+    → HavePosted (updates_of new) after_
     → length after_ ≡ length before → IsLocked board own old before → IsLocked board own new after_
 settles old mid new s n board own before after_ is got posted ends k = (over got ∙ k.0, set got ∙ k.1, posted, ends ∙ k.3)
   where
@@ -97,7 +99,8 @@ pub counted-other : (p : Past) (plane : PlaneState) (h : List Change) (n : ℕ) 
 counted-other p plane h n other is same e = other (ap length (is ∙ ap (λ (s : PlaneState). s.world.history) same) ∙ e)
 
 -- what is answered once what a step accepted is settled
-pub acts : (r : Result Listed ActFault) (old mid new : Past) (s : Step) (n : ℕ) (said : Listed) → mid ≡ after old s → said.lines ≡ said_by old s → n ≡ changes_of old → OnOk r (new ≡ published_after n mid)
+pub acts : (r : Result Listed ActFault) (old mid new : Past) (s : Step) (n : ℕ) (said : Listed) → mid ≡ after old s → said.lines ≡ said_by old s → n ≡ changes_of old
+    → OnOk r (new ≡ published_after n mid)
     → IfOk r (λ l. l ≡ said) → IfErr r (λ f. (f ≡ Unpublished said) × (new ≡ mid) × (changes_of mid ≢ n)) → Acted old new s r
 acts (Ok l) old mid new s n said is lines many ok same err = (ok ∙ (λ i. published_after (many i) (is i)), ap (λ (x : Listed). x.lines) same ∙ lines)
 acts (Err f) old mid new s n said is lines many ok same err =
@@ -115,7 +118,8 @@ updates-there p plane is =
     ap (λ (s : PlaneState). updates s.world.setup.domains.edition s.world.history) is ∙ ap (λ (s : Setup). updates s.domains.edition (world_of p).history) (world-setup p)
 
 -- what the ends have posted stands before the updates of the plane
-pub may-post-all : (p : Past) (plane : PlaneState) (posters : List Posting) → plane ≡ state_of p → (h : List Change) → HavePosted (updates p.setup.domains.edition h) posters → IsPrefix h (world_of p).history
+pub may-post-all : (p : Past) (plane : PlaneState) (posters : List Posting) → plane ≡ state_of p → (h : List Change) → HavePosted (updates p.setup.domains.edition h) posters
+    → IsPrefix h (world_of p).history
     → (us : List Update) × HavePosted us posters × IsPrefix us (updates plane.world.setup.domains.edition plane.world.history)
 may-post-all p plane posters is h posted grown = (
   updates p.setup.domains.edition h,

@@ -74,7 +74,12 @@ fn apply_next<N: Name, R: Wait>(
 impl<N: Name> Shared<N> {
     /// The run behind the lock. Its queues are those of the domains that have a chip, ascending, and each has been posted the updates
     /// of the run. After want of memory the run and the queues are ended.
-    pub fn make<R: Wait>(rt: &R, alloc: Global, ran: Ran, queues: Queues) -> Result<Shared<N>, NoMemory>
+    pub fn make<R: Wait>(
+        rt: &R,
+        alloc: Global,
+        ran: Ran,
+        queues: Queues,
+    ) -> Result<Shared<N>, NoMemory>
         requires board { ran.board ≡ N.board }
         requires setup { ran.setup ≡ record { domains = N.board.domains; own = N.own } }
         requires doms { map (λ x. x.dom) queues ≡ chip_domains N.board.domains }
@@ -150,7 +155,13 @@ impl<N: Name> Shared<N> {
 
     /// The same of updates one after another, at most so many, without the plane's lock where the queue tells of none. Nothing where
     /// another call has the driver's lock.
-    pub fn turns<R: Wait>(&self, rt: &R, alloc: Global, dom: Dom, most: usize) -> Result<(), NoMemory>
+    pub fn turns<R: Wait>(
+        &self,
+        rt: &R,
+        alloc: Global,
+        dom: Dom,
+        most: usize,
+    ) -> Result<(), NoMemory>
         requires { has_chip N.board.domains dom ≡ true }
     {
         let driver = &self.drivers[place_of(&self.drivers, dom)];

@@ -37,10 +37,14 @@ all_others id (h ∷ held) ys below = rw (apart id h.waiting.id (first_so _ _ be
 pub remaining : (id : ℕ) (held : List Holding) (ys : List ℕ) → ascends (held_ids held ++ ys) ≡ true
     → remove_entry (is_at (nat_cmp id)) (under_ids held) ≡ under_ids (filter (λ h. not (h.waiting.id == id)) held)
 remaining id [] ys up = refl
-remaining id (h ∷ held) ys up = rw (is_at_id id h.waiting.id) (elim (h.waiting.id == id) as (λ b. (h.waiting.id == id) ≡ b → cond b (under_ids held) ((h.waiting.id, h) ∷ remove_entry (is_at (nat_cmp id)) (under_ids held)) ≡ under_ids (cond (not b) (h ∷ filter (λ k. not (k.waiting.id == id)) held) (filter (λ k. not (k.waiting.id == id)) held))) [
-  | true ↦ λ e. ap under_ids (sym (all_others id held ys (rw (sym (eqb-true h.waiting.id id e)) (first_so _ _ up))))
-  | false ↦ λ e. ap (λ es. (h.waiting.id, h) ∷ es) (remaining id held ys (second_so _ _ up))
-] refl)
+remaining id (h ∷ held) ys up =
+    rw (is_at_id id h.waiting.id)
+    (elim (h.waiting.id == id) as (λ b. (h.waiting.id == id) ≡ b
+    → cond b (under_ids held) ((h.waiting.id, h) ∷ remove_entry (is_at (nat_cmp id)) (under_ids held)) ≡ under_ids
+    (cond (not b) (h ∷ filter (λ k. not (k.waiting.id == id)) held) (filter (λ k. not (k.waiting.id == id)) held))) [
+      | true ↦ λ e. ap under_ids (sym (all_others id held ys (rw (sym (eqb-true h.waiting.id id e)) (first_so _ _ up))))
+      | false ↦ λ e. ap (λ es. (h.waiting.id, h) ∷ es) (remaining id held ys (second_so _ _ up))
+    ] refl)
 
 below_filter : (p : ℕ → Bool) (t : Holding → Bool) (held : List Holding) (ys : List ℕ) → list_all p (held_ids held ++ ys) ≡ true → list_all p (held_ids (filter t held) ++ ys) ≡ true
 below_filter p t [] ys h = h

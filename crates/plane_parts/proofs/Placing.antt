@@ -1,5 +1,6 @@
 -- The places of deferred changes, and which change a ticket names.
-use Rattle.std.proofs.Common.{◌≡◌, ℕ, zero, suc, ◌+◌, ◌<◌, ◌≤◌, Bool, true, false, cond, Option, None, Some, option_map, List, [], ◌∷◌, ◌++◌, length, take, get_or, slice_get, filter, refl, sym, ap, ◌∙◌, add-one, arith}
+use Rattle.std.proofs.Common.{◌≡◌, ℕ, zero, suc, ◌+◌, ◌<◌, ◌≤◌, Bool, true, false, cond, Option, None, Some, option_map}
+use Rattle.std.proofs.Common.{List, [], ◌∷◌, ◌++◌, length, take, get_or, slice_get, filter, refl, sym, ap, ◌∙◌, add-one, arith}
 use Rattle.br_model.specs.declared.change.Change.{Change}
 use Rattle.br_model.specs.declared.domains.Edition.{Edition}
 use Rattle.br_model.specs.Table.Change.{deferred, updates}
@@ -11,10 +12,11 @@ module _ (edition : Edition) where
   -- not more than there are changes
   few_from : (n : ℕ) (cs : List Change) → length (places_from edition n cs) ≤ length cs
   few_from n [] = grind arith
-  few_from n (c ∷ cs) = let rest : length (places_from edition (n + 1) cs) ≤ length cs = few_from (n + 1) cs in elim (deferred edition c) as (λ b. length (cond b (n ∷ places_from edition (n + 1) cs) (places_from edition (n + 1) cs)) ≤ length (c ∷ cs)) [
-    | true ↦ grind arith
-    | false ↦ grind arith
-  ]
+  few_from n (c ∷ cs) = let rest : length (places_from edition (n + 1) cs) ≤ length cs = few_from (n + 1) cs in
+      elim (deferred edition c) as (λ b. length (cond b (n ∷ places_from edition (n + 1) cs) (places_from edition (n + 1) cs)) ≤ length (c ∷ cs)) [
+        | true ↦ grind arith
+        | false ↦ grind arith
+      ]
 
   -- one change more
   more_from : (n : ℕ) (cs : List Change) (i : ℕ) (d : Change) → i < length cs
@@ -25,10 +27,13 @@ module _ (edition : Edition) where
     | false ↦ refl
   ]
   more_from n (c ∷ cs) (suc i) d h =
-      let rest : places_from edition (n + 1) (take (suc i) cs) ≡ cond (deferred edition (get_or cs i d)) (places_from edition (n + 1) (take i cs) ++ (n + suc i) ∷ []) (places_from edition (n + 1) (take i cs)) =
-      more_from (n + 1) cs i d (omega arith) ∙ ap (λ m. cond (deferred edition (get_or cs i d)) (places_from edition (n + 1) (take i cs) ++ m ∷ []) (places_from edition (n + 1) (take i cs))) (grind arith) in
+      let rest : places_from edition (n + 1) (take (suc i) cs) ≡ cond (deferred edition (get_or cs i d)) (places_from edition (n + 1) (take i cs) ++ (n + suc i) ∷ [])
+      (places_from edition (n + 1) (take i cs)) =
+      more_from (n + 1) cs i d (omega arith)
+      ∙ ap (λ m. cond (deferred edition (get_or cs i d)) (places_from edition (n + 1) (take i cs) ++ m ∷ []) (places_from edition (n + 1) (take i cs))) (grind arith) in
       elim (deferred edition c) as (λ b. cond b (n ∷ places_from edition (n + 1) (take (suc i) cs)) (places_from edition (n + 1) (take (suc i) cs))
-      ≡ cond (deferred edition (get_or cs i d)) (cond b (n ∷ places_from edition (n + 1) (take i cs)) (places_from edition (n + 1) (take i cs)) ++ (n + suc i) ∷ []) (cond b (n ∷ places_from edition (n + 1) (take i cs)) (places_from edition (n + 1) (take i cs)))) [
+      ≡ cond (deferred edition (get_or cs i d)) (cond b (n ∷ places_from edition (n + 1) (take i cs)) (places_from edition (n + 1) (take i cs)) ++ (n + suc i) ∷ [])
+      (cond b (n ∷ places_from edition (n + 1) (take i cs)) (places_from edition (n + 1) (take i cs)))) [
         | true ↦ ap (λ ms. n ∷ ms) rest ∙ inside (deferred edition (get_or cs i d)) n (places_from edition (n + 1) (take i cs)) (n + suc i)
         | false ↦ rest
       ]
@@ -37,8 +42,10 @@ module _ (edition : Edition) where
       inside true m ms x = refl
       inside false m ms x = refl
 
-  pub more : (h : List Change) (i : ℕ) (d : Change) → i < length h → places edition (take (i + 1) h) ≡ cond (deferred edition (get_or h i d)) (places edition (take i h) ++ i ∷ []) (places edition (take i h))
-  more h i d within = ap (λ k. places edition (take k h)) (add-one i) ∙ more_from 0 h i d within ∙ ap (λ k. cond (deferred edition (get_or h i d)) (places edition (take i h) ++ k ∷ []) (places edition (take i h))) (grind arith)
+  pub more : (h : List Change) (i : ℕ) (d : Change) → i < length h
+      → places edition (take (i + 1) h) ≡ cond (deferred edition (get_or h i d)) (places edition (take i h) ++ i ∷ []) (places edition (take i h))
+  more h i d within = ap (λ k. places edition (take k h)) (add-one i) ∙ more_from 0 h i d within
+      ∙ ap (λ k. cond (deferred edition (get_or h i d)) (places edition (take i h) ++ k ∷ []) (places edition (take i h))) (grind arith)
 
   -- a deferred change stands at the place, from place n on
   abbrev At : ℕ → List Change → ℕ → Option Change → Type 0
@@ -68,10 +75,12 @@ module _ (edition : Edition) where
 
   none_from : (n : ℕ) (cs : List Change) (k : ℕ) → slice_get (places_from edition n cs) k ≡ None → slice_get (filter (deferred edition) cs) k ≡ None
   none_from n [] k = λ e. refl
-  none_from n (c ∷ cs) k = elim (deferred edition c) as (λ b. slice_get (cond b (n ∷ places_from edition (n + 1) cs) (places_from edition (n + 1) cs)) k ≡ None → slice_get (cond b (c ∷ filter (deferred edition) cs) (filter (deferred edition) cs)) k ≡ None) [
-    | true ↦ first_none n c cs k (none_from (n + 1) cs)
-    | false ↦ none_from (n + 1) cs k
-  ]
+  none_from n (c ∷ cs) k =
+      elim (deferred edition c) as (λ b. slice_get (cond b (n ∷ places_from edition (n + 1) cs) (places_from edition (n + 1) cs)) k ≡ None
+      → slice_get (cond b (c ∷ filter (deferred edition) cs) (filter (deferred edition) cs)) k ≡ None) [
+        | true ↦ first_none n c cs k (none_from (n + 1) cs)
+        | false ↦ none_from (n + 1) cs k
+      ]
 
   pub there : (h : List Change) (k p : ℕ) → slice_get (places edition h) k ≡ Some p → (p < length h) × (slice_get (updates edition h) k ≡ option_map (under_ticket k) (slice_get h p))
   there h k p e = let r = there_from 0 h k p e in let at : p ≡ r.0 = r.1 ∙ grind arith in
@@ -82,10 +91,12 @@ module _ (edition : Edition) where
 
   count_from : (n : ℕ) (cs : List Change) → length (places_from edition n cs) ≡ deferred_count edition cs
   count_from n [] = refl
-  count_from n (c ∷ cs) = elim (deferred edition c) as (λ b. length (cond b (n ∷ places_from edition (n + 1) cs) (places_from edition (n + 1) cs)) ≡ length (cond b (c ∷ filter (deferred edition) cs) (filter (deferred edition) cs))) [
-    | true ↦ ap suc (count_from (n + 1) cs)
-    | false ↦ count_from (n + 1) cs
-  ]
+  count_from n (c ∷ cs) =
+      elim (deferred edition c) as
+      (λ b. length (cond b (n ∷ places_from edition (n + 1) cs) (places_from edition (n + 1) cs)) ≡ length (cond b (c ∷ filter (deferred edition) cs) (filter (deferred edition) cs))) [
+        | true ↦ ap suc (count_from (n + 1) cs)
+        | false ↦ count_from (n + 1) cs
+      ]
 
   -- there is a place for each deferred change
   pub count : (h : List Change) → length (places edition h) ≡ deferred_count edition h

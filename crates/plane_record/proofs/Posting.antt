@@ -65,7 +65,8 @@ found-id (h ∷ held) id x e =
     ]) refl e
 
 -- the step as it is recorded: whether a frame was released tells whether one was held
-pub post-recorded : (p q : PlaneState) (h : Held) (n : Seen) (ls ls' : List Line) (pt : Option ℕ) → ((x : Holding) → IsCopy p.world h x → n.point ≤ p.world.published → IsDecision p.world x n) → h.floor ≤ n.point
+pub post-recorded : (p q : PlaneState) (h : Held) (n : Seen) (ls ls' : List Line) (pt : Option ℕ) → ((x : Holding) → IsCopy p.world h x → n.point ≤ p.world.published → IsDecision p.world x n)
+    → h.floor ≤ n.point
     → Added (Posts p q h n) ls ls' → pt ≡ (if nat_lt (length q.world.held) (length p.world.held) then Some n.point else None)
     → (Post h.id pt ≡ post_step (held_with p.world h.id) h.id n.point) × Added (Steps p q (Post h.id pt)) ls ls'
 post-recorded p q h n ls ls' pt may late a is = by (held_with p.world h.id) refl a.so.1
@@ -82,7 +83,8 @@ post-recorded p q h n ls ls' pt may late a is = by (held_with p.world h.id) refl
     by : (o : Option Holding) → held_with w h.id ≡ o → IfSome o (λ x. (shown_by h ≡ shown_of x) × (n.point ≤ w.published))
         → (Post h.id pt ≡ post_step o h.id n.point) × Added (Steps p q (Post h.id pt)) ls ls'
     by None none good =
-        let same : world_step w (Post h.id None) ≡ world_step w (Post h.id (Some n.point)) = ap (λ (o : Option Holding). posts_at u o None) none ∙ sym (ap (λ (o : Option Holding). posts_at u o (Some n.point)) none) in
+        let same : world_step w (Post h.id None) ≡ world_step w (Post h.id (Some n.point)) = ap (λ (o : Option Holding). posts_at u o None) none
+        ∙ sym (ap (λ (o : Option Holding). posts_at u o (Some n.point)) none) in
         let kept : q.world.held ≡ w.held = sym (ap (λ (y : Stepped). y.0.held) a.so.0.world) ∙ ap (λ (o : Option Holding). (posts_at u o (Some n.point)).0.held) none in
         let pts : pt ≡ None = is ∙ ap (λ b. if b then Some n.point else None) (not-less (length q.world.held) (length w.held) (ap length kept)) in (
           ap (λ (o : Option ℕ). Post h.id o) pts,

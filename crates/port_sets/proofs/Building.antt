@@ -59,13 +59,15 @@ next_has n m seen = list_any-append (λ k. m == k) seen (n ∷ []) ∙ turn (has
     turn false true = refl
     turn false false = refl
 
-pub among_with : (most n : ℕ) (f : ℕ → Bool) (seen old new : List ℕ) → old ≡ numbers_below most (λ m. has_number seen m && f m) → new ≡ numbers_below most (λ m. (m == n) || has_number old m) → f n ≡ true
+pub among_with : (most n : ℕ) (f : ℕ → Bool) (seen old new : List ℕ) → old ≡ numbers_below most (λ m. has_number seen m && f m) → new ≡ numbers_below most (λ m. (m == n) || has_number old m)
+    → f n ≡ true
     → new ≡ numbers_below most (λ m. has_number (seen ++ n ∷ []) m && f m)
 among_with most n f seen old new e made is =
     with_more most n _ _ old new e made (λ m low.
     step_with (m == n) (has_number seen m) (f m) (λ same. ap f (eqb-true m n same) ∙ is) ∙ ap (λ b. b && f m) (sym (next_has n m seen)))
 
-pub among_skip : (most n : ℕ) (f : ℕ → Bool) (seen old : List ℕ) → old ≡ numbers_below most (λ m. has_number seen m && f m) → f n ≡ false → old ≡ numbers_below most (λ m. has_number (seen ++ n ∷ []) m && f m)
+pub among_skip : (most n : ℕ) (f : ℕ → Bool) (seen old : List ℕ) → old ≡ numbers_below most (λ m. has_number seen m && f m) → f n ≡ false
+    → old ≡ numbers_below most (λ m. has_number (seen ++ n ∷ []) m && f m)
 among_skip most n f seen old e not_it =
     e ∙ same_below _ _ most (λ m low.
     step_skip (m == n) (has_number seen m) (f m) (λ same. ap f (eqb-true m n same) ∙ not_it) ∙ ap (λ b. b && f m) (sym (next_has n m seen)))

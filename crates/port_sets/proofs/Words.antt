@@ -1,5 +1,6 @@
 -- The bits of words, and the numbers that they stand for.
-use Rattle.std.proofs.Common.{◌≡◌, ◌≢◌, ℕ, ◌+◌, ◌*◌, ◌/◌, ◌%◌, ◌^◌, ◌<◌, ◌≤◌, Bool, true, false, not, ◌&&◌, ◌||◌, cond, List, [], ◌∷◌, Some, length, refl, sym, ap, ap₂, ◌∙◌, arith, get_or, set, inl, inr, bit_or, bit_and, w64, get_or-set_same, get_or-set_other, length-set}
+use Rattle.std.proofs.Common.{◌≡◌, ◌≢◌, ℕ, ◌+◌, ◌*◌, ◌/◌, ◌%◌, ◌^◌, ◌<◌, ◌≤◌, Bool, true, false, not, ◌&&◌, ◌||◌, cond, List, []}
+use Rattle.std.proofs.Common.{◌∷◌, Some, length, refl, sym, ap, ap₂, ◌∙◌, arith, get_or, set, inl, inr, bit_or, bit_and, w64, get_or-set_same, get_or-set_other, length-set}
 use Rattle.std.specs.Prelude.{◌==◌, slice_get, nat_eq}
 use Rattle.std.specs.Cmp.Lexicographic.{pointwise}
 use Rattle.std.specs.Int.{bit_at, bit_not, trailing_zeros}
@@ -208,7 +209,8 @@ AreWords-clear w words i m h within some =
 
 -- of words that were made one by one, those from the fourth on as 0
 made : (w : ℕ) (words : List ℕ) → length words ≡ w → ((j : ℕ) → j < w → get_or words j 0 < 2 ^ 64) → ((j : ℕ) → j < w → 4 ≤ j → get_or words j 0 ≡ 0) → AreWords w words
-made w words sized h high = (sized, λ i from. elim (cases_lt i w) [ inl low ↦ high i low from | inr past ↦ get_or_past words i 0 (omega arith) ], λ k d low. rw (get_or_default words k d 0 low) (h k (omega arith)))
+made w words sized h high =
+    (sized, λ i from. elim (cases_lt i w) [ inl low ↦ high i low from | inr past ↦ get_or_past words i 0 (omega arith) ], λ k d low. rw (get_or_default words k d 0 low) (h k (omega arith)))
 
 -- words that were combined one by one
 pub AreWords-and : (w : ℕ) (xs zs : List ℕ) (f : ℕ → ℕ) → AreWords w xs → length zs ≡ w → ((j : ℕ) → j < w → get_or zs j 0 ≡ bit_and (get_or xs j 0) (f j)) → AreWords w zs

@@ -1,5 +1,6 @@
 -- Calls of a reader, one after another.
-use Rattle.std.proofs.Common.{◌≡◌, ℕ, ◌+◌, ◌<◌, ◌≤◌, List, [], ◌++◌, take, drop, length, slice_range, arith, refl, sym, ap, ◌∙◌, Option, Some, append_assoc, length-append, length-drop, length-take-le, take-add, subst, None, true, false, true≢false, eq-or-lt_of_le, inl, inr, le-ltb, ne_eqb, ◌≢◌, MatchOption, append-nil, ◌-◌}
+use Rattle.std.proofs.Common.{◌≡◌, ℕ, ◌+◌, ◌<◌, ◌≤◌, List, [], ◌++◌, take, drop, length, slice_range, arith, refl, sym, ap, ◌∙◌, Option, Some, append_assoc, length-append, length-drop, length-take-le}
+use Rattle.std.proofs.Common.{take-add, subst, None, true, false, true≢false, eq-or-lt_of_le, inl, inr, le-ltb, ne_eqb, ◌≢◌, MatchOption, append-nil, ◌-◌}
 use Rattle.std.specs.Io.KnownBytes.{Consumes, Keeps, IsAtEnd}
 use Rattle.std.proofs.KnownBytes.{Consumes-nil, Consumes-kept, Consumes-trans, Keeps-refl}
 use Rattle.std.proofs.lemmas.List.{nil_from_length}

@@ -68,7 +68,8 @@ found_before id (h ∷ held) x other = ap (λ (o : Option Holding). cond (h.wait
 found_else : (k id : ℕ) (held : List Holding) → (k == id) ≡ false → of_id k (filter (λ h. not (h.waiting.id == id)) held) ≡ of_id k held
 found_else k id [] other = refl
 found_else k id (h ∷ held) other =
-    (elim (h.waiting.id == id) as (λ b. (h.waiting.id == id) ≡ b → of_id k (cond (not b) (h ∷ filter (λ g. not (g.waiting.id == id)) held) (filter (λ g. not (g.waiting.id == id)) held)) ≡ cond (h.waiting.id == k) (Some h) (of_id k held)) [
+    (elim (h.waiting.id == id) as (λ b. (h.waiting.id == id) ≡ b
+    → of_id k (cond (not b) (h ∷ filter (λ g. not (g.waiting.id == id)) held) (filter (λ g. not (g.waiting.id == id)) held)) ≡ cond (h.waiting.id == k) (Some h) (of_id k held)) [
       | true ↦ λ is. found_else k id held other ∙ sym (ap (λ b. cond b (Some h) (of_id k held)) (apart (h.waiting.id) is))
       | false ↦ λ no. ap (λ (o : Option Holding). cond (h.waiting.id == k) (Some h) o) (found_else k id held other)
     ]) refl
@@ -149,7 +150,8 @@ kept : {A E : Type 0} (r : Result A E) (old new : PlaneState) (step : Step) (bef
 kept (Ok x) old new step before after d k held a err h = kept_ok old new step before after d k held a h
 kept (Err e) old new step before after d k held ok same h = subst (λ (p : PlaneState). AreDecided p.world d) (sym same) h
 
-same_board : {A E : Type 0} (r : Result A E) (old new : PlaneState) (step : Step) (before after : List Line) → OnOk r (Added (Steps old new step) before after) → OnErr r (new ≡ old) → new.board ≡ old.board
+same_board : {A E : Type 0} (r : Result A E) (old new : PlaneState) (step : Step) (before after : List Line) → OnOk r (Added (Steps old new step) before after) → OnErr r (new ≡ old)
+    → new.board ≡ old.board
 same_board (Ok x) old new step before after a err = a.so.board
 same_board (Err e) old new step before after ok same = ap (λ (p : PlaneState). p.board) same
 
@@ -200,7 +202,8 @@ holds_oldest w f later d e verdict k waits puts is h = record { each = λ id x f
           | true ↦ λ same.
               let own : f.id ≡ id = eqb-true f.id id same in
               let none : of_id id w.held ≡ None =
-              subst (λ n. of_id n w.held ≡ None) own (none_held w.held f later (subst (λ (fs : List Waiting). IsDistinct (◌==◌) (map (λ g. g.id) (map (λ (g : Holding). g.waiting) w.held ++ fs))) waits k.frames.ids)) in
+              subst (λ n. of_id n w.held ≡ None) own
+              (none_held w.held f later (subst (λ (fs : List Waiting). IsDistinct (◌==◌) (map (λ g. g.id) (map (λ (g : Holding). g.waiting) w.held ++ fs))) waits k.frames.ids)) in
               let last : of_id id (w.held ++ oldest w f ∷ []) ≡ Some (oldest w f) = found_last id w.held (oldest w f) none same in
               let one : oldest w f ≡ x = cc in
               let here : Some verdict ≡ verdict_of e id = sym (ap (verdict_of e) (sym own) ∙ puts.here) in
@@ -239,7 +242,8 @@ posts_held w id y d e k there puts h = record { each = λ n x found. at n x (ap 
         (elim (n == id) as (λ b. (n == id) ≡ b → DecidesFloor (world_step w (Post id None)).0 x (verdict_of e n)) [
           | true ↦ λ same.
               let own : n ≡ id = eqb-true n id same in
-              let none : of_id n (filter (λ g. not (g.waiting.id == id)) w.held) ≡ None = subst (λ i. of_id i (filter (λ g. not (g.waiting.id == id)) w.held) ≡ None) (sym own) (found_none id w.held) in
+              let none : of_id n (filter (λ g. not (g.waiting.id == id)) w.held) ≡ None = subst (λ i. of_id i (filter (λ g. not (g.waiting.id == id)) w.held) ≡ None) (sym own)
+              (found_none id w.held) in
               absurd (cc)
           | false ↦ λ other.
               let was : held_with w n ≡ Some x = sym (found_else n id w.held other) ∙ found in

@@ -70,7 +70,8 @@ sent_more askers now id ports port untagged plain tagged a b c h k =
     let sent = λ (p : ℕ). Tx id p (if has_number untagged p then plain else tagged) in
     let acts = ap (flat_map (heard_in askers now)) (map-append sent ports (port ∷ [])) ∙ flat_map-append (heard_in askers now) (map sent ports) (sent port ∷ []) in
     subst (λ (l : List Act). Hears a l c) (sym acts)
-    (hears_more a b c (flat_map (heard_in askers now) (sent_lines id ports untagged plain tagged)) (flat_map (heard_in askers now) (sent port ∷ [])) h (subst (λ (l : List Act). Hears b l c) (sym (append-nil (heard_in askers now (sent port)))) (k (if has_number untagged port then plain else tagged))))
+    (hears_more a b c (flat_map (heard_in askers now) (sent_lines id ports untagged plain tagged)) (flat_map (heard_in askers now) (sent port ∷ [])) h
+    (subst (λ (l : List Act). Hears b l c) (sym (append-nil (heard_in askers now (sent port)))) (k (if has_number untagged port then plain else tagged))))
 
 -- what is kept of one more frame
 

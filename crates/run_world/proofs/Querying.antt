@@ -1,5 +1,6 @@
 -- A querier on the host hears a run and asks in it, step by step.
-use Rattle.std.proofs.Common.{◌≡◌, ℕ, ◌<◌, ◌^◌, Bool, true, false, cond, List, [], ◌∷◌, ◌++◌, Option, None, Some, IfSome, OnOk, Result, Ok, Err, map, refl, sym, ◌∙◌, ap, subst, append-nil, lit<, string_bytes}
+use Rattle.std.proofs.Common.{◌≡◌, ℕ, ◌<◌, ◌^◌, Bool, true, false, cond, List, [], ◌∷◌, ◌++◌, Option, None, Some}
+use Rattle.std.proofs.Common.{IfSome, OnOk, Result, Ok, Err, map, refl, sym, ◌∙◌, ap, subst, append-nil, lit<, string_bytes}
 use Rattle.std.specs.Prelude.{◌||◌}
 use Rattle.std.proofs.lemmas.List.Folds.{list_any-append}
 use Rattle.std.specs.List.{flat_map, fold, list_any}
@@ -124,7 +125,8 @@ hears_own a acts b h = sym (ap (λ (x : Queried). x.0.own) (h [])) ∙ own-stays
 
 -- before the first step
 
-pub first_host : (h : Host) (own four six : ℕ) → h.querier ≡ first_querier own four six → h.now ≡ 0 → Keeps h.entered [] → (domains : Domains) → IsHost h (first_world (record { domains = domains; own = own }))
+pub first_host : (h : Host) (own four six : ℕ) → h.querier ≡ first_querier own four six → h.now ≡ 0 → Keeps h.entered [] → (domains : Domains)
+    → IsHost h (first_world (record { domains = domains; own = own }))
 first_host h own four six querier now keeps domains = record {
   own = ap (λ (q : QuerierState). q.own) querier;
   now = now;

@@ -97,15 +97,18 @@ lines_join : (a b : List Step) (t : List ℕ) → t ≡ lines_of b → lines_of 
 lines_join a b t e = ap (λ (u : List ℕ). lines_of a ++ u) e ∙ sym (flat_map-append (step_text ports) a b)
 
 pub others_parts : (i : ℕ) (s0 s1 s2 s3 s4 : List ℕ)
-    → s1 ≡ s0 ++ (if i % 3 == 0 then codes "report 1\n" else []) → s2 ≡ s1 ++ (if i % 5 == 0 then codes "turn 1\n" else []) → s3 ≡ s2 ++ (if i % 7 == 0 then codes "publish\n" else []) → s4 ≡ s3 ++ lines_of (each 64 i (Now (1000 * i)))
+    → s1 ≡ s0 ++ (if i % 3 == 0 then codes "report 1\n" else []) → s2 ≡ s1 ++ (if i % 5 == 0 then codes "turn 1\n" else []) → s3 ≡ s2 ++ (if i % 7 == 0 then codes "publish\n" else [])
+    → s4 ≡ s3 ++ lines_of (each 64 i (Now (1000 * i)))
     → s4 ≡ s0 ++ lines_of (each 3 i (Report first_chip_domain) ++ (each 5 i (Turn first_chip_domain) ++ (each 7 i Publish ++ each 64 i (Now (1000 * i)))))
 unfolding digits
 others_parts i s0 s1 s2 s3 s4 e f g h =
     let last = each 64 i (Now (1000 * i)) in
     four_parts s0 s1 s2 s3 s4 (lines_of (each 3 i (Report first_chip_domain))) (lines_of (each 5 i (Turn first_chip_domain))) (lines_of (each 7 i Publish)) (lines_of last)
-    (e ∙ ap (λ (t : List ℕ). s0 ++ t) (line_if (i % 3 == 0) (Report first_chip_domain))) (f ∙ ap (λ (t : List ℕ). s1 ++ t) (line_if (i % 5 == 0) (Turn first_chip_domain))) (g ∙ ap (λ (t : List ℕ). s2 ++ t) (line_if (i % 7 == 0) Publish)) h
+    (e ∙ ap (λ (t : List ℕ). s0 ++ t) (line_if (i % 3 == 0) (Report first_chip_domain))) (f ∙ ap (λ (t : List ℕ). s1 ++ t) (line_if (i % 5 == 0) (Turn first_chip_domain))) (g
+    ∙ ap (λ (t : List ℕ). s2 ++ t) (line_if (i % 7 == 0) Publish)) h
     ∙ ap (λ (t : List ℕ). s0 ++ t)
-    (lines_join (each 3 i (Report first_chip_domain)) (each 5 i (Turn first_chip_domain) ++ (each 7 i Publish ++ last)) (lines_of (each 5 i (Turn first_chip_domain)) ++ (lines_of (each 7 i Publish) ++ lines_of last))
+    (lines_join (each 3 i (Report first_chip_domain)) (each 5 i (Turn first_chip_domain) ++ (each 7 i Publish ++ last))
+    (lines_of (each 5 i (Turn first_chip_domain)) ++ (lines_of (each 7 i Publish) ++ lines_of last))
     (lines_join (each 5 i (Turn first_chip_domain)) (each 7 i Publish ++ last) (lines_of (each 7 i Publish) ++ lines_of last) (lines_join (each 7 i Publish) last (lines_of last) refl)))
 
 -- a frame's lines, and what else happens

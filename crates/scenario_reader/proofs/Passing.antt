@@ -1,5 +1,6 @@
 -- A whole scenario is read, line by line.
-use Rattle.std.proofs.Common.{◌≡◌, ℕ, ◌+◌, ◌-◌, ◌<◌, ◌≤◌, ◌⊎◌, inl, inr, Bool, true, ◌&&◌, if◌then◌else◌, List, [], ◌∷◌, ◌++◌, length, drop, take, Option, None, Some, Result, Ok, Err, Vec, refl, sym, ◌∙◌, ap, subst, arith, append_assoc, length-append, length-drop, length-take-le}
+use Rattle.std.proofs.Common.{◌≡◌, ℕ, ◌+◌, ◌-◌, ◌<◌, ◌≤◌, ◌⊎◌, inl, inr, Bool, true, ◌&&◌, if◌then◌else◌, List, [], ◌∷◌, ◌++◌, length, drop}
+use Rattle.std.proofs.Common.{take, Option, None, Some, Result, Ok, Err, Vec, refl, sym, ◌∙◌, ap, subst, arith, append_assoc, length-append, length-drop, length-take-le}
 use Rattle.std.specs.Prelude.{IfSome}
 use Rattle.std.specs.declared.alloc.Global.{Global}
 use Rattle.std.specs.List.{list_all}
@@ -15,7 +16,8 @@ use Rattle.br_model.specs.declared.steps.Step.{Step}
 use Rattle.br_model.specs.Text.LineForms.{comes_by_line, line_says}
 use Rattle.br_model.specs.Text.Operands.{longest_section}
 use Rattle.br_model.specs.Text.Roster.{Roster, chips_of, first_roster}
-use Rattle.br_model.specs.Text.Scenario.{Scenario, Ending, Going, Ended, Bad, Progress, bad, behind_end, captured, closes, closes_at, longest_line, opened, read, scenario_by, section_length, takes, takes_steps, whole_says}
+use Rattle.br_model.specs.Text.Scenario.{Scenario, Ending, Going, Ended, Bad, Progress, bad, behind_end, captured, closes}
+use Rattle.br_model.specs.Text.Scenario.{closes_at, longest_line, opened, read, scenario_by, section_length, takes, takes_steps, whole_says}
 use Rattle.br_model.specs.Theorems.WholeLines.{is_line}
 use Rattle.br_model.specs.Wire.Captures.{packets}
 use Rattle.br_model.proofs.Text.Endings.{behind_at, has_ended, read_ended}
@@ -148,7 +150,8 @@ module _ (check : Bool) (s : Scenario) (line behind : List ℕ) (x : ReaderState
       }
 
   -- with its step
-  pub stepped : (new : ReaderState) (step : Step) → whole_says s.roster line ≡ Ok (Does step) → Follows (takes s (Does step) []) new → comes_by_line s.roster.check (chips_of s.roster.ports) step ≡ true
+  pub stepped : (new : ReaderState) (step : Step) → whole_says s.roster line ≡ Ok (Does step) → Follows (takes s (Does step) []) new
+      → comes_by_line s.roster.check (chips_of s.roster.ports) step ≡ true
       → GoesOn check s (line ++ 10 ∷ behind) new (steps ++ step ∷ []) behind
   stepped new step says follows comes =
       let t : Scenario = takes s (Does step) [] in
@@ -169,7 +172,8 @@ module _ (check : Bool) (s : Scenario) (line behind : List ℕ) (x : ReaderState
       (told ∙ ap Some is) (close ∙ is) (left ∙ ap (λ l. left_by l (length behind)) is)
   last_by (Ok what) last new end says is roster told close left =
       let so : whole_says s.roster line ≡ Ok Ends = says ∙ ap Ok is.0 in
-      ends_well check s (line ++ 10 ∷ behind) new steps (subst (λ (q : Roster). AreSound check q steps) (sym roster) its_own) end (takes s Ends []) behind (h.all_steps ∙ sym (append-nil s.steps)) roster refl
+      ends_well check s (line ++ 10 ∷ behind) new steps (subst (λ (q : Roster). AreSound check q steps) (sym roster) its_own) end (takes s Ends []) behind (h.all_steps
+      ∙ sym (append-nil s.steps)) roster refl
       (behind_it line behind) (read_line s Ends line [] behind going feed so refl) (told ∙ ap Some is.1) (close ∙ is.1) (left ∙ ap (λ l. left_by l (length behind)) is.1)
 
   pub last_one : (last : Last) (new : ReaderState) (end : End) → EndsBy s (whole_says s.roster line) last → new.roster ≡ s.roster
@@ -221,7 +225,8 @@ module _ (check : Bool) (s : Scenario) (rest : List ℕ) (x : ReaderState) (step
   its_sound : AreSound check x.roster steps
   its_sound = subst (λ (q : Roster). AreSound check q steps) (sym h.follows.roster) (subst (λ (l : List Step). AreSound check s.roster l) (sym h.all_steps) h.sound)
 
-  pub rest_too_long : longest_line < length rest → end.last ≡ Some (lasts.Bad (x.lines + 1) Long) → end.close ≡ lasts.Bad (x.lines + 1) Long → end.left ≡ 0 → Finishes check rest (read 0 s rest) x steps end
+  pub rest_too_long : longest_line < length rest → end.last ≡ Some (lasts.Bad (x.lines + 1) Long) → end.close ≡ lasts.Bad (x.lines + 1) Long → end.left ≡ 0
+      → Finishes check rest (read 0 s rest) x steps end
   rest_too_long long told close left =
       let number : lasts.Bad (x.lines + 1) Long ≡ lasts.Bad (s.lines + 1) Long = ap (λ n. lasts.Bad (n + 1) Long) h.follows.lines in
       ends_badly check s rest x steps its_sound end Long rest h.all_steps (read_long_rest s rest h.follows.going feed long) (told ∙ ap Some number) (close ∙ number) left
@@ -229,7 +234,8 @@ module _ (check : Bool) (s : Scenario) (rest : List ℕ) (x : ReaderState) (step
   pub closed : length rest ≤ longest_line → (close : Last) → ((t : Scenario) → Follows t x → (closes t rest).ending ≡ ending_of close) → end.last ≡ None → end.close ≡ close → end.left ≡ 0
       → Finishes check rest (read 0 s rest) x steps end
   closed short close closes_so told is left =
-      ends_within check s rest x steps its_sound end rest h.all_steps h.follows.going (read_rest s rest h.follows.going feed short) told (closes_so s h.follows ∙ sym (ap ending_of is)) (λ e. h.follows.roster) left
+      ends_within check s rest x steps its_sound end rest h.all_steps h.follows.going (read_rest s rest h.follows.going feed short) told (closes_so s h.follows ∙ sym (ap ending_of is))
+      (λ e. h.follows.roster) left
 
 -- a section
 
@@ -238,7 +244,11 @@ module _ (check : Bool) (s : Scenario) (line : List ℕ) (n : ℕ) (x : ReaderSt
   sound_there : AreSound check x.roster steps
   sound_there =
       let here : AreSound check (captures s n).roster steps =
-      record { its_check = h.sound.its_check; by_line = subst (λ (l : List Step). list_all (comes_by_line check (chips_of s.roster.ports)) l ≡ true) (sym h.all_steps) h.sound.by_line; declared = inr (refl, refl) } in
+      record {
+        its_check = h.sound.its_check;
+        by_line = subst (λ (l : List Step). list_all (comes_by_line check (chips_of s.roster.ports)) l ≡ true) (sym h.all_steps) h.sound.by_line;
+        declared = inr (refl, refl);
+      } in
       subst (λ (q : Roster). AreSound check q steps) (sym h.follows.roster) here
 
   closes_so : (d : Ending) → d ≡ Going → (closes_at d s []).ending ≡ Bad (s.lines + 1) Unended
@@ -259,7 +269,8 @@ module _ (check : Bool) (s : Scenario) (line : List ℕ) (n : ℕ) (x : ReaderSt
     here : captured x.roster.ports (packets section (length x.roster.ports)) ≡ captured s.roster.ports (packets section (length s.roster.ports))
     here = ap (λ (q : Roster). captured q.ports (packets section (length q.ports))) h.follows.roster
 
-    reads_it : (r : Result (List Step) LineWhy) → captured x.roster.ports (packets section (length x.roster.ports)) ≡ r → read 0 s (line ++ 10 ∷ (section ++ more)) ≡ read 0 (takes_steps s (Captures n) r) more
+    reads_it : (r : Result (List Step) LineWhy) → captured x.roster.ports (packets section (length x.roster.ports)) ≡ r
+        → read 0 s (line ++ 10 ∷ (section ++ more)) ≡ read 0 (takes_steps s (Captures n) r) more
     reads_it r gives =
         read_line s (Captures n) line section more h.going h.feedless h.says sized ∙ ap (λ (o : Result (List Step) LineWhy). read 0 (takes_steps s (Captures n) o) more) (sym here ∙ gives)
 
@@ -283,11 +294,13 @@ module _ (check : Bool) (s : Scenario) (line : List ℕ) (n : ℕ) (x : ReaderSt
         }
 
     -- a block of which is broken
-    pub section_broken : (why : LineWhy) (end : End) → captured x.roster.ports (packets section (length x.roster.ports)) ≡ Err why → end.last ≡ Some (lasts.Bad x.lines why) → end.close ≡ lasts.Bad x.lines why
+    pub section_broken : (why : LineWhy) (end : End) → captured x.roster.ports (packets section (length x.roster.ports)) ≡ Err why → end.last ≡ Some (lasts.Bad x.lines why)
+        → end.close ≡ lasts.Bad x.lines why
         → end.left ≡ 0 → Finishes check (line ++ 10 ∷ (section ++ more)) (read 0 s (line ++ 10 ∷ (section ++ more))) x steps end
     section_broken why end gives told close left =
         let number : lasts.Bad x.lines why ≡ lasts.Bad (s.lines + 1) why = ap (λ k. lasts.Bad k why) h.follows.lines in
-        ends_badly check s (line ++ 10 ∷ (section ++ more)) x steps sound_there end why [] h.all_steps (reads_it (Err why) gives ∙ read_ended (bad s why) more refl) (told ∙ ap Some number) (close ∙ number) left
+        ends_badly check s (line ++ 10 ∷ (section ++ more)) x steps sound_there end why [] h.all_steps (reads_it (Err why) gives ∙ read_ended (bad s why) more refl) (told ∙ ap Some number) (close
+        ∙ number) left
 
   module _ (behind : List ℕ) (within : n ≤ length behind) (gave : Gave) (captures_it : IsCaptured x (take n behind) gave) where
     cut : take n behind ++ drop n behind ≡ behind
@@ -301,7 +314,8 @@ module _ (check : Bool) (s : Scenario) (line : List ℕ) (n : ℕ) (x : ReaderSt
         section_taken (take n behind) (drop n behind) (length-take-le n behind within) its.items got.0 got.1 in
         let rest : take (length behind - n) (drop n behind) ≡ drop n behind = take_all _ _ (omega (arith, length-drop n behind)) in
         subst (λ (l : List ℕ). GoesOn check s (line ++ 10 ∷ behind) x all l) (sym rest)
-        (subst (λ (l : List Step). GoesOn check s (line ++ 10 ∷ behind) x l (drop n behind)) (sym same) (subst (λ (l : List ℕ). GoesOn check s (line ++ 10 ∷ l) x (steps ++ its.items) (drop n behind)) cut first))
+        (subst (λ (l : List Step). GoesOn check s (line ++ 10 ∷ behind) x l (drop n behind)) (sym same)
+        (subst (λ (l : List ℕ). GoesOn check s (line ++ 10 ∷ l) x (steps ++ its.items) (drop n behind)) cut first))
 
     pub ends_in_section : (last : Last) (end : End) → gave ≡ sections.End last → end.last ≡ Some last → end.close ≡ last → end.left ≡ left_by last 0
         → Finishes check (line ++ 10 ∷ behind) (read 0 s (line ++ 10 ∷ behind)) x steps end
@@ -318,7 +332,8 @@ stays_at check s bytes x steps h = record { scenario = s; reads = refl; stands =
 then_part : (bytes rest later : List ℕ) → EndWith bytes rest → EndWith rest later → EndWith bytes later
 then_part bytes rest later h k = (h.0 ++ k.0, h.1 ∙ ap (λ (l : List ℕ). h.0 ++ l) k.1 ∙ sym (append_assoc h.0 k.0 later))
 
-pub goes_on : (check : Bool) (s : Scenario) (bytes : List ℕ) (x y : ReaderState) (steps more : List Step) (rest later : List ℕ) (h : GoesOn check s bytes x steps rest) → GoesOn check h.scenario rest y more later
+pub goes_on : (check : Bool) (s : Scenario) (bytes : List ℕ) (x y : ReaderState) (steps more : List Step) (rest later : List ℕ) (h : GoesOn check s bytes x steps rest)
+    → GoesOn check h.scenario rest y more later
     → GoesOn check s bytes y more later
 goes_on check s bytes x y steps more rest later h k =
     record { scenario = k.scenario; reads = h.reads ∙ k.reads; stands = k.stands; part = then_part bytes rest later h.part k.part }
@@ -340,12 +355,14 @@ goes_to_end check s bytes x y steps more rest end h k =
     }
 
 -- by the first line of what is left
-pub line_on : (check : Bool) (s : Scenario) (bytes : List ℕ) (x y : ReaderState) (steps more : List Step) (rest line behind later : List ℕ) → GoesOn check s bytes x steps rest → rest ≡ line ++ 10 ∷ behind
+pub line_on : (check : Bool) (s : Scenario) (bytes : List ℕ) (x y : ReaderState) (steps more : List Step) (rest line behind later : List ℕ) → GoesOn check s bytes x steps rest
+    → rest ≡ line ++ 10 ∷ behind
     → ((t : Scenario) → Stands check t x steps → GoesOn check t (line ++ 10 ∷ behind) y more later) → GoesOn check s bytes y more later
 line_on check s bytes x y steps more rest line behind later h joined k =
     goes_on check s bytes x y steps more rest later h (subst (λ (b : List ℕ). GoesOn check h.scenario b y more later) (sym joined) (k h.scenario h.stands))
 
-pub line_ends : (check : Bool) (s : Scenario) (bytes : List ℕ) (x y : ReaderState) (steps more : List Step) (rest line behind : List ℕ) (end : End) → GoesOn check s bytes x steps rest → rest ≡ line ++ 10 ∷ behind
+pub line_ends : (check : Bool) (s : Scenario) (bytes : List ℕ) (x y : ReaderState) (steps more : List Step) (rest line behind : List ℕ) (end : End) → GoesOn check s bytes x steps rest
+    → rest ≡ line ++ 10 ∷ behind
     → ((t : Scenario) → Stands check t x steps → Finishes check (line ++ 10 ∷ behind) (read 0 t (line ++ 10 ∷ behind)) y more end) → Finishes check bytes (read 0 s bytes) y more end
 line_ends check s bytes x y steps more rest line behind end h joined k =
     goes_to_end check s bytes x y steps more rest end h (subst (λ (b : List ℕ). Finishes check b (read 0 h.scenario b) y more end) (sym joined) (k h.scenario h.stands))
@@ -357,7 +374,8 @@ first check = record { follows = record { lines = refl; roster = refl; going = r
 
 pub begins : (check : Bool) (x : ReaderState) (steps : List Step) → x ≡ record { lines = 0; roster = first_roster check } → steps ≡ [] → Stands check (opened check) x steps
 begins check x steps is none =
-    subst (λ (y : ReaderState). Stands check (opened check) y steps) (sym is) (subst (λ (l : List Step). Stands check (opened check) (record { lines = 0; roster = first_roster check }) l) (sym none) (first check))
+    subst (λ (y : ReaderState). Stands check (opened check) y steps) (sym is)
+    (subst (λ (l : List Step). Stands check (opened check) (record { lines = 0; roster = first_roster check }) l) (sym none) (first check))
 
 pub left_within : (check : Bool) (bytes : List ℕ) (p : Progress) (x : ReaderState) (steps : List Step) (end : End) → Finishes check bytes p x steps end → end.left ≤ length bytes
 left_within check bytes p x steps end h = omega (arith, h.left, ap length h.part.1, length-append h.part.0 p.behind)

@@ -17,7 +17,8 @@ use Rattle.br_model.specs.declared.scenario.Said.TheVariants.{Blank, Opens, Brid
 use Rattle.br_model.specs.declared.steps.Step.{Step}
 use Rattle.br_model.specs.Text.Operands.{is_byte}
 use Rattle.br_model.specs.Text.Roster.{Entry}
-use Rattle.br_model.specs.Text.Scenario.{Scenario, Ending, Going, Ended, Bad, Front, Progress, bad, captured, front, in_front, longest_line, opened, read, reads_at, reads_front, reads_line, scenario_by, section_length, takes, takes_steps, whole_says}
+use Rattle.br_model.specs.Text.Scenario.{Scenario, Ending, Going, Ended, Bad, Front, Progress, bad, captured, front, in_front}
+use Rattle.br_model.specs.Text.Scenario.{longest_line, opened, read, reads_at, reads_front, reads_line, scenario_by, section_length, takes, takes_steps, whole_says}
 use Rattle.br_model.specs.Text.ScenarioText.{has_line}
 use Rattle.br_model.specs.Wire.Captures.{packets}
 use Rattle.br_model.proofs.Text.Places.{FitsPlace, line_in_place}
@@ -50,7 +51,8 @@ section_fine : (s : Scenario) (n : ℕ) (r : Result (List Step) LineWhy) → Fin
 section_fine s n (Err fault) f h = record { early = f.early; lines = f.lines }
 section_fine s n (Ok steps) f h = record { early = λ no. absurd (no refl); lines = more s.roster.ports s.steps steps f.lines h }
 
-line_fine : (s : Scenario) (said : Said) (section : List ℕ) → FitsPlace s.roster.place said → ((step : Step) → said ≡ Does step → has_line s.roster.ports step ≡ true) → list_all is_byte section ≡ true → Fine s
+line_fine : (s : Scenario) (said : Said) (section : List ℕ) → FitsPlace s.roster.place said → ((step : Step) → said ≡ Does step → has_line s.roster.ports step ≡ true)
+    → list_all is_byte section ≡ true → Fine s
     → Fine (takes s said section)
 line_fine s Blank section fits step are f = record { early = λ no. ap (λ (l : List Step). l ++ []) (f.early no); lines = calm s.roster.ports s.steps f.lines }
 line_fine s (Opens edition) section fits step are f = record { early = λ no. ap (λ (l : List Step). l ++ []) (f.early fits); lines = declares s.roster.ports s.steps (f.early fits) }

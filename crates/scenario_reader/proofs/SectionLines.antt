@@ -16,7 +16,8 @@ use Rattle.br_model.specs.Text.Operands.{is_byte}
 use Rattle.br_model.specs.Text.Roster.{Entry, has_number}
 use Rattle.br_model.specs.Text.Scenario.{captured, entered}
 use Rattle.br_model.specs.Text.ScenarioText.{has_line}
-use Rattle.br_model.specs.Wire.Captures.{Block, Capture, Cut, Fault, Said, capture, cut, cut_front, enhanced_packet, ethernet, front, in_front, interface_description, is_length, major_version, number_in, order_of, packet_by, packet_of, packets, read, read_front, said_packet, says, section_header, unless_broken, whole, whole_in}
+use Rattle.br_model.specs.Wire.Captures.{Block, Capture, Cut, Fault, Said, capture, cut, cut_front, enhanced_packet, ethernet, front, in_front, interface_description, is_length}
+use Rattle.br_model.specs.Wire.Captures.{major_version, number_in, order_of, packet_by, packet_of, packets, read, read_front, said_packet, says, section_header, unless_broken, whole, whole_in}
 use Rattle.pcapng_read.proofs.HavePorts.{has_port, have_ports}
 use Rattle.scenario_text.proofs.StepsRead.{shown_bytes, take_bytes}
 
@@ -52,7 +53,8 @@ front_body before bytes h = by_if HasBody (nat_lt (length bytes) 12) (Err Short)
 abbrev has_body : ℕ × Block → Bool
 has_body b = list_all is_byte b.1.body
 
-cut_bodies : (at : ℕ) (r : Result Block CapKind) (behind : Block → Cut) → HasBody r → ((b : Block) → list_all has_body (behind b).blocks ≡ true) → list_all has_body (cut_front at r behind).blocks ≡ true
+cut_bodies : (at : ℕ) (r : Result Block CapKind) (behind : Block → Cut) → HasBody r → ((b : Block) → list_all has_body (behind b).blocks ≡ true)
+    → list_all has_body (cut_front at r behind).blocks ≡ true
 cut_bodies at (Err kind) behind h later = refl
 cut_bodies at (Ok b) behind h later = and_from _ _ h (later b)
 
@@ -72,11 +74,14 @@ HasBytes (Ok packet) = list_all is_byte packet.bytes ≡ true
 
 cut_out : (interface size : ℕ) (body : List ℕ) → list_all is_byte body ≡ true → HasBytes (packet_of interface size body)
 cut_out interface size body h =
-    by_if HasBytes (nat_lt (length body) (20 + size)) (Err Captured) (Ok (record { interface = interface; bytes = take size (drop 20 body) })) tt (take_bytes size (drop 20 body) (drop_bytes 20 body h))
+    by_if HasBytes (nat_lt (length body) (20 + size)) (Err Captured) (Ok (record { interface = interface; bytes = take size (drop 20 body) })) tt
+    (take_bytes size (drop 20 body) (drop_bytes 20 body h))
 
 came_by : (o : Option ℕ) (b : Block) → list_all is_byte b.body ≡ true → HasBytes (packet_by o b)
 came_by None b h = tt
-came_by (Some link) b h = by_if HasBytes (link == ethernet) (packet_of (number_in b.order b.body 0 4) (number_in b.order b.body 12 4) b.body) (Err Link) (cut_out (number_in b.order b.body 0 4) (number_in b.order b.body 12 4) b.body h) tt
+came_by (Some link) b h =
+    by_if HasBytes (link == ethernet) (packet_of (number_in b.order b.body 0 4) (number_in b.order b.body 12 4) b.body) (Err Link)
+    (cut_out (number_in b.order b.body 0 4) (number_in b.order b.body 12 4) b.body h) tt
 
 abbrev SaysBytes : Said → Type 0
 SaysBytes (Err kind) = Unit {0}
@@ -90,12 +95,14 @@ block_says : (ports : ℕ) (links : List ℕ) (b : Block) → list_all is_byte b
 block_says ports links b h =
     by_if SaysBytes (b.kind == section_header) _ _ (by_if SaysBytes (number_in b.order b.body 4 2 == major_version) _ _ tt tt)
     (by_if SaysBytes (b.kind == interface_description) _ _ tt
-    (by_if SaysBytes (b.kind == enhanced_packet) _ _ (packet_said links (packet_by (slice_get links (number_in b.order b.body 0 4)) b) (came_by (slice_get links (number_in b.order b.body 0 4)) b h)) tt))
+    (by_if SaysBytes (b.kind == enhanced_packet) _ _
+    (packet_said links (packet_by (slice_get links (number_in b.order b.body 0 4)) b) (came_by (slice_get links (number_in b.order b.body 0 4)) b h)) tt))
 
 abbrev has_bytes : Packet → Bool
 has_bytes packet = list_all is_byte packet.bytes
 
-packets_in_front : (o : Option Packet) (c : Capture) → IfSome o (λ packet. list_all is_byte packet.bytes ≡ true) → list_all has_bytes c.packets ≡ true → list_all has_bytes (in_front o c).packets ≡ true
+packets_in_front : (o : Option Packet) (c : Capture) → IfSome o (λ packet. list_all is_byte packet.bytes ≡ true) → list_all has_bytes c.packets ≡ true
+    → list_all has_bytes (in_front o c).packets ≡ true
 packets_in_front None c h all = all
 packets_in_front (Some packet) c h all = and_from _ _ h all
 

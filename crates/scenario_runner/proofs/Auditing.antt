@@ -41,7 +41,8 @@ unfolding audited
 answer_is input d e = ap (λ (d : Ending). audited_at d (scenario input)) (sym e)
 
 -- the audit of a session that was told all
-pub audited_by : (left now : Option (List ℕ)) (x : Session) (all text : List ℕ) (last : Last) → Told left now x all last → text ≡ session.audit_or_bad last x.reader.roster x.world → Answered audited left now text last
+pub audited_by : (left now : Option (List ℕ)) (x : Session) (all text : List ℕ) (last : Last) → Told left now x all last → text ≡ session.audit_or_bad last x.reader.roster x.world
+    → Answered audited left now text last
 audited_by left now x all text last t is = record {
   input = t.answered.input;
   read = t.answered.read;

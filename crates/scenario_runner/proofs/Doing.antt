@@ -82,7 +82,8 @@ module _ (left now begun mid : Option (List ℕ)) (reader : Reading) (x : Sessio
         },
       )
 
-  pub section_stops : (stop : Stop) (halt : Result (Option Last) Halt) → halt ≡ Err (Stopped stop) → Sectioned left most_bytes reader now x all (Err stop) → PlayedSection left reader now x begun mid text halt
+  pub section_stops : (stop : Stop) (halt : Result (Option Last) Halt) → halt ≡ Err (Stopped stop) → Sectioned left most_bytes reader now x all (Err stop)
+      → PlayedSection left reader now x begun mid text halt
   section_stops ReadFault halt is a = subst (PlayedSection left reader now x begun mid text) (sym is) (all, w, a)
   section_stops TooLong halt is a = subst (PlayedSection left reader now x begun mid text) (sym is) (all, w, a)
   section_stops NoMemory halt is a = subst (PlayedSection left reader now x begun mid text) (sym is) (all, w, a)
@@ -107,7 +108,8 @@ module _ (left now begun mid : Option (List ℕ)) (reader : Reading) (x : Sessio
   section_halts_in y steps after text' halt result is at does = subst (PlayedSection left reader now y begun after text') (sym is) (halts_in y steps after text' halt at does)
 
   -- a write fails before the section is read
-  pub section_breaks : (y : Session) (r : Reading) (n : ℕ) (after : Option (List ℕ)) (text' : List ℕ) (result : Result (Option Last) Halt) → AtSection left most_bytes reader now x all n → Breaks mid after text
+  pub section_breaks : (y : Session) (r : Reading) (n : ℕ) (after : Option (List ℕ)) (text' : List ℕ) (result : Result (Option Last) Halt) → AtSection left most_bytes reader now x all n
+      → Breaks mid after text
       → result ≡ Err WriteFault → PlayedSection left r now y begun after text' result
   section_breaks y r n after text' result p b is =
       subst (PlayedSection left r now y begun after text') (sym is) (

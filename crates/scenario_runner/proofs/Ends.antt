@@ -62,7 +62,8 @@ pub answered_same : (voice : Voice) → Same (answer_by voice)
 unfolding answer_by Same
 answered_same voice a b e = ap (λ (s : Scenario). answer_at s.ending (lines_of voice (setup_of s.roster) s.steps)) e
 
-pub whole_same : (answer : List ℕ → List ℕ) (left : Option (List ℕ)) (input : List ℕ) (ending : Ending) → Same answer → (scenario input).ending ≡ ending → IfSome left (λ bytes. scenario bytes ≡ scenario input)
+pub whole_same : (answer : List ℕ → List ℕ) (left : Option (List ℕ)) (input : List ℕ) (ending : Ending) → Same answer → (scenario input).ending ≡ ending
+    → IfSome left (λ bytes. scenario bytes ≡ scenario input)
     → IfSome left (λ bytes. ((scenario bytes).ending ≡ ending) × (answer bytes ≡ answer input))
 unfolding Same
 whole_same answer None input ending same e h = tt
@@ -87,7 +88,8 @@ module _ (failed : Type 0) (left left_now before now : Option (List ℕ)) (r : S
     Ends = EndsIn W r (call_of left left_now before now)
 
     -- the scenario has ended
-    ends : (text : List ℕ) (last : Last) → Same answer → Answered answer left left_now text last → (Went r → r ≡ session.status_of last) → (Went r → Appends before now text) → Broke r before now text → Ends
+    ends : (text : List ℕ) (last : Last) → Same answer → Answered answer left left_now text last → (Went r → r ≡ session.status_of last) → (Went r → Appends before now text)
+        → Broke r before now text → Ends
     ends text lasts.Ended same t =
         by_status W left left_now before now text statuses.Ok (λ after a. (answers answer text lasts.Ended after same t a, t.within)) r
     ends text (lasts.Bad n why) same t =
@@ -119,7 +121,8 @@ module _ (failed : Type 0) (left left_now before now : Option (List ℕ)) (r : S
       (λ e. subst (λ (o : List ℕ). Breaks before now o) (append-nil p.0) (all_broke before mid now text p.0 [] p.1 (b e)))
 
   -- with its last line
-  all_lasts : (mid : Option (List ℕ)) (text all whole last : List ℕ) → Written before mid text all → all ≡ whole → (Went r → Appends mid now (text ++ last)) → Went r → Appends before now (whole ++ last)
+  all_lasts : (mid : Option (List ℕ)) (text all whole last : List ℕ) → Written before mid text all → all ≡ whole → (Went r → Appends mid now (text ++ last)) → Went r
+      → Appends before now (whole ++ last)
   all_lasts mid text all whole last w is a n = subst (λ (o : List ℕ). Appends before now (o ++ last)) is (all_wrote before mid now text all last w (a n))
 
   breaks : (mid : Option (List ℕ)) (text all whole last : List ℕ) → Written before mid text all → all ≡ whole → Broke r mid now (text ++ last) → Broke r before now (whole ++ last)
@@ -137,7 +140,8 @@ module _ (failed : Type 0) (left left_now before now : Option (List ℕ)) (r : S
 
   -- a text that is written when the scenario has ended
 
-  pub yield_ends : (answer : List ℕ → List ℕ) → Same answer → (x : Last × String Global) → Yields answer left left_now (Ok x) → (Went r → r ≡ session.status_of x.0) → (Went r → Appends before now (string_bytes x.1))
+  pub yield_ends : (answer : List ℕ → List ℕ) → Same answer → (x : Last × String Global) → Yields answer left left_now (Ok x) → (Went r → r ≡ session.status_of x.0)
+      → (Went r → Appends before now (string_bytes x.1))
       → Broke r before now (string_bytes x.1) → EndsIn (scenario_ways failed answer) r (call_of left left_now before now)
   yield_ends answer same x p = ends answer nothing no_parts (string_bytes x.1) x.0 same p
 
@@ -234,7 +238,8 @@ history_is s None h =
     sym (ap (λ (x : Stepped). x.0.history) (ap (run (setup_of s.roster)) h ∙ run_none (setup_of s.roster)))
 history_is s (Some w) h = ap (λ (w : World). w.history) h.0
 
-listing_is : (listing : Listing) (s : Scenario) (x : Session) (last : Last) → session.Agrees s x → session.listing_or_bad listing last x.reader.roster.ports x.world ≡ listed_at (ending_of last) listing s
+listing_is : (listing : Listing) (s : Scenario) (x : Session) (last : Last) → session.Agrees s x
+    → session.listing_or_bad listing last x.reader.roster.ports x.world ≡ listed_at (ending_of last) listing s
 listing_is listing s x lasts.Ended h =
     ap (λ (ports : List Entry). listing_text listing ports (table (session.history_of x.world))) h.ports
     ∙ ap (λ (history : List Change). listing_text listing s.roster.ports (table history)) (history_is s x.world h.world)
@@ -307,12 +312,14 @@ pub calm_ends : (last : Last) (s : Status) → s ≡ session.status_of last → 
 calm_ends lasts.Ended s e = λ f. let g : statuses.Ok ≡ statuses.WriteFault = sym e ∙ f in absurd (cc)
 calm_ends (lasts.Bad n why) s e = λ f. let g : statuses.BadLine ≡ statuses.WriteFault = sym e ∙ f in absurd (cc)
 
-pub read_failed : (T : Type 0) (reads reads_now writes writes_now : ℕ) (stop : Stop) → Halts {T = T} reads reads_now writes writes_now (Err (halts.Stopped stop)) → stop ≡ stops.ReadFault → Rose reads reads_now
+pub read_failed : (T : Type 0) (reads reads_now writes writes_now : ℕ) (stop : Stop) → Halts {T = T} reads reads_now writes writes_now (Err (halts.Stopped stop)) → stop ≡ stops.ReadFault
+    → Rose reads reads_now
 read_failed T reads reads_now writes writes_now stops.ReadFault h e = h
 read_failed T reads reads_now writes writes_now stops.NoMemory h e = absurd (cc)
 read_failed T reads reads_now writes writes_now stops.TooLong h e = absurd (cc)
 
-pub yields_stop : (left now before after : Option (List ℕ)) (text : List ℕ) (answer : List ℕ → List ℕ) (stop : Stop) → Halted left now before after text (halts.Stopped stop) → Yields answer left now (Err stop)
+pub yields_stop : (left now before after : Option (List ℕ)) (text : List ℕ) (answer : List ℕ → List ℕ) (stop : Stop) → Halted left now before after text (halts.Stopped stop)
+    → Yields answer left now (Err stop)
 yields_stop left now before after text answer stops.ReadFault h = (h.0, h.2)
 yields_stop left now before after text answer stops.NoMemory h = (h.2.input, h.2.read)
 yields_stop left now before after text answer stops.TooLong h = (h.0, h.2)

@@ -49,11 +49,13 @@ all_is before mid old text whole frames t grown =
     ∙ ap (λ (b : List ℕ). b ++ text_left frames) (sym t.written.together) ∙ t.whole_is
 
 -- and all goes to the sink
-pub all_put : (before mid now : Option (List ℕ)) (old text whole : List ℕ) (frames : At) → Together before mid old frames whole → text ≡ old ++ text_left frames → Appends mid now (text ++ []) → Appends before now whole
+pub all_put : (before mid now : Option (List ℕ)) (old text whole : List ℕ) (frames : At) → Together before mid old frames whole → text ≡ old ++ text_left frames → Appends mid now (text ++ [])
+    → Appends before now whole
 all_put before mid now old text whole frames t grown wrote =
     subst (λ (b : List ℕ). Appends before now b) (all_is before mid old text whole frames t grown) (Appends-trans _ _ _ _ _ t.written.wrote wrote)
 
 -- or a front of it
-pub all_broke : (before mid now : Option (List ℕ)) (old text whole : List ℕ) (frames : At) → Together before mid old frames whole → text ≡ old ++ text_left frames → Breaks mid now (text ++ []) → Breaks before now whole
+pub all_broke : (before mid now : Option (List ℕ)) (old text whole : List ℕ) (frames : At) → Together before mid old frames whole → text ≡ old ++ text_left frames → Breaks mid now (text ++ [])
+    → Breaks before now whole
 all_broke before mid now old text whole frames t grown breaks =
     subst (λ (b : List ℕ). Breaks before now b) (all_is before mid old text whole frames t grown) (breaks_behind before mid now t.written.gone (text ++ []) t.written.wrote breaks)

@@ -30,7 +30,8 @@ use Rattle.scenario_runner.proofs.Reaching.{reached_more, reached_line, lacked_a
 pub none_more : (s : Scenario) (n : ℕ) → body_of (run_of (captures s n)) ≡ body_of (run_of s)
 none_more s n = ap body_of (same_run s (captures s n) refl (append-nil s.steps))
 
-with_section : (s : Scenario) (n : ℕ) (section : List ℕ) (steps : List Step) → captured s.roster.ports (packets section (length s.roster.ports)) ≡ Ok steps → takes s (Captures n) section ≡ with_steps (captures s n) steps
+with_section : (s : Scenario) (n : ℕ) (section : List ℕ) (steps : List Step) → captured s.roster.ports (packets section (length s.roster.ports)) ≡ Ok steps
+    → takes s (Captures n) section ≡ with_steps (captures s n) steps
 with_section s n section steps gives =
     ap (takes_steps s (Captures n)) gives ∙ ap (λ (l : List Step). record (captures s n) { steps = l ++ steps }) (sym (append-nil s.steps))
 
@@ -72,7 +73,14 @@ module _ (left now now' : Option (List ℕ)) (limit : ℕ) (r r' : Reading) (x :
           follows = p.follows;
           told = p.told;
           numbers =
-              omega (arith, p.numbers, ap length (q.1 ∙ ap (λ (l : List ℕ). l ++ (front ++ section)) handed.1), length-append p.reached.lines (front ++ section), length-append front section, length-append p.line (10 ∷ []));
+              omega (
+                arith,
+                p.numbers,
+                ap length (q.1 ∙ ap (λ (l : List ℕ). l ++ (front ++ section)) handed.1),
+                length-append p.reached.lines (front ++ section),
+                length-append front section,
+                length-append p.line (10 ∷ []),
+              );
           sound = sound;
         }
 

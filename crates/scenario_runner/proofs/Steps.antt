@@ -35,7 +35,8 @@ went_text s t before after w y told went =
 
 module _ (left now now' : Option (List ℕ)) (limit : ℕ) (r r' : Reading) (x : Session) where
   -- a whole line, whatever comes of it
-  module _ (y : Session) (w before after line : List ℕ) (p : Playing left limit r now x (w ++ before)) (m : Reads r r' now now' (line ++ 10 ∷ [])) (within : r'.taken ≤ r'.limit) (sound : r'.fault ≡ None) (feedless : HasNoFeed line) (number : y.reader.lines ≤ x.reader.lines + 1) where
+  module _ (y : Session) (w before after line : List ℕ) (p : Playing left limit r now x (w ++ before)) (m : Reads r r' now now' (line ++ 10 ∷ [])) (within : r'.taken ≤ r'.limit)
+      (sound : r'.fault ≡ None) (feedless : HasNoFeed line) (number : y.reader.lines ≤ x.reader.lines + 1) where
     abbrev s : Scenario
     s = p.scenario
 
@@ -53,7 +54,8 @@ module _ (left now now' : Option (List ℕ)) (limit : ℕ) (r r' : Reading) (x :
           reached = q.0;
           follows = went.follows;
           told = went_text s (takes s said []) before after w y p.told went;
-          numbers = omega (arith, number, p.numbers, ap length (q.1 ∙ ap (λ (l : List ℕ). l ++ (line ++ 10 ∷ [])) handed.1), length-append p.reached.lines (line ++ 10 ∷ []), length-append line (10 ∷ []));
+          numbers =
+              omega (arith, number, p.numbers, ap length (q.1 ∙ ap (λ (l : List ℕ). l ++ (line ++ 10 ∷ [])) handed.1), length-append p.reached.lines (line ++ 10 ∷ []), length-append line (10 ∷ []));
           sound = sound;
         }
 

@@ -1,5 +1,6 @@
 -- The text of a run, from its first line to its last.
-use Rattle.std.proofs.Common.{◌≡◌, ◌⊎◌, ℕ, ◌+◌, ◌≤◌, ◌==◌, ◌||◌, false, not, nat_lt, is_some, List, [], ◌∷◌, ◌++◌, length, take, drop, map, None, Some, Option, Result, Ok, Err, inl, inr, refl, sym, ◌∙◌, ap, subst, arith, codes, append_assoc, length-append}
+use Rattle.std.proofs.Common.{◌≡◌, ◌⊎◌, ℕ, ◌+◌, ◌≤◌, ◌==◌, ◌||◌, false, not, nat_lt, is_some, List, [], ◌∷◌, ◌++◌, length, take, drop}
+use Rattle.std.proofs.Common.{map, None, Some, Option, Result, Ok, Err, inl, inr, refl, sym, ◌∙◌, ap, subst, arith, codes, append_assoc, length-append}
 use Rattle.std.specs.Io.KnownBytes.{Appends, Consumes}
 use Rattle.std.specs.List.{list_all, sum_by}
 use Rattle.std.proofs.KnownBytes.{Appends-trans}
@@ -72,7 +73,8 @@ none_pending setup [] = refl
 none_pending setup (dom ∷ doms) = none_pending setup doms
 
 last_world : (s : Scenario) (w : Option World) → IsWorld s w → end_line_of w ≡ end_line (run_of s).0
-last_world s None h = ap (λ (n : ℕ). End 0 0 n 0) (sym (none_pending (setup_of s.roster) (chip_domains (setup_of s.roster).domains))) ∙ sym (ap (λ (x : Stepped). end_line x.0) (ap (run (setup_of s.roster)) h ∙ run_none (setup_of s.roster)))
+last_world s None h = ap (λ (n : ℕ). End 0 0 n 0) (sym (none_pending (setup_of s.roster) (chip_domains (setup_of s.roster).domains)))
+    ∙ sym (ap (λ (x : Stepped). end_line x.0) (ap (run (setup_of s.roster)) h ∙ run_none (setup_of s.roster)))
 last_world s (Some w) h = ap end_line h.0
 
 last_is : (s : Scenario) (w : Option World) (last : Last) → IsWorld s w → last_line last w ≡ last_text (ending_of last) (run_of s).0
@@ -115,12 +117,14 @@ pub split_all : (before after : Option (List ℕ)) (text all : List ℕ) (w : Wr
     → Playing left most_bytes reader now session all → Playing left most_bytes reader now session (w.gone ++ text)
 split_all before after text all w left now reader session p = subst (λ (b : List ℕ). Playing left most_bytes reader now session b) w.together p
 
-pub play_ends : (left now before after : Option (List ℕ)) (x y : Session) (held all text text' : List ℕ) (w : Written before after held all) (last : Last) → y.reader ≡ x.reader → y.world ≡ x.world → y.voice ≡ x.voice
+pub play_ends : (left now before after : Option (List ℕ)) (x y : Session) (held all text text' : List ℕ) (w : Written before after held all) (last : Last) → y.reader ≡ x.reader
+    → y.world ≡ x.world → y.voice ≡ x.voice
     → Played left most_bytes now x (w.gone ++ text) last → text' ≡ text ++ last_line last x.world → (whole : List ℕ) × Written before after text' whole × Told left now y whole last
 play_ends left now before after x y held all text text' w last roster world voice p e = (
   w.gone ++ text',
   record { gone = w.gone; wrote = w.wrote; together = refl },
-  subst (λ (b : List ℕ). Told left now y b last) (append_assoc w.gone text (last_line last x.world) ∙ ap (λ (b : List ℕ). w.gone ++ b) (sym e)) (finished left now x y (w.gone ++ text) last roster world voice p),
+  subst (λ (b : List ℕ). Told left now y b last) (append_assoc w.gone text (last_line last x.world) ∙ ap (λ (b : List ℕ). w.gone ++ b) (sym e))
+      (finished left now x y (w.gone ++ text) last roster world voice p),
 )
 
 pub play_stops : (left now before after : Option (List ℕ)) (reader : Reading) (x : Session) (held all text : List ℕ) (w : Written before after held all) (stop : Stop) (result : Result Last Halt)
@@ -158,7 +162,8 @@ end_lacks left now before after x y text text' all last result w p same is =
 
 -- a section was read, and perhaps its steps done
 
-pub section_ends : (left now before after : Option (List ℕ)) (reader : Reading) (x y : Session) (text text' : List ℕ) (last : Last) → y.reader ≡ x.reader → y.world ≡ x.world → y.voice ≡ x.voice → PlayedSection left reader now x before after text (Ok (Some last))
+pub section_ends : (left now before after : Option (List ℕ)) (reader : Reading) (x y : Session) (text text' : List ℕ) (last : Last) → y.reader ≡ x.reader → y.world ≡ x.world → y.voice ≡ x.voice
+    → PlayedSection left reader now x before after text (Ok (Some last))
     → text' ≡ text ++ last_line last x.world → (whole : List ℕ) × Written before after text' whole × Told left now y whole last
 section_ends left now before after reader x y text text' last roster world voice p e =
     play_ends left now before after x y text p.0 text text' p.1 last roster world voice (subst (λ (b : List ℕ). Played left most_bytes now x b last) p.1.together p.2) e

@@ -1,5 +1,6 @@
 -- What a line says, by its words; one with more words than any form is of no form.
-use Rattle.std.proofs.Common.{◌≡◌, ℕ, ◌+◌, ◌-◌, ◌<◌, ◌≤◌, nat_lt, Bool, true, false, cond, List, [], ◌∷◌, length, map, slice_index, slice_index_or, codes, inl, inr, Some, None, Result, Ok, Err, refl, ap, sym, ◌∙◌, arith}
+use Rattle.std.proofs.Common.{◌≡◌, ℕ, ◌+◌, ◌-◌, ◌<◌, ◌≤◌, nat_lt, Bool, true, false, cond, List, [], ◌∷◌, length, map}
+use Rattle.std.proofs.Common.{slice_index, slice_index_or, codes, inl, inr, Some, None, Result, Ok, Err, refl, ap, sym, ◌∙◌, arith}
 use Rattle.std.specs.Borrow.{Bor}
 use Rattle.std.specs.List.{list_all}
 use Rattle.std.specs.Str.{bytes_eq}
@@ -58,7 +59,8 @@ not_comment (c ∷ cs) h = ne_eqb c 35 h
 
 -- what the words say is what the line says
 
-pub by_words : (roster : Roster) (line : List ℕ) (answer : Result Said LineWhy) → (slice_index line 0 ≡ 35 → ⊥) → OrNoMemory answer (all_say roster (words line)) → OrNoMemory answer (line_says roster line)
+pub by_words : (roster : Roster) (line : List ℕ) (answer : Result Said LineWhy) → (slice_index line 0 ≡ 35 → ⊥) → OrNoMemory answer (all_say roster (words line))
+    → OrNoMemory answer (line_says roster line)
 unfolding line_says
 by_words roster line answer first (inl h) = inl h
 by_words roster line answer first (inr h) = inr (h ∙ sym (ap (λ b. cond b (Ok Blank) (all_say roster (words line))) (not_comment line first)))

@@ -1,5 +1,6 @@
 -- A declared port by its place among the others.
-use Rattle.std.proofs.Common.{◌≡◌, ℕ, zero, suc, ◌+◌, ◌<◌, ◌==◌, Bool, true, false, if◌then◌else◌, cond, List, [], ◌∷◌, ◌++◌, length, take, slice_get, IfSome, unwrap_or, refl, sym, ◌∙◌, ap, Option, Some, None}
+use Rattle.std.proofs.Common.{◌≡◌, ℕ, zero, suc, ◌+◌, ◌<◌, ◌==◌, Bool, true, false, if◌then◌else◌, cond, List, []}
+use Rattle.std.proofs.Common.{◌∷◌, ◌++◌, length, take, slice_get, IfSome, unwrap_or, refl, sym, ◌∙◌, ap, Option, Some, None}
 use Rattle.std.specs.List.{flat_map, fold}
 use Rattle.std.specs.Ordering.{nat_cmp}
 use Rattle.std.specs.Cmp.{nat_cmp_total, unsigned_tied}
@@ -114,7 +115,8 @@ abbrev made : Word → ℕ → ℕ → Entry
 made name port dom = record { name = name; port = port; dom = dom }
 
 -- the line of the port in this place
-pub entry_line : {T E : Type 0} (r : Result T E) (edition : Edition) (ports : List Entry) (i port dom : ℕ) (domains : Domains) (name s1 s2 : List ℕ) → are_declared ports ≡ true → domains ≡ domains_of edition ports
+pub entry_line : {T E : Type 0} (r : Result T E) (edition : Edition) (ports : List Entry) (i port dom : ℕ) (domains : Domains) (name s1 s2 : List ℕ) → are_declared ports ≡ true
+    → domains ≡ domains_of edition ports
     → Some port ≡ option_map (λ e. e.port) (slice_get ports i) → dom ≡ unwrap_or (domain_of domains port) software → name ≡ name_of ports port
     → OnOk r (s2 ≡ s1 ++ port_line (made name port dom)) → IfSome (slice_get ports i) (λ e. OnOk r (s2 ≡ s1 ++ port_line e))
 entry_line {T} {E} r edition ports i port dom domains name s1 s2 all same here is named h = by (slice_get ports i) refl here

@@ -1,5 +1,6 @@
 -- The lines before the first step are read back.
-use Rattle.std.proofs.Common.{◌≡◌, ℕ, suc, ◌+◌, ◌/◌, ◌%◌, ◌^◌, ◌<◌, ◌≤◌, ◌==◌, nat_lt, nat_le, Bool, true, false, not, ◌&&◌, if◌then◌else◌, List, [], ◌∷◌, ◌++◌, length, refl, sym, ◌∙◌, ap, arith, Some, Ok, Err, append_assoc, append-nil, length-append}
+use Rattle.std.proofs.Common.{◌≡◌, ℕ, suc, ◌+◌, ◌/◌, ◌%◌, ◌^◌, ◌<◌, ◌≤◌, ◌==◌, nat_lt, nat_le, Bool, true, false, not, ◌&&◌}
+use Rattle.std.proofs.Common.{if◌then◌else◌, List, [], ◌∷◌, ◌++◌, length, refl, sym, ◌∙◌, ap, arith, Some, Ok, Err, append_assoc, append-nil, length-append}
 use Rattle.std.specs.Prelude.{codes}
 use Rattle.std.specs.Cmp.{first_so, second_so}
 use Rattle.std.specs.Fmt.{decimal}
@@ -85,7 +86,8 @@ bridge_says check e own h =
 bridge_read : (check : Bool) (r : Roster) (more : List ℕ) → is_station r.own ≡ true
     → read 0 (opened_in check r.edition) (codes "bridge " ++ (mac_text r.own ++ (10 ∷ more))) ≡ read 0 (behind_ports 2 check r []) more
 bridge_read check r more h =
-    read_line (opened_in check r.edition) (Bridge r.own) (codes "bridge " ++ mac_text r.own) [] more refl (lines_joined (codes "bridge ") (mac_text r.own) refl (mac_feedless r.own)) (bridge_says check r.edition r.own h) refl
+    read_line (opened_in check r.edition) (Bridge r.own) (codes "bridge " ++ mac_text r.own) [] more refl (lines_joined (codes "bridge ") (mac_text r.own) refl (mac_feedless r.own))
+    (bridge_says check r.edition r.own h) refl
 
 -- what declared ports keep from those behind them
 
@@ -163,12 +165,14 @@ module _ (check : Bool) (r : Roster) (n : ℕ) (done : List Entry) (e : Entry) (
 
   says_soft : line_says here.roster (codes "port " ++ (decimal e.port ++ (32 ∷ (e.name ++ (32 ∷ codes "soft"))))) ≡ Ok (Declares e.port e.name software)
   says_soft =
-      line_read here.roster (row (codes "port NUMBER NEWNAME soft") declaration (λ port name. Declares port name software)) (e.port, (e.name, tt)) (prefix done (e ∷ later) all) refl refl refl refl refl
+      line_read here.roster (row (codes "port NUMBER NEWNAME soft") declaration (λ port name. Declares port name software)) (e.port, (e.name, tt))
+      (prefix done (e ∷ later) all) refl refl refl refl refl
       (and_from _ _ number_new (and_from _ true name_new refl))
 
   says_chip : (e.dom == software) ≡ false → line_says here.roster (codes "port " ++ (decimal e.port ++ (32 ∷ (e.name ++ (32 ∷ (codes "chip " ++ decimal e.dom)))))) ≡ Ok (Declares e.port e.name e.dom)
   says_chip not_soft =
-      line_read here.roster (row (codes "port NUMBER NEWNAME chip DOMAIN") declaration (λ port name dom. Declares port name dom)) (e.port, (e.name, (e.dom, tt))) (prefix done (e ∷ later) all) refl refl refl refl refl
+      line_read here.roster (row (codes "port NUMBER NEWNAME chip DOMAIN") declaration (λ port name dom. Declares port name dom)) (e.port, (e.name, (e.dom, tt)))
+      (prefix done (e ∷ later) all) refl refl refl refl refl
       (and_from _ _ number_new (and_from _ _ name_new (and_from _ true (and_from _ _ (above e.dom not_soft) own.of_chip) refl)))
     where
       above : (dom : ℕ) → (dom == 0) ≡ false → nat_le 1 dom ≡ true
@@ -177,7 +181,8 @@ module _ (check : Bool) (r : Roster) (n : ℕ) (done : List Entry) (e : Entry) (
   port_says : line_says here.roster (port_words e) ≡ Ok (Declares e.port e.name e.dom)
   port_says = by (e.dom == software) refl
     where
-      by : (b : Bool) → (e.dom == software) ≡ b → line_says here.roster (codes "port " ++ (decimal e.port ++ (32 ∷ (e.name ++ (32 ∷ (if b then codes "soft" else codes "chip " ++ decimal e.dom)))))) ≡ Ok (Declares e.port e.name e.dom)
+      by : (b : Bool) → (e.dom == software) ≡ b
+          → line_says here.roster (codes "port " ++ (decimal e.port ++ (32 ∷ (e.name ++ (32 ∷ (if b then codes "soft" else codes "chip " ++ decimal e.dom)))))) ≡ Ok (Declares e.port e.name e.dom)
       by true is = says_soft ∙ ap (λ (d : ℕ). Ok (Declares e.port e.name d)) (sym (eqb-true e.dom software is))
       by false is = says_chip is
 

@@ -13,7 +13,8 @@ use Rattle.br_model.specs.Text.Spelling.{name_of, device_text}
 
 -- a port that isn't declared has no name
 
-no_name_by : (b : Bool) (ports : List Entry) (name : List ℕ) (n : ℕ) → (b || has_number ports n) ≡ false → (has_number ports n ≡ false → name_of ports n ≡ []) → (if b then name else name_of ports n) ≡ []
+no_name_by : (b : Bool) (ports : List Entry) (name : List ℕ) (n : ℕ) → (b || has_number ports n) ≡ false → (has_number ports n ≡ false → name_of ports n ≡ [])
+    → (if b then name else name_of ports n) ≡ []
 no_name_by true ports name n h rest = absurd (cc)
 no_name_by false ports name n h rest = rest h
 

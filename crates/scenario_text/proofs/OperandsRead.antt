@@ -1,5 +1,6 @@
 -- The value that a word gives is in the range of its operand.
-use Rattle.std.proofs.Common.{◌≡◌, ℕ, zero, suc, ◌+◌, ◌-◌, ◌*◌, ◌^◌, ◌<◌, ◌≤◌, ◌==◌, nat_le, Bool, true, false, not, ◌&&◌, ◌||◌, if◌then◌else◌, List, [], ◌∷◌, length, refl, sym, ◌∙◌, ap, subst, arith, Option, Some, None, Result, Ok, Err}
+use Rattle.std.proofs.Common.{◌≡◌, ℕ, zero, suc, ◌+◌, ◌-◌, ◌*◌, ◌^◌, ◌<◌, ◌≤◌, ◌==◌, nat_le, Bool, true, false, not, ◌&&◌, ◌||◌}
+use Rattle.std.proofs.Common.{if◌then◌else◌, List, [], ◌∷◌, length, refl, sym, ◌∙◌, ap, subst, arith, Option, Some, None, Result, Ok, Err}
 use Rattle.std.proofs.Math.Nat.{lt_of_lt_of_le, mul-le-mul_left, mul_assoc, mul_comm, pow-succ', pow-zero}
 use Rattle.std.specs.Cmp.{first_so, second_so}
 use Rattle.std.specs.List.{fold, list_all, list_any, slice_split}
@@ -15,7 +16,9 @@ use Rattle.br_model.specs.Data.Numbers.{is_multicast, number as number_of}
 use Rattle.br_model.specs.Table.Domains.{host, last_port, first_chip_domain, last_chip}
 use Rattle.br_model.specs.Text.FlagWords.{flag_named, flags}
 use Rattle.br_model.specs.Text.IpWords.{address, address_four, address_six, each, four_digits, four_or_six, in_parts, octet}
-use Rattle.br_model.specs.Text.Operands.{Operand, Number, Chip, NewPort, NewName, PortNumber, PortName, Device, Station, GroupAddress, Hex, Flag, Value, bytes_of, chip_domain, device, flag, found, group, has_colons, hex, in_range, is_byte, is_device, is_flag, is_ip, is_station, mac, new_name, new_port, number, number_in, port_name, port_number, read, station_of, twelve, unless}
+use Rattle.br_model.specs.Text.Operands.{Operand, Number, Chip, NewPort, NewName, PortNumber, PortName, Device, Station, GroupAddress, Hex, Flag, Value, bytes_of, chip_domain, device, flag, found}
+use Rattle.br_model.specs.Text.Operands.{group, has_colons, hex, in_range, is_byte, is_device, is_flag, is_ip, is_station, mac, new_name, new_port, number, number_in, port_name, port_number, read}
+use Rattle.br_model.specs.Text.Operands.{station_of, twelve, unless}
 use Rattle.br_model.specs.Text.Roster.{Entry, has_number, is_chip, is_name, host_name, port_named}
 use Rattle.br_model.specs.Text.Words.{Word, is_word}
 

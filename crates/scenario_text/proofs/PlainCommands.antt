@@ -1,5 +1,6 @@
 -- Commands of a port's flag, and moments, in their plainest spelling.
-use Rattle.std.proofs.Common.{◌≡◌, ℕ, suc, ◌+◌, ◌-◌, ◌≤◌, Bool, true, false, ◌&&◌, if◌then◌else◌, cond, List, [], ◌∷◌, ◌++◌, length, take, drop, get_or, map, codes, is_some, slice_index_or, Some, None, Ok, Err, refl, ap, sym, ◌∙◌, arith}
+use Rattle.std.proofs.Common.{◌≡◌, ℕ, suc, ◌+◌, ◌-◌, ◌≤◌, Bool, true, false, ◌&&◌, if◌then◌else◌, cond, List, [], ◌∷◌, ◌++◌, length}
+use Rattle.std.proofs.Common.{take, drop, get_or, map, codes, is_some, slice_index_or, Some, None, Ok, Err, refl, ap, sym, ◌∙◌, arith}
 use Rattle.std.specs.Char.{is_ascii}
 use Rattle.std.specs.Cmp.{first_so, second_so}
 use Rattle.std.specs.List.{filter, list_all}
@@ -41,7 +42,9 @@ off_says : (r : Roster) (name flag_word : Word) (port bit : ℕ) → step r.plac
     → all_say r (codes "cmd" ∷ codes "link" ∷ name ∷ flag_word ∷ codes "off" ∷ []) ≡ Ok (Does (Cmd (Link port bit false)))
 unfolding flag
 off_says r name flag_word port bit place named flagged =
-    ap (λ (s : Bool). commanded (said r (if s && false then Some link_on else if s && true then Some link_off else pick (drop 4 commands) 4 (behind name flag_word (codes "off"))) (behind name flag_word (codes "off")))) (ap is_some flagged)
+    ap (λ (s : Bool). commanded
+    (said r (if s && false then Some link_on else if s && true then Some link_off else pick (drop 4 commands) 4 (behind name flag_word (codes "off"))) (behind name flag_word (codes "off"))))
+    (ap is_some flagged)
     ∙ ap (λ b. commanded (if b then after (port_name r.ports name) (λ p. after (flag flag_word) (λ g. Ok (Link p g false))) else Err why.Place)) place
     ∙ ap (λ o. commanded (after o (λ p. after (flag flag_word) (λ g. Ok (Link p g false))))) named
     ∙ ap (λ o. commanded (after (found why.Word o) (λ g. Ok (Link port g false)))) flagged
@@ -56,7 +59,8 @@ link_words text =
     ap (λ parts. map readable (filter is_word parts))
     (split_plain (codes "cmd") (codes "link" ++ 32 ∷ text) refl ∙ ap (λ parts. codes "cmd" ∷ parts) (split_plain (codes "link") text refl))
 
-pub linked : (r : Roster) (text switch rest : List ℕ) (name flag_word : Word) (port bit : ℕ) (on : Bool) → step r.place ≡ true → words text ≡ name ∷ words switch → words switch ≡ flag_word ∷ words rest
+pub linked : (r : Roster) (text switch rest : List ℕ) (name flag_word : Word) (port bit : ℕ) (on : Bool) → step r.place ≡ true → words text ≡ name ∷ words switch
+    → words switch ≡ flag_word ∷ words rest
     → rest ≡ switch_word on → Some bit ≡ flag_named flags flag_word → Ok port ≡ port_name r.ports name → all_say r (words (links text)) ≡ Ok (Does (Cmd (Link port bit on)))
 linked r text switch rest name flag_word port bit on place first second last flagged named =
     ap (all_say r)
@@ -178,7 +182,8 @@ pub del_line : (text : List ℕ) → 8 ≤ length text → get_or text 0 0 ≡ 1
     → get_or text 6 0 ≡ 100 → get_or text 7 0 ≡ 32 → text ≡ codes "del vid " ++ take (length text - 8) (drop 8 text)
 del_line text long a b c d e f g h = front_reads text (codes "del vid ") long (a, (b, (c, (d, (e, (f, (g, (h, tt))))))))
 
-pub dev_line : (text : List ℕ) → 4 ≤ length text → get_or text 0 0 ≡ 100 → get_or text 1 0 ≡ 101 → get_or text 2 0 ≡ 118 → get_or text 3 0 ≡ 32 → text ≡ codes "dev " ++ take (length text - 4) (drop 4 text)
+pub dev_line : (text : List ℕ) → 4 ≤ length text → get_or text 0 0 ≡ 100 → get_or text 1 0 ≡ 101 → get_or text 2 0 ≡ 118 → get_or text 3 0 ≡ 32
+    → text ≡ codes "dev " ++ take (length text - 4) (drop 4 text)
 dev_line text long a b c d = front_reads text (codes "dev ") long (a, (b, (c, (d, tt))))
 
 pub now_line : (line : List ℕ) → 4 ≤ length line → get_or line 0 0 ≡ 110 → get_or line 1 0 ≡ 111 → get_or line 2 0 ≡ 119 → get_or line 3 0 ≡ 32 → line ≡ moves (take (length line - 4) (drop 4 line))

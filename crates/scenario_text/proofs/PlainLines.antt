@@ -1,5 +1,6 @@
 -- Lines in their plainest spelling.
-use Rattle.std.proofs.Common.{◌≡◌, ℕ, ◌-◌, ◌==◌, ◌≤◌, nat_le, Bool, true, false, not, ◌&&◌, if◌then◌else◌, cond, List, [], ◌∷◌, ◌++◌, length, take, drop, map, get_or, codes, Option, Some, None, unwrap_or, Ok, Err, refl, ap, sym, ◌∙◌, arith}
+use Rattle.std.proofs.Common.{◌≡◌, ℕ, ◌-◌, ◌==◌, ◌≤◌, nat_le, Bool, true, false, not, ◌&&◌, if◌then◌else◌, cond, List, [], ◌∷◌, ◌++◌}
+use Rattle.std.proofs.Common.{length, take, drop, map, get_or, codes, Option, Some, None, unwrap_or, Ok, Err, refl, ap, sym, ◌∙◌, arith}
 use Rattle.std.specs.Char.{is_ascii}
 use Rattle.std.specs.Cmp.{first_so, second_so}
 use Rattle.std.specs.List.{filter, list_all, slice_split, onto_first}
@@ -65,7 +66,8 @@ hex_plain [] bytes h = refl
 hex_plain (c ∷ []) bytes h = absurd (cc)
 hex_plain (c ∷ d ∷ cs) bytes h = by (λ more. hex_plain cs more) (nibble c) (nibble d) (bytes_from_hex cs) refl refl refl h
   where
-    by : ((more : List ℕ) → bytes_from_hex cs ≡ Some more → list_all is_plain cs ≡ true) → (high low : Option ℕ) (rest : Option (List ℕ)) → nibble c ≡ high → nibble d ≡ low → bytes_from_hex cs ≡ rest → in_front (byte_of high low) rest ≡ Some bytes
+    by : ((more : List ℕ) → bytes_from_hex cs ≡ Some more → list_all is_plain cs ≡ true) → (high low : Option ℕ) (rest : Option (List ℕ)) → nibble c ≡ high → nibble d ≡ low
+        → bytes_from_hex cs ≡ rest → in_front (byte_of high low) rest ≡ Some bytes
         → list_all is_plain (c ∷ d ∷ cs) ≡ true
     by others None low rest i j k e = absurd (cc)
     by others (Some x) None rest i j k e = absurd (cc)
@@ -114,7 +116,8 @@ is_spelled w n h = by (is_decimal w) h
     by true e = refl
     by false e = absurd (cc)
 
-known_number : (r : Roster) (w : Word) (number port : ℕ) → decimal_from w ≡ Some number → Some port ≡ (if nat_le number last_port && has_number r.ports number then Some number else None) → port_number r.ports w ≡ Ok port
+known_number : (r : Roster) (w : Word) (number port : ℕ) → decimal_from w ≡ Some number → Some port ≡ (if nat_le number last_port && has_number r.ports number then Some number else None)
+    → port_number r.ports w ≡ Ok port
 unfolding port_number
 known_number r w number port spells known =
     ap (λ o. unless why.Port (λ n. not (nat_le n last_port && has_number r.ports n)) (found why.Number o)) spells ∙ by (nat_le number last_port && has_number r.ports number) known
@@ -161,7 +164,8 @@ one_digit text n long space spells = record {
   spells = spells;
 }
 
-pub two_digits : (text : List ℕ) (n : ℕ) → 3 ≤ length text → get_or text 2 0 ≡ 32 → decimal_from (get_or text 0 0 ∷ get_or text 1 0 ∷ []) ≡ Some n → Numbered text n (take (length text - 3) (drop 3 text))
+pub two_digits : (text : List ℕ) (n : ℕ) → 3 ≤ length text → get_or text 2 0 ≡ 32 → decimal_from (get_or text 0 0 ∷ get_or text 1 0 ∷ []) ≡ Some n
+    → Numbered text n (take (length text - 3) (drop 3 text))
 two_digits text n long space spells = record {
   word = get_or text 0 0 ∷ get_or text 1 0 ∷ [];
   text_is = front_three text long ∙ ap (λ s. get_or text 0 0 ∷ get_or text 1 0 ∷ s ∷ take (length text - 3) (drop 3 text)) space;

@@ -1,5 +1,6 @@
 -- The words of a line, as it is cut at its spaces.
-use Rattle.std.proofs.Common.{◌≡◌, true≢false, ℕ, zero, suc, ◌-◌, ◌<◌, ◌≤◌, ◌==◌, Bool, true, false, not, cond, List, [], ◌∷◌, ◌++◌, length, take, drop, map, slice_index, Option, Some, None, IfNone, refl, ap, sym, ◌∙◌, add-one, append_assoc, arith}
+use Rattle.std.proofs.Common.{◌≡◌, true≢false, ℕ, zero, suc, ◌-◌, ◌<◌, ◌≤◌, ◌==◌, Bool, true, false, not, cond, List, [], ◌∷◌}
+use Rattle.std.proofs.Common.{◌++◌, length, take, drop, map, slice_index, Option, Some, None, IfNone, refl, ap, sym, ◌∙◌, add-one, append_assoc, arith}
 use Rattle.std.specs.Char.{is_ascii}
 use Rattle.std.specs.List.{filter, list_all, slice_split, onto_first}
 use Rattle.std.specs.Option.{is_some}
@@ -120,7 +121,8 @@ none : {A P : Type 0} (answer : Option A) → P → IfNone answer P
 none None p = p
 none (Some x) p = tt
 
-pub too_many : {A : Type 0} (answer : Option A) (found : List Word) (rest part after : List ℕ) (end : ℕ) (all : List Word) (n : ℕ) → IsFirstByte (is_byte 32) rest (Some end) → part ≡ take end rest → after ≡ drop end rest
+pub too_many : {A : Type 0} (answer : Option A) (found : List Word) (rest part after : List ℕ) (end : ℕ) (all : List Word) (n : ℕ) → IsFirstByte (is_byte 32) rest (Some end)
+    → part ≡ take end rest → after ≡ drop end rest
     → found ++ words rest ≡ all → n < length (found ++ words_among (part ∷ [])) → IfNone answer (n < length all)
 too_many answer found rest part after end all n h is then before long =
     none answer (longer found (words_among (part ∷ [])) (words (take (length after - 1) (drop 1 after))) all n (ap (λ ws. found ++ ws) (sym (words_at rest part after end h is then)) ∙ before) long)

@@ -1,5 +1,6 @@
 -- A step that a line gives has a line.
-use Rattle.std.proofs.Common.{◌≡◌, ℕ, zero, suc, ◌-◌, ◌+◌, ◌==◌, Bool, true, false, ◌&&◌, if◌then◌else◌, List, [], ◌∷◌, length, take, refl, subst, nat_lt, slice_index_or, Option, Some, None, Result, Ok, Err, IfOk, IfSome}
+use Rattle.std.proofs.Common.{◌≡◌, ℕ, zero, suc, ◌-◌, ◌+◌, ◌==◌, Bool, true, false, ◌&&◌, if◌then◌else◌, List, [], ◌∷◌}
+use Rattle.std.proofs.Common.{length, take, refl, subst, nat_lt, slice_index_or, Option, Some, None, Result, Ok, Err, IfOk, IfSome}
 use Rattle.std.specs.Prelude.{codes}
 use Rattle.std.specs.Cmp.{first_so, second_so}
 use Rattle.std.specs.List.{AllByRecursion, list_all}
@@ -114,7 +115,52 @@ module _ (r : Roster) where
   frame_says port h bytes g = two _ _ h (shown_bytes bytes (second_so (is_word bytes) _ g))
 
   lines_say : (word : ℕ → Word) → AllByRecursion (SaysSo StepHasLine word) lines.lines
-  lines_say word = (row_says StepHasLine word (row (codes "scenario 1") opening (Opens One)) tt, (row_says StepHasLine word (row (codes "scenario 2") opening (Opens Two)) tt, (row_says StepHasLine word (row (codes "bridge MAC") header (λ mac. Bridge mac)) (λ mac h. tt), (row_says StepHasLine word (row (codes "port NUMBER NEWNAME soft") declaration (λ port name. Declares port name software)) (λ port h name g. tt), (row_says StepHasLine word (row (codes "port NUMBER NEWNAME chip DOMAIN") declaration (λ port name dom. Declares port name dom)) (λ port f name g dom h. tt), (row_says StepHasLine word lines.rx frame_says, (row_says StepHasLine word lines.serve refl, (row_says StepHasLine word lines.hold refl, (row_says StepHasLine word lines.post (λ id h. one _ h), (row_says StepHasLine word lines.post_at (λ id h point g. two _ _ h g), (row_says StepHasLine word lines.now (λ moment h. one _ h), (row_says StepHasLine word lines.turn (λ dom h. one _ h), (row_says StepHasLine word lines.report (λ dom h. one _ h), (row_says StepHasLine word lines.sweep (λ dom h. one _ h), (row_says StepHasLine word lines.publish refl, (row_says StepHasLine word (row (codes "capture LENGTH") step (λ n. Captures n)) (λ n h. tt), (row_says StepHasLine word (row (codes "end") step Ends) tt, tt)))))))))))))))))
+  lines_say word = (
+    row_says StepHasLine word (row (codes "scenario 1") opening (Opens One)) tt,
+    (
+      row_says StepHasLine word (row (codes "scenario 2") opening (Opens Two)) tt,
+      (
+        row_says StepHasLine word (row (codes "bridge MAC") header (λ mac. Bridge mac)) (λ mac h. tt),
+        (
+          row_says StepHasLine word (row (codes "port NUMBER NEWNAME soft") declaration (λ port name. Declares port name software)) (λ port h name g. tt),
+          (
+            row_says StepHasLine word (row (codes "port NUMBER NEWNAME chip DOMAIN") declaration (λ port name dom. Declares port name dom)) (λ port f name g dom h. tt),
+            (
+              row_says StepHasLine word lines.rx frame_says,
+              (
+                row_says StepHasLine word lines.serve refl,
+                (
+                  row_says StepHasLine word lines.hold refl,
+                  (
+                    row_says StepHasLine word lines.post (λ id h. one _ h),
+                    (
+                      row_says StepHasLine word lines.post_at (λ id h point g. two _ _ h g),
+                      (
+                        row_says StepHasLine word lines.now (λ moment h. one _ h),
+                        (
+                          row_says StepHasLine word lines.turn (λ dom h. one _ h),
+                          (
+                            row_says StepHasLine word lines.report (λ dom h. one _ h),
+                            (
+                              row_says StepHasLine word lines.sweep (λ dom h. one _ h),
+                              (
+                                row_says StepHasLine word lines.publish refl,
+                                (row_says StepHasLine word (row (codes "capture LENGTH") step (λ n. Captures n)) (λ n h. tt), (row_says StepHasLine word (row (codes "end") step Ends) tt, tt)),
+                              ),
+                            ),
+                          ),
+                        ),
+                      ),
+                    ),
+                  ),
+                ),
+              ),
+            ),
+          ),
+        ),
+      ),
+    ),
+  )
 
   command_says : (c : Result Command LineWhy) → IfOk c CommandHasLine → IfOk (commanded c) StepHasLine
   command_says (Ok command) h = h

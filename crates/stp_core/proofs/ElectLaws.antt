@@ -36,7 +36,8 @@ least-more id i ps h =
     let e : 0 + i ≡ i = omega arith in
     ap (λ n. least (filter_map (candidate id) (entries_at 0 (take n ps)))) (let f : i + 1 ≡ suc i = omega arith in f)
     ∙ ap (λ (es : List (ℕ × TreePort)). least (filter_map (candidate id) es)) (entries-more 0 i ps h ∙ ap (λ n. entries_at 0 (take i ps) ++ entry_at n (get_or ps i None)) e)
-    ∙ ap least (filter_map-append (candidate id) (entries_at 0 (take i ps)) (entry_at i (get_or ps i None)) ∙ ap (λ (l : List Candidate). filter_map (candidate id) (entries_at 0 (take i ps)) ++ l) (offers id i (get_or ps i None)))
+    ∙ ap least (filter_map-append (candidate id) (entries_at 0 (take i ps)) (entry_at i (get_or ps i None))
+    ∙ ap (λ (l : List Candidate). filter_map (candidate id) (entries_at 0 (take i ps)) ++ l) (offers id i (get_or ps i None)))
     ∙ least-push (filter_map (candidate id) (entries_at 0 (take i ps))) (option_and_then (λ x. candidate id (i, x)) (get_or ps i None))
 
 -- the lesser of two candidates is at one of their ports

@@ -1,5 +1,6 @@
 -- What stands at a port, in the form that a search applies.
-use Rattle.std.proofs.Common.{◌≡◌, [], ◌∷◌, cond, refl, ℕ, ◌+◌, ◌<◌, ◌≤◌, ◌⊎◌, inl, inr, nat_lt, Bool, true, false, List, length, replicate, set, get_or, Option, None, Some, not, ◌==◌, ◌∙◌, ap, ap₂, subst, sym, arith}
+use Rattle.std.proofs.Common.{◌≡◌, [], ◌∷◌, cond, refl, ℕ, ◌+◌, ◌<◌, ◌≤◌, ◌⊎◌, inl, inr, nat_lt, Bool, true, false}
+use Rattle.std.proofs.Common.{List, length, replicate, set, get_or, Option, None, Some, not, ◌==◌, ◌∙◌, ap, ap₂, subst, sym, arith}
 use Rattle.std.specs.Ordering.{nat_cmp, is_eq}
 use Rattle.br_model.specs.declared.tree.TreePort.{TreePort}
 use Rattle.br_model.specs.Data.Maps.{get, put, without}

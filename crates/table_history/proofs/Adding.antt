@@ -47,5 +47,7 @@ adds_goes log v b old len some full pre false is =
 pub adds_moves : (v : List (List Change)) (b : List Change) (old : ℕ) → length v ≡ old → 0 < length b
     → Moves IsKept shown moved 0 (v, (no_nib, None)) (λ n. either (n == old) (old + 1) n) (Adds (step 0 old (old + 1) b) (v, (no_nib, None)))
 adds_moves v b old len some cs log kept pre away =
-    let P : List Cell → Type 0 = λ c. (0 < length c) × ((cell c 0).1 ≡ true) × Goes IsKept shown moved 0 (v, (no_nib, None)) (λ n. either (n == old) (old + 1) n) (Adds (step 0 old (old + 1) b) (v, (no_nib, None))) c log in
+    let P : List Cell
+    → Type 0 = λ c. (0 < length c) × ((cell c 0).1 ≡ true) × Goes IsKept shown moved 0 (v, (no_nib, None)) (λ n. either (n == old) (old + 1) n)
+    (Adds (step 0 old (old + 1) b) (v, (no_nib, None))) c log in
     subst P (sym kept.words) (omega arith, refl, adds_goes log v b old len some kept.full pre (length log == old) refl)

@@ -41,7 +41,8 @@ fold_taken before (c ∷ later) w =
     ap (λ (t : Table). fold taken t later) one ∙ (fold_taken (before ++ c ∷ []) later (subst AreWithin (sym seam) w) ∙ ap table seam)
 
 -- the tables of a history that is one batch longer
-pub table_after : (p : Published) (o : Operation) (log : List (List Change)) → IsTable p → p.seen.log ≡ log → o.seen.log ≡ log ++ o.changes.list ∷ [] → o.batches ≡ length log + 1 → 0 < length o.changes.list
+pub table_after : (p : Published) (o : Operation) (log : List (List Change)) → IsTable p → p.seen.log ≡ log → o.seen.log ≡ log ++ o.changes.list ∷ [] → o.batches ≡ length log + 1
+    → 0 < length o.changes.list
     → AreWithin (changes_of log ++ o.changes.list) → IsTable (after p o)
 table_after p o log t same is number some within =
     let items = o.changes.list in
@@ -72,5 +73,6 @@ after_nothing p o t seen none same =
     let tables : fold taken p.tables o.changes.list ≡ p.tables = ap (λ (l : List Change). fold taken p.tables l) none in
     let few = t.within.few in
     let zero : length o.changes.list ≡ 0 = ap length none in
-    let len : (p.len + length o.changes.list) % 18446744073709551616 ≡ p.len = small_mod (p.len + length o.changes.list) (omega (arith, t.len)) ∙ (let e : p.len + length o.changes.list ≡ p.len = omega arith in e) in
+    let len : (p.len + length o.changes.list) % 18446744073709551616 ≡ p.len = small_mod (p.len + length o.changes.list) (omega (arith, t.len))
+    ∙ (let e : p.len + length o.changes.list ≡ p.len = omega arith in e) in
     λ i. record { tables = tables i; len = len i; batches = same i; seen = seen i }

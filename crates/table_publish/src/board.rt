@@ -51,13 +51,7 @@ impl Model for Board {
 }
 
 /// Adds a batch to the book of all publications. The board alone adds, so the book is as it was seen: the exchange is made once.
-fn enter_batch<R: Wait>(
-    rt: &R,
-    word: &Count,
-    seen: &Shown,
-    batches: u64,
-    changes: &Packed,
-) -> Shown
+fn enter_batch<R: Wait>(rt: &R, word: &Count, seen: &Shown, batches: u64, changes: &Packed) -> Shown
     requires word { word.now ≡ head_of seen.now.book }
     requires batches { (batches ≡ length seen.now.log) × (batches ≤ most_changes) }
     requires some { 0 < length changes.now.list }
@@ -66,7 +60,9 @@ fn enter_batch<R: Wait>(
 {
     for _ in rt.forever() {
         let mut seen = seen.again();
-        let mut offer: Offer<Batch, u64, Law, Nothing> = seen.plain::<Nothing, Packed, Add>(changes);
+        let mut offer: Offer<Batch, u64, Law, Nothing> = seen.plain::<Nothing, Packed, Add>(
+            changes,
+        );
         let mut pen = seen.no_pen();
         let found = word.compare_exchange::<Add, Nothing>(
             batches,

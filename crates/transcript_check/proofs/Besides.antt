@@ -76,7 +76,8 @@ module _ (transcript : List ℕ) (setup : Setup) (steps : List Step) (step : Ste
   passes (Some d) h b = passes_by d b
 
   -- or none does
-  pub goes_on : (v : World) (told : List Line) (next : Standing) (o : Option Difference) → IsBeside transcript setup steps w cursor None → Tells w step v told → Compares cursor next (lines_in (text told)) o
+  pub goes_on : (v : World) (told : List Line) (next : Standing) (o : Option Difference) → IsBeside transcript setup steps w cursor None → Tells w step v told
+      → Compares cursor next (lines_in (text told)) o
       → IsBeside transcript setup (steps ++ step ∷ []) v next o
   goes_on v told next o b tells is =
       let told-by : world_step (run setup steps).0 step ≡ (v, told) = ap (λ (x : World). world_step x step) (sym (b.world_is refl)) ∙ tells in
@@ -110,7 +111,8 @@ module _ (transcript : List ℕ) (setup : Setup) (steps : List Step) (w : World)
       ∙ joined (start_of transcript) cursor next (lines_in (body_of (run setup steps))) (lines_in (line_text (end_line (run setup steps).0))) (Some d) b.compared last []
 
   -- or what is behind it, or nothing
-  pub ends_so : (o : Option Difference) → IsBeside transcript setup steps w cursor None → Compares cursor next (lines_in (line_text (end_line w))) None → EndsThere next o → difference whole_of transcript ≡ o
+  pub ends_so : (o : Option Difference) → IsBeside transcript setup steps w cursor None → Compares cursor next (lines_in (line_text (end_line w))) None → EndsThere next o
+      → difference whole_of transcript ≡ o
   ends_so o b is there =
       let last = subst (λ (v : World). Compares cursor next (lines_in (line_text (end_line v))) None) (b.world_is refl) is in
       ap (differs_at (start_of transcript)) (last_lines ∙ sym (append-nil (lines_in (body_of (run setup steps)) ++ lines_in (line_text (end_line (run setup steps).0)))))

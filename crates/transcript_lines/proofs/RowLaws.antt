@@ -204,7 +204,8 @@ copied_inside front saved arena bytes rows now m bytes_are are =
 -- Room.
 
 -- so many more in it
-pub fit_more : (len capacity saved copied more len2 capacity2 there : ℕ) → Fit len capacity saved copied → room len capacity saved copied ≡ there → more ≤ there → len2 ≡ len + more → capacity ≤ capacity2
+pub fit_more : (len capacity saved copied more len2 capacity2 there : ℕ) → Fit len capacity saved copied → room len capacity saved copied ≡ there → more ≤ there → len2 ≡ len + more
+    → capacity ≤ capacity2
     → Fit len2 capacity2 saved copied
 fit_more len capacity saved copied more len2 capacity2 there fit is low len_is grows =
     let e : min (capacity - len) (saved + copied - len) ≡ there = is in
@@ -212,7 +213,8 @@ fit_more len capacity saved copied more len2 capacity2 there fit is low len_is g
 
 -- ---- where no line has the tagged form
 
-none_by : {A B : Type 0} (q : A → Bool) (x : A) (xs : List A) (f g : A → B) (b : Bool) → q x ≡ b → ((m : A) → q m ≡ false → f m ≡ g m) → (filter q xs ≡ [] → map f xs ≡ map g xs) → filter q (x ∷ xs) ≡ []
+none_by : {A B : Type 0} (q : A → Bool) (x : A) (xs : List A) (f g : A → B) (b : Bool) → q x ≡ b → ((m : A) → q m ≡ false → f m ≡ g m) → (filter q xs ≡ [] → map f xs ≡ map g xs)
+    → filter q (x ∷ xs) ≡ []
     → map f (x ∷ xs) ≡ map g (x ∷ xs)
 none_by q x xs f g true is same rest none = (let some : filter q (x ∷ xs) ≡ x ∷ filter q xs = ap (λ b. if b then x ∷ filter q xs else filter q xs) is in absurd (cc))
 none_by q x xs f g false is same rest none = ap₂ (λ y ys. y ∷ ys) (same x is) (rest (sym (ap (λ b. if b then x ∷ filter q xs else filter q xs) is) ∙ none))

@@ -49,7 +49,8 @@ pairs_are i [] bytes l h = ap hex_of (ok_is h)
 pairs_are i (a ∷ []) bytes l h = cc
 pairs_are i (a ∷ b ∷ rest) bytes l h =
     let more = second_so (is_lower b) (list_all is_lower rest) (second_so (is_lower a) (list_all is_lower (b ∷ rest)) l) in
-    pair_is a b i rest bytes (hex_digit_value a) (hex_digit_value b) (decode_pairs (i + 2) rest) (first_so _ _ l) (first_so (is_lower b) (list_all is_lower rest) (second_so (is_lower a) (list_all is_lower (b ∷ rest)) l)) refl refl
+    pair_is a b i rest bytes (hex_digit_value a) (hex_digit_value b) (decode_pairs (i + 2) rest) (first_so _ _ l)
+    (first_so (is_lower b) (list_all is_lower rest) (second_so (is_lower a) (list_all is_lower (b ∷ rest)) l)) refl refl
     (λ r e. pairs_are (i + 2) rest r more e) h
 
 bytes_are : (bytes : List ℕ) → IsBytes bytes → list_all is_byte bytes ≡ true

@@ -1,5 +1,6 @@
 -- Numbers are read from the digits that they are written in, and from nothing else.
-use Rattle.std.proofs.Common.{◌≡◌, ◌≢◌, ℕ, suc, ◌+◌, ◌-◌, ◌*◌, ◌^◌, ◌<◌, ◌≤◌, ◌==◌, nat_lt, Bool, true, false, not, ◌&&◌, ◌||◌, if◌then◌else◌, List, [], ◌∷◌, length, get_or, refl, sym, ◌∙◌, ap, arith, Option, Some, None, Result, Ok, Err}
+use Rattle.std.proofs.Common.{◌≡◌, ◌≢◌, ℕ, suc, ◌+◌, ◌-◌, ◌*◌, ◌^◌, ◌<◌, ◌≤◌, ◌==◌, nat_lt, Bool, true, false, not, ◌&&◌, ◌||◌}
+use Rattle.std.proofs.Common.{if◌then◌else◌, List, [], ◌∷◌, length, get_or, refl, sym, ◌∙◌, ap, arith, Option, Some, None, Result, Ok, Err}
 use Rattle.std.specs.Cmp.{first_so, second_so}
 use Rattle.std.specs.Fmt.{decimal}
 use Rattle.std.specs.List.{list_all, fold}
@@ -86,7 +87,8 @@ number_parsed {E} w (Err e) h plain lead =
     let none = parse_plain own {E = E} 32 w (Err e) h plain in
     by (is_decimal w && is_number (digits_value w)) refl none
   where
-    by : (b : Bool) → (is_decimal w && is_number (digits_value w)) ≡ b → ¬ ((list_all is_digit w ≡ true) × (0 < length w) × (digits_value w < 2 ^ 32)) → None ≡ (if b then Some (digits_value w) else None)
+    by : (b : Bool) → (is_decimal w && is_number (digits_value w)) ≡ b → ¬ ((list_all is_digit w ≡ true) × (0 < length w) × (digits_value w < 2 ^ 32))
+        → None ≡ (if b then Some (digits_value w) else None)
     by false s none = refl
     by true s none =
         let d = first_so (is_decimal w) (is_number (digits_value w)) s in
@@ -103,7 +105,8 @@ number_is w {n} h =
     let ds : (list_all is_digit w && (length w == 1 || not (begins_with_zero w))) ≡ true = second_so (nat_lt 0 (length w)) _ d in
     let v : digits_value w ≡ n = same_Some _ _ p.1 in
     let fits : digits_value w < 2 ^ 32 = below _ small in
-    let e : decimal (digits_value w) ≡ w = decimal-digits_value own w (first_so _ _ ds) (some_digits w (first_so (nat_lt 0 (length w)) _ d)) (first_of w (second_so (list_all is_digit w) _ ds)) (omega arith) in
+    let e : decimal (digits_value w) ≡ w = decimal-digits_value own w (first_so _ _ ds) (some_digits w (first_so (nat_lt 0 (length w)) _ d)) (first_of w (second_so (list_all is_digit w) _ ds))
+    (omega arith) in
     (sym e ∙ ap decimal v, sym (ap is_number v) ∙ small)
 
 pub number_back : (n : ℕ) → is_number n ≡ true → number (decimal n) ≡ Some n

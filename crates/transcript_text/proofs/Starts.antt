@@ -1,17 +1,20 @@
 -- The start of a frame's line in the room before its digits.
-use Rattle.std.proofs.Common.{◌≡◌, ℕ, ◌+◌, ◌-◌, ◌≤◌, List, [], ◌∷◌, ◌++◌, Bool, true, false, if◌then◌else◌, Option, Some, None, is_some, length, take, drop, refl, sym, ap, ◌∙◌, append_assoc, append-nil, length-append, arith}
+use Rattle.std.proofs.Common.{◌≡◌, ℕ, ◌+◌, ◌-◌, ◌≤◌, List, [], ◌∷◌, ◌++◌, Bool, true, false, if◌then◌else◌, Option}
+use Rattle.std.proofs.Common.{Some, None, is_some, length, take, drop, refl, sym, ap, ◌∙◌, append_assoc, append-nil, length-append, arith}
 use Rattle.std.proofs.Math.Seq.{drop-append_seam}
 use Rattle.std.proofs.lemmas.List.{drop-drop, drop-append-le, drop_all, length-drop, length-take, take_all, take_at}
 use Rattle.std.proofs.lemmas.Bool.{false≢true}
 
 -- of the last 16 bytes of 64 that are copied, those from this place on stand at the end
-pub last_bytes : (old new bytes view : List ℕ) (begins end from : ℕ) → drop begins new ≡ take 16 (drop 48 bytes) ++ drop end old → drop from bytes ≡ view → length bytes ≡ 64 → 48 ≤ from → from ≤ 64 → begins + 16 ≡ end
+pub last_bytes : (old new bytes view : List ℕ) (begins end from : ℕ) → drop begins new ≡ take 16 (drop 48 bytes) ++ drop end old → drop from bytes ≡ view → length bytes ≡ 64 → 48 ≤ from
+    → from ≤ 64 → begins + 16 ≡ end
     → drop (end - (64 - from)) new ≡ view ++ drop end old
 last_bytes old new bytes view begins end from written is whole late inside at =
     let place : end - (64 - from) ≡ begins + (from - 48) = omega arith in
     let further : 48 + (from - 48) ≡ from = omega arith in
     ap (λ n. drop n new) place ∙ sym (drop-drop (from - 48) begins new)
-    ∙ ap (drop (from - 48)) (written ∙ ap (λ l. l ++ drop end old) (take_all 16 (drop 48 bytes) (omega (arith, length-drop 48 bytes)))) ∙ drop-append-le (from - 48) (drop 48 bytes) (drop end old) (omega (arith, length-drop 48 bytes))
+    ∙ ap (drop (from - 48)) (written ∙ ap (λ l. l ++ drop end old) (take_all 16 (drop 48 bytes) (omega (arith, length-drop 48 bytes))))
+    ∙ drop-append-le (from - 48) (drop 48 bytes) (drop end old) (omega (arith, length-drop 48 bytes))
     ∙ ap (λ l. l ++ drop end old) (drop-drop (from - 48) 48 bytes ∙ ap (λ n. drop n bytes) further ∙ is)
 
 -- what is put before a place leaves what stands from it on
@@ -26,7 +29,8 @@ stays_behind old new word begins end last written at before =
     ∙ drop-drop (last - end) end old ∙ ap (λ n. drop n old) rest
 
 -- digits and a line feed were written behind the room
-pub behind_room : (xs digits more new : List ℕ) (n m : ℕ) → new ≡ take n ((take 32 xs ++ (digits ++ drop m (drop 32 xs))) ++ more) ++ 10 ∷ [] → 32 ≤ length xs → length xs ≤ 32 + m → n ≡ 32 + length digits
+pub behind_room : (xs digits more new : List ℕ) (n m : ℕ) → new ≡ take n ((take 32 xs ++ (digits ++ drop m (drop 32 xs))) ++ more) ++ 10 ∷ [] → 32 ≤ length xs → length xs ≤ 32 + m
+    → n ≡ 32 + length digits
     → drop 32 new ≡ digits ++ 10 ∷ []
 behind_room xs digits more new n m e room over whole =
     let front : List ℕ = take 32 xs in

@@ -70,13 +70,15 @@ refusal_small why = each_number is_number why refl
 pub line_proper : (l : Line) → is_line l ≡ true → list_all is_proper (line_words l) ≡ true
 line_proper (Chip id changes applied class) h =
     let rest = second_so (is_number id) _ h in
-    and_from _ _ (number_proper id (first_so _ _ h)) (and_from _ _ (number_proper changes (first_so _ _ rest)) (and_from _ _ (number_proper applied (second_so (is_number changes) _ rest)) (and_from _ _ (class_proper class) refl)))
+    and_from _ _ (number_proper id (first_so _ _ h))
+    (and_from _ _ (number_proper changes (first_so _ _ rest)) (and_from _ _ (number_proper applied (second_so (is_number changes) _ rest)) (and_from _ _ (class_proper class) refl)))
 line_proper (Unread id why) h = and_from _ _ (number_proper id h) (and_from _ _ (fault_proper why) refl)
 line_proper (Soft id point) h = and_from _ _ (number_proper id (first_so _ _ h)) (and_from _ _ (number_proper point (second_so (is_number id) _ h)) refl)
 line_proper (Held id floor) h = and_from _ _ (number_proper id (first_so _ _ h)) (and_from _ _ (number_proper floor (second_so (is_number id) _ h)) refl)
 line_proper (Tx id port bytes) h =
     let rest = second_so (is_number id) _ h in
-    and_from _ _ (number_proper id (first_so _ _ h)) (and_from _ _ (number_proper port (port_small port (first_so _ _ rest))) (and_from _ _ (frame_proper bytes (second_so (is_port port) _ rest)) refl))
+    and_from _ _ (number_proper id (first_so _ _ h))
+    (and_from _ _ (number_proper port (port_small port (first_so _ _ rest))) (and_from _ _ (frame_proper bytes (second_so (is_port port) _ rest)) refl))
 line_proper (Ctl port bytes) h = and_from _ _ (number_proper port (port_small port (first_so _ _ h))) (and_from _ _ (frame_proper bytes (second_so (is_port port) _ h)) refl)
 line_proper (Overrun id) h = and_from _ _ (number_proper id h) refl
 line_proper (Done step changes) h = and_from _ _ (number_proper step (first_so _ _ h)) (and_from _ _ (number_proper changes (second_so (is_number step) _ h)) refl)
@@ -84,7 +86,9 @@ line_proper (Refused step why) h = and_from _ _ (number_proper step h) (and_from
 line_proper (End steps changes pending waiting) h =
     let rest = second_so (is_number steps) _ h in
     let last = second_so (is_number changes) _ rest in
-    and_from _ _ (number_proper steps (first_so _ _ h)) (and_from _ _ (number_proper changes (first_so _ _ rest)) (and_from _ _ (number_proper pending (first_so _ _ last)) (and_from _ _ (number_proper waiting (second_so (is_number pending) _ last)) refl)))
+    and_from _ _ (number_proper steps (first_so _ _ h))
+    (and_from _ _ (number_proper changes (first_so _ _ rest))
+    (and_from _ _ (number_proper pending (first_so _ _ last)) (and_from _ _ (number_proper waiting (second_so (is_number pending) _ last)) refl)))
 
 -- such words are what stands between the spaces
 
@@ -119,7 +123,8 @@ behind (c ∷ w) rest a b (suc k) = behind w rest (λ i. a (suc i)) b k
 pub joined_ascii : (w : Word) (ws : List Word) → list_all is_proper (w ∷ ws) ≡ true → IsAscii (joined (w ∷ ws))
 joined_ascii w [] h = word_ascii w (second_so (is_word w) (letters w) (first_so _ _ h))
 joined_ascii w (v ∷ ws) h =
-    behind w (joined (v ∷ ws)) (word_ascii w (second_so (is_word w) (letters w) (first_so (is_proper w) (list_all is_proper (v ∷ ws)) h))) (joined_ascii v ws (second_so (is_proper w) (list_all is_proper (v ∷ ws)) h))
+    behind w (joined (v ∷ ws)) (word_ascii w (second_so (is_word w) (letters w) (first_so (is_proper w) (list_all is_proper (v ∷ ws)) h)))
+    (joined_ascii v ws (second_so (is_proper w) (list_all is_proper (v ∷ ws)) h))
 
 -- the same of all words of a line
 

@@ -1,5 +1,6 @@
 -- The memberships that rows tell.
-use Rattle.std.proofs.Common.{◌≡◌, ◌≢◌, ℕ, zero, suc, ◌+◌, ◌<◌, ◌≤◌, Bool, true, false, not, ◌&&◌, ◌||◌, cond, T, List, [], ◌∷◌, ◌++◌, map, length, get_or, set, replicate, Option, None, Some, is_some, refl, sym, ap, ap₂, subst, ◌∙◌, arith, inl, inr, get_or-set_same, get_or-set_other}
+use Rattle.std.proofs.Common.{◌≡◌, ◌≢◌, ℕ, zero, suc, ◌+◌, ◌<◌, ◌≤◌, Bool, true, false, not, ◌&&◌, ◌||◌, cond, T, List, [], ◌∷◌, ◌++◌}
+use Rattle.std.proofs.Common.{map, length, get_or, set, replicate, Option, None, Some, is_some, refl, sym, ap, ap₂, subst, ◌∙◌, arith, inl, inr, get_or-set_same, get_or-set_other}
 use Rattle.std.specs.Prelude.{◌==◌, nat_lt}
 use Rattle.std.specs.List.{filter, range_with_len}
 use Rattle.std.specs.Ordering.{nat_cmp, eq_by_cmp, is_lt, ordering_then}
@@ -62,11 +63,13 @@ get-memberships [] n zero p = sym (at-no_ports p)
 get-memberships [] n (suc k) p = sym (at-no_ports p)
 get-memberships (row ∷ rows) n zero p =
     get-row n (n + 0) p row (memberships_from (n + 1) rows)
-    ∙ ap₂ (λ b o. cond (b && (nat_lt p port_places && has_number row.members p)) (Some (has_number row.untagged p)) o) (eq-eqb (n + 0) n (omega arith)) (get-before rows (n + 1) (n + 0) p (omega arith))
+    ∙ ap₂ (λ b o. cond (b && (nat_lt p port_places && has_number row.members p)) (Some (has_number row.untagged p)) o) (eq-eqb (n + 0) n (omega arith))
+    (get-before rows (n + 1) (n + 0) p (omega arith))
 get-memberships (row ∷ rows) n (suc k) p =
     let e : n + suc k ≡ (n + 1) + k = omega arith in
     get-row n (n + suc k) p row (memberships_from (n + 1) rows)
-    ∙ ap (λ b. cond (b && (nat_lt p port_places && has_number row.members p)) (Some (has_number row.untagged p)) (get pair_cmp (memberships_from (n + 1) rows) (n + suc k, p))) (ne_eqb (n + suc k) n (λ x. omega arith))
+    ∙ ap (λ b. cond (b && (nat_lt p port_places && has_number row.members p)) (Some (has_number row.untagged p)) (get pair_cmp (memberships_from (n + 1) rows) (n + suc k, p)))
+    (ne_eqb (n + suc k) n (λ x. omega arith))
     ∙ ap (λ v. get pair_cmp (memberships_from (n + 1) rows) (v, p)) e
     ∙ get-memberships rows (n + 1) k p
 
@@ -127,7 +130,8 @@ sorted-memberships [] n = tt
 sorted-memberships (row ∷ rows) n =
     subst (λ (ns : List ℕ). T (is_sorted pair_cmp (map (λ q. ((n, q), has_number row.untagged q)) ns ++ memberships_from (n + 1) rows)))
     (sym (numbers_below-filter (has_number row.members) port_places))
-    (sorted_ports n (has_number row.members) (has_number row.untagged) 0 port_places (memberships_from (n + 1) rows) (λ q. below_later rows n (n + 1) q (omega arith)) (sorted-memberships rows (n + 1)))
+    (sorted_ports n (has_number row.members) (has_number row.untagged) 0 port_places (memberships_from (n + 1) rows) (λ q. below_later rows n (n + 1) q (omega arith))
+    (sorted-memberships rows (n + 1)))
 
 -- ---- a new row at place k, which differs at port p alone
 
@@ -174,7 +178,8 @@ memberships-without rows k row p within h =
     (λ x.
     get-set rows k row p None within h x.0 x.1
     ∙ turn (eq_by_cmp pair_cmp x (1 + k, p)) (eq_by_cmp pair_cmp (1 + k, p) x) (get pair_cmp (memberships_from 1 rows) x) (symmetric x)
-    ∙ sym (find-where_key pair_cmp (λ y. not (eq_by_cmp pair_cmp (1 + k, p) y)) x (λ y tie. ap (λ (z : Key). not (eq_by_cmp pair_cmp (1 + k, p) z)) (sym (same_cmp x y tie))) (memberships_from 1 rows)))
+    ∙ sym (find-where_key pair_cmp (λ y. not (eq_by_cmp pair_cmp (1 + k, p) y)) x (λ y tie. ap (λ (z : Key). not (eq_by_cmp pair_cmp (1 + k, p) z)) (sym (same_cmp x y tie)))
+    (memberships_from 1 rows)))
   where
     turn : (b c : Bool) (o : Option Bool) → b ≡ c → cond b None o ≡ cond (not c) o None
     turn true true o e = refl
@@ -207,7 +212,10 @@ vids_none n p test u a zero h = refl
 vids_none n p test u a (suc len) h =
     let rest = vids_none n p test u (a + 1) len (λ q low high. h q (omega arith) (omega arith)) in
     elim (test a) as (λ t. vids_of (map (λ q. ((n, q), u q)) (cond t (a ∷ filter test (range_with_len (a + 1) len)) (filter test (range_with_len (a + 1) len)))) p ≡ []) [
-      | true ↦ ap (λ b. map (λ (e : Key × Bool). e.0.0) (cond b (((n, a), u a) ∷ filter (λ e. e.0.1 == p) (ports_from n test u (a + 1) len)) (filter (λ e. e.0.1 == p) (ports_from n test u (a + 1) len)))) (ne_eqb a p (h a (omega arith) (omega arith))) ∙ rest
+      | true ↦
+          ap (λ b. map (λ (e : Key × Bool). e.0.0)
+          (cond b (((n, a), u a) ∷ filter (λ e. e.0.1 == p) (ports_from n test u (a + 1) len)) (filter (λ e. e.0.1 == p) (ports_from n test u (a + 1) len))))
+          (ne_eqb a p (h a (omega arith) (omega arith))) ∙ rest
       | false ↦ rest
     ]
 
@@ -217,14 +225,19 @@ vids_at n p test u a (suc len) low high = elim (eqb_tells a p) [
   | inl e ↦
       let rest = vids_none n p test u (a + 1) len (λ q low _ same. absurd (omega (arith, e.1))) in
       (elim (test a) as (λ t. vids_of (map (λ q. ((n, q), u q)) (cond t (a ∷ filter test (range_with_len (a + 1) len)) (filter test (range_with_len (a + 1) len)))) p ≡ cond t (n ∷ []) []) [
-        | true ↦ ap (λ b. map (λ (x : Key × Bool). x.0.0) (cond b (((n, a), u a) ∷ filter (λ x. x.0.1 == p) (ports_from n test u (a + 1) len)) (filter (λ x. x.0.1 == p) (ports_from n test u (a + 1) len)))) (eq-eqb a p e.1) ∙ ap (λ vs. n ∷ vs) rest
+        | true ↦
+            ap (λ b. map (λ (x : Key × Bool). x.0.0)
+            (cond b (((n, a), u a) ∷ filter (λ x. x.0.1 == p) (ports_from n test u (a + 1) len)) (filter (λ x. x.0.1 == p) (ports_from n test u (a + 1) len)))) (eq-eqb a p e.1)
+            ∙ ap (λ vs. n ∷ vs) rest
         | false ↦ rest
       ])
       ∙ ap (λ q. cond (test q) (n ∷ []) []) e.1
   | inr e ↦
       let rest = vids_at n p test u (a + 1) len (omega (arith, e.1)) (omega arith) in
       elim (test a) as (λ t. vids_of (map (λ q. ((n, q), u q)) (cond t (a ∷ filter test (range_with_len (a + 1) len)) (filter test (range_with_len (a + 1) len)))) p ≡ cond (test p) (n ∷ []) []) [
-        | true ↦ ap (λ b. map (λ (x : Key × Bool). x.0.0) (cond b (((n, a), u a) ∷ filter (λ x. x.0.1 == p) (ports_from n test u (a + 1) len)) (filter (λ x. x.0.1 == p) (ports_from n test u (a + 1) len)))) (ne_eqb a p e.1) ∙ rest
+        | true ↦
+            ap (λ b. map (λ (x : Key × Bool). x.0.0)
+            (cond b (((n, a), u a) ∷ filter (λ x. x.0.1 == p) (ports_from n test u (a + 1) len)) (filter (λ x. x.0.1 == p) (ports_from n test u (a + 1) len)))) (ne_eqb a p e.1) ∙ rest
         | false ↦ rest
       ]
 ]
@@ -253,7 +266,9 @@ vids-from (row ∷ rows) n p test h =
     ∙ ap₂ (λ (xs ys : List ℕ). xs ++ ys) (vids-row n p row ∙ ap (λ b. cond b (n ∷ []) []) here) rest
     ∙ by (test n)
   where
-    by : (b : Bool) → cond b (n ∷ []) [] ++ filter test (range_with_len (n + 1) (length rows)) ≡ cond b (n ∷ filter test (range_with_len (n + 1) (length rows))) (filter test (range_with_len (n + 1) (length rows)))
+    by : (b : Bool)
+        → cond b (n ∷ []) [] ++ filter test (range_with_len (n + 1) (length rows)) ≡ cond b (n ∷ filter test (range_with_len (n + 1) (length rows)))
+        (filter test (range_with_len (n + 1) (length rows)))
     by true = refl
     by false = refl
 

@@ -27,4 +27,5 @@ entries-clear n (suc k) (Some d ∷ places) =
     let rest : entries_from (n + 1) (set places k None) ≡ without nat_cmp (entries_from (n + 1) places) (n + suc k) =
     entries-clear (n + 1) k places ∙ ap (λ q. without nat_cmp (entries_from (n + 1) places) q) (sym e) in
     ap (λ (es : List (ℕ × ℕ)). (n, d) ∷ es) rest
-    ∙ sym (ap (λ b. cond (not b) ((n, d) ∷ without nat_cmp (entries_from (n + 1) places) (n + suc k)) (without nat_cmp (entries_from (n + 1) places) (n + suc k))) (eq_by_cmp-ne (n + suc k) n (λ x. omega arith)))
+    ∙ sym (ap (λ b. cond (not b) ((n, d) ∷ without nat_cmp (entries_from (n + 1) places) (n + suc k)) (without nat_cmp (entries_from (n + 1) places) (n + suc k)))
+    (eq_by_cmp-ne (n + suc k) n (λ x. omega arith)))

@@ -29,7 +29,8 @@ unwrap-cond false x = refl
 pub members-row : (row : Row) → IsSetBelow port_places row.members → row.members ≡ ports_where (λ q. is_some (at_port row q))
 members-row row set = set ∙ same_below _ _ port_places (λ q low. sym (ap is_some (at-low row q low) ∙ is_some-cond (has_number row.members q) (has_number row.untagged q)))
 
-pub untagged-row : (row : Row) (both : List ℕ) → both ≡ numbers_below port_places (λ q. has_number row.members q && has_number row.untagged q) → both ≡ ports_where (λ q. unwrap_or (at_port row q) false)
+pub untagged-row : (row : Row) (both : List ℕ) → both ≡ numbers_below port_places (λ q. has_number row.members q && has_number row.untagged q)
+    → both ≡ ports_where (λ q. unwrap_or (at_port row q) false)
 untagged-row row both e = e ∙ same_below _ _ port_places (λ q low. sym (ap (λ o. unwrap_or o false) (at-low row q low) ∙ unwrap-cond (has_number row.members q) (has_number row.untagged q)))
 
 pub at-with : (row new : Row) (p : ℕ) (u : Bool) → p < port_places → new.members ≡ numbers_below port_places (λ q. (q == p) || has_number row.members q)
@@ -71,12 +72,14 @@ at-without row new p small members untagged q = elim (cases_lt q port_places) [
     by false false = refl
 
 -- what `with` or `without` gives of the untagged ports
-pub untagged-with : (p : ℕ) (old new : List ℕ) → new ≡ numbers_below port_places (λ q. (q == p) || has_number old q) → (q : ℕ) → q < port_places → has_number new q ≡ cond (q == p) true (has_number old q)
+pub untagged-with : (p : ℕ) (old new : List ℕ) → new ≡ numbers_below port_places (λ q. (q == p) || has_number old q) → (q : ℕ) → q < port_places
+    → has_number new q ≡ cond (q == p) true (has_number old q)
 untagged-with p old new e q low = ap (λ (ns : List ℕ). has_number ns q) e ∙ has-below _ port_places q low ∙ by (q == p)
   where
     by : (same : Bool) → (same || has_number old q) ≡ cond same true (has_number old q)
     by true = refl
     by false = refl
 
-pub untagged-without : (p : ℕ) (old new : List ℕ) → new ≡ numbers_below port_places (λ q. has_number old q && not (q == p)) → (q : ℕ) → q < port_places → has_number new q ≡ cond (q == p) false (has_number old q)
+pub untagged-without : (p : ℕ) (old new : List ℕ) → new ≡ numbers_below port_places (λ q. has_number old q && not (q == p)) → (q : ℕ) → q < port_places
+    → has_number new q ≡ cond (q == p) false (has_number old q)
 untagged-without p old new e q low = ap (λ (ns : List ℕ). has_number ns q) e ∙ has-below _ port_places q low ∙ and-not (has_number old q) (q == p)

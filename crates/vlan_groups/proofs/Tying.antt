@@ -1,5 +1,6 @@
 -- The VLANs of each port beside the rows of the VLANs.
-use Rattle.std.proofs.Common.{◌≡◌, ℕ, ◌+◌, ◌*◌, ◌/◌, ◌%◌, ◌<◌, Bool, true, false, ◌&&◌, cond, List, [], length, get_or, set, replicate, length-set, Option, is_some, refl, sym, ap, ap₂, subst, ◌∙◌, arith}
+use Rattle.std.proofs.Common.{◌≡◌, ℕ, ◌+◌, ◌*◌, ◌/◌, ◌%◌, ◌<◌, Bool, true, false, ◌&&◌, cond, List, []}
+use Rattle.std.proofs.Common.{length, get_or, set, replicate, length-set, Option, is_some, refl, sym, ap, ap₂, subst, ◌∙◌, arith}
 use Rattle.std.specs.Prelude.{◌==◌}
 use Rattle.std.specs.Ordering.{eq_by_cmp}
 use Rattle.std.proofs.lemmas.Bool.{le-leb}
@@ -50,7 +51,8 @@ tied-none rows blocks sized none no_blocks = record {
 }
 
 -- the VLANs of a port by its blocks
-pub vids-tied : (rows : List Row) (blocks : List (List ℕ)) (p : ℕ) → AreTied rows blocks → p < port_places → numbers_below 4096 (λ v. is_vlan v && has_vlan blocks p v) ≡ vids_of (memberships_from 1 rows) p
+pub vids-tied : (rows : List Row) (blocks : List (List ℕ)) (p : ℕ) → AreTied rows blocks → p < port_places
+    → numbers_below 4096 (λ v. is_vlan v && has_vlan blocks p v) ≡ vids_of (memberships_from 1 rows) p
 vids-tied rows blocks p tied low =
     sym (vids-from rows 1 p (is_joined blocks p) each
     ∙ between (length rows) 4096 (is_joined blocks p) (omega (arith, tied.sized)) refl (ap (λ n. is_joined blocks p (n + 1)) tied.sized))

@@ -1,5 +1,6 @@
 -- Which of a port's blocks of VLANs aren't empty, as one of them is written.
-use Rattle.std.proofs.Common.{◌≡◌, ◌≢◌, ℕ, ◌+◌, ◌*◌, ◌<◌, Bool, true, false, not, cond, ⊎_elim, List, [], length, get_or, set, replicate, get_or-set_same, get_or-set_other, length-set, IsTrue, ◌↔◌, refl, sym, ap, ◌∙◌, arith}
+use Rattle.std.proofs.Common.{◌≡◌, ◌≢◌, ℕ, ◌+◌, ◌*◌, ◌<◌, Bool, true, false, not, cond, ⊎_elim, List, []}
+use Rattle.std.proofs.Common.{length, get_or, set, replicate, get_or-set_same, get_or-set_other, length-set, IsTrue, ◌↔◌, refl, sym, ap, ◌∙◌, arith}
 use Rattle.std.specs.Prelude.{◌==◌}
 use Rattle.std.proofs.lemmas.Bool.Decides.{eqb_tells}
 use Rattle.std.proofs.lemmas.List.{length-replicate, get_or-replicate}
@@ -41,7 +42,8 @@ set_used blocks used p i block now empty old p_low i_low now_is tells = record {
       ⊎_elim
       (λ (here : ((q == p) ≡ true) × (q ≡ p)).
       of_port q j q_low j_low here.1
-      (ap (λ n. has_number (get_or (set used p now) n []) j) here.1 ∙ ap (λ (us : List ℕ). has_number us j) (get_or-set_same used p now [] (omega (arith, old.ports))) ∙ has-numbers 64 now _ now_is j j_low))
+      (ap (λ n. has_number (get_or (set used p now) n []) j) here.1 ∙ ap (λ (us : List ℕ). has_number us j) (get_or-set_same used p now [] (omega (arith, old.ports)))
+      ∙ has-numbers 64 now _ now_is j j_low))
       (λ (other : ((q == p) ≡ false) × (q ≢ p)).
       same _ _ _ _ (ap (λ (us : List ℕ). has_number us j) (get_or-set_other used p q now [] other.1))
       (get_or-set_other blocks (64 * p + i) (64 * q + j) block [] (λ e. other.1 (omega arith)))

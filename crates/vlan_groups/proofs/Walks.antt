@@ -28,12 +28,14 @@ moved base a (suc len) passes has test h =
     let e : base + (a + 1) ≡ (base + a) + 1 = omega arith in
     let rest : filter passes (map (λ n. base + n) (filter has (range_with_len (a + 1) len))) ≡ filter test (range_with_len ((base + a) + 1) len) =
     moved base (a + 1) len passes has test (λ m low high. h m (omega arith) (omega arith)) ∙ ap (λ s. filter test (range_with_len s len)) e in
-    by (has a) (passes (base + a)) rest ∙ ap (λ b. cond b ((base + a) ∷ filter test (range_with_len ((base + a) + 1) len)) (filter test (range_with_len ((base + a) + 1) len))) (sym (h a (omega arith) (omega arith)))
+    by (has a) (passes (base + a)) rest
+    ∙ ap (λ b. cond b ((base + a) ∷ filter test (range_with_len ((base + a) + 1) len)) (filter test (range_with_len ((base + a) + 1) len))) (sym (h a (omega arith) (omega arith)))
   where
     by : (there pass : Bool) → filter passes (map (λ n. base + n) (filter has (range_with_len (a + 1) len))) ≡ filter test (range_with_len ((base + a) + 1) len)
         → filter passes (map (λ n. base + n) (cond there (a ∷ filter has (range_with_len (a + 1) len)) (filter has (range_with_len (a + 1) len))))
         ≡ cond (passes (base + a) && there) ((base + a) ∷ filter test (range_with_len ((base + a) + 1) len)) (filter test (range_with_len ((base + a) + 1) len))
-    by true pass e = ap (λ (f : List ℕ). cond (passes (base + a)) ((base + a) ∷ f) f) e ∙ ap (λ b. cond b ((base + a) ∷ filter test (range_with_len ((base + a) + 1) len)) (filter test (range_with_len ((base + a) + 1) len))) (same (passes (base + a)))
+    by true pass e = ap (λ (f : List ℕ). cond (passes (base + a)) ((base + a) ∷ f) f) e
+        ∙ ap (λ b. cond b ((base + a) ∷ filter test (range_with_len ((base + a) + 1) len)) (filter test (range_with_len ((base + a) + 1) len))) (same (passes (base + a)))
       where
         same : (b : Bool) → b ≡ (b && true)
         same true = refl
@@ -81,7 +83,8 @@ next-vid i n seen = ap (filter is_vlan) (map-append (λ m. 64 * i + m) seen (n �
 joined_parts : (test : ℕ → Bool) (size a count : ℕ) → flat_map (λ i. filter test (range_with_len (size * i) size)) (range_with_len a count) ≡ filter test (range_with_len (size * a) (size * count))
 joined_parts test size a zero = ap (λ n. filter test (range_with_len (size * a) n)) (let e : 0 ≡ size * 0 = omega arith in e)
 joined_parts test size a (suc count) =
-    ap (λ (ys : List ℕ). filter test (range_with_len (size * a) size) ++ ys) (joined_parts test size (a + 1) count ∙ ap (λ s. filter test (range_with_len s (size * count))) (let e : size * (a + 1) ≡ size * a + size = omega arith in e))
+    ap (λ (ys : List ℕ). filter test (range_with_len (size * a) size) ++ ys) (joined_parts test size (a + 1) count
+    ∙ ap (λ s. filter test (range_with_len s (size * count))) (let e : size * (a + 1) ≡ size * a + size = omega arith in e))
     ∙ sym (filter-append test (range_with_len (size * a) size) (range_with_len (size * a + size) (size * count)))
     ∙ ap (filter test) (sym (cut (size * a) size (size * count)))
     ∙ ap (λ n. filter test (range_with_len (size * a) n)) (let e : size + size * count ≡ size * suc count = omega arith in e)
@@ -98,7 +101,8 @@ without_empty : (f : ℕ → List ℕ) (kept : ℕ → Bool) (a count : ℕ) →
     → flat_map f (filter kept (range_with_len a count)) ≡ flat_map f (range_with_len a count)
 without_empty f kept a zero h = refl
 without_empty f kept a (suc count) h =
-    let rest : flat_map f (filter kept (range_with_len (a + 1) count)) ≡ flat_map f (range_with_len (a + 1) count) = without_empty f kept (a + 1) count (λ i low high. h i (omega arith) (omega arith)) in
+    let rest : flat_map f (filter kept (range_with_len (a + 1) count)) ≡ flat_map f (range_with_len (a + 1) count) = without_empty f kept (a + 1) count
+    (λ i low high. h i (omega arith) (omega arith)) in
     elim (cases_Bool (kept a)) [
       | inl e ↦ ap (λ b. flat_map f (cond b (a ∷ filter kept (range_with_len (a + 1) count)) (filter kept (range_with_len (a + 1) count)))) e ∙ ap (λ (ys : List ℕ). f a ++ ys) rest
       | inr e ↦

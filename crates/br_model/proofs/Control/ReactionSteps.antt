@@ -34,7 +34,8 @@ use Rattle.br_model.specs.Tree.Step.{tree_step, sent}
 -- the table stays that of the changes
 pub makes-table : (h : List Change) (r : Course) (c : Change) → r.table ≡ table (h ++ r.changes) → (makes r c).table ≡ table (h ++ (makes r c).changes)
 makes-table h r c is =
-    elim (fits r.table c) as (λ b. (λ (s : Course). s.table ≡ table (h ++ s.changes)) (cond b (record r { table = apply r.table c; control = keeps_up r.control c; changes = r.changes ++ c ∷ [] }) r)) [
+    elim (fits r.table c) as
+    (λ b. (λ (s : Course). s.table ≡ table (h ++ s.changes)) (cond b (record r { table = apply r.table c; control = keeps_up r.control c; changes = r.changes ++ c ∷ [] }) r)) [
       | true ↦ ap (λ t. apply t c) is ∙ sym (fold_push apply start (h ++ r.changes) c) ∙ ap table (append_assoc h r.changes (c ∷ []))
       | false ↦ is
     ]
@@ -76,7 +77,9 @@ module _
         let aged = ages later in
         elim (nat_lt now r.control.now) as (λ b. IsKept P (cond b (Err Backward) (Ok (tells_tree (Some tree_events.Moment) (ends aged))))) [
           | true ↦ tt
-          | false ↦ told-keeps (ends aged) (Some tree_events.Moment) (makes_all-keeps aged (endings aged.control.now aged.control.ends) (makes_all-keeps later (forgets (expired r.table later.control)) (by-rest r later.control r.messages refl p)))
+          | false ↦
+              told-keeps (ends aged) (Some tree_events.Moment)
+              (makes_all-keeps aged (endings aged.control.now aged.control.ends) (makes_all-keeps later (forgets (expired r.table later.control)) (by-rest r later.control r.messages refl p)))
         ]
 
     learns-keeps : (r : Course) (port : ℕ) (o : Option Address) → P r → P (learns port o r)

@@ -38,7 +38,8 @@ use Rattle.br_model.specs.Plane.World.{World, Waiting, Holding, Stepped, table_a
 use Rattle.br_model.proofs.Table.Cuts.{cut-all}
 use Rattle.br_model.proofs.Plane.Applied.{run-world}
 use Rattle.br_model.proofs.Plane.Chips.{chip_of-declared}
-use Rattle.br_model.proofs.Plane.Fates.{sent_of-append, sent_of-sent, found-push, goes_on-joins, hold_entry, wait_entry, waiting_found, found, found-free, found-taken, Fate, idle, entered, taken, gone, said-none, said-held, said-soft, step-effect, same-entry}
+use Rattle.br_model.proofs.Plane.Fates.{sent_of-append, sent_of-sent, found-push, goes_on-joins, hold_entry, wait_entry, waiting_found, found, found-free, found-taken}
+use Rattle.br_model.proofs.Plane.Fates.{Fate, idle, entered, taken, gone, said-none, said-held, said-soft, step-effect, same-entry}
 use Rattle.br_model.proofs.Plane.Kept.{step-world}
 use Rattle.br_model.proofs.Data.Lists.{up-to-last, has-up-to}
 use Rattle.br_model.proofs.Plane.Once.{run-lines}
@@ -69,7 +70,8 @@ found-there id w e is = by (is_there id w) refl
 
 -- After it has entered.
 
-module _ (id : ℕ) (domains : Domains) (h : List Change) (t : Table) (is-table : t ≡ table h) (f : Waiting) (out all : Sent) (whole : in_port_order (out ++ soft_out domains t f.port f.bytes f.head f.mark) ≡ all) where
+module _ (id : ℕ) (domains : Domains) (h : List Change) (t : Table) (is-table : t ≡ table h) (f : Waiting) (out all : Sent)
+    (whole : in_port_order (out ++ soft_out domains t f.port f.bytes f.head f.mark) ≡ all) where
   abbrev IsFrom : Option ℕ → Type 0
   IsFrom None = Unit {0}
   IsFrom (Some floor) = floor ≡ length h
@@ -202,7 +204,8 @@ module _ (w : World) (port : ℕ) (bytes : List ℕ) (head : Head) (k : IsWorld 
 
   waits-there : (g : Waiting) → g.id ≡ w.next → list_any (is_overrun w.next) (waits noted g).1 ≡ false → found w.next (waits noted g).0.held (waits noted g).0.waiting ≡ (g, None) ∷ []
   waits-there g own =
-      elim (nat_lt (length w.waiting + length w.held) most_waiting) as (λ b. list_any (is_overrun w.next) (cond {A = Stepped} b (record noted { waiting = w.waiting ++ g ∷ [] }, []) (noted, Overrun g.id ∷ [])).1 ≡ false
+      elim (nat_lt (length w.waiting + length w.held) most_waiting) as
+      (λ b. list_any (is_overrun w.next) (cond {A = Stepped} b (record noted { waiting = w.waiting ++ g ∷ [] }, []) (noted, Overrun g.id ∷ [])).1 ≡ false
       → found w.next (cond {A = Stepped} b (record noted { waiting = w.waiting ++ g ∷ [] }, []) (noted, Overrun g.id ∷ [])).0.held
       (cond {A = Stepped} b (record noted { waiting = w.waiting ++ g ∷ [] }, []) (noted, Overrun g.id ∷ [])).0.waiting ≡ (g, None) ∷ []) [
         | true ↦ λ h. found-push w.next w.held w.waiting g ∙ (λ i. free i ++ cond (eq-eqb g.id w.next own i) ((g, None) ∷ []) [])
@@ -220,7 +223,8 @@ module _ (w : World) (port : ℕ) (bytes : List ℕ) (head : Head) (k : IsWorld 
     said c = sent_of-append w.next before (enters-as c).1 ∙ (λ i. fresh i ++ says c i)
 
     both : (c : Class) → class w.setup.domains t port head (message bytes head) ≡ c → in_port_order (share ++ software_share c w.setup.domains t port bytes head) ≡ one
-    both c is = ap (λ d. in_port_order (share ++ software_share d w.setup.domains t port bytes head)) (sym is) ∙ together w.setup.domains t port bytes head (chip_of-declared w (domain_of w.setup.domains port) chip on)
+    both c is = ap (λ d. in_port_order (share ++ software_share d w.setup.domains t port bytes head)) (sym is)
+        ∙ together w.setup.domains t port bytes head (chip_of-declared w (domain_of w.setup.domains port) chip on)
 
     -- a frame that goes no further is sent
     is-sent : (c : Class) → in_port_order (share ++ []) ≡ one → found w.next (enters-as c).0.held (enters-as c).0.waiting ≡ []
@@ -260,7 +264,8 @@ module _ (w : World) (port : ℕ) (bytes : List ℕ) (head : Head) (k : IsWorld 
           agrees w.next w.setup.domains w.history t is-table (marked Copy) share one (both Copy is) (after-entry Copy) after k1 (domains-stay Copy) (id-taken Copy) same end
           (inl (is-pending Copy (both Copy is) (waits-there (marked Copy) refl (room-in Copy room))))
       follows Forward is k1 room same end =
-          agrees w.next w.setup.domains w.history t is-table f [] one (unmarked-whole w.setup.domains t port bytes head) (after-entry Forward) after k1 (domains-stay Forward) (id-taken Forward) same end
+          agrees w.next w.setup.domains w.history t is-table f [] one (unmarked-whole w.setup.domains t port bytes head) (after-entry Forward) after k1 (domains-stay Forward)
+          (id-taken Forward) same end
           (inr (is-sent Forward (both Forward is) free))
 
       entry-is : frame bytes ≡ Ok head → world_step w (Rx port bytes) ≡ enters-as (class_of u chip f)
@@ -276,7 +281,8 @@ said-before p x (step ∷ steps) h =
     let new = (world_step x.0 step).1 in
     (or_parts (list_any p x.1) (list_any p new) (sym (list_any-append p x.1 new) ∙ said-before p (then_step x step) steps h)).0
 
-pub agreement : (setup : Setup) (before after : List Step) (port : ℕ) (bytes : List ℕ) (head : Head) → frame bytes ≡ Ok head → IsSettled (run setup before).0 port → IsUndisturbed setup before port bytes after
+pub agreement : (setup : Setup) (before after : List Step) (port : ℕ) (bytes : List ℕ) (head : Head) → frame bytes ≡ Ok head → IsSettled (run setup before).0 port
+    → IsUndisturbed setup before port bytes after
     → in_port_order (sent_of (run setup before).0.next (run setup (before ++ Rx port bytes ∷ after)).1) ≡ leave (table (run setup before).0.history) port bytes head
 agreement setup before after port bytes head e settled undisturbed =
     let w = (run setup before).0 in

@@ -51,7 +51,8 @@ stays w v setup same counts = ([], setup, same ∙ sym (append-nil w.history), c
 idle : (w : World) → Grows w w
 idle w = stays w w refl refl (counts-same w.chips)
 
-answered-grows : (before after : World) (answer : Result Reaction Refusal) → after.setup ≡ before.setup → after.history ≡ before.history → CountsStay before.chips after.chips → Grows before (answered before after answer).0
+answered-grows : (before after : World) (answer : Result Reaction Refusal) → after.setup ≡ before.setup → after.history ≡ before.history → CountsStay before.chips after.chips
+    → Grows before (answered before after answer).0
 answered-grows before after (Err why) setup same counts = idle before
 answered-grows before after (Ok r) setup same counts = (r.changes, setup, ap (λ (h : List Change). h ++ r.changes) same, counts)
 
@@ -164,7 +165,8 @@ turns-applies w dom done None there a = λ d at. same-applies done (a d at)
 turns-applies w dom done (Some c) there a = turns_to-applies w dom done c (next_of w c) there refl a
 
 -- a turn of another chip
-turns_to-other : (w : World) (dom e : ℕ) (done : List Change) (c : Chip) (o : Option Change) → chip_at w e ≡ Some c → (e == dom) ≡ false → AppliesAt dom w done → AppliesAt dom (turns_to w c o).0 (done ++ [])
+turns_to-other : (w : World) (dom e : ℕ) (done : List Change) (c : Chip) (o : Option Change) → chip_at w e ≡ Some c → (e == dom) ≡ false → AppliesAt dom w done
+    → AppliesAt dom (turns_to w c o).0 (done ++ [])
 turns_to-other w dom e done c None there other a d at = same-applies done (a d at)
 turns_to-other w dom e done c (Some x) there other a d at =
     let own = (hit_by-keeps (record c { count = c.count + 1 }) x).dom ∙ chip-dom w.chips e c there in
@@ -214,7 +216,8 @@ pub run-setup : (setup : Setup) (steps : List Step) → (run setup steps).0.setu
 unfolding run
 run-setup setup steps = fold-setup (first_world setup, []) steps
 
-fold-applies : (dom : ℕ) (x : Stepped) (y : World × List Change) (steps : List Step) → y.0 ≡ x.0 → IsWorld x.0 → AppliesAt dom x.0 y.1 → AppliesAt dom (fold then_step x steps).0 (fold (then_applied dom) y steps).1
+fold-applies : (dom : ℕ) (x : Stepped) (y : World × List Change) (steps : List Step) → y.0 ≡ x.0 → IsWorld x.0 → AppliesAt dom x.0 y.1
+    → AppliesAt dom (fold then_step x steps).0 (fold (then_applied dom) y steps).1
 fold-applies dom x y [] same k a = a
 fold-applies dom x y (step ∷ steps) same k a = fold-applies dom (then_step x step) (then_applied dom y step) steps (ap (λ w. (world_step w step).0) same) (step-world x.0 step k)
     (subst (λ w. AppliesAt dom (world_step x.0 step).0 (y.1 ++ applied_in dom w step)) (sym same) (step-applies x.0 dom y.1 step k a))
@@ -228,7 +231,8 @@ first-applies setup dom c at =
     all-new [] = tt
     all-new (d ∷ ds) = (refl, all-new ds)
 
-pub run-applies : (setup : Setup) (steps : List Step) (dom : ℕ) (c : Chip) → chip_at (run setup steps).0 dom ≡ Some c → Applies setup.domains.edition (run setup steps).0.history c.count (applied setup dom steps)
+pub run-applies : (setup : Setup) (steps : List Step) (dom : ℕ) (c : Chip) → chip_at (run setup steps).0 dom ≡ Some c
+    → Applies setup.domains.edition (run setup steps).0.history c.count (applied setup dom steps)
 unfolding run applied
 run-applies setup steps dom c at =
     subst (λ (s : Setup). Applies s.domains.edition (run setup steps).0.history c.count (applied setup dom steps)) (run-setup setup steps)

@@ -1,5 +1,6 @@
 -- What a chip has applied stands for the cut, after each event.
-use Rattle.std.proofs.Common.{◌≡◌, ℕ, zero, suc, ◌+◌, ◌<◌, ◌≤◌, Bool, true, false, not, cond, List, [], ◌∷◌, ◌++◌, length, take, drop, Option, None, Some, refl, sym, ap, ◌∙◌, arith, length-append, add-one, subst, ⊎_elim}
+use Rattle.std.proofs.Common.{◌≡◌, ℕ, zero, suc, ◌+◌, ◌<◌, ◌≤◌, Bool, true, false, not, cond, List, [], ◌∷◌, ◌++◌}
+use Rattle.std.proofs.Common.{length, take, drop, Option, None, Some, refl, sym, ap, ◌∙◌, arith, length-append, add-one, subst, ⊎_elim}
 use Rattle.std.proofs.lemmas.List.{append-nil, take_more, take_all, take-append-le, drop-append-le, length-drop}
 use Rattle.std.proofs.lemmas.Bool.{cases_lt}
 use Rattle.std.proofs.lemmas.List.Elements.{filter-append}
@@ -67,7 +68,8 @@ module _ (edition : Edition) where
   twice-synchronous : (cs : List Change) → synchronous_of edition (synchronous_of edition cs) ≡ synchronous_of edition cs
   twice-synchronous [] = refl
   twice-synchronous (c ∷ cs) =
-      elim (deferred edition c) as (λ b. deferred edition c ≡ b → synchronous_of edition (cond (not b) (c ∷ synchronous_of edition cs) (synchronous_of edition cs)) ≡ cond (not b) (c ∷ synchronous_of edition cs) (synchronous_of edition cs)) [
+      elim (deferred edition c) as (λ b. deferred edition c ≡ b
+      → synchronous_of edition (cond (not b) (c ∷ synchronous_of edition cs) (synchronous_of edition cs)) ≡ cond (not b) (c ∷ synchronous_of edition cs) (synchronous_of edition cs)) [
         | true ↦ λ e. twice-synchronous cs
         | false ↦ λ e. ap (λ b. cond (not b) (c ∷ synchronous_of edition (synchronous_of edition cs)) (synchronous_of edition (synchronous_of edition cs))) e ∙ ap (λ l. c ∷ l) (twice-synchronous cs)
       ] refl
@@ -87,7 +89,8 @@ module _ (edition : Edition) where
         ∙ ap (take k) (sym (filter-append (deferred edition) H cs)),
   )
 
-  pub once_after_turn : (H A : List Change) (k : ℕ) (x : Change) → deferred_at edition H k ≡ Some x → synchronous_of edition A ≡ synchronous_of edition H → deferred_of edition A ≡ take k (deferred_of edition H)
+  pub once_after_turn : (H A : List Change) (k : ℕ) (x : Change) → deferred_at edition H k ≡ Some x → synchronous_of edition A ≡ synchronous_of edition H
+      → deferred_of edition A ≡ take k (deferred_of edition H)
       → (synchronous_of edition (A ++ x ∷ []) ≡ synchronous_of edition H) × (deferred_of edition (A ++ x ∷ []) ≡ take (k + 1) (deferred_of edition H))
   once_after_turn H A k x e s d =
       let is = (deferred_at-deferred edition H k x e).0 in (

@@ -57,7 +57,8 @@ put-all P chips c all h = All-from_recursion P (put_chip chips c) (put-each P ch
 pub put-same : (chips : List Chip) (c : Chip) (dom : ℕ) (old : Chip) → c.dom ≡ dom → chip_in chips dom ≡ Some old → chip_in (put_chip chips c) dom ≡ Some c
 put-same [] c dom old own e = absurd (cc)
 put-same (x ∷ chips) c dom old own e =
-    (elim (x.dom == c.dom) as (λ b. (x.dom == c.dom) ≡ b → cond (x.dom == dom) (Some x) (chip_in chips dom) ≡ Some old → cond ((cond b c x).dom == dom) (Some (cond b c x)) (chip_in (put_chip chips c) dom) ≡ Some c) [
+    (elim (x.dom == c.dom) as (λ b. (x.dom == c.dom) ≡ b → cond (x.dom == dom) (Some x) (chip_in chips dom) ≡ Some old
+    → cond ((cond b c x).dom == dom) (Some (cond b c x)) (chip_in (put_chip chips c) dom) ≡ Some c) [
       | true ↦ λ is f. ap (λ b. cond b (Some c) (chip_in (put_chip chips c) dom)) (eq-eqb c.dom dom own)
       | false ↦ λ is f.
           let other : (x.dom == dom) ≡ false = ap (λ n. x.dom == n) (sym own) ∙ is in

@@ -1,5 +1,6 @@
 -- What a step does to the frame with one id: it enters, is held, or is sent and gone, or nothing happens to it.
-use Rattle.std.proofs.Common.{◌≡◌, ℕ, suc, ◌+◌, ◌<◌, ◌≤◌, Bool, true, false, not, cond, List, [], ◌∷◌, ◌++◌, map, length, Option, None, Some, refl, sym, ap, ◌∙◌, arith, append_assoc, length-append, take, ◌⊎◌, inl, inr, ⊎_elim, get_or}
+use Rattle.std.proofs.Common.{◌≡◌, ℕ, suc, ◌+◌, ◌<◌, ◌≤◌, Bool, true, false, not, cond, List, [], ◌∷◌, ◌++◌, map, length}
+use Rattle.std.proofs.Common.{Option, None, Some, refl, sym, ap, ◌∙◌, arith, append_assoc, length-append, take, ◌⊎◌, inl, inr, ⊎_elim, get_or}
 use Rattle.std.proofs.lemmas.Bool.{eq-eqb, eqb-true, eqb-false, ne_eqb, cases_lt, and_parts, leb-true}
 use Rattle.std.proofs.lemmas.List.{append-nil, map-append, length-map}
 use Rattle.std.proofs.lemmas.List.Elements.{filter-append, recursion_from_All, All-weaker}
@@ -308,7 +309,8 @@ settles id u f y out j marked =
     ⊎_elim (λ (h : found id y.0.held y.0.waiting ≡ found id u.held u.waiting). inl h)
     (λ (h : found id y.0.held y.0.waiting ≡ found id u.held u.waiting ++ cond (f.id == id) ((f, None) ∷ []) []). inr (h, marked)) j.found
 
-entry : (id : ℕ) (w u : World) (f : Waiting) (y : Stepped) (told : List Line) (out : Sent) → IsWorld w → f.id ≡ w.next → Joins id u f y → u.setup ≡ w.setup → u.next ≡ w.next + 1 → u.published ≡ w.published
+entry : (id : ℕ) (w u : World) (f : Waiting) (y : Stepped) (told : List Line) (out : Sent) → IsWorld w → f.id ≡ w.next → Joins id u f y → u.setup ≡ w.setup → u.next ≡ w.next + 1
+    → u.published ≡ w.published
     → found id u.held u.waiting ≡ found id w.held w.waiting → sent_of id told ≡ cond (f.id == id) out [] → ((f.id == id) ≡ false → lines_of id told ≡ [])
     → ((port : ℕ) → times port out ≤ 1) → Settled id u f y out → Effect id w y.0 told
 entry id w u f y told out k own j setup next published same says others once settled = record {
@@ -316,7 +318,8 @@ entry id w u f y told out k own j setup next published same says others once set
   next = omega (arith, j.next, next);
   published = inl (j.published ∙ published);
   fate = (elim (f.id == id) as (λ b. (f.id == id) ≡ b → sent_of id told ≡ cond b out [] → (found id y.0.held y.0.waiting ≡ found id u.held u.waiting)
-      ⊎ ((found id y.0.held y.0.waiting ≡ found id u.held u.waiting ++ cond b ((f, None) ∷ []) []) × ((port : ℕ) → is_marked u.setup.domains f.mark port ≡ false → times port out ≡ 0)) → Fate id w y.0 told) [
+      ⊎ ((found id y.0.held y.0.waiting ≡ found id u.held u.waiting ++ cond b ((f, None) ∷ []) []) × ((port : ℕ) → is_marked u.setup.domains f.mark port ≡ false → times port out ≡ 0))
+      → Fate id w y.0 told) [
         | true ↦ λ e said there.
             let is : id ≡ w.next = sym (eqb-true f.id id e) ∙ own in
             let free = same ∙ found-free id w k (omega (arith, is)) in
@@ -327,7 +330,8 @@ entry id w u f y told out k own j setup next published same says others once set
             there)
         | false ↦ λ e said there. idle (⊎_elim
             (λ (h : found id y.0.held y.0.waiting ≡ found id u.held u.waiting). h ∙ same)
-            (λ (h : (found id y.0.held y.0.waiting ≡ found id u.held u.waiting ++ []) × ((port : ℕ) → is_marked u.setup.domains f.mark port ≡ false → times port out ≡ 0)). h.0 ∙ append-nil (found id u.held u.waiting) ∙ same)
+            (λ (h : (found id y.0.held y.0.waiting ≡ found id u.held u.waiting ++ []) × ((port : ℕ) → is_marked u.setup.domains f.mark port ≡ false → times port out ≡ 0)). h.0
+            ∙ append-nil (found id u.held u.waiting) ∙ same)
             there) (others e)
       ]) refl says settled;
 }
@@ -345,7 +349,9 @@ module _ (domains : Domains) (t : Table) (port : ℕ) (bytes : List ℕ) (head :
   chip-marked declared q h = times-within domains port declared q (leave t port bytes head) h
 
 module _ (id : ℕ) (u : World) (t : Table) (f : Waiting) (declared : is_some (domain_of u.setup.domains f.port) ≡ true) where
-  class-settles : (c : Class) → Settled id u (record f { mark = mark_of c u.setup.domains f.port }) (goes_on c u (record f { mark = mark_of c u.setup.domains f.port })) (chip_out_by c u.setup.domains f.port (leave t f.port f.bytes f.head))
+  class-settles : (c : Class)
+      → Settled id u (record f { mark = mark_of c u.setup.domains f.port }) (goes_on c u (record f { mark = mark_of c u.setup.domains f.port }))
+      (chip_out_by c u.setup.domains f.port (leave t f.port f.bytes f.head))
   class-settles Drop = inl refl
   class-settles Trap = settles id u (record f { mark = None }) (waits u (record f { mark = None })) [] (waits-joins id u (record f { mark = None })) (λ port h. refl)
   class-settles Copy =
@@ -366,7 +372,8 @@ enters_by-effect : (id : ℕ) (w : World) (port : ℕ) (bytes : List ℕ) (head 
 enters_by-effect id w port bytes head None on k =
     let u : World = numbered w in
     let f : Waiting = record { id = w.next; port = port; bytes = bytes; head = head; mark = None } in
-    entry id w u f (waits u f) (waits u f).1 [] k refl (waits-joins id u f) refl refl refl refl ((waits-joins id u f).silent ∙ sym (nothing (w.next == id))) (waits-joins id u f).others (λ q. omega arith) (settles id u f (waits u f) [] (waits-joins id u f) (λ q h. refl))
+    entry id w u f (waits u f) (waits u f).1 [] k refl (waits-joins id u f) refl refl refl refl ((waits-joins id u f).silent ∙ sym (nothing (w.next == id))) (waits-joins id u f).others
+    (λ q. omega arith) (settles id u f (waits u f) [] (waits-joins id u f) (λ q h. refl))
 enters_by-effect id w port bytes head (Some c) on k =
     let u : World = numbered w in
     let f : Waiting = record { id = w.next; port = port; bytes = bytes; head = head; mark = None } in
@@ -451,7 +458,8 @@ holds-effect id w (f ∷ later) e k =
                 let rest = alone id w (held_found id w.held) (waiting_found id later) (f, None) k was in
                 taken f (was ∙ (λ i. rest.0 i ++ (f, None) ∷ rest.1 i)) (is ∙ (λ i. (rest.0 i ++ (f, Some w.published) ∷ []) ++ rest.1 i))
                 (ap (λ b. cond b (lines.Held f.id w.published ∷ []) []) mine ∙ ap (λ i. lines.Held i w.published ∷ []) (eqb-true f.id id mine))
-            | false ↦ λ other is was. idle (is ∙ ap (λ (l : Found). l ++ waiting_found id later) (append-nil (held_found id w.held)) ∙ sym was) (ap (λ b. cond b (lines.Held f.id w.published ∷ []) []) other)
+            | false ↦
+                λ other is was. idle (is ∙ ap (λ (l : Found). l ++ waiting_found id later) (append-nil (held_found id w.held)) ∙ sym was) (ap (λ b. cond b (lines.Held f.id w.published ∷ []) []) other)
           ]) refl now before;
     }
 
@@ -467,10 +475,12 @@ find-filter {X} p (y ∷ ys) x e =
 others-none : (id : ℕ) (hs : List Holding) → filter (λ h. h.waiting.id == id) (filter (λ h. not (h.waiting.id == id)) hs) ≡ []
 others-none id [] = refl
 others-none id (h ∷ hs) =
-    (elim (h.waiting.id == id) as (λ b. (h.waiting.id == id) ≡ b → filter (λ g. g.waiting.id == id) (cond (not b) (h ∷ filter (λ g. not (g.waiting.id == id)) hs) (filter (λ g. not (g.waiting.id == id)) hs)) ≡ []) [
+    (elim (h.waiting.id == id) as (λ b. (h.waiting.id == id) ≡ b
+    → filter (λ g. g.waiting.id == id) (cond (not b) (h ∷ filter (λ g. not (g.waiting.id == id)) hs) (filter (λ g. not (g.waiting.id == id)) hs)) ≡ []) [
       | true ↦ λ e. others-none id hs
       | false ↦ λ e.
-          ap (λ b. cond b (h ∷ filter (λ g. g.waiting.id == id) (filter (λ g. not (g.waiting.id == id)) hs)) (filter (λ g. g.waiting.id == id) (filter (λ g. not (g.waiting.id == id)) hs))) e ∙ others-none id hs
+          ap (λ b. cond b (h ∷ filter (λ g. g.waiting.id == id) (filter (λ g. not (g.waiting.id == id)) hs)) (filter (λ g. g.waiting.id == id) (filter (λ g. not (g.waiting.id == id)) hs))) e
+          ∙ others-none id hs
     ]) refl
 
 -- and of this id none is lost where another one goes
@@ -478,7 +488,8 @@ others-stay : (id i : ℕ) (hs : List Holding) → (i == id) ≡ false → filte
 others-stay id i [] ne = refl
 others-stay id i (h ∷ hs) ne =
     let rest = others-stay id i hs ne in
-    (elim (h.waiting.id == i) as (λ b. (h.waiting.id == i) ≡ b → filter (λ g. g.waiting.id == id) (cond (not b) (h ∷ filter (λ g. not (g.waiting.id == i)) hs) (filter (λ g. not (g.waiting.id == i)) hs))
+    (elim (h.waiting.id == i) as (λ b. (h.waiting.id == i) ≡ b
+    → filter (λ g. g.waiting.id == id) (cond (not b) (h ∷ filter (λ g. not (g.waiting.id == i)) hs) (filter (λ g. not (g.waiting.id == i)) hs))
     ≡ cond (h.waiting.id == id) (h ∷ filter (λ g. g.waiting.id == id) hs) (filter (λ g. g.waiting.id == id) hs)) [
       | true ↦ λ e. rest ∙ sym (ap (λ b. cond b (h ∷ filter (λ g. g.waiting.id == id) hs) (filter (λ g. g.waiting.id == id) hs)) (ap (λ n. n == id) (eqb-true h.waiting.id i e) ∙ ne))
       | false ↦ λ e. ap (λ l. cond (h.waiting.id == id) (h ∷ l) l) rest
@@ -493,7 +504,10 @@ posts_one id i w h point e k decided =
     let its : h.waiting.id ≡ i = eqb-true h.waiting.id i (find-passes (λ (g : Holding). g.waiting.id == i) w.held h e) in
     let found-it : find (λ (g : Holding). g.waiting.id == id) w.held ≡ Some h = ap (λ j. find (λ (g : Holding). g.waiting.id == j) w.held) (sym own ∙ its) ∙ e in
     let r = find-filter (λ (g : Holding). g.waiting.id == id) w.held h found-it in
-    let is : found id w.held w.waiting ≡ [] ++ (h.waiting, Some h.floor) ∷ (map hold_entry r.0 ++ waiting_found id w.waiting) = ap (λ (l : List Holding). map hold_entry l ++ waiting_found id w.waiting) r.1 in
+    let is : found id w.held w.waiting ≡ [] ++ (
+      h.waiting,
+      Some h.floor,
+    ) ∷ (map hold_entry r.0 ++ waiting_found id w.waiting) = ap (λ (l : List Holding). map hold_entry l ++ waiting_found id w.waiting) r.1 in
     let rest = (alone id w [] (map hold_entry r.0 ++ waiting_found id w.waiting) (h.waiting, Some h.floor) k is).1 in
     let none = no-parts (map hold_entry r.0) (waiting_found id w.waiting) rest in (
       is ∙ ap (λ (l : Found). (h.waiting, Some h.floor) ∷ l) rest,

@@ -33,7 +33,8 @@ module _ (h : List Change) where
     where
       fit : all_fit start (h ++ (makes r c).changes) ≡ true
       fit =
-          (elim (fits r.table c) as (λ b. fits r.table c ≡ b → all_fit start (h ++ (cond b (record r { table = apply r.table c; control = keeps_up r.control c; changes = r.changes ++ c ∷ [] }) r).changes) ≡ true) [
+          (elim (fits r.table c) as (λ b. fits r.table c ≡ b
+          → all_fit start (h ++ (cond b (record r { table = apply r.table c; control = keeps_up r.control c; changes = r.changes ++ c ∷ [] }) r).changes) ≡ true) [
             | true ↦ λ it_fits.
                 ap (all_fit start) (sym (append_assoc h r.changes (c ∷ [])))
                 ∙ fit-append start (h ++ r.changes) (c ∷ [])

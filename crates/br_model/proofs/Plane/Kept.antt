@@ -251,7 +251,8 @@ waits-world w f k is fresh =
 goes_on-world : (c : Class) (w : World) (f : Waiting) → IsWorld w → IsFrame w.setup.domains w.next f → All (λ g. g.id < f.id) (frames_of w.held w.waiting) → IsWorld (goes_on c w f).0
 goes_on-world c w f k is fresh = goes_on-either (λ s. IsWorld s.0) c w f k (waits-world w f k is fresh)
 
-class-mark : (class : Class) (domains : Domains) (f : Waiting) (dom : ℕ) → domain_of domains f.port ≡ Some dom → has_chip domains dom ≡ true → has_own_mark domains (record f { mark = mark_of class domains f.port }) ≡ true
+class-mark : (class : Class) (domains : Domains) (f : Waiting) (dom : ℕ) → domain_of domains f.port ≡ Some dom → has_chip domains dom ≡ true
+    → has_own_mark domains (record f { mark = mark_of class domains f.port }) ≡ true
 class-mark Drop domains f dom on there = refl
 class-mark Trap domains f dom on there = refl
 class-mark Copy domains f dom on there =

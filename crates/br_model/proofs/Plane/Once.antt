@@ -18,7 +18,8 @@ use Rattle.br_model.specs.Plane.Runs.{run, then_step}
 use Rattle.br_model.specs.Plane.Sending.{Sent, times, sent_of}
 use Rattle.br_model.specs.Plane.Steps.{world_step}
 use Rattle.br_model.specs.Plane.World.{World, Waiting, Holding, Stepped, first_world, table_at}
-use Rattle.br_model.proofs.Plane.Fates.{sent_of-append, Found, hold_entry, wait_entry, waiting_found, found, found-taken, Fate, idle, entered, taken, gone, said-none, said-held, said-soft, Waits, step-effect}
+use Rattle.br_model.proofs.Plane.Fates.{sent_of-append, Found, hold_entry, wait_entry, waiting_found, found, found-taken, Fate, idle}
+use Rattle.br_model.proofs.Plane.Fates.{entered, taken, gone, said-none, said-held, said-soft, Waits, step-effect}
 use Rattle.br_model.proofs.Plane.Kept.{first-world, step-world}
 use Rattle.br_model.proofs.Plane.Shares.{ascends-filter, ascends-leave, times-append, times-ascends, times-remaining}
 
@@ -41,7 +42,8 @@ soft-once domains w f point q before once own =
     let sum = times-append q before soft in
     (elim (is_marked domains f.mark q) as (λ b. is_marked domains f.mark q ≡ b → times q (before ++ soft) ≤ 1) [
       | true ↦ λ e. omega (arith, once, sum, times-remaining domains f.mark q out e)
-      | false ↦ λ e. omega (arith, own e, sum, times-ascends q soft (ascends-filter (λ (x : ℕ × List ℕ). not (is_marked domains f.mark x.0)) out (ascends-leave (table_at w point) f.port f.bytes f.head)))
+      | false ↦
+          λ e. omega (arith, own e, sum, times-ascends q soft (ascends-filter (λ (x : ℕ × List ℕ). not (is_marked domains f.mark x.0)) out (ascends-leave (table_at w point) f.port f.bytes f.head)))
     ]) refl
 
 module _ (id : ℕ) (w v : World) (lines new : List Line) (k : IsWorld w) (told : Told id w lines) (setup : v.setup ≡ w.setup) (next : w.next ≤ v.next) where
@@ -110,17 +112,20 @@ each-frame : (P : ℕ → Waiting × Option ℕ → Type 0) (Q : Waiting → Typ
 each-frame P Q gives [] [] each = tt
 each-frame P Q gives [] (f ∷ fs) each = (
   gives f None (subst (λ b. AllByRecursion (P f.id) (map wait_entry (cond b (f ∷ filter (λ g. g.id == f.id) fs) (filter (λ g. g.id == f.id) fs)))) (eq-eqb f.id f.id refl) (each f.id)).0,
-  each-frame P Q gives [] fs (λ id. (elim (f.id == id) as (λ b. AllByRecursion (P id) (map wait_entry (cond b (f ∷ filter (λ g. g.id == id) fs) (filter (λ g. g.id == id) fs))) → AllByRecursion (P id) (found id [] fs)) [
-    | true ↦ λ h. h.1
-    | false ↦ λ h. h
-  ]) (each id)),
+  each-frame P Q gives [] fs
+      (λ id. (elim (f.id == id) as (λ b. AllByRecursion (P id) (map wait_entry (cond b (f ∷ filter (λ g. g.id == id) fs) (filter (λ g. g.id == id) fs))) → AllByRecursion (P id) (found id [] fs)) [
+        | true ↦ λ h. h.1
+        | false ↦ λ h. h
+      ]) (each id)),
 )
 each-frame P Q gives (h ∷ hs) waiting each = (
   gives h.waiting (Some h.floor)
-      (subst (λ b. AllByRecursion (P h.waiting.id) (map hold_entry (cond b (h ∷ filter (λ g. g.waiting.id == h.waiting.id) hs) (filter (λ g. g.waiting.id == h.waiting.id) hs)) ++ waiting_found h.waiting.id waiting))
+      (subst (λ b. AllByRecursion (P h.waiting.id)
+      (map hold_entry (cond b (h ∷ filter (λ g. g.waiting.id == h.waiting.id) hs) (filter (λ g. g.waiting.id == h.waiting.id) hs)) ++ waiting_found h.waiting.id waiting))
       (eq-eqb h.waiting.id h.waiting.id refl) (each h.waiting.id)).0,
   each-frame P Q gives hs waiting (λ id. (elim (h.waiting.id == id) as
-      (λ b. AllByRecursion (P id) (map hold_entry (cond b (h ∷ filter (λ g. g.waiting.id == id) hs) (filter (λ g. g.waiting.id == id) hs)) ++ waiting_found id waiting) → AllByRecursion (P id) (found id hs waiting)) [
+      (λ b. AllByRecursion (P id) (map hold_entry (cond b (h ∷ filter (λ g. g.waiting.id == id) hs) (filter (λ g. g.waiting.id == id) hs)) ++ waiting_found id waiting)
+      → AllByRecursion (P id) (found id hs waiting)) [
         | true ↦ λ h. h.1
         | false ↦ λ h. h
       ]) (each id)),

@@ -112,7 +112,9 @@ own-domain domains q (Some d) h = flip-eq d (domain_of domains q)
 
 module _ (domains : Domains) (port : ℕ) (declared : is_some (domain_of domains port) ≡ true) where
   within-marked : (out : Sent) → within domains port out ≡ filter (λ x. is_marked domains (domain_of domains port) x.0) out
-  within-marked out = filter_agree (λ (x : ℕ × List ℕ). not (foreign domains port x.0)) (λ (x : ℕ × List ℕ). is_marked domains (domain_of domains port) x.0) (λ x. own-domain domains x.0 (domain_of domains port) declared) out
+  within-marked out =
+      filter_agree (λ (x : ℕ × List ℕ). not (foreign domains port x.0)) (λ (x : ℕ × List ℕ). is_marked domains (domain_of domains port) x.0)
+      (λ x. own-domain domains x.0 (domain_of domains port) declared) out
 
   copied-together : (out : Sent) → Ascends out → in_port_order (within domains port out ++ remaining domains (domain_of domains port) out) ≡ out
   copied-together out h =
@@ -205,7 +207,9 @@ times-filter test q [] out = refl
 times-filter test q (x ∷ xs) out =
     let rest = times-filter test q xs out in
     (elim (test x.0) as (λ b. test x.0 ≡ b → times q (cond b (x ∷ filter (λ y. test y.0) xs) (filter (λ y. test y.0) xs)) ≡ 0) [
-      | true ↦ λ e. ap (λ b. length (cond b (x ∷ filter (λ y. y.0 == q) (filter (λ y. test y.0) xs)) (filter (λ y. y.0 == q) (filter (λ y. test y.0) xs)))) (ne_eqb x.0 q (λ is. both_ways (test q) out (sym (ap test is) ∙ e))) ∙ rest
+      | true ↦
+          λ e. ap (λ b. length (cond b (x ∷ filter (λ y. y.0 == q) (filter (λ y. test y.0) xs)) (filter (λ y. y.0 == q) (filter (λ y. test y.0) xs))))
+          (ne_eqb x.0 q (λ is. both_ways (test q) out (sym (ap test is) ∙ e))) ∙ rest
       | false ↦ λ e. rest
     ]) refl
 
@@ -232,9 +236,14 @@ module _ (domains : Domains) (t later : Table) (port : ℕ) (bytes : List ℕ) (
       alone : times q (within domains port (leave t port bytes head) ++ []) ≤ 1
       alone = sum (within domains port (leave t port bytes head)) [] (omega (arith, within-once))
 
-      copied : (b : Bool) → is_marked domains (domain_of domains port) q ≡ b → times q (within domains port (leave t port bytes head) ++ remaining domains (domain_of domains port) (leave later port bytes head)) ≤ 1
-      copied true is = sum (within domains port (leave t port bytes head)) (remaining domains (domain_of domains port) (leave later port bytes head)) (omega (arith, within-once, times-remaining domains (domain_of domains port) q (leave later port bytes head) is))
-      copied false is = sum (within domains port (leave t port bytes head)) (remaining domains (domain_of domains port) (leave later port bytes head)) (omega (arith, remaining-once, times-within domains port declared q (leave t port bytes head) is))
+      copied : (b : Bool) → is_marked domains (domain_of domains port) q ≡ b
+          → times q (within domains port (leave t port bytes head) ++ remaining domains (domain_of domains port) (leave later port bytes head)) ≤ 1
+      copied true is =
+          sum (within domains port (leave t port bytes head)) (remaining domains (domain_of domains port) (leave later port bytes head))
+          (omega (arith, within-once, times-remaining domains (domain_of domains port) q (leave later port bytes head) is))
+      copied false is =
+          sum (within domains port (leave t port bytes head)) (remaining domains (domain_of domains port) (leave later port bytes head))
+          (omega (arith, remaining-once, times-within domains port declared q (leave t port bytes head) is))
 
       by : (c : Class) → times q (chip_out_by c domains port (leave t port bytes head) ++ software_share c domains later port bytes head) ≤ 1
       by Drop = omega arith

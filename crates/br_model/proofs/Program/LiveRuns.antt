@@ -1,5 +1,6 @@
 -- The shortest first part of a live run is as good as any.
-use Rattle.std.proofs.Common.{◌≡◌, ℕ, Bool, true, false, not, ◌&&◌, ◌||◌, ◌⊎◌, cond, if◌then◌else◌, List, [], ◌∷◌, ◌++◌, length, Option, None, Some, IfSome, refl, sym, ◌∙◌, ap, subst, inl, inr, true≢false}
+use Rattle.std.proofs.Common.{◌≡◌, ℕ, Bool, true, false, not, ◌&&◌, ◌||◌, ◌⊎◌, cond, if◌then◌else◌, List, [], ◌∷◌}
+use Rattle.std.proofs.Common.{◌++◌, length, Option, None, Some, IfSome, refl, sym, ◌∙◌, ap, subst, inl, inr, true≢false}
 use Rattle.std.specs.Cmp.{first_so, second_so}
 use Rattle.std.specs.List.{AllByRecursion, filter, list_all}
 use Rattle.std.proofs.lemmas.Bool.{and_from}
@@ -9,7 +10,8 @@ use Rattle.br_model.specs.declared.steps.Step.TheVariants.{Publish}
 use Rattle.br_model.specs.Plane.Runs.{run}
 use Rattle.br_model.specs.Plane.Steps.{world_step}
 use Rattle.br_model.specs.Plane.World.{World}
-use Rattle.br_model.specs.Program.LiveRun.{Parts, accepts_changes, begins_with_publish, ends_with_publish, frames_at, from_frame, is_drained, is_frame_at, is_live_by, is_live_run, is_ordered, is_publish, may_drain, parts_at, publishes_at_once, same_frames, same_order, until_frame, with_first}
+use Rattle.br_model.specs.Program.LiveRun.{Parts, accepts_changes, begins_with_publish, ends_with_publish, frames_at, from_frame, is_drained, is_frame_at, is_live_by, is_live_run}
+use Rattle.br_model.specs.Program.LiveRun.{is_ordered, is_publish, may_drain, parts_at, publishes_at_once, same_frames, same_order, until_frame, with_first}
 use Rattle.br_model.specs.Program.Runs.{setup_of}
 use Rattle.br_model.specs.Program.SameSteps.{same_step}
 use Rattle.br_model.specs.Table.Setup.{Setup}
@@ -101,7 +103,8 @@ record Found (first opening later : List Step) : Type 0 where
   rest : p.later ≡ more ++ later
   published : ArePublished more
 
-found_by : (s : Step) (first opening opening' later : List Step) (f : Found first opening' later) → parts_at opening (s ∷ (first ++ later)) ≡ with_first s (parts_at opening' (first ++ later)) → Found (s ∷ first) opening later
+found_by : (s : Step) (first opening opening' later : List Step) (f : Found first opening' later) → parts_at opening (s ∷ (first ++ later)) ≡ with_first s (parts_at opening' (first ++ later))
+    → Found (s ∷ first) opening later
 found_by s first opening opening' later f is = record {
   p = record { first = s ∷ f.p.first; later = f.p.later };
   found = is ∙ ap (with_first s) f.found;

@@ -1,5 +1,6 @@
 -- A generated scenario is read as the steps of which it was made.
-use Rattle.std.proofs.Common.{◌≡◌, ℕ, zero, suc, ◌+◌, ◌*◌, ◌/◌, ◌%◌, ◌<◌, ◌≤◌, ◌==◌, nat_lt, nat_le, Bool, true, false, ◌&&◌, if◌then◌else◌, List, [], ◌∷◌, ◌++◌, length, take, drop, refl, sym, ◌∙◌, ap, ap₂, arith, length-append, append_assoc, append-nil}
+use Rattle.std.proofs.Common.{◌≡◌, ℕ, zero, suc, ◌+◌, ◌*◌, ◌/◌, ◌%◌, ◌<◌, ◌≤◌, ◌==◌, nat_lt, nat_le, Bool, true, false, ◌&&◌}
+use Rattle.std.proofs.Common.{if◌then◌else◌, List, [], ◌∷◌, ◌++◌, length, take, drop, refl, sym, ◌∙◌, ap, ap₂, arith, length-append, append_assoc, append-nil}
 use Rattle.std.specs.Prelude.{codes}
 use Rattle.std.specs.Cmp.{first_so, second_so}
 use Rattle.std.specs.Fmt.{decimal, digits}
@@ -121,7 +122,8 @@ entry_good port bytes few declared sized are =
     let as_is : shown bytes ≡ bytes = shown_whole bytes (omega arith) (omega arith) in
     let digits : length (decimal port) ≤ 20 = length-decimal-le 20 port (omega arith) (omega arith) (omega arith) in
     record {
-      feedless = ap (λ (shown : List ℕ). is_line (decimal port ++ (32 ∷ hex_of shown))) as_is ∙ lines_joined (decimal port) (32 ∷ hex_of bytes) (decimal_feedless port (omega arith)) (hex_feedless bytes are);
+      feedless = ap (λ (shown : List ℕ). is_line (decimal port ++ (32 ∷ hex_of shown))) as_is
+          ∙ lines_joined (decimal port) (32 ∷ hex_of bytes) (decimal_feedless port (omega arith)) (hex_feedless bytes are);
       short = rw as_is (omega (arith, digits, sized, length-append (decimal port) (32 ∷ hex_of bytes), length-hex_of bytes));
       line =
           let in_range : (is_word (shown bytes) && list_all is_byte (shown bytes)) ≡ true =
@@ -220,7 +222,8 @@ head_read : (more : List ℕ) → read 0 (opened false) (head ++ more) ≡ read 
 unfolding digits
 head_read more =
     read_line (opened false) (Opens One) (codes "scenario 1") [] (port_lines (drop 0 ports) more) refl refl says_opens refl
-    ∙ read_line (record (opened false) { lines = 1; roster = record (first_roster false) { place = Header } }) (Declares 1 (codes "g1") first_chip_domain) (codes "port 1 g1 chip 1") [] (port_lines (drop 1 ports) more) refl refl says_port_1 refl
+    ∙ read_line (record (opened false) { lines = 1; roster = record (first_roster false) { place = Header } }) (Declares 1 (codes "g1") first_chip_domain) (codes "port 1 g1 chip 1") []
+    (port_lines (drop 1 ports) more) refl refl says_port_1 refl
     ∙ read_line (begun 2 (take 1 ports)) (Declares 2 (codes "g2") first_chip_domain) (codes "port 2 g2 chip 1") [] (port_lines (drop 2 ports) more) refl refl says_port_2 refl
     ∙ read_line (begun 3 (take 2 ports)) (Declares 3 (codes "g3") first_chip_domain) (codes "port 3 g3 chip 1") [] (port_lines (drop 3 ports) more) refl refl says_port_3 refl
     ∙ read_line (begun 4 (take 3 ports)) (Declares 4 (codes "g4") first_chip_domain) (codes "port 4 g4 chip 1") [] (port_lines (drop 4 ports) more) refl refl says_port_4 refl
@@ -247,7 +250,8 @@ later x count = Cmd (PortUp 2) ∷ Cmd (PortUp 3) ∷ Cmd (PortUp 4) ∷ Cmd (Po
 later_good : (x count : ℕ) → count ≤ most_frames → AreGood (later x count)
 unfolding later digits
 later_good x count few =
-    let good : (s : Step) → is_line (step_words ports s) ≡ true → length (step_words ports s) ≤ longest_line → has_line ports s ≡ true → comes_by_line false (chips_of ports) s ≡ true → is_whole s ≡ true → IsGood s =
+    let good : (s : Step) → is_line (step_words ports s) ≡ true → length (step_words ports s) ≤ longest_line → has_line ports s ≡ true → comes_by_line false (chips_of ports) s ≡ true
+    → is_whole s ≡ true → IsGood s =
     λ s a b c d e. record { feedless = a; short = b; line = c; comes = d; whole = e } in (
       good _ refl (omega arith) refl refl refl,
       (

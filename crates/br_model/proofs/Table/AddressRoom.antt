@@ -32,7 +32,8 @@ fewer (e ∷ es) k =
 fits-put : (es : Entries) (k : ℕ × ℕ) (x : ℕ × Kind) → HasRoom es → (is_some (get pair_cmp es k) || nat_lt (length es) most_addresses) ≡ true → length (put pair_cmp es k x) ≤ most_addresses
 fits-put es k x room fit =
     let more : length (put pair_cmp es k x) ≡ cond (is_some (get pair_cmp es k)) (length es) (length es + 1) = length-put pair_cmp pair_total k x es (T_from_true _ room.ascend) in
-    (elim (is_some (get pair_cmp es k)) as (λ b. length (put pair_cmp es k x) ≡ cond b (length es) (length es + 1) → (b || nat_lt (length es) most_addresses) ≡ true → length (put pair_cmp es k x) ≤ most_addresses) [
+    (elim (is_some (get pair_cmp es k)) as (λ b. length (put pair_cmp es k x) ≡ cond b (length es) (length es + 1) → (b || nat_lt (length es) most_addresses) ≡ true
+    → length (put pair_cmp es k x) ≤ most_addresses) [
       | true ↦ λ e f. omega (arith, e, room.few)
       | false ↦ λ e f. omega (arith, e, ltb-true _ _ f)
     ]) more fit

@@ -1,5 +1,6 @@
 -- Lists of what is kept of the chips, by the numbers of their domains.
-use Rattle.std.proofs.Common.{◌≡◌, ℕ, zero, suc, ◌+◌, ◌<◌, Bool, true, false, cond, not, List, [], ◌∷◌, map, length, drop, set, get_or, slice_get, Option, None, Some, option_map, refl, sym, ap, ◌∙◌, arith}
+use Rattle.std.proofs.Common.{◌≡◌, ℕ, zero, suc, ◌+◌, ◌<◌, Bool, true, false, cond, not, List, [], ◌∷◌, map}
+use Rattle.std.proofs.Common.{length, drop, set, get_or, slice_get, Option, None, Some, option_map, refl, sym, ap, ◌∙◌, arith}
 use Rattle.std.proofs.lemmas.Bool.{eqb-true, eq-eqb, or_parts, and_parts, not-true}
 use Rattle.std.proofs.lemmas.List.{at_drop_more, get_or-drop, drop-set-lt, drop-drop}
 use Rattle.std.proofs.lemmas.List.Sums.{sum_by-cons}
@@ -150,9 +151,11 @@ module _ {S : Type 0} (chip : S → Chip) where
       sym (λ i. cond (eq-eqb (chip x).dom (chip new).dom (sym is) i) (chip new) (chip x) ∷ none-put (chip new) states (ap (λ n. list_any (λ k. k == n) (doms states)) is ∙ not-true _ parts.0) i)
   put-place (x ∷ states) (suc i) old new h e own =
       let parts = and_parts (not (list_any (λ k. k == (chip x).dom) (doms states))) (apart (doms states)) h in
-      (elim ((chip x).dom == (chip new).dom) as (λ b. ((chip x).dom == (chip new).dom) ≡ b → (chip x) ∷ chips_of (set states i new) ≡ cond b (chip new) (chip x) ∷ put_chip (chips_of states) (chip new)) [
+      (elim ((chip x).dom == (chip new).dom) as (λ b. ((chip x).dom == (chip new).dom) ≡ b
+      → (chip x) ∷ chips_of (set states i new) ≡ cond b (chip new) (chip x) ∷ put_chip (chips_of states) (chip new)) [
         | true ↦ λ is.
-            let clash : list_any (λ k. k == (chip x).dom) (doms states) ≡ true = ap (λ n. list_any (λ k. k == n) (doms states)) (eqb-true (chip x).dom (chip new).dom is ∙ own) ∙ there states i old e in
+            let clash : list_any (λ k. k == (chip x).dom) (doms states) ≡ true = ap (λ n. list_any (λ k. k == n) (doms states)) (eqb-true (chip x).dom (chip new).dom is ∙ own)
+            ∙ there states i old e in
             absurd (let none : not true ≡ true = ap not (sym clash) ∙ parts.0 in cc)
         | false ↦ λ is. ap (λ cs. (chip x) ∷ cs) (put-place states i old new parts.1 e own)
       ]) refl

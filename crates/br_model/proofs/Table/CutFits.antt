@@ -41,9 +41,11 @@ before-turn edition H k d e =
     let n = r.0 in
     let is = deferred_at-deferred edition H k d e in
     let front : take (n + 1) H ≡ take n H ++ d ∷ [] = take-next H n d r.2 in
-    let all : deferred_count edition (take (n + 1) H) ≡ deferred_count edition (take n H) + deferred_count edition (d ∷ []) = ap (deferred_count edition) front ∙ deferred_count-append edition (take n H) (d ∷ []) in
+    let all : deferred_count edition (take (n + 1) H) ≡ deferred_count edition (take n H) + deferred_count edition (d ∷ []) = ap (deferred_count edition) front
+    ∙ deferred_count-append edition (take n H) (d ∷ []) in
     let one : deferred_count edition (d ∷ []) ≡ 1 = ap (λ b. length (cond b (d ∷ []) [])) is.0 in
-    let up : deferred_count edition (take (n + 1) H) ≡ length (take (k + 1) (deferred_of edition H)) = ap (λ m. deferred_count edition (take m H)) (sym r.1) ∙ ap length (deferred_of-front edition H (k + 1)) in
+    let up : deferred_count edition (take (n + 1) H) ≡ length (take (k + 1) (deferred_of edition H)) = ap (λ m. deferred_count edition (take m H)) (sym r.1)
+    ∙ ap length (deferred_of-front edition H (k + 1)) in
     (n, r.2, omega (arith, all, one, up, is.1, length-take (k + 1) (deferred_of edition H)))
 
 -- so the cut goes on from them by synchronous changes alone
@@ -60,7 +62,8 @@ turn-fits edition H k d within e =
     let b = before-turn edition H k d e in
     by edition d (table (take b.0 H)) (drop b.0 H) (deferred_at-deferred edition H k d e).0 (cut-from edition H b.0 k b.2) (fits-there H b.0 d within b.1)
   where
-    by : (edition : Edition) (d : Change) (t : Table) (later : List Change) → deferred edition d ≡ true → table (cut edition H k) ≡ fold apply t (synchronous_of edition later) → fits t d ≡ true → fits (table (cut edition H k)) d ≡ true
+    by : (edition : Edition) (d : Change) (t : Table) (later : List Change) → deferred edition d ≡ true → table (cut edition H k) ≡ fold apply t (synchronous_of edition later) → fits t d ≡ true
+        → fits (table (cut edition H k)) d ≡ true
     by edition (AddrPut vid mac port kind) t later late is fit =
         ap (λ (es : List ((ℕ × ℕ) × (ℕ × Kind))). is_some (get pair_cmp es (vid, mac)) || nat_lt (length es) most_addresses) (ap (λ (u : Table). u.addr) is ∙ addr-synchronous edition t later) ∙ fit
     by edition (AddrDel vid mac) t later late is fit = refl

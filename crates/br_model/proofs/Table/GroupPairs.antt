@@ -122,7 +122,9 @@ module _ (ms : List Membership) (m : Membership) where
   joined-put : pairs (joined membership_cmp ms m) ≡ put group_pair_cmp (pairs ms) k tt
   joined-put =
       same_pairs (joined membership_cmp ms m) (put group_pair_cmp (pairs ms) k tt) (is_sorted-put group_pair_cmp pair_total k tt (pairs ms) (sorted-pairs ms))
-      (λ j. pair-joined ms m j ∙ sym (ap is_some (find-put group_pair_cmp pair_total j k tt (pairs ms)) ∙ some_put (eq_by_cmp group_pair_cmp j k) (get group_pair_cmp (pairs ms) j) ∙ ap (λ b. eq_by_cmp group_pair_cmp j k || b) (find-pairs ms j)))
+      (λ j. pair-joined ms m j
+      ∙ sym (ap is_some (find-put group_pair_cmp pair_total j k tt (pairs ms)) ∙ some_put (eq_by_cmp group_pair_cmp j k) (get group_pair_cmp (pairs ms) j)
+      ∙ ap (λ b. eq_by_cmp group_pair_cmp j k || b) (find-pairs ms j)))
 
   -- Where there is room for the pair, there are no more pairs than there may be once the member has joined.
   pub few-joined : length (group_pairs ms) ≤ max_pairs → has_room ms m.0 m.1 ≡ true → length (group_pairs (joined membership_cmp ms m)) ≤ max_pairs
@@ -131,7 +133,8 @@ module _ (ms : List Membership) (m : Membership) where
       count (joined membership_cmp ms m) ∙ ap length joined-put ∙ length-put group_pair_cmp pair_total k tt (pairs ms) (sorted-pairs ms) in
       let found : has group_pair_cmp (group_pairs ms) k ≡ is_some (get group_pair_cmp (pairs ms) k) =
       sym (is_some-find group_pair_cmp k (pairs ms) ∙ ap (λ ks. has group_pair_cmp ks k) (keys-pairs ms)) in
-      (elim (is_some (get group_pair_cmp (pairs ms) k)) as (λ b. length (group_pairs (joined membership_cmp ms m)) ≡ cond b (length (pairs ms)) (length (pairs ms) + 1) → (b || nat_lt (length (group_pairs ms)) max_pairs) ≡ true → length (group_pairs (joined membership_cmp ms m)) ≤ max_pairs) [
+      (elim (is_some (get group_pair_cmp (pairs ms) k)) as (λ b. length (group_pairs (joined membership_cmp ms m)) ≡ cond b (length (pairs ms)) (length (pairs ms) + 1)
+      → (b || nat_lt (length (group_pairs ms)) max_pairs) ≡ true → length (group_pairs (joined membership_cmp ms m)) ≤ max_pairs) [
         | true ↦ λ e f. omega (arith, e, few, count ms)
         | false ↦ λ e f. omega (arith, e, ltb-true _ _ f, count ms)
       ]) more (ap (λ b. b || nat_lt (length (group_pairs ms)) max_pairs) (sym found) ∙ room)
@@ -157,7 +160,8 @@ module _ (ms : List Membership) (m : Membership) where
           find-where_key group_pair_cmp (λ n. not (eq_by_cmp group_pair_cmp k n)) j (λ x tie. ap (λ n. not (eq_by_cmp group_pair_cmp k n)) (sym (equal_pairs j x tie))) (pairs ms)
           ∙ ap (λ b. cond (not b) (get group_pair_cmp (pairs ms) j) None) ((eq_by_cmp_equiv pair_total).symm k j)
 
-      by : (j : GroupPair) (b : Bool) → eq_by_cmp group_pair_cmp j k ≡ b → has_pair (parted membership_cmp ms m) j ≡ is_some (cond (not (eq_by_cmp group_pair_cmp j k)) (get group_pair_cmp (pairs ms) j) None)
+      by : (j : GroupPair) (b : Bool) → eq_by_cmp group_pair_cmp j k ≡ b
+          → has_pair (parted membership_cmp ms m) j ≡ is_some (cond (not (eq_by_cmp group_pair_cmp j k)) (get group_pair_cmp (pairs ms) j) None)
       by j false other = pair-parted ms m j other ∙ sym (find-pairs ms j) ∙ ap (λ b. is_some (cond (not b) (get group_pair_cmp (pairs ms) j) None)) (sym other)
       by j true same = ap (has_pair (parted membership_cmp ms m)) (pair_equal j k same) ∙ none ∙ ap (λ b. is_some (cond (not b) (get group_pair_cmp (pairs ms) j) None)) (sym same)
 

@@ -19,7 +19,8 @@ use Rattle.br_model.proofs.Text.WrittenNames.{fits, at_least}
 any-put : (p : ℕ × ℕ → Bool) (m : List (ℕ × ℕ)) (k v : ℕ) → get nat_cmp m k ≡ None → list_any p (put nat_cmp m k v) ≡ (p (k, v) || list_any p m)
 any-put p [] k v absent = refl
 any-put p (e ∷ m) k v absent =
-    (elim (nat_cmp k e.0) as (λ r. cond (is_eq r) (Some e.1) (get nat_cmp m k) ≡ None → list_any p (by_order r ((k, v) ∷ e ∷ m) ((e.0, v) ∷ m) (e ∷ put nat_cmp m k v)) ≡ (p (k, v) || (p e || list_any p m))) [
+    (elim (nat_cmp k e.0) as (λ r. cond (is_eq r) (Some e.1) (get nat_cmp m k) ≡ None
+    → list_any p (by_order r ((k, v) ∷ e ∷ m) ((e.0, v) ∷ m) (e ∷ put nat_cmp m k v)) ≡ (p (k, v) || (p e || list_any p m))) [
       | Less ↦ λ h. refl
       | Equal ↦ λ h. absurd (cc)
       | Greater ↦ λ h. ap (λ b. p e || b) (any-put p m k v h) ∙ or_swap (p e) (p (k, v)) (list_any p m)
@@ -35,7 +36,8 @@ AreNew m ports = (port : ℕ) → has_number ports port ≡ true → get nat_cmp
 still-new : (m : List (ℕ × ℕ)) (e : Entry) (ports : List Entry) → are_declared (e ∷ ports) ≡ true → AreNew m (e ∷ ports) → AreNew (put nat_cmp m e.port e.dom) ports
 still-new m e ports all new port h =
     find-put nat_cmp nat_cmp_total port e.port e.dom m
-    ∙ ap (λ b. cond b (Some e.dom) (get nat_cmp m port)) (unsigned_tied port e.port ∙ ne_eqb port e.port (λ same. both_ways (has_number ports e.port) (fits e ports all).new (ap (has_number ports) (sym same) ∙ h)))
+    ∙ ap (λ b. cond b (Some e.dom) (get nat_cmp m port)) (unsigned_tied port e.port
+    ∙ ne_eqb port e.port (λ same. both_ways (has_number ports e.port) (fits e ports all).new (ap (has_number ports) (sym same) ∙ h)))
     ∙ new port (or_right (e.port == port) (has_number ports port) h)
 
 any-declared : (m : List (ℕ × ℕ)) (ports : List Entry) (dom : ℕ) → are_declared ports ≡ true → AreNew m ports

@@ -1,5 +1,6 @@
 -- What some bytes say stays where more bytes follow.
-use Rattle.std.proofs.Common.{add-one, ◌≡◌, ℕ, zero, suc, ◌+◌, ◌≤◌, ◌==◌, Bool, true, false, if◌then◌else◌, List, [], ◌∷◌, ◌++◌, length, take, drop, Option, None, Some, IfSome, Result, Ok, Err, refl, sym, ◌∙◌, ap, subst, arith, codes, nat_lt, append_assoc, length-append, take-append-drop}
+use Rattle.std.proofs.Common.{add-one, ◌≡◌, ℕ, zero, suc, ◌+◌, ◌≤◌, ◌==◌, Bool, true, false, if◌then◌else◌, List, [], ◌∷◌, ◌++◌, length, take, drop}
+use Rattle.std.proofs.Common.{Option, None, Some, IfSome, Result, Ok, Err, refl, sym, ◌∙◌, ap, subst, arith, codes, nat_lt, append_assoc, length-append, take-append-drop}
 use Rattle.std.specs.Io.{StartsWith}
 use Rattle.std.specs.List.{fold}
 use Rattle.std.proofs.Math.Seq.{take-append_seam}
@@ -19,7 +20,8 @@ use Rattle.br_model.specs.Plane.World.{Stepped}
 use Rattle.br_model.specs.Program.Runs.{body, body_of, body_parts, setup_of}
 use Rattle.br_model.specs.Table.Setup.{Setup}
 use Rattle.br_model.specs.Text.Roster.{Roster}
-use Rattle.br_model.specs.Text.Scenario.{Scenario, Ending, Going, Ended, Bad, Front, Progress, bad, captured, closes, front, in_front, longest_line, opened, read, reads_at, reads_front, reads_line, scenario, section_length, takes, takes_steps, whole_says}
+use Rattle.br_model.specs.Text.Scenario.{Scenario, Ending, Going, Ended, Bad, Front, Progress, bad, captured, closes, front, in_front}
+use Rattle.br_model.specs.Text.Scenario.{longest_line, opened, read, reads_at, reads_front, reads_line, scenario, section_length, takes, takes_steps, whole_says}
 use Rattle.br_model.specs.Text.Transcript.{text}
 use Rattle.br_model.specs.Wire.Captures.{packets}
 use Rattle.br_model.proofs.Text.Places.{FitsPlace, line_in_place}
@@ -175,7 +177,8 @@ module _ (s : Scenario) (more : List ℕ) (go_on go_on' : GoesOn) (keeps : Keeps
   front_more : (bytes : List ℕ) (o whole : Option Front) → Grows o whole more → Stays (kept (reads_front s bytes o go_on).scenario) (kept (reads_front s (bytes ++ more) whole go_on').scenario)
   front_more bytes None whole h = begun_by (nat_lt longest_line (length bytes)) _ (front_stays s (bytes ++ more) go_on' whole keeps)
   front_more bytes (Some f) whole h =
-      subst (λ (o : Option Front). Stays (kept (reads_front s bytes (Some f) go_on).scenario) (kept (reads_front s (bytes ++ more) o go_on').scenario)) (sym h) (says_more f (whole_says s.roster f.line) refl)
+      subst (λ (o : Option Front). Stays (kept (reads_front s bytes (Some f) go_on).scenario) (kept (reads_front s (bytes ++ more) o go_on').scenario)) (sym h)
+      (says_more f (whole_says s.roster f.line) refl)
 
   at_more : (d : Ending) (bytes : List ℕ) → Stays (kept (reads_at d s bytes go_on).scenario) (kept (reads_at d s (bytes ++ more) go_on').scenario)
   at_more Going bytes = front_more bytes (front bytes) (front (bytes ++ more)) (front_grows bytes more)

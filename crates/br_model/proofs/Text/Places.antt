@@ -1,5 +1,6 @@
 -- A line says nothing that doesn't fit the place where it stands.
-use Rattle.std.proofs.Common.{◌≡◌, ℕ, ◌-◌, ◌+◌, ◌==◌, ◌&&◌, nat_lt, Bool, true, false, if◌then◌else◌, List, [], ◌∷◌, length, slice_index_or, codes, Option, None, Some, Result, Ok, Err, IfOk, IfSome, refl, sym, ◌∙◌, ap, subst, true≢false}
+use Rattle.std.proofs.Common.{◌≡◌, ℕ, ◌-◌, ◌+◌, ◌==◌, ◌&&◌, nat_lt, Bool, true, false, if◌then◌else◌, List, [], ◌∷◌, length, slice_index_or}
+use Rattle.std.proofs.Common.{codes, Option, None, Some, Result, Ok, Err, IfOk, IfSome, refl, sym, ◌∙◌, ap, subst, true≢false}
 use Rattle.std.specs.List.{AllByRecursion}
 use Rattle.std.specs.Str.{bytes_eq}
 use Rattle.lemmas.proofs.Endings.{IfOk_either}
@@ -63,7 +64,49 @@ module _ (r : Roster) (word : ℕ → Word) where
       (λ yes. operands_read (FitsPlace r.place) r.ports (operands_from 0 q.shape) q.says word (h yes))
 
   rows_say : AllByRecursion SaysSo lines
-  rows_say = (row_says (row (codes "scenario 1") opening (Opens One)) (λ yes. elsewhere opening r.place refl yes), (row_says (row (codes "scenario 2") opening (Opens Two)) (λ yes. elsewhere opening r.place refl yes), (row_says (row (codes "bridge MAC") header (λ mac. Bridge mac)) (λ yes mac. elsewhere header r.place refl yes), (row_says (row (codes "port NUMBER NEWNAME soft") declaration (λ port name. Declares port name software)) (λ yes port name. elsewhere declaration r.place refl yes), (row_says (row (codes "port NUMBER NEWNAME chip DOMAIN") declaration (λ port name dom. Declares port name dom)) (λ yes port name dom. elsewhere declaration r.place refl yes), (row_says rx (λ yes port bytes. tt), (row_says serve (λ yes. tt), (row_says hold (λ yes. tt), (row_says post (λ yes id. tt), (row_says post_at (λ yes id point. tt), (row_says now (λ yes moment. tt), (row_says turn (λ yes dom. tt), (row_says report (λ yes dom. tt), (row_says sweep (λ yes dom. tt), (row_says publish (λ yes. tt), (row_says (row (codes "capture LENGTH") step (λ n. Captures n)) (λ yes n. tt), (row_says (row (codes "end") step Ends) (λ yes. tt), tt)))))))))))))))))
+  rows_say = (
+    row_says (row (codes "scenario 1") opening (Opens One)) (λ yes. elsewhere opening r.place refl yes),
+    (
+      row_says (row (codes "scenario 2") opening (Opens Two)) (λ yes. elsewhere opening r.place refl yes),
+      (
+        row_says (row (codes "bridge MAC") header (λ mac. Bridge mac)) (λ yes mac. elsewhere header r.place refl yes),
+        (
+          row_says (row (codes "port NUMBER NEWNAME soft") declaration (λ port name. Declares port name software)) (λ yes port name. elsewhere declaration r.place refl yes),
+          (
+            row_says (row (codes "port NUMBER NEWNAME chip DOMAIN") declaration (λ port name dom. Declares port name dom)) (λ yes port name dom. elsewhere declaration r.place refl yes),
+            (
+              row_says rx (λ yes port bytes. tt),
+              (
+                row_says serve (λ yes. tt),
+                (
+                  row_says hold (λ yes. tt),
+                  (
+                    row_says post (λ yes id. tt),
+                    (
+                      row_says post_at (λ yes id point. tt),
+                      (
+                        row_says now (λ yes moment. tt),
+                        (
+                          row_says turn (λ yes dom. tt),
+                          (
+                            row_says report (λ yes dom. tt),
+                            (
+                              row_says sweep (λ yes dom. tt),
+                              (row_says publish (λ yes. tt), (row_says (row (codes "capture LENGTH") step (λ n. Captures n)) (λ yes n. tt), (row_says (row (codes "end") step Ends) (λ yes. tt), tt))),
+                            ),
+                          ),
+                        ),
+                      ),
+                    ),
+                  ),
+                ),
+              ),
+            ),
+          ),
+        ),
+      ),
+    ),
+  )
 
   picked : (b : Bool) (q : Row Said) (o : Option (Row Said)) → SaysSo q → IfSome o SaysSo → IfSome (if b then Some q else o) SaysSo
   picked true q o p h = p

@@ -1,5 +1,6 @@
 -- The line at the front is read, and then what is behind it.
-use Rattle.std.proofs.Common.{◌≡◌, ℕ, suc, ◌+◌, ◌<◌, ◌≤◌, Bool, true, false, if◌then◌else◌, List, [], ◌∷◌, ◌++◌, length, take, Option, None, Some, Result, Ok, Err, refl, sym, ◌∙◌, ap, arith, length-append, append_assoc}
+use Rattle.std.proofs.Common.{◌≡◌, ℕ, suc, ◌+◌, ◌<◌, ◌≤◌, Bool, true, false, if◌then◌else◌, List, [], ◌∷◌, ◌++◌, length}
+use Rattle.std.proofs.Common.{take, Option, None, Some, Result, Ok, Err, refl, sym, ◌∙◌, ap, arith, length-append, append_assoc}
 use Rattle.std.proofs.Math.Seq.{take-append_seam}
 use Rattle.std.proofs.lemmas.Bool.{le-ltb, lt-ltb}
 use Rattle.br_model.specs.declared.scenario.LineWhy.{LineWhy}
@@ -7,7 +8,8 @@ use Rattle.br_model.specs.declared.scenario.LineWhy.TheVariants.{Long, Place, Un
 use Rattle.br_model.specs.declared.scenario.Said.{Said}
 use Rattle.br_model.specs.Text.CommandForms.{step}
 use Rattle.br_model.specs.Text.LineForms.{line_says}
-use Rattle.br_model.specs.Text.Scenario.{Scenario, Ending, Going, Ended, Bad, Front, front, Progress, opened, takes, whole_says, section_length, reads_at, reads_front, reads_line, read, closes, closes_at, ends, is_end, bad, scenario, scenario_by, longest_line}
+use Rattle.br_model.specs.Text.Scenario.{Scenario, Ending, Going, Ended, Bad, Front, front, Progress, opened, takes, whole_says, section_length}
+use Rattle.br_model.specs.Text.Scenario.{reads_at, reads_front, reads_line, read, closes, closes_at, ends, is_end, bad, scenario, scenario_by, longest_line}
 use Rattle.br_model.specs.Theorems.WholeLines.{is_line}
 use Rattle.br_model.specs.Text.Words.{words}
 use Rattle.br_model.proofs.Text.Fronts.{before, front_before, front_line, front_none}
@@ -113,7 +115,11 @@ read_long s (byte ∷ bytes) more going h long = long_so s byte bytes more (fron
 
 -- where the bytes end in a line, this has no steps and no ports
 
-ends_keeps : (s : Scenario) (b : Bool) → ((if b then record s { lines = s.lines + 1; ending = Ended } else bad s Place).roster ≡ s.roster) × ((if b then record s { lines = s.lines + 1; ending = Ended } else bad s Place).steps ≡ s.steps)
+ends_keeps : (s : Scenario) (b : Bool)
+    → ((if b then record s { lines = s.lines + 1; ending = Ended } else bad s Place).roster ≡ s.roster) × ((if b then record s {
+      lines = s.lines + 1;
+      ending = Ended;
+    } else bad s Place).steps ≡ s.steps)
 ends_keeps s true = (refl, refl)
 ends_keeps s false = (refl, refl)
 

@@ -94,7 +94,8 @@ four_spelled n h =
 dotted_read : (n : ℕ) → n < 2 ^ 32 → address_four (dotted n) ≡ Some n
 dotted_read n h =
     ap (in_parts 4 (2 ^ 8) octet) (four_parts (byte_at n 24) (byte_at n 16) (byte_at n 8) (byte_at n 0) (byte_below n 24) (byte_below n 16) (byte_below n 8) (byte_below n 0))
-    ∙ ap (option_map (fold (λ m digit. 2 ^ 8 * m + digit) 0)) (octets_read (byte_at n 24) (byte_at n 16) (byte_at n 8) (byte_at n 0) (byte_below n 24) (byte_below n 16) (byte_below n 8) (byte_below n 0))
+    ∙ ap (option_map (fold (λ m digit. 2 ^ 8 * m + digit) 0))
+    (octets_read (byte_at n 24) (byte_at n 16) (byte_at n 8) (byte_at n 0) (byte_below n 24) (byte_below n 16) (byte_below n 8) (byte_below n 0))
     ∙ ap Some (four_spelled n h)
 
 four_read : (n : ℕ) → n < 2 ^ 32 → group (dotted n) ≡ Ok (V4 n)
@@ -190,7 +191,8 @@ eight_parts n =
     ∙ ap (λ (ws : List Word). digits_at n 112 ∷ digits_at n 96 ∷ digits_at n 80 ∷ ws) (part_first 58 (digits_at n 64) (last_four n) (no_colon n 64))
     ∙ ap (λ (ws : List Word). digits_at n 112 ∷ digits_at n 96 ∷ digits_at n 80 ∷ digits_at n 64 ∷ ws) (part_first 58 (digits_at n 48) (last_three n) (no_colon n 48))
     ∙ ap (λ (ws : List Word). digits_at n 112 ∷ digits_at n 96 ∷ digits_at n 80 ∷ digits_at n 64 ∷ digits_at n 48 ∷ ws) (part_first 58 (digits_at n 32) (last_two n) (no_colon n 32))
-    ∙ ap (λ (ws : List Word). digits_at n 112 ∷ digits_at n 96 ∷ digits_at n 80 ∷ digits_at n 64 ∷ digits_at n 48 ∷ digits_at n 32 ∷ ws) (part_first 58 (digits_at n 16) (digits_at n 0) (no_colon n 16))
+    ∙ ap (λ (ws : List Word). digits_at n 112 ∷ digits_at n 96 ∷ digits_at n 80 ∷ digits_at n 64 ∷ digits_at n 48 ∷ digits_at n 32 ∷ ws)
+    (part_first 58 (digits_at n 16) (digits_at n 0) (no_colon n 16))
     ∙ ap (λ (ws : List Word). digits_at n 112 ∷ digits_at n 96 ∷ digits_at n 80 ∷ digits_at n 64 ∷ digits_at n 48 ∷ digits_at n 32 ∷ digits_at n 16 ∷ ws) (part_last 58 (digits_at n 0) (no_colon n 0))
 
 -- the number of the two bytes that stand so many bits above the lowest

@@ -1,6 +1,7 @@
 -- The line that a step is written as is read back to the step.
 use mathlib.Core.Path.{path_j, subst_refl}
-use Rattle.std.proofs.Common.{◌≡◌, ℕ, suc, ◌+◌, ◌-◌, ◌<◌, ◌≤◌, ◌==◌, nat_lt, Bool, true, false, if◌then◌else◌, List, [], ◌∷◌, length, take, length-take, inl, inr, refl, sym, ◌∙◌, ap, subst, arith, Option, Some, slice_index_or}
+use Rattle.std.proofs.Common.{◌≡◌, ℕ, suc, ◌+◌, ◌-◌, ◌<◌, ◌≤◌, ◌==◌, nat_lt, Bool, true, false, if◌then◌else◌, List, []}
+use Rattle.std.proofs.Common.{◌∷◌, length, take, length-take, inl, inr, refl, sym, ◌∙◌, ap, subst, arith, Option, Some, slice_index_or}
 use Rattle.std.specs.Prelude.{codes}
 use Rattle.std.specs.Cmp.{first_so, second_so}
 use Rattle.std.specs.List.{list_all}
@@ -152,7 +153,6 @@ given_whole (Rx port bytes) h = ap (λ (b : List ℕ). Rx port b) (shown_whole b
   where
     some : (n : ℕ) → nat_lt 0 n ≡ true → 0 < n
     some n h = grind arith
-
 given_whole s h = refl
 
 too_long : (bytes : List ℕ) → longest_frame < length bytes → frame bytes ≡ Err faults.Long

@@ -11,7 +11,8 @@ use Rattle.br_model.specs.Data.Digits.{hex_of}
 use Rattle.br_model.specs.Table.Domains.{first_chip_domain, last_chip, last_port}
 use Rattle.br_model.specs.Text.Declarations.{are_declared}
 use Rattle.br_model.specs.Text.FlagWords.{flags, flag_named, name_of_flag}
-use Rattle.br_model.specs.Text.Operands.{Operand, Number, Chip, NewPort, NewName, PortNumber, PortName, Device, Station, GroupAddress, Hex, Flag, Value, read, spelled, in_range, can_stand, number, chip_domain, new_port, new_name, unless, mac, hex, flag, bytes_of, is_station, is_byte, is_flag}
+use Rattle.br_model.specs.Text.Operands.{Operand, Number, Chip, NewPort, NewName, PortNumber, PortName, Device, Station, GroupAddress, Hex, Flag, Value, read, spelled}
+use Rattle.br_model.specs.Text.Operands.{in_range, can_stand, number, chip_domain, new_port, new_name, unless, mac, hex, flag, bytes_of, is_station, is_byte, is_flag}
 use Rattle.br_model.specs.Text.Roster.{Entry, has_number, is_chip, port_named, is_name}
 use Rattle.br_model.specs.Text.Spelling.{mac_text}
 use Rattle.br_model.specs.Text.Words.{Word, is_word}

@@ -30,7 +30,8 @@ is_sound (Has o ∷ ts) = is_narrow o && is_sound ts
 pub all_proper : (ports : List Entry) (ts : List Token) (values : Values ts) → are_declared ports ≡ true → is_sound ts ≡ true → all_values (in_range ports) ts values ≡ true
     → list_all is_proper (words_of ports ts values) ≡ true
 all_proper ports [] values all sound h = refl
-all_proper ports (Fixed w ∷ ts) values all sound h = and_from (is_proper w) _ (first_so (is_proper w) (is_sound ts) sound) (all_proper ports ts values all (second_so (is_proper w) (is_sound ts) sound) h)
+all_proper ports (Fixed w ∷ ts) values all sound h =
+    and_from (is_proper w) _ (first_so (is_proper w) (is_sound ts) sound) (all_proper ports ts values all (second_so (is_proper w) (is_sound ts) sound) h)
 all_proper ports (Has o ∷ ts) values all sound h =
     and_from (is_proper (spelled ports o values.0)) _
     (operand_proper ports o values.0 all (first_so (is_narrow o) (is_sound ts) sound) (first_so (in_range ports o values.0) _ h))

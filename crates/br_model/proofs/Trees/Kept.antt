@@ -1,5 +1,6 @@
 -- What no event of the spanning tree breaks: the bridge's address, the states that are known, the messages that went out.
-use Rattle.std.proofs.Common.{◌≡◌, ℕ, ◌+◌, ◌/◌, ◌%◌, ◌≤◌, ◌==◌, nat_le, nat_lt, Bool, true, false, cond, not, ◌&&◌, ◌||◌, List, [], ◌∷◌, get_or, Option, None, Some, refl, sym, ap, ap₂, subst, ◌∙◌, arith}
+use Rattle.std.proofs.Common.{◌≡◌, ℕ, ◌+◌, ◌/◌, ◌%◌, ◌≤◌, ◌==◌, nat_le, nat_lt, Bool, true, false, cond, not, ◌&&◌}
+use Rattle.std.proofs.Common.{◌||◌, List, [], ◌∷◌, get_or, Option, None, Some, refl, sym, ap, ap₂, subst, ◌∙◌, arith}
 use Rattle.std.specs.List.{All, filter, list_all}
 use Rattle.std.specs.Option.{IsSome, is_some, option_map, option_map_or, option_and_then}
 use Rattle.std.specs.declared.cmp.Ordering.{Ordering}
@@ -25,8 +26,10 @@ use Rattle.br_model.specs.Tree.Tree.{Tree, bpdu_of, first_tree, numbers, port_at
 use Rattle.br_model.specs.Tree.Vectors.{root_of, root_kept, is_root, is_root_port, is_designated, is_active, designated_ports, without_kept, roles, keeps}
 use Rattle.br_model.specs.Tree.Timers.{times, is_aged_out, is_held, is_hello_due, is_tcn_due, forgets}
 use Rattle.br_model.specs.Tree.States.{blocking, listening, learning, enters, by_role, is_due, states_follow, states_move, is_opened_by_time}
-use Rattle.br_model.specs.Tree.Sending.{Acted, quiet, age_at, message_at, goes_out, transmitted, union, transmit, generate, is_put_off, drops_put_off, sends_put_off, notify, detected_at, detected, detected_if}
-use Rattle.br_model.specs.Tree.Step.{settled, port_up, port_down, becomes_root, stops_being_root, hands_over, detects, follows, restarted, on_at, off_at, switched, config_received, tcn_received, received_at, received, with_kept, acknowledged, passed_on, with_owed, states_due, change_due, tcn_due, hello_due, moment, tree_step, message}
+use Rattle.br_model.specs.Tree.Sending.{Acted, quiet, age_at, message_at, goes_out, transmitted, union, transmit}
+use Rattle.br_model.specs.Tree.Sending.{generate, is_put_off, drops_put_off, sends_put_off, notify, detected_at, detected, detected_if}
+use Rattle.br_model.specs.Tree.Step.{settled, port_up, port_down, becomes_root, stops_being_root, hands_over, detects, follows, restarted, on_at, off_at, switched, config_received, tcn_received}
+use Rattle.br_model.specs.Tree.Step.{received_at, received, with_kept, acknowledged, passed_on, with_owed, states_due, change_due, tcn_due, hello_due, moment, tree_step, message}
 use Rattle.br_model.specs.Theorems.TreeLaws.{knows_states, HaveSent}
 
 -- Ports, one after another
@@ -141,14 +144,19 @@ module _ (t : Tree) (now : ℕ) where
       held (Some s) h = refl
 
       by : (b : Bool) → is_held now x ≡ b
-          → IsSome (cond b (record x { put_off = true }) (cond (not b && nat_lt (age_at now (root_kept t)) (times t).max) (record x { last = Some (record { message = message_at t now (p, x); moment = now }); put_off = false; owed = false }) (record x { put_off = false }))).last
+          → IsSome
+          (cond b (record x { put_off = true })
+          (cond (not b && nat_lt (age_at now (root_kept t)) (times t).max) (record x { last = Some (record { message = message_at t now (p, x); moment = now }); put_off = false; owed = false })
+          (record x { put_off = false }))).last
       by true h = held x.last h
-      by false h = ap (λ b. is_some (cond b (record x { last = Some (record { message = message_at t now (p, x); moment = now }); put_off = false; owed = false }) (record x { put_off = false })).last) young
+      by false h =
+          ap (λ b. is_some (cond b (record x { last = Some (record { message = message_at t now (p, x); moment = now }); put_off = false; owed = false }) (record x { put_off = false })).last) young
 
   onward_transmitted : (e : ℕ × TreePort) → IsOnward e.1 (transmitted t now e)
   onward_transmitted e =
       cond_both (is_held now e.1) (record e.1 { put_off = true }) _ (IsOnward e.1) (λ _. record { state = λ h. h; last = λ h. h })
-      (λ _. cond_both (goes_out t now e) (record e.1 { last = Some (record { message = message_at t now e; moment = now }); put_off = false; owed = false }) (record e.1 { put_off = false }) (IsOnward e.1)
+      (λ _. cond_both (goes_out t now e) (record e.1 { last = Some (record { message = message_at t now e; moment = now }); put_off = false; owed = false }) (record e.1 { put_off = false })
+      (IsOnward e.1)
       (λ _. record { state = λ h. h; last = λ h. refl }) (λ _. record { state = λ h. h; last = λ h. h }))
 
 -- What holds after an event that began with the first tree
@@ -223,7 +231,8 @@ module _ (t : Tree) (now : ℕ) where
   sound-sends_put_off a s =
       sound-transmit _ _
       (sound-each (λ e. cond (is_put_off now e.1 && not (is_designated a.tree e)) (record e.1 { put_off = false; owed = false }) e.1)
-      (λ e. cond_both (is_put_off now e.1 && not (is_designated a.tree e)) (record e.1 { put_off = false; owed = false }) e.1 (IsOnward e.1) (λ _. record { state = λ h. h; last = λ h. h }) (λ _. stays e.1)) a s)
+      (λ e. cond_both (is_put_off now e.1 && not (is_designated a.tree e)) (record e.1 { put_off = false; owed = false }) e.1 (IsOnward e.1) (λ _. record { state = λ h. h; last = λ h. h })
+      (λ _. stays e.1)) a s)
 
   -- Topology changes
 

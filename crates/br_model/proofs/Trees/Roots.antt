@@ -13,7 +13,8 @@ use Rattle.br_model.specs.Tree.Tree.{Tree, bridge_id, port_id, each}
 use Rattle.br_model.specs.declared.tree.Vector.{Vector}
 use Rattle.br_model.specs.declared.tree.Candidate.{Candidate}
 use Rattle.br_model.specs.declared.tree.Root.{Root}
-use Rattle.br_model.specs.Tree.Vectors.{vector_cmp, kept_vector, candidate_cmp, largest_cost, offered, candidate, candidates, least, root_by, root_of, is_port_of, is_best, is_designated_by, without_kept, roles}
+use Rattle.br_model.specs.Tree.Vectors.{vector_cmp, kept_vector, candidate_cmp, largest_cost, offered, candidate, candidates, least}
+use Rattle.br_model.specs.Tree.Vectors.{root_by, root_of, is_port_of, is_best, is_designated_by, without_kept, roles}
 use Rattle.br_model.specs.Theorems.TreeLaws.{IsElected, HasLeastRoot, RolesStand}
 
 pub candidate_total : IsTotalOrder candidate_cmp

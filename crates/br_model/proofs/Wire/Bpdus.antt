@@ -34,14 +34,17 @@ spelled k x h = spelled_from k 0 x ∙ (let e = mod-eq_of_lt h in omega (arith, 
 
 read_back : (own flags root cost bridge port age max hello delay : ℕ)
     → bpdu (written own (Config flags root cost bridge port age max hello delay))
-    ≡ Some (Config (number (flags ∷ [])) (number (bytes_high_first 8 root)) (number (bytes_high_first 4 cost)) (number (bytes_high_first 8 bridge)) (number (bytes_high_first 2 port)) (number (bytes_high_first 2 age)) (number (bytes_high_first 2 max)) (number (bytes_high_first 2 hello)) (number (bytes_high_first 2 delay)))
+    ≡ Some (Config (number (flags ∷ [])) (number (bytes_high_first 8 root)) (number (bytes_high_first 4 cost)) (number (bytes_high_first 8 bridge)) (number (bytes_high_first 2 port))
+    (number (bytes_high_first 2 age)) (number (bytes_high_first 2 max)) (number (bytes_high_first 2 hello)) (number (bytes_high_first 2 delay)))
 read_back own flags root cost bridge port age max hello delay = refl
 
 pub bpdu-written : (own : ℕ) (m : BpduMsg) → Fits m → bpdu (written own m) ≡ Some m
 bpdu-written own Tcn h = refl
 bpdu-written own (Config flags root cost bridge port age max hello delay) h =
     read_back own flags root cost bridge port age max hello delay
-    ∙ (λ i. Some (Config (one i) (spelled 8 root h.1 i) (spelled 4 cost h.2 i) (spelled 8 bridge h.3 i) (spelled 2 port h.4 i) (spelled 2 age h.5 i) (spelled 2 max h.6 i) (spelled 2 hello h.7 i) (spelled 2 delay h.8 i)))
+    ∙ (λ i. Some
+    (Config (one i) (spelled 8 root h.1 i) (spelled 4 cost h.2 i) (spelled 8 bridge h.3 i) (spelled 2 port h.4 i) (spelled 2 age h.5 i) (spelled 2 max h.6 i) (spelled 2 hello h.7 i)
+    (spelled 2 delay h.8 i)))
   where
     one : number (flags ∷ []) ≡ flags
     one = omega arith

@@ -30,7 +30,8 @@ tag_bits-fit (Some tag) h = bits_fit tag.pcp tag.dei h.0
 -- the tests of a frame, one after another
 by_tests : (bytes : List ℕ) (short long tagged cut : Bool) → ((i : ℕ) → get_or bytes i 0 < 256)
     → nat_lt (length bytes) 14 ≡ short → nat_lt 9022 (length bytes) ≡ long → nat_lt (length bytes) 18 ≡ cut
-    → IfOk (if short then Err Short else if long then Err Long else if tagged then (if cut then Err TagShort else Ok (head_of bytes (Some (tag_of (number_at bytes 14 2))) 18)) else Ok (head_of bytes None 14)) (IsHead (length bytes))
+    → IfOk (if short then Err Short else if long then Err Long else if tagged then (if cut then Err TagShort else Ok (head_of bytes (Some (tag_of (number_at bytes 14 2))) 18)) else Ok
+    (head_of bytes None 14)) (IsHead (length bytes))
 by_tests bytes true long tagged cut fits s l c = tt
 by_tests bytes false true tagged cut fits s l c = tt
 by_tests bytes false false true true fits s l c = tt

@@ -1,5 +1,6 @@
 -- Where a message is records, they are there: what fits in a message's body fits in the frame.
-use Rattle.std.proofs.Common.{◌≡◌, ℕ, zero, suc, ◌+◌, ◌-◌, ◌*◌, ◌≤◌, ◌==◌, nat_le, nat_lt, min, not, ◌&&◌, Bool, true, false, cond, List, length, take, drop, get_or, refl, sym, ◌∙◌, ap, subst, Option, Some, None, arith}
+use Rattle.std.proofs.Common.{◌≡◌, ℕ, zero, suc, ◌+◌, ◌-◌, ◌*◌, ◌≤◌, ◌==◌, nat_le, nat_lt, min, not, ◌&&◌, Bool, true}
+use Rattle.std.proofs.Common.{false, cond, List, length, take, drop, get_or, refl, sym, ◌∙◌, ap, subst, Option, Some, None, arith}
 use Rattle.std.proofs.lemmas.Bool.{cond_both, and_parts, and_from, leb-true, le-leb, ltb-true, ltb-false, not-false}
 use Rattle.std.proofs.lemmas.List.{length-take, length-drop, get_or-take, take-take, drop-take, drop-drop}
 use Rattle.std.specs.Option.{option_map, unwrap_or}
@@ -8,8 +9,10 @@ use Rattle.br_model.specs.declared.frame.McastMsg.TheVariants.{Records, Unrecogn
 use Rattle.br_model.specs.declared.group.Group.{Group}
 use Rattle.br_model.specs.Wire.Checksum.{is_summed}
 use Rattle.br_model.specs.Wire.Frames.{number_at}
-use Rattle.br_model.specs.Wire.IpHeaders.{type_four, type_six, header_four, total_four, protocol_four, source_four, is_fragment, body_four, is_multicast_four, source_six, length_six, next_six, body_six, is_multicast_six}
-use Rattle.br_model.specs.Wire.Messages.{RecordsStand, report_of, leave_of, records_of, igmp, igmp_of_type, mld_of_type, message_four, message_six, message, query_four, is_report_four, leave_four, records_four, is_query_length_four, is_query_length_six, protocol_igmp}
+use Rattle.br_model.specs.Wire.IpHeaders.{type_four, type_six, header_four, total_four, protocol_four, source_four, is_fragment}
+use Rattle.br_model.specs.Wire.IpHeaders.{body_four, is_multicast_four, source_six, length_six, next_six, body_six, is_multicast_six}
+use Rattle.br_model.specs.Wire.Messages.{RecordsStand, report_of, leave_of, records_of, igmp, igmp_of_type, mld_of_type, message_four, message_six}
+use Rattle.br_model.specs.Wire.Messages.{message, query_four, is_report_four, leave_four, records_four, is_query_length_four, is_query_length_six, protocol_igmp}
 use Rattle.br_model.specs.Wire.MldHeaders.{hop_by_hop, icmp_six, hop_length, icmp_of, has_icmp, is_mld_type, has_mld, is_summed_six, query_six, report_six, done_six, records_six}
 use Rattle.br_model.specs.Data.Numbers.{number}
 use Rattle.br_model.specs.Wire.Records.{address_length, group_at, record_length, record_fits, records_fit}

@@ -1,7 +1,10 @@
 -- Worked runs of a bridge with a chip, computed by the definitions.
 use Rattle.std.proofs.Common.{◌≡◌, refl}
 use Rattle.br_model.specs.Program.Runs.{told}
-use Rattle.br_model.specs.Worked.Chip.{unknown_unicast_split_text, unknown_unicast_split_told, two_points_differ_text, two_points_differ_told, moved_to_a_foreign_port_text, moved_to_a_foreign_port_told, moved_to_a_chip_port_text, moved_to_a_chip_port_told, port_down_and_up_text, port_down_and_up_told, isolated_ingress_text, isolated_ingress_told, plain_ingress_text, plain_ingress_told, bits_follow_a_foreign_port_text, bits_follow_a_foreign_port_told, sweep_text, sweep_told, hit_by_a_frame_text, hit_by_a_frame_told, refusals_without_post_text, refusals_without_post_told}
+use Rattle.br_model.specs.Worked.Chip.{unknown_unicast_split_text, unknown_unicast_split_told, two_points_differ_text, two_points_differ_told, moved_to_a_foreign_port_text}
+use Rattle.br_model.specs.Worked.Chip.{moved_to_a_foreign_port_told, moved_to_a_chip_port_text, moved_to_a_chip_port_told, port_down_and_up_text, port_down_and_up_told, isolated_ingress_text}
+use Rattle.br_model.specs.Worked.Chip.{isolated_ingress_told, plain_ingress_text, plain_ingress_told, bits_follow_a_foreign_port_text, bits_follow_a_foreign_port_told, sweep_text, sweep_told}
+use Rattle.br_model.specs.Worked.Chip.{hit_by_a_frame_text, hit_by_a_frame_told, refusals_without_post_text, refusals_without_post_told}
 use Rattle.br_model.specs.Worked.Hold.{hold_told, hold_lines, no_chip_told, no_chip_lines}
 use Rattle.br_model.proofs.Worked.Computing.{computing}
 

@@ -7,7 +7,8 @@ use Rattle.br_model.specs.Program.Generator.{made}
 use Rattle.br_model.specs.Program.Listings.{listed}
 use Rattle.br_model.specs.Program.Summary.{kind_of, summary, summary_text}
 use Rattle.br_model.specs.Text.Transcript.{line_text}
-use Rattle.br_model.specs.Worked.Commands.{first_frame_fdb, first_frame_vlan, no_rows, orders_text, orders_fdb, orders_vlan, orders_mdb, crossed_text, crossed_fdb, crossed_mdb, broken_text, broken, unended, generated, three_generated, lines_of_frames, what_is_behind, all_kinds, before_all, all_kinds_summed, no_frame_summed, one_frame_summed}
+use Rattle.br_model.specs.Worked.Commands.{first_frame_fdb, first_frame_vlan, no_rows, orders_text, orders_fdb, orders_vlan, orders_mdb, crossed_text, crossed_fdb, crossed_mdb, broken_text}
+use Rattle.br_model.specs.Worked.Commands.{broken, unended, generated, three_generated, lines_of_frames, what_is_behind, all_kinds, before_all, all_kinds_summed, no_frame_summed, one_frame_summed}
 use Rattle.br_model.specs.Worked.Rows.{first_frame_text}
 use Rattle.br_model.proofs.Worked.Computing.{computing_commands}
 

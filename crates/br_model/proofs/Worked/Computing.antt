@@ -23,7 +23,8 @@ use Rattle.br_model.specs.Tree.Vectors.{root_of, roles}
 
 -- `unfolding computing` lets `refl` compute a whole run
 unfoldable pub computing : Unit {0}
-unfolding digits message all_ports egress_ports ports_out leave line_says number chip_domain new_port new_name port_number port_name device mac group hex flag react told run front read scenario_by tree_step
+unfolding digits message all_ports egress_ports ports_out leave line_says number chip_domain new_port new_name port_number port_name device mac group hex flag react told run front read
+    scenario_by tree_step
 computing = tt
 
 -- and this one a run in which the spanning tree is on

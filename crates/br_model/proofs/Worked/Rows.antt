@@ -3,7 +3,8 @@ use Rattle.std.proofs.Common.{◌≡◌, refl}
 use Rattle.br_model.specs.Program.Runs.{told}
 use Rattle.br_model.specs.Worked.Rows.{first_frame_text, first_frame_told, first_refusals_text, first_refusals_told, empty_scenario_text, empty_scenario_told}
 use Rattle.br_model.specs.Worked.Vlans.{priority_tag_text, priority_tag_told, edges_of_the_vlan_range_text, edges_of_the_vlan_range_told, isolated_ports_text, isolated_ports_told}
-use Rattle.br_model.specs.Worked.Addresses.{address_moves_text, address_moves_told, local_address_text, local_address_told, published_point_text, published_point_told, destination_on_its_ingress_port_text, destination_on_its_ingress_port_told, ageing_text, ageing_told}
+use Rattle.br_model.specs.Worked.Addresses.{address_moves_text, address_moves_told, local_address_text, local_address_told, published_point_text}
+use Rattle.br_model.specs.Worked.Addresses.{published_point_told, destination_on_its_ingress_port_text, destination_on_its_ingress_port_told, ageing_text, ageing_told}
 use Rattle.br_model.proofs.Worked.Computing.{computing}
 
 pub first_frame : told first_frame_text ≡ first_frame_told

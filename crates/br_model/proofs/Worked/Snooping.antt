@@ -1,7 +1,10 @@
 -- Worked runs of snooping, computed by the definitions.
 use Rattle.std.proofs.Common.{◌≡◌, refl, []}
 use Rattle.br_model.specs.Program.Runs.{told}
-use Rattle.br_model.specs.Worked.Snooping.{snooping_text, snooping_told, mld_report_text, mld_report_told, truncated_record_text, truncated_record_told, report_at_a_chip_port_text, report_at_a_chip_port_told, ends_of_members_text, ends_of_members_told, all_ends_text, all_ends_told, members_by_command_text, members_by_command_told, learned_of, all_ends_learned, states_behind_text, states_behind_learned, report, late_records, swapping_records, full, snooped_of, with_ends, left_out, late, swapped}
+use Rattle.br_model.specs.Worked.Snooping.{snooping_text, snooping_told, mld_report_text, mld_report_told, truncated_record_text, truncated_record_told, report_at_a_chip_port_text}
+use Rattle.br_model.specs.Worked.Snooping.{report_at_a_chip_port_told, ends_of_members_text, ends_of_members_told, all_ends_text, all_ends_told, members_by_command_text, members_by_command_told}
+use Rattle.br_model.specs.Worked.Snooping.{learned_of, all_ends_learned, states_behind_text, states_behind_learned, report, late_records, swapping_records, full, snooped_of, with_ends, left_out, late}
+use Rattle.br_model.specs.Worked.Snooping.{swapped}
 use Rattle.br_model.proofs.Worked.Computing.{computing, computing_tree}
 
 pub snooping : told snooping_text ≡ snooping_told

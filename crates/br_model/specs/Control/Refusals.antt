@@ -4,7 +4,8 @@ use Rattle.std.specs.Prelude.{ℕ, ◌==◌, List, [], ◌∷◌}
 use Rattle.std.specs.List.{find}
 use Rattle.std.specs.declared.option.Option.{Option}
 use Rattle.br_model.specs.declared.steps.Refusal.{Refusal}
-use Rattle.br_model.specs.declared.steps.Refusal.TheVariants.{PortIsUp, PortNotUp, NotMember, Exists, Absent, FdbFull, GroupsFull, HistoryFull, Backward, NothingWaiting, NothingPending, NothingReported, NotAGroup, NothingToPost, NoSuchPoint}
+use Rattle.br_model.specs.declared.steps.Refusal.TheVariants.{PortIsUp, PortNotUp, NotMember, Exists, Absent, FdbFull, GroupsFull, HistoryFull}
+use Rattle.br_model.specs.declared.steps.Refusal.TheVariants.{Backward, NothingWaiting, NothingPending, NothingReported, NotAGroup, NothingToPost, NoSuchPoint}
 
 abbrev pub refusal_number : Refusal → ℕ
 refusal_number PortIsUp = 1

@@ -11,7 +11,8 @@ use Rattle.br_model.specs.declared.group.Group.{Group}
 use Rattle.br_model.specs.declared.group.Group.TheVariants.{V4, V6}
 use Rattle.br_model.specs.Wire.Checksum.{is_summed}
 use Rattle.br_model.specs.Wire.Frames.{number_at}
-use Rattle.br_model.specs.Wire.IpHeaders.{type_four, type_six, header_four, protocol_four, source_four, destination_four, is_fragment, body_four, is_multicast_four, source_six, destination_six, body_six, is_multicast_six}
+use Rattle.br_model.specs.Wire.IpHeaders.{type_four, type_six, header_four, protocol_four, source_four, destination_four, is_fragment}
+use Rattle.br_model.specs.Wire.IpHeaders.{body_four, is_multicast_four, source_six, destination_six, body_six, is_multicast_six}
 use Rattle.br_model.specs.Wire.MldHeaders.{hop_length, icmp_of, query_six, report_six, done_six, records_six, has_mld, is_summed_six}
 use Rattle.br_model.specs.Wire.Records.{group_at, records_fit}
 

@@ -11,7 +11,8 @@ returns c = λ domain low.
     let lost : List (List ℕ) = c.remove_port.new.members in
     let place : c.from-place.result ≡ c.args.d = c.from-place.ensures ∙ c.number.ensures.value in
     let given : c.with.result ≡ numbers_below port_places (λ q. (q == c.number-2.result) || has_number (get_or lost c.from-place.result c.index-members-place.result) q) = c.with.ensures in
-    let here : get_or lost c.from-place.result c.index-members-place.result ≡ get_or lost c.from-place.result [] = get_or_default lost c.from-place.result c.index-members-place.result [] (omega arith) in
+    let here : get_or lost c.from-place.result c.index-members-place.result ≡ get_or lost c.from-place.result [] = get_or_default lost c.from-place.result c.index-members-place.result []
+    (omega arith) in
     ap (λ i. get_or (set lost i c.with.result) domain []) place
     ∙ members-put c.args.members.now lost c.args.p c.args.d domain c.with.result (omega arith) (λ k within. c.remove_port.ensures k (omega arith))
     (given

@@ -25,7 +25,8 @@ returns-in-Renewed-clause-plans c =
     let t = table_of c.args.state.now in
     let control = control_of c.args.state.now in
     let key : Address = (c.args.vid, c.args.mac) in (
-      ap (λ (x : Course). yes x) (learns_renewed t control key c.args.port c.in-Renewed.ensures) ∙ sym (λ i. yes (makes_all (record { table = t; control = renewed control key; changes = []; messages = [] }) (c.new.ensures.items i))),
+      ap (λ (x : Course). yes x) (learns_renewed t control key c.args.port c.in-Renewed.ensures)
+          ∙ sym (λ i. yes (makes_all (record { table = t; control = renewed control key; changes = []; messages = [] }) (c.new.ensures.items i))),
       record {
         early = c.requires;
         there = is_there t control key c.args.port c.in-Renewed.ensures;
@@ -42,6 +43,7 @@ returns-in_ok-puts-in-News-clause-plans c =
     let control = control_of c.args.state.now in
     let key : Address = (c.args.vid, c.args.mac) in
     let is = c.in_ok-puts-in-News.ensures in
-    makes t control c.in_ok-puts-in-News.field-0 _ (put_of key c.args.port ∷ []) (subst (λ (x : Clock). x.now < 2 ^ 53) (sym is.clock) c.requires) (ap (λ (x : Clock). clocked x control) is.clock) is.renewed is.changes is.told
+    makes t control c.in_ok-puts-in-News.field-0 _ (put_of key c.args.port ∷ []) (subst (λ (x : Clock). x.now < 2 ^ 53) (sym is.clock) c.requires)
+    (ap (λ (x : Clock). clocked x control) is.clock) is.renewed is.changes is.told
     (fits_news t control key c.args.port c.in-News.ensures)
     (learns_news t control key c.args.port c.in-News.ensures)

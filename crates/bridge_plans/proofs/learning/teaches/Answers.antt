@@ -21,5 +21,6 @@ pub returns-in-None-clause-plans : goal.returns-in-None-clause-plans
 returns-in-None-clause-plans c own =
     let s = c.args.state.now in
     let is = c.telling.ensures in
-    makes (table_of s) (control_of s) c.telling.result _ [] (subst (λ (x : Clock). x.now < 2 ^ 53) (sym is.clock) c.requires) (ap (λ (x : Clock). clocked x (control_of s)) is.clock) is.renewed is.changes is.told refl
+    makes (table_of s) (control_of s) c.telling.result _ [] (subst (λ (x : Clock). x.now < 2 ^ 53) (sym is.clock) c.requires)
+    (ap (λ (x : Clock). clocked x (control_of s)) is.clock) is.renewed is.changes is.told refl
     (sym (c.taught.ensures own (control_of s) ∙ ap (λ (o : Option Address). learns c.args.port o (course_at s)) c.in-None.is))

@@ -8,7 +8,8 @@ use Rattle.bridge_plans.proofs.spanning_tree.add_states.Goals as goal
 
 pub push_reserved-requires : goal.push_reserved-requires
 push_reserved-requires c =
-    let fewer = fewer_seen c.args.moved _ _ _ c.loop-number.yielded _ _ (c.into_iter-number-iterator.ensures.into_iter_gives ∙ c.iter-number-items.ensures.members) c.loop-number.yielded_by c.in-Some.is c.next.ensures.steps in
+    let fewer = fewer_seen c.args.moved _ _ _ c.loop-number.yielded _ _ (c.into_iter-number-iterator.ensures.into_iter_gives
+    ∙ c.iter-number-items.ensures.members) c.loop-number.yielded_by c.in-Some.is c.next.ensures.steps in
     omega (
       arith,
       c.requires,
@@ -25,7 +26,8 @@ push_reserved-requires c =
 
 pub returns-clause-few : goal.returns-clause-few
 returns-clause-few c =
-    let all = yielded_members c.args.moved _ _ _ c.loop-number.yielded _ (c.into_iter-number-iterator.ensures.into_iter_gives ∙ c.iter-number-items.ensures.members) c.loop-number.yielded_by c.in-None.is c.next.ensures.steps in
+    let all = yielded_members c.args.moved _ _ _ c.loop-number.yielded _ (c.into_iter-number-iterator.ensures.into_iter_gives
+    ∙ c.iter-number-items.ensures.members) c.loop-number.yielded_by c.in-None.is c.next.ensures.steps in
     omega (
       arith,
       c.iter-number-items.ensures.few,

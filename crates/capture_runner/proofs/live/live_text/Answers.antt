@@ -27,7 +27,8 @@ pub returns : goal.returns
 returns g c =
     let steps = c.args.whole.now.steps in
     let taken = c.in_ok-taken.ensures in
-    let lines = lines_taken c.roster-roster.result.now _ _ steps c.domains-domains.ensures.value c.own.ensures c.domains-domains.ensures.declared c.steps.result.now c.in_ok-taken.taken.book.steps c.steps.ensures
+    let lines = lines_taken c.roster-roster.result.now _ _ steps c.domains-domains.ensures.value c.own.ensures c.domains-domains.ensures.declared c.steps.result.now c.in_ok-taken.taken.book.steps
+    c.steps.ensures
     (ap (λ (r : Roster). list_all (has_line r.ports) steps) c.roster-roster.ensures ∙ c.requires.lines) taken.by_line taken.given
     (ap (list_all is_numbered) (sym c.as_slice.ensures) ∙ c.all_numbers_fit.ensures) in
     IfOk-weaker c.text_of.result _ _

@@ -12,4 +12,5 @@ returns-in-Bad c =
 pub returns-in_ok-lines_of_answer-in-Ended : goal.returns-in_ok-lines_of_answer-in-Ended
 returns-in_ok-lines_of_answer-in-Ended c = λ bytes says behind.
     let ended = sym c.in-Ended.ensures in
-    found_answer bytes c.args.transcript.now _ _ (says.close ∙ ap ending_of ended) behind (c.in_ok-answer-in-Ended.ensures bytes says ended) c.in_ok-lines_of_answer-in-Ended.ensures c.status_of_answer.ensures
+    found_answer bytes c.args.transcript.now _ _ (says.close ∙ ap ending_of ended) behind
+    (c.in_ok-answer-in-Ended.ensures bytes says ended) c.in_ok-lines_of_answer-in-Ended.ensures c.status_of_answer.ensures

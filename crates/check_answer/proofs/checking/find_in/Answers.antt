@@ -9,7 +9,8 @@ pub returns-in-Ended-clause-checks : goal.returns-in-Ended-clause-checks
 returns-in-Ended-clause-checks g c =
     let t = c.in_ok-taken.ensures.takes in
     let cause = rw c.in-Ended.is at t.cause in
-    ends_found _ _ _ _ t.consumed c.in_ok-find_whole-in-Ended.field-0 cause.1 cause.0 (subst (λ (b : List ℕ). IsFound b c.in_ok-find_whole-in-Ended.field-0) c.as_slice-bytes.ensures.value c.in_ok-find_whole-in-Ended.ensures)
+    ends_found _ _ _ _ t.consumed c.in_ok-find_whole-in-Ended.field-0 cause.1 cause.0
+    (subst (λ (b : List ℕ). IsFound b c.in_ok-find_whole-in-Ended.field-0) c.as_slice-bytes.ensures.value c.in_ok-find_whole-in-Ended.ensures)
 
 pub returns-in-Ended-clause-said : goal.returns-in-Ended-clause-said
 returns-in-Ended-clause-said g c = said_found _ _ c.in_ok-find_whole-in-Ended.ensures

@@ -15,17 +15,20 @@ overflow_add-ticket-end c =
 pub loop-ticket-init : goal.loop-ticket-init
 loop-ticket-init c = (
   omega arith,
-  λ x at. begun c.args.p.now.world c.args.d c.stands.ensures.world x at c.applied-applied.result c.pending.result c.applied-applied.ensures c.pending.ensures _ c.args.rows.now (c.requires.rows x at) c.in_ok-entries.ensures,
+  λ x at. begun c.args.p.now.world c.args.d c.stands.ensures.world x at c.applied-applied.result c.pending.result c.applied-applied.ensures c.pending.ensures _ c.args.rows.now
+      (c.requires.rows x at) c.in_ok-entries.ensures,
 )
 
 pub loop-ticket-preserved : goal.loop-ticket-preserved
 loop-ticket-preserved c = (
   omega (arith, c.loop-ticket.invariant.0),
-  λ x at. gone-on c.args.p.now.world c.args.d c.stands.ensures.world x at c.applied-applied.result c.pending.result c.applied-applied.ensures c.pending.ensures c.loop-ticket.ticket c.loop-ticket.entries.entries
+  λ x at. gone-on c.args.p.now.world c.args.d c.stands.ensures.world x at c.applied-applied.result c.pending.result c.applied-applied.ensures c.pending.ensures c.loop-ticket.ticket
+      c.loop-ticket.entries.entries
       c.follow_update.new.entries.entries c.loop-ticket.invariant.0 c.loop-ticket-test.true (c.loop-ticket.invariant.1 x at) c.in_ok-follow_update.ensures,
 )
 
 pub returns : goal.returns
 returns c = λ x at.
-    ended c.args.p.now.world c.args.d c.stands.ensures.world x at c.applied-applied.result c.pending.result c.applied-applied.ensures c.pending.ensures c.loop-ticket.ticket c.loop-ticket.entries.entries
+    ended c.args.p.now.world c.args.d c.stands.ensures.world x at c.applied-applied.result c.pending.result c.applied-applied.ensures c.pending.ensures c.loop-ticket.ticket
+    c.loop-ticket.entries.entries
     c.loop-ticket.invariant.0 c.loop-ticket-test.false (c.loop-ticket.invariant.1 x at)

@@ -10,7 +10,9 @@ pub returns-in-Some : goal.returns-in-Some
 returns-in-Some c =
     let w = c.args.p.now.world in
     on_ok_weaker c.follow.result
-    (λ e x at. e ∙ ap (λ (d : Change). entries_after c.args.entries.now.entries (address_part d)) (update-is w.setup.domains.edition w.history c.args.ticket c.in-Some.update x (sym c.in-Some.is ∙ c.update.ensures) at))
+    (λ e x at. e
+    ∙ ap (λ (d : Change). entries_after c.args.entries.now.entries (address_part d))
+    (update-is w.setup.domains.edition w.history c.args.ticket c.in-Some.update x (sym c.in-Some.is ∙ c.update.ensures) at))
     c.follow.ensures
 
 pub returns-in-None : goal.returns-in-None

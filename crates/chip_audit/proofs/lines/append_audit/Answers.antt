@@ -10,7 +10,8 @@ use Rattle.chip_audit.proofs.lines.append_audit.Goals as goal
 pub loop-number-preserved : goal.loop-number-preserved
 loop-number-preserved c = (
   omega arith,
-  numbers-more (domain_lines c.args.roster.now.ports c.args.plane.now.world) (λ k. has_chip c.args.plane.now.world.setup.domains k) c.loop-number.number (string_bytes c.args.to.now) (string_bytes c.loop-number.to)
+  numbers-more (domain_lines c.args.roster.now.ports c.args.plane.now.world) (λ k. has_chip c.args.plane.now.world.setup.domains k) c.loop-number.number (string_bytes c.args.to.now)
+      (string_bytes c.loop-number.to)
       (string_bytes c.append_numbered.new.to) c.loop-number.invariant.0 c.loop-number-test.true c.loop-number.invariant.1 c.in_ok-append_numbered.ensures,
 )
 

@@ -8,8 +8,14 @@ pub returns : goal.returns
 returns c =
     let to : Has c.match-f.targets (floods_to c.args.shadow.now c.args.members c.args.f) =
     elim c.match-f.branch [
-      | in-Unicast w ↦ subst (λ f. Has c.match-f.targets (floods_to c.args.shadow.now c.args.members f)) (sym w.in-Unicast.is) (unicast_targets c.args.shadow.now c.args.members c.match-f.targets (w.targets-is ∙ w.and-targets.ensures))
-      | in-Mcast w ↦ subst (λ f. Has c.match-f.targets (floods_to c.args.shadow.now c.args.members f)) (sym w.in-Mcast.is) (mcast_targets c.args.shadow.now c.args.members _ c.match-f.targets w.and.ensures (w.targets-is ∙ w.with-targets.ensures))
-      | in-Bcast w ↦ subst (λ f. Has c.match-f.targets (floods_to c.args.shadow.now c.args.members f)) (sym w.in-Bcast.is) (bcast_targets c.args.shadow.now c.args.members _ c.match-f.targets w.and-in-Bcast.ensures (w.targets-is ∙ w.with-targets-in-Bcast.ensures))
+      | in-Unicast w ↦
+          subst (λ f. Has c.match-f.targets (floods_to c.args.shadow.now c.args.members f)) (sym w.in-Unicast.is)
+          (unicast_targets c.args.shadow.now c.args.members c.match-f.targets (w.targets-is ∙ w.and-targets.ensures))
+      | in-Mcast w ↦
+          subst (λ f. Has c.match-f.targets (floods_to c.args.shadow.now c.args.members f)) (sym w.in-Mcast.is)
+          (mcast_targets c.args.shadow.now c.args.members _ c.match-f.targets w.and.ensures (w.targets-is ∙ w.with-targets.ensures))
+      | in-Bcast w ↦
+          subst (λ f. Has c.match-f.targets (floods_to c.args.shadow.now c.args.members f)) (sym w.in-Bcast.is)
+          (bcast_targets c.args.shadow.now c.args.members _ c.match-f.targets w.and-in-Bcast.ensures (w.targets-is ∙ w.with-targets-in-Bcast.ensures))
     ] in
     c.fan_to.ensures ∙ same_targets c.args.shadow.now c.args.members c.match-f.targets (floods_to c.args.shadow.now c.args.members c.args.f) to

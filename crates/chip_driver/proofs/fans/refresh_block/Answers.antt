@@ -11,6 +11,7 @@ loop-n-preserved c =
     let n = c.in-Some.n in
     let seen = c.loop-n.yielded in
     let touched = c.args.touched.now in
-    refreshed_both c.args.shadow.now (λ w k. in_block i seen w && touched_of touched k) (λ w k. ((w / 64 == i) && (w % 64 == n)) && touched_of touched k) (λ w k. in_block i (seen ++ n ∷ []) w && touched_of touched k) _ _ _
+    refreshed_both c.args.shadow.now (λ w k. in_block i seen w && touched_of touched k) (λ w k. ((w / 64 == i) && (w % 64 == n)) && touched_of touched k)
+    (λ w k. in_block i (seen ++ n ∷ []) w && touched_of touched k) _ _ _
     c.loop-n.invariant c.refresh_number.ensures
     (λ w in_range k. both_touched (in_block i seen w) ((w / 64 == i) && (w % 64 == n)) (in_block i (seen ++ n ∷ []) w) (touched_of touched k) (next_in_block i n seen w))

@@ -12,7 +12,8 @@ returns c =
     let v = c.args.vid in
     let touched = c.args.touched.now in
     refreshed_both s
-    (λ w k. ((w == v) && (same_fan k (Floods Bcast) && touched.bcast)) || (((w == v) && (same_fan k (Floods Mcast) && touched.mcast)) || ((w == v) && (same_fan k (Floods Unicast) && touched.unicast))))
+    (λ w k. ((w == v) && (same_fan k
+    (Floods Bcast) && touched.bcast)) || (((w == v) && (same_fan k (Floods Mcast) && touched.mcast)) || ((w == v) && (same_fan k (Floods Unicast) && touched.unicast))))
     (λ w k. (w == v) && (same_fan k Routers && touched.routers)) (λ w k. (w == v) && touched_of touched k) _ _ _
     (refreshed_both s
     (λ w k. ((w == v) && (same_fan k (Floods Mcast) && touched.mcast)) || ((w == v) && (same_fan k (Floods Unicast) && touched.unicast)))

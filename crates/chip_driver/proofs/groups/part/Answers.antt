@@ -11,7 +11,8 @@ set_group-requires c =
     let row : c.if-is_empty.row ≡ cond c.is_empty.result None (Some (group_fan c.args.shadow.now c.args.tables.now c.part.new.self (c.args.vid, c.args.group))) =
     elim c.if-is_empty.branch [
       | then-is_empty w ↦ w.row-is ∙ ap (λ b. cond b None (Some (group_fan c.args.shadow.now c.args.tables.now c.part.new.self (c.args.vid, c.args.group)))) (sym w.if-is_empty.true)
-      | else-is_empty w ↦ w.row-is ∙ ap Some w.group_row.ensures ∙ ap (λ b. cond b None (Some (group_fan c.args.shadow.now c.args.tables.now c.part.new.self (c.args.vid, c.args.group)))) (sym w.if-is_empty.false)
+      | else-is_empty w ↦ w.row-is ∙ ap Some w.group_row.ensures
+          ∙ ap (λ b. cond b None (Some (group_fan c.args.shadow.now c.args.tables.now c.part.new.self (c.args.vid, c.args.group)))) (sym w.if-is_empty.false)
     ] in
     parted_room c.args.shadow.now c.args.groups.now c.part.new.self c.args.vid c.args.port c.args.group c.if-is_empty.row c.args.tables.now c.requires c.part.ensures.members
     (some_row _ _ _ (row_or_none c.args.shadow.now c.part.new.self c.args.tables.now (c.args.vid, c.args.group) c.is_empty.result c.if-is_empty.row empty row)) c.members_ascend.ensures.few
@@ -22,8 +23,10 @@ returns-clause-follow c =
     let row : c.if-is_empty.row ≡ cond c.is_empty.result None (Some (group_fan c.args.shadow.now c.args.tables.now c.part.new.self (c.args.vid, c.args.group))) =
     elim c.if-is_empty.branch [
       | then-is_empty w ↦ w.row-is ∙ ap (λ b. cond b None (Some (group_fan c.args.shadow.now c.args.tables.now c.part.new.self (c.args.vid, c.args.group)))) (sym w.if-is_empty.true)
-      | else-is_empty w ↦ w.row-is ∙ ap Some w.group_row.ensures ∙ ap (λ b. cond b None (Some (group_fan c.args.shadow.now c.args.tables.now c.part.new.self (c.args.vid, c.args.group)))) (sym w.if-is_empty.false)
+      | else-is_empty w ↦ w.row-is ∙ ap Some w.group_row.ensures
+          ∙ ap (λ b. cond b None (Some (group_fan c.args.shadow.now c.args.tables.now c.part.new.self (c.args.vid, c.args.group)))) (sym w.if-is_empty.false)
     ] in
-    parted_follow c.args.shadow.now c.args.groups.now c.part.new.self c.args.vid c.args.port c.args.group c.if-is_empty.row c.args.tables.now _ c.requires (c.number-number.ensures.low, c.number-number.ensures.high)
+    parted_follow c.args.shadow.now c.args.groups.now c.part.new.self c.args.vid c.args.port c.args.group c.if-is_empty.row c.args.tables.now _ c.requires
+    (c.number-number.ensures.low, c.number-number.ensures.high)
     c.part.ensures.members (row_or_none c.args.shadow.now c.part.new.self c.args.tables.now (c.args.vid, c.args.group) c.is_empty.result c.if-is_empty.row empty row)
     c.set_group.ensures.row c.set_group.ensures.rest

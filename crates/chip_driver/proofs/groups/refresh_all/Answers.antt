@@ -11,7 +11,8 @@ set_group-requires c =
     room_so_far (λ k. is_among c.args.vid k.0 && is_member c.args.groups.now c.args.p k) c.args.shadow.now c.args.groups.now c.loop-i.i _ c.args.tables.now c.loop-i.tables c.loop-i.invariant
     (sym c.pair.ensures ∙ c.in-Some.is) c.group_row-row.result c.members_ascend.ensures.few
 
-tested : (ms : List Membership) (vid : Option ℕ) (p : ℕ) (k : GroupPair) (member asked : Bool) → member ≡ is_member ms p k → asked ≡ (is_among vid k.0 && member) → (is_among vid k.0 && is_member ms p k) ≡ asked
+tested : (ms : List Membership) (vid : Option ℕ) (p : ℕ) (k : GroupPair) (member asked : Bool) → member ≡ is_member ms p k → asked ≡ (is_among vid k.0 && member)
+    → (is_among vid k.0 && is_member ms p k) ≡ asked
 tested ms vid p k member asked member_is asked_is = sym (asked_is ∙ ap (λ b. is_among vid k.0 && b) member_is)
 
 pub loop-i-preserved : goal.loop-i-preserved
@@ -20,14 +21,18 @@ loop-i-preserved c =
       | in-Some+then-is_asked w ↦
           rw (w.tables-is)
           (next_written (λ k. is_among c.args.vid k.0 && is_member c.args.groups.now c.args.p k) c.args.shadow.now c.args.groups.now c.loop-i.i _ c.args.tables.now c.loop-i.tables c.loop-i.invariant
-          (sym c.pair.ensures ∙ w.in-Some.is) w.group_row-row.result w.set_group.new.self (tested c.args.groups.now c.args.vid c.args.p _ _ _ (w.member_at-member.ensures _ _ (sym c.pair.ensures ∙ w.in-Some.is)) w.is_asked.ensures ∙ w.if-is_asked.true) w.group_row-row.ensures w.set_group.ensures.row w.set_group.ensures.rest)
+          (sym c.pair.ensures ∙ w.in-Some.is) w.group_row-row.result w.set_group.new.self
+          (tested c.args.groups.now c.args.vid c.args.p _ _ _ (w.member_at-member.ensures _ _ (sym c.pair.ensures ∙ w.in-Some.is)) w.is_asked.ensures
+          ∙ w.if-is_asked.true) w.group_row-row.ensures w.set_group.ensures.row w.set_group.ensures.rest)
       | in-Some+else-is_asked w ↦
           rw (w.tables-is)
           (next_kept (λ k. is_among c.args.vid k.0 && is_member c.args.groups.now c.args.p k) c.args.shadow.now c.args.groups.now c.loop-i.i _ c.args.tables.now c.loop-i.tables c.loop-i.invariant
-          (sym c.pair.ensures ∙ w.in-Some.is) (tested c.args.groups.now c.args.vid c.args.p _ _ _ (w.member_at-member.ensures _ _ (sym c.pair.ensures ∙ w.in-Some.is)) w.is_asked.ensures ∙ w.if-is_asked.false))
+          (sym c.pair.ensures ∙ w.in-Some.is) (tested c.args.groups.now c.args.vid c.args.p _ _ _ (w.member_at-member.ensures _ _ (sym c.pair.ensures ∙ w.in-Some.is)) w.is_asked.ensures
+          ∙ w.if-is_asked.false))
       | in_default w ↦
           rw (w.tables-is)
-          (next_past (λ k. is_among c.args.vid k.0 && is_member c.args.groups.now c.args.p k) c.args.shadow.now c.args.groups.now c.loop-i.i c.args.tables.now c.loop-i.tables c.loop-i.invariant (sym c.pair.ensures ∙ w.in_default.is))
+          (next_past (λ k. is_among c.args.vid k.0 && is_member c.args.groups.now c.args.p k) c.args.shadow.now c.args.groups.now c.loop-i.i c.args.tables.now c.loop-i.tables c.loop-i.invariant
+          (sym c.pair.ensures ∙ w.in_default.is))
     ]
 
 pub returns : goal.returns

@@ -11,14 +11,20 @@ loop-number-init c = c.empty-ports.ensures ∙ among_none port_places (λ m. row
 
 pub loop-number-preserved-then-lets : goal.loop-number-preserved-then-lets
 loop-number-preserved-then-lets c =
-    among_with port_places c.in-Some.number (λ m. row_lets c.args.alone (port_at c.args.tables.now m)) c.loop-number.yielded c.loop-number.ports c.with-ports.result c.loop-number.invariant c.with-ports.ensures (sym (c.lets.ensures ∙ ap (row_lets c.args.alone) c.port_numbered.ensures) ∙ c.if-lets.true)
+    among_with port_places c.in-Some.number
+    (λ m. row_lets c.args.alone (port_at c.args.tables.now m)) c.loop-number.yielded c.loop-number.ports c.with-ports.result c.loop-number.invariant c.with-ports.ensures
+    (sym (c.lets.ensures ∙ ap (row_lets c.args.alone) c.port_numbered.ensures) ∙ c.if-lets.true)
 
 pub loop-number-preserved : goal.loop-number-preserved
 loop-number-preserved c =
-    among_skip port_places c.in-Some.number (λ m. row_lets c.args.alone (port_at c.args.tables.now m)) c.loop-number.yielded c.loop-number.ports c.loop-number.invariant (sym (c.lets.ensures ∙ ap (row_lets c.args.alone) c.port_numbered.ensures) ∙ c.if-lets.false)
+    among_skip port_places c.in-Some.number (λ m. row_lets c.args.alone (port_at c.args.tables.now m)) c.loop-number.yielded c.loop-number.ports c.loop-number.invariant
+    (sym (c.lets.ensures ∙ ap (row_lets c.args.alone) c.port_numbered.ensures) ∙ c.if-lets.false)
 
 pub returns : goal.returns
 returns c =
-    reached-are c.args.tables.now c.args.port c.number.result c.args.alone c.args.vlan.now c.args.fan.now c.and.result c.without-others.result c.loop-number.ports c.number.ensures.value c.and.ensures c.without-others.ensures
-    (among_all port_places (λ m. row_lets c.args.alone (port_at c.args.tables.now m)) c.without-others.result c.loop-number.yielded c.loop-number.ports c.iter-number-items.ensures.ordered c.loop-number.invariant
-    (yielded_members c.without-others.result _ _ _ c.loop-number.yielded _ (c.into_iter-number-iterator.ensures.into_iter_gives ∙ c.iter-number-items.ensures.members) c.loop-number.yielded_by c.in-None.is c.next.ensures.steps))
+    reached-are c.args.tables.now c.args.port c.number.result c.args.alone c.args.vlan.now c.args.fan.now c.and.result c.without-others.result c.loop-number.ports c.number.ensures.value
+    c.and.ensures c.without-others.ensures
+    (among_all port_places
+    (λ m. row_lets c.args.alone (port_at c.args.tables.now m)) c.without-others.result c.loop-number.yielded c.loop-number.ports c.iter-number-items.ensures.ordered c.loop-number.invariant
+    (yielded_members c.without-others.result _ _ _ c.loop-number.yielded _ (c.into_iter-number-iterator.ensures.into_iter_gives
+    ∙ c.iter-number-items.ensures.members) c.loop-number.yielded_by c.in-None.is c.next.ensures.steps))

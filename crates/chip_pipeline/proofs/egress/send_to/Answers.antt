@@ -19,4 +19,5 @@ returns-then-other c d dom t head msg at leads =
 pub returns-else-other : goal.returns-else-other
 returns-else-other c d dom t head msg at leads =
     let away : is_own d dom c.args.goal ≡ false = sym (ap (λ (r : PortRow). r.own) (c.port-other.ensures ∙ at.stands.ports c.args.goal leads.below)) ∙ c.if-other.false in
-    one-trap d dom c.args.tables.now t c.args.port c.args.vlan.now.vid c.args.goal head msg c.nothing-else-other.result at leads (sym (c.may_take.ensures d dom t at.stands) ∙ c.if-not-may_take.false) away c.nothing-else-other.ensures
+    one-trap d dom c.args.tables.now t c.args.port c.args.vlan.now.vid c.args.goal head msg c.nothing-else-other.result at leads (sym (c.may_take.ensures d dom t at.stands)
+    ∙ c.if-not-may_take.false) away c.nothing-else-other.ensures

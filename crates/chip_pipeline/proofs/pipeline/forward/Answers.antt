@@ -9,13 +9,15 @@ pub returns-then-is_for_tree : goal.returns-then-is_for_tree
 returns-then-is_for_tree c d dom table at is =
     let admitted : option_map {U = ℕ} (λ (v : Vlan). v.vid) c.admitted-admitted.result ≡ admit table c.args.p c.args.h.now =
     c.admitted-admitted.ensures.vid d dom table at.stands ∙ ap (λ o. cond (is_forwarding table c.args.p && has_valid_source c.args.h.now) o None) is in
-    tree-sent d table c.args.p c.args.h.now c.args.m.now c.vid_of.result c.nowhere.result c.nowhere.ensures (sym (c.is_for_tree.ensures d dom table at.stands) ∙ c.if-is_for_tree.true) (c.vid_of.ensures ∙ admitted)
+    tree-sent d table c.args.p c.args.h.now c.args.m.now c.vid_of.result c.nowhere.result c.nowhere.ensures (sym (c.is_for_tree.ensures d dom table at.stands) ∙ c.if-is_for_tree.true)
+    (c.vid_of.ensures ∙ admitted)
 
 pub returns-in-Some : goal.returns-in-Some
 returns-in-Some c d dom table at is =
     let admitted : option_map {U = ℕ} (λ (v : Vlan). v.vid) c.admitted-admitted.result ≡ admit table c.args.p c.args.h.now =
     c.admitted-admitted.ensures.vid d dom table at.stands ∙ ap (λ o. cond (is_forwarding table c.args.p && has_valid_source c.args.h.now) o None) is in
-    c.forward_in.ensures d dom table at (sym (c.is_for_tree.ensures d dom table at.stands) ∙ c.if-is_for_tree.false) (ap (λ (o : Option Vlan). option_map {U = ℕ} (λ v. v.vid) o) (sym c.in-Some.is) ∙ admitted)
+    c.forward_in.ensures d dom table at (sym (c.is_for_tree.ensures d dom table at.stands) ∙ c.if-is_for_tree.false)
+    (ap (λ (o : Option Vlan). option_map {U = ℕ} (λ v. v.vid) o) (sym c.in-Some.is) ∙ admitted)
 
 pub returns-in-None : goal.returns-in-None
 returns-in-None c d dom table at is =

@@ -11,4 +11,5 @@ pub returns : goal.returns
 returns c d dom table at other admitted =
     let free = sym (c.catches.ensures d dom table at.stands) ∙ c.if-catches.false in
     out-sent d dom c.args.t.now table c.args.p c.args.vlan.now.vid c.args.h.now c.args.m.now c.send-out.result c.args.vlan.now.row.untagged c.and.result at.stands c.requires.range other admitted free
-    (c.send-out.ensures d dom table c.args.h.now c.args.m.now at (c.lookup-way.ensures d dom table c.args.p at free)) c.members_ascend.ensures.ordered (ap (λ (r : VlanRow). r.untagged) c.requires.vlan) c.and.ensures
+    (c.send-out.ensures d dom table c.args.h.now c.args.m.now at (c.lookup-way.ensures d dom table c.args.p at free)) c.members_ascend.ensures.ordered
+    (ap (λ (r : VlanRow). r.untagged) c.requires.vlan) c.and.ensures

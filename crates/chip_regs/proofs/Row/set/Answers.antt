@@ -22,7 +22,8 @@ write-requires g c =
     let whole : 8 * count ≡ (8 * count - (s + w)) + (s + w) = omega (arith, c.byte_count-count.ensures.covers) in
     let low = mod-lt (c.args.self.now / 2 ^ (8 * c.from-first.result)) (pow_pos (8 * count)) in
     let window : c.window-window.result < 2 ^ (8 * count) = subst (λ x. x < 2 ^ (8 * count)) (sym c.window-window.ensures) low in
-    let changed : c.window_with-changed.result ≡ with_field c.window-window.result s w c.args.n = c.window_with-changed.ensures ∙ ap (λ k. with_field c.window-window.result s k c.args.n) c.from.ensures in
+    let changed : c.window_with-changed.result ≡ with_field c.window-window.result s w c.args.n = c.window_with-changed.ensures
+    ∙ ap (λ k. with_field c.window-window.result s k c.args.n) c.from.ensures in
     let narrow : c.window_with-changed.result < 2 ^ (8 * count) = subst (λ x. x < 2 ^ (8 * count)) (sym changed)
     (subst (λ k. with_field c.window-window.result s w c.args.n < 2 ^ k) (sym whole)
     (with_field-lt c.window-window.result s w c.args.n (8 * count - (s + w)) (subst (λ k. c.window-window.result < 2 ^ k) whole window) c.requires.fits)) in

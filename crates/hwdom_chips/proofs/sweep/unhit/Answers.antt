@@ -18,7 +18,8 @@ loop-i-preserved c d dom t ports =
     let next = filter_map-next found places c.loop-i.i None within
     ∙ ap made (sym (c.unseen.ensures d dom t (get_or places c.loop-i.i None) ports (slice_get-get_or places c.loop-i.i None within))) in
     elim c.match-unseen.branch [
-      | in-Some+in_ok-push w ↦ ap (λ (v : Vec Triple Global). v.items) w.stations-is ∙ w.in_ok-push.ensures.items ∙ ap (λ (l : List Triple). l ++ w.in-Some.station ∷ []) (c.loop-i.invariant d dom t ports)
+      | in-Some+in_ok-push w ↦ ap (λ (v : Vec Triple Global). v.items) w.stations-is ∙ w.in_ok-push.ensures.items
+          ∙ ap (λ (l : List Triple). l ++ w.in-Some.station ∷ []) (c.loop-i.invariant d dom t ports)
           ∙ ap made (sym w.in-Some.is) ∙ sym next
       | in_default w ↦ ap (λ (v : Vec Triple Global). v.items) w.stations-is ∙ c.loop-i.invariant d dom t ports ∙ sym (append-nil _) ∙ ap made (sym w.in_default.is) ∙ sym next
     ]

@@ -34,7 +34,8 @@ offset_bounds-links-place c =
     let lane = c.in-Some.lane in
     let at = get_or heads lane 0 in
     let within : lane < length heads = omega (arith, c.in-Some.ensures.within, c.requires.lanes, so_far.lanes) in
-    let f = stands c.args.later.now c.args.given.now heads c.args.links.now c.loop-step.step-index c.step-item.result c.loop-step-test.true c.step-item.is so_far.follow lane at 0 c.in-Some.ensures.lane within refl in
+    let f = stands c.args.later.now c.args.given.now heads c.args.links.now c.loop-step.step-index c.step-item.result c.loop-step-test.true c.step-item.is so_far.follow lane at 0
+    c.in-Some.ensures.lane within refl in
     let low : at < length c.args.links.now = omega (arith, c.if-place-given.false, f.within, c.requires.count) in
     search rules
 

@@ -45,7 +45,8 @@ returns c =
     let drain = c.before_drain-drain.result in
     let is : c.is_settled.result ≡ true = search rules in
     if_ok c.keep_order.result
-    (λ (same : Bool). same ≡ (same_frames (slice_range steps n (length steps)) (slice_range given opening (length given)) && same_order (slice_range steps n (length steps)) (slice_range given opening (length given))))
+    (λ (same : Bool). same ≡ (same_frames (slice_range steps n (length steps)) (slice_range given opening (length given)) && same_order (slice_range steps n (length steps))
+    (slice_range given opening (length given))))
     (λ (live : Bool). (sc : Scenario) → IsBook sc c.args.given.now c.args.steps.now c.args.lines.now.lines c.args.left.now → live ≡ is_live_run steps sc)
     c.keep_order.ensures
     (λ same ordered sc book.

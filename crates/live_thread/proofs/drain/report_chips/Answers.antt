@@ -9,7 +9,8 @@ pub loop-number-init : goal.loop-number-init
 loop-number-init c = reports_none c.args.ran.now
 
 pub report_all-requires : goal.report_all-requires
-report_all-requires c = record { chip = has_own c.args.ran.now c.loop-number.ran c.args.domains.now c.in-Some.dom c.loop-number.invariant.drains c.requires.domains (sym c.has_chip.ensures ∙ c.if-has_chip.true) }
+report_all-requires c =
+    record { chip = has_own c.args.ran.now c.loop-number.ran c.args.domains.now c.in-Some.dom c.loop-number.invariant.drains c.requires.domains (sym c.has_chip.ensures ∙ c.if-has_chip.true) }
 
 pub loop-number-preserved : goal.loop-number-preserved
 loop-number-preserved c = elim c.if-has_chip.branch [
@@ -19,8 +20,10 @@ loop-number-preserved c = elim c.if-has_chip.branch [
       w.in_ok-report_all.ensures.told w.in_ok-report_all.ensures.others c.loop-number.invariant)
   | else-has_chip w ↦
       subst (λ (p : Past). ReportsBelow c.args.ran.now p (c.loop-number.number + 1)) (sym w.ran-is)
-      (reports_none_there c.args.ran.now c.loop-number.ran c.args.domains.now c.in-Some.dom c.loop-number.number c.in-Some.ensures.value c.requires.domains (sym c.has_chip.ensures ∙ w.if-has_chip.false) c.loop-number.invariant)
+      (reports_none_there c.args.ran.now c.loop-number.ran c.args.domains.now c.in-Some.dom c.loop-number.number c.in-Some.ensures.value c.requires.domains (sym c.has_chip.ensures
+      ∙ w.if-has_chip.false) c.loop-number.invariant)
 ]
 
 pub returns-clause-told : goal.returns-clause-told
-returns-clause-told c = all_reported c.args.ran.now c.loop-number.ran c.args.domains.now c.requires.domains (reports_five c.args.ran.now c.loop-number.ran c.loop-number.number (omega arith) c.loop-number.invariant)
+returns-clause-told c =
+    all_reported c.args.ran.now c.loop-number.ran c.args.domains.now c.requires.domains (reports_five c.args.ran.now c.loop-number.ran c.loop-number.number (omega arith) c.loop-number.invariant)

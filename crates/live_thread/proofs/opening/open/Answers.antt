@@ -15,7 +15,8 @@ loop-place-init g c = record { opens = opens_first c.args.ran.now c.args.steps.n
 
 pub do_step-requires-clause-by_line : goal.do_step-requires-clause-by_line
 do_step-requires-clause-by_line g c =
-    first_from (comes_by_line false (chip_domains c.loop-place.ran.setup.domains)) c.args.steps.now c.loop-place.place c.index-steps-place.result (omega arith) c.index-steps-place.is c.loop-place.invariant.by_line
+    first_from (comes_by_line false (chip_domains c.loop-place.ran.setup.domains)) c.args.steps.now c.loop-place.place c.index-steps-place.result
+    (omega arith) c.index-steps-place.is c.loop-place.invariant.by_line
 
 pub do_step-requires-clause-held : goal.do_step-requires-clause-held
 do_step-requires-clause-held g c = c.loop-place.invariant.opens.idle.held
@@ -25,10 +26,12 @@ loop-place-preserved g c = record {
   opens =
       subst (λ (p : Past). Opens c.args.ran.now p (drop (c.loop-place.place + 1) c.args.steps.now) c.args.steps.now) (sym c.in_ok-do_step.ensures.ok)
       (opens_more c.args.ran.now c.loop-place.ran c.index-steps-place.result (drop (c.loop-place.place + 1) c.args.steps.now) c.args.steps.now (sym c.is_frame.ensures ∙ c.if-is_frame.false)
-      (subst (λ (l : List Step). Opens c.args.ran.now c.loop-place.ran l c.args.steps.now) (drop_item c.args.steps.now c.loop-place.place c.index-steps-place.result (omega arith) c.index-steps-place.is) c.loop-place.invariant.opens));
+      (subst (λ (l : List Step). Opens c.args.ran.now c.loop-place.ran l c.args.steps.now)
+      (drop_item c.args.steps.now c.loop-place.place c.index-steps-place.result (omega arith) c.index-steps-place.is) c.loop-place.invariant.opens));
   by_line =
       ap (λ (p : Past). list_all (comes_by_line false (chip_domains p.setup.domains)) (drop (c.loop-place.place + 1) c.args.steps.now)) c.in_ok-do_step.ensures.ok
-      ∙ rest_from (comes_by_line false (chip_domains c.loop-place.ran.setup.domains)) c.args.steps.now c.loop-place.place c.index-steps-place.result (omega arith) c.index-steps-place.is c.loop-place.invariant.by_line;
+      ∙ rest_from (comes_by_line false (chip_domains c.loop-place.ran.setup.domains)) c.args.steps.now c.loop-place.place c.index-steps-place.result
+      (omega arith) c.index-steps-place.is c.loop-place.invariant.by_line;
   seat = c.in_ok-do_step.ensures.board ∙ (c.loop-place.invariant.seat ∙ sym (ap (λ (p : Past). p.board) c.in_ok-do_step.ensures.ok));
   same = c.in_ok-do_step.ensures.board ∙ c.loop-place.invariant.same;
 }

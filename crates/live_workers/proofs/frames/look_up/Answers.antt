@@ -20,5 +20,6 @@ loop-held-preserved g c =
           (All-rest P c.in-Some.held c.next.new.self.rest.items c.loop-held.held-iterator.rest.items c.in-Some.ensures.steps.0 c.loop-held.invariant.0),
       All-same Q _ _ (c.push_reserved.ensures.items ∙ ap (λ (l : List Looked). l ++ x ∷ []) c.in_ok-reserve.ensures.items)
           (All-push Q c.loop-held.all.items x
-          (all_still g.N.Name.board.domains c.loop-held.chair.object c.decide.new.chair.object c.loop-held.all.items c.stands.ensures c.decide.ensures.kept c.loop-held.invariant.1) c.in-Some-decide.ensures.seen),
+          (all_still g.N.Name.board.domains c.loop-held.chair.object c.decide.new.chair.object c.loop-held.all.items c.stands.ensures c.decide.ensures.kept c.loop-held.invariant.1)
+          c.in-Some-decide.ensures.seen),
     )

@@ -16,4 +16,6 @@ post_as-requires g c =
 pub loop-held-preserved : goal.loop-held-preserved
 loop-held-preserved g c =
     all_still g.N.Name.board.domains c.loop-held.chair.object c.post_as.new.c.object c.next.new.self.rest.items c.stands.ensures c.post_as.ensures.kept
-    (All-rest (λ (x : Looked). IsSeen g.N.Name.board.domains c.loop-held.chair.object x.held x.seen) c.in-Some.field-0 c.next.new.self.rest.items c.loop-held.held-iterator.rest.items c.in-Some.ensures.steps.0 c.loop-held.invariant)
+    (All-rest
+    (λ (x : Looked). IsSeen g.N.Name.board.domains c.loop-held.chair.object x.held x.seen) c.in-Some.field-0 c.next.new.self.rest.items c.loop-held.held-iterator.rest.items
+    c.in-Some.ensures.steps.0 c.loop-held.invariant)

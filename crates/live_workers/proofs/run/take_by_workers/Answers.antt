@@ -10,7 +10,8 @@ use Rattle.live_workers.proofs.run.take_by_workers.Goals as goal
 
 -- the run has the setup that it was given
 
-own_setup : (domains copy : Domains) (own : ℕ) (plane : PlaneState) (run : Past) (board : Whose) → copy ≡ domains → plane ≡ record { world = first_world (record { domains = copy; own = own }); board = board }
+own_setup : (domains copy : Domains) (own : ℕ) (plane : PlaneState) (run : Past) (board : Whose) → copy ≡ domains
+    → plane ≡ record { world = first_world (record { domains = copy; own = own }); board = board }
     → run ≡ record { board = plane.board; setup = plane.world.setup; steps = [] } → run.setup ≡ record { domains = domains; own = own }
 own_setup domains copy own plane run board same made begun =
     ap (λ (p : Past). p.setup) begun ∙ (ap (λ (s : PlaneState). s.world.setup) made ∙ (λ i. record { domains = same i; own = own }))

@@ -31,4 +31,5 @@ returns-in-Err-clause-members g c =
 pub returns-in-Err-clause-sound : goal.returns-in-Err-clause-sound
 returns-in-Err-clause-sound g c =
     let gap = rw c.deref.ensures.value at c.in-Err.ensures.gap in
-    subst IsSound (sym (c.insert_at.ensures.items ∙ ap (λ ms. with_before c.args.sections.now.items c.args.key c.in-Err.place ms) c.of.ensures)) (sound-before _ _ _ c.requires.sound gap ((c.args.port, c.args.end) ∷ []) refl (c.requires.room (absent _ _ _ gap)))
+    subst IsSound (sym (c.insert_at.ensures.items ∙ ap (λ ms. with_before c.args.sections.now.items c.args.key c.in-Err.place ms) c.of.ensures))
+    (sound-before _ _ _ c.requires.sound gap ((c.args.port, c.args.end) ∷ []) refl (c.requires.room (absent _ _ _ gap)))

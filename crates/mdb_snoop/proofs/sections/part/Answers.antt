@@ -20,7 +20,8 @@ returns-then-has_other-clause-members g c =
 pub returns-then-has_other-clause-sound : goal.returns-then-has_other-clause-sound
 returns-then-has_other-clause-sound g c =
     let at = rw c.deref.ensures.value at c.in-Ok.ensures.found in
-    let some : has_some (without nat_cmp at.members c.args.port) ≡ true = sym (c.has_other.ensures ∙ ap (λ s. has_some (without nat_cmp s.1 c.args.port)) (c.index-in-Ok.ensures ∙ at.reads _)) ∙ c.if-has_other.true in
+    let some : has_some (without nat_cmp at.members c.args.port) ≡ true = sym (c.has_other.ensures ∙ ap (λ s. has_some (without nat_cmp s.1 c.args.port)) (c.index-in-Ok.ensures ∙ at.reads _))
+    ∙ c.if-has_other.true in
     subst IsSound (sym (written _ _ _ _ at (λ ms. without nat_cmp ms c.args.port) c.part_at.ensures.items))
     (sound-with _ _ _ c.requires.sound at _ (fit-without at.members c.args.port (fit-at _ _ _ c.requires.sound at) some))
 
@@ -32,7 +33,8 @@ returns-else-has_other-clause-there g c =
 pub returns-else-has_other-clause-members : goal.returns-else-has_other-clause-members
 returns-else-has_other-clause-members g c =
     let at = rw c.deref.ensures.value at c.in-Ok.ensures.found in
-    let last : has_some (without nat_cmp at.members c.args.port) ≡ false = sym (c.has_other.ensures ∙ ap (λ s. has_some (without nat_cmp s.1 c.args.port)) (c.index-in-Ok.ensures ∙ at.reads _)) ∙ c.if-has_other.false in
+    let last : has_some (without nat_cmp at.members c.args.port) ≡ false = sym (c.has_other.ensures ∙ ap (λ s. has_some (without nat_cmp s.1 c.args.port)) (c.index-in-Ok.ensures ∙ at.reads _))
+    ∙ c.if-has_other.false in
     left_out _ _ _ _ c.args.port at last c.remove.ensures.by_index.2
 
 pub returns-else-has_other-clause-sound : goal.returns-else-has_other-clause-sound

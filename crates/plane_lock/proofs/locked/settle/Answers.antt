@@ -23,7 +23,8 @@ post_all-requires g c = may-post-all c.args.ran.now c.plane-2.result.now c.args.
 
 pub returns-in-Ok-clause-posted : goal.returns-in-Ok-clause-posted
 returns-in-Ok-clause-posted g c =
-    posted-still c.record_publish.result c.args.ran.now c.record_publish.new.self c.plane-2.result.now c.post_all.new.posters.items c.plane-2.ensures c.post_all.ensures.posted c.record_publish.ensures.ok c.record_publish.ensures.err
+    posted-still c.record_publish.result c.args.ran.now c.record_publish.new.self c.plane-2.result.now c.post_all.new.posters.items c.plane-2.ensures c.post_all.ensures.posted
+    c.record_publish.ensures.ok c.record_publish.ensures.err
 
 pub returns-in-Ok-clause-done : goal.returns-in-Ok-clause-done
 returns-in-Ok-clause-done g c =
@@ -32,7 +33,8 @@ returns-in-Ok-clause-done g c =
 
 pub returns-in-Err-clause-posted : goal.returns-in-Err-clause-posted
 returns-in-Err-clause-posted g c =
-    posted-still c.record_publish.result c.args.ran.now c.record_publish.new.self c.plane-2.result.now c.post_all.new.posters.items c.plane-2.ensures c.post_all.ensures.posted c.record_publish.ensures.ok c.record_publish.ensures.err
+    posted-still c.record_publish.result c.args.ran.now c.record_publish.new.self c.plane-2.result.now c.post_all.new.posters.items c.plane-2.ensures c.post_all.ensures.posted
+    c.record_publish.ensures.ok c.record_publish.ensures.err
 
 pub returns-in-Err-clause-undone : goal.returns-in-Err-clause-undone
 returns-in-Err-clause-undone g c =

@@ -5,7 +5,9 @@ use Rattle.port_sets.proofs.Words.{members-minus, AreWords-and}
 use Rattle.port_sets.proofs.PortSet.minus.Goals as goal
 
 pub invariant_of-result : goal.invariant_of-result
-invariant_of-result g c = AreWords-and g.row.W c.self.inside.words c.loop-i.words (λ j. bit_not w64 (get_or c.other.inside.words j 0)) c.self.invariant c.loop-i.invariant.sized (λ j low. c.loop-i.invariant.done j (omega arith))
+invariant_of-result g c =
+    AreWords-and g.row.W c.self.inside.words c.loop-i.words (λ j. bit_not w64 (get_or c.other.inside.words j 0)) c.self.invariant c.loop-i.invariant.sized
+    (λ j low. c.loop-i.invariant.done j (omega arith))
 
 pub returns : goal.returns
 returns g c =

@@ -4,7 +4,8 @@ use Rattle.port_sets.proofs.Words.{members-or, AreWords-or}
 use Rattle.port_sets.proofs.PortSet.or.Goals as goal
 
 pub invariant_of-result : goal.invariant_of-result
-invariant_of-result g c = AreWords-or g.row.W c.self.inside.words c.other.inside.words c.loop-i.words c.self.invariant c.other.invariant c.loop-i.invariant.sized (λ j low. c.loop-i.invariant.done j (omega arith))
+invariant_of-result g c =
+    AreWords-or g.row.W c.self.inside.words c.other.inside.words c.loop-i.words c.self.invariant c.other.invariant c.loop-i.invariant.sized (λ j low. c.loop-i.invariant.done j (omega arith))
 
 pub returns : goal.returns
 returns g c =

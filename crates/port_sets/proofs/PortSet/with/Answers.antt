@@ -5,7 +5,9 @@ use Rattle.std.proofs.lemmas.Nat.{or_lt}
 use Rattle.port_sets.proofs.PortSet.with.Goals as goal
 
 pub invariant_of-result : goal.invariant_of-result
-invariant_of-result g c = AreWords-set g.row.W c.self.inside.words _ _ c.self.invariant (omega arith) (or_lt 64 _ _ (word_fits g.row.W c.self.inside.words (c.args.n / 64) c.self.invariant (omega (arith, c.requires))) (omega arith))
+invariant_of-result g c =
+    AreWords-set g.row.W c.self.inside.words _ _ c.self.invariant (omega arith)
+    (or_lt 64 _ _ (word_fits g.row.W c.self.inside.words (c.args.n / 64) c.self.invariant (omega (arith, c.requires))) (omega arith))
 
 pub returns : goal.returns
 returns g c =

@@ -20,5 +20,6 @@ returns-clause-kept g c =
 pub returns-clause-messages : goal.returns-clause-messages
 returns-clause-messages g c =
     on_ok_weaker c.follow.result
-    (λ told. told ∙ ap (λ (l : List Neigh). c.args.messages.now.items ++ l) (told_on c.args.world.now c.step.new.self c.args.step _ c.in_ok-step.ensures.so c.args.stream.now c.requires.kept c.requires.other))
+    (λ told. told
+    ∙ ap (λ (l : List Neigh). c.args.messages.now.items ++ l) (told_on c.args.world.now c.step.new.self c.args.step _ c.in_ok-step.ensures.so c.args.stream.now c.requires.kept c.requires.other))
     (rw (c.history-from.ensures.value, c.history.ensures.value) at c.follow.ensures.messages)

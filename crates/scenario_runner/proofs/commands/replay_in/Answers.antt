@@ -20,7 +20,8 @@ returns-in-Err-Stopped-clause-outcome g c =
     let plays = rw c.in-Err-Stopped.field-0-is at c.in-Err-Stopped.ensures.plays in
     let cause = rw c.in-Err-Stopped.field-0-is at c.in-Err-Stopped.ensures.cause in
     let ends = rw c.line.ensures at c.end_with-in-Err-Stopped.ensures in
-    replays_stop _ _ _ _ _ _ _ _ c.in-Err-Stopped.stop plays c.play.ensures.behind (read_failed Last _ _ (g.K.Sink.faults c.args.sink.now) (g.K.Sink.faults c.play.new.sink) c.in-Err-Stopped.stop cause)
+    replays_stop _ _ _ _ _ _ _ _ c.in-Err-Stopped.stop plays c.play.ensures.behind
+    (read_failed Last _ _ (g.K.Sink.faults c.args.sink.now) (g.K.Sink.faults c.play.new.sink) c.in-Err-Stopped.stop cause)
     (λ n. ends.status n ∙ c.status.ensures) ends.whole (λ e. ends.front e (calm_stops _ _ c.status.ensures))
 
 pub returns-clause-outcome : goal.returns-clause-outcome

@@ -10,7 +10,8 @@ returns-in_ok-take-in-Ok-Some-clause-advances g c = λ limit left written p.
     let line = rw (c.in-Ok-Some.is, c.in-Ok-Some.field-0-is, c.if-got.true) at next.line in
     let reads = rw (c.in-Ok-Some.is, c.in-Ok-Some.field-0-is, c.if-got.true) at next.calls.reads in
     let sound = rw c.in-Ok-Some.is at next.calls.ok in
-    taken_line left _ _ limit _ _ _ _ written _ _ _ p reads next.calls.within sound line.feedless c.in_ok-take-in-Ok-Some.ensures.lines c.in_ok-take-in-Ok-Some.field-0 c.in_ok-take-in-Ok-Some.ensures.takes
+    taken_line left _ _ limit _ _ _ _ written _ _ _ p reads next.calls.within sound line.feedless c.in_ok-take-in-Ok-Some.ensures.lines c.in_ok-take-in-Ok-Some.field-0
+    c.in_ok-take-in-Ok-Some.ensures.takes
 
 pub returns-in_ok-take-in-Ok-Some-clause-less : goal.returns-in_ok-take-in-Ok-Some-clause-less
 returns-in_ok-take-in-Ok-Some-clause-less g c =

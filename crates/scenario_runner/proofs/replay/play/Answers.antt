@@ -1,7 +1,8 @@
 use Rattle.std.proofs.Common.{Err, inr, refl, ap, ◌∙◌, arith}
 use Rattle.std.proofs.lemmas.Result.{err_from_is_err_and}
 use Rattle.scenario_runner.proofs.Ready.{behind_section, ready_at_first}
-use Rattle.scenario_runner.proofs.Telling.{behind_broken, end_lacks, first_lacks, first_unread, grown, opened_more, opens, play_breaks, play_ends, play_stops, section_ends, section_halts, split_all, started, unread_behind}
+use Rattle.scenario_runner.proofs.Telling.{behind_broken, end_lacks, first_lacks, first_unread, grown, opened_more, opens, play_breaks}
+use Rattle.scenario_runner.proofs.Telling.{play_ends, play_stops, section_ends, section_halts, split_all, started, unread_behind}
 use Rattle.run_status.proofs.Writing.{moved, started_written}
 use Rattle.scenario_runner.proofs.replay.play.Goals as goal
 
@@ -76,7 +77,8 @@ returns-in-Some-clause-plays g c =
     let w = moved _ _ _ _ _ _ plays.1 c.in_ok-put_before_read.ensures.moved in
     let at = rw c.in-Section.is at (c.in_ok-advance.ensures.advances _ _ w.gone (split_all _ _ _ _ w _ _ _ _ plays.2)) in
     let ends = rw c.in-Some.is at (c.in_ok-last-in-Section.ensures.plays _ _ _ (grown _ _ _ _ _ w) at) in
-    section_ends _ _ _ _ c.play_section.new.reader _ _ _ _ _ c.in_ok-end-in-Section.ensures.reader c.in_ok-end-in-Section.ensures.world c.in_ok-end-in-Section.ensures.voice ends c.in_ok-end-in-Section.ensures.ok
+    section_ends _ _ _ _ c.play_section.new.reader _ _ _ _ _ c.in_ok-end-in-Section.ensures.reader c.in_ok-end-in-Section.ensures.world c.in_ok-end-in-Section.ensures.voice ends
+    c.in_ok-end-in-Section.ensures.ok
 
 pub loop-reader-preserved : goal.loop-reader-preserved
 loop-reader-preserved g c =

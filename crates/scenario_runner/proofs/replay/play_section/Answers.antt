@@ -14,7 +14,8 @@ returns-in_err-steps-clause-plays g c = λ left before all w at.
 pub returns-in_ok-do_steps-in-Steps-clause-plays : goal.returns-in_ok-do_steps-in-Steps-clause-plays
 returns-in_ok-do_steps-in-Steps-clause-plays g c = λ left before all w at.
     let moved = flushed before _ _ _ _ all w c.in_ok-flush.ensures.all c.in_ok-flush.ensures.empty in
-    plays_on left _ before _ c.read_section.new.reader _ _ all moved _ c.in-Steps.steps.items _ _ (rw c.in-Steps.is at (c.in_ok-steps.ensures.sections most_bytes left all at)) c.in_ok-do_steps-in-Steps.ensures.does
+    plays_on left _ before _ c.read_section.new.reader _ _ all moved _ c.in-Steps.steps.items _ _
+    (rw c.in-Steps.is at (c.in_ok-steps.ensures.sections most_bytes left all at)) c.in_ok-do_steps-in-Steps.ensures.does
 
 pub returns-in-End-clause-plays : goal.returns-in-End-clause-plays
 returns-in-End-clause-plays g c = λ left before all w at.

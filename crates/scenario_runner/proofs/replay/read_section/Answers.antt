@@ -9,7 +9,8 @@ returns-in_ok-captured-in-Ok-clause-sections g c = λ limit left text p.
     let reads = rw c.in-Ok.is at taken.calls.reads in
     let piece = rw c.in-Ok.is at taken.piece in
     let sound = rw c.in-Ok.is at taken.calls.ok in
-    taken_section left _ _ limit _ _ c.args.session.now text c.args.length p c.in-Ok.got.bytes.now reads taken.calls.within (piece.full c.if-got.true) c.in_ok-captured-in-Ok.field-0 sound c.in_ok-captured-in-Ok.ensures
+    taken_section left _ _ limit _ _ c.args.session.now text c.args.length p c.in-Ok.got.bytes.now reads taken.calls.within
+    (piece.full c.if-got.true) c.in_ok-captured-in-Ok.field-0 sound c.in_ok-captured-in-Ok.ensures
 
 pub returns-in_ok-captured-in-Ok-clause-by_line : goal.returns-in_ok-captured-in-Ok-clause-by_line
 returns-in_ok-captured-in-Ok-clause-by_line g c = come_by_line c.args.session.now.reader c.in-Ok.got.bytes.now c.in_ok-captured-in-Ok.field-0 c.in_ok-captured-in-Ok.ensures

@@ -19,5 +19,6 @@ returns-in-Static c =
 pub returns-in-Extern : goal.returns-in-Extern
 returns-in-Extern c =
     on_ok_weaker c.append_entry-in-Extern.result
-    (λ last. last ∙ ap (λ (line : List ℕ). string_bytes c.args.to.now ++ line) (extern_words c.args.roster.now.ports c.args.vid c.args.mac c.args.port c.args.kind _ c.in-Extern.is c.name-in-Extern.ensures))
+    (λ last. last
+    ∙ ap (λ (line : List ℕ). string_bytes c.args.to.now ++ line) (extern_words c.args.roster.now.ports c.args.vid c.args.mac c.args.port c.args.kind _ c.in-Extern.is c.name-in-Extern.ensures))
     c.append_entry-in-Extern.ensures

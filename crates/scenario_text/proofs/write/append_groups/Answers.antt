@@ -16,7 +16,8 @@ pub loop-bits-preserved : goal.loop-bits-preserved
 loop-bits-preserved c =
     let colon = c.in_ok-push.ensures.bytes ∙ ap (λ (t : List ℕ). string_bytes c.loop-bits.to ++ t) (c.in_ok-push.ensures.ascii (omega arith)) in
     let digits = digits_at c.args.address (get_or places c.loop-bits.bits-index 0) in
-    part_more (group c.args.address) (string_bytes c.args.to.now) (string_bytes c.loop-bits.to) (string_bytes c.append_digits-in-loop-bits.new.to) (digits_at c.args.address 112) places c.loop-bits.bits-index 0
+    part_more (group c.args.address) (string_bytes c.args.to.now) (string_bytes c.loop-bits.to) (string_bytes c.append_digits-in-loop-bits.new.to)
+    (digits_at c.args.address 112) places c.loop-bits.bits-index 0
     c.loop-bits-test.true c.loop-bits.invariant
     (c.in_ok-append_digits-2.ensures ∙ ap (λ (s : List ℕ). s ++ digits) colon ∙ append_assoc (string_bytes c.loop-bits.to) (58 ∷ []) digits)
 

@@ -27,7 +27,8 @@ loop-p-preserved c =
       | in-Some+in_default-candidate w ↦
           record {
             best = w.best-is
-                ∙ ap (added c.loop-p.best) (sym (ap (λ o. option_and_then (λ x. candidate c.args.id (c.loop-p.p, x)) o) (here ∙ w.in-Some.is) ∙ sym w.candidate.ensures.value ∙ w.in_default-candidate.is))
+                ∙ ap (added c.loop-p.best)
+                (sym (ap (λ o. option_and_then (λ x. candidate c.args.id (c.loop-p.p, x)) o) (here ∙ w.in-Some.is) ∙ sym w.candidate.ensures.value ∙ w.in_default-candidate.is))
                 ∙ before ∙ sym more;
             last = λ x e. c.loop-p.invariant.last x (sym w.best-is ∙ e);
           }

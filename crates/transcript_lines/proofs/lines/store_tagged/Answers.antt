@@ -23,8 +23,10 @@ returns-then-is_empty-clause-form c =
       from = c.len.ensures ∙ c.args.arena.now.ok.0;
       size = refl;
       short = omega arith;
-      same = λ id plain. none_left (λ m. not (has_number untagged m)) ports (λ p. lines.Tx id p (if has_number untagged p then plain else [])) (λ p. lines.Tx id p (if has_number untagged p then plain else whole))
-          (λ m no. ap (λ b. lines.Tx id m (if b then plain else [])) (not-false (has_number untagged m) no) ∙ sym (ap (λ b. lines.Tx id m (if b then plain else whole)) (not-false (has_number untagged m) no))) none;
+      same = λ id plain. none_left (λ m. not (has_number untagged m)) ports (λ p. lines.Tx id p (if has_number untagged p then plain else []))
+          (λ p. lines.Tx id p (if has_number untagged p then plain else whole))
+          (λ m no. ap (λ b. lines.Tx id m (if b then plain else [])) (not-false (has_number untagged m) no)
+          ∙ sym (ap (λ b. lines.Tx id m (if b then plain else whole)) (not-false (has_number untagged m) no))) none;
     }
 
 pub returns-clause-form : goal.returns-clause-form

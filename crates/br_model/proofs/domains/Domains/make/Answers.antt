@@ -11,7 +11,8 @@ pub invariant_of-result : goal.invariant_of-result
 invariant_of-result c = (
   c.host_alone.ensures.host,
   λ domain low.
-      let moved : get_or c.move_port.new.members domain [] ≡ numbers_below port_places (λ q. cond (q == 0) (0 == domain) (has_number (get_or (replicate 5 c.empty-members.result) domain []) q)) = c.move_port.ensures domain low in
+      let moved : get_or c.move_port.new.members domain [] ≡ numbers_below port_places
+      (λ q. cond (q == 0) (0 == domain) (has_number (get_or (replicate 5 c.empty-members.result) domain []) q)) = c.move_port.ensures domain low in
       subst (λ (es : List (ℕ × ℕ)). get_or c.move_port.new.members domain [] ≡ ports_in (record { edition = One; ports = es }) domain) (sym c.host_alone.ensures.domains)
       (ports_in-put (record { edition = One; ports = [] }) 0 0 domain [] _ (ports_in-none One domain)
       (moved

@@ -95,7 +95,8 @@ hear-requires-clause-speaker c =
     let d = (goal.at.hear-requires-clause-speaker c).After-follow in
     record {
       now = sym (now d);
-      leaves = ap (λ (t : Table). has_flag t c.args.speaker.now.port fastleave) (tables d) ∙ leaves_so c.args.self.now c.args.plan c.args.speaker.now c.requires.addresses c.requires.clock c.requires.leaves;
+      leaves = ap (λ (t : Table). has_flag t c.args.speaker.now.port fastleave) (tables d)
+          ∙ leaves_so c.args.self.now c.args.plan c.args.speaker.now c.requires.addresses c.requires.clock c.requires.leaves;
     }
 
 pub hear-requires-clause-early : goal.hear-requires-clause-early

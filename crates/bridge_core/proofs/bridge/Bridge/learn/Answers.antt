@@ -15,7 +15,8 @@ returns-in-Some c =
     let old = c.args.self.now in
     let at = c.self.invariant.0 ∙ ap (λ (b : Controlled). table b.history) c.self.view_is in
     carried_as old _ _ _ _
-    (sym (taught_so old c.self.inside.domains c.self.inside.own _ c.args.port c.args.head.now _ (ap (λ (b : Controlled). b.setup) c.self.view_is) at c.taught.ensures ∙ ap (λ (o : Option Address). learns c.args.port o (standing old)) c.in-Some.is))
+    (sym (taught_so old c.self.inside.domains c.self.inside.own _ c.args.port c.args.head.now _ (ap (λ (b : Controlled). b.setup) c.self.view_is) at c.taught.ensures
+    ∙ ap (λ (o : Option Address). learns c.args.port o (standing old)) c.in-Some.is))
     c.learn_at.ensures
 
 pub returns-in-None : goal.returns-in-None
@@ -24,5 +25,6 @@ returns-in-None c =
     let at = c.self.invariant.0 ∙ ap (λ (b : Controlled). table b.history) c.self.view_is in
     let few = subst (λ (b : Controlled). length b.history ≤ most_changes) c.self.view_is c.self.invariant.1 in
     carried_still old _ _ old.control few
-    (sym (taught_so old c.self.inside.domains c.self.inside.own _ c.args.port c.args.head.now _ (ap (λ (b : Controlled). b.setup) c.self.view_is) at c.taught.ensures ∙ ap (λ (o : Option Address). learns c.args.port o (standing old)) c.in-None.is))
+    (sym (taught_so old c.self.inside.domains c.self.inside.own _ c.args.port c.args.head.now _ (ap (λ (b : Controlled). b.setup) c.self.view_is) at c.taught.ensures
+    ∙ ap (λ (o : Option Address). learns c.args.port o (standing old)) c.in-None.is))
     refl

@@ -12,7 +12,9 @@ use Rattle.bridge_plans.proofs.Reactions.{same_clock}
 use Rattle.bridge_core.proofs.bridge.Bridge.make_change.Goals as goal
 
 pub apply-requires-clause-fits : goal.apply-requires-clause-fits
-apply-requires-clause-fits c = fits_alone (table_of c.self.inside.state) c.args.change (ap (λ (t : Table). all_fit t (c.args.change ∷ [])) (c.self.invariant.0 ∙ ap (λ (b : Controlled). table b.history) c.self.view_is) ∙ c.requires)
+apply-requires-clause-fits c =
+    fits_alone (table_of c.self.inside.state) c.args.change (ap (λ (t : Table). all_fit t (c.args.change ∷ [])) (c.self.invariant.0 ∙ ap (λ (b : Controlled). table b.history) c.self.view_is)
+    ∙ c.requires)
 
 pub returns : goal.returns
 returns c =

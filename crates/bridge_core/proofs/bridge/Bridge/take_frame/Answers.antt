@@ -31,7 +31,8 @@ returns-in-Some-clause-carries_out c =
     let clock : clocked p.clock old.control ≡ old.control = ap (λ (k : Clock). clocked k old.control) is.clock ∙ subst (λ (x : Control). clocked c.self.inside.state.clock x ≡ x) control refl in
     let at = c.self.invariant.0 ∙ ap (λ (b : Controlled). table b.history) c.self.view_is in
     let heard_so = ap (λ (t : Table). heard t c.args.port c.args.bytes.now c.args.head.now) (sym at) ∙ sym c.heard.ensures ∙ c.in-Some.is in
-    let comes = sym (tells_alone old p c.in-Some.event early clock is.renewed is.changes is.told) ∙ sees-told old.setup (standing old) c.args.port c.args.bytes.now c.args.head.now c.in-Some.event heard_so in
+    let comes = sym (tells_alone old p c.in-Some.event early clock is.renewed is.changes is.told)
+    ∙ sees-told old.setup (standing old) c.args.port c.args.bytes.now c.args.head.now c.in-Some.event heard_so in
     subst (λ (x : Course). CarriesOut old c.accept_told.new.self c.args.lines.now.lines c.accept_told.new.lines.lines c.accept_told.result (Ok x)) comes c.accept_told.ensures.carries_out
 
 pub take_untold-requires-clause-untold : goal.take_untold-requires-clause-untold

@@ -12,7 +12,8 @@ renew-requires c =
 pub invariant_of-self : goal.invariant_of-self
 invariant_of-self c =
     let k : Address = (c.args.vid, c.args.mac) in
-    let there : is_some (get pair_cmp c.self.inside.fdb.entries k) ≡ true = there-told c.self.inside.fdb.entries k (ap (λ (s : Entries). is_some (get pair_cmp s.addr k)) c.self.view_is ∙ c.requires) in
+    let there : is_some (get pair_cmp c.self.inside.fdb.entries k) ≡ true = there-told c.self.inside.fdb.entries k (ap (λ (s : Entries). is_some (get pair_cmp s.addr k)) c.self.view_is
+    ∙ c.requires) in
     rw c.min-self-inside.ensures (renewed-kept c.self.inside.fdb _ k c.self.inside.oldest c.args.now there c.renew.ensures.entries c.self.invariant)
 
 pub returns : goal.returns

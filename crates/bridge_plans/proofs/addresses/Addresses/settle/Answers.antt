@@ -16,5 +16,6 @@ invariant_of-self c =
 pub returns : goal.returns
 returns c =
     let es = c.self.inside.fdb.entries in
-    let found = c.unwrap_or-self-inside.ensures ∙ ap (λ o. unwrap_or o last_moment) (c.oldest.ensures.value ∙ ap oldest (sym (entries_told c.self.inside.oldest es c.self.invariant.ascending))) ∙ ap exact_bound c.self.view_is in
+    let found = c.unwrap_or-self-inside.ensures ∙ ap (λ o. unwrap_or o last_moment) (c.oldest.ensures.value ∙ ap oldest (sym (entries_told c.self.inside.oldest es c.self.invariant.ascending)))
+    ∙ ap exact_bound c.self.view_is in
     λ i. record { addr = ap (λ (s : Entries). s.addr) c.self.view_is i; updated = ap (λ (s : Entries). s.updated) c.self.view_is i; oldest = found i }

@@ -38,9 +38,11 @@ loop-act-preserved c =
       adds = (
         inv.adds.0 ++ more,
         c.add.ensures.items ∙ ap (λ (l : List Change). l ++ more) inv.adds.1 ∙ append_assoc c.args.changes.now.items inv.adds.0 more,
-        like s c.args.groups.now c.act-change.new.groups (inv.adds.0 ++ more) (λ r. acted s.port s.vid (fold (acted s.port s.vid) r c.loop-act.yielded) c.in-Some.act) (λ r. fold (acted s.port s.vid) r (c.loop-act.yielded ++ c.in-Some.act ∷ []))
+        like s c.args.groups.now c.act-change.new.groups (inv.adds.0 ++ more) (λ r. acted s.port s.vid (fold (acted s.port s.vid) r c.loop-act.yielded) c.in-Some.act)
+            (λ r. fold (acted s.port s.vid) r (c.loop-act.yielded ++ c.in-Some.act ∷ []))
             (λ r h. fold_push (acted s.port s.vid) r c.loop-act.yielded c.in-Some.act)
-            (after s c.args.groups.now c.loop-act.groups c.act-change.new.groups inv.adds.0 more (λ r. fold (acted s.port s.vid) r c.loop-act.yielded) (λ r. acted s.port s.vid r c.in-Some.act) inv.adds.2 c.act-change.ensures),
+            (after s c.args.groups.now c.loop-act.groups c.act-change.new.groups inv.adds.0 more (λ r. fold (acted s.port s.vid) r c.loop-act.yielded)
+            (λ r. acted s.port s.vid r c.in-Some.act) inv.adds.2 c.act-change.ensures),
       );
       count = omega (
         arith,

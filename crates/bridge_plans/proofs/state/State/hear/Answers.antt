@@ -31,7 +31,9 @@ returns-clause-course c out =
     let goes = (added.2 (course_of c.args.self.now old out) h).0 in
     let more = behind old added.0 c.deref.result.now c.len-from.result (length c.deref.result.now) (c.deref.ensures.value ∙ added.1) (c.len-from.ensures ∙ c.args.changes.now.ok.0) refl in
     let table = goes.table ∙ sym (c.place_all.ensures.table ∙ ap (λ (l : List Change). fold apply (table_of c.args.self.now) l) more) in
-    let control = goes.control ∙ sym (c.place_all.ensures.control ∙ ap (λ (l : List Change). fold places (ends_with (control_of c.args.self.now) c.says.new.groups) l) more ∙ places-prompt (ends_with (control_of c.args.self.now) c.says.new.groups) added.0 goes.prompt) in
+    let control = goes.control
+    ∙ sym (c.place_all.ensures.control ∙ ap (λ (l : List Change). fold places (ends_with (control_of c.args.self.now) c.says.new.groups) l) more
+    ∙ places-prompt (ends_with (control_of c.args.self.now) c.says.new.groups) added.0 goes.prompt) in
     (λ i. record { table = table i; control = control i; changes = (goes.changes ∙ sym added.1) i; messages = goes.messages i })
 
 pub returns-clause-fits : goal.returns-clause-fits
@@ -53,6 +55,7 @@ returns-clause-tied c =
     let then = added.2 (course_of c.args.self.now old []) h in
     let more = behind old added.0 c.deref.result.now c.len-from.result (length c.deref.result.now) (c.deref.ensures.value ∙ added.1) (c.len-from.ensures ∙ c.args.changes.now.ok.0) refl in
     let table = then.0.table ∙ sym (c.place_all.ensures.table ∙ ap (λ (l : List Change). fold apply (table_of c.args.self.now) l) more) in
-    let control = c.place_all.ensures.control ∙ ap (λ (l : List Change). fold places (ends_with (control_of c.args.self.now) c.says.new.groups) l) more ∙ places-prompt (ends_with (control_of c.args.self.now) c.says.new.groups) added.0 then.0.prompt in
+    let control = c.place_all.ensures.control ∙ ap (λ (l : List Change). fold places (ends_with (control_of c.args.self.now) c.says.new.groups) l) more
+    ∙ places-prompt (ends_with (control_of c.args.self.now) c.says.new.groups) added.0 then.0.prompt in
     subst (λ (e : Ends). IsTied (table_of c.place_all.new.self) e) (sym (ap (λ (k : Control). k.ends) control))
     (subst (λ (t : Table). IsTied t c.says.new.groups) table then.1.tied)

@@ -22,4 +22,5 @@ pub returns : goal.returns
 returns c =
     let x = c.self.inside in
     on_ok_weaker c.note.result (λ ch y at.
-    noted_sides x.bridge x.published x.counts.items x.cuts c.note.new.self x.updates x.point c.args.self.now c.args.d y c.args.port c.args.head.now c.self.view_is c.self.invariant at ch) c.note.ensures.ok
+    noted_sides x.bridge x.published x.counts.items x.cuts c.note.new.self x.updates x.point c.args.self.now c.args.d y c.args.port c.args.head.now c.self.view_is c.self.invariant at ch)
+    c.note.ensures.ok

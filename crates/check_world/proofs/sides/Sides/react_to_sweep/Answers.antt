@@ -30,7 +30,8 @@ returns-clause-reacted c chip at =
       did.0,
       did.1,
       did.2,
-      changed x.bridge.setup.domains x.bridge.history x.cuts c.clear_hits.new.self c.args.d (λ y e. e ≡ without_hits y) ch c.self.invariant.follows x.bridge x.published x.counts.items c.react.new.self chip f c.self.view_is
+      changed x.bridge.setup.domains x.bridge.history x.cuts c.clear_hits.new.self c.args.d
+          (λ y e. e ≡ without_hits y) ch c.self.invariant.follows x.bridge x.published x.counts.items c.react.new.self chip f c.self.view_is
           (ap (λ (s : SidesState). chip_in s.chips c.args.d) did.3 ∙ at) (ap (λ (s : CutState). s.chip.dom) ch.so) (ap (λ (s : CutState). s.chip) ch.so)
           ∙ ap (λ (s : SidesState). record s { chips = put_chip s.chips (f chip) }) did.3,
       did.4,

@@ -6,4 +6,6 @@ use Rattle.check_world.proofs.world.World.command.Goals as goal
 pub returns : goal.returns
 returns c =
     let x = c.self.inside in
-    added_as _ _ _ _ (λ told h. tells_so c.args.self.now x.sides c.answer.new.self x.frames x.frames x.steps c.in_ok-step.step (Cmd c.args.command) told c.self.view_is c.in_ok-step.ensures (h x.frames)) c.in_ok-answer.ensures
+    added_as _ _ _ _
+    (λ told h. tells_so c.args.self.now x.sides c.answer.new.self x.frames x.frames x.steps c.in_ok-step.step (Cmd c.args.command) told c.self.view_is c.in_ok-step.ensures (h x.frames))
+    c.in_ok-answer.ensures

@@ -25,7 +25,8 @@ returns c =
           record {
             lines = a.lines;
             so = subst (λ (i : Inside). Tells old (Post c.args.id c.args.named) (world_of i.sides i.frames m) a.lines) (sym w.self-inside-is)
-                (posts_told old x.sides w.post_held.new.sides x.frames w.post_held.new.frames x.steps m c.args.id w.in-Ok.point c.args.named a.lines c.self.view_is c.in_ok-step.ensures w.in-Ok.ensures a.so);
+                (posts_told old x.sides w.post_held.new.sides x.frames w.post_held.new.frames x.steps m c.args.id w.in-Ok.point c.args.named a.lines c.self.view_is c.in_ok-step.ensures
+                w.in-Ok.ensures a.so);
             added = ap (λ (l : Listed). l.lines) w.lines-is ∙ a.added;
           }
       | in-Err+in_ok-push-in-Err w ↦

@@ -12,4 +12,6 @@ sweep-requires c = ap (λ (o : World). is_some (chip_at o c.args.d)) c.self.view
 pub returns : goal.returns
 returns c =
     let x = c.self.inside in
-    added_as _ _ _ _ (λ told h. tells_so c.args.self.now x.sides c.sweep.new.self x.frames x.frames x.steps c.in_ok-step.step (Sweep c.args.d) told c.self.view_is c.in_ok-step.ensures (h x.frames)) c.in_ok-sweep.ensures
+    added_as _ _ _ _
+    (λ told h. tells_so c.args.self.now x.sides c.sweep.new.self x.frames x.frames x.steps c.in_ok-step.step (Sweep c.args.d) told c.self.view_is c.in_ok-step.ensures (h x.frames))
+    c.in_ok-sweep.ensures

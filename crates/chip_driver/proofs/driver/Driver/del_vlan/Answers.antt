@@ -29,4 +29,5 @@ returns-clause-drives c d t before =
     c.write_member.ensures.row c.write_member.ensures.rest c.write_pvid.ensures.row c.write_pvid.ensures.rest
     (ap (λ (r : PortRow). record r { pvid = c.pvid_without-pvid.result }) port
     ∙ ap (λ o. record (port_wanted d c.self.inside.dom t p) { pvid = o })
-    (c.pvid_without-pvid.ensures ∙ ap (λ (r : PortRow). cond (option_eq (λ x y. x == y) r.pvid (Some v)) None r.pvid) (c.port.ensures ∙ port) ∙ sym (pvid_left t.pvid p v (option_eq (λ x y. x == y) (get nat_cmp t.pvid p) (Some v)))))
+    (c.pvid_without-pvid.ensures ∙ ap (λ (r : PortRow). cond (option_eq (λ x y. x == y) r.pvid (Some v)) None r.pvid) (c.port.ensures ∙ port)
+    ∙ sym (pvid_left t.pvid p v (option_eq (λ x y. x == y) (get nat_cmp t.pvid p) (Some v)))))

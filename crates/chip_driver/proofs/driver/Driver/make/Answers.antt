@@ -18,7 +18,9 @@ write_member-requires c =
       settled = settled_start c.ports_of.result _ _ c.in_ok-tables.tables _ _ _ blank
           (subst (λ o. MarksOwn o port_places c.in_ok-tables.tables c.mark_own.new.tables) own c.mark_own.ensures) c.switch_traps.ensures c.set_control.ensures.rest
           c.start-shadow.ensures joined (host_off c.args.d.now c.args.dom c.ports_of.result c.ports_of.ensures c.host_is_elsewhere.ensures);
-      follow = follow_made c.start-shadow.result c.start-shadow.result.own c.in_ok-groups.groups c.in_ok-tables.tables _ _ _ blank c.mark_own.ensures c.switch_traps.ensures c.set_control.ensures.rest groups;
+      follow =
+          follow_made c.start-shadow.result c.start-shadow.result.own c.in_ok-groups.groups c.in_ok-tables.tables _ _ _ blank c.mark_own.ensures c.switch_traps.ensures c.set_control.ensures.rest
+          groups;
     }
 
 pub returns-clause-start : goal.returns-clause-start

@@ -12,7 +12,8 @@ use Rattle.chip_driver.proofs.kept.Kept.write_member.Goals as goal
 
 pub refresh-requires : goal.refresh-requires
 refresh-requires c =
-    used_of c.args.self.now.shadow c.args.self.now.groups c.args.self.now.tables _ c.requires.follow (ap (λ (r : Rows). r.groups) c.refresh_vlan.ensures.rest ∙ ap (λ (r : Rows). r.groups) c.set_vlan.ensures.rest)
+    used_of c.args.self.now.shadow c.args.self.now.groups c.args.self.now.tables _ c.requires.follow (ap (λ (r : Rows). r.groups) c.refresh_vlan.ensures.rest
+    ∙ ap (λ (r : Rows). r.groups) c.set_vlan.ensures.rest)
 
 pub returns-clause-kept : goal.returns-clause-kept
 returns-clause-kept c =
@@ -27,7 +28,10 @@ returns-clause-kept c =
           (settled_member kept.shadow kept.joined _ p v c.args.on _ c.touched-touched.result kept.tables _ _ c.number-n.ensures.below c.switch.ensures.below c.requires.settled members
           c.set_vlan.ensures.row c.set_vlan.ensures.rest c.switch.ensures.vlan tells c.refresh_vlan.ensures)
           c.refresh.ensures.rest;
-      follow = groups_anew (λ k. c.touched-touched.result.groups && (is_among (Some v) k.0 && is_member kept.groups p k)) kept.shadow kept.shadow kept.groups kept.tables c.refresh_vlan.new.tables c.refresh.new.tables c.requires.follow
+      follow =
+          groups_anew
+          (λ k. c.touched-touched.result.groups && (is_among (Some v) k.0 && is_member kept.groups p k)) kept.shadow kept.shadow kept.groups kept.tables c.refresh_vlan.new.tables
+          c.refresh.new.tables c.requires.follow
           (ap (λ (r : Rows). r.groups) c.refresh_vlan.ensures.rest ∙ ap (λ (r : Rows). r.groups) c.set_vlan.ensures.rest)
           (vlan_kept kept.shadow p v c.args.on _ c.touched-touched.result kept.groups kept.tables c.refresh_vlan.new.tables c.number-n.ensures.below members tells
           (λ vid. ap (λ (r : Rows). vlan_at r vid) c.refresh_vlan.ensures.rest ∙ c.set_vlan.ensures.row vid))

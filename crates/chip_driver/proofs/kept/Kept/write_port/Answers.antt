@@ -9,7 +9,8 @@ use Rattle.chip_driver.proofs.kept.Kept.write_port.Goals as goal
 
 pub refresh-requires-2 : goal.refresh-requires-2
 refresh-requires-2 c =
-    used_of c.args.self.now.shadow c.args.self.now.groups c.args.self.now.tables _ c.requires.kept.follow (ap (λ (r : Rows). r.groups) c.refresh.ensures.rest ∙ ap (λ (r : Rows). r.groups) c.set_port.ensures.rest)
+    used_of c.args.self.now.shadow c.args.self.now.groups c.args.self.now.tables _ c.requires.kept.follow (ap (λ (r : Rows). r.groups) c.refresh.ensures.rest
+    ∙ ap (λ (r : Rows). r.groups) c.set_port.ensures.rest)
 
 pub returns-clause-kept : goal.returns-clause-kept
 returns-clause-kept c =
@@ -18,10 +19,14 @@ returns-clause-kept c =
     let tells = tells_at _ _ _ _ _ c.of-before.ensures c.of.ensures c.touched-touched.ensures in
     record {
       settled = settled_groups _ kept.joined _ _
-          (settled_port kept.shadow _ kept.joined p c.args.row c.touched-touched.result kept.tables _ _ c.number-number.ensures.below c.requires.kept.settled c.requires.own c.requires.state c.set_port.ensures.row c.set_port.ensures.rest
+          (settled_port kept.shadow _ kept.joined p c.args.row c.touched-touched.result kept.tables _ _ c.number-number.ensures.below c.requires.kept.settled c.requires.own c.requires.state
+          c.set_port.ensures.row c.set_port.ensures.rest
           c.note.ensures tells c.refresh.ensures)
           c.refresh-2.ensures.rest;
-      follow = groups_anew (λ k. c.touched-touched.result.groups && (is_among None k.0 && is_member kept.groups p k)) kept.shadow _ kept.groups kept.tables c.refresh.new.tables c.refresh-2.new.tables c.requires.kept.follow
+      follow =
+          groups_anew
+          (λ k. c.touched-touched.result.groups && (is_among None k.0 && is_member kept.groups p k)) kept.shadow _ kept.groups kept.tables c.refresh.new.tables c.refresh-2.new.tables
+          c.requires.kept.follow
           (ap (λ (r : Rows). r.groups) c.refresh.ensures.rest ∙ ap (λ (r : Rows). r.groups) c.set_port.ensures.rest)
           (port_kept kept.shadow _ p c.touched-touched.result kept.groups kept.tables c.refresh.new.tables (notes_same kept.shadow _ p c.args.row c.note.ensures) tells
           (ap (λ (ns : List ℕ). has_number ns p) (sym c.note.ensures.own))

@@ -21,7 +21,9 @@ returns-clause-kept c =
       settled = settled_groups _ kept.joined _ _
           (settled_router kept.shadow kept.joined p c.switch.new.self c.args.on c.touched-touched.result kept.tables _ c.number.ensures.below c.requires.settled routers tells c.refresh.ensures)
           c.refresh-2.ensures.rest;
-      follow = groups_anew (λ k. c.touched-touched.result.groups && (is_among None k.0 && is_member kept.groups p k)) kept.shadow _ kept.groups kept.tables c.refresh.new.tables c.refresh-2.new.tables c.requires.follow
+      follow =
+          groups_anew
+          (λ k. c.touched-touched.result.groups && (is_among None k.0 && is_member kept.groups p k)) kept.shadow _ kept.groups kept.tables c.refresh.new.tables c.refresh-2.new.tables c.requires.follow
           (ap (λ (r : Rows). r.groups) c.refresh.ensures.rest)
           (port_kept kept.shadow _ p c.touched-touched.result kept.groups kept.tables c.refresh.new.tables (routed_same kept.shadow p c.switch.new.self c.args.on routers) tells refl
           (λ vid. ap (λ (r : Rows). vlan_at r vid) c.refresh.ensures.rest))

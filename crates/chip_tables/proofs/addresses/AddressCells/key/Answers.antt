@@ -10,4 +10,6 @@ returns-then-key-eq0 c =
 pub returns : goal.returns
 returns c =
     place-at c.args.self.now.bank c.args.i c.row.result (omega (arith, c.requires, c.row.ensures.len)) c.row.ensures.value
-    ∙ ap Some (place-some c.row.result c.key_in-key.result c.in-Some.vid c.in-Some-from_number.mac c.key_in-key.ensures.value c.if-key-eq0.false c.key_in-key.ensures.below c.in-Some.ensures.value c.in-Some-from_number.ensures.value)
+    ∙ ap Some
+    (place-some c.row.result c.key_in-key.result c.in-Some.vid c.in-Some-from_number.mac c.key_in-key.ensures.value c.if-key-eq0.false c.key_in-key.ensures.below c.in-Some.ensures.value
+    c.in-Some-from_number.ensures.value)

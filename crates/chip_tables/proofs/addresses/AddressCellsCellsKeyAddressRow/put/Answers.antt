@@ -15,4 +15,5 @@ invariant_of-self c =
 pub returns : goal.returns
 returns c =
     cells-set c.args.self.now.bank c.put.new.self c.args.i c.pack_address.result _ c.put.ensures.value
-    (cell-written c.pack_address.result c.args.key.now.0 c.args.key.now.1 c.args.value (c.pack_address.ensures.key ∙ c.pack_key.ensures.value) c.pack_address.ensures.row (omega (arith, c.pack_key.ensures.vid.1)))
+    (cell-written c.pack_address.result c.args.key.now.0 c.args.key.now.1 c.args.value (c.pack_address.ensures.key ∙ c.pack_key.ensures.value) c.pack_address.ensures.row
+    (omega (arith, c.pack_key.ensures.vid.1)))

@@ -11,4 +11,5 @@ put-requires-2 c = let v = within-row c.args.self.now.keys c.args.self.now.rows 
 
 pub returns : goal.returns
 returns c =
-    groups-put c.args.self.now.keys c.put.new.self c.args.self.now.rows c.put-2.new.self c.args.i c.pack_group_key.result c.pack_fan.result (number_of c.args.key.now) c.args.value c.put.ensures.value c.put-2.ensures.value c.pack_group_key.ensures c.pack_fan.ensures
+    groups-put c.args.self.now.keys c.put.new.self c.args.self.now.rows c.put-2.new.self c.args.i c.pack_group_key.result c.pack_fan.result
+    (number_of c.args.key.now) c.args.value c.put.ensures.value c.put-2.ensures.value c.pack_group_key.ensures c.pack_fan.ensures

@@ -11,4 +11,5 @@ pub returns : goal.returns
 returns c =
     let k : Pair = (c.args.vid, c.args.mac) in
     let es = c.self.inside.addresses.entries in
-    c.get.ensures ∙ ap (λ (q : Pair). entries.find nat_cmp (packed q) es) c.key.ensures.value ∙ sym (get-by_pair k c.key.ensures.below es) ∙ ap (λ (t : Rows). get pair_cmp t.addresses k) c.self.view_is
+    c.get.ensures ∙ ap (λ (q : Pair). entries.find nat_cmp (packed q) es) c.key.ensures.value ∙ sym (get-by_pair k c.key.ensures.below es)
+    ∙ ap (λ (t : Rows). get pair_cmp t.addresses k) c.self.view_is

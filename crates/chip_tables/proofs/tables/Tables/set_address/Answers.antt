@@ -17,9 +17,12 @@ insert-requires-clause-room c none =
     let k : Pair = (c.args.vid, c.args.mac) in
     let es = c.self.inside.addresses.entries in
     let absent : entries.find nat_cmp (packed k) es ≡ None = ap (λ (q : Pair). entries.find nat_cmp (packed q) es) (sym c.key.ensures.value) ∙ none in
-    let given : length (put pair_cmp c.args.self.now.addresses k c.in-Some.row) ≤ most_addresses = subst (λ (r : Option AddressRow). IfSome r (λ row. length (put pair_cmp c.args.self.now.addresses k row) ≤ most_addresses)) c.in-Some.is c.requires in
+    let given : length
+    (put pair_cmp c.args.self.now.addresses k c.in-Some.row) ≤ most_addresses =
+    subst (λ (r : Option AddressRow). IfSome r (λ row. length (put pair_cmp c.args.self.now.addresses k row) ≤ most_addresses)) c.in-Some.is c.requires in
     let same : length (put pair_cmp c.args.self.now.addresses k c.in-Some.row) ≡ length (entries.put nat_cmp (packed k) c.in-Some.row es) =
-    ap (λ (t : Rows). length (put pair_cmp t.addresses k c.in-Some.row)) (sym c.self.view_is) ∙ ap length (put-by_pair k c.key.ensures.below c.in-Some.row es) ∙ length-by_pair (entries.put nat_cmp (packed k) c.in-Some.row es) in
+    ap (λ (t : Rows). length (put pair_cmp t.addresses k c.in-Some.row)) (sym c.self.view_is) ∙ ap length (put-by_pair k c.key.ensures.below c.in-Some.row es)
+    ∙ length-by_pair (entries.put nat_cmp (packed k) c.in-Some.row es) in
     let more = length-new (packed k) c.in-Some.row es absent in
     omega (arith, c.self.invariant.0)
 

@@ -18,7 +18,9 @@ insert-requires-clause-room c none =
     let es = c.self.inside.groups.entries in
     let small = c.group_key.ensures.below in
     let absent : entries.find nat_cmp (number_of k) es ≡ None = ap (λ (q : GroupPair). entries.find nat_cmp (number_of q) es) (sym c.group_key.ensures.value) ∙ none in
-    let given : length (put group_pair_cmp c.args.self.now.groups k c.in-Some.row) ≤ max_pairs = subst (λ (r : Option FanRow). length (set_at group_pair_cmp c.args.self.now.groups k r) ≤ max_pairs) c.in-Some.is c.requires in
+    let given : length
+    (put group_pair_cmp c.args.self.now.groups k c.in-Some.row) ≤ max_pairs =
+    subst (λ (r : Option FanRow). length (set_at group_pair_cmp c.args.self.now.groups k r) ≤ max_pairs) c.in-Some.is c.requires in
     let same : length (put group_pair_cmp c.args.self.now.groups k c.in-Some.row) ≡ length (entries.put nat_cmp (number_of k) c.in-Some.row es) =
     ap (λ (t : Rows). length (put group_pair_cmp t.groups k c.in-Some.row)) (sym c.self.view_is)
     ∙ ap length (put-renamed group_pair_cmp pair_from k (number_of k) (group-order k small) (pair-back k small) c.in-Some.row es)
@@ -32,7 +34,8 @@ returns-in-Some-clause-row c =
     let es = c.self.inside.groups.entries in
     let small = c.group_key.ensures.below in
     ap (λ (t : Table FanRow). by_group t.entries) c.insert.ensures ∙ ap (λ (q : GroupPair). by_group (entries.put nat_cmp (number_of q) c.in-Some.row es)) c.group_key.ensures.value
-    ∙ sym (put-renamed group_pair_cmp pair_from k (number_of k) (group-order k small) (pair-back k small) c.in-Some.row es) ∙ ap (λ (t : Rows). put group_pair_cmp t.groups k c.in-Some.row) c.self.view_is
+    ∙ sym (put-renamed group_pair_cmp pair_from k (number_of k) (group-order k small) (pair-back k small) c.in-Some.row es)
+    ∙ ap (λ (t : Rows). put group_pair_cmp t.groups k c.in-Some.row) c.self.view_is
     ∙ ap (λ (r : Option FanRow). set_at group_pair_cmp c.args.self.now.groups k r) (sym c.in-Some.is)
 
 pub returns-in-None-clause-row : goal.returns-in-None-clause-row

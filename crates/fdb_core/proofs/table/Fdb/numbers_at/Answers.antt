@@ -23,4 +23,5 @@ pub returns-then-of-eq0-clause-value : goal.returns-then-of-eq0-clause-value
 returns-then-of-eq0-clause-value c =
     let es = c.self.inside.entries.entries in
     let zero_there : count_at c.args.port es ≡ 0 = (let all = c.self.invariant.counted.counted c.args.port in let one = c.of.ensures in omega arith) in
-    ap (λ (ns : List ℕ). map unpacked ns) (c.new-none.ensures.items ∙ sym (no_keys c.args.port es zero_there)) ∙ keys_where-by_address (is_at_port c.args.port) es ∙ ap (λ (t : Table). keys_where (is_at_port c.args.port) t.entries) c.self.view_is
+    ap (λ (ns : List ℕ). map unpacked ns) (c.new-none.ensures.items ∙ sym (no_keys c.args.port es zero_there)) ∙ keys_where-by_address (is_at_port c.args.port) es
+    ∙ ap (λ (t : Table). keys_where (is_at_port c.args.port) t.entries) c.self.view_is

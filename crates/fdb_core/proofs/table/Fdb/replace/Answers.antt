@@ -22,7 +22,8 @@ pub insert-requires-clause-room : goal.insert-requires-clause-room
 insert-requires-clause-room c none =
     let k : Key = (c.args.vid, c.args.mac) in
     let es = c.self.inside.entries.entries in
-    let found = c.requires.old ∙ sym (ap (λ (t : Table). get pair_cmp t.entries k) c.self.view_is) ∙ get-by_pair k c.pack-key.ensures.below es ∙ ap (λ q. entries.find nat_cmp q es) (sym c.pack-key.ensures.value) in
+    let found = c.requires.old ∙ sym (ap (λ (t : Table). get pair_cmp t.entries k) c.self.view_is) ∙ get-by_pair k c.pack-key.ensures.below es
+    ∙ ap (λ q. entries.find nat_cmp q es) (sym c.pack-key.ensures.value) in
     let long : length es ≡ length c.args.self.now.entries = sym (length-by_pair es) ∙ ap (λ (t : Table). length t.entries) c.self.view_is in
     let room : c.self.inside.entries.room ≡ c.args.self.now.room = ap (λ (t : Table). t.room) c.self.view_is in
     let h = c.requires.room (found ∙ none) in

@@ -15,7 +15,8 @@ returns-else-not-querier c =
     elim c.if-is_link_local.branch [
       | then-is_link_local w ↦ absurd (cc)
       | else-is_link_local w ↦
-          ap₂ ◌||◌ (sym c.is_link_local.ensures ∙ w.if-is_link_local.false) (ap not (ap (knows_querier t) (sym w.is_six.ensures) ∙ sym (w.querier.ensures.table t refl)) ∙ sym w.value-is ∙ c.if-not-querier.false)
+          ap₂ ◌||◌ (sym c.is_link_local.ensures ∙ w.if-is_link_local.false) (ap not (ap (knows_querier t) (sym w.is_six.ensures) ∙ sym (w.querier.ensures.table t refl)) ∙ sym w.value-is
+          ∙ c.if-not-querier.false)
     ] in
     set_of-append (members_of t c.args.vid c.args.group) t.routers c.members-members.result c.routers-routers.result c.or.result
     (set_of-set c.members-members.result c.members_ascend.ensures.ordered ∙ ap set_of (c.members-members.ensures.table t refl))

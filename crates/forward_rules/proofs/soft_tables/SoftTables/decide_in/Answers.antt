@@ -44,7 +44,8 @@ returns-clause-class c =
     let across : Bool = crosses c.args.d.now t c.args.p vid c.args.h.now in
     let trapped : c.if-reaches_host.is_trapped ≡ is_trapped_in c.args.d.now t c.args.p (Some vid) c.args.h.now c.args.m.now =
     elim c.if-reaches_host.branch [
-      | then-reaches_host w ↦ w.is_trapped-is ∙ w.if-reaches_host.true ∙ ap (λ b. b || across) (sym w.if-reaches_host.true ∙ by_us) ∙ or-assoc (t.snoop && is_snooped c.args.m.now) (reaches_host t c.args.p vid c.args.h.now) across
+      | then-reaches_host w ↦ w.is_trapped-is ∙ w.if-reaches_host.true ∙ ap (λ b. b || across) (sym w.if-reaches_host.true ∙ by_us)
+          ∙ or-assoc (t.snoop && is_snooped c.args.m.now) (reaches_host t c.args.p vid c.args.h.now) across
       | else-reaches_host w ↦
           w.is_trapped-is
           ∙ w.crosses-is_trapped.ensures.value
@@ -57,4 +58,5 @@ returns-clause-class c =
       | then-is_trapped w ↦ w.class-is ∙ sym (ap (λ b. cond b Trap (class_by c.args.d.now c.args.p c.and-ports.result)) w.if-is_trapped.true)
       | else-is_trapped w ↦ w.class-is ∙ w.class_by-class.ensures ∙ sym (ap (λ b. cond b Trap (class_by c.args.d.now c.args.p c.and-ports.result)) w.if-is_trapped.false)
     ] in
-    class-is c.args.d.now t c.args.p vid c.args.h.now c.args.m.now c.if-reaches_host.is_trapped c.and-ports.result c.if-is_trapped.class c.requires.other c.requires.admitted trapped (returns-clause-ports c) cls
+    class-is c.args.d.now t c.args.p vid c.args.h.now c.args.m.now c.if-reaches_host.is_trapped c.and-ports.result c.if-is_trapped.class c.requires.other c.requires.admitted trapped
+    (returns-clause-ports c) cls

@@ -13,5 +13,6 @@ returns-in_err-entry c =
 pub returns : goal.returns
 returns c =
     ap Some c.port_of.ensures
-    ∙ sym (known-some c.self.inside.ports c.self.inside.fdb.entries c.args.vid c.args.address c.in_ok-entry.entry (sym c.is_multicast.ensures ∙ c.if-is_multicast.false) (sym c.find.ensures ∙ c.in_ok-entry.was))
+    ∙ sym (known-some c.self.inside.ports c.self.inside.fdb.entries c.args.vid c.args.address c.in_ok-entry.entry (sym c.is_multicast.ensures ∙ c.if-is_multicast.false) (sym c.find.ensures
+    ∙ c.in_ok-entry.was))
     ∙ ap (λ (t : Table). known_port t c.args.vid c.args.address) c.self.view_is

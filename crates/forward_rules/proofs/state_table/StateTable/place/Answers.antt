@@ -13,8 +13,13 @@ invariant_of-self c =
     let within : c.from.result < length c.self.inside.by_port = omega arith in
     let low : c.args.port ≤ last_port = omega arith in
     record {
-      learn = placed-is (λ o. state_is o learning) c.self.inside.by_port c.from.result c.args.port c.args.state c.eq.result c.self.inside.learning c.place_in.new.set within port c.self.invariant.learn c.eq.ensures c.place_in.ensures;
-      forward = placed-is (λ o. state_is o forwarding) c.self.inside.by_port c.from.result c.args.port c.args.state c.eq-2.result c.self.inside.forwarding c.place_in-2.new.set within port c.self.invariant.forward c.eq-2.ensures c.place_in-2.ensures;
+      learn = placed-is
+          (λ o. state_is o learning) c.self.inside.by_port c.from.result c.args.port c.args.state c.eq.result c.self.inside.learning c.place_in.new.set within port c.self.invariant.learn
+          c.eq.ensures c.place_in.ensures;
+      forward =
+          placed-is
+          (λ o. state_is o forwarding) c.self.inside.by_port c.from.result c.args.port c.args.state c.eq-2.result c.self.inside.forwarding c.place_in-2.new.set within port
+          c.self.invariant.forward c.eq-2.ensures c.place_in-2.ensures;
       within = placed-within c.self.inside.forwarding c.place_in-2.new.set c.args.port c.eq-2.result c.self.invariant.within low c.place_in-2.ensures;
     }
 

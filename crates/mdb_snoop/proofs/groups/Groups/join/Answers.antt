@@ -31,5 +31,6 @@ invariant_of-self c = (
 pub returns : goal.returns
 returns c =
     ap keys c.join.ensures.members
-    ∙ keys-put membership_cmp (flat c.self.inside.sections.items) (c.args.v, c.args.g, c.args.p) (end_joined (get membership_cmp (flat c.self.inside.sections.items) (c.args.v, c.args.g, c.args.p)) None)
+    ∙ keys-put membership_cmp (flat c.self.inside.sections.items) (c.args.v, c.args.g, c.args.p)
+    (end_joined (get membership_cmp (flat c.self.inside.sections.items) (c.args.v, c.args.g, c.args.p)) None)
     ∙ ap (λ l. joined membership_cmp l (c.args.v, c.args.g, c.args.p)) c.self.view_is

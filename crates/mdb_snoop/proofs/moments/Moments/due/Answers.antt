@@ -20,7 +20,8 @@ loop-port-preserved c =
 pub returns-clause-value : goal.returns-clause-value
 returns-clause-value c =
     let moments = c.self.inside.moments in
-    let all = yielded_members c.self.inside.ports _ _ _ c.loop-port.yielded _ (c.into_iter-port-iterator.ensures.into_iter_gives ∙ c.iter-port-items.ensures.members) c.loop-port.yielded_by c.in-None.is c.next.ensures.steps in
+    let all = yielded_members c.self.inside.ports _ _ _ c.loop-port.yielded _ (c.into_iter-port-iterator.ensures.into_iter_gives
+    ∙ c.iter-port-items.ensures.members) c.loop-port.yielded_by c.in-None.is c.next.ensures.steps in
     c.loop-port.invariant
     ∙ ap (λ (l : List ℕ). numbers_below port_places (λ m. has_number l m && nat_le (slice_index moments m) c.args.now)) all
     ∙ due-is (slice_index moments) c.args.now c.self.inside.ports c.args.self.now c.members_ascend.ensures.ordered c.self.view_is
@@ -28,13 +29,15 @@ returns-clause-value c =
 pub returns-clause-members : goal.returns-clause-members
 returns-clause-members c =
     let moments = c.self.inside.moments in
-    let all = yielded_members c.self.inside.ports _ _ _ c.loop-port.yielded _ (c.into_iter-port-iterator.ensures.into_iter_gives ∙ c.iter-port-items.ensures.members) c.loop-port.yielded_by c.in-None.is c.next.ensures.steps in
+    let all = yielded_members c.self.inside.ports _ _ _ c.loop-port.yielded _ (c.into_iter-port-iterator.ensures.into_iter_gives
+    ∙ c.iter-port-items.ensures.members) c.loop-port.yielded_by c.in-None.is c.next.ensures.steps in
     due-has (slice_index moments) c.args.now c.self.inside.ports c.args.self.now c.loop-port.due c.members_ascend.ensures.ordered c.self.view_is
     (c.loop-port.invariant ∙ ap (λ (l : List ℕ). numbers_below port_places (λ m. has_number l m && nat_le (slice_index moments m) c.args.now)) all)
 
 pub returns-clause-ports : goal.returns-clause-ports
 returns-clause-ports c =
     let moments = c.self.inside.moments in
-    let all = yielded_members c.self.inside.ports _ _ _ c.loop-port.yielded _ (c.into_iter-port-iterator.ensures.into_iter_gives ∙ c.iter-port-items.ensures.members) c.loop-port.yielded_by c.in-None.is c.next.ensures.steps in
+    let all = yielded_members c.self.inside.ports _ _ _ c.loop-port.yielded _ (c.into_iter-port-iterator.ensures.into_iter_gives
+    ∙ c.iter-port-items.ensures.members) c.loop-port.yielded_by c.in-None.is c.next.ensures.steps in
     ArePorts-kept c.self.inside.ports c.loop-port.due (λ m. nat_le (slice_index moments m) c.args.now) c.self.invariant
     (c.loop-port.invariant ∙ ap (λ (l : List ℕ). numbers_below port_places (λ m. has_number l m && nat_le (slice_index moments m) c.args.now)) all)

@@ -80,7 +80,8 @@ returns-in-Some-clause-index g c =
     subst (λ (r : List ℕ). IsIndexed g.C.Cells.hash s.bits (key_in key_of None (set cells p None)) s.slots.items r) (sym c.remove.ensures.items)
     (leaves_list g.C.Cells.hash s.bits at s.slots.items s.rest.items c.requires.index (key_in key_of None (set cells p None)) k p (λ i ne. key-kept cells p None i ne)
     (λ z. c.requires.key (sym c.requires.here ∙ z)) c.requires.here (key-set cells p None c.requires.within)
-    c.in-Some.place (λ e. (let other : c.index.result.now ≢ p + 1 = λ z. absurd (omega arith) in other (sym read ∙ e))) (omega (arith, c.in-Some.ensures.some.0, ap length c.as_slice.ensures.value)) at_place)
+    c.in-Some.place (λ e. (let other : c.index.result.now ≢ p + 1 = λ z. absurd (omega arith) in other (sym read ∙ e)))
+    (omega (arith, c.in-Some.ensures.some.0, ap length c.as_slice.ensures.value)) at_place)
 
 pub returns-in-Some-clause-named : goal.returns-in-Some-clause-named
 returns-in-Some-clause-named g c =

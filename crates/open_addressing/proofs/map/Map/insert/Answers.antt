@@ -58,7 +58,8 @@ invariant_of-self-in-None g c =
     let room = roomy m.used m.room cells sound.cells c.args.self.now c.self.view_is k c.requires.key (λ i _. none i) c.requires.room in
     let uses = c.take.ensures.uses (key_in key_of None cells) m.used m.room sound.spare room in
     let r = sound-new g.C.Cells.hash m.index.bits m.index.slots.items m.index.rest.items m.spare.fresh m.spare.free.items m.used m.room cells sound
-    c.take.result k c.args.value (g.C.Cells.cells c.put-in-None.new.self) c.enter.new.self.bits c.enter.new.self.slots.items c.enter.new.self.rest.items c.take.new.self.fresh c.take.new.self.free.items
+    c.take.result k c.args.value
+    (g.C.Cells.cells c.put-in-None.new.self) c.enter.new.self.bits c.enter.new.self.slots.items c.enter.new.self.rest.items c.take.new.self.fresh c.take.new.self.free.items
     uses c.requires.key none room c.put-in-None.ensures c.enter.ensures.index c.enter.ensures.named in
     (r.0, omega (arith, c.self.invariant.1, c.enter.ensures.room), omega (arith, c.self.invariant.2, c.take.ensures.room))
 

@@ -12,7 +12,8 @@ returns-in_err-i-clause-value g c =
     let m = c.self.inside in
     let cells = g.C.Cells.cells m.cells in
     let k : ℕ = g.C.Cells.number c.args.key.now in
-    c.from_residual.ensures ∙ sym (find-entries_of cells k c.requires ∙ value-absent cells k (λ i _. c.in_err-i.ensures.absent refl i)) ∙ ap (λ (t : Table g.row.V.Denot). find nat_cmp k t.entries) c.self.view_is
+    c.from_residual.ensures ∙ sym (find-entries_of cells k c.requires ∙ value-absent cells k (λ i _. c.in_err-i.ensures.absent refl i))
+    ∙ ap (λ (t : Table g.row.V.Denot). find nat_cmp k t.entries) c.self.view_is
 
 pub returns-in_err-i-clause-rest : goal.returns-in_err-i-clause-rest
 returns-in_err-i-clause-rest g c =

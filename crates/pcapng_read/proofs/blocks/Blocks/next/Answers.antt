@@ -17,14 +17,16 @@ returns-in_err-said c =
     let i = c.loop-self.self-inside in
     let err = err_from_is_err_and c.from_residual.result c.from_residual.ensures.1 in
     rw (err.1, err.2)
-    (tells_fault i.ports i.links.items i.at i.order i.rest.now _ c.says.new.links.items _ (some_left _ c.loop-self-test.ensures) (sym c.in-Ok.ensures.told) c.loop-self.invariant.0 _ c.in_err-said.ensures.told)
+    (tells_fault i.ports i.links.items i.at i.order i.rest.now _ c.says.new.links.items _ (some_left _ c.loop-self-test.ensures)
+    (sym c.in-Ok.ensures.told) c.loop-self.invariant.0 _ c.in_err-said.ensures.told)
 
 pub returns-then-is_some : goal.returns-then-is_some
 returns-then-is_some c =
     let i = c.loop-self.self-inside in
     let P : Block → Type 0 = λ b. TellsNext c.args.self.now (Ok c.in_ok-said.said) (behind i.ports c.says.new.links.items i.at b i.rest.now) in
     subst P (sym c.block.view_is)
-    (tells_packet i.ports i.links.items i.at i.order i.rest.now c.in-Ok.block c.says.new.links.items _ (some_left _ c.loop-self-test.ensures) (sym c.in-Ok.ensures.told) c.loop-self.invariant.0 c.in_ok-said.said c.in-Ok.ensures.fits c.in_ok-said.ensures.told c.if-is_some.ensures)
+    (tells_packet i.ports i.links.items i.at i.order i.rest.now c.in-Ok.block c.says.new.links.items _ (some_left _ c.loop-self-test.ensures)
+    (sym c.in-Ok.ensures.told) c.loop-self.invariant.0 c.in_ok-said.said c.in-Ok.ensures.fits c.in_ok-said.ensures.told c.if-is_some.ensures)
 
 pub loop-self-preserved : goal.loop-self-preserved
 loop-self-preserved c =
@@ -32,7 +34,8 @@ loop-self-preserved c =
     let told = c.in_ok-said.ensures in
     let P : Block → Type 0 = λ b. (behind i.ports c.says.new.links.items i.at b i.rest.now ≡ c.args.self.now) × (total b ≤ length i.rest.now) in
     let kept = subst P (sym c.block.view_is) (
-      tells_nothing i.ports i.links.items i.at i.order i.rest.now c.in-Ok.block c.says.new.links.items _ (some_left _ c.loop-self-test.ensures) (sym c.in-Ok.ensures.told) c.loop-self.invariant.0 c.in_ok-said.said c.in-Ok.ensures.fits told.told c.if-is_some.ensures,
+      tells_nothing i.ports i.links.items i.at i.order i.rest.now c.in-Ok.block c.says.new.links.items _ (some_left _ c.loop-self-test.ensures)
+          (sym c.in-Ok.ensures.told) c.loop-self.invariant.0 c.in_ok-said.said c.in-Ok.ensures.fits told.told c.if-is_some.ensures,
       c.in-Ok.ensures.fits,
     ) in
     (kept.0, told.within, place_within i.at (length c.block.inside.body.now + 12) _ i.rest.now kept.1 c.loop-self.invariant.2)

@@ -83,7 +83,9 @@ module _ (c : goal.After-self-1) where
   said = ap (λ (b : List ℕ). message b c.args.head.now) c.as_slice-bytes.ensures
 
   passed : IsPass c.self.inside.sides.setup.domains decides c.args.p c.args.head.now (message c.args.b c.args.head.now) c.pass-pass.result
-  passed = subst (λ (m : McastMsg). IsPass c.self.inside.sides.setup.domains decides c.args.p c.args.head.now m c.pass-pass.result) (c.classify-message.ensures.value ∙ said) (c.pass-pass.ensures found.0 found.1)
+  passed =
+      subst (λ (m : McastMsg). IsPass c.self.inside.sides.setup.domains decides c.args.p c.args.head.now m c.pass-pass.result) (c.classify-message.ensures.value ∙ said)
+      (c.pass-pass.ensures found.0 found.1)
 
   all-lines : c.tell.new.lines.lines ≡ c.args.lines.now.lines ++ ((decision ∷ leaves) ++ arrival_lines c.self.inside.frames.next goes)
   all-lines = c.tell.ensures.lines
@@ -117,5 +119,6 @@ returns-clause-step c = record {
 pub returns-clause-pass : goal.returns-clause-pass
 returns-clause-pass c x at =
     subst (λ (p : PlaneState). IsPass p.world.setup.domains (table_of_chip p.world x) c.args.p c.args.head.now (message c.args.b c.args.head.now) c.pass-pass.result) c.self.view_is
-    (subst (λ (m : McastMsg). IsPass c.self.inside.sides.setup.domains (chip_table c.self.inside.sides.setup.domains.edition c.self.inside.sides.history x) c.args.p c.args.head.now m c.pass-pass.result) (c.classify-message.ensures.value ∙ said c)
+    (subst (λ (m : McastMsg). IsPass c.self.inside.sides.setup.domains
+    (chip_table c.self.inside.sides.setup.domains.edition c.self.inside.sides.history x) c.args.p c.args.head.now m c.pass-pass.result) (c.classify-message.ensures.value ∙ said c)
     (c.pass-pass.ensures x (ap (λ (p : PlaneState). chip_at p.world c.args.d) c.self.view_is ∙ at)))

@@ -7,4 +7,5 @@ use Rattle.plane_core.proofs.plane.Plane.first_report.Goals as goal
 
 pub first_report-requires : goal.first_report-requires
 first_report-requires c =
-    chip_there (world_of c.self.inside.sides c.self.inside.frames c.self.inside.steps) c.args.dom c.self.invariant (ap (λ (p : PlaneState). has_chip p.world.setup.domains c.args.dom) c.self.view_is ∙ c.requires)
+    chip_there (world_of c.self.inside.sides c.self.inside.frames c.self.inside.steps) c.args.dom c.self.invariant
+    (ap (λ (p : PlaneState). has_chip p.world.setup.domains c.args.dom) c.self.view_is ∙ c.requires)

@@ -47,7 +47,8 @@ module _ (c : goal.After-drop-held) where
 
 pub invariant_of-self : goal.invariant_of-self
 invariant_of-self c =
-    stands_after c.self.inside.sides c.post.new.self c.self.inside.frames c.release-holding.new.self c.self.inside.steps c.in-Ok.step (Post c.args.held.id (Some c.args.seen.point)) c.in-Ok-post.ensures.ok.lines
+    stands_after c.self.inside.sides c.post.new.self c.self.inside.frames c.release-holding.new.self c.self.inside.steps c.in-Ok.step
+    (Post c.args.held.id (Some c.args.seen.point)) c.in-Ok-post.ensures.ok.lines
     c.in-Ok.ensures (does_so c) c.self.invariant
 
 pub returns-in-Ok-post-clause-posted : goal.returns-in-Ok-post-clause-posted

@@ -8,7 +8,8 @@ pub invariant_of-self-2 : goal.invariant_of-self-2
 invariant_of-self-2 g c =
     let q = c.self.inside.frames in
     let m = c.in_ok-step.step in
-    stands_after c.self.inside.sides c.publish.new.self q q c.self.inside.steps m Publish _ c.in_ok-step.ensures (publishes_all c.self.inside.sides c.publish.new.self q m (c.in_ok-publish.ensures.ok q m)) c.self.invariant
+    stands_after c.self.inside.sides c.publish.new.self q q c.self.inside.steps m Publish _ c.in_ok-step.ensures
+    (publishes_all c.self.inside.sides c.publish.new.self q m (c.in_ok-publish.ensures.ok q m)) c.self.invariant
 
 pub returns-clause-ok : goal.returns-clause-ok
 returns-clause-ok g c =

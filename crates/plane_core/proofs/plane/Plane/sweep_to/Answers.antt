@@ -9,7 +9,8 @@ use Rattle.plane_core.proofs.plane.Plane.sweep_to.Goals as goal
 
 pub sweep-requires : goal.sweep-requires
 sweep-requires c =
-    chip_there (world_of c.self.inside.sides c.self.inside.frames c.self.inside.steps) c.args.dom c.self.invariant (ap (λ (p : PlaneState). has_chip p.world.setup.domains c.args.dom) c.self.view_is ∙ c.requires)
+    chip_there (world_of c.self.inside.sides c.self.inside.frames c.self.inside.steps) c.args.dom c.self.invariant
+    (ap (λ (p : PlaneState). has_chip p.world.setup.domains c.args.dom) c.self.view_is ∙ c.requires)
 
 pub invariant_of-self-2 : goal.invariant_of-self-2
 invariant_of-self-2 c =

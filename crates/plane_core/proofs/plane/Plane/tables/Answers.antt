@@ -9,7 +9,8 @@ use Rattle.plane_core.proofs.plane.Plane.tables.Goals as goal
 
 pub tables-requires : goal.tables-requires
 tables-requires c =
-    chip_there (world_of c.self.inside.sides c.self.inside.frames c.self.inside.steps) c.args.dom c.self.invariant (ap (λ (p : PlaneState). has_chip p.world.setup.domains c.args.dom) c.self.view_is ∙ c.requires)
+    chip_there (world_of c.self.inside.sides c.self.inside.frames c.self.inside.steps) c.args.dom c.self.invariant
+    (ap (λ (p : PlaneState). has_chip p.world.setup.domains c.args.dom) c.self.view_is ∙ c.requires)
 
 pub returns : goal.returns
 returns c x is =

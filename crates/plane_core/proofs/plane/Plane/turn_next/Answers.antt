@@ -24,7 +24,8 @@ returns-in_default-clause-ok c =
     let x = some_is (chip_in s.chips c.args.dom) (there c.args.self.now s q n c.args.dom c.self.view_is c.self.invariant c.requires) in
     record {
       lines = Refused m NothingPending ∷ [];
-      so = steps_so c.args.self.now s s q q n m (Turn c.args.dom) _ _ c.self.view_is c.in_ok-step.ensures (turns_none s q c.args.dom m x.0 x.1 (sym (c.next_update.ensures x.0 x.1) ∙ c.in_default.is)) refl refl;
+      so = steps_so c.args.self.now s s q q n m (Turn c.args.dom) _ _ c.self.view_is c.in_ok-step.ensures
+          (turns_none s q c.args.dom m x.0 x.1 (sym (c.next_update.ensures x.0 x.1) ∙ c.in_default.is)) refl refl;
       added = c.in_ok-push.ensures.ok;
     }
 

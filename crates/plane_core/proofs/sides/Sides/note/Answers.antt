@@ -52,8 +52,11 @@ returns-clause-ok c =
     on_ok_weaker c.note.result (λ is x at.
     changed c.self.inside.bridge c.self.inside.chips c.self.inside.updates c.self.inside.board c.self.invariant c.place-place.result (old c) (new c) c.at_mut.ensures.value
     c.args.self.now c.args.d x (notes c) c.self.view_is c.place-place.ensures at (noted c is).0 (ap (λ (s : ChipState). s.chip) is)
-    ∙ ap₂ (λ (hit report : Option Address). record c.args.self.now { chips = put_chip c.args.self.now.chips (hits_entry hit (offers c.args.port report x)) }) c.hit.ensures c.report.ensures) c.note.ensures.ok
+    ∙ ap₂ (λ (hit report : Option Address). record c.args.self.now { chips = put_chip c.args.self.now.chips (hits_entry hit (offers c.args.port report x)) }) c.hit.ensures c.report.ensures)
+    c.note.ensures.ok
 
 pub returns-clause-err : goal.returns-clause-err
 returns-clause-err c =
-    on_err_weaker c.note.result (unchanged c.self.inside.bridge c.self.inside.chips c.self.inside.updates c.self.inside.board c.self.invariant c.place-place.result (old c) (new c) c.at_mut.ensures.value c.args.self.now c.self.view_is) c.note.ensures.err
+    on_err_weaker c.note.result
+    (unchanged c.self.inside.bridge c.self.inside.chips c.self.inside.updates c.self.inside.board c.self.invariant c.place-place.result (old c)
+    (new c) c.at_mut.ensures.value c.args.self.now c.self.view_is) c.note.ensures.err

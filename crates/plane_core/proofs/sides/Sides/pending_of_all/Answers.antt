@@ -9,7 +9,8 @@ use Rattle.plane_core.proofs.Changing.{counted}
 use Rattle.plane_core.proofs.sides.Sides.pending_of_all.Goals as goal
 
 pub pending-requires-clause-applied : goal.pending-requires-clause-applied
-pending-requires-clause-applied c k d within = omega (arith, c.len.ensures.value, counted c.self.inside.bridge c.self.inside.updates c.self.invariant.places, (c.self.invariant.follows.each k d within).applied)
+pending-requires-clause-applied c k d within =
+    omega (arith, c.len.ensures.value, counted c.self.inside.bridge c.self.inside.updates c.self.invariant.places, (c.self.invariant.follows.each k d within).applied)
 
 pub returns : goal.returns
 returns c =

@@ -20,10 +20,12 @@ left x = record x { reports = drop 1 x.reports }
 
 pub invariant_of-self : goal.invariant_of-self
 invariant_of-self c =
-    sides_told c.self.inside.bridge c.self.inside.chips c.self.inside.updates c.self.inside.board c.self.invariant c.place-place.result c.at_mut.result.now c.drop_report.new.self c.at_mut.ensures.value
+    sides_told c.self.inside.bridge c.self.inside.chips c.self.inside.updates c.self.inside.board c.self.invariant c.place-place.result c.at_mut.result.now c.drop_report.new.self
+    c.at_mut.ensures.value
     left (λ x. (refl, refl)) c.drop_report.ensures
 
 pub returns-clause-reacted : goal.returns-clause-reacted
 returns-clause-reacted c x at =
-    reacted_told c.self.inside.bridge c.self.inside.chips c.self.inside.updates c.self.inside.board c.self.invariant c.place-place.result c.at_mut.result.now c.drop_report.new.self c.at_mut.ensures.value
+    reacted_told c.self.inside.bridge c.self.inside.chips c.self.inside.updates c.self.inside.board c.self.invariant c.place-place.result c.at_mut.result.now c.drop_report.new.self
+    c.at_mut.ensures.value
     left (λ y. (refl, refl)) c.drop_report.ensures c.args.self.now c.react.new.self c.args.d x _ _ _ _ c.in_ok-changes.ensures.reacted c.self.view_is c.place-place.ensures at

@@ -25,5 +25,6 @@ invariant_of-self c =
 
 pub returns-clause-reacted : goal.returns-clause-reacted
 returns-clause-reacted c x at =
-    reacted_told c.self.inside.bridge c.self.inside.chips c.self.inside.updates c.self.inside.board c.self.invariant c.place-place.result c.at_mut.result.now c.clear_hits.new.self c.at_mut.ensures.value
+    reacted_told c.self.inside.bridge c.self.inside.chips c.self.inside.updates c.self.inside.board c.self.invariant c.place-place.result c.at_mut.result.now c.clear_hits.new.self
+    c.at_mut.ensures.value
     left (λ y. (refl, refl)) c.clear_hits.ensures c.args.self.now c.react.new.self c.args.d x _ _ _ _ c.in_ok-changes.ensures.reacted c.self.view_is c.place-place.ensures at

@@ -38,21 +38,24 @@ pub returns-in_err-last_line-clause-err : goal.returns-in_err-last_line-clause-e
 returns-in_err-last_line-clause-err c =
     let x = c.at.result.now in
     let here = found_at c.self.inside.chips c.args.self.now.chips c.args.d x (ap (λ (t : SidesState). t.chips) c.self.view_is) c.at.ensures in
-    let back = not_ended of_sides c.args.self.now c.react_to_sweep-outcome.new.self _ _ _ c.args.step c.react_to_sweep-outcome.result c.last_line.result _ _ (c.react_to_sweep-outcome.ensures.reacted x.chip here) c.last_line.ensures.lasts c.in_err-last_line.was in
+    let back = not_ended of_sides c.args.self.now c.react_to_sweep-outcome.new.self _ _ _ c.args.step c.react_to_sweep-outcome.result c.last_line.result _ _
+    (c.react_to_sweep-outcome.ensures.reacted x.chip here) c.last_line.ensures.lasts c.in_err-last_line.was in
     OnErr_from c.from_residual-in_err-last_line.result back.0
 
 pub returns-in_err-last_line-clause-lines : goal.returns-in_err-last_line-clause-lines
 returns-in_err-last_line-clause-lines c =
     let x = c.at.result.now in
     let here = found_at c.self.inside.chips c.args.self.now.chips c.args.d x (ap (λ (t : SidesState). t.chips) c.self.view_is) c.at.ensures in
-    let back = not_ended of_sides c.args.self.now c.react_to_sweep-outcome.new.self _ _ _ c.args.step c.react_to_sweep-outcome.result c.last_line.result _ _ (c.react_to_sweep-outcome.ensures.reacted x.chip here) c.last_line.ensures.lasts c.in_err-last_line.was in
+    let back = not_ended of_sides c.args.self.now c.react_to_sweep-outcome.new.self _ _ _ c.args.step c.react_to_sweep-outcome.result c.last_line.result _ _
+    (c.react_to_sweep-outcome.ensures.reacted x.chip here) c.last_line.ensures.lasts c.in_err-last_line.was in
     OnErr_from c.from_residual-in_err-last_line.result (back.1 ∙ c.in_ok-reserve.ensures.lines)
 
 pub returns-in_err-last_line-clause-over : goal.returns-in_err-last_line-clause-over
 returns-in_err-last_line-clause-over c =
     let x = c.at.result.now in
     let here = found_at c.self.inside.chips c.args.self.now.chips c.args.d x (ap (λ (t : SidesState). t.chips) c.self.view_is) c.at.ensures in
-    let back = not_ended of_sides c.args.self.now c.react_to_sweep-outcome.new.self _ _ _ c.args.step c.react_to_sweep-outcome.result c.last_line.result _ _ (c.react_to_sweep-outcome.ensures.reacted x.chip here) c.last_line.ensures.lasts c.in_err-last_line.was in
+    let back = not_ended of_sides c.args.self.now c.react_to_sweep-outcome.new.self _ _ _ c.args.step c.react_to_sweep-outcome.result c.last_line.result _ _
+    (c.react_to_sweep-outcome.ensures.reacted x.chip here) c.last_line.ensures.lasts c.in_err-last_line.was in
     ap (λ (s : SidesState). s.board) back.0
 
 pub returns-clause-over : goal.returns-clause-over

@@ -26,15 +26,18 @@ turn-requires-clause-taken c =
     let e = b.setup.domains.edition in
     let old = c.at_mut.result.now in
     let was = chip_here b c.self.inside.chips c.self.inside.updates c.self.inside.board c.self.invariant c.place-place.result old old c.at_mut.ensures.value in
-    let next = next_here b c.self.inside.chips c.self.inside.updates c.self.inside.board c.self.invariant c.place-place.result old old c.at_mut.ensures.value c.args.self.now c.args.d c.args.update.now c.self.view_is c.place-place.ensures c.requires.next in
-    taken_next e b.setup.domains old.driver b.history old.chip.count c.args.update.now.change was.rows c.history-history.ensures.within (updates-named e b.history old.chip.count c.args.update.now next).1
+    let next = next_here b c.self.inside.chips c.self.inside.updates c.self.inside.board c.self.invariant c.place-place.result old old c.at_mut.ensures.value c.args.self.now c.args.d
+    c.args.update.now c.self.view_is c.place-place.ensures c.requires.next in
+    taken_next e b.setup.domains old.driver b.history old.chip.count c.args.update.now.change was.rows c.history-history.ensures.within
+    (updates-named e b.history old.chip.count c.args.update.now next).1
 
 pub turn-requires-clause-queued : goal.turn-requires-clause-queued
 turn-requires-clause-queued c =
     let b = c.self.inside.bridge in
     let e = b.setup.domains.edition in
     let old = c.at_mut.result.now in
-    let next = next_here b c.self.inside.chips c.self.inside.updates c.self.inside.board c.self.invariant c.place-place.result old old c.at_mut.ensures.value c.args.self.now c.args.d c.args.update.now c.self.view_is c.place-place.ensures c.requires.next in
+    let next = next_here b c.self.inside.chips c.self.inside.updates c.self.inside.board c.self.invariant c.place-place.result old old c.at_mut.ensures.value c.args.self.now c.args.d
+    c.args.update.now c.self.view_is c.place-place.ensures c.requires.next in
     queued_next e b.history old.chip.count c.args.update.now.change (updates-named e b.history old.chip.count c.args.update.now next).1
 
 pub turn-requires-clause-count : goal.turn-requires-clause-count
@@ -42,7 +45,8 @@ turn-requires-clause-count c =
     let b = c.self.inside.bridge in
     let e = b.setup.domains.edition in
     let old = c.at_mut.result.now in
-    let next = next_here b c.self.inside.chips c.self.inside.updates c.self.inside.board c.self.invariant c.place-place.result old old c.at_mut.ensures.value c.args.self.now c.args.d c.args.update.now c.self.view_is c.place-place.ensures c.requires.next in
+    let next = next_here b c.self.inside.chips c.self.inside.updates c.self.inside.board c.self.invariant c.place-place.result old old c.at_mut.ensures.value c.args.self.now c.args.d
+    c.args.update.now c.self.view_is c.place-place.ensures c.requires.next in
     count_below e b.history old.chip.count c.args.update.now.change c.history-history.ensures.within (updates-named e b.history old.chip.count c.args.update.now next).1
 
 module _ (c : goal.After-self-1) where
@@ -77,15 +81,19 @@ module _ (c : goal.After-self-1) where
 
 pub invariant_of-self : goal.invariant_of-self
 invariant_of-self c =
-    let kept : IsKept c = on_either c.turn.result (both_ok _ _ c.turn.result c.turn.ensures.ok (both_ok _ _ c.turn.result c.turn.ensures.rows c.turn.ensures.dom)) c.turn.ensures.err (turned c) (back c) in
+    let kept : IsKept c = on_either c.turn.result (both_ok _ _ c.turn.result c.turn.ensures.ok (both_ok _ _ c.turn.result c.turn.ensures.rows c.turn.ensures.dom)) c.turn.ensures.err (turned c)
+    (back c) in
     sides_with c.self.inside.bridge c.self.inside.chips c.self.inside.updates c.self.inside.board c.self.invariant c.place-place.result (old c) (new c) c.at_mut.ensures.value kept.0 kept.1
 
 pub returns-clause-ok : goal.returns-clause-ok
 returns-clause-ok c =
     on_ok_weaker c.turn.result (λ is x at.
     changed c.self.inside.bridge c.self.inside.chips c.self.inside.updates c.self.inside.board c.self.invariant c.place-place.result (old c) (new c) c.at_mut.ensures.value
-    c.args.self.now c.args.d x (λ (y : Chip). applies y c.args.update.now.change) c.self.view_is c.place-place.ensures at (turned_dom (old c).chip (new c).chip c.args.update.now.change is) is) c.turn.ensures.ok
+    c.args.self.now c.args.d x (λ (y : Chip). applies y c.args.update.now.change) c.self.view_is c.place-place.ensures at (turned_dom (old c).chip (new c).chip c.args.update.now.change is) is)
+    c.turn.ensures.ok
 
 pub returns-clause-err : goal.returns-clause-err
 returns-clause-err c =
-    on_err_weaker c.turn.result (unchanged c.self.inside.bridge c.self.inside.chips c.self.inside.updates c.self.inside.board c.self.invariant c.place-place.result (old c) (new c) c.at_mut.ensures.value c.args.self.now c.self.view_is) c.turn.ensures.err
+    on_err_weaker c.turn.result
+    (unchanged c.self.inside.bridge c.self.inside.chips c.self.inside.updates c.self.inside.board c.self.invariant c.place-place.result (old c)
+    (new c) c.at_mut.ensures.value c.args.self.now c.self.view_is) c.turn.ensures.err

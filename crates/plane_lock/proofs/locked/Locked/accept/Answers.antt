@@ -5,14 +5,21 @@ use Rattle.plane_lock.proofs.Settling.{acts, counted, may-settle, settled-either
 use Rattle.plane_lock.proofs.locked.Locked.accept.Goals as goal
 
 pub settle-requires : goal.settle-requires
-settle-requires g c = may-settle c.self.inside.ran (event_step c.args.e.now) c.accept.new.self c.self.inside.posters.items (length c.history-changes.result.now) c.in_ok-lines.ensures.ok c.self.invariant.2 (counted c.self.inside.ran c.plane.result.now c.history-changes.result.now (length c.history-changes.result.now) refl c.history-changes.ensures c.plane.ensures)
+settle-requires g c =
+    may-settle c.self.inside.ran (event_step c.args.e.now) c.accept.new.self c.self.inside.posters.items (length c.history-changes.result.now) c.in_ok-lines.ensures.ok c.self.invariant.2
+    (counted c.self.inside.ran c.plane.result.now c.history-changes.result.now (length c.history-changes.result.now) refl c.history-changes.ensures c.plane.ensures)
 
 pub invariant_of-self-2 : goal.invariant_of-self-2
 invariant_of-self-2 g c =
-    settles c.self.inside.ran c.accept.new.self c.settle.new.ran (event_step c.args.e.now) (length c.history-changes.result.now) g.N.Name.board g.N.Name.own c.self.inside.posters.items c.settle.new.posters.items c.in_ok-lines.ensures.ok
-    (settled-either c.settle.result c.accept.new.self c.settle.new.ran (length c.history-changes.result.now) c.in_ok-lines.lines c.settle.ensures.done c.settle.ensures.undone) c.settle.ensures.posted c.settle.ensures.ends c.self.invariant
+    settles c.self.inside.ran c.accept.new.self c.settle.new.ran (event_step c.args.e.now)
+    (length c.history-changes.result.now) g.N.Name.board g.N.Name.own c.self.inside.posters.items c.settle.new.posters.items c.in_ok-lines.ensures.ok
+    (settled-either c.settle.result c.accept.new.self c.settle.new.ran (length c.history-changes.result.now) c.in_ok-lines.lines c.settle.ensures.done c.settle.ensures.undone)
+    c.settle.ensures.posted c.settle.ensures.ends c.self.invariant
 
 pub returns : goal.returns
 returns g c =
     subst (λ (p : Past). Acted p c.settle.new.ran (event_step c.args.e.now) c.settle.result) c.self.view_is
-    (acts c.settle.result c.self.inside.ran c.accept.new.self c.settle.new.ran (event_step c.args.e.now) (length c.history-changes.result.now) c.in_ok-lines.lines c.in_ok-lines.ensures.ok c.in_ok-lines.ensures.lines (counted c.self.inside.ran c.plane.result.now c.history-changes.result.now (length c.history-changes.result.now) refl c.history-changes.ensures c.plane.ensures) c.settle.ensures.done c.settle.ensures.said c.settle.ensures.undone)
+    (acts c.settle.result c.self.inside.ran c.accept.new.self c.settle.new.ran (event_step c.args.e.now)
+    (length c.history-changes.result.now) c.in_ok-lines.lines c.in_ok-lines.ensures.ok c.in_ok-lines.ensures.lines
+    (counted c.self.inside.ran c.plane.result.now c.history-changes.result.now (length c.history-changes.result.now) refl c.history-changes.ensures c.plane.ensures) c.settle.ensures.done
+    c.settle.ensures.said c.settle.ensures.undone)

@@ -15,4 +15,5 @@ invariant_of-self-2 g c =
 
 pub returns-clause-floor : goal.returns-clause-floor
 returns-clause-floor g c =
-    floors c.open_frame.result c.tell.new.self c.tell.new.s.object (subst (λ (p : Past). Begins c.tell.new.s.object (published_in (world_of p))) (sym c.tell.ensures.same) c.tell.ensures.told) c.open_frame.ensures.held
+    floors c.open_frame.result c.tell.new.self c.tell.new.s.object
+    (subst (λ (p : Past). Begins c.tell.new.s.object (published_in (world_of p))) (sym c.tell.ensures.same) c.tell.ensures.told) c.open_frame.ensures.held

@@ -11,14 +11,21 @@ pub sweep-requires : goal.sweep-requires
 sweep-requires g c = ap (λ (s : Setup). has_chip s.domains c.args.d) c.self.invariant.1 ∙ c.requires
 
 pub settle-requires : goal.settle-requires
-settle-requires g c = may-settle c.self.inside.ran (Sweep c.args.d) c.sweep.new.self c.self.inside.posters.items (length c.history-changes.result.now) c.in_ok-lines.ensures.ok c.self.invariant.2 (counted c.self.inside.ran c.plane.result.now c.history-changes.result.now (length c.history-changes.result.now) refl c.history-changes.ensures c.plane.ensures)
+settle-requires g c =
+    may-settle c.self.inside.ran (Sweep c.args.d) c.sweep.new.self c.self.inside.posters.items (length c.history-changes.result.now) c.in_ok-lines.ensures.ok c.self.invariant.2
+    (counted c.self.inside.ran c.plane.result.now c.history-changes.result.now (length c.history-changes.result.now) refl c.history-changes.ensures c.plane.ensures)
 
 pub invariant_of-self-2 : goal.invariant_of-self-2
 invariant_of-self-2 g c =
-    settles c.self.inside.ran c.sweep.new.self c.settle.new.ran (Sweep c.args.d) (length c.history-changes.result.now) g.N.Name.board g.N.Name.own c.self.inside.posters.items c.settle.new.posters.items c.in_ok-lines.ensures.ok
-    (settled-either c.settle.result c.sweep.new.self c.settle.new.ran (length c.history-changes.result.now) c.in_ok-lines.lines c.settle.ensures.done c.settle.ensures.undone) c.settle.ensures.posted c.settle.ensures.ends c.self.invariant
+    settles c.self.inside.ran c.sweep.new.self c.settle.new.ran (Sweep c.args.d)
+    (length c.history-changes.result.now) g.N.Name.board g.N.Name.own c.self.inside.posters.items c.settle.new.posters.items c.in_ok-lines.ensures.ok
+    (settled-either c.settle.result c.sweep.new.self c.settle.new.ran (length c.history-changes.result.now) c.in_ok-lines.lines c.settle.ensures.done c.settle.ensures.undone)
+    c.settle.ensures.posted c.settle.ensures.ends c.self.invariant
 
 pub returns : goal.returns
 returns g c =
     subst (λ (p : Past). Acted p c.settle.new.ran (Sweep c.args.d) c.settle.result) c.self.view_is
-    (acts c.settle.result c.self.inside.ran c.sweep.new.self c.settle.new.ran (Sweep c.args.d) (length c.history-changes.result.now) c.in_ok-lines.lines c.in_ok-lines.ensures.ok c.in_ok-lines.ensures.lines (counted c.self.inside.ran c.plane.result.now c.history-changes.result.now (length c.history-changes.result.now) refl c.history-changes.ensures c.plane.ensures) c.settle.ensures.done c.settle.ensures.said c.settle.ensures.undone)
+    (acts c.settle.result c.self.inside.ran c.sweep.new.self c.settle.new.ran (Sweep c.args.d)
+    (length c.history-changes.result.now) c.in_ok-lines.lines c.in_ok-lines.ensures.ok c.in_ok-lines.ensures.lines
+    (counted c.self.inside.ran c.plane.result.now c.history-changes.result.now (length c.history-changes.result.now) refl c.history-changes.ensures c.plane.ensures) c.settle.ensures.done
+    c.settle.ensures.said c.settle.ensures.undone)

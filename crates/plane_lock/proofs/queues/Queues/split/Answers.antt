@@ -13,7 +13,8 @@ pushed f h xs x ys zs y is more same =
 
 pub loop-queue-preserved : goal.loop-queue-preserved
 loop-queue-preserved c =
-    let posters = sym (map-id c.push.new.self.items) ∙ pushed (λ (q : Queue). q.poster) (λ x. x) c.loop-queue.yielded c.in-Some.queue c.loop-queue.posters.items c.push.new.self.items c.in-Some.queue.poster
+    let posters = sym (map-id c.push.new.self.items)
+    ∙ pushed (λ (q : Queue). q.poster) (λ x. x) c.loop-queue.yielded c.in-Some.queue c.loop-queue.posters.items c.push.new.self.items c.in-Some.queue.poster
     (map-id c.loop-queue.posters.items ∙ c.loop-queue.invariant.0) c.in_ok-push.ensures.items refl in
     let drivers = pushed (λ (q : Queue). q.dom) (λ (d : Driver). d.dom) c.loop-queue.yielded c.in-Some.queue c.loop-queue.drivers.items c.push-in-loop-queue.new.self.items _ c.loop-queue.invariant.1
     c.in_ok-push-2.ensures.items refl in (posters, drivers)
@@ -21,7 +22,9 @@ loop-queue-preserved c =
 all : (c : goal.After-drop-queue-iterator-2) → c.loop-queue.yielded ≡ c.args.self
 all c =
     let gives = c.into_iter-queue-iterator.ensures.into_iter_gives in
-    let end = YieldsList-end (YieldsList-from_vec {s = c.into_iter-queue-iterator.result} _ gives.0 (gives.1 ∙ c.self.inside.queues.ok.0)) c.loop-queue.yielded c.loop-queue.queue-iterator c.loop-queue.yielded_by c.next.result c.next.new.self c.in-None.is c.next.ensures.steps in
+    let end = YieldsList-end
+    (YieldsList-from_vec {s = c.into_iter-queue-iterator.result} _ gives.0 (gives.1 ∙ c.self.inside.queues.ok.0)) c.loop-queue.yielded c.loop-queue.queue-iterator c.loop-queue.yielded_by
+    c.next.result c.next.new.self c.in-None.is c.next.ensures.steps in
     sym (map-id c.loop-queue.yielded) ∙ (end.0 ∙ c.self.view_is)
 
 pub returns-clause-posters : goal.returns-clause-posters

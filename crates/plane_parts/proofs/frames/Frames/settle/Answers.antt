@@ -21,7 +21,8 @@ invariant_of-self c = elim c.match-arrival.branch as (λ x. Stands c.match-arriv
       subst Stands (sym w.self-inside-is) (
         rw w.push_back_reserved.ensures.capacity c.self.invariant.0,
         c.self.invariant.1,
-        rw w.push_back_reserved.ensures.items (waits _ w.in-Waits.frame c.self.invariant.2 (room.0 ∙ sym (ap (λ q. q.next) c.self.view_is)) (rw (ap (λ q. length q.waiting + length q.held) c.self.view_is) room.1)),
+        rw w.push_back_reserved.ensures.items
+            (waits _ w.in-Waits.frame c.self.invariant.2 (room.0 ∙ sym (ap (λ q. q.next) c.self.view_is)) (rw (ap (λ q. length q.waiting + length q.held) c.self.view_is) room.1)),
       )
   | in_default w ↦ subst Stands (sym w.self-inside-is) (c.self.invariant.0, c.self.invariant.1, passes _ c.self.invariant.2)
 ]

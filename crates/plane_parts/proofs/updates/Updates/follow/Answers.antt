@@ -16,5 +16,6 @@ note-requires c =
 pub loop-place-preserved : goal.loop-place-preserved
 loop-place-preserved c = c.note.ensures
     ∙ ap (λ ps. cond (deferred c.args.edition c.index-history-place.result) (ps ++ c.loop-place.place ∷ []) ps) c.loop-place.invariant
-    ∙ (ap (λ d. cond (deferred c.args.edition d) (places c.args.edition (take c.loop-place.place c.args.history.now) ++ c.loop-place.place ∷ []) (places c.args.edition (take c.loop-place.place c.args.history.now))) c.index-history-place.is
+    ∙ (ap (λ d. cond (deferred c.args.edition d) (places c.args.edition (take c.loop-place.place c.args.history.now) ++ c.loop-place.place ∷ [])
+    (places c.args.edition (take c.loop-place.place c.args.history.now))) c.index-history-place.is
     ∙ sym (more c.args.edition c.args.history.now c.loop-place.place c.index-history-place.result c.loop-place-test.true))

@@ -14,9 +14,12 @@ told : (g : given.Over) (c : goal.After-push_reserved g) → Added (Steps c.self
 told g c = c.in_ok-publish_to.ensures.ok
 
 pub invariant_of-self-2 : goal.invariant_of-self-2
-invariant_of-self-2 g c = ran-more c.self.inside.plane c.publish_to.new.self c.self.inside.steps.items c.push_reserved.new.self.items Publish c.self.inside.lines.lines c.publish_to.new.lines.lines c.self.invariant (told g c) (steps-are g c) refl
+invariant_of-self-2 g c =
+    ran-more c.self.inside.plane c.publish_to.new.self c.self.inside.steps.items c.push_reserved.new.self.items Publish c.self.inside.lines.lines c.publish_to.new.lines.lines c.self.invariant
+    (told g c) (steps-are g c) refl
 
 pub returns-clause-ok : goal.returns-clause-ok
 returns-clause-ok g c =
-    past-more c.self.inside.plane c.publish_to.new.self c.self.inside.steps.items c.push_reserved.new.self.items Publish c.self.inside.lines.lines c.publish_to.new.lines.lines c.self.invariant (told g c) (steps-are g c)
+    past-more c.self.inside.plane c.publish_to.new.self c.self.inside.steps.items c.push_reserved.new.self.items Publish c.self.inside.lines.lines c.publish_to.new.lines.lines c.self.invariant
+    (told g c) (steps-are g c)
     c.args.self.now c.self.view_is

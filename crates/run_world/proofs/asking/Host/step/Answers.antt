@@ -20,7 +20,8 @@ pub returns-clause-here : goal.returns-clause-here
 returns-clause-here g c =
     on_ok_weaker c.pass.result
     (λ ticks. here_after c.args.self.now c.args.world.now c.args.step c.step.new.lines.lines c.step.new.self c.hear_all.new.querier _
-    (goes c.args.self.now c.args.world.now c.step.new.self c.args.step c.args.lines.now.lines c.step.new.lines.lines c.moment_named-named.result c.coming-comes.result c.enter.new.self c.later-self.result c.hear_all.new.querier
+    (goes c.args.self.now c.args.world.now c.step.new.self c.args.step c.args.lines.now.lines c.step.new.lines.lines c.moment_named-named.result c.coming-comes.result c.enter.new.self
+    c.later-self.result c.hear_all.new.querier
     c.pass.new.querier c.requires.here c.in_ok-step.ensures c.requires.empty c.moment_named-named.ensures c.coming-comes.ensures c.in_ok-enter.ensures c.later-self.ensures c.hear_all.ensures ticks)
     (chip_domains c.args.world.now.setup.domains) c.requires.by_line)
     c.pass.ensures.querier
@@ -29,7 +30,9 @@ pub returns-clause-hears : goal.returns-clause-hears
 returns-clause-hears g c =
     on_ok_both c.pass.result c.pass.ensures.querier c.pass.ensures.text
     (λ ticks grew. hears_step c.args.self.now c.args.world.now c.args.step c.step.new.lines.lines c.step.new.self c.hear_all.new.querier _
-    (goes c.args.self.now c.args.world.now c.step.new.self c.args.step c.args.lines.now.lines c.step.new.lines.lines c.moment_named-named.result c.coming-comes.result c.enter.new.self c.later-self.result c.hear_all.new.querier
+    (goes c.args.self.now c.args.world.now c.step.new.self c.args.step c.args.lines.now.lines c.step.new.lines.lines c.moment_named-named.result c.coming-comes.result c.enter.new.self
+    c.later-self.result c.hear_all.new.querier
     c.pass.new.querier c.requires.here c.in_ok-step.ensures c.requires.empty c.moment_named-named.ensures c.coming-comes.ensures c.in_ok-enter.ensures c.later-self.ensures c.hear_all.ensures ticks)
     (string_bytes c.args.text.now) (string_bytes c.pass.new.text)
-    (asked_as c.args.step c.step.new.lines.lines c.moment_named-named.result c.coming-comes.result c.hear_all.new.querier (string_bytes c.args.text.now) (string_bytes c.pass.new.text) c.moment_named-named.ensures c.coming-comes.ensures grew))
+    (asked_as c.args.step c.step.new.lines.lines c.moment_named-named.result c.coming-comes.result c.hear_all.new.querier (string_bytes c.args.text.now)
+    (string_bytes c.pass.new.text) c.moment_named-named.ensures c.coming-comes.ensures grew))

@@ -10,7 +10,8 @@ pub returns : goal.returns
 returns c = λ askers untagged plain tagged keeps.
     let all = c.ports.invariant in
     let ports = all.splits ∙ ap (λ (l : List ℕ). c.ports.yielded ++ l) c.in-None.ensures.steps.0 ∙ append-nil c.ports.yielded in
-    subst (λ (l : List ℕ). Hears c.args.querier.now (flat_map (heard_in askers c.args.now) (sent_lines c.args.id l untagged plain tagged)) c.ports.querier) (sym ports) (all.hears askers untagged plain tagged keeps)
+    subst (λ (l : List ℕ). Hears c.args.querier.now (flat_map (heard_in askers c.args.now) (sent_lines c.args.id l untagged plain tagged)) c.ports.querier) (sym ports)
+    (all.hears askers untagged plain tagged keeps)
 
 pub ports-preserved : goal.ports-preserved
 ports-preserved c =

@@ -24,7 +24,8 @@ returns-in_ok-push-in-Step-clause-goes c = λ check s h.
 pub returns-in-Section-clause-goes : goal.returns-in-Section-clause-goes
 returns-in-Section-clause-goes c =
     IfOk-weaker c.section.result _ _
-    (λ went goes check s h. goes check s c.args.line.bytes.now (to_section check s _ c.args.line.behind.now _ _ h c.requires.feedless _ _ c.in_ok-take.ensures.takes c.in-Section.length c.in-Section.is))
+    (λ went goes check s h. goes check s c.args.line.bytes.now
+    (to_section check s _ c.args.line.behind.now _ _ h c.requires.feedless _ _ c.in_ok-take.ensures.takes c.in-Section.length c.in-Section.is))
     c.section.ensures.goes
 
 pub returns-in-End-clause-goes : goal.returns-in-End-clause-goes

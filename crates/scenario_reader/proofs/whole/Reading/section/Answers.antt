@@ -9,9 +9,11 @@ returns-then-behind-length-clause-goes c = λ check s line h.
 
 pub returns-in_ok-append-in-Steps-clause-goes : goal.returns-in_ok-append-in-Steps-clause-goes
 returns-in_ok-append-in-Steps-clause-goes c = λ check s line h.
-    goes_by_section check s line c.args.length _ _ h c.args.behind.now (omega (arith, c.if-behind-length.false)) c.in_ok-steps.field-0 c.in_ok-steps.ensures c.in-Steps.steps _ c.in-Steps.is c.in_ok-append-in-Steps.ensures.items
+    goes_by_section check s line c.args.length _ _ h c.args.behind.now
+    (omega (arith, c.if-behind-length.false)) c.in_ok-steps.field-0 c.in_ok-steps.ensures c.in-Steps.steps _ c.in-Steps.is c.in_ok-append-in-Steps.ensures.items
 
 pub returns-in-End-clause-goes : goal.returns-in-End-clause-goes
 returns-in-End-clause-goes c = λ check s line h.
     let end = c.by.ensures in
-    ends_in_section check s line c.args.length _ _ h c.args.behind.now (omega (arith, c.if-behind-length.false)) c.in_ok-steps.field-0 c.in_ok-steps.ensures c.in-End.last c.by.result c.in-End.is end.last end.close end.left
+    ends_in_section check s line c.args.length _ _ h c.args.behind.now
+    (omega (arith, c.if-behind-length.false)) c.in_ok-steps.field-0 c.in_ok-steps.ensures c.in-End.last c.by.result c.in-End.is end.last end.close end.left

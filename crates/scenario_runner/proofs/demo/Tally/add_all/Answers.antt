@@ -16,7 +16,8 @@ loop-row-preserved c =
     let rows : List Row = c.parts.result.0.now in
     let arena = c.parts.result.1.now in
     let next = take_more rows c.loop-row.row-index c.row-item.result c.loop-row-test.true ∙ ap (λ (x : Row). take c.loop-row.row-index rows ++ x ∷ []) (sym c.row-item.is) in
-    subst (λ (l : List Line). Adds c.args.self.now l c.add_row.new.self) (sym (ap (expand arena) next ∙ expand-append arena (take c.loop-row.row-index rows) c.row-item.result)) (adds_more _ _ _ _ _ c.loop-row.invariant c.in_ok-add_row.ensures)
+    subst (λ (l : List Line). Adds c.args.self.now l c.add_row.new.self) (sym (ap (expand arena) next ∙ expand-append arena (take c.loop-row.row-index rows) c.row-item.result))
+    (adds_more _ _ _ _ _ c.loop-row.invariant c.in_ok-add_row.ensures)
 
 pub returns : goal.returns
 returns c =

@@ -50,4 +50,5 @@ returns-in-None-clause-says g c = λ s none same said.
     let setup : Setup = record { domains = c.domains.result; own = c.own-own.result } in
     let begun = c.in_ok-world.ensures ∙ (λ i. first_world (record { domains = same_domains i; own = c.own-own.result })) in
     let here : setup ≡ setup_of c.roster-roster.result.now = λ i. record { domains = c.domains.ensures.value i; own = c.own-own.ensures i } in
-    says_first setup c.args.self.now.voice _ c.do_step.new.voice c.in_ok-world.world c.args.step s begun (here ∙ ap setup_of c.roster-roster.ensures ∙ same) (rw c.requires.first at none) said c.in_ok-begin.ensures.says c.in-Ok.ensures.says
+    says_first setup c.args.self.now.voice _ c.do_step.new.voice c.in_ok-world.world c.args.step s begun (here ∙ ap setup_of c.roster-roster.ensures ∙ same)
+    (rw c.requires.first at none) said c.in_ok-begin.ensures.says c.in-Ok.ensures.says

@@ -8,4 +8,7 @@ cut_if_torn-requires c =
     let before = c.args.text.now in
     let after = c.append_last-appended.new.text in
     let whole = ap (λ (bytes : List ℕ). length bytes) c.as_bytes-whole.ensures.value in
-    record { seam = torn c.append_last-appended.result (string_bytes before) (string_bytes after) (length c.as_bytes-whole.result.now) (IsUtf8-string_bytes before) (IsUtf8-string_bytes after) whole c.append_last-appended.ensures.err }
+    record {
+      seam = torn c.append_last-appended.result (string_bytes before) (string_bytes after) (length c.as_bytes-whole.result.now) (IsUtf8-string_bytes before)
+          (IsUtf8-string_bytes after) whole c.append_last-appended.ensures.err;
+    }

@@ -11,13 +11,16 @@ pub returns-in-Line-clause-takes : goal.returns-in-Line-clause-takes
 returns-in-Line-clause-takes g c = λ s f. took_line s _ c.args.self.now _ _ f (rw c.in-Line.is at (c.in_ok-take.ensures.takes s f.reads))
 
 pub step-requires-clause-by_line : goal.step-requires-clause-by_line
-step-requires-clause-by_line g c = comes_on c.args.self.now.reader _ c.args.line.now c.args.self.now.world c.args.self.now.voice c.requires.ready _ c.in_ok-take.ensures.takes c.in-Step.step c.in-Step.is
+step-requires-clause-by_line g c =
+    comes_on c.args.self.now.reader _ c.args.line.now c.args.self.now.world c.args.self.now.voice c.requires.ready _ c.in_ok-take.ensures.takes c.in-Step.step c.in-Step.is
 
 pub step-requires-clause-ready : goal.step-requires-clause-ready
-step-requires-clause-ready g c = ready_step c.args.self.now.reader _ c.args.line.now c.args.self.now.world c.args.self.now.voice c.requires.ready _ c.in_ok-take.ensures.takes c.in-Step.step c.in-Step.is
+step-requires-clause-ready g c =
+    ready_step c.args.self.now.reader _ c.args.line.now c.args.self.now.world c.args.self.now.voice c.requires.ready _ c.in_ok-take.ensures.takes c.in-Step.step c.in-Step.is
 
 pub step-requires-clause-behind : goal.step-requires-clause-behind
-step-requires-clause-behind g c = behind_on c.args.self.now.reader _ c.args.line.now c.args.self.now.world c.args.self.now.voice c.requires.ready _ c.in_ok-take.ensures.takes c.in-Step.step c.in-Step.is
+step-requires-clause-behind g c =
+    behind_on c.args.self.now.reader _ c.args.line.now c.args.self.now.world c.args.self.now.voice c.requires.ready _ c.in_ok-take.ensures.takes c.in-Step.step c.in-Step.is
 
 pub returns-in_ok-step-in-Step-clause-takes : goal.returns-in_ok-step-in-Step-clause-takes
 returns-in_ok-step-in-Step-clause-takes g c = λ s f.
@@ -28,14 +31,16 @@ returns-in_ok-step-in-Step-clause-lines g c =
     omega (arith, c.in_ok-take.ensures.lines, ap (λ (r : ReaderState). r.lines) c.in_ok-step-in-Step.ensures.does.reader)
 
 pub returns-in-Section-clause-ready : goal.returns-in-Section-clause-ready
-returns-in-Section-clause-ready g c = ready_section c.args.self.now.reader _ c.args.line.now c.args.self.now.world c.args.self.now.voice c.requires.ready _ c.in_ok-take.ensures.takes c.in-Section.length c.in-Section.is
+returns-in-Section-clause-ready g c =
+    ready_section c.args.self.now.reader _ c.args.line.now c.args.self.now.world c.args.self.now.voice c.requires.ready _ c.in_ok-take.ensures.takes c.in-Section.length c.in-Section.is
 
 pub returns-in-Section-clause-takes : goal.returns-in-Section-clause-takes
 returns-in-Section-clause-takes g c = λ s f.
     took_section s _ c.args.self.now _ _ f c.in-Section.length (rw c.in-Section.is at (c.in_ok-take.ensures.takes s f.reads))
 
 pub returns-in-End-clause-ready : goal.returns-in-End-clause-ready
-returns-in-End-clause-ready g c = ready_last c.args.self.now.reader _ c.args.line.now c.args.self.now.world c.args.self.now.voice c.requires.ready _ c.in_ok-take.ensures.takes c.in-End.last c.in-End.is
+returns-in-End-clause-ready g c =
+    ready_last c.args.self.now.reader _ c.args.line.now c.args.self.now.world c.args.self.now.voice c.requires.ready _ c.in_ok-take.ensures.takes c.in-End.last c.in-End.is
 
 pub returns-in-End-clause-takes : goal.returns-in-End-clause-takes
 returns-in-End-clause-takes g c = λ s f. took_last s _ c.args.self.now _ _ f c.in-End.last (rw c.in-End.is at (c.in_ok-take.ensures.takes s f.reads))

@@ -50,8 +50,13 @@ replace_with-requires g c =
     let all : items ≡ c.self.inside.pending.list = c.in_ok-changes.ensures.items in
     let some : 0 < length items = grind (arith, common_steps) in
     let within : AreWithin (changes_of log ++ items) = subst (λ (l : List Change). AreWithin (changes_of log ++ l)) (sym all) i.fit in
-    let op : Operation = record { changes = c.in_ok-changes.changes; batches = c.self.inside.batches + 1; seen = c.again.result } in
-    (i.idle, (table_after c.self.inside.writer.desk.shown.value op log i.table same is (let e : c.self.inside.batches + 1 ≡ length log + 1 = omega (arith, i.batches) in e) some within, ap (λ s. s.book) c.again.ensures ∙ (c.enter_batch-seen.ensures.book ∙ sym (ap (λ s. s.book) i.shown))))
+    let op : Operation = record { changes = c.in_ok-changes.changes; batches = c.self.inside.batches + 1; seen = c.again.result } in (
+      i.idle,
+      (
+        table_after c.self.inside.writer.desk.shown.value op log i.table same is (let e : c.self.inside.batches + 1 ≡ length log + 1 = omega (arith, i.batches) in e) some within,
+        ap (λ s. s.book) c.again.ensures ∙ (c.enter_batch-seen.ensures.book ∙ sym (ap (λ s. s.book) i.shown)),
+      ),
+    )
 
 pub overflow_add-self : goal.overflow_add-self
 overflow_add-self g c = let b = shelved_batches c.self.inside c.self.invariant in omega arith
@@ -115,7 +120,8 @@ returns-clause-count g c =
     let all : items ≡ c.self.inside.pending.list = c.in_ok-changes.ensures.items in
     let held : c.len-count.result ≡ length c.self.inside.pending.list = search rules in
     let count : c.len-count.result ≡ length items = held ∙ ap length (sym all) in
-    let changes : length (changes_of c.enter_batch-seen.result.log) ≡ length (changes_of log) + length items = ap (λ (l : List (List Change)). length (changes_of l)) b.log ∙ (ap length (changes_of-push log items) ∙ length-append (changes_of log) items) in
+    let changes : length (changes_of c.enter_batch-seen.result.log) ≡ length (changes_of log) + length items = ap (λ (l : List (List Change)). length (changes_of l)) b.log
+    ∙ (ap length (changes_of-push log items) ∙ length-append (changes_of log) items) in
     omega (arith, i.len, changes, count)
 
 pub returns-clause-published : goal.returns-clause-published

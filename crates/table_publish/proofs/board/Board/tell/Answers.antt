@@ -20,7 +20,8 @@ returns-then-s-self-clause-kept c =
     let here : IsPrefix mine both = subst (λ (l : List (List Change)). IsPrefix l both) (ap (λ s. s.log) c.again-both.ensures) c.learn.ensures.2 in
     let le : length theirs ≤ length mine = omega (arith, c.self.invariant.batches, c.s.invariant.batches, c.if-s-self.true) in
     let p = prefix_shorter theirs mine both c.learn.ensures.3 here le in
-    let q : Begins (object_of c.again.result.log) (object_of theirs) = subst (λ (l : List (List Change)). Begins (object_of l) (object_of theirs)) (ap (λ s. s.log) (sym c.again.ensures)) (begins_of theirs mine p) in
+    let q : Begins (object_of c.again.result.log) (object_of theirs) = subst (λ (l : List (List Change)). Begins (object_of l) (object_of theirs)) (ap (λ s. s.log) (sym c.again.ensures))
+    (begins_of theirs mine p) in
     subst (λ (o : Object). Begins (object_of c.again.result.log) o) (ap (λ (k : Known). k.object) c.s.view_is) q
 
 pub returns-then-s-self-clause-published : goal.returns-then-s-self-clause-published

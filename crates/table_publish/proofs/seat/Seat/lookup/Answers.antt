@@ -14,7 +14,8 @@ returns-clause-begins c =
     let here : IsPrefix mine both = subst (λ (l : List (List Change)). IsPrefix l both) (ap (λ s. s.log) c.again-both.ensures) c.learn.ensures.2 in
     let le : length mine ≤ length look = omega (arith, c.self.invariant.batches, c.in-Some.ensures.look.batches, c.if-look-self.false) in
     let p = prefix_shorter mine look both here c.learn.ensures.3 le in
-    let q : Begins (object_of c.again.result.log) (object_of mine) = subst (λ (l : List (List Change)). Begins (object_of l) (object_of mine)) (ap (λ s. s.log) (sym c.again.ensures)) (begins_of mine look p) in
+    let q : Begins (object_of c.again.result.log) (object_of mine) = subst (λ (l : List (List Change)). Begins (object_of l) (object_of mine)) (ap (λ s. s.log) (sym c.again.ensures))
+    (begins_of mine look p) in
     subst (λ (o : Object). Begins (object_of c.again.result.log) o) (ap (λ (k : Known). k.object) (c.self.view_is ∙ c.ask.ensures.same)) q
 
 pub returns-clause-published : goal.returns-clause-published

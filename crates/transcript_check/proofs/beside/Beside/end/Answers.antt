@@ -30,7 +30,8 @@ returns-in-Some-2 c transcript setup steps b =
     let last = c.end_line-last.result in
     let text-is : c.as_bytes.result.now ≡ line_text (end_line w) =
     c.as_bytes.ensures.value ∙ c.in_ok-append.ensures.ok ∙ ap (λ (b : List ℕ). b ++ line_text last) c.clear.ensures.bytes ∙ ap line_text c.end_line-last.ensures in
-    last_differs transcript setup steps w cursor next c.in-Some-2.difference (subst (λ (o : Option Difference). IsBeside transcript setup steps w cursor o) (sym c.take.ensures.value ∙ c.in_default.is) b)
+    last_differs transcript setup steps w cursor next c.in-Some-2.difference
+    (subst (λ (o : Option Difference). IsBeside transcript setup steps w cursor o) (sym c.take.ensures.value ∙ c.in_default.is) b)
     (subst (λ (t : List ℕ). Compares cursor next (lines_in t) (Some c.in-Some-2.difference)) text-is
     (subst (λ (o : Option Difference). Compares cursor next (lines_in c.as_bytes.result.now) o) c.in-Some-2.is c.in_ok-difference.ensures))
 
@@ -47,4 +48,5 @@ returns c =
     (subst (λ (o : Option Difference). Compares cursor next (lines_in c.as_bytes.result.now) o) c.in-None.is c.in_ok-difference.ensures) in
     IfOk-weaker c.end.result _ _
     (λ o there transcript setup steps b.
-    ends_so transcript setup steps w cursor next o (subst (λ (d : Option Difference). IsBeside transcript setup steps w cursor d) (sym c.take.ensures.value ∙ c.in_default.is) b) same there) c.end.ensures
+    ends_so transcript setup steps w cursor next o (subst (λ (d : Option Difference). IsBeside transcript setup steps w cursor d) (sym c.take.ensures.value ∙ c.in_default.is) b) same there)
+    c.end.ensures

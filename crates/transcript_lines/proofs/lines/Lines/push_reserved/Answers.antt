@@ -7,7 +7,8 @@ use Rattle.transcript_lines.proofs.lines.Lines.push_reserved.Goals as goal
 
 pub invariant_of-self : goal.invariant_of-self
 invariant_of-self c = (
-  saved_more c.self.inside.bytes.items [] _ c.self.inside.rows.items _ (One c.args.line) _ _ c.self.invariant.0 (sym (append-nil c.self.inside.bytes.items)) c.push_reserved.ensures.items tt c.requires.plain,
+  saved_more c.self.inside.bytes.items [] _ c.self.inside.rows.items _ (One c.args.line) _ _ c.self.invariant.0
+      (sym (append-nil c.self.inside.bytes.items)) c.push_reserved.ensures.items tt c.requires.plain,
   fit_more _ _ _ _ 1 _ _ _ c.self.invariant.1 (ap (λ (l : Listed). l.rows) c.self.view_is) c.requires.room c.push_reserved.ensures.len (omega (arith, c.push_reserved.ensures.capacity)),
   c.self.invariant.2,
   c.self.invariant.3,

@@ -35,7 +35,14 @@ module _ (c : goal.After-push_reserved) where
 
   long : vec_len c.store_tagged-tagged.new.arena ≡ vec_len c.self.inside.bytes + more
   unfolding more
-  long = omega (arith, c.store_tagged-tagged.new.arena.ok.0, c.store-plain.new.arena.ok.0, c.store-plain.ensures.len, ap length c.store_tagged-tagged.ensures.form.items, length-append c.store-plain.new.arena.items form)
+  long = omega (
+    arith,
+    c.store_tagged-tagged.new.arena.ok.0,
+    c.store-plain.new.arena.ok.0,
+    c.store-plain.ensures.len,
+    ap length c.store_tagged-tagged.ensures.form.items,
+    length-append c.store-plain.new.arena.items form,
+  )
 
 pub invariant_of-self : goal.invariant_of-self
 invariant_of-self c = (

@@ -17,7 +17,8 @@ returns c =
     let rows = c.in_ok-rows.rows.items in
     ap₂ (λ vs ps. record { vlans = vs; pvid = ps })
     (ap (memberships_from 1) c.put_row.ensures.rows
-    ∙ added (padded no_ports 4094 rows) c.place_of-place.result 1 0 true c.row_at.result c.with-row.result [] (omega (arith, length-padded no_ports 4094 rows, c.place_of-place.ensures.within)) c.place_of-place.ensures.place c.row_at.ensures c.with-row.ensures
+    ∙ added (padded no_ports 4094 rows) c.place_of-place.result 1 0 true c.row_at.result c.with-row.result []
+    (omega (arith, length-padded no_ports 4094 rows, c.place_of-place.ensures.within)) c.place_of-place.ensures.place c.row_at.ensures c.with-row.ensures
     (blank rows c.in_ok-rows.ensures.items))
     c.no_pvids.ensures
 

@@ -10,4 +10,7 @@ use Rattle.vlan_groups.proofs.table.VlanTable.ports_of.Goals as goal
 pub returns : goal.returns
 returns c =
     c.members.ensures
-    ∙ same_below _ _ port_places (λ p low. ap is_some (at-key (padded no_ports 4094 c.self.inside.rows.items) c.place_of.result c.args.v p c.row_at.result c.args.self.now.vlans (omega (arith, c.self.invariant.0.sized)) c.place_of.ensures.place c.row_at.ensures (ap (λ (s : Vlans). s.vlans) c.self.view_is)))
+    ∙ same_below _ _ port_places
+    (λ p low. ap is_some
+    (at-key (padded no_ports 4094 c.self.inside.rows.items) c.place_of.result c.args.v p c.row_at.result c.args.self.now.vlans
+    (omega (arith, c.self.invariant.0.sized)) c.place_of.ensures.place c.row_at.ensures (ap (λ (s : Vlans). s.vlans) c.self.view_is)))

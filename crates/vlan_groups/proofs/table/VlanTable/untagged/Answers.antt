@@ -9,4 +9,6 @@ use Rattle.vlan_groups.proofs.table.VlanTable.untagged.Goals as goal
 pub returns : goal.returns
 returns c =
     c.is_untagged.ensures
-    ∙ ap (λ o. unwrap_or o false) (at-key (padded no_ports 4094 c.self.inside.rows.items) c.place_of.result c.args.v c.args.p c.row_at.result c.args.self.now.vlans (omega (arith, c.self.invariant.0.sized)) c.place_of.ensures.place c.row_at.ensures (ap (λ (s : Vlans). s.vlans) c.self.view_is))
+    ∙ ap (λ o. unwrap_or o false)
+    (at-key (padded no_ports 4094 c.self.inside.rows.items) c.place_of.result c.args.v c.args.p c.row_at.result c.args.self.now.vlans
+    (omega (arith, c.self.invariant.0.sized)) c.place_of.ensures.place c.row_at.ensures (ap (λ (s : Vlans). s.vlans) c.self.view_is))

@@ -17,7 +17,8 @@ invariant_of-self-then-fits g c =
     let change = c.args.change.now in
     let edition = c.edition-edition.result in
     let fit = ap (λ (t : Table). fits t change) (sym c.deref.ensures) ∙ (sym c.fits.ensures ∙ c.if-fits.true) in
-    let told : told_in edition c.notice_of.result ≡ Some change = ap (λ (n : Notice). told_in edition n) c.notice_of.ensures.value ∙ told-now edition change (sym c.is_deferred.ensures ∙ c.if-is_deferred.false) in
+    let told : told_in edition c.notice_of.result ≡ Some change = ap (λ (n : Notice). told_in edition n) c.notice_of.ensures.value
+    ∙ told-now edition change (sym c.is_deferred.ensures ∙ c.if-is_deferred.false) in
     let before = subst (λ (driver : Driven). Drives domains driver old) (sym c.deref_mut.ensures.value) c.self.invariant.stands in
     let after : Drives domains c.deliver.new.d (apply old change) = subst (λ (o : Option Change). Drives domains c.deliver.new.d (after_told old o)) told (c.deliver.ensures.told domains old before) in
     subst (AreAlike domains c.deliver.new.d) (sym (c.apply.ensures ∙ ap (λ (t : Table). apply t change) c.deref_mut-then-fits.ensures.value))
