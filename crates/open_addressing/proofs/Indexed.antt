@@ -438,8 +438,11 @@ less_slots slots rest h v within before after =
 
 none_taken : (n : ℕ) → count_by is_taken (replicate n 0) ≡ 0
 none_taken zero = refl
-none_taken (suc n) = (let rest = none_taken n in let all = sum_by-cons (λ s. cond {A = ℕ} (is_taken s) 1 0) 0 (replicate n 0) in
-let zero_slot : cond {A = ℕ} (is_taken 0) 1 0 ≡ 0 = ap (λ b. cond {A = ℕ} b 1 0) not_zero in omega arith)
+none_taken (suc n) =
+    let rest = none_taken n in
+    let all = sum_by-cons (λ s. cond {A = ℕ} (is_taken s) 1 0) 0 (replicate n 0) in
+    let zero_slot : cond {A = ℕ} (is_taken 0) 1 0 ≡ 0 = ap (λ b. cond {A = ℕ} b 1 0) not_zero in
+    omega arith
 
 pub named-blank : (bits : ℕ) (slots rest : List ℕ) → IsBlank bits slots rest → named_by slots rest ≡ 0
 named-blank bits slots rest blank = (let a = ap (count_by is_taken) blank.slots ∙ none_taken (2 ^ bits) in let b = ap length blank.rest in omega arith)
