@@ -193,9 +193,9 @@ module _ {V : Type 0} where
       }
     where
       blank : (p : Option (ℕ × V) → Bool) → p None ≡ false → (n : ℕ) → count_by p (replicate n None) ≡ 0
-      blank p no zero = refl
-      blank p no (suc n) =
+      blank p off zero = refl
+      blank p off (suc n) =
           let all = sum_by-cons (λ c. cond {A = ℕ} (p c) 1 0) None (replicate n None) in
-          let here : cond {A = ℕ} (p None) 1 0 ≡ 0 = ap (λ b. cond {A = ℕ} b 1 0) no in
-          let rest = blank p no n in
+          let here : cond {A = ℕ} (p None) 1 0 ≡ 0 = ap (λ b. cond {A = ℕ} b 1 0) off in
+          let rest = blank p off n in
           omega arith

@@ -444,6 +444,11 @@ none_taken (suc n) =
     let zero_slot : cond {A = ℕ} (is_taken 0) 1 0 ≡ 0 = ap (λ b. cond {A = ℕ} b 1 0) not_zero in
     omega arith
 
+zeros : (n i : ℕ) → ◌≡◌ {A = ℕ} (get_or (replicate n 0) i 0) 0
+zeros zero i = refl
+zeros (suc n) zero = refl
+zeros (suc n) (suc i) = zeros n i
+
 pub named-blank : (bits : ℕ) (slots rest : List ℕ) → IsBlank bits slots rest → named_by slots rest ≡ 0
 named-blank bits slots rest blank = (let a = ap (count_by is_taken) blank.slots ∙ none_taken (2 ^ bits) in let b = ap length blank.rest in omega arith)
 

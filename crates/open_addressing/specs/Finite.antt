@@ -56,8 +56,8 @@ pub record AreCells {V : Type 0} (used room : ℕ) (cells : List (Option (ℕ ×
   pub sized : room ≤ length cells
 
 -- the cells, where their keys stand, and which of them are free
-pub record IsSound {V : Type 0} (hash : ℕ → ℕ) (bits : ℕ) (slots rest : List ℕ) (fresh : ℕ) (free : List ℕ) (used room : ℕ) (cells : List (Option (ℕ × V))) : Type 0 where
-  pub cells : AreCells used room cells
-  pub index : IsIndexed hash bits (key_in key_of None cells) slots rest
+pub record IsSound {V : Type 0} (hash : ℕ → ℕ) (bits : ℕ) (slots rest : List ℕ) (fresh : ℕ) (free : List ℕ) (used room : ℕ) (cs : List (Option (ℕ × V))) : Type 0 where
+  pub cells : AreCells used room cs
+  pub index : IsIndexed hash bits (key_in key_of None cs) slots rest
   pub named : named_by slots rest ≡ used
-  pub spare : AreSpare (key_in key_of None cells) used room fresh free
+  pub spare : AreSpare (key_in key_of None cs) used room fresh free

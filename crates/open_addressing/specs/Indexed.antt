@@ -51,8 +51,8 @@ pub record IsIndexed (hash : ℕ → ℕ) (bits : ℕ) (at : ℕ → ℕ) (slots
   pub apart : (j : ℕ) → j < length rest → slot_of hash bits slots (at (slice_index rest j)) ≢ slice_index rest j + 1
 
 -- no cell is named
-pub record IsBlank (bits : ℕ) (slots rest : List ℕ) : Type 0 where
+pub record IsBlank (bits : ℕ) (ss rs : List ℕ) : Type 0 where
   pub some : 0 < bits
   pub few : bits < 64
-  pub slots : slots ≡ replicate (2 ^ bits) 0
-  pub rest : rest ≡ []
+  pub slots : ss ≡ replicate (2 ^ bits) 0
+  pub rest : rs ≡ []

@@ -8,8 +8,8 @@ ghost use Rattle.open_addressing.specs.Lookups.{IsApart};
 ghost use Rattle.open_addressing.specs.Zipped.{key_of};
 
 use crate::Cells;
+use crate::dense::Pairs;
 use crate::index::Index;
-use crate::pairs::Pairs;
 use crate::spare::Spare;
 use std::alloc::{AllocError, Global};
 use std::marker::{Model, PhantomData};

@@ -5,7 +5,7 @@ use Rattle.lists.proofs.padded.item_or.Goals as goal
 
 pub returns-then-i-items : goal.returns-then-i-items
 returns-then-i-items g c =
-    let is = c.index.ensures ∙ get_or_default c.args.items.now c.args.i c.index.result.now c.args.blank (omega arith) in
+    let is = c.index-items-i.is ∙ get_or_default c.args.items.now c.args.i c.index-items-i.result c.args.blank (omega arith) in
     record { value = is; padded = λ n h. is ∙ sym (padded-at c.args.blank n c.args.items.now c.args.i h) }
 
 pub returns-else-i-items : goal.returns-else-i-items

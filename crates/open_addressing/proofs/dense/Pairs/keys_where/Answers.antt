@@ -5,8 +5,8 @@ use Rattle.lemmas.proofs.Lists.{filter_map-next}
 use Rattle.open_addressing.specs.Finite.{key_if}
 use Rattle.open_addressing.specs.Zipped.{pair_cell}
 use Rattle.open_addressing.proofs.Zipped.{keys-padded}
-use Rattle.open_addressing.proofs.pairs.Pairs.keys_where.Goals as goal
-use Rattle.open_addressing.proofs.pairs.Pairs.keys_where.Goals.{in-Some-key_if+in_ok-push, in_default-key_if}
+use Rattle.open_addressing.proofs.dense.Pairs.keys_where.Goals as goal
+use Rattle.open_addressing.proofs.dense.Pairs.keys_where.Goals.{in-Some-key_if+in_ok-push, in_default-key_if}
 
 pub key_if-requires : goal.key_if-requires
 key_if-requires g c = omega (arith, ap length c.as_slice.ensures.value, c.self.inside.pairs.ok.0)

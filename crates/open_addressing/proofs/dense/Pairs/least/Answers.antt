@@ -3,7 +3,7 @@ use Rattle.std.proofs.lemmas.List.{length-map, take_all}
 use Rattle.open_addressing.specs.Least.{smaller, number_if, least_in}
 use Rattle.open_addressing.specs.Zipped.{pair_cell}
 use Rattle.open_addressing.proofs.Least.{least_in-next, least-padded}
-use Rattle.open_addressing.proofs.pairs.Pairs.least.Goals as goal
+use Rattle.open_addressing.proofs.dense.Pairs.least.Goals as goal
 
 pub number_if-requires : goal.number_if-requires
 number_if-requires g c = omega (arith, ap length c.as_slice.ensures.value, c.self.inside.pairs.ok.0)

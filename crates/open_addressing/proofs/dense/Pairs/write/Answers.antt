@@ -1,7 +1,7 @@
 use Rattle.std.proofs.Common.{ℕ, List, Option, set, sym, ap, subst, ◌<◌, ◌∙◌, length, arith}
 use Rattle.open_addressing.specs.Zipped.{cell_of}
 use Rattle.open_addressing.proofs.Zipped.{padded-write, padded-within}
-use Rattle.open_addressing.proofs.pairs.Pairs.write.Goals as goal
+use Rattle.open_addressing.proofs.dense.Pairs.write.Goals as goal
 
 pub put_item-requires : goal.put_item-requires
 put_item-requires g c =

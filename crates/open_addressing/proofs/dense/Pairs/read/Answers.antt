@@ -1,6 +1,6 @@
 use Rattle.std.proofs.Common.{ℕ, List, Option, None, get_or, sym, ap, subst, ◌<◌, ◌∙◌, length}
 use Rattle.open_addressing.proofs.Zipped.{padded-read, padded-within}
-use Rattle.open_addressing.proofs.pairs.Pairs.read.Goals as goal
+use Rattle.open_addressing.proofs.dense.Pairs.read.Goals as goal
 
 pub returns : goal.returns
 returns g c =
