@@ -2,11 +2,11 @@ use Rattle.std.proofs.Common.{ℕ, ◌/◌, ◌*◌, ◌==◌, cond, ◌∙◌, 
 use Rattle.port_sets.specs.Numbers.{numbers_below, has_number}
 use Rattle.port_sets.specs.Words.{members}
 use Rattle.port_sets.proofs.Words.{members-switched_on, members-switched_off, AreWords-set, word_fits}
-use Rattle.std.proofs.lemmas.Nat.{or_lt, and_le_l}
+use Rattle.std.proofs.lemmas.Nat.{or_lt}
 use Rattle.port_sets.proofs.PortSet.switch.Goals as goal
 
-pub invariant_of-self-then-on : goal.invariant_of-self-then-on
-invariant_of-self-then-on g c =
+pub invariant_of-self : goal.invariant_of-self
+invariant_of-self g c =
     AreWords-set g.row.W c.self.inside.words _ _ c.self.invariant (omega arith)
     (or_lt 64 _ _ (word_fits g.row.W c.self.inside.words (c.args.n / 64) c.self.invariant (omega (arith, c.requires))) (omega arith))
 
@@ -15,11 +15,6 @@ returns-then-on g c =
     members-switched_on g.row.W c.self.inside.words c.args.n (omega (arith, c.requires, c.self.invariant.0))
     ∙ ap (λ b. numbers_below (64 * g.row.W) (λ m. cond (m == c.args.n) b (has_number (members g.row.W c.self.inside.words) m))) (sym c.if-on.true)
     ∙ ap (λ (ns : List ℕ). numbers_below (64 * g.row.W) (λ m. cond (m == c.args.n) c.args.on (has_number ns m))) c.self.view_is
-
-pub invariant_of-self : goal.invariant_of-self
-invariant_of-self g c =
-    AreWords-set g.row.W c.self.inside.words _ _ c.self.invariant (omega arith)
-    (omega (arith, and_le_l _ _, word_fits g.row.W c.self.inside.words (c.args.n / 64) c.self.invariant (omega (arith, c.requires))))
 
 pub returns : goal.returns
 returns g c =
