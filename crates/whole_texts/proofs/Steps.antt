@@ -44,12 +44,12 @@ same_run : (s t : Scenario) → setup_of t.roster ≡ setup_of s.roster → t.st
 same_run s t setup steps = ap (λ (x : Setup). run x t.steps) setup ∙ ap (run (setup_of s.roster)) steps
 
 pub kept : (r : Roster) → KeepsSetup r r
-kept r behind = (behind, (refl, refl))
+kept r = (refl, λ behind. (behind, (refl, refl)))
 
 pub moved : (s t : Scenario) (w : Option World) (all : List ℕ) → t.steps ≡ s.steps → KeepsSetup s.roster t.roster → IsTold s w all → IsTold t w all
 moved s t None all steps keeps h = record { ran = steps ∙ h.ran; ready = tt; body = h.body ∙ no_steps s h.ran ∙ sym (no_steps t (steps ∙ h.ran)) }
 moved s t (Some w) all steps keeps h =
-    let k = keeps h.ran.1 in
+    let k = keeps.1 h.ran.1 in
     let same : run_of t ≡ run_of s = same_run s t k.1.0 steps in record {
       ran = (h.ran.0 ∙ sym (ap (λ (x : Stepped). x.0) same), k.0);
       ready = (h.ready.0, h.ready.1 ∙ sym (ap chips_of k.1.1));
