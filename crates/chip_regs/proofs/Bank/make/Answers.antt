@@ -1,4 +1,4 @@
-use Rattle.std.proofs.Common.{ℕ, List, ap, ◌∙◌}
+use Rattle.std.proofs.Common.{ap, ◌∙◌}
 use Rattle.lists.specs.Padded.{padded}
 use Rattle.lists.proofs.Filling.{padded-none}
 use Rattle.chip_regs.proofs.Bank.make.Goals as goal

@@ -1,4 +1,4 @@
-use Rattle.std.proofs.Common.{◌≡◌, ℕ, List, set, sym, ap, subst, length, ◌∙◌, arith}
+use Rattle.std.proofs.Common.{◌≡◌, ℕ, List, set, sym, ap, subst, length, ◌∙◌}
 use Rattle.lists.specs.Padded.{padded}
 use Rattle.lists.proofs.Filling.{length-padded}
 use Rattle.chip_regs.proofs.Bank.put.Goals as goal
@@ -7,7 +7,7 @@ pub returns : goal.returns
 returns g c =
     let old = c.self.inside.rows.items in
     let new = c.put_item.new.items.items in
-    let row = c.args.row.entry in
+    let row = c.args.row in
     record {
       value = subst (λ b. padded b g.row.ROWS new ≡ set (padded b g.row.ROWS old) c.args.i row) c.zero.ensures (c.put_item.ensures.items g.row.ROWS)
           ∙ ap (λ (xs : List ℕ). set xs c.args.i row) c.self.view_is;
