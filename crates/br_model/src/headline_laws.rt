@@ -18,8 +18,8 @@ ghost use Rattle.br_model.specs.Theorems.FrameLines.{lines_of, places, entering,
 ghost use Rattle.br_model.specs.Wire.Frames.{frame};
 
 /// Whatever steps come before and after, a frame that enters by a port of a chip leaves just those ports of the chip, and comes to
-/// software just where, the one-table bridge says by the chip's cut; software sends what came to it to just the remaining ports that
-/// this bridge gives at its published point; and no frame leaves a port twice.
+/// software (or, where no more frames may wait, is an overrun) just where, the one-table bridge says by the chip's cut; software sends
+/// what came to it to just the remaining ports that this bridge gives at its published point; and no frame leaves a port twice.
 pub fn headline()
     ensures chip { (setup : Setup) (before after : List Step) (port : ℕ) (bytes : List ℕ) (head : Head) (chip : Chip)
         → frame bytes ≡ Ok head → chip_of (run setup before).0 (domain_of setup.domains port) ≡ Some chip
