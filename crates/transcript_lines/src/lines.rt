@@ -111,7 +111,7 @@ fn store_tagged(
     rest: &[u8],
 ) -> Span
     requires { vec_len arena.old + (length front.now + (length tag.now + length rest.now)) ≤ vec_capacity arena.old }
-    ensures form { StoresTagged arena.old.items arena.new.items ports.entry untagged.entry (front.now ++ (tag.now ++ rest.now)) result }
+    ensures form { StoresTagged arena.old.items arena.new.items ports untagged (front.now ++ (tag.now ++ rest.now)) result }
     ensures capacity { vec_capacity arena.old ≤ vec_capacity arena.new }
 {
     ports.members_ascend();

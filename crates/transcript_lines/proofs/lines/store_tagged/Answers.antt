@@ -1,12 +1,9 @@
-use Rattle.std.proofs.Common.{ℕ, ◌++◌, not, if◌then◌else◌, List, [], ◌∷◌, map, length, refl, sym, ap, ap₂, ◌∙◌, IsTrue, arith}
-use Rattle.std.specs.List.{filter}
-use Rattle.std.proofs.lemmas.List.{append-nil, length-append}
+use Rattle.std.proofs.Common.{ℕ, ◌++◌, not, if◌then◌else◌, List, [], refl, sym, ap, ◌∙◌, arith}
+use Rattle.std.proofs.lemmas.List.{append-nil}
 use Rattle.std.proofs.lemmas.Bool.{not-false}
-use Rattle.br_model.specs.declared.transcript.Line.{Line}
 use Rattle.br_model.specs.declared.transcript.Line.TheVariants as lines
-use Rattle.port_sets.specs.Numbers.{has_number, numbers_below, IsSetBelow}
+use Rattle.port_sets.specs.Numbers.{has_number}
 use Rattle.port_sets.proofs.Numbers.{filter-set}
-use Rattle.transcript_lines.specs.Rows.{sent_lines}
 use Rattle.transcript_lines.proofs.RowLaws.{none_left}
 use Rattle.transcript_lines.proofs.lines.store_tagged.Goals as goal
 
