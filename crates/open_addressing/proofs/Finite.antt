@@ -1,6 +1,6 @@
 -- A finite map's cells, as they change.
 use Rattle.std.proofs.Common.{◌≡◌, ◌≢◌, ℕ, zero, suc, ◌+◌, ◌-◌, ◌<◌, ◌≤◌, Bool, true, false, eqb, not, cond, Option, None, Some, List}
-use Rattle.std.proofs.Common.{[], ◌∷◌, length, get_or, set, count_by, find, replicate, is_some, refl, sym, ap, subst, ◌∙◌, ⊎_elim, inl, inr, ◌⊎◌, arith}
+use Rattle.std.proofs.Common.{length, get_or, set, count_by, find, replicate, is_some, refl, sym, ap, subst, ◌∙◌, ⊎_elim, inl, inr, ◌⊎◌, arith}
 use Rattle.std.proofs.lemmas.Bool.{eqb-true, ne_eqb, eq-eqb}
 use Rattle.std.proofs.lemmas.List.{get_or_default, length-set, length-replicate}
 use Rattle.std.proofs.lemmas.List.Sums.{sum_by-cons}

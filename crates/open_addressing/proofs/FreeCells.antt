@@ -1,8 +1,8 @@
 -- Free cells, as they are used and left.
-use Rattle.std.proofs.Common.{◌≡◌, ◌≢◌, ℕ, ◌+◌, ◌-◌, ◌<◌, ◌≤◌, List, [], ◌∷◌, ◌++◌, length, get_or, take, refl, sym, ap, subst, ◌∙◌, arith}
+use Rattle.std.proofs.Common.{◌≡◌, ◌≢◌, ℕ, ◌+◌, ◌-◌, ◌<◌, List, [], ◌∷◌, ◌++◌, length, get_or, take, refl, sym, ap, subst, ◌∙◌, arith}
 use Rattle.std.proofs.lemmas.List.{get_or-take, length-take-le, get_or_append_left, get_or_push, length_push}
 use Rattle.open_addressing.specs.Spare.{AreSpare, Uses}
-use Rattle.open_addressing.proofs.Indexed.{by_eq, by_lt}
+use Rattle.open_addressing.proofs.Indexed.{by_lt}
 
 -- all are free
 pub spare-none : (at : ℕ → ℕ) (room : ℕ) → room < 65535 → ((i : ℕ) → at i ≡ 0) → AreSpare at 0 room 0 []

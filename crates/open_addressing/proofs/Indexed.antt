@@ -1,8 +1,8 @@
 -- An index of keys, as keys come and go.
-use Rattle.std.proofs.Common.{◌≡◌, ◌≢◌, ℕ, zero, suc, ◌+◌, ◌-◌, ◌^◌, ◌<◌, ◌≤◌, Bool, true, false, not, ◌&&◌, eqb, cond, List}
-use Rattle.std.proofs.Common.{[], ◌∷◌, length, get_or, set, replicate, count_by, refl, sym, ap, subst, ◌∙◌, ◌⊎◌, inl, inr, ⊎_elim, ⊥, arith}
-use Rattle.std.proofs.lemmas.Bool.{cases_eq, cases_lt, eqb-true, eq-eqb, ne_eqb}
-use Rattle.std.proofs.lemmas.List.{get_or-set_same, get_or-set_other, length-set, get_or_past, get_or_read, length-replicate}
+use Rattle.std.proofs.Common.{◌≡◌, ◌≢◌, ℕ, zero, suc, ◌+◌, ◌-◌, ◌^◌, ◌<◌, ◌≤◌, true, false, not, ◌&&◌, eqb, cond, List}
+use Rattle.std.proofs.Common.{length, get_or, set, replicate, count_by, refl, sym, ap, subst, ◌∙◌, ⊎_elim, arith}
+use Rattle.std.proofs.lemmas.Bool.{cases_eq, cases_lt, eq-eqb, ne_eqb}
+use Rattle.std.proofs.lemmas.List.{get_or-set_same, get_or-set_other, length-set, get_or_read, length-replicate}
 use Rattle.std.proofs.lemmas.List.Sums.{sum_by-cons}
 use Rattle.std.specs.List.{insert, remove}
 use Rattle.std.proofs.lemmas.List.Edits.{length-insert, get_or-insert_below, get_or-insert_at, get_or-insert_above, length-remove, get_or-remove_below, get_or-remove_above}
@@ -15,7 +15,7 @@ use Rattle.open_addressing.proofs.Lookups.{count-set}
 pub by_eq : {A : Type 0} (a b : ℕ) → (a ≡ b → A) → (a ≢ b → A) → A
 by_eq a b f g = ⊎_elim f g (cases_eq a b)
 
-by_lt : {A : Type 0} (a b : ℕ) → (a < b → A) → (b ≤ a → A) → A
+pub by_lt : {A : Type 0} (a b : ℕ) → (a < b → A) → (b ≤ a → A) → A
 by_lt a b f g = ⊎_elim f g (cases_lt a b)
 
 -- ---- slots
@@ -443,11 +443,6 @@ none_taken (suc n) =
     let all = sum_by-cons (λ s. cond {A = ℕ} (is_taken s) 1 0) 0 (replicate n 0) in
     let zero_slot : cond {A = ℕ} (is_taken 0) 1 0 ≡ 0 = ap (λ b. cond {A = ℕ} b 1 0) not_zero in
     omega arith
-
-zeros : (n i : ℕ) → ◌≡◌ {A = ℕ} (get_or (replicate n 0) i 0) 0
-zeros zero i = refl
-zeros (suc n) zero = refl
-zeros (suc n) (suc i) = zeros n i
 
 pub named-blank : (bits : ℕ) (slots rest : List ℕ) → IsBlank bits slots rest → named_by slots rest ≡ 0
 named-blank bits slots rest blank = (let a = ap (count_by is_taken) blank.slots ∙ none_taken (2 ^ bits) in let b = ap length blank.rest in omega arith)

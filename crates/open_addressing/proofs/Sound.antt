@@ -2,7 +2,7 @@
 use Rattle.std.proofs.Common.{◌≡◌, ◌≢◌, ℕ, zero, suc, ◌+◌, ◌-◌, ◌^◌, ◌<◌, ◌≤◌, eqb, cond, Option, None, Some, List, [], ◌∷◌, ◌++◌, length, get_or, set, replicate, refl, sym, ap, subst, ◌∙◌, arith}
 use Rattle.std.proofs.lemmas.List.{get_or-set_same, get_or-set_other, get_or_past}
 use Rattle.open_addressing.specs.Hashed.{key_in}
-use Rattle.open_addressing.specs.Zipped.{key_of, value_of, cell_of}
+use Rattle.open_addressing.specs.Zipped.{key_of, cell_of}
 use Rattle.open_addressing.specs.Indexed.{named_by, IsIndexed, IsBlank}
 use Rattle.open_addressing.specs.Spare.{AreSpare, Uses}
 use Rattle.open_addressing.specs.Finite.{value_at, AreCells, IsSound}
@@ -24,8 +24,8 @@ module _ {V : Type 0} where
   pub key-within : (cells : List (Option (ℕ × V))) (i : ℕ) → key_in key_of None cells i ≢ 0 → i < length cells
   key-within cells i used = by_lt i (length cells) (λ h. h) (λ past. absurd (used (ap key_of (get_or_past cells i None past))))
 
-  blank_keys : (n i : ℕ) → key_in (key_of {V = V}) None (replicate n None) i ≡ 0
-  blank_keys n i = ap key_of (blank n i)
+  blank_keys : (cells : List (Option (ℕ × V))) (n i : ℕ) → cells ≡ replicate n None → key_in key_of None cells i ≡ 0
+  blank_keys cells n i is = ap (λ (cs : List (Option (ℕ × V))). key_in key_of None cs i) is ∙ ap key_of (blank n i)
     where
       blank : (n i : ℕ) → get_or (replicate {A = Option (ℕ × V)} n None) i None ≡ None
       blank zero i = refl
@@ -36,7 +36,7 @@ module _ {V : Type 0} where
   pub sound-none : (hash : ℕ → ℕ) (bits : ℕ) (slots rest : List ℕ) (fresh : ℕ) (free : List ℕ) (count room : ℕ) (cells : List (Option (ℕ × V))) → ((k : ℕ) → hash k < 2 ^ 64)
       → IsBlank bits slots rest → fresh ≡ 0 → free ≡ [] → room < 65535 → room ≤ count → cells ≡ replicate count None → IsSound hash bits slots rest fresh free 0 room cells
   sound-none hash bits slots rest fresh free count room cells hashes blank no_fresh no_free fits roomy is =
-      let none : (i : ℕ) → key_in key_of None cells i ≡ 0 = λ i. ap (λ (cs : List (Option (ℕ × V))). key_in key_of None cs i) is ∙ blank_keys count i in
+      let none : (i : ℕ) → key_in key_of None cells i ≡ 0 = λ i. blank_keys cells count i is in
       record {
         cells = cells-none room count cells roomy is;
         index = indexed-blank hash bits (key_in key_of None cells) slots rest hashes blank none;

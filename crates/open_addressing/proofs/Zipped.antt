@@ -1,6 +1,6 @@
 -- Keys with their values as cells.
 use Rattle.std.proofs.Common.{◌≡◌, ◌≢◌, ℕ, zero, suc, ◌<◌, ◌≤◌, Bool, true, false, cond, Option, None, Some, List}
-use Rattle.std.proofs.Common.{[], ◌∷◌, filter_map, map, length, replicate, get_or, set, refl, sym, ap, subst, ◌∙◌, arith}
+use Rattle.std.proofs.Common.{[], ◌∷◌, filter_map, map, length, replicate, get_or, set, refl, sym, ap, ◌∙◌, arith}
 use Rattle.std.specs.List.{cons_option}
 use Rattle.std.proofs.lemmas.List.{get_or-map, length-map, map-set}
 use Rattle.lists.specs.Padded.{padded}

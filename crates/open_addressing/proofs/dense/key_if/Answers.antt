@@ -1,4 +1,4 @@
-use Rattle.std.proofs.Common.{None, sym, ap, ◌∙◌, arith}
+use Rattle.std.proofs.Common.{sym, ap, ◌∙◌}
 use Rattle.open_addressing.specs.Finite.{key_if}
 use Rattle.open_addressing.proofs.Zipped.{pair-at, key_if-yes, key_if-no, key_if-empty}
 use Rattle.open_addressing.proofs.dense.key_if.Goals as goal

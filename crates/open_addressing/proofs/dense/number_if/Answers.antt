@@ -1,4 +1,4 @@
-use Rattle.std.proofs.Common.{None, sym, ap, ◌∙◌, arith}
+use Rattle.std.proofs.Common.{sym, ap, ◌∙◌}
 use Rattle.open_addressing.specs.Least.{number_if}
 use Rattle.open_addressing.proofs.Zipped.{pair-at}
 use Rattle.open_addressing.proofs.Least.{number_if-used, number_if-empty}

@@ -1,6 +1,5 @@
-use Rattle.std.proofs.Common.{◌≡◌, ◌≢◌, ℕ, None, length, get_or, sym, ap, ◌∙◌, subst, ◌<◌, arith}
+use Rattle.std.proofs.Common.{◌≡◌, ℕ, None, length, get_or, sym, ap, ◌∙◌, subst, ◌<◌, arith}
 use Rattle.std.proofs.lemmas.Bool.{eqb-true}
-use Rattle.std.proofs.lemmas.List.{get_or_default}
 use Rattle.lemmas.proofs.Numbers.{ne_from_eqb}
 use Rattle.open_addressing.specs.Hashed.{key_in}
 use Rattle.open_addressing.specs.Zipped.{key_of}
@@ -15,23 +14,20 @@ returns-then-place-rest-clause-none g c _ =
 pub holds-requires : goal.holds-requires
 holds-requires g c =
     let rest = c.args.rest.now in
-    let same : c.from.result ≡ get_or c.args.rest.now c.rank-place.result c.index-rest-place.result = omega arith in
-    let read : c.from.result ≡ get_or rest c.rank-place.result 0 = same ∙ get_or_default rest c.rank-place.result c.index-rest-place.result 0 (omega arith) in
+    let read : c.from.result ≡ get_or rest c.rank-place.result 0 = c.from.ensures in
     record { within = subst (λ n. n < length (g.C.Cells.cells c.args.cells.now)) (sym read) (c.requires.within c.rank-place.result (omega arith)); key = c.requires.key }
 
 pub returns-then-holds-clause-some : goal.returns-then-holds-clause-some
 returns-then-holds-clause-some g c =
     let at : ℕ → ℕ = key_in key_of None (g.C.Cells.cells c.args.cells.now) in
     let k : ℕ = g.C.Cells.number c.args.key.now in
-    let same : c.from.result ≡ get_or c.args.rest.now c.rank-place.result c.index-rest-place.result = omega arith in
-    let read : c.from.result ≡ get_or c.args.rest.now c.rank-place.result 0 = same ∙ get_or_default c.args.rest.now c.rank-place.result c.index-rest-place.result 0 (omega arith) in
+    let read : c.from.result ≡ get_or c.args.rest.now c.rank-place.result 0 = c.from.ensures in
     (omega arith, ap at (sym read) ∙ eqb-true (at c.from.result) k (sym c.holds.ensures ∙ c.if-holds.true))
 
 pub returns-else-holds-clause-none : goal.returns-else-holds-clause-none
 returns-else-holds-clause-none g c _ =
     let at : ℕ → ℕ = key_in key_of None (g.C.Cells.cells c.args.cells.now) in
     let k : ℕ = g.C.Cells.number c.args.key.now in
-    let same : c.from.result ≡ get_or c.args.rest.now c.rank-place.result c.index-rest-place.result = omega arith in
-    let read : c.from.result ≡ get_or c.args.rest.now c.rank-place.result 0 = same ∙ get_or_default c.args.rest.now c.rank-place.result c.index-rest-place.result 0 (omega arith) in
+    let read : c.from.result ≡ get_or c.args.rest.now c.rank-place.result 0 = c.from.ensures in
     rank_absent at c.args.rest.now k c.rank-place.result c.requires.ascending c.rank-place.ensures
     (λ h e. ne_from_eqb (at c.from.result) k (sym c.holds.ensures ∙ c.if-holds.false) (ap at read ∙ e))

@@ -1,4 +1,4 @@
-use Rattle.std.proofs.Common.{◌≡◌, ◌≢◌, ◌-◌, ℕ, None, subst, sym, ◌∙◌, true≢false, arith}
+use Rattle.std.proofs.Common.{◌≡◌, ◌≢◌, ◌-◌, None, subst, sym, ◌∙◌, true≢false, arith}
 use Rattle.open_addressing.specs.Hashed.{key_in}
 use Rattle.open_addressing.specs.Zipped.{key_of}
 use Rattle.open_addressing.proofs.index.named.Goals as goal

@@ -1,6 +1,5 @@
-use Rattle.std.proofs.Common.{ℕ, None, length, get_or, sym, ap, subst, ◌∙◌, ◌≡◌, ◌<◌, ◌≤◌, arith}
+use Rattle.std.proofs.Common.{ℕ, ◌+◌, ◌-◌, ◌/◌, None, length, get_or, sym, subst, ◌∙◌, ◌≡◌, ◌<◌, ◌≤◌, arith}
 use Rattle.std.proofs.lemmas.Bool.{ltb-true, ltb-false}
-use Rattle.std.proofs.lemmas.List.{get_or_default}
 use Rattle.open_addressing.specs.Hashed.{key_in}
 use Rattle.open_addressing.specs.Indexed.{Halves}
 use Rattle.open_addressing.specs.Zipped.{key_of}
@@ -11,15 +10,14 @@ pub loop-low-init : goal.loop-low-init
 loop-low-init g c =
     let at : ℕ → ℕ = key_in key_of None (g.C.Cells.cells c.args.cells.now) in
     let k : ℕ = g.C.Cells.number c.args.key.now in
-    subst (λ n. Halves at c.args.rest.now k 0 n) (sym c.len-high.ensures) (halves-all at c.args.rest.now k)
+    halves-all at c.args.rest.now k
 
 pub is_below-requires : goal.is_below-requires
 is_below-requires g c =
     let rest = c.args.rest.now in
     let low = c.loop-low.invariant.within in
-    let m : ℕ = c.middle in
-    let same : c.from.result ≡ get_or rest m c.index-rest-middle.result = omega arith in
-    let read : c.from.result ≡ get_or rest m 0 = same ∙ get_or_default rest m c.index-rest-middle.result 0 (omega arith) in
+    let m : ℕ = c.loop-low.low + (c.loop-low.high - c.loop-low.low) / 2 in
+    let read : c.from.result ≡ get_or rest m 0 = c.from.ensures in
     record { within = subst (λ n. n < length (g.C.Cells.cells c.args.cells.now)) (sym read) (c.requires.within m (omega arith)); key = c.requires.key }
 
 pub loop-low-preserved-then-is_below : goal.loop-low-preserved-then-is_below
@@ -28,9 +26,8 @@ loop-low-preserved-then-is_below g c =
     let k : ℕ = g.C.Cells.number c.args.key.now in
     let rest = c.args.rest.now in
     let within = c.loop-low.invariant.within in
-    let m : ℕ = c.middle in
-    let same : c.from.result ≡ get_or rest m c.index-rest-middle.result = omega arith in
-    let read : c.from.result ≡ get_or rest m 0 = same ∙ get_or_default rest m c.index-rest-middle.result 0 (omega arith) in
+    let m : ℕ = c.loop-low.low + (c.loop-low.high - c.loop-low.low) / 2 in
+    let read : c.from.result ≡ get_or rest m 0 = c.from.ensures in
     let less = ltb-true (at c.from.result) k (sym c.is_below.ensures ∙ c.if-is_below.true) in
     halves-up at rest k c.loop-low.low c.loop-low.high m c.requires.ascending c.loop-low.invariant (omega arith) (omega arith) (subst (λ n. at n < k) read less)
 
@@ -40,9 +37,8 @@ loop-low-preserved g c =
     let k : ℕ = g.C.Cells.number c.args.key.now in
     let rest = c.args.rest.now in
     let within = c.loop-low.invariant.within in
-    let m : ℕ = c.middle in
-    let same : c.from.result ≡ get_or rest m c.index-rest-middle.result = omega arith in
-    let read : c.from.result ≡ get_or rest m 0 = same ∙ get_or_default rest m c.index-rest-middle.result 0 (omega arith) in
+    let m : ℕ = c.loop-low.low + (c.loop-low.high - c.loop-low.low) / 2 in
+    let read : c.from.result ≡ get_or rest m 0 = c.from.ensures in
     let more = ltb-false (at c.from.result) k (sym c.is_below.ensures ∙ c.if-is_below.false) in
     halves-down at rest k c.loop-low.low c.loop-low.high m c.requires.ascending c.loop-low.invariant (omega arith) (omega arith) (subst (λ n. k ≤ at n) read more)
 

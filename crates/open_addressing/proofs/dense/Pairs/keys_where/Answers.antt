@@ -1,4 +1,4 @@
-use Rattle.std.proofs.Common.{◌≡◌, ◌++◌, ◌+◌, ◌<◌, [], ◌∷◌, List, ℕ, Option, None, Vec, Global, length, take, map, filter_map, get_or, sym, ap, ◌∙◌, refl, arith}
+use Rattle.std.proofs.Common.{◌++◌, ◌<◌, [], ◌∷◌, List, ℕ, Option, None, Vec, Global, length, take, map, filter_map, get_or, sym, ap, ◌∙◌, arith}
 use Rattle.std.proofs.lemmas.List.{append-nil, length-map, take_all}
 use Rattle.std.specs.List.{cons_option}
 use Rattle.lemmas.proofs.Lists.{filter_map-next}
@@ -6,7 +6,7 @@ use Rattle.open_addressing.specs.Finite.{key_if}
 use Rattle.open_addressing.specs.Zipped.{pair_cell}
 use Rattle.open_addressing.proofs.Zipped.{keys-padded}
 use Rattle.open_addressing.proofs.dense.Pairs.keys_where.Goals as goal
-use Rattle.open_addressing.proofs.dense.Pairs.keys_where.Goals.{in-Some-key_if+in_ok-push, in_default-key_if}
+use Rattle.open_addressing.proofs.dense.Pairs.keys_where.Goals.{in-Some+in_ok-push, in_default}
 
 pub key_if-requires : goal.key_if-requires
 key_if-requires g c = omega (arith, ap length c.as_slice.ensures.value, c.self.inside.pairs.ok.0)
@@ -20,9 +20,9 @@ loop-i-preserved g c =
     let got = c.key_if.ensures ∙ ap (λ (xs : List (ℕ × g.row.V.Denot)). h (get_or (map pair_cell xs) c.loop-i.i None)) c.as_slice.ensures.value in
     let made = λ (o : Option ℕ). filter_map h (take c.loop-i.i (map pair_cell es)) ++ cons_option o [] in
     elim c.match-key_if.branch [
-      | in-Some-key_if+in_ok-push w ↦ ap (λ (v : Vec ℕ Global). v.items) w.keys-is ∙ w.in_ok-push.ensures.items ∙ ap (λ (ks : List ℕ). ks ++ w.in-Some-key_if.key ∷ []) c.loop-i.invariant
-          ∙ ap made (sym w.in-Some-key_if.is ∙ got) ∙ sym next
-      | in_default-key_if w ↦ ap (λ (v : Vec ℕ Global). v.items) w.keys-is ∙ c.loop-i.invariant ∙ sym (append-nil _) ∙ ap made (sym w.in_default-key_if.is ∙ got) ∙ sym next
+      | in-Some+in_ok-push w ↦ ap (λ (v : Vec ℕ Global). v.items) w.keys-is ∙ w.in_ok-push.ensures.items ∙ ap (λ (ks : List ℕ). ks ++ w.in-Some.key ∷ []) c.loop-i.invariant
+          ∙ ap made (sym w.in-Some.is ∙ got) ∙ sym next
+      | in_default w ↦ ap (λ (v : Vec ℕ Global). v.items) w.keys-is ∙ c.loop-i.invariant ∙ sym (append-nil _) ∙ ap made (sym w.in_default.is ∙ got) ∙ sym next
     ]
 
 pub returns : goal.returns

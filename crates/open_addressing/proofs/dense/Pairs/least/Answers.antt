@@ -1,4 +1,4 @@
-use Rattle.std.proofs.Common.{◌<◌, List, ℕ, None, length, take, map, get_or, sym, ap, ap₂, ◌∙◌, refl, arith}
+use Rattle.std.proofs.Common.{◌<◌, List, ℕ, None, length, map, get_or, sym, ap, ap₂, ◌∙◌, arith}
 use Rattle.std.proofs.lemmas.List.{length-map, take_all}
 use Rattle.open_addressing.specs.Least.{smaller, number_if, least_in}
 use Rattle.open_addressing.specs.Zipped.{pair_cell}

@@ -1,4 +1,3 @@
-use Rattle.std.proofs.Common.{arith}
 use Rattle.open_addressing.proofs.Zipped.{padded-make}
 use Rattle.open_addressing.proofs.dense.Pairs.make.Goals as goal
 

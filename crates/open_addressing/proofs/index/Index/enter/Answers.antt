@@ -1,22 +1,21 @@
-use Rattle.std.proofs.Common.{◌≡◌, ◌≢◌, ℕ, List, None, length, get_or, set, refl, sym, ap, subst, ◌∙◌, ◌+◌, ◌<◌, ◌≤◌, arith}
-use Rattle.std.specs.List.{insert}
+use Rattle.std.proofs.Common.{ℕ, List, None, length, get_or, set, sym, ap, subst, ◌∙◌, ◌+◌, arith}
 use Rattle.std.proofs.lemmas.List.Edits.{length-insert}
-use Rattle.open_addressing.specs.Hashed.{key_in, home_of}
-use Rattle.open_addressing.specs.Indexed.{slot_of, is_taken, named_by, Ascends, Halves, IsIndexed}
+use Rattle.open_addressing.specs.Hashed.{key_in}
+use Rattle.open_addressing.specs.Indexed.{is_taken, Halves, IsIndexed}
 use Rattle.open_addressing.specs.Zipped.{key_of}
 use Rattle.open_addressing.proofs.Hashed.{home-is}
 use Rattle.open_addressing.proofs.Indexed.{slot-read, enters_slot, enters_list, taken, more_slots}
 use Rattle.open_addressing.proofs.Sound.{key-within, key-set, key-kept}
 use Rattle.open_addressing.proofs.index.Index.enter.Goals as goal
 
-pub home-requires : goal.home-requires
-home-requires g c = record { some = c.requires.index.some; few = c.requires.index.few }
+pub home-slot-requires : goal.home-slot-requires
+home-slot-requires g c = record { some = c.requires.index.some; few = c.requires.index.few }
 
 pub index-requires : goal.index-requires
-index-requires g c = omega (arith, c.home.ensures.within, c.requires.index.sized, c.args.self.now.slots.ok.0)
+index-requires g c = omega (arith, c.home-slot.ensures.within, c.requires.index.sized, c.args.self.now.slots.ok.0)
 
-pub rank-requires : goal.rank-requires
-rank-requires g c =
+pub rank-place-requires : goal.rank-place-requires
+rank-place-requires g c =
     let cells = g.C.Cells.cells c.args.cells.now in
     let rest = c.args.self.now.rest.items in
     record {
@@ -29,7 +28,7 @@ pub insert_at-requires-clause-within : goal.insert_at-requires-clause-within
 insert_at-requires-clause-within g c = omega (arith, c.rank-place.ensures.within, ap length c.as_slice.ensures.value)
 
 pub index_mut-requires : goal.index_mut-requires
-index_mut-requires g c = omega (arith, c.home.ensures.within, c.requires.index.sized, c.args.self.now.slots.ok.0)
+index_mut-requires g c = omega (arith, c.home-slot.ensures.within, c.requires.index.sized, c.args.self.now.slots.ok.0)
 
 pub returns-then-is_taken-clause-index : goal.returns-then-is_taken-clause-index
 returns-then-is_taken-clause-index g c v is =

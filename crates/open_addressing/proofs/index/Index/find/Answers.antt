@@ -1,7 +1,6 @@
 use Rattle.std.proofs.Common.{◌≡◌, ◌≢◌, ℕ, List, None, length, get_or, refl, sym, ap, subst, ◌∙◌, ◌<◌, arith}
 use Rattle.std.proofs.lemmas.List.{get_or_read}
-use Rattle.open_addressing.specs.Hashed.{key_in, home_of}
-use Rattle.open_addressing.specs.Indexed.{slot_of, is_taken, Ascends}
+use Rattle.open_addressing.specs.Hashed.{key_in}
 use Rattle.open_addressing.specs.Zipped.{key_of}
 use Rattle.open_addressing.proofs.Hashed.{home-is}
 use Rattle.open_addressing.proofs.Indexed.{slot-read, slot-cell, missed, never}
@@ -14,14 +13,14 @@ home-requires g c = record { some = c.requires.index.some; few = c.requires.inde
 pub index-slot-requires : goal.index-slot-requires
 index-slot-requires g c = omega (arith, c.home.ensures.within, c.requires.index.sized, c.args.self.now.slots.ok.0)
 
-pub returns-then-slot-eq0-clause-absent : goal.returns-then-slot-eq0-clause-absent
-returns-then-slot-eq0-clause-absent g c _ =
+pub returns-then-slot-eq-NEVER-clause-absent : goal.returns-then-slot-eq-NEVER-clause-absent
+returns-then-slot-eq-NEVER-clause-absent g c _ =
     let s = c.args.self.now in
     let k : ℕ = g.C.Cells.number c.args.key.now in
     let at : ℕ → ℕ = key_in key_of None (g.C.Cells.cells c.args.cells.now) in
     let h = home-is g.C.Cells.hash s.bits k c.hash.result c.home.result c.home.ensures.value c.hash.ensures in
     let read = slot-read g.C.Cells.hash s.bits at s.slots.items s.rest.items c.requires.index k c.home.result c.index-slot.result.now h c.index-slot.ensures in
-    never g.C.Cells.hash s.bits at s.slots.items s.rest.items c.requires.index k c.requires.key (read ∙ c.if-slot-eq0.true)
+    never g.C.Cells.hash s.bits at s.slots.items s.rest.items c.requires.index k c.requires.key (read ∙ c.if-slot-eq-NEVER.true)
 
 pub named-requires : goal.named-requires
 named-requires g c =
@@ -47,27 +46,27 @@ listed-requires g c =
       ascending = rw c.as_slice.ensures.value c.requires.index.ascending;
     }
 
-pub returns-in_err-place-clause-absent : goal.returns-in_err-place-clause-absent
-returns-in_err-place-clause-absent g c _ =
+pub returns-in_err-place-in-None-clause-absent : goal.returns-in_err-place-in-None-clause-absent
+returns-in_err-place-in-None-clause-absent g c _ =
     let s = c.args.self.now in
     let k : ℕ = g.C.Cells.number c.args.key.now in
     let at : ℕ → ℕ = key_in key_of None (g.C.Cells.cells c.args.cells.now) in
     let h = home-is g.C.Cells.hash s.bits k c.hash.result c.home.result c.home.ensures.value c.hash.ensures in
     let read = slot-read g.C.Cells.hash s.bits at s.slots.items s.rest.items c.requires.index k c.home.result c.index-slot.result.now h c.index-slot.ensures in
     missed g.C.Cells.hash s.bits at s.slots.items s.rest.items c.requires.index k c.index-slot.result.now c.requires.key read (c.in-None.ensures.none refl)
-    (subst (λ (r : List ℕ). (j : ℕ) → j < length r → at (get_or r j 0) ≢ k) c.as_slice.ensures.value (c.in_err-place.ensures.none refl))
+    (subst (λ (r : List ℕ). (j : ℕ) → j < length r → at (get_or r j 0) ≢ k) c.as_slice.ensures.value (c.in_err-place-in-None.ensures.none refl))
 
 pub index-requires : goal.index-requires
-index-requires g c = omega (arith, c.in_ok-place.ensures.some.0, ap length c.as_slice.ensures.value, c.args.self.now.rest.ok.0)
+index-requires g c = omega (arith, c.in_ok-place-in-None.ensures.some.0, ap length c.as_slice.ensures.value, c.args.self.now.rest.ok.0)
 
-pub returns-in_ok-place-clause-found : goal.returns-in_ok-place-clause-found
-returns-in_ok-place-clause-found g c =
+pub returns-in_ok-place-in-None-clause-found : goal.returns-in_ok-place-in-None-clause-found
+returns-in_ok-place-in-None-clause-found g c =
     let s = c.args.self.now in
     let cells = g.C.Cells.cells c.args.cells.now in
     let at : ℕ → ℕ = key_in key_of None cells in
-    let place : ℕ = c.in_ok-place.place in
-    let within : place < length s.rest.items = omega (arith, c.in_ok-place.ensures.some.0, ap length c.as_slice.ensures.value) in
+    let place : ℕ = c.in_ok-place-in-None.place in
+    let within : place < length s.rest.items = omega (arith, c.in_ok-place-in-None.ensures.some.0, ap length c.as_slice.ensures.value) in
     let same : c.from.result ≡ c.index.result.now = omega arith in
     let read : c.from.result ≡ get_or s.rest.items place 0 = same ∙ get_or_read s.rest.items place c.index.result.now within c.index.ensures 0 in
-    let here = ap at (read ∙ ap (λ (r : List ℕ). get_or r place 0) (sym c.as_slice.ensures.value)) ∙ c.in_ok-place.ensures.some.1 in
+    let here = ap at (read ∙ ap (λ (r : List ℕ). get_or r place 0) (sym c.as_slice.ensures.value)) ∙ c.in_ok-place-in-None.ensures.some.1 in
     (key-within cells c.from.result (λ z. c.requires.key (sym here ∙ z)), here)

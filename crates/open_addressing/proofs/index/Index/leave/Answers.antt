@@ -1,23 +1,21 @@
 use Rattle.std.proofs.Common.{◌≡◌, ◌≢◌, ℕ, List, None, length, get_or, set, refl, sym, ap, subst, ◌∙◌, ◌+◌, ◌<◌, arith}
-use Rattle.std.specs.List.{remove}
 use Rattle.std.proofs.lemmas.List.Edits.{length-remove}
-use Rattle.std.proofs.lemmas.Bool.{eqb-true}
-use Rattle.open_addressing.specs.Hashed.{key_in, home_of}
-use Rattle.open_addressing.specs.Indexed.{left, slot_of, is_taken, named_by, Ascends, IsIndexed}
+use Rattle.open_addressing.specs.Hashed.{key_in}
+use Rattle.open_addressing.specs.Indexed.{left, is_taken, IsIndexed}
 use Rattle.open_addressing.specs.Zipped.{key_of}
 use Rattle.open_addressing.proofs.Hashed.{home-is}
 use Rattle.open_addressing.proofs.Indexed.{slot-read, leaves_slot, leaves_list, stands, taken, not_left, less_slots}
 use Rattle.open_addressing.proofs.Sound.{key-within, key-set, key-kept}
 use Rattle.open_addressing.proofs.index.Index.leave.Goals as goal
 
-pub home-requires : goal.home-requires
-home-requires g c = record { some = c.requires.index.some; few = c.requires.index.few }
+pub home-slot-requires : goal.home-slot-requires
+home-slot-requires g c = record { some = c.requires.index.some; few = c.requires.index.few }
 
 pub index-requires : goal.index-requires
-index-requires g c = omega (arith, c.home.ensures.within, c.requires.index.sized, c.args.self.now.slots.ok.0)
+index-requires g c = omega (arith, c.home-slot.ensures.within, c.requires.index.sized, c.args.self.now.slots.ok.0)
 
 pub index_mut-requires : goal.index_mut-requires
-index_mut-requires g c = omega (arith, c.home.ensures.within, c.requires.index.sized, c.args.self.now.slots.ok.0)
+index_mut-requires g c = omega (arith, c.home-slot.ensures.within, c.requires.index.sized, c.args.self.now.slots.ok.0)
 
 pub listed-requires : goal.listed-requires
 listed-requires g c =

@@ -17,8 +17,8 @@ invariant_of-self g c =
     c.in-Some.i (g.C.Cells.number c.args.key.now) c.args.value (g.C.Cells.cells c.put.new.self) f.0 c.requires.key f.1 c.put.ensures in
     (r.0, c.self.invariant.1, c.self.invariant.2)
 
-pub take-requires : goal.take-requires
-take-requires g c = omega (arith, c.self.invariant.0.spare.within, c.self.invariant.0.spare.small)
+pub take-i-requires : goal.take-i-requires
+take-i-requires g c = omega (arith, c.self.invariant.0.spare.within, c.self.invariant.0.spare.small)
 
 pub enter-requires : goal.enter-requires
 enter-requires g c =
@@ -27,7 +27,7 @@ enter-requires g c =
     let sound = c.self.invariant.0 in
     let none = c.in-None.ensures.absent refl in
     let room = roomy m.used m.room cells sound.cells c.args.self.now c.self.view_is (g.C.Cells.number c.args.key.now) c.requires.key (λ i _. none i) c.requires.room in
-    let uses = c.take.ensures.uses (key_in key_of None cells) m.used m.room sound.spare room in
+    let uses = c.take-i.ensures.uses (key_in key_of None cells) m.used m.room sound.spare room in
     record {
       index = sound.index;
       key = c.requires.key;
@@ -45,7 +45,7 @@ put-requires-in-None-clause-within g c =
     let sound = c.self.invariant.0 in
     let none = c.in-None.ensures.absent refl in
     let room = roomy m.used m.room cells sound.cells c.args.self.now c.self.view_is (g.C.Cells.number c.args.key.now) c.requires.key (λ i _. none i) c.requires.room in
-    let uses = c.take.ensures.uses (key_in key_of None cells) m.used m.room sound.spare room in
+    let uses = c.take-i.ensures.uses (key_in key_of None cells) m.used m.room sound.spare room in
     omega (arith, uses.within, sound.cells.sized)
 
 pub invariant_of-self-in-None : goal.invariant_of-self-in-None
@@ -56,12 +56,12 @@ invariant_of-self-in-None g c =
     let sound = c.self.invariant.0 in
     let none = c.in-None.ensures.absent refl in
     let room = roomy m.used m.room cells sound.cells c.args.self.now c.self.view_is k c.requires.key (λ i _. none i) c.requires.room in
-    let uses = c.take.ensures.uses (key_in key_of None cells) m.used m.room sound.spare room in
+    let uses = c.take-i.ensures.uses (key_in key_of None cells) m.used m.room sound.spare room in
     let r = sound-new g.C.Cells.hash m.index.bits m.index.slots.items m.index.rest.items m.spare.fresh m.spare.free.items m.used m.room cells sound
-    c.take.result k c.args.value
-    (g.C.Cells.cells c.put-in-None.new.self) c.enter.new.self.bits c.enter.new.self.slots.items c.enter.new.self.rest.items c.take.new.self.fresh c.take.new.self.free.items
+    c.take-i.result k c.args.value
+    (g.C.Cells.cells c.put-in-None.new.self) c.enter.new.self.bits c.enter.new.self.slots.items c.enter.new.self.rest.items c.take-i.new.self.fresh c.take-i.new.self.free.items
     uses c.requires.key none room c.put-in-None.ensures c.enter.ensures.index c.enter.ensures.named in
-    (r.0, omega (arith, c.self.invariant.1, c.enter.ensures.room), omega (arith, c.self.invariant.2, c.take.ensures.room))
+    (r.0, omega (arith, c.self.invariant.1, c.enter.ensures.room), omega (arith, c.self.invariant.2, c.take-i.ensures.room))
 
 pub returns-in-Some : goal.returns-in-Some
 returns-in-Some g c =
@@ -85,9 +85,9 @@ returns-in-None g c =
     let sound = c.self.invariant.0 in
     let none = c.in-None.ensures.absent refl in
     let room = roomy m.used m.room cells sound.cells c.args.self.now c.self.view_is k c.requires.key (λ i _. none i) c.requires.room in
-    let uses = c.take.ensures.uses (key_in key_of None cells) m.used m.room sound.spare room in
+    let uses = c.take-i.ensures.uses (key_in key_of None cells) m.used m.room sound.spare room in
     let r = sound-new g.C.Cells.hash m.index.bits m.index.slots.items m.index.rest.items m.spare.fresh m.spare.free.items m.used m.room cells sound
-    c.take.result k c.args.value new c.enter.new.self.bits c.enter.new.self.slots.items c.enter.new.self.rest.items c.take.new.self.fresh c.take.new.self.free.items
+    c.take-i.result k c.args.value new c.enter.new.self.bits c.enter.new.self.slots.items c.enter.new.self.rest.items c.take-i.new.self.fresh c.take-i.new.self.free.items
     uses c.requires.key none room c.put-in-None.ensures c.enter.ensures.index c.enter.ensures.named in
     let made : List (ℕ × g.row.V.Denot) → Table g.row.V.Denot = λ es. record { entries = es; room = m.room; cells = new } in
     let puts : Table g.row.V.Denot → Table g.row.V.Denot = λ t. record { entries = put nat_cmp k c.args.value t.entries; room = t.room; cells = new } in

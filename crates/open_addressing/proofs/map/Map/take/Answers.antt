@@ -1,6 +1,8 @@
 use Rattle.std.proofs.Common.{◌≢◌, ℕ, ◌-◌, not, List, refl, ap, sym, ◌∙◌, eqb, cond, None, arith}
 use Rattle.std.specs.Ordering.{nat_cmp, eq_by_cmp}
 use Rattle.std.specs.FinMap.Entries.{find, where_key}
+use Rattle.open_addressing.specs.Hashed.{key_in}
+use Rattle.open_addressing.specs.Zipped.{key_of}
 use Rattle.open_addressing.specs.Finite.{Table, value_at}
 use Rattle.open_addressing.proofs.Finite.{value-kept, value-found, value-absent, used-pos}
 use Rattle.open_addressing.proofs.Sound.{sound-out}
@@ -32,13 +34,13 @@ give-requires g c =
     let cells = g.C.Cells.cells m.cells in
     let sound = c.self.invariant.0 in
     let f = c.in_ok-i.ensures.found in
-    let some : _ = λ e. c.requires (sym f.1 ∙ e) in
+    let some : key_in key_of None cells c.in_ok-i.i ≢ 0 = λ e. c.requires (sym f.1 ∙ e) in
     let small = sound.index.small c.in_ok-i.i some in
     let pos = used-pos m.used m.room cells sound.cells c.in_ok-i.i f.0 some in
     record { small = omega arith; room = omega (arith, sound.spare.counted, sound.spare.within, c.self.invariant.2) }
 
-pub overflow_sub-used : goal.overflow_sub-used
-overflow_sub-used g c =
+pub overflow_sub-self : goal.overflow_sub-self
+overflow_sub-self g c =
     let m = c.self.inside in
     let f = c.in_ok-i.ensures.found in
     used-pos m.used m.room (g.C.Cells.cells m.cells) c.self.invariant.0.cells c.in_ok-i.i f.0 (λ e. c.requires (sym f.1 ∙ e))

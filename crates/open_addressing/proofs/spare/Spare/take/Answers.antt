@@ -1,4 +1,6 @@
-use Rattle.std.proofs.Common.{◌≡◌, ℕ, ◌-◌, ◌+◌, ◌<◌, List, length, vec_len, get_or, take, refl, ap, arith, sym, subst, ◌∙◌}
+use Rattle.std.proofs.Common.{◌≡◌, ℕ, ◌-◌, ◌+◌, ◌++◌, ◌<◌, List, length, vec_len, get_or, take, ap, arith, sym, subst, ◌∙◌}
+use Rattle.std.specs.Option.{option_to_list}
+use Rattle.std.proofs.lemmas.List.{append-nil}
 use Rattle.std.proofs.lemmas.Option.{same_Some}
 use Rattle.open_addressing.specs.Spare.{Uses}
 use Rattle.open_addressing.proofs.FreeCells.{uses_left, uses_fresh}
@@ -18,4 +20,5 @@ pub returns-in-None-clause-uses : goal.returns-in-None-clause-uses
 returns-in-None-clause-uses c at used room x roomy =
     let free = c.args.self.now.free.items in
     let none : length free ≡ 0 = omega (arith, c.in-None.ensures.cases.0, c.args.self.now.free.ok.0) in
-    subst (λ (ns : List ℕ). Uses at used room c.args.self.now.fresh (c.args.self.now.fresh + 1) ns) c.pop.ensures.items (uses_fresh at used room c.args.self.now.fresh free x none roomy)
+    let same : free ≡ c.pop.new.self.items = c.pop.ensures.items ∙ ap (λ o. c.pop.new.self.items ++ option_to_list o) c.in-None.is ∙ append-nil _ in
+    subst (λ (ns : List ℕ). Uses at used room c.args.self.now.fresh (c.args.self.now.fresh + 1) ns) same (uses_fresh at used room c.args.self.now.fresh free x none roomy)
