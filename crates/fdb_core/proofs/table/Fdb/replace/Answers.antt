@@ -15,7 +15,6 @@ use Rattle.fdb_core.specs.Counts.{AreCounts, one_more}
 use Rattle.fdb_core.specs.Places.{IsTold, news_of}
 use Rattle.fdb_core.proofs.ByAddress.{Key, keys-put}
 use Rattle.fdb_core.proofs.Kept.{found-some, fewer, counted-put}
-use Rattle.fdb_core.proofs.Addresses.{told}
 use Rattle.fdb_core.proofs.table.Fdb.replace.Goals as goal
 
 pub insert-requires-clause-room : goal.insert-requires-clause-room
