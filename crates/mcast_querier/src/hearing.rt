@@ -8,7 +8,7 @@ use br_model::frame::{Head, McastMsg};
 use byteorder::{BigEndian, ByteOrder};
 use igmp_mld::classify;
 
-/// The IP source of a general query, whose header `parse` reads as `h`: `None` exactly where the frame
+/// The IP source of a general query, whose header `parse` reads as `head`: `None` exactly where the frame
 /// is none, or its source is zero.
 pub fn asker(bytes: &[u8], head: &Head) -> Option<u128>
     requires { frame bytes.now ≡ Ok head.now }

@@ -52,7 +52,7 @@ impl Querier {
         }
     }
 
-    /// A frame came to the host at this moment, in milliseconds. `h` is the header that `parse` reads from `b`. Only a general
+    /// A frame came to the host at this moment, in milliseconds. `head` is the header that `parse` reads from `bytes`. Only a general
     /// query from a lower address of its version changes anything.
     pub fn heard(&mut self, bytes: &[u8], head: &Head, now: u64)
         requires frame { frame bytes.now ≡ Ok head.now }

@@ -9,11 +9,12 @@ use Rattle.std.proofs.lemmas.Bool.{eqb-true, le-ltb, lt-ltb, ltb-true}
 use Rattle.std.proofs.lemmas.List.{length-take}
 use Rattle.std.proofs.lemmas.List.Elements.{filter-append}
 use Rattle.std.proofs.lemmas.Option.{same_Some}
+use Rattle.lemmas.proofs.Lists.{drop-length}
 use Rattle.br_model.specs.declared.change.Change.{Change}
 use Rattle.br_model.specs.declared.change.Kind.{Kind}
 use Rattle.br_model.specs.declared.domains.Edition.{Edition}
 use Rattle.br_model.specs.declared.steps.Step.{Step}
-use Rattle.br_model.specs.declared.steps.Step.TheVariants.{Rx, Cmd, Now, Serve, Hold, Post, Turn, Report, Sweep, Publish}
+use Rattle.br_model.specs.declared.steps.Step.TheVariants.{Turn}
 use Rattle.br_model.specs.Data.Digits.{hex_of}
 use Rattle.br_model.specs.Plane.Chip.{Chip, applies}
 use Rattle.br_model.specs.Plane.ChipSteps.{turns, turns_to}
@@ -43,7 +44,6 @@ use Rattle.neigh_netlink.specs.Neighbours.{Key}
 use Rattle.neigh_netlink.proofs.Kept.{one-message}
 use Rattle.neigh_netlink.specs.FollowedMessages.{text_of}
 use Rattle.neigh_netlink.proofs.Messages.{few-bytes}
-use Rattle.neigh_netlink.proofs.TakenRuns.{dropped}
 
 -- Deferred changes that the chips of their ports have applied.
 
@@ -225,7 +225,7 @@ module _ (w : World) (k : IsWorld w) (n : ℕ) (few : AreFew w.setup w.history (
       let grows = step-accepts w step in
       let cs : List Change = grows.0 in
       let old : List Change = deferred_of (edition_of w) w.history in
-      let new : accepted_in w step ≡ cs = ap (drop (length w.history)) grows.1 ∙ dropped w.history cs in
+      let new : accepted_in w step ≡ cs = ap (drop (length w.history)) grows.1 ∙ drop-length w.history cs in
       let come : length (accepted w step) ≤ length cs =
       subst (λ (l : List Change). length (messages_of (edition_of w) w.history l) ≤ length cs) (sym new) (messages-few (edition_of w) w.history cs) in
       let longer : homed w.setup.domains (counts_in w) 0 old ≤ homed w.setup.domains (counts_in (world_step w step).0) 0 (old ++ deferred_of (edition_of w) cs) =
@@ -242,16 +242,8 @@ module _ (w : World) (k : IsWorld w) (n : ℕ) (few : AreFew w.setup w.history (
       (omega (arith, few, turn-few w dom (chip_at w dom) refl (count-up w (Turn dom) k)))
 
   step-few : (step : Step) → AreFew w.setup (world_step w step).0.history (counts_in (world_step w step).0) (n + length (messages_in w step))
-  step-few (Rx port bytes) = accepted-few (Rx port bytes)
-  step-few (Cmd c) = accepted-few (Cmd c)
-  step-few (Now moment) = accepted-few (Now moment)
-  step-few Serve = accepted-few Serve
-  step-few Hold = accepted-few Hold
-  step-few (Post id point) = accepted-few (Post id point)
   step-few (Turn dom) = turned-few dom
-  step-few (Report dom) = accepted-few (Report dom)
-  step-few (Sweep dom) = accepted-few (Sweep dom)
-  step-few Publish = accepted-few Publish
+  step-few step = accepted-few step
 
 -- Runs.
 

@@ -10,7 +10,8 @@ use Rattle.std.proofs.lemmas.Bool.{and_from, eq-eqb, eqb-true}
 use Rattle.std.proofs.lemmas.List.{length-map}
 use Rattle.std.proofs.lemmas.List.Sums.{fold-append, fold_push}
 use Rattle.std.proofs.lemmas.Option.{same_Some}
-use Rattle.lemmas.proofs.Tests.{and_assoc}
+use Rattle.lemmas.proofs.Lists.{drop-length}
+use Rattle.lemmas.proofs.Tests.{and_assoc, cond-not}
 use Rattle.br_model.specs.declared.change.Change.{Change}
 use Rattle.br_model.specs.declared.change.Change.TheVariants.{AddrPut, AddrDel}
 use Rattle.br_model.specs.declared.change.Kind.{Kind}
@@ -18,7 +19,7 @@ use Rattle.br_model.specs.declared.change.Kind.TheVariants.{Local, Static, Learn
 use Rattle.br_model.specs.declared.change.Update.{Update}
 use Rattle.br_model.specs.declared.domains.Edition.{Edition}
 use Rattle.br_model.specs.declared.steps.Step.{Step}
-use Rattle.br_model.specs.declared.steps.Step.TheVariants.{Rx, Cmd, Now, Serve, Hold, Post, Turn, Report, Sweep, Publish}
+use Rattle.br_model.specs.declared.steps.Step.TheVariants.{Turn}
 use Rattle.br_model.specs.Data.Maps.{pair_cmp, get, put, without}
 use Rattle.br_model.specs.Plane.Chip.{Chip}
 use Rattle.br_model.specs.Plane.Runs.{run}
@@ -127,15 +128,11 @@ module _ (h later : List Change) (t : Neighbours) (k : Key) (agrees : Agrees h t
     places = λ q. ap (option_map place) (gone q) ∙ by q (eq_by_cmp pair_cmp q k) ∙ sym (now q);
   }
     where
-      flipped : (q : Key) (b : Bool) → cond (not b) (get pair_cmp t q) None ≡ cond b None (get pair_cmp t q)
-      flipped q true = refl
-      flipped q false = refl
-
       gone : (q : Key) → get pair_cmp (without pair_cmp t k) q ≡ cond (eq_by_cmp pair_cmp q k) None (get pair_cmp t q)
       gone q =
           find-where_key pair_cmp (λ p. not (eq_by_cmp pair_cmp k p)) q (λ p tie. ap (λ r. not (eq_by_cmp pair_cmp k r)) (sym (same_cmp q p tie))) t
           ∙ ap (λ b. cond (not b) (get pair_cmp t q) None) (eq-turned q k)
-          ∙ flipped q (eq_by_cmp pair_cmp q k)
+          ∙ cond-not (eq_by_cmp pair_cmp q k) (get pair_cmp t q) None
 
       by : (q : Key) (b : Bool) → option_map place (cond b None (get pair_cmp t q)) ≡ cond b None (get pair_cmp (table h).addr q)
       by q true = refl
@@ -245,32 +242,20 @@ turn-taken w (Some c) t agrees = by (next_of w c) refl
 
 -- Each step.
 
-pub dropped : (xs ys : List Change) → drop (length xs) (xs ++ ys) ≡ ys
-dropped [] ys = refl
-dropped (x ∷ xs) ys = dropped xs ys
-
 accepted-taken : (w : World) (step : Step) (t : Neighbours) → IsWorld w → Agrees w.history t → Takes (world_step w step).0.history t (accepted w step)
 accepted-taken w step t k agrees =
     let grows = step-accepts w step in
     let cs = grows.0 in
-    let new : accepted_in w step ≡ cs = ap (drop (length w.history)) grows.1 ∙ dropped w.history cs in
+    let new : accepted_in w step ≡ cs = ap (drop (length w.history)) grows.1 ∙ drop-length w.history cs in
     let fit : all_fit start (w.history ++ cs) ≡ true = ap (all_fit start) (sym grows.1) ∙ (step-world w step k).history.fits in
     let come = changes-taken (edition_of w) cs w.history t agrees (second_so (all_fit start w.history) _ (sym (fit-append start w.history cs) ∙ fit)) in
     subst (λ (l : List Change). Takes l t (accepted w step)) (sym grows.1)
     (subst (λ (l : List Change). Takes (w.history ++ cs) t (messages_of (edition_of w) w.history l)) (sym new) come)
 
 step-taken : (w : World) (t : Neighbours) (step : Step) → IsWorld w → Agrees w.history t → Takes (world_step w step).0.history t (messages_in w step)
-step-taken w t (Rx port bytes) k a = accepted-taken w (Rx port bytes) t k a
-step-taken w t (Cmd c) k a = accepted-taken w (Cmd c) t k a
-step-taken w t (Now moment) k a = accepted-taken w (Now moment) t k a
-step-taken w t Serve k a = accepted-taken w Serve t k a
-step-taken w t Hold k a = accepted-taken w Hold t k a
-step-taken w t (Post id point) k a = accepted-taken w (Post id point) t k a
 step-taken w t (Turn dom) k a =
     subst (λ (l : List Change). Takes l t (option_to_list (turned w (chip_at w dom)))) (sym (turn-history w dom)) (turn-taken w (chip_at w dom) t a)
-step-taken w t (Report dom) k a = accepted-taken w (Report dom) t k a
-step-taken w t (Sweep dom) k a = accepted-taken w (Sweep dom) t k a
-step-taken w t Publish k a = accepted-taken w Publish t k a
+step-taken w t step k a = accepted-taken w step t k a
 
 -- Runs.
 

@@ -11,6 +11,7 @@ use Rattle.std.proofs.lemmas.List.Folds.{list_all-append}
 use Rattle.std.proofs.lemmas.List.Sums.{fold_push}
 use Rattle.std.proofs.lemmas.Option.{slice_get_within, same_Some}
 use Rattle.std.proofs.lemmas.Result.{IfOk-at_ok}
+use Rattle.lemmas.proofs.Lists.{drop-length}
 use Rattle.br_model.specs.declared.change.Asks.{Asks}
 use Rattle.br_model.specs.declared.change.Asks.TheVariants.{Nothing, State, GroupRoom, AddressRoom}
 use Rattle.br_model.specs.declared.change.Change.{Change}
@@ -68,7 +69,7 @@ use Rattle.neigh_netlink.specs.Monitor.{accepted, gone_message, is_last, message
 use Rattle.neigh_netlink.specs.Offloaded.{entries_of}
 use Rattle.neigh_netlink.specs.FollowedMessages.{is_whole, text_of}
 use Rattle.neigh_netlink.proofs.FineChanges.{AllFine, Comes, IsFine, Leaves, Teaches, all-apply, apply-fine, both-fine, filter-all, is_entry, is_fine, is_vid, react-fine, start-fine, teach-so}
-use Rattle.neigh_netlink.proofs.TakenRuns.{dropped, run-followed}
+use Rattle.neigh_netlink.proofs.TakenRuns.{run-followed}
 
 -- The source of a frame has 48 bits.
 
@@ -379,7 +380,7 @@ module _ (ports : List Entry) (all : are_declared ports ≡ true) where
   accepted-whole w step line k f =
       let grows = step-accepts w step in
       let cs : List Change = grows.0 in
-      let new : accepted_in w step ≡ cs = ap (drop (length w.history)) grows.1 ∙ dropped w.history cs in
+      let new : accepted_in w step ≡ cs = ap (drop (length w.history)) grows.1 ∙ drop-length w.history cs in
       let fine : AllFine (w.history ++ cs) = ap (list_all is_fine) (sym grows.1) ∙ (step-fine ports all w step line f).changes in
       let few : length w.history + length cs ≤ most_changes = omega (arith, (step-world w step k).history.few, ap length grows.1, length-append w.history cs) in
       ap (λ (l : List Change). list_all is_whole (messages_of w.setup.domains.edition w.history l)) new
@@ -387,16 +388,8 @@ module _ (ports : List Entry) (all : are_declared ports ≡ true) where
       (second_so (list_all is_fine w.history) (list_all is_fine cs) (sym (list_all-append is_fine w.history cs) ∙ fine)) few
 
   step-whole : (w : World) (step : Step) → has_line ports step ≡ true → IsWorld w → FineWorld w → AreWhole (messages_in w step)
-  step-whole w (Rx port bytes) h k f = accepted-whole w (Rx port bytes) h k f
-  step-whole w (Cmd c) h k f = accepted-whole w (Cmd c) h k f
-  step-whole w (Now moment) h k f = accepted-whole w (Now moment) h k f
-  step-whole w Serve h k f = accepted-whole w Serve h k f
-  step-whole w Hold h k f = accepted-whole w Hold h k f
-  step-whole w (Post id point) h k f = accepted-whole w (Post id point) h k f
   step-whole w (Turn dom) h k f = turn-whole w (chip_at w dom) f.changes k.history.few
-  step-whole w (Report dom) h k f = accepted-whole w (Report dom) h k f
-  step-whole w (Sweep dom) h k f = accepted-whole w (Sweep dom) h k f
-  step-whole w Publish h k f = accepted-whole w Publish h k f
+  step-whole w step h k f = accepted-whole w step h k f
 
   all-whole : (x : World × List Neigh) (steps : List Step) → list_all (has_line ports) steps ≡ true → IsWorld x.0 → FineWorld x.0 → AreWhole x.1
       → AreWhole (fold monitors x steps).1
