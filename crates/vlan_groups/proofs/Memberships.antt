@@ -18,6 +18,7 @@ use Rattle.br_model.specs.Data.Maps.{pair_cmp, get, put, without}
 use Rattle.br_model.specs.Table.Domains.{port_places}
 use Rattle.port_sets.specs.Numbers.{numbers_below, has_number}
 use Rattle.port_sets.proofs.Numbers.{numbers_below-filter, none_below}
+use Rattle.lists.specs.Padded.{padded}
 use Rattle.vlan_groups.specs.declared.row.Row.{Row}
 use Rattle.vlan_groups.specs.Rows.{ports_where, no_ports, at_port, memberships, memberships_from}
 use Rattle.vlan_groups.specs.Vlans.{vids_of}
@@ -26,6 +27,10 @@ use Rattle.vlan_groups.proofs.RowLaws.{has-ports_where, at-low, at-high}
 
 abbrev Memberships : Type 0
 Memberships = List (Key × Bool)
+
+-- the row that is read in a slice of the rows
+pub row-read : {rows slice : List Row} (place : ℕ) (row : Row) → slice ≡ rows → row ≡ get_or (padded no_ports 4094 slice) place row → row ≡ get_or (padded no_ports 4094 rows) place row
+row-read place row is read = subst (λ (rs : List Row). row ≡ get_or (padded no_ports 4094 rs) place row) is read
 
 at-no_ports : (p : ℕ) → at_port no_ports p ≡ None
 at-no_ports p = ap (λ b. cond b (Some false) None) (and-false (nat_lt p port_places))

@@ -1,7 +1,6 @@
 use Rattle.std.proofs.Common.{◌≡◌, set, subst}
 use Rattle.lists.specs.Padded.{padded}
 use Rattle.vlan_groups.specs.declared.row.Row.{Row}
-use Rattle.vlan_groups.specs.Rows.{no_ports}
 use Rattle.vlan_groups.proofs.table.put_row.Goals as goal
 
 pub returns-clause-rows : goal.returns-clause-rows

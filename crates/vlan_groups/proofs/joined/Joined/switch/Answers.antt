@@ -1,4 +1,4 @@
-use Rattle.std.proofs.Common.{◌≡◌, not, ℕ, List, ◌+◌, ◌*◌, ◌/◌, ◌%◌, ◌<◌, length, set, get_or, [], sym, ap, ap₂, subst, ◌∙◌, arith}
+use Rattle.std.proofs.Common.{◌≡◌, not, ℕ, List, ◌+◌, ◌*◌, ◌/◌, ◌%◌, ◌<◌, set, get_or, [], sym, ap, ap₂, subst, ◌∙◌, arith}
 use Rattle.std.proofs.lemmas.List.{get_or_default}
 use Rattle.lists.specs.Padded.{padded}
 use Rattle.vlan_groups.specs.Joined.{block_count, block_switched, Switches}
@@ -13,9 +13,11 @@ returns-clause-vlan c =
     let v = c.args.v in
     let blocks = padded [] block_count c.self.inside.blocks.items in
     let place : 64 * c.from-port.result + c.from.result ≡ 64 * p + v / 64 = omega arith in
+    let at : ℕ = 64 * c.from-port.result + c.from.result in
+    let block = c.block_in.ensures ∙ ap (λ (bs : List (List ℕ)). get_or (padded [] block_count bs) at []) c.as_slice.ensures.value ∙ ap (λ i. get_or blocks i []) place in
     let written : Switches blocks (set blocks (64 * p + v / 64) c.switched-block.result) p v c.args.on =
     switches blocks c.switched-block.result p v c.args.on c.self.invariant.0.sized (omega arith) (omega arith)
-    (c.switched-block.ensures ∙ ap₂ (λ b n. block_switched b n c.args.on) (c.block_in.ensures ∙ ap (λ i. get_or blocks i []) place) (ap (λ n. n % 64) c.number-vid.ensures.value)) in
+    (c.switched-block.ensures ∙ ap₂ (λ b n. block_switched b n c.args.on) block (ap (λ n. n % 64) c.number-vid.ensures.value)) in
     let now : padded [] block_count c.put_block.new.blocks.items ≡ set blocks (64 * p + v / 64) c.switched-block.result =
     c.put_block.ensures.blocks ∙ ap (λ i. set blocks i c.switched-block.result) place in
     subst (λ b. Switches b (padded [] block_count c.put_block.new.blocks.items) p v c.args.on) c.self.view_is

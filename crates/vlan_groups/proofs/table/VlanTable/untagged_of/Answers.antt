@@ -5,13 +5,14 @@ use Rattle.vlan_groups.specs.Vlans.{Vlans}
 use Rattle.std.specs.Option.{unwrap_or}
 use Rattle.br_model.specs.Table.Domains.{port_places}
 use Rattle.port_sets.proofs.Numbers.{same_below}
-use Rattle.vlan_groups.proofs.Memberships.{at-key}
+use Rattle.vlan_groups.proofs.Memberships.{at-key, row-read}
 use Rattle.vlan_groups.proofs.table.VlanTable.untagged_of.Goals as goal
 
 pub returns : goal.returns
 returns c =
+    let row = row-read c.place_of.result c.row_at.result c.as_slice.ensures.value c.row_at.ensures in
     c.untagged.ensures
     ∙ same_below _ _ port_places
     (λ p low. ap (λ o. unwrap_or o false)
     (at-key (padded no_ports 4094 c.self.inside.rows.items) c.place_of.result c.args.vid p c.row_at.result c.args.self.now.vlans
-    (omega (arith, c.self.invariant.0.sized)) c.place_of.ensures.place c.row_at.ensures (ap (λ (s : Vlans). s.vlans) c.self.view_is)))
+    (omega (arith, c.self.invariant.0.sized)) c.place_of.ensures.place row (ap (λ (s : Vlans). s.vlans) c.self.view_is)))
