@@ -2,6 +2,7 @@
 use Rattle.std.proofs.Common.{◌≡◌, ℕ, ◌+◌, true, false, List, [], ◌∷◌, ◌++◌, length, ap, ◌∙◌, arith}
 use Rattle.std.specs.Prelude.{codes}
 use Rattle.std.specs.List.{flat_map, list_all}
+use Rattle.br_model.specs.Program.Outcomes.{EndsWithin}
 use Rattle.br_model.specs.Program.Runs.{run_of, setup_of}
 use Rattle.br_model.specs.Table.Limits.{most_bytes}
 use Rattle.br_model.specs.Text.Operands.{is_byte}
@@ -11,7 +12,7 @@ use Rattle.neigh_netlink.specs.Follow.{Following, followed, followed_at, follows
 use Rattle.neigh_netlink.specs.Monitor.{messages, monitored, monitored_at}
 use Rattle.neigh_netlink.specs.Neighbours.{rows}
 use Rattle.neigh_netlink.specs.Offloaded.{entries_of}
-use Rattle.neigh_netlink.specs.Calls.{EndsWithin}
+use Rattle.neigh_netlink.specs.MessageLines.{message_lines}
 use Rattle.neigh_netlink.specs.FollowedMessages.{text_of}
 use Rattle.neigh_netlink.proofs.FewMessages.{lines-few}
 use Rattle.neigh_netlink.proofs.WholeRuns.{lined-followed}
@@ -33,7 +34,7 @@ pub followed-text : (bytes : List ℕ) → list_all is_byte bytes ≡ true → (
 unfolding followed
 followed-text bytes are ended = ap (λ (f : Following). followed_at f.ending f.table) (monitored-followed bytes are ended)
 
-pub monitored-within : (bytes : List ℕ) → list_all is_byte bytes ≡ true → (scenario bytes).ending ≡ Ended → EndsWithin most_bytes (monitored bytes)
+pub monitored-within : (bytes : List ℕ) → list_all is_byte bytes ≡ true → (scenario bytes).ending ≡ Ended → EndsWithin message_lines most_bytes (monitored bytes)
 monitored-within bytes are ended = record {
   ended = ap (λ (f : Following). f.ending) (monitored-followed bytes are ended);
   seen = λ full.

@@ -6,7 +6,7 @@ use Rattle.br_model.specs.Theorems.WholeLines.{is_line}
 use Rattle.neigh_netlink.specs.declared.follow.LineFault.TheVariants.{Long, Unended}
 use Rattle.neigh_netlink.specs.Follow.{Ending, Following, Going, Ended, Reading, bad, closes, closes_at, followed, followed_at, follows, line_says, opened, reads, takes, words}
 use Rattle.neigh_netlink.specs.Neighbours.{Neighbours}
-use Rattle.neigh_netlink.specs.Calls.{ending_of}
+use Rattle.neigh_netlink.specs.MessageLines.{ending_of}
 use Rattle.neigh_netlink.specs.declared.follower.FollowEnd.{FollowEnd}
 use Rattle.neigh_netlink.specs.declared.follower.FollowEnd.TheVariants as lasts
 use Rattle.neigh_netlink.proofs.Lines.{follows-is, follows-over, has_ended, line-more, long-line, over-stays, rest-goes}

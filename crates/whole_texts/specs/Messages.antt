@@ -2,7 +2,7 @@
 use Rattle.std.specs.Prelude.{◌≡◌, ℕ, Bool, true, false, List, string_bytes}
 use Rattle.neigh_netlink.specs.Follow.{Ending, Going, Ended, Bad, followed, follows}
 use Rattle.neigh_netlink.specs.Neighbours.{Neighbours}
-use Rattle.neigh_netlink.specs.Calls.{ending_of}
+use Rattle.neigh_netlink.specs.MessageLines.{ending_of}
 use Rattle.neigh_netlink.specs.declared.follower.FollowEnd.{FollowEnd}
 use Rattle.whole_texts.specs.declared.replaying.Told.{Told}
 

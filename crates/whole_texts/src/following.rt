@@ -1,8 +1,8 @@
 //! The table of lines of messages, up to their end or to the first bad one.
 ghost use Rattle.std.specs.Prelude.{◌≡◌, ◌≤◌, IfOk, length};
 ghost use Rattle.br_model.specs.Table.Limits.{most_bytes};
-ghost use Rattle.neigh_netlink.specs.Calls.{ending_of};
 ghost use Rattle.neigh_netlink.specs.Follow.{opened};
+ghost use Rattle.neigh_netlink.specs.MessageLines.{ending_of};
 ghost use Rattle.whole_texts.specs.Messages.{EndsSo, TellsTable, lines_end_well};
 
 use crate::NoMemory;
