@@ -164,7 +164,7 @@ impl Bridge {
         requires room { 1 ≤ lines.old.rows }
         ensures carries_out { CarriesOut self.old self.new lines.old.lines lines.new.lines result (Ok (carried_out self.old plan)) }
         ensures room { 1 ≤ lines.new.rows }
-        ensures marked { lines.new.marked ≡ lines.old.marked }
+        ensures saved { lines.new.saved ≡ lines.old.saved }
     {
         let mut changes = plan.changes;
         changes.reserve(Port::PLACES)?;
@@ -196,7 +196,7 @@ impl Bridge {
         requires room { 1 ≤ lines.old.rows }
         ensures carries_out { CarriesOut self.old self.new lines.old.lines lines.new.lines result (Ok (carried_out self.old plan)) }
         ensures room { 1 ≤ lines.new.rows }
-        ensures marked { lines.new.marked ≡ lines.old.marked }
+        ensures saved { lines.new.saved ≡ lines.old.saved }
     {
         let most = plan.changes.len() + Port::PLACES;
         if most > MOST_CHANGES - self.history.len() {
@@ -221,7 +221,7 @@ impl Bridge {
         requires room { 1 ≤ lines.old.rows }
         ensures carries_out { CarriesOut self.old self.new lines.old.lines lines.new.lines result (Ok (carried_out self.old plan)) }
         ensures room { 1 ≤ lines.new.rows }
-        ensures marked { lines.new.marked ≡ lines.old.marked }
+        ensures saved { lines.new.saved ≡ lines.old.saved }
     {
         let tree_event = plan.tree_event;
         match tree_event {
@@ -368,7 +368,7 @@ impl Bridge {
         requires room { 1 ≤ lines.old.rows }
         ensures carries_out { CarriesOut self.old self.new lines.old.lines lines.new.lines result (comes_to self.old (Sight port bytes.now head.now)) }
         ensures room { 1 ≤ lines.new.rows }
-        ensures marked { lines.new.marked ≡ lines.old.marked }
+        ensures saved { lines.new.saved ≡ lines.old.saved }
     {
         match heard(&self.state, port, bytes, head) {
             Some(event) => {
@@ -418,7 +418,7 @@ impl Bridge {
         requires room { 1 ≤ lines.old.rows }
         ensures carries_out { CarriesOut self.old self.new lines.old.lines lines.new.lines result (comes_to self.old (Cmd asked.now)) }
         ensures room { 1 ≤ lines.new.rows }
-        ensures marked { lines.new.marked ≡ lines.old.marked }
+        ensures saved { lines.new.saved ≡ lines.old.saved }
     {
         match *asked {
             Command::Link { port, flag, on } => self.take_link(port, flag, on),
@@ -440,7 +440,7 @@ impl Bridge {
         requires room { 1 ≤ lines.old.rows }
         ensures carries_out { CarriesOut self.old self.new lines.old.lines lines.new.lines result (comes_to self.old (Forget stations.now)) }
         ensures room { 1 ≤ lines.new.rows }
-        ensures marked { lines.new.marked ≡ lines.old.marked }
+        ensures saved { lines.new.saved ≡ lines.old.saved }
     {
         let plan = self.plan_loss(alloc, stations)?;
         self.accept(plan, lines)
@@ -453,7 +453,7 @@ impl Bridge {
         requires room { 1 ≤ lines.old.rows }
         ensures carries_out { CarriesOut self.old self.new lines.old.lines lines.new.lines result (comes_to self.old (Moment now)) }
         ensures room { 1 ≤ lines.new.rows }
-        ensures marked { lines.new.marked ≡ lines.old.marked }
+        ensures saved { lines.new.saved ≡ lines.old.saved }
     {
         let plan = self.plan_moment(alloc, now)?;
         self.accept(plan, lines)?;
@@ -467,7 +467,7 @@ impl Bridge {
         requires room { 1 ≤ lines.old.rows }
         ensures carries_out { CarriesOut self.old self.new lines.old.lines lines.new.lines result (comes_to self.old event.now) }
         ensures room { 1 ≤ lines.new.rows }
-        ensures marked { lines.new.marked ≡ lines.old.marked }
+        ensures saved { lines.new.saved ≡ lines.old.saved }
     {
         match event {
             Event::Cmd(asked) => self.take_command(alloc, asked, lines),
@@ -496,7 +496,7 @@ impl Bridge {
         ensures reacts { Reacts self.old self.new lines.old.lines lines.new.lines result (reaction self.old.setup self.old.history self.old.control event.now) }
         ensures from { IfOk result (λ from. from ≡ length self.old.history) }
         ensures room { 1 ≤ lines.new.rows }
-        ensures marked { lines.new.marked ≡ lines.old.marked }
+        ensures saved { lines.new.saved ≡ lines.old.saved }
     {
         let from = self.history.len();
         self.take(alloc, event, lines)?;
@@ -522,7 +522,7 @@ impl Bridge {
             (reaction self.old.setup self.old.history self.old.control (Event.Sight port bytes.now head.now)) }
         ensures from { IfOk result (λ from. from ≡ length self.old.history) }
         ensures room { 1 ≤ lines.new.rows }
-        ensures marked { lines.new.marked ≡ lines.old.marked }
+        ensures saved { lines.new.saved ≡ lines.old.saved }
     {
         let from = self.history.len();
         self.take_frame(alloc, port, bytes, head, message, lines)?;

@@ -71,7 +71,7 @@ const MOST_FRAMES: usize = Port::PLACES + 1;
 /// Takes room for the frames that an event sends at most, and for another row behind them.
 pub fn reserve_frames(lines: &mut Lines) -> Result<(), NoMemory>
     ensures lines { lines.new.lines ≡ lines.old.lines }
-    ensures marked { lines.new.marked ≡ lines.old.marked }
+    ensures saved { lines.new.saved ≡ lines.old.saved }
     ensures rows { lines.old.rows ≤ lines.new.rows }
     ensures room { OnOk result (HasFrameRoom lines.new) }
 {
@@ -83,7 +83,7 @@ fn add_frame(own: Mac, port: Port, message: &BpduMsg, lines: &mut Lines)
     requires rows { 1 ≤ lines.old.rows }
     requires bytes { 60 ≤ lines.old.bytes }
     ensures lines { lines.new.lines ≡ lines.old.lines ++ control_line own (port, message.now) ∷ [] }
-    ensures marked { lines.new.marked ≡ lines.old.marked }
+    ensures saved { lines.new.saved ≡ lines.old.saved }
     ensures rows { lines.old.rows ≤ lines.new.rows + 1 }
     ensures bytes { lines.old.bytes ≤ lines.new.bytes + 60 }
 {
@@ -96,7 +96,7 @@ fn add_config(own: Mac, tree: &Tree, number: u8, lines: &mut Lines)
     requires rows { 1 ≤ lines.old.rows }
     requires bytes { 60 ≤ lines.old.bytes }
     ensures lines { lines.new.lines ≡ lines.old.lines ++ config_lines own tree.now number }
-    ensures marked { lines.new.marked ≡ lines.old.marked }
+    ensures saved { lines.new.saved ≡ lines.old.saved }
     ensures rows { lines.old.rows ≤ lines.new.rows + 1 }
     ensures bytes { lines.old.bytes ≤ lines.new.bytes + 60 }
 {
@@ -113,7 +113,7 @@ pub fn add_frames(own: Mac, tree: &Tree, out: &TreeOut, lines: &mut Lines)
     requires ports { All (λ n. n ≤ last_port) out.now.config }
     requires room { HasFrameRoom lines.old }
     ensures lines { lines.new.lines ≡ lines.old.lines ++ control_lines own (sent (acted_by tree.now out.now)) }
-    ensures marked { lines.new.marked ≡ lines.old.marked }
+    ensures saved { lines.new.saved ≡ lines.old.saved }
     ensures room { 1 ≤ lines.new.rows }
 {
     for number in out.config.iter() {
