@@ -14,9 +14,9 @@ returns-then-head_at-head c =
     (group-key-at c.args.self.now.keys c.args.self.now.rows c.args.i c.row-row.result c.requires.within c.row-row.ensures.value) refl
     (sym c.head_at.ensures ∙ c.if-head_at-head.true ∙ c.head.ensures.value)
 
-pub returns-else-head_at-head : goal.returns-else-head_at-head
-returns-else-head_at-head c =
-    (λ t. nat_lt (c.head_at.ensures t) (c.head.ensures.value t))
+pub returns : goal.returns
+returns c =
+    (λ t. nat_lt (c.head_at-2.ensures t) (c.head-2.ensures.value t))
     ∙ below-else _ _ (head_in c.row-row.result) (head_of c.args.key.now) (bits_in c.row-row.result) (address_bits c.args.key.now.1)
     (group-key-at c.args.self.now.keys c.args.self.now.rows c.args.i c.row-row.result c.requires.within c.row-row.ensures.value) refl
     (bits-small c.row-row.result) c.head.ensures.below (λ e. c.if-head_at-head.false (c.head_at.ensures ∙ e ∙ sym c.head.ensures.value))
