@@ -146,7 +146,7 @@ groups_anew test s s' ms old mid new follow same kept refreshes = record {
     by k true is false fails before = before ∙ ap (λ b. cond b (Some (group_fan s old ms k)) None) is ∙ ap Some (kept k fails ∙ vlan k)
     by k false is b test_is before = before ∙ ap (λ b. cond b (Some (group_fan s old ms k)) None) is
 
--- none is told of
+-- none is touched
 pub groups_left : (test : GroupPair → Bool) (s : Shadow) (ms : List Membership) (old : Rows) → AreUsed ms old → ((k : GroupPair) → test k ≡ false) → RefreshesGroups test s ms old old
 groups_left test s ms old used none = record {
   at = λ k. sym (ap (λ b. cond (has_pair ms k && b) (Some (group_fan s old ms k)) (get group_pair_cmp old.groups k)) (none k) ∙ by k (has_pair ms k));
