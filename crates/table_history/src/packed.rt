@@ -1,6 +1,5 @@
 //! Changes in few bytes.
-ghost use Rattle.std.specs.Prelude.{◌≡◌, ◌+◌, ◌++◌, ◌<◌, ◌≤◌, [], length, map, slice_get, vec_len, vec_capacity, IfOk, Some};
-ghost use Rattle.br_model.specs.Table.Parcels.{change_in};
+ghost use Rattle.std.specs.Prelude.{◌≡◌, ◌+◌, ◌++◌, ◌∷◌, ◌<◌, ◌≤◌, [], length, slice_get, IfOk, Some, vec_len, vec_capacity};
 
 use crate::NoMemory;
 use br_model::change::Change;
@@ -23,17 +22,6 @@ impl Model for Packed {
     ghost Value = { Listed };
 
     ghost view = { λ p. record { list = map change_in p.slips.items; room = vec_capacity p.slips } };
-}
-
-/// Adds changes at the end, within the room that is there.
-fn pack(slips: &mut Vec<Slip>, changes: &[Change])
-    requires { vec_len slips.old + length changes.now ≤ vec_capacity slips.old }
-    ensures list { map change_in slips.new.items ≡ map change_in slips.old.items ++ changes.now }
-    ensures room { vec_capacity slips.new ≡ vec_capacity slips.old }
-{
-    for i in 0..changes.len() {
-        slips.push_reserved(Slip::of(changes[i]));
-    }
 }
 
 impl Packed {
@@ -73,7 +61,16 @@ impl Packed {
         requires { length self.old.list + length changes.now ≤ self.old.room }
         ensures { self.new ≡ record self.old { list = self.old.list ++ changes.now } }
     {
-        pack(&mut self.slips, changes);
+        for change in changes {
+            self.push(*change);
+        }
+    }
+
+    fn push(&mut self, change: Change)
+        requires { length self.old.list < self.old.room }
+        ensures { self.new ≡ record self.old { list = self.old.list ++ change ∷ [] } }
+    {
+        push_copy(&mut self.slips, &Slip::of(change));
     }
 
     /// The same changes, without more room.
@@ -90,4 +87,13 @@ impl Packed {
     {
         self.slips.clear();
     }
+}
+
+/// Adds an item at the end, within the room that is there.
+fn push_copy<T: Copy>(items: &mut Vec<T>, item: &T)
+    requires { vec_len items.old < vec_capacity items.old }
+    ensures items { items.new.items ≡ items.old.items ++ item.now ∷ [] }
+    ensures room { vec_capacity items.new ≡ vec_capacity items.old }
+{
+    items.push_reserved(*item);
 }
