@@ -173,10 +173,13 @@ pub world-setup : (p : Past) → (world_of p).setup ≡ p.setup
 world-setup p = run-setup p.setup p.steps
 
 -- the plane of a past has the chips of its setup
+pub has-own-chip : (p : Past) (plane : PlaneState) (dom : ℕ) → plane ≡ state_of p → has_chip p.setup.domains dom ≡ true → has_chip plane.world.setup.domains dom ≡ true
+has-own-chip p plane dom is there =
+    ap (λ (s : PlaneState). has_chip s.world.setup.domains dom) is ∙ (ap (λ (s : Setup). has_chip s.domains dom) (world-setup p) ∙ there)
+
 pub has-its-chip : (p : Past) (plane : PlaneState) (domains : Domains) (own dom : ℕ) → plane ≡ state_of p → p.setup ≡ record { domains = domains; own = own } → has_chip domains dom ≡ true
     → has_chip plane.world.setup.domains dom ≡ true
-has-its-chip p plane domains own dom is setup there =
-    ap (λ (s : PlaneState). has_chip s.world.setup.domains dom) is ∙ (ap (λ (s : Setup). has_chip s.domains dom) (world-setup p ∙ setup) ∙ there)
+has-its-chip p plane domains own dom is setup there = has-own-chip p plane dom is (ap (λ (s : Setup). has_chip s.domains dom) setup ∙ there)
 
 pub world-stands : (p : Past) → IsWorld (world_of p)
 world-stands p = run-world p.setup p.steps

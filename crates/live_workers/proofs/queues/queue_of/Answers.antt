@@ -3,7 +3,7 @@ use Rattle.br_model.specs.declared.change.Update.{Update}
 use Rattle.br_model.specs.Table.Change.{updates}
 use Rattle.deferred_queue.specs.Ends.{Posting}
 use Rattle.plane_lock.proofs.Settling.{updates-there}
-use Rattle.live_thread.proofs.Does.{chip_there}
+use Rattle.plane_record.proofs.Recording.{has-own-chip}
 use Rattle.live_workers.proofs.queues.queue_of.Goals as goal
 
 -- nothing was posted yet
@@ -12,7 +12,7 @@ post_updates-requires g c =
     let us = updates c.plane-plane.result.now.world.setup.domains.edition c.plane-plane.result.now.world.history in (us, ap (λ (l : List Update). l ++ us) c.in_ok-poster.ensures.empty.0)
 
 pub applied-end-requires : goal.applied-end-requires
-applied-end-requires g c = chip_there c.args.ran.now c.plane-plane.result.now c.args.dom c.plane-plane.ensures c.requires
+applied-end-requires g c = has-own-chip c.args.ran.now c.plane-plane.result.now c.args.dom c.plane-plane.ensures c.requires
 
 pub loop-init : goal.loop-init
 loop-init g c = (

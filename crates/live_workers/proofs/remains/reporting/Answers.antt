@@ -4,13 +4,13 @@ use Rattle.br_model.specs.Plane.World.{chip_at}
 use Rattle.live_book.specs.Ends.{has_reports_at}
 use Rattle.live_book.proofs.Reporting.{reporting_is}
 use Rattle.plane_record.specs.Pasts.{world_of}
-use Rattle.live_thread.proofs.Does.{chip_there}
+use Rattle.plane_record.proofs.Recording.{has-own-chip}
 use Rattle.live_workers.proofs.Places.{all_found, chip_of_place}
 use Rattle.live_workers.proofs.remains.reporting.Goals as goal
 
 pub first_report-requires : goal.first_report-requires
 first_report-requires c =
-    chip_there c.args.ran.now c.plane.result.now c.dom-item.result c.plane.ensures
+    has-own-chip c.args.ran.now c.plane.result.now c.dom-item.result c.plane.ensures
     (chip_of_place c.args.ran.now.setup.domains c.args.chips.now c.loop-dom.dom-index c.dom-item.result c.requires (omega arith) c.dom-item.is)
 
 pub returns : goal.returns
