@@ -31,7 +31,7 @@ returns c =
           ∙ ap (λ (r : Course). yes (tells_tree (Some Moment) r)) (both_go base keys (fit_forgets t keys) (same_clock base.control (forgets keys)))
           ∙ ap (λ (l : List Change). yes (tells_tree (Some Moment) (makes_all base l))) (sym is)
           ∙ ap yes
-          (sym (c.due.ensures (makes_all base cs) (ap (λ (r : Course). r.control.tree) made ∙ same_tree base.control cs) (ap (λ (r : Course). r.control.now) made ∙ same_clock base.control cs))),
+          (sym (c.due.ensures (makes_all base cs) (ap (λ (r : Course). r.control.tree) made ∙ same_tree base.control cs ∙ sym c.deref.ensures) (ap (λ (r : Course). r.control.now) made ∙ same_clock base.control cs))),
       record { early = c.requires; there = tt; fits = fit },
     )
   where
