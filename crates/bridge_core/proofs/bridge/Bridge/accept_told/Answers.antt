@@ -9,6 +9,7 @@ use Rattle.br_model.specs.Table.Table.{table, apply}
 use Rattle.br_model.specs.Theorems.TreeLaws.{knows_states}
 use Rattle.br_model.specs.Tree.Sending.{Acted}
 use Rattle.br_model.specs.Tree.Step.{tree_step, sent}
+use Rattle.br_model.specs.Tree.Tree.{Tree}
 use Rattle.stp_core.specs.Settling.{out_of}
 use Rattle.bridge_plans.specs.declared.plan.Plan.{Plan}
 use Rattle.bridge_plans.specs.Following.{acted_by, state_change}
@@ -19,12 +20,12 @@ use Rattle.bridge_core.proofs.Accepting.{all_changes, all_changes_fit, told_reac
 use Rattle.bridge_plans.proofs.Fitting.{grown}
 use Rattle.bridge_plans.proofs.Following.{all_beside, renewed_beside, with_tree}
 use Rattle.bridge_plans.proofs.Reactions.{same_clock, renewed_clock}
-use Rattle.bridge_core.proofs.bridge.Bridge.accept_told.Goals.{After-deref}
+use Rattle.bridge_core.proofs.bridge.Bridge.accept_told.Goals.{After-deref-3}
 use Rattle.bridge_core.proofs.bridge.Bridge.accept_told.Goals as goal
 
 -- Once the tree has acted, and the state is prepared.
 
-module _ (c : After-deref) where
+module _ (c : After-deref-3) where
   abbrev old : Controlled
   old = c.args.self.now
 
@@ -40,18 +41,21 @@ module _ (c : After-deref) where
   history_is : c.self.inside.history.items ≡ old.history
   history_is = ap (λ (b : Controlled). b.history) c.self.view_is
 
+  begin : c.deref_mut.result.now ≡ old.control.tree
+  begin = c.deref_mut.ensures.value ∙ ap (λ (b : Controlled). b.control.tree) c.self.view_is
+
   out_is : c.act-out.result ≡ out_of old.control.tree acted
-  out_is = c.act-out.ensures.out ∙ ap (λ (b : Controlled). out_of b.control.tree (tree_step b.control.tree p.clock.now c.args.event.now)) c.self.view_is
+  out_is = c.act-out.ensures.out ∙ ap (λ (t : Tree). out_of t (tree_step t p.clock.now c.args.event.now)) begin
 
   tree_is : c.act-out.new.self ≡ acted.tree
-  tree_is = c.act-out.ensures.tree ∙ ap (λ (b : Controlled). (tree_step b.control.tree p.clock.now c.args.event.now).tree) c.self.view_is
+  tree_is = c.act-out.ensures.tree ∙ ap (λ (t : Tree). (tree_step t p.clock.now c.args.event.now).tree) begin
 
   -- what is made: the plan's changes, and those of the tree's states
   made : c.add_states.new.changes.items ≡ whole
-  made = c.add_states.ensures.states ∙ (λ i. c.in_ok-reserve.ensures.items i ++ map (state_change (tree_is i)) (out_is i).moved)
+  made = c.add_states.ensures.states ∙ (λ i. c.in_ok-reserve.ensures.items i ++ map (state_change ((c.deref.ensures ∙ tree_is) i)) (out_is i).moved)
 
-  followed : c.deref.result.now ≡ whole
-  followed = c.deref.ensures.value ∙ made
+  followed : c.deref-3.result.now ≡ whole
+  followed = c.deref-3.ensures.value ∙ made
 
   known : knows_states acted.tree ≡ true
   known = ap knows_states (sym tree_is) ∙ c.act-out.ensures.known
@@ -79,27 +83,27 @@ follow-requires-clause-fits c = (λ i. all_fit ((c.prepare.ensures.table ∙ c.s
 
 pub invariant_of-self-2 : goal.invariant_of-self-2
 invariant_of-self-2 c =
-    let d = (goal.at.invariant_of-self-2 c).After-deref in
+    let d = (goal.at.invariant_of-self-2 c).After-deref-3 in
     let before = c.self.inside.history.items in
     let g = grown before (whole d) c.append.new.history.items (table_of c.follow.new.self)
-    (c.append.ensures ∙ (λ i. c.in_ok-reserve-2.ensures.items i ++ (c.deref-2.ensures.value ∙ made d) i))
+    (c.append.ensures ∙ (λ i. c.in_ok-reserve-2.ensures.items i ++ (c.deref-4.ensures.value ∙ made d) i))
     (c.follow.ensures.table ∙ (λ i. fold apply ((c.prepare.ensures.table ∙ c.self.invariant.0) i) (followed d i)))
     (subst (λ (h : List Change). length h + length (whole d) ≤ most_changes) (sym (history_is d)) (few d))
     c.self.invariant.2 (ap (λ (h : List Change). all_fit (table h) (whole d)) (history_is d) ∙ fit d)
     in
-    let now = ap (λ (x : Control). x.now) c.follow.ensures.control ∙ same_clock _ c.deref.result.now ∙ ap (λ (x : Control). x.now) c.prepare.ensures.control ∙ renewed_clock _ c.args.plan.renewed in
+    let now = ap (λ (x : Control). x.now) c.follow.ensures.control ∙ same_clock _ c.deref-3.result.now ∙ ap (λ (x : Control). x.now) c.prepare.ensures.control ∙ renewed_clock _ c.args.plan.renewed in
     (g.0, g.1, g.2, subst (λ (n : ℕ). n < 2 ^ 53) (sym now) c.requires.sound.early, c.follow.ensures.tied)
 
 pub returns-clause-carries_out : goal.returns-clause-carries_out
 returns-clause-carries_out c =
-    let d = (goal.at.returns-clause-carries_out c).After-deref in
+    let d = (goal.at.returns-clause-carries_out c).After-deref-3 in
     let old = c.args.self.now in
     let p = c.args.plan in
     let view = c.self.view_is in
     let own = ap (λ (b : Controlled). b.setup.own) view in
-    let lines = c.add_frames.ensures.lines ∙ (λ i. c.in_ok-reserve_frames.ensures.lines i ++ control_lines (own i) (sent (acted_by (tree_is d i) (out_is d i)))) in
+    let lines = c.add_frames.ensures.lines ∙ (λ i. c.in_ok-reserve_frames.ensures.lines i ++ control_lines (own i) (sent (acted_by ((c.deref-2.ensures ∙ tree_is d) i) (out_is d i)))) in
     let mid : Controlled = record old { history = old.history ++ whole d; control = fold keeps_up (prepared old.control p) (whole d) } in
-    let grows : c.append.new.history.items ≡ mid.history = c.append.ensures ∙ (λ i. (c.in_ok-reserve-2.ensures.items ∙ history_is d) i ++ (c.deref-2.ensures.value ∙ made d) i) in
+    let grows : c.append.new.history.items ≡ mid.history = c.append.ensures ∙ (λ i. (c.in_ok-reserve-2.ensures.items ∙ history_is d) i ++ (c.deref-4.ensures.value ∙ made d) i) in
     let control : control_of c.follow.new.self ≡ with_tree (acted d).tree mid.control =
     c.follow.ensures.control
     ∙ (λ i. fold keeps_up ((c.prepare.ensures.control ∙ (λ j. renewed_at (clocked p.clock (with_tree (tree_is d j) (ap (λ (b : Controlled). b.control) view j))) p.renewed)) i) (followed d i))
