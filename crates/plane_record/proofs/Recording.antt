@@ -113,10 +113,10 @@ copied-said p q ss s ls ls' saved more old h was a at copied =
     ∙ (sym (ap (λ (x : Stepped). x.1) a.so.world) ∙ ap (λ (st : PlaneState). (world_step st.world s).1) (stood p ss ls old h was))
 
 -- What a step comes to that was written down: the plane with its record, the past that contracts see, and the lines that are answered.
-pub record Recorded (q : PlaneState) (ss' : List Step) (s : Step) (ls' said : List Line) (old : Past) : Type 0 where
+pub record Recorded (q : PlaneState) (ss' : List Step) (s : Step) (ls' answered : List Line) (old : Past) : Type 0 where
   pub ran : IsRan q ss' ls'
   pub reached : past q ss' ≡ after old s
-  pub said : said ≡ said_by old s
+  pub said : answered ≡ said_by old s
 
 -- from what is ready before the plane's call, the call, and what is written down after it
 pub recorded : (p q : PlaneState) (ss ready ss' : List Step) (s : Step) (first saved mid last : Listed) (said : List Line) (old : Past)
