@@ -81,7 +81,7 @@ pub among_stands : (s : Scenario) (x : Telling) → x.reader.lines ≡ s.lines +
     → Stands (among s) x
 among_stands s x lines roster h = record {
   follows = record { lines = lines; roster = roster; going = refl };
-  so = moved s (among s) x.world (string_bytes x.text) refl (λ b. ((refl, refl), (refl, refl))) h;
+  so = moved s (among s) x.world (string_bytes x.text) refl (refl, λ b. ((refl, refl), (refl, refl))) h;
 }
 
 -- steps
