@@ -30,6 +30,7 @@ use Rattle.br_model.specs.Text.Roster.{Entry, Roster, chips_of, domains_of}
 use Rattle.br_model.specs.Text.Scenario.{Scenario, Ended, opened, reads, scenario}
 use Rattle.br_model.specs.Text.ScenarioText.{fits_in, has_line, knows_in, names_declared}
 use Rattle.br_model.specs.Text.Transcript.{bad_text, line_text, text}
+use Rattle.br_model.proofs.Program.AllLeft.{below_limit, same_at_end}
 use Rattle.br_model.proofs.Text.DeclaredChips.{declared-chips}
 use Rattle.br_model.proofs.Text.Endings.{has_ended}
 use Rattle.live_workers.specs.Results.{is_taken}
