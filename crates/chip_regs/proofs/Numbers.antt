@@ -137,6 +137,21 @@ number-written (b ∷ bs) (suc first) k v all h =
     ap (λ x. b + 256 * x) (number-written bs first k v all.1 (omega arith))
     ∙ sym (ap (λ x. with_field (b + 256 * number bs) x (8 * k) (v % 2 ^ (8 * k))) next ∙ with_field-next b (number bs) (8 * first) (8 * k) (v % 2 ^ (8 * k)) all.0)
 
+-- the number of a row of which one byte is written
+pub number-set : (bs : List ℕ) (i v : ℕ) → Bytes bs → i < length bs → number (set bs i v) ≡ with_field (number bs) (8 * i) 8 v
+number-set [] i v all h = absurd (omega arith)
+number-set (b ∷ bs) zero v all h =
+    let r : ℕ = number bs in
+    let small : b < 256 = all.0 in
+    let turn : b + 256 * r ≡ r * 2 ^ 8 + b = omega arith in
+    let high : (b + 256 * r) / 2 ^ 8 ≡ r = ap (λ x. x / 2 ^ 8) turn ∙ div-mul-add r (2 ^ 8) b small in
+    let back : r * 2 ^ 8 + v ≡ v + 256 * r = omega arith in
+    sym (with_field-front (b + 256 * r) 8 v ∙ ap (λ x. x * 2 ^ 8 + v) high ∙ back)
+number-set (b ∷ bs) (suc i) v all h =
+    let next : 8 * suc i ≡ 8 + 8 * i = omega arith in
+    ap (λ x. b + 256 * x) (number-set bs i v all.1 (omega arith))
+    ∙ sym (ap (λ x. with_field (b + 256 * number bs) x 8 v) next ∙ with_field-next b (number bs) (8 * i) 8 v all.0)
+
 -- ---- a field of a window, written
 
 -- the high bits of a window stand below those of the row

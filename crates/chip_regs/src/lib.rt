@@ -1,10 +1,10 @@
 //! Packed rows as a switch chip has them, and banks of such rows.
 #![tactic(auto)]
 
-ghost use Rattle.std.specs.Prelude.{◌≡◌, ℕ, ◌+◌, ◌-◌, ◌*◌, ◌/◌, ◌%◌, ◌^◌, ◌<◌, ◌≤◌, List, IfOk, length, slice_set, slice_index, replicate};
-ghost use Rattle.chip_regs.specs.Rows.{number, field, with_field};
+ghost use Rattle.std.specs.Prelude.{◌≡◌, ℕ, ◌+◌, ◌-◌, ◌*◌, ◌/◌, ◌%◌, ◌^◌, ◌==◌, ◌<◌, ◌≤◌, List, IfOk, length, slice_set, slice_index, replicate};
+ghost use Rattle.chip_regs.specs.Rows.{number, field, with_field, bit_of};
 
-use lists::padded::{item_or, put_item};
+use lists::padded::put_item;
 use std::alloc::{AllocError, Global};
 use std::marker::Model;
 
@@ -67,6 +67,18 @@ fn window_with(window: u128, at: u16, width: u16, number: u64) -> u128
     ensures { result ≡ with_field window at width number }
 {
     field!(window, at, width, u128::from(number))
+}
+
+/// The byte with a bit set or cleared.
+fn byte_with(byte: u8, at: usize, on: bool) -> u8
+    requires { at < 8 }
+    ensures { result ≡ with_field byte at 1 (bit_of on) }
+{
+    if on {
+        byte | 1 << at
+    } else {
+        byte & !(1 << at)
+    }
 }
 
 /// How many bytes a field lies in.
@@ -145,6 +157,22 @@ impl<const BYTES: usize> Row<BYTES> {
         let changed = window_with(window, f.at % 8, u16::from(f.width), n);
         self.write(first, count, changed);
     }
+
+    /// Whether a bit is set.
+    pub fn bit(&self, at: usize) -> bool
+        requires { at < 8 * BYTES }
+        ensures { result ≡ (field self.now at 1 == 1) }
+    {
+        (self.bytes[at / 8] >> (at % 8)) & 1 == 1
+    }
+
+    /// Sets a bit or clears it, and leaves every other. It writes one byte.
+    pub fn set_bit(&mut self, at: usize, on: bool)
+        requires { at < 8 * BYTES }
+        ensures { self.new ≡ with_field self.old at 1 (bit_of on) }
+    {
+        self.bytes[at / 8] = byte_with(self.bytes[at / 8], at % 8, on);
+    }
 }
 
 /// A bank of rows, which takes its room at its making.
@@ -152,19 +180,20 @@ impl<const BYTES: usize> Row<BYTES> {
 /// Contracts see the list of the rows.
 #[derive(Drop)]
 pub struct Bank<const ROWS: usize, const BYTES: usize> {
-    // Those behind were never written to, and are all 0.
+    // Those behind were never written to, and read as the blank one.
     rows: Vec<Row<BYTES>>,
+    blank: Row<BYTES>,
 }
 
 impl<const ROWS: usize, const BYTES: usize> Model for Bank<ROWS, BYTES> {
-    ghost use Rattle.std.specs.Prelude.{◌≤◌, ℕ, List, vec_capacity};
+    ghost use Rattle.std.specs.Prelude.{◌≡◌, ◌≤◌, ℕ, List, vec_capacity};
     ghost use Rattle.lists.specs.Padded.{padded};
 
     ghost Value = { List ℕ };
 
     ghost view = { λ b. padded 0 ROWS b.rows.items };
 
-    ghost invariant = { λ b. ROWS ≤ vec_capacity b.rows };
+    ghost invariant = { λ b. (ROWS ≤ vec_capacity b.rows) × (b.blank ≡ 0) };
 }
 
 impl<const ROWS: usize, const BYTES: usize> Bank<ROWS, BYTES> {
@@ -174,16 +203,23 @@ impl<const ROWS: usize, const BYTES: usize> Bank<ROWS, BYTES> {
         ensures { IfOk result (λ b. b ≡ replicate ROWS 0) }
     {
         let rows = Vec::with_capacity(alloc, ROWS)?;
-        Ok(Bank { rows })
+        Ok(Bank {
+            rows,
+            blank: Row::zero(),
+        })
     }
 
-    /// The row at a place below `ROWS`.
-    pub fn row(&self, i: usize) -> Row<BYTES>
+    /// The row at a place below `ROWS`, where it stands.
+    pub fn at(&self, i: usize) -> &Row<BYTES>
         requires { i < ROWS }
-        ensures value { result ≡ slice_index self.now i }
+        ensures value { result.now ≡ slice_index self.now i }
         ensures len { length self.now ≡ ROWS }
     {
-        item_or(self.rows.as_slice(), i, Row::zero())
+        if i < self.rows.len() {
+            &self.rows[i]
+        } else {
+            &self.blank
+        }
     }
 
     /// Changes the row at a place below `ROWS`, and no other.
@@ -192,6 +228,27 @@ impl<const ROWS: usize, const BYTES: usize> Bank<ROWS, BYTES> {
         ensures value { self.new ≡ slice_set self.old i row.entry }
         ensures len { length self.old ≡ ROWS }
     {
-        put_item(&mut self.rows, i, row, Row::zero());
+        if i < self.rows.len() {
+            self.rows[i] = row;
+            return;
+        }
+        put_item(&mut self.rows, i, row, self.blank);
+    }
+
+    /// Sets a bit of the row at a place below `ROWS` or clears it, and changes nothing else. Of a row that was written to before it
+    /// writes one byte.
+    pub fn set_bit(&mut self, i: usize, at: usize, on: bool)
+        requires row { i < ROWS }
+        requires bit { at < 8 * BYTES }
+        ensures value { self.new ≡ slice_set self.old i (with_field (slice_index self.old i) at 1 (bit_of on)) }
+        ensures len { length self.old ≡ ROWS }
+    {
+        if i < self.rows.len() {
+            self.rows[i].set_bit(at, on);
+            return;
+        }
+        let mut row = self.blank;
+        row.set_bit(at, on);
+        self.put(i, row);
     }
 }

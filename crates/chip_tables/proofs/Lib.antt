@@ -1,4 +1,5 @@
 pub mod Packing
+pub mod Switched
 pub mod Banks
 pub mod AddressRows
 pub mod Placed

@@ -1,11 +1,17 @@
 -- A bank of which one row is written.
-use Rattle.std.specs.Prelude.{◌≡◌, ℕ, ◌==◌, if◌then◌else◌, List, [], slice_index, replicate}
+use Rattle.std.specs.Prelude.{◌≡◌, ℕ, ◌==◌, Bool, if◌then◌else◌, List, [], slice_index, replicate}
 use Rattle.br_model.specs.Table.Domains.{port_places}
+use Rattle.port_sets.specs.Numbers.{has_number}
 use Rattle.chip_tables.specs.declared.rows.FanRow.{FanRow}
 use Rattle.chip_tables.specs.Rows.{Rows, fan_of}
+use Rattle.chip_tables.specs.Stands.{ports_where}
 
 abbrev pub WritesFan : List ℕ → List ℕ → ℕ → FanRow → Type 0
 WritesFan old new place row = (v : ℕ) → fan_of (slice_index new v) ≡ (if v == place then row else fan_of (slice_index old v))
+
+-- the row with the port or without it
+abbrev pub switched_fan : FanRow → ℕ → Bool → FanRow
+switched_fan row port on = record row { ports = ports_where (λ q. if q == port then on else has_number row.ports q) }
 
 -- Nothing was written to: the bits of each row are 0.
 pub record IsBlank (rows : Rows) : Type 0 where

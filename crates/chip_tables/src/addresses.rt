@@ -73,11 +73,11 @@ impl Cells<Key, AddressRow> for AddressCells {
     ghost cells = { λ s. address_cells s.bank };
 
     fn holds(&self, i: usize, key: &Key) -> bool {
-        number_in(&self.bank.row(i)) == number_of(key)
+        number_in(self.bank.at(i)) == number_of(key)
     }
 
     fn is_below(&self, i: usize, key: &Key) -> bool {
-        number_in(&self.bank.row(i)) < number_of(key)
+        number_in(self.bank.at(i)) < number_of(key)
     }
 
     fn hash(key: &Key) -> u64 {
@@ -85,7 +85,7 @@ impl Cells<Key, AddressRow> for AddressCells {
     }
 
     fn value(&self, i: usize) -> AddressRow {
-        address_row(&self.bank.row(i))
+        address_row(self.bank.at(i))
     }
 
     fn put(&mut self, i: usize, key: &Key, value: AddressRow) {
@@ -114,7 +114,7 @@ impl AddressCells {
         requires { i < 32768 }
         ensures { slice_get (places_of (address_cells self.now.bank)) i ≡ Some result }
     {
-        let key = key_in(&self.bank.row(i));
+        let key = key_in(self.bank.at(i));
         if key == 0 {
             return None;
         }
@@ -132,12 +132,12 @@ impl AddressCells {
         requires { i < 32768 }
         ensures { result ≡ extern_in (slice_index_or (address_cells self.now.bank) i None) }
     {
-        let row = self.bank.row(i);
-        if !is_extern(&row) {
+        let row = self.bank.at(i);
+        if !is_extern(row) {
             return None;
         }
         let key = self.key(i)?;
-        Some((key, address_row(&row)))
+        Some((key, address_row(row)))
     }
 }
 

@@ -144,16 +144,16 @@ impl Cells<GroupKey, FanRow> for GroupCells {
     ghost cells = { λ s. group_cells s.keys s.rows };
 
     fn holds(&self, i: usize, key: &GroupKey) -> bool {
-        let row = self.keys.row(i);
-        head_at(&row) == head(key) && address_at(&row) == address(key.1)
+        let row = self.keys.at(i);
+        head_at(row) == head(key) && address_at(row) == address(key.1)
     }
 
     fn is_below(&self, i: usize, key: &GroupKey) -> bool {
-        let row = self.keys.row(i);
-        if head_at(&row) == head(key) {
-            return address_at(&row) < address(key.1);
+        let row = self.keys.at(i);
+        if head_at(row) == head(key) {
+            return address_at(row) < address(key.1);
         }
-        head_at(&row) < head(key)
+        head_at(row) < head(key)
     }
 
     fn hash(key: &GroupKey) -> u64 {
@@ -161,7 +161,7 @@ impl Cells<GroupKey, FanRow> for GroupCells {
     }
 
     fn value(&self, i: usize) -> FanRow {
-        fan_row(&self.rows.row(i))
+        fan_row(self.rows.at(i))
     }
 
     fn put(&mut self, i: usize, key: &GroupKey, value: FanRow) {

@@ -1,9 +1,13 @@
 //! The rows, and how they are packed.
 ghost use Rattle.std.specs.Prelude.{◌≡◌, ◌≢◌, ◌==◌, ◌<◌, ◌≤◌, ◌+◌, ◌*◌, ◌^◌, nat_lt};
+ghost use Rattle.br_model.specs.Forward.Admission.{forwarding};
+ghost use Rattle.br_model.specs.Forward.Targets.{isolated};
 ghost use Rattle.br_model.specs.Control.Learning.{is_extern};
+ghost use Rattle.port_sets.specs.Numbers.{has_number};
+ghost use Rattle.chip_tables.specs.Flags.{row_has_flag, row_is_in};
 ghost use Rattle.chip_tables.specs.Rows.{ports_from, vlan_of, fan_of, pvid_from, port_of, is_on, port_from, kind_of, address_of, control_of, key_of, packed, KeepsBefore};
 
-use br_model::change::{Flags, Kind};
+use br_model::change::{FORWARDING, Flags, Kind};
 use br_model::numbers::{Mac, Port, Vid};
 use chip_regs::{Field, Row};
 use port_sets::Ports;
@@ -120,9 +124,30 @@ pub fn vlan_row(row: &Row<64>) -> VlanRow
     ensures { result ≡ vlan_of row.now }
 {
     VlanRow {
-        members: ports_from(row, 0),
-        untagged: ports_from(row, 256),
+        members: members(row),
+        untagged: untagged(row),
     }
+}
+
+/// The members in the row of a VLAN.
+pub fn members(row: &Row<64>) -> Ports
+    ensures { result ≡ (vlan_of row.now).members }
+{
+    ports_from(row, 0)
+}
+
+/// Those of them that its frames leave without a tag.
+pub fn untagged(row: &Row<64>) -> Ports
+    ensures { result ≡ (vlan_of row.now).untagged }
+{
+    ports_from(row, 256)
+}
+
+/// Whether the port is a member.
+pub fn is_member(row: &Row<64>, port: Port) -> bool
+    ensures { result ≡ has_number (vlan_of row.now).members port }
+{
+    row.bit(usize::from(port.number()))
 }
 
 pub fn pack_vlan(r: &VlanRow) -> Row<64>
@@ -166,6 +191,27 @@ pub fn port_row(row: &Row<3>) -> PortRow
         pvid: pvid_of(get!(row, 10), get!(row, 11, 12)),
         own: get!(row, 23),
     }
+}
+
+/// Whether the port of a row is up and forwards.
+pub fn is_forwarding(row: &Row<3>) -> bool
+    ensures { result ≡ row_is_in (port_of row.now) forwarding }
+{
+    get!(row, 0) && get!(row, 1, 3) as u8 == FORWARDING
+}
+
+/// Whether it has the flag `isolated` (Linux's BR_ISOLATED).
+pub fn is_isolated(row: &Row<3>) -> bool
+    ensures { result ≡ row_has_flag (port_of row.now) isolated }
+{
+    row.bit(4 + usize::from(Flags::ISOLATED))
+}
+
+/// Whether it is on the chip.
+pub fn is_own(row: &Row<3>) -> bool
+    ensures { result ≡ (port_of row.now).own }
+{
+    row.bit(23)
 }
 
 fn flags_of(bits: u64) -> Flags

@@ -1,20 +1,25 @@
 //! The tables.
-ghost use Rattle.std.specs.Prelude.{◌≡◌, ◌<◌, ◌≤◌, ℕ, IfOk, IfSome, Option, Some, length, slice_get};
+ghost use Rattle.std.specs.Prelude.{◌≡◌, ◌<◌, ◌≤◌, ℕ, IfOk, IfSome, Option, Some, length, slice_get, slice_index};
 ghost use Rattle.br_model.specs.Table.GroupPairs.{max_pairs};
 ghost use Rattle.br_model.specs.Table.Limits.{most_addresses};
-ghost use Rattle.chip_tables.specs.Rows.{vlan_at, flood_at, router_at, port_at, trap_at, control_in, address_at, addresses_with, address_rows, extern_at, group_at, groups_with, IsPlaced, WritesVlan, WritesFlood, WritesRouter, WritesPort, WritesTrap};
-ghost use Rattle.chip_tables.specs.Writing.{WritesFan, IsBlank};
+ghost use Rattle.br_model.specs.Forward.Admission.{forwarding};
+ghost use Rattle.br_model.specs.Forward.Targets.{isolated};
+ghost use Rattle.port_sets.specs.Numbers.{has_number};
+ghost use Rattle.chip_tables.specs.Rows.{fan_of, vlan_at, flood_at, router_at, port_at, trap_at, control_in, address_at, addresses_with, address_rows, extern_at, group_at, groups_with, IsPlaced, WritesVlan, WritesFlood, WritesRouter, WritesPort, WritesTrap};
+ghost use Rattle.chip_tables.specs.Flags.{row_has_flag, row_is_in};
+ghost use Rattle.chip_tables.specs.Writing.{WritesFan, IsBlank, switched_fan};
 
 use crate::NoMemory;
 use crate::addresses::{self, Addresses, key};
 use crate::groups::{self, Groups, group_key};
 use crate::rows::{
-    AddressRow, Control, FanRow, Flood, PortRow, VlanRow, control_row, fan_row, is_on,
+    self, AddressRow, Control, FanRow, Flood, PortRow, VlanRow, control_row, fan_row, is_on,
     pack_control, pack_fan, pack_port, pack_trap, pack_vlan, port_row, vlan_row,
 };
 use br_model::group::Group;
 use br_model::numbers::{Mac, Port, Vid};
 use chip_regs::Bank;
+use port_sets::Ports;
 use std::alloc::Global;
 use std::marker::Model;
 
@@ -68,6 +73,13 @@ fn put_fan(bank: &mut Bank<4096, 33>, v: Vid, r: &FanRow)
     bank.put(usize::from(v.number()), pack_fan(r));
 }
 
+/// Puts a port into the row of a VLAN or takes it out.
+fn switch_fan(bank: &mut Bank<4096, 33>, vid: Vid, port: Port, on: bool)
+    ensures { WritesFan bank.old bank.new vid (switched_fan (fan_of (slice_index bank.old vid)) port on) }
+{
+    bank.set_bit(usize::from(vid.number()), usize::from(port.number()), on);
+}
+
 impl Tables {
     /// No row was written to.
     pub fn make(alloc: Global) -> Result<Tables, NoMemory>
@@ -90,7 +102,28 @@ impl Tables {
     pub fn vlan(&self, vid: Vid) -> VlanRow
         ensures { result ≡ vlan_at self.now vid }
     {
-        vlan_row(&self.vlans.row(usize::from(vid.number())))
+        vlan_row(self.vlans.at(usize::from(vid.number())))
+    }
+
+    /// The members of the VLAN.
+    pub fn members(&self, vid: Vid) -> Ports
+        ensures { result ≡ (vlan_at self.now vid).members }
+    {
+        rows::members(self.vlans.at(usize::from(vid.number())))
+    }
+
+    /// Those of them that the VLAN's frames leave without a tag.
+    pub fn untagged(&self, vid: Vid) -> Ports
+        ensures { result ≡ (vlan_at self.now vid).untagged }
+    {
+        rows::untagged(self.vlans.at(usize::from(vid.number())))
+    }
+
+    /// Whether the port is a member of the VLAN. It reads one bit.
+    pub fn is_member(&self, vid: Vid, port: Port) -> bool
+        ensures { result ≡ has_number (vlan_at self.now vid).members port }
+    {
+        rows::is_member(self.vlans.at(usize::from(vid.number())), port)
     }
 
     pub fn set_vlan(&mut self, vid: Vid, r: VlanRow)
@@ -106,9 +139,9 @@ impl Tables {
     {
         let place = usize::from(vid.number());
         match f {
-            Flood::Unicast => fan_row(&self.unicast.row(place)),
-            Flood::Mcast => fan_row(&self.mcast.row(place)),
-            Flood::Bcast => fan_row(&self.bcast.row(place)),
+            Flood::Unicast => fan_row(self.unicast.at(place)),
+            Flood::Mcast => fan_row(self.mcast.at(place)),
+            Flood::Bcast => fan_row(self.bcast.at(place)),
         }
     }
 
@@ -123,11 +156,24 @@ impl Tables {
         }
     }
 
+    /// Puts a port into a flood row or takes it out, and leaves the row's bits for the processor. Of a row that was written to before
+    /// it writes one byte.
+    pub fn switch_flood(&mut self, vid: Vid, f: Flood, port: Port, on: bool)
+        ensures row { WritesFlood self.old self.new vid f (switched_fan (flood_at self.old vid f) port on) }
+        ensures rest { self.new ≡ record self.old { unicast = self.new.unicast; mcast = self.new.mcast; bcast = self.new.bcast } }
+    {
+        match f {
+            Flood::Unicast => switch_fan(&mut self.unicast, vid, port, on),
+            Flood::Mcast => switch_fan(&mut self.mcast, vid, port, on),
+            Flood::Bcast => switch_fan(&mut self.bcast, vid, port, on),
+        }
+    }
+
     /// Where frames go that are for multicast routers: the ports in the VLAN behind which one is known.
     pub fn router(&self, vid: Vid) -> FanRow
         ensures { result ≡ router_at self.now vid }
     {
-        fan_row(&self.routers.row(usize::from(vid.number())))
+        fan_row(self.routers.at(usize::from(vid.number())))
     }
 
     pub fn set_router(&mut self, vid: Vid, r: FanRow)
@@ -135,6 +181,14 @@ impl Tables {
         ensures rest { self.new ≡ record self.old { routers = self.new.routers } }
     {
         put_fan(&mut self.routers, vid, &r);
+    }
+
+    /// Puts a port into a router row or takes it out, as `switch_flood` does.
+    pub fn switch_router(&mut self, vid: Vid, port: Port, on: bool)
+        ensures row { WritesRouter self.old self.new vid (switched_fan (router_at self.old vid) port on) }
+        ensures rest { self.new ≡ record self.old { routers = self.new.routers } }
+    {
+        switch_fan(&mut self.routers, vid, port, on);
     }
 
     pub fn port(&self, port: Port) -> PortRow
@@ -147,7 +201,28 @@ impl Tables {
     pub fn port_numbered(&self, number: u8) -> PortRow
         ensures { result ≡ port_at self.now number }
     {
-        port_row(&self.ports.row(usize::from(number)))
+        port_row(self.ports.at(usize::from(number)))
+    }
+
+    /// Whether the row of a number says that its port is up and forwards.
+    pub fn is_forwarding(&self, number: u8) -> bool
+        ensures { result ≡ row_is_in (port_at self.now number) forwarding }
+    {
+        rows::is_forwarding(self.ports.at(usize::from(number)))
+    }
+
+    /// Whether it has the flag `isolated` (Linux's BR_ISOLATED).
+    pub fn is_isolated(&self, number: u8) -> bool
+        ensures { result ≡ row_has_flag (port_at self.now number) isolated }
+    {
+        rows::is_isolated(self.ports.at(usize::from(number)))
+    }
+
+    /// Whether the port is on the chip.
+    pub fn is_own(&self, port: Port) -> bool
+        ensures { result ≡ (port_at self.now port).own }
+    {
+        rows::is_own(self.ports.at(usize::from(port.number())))
     }
 
     /// The state is at most 4.
@@ -173,7 +248,7 @@ impl Tables {
         requires { i < 21 }
         ensures { result ≡ trap_at self.now i }
     {
-        is_on(&self.traps.row(i))
+        is_on(self.traps.at(i))
     }
 
     /// Row 0 is that of 01-80-C2-00-00-00, rows 2 to 15 those of 01-80-C2-00-00-02 to 0F, row 16 that of IGMP, and 17 to 20
@@ -189,7 +264,7 @@ impl Tables {
     pub fn control(&self) -> Control
         ensures { result ≡ control_in self.now }
     {
-        control_row(&self.control.row(0))
+        control_row(self.control.at(0))
     }
 
     pub fn set_control(&mut self, c: Control)

@@ -4,12 +4,12 @@ use Rattle.chip_tables.proofs.addresses.AddressCells.key.Goals as goal
 
 pub returns-then-key-eq0 : goal.returns-then-key-eq0
 returns-then-key-eq0 c =
-    place-at c.args.self.now.bank c.args.i c.row.result (omega (arith, c.requires, c.row.ensures.len)) c.row.ensures.value
-    ∙ ap Some (place-none c.row.result (sym c.key_in-key.ensures.value ∙ c.if-key-eq0.true))
+    place-at c.args.self.now.bank c.args.i c.at.result.now (omega (arith, c.requires, c.at.ensures.len)) c.at.ensures.value
+    ∙ ap Some (place-none c.at.result.now (sym c.key_in-key.ensures.value ∙ c.if-key-eq0.true))
 
 pub returns : goal.returns
 returns c =
-    place-at c.args.self.now.bank c.args.i c.row.result (omega (arith, c.requires, c.row.ensures.len)) c.row.ensures.value
+    place-at c.args.self.now.bank c.args.i c.at.result.now (omega (arith, c.requires, c.at.ensures.len)) c.at.ensures.value
     ∙ ap Some
-    (place-some c.row.result c.key_in-key.result c.in-Some.vid c.in-Some-from_number.mac c.key_in-key.ensures.value c.if-key-eq0.false c.key_in-key.ensures.below c.in-Some.ensures.value
+    (place-some c.at.result.now c.key_in-key.result c.in-Some.vid c.in-Some-from_number.mac c.key_in-key.ensures.value c.if-key-eq0.false c.key_in-key.ensures.below c.in-Some.ensures.value
     c.in-Some-from_number.ensures.value)
