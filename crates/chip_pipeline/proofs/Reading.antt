@@ -17,8 +17,7 @@ use Rattle.br_model.proofs.Forward.States.{forwarding-is}
 use Rattle.chip_tables.specs.declared.rows.VlanRow.{VlanRow}
 use Rattle.chip_tables.specs.Rows.{Rows, vlan_at, port_at}
 use Rattle.chip_tables.specs.Stands.{IsVid, Stands, is_own}
-use Rattle.chip_tables.specs.Flags.{row_has_flag}
-use Rattle.chip_pipeline.specs.PortRows.{row_is_in}
+use Rattle.chip_tables.specs.Flags.{row_has_flag, row_is_in}
 use Rattle.chip_pipeline.proofs.Sets.{member-of}
 
 learning-is : (o : Option ℕ) → (unwrap_or o 0 == learning) ≡ option_eq (λ x y. x == y) o (Some learning)

@@ -5,11 +5,7 @@ use Rattle.br_model.specs.Forward.Targets.{isolated}
 use Rattle.port_sets.specs.Numbers.{has_number}
 use Rattle.chip_tables.specs.declared.rows.PortRow.{PortRow}
 use Rattle.chip_tables.specs.declared.rows.VlanRow.{VlanRow}
-use Rattle.chip_tables.specs.Flags.{row_has_flag}
-
--- whether the port is up, in this state
-abbrev pub row_is_in : PortRow → ℕ → Bool
-row_is_in row state = row.up && row.state == state
+use Rattle.chip_tables.specs.Flags.{row_has_flag, row_is_in}
 
 -- whether a port with this row lets out what came by another port, isolated or not
 abbrev pub row_lets : Bool → PortRow → Bool

@@ -16,33 +16,33 @@ ghost use Rattle.chip_pipeline.specs.PortRows.{row_lets, row_takes};
 ghost use Rattle.chip_pipeline.specs.Ways.{IsWay, Leads, LeadsTo, leaves_chip};
 
 use crate::lookup::Way;
-use crate::ports::{forwards, is_isolated};
-use crate::vlans::Vlan;
+use crate::ports::is_isolated;
 use br_model::frame::Class;
-use br_model::numbers::Port;
-use chip_tables::{FanRow, PortRow, Tables, VlanRow};
+use br_model::numbers::{Port, Vid};
+use chip_tables::{FanRow, PortRow, Tables};
 use port_sets::Ports;
 
 /// The ports of the row that may take a frame of the VLAN that came by the port, isolated or not. It reads the row of each that
 /// is a member, since no other row tells which ports forward.
-pub fn reached(tables: &Tables, port: Port, alone: bool, vlan: &VlanRow, fan: &FanRow) -> Ports
-    ensures { result ≡ ports_where (λ q. has_number fan.now.ports q && row_takes port alone vlan.now q (port_at tables.now q)) }
+pub fn reached(tables: &Tables, port: Port, alone: bool, vid: Vid, fan: &FanRow) -> Ports
+    ensures { result ≡ ports_where (λ q. has_number fan.now.ports q && row_takes port alone (vlan_at tables.now vid) q (port_at tables.now q)) }
 {
-    let others = fan.ports.and(vlan.members).without(port.number());
+    let members = tables.members(vid);
+    let others = fan.ports.and(members).without(port.number());
     let mut ports = Ports::empty();
     for number in others.iter() {
-        if lets(alone, &tables.port_numbered(number)) {
+        if lets(tables, alone, number) {
             ports = ports.with(number);
         }
     }
     ports
 }
 
-/// Whether a port with this row forwards, and isn't isolated from the ingress port.
-fn lets(alone: bool, row: &PortRow) -> bool
-    ensures { result ≡ row_lets alone row.now }
+/// Whether the row of a number says that its port forwards and isn't isolated from the ingress port.
+fn lets(tables: &Tables, alone: bool, number: u8) -> bool
+    ensures { result ≡ row_lets alone (port_at tables.now number) }
 {
-    forwards(row) && !(alone && is_isolated(row))
+    tables.is_forwarding(number) && !(alone && tables.is_isolated(number))
 }
 
 /// What the chip does with an admitted frame that snooping doesn't catch.
@@ -53,33 +53,30 @@ pub struct Out {
 }
 
 /// What the chip does with a frame of the VLAN that is to go this way.
-pub fn send(tables: &Tables, port: Port, row: &PortRow, vlan: &Vlan, way: &Way) -> Out
+pub fn send(tables: &Tables, port: Port, row: &PortRow, vid: Vid, way: &Way) -> Out
     requires row { row.now ≡ port_at tables.now port }
-    requires vlan { vlan.now.row ≡ vlan_at tables.now vlan.now.vid }
-    requires range { IsVid vlan.now.vid }
+    requires range { IsVid vid }
     ensures { (d : Domains) (dom : ℕ) (t : Table) (head : Head) (msg : McastMsg) → AtChip d dom tables.now t port
-        → IsWay d dom t port vlan.now.vid head msg way.now → IsOut d t port vlan.now.vid head msg result }
+        → IsWay d dom t port vid head msg way.now → IsOut d t port vid head msg result }
 {
     match *way {
         Way::Nowhere => nothing(Class::Drop),
-        Way::One(goal) => send_to(tables, port, row, vlan, goal),
-        Way::Many(fan) => send_by(tables, port, row, vlan, &fan),
+        Way::One(goal) => send_to(tables, port, row, vid, goal),
+        Way::Many(fan) => send_by(tables, port, row, vid, &fan),
     }
 }
 
 /// To one port: by it where it is the chip's own, by the processor where it is elsewhere.
-fn send_to(tables: &Tables, port: Port, row: &PortRow, vlan: &Vlan, goal: Port) -> Out
+fn send_to(tables: &Tables, port: Port, row: &PortRow, vid: Vid, goal: Port) -> Out
     requires row { row.now ≡ port_at tables.now port }
-    requires vlan { vlan.now.row ≡ vlan_at tables.now vlan.now.vid }
-    requires range { IsVid vlan.now.vid }
+    requires range { IsVid vid }
     ensures { (d : Domains) (dom : ℕ) (t : Table) (head : Head) (msg : McastMsg) → AtChip d dom tables.now t port
-        → LeadsTo d t port vlan.now.vid head goal (targets t vlan.now.vid head msg) → IsOut d t port vlan.now.vid head msg result }
+        → LeadsTo d t port vid head goal (targets t vid head msg) → IsOut d t port vid head msg result }
 {
-    let other = tables.port(goal);
-    if !may_take(tables, port, row, vlan, goal, &other) {
+    if !may_take(tables, port, row, vid, goal) {
         return nothing(Class::Drop);
     }
-    if other.own {
+    if tables.is_own(goal) {
         Out {
             class: Class::Forward,
             ports: Ports::empty().with(goal.number()),
@@ -100,23 +97,15 @@ fn nothing(class: Class) -> Out
 }
 
 /// Whether a port may take a frame of the VLAN that came by the other.
-fn may_take(
-    tables: &Tables,
-    port: Port,
-    row: &PortRow,
-    vlan: &Vlan,
-    goal: Port,
-    other: &PortRow,
-) -> bool
+fn may_take(tables: &Tables, port: Port, row: &PortRow, vid: Vid, goal: Port) -> bool
     requires row { row.now ≡ port_at tables.now port }
-    requires vlan { vlan.now.row ≡ vlan_at tables.now vlan.now.vid }
-    requires range { IsVid vlan.now.vid }
-    requires other { other.now ≡ port_at tables.now goal }
-    ensures { (d : Domains) (dom : ℕ) (t : Table) → Stands d dom tables.now t → result ≡ may t port goal vlan.now.vid }
+    requires range { IsVid vid }
+    ensures { (d : Domains) (dom : ℕ) (t : Table) → Stands d dom tables.now t → result ≡ may t port goal vid }
 {
     // law: the port is in range
     let _number = port.number();
-    if !vlan.row.members.has(goal.number()) {
+    let n = goal.number();
+    if !tables.is_member(vid, goal) {
         return false;
     }
     if goal.is_host() {
@@ -125,20 +114,19 @@ fn may_take(
     if goal == port {
         return false;
     }
-    lets(is_isolated(row), other)
+    lets(tables, is_isolated(row), n)
 }
 
 /// To the ports of a row, and by the processor too where its bit tells of a port elsewhere.
-fn send_by(tables: &Tables, port: Port, row: &PortRow, vlan: &Vlan, fan: &FanRow) -> Out
+fn send_by(tables: &Tables, port: Port, row: &PortRow, vid: Vid, fan: &FanRow) -> Out
     requires row { row.now ≡ port_at tables.now port }
-    requires vlan { vlan.now.row ≡ vlan_at tables.now vlan.now.vid }
-    requires range { IsVid vlan.now.vid }
+    requires range { IsVid vid }
     ensures { (d : Domains) (dom : ℕ) (t : Table) (head : Head) (msg : McastMsg) → AtChip d dom tables.now t port
-        → Leads d dom t port vlan.now.vid fan.now (targets t vlan.now.vid head msg) → leaves_chip d t port vlan.now.vid head ≡ false
-        → IsOut d t port vlan.now.vid head msg result }
+        → Leads d dom t port vid fan.now (targets t vid head msg) → leaves_chip d t port vid head ≡ false
+        → IsOut d t port vid head msg result }
 {
     let alone = is_isolated(row);
-    let ports = reached(tables, port, alone, &vlan.row, fan);
+    let ports = reached(tables, port, alone, vid, fan);
     let elsewhere = if alone { fan.isolated } else { fan.plain };
     // law: the port is in range
     let _number = port.number();

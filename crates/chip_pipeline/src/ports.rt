@@ -3,8 +3,7 @@ ghost use Rattle.std.specs.Prelude.{◌≡◌, ◌<◌};
 ghost use Rattle.br_model.specs.Forward.Admission.{learning, forwarding};
 ghost use Rattle.br_model.specs.Control.Learning.{learning_flag};
 ghost use Rattle.br_model.specs.Forward.Targets.{isolated};
-ghost use Rattle.chip_tables.specs.Flags.{row_has_flag};
-ghost use Rattle.chip_pipeline.specs.PortRows.{row_is_in};
+ghost use Rattle.chip_tables.specs.Flags.{row_has_flag, row_is_in};
 
 use br_model::change::{FORWARDING, Flags, LEARNING};
 use chip_tables::PortRow;

@@ -1,22 +1,18 @@
 //! The source: what the chip reports of it, and whether it hits its entry.
 ghost use Rattle.std.specs.Prelude.{◌≡◌, ℕ, ◌&&◌, ◌||◌, not, if◌then◌else◌, IfSome, Some, None};
-ghost use Rattle.std.specs.Option.{option_map};
 ghost use Rattle.br_model.specs.Forward.Admission.{forwarding, learning, vlan_of};
 ghost use Rattle.br_model.specs.Plane.Chip.{report, hit_of, hit_in, is_at, report_of};
 ghost use Rattle.br_model.specs.Table.Domains.{Domains};
 ghost use Rattle.br_model.specs.Control.Learning.{is_news, is_reserved, learning_flag, may_teach, teach_in};
 ghost use Rattle.br_model.specs.Table.Table.{Table};
-ghost use Rattle.chip_tables.specs.Rows.{vlan_at, port_at};
+ghost use Rattle.chip_tables.specs.Rows.{port_at};
 ghost use Rattle.chip_tables.specs.Stands.{IsVid, Stands};
-ghost use Rattle.chip_tables.specs.Flags.{row_has_flag};
-ghost use Rattle.chip_pipeline.specs.PortRows.{row_is_in};
+ghost use Rattle.chip_tables.specs.Flags.{row_has_flag, row_is_in};
 ghost use Rattle.chip_pipeline.specs.Ways.{entry_wanted};
-ghost use Rattle.chip_pipeline.specs.declared.vlans.Vlan.{Vlan};
 
 use crate::entries::address_row;
 use crate::ports::{forwards, is_learning, learns};
 use crate::traps::is_reserved;
-use crate::vlans::Vlan;
 use br_model::frame::Head;
 use br_model::numbers::{Mac, Port, Vid};
 use chip_tables::{AddressRow, PortRow, Tables};
@@ -29,25 +25,19 @@ pub struct Sighting {
 }
 
 /// What the chip makes of the source of a frame in this VLAN, if it is in one.
-pub fn sight(
-    tables: &Tables,
-    port: Port,
-    row: &PortRow,
-    vlan: &Option<Vlan>,
-    head: &Head,
-) -> Sighting
+pub fn sight(tables: &Tables, port: Port, row: &PortRow, vid: Option<Vid>, head: &Head) -> Sighting
     requires row { row.now ≡ port_at tables.now port }
-    requires vlan { IfSome vlan.now (λ (v : Vlan). (v.row ≡ vlan_at tables.now v.vid) × IsVid v.vid) }
-    ensures report { (d : Domains) (dom : ℕ) (t : Table) → Stands d dom tables.now t
-        → option_map (λ (v : Vlan). v.vid) vlan.now ≡ vlan_of t port head.now → result.report ≡ report t port head.now }
-    ensures hit { (d : Domains) (dom : ℕ) (t : Table) → Stands d dom tables.now t
-        → option_map (λ (v : Vlan). v.vid) vlan.now ≡ vlan_of t port head.now → result.hit ≡ hit_of t port head.now }
+    requires range { IfSome vid IsVid }
+    ensures report { (d : Domains) (dom : ℕ) (t : Table) → Stands d dom tables.now t → vid ≡ vlan_of t port head.now
+        → result.report ≡ report t port head.now }
+    ensures hit { (d : Domains) (dom : ℕ) (t : Table) → Stands d dom tables.now t → vid ≡ vlan_of t port head.now
+        → result.hit ≡ hit_of t port head.now }
 {
     if !head.has_valid_source() {
         return unseen();
     }
-    match vlan {
-        Some(vlan) => sight_in(tables, port, row, vlan, head),
+    match vid {
+        Some(vid) => sight_in(tables, port, row, vid, head),
         None => unseen(),
     }
 }
@@ -61,22 +51,21 @@ fn unseen() -> Sighting
     }
 }
 
-fn sight_in(tables: &Tables, port: Port, row: &PortRow, vlan: &Vlan, head: &Head) -> Sighting
+fn sight_in(tables: &Tables, port: Port, row: &PortRow, vid: Vid, head: &Head) -> Sighting
     requires row { row.now ≡ port_at tables.now port }
-    requires vlan { vlan.now.row ≡ vlan_at tables.now vlan.now.vid }
-    requires range { IsVid vlan.now.vid }
+    requires range { IsVid vid }
     ensures report { (d : Domains) (dom : ℕ) (t : Table) → Stands d dom tables.now t
-        → result.report ≡ (if not (is_reserved t head.now) then report_of t port (teach_in t port (Some vlan.now.vid) head.now.src) else None) }
-    ensures hit { (d : Domains) (dom : ℕ) (t : Table) → Stands d dom tables.now t → result.hit ≡ hit_in t port (Some vlan.now.vid) head.now.src }
+        → result.report ≡ (if not (is_reserved t head.now) then report_of t port (teach_in t port (Some vid) head.now.src) else None) }
+    ensures hit { (d : Domains) (dom : ℕ) (t : Table) → Stands d dom tables.now t → result.hit ≡ hit_in t port (Some vid) head.now.src }
 {
-    let entry = address_row(tables, vlan.vid, head.src);
+    let entry = address_row(tables, vid, head.src);
     Sighting {
         report: where_so(
-            is_reported(tables, port, row, vlan, head, &entry),
-            vlan.vid,
+            is_reported(tables, port, row, vid, head, &entry),
+            vid,
             head.src,
         ),
-        hit: where_so(is_at(&entry, port), vlan.vid, head.src),
+        hit: where_so(is_at(&entry, port), vid, head.src),
     }
 }
 
@@ -85,20 +74,19 @@ fn is_reported(
     tables: &Tables,
     port: Port,
     row: &PortRow,
-    vlan: &Vlan,
+    vid: Vid,
     head: &Head,
     entry: &Option<AddressRow>,
 ) -> bool
     requires row { row.now ≡ port_at tables.now port }
-    requires vlan { vlan.now.row ≡ vlan_at tables.now vlan.now.vid }
-    requires range { IsVid vlan.now.vid }
-    ensures { (d : Domains) (dom : ℕ) (t : Table) → Stands d dom tables.now t → entry.now ≡ entry_wanted t vlan.now.vid head.now.src
-        → result ≡ (not (is_reserved t head.now) && (may_teach t port vlan.now.vid && is_news t (vlan.now.vid, head.now.src) port)) }
+    requires range { IsVid vid }
+    ensures { (d : Domains) (dom : ℕ) (t : Table) → Stands d dom tables.now t → entry.now ≡ entry_wanted t vid head.now.src
+        → result ≡ (not (is_reserved t head.now) && (may_teach t port vid && is_news t (vid, head.now.src) port)) }
 {
     if is_reserved(tables, head) {
         return false;
     }
-    if !may_teach(tables, port, row, vlan) {
+    if !may_teach(tables, port, row, vid) {
         return false;
     }
     is_news(entry, port)
@@ -112,13 +100,14 @@ fn where_so(so: bool, vid: Vid, mac: Mac) -> Option<(Vid, Mac)>
 }
 
 /// Whether the port learns addresses of the VLAN.
-fn may_teach(tables: &Tables, port: Port, row: &PortRow, vlan: &Vlan) -> bool
+fn may_teach(tables: &Tables, port: Port, row: &PortRow, vid: Vid) -> bool
     requires row { row.now ≡ port_at tables.now port }
-    requires vlan { vlan.now.row ≡ vlan_at tables.now vlan.now.vid }
-    requires range { IsVid vlan.now.vid }
-    ensures { (d : Domains) (dom : ℕ) (t : Table) → Stands d dom tables.now t → result ≡ may_teach t port vlan.now.vid }
+    requires range { IsVid vid }
+    ensures { (d : Domains) (dom : ℕ) (t : Table) → Stands d dom tables.now t → result ≡ may_teach t port vid }
 {
-    let is_member = vlan.row.members.has(port.number());
+    // law: the port is in range
+    let _number = port.number();
+    let is_member = tables.is_member(vid, port);
     sees(row) && is_member
 }
 

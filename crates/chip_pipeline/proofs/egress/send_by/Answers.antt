@@ -1,9 +1,8 @@
-use Rattle.std.proofs.Common.{◌≡◌, ◌&&◌, cond, sym, ap, ap₂, ◌∙◌}
+use Rattle.std.proofs.Common.{◌≡◌, ◌&&◌, cond, sym, ap, ◌∙◌}
 use Rattle.br_model.specs.Forward.Targets.{has_flag, isolated}
 use Rattle.port_sets.specs.Numbers.{has_number}
 use Rattle.chip_tables.specs.declared.rows.PortRow.{PortRow}
-use Rattle.chip_tables.specs.declared.rows.VlanRow.{VlanRow}
-use Rattle.chip_tables.specs.Rows.{port_at}
+use Rattle.chip_tables.specs.Rows.{port_at, vlan_at}
 use Rattle.chip_tables.specs.Stands.{ports_where}
 use Rattle.chip_tables.specs.Flags.{row_has_flag}
 use Rattle.chip_pipeline.specs.PortRows.{row_takes}
@@ -21,7 +20,7 @@ returns c d dom t head msg at leads stays =
       | then-alone w ↦ w.elsewhere-is ∙ sym (ap (λ b. cond b c.args.fan.now.isolated c.args.fan.now.plain) w.if-alone.true)
       | else-alone w ↦ w.elsewhere-is ∙ sym (ap (λ b. cond b c.args.fan.now.isolated c.args.fan.now.plain) w.if-alone.false)
     ] in
-    many-out d dom c.args.tables.now t c.args.port c.args.vlan.now.vid head msg c.args.fan.now at c.number-number.ensures.below c.requires.range leads
+    many-out d dom c.args.tables.now t c.args.port c.args.vid head msg c.args.fan.now at c.number-number.ensures.below c.requires.range leads
     c.reached-ports.result c.class_by.result c.if-alone.elsewhere c.is_empty.result stays
-    (c.reached-ports.ensures ∙ ap₂ (λ a (v : VlanRow). ports_where (λ q. has_number c.args.fan.now.ports q && row_takes c.args.port a v q (port_at c.args.tables.now q))) alone c.requires.vlan)
+    (c.reached-ports.ensures ∙ ap (λ a. ports_where (λ q. has_number c.args.fan.now.ports q && row_takes c.args.port a (vlan_at c.args.tables.now c.args.vid) q (port_at c.args.tables.now q))) alone)
     (bit ∙ ap (λ b. cond b c.args.fan.now.isolated c.args.fan.now.plain) alone) c.is_empty.ensures c.class_by.ensures

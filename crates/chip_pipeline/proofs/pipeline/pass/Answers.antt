@@ -5,7 +5,7 @@ use Rattle.chip_pipeline.proofs.pipeline.pass.Goals as goal
 
 pub returns : goal.returns
 returns c d dom table at =
-    let vid = c.vlan_of-vlan.ensures.vid d dom table at.stands in
+    let vid = c.vlan_of-vid.ensures.vid d dom table at.stands in
     let sent = c.forward-sent.ensures d dom table at vid in
     record {
       class = ap (λ (x : Passed). x.class) c.of.ensures ∙ sent.class;

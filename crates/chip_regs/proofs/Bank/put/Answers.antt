@@ -4,11 +4,11 @@ use Rattle.lists.proofs.Filling.{length-padded}
 use Rattle.chip_regs.proofs.Banks.{row-put}
 use Rattle.chip_regs.proofs.Bank.put.Goals as goal
 
-pub returns-then-i-rows : goal.returns-then-i-rows
-returns-then-i-rows g c =
+pub returns-then-i-len : goal.returns-then-i-len
+returns-then-i-len g c =
     let rows = c.self.inside.rows.items in
     record {
-      value = row-put g.row.ROWS rows c.args.self.now c.args.i c.args.row c.self.view_is (omega (arith, c.len.ensures));
+      value = row-put g.row.ROWS rows c.args.self.now c.args.i c.args.row c.self.view_is (omega (arith, c.len.ensures, c.self.inside.rows.ok.0));
       len = sym (ap length c.self.view_is) ∙ length-padded 0 g.row.ROWS rows;
     }
 
