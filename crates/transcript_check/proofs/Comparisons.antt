@@ -26,14 +26,14 @@ nothing_left [] h = refl
 nothing_left (step ∷ steps) h = absurd (omega (arith, h))
 
 pub compares_none : (x : Beside) → ComparesSteps x [] x
-compares_none x = λ transcript setup before b. subst (λ (steps : List Step). IsBeside transcript setup steps x.world x.cursor x.differs) (sym (append-nil before)) b
+compares_none x = λ transcript setup before b. subst (λ (steps : List Step). IsBeside transcript setup steps x.world.value x.cursor x.differs) (sym (append-nil before)) b
 
 -- and one more
 pub compares_more : (x y z : Beside) (steps : List Step) (step : Step) → ComparesSteps x steps y
-    → ((transcript : List ℕ) (setup : Setup) (before : List Step) → IsBeside transcript setup before y.world y.cursor y.differs
-    → IsBeside transcript setup (before ++ step ∷ []) z.world z.cursor z.differs) → ComparesSteps x (steps ++ step ∷ []) z
+    → ((transcript : List ℕ) (setup : Setup) (before : List Step) → IsBeside transcript setup before y.world.value y.cursor y.differs
+    → IsBeside transcript setup (before ++ step ∷ []) z.world.value z.cursor z.differs) → ComparesSteps x (steps ++ step ∷ []) z
 compares_more x y z steps step f next = λ transcript setup before b.
-    subst (λ (steps : List Step). IsBeside transcript setup steps z.world z.cursor z.differs) (append_assoc before steps (step ∷ []))
+    subst (λ (steps : List Step). IsBeside transcript setup steps z.world.value z.cursor z.differs) (append_assoc before steps (step ∷ []))
     (next transcript setup (before ++ steps) (f transcript setup before b))
 
 -- what is told of a scenario that ends well

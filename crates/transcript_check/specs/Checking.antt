@@ -18,8 +18,8 @@ use Rattle.transcript_check.specs.declared.checking.CheckFault.TheVariants.{BadL
 -- These steps were compared, whatever steps were before them.
 abbrev pub ComparesSteps : Beside → List Step → Beside → Type 0
 ComparesSteps old steps new =
-    (transcript : List ℕ) (setup : Setup) (before : List Step) → IsBeside transcript setup before old.world old.cursor old.differs
-    → IsBeside transcript setup (before ++ steps) new.world new.cursor new.differs
+    (transcript : List ℕ) (setup : Setup) (before : List Step) → IsBeside transcript setup before old.world.value old.cursor old.differs
+    → IsBeside transcript setup (before ++ steps) new.world.value new.cursor new.differs
 
 -- the difference that an answer tells
 abbrev pub difference_of : Answer → Option Difference

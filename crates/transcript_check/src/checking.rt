@@ -55,8 +55,8 @@ impl From<AllocError> for CheckFault {
 /// Does these steps, and compares their lines.
 fn compare_steps(alloc: Global, steps: Vec<Step>, beside: &mut Beside<'_>) -> Result<(), NoMemory>
     requires stands { (transcript : List ℕ) × (setup : Setup) × (before : List StepValue)
-        × IsBeside transcript setup before beside.old.world beside.old.cursor beside.old.differs }
-    requires by_line { list_all (comes_by_line true (chip_domains beside.old.world.setup.domains)) steps.items ≡ true }
+        × IsBeside transcript setup before beside.old.world.value beside.old.cursor beside.old.differs }
+    requires by_line { list_all (comes_by_line true (chip_domains beside.old.world.value.setup.domains)) steps.items ≡ true }
     ensures { OnOk result (ComparesSteps beside.old steps.items beside.new) }
 {
     for step in steps {

@@ -21,8 +21,8 @@ compare_steps-requires-clause-by_line c =
     let says = c.requires.says in
     let own : Setup = record { domains = c.domains.result; own = c.own.result } in
     let declares : own ≡ setup_of c.roster-roster.result.now = λ i. record { domains = c.domains.ensures.value i; own = c.own.ensures i } in
-    ap (λ (l : List Step). list_all (comes_by_line true (chip_domains beside.world.setup.domains)) l) c.into_steps.ensures
-    ∙ lines_give beside.world.setup c.args.scenario says.0 (c.in_ok-beside.ensures.setup_is ∙ declares ∙ ap setup_of c.roster-roster.ensures)
+    ap (λ (l : List Step). list_all (comes_by_line true (chip_domains beside.world.value.setup.domains)) l) c.into_steps.ensures
+    ∙ lines_give beside.world.value.setup c.args.scenario says.0 (c.in_ok-beside.ensures.setup_is ∙ declares ∙ ap setup_of c.roster-roster.ensures)
     (ap (λ (r : Roster). are_declared r.ports) (sym c.roster-roster.ensures) ∙ c.domains.ensures.declared) says.1
 
 pub end-requires : goal.end-requires
@@ -36,10 +36,10 @@ returns c = λ bytes says ended.
     let b = c.compare_steps.new.beside in
     let own : Setup = record { domains = c.domains.result; own = c.own.result } in
     let declares : own ≡ setup_of c.roster-roster.result.now = λ i. record { domains = c.domains.ensures.value i; own = c.own.ensures i } in
-    let there : IsBeside t own c.into_steps.result.items b.world b.cursor b.differs = c.in_ok-compare_steps.ensures t own [] c.in_ok-beside.ensures in
-    let here : IsBeside t (setup_of x.roster) x.steps b.world b.cursor b.differs =
-    subst (λ (s : Setup). IsBeside t s x.steps b.world b.cursor b.differs) (declares ∙ ap setup_of c.roster-roster.ensures)
-    (subst (λ (steps : List Step). IsBeside t own steps b.world b.cursor b.differs) c.into_steps.ensures there) in
+    let there : IsBeside t own c.into_steps.result.items b.world.value b.cursor b.differs = c.in_ok-compare_steps.ensures t own [] c.in_ok-beside.ensures in
+    let here : IsBeside t (setup_of x.roster) x.steps b.world.value b.cursor b.differs =
+    subst (λ (s : Setup). IsBeside t s x.steps b.world.value b.cursor b.differs) (declares ∙ ap setup_of c.roster-roster.ensures)
+    (subst (λ (steps : List Step). IsBeside t own steps b.world.value b.cursor b.differs) c.into_steps.ensures there) in
     ap (λ (text : List ℕ). difference text t) (told_whole bytes x says ended)
     ∙ c.in_ok-difference.ensures t (setup_of x.roster) x.steps here
     ∙ sym c.answer_of.ensures

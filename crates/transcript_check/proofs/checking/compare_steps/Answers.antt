@@ -18,7 +18,7 @@ loop-step-preserved c =
     let so_far = c.loop-step.invariant in
     let next = (rw c.in-Some.is at c.next.ensures.steps).0 in record {
       parts = so_far.parts ∙ ap (λ (l : List Step). c.loop-step.yielded ++ l) next ∙ sym (append_assoc c.loop-step.yielded (c.in-Some.step ∷ []) c.next.new.self.rest.items);
-      by_line = second_so _ _ (ap (list_all (comes_by_line true (chip_domains c.args.beside.now.world.setup.domains))) (sym next) ∙ so_far.by_line);
+      by_line = second_so _ _ (ap (list_all (comes_by_line true (chip_domains c.args.beside.now.world.value.setup.domains))) (sym next) ∙ so_far.by_line);
       compares = compares_more c.args.beside.now c.loop-step.beside c.step.new.self _ _ so_far.compares c.in_ok-step.ensures;
     }
 
@@ -34,7 +34,7 @@ step-requires-clause-by_line c =
     let next = (rw c.in-Some.is at c.next.ensures.steps).0 in
     let same = (so_far.compares p.0 p.1 p.2 p.3).setup_is ∙ sym p.3.setup_is in
     ap (λ (s : Setup). comes_by_line true (chip_domains s.domains) c.in-Some.step) same
-    ∙ first_so _ _ (ap (list_all (comes_by_line true (chip_domains c.args.beside.now.world.setup.domains))) (sym next) ∙ so_far.by_line)
+    ∙ first_so _ _ (ap (list_all (comes_by_line true (chip_domains c.args.beside.now.world.value.setup.domains))) (sym next) ∙ so_far.by_line)
 
 pub returns : goal.returns
 returns c = λ transcript setup before b.
@@ -43,4 +43,4 @@ returns c = λ transcript setup before b.
     let left = c.loop-step.step-iterator.rest in
     let all : c.args.steps.items ≡ c.loop-step.yielded =
     so_far.parts ∙ ap (λ (l : List Step). c.loop-step.yielded ++ l) (nothing_left left.items (sym left.ok.0 ∙ c.in-None.ensures.steps.0)) ∙ append-nil c.loop-step.yielded in
-    subst (λ (l : List Step). IsBeside transcript setup (before ++ l) new.world new.cursor new.differs) (sym all) (so_far.compares transcript setup before b)
+    subst (λ (l : List Step). IsBeside transcript setup (before ++ l) new.world.value new.cursor new.differs) (sym all) (so_far.compares transcript setup before b)

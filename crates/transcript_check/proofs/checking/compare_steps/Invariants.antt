@@ -8,6 +8,6 @@ use Rattle.transcript_check.proofs.checking.compare_steps.Given as goal
 abbrev pub invariant-loop-step : goal.invariant-loop-step
 invariant-loop-step l = record {
   parts : l.fn.steps.items ≡ l.yielded ++ l.step-iterator.rest.items;
-  by_line : list_all (comes_by_line true (chip_domains l.fn.beside.world.setup.domains)) l.step-iterator.rest.items ≡ true;
+  by_line : list_all (comes_by_line true (chip_domains l.fn.beside.world.value.setup.domains)) l.step-iterator.rest.items ≡ true;
   compares : ComparesSteps l.fn.beside l.yielded l.beside;
 }

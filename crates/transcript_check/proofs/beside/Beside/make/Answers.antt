@@ -6,5 +6,5 @@ use Rattle.transcript_check.proofs.beside.Beside.make.Goals as goal
 
 pub returns : goal.returns
 returns c =
-    begun c.args.transcript.now (record { domains = c.args.domains; own = c.args.own }) c.in_ok-make.field-0 c.compare.new.self c.in_ok-differs.differs c.in_ok-make.ensures
+    begun c.args.transcript.now (record { domains = c.args.domains; own = c.args.own }) c.in_ok-first_world.field-0.value c.compare.new.self c.in_ok-differs.differs c.in_ok-first_world.ensures
     (subst (λ (s : Standing). Compares s c.compare.new.self (lines_in (codes "transcript 1" ++ 10 ∷ [])) c.in_ok-differs.differs) c.over-cursor.ensures c.in_ok-differs.ensures)
