@@ -27,7 +27,7 @@ pub fn pass(t: &Tables, p: Port, h: &Head, m: &McastMsg) -> Pass
 {
     let row = t.port(p);
     let vid = vlan_of(t, p, &row, h);
-    let sighting = sight(t, p, &row, vid, h);
+    let sighting = sight(t, p, &row, &vid, h);
     let sent = forward(t, p, &row, vid, h, m);
     Pass::of(sent, sighting)
 }

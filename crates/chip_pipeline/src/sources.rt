@@ -25,18 +25,18 @@ pub struct Sighting {
 }
 
 /// What the chip makes of the source of a frame in this VLAN, if it is in one.
-pub fn sight(tables: &Tables, port: Port, row: &PortRow, vid: Option<Vid>, head: &Head) -> Sighting
+pub fn sight(tables: &Tables, port: Port, row: &PortRow, vid: &Option<Vid>, head: &Head) -> Sighting
     requires row { row.now ≡ port_at tables.now port }
-    requires range { IfSome vid IsVid }
-    ensures report { (d : Domains) (dom : ℕ) (t : Table) → Stands d dom tables.now t → vid ≡ vlan_of t port head.now
+    requires range { IfSome vid.now IsVid }
+    ensures report { (d : Domains) (dom : ℕ) (t : Table) → Stands d dom tables.now t → vid.now ≡ vlan_of t port head.now
         → result.report ≡ report t port head.now }
-    ensures hit { (d : Domains) (dom : ℕ) (t : Table) → Stands d dom tables.now t → vid ≡ vlan_of t port head.now
+    ensures hit { (d : Domains) (dom : ℕ) (t : Table) → Stands d dom tables.now t → vid.now ≡ vlan_of t port head.now
         → result.hit ≡ hit_of t port head.now }
 {
     if !head.has_valid_source() {
         return unseen();
     }
-    match vid {
+    match *vid {
         Some(vid) => sight_in(tables, port, row, vid, head),
         None => unseen(),
     }
