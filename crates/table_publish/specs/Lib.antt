@@ -1,4 +1,3 @@
 pub mod Board
-pub mod Look
 pub mod Shelved
 pub use Rattle.table_history.specs.Object

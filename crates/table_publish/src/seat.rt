@@ -1,11 +1,8 @@
 //! A seat, which looks up without waiting.
 ghost use Rattle.std.specs.Prelude.{◌≡◌, length, IfSome, IfNone, None};
-ghost use Rattle.left_right.specs.Sides.{view as place_view};
 ghost use Rattle.br_model.specs.Table.Table.{table};
 ghost use Rattle.forward_rules.specs.Decided.{Decides};
 ghost use Rattle.table_publish.specs.Board.{Rises};
-ghost use Rattle.table_publish.specs.Look.{IsLook};
-ghost use Rattle.table_history.specs.Rule.{IsOf};
 ghost use Rattle.table_history.specs.Object.{Begins, IsPublished};
 
 use br_model::domains::Domains;
@@ -46,57 +43,7 @@ impl Model for Seat {
     ghost invariant = { IsSeated };
 }
 
-/// What was read.
-#[derive(Drop)]
-struct Look {
-    verdict: Verdict,
-    len: u64,
-    batches: u64,
-    seen: Shown,
-}
-
-/// Reads what is published.
-fn read(
-    reader: TableReader,
-    domains: &Domains,
-    p: Port,
-    h: &Head,
-    m: &McastMsg,
-) -> (TableReader, Option<Look>)
-    ensures same { place_view result.0.place ≡ place_view reader.place }
-    ensures look { IfSome result.1 (IsLook domains.now p h.now m.now) }
-    ensures book { IfSome result.1 (λ k. IsOf (place_view reader.place) k.seen.book) }
-{
-    match reader.enter_as::<See>() {
-        Ok(reading) => {
-            let published = reading.get();
-            let look = Look {
-                verdict: published.tables.decide(p, h, m, domains),
-                len: published.len,
-                batches: published.batches,
-                seen: published.seen.again(),
-            };
-            (reading.leave(), Some(look))
-        }
-        Err(reader) => (reader, None),
-    }
-}
-
 impl Seat {
-    /// Reads what is published, which may be older than what the seat knows.
-    fn ask(&mut self, p: Port, h: &Head, m: &McastMsg) -> Option<Look>
-        ensures same { self.new ≡ self.old }
-        ensures look { IfSome result (IsLook self.old.board.domains p h.now m.now) }
-        ensures book { IfSome result (λ k. k.seen.book ≡ self.old.board.book) }
-    {
-        let Some(reader) = self.reader.take() else {
-            unreachable!();
-        };
-        let (reader, look) = read(reader, &self.domains, p, h, m);
-        self.reader = Some(reader);
-        look
-    }
-
     /// No reading was got.
     fn miss(&mut self) -> Option<Seen>
         ensures board { self.new.board ≡ self.old.board }
@@ -120,21 +67,32 @@ impl Seat {
         ensures read { IfSome result (λ s. self.new.misses ≡ self.old.misses) }
         ensures missed { IfNone result ((self.new.object ≡ self.old.object) × Rises self.old.misses self.new.misses) }
     {
-        let Some(look) = self.ask(p, h, m) else {
-            return self.miss();
+        let Some(reader) = self.reader.take() else {
+            unreachable!();
         };
-        if look.batches < self.batches {
+        let reading = match reader.enter_as::<See>() {
+            Ok(reading) => reading,
+            Err(reader) => {
+                self.reader = Some(reader);
+                return self.miss();
+            }
+        };
+        let published = reading.get();
+        if published.batches < self.batches {
+            self.reader = Some(reading.leave());
             return self.miss();
         }
         // Both are beginnings of one history, and the new one is no shorter.
         let mut both = self.seen.again();
-        both.learn(&look.seen);
-        self.batches = look.batches;
-        self.seen = look.seen.again();
-        Some(Seen {
-            verdict: look.verdict,
-            point: look.len as u32,
-        })
+        both.learn(&published.seen);
+        self.seen = published.seen.again();
+        self.batches = published.batches;
+        let seen = Seen {
+            verdict: published.tables.decide(p, h, m, &self.domains),
+            point: published.len as u32,
+        };
+        self.reader = Some(reading.leave());
+        Some(seen)
     }
 
     /// How often a lookup got no reading. It never falls.
