@@ -1,17 +1,21 @@
 -- A row of targets, from set to set.
-use Rattle.std.proofs.Common.{◌≡◌, ◌≢◌, ⊎_elim, ℕ, ◌<◌, Bool, true, false, not, ◌&&◌, ◌||◌, IsTrue, ◌↔◌, List, [], refl, sym, ap, ap₂, subst, ◌∙◌}
+use Rattle.std.proofs.Common.{◌≡◌, ◌≢◌, ⊎_elim, ℕ, ◌<◌, Bool, true, false, not, ◌&&◌, ◌||◌, cond, IsTrue, ◌↔◌, List, [], refl, sym, ap, ap₂, subst, ◌∙◌}
 use Rattle.std.specs.Prelude.{◌==◌}
 use Rattle.std.proofs.lemmas.Bool.Decides.{eqb_tells}
-use Rattle.lemmas.proofs.Tests.{and_comm}
+use Rattle.lemmas.proofs.Tests.{and_comm, and-true, and-false, and_last}
 use Rattle.br_model.specs.Table.Domains.{host, port_places}
 use Rattle.port_sets.specs.Numbers.{has_number}
+use Rattle.chip_tables.specs.declared.rows.FanRow.{FanRow}
 use Rattle.chip_tables.specs.declared.rows.Flood.TheVariants.{Unicast, Mcast, Bcast}
 use Rattle.chip_tables.specs.Stands.{ports_where, some_port, fan}
 use Rattle.chip_driver.specs.declared.fans.Fan.{Fan}
 use Rattle.chip_driver.specs.declared.fans.Fan.TheVariants.{Floods, Routers}
+use Rattle.chip_driver.specs.declared.fans.Sets.{Sets}
 use Rattle.chip_driver.specs.declared.shadow.Shadow.{Shadow}
 use Rattle.chip_driver.specs.declared.shares.Share.{Share}
-use Rattle.chip_driver.specs.Shadows.{Has, is_target, is_open, is_free, share_of, floods_to, routes_to, opens, frees, fan_to, fan_made}
+use Rattle.chip_tables.specs.Writing.{switched_fan}
+use Rattle.chip_driver.specs.Shadows.{Has, switched, is_target, is_wanted, is_open, is_free, share_of, opens, frees, fan_to, fan_made}
+use Rattle.chip_driver.specs.Renewing.{AreSets, row_of}
 use Rattle.chip_driver.specs.Shares.{shares_of, share_in}
 use Rattle.chip_tables.proofs.SomePort.{same_some, some-none}
 use Rattle.chip_driver.proofs.Sets.{has-where, same_ports}
@@ -40,27 +44,6 @@ not_host true true = refl
 not_host true false = refl
 not_host false true = refl
 not_host false false = refl
-
--- the targets of each flood
-pub unicast_targets : (s : Shadow) (members targets : List ℕ) → targets ≡ ports_where (λ m. has_number members m && has_number s.flood m) → Has targets (floods_to s members Unicast)
-unicast_targets s members targets is = has-where targets _ is
-
-with_host : (members flags both targets : List ℕ) → both ≡ ports_where (λ m. has_number members m && has_number flags m) → targets ≡ ports_where (λ m. (m == 0) || has_number both m)
-    → Has targets (λ q. (q == 0) || (has_number members q && has_number flags q))
-with_host members flags both targets two is q low = has-where targets _ is q low ∙ ap (λ b. (q == 0) || b) (has-where both _ two q low)
-
-pub mcast_targets : (s : Shadow) (members both targets : List ℕ) → both ≡ ports_where (λ m. has_number members m && has_number s.mcast_flood m)
-    → targets ≡ ports_where (λ m. (m == 0) || has_number both m)
-    → Has targets (floods_to s members Mcast)
-mcast_targets s members both targets = with_host members s.mcast_flood both targets
-
-pub bcast_targets : (s : Shadow) (members both targets : List ℕ) → both ≡ ports_where (λ m. has_number members m && has_number s.bcast_flood m)
-    → targets ≡ ports_where (λ m. (m == 0) || has_number both m)
-    → Has targets (floods_to s members Bcast)
-bcast_targets s members both targets = with_host members s.bcast_flood both targets
-
-pub router_targets : (s : Shadow) (members targets : List ℕ) → targets ≡ ports_where (λ m. has_number s.routers m && has_number members m) → Has targets (routes_to s members)
-router_targets s members targets is = has-where targets _ is
 
 -- the row that is put together of sets
 pub made_row : (s : Shadow) (members targets hosted eligible unhosted free elsewhere ports both_free both_plain : List ℕ) (no_free no_plain : Bool)
@@ -94,10 +77,107 @@ made_row s members targets hosted eligible unhosted free elsewhere ports both_fr
     ∙ same_some _ _ (λ q low. ap₂ (λ a b. a && b) (elsewhere_has q low) (eligible_has q low) ∙ elsewhere_bit (has_number targets q) (has_number s.own q) (opens s members q)) in
     cc
 
--- rows whose targets agree at each port are one row
-pub same_targets : (s : Shadow) (members targets : List ℕ) (test : ℕ → Bool) → Has targets test → fan_to s members (has_number targets) ≡ fan_to s members test
+-- ---- a row that is put together of the members of sets
+
+abbrev row_by : List ℕ → Bool → Bool → FanRow
+row_by ports isolated plain = record { ports = ports; isolated = isolated; plain = plain }
+
+pub put_together : (sets : Sets) (members ports isolated plain : List ℕ) (no_isolated no_plain : Bool)
+    → ports ≡ ports_where (λ m. has_number members m && has_number sets.ports m)
+    → isolated ≡ ports_where (λ m. has_number members m && has_number sets.isolated m)
+    → IsTrue no_isolated ↔ (isolated ≡ [])
+    → plain ≡ ports_where (λ m. has_number members m && has_number sets.plain m)
+    → IsTrue no_plain ↔ (plain ≡ [])
+    → record { ports = ports; isolated = not no_isolated; plain = not no_plain } ≡ row_of sets members
+put_together sets members ports isolated plain no_isolated no_plain ports_is isolated_is isolated_tells plain_is plain_tells =
+    ap (λ set. row_by set (not no_isolated) (not no_plain)) ports_is
+    ∙ ap₂ (λ i l. row_by (ports_where (λ m. has_number members m && has_number sets.ports m)) i l)
+    (some-none isolated (λ m. has_number members m && has_number sets.isolated m) no_isolated isolated_is isolated_tells)
+    (some-none plain (λ m. has_number members m && has_number sets.plain m) no_plain plain_is plain_tells)
+
+pub are_sets : (s : Shadow) (k : Fan) (targets others hosted plain ports unhosted isolated : List ℕ) → Has targets (is_wanted s k)
+    → others ≡ ports_where (λ m. has_number targets m && not (has_number s.own m))
+    → hosted ≡ ports_where (λ m. (m == 0) || has_number s.forwarding m)
+    → plain ≡ ports_where (λ m. has_number others m && has_number hosted m)
+    → ports ≡ ports_where (λ m. has_number targets m && has_number s.own m)
+    → unhosted ≡ ports_where (λ m. has_number s.isolated m && not (m == 0))
+    → isolated ≡ ports_where (λ m. has_number plain m && not (has_number unhosted m))
+    → AreSets s k (record { ports = ports; isolated = isolated; plain = plain })
+are_sets s k targets others hosted plain ports unhosted isolated to others_is hosted_is plain_is ports_is unhosted_is isolated_is = record {
+  ports = λ q low. has-where ports _ ports_is q low ∙ ap (λ b. b && has_number s.own q) (to q low);
+  plain = plains;
+  isolated = λ q low.
+      has-where isolated _ isolated_is q low
+      ∙ ap₂ (λ a b. a && b) (plains q low) (ap not (has-where unhosted _ unhosted_is q low) ∙ not_host (q == 0) (has_number s.isolated q));
+}
+  where
+    plains : Has plain (λ q. (is_wanted s k q && not (has_number s.own q)) && ((q == host) || has_number s.forwarding q))
+    plains q low =
+        has-where plain _ plain_is q low
+        ∙ ap₂ (λ a b. a && b) (has-where others _ others_is q low ∙ ap (λ b. b && not (has_number s.own q)) (to q low)) (has-where hosted _ hosted_is q low)
+
+-- a member is a target where the row wants it
+pub target_wanted : (s : Shadow) (k : Fan) (q : ℕ) → is_target s true k q ≡ is_wanted s k q
+target_wanted s (Floods Unicast) q = refl
+target_wanted s (Floods Mcast) q = refl
+target_wanted s (Floods Bcast) q = refl
+target_wanted s Routers q = and-true (has_number s.routers q)
+
+-- and of others none but the host, which isn't on the chip
+no_host : (s : Shadow) (q : ℕ) → has_number s.own host ≡ false → (has_number s.own q && ((q == host) || false)) ≡ false
+no_host s q off =
+    ⊎_elim
+    (λ (at : ((q == host) ≡ true) × (q ≡ host)). ap (λ o. o && ((q == host) || false)) (ap (λ n. has_number s.own n) at.1 ∙ off))
+    (λ (apart : ((q == host) ≡ false) × (q ≢ host)). ap (λ h. has_number s.own q && (h || false)) apart.0 ∙ and-false (has_number s.own q))
+    (eqb_tells q host)
+
+no_target : (s : Shadow) (k : Fan) (q : ℕ) → has_number s.own host ≡ false → (has_number s.own q && is_target s false k q) ≡ false
+no_target s (Floods Unicast) q off = and-false (has_number s.own q)
+no_target s (Floods Mcast) q off = no_host s q off
+no_target s (Floods Bcast) q off = no_host s q off
+no_target s Routers q off = and_last (has_number s.own q) (has_number s.routers q) false refl
+
+isolated_bit : (t o e f : Bool) → (((t && not o) && e) && f) ≡ (not o && (t && (e && f)))
+isolated_bit true true e f = refl
+isolated_bit true false e f = refl
+isolated_bit false true e f = refl
+isolated_bit false false e f = refl
+
+pub sets_row : (s : Shadow) (k : Fan) (sets : Sets) (members : List ℕ) → has_number s.own host ≡ false → AreSets s k sets → row_of sets members ≡ fan_made s members k
 unfolding fan_to
-same_targets s members targets test to = same_fans _ _ _ _ _ _ _ _ (λ q low. refl) to (λ q low. refl) (λ q low. refl)
+sets_row s k sets members off are =
+    ap (λ set. row_by set (some_port (λ q. has_number members q && has_number sets.isolated q)) (some_port (λ q. has_number members q && has_number sets.plain q))) ports
+    ∙ ap₂ (λ i l. row_by (ports_where (λ q. has_number s.own q && is_target s (has_number members q) k q)) i l) isolated plain
+  where
+    port : (q : ℕ) (m set : Bool) → set ≡ (is_wanted s k q && has_number s.own q) → (m && set) ≡ (has_number s.own q && is_target s m k q)
+    port q true set is = is ∙ and_comm (is_wanted s k q) (has_number s.own q) ∙ ap (λ t. has_number s.own q && t) (sym (target_wanted s k q))
+    port q false set is = sym (no_target s k q off)
+
+    ports : ports_where (λ q. has_number members q && has_number sets.ports q) ≡ ports_where (λ q. has_number s.own q && is_target s (has_number members q) k q)
+    ports = same_ports _ _ (λ q low. port q (has_number members q) (has_number sets.ports q) (are.ports q low))
+
+    free : (q : ℕ) (m set : Bool)
+        → set ≡ (((is_wanted s k q && not (has_number s.own q)) && ((q == host) || has_number s.forwarding q)) && ((q == host) || not (has_number s.isolated q)))
+        → (m && set) ≡ (not (has_number s.own q) && (is_target s m k q && is_free s m q))
+    free q true set is =
+        is ∙ isolated_bit (is_wanted s k q) (has_number s.own q) ((q == host) || has_number s.forwarding q) ((q == host) || not (has_number s.isolated q))
+        ∙ ap (λ t. not (has_number s.own q) && (t && (((q == host) || has_number s.forwarding q) && ((q == host) || not (has_number s.isolated q))))) (sym (target_wanted s k q))
+    free q false set is = sym (and_last (not (has_number s.own q)) (is_target s false k q) false refl)
+
+    isolated : some_port (λ q. has_number members q && has_number sets.isolated q)
+        ≡ some_port (λ q. not (has_number s.own q) && (is_target s (has_number members q) k q && frees s members q))
+    isolated = same_some _ _ (λ q low. free q (has_number members q) (has_number sets.isolated q) (are.isolated q low))
+
+    opened : (q : ℕ) (m set : Bool) → set ≡ ((is_wanted s k q && not (has_number s.own q)) && ((q == host) || has_number s.forwarding q))
+        → (m && set) ≡ (not (has_number s.own q) && (is_target s m k q && is_open s m q))
+    opened q true set is =
+        is ∙ elsewhere_bit (is_wanted s k q) (has_number s.own q) ((q == host) || has_number s.forwarding q)
+        ∙ ap (λ t. not (has_number s.own q) && (t && ((q == host) || has_number s.forwarding q))) (sym (target_wanted s k q))
+    opened q false set is = sym (and_last (not (has_number s.own q)) (is_target s false k q) false refl)
+
+    plain : some_port (λ q. has_number members q && has_number sets.plain q)
+        ≡ some_port (λ q. not (has_number s.own q) && (is_target s (has_number members q) k q && opens s members q))
+    plain = same_some _ _ (λ q low. opened q (has_number members q) (has_number sets.plain q) (are.plain q low))
 
 -- ---- a change of one port: each row stays in which the port has what it had
 
@@ -202,3 +282,62 @@ share-in s p m (Floods Unicast) = refl
 share-in s p m (Floods Mcast) = refl
 share-in s p m (Floods Bcast) = refl
 share-in s p m Routers = refl
+
+-- ---- a change of a port of the chip: it is among the ports of a row or not, and nothing else of the row differs
+
+not_elsewhere : (own own' rest rest' : Bool) → own ≡ true → own' ≡ true → (not own && rest) ≡ (not own' && rest')
+not_elsewhere own own' rest rest' is is' = ap (λ o. not o && rest) is ∙ sym (ap (λ o. not o && rest') is')
+
+pub switched_made : (s s' : Shadow) (p : ℕ) (members : List ℕ) (k : Fan) (on : Bool) → has_number s.own p ≡ true → has_number s'.own p ≡ true
+    → ((q : ℕ) → q < port_places → q ≢ p → SameAt s s' q) → on ≡ is_target s' (has_number members p) k p
+    → switched_fan (fan_made s members k) p on ≡ fan_made s' members k
+unfolding fan_to
+switched_made s s' p members k on own own' same is =
+    ap (λ set. row_by set (some_port (λ q. not (has_number s.own q) && (to q && frees s members q))) (some_port (λ q. not (has_number s.own q) && (to q && opens s members q)))) ports
+    ∙ ap₂ (λ i l. row_by (ports_where (λ q. has_number s'.own q && to' q)) i l) isolated plain
+  where
+    to : ℕ → Bool
+    to q = is_target s (has_number members q) k q
+
+    to' : ℕ → Bool
+    to' q = is_target s' (has_number members q) k q
+
+    at_own : (q : ℕ) → q ≡ p → has_number s.own q ≡ true
+    at_own q at = ap (λ n. has_number s.own n) at ∙ own
+
+    at_own' : (q : ℕ) → q ≡ p → has_number s'.own q ≡ true
+    at_own' q at = ap (λ n. has_number s'.own n) at ∙ own'
+
+    other : (q : ℕ) → q < port_places → q ≢ p → share_of s q (has_number members q) (to q) ≡ share_of s' q (has_number members q) (to' q)
+    other q low off =
+        same_share s s' q (has_number members q) (has_number members q) (to q) (to' q) (same q low off) refl
+        (same_target s s' q (has_number members q) (has_number members q) k (same q low off) refl)
+
+    ports : switched (ports_where (λ q. has_number s.own q && to q)) p on ≡ ports_where (λ q. has_number s'.own q && to' q)
+    ports =
+        same_ports _ _
+        (λ q low.
+        ap (λ b. cond (q == p) on b) (has-where (ports_where (λ n. has_number s.own n && to n)) (λ n. has_number s.own n && to n) refl q low)
+        ∙ ⊎_elim
+        (λ (at : ((q == p) ≡ true) × (q ≡ p)).
+        ap (λ b. cond b on (has_number s.own q && to q)) at.0 ∙ is ∙ ap (λ o. o && to' p) (sym own') ∙ ap (λ n. has_number s'.own n && to' n) (sym at.1))
+        (λ (off : ((q == p) ≡ false) × (q ≢ p)). ap (λ b. cond b on (has_number s.own q && to q)) off.0 ∙ ap (λ (x : Share). x.ports) (other q low off.1))
+        (eqb_tells q p))
+
+    isolated : some_port (λ q. not (has_number s.own q) && (to q && frees s members q)) ≡ some_port (λ q. not (has_number s'.own q) && (to' q && frees s' members q))
+    isolated =
+        same_some _ _
+        (λ q low.
+        ⊎_elim
+        (λ (at : ((q == p) ≡ true) × (q ≡ p)). not_elsewhere (has_number s.own q) (has_number s'.own q) (to q && frees s members q) (to' q && frees s' members q) (at_own q at.1) (at_own' q at.1))
+        (λ (off : ((q == p) ≡ false) × (q ≢ p)). ap (λ (x : Share). x.isolated) (other q low off.1))
+        (eqb_tells q p))
+
+    plain : some_port (λ q. not (has_number s.own q) && (to q && opens s members q)) ≡ some_port (λ q. not (has_number s'.own q) && (to' q && opens s' members q))
+    plain =
+        same_some _ _
+        (λ q low.
+        ⊎_elim
+        (λ (at : ((q == p) ≡ true) × (q ≡ p)). not_elsewhere (has_number s.own q) (has_number s'.own q) (to q && opens s members q) (to' q && opens s' members q) (at_own q at.1) (at_own' q at.1))
+        (λ (off : ((q == p) ≡ false) × (q ≢ p)). ap (λ (x : Share). x.plain) (other q low off.1))
+        (eqb_tells q p))

@@ -18,14 +18,16 @@ use Rattle.chip_driver.specs.declared.shares.Shares.{Shares}
 use Rattle.chip_driver.specs.declared.shares.Touched.{Touched}
 use Rattle.vlan_groups.specs.Joined.{has_vlan, Switches}
 use Rattle.chip_tables.specs.Flags.{row_has_flag}
-use Rattle.chip_driver.specs.Shadows.{Has, switched, row_forwards, row_floods, is_target, share_of, fan_to, fan_made}
+use Rattle.chip_tables.specs.Writing.{switched_fan}
+use Rattle.chip_driver.specs.Shadows.{Has, switched, row_forwards, row_floods, is_target, is_wanted, share_of, fan_to, fan_made}
 use Rattle.chip_driver.specs.Shares.{shares_of, touched_of, Touches}
 use Rattle.br_model.specs.Table.GroupPairs.{GroupPair}
 use Rattle.br_model.specs.Table.Groups.{Membership}
 use Rattle.chip_driver.specs.GroupRows.{is_member, group_fan}
+use Rattle.chip_driver.specs.Renewing.{follows, Renews}
 use Rattle.chip_driver.specs.Settled.{fan_at, Follows, Notes, Settled, Refreshes}
 use Rattle.chip_driver.proofs.Sets.{has-where, switched_other}
-use Rattle.chip_driver.proofs.FanRows.{SameAt, SameBut, kept_fan, kept_group, absent, absent_share, untargeted, share-in}
+use Rattle.chip_driver.proofs.FanRows.{SameAt, SameBut, kept_fan, kept_group, absent, absent_share, untargeted, share-in, switched_made, target_wanted}
 
 -- ---- what depends on the rows of ports alone
 
@@ -99,6 +101,36 @@ settled_anew s s' j p touched old mid new p_low settled mid_rest own same tells 
     there vid fan joined is =
         subst (λ m. share_of s p m (is_target s m fan p) ≡ share_of s' p m (is_target s' m fan p)) (is_there vid false joined is)
         (absent s s' p fan (ap (λ (ns : List ℕ). has_number ns p) (sym own)))
+
+-- Rows that follow the change are those that are made anew.
+pub refreshed : (s s' : Shadow) (j : List (List ℕ)) (p : ℕ) (touched : Touched) (old mid new : Rows) → p < port_places → Settled s j old → mid ≡ record old { ports = mid.ports }
+    → s'.own ≡ s.own → ((q : ℕ) → q < port_places → q ≢ p → SameAt s s' q) → Renews (λ w k. has_vlan j p w && touched_of touched k) (follows s' p) mid new
+    → Refreshes (λ w k. has_vlan j p w && touched_of touched k) s' mid new
+refreshed s s' j p touched old mid new p_low settled mid_rest own same renews = record {
+  fans = λ vid in_range k. renews.fans vid in_range k ∙ by vid in_range k (has_vlan j p vid) refl (touched_of touched k) (has_number s'.own p) refl;
+  rest = renews.rest;
+}
+  where
+    vlan : (vid : ℕ) → vlan_at mid vid ≡ vlan_at old vid
+    vlan vid = ap (λ (r : Rows). vlan_at r vid) mid_rest
+
+    before : (vid : ℕ) → IsVid vid → (k : Fan) → fan_at mid vid k ≡ fan_made s (vlan_at mid vid).members k
+    before vid in_range k = ap (λ (r : Rows). fan_at r vid k) mid_rest ∙ settled.fans vid in_range k ∙ ap (λ (r : VlanRow). fan_made s r.members k) (sym (vlan vid))
+
+    bit : (vid : ℕ) → IsVid vid → (k : Fan) → has_vlan j p vid ≡ true → is_wanted s' k p ≡ is_target s' (has_number (vlan_at mid vid).members p) k p
+    bit vid in_range k is =
+        sym (target_wanted s' k p)
+        ∙ ap (λ m. is_target s' m k p) (sym is ∙ settled.joined p vid p_low in_range ∙ ap (λ (r : VlanRow). has_number r.members p) (sym (vlan vid)))
+
+    by : (vid : ℕ) → IsVid vid → (k : Fan) (h : Bool) → has_vlan j p vid ≡ h → (t o : Bool) → has_number s'.own p ≡ o
+        → cond (h && t) (cond o (switched_fan (fan_at mid vid k) p (is_wanted s' k p)) (fan_made s' (vlan_at mid vid).members k)) (fan_at mid vid k)
+        ≡ cond (h && t) (fan_made s' (vlan_at mid vid).members k) (fan_at mid vid k)
+    by vid in_range k true is true true here =
+        ap (λ (row : FanRow). switched_fan row p (is_wanted s' k p)) (before vid in_range k)
+        ∙ switched_made s s' p (vlan_at mid vid).members k (is_wanted s' k p) (ap (λ (ns : List ℕ). has_number ns p) (sym own) ∙ here) here same (bit vid in_range k is)
+    by vid in_range k true is true false here = refl
+    by vid in_range k true is false o here = refl
+    by vid in_range k false is t o here = refl
 
 -- ---- a port's row is written
 

@@ -2,6 +2,7 @@ pub mod Sets
 pub mod Steps
 pub mod FanRows
 pub mod Refreshing
+pub mod Renewing
 pub mod Keeping
 pub mod TableLaws
 pub mod Starting

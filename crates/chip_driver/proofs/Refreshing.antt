@@ -58,7 +58,7 @@ flood_is Bcast Unicast e = absurd (cc)
 flood_is Bcast Mcast e = absurd (cc)
 flood_is Bcast Bcast e = refl
 
-fan_is : (k fan : Fan) → same_fan k fan ≡ true → k ≡ fan
+pub fan_is : (k fan : Fan) → same_fan k fan ≡ true → k ≡ fan
 fan_is (Floods f) (Floods g) e = ap (λ n. Floods n) (flood_is f g e)
 fan_is (Floods f) Routers e = absurd (cc)
 fan_is Routers (Floods g) e = absurd (cc)

@@ -1,5 +1,6 @@
 pub mod Shadows
 pub mod Settled
+pub mod Renewing
 pub mod Making
 pub mod GroupRows
 pub mod Drives

@@ -50,6 +50,16 @@ abbrev pub is_target : Shadow → Bool → Fan → ℕ → Bool
 is_target s member (Floods f) q = is_flooded s member f q
 is_target s member Routers q = is_routed s member q
 
+-- whether a row has it as a target as a member
+abbrev pub is_flood_wanted : Shadow → Flood → ℕ → Bool
+is_flood_wanted s Unicast q = has_number s.flood q
+is_flood_wanted s Mcast q = (q == host) || has_number s.mcast_flood q
+is_flood_wanted s Bcast q = (q == host) || has_number s.bcast_flood q
+
+abbrev pub is_wanted : Shadow → Fan → ℕ → Bool
+is_wanted s (Floods f) q = is_flood_wanted s f q
+is_wanted s Routers q = has_number s.routers q
+
 -- whether it may take what came by a plain and by an isolated port of another domain
 abbrev pub is_open : Shadow → Bool → ℕ → Bool
 is_open s member q = member && ((q == host) || has_number s.forwarding q)

@@ -49,10 +49,11 @@ impl Driver {
         ensures domain { IfOk result (λ x. x.dom ≡ dom) }
         ensures start { IfOk result (λ x. Drives d.now x start) }
     {
-        let mut tables = Tables::make(alloc)?;
         let joined = Joined::make(alloc)?;
         let groups = Groups::make(alloc)?;
         let shadow = Shadow::start(d.ports_of(dom));
+        // Last, since they are the longest to give up.
+        let mut tables = Tables::make(alloc)?;
         // law: the host isn't on the chip
         making::host_is_elsewhere(d, dom);
         making::mark_own(&mut tables, &shadow.own);

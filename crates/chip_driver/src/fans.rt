@@ -1,10 +1,15 @@
 //! The rows of floods and of routers.
-ghost use Rattle.std.specs.Prelude.{◌≡◌, ◌==◌, ◌<◌, ◌/◌, ◌%◌, ◌&&◌};
+ghost use Rattle.std.specs.Prelude.{◌≡◌, ◌==◌, ◌<◌, ◌/◌, ◌%◌, ◌&&◌, ℕ, List, false};
+ghost use Rattle.br_model.specs.Table.Domains.{host};
 ghost use Rattle.port_sets.specs.Numbers.{has_number};
 ghost use Rattle.vlan_groups.specs.Joined.{has_vlan};
-ghost use Rattle.chip_driver.specs.Shadows.{floods_to, routes_to, fan_to, fan_made};
+ghost use Rattle.chip_tables.specs.declared.rows.FanRow.{FanRow as Row};
+ghost use Rattle.chip_tables.specs.Rows.{vlan_at};
+ghost use Rattle.chip_tables.specs.Writing.{switched_fan};
+ghost use Rattle.chip_driver.specs.Shadows.{Has, fan_to, is_flood_wanted, is_wanted};
 ghost use Rattle.chip_driver.specs.Shares.{touched_of};
-ghost use Rattle.chip_driver.specs.Settled.{same_fan, WritesFan, Refreshes};
+ghost use Rattle.chip_driver.specs.Settled.{fan_at, same_fan, WritesFan, Refreshes};
+ghost use Rattle.chip_driver.specs.Renewing.{AreSets, row_of, edited, follows, Renews};
 
 use crate::shadow::Shadow;
 use crate::shares::Touched;
@@ -18,6 +23,23 @@ use vlan_groups::joined::{Joined, VlanBlock};
 pub enum Fan {
     Floods(Flood),
     Routers,
+}
+
+/// Of the members of a VLAN those that a row has, and those for which each of its two bits is set.
+#[derive(Clone, Copy)]
+pub struct Sets {
+    pub ports: Ports,
+    pub isolated: Ports,
+    pub plain: Ports,
+}
+
+/// How a row of a VLAN follows a change of a member.
+#[derive(Clone, Copy)]
+pub enum Edit {
+    /// The port is put into it or taken out.
+    Switch(Port, bool),
+    /// It is made anew.
+    Make(Sets),
 }
 
 /// The row with these targets in a VLAN with these members.
@@ -34,32 +56,51 @@ pub fn fan_to(shadow: &Shadow, members: Ports, targets: Ports) -> FanRow
     }
 }
 
-/// The flood row of a VLAN with these members.
-fn flood_row(shadow: &Shadow, members: Ports, f: Flood) -> FanRow
-    ensures { result ≡ fan_to shadow.now members (floods_to shadow.now members f) }
+/// The ports that are targets of a flood as members of a VLAN.
+fn flooded(shadow: &Shadow, f: Flood) -> Ports
+    ensures { Has result (is_flood_wanted shadow.now f) }
 {
-    let targets = match f {
-        Flood::Unicast => members.and(shadow.flood),
-        Flood::Mcast => members.and(shadow.mcast_flood).with(0),
-        Flood::Bcast => members.and(shadow.bcast_flood).with(0),
-    };
-    fan_to(shadow, members, targets)
+    match f {
+        Flood::Unicast => shadow.flood,
+        Flood::Mcast => shadow.mcast_flood.with(0),
+        Flood::Bcast => shadow.bcast_flood.with(0),
+    }
 }
 
-/// The router row of a VLAN with these members.
-fn router_row(shadow: &Shadow, members: Ports) -> FanRow
-    ensures { result ≡ fan_to shadow.now members (routes_to shadow.now members) }
-{
-    fan_to(shadow, members, shadow.routers.and(members))
-}
-
-/// The row of a VLAN with these members.
-fn fan_row(shadow: &Shadow, members: Ports, fan: Fan) -> FanRow
-    ensures { result ≡ fan_made shadow.now members fan }
+/// The ports that are targets of a row as members of a VLAN.
+fn wanted(shadow: &Shadow, fan: Fan) -> Ports
+    ensures { Has result (is_wanted shadow.now fan) }
 {
     match fan {
-        Fan::Floods(f) => flood_row(shadow, members, f),
-        Fan::Routers => router_row(shadow, members),
+        Fan::Floods(f) => flooded(shadow, f),
+        Fan::Routers => shadow.routers,
+    }
+}
+
+impl Sets {
+    /// Those of a row.
+    fn of(shadow: &Shadow, fan: Fan) -> Sets
+        ensures { AreSets shadow.now fan result }
+    {
+        let targets = wanted(shadow, fan);
+        let others = targets.minus(shadow.own);
+        let plain = others.and(shadow.forwarding.with(0));
+        Sets {
+            ports: targets.and(shadow.own),
+            isolated: plain.minus(shadow.isolated.without(0)),
+            plain,
+        }
+    }
+
+    /// The row of a VLAN with these members.
+    fn row(&self, members: Ports) -> FanRow
+        ensures { result ≡ row_of self.now members }
+    {
+        FanRow {
+            ports: members.and(self.ports),
+            isolated: !members.and(self.isolated).is_empty(),
+            plain: !members.and(self.plain).is_empty(),
+        }
     }
 }
 
@@ -73,18 +114,30 @@ fn set_fan(tables: &mut Tables, v: Vid, fan: Fan, row: FanRow)
     }
 }
 
+/// Puts a port into a row of a VLAN or takes it out.
+fn switch_fan(tables: &mut Tables, v: Vid, fan: Fan, port: Port, on: bool)
+    ensures { WritesFan tables.old tables.new v fan (switched_fan (fan_at tables.old v fan) port on) }
+{
+    match fan {
+        Fan::Floods(f) => tables.switch_flood(v, f, port, on),
+        Fan::Routers => tables.switch_router(v, port, on),
+    }
+}
+
 /// Makes a row of a VLAN anew where it is touched.
 fn refresh_row(tables: &mut Tables, shadow: &Shadow, v: Vid, fan: Fan, touched: bool)
+    requires { has_number shadow.now.own host ≡ false }
     ensures { Refreshes (λ w k. (w == v) && (same_fan k fan && touched)) shadow.now tables.old tables.new }
 {
     if touched {
-        let row = fan_row(shadow, tables.vlan(v).members, fan);
+        let row = Sets::of(shadow, fan).row(tables.members(v));
         set_fan(tables, v, fan, row);
     }
 }
 
 /// Makes the rows of a VLAN anew that are touched.
 pub fn refresh_vlan(tables: &mut Tables, shadow: &Shadow, touched: &Touched, vid: Vid)
+    requires { has_number shadow.now.own host ≡ false }
     ensures { Refreshes (λ w k. (w == vid) && touched_of touched.now k) shadow.now tables.old tables.new }
 {
     refresh_row(
@@ -111,42 +164,109 @@ pub fn refresh_vlan(tables: &mut Tables, shadow: &Shadow, touched: &Touched, vid
     refresh_row(tables, shadow, vid, Fan::Routers, touched.routers);
 }
 
-/// Makes those rows anew of the VLAN 64 i + n, if there is one.
-fn refresh_number(tables: &mut Tables, shadow: &Shadow, touched: &Touched, i: u8, n: u8)
+/// How a row follows a change of a port in the VLANs of which it is a member. Nothing but its own bit depends on a port of the
+/// chip; the bits that tell of ports elsewhere depend on all of these.
+fn edit_of(shadow: &Shadow, fan: Fan, port: Port) -> Edit
+    requires { has_number shadow.now.own host ≡ false }
+    ensures { (row : Row) (members : List ℕ) → edited result row members ≡ follows shadow.now port fan row members }
+{
+    let n = port.number();
+    if shadow.own.has(n) {
+        Edit::Switch(port, wanted(shadow, fan).has(n))
+    } else {
+        Edit::Make(Sets::of(shadow, fan))
+    }
+}
+
+/// Edits a row of a VLAN.
+fn edit_fan(tables: &mut Tables, v: Vid, fan: Fan, edit: &Edit)
+    ensures { WritesFan tables.old tables.new v fan (edited edit.now (fan_at tables.old v fan) (vlan_at tables.old v).members) }
+{
+    match edit {
+        Edit::Switch(port, on) => switch_fan(tables, v, fan, *port, *on),
+        Edit::Make(sets) => {
+            let row = sets.row(tables.members(v));
+            set_fan(tables, v, fan, row);
+        }
+    }
+}
+
+/// Edits that row of the VLAN 64 i + n, if there is one.
+fn edit_number(tables: &mut Tables, i: u8, n: u8, fan: Fan, edit: &Edit)
     requires block { i < 64 }
     requires number { n < 64 }
-    ensures { Refreshes (λ w k. ((w / 64 == i) && (w % 64 == n)) && touched_of touched.now k) shadow.now tables.old tables.new }
+    ensures { Renews (λ w k. ((w / 64 == i) && (w % 64 == n)) && same_fan k fan) (λ k. edited edit.now) tables.old tables.new }
 {
     if let Some(v) = Vid::new(64 * u16::from(i) + u16::from(n)) {
-        refresh_vlan(tables, shadow, touched, v);
+        edit_fan(tables, v, fan, edit);
     }
 }
 
-/// Makes those rows of some VLANs anew: of the VLAN 64 i + n for each number n of the set.
-fn refresh_block(tables: &mut Tables, shadow: &Shadow, touched: &Touched, vids: VlanBlock, i: u8)
+/// Edits that row of some VLANs: of the VLAN 64 i + n for each number n of the set.
+fn edit_block(tables: &mut Tables, vids: VlanBlock, i: u8, fan: Fan, edit: &Edit)
     requires { i < 64 }
-    ensures { Refreshes (λ w k. ((w / 64 == i) && has_number vids (w % 64)) && touched_of touched.now k)
-        shadow.now tables.old tables.new }
+    ensures { Renews (λ w k. ((w / 64 == i) && has_number vids (w % 64)) && same_fan k fan) (λ k. edited edit.now) tables.old tables.new }
 {
     for n in vids.iter() {
-        refresh_number(tables, shadow, touched, i, n);
+        edit_number(tables, i, n, fan, edit);
     }
 }
 
-/// Makes those rows of each VLAN anew of which the port is a member.
-fn refresh_all(tables: &mut Tables, shadow: &Shadow, joined: &Joined, touched: &Touched, p: Port)
-    ensures { Refreshes (λ w k. has_vlan joined.now p w && touched_of touched.now k) shadow.now tables.old tables.new }
+/// Edits that row of each VLAN of which the port is a member.
+fn edit_all(tables: &mut Tables, joined: &Joined, port: Port, fan: Fan, edit: &Edit)
+    ensures { Renews (λ w k. has_vlan joined.now port w && same_fan k fan) (λ k. edited edit.now) tables.old tables.new }
 {
-    for i in joined.used(p).iter() {
-        refresh_block(tables, shadow, touched, joined.block(p, i), i);
+    for i in joined.used(port).iter() {
+        edit_block(tables, joined.block(port, i), i, fan, edit);
     }
 }
 
-/// Makes those rows of each VLAN anew of which the port is a member, and looks at none where it is touched of no row.
+/// Brings that row up to date, where it is touched, of each VLAN of which the port is a member.
+fn refresh_fan(
+    tables: &mut Tables,
+    shadow: &Shadow,
+    joined: &Joined,
+    fan: Fan,
+    touched: bool,
+    port: Port,
+)
+    requires { has_number shadow.now.own host ≡ false }
+    ensures { Renews (λ w k. has_vlan joined.now port w && (same_fan k fan && touched)) (follows shadow.now port) tables.old tables.new }
+{
+    if touched {
+        let edit = edit_of(shadow, fan, port);
+        edit_all(tables, joined, port, fan, &edit);
+    }
+}
+
+/// Brings those rows up to date that are touched of each VLAN of which the port is a member.
 pub fn refresh(tables: &mut Tables, shadow: &Shadow, joined: &Joined, touched: &Touched, port: Port)
-    ensures { Refreshes (λ w k. has_vlan joined.now port w && touched_of touched.now k) shadow.now tables.old tables.new }
+    requires { has_number shadow.now.own host ≡ false }
+    ensures { Renews (λ w k. has_vlan joined.now port w && touched_of touched.now k) (follows shadow.now port) tables.old tables.new }
 {
-    if touched.of_fans() {
-        refresh_all(tables, shadow, joined, touched, port);
-    }
+    refresh_fan(
+        tables,
+        shadow,
+        joined,
+        Fan::Floods(Flood::Unicast),
+        touched.unicast,
+        port,
+    );
+    refresh_fan(
+        tables,
+        shadow,
+        joined,
+        Fan::Floods(Flood::Mcast),
+        touched.mcast,
+        port,
+    );
+    refresh_fan(
+        tables,
+        shadow,
+        joined,
+        Fan::Floods(Flood::Bcast),
+        touched.bcast,
+        port,
+    );
+    refresh_fan(tables, shadow, joined, Fan::Routers, touched.routers, port);
 }

@@ -1,7 +1,6 @@
 //! What a port has in the rows of a VLAN, and which of them a change touches.
 ghost use Rattle.std.specs.Prelude.{◌≡◌, ◌&&◌, not, false};
-ghost use Rattle.chip_driver.specs.declared.fans.Fan.{Fan};
-ghost use Rattle.chip_driver.specs.Shares.{shares_of, touched_of, Touches};
+ghost use Rattle.chip_driver.specs.Shares.{shares_of, Touches};
 
 use crate::shadow::Shadow;
 use br_model::numbers::Port;
@@ -85,14 +84,5 @@ impl Shares {
             routers: differ(self.routers, new.routers),
             groups: differ(self.groups, new.groups),
         }
-    }
-}
-
-impl Touched {
-    /// Whether a row of floods or of routers is among them.
-    pub fn of_fans(&self) -> bool
-        ensures { result ≡ false → (fan : Fan) → touched_of self.now fan ≡ false }
-    {
-        self.unicast || self.mcast || self.bcast || self.routers
     }
 }

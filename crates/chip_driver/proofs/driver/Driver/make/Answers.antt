@@ -1,6 +1,7 @@
 use Rattle.std.proofs.Common.{◌≡◌, List, ℕ, [], replicate, rules, ap, subst, ◌∙◌}
-use Rattle.br_model.specs.Table.Domains.{port_places}
+use Rattle.br_model.specs.Table.Domains.{host, port_places}
 use Rattle.br_model.specs.Table.Groups.{Membership}
+use Rattle.port_sets.specs.Numbers.{has_number}
 use Rattle.chip_tables.specs.Writing.{IsBlank}
 use Rattle.chip_driver.specs.declared.shadow.Shadow.{Shadow}
 use Rattle.vlan_groups.specs.Joined.{block_count}
@@ -15,6 +16,7 @@ write_member-requires c =
     let own : c.start-shadow.result.own ≡ c.ports_of.result = ap (λ (s : Shadow). s.own) c.start-shadow.ensures in
     let groups : ◌≡◌ {A = List Membership} c.in_ok-groups.groups [] = search rules in
     record {
+      elsewhere = ap (λ (ns : List ℕ). has_number ns host) own ∙ host_off c.args.d.now c.args.dom c.ports_of.result c.ports_of.ensures c.host_is_elsewhere.ensures;
       settled = settled_start c.ports_of.result _ _ c.in_ok-tables.tables _ _ _ blank
           (subst (λ o. MarksOwn o port_places c.in_ok-tables.tables c.mark_own.new.tables) own c.mark_own.ensures) c.switch_traps.ensures c.set_control.ensures.rest
           c.start-shadow.ensures joined (host_off c.args.d.now c.args.dom c.ports_of.result c.ports_of.ensures c.host_is_elsewhere.ensures);

@@ -24,6 +24,7 @@ returns-clause-kept c =
     let was = c.has.ensures.value ∙ ap₂ (λ (r : VlanRow) n. has_number r.members n) c.vlan-row.ensures c.number-n.ensures.value in
     let tells = tells_at _ _ _ _ _ (c.of-before.ensures ∙ ap (λ m. shares_of kept.shadow p m) was) c.of.ensures c.touched-touched.ensures in
     record {
+      elsewhere = c.requires.elsewhere;
       settled = settled_groups _ _ _ _
           (settled_member kept.shadow kept.joined _ p v c.args.on _ c.touched-touched.result kept.tables _ _ c.number-n.ensures.below c.switch.ensures.below c.requires.settled members
           c.set_vlan.ensures.row c.set_vlan.ensures.rest c.switch.ensures.vlan tells c.refresh_vlan.ensures)
