@@ -196,12 +196,7 @@ impl Session {
     }
 
     /// The listing of the whole history's table, or the bad line.
-    fn list(
-        &self,
-        alloc: Global,
-        listing: Listing,
-        last: Last,
-    ) -> Result<String, NoMemory>
+    fn list(&self, alloc: Global, listing: Listing, last: Last) -> Result<String, NoMemory>
         ensures { IfOk result (λ text. string_bytes text ≡ listing_or_bad listing last self.now.reader.roster.ports self.now.world) }
     {
         match last {
@@ -211,12 +206,7 @@ impl Session {
     }
 
     /// The audit of the chips as the run has left them, or the bad line.
-    fn audit<R: Wait>(
-        &self,
-        rt: &R,
-        alloc: Global,
-        last: Last,
-    ) -> Result<String, NoMemory>
+    fn audit<R: Wait>(&self, rt: &R, alloc: Global, last: Last) -> Result<String, NoMemory>
         ensures { IfOk result (λ text. string_bytes text ≡ audit_or_bad last self.now.reader.roster self.now.world) }
     {
         match last {
