@@ -1,3 +1,4 @@
 pub mod Pasts
 pub mod Holds
 pub mod Posts
+pub mod Writing

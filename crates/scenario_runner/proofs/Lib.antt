@@ -1,3 +1,4 @@
+pub mod AtEnd
 pub mod Auditing
 pub mod Counting
 pub mod Doing

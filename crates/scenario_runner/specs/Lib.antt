@@ -1,4 +1,5 @@
 pub mod Advancing
+pub mod AtEnd
 pub mod Counting
 pub mod Generating
 pub mod Halting

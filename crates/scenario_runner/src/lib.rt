@@ -2,6 +2,7 @@
 //! or run.
 #![tactic(auto)]
 
+mod at_end;
 pub mod audit;
 pub mod commands;
 mod demo;
