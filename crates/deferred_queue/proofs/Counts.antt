@@ -43,17 +43,16 @@ module _ {S : Type 0} where
       one zero v e = subst (Knows 0 0 [] 0) (some-injective _ _ e) (record { as_counter = λ _. (refl, ([], refl, refl)); as_looker = λ _. (refl, ([], refl, refl)) })
       one (suc place) v e = absurd (some-ne-none v (sym e))
 
-  -- a view that takes leaves that to a new one, on the right; the left one posts only what it knew
-  splits : (id : ℕ) (v l r : Past) → v.takes ≡ true → l.takes ≢ true → r.posts ≢ true → r.looked ≡ v.looked → (l.posts ≡ true → (v.posts ≡ true) × (l.counted ≡ v.counted))
-      → Splits (Kept {S = S}) id v l r
-  splits id v l r b left right looked counted s h at =
-      let mine = h.each id v at in
-      let look = mine.as_looker b in
+  -- a view that does both is cut in two
+  pub cuts : (id : ℕ) (v : Past) → v.posts ≡ true → v.takes ≡ true → Splits (Kept {S = S}) id v (counting v.counted) (looking v.looked)
+  cuts id v a b s h at =
+      let l : Past = counting v.counted in
+      let r : Past = looking v.looked in
+      let count = (h.each id v at).as_counter a in
+      let look = (h.each id v at).as_looker b in
       let vs : List Past = set s.views id l in
       let Old : ℕ → Past → Type 0 = λ j u. (u.posts ≡ true → (j ≡ h.counter) × KnownBut posts_in u.counted h.events) × (u.takes ≢ true) in
-      let posts : l.posts ≡ true → (id ≡ h.counter) × KnownBut posts_in l.counted h.events = λ p. let count = mine.as_counter (counted p).0 in
-          (count.0, subst (λ (es : List Event). KnownBut posts_in es h.events) (sym (counted p).1) count.1) in
-      let old : All Old vs = all_set Old s.views id l (posts, left) (λ j u other e. ((h.each j u e).as_counter, λ p. other (((h.each j u e).as_looker p).0 ∙ sym look.0))) in
+      let old : All Old vs = all_set Old s.views id l ((λ _. count), false≢true) (λ j u other e. ((h.each j u e).as_counter, λ p. other (((h.each j u e).as_looker p).0 ∙ sym look.0))) in
       record {
         counter = h.counter;
         looker = length vs;
@@ -61,18 +60,10 @@ module _ {S : Type 0} where
         number = h.number;
         each = λ j u e. ⊎_elim (λ x. record { as_counter = (old j u x).0; as_looker = λ p. absurd ((old j u x).1 p) })
             (λ (is : r ≡ u). record {
-              as_counter = λ p. absurd (right (ap (λ (y : Past). y.posts) is ∙ p));
-              as_looker = λ p. (at_end vs r u j (λ x. (old j u x).1 p) e, subst (λ (es : List Event). KnownBut looks_in es h.events) (sym looked ∙ ap (λ (y : Past). y.looked) is) look.1);
+              as_counter = λ p. absurd (false≢true (ap (λ (y : Past). y.posts) is ∙ p));
+              as_looker = λ p. (at_end vs r u j (λ x. (old j u x).1 p) e, subst (λ (y : Past). KnownBut looks_in y.looked h.events) is look.1);
             }) (at_snoc vs r u j e);
       }
-
-  -- a view that does both is cut in two
-  pub cuts : (id : ℕ) (v : Past) → v.posts ≡ true → v.takes ≡ true → Splits (Kept {S = S}) id v (counting v.counted) (looking v.looked)
-  cuts id v a b = splits id v (counting v.counted) (looking v.looked) b false≢true false≢true refl (λ _. (a, refl))
-
-  -- the view that looks leaves all to a new one
-  pub leaves : (id : ℕ) (v : Past) → v.posts ≡ false → v.takes ≡ true → Splits (Kept {S = S}) id v spent v
-  leaves id v a b = splits id v spent v b false≢true (λ p. false≢true (sym a ∙ p)) refl (λ p. absurd (false≢true p))
 
   -- one more is counted
   pub counts : (slots id : ℕ) (me : Me S Past) (new : ℕ) → me ≡ (counting me.0.counted, []) → new ≡ posts_in me.0.counted + 1
@@ -169,6 +160,26 @@ module _ {S : Type 0} where
         ),
       ))
       (λ ne. (me.0, keeps, tt, stays id n me s h at found, ((λ e. absurd (ne e)), λ _. refl)))
+
+  -- the view that looks leaves all to a new one
+  pub leaves : (id : ℕ) (v : Past) → v.posts ≡ false → v.takes ≡ true → Splits (Kept {S = S}) id v spent v
+  leaves id v a b s h at =
+      let look = (h.each id v at).as_looker b in
+      let vs : List Past = set s.views id spent in
+      let Old : ℕ → Past → Type 0 = λ j u. (u.posts ≡ true → (j ≡ h.counter) × KnownBut posts_in u.counted h.events) × (u.takes ≢ true) in
+      let old : All Old vs = all_set Old s.views id spent ((λ p. absurd (false≢true p)), false≢true)
+      (λ j u other e. ((h.each j u e).as_counter, λ p. other (((h.each j u e).as_looker p).0 ∙ sym look.0))) in
+      record {
+        counter = h.counter;
+        looker = length vs;
+        events = h.events;
+        number = h.number;
+        each = λ j u e. ⊎_elim (λ x. record { as_counter = (old j u x).0; as_looker = λ p. absurd ((old j u x).1 p) })
+            (λ (is : v ≡ u). record {
+              as_counter = λ p. absurd (false≢true (sym a ∙ ap (λ (y : Past). y.posts) is ∙ p));
+              as_looker = λ p. (at_end vs v u j (λ x. (old j u x).1 p) e, subst (λ (y : Past). KnownBut looks_in y.looked h.events) is look.1);
+            }) (at_snoc vs v u j e);
+      }
 
   -- the view that counts takes in the one that looks
   pub merges : (id : ℕ) (v : Past) (other : ℕ) (w : Past) → v.posts ≡ true → w.takes ≡ true → Joins (Kept {S = S}) id v other w (past true true v.counted w.looked) spent

@@ -21,16 +21,18 @@ begins = record { poster = 0; taker = 0; posted = []; taken = []; whole = refl; 
     one zero v e = subst (Fits 0 0 [] [] [] 0) (some-injective _ _ e) (record { as_poster = λ _. (refl, refl); as_taker = λ _. (refl, refl, ([], refl)) })
     one (suc place) v e = absurd (some-ne-none v (sym e))
 
--- a pass that takes leaves that to a new one, on the right; the left one posts only what it knew
-splits : (place : ℕ) (v l r : Log) → v.takes ≡ true → l.takes ≢ true → r.posts ≢ true → r.taken ≡ v.taken → (l.posts ≡ true → (v.posts ≡ true) × (l.posted ≡ v.posted))
-    → ((items : List Update) (views : List Log) → Carries items views → get_elem? views place ≡ some v → Begins r.ahead items) → Forks Carries place v l r
-splits place v l r b left right taken posted ahead items views h at =
+-- a pass that does both is cut in two
+pub forks : (place : ℕ) (v : Log) → v.posts ≡ true → v.takes ≡ true → Forks Carries place v (posting v.posted) (taking v.taken (drop (length v.taken) v.posted))
+forks place v a b items views h at =
+    let l : Log = posting v.posted in
+    let r : Log = taking v.taken (drop (length v.taken) v.posted) in
     let mine = h.each place v at in
+    let post = mine.as_poster a in
     let take = mine.as_taker b in
     let vs : List Log = set views place l in
     let Old : ℕ → Log → Type 0 = λ j u. (u.posts ≡ true → (j ≡ h.poster) × (u.posted ≡ h.posted)) × (u.takes ≢ true) in
-    let posts : l.posts ≡ true → (place ≡ h.poster) × (l.posted ≡ h.posted) = λ p. let post = mine.as_poster (posted p).0 in (post.0, (posted p).1 ∙ post.1) in
-    let old : All Old vs = all_set Old views place l (posts, left) (λ j u other e. ((h.each j u e).as_poster, λ p. other (((h.each j u e).as_taker p).0 ∙ sym take.0))) in
+    let old : All Old vs = all_set Old views place l ((λ _. post), λ p. true≢false (sym p)) (λ j u other e. ((h.each j u e).as_poster, λ p. other (((h.each j u e).as_taker p).0 ∙ sym take.0))) in
+    let rest : drop (length v.taken) v.posted ≡ items = (λ i. drop (length (take.1 i)) (post.1 i)) ∙ ap (drop (length h.taken)) h.whole ∙ drop-append_seam h.taken items in
     record {
       poster = h.poster;
       taker = length vs;
@@ -40,28 +42,37 @@ splits place v l r b left right taken posted ahead items views h at =
       tickets = h.tickets;
       each = λ j u e. ⊎_elim (λ x. record { as_poster = (old j u x).0; as_taker = λ p. absurd ((old j u x).1 p) })
           (λ (is : r ≡ u). record {
-            as_poster = λ p. absurd (right (ap (λ (y : Log). y.posts) is ∙ p));
+            as_poster = λ p. absurd (true≢false (sym (ap (λ (y : Log). y.posts) is ∙ p)));
             as_taker = λ p. (
               at_end vs r u j (λ x. (old j u x).1 p) e,
-              ap (λ (y : Log). y.taken) (sym is) ∙ taken ∙ take.1,
-              subst (λ (y : Log). Begins y.ahead items) is (ahead items views h at),
+              ap (λ (y : Log). y.taken) (sym is) ∙ take.1,
+              ([], sym rest ∙ sym (append-nil _) ∙ ap (λ (y : Log). y.ahead ++ []) is),
             );
           }) (at_snoc vs r u j e);
     }
 
--- a pass that does both is cut in two
-pub forks : (place : ℕ) (v : Log) → v.posts ≡ true → v.takes ≡ true → Forks Carries place v (posting v.posted) (taking v.taken (drop (length v.taken) v.posted))
-forks place v a b = splits place v (posting v.posted) (taking v.taken (drop (length v.taken) v.posted)) b (λ p. true≢false (sym p)) (λ p. true≢false (sym p)) refl (λ _. (a, refl))
-    (λ items views h at.
-      let post = (h.each place v at).as_poster a in
-      let take = (h.each place v at).as_taker b in
-      let rest : drop (length v.taken) v.posted ≡ items = (λ i. drop (length (take.1 i)) (post.1 i)) ∙ ap (drop (length h.taken)) h.whole ∙ drop-append_seam h.taken items in
-      ([], sym rest ∙ sym (append-nil (drop (length v.taken) v.posted))))
-
 -- the taking pass leaves all to a new one
 pub leaves : (place : ℕ) (v : Log) → v.posts ≡ false → v.takes ≡ true → Forks Carries place v spent v
-leaves place v a b = splits place v spent v b (λ p. true≢false (sym p)) (λ p. true≢false (sym p ∙ a)) refl (λ p. absurd (true≢false (sym p)))
-    (λ items views h at. ((h.each place v at).as_taker b).2)
+leaves place v a b items views h at =
+    let mine = h.each place v at in
+    let take = mine.as_taker b in
+    let vs : List Log = set views place spent in
+    let Old : ℕ → Log → Type 0 = λ j u. (u.posts ≡ true → (j ≡ h.poster) × (u.posted ≡ h.posted)) × (u.takes ≢ true) in
+    let old : All Old vs = all_set Old views place spent ((λ p. absurd (true≢false (sym p))), λ p. true≢false (sym p))
+    (λ j u other e. ((h.each j u e).as_poster, λ p. other (((h.each j u e).as_taker p).0 ∙ sym take.0))) in
+    record {
+      poster = h.poster;
+      taker = length vs;
+      posted = h.posted;
+      taken = h.taken;
+      whole = h.whole;
+      tickets = h.tickets;
+      each = λ j u e. ⊎_elim (λ x. record { as_poster = (old j u x).0; as_taker = λ p. absurd ((old j u x).1 p) })
+          (λ (is : v ≡ u). record {
+            as_poster = λ p. absurd (true≢false (sym p ∙ ap (λ (y : Log). y.posts) (sym is) ∙ a));
+            as_taker = λ p. (at_end vs v u j (λ x. (old j u x).1 p) e, ap (λ (y : Log). y.taken) (sym is) ∙ take.1, subst (λ (y : Log). Begins y.ahead items) is take.2);
+          }) (at_snoc vs v u j e);
+    }
 
 -- the posting pass takes in the taking one
 pub merges : (place : ℕ) (v : Log) (other : ℕ) (w : Log) → v.posts ≡ true → w.takes ≡ true → Merges Carries place v other w (log true true v.posted w.taken w.ahead) spent

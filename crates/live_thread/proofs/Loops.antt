@@ -148,9 +148,8 @@ reports_past start now domains n same none r = record {
   told = λ d h. each_more (HasTold now) n d h (r.told d) (told_without now domains n (ap (λ s. s.domains) (drains_setup start now r.drains) ∙ same) none);
 }
 
--- what holds of each domain below the last one, and of each that has no chip, holds of all
-all_below : (domains : Domains) (F : ℕ → Type 0) → ((d : ℕ) → d < 5 → F d) → ((d : ℕ) → has_chip domains d ≡ false → F d) → (d : ℕ) → F d
-all_below domains F below none d = by (nat_lt d 5) refl
+pub all_reported : (start now : Past) (domains : Domains) → start.setup.domains ≡ domains → ReportsBelow start now 5 → (d : ℕ) → HasTold now d
+all_reported start now domains same r d = by (nat_lt d 5) refl
   where
     less : nat_lt d 5 ≡ true → d < 5
     less e = grind arith
@@ -158,12 +157,9 @@ all_below domains F below none d = by (nat_lt d 5) refl
     large : nat_lt d 5 ≡ false → 5 ≤ d
     large e = grind arith
 
-    by : (b : Bool) → nat_lt d 5 ≡ b → F d
-    by true e = below d (less e)
-    by false e = none d (no_chip domains d (large e))
-
-pub all_reported : (start now : Past) (domains : Domains) → start.setup.domains ≡ domains → ReportsBelow start now 5 → (d : ℕ) → HasTold now d
-all_reported start now domains same r = all_below domains (HasTold now) r.told (λ d none. told_without now domains d (ap (λ s. s.domains) (drains_setup start now r.drains) ∙ same) none)
+    by : (b : Bool) → nat_lt d 5 ≡ b → HasTold now d
+    by true e = r.told d (less e)
+    by false e = told_without now domains d (ap (λ s. s.domains) (drains_setup start now r.drains) ∙ same) (no_chip domains d (large e))
 
 pub turns_none : (p : Past) → TurnsBelow p p 0
 turns_none p = record { drains = drains_none p; keeps = keeps_none p; told = λ d h. h; turned = λ d h. absurd (omega (arith, h)) }
@@ -186,4 +182,14 @@ turns_past start now domains n same none r = record {
 }
 
 pub all_turned : (start now : Past) (domains : Domains) → start.setup.domains ≡ domains → TurnsBelow start now 5 → (d : ℕ) → HasTurned now d
-all_turned start now domains same r = all_below domains (HasTurned now) r.turned (λ d none. turned_without now domains d (ap (λ s. s.domains) (drains_setup start now r.drains) ∙ same) none)
+all_turned start now domains same r d = by (nat_lt d 5) refl
+  where
+    less : nat_lt d 5 ≡ true → d < 5
+    less e = grind arith
+
+    large : nat_lt d 5 ≡ false → 5 ≤ d
+    large e = grind arith
+
+    by : (b : Bool) → nat_lt d 5 ≡ b → HasTurned now d
+    by true e = r.turned d (less e)
+    by false e = turned_without now domains d (ap (λ s. s.domains) (drains_setup start now r.drains) ∙ same) (no_chip domains d (large e))

@@ -28,7 +28,6 @@ use Rattle.plane_core.specs.Planes.{PlaneState, Steps, Accepts, IsNamed}
 use Rattle.plane_core.specs.Shown.{Shown, opened}
 use Rattle.plane_record.specs.Holds.{held_line}
 use Rattle.plane_record.specs.Pasts.{Past, world_of, state_of, after, event_step, said_by}
-use Rattle.plane_record.specs.Writing.{IsReady, IsWritten}
 
 -- the past that contracts see of a plane and the recorded steps
 abbrev pub past : PlaneState → List Step → Past
@@ -120,16 +119,19 @@ pub record Recorded (q : PlaneState) (ss' : List Step) (s : Step) (ls' answered 
   pub said : answered ≡ said_by old s
 
 -- from what is ready before the plane's call, the call, and what is written down after it
-pub recorded : (p q : PlaneState) {ss ready ss' : List Step} {s : Step} {first saved mid last : Listed} {said : List Line} {old : Past}
-    → IsRan p ss first.lines → past p ss ≡ old → IsReady ss ready first saved → IsWritten ready ss' s mid last said → Added (Steps p q s) saved.lines mid.lines → KeepsSaved saved mid
+pub recorded : (p q : PlaneState) (ss ready ss' : List Step) (s : Step) (first saved mid last : Listed) (said : List Line) (old : Past)
+    → IsRan p ss first.lines → past p ss ≡ old
+    → ready ≡ ss → saved.lines ≡ first.lines → saved.saved ≡ first.lines
+    → Added (Steps p q s) saved.lines mid.lines → KeepsSaved saved mid
+    → ss' ≡ ready ++ s ∷ [] → last.lines ≡ mid.lines → mid.lines ≡ mid.saved ++ said
     → comes_by_line true (chip_domains p.world.setup.domains) s ≡ true → Recorded q ss' s last.lines said old
-recorded p q {ss} {ready} {ss'} {s} {first} {saved} {mid} {last} {said} {old} h was before written a keeps by =
-    let b : Added (Steps p q s) first.lines last.lines = carried (Steps p q s) first.lines saved.lines mid.lines last.lines before.lines written.lines a in
-    let is : ss' ≡ ss ++ s ∷ [] = written.steps ∙ ap (λ (l : List Step). l ++ s ∷ []) before.steps in
+recorded p q ss ready ss' s first saved mid last said old h was kept same mark a keeps more on copied by =
+    let b : Added (Steps p q s) first.lines last.lines = carried (Steps p q s) first.lines saved.lines mid.lines last.lines same on a in
+    let is : ss' ≡ ss ++ s ∷ [] = more ∙ ap (λ (l : List Step). l ++ s ∷ []) kept in
     record {
       ran = ran-more p q ss ss' s first.lines last.lines h b is by;
       reached = past-more p q ss ss' s first.lines last.lines h b is old was;
-      said = copied-said p q ss s first.lines last.lines mid.saved said old h was b (saved-at first saved mid before.saved before.lines keeps) (written.lines ∙ written.said);
+      said = copied-said p q ss s first.lines last.lines mid.saved said old h was b (saved-at first saved mid mark same keeps) (on ∙ copied);
     }
 
 pub ran-first : (p : PlaneState) → p.world ≡ first_world p.world.setup → IsRan p [] []

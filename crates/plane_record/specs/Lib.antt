@@ -1,4 +1,3 @@
 pub mod Pasts
 pub mod Holds
 pub mod Posts
-pub mod Writing

@@ -1,5 +1,5 @@
 //! A plane with the book that led to it.
-ghost use Rattle.std.specs.Prelude.{◌≡◌, ◌<◌, ◌≤◌, [], vec_len, vec_capacity, IfOk, IfErr, IfSome, None, OnErr, OnOk, Some, true};
+ghost use Rattle.std.specs.Prelude.{◌≡◌, ◌<◌, ◌≤◌, ◌++◌, ◌∷◌, [], vec_len, vec_capacity, IfOk, IfErr, IfSome, None, OnErr, OnOk, Some, true};
 ghost use Rattle.std.specs.List.{list_all};
 ghost use Rattle.std.specs.Option.{option_map};
 ghost use Rattle.br_model.specs.declared.steps.Step.TheVariants as steps;
@@ -16,7 +16,6 @@ ghost use Rattle.transcript_lines.specs.Rows.{IsPlain};
 ghost use Rattle.plane_record.specs.Holds.{held_line};
 ghost use Rattle.plane_record.specs.Pasts.{after, event_step, lines_of, post_step, said_by, state_of, world_of};
 ghost use Rattle.plane_record.specs.Posts.{IsTheHeld};
-ghost use Rattle.plane_record.specs.Writing.{IsReady, IsWritten};
 
 use crate::NoMemory;
 use br_model::bytes::Bytes;
@@ -86,8 +85,10 @@ fn step_of(e: &Event) -> Step
 
 /// Before a step: the savepoint is set behind the lines so far, and there is room for the step.
 fn make_ready(steps: &mut Vec<Step>, lines: &mut Lines) -> Result<(), NoMemory>
-    ensures ready { IsReady steps.old.items steps.new.items lines.old lines.new }
+    ensures steps { steps.new.items ≡ steps.old.items }
     ensures room { OnOk result (vec_len steps.new < vec_capacity steps.new) }
+    ensures lines { lines.new.lines ≡ lines.old.lines }
+    ensures saved { lines.new.saved ≡ lines.old.lines }
 {
     lines.save();
     steps.reserve(1)
@@ -96,7 +97,9 @@ fn make_ready(steps: &mut Vec<Step>, lines: &mut Lines) -> Result<(), NoMemory>
 /// The step that was taken is written down, where there is room for it. The answer is a copy of its lines, those behind the savepoint.
 fn write_down(alloc: Global, steps: &mut Vec<Step>, lines: &mut Lines, step: Step) -> Lines
     requires { vec_len steps.old < vec_capacity steps.old }
-    ensures { IsWritten steps.old.items steps.new.items step lines.old lines.new result.lines }
+    ensures steps { steps.new.items ≡ steps.old.items ++ step ∷ [] }
+    ensures lines { lines.new.lines ≡ lines.old.lines }
+    ensures said { lines.old.lines ≡ lines.old.saved ++ result.lines }
 {
     steps.push_reserved(step);
     lines.copy_out(alloc)

@@ -1,5 +1,5 @@
 //! The messages of the address changes of a run, as it goes on.
-ghost use Rattle.std.specs.Prelude.{◌≡◌, ◌++◌, [], true, false, OnOk, Some, string_bytes};
+ghost use Rattle.std.specs.Prelude.{◌≡◌, ◌++◌, [], true, false, OnOk, None, Some, string_bytes};
 ghost use Rattle.std.specs.List.{flat_map};
 ghost use Rattle.br_model.specs.declared.steps.Step.TheVariants.{Turn};
 ghost use Rattle.br_model.specs.Plane.Traits.{traits};
@@ -66,7 +66,29 @@ fn turn<R: Wait>(
     Ok(())
 }
 
-/// Does a step. Its messages are put behind: that of a chip's turn, or those of the changes that are accepted.
+/// Does another step. The messages of the changes that it accepts are put behind.
+fn accept<R: Wait>(
+    rt: &R,
+    alloc: Global,
+    stream: &mut Stream,
+    world: &mut World,
+    step: Step,
+    lines: &mut Lines,
+    messages: &mut Vec<Neigh>,
+) -> Result<(), NoMemory>
+    requires by_line { comes_by_line false (chip_domains world.old.setup.domains) step ≡ true }
+    requires other { (traits step).turn ≡ None }
+    requires kept { stream.old ≡ kept_of world.old.setup.domains world.old.history }
+    ensures tells { OnOk result (Added (Tells world.old step world.new) lines.old.lines lines.new.lines) }
+    ensures kept { OnOk result (stream.new ≡ kept_of world.new.setup.domains world.new.history) }
+    ensures messages { OnOk result (messages.new.items ≡ messages.old.items ++ messages_in world.old step) }
+{
+    let from = world.history().len();
+    world.step(rt, alloc, step, lines)?;
+    stream.follow(world.history(), from, messages)
+}
+
+/// Does a step. Its messages are put behind.
 fn follow<R: Wait>(
     rt: &R,
     alloc: Global,
@@ -84,11 +106,7 @@ fn follow<R: Wait>(
 {
     match turn_of(&step) {
         Some(dom) => turn(rt, alloc, stream, world, dom, lines, messages),
-        None => {
-            let from = world.history().len();
-            world.step(rt, alloc, step, lines)?;
-            stream.follow(world.history(), from, messages)
-        }
+        None => accept(rt, alloc, stream, world, step, lines, messages),
     }
 }
 

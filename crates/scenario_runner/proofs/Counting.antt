@@ -87,19 +87,19 @@ ran_none setup w t e h = record {
 }
 
 -- the line of these counts
-abbrev pub line_of : ℕ → ℕ → ℕ → ℕ → ℕ → ℕ → ℕ → List ℕ
-line_of frames chip soft sent overrun changes waiting =
-    codes "demo frames " ++ (decimal frames
-    ++ (codes " chip " ++ (decimal chip
-    ++ (codes " soft " ++ (decimal soft
-    ++ (codes " tx " ++ (decimal sent
-    ++ (codes " overrun " ++ (decimal overrun
-    ++ (codes " changes " ++ (decimal changes
-    ++ (codes " pending " ++ (decimal waiting ++ 10 ∷ [])))))))))))))
-
-line_is : (frames : ℕ) (w : World) (t : Tally) (lines : List Line) → Tallies lines t
-    → line_of frames t.chip t.soft t.tx t.overrun (length w.history) (pending w) ≡ summary_text frames (w, lines)
-line_is frames w t lines h = λ i. line_of frames (h.chip i) (h.soft i) (h.tx i) (h.overrun i) (length w.history) (pending w)
+pub line_is : (frames : ℕ) (w : World) (t : Tally) (lines : List Line) → Tallies lines t
+    → codes "demo frames " ++ (decimal
+    frames ++ (codes " chip " ++ (decimal
+    t.chip ++ (codes " soft " ++ (decimal
+    t.soft ++ (codes " tx " ++ (decimal
+    t.tx ++ (codes " overrun " ++ (decimal t.overrun ++ (codes " changes " ++ (decimal (length w.history) ++ (codes " pending " ++ (decimal (pending w) ++ 10 ∷ [])))))))))))))
+    ≡ summary_text frames (w, lines)
+line_is frames w t lines h =
+    λ i. codes "demo frames " ++ (decimal
+    frames ++ (codes " chip " ++ (decimal
+    (h.chip i) ++ (codes " soft " ++ (decimal
+    (h.soft i) ++ (codes " tx " ++ (decimal
+    (h.tx i) ++ (codes " overrun " ++ (decimal (h.overrun i) ++ (codes " changes " ++ (decimal (length w.history) ++ (codes " pending " ++ (decimal (pending w) ++ 10 ∷ [])))))))))))))
 
 -- the summary of the whole run
 pub summed : (x count : ℕ) (w : World) (t : Tally) → count ≤ most_frames → Ran (setup_of (made_scenario x count).roster) (steps x count) w t
@@ -112,9 +112,16 @@ summed x count w t few r =
 -- the line of a run that is over
 pub summary_is : (x count changes waiting : ℕ) (w : World) (t : Tally) (done : List Step) → count ≤ most_frames → Ran (setup_of (made_scenario x count).roster) done w t
     → done ≡ steps x count → changes ≡ length w.history → waiting ≡ pending w
-    → line_of count t.chip t.soft t.tx t.overrun changes waiting ≡ summary x count
+    → codes "demo frames " ++ (decimal
+    count ++ (codes " chip " ++ (decimal
+    t.chip ++ (codes " soft " ++ (decimal
+    t.soft ++ (codes " tx " ++ (decimal t.tx ++ (codes " overrun " ++ (decimal t.overrun ++ (codes " changes " ++ (decimal changes ++ (codes " pending " ++ (decimal waiting ++ 10 ∷ [])))))))))))))
+    ≡ summary x count
 summary_is x count changes waiting w t done few r whole c p =
     let ran = subst (λ (l : List Step). Ran (setup_of (made_scenario x count).roster) l w t) whole r in
-    (λ i. line_of count t.chip t.soft t.tx t.overrun (c i) (p i))
+    (λ i. codes "demo frames " ++ (decimal
+    count ++ (codes " chip " ++ (decimal
+    t.chip ++ (codes " soft " ++ (decimal
+    t.soft ++ (codes " tx " ++ (decimal t.tx ++ (codes " overrun " ++ (decimal t.overrun ++ (codes " changes " ++ (decimal (c i) ++ (codes " pending " ++ (decimal (p i) ++ 10 ∷ []))))))))))))))
     ∙ line_is count w t (run_of (made_scenario x count)).1 ran.tallies
     ∙ sym (summed x count w t few ran)

@@ -1,4 +1,3 @@
-pub mod AtEnd
 pub mod Auditing
 pub mod Counting
 pub mod Doing

@@ -1,6 +1,6 @@
 -- How the reading of a scenario ends. The source had `left` and has `now`; the sink had taken `before` and has taken `after`;
 -- `text` is held by the output.
-use Rattle.std.specs.Prelude.{◌≡◌, ◌⊎◌, ℕ, List, [], ◌++◌, IfSome, String, string_bytes}
+use Rattle.std.specs.Prelude.{◌≡◌, ◌⊎◌, ℕ, ◌<◌, List, [], ◌++◌, length, take, IfSome, String, string_bytes}
 use Rattle.std.specs.declared.alloc.Global.{Global}
 use Rattle.std.specs.Io.KnownBytes.{Appends, Consumes}
 use Rattle.std.specs.declared.option.Option.{Option}

@@ -1,5 +1,4 @@
 pub mod Advancing
-pub mod AtEnd
 pub mod Counting
 pub mod Generating
 pub mod Halting

@@ -7,20 +7,22 @@ ghost use Rattle.br_model.specs.Text.Scenario.{opened};
 ghost use Rattle.mcast_querier.specs.Queries.{is_host_four, is_link_local_six};
 ghost use Rattle.mcast_querier.specs.Runs.{queried};
 ghost use Rattle.run_io.specs.Causes.{HasCause, Rose};
+ghost use Rattle.run_status.specs.Stopping.{Caused as StopsBy};
 ghost use Rattle.scenario_runner.specs.Generating.{HasRoom, PutsAll, PutsSome};
+ghost use Rattle.scenario_runner.specs.Halting.{Yields};
 ghost use Rattle.run_status.specs.Statuses.{Caused, EndsIn, Replays, call_of, scenario_ways, writing_ways};
-ghost use Rattle.scenario_runner.specs.Session.{Follows, status_of};
+ghost use Rattle.scenario_runner.specs.Session.{Follows, SaysNothing, status_of};
+ghost use Rattle.scenario_runner.specs.Speaking.{answer_by};
 ghost use Rattle.neigh_netlink.specs.Monitor.{monitored};
 
-use crate::at_end::answer;
 use crate::demo::summary;
 use crate::replay::{Halt, play, put_if_full};
-use crate::session::{Session, Wanted};
+use crate::session::Session;
 use br_model::listing::Listing;
 use run_io::output::Output;
-use run_io::sinks::{Sink, WriteFault};
+use run_io::sinks::{Nowhere, Sink, WriteFault};
 use run_io::sources::Source;
-use run_status::{Status, end_with, end_without_memory, put_last};
+use run_status::{Status, Stop, end_with, end_without_memory, put_last};
 use run_world::voice::Voice;
 use run_world::{Asking, Monitor};
 use scenario_reader::Last;
@@ -83,6 +85,44 @@ pub fn replay<R: Wait, S: Source, K: Sink>(
     }
 }
 
+/// Runs a scenario in this new session, and answers how it ends, with the listing of its whole history's table or with the bad line.
+/// The run is a replay's over a sink that keeps nothing, so there is one loop for both.
+fn listing_in<R: Wait, S: Source>(
+    rt: &R,
+    alloc: Global,
+    session: &mut Session,
+    listing: Listing,
+    source: &mut S,
+) -> Result<(Last, String), Stop>
+    requires follows { Follows (opened false) session.old }
+    requires lines { session.old.reader.lines ≡ 0 }
+    ensures lists { Yields (listed listing) (S.left source.old) (S.left source.new) result }
+    ensures cause { StopsBy (S.faults source.old) (S.faults source.new) result }
+{
+    let mut output = Output::make(alloc)?;
+    match play(rt, alloc, session, source, &mut Nowhere, &mut output) {
+        Ok(last) => Ok((last, session.list(alloc, listing, last)?)),
+        Err(Halt::Stopped(stop)) => Err(stop),
+        Err(Halt::WriteFault) => unreachable!(),
+    }
+}
+
+/// The same in a session of its own.
+fn listing_of<R: Wait, S: Source>(
+    rt: &R,
+    alloc: Global,
+    listing: Listing,
+    source: &mut S,
+) -> Result<(Last, String), Stop>
+    ensures lists { Yields (listed listing) (S.left source.old) (S.left source.new) result }
+    ensures cause { StopsBy (S.faults source.old) (S.faults source.new) result }
+{
+    let mut session = Session::new(alloc, Voice::Silent)?;
+    let listed = listing_in(rt, alloc, &mut session, listing, source);
+    session.finish(rt);
+    listed
+}
+
 /// `show`: the listing is written when the scenario has ended.
 pub fn show<R: Wait, S: Source, K: Sink>(
     rt: &R,
@@ -95,8 +135,66 @@ pub fn show<R: Wait, S: Source, K: Sink>(
         (call_of (S.left source.old) (S.left source.new) (K.taken sink.old) (K.taken sink.new)) }
     ensures cause { Caused result (S.faults source.old) (S.faults source.new) (K.faults sink.old) (K.faults sink.new) }
 {
-    let wanted = Wanted::Listing(listing);
-    answer(rt, alloc, Voice::Silent, wanted, source, sink)
+    match listing_of(rt, alloc, listing, source) {
+        Ok((last, text)) => put_last(sink, text.as_bytes(), status_of(last)),
+        Err(stop) => put_last(sink, stop.line(), stop.status()),
+    }
+}
+
+/// Runs a scenario in this new session, and answers how it ends, with all that was said of it or with the bad line.
+fn said_in<R: Wait, S: Source>(
+    rt: &R,
+    alloc: Global,
+    session: &mut Session,
+    source: &mut S,
+) -> Result<(Last, String), Stop>
+    requires follows { Follows (opened false) session.old }
+    requires lines { session.old.reader.lines ≡ 0 }
+    ensures says { Yields (answer_by session.old.voice) (S.left source.old) (S.left source.new) result }
+    ensures cause { StopsBy (S.faults source.old) (S.faults source.new) result }
+{
+    let mut output = Output::make(alloc)?;
+    match play(rt, alloc, session, source, &mut Nowhere, &mut output) {
+        Ok(last) => Ok((last, session.take_said(alloc, last)?)),
+        Err(Halt::Stopped(stop)) => Err(stop),
+        Err(Halt::WriteFault) => unreachable!(),
+    }
+}
+
+/// The same in a session of its own.
+fn said_of<R: Wait, S: Source>(
+    rt: &R,
+    alloc: Global,
+    voice: Voice,
+    source: &mut S,
+) -> Result<(Last, String), Stop>
+    requires { SaysNothing voice }
+    ensures says { Yields (answer_by voice) (S.left source.old) (S.left source.new) result }
+    ensures cause { StopsBy (S.faults source.old) (S.faults source.new) result }
+{
+    let mut session = Session::new(alloc, voice)?;
+    let said = said_in(rt, alloc, &mut session, source);
+    session.finish(rt);
+    said
+}
+
+/// What the voice says is written when the scenario has ended.
+fn speak<R: Wait, S: Source, K: Sink>(
+    rt: &R,
+    alloc: Global,
+    voice: Voice,
+    source: &mut S,
+    sink: &mut K,
+) -> Status
+    requires { SaysNothing voice }
+    ensures outcome { EndsIn (scenario_ways (Rose (S.faults source.old) (S.faults source.new)) (answer_by voice)) result
+        (call_of (S.left source.old) (S.left source.new) (K.taken sink.old) (K.taken sink.new)) }
+    ensures cause { Caused result (S.faults source.old) (S.faults source.new) (K.faults sink.old) (K.faults sink.new) }
+{
+    match said_of(rt, alloc, voice, source) {
+        Ok((last, text)) => put_last(sink, text.as_bytes(), status_of(last)),
+        Err(stop) => put_last(sink, stop.line(), stop.status()),
+    }
 }
 
 /// `monitor`: the messages of the address changes.
@@ -110,8 +208,7 @@ pub fn monitor<R: Wait, S: Source, K: Sink>(
         (call_of (S.left source.old) (S.left source.new) (K.taken sink.old) (K.taken sink.new)) }
     ensures cause { Caused result (S.faults source.old) (S.faults source.new) (K.faults sink.old) (K.faults sink.new) }
 {
-    let voice = Voice::Monitor(Monitor::new(alloc));
-    answer(rt, alloc, voice, Wanted::Said, source, sink)
+    speak(rt, alloc, Voice::Monitor(Monitor::new(alloc)), source, sink)
 }
 
 /// `querier`: the general queries of a querier at these addresses.
@@ -130,8 +227,7 @@ pub fn querier<R: Wait, S: Source, K: Sink>(
     ensures cause { Caused result (S.faults source.old) (S.faults source.new) (K.faults sink.old) (K.faults sink.new) }
 {
     let asking = Asking::new(alloc, four, six);
-    let voice = Voice::Querier(asking);
-    answer(rt, alloc, voice, Wanted::Said, source, sink)
+    speak(rt, alloc, Voice::Querier(asking), source, sink)
 }
 
 /// Writes frames as lines while any is left. The last ones are held.

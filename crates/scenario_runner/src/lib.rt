@@ -2,7 +2,6 @@
 //! or run.
 #![tactic(auto)]
 
-mod at_end;
 pub mod audit;
 pub mod commands;
 mod demo;

@@ -7,7 +7,6 @@ ghost use Rattle.scenario_runner.specs.Session.{Follows, SaysNothing, SaysOn, Ta
 ghost use Rattle.br_model.specs.Text.LineForms.{comes_by_line};
 ghost use Rattle.br_model.specs.Text.Roster.{chips_of};
 ghost use Rattle.transcript_text.specs.Extends.{Extends};
-ghost use Rattle.scenario_runner.specs.AtEnd.{wanted_text};
 ghost use Rattle.scenario_runner.specs.Speaking.{answer_at};
 ghost use Rattle.run_world.specs.Voices.{lines_of, said_by};
 
@@ -37,17 +36,6 @@ pub(crate) enum Next {
     Section(u32),
     /// Nothing: the scenario ends so.
     End(Last),
-}
-
-/// What is wanted of a run at its end.
-#[derive(Clone, Copy)]
-pub(crate) enum Wanted {
-    /// The listing of the whole history's table.
-    Listing(Listing),
-    /// The audit of the chips.
-    Audit,
-    /// All that was said.
-    Said,
 }
 
 /// What has read the lines so far, and the world after their steps, which is made at the first one. It isn't `Drop`, since a world
@@ -196,7 +184,12 @@ impl Session {
     }
 
     /// The listing of the whole history's table, or the bad line.
-    fn list(&self, alloc: Global, listing: Listing, last: Last) -> Result<String, NoMemory>
+    pub(crate) fn list(
+        &self,
+        alloc: Global,
+        listing: Listing,
+        last: Last,
+    ) -> Result<String, NoMemory>
         ensures { IfOk result (λ text. string_bytes text ≡ listing_or_bad listing last self.now.reader.roster.ports self.now.world) }
     {
         match last {
@@ -206,7 +199,12 @@ impl Session {
     }
 
     /// The audit of the chips as the run has left them, or the bad line.
-    fn audit<R: Wait>(&self, rt: &R, alloc: Global, last: Last) -> Result<String, NoMemory>
+    pub(crate) fn audit<R: Wait>(
+        &self,
+        rt: &R,
+        alloc: Global,
+        last: Last,
+    ) -> Result<String, NoMemory>
         ensures { IfOk result (λ text. string_bytes text ≡ audit_or_bad last self.now.reader.roster self.now.world) }
     {
         match last {
@@ -216,7 +214,7 @@ impl Session {
     }
 
     /// All that was said, with its last line, or the bad line. Nothing of it is kept.
-    fn take_said(&mut self, alloc: Global, last: Last) -> Result<String, NoMemory>
+    pub(crate) fn take_said(&mut self, alloc: Global, last: Last) -> Result<String, NoMemory>
         ensures { IfOk result (λ text. string_bytes text ≡ answer_at (ending_of last) (said_by self.old.voice)) }
     {
         match last {
@@ -226,23 +224,6 @@ impl Session {
                 Ok(text)
             }
             Last::Bad(number, why) => bad_text(alloc, number, why),
-        }
-    }
-
-    /// What is wanted of the run, or the bad line.
-    pub(crate) fn answer<R: Wait>(
-        &mut self,
-        rt: &R,
-        alloc: Global,
-        wanted: Wanted,
-        last: Last,
-    ) -> Result<String, NoMemory>
-        ensures { IfOk result (λ text. string_bytes text ≡ wanted_text wanted last self.old) }
-    {
-        match wanted {
-            Wanted::Listing(listing) => self.list(alloc, listing, last),
-            Wanted::Audit => self.audit(rt, alloc, last),
-            Wanted::Said => self.take_said(alloc, last),
         }
     }
 

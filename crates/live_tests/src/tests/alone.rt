@@ -4,16 +4,22 @@ ghost use Rattle.std.specs.List.{list_all};
 ghost use Rattle.br_model.specs.Table.Domains.{chip_domains};
 ghost use Rattle.br_model.specs.Text.LineForms.{comes_by_line};
 
-use super::common::{assert_same, assert_that, is_done, port};
+use super::common::{assert_same, assert_that, is_done};
 use br_model::bytes::Bytes;
 use br_model::domains::Domains;
-use br_model::numbers::{Dom, Mac};
+use br_model::numbers::{Dom, Mac, Port};
 use br_model::steps::{Command, Step};
 use live_workers::run_alone;
 use std::alloc::Global;
 use std::process::Abort;
 use std::sync::Wait;
 use std::test::Fail;
+
+pub(crate) fn port(number: u8) -> Result<Port, Fail>
+    ensures { IfOk result (λ p. p ≡ number) }
+{
+    Ok(Port::new(number).ok_or("port")?)
+}
 
 /// A frame of one station to another, which enters at the port.
 pub(crate) fn frame(alloc: Global, number: u8, to: u8, from: u8) -> Result<Step, Fail>

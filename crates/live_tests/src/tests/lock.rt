@@ -6,10 +6,10 @@ ghost use Rattle.plane_lock.specs.Posted.{updates_of};
 ghost use Rattle.plane_lock.specs.Posts.{IsSeen};
 ghost use Rattle.table_publish.specs.Board.{newcomer};
 
-use super::common::{assert_same, assert_that, port};
+use super::common::{assert_same, assert_that};
 use br_model::change::Kind;
 use br_model::domains::Domains;
-use br_model::numbers::{Dom, Mac, Vid};
+use br_model::numbers::{Dom, Mac, Port, Vid};
 use br_model::steps::{Command, Event};
 use br_model::transcript::Line;
 use ether_frames::parse;
@@ -23,6 +23,12 @@ use std::sync::{MutexGuard, Wait};
 use std::test::Fail;
 use table_publish::{Board, Name, Seat, Seen};
 use transcript_lines::{Lines, Row};
+
+fn port(number: u8) -> Result<Port, Fail>
+    ensures { IfOk result (λ p. p ≡ number) }
+{
+    Ok(Port::new(number).ok_or("port")?)
+}
 
 /// Two ports of the chip, and one of software.
 fn domains() -> Result<Domains, Fail>
@@ -142,16 +148,6 @@ fn two_queues<R: Wait>(rt: &R, alloc: Global, ran: &Ran, taken: u32) -> Result<Q
     Ok(queues)
 }
 
-/// The ports are up, and two static addresses were added.
-fn add_two<R: Wait>(rt: &R, alloc: Global, ran: &mut Ran) -> Result<(), Fail>
-    ensures board { ran.new.board ≡ ran.old.board }
-    ensures setup { ran.new.setup ≡ ran.old.setup }
-{
-    begin(rt, alloc, ran)?;
-    add_address(alloc, ran, 11)?;
-    add_address(alloc, ran, 12)
-}
-
 /// A run of two static addresses whose updates were posted and taken.
 fn emptied_queue<R: Wait>(rt: &R, alloc: Global, ran: &mut Ran) -> Result<Queues, Fail>
     ensures board { ran.new.board ≡ ran.old.board }
@@ -159,7 +155,9 @@ fn emptied_queue<R: Wait>(rt: &R, alloc: Global, ran: &mut Ran) -> Result<Queues
     ensures doms { IfOk result (λ q. map (λ x. x.dom) q ≡ 1 ∷ []) }
     ensures posted { IfOk result (λ q. All (λ x. x.poster.posted ≡ updates_of ran.new) q) }
 {
-    add_two(rt, alloc, ran)?;
+    begin(rt, alloc, ran)?;
+    add_address(alloc, ran, 11)?;
+    add_address(alloc, ran, 12)?;
     one_queue(rt, alloc, ran, 2)
 }
 
@@ -170,7 +168,9 @@ fn one_of_two_emptied<R: Wait>(rt: &R, alloc: Global, ran: &mut Ran) -> Result<Q
     ensures doms { IfOk result (λ q. map (λ x. x.dom) q ≡ 1 ∷ 2 ∷ []) }
     ensures posted { IfOk result (λ q. All (λ x. x.poster.posted ≡ updates_of ran.new) q) }
 {
-    add_two(rt, alloc, ran)?;
+    begin(rt, alloc, ran)?;
+    add_address(alloc, ran, 11)?;
+    add_address(alloc, ran, 12)?;
     two_queues(rt, alloc, ran, 2)
 }
 
@@ -183,41 +183,6 @@ fn begun_queue<R: Wait>(rt: &R, alloc: Global, ran: &mut Ran) -> Result<Queues, 
 {
     begin(rt, alloc, ran)?;
     one_queue(rt, alloc, ran, 0)
-}
-
-/// A run without steps over these domains, and a seat at its board.
-fn start<R: Wait>(rt: &R, alloc: Global, domains: Domains) -> Result<(Ran, Seat), Fail>
-    ensures domains { IfOk result (λ t. t.0.board.domains ≡ domains) }
-    ensures setup { IfOk result (λ t. t.0.setup ≡ record { domains = t.0.board.domains; own = t.0.setup.own }) }
-    ensures seat { IfOk result (λ t. t.1 ≡ newcomer t.0.board) }
-{
-    let (board, mut seats) = Board::make(rt, alloc, &domains, 1)?;
-    let Some(seat) = seats.next() else {
-        unreachable!()
-    };
-    let plane = Plane::make(rt, alloc, domains, Mac::FIRST_OWN, board)?;
-    Ok((Ran::make(alloc, plane), seat))
-}
-
-/// The locks over a run with its queues. Where these couldn't be made, the run is ended.
-fn lock<N: Name, R: Wait>(
-    rt: &R,
-    alloc: Global,
-    ran: Ran,
-    queues: Result<Queues, Fail>,
-) -> Result<Shared<N>, Fail>
-    requires board { ran.board ≡ N.board }
-    requires setup { ran.setup ≡ record { domains = N.board.domains; own = N.own } }
-    requires doms { IfOk queues (λ q. map (λ x. x.dom) q ≡ chip_domains N.board.domains) }
-    requires posted { IfOk queues (λ q. All (λ x. x.poster.posted ≡ updates_of ran) q) }
-{
-    match queues {
-        Ok(queues) => Ok(Shared::<N>::make(rt, alloc, ran, queues)?),
-        Err(error) => {
-            let _book = ran.book(rt);
-            Err(error)
-        }
-    }
 }
 
 fn wrote(lines: &Lines) -> bool {
@@ -236,11 +201,6 @@ fn acted(done: Result<Lines, ActFault>) -> Result<Lines, Fail> {
     }
 }
 
-fn assert_acted<R: Abort>(rt: &R, done: Result<Lines, ActFault>, at: &str) -> Result<(), Fail> {
-    assert_that(rt, is_done(&acted(done)?), at);
-    Ok(())
-}
-
 /// No step before the third address. Then a step for each update, the third of which is kept meanwhile.
 fn turn_by_the_queue<N: Name, R: Wait + Abort>(
     rt: &R,
@@ -250,8 +210,11 @@ fn turn_by_the_queue<N: Name, R: Wait + Abort>(
     requires { has_chip N.board.domains 1 ≡ true }
 {
     assert_that(rt, !wrote(&shared.turn(rt, alloc, Dom::CHIP)?), "no update");
-    let command = Event::Cmd(address(13)?);
-    assert_acted(rt, shared.accept(rt, alloc, &command), "a command")?;
+    assert_that(
+        rt,
+        is_done(&acted(shared.accept(rt, alloc, &Event::Cmd(address(13)?)))?),
+        "a command",
+    );
     for _ in 0..3 {
         assert_that(rt, is_done(&shared.turn(rt, alloc, Dom::CHIP)?), "a turn");
     }
@@ -265,23 +228,33 @@ fn use_queue<N: Name, R: Wait + Abort>(rt: &R, alloc: Global, ran: Ran) -> Resul
     requires chips { chip_domains N.board.domains ≡ 1 ∷ [] }
 {
     let mut ran = ran;
-    let queues = emptied_queue(rt, alloc, &mut ran);
-    let shared = lock::<N, R>(rt, alloc, ran, queues)?;
-    let turned = turn_by_the_queue(rt, alloc, &shared);
-    let ran = shared.close();
-    let applied = ran.plane().applied(Dom::CHIP);
-    let book = ran.book(rt);
-    turned?;
-    assert_same(rt, &applied, &3, "applied updates");
-    // Four steps before the first address, three addresses, a publication and three turns.
-    assert_same(rt, &book.steps.len(), &11, "the steps");
-    Ok(())
+    match emptied_queue(rt, alloc, &mut ran) {
+        Ok(queues) => {
+            let shared = Shared::<N>::make(rt, alloc, ran, queues)?;
+            let turned = turn_by_the_queue(rt, alloc, &shared);
+            let ran = shared.close();
+            let applied = ran.plane().applied(Dom::CHIP);
+            let book = ran.book(rt);
+            turned?;
+            assert_same(rt, &applied, &3, "applied updates");
+            // Four steps before the first address, three addresses, a publication and three turns.
+            assert_same(rt, &book.steps.len(), &11, "the steps");
+            Ok(())
+        }
+        Err(error) => {
+            let _book = ran.book(rt);
+            Err(error)
+        }
+    }
 }
 
 #[test]
 fn turns_go_by_the_queue(rt: HostRuntime) -> Result<(), Fail> {
-    let (ran, _seat) = start(&rt, rt.alloc(), domains()?)?;
-    use_queue::<Brand, HostRuntime>(&rt, rt.alloc(), ran)
+    let alloc = rt.alloc();
+    let domains = domains()?;
+    let (board, _seats) = Board::make(&rt, alloc, &domains, 1)?;
+    let plane = Plane::make(&rt, alloc, domains, Mac::FIRST_OWN, board)?;
+    use_queue::<Brand, HostRuntime>(&rt, alloc, Ran::make(alloc, plane))
 }
 
 /// The chip takes turns, at most two. How many updates it has applied then.
@@ -373,17 +346,27 @@ fn use_two_chips<N: Name, R: Wait + Abort>(rt: &R, alloc: Global, ran: Ran) -> R
     requires chips { chip_domains N.board.domains ≡ 1 ∷ 2 ∷ [] }
 {
     let mut ran = ran;
-    let queues = one_of_two_emptied(rt, alloc, &mut ran);
-    let shared = lock::<N, R>(rt, alloc, ran, queues)?;
-    let named = name_each_chip(rt, alloc, &shared);
-    let _book = shared.close().book(rt);
-    named
+    match one_of_two_emptied(rt, alloc, &mut ran) {
+        Ok(queues) => {
+            let shared = Shared::<N>::make(rt, alloc, ran, queues)?;
+            let named = name_each_chip(rt, alloc, &shared);
+            let _book = shared.close().book(rt);
+            named
+        }
+        Err(error) => {
+            let _book = ran.book(rt);
+            Err(error)
+        }
+    }
 }
 
 #[test]
 fn calls_serve_the_chip_they_name(rt: HostRuntime) -> Result<(), Fail> {
-    let (ran, _seat) = start(&rt, rt.alloc(), domains_of_two()?)?;
-    use_two_chips::<Brand, HostRuntime>(&rt, rt.alloc(), ran)
+    let alloc = rt.alloc();
+    let domains = domains_of_two()?;
+    let (board, _seats) = Board::make(&rt, alloc, &domains, 1)?;
+    let plane = Plane::make(&rt, alloc, domains, Mac::FIRST_OWN, board)?;
+    use_two_chips::<Brand, HostRuntime>(&rt, alloc, Ran::make(alloc, plane))
 }
 
 fn is_sent<T: Send>() {}
@@ -492,10 +475,22 @@ fn use_each_call<N: Name, R: Wait + Abort>(
     requires { has_chip N.board.domains 1 ≡ true }
 {
     use_frame(rt, alloc, shared, chair)?;
-    assert_acted(rt, shared.report(rt, alloc, Dom::CHIP), "a report")?;
+    assert_that(
+        rt,
+        is_done(&acted(shared.report(rt, alloc, Dom::CHIP))?),
+        "a report",
+    );
     shared.turns(rt, alloc, Dom::CHIP, 2)?;
-    assert_acted(rt, shared.sweep(rt, alloc, Dom::CHIP), "a sweep")?;
-    assert_acted(rt, shared.sweep(rt, alloc, Dom::CHIP), "a sweep")?;
+    assert_that(
+        rt,
+        is_done(&acted(shared.sweep(rt, alloc, Dom::CHIP))?),
+        "a sweep",
+    );
+    assert_that(
+        rt,
+        is_done(&acted(shared.sweep(rt, alloc, Dom::CHIP))?),
+        "a sweep",
+    );
     assert_that(rt, is_done(&shared.publish(rt, alloc)?), "a publication");
     use_taught_address(rt, alloc, shared, chair)
 }
@@ -512,21 +507,34 @@ fn use_locks<N: Name, R: Wait + Abort>(
     requires seat { seat ≡ newcomer N.board }
 {
     let mut ran = ran;
-    let queues = begun_queue(rt, alloc, &mut ran);
-    let shared = lock::<N, R>(rt, alloc, ran, queues)?;
     let mut chair = Chair::<N>::new(seat);
-    let used = use_each_call(rt, alloc, &shared, &mut chair);
-    let book = shared.close().book(rt);
-    used?;
-    // The first post and the first sweep change nothing, so of the calls the report, the second sweep and the second post alone are
-    // followed by a publication.
-    assert_same(rt, &book.steps.len(), &18, "the steps");
-    Ok(())
+    match begun_queue(rt, alloc, &mut ran) {
+        Ok(queues) => {
+            let shared = Shared::<N>::make(rt, alloc, ran, queues)?;
+            let used = use_each_call(rt, alloc, &shared, &mut chair);
+            let book = shared.close().book(rt);
+            used?;
+            // The first post and the first sweep change nothing, so of the calls the report, the second sweep and the second post alone
+            // are followed by a publication.
+            assert_same(rt, &book.steps.len(), &18, "the steps");
+            Ok(())
+        }
+        Err(error) => {
+            let _book = ran.book(rt);
+            Err(error)
+        }
+    }
 }
 
 #[test]
 fn each_call_has_work(rt: HostRuntime) -> Result<(), Fail> {
     serve_threads::<Brand>();
-    let (ran, seat) = start(&rt, rt.alloc(), domains()?)?;
-    use_locks::<Brand, HostRuntime>(&rt, rt.alloc(), ran, seat)
+    let alloc = rt.alloc();
+    let domains = domains()?;
+    let (board, mut seats) = Board::make(&rt, alloc, &domains, 1)?;
+    let Some(seat) = seats.next() else {
+        unreachable!()
+    };
+    let plane = Plane::make(&rt, alloc, domains, Mac::FIRST_OWN, board)?;
+    use_locks::<Brand, HostRuntime>(&rt, alloc, Ran::make(alloc, plane), seat)
 }

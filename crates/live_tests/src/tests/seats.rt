@@ -4,7 +4,7 @@ ghost use Rattle.br_model.specs.Table.Limits.{all_fit};
 ghost use Rattle.br_model.specs.Table.Table.{start};
 ghost use Rattle.table_publish.specs.Board.{all_of};
 
-use super::common::{assert_same, assert_that, port};
+use super::common::{assert_same, assert_that};
 use br_model::change::{Change, FORWARDING, Flags};
 use br_model::domains::Domains;
 use br_model::frame::{Head, McastMsg};
@@ -15,6 +15,10 @@ use std::sync::Wait;
 use std::test::Fail;
 use std::thread::{Threads, join_mut};
 use table_publish::{Board, Seat};
+
+fn port(number: u8) -> Result<Port, Fail> {
+    Ok(Port::new(number).ok_or("port")?)
+}
 
 /// A broadcast.
 fn head() -> Head {

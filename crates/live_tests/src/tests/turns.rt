@@ -1,16 +1,38 @@
 //! Workers that take turns at a task.
-use super::common::{Meeting, assert_same};
+use super::common::assert_same;
 use port_workers::{Gate, Open, Task, drive};
 use std::sync::atomic::{AtomicU64, Ordering};
 use std::sync::{Mutex, Wait};
 
-/// Two workers look for one another; others have nothing to do.
-impl Task for Meeting {
+/// Two workers that look for one another; others have nothing to do.
+#[derive(Drop)]
+struct Meet {
+    here: AtomicU64,
+    met: AtomicU64,
+}
+
+impl Meet {
+    fn make() -> Meet {
+        Meet {
+            here: AtomicU64::new(0),
+            met: AtomicU64::new(0),
+        }
+    }
+}
+
+impl Task for Meet {
     ghost finished = { λ _ _. Unit {0} };
 
     fn turn(&self, worker: usize) -> bool {
-        if worker < 2 {
-            self.come();
+        if worker > 1 {
+            return false;
+        }
+        self.here.fetch_add(1, Ordering::SeqCst);
+        for _ in 0..134_217_728u64 {
+            if self.here.load(Ordering::SeqCst) == 2 {
+                self.met.fetch_add(1, Ordering::SeqCst);
+                break;
+            }
         }
         false
     }
@@ -19,9 +41,9 @@ impl Task for Meeting {
 #[test]
 fn workers_see_one_another_at_work(rt: HostRuntime) {
     for workers in [2, 16] {
-        let task = Meeting::of(2);
+        let task = Meet::make();
         drive(&rt, workers, &task);
-        assert_same(&rt, &task.met(), &2, "how many met");
+        assert_same(&rt, &task.met.load(Ordering::SeqCst), &2, "how many met");
     }
 }
 

@@ -4,8 +4,8 @@ ghost use Rattle.std.specs.List.{list_all};
 ghost use Rattle.br_model.specs.Table.Domains.{chip_domains};
 ghost use Rattle.br_model.specs.Text.LineForms.{comes_by_line};
 
-use super::alone::frame;
-use super::common::{Meeting, assert_same, assert_that, is_done, port};
+use super::alone::{frame, port};
+use super::common::{assert_same, assert_that, is_done};
 use br_model::domains::Domains;
 use br_model::numbers::{Dom, Mac};
 use br_model::steps::{Command, Step};
@@ -14,13 +14,27 @@ use port_workers::{Gate, Open};
 use std::alloc::Global;
 use std::process::Abort;
 use std::sync::Wait;
+use std::sync::atomic::{AtomicU64, Ordering};
 use std::test::Fail;
 use std::thread::Threads;
 
-/// Each worker looks at its frame whether all have come.
-impl Gate for Meeting {
+/// The gate of so many workers. Each looks at its frame whether all have come.
+#[derive(Drop)]
+struct Meet {
+    workers: u64,
+    here: AtomicU64,
+    met: AtomicU64,
+}
+
+impl Gate for Meet {
     fn held(&self, _id: u32) {
-        self.come();
+        self.here.fetch_add(1, Ordering::SeqCst);
+        for _ in 0..134_217_728u64 {
+            if self.here.load(Ordering::SeqCst) >= self.workers {
+                self.met.fetch_add(1, Ordering::SeqCst);
+                return;
+            }
+        }
     }
 }
 
@@ -101,11 +115,20 @@ fn all_meet<R: Threads + Wait + Abort + Sync>(
     requires workers { (0 < workers) × (workers ≤ 16) }
     requires by_line { list_all (comes_by_line false (1 ∷ [])) steps.now ≡ true }
 {
-    let gate = Meeting::of(workers as u64);
+    let gate = Meet {
+        workers: workers as u64,
+        here: AtomicU64::new(0),
+        met: AtomicU64::new(0),
+    };
     let domains = software()?;
     let taken = take_steps(rt, alloc, &gate, workers, domains, Mac::FIRST_OWN, steps)?;
     let took = taken.book.steps.as_slice();
-    assert_same(rt, &gate.met(), &(frames as u64), "how many met");
+    assert_same(
+        rt,
+        &gate.met.load(Ordering::SeqCst),
+        &(frames as u64),
+        "how many met",
+    );
     assert_same(rt, &held_first(took), &frames, "how many were held first");
     assert_same(
         rt,

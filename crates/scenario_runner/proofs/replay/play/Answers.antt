@@ -1,11 +1,9 @@
 use Rattle.std.proofs.Common.{Err, inr, refl, ap, ◌∙◌, arith}
 use Rattle.std.proofs.lemmas.Result.{err_from_is_err_and}
-use Rattle.scenario_runner.specs.Halting.{IsOpened}
 use Rattle.scenario_runner.proofs.Ready.{behind_section, ready_at_first}
 use Rattle.scenario_runner.proofs.Telling.{behind_broken, end_lacks, first_lacks, first_unread, grown, opened_more, opens, play_breaks}
 use Rattle.scenario_runner.proofs.Telling.{play_ends, play_stops, section_ends, section_halts, split_all, started, unread_behind}
 use Rattle.run_status.proofs.Writing.{moved, started_written}
-use Rattle.scenario_runner.proofs.replay.play.Given as given
 use Rattle.scenario_runner.proofs.replay.play.Goals as goal
 
 pub loop-reader-init : goal.loop-reader-init
@@ -24,12 +22,6 @@ loop-reader-init g c =
       writes = omega arith;
     }
 
--- what is held goes to the sink before the read, so that the first line is there
-opened : (g : given.Over) (c : goal.In_ok-put_before_read g) → IsOpened (g.K.Sink.taken c.args.sink.now) (g.K.Sink.taken c.put_before_read.new.sink)
-opened g c =
-    let plays = c.loop-reader.invariant.plays in
-    opens _ _ _ _ _ _ _ _ _ _ plays.1 plays.2 c.in_ok-put_before_read.ensures.moved c.in_ok-put_before_read.ensures.all c.loop-reader.invariant.behind
-
 pub returns-in_err-advance-clause-plays : goal.returns-in_err-advance-clause-plays
 returns-in_err-advance-clause-plays g c =
     let plays = c.loop-reader.invariant.plays in
@@ -44,7 +36,7 @@ loop-reader-preserved-in-Line g c =
     let w = moved _ _ _ _ _ _ plays.1 c.in_ok-put_before_read.ensures.moved in
     let goes = rw c.in-Line.is at (c.in_ok-advance.ensures.advances _ _ w.gone (split_all _ _ _ _ w _ _ _ _ plays.2)) in record {
       plays = (_, grown _ _ _ _ _ w, goes);
-      behind = inr (opened g (goal.at.loop-reader-preserved-in-Line g c).In_ok-put_before_read);
+      behind = inr (opens _ _ _ _ _ _ _ _ _ _ plays.1 plays.2 c.in_ok-put_before_read.ensures.moved c.in_ok-put_before_read.ensures.all c.loop-reader.invariant.behind);
       same = c.in_ok-advance.ensures.same ∙ c.loop-reader.invariant.same;
       ready = c.in_ok-advance.ensures.ready;
       reads = omega (arith, c.loop-reader.invariant.reads, c.advance.ensures.later);
@@ -96,7 +88,7 @@ loop-reader-preserved g c =
       plays = rw c.in_default.is at (c.in_ok-last-in-Section.ensures.plays _ _ _ (grown _ _ _ _ _ w) at);
       behind =
           inr (opened_more _ _ _
-          (opened g (goal.at.loop-reader-preserved g c).In_ok-put_before_read)
+          (opens _ _ _ _ _ _ _ _ _ _ plays.1 plays.2 c.in_ok-put_before_read.ensures.moved c.in_ok-put_before_read.ensures.all c.loop-reader.invariant.behind)
           c.play_section.ensures.grows);
       same = c.in_ok-last-in-Section.ensures.same ∙ c.in_ok-advance.ensures.same ∙ c.loop-reader.invariant.same;
       ready = c.in_ok-last-in-Section.ensures.ready;
@@ -132,11 +124,15 @@ returns-in_err-put_before_read-clause-behind g c =
 
 pub returns-in_err-advance-clause-behind : goal.returns-in_err-advance-clause-behind
 returns-in_err-advance-clause-behind g c =
-    inr (opened g (goal.at.returns-in_err-advance-clause-behind g c).In_ok-put_before_read)
+    let plays = c.loop-reader.invariant.plays in
+    let opened = opens _ _ _ _ _ _ _ _ _ _ plays.1 plays.2 c.in_ok-put_before_read.ensures.moved c.in_ok-put_before_read.ensures.all c.loop-reader.invariant.behind in
+    inr opened
 
 pub returns-in_err-last-in-Section-clause-behind : goal.returns-in_err-last-in-Section-clause-behind
 returns-in_err-last-in-Section-clause-behind g c =
-    inr (opened_more _ _ _ (opened g (goal.at.returns-in_err-last-in-Section-clause-behind g c).In_ok-put_before_read) c.play_section.ensures.grows)
+    let plays = c.loop-reader.invariant.plays in
+    let opened = opens _ _ _ _ _ _ _ _ _ _ plays.1 plays.2 c.in_ok-put_before_read.ensures.moved c.in_ok-put_before_read.ensures.all c.loop-reader.invariant.behind in
+    inr (opened_more _ _ _ opened c.play_section.ensures.grows)
 
 pub returns-in_err-end-in-Section-clause-plays : goal.returns-in_err-end-in-Section-clause-plays
 returns-in_err-end-in-Section-clause-plays g c =
@@ -149,11 +145,15 @@ returns-in_err-end-in-Section-clause-plays g c =
 
 pub returns-in_err-end-in-Section-clause-behind : goal.returns-in_err-end-in-Section-clause-behind
 returns-in_err-end-in-Section-clause-behind g c =
-    inr (opened_more _ _ _ (opened g (goal.at.returns-in_err-end-in-Section-clause-behind g c).In_ok-put_before_read) c.play_section.ensures.grows)
+    let plays = c.loop-reader.invariant.plays in
+    let opened = opens _ _ _ _ _ _ _ _ _ _ plays.1 plays.2 c.in_ok-put_before_read.ensures.moved c.in_ok-put_before_read.ensures.all c.loop-reader.invariant.behind in
+    inr (opened_more _ _ _ opened c.play_section.ensures.grows)
 
 pub returns-in-Some-clause-behind : goal.returns-in-Some-clause-behind
 returns-in-Some-clause-behind g c =
-    inr (opened_more _ _ _ (opened g (goal.at.returns-in-Some-clause-behind g c).In_ok-put_before_read) c.play_section.ensures.grows)
+    let plays = c.loop-reader.invariant.plays in
+    let opened = opens _ _ _ _ _ _ _ _ _ _ plays.1 plays.2 c.in_ok-put_before_read.ensures.moved c.in_ok-put_before_read.ensures.all c.loop-reader.invariant.behind in
+    inr (opened_more _ _ _ opened c.play_section.ensures.grows)
 
 pub returns-in_err-end-in-End-clause-plays : goal.returns-in_err-end-in-End-clause-plays
 returns-in_err-end-in-End-clause-plays g c =
@@ -165,8 +165,12 @@ returns-in_err-end-in-End-clause-plays g c =
 
 pub returns-in_err-end-in-End-clause-behind : goal.returns-in_err-end-in-End-clause-behind
 returns-in_err-end-in-End-clause-behind g c =
-    inr (opened g (goal.at.returns-in_err-end-in-End-clause-behind g c).In_ok-put_before_read)
+    let plays = c.loop-reader.invariant.plays in
+    let opened = opens _ _ _ _ _ _ _ _ _ _ plays.1 plays.2 c.in_ok-put_before_read.ensures.moved c.in_ok-put_before_read.ensures.all c.loop-reader.invariant.behind in
+    inr opened
 
 pub returns-in-End-clause-behind : goal.returns-in-End-clause-behind
 returns-in-End-clause-behind g c =
-    inr (opened g (goal.at.returns-in-End-clause-behind g c).In_ok-put_before_read)
+    let plays = c.loop-reader.invariant.plays in
+    let opened = opens _ _ _ _ _ _ _ _ _ _ plays.1 plays.2 c.in_ok-put_before_read.ensures.moved c.in_ok-put_before_read.ensures.all c.loop-reader.invariant.behind in
+    inr opened

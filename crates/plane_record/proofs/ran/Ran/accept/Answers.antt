@@ -10,11 +10,15 @@ use Rattle.plane_record.proofs.ran.Ran.accept.Goals as goal
 
 done : (c : goal.After-write_down) → Recorded c.accept_to.new.self c.write_down.new.steps.items c.step_of-step.result c.write_down.new.lines.lines c.write_down.result.lines c.args.self.now
 done c =
-    let chips = chip_domains c.self.inside.plane.world.setup.domains in
-    recorded c.self.inside.plane c.accept_to.new.self c.self.invariant c.self.view_is c.make_ready.ensures.ready c.write_down.ensures
+    let ready = c.make_ready in
+    let down = c.write_down in
+    recorded c.self.inside.plane c.accept_to.new.self c.self.inside.steps.items ready.new.steps.items down.new.steps.items c.step_of-step.result
+    c.self.inside.lines ready.new.lines c.accept_to.new.lines down.new.lines down.result.lines c.args.self.now c.self.invariant c.self.view_is
+    ready.ensures.steps ready.ensures.lines ready.ensures.saved
     (subst (λ (s : Step). Added (Steps c.self.inside.plane c.accept_to.new.self s) c.make_ready.new.lines.lines c.accept_to.new.lines.lines) (sym c.step_of-step.ensures)
     (accepted c.args.e.now c.self.inside.plane c.accept_to.new.self c.make_ready.new.lines.lines c.accept_to.new.lines.lines c.in_ok-accept_to.ensures.ok)) c.in_ok-accept_to.ensures.saved
-    (ap (comes_by_line true chips) c.step_of-step.ensures ∙ event-comes chips c.args.e.now c.requires)
+    down.ensures.steps down.ensures.lines down.ensures.said (let chips = chip_domains c.self.inside.plane.world.setup.domains in
+    ap (comes_by_line true chips) c.step_of-step.ensures ∙ event-comes chips c.args.e.now c.requires)
 
 pub invariant_of-self-2 : goal.invariant_of-self-2
 invariant_of-self-2 c = (done c).ran

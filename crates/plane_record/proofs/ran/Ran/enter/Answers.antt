@@ -9,9 +9,14 @@ use Rattle.plane_record.proofs.ran.Ran.enter.Goals as goal
 done : (c : goal.After-write_down-lines)
     → Recorded c.enter_to.new.self c.write_down-lines.new.steps.items (Rx c.args.p c.in_ok-bytes.bytes) c.write_down-lines.new.lines.lines c.write_down-lines.result.lines c.args.self.now
 done c =
-    recorded c.self.inside.plane c.enter_to.new.self c.self.invariant c.self.view_is c.make_ready.ensures.ready c.write_down-lines.ensures
+    let ready = c.make_ready in
+    let down = c.write_down-lines in
+    recorded c.self.inside.plane c.enter_to.new.self c.self.inside.steps.items ready.new.steps.items down.new.steps.items (Rx c.args.p c.in_ok-bytes.bytes)
+    c.self.inside.lines ready.new.lines c.enter_to.new.lines down.new.lines down.result.lines c.args.self.now c.self.invariant c.self.view_is
+    ready.ensures.steps ready.ensures.lines ready.ensures.saved
     (subst (λ (b : List ℕ). Added (Steps c.self.inside.plane c.enter_to.new.self (Rx c.args.p b)) c.make_ready.new.lines.lines c.enter_to.new.lines.lines)
-    (c.in_ok-frame.ensures ∙ sym c.in_ok-bytes.ensures) c.in_ok-pass.ensures.step) c.in_ok-pass.ensures.saved refl
+    (c.in_ok-frame.ensures ∙ sym c.in_ok-bytes.ensures) c.in_ok-pass.ensures.step) c.in_ok-pass.ensures.saved
+    down.ensures.steps down.ensures.lines down.ensures.said refl
 
 pub invariant_of-self-2 : goal.invariant_of-self-2
 invariant_of-self-2 c = (done c).ran

@@ -1,6 +1,7 @@
-use Rattle.std.proofs.Common.{◌≡◌, ◌≤◌, length, Some, None, sym, ap, ◌∙◌, subst}
+use Rattle.std.proofs.Common.{◌≡◌, ◌≤◌, List, [], ◌∷◌, ◌++◌, length, Some, None, sym, ap, ◌∙◌, subst}
 use Rattle.std.specs.Prelude.{Bool, nat_lt, if◌then◌else◌}
 use Rattle.std.proofs.lemmas.Bool.{lt-ltb, le-ltb}
+use Rattle.br_model.specs.declared.steps.Step.{Step}
 use Rattle.br_model.specs.declared.steps.Step.TheVariants.{Post}
 use Rattle.br_model.specs.Plane.Serving.{held_with}
 use Rattle.br_model.specs.Plane.World.{Holding}
@@ -47,8 +48,13 @@ module _ (c : goal.After-write_down) where
 
   done : Recorded c.post_to.new.self c.write_down.new.steps.items (Post c.args.h.id c.if-is_released.point) c.write_down.new.lines.lines c.write_down.result.lines c.args.self.now
   done =
-      recorded c.self.inside.plane c.post_to.new.self c.self.invariant c.self.view_is c.make_ready.ensures.ready c.write_down.ensures given.1 c.in_ok-post_to.ensures.saved
-      (post-comes (chip_domains c.self.inside.plane.world.setup.domains) c.args.h.id c.if-is_released.point)
+      let ready = c.make_ready in
+      let down = c.write_down in
+      recorded c.self.inside.plane c.post_to.new.self c.self.inside.steps.items ready.new.steps.items down.new.steps.items (Post c.args.h.id c.if-is_released.point)
+      c.self.inside.lines ready.new.lines c.post_to.new.lines down.new.lines down.result.lines c.args.self.now c.self.invariant c.self.view_is
+      ready.ensures.steps ready.ensures.lines ready.ensures.saved
+      given.1 c.in_ok-post_to.ensures.saved
+      down.ensures.steps down.ensures.lines down.ensures.said (post-comes (chip_domains c.self.inside.plane.world.setup.domains) c.args.h.id c.if-is_released.point)
 
 pub invariant_of-self-2 : goal.invariant_of-self-2
 invariant_of-self-2 c = (done c).ran

@@ -7,9 +7,13 @@ use Rattle.plane_record.proofs.ran.Ran.turn.Goals as goal
 
 done : (c : goal.After-write_down) → Recorded c.turn_to.new.self c.write_down.new.steps.items (Turn c.args.d) c.write_down.new.lines.lines c.write_down.result.lines c.args.self.now
 done c =
-    recorded c.self.inside.plane c.turn_to.new.self c.self.invariant c.self.view_is c.make_ready.ensures.ready c.write_down.ensures
+    let ready = c.make_ready in
+    let down = c.write_down in
+    recorded c.self.inside.plane c.turn_to.new.self c.self.inside.steps.items ready.new.steps.items down.new.steps.items (Turn c.args.d)
+    c.self.inside.lines ready.new.lines c.turn_to.new.lines down.new.lines down.result.lines c.args.self.now c.self.invariant c.self.view_is
+    ready.ensures.steps ready.ensures.lines ready.ensures.saved
     (let a = c.in_ok-turn_to.ensures.turned in record { lines = a.lines; so = a.so.0; added = a.added }) c.in_ok-turn_to.ensures.saved
-    (ap (λ (x : Past). has_chip x.setup.domains c.args.d) c.self.view_is ∙ c.requires)
+    down.ensures.steps down.ensures.lines down.ensures.said (ap (λ (x : Past). has_chip x.setup.domains c.args.d) c.self.view_is ∙ c.requires)
 
 pub invariant_of-self-2 : goal.invariant_of-self-2
 invariant_of-self-2 c = (done c).ran

@@ -1,21 +1,20 @@
 use Rattle.std.proofs.Common.{◌∙◌, String}
 use Rattle.std.specs.declared.alloc.Global.{Global}
+use Rattle.chip_audit.specs.Lines.{audited}
 use Rattle.scenario_reader.specs.declared.reader.Last.{Last}
-use Rattle.scenario_runner.specs.AtEnd.{answer_to}
-use Rattle.scenario_runner.proofs.AtEnd.{wanted_same}
+use Rattle.scenario_runner.proofs.Auditing.{audited_same}
 use Rattle.scenario_runner.proofs.Ends.{calm_ends, yield_ends, yield_stops}
 use Rattle.run_status.proofs.Ends.{calm_stops, read_stopped}
-use Rattle.scenario_runner.proofs.at_end.answer.Goals as goal
+use Rattle.scenario_runner.proofs.audit.audit.Goals as goal
 
 pub returns-in-Ok-clause-outcome : goal.returns-in-Ok-clause-outcome
 returns-in-Ok-clause-outcome g c =
     let ends = rw c.as_bytes.ensures.value at c.put_last.ensures in
-    yield_ends _ _ _ _ _ _ (answer_to c.args.wanted c.args.voice) (wanted_same c.args.wanted c.args.voice) (c.in-Ok.last, c.in-Ok.text)
-    c.in-Ok.ensures.answers (λ n. ends.status n ∙ c.status_of.ensures) ends.whole
+    yield_ends _ _ _ _ _ _ audited audited_same (c.in-Ok.last, c.in-Ok.text) c.in-Ok.ensures.audits (λ n. ends.status n ∙ c.status_of.ensures) ends.whole
     (λ e. ends.front e (calm_ends _ _ c.status_of.ensures))
 
 pub returns-in-Err-clause-outcome : goal.returns-in-Err-clause-outcome
 returns-in-Err-clause-outcome g c =
     let ends = rw c.line.ensures at c.put_last-in-Err.ensures in
-    yield_stops _ _ _ _ _ _ (answer_to c.args.wanted c.args.voice) c.in-Err.stop c.in-Err.ensures.answers (read_stopped (Last × String Global) _ _ c.in-Err.stop c.in-Err.ensures.cause)
+    yield_stops _ _ _ _ _ _ audited c.in-Err.stop c.in-Err.ensures.audits (read_stopped (Last × String Global) _ _ c.in-Err.stop c.in-Err.ensures.cause)
     (λ n. ends.status n ∙ c.status.ensures) ends.whole (λ e. ends.front e (calm_stops _ _ c.status.ensures))

@@ -1,0 +1,19 @@
+use Rattle.std.proofs.Common.{◌∙◌, String}
+use Rattle.std.specs.declared.alloc.Global.{Global}
+use Rattle.scenario_reader.specs.declared.reader.Last.{Last}
+use Rattle.br_model.specs.Program.Listings.{listed}
+use Rattle.scenario_runner.proofs.Ends.{calm_ends, listed_same, yield_ends, yield_stops}
+use Rattle.run_status.proofs.Ends.{calm_stops, read_stopped}
+use Rattle.scenario_runner.proofs.commands.show.Goals as goal
+
+pub returns-in-Ok-clause-outcome : goal.returns-in-Ok-clause-outcome
+returns-in-Ok-clause-outcome g c =
+    let ends = rw c.as_bytes.ensures.value at c.put_last.ensures in
+    yield_ends _ _ _ _ _ _ (listed c.args.listing) (listed_same c.args.listing) (c.in-Ok.last, c.in-Ok.text) c.in-Ok.ensures.lists (λ n. ends.status n ∙ c.status_of.ensures) ends.whole
+    (λ e. ends.front e (calm_ends _ _ c.status_of.ensures))
+
+pub returns-in-Err-clause-outcome : goal.returns-in-Err-clause-outcome
+returns-in-Err-clause-outcome g c =
+    let ends = rw c.line.ensures at c.put_last-in-Err.ensures in
+    yield_stops _ _ _ _ _ _ (listed c.args.listing) c.in-Err.stop c.in-Err.ensures.lists (read_stopped (Last × String Global) _ _ c.in-Err.stop c.in-Err.ensures.cause)
+    (λ n. ends.status n ∙ c.status.ensures) ends.whole (λ e. ends.front e (calm_stops _ _ c.status.ensures))
