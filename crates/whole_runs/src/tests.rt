@@ -11,6 +11,7 @@ mod messages;
 mod queriers;
 mod rows;
 mod snooping;
+mod starts;
 mod trees;
 mod trunks;
 
@@ -150,14 +151,11 @@ fn is_told(
     rt: &(impl Abort + Threads + Wait + Sync),
     alloc: Global,
     input: &[u8],
-    status: Status,
-    told: &str,
+    (status, told): (Status, &str),
 ) {
+    let wrote = format!(in alloc; "transcript 1\n{told}").expect(rt, "memory");
     let outcome = ran(rt, alloc, "replay", input);
-    assert_same(rt, &outcome.status, &status, told);
-    let (head, rest) = outcome.wrote.split_at(outcome.wrote.len().min(13));
-    assert_bytes(rt, head, b"transcript 1\n", told);
-    assert_bytes(rt, rest, told.as_bytes(), told);
+    comes_to(rt, &outcome, told, (status, wrote.as_str()));
 }
 
 /// Runs a scenario whose transcript ends in this.
@@ -165,8 +163,7 @@ fn ends_in(
     rt: &(impl Abort + Threads + Wait + Sync),
     alloc: Global,
     input: &[u8],
-    status: Status,
-    told: &str,
+    (status, told): (Status, &str),
 ) {
     let outcome = ran(rt, alloc, "replay", input);
     assert_same(rt, &outcome.status, &status, told);

@@ -1,4 +1,5 @@
 //! Lines `capture`, with their sections.
+use super::starts::SOFT;
 use super::{assert_same, comes_to, ends_in, extend, is_told, joined, ran_failing, read_row};
 use capture_runner::Status;
 use std::alloc::Global;
@@ -21,17 +22,6 @@ const PACKET: &[u8] =
 /// A packet of no bytes by interface 0.
 const EMPTY_PACKET: &[u8] =
     b"\x06\x00\x00\x00\x20\x00\x00\x00\x00\x00\x00\x00\x00\x00\x00\x00\x00\x00\x00\x00\x00\x00\x00\x00\x00\x00\x00\x00\x20\x00\x00\x00";
-
-/// Three ports that are up, and published.
-const THREE_UP: &str = "scenario 1
-port 1 p1 soft
-port 2 p2 soft
-port 3 p3 soft
-cmd port up p1 => ok 1 3
-cmd port up p2 => ok 2 3
-cmd port up p3 => ok 3 3
-publish => ok 4 0
-";
 
 /// A section of a header, an interface and a packet, with one byte changed. Its place counts from the section's first byte.
 fn section(rt: &impl Abort, alloc: Global, (at, byte): (usize, u8)) -> Vec<u8> {
@@ -130,7 +120,7 @@ const CAPTURES: &[Capture] = &[
 /// The scenario with this line and section, and its transcript.
 fn capture_is_told(rt: &(impl Abort + Threads + Wait + Sync), alloc: Global, row: &Capture) {
     let (change, length, count, rest, status, told) = *row;
-    let before = read_row(rt, alloc, THREE_UP);
+    let before = read_row(rt, alloc, SOFT);
     let line = format!(in alloc; "capture {length}\n").expect(rt, "memory");
     let section = section(rt, alloc, change);
     let (section, _) = section.split_at(count.min(section.len()));
@@ -142,7 +132,7 @@ fn capture_is_told(rt: &(impl Abort + Threads + Wait + Sync), alloc: Global, row
     ];
     let input = joined(rt, alloc, &pieces);
     let told = format!(in alloc; "{}{told}", before.told.as_str()).expect(rt, "memory");
-    is_told(rt, alloc, &input, status, told.as_str());
+    is_told(rt, alloc, &input, (status, told.as_str()));
 }
 
 #[test]
@@ -201,7 +191,7 @@ fn interfaces_are_ports_as_declared(rt: HostRuntime) {
     let input = joined(&rt, alloc, &pieces);
     let told = joined(&rt, alloc, &[before.told.as_bytes(), BY_PORTS.as_bytes()]);
     let told = std::str::from_utf8(&told).expect(&rt, "a text");
-    is_told(&rt, alloc, &input, Status::Ok, told);
+    is_told(&rt, alloc, &input, (Status::Ok, told));
 }
 
 /// A block of a type of this test's own without a body of use: it is skipped.
@@ -228,7 +218,7 @@ fn longest_capture(rt: HostRuntime) {
     let before = b"scenario 1\nport 1 p1 soft\ncapture 16777216\n";
     let input = joined(&rt, alloc, &[before, section.as_slice(), b"end\n"]);
     let told = "unread 524285 short\nunread 524286 short\nend 524286 0 0 0\n";
-    ends_in(&rt, alloc, &input, Status::Ok, told);
+    ends_in(&rt, alloc, &input, (Status::Ok, told));
 }
 
 const CUT_OFF: &[(u32, Status, &str)] = &[
@@ -284,5 +274,5 @@ fn section_beyond_the_longest_input(rt: HostRuntime) {
     }
     extend(&rt, &mut input, b"end\n");
     let told = "transcript 1\ntoo long\n";
-    ends_in(&rt, alloc, &input, Status::TooLong, told);
+    ends_in(&rt, alloc, &input, (Status::TooLong, told));
 }

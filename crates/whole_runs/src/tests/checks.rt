@@ -1,5 +1,6 @@
 //! Transcripts behind their scenarios: what `check` says of them.
 use super::rows::FIRST_FRAME;
+use super::starts::{SOFT, with_chip};
 use super::{assert_same, comes_to, joined, ran, ran_failing, ran_line, read_row, source_of};
 use capture_runner::Status;
 use std::alloc::Global;
@@ -63,74 +64,50 @@ fn check_no_and_yes(rt: HostRuntime) {
     }
 }
 
+/// Checks a scenario and what is told of it.
+fn row_is_checked(
+    rt: &(impl Abort + Threads + Wait + Sync),
+    alloc: Global,
+    text: &str,
+    answer: (Status, &str),
+) {
+    let row = read_row(rt, alloc, text);
+    let told = row.told.as_bytes();
+    let input = joined(rt, alloc, &[row.input.as_bytes(), b"transcript 1\n", told]);
+    checked(rt, alloc, &input, &[], answer);
+}
+
 /// A line of a chip's share, again in place of the software's.
 #[test]
 fn first_difference(rt: HostRuntime) {
-    let input = b"scenario 1
-port 1 c1 chip 1
-port 2 c2 chip 1
-port 3 f3 soft
-cmd port up c1
-cmd port up c2
-cmd port up f3
-publish
-rx 1 02000000000b02000000000a88b50102
-serve
-report 1
-end
-transcript 1
-ok 1 3
-ok 2 3
-ok 3 3
-ok 4 0
-chip 1 at 9 0 copy
-tx 1 2 02000000000b02000000000a88b50102
-soft 1 at 9
-tx 1 2 02000000000b02000000000a88b50102
-tx 1 3 02000000000b02000000000a88b50102
-ok 6 0
-ok 7 1
-end 7 10 1 0
+    let rest =
+        "rx 1 02000000000b02000000000a88b50102 => chip 1 at 9 0 copy; tx 1 2 02000000000b02000000000a88b50102
+serve => soft 1 at 9; tx 1 2 02000000000b02000000000a88b50102; tx 1 3 02000000000b02000000000a88b50102; ok 6 0
+report 1 => ok 7 1
+end => end 7 10 1 0
 ";
     let wrote = "no 9
 expected tx 1 3 02000000000b02000000000a88b50102
 found tx 1 2 02000000000b02000000000a88b50102
 ";
-    checked(&rt, rt.alloc(), input, &[], (Status::No, wrote));
+    let text = with_chip(&rt, rt.alloc(), 1, rest);
+    row_is_checked(&rt, rt.alloc(), text.as_str(), (Status::No, wrote));
 }
 
 /// Posts that name a point: two are refused.
 #[test]
 fn points_and_refusals_in_check(rt: HostRuntime) {
-    let input = b"scenario 1
-port 1 p1 soft
-port 2 p2 soft
-port 3 p3 soft
-cmd port up p1
-cmd port up p2
-cmd port up p3
-publish
-rx 1 02000000000b02000000000a88b50102
-hold
-post 1 at 5
-post 1 at 0
-post 1 at 9
-end
-transcript 1
-ok 1 3
-ok 2 3
-ok 3 3
-ok 4 0
-held 1 9
-refused 7 15
-refused 8 15
-soft 1 at 9
-tx 1 2 02000000000b02000000000a88b50102
-tx 1 3 02000000000b02000000000a88b50102
-ok 9 1
-end 9 10 1 0
-";
-    checked(&rt, rt.alloc(), input, &[], (Status::Ok, "yes\n"));
+    let text = format!(in rt.alloc();
+        "{SOFT}rx 1 02000000000b02000000000a88b50102
+hold => held 1 9
+post 1 at 5 => refused 7 15
+post 1 at 0 => refused 8 15
+post 1 at 9 => soft 1 at 9; tx 1 2 02000000000b02000000000a88b50102; tx 1 3 02000000000b02000000000a88b50102; ok 9 1
+end => end 9 10 1 0
+"
+    );
+    let answer = (Status::Ok, "yes\n");
+    row_is_checked(&rt, rt.alloc(), text.expect(&rt, "memory").as_str(), answer);
 }
 
 const DIFFERS: &[u8] = b"scenario 1\nend\ntranscript 2\n";

@@ -1,5 +1,6 @@
 //! Whole lines of words: what each command writes, and that only `replay` and `show` read.
 use super::rows::FIRST_FRAME;
+use super::starts::with_chip;
 use super::{
     ROOM, assert_bytes, assert_same, assert_that, comes_to, ran, ran_line, read_row, source_of,
     text_of, writes,
@@ -54,17 +55,7 @@ fn worked_tables(rt: HostRuntime) {
     }
 }
 
-/// Two ports of a chip beside one of software come up, and that is published: how each of these scenarios goes on behind its first
-/// line.
-const CHIP: &str = "port 1 c1 chip 1
-port 2 c2 chip 1
-port 3 f3 soft
-cmd port up c1
-cmd port up c2
-cmd port up f3
-publish
-";
-
+/// An edition, how a scenario of two ports of a chip beside one of software goes on, and what is written.
 const AUDITS: &[(u8, &str, &str)] = &[
     (
         1,
@@ -131,14 +122,10 @@ fn is_audited(
     steps: &str,
     wrote: &str,
 ) {
-    let input = format!(in alloc; "scenario {edition}\n{CHIP}{steps}").expect(rt, "memory");
-    writes(
-        rt,
-        alloc,
-        "audit",
-        (input.as_bytes(), &[]),
-        (Status::Ok, wrote),
-    );
+    let text = with_chip(rt, alloc, edition, steps);
+    let input = read_row(rt, alloc, text.as_str()).input;
+    let answer = (Status::Ok, wrote);
+    writes(rt, alloc, "audit", (input.as_bytes(), &[]), answer);
 }
 
 /// A station whose chip has its entry moves to a port of software; the chip is told; an entry is deleted and put again; and in edition

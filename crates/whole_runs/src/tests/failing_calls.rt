@@ -1,21 +1,14 @@
 //! Each call of a source and of a sink fails in turn, until a run ends without it. An unknown station is sent to.
-use super::rows::{CHIP_RUNS, CHIP_START};
+use super::rows::{SHARED, chip_scenario};
 use super::{
     Outcome, ROOM, assert_bytes, assert_same, assert_that, comes_to, ran_failing, ran_line,
-    read_row, source_of,
+    source_of,
 };
 use capture_runner::Status;
 use std::alloc::Global;
 use std::process::Abort;
 use std::sync::Wait;
 use std::thread::Threads;
-
-/// The first run with a chip: software and chip share a frame.
-fn scenario(rt: &impl Abort, alloc: Global) -> String {
-    let run = CHIP_RUNS.split("\n\n").next().expect(rt, "a run");
-    let text = format!(in alloc; "{CHIP_START}{run}\n").expect(rt, "memory");
-    read_row(rt, alloc, text.as_str()).input
-}
 
 /// A run whose first read fails, and what it writes.
 const FIRST_READS: &[(&str, &str)] = &[
@@ -37,7 +30,7 @@ const NO_READS: &[(&str, u32)] = &[
 #[test]
 fn each_read_fails(rt: HostRuntime) {
     let alloc = rt.alloc();
-    let input = scenario(&rt, alloc);
+    let input = chip_scenario(&rt, alloc, SHARED);
     for (line, wrote) in FIRST_READS {
         let outcome = ran_failing(&rt, alloc, line, input.as_bytes(), (&[1], &[]));
         comes_to(&rt, &outcome, line, (Status::ReadFault, wrote));
@@ -71,7 +64,7 @@ const NO_WRITES: &[(&str, u32)] = &[
 #[test]
 fn each_write_fails(rt: HostRuntime) {
     let alloc = rt.alloc();
-    let input = scenario(&rt, alloc);
+    let input = chip_scenario(&rt, alloc, SHARED);
     for (line, call, wrote) in WRITES {
         let outcome = ran_failing(&rt, alloc, line, input.as_bytes(), (&[], &[*call]));
         comes_to(&rt, &outcome, line, (Status::WriteFault, wrote));
@@ -131,7 +124,7 @@ fn rooms_are_too_small(
 #[test]
 fn each_room_is_too_small(rt: HostRuntime) {
     let alloc = rt.alloc();
-    let input = scenario(&rt, alloc);
+    let input = chip_scenario(&rt, alloc, SHARED);
     for line in ["replay", "show fdb", "gen 8 2", "demo 8 20"] {
         rooms_are_too_small(&rt, alloc, line, input.as_bytes());
     }

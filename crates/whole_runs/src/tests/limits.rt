@@ -1,5 +1,5 @@
 //! The longest line and the longest input; the most addresses, groups, waiting frames and changes.
-use super::rows::CHIP_START;
+use super::starts::{SOFT, with_chip};
 use super::{assert_same, ends_in, extend, is_told, joined, push, read_row};
 use capture_runner::Status;
 use std::alloc::Global;
@@ -37,7 +37,7 @@ fn with_line(rt: &impl Abort, alloc: Global, count: usize, rest: &str) -> Vec<u8
 fn longest_line(rt: HostRuntime) {
     for (count, rest, status, told) in LONG_LINES {
         let input = with_line(&rt, rt.alloc(), *count, rest);
-        is_told(&rt, rt.alloc(), &input, *status, told);
+        is_told(&rt, rt.alloc(), &input, (*status, told));
     }
 }
 
@@ -69,21 +69,11 @@ fn longest_input(rt: HostRuntime) {
     for (count, last, status, told) in LONG_INPUTS {
         let input = long_input(&rt, rt.alloc(), *count, last);
         assert_same(&rt, &input.len(), count, last);
-        is_told(&rt, rt.alloc(), &input, *status, told);
+        is_told(&rt, rt.alloc(), &input, (*status, told));
     }
 }
 
 const ONE_UP: &str = "scenario 1\nport 1 p1 soft\ncmd port up p1\n";
-
-const THREE_UP: &str = "scenario 1
-port 1 p1 soft
-port 2 p2 soft
-port 3 p3 soft
-cmd port up p1
-cmd port up p2
-cmd port up p3
-publish
-";
 
 /// A frame of so many bytes at port 1.
 fn push_frame(rt: &impl Abort, input: &mut String, count: u32) {
@@ -96,12 +86,12 @@ fn push_frame(rt: &impl Abort, input: &mut String, count: u32) {
 #[test]
 fn longest_frame(rt: HostRuntime) {
     let alloc = rt.alloc();
-    let mut input = text_from(&rt, alloc, THREE_UP);
+    let mut input = read_row(&rt, alloc, SOFT).input;
     push_frame(&rt, &mut input, 9022);
     push_frame(&rt, &mut input, 9023);
     push(&rt, &mut input, "end\n");
     let told = "ok 1 3\nok 2 3\nok 3 3\nok 4 0\nunread 2 long\nend 6 9 0 1\n";
-    is_told(&rt, alloc, input.as_bytes(), Status::Ok, told);
+    is_told(&rt, alloc, input.as_bytes(), (Status::Ok, told));
 }
 
 fn push_address(rt: &impl Abort, input: &mut String, number: u32) {
@@ -139,14 +129,14 @@ fn address_limit(rt: HostRuntime) {
         "cmd fdb add 02:00:00:01:40:00 dev p1 vlan 1 static\nend\n",
     );
     let told = "ok 16385 1\nrefused 16386 6\nok 16387 1\nok 16388 1\nend 16388 16389 16386 0\n";
-    ends_in(&rt, alloc, input.as_bytes(), Status::Ok, told);
+    ends_in(&rt, alloc, input.as_bytes(), (Status::Ok, told));
 }
 
 /// The 16,385th address is refused, and behind as many addresses the 1,025th group.
 #[test]
 fn address_and_group_limits(rt: HostRuntime) {
     let alloc = rt.alloc();
-    let mut input = text_from(&rt, alloc, THREE_UP);
+    let mut input = read_row(&rt, alloc, SOFT).input;
     push_addresses(&rt, &mut input);
     for number in 0..1025u32 {
         push_group(&rt, &mut input, number);
@@ -157,7 +147,7 @@ fn address_and_group_limits(rt: HostRuntime) {
         "cmd mdb add 239.0.3.255 dev host vlan 1\nend\n",
     );
     let told = "ok 17413 1\nrefused 17414 7\nok 17415 1\nend 17415 17418 16384 0\n";
-    ends_in(&rt, alloc, input.as_bytes(), Status::Ok, told);
+    ends_in(&rt, alloc, input.as_bytes(), (Status::Ok, told));
 }
 
 /// A frame to an unknown station.
@@ -173,19 +163,20 @@ fn overrun(rt: HostRuntime) {
     push(&rt, &mut input, FRAME);
     push(&rt, &mut input, "end\n");
     let told = "ok 1 3\noverrun 4097\nsoft 1 at 0\nok 4099 1\nend 4100 4 1 4096\n";
-    ends_in(&rt, alloc, input.as_bytes(), Status::Ok, told);
+    ends_in(&rt, alloc, input.as_bytes(), (Status::Ok, told));
 }
 
 /// At a port of the chip such a frame has still left by the chip's share.
 #[test]
 fn overrun_at_a_chip_port(rt: HostRuntime) {
     let alloc = rt.alloc();
-    let mut input = read_row(&rt, alloc, CHIP_START).input;
+    let start = with_chip(&rt, alloc, 1, "");
+    let mut input = read_row(&rt, alloc, start.as_str()).input;
     push_times(&rt, &mut input, FRAME, 4097);
     push(&rt, &mut input, "end\n");
     let told =
         "chip 4097 at 9 0 copy\ntx 4097 2 02000000000b02000000000a88b50102\noverrun 4097\nend 4101 9 0 4096\n";
-    ends_in(&rt, alloc, input.as_bytes(), Status::Ok, told);
+    ends_in(&rt, alloc, input.as_bytes(), (Status::Ok, told));
 }
 
 /// With 1,048,576 changes an event that makes one is refused, but a frame is sent all the same.
@@ -205,5 +196,5 @@ fn full_history(rt: HostRuntime) {
     push(&rt, &mut input, "serve\nnow 5\nend\n");
     let told =
         "ok 1048574 1\nok 1048575 0\nrefused 1048576 8\nsoft 1 at 0\nrefused 1048578 8\nok 1048579 0\nend 1048579 1048576 0 0\n";
-    ends_in(&rt, alloc, input.as_bytes(), Status::Ok, told);
+    ends_in(&rt, alloc, input.as_bytes(), (Status::Ok, told));
 }

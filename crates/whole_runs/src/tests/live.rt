@@ -1,5 +1,6 @@
 //! Runs by workers: what they write, where they meet, and the last line alone.
 use super::rows::FIRST_FRAME;
+use super::starts::SOFT;
 use super::{
     Outcome, ROOM, assert_bytes, assert_same, assert_that, count_lines, extend, joined, last_line,
     ran, ran_failing, ran_words, read_row, sink_of, source_of, text_of, words_of, writes,
@@ -12,18 +13,7 @@ use std::sync::Wait;
 use std::sync::atomic::{AtomicU64, Ordering};
 use std::thread::Threads;
 
-/// Three ports of software.
-const PORTS: &[u8] = b"scenario 1
-port 1 p1 soft
-port 2 p2 soft
-port 3 p3 soft
-cmd port up p1
-cmd port up p2
-cmd port up p3
-publish
-";
-
-/// A frame by each of the first two.
+/// A frame by each of two ports.
 const TWO_FRAMES: &[u8] = b"rx 1 02000000000b02000000000a88b50102
 rx 2 02000000000a02000000000b88b50102
 ";
@@ -65,9 +55,10 @@ pub(super) fn live_is_checked(
     outcome
 }
 
-/// The two frames, so many times.
+/// Three ports of software, and the two frames so many times.
 fn frames(rt: &impl Abort, alloc: Global, times: usize) -> Vec<u8> {
-    let mut input = joined(rt, alloc, &[PORTS]);
+    let start = read_row(rt, alloc, SOFT).input;
+    let mut input = joined(rt, alloc, &[start.as_bytes()]);
     for _ in 0..times {
         extend(rt, &mut input, TWO_FRAMES);
     }

@@ -1,5 +1,5 @@
 //! Neighbour messages: what `monitor` writes of a run, and the table that `follow` reads of it.
-use super::rows::FIRST_FRAME;
+use super::rows::{FIRST_FRAME, MOVED, chip_scenario};
 use super::{comes_to, ran_line, read_row, source_of, writes};
 use capture_runner::Status;
 use std::alloc::Global;
@@ -26,28 +26,7 @@ const ABSENT: &str =
 const OTHER_PADDING: &str =
     "nl 300000001c00000000000000000000000700000002000000400000000a00020002000000000a00000600050001000001\n";
 
-/// A chip has an entry, whose station then moves to a port of software.
-const MOVED: &str = "scenario 1
-port 1 c1 chip 1
-port 2 c2 chip 1
-port 3 f3 soft
-cmd port up c1
-cmd port up c2
-cmd port up f3
-publish
-cmd fdb add 02:00:00:00:00:0b dev c2 vlan 1 extern
-turn 1
-publish
-rx 3 02000000000a02000000000b88b50102
-serve
-publish
-rx 1 02000000000b02000000000a88b50102
-turn 1
-rx 1 02000000000b02000000000a88b50102
-serve
-end
-";
-
+/// Those of an entry of a chip, whose station then moves to a port of software.
 const MOVED_TOLD: &str =
     "nl 300000001c00000000000000000000000700000003000000020010000a00020002000000000b00000600050001000000
 nl 300000001c00000000000000000000000700000003000000020030000a00020002000000000b00000600050001000000
@@ -74,7 +53,8 @@ fn monitor_and_follow(rt: HostRuntime) {
     let scenario = read_row(&rt, alloc, FIRST_FRAME).input;
     is_monitored(&rt, alloc, scenario.as_str(), TWO_ENTRIES, TWO_ROWS);
     let row = "02:00:00:00:00:0b port 3 vlan 1 learned\nend\n";
-    is_monitored(&rt, alloc, MOVED, MOVED_TOLD, row);
+    let moved = chip_scenario(&rt, alloc, MOVED);
+    is_monitored(&rt, alloc, moved.as_str(), MOVED_TOLD, row);
 }
 
 const BAD_LINES: &[(&str, Status, &str)] = &[

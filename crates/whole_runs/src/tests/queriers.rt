@@ -1,5 +1,7 @@
 //! The general queries of a querier on the host.
-use super::writes;
+use super::snooping::QUERY;
+use super::starts::SOFT;
+use super::{read_row, writes};
 use capture_runner::Status;
 use std::alloc::Global;
 use std::process::Abort;
@@ -57,20 +59,10 @@ fn queries_are_due(rt: HostRuntime) {
 }
 
 /// Three ports of software, and a query from 10.0.0.9; then two moments.
-const HEARD_NINE: &str = "scenario 1
-port 1 p1 soft
-port 2 p2 soft
-port 3 p3 soft
-cmd port up p1
-cmd port up p2
-cmd port up p3
-publish
-rx 1 01005e00000102000000000e08004500001c000000000102cfd60a000009e00000011164ee9b00000000
-serve
-now 1000
-now 255000
-end
-";
+fn heard_nine(rt: &impl Abort, alloc: Global) -> String {
+    let text = format!(in alloc; "{SOFT}rx 1 {QUERY}\nserve\nnow 1000\nnow 255000\nend\n");
+    read_row(rt, alloc, text.expect(rt, "memory").as_str()).input
+}
 
 /// The host at 10.0.0.10 yields to 10.0.0.9 until it hasn't heard it for 255 seconds.
 #[test]
@@ -83,7 +75,7 @@ fn a_lower_address_asks(rt: HostRuntime) {
         &rt,
         alloc,
         TEN,
-        HEARD_NINE,
+        heard_nine(&rt, alloc).as_str(),
         wrote.expect(&rt, "memory").as_str(),
     );
 }
@@ -99,7 +91,7 @@ fn an_equal_address_is_not_yielded_to(rt: HostRuntime) {
         &rt,
         alloc,
         NINE,
-        HEARD_NINE,
+        heard_nine(&rt, alloc).as_str(),
         wrote.expect(&rt, "memory").as_str(),
     );
 }

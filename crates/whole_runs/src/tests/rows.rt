@@ -1,5 +1,6 @@
 //! Worked rows, and the causes of bad lines.
-use super::{is_told, read_row};
+use super::starts::{SOFT, with_chip};
+use super::{is_told, push, read_row};
 use capture_runner::Status;
 use std::alloc::Global;
 use std::process::Abort;
@@ -28,13 +29,29 @@ pub(super) fn row_is_told(
 ) {
     let worked = read_row(rt, alloc, text);
     let told = worked.told.as_str();
-    is_told(rt, alloc, worked.input.as_bytes(), status, told);
+    is_told(rt, alloc, worked.input.as_bytes(), (status, told));
 }
 
-/// Each of these runs ends well. An empty line stands between two of them.
-pub(super) fn runs_are_told(rt: &(impl Abort + Threads + Wait + Sync), alloc: Global, runs: &str) {
-    for text in runs.split("\n\n") {
-        row_is_told(rt, alloc, text, Status::Ok);
+/// A run that begins so, and goes on with these lines. It ends well.
+pub(super) fn run_is_told(
+    rt: &(impl Abort + Threads + Wait + Sync),
+    alloc: Global,
+    start: &str,
+    rest: &str,
+) {
+    let text = format!(in alloc; "{start}{rest}").expect(rt, "memory");
+    row_is_told(rt, alloc, text.as_str(), Status::Ok);
+}
+
+/// The same of each of these runs. An empty line stands between two of them.
+pub(super) fn runs_are_told(
+    rt: &(impl Abort + Threads + Wait + Sync),
+    alloc: Global,
+    start: &str,
+    runs: &str,
+) {
+    for rest in runs.split("\n\n") {
+        run_is_told(rt, alloc, start, rest);
     }
 }
 
@@ -74,15 +91,7 @@ serve => bad 8 unended";
 /// The refusals but those of limits and moments.
 #[test]
 fn refusals(rt: HostRuntime) {
-    let text = "scenario 1
-port 1 p1 soft
-port 2 p2 soft
-port 3 p3 soft
-cmd port up p1 => ok 1 3
-cmd port up p2 => ok 2 3
-cmd port up p3 => ok 3 3
-publish => ok 4 0
-cmd port up p1 => refused 5 1
+    let rest = "cmd port up p1 => refused 5 1
 cmd fdb add 02:00:00:00:00:0b dev p2 vlan 7 static => refused 6 3
 cmd fdb add 02:00:00:00:00:0b dev p2 vlan 1 static => ok 7 1
 cmd fdb add 02:00:00:00:00:0b dev p3 vlan 1 static => refused 8 4
@@ -96,21 +105,13 @@ cmd port down p3 => ok 15 2
 cmd link p3 flood off => refused 16 2
 end => end 16 12 0 0
 ";
-    row_is_told(&rt, rt.alloc(), text, Status::Ok);
+    run_is_told(&rt, rt.alloc(), SOFT, rest);
 }
 
 /// Frames that are held are posted as it was published then, whatever was accepted and published since, in any order.
 #[test]
 fn held_frames(rt: HostRuntime) {
-    let text = "scenario 1
-port 1 p1 soft
-port 2 p2 soft
-port 3 p3 soft
-cmd port up p1 => ok 1 3
-cmd port up p2 => ok 2 3
-cmd port up p3 => ok 3 3
-publish => ok 4 0
-hold => refused 5 10
+    let rest = "hold => refused 5 10
 rx 1 02000000000b02000000000a88b50102
 rx 2 02000000000d02000000000c88b50102
 hold => held 1 9
@@ -123,7 +124,7 @@ post 1 => refused 14 14
 post 4294967295 => refused 15 14
 end => end 15 12 3 0
 ";
-    row_is_told(&rt, rt.alloc(), text, Status::Ok);
+    run_is_told(&rt, rt.alloc(), SOFT, rest);
 }
 
 /// Memberships by command, and snooping switched off and on.
@@ -153,19 +154,8 @@ end => end 16 12 0 0
     row_is_told(&rt, rt.alloc(), text, Status::Ok);
 }
 
-/// Ports 1 and 2 of the chip and port 3 of software come up, and that is published.
-pub(super) const CHIP_START: &str = "scenario 1
-port 1 c1 chip 1
-port 2 c2 chip 1
-port 3 f3 soft
-cmd port up c1 => ok 1 3
-cmd port up c2 => ok 2 3
-cmd port up f3 => ok 3 3
-publish => ok 4 0
-";
-
-/// What follows on that in each run. An empty line stands between two runs.
-pub(super) const CHIP_RUNS: &str =
+/// What each run of a chip's ports and one of software goes on with. An empty line stands between two runs.
+const CHIP_RUNS: &str =
     "# Chip and software share a frame to an unknown station, and the chip reports its source.
 rx 1 02000000000b02000000000a88b50102 => chip 1 at 9 0 copy; tx 1 2 02000000000b02000000000a88b50102
 serve => soft 1 at 9; tx 1 3 02000000000b02000000000a88b50102; ok 6 0
@@ -254,16 +244,24 @@ sweep 1 => ok 9 0
 sweep 1 => ok 10 1
 end => end 10 11 1 1";
 
-fn chip_run_is_told(rt: &(impl Abort + Threads + Wait + Sync), alloc: Global, run: &str) {
-    let text = format!(in alloc; "{CHIP_START}{run}").expect(rt, "memory");
-    row_is_told(rt, alloc, text.as_str(), Status::Ok);
-}
-
 #[test]
 fn runs_with_a_chip(rt: HostRuntime) {
-    for run in CHIP_RUNS.split("\n\n") {
-        chip_run_is_told(&rt, rt.alloc(), run);
-    }
+    let start = with_chip(&rt, rt.alloc(), 1, "");
+    runs_are_told(&rt, rt.alloc(), start.as_str(), CHIP_RUNS);
+}
+
+/// The run of a frame that software and chip share, and that of a station which moves to a port of software.
+pub(super) const SHARED: usize = 0;
+
+pub(super) const MOVED: usize = 2;
+
+/// The scenario of the run of this number.
+pub(super) fn chip_scenario(rt: &impl Abort, alloc: Global, number: usize) -> String {
+    let rest = CHIP_RUNS.split("\n\n").nth(number).expect(rt, "a run");
+    let text = with_chip(rt, alloc, 1, rest);
+    let mut input = read_row(rt, alloc, text.as_str()).input;
+    push(rt, &mut input, "\n");
+    input
 }
 
 /// The example of an entry that the chip keeps too long.
@@ -386,7 +384,8 @@ fn third_line_is_bad(
 ) {
     let input = format!(in alloc; "scenario 1\nport 1 p1 soft\n{rest}").expect(rt, "memory");
     let told = format!(in alloc; "bad 3 {why}\n").expect(rt, "memory");
-    is_told(rt, alloc, input.as_bytes(), Status::BadLine, told.as_str());
+    let answer = (Status::BadLine, told.as_str());
+    is_told(rt, alloc, input.as_bytes(), answer);
 }
 
 /// A bad third line after the declaration of port 1, and its cause.
@@ -421,7 +420,8 @@ const PLACES: &[(&str, &str)] = &[
 #[test]
 fn numbers_and_places_of_bad_lines(rt: HostRuntime) {
     for (input, told) in PLACES {
-        is_told(&rt, rt.alloc(), input.as_bytes(), Status::BadLine, told);
+        let answer = (Status::BadLine, *told);
+        is_told(&rt, rt.alloc(), input.as_bytes(), answer);
     }
 }
 

@@ -1,38 +1,25 @@
 //! Worked runs of snooping.
-use super::rows::{row_is_told, runs_are_told};
+use super::rows::{row_is_told, run_is_told};
+use super::starts::{SOFT, with_chip};
 use capture_runner::Status;
 
-/// An empty line stands between two runs.
-const RUNS: &str =
-    "# A report whose record is cut short is flooded, and it is trapped at a port of the chip.
-scenario 1
-port 1 c1 chip 1
-port 2 c2 chip 1
-port 3 f3 soft
-cmd port up c1 => ok 1 3
-cmd port up c2 => ok 2 3
-cmd port up f3 => ok 3 3
-publish => ok 4 0
-rx 1 01005e00001602000000000a080045000020000000000102cfc50a000001e00000162200d9fe0000000104000000 => chip 1 at 9 0 trap
+/// A report whose record is cut short is flooded, and it is trapped at a port of the chip.
+const CUT_SHORT: &str =
+    "rx 1 01005e00001602000000000a080045000020000000000102cfc50a000001e00000162200d9fe0000000104000000 => chip 1 at 9 0 trap
 serve => soft 1 at 9; tx 1 0 01005e00001602000000000a080045000020000000000102cfc50a000001e00000162200d9fe0000000104000000; tx 1 2 01005e00001602000000000a080045000020000000000102cfc50a000001e00000162200d9fe0000000104000000; tx 1 3 01005e00001602000000000a080045000020000000000102cfc50a000001e00000162200d9fe0000000104000000; ok 6 0
-end => end 6 9 0 0
+end => end 6 9 0 0";
 
-# A leave with a wrong checksum is flooded, and teaches its source.
-scenario 1
-port 1 p1 soft
-port 2 p2 soft
-port 3 p3 soft
-cmd port up p1 => ok 1 3
-cmd port up p2 => ok 2 3
-cmd port up p3 => ok 3 3
-publish => ok 4 0
-rx 1 01005e00000202000000000a08004500001c000000000102cfdd0a000001e00000021700f7faef010204
+/// A leave with a wrong checksum is flooded, and teaches its source.
+const WRONG_CHECKSUM: &str =
+    "rx 1 01005e00000202000000000a08004500001c000000000102cfdd0a000001e00000021700f7faef010204
 serve => soft 1 at 9; tx 1 0 01005e00000202000000000a08004500001c000000000102cfdd0a000001e00000021700f7faef010204; tx 1 2 01005e00000202000000000a08004500001c000000000102cfdd0a000001e00000021700f7faef010204; tx 1 3 01005e00000202000000000a08004500001c000000000102cfdd0a000001e00000021700f7faef010204; ok 6 1
 end => end 6 10 1 0";
 
 #[test]
 fn runs_of_snooping(rt: HostRuntime) {
-    runs_are_told(&rt, rt.alloc(), RUNS);
+    let text = with_chip(&rt, rt.alloc(), 1, CUT_SHORT);
+    row_is_told(&rt, rt.alloc(), text.as_str(), Status::Ok);
+    run_is_told(&rt, rt.alloc(), SOFT, WRONG_CHECKSUM);
 }
 
 /// Of IGMP version 2, and of 239.1.2.3.
@@ -50,7 +37,7 @@ const LEAVE: &str =
     "01005e00000202000000000a08004500001c000000000102cfdd0a000001e00000021700f7faef010203";
 
 /// To all groups.
-const QUERY: &str =
+pub(super) const QUERY: &str =
     "01005e00000102000000000e08004500001c000000000102cfd60a000009e00000011164ee9b00000000";
 
 /// A datagram to the group.
@@ -66,23 +53,11 @@ const NEAR_STREAM: &str = "01005e00000502000000000c080045000014000000000111cfd20
 const MLD_REPORT: &str =
     "33330000123402000000000a86dd6000000000200001fe80000000000000000000000000000aff0500000000000000000000000012343a0005020000010083005bae00000000ff050000000000000000000000001234";
 
-/// Ports 1 to 3 of software come up, and that is published.
-const SOFT_START: &str = "scenario 1
-port 1 p1 soft
-port 2 p2 soft
-port 3 p3 soft
-cmd port up p1 => ok 1 3
-cmd port up p2 => ok 2 3
-cmd port up p3 => ok 3 3
-publish => ok 4 0";
-
 /// A report, a query and a leave move a stream to where it is wanted.
 #[test]
 fn snooping(rt: HostRuntime) {
-    let alloc = rt.alloc();
-    let text = format!(in alloc;
-        "{SOFT_START}
-rx 1 {REPORT}
+    let text = format!(in rt.alloc();
+        "{SOFT}rx 1 {REPORT}
 serve => soft 1 at 9; tx 1 0 {REPORT}; tx 1 2 {REPORT}; tx 1 3 {REPORT}; ok 6 2
 rx 3 {QUERY}
 serve => soft 2 at 9; tx 2 0 {QUERY}; tx 2 1 {QUERY}; tx 2 2 {QUERY}; ok 8 3
@@ -98,33 +73,38 @@ rx 2 {NEAR_STREAM}
 serve => soft 6 at 14; tx 6 0 {NEAR_STREAM}; tx 6 1 {NEAR_STREAM}; tx 6 3 {NEAR_STREAM}; ok 18 0
 end => end 18 17 3 0
 "
-    )
-    .expect(&rt, "memory");
-    row_is_told(&rt, alloc, text.as_str(), Status::Ok);
+    );
+    row_is_told(
+        &rt,
+        rt.alloc(),
+        text.expect(&rt, "memory").as_str(),
+        Status::Ok,
+    );
 }
 
 /// It lasts for 260 s.
 #[test]
 fn mld_report(rt: HostRuntime) {
-    let alloc = rt.alloc();
-    let text = format!(in alloc;
-        "{SOFT_START}
-rx 1 {MLD_REPORT}
+    let text = format!(in rt.alloc();
+        "{SOFT}rx 1 {MLD_REPORT}
 serve => soft 1 at 9; tx 1 0 {MLD_REPORT}; tx 1 2 {MLD_REPORT}; tx 1 3 {MLD_REPORT}; ok 6 2
 now 259999 => ok 7 0
 now 260000 => ok 8 1
 end => end 8 12 1 0
 "
-    )
-    .expect(&rt, "memory");
-    row_is_told(&rt, alloc, text.as_str(), Status::Ok);
+    );
+    row_is_told(
+        &rt,
+        rt.alloc(),
+        text.expect(&rt, "memory").as_str(),
+        Status::Ok,
+    );
 }
 
 /// The example of a group with members on both sides, and of a router that moves.
 #[test]
 fn split_group(rt: HostRuntime) {
-    let alloc = rt.alloc();
-    let text = format!(in alloc;
+    let text = format!(in rt.alloc();
         "scenario 1
 port 1 p1 chip 1
 port 2 p2 chip 1
@@ -159,7 +139,11 @@ now 260000 => ok 26 1
 rx 1 {OTHER_STREAM} => chip 9 at 21 0 forward; tx 9 2 {OTHER_STREAM}
 end => end 27 21 2 0
 "
-    )
-    .expect(&rt, "memory");
-    row_is_told(&rt, alloc, text.as_str(), Status::Ok);
+    );
+    row_is_told(
+        &rt,
+        rt.alloc(),
+        text.expect(&rt, "memory").as_str(),
+        Status::Ok,
+    );
 }
