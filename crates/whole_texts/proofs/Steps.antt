@@ -31,7 +31,7 @@ use Rattle.scenario_reader.specs.declared.reader.Last.TheVariants as lasts
 use Rattle.scenario_reader.specs.Reading.{Follows, IsBehindDeclarations, KeepsSetup, ReaderState, ending_of}
 use Rattle.whole_texts.specs.declared.replaying.Told.{Told}
 use Rattle.whole_texts.specs.declared.telling.Telling.{Telling}
-use Rattle.whole_texts.specs.Telling.{Does, DoesAll, HasRun, IsOver, IsReady, IsTold, Stands, end_line_of, last_line, with_steps, world_of}
+use Rattle.whole_texts.specs.Telling.{Does, DoesAll, HasRun, IsOver, IsReady, IsSteady, IsTold, Stands, end_line_of, last_line, with_steps, world_of}
 use Rattle.whole_texts.specs.Texts.{TellsWhole, ends_well}
 
 -- without a step
@@ -46,9 +46,9 @@ same_run s t setup steps = ap (λ (x : Setup). run x t.steps) setup ∙ ap (run 
 pub kept : (r : Roster) → KeepsSetup r r
 kept r = (refl, λ behind. (behind, (refl, refl)))
 
-pub moved : (s t : Scenario) (w : Option World) (all : List ℕ) → t.steps ≡ s.steps → KeepsSetup s.roster t.roster → IsTold s w all → IsTold t w all
-moved s t None all steps keeps h = record { ran = steps ∙ h.ran; ready = tt; body = h.body ∙ no_steps s h.ran ∙ sym (no_steps t (steps ∙ h.ran)) }
-moved s t (Some w) all steps keeps h =
+pub moved : (given : List ℕ) (s t : Scenario) (w : Option World) (all : List ℕ) → t.steps ≡ s.steps → KeepsSetup s.roster t.roster → IsTold given s w all → IsTold given t w all
+moved given s t None all steps keeps h = record { ran = steps ∙ h.ran; ready = tt; body = h.body ∙ no_steps s h.ran ∙ sym (no_steps t (steps ∙ h.ran)) }
+moved given s t (Some w) all steps keeps h =
     let k = keeps.1 h.ran.1 in
     let same : run_of t ≡ run_of s = same_run s t k.1.0 steps in record {
       ran = (h.ran.0 ∙ sym (ap (λ (x : Stepped). x.0) same), k.0);
@@ -61,44 +61,65 @@ pub ready_at : (r q : Roster) (w : Option World) → q.ports ≡ r.ports → IsR
 ready_at r q None same h = tt
 ready_at r q (Some w) same h = (h.0, h.1 ∙ sym (ap chips_of same))
 
+-- where no port can be declared any more
+pub steady_of : (r : Roster) (w : Option World) → IsReady r w → IsBehindDeclarations r → IsSteady r w
+steady_of r None h behind = tt
+steady_of r (Some w) h behind = (h, behind)
+
+pub ready_of : (r : Roster) (w : Option World) → IsSteady r w → IsReady r w
+ready_of r None h = tt
+ready_of r (Some w) h = h.0
+
+-- after a line that says no step
+pub steady_kept : (r q : Roster) (w : Option World) → KeepsSetup r q → IsSteady r w → IsSteady q w
+steady_kept r q None keeps h = tt
+steady_kept r q (Some w) keeps h = let k = keeps.1 h.1 in ((h.0.0, h.0.1 ∙ sym (ap chips_of k.1.1)), k.0)
+
+pub steady_by : (given : List ℕ) (s : Scenario) (x : Telling) → Stands given s x → IsSteady x.reader.roster x.world
+steady_by given s x h = subst (λ (r : Roster). IsSteady r x.world) (sym h.follows.roster) (by x.world h.so.ran h.so.ready)
+  where
+    by : (w : Option World) → HasRun s w → IsReady s.roster w → IsSteady s.roster w
+    by None ran ready = tt
+    by (Some w) ran ready = (ready, ran.1)
+
 pub stands_by : (r : Roster) (w : Option World) → IsReady r w → IfSome w IsWorld
 stands_by r None h = tt
 stands_by r (Some w) h = h.0
 
 -- before the first line
 pub begins : (x : Telling) → x.reader ≡ record { lines = 0; roster = first_roster false } → x.world ≡ None → string_bytes x.text ≡ codes "transcript 1" ++ 10 ∷ []
-    → Stands (opened false) x
+    → Stands [] (opened false) x
 begins x reader world all = record {
   follows = subst (λ (r : ReaderState). Follows (opened false) r) (sym reader) (record { lines = refl; roster = refl; going = refl });
-  so = subst (λ (w : Option World). IsTold (opened false) w (string_bytes x.text)) (sym world) (record { ran = refl; ready = tt; body = all ∙ sym (no_steps (opened false) refl) });
+  so = subst (λ (w : Option World). IsTold [] (opened false) w (string_bytes x.text)) (sym world) (record { ran = refl; ready = tt; body = all ∙ sym (no_steps (opened false) refl) });
 }
 
 -- in front of the steps of a line
 abbrev pub among : Scenario → Scenario
 among s = record { lines = s.lines + 1; roster = record s.roster { place = places.Steps }; steps = s.steps; ending = Going }
 
-pub among_stands : (s : Scenario) (x : Telling) → x.reader.lines ≡ s.lines + 1 → x.reader.roster ≡ record s.roster { place = places.Steps } → IsTold s x.world (string_bytes x.text)
-    → Stands (among s) x
-among_stands s x lines roster h = record {
+pub among_stands : (given : List ℕ) (s : Scenario) (x : Telling) → x.reader.lines ≡ s.lines + 1 → x.reader.roster ≡ record s.roster { place = places.Steps }
+    → IsTold given s x.world (string_bytes x.text) → Stands given (among s) x
+among_stands given s x lines roster h = record {
   follows = record { lines = lines; roster = roster; going = refl };
-  so = moved s (among s) x.world (string_bytes x.text) refl (refl, λ b. ((refl, refl), (refl, refl))) h;
+  so = moved given s (among s) x.world (string_bytes x.text) refl (refl, λ b. ((refl, refl), (refl, refl))) h;
 }
 
 -- steps
 
 -- what a line of a replay gives, a line of a check can give
-pub given : (check : Bool) (chips : List ℕ) (s : Step) → comes_by_line check chips s ≡ true → comes_by_line true chips s ≡ true
-given check chips (Rx port bytes) h = refl
-given check chips (Cmd command) h = refl
-given check chips (Now moment) h = h
-given check chips Serve h = refl
-given check chips Hold h = refl
-given check chips (Post id None) h = refl
-given check chips (Post id (Some point)) h = refl
-given check chips (Turn dom) h = h
-given check chips (Report dom) h = h
-given check chips (Sweep dom) h = h
-given check chips Publish h = refl
+pub given_more : (check : Bool) (chips : List ℕ) (s : Step) → comes_by_line check chips s ≡ true → comes_by_line true chips s ≡ true
+given_more check chips (Rx port bytes) h = refl
+given_more check chips (Cmd command) h = refl
+given_more check chips (Now moment) h = h
+given_more check chips Serve h = refl
+given_more check chips Hold h = refl
+given_more check chips (Post id None) h = refl
+given_more check chips (Post id (Some point)) h = refl
+given_more check chips (Turn dom) h = h
+given_more check chips (Report dom) h = h
+given_more check chips (Sweep dom) h = h
+given_more check chips Publish h = refl
 
 pub ready_after : (r : Roster) (w v : World) (step : Step) (lines : List Line) → world_step w step ≡ (v, lines) → IsReady r (Some w) → IsReady r (Some v)
 ready_after r w v step lines is h = (
@@ -127,8 +148,8 @@ body_more s step =
     ap body_of (run_push (setup_of s.roster) s.steps step)
     ∙ ap (λ (x : List ℕ). codes "transcript 1" ++ 10 ∷ x) (text-append (run_of s).1 (world_step (run_of s).0 step).1)
 
-pub does_one : (s : Scenario) (x y : Telling) (step : Step) → IsBehindDeclarations s.roster → Stands s x → Does x step y → Stands (with_steps s (step ∷ [])) y
-does_one s x y step behind h d =
+pub does_one : (given : List ℕ) (s : Scenario) (x y : Telling) (step : Step) → IsBehindDeclarations s.roster → Stands given s x → Does x step y → Stands given (with_steps s (step ∷ [])) y
+does_one given s x y step behind h d =
     let t : Scenario = with_steps s (step ∷ []) in
     let here : world_of x.reader.roster x.world ≡ (run_of s).0 = ap (λ (r : Roster). world_of r x.world) h.follows.roster ∙ world_before s x.world h.so.ran in
     let more : run_of t ≡ then_step (run_of s) step = run_push (setup_of s.roster) s.steps step in record {
@@ -137,7 +158,8 @@ does_one s x y step behind h d =
         ran = subst (λ (w : Option World). HasRun t w) (sym d.world) (ap (λ (w : World). (world_step w step).0) here ∙ sym (ap (λ (z : Stepped). z.0) more), behind);
         ready = subst (λ (r : Roster). IsReady r y.world) (ap (λ (r : ReaderState). r.roster) d.reader ∙ h.follows.roster) d.ready;
         body =
-            d.lines
+            ap (λ (b : List ℕ). given ++ b) d.lines
+            ∙ sym (append_assoc given (string_bytes x.text) (text (world_step (world_of x.reader.roster x.world) step).1))
             ∙ ap (λ (b : List ℕ). b ++ text (world_step (world_of x.reader.roster x.world) step).1) h.so.body
             ∙ ap (λ (w : World). body_of (run_of s) ++ text (world_step w step).1) here
             ∙ sym (body_more s step);
@@ -145,14 +167,14 @@ does_one s x y step behind h d =
     }
 
 pub does_none : (x : Telling) → DoesAll x [] x
-does_none x s behind h = record {
+does_none x given s behind h = record {
   follows = record { lines = h.follows.lines; roster = h.follows.roster; going = h.follows.going };
-  so = moved s (with_steps s []) x.world (string_bytes x.text) (append-nil s.steps) (kept s.roster) h.so;
+  so = moved given s (with_steps s []) x.world (string_bytes x.text) (append-nil s.steps) (kept s.roster) h.so;
 }
 
 pub does_more : (x y z : Telling) (steps : List Step) (step : Step) → DoesAll x steps y → Does y step z → DoesAll x (steps ++ step ∷ []) z
-does_more x y z steps step does d s behind h =
-    subst (λ (l : List Step). Stands (record s { steps = l }) z) (append_assoc s.steps steps (step ∷ [])) (does_one (with_steps s steps) y z step behind (does s behind h) d)
+does_more x y z steps step does d given s behind h =
+    subst (λ (l : List Step). Stands given (record s { steps = l }) z) (append_assoc s.steps steps (step ∷ [])) (does_one given (with_steps s steps) y z step behind (does given s behind h) d)
 
 pub nothing_left : (steps : List Step) → length steps ≡ 0 → steps ≡ []
 nothing_left [] h = refl
@@ -174,14 +196,14 @@ last_is : (s : Scenario) (w : Option World) (last : Last) → HasRun s w → las
 last_is s w lasts.Ended h = ap line_text (last_world s w h)
 last_is s w (lasts.Bad n why) h = refl
 
-pub tells_whole : (bytes : List ℕ) (w : Option World) (all : List ℕ) (last : Last) (y : Told) → IsOver (scenario bytes) w all last → string_bytes y.text ≡ all ++ last_line last w
-    → y.well ≡ ends_well (ending_of last) → TellsWhole bytes y
+pub told_is : (given bytes : List ℕ) (w : Option World) (all : List ℕ) (last : Last) → IsOver given (scenario bytes) w all last → given ++ (all ++ last_line last w) ≡ told bytes
 unfolding told
-tells_whole bytes w all last y h is well = record {
-  text =
-      is
-      ∙ ap (λ (b : List ℕ). b ++ last_line last w) h.so.body
-      ∙ ap (λ (b : List ℕ). body_of (run_of (scenario bytes)) ++ b)
-      (last_is (scenario bytes) w last h.so.ran ∙ ap (λ (d : Ending). last_text d (run_of (scenario bytes)).0) (sym h.ends));
-  well = well ∙ ap ends_well (sym h.ends);
-}
+told_is given bytes w all last h =
+    sym (append_assoc given all (last_line last w))
+    ∙ ap (λ (b : List ℕ). b ++ last_line last w) h.so.body
+    ∙ ap (λ (b : List ℕ). body_of (run_of (scenario bytes)) ++ b)
+    (last_is (scenario bytes) w last h.so.ran ∙ ap (λ (d : Ending). last_text d (run_of (scenario bytes)).0) (sym h.ends))
+
+pub tells_whole : (bytes : List ℕ) (w : Option World) (all : List ℕ) (last : Last) (y : Told) → IsOver [] (scenario bytes) w all last → string_bytes y.text ≡ all ++ last_line last w
+    → y.well ≡ ends_well (ending_of last) → TellsWhole bytes y
+tells_whole bytes w all last y h is well = record { text = is ∙ told_is [] bytes w all last h; well = well ∙ ap ends_well (sym h.ends) }

@@ -1,5 +1,5 @@
 -- What the lines of a scenario tell, one after another.
-use Rattle.std.specs.Prelude.{◌≡◌, ℕ, ◌≤◌, true, List, [], ◌++◌, length, string_bytes}
+use Rattle.std.specs.Prelude.{◌≡◌, ℕ, ◌≤◌, true, List, [], ◌∷◌, ◌++◌, length, string_bytes}
 use Rattle.std.specs.declared.option.Option.{Option}
 use Rattle.std.specs.declared.option.Option.TheVariants.{None, Some}
 use Rattle.std.specs.declared.result.Result.TheVariants.{Ok}
@@ -12,14 +12,17 @@ use Rattle.br_model.specs.Plane.Steps.{world_step}
 use Rattle.br_model.specs.Plane.World.{World, first_world}
 use Rattle.br_model.specs.Program.Runs.{body_of, run_of, setup_of}
 use Rattle.br_model.specs.Table.Domains.{chip_domains}
+use Rattle.br_model.specs.Text.Operands.{longest_section}
 use Rattle.br_model.specs.Text.Roster.{Roster, chips_of}
-use Rattle.br_model.specs.Text.Scenario.{Scenario, Progress, Going, closes, read, whole_says}
+use Rattle.br_model.specs.Text.Scenario.{Scenario, Progress, Going, closes, read, reads, whole_says}
 use Rattle.br_model.specs.Text.Transcript.{bad_text, line_text, text}
 use Rattle.br_model.specs.Theorems.Invariants.{IsWorld}
 use Rattle.br_model.specs.Theorems.WholeLines.{is_line}
 use Rattle.scenario_reader.specs.declared.reader.Last.{Last}
 use Rattle.scenario_reader.specs.declared.reader.Last.TheVariants as lasts
 use Rattle.scenario_reader.specs.Reading.{Follows, IsBehindDeclarations, captures, ending_of}
+use Rattle.whole_texts.specs.declared.telling.Taken.{Taken}
+use Rattle.whole_texts.specs.declared.telling.Taken.TheVariants as taken
 use Rattle.whole_texts.specs.declared.telling.Telling.{Telling}
 use Rattle.whole_texts.specs.declared.telling.Went.{Went}
 use Rattle.whole_texts.specs.declared.telling.Went.TheVariants.{On, Ends}
@@ -36,26 +39,31 @@ abbrev pub IsReady : Roster → Option World → Type 0
 IsReady roster None = Unit {0}
 IsReady roster (Some w) = IsWorld w × (chip_domains w.setup.domains ≡ chips_of roster.ports)
 
+-- the same, and where there is a world no port can be declared any more
+abbrev pub IsSteady : Roster → Option World → Type 0
+IsSteady roster None = Unit {0}
+IsSteady roster (Some w) = IsReady roster (Some w) × IsBehindDeclarations roster
+
 -- the world after the scenario's steps, where there are any
 abbrev pub HasRun : Scenario → Option World → Type 0
 HasRun s None = s.steps ≡ []
 HasRun s (Some w) = (w ≡ (run_of s).0) × IsBehindDeclarations s.roster
 
--- The text is all that is told of the scenario before its last line.
-pub record IsTold (s : Scenario) (w : Option World) (all : List ℕ) : Type 0 where
+-- Some text was given before; with this one it is all that is told of the scenario before its last line.
+pub record IsTold (given : List ℕ) (s : Scenario) (w : Option World) (all : List ℕ) : Type 0 where
   pub ran : HasRun s w
   pub ready : IsReady s.roster w
-  pub body : all ≡ body_of (run_of s)
+  pub body : given ++ all ≡ body_of (run_of s)
 
 -- The scenario goes on, and was read so far.
-pub record Stands (s : Scenario) (x : Telling) : Type 0 where
+pub record Stands (given : List ℕ) (s : Scenario) (x : Telling) : Type 0 where
   pub follows : Follows s x.reader
-  pub so : IsTold s x.world (string_bytes x.text)
+  pub so : IsTold given s x.world (string_bytes x.text)
 
 -- The scenario ends so.
-pub record IsOver (s : Scenario) (w : Option World) (all : List ℕ) (last : Last) : Type 0 where
+pub record IsOver (given : List ℕ) (s : Scenario) (w : Option World) (all : List ℕ) (last : Last) : Type 0 where
   pub ends : s.ending ≡ ending_of last
-  pub so : IsTold s w all
+  pub so : IsTold given s w all
 
 -- steps
 
@@ -76,17 +84,40 @@ with_steps s steps = record s { steps = s.steps ++ steps }
 
 -- steps were done, whatever was before them
 abbrev pub DoesAll : Telling → List Step → Telling → Type 0
-DoesAll old steps new = (s : Scenario) → IsBehindDeclarations s.roster → Stands s old → Stands (with_steps s steps) new
+DoesAll old steps new = (given : List ℕ) (s : Scenario) → IsBehindDeclarations s.roster → Stands given s old → Stands given (with_steps s steps) new
 
 -- lines
 
 -- A line `capture` of so many bytes was read, its section is next.
-pub record AtSection (s : Scenario) (line : List ℕ) (n : ℕ) (x : Telling) : Type 0 where
+pub record AtSection (given : List ℕ) (s : Scenario) (line : List ℕ) (n : ℕ) (x : Telling) : Type 0 where
   pub feedless : is_line line ≡ true
   pub says : whole_says s.roster line ≡ Ok (said.Captures n)
   pub going : s.ending ≡ Going
   pub follows : Follows (captures s n) x.reader
-  pub so : IsTold s x.world (string_bytes x.text)
+  pub so : IsTold given s x.world (string_bytes x.text)
+
+-- Whatever comes behind these bytes, this scenario reads it on.
+pub record ReadsOn (given : List ℕ) (s : Scenario) (front : List ℕ → List ℕ) (x : Telling) : Type 0 where
+  pub scenario : Scenario
+  pub reads_so : (more : List ℕ) → read 0 s (front more) ≡ read 0 scenario more
+  pub stands : Stands given scenario x
+
+-- A whole line was taken: nothing more is to be done, its section is next, or the scenario ends so.
+abbrev pub After : List ℕ → Scenario → List ℕ → Telling → Taken → Type 0
+After given s line x taken.On = ReadsOn given s (λ more. line ++ 10 ∷ more) x
+After given s line x (taken.Section n) = AtSection given s line n x
+After given s line x (taken.Ends last) = (more : List ℕ) → IsOver given (reads s (line ++ 10 ∷ more)) x.world (string_bytes x.text) last
+
+-- its section, too
+abbrev pub AfterSection : List ℕ → Scenario → List ℕ → List ℕ → Telling → Option Last → Type 0
+AfterSection given s line section x None = ReadsOn given s (λ more. line ++ 10 ∷ (section ++ more)) x
+AfterSection given s line section x (Some last) = (more : List ℕ) → IsOver given (reads s (line ++ 10 ∷ (section ++ more))) x.world (string_bytes x.text) last
+
+-- what a reader has behind a line
+abbrev pub IsBehind : Roster → Taken → Type 0
+IsBehind roster taken.On = Unit {0}
+IsBehind roster (taken.Section n) = (n ≤ longest_section) × IsBehindDeclarations roster
+IsBehind roster (taken.Ends last) = Unit {0}
 
 -- where the bytes end there
 abbrev pub closing : Progress → Scenario
@@ -95,12 +126,12 @@ closing p = closes p.scenario p.line
 -- Of these bytes the last ones are left, before which the scenario goes on.
 pub record GoesOn (s : Scenario) (bytes : List ℕ) (x : Telling) (rest : List ℕ) : Type 0 where
   pub scenario : Scenario
-  pub reads : read 0 s bytes ≡ read 0 scenario rest
-  pub stands : Stands scenario x
+  pub reads_so : read 0 s bytes ≡ read 0 scenario rest
+  pub stands : Stands [] scenario x
 
 abbrev pub Goes : Scenario → List ℕ → Telling → Went → Type 0
 Goes s bytes x (On rest) = GoesOn s bytes x rest.now
-Goes s bytes x (Ends last) = IsOver (closing (read 0 s bytes)) x.world (string_bytes x.text) last
+Goes s bytes x (Ends last) = IsOver [] (closing (read 0 s bytes)) x.world (string_bytes x.text) last
 
 -- no more is left than was behind the line
 abbrev pub IsLeft : List ℕ → Went → Type 0

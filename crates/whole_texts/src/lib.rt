@@ -1,11 +1,15 @@
-//! What whole texts in memory come to: the transcript of a scenario, and the table of lines of messages. No handle is needed.
+//! What texts in memory come to: the transcript of a scenario, whole or line by line, and the table of lines of messages. No handle is
+//! needed.
 #![tactic(auto)]
 
 mod following;
 mod fronts;
+mod heap_world;
 mod replaying;
+mod session;
 mod telling;
 
 pub use br_model::NoMemory;
 pub use following::follow;
 pub use replaying::{Told, replay};
+pub use session::{Session, SessionFault};

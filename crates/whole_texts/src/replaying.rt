@@ -16,7 +16,8 @@ pub struct Told {
     pub well: bool,
 }
 
-fn is_well(last: Last) -> bool
+/// Whether it is the line `end`.
+pub(crate) fn is_well(last: Last) -> bool
     ensures { result ≡ ends_well (ending_of last) }
 {
     match last {

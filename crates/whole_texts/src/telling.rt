@@ -8,20 +8,31 @@ ghost use Rattle.br_model.specs.Text.Roster.{chips_of};
 ghost use Rattle.br_model.specs.Text.Scenario.{Scenario, opened, read, scenario};
 ghost use Rattle.br_model.specs.Theorems.Invariants.{IsWorld};
 ghost use Rattle.br_model.specs.Theorems.WholeLines.{is_line};
-ghost use Rattle.whole_texts.specs.Telling.{AtSection, Does, DoesAll, Goes, IsAfter, IsLeft, IsOver, IsReady, Stands, closing, end_line_of, last_line, world_of};
+ghost use Rattle.whole_texts.specs.Telling.{After, AfterSection, AtSection, Does, DoesAll, Goes, IsAfter, IsBehind, IsLeft, IsOver, IsReady, IsSteady, Stands, closing, end_line_of, last_line, world_of};
 
 use crate::NoMemory;
 use crate::fronts::{Front, LONGEST_LINE, first_line};
+use crate::heap_world::HeapWorld;
 use br_model::scenario::LineWhy;
 use br_model::steps::Step;
 use br_model::transcript::Line;
-use check_world::World;
 use scenario_reader::{Captured, Last, Next, Reader};
 use std::alloc::Global;
 use transcript_lines::Lines;
 use transcript_text::{Writer, append_bad};
 
-/// What comes after a line: the scenario goes on with these bytes, or it ends so.
+/// What comes after a line.
+#[derive(Drop)]
+pub(crate) enum Taken {
+    /// The next line.
+    On,
+    /// Its section, of so many bytes.
+    Section(u32),
+    /// The scenario ends so.
+    Ends(Last),
+}
+
+/// What comes after a line and its section: the scenario goes on with these bytes, or it ends so.
 #[derive(Drop)]
 enum Went<'a> {
     On(&'a [u8]),
@@ -33,7 +44,7 @@ enum Went<'a> {
 pub(crate) struct Telling {
     reader: Reader,
     // Made at the first step.
-    world: Option<World>,
+    world: Option<HeapWorld>,
     // The lines of a step, in the memory of those before.
     told: Lines,
     writer: Writer,
@@ -44,7 +55,7 @@ pub(crate) struct Telling {
 impl Telling {
     /// Before the first line.
     pub(crate) fn make(alloc: Global) -> Result<Telling, NoMemory>
-        ensures { IfOk result (Stands (opened false)) }
+        ensures { IfOk result (Stands [] (opened false)) }
     {
         let mut text = String::new(alloc);
         text.push_str("transcript 1\n")?;
@@ -57,8 +68,7 @@ impl Telling {
         })
     }
 
-    /// Does the first step, in a new world. A world is large: only this call pays for the room of a local one.
-    #[inline(never)]
+    /// Does the first step, in a new world.
     fn begin(&mut self, alloc: Global, step: Step) -> Result<(), NoMemory>
         requires by_line { comes_by_line true (chips_of self.old.reader.roster.ports) step ≡ true }
         requires empty { self.old.told.lines ≡ [] }
@@ -68,7 +78,7 @@ impl Telling {
         ensures does { OnOk result (IsAfter (world_of self.old.reader.roster None) step self.new) }
     {
         let roster = self.reader.roster();
-        let mut world = World::make(alloc, roster.domains(), roster.own())?;
+        let mut world = HeapWorld::make(alloc, roster.domains(), roster.own())?;
         world.step(alloc, step, &mut self.told)?;
         self.world = Some(world);
         Ok(())
@@ -105,12 +115,59 @@ impl Telling {
         requires ready { IsReady self.old.reader.roster self.old.world }
         requires by_line { list_all (comes_by_line true (chips_of self.old.reader.roster.ports)) steps.items ≡ true }
         ensures reader { OnOk result (self.new.reader ≡ self.old.reader) }
+        ensures ready { OnOk result (IsReady self.new.reader.roster self.new.world) }
         ensures does { OnOk result (DoesAll self.old steps.items self.new) }
     {
         for step in steps {
             self.step(alloc, step)?;
         }
         Ok(())
+    }
+
+    /// Does the steps of the section of the line before, or answers how the scenario ends in it.
+    pub(crate) fn take_section(
+        &mut self,
+        alloc: Global,
+        section: &[u8],
+    ) -> Result<Option<Last>, NoMemory>
+        requires most { length section.now ≤ longest_section }
+        requires ready { IsReady self.old.reader.roster self.old.world }
+        ensures reader { OnOk result (self.new.reader ≡ self.old.reader) }
+        ensures ready { OnOk result (IsReady self.new.reader.roster self.new.world) }
+        ensures after { IfOk result (λ end. (given : List ℕ) (s : Scenario) (line : List ℕ) → AtSection given s line (length section.now) self.old
+            → AfterSection given s line section.now self.new end) }
+    {
+        match self.reader.captured(alloc, section)? {
+            Captured::Steps(steps) => {
+                self.do_steps(alloc, steps)?;
+                Ok(None)
+            }
+            Captured::End(last) => Ok(Some(last)),
+        }
+    }
+
+    /// Takes a whole line, up to its section where it has one.
+    pub(crate) fn take(&mut self, alloc: Global, line: &[u8]) -> Result<Taken, NoMemory>
+        requires few { self.old.reader.lines < 2 ^ 32 - 1 }
+        requires feedless { is_line line.now ≡ true }
+        requires steady { IsSteady self.old.reader.roster self.old.world }
+        ensures lines { OnOk result (self.new.reader.lines ≤ self.old.reader.lines + 1) }
+        ensures steady { OnOk result (IsSteady self.new.reader.roster self.new.world) }
+        ensures behind { IfOk result (IsBehind self.new.reader.roster) }
+        ensures after { IfOk result (λ taken. (given : List ℕ) (s : Scenario) → Stands given s self.old → After given s line.now self.new taken) }
+    {
+        if line.len() > LONGEST_LINE {
+            return Ok(Taken::Ends(self.reader.bad(LineWhy::Long)));
+        }
+        match self.reader.take(alloc, line)? {
+            Next::Line => Ok(Taken::On),
+            Next::Step(step) => {
+                self.step(alloc, step)?;
+                Ok(Taken::On)
+            }
+            Next::Section(length) => Ok(Taken::Section(length)),
+            Next::End(last) => Ok(Taken::Ends(last)),
+        }
     }
 
     /// Reads the section of the line before, of so many of these bytes, and does its steps.
@@ -121,22 +178,19 @@ impl Telling {
         behind: &'a [u8],
     ) -> Result<Went<'a>, NoMemory>
         requires most { length ≤ longest_section }
-        requires at { (s : Scenario) × (line : List ℕ) × AtSection s line length self.old }
+        requires ready { IsReady self.old.reader.roster self.old.world }
         ensures lines { OnOk result (self.new.reader.lines ≡ self.old.reader.lines) }
         ensures left { IfOk result (IsLeft behind.now) }
-        ensures goes { IfOk result (λ went. (s : Scenario) (line : List ℕ) → AtSection s line length self.old
+        ensures goes { IfOk result (λ went. (s : Scenario) (line : List ℕ) → AtSection [] s line length self.old
             → Goes s (line ++ 10 ∷ behind.now) self.new went) }
     {
         let length = length as usize;
         if behind.len() < length {
             return Ok(Went::Ends(self.reader.bad_section(LineWhy::Unended)));
         }
-        match self.reader.captured(alloc, &behind[..length])? {
-            Captured::Steps(steps) => {
-                self.do_steps(alloc, steps)?;
-                Ok(Went::On(&behind[length..]))
-            }
-            Captured::End(last) => Ok(Went::Ends(last)),
+        match self.take_section(alloc, &behind[..length])? {
+            None => Ok(Went::On(&behind[length..])),
+            Some(last) => Ok(Went::Ends(last)),
         }
     }
 
@@ -144,23 +198,16 @@ impl Telling {
     fn line<'a>(&mut self, alloc: Global, front: Front<'a>) -> Result<Went<'a>, NoMemory>
         requires few { self.old.reader.lines < 2 ^ 32 - 1 }
         requires feedless { is_line front.line.now ≡ true }
-        requires stands { (s : Scenario) × Stands s self.old }
+        requires steady { IsSteady self.old.reader.roster self.old.world }
         ensures lines { OnOk result (self.new.reader.lines ≤ self.old.reader.lines + 1) }
         ensures left { IfOk result (IsLeft front.entry.behind.now) }
-        ensures goes { IfOk result (λ went. (s : Scenario) → Stands s self.old
+        ensures goes { IfOk result (λ went. (s : Scenario) → Stands [] s self.old
             → Goes s (front.entry.line.now ++ 10 ∷ front.entry.behind.now) self.new went) }
     {
-        if front.line.len() > LONGEST_LINE {
-            return Ok(Went::Ends(self.reader.bad(LineWhy::Long)));
-        }
-        match self.reader.take(alloc, front.line)? {
-            Next::Line => Ok(Went::On(front.behind)),
-            Next::Step(step) => {
-                self.step(alloc, step)?;
-                Ok(Went::On(front.behind))
-            }
-            Next::Section(length) => self.section(alloc, length, front.behind),
-            Next::End(last) => Ok(Went::Ends(last)),
+        match self.take(alloc, front.line)? {
+            Taken::On => Ok(Went::On(front.behind)),
+            Taken::Section(length) => self.section(alloc, length, front.behind),
+            Taken::Ends(last) => Ok(Went::Ends(last)),
         }
     }
 
@@ -168,8 +215,8 @@ impl Telling {
     fn close(&self, rest: &[u8]) -> Last
         requires few { self.now.reader.lines < 2 ^ 32 - 1 }
         requires feedless { is_line rest.now ≡ true }
-        ensures { (s : Scenario) → Stands s self.now
-            → IsOver (closing (read 0 s rest.now)) self.now.world (string_bytes self.now.text) result }
+        ensures { (s : Scenario) → Stands [] s self.now
+            → IsOver [] (closing (read 0 s rest.now)) self.now.world (string_bytes self.now.text) result }
     {
         if rest.len() > LONGEST_LINE {
             return self.reader.bad(LineWhy::Long);
@@ -179,9 +226,9 @@ impl Telling {
 
     /// Takes a whole scenario, and answers how it ends.
     pub(crate) fn read(&mut self, alloc: Global, bytes: &[u8]) -> Result<Last, NoMemory>
-        requires first { Stands (opened false) self.old }
+        requires first { Stands [] (opened false) self.old }
         requires few { length bytes.now ≤ most_bytes }
-        ensures { IfOk result (IsOver (scenario bytes.now) self.new.world (string_bytes self.new.text)) }
+        ensures { IfOk result (IsOver [] (scenario bytes.now) self.new.world (string_bytes self.new.text)) }
     {
         let mut rest = bytes;
         while let Some(front) = first_line(rest) {
@@ -208,7 +255,8 @@ impl Telling {
         }
     }
 
-    fn append_last(&mut self, last: Last) -> Result<(), NoMemory>
+    /// Writes the last line of a scenario that ends so.
+    pub(crate) fn append_last(&mut self, last: Last) -> Result<(), NoMemory>
         requires { IfSome self.old.world IsWorld }
         ensures { OnOk result (string_bytes self.new.text ≡ string_bytes self.old.text ++ last_line last self.old.world) }
     {
@@ -219,6 +267,22 @@ impl Telling {
             }
             Last::Bad(number, why) => append_bad(number, why, &mut self.text),
         }
+    }
+
+    /// The text that was not let go.
+    pub(crate) fn text(&self) -> &[u8]
+        ensures { result.now ≡ string_bytes self.now.text }
+    {
+        self.text.as_bytes()
+    }
+
+    /// Lets the text go.
+    pub(crate) fn let_go(&mut self)
+        ensures reader { self.new.reader ≡ self.old.reader }
+        ensures world { self.new.world ≡ self.old.world }
+        ensures text { string_bytes self.new.text ≡ [] }
+    {
+        self.text.clear();
     }
 
     /// The text, with the last line of a scenario that ends so.

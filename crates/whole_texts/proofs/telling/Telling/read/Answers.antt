@@ -1,8 +1,9 @@
-use Rattle.std.proofs.Common.{◌∷◌, ◌++◌, false, List, ℕ, length, sym, ap, subst, arith, length-append, string_bytes}
+use Rattle.std.proofs.Common.{[], ◌∷◌, ◌++◌, false, List, ℕ, length, sym, ap, subst, arith, length-append, string_bytes}
 use Rattle.br_model.specs.Text.Scenario.{opened, read}
 use Rattle.whole_texts.specs.declared.telling.Went.{Went}
 use Rattle.whole_texts.specs.Telling.{Goes, IsLeft, IsOver, closing}
 use Rattle.whole_texts.proofs.Lines.{line_on, stays_at, whole_over}
+use Rattle.whole_texts.proofs.Steps.{steady_by}
 use Rattle.whole_texts.proofs.telling.Telling.read.Goals as goal
 
 pub loop-front-init : goal.loop-front-init
@@ -11,8 +12,8 @@ loop-front-init c = record {
   goes = stays_at (opened false) c.args.bytes.now c.args.self.now c.requires.first;
 }
 
-pub line-requires-clause-stands : goal.line-requires-clause-stands
-line-requires-clause-stands c = let on = c.loop-front.invariant.goes in (on.scenario, on.stands)
+pub line-requires-clause-steady : goal.line-requires-clause-steady
+line-requires-clause-steady c = let on = c.loop-front.invariant.goes in steady_by [] on.scenario _ on.stands
 
 pub loop-front-preserved : goal.loop-front-preserved
 loop-front-preserved c =
@@ -34,7 +35,7 @@ returns-in-Ends c =
     let on = c.loop-front.invariant.goes in
     let new = c.line.new.self in
     whole_over c.args.bytes.now c.loop-front.rest.now c.loop-front.self new.world (string_bytes new.text) c.in-Ends.last on
-    (subst (λ (b : List ℕ). IsOver (closing (read 0 on.scenario b)) new.world (string_bytes new.text) c.in-Ends.last) (sym front.joined)
+    (subst (λ (b : List ℕ). IsOver [] (closing (read 0 on.scenario b)) new.world (string_bytes new.text) c.in-Ends.last) (sym front.joined)
     (subst (λ (w : Went). Goes on.scenario (line ++ 10 ∷ behind) c.line.new.self w) c.in-Ends.is (c.in_ok-behind.ensures.goes on.scenario on.stands)))
 
 pub returns : goal.returns
