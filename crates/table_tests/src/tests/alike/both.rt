@@ -1,6 +1,8 @@
 //! A chip and software after the same changes.
-ghost use Rattle.std.specs.Prelude.{◌≢◌, ◌<◌};
+ghost use Rattle.std.specs.Prelude.{◌≡◌, ◌≢◌, ◌<◌};
 ghost use Rattle.br_model.specs.Table.Domains.{host, software};
+ghost use Rattle.br_model.specs.Table.Table.{start};
+ghost use Rattle.chip_driver.specs.Drives.{Drives};
 
 use crate::tests::common::assert_same;
 use br_model::change::{Change, FORWARDING, Update};
@@ -81,6 +83,23 @@ fn declared(rt: &impl Abort, edition: Edition) -> Domains {
     domains
 }
 
+/// The driver of the chip of a domain, before any change.
+fn driver(rt: &impl Abort, alloc: Global, dom: Dom, domains: &Domains) -> Box<Driver>
+    requires { dom ≢ software }
+    ensures { Drives domains.now result.value start }
+{
+    let driver = Driver::make(alloc, dom, domains).expect(rt, "memory");
+    Box::new(alloc, driver).expect(rt, "memory")
+}
+
+/// Software's tables, before any change.
+fn soft(rt: &impl Abort, alloc: Global) -> Box<SoftTables>
+    ensures { result.value ≡ start }
+{
+    let soft = SoftTables::make(alloc).expect(rt, "memory");
+    Box::new(alloc, soft).expect(rt, "memory")
+}
+
 /// The chips and what software has beside each, before any change.
 pub(crate) fn each_chip(rt: &impl Abort, alloc: Global, edition: Edition) -> [Both; 4] {
     [
@@ -122,12 +141,11 @@ impl Both {
     /// The chip of the domain of this number, before any change.
     pub(crate) fn make(rt: &impl Abort, alloc: Global, edition: Edition, number: u8) -> Both {
         let domains = declared(rt, edition);
-        let driver = Driver::make(alloc, domain(rt, number), &domains).expect(rt, "memory");
-        let soft = SoftTables::make(alloc).expect(rt, "memory");
+        let driver = driver(rt, alloc, domain(rt, number), &domains);
         Both {
             domains,
-            driver: Box::new(alloc, driver).expect(rt, "memory"),
-            soft: Box::new(alloc, soft).expect(rt, "memory"),
+            driver,
+            soft: soft(rt, alloc),
             waiting: VecDeque::new(alloc),
         }
     }
