@@ -1,13 +1,12 @@
 -- The machine values of a handle.
-use Rattle.std.proofs.Common.{◌≡◌, ℕ, Bool, true, false, List, [], ◌∷◌, ◌++◌, refl, sym, ap, subst, lit<}
+use Rattle.std.proofs.Common.{◌≡◌, ℕ, Bool, true, false, List, [], ◌∷◌, ◌++◌, refl, subst, lit<}
 use mathlib.Core.Bool.{◌&&◌}
 use lib.Dec.{T}
 use seplogic.Ra.Ura.{Ura}
 use mir.Syntax.{ty_ptr, ty_bool}
 use mir.Raw.{raw as bare}
-use mir.Val.{Val, vptr, vbool, vint, vstruct, of_list, has_ty, WT}
+use mir.Val.{Val, vptr, vbool, vstruct, of_list, has_ty, WT}
 use base.Logic.{never, fst∗}
-use base.Fml.{ftrue, fex}
 use types.Logic.{Logic, sem}
 use types.Kit.{Item, Goal, Seq, Step, step, ‵, ◌$◌, drop, fsplit, fjoin, fpick, fpack, feq_i, feq_l}
 use denote.RattleType.{RattleType, Valss}

@@ -195,9 +195,6 @@ module _ (after : Option Session) where
     others = refl;
   }
 
-  pub opens_none : after ≡ None → Opens after 6
-  opens_none is = record { ok = λ e. absurd (omega (arith, e)); no_memory = λ _. is; others = refl }
-
   pub ends : (h : Option Session) (x : Session) → h ≡ Some x → after ≡ None → Ends h after 0
   ends h x is none = subst (λ (o : Option Session). Ends o after 0) (sym is) (refl, none)
 

@@ -1,6 +1,6 @@
 use Rattle.std.proofs.Common.{subst, sym}
 use Rattle.whole_texts.specs.Sessions.{IsSound}
-use Rattle.switchbr_c.proofs.Sessions.{opens, opens_none}
+use Rattle.switchbr_c.proofs.Sessions.{opens}
 use Rattle.switchbr_c.proofs.switchbr_open.Goals as goal
 
 pub put-requires : goal.put-requires

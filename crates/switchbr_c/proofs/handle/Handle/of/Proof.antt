@@ -1,38 +1,33 @@
 -- `of` keeps what the box owns.
-use Rattle.std.proofs.Common.{◌≡◌, List, [], ◌∷◌, ◌++◌, true, false, refl, sym, subst, lit<, w64}
-use mir.Val.{Val, vptr, vint, vbool, vcons, vnil}
+use Rattle.std.proofs.Common.{◌≡◌, List, [], ◌∷◌, ◌++◌, true, refl, sym, subst}
+use mir.Val.{Val, vptr, vbool}
 use base.Logic.{SProp, ent, emp, id⊢}
 use base.Fml.{ftrue}
 use prog.Wp.{WpFn}
-use types.Kit.{‵, raw, ◌⊛◌, at_ret, ◌$◌, ◌∵◌, !, qed, by, move, keep, drop, split, fsplit, fjoin, fpack, suffices, use0, use1}
-use types.Run.{stop, fld, lit, of_opd, true_lit, false_lit, no_more, and_then, first, branches, exec, returns, enter}
-use types.ByLocal.{alloc_all, pass_all, free_all, look_at, get, get_in, sets, sets_last, env}
+use types.Kit.{‵, raw, ◌⊛◌, ◌$◌, ◌∵◌, !, qed, by, move, keep, drop, split, fsplit, fjoin, fpack, suffices, use0}
+use types.Run.{stop, fld, of_opd, true_lit, no_more, and_then, returns, enter}
+use types.ByLocal.{alloc_all, pass_all, free_all, look_at, get, get_in, sets, env}
 use types.Part.{agg, sub, whole}
-use types.Match.{live}
 use contract.Monad.{fact, fact_i}
 use contract.Running.{tables}
 use denote.Exit.{yes}
 use denote.RattleType.{RattleType, owns}
-use denote.Param.{layout}
-use denote.Signature.{types_at, type_at, plain}
-use denote.RawPtr.{block_ptr, null_ptr, ptr_val}
+use denote.Signature.{types_at, plain}
+use denote.RawPtr.{block_ptr}
 use denote.Steps.{nothing, heard}
 use denote.Triple.Walked.{Stays, stay_dropped, walk_of}
 use Rattle.std.specs.declared.alloc.Global.{Global}
-use Rattle.std.specs.declared.option.Option.TheVariants.{None, Some}
+use Rattle.std.specs.declared.option.Option.TheVariants.{Some}
 use Rattle.std.specs.contracts.alloc.Global.{the_row as Z}
 use Rattle.std.specs.contracts.impls.GlobalAllocator.TheImpl.{ghosts}
 use Rattle.std.specs.Box.Ownership.{box_owns}
-use Rattle.std.proofs.alloc.Calls.{Al, Goes-blank, handle_tells}
+use Rattle.std.proofs.alloc.Calls.{Goes-blank}
 use Rattle.std.proofs.alloc.Global.TheLaws.{the_row_laws as LZ}
-use Rattle.std.proofs.alloc.Shapes.{after}
-use Rattle.std.proofs.option.Made.{Some-of, none_of}
-use Rattle.std.proofs.ResultValues.{and_tt}
 use Rattle.std.proofs.raw_atomic.Walks.{proved_at, leaves}
 use Rattle.whole_texts.specs.contracts.session.Session.{the_row as R}
 use Rattle.whole_texts.specs.Sessions.{IsSound}
-use Rattle.switchbr_c.proofs.Looses.{Loose, al, both, loose_good, loose_in, loose_out}
-use Rattle.switchbr_c.proofs.Handles.{Handle, either_held, handle_good, handle_in, ptr_good}
+use Rattle.switchbr_c.proofs.Looses.{Loose, both, loose_good, loose_out}
+use Rattle.switchbr_c.proofs.Handles.{handle_good, handle_in}
 use Rattle.switchbr_c.specs.contracts.handle.Handle.of as f
 use Rattle.switchbr_c.proofs.handle.Handle.of.Statement.{statement}
 use Rattle.switchbr_c.proofs.handle.Handle.of.Code as code
