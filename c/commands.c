@@ -1,6 +1,7 @@
 /* Commands of the program over the library, for tools/test: `replay`, `follow` (of standard input), `gen NUMBER COUNT`, and `check` (of the
-   two files that are named). In front of them may stand `--room N`: the room of the first call; `--fail N`: the Nth allocation of the library
-   is refused; `--thread`: in a thread with 1 MB of stack; `--times N`. */
+   two files that are named); and `session`, a replay line by line, but for a last line that is cut off. In front of them may stand `--room N`:
+   the room of the first call; `--fail N`: the Nth allocation of the library is refused; `--thread`: in a thread with 1 MB of stack;
+   `--times N`. */
 #include <pthread.h>
 #include <stdio.h>
 #include <stdlib.h>
@@ -65,6 +66,66 @@ static void *give(void *nothing) {
     return nothing;
 }
 
+static switchbr_session session = SWITCHBR_SESSION_INIT;
+static uint8_t *shown;
+static size_t len;
+static int is_quiet;
+
+/* Writes what a call on the session has given. */
+static int show(switchbr_status status) {
+    if (status == SWITCHBR_NO_ROOM) {
+        if (len <= first_room) exit(106);
+        shown = __real_realloc(shown, first_room = len);
+        status = switchbr_text(&session, shown, first_room, &len);
+    }
+    if (!is_quiet) fwrite(shown, 1, len, stdout);
+    return status;
+}
+
+static int is_end(const char *line, size_t size) {
+    size_t at = 0;
+    while (at < size && line[at] == ' ') at++;
+    if (size - at < 3 || memcmp(line + at, "end", 3)) return 0;
+    for (at += 3; at < size && line[at] == ' '; at++);
+    return at == size;
+}
+
+static size_t section_behind(const char *line, size_t size) {
+    char copy[64] = {0};
+    size_t length = 0;
+    memcpy(copy, line, size < 63 ? size : 63);
+    return sscanf(copy, " capture %zu", &length) == 1 ? length : 0;
+}
+
+static void step_by_step(void) {
+    size_t at = 0;
+    shown = __real_malloc(first_room + 1);
+    if (switchbr_end(&session) != SWITCHBR_CLOSED) exit(107);
+    if (!(answer = switchbr_open(&session))) answer = show(switchbr_text(&session, shown, first_room, &len));
+    while (!answer && at < one.len) {
+        const uint8_t *line = one.bytes + at, *feed = memchr(line, '\n', one.len - at);
+        size_t size = feed ? (size_t)(feed - line) : one.len - at, section = section_behind((const char *)line, size);
+        if (!feed && size <= 20000 && !is_end((const char *)line, size)) break;
+        answer = show(switchbr_line(&session, line, size, shown, first_room, &len));
+        at += size + !!feed;
+        if (answer || !section) continue;
+        if (section > one.len - at) break;
+        answer = show(switchbr_section(&session, one.bytes + at, section, shown, first_room, &len));
+        at += section;
+    }
+    if (answer == SWITCHBR_CLOSED) answer = SWITCHBR_OK;
+    else if (!answer) answer = switchbr_line(&session, (const uint8_t *)"", 0, shown, first_room, &len) == SWITCHBR_CLOSED ? SWITCHBR_OK : SWITCHBR_BAD_LINE;
+    if (switchbr_end(&session) != (answer == SWITCHBR_NO_MEMORY ? SWITCHBR_CLOSED : SWITCHBR_OK)) exit(108);
+    free(shown);
+}
+
+static void *steps(void *nothing) {
+    for (is_quiet = 1; times > 1; times--) step_by_step();
+    is_quiet = 0;
+    step_by_step();
+    return nothing;
+}
+
 int main(int count, char **given) {
     int in_thread = 0;
     size_t fail = 0;
@@ -78,13 +139,14 @@ int main(int count, char **given) {
     if (!strcmp(words[0], "check")) one = read_all(words[1]), two = read_all(words[2]);
     else if (strcmp(words[0], "gen")) one = read_all(NULL);
     refused = fail ? asked + fail : 0;
+    void *(*run)(void *) = strcmp(words[0], "session") ? give : steps;
     if (in_thread) {
         pthread_attr_t small;
         pthread_t thread;
         pthread_attr_init(&small);
         pthread_attr_setstacksize(&small, 1 << 20);
-        if (pthread_create(&thread, &small, give, NULL) || pthread_join(thread, NULL)) return 105;
-    } else give(NULL);
+        if (pthread_create(&thread, &small, run, NULL) || pthread_join(thread, NULL)) return 105;
+    } else run(NULL);
     fprintf(stderr, "%zu\n", asked);
     return answer;
 }

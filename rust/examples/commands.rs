@@ -1,14 +1,57 @@
-//! Commands of the program over the library, for tools/test: `replay` and `follow` of standard input, `gen NUMBER COUNT`, `check` of two files.
+//! Commands of the program over the library, for tools/test: `replay` and `follow` of standard input, `gen NUMBER COUNT`, `check` of two files;
+//! and `session`, a replay line by line, but for a last line that is cut off.
 use std::env::args;
 use std::fs::read;
 use std::io::{Read, Write, stdin, stdout};
 use std::process::ExitCode;
-use switchbr::{Fault, check, follow, generate, replay};
+use switchbr::{Fault, Session, check, follow, generate, replay};
 
 fn input() -> Vec<u8> {
     let mut all = Vec::new();
     stdin().read_to_end(&mut all).expect("input is read");
     all
+}
+
+fn is_end(line: &[u8]) -> bool {
+    line.split(|byte| *byte == b' ').filter(|word| !word.is_empty()).eq([b"end"])
+}
+
+/// What a line has behind it, where it is `capture LENGTH`.
+fn section_behind(line: &[u8]) -> usize {
+    let words: Vec<_> = line.split(|byte| *byte == b' ').filter(|word| !word.is_empty()).collect();
+    match words[..] {
+        [b"capture", length] => std::str::from_utf8(length).ok().and_then(|digits| digits.parse().ok()).unwrap_or(0),
+        _ => 0,
+    }
+}
+
+/// Writes what is told, and answers the status.
+fn step_by_step(mut rest: &[u8]) -> Result<u8, Fault> {
+    let mut session = Session::open()?;
+    if rest.is_empty() {
+        println!("transcript 1");
+    }
+    while !rest.is_empty() {
+        let feed = rest.iter().position(|byte| *byte == b'\n');
+        let line = &rest[..feed.unwrap_or(rest.len())];
+        if feed.is_none() && line.len() <= 20_000 && !is_end(line) {
+            return Ok(3);
+        }
+        match session.line(line) {
+            Err(Fault::Closed) => return Ok(0),
+            told => print!("{}", told?),
+        }
+        rest = &rest[line.len() + usize::from(feed.is_some())..];
+        let length = section_behind(line);
+        if length > rest.len() {
+            return Ok(3);
+        }
+        if length > 0 {
+            print!("{}", session.section(&rest[..length])?);
+            rest = &rest[length..];
+        }
+    }
+    Ok(if session.line(b"") == Err(Fault::Closed) { 0 } else { 3 })
 }
 
 fn main() -> ExitCode {
@@ -22,6 +65,10 @@ fn main() -> ExitCode {
             let files = read(scenario).and_then(|one| Ok((one, read(transcript)?))).expect("both are read");
             check(&files.0, &files.1).map(|line| line.map_or(String::new(), |line| format!("{line}\n")))
         }
+        ["session"] => match step_by_step(&input()) {
+            Ok(status) => return ExitCode::from(status),
+            Err(fault) => Err(fault),
+        },
         _ => return ExitCode::from(2),
     };
     let (status, text) = match told {
@@ -29,6 +76,7 @@ fn main() -> ExitCode {
         Err(Fault::BadLine { line, text }) => (3, if text.is_empty() { format!("{line}\n") } else { text }),
         Err(Fault::TooLong) => (7, String::new()),
         Err(Fault::NoMemory) => (6, String::new()),
+        Err(fault) => panic!("{fault}"),
     };
     stdout().write_all(text.as_bytes()).expect("output is written");
     ExitCode::from(status)

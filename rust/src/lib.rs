@@ -1,18 +1,28 @@
-//! A model of the Linux bridge with switchdev offload: transcripts of scenarios, and checks of them.
+//! A model of the Linux bridge with switchdev offload: transcripts of scenarios, whole or line by line, and checks of them.
 //!
 //! Texts are as docs/FORMATS.md of the repository has them. What `c/switchbr.h` says of each call holds here, too: it asks of its caller only
-//! that pointers and sizes are those of slices, which this crate sees to.
+//! that pointers and sizes are those of slices, and that a session is moved, not copied, and stays in its thread, which this crate sees to.
 
 use std::error::Error;
+use std::ffi::c_void;
 use std::fmt;
+use std::ptr::null_mut;
 
 const OK: u8 = 0;
 const DIFFERS: u8 = 1;
+const USAGE: u8 = 2;
 const BAD_LINE: u8 = 3;
 const TOO_LONG: u8 = 7;
 const NO_ROOM: u8 = 16;
+const CLOSED: u8 = 17;
 
-const ABI: u32 = 1;
+const ABI: u32 = 2;
+
+#[repr(C)]
+struct Handle {
+    at: *mut c_void,
+    is_open: bool,
+}
 
 extern "C" {
     fn switchbr_abi() -> u32;
@@ -20,15 +30,25 @@ extern "C" {
     fn switchbr_follow(messages: *const u8, size: usize, out: *mut u8, room: usize, len: *mut usize) -> u8;
     fn switchbr_generate(number: u64, count: u32, out: *mut u8, room: usize, len: *mut usize) -> u8;
     fn switchbr_check(scenario: *const u8, size: usize, transcript: *const u8, transcript_size: usize, line: *mut u32) -> u8;
+    fn switchbr_open(session: *mut Handle) -> u8;
+    fn switchbr_line(session: *mut Handle, line: *const u8, size: usize, out: *mut u8, room: usize, len: *mut usize) -> u8;
+    fn switchbr_section(session: *mut Handle, section: *const u8, size: usize, out: *mut u8, room: usize, len: *mut usize) -> u8;
+    fn switchbr_text(session: *mut Handle, out: *mut u8, room: usize, len: *mut usize) -> u8;
+    fn switchbr_end(session: *mut Handle) -> u8;
 }
 
 /// Why there is no answer.
 #[derive(Debug, Clone, PartialEq, Eq)]
 pub enum Fault {
-    /// This line of the input is bad, counted from 1, and this is told up to it and of it; of `check` nothing.
+    /// This line of the input is bad, counted from 1, and this is told up to it and of it, in a session since the line before; of `check`
+    /// nothing.
     BadLine { line: u32, text: String },
     /// The input is longer than 2^28 bytes, or more than 100,000 frames are asked for.
     TooLong,
+    /// In a session the scenario has ended, or there was no memory before.
+    Closed,
+    /// A session's line has a line feed, or a section is wanted; no section is wanted, or one of another length.
+    Misplaced,
     NoMemory,
 }
 
@@ -40,6 +60,8 @@ impl fmt::Display for Fault {
                 None => write!(to, "bad {line}"),
             },
             Fault::TooLong => to.write_str("too long"),
+            Fault::Closed => to.write_str("closed"),
+            Fault::Misplaced => to.write_str("misplaced"),
             Fault::NoMemory => to.write_str("no memory"),
         }
     }
@@ -48,11 +70,33 @@ impl fmt::Display for Fault {
 impl Error for Fault {}
 
 fn fault(status: u8) -> Fault {
-    if status == TOO_LONG { Fault::TooLong } else { Fault::NoMemory }
+    match status {
+        TOO_LONG => Fault::TooLong,
+        CLOSED => Fault::Closed,
+        USAGE => Fault::Misplaced,
+        _ => Fault::NoMemory,
+    }
+}
+
+/// What a call has written.
+fn given(status: u8, out: Vec<u8>) -> Result<String, Fault> {
+    if status != OK && status != BAD_LINE {
+        return Err(fault(status));
+    }
+    let text = String::from_utf8(out).expect("texts are ASCII");
+    if status == OK {
+        return Ok(text);
+    }
+    let line = text.lines().last().and_then(|last| last.split(' ').nth(1)?.parse().ok());
+    Err(Fault::BadLine { line: line.expect("the last line is the bad one"), text })
+}
+
+fn assert_version() {
+    assert_eq!(unsafe { switchbr_abi() }, ABI, "libswitchbr.a is of another version");
 }
 
 fn told(first_room: usize, call: impl Fn(*mut u8, usize, *mut usize) -> u8) -> Result<String, Fault> {
-    assert_eq!(unsafe { switchbr_abi() }, ABI, "libswitchbr.a is of another version");
+    assert_version();
     let mut len = first_room;
     let mut out = Vec::new();
     let status = loop {
@@ -62,16 +106,8 @@ fn told(first_room: usize, call: impl Fn(*mut u8, usize, *mut usize) -> u8) -> R
             status => break status,
         }
     };
-    if status != OK && status != BAD_LINE {
-        return Err(fault(status));
-    }
     out.truncate(len);
-    let text = String::from_utf8(out).expect("texts are ASCII");
-    if status == OK {
-        return Ok(text);
-    }
-    let line = text.lines().last().and_then(|last| last.split(' ').nth(1)?.parse().ok());
-    Err(Fault::BadLine { line: line.expect("the last line is the bad one"), text })
+    given(status, out)
 }
 
 /// The transcript of a scenario, as `switchbr replay` writes it.
@@ -101,5 +137,51 @@ pub fn check(scenario: &[u8], transcript: &[u8]) -> Result<Option<u32>, Fault> {
         DIFFERS => Ok(Some(line)),
         BAD_LINE => Err(Fault::BadLine { line, text: String::new() }),
         _ => Err(fault(status)),
+    }
+}
+
+/// A scenario line by line. Each call gives the lines of the transcript that it tells, the first one also `transcript 1`. Behind a bad line the
+/// scenario has ended, as behind its line `end`.
+pub struct Session {
+    handle: Handle,
+    room: Vec<u8>,
+}
+
+impl Session {
+    pub fn open() -> Result<Session, Fault> {
+        assert_version();
+        let mut session = Session { handle: Handle { at: null_mut(), is_open: false }, room: vec![0; 4096] };
+        match unsafe { switchbr_open(&mut session.handle) } {
+            OK => Ok(session),
+            status => Err(fault(status)),
+        }
+    }
+
+    fn told(&mut self, call: impl Fn(*mut Handle, *mut u8, usize, *mut usize) -> u8) -> Result<String, Fault> {
+        let mut len = 0;
+        let mut status = call(&mut self.handle, self.room.as_mut_ptr(), self.room.len(), &mut len);
+        if status == NO_ROOM {
+            self.room.resize(len, 0);
+            status = unsafe { switchbr_text(&mut self.handle, self.room.as_mut_ptr(), self.room.len(), &mut len) };
+        }
+        given(status, self.room[..len].to_vec())
+    }
+
+    /// Takes the next line, without its line feed.
+    pub fn line(&mut self, line: &[u8]) -> Result<String, Fault> {
+        let (at, size) = (line.as_ptr(), line.len());
+        self.told(|handle, out, room, len| unsafe { switchbr_line(handle, at, size, out, room, len) })
+    }
+
+    /// Takes the whole section of the line `capture LENGTH` before.
+    pub fn section(&mut self, section: &[u8]) -> Result<String, Fault> {
+        let (at, size) = (section.as_ptr(), section.len());
+        self.told(|handle, out, room, len| unsafe { switchbr_section(handle, at, size, out, room, len) })
+    }
+}
+
+impl Drop for Session {
+    fn drop(&mut self) {
+        unsafe { switchbr_end(&mut self.handle) };
     }
 }

@@ -1,1 +1,4 @@
 pub mod Giving
+pub mod Looses
+pub mod Handles
+pub mod Sessions

@@ -1,29 +1,37 @@
-//! What C calls: whole texts in memory. `c/switchbr.h` declares these functions and says what they do; there a `Global` is no argument.
+//! What C calls: texts in memory, whole or line by line. `c/switchbr.h` declares these functions and says what they do; there a `Global` is
+//! no argument.
 #![tactic(auto)]
 
-ghost use Rattle.std.specs.Prelude.{◌≡◌, ◌≤◌, ℕ, length, true};
+ghost use Rattle.std.specs.Prelude.{◌≡◌, ◌≤◌, ◌∷◌, [], ℕ, None, Some, length, true};
 ghost use Rattle.br_model.specs.Program.Generator.{made, most_frames};
 ghost use Rattle.br_model.specs.Program.Runs.{told};
 ghost use Rattle.br_model.specs.Table.Limits.{most_bytes};
 ghost use Rattle.br_model.specs.Text.Scenario.{scenario as scenario_of};
 ghost use Rattle.neigh_netlink.specs.Follow.{followed, follows};
 ghost use Rattle.whole_texts.specs.Messages.{lines_end_well};
+ghost use Rattle.whole_texts.specs.Sessions.{IsSound};
 ghost use Rattle.whole_texts.specs.Texts.{ends_well};
-ghost use Rattle.switchbr_c.specs.Calls.{Checks, Tells};
+ghost use Rattle.switchbr_c.specs.Calls.{Checks, Tells, is_of};
+ghost use Rattle.switchbr_c.specs.Sessions.{Ends, GivesKept, GivesText, MayRefuse, MaySettle, Opens, PassesLine, PassesSection, Refuses, Settles, fine_at};
 
+mod handle;
+mod loose;
 #[cfg(test)]
 mod tests;
 
 use br_model::limits::MOST_BYTES;
+use handle::Handle;
 use scenario_generator::generate;
 use std::alloc::Global;
 use transcript_check::{Answer, CheckFault, check};
-use whole_texts::{follow, replay};
+use whole_texts::{Session, SessionFault, follow, replay};
 
-// The numbers of the program's statuses, and one more.
+// The numbers of the program's statuses, and two more.
 const DONE: u8 = 0;
 
 const DIFFERS: u8 = 1;
+
+const USAGE: u8 = 2;
 
 const BAD_LINE: u8 = 3;
 
@@ -33,20 +41,23 @@ const TOO_LONG: u8 = 7;
 
 const NO_ROOM: u8 = 16;
 
+const CLOSED: u8 = 17;
+
 /// The most frames that are generated.
 const MOST_FRAMES: u32 = 100_000;
 
 /// The number of this interface.
 #[unsafe(no_mangle)]
 pub extern "C" fn switchbr_abi() -> u32
-    ensures { result ≡ 1 }
+    ensures { result ≡ 2 }
 {
-    1
+    2
 }
 
 /// Gives a text to the room, where it fits, and tells its length.
 fn give(text: &[u8], well: bool, out: &mut [u8], len: &mut usize) -> u8
-    ensures { (size most : ℕ) → size ≤ most → Tells well text.now size most out.old out.new len.new result }
+    ensures tells { (size most : ℕ) → size ≤ most → Tells well text.now size most out.old out.new len.new result }
+    ensures others { is_of (0 ∷ 3 ∷ 16 ∷ []) result ≡ true }
 {
     *len = text.len();
     if text.len() > out.len() {
@@ -148,4 +159,161 @@ pub extern "C" fn switchbr_check(
         }
         Err(CheckFault::NoMemory) => NO_MEMORY,
     }
+}
+
+/// Opens a session before the first line of a scenario. One that was open there ends.
+#[unsafe(no_mangle)]
+pub extern "C" fn switchbr_open(alloc: Global, session: &mut Handle) -> u8
+    ensures { Opens session.new.value result }
+{
+    let _ = session.take(alloc);
+    let Ok(opened) = Session::open(alloc) else {
+        return NO_MEMORY;
+    };
+    let Ok(opened) = Box::new(alloc, opened) else {
+        return NO_MEMORY;
+    };
+    session.put(alloc, opened);
+    DONE
+}
+
+/// Whether no bad line has ended the scenario.
+fn is_fine(ended: Option<bool>) -> bool
+    ensures { result ≡ fine_at ended }
+{
+    match ended {
+        Some(well) => well,
+        None => true,
+    }
+}
+
+/// Gives what is told to the room, where it fits, and tells its length.
+fn tell(session: &mut Session, out: &mut [u8], len: &mut usize) -> u8
+    requires { IsSound session.old }
+    ensures sound { IsSound session.new }
+    ensures gives { GivesKept session.old out.old out.new len.new (Some session.new) result }
+{
+    let fine = is_fine(session.ended());
+    let status = give(session.told(), fine, out, len);
+    if status == NO_ROOM {
+        return status;
+    }
+    session.let_go();
+    status
+}
+
+/// Puts a session back that has refused so.
+fn refuse(alloc: Global, handle: &mut Handle, session: Box<Session>, fault: SessionFault) -> u8
+    requires none { handle.old.value ≡ None }
+    requires sound { MayRefuse session.value fault }
+    ensures { Refuses session.value fault handle.new.value result }
+{
+    match fault {
+        SessionFault::Ended => {
+            handle.put(alloc, session);
+            CLOSED
+        }
+        SessionFault::Misplaced => {
+            handle.put(alloc, session);
+            USAGE
+        }
+        SessionFault::TooLong => {
+            handle.put(alloc, session);
+            TOO_LONG
+        }
+        SessionFault::NoMemory => NO_MEMORY,
+    }
+}
+
+/// Puts a session back that has answered so, and gives what is told.
+fn settle(
+    alloc: Global,
+    handle: &mut Handle,
+    mut session: Box<Session>,
+    answer: Result<(), SessionFault>,
+    out: &mut [u8],
+    len: &mut usize,
+) -> u8
+    requires none { handle.old.value ≡ None }
+    requires sound { MaySettle session.value answer }
+    ensures { Settles session.value answer out.old out.new len.new handle.new.value result }
+{
+    *len = 0;
+    match answer {
+        Ok(()) => {
+            let status = tell(&mut session, out, len);
+            handle.put(alloc, session);
+            status
+        }
+        Err(fault) => refuse(alloc, handle, session, fault),
+    }
+}
+
+/// Gives a session its next line, without the line feed.
+#[unsafe(no_mangle)]
+pub extern "C" fn switchbr_line(
+    alloc: Global,
+    session: &mut Handle,
+    line: &[u8],
+    out: &mut [u8],
+    len: &mut usize,
+) -> u8
+    ensures { PassesLine session.old.value line.now out.old out.new len.new session.new.value result }
+{
+    *len = 0;
+    let Some(mut taken) = session.take(alloc) else {
+        return CLOSED;
+    };
+    let answer = taken.line(alloc, line);
+    settle(alloc, session, taken, answer, out, len)
+}
+
+/// Gives a session the section of the line before.
+#[unsafe(no_mangle)]
+pub extern "C" fn switchbr_section(
+    alloc: Global,
+    session: &mut Handle,
+    section: &[u8],
+    out: &mut [u8],
+    len: &mut usize,
+) -> u8
+    ensures { PassesSection session.old.value section.now out.old out.new len.new session.new.value result }
+{
+    *len = 0;
+    let Some(mut taken) = session.take(alloc) else {
+        return CLOSED;
+    };
+    let answer = taken.section(alloc, section);
+    settle(alloc, session, taken, answer, out, len)
+}
+
+/// Gives what is told and wasn't given.
+#[unsafe(no_mangle)]
+pub extern "C" fn switchbr_text(
+    alloc: Global,
+    session: &mut Handle,
+    out: &mut [u8],
+    len: &mut usize,
+) -> u8
+    ensures { GivesText session.old.value out.old out.new len.new session.new.value result }
+{
+    *len = 0;
+    let Some(mut taken) = session.take(alloc) else {
+        return CLOSED;
+    };
+    let status = tell(&mut taken, out, len);
+    session.put(alloc, taken);
+    status
+}
+
+/// Ends a session, wherever it stands.
+#[unsafe(no_mangle)]
+pub extern "C" fn switchbr_end(alloc: Global, session: &mut Handle) -> u8
+    ensures { Ends session.old.value session.new.value result }
+{
+    let Some(taken) = session.take(alloc) else {
+        return CLOSED;
+    };
+    drop(taken);
+    DONE
 }

@@ -1,5 +1,10 @@
 //! Each call, over texts that docs/FORMATS.md explains.
-use super::{switchbr_abi, switchbr_check, switchbr_follow, switchbr_generate, switchbr_replay};
+use super::handle::Handle;
+use super::{
+    switchbr_abi, switchbr_check, switchbr_end, switchbr_follow, switchbr_generate, switchbr_line,
+    switchbr_open, switchbr_replay, switchbr_section, switchbr_text,
+};
+use std::alloc::Global;
 use std::process::Abort;
 
 const SCENARIO: &[u8] = b"scenario 1\nport 1 p1 chip 1\ncmd port up p1\nend\n";
@@ -55,4 +60,72 @@ fn lines_that_differ(rt: HostRuntime) {
     assert_told(&rt, (status, line as usize), b"", (1, 2), b"");
     let status = switchbr_check(rt.alloc(), BAD, told, &mut line);
     assert_told(&rt, (status, line as usize), b"", (3, 3), b"");
+}
+
+/// A line, the status of the call, and what it tells.
+type Row = (&'static [u8], u8, &'static [u8]);
+
+const BEFORE_A_SECTION: &[Row] = &[
+    (b"scenario 1", 0, b"transcript 1\n"),
+    (b"port 1 p1 chip 1", 0, b""),
+    (b"cmd port up p1\n", 2, b""),
+    (b"cmd port up p1", 0, b"ok 1 3\n"),
+    (b"capture 4", 0, b""),
+    (b"publish", 2, b""),
+];
+
+const WHOLE: &[Row] = &[
+    (b"scenario 1", 0, b"transcript 1\n"),
+    (b"port 1 p1 soft", 0, b""),
+    (b"capture 0", 0, b""),
+    (b"end", 0, b"end 0 0 0 0\n"),
+    (b"end", 17, b""),
+];
+
+fn assert_lines(rt: &impl Abort, alloc: Global, session: &mut Handle, rows: &[Row]) {
+    for row in rows {
+        let (line, status, told) = *row;
+        let mut out = [0; 64];
+        let mut len = 9;
+        let found = switchbr_line(alloc, session, line, &mut out, &mut len);
+        assert_eq!(rt; (found, len), (status, told.len()));
+        assert_eq!(rt; out.get(..len), Some(told));
+    }
+}
+
+#[test]
+fn a_session_up_to_a_bad_section(rt: HostRuntime) {
+    let mut session = Handle::none();
+    let mut out = [b'.'; 20];
+    let mut len = 9;
+    assert_eq!(&rt; switchbr_open(rt.alloc(), &mut session), 0);
+    assert_lines(&rt, rt.alloc(), &mut session, BEFORE_A_SECTION);
+    let status = switchbr_section(rt.alloc(), &mut session, b"end", &mut out, &mut len);
+    assert_told(&rt, (status, len), &out, (2, 0), &[b'.'; 20]);
+    let status = switchbr_section(rt.alloc(), &mut session, b"end\n", &mut out[..9], &mut len);
+    assert_told(&rt, (status, len), &out, (16, 16), &[b'.'; 20]);
+    let status = switchbr_text(rt.alloc(), &mut session, &mut out, &mut len);
+    assert_told(&rt, (status, len), &out, (3, 16), b"bad 4 capture 0\n....");
+    let status = switchbr_text(rt.alloc(), &mut session, &mut out, &mut len);
+    assert_told(&rt, (status, len), b"", (3, 0), b"");
+    session.end(rt.alloc());
+}
+
+#[test]
+fn a_session_is_opened_and_ended(rt: HostRuntime) {
+    let mut session = Handle::none();
+    assert_eq!(&rt; switchbr_end(rt.alloc(), &mut session), 17);
+    assert_lines(&rt, rt.alloc(), &mut session, &[(b"scenario 1", 17, b"")]);
+    assert_eq!(&rt; switchbr_open(rt.alloc(), &mut session), 0);
+    assert_lines(
+        &rt,
+        rt.alloc(),
+        &mut session,
+        &[(b"scenario 1", 0, b"transcript 1\n")],
+    );
+    assert_eq!(&rt; switchbr_open(rt.alloc(), &mut session), 0);
+    assert_lines(&rt, rt.alloc(), &mut session, WHOLE);
+    assert_eq!(&rt; switchbr_end(rt.alloc(), &mut session), 0);
+    assert_lines(&rt, rt.alloc(), &mut session, &[(b"scenario 1", 17, b"")]);
+    session.end(rt.alloc());
 }
