@@ -96,14 +96,15 @@ fn assert_lines(rt: &impl Abort, alloc: Global, session: &mut Handle, rows: &[Ro
 #[test]
 fn a_session_up_to_a_bad_section(rt: HostRuntime) {
     let mut session = Handle::none();
+    let mut small = [b'.'; 15];
     let mut out = [b'.'; 20];
     let mut len = 9;
     assert_eq!(&rt; switchbr_open(rt.alloc(), &mut session), 0);
     assert_lines(&rt, rt.alloc(), &mut session, BEFORE_A_SECTION);
-    let status = switchbr_section(rt.alloc(), &mut session, b"end", &mut out, &mut len);
-    assert_told(&rt, (status, len), &out, (2, 0), &[b'.'; 20]);
-    let status = switchbr_section(rt.alloc(), &mut session, b"end\n", &mut out[..9], &mut len);
-    assert_told(&rt, (status, len), &out, (16, 16), &[b'.'; 20]);
+    let status = switchbr_section(rt.alloc(), &mut session, b"end", &mut small, &mut len);
+    assert_told(&rt, (status, len), &small, (2, 0), &[b'.'; 15]);
+    let status = switchbr_section(rt.alloc(), &mut session, b"end\n", &mut small, &mut len);
+    assert_told(&rt, (status, len), &small, (16, 16), &[b'.'; 15]);
     let status = switchbr_text(rt.alloc(), &mut session, &mut out, &mut len);
     assert_told(&rt, (status, len), &out, (3, 16), b"bad 4 capture 0\n....");
     let status = switchbr_text(rt.alloc(), &mut session, &mut out, &mut len);
