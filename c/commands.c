@@ -1,6 +1,6 @@
 /* Commands of the program over the library, for tools/test: `replay`, `follow` (of standard input), `gen NUMBER COUNT`, and `check` (of the
    two files that are named); and `session`, a replay line by line, but for a last line that is cut off. In front of them may stand `--room N`:
-   the room of the first call; `--fail N`: the Nth allocation of the library is refused; `--thread`: in a thread with 1 MB of stack;
+   the room of the first call; `--fail N`: the Nth allocation of the library is refused; `--thread`: in a thread with 512 kB of stack;
    `--times N`. */
 #include <pthread.h>
 #include <stdio.h>
@@ -144,7 +144,7 @@ int main(int count, char **given) {
         pthread_attr_t small;
         pthread_t thread;
         pthread_attr_init(&small);
-        pthread_attr_setstacksize(&small, 1 << 20);
+        pthread_attr_setstacksize(&small, 1 << 19);
         if (pthread_create(&thread, &small, run, NULL) || pthread_join(thread, NULL)) return 105;
     } else run(NULL);
     fprintf(stderr, "%zu\n", asked);

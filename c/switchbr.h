@@ -1,9 +1,9 @@
 /* switchbr: a model of the Linux bridge with switchdev offload, over texts in memory, whole or line by line.
 
    A text is bytes as the program reads and writes them (docs/FORMATS.md), with no zero behind it. The calls keep nothing but what a session has,
-   read no file and print nothing; any thread may make them, but no signal handler. A call takes just under 1 MB of stack (measured, not proved:
-   give a thread 2), and its memory by malloc, realloc and free. No pointer may be NULL, not even where a size is 0, and what is written may
-   overlap nothing else that is passed.
+   read no file and print nothing; any thread may make them, but no signal handler. A call takes 200 kB of stack (measured, not proved: give
+   a thread 512), and its memory by malloc, realloc and free. No pointer may be NULL, not even where a size is 0, and what is written may overlap
+   nothing else that is passed.
 
    The status of each call is pinned by a proof against the definitions of the bridge (docs/PROVED.md). */
 #ifndef SWITCHBR_H
