@@ -29,7 +29,7 @@ struct Meet {
 impl Gate for Meet {
     fn held(&self, _id: u32) {
         self.here.fetch_add(1, Ordering::SeqCst);
-        for _ in 0..134_217_728u64 {
+        for _ in 0..4_294_967_296u64 {
             if self.here.load(Ordering::SeqCst) >= self.workers {
                 self.met.fetch_add(1, Ordering::SeqCst);
                 return;
