@@ -50,7 +50,7 @@ fn post_all<R: Wait>(rt: &R, mut poster: Poster) -> Poster
 fn take_all<R: Wait>(rt: &R, mut taker: Taker) -> (Taker, u32, bool) {
     let mut next = 0u32;
     let mut right = true;
-    for _ in 0..134_217_728u64 {
+    for _ in 0..4_294_967_296u64 {
         if next >= MANY {
             break;
         }

@@ -28,7 +28,7 @@ impl Task for Meet {
             return false;
         }
         self.here.fetch_add(1, Ordering::SeqCst);
-        for _ in 0..134_217_728u64 {
+        for _ in 0..4_294_967_296u64 {
             if self.here.load(Ordering::SeqCst) == 2 {
                 self.met.fetch_add(1, Ordering::SeqCst);
                 break;
