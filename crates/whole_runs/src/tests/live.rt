@@ -19,7 +19,7 @@ rx 2 02000000000a02000000000b88b50102
 ";
 
 /// How often a worker looks for the others at most.
-const LOOKS: u64 = 134_217_728;
+const LOOKS: u64 = 4_294_967_296;
 
 /// The gate of so many workers. Each looks at its frame whether all have come.
 #[derive(Drop)]
