@@ -159,17 +159,7 @@ impl Change {
             Change::SetState(_, state) => Asks::State(state),
             Change::GroupJoin { vid, group, .. } => Asks::GroupRoom(vid, group),
             Change::AddrPut { vid, mac, .. } => Asks::AddressRoom(vid, mac),
-            Change::PortUp(_)
-            | Change::PortDown(_)
-            | Change::SetFlags(..)
-            | Change::VlanAdd { .. }
-            | Change::VlanDel { .. }
-            | Change::GroupPart { .. }
-            | Change::Router { .. }
-            | Change::Querier { .. }
-            | Change::Snoop(_)
-            | Change::Stp(_)
-            | Change::AddrDel { .. } => Asks::Nothing,
+            _ => Asks::Nothing,
         }
     }
 
@@ -178,18 +168,9 @@ impl Change {
         ensures { result ≡ deferred edition self.now }
     {
         match self {
-            Change::PortUp(_)
-            | Change::PortDown(_)
-            | Change::SetFlags(..)
-            | Change::SetState(..)
-            | Change::VlanAdd { .. }
-            | Change::VlanDel { .. }
-            | Change::Router { .. }
-            | Change::Querier { .. }
-            | Change::Snoop(_)
-            | Change::Stp(_) => false,
             Change::GroupJoin { .. } | Change::GroupPart { .. } => edition.defers_groups(),
             Change::AddrPut { .. } | Change::AddrDel { .. } => true,
+            _ => false,
         }
     }
 }

@@ -1,11 +1,12 @@
 -- What a bridge keeps beside its table: moments, the ageing time, what ends when, and the spanning tree.
 -- Source: the kernel's net/bridge (net_bridge_fdb_entry.updated, ageing_time), IEEE 802.1D-1998 section 7.9.2.
-use Rattle.std.specs.Prelude.{ℕ, ◌*◌, List, []}
+use Rattle.std.specs.Prelude.{ℕ, ◌*◌, if◌then◌else◌, List, []}
+use Rattle.std.specs.Option.{is_some}
 use Rattle.std.specs.declared.option.Option.TheVariants.{None}
 use Rattle.br_model.specs.declared.change.Change.{Change}
-use Rattle.br_model.specs.declared.change.Change.TheVariants.{PortUp, PortDown, SetFlags, SetState, VlanAdd, VlanDel, GroupJoin, GroupPart, Router, Querier, Snoop, Stp, AddrPut, AddrDel}
 use Rattle.br_model.specs.Control.Ends.{Ends, no_ends, lasts, parts, routes, queries}
 use Rattle.br_model.specs.Data.Maps.{pair_cmp, put, without}
+use Rattle.br_model.specs.Table.Change.{Subject, Setting, Member, RouterAt, QuerierOf, Entry, subject}
 use Rattle.br_model.specs.Tree.Tree.{Tree, first_tree}
 
 -- in milliseconds
@@ -35,18 +36,12 @@ renewed c key = record c { updated = put pair_cmp c.updated key c.now }
 
 -- The moment of what goes is forgotten, that of an entry that is put is now, and a member that joins has no end but what its
 -- report says.
+abbrev pub follows : Control → Subject → Control
+follows c (Setting needs) = c
+follows c (Member member there) = ends_with c (if there then lasts c.ends member None else parts c.ends member)
+follows c (RouterAt port there) = ends_with c (routes there c.ends c.now port)
+follows c (QuerierOf six there) = ends_with c (queries there c.ends c.now six)
+follows c (Entry key put) = if is_some put then renewed c key else record c { updated = without pair_cmp c.updated key }
+
 abbrev pub keeps_up : Control → Change → Control
-keeps_up c (PortUp port) = c
-keeps_up c (PortDown port) = c
-keeps_up c (SetFlags port flags) = c
-keeps_up c (SetState port state) = c
-keeps_up c (VlanAdd port vid untagged pvid) = c
-keeps_up c (VlanDel port vid) = c
-keeps_up c (GroupJoin port vid group) = ends_with c (lasts c.ends (vid, group, port) None)
-keeps_up c (GroupPart port vid group) = ends_with c (parts c.ends (vid, group, port))
-keeps_up c (Router port on) = ends_with c (routes on c.ends c.now port)
-keeps_up c (Querier six on) = ends_with c (queries on c.ends c.now six)
-keeps_up c (Snoop on) = c
-keeps_up c (Stp on) = c
-keeps_up c (AddrPut vid mac port kind) = renewed c (vid, mac)
-keeps_up c (AddrDel vid mac) = record c { updated = without pair_cmp c.updated (vid, mac) }
+keeps_up c d = follows c (subject d)
