@@ -4,7 +4,7 @@ use Rattle.br_model.specs.declared.domains.Edition.{Edition}
 use Rattle.br_model.specs.Table.Change.{deferred}
 use Rattle.switchdev_notify.specs.declared.notice.Object.{Object}
 use Rattle.switchdev_notify.specs.declared.notice.Attribute.{Attribute}
-use Rattle.switchdev_notify.specs.declared.notice.Attribute.TheVariants.{PortUp, PortDown, Flags, State, Router, Querier, Snoop, Stp}
+use Rattle.switchdev_notify.specs.declared.notice.Attribute.TheVariants.{Stp}
 use Rattle.switchdev_notify.specs.declared.notice.Notice.TheVariants.{ObjAdd, ObjDel, Attr}
 use Rattle.switchdev_notify.specs.Notices.{change_added, change_removed, change_of_attribute, told_in}
 
@@ -15,11 +15,5 @@ pub told_removed : (edition : Edition) (o : Object) → deferred edition (change
 told_removed edition o now = ap (λ b. cond b None (Some (change_removed o))) now
 
 pub told_attribute : (edition : Edition) (a : Attribute) → told_in edition (Attr a) ≡ Some (change_of_attribute a)
-told_attribute edition (PortUp port) = refl
-told_attribute edition (PortDown port) = refl
-told_attribute edition (Flags port flags) = refl
-told_attribute edition (State port state) = refl
-told_attribute edition (Router port on) = refl
-told_attribute edition (Querier six on) = refl
-told_attribute edition (Snoop on) = refl
 told_attribute edition (Stp on) = refl
+told_attribute edition a = refl
