@@ -50,6 +50,7 @@ macro_rules! field {
 }
 
 /// The number in a field of a window.
+#[inline(always)]
 fn field_in(window: u128, at: u16, width: u16) -> u64
     requires at { at < 8 }
     requires width { width ≤ 64 }
@@ -59,6 +60,7 @@ fn field_in(window: u128, at: u16, width: u16) -> u64
 }
 
 /// The window with another number in a field.
+#[inline(always)]
 fn window_with(window: u128, at: u16, width: u16, number: u64) -> u128
     requires window { window < 2 ^ 72 }
     requires at { at < 8 }
@@ -70,6 +72,7 @@ fn window_with(window: u128, at: u16, width: u16, number: u64) -> u128
 }
 
 /// The byte with a bit set or cleared.
+#[inline(always)]
 fn byte_with(byte: u8, at: usize, on: bool) -> u8
     requires { at < 8 }
     ensures { result ≡ with_field byte at 1 (bit_of on) }
@@ -82,6 +85,7 @@ fn byte_with(byte: u8, at: usize, on: bool) -> u8
 }
 
 /// How many bytes a field lies in.
+#[inline(always)]
 fn byte_count(f: Field) -> usize
     requires { f.width ≤ 64 }
     ensures covers { f.at % 8 + f.width ≤ 8 * result }
@@ -108,6 +112,7 @@ impl<const BYTES: usize> Row<BYTES> {
     }
 
     /// The number of the bytes from `first` on, as far as a field may reach.
+    #[inline(always)]
     fn window(&self, first: usize, count: usize) -> u128
         requires count { count ≤ 9 }
         requires within { first + count ≤ BYTES }
@@ -121,6 +126,7 @@ impl<const BYTES: usize> Row<BYTES> {
     }
 
     /// Writes the low bytes of a number from `first` on.
+    #[inline(always)]
     fn write(&mut self, first: usize, count: usize, number: u128)
         requires count { count ≤ 9 }
         requires within { first + count ≤ BYTES }
@@ -133,6 +139,7 @@ impl<const BYTES: usize> Row<BYTES> {
     }
 
     /// The number in a field.
+    #[inline(always)]
     pub fn get(&self, f: Field) -> u64
         requires within { f.at + f.width ≤ 8 * BYTES }
         requires narrow { f.width ≤ 64 }
@@ -145,6 +152,7 @@ impl<const BYTES: usize> Row<BYTES> {
     }
 
     /// Writes the number into a field, and leaves every other bit.
+    #[inline(always)]
     pub fn set(&mut self, f: Field, n: u64)
         requires within { f.at + f.width ≤ 8 * BYTES }
         requires narrow { f.width ≤ 64 }
@@ -159,6 +167,7 @@ impl<const BYTES: usize> Row<BYTES> {
     }
 
     /// Whether a bit is set.
+    #[inline(always)]
     pub fn bit(&self, at: usize) -> bool
         requires { at < 8 * BYTES }
         ensures { result ≡ (field self.now at 1 == 1) }
@@ -167,6 +176,7 @@ impl<const BYTES: usize> Row<BYTES> {
     }
 
     /// Sets a bit or clears it, and leaves every other. It writes one byte.
+    #[inline(always)]
     pub fn set_bit(&mut self, at: usize, on: bool)
         requires { at < 8 * BYTES }
         ensures { self.new ≡ with_field self.old at 1 (bit_of on) }
@@ -210,6 +220,7 @@ impl<const ROWS: usize, const BYTES: usize> Bank<ROWS, BYTES> {
     }
 
     /// The row at a place below `ROWS`, where it stands.
+    #[inline(always)]
     pub fn at(&self, i: usize) -> &Row<BYTES>
         requires { i < ROWS }
         ensures value { result.now ≡ slice_index self.now i }
@@ -223,6 +234,7 @@ impl<const ROWS: usize, const BYTES: usize> Bank<ROWS, BYTES> {
     }
 
     /// Changes the row at a place below `ROWS`, and no other.
+    #[inline(always)]
     pub fn put(&mut self, i: usize, row: Row<BYTES>)
         requires { i < ROWS }
         ensures value { self.new ≡ slice_set self.old i row.entry }
@@ -237,6 +249,7 @@ impl<const ROWS: usize, const BYTES: usize> Bank<ROWS, BYTES> {
 
     /// Sets a bit of the row at a place below `ROWS` or clears it, and changes nothing else. Of a row that was written to before it
     /// writes one byte.
+    #[inline(always)]
     pub fn set_bit(&mut self, i: usize, at: usize, on: bool)
         requires row { i < ROWS }
         requires bit { at < 8 * BYTES }

@@ -84,6 +84,7 @@ macro_rules! get {
 }
 
 /// The set in the 256 bits from `at` on: bit n of them is port n.
+#[inline(always)]
 fn ports_from<const BYTES: usize>(row: &Row<BYTES>, at: u16) -> Ports
     requires low { at ≤ 256 }
     requires within { at + 256 ≤ 8 * BYTES }
@@ -112,6 +113,7 @@ fn write_ports<const BYTES: usize, const AT: u16>(row: &mut Row<BYTES>, ports: &
 }
 
 /// A bit as a number.
+#[inline(always)]
 fn bit(on: bool) -> u64
     ensures value { (result == 1) ≡ on }
     ensures small { result < 2 }
@@ -130,6 +132,7 @@ pub fn vlan_row(row: &Row<64>) -> VlanRow
 }
 
 /// The members in the row of a VLAN.
+#[inline(always)]
 pub fn members(row: &Row<64>) -> Ports
     ensures { result ≡ (vlan_of row.now).members }
 {
@@ -137,6 +140,7 @@ pub fn members(row: &Row<64>) -> Ports
 }
 
 /// Those of them that its frames leave without a tag.
+#[inline(always)]
 pub fn untagged(row: &Row<64>) -> Ports
     ensures { result ≡ (vlan_of row.now).untagged }
 {
@@ -144,6 +148,7 @@ pub fn untagged(row: &Row<64>) -> Ports
 }
 
 /// Whether the port is a member.
+#[inline(always)]
 pub fn is_member(row: &Row<64>, port: Port) -> bool
     ensures { result ≡ has_number (vlan_of row.now).members port }
 {
@@ -160,6 +165,7 @@ pub fn pack_vlan(r: &VlanRow) -> Row<64>
 }
 
 /// Bits 0 to 255: the ports; 256 and 257: a target elsewhere for an isolated, and for a plain ingress port.
+#[inline(always)]
 pub fn fan_row(row: &Row<33>) -> FanRow
     ensures { result ≡ fan_of row.now }
 {
@@ -181,6 +187,7 @@ pub fn pack_fan(r: &FanRow) -> Row<33>
 }
 
 /// Bit 0: up; 1 to 3: the state; 4 to 9: the flags; 10: whether there is a PVID; 11 to 22: the PVID; 23: own.
+#[inline(always)]
 pub fn port_row(row: &Row<3>) -> PortRow
     ensures { result ≡ port_of row.now }
 {
@@ -194,6 +201,7 @@ pub fn port_row(row: &Row<3>) -> PortRow
 }
 
 /// Whether the port of a row is up and forwards.
+#[inline(always)]
 pub fn is_forwarding(row: &Row<3>) -> bool
     ensures { result ≡ row_is_in (port_of row.now) forwarding }
 {
@@ -201,6 +209,7 @@ pub fn is_forwarding(row: &Row<3>) -> bool
 }
 
 /// Whether it has the flag `isolated` (Linux's BR_ISOLATED).
+#[inline(always)]
 pub fn is_isolated(row: &Row<3>) -> bool
     ensures { result ≡ row_has_flag (port_of row.now) isolated }
 {
@@ -208,12 +217,14 @@ pub fn is_isolated(row: &Row<3>) -> bool
 }
 
 /// Whether it is on the chip.
+#[inline(always)]
 pub fn is_own(row: &Row<3>) -> bool
     ensures { result ≡ (port_of row.now).own }
 {
     row.bit(23)
 }
 
+#[inline(always)]
 fn flags_of(bits: u64) -> Flags
     requires { bits < 64 }
     ensures { result ≡ bits }
@@ -224,6 +235,7 @@ fn flags_of(bits: u64) -> Flags
     }
 }
 
+#[inline(always)]
 fn pvid_of(has: bool, number: u64) -> Option<Vid>
     requires { number < 4096 }
     ensures { result ≡ pvid_from has number }
@@ -259,6 +271,7 @@ pub fn pack_port(r: &PortRow) -> Row<3>
 }
 
 /// Bit 0: snooping; 1: the spanning tree; 2 and 3: a querier of IP version 4, and of 6.
+#[inline(always)]
 pub fn control_row(row: &Row<1>) -> Control
     ensures { result ≡ control_of row.now }
 {
@@ -282,6 +295,7 @@ pub fn pack_control(control: Control) -> Row<1>
 }
 
 /// Whether a trap row is on.
+#[inline(always)]
 pub fn is_on(row: &Row<1>) -> bool
     ensures { result ≡ is_on row.now 0 }
 {
@@ -298,6 +312,7 @@ pub fn pack_trap(on: bool) -> Row<1>
 }
 
 /// The VLAN and the address of an address row as one number, 0 where the row isn't used.
+#[inline(always)]
 pub fn key_in(row: &Row<9>) -> u64
     ensures value { result ≡ key_of row.now }
     ensures below { result < 2 ^ 60 }
@@ -306,6 +321,7 @@ pub fn key_in(row: &Row<9>) -> u64
 }
 
 /// The number of a VLAN and an address, as an address row has it.
+#[inline(always)]
 pub fn pack_key(v: Vid, m: Mac) -> u64
     ensures value { result ≡ packed v m }
     ensures some { result ≢ 0 }
@@ -317,6 +333,7 @@ pub fn pack_key(v: Vid, m: Mac) -> u64
 }
 
 /// Bits 0 to 59: the key; 60 to 67: the port; 68 and 69: the kind, local 0, static 1, learned 2, extern 3; 70: pinned.
+#[inline(always)]
 pub fn address_row(row: &Row<9>) -> AddressRow
     ensures { result ≡ address_of row.now }
 {
@@ -327,6 +344,7 @@ pub fn address_row(row: &Row<9>) -> AddressRow
     }
 }
 
+#[inline(always)]
 fn port_from(number: u64) -> Port
     requires { number < 256 }
     ensures { result ≡ port_from number }
@@ -337,6 +355,7 @@ fn port_from(number: u64) -> Port
     }
 }
 
+#[inline(always)]
 fn kind_of(number: u64) -> Kind
     ensures { result ≡ kind_of number }
 {
@@ -361,6 +380,7 @@ fn number_of(kind: Kind) -> u64
 }
 
 /// Whether a chip learned the entry of an address row.
+#[inline(always)]
 pub fn is_extern(row: &Row<9>) -> bool
     ensures { result ≡ is_extern (address_of row.now).kind }
 {

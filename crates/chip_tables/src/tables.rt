@@ -67,6 +67,7 @@ impl Model for Tables {
 }
 
 /// Writes the row of a VLAN.
+#[inline(always)]
 fn put_fan(bank: &mut Bank<4096, 33>, v: Vid, r: &FanRow)
     ensures { WritesFan bank.old bank.new v r.now }
 {
@@ -74,6 +75,7 @@ fn put_fan(bank: &mut Bank<4096, 33>, v: Vid, r: &FanRow)
 }
 
 /// Puts a port into the row of a VLAN or takes it out.
+#[inline(always)]
 fn switch_fan(bank: &mut Bank<4096, 33>, vid: Vid, port: Port, on: bool)
     ensures { WritesFan bank.old bank.new vid (switched_fan (fan_of (slice_index bank.old vid)) port on) }
 {
@@ -106,6 +108,7 @@ impl Tables {
     }
 
     /// The members of the VLAN.
+    #[inline(always)]
     pub fn members(&self, vid: Vid) -> Ports
         ensures { result ≡ (vlan_at self.now vid).members }
     {
@@ -113,6 +116,7 @@ impl Tables {
     }
 
     /// Those of them that the VLAN's frames leave without a tag.
+    #[inline(always)]
     pub fn untagged(&self, vid: Vid) -> Ports
         ensures { result ≡ (vlan_at self.now vid).untagged }
     {
@@ -120,6 +124,7 @@ impl Tables {
     }
 
     /// Whether the port is a member of the VLAN. It reads one bit.
+    #[inline(always)]
     pub fn is_member(&self, vid: Vid, port: Port) -> bool
         ensures { result ≡ has_number (vlan_at self.now vid).members port }
     {
@@ -134,6 +139,7 @@ impl Tables {
     }
 
     /// Where the VLAN's unicast, multicast or broadcast flood goes.
+    #[inline(always)]
     pub fn flood(&self, vid: Vid, f: Flood) -> FanRow
         ensures { result ≡ flood_at self.now vid f }
     {
@@ -158,6 +164,7 @@ impl Tables {
 
     /// Puts a port into a flood row or takes it out, and leaves the row's bits for the processor. Of a row that was written to before
     /// it writes one byte.
+    #[inline(always)]
     pub fn switch_flood(&mut self, vid: Vid, f: Flood, port: Port, on: bool)
         ensures row { WritesFlood self.old self.new vid f (switched_fan (flood_at self.old vid f) port on) }
         ensures rest { self.new ≡ record self.old { unicast = self.new.unicast; mcast = self.new.mcast; bcast = self.new.bcast } }
@@ -170,6 +177,7 @@ impl Tables {
     }
 
     /// Where frames go that are for multicast routers: the ports in the VLAN behind which one is known.
+    #[inline(always)]
     pub fn router(&self, vid: Vid) -> FanRow
         ensures { result ≡ router_at self.now vid }
     {
@@ -184,6 +192,7 @@ impl Tables {
     }
 
     /// Puts a port into a router row or takes it out, as `switch_flood` does.
+    #[inline(always)]
     pub fn switch_router(&mut self, vid: Vid, port: Port, on: bool)
         ensures row { WritesRouter self.old self.new vid (switched_fan (router_at self.old vid) port on) }
         ensures rest { self.new ≡ record self.old { routers = self.new.routers } }
@@ -191,6 +200,7 @@ impl Tables {
         switch_fan(&mut self.routers, vid, port, on);
     }
 
+    #[inline(always)]
     pub fn port(&self, port: Port) -> PortRow
         ensures { result ≡ port_at self.now port }
     {
@@ -198,6 +208,7 @@ impl Tables {
     }
 
     /// The row of a number, as a set of ports has it: that of a port, or the one behind the last port's.
+    #[inline(always)]
     pub fn port_numbered(&self, number: u8) -> PortRow
         ensures { result ≡ port_at self.now number }
     {
@@ -205,6 +216,7 @@ impl Tables {
     }
 
     /// Whether the row of a number says that its port is up and forwards.
+    #[inline(always)]
     pub fn is_forwarding(&self, number: u8) -> bool
         ensures { result ≡ row_is_in (port_at self.now number) forwarding }
     {
@@ -212,6 +224,7 @@ impl Tables {
     }
 
     /// Whether it has the flag `isolated` (Linux's BR_ISOLATED).
+    #[inline(always)]
     pub fn is_isolated(&self, number: u8) -> bool
         ensures { result ≡ row_has_flag (port_at self.now number) isolated }
     {
@@ -219,6 +232,7 @@ impl Tables {
     }
 
     /// Whether the port is on the chip.
+    #[inline(always)]
     pub fn is_own(&self, port: Port) -> bool
         ensures { result ≡ (port_at self.now port).own }
     {
@@ -244,6 +258,7 @@ impl Tables {
     }
 
     /// Whether a trap row, below 21, is on.
+    #[inline(always)]
     pub fn trap(&self, i: usize) -> bool
         requires { i < 21 }
         ensures { result ≡ trap_at self.now i }
@@ -261,6 +276,7 @@ impl Tables {
         self.traps.put(i, pack_trap(on));
     }
 
+    #[inline(always)]
     pub fn control(&self) -> Control
         ensures { result ≡ control_in self.now }
     {
