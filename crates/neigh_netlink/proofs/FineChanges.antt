@@ -85,19 +85,9 @@ is_entry k e = is_vid k.0 && (nat_le e.0 last_port && (is_station k.1 && fits_po
 
 abbrev pub is_fine : Change → Bool
 is_fine (PortUp port) = is_port port
-is_fine (PortDown port) = true
-is_fine (SetFlags port flags) = true
-is_fine (SetState port state) = true
 is_fine (VlanAdd port vid untagged pvid) = is_vid vid
-is_fine (VlanDel port vid) = true
-is_fine (GroupJoin port vid group) = true
-is_fine (GroupPart port vid group) = true
-is_fine (Router port on) = true
-is_fine (Querier six on) = true
-is_fine (Snoop on) = true
-is_fine (Stp on) = true
 is_fine (AddrPut vid mac port kind) = is_entry (vid, mac) (port, kind)
-is_fine (AddrDel vid mac) = true
+is_fine c = true
 
 abbrev pub AllFine : List Change → Type 0
 AllFine cs = list_all is_fine cs ≡ true
