@@ -2,7 +2,7 @@
 use Rattle.std.proofs.Common.{◌≡◌, ◌≢◌, ℕ, zero, suc, ◌+◌, ◌-◌, ◌^◌, ◌<◌, ◌≤◌, true, false, not, ◌&&◌, eqb, cond, List}
 use Rattle.std.proofs.Common.{length, get_or, set, replicate, count_by, refl, sym, ap, subst, ◌∙◌, ⊎_elim, arith}
 use Rattle.std.proofs.lemmas.Bool.{cases_eq, cases_lt, eq-eqb, ne_eqb}
-use Rattle.std.proofs.lemmas.List.{get_or-set_same, get_or-set_other, length-set, get_or_read, length-replicate}
+use Rattle.std.proofs.lemmas.List.{get_or-set_same, get_or-set_other, length-set, length-replicate}
 use Rattle.std.proofs.lemmas.List.Sums.{sum_by-cons}
 use Rattle.std.specs.List.{insert, remove}
 use Rattle.std.proofs.lemmas.List.Edits.{length-insert, get_or-insert_below, get_or-insert_at, get_or-insert_above, length-remove, get_or-remove_below, get_or-remove_above}
@@ -101,10 +101,8 @@ module _ (hash : ℕ → ℕ) (bits : ℕ) (at : ℕ → ℕ) (slots rest : List
   home-lt k = subst (λ n. home_of hash bits k < n) (sym x.sized) (homes-lt hash x.hashes bits x.few k)
 
   -- what is read in the slot of a key
-  pub slot-read : (k h s : ℕ) → h ≡ home_of hash bits k → s ≡ get_or slots h s → slot_of hash bits slots k ≡ s
-  slot-read k h s is read =
-      let within : h < length slots = subst (λ n. n < length slots) (sym is) (home-lt k) in
-      ap (λ i. get_or slots i 0) (sym is) ∙ sym (get_or_read slots h s within read 0)
+  pub slot-read : (k h s : ℕ) → h ≡ home_of hash bits k → s ≡ get_or slots h 0 → slot_of hash bits slots k ≡ s
+  slot-read k h s is read = ap (λ i. get_or slots i 0) (sym is) ∙ sym read
 
   -- a slot that names a cell names one that holds a key
   pub slot-cell : (k s : ℕ) → slot_of hash bits slots k ≡ s → is_taken s ≡ true → at (s - 1) ≢ 0

@@ -10,3 +10,4 @@ pub mod FreeCells
 pub mod Pairs
 pub mod Sound
 pub mod Roomy
+pub mod Laid

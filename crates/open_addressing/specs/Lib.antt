@@ -7,3 +7,4 @@ pub mod Pairs
 pub mod Hashes
 pub mod Indexed
 pub mod Spare
+pub mod Laid

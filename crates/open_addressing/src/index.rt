@@ -6,6 +6,7 @@ ghost use Rattle.open_addressing.specs.Indexed.{is_taken, named_by, Ascends, Hal
 ghost use Rattle.open_addressing.specs.Zipped.{key_of};
 
 use crate::Cells;
+use crate::slots::Slots;
 use std::alloc::{AllocError, Global};
 
 /// What is in a slot whose key was never there.
@@ -19,7 +20,7 @@ const LEFT: u16 = 65535;
 pub struct Index {
     // There are 2 to this power of slots.
     bits: u32,
-    slots: Vec<u16>,
+    slots: Slots,
     // In the order of their keys. It has its room from the beginning.
     rest: Vec<u16>,
 }
@@ -137,24 +138,24 @@ fn insert_at(rest: &mut Vec<u16>, place: usize, cell: u16)
 impl Index {
     /// No cell is named. It takes the room for so many, of which there may be 65,534: more get no memory.
     pub fn make(alloc: Global, room: usize) -> Result<Index, AllocError>
-        ensures blank { IfOk result (λ x. IsBlank x.bits x.slots.items x.rest.items) }
+        ensures blank { IfOk result (λ x. IsBlank x.bits x.slots x.rest.items) }
         ensures room { IfOk result (λ x. room ≤ vec_capacity x.rest) }
         ensures small { IfOk result (λ x. room < 65535) }
     {
         let bits = bits_for(room).ok_or(AllocError)?;
-        let slots = vec![in alloc; NEVER; 1 << bits]?;
+        let slots = Slots::make(alloc, 1 << bits)?;
         let rest = Vec::with_capacity(alloc, room)?;
         Ok(Index { bits, slots, rest })
     }
 
     /// The cell that holds the key.
     pub fn find<K, V, C: Cells<K, V>>(&self, cells: &C, key: &K) -> Option<usize>
-        requires index { IsIndexed C.hash self.now.bits (key_in key_of None (C.cells cells.now)) self.now.slots.items self.now.rest.items }
+        requires index { IsIndexed C.hash self.now.bits (key_in key_of None (C.cells cells.now)) self.now.slots self.now.rest.items }
         requires key { C.number key.now ≢ 0 }
         ensures found { IfSome result (λ i. (i < length (C.cells cells.now)) × (key_in key_of None (C.cells cells.now) i ≡ C.number key.now)) }
         ensures absent { result ≡ None → (i : ℕ) → key_in key_of None (C.cells cells.now) i ≢ C.number key.now }
     {
-        let slot = self.slots[home(self.bits, C::hash(key))];
+        let slot = self.slots.get(home(self.bits, C::hash(key)));
         if slot == NEVER {
             return None;
         }
@@ -169,7 +170,7 @@ impl Index {
 
     /// Names an empty cell, into which the key is put next.
     pub fn enter<K, V, C: Cells<K, V>>(&mut self, cells: &C, key: &K, cell: usize)
-        requires index { IsIndexed C.hash self.old.bits (key_in key_of None (C.cells cells.now)) self.old.slots.items self.old.rest.items }
+        requires index { IsIndexed C.hash self.old.bits (key_in key_of None (C.cells cells.now)) self.old.slots self.old.rest.items }
         requires key { C.number key.now ≢ 0 }
         requires within { cell < length (C.cells cells.now) }
         requires small { cell + 1 < 65535 }
@@ -177,32 +178,32 @@ impl Index {
         requires absent { (i : ℕ) → key_in key_of None (C.cells cells.now) i ≢ C.number key.now }
         requires room { length self.old.rest.items < vec_capacity self.old.rest }
         ensures index { (c : Option (ℕ × V)) → key_of c ≡ C.number key.now
-            → IsIndexed C.hash self.new.bits (key_in key_of None (slice_set (C.cells cells.now) cell c)) self.new.slots.items self.new.rest.items }
-        ensures named { named_by self.new.slots.items self.new.rest.items ≡ named_by self.old.slots.items self.old.rest.items + 1 }
+            → IsIndexed C.hash self.new.bits (key_in key_of None (slice_set (C.cells cells.now) cell c)) self.new.slots self.new.rest.items }
+        ensures named { named_by self.new.slots self.new.rest.items ≡ named_by self.old.slots self.old.rest.items + 1 }
         ensures room { vec_capacity self.old.rest ≤ vec_capacity self.new.rest }
     {
         let slot = home(self.bits, C::hash(key));
-        if is_taken(self.slots[slot]) {
+        if is_taken(self.slots.get(slot)) {
             let place = rank(cells, self.rest.as_slice(), key);
             insert_at(&mut self.rest, place, cell as u16);
         } else {
-            self.slots[slot] = cell as u16 + 1;
+            self.slots.set(slot, cell as u16 + 1);
         }
     }
 
     /// Names the cell of the key no more, which is emptied next.
     pub fn leave<K, V, C: Cells<K, V>>(&mut self, cells: &C, key: &K, cell: usize)
-        requires index { IsIndexed C.hash self.old.bits (key_in key_of None (C.cells cells.now)) self.old.slots.items self.old.rest.items }
+        requires index { IsIndexed C.hash self.old.bits (key_in key_of None (C.cells cells.now)) self.old.slots self.old.rest.items }
         requires key { C.number key.now ≢ 0 }
         requires within { cell < length (C.cells cells.now) }
         requires here { key_in key_of None (C.cells cells.now) cell ≡ C.number key.now }
-        ensures index { IsIndexed C.hash self.new.bits (key_in key_of None (slice_set (C.cells cells.now) cell None)) self.new.slots.items self.new.rest.items }
-        ensures named { named_by self.new.slots.items self.new.rest.items + 1 ≡ named_by self.old.slots.items self.old.rest.items }
+        ensures index { IsIndexed C.hash self.new.bits (key_in key_of None (slice_set (C.cells cells.now) cell None)) self.new.slots self.new.rest.items }
+        ensures named { named_by self.new.slots self.new.rest.items + 1 ≡ named_by self.old.slots self.old.rest.items }
         ensures room { vec_capacity self.new.rest ≡ vec_capacity self.old.rest }
     {
         let slot = home(self.bits, C::hash(key));
-        if usize::from(self.slots[slot]) == cell + 1 {
-            self.slots[slot] = LEFT;
+        if usize::from(self.slots.get(slot)) == cell + 1 {
+            self.slots.set(slot, LEFT);
         } else {
             match listed(cells, self.rest.as_slice(), key) {
                 Some(place) => {

@@ -51,7 +51,7 @@ impl<K, V, C: Cells<K, V>> Model for Map<K, V, C> {
 
     ghost view = { λ m. record { entries = entries_of (C.cells m.cells); room = m.room; cells = C.cells m.cells } };
 
-    ghost invariant = { λ m. IsSound C.hash m.index.bits m.index.slots.items m.index.rest.items m.spare.fresh m.spare.free.items m.used m.room (C.cells m.cells)
+    ghost invariant = { λ m. IsSound C.hash m.index.bits m.index.slots m.index.rest.items m.spare.fresh m.spare.free.items m.used m.room (C.cells m.cells)
         × (m.room ≤ vec_capacity m.index.rest) × (m.room ≤ vec_capacity m.spare.free) };
 }
 

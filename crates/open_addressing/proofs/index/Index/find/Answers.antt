@@ -10,8 +10,8 @@ use Rattle.open_addressing.proofs.index.Index.find.Goals as goal
 pub home-requires : goal.home-requires
 home-requires g c = record { some = c.requires.index.some; few = c.requires.index.few }
 
-pub index-slot-requires : goal.index-slot-requires
-index-slot-requires g c = omega (arith, c.home.ensures.within, c.requires.index.sized, c.args.self.now.slots.ok.0)
+pub get-slot-requires : goal.get-slot-requires
+get-slot-requires g c = omega (arith, c.home.ensures.within, c.requires.index.sized)
 
 pub returns-then-slot-eq-NEVER-clause-absent : goal.returns-then-slot-eq-NEVER-clause-absent
 returns-then-slot-eq-NEVER-clause-absent g c _ =
@@ -19,8 +19,8 @@ returns-then-slot-eq-NEVER-clause-absent g c _ =
     let k : ℕ = g.C.Cells.number c.args.key.now in
     let at : ℕ → ℕ = key_in key_of None (g.C.Cells.cells c.args.cells.now) in
     let h = home-is g.C.Cells.hash s.bits k c.hash.result c.home.result c.home.ensures.value c.hash.ensures in
-    let read = slot-read g.C.Cells.hash s.bits at s.slots.items s.rest.items c.requires.index k c.home.result c.index-slot.result.now h c.index-slot.ensures in
-    never g.C.Cells.hash s.bits at s.slots.items s.rest.items c.requires.index k c.requires.key (read ∙ c.if-slot-eq-NEVER.true)
+    let read = slot-read g.C.Cells.hash s.bits at s.slots s.rest.items c.requires.index k c.home.result c.get-slot.result h c.get-slot.ensures in
+    never g.C.Cells.hash s.bits at s.slots s.rest.items c.requires.index k c.requires.key (read ∙ c.if-slot-eq-NEVER.true)
 
 pub named-requires : goal.named-requires
 named-requires g c =
@@ -29,10 +29,10 @@ named-requires g c =
     let cells = g.C.Cells.cells c.args.cells.now in
     let at : ℕ → ℕ = key_in key_of None cells in
     let h = home-is g.C.Cells.hash s.bits k c.hash.result c.home.result c.home.ensures.value c.hash.ensures in
-    let read = slot-read g.C.Cells.hash s.bits at s.slots.items s.rest.items c.requires.index k c.home.result c.index-slot.result.now h c.index-slot.ensures in
+    let read = slot-read g.C.Cells.hash s.bits at s.slots s.rest.items c.requires.index k c.home.result c.get-slot.result h c.get-slot.ensures in
     record {
       key = c.requires.key;
-      within = λ full. key-within cells _ (slot-cell g.C.Cells.hash s.bits at s.slots.items s.rest.items c.requires.index k c.index-slot.result.now read full);
+      within = λ full. key-within cells _ (slot-cell g.C.Cells.hash s.bits at s.slots s.rest.items c.requires.index k c.get-slot.result read full);
     }
 
 pub listed-requires : goal.listed-requires
@@ -52,8 +52,8 @@ returns-in_err-place-in-None-clause-absent g c _ =
     let k : ℕ = g.C.Cells.number c.args.key.now in
     let at : ℕ → ℕ = key_in key_of None (g.C.Cells.cells c.args.cells.now) in
     let h = home-is g.C.Cells.hash s.bits k c.hash.result c.home.result c.home.ensures.value c.hash.ensures in
-    let read = slot-read g.C.Cells.hash s.bits at s.slots.items s.rest.items c.requires.index k c.home.result c.index-slot.result.now h c.index-slot.ensures in
-    missed g.C.Cells.hash s.bits at s.slots.items s.rest.items c.requires.index k c.index-slot.result.now c.requires.key read (c.in-None.ensures.none refl)
+    let read = slot-read g.C.Cells.hash s.bits at s.slots s.rest.items c.requires.index k c.home.result c.get-slot.result h c.get-slot.ensures in
+    missed g.C.Cells.hash s.bits at s.slots s.rest.items c.requires.index k c.get-slot.result c.requires.key read (c.in-None.ensures.none refl)
     (subst (λ (r : List ℕ). (j : ℕ) → j < length r → at (get_or r j 0) ≢ k) c.as_slice.ensures.value (c.in_err-place-in-None.ensures.none refl))
 
 pub index-requires : goal.index-requires

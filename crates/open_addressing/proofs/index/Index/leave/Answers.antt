@@ -1,7 +1,7 @@
 use Rattle.std.proofs.Common.{◌≡◌, ◌≢◌, ℕ, List, None, length, get_or, set, refl, sym, ap, subst, ◌∙◌, ◌+◌, ◌<◌, arith}
 use Rattle.std.proofs.lemmas.List.Edits.{length-remove}
 use Rattle.open_addressing.specs.Hashed.{key_in}
-use Rattle.open_addressing.specs.Indexed.{left, is_taken, IsIndexed}
+use Rattle.open_addressing.specs.Indexed.{left, is_taken, named_by, IsIndexed}
 use Rattle.open_addressing.specs.Zipped.{key_of}
 use Rattle.open_addressing.proofs.Hashed.{home-is}
 use Rattle.open_addressing.proofs.Indexed.{slot-read, leaves_slot, leaves_list, stands, taken, not_left, less_slots}
@@ -11,11 +11,11 @@ use Rattle.open_addressing.proofs.index.Index.leave.Goals as goal
 pub home-slot-requires : goal.home-slot-requires
 home-slot-requires g c = record { some = c.requires.index.some; few = c.requires.index.few }
 
-pub index-requires : goal.index-requires
-index-requires g c = omega (arith, c.home-slot.ensures.within, c.requires.index.sized, c.args.self.now.slots.ok.0)
+pub get-requires : goal.get-requires
+get-requires g c = omega (arith, c.home-slot.ensures.within, c.requires.index.sized)
 
-pub index_mut-requires : goal.index_mut-requires
-index_mut-requires g c = omega (arith, c.home-slot.ensures.within, c.requires.index.sized, c.args.self.now.slots.ok.0)
+pub set-requires : goal.set-requires
+set-requires g c = omega (arith, c.home-slot.ensures.within, c.requires.index.sized)
 
 pub listed-requires : goal.listed-requires
 listed-requires g c =
@@ -35,10 +35,10 @@ returns-then-from-cell-clause-index g c =
     let cells = g.C.Cells.cells c.args.cells.now in
     let at : ℕ → ℕ = key_in key_of None cells in
     let h = home-is g.C.Cells.hash s.bits k c.hash.result c.home-slot.result c.home-slot.ensures.value c.hash.ensures in
-    let read = slot-read g.C.Cells.hash s.bits at s.slots.items s.rest.items c.requires.index k c.home-slot.result c.index.result.now h c.index.ensures in
-    subst (λ n. IsIndexed g.C.Cells.hash s.bits (key_in key_of None (set cells p None)) (set s.slots.items n left) s.rest.items) (sym h)
-    (leaves_slot g.C.Cells.hash s.bits at s.slots.items s.rest.items c.requires.index (key_in key_of None (set cells p None)) k p (λ i ne. key-kept cells p None i ne)
-    (λ z. c.requires.key (sym c.requires.here ∙ z)) c.requires.here (key-set cells p None c.requires.within) (read ∙ (let e : c.index.result.now ≡ p + 1 = omega arith in e)))
+    let read = slot-read g.C.Cells.hash s.bits at s.slots s.rest.items c.requires.index k c.home-slot.result c.get.result h c.get.ensures in
+    subst (λ (l : List ℕ). IsIndexed g.C.Cells.hash s.bits (key_in key_of None (set cells p None)) l s.rest.items) (sym (c.set.ensures ∙ ap (λ n. set s.slots n left) h))
+    (leaves_slot g.C.Cells.hash s.bits at s.slots s.rest.items c.requires.index (key_in key_of None (set cells p None)) k p (λ i ne. key-kept cells p None i ne)
+    (λ z. c.requires.key (sym c.requires.here ∙ z)) c.requires.here (key-set cells p None c.requires.within) (read ∙ (let e : c.get.result ≡ p + 1 = omega arith in e)))
 
 pub returns-then-from-cell-clause-named : goal.returns-then-from-cell-clause-named
 returns-then-from-cell-clause-named g c =
@@ -48,9 +48,10 @@ returns-then-from-cell-clause-named g c =
     let at : ℕ → ℕ = key_in key_of None (g.C.Cells.cells c.args.cells.now) in
     let fits = c.requires.index.small p (λ z. c.requires.key (sym c.requires.here ∙ z)) in
     let h = home-is g.C.Cells.hash s.bits k c.hash.result c.home-slot.result c.home-slot.ensures.value c.hash.ensures in
-    let read = slot-read g.C.Cells.hash s.bits at s.slots.items s.rest.items c.requires.index k c.home-slot.result c.index.result.now h c.index.ensures in
-    let here = ap (λ n. get_or s.slots.items n 0) h ∙ read ∙ (let e : c.index.result.now ≡ p + 1 = omega arith in e) in
-    less_slots s.slots.items s.rest.items c.home-slot.result left (omega (arith, c.home-slot.ensures.within, c.requires.index.sized))
+    let read = slot-read g.C.Cells.hash s.bits at s.slots s.rest.items c.requires.index k c.home-slot.result c.get.result h c.get.ensures in
+    let here = ap (λ n. get_or s.slots n 0) h ∙ read ∙ (let e : c.get.result ≡ p + 1 = omega arith in e) in
+    ap (λ (l : List ℕ). named_by l s.rest.items + 1) c.set.ensures
+    ∙ less_slots s.slots s.rest.items c.home-slot.result left (omega (arith, c.home-slot.ensures.within, c.requires.index.sized))
     (ap is_taken here ∙ taken (p + 1) (λ z. absurd (omega arith)) (λ z. absurd (omega arith))) not_left
 
 pub unreachable-requires : goal.unreachable-requires
@@ -60,9 +61,9 @@ unreachable-requires g c =
     let p : ℕ = c.args.cell in
     let at : ℕ → ℕ = key_in key_of None (g.C.Cells.cells c.args.cells.now) in
     let h = home-is g.C.Cells.hash s.bits k c.hash.result c.home-slot.result c.home-slot.ensures.value c.hash.ensures in
-    let read = slot-read g.C.Cells.hash s.bits at s.slots.items s.rest.items c.requires.index k c.home-slot.result c.index.result.now h c.index.ensures in
-    stands g.C.Cells.hash s.bits at s.slots.items s.rest.items c.requires.index k p c.requires.key c.requires.here
-    (λ e. (let other : c.index.result.now ≢ p + 1 = λ z. absurd (omega arith) in other (sym read ∙ e)))
+    let read = slot-read g.C.Cells.hash s.bits at s.slots s.rest.items c.requires.index k c.home-slot.result c.get.result h c.get.ensures in
+    stands g.C.Cells.hash s.bits at s.slots s.rest.items c.requires.index k p c.requires.key c.requires.here
+    (λ e. (let other : c.get.result ≢ p + 1 = λ z. absurd (omega arith) in other (sym read ∙ e)))
     (subst (λ (r : List ℕ). (j : ℕ) → j < length r → at (get_or r j 0) ≢ k) c.as_slice.ensures.value (c.in-None.ensures.none refl))
 
 pub returns-in-Some-clause-index : goal.returns-in-Some-clause-index
@@ -73,12 +74,12 @@ returns-in-Some-clause-index g c =
     let cells = g.C.Cells.cells c.args.cells.now in
     let at : ℕ → ℕ = key_in key_of None cells in
     let h = home-is g.C.Cells.hash s.bits k c.hash.result c.home-slot.result c.home-slot.ensures.value c.hash.ensures in
-    let read = slot-read g.C.Cells.hash s.bits at s.slots.items s.rest.items c.requires.index k c.home-slot.result c.index.result.now h c.index.ensures in
+    let read = slot-read g.C.Cells.hash s.bits at s.slots s.rest.items c.requires.index k c.home-slot.result c.get.result h c.get.ensures in
     let at_place = subst (λ (r : List ℕ). at (get_or r c.in-Some.place 0) ≡ k) c.as_slice.ensures.value c.in-Some.ensures.some.1 in
-    subst (λ (r : List ℕ). IsIndexed g.C.Cells.hash s.bits (key_in key_of None (set cells p None)) s.slots.items r) (sym c.remove.ensures.items)
-    (leaves_list g.C.Cells.hash s.bits at s.slots.items s.rest.items c.requires.index (key_in key_of None (set cells p None)) k p (λ i ne. key-kept cells p None i ne)
+    subst (λ (r : List ℕ). IsIndexed g.C.Cells.hash s.bits (key_in key_of None (set cells p None)) s.slots r) (sym c.remove.ensures.items)
+    (leaves_list g.C.Cells.hash s.bits at s.slots s.rest.items c.requires.index (key_in key_of None (set cells p None)) k p (λ i ne. key-kept cells p None i ne)
     (λ z. c.requires.key (sym c.requires.here ∙ z)) c.requires.here (key-set cells p None c.requires.within)
-    c.in-Some.place (λ e. (let other : c.index.result.now ≢ p + 1 = λ z. absurd (omega arith) in other (sym read ∙ e)))
+    c.in-Some.place (λ e. (let other : c.get.result ≢ p + 1 = λ z. absurd (omega arith) in other (sym read ∙ e)))
     (omega (arith, c.in-Some.ensures.some.0, ap length c.as_slice.ensures.value)) at_place)
 
 pub returns-in-Some-clause-named : goal.returns-in-Some-clause-named

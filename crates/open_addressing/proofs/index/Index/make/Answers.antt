@@ -8,6 +8,6 @@ returns-clause-blank c =
     record {
       some = subst (λ o. IfSome o (λ bits. 0 < bits)) c.in_ok-bits.ensures.ok_part c.bits_for.ensures.some;
       few = few;
-      slots = c.in_ok-slots.ensures.items_if_clones_equal (λ y e. e) ∙ ap (λ n. replicate n 0) (slots-shifted c.in_ok-bits.bits few);
+      slots = c.in_ok-slots.ensures ∙ ap (λ n. replicate n 0) (slots-shifted c.in_ok-bits.bits few);
       rest = c.in_ok-rest.ensures.items;
     }

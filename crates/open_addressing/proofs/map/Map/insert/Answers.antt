@@ -13,7 +13,7 @@ pub invariant_of-self : goal.invariant_of-self
 invariant_of-self g c =
     let m = c.self.inside in
     let f = c.in-Some.ensures.found in
-    let r = sound-over g.C.Cells.hash m.index.bits m.index.slots.items m.index.rest.items m.spare.fresh m.spare.free.items m.used m.room (g.C.Cells.cells m.cells) c.self.invariant.0
+    let r = sound-over g.C.Cells.hash m.index.bits m.index.slots m.index.rest.items m.spare.fresh m.spare.free.items m.used m.room (g.C.Cells.cells m.cells) c.self.invariant.0
     c.in-Some.i (g.C.Cells.number c.args.key.now) c.args.value (g.C.Cells.cells c.put.new.self) f.0 c.requires.key f.1 c.put.ensures in
     (r.0, c.self.invariant.1, c.self.invariant.2)
 
@@ -57,9 +57,9 @@ invariant_of-self-in-None g c =
     let none = c.in-None.ensures.absent refl in
     let room = roomy m.used m.room cells sound.cells c.args.self.now c.self.view_is k c.requires.key (λ i _. none i) c.requires.room in
     let uses = c.take-i.ensures.uses (key_in key_of None cells) m.used m.room sound.spare room in
-    let r = sound-new g.C.Cells.hash m.index.bits m.index.slots.items m.index.rest.items m.spare.fresh m.spare.free.items m.used m.room cells sound
+    let r = sound-new g.C.Cells.hash m.index.bits m.index.slots m.index.rest.items m.spare.fresh m.spare.free.items m.used m.room cells sound
     c.take-i.result k c.args.value
-    (g.C.Cells.cells c.put-in-None.new.self) c.enter.new.self.bits c.enter.new.self.slots.items c.enter.new.self.rest.items c.take-i.new.self.fresh c.take-i.new.self.free.items
+    (g.C.Cells.cells c.put-in-None.new.self) c.enter.new.self.bits c.enter.new.self.slots c.enter.new.self.rest.items c.take-i.new.self.fresh c.take-i.new.self.free.items
     uses c.requires.key none room c.put-in-None.ensures c.enter.ensures.index c.enter.ensures.named in
     (r.0, omega (arith, c.self.invariant.1, c.enter.ensures.room), omega (arith, c.self.invariant.2, c.take-i.ensures.room))
 
@@ -70,7 +70,7 @@ returns-in-Some g c =
     let k : ℕ = g.C.Cells.number c.args.key.now in
     let new = g.C.Cells.cells c.put.new.self in
     let f = c.in-Some.ensures.found in
-    let r = sound-over g.C.Cells.hash m.index.bits m.index.slots.items m.index.rest.items m.spare.fresh m.spare.free.items m.used m.room cells c.self.invariant.0
+    let r = sound-over g.C.Cells.hash m.index.bits m.index.slots m.index.rest.items m.spare.fresh m.spare.free.items m.used m.room cells c.self.invariant.0
     c.in-Some.i k c.args.value new f.0 c.requires.key f.1 c.put.ensures in
     let made : List (ℕ × g.row.V.Denot) → Table g.row.V.Denot = λ es. record { entries = es; room = m.room; cells = new } in
     let puts : Table g.row.V.Denot → Table g.row.V.Denot = λ t. record { entries = put nat_cmp k c.args.value t.entries; room = t.room; cells = new } in
@@ -86,8 +86,8 @@ returns-in-None g c =
     let none = c.in-None.ensures.absent refl in
     let room = roomy m.used m.room cells sound.cells c.args.self.now c.self.view_is k c.requires.key (λ i _. none i) c.requires.room in
     let uses = c.take-i.ensures.uses (key_in key_of None cells) m.used m.room sound.spare room in
-    let r = sound-new g.C.Cells.hash m.index.bits m.index.slots.items m.index.rest.items m.spare.fresh m.spare.free.items m.used m.room cells sound
-    c.take-i.result k c.args.value new c.enter.new.self.bits c.enter.new.self.slots.items c.enter.new.self.rest.items c.take-i.new.self.fresh c.take-i.new.self.free.items
+    let r = sound-new g.C.Cells.hash m.index.bits m.index.slots m.index.rest.items m.spare.fresh m.spare.free.items m.used m.room cells sound
+    c.take-i.result k c.args.value new c.enter.new.self.bits c.enter.new.self.slots c.enter.new.self.rest.items c.take-i.new.self.fresh c.take-i.new.self.free.items
     uses c.requires.key none room c.put-in-None.ensures c.enter.ensures.index c.enter.ensures.named in
     let made : List (ℕ × g.row.V.Denot) → Table g.row.V.Denot = λ es. record { entries = es; room = m.room; cells = new } in
     let puts : Table g.row.V.Denot → Table g.row.V.Denot = λ t. record { entries = put nat_cmp k c.args.value t.entries; room = t.room; cells = new } in

@@ -49,8 +49,8 @@ pub invariant_of-self : goal.invariant_of-self
 invariant_of-self g c =
     let m = c.self.inside in
     let f = c.in_ok-i.ensures.found in
-    let r = sound-out g.C.Cells.hash m.index.bits m.index.slots.items m.index.rest.items m.spare.fresh m.spare.free.items m.used m.room (g.C.Cells.cells m.cells) c.self.invariant.0
-    c.in_ok-i.i (m.used - 1) (g.C.Cells.cells c.clear.new.self) c.leave.new.self.bits c.leave.new.self.slots.items c.leave.new.self.rest.items c.give.new.self.fresh c.give.new.self.free.items
+    let r = sound-out g.C.Cells.hash m.index.bits m.index.slots m.index.rest.items m.spare.fresh m.spare.free.items m.used m.room (g.C.Cells.cells m.cells) c.self.invariant.0
+    c.in_ok-i.i (m.used - 1) (g.C.Cells.cells c.clear.new.self) c.leave.new.self.bits c.leave.new.self.slots c.leave.new.self.rest.items c.give.new.self.fresh c.give.new.self.free.items
     f.0 (λ e. c.requires (sym f.1 ∙ e)) c.clear.ensures c.leave.ensures.index c.leave.ensures.named c.give.ensures.fresh c.give.ensures.free refl in
     (r.0, omega (arith, c.self.invariant.1, c.leave.ensures.room), omega (arith, c.self.invariant.2, c.give.ensures.room))
 
@@ -70,8 +70,8 @@ returns-clause-rest g c =
     let new = g.C.Cells.cells c.clear.new.self in
     let k : ℕ = g.C.Cells.number c.args.key.now in
     let f = c.in_ok-i.ensures.found in
-    let r = sound-out g.C.Cells.hash m.index.bits m.index.slots.items m.index.rest.items m.spare.fresh m.spare.free.items m.used m.room cells c.self.invariant.0
-    c.in_ok-i.i (m.used - 1) new c.leave.new.self.bits c.leave.new.self.slots.items c.leave.new.self.rest.items c.give.new.self.fresh c.give.new.self.free.items
+    let r = sound-out g.C.Cells.hash m.index.bits m.index.slots m.index.rest.items m.spare.fresh m.spare.free.items m.used m.room cells c.self.invariant.0
+    c.in_ok-i.i (m.used - 1) new c.leave.new.self.bits c.leave.new.self.slots c.leave.new.self.rest.items c.give.new.self.fresh c.give.new.self.free.items
     f.0 (λ e. c.requires (sym f.1 ∙ e)) c.clear.ensures c.leave.ensures.index c.leave.ensures.named c.give.ensures.fresh c.give.ensures.free refl in
     let made : List (ℕ × g.row.V.Denot) → Table g.row.V.Denot = λ es. record { entries = es; room = m.room; cells = new } in
     let takes : Table g.row.V.Denot → Table g.row.V.Denot = λ t. record { entries = where_key nat_cmp (λ q. not (eq_by_cmp nat_cmp k q)) t.entries; room = t.room; cells = new } in
