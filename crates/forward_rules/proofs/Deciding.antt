@@ -1,6 +1,6 @@
 -- The parts of a decision, over a table of ports and addresses.
-use Rattle.std.proofs.Common.{◌≡◌, ℕ, ◌<◌, Bool, true, false, not, ◌&&◌, ◌||◌, cond, List, [], length, Option, None, Some, is_some, option_map, refl, sym, ap, ap₂, subst, ◌∙◌, arith}
-use Rattle.std.specs.Prelude.{◌==◌, nat_lt, IfSome}
+use Rattle.std.proofs.Common.{◌≡◌, ℕ, ◌<◌, Bool, true, false, not, ◌&&◌, ◌||◌, cond, List, [], length, Option, None, Some, is_some, option_map, refl, sym, ap, ap₂, ◌∙◌, arith}
+use Rattle.std.specs.Prelude.{◌==◌, nat_lt}
 use Rattle.std.specs.Option.{option_map_or}
 use Rattle.std.specs.Ordering.{nat_cmp}
 use Rattle.lemmas.proofs.Endings.{option_map-none}
@@ -70,23 +70,14 @@ unknown-targets t vid head msg station none =
 
 -- ---- the class
 
-pub crosses-is : (d : Domains) (t : Table) (p vid : ℕ) (head : Head) (msg : McastMsg) (known : Option ℕ) (eligible : List ℕ) → IfSome known (λ q. q < port_places)
-    → known ≡ known_port t vid head.dst → eligible ≡ ports_where (λ q. may t p q vid)
-    → option_map_or (λ q. foreign d p q && has_number eligible q) known false ≡ crosses d t p vid head
-crosses-is d t p vid head msg known eligible below is e =
-    ap (λ o. option_map_or (λ q. foreign d p q && has_number eligible q) o false) is
-    ∙ by (is_multicast head.dst) (get pair_cmp t.addr (vid, head.dst)) (subst (λ o. IfSome o (λ q. q < port_places)) is below)
+-- no station is known
+pub never-crosses : (d : Domains) (t : Table) (p vid : ℕ) (head : Head) → known_port t vid head.dst ≡ None → crosses d t p vid head ≡ false
+never-crosses d t p vid head unknown = by (is_multicast head.dst) (get pair_cmp t.addr (vid, head.dst)) unknown
   where
-    by : (group : Bool) (o : Option (ℕ × Kind)) → IfSome (cond group None (option_map port_of o)) (λ q. q < port_places)
-        → option_map_or (λ q. foreign d p q && has_number eligible q) (cond group None (option_map port_of o)) false
-        ≡ (not group && option_map_or (λ x. foreign d p (port_of x) && may t p (port_of x) vid) o false)
-    by true o low = refl
-    by false None low = refl
-    by false (Some x) low = ap (λ b. foreign d p (port_of x) && b) (member-of (λ q. may t p q vid) eligible (port_of x) e low)
-
-pub or-assoc : (a b c : Bool) → ((a || b) || c) ≡ (a || (b || c))
-or-assoc true b c = refl
-or-assoc false b c = refl
+    by : (group : Bool) (o : Option (ℕ × Kind)) → cond group None (option_map port_of o) ≡ None → (not group && option_map_or (λ x. foreign d p (port_of x) && may t p (port_of x) vid) o false) ≡ false
+    by true o e = refl
+    by false None e = refl
+    by false (Some x) e = absurd (cc e)
 
 pub class-is : (d : Domains) (t : Table) (p vid : ℕ) (head : Head) (msg : McastMsg) (trapped : Bool) (ports : List ℕ) (cls : Class) → to_tree t p head ≡ false → admit t p head ≡ Some vid
     → trapped ≡ is_trapped_in d t p (Some vid) head msg → ports ≡ ports_out t p head msg → cls ≡ cond trapped Trap (class_by d p ports) → cls ≡ class d t p head msg

@@ -1,14 +1,13 @@
 -- What sets of ports tell of the parts of a table.
-use Rattle.std.proofs.Common.{◌≡◌, ℕ, ◌<◌, arith, Bool, true, false, not, ◌&&◌, ◌||◌, cond, List, refl, sym, ap, ap₂, ◌∙◌, inl, inr}
+use Rattle.std.proofs.Common.{◌≡◌, ℕ, ◌<◌, arith, Bool, true, false, not, ◌&&◌, cond, List, refl, sym, ap, ap₂, ◌∙◌, inl, inr}
 use Rattle.std.specs.Prelude.{◌==◌}
 use Rattle.std.specs.Ordering.{nat_cmp}
 use Rattle.std.proofs.Math.Bool.{and-false}
 use Rattle.std.proofs.lemmas.Bool.{eq-eqb, ne_eqb, cases_lt}
 use Rattle.std.proofs.lemmas.Bool.Decides.{eqb_tells}
-use Rattle.br_model.specs.Forward.Admission.{forwarding, learning, is_forwarding, member}
+use Rattle.br_model.specs.Forward.Admission.{forwarding, is_forwarding, member}
 use Rattle.br_model.specs.Table.Domains.{host, port_places}
 use Rattle.br_model.specs.Forward.Eligible.{may}
-use Rattle.br_model.specs.Control.Learning.{learning_flag, may_teach}
 use Rattle.br_model.specs.Data.Maps.{get, has, put, joined, parted, without}
 use Rattle.br_model.specs.Table.Table.{Table, apply, default_flags, disabled}
 use Rattle.br_model.specs.Forward.Targets.{has_flag, isolated}
@@ -45,30 +44,6 @@ pub is-forwarding : (t : Table) (n k p : ℕ) (up forwards : List ℕ) → up �
     → (has_number up n && has_number forwards k) ≡ is_forwarding t p
 is-forwarding t n k p up forwards u f low is same =
     ap₂ ◌&&◌ (ap₂ has_number u is ∙ sym (has-is t.up p)) (in-state t.state forwarding k p forwards f low same)
-
--- what the sets tell of a port that may teach
-pub may-teach : (t : Table) (p vid n : ℕ) (up learns forwards either states flags all : List ℕ) → up ≡ t.up → learns ≡ in_state t.state learning → forwards ≡ in_state t.state forwarding
-    → either ≡ ports_where (λ q. has_number learns q || has_number forwards q) → states ≡ ports_where (λ q. has_number up q && has_number either q)
-    → flags ≡ flagged t.flags learning_flag → all ≡ ports_where (λ q. has_number states q && has_number flags q) → p < port_places → n ≡ p
-    → (has_number all n && member t p vid) ≡ may_teach t p vid
-may-teach t p vid n up learns forwards either states flags all u l f e s g a low is =
-    ap (λ b. b && member t p vid)
-    (ap (has_number all) is
-    ∙ member-of _ all p a low
-    ∙ ap₂ ◌&&◌
-    (member-of _ states p s low
-    ∙ ap₂ ◌&&◌ (ap (λ (ns : List ℕ). has_number ns p) u ∙ sym (has-is t.up p))
-    (member-of _ either p e low ∙ ap₂ ◌||◌ (in-state t.state learning p p learns l low refl) (in-state t.state forwarding p p forwards f low refl)))
-    (has-flag t.flags learning_flag p p flags g low refl))
-    ∙ turn (has nat_cmp t.up p) (state_is (get nat_cmp t.state p) learning) (state_is (get nat_cmp t.state p) forwarding) (has_flag t p learning_flag) (member t p vid)
-  where
-    turn : (u l f g m : Bool) → (((u && (l || f)) && g) && m) ≡ (((u && l) || (u && f)) && (g && m))
-    turn true true f true m = refl
-    turn true true f false m = refl
-    turn true false true true m = refl
-    turn true false true false m = refl
-    turn true false false g m = refl
-    turn false l f g m = refl
 
 -- whether a port other than the host may take a frame
 abbrev elsewhere : Table → ℕ → ℕ → ℕ → Bool

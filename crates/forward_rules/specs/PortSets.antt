@@ -4,8 +4,7 @@ use Rattle.std.specs.declared.option.Option.{Option}
 use Rattle.std.specs.declared.option.Option.TheVariants.{Some}
 use Rattle.std.specs.Option.{option_eq, unwrap_or}
 use Rattle.std.specs.Ordering.{nat_cmp}
-use Rattle.br_model.specs.Forward.Admission.{learning, forwarding}
-use Rattle.br_model.specs.Control.Learning.{learning_flag}
+use Rattle.br_model.specs.Forward.Admission.{forwarding}
 use Rattle.br_model.specs.Data.Maps.{get, has}
 use Rattle.br_model.specs.Forward.Targets.{flood, mcast_flood, bcast_flood, isolated}
 use Rattle.br_model.specs.Table.Domains.{last_port}
@@ -39,16 +38,14 @@ set_of ports = ports_where (has nat_cmp ports)
 abbrev pub ArePorts : List ℕ → Type 0
 ArePorts numbers = (n : ℕ) → last_port < n → has_number numbers n ≡ false
 
--- these are the ports that have each flag
-pub record AreFlagged (flags : List (ℕ × ℕ)) (learns floods mcast_floods bcast_floods isolates : List ℕ) : Type 0 where
-  pub learn : learns ≡ flagged flags learning_flag
+-- these are the ports that have each of the flags that are asked of all ports
+pub record AreFlagged (flags : List (ℕ × ℕ)) (floods mcast_floods bcast_floods isolates : List ℕ) : Type 0 where
   pub flood : floods ≡ flagged flags flood
   pub mcast_flood : mcast_floods ≡ flagged flags mcast_flood
   pub bcast_flood : bcast_floods ≡ flagged flags bcast_flood
   pub isolated : isolates ≡ flagged flags isolated
 
--- these are the ports in each of the states that matter
-pub record AreInState (states : List (ℕ × ℕ)) (learns forwards : List ℕ) : Type 0 where
-  pub learn : learns ≡ in_state states learning
+-- these are the ports that forward
+pub record AreInState (states : List (ℕ × ℕ)) (forwards : List ℕ) : Type 0 where
   pub forward : forwards ≡ in_state states forwarding
   pub within : ArePorts forwards

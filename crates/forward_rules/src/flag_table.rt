@@ -3,10 +3,9 @@ ghost use Rattle.std.specs.Prelude.{◌≡◌, ℕ, ◌<◌, ◌==◌, ◌/◌, 
 ghost use Rattle.std.specs.Option.{unwrap_or};
 ghost use Rattle.std.specs.Ordering.{nat_cmp};
 ghost use Rattle.br_model.specs.Table.Domains.{entries_from};
-ghost use Rattle.br_model.specs.Control.Learning.{learning_flag};
 ghost use Rattle.br_model.specs.Data.Maps.{get, put, without};
 ghost use Rattle.br_model.specs.Forward.Targets.{flood, mcast_flood, bcast_flood, isolated};
-ghost use Rattle.forward_rules.specs.PortSets.{flagged};
+ghost use Rattle.forward_rules.specs.PortSets.{flag_is_set, flagged};
 
 use crate::place::place_in;
 use br_model::change::Flags;
@@ -18,8 +17,7 @@ use std::marker::Model;
 #[derive(Drop)]
 pub struct FlagTable {
     by_port: [Option<Flags>; Port::PLACES],
-    // The ports that have each of the flags that decisions ask for.
-    learning: Ports,
+    // The ports that have each of the flags that decisions ask of all ports.
     flood: Ports,
     mcast_flood: Ports,
     bcast_flood: Ports,
@@ -35,7 +33,7 @@ impl Model for FlagTable {
 
     ghost view = { λ f. entries_from 0 f.by_port };
 
-    ghost invariant = { λ f. AreFlagged (entries_from 0 f.by_port) f.learning f.flood f.mcast_flood f.bcast_flood f.isolated };
+    ghost invariant = { λ f. AreFlagged (entries_from 0 f.by_port) f.flood f.mcast_flood f.bcast_flood f.isolated };
 }
 
 impl FlagTable {
@@ -45,7 +43,6 @@ impl FlagTable {
     {
         FlagTable {
             by_port: [None; Port::PLACES],
-            learning: Ports::empty(),
             flood: Ports::empty(),
             mcast_flood: Ports::empty(),
             bcast_flood: Ports::empty(),
@@ -79,21 +76,21 @@ impl FlagTable {
     {
         let bits = bits_of(&flags);
         self.by_port[usize::from(port.number())] = flags;
-        place_in(&mut self.learning, port, has(bits, Flags::LEARNING));
         place_in(&mut self.flood, port, has(bits, Flags::FLOOD));
         place_in(&mut self.mcast_flood, port, has(bits, Flags::MCAST_FLOOD));
         place_in(&mut self.bcast_flood, port, has(bits, Flags::BCAST_FLOOD));
         place_in(&mut self.isolated, port, has(bits, Flags::ISOLATED));
     }
 
-    /// The ports with the flag `learning`: frames teach there (Linux's BR_LEARNING).
-    pub fn learning(&self) -> Ports
-        ensures { result ≡ flagged self.now learning_flag }
+    /// Whether the port has the flag of this place.
+    pub fn has_flag(&self, port: Port, place: u8) -> bool
+        requires { place < 8 }
+        ensures { result ≡ flag_is_set (get nat_cmp self.now port) place }
     {
-        self.learning
+        has(bits_of(&self.of(port)), place)
     }
 
-    /// Those with `flood`: unknown unicast goes there (Linux's BR_FLOOD).
+    /// The ports with the flag `flood`: unknown unicast goes there (Linux's BR_FLOOD).
     pub fn flood(&self) -> Ports
         ensures { result ≡ flagged self.now flood }
     {

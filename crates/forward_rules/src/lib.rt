@@ -1,6 +1,7 @@
 //! The software tables of a bridge: what a list of changes comes to, and what it decides of a frame.
 //!
-//! A decision looks up one address, and asks the rest of sets of ports. Memory is taken at the making alone.
+//! A decision looks up one address. Of a frame to a known station it asks that one port, of others sets of ports. Memory is taken
+//! at the making alone.
 #![tactic(auto)]
 
 mod flag_table;

@@ -1,7 +1,7 @@
 //! All parts of the table but the addresses.
 ghost use Rattle.std.specs.Prelude.{◌≡◌, ◌==◌, ◌&&◌, ◌||◌, ◌∷◌, true, IfOk, IsTrue, Some};
 ghost use Rattle.std.specs.Ordering.{nat_cmp};
-ghost use Rattle.br_model.specs.Forward.Admission.{is_up, is_forwarding, member, vlan_of_tag, vlan_of, admit};
+ghost use Rattle.br_model.specs.Forward.Admission.{is_up, is_in_state, is_forwarding, member, vlan_of_tag, vlan_of, admit};
 ghost use Rattle.br_model.specs.Forward.Class.{is_snooped};
 ghost use Rattle.br_model.specs.Control.Commands.Groups.{is_joined};
 ghost use Rattle.br_model.specs.Table.Domains.{host};
@@ -12,7 +12,7 @@ ghost use Rattle.br_model.specs.Table.Limits.{fits};
 ghost use Rattle.br_model.specs.Data.Maps.{get, has};
 ghost use Rattle.br_model.specs.Data.Numbers.{is_multicast};
 ghost use Rattle.br_model.specs.Table.Table.{start, apply};
-ghost use Rattle.br_model.specs.Forward.Targets.{bridge_group_address, pause_address, bcast_flood, knows_querier, multicast_flood, to_routers, to_members, snooped_targets, targets, to_tree, with_flag, flood};
+ghost use Rattle.br_model.specs.Forward.Targets.{bridge_group_address, pause_address, bcast_flood, has_flag, isolated, knows_querier, multicast_flood, to_routers, to_members, snooped_targets, targets, to_tree, with_flag, flood};
 ghost use Rattle.br_model.specs.declared.change.Change.TheVariants as Change;
 ghost use Rattle.mdb_snoop.specs.Database.{pairs_of_port};
 ghost use Rattle.vlan_groups.specs.Rows.{ports_where};
@@ -24,7 +24,7 @@ use crate::NoMemory;
 use crate::flag_table::FlagTable;
 use crate::place::placed;
 use crate::state_table::StateTable;
-use br_model::change::{Change, DISABLED, Flags};
+use br_model::change::{Change, DISABLED, FORWARDING, Flags, LEARNING};
 use br_model::frame::{Head, McastMsg, Tag};
 use br_model::group::Group;
 use br_model::numbers::{Mac, Port, Vid};
@@ -213,10 +213,17 @@ impl PortTables {
         self.stp
     }
 
+    /// Whether the port is up, in the state of this number.
+    fn is_in_state(&self, port: Port, state: u8) -> bool
+        ensures { result ≡ is_in_state self.now port state }
+    {
+        self.is_up(port) && self.states.is_in(port, state)
+    }
+
     fn is_forwarding(&self, port: Port) -> bool
         ensures { result ≡ is_forwarding self.now port }
     {
-        self.up.has(port.number()) && self.states.forwarding().has(port.number())
+        self.is_in_state(port, FORWARDING)
     }
 
     /// The VLAN that the frame's tag, or its absence, gives at the port.
@@ -256,11 +263,8 @@ impl PortTables {
     pub fn may_teach(&self, port: Port, vid: Vid) -> bool
         ensures { result ≡ may_teach self.now port vid }
     {
-        let learns = self.states.learning().or(self.states.forwarding());
-        self.up
-            .and(learns)
-            .and(self.flags.learning())
-            .has(port.number())
+        (self.is_in_state(port, LEARNING) || self.is_forwarding(port))
+            && self.flags.has_flag(port, Flags::LEARNING)
             && self.vlans.member(port, vid)
     }
 
@@ -279,6 +283,33 @@ impl PortTables {
         ensures { result ≡ ports_where (λ q. untagged self.now q vid) }
     {
         self.vlans.untagged_of(vid)
+    }
+
+    /// Whether the port is a member that the VLAN's frames leave without a tag.
+    pub fn is_untagged(&self, port: Port, vid: Vid) -> bool
+        ensures { result ≡ untagged self.now port vid }
+    {
+        self.vlans.untagged(port, vid)
+    }
+
+    /// Whether a port may take a frame of the VLAN that came by another.
+    pub fn may_take(&self, from: Port, to: Port, vid: Vid) -> bool
+        ensures { result ≡ may self.now from to vid }
+    {
+        if to.is_host() {
+            return self.vlans.member(to, vid);
+        }
+        to != from
+            && self.is_forwarding(to)
+            && self.vlans.member(to, vid)
+            && !self.are_isolated(from, to)
+    }
+
+    /// Whether both ports have the flag `isolated`.
+    fn are_isolated(&self, port: Port, other: Port) -> bool
+        ensures { result ≡ (has_flag self.now port isolated && has_flag self.now other isolated) }
+    {
+        self.flags.has_flag(port, Flags::ISOLATED) && self.flags.has_flag(other, Flags::ISOLATED)
     }
 
     /// The ports that may take a frame of the VLAN that came by this port.

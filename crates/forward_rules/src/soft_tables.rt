@@ -1,10 +1,10 @@
 //! The whole table, and what it decides of a frame.
-ghost use Rattle.std.specs.Prelude.{◌≡◌, ◌<◌, nat_lt, ◌&&◌, ◌||◌, [], false, length, IfOk, IfSome, IsTrue, Some};
-ghost use Rattle.std.specs.Option.{is_some, option_map_or};
+ghost use Rattle.std.specs.Prelude.{◌≡◌, nat_lt, ◌&&◌, ◌||◌, [], false, length, if◌then◌else◌, IfOk, IsTrue, None, Some};
+ghost use Rattle.std.specs.Option.{is_some};
 ghost use Rattle.br_model.specs.Control.Learning.{may_teach};
 ghost use Rattle.br_model.specs.Forward.Admission.{admit, vlan_of};
-ghost use Rattle.br_model.specs.Forward.Class.{class};
-ghost use Rattle.br_model.specs.Table.Domains.{foreign, host, port_places};
+ghost use Rattle.br_model.specs.Forward.Class.{class, is_snooped};
+ghost use Rattle.br_model.specs.Table.Domains.{host};
 ghost use Rattle.br_model.specs.Forward.Leave.{ports_out};
 ghost use Rattle.br_model.specs.Forward.Untagged.{untagged_among};
 ghost use Rattle.br_model.specs.Table.Limits.{fits, most_addresses};
@@ -15,9 +15,11 @@ ghost use Rattle.port_sets.specs.Numbers.{has_number};
 ghost use Rattle.forward_rules.specs.PortSets.{set_of};
 ghost use Rattle.forward_rules.specs.Verdicts.{known_port};
 ghost use Rattle.br_model.specs.declared.change.Change.TheVariants as Change;
+ghost use Rattle.br_model.specs.declared.frame.Class.TheVariants.{Drop, Forward, Trap};
 
 use crate::NoMemory;
 use crate::foreign::{class_by, is_foreign};
+use crate::place::placed;
 use crate::port_tables::PortTables;
 use br_model::change::{Asks, BLOCKING, Change, Kind};
 use br_model::domains::Domains;
@@ -87,7 +89,7 @@ impl SoftTables {
     fn has_room_at(&self, vid: Vid, mac: Mac) -> bool
         ensures { result ≡ (is_some (get pair_cmp self.now.addr (vid, mac)) || nat_lt (length self.now.addr) most_addresses) }
     {
-        self.fdb.find(vid, mac).is_some() || self.fdb.len() < MOST_ADDRESSES
+        self.fdb.len() < MOST_ADDRESSES || self.fdb.find(vid, mac).is_some()
     }
 
     /// What the table is after one more change.
@@ -167,12 +169,63 @@ impl SoftTables {
         ensures ports { result.ports ≡ ports_out self.now p h.now m.now }
         ensures untagged { result.untagged ≡ untagged_among self.now result.vid result.ports }
     {
-        let known = self.known_port(vid, h.dst);
+        match self.known_port(vid, h.dst) {
+            Some(goal) => self.to_station(p, vid, goal, h, m, d),
+            None => self.to_many(p, vid, h, m, d),
+        }
+    }
+
+    /// Of a frame to the known station behind a port, or to the host.
+    fn to_station(
+        &self,
+        p: Port,
+        vid: Vid,
+        goal: Port,
+        h: &Head,
+        m: &McastMsg,
+        d: &Domains,
+    ) -> Verdict
+        requires other { to_tree self.now p h.now ≡ false }
+        requires admitted { admit self.now p h.now ≡ Some vid }
+        requires known { known_port self.now vid h.now.dst ≡ Some goal }
+        ensures class { result.class ≡ class d.now self.now p h.now m.now }
+        ensures vid { result.vid ≡ Some vid }
+        ensures ports { result.ports ≡ ports_out self.now p h.now m.now }
+        ensures untagged { result.untagged ≡ untagged_among self.now result.vid result.ports }
+    {
+        // law: the port is in range
+        let _number = goal.number();
+        let takes = self.ports.may_take(p, goal, vid);
+        let is_trapped = self.snoops_or_crosses(m, takes, is_foreign(d, p, goal));
+        let untagged = takes && self.ports.is_untagged(goal, vid);
+        Verdict {
+            class: class_to_one(is_trapped, takes),
+            vid: Some(vid),
+            ports: placed(Ports::empty(), goal, takes),
+            untagged: placed(Ports::empty(), goal, untagged),
+        }
+    }
+
+    /// Whether snooping wants to see the message, or a port of another domain takes it.
+    fn snoops_or_crosses(&self, m: &McastMsg, takes: bool, foreign: bool) -> bool
+        ensures { result ≡ ((self.now.snoop && is_snooped m.now) || (foreign && takes)) }
+    {
+        self.ports.snoops(m) || (foreign && takes)
+    }
+
+    /// Of a frame to a group, to all, or to a station that isn't known.
+    fn to_many(&self, p: Port, vid: Vid, h: &Head, m: &McastMsg, d: &Domains) -> Verdict
+        requires other { to_tree self.now p h.now ≡ false }
+        requires admitted { admit self.now p h.now ≡ Some vid }
+        requires unknown { known_port self.now vid h.now.dst ≡ None }
+        ensures class { result.class ≡ class d.now self.now p h.now m.now }
+        ensures vid { result.vid ≡ Some vid }
+        ensures ports { result.ports ≡ ports_out self.now p h.now m.now }
+        ensures untagged { result.untagged ≡ untagged_among self.now result.vid result.ports }
+    {
         let eligible = self.ports.eligible(p, vid);
-        let ports = self.targets(vid, h, m, &known).and(eligible);
-        let is_trapped = self.ports.snoops(m)
-            || reaches_host(h, &eligible)
-            || crosses(d, p, known, &eligible);
+        let ports = self.targets(vid, h, m).and(eligible);
+        let is_trapped = self.ports.snoops(m) || reaches_host(h, &eligible);
         let class = if is_trapped {
             Class::Trap
         } else {
@@ -197,17 +250,15 @@ impl SoftTables {
         Some(port_of(entry))
     }
 
-    /// Where an admitted frame of the VLAN is to go.
-    fn targets(&self, vid: Vid, h: &Head, m: &McastMsg, known: &Option<Port>) -> Ports
-        requires { known.now ≡ known_port self.now vid h.now.dst }
+    /// Where an admitted frame of the VLAN is to go, but for one to a known station.
+    fn targets(&self, vid: Vid, h: &Head, m: &McastMsg) -> Ports
+        requires { known_port self.now vid h.now.dst ≡ None }
         ensures { result ≡ set_of (targets self.now vid h.now m.now) }
     {
         if h.dst.is_multicast() {
-            return self.ports.group_targets(vid, h, m);
-        }
-        match *known {
-            Some(port) => Ports::empty().with(port.number()),
-            None => self.ports.flood(),
+            self.ports.group_targets(vid, h, m)
+        } else {
+            self.ports.flood()
         }
     }
 }
@@ -240,13 +291,15 @@ fn reaches_host(head: &Head, eligible: &Ports) -> bool
     head.dst.is_for_the_host() && eligible.has(Port::HOST.number())
 }
 
-/// Whether the frame is for a known station behind a port of another domain, and that port may take it.
-fn crosses(domains: &Domains, port: Port, known: Option<Port>, eligible: &Ports) -> bool
-    ensures value { result ≡ option_map_or (λ q. foreign domains.now port q && has_number eligible.now q) known false }
-    ensures below { IfSome known (λ q. q < port_places) }
+/// The class of a frame to one port, which may take it or not.
+fn class_to_one(is_trapped: bool, takes: bool) -> Class
+    ensures { result ≡ (if is_trapped then Trap else if takes then Forward else Drop) }
 {
-    match known {
-        Some(other) => is_foreign(domains, port, other) && eligible.has(other.number()),
-        None => false,
+    if is_trapped {
+        Class::Trap
+    } else if takes {
+        Class::Forward
+    } else {
+        Class::Drop
     }
 }

@@ -1,13 +1,13 @@
 //! The states of ports.
 ghost use Rattle.std.specs.Prelude.{◌≡◌, ℕ, [], Some, None};
 ghost use Rattle.std.specs.Ordering.{nat_cmp};
-ghost use Rattle.br_model.specs.Forward.Admission.{learning, forwarding};
+ghost use Rattle.br_model.specs.Forward.Admission.{forwarding};
 ghost use Rattle.br_model.specs.Table.Domains.{entries_from};
 ghost use Rattle.br_model.specs.Data.Maps.{get, put, without};
-ghost use Rattle.forward_rules.specs.PortSets.{ArePorts, in_state};
+ghost use Rattle.forward_rules.specs.PortSets.{ArePorts, state_is, in_state};
 
 use crate::place::place_in;
-use br_model::change::{FORWARDING, LEARNING};
+use br_model::change::FORWARDING;
 use br_model::numbers::Port;
 use port_sets::Ports;
 use std::marker::Model;
@@ -16,8 +16,7 @@ use std::marker::Model;
 #[derive(Drop)]
 pub struct StateTable {
     by_port: [Option<u8>; Port::PLACES],
-    // The ports in the states that decisions ask for.
-    learning: Ports,
+    // The ports in the state that decisions ask of all ports.
     forwarding: Ports,
 }
 
@@ -30,7 +29,7 @@ impl Model for StateTable {
 
     ghost view = { λ s. entries_from 0 s.by_port };
 
-    ghost invariant = { λ s. AreInState (entries_from 0 s.by_port) s.learning s.forwarding };
+    ghost invariant = { λ s. AreInState (entries_from 0 s.by_port) s.forwarding };
 }
 
 impl StateTable {
@@ -40,7 +39,6 @@ impl StateTable {
     {
         StateTable {
             by_port: [None; Port::PLACES],
-            learning: Ports::empty(),
             forwarding: Ports::empty(),
         }
     }
@@ -71,15 +69,14 @@ impl StateTable {
         ensures none { state ≡ None → self.new ≡ without nat_cmp self.old port }
     {
         self.by_port[usize::from(port.number())] = state;
-        place_in(&mut self.learning, port, state == Some(LEARNING));
         place_in(&mut self.forwarding, port, state == Some(FORWARDING));
     }
 
-    /// The ports in the state `learning`.
-    pub fn learning(&self) -> Ports
-        ensures { result ≡ in_state self.now learning }
+    /// Whether the port is in the state of this number.
+    pub fn is_in(&self, port: Port, state: u8) -> bool
+        ensures { result ≡ state_is (get nat_cmp self.now port) state }
     {
-        self.learning
+        self.of(port) == Some(state)
     }
 
     /// The ports in the state `forwarding`.

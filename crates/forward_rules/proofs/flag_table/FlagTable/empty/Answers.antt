@@ -5,9 +5,8 @@ use Rattle.forward_rules.proofs.flag_table.FlagTable.empty.Goals as goal
 
 pub invariant_of-result : goal.invariant_of-result
 invariant_of-result c = record {
-  learn = c.empty.ensures ∙ sym (none_below _ port_places (λ m low. refl));
-  flood = c.empty-2.ensures ∙ sym (none_below _ port_places (λ m low. refl));
-  mcast_flood = c.empty-3.ensures ∙ sym (none_below _ port_places (λ m low. refl));
-  bcast_flood = c.empty-4.ensures ∙ sym (none_below _ port_places (λ m low. refl));
-  isolated = c.empty-5.ensures ∙ sym (none_below _ port_places (λ m low. refl));
+  flood = c.empty.ensures ∙ sym (none_below _ port_places (λ m low. refl));
+  mcast_flood = c.empty-2.ensures ∙ sym (none_below _ port_places (λ m low. refl));
+  bcast_flood = c.empty-3.ensures ∙ sym (none_below _ port_places (λ m low. refl));
+  isolated = c.empty-4.ensures ∙ sym (none_below _ port_places (λ m low. refl));
 }

@@ -1,6 +1,5 @@
 use Rattle.std.proofs.Common.{◌≡◌, ◌<◌, length, ap, ◌∙◌, Some, arith}
 use Rattle.std.specs.Ordering.{nat_cmp}
-use Rattle.br_model.specs.Control.Learning.{learning_flag}
 use Rattle.br_model.specs.Data.Maps.{put, without}
 use Rattle.br_model.specs.Forward.Targets.{flood, mcast_flood, bcast_flood, isolated}
 use Rattle.forward_rules.specs.PortSets.{flag_is_set}
@@ -12,24 +11,21 @@ invariant_of-self c =
     let port : c.from.result ≡ c.args.port = omega arith in
     let within : c.from.result < length c.self.inside.by_port = omega arith in
     record {
-      learn = placed-is
-          (λ o. flag_is_set o learning_flag) c.self.inside.by_port c.from.result c.args.port c.args.flags c.has.result c.self.inside.learning c.place_in.new.set within port c.self.invariant.learn
-          (c.has.ensures ∙ ap (λ bits. flag_is_set (Some bits) learning_flag) c.bits_of-bits.ensures) c.place_in.ensures;
       flood = placed-is
-          (λ o. flag_is_set o flood) c.self.inside.by_port c.from.result c.args.port c.args.flags c.has-2.result c.self.inside.flood c.place_in-2.new.set within port c.self.invariant.flood
-          (c.has-2.ensures ∙ ap (λ bits. flag_is_set (Some bits) flood) c.bits_of-bits.ensures) c.place_in-2.ensures;
+          (λ o. flag_is_set o flood) c.self.inside.by_port c.from.result c.args.port c.args.flags c.has.result c.self.inside.flood c.place_in.new.set within port c.self.invariant.flood
+          (c.has.ensures ∙ ap (λ bits. flag_is_set (Some bits) flood) c.bits_of-bits.ensures) c.place_in.ensures;
       mcast_flood =
           placed-is
-          (λ o. flag_is_set o mcast_flood) c.self.inside.by_port c.from.result c.args.port c.args.flags c.has-3.result c.self.inside.mcast_flood c.place_in-3.new.set within port
-          c.self.invariant.mcast_flood (c.has-3.ensures ∙ ap (λ bits. flag_is_set (Some bits) mcast_flood) c.bits_of-bits.ensures) c.place_in-3.ensures;
+          (λ o. flag_is_set o mcast_flood) c.self.inside.by_port c.from.result c.args.port c.args.flags c.has-2.result c.self.inside.mcast_flood c.place_in-2.new.set within port
+          c.self.invariant.mcast_flood (c.has-2.ensures ∙ ap (λ bits. flag_is_set (Some bits) mcast_flood) c.bits_of-bits.ensures) c.place_in-2.ensures;
       bcast_flood =
           placed-is
-          (λ o. flag_is_set o bcast_flood) c.self.inside.by_port c.from.result c.args.port c.args.flags c.has-4.result c.self.inside.bcast_flood c.place_in-4.new.set within port
-          c.self.invariant.bcast_flood (c.has-4.ensures ∙ ap (λ bits. flag_is_set (Some bits) bcast_flood) c.bits_of-bits.ensures) c.place_in-4.ensures;
+          (λ o. flag_is_set o bcast_flood) c.self.inside.by_port c.from.result c.args.port c.args.flags c.has-3.result c.self.inside.bcast_flood c.place_in-3.new.set within port
+          c.self.invariant.bcast_flood (c.has-3.ensures ∙ ap (λ bits. flag_is_set (Some bits) bcast_flood) c.bits_of-bits.ensures) c.place_in-3.ensures;
       isolated =
           placed-is
-          (λ o. flag_is_set o isolated) c.self.inside.by_port c.from.result c.args.port c.args.flags c.has-5.result c.self.inside.isolated c.place_in-5.new.set within port
-          c.self.invariant.isolated (c.has-5.ensures ∙ ap (λ bits. flag_is_set (Some bits) isolated) c.bits_of-bits.ensures) c.place_in-5.ensures;
+          (λ o. flag_is_set o isolated) c.self.inside.by_port c.from.result c.args.port c.args.flags c.has-4.result c.self.inside.isolated c.place_in-4.new.set within port
+          c.self.invariant.isolated (c.has-4.ensures ∙ ap (λ bits. flag_is_set (Some bits) isolated) c.bits_of-bits.ensures) c.place_in-4.ensures;
     }
 
 pub returns : goal.returns

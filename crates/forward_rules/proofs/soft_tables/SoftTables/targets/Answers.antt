@@ -11,9 +11,9 @@ returns-then-is_multicast c =
     ∙ ap set_of (group-targets c.self.inside.ports c.self.inside.fdb.entries c.args.vid c.args.h.now c.args.m.now (sym c.is_multicast.ensures ∙ c.if-is_multicast.true))
     ∙ ap (λ (t : Table). set_of (targets t c.args.vid c.args.h.now c.args.m.now)) c.self.view_is
 
-pub returns-in-None : goal.returns-in-None
-returns-in-None c =
+pub returns-else-is_multicast : goal.returns-else-is_multicast
+returns-else-is_multicast c =
     let station = sym c.is_multicast.ensures ∙ c.if-is_multicast.false in
     c.flood.ensures
     ∙ ap (λ (t : Table). set_of (with_flag t flood)) c.self.view_is
-    ∙ ap set_of (sym (unknown-targets c.args.self.now c.args.vid c.args.h.now c.args.m.now station (unknown-none c.args.self.now c.args.vid c.args.h.now.dst station (sym c.requires ∙ c.in-None.is))))
+    ∙ ap set_of (sym (unknown-targets c.args.self.now c.args.vid c.args.h.now c.args.m.now station (unknown-none c.args.self.now c.args.vid c.args.h.now.dst station c.requires)))

@@ -6,7 +6,6 @@ use Rattle.forward_rules.proofs.state_table.StateTable.empty.Goals as goal
 
 pub invariant_of-result : goal.invariant_of-result
 invariant_of-result c = record {
-  learn = c.empty.ensures ∙ sym (none_below _ port_places (λ m low. refl));
-  forward = c.empty-2.ensures ∙ sym (none_below _ port_places (λ m low. refl));
-  within = λ n behind. ap (λ (ns : List ℕ). has_number ns n) c.empty-2.ensures;
+  forward = c.empty.ensures ∙ sym (none_below _ port_places (λ m low. refl));
+  within = λ n behind. ap (λ (ns : List ℕ). has_number ns n) c.empty.ensures;
 }

@@ -1,6 +1,6 @@
 use Rattle.std.proofs.Common.{◌≡◌, ◌<◌, ◌≤◌, length, ap, ◌∙◌, arith}
 use Rattle.std.specs.Ordering.{nat_cmp}
-use Rattle.br_model.specs.Forward.Admission.{learning, forwarding}
+use Rattle.br_model.specs.Forward.Admission.{forwarding}
 use Rattle.br_model.specs.Data.Maps.{put, without}
 use Rattle.br_model.specs.Table.Domains.{last_port}
 use Rattle.forward_rules.specs.PortSets.{state_is}
@@ -13,14 +13,11 @@ invariant_of-self c =
     let within : c.from.result < length c.self.inside.by_port = omega arith in
     let low : c.args.port ≤ last_port = omega arith in
     record {
-      learn = placed-is
-          (λ o. state_is o learning) c.self.inside.by_port c.from.result c.args.port c.args.state c.eq.result c.self.inside.learning c.place_in.new.set within port c.self.invariant.learn
-          c.eq.ensures c.place_in.ensures;
       forward =
           placed-is
-          (λ o. state_is o forwarding) c.self.inside.by_port c.from.result c.args.port c.args.state c.eq-2.result c.self.inside.forwarding c.place_in-2.new.set within port
-          c.self.invariant.forward c.eq-2.ensures c.place_in-2.ensures;
-      within = placed-within c.self.inside.forwarding c.place_in-2.new.set c.args.port c.eq-2.result c.self.invariant.within low c.place_in-2.ensures;
+          (λ o. state_is o forwarding) c.self.inside.by_port c.from.result c.args.port c.args.state c.eq.result c.self.inside.forwarding c.place_in.new.set within port
+          c.self.invariant.forward c.eq.ensures c.place_in.ensures;
+      within = placed-within c.self.inside.forwarding c.place_in.new.set c.args.port c.eq.result c.self.invariant.within low c.place_in.ensures;
     }
 
 pub returns : goal.returns
