@@ -131,11 +131,13 @@ impl VlanTable {
         pvid_of(&self.pvids, p)
     }
 
-    /// Whether the port is a member of the VLAN.
+    /// Whether the port is a member of the VLAN. It reads one block of the port, and copies no row.
     pub fn member(&self, p: Port, v: Vid) -> bool
         ensures { result ≡ is_member self.now p v }
     {
-        row_at(self.rows.as_slice(), place_of(v)).has(p)
+        // law: the port and the VLAN are in range
+        let _numbers = (p.number(), v.number());
+        self.joined.has(p, v)
     }
 
     /// Whether the port is a member that the VLAN's frames leave without a tag.

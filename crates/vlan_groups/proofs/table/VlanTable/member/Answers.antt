@@ -1,14 +1,12 @@
-use Rattle.std.proofs.Common.{is_some, ap, ◌∙◌, arith}
-use Rattle.lists.specs.Padded.{padded}
-use Rattle.vlan_groups.specs.Rows.{no_ports}
+use Rattle.std.proofs.Common.{◌<◌, ap, ◌∙◌, arith}
+use Rattle.std.specs.Option.{is_some}
+use Rattle.br_model.specs.Data.Maps.{pair_cmp, get}
 use Rattle.vlan_groups.specs.Vlans.{Vlans}
-use Rattle.vlan_groups.proofs.Memberships.{at-key, row-read}
 use Rattle.vlan_groups.proofs.table.VlanTable.member.Goals as goal
 
 pub returns : goal.returns
 returns c =
-    let row = row-read c.place_of.result c.row_at.result c.as_slice.ensures.value c.row_at.ensures in
+    let below : c.args.v < 4096 = omega arith in
     c.has.ensures
-    ∙ ap is_some
-    (at-key (padded no_ports 4094 c.self.inside.rows.items) c.place_of.result c.args.v c.args.p c.row_at.result c.args.self.now.vlans
-    (omega (arith, c.self.invariant.0.sized)) c.place_of.ensures.place row (ap (λ (s : Vlans). s.vlans) c.self.view_is))
+    ∙ c.self.invariant.0.joined c.args.p c.args.v c.number.ensures.below below
+    ∙ ap (λ (s : Vlans). is_some (get pair_cmp s.vlans (c.args.v, c.args.p))) c.self.view_is
