@@ -196,6 +196,7 @@ impl Plane {
     }
 
     /// As `enter`, with the lines of the step behind these. Where the frame waits, these bytes wait; nothing is copied.
+    #[inline(always)]
     pub fn enter_to(
         &mut self,
         port: Port,
@@ -267,6 +268,7 @@ impl Plane {
     }
 
     /// A frame enters at a port of the domain, which has a chip.
+    #[inline(always)]
     fn enter_chip(
         &mut self,
         step: u32,

@@ -127,6 +127,7 @@ impl Frames {
     }
 
     /// A frame that goes on to software, with the next id. It keeps its bytes.
+    #[inline(always)]
     pub fn arrive(
         &self,
         port: Port,
@@ -153,6 +154,7 @@ impl Frames {
     }
 
     /// The next id is taken by a frame that arrived.
+    #[inline(always)]
     pub fn settle(&mut self, arrival: Arrival)
         requires last { self.old.next + 1 < 2 ^ 32 }
         requires room { IsArrival self.old arrival }

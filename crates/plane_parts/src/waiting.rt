@@ -37,6 +37,7 @@ impl Model for Waiting {
 
 impl Waiting {
     /// The frame whose header and message were read already. `id` is its number among those that entered.
+    #[inline(always)]
     pub fn of(
         id: u32,
         port: Port,
