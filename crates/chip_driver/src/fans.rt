@@ -93,6 +93,7 @@ impl Sets {
     }
 
     /// The row of a VLAN with these members.
+    #[inline(always)]
     fn row(&self, members: Ports) -> FanRow
         ensures { result ≡ row_of self.now members }
     {
@@ -105,6 +106,7 @@ impl Sets {
 }
 
 /// Writes a row of a VLAN.
+#[inline(always)]
 fn set_fan(tables: &mut Tables, v: Vid, fan: Fan, row: FanRow)
     ensures { WritesFan tables.old tables.new v fan row }
 {
@@ -115,6 +117,7 @@ fn set_fan(tables: &mut Tables, v: Vid, fan: Fan, row: FanRow)
 }
 
 /// Puts a port into a row of a VLAN or takes it out.
+#[inline(always)]
 fn switch_fan(tables: &mut Tables, v: Vid, fan: Fan, port: Port, on: bool)
     ensures { WritesFan tables.old tables.new v fan (switched_fan (fan_at tables.old v fan) port on) }
 {
@@ -179,6 +182,7 @@ fn edit_of(shadow: &Shadow, fan: Fan, port: Port) -> Edit
 }
 
 /// Edits a row of a VLAN.
+#[inline(always)]
 fn edit_fan(tables: &mut Tables, v: Vid, fan: Fan, edit: &Edit)
     ensures { WritesFan tables.old tables.new v fan (edited edit.now (fan_at tables.old v fan) (vlan_at tables.old v).members) }
 {
@@ -192,6 +196,7 @@ fn edit_fan(tables: &mut Tables, v: Vid, fan: Fan, edit: &Edit)
 }
 
 /// Edits that row of the VLAN 64 i + n, if there is one.
+#[inline(always)]
 fn edit_number(tables: &mut Tables, i: u8, n: u8, fan: Fan, edit: &Edit)
     requires block { i < 64 }
     requires number { n < 64 }
