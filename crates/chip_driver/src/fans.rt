@@ -93,6 +93,7 @@ impl Sets {
     }
 
     /// The row of a VLAN with these members.
+    #[inline(always)]
     fn row(&self, members: Ports) -> FanRow
         ensures { result ≡ row_of self.now members }
     {
@@ -105,6 +106,7 @@ impl Sets {
 }
 
 /// Writes a row of a VLAN.
+#[inline(always)]
 fn set_fan(tables: &mut Tables, v: Vid, fan: Fan, row: FanRow)
     ensures { WritesFan tables.old tables.new v fan row }
 {
