@@ -288,11 +288,15 @@ share-in s p m Routers = refl
 not_elsewhere : (own own' rest rest' : Bool) → own ≡ true → own' ≡ true → (not own && rest) ≡ (not own' && rest')
 not_elsewhere own own' rest rest' is is' = ap (λ o. not o && rest) is ∙ sym (ap (λ o. not o && rest') is')
 
-pub switched_made : (s s' : Shadow) (p : ℕ) (members : List ℕ) (k : Fan) (on : Bool) → has_number s.own p ≡ true → has_number s'.own p ≡ true
-    → ((q : ℕ) → q < port_places → q ≢ p → SameAt s s' q) → on ≡ is_target s' (has_number members p) k p
-    → switched_fan (fan_made s members k) p on ≡ fan_made s' members k
+-- it is among them where it is a member and the row wants it
+pub member_wanted : (s : Shadow) (k : Fan) (p : ℕ) (m : Bool) → has_number s.own host ≡ false → has_number s.own p ≡ true → (m && is_wanted s k p) ≡ is_target s m k p
+member_wanted s k p true off own = sym (target_wanted s k p)
+member_wanted s k p false off own = sym (no_target s k p off) ∙ ap (λ o. o && is_target s false k p) own
+
+pub switched_made : (s s' : Shadow) (p : ℕ) (members members' : List ℕ) (k : Fan) (on : Bool) → has_number s.own p ≡ true → has_number s'.own p ≡ true
+    → SameBut p s s' members members' → on ≡ is_target s' (has_number members' p) k p → switched_fan (fan_made s members k) p on ≡ fan_made s' members' k
 unfolding fan_to
-switched_made s s' p members k on own own' same is =
+switched_made s s' p members members' k on own own' same is =
     ap (λ set. row_by set (some_port (λ q. not (has_number s.own q) && (to q && frees s members q))) (some_port (λ q. not (has_number s.own q) && (to q && opens s members q)))) ports
     ∙ ap₂ (λ i l. row_by (ports_where (λ q. has_number s'.own q && to' q)) i l) isolated plain
   where
@@ -300,7 +304,7 @@ switched_made s s' p members k on own own' same is =
     to q = is_target s (has_number members q) k q
 
     to' : ℕ → Bool
-    to' q = is_target s' (has_number members q) k q
+    to' q = is_target s' (has_number members' q) k q
 
     at_own : (q : ℕ) → q ≡ p → has_number s.own q ≡ true
     at_own q at = ap (λ n. has_number s.own n) at ∙ own
@@ -308,10 +312,10 @@ switched_made s s' p members k on own own' same is =
     at_own' : (q : ℕ) → q ≡ p → has_number s'.own q ≡ true
     at_own' q at = ap (λ n. has_number s'.own n) at ∙ own'
 
-    other : (q : ℕ) → q < port_places → q ≢ p → share_of s q (has_number members q) (to q) ≡ share_of s' q (has_number members q) (to' q)
+    other : (q : ℕ) → q < port_places → q ≢ p → share_of s q (has_number members q) (to q) ≡ share_of s' q (has_number members' q) (to' q)
     other q low off =
-        same_share s s' q (has_number members q) (has_number members q) (to q) (to' q) (same q low off) refl
-        (same_target s s' q (has_number members q) (has_number members q) k (same q low off) refl)
+        same_share s s' q (has_number members q) (has_number members' q) (to q) (to' q) (same.shadow q low off) (same.others q low off)
+        (same_target s s' q (has_number members q) (has_number members' q) k (same.shadow q low off) (same.others q low off))
 
     ports : switched (ports_where (λ q. has_number s.own q && to q)) p on ≡ ports_where (λ q. has_number s'.own q && to' q)
     ports =
@@ -324,20 +328,20 @@ switched_made s s' p members k on own own' same is =
         (λ (off : ((q == p) ≡ false) × (q ≢ p)). ap (λ b. cond b on (has_number s.own q && to q)) off.0 ∙ ap (λ (x : Share). x.ports) (other q low off.1))
         (eqb_tells q p))
 
-    isolated : some_port (λ q. not (has_number s.own q) && (to q && frees s members q)) ≡ some_port (λ q. not (has_number s'.own q) && (to' q && frees s' members q))
+    isolated : some_port (λ q. not (has_number s.own q) && (to q && frees s members q)) ≡ some_port (λ q. not (has_number s'.own q) && (to' q && frees s' members' q))
     isolated =
         same_some _ _
         (λ q low.
         ⊎_elim
-        (λ (at : ((q == p) ≡ true) × (q ≡ p)). not_elsewhere (has_number s.own q) (has_number s'.own q) (to q && frees s members q) (to' q && frees s' members q) (at_own q at.1) (at_own' q at.1))
+        (λ (at : ((q == p) ≡ true) × (q ≡ p)). not_elsewhere (has_number s.own q) (has_number s'.own q) (to q && frees s members q) (to' q && frees s' members' q) (at_own q at.1) (at_own' q at.1))
         (λ (off : ((q == p) ≡ false) × (q ≢ p)). ap (λ (x : Share). x.isolated) (other q low off.1))
         (eqb_tells q p))
 
-    plain : some_port (λ q. not (has_number s.own q) && (to q && opens s members q)) ≡ some_port (λ q. not (has_number s'.own q) && (to' q && opens s' members q))
+    plain : some_port (λ q. not (has_number s.own q) && (to q && opens s members q)) ≡ some_port (λ q. not (has_number s'.own q) && (to' q && opens s' members' q))
     plain =
         same_some _ _
         (λ q low.
         ⊎_elim
-        (λ (at : ((q == p) ≡ true) × (q ≡ p)). not_elsewhere (has_number s.own q) (has_number s'.own q) (to q && opens s members q) (to' q && opens s' members q) (at_own q at.1) (at_own' q at.1))
+        (λ (at : ((q == p) ≡ true) × (q ≡ p)). not_elsewhere (has_number s.own q) (has_number s'.own q) (to q && opens s members q) (to' q && opens s' members' q) (at_own q at.1) (at_own' q at.1))
         (λ (off : ((q == p) ≡ false) × (q ≢ p)). ap (λ (x : Share). x.plain) (other q low off.1))
         (eqb_tells q p))

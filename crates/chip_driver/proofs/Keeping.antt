@@ -5,7 +5,7 @@ use Rattle.std.proofs.lemmas.Bool.{eq-eqb, eqb-true}
 use Rattle.std.proofs.lemmas.Bool.Decides.{eqb_tells}
 use Rattle.lemmas.proofs.Tests.{and-true, and-false}
 use Rattle.port_sets.specs.Numbers.{has_number}
-use Rattle.br_model.specs.Table.Domains.{port_places}
+use Rattle.br_model.specs.Table.Domains.{host, port_places}
 use Rattle.br_model.specs.Forward.Targets.{flood, mcast_flood, bcast_flood, isolated}
 use Rattle.chip_tables.specs.declared.rows.PortRow.{PortRow}
 use Rattle.chip_tables.specs.declared.rows.VlanRow.{VlanRow}
@@ -27,7 +27,7 @@ use Rattle.chip_driver.specs.GroupRows.{is_member, group_fan}
 use Rattle.chip_driver.specs.Renewing.{follows, Renews}
 use Rattle.chip_driver.specs.Settled.{fan_at, Follows, Notes, Settled, Refreshes}
 use Rattle.chip_driver.proofs.Sets.{has-where, switched_other}
-use Rattle.chip_driver.proofs.FanRows.{SameAt, SameBut, kept_fan, kept_group, absent, absent_share, untargeted, share-in, switched_made, target_wanted}
+use Rattle.chip_driver.proofs.FanRows.{SameAt, SameBut, kept_fan, kept_group, absent, absent_share, untargeted, share-in, switched_made, member_wanted, target_wanted}
 
 -- ---- what depends on the rows of ports alone
 
@@ -104,7 +104,7 @@ settled_anew s s' j p touched old mid new p_low settled mid_rest own same tells 
 
 -- Rows that follow the change are those that are made anew.
 pub refreshed : (s s' : Shadow) (j : List (List ℕ)) (p : ℕ) (touched : Touched) (old mid new : Rows) → p < port_places → Settled s j old → mid ≡ record old { ports = mid.ports }
-    → s'.own ≡ s.own → ((q : ℕ) → q < port_places → q ≢ p → SameAt s s' q) → Renews (λ w k. has_vlan j p w && touched_of touched k) (follows s' p) mid new
+    → s'.own ≡ s.own → ((q : ℕ) → q < port_places → q ≢ p → SameAt s s' q) → Renews (λ w k. has_vlan j p w && touched_of touched k) (follows s' p true) mid new
     → Refreshes (λ w k. has_vlan j p w && touched_of touched k) s' mid new
 refreshed s s' j p touched old mid new p_low settled mid_rest own same renews = record {
   fans = λ vid in_range k. renews.fans vid in_range k ∙ by vid in_range k (has_vlan j p vid) refl (touched_of touched k) (has_number s'.own p) refl;
@@ -127,7 +127,8 @@ refreshed s s' j p touched old mid new p_low settled mid_rest own same renews = 
         ≡ cond (h && t) (fan_made s' (vlan_at mid vid).members k) (fan_at mid vid k)
     by vid in_range k true is true true here =
         ap (λ (row : FanRow). switched_fan row p (is_wanted s' k p)) (before vid in_range k)
-        ∙ switched_made s s' p (vlan_at mid vid).members k (is_wanted s' k p) (ap (λ (ns : List ℕ). has_number ns p) (sym own) ∙ here) here same (bit vid in_range k is)
+        ∙ switched_made s s' p (vlan_at mid vid).members (vlan_at mid vid).members k (is_wanted s' k p) (ap (λ (ns : List ℕ). has_number ns p) (sym own) ∙ here) here
+        (record { shadow = same; others = λ q low other. refl }) (bit vid in_range k is)
     by vid in_range k true is true false here = refl
     by vid in_range k true is false o here = refl
     by vid in_range k false is t o here = refl
@@ -220,6 +221,39 @@ member_same s p members members' on is = record { shadow = λ q low other. shado
 
 switched_here : (members members' : List ℕ) (p : ℕ) (on : Bool) → p < port_places → members' ≡ switched members p on → on ≡ has_number members' p
 switched_here members members' p on low is = sym (has-where members' _ is p low ∙ ap (λ b. cond b on (has_number members p)) (eq-eqb p p refl))
+
+-- Rows that follow it are those that are made anew.
+pub refreshed_member : (s : Shadow) (j : List (List ℕ)) (p v : ℕ) (on : Bool) (row : VlanRow) (touched : Touched) (old mid new : Rows) → p < port_places → has_number s.own host ≡ false
+    → Settled s j old → row.members ≡ switched (vlan_at old v).members p on → WritesVlan old mid v row → mid ≡ record old { vlans = mid.vlans }
+    → Renews (λ w k. (w == v) && touched_of touched k) (follows s p on) mid new → Refreshes (λ w k. (w == v) && touched_of touched k) s mid new
+refreshed_member s j p v on row touched old mid new p_low elsewhere settled is writes mid_rest renews = record {
+  fans = λ vid in_range k. renews.fans vid in_range k ∙ by vid in_range k (vid == v) refl (touched_of touched k) (has_number s.own p) refl;
+  rest = renews.rest;
+}
+  where
+    before : (vid : ℕ) → IsVid vid → (k : Fan) → fan_at mid vid k ≡ fan_made s (vlan_at old vid).members k
+    before vid in_range k = ap (λ (r : Rows). fan_at r vid k) mid_rest ∙ settled.fans vid in_range k
+
+    now : (vid : ℕ) → (vid == v) ≡ true → (vlan_at mid vid).members ≡ switched (vlan_at old vid).members p on
+    now vid at =
+        ap (λ (r : VlanRow). r.members) (writes vid ∙ ap (λ b. cond b row (vlan_at old vid)) at)
+        ∙ is ∙ ap (λ n. switched (vlan_at old n).members p on) (sym (eqb-true vid v at))
+
+    bit : (vid : ℕ) (k : Fan) → (vid == v) ≡ true → has_number s.own p ≡ true → (on && is_wanted s k p) ≡ is_target s (has_number (vlan_at mid vid).members p) k p
+    bit vid k at here =
+        member_wanted s k p on elsewhere here
+        ∙ ap (λ m. is_target s m k p) (switched_here (vlan_at old vid).members (vlan_at mid vid).members p on p_low (now vid at))
+
+    by : (vid : ℕ) → IsVid vid → (k : Fan) (h : Bool) → (vid == v) ≡ h → (t o : Bool) → has_number s.own p ≡ o
+        → cond (h && t) (cond o (switched_fan (fan_at mid vid k) p (on && is_wanted s k p)) (fan_made s (vlan_at mid vid).members k)) (fan_at mid vid k)
+        ≡ cond (h && t) (fan_made s (vlan_at mid vid).members k) (fan_at mid vid k)
+    by vid in_range k true at true true here =
+        ap (λ (row : FanRow). switched_fan row p (on && is_wanted s k p)) (before vid in_range k)
+        ∙ switched_made s s p (vlan_at old vid).members (vlan_at mid vid).members k (on && is_wanted s k p) here here
+        (member_same s p (vlan_at old vid).members (vlan_at mid vid).members on (now vid at)) (bit vid k at here)
+    by vid in_range k true at true false here = refl
+    by vid in_range k true at false o here = refl
+    by vid in_range k false at t o here = refl
 
 pub settled_member : (s : Shadow) (j j' : List (List ℕ)) (p v : ℕ) (on : Bool) (row : VlanRow) (touched : Touched) (old mid new : Rows) → p < port_places → v < 4096 → Settled s j old
     → row.members ≡ switched (vlan_at old v).members p on → WritesVlan old mid v row → mid ≡ record old { vlans = mid.vlans } → Switches j j' p v on

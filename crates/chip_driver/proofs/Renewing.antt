@@ -40,13 +40,13 @@ pub edited_twice : (edit : Edit) → IsSteady (λ k. edited edit)
 edited_twice (Switch p on) k row members = row_twice row p on
 edited_twice (Make sets) k row members = refl
 
-pub follows_twice : (s : Shadow) (p : ℕ) → IsSteady (follows s p)
-follows_twice s p k row members = by (has_number s.own p)
+pub follows_twice : (s : Shadow) (p : ℕ) (member : Bool) → IsSteady (follows s p member)
+follows_twice s p member k row members = by (has_number s.own p)
   where
     by : (own : Bool)
-        → cond own (switched_fan (cond own (switched_fan row p (is_wanted s k p)) (fan_made s members k)) p (is_wanted s k p)) (fan_made s members k)
-        ≡ cond own (switched_fan row p (is_wanted s k p)) (fan_made s members k)
-    by true = row_twice row p (is_wanted s k p)
+        → cond own (switched_fan (cond own (switched_fan row p (member && is_wanted s k p)) (fan_made s members k)) p (member && is_wanted s k p)) (fan_made s members k)
+        ≡ cond own (switched_fan row p (member && is_wanted s k p)) (fan_made s members k)
+    by true = row_twice row p (member && is_wanted s k p)
     by false = refl
 
 -- ---- some rows after others

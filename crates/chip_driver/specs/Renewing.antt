@@ -34,9 +34,9 @@ abbrev pub edited : Edit → FanRow → List ℕ → FanRow
 edited (Switch port on) row members = switched_fan row port on
 edited (Make sets) row members = row_of sets members
 
--- The row after a change of a member that the shadow tells: a port of the chip is switched in it, and for another it is made anew.
-abbrev pub follows : Shadow → ℕ → Fan → FanRow → List ℕ → FanRow
-follows s port fan row members = if has_number s.own port then switched_fan row port (is_wanted s fan port) else fan_made s members fan
+-- The row after a change of a port, by whether it is a member now: a port of the chip is switched in it, and for another it is made anew.
+abbrev pub follows : Shadow → ℕ → Bool → Fan → FanRow → List ℕ → FanRow
+follows s port member fan row members = if has_number s.own port then switched_fan row port (member && is_wanted s fan port) else fan_made s members fan
 
 -- The rows of VLANs that pass are made of what they were and of the members, and all other rows stay.
 pub record Renews (test : ℕ → Fan → Bool) (made : Fan → FanRow → List ℕ → FanRow) (old new : Rows) : Type 0 where

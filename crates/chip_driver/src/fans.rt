@@ -1,5 +1,5 @@
 //! The rows of floods and of routers.
-ghost use Rattle.std.specs.Prelude.{◌≡◌, ◌==◌, ◌<◌, ◌/◌, ◌%◌, ◌&&◌, ℕ, List, false};
+ghost use Rattle.std.specs.Prelude.{◌≡◌, ◌==◌, ◌<◌, ◌/◌, ◌%◌, ◌&&◌, ℕ, List, true, false};
 ghost use Rattle.br_model.specs.Table.Domains.{host};
 ghost use Rattle.port_sets.specs.Numbers.{has_number};
 ghost use Rattle.vlan_groups.specs.Joined.{has_vlan};
@@ -8,7 +8,7 @@ ghost use Rattle.chip_tables.specs.Rows.{vlan_at};
 ghost use Rattle.chip_tables.specs.Writing.{switched_fan};
 ghost use Rattle.chip_driver.specs.Shadows.{Has, fan_to, is_flood_wanted, is_wanted};
 ghost use Rattle.chip_driver.specs.Shares.{touched_of};
-ghost use Rattle.chip_driver.specs.Settled.{fan_at, same_fan, WritesFan, Refreshes};
+ghost use Rattle.chip_driver.specs.Settled.{fan_at, same_fan, WritesFan};
 ghost use Rattle.chip_driver.specs.Renewing.{AreSets, row_of, edited, follows, Renews};
 
 use crate::shadow::Shadow;
@@ -127,55 +127,15 @@ fn switch_fan(tables: &mut Tables, v: Vid, fan: Fan, port: Port, on: bool)
     }
 }
 
-/// Makes a row of a VLAN anew where it is touched.
-fn refresh_row(tables: &mut Tables, shadow: &Shadow, v: Vid, fan: Fan, touched: bool)
+/// How a row of a VLAN follows a change of a port, by whether that is a member now. Nothing but its own bit depends on a port of
+/// the chip; the bits that tell of ports elsewhere depend on all of these.
+fn edit_of(shadow: &Shadow, fan: Fan, port: Port, member: bool) -> Edit
     requires { has_number shadow.now.own host ≡ false }
-    ensures { Refreshes (λ w k. (w == v) && (same_fan k fan && touched)) shadow.now tables.old tables.new }
-{
-    if touched {
-        let row = Sets::of(shadow, fan).row(tables.members(v));
-        set_fan(tables, v, fan, row);
-    }
-}
-
-/// Makes the rows of a VLAN anew that are touched.
-pub fn refresh_vlan(tables: &mut Tables, shadow: &Shadow, touched: &Touched, vid: Vid)
-    requires { has_number shadow.now.own host ≡ false }
-    ensures { Refreshes (λ w k. (w == vid) && touched_of touched.now k) shadow.now tables.old tables.new }
-{
-    refresh_row(
-        tables,
-        shadow,
-        vid,
-        Fan::Floods(Flood::Unicast),
-        touched.unicast,
-    );
-    refresh_row(
-        tables,
-        shadow,
-        vid,
-        Fan::Floods(Flood::Mcast),
-        touched.mcast,
-    );
-    refresh_row(
-        tables,
-        shadow,
-        vid,
-        Fan::Floods(Flood::Bcast),
-        touched.bcast,
-    );
-    refresh_row(tables, shadow, vid, Fan::Routers, touched.routers);
-}
-
-/// How a row follows a change of a port in the VLANs of which it is a member. Nothing but its own bit depends on a port of the
-/// chip; the bits that tell of ports elsewhere depend on all of these.
-fn edit_of(shadow: &Shadow, fan: Fan, port: Port) -> Edit
-    requires { has_number shadow.now.own host ≡ false }
-    ensures { (row : Row) (members : List ℕ) → edited result row members ≡ follows shadow.now port fan row members }
+    ensures { (row : Row) (members : List ℕ) → edited result row members ≡ follows shadow.now port member fan row members }
 {
     let n = port.number();
     if shadow.own.has(n) {
-        Edit::Switch(port, wanted(shadow, fan).has(n))
+        Edit::Switch(port, member && wanted(shadow, fan).has(n))
     } else {
         Edit::Make(Sets::of(shadow, fan))
     }
@@ -193,6 +153,75 @@ fn edit_fan(tables: &mut Tables, v: Vid, fan: Fan, edit: &Edit)
             set_fan(tables, v, fan, row);
         }
     }
+}
+
+/// Brings a row of a VLAN up to date where it is touched.
+fn refresh_row(
+    tables: &mut Tables,
+    shadow: &Shadow,
+    v: Vid,
+    fan: Fan,
+    touched: bool,
+    port: Port,
+    member: bool,
+)
+    requires { has_number shadow.now.own host ≡ false }
+    ensures { Renews (λ w k. (w == v) && (same_fan k fan && touched)) (follows shadow.now port member) tables.old tables.new }
+{
+    if touched {
+        let edit = edit_of(shadow, fan, port, member);
+        edit_fan(tables, v, fan, &edit);
+    }
+}
+
+/// Brings those rows of a VLAN up to date that are touched where a port became a member of it or ceased to be one.
+pub fn refresh_vlan(
+    tables: &mut Tables,
+    shadow: &Shadow,
+    touched: &Touched,
+    vid: Vid,
+    port: Port,
+    member: bool,
+)
+    requires { has_number shadow.now.own host ≡ false }
+    ensures { Renews (λ w k. (w == vid) && touched_of touched.now k) (follows shadow.now port member) tables.old tables.new }
+{
+    refresh_row(
+        tables,
+        shadow,
+        vid,
+        Fan::Floods(Flood::Unicast),
+        touched.unicast,
+        port,
+        member,
+    );
+    refresh_row(
+        tables,
+        shadow,
+        vid,
+        Fan::Floods(Flood::Mcast),
+        touched.mcast,
+        port,
+        member,
+    );
+    refresh_row(
+        tables,
+        shadow,
+        vid,
+        Fan::Floods(Flood::Bcast),
+        touched.bcast,
+        port,
+        member,
+    );
+    refresh_row(
+        tables,
+        shadow,
+        vid,
+        Fan::Routers,
+        touched.routers,
+        port,
+        member,
+    );
 }
 
 /// Edits that row of the VLAN 64 i + n, if there is one.
@@ -236,10 +265,10 @@ fn refresh_fan(
     port: Port,
 )
     requires { has_number shadow.now.own host ≡ false }
-    ensures { Renews (λ w k. has_vlan joined.now port w && (same_fan k fan && touched)) (follows shadow.now port) tables.old tables.new }
+    ensures { Renews (λ w k. has_vlan joined.now port w && (same_fan k fan && touched)) (follows shadow.now port true) tables.old tables.new }
 {
     if touched {
-        let edit = edit_of(shadow, fan, port);
+        let edit = edit_of(shadow, fan, port, true);
         edit_all(tables, joined, port, fan, &edit);
     }
 }
@@ -247,7 +276,7 @@ fn refresh_fan(
 /// Brings those rows up to date that are touched of each VLAN of which the port is a member.
 pub fn refresh(tables: &mut Tables, shadow: &Shadow, joined: &Joined, touched: &Touched, port: Port)
     requires { has_number shadow.now.own host ≡ false }
-    ensures { Renews (λ w k. has_vlan joined.now port w && touched_of touched.now k) (follows shadow.now port) tables.old tables.new }
+    ensures { Renews (λ w k. has_vlan joined.now port w && touched_of touched.now k) (follows shadow.now port true) tables.old tables.new }
 {
     refresh_fan(
         tables,

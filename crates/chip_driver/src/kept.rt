@@ -27,7 +27,7 @@ pub struct Kept {
 }
 
 impl Kept {
-    /// Writes the row of a port, and makes those rows anew that tell of it.
+    /// Writes the row of a port, and brings those rows up to date that tell of it.
     pub fn write_port(&mut self, port: Port, row: PortRow)
         requires kept { IsKept self.old }
         requires own { row.own ≡ (port_at self.old.tables port).own }
@@ -56,7 +56,7 @@ impl Kept {
         );
     }
 
-    /// Puts a router behind a port or not, and makes those rows anew that tell of it.
+    /// Puts a router behind a port or not, and brings those rows up to date that tell of it.
     pub fn write_router(&mut self, port: Port, on: bool)
         requires { IsKept self.old }
         ensures kept { IsKept self.new }
@@ -78,7 +78,7 @@ impl Kept {
         );
     }
 
-    /// Switches a membership, and makes those rows of the VLAN anew that tell of it.
+    /// Switches a membership, and brings those rows of the VLAN up to date that tell of it.
     pub fn write_member(&mut self, port: Port, vid: Vid, on: bool, untagged: bool)
         requires { IsKept self.old }
         ensures kept { IsKept self.new }
@@ -95,7 +95,7 @@ impl Kept {
         let touched = before.touched(&Shares::of(&self.shadow, port, on));
         self.tables.set_vlan(vid, VlanRow { members, untagged });
         self.joined.switch(port, vid, on);
-        fans::refresh_vlan(&mut self.tables, &self.shadow, &touched, vid);
+        fans::refresh_vlan(&mut self.tables, &self.shadow, &touched, vid, port, on);
         groups::refresh(
             &mut self.tables,
             &self.shadow,

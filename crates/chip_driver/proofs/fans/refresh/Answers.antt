@@ -1,4 +1,4 @@
-use Rattle.std.proofs.Common.{◌&&◌, ◌||◌, refl}
+use Rattle.std.proofs.Common.{true, ◌&&◌, ◌||◌, refl}
 use Rattle.chip_tables.specs.declared.rows.Flood.TheVariants.{Unicast, Mcast, Bcast}
 use Rattle.vlan_groups.specs.Joined.{has_vlan}
 use Rattle.chip_driver.specs.declared.fans.Fan.TheVariants.{Floods, Routers}
@@ -13,8 +13,8 @@ pub returns : goal.returns
 returns c =
     let j = c.args.joined.now in
     let p = c.args.port in
-    let made = follows c.args.shadow.now p in
-    let steady = follows_twice c.args.shadow.now p in
+    let made = follows c.args.shadow.now p true in
+    let steady = follows_twice c.args.shadow.now p true in
     let touched = c.args.touched.now in
     renewed_both
     (λ w k. (has_vlan j p w && (same_fan k

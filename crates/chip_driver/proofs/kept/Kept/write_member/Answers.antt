@@ -7,7 +7,7 @@ use Rattle.chip_driver.specs.GroupRows.{is_among, is_member}
 use Rattle.chip_driver.specs.Shadows.{switched}
 use Rattle.chip_driver.specs.Shares.{shares_of}
 use Rattle.chip_driver.proofs.GroupLoop.{used_of, groups_anew}
-use Rattle.chip_driver.proofs.Keeping.{settled_member, settled_groups, vlan_kept, tells_at}
+use Rattle.chip_driver.proofs.Keeping.{settled_member, settled_groups, refreshed_member, vlan_kept, tells_at}
 use Rattle.chip_driver.proofs.kept.Kept.write_member.Goals as goal
 
 pub refresh-requires : goal.refresh-requires
@@ -23,11 +23,14 @@ returns-clause-kept c =
     let members = c.switched-members.ensures ∙ ap₂ (λ (r : VlanRow) n. switched r.members n c.args.on) c.vlan-row.ensures c.number-n.ensures.value in
     let was = c.has.ensures.value ∙ ap₂ (λ (r : VlanRow) n. has_number r.members n) c.vlan-row.ensures c.number-n.ensures.value in
     let tells = tells_at _ _ _ _ _ (c.of-before.ensures ∙ ap (λ m. shares_of kept.shadow p m) was) c.of.ensures c.touched-touched.ensures in
+    let refreshes =
+    refreshed_member kept.shadow kept.joined p v c.args.on _ c.touched-touched.result kept.tables _ _ c.number-n.ensures.below c.requires.elsewhere c.requires.settled members
+    c.set_vlan.ensures.row c.set_vlan.ensures.rest c.refresh_vlan.ensures in
     record {
       elsewhere = c.requires.elsewhere;
       settled = settled_groups _ _ _ _
           (settled_member kept.shadow kept.joined _ p v c.args.on _ c.touched-touched.result kept.tables _ _ c.number-n.ensures.below c.switch.ensures.below c.requires.settled members
-          c.set_vlan.ensures.row c.set_vlan.ensures.rest c.switch.ensures.vlan tells c.refresh_vlan.ensures)
+          c.set_vlan.ensures.row c.set_vlan.ensures.rest c.switch.ensures.vlan tells refreshes)
           c.refresh.ensures.rest;
       follow =
           groups_anew
