@@ -77,6 +77,19 @@ fn wanted(shadow: &Shadow, fan: Fan) -> Ports
     }
 }
 
+/// Whether a port is a target of a row as a member of a VLAN.
+fn is_target(shadow: &Shadow, fan: Fan, port: Port) -> bool
+    ensures { result ≡ is_wanted shadow.now fan port }
+{
+    let n = port.number();
+    match fan {
+        Fan::Floods(Flood::Unicast) => shadow.flood.has(n),
+        Fan::Floods(Flood::Mcast) => port.is_host() || shadow.mcast_flood.has(n),
+        Fan::Floods(Flood::Bcast) => port.is_host() || shadow.bcast_flood.has(n),
+        Fan::Routers => shadow.routers.has(n),
+    }
+}
+
 impl Sets {
     /// Those of a row.
     fn of(shadow: &Shadow, fan: Fan) -> Sets
@@ -133,9 +146,8 @@ fn edit_of(shadow: &Shadow, fan: Fan, port: Port, member: bool) -> Edit
     requires { has_number shadow.now.own host ≡ false }
     ensures { (row : Row) (members : List ℕ) → edited result row members ≡ follows shadow.now port member fan row members }
 {
-    let n = port.number();
-    if shadow.own.has(n) {
-        Edit::Switch(port, member && wanted(shadow, fan).has(n))
+    if shadow.own.has(port.number()) {
+        Edit::Switch(port, member && is_target(shadow, fan, port))
     } else {
         Edit::Make(Sets::of(shadow, fan))
     }

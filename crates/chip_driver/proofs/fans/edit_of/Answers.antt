@@ -12,11 +12,10 @@ returns-after-member c row members =
     let p = c.args.port in
     let fan = c.args.fan in
     let m = c.args.member in
-    let own = ap (λ n. has_number s.own n) (sym c.number-n.ensures.value) ∙ sym c.has.ensures.value ∙ c.if-has.true in
+    let own = ap (λ n. has_number s.own n) (sym c.number.ensures.value) ∙ sym c.has.ensures.value ∙ c.if-has.true in
     ap (λ on. switched_fan row p on)
     (elim c.if-member.branch [
-      | then-member w ↦ w.result-is ∙ w.has-then-member.ensures.value ∙ ap (λ n. has_number w.wanted.result n) c.number-n.ensures.value
-          ∙ w.wanted.ensures p c.number-n.ensures.below ∙ ap (λ b. b && is_wanted s fan p) (sym w.if-member.true)
+      | then-member w ↦ w.result-is ∙ w.is_target.ensures ∙ ap (λ b. b && is_wanted s fan p) (sym w.if-member.true)
       | else-member w ↦ w.result-is ∙ w.if-member.false ∙ ap (λ b. b && is_wanted s fan p) (sym w.if-member.false)
     ])
     ∙ ap (λ o. cond o (switched_fan row p (m && is_wanted s fan p)) (fan_made s members fan)) (sym own)
@@ -27,6 +26,6 @@ returns-else-has c row members =
     let p = c.args.port in
     let fan = c.args.fan in
     let m = c.args.member in
-    let foreign = ap (λ n. has_number s.own n) (sym c.number-n.ensures.value) ∙ sym c.has.ensures.value ∙ c.if-has.false in
+    let foreign = ap (λ n. has_number s.own n) (sym c.number.ensures.value) ∙ sym c.has.ensures.value ∙ c.if-has.false in
     sets_row s fan c.of.result members c.requires c.of.ensures
     ∙ ap (λ o. cond o (switched_fan row p (m && is_wanted s fan p)) (fan_made s members fan)) (sym foreign)
