@@ -196,14 +196,14 @@ pub struct Bank<const ROWS: usize, const BYTES: usize> {
 }
 
 impl<const ROWS: usize, const BYTES: usize> Model for Bank<ROWS, BYTES> {
-    ghost use Rattle.std.specs.Prelude.{◌≡◌, ◌≤◌, ℕ, List, vec_capacity};
+    ghost use Rattle.std.specs.Prelude.{◌≡◌, ◌≤◌, ℕ, List, length, vec_capacity};
     ghost use Rattle.lists.specs.Padded.{padded};
 
     ghost Value = { List ℕ };
 
     ghost view = { λ b. padded 0 ROWS b.rows.items };
 
-    ghost invariant = { λ b. (ROWS ≤ vec_capacity b.rows) × (b.blank ≡ 0) };
+    ghost invariant = { λ b. (ROWS ≤ vec_capacity b.rows) × (b.blank ≡ 0) × (length b.rows.items ≤ ROWS) };
 }
 
 impl<const ROWS: usize, const BYTES: usize> Bank<ROWS, BYTES> {
@@ -217,6 +217,15 @@ impl<const ROWS: usize, const BYTES: usize> Bank<ROWS, BYTES> {
             rows,
             blank: Row::zero(),
         })
+    }
+
+    /// Before which place all rows stand that were written to. The others are blank.
+    pub fn written(&self) -> usize
+        ensures few { result ≤ ROWS }
+        ensures rest { (i : ℕ) → result ≤ i → i < ROWS → 0 ≡ slice_index self.now i }
+        ensures len { length self.now ≡ ROWS }
+    {
+        self.rows.len()
     }
 
     /// The row at a place below `ROWS`, where it stands.

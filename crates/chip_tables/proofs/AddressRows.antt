@@ -94,6 +94,10 @@ place-at [] i row h is = absurd (omega arith)
 place-at (r ∷ rs) zero row h is = ap (λ x. Some (place_in (address_cell x))) (sym is)
 place-at (r ∷ rs) (suc i) row h is = place-at rs i row (omega arith) is
 
+-- a place where no row was written
+pub place-blank : (rows : List ℕ) (i : ℕ) → i < length rows → 0 ≡ get_or rows i 0 → slice_get (places_of (address_cells rows)) i ≡ Some None
+place-blank rows i h is = place-at rows i 0 h is ∙ ap (λ c. Some (place_in c)) blank_cell
+
 pub place-none : (row : ℕ) → key_of row ≡ 0 → place_in (address_cell row) ≡ None
 place-none row none = ap (λ n. place_in (cell_of n (address_of row))) (ap ordered none ∙ ordered-zero)
 

@@ -1,5 +1,5 @@
 //! The address rows as the cells of a map.
-ghost use Rattle.std.specs.Prelude.{◌≡◌, ◌≢◌, ◌<◌, ◌^◌, IfOk, None, Some, [], length, replicate, slice_get, slice_index_or};
+ghost use Rattle.std.specs.Prelude.{◌≡◌, ◌≢◌, ◌<◌, ◌≤◌, ◌^◌, ℕ, IfOk, None, Some, [], length, replicate, slice_get, slice_index_or};
 ghost use Rattle.std.specs.List.{All};
 ghost use Rattle.br_model.specs.Table.Limits.{most_addresses};
 ghost use Rattle.open_addressing.specs.Hashed.{mix};
@@ -107,6 +107,14 @@ impl AddressCells {
     {
         let bank = Bank::make(alloc)?;
         Ok(AddressCells { bank })
+    }
+
+    /// Before which place all rows stand that were written to.
+    pub fn written(&self) -> usize
+        ensures few { result ≤ 32768 }
+        ensures rest { (i : ℕ) → result ≤ i → i < 32768 → slice_get (places_of (address_cells self.now.bank)) i ≡ Some None }
+    {
+        self.bank.written()
     }
 
     /// The key in a row.

@@ -1,5 +1,5 @@
 //! The tables.
-ghost use Rattle.std.specs.Prelude.{◌≡◌, ◌<◌, ◌≤◌, ℕ, IfOk, IfSome, Option, Some, length, slice_get, slice_index};
+ghost use Rattle.std.specs.Prelude.{◌≡◌, ◌<◌, ◌≤◌, ℕ, IfOk, IfSome, Option, None, Some, length, slice_get, slice_index};
 ghost use Rattle.br_model.specs.Table.GroupPairs.{max_pairs};
 ghost use Rattle.br_model.specs.Table.Limits.{most_addresses};
 ghost use Rattle.br_model.specs.Forward.Admission.{forwarding};
@@ -319,6 +319,15 @@ impl Tables {
         // law: each key that is used stands at one place
         let _ = self.addresses.cells();
         addresses::ROWS
+    }
+
+    /// Before which place all address rows stand that were ever written to.
+    pub fn written_address_rows(&self) -> usize
+        ensures few { result ≤ address_rows }
+        ensures rest { (i : ℕ) → result ≤ i → i < address_rows → slice_get self.now.places i ≡ Some None }
+        ensures placed { IsPlaced self.now }
+    {
+        self.addresses.cells().written()
     }
 
     /// The key of an address row, below 32,768. `None` exactly where it isn't used.

@@ -1,5 +1,7 @@
 -- What a sweep finds in the address rows, once it is sorted, are the entries of the table.
-use Rattle.std.proofs.Common.{◌≡◌, ℕ, Bool, true, false, ◌&&◌, cond, Option, None, Some, List, [], ◌∷◌, map, filter, filter_map, IsPermutation, IsSorted, refl, ap, ◌∙◌, arith}
+use Rattle.std.proofs.Common.{◌≡◌, ℕ, zero, suc, ◌<◌, ◌≤◌, Bool, true, false, ◌&&◌, cond, Option, None, Some, List, [], ◌∷◌, length, map, filter, filter_map, take, slice_get, IsPermutation}
+use Rattle.std.proofs.Common.{IsSorted, refl, sym, ap, ◌∙◌, arith}
+use Rattle.std.proofs.lemmas.Option.{same_Some}
 use Rattle.std.specs.List.{cons_option, AllByRecursion}
 use Rattle.std.specs.List.Sorted.{IsStrictlySortedBy}
 use Rattle.std.specs.Ordering.{is_eq, is_gt, nat_cmp, ordering_reverse, ordering_then}
@@ -109,6 +111,18 @@ module _ (d : Domains) (c : Chip) where
   used rows [] = refl
   used rows (None ∷ places) = used rows places
   used rows (Some k ∷ places) = ap (cons_option (at_key rows k)) (used rows places)
+
+  -- places behind which no key stands
+  pub before : (rows : Rows) (n : ℕ) (places : List (Option Address)) → ((i : ℕ) → n ≤ i → i < length places → slice_get places i ≡ Some None)
+      → filter_map (at_place rows) (take n places) ≡ filter_map (at_place rows) places
+  before rows zero [] none = refl
+  before rows (suc n) [] none = refl
+  before rows zero (place ∷ places) none =
+      let blank : Some place ≡ Some None = none 0 (omega arith) (omega arith) in
+      before rows 0 places (λ i past below. none (suc i) (omega arith) (omega (arith, below)))
+      ∙ sym (ap (λ p. cons_option (at_place rows p) (filter_map (at_place rows) places)) (same_Some place None blank))
+  before rows (suc n) (place ∷ places) none =
+      ap (cons_option (at_place rows place)) (before rows n places (λ i past below. none (suc i) (omega (arith, past)) (omega (arith, below))))
 
   low : (e : Address × AddressRow) (es : Entries) → AllByRecursion (λ k. pair_cmp e.0 k ≡ Less) (keys es) → Low triple_cmp (triple e) (swept es)
   low e [] below = λ q there. absurd (omega arith)

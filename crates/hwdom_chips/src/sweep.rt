@@ -54,7 +54,7 @@ pub fn unhit(alloc: Global, tables: &Tables, reports: &Reports) -> Result<Triple
         → stations ≡ unhit domains t (chip_of dom n reports.now)) }
 {
     let mut stations = Vec::new(alloc);
-    for i in 0..tables.address_rows() {
+    for i in 0..tables.written_address_rows() {
         if let Some(station) = unseen(tables, reports, i) {
             stations.push(station)?;
         }

@@ -1,11 +1,11 @@
-use Rattle.std.proofs.Common.{◌<◌, ◌≤◌, ◌++◌, ◌∷◌, [], List, Option, None, Vec, Global, length, get_or, take, filter_map, sym, ap, ◌∙◌, arith}
+use Rattle.std.proofs.Common.{◌≡◌, ℕ, ◌<◌, ◌≤◌, ◌++◌, ◌∷◌, [], List, Option, None, Some, Vec, Global, length, get_or, slice_get, take, filter_map, sym, ap, ◌∙◌, arith}
 use Rattle.std.specs.List.{cons_option}
-use Rattle.std.proofs.lemmas.List.{append-nil, take_all}
+use Rattle.std.proofs.lemmas.List.{append-nil}
 use Rattle.std.proofs.lemmas.Option.{slice_get-get_or}
 use Rattle.lemmas.proofs.Lists.{filter_map-next}
 use Rattle.br_model.specs.Control.Learning.{Address, Triple}
 use Rattle.learn_report.specs.Reports.{chip_of}
-use Rattle.hwdom_chips.proofs.Sweeping.{at_place, all-swept}
+use Rattle.hwdom_chips.proofs.Sweeping.{at_place, before, all-swept}
 use Rattle.hwdom_chips.proofs.sweep.unhit.Goals as goal
 use Rattle.hwdom_chips.proofs.sweep.unhit.Goals.{in-Some+in_ok-push, in_default}
 
@@ -14,7 +14,7 @@ loop-i-preserved c d dom t ports =
     let places : List (Option Address) = c.args.tables.now.places in
     let found : Option Address → Option Triple = at_place d (chip_of dom 0 c.args.reports.now) c.args.tables.now in
     let made : Option Triple → List Triple = λ o. filter_map found (take c.loop-i.i places) ++ cons_option o [] in
-    let within : c.loop-i.i < length places = omega (arith, c.loop-i-test.true, c.address_rows-i-end.ensures.count, c.address_rows-i-end.ensures.placed.sized) in
+    let within : c.loop-i.i < length places = omega (arith, c.loop-i-test.true, c.written_address_rows-i-end.ensures.few, c.written_address_rows-i-end.ensures.placed.sized) in
     let next = filter_map-next found places c.loop-i.i None within
     ∙ ap made (sym (c.unseen.ensures d dom t (get_or places c.loop-i.i None) ports (slice_get-get_or places c.loop-i.i None within))) in
     elim c.match-unseen.branch [
@@ -28,7 +28,9 @@ pub returns : goal.returns
 returns c d dom t n stand =
     let places : List (Option Address) = c.args.tables.now.places in
     let chip = chip_of dom n c.args.reports.now in
-    let past : length places ≤ c.loop-i.i = omega (arith, c.loop-i-test.false, c.address_rows-i-end.ensures.count, c.address_rows-i-end.ensures.placed.sized) in
+    let rows = c.written_address_rows-i-end.ensures in
+    let rest : (i : ℕ) → c.loop-i.i ≤ i → i < length places → slice_get places i ≡ Some None =
+    λ i past below. rows.rest i (omega (arith, c.loop-i-test.false, past)) (omega (arith, below, rows.placed.sized)) in
     c.of.ensures
-    ∙ all-swept d chip c.args.tables.now t c.loop-i.stations.items c.sort_unstable.new.self.items stand.addresses c.address_rows-i-end.ensures.placed
-    (c.loop-i.invariant d dom t stand.ports ∙ ap (filter_map (at_place d chip c.args.tables.now)) (take_all _ _ past)) c.sort_unstable.ensures.permutation c.sort_unstable.ensures.sorted
+    ∙ all-swept d chip c.args.tables.now t c.loop-i.stations.items c.sort_unstable.new.self.items stand.addresses rows.placed
+    (c.loop-i.invariant d dom t stand.ports ∙ before d chip c.args.tables.now c.loop-i.i places rest) c.sort_unstable.ensures.permutation c.sort_unstable.ensures.sorted
