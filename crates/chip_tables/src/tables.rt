@@ -304,7 +304,9 @@ impl Tables {
         ensures rest { self.new ≡ record self.old { addresses = self.new.addresses; places = self.new.places } }
     {
         match r {
-            Some(row) => self.addresses.insert(&key(vid, mac), row),
+            Some(row) => {
+                let _ = self.addresses.insert(&key(vid, mac), row);
+            }
             None => {
                 let _ = self.addresses.take(&key(vid, mac));
             }
@@ -361,7 +363,9 @@ impl Tables {
         ensures rest { self.new ≡ record self.old { groups = self.new.groups } }
     {
         match r {
-            Some(row) => self.groups.insert(&group_key(vid, group), row),
+            Some(row) => {
+                let _ = self.groups.insert(&group_key(vid, group), row);
+            }
             None => {
                 let _ = self.groups.take(&group_key(vid, group));
             }

@@ -1,5 +1,5 @@
 -- A finite map from keys, which are not 0, to values, in cells.
-use Rattle.std.specs.Prelude.{◌≡◌, ℕ, zero, suc, ◌≤◌, Bool, cond, List, [], ◌∷◌, length, map, count_by}
+use Rattle.std.specs.Prelude.{◌≡◌, ℕ, zero, suc, ◌<◌, ◌≤◌, Bool, cond, List, [], ◌∷◌, length, map, count_by}
 use Rattle.std.specs.List.{filter}
 use Rattle.std.specs.Ordering.{nat_cmp}
 use Rattle.std.specs.FinMap.Entries.{put}
@@ -47,6 +47,10 @@ in_cell (Some c) = value_of c
 -- the value in the first cell with a key
 abbrev pub value_at : {V : Type 0} → List (Option (ℕ × V)) → ℕ → Option V
 value_at cells q = in_cell (cell_at key_of cells q)
+
+-- the cell is there, and holds the key
+abbrev pub Holds : {V : Type 0} → List (Option (ℕ × V)) → ℕ → ℕ → Type 0
+Holds cells i k = (i < length cells) × (key_in key_of None cells i ≡ k)
 
 -- cells in which no key stands twice, and so many are used
 pub record AreCells {V : Type 0} (used room : ℕ) (cells : List (Option (ℕ × V))) : Type 0 where

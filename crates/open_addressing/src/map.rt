@@ -1,8 +1,9 @@
 //! A finite map from keys to values, over cells.
-ghost use Rattle.std.specs.Prelude.{◌≡◌, ◌≢◌, ℕ, ◌<◌, ◌≤◌, ◌↔◌, Bool, not, [], Option, IfOk, IsTrue, None, length, IsPermutation, IsSorted, replicate};
+ghost use Rattle.std.specs.Prelude.{◌≡◌, ◌≢◌, ℕ, ◌<◌, ◌≤◌, ◌↔◌, Bool, not, [], Option, IfOk, IfSome, IsTrue, None, Some, length, IsPermutation, IsSorted, replicate};
 ghost use Rattle.std.specs.Ordering.{nat_cmp, eq_by_cmp};
 ghost use Rattle.std.specs.FinMap.Entries.{find, put, where_key, is_sorted};
-ghost use Rattle.open_addressing.specs.Finite.{keys_where, entries_of};
+ghost use Rattle.open_addressing.specs.Finite.{keys_where, entries_of, Holds};
+ghost use Rattle.open_addressing.specs.Hashed.{key_in};
 ghost use Rattle.open_addressing.specs.Least.{least};
 ghost use Rattle.open_addressing.specs.Lookups.{IsApart};
 ghost use Rattle.open_addressing.specs.Zipped.{key_of};
@@ -122,30 +123,77 @@ impl<K, V, C: Cells<K, V>> Map<K, V, C> {
         &self.cells
     }
 
+    /// The cell that holds the key, until the map changes.
+    #[inline(always)]
+    pub fn cell_of(&self, key: &K) -> Option<usize>
+        requires { C.number key.now ≢ 0 }
+        ensures found { IfSome result (λ i. Holds self.now.cells i (C.number key.now)) }
+        ensures absent { result ≡ None → find nat_cmp (C.number key.now) self.now.entries ≡ None }
+        ensures none { result ≡ None → (i : ℕ) → key_in key_of None self.now.cells i ≢ C.number key.now }
+    {
+        self.index.find(&self.cells, key)
+    }
+
+    /// The value in a cell that holds a key.
+    #[inline(always)]
+    pub fn value_in(&self, i: usize) -> V
+        requires within { i < length self.now.cells }
+        requires used { key_in key_of None self.now.cells i ≢ 0 }
+        ensures { find nat_cmp (key_in key_of None self.now.cells i) self.now.entries ≡ Some result }
+    {
+        self.cells.value(i)
+    }
+
+    /// Puts a value at the key, which the cell holds, in place of the one that is there.
+    #[inline(always)]
+    pub fn put_in(&mut self, i: usize, key: &K, value: V)
+        requires key { C.number key.now ≢ 0 }
+        requires holds { Holds self.old.cells i (C.number key.now) }
+        ensures { self.new ≡ record self.old { entries = put nat_cmp (C.number key.now) value self.old.entries; cells = self.new.cells } }
+    {
+        self.cells.put(i, key, value);
+    }
+
     /// The value at the key.
     pub fn get(&self, key: &K) -> Option<V>
         requires { C.number key.now ≢ 0 }
         ensures { result ≡ find nat_cmp (C.number key.now) self.now.entries }
     {
-        let i = self.index.find(&self.cells, key)?;
-        Some(self.cells.value(i))
+        let i = self.cell_of(key)?;
+        Some(self.value_in(i))
     }
 
-    /// Puts a value at the key, in place of the one that is there.
-    pub fn insert(&mut self, key: &K, value: V)
+    /// Puts a value at the key, in place of the one that is there, which it answers.
+    pub fn insert(&mut self, key: &K, value: V) -> Option<V>
         requires key { C.number key.now ≢ 0 }
         requires room { find nat_cmp (C.number key.now) self.old.entries ≡ None → length self.old.entries < self.old.room }
-        ensures { self.new ≡ record self.old { entries = put nat_cmp (C.number key.now) value self.old.entries; cells = self.new.cells } }
+        ensures old { result ≡ find nat_cmp (C.number key.now) self.old.entries }
+        ensures entries { self.new ≡ record self.old { entries = put nat_cmp (C.number key.now) value self.old.entries; cells = self.new.cells } }
     {
-        match self.index.find(&self.cells, key) {
-            Some(i) => self.cells.put(i, key, value),
+        match self.cell_of(key) {
+            Some(i) => {
+                let old = self.value_in(i);
+                self.put_in(i, key, value);
+                Some(old)
+            }
             None => {
-                let i = self.spare.take();
-                self.index.enter(&self.cells, key, i);
-                self.cells.put(i, key, value);
-                self.used += 1;
+                self.add(key, value);
+                None
             }
         }
+    }
+
+    /// Puts a value at a new key.
+    fn add(&mut self, key: &K, value: V)
+        requires key { C.number key.now ≢ 0 }
+        requires none { (i : ℕ) → key_in key_of None self.old.cells i ≢ C.number key.now }
+        requires room { length self.old.entries < self.old.room }
+        ensures { self.new ≡ record self.old { entries = put nat_cmp (C.number key.now) value self.old.entries; cells = self.new.cells } }
+    {
+        let i = self.spare.take();
+        self.index.enter(&self.cells, key, i);
+        self.cells.put(i, key, value);
+        self.used += 1;
     }
 
     /// Takes the value at the key out.

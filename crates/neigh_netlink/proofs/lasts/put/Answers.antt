@@ -16,6 +16,6 @@ insert-requires-clause-room c = λ none.
 pub returns-clause-entries : goal.returns-clause-entries
 returns-clause-entries c =
     let es = c.args.lasts.now.entries in
-    ap (λ (t : Table Last). by_pair t.entries) c.insert.ensures
+    ap (λ (t : Table Last). by_pair t.entries) c.insert.ensures.entries
     ∙ ap (λ q. by_pair (entries.put nat_cmp q c.args.last es)) c.pack.ensures.value
     ∙ sym (put-by_pair c.args.key.now c.pack.ensures.below c.args.last es)

@@ -30,7 +30,7 @@ pub returns-in-Some-clause-row : goal.returns-in-Some-clause-row
 returns-in-Some-clause-row c =
     let k : Pair = (c.args.vid, c.args.mac) in
     let es = c.self.inside.addresses.entries in
-    ap (λ (t : Table AddressRow). by_pair t.entries) c.insert.ensures ∙ ap (λ (q : Pair). by_pair (entries.put nat_cmp (packed q) c.in-Some.row es)) c.key.ensures.value
+    ap (λ (t : Table AddressRow). by_pair t.entries) c.insert.ensures.entries ∙ ap (λ (q : Pair). by_pair (entries.put nat_cmp (packed q) c.in-Some.row es)) c.key.ensures.value
     ∙ sym (put-by_pair k c.key.ensures.below c.in-Some.row es) ∙ ap (λ (t : Rows). put pair_cmp t.addresses k c.in-Some.row) c.self.view_is
     ∙ ap (λ (r : Option AddressRow). set_at pair_cmp c.args.self.now.addresses k r) (sym c.in-Some.is)
 

@@ -33,7 +33,7 @@ returns-in-Some-clause-row c =
     let k : GroupPair = (c.args.vid, c.args.group) in
     let es = c.self.inside.groups.entries in
     let small = c.group_key.ensures.below in
-    ap (λ (t : Table FanRow). by_group t.entries) c.insert.ensures ∙ ap (λ (q : GroupPair). by_group (entries.put nat_cmp (number_of q) c.in-Some.row es)) c.group_key.ensures.value
+    ap (λ (t : Table FanRow). by_group t.entries) c.insert.ensures.entries ∙ ap (λ (q : GroupPair). by_group (entries.put nat_cmp (number_of q) c.in-Some.row es)) c.group_key.ensures.value
     ∙ sym (put-renamed group_pair_cmp pair_from k (number_of k) (group-order k small) (pair-back k small) c.in-Some.row es)
     ∙ ap (λ (t : Rows). put group_pair_cmp t.groups k c.in-Some.row) c.self.view_is
     ∙ ap (λ (r : Option FanRow). set_at group_pair_cmp c.args.self.now.groups k r) (sym c.in-Some.is)

@@ -24,7 +24,7 @@ returns c =
     let v : ℕ × Kind = (c.args.port, c.args.kind) in
     let stations : Table (ℕ × Kind) → Whereabouts = λ t. record { entries = by_pair t.entries; room = t.room } in
     let with_room : List (Pair × (ℕ × Kind)) → Whereabouts = λ l. record { entries = l; room = c.self.inside.places.room } in
-    ap stations c.insert.ensures
+    ap stations c.insert.ensures.entries
     ∙ ap with_room
     (ap (λ q. by_pair (entries.put nat_cmp q v es)) c.pack.ensures.value ∙ sym (put-by_pair k c.pack.ensures.below v es))
     ∙ ap (λ (s : Whereabouts). record s { entries = put pair_cmp s.entries k v }) c.self.view_is

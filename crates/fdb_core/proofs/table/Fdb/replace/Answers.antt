@@ -46,7 +46,7 @@ add-requires c =
     let cs = c.self.inside.ports.counts in
     let lt = fewer cs es c.self.invariant.counted c.self.invariant.sorted c.pack-key.result c.args.entry c.args.old found in
     let count = ap (λ (l : List ℕ). get_or l c.args.entry.port 0) c.remove.ensures in
-    let long : length c.insert.new.self.entries ≡ length (entries.put nat_cmp c.pack-key.result c.args.entry es) = ap (λ (t : numbers.Table Entry). length t.entries) c.insert.ensures in
+    let long : length c.insert.new.self.entries ≡ length (entries.put nat_cmp c.pack-key.result c.args.entry es) = ap (λ (t : numbers.Table Entry). length t.entries) c.insert.ensures.entries in
     let all = c.len-len.ensures.value in
     omega arith
 
@@ -63,7 +63,7 @@ invariant_of-self c =
     let cs = c.self.inside.ports.counts in
     let key = c.pack-key.result in
     let kept = c.self.invariant in
-    let is : c.insert.new.self.entries ≡ entries.put nat_cmp key c.args.entry es = ap (λ (t : numbers.Table Entry). t.entries) c.insert.ensures in
+    let is : c.insert.new.self.entries ≡ entries.put nat_cmp key c.args.entry es = ap (λ (t : numbers.Table Entry). t.entries) c.insert.ensures.entries in
     record {
       keys = subst AreKeys (sym is) (keys-put key c.args.entry es c.pack-key.ensures.is_key kept.keys);
       sorted = ap (is_sorted nat_cmp) is ∙ true_from_T _ (is_sorted-put nat_cmp nat_cmp_total key c.args.entry es (T_from_true _ kept.sorted));
@@ -83,5 +83,5 @@ returns c =
     let view : numbers.Table Entry → Table = λ t. record { entries = by_address t.entries; room = t.room } in
     let made : List (Key × Entry) → Table = λ es. record { entries = es; room = m.room } in
     let puts : Table → Table = λ t. record { entries = put pair_cmp t.entries k c.args.entry; room = t.room } in
-    ap view c.insert.ensures ∙ ap (λ q. made (by_address (entries.put nat_cmp q c.args.entry m.entries))) c.pack-key.ensures.value
+    ap view c.insert.ensures.entries ∙ ap (λ q. made (by_address (entries.put nat_cmp q c.args.entry m.entries))) c.pack-key.ensures.value
     ∙ ap made (sym (put-by_pair k c.pack-key.ensures.below c.args.entry m.entries)) ∙ ap puts c.self.view_is
