@@ -77,6 +77,7 @@ impl<V: Copy> Pairs<V> {
     }
 
     /// The pair in a cell, whose key is 0 where it is empty.
+    #[inline(always)]
     fn read(&self, i: usize) -> (u64, V)
         requires { i < length self.now }
         ensures { slice_index_or self.now i None ≡ pair_cell result }
@@ -85,6 +86,7 @@ impl<V: Copy> Pairs<V> {
     }
 
     /// Writes a pair.
+    #[inline(always)]
     fn write(&mut self, i: usize, key: u64, value: V)
         requires { i < length self.old }
         ensures { self.new ≡ slice_set self.old i (cell_of key value) }

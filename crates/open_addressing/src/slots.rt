@@ -91,6 +91,7 @@ impl Slots {
     }
 
     /// Writes a number.
+    #[inline(always)]
     pub fn set(&mut self, slot: usize, number: u16)
         requires { slot < length self.old }
         ensures { self.new ≡ slice_set self.old slot number }

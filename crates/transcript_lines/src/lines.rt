@@ -48,6 +48,7 @@ impl Model for Lines {
 }
 
 /// Room for so many more, and for them in a copy of those behind the savepoint.
+#[inline(always)]
 fn reserve_twice<T>(
     all: &mut Vec<T>,
     copied: &mut Vec<T>,
@@ -166,6 +167,7 @@ impl Lines {
     }
 
     /// Room for so many more rows and bytes.
+    #[inline(always)]
     pub fn reserve(&mut self, rows: usize, bytes: usize) -> Result<(), NoMemory>
         ensures lines { self.new.lines ≡ self.old.lines }
         ensures saved { self.new.saved ≡ self.old.saved }
@@ -185,6 +187,7 @@ impl Lines {
     }
 
     /// Room for so many more rows.
+    #[inline(always)]
     fn reserve_rows(&mut self, rows: usize) -> Result<(), NoMemory>
         ensures lines { self.new.lines ≡ self.old.lines }
         ensures saved { self.new.saved ≡ self.old.saved }

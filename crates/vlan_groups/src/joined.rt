@@ -76,6 +76,7 @@ impl Joined {
     }
 
     /// Puts the port into the VLAN or out of it.
+    #[inline(always)]
     pub fn switch(&mut self, p: Port, v: Vid, on: bool)
         ensures vlan { Switches self.old self.new p v on }
         ensures below { v < 4096 }
@@ -105,6 +106,7 @@ impl Joined {
 }
 
 /// The block at a place.
+#[inline(always)]
 fn block_in(blocks: &[VlanBlock], place: usize) -> VlanBlock
     requires { place < block_count }
     ensures { result ≡ slice_index_or (padded [] block_count blocks.now) place [] }
@@ -113,6 +115,7 @@ fn block_in(blocks: &[VlanBlock], place: usize) -> VlanBlock
 }
 
 /// Writes the block at a place, within the room that is there.
+#[inline(always)]
 fn put_block(blocks: &mut Vec<VlanBlock>, place: usize, block: VlanBlock)
     requires within { place < block_count }
     requires room { block_count ≤ vec_capacity blocks.old }
