@@ -1,5 +1,5 @@
 -- What is told of each entry follows the entries: look-ups, puts and takes are the same there.
-use Rattle.std.proofs.Common.{◌≡◌, ℕ, Bool, true, false, T, not, cond, ◌&&◌, Some, Option, option_map, List, [], ◌∷◌, map, refl, sym, ap, ap₂, ◌∙◌}
+use Rattle.std.proofs.Common.{◌≡◌, ℕ, Bool, true, false, T, not, cond, ◌&&◌, None, Some, Option, option_map, is_some, List, [], ◌∷◌, map, refl, sym, ap, ap₂, ◌∙◌}
 use Rattle.std.specs.Ordering.{eq_by_cmp, is_lt}
 use Rattle.std.specs.declared.cmp.Ordering.TheVariants.{Less, Equal, Greater}
 use Rattle.std.specs.FinMap.Entries.{by_order, below_all, is_sorted, is_sorted-put, find-put, same_entries}
@@ -9,6 +9,7 @@ use Rattle.br_model.specs.Data.Maps.{pair_cmp, get, put, without, is_ascending}
 use Rattle.br_model.proofs.Data.PairKeys.{pair_total, same_cmp}
 use Rattle.open_addressing.specs.Least.{smaller, least}
 use Rattle.fdb_core.specs.declared.entries.Entry.{Entry}
+use Rattle.fdb_core.specs.Fdb.{place, is_one, renewed_if}
 use Rattle.fdb_core.specs.Packing.{by_address}
 use Rattle.fdb_core.proofs.ByAddress.{Key}
 
@@ -29,6 +30,14 @@ put-same {X} m k v up is =
 pub renewed-same : (m : List (Key × Entry)) (k : Key) (e : Entry) (moment : ℕ) → is_ascending pair_cmp m ≡ true → get pair_cmp m k ≡ Some e → e.updated ≡ moment
     → put pair_cmp m k (record e { updated = moment }) ≡ m
 renewed-same m k e moment up is now = ap (λ n. put pair_cmp m k (record e { updated = n })) (sym now) ∙ put-same m k e (T_from_true _ up) is
+
+pub if_renewed-same : (passes : Entry → Bool) (m : List (Key × Entry)) (k : Key) (e : Entry) (moment : ℕ) → is_ascending pair_cmp m ≡ true → get pair_cmp m k ≡ Some e → e.updated ≡ moment
+    → renewed_if passes moment k (Some e) m ≡ m
+if_renewed-same passes m k e moment up is now = by (passes e) (renewed-same m k e moment up is now)
+  where
+    by : (b : Bool) → put pair_cmp m k (record e { updated = moment }) ≡ m → cond b (put pair_cmp m k (record e { updated = moment })) m ≡ m
+    by true same = same
+    by false same = refl
 
 module _ {X : Type 0} (f : Entry → X) where
   pub get-told : (es : List (Key × Entry)) (k : Key) → get pair_cmp (told f es) k ≡ option_map f (get pair_cmp es k)
@@ -70,6 +79,30 @@ module _ {X : Type 0} (f : Entry → X) where
         | true ↦ told-without es k
         | false ↦ ap (λ (rest : List (Key × X)). (e.0, f e.1) ∷ rest) (told-without es k)
       ]
+
+-- what is told of the entries, where one of them is renewed
+
+pub one_some : (o : Option Entry) → is_one (λ _. true) o ≡ is_some o
+one_some None = refl
+one_some (Some e) = refl
+
+pub told-renewed : (passes : Entry → Bool) (moment : ℕ) (k : Key) (o : Option Entry) (es : List (Key × Entry)) → is_ascending pair_cmp es ≡ true → o ≡ get pair_cmp es k
+    → told place (renewed_if passes moment k o es) ≡ told place es
+told-renewed passes moment k None es up is = refl
+told-renewed passes moment k (Some e) es up is = by (passes e) (told-same place es k (record e { updated = moment }) up (get-told place es k ∙ ap (option_map place) (sym is)))
+  where
+    by : (b : Bool) → told place (put pair_cmp es k (record e { updated = moment })) ≡ told place es → told place (cond b (put pair_cmp es k (record e { updated = moment })) es) ≡ told place es
+    by true same = same
+    by false same = refl
+
+pub moments-renewed : (passes : Entry → Bool) (moment : ℕ) (k : Key) (o : Option Entry) (es : List (Key × Entry))
+    → told (λ e. e.updated) (renewed_if passes moment k o es) ≡ cond (is_one passes o) (put pair_cmp (told (λ e. e.updated) es) k moment) (told (λ e. e.updated) es)
+moments-renewed passes moment k None es = refl
+moments-renewed passes moment k (Some e) es = by (passes e)
+  where
+    by : (b : Bool) → told (λ e. e.updated) (cond b (put pair_cmp es k (record e { updated = moment })) es) ≡ cond b (put pair_cmp (told (λ e. e.updated) es) k moment) (told (λ e. e.updated) es)
+    by true = told-put (λ e. e.updated) es k (record e { updated = moment })
+    by false = refl
 
 pub least-by_address : (f : Entry → Option ℕ) (es : List (ℕ × Entry)) → least f (by_address es) ≡ least f es
 least-by_address f [] = refl

@@ -81,6 +81,15 @@ module _ (cs : List ℕ) (es : List (ℕ × Entry)) (a : AreCounts cs es) (sorte
           (λ apart. (let left = less-all o is p in let all = count-put p k x es sorted in let same = ap (one_if p) is in let none = other p x apart in omega arith));
     }
 
+-- an entry has another moment
+pub counted-renewed : (cs : List ℕ) (es : List (ℕ × Entry)) → AreCounts cs es → is_sorted nat_cmp es ≡ true → (k : ℕ) (e : Entry) (moment : ℕ) → find nat_cmp k es ≡ Some e
+    → AreCounts cs (put nat_cmp k (record e { updated = moment }) es)
+counted-renewed cs es a sorted k e moment is = record {
+  sized = a.sized;
+  counted = λ p.
+      (let all = count-put p k (record e { updated = moment }) es sorted in let same : one_if p (find nat_cmp k es) ≡ one_at p e = ap (one_if p) is in let here = a.counted p in omega arith);
+}
+
 -- at the beginning
 pub kept-none : (es : List (ℕ × Entry)) (cs : List ℕ) (complete : Bool) (latest : ℕ) (ps : List Place) → es ≡ [] → cs ≡ replicate port_places 0 → ps ≡ [] → AreKept es cs complete latest ps
 kept-none es cs complete latest ps e counts p =

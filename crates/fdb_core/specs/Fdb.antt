@@ -4,7 +4,10 @@ use Rattle.std.specs.Prelude.{ℕ, ◌+◌, ◌==◌, nat_le, Bool, true, false,
 use Rattle.std.specs.List.{filter, list_all}
 use Rattle.std.specs.declared.option.Option.{Option}
 use Rattle.std.specs.declared.option.Option.TheVariants.{None, Some}
+use Rattle.std.specs.Option.{option_map_or}
 use Rattle.open_addressing.specs.Least.{least}
+use Rattle.br_model.specs.Control.Learning.{Address, is_dynamic}
+use Rattle.br_model.specs.Data.Maps.{pair_cmp, put}
 use Rattle.br_model.specs.declared.change.Kind.{Kind}
 use Rattle.br_model.specs.declared.change.Kind.TheVariants.{Local, Static, Learned, Extern}
 use Rattle.fdb_core.specs.declared.entries.Entry.{Entry}
@@ -61,3 +64,16 @@ is_from moment entry = not (is_learned entry.kind) || nat_le moment entry.update
 -- whether no learned entry is earlier than this
 abbrev pub all_from : ℕ → List ((ℕ × ℕ) × Entry) → Bool
 all_from moment entries = list_all (λ e. is_from moment e.1) entries
+
+-- whether it is of a kind that frames renew, and at the port
+abbrev pub is_dynamic_at : ℕ → Entry → Bool
+is_dynamic_at port entry = is_dynamic entry.kind && entry.port == port
+
+-- whether there is an entry that passes
+abbrev pub is_one : (Entry → Bool) → Option Entry → Bool
+is_one passes o = option_map_or passes o false
+
+-- the entries, where this one is that of the key, and has the moment from now on if it passes
+abbrev pub renewed_if : (Entry → Bool) → ℕ → Address → Option Entry → List (Address × Entry) → List (Address × Entry)
+renewed_if passes moment key None entries = entries
+renewed_if passes moment key (Some e) entries = if passes e then put pair_cmp entries key (record e { updated = moment }) else entries

@@ -1,6 +1,6 @@
 //! What stands at an address.
 ghost use Rattle.std.specs.Prelude.{◌≡◌};
-ghost use Rattle.fdb_core.specs.Fdb.{is_at_port, is_expired, learned_at, learned_moment};
+ghost use Rattle.fdb_core.specs.Fdb.{is_at_port, is_dynamic_at, is_expired, learned_at, learned_moment};
 
 use br_model::change::Kind;
 use br_model::numbers::{Mac, Port, Vid};
@@ -17,10 +17,31 @@ pub struct Entry {
 }
 
 impl Entry {
+    /// The entry with this moment.
+    pub fn renewed(&self, moment: u64) -> Entry
+        ensures { result ≡ record self.now { updated = moment } }
+    {
+        Entry {
+            port: self.port,
+            kind: self.kind,
+            updated: moment,
+        }
+    }
+
     pub fn is_at(&self, port: Port) -> bool
         ensures { result ≡ is_at_port port self.now }
     {
         self.port == port
+    }
+
+    /// Whether it is of a kind that frames renew, and at the port.
+    pub fn is_dynamic_at(&self, port: Port) -> bool
+        ensures { result ≡ is_dynamic_at port self.now }
+    {
+        match self.kind {
+            Kind::Learned | Kind::Extern => self.port == port,
+            Kind::Static | Kind::Local => false,
+        }
     }
 
     /// Whether it is a learned entry whose time is over at the moment `now`.

@@ -1,10 +1,13 @@
 //! The forwarding database.
-ghost use Rattle.std.specs.Prelude.{◌≡◌, ℕ, ◌<◌, ◌≤◌, ◌↔◌, [], None, Some, IfOk, IsSome, IsTrue, length, map, option_map};
+ghost use Rattle.std.specs.Prelude.{◌≡◌, ◌≢◌, ℕ, ◌<◌, ◌≤◌, ◌↔◌, [], None, Some, true, if◌then◌else◌, IfOk, IsSome, IsTrue, length, map, option_map};
+ghost use Rattle.std.specs.Ordering.{nat_cmp};
+ghost use Rattle.std.specs.FinMap.Entries.{find as find_number, put as put_number};
 ghost use Rattle.br_model.specs.Data.Maps.{pair_cmp, get, put, without, is_ascending};
-ghost use Rattle.fdb_core.specs.Fdb.{addresses, moments, place, keys_where, is_at_port, is_expired, learned_moment, oldest, all_from};
-ghost use Rattle.fdb_core.specs.Places.{news_of};
+ghost use Rattle.fdb_core.specs.Fdb.{addresses, moments, place, keys_where, is_at_port, is_dynamic_at, is_expired, is_one, learned_moment, oldest, all_from, renewed_if};
+ghost use Rattle.fdb_core.specs.Places.{news_of, is_settled, IsTold};
 ghost use Rattle.fdb_core.specs.declared.entries.Entry.{Entry};
 ghost use Rattle.fdb_core.specs.Packing.{is_key};
+ghost use Rattle.open_addressing.specs.Finite.{Holds};
 ghost use Rattle.open_addressing.specs.Pairs.{unpacked};
 ghost use Rattle.std.specs.List.{list_all};
 
@@ -62,6 +65,31 @@ impl Test<Entry> for AtPort {
     }
 }
 
+/// Every entry passes.
+#[derive(Drop)]
+struct Every;
+
+impl Test<Entry> for Every {
+    ghost passes = { λ _ _. true };
+
+    fn passes(&self, _entry: &Entry) -> bool {
+        true
+    }
+}
+
+#[derive(Drop)]
+struct DynamicAt {
+    port: Port,
+}
+
+impl Test<Entry> for DynamicAt {
+    ghost passes = { λ t. is_dynamic_at t.port };
+
+    fn passes(&self, entry: &Entry) -> bool {
+        entry.is_dynamic_at(self.port)
+    }
+}
+
 #[derive(Drop)]
 struct Expired {
     now: u64,
@@ -96,6 +124,37 @@ fn news(old: Option<Entry>, entry: Entry) -> Option<u64>
         Some(old) if old.is_learned_at(moment) => None,
         Some(_) | None => Some(moment),
     }
+}
+
+/// The same where this entry was there before.
+fn news_over(old: &Entry, entry: &Entry) -> Option<u64>
+    ensures { result ≡ news_of (Some old.now) entry.now }
+{
+    news(Some(*old), *entry)
+}
+
+/// Puts an entry at the key, which the cell holds, and notes when it was learned where that is news.
+fn put_in(
+    entries: &mut Numbered<Entry>,
+    ages: &mut Ages,
+    i: usize,
+    key: u64,
+    entry: Entry,
+    news: Option<u64>,
+)
+    requires some { key ≢ 0 }
+    requires is_key { IsTrue (is_key key) }
+    requires holds { Holds entries.old.cells i key }
+    requires news { news ≡ news_of (find_number nat_cmp key entries.old.entries) entry }
+    ensures entries { entries.new ≡ record entries.old { entries = put_number nat_cmp key entry entries.old.entries; cells = entries.new.cells } }
+    ensures told { IsTold ages.old.complete ages.old.latest ages.old.places.items entries.old.entries
+        → IsTold ages.new.complete ages.new.latest ages.new.places.items entries.new.entries }
+    ensures settled { is_settled entries.new.entries ages.new.places.items ≡ true }
+{
+    make_room(ages, entries);
+    entries.put_in(i, &key, entry);
+    ages.note(news, key);
+    settle(ages, entries);
 }
 
 impl Fdb {
@@ -145,8 +204,14 @@ impl Fdb {
         ensures addresses { addresses self.new.entries ≡ put pair_cmp (addresses self.old.entries) (vid, mac) (place entry) }
         ensures moments { moments self.new.entries ≡ put pair_cmp (moments self.old.entries) (vid, mac) entry.updated }
     {
-        let old = self.find(vid, mac);
-        self.replace(vid, mac, old, entry);
+        let key = pack(vid, mac);
+        make_room(&mut self.ages, &self.entries);
+        let old = self.entries.insert(&key, entry);
+        let len = self.entries.len();
+        self.ports.remove(&old);
+        self.ports.add(&entry, len);
+        self.ages.note(news(old, entry), key);
+        settle(&mut self.ages, &self.entries);
     }
 
     /// Gives the entry at the address this moment.
@@ -160,34 +225,50 @@ impl Fdb {
     {
         // law: the entries ascend
         let _len = self.len();
-        match self.find(vid, mac) {
-            Some(old) if old.updated == moment => {}
-            Some(old) => {
-                let entry = Entry {
-                    port: old.port,
-                    kind: old.kind,
-                    updated: moment,
-                };
-                self.replace(vid, mac, Some(old), entry);
-            }
-            None => unreachable!(),
-        }
+        let _ = self.renew_where(vid, mac, moment, &Every);
     }
 
-    /// Puts an entry at the address, in place of `old`, which is there.
-    fn replace(&mut self, vid: Vid, mac: Mac, old: Option<Entry>, entry: Entry)
-        requires old { old ≡ get pair_cmp self.old.entries (vid, mac) }
-        requires room { old ≡ None → length self.old.entries < self.old.room }
-        ensures { self.new ≡ record self.old { entries = put pair_cmp self.old.entries (vid, mac) entry } }
+    /// Gives the entry at the address this moment, if it is of a kind that frames renew, and at the port. It answers the
+    /// one that was there.
+    #[inline(always)]
+    pub fn renew_at(&mut self, vid: Vid, mac: Mac, port: Port, moment: u64) -> Option<Entry>
+        ensures entry { result ≡ get pair_cmp self.old.entries (vid, mac) }
+        ensures address { get pair_cmp (addresses self.old.entries) (vid, mac) ≡ option_map place result }
+        ensures entries { self.new ≡ record self.old { entries = renewed_if (is_dynamic_at port) moment (vid, mac) result self.old.entries } }
+        ensures addresses { addresses self.new.entries ≡ addresses self.old.entries }
+        ensures moments { moments self.new.entries
+            ≡ (if is_one (is_dynamic_at port) result then put pair_cmp (moments self.old.entries) (vid, mac) moment else moments self.old.entries) }
+    {
+        // law: the entries ascend
+        let _len = self.len();
+        self.renew_where(vid, mac, moment, &DynamicAt { port })
+    }
+
+    /// Gives the entry at the address this moment, if it passes the test, and answers the one that was there.
+    #[inline(always)]
+    fn renew_where<T: Test<Entry>>(
+        &mut self,
+        vid: Vid,
+        mac: Mac,
+        moment: u64,
+        test: &T,
+    ) -> Option<Entry>
+        ensures entry { result ≡ get pair_cmp self.old.entries (vid, mac) }
+        ensures entries { self.new ≡ record self.old { entries = renewed_if (T.passes test.now) moment (vid, mac) result self.old.entries } }
     {
         let key = pack(vid, mac);
-        make_room(&mut self.ages, &self.entries);
-        self.entries.insert(&key, entry);
-        let len = self.entries.len();
-        self.ports.remove(&old);
-        self.ports.add(&entry, len);
-        self.ages.note(news(old, entry), key);
-        settle(&mut self.ages, &self.entries);
+        let i = self.entries.cell_of(&key)?;
+        let old = self.entries.value_in(i);
+        if old.updated == moment {
+            return Some(old);
+        }
+        if !test.passes(&old) {
+            return Some(old);
+        }
+        let entry = old.renewed(moment);
+        let news = news_over(&old, &entry);
+        put_in(&mut self.entries, &mut self.ages, i, key, entry, news);
+        Some(old)
     }
 
     /// Takes the entry at the address out.
