@@ -35,6 +35,7 @@ pub struct Touched {
 
 /// What a port of the chip or another one has in a row, as a target or not, by whether it may get frames from a plain ingress port
 /// and from an isolated one.
+#[inline(always)]
 fn share_of(own: bool, eligible: bool, free: bool, target: bool) -> Share
     ensures { result ≡ record { ports = own && target; isolated = not own && (target && free); plain = not own && (target && eligible) } }
 {
@@ -46,6 +47,7 @@ fn share_of(own: bool, eligible: bool, free: bool, target: bool) -> Share
 }
 
 /// Whether the two differ.
+#[inline(always)]
 fn differ(old: Share, new: Share) -> bool
     ensures { result ≡ false → old ≡ new }
 {
@@ -54,6 +56,7 @@ fn differ(old: Share, new: Share) -> bool
 
 impl Shares {
     /// What the port has in the rows of a VLAN, as a member of it or not.
+    #[inline(always)]
     pub fn of(shadow: &Shadow, port: Port, member: bool) -> Shares
         ensures { result ≡ shares_of shadow.now port member }
     {
@@ -74,6 +77,7 @@ impl Shares {
     }
 
     /// The rows in which the port now has something else.
+    #[inline(always)]
     pub fn touched(&self, new: &Shares) -> Touched
         ensures { Touches self.now new.now result }
     {
