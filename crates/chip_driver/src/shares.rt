@@ -54,6 +54,25 @@ fn differ(old: Share, new: Share) -> bool
     old.ports != new.ports || old.isolated != new.isolated || old.plain != new.plain
 }
 
+impl Touched {
+    /// Where the port was a member of a VLAN or not, and is now or isn't.
+    #[inline(always)]
+    pub fn by_member(shadow: &Shadow, port: Port, was: bool, is: bool) -> Touched
+        ensures { Touches (shares_of shadow.now port was) (shares_of shadow.now port is) result }
+    {
+        let n = port.number();
+        let host = port.is_host();
+        let switched = was != is;
+        Touched {
+            unicast: switched && shadow.flood.has(n),
+            mcast: switched && (host || shadow.mcast_flood.has(n)),
+            bcast: switched && (host || shadow.bcast_flood.has(n)),
+            routers: switched && shadow.routers.has(n),
+            groups: switched && !shadow.own.has(n),
+        }
+    }
+}
+
 impl Shares {
     /// What the port has in the rows of a VLAN, as a member of it or not.
     #[inline(always)]
