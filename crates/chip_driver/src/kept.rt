@@ -118,11 +118,10 @@ impl Kept {
         // law: the port is in range
         let _number = port.number();
         let mut row = self.tables.port(port);
-        if row.pvid == pvid {
-            return;
+        if row.pvid != pvid {
+            row.pvid = pvid;
+            self.tables.set_port(port, row);
         }
-        row.pvid = pvid;
-        self.tables.set_port(port, row);
     }
 
     /// Joins a port to a group, and makes its row anew.
