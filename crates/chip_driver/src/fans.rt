@@ -57,6 +57,7 @@ pub fn fan_to(shadow: &Shadow, members: Ports, targets: Ports) -> FanRow
 }
 
 /// The ports that are targets of a flood as members of a VLAN.
+#[inline(always)]
 fn flooded(shadow: &Shadow, f: Flood) -> Ports
     ensures { Has result (is_flood_wanted shadow.now f) }
 {
@@ -68,6 +69,7 @@ fn flooded(shadow: &Shadow, f: Flood) -> Ports
 }
 
 /// The ports that are targets of a row as members of a VLAN.
+#[inline(always)]
 fn wanted(shadow: &Shadow, fan: Fan) -> Ports
     ensures { Has result (is_wanted shadow.now fan) }
 {
@@ -78,6 +80,7 @@ fn wanted(shadow: &Shadow, fan: Fan) -> Ports
 }
 
 /// Whether a port is a target of a row as a member of a VLAN.
+#[inline(always)]
 fn is_target(shadow: &Shadow, fan: Fan, port: Port) -> bool
     ensures { result ≡ is_wanted shadow.now fan port }
 {
@@ -92,6 +95,7 @@ fn is_target(shadow: &Shadow, fan: Fan, port: Port) -> bool
 
 impl Sets {
     /// Those of a row.
+    #[inline(always)]
     fn of(shadow: &Shadow, fan: Fan) -> Sets
         ensures { AreSets shadow.now fan result }
     {
@@ -142,6 +146,7 @@ fn switch_fan(tables: &mut Tables, v: Vid, fan: Fan, port: Port, on: bool)
 
 /// How a row of a VLAN follows a change of a port, by whether that is a member now. Nothing but its own bit depends on a port of
 /// the chip; the bits that tell of ports elsewhere depend on all of these.
+#[inline(always)]
 fn edit_of(shadow: &Shadow, fan: Fan, port: Port, member: bool) -> Edit
     requires { has_number shadow.now.own host ≡ false }
     ensures { (row : Row) (members : List ℕ) → edited result row members ≡ follows shadow.now port member fan row members }
@@ -168,6 +173,7 @@ fn edit_fan(tables: &mut Tables, v: Vid, fan: Fan, edit: &Edit)
 }
 
 /// Brings a row of a VLAN up to date where it is touched.
+#[inline(always)]
 fn refresh_row(
     tables: &mut Tables,
     shadow: &Shadow,
@@ -249,6 +255,7 @@ fn edit_number(tables: &mut Tables, i: u8, n: u8, fan: Fan, edit: &Edit)
 }
 
 /// Edits that row of some VLANs: of the VLAN 64 i + n for each number n of the set.
+#[inline(always)]
 fn edit_block(tables: &mut Tables, vids: VlanBlock, i: u8, fan: Fan, edit: &Edit)
     requires { i < 64 }
     ensures { Renews (λ w k. ((w / 64 == i) && has_number vids (w % 64)) && same_fan k fan) (λ k. edited edit.now) tables.old tables.new }
@@ -259,6 +266,7 @@ fn edit_block(tables: &mut Tables, vids: VlanBlock, i: u8, fan: Fan, edit: &Edit
 }
 
 /// Edits that row of each VLAN of which the port is a member.
+#[inline(always)]
 fn edit_all(tables: &mut Tables, joined: &Joined, port: Port, fan: Fan, edit: &Edit)
     ensures { Renews (λ w k. has_vlan joined.now port w && same_fan k fan) (λ k. edited edit.now) tables.old tables.new }
 {
@@ -268,6 +276,7 @@ fn edit_all(tables: &mut Tables, joined: &Joined, port: Port, fan: Fan, edit: &E
 }
 
 /// Brings that row up to date, where it is touched, of each VLAN of which the port is a member.
+#[inline(always)]
 fn refresh_fan(
     tables: &mut Tables,
     shadow: &Shadow,

@@ -9,7 +9,7 @@ ghost use Rattle.chip_driver.specs.Shadows.{switched, switched_row};
 ghost use Rattle.chip_driver.specs.Keeping.{IsKept, IsRemade};
 
 use crate::shadow::{Shadow, switched};
-use crate::shares::Shares;
+use crate::shares::{Shares, Touched};
 use crate::{fans, groups};
 use br_model::group::Group;
 use br_model::numbers::{Port, Vid};
@@ -91,8 +91,7 @@ impl Kept {
         let n = port.number();
         let members = switched(row.members, n, on);
         let untagged = switched(row.untagged, n, untagged);
-        let before = Shares::of(&self.shadow, port, row.members.has(n));
-        let touched = before.touched(&Shares::of(&self.shadow, port, on));
+        let touched = Touched::by_member(&self.shadow, port, row.members.has(n), on);
         self.tables.set_vlan(vid, VlanRow { members, untagged });
         self.joined.switch(port, vid, on);
         fans::refresh_vlan(&mut self.tables, &self.shadow, &touched, vid, port, on);
@@ -119,8 +118,10 @@ impl Kept {
         // law: the port is in range
         let _number = port.number();
         let mut row = self.tables.port(port);
-        row.pvid = pvid;
-        self.tables.set_port(port, row);
+        if row.pvid != pvid {
+            row.pvid = pvid;
+            self.tables.set_port(port, row);
+        }
     }
 
     /// Joins a port to a group, and makes its row anew.

@@ -35,6 +35,7 @@ pub struct Touched {
 
 /// What a port of the chip or another one has in a row, as a target or not, by whether it may get frames from a plain ingress port
 /// and from an isolated one.
+#[inline(always)]
 fn share_of(own: bool, eligible: bool, free: bool, target: bool) -> Share
     ensures { result ≡ record { ports = own && target; isolated = not own && (target && free); plain = not own && (target && eligible) } }
 {
@@ -46,14 +47,35 @@ fn share_of(own: bool, eligible: bool, free: bool, target: bool) -> Share
 }
 
 /// Whether the two differ.
+#[inline(always)]
 fn differ(old: Share, new: Share) -> bool
     ensures { result ≡ false → old ≡ new }
 {
     old.ports != new.ports || old.isolated != new.isolated || old.plain != new.plain
 }
 
+impl Touched {
+    /// Where the port was a member of a VLAN or not, and is now or isn't.
+    #[inline(always)]
+    pub fn by_member(shadow: &Shadow, port: Port, was: bool, is: bool) -> Touched
+        ensures { Touches (shares_of shadow.now port was) (shares_of shadow.now port is) result }
+    {
+        let n = port.number();
+        let host = port.is_host();
+        let switched = was != is;
+        Touched {
+            unicast: switched && shadow.flood.has(n),
+            mcast: switched && (host || shadow.mcast_flood.has(n)),
+            bcast: switched && (host || shadow.bcast_flood.has(n)),
+            routers: switched && shadow.routers.has(n),
+            groups: switched && !shadow.own.has(n),
+        }
+    }
+}
+
 impl Shares {
     /// What the port has in the rows of a VLAN, as a member of it or not.
+    #[inline(always)]
     pub fn of(shadow: &Shadow, port: Port, member: bool) -> Shares
         ensures { result ≡ shares_of shadow.now port member }
     {
@@ -74,6 +96,7 @@ impl Shares {
     }
 
     /// The rows in which the port now has something else.
+    #[inline(always)]
     pub fn touched(&self, new: &Shares) -> Touched
         ensures { Touches self.now new.now result }
     {

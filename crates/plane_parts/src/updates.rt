@@ -56,6 +56,7 @@ impl Updates {
     }
 
     /// Notes the change that stands at this place, behind those that are noted.
+    #[inline(always)]
     fn note(&mut self, change: &Change, place: u32, edition: Edition)
         requires { length self.old < most_changes }
         ensures { self.new ≡ (if deferred edition change.now then self.old ++ place ∷ [] else self.old) }
@@ -69,6 +70,7 @@ impl Updates {
     }
 
     /// Notes the changes that a history got behind its first `from` ones.
+    #[inline(always)]
     pub fn follow(&mut self, history: &[Change], from: usize, edition: Edition)
         requires from { from ≤ length history.now }
         requires few { length history.now ≤ most_changes }

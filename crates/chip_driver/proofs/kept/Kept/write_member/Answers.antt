@@ -1,4 +1,4 @@
-use Rattle.std.proofs.Common.{◌≡◌, ◌&&◌, cond, ap, ap₂, ◌∙◌}
+use Rattle.std.proofs.Common.{◌≡◌, ◌&&◌, cond, refl, ap, ap₂, ◌∙◌}
 use Rattle.std.specs.Prelude.{◌==◌, Some}
 use Rattle.port_sets.specs.Numbers.{has_number}
 use Rattle.chip_tables.specs.declared.rows.VlanRow.{VlanRow}
@@ -22,22 +22,22 @@ returns-clause-kept c =
     let v = c.args.vid in
     let members = c.switched-members.ensures ∙ ap₂ (λ (r : VlanRow) n. switched r.members n c.args.on) c.vlan-row.ensures c.number-n.ensures.value in
     let was = c.has.ensures.value ∙ ap₂ (λ (r : VlanRow) n. has_number r.members n) c.vlan-row.ensures c.number-n.ensures.value in
-    let tells = tells_at _ _ _ _ _ (c.of-before.ensures ∙ ap (λ m. shares_of kept.shadow p m) was) c.of.ensures c.touched-touched.ensures in
+    let tells = tells_at _ _ _ _ _ (ap (λ m. shares_of kept.shadow p m) was) refl c.by_member-touched.ensures in
     let refreshes =
-    refreshed_member kept.shadow kept.joined p v c.args.on _ c.touched-touched.result kept.tables _ _ c.number-n.ensures.below c.requires.elsewhere c.requires.settled members
+    refreshed_member kept.shadow kept.joined p v c.args.on _ c.by_member-touched.result kept.tables _ _ c.number-n.ensures.below c.requires.elsewhere c.requires.settled members
     c.set_vlan.ensures.row c.set_vlan.ensures.rest c.refresh_vlan.ensures in
     record {
       elsewhere = c.requires.elsewhere;
       settled = settled_groups _ _ _ _
-          (settled_member kept.shadow kept.joined _ p v c.args.on _ c.touched-touched.result kept.tables _ _ c.number-n.ensures.below c.switch.ensures.below c.requires.settled members
+          (settled_member kept.shadow kept.joined _ p v c.args.on _ c.by_member-touched.result kept.tables _ _ c.number-n.ensures.below c.switch.ensures.below c.requires.settled members
           c.set_vlan.ensures.row c.set_vlan.ensures.rest c.switch.ensures.vlan tells refreshes)
           c.refresh.ensures.rest;
       follow =
           groups_anew
-          (λ k. c.touched-touched.result.groups && (is_among (Some v) k.0 && is_member kept.groups p k)) kept.shadow kept.shadow kept.groups kept.tables c.refresh_vlan.new.tables
+          (λ k. c.by_member-touched.result.groups && (is_among (Some v) k.0 && is_member kept.groups p k)) kept.shadow kept.shadow kept.groups kept.tables c.refresh_vlan.new.tables
           c.refresh.new.tables c.requires.follow
           (ap (λ (r : Rows). r.groups) c.refresh_vlan.ensures.rest ∙ ap (λ (r : Rows). r.groups) c.set_vlan.ensures.rest)
-          (vlan_kept kept.shadow p v c.args.on _ c.touched-touched.result kept.groups kept.tables c.refresh_vlan.new.tables c.number-n.ensures.below members tells
+          (vlan_kept kept.shadow p v c.args.on _ c.by_member-touched.result kept.groups kept.tables c.refresh_vlan.new.tables c.number-n.ensures.below members tells
           (λ vid. ap (λ (r : Rows). vlan_at r vid) c.refresh_vlan.ensures.rest ∙ c.set_vlan.ensures.row vid))
           c.refresh.ensures;
     }
