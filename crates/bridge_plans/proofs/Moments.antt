@@ -21,7 +21,7 @@ use Rattle.br_model.specs.Table.Limits.{most_addresses}
 use Rattle.br_model.specs.Data.Maps.{pair_cmp, get, put, without, is_ascending}
 use Rattle.br_model.proofs.Data.PairKeys.{pair_total}
 use Rattle.fdb_core.specs.declared.entries.Entry.{Entry}
-use Rattle.fdb_core.specs.Fdb.{Table, addresses, moments, place, keys_where, is_at_port, is_expired, is_learned, is_from, all_from}
+use Rattle.fdb_core.specs.Fdb.{Table, addresses, moments, place, keys_where, is_at_port, is_expired, is_learned, is_from, all_from, renewed_if}
 use Rattle.fdb_core.proofs.Addresses.{get-told}
 use Rattle.bridge_plans.specs.Entries.{keys_at, old_keys, entries_of, IsKept}
 
@@ -190,6 +190,26 @@ there-told es k h = by (get pair_cmp es k) (sym (ap is_some (get-told place es k
     by : (o : Option Entry) → is_some (option_map place o) ≡ true → is_some o ≡ true
     by None e = e
     by (Some x) e = refl
+
+-- the entry gets the moment `now` if it passes
+pub if_renewed-kept : (fdb new : Table) (passes : Entry → Bool) (k : Address) (o : Option Entry) (b now : ℕ) → new ≡ record fdb { entries = renewed_if passes now k o fdb.entries }
+    → IsKept fdb b → IsKept new (min b now)
+if_renewed-kept fdb new passes k o b now is kept = subst (λ (t : Table). IsKept t (min b now)) (sym is) (by o)
+  where
+    same : IsKept fdb (min b now)
+    same = record { room = kept.room; ascending = kept.ascending; bounded = lower (min b now) b fdb.entries (omega arith) kept.bounded }
+
+    tested : (x : Entry) (so : Bool) → IsKept (record fdb { entries = cond so (put pair_cmp fdb.entries k (record x { updated = now })) fdb.entries }) (min b now)
+    tested x true = record {
+      room = kept.room;
+      ascending = ascending-put fdb.entries k (record x { updated = now }) kept.ascending;
+      bounded = from-put b now k (record x { updated = now }) fdb.entries refl kept.bounded;
+    }
+    tested x false = same
+
+    by : (o : Option Entry) → IsKept (record fdb { entries = renewed_if passes now k o fdb.entries }) (min b now)
+    by None = same
+    by (Some x) = tested x (passes x)
 
 -- an entry that is there gets the moment `now`
 pub renewed-kept : (fdb new : Table) (k : Address) (b now : ℕ) → is_some (get pair_cmp fdb.entries k) ≡ true

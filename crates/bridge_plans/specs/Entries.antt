@@ -1,10 +1,11 @@
 -- The addresses of a table, and their moments beside them.
-use Rattle.std.specs.Prelude.{ℕ, ◌≡◌, ◌+◌, ◌^◌, ◌-◌, ◌==◌, nat_le, Bool, ◌&&◌, List, map, IsTrue}
+use Rattle.std.specs.Prelude.{ℕ, ◌≡◌, ◌+◌, ◌^◌, ◌-◌, ◌==◌, nat_le, Bool, false, ◌&&◌, List, map, IsTrue}
 use Rattle.std.specs.List.{filter}
-use Rattle.std.specs.Option.{unwrap_or}
+use Rattle.std.specs.declared.option.Option.{Option}
+use Rattle.std.specs.Option.{option_map_or, unwrap_or}
 use Rattle.br_model.specs.declared.change.Kind.{Kind}
 use Rattle.br_model.specs.Control.Ageing.{expires, is_old}
-use Rattle.br_model.specs.Control.Learning.{Address}
+use Rattle.br_model.specs.Control.Learning.{Address, is_dynamic}
 use Rattle.br_model.specs.Table.Limits.{most_addresses}
 use Rattle.br_model.specs.Data.Maps.{pair_cmp, get, is_ascending}
 use Rattle.fdb_core.specs.declared.entries.Entry.{Entry}
@@ -29,6 +30,10 @@ old_keys now hold s = map (λ e. e.0) (filter (λ e. expires e.1.1 && is_old now
 -- whether the bound is over by then: none of the entries is old before
 abbrev pub is_due : ℕ → ℕ → Entries → Bool
 is_due now hold s = nat_le (s.oldest + hold) now
+
+-- whether there is an entry at the port that frames renew
+abbrev pub is_renewed_by : ℕ → Option (ℕ × Kind) → Bool
+is_renewed_by port o = option_map_or (λ e. is_dynamic e.1 && e.0 == port) o false
 
 -- the entries with their moments, as a database has them
 abbrev pub entries_of : Entries → List (Address × Entry)

@@ -4,7 +4,7 @@ use Rattle.std.specs.declared.option.Option.{Option}
 use Rattle.br_model.specs.declared.change.Change.TheVariants.{AddrPut}
 use Rattle.br_model.specs.declared.change.Kind.TheVariants.{Learned, Extern}
 use Rattle.br_model.specs.declared.frame.Head.{Head}
-use Rattle.br_model.specs.Control.Control.{Control}
+use Rattle.br_model.specs.Control.Control.{Control, renewed}
 use Rattle.br_model.specs.Control.Course.{from}
 use Rattle.br_model.specs.Control.Learning.{Address, is_learned_at, is_news, is_renewed, may_teach}
 use Rattle.br_model.specs.Control.Reaction.{learns, learns_of}
@@ -29,6 +29,12 @@ lesson_of t key port =
     if is_renewed t key port then Renewed else
     if is_news t key port && fits t (AddrPut key.0 key.1 port Learned) then News else
     Known
+
+-- the control state, where the entry is renewed that the lesson is of
+abbrev pub renewed_by : Lesson → Address → Control → Control
+renewed_by Known key c = c
+renewed_by Renewed key c = renewed c key
+renewed_by News key c = c
 
 -- whether the report of a chip that the address is behind the port changes its entry
 abbrev pub is_taken : Table → Address → ℕ → Bool

@@ -1,9 +1,9 @@
 //! The addresses of a bridge's table, with their moments.
-ghost use Rattle.std.specs.Prelude.{◌≡◌, ◌||◌, not, nat_lt, false, min, IfOk, IsSome, IsTrue, [], length, is_some, option_map};
+ghost use Rattle.std.specs.Prelude.{◌≡◌, ◌||◌, if◌then◌else◌, not, nat_lt, false, min, IfOk, IsSome, IsTrue, [], length, is_some, option_map};
 ghost use Rattle.br_model.specs.Table.Limits.{most_addresses};
 ghost use Rattle.br_model.specs.Data.Maps.{pair_cmp, get, put, without};
 ghost use Rattle.fdb_core.specs.Fdb.{place};
-ghost use Rattle.bridge_plans.specs.Entries.{keys_at, old_keys, is_due, exact_bound, last_moment};
+ghost use Rattle.bridge_plans.specs.Entries.{keys_at, old_keys, is_due, is_renewed_by, exact_bound, last_moment};
 
 use br_model::NoMemory;
 use br_model::change::Kind;
@@ -32,6 +32,17 @@ impl Model for Addresses {
     ghost invariant = { λ a. IsKept a.fdb a.oldest };
 }
 
+/// The port and the kind of an entry.
+#[inline(always)]
+fn place_of(entry: Option<Entry>) -> Option<(Port, Kind)>
+    ensures { result ≡ option_map place entry }
+{
+    match entry {
+        Some(entry) => Some((entry.port, entry.kind)),
+        None => None,
+    }
+}
+
 impl Addresses {
     /// Takes the memory for all that there can be.
     pub fn make(alloc: Global) -> Result<Addresses, NoMemory>
@@ -47,10 +58,7 @@ impl Addresses {
     pub fn find(&self, vid: Vid, mac: Mac) -> Option<(Port, Kind)>
         ensures { result ≡ get pair_cmp self.now.addr (vid, mac) }
     {
-        match self.fdb.find(vid, mac) {
-            Some(entry) => Some((entry.port, entry.kind)),
-            None => None,
-        }
+        place_of(self.fdb.find(vid, mac))
     }
 
     /// The entry at the address with its moment.
@@ -102,6 +110,21 @@ impl Addresses {
     {
         self.oldest = self.oldest.min(now);
         self.fdb.renew(vid, mac, now);
+    }
+
+    /// Gives the entry at the address the moment `now`, if it is of a kind that frames renew, and at the port. It answers the
+    /// port and the kind that the entry has.
+    #[inline(always)]
+    pub fn renew_at(&mut self, vid: Vid, mac: Mac, port: Port, now: u64) -> Option<(Port, Kind)>
+        ensures place { result ≡ get pair_cmp self.old.addr (vid, mac) }
+        ensures entries { self.new
+            ≡ record self.old {
+              updated = if is_renewed_by port result then put pair_cmp self.old.updated (vid, mac) now else self.old.updated;
+              oldest = min self.old.oldest now;
+            } }
+    {
+        self.oldest = self.oldest.min(now);
+        place_of(self.fdb.renew_at(vid, mac, port, now))
     }
 
     /// The addresses at the port, by VLAN and address. Where there is none it looks at no entry, and else at each.

@@ -3,12 +3,13 @@ ghost use Rattle.std.specs.Prelude.{◌≡◌, ◌<◌, ◌^◌, ℕ, None, Some
 ghost use Rattle.std.specs.List.{list_all};
 ghost use Rattle.br_model.specs.declared.change.Change.TheVariants.{AddrPut};
 ghost use Rattle.br_model.specs.declared.change.Kind.TheVariants.{Learned};
-ghost use Rattle.br_model.specs.Control.Learning.{teach, is_reserved};
+ghost use Rattle.br_model.specs.Control.Learning.{Address, teach, is_reserved};
 ghost use Rattle.br_model.specs.Control.Reaction.{learns, learns_of};
+ghost use Rattle.br_model.specs.Data.Maps.{get, pair_cmp};
 ghost use Rattle.br_model.specs.Table.Change.{is_of_address};
-ghost use Rattle.bridge_plans.specs.Lessons.{IsTaught, is_taken, lesson_of, of_bridge};
+ghost use Rattle.bridge_plans.specs.Lessons.{IsTaught, is_taken, lesson_of, of_bridge, renewed_by};
 ghost use Rattle.bridge_plans.specs.Plans.{PlansAt};
-ghost use Rattle.bridge_plans.specs.Standing.{course_at, table_of};
+ghost use Rattle.bridge_plans.specs.Standing.{control_of, course_at, table_of};
 
 use crate::faults::EventFault;
 use crate::plan::Plan;
@@ -55,17 +56,35 @@ fn teach(state: &State, port: Port, head: &Head) -> Option<Key>
     }
 }
 
-/// What the address behind the port comes to.
-pub fn lesson_of(state: &State, vid: Vid, mac: Mac, port: Port) -> Lesson
-    ensures { result ≡ lesson_of (table_of state.now) (vid, mac) port }
+/// What an address behind the port comes to, which has this entry.
+fn lesson_by(state: &State, entry: Option<(Port, Kind)>, port: Port) -> Lesson
+    ensures { (key : Address) → entry ≡ get pair_cmp (table_of state.now).addr key → result ≡ lesson_of (table_of state.now) key port }
 {
-    match state.addresses.find(vid, mac) {
+    match entry {
         None if state.addresses.is_full() => Lesson::Known,
         None => Lesson::News,
         Some((_, Kind::Local | Kind::Static)) => Lesson::Known,
         Some((other, Kind::Learned | Kind::Extern)) if other == port => Lesson::Renewed,
         Some((_, Kind::Learned | Kind::Extern)) => Lesson::News,
     }
+}
+
+/// What the address behind the port comes to.
+pub fn lesson_of(state: &State, vid: Vid, mac: Mac, port: Port) -> Lesson
+    ensures { result ≡ lesson_of (table_of state.now) (vid, mac) port }
+{
+    lesson_by(state, state.addresses.find(vid, mac), port)
+}
+
+/// What the address behind the port comes to. Its entry has the clock's moment from now on, where it is renewed.
+pub fn learn(state: &mut State, vid: Vid, mac: Mac, port: Port) -> Lesson
+    ensures lesson { result ≡ lesson_of (table_of state.old) (vid, mac) port }
+    ensures table { table_of state.new ≡ table_of state.old }
+    ensures control { control_of state.new ≡ renewed_by result (vid, mac) (control_of state.old) }
+{
+    let now = state.clock.now;
+    let entry = state.addresses.renew_at(vid, mac, port, now);
+    lesson_by(state, entry, port)
 }
 
 /// Whether a chip's report that the address is behind the port is taken.

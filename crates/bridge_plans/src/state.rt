@@ -3,7 +3,7 @@ ghost use Rattle.std.specs.Prelude.{ℕ, ◌≡◌, ◌≤◌, ◌<◌, ◌+◌,
 ghost use Rattle.std.specs.List.{fold};
 ghost use Rattle.br_model.specs.Control.Ageing.{stay};
 ghost use Rattle.br_model.specs.declared.bpdu.BpduMsg.{BpduMsg};
-ghost use Rattle.br_model.specs.Control.Control.{Control, first_control, keeps_up, renewed};
+ghost use Rattle.br_model.specs.Control.Control.{Control, first_control, keeps_up};
 ghost use Rattle.br_model.specs.Theorems.EndsTied.{IsTied};
 ghost use Rattle.br_model.specs.Table.Change.{asks};
 ghost use Rattle.br_model.specs.Table.Limits.{fits, all_fit};
@@ -93,15 +93,6 @@ impl State {
         if let Some((vid, mac)) = renewed {
             self.addresses.renew(vid, mac, clock.now);
         }
-    }
-
-    /// Gives the entry the clock's moment.
-    pub fn renew(&mut self, vid: Vid, mac: Mac)
-        requires { IsSome (get pair_cmp (table_of self.old).addr (vid, mac)) }
-        ensures table { table_of self.new ≡ table_of self.old }
-        ensures control { control_of self.new ≡ renewed (control_of self.old) (vid, mac) }
-    {
-        self.addresses.renew(vid, mac, self.clock.now);
     }
 
     /// Where a learned entry may be over by now, finds the first moment anew.
