@@ -3,6 +3,7 @@ use Rattle.std.specs.Prelude.{ℕ, ◌≡◌, true, not, List, [], ◌∷◌, �
 use Rattle.std.specs.List.{fold, list_all}
 use Rattle.std.specs.declared.option.Option.{Option}
 use Rattle.std.specs.declared.option.Option.TheVariants.{None, Some}
+use Rattle.br_model.specs.declared.bpdu.BpduMsg.{BpduMsg}
 use Rattle.br_model.specs.declared.change.Asks.{Asks}
 use Rattle.br_model.specs.declared.change.Asks.TheVariants as asks
 use Rattle.br_model.specs.declared.change.Change.{Change}
@@ -20,7 +21,7 @@ use Rattle.br_model.specs.Table.Table.{apply}
 use Rattle.br_model.specs.Forward.Targets.{has_flag}
 use Rattle.bridge_plans.specs.declared.snooping.Speaker.{Speaker}
 use Rattle.bridge_plans.specs.declared.state.State.{State}
-use Rattle.bridge_plans.specs.Standing.{table_of}
+use Rattle.bridge_plans.specs.Standing.{course_of, table_of}
 
 -- The course stands where the speaker is heard, with these ends.
 pub record Hears (s : Speaker) (e : Ends) (r : Course) : Type 0 where
@@ -69,6 +70,12 @@ says s bytes m r = said s.port s.vid bytes m r
 pub record IsHeard (state : State) (s : Speaker) : Type 0 where
   pub now : s.moment ≡ state.clock.now
   pub leaves : has_flag (table_of state) s.port fastleave ≡ s.fastleave
+
+-- These changes were added, and a course from the one state, whatever it made before, leads to the other by them.
+abbrev pub LeadsTo : State → State → List Change → List Change → (Course → Course) → Type 0
+LeadsTo old new before after does =
+    (added : List Change) × (after ≡ before ++ added)
+    × ((made : List Change) (out : List (ℕ × BpduMsg)) → does (course_of old made out) ≡ course_of new (made ++ added) out)
 
 -- there is room for the membership that is asked for, if one is
 abbrev pub HasRoom : Ends → Asks → Type 0

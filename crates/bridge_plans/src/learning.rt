@@ -103,6 +103,7 @@ pub fn is_taken(state: &State, vid: Vid, mac: Mac, port: Port) -> bool
 }
 
 /// The address that the frame teaches software.
+#[inline(always)]
 pub fn taught(domains: &Domains, state: &State, port: Port, head: &Head) -> Option<Key>
     ensures { IsTaught domains.now (table_of state.now) port head.now result }
 {

@@ -2,7 +2,6 @@
 ghost use Rattle.std.specs.Prelude.{ℕ, ◌≡◌, ◌≤◌, ◌<◌, ◌+◌, true, List, length, ◌^◌, IfOk, IfSome, IsSome, IsTrue, vec_len, vec_capacity};
 ghost use Rattle.std.specs.List.{fold};
 ghost use Rattle.br_model.specs.Control.Ageing.{stay};
-ghost use Rattle.br_model.specs.declared.bpdu.BpduMsg.{BpduMsg};
 ghost use Rattle.br_model.specs.Control.Control.{Control, first_control, keeps_up};
 ghost use Rattle.br_model.specs.Theorems.EndsTied.{IsTied};
 ghost use Rattle.br_model.specs.Table.Change.{asks};
@@ -13,8 +12,8 @@ ghost use Rattle.br_model.specs.Tree.Tree.{first_tree};
 ghost use Rattle.br_model.specs.Wire.Messages.{RecordsStand};
 ghost use Rattle.br_model.specs.Control.Snooping.{said};
 ghost use Rattle.bridge_plans.specs.Plans.{renewed_at};
-ghost use Rattle.bridge_plans.specs.Hearing.{IsHeard, HasRoom, most};
-ghost use Rattle.bridge_plans.specs.Standing.{table_of, control_of, clocked, course_of, places};
+ghost use Rattle.bridge_plans.specs.Hearing.{IsHeard, HasRoom, LeadsTo, most};
+ghost use Rattle.bridge_plans.specs.Standing.{table_of, control_of, clocked, places};
 
 use crate::addresses::Addresses;
 use crate::snooping::{QUERIER_TIME, Speaker};
@@ -109,6 +108,7 @@ impl State {
     }
 
     /// Makes the change, but for what ends.
+    #[inline(always)]
     fn place(&mut self, change: &Change)
         requires { IsTrue (fits (table_of self.old) change.now) }
         ensures table { table_of self.new ≡ apply (table_of self.old) change.now }
@@ -128,6 +128,7 @@ impl State {
     }
 
     /// Makes the change.
+    #[inline(always)]
     pub fn apply(&mut self, change: &Change)
         requires fits { IsTrue (fits (table_of self.old) change.now) }
         requires tied { IsTied (table_of self.old) self.old.groups }
@@ -141,6 +142,7 @@ impl State {
     }
 
     /// Makes the changes, one after another.
+    #[inline(always)]
     pub fn follow(&mut self, changes: &[Change])
         requires fits { IsTrue (all_fit (table_of self.old) changes.now) }
         requires tied { IsTied (table_of self.old) self.old.groups }
@@ -179,8 +181,7 @@ impl State {
         requires early { self.old.clock.now < 2 ^ 53 }
         requires records { RecordsStand bytes.now message.now }
         requires room { vec_len changes.old + most message.now ≤ vec_capacity changes.old }
-        ensures course { (out : List (ℕ × BpduMsg)) → said speaker.now.port speaker.now.vid bytes.now message.now
-            (course_of self.old changes.old.items out) ≡ course_of self.new changes.new.items out }
+        ensures adds { LeadsTo self.old self.new changes.old.items changes.new.items (said speaker.now.port speaker.now.vid bytes.now message.now) }
         ensures table { (t : Table) → fold apply t changes.old.items ≡ table_of self.old → fold apply t changes.new.items ≡ table_of self.new }
         ensures fits { (t : Table) → fold apply t changes.old.items ≡ table_of self.old → all_fit t changes.old.items ≡ true
             → all_fit t changes.new.items ≡ true }

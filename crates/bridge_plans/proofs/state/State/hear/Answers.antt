@@ -21,20 +21,23 @@ place_all-requires c =
     let more = behind old added.0 c.deref.result.now c.len-from.result (length c.deref.result.now) (c.deref.ensures.value ∙ added.1) (c.len-from.ensures ∙ c.args.changes.now.ok.0) refl in
     ap (λ (l : List Change). all_fit (table_of c.args.self.now) l) more ∙ (added.2 (course_of c.args.self.now old []) h).0.fits
 
-pub returns-clause-course : goal.returns-clause-course
-returns-clause-course c out =
-    let old = c.args.changes.now.items in
-    let h : Hears c.args.speaker.now c.args.self.now.groups (course_of c.args.self.now old out) =
-    record { tied = c.requires.tied; ends = refl; now = sym c.requires.speaker.now; leaves = c.requires.speaker.leaves }
-    in
+pub returns-clause-adds : goal.returns-clause-adds
+returns-clause-adds c =
     let added = c.says.ensures.adds in
-    let goes = (added.2 (course_of c.args.self.now old out) h).0 in
-    let more = behind old added.0 c.deref.result.now c.len-from.result (length c.deref.result.now) (c.deref.ensures.value ∙ added.1) (c.len-from.ensures ∙ c.args.changes.now.ok.0) refl in
-    let table = goes.table ∙ sym (c.place_all.ensures.table ∙ ap (λ (l : List Change). fold apply (table_of c.args.self.now) l) more) in
-    let control = goes.control
-    ∙ sym (c.place_all.ensures.control ∙ ap (λ (l : List Change). fold places (ends_with (control_of c.args.self.now) c.says.new.groups) l) more
-    ∙ places-prompt (ends_with (control_of c.args.self.now) c.says.new.groups) added.0 goes.prompt) in
-    (λ i. record { table = table i; control = control i; changes = (goes.changes ∙ sym added.1) i; messages = goes.messages i })
+    let more = behind c.args.changes.now.items added.0 c.deref.result.now c.len-from.result (length c.deref.result.now) (c.deref.ensures.value ∙ added.1) (c.len-from.ensures ∙ c.args.changes.now.ok.0) refl in (
+      added.0,
+      added.1,
+      λ made out.
+        let h : Hears c.args.speaker.now c.args.self.now.groups (course_of c.args.self.now made out) =
+        record { tied = c.requires.tied; ends = refl; now = sym c.requires.speaker.now; leaves = c.requires.speaker.leaves }
+        in
+        let goes = (added.2 (course_of c.args.self.now made out) h).0 in
+        let table = goes.table ∙ sym (c.place_all.ensures.table ∙ ap (λ (l : List Change). fold apply (table_of c.args.self.now) l) more) in
+        let control = goes.control
+        ∙ sym (c.place_all.ensures.control ∙ ap (λ (l : List Change). fold places (ends_with (control_of c.args.self.now) c.says.new.groups) l) more
+        ∙ places-prompt (ends_with (control_of c.args.self.now) c.says.new.groups) added.0 goes.prompt) in
+        (λ i. record { table = table i; control = control i; changes = goes.changes i; messages = goes.messages i }),
+    )
 
 pub returns-clause-fits : goal.returns-clause-fits
 returns-clause-fits c t is fit =
