@@ -6,7 +6,7 @@ use Rattle.br_model.specs.Control.Control.{Control}
 use Rattle.br_model.specs.Control.Learning.{Address, is_news, is_renewed}
 use Rattle.br_model.specs.Data.Maps.{pair_cmp, get, put}
 use Rattle.br_model.specs.Table.Limits.{fits}
-use Rattle.br_model.specs.Table.Table.{Table, with_addresses}
+use Rattle.br_model.specs.Table.Table.{with_addresses}
 use Rattle.bridge_plans.specs.Entries.{Entries, is_renewed_by}
 use Rattle.bridge_plans.specs.Lessons.{lesson_of, renewed_by}
 use Rattle.bridge_plans.specs.Standing.{table_of, control_of}

@@ -28,15 +28,15 @@ returns-clause-adds c =
       added.0,
       added.1,
       λ made out.
-        let h : Hears c.args.speaker.now c.args.self.now.groups (course_of c.args.self.now made out) =
-        record { tied = c.requires.tied; ends = refl; now = sym c.requires.speaker.now; leaves = c.requires.speaker.leaves }
-        in
-        let goes = (added.2 (course_of c.args.self.now made out) h).0 in
-        let table = goes.table ∙ sym (c.place_all.ensures.table ∙ ap (λ (l : List Change). fold apply (table_of c.args.self.now) l) more) in
-        let control = goes.control
-        ∙ sym (c.place_all.ensures.control ∙ ap (λ (l : List Change). fold places (ends_with (control_of c.args.self.now) c.says.new.groups) l) more
-        ∙ places-prompt (ends_with (control_of c.args.self.now) c.says.new.groups) added.0 goes.prompt) in
-        (λ i. record { table = table i; control = control i; changes = goes.changes i; messages = goes.messages i }),
+          let h : Hears c.args.speaker.now c.args.self.now.groups (course_of c.args.self.now made out) =
+          record { tied = c.requires.tied; ends = refl; now = sym c.requires.speaker.now; leaves = c.requires.speaker.leaves }
+          in
+          let goes = (added.2 (course_of c.args.self.now made out) h).0 in
+          let table = goes.table ∙ sym (c.place_all.ensures.table ∙ ap (λ (l : List Change). fold apply (table_of c.args.self.now) l) more) in
+          let control = goes.control
+          ∙ sym (c.place_all.ensures.control ∙ ap (λ (l : List Change). fold places (ends_with (control_of c.args.self.now) c.says.new.groups) l) more
+          ∙ places-prompt (ends_with (control_of c.args.self.now) c.says.new.groups) added.0 goes.prompt) in
+          (λ i. record { table = table i; control = control i; changes = goes.changes i; messages = goes.messages i }),
     )
 
 pub returns-clause-fits : goal.returns-clause-fits
